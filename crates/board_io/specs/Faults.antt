@@ -1,0 +1,14 @@
+-- Counts of faults, and the bytes that a source has given.
+use Rattle.std.specs.Prelude.{◌≡◌, ℕ, ◌+◌, ◌<◌, ◌≤◌, ◌⊎◌, Result, MatchResult}
+
+-- a count of faults rose in a call, or it stands at its type's end
+abbrev pub Rose : ℕ → ℕ → Type 0
+Rose old new = (old < new) ⊎ (18446744073709551615 ≤ new)
+
+-- the most bytes that a source gives, 2^62
+abbrev pub most_given : ℕ
+most_given = 4611686018427387904
+
+-- what a call gave is added to the bytes given so far, and a call that failed gave none
+abbrev pub AddsGiven : {E : Type 0} → ℕ → ℕ → Result ℕ E → Type 0
+AddsGiven old new r = MatchResult r (λ n. new ≡ old + n) (λ _. new ≡ old)

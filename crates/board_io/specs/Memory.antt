@@ -1,0 +1,38 @@
+-- Sources and sinks in memory.
+use Rattle.std.specs.Prelude.{ℕ, ◌+◌, ◌-◌, min, Bool, ◌||◌, ◌==◌, List, length}
+use Rattle.std.specs.List.{list_any}
+use Rattle.board_io.specs.Faults.{most_given}
+
+-- what a source in memory holds: the bytes left, how many it gave, its faults, its calls so far, the calls that
+-- are to fail, and the largest piece
+pub record Supply : Type 0 where
+  pub left : List ℕ
+  pub given : ℕ
+  pub faults : ℕ
+  pub calls : ℕ
+  pub failing : List ℕ
+  pub largest : ℕ
+
+-- what a sink in memory holds
+pub record Store : Type 0 where
+  pub held : List ℕ
+  pub faults : ℕ
+  pub calls : ℕ
+  pub failing : List ℕ
+  pub largest : ℕ
+
+-- the number of the call behind those, which stands still at its type's end
+abbrev pub next_call : ℕ → ℕ
+next_call calls = min (calls + 1) 18446744073709551615
+
+-- whether the next call is to fail
+abbrev pub is_to_fail : List ℕ → ℕ → Bool
+is_to_fail failing calls = list_any (λ call. call == next_call calls) failing
+
+-- whether the next call of a source fails: it is to, or the source has given all that a source gives
+abbrev pub supply_fails : Supply → Bool
+supply_fails s = is_to_fail s.failing s.calls || s.given == most_given
+
+-- how many bytes a source gives into that many places
+abbrev pub piece_of : Supply → ℕ → ℕ
+piece_of s places = min (min places s.largest) (min (length s.left) (most_given - s.given))

@@ -1,0 +1,26 @@
+//! The outside of the board: where the bytes of a trace come from, where the printed text goes, and a gate that
+//! a test can hold the workers of `race` at.
+//!
+//! A [`Source`] and a [`Sink`] tell contracts which bytes they have left and hold, and count their faults.
+//! `Failed` comes only where that count rose, so a caller's contract can name the cause. [`MemSource`] and
+//! [`MemSink`] are in memory and fail on demand; [`ReadSource`] and [`WriteSink`] adapt std's readers and
+//! writers, and are the trusted edge.
+//!
+//! ```text
+//! let mut source = MemSource::new(bytes, failing, 4096);
+//! let mut piece = [0; 4096];
+//! let n = source.take(&mut piece)?; // 0 at the end
+//! ```
+#![tactic(auto)]
+
+pub use adapters::{ReadSource, WriteSink};
+pub use gate::{Gate, OpenGate};
+pub use memory::{MemSink, MemSource};
+pub use sink::Sink;
+pub use source::{Failed, Source};
+
+mod adapters;
+mod gate;
+mod memory;
+mod sink;
+mod source;

@@ -1,0 +1,181 @@
+ghost use Rattle.std.specs.Prelude.{◌≡◌, ◌+◌, ◌-◌, ◌<◌, ◌≤◌, ◌||◌, ℕ, Bool, not, true, [], ◌++◌, Some, length, min, drop, IfOk, OnOk, OnErr, IsErr, is_ok, vec_len};
+ghost use Rattle.std.specs.Io.KnownBytes.{ReadConsumes, WriteAppends};
+ghost use Rattle.board_io.specs.Faults.{Rose, most_given, AddsGiven};
+ghost use Rattle.board_io.specs.Memory.{Supply, Store, next_call, is_to_fail, supply_fails, piece_of};
+
+use crate::sink::Sink;
+use crate::source::{Failed, MOST_GIVEN, Source};
+use std::alloc::Global;
+use std::marker::Model;
+
+/// A source of bytes in memory, which fails at the calls that it is told to, counted from 1.
+#[derive(Drop)]
+pub struct MemSource {
+    bytes: Vec<u8>,
+    taken: usize,
+    failing: Vec<u64>,
+    largest: usize,
+    calls: u64,
+    faults: u64,
+}
+
+impl Model for MemSource {
+    ghost Value = { Supply };
+
+    ghost view = { λ s. record { left = drop s.taken s.bytes.items; given = s.taken; faults = s.faults; calls = s.calls; failing = s.failing.items; largest = s.largest } };
+
+    ghost invariant = { λ s. (s.taken ≤ vec_len s.bytes) × (s.taken ≤ most_given) × (0 < s.largest) };
+}
+
+impl MemSource {
+    /// A source of these bytes, in pieces of at most `largest`; the calls of the numbers in `failing` fail.
+    pub fn new(bytes: Vec<u8>, failing: Vec<u64>, largest: usize) -> MemSource
+        requires { 0 < largest }
+        ensures { result ≡ record { left = bytes.items; given = 0; faults = 0; calls = 0; failing = failing.items; largest = largest } }
+    {
+        MemSource {
+            bytes,
+            taken: 0,
+            failing,
+            largest,
+            calls: 0,
+            faults: 0,
+        }
+    }
+}
+
+impl Source for MemSource {
+    ghost remaining = { λ s. Some s.left };
+
+    ghost given = { λ s. s.given };
+
+    ghost faults = { λ s. s.faults };
+
+    fn take(&mut self, into: &mut [u8]) -> Result<usize, Failed>
+        requires { 0 < length into.old }
+        ensures bound { IfOk result (λ n. n ≤ length into.new) }
+        ensures bytes { ReadConsumes (Some self.old.left) (Some self.new.left) result into.new }
+        ensures given { AddsGiven self.old.given self.new.given result }
+        ensures limit { OnOk result (self.new.given ≤ most_given) }
+        ensures spent { self.old.given ≡ most_given → IsErr result }
+        ensures counted { self.old.faults ≤ self.new.faults }
+        ensures failed { OnErr result (Rose self.old.faults self.new.faults) }
+        // It fails where it is told to, and where it has given the most.
+        ensures told { is_ok result ≡ not (supply_fails self.old) }
+        ensures piece { IfOk result (λ n. n ≡ piece_of self.old (length into.old)) }
+        ensures calls { self.new.calls ≡ next_call self.old.calls }
+        ensures same { (self.new.failing ≡ self.old.failing) × (self.new.largest ≡ self.old.largest) }
+    {
+        self.calls = self.calls.saturating_add(1);
+        if self.failing.contains(&self.calls) || self.taken == MOST_GIVEN {
+            self.faults = self.faults.saturating_add(1);
+            return Err(Failed);
+        }
+        let left = (self.bytes.len() - self.taken).min(MOST_GIVEN - self.taken);
+        let n = into.len().min(self.largest).min(left);
+        into[..n].copy_from_slice(&self.bytes[self.taken..self.taken + n]);
+        self.taken += n;
+        Ok(n)
+    }
+}
+
+/// A sink in memory, which fails at the calls that it is told to, counted from 1, and where memory runs out.
+#[derive(Drop)]
+pub struct MemSink {
+    bytes: Vec<u8>,
+    failing: Vec<u64>,
+    largest: usize,
+    calls: u64,
+    faults: u64,
+}
+
+impl Model for MemSink {
+    ghost Value = { Store };
+
+    ghost view = { λ s. record { held = s.bytes.items; faults = s.faults; calls = s.calls; failing = s.failing.items; largest = s.largest } };
+
+    ghost invariant = { λ s. 0 < s.largest };
+}
+
+impl MemSink {
+    /// An empty sink that takes at most `largest` bytes a call; the calls of the numbers in `failing` fail.
+    pub fn new(alloc: Global, failing: Vec<u64>, largest: usize) -> MemSink
+        requires { 0 < largest }
+        ensures { result ≡ record { held = []; faults = 0; calls = 0; failing = failing.items; largest = largest } }
+    {
+        MemSink {
+            bytes: Vec::new(alloc),
+            failing,
+            largest,
+            calls: 0,
+            faults: 0,
+        }
+    }
+
+    /// What the sink holds.
+    pub fn bytes(&self) -> &[u8]
+        ensures { result.now ≡ self.now.held }
+    {
+        self.bytes.as_slice()
+    }
+}
+
+impl Sink for MemSink {
+    ghost contents = { λ s. Some s.held };
+
+    ghost faults = { λ s. s.faults };
+
+    fn put(&mut self, piece: &[u8]) -> Result<usize, Failed>
+        requires { 0 < length piece.now }
+        ensures some { IfOk result (λ n. 0 < n) }
+        ensures bound { IfOk result (λ n. n ≤ length piece.now) }
+        ensures bytes { WriteAppends (Some self.old.held) (Some self.new.held) result piece.now }
+        ensures counted { self.old.faults ≤ self.new.faults }
+        ensures failed { OnErr result (Rose self.old.faults self.new.faults) }
+        // It fails where it is told to, and else only where memory runs out.
+        ensures told { is_to_fail self.old.failing self.old.calls ≡ true → IsErr result }
+        ensures piece { IfOk result (λ n. n ≡ min (length piece.now) self.old.largest) }
+        ensures calls { self.new.calls ≡ next_call self.old.calls }
+        ensures same { (self.new.failing ≡ self.old.failing) × (self.new.largest ≡ self.old.largest) }
+    {
+        self.calls = self.calls.saturating_add(1);
+        let n = piece.len().min(self.largest);
+        if !self.failing.contains(&self.calls)
+            && self.bytes.extend_from_slice(&piece[..n]).is_ok()
+        {
+            return Ok(n);
+        }
+        self.faults = self.faults.saturating_add(1);
+        Err(Failed)
+    }
+}
+
+#[cfg(test)]
+mod tests {
+    use super::*;
+    use std::test::Fail;
+
+    #[test]
+    fn a_source_gives_its_bytes_in_pieces_and_fails_when_told(rt: HostRuntime) -> Result<(), Fail> {
+        let bytes = b"abcde".to_vec(rt.alloc())?;
+        let mut source = MemSource::new(bytes, vec![in rt.alloc(); 2]?, 3);
+        let mut piece = [b'.'; 4];
+        assert_eq!(rt; source.take(&mut piece), Ok(3));
+        assert_eq!(rt; piece, *b"abc.");
+        assert_eq!(rt; source.take(&mut piece), Err(Failed));
+        assert_eq!(rt; source.take(&mut piece), Ok(2));
+        assert_eq!(rt; piece, *b"dec.");
+        assert_eq!(rt; source.take(&mut piece), Ok(0));
+        Ok(())
+    }
+
+    #[test]
+    fn a_sink_holds_what_it_took(rt: HostRuntime) -> Result<(), Fail> {
+        let mut sink = MemSink::new(rt.alloc(), vec![in rt.alloc(); 2]?, 2);
+        assert_eq!(rt; sink.put(b"abc"), Ok(2));
+        assert_eq!(rt; sink.put(b"c"), Err(Failed));
+        assert_eq!(rt; sink.put(b"c"), Ok(1));
+        assert!(rt; sink.bytes() == b"abc".as_slice());
+        Ok(())
+    }
+}

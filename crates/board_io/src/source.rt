@@ -1,0 +1,37 @@
+ghost use Rattle.std.specs.Prelude.{ℕ, ◌≡◌, ◌<◌, ◌≤◌, List, Option, length, IfOk, OnOk, IsErr, OnErr};
+ghost use Rattle.std.specs.Io.KnownBytes.{ReadConsumes};
+ghost use Rattle.board_io.specs.Faults.{Rose, most_given, AddsGiven};
+
+/// The most bytes that a source gives.
+pub(crate) const MOST_GIVEN: usize = 1 << 62;
+
+/// A call failed: a source couldn't be read, or a sink couldn't be written.
+#[derive(Clone, Copy, Debug, PartialEq, Eq)]
+pub struct Failed;
+
+/// Where bytes come from, in pieces.
+///
+/// A source counts its faults, a number that never falls, and the bytes that it has given. After 2^62 of
+/// them each call fails, so a source without end ends in a fault.
+pub trait Source {
+    // The bytes that are left, where the source tells them.
+    ghost remaining: { Self → Option (List ℕ) };
+
+    // How many bytes it has given.
+    ghost given: { Self → ℕ };
+
+    // How many faults it has had.
+    ghost faults: { Self → ℕ };
+
+    /// Puts the next bytes at the front of `into`, and answers how many; 0 is the end of the input. A call that
+    /// fails gives nothing.
+    fn take(&mut self, into: &mut [u8]) -> Result<usize, Failed>
+        requires { 0 < length into.old }
+        ensures bound { IfOk result (λ n. n ≤ length into.new) }
+        ensures bytes { ReadConsumes (remaining self.old) (remaining self.new) result into.new }
+        ensures given { AddsGiven (given self.old) (given self.new) result }
+        ensures limit { OnOk result (given self.new ≤ most_given) }
+        ensures spent { given self.old ≡ most_given → IsErr result }
+        ensures counted { faults self.old ≤ faults self.new }
+        ensures failed { OnErr result (Rose (faults self.old) (faults self.new)) };
+}
