@@ -1,0 +1,6 @@
+pub mod Mode
+pub mod Count
+pub mod Table
+pub mod Programming
+pub mod Reading
+pub mod Conditions

@@ -1,0 +1,172 @@
+//! The counter, and its calls.
+
+ghost use Rattle.std.specs.Prelude.{◌≡◌, ◌↔◌, ◌≤◌, ◌<◌, IsSome, IfSome, IsTrue};
+ghost use Rattle.clk_units.specs.Events.{IsFirst};
+ghost use Rattle.pit_counter.specs.Programming.{powered_on, controlled, written, gated};
+ghost use Rattle.pit_counter.specs.Table.{has_risen, pulsed, pulsed_times, rises_next, rises_in};
+ghost use Rattle.pit_counter.specs.Reading.{count_of, with_count_latched, with_status_latched, byte_read, after_read};
+ghost use Rattle.pit_counter.specs.Conditions.{IsCounter};
+
+use crate::conditions::is_counter;
+use crate::parts::CounterParts;
+use crate::rises::{Rises, with_pulse};
+use crate::{programming, reading, table};
+use std::marker::Model;
+
+/// One counter of an Intel 8254.
+#[derive(Clone, Copy, Debug, PartialEq, Eq)]
+pub struct Counter {
+    parts: CounterParts,
+}
+
+impl Model for Counter {
+    ghost use Rattle.pit_counter.specs.declared.parts.CounterParts.{CounterParts};
+
+    ghost Value = { CounterParts };
+
+    ghost use Rattle.pit_counter.specs.Conditions.{IsCounter};
+
+    ghost view = { λ c. c.parts };
+
+    ghost invariant = { λ c. IsCounter c.parts };
+
+    ghost inverse = { λ p. record { parts = p } };
+}
+
+#[tactic(auto, using(crate::proofs::Keeps::keeps))]
+impl Counter {
+    /// A counter at power on, with GATE at this level: programmed bits 36h, OUT high, no count (this project's
+    /// own choice).
+    pub fn power_on(gate: bool) -> Counter
+        ensures { result ≡ powered_on gate }
+    {
+        Counter {
+            parts: programming::programmed(0x36, gate),
+        }
+    }
+
+    /// All that the counter holds.
+    pub fn parts(&self) -> CounterParts
+        ensures value { result ≡ self.now }
+        ensures stands { IsCounter self.now }
+    {
+        self.parts
+    }
+
+    /// The counter that holds this, if one can.
+    pub fn of_parts(parts: CounterParts) -> Option<Counter>
+        ensures valid { IsSome result ↔ IsCounter parts }
+        ensures value { IfSome result (λ c. c ≡ parts) }
+    {
+        if is_counter(&parts) {
+            Some(Counter { parts })
+        } else {
+            None
+        }
+    }
+
+    /// Writes a control word, of which `bits` is D5 to D0: the mode, the number system and the bytes of the
+    /// count. Answers whether OUT rose.
+    pub fn control(&mut self, bits: u8) -> bool
+        requires least { 16 ≤ bits }
+        requires greatest { bits < 64 }
+        ensures state { self.new ≡ controlled bits self.old }
+        ensures rose { result ≡ has_risen self.old (controlled bits self.old) }
+    {
+        let out = self.parts.out;
+        self.parts = programming::programmed(bits, self.parts.gate);
+        !out && self.parts.out
+    }
+
+    /// Writes a byte of a count.
+    pub fn write_byte(&mut self, byte: u8)
+        ensures { self.new ≡ written byte self.old }
+    {
+        self.parts = programming::written(byte, self.parts);
+    }
+
+    /// Sets GATE to this level. Answers whether OUT rose.
+    pub fn gate(&mut self, level: bool) -> bool
+        ensures state { self.new ≡ gated level self.old }
+        ensures rose { result ≡ has_risen self.old (gated level self.old) }
+    {
+        let out = self.parts.out;
+        self.parts = programming::gated(level, self.parts);
+        !out && self.parts.out
+    }
+
+    /// Takes one CLK pulse. Answers whether OUT rose.
+    #[tactic(auto, unfolding(crate::specs::Table::rises_next))]
+    fn pulse(&mut self) -> bool
+        ensures state { self.new ≡ pulsed self.old }
+        ensures rose { result ≡ rises_next self.old }
+    {
+        let out = self.parts.out;
+        self.parts = table::pulsed(self.parts);
+        !out && self.parts.out
+    }
+
+    /// Takes `n` CLK pulses. Answers how often OUT rose, and at which of them first.
+    pub fn pulses(&mut self, n: u64) -> Rises
+        ensures state { self.new ≡ pulsed_times n self.old }
+        ensures count { result.count ≡ rises_in self.old n }
+        ensures few { result.count ≤ n }
+        ensures first { IsFirst (rises_in self.old) n result.first }
+    {
+        let mut rises = Rises {
+            count: 0,
+            first: None,
+        };
+        for done in 0..n {
+            let rose = self.pulse();
+            rises = with_pulse(rises, done, rose);
+        }
+        rises
+    }
+
+    /// The count as it reads now: a 16-bit number, in BCD as four digits.
+    pub fn count(&self) -> u16
+        ensures { result ≡ count_of self.now }
+    {
+        reading::count_of(&self.parts)
+    }
+
+    /// The level of OUT.
+    pub fn out(&self) -> bool
+        ensures { result ≡ self.now.out }
+    {
+        self.parts.out
+    }
+
+    /// Null count: what was written last isn't loaded yet.
+    pub fn null(&self) -> bool
+        ensures { result ≡ self.now.null }
+    {
+        self.parts.null
+    }
+
+    /// Latches the count as it reads now, unless a latched count is there.
+    pub fn latch_count(&mut self)
+        ensures { self.new ≡ with_count_latched self.old }
+    {
+        self.parts = reading::with_count_latched(self.parts);
+    }
+
+    /// Latches the status byte, unless a latched one is there.
+    pub fn latch_status(&mut self)
+        ensures { self.new ≡ with_status_latched self.old }
+    {
+        self.parts = reading::with_status_latched(self.parts);
+    }
+
+    /// Reads a byte: a latched status first, then a latched count, else the present count, its bytes by the
+    /// programmed bits.
+    pub fn read(&mut self) -> u8
+        ensures state { self.new ≡ after_read self.old }
+        ensures byte { result ≡ byte_read self.old }
+    {
+        let byte = reading::byte_read(&self.parts);
+        self.parts = reading::after_read(self.parts);
+        byte
+    }
+}

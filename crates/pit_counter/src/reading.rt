@@ -1,0 +1,147 @@
+//! Latches, and the order in which a counter's bytes are read. Intel 8254 data sheet, "Read Operations".
+
+ghost use Rattle.std.specs.Prelude.{◌≡◌, ◌<◌, ◌+◌, ◌%◌, ◌*◌, ◌/◌};
+ghost use Rattle.pit_counter.specs.Count.{modulus};
+ghost use Rattle.pit_counter.specs.Reading.{count_of, status_of, with_count_latched, with_status_latched, shown_count, reads_high, reads_last, byte_read, status_released, count_released, after_read};
+
+use crate::count::read_as;
+use crate::mode::{Access, access_of};
+use crate::parts::CounterParts;
+
+/// The count as it reads now.
+#[tactic(auto, unfolding(crate::specs::Reading::count_of))]
+pub fn count_of(p: &CounterParts) -> u16
+    requires { p.now.ce < modulus p.now.bits }
+    ensures { result ≡ count_of p.now }
+{
+    read_as(p.bits, p.ce)
+}
+
+/// The status byte: D7 OUT, D6 null count, D5 to D0 the programmed bits.
+#[tactic(auto, unfolding(crate::specs::Reading::status_of))]
+fn status_of(p: &CounterParts) -> u8
+    requires { p.now.bits < 64 }
+    ensures { result ≡ status_of p.now }
+{
+    let out = if p.out { 128 } else { 0 };
+    let null = if p.null { 64 } else { 0 };
+    out + null + p.bits
+}
+
+/// A latch of the count.
+#[tactic(auto, unfolding(crate::specs::Reading::with_count_latched))]
+pub fn with_count_latched(p: CounterParts) -> CounterParts
+    requires { p.ce < modulus p.bits }
+    ensures { result ≡ with_count_latched p }
+{
+    CounterParts {
+        count_latched: true,
+        latched_count: shown_count(&p),
+        ..p
+    }
+}
+
+/// A latch of the status.
+#[tactic(auto, unfolding(crate::specs::Reading::with_status_latched))]
+pub fn with_status_latched(p: CounterParts) -> CounterParts
+    requires { p.bits < 64 }
+    ensures { result ≡ with_status_latched p }
+{
+    CounterParts {
+        status_latched: true,
+        latched_status: if p.status_latched {
+            p.latched_status
+        } else {
+            status_of(&p)
+        },
+        ..p
+    }
+}
+
+/// The count that a read is of: the latched one, or the present one.
+#[tactic(auto, unfolding(crate::specs::Reading::shown_count))]
+fn shown_count(p: &CounterParts) -> u16
+    requires { p.now.ce < modulus p.now.bits }
+    ensures { result ≡ shown_count p.now }
+{
+    if p.count_latched {
+        p.latched_count
+    } else {
+        count_of(p)
+    }
+}
+
+/// Whether a read of the count gives its high byte.
+fn reads_high(access: Access, high_next: bool) -> bool
+    ensures { result ≡ reads_high access high_next }
+{
+    match access {
+        Access::LowByte => false,
+        Access::HighByte => true,
+        Access::LowThenHigh => high_next,
+    }
+}
+
+/// Whether that byte is the last of the count.
+fn reads_last(access: Access, high_next: bool) -> bool
+    ensures { result ≡ reads_last access high_next }
+{
+    match access {
+        Access::LowByte | Access::HighByte => true,
+        Access::LowThenHigh => high_next,
+    }
+}
+
+/// The byte that a read gives: a latched status first, else a byte of the count.
+#[tactic(auto, unfolding(crate::specs::Reading::byte_read))]
+pub fn byte_read(p: &CounterParts) -> u8
+    requires { p.now.ce < modulus p.now.bits }
+    ensures { result ≡ byte_read p.now }
+{
+    if p.status_latched {
+        p.latched_status
+    } else if reads_high(access_of(p.bits), p.high_next) {
+        (shown_count(p) / 256) as u8
+    } else {
+        (shown_count(p) % 256) as u8
+    }
+}
+
+/// The counter after a read of a latched status.
+#[tactic(auto, unfolding(crate::specs::Reading::status_released))]
+fn status_released(p: CounterParts) -> CounterParts
+    ensures { result ≡ status_released p }
+{
+    CounterParts {
+        status_latched: false,
+        latched_status: 0,
+        ..p
+    }
+}
+
+/// The counter after a read of a byte of the count.
+#[tactic(auto, unfolding(crate::specs::Reading::count_released))]
+fn count_released(p: CounterParts) -> CounterParts
+    ensures { result ≡ count_released p }
+{
+    let access = access_of(p.bits);
+    let last = reads_last(access, p.high_next);
+    CounterParts {
+        high_next: access.takes_two() && !p.high_next,
+        count_latched: p.count_latched && !last,
+        latched_count: if last { 0 } else { p.latched_count },
+        ..p
+    }
+}
+
+/// The counter after a read.
+#[tactic(auto, unfolding(crate::specs::Reading::after_read))]
+pub fn after_read(p: CounterParts) -> CounterParts
+    ensures { result ≡ after_read p }
+{
+    if p.status_latched {
+        status_released(p)
+    } else {
+        count_released(p)
+    }
+}
