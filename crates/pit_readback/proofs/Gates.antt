@@ -1,0 +1,72 @@
+-- What leaves GATE of a counter as it is: all but a write of port 61h.
+use Rattle.std.proofs.Common.{◌≡◌, ℕ, zero, suc, ◌+◌, ◌*◌, ◌%◌, ◌/◌, eqb, ◌<◌, [], ◌∷◌, get_or, arith, Bool, true, false, refl, ◌∙◌}
+use Rattle.std.proofs.lemmas.Bool.{cond_both}
+use Rattle.pit_counter.specs.declared.parts.CounterParts.{CounterParts}
+use Rattle.pit_counter.specs.declared.mode.Access.{Access}
+use Rattle.pit_counter.specs.declared.mode.Access.TheVariants.{LowByte, HighByte, LowThenHigh}
+use Rattle.pit_counter.specs.declared.table.Effect.{Effect}
+use Rattle.pit_counter.specs.declared.table.Effect.TheVariants.{Load, DownToHigh, DownToLow, DownByTwo, DownToStrobe, Stand}
+use Rattle.pit_counter.specs.Mode.{mode_of, access_of}
+use Rattle.pit_counter.specs.Programming.{powered_on, programmed, controlled, completed, begun, written_by, written}
+use Rattle.pit_counter.specs.Table.{effect_in, affected, pulsed, pulsed_times}
+use Rattle.pit_counter.specs.Reading.{with_count_latched, with_status_latched, status_released, count_released, after_read}
+use Rattle.pit_readback.specs.Wiring.{IsWired}
+use Rattle.pit_readback.specs.Ports.{commanded, count_latched_if, status_latched_if, latches_count, latches_status, read_back_of}
+
+gate-written_by : (a : Access) (byte : ℕ) (c : CounterParts) → (written_by a byte c).gate ≡ c.gate
+unfolding written_by completed begun
+gate-written_by LowByte byte c = refl
+gate-written_by HighByte byte c = refl
+gate-written_by LowThenHigh byte c = cond_both c.part_there (completed (c.part + byte * 256) c) (begun byte c) (λ d. d.gate ≡ c.gate) (λ _. refl) (λ _. refl)
+
+-- a byte of a count
+pub gate-written : (byte : ℕ) (c : CounterParts) → (written byte c).gate ≡ c.gate
+gate-written byte c = gate-written_by (access_of c.bits) byte c
+
+-- a latch or a control word
+pub gate-commanded : (byte : ℕ) (c : CounterParts) → (commanded byte c).gate ≡ c.gate
+unfolding commanded programmed with_count_latched
+gate-commanded byte c = cond_both (eqb (byte / 16 % 4) 0) (with_count_latched c) (controlled (byte % 64) c) (λ d. d.gate ≡ c.gate) (λ _. refl) (λ _. refl)
+
+-- a read
+pub gate-after_read : (c : CounterParts) → (after_read c).gate ≡ c.gate
+unfolding after_read status_released count_released
+gate-after_read c = cond_both c.status_latched (status_released c) (count_released c) (λ d. d.gate ≡ c.gate) (λ _. refl) (λ _. refl)
+
+gate-count_latched_if : (latch : Bool) (c : CounterParts) → (count_latched_if latch c).gate ≡ c.gate
+unfolding count_latched_if with_count_latched
+gate-count_latched_if true c = refl
+gate-count_latched_if false c = refl
+
+gate-status_latched_if : (latch : Bool) (c : CounterParts) → (status_latched_if latch c).gate ≡ c.gate
+unfolding status_latched_if with_status_latched
+gate-status_latched_if true c = refl
+gate-status_latched_if false c = refl
+
+-- a read-back command
+pub gate-read_back_of : (byte k : ℕ) (c : CounterParts) → (read_back_of byte k c).gate ≡ c.gate
+unfolding read_back_of
+gate-read_back_of byte k c = gate-status_latched_if (latches_status byte k) (count_latched_if (latches_count byte k) c) ∙ gate-count_latched_if (latches_count byte k) c
+
+gate-affected : (e : Effect) (c : CounterParts) → (affected e c).gate ≡ c.gate
+gate-affected (Load level) c = refl
+gate-affected DownToHigh c = refl
+gate-affected DownToLow c = refl
+gate-affected DownByTwo c = refl
+gate-affected DownToStrobe c = refl
+gate-affected (Stand level) c = refl
+
+-- pulses
+pub gate-pulsed_times : (n : ℕ) (c : CounterParts) → (pulsed_times n c).gate ≡ c.gate
+unfolding pulsed_times pulsed
+gate-pulsed_times zero c = refl
+gate-pulsed_times (suc n) c = gate-affected (effect_in (mode_of (pulsed_times n c).bits) (pulsed_times n c)) (pulsed_times n c) ∙ gate-pulsed_times n c
+
+-- three counters of which the first two have GATE high
+pub IsWired-of : (a b c : CounterParts) (speaker : Bool) → a.gate ≡ true → b.gate ≡ true → IsWired (record { counters = a ∷ b ∷ c ∷ []; speaker = speaker })
+IsWired-of a b c speaker first second = record { three = refl; high = λ k h. high k h }
+  where
+    high : (k : ℕ) → k < 2 → (get_or (a ∷ b ∷ c ∷ []) k (powered_on true)).gate ≡ true
+    high zero h = first
+    high (suc zero) h = second
+    high (suc (suc k)) h = absurd (omega arith)

@@ -1,0 +1,64 @@
+-- Three counters as a list.
+use Rattle.std.proofs.Common.{◌≡◌, ℕ, zero, suc, ◌<◌, List, [], ◌∷◌, length, map, get_or, true, refl, ap, sym, ◌∙◌, arith}
+use Rattle.pit_counter.specs.declared.parts.CounterParts.{CounterParts}
+use Rattle.pit_counter.specs.Programming.{powered_on}
+use Rattle.pit_counter.specs.Table.{pulsed, pulsed_times}
+use Rattle.pit_readback.specs.Pit.{counter_of, pit_pulsed, pit_pulsed_times}
+use Rattle.pit_readback.specs.declared.parts.PitParts.{PitParts}
+
+-- a list of three is that of its three elements
+pub three_of : {A : Type 0} (xs : List A) (d : A) → length xs ≡ 3 → xs ≡ get_or xs 0 d ∷ get_or xs 1 d ∷ get_or xs 2 d ∷ []
+three_of [] d e = cc
+three_of (a ∷ []) d e = cc
+three_of (a ∷ b ∷ []) d e = cc
+three_of (a ∷ b ∷ c ∷ []) d e = refl
+three_of (a ∷ b ∷ c ∷ x ∷ xs) d e = absurd (omega arith)
+
+-- no pulses
+pub pit_pulsed_times-zero : (p : PitParts) → pit_pulsed_times 0 p ≡ p
+unfolding pit_pulsed_times
+pit_pulsed_times-zero p = refl
+
+-- one pulse more
+pub pit_pulsed_times-suc : (n : ℕ) (p : PitParts) → pit_pulsed_times (suc n) p ≡ pit_pulsed (pit_pulsed_times n p)
+unfolding pit_pulsed_times
+pit_pulsed_times-suc n p = refl
+
+map_same : (xs : List CounterParts) → map (pulsed_times 0) xs ≡ xs
+unfolding pulsed_times
+map_same [] = refl
+map_same (x ∷ xs) = ap (λ (ys : List CounterParts). x ∷ ys) (map_same xs)
+
+map_more : (n : ℕ) (xs : List CounterParts) → map pulsed (map (pulsed_times n) xs) ≡ map (pulsed_times (suc n)) xs
+unfolding pulsed_times
+map_more n [] = refl
+map_more n (x ∷ xs) = ap (λ (ys : List CounterParts). pulsed (pulsed_times n x) ∷ ys) (map_more n xs)
+
+-- n pulses are n pulses in each counter
+pub pit_pulsed_times-each : (n : ℕ) (p : PitParts) → pit_pulsed_times n p ≡ record p { counters = map (pulsed_times n) p.counters }
+unfolding pit_pulsed_times pit_pulsed
+pit_pulsed_times-each zero p = ap (λ (xs : List CounterParts). record p { counters = xs }) (sym (map_same p.counters))
+pit_pulsed_times-each (suc n) p = ap pit_pulsed (pit_pulsed_times-each n p) ∙ ap (λ (xs : List CounterParts). record p { counters = xs }) (map_more n p.counters)
+
+get_or-map_three : (f : CounterParts → CounterParts) (xs : List CounterParts) (k : ℕ) (d : CounterParts) → k < length xs → get_or (map f xs) k d ≡ f (get_or xs k d)
+get_or-map_three f [] k d h = absurd (omega arith)
+get_or-map_three f (x ∷ xs) zero d h = refl
+get_or-map_three f (x ∷ xs) (suc k) d h = get_or-map_three f xs k d (omega arith)
+
+-- one counter of them
+pub counter_of-pit_pulsed_times : (n k : ℕ) (p : PitParts) → length p.counters ≡ 3 → k < 3 → counter_of (pit_pulsed_times n p) k ≡ pulsed_times n (counter_of p k)
+counter_of-pit_pulsed_times n k p e h =
+    ap (λ (q : PitParts). counter_of q k) (pit_pulsed_times-each n p) ∙ get_or-map_three (pulsed_times n) p.counters k (powered_on true) (omega arith)
+
+length-map_three : (f : CounterParts → CounterParts) (xs : List CounterParts) → length (map f xs) ≡ length xs
+length-map_three f [] = refl
+length-map_three f (x ∷ xs) = ap suc (length-map_three f xs)
+
+pub length-pit_pulsed_times : (n : ℕ) (p : PitParts) → length (pit_pulsed_times n p).counters ≡ length p.counters
+length-pit_pulsed_times n p = ap (λ (q : PitParts). length q.counters) (pit_pulsed_times-each n p) ∙ length-map_three (pulsed_times n) p.counters
+
+-- n pulses in each of three counters
+pub pit_pulsed_times-three : (n : ℕ) (p : PitParts) → length p.counters ≡ 3
+    → pit_pulsed_times n p ≡ record p { counters = pulsed_times n (counter_of p 0) ∷ pulsed_times n (counter_of p 1) ∷ pulsed_times n (counter_of p 2) ∷ [] }
+pit_pulsed_times-three n p e =
+    pit_pulsed_times-each n p ∙ ap (λ (xs : List CounterParts). record p { counters = map (pulsed_times n) xs }) (three_of p.counters (powered_on true) e)

@@ -1,0 +1,3 @@
+pub mod Pit
+pub mod Ports
+pub mod Wiring

@@ -1,0 +1,40 @@
+-- Three counters and the speaker bit.
+use Rattle.std.specs.Prelude.{◌≡◌, ℕ, zero, suc, true, false, IsTrue, [], ◌∷◌, length, map, slice_index_or, slice_set}
+use Rattle.pit_counter.specs.declared.parts.CounterParts.{CounterParts}
+use Rattle.pit_counter.specs.Programming.{powered_on}
+use Rattle.pit_counter.specs.Table.{pulsed}
+use Rattle.pit_counter.specs.Conditions.{IsCounter}
+use Rattle.pit_readback.specs.declared.parts.PitParts.{PitParts}
+
+-- a counter by its number
+abbrev pub counter_of : PitParts → ℕ → CounterParts
+counter_of p k = slice_index_or p.counters k (powered_on true)
+
+-- another counter in its place
+abbrev pub with_counter : ℕ → CounterParts → PitParts → PitParts
+with_counter k c p = record p { counters = slice_set p.counters k c }
+
+-- power on: each counter as at its power on, GATE of counter 2 and the speaker bit low (this project's own choice)
+abbrev pub pit_powered_on : PitParts
+pit_powered_on = record {
+  counters = powered_on true ∷ powered_on true ∷ powered_on false ∷ [];
+  speaker = false;
+}
+
+-- each counter takes one CLK pulse
+unfoldable pub pit_pulsed : PitParts → PitParts
+pit_pulsed p = record p { counters = map pulsed p.counters }
+
+-- each counter takes n CLK pulses
+unfoldable pub pit_pulsed_times : ℕ → PitParts → PitParts
+pit_pulsed_times zero p = p
+pit_pulsed_times (suc n) p = pit_pulsed (pit_pulsed_times n p)
+
+-- the fields of a timer: three counters, with GATE of counters 0 and 1 high
+pub record IsPit (p : PitParts) : Type 0 where
+  pub three : length p.counters ≡ 3
+  pub first : IsCounter (counter_of p 0)
+  pub second : IsCounter (counter_of p 1)
+  pub third : IsCounter (counter_of p 2)
+  pub gate_of_first : IsTrue (counter_of p 0).gate
+  pub gate_of_second : IsTrue (counter_of p 1).gate

@@ -1,0 +1,27 @@
+//! The Intel 8254 programmable interval timer of a PC: three counters behind the ports 40h to 43h, with their
+//! latches and read-back, and the system control port 61h.
+//!
+//! The standard is the Intel 8254 data sheet; port 61h is as in the PC AT. GATE of counters 0 and 1 is always
+//! high, GATE of counter 2 is bit 0 of port 61h. Counter 0 dividing by 4, with its status and count read back:
+//!
+//! ```text
+//! let mut pit = Pit::power_on();
+//! pit.write(0x43, 0x34);                  // counter 0, both bytes, mode 2, binary
+//! pit.write(0x40, 4);
+//! pit.write(0x40, 0);
+//! let rises = pit.pulses(2);              // the load, 3
+//! pit.write(0x43, 0xc2);                  // read back status and count of counter 0
+//! pit.read(0x40) == 0xb4                  // the status: OUT high, loaded, 34h
+//! pit.read(0x40) == 3                     // the count, low byte
+//! ```
+#![tactic(auto)]
+
+mod parts;
+mod pit;
+mod read_back;
+
+pub use parts::PitParts;
+pub use pit::Pit;
+
+#[cfg(test)]
+mod tests;
