@@ -1,0 +1,6 @@
+pub mod BoardRuns
+pub mod Numbers
+pub mod Split
+pub mod Takes
+pub mod Told
+pub mod Written

@@ -1,0 +1,13 @@
+pub mod Board
+pub mod Clock
+pub mod Command
+pub mod Division
+pub mod Lines
+pub mod Ports
+pub mod Reading
+pub mod Records
+pub mod Replay
+pub mod Said
+pub mod Status
+pub mod Text
+pub mod Tokens

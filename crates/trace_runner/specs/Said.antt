@@ -1,0 +1,12 @@
+-- What a function that writes a text leaves.
+use Rattle.std.specs.Prelude.{◌≡◌, ℕ, List, Option, ◌⊎◌}
+use Rattle.std.specs.Io.KnownBytes.{Appends}
+use Rattle.trace_runner.specs.Reading.{Begins}
+use Rattle.trace_runner.specs.declared.status.Status.{Status}
+use Rattle.trace_runner.specs.declared.status.Status.TheVariants.{SinkFault}
+
+-- the whole text was written, and this is the status; or the sink failed, which showed, and took the text's beginning
+abbrev pub Said : Status → Status → Option (List ℕ) → Option (List ℕ) → List ℕ → Type 0 → Type 0
+Said status result old new text shown =
+    ((result ≡ status) × Appends old new text)
+    ⊎ ((result ≡ SinkFault) × shown × ((cut : List ℕ) × Begins cut text × Appends old new cut))
