@@ -1,3 +1,6 @@
 pub mod Keeps
 pub mod Times
+pub mod Quiet
+pub mod Joins
+pub mod Reloaded
 mod Rows

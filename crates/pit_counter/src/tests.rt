@@ -396,6 +396,43 @@ fn the_greatest_count_and_the_least(rt: HostRuntime) {
 }
 
 #[test]
+fn many_pulses_at_once(rt: HostRuntime) {
+    let mut counter = programmed(2, false, 4);
+    let rises = Rises {
+        count: 274_877_906_943,
+        first: Some(5),
+    };
+    assert_eq!(rt;
+        counter.pulses(1_099_511_627_776),
+        rises,
+        "2^40 pulses in mode 2"
+    );
+    for mode in 0..8 {
+        for (bcd, low) in [(false, 1), (true, 4), (false, 5), (true, 0)] {
+            for gates in 0..4 {
+                let mut at_once = programmed(mode, bcd, low);
+                if gates > 0 {
+                    trigger(&mut at_once);
+                }
+                at_once.pulses(gates);
+                at_once.gate(gates < 3);
+                let mut one_by_one = at_once;
+                for n in [2, 0, 7, 4, 30_011] {
+                    at_once.write_byte(low);
+                    one_by_one.write_byte(low);
+                    let mut count = 0u64;
+                    for _ in 0..n {
+                        count = count.saturating_add(one_by_one.pulses(1).count);
+                    }
+                    assert_eq!(rt; at_once.pulses(n).count, count, "mode {mode}");
+                    assert_eq!(rt; at_once, one_by_one, "mode {mode}, {n} pulses");
+                }
+            }
+        }
+    }
+}
+
+#[test]
 fn reads_and_control_words_in_the_middle(rt: HostRuntime) {
     let mut counter = Counter::power_on(true);
     assert!(rt; !counter.control(0x34) && counter.null());
