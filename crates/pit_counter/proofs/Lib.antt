@@ -1,2 +1,6 @@
 pub mod Keeps
 pub mod Times
+pub mod Quiet
+pub mod Joins
+pub mod Reloaded
+mod Rows

@@ -4,3 +4,6 @@ pub mod Table
 pub mod Programming
 pub mod Reading
 pub mod Conditions
+pub mod Glide
+pub mod Joins
+pub mod Period

@@ -33,9 +33,10 @@ fn to_digits(n: u16) -> u16
 }
 
 /// The number that a count register holds.
-#[tactic(auto, unfolding(crate::specs::Count::number_in))]
+#[tactic(auto, unfolding(crate::specs::Count::number_in, crate::specs::Count::modulus))]
 fn number_in(bits: u8, cr: u16) -> u16
-    ensures { result ≡ number_in bits cr }
+    ensures value { result ≡ number_in bits cr }
+    ensures below { result < modulus bits }
 {
     if is_bcd(bits) {
         from_digits(cr) % 10_000
@@ -46,11 +47,12 @@ fn number_in(bits: u8, cr: u16) -> u16
 
 /// The count that a count register means: 0 means the greatest count, and in modes 2 and 3 a count of 1,
 /// which the data sheet forbids, acts as 2 (this project's own choice).
-#[tactic(auto, unfolding(crate::specs::Count::meant_count))]
+#[tactic(auto, unfolding(crate::specs::Count::meant_count, crate::specs::Count::modulus))]
 pub fn meant_count(bits: u8, cr: u16) -> u32
     ensures value { result ≡ meant_count bits cr }
     ensures some { 0 < result }
-    ensures greatest { result ≤ 65536 }
+    ensures greatest { result ≤ modulus bits }
+    ensures few { result ≤ 65536 }
 {
     let n = number_in(bits, cr);
     if n == 0 {

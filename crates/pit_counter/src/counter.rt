@@ -8,8 +8,9 @@ ghost use Rattle.pit_counter.specs.Reading.{count_of, with_count_latched, with_s
 ghost use Rattle.pit_counter.specs.Conditions.{IsCounter};
 
 use crate::conditions::is_counter;
+use crate::leap::leaps;
 use crate::parts::CounterParts;
-use crate::rises::{Rises, with_pulse};
+use crate::rises::Rises;
 use crate::{programming, reading, table};
 use std::marker::Model;
 
@@ -95,17 +96,6 @@ impl Counter {
         !out && self.parts.out
     }
 
-    /// Takes one CLK pulse. Answers whether OUT rose.
-    #[tactic(auto, unfolding(crate::specs::Table::rises_next))]
-    fn pulse(&mut self) -> bool
-        ensures state { self.new ≡ pulsed self.old }
-        ensures rose { result ≡ rises_next self.old }
-    {
-        let out = self.parts.out;
-        self.parts = table::pulsed(self.parts);
-        !out && self.parts.out
-    }
-
     /// Takes `n` CLK pulses. Answers how often OUT rose, and at which of them first.
     pub fn pulses(&mut self, n: u64) -> Rises
         ensures state { self.new ≡ pulsed_times n self.old }
@@ -113,15 +103,9 @@ impl Counter {
         ensures few { result.count ≤ n }
         ensures first { IsFirst (rises_in self.old) n result.first }
     {
-        let mut rises = Rises {
-            count: 0,
-            first: None,
-        };
-        for done in 0..n {
-            let rose = self.pulse();
-            rises = with_pulse(rises, done, rose);
-        }
-        rises
+        let taken = leaps(self.parts, n);
+        self.parts = taken.parts;
+        taken.rises
     }
 
     /// The count as it reads now: a 16-bit number, in BCD as four digits.

@@ -18,6 +18,8 @@
 mod conditions;
 mod count;
 mod counter;
+mod glide;
+mod leap;
 mod mode;
 mod parts;
 mod programming;

@@ -99,11 +99,13 @@ pub fn byte_read(p: &CounterParts) -> u8
     ensures { result ≡ byte_read p.now }
 {
     if p.status_latched {
-        p.latched_status
-    } else if reads_high(access_of(p.bits), p.high_next) {
-        (shown_count(p) / 256) as u8
+        return p.latched_status;
+    }
+    let count = shown_count(p);
+    if reads_high(access_of(p.bits), p.high_next) {
+        (count / 256) as u8
     } else {
-        (shown_count(p) % 256) as u8
+        (count % 256) as u8
     }
 }
 

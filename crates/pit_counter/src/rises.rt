@@ -1,7 +1,8 @@
 //! The rises of OUT over some pulses.
 
-ghost use Rattle.std.specs.Prelude.{◌≡◌, ◌+◌, ◌<◌, ◌≤◌, ◌^◌, suc, if◌then◌else◌};
+ghost use Rattle.std.specs.Prelude.{IfSome, ◌≡◌, ◌+◌, ◌<◌, ◌≤◌, ◌^◌, suc, if◌then◌else◌};
 ghost use Rattle.clk_units.proofs.Events.{first_more};
+ghost use Rattle.pit_counter.specs.Joins.{joined_first};
 
 /// The rises of OUT over some CLK pulses.
 #[derive(Clone, Copy, Debug, PartialEq, Eq)]
@@ -26,5 +27,23 @@ pub fn with_pulse(rises: Rises, done: u64, rose: bool) -> Rises
         }
     } else {
         rises
+    }
+}
+
+/// The rises of two stretches, the second behind the `done` pulses of the first.
+pub fn joined(rises: Rises, done: u64, later: Rises) -> Rises
+    requires fits { rises.count + later.count < 2 ^ 64 }
+    requires first_fits { IfSome later.first (λ j. done + j < 2 ^ 64) }
+    ensures count { result.count ≡ rises.count + later.count }
+    ensures first { result.first ≡ joined_first rises.first done later.first }
+{
+    let first = match (rises.first, later.first) {
+        (Some(k), _) => Some(k),
+        (None, Some(j)) => Some(done + j),
+        (None, None) => None,
+    };
+    Rises {
+        count: rises.count + later.count,
+        first,
     }
 }

@@ -2,7 +2,7 @@
 
 ghost use Rattle.std.specs.Prelude.{◌≡◌};
 ghost use Rattle.pit_counter.specs.Mode.{mode_of};
-ghost use Rattle.pit_counter.specs.Table.{effect_in, affected, pulsed};
+ghost use Rattle.pit_counter.specs.Table.{effect_in, affected, pulsed, has_risen};
 
 use crate::count::{is_odd_square, loaded_count, lowered};
 use crate::mode::{Mode, mode_of};
@@ -188,10 +188,24 @@ fn loaded(level: bool, p: CounterParts) -> CounterParts
     }
 }
 
+/// The effect of the next pulse.
+pub fn next_effect(p: &CounterParts) -> Effect
+    ensures { result ≡ effect_in (mode_of p.now.bits) p.now }
+{
+    effect_in(mode_of(p.bits), p)
+}
+
+/// OUT is low before and high after.
+pub fn has_risen(before: &CounterParts, after: &CounterParts) -> bool
+    ensures { result ≡ has_risen before.now after.now }
+{
+    !before.out && after.out
+}
+
 /// The counter after one CLK pulse.
 #[tactic(auto, unfolding(crate::specs::Table::pulsed))]
 pub fn pulsed(p: CounterParts) -> CounterParts
     ensures { result ≡ pulsed p }
 {
-    affected(effect_in(mode_of(p.bits), &p), p)
+    affected(next_effect(&p), p)
 }

@@ -1,1 +1,84 @@
-//! Tests.
+//! Sequences worked out by hand from the Intel 8254 data sheet.
+
+use super::*;
+use std::process::Abort;
+
+/// Writes these bytes to the ports 40h to 43h.
+fn write(pit: &mut Pit, rows: &[(u8, u8)]) {
+    for (port, byte) in rows {
+        pit.write(0x40 + *port % 4, *byte);
+    }
+}
+
+/// Reads one of the ports 40h to 43h again and again.
+fn expect(rt: &impl Abort, pit: &mut Pit, port: u8, want: &[u8]) {
+    for byte in want {
+        assert_eq!(rt; pit.read(0x40 + port % 4), *byte);
+    }
+}
+
+#[test]
+fn status_before_count_and_the_older_latch_kept(rt: HostRuntime) {
+    let mut pit = Pit::power_on();
+    write(&mut pit, &[(0x43, 0x34), (0x40, 4), (0x40, 0)]);
+    pit.pulses(1);
+    write(&mut pit, &[(0x43, 0x00)]);
+    pit.pulses(1);
+    write(&mut pit, &[(0x43, 0xc3), (0x43, 0xc2)]);
+    expect(&rt, &mut pit, 0x40, &[0xb4, 4, 0, 3]);
+    expect(&rt, &mut pit, 0x43, &[0xff]);
+    assert_eq!(rt;
+        pit.pulses(4),
+        pit_counter::Rises {
+            count: 1,
+            first: Some(3)
+        }
+    );
+}
+
+#[test]
+fn first_of_two_bytes_stops_the_count(rt: HostRuntime) {
+    let mut pit = Pit::power_on();
+    write(&mut pit, &[(0x43, 0x30), (0x40, 2), (0x40, 0)]);
+    assert_eq!(rt; pit.pulses(3).first, Some(3));
+    write(&mut pit, &[(0x40, 5)]);
+    pit.pulses(2);
+    write(&mut pit, &[(0x43, 0xe2)]);
+    expect(&rt, &mut pit, 0x40, &[0x30, 0, 0]);
+    assert!(rt; pit.write(0x43, 0x34), "from mode 0 to mode 2");
+    assert!(rt; !pit.write(0x43, 0x74), "another counter");
+}
+
+#[test]
+fn gate_2_off_and_on(rt: HostRuntime) {
+    let mut pit = Pit::power_on();
+    pit.write_61(0x01);
+    write(&mut pit, &[(0x43, 0xb4), (0x42, 4), (0x42, 0)]);
+    pit.pulses(2);
+    write(&mut pit, &[(0x42, 6), (0x42, 0)]);
+    pit.pulses(2);
+    assert_eq!(rt; pit.read_61(3_500), 0x01);
+    pit.write_61(0x00);
+    assert_eq!(rt; pit.read_61(3_500), 0x20);
+    pit.pulses(1);
+    pit.write_61(0x03);
+    pit.pulses(2);
+    expect(&rt, &mut pit, 0x42, &[5, 0]);
+    assert_eq!(rt; pit.read_61(6_000), 0x23);
+    assert_eq!(rt; pit.read_61(16_384), 0x33);
+}
+
+#[test]
+fn parts_and_back(rt: HostRuntime) {
+    let pit = Pit::power_on();
+    let parts = pit.parts();
+    assert_eq!(rt; Pit::of_parts(parts), Some(pit));
+    let [first, second, third] = parts.counters;
+    assert_eq!(rt;
+        Pit::of_parts(PitParts {
+            counters: [first, third, second],
+            speaker: false
+        }),
+        None
+    );
+}

@@ -1,0 +1,40 @@
+-- Stretches of pulses that count and do nothing else.
+use Rattle.std.specs.Prelude.{ℕ, ◌+◌, ◌-◌, ◌*◌, ◌/◌, ◌%◌, ◌^◌, ◌==◌, ◌&&◌, if◌then◌else◌}
+use Rattle.pit_counter.specs.Count.{modulus}
+use Rattle.pit_counter.specs.declared.table.Effect.{Effect}
+use Rattle.pit_counter.specs.declared.table.Effect.TheVariants.{Load, DownToHigh, DownToLow, DownByTwo, DownToStrobe, Stand}
+use Rattle.pit_counter.specs.declared.parts.CounterParts.{CounterParts}
+
+-- how far the count goes down at each pulse
+abbrev pub step_of : Effect → ℕ
+step_of (Load level) = 0
+step_of DownToHigh = 1
+step_of DownToLow = 1
+step_of DownByTwo = 2
+step_of DownToStrobe = 1
+step_of (Stand level) = 0
+
+-- more pulses than are ever asked for
+abbrev pub forever : ℕ
+forever = 2 ^ 64 - 1
+
+-- how far the count is above 0: the whole way round where it is 0
+unfoldable pub height : CounterParts → ℕ
+height c = if c.ce == 0 then modulus c.bits else c.ce
+
+-- how many pulses with this effect leave all but the count as it is, and keep the effect
+unfoldable pub quiet_for : Effect → CounterParts → ℕ
+quiet_for (Load level) c = 0
+quiet_for DownToHigh c = if c.out then forever else height c - 1
+quiet_for DownToLow c = height c - 2
+quiet_for DownByTwo c = if c.out && c.odd then c.ce / 2 else height c / 2 - 1
+quiet_for DownToStrobe c = if c.out then (if c.armed then height c - 1 else forever) else 0
+quiet_for (Stand level) c = if level then (if c.out then forever else 0) else (if c.out then 0 else forever)
+
+-- the count lower by `down`
+unfoldable pub glided_count : ℕ → ℕ → ℕ → ℕ
+glided_count bits ce down = (ce + modulus bits - down % modulus bits) % modulus bits
+
+-- the counter after n quiet pulses
+unfoldable pub glided : Effect → ℕ → CounterParts → CounterParts
+glided e n c = record c { ce = glided_count c.bits c.ce (step_of e * n) }
