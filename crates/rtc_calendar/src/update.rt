@@ -14,6 +14,7 @@ use crate::{Form, TimeBytes};
 pub(crate) fn read(bytes: TimeBytes, form: Form) -> Moment
     ensures value { result ≡ read form bytes }
     ensures valid { IsMoment result }
+    // what a caller doesn't know of a field that it leaves alone
     ensures byte { bytes.hour < 256 }
 {
     let month = number_in(form.binary, 1, 12, bytes.month);
