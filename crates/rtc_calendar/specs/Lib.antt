@@ -1,0 +1,5 @@
+pub mod Bytes
+pub mod Calendar
+pub mod Updates
+pub mod Alarms
+pub mod Days

@@ -1,0 +1,357 @@
+ghost use Rattle.std.specs.Prelude.{◌+◌, ◌*◌, ◌<◌, ◌≤◌};
+
+use super::*;
+use crate::update::updated;
+
+/// Binary numbers, 24 hours.
+const BINARY: Form = Form {
+    binary: true,
+    hours24: true,
+};
+
+/// BCD, 24 hours, as the PC's firmware sets the clock.
+const BCD: Form = Form {
+    binary: false,
+    hours24: true,
+};
+
+/// Binary numbers, 12 hours.
+const BINARY_12: Form = Form {
+    binary: true,
+    hours24: false,
+};
+
+/// BCD, 12 hours.
+const BCD_12: Form = Form {
+    binary: false,
+    hours24: false,
+};
+
+/// The bytes in the order of the registers: seconds, minutes, hours, day of the week, date, month, year.
+fn time(bytes: [u8; 7]) -> TimeBytes {
+    let [sec, min, hour, wday, date, month, year] = bytes;
+    TimeBytes {
+        sec,
+        min,
+        hour,
+        wday,
+        date,
+        month,
+        year,
+    }
+}
+
+#[test]
+fn one_update_carries_to_the_year(rt: HostRuntime) {
+    let cases = [
+        (BINARY, [59, 59, 23, 7, 31, 12, 99], [0, 0, 0, 1, 1, 1, 0]),
+        (
+            BCD,
+            [0x59, 0x59, 0x23, 7, 0x31, 0x12, 0x99],
+            [0, 0, 0, 1, 1, 1, 0],
+        ),
+        (
+            BCD_12,
+            [0x59, 0x59, 0x91, 7, 0x31, 0x12, 0x99],
+            [0, 0, 0x12, 1, 1, 1, 0],
+        ),
+        (
+            BINARY_12,
+            [59, 59, 11, 3, 5, 6, 7],
+            [0, 0, 0x8c, 3, 5, 6, 7],
+        ),
+        (BINARY_12, [59, 59, 12, 3, 5, 6, 7], [0, 0, 1, 3, 5, 6, 7]),
+        (
+            BCD_12,
+            [0x59, 0x59, 0x92, 3, 5, 6, 7],
+            [0, 0, 0x81, 3, 5, 6, 7],
+        ),
+        (
+            BCD,
+            [0x09, 0x59, 0x19, 3, 5, 6, 7],
+            [0x10, 0x59, 0x19, 3, 5, 6, 7],
+        ),
+        (
+            BCD,
+            [0x59, 0x09, 0x19, 3, 5, 6, 7],
+            [0, 0x10, 0x19, 3, 5, 6, 7],
+        ),
+        (
+            BCD,
+            [0x59, 0x59, 0x19, 3, 5, 6, 7],
+            [0, 0, 0x20, 3, 5, 6, 7],
+        ),
+    ];
+    for (form, before, behind) in cases {
+        assert_eq!(rt;
+            after(time(before), form, 1),
+            time(behind),
+            "from {before:?}"
+        );
+    }
+}
+
+#[test]
+fn every_fourth_year_has_a_leap_day(rt: HostRuntime) {
+    let cases = [
+        ([0, 0, 0, 1, 28, 2, 0], [0, 0, 0, 2, 29, 2, 0]),
+        ([0, 0, 0, 1, 28, 2, 4], [0, 0, 0, 2, 29, 2, 4]),
+        ([0, 0, 0, 1, 28, 2, 99], [0, 0, 0, 2, 1, 3, 99]),
+        ([0, 0, 0, 1, 29, 2, 96], [0, 0, 0, 2, 1, 3, 96]),
+        ([0, 0, 0, 7, 30, 4, 50], [0, 0, 0, 1, 1, 5, 50]),
+    ];
+    for (before, behind) in cases {
+        assert_eq!(rt;
+            after(time(before), BINARY, 86_400),
+            time(behind),
+            "from {before:?}"
+        );
+    }
+}
+
+#[test]
+fn invalid_bytes_count_as_their_lowest_value(rt: HostRuntime) {
+    let cases = [
+        (BINARY, [60, 60, 24, 8, 32, 13, 100], [1, 0, 0, 1, 1, 1, 0]),
+        (BINARY, [255, 255, 255, 0, 0, 0, 255], [1, 0, 0, 1, 1, 1, 0]),
+        (
+            BINARY_12,
+            [58, 59, 13, 7, 29, 2, 99],
+            [59, 59, 12, 7, 1, 2, 99],
+        ),
+        (
+            BINARY_12,
+            [58, 59, 0x80, 7, 31, 4, 99],
+            [59, 59, 12, 7, 1, 4, 99],
+        ),
+        (
+            BCD,
+            [0x5a, 0x60, 0x24, 0x08, 0x1a, 0x13, 0xa0],
+            [1, 0, 0, 1, 1, 1, 0],
+        ),
+        (
+            BCD,
+            [0x0f, 0xff, 0x1a, 0x00, 0x32, 0x0a, 0x9a],
+            [1, 0, 0, 1, 1, 1, 0],
+        ),
+        (
+            BCD_12,
+            [0x58, 0x59, 0x93, 7, 0x29, 2, 4],
+            [0x59, 0x59, 0x12, 7, 0x29, 2, 4],
+        ),
+        (
+            BCD_12,
+            [0x58, 0x59, 0x0a, 7, 0x30, 2, 4],
+            [0x59, 0x59, 0x12, 7, 1, 2, 4],
+        ),
+    ];
+    for (form, before, behind) in cases {
+        assert_eq!(rt;
+            after(time(before), form, 1),
+            time(behind),
+            "from {before:?}"
+        );
+        assert_eq!(rt; after(time(before), form, 0), time(before));
+    }
+}
+
+#[test]
+fn the_alarm_matches(rt: HostRuntime) {
+    let midnight = time([0, 0, 0, 1, 1, 1, 0]);
+    let at_five = Alarm {
+        sec: 0xc0,
+        min: 0xc0,
+        hour: 5,
+    };
+    assert_eq!(rt;
+        first_match(midnight, BINARY, at_five, 20_000),
+        Some(18_000)
+    );
+    assert_eq!(rt; first_match(midnight, BINARY, at_five, 17_999), None);
+    let never = Alarm {
+        sec: 60,
+        min: 0xc0,
+        hour: 0xc0,
+    };
+    assert_eq!(rt; first_match(midnight, BINARY, never, 200_000), None);
+    let now = Alarm {
+        sec: 0,
+        min: 0,
+        hour: 0,
+    };
+    assert_eq!(rt; first_match(midnight, BINARY, now, 86_400), Some(86_400));
+    assert_eq!(rt; first_match(midnight, BINARY, now, 86_399), None);
+    assert!(rt; matches(midnight, now));
+    assert!(rt;
+        matches(
+            midnight,
+            Alarm {
+                sec: 0xff,
+                min: 0xc0,
+                hour: 0
+            }
+        )
+    );
+    assert!(rt;
+        !matches(
+            midnight,
+            Alarm {
+                sec: 0,
+                min: 0xbf,
+                hour: 0
+            }
+        )
+    );
+    assert!(rt;
+        !matches(
+            midnight,
+            Alarm {
+                sec: 0,
+                min: 0,
+                hour: 1
+            }
+        )
+    );
+}
+
+/// The plain programs that the definitions describe, which go from update to update.
+fn after_each(bytes: TimeBytes, form: Form, n: u64) -> TimeBytes {
+    let mut current = bytes;
+    for _ in 0..n {
+        current = updated(current, form);
+    }
+    current
+}
+
+fn first_of_each(bytes: TimeBytes, form: Form, alarm: Alarm, n: u64) -> Option<u64> {
+    let mut current = bytes;
+    for done in 0..n {
+        current = updated(current, form);
+        if matches(current, alarm) {
+            return Some(done + 1);
+        }
+    }
+    None
+}
+
+/// Numbers that look random, and are the same in each run.
+#[derive(Drop)]
+struct Numbers {
+    state: u64,
+}
+
+impl Numbers {
+    fn below(&mut self, limit: u8) -> u8
+        requires { 0 < limit }
+        ensures { result < limit }
+    {
+        self.state = self
+            .state
+            .wrapping_mul(6_364_136_223_846_793_005)
+            .wrapping_add(1_442_695_040_888_963_407);
+        (self.state / 65_536 % limit as u64) as u8
+    }
+
+    /// A byte that spells one of `some` numbers from `low` on.
+    fn byte(&mut self, form: Form, low: u8, some: u8) -> u8
+        requires some { 0 < some }
+        requires digits { low + some ≤ 101 }
+        ensures { result < 2 * (low + some) }
+    {
+        let number = low + self.below(some);
+        if form.binary {
+            number
+        } else {
+            number / 10 * 16 + number % 10
+        }
+    }
+
+    fn form(&mut self) -> Form {
+        Form {
+            binary: self.below(2) == 0,
+            hours24: self.below(2) == 0,
+        }
+    }
+
+    /// Bytes that are mostly valid, late in a day and often late in a month.
+    fn time(&mut self, form: Form) -> TimeBytes {
+        TimeBytes {
+            sec: self.byte(form, 0, 61),
+            min: self.byte(form, 0, 61),
+            hour: if form.hours24 {
+                self.byte(form, 20, 5)
+            } else {
+                self.byte(form, 8, 6) + 128 * self.below(2)
+            },
+            wday: self.byte(form, 0, 9),
+            date: if self.below(2) == 0 {
+                self.byte(form, 27, 6)
+            } else {
+                self.byte(form, 0, 33)
+            },
+            month: self.byte(form, 0, 14),
+            year: self.byte(form, 0, 101),
+        }
+    }
+
+    /// An alarm that often leaves a byte open.
+    fn alarm(&mut self, form: Form) -> Alarm {
+        Alarm {
+            sec: if self.below(4) == 0 {
+                0xc0
+            } else {
+                self.byte(form, 0, 61)
+            },
+            min: if self.below(2) == 0 {
+                0xc0
+            } else {
+                self.byte(form, 0, 61)
+            },
+            hour: if self.below(2) == 0 {
+                0xff
+            } else {
+                self.byte(form, 0, 25)
+            },
+        }
+    }
+}
+
+#[test]
+fn days_at_once_are_their_updates(rt: HostRuntime) {
+    let mut numbers = Numbers { state: 1984 };
+    for _ in 0..250 {
+        let form = numbers.form();
+        let bytes = numbers.time(form);
+        let n = numbers.below(100) as u64 * 121 + numbers.below(60) as u64;
+        assert_eq!(rt;
+            after(bytes, form, n),
+            after_each(bytes, form, n),
+            "{bytes:?} in {form:?}, {n} updates"
+        );
+        let alarm = numbers.alarm(form);
+        let first = first_of_each(bytes, form, alarm, n);
+        assert_eq!(rt;
+            first_match(bytes, form, alarm, n),
+            first,
+            "{bytes:?} in {form:?}, {alarm:?}"
+        );
+    }
+}
+
+#[test]
+fn years_go_by_at_once(rt: HostRuntime) {
+    let new_century = time([0, 0, 0, 1, 1, 1, 0]);
+    let cases = [
+        (BCD, 315_360_000, [0, 0, 0, 4, 0x29, 0x12, 0x09]),
+        (BINARY, 365 * 86_400, [0, 0, 0, 2, 31, 12, 0]),
+        (BINARY, 366 * 86_400, [0, 0, 0, 3, 1, 1, 1]),
+        (BINARY, 1_460 * 86_400, [0, 0, 0, 5, 31, 12, 3]),
+        (BINARY, 1_461 * 86_400, [0, 0, 0, 6, 1, 1, 4]),
+        (BINARY, 1_520 * 86_400, [0, 0, 0, 2, 29, 2, 4]),
+        (BINARY, 36_525 * 86_400 - 1, [59, 59, 23, 6, 31, 12, 99]),
+        (BINARY, 36_525 * 86_400, [0, 0, 0, 7, 1, 1, 0]),
+    ];
+    for (form, n, behind) in cases {
+        assert_eq!(rt; after(new_century, form, n), time(behind), "{n} updates");
+    }
+}
