@@ -1,0 +1,4 @@
+pub mod Spellings
+pub mod Calendar
+pub mod Updates
+mod Rows

@@ -1,0 +1,4 @@
+pub mod Bytes
+pub mod Calendar
+pub mod Updates
+pub mod Alarms

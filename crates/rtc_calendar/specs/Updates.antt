@@ -1,0 +1,61 @@
+-- One update of the seven time bytes, and n of them (MC146818 data sheet, "Update cycle").
+use Rattle.std.specs.Prelude.{ℕ, zero, suc, IsTrue}
+use Rattle.rtc_calendar.specs.declared.Form.{Form}
+use Rattle.rtc_calendar.specs.declared.TimeBytes.{TimeBytes}
+use Rattle.rtc_calendar.specs.declared.moment.Moment.{Moment}
+use Rattle.rtc_calendar.specs.Bytes.{number_in, is_spelt, spelling, hour_in, is_hour, hour_spelling}
+use Rattle.rtc_calendar.specs.Calendar.{month_length, next_second}
+
+-- the month and the year that the bytes are read as
+unfoldable pub month_in : Form → TimeBytes → ℕ
+month_in form bytes = number_in form.binary 1 12 bytes.month
+
+unfoldable pub year_in : Form → TimeBytes → ℕ
+year_in form bytes = number_in form.binary 0 99 bytes.year
+
+-- how many days the month that the bytes stand for has
+unfoldable pub last_date_in : Form → TimeBytes → ℕ
+last_date_in form bytes = month_length (year_in form bytes) (month_in form bytes)
+
+-- the moment that the seven bytes stand for; a date above the month's length is invalid
+unfoldable pub read : Form → TimeBytes → Moment
+read form bytes = record {
+  second = number_in form.binary 0 59 bytes.sec;
+  minute = number_in form.binary 0 59 bytes.min;
+  hour = hour_in form bytes.hour;
+  weekday = number_in form.binary 1 7 bytes.wday;
+  date = number_in form.binary 1 (last_date_in form bytes) bytes.date;
+  month = month_in form bytes;
+  year = year_in form bytes;
+}
+
+-- the seven bytes of a moment
+unfoldable pub written : Form → Moment → TimeBytes
+written form m = record {
+  sec = spelling form.binary m.second;
+  min = spelling form.binary m.minute;
+  hour = hour_spelling form m.hour;
+  wday = spelling form.binary m.weekday;
+  date = spelling form.binary m.date;
+  month = spelling form.binary m.month;
+  year = spelling form.binary m.year;
+}
+
+-- the bytes after one update
+unfoldable pub updated : Form → TimeBytes → TimeBytes
+updated form bytes = written form (next_second (read form bytes))
+
+-- the bytes after n updates
+abbrev pub updated_times : Form → ℕ → TimeBytes → TimeBytes
+updated_times form zero bytes = bytes
+updated_times form (suc n) bytes = updated form (updated_times form n bytes)
+
+-- each byte is valid in the form, the date at most the month's length
+pub record IsValid (form : Form) (bytes : TimeBytes) : Type 0 where
+  pub sec : IsTrue (is_spelt form.binary 0 59 bytes.sec)
+  pub min : IsTrue (is_spelt form.binary 0 59 bytes.min)
+  pub hour : IsTrue (is_hour form bytes.hour)
+  pub wday : IsTrue (is_spelt form.binary 1 7 bytes.wday)
+  pub date : IsTrue (is_spelt form.binary 1 (last_date_in form bytes) bytes.date)
+  pub month : IsTrue (is_spelt form.binary 1 12 bytes.month)
+  pub year : IsTrue (is_spelt form.binary 0 99 bytes.year)

@@ -1,0 +1,47 @@
+//! The alarm: which updates it matches.
+ghost use Rattle.std.specs.Prelude.{◌≡◌, ◌<◌, ◌≤◌, IsTrue};
+ghost use Rattle.clk_units.specs.Events.{IsFirst};
+ghost use Rattle.rtc_calendar.specs.Updates.{updated_times};
+ghost use Rattle.rtc_calendar.specs.Alarms.{fits_byte, is_match, IsDontCare, matches_in};
+
+use crate::update::updated;
+use crate::{Alarm, Form, TimeBytes};
+
+/// From this byte on both top bits are set, and an alarm byte matches anything.
+const ANYTHING: u8 = 0xc0;
+
+/// Whether an alarm byte matches a time byte.
+#[tactic(auto, unfolding(crate::specs::Alarms::fits_byte))]
+fn fits_byte(alarm: u8, byte: u8) -> bool
+    ensures value { result ≡ fits_byte alarm byte }
+    ensures any { 192 ≤ alarm → IsTrue result }
+{
+    alarm >= ANYTHING || alarm == byte
+}
+
+/// Whether the alarm matches the bytes: each of its three bytes has both top bits set, or equals its time
+/// byte (data sheet, "Alarm").
+#[tactic(auto, unfolding(crate::specs::Alarms::is_match))]
+pub fn matches(bytes: TimeBytes, alarm: Alarm) -> bool
+    ensures value { result ≡ is_match alarm bytes }
+    ensures any { IsDontCare alarm → IsTrue result }
+{
+    fits_byte(alarm.sec, bytes.sec)
+        && fits_byte(alarm.min, bytes.min)
+        && fits_byte(alarm.hour, bytes.hour)
+}
+
+/// The first of the next `n` updates behind which the alarm matches the bytes, updates being counted from 1.
+pub fn first_match(bytes: TimeBytes, form: Form, alarm: Alarm, n: u64) -> Option<u64>
+    ensures first { IsFirst (matches_in form alarm bytes) n result }
+    ensures any { IsDontCare alarm → 0 < n → result ≡ Some 1 }
+{
+    let mut current = bytes;
+    for done in 0..n {
+        current = updated(current, form);
+        if matches(current, alarm) {
+            return Some(done + 1);
+        }
+    }
+    None
+}

@@ -1,0 +1,212 @@
+use super::*;
+
+/// Binary numbers, 24 hours.
+const BINARY: Form = Form {
+    binary: true,
+    hours24: true,
+};
+
+/// BCD, 24 hours, as the PC's firmware sets the clock.
+const BCD: Form = Form {
+    binary: false,
+    hours24: true,
+};
+
+/// Binary numbers, 12 hours.
+const BINARY_12: Form = Form {
+    binary: true,
+    hours24: false,
+};
+
+/// BCD, 12 hours.
+const BCD_12: Form = Form {
+    binary: false,
+    hours24: false,
+};
+
+/// The bytes in the order of the registers: seconds, minutes, hours, day of the week, date, month, year.
+fn time(bytes: [u8; 7]) -> TimeBytes {
+    let [sec, min, hour, wday, date, month, year] = bytes;
+    TimeBytes {
+        sec,
+        min,
+        hour,
+        wday,
+        date,
+        month,
+        year,
+    }
+}
+
+#[test]
+fn one_update_carries_to_the_year(rt: HostRuntime) {
+    let cases = [
+        (BINARY, [59, 59, 23, 7, 31, 12, 99], [0, 0, 0, 1, 1, 1, 0]),
+        (
+            BCD,
+            [0x59, 0x59, 0x23, 7, 0x31, 0x12, 0x99],
+            [0, 0, 0, 1, 1, 1, 0],
+        ),
+        (
+            BCD_12,
+            [0x59, 0x59, 0x91, 7, 0x31, 0x12, 0x99],
+            [0, 0, 0x12, 1, 1, 1, 0],
+        ),
+        (
+            BINARY_12,
+            [59, 59, 11, 3, 5, 6, 7],
+            [0, 0, 0x8c, 3, 5, 6, 7],
+        ),
+        (BINARY_12, [59, 59, 12, 3, 5, 6, 7], [0, 0, 1, 3, 5, 6, 7]),
+        (
+            BCD_12,
+            [0x59, 0x59, 0x92, 3, 5, 6, 7],
+            [0, 0, 0x81, 3, 5, 6, 7],
+        ),
+        (
+            BCD,
+            [0x09, 0x59, 0x19, 3, 5, 6, 7],
+            [0x10, 0x59, 0x19, 3, 5, 6, 7],
+        ),
+        (
+            BCD,
+            [0x59, 0x09, 0x19, 3, 5, 6, 7],
+            [0, 0x10, 0x19, 3, 5, 6, 7],
+        ),
+        (
+            BCD,
+            [0x59, 0x59, 0x19, 3, 5, 6, 7],
+            [0, 0, 0x20, 3, 5, 6, 7],
+        ),
+    ];
+    for (form, before, behind) in cases {
+        assert_eq!(rt;
+            after(time(before), form, 1),
+            time(behind),
+            "from {before:?}"
+        );
+    }
+}
+
+#[test]
+fn every_fourth_year_has_a_leap_day(rt: HostRuntime) {
+    let cases = [
+        ([0, 0, 0, 1, 28, 2, 0], [0, 0, 0, 2, 29, 2, 0]),
+        ([0, 0, 0, 1, 28, 2, 4], [0, 0, 0, 2, 29, 2, 4]),
+        ([0, 0, 0, 1, 28, 2, 99], [0, 0, 0, 2, 1, 3, 99]),
+        ([0, 0, 0, 1, 29, 2, 96], [0, 0, 0, 2, 1, 3, 96]),
+        ([0, 0, 0, 7, 30, 4, 50], [0, 0, 0, 1, 1, 5, 50]),
+    ];
+    for (before, behind) in cases {
+        assert_eq!(rt;
+            after(time(before), BINARY, 86_400),
+            time(behind),
+            "from {before:?}"
+        );
+    }
+}
+
+#[test]
+fn invalid_bytes_count_as_their_lowest_value(rt: HostRuntime) {
+    let cases = [
+        (BINARY, [60, 60, 24, 8, 32, 13, 100], [1, 0, 0, 1, 1, 1, 0]),
+        (BINARY, [255, 255, 255, 0, 0, 0, 255], [1, 0, 0, 1, 1, 1, 0]),
+        (
+            BINARY_12,
+            [58, 59, 13, 7, 29, 2, 99],
+            [59, 59, 12, 7, 1, 2, 99],
+        ),
+        (
+            BINARY_12,
+            [58, 59, 0x80, 7, 31, 4, 99],
+            [59, 59, 12, 7, 1, 4, 99],
+        ),
+        (
+            BCD,
+            [0x5a, 0x60, 0x24, 0x08, 0x1a, 0x13, 0xa0],
+            [1, 0, 0, 1, 1, 1, 0],
+        ),
+        (
+            BCD,
+            [0x0f, 0xff, 0x1a, 0x00, 0x32, 0x0a, 0x9a],
+            [1, 0, 0, 1, 1, 1, 0],
+        ),
+        (
+            BCD_12,
+            [0x58, 0x59, 0x93, 7, 0x29, 2, 4],
+            [0x59, 0x59, 0x12, 7, 0x29, 2, 4],
+        ),
+        (
+            BCD_12,
+            [0x58, 0x59, 0x0a, 7, 0x30, 2, 4],
+            [0x59, 0x59, 0x12, 7, 1, 2, 4],
+        ),
+    ];
+    for (form, before, behind) in cases {
+        assert_eq!(rt;
+            after(time(before), form, 1),
+            time(behind),
+            "from {before:?}"
+        );
+        assert_eq!(rt; after(time(before), form, 0), time(before));
+    }
+}
+
+#[test]
+fn the_alarm_matches(rt: HostRuntime) {
+    let midnight = time([0, 0, 0, 1, 1, 1, 0]);
+    let at_five = Alarm {
+        sec: 0xc0,
+        min: 0xc0,
+        hour: 5,
+    };
+    assert_eq!(rt;
+        first_match(midnight, BINARY, at_five, 20_000),
+        Some(18_000)
+    );
+    assert_eq!(rt; first_match(midnight, BINARY, at_five, 17_999), None);
+    let never = Alarm {
+        sec: 60,
+        min: 0xc0,
+        hour: 0xc0,
+    };
+    assert_eq!(rt; first_match(midnight, BINARY, never, 200_000), None);
+    let now = Alarm {
+        sec: 0,
+        min: 0,
+        hour: 0,
+    };
+    assert_eq!(rt; first_match(midnight, BINARY, now, 86_400), Some(86_400));
+    assert_eq!(rt; first_match(midnight, BINARY, now, 86_399), None);
+    assert!(rt; matches(midnight, now));
+    assert!(rt;
+        matches(
+            midnight,
+            Alarm {
+                sec: 0xff,
+                min: 0xc0,
+                hour: 0
+            }
+        )
+    );
+    assert!(rt;
+        !matches(
+            midnight,
+            Alarm {
+                sec: 0,
+                min: 0xbf,
+                hour: 0
+            }
+        )
+    );
+    assert!(rt;
+        !matches(
+            midnight,
+            Alarm {
+                sec: 0,
+                min: 0,
+                hour: 1
+            }
+        )
+    );
+}

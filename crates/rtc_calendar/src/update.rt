@@ -1,0 +1,70 @@
+//! Updates: the second that the clock adds to its bytes.
+ghost use Rattle.std.specs.Prelude.{◌≡◌, ◌<◌};
+ghost use Rattle.rtc_calendar.specs.Calendar.{IsMoment, next_second};
+ghost use Rattle.rtc_calendar.specs.Updates.{read, written, updated, updated_times, IsValid};
+
+use crate::bytes::{hour_in, hour_spelling, number_in, spelling};
+use crate::moment::{Moment, month_length, next_second};
+use crate::{Form, TimeBytes};
+
+/// The moment that the bytes stand for. An invalid byte counts as its lowest value, and a date above the
+/// month's length is invalid (this project's own choice).
+#[tactic(auto, unfolding(crate::specs::Updates::read, crate::specs::Updates::month_in, crate::specs::Updates::year_in, crate::specs::Updates::last_date_in))]
+pub(crate) fn read(bytes: TimeBytes, form: Form) -> Moment
+    ensures value { result ≡ read form bytes }
+    ensures valid { IsMoment result }
+{
+    let month = number_in(form.binary, 1, 12, bytes.month);
+    let year = number_in(form.binary, 0, 99, bytes.year);
+    Moment {
+        second: number_in(form.binary, 0, 59, bytes.sec),
+        minute: number_in(form.binary, 0, 59, bytes.min),
+        hour: hour_in(form, bytes.hour),
+        weekday: number_in(form.binary, 1, 7, bytes.wday),
+        date: number_in(form.binary, 1, month_length(year, month), bytes.date),
+        month,
+        year,
+    }
+}
+
+/// The bytes of a moment.
+#[tactic(auto, unfolding(crate::specs::Updates::written))]
+pub(crate) fn written(m: Moment, form: Form) -> TimeBytes
+    requires { IsMoment m }
+    ensures { result ≡ written form m }
+{
+    TimeBytes {
+        sec: spelling(form.binary, m.second),
+        min: spelling(form.binary, m.minute),
+        hour: hour_spelling(form, m.hour),
+        wday: spelling(form.binary, m.weekday),
+        date: spelling(form.binary, m.date),
+        month: spelling(form.binary, m.month),
+        year: spelling(form.binary, m.year),
+    }
+}
+
+/// The bytes after one update.
+#[tactic(auto, unfolding(crate::specs::Updates::updated))]
+pub(crate) fn updated(bytes: TimeBytes, form: Form) -> TimeBytes
+    ensures { result ≡ updated form bytes }
+{
+    written(next_second(read(bytes, form)), form)
+}
+
+/// The bytes after `n` updates (data sheet, "Update cycle"). Each update reads the seven bytes in `form`,
+/// adds a second, and writes all seven back in that form.
+///
+/// A byte that is invalid in `form` counts as its lowest value: 0 for seconds, minutes, hour of the day and
+/// year, 1 for day of the week, month and date; a date above the month's length is invalid. That, and a leap
+/// year in every fourth year with 00 among them, are this project's own choices. With no update the bytes
+/// stay as they are.
+pub fn after(bytes: TimeBytes, form: Form, n: u64) -> TimeBytes
+    ensures value { result ≡ updated_times form n bytes }
+{
+    let mut current = bytes;
+    for done in 0..n {
+        current = updated(current, form);
+    }
+    current
+}
