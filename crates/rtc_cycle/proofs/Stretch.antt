@@ -1,11 +1,13 @@
 -- A stretch of pulses at once: where the divider stands behind it, and how many events it brought.
-use Rattle.std.proofs.Common.{◌≡◌, ℕ, zero, suc, ◌+◌, ◌*◌, ◌/◌, ◌%◌, ◌<◌, ◌≤◌, Bool, true, false, not, ◌&&◌, ◌||◌, cond, eqb, leb, inl, inr, refl, sym, ap, ◌∙◌, arith}
+use Rattle.std.proofs.Common.{◌≡◌, ℕ, zero, suc, ◌+◌, ◌-◌, ◌*◌, ◌/◌, ◌%◌, ◌<◌, ◌≤◌, Bool, true, false, not, ◌&&◌, ◌||◌, cond, eqb, leb, Some, inl, inr, refl, sym, ap, ◌∙◌, arith}
 use Rattle.std.proofs.Math.Nat.{add-mul-div_right, mul-add-mod_self_left, suc-mul, mul_assoc, mul_comm}
 use Rattle.std.proofs.lemmas.Nat.{div-add-mod', div-mul-add, mod-mul-add}
-use Rattle.std.proofs.lemmas.Bool.{cases_eq, eq-eqb, ne_eqb, eqb-true, cases_lt, agree_below_at, or_cases, and_parts, and_right, not-true, both_ways, or_parts, and_cases, leb-false, not_from_false, false_from_ne_true}
+use Rattle.std.proofs.lemmas.Bool.{cases_eq, eq-eqb, ne_eqb, eqb-true, cases_lt, agree_below_at, or_cases, and_parts, and_right, not-true, both_ways, or_parts, and_cases, leb-false, not_from_false, false_from_ne_true, le-leb, lt-leb, cases_Bool}
+use Rattle.std.proofs.Math.Bool.{or-true, and-true}
+use Rattle.clk_units.specs.Events.{IsFirst}
 use Rattle.rtc_cycle.specs.declared.parts.DividerParts.{DividerParts}
-use Rattle.rtc_cycle.specs.Divider.{period, frequency, pulsed, pulsed_times, ticks_next, updates_next, ticks_in, updates_in, uip_of}
-use Rattle.rtc_cycle.proofs.Pulse.{dv-pulsed_times, rs-pulsed_times, set-pulsed_times}
+use Rattle.rtc_cycle.specs.Divider.{IsDivider, period, frequency, pulsed, pulsed_times, ticks_next, updates_next, ticks_in, updates_in, uip_of}
+use Rattle.rtc_cycle.proofs.Pulse.{IsDivider-pulsed_times, dv-pulsed_times, rs-pulsed_times, set-pulsed_times}
 
 -- one pulse more, modulo a second
 next_place : (x : ℕ) → (x % 32768 + 1) % 32768 ≡ suc x % 32768
@@ -165,3 +167,144 @@ uip-quiet (suc n) p below h few =
     let place : (pulsed_times n p).d ≡ (p.d + n) % 32768 = d-pulsed_times n p passed.0 below in
     omega arith) in
     rw none_next (uip-quiet n p below h (omega arith))
+
+-- a running divider with SET 0: at place y behind the beginning of its second a cycle is in progress in the first 65
+-- pulses, of the first second only where it already was
+cycle_goes_on : (y : ℕ) (cycle : Bool)
+    → ((eqb ((y % 32768 + 1) % 32768) 0 && true) || ((leb (y % 32768) 64 && (cycle || leb 32768 y)) && not (eqb ((y % 32768 + 1) % 32768) 65)))
+    ≡ (leb (suc y % 32768) 64 && (cycle || leb 32768 (suc y)))
+cycle_goes_on y cycle = elim (cases_eq (suc y % 32768) 0) [
+  | inl begins ↦
+    let past : 32768 ≤ suc y = omega arith in
+    rw (next_place y, begins, le-leb 32768 (suc y) past, or-true cycle) refl
+  | inr within ↦ elim (cases_eq (suc y % 32768) 65) [
+    | inl ends ↦ rw (next_place y, ends) (and_right (leb (y % 32768) 64 && (cycle || leb 32768 y)) false refl)
+    | inr other ↦ elim (cases_lt (suc y % 32768) 65) [
+      | inl early ↦
+        let was : y % 32768 ≤ 64 = omega arith in
+        let is : suc y % 32768 ≤ 64 = omega arith in
+        let same : leb 32768 y ≡ leb 32768 (suc y) = same_second y within in
+        rw (next_place y, ne_eqb (suc y % 32768) 0 within, ne_eqb (suc y % 32768) 65 other, le-leb (y % 32768) 64 was, le-leb (suc y % 32768) 64 is, same) (and-true (cycle || leb 32768 (suc y)))
+      | inr late ↦
+        let was : 64 < y % 32768 = omega arith in
+        let is : 64 < suc y % 32768 = omega arith in
+        rw (next_place y, ne_eqb (suc y % 32768) 0 within, lt-leb (y % 32768) 64 was, lt-leb (suc y % 32768) 64 is) refl
+    ]
+  ]
+]
+  where
+    same_second : (y : ℕ) → (suc y % 32768 ≡ 0 → ⊥) → leb 32768 y ≡ leb 32768 (suc y)
+    same_second y within = elim (cases_lt y 32768) [
+      | inl first ↦
+        let still : suc y < 32768 = elim (cases_eq (suc y) 32768) [
+          | inl e ↦ absurd (within (omega arith))
+          | inr ne ↦ omega arith
+        ] in
+        rw (lt-leb 32768 y first, lt-leb 32768 (suc y) still) refl
+      | inr later ↦
+        let still : 32768 ≤ suc y = omega arith in
+        rw (le-leb 32768 y later, le-leb 32768 (suc y) still) refl
+    ]
+
+cycle_now : (d : ℕ) (cycle : Bool) → d < 32768 → (cycle ≡ true → d ≤ 64) → cycle ≡ (leb ((d + 0) % 32768) 64 && (cycle || leb 32768 (d + 0)))
+cycle_now d true below early = let few : (d + 0) % 32768 ≤ 64 = omega (arith, early refl) in rw (le-leb ((d + 0) % 32768) 64 few) refl
+cycle_now d false below early = let few : d + 0 < 32768 = omega arith in sym (and_right (leb ((d + 0) % 32768) 64) (leb 32768 (d + 0)) (lt-leb 32768 (d + 0) few))
+
+-- whether a cycle is in progress behind n pulses of a running divider with SET 0
+pub cycle-at : (n : ℕ) (p : DividerParts) → IsDivider p → p.dv ≡ 2 → p.set ≡ false
+    → (pulsed_times n p).cycle ≡ (leb ((p.d + n) % 32768) 64 && (p.cycle || leb 32768 (p.d + n)))
+unfolding pulsed
+cycle-at zero p valid runs off = cycle_now p.d p.cycle valid.below (λ c. let early : (p.dv ≡ 2) × (p.set ≡ false) × (p.d ≤ 64) = valid.in_cycle c in early.2)
+cycle-at (suc n) p valid runs off =
+    let on : eqb (pulsed_times n p).dv 2 ≡ true = eq-eqb (pulsed_times n p).dv 2 (dv-pulsed_times n p ∙ runs) in
+    let unset : not (pulsed_times n p).set ≡ true = not_from_false (pulsed_times n p).set (set-pulsed_times n p ∙ off) in
+    let place : p.d + suc n ≡ suc (p.d + n) = omega arith in
+    rw (on, unset, d-pulsed_times n p runs valid.below, cycle-at n p valid runs off, place) (cycle_goes_on (p.d + n) p.cycle)
+
+-- with SET 1 none is
+pub cycle-while_set : (n : ℕ) (p : DividerParts) → IsDivider p → p.set ≡ true → (pulsed_times n p).cycle ≡ false
+cycle-while_set n p valid on = false_from_ne_true (pulsed_times n p).cycle (λ c.
+    let off : ((pulsed_times n p).dv ≡ 2) × ((pulsed_times n p).set ≡ false) × ((pulsed_times n p).d ≤ 64) = (IsDivider-pulsed_times n p valid).in_cycle c in
+    both_ways p.set (sym (set-pulsed_times n p) ∙ off.1) on)
+
+ending : (y : ℕ) (cycle : Bool) → ((leb (y % 32768) 64 && (cycle || leb 32768 y)) && eqb (suc y % 32768) 65) ≡ (eqb (suc y % 32768) 65 && (cycle || leb 32768 y))
+ending y cycle = elim (cases_eq (suc y % 32768) 65) [
+  | inl ends ↦
+    let was : y % 32768 ≤ 64 = omega arith in
+    rw (ends, le-leb (y % 32768) 64 was) (and-true (cycle || leb 32768 y))
+  | inr other ↦ rw (ne_eqb (suc y % 32768) 65 other) (and_right (leb (y % 32768) 64 && (cycle || leb 32768 y)) false refl)
+]
+
+-- whether the pulse behind n ends a cycle
+pub updates_next-at : (n : ℕ) (p : DividerParts) → IsDivider p → p.dv ≡ 2 → p.set ≡ false
+    → updates_next (pulsed_times n p) ≡ (eqb (suc (p.d + n) % 32768) 65 && (p.cycle || leb 32768 (p.d + n)))
+unfolding updates_next
+updates_next-at n p valid runs off =
+    let on : eqb (pulsed_times n p).dv 2 ≡ true = eq-eqb (pulsed_times n p).dv 2 (dv-pulsed_times n p ∙ runs) in
+    rw (on, cycle-at n p valid runs off, d-pulsed_times n p runs valid.below, next_place (p.d + n)) (ending (p.d + n) p.cycle)
+
+-- the update that a running divider in mid-second has behind it already
+abbrev pub behind : Bool → ℕ
+behind cycle = cond cycle 0 1
+
+none_yet : (d : ℕ) (cycle : Bool) → d < 32768 → (cycle ≡ true → d ≤ 64) → 0 ≡ (d + 0 + 32703) / 32768 - behind cycle
+none_yet d true below early = omega (arith, early refl)
+none_yet d false below early = omega arith
+
+counted_on : (y : ℕ) (cycle : Bool) (u : ℕ) → u ≡ (y + 32703) / 32768 - behind cycle
+    → cond (eqb (suc y % 32768) 65 && (cycle || leb 32768 y)) (suc u) u ≡ (suc y + 32703) / 32768 - behind cycle
+counted_on y cycle u e = elim (cases_eq (suc y % 32768) 65) [
+  | inl ends ↦ rw (ends) (ended cycle ends e)
+  | inr other ↦ rw (ne_eqb (suc y % 32768) 65 other) (omega arith)
+]
+  where
+    ended : (cycle : Bool) → suc y % 32768 ≡ 65 → u ≡ (y + 32703) / 32768 - behind cycle → cond (cycle || leb 32768 y) (suc u) u ≡ (suc y + 32703) / 32768 - behind cycle
+    ended true ends e = omega arith
+    ended false ends e = elim (cases_lt y 32768) [
+      | inl first ↦ rw (lt-leb 32768 y first) (omega arith)
+      | inr later ↦ rw (le-leb 32768 y later) (omega arith)
+    ]
+
+-- the update cycles that end are the 65th pulses of seconds that are passed, the first second's only where its cycle is in progress
+pub updates_in-is : (n : ℕ) (p : DividerParts) → IsDivider p → p.dv ≡ 2 → p.set ≡ false
+    → updates_in p n ≡ (p.d + n + 32703) / 32768 - behind p.cycle
+updates_in-is zero p valid runs off = none_yet p.d p.cycle valid.below (λ c. let early : (p.dv ≡ 2) × (p.set ≡ false) × (p.d ≤ 64) = valid.in_cycle c in early.2)
+updates_in-is (suc n) p valid runs off =
+    let place : p.d + suc n ≡ suc (p.d + n) = omega arith in
+    rw (place, updates_next-at n p valid runs off) (counted_on (p.d + n) p.cycle (updates_in p n) (updates_in-is n p valid runs off))
+
+-- a divider that is held, or with SET 1, ends none
+pub updates_in-none : (n : ℕ) (p : DividerParts) → IsDivider p → (p.dv ≡ 2 → p.set ≡ false → ⊥) → updates_in p n ≡ 0
+updates_in-none zero p valid stops = refl
+updates_in-none (suc n) p valid stops =
+    let none_next : updates_next (pulsed_times n p) ≡ false = false_from_ne_true (updates_next (pulsed_times n p)) (λ ends.
+        let end : ((pulsed_times n p).dv ≡ 2) × ((pulsed_times n p).cycle ≡ true) × (((pulsed_times n p).d + 1) % 32768 ≡ 65) = updates_next-true (pulsed_times n p) ends in
+        let off : ((pulsed_times n p).dv ≡ 2) × ((pulsed_times n p).set ≡ false) × ((pulsed_times n p).d ≤ 64) = (IsDivider-pulsed_times n p valid).in_cycle end.1 in
+        stops (sym (dv-pulsed_times n p) ∙ end.0) (sym (set-pulsed_times n p) ∙ off.1)) in
+    rw none_next (updates_in-none n p valid stops)
+
+-- where an update cycle ends, the divider runs with SET 0
+pub runs-updates_in : (n : ℕ) (p : DividerParts) → IsDivider p → 0 < updates_in p n → (p.dv ≡ 2) × (p.set ≡ false)
+runs-updates_in n p valid some = elim (cases_eq p.dv 2) [
+  | inl runs ↦ elim (cases_Bool p.set) [
+    | inl on ↦ absurd (omega (arith, updates_in-none n p valid (λ _ off. both_ways p.set off on)))
+    | inr off ↦ (runs, off)
+  ]
+  | inr held ↦ absurd (omega (arith, updates_in-none n p valid (λ runs _. held runs)))
+]
+
+a_second_apart : (cycle : Bool) (d n f k : ℕ) → 0 < f → (d + (f - 1) + 32703) / 32768 - behind cycle ≡ 0 → 0 < (d + f + 32703) / 32768 - behind cycle
+    → 0 < k → k ≤ (d + n + 32703) / 32768 - behind cycle
+    → (f + (k - 1) * 32768 ≤ n) × ((d + (f + (k - 1) * 32768) + 32703) / 32768 - behind cycle ≡ k) × ((d + (f + (k - 1) * 32768 - 1) + 32703) / 32768 - behind cycle ≡ k - 1)
+a_second_apart true d n f k some before first has few = (omega arith, omega arith, omega arith)
+a_second_apart false d n f k some before first has few = (omega arith, omega arith, omega arith)
+
+-- update cycles end a second apart: the k-th of n pulses' cycles ends k - 1 seconds behind the first
+pub updates_in-apart : (p : DividerParts) → IsDivider p → (n f k : ℕ) → IsFirst (updates_in p) n (Some f) → 0 < k → k ≤ updates_in p n
+    → (f + (k - 1) * 32768 ≤ n) × (updates_in p (f + (k - 1) * 32768) ≡ k) × (updates_in p (f + (k - 1) * 32768 - 1) ≡ k - 1)
+updates_in-apart p valid n f k first has few =
+    let on : (p.dv ≡ 2) × (p.set ≡ false) = runs-updates_in f p valid first.3 in
+    let at : (m : ℕ) → updates_in p m ≡ (p.d + m + 32703) / 32768 - behind p.cycle = λ m. updates_in-is m p valid on.0 on.1 in
+    let apart : (f + (k - 1) * 32768 ≤ n) × ((p.d + (f + (k - 1) * 32768) + 32703) / 32768 - behind p.cycle ≡ k) × ((p.d + (f + (k - 1) * 32768 - 1) + 32703) / 32768 - behind p.cycle ≡ k - 1) =
+        a_second_apart p.cycle p.d n f k first.0 (sym (at (f - 1)) ∙ first.2) (omega (arith, at f, first.3)) has (omega (arith, at n)) in
+    (apart.0, at (f + (k - 1) * 32768) ∙ apart.1, at (f + (k - 1) * 32768 - 1) ∙ apart.2)
