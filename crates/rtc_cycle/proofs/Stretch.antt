@@ -175,20 +175,20 @@ cycle_goes_on : (y : ℕ) (cycle : Bool)
     ≡ (leb (suc y % 32768) 64 && (cycle || leb 32768 (suc y)))
 cycle_goes_on y cycle = elim (cases_eq (suc y % 32768) 0) [
   | inl begins ↦
-    let past : 32768 ≤ suc y = omega arith in
-    rw (next_place y, begins, le-leb 32768 (suc y) past, or-true cycle) refl
+      let past : 32768 ≤ suc y = omega arith in
+      rw (next_place y, begins, le-leb 32768 (suc y) past, or-true cycle) refl
   | inr within ↦ elim (cases_eq (suc y % 32768) 65) [
     | inl ends ↦ rw (next_place y, ends) (and_right (leb (y % 32768) 64 && (cycle || leb 32768 y)) false refl)
     | inr other ↦ elim (cases_lt (suc y % 32768) 65) [
       | inl early ↦
-        let was : y % 32768 ≤ 64 = omega arith in
-        let is : suc y % 32768 ≤ 64 = omega arith in
-        let same : leb 32768 y ≡ leb 32768 (suc y) = same_second y within in
-        rw (next_place y, ne_eqb (suc y % 32768) 0 within, ne_eqb (suc y % 32768) 65 other, le-leb (y % 32768) 64 was, le-leb (suc y % 32768) 64 is, same) (and-true (cycle || leb 32768 (suc y)))
+          let was : y % 32768 ≤ 64 = omega arith in
+          let is : suc y % 32768 ≤ 64 = omega arith in
+          let same : leb 32768 y ≡ leb 32768 (suc y) = same_second y within in
+          rw (next_place y, ne_eqb (suc y % 32768) 0 within, ne_eqb (suc y % 32768) 65 other, le-leb (y % 32768) 64 was, le-leb (suc y % 32768) 64 is, same) (and-true (cycle || leb 32768 (suc y)))
       | inr late ↦
-        let was : 64 < y % 32768 = omega arith in
-        let is : 64 < suc y % 32768 = omega arith in
-        rw (next_place y, ne_eqb (suc y % 32768) 0 within, lt-leb (y % 32768) 64 was, lt-leb (suc y % 32768) 64 is) refl
+          let was : 64 < y % 32768 = omega arith in
+          let is : 64 < suc y % 32768 = omega arith in
+          rw (next_place y, ne_eqb (suc y % 32768) 0 within, lt-leb (y % 32768) 64 was, lt-leb (suc y % 32768) 64 is) refl
     ]
   ]
 ]
@@ -196,14 +196,14 @@ cycle_goes_on y cycle = elim (cases_eq (suc y % 32768) 0) [
     same_second : (y : ℕ) → (suc y % 32768 ≡ 0 → ⊥) → leb 32768 y ≡ leb 32768 (suc y)
     same_second y within = elim (cases_lt y 32768) [
       | inl first ↦
-        let still : suc y < 32768 = elim (cases_eq (suc y) 32768) [
-          | inl e ↦ absurd (within (omega arith))
-          | inr ne ↦ omega arith
-        ] in
-        rw (lt-leb 32768 y first, lt-leb 32768 (suc y) still) refl
+          let still : suc y < 32768 = elim (cases_eq (suc y) 32768) [
+            | inl e ↦ absurd (within (omega arith))
+            | inr ne ↦ omega arith
+          ] in
+          rw (lt-leb 32768 y first, lt-leb 32768 (suc y) still) refl
       | inr later ↦
-        let still : 32768 ≤ suc y = omega arith in
-        rw (le-leb 32768 y later, le-leb 32768 (suc y) still) refl
+          let still : 32768 ≤ suc y = omega arith in
+          rw (le-leb 32768 y later, le-leb 32768 (suc y) still) refl
     ]
 
 cycle_now : (d : ℕ) (cycle : Bool) → d < 32768 → (cycle ≡ true → d ≤ 64) → cycle ≡ (leb ((d + 0) % 32768) 64 && (cycle || leb 32768 (d + 0)))
@@ -230,8 +230,8 @@ cycle-while_set n p valid on = false_from_ne_true (pulsed_times n p).cycle (λ c
 ending : (y : ℕ) (cycle : Bool) → ((leb (y % 32768) 64 && (cycle || leb 32768 y)) && eqb (suc y % 32768) 65) ≡ (eqb (suc y % 32768) 65 && (cycle || leb 32768 y))
 ending y cycle = elim (cases_eq (suc y % 32768) 65) [
   | inl ends ↦
-    let was : y % 32768 ≤ 64 = omega arith in
-    rw (ends, le-leb (y % 32768) 64 was) (and-true (cycle || leb 32768 y))
+      let was : y % 32768 ≤ 64 = omega arith in
+      rw (ends, le-leb (y % 32768) 64 was) (and-true (cycle || leb 32768 y))
   | inr other ↦ rw (ne_eqb (suc y % 32768) 65 other) (and_right (leb (y % 32768) 64 && (cycle || leb 32768 y)) false refl)
 ]
 
@@ -278,9 +278,9 @@ pub updates_in-none : (n : ℕ) (p : DividerParts) → IsDivider p → (p.dv ≡
 updates_in-none zero p valid stops = refl
 updates_in-none (suc n) p valid stops =
     let none_next : updates_next (pulsed_times n p) ≡ false = false_from_ne_true (updates_next (pulsed_times n p)) (λ ends.
-        let end : ((pulsed_times n p).dv ≡ 2) × ((pulsed_times n p).cycle ≡ true) × (((pulsed_times n p).d + 1) % 32768 ≡ 65) = updates_next-true (pulsed_times n p) ends in
-        let off : ((pulsed_times n p).dv ≡ 2) × ((pulsed_times n p).set ≡ false) × ((pulsed_times n p).d ≤ 64) = (IsDivider-pulsed_times n p valid).in_cycle end.1 in
-        stops (sym (dv-pulsed_times n p) ∙ end.0) (sym (set-pulsed_times n p) ∙ off.1)) in
+    let end : ((pulsed_times n p).dv ≡ 2) × ((pulsed_times n p).cycle ≡ true) × (((pulsed_times n p).d + 1) % 32768 ≡ 65) = updates_next-true (pulsed_times n p) ends in
+    let off : ((pulsed_times n p).dv ≡ 2) × ((pulsed_times n p).set ≡ false) × ((pulsed_times n p).d ≤ 64) = (IsDivider-pulsed_times n p valid).in_cycle end.1 in
+    stops (sym (dv-pulsed_times n p) ∙ end.0) (sym (set-pulsed_times n p) ∙ off.1)) in
     rw none_next (updates_in-none n p valid stops)
 
 -- where an update cycle ends, the divider runs with SET 0
@@ -306,5 +306,5 @@ updates_in-apart p valid n f k first has few =
     let on : (p.dv ≡ 2) × (p.set ≡ false) = runs-updates_in f p valid first.3 in
     let at : (m : ℕ) → updates_in p m ≡ (p.d + m + 32703) / 32768 - behind p.cycle = λ m. updates_in-is m p valid on.0 on.1 in
     let apart : (f + (k - 1) * 32768 ≤ n) × ((p.d + (f + (k - 1) * 32768) + 32703) / 32768 - behind p.cycle ≡ k) × ((p.d + (f + (k - 1) * 32768 - 1) + 32703) / 32768 - behind p.cycle ≡ k - 1) =
-        a_second_apart p.cycle p.d n f k first.0 (sym (at (f - 1)) ∙ first.2) (omega (arith, at f, first.3)) has (omega (arith, at n)) in
+    a_second_apart p.cycle p.d n f k first.0 (sym (at (f - 1)) ∙ first.2) (omega (arith, at f, first.3)) has (omega (arith, at n)) in
     (apart.0, at (f + (k - 1) * 32768) ∙ apart.1, at (f + (k - 1) * 32768 - 1) ∙ apart.2)

@@ -2,10 +2,10 @@
 
 ghost use Rattle.std.specs.Prelude.{◌≡◌, ℕ, ◌<◌, ◌≤◌, ◌↔◌, true, false, IsSome, IfSome};
 ghost use Rattle.clk_units.specs.Events.{IsFirst};
-ghost use Rattle.rtc_cycle.specs.Divider.{IsDivider, at_power_on, with_dv, with_rate, with_set, uip_of, pulsed, pulsed_times, ticks_next, updates_next, ticks_in, updates_in, frequency};
+ghost use Rattle.rtc_cycle.specs.Divider.{IsDivider, at_power_on, with_dv, with_rate, with_set, uip_of, pulsed_times, ticks_in, updates_in, frequency};
 
 use crate::events::CycleEvents;
-use crate::parts::{self, DividerParts, HELD, RUNNING, Step};
+use crate::parts::{self, DividerParts, HELD, RUNNING};
 use std::marker::Model;
 
 /// The divider of an MC146818 with a crystal of 32,768 Hz. Contracts see its fields.
@@ -111,23 +111,14 @@ impl Divider {
         ensures first_update { IsFirst (updates_in self.old) n result.first_update }
         ensures frequency { n ≡ 32768 → self.old.dv ≡ 2 → result.ticks ≡ frequency self.old.rs }
     {
-        let _ = &self.parts;
-        let mut events = CycleEvents::NONE;
-        for i in 0..n {
-            let step = self.pulse();
-            events = events.and(i, step);
+        let ticks = parts::ticks(self.parts, n);
+        let updates = parts::updates(self.parts, n);
+        self.parts = parts::after_pulses(self.parts, n);
+        CycleEvents {
+            ticks: ticks.count,
+            first_tick: ticks.first,
+            updates: updates.count,
+            first_update: updates.first,
         }
-        events
-    }
-
-    /// One pulse.
-    fn pulse(&mut self) -> Step
-        ensures state { self.new ≡ pulsed self.old }
-        ensures tick { result.tick ≡ ticks_next self.old }
-        ensures update { result.update ≡ updates_next self.old }
-    {
-        let step = parts::next_step(self.parts);
-        self.parts = parts::after_pulse(self.parts);
-        step
     }
 }

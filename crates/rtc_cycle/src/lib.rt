@@ -19,6 +19,7 @@
 mod divider;
 mod events;
 mod parts;
+mod recurring;
 
 pub use divider::Divider;
 pub use events::CycleEvents;

@@ -1,7 +1,11 @@
-//! The fields of a divider, and what one pulse makes of them.
+//! The fields of a divider, and what pulses and writes make of them.
 
 ghost use Rattle.std.specs.Prelude.{◌≡◌, ◌≤◌, ◌<◌, ◌↔◌, IsTrue, ◌+◌, ◌%◌};
-ghost use Rattle.rtc_cycle.specs.Divider.{IsDivider, period, uip_of, pulsed, ticks_next, updates_next, with_dv as dv_written, with_set as set_written};
+ghost use Rattle.clk_units.specs.Events.{IsFirst};
+ghost use Rattle.rtc_cycle.specs.Stretch.{pulses_to_end, stretched};
+ghost use Rattle.rtc_cycle.specs.Divider.{IsDivider, period, uip_of, ticks_in, updates_in, with_dv as dv_written, with_set as set_written};
+
+use crate::recurring::Recurring;
 
 /// The divider's pulses a second: it counts from 0 to one below.
 const PULSES: u16 = 32_768;
@@ -31,15 +35,6 @@ pub struct DividerParts {
     pub rs: u8,
     /// The bit SET of register B.
     pub set: bool,
-}
-
-/// Which events a pulse brings.
-#[derive(Clone, Copy, Debug, PartialEq, Eq)]
-pub(crate) struct Step {
-    /// A periodic event.
-    pub tick: bool,
-    /// The end of an update cycle.
-    pub update: bool,
 }
 
 /// Whether the fields are those of a divider.
@@ -74,44 +69,67 @@ fn period_of(rs: u8) -> u16
     }
 }
 
-/// The divider after a pulse while it runs.
-fn next_d(d: u16) -> u16
-    requires { d < 32768 }
-    ensures { result ≡ (d + 1) % 32768 }
+/// The pulses up to the end of the cycle in progress, or else of the next second's cycle.
+fn pulses_to_end(p: DividerParts) -> u16
+    requires { IsDivider p }
+    ensures value { result ≡ pulses_to_end p }
+    ensures later { 0 < result }
 {
-    (d + 1) % PULSES
-}
-
-/// Which events the next pulse brings.
-#[tactic(auto, unfolding(crate::specs::Divider::ticks_next, crate::specs::Divider::updates_next))]
-pub(crate) fn next_step(p: DividerParts) -> Step
-    requires below { p.d < 32768 }
-    requires rate { p.rs ≤ 15 }
-    ensures tick { result.tick ≡ ticks_next p }
-    ensures update { result.update ≡ updates_next p }
-{
-    let d = next_d(p.d);
-    Step {
-        tick: p.dv == RUNNING && (p.rs != 0 && d % period_of(p.rs) == 0),
-        update: p.dv == RUNNING && (p.cycle && d == CYCLE_END),
+    if p.cycle {
+        CYCLE_END - p.d
+    } else {
+        PULSES + CYCLE_END - p.d
     }
 }
 
-/// The fields after a pulse.
-#[tactic(auto, unfolding(crate::specs::Divider::pulsed))]
-pub(crate) fn after_pulse(p: DividerParts) -> DividerParts
-    requires { p.d < 32768 }
-    ensures { result ≡ pulsed p }
+/// The periodic events of `n` pulses.
+pub(crate) fn ticks(p: DividerParts, n: u64) -> Recurring
+    requires { IsDivider p }
+    ensures count { result.count ≡ ticks_in p n }
+    ensures few { result.count ≤ n }
+    ensures first { IsFirst (ticks_in p) n result.first }
 {
-    if p.dv == RUNNING {
-        let d = next_d(p.d);
-        DividerParts {
-            d,
-            cycle: (d == 0 && !p.set) || (p.cycle && d != CYCLE_END),
-            ..p
-        }
-    } else {
-        p
+    if p.dv != RUNNING || p.rs == 0 {
+        return Recurring::NONE;
+    }
+    let period = period_of(p.rs);
+    Recurring::of(n, (period - p.d % period) as u64, period as u64)
+}
+
+/// The update cycles that end in `n` pulses.
+pub(crate) fn updates(p: DividerParts, n: u64) -> Recurring
+    requires { IsDivider p }
+    ensures count { result.count ≡ updates_in p n }
+    ensures few { result.count ≤ n }
+    ensures first { IsFirst (updates_in p) n result.first }
+{
+    if p.dv != RUNNING || p.set {
+        return Recurring::NONE;
+    }
+    Recurring::of(n, pulses_to_end(p) as u64, PULSES as u64)
+}
+
+/// The divider of a running one behind `n` pulses.
+fn d_after(d: u16, n: u64) -> u16
+    ensures { result ≡ (d + n) % 32768 }
+{
+    let second = PULSES as u64;
+    ((d as u64 + n % second) % second) as u16
+}
+
+/// The fields behind `n` pulses.
+pub(crate) fn after_pulses(p: DividerParts, n: u64) -> DividerParts
+    requires { IsDivider p }
+    ensures { result ≡ stretched n p }
+{
+    if p.dv != RUNNING {
+        return p;
+    }
+    let d = d_after(p.d, n);
+    DividerParts {
+        d,
+        cycle: !p.set && (d < CYCLE_END && (p.cycle || n >= (PULSES - p.d) as u64)),
+        ..p
     }
 }
 
