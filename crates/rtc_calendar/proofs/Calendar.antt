@@ -43,7 +43,7 @@ next_in-most low high number order h =
     not_last other = omega arith
 
 -- behind the last of a month comes a first, which every month has
-date_in_month : (day last end : Bool) (date year month next_year next_month : ℕ) → last ≡ eqb date (month_length year month) → date ≤ month_length year month
+pub date_in_month : (day last end : Bool) (date year month next_year next_month : ℕ) → last ≡ eqb date (month_length year month) → date ≤ month_length year month
     → cond day (next_in 1 (month_length year month) date) date ≤ month_length (cond (day && last && end) next_year year) (cond (day && last) next_month month)
 unfolding next_in
 date_in_month false last end date year month next_year next_month e h = h

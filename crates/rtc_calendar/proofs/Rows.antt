@@ -1,8 +1,9 @@
 -- Small rows that pin the definitions.
 use Rattle.std.proofs.Common.{◌≡◌, true, false, refl}
 use Rattle.rtc_calendar.specs.Bytes.{spelt, has_digits, is_spelt, number_in, spelling, is_hour, hour_meant, hour_in, hour_of_twelve, hour_spelling}
-use Rattle.rtc_calendar.specs.Calendar.{month_length, ends_minute, ends_hour, ends_day, ends_month, ends_year, next_in, next_second}
+use Rattle.rtc_calendar.specs.Calendar.{month_length, ends_minute, ends_hour, ends_day, ends_month, ends_year, next_in, next_second, next_day}
 use Rattle.rtc_calendar.specs.Updates.{month_in, year_in, last_date_in, read, written, updated}
+use Rattle.rtc_calendar.specs.Days.{days_of_years, days_of_months, day_number}
 use Rattle.rtc_calendar.specs.Alarms.{fits_byte, is_match}
 
 bcd_59 : number_in false 0 59 0x59 ≡ 59
@@ -60,3 +61,15 @@ alarm_needs_its_hour = refl
 alarm_byte_bf_asks_for_a_value : fits_byte 0xbf 0 ≡ false
 unfolding fits_byte
 alarm_byte_bf_asks_for_a_value = refl
+
+last_day_of_the_century : day_number (record { second = 0; minute = 0; hour = 0; weekday = 1; date = 31; month = 12; year = 99 }) ≡ 36524
+unfolding day_number days_of_years days_of_months month_length
+last_day_of_the_century = refl
+
+leap_day_is_day_59 : day_number (record { second = 0; minute = 0; hour = 0; weekday = 1; date = 29; month = 2; year = 0 }) ≡ 59
+unfolding day_number days_of_years days_of_months month_length
+leap_day_is_day_59 = refl
+
+saturday_is_followed_by_sunday : (next_day (record { second = 0; minute = 0; hour = 0; weekday = 7; date = 31; month = 12; year = 99 })) ≡ record { second = 0; minute = 0; hour = 0; weekday = 1; date = 1; month = 1; year = 0 }
+unfolding next_day next_in month_length
+saturday_is_followed_by_sunday = refl

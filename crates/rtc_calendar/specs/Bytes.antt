@@ -15,7 +15,7 @@ has_digits byte = nat_le (byte / 16) 9 && nat_le (byte % 16) 9
 unfoldable pub is_spelt : Bool → ℕ → ℕ → ℕ → Bool
 is_spelt binary low high byte = (binary || has_digits byte) && nat_le low (spelt binary byte) && nat_le (spelt binary byte) high
 
--- the number read from a byte of the range low to high; an invalid byte counts as the lowest value (own)
+-- the number read from a byte of the range low to high; an invalid byte counts as the lowest value (this project's own choice)
 unfoldable pub number_in : Bool → ℕ → ℕ → ℕ → ℕ
 number_in binary low high byte = if is_spelt binary low high byte then spelt binary byte else low
 
@@ -31,7 +31,7 @@ is_hour form byte = if form.hours24 then is_spelt form.binary 0 23 byte else is_
 unfoldable pub hour_meant : Form → ℕ → ℕ
 hour_meant form byte = if form.hours24 then spelt form.binary byte else spelt form.binary (byte % 128) % 12 + (if nat_le 128 byte then 12 else 0)
 
--- the hour of the day, 0 to 23, read from its byte; an invalid byte counts as hour 0 (own)
+-- the hour of the day, 0 to 23, read from its byte; an invalid byte counts as hour 0 (this project's own choice)
 unfoldable pub hour_in : Form → ℕ → ℕ
 hour_in form byte = if is_hour form byte then hour_meant form byte else 0
 

@@ -1,6 +1,6 @@
 -- The clock and the calendar in plain numbers, and the second that an update adds
 -- (MC146818 data sheet, "Update cycle").
-use Rattle.std.specs.Prelude.{ℕ, ◌+◌, ◌%◌, ◌≤◌, Bool, ◌&&◌, ◌||◌, ◌==◌, if◌then◌else◌}
+use Rattle.std.specs.Prelude.{ℕ, zero, suc, ◌+◌, ◌%◌, ◌≤◌, Bool, ◌&&◌, ◌||◌, ◌==◌, if◌then◌else◌}
 use Rattle.rtc_calendar.specs.declared.moment.Moment.{Moment}
 
 -- February has 29 days in every fourth year, 00 included
@@ -52,4 +52,18 @@ next_second m = record {
   date = if ends_day m then next_in 1 (month_length m.year m.month) m.date else m.date;
   month = if ends_month m then next_in 1 12 m.month else m.month;
   year = if ends_year m then next_in 0 99 m.year else m.year;
+}
+
+-- the moment n seconds later
+abbrev pub next_seconds : ℕ → Moment → Moment
+next_seconds zero m = m
+next_seconds (suc n) m = next_second (next_seconds n m)
+
+-- the moment at the same time of the next day
+unfoldable pub next_day : Moment → Moment
+next_day m = record m {
+  weekday = next_in 1 7 m.weekday;
+  date = next_in 1 (month_length m.year m.month) m.date;
+  month = if m.date == month_length m.year m.month then next_in 1 12 m.month else m.month;
+  year = if m.date == month_length m.year m.month && m.month == 12 then next_in 0 99 m.year else m.year;
 }

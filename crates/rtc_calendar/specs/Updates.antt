@@ -1,10 +1,10 @@
 -- One update of the seven time bytes, and n of them (MC146818 data sheet, "Update cycle").
-use Rattle.std.specs.Prelude.{ℕ, zero, suc, IsTrue}
+use Rattle.std.specs.Prelude.{◌≡◌, ℕ, zero, suc, IsTrue}
 use Rattle.rtc_calendar.specs.declared.Form.{Form}
 use Rattle.rtc_calendar.specs.declared.TimeBytes.{TimeBytes}
 use Rattle.rtc_calendar.specs.declared.moment.Moment.{Moment}
 use Rattle.rtc_calendar.specs.Bytes.{number_in, is_spelt, spelling, hour_in, is_hour, hour_spelling}
-use Rattle.rtc_calendar.specs.Calendar.{month_length, next_second}
+use Rattle.rtc_calendar.specs.Calendar.{month_length, next_second, next_day}
 
 -- the month and the year that the bytes are read as
 unfoldable pub month_in : Form → TimeBytes → ℕ
@@ -59,3 +59,10 @@ pub record IsValid (form : Form) (bytes : TimeBytes) : Type 0 where
   pub date : IsTrue (is_spelt form.binary 1 (last_date_in form bytes) bytes.date)
   pub month : IsTrue (is_spelt form.binary 1 12 bytes.month)
   pub year : IsTrue (is_spelt form.binary 0 99 bytes.year)
+
+-- the bytes of the next day: the same time, and the date, month, year and day of the week that follow
+pub record IsDayLater (form : Form) (old new : TimeBytes) : Type 0 where
+  pub sec : new.sec ≡ old.sec
+  pub min : new.min ≡ old.min
+  pub hour : new.hour ≡ old.hour
+  pub day : read form new ≡ next_day (read form old)

@@ -4,6 +4,7 @@ ghost use Rattle.clk_units.specs.Events.{IsFirst};
 ghost use Rattle.rtc_calendar.specs.Updates.{updated_times};
 ghost use Rattle.rtc_calendar.specs.Alarms.{fits_byte, is_match, IsDontCare, matches_in};
 
+use crate::later::DAY;
 use crate::update::updated;
 use crate::{Alarm, Form, TimeBytes};
 
@@ -31,13 +32,15 @@ pub fn matches(bytes: TimeBytes, alarm: Alarm) -> bool
         && fits_byte(alarm.hour, bytes.hour)
 }
 
-/// The first of the next `n` updates behind which the alarm matches the bytes, updates being counted from 1.
+/// The first of the next `n` updates behind which the alarm matches the bytes, updates being counted from 1
+/// (data sheet, "Alarm"), or `None` where it matches behind none of them. It looks at one day of updates at
+/// most, since from the first update on the time bytes come again each day.
 pub fn first_match(bytes: TimeBytes, form: Form, alarm: Alarm, n: u64) -> Option<u64>
     ensures first { IsFirst (matches_in form alarm bytes) n result }
     ensures any { IsDontCare alarm → 0 < n → result ≡ Some 1 }
 {
     let mut current = bytes;
-    for done in 0..n {
+    for done in 0..n.min(DAY) {
         current = updated(current, form);
         if matches(current, alarm) {
             return Some(done + 1);

@@ -86,6 +86,7 @@ fn is_hour(form: Form, byte: u8) -> bool
 pub(crate) fn hour_in(form: Form, byte: u8) -> u8
     ensures value { result ≡ hour_in form byte }
     ensures greatest { result ≤ 23 }
+    ensures byte { byte < 256 }
 {
     if !is_hour(form, byte) {
         0

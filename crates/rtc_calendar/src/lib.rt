@@ -13,6 +13,7 @@
 
 mod alarms;
 mod bytes;
+mod later;
 mod moment;
 mod update;
 

@@ -1,4 +1,7 @@
+ghost use Rattle.std.specs.Prelude.{◌+◌, ◌*◌, ◌<◌, ◌≤◌};
+
 use super::*;
+use crate::update::updated;
 
 /// Binary numbers, 24 hours.
 const BINARY: Form = Form {
@@ -209,4 +212,146 @@ fn the_alarm_matches(rt: HostRuntime) {
             }
         )
     );
+}
+
+/// The plain programs that the definitions describe, which go from update to update.
+fn after_each(bytes: TimeBytes, form: Form, n: u64) -> TimeBytes {
+    let mut current = bytes;
+    for _ in 0..n {
+        current = updated(current, form);
+    }
+    current
+}
+
+fn first_of_each(bytes: TimeBytes, form: Form, alarm: Alarm, n: u64) -> Option<u64> {
+    let mut current = bytes;
+    for done in 0..n {
+        current = updated(current, form);
+        if matches(current, alarm) {
+            return Some(done + 1);
+        }
+    }
+    None
+}
+
+/// Numbers that look random, and are the same in each run.
+#[derive(Drop)]
+struct Numbers {
+    state: u64,
+}
+
+impl Numbers {
+    fn below(&mut self, limit: u8) -> u8
+        requires { 0 < limit }
+        ensures { result < limit }
+    {
+        self.state = self
+            .state
+            .wrapping_mul(6_364_136_223_846_793_005)
+            .wrapping_add(1_442_695_040_888_963_407);
+        (self.state / 65_536 % limit as u64) as u8
+    }
+
+    /// A byte that spells one of `some` numbers from `low` on.
+    fn byte(&mut self, form: Form, low: u8, some: u8) -> u8
+        requires some { 0 < some }
+        requires digits { low + some ≤ 101 }
+        ensures { result < 2 * (low + some) }
+    {
+        let number = low + self.below(some);
+        if form.binary {
+            number
+        } else {
+            number / 10 * 16 + number % 10
+        }
+    }
+
+    fn form(&mut self) -> Form {
+        Form {
+            binary: self.below(2) == 0,
+            hours24: self.below(2) == 0,
+        }
+    }
+
+    /// Bytes that are mostly valid, late in a day and often late in a month.
+    fn time(&mut self, form: Form) -> TimeBytes {
+        TimeBytes {
+            sec: self.byte(form, 0, 61),
+            min: self.byte(form, 0, 61),
+            hour: if form.hours24 {
+                self.byte(form, 20, 5)
+            } else {
+                self.byte(form, 8, 6) + 128 * self.below(2)
+            },
+            wday: self.byte(form, 0, 9),
+            date: if self.below(2) == 0 {
+                self.byte(form, 27, 6)
+            } else {
+                self.byte(form, 0, 33)
+            },
+            month: self.byte(form, 0, 14),
+            year: self.byte(form, 0, 101),
+        }
+    }
+
+    /// An alarm that often leaves a byte open.
+    fn alarm(&mut self, form: Form) -> Alarm {
+        Alarm {
+            sec: if self.below(4) == 0 {
+                0xc0
+            } else {
+                self.byte(form, 0, 61)
+            },
+            min: if self.below(2) == 0 {
+                0xc0
+            } else {
+                self.byte(form, 0, 61)
+            },
+            hour: if self.below(2) == 0 {
+                0xff
+            } else {
+                self.byte(form, 0, 25)
+            },
+        }
+    }
+}
+
+#[test]
+fn days_at_once_are_their_updates(rt: HostRuntime) {
+    let mut numbers = Numbers { state: 1984 };
+    for _ in 0..250 {
+        let form = numbers.form();
+        let bytes = numbers.time(form);
+        let n = numbers.below(100) as u64 * 121 + numbers.below(60) as u64;
+        assert_eq!(rt;
+            after(bytes, form, n),
+            after_each(bytes, form, n),
+            "{bytes:?} in {form:?}, {n} updates"
+        );
+        let alarm = numbers.alarm(form);
+        let first = first_of_each(bytes, form, alarm, n);
+        assert_eq!(rt;
+            first_match(bytes, form, alarm, n),
+            first,
+            "{bytes:?} in {form:?}, {alarm:?}"
+        );
+    }
+}
+
+#[test]
+fn years_go_by_at_once(rt: HostRuntime) {
+    let new_century = time([0, 0, 0, 1, 1, 1, 0]);
+    let cases = [
+        (BCD, 315_360_000, [0, 0, 0, 4, 0x29, 0x12, 0x09]),
+        (BINARY, 365 * 86_400, [0, 0, 0, 2, 31, 12, 0]),
+        (BINARY, 366 * 86_400, [0, 0, 0, 3, 1, 1, 1]),
+        (BINARY, 1_460 * 86_400, [0, 0, 0, 5, 31, 12, 3]),
+        (BINARY, 1_461 * 86_400, [0, 0, 0, 6, 1, 1, 4]),
+        (BINARY, 1_520 * 86_400, [0, 0, 0, 2, 29, 2, 4]),
+        (BINARY, 36_525 * 86_400 - 1, [59, 59, 23, 6, 31, 12, 99]),
+        (BINARY, 36_525 * 86_400, [0, 0, 0, 7, 1, 1, 0]),
+    ];
+    for (form, n, behind) in cases {
+        assert_eq!(rt; after(new_century, form, n), time(behind), "{n} updates");
+    }
 }

@@ -1,9 +1,10 @@
 //! Updates: the second that the clock adds to its bytes.
 ghost use Rattle.std.specs.Prelude.{◌≡◌, ◌<◌};
-ghost use Rattle.rtc_calendar.specs.Calendar.{IsMoment, next_second};
-ghost use Rattle.rtc_calendar.specs.Updates.{read, written, updated, updated_times, IsValid};
+ghost use Rattle.rtc_calendar.specs.Calendar.{IsMoment, next_second, next_seconds};
+ghost use Rattle.rtc_calendar.specs.Updates.{read, written, updated, updated_times, IsValid, IsDayLater};
 
 use crate::bytes::{hour_in, hour_spelling, number_in, spelling};
+use crate::later::later;
 use crate::moment::{Moment, month_length, next_second};
 use crate::{Form, TimeBytes};
 
@@ -13,6 +14,8 @@ use crate::{Form, TimeBytes};
 pub(crate) fn read(bytes: TimeBytes, form: Form) -> Moment
     ensures value { result ≡ read form bytes }
     ensures valid { IsMoment result }
+    // what a caller doesn't know of a field that it leaves alone
+    ensures byte { bytes.hour < 256 }
 {
     let month = number_in(form.binary, 1, 12, bytes.month);
     let year = number_in(form.binary, 0, 99, bytes.year);
@@ -55,16 +58,20 @@ pub(crate) fn updated(bytes: TimeBytes, form: Form) -> TimeBytes
 /// The bytes after `n` updates (data sheet, "Update cycle"). Each update reads the seven bytes in `form`,
 /// adds a second, and writes all seven back in that form.
 ///
-/// A byte that is invalid in `form` counts as its lowest value: 0 for seconds, minutes, hour of the day and
-/// year, 1 for day of the week, month and date; a date above the month's length is invalid. That, and a leap
-/// year in every fourth year with 00 among them, are this project's own choices. With no update the bytes
-/// stay as they are.
+/// Every fourth year is a leap year, 00 included. A byte that is invalid in `form` counts as its lowest
+/// value: 0 for seconds, minutes, hour of the day and year, 1 for day of the week, month and date; a date
+/// above the month's length is invalid (this project's own choice). With no update the bytes stay as they
+/// are.
 pub fn after(bytes: TimeBytes, form: Form, n: u64) -> TimeBytes
     ensures value { result ≡ updated_times form n bytes }
+    ensures valid { 0 < n → IsValid form result }
+    ensures kept { IsValid form bytes → IsValid form result }
+    // a day of updates
+    ensures day { n ≡ 86400 → IsValid form bytes → IsDayLater form bytes result }
 {
-    let mut current = bytes;
-    for done in 0..n {
-        current = updated(current, form);
+    if n == 0 {
+        bytes
+    } else {
+        written(later(read(bytes, form), n), form)
     }
-    current
 }

@@ -2,7 +2,7 @@ use Rattle.std.proofs.Common.{◌≡◌, ◌+◌, ◌∙◌, ap, sym, true, fals
 use Rattle.clk_units.specs.Events.{IsFirst}
 use Rattle.rtc_calendar.specs.Updates.{updated}
 use Rattle.rtc_calendar.specs.Alarms.{is_match, matches_in}
-use Rattle.rtc_calendar.proofs.Updates.{IsFirst-any, IsFirst-matches_in, none-more, updated_times-more}
+use Rattle.rtc_calendar.proofs.Updates.{IsFirst-any, IsFirst-matches_in, none-more, none-first_day, updated_times-more}
 use Rattle.rtc_calendar.proofs.alarms.first_match.Goals as goal
 
 first_here : (c : goal.Then-matches) → IsFirst (matches_in c.args.form c.args.alarm c.args.bytes) c.args.n (Some (c.loop-done.done + 1))
@@ -27,8 +27,11 @@ loop-done-preserved c =
       none = none-more c.args.form c.args.alarm c.args.bytes c.loop-done.current c.loop-done.done c.loop-done.invariant.bytes c.loop-done.invariant.none not_here;
     }
 
-pub returns-clause-any : goal.returns-clause-any
-returns-clause-any c = λ any some.
-    let all : c.args.n ≡ c.loop-done.done = omega arith in
-    let none : IsFirst (matches_in c.args.form c.args.alarm c.args.bytes) c.args.n None = rw all c.loop-done.invariant.none in
-    IsFirst-any c.args.form c.args.alarm c.args.bytes c.args.n None any some none
+pub returns : goal.returns
+returns c =
+    let none : matches_in c.args.form c.args.alarm c.args.bytes c.args.n ≡ 0 =
+    none-first_day c.args.form c.args.alarm c.args.bytes c.loop-done.done c.args.n (omega arith) c.loop-done.invariant.none in
+    record {
+      first = none;
+      any = λ any some. IsFirst-any c.args.form c.args.alarm c.args.bytes c.args.n None any some none;
+    }
