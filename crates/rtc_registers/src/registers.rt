@@ -18,6 +18,9 @@ const SHOWN: u8 = 128;
 /// Register A at power on: DV 010, rate 6.
 const A_AT_POWER_ON: u8 = 0x26;
 
+/// The divider at power on: half a second before the first update cycle begins.
+const D_AT_POWER_ON: u16 = 16_384;
+
 /// Pulses of the crystal in a second.
 const SECOND: u64 = 32_768;
 
@@ -210,7 +213,7 @@ pub(crate) fn at_power_on(time: TimeBytes) -> RtcParts
     RtcParts {
         index: 0,
         bytes,
-        d: 16_384,
+        d: D_AT_POWER_ON,
         cycle: false,
     }
 }
