@@ -1,0 +1,4 @@
+pub mod Pulse
+pub mod Stretch
+pub mod Recurs
+mod Rows

@@ -1,0 +1,2 @@
+pub mod Divider
+pub mod Stretch

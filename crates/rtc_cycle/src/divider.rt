@@ -1,0 +1,124 @@
+//! The divider as a device: pulses go in, events come out.
+
+ghost use Rattle.std.specs.Prelude.{◌≡◌, ℕ, ◌<◌, ◌≤◌, ◌↔◌, true, false, IsSome, IfSome};
+ghost use Rattle.clk_units.specs.Events.{IsFirst};
+ghost use Rattle.rtc_cycle.specs.Divider.{IsDivider, at_power_on, with_dv, with_rate, with_set, uip_of, pulsed_times, ticks_in, updates_in, frequency};
+
+use crate::events::CycleEvents;
+use crate::parts::{self, DividerParts, HELD, RUNNING};
+use std::marker::Model;
+
+/// The divider of an MC146818 with a crystal of 32,768 Hz. Contracts see its fields.
+#[derive(Clone, Copy, Debug, PartialEq, Eq)]
+pub struct Divider {
+    parts: DividerParts,
+}
+
+impl Model for Divider {
+    ghost use Rattle.rtc_cycle.specs.declared.parts.DividerParts.{DividerParts};
+
+    ghost Value = { DividerParts };
+
+    ghost use Rattle.rtc_cycle.specs.Divider.{IsDivider};
+
+    ghost view = { λ c. c.parts };
+
+    ghost invariant = { λ c. IsDivider c.parts };
+
+    ghost inverse = { λ p. record { parts = p } };
+}
+
+impl Divider {
+    /// The divider at power on: it runs, at rate 6, half a second before the first update cycle begins
+    /// (this project's own choice).
+    pub fn power_on() -> Divider
+        ensures { result ≡ at_power_on }
+    {
+        Divider {
+            parts: DividerParts {
+                d: HELD,
+                cycle: false,
+                dv: RUNNING,
+                rs: 6,
+                set: false,
+            },
+        }
+    }
+
+    /// All fields.
+    pub fn parts(&self) -> DividerParts
+        ensures value { result ≡ self.now }
+        ensures valid { IsDivider result }
+    {
+        self.parts
+    }
+
+    /// The divider with these fields, or none where no divider has them.
+    pub fn of_parts(parts: DividerParts) -> Option<Divider>
+        ensures valid { IsSome result ↔ IsDivider parts }
+        ensures value { IfSome result (λ c. c ≡ parts) }
+    {
+        if parts::is_valid(parts) {
+            Some(Divider { parts })
+        } else {
+            None
+        }
+    }
+
+    /// Writes the bits DV of register A. 010 lets the divider run; any other value holds it in the middle of
+    /// a second, with no update cycle in progress (below 110 this project's own choice).
+    pub fn dv(&mut self, dv: u8)
+        requires { dv ≤ 7 }
+        ensures { self.new ≡ with_dv dv self.old }
+    {
+        self.parts = parts::with_dv(self.parts, dv);
+    }
+
+    /// Writes the rate RS of register A: 0 for no periodic events, 1 to 15 for 2 to 8,192 a second.
+    pub fn rate(&mut self, rs: u8)
+        requires { rs ≤ 15 }
+        ensures { self.new ≡ with_rate rs self.old }
+    {
+        self.parts.rs = rs;
+    }
+
+    /// Writes SET of register B. While it is 1 no update cycle begins, and one in progress is abandoned
+    /// (this project's own choice).
+    pub fn set(&mut self, on: bool)
+        ensures { self.new ≡ with_set on self.old }
+    {
+        self.parts = parts::with_set(self.parts, on);
+    }
+
+    /// UIP of register A: an update cycle is in progress, or may begin within 8 pulses (244 microseconds).
+    /// So a reader that finds it 0 has that long before a cycle begins, and 73 pulses before bytes change.
+    pub fn uip(&self) -> bool
+        ensures value { result ≡ uip_of self.now }
+        ensures early { result ≡ false → (k : ℕ) → k ≤ 8 → (pulsed_times k self.now).cycle ≡ false }
+        ensures quiet { result ≡ false → (n : ℕ) → n ≤ 73 → updates_in self.now n ≡ 0 }
+    {
+        parts::is_updating(self.parts)
+    }
+
+    /// Lets `n` pulses of the crystal pass, and tells their events.
+    pub fn pulses(&mut self, n: u64) -> CycleEvents
+        ensures state { self.new ≡ pulsed_times n self.old }
+        ensures ticks { result.ticks ≡ ticks_in self.old n }
+        ensures few_ticks { result.ticks ≤ n }
+        ensures first_tick { IsFirst (ticks_in self.old) n result.first_tick }
+        ensures updates { result.updates ≡ updates_in self.old n }
+        ensures few_updates { result.updates ≤ n }
+        ensures first_update { IsFirst (updates_in self.old) n result.first_update }
+        ensures frequency { n ≡ 32768 → self.old.dv ≡ 2 → result.ticks ≡ frequency self.old.rs }
+    {
+        let ticks = parts::ticks(self.parts, n);
+        let updates = parts::updates(self.parts, n);
+        self.parts = parts::after_pulses(self.parts, n);
+        CycleEvents {
+            ticks: ticks.count,
+            first_tick: ticks.first,
+            updates: updates.count,
+            first_update: updates.first,
+        }
+    }
+}

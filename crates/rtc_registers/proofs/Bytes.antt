@@ -1,0 +1,127 @@
+-- Lemmas on the bytes: the time, register C and the rest stand apart.
+use Rattle.std.proofs.Common.{◌≡◌, ℕ, ◌≤◌, Bool, true, false, List, [], ◌∷◌, length, get_or, set, refl, arith}
+use Rattle.rtc_calendar.specs.declared.TimeBytes.{TimeBytes}
+use Rattle.rtc_registers.specs.Registers.{has_bit, flags_byte, time_in, with_time}
+
+-- of a list of at least 14 bytes it is enough to look at lists that are written out that far
+fourteen : (P : List ℕ → Type 0) → ((b0 b1 b2 b3 b4 b5 b6 b7 b8 b9 b10 b11 b12 b13 : ℕ) (rest : List ℕ) → P (b0 ∷ b1 ∷ b2 ∷ b3 ∷ b4 ∷ b5 ∷ b6 ∷ b7 ∷ b8 ∷ b9 ∷ b10 ∷ b11 ∷ b12 ∷ b13 ∷ rest)) → (bs : List ℕ) → 14 ≤ length bs → P bs
+fourteen P written [] h = absurd (omega arith)
+fourteen P written (b0 ∷ []) h = absurd (omega arith)
+fourteen P written (b0 ∷ b1 ∷ []) h = absurd (omega arith)
+fourteen P written (b0 ∷ b1 ∷ b2 ∷ []) h = absurd (omega arith)
+fourteen P written (b0 ∷ b1 ∷ b2 ∷ b3 ∷ []) h = absurd (omega arith)
+fourteen P written (b0 ∷ b1 ∷ b2 ∷ b3 ∷ b4 ∷ []) h = absurd (omega arith)
+fourteen P written (b0 ∷ b1 ∷ b2 ∷ b3 ∷ b4 ∷ b5 ∷ []) h = absurd (omega arith)
+fourteen P written (b0 ∷ b1 ∷ b2 ∷ b3 ∷ b4 ∷ b5 ∷ b6 ∷ []) h = absurd (omega arith)
+fourteen P written (b0 ∷ b1 ∷ b2 ∷ b3 ∷ b4 ∷ b5 ∷ b6 ∷ b7 ∷ []) h = absurd (omega arith)
+fourteen P written (b0 ∷ b1 ∷ b2 ∷ b3 ∷ b4 ∷ b5 ∷ b6 ∷ b7 ∷ b8 ∷ []) h = absurd (omega arith)
+fourteen P written (b0 ∷ b1 ∷ b2 ∷ b3 ∷ b4 ∷ b5 ∷ b6 ∷ b7 ∷ b8 ∷ b9 ∷ []) h = absurd (omega arith)
+fourteen P written (b0 ∷ b1 ∷ b2 ∷ b3 ∷ b4 ∷ b5 ∷ b6 ∷ b7 ∷ b8 ∷ b9 ∷ b10 ∷ []) h = absurd (omega arith)
+fourteen P written (b0 ∷ b1 ∷ b2 ∷ b3 ∷ b4 ∷ b5 ∷ b6 ∷ b7 ∷ b8 ∷ b9 ∷ b10 ∷ b11 ∷ []) h = absurd (omega arith)
+fourteen P written (b0 ∷ b1 ∷ b2 ∷ b3 ∷ b4 ∷ b5 ∷ b6 ∷ b7 ∷ b8 ∷ b9 ∷ b10 ∷ b11 ∷ b12 ∷ []) h = absurd (omega arith)
+fourteen P written (b0 ∷ b1 ∷ b2 ∷ b3 ∷ b4 ∷ b5 ∷ b6 ∷ b7 ∷ b8 ∷ b9 ∷ b10 ∷ b11 ∷ b12 ∷ b13 ∷ rest) h = written b0 b1 b2 b3 b4 b5 b6 b7 b8 b9 b10 b11 b12 b13 rest
+
+-- what stands where, once the time and register C are written
+pub record Moved (t : TimeBytes) (flags : ℕ) (bs : List ℕ) : Type 0 where
+  pub time : time_in (set (with_time t bs) 12 flags) ≡ t
+  pub alarm_sec : get_or (set (with_time t bs) 12 flags) 1 0 ≡ get_or bs 1 0
+  pub alarm_min : get_or (set (with_time t bs) 12 flags) 3 0 ≡ get_or bs 3 0
+  pub alarm_hour : get_or (set (with_time t bs) 12 flags) 5 0 ≡ get_or bs 5 0
+  pub register_a : get_or (set (with_time t bs) 12 flags) 10 0 ≡ get_or bs 10 0
+  pub register_b : get_or (set (with_time t bs) 12 flags) 11 0 ≡ get_or bs 11 0
+  pub register_c : get_or (set (with_time t bs) 12 flags) 12 0 ≡ flags
+  pub register_d : get_or (set (with_time t bs) 12 flags) 13 0 ≡ get_or bs 13 0
+  pub places : length (set (with_time t bs) 12 flags) ≡ length bs
+  -- what is written last counts
+  pub again : (u : TimeBytes) (later : ℕ) → set (with_time u (set (with_time t bs) 12 flags)) 12 later ≡ set (with_time u bs) 12 later
+  pub flags_again : (later : ℕ) → set (set (with_time t bs) 12 flags) 12 later ≡ set (with_time t bs) 12 later
+  pub flags_before : (earlier : ℕ) → set (with_time t (set bs 12 earlier)) 12 flags ≡ set (with_time t bs) 12 flags
+
+pub moved-bytes : (t : TimeBytes) (flags : ℕ) (bs : List ℕ) → 14 ≤ length bs → Moved t flags bs
+unfolding with_time
+moved-bytes t flags bs h = fourteen (Moved t flags) (λ b0 b1 b2 b3 b4 b5 b6 b7 b8 b9 b10 b11 b12 b13 rest. record {
+  time = refl;
+  alarm_sec = refl;
+  alarm_min = refl;
+  alarm_hour = refl;
+  register_a = refl;
+  register_b = refl;
+  register_c = refl;
+  register_d = refl;
+  places = refl;
+  again = λ u later. refl;
+  flags_again = λ later. refl;
+  flags_before = λ earlier. refl;
+}) bs h
+
+-- the bytes written as they stand
+pub same-bytes : (bs : List ℕ) → 14 ≤ length bs → set (with_time (time_in bs) bs) 12 (get_or bs 12 0) ≡ bs
+unfolding with_time
+same-bytes bs h = fourteen (λ xs. set (with_time (time_in xs) xs) 12 (get_or xs 12 0) ≡ xs) (λ b0 b1 b2 b3 b4 b5 b6 b7 b8 b9 b10 b11 b12 b13 rest. refl) bs h
+
+-- what stands where, once register C is written
+pub record Flagged (flags : ℕ) (bs : List ℕ) : Type 0 where
+  pub time : time_in (set bs 12 flags) ≡ time_in bs
+  pub alarm_sec : get_or (set bs 12 flags) 1 0 ≡ get_or bs 1 0
+  pub alarm_min : get_or (set bs 12 flags) 3 0 ≡ get_or bs 3 0
+  pub alarm_hour : get_or (set bs 12 flags) 5 0 ≡ get_or bs 5 0
+  pub register_a : get_or (set bs 12 flags) 10 0 ≡ get_or bs 10 0
+  pub register_b : get_or (set bs 12 flags) 11 0 ≡ get_or bs 11 0
+  pub register_c : get_or (set bs 12 flags) 12 0 ≡ flags
+  pub register_d : get_or (set bs 12 flags) 13 0 ≡ get_or bs 13 0
+  pub places : length (set bs 12 flags) ≡ length bs
+
+pub flagged-bytes : (flags : ℕ) (bs : List ℕ) → 14 ≤ length bs → Flagged flags bs
+flagged-bytes flags bs h = fourteen (Flagged flags) (λ b0 b1 b2 b3 b4 b5 b6 b7 b8 b9 b10 b11 b12 b13 rest. record {
+  time = refl;
+  alarm_sec = refl;
+  alarm_min = refl;
+  alarm_hour = refl;
+  register_a = refl;
+  register_b = refl;
+  register_c = refl;
+  register_d = refl;
+  places = refl;
+}) bs h
+
+-- the flags are the bits of their byte
+pub has_bit-pf : (pf af uf : Bool) → has_bit 64 (flags_byte pf af uf) ≡ pf
+has_bit-pf true true true = refl
+has_bit-pf true true false = refl
+has_bit-pf true false true = refl
+has_bit-pf true false false = refl
+has_bit-pf false true true = refl
+has_bit-pf false true false = refl
+has_bit-pf false false true = refl
+has_bit-pf false false false = refl
+
+pub has_bit-af : (pf af uf : Bool) → has_bit 32 (flags_byte pf af uf) ≡ af
+has_bit-af true true true = refl
+has_bit-af true true false = refl
+has_bit-af true false true = refl
+has_bit-af true false false = refl
+has_bit-af false true true = refl
+has_bit-af false true false = refl
+has_bit-af false false true = refl
+has_bit-af false false false = refl
+
+pub has_bit-uf : (pf af uf : Bool) → has_bit 16 (flags_byte pf af uf) ≡ uf
+has_bit-uf true true true = refl
+has_bit-uf true true false = refl
+has_bit-uf true false true = refl
+has_bit-uf true false false = refl
+has_bit-uf false true true = refl
+has_bit-uf false true false = refl
+has_bit-uf false false true = refl
+has_bit-uf false false false = refl
+
+-- the byte of its own flags
+pub flags_byte-read : (pf af uf : Bool) → flags_byte pf af uf ≡ flags_byte (has_bit 64 (flags_byte pf af uf)) (has_bit 32 (flags_byte pf af uf)) (has_bit 16 (flags_byte pf af uf))
+flags_byte-read true true true = refl
+flags_byte-read true true false = refl
+flags_byte-read true false true = refl
+flags_byte-read true false false = refl
+flags_byte-read false true true = refl
+flags_byte-read false true false = refl
+flags_byte-read false false true = refl
+flags_byte-read false false false = refl

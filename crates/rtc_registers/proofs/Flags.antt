@@ -1,0 +1,127 @@
+-- Lemmas on register C: a write of its flags keeps the rest of the clock, and setting PF goes past pulses.
+use Rattle.std.proofs.Common.{◌≡◌, ℕ, zero, suc, ◌≤◌, Bool, true, false, ◌||◌, cond, eqb, List, length, set, refl, sym, ap, subst, ◌∙◌, inl, inr, arith}
+use Rattle.std.proofs.lemmas.Bool.{cases_Bool}
+use Rattle.rtc_calendar.specs.declared.TimeBytes.{TimeBytes}
+use Rattle.rtc_cycle.specs.declared.parts.DividerParts.{DividerParts}
+use Rattle.rtc_cycle.specs.Divider.{IsDivider, pulsed as clock_pulsed, ticks_next, updates_next}
+use Rattle.rtc_registers.specs.declared.parts.RtcParts.{RtcParts}
+use Rattle.rtc_registers.specs.Registers.{IsRtc, register_b, register_c, has_bit, flags_byte, pf_of, af_of, uf_of, clock_of, form_of, time_of, alarm_of, after_read, flagged}
+use Rattle.rtc_registers.specs.Pulses.{moved, time_next, flags_next, alarms_next, pulsed, pulsed_times, alarms_in}
+use Rattle.rtc_registers.proofs.Bytes.{Moved, moved-bytes, Flagged, flagged-bytes, flags_byte-read, has_bit-pf, has_bit-af, has_bit-uf}
+use Rattle.rtc_registers.proofs.Stretch.{time_next-by, alarms_next-by, flags_next-by, IsRtc-pulsed_times}
+
+-- register C is replaced
+abbrev pub with_flags : ℕ → RtcParts → RtcParts
+with_flags f r = record r { bytes = set r.bytes 12 f }
+
+pub clock_of-with_flags : (f : ℕ) (r : RtcParts) → 14 ≤ length r.bytes → clock_of (with_flags f r) ≡ clock_of r
+clock_of-with_flags f r h =
+    let m : Flagged f r.bytes = flagged-bytes f r.bytes h in
+    rw (m.register_a, m.register_b) refl
+
+pub IsRtc-with_flags : (pf af uf : Bool) (r : RtcParts) → IsRtc r → IsRtc (with_flags (flags_byte pf af uf) r)
+IsRtc-with_flags pf af uf r valid =
+    let enough : 14 ≤ length r.bytes = omega (arith, valid.places) in
+    let m : Flagged (flags_byte pf af uf) r.bytes = flagged-bytes (flags_byte pf af uf) r.bytes enough in
+    record {
+      places = m.places ∙ valid.places;
+      index = valid.index;
+      register_a = rw m.register_a valid.register_a;
+      register_c = rw m.register_c (flags_byte-read pf af uf);
+      register_d = m.register_d ∙ valid.register_d;
+      clock = subst IsDivider (sym (clock_of-with_flags (flags_byte pf af uf) r enough)) valid.clock;
+    }
+
+-- a read keeps the conditions
+pub IsRtc-after_read : (r : RtcParts) → IsRtc r → IsRtc (after_read r)
+unfolding after_read
+IsRtc-after_read r valid = elim (cases_Bool (eqb r.index 12)) [
+  | inl c ↦ rw c (IsRtc-with_flags false false false r valid)
+  | inr other ↦ rw other valid
+]
+
+-- PF set keeps them
+pub IsRtc-flagged : (r : RtcParts) → IsRtc r → IsRtc (flagged r)
+unfolding flagged
+IsRtc-flagged r valid = IsRtc-with_flags true (af_of r) (uf_of r) r valid
+
+-- what the clock shows with PF set
+pub clock_of-flagged : (r : RtcParts) → IsRtc r → clock_of (flagged r) ≡ clock_of r
+unfolding flagged
+clock_of-flagged r valid = clock_of-with_flags (flags_byte true (af_of r) (uf_of r)) r (omega (arith, valid.places))
+
+register_c-flagged : (r : RtcParts) → IsRtc r → register_c (flagged r) ≡ flags_byte true (af_of r) (uf_of r)
+unfolding flagged
+register_c-flagged r valid = (flagged-bytes (flags_byte true (af_of r) (uf_of r)) r.bytes (omega (arith, valid.places))).register_c
+
+pub register_b-flagged : (r : RtcParts) → IsRtc r → register_b (flagged r) ≡ register_b r
+unfolding flagged
+register_b-flagged r valid = (flagged-bytes (flags_byte true (af_of r) (uf_of r)) r.bytes (omega (arith, valid.places))).register_b
+
+pub pf_of-flagged : (r : RtcParts) → IsRtc r → pf_of (flagged r) ≡ true
+pf_of-flagged r valid = ap (has_bit 64) (register_c-flagged r valid) ∙ has_bit-pf true (af_of r) (uf_of r)
+
+pub af_of-flagged : (r : RtcParts) → IsRtc r → af_of (flagged r) ≡ af_of r
+af_of-flagged r valid = ap (has_bit 32) (register_c-flagged r valid) ∙ has_bit-af true (af_of r) (uf_of r)
+
+pub uf_of-flagged : (r : RtcParts) → IsRtc r → uf_of (flagged r) ≡ uf_of r
+uf_of-flagged r valid = ap (has_bit 16) (register_c-flagged r valid) ∙ has_bit-uf true (af_of r) (uf_of r)
+
+moved-flagged : (c : DividerParts) (t : TimeBytes) (f : ℕ) (r : RtcParts) → IsRtc r → moved c t f (flagged r) ≡ moved c t f r
+unfolding moved flagged
+moved-flagged c t f r valid =
+    ap (λ (bs : List ℕ). let p : RtcParts = record { index = r.index; bytes = bs; d = c.d; cycle = c.cycle } in p) ((moved-bytes t f r.bytes (omega (arith, valid.places))).flags_before (flags_byte true (af_of r) (uf_of r)))
+
+flagged-moved : (c : DividerParts) (t : TimeBytes) (pf af uf : Bool) (r : RtcParts) → IsRtc r → flagged (moved c t (flags_byte pf af uf) r) ≡ moved c t (flags_byte true af uf) r
+unfolding moved flagged
+flagged-moved c t pf af uf r valid =
+    let m : Moved t (flags_byte pf af uf) r.bytes = moved-bytes t (flags_byte pf af uf) r.bytes (omega (arith, valid.places)) in
+    rw (m.register_c, has_bit-af pf af uf, has_bit-uf pf af uf)
+    (ap (λ (bs : List ℕ). let p : RtcParts = record { index = r.index; bytes = bs; d = c.d; cycle = c.cycle } in p) (m.flags_again (flags_byte true af uf)))
+
+form_of-flagged : (r : RtcParts) → IsRtc r → form_of (flagged r) ≡ form_of r
+form_of-flagged r valid = rw (register_b-flagged r valid) refl
+
+alarm_of-flagged : (r : RtcParts) → IsRtc r → alarm_of (flagged r) ≡ alarm_of r
+unfolding flagged
+alarm_of-flagged r valid =
+    let m : Flagged (flags_byte true (af_of r) (uf_of r)) r.bytes = flagged-bytes (flags_byte true (af_of r) (uf_of r)) r.bytes (omega (arith, valid.places)) in
+    rw (m.alarm_sec, m.alarm_min, m.alarm_hour) refl
+
+time_of-flagged : (r : RtcParts) → IsRtc r → time_of (flagged r) ≡ time_of r
+unfolding flagged
+time_of-flagged r valid = (flagged-bytes (flags_byte true (af_of r) (uf_of r)) r.bytes (omega (arith, valid.places))).time
+
+-- the next pulse brings the same events with PF set
+alarms_next-flagged : (r : RtcParts) → IsRtc r → alarms_next (flagged r) ≡ alarms_next r
+unfolding alarms_next
+alarms_next-flagged r valid =
+    alarms_next-by (flagged r) (clock_of r) (form_of r) (alarm_of r) (time_of r) (clock_of-flagged r valid) (form_of-flagged r valid) (alarm_of-flagged r valid) (time_of-flagged r valid)
+
+-- setting PF goes past a pulse ..
+pub pulsed-flagged : (r : RtcParts) → IsRtc r → pulsed (flagged r) ≡ flagged (pulsed r)
+unfolding pulsed
+pulsed-flagged r valid =
+    let time : time_next (flagged r) ≡ time_next r = time_next-by (flagged r) (clock_of r) (form_of r) (time_of r) (clock_of-flagged r valid) (form_of-flagged r valid) (time_of-flagged r valid) in
+    let flags : flags_next (flagged r) ≡ flags_byte true (af_of r || alarms_next r) (uf_of r || updates_next (clock_of r)) =
+    flags_next-by (flagged r) (clock_of r) true (af_of r) (uf_of r) (clock_of-flagged r valid) (register_c-flagged r valid)
+    ∙ ap (λ (b : Bool). flags_byte true (af_of r || b) (uf_of r || updates_next (clock_of r))) (alarms_next-flagged r valid) in
+    ap (λ (d : DividerParts). moved (clock_pulsed d) (time_next (flagged r)) (flags_next (flagged r)) (flagged r)) (clock_of-flagged r valid)
+    ∙ ap (λ (t : TimeBytes). moved (clock_pulsed (clock_of r)) t (flags_next (flagged r)) (flagged r)) time
+    ∙ ap (λ (f : ℕ). moved (clock_pulsed (clock_of r)) (time_next r) f (flagged r)) flags
+    ∙ moved-flagged (clock_pulsed (clock_of r)) (time_next r) _ r valid
+    ∙ sym (flagged-moved (clock_pulsed (clock_of r)) (time_next r) (pf_of r || ticks_next (clock_of r)) (af_of r || alarms_next r) (uf_of r || updates_next (clock_of r)) r valid)
+
+-- .. and past n of them
+pub pulsed_times-flagged : (n : ℕ) (r : RtcParts) → IsRtc r → pulsed_times n (flagged r) ≡ flagged (pulsed_times n r)
+pulsed_times-flagged zero r valid = refl
+pulsed_times-flagged (suc n) r valid = ap pulsed (pulsed_times-flagged n r valid) ∙ pulsed-flagged (pulsed_times n r) (IsRtc-pulsed_times n r valid)
+
+-- the alarms are the same with PF set
+pub alarms_in-flagged : (n : ℕ) (r : RtcParts) → IsRtc r → alarms_in (flagged r) n ≡ alarms_in r n
+alarms_in-flagged zero r valid = refl
+alarms_in-flagged (suc n) r valid =
+    let next : alarms_next (pulsed_times n (flagged r)) ≡ alarms_next (pulsed_times n r) =
+    ap alarms_next (pulsed_times-flagged n r valid) ∙ alarms_next-flagged (pulsed_times n r) (IsRtc-pulsed_times n r valid) in
+    ap (λ (b : Bool). cond b (suc (alarms_in (flagged r) n)) (alarms_in (flagged r) n)) next
+    ∙ ap (λ (a : ℕ). cond (alarms_next (pulsed_times n r)) (suc a) a) (alarms_in-flagged n r valid)

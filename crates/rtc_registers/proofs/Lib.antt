@@ -1,0 +1,4 @@
+pub mod Bytes
+pub mod Stretch
+pub mod Flags
+mod Rows

@@ -1,0 +1,13 @@
+//! What a stretch of pulses brought.
+
+use rtc_cycle::CycleEvents;
+
+/// The events of a stretch of pulses. A first event is told by its pulse, the stretch's pulses being counted
+/// from 1.
+#[derive(Clone, Copy, Debug, PartialEq, Eq)]
+pub struct RtcEvents {
+    /// Periodic events and updates.
+    pub cycle: CycleEvents,
+    /// The pulse of the first update that the alarm matches.
+    pub first_alarm: Option<u64>,
+}

@@ -1,0 +1,157 @@
+use super::*;
+use rtc_calendar::TimeBytes;
+
+/// The last second of a century, a Saturday, in BCD; the hour byte is given.
+fn last_second(hour: u8) -> TimeBytes {
+    TimeBytes {
+        sec: 0x59,
+        min: 0x59,
+        hour,
+        wday: 0x07,
+        date: 0x31,
+        month: 0x12,
+        year: 0x99,
+    }
+}
+
+fn byte_at(clock: &mut Rtc, index: u8) -> u8 {
+    clock.write_index(index);
+    clock.read()
+}
+
+fn write_at(clock: &mut Rtc, index: u8, byte: u8) {
+    clock.write_index(index);
+    clock.write(byte);
+}
+
+#[test]
+fn century_turns_behind_uip(rt: HostRuntime) {
+    let mut clock = Rtc::power_on(last_second(0x23));
+    let _ = clock.pulses(16_375);
+    assert_eq!(rt; byte_at(&mut clock, 0x0a), 0x26);
+    let _ = clock.pulses(1);
+    assert_eq!(rt; byte_at(&mut clock, 0x0a), 0xa6);
+    assert_eq!(rt; clock.pulses(72).cycle.updates, 0);
+    assert_eq!(rt; byte_at(&mut clock, 0x00), 0x59);
+    let events = clock.pulses(1);
+    assert_eq!(rt; events.cycle.first_update, Some(1));
+    // the alarm bytes are 0 at power on, and match midnight
+    assert_eq!(rt; events.first_alarm, Some(1));
+    for (index, byte) in [
+        (0x00, 0x00),
+        (0x02, 0x00),
+        (0x04, 0x00),
+        (0x06, 0x01),
+        (0x07, 0x01),
+        (0x08, 0x01),
+        (0x09, 0x00),
+        (0x0a, 0x26),
+    ] {
+        assert_eq!(rt; byte_at(&mut clock, index), byte, "byte {index}");
+    }
+}
+
+#[test]
+fn alarm_at_midnight_in_twelve_hours(rt: HostRuntime) {
+    let mut clock = Rtc::power_on(last_second(0x91));
+    for (index, byte) in [(0x0b, 0x20), (0x01, 0x00), (0x03, 0xc0), (0x05, 0xc0)] {
+        write_at(&mut clock, index, byte);
+    }
+    let events = clock.pulses(16_449 + 32_768);
+    assert_eq!(rt; events.cycle.updates, 2);
+    assert_eq!(rt; events.first_alarm, Some(16_449));
+    assert!(rt; clock.irqf());
+    assert_eq!(rt; byte_at(&mut clock, 0x04), 0x12);
+    assert_eq!(rt; byte_at(&mut clock, 0x0c), 0xf0);
+    assert!(rt; !clock.irqf());
+    assert_eq!(rt; byte_at(&mut clock, 0x0c), 0x00);
+    // a minute after the first match comes the next
+    assert_eq!(rt; clock.pulses(32_768 * 60).first_alarm, Some(32_768 * 59));
+}
+
+#[test]
+fn periodic_flag_with_and_without_its_interrupt(rt: HostRuntime) {
+    let mut clock = Rtc::power_on(last_second(0x23));
+    assert_eq!(rt; clock.pulses(32).cycle.first_tick, Some(32));
+    assert!(rt; clock.pf() && !clock.pie() && !clock.irqf());
+    assert_eq!(rt; byte_at(&mut clock, 0x0c), 0x40);
+    write_at(&mut clock, 0x0b, 0x42);
+    assert!(rt; !clock.pf() && clock.pie() && !clock.irqf());
+    clock.set_pf();
+    assert!(rt; clock.irqf());
+    assert_eq!(rt; byte_at(&mut clock, 0x0c), 0xc0);
+    write_at(&mut clock, 0x0a, 0x23);
+    assert_eq!(rt; clock.pulses(32_768).cycle.ticks, 8_192);
+    write_at(&mut clock, 0x0a, 0x63);
+    assert_eq!(rt; clock.pulses(40_000).cycle.ticks, 0);
+}
+
+#[test]
+fn set_in_mid_cycle(rt: HostRuntime) {
+    let mut clock = Rtc::power_on(last_second(0x23));
+    let _ = clock.pulses(16_400);
+    assert_eq!(rt; byte_at(&mut clock, 0x0a), 0xa6);
+    write_at(&mut clock, 0x0b, 0x92);
+    // UIE isn't stored where SET turns on, and is where it was on
+    assert_eq!(rt; byte_at(&mut clock, 0x0b), 0x82);
+    write_at(&mut clock, 0x0b, 0x92);
+    assert_eq!(rt; byte_at(&mut clock, 0x0b), 0x92);
+    assert_eq!(rt; byte_at(&mut clock, 0x0a), 0x26);
+    assert_eq!(rt; clock.pulses(100_000).cycle.updates, 0);
+    assert_eq!(rt; byte_at(&mut clock, 0x00), 0x59);
+}
+
+#[test]
+fn what_writes_leave(rt: HostRuntime) {
+    let mut clock = Rtc::power_on(last_second(0x23));
+    let cases = [
+        (0x00, 0x42, 0x42),
+        (0x0a, 0xff, 0x7f),
+        (0x0b, 0x7f, 0x7f),
+        (0x0c, 0xff, 0x00),
+        (0x0d, 0x00, 0x80),
+        (0x0e, 0x5a, 0x5a),
+        (0xff, 0xa5, 0xa5),
+    ];
+    for (index, byte, left) in cases {
+        write_at(&mut clock, index, byte);
+        assert_eq!(rt; byte_at(&mut clock, index), left, "byte {index}");
+    }
+    assert_eq!(rt; byte_at(&mut clock, 0x7f), 0xa5);
+}
+
+#[test]
+fn fields_that_no_clock_has(rt: HostRuntime) {
+    let good = Rtc::power_on(last_second(0x23)).parts();
+    let cases = [
+        (0x0a, 0x7f, 16_384, false, true),
+        (0x0a, 0x80, 16_384, false, false),
+        (0x0a, 0x36, 16_384, false, true),
+        (0x0a, 0x36, 16_385, false, false),
+        (0x0b, 0xff, 0, false, true),
+        (0x0b, 0x80, 0, true, false),
+        (0x0c, 0x70, 64, true, true),
+        (0x0c, 0x70, 65, true, false),
+        (0x0c, 0x80, 0, false, false),
+        (0x0c, 0x01, 0, false, false),
+        (0x0d, 0x00, 0, false, false),
+        (0x0e, 0xff, 32_767, false, true),
+        (0x0e, 0xff, 32_768, false, false),
+    ];
+    for (place, byte, d, cycle, valid) in cases {
+        assert!(rt; place < 128);
+        let mut bytes = good.bytes;
+        bytes[place] = byte;
+        let parts = RtcParts {
+            bytes,
+            d,
+            cycle,
+            ..good
+        };
+        match Rtc::of_parts(parts) {
+            Some(clock) => assert!(rt; valid && clock.parts() == parts),
+            None => assert!(rt; !valid, "byte {place}"),
+        }
+    }
+    assert!(rt; Rtc::of_parts(RtcParts { index: 128, ..good }).is_none());
+}
