@@ -1,23 +1,13 @@
 -- Many pulses of a timer at once: from one match to the next, and over any stretch.
-use Rattle.std.proofs.Common.{◌≡◌, ℕ, zero, suc, ◌+◌, ◌-◌, ◌*◌, ◌/◌, ◌%◌, ◌^◌, ◌<◌, ◌≤◌, Bool, true, false, cond, ◌&&◌, eqb, ltb, Option, Some, None, refl, ap, sym, ◌∙◌, subst, inl, inr, arith, IsTrue}
+use Rattle.std.proofs.Common.{◌≡◌, ℕ, zero, suc, ◌+◌, ◌-◌, ◌*◌, ◌/◌, ◌%◌, ◌^◌, ◌<◌, ◌≤◌, Bool, true, false, cond, ◌&&◌, ltb, Some, None, refl, ap, sym, ◌∙◌, subst, inl, inr, arith, IsTrue}
 use Rattle.std.proofs.lemmas.Bool.{cases_lt, lt-ltb, le-ltb, eq-eqb, ne_eqb, eqb-true}
 use Rattle.std.proofs.lemmas.Nat.{mod_below, div-add-mod'}
 use Rattle.clk_units.specs.Events.{IsFirst}
 use Rattle.hpet_counter.specs.Counter.{counter_after}
-use Rattle.hpet_counter.proofs.Counter.{counter_after-add}
 use Rattle.hpet_comparator.specs.declared.parts.TimerParts.{TimerParts}
 use Rattle.hpet_comparator.specs.Timer.{IsTimer, modulus, is_32_bit, is_periodic, matches_at, pulsed, pulsed_times, matches_in, spacing_of}
+use Rattle.hpet_comparator.specs.Rounds.{IsDue, advanced}
 use Rattle.hpet_comparator.proofs.Writes.{modulus-pos, below}
-
--- a counter at c has d pulses before it to the timer's next match
-pub record IsDue (c : ℕ) (t : TimerParts) (d : ℕ) : Type 0 where
-  pub ahead : 0 < d
-  pub within : d ≤ modulus t
-  pub reaches : (c + d) % modulus t ≡ t.comparator
-
--- the timer behind q matches
-abbrev pub advanced : ℕ → TimerParts → TimerParts
-advanced q t = record t { comparator = cond (is_periodic t) ((t.comparator + q * t.period) % modulus t) t.comparator }
 
 -- the counter in the timer's width
 counter_within : (b : Bool) (c k : ℕ) → (c + k) % 2 ^ 64 % cond b (2 ^ 32) (2 ^ 64) ≡ (c + k) % cond b (2 ^ 32) (2 ^ 64)
@@ -67,18 +57,20 @@ early c d zero t h less = (refl, refl)
 early c d (suc n) t h less =
     let before : (pulsed_times c n t ≡ t) × (matches_in c t n ≡ 0) = early c d n t h (omega arith) in
     let quiet : matches_at (counter_after c (suc n)) t ≡ false = matches_at-early c d (suc n) t h (omega arith) less in
-    let test : matches_at (counter_after c (suc n)) (pulsed_times c n t) ≡ false = ap (matches_at (counter_after c (suc n))) before.0 ∙ quiet in
-    ( ap (pulsed (counter_after c (suc n))) before.0 ∙ pulsed-still (counter_after c (suc n)) t quiet
-    , ap (λ (b : Bool). cond b (suc (matches_in c t n)) (matches_in c t n)) test ∙ before.1 )
+    let test : matches_at (counter_after c (suc n)) (pulsed_times c n t) ≡ false = ap (matches_at (counter_after c (suc n))) before.0 ∙ quiet in (
+      ap (pulsed (counter_after c (suc n))) before.0 ∙ pulsed-still (counter_after c (suc n)) t quiet,
+      ap (λ (b : Bool). cond b (suc (matches_in c t n)) (matches_in c t n)) test ∙ before.1,
+    )
 
 -- up to the one that is due
 up_to_suc : (c n : ℕ) (t : TimerParts) → IsDue c t (suc n) → (pulsed_times c (suc n) t ≡ advanced 1 t) × (matches_in c t (suc n) ≡ 1)
 up_to_suc c n t h =
     let before : (pulsed_times c n t ≡ t) × (matches_in c t n ≡ 0) = early c (suc n) n t h (omega arith) in
     let now : matches_at (counter_after c (suc n)) t ≡ true = matches_at-due c (suc n) t h in
-    let test : matches_at (counter_after c (suc n)) (pulsed_times c n t) ≡ true = ap (matches_at (counter_after c (suc n))) before.0 ∙ now in
-    ( ap (pulsed (counter_after c (suc n))) before.0 ∙ pulsed-match (counter_after c (suc n)) t now
-    , ap (λ (b : Bool). cond b (suc (matches_in c t n)) (matches_in c t n)) test ∙ ap suc before.1 )
+    let test : matches_at (counter_after c (suc n)) (pulsed_times c n t) ≡ true = ap (matches_at (counter_after c (suc n))) before.0 ∙ now in (
+      ap (pulsed (counter_after c (suc n))) before.0 ∙ pulsed-match (counter_after c (suc n)) t now,
+      ap (λ (b : Bool). cond b (suc (matches_in c t n)) (matches_in c t n)) test ∙ ap suc before.1,
+    )
 
 pub up_to_due : (c d : ℕ) (t : TimerParts) → IsDue c t d → (pulsed_times c d t ≡ advanced 1 t) × (matches_in c t d ≡ 1)
 up_to_due c d t h =
@@ -93,9 +85,10 @@ parted c m (suc n) t =
     let place : counter_after c (suc (m + n)) ≡ counter_after (counter_after c m) (suc n) = omega arith in
     let test : matches_at (counter_after c (suc (m + n))) (pulsed_times c (m + n) t) ≡ matches_at (counter_after (counter_after c m) (suc n)) (pulsed_times (counter_after c m) n (pulsed_times c m t)) = ap (λ (x : ℕ). matches_at x (pulsed_times c (m + n) t)) place ∙ ap (matches_at (counter_after (counter_after c m) (suc n))) before.0 in
     let e : m + suc n ≡ suc (m + n) = omega arith in
-    rw e
-    ( ap (λ (x : ℕ). pulsed x (pulsed_times c (m + n) t)) place ∙ ap (pulsed (counter_after (counter_after c m) (suc n))) before.0
-    , ap (λ (b : Bool). cond b (suc (matches_in c t (m + n))) (matches_in c t (m + n))) test ∙ counted (matches_at (counter_after (counter_after c m) (suc n)) (pulsed_times (counter_after c m) n (pulsed_times c m t))) (matches_in c t (m + n)) (matches_in c t m) (matches_in (counter_after c m) (pulsed_times c m t) n) before.1 )
+    rw e (
+      ap (λ (x : ℕ). pulsed x (pulsed_times c (m + n) t)) place ∙ ap (pulsed (counter_after (counter_after c m) (suc n))) before.0,
+      ap (λ (b : Bool). cond b (suc (matches_in c t (m + n))) (matches_in c t (m + n))) test ∙ counted (matches_at (counter_after (counter_after c m) (suc n)) (pulsed_times (counter_after c m) n (pulsed_times c m t))) (matches_in c t (m + n)) (matches_in c t m) (matches_in (counter_after c m) (pulsed_times c m t) n) before.1,
+    )
   where
     counted : (b : Bool) (x y z : ℕ) → x ≡ y + z → cond b (suc x) x ≡ y + cond b (suc z) z
     counted true x y z e = omega arith
@@ -124,9 +117,10 @@ joined : (c d n q : ℕ) (t : TimerParts) → (pulsed_times c d t ≡ advanced 1
     → (pulsed_times c (d + n) t ≡ advanced (suc q) t) × (matches_in c t (d + n) ≡ suc q)
 joined c d n q t first rest =
     let split : (pulsed_times c (d + n) t ≡ pulsed_times (counter_after c d) n (pulsed_times c d t)) × (matches_in c t (d + n) ≡ matches_in c t d + matches_in (counter_after c d) (pulsed_times c d t) n) = parted c d n t in
-    let onward : matches_in (counter_after c d) (pulsed_times c d t) n ≡ q = ap (λ (s : TimerParts). matches_in (counter_after c d) s n) first.0 ∙ rest.1 in
-    ( split.0 ∙ (ap (pulsed_times (counter_after c d) n) first.0 ∙ (rest.0 ∙ advanced-more q t))
-    , omega (arith, split.1, first.1, onward) )
+    let onward : matches_in (counter_after c d) (pulsed_times c d t) n ≡ q = ap (λ (s : TimerParts). matches_in (counter_after c d) s n) first.0 ∙ rest.1 in (
+      split.0 ∙ (ap (pulsed_times (counter_after c d) n) first.0 ∙ (rest.0 ∙ advanced-more q t)),
+      omega (arith, split.1, first.1, onward),
+    )
 
 -- a period, or a round where there is none, has pulses, and no more than a round ..
 spacing-pos : (p : Bool) (period m : ℕ) → 0 < m → 0 < cond (p && ltb 0 period) period m
@@ -200,3 +194,32 @@ from_due c d j t valid h =
 -- a timer that matches on the first pulse does so again on every pulse a spacing later
 pub matches_in-every : (from j : ℕ) (t : TimerParts) → IsTimer t → IsTrue (matches_at (counter_after from 1) t) → matches_in from t (1 + j) ≡ 1 + j / spacing_of t
 matches_in-every from j t valid h = (from_due from 1 j t valid (due-matches_at from t h)).1 ∙ omega arith
+
+-- before the first match of a stretch
+pub IsFirst-early : (c d n : ℕ) (t : TimerParts) → IsDue c t d → n < d → IsFirst (matches_in c t) n None
+IsFirst-early c d n t h less = (early c d n t h less).1
+
+-- the first match of a stretch
+pub IsFirst-due : (c d n : ℕ) (t : TimerParts) → IsDue c t d → d ≤ n → IsFirst (matches_in c t) n (Some d)
+IsFirst-due c d n t h inside =
+    let before : (pulsed_times c (d - 1) t ≡ t) × (matches_in c t (d - 1) ≡ 0) = early c d (d - 1) t h (omega (arith, h.ahead)) in
+    let at : (pulsed_times c d t ≡ advanced 1 t) × (matches_in c t d ≡ 1) = up_to_due c d t h in
+    (h.ahead, inside, before.1, omega (arith, at.1))
+
+-- the matches of a stretch from the first on
+pub matches_in-due : (c d n : ℕ) (t : TimerParts) → IsTimer t → IsDue c t d → d ≤ n → matches_in c t n ≡ 1 + (n - d) / spacing_of t
+matches_in-due c d n t valid h inside =
+    let e : d + (n - d) ≡ n = omega arith in
+    ap (matches_in c t) (sym e) ∙ ((from_due c d (n - d) t valid h).1 ∙ omega arith)
+
+-- the timer at the end of a stretch
+pub pulsed_times-advanced : (c d n : ℕ) (t : TimerParts) → IsTimer t → IsDue c t d → pulsed_times c n t ≡ advanced (matches_in c t n) t
+pulsed_times-advanced c d n t valid h = elim (cases_lt n d) [
+  | inl before ↦
+      let none : (pulsed_times c n t ≡ t) × (matches_in c t n ≡ 0) = early c d n t h before in
+      none.0 ∙ (sym (advanced-zero t valid) ∙ ap (λ (q : ℕ). advanced q t) (sym none.1))
+  | inr inside ↦
+      let e : d + (n - d) ≡ n = omega arith in
+      let some : (pulsed_times c (d + (n - d)) t ≡ advanced (suc ((n - d) / spacing_of t)) t) × (matches_in c t (d + (n - d)) ≡ suc ((n - d) / spacing_of t)) = from_due c d (n - d) t valid h in
+      subst (λ (m : ℕ). pulsed_times c m t ≡ advanced (matches_in c t m) t) e (some.0 ∙ ap (λ (q : ℕ). advanced q t) (sym some.1))
+]

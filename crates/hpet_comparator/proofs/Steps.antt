@@ -1,5 +1,5 @@
 -- Single pulses of a timer, one after the other.
-use Rattle.std.proofs.Common.{◌≡◌, ℕ, zero, suc, ◌+◌, ◌%◌, ◌^◌, Bool, true, cond, ◌&&◌, eqb, refl, ap, sym, subst, ◌∙◌, add-one, arith}
+use Rattle.std.proofs.Common.{◌≡◌, ℕ, zero, suc, ◌+◌, ◌%◌, ◌^◌, Bool, true, cond, ◌&&◌, eqb, refl, ap, sym, subst, ◌∙◌, arith}
 use Rattle.clk_units.specs.Events.{CountsUp}
 use Rattle.clk_units.proofs.Events.{CountsUp-by_test}
 use Rattle.hpet_counter.specs.Counter.{counter_after}
@@ -31,17 +31,6 @@ pub period-pulsed_times : (from n : ℕ) (t : TimerParts) → (pulsed_times from
 unfolding pulsed
 period-pulsed_times from zero t = refl
 period-pulsed_times from (suc n) t = period-pulsed_times from n t
-
--- the timer, and whether it matches, one pulse behind n of them
-pub pulsed_times-more : (from n : ℕ) (t s u : TimerParts) → s ≡ pulsed_times from n t → u ≡ pulsed (counter_after from (n + 1)) s → u ≡ pulsed_times from (n + 1) t
-pulsed_times-more from n t s u before step = rw add-one (rw add-one at step ∙ ap (pulsed (counter_after from (suc n))) before)
-
-pub matches_at-more : (from n : ℕ) (t s : TimerParts) (b : Bool) → s ≡ pulsed_times from n t → b ≡ matches_at (counter_after from (n + 1)) s → b ≡ matches_at (counter_after from (suc n)) (pulsed_times from n t)
-matches_at-more from n t s b before test = rw add-one at test ∙ ap (matches_at (counter_after from (suc n))) before
-
--- the count one pulse behind n of them
-pub matches_in-more : (from n m k : ℕ) (t : TimerParts) (b : Bool) → b ≡ matches_at (counter_after from (suc n)) (pulsed_times from n t) → m ≡ matches_in from t n → k ≡ cond b (suc m) m → k ≡ matches_in from t (suc n)
-matches_in-more from n m k t b test before step = step ∙ (ap (λ (x : ℕ). cond b (suc x) x) before ∙ ap (λ (x : Bool). cond x (suc (matches_in from t n)) (matches_in from t n)) test)
 
 -- in 32-bit mode the low half of the main counter decides alone
 matches_at-low : (from k : ℕ) (t : TimerParts) → is_32_bit t ≡ true → matches_at (counter_after from k) t ≡ matches_at (counter_after (from % 2 ^ 32) k) t

@@ -1,5 +1,5 @@
 -- Writes and pulses keep a timer's conditions.
-use Rattle.std.proofs.Common.{◌≡◌, ℕ, suc, zero, ◌+◌, ◌*◌, ◌/◌, ◌%◌, ◌^◌, ◌<◌, ◌≤◌, Bool, true, false, cond, ◌&&◌, not, eqb, bit_and, refl, ap, sym, subst, ◌∙◌, arith}
+use Rattle.std.proofs.Common.{◌≡◌, ℕ, ◌+◌, ◌*◌, ◌/◌, ◌%◌, ◌^◌, ◌<◌, ◌≤◌, Bool, true, false, cond, ◌&&◌, not, eqb, bit_and, refl, ap, sym, subst, ◌∙◌, arith}
 use Rattle.std.proofs.lemmas.Nat.{and_le_r, and_block, and_mask, and_mod, and_assoc, and_shr, mod_below}
 use Rattle.std.proofs.lemmas.Nat.Bits.{bit_at_and}
 use Rattle.hpet_counter.specs.Counter.{written}

@@ -1,1 +1,2 @@
 pub mod Timer
+pub mod Rounds

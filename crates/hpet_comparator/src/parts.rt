@@ -2,24 +2,24 @@
 
 ghost use Rattle.std.specs.Prelude.{◌≡◌, ℕ, ◌+◌, ◌*◌, ◌/◌, ◌%◌, ◌^◌, ◌<◌, ◌↔◌, IsTrue};
 ghost use Rattle.hpet_counter.specs.Counter.{counter_after, written, is_register_width};
+ghost use Rattle.hpet_comparator.specs.Rounds.{IsDue, advanced};
 ghost use Rattle.hpet_comparator.specs.Timer.{
-    bit_of,
-    is_level,
-    is_enabled,
-    is_periodic,
-    takes_comparator,
-    is_32_bit,
-    route_of,
-    modulus,
-    IsTimer,
-    chosen_route,
-    narrowed,
-    config_written,
-    comparator_written,
-    matches_at,
-    matches_in,
-    pulsed,
-    spacing_of,
+  bit_of,
+  is_level,
+  is_enabled,
+  is_periodic,
+  takes_comparator,
+  is_32_bit,
+  route_of,
+  modulus,
+  IsTimer,
+  chosen_route,
+  narrowed,
+  config_written,
+  comparator_written,
+  matches_at,
+  matches_in,
+  spacing_of,
 };
 
 use hpet_counter::write_part;
@@ -107,10 +107,8 @@ impl TimerParts {
     pub fn spacing(&self) -> u128
         ensures value { result ≡ spacing_of self.now }
         // A timer that matches on the first pulse does so again on every pulse a spacing later, and on no other.
-        ensures every {
-            (from j : ℕ) → IsTimer self.now → IsTrue (matches_at (counter_after from 1) self.now)
-                → matches_in from self.now (1 + j) ≡ 1 + j / spacing_of self.now
-        }
+        ensures every { (from j : ℕ) → IsTimer self.now → IsTrue (matches_at (counter_after from 1) self.now)
+            → matches_in from self.now (1 + j) ≡ 1 + j / spacing_of self.now }
     {
         if self.is_periodic() && self.period > 0 {
             self.period as u128
@@ -131,7 +129,7 @@ fn bit(config: u16, place: u8) -> bool
 }
 
 /// `x` in the timer's width.
-fn within(parts: &TimerParts, x: u64) -> u64
+pub(crate) fn within(parts: &TimerParts, x: u64) -> u64
     ensures { result ≡ x % modulus parts.now }
 {
     if parts.is_32_bit() { x % MODULUS_32 } else { x }
@@ -208,33 +206,49 @@ pub(crate) fn comparator_written(parts: TimerParts, width: u8, high: bool, v: u6
     }
 }
 
-/// Whether the timer matches a main counter that a pulse has brought to `counter`.
-#[tactic(auto, unfolding(crate::specs::Timer::matches_at))]
-pub(crate) fn matches(parts: &TimerParts, counter: u64) -> bool
-    ensures { result ≡ matches_at counter parts.now }
+/// How many pulses, from a main counter at `from` on, come before the timer's next match.
+pub(crate) fn pulses_before(parts: &TimerParts, from: u64) -> u64
+    requires valid { IsTimer parts.now }
+    ensures due { IsDue from parts.now (result + 1) }
 {
-    within(parts, counter) == parts.comparator
+    within(parts, parts.comparator.wrapping_sub(from).wrapping_sub(1))
 }
 
-/// The comparator of a periodic timer behind a match.
-fn advanced(parts: &TimerParts) -> u64
-    ensures { result ≡ (parts.now.comparator + parts.now.period) % modulus parts.now }
+/// How many matches come in the `rest` pulses behind a match.
+pub(crate) fn further_matches(parts: &TimerParts, rest: u64) -> u64
+    ensures value { result ≡ rest / spacing_of parts.now }
 {
-    within(parts, parts.comparator.wrapping_add(parts.period))
+    if parts.is_periodic() && parts.period > 0 {
+        rest / parts.period
+    } else if parts.is_32_bit() {
+        rest / MODULUS_32
+    } else {
+        0
+    }
 }
 
-/// The timer after a pulse that brought the main counter to `counter`.
-#[tactic(auto, unfolding(crate::specs::Timer::pulsed))]
-pub(crate) fn pulsed(parts: TimerParts, counter: u64) -> TimerParts
-    ensures { result ≡ pulsed counter parts }
+/// The comparator behind `matches` matches.
+fn advanced_comparator(parts: &TimerParts, matches: u64) -> u64
+    ensures value { result ≡ (advanced matches parts.now).comparator }
 {
-    let comparator = if matches(&parts, counter) && parts.is_periodic() {
-        advanced(&parts)
+    if parts.is_periodic() {
+        within(
+            parts,
+            parts
+                .comparator
+                .wrapping_add(matches.wrapping_mul(parts.period)),
+        )
     } else {
         parts.comparator
-    };
+    }
+}
+
+/// The timer behind `matches` matches.
+pub(crate) fn advanced(parts: TimerParts, matches: u64) -> TimerParts
+    ensures value { result ≡ advanced matches parts }
+{
     TimerParts {
-        comparator,
+        comparator: advanced_comparator(&parts, matches),
         config: parts.config,
         period: parts.period,
     }

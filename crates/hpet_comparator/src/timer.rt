@@ -2,19 +2,17 @@
 
 ghost use Rattle.std.specs.Prelude.{◌≡◌, ◌-◌, ◌*◌, ◌%◌, ◌^◌, ◌<◌, ◌≤◌, ◌↔◌, suc, IsTrue, IsSome, IfSome, if◌then◌else◌};
 ghost use Rattle.clk_units.specs.Events.{IsFirst};
-ghost use Rattle.clk_units.proofs.Events.{first_more};
 ghost use Rattle.hpet_counter.specs.Counter.{counter_after, is_register_width};
+ghost use Rattle.hpet_comparator.specs.Rounds.{advanced};
 ghost use Rattle.hpet_comparator.specs.Timer.{
-    IsTimer,
-    is_32_bit,
-    timer_at_power_on,
-    config_register,
-    config_written,
-    comparator_written,
-    matches_at,
-    pulsed,
-    pulsed_times,
-    matches_in,
+  IsTimer,
+  is_32_bit,
+  timer_at_power_on,
+  config_register,
+  config_written,
+  comparator_written,
+  pulsed_times,
+  matches_in,
 };
 
 use crate::parts;
@@ -39,30 +37,6 @@ impl Matches {
         count: 0,
         first: None,
     };
-
-    /// These matches of `k` pulses, and one pulse more.
-    fn with_pulse(self, k: u64, is_match: bool) -> Matches
-        requires few { self.count ≤ k }
-        requires room { k < 2 ^ 64 - 1 }
-        ensures count { result.count ≡ (if is_match then suc self.count else self.count) }
-        ensures first { result.first ≡ first_more self.first k is_match }
-    {
-        Matches {
-            count: self.count + is_match as u64,
-            first: first_with_pulse(self.first, k, is_match),
-        }
-    }
-}
-
-/// The first match of `k` pulses and of one pulse more.
-fn first_with_pulse(first: Option<u64>, k: u64, is_match: bool) -> Option<u64>
-    requires { k < 2 ^ 64 - 1 }
-    ensures { result ≡ first_more first k is_match }
-{
-    match first {
-        Some(_) => first,
-        None => is_match.then_some(k + 1),
-    }
 }
 
 /// One timer.
@@ -161,26 +135,30 @@ impl Timer {
         ensures few { result.count ≤ n }
         ensures first { IsFirst (matches_in from self.old) n result.first }
         // In 32-bit mode the low half of the main counter decides alone.
-        ensures low_half {
-            IsTrue (is_32_bit self.old) → result.count ≡ matches_in (from % 2 ^ 32) self.old n
-        }
+        ensures low_half { IsTrue (is_32_bit self.old) → result.count ≡ matches_in (from % 2 ^ 32) self.old n }
     {
-        let mut matches = Matches::NONE;
-        for k in 0..n {
-            let is_match = self.pulse(from.wrapping_add(k + 1));
-            matches = matches.with_pulse(k, is_match);
-        }
+        let matches = matches_over(&self.parts, from, n);
+        self.parts = parts::advanced(self.parts, matches.count);
         matches
     }
+}
 
-    /// One pulse that brings the main counter to `counter`, and whether it matches.
-    fn pulse(&mut self, counter: u64) -> bool
-        ensures state { self.new ≡ pulsed counter self.old }
-        ensures matches { result ≡ matches_at counter self.old }
-    {
-        let is_match = parts::matches(&self.parts, counter);
-        self.parts = parts::pulsed(self.parts, counter);
-        is_match
+/// The matches of a timer over `n` pulses of a main counter at `from`.
+fn matches_over(parts: &TimerParts, from: u64, n: u64) -> Matches
+    requires valid { IsTimer parts.now }
+    ensures count { result.count ≡ matches_in from parts.now n }
+    ensures few { result.count ≤ n }
+    ensures first { IsFirst (matches_in from parts.now) n result.first }
+    ensures state { pulsed_times from n parts.now ≡ advanced result.count parts.now }
+{
+    let before = parts::pulses_before(parts, from);
+    if n <= before {
+        return Matches::NONE;
+    }
+    let first = before + 1;
+    Matches {
+        count: 1 + parts::further_matches(parts, n - first),
+        first: Some(first),
     }
 }
 
@@ -207,7 +185,16 @@ mod tests {
         (0x290c, 0xffff_fff8, 0x10, 0xffff_fff0, 45, 3, Some(8), 0x28),
         (0x2904, 3, 3, 0x7_ffff_fffe, 10, 1, Some(5), 3),
         // 64 bits, across the wrap
-        (0x280c, 0xffff_ffff_ffff_fff8, 0x10, 0xffff_ffff_ffff_fff0, 45, 3, Some(8), 0x28),
+        (
+            0x280c,
+            0xffff_ffff_ffff_fff8,
+            0x10,
+            0xffff_ffff_ffff_fff0,
+            45,
+            3,
+            Some(8),
+            0x28,
+        ),
         (0x2804, 3, 3, 0xffff_ffff_ffff_fffe, 10, 1, Some(5), 3),
     ];
 
@@ -224,6 +211,73 @@ mod tests {
             assert_eq!(rt; matches, Matches { count, first }, "{parts:?} from {from}");
             assert_eq!(rt; timer.comparator(), after, "{parts:?} from {from}");
             assert_eq!(rt; timer.parts().period, period);
+        }
+    }
+
+    /// The plain program of the definition: one pulse after the other.
+    fn pulses_one_by_one(parts: TimerParts, from: u64, n: u64) -> (TimerParts, Matches) {
+        let mut parts = parts;
+        let mut matches = Matches::NONE;
+        for k in 0..n {
+            let counter = from.wrapping_add(k).wrapping_add(1);
+            if parts::within(&parts, counter) == parts.comparator {
+                matches.count = matches.count.wrapping_add(1);
+                matches.first = matches.first.or(Some(k.wrapping_add(1)));
+                if parts.is_periodic() {
+                    let comparator = parts.comparator.wrapping_add(parts.period);
+                    parts.comparator = parts::within(&parts, comparator);
+                }
+            }
+        }
+        (parts, matches)
+    }
+
+    /// The next number of a generator with a fixed seed.
+    fn next_number(x: u64) -> u64 {
+        x.wrapping_mul(6_364_136_223_846_793_005)
+            .wrapping_add(1_442_695_040_888_963_407)
+    }
+
+    /// A timer near a main counter, so that first matches, periods and wraps fall within a short stretch.
+    fn timer_near(from: u64, x: u64) -> Timer {
+        let mut timer = Timer::power_on();
+        // 32-bit mode and periodic by turns, the comparator by VAL_SET, and then the period
+        timer.write_config(0x2840 | x & 0x108);
+        timer.write_comparator(8, false, from.wrapping_add(x / 512 % 32));
+        timer.write_comparator(8, false, x / 16_384 % 8);
+        timer
+    }
+
+    #[test]
+    fn many_pulses_are_single_ones(rt: HostRuntime) {
+        let mut x = 1;
+        for _ in 0..400 {
+            x = next_number(x);
+            let from = (x >> 20) % 64;
+            let n = (x >> 26) % 100;
+            for from in [from, !from] {
+                let mut timer = timer_near(from, x >> 33);
+                let (parts, matches) = pulses_one_by_one(timer.parts(), from, n);
+                assert_eq!(rt; timer.pulses(from, n), matches, "from {from} over {n}");
+                assert_eq!(rt; timer.parts(), parts, "from {from} over {n}");
+            }
+        }
+    }
+
+    #[test]
+    fn a_long_stretch_takes_no_time(rt: HostRuntime) {
+        for (from, n, count) in [(0xffff_ffff_ffff_ffff, 1 << 40, 109_951_162_778)] {
+            let mut timer = Timer::power_on();
+            timer.write_config(0x2808);
+            timer.write_comparator(8, false, 10);
+            let matches = timer.pulses(from, n);
+            assert_eq!(rt;
+                matches,
+                Matches {
+                    count,
+                    first: Some(1)
+                }
+            );
         }
     }
 
@@ -252,7 +306,14 @@ mod tests {
         assert_eq!(rt; timer.comparator(), 0xffff_fff8);
         timer.write_comparator(4, true, 0x5);
         timer.write_comparator(4, false, 0x6);
-        assert_eq!(rt; timer.parts(), TimerParts { config: 0x2f00, comparator: 6, period: 6 });
+        assert_eq!(rt;
+            timer.parts(),
+            TimerParts {
+                config: 0x2f00,
+                comparator: 6,
+                period: 6
+            }
+        );
     }
 
     #[test]
