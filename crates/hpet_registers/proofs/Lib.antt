@@ -1,0 +1,4 @@
+pub mod Bits
+pub mod Conditions
+pub mod Product
+pub mod Places
