@@ -1,19 +1,19 @@
 -- Writes and pulses keep the conditions on the HPET's fields.
-use Rattle.std.proofs.Common.{◌≡◌, ℕ, zero, suc, ◌+◌, ◌-◌, ◌%◌, ◌^◌, ◌<◌, ◌≤◌, Bool, true, false, cond, ◌&&◌, ltb, List, [], ◌∷◌, map, get_or, ◌⊎◌, refl, ap, sym, subst, ◌∙◌, inl, inr, arith, bit_and}
+use Rattle.std.proofs.Common.{◌≡◌, ℕ, zero, suc, ◌-◌, ◌%◌, ◌^◌, ◌<◌, ◌≤◌, Bool, true, false, cond, ◌&&◌, ltb, List, [], ◌∷◌, map, get_or, ◌⊎◌, refl, ap, sym, subst, ◌∙◌, inl, inr, arith}
 use Rattle.std.proofs.Math.ListN.{set, get_or-map}
 use Rattle.std.proofs.lemmas.List.{get_or-set_other}
-use Rattle.std.proofs.lemmas.Bool.{cases_eq, cases_lt, lt-ltb, le-ltb, false≢true}
+use Rattle.std.proofs.lemmas.Bool.{cases_eq, lt-ltb, le-ltb, false≢true}
 use Rattle.std.proofs.lemmas.Nat.{and_le_l}
 use Rattle.hpet_counter.specs.Counter.{counter_after, written}
 use Rattle.hpet_comparator.specs.declared.parts.TimerParts.{TimerParts}
-use Rattle.hpet_comparator.specs.Timer.{IsTimer, is_periodic, is_level, modulus, matches_at, pulsed, pulsed_times, config_written, comparator_written, bit_of}
+use Rattle.hpet_comparator.specs.Timer.{IsTimer, is_periodic, is_level, matches_at, pulsed, pulsed_times, config_written, comparator_written, bit_of}
 use Rattle.hpet_comparator.proofs.Writes.{IsTimer-config_written, IsTimer-comparator_written, IsTimer-pulsed}
 use Rattle.hpet_registers.specs.declared.parts.HpetParts.{HpetParts}
 use Rattle.hpet_registers.specs.declared.register.Register.{Register}
 use Rattle.hpet_registers.specs.declared.register.Register.TheVariants.{Capabilities, Configuration, Status, MainCounter, TimerConfig, TimerComparator, TimerMessage, Reserved}
-use Rattle.hpet_registers.specs.Parts.{no_timer, timer_at, IsPlace, IsHpet, no_bits, no_words, is_running}
+use Rattle.hpet_registers.specs.Parts.{no_timer, timer_at, IsPlace, IsHpet, is_running}
 use Rattle.hpet_registers.specs.Register.{IsRegister, register_written, timer_config_register}
-use Rattle.hpet_registers.specs.Pulses.{with_bits, matches_next, hpet_pulsed, hpet_pulsed_times}
+use Rattle.hpet_registers.specs.Pulses.{matches_next, hpet_pulsed, hpet_pulsed_times}
 use Rattle.hpet_registers.proofs.Bits.{with_bits-lt}
 
 -- pulses leave a place without a timer

@@ -2,3 +2,5 @@ pub mod Bits
 pub mod Conditions
 pub mod Product
 pub mod Places
+pub mod Laws
+mod Rows

@@ -1,5 +1,5 @@
 -- Many pulses of the HPET are as many of its counter, of each timer by itself, and of the status.
-use Rattle.std.proofs.Common.{◌≡◌, ℕ, zero, suc, ◌+◌, ◌-◌, ◌^◌, ◌<◌, ◌≤◌, Bool, true, false, cond, ◌&&◌, ◌||◌, ltb, List, [], ◌∷◌, map, get_or, ◌⊎◌, Option, Some, None, refl, ap, sym, subst, ◌∙◌, inl, inr, arith}
+use Rattle.std.proofs.Common.{◌≡◌, ℕ, zero, suc, ◌-◌, ◌^◌, ◌<◌, Bool, true, false, cond, ◌&&◌, ◌||◌, ltb, List, [], ◌∷◌, map, get_or, Option, Some, None, refl, ap, sym, subst, ◌∙◌, arith}
 use Rattle.std.proofs.Math.ListN.{get_or-map}
 use Rattle.std.proofs.lemmas.Bool.{lt-ltb}
 use Rattle.clk_units.specs.Events.{IsFirst, CountsUp}
@@ -12,8 +12,8 @@ use Rattle.hpet_comparator.proofs.Steps.{config-pulsed_times}
 use Rattle.hpet_registers.specs.declared.parts.HpetParts.{HpetParts}
 use Rattle.hpet_registers.specs.Parts.{no_timer, timer_at, is_running}
 use Rattle.hpet_registers.specs.Pulses.{with_bits, matches_next, hpet_pulsed, hpet_pulsed_times, matches_of}
-use Rattle.hpet_registers.proofs.Bits.{with_bits-same, with_bits-none, with_bits-twice}
-use Rattle.hpet_registers.proofs.Conditions.{pulsed_times-no_timer, get_or-pulsed}
+use Rattle.hpet_registers.proofs.Bits.{with_bits-same, with_bits-none, with_bits-twice, bit_of-with_bits}
+use Rattle.hpet_registers.proofs.Conditions.{pulsed_times-no_timer}
 
 -- the status behind m pulses that the counter sees
 abbrev pub status_after : ℕ → HpetParts → ℕ
@@ -24,7 +24,8 @@ abbrev pub hpet_advanced : ℕ → HpetParts → HpetParts
 hpet_advanced m h = record h {
   counter = counter_after h.counter m;
   status = status_after m h;
-  timer = map (pulsed_times h.counter m) h.timer }
+  timer = map (pulsed_times h.counter m) h.timer;
+}
 
 -- equal counters, statuses and timers
 pub same_fields : (h : HpetParts) {c d s r : ℕ} {ts us : List TimerParts} → c ≡ d → s ≡ r → ts ≡ us → record h { counter = c; status = s; timer = ts } ≡ record h { counter = d; status = r; timer = us }
@@ -65,12 +66,13 @@ standing_matches k (suc n) h still =
 running : (h : HpetParts) → is_running h ≡ true → hpet_pulsed h ≡ record h {
   counter = counter_after h.counter 1;
   status = with_bits (λ k. matches_at (counter_after h.counter 1) (timer_at k h) && is_level (timer_at k h)) 8 h.status;
-  timer = map (pulsed (counter_after h.counter 1)) h.timer }
+  timer = map (pulsed (counter_after h.counter 1)) h.timer;
+}
 unfolding hpet_pulsed matches_next
 running h runs = same_fields h
     (ap (λ (b : Bool). cond b (counter_after h.counter 1) h.counter) runs)
     (with_bits-same (λ k. (is_running h && matches_at (counter_after h.counter 1) (timer_at k h)) && is_level (timer_at k h)) (λ k. matches_at (counter_after h.counter 1) (timer_at k h) && is_level (timer_at k h)) 8 h.status
-      (λ k small. ap (λ (b : Bool). (b && matches_at (counter_after h.counter 1) (timer_at k h)) && is_level (timer_at k h)) runs))
+    (λ k small. ap (λ (b : Bool). (b && matches_at (counter_after h.counter 1) (timer_at k h)) && is_level (timer_at k h)) runs))
     (ap (λ (b : Bool). cond b (map (pulsed (counter_after h.counter 1)) h.timer) h.timer) runs)
 
 running-next : (k : ℕ) (h : HpetParts) → is_running h ≡ true → matches_next k h ≡ matches_at (counter_after h.counter 1) (timer_at k h)
@@ -174,3 +176,17 @@ IsFirst-seen k n h first fits = by_test (is_running h) refl first
 -- a timer's matches count up
 pub CountsUp-matches_of : (k : ℕ) (h : HpetParts) → CountsUp (matches_of k h)
 CountsUp-matches_of k h = CountsUp-by_test (matches_of k h) (λ n. matches_next k (hpet_pulsed_times n h)) refl (λ n. refl)
+
+-- pulses leave each configuration
+pub config-hpet_pulsed_times : (k n : ℕ) (h : HpetParts) → h.counter < 2 ^ 64 → (timer_at k (hpet_pulsed_times n h)).config ≡ (timer_at k h).config
+config-hpet_pulsed_times k n h fits =
+    ap (λ (s : HpetParts). (timer_at k s).config) (hpet_pulsed_times-seen n h fits)
+    ∙ (ap (λ (t : TimerParts). t.config) (timer_at-advanced h.counter (cond (is_running h) n 0) k h.timer)
+    ∙ config-pulsed_times h.counter (cond (is_running h) n 0) (timer_at k h))
+
+-- a status bit behind pulses
+pub status-hpet_pulsed_times : (k n : ℕ) (h : HpetParts) → h.counter < 2 ^ 64 → k < 8 → bit_of k (hpet_pulsed_times n h).status ≡ (bit_of k h.status || (ltb 0 (matches_of k h n) && is_level (timer_at k h)))
+status-hpet_pulsed_times k n h fits small =
+    ap (λ (s : HpetParts). bit_of k s.status) (hpet_pulsed_times-seen n h fits)
+    ∙ (bit_of-with_bits (λ j. ltb 0 (matches_in h.counter (timer_at j h) (cond (is_running h) n 0)) && is_level (timer_at j h)) 8 h.status k small
+    ∙ ap (λ (m : ℕ). bit_of k h.status || (ltb 0 m && is_level (timer_at k h))) (sym (matches_of-seen k n h fits)))

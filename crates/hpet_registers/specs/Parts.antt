@@ -1,6 +1,6 @@
 -- The fields of the HPET and their conditions. Sections are those of the IA-PC HPET specification 1.0a; what it
 -- leaves open is marked as this project's own choice.
-use Rattle.std.specs.Prelude.{◌≡◌, ℕ, ◌<◌, ◌≤◌, Bool, true, false, ◌&&◌, ◌||◌, ◌==◌, not, nat_lt, nat_le, if◌then◌else◌, List, [], ◌∷◌, slice_index_or, IsTrue, ◌⊎◌, ◌*◌, ◌/◌, ◌%◌, ◌^◌, Option, Some, None}
+use Rattle.std.specs.Prelude.{◌≡◌, ℕ, ◌<◌, ◌≤◌, Bool, true, false, ◌&&◌, ◌==◌, not, nat_lt, if◌then◌else◌, List, [], ◌∷◌, slice_index_or, ◌⊎◌, ◌/◌, ◌%◌, ◌^◌, Option, Some, None}
 use Rattle.hpet_comparator.specs.declared.parts.TimerParts.{TimerParts}
 use Rattle.hpet_comparator.specs.Timer.{IsTimer, bit_of, is_level, is_enabled, timer_at_power_on}
 use Rattle.hpet_registers.specs.declared.parts.HpetParts.{HpetParts}
@@ -66,7 +66,8 @@ hpet_at_power_on timers messages = record {
   timers = timers;
   messages = messages;
   message_bit = no_bits;
-  message_word = no_words }
+  message_word = no_words;
+}
 
 -- the status bit of timer k, with its interrupt enabled (2.3.6)
 abbrev pub level_of : ℕ → HpetParts → Bool

@@ -1,12 +1,12 @@
 -- The pulses of the HPET (IA-PC HPET specification 1.0a, sections 2.3.5 to 2.3.9).
-use Rattle.std.specs.Prelude.{◌≡◌, ℕ, zero, suc, ◌+◌, ◌^◌, ◌<◌, ◌≤◌, Bool, ◌&&◌, ◌||◌, nat_lt, if◌then◌else◌, bit_or, map, List, slice_index_or, Option, None}
+use Rattle.std.specs.Prelude.{◌≡◌, ℕ, zero, suc, ◌^◌, ◌≤◌, Bool, ◌&&◌, if◌then◌else◌, bit_or, map, List, slice_index_or, None}
 use Rattle.clk_units.specs.Events.{IsFirst}
 use Rattle.hpet_counter.specs.Counter.{counter_after}
 use Rattle.hpet_comparator.specs.declared.parts.TimerParts.{TimerParts}
 use Rattle.hpet_comparator.specs.declared.timer.Matches.{Matches}
 use Rattle.hpet_comparator.specs.Timer.{is_level, matches_at, pulsed, matches_in}
 use Rattle.hpet_registers.specs.declared.parts.HpetParts.{HpetParts}
-use Rattle.hpet_registers.specs.Parts.{timer_at, is_running, no_timer}
+use Rattle.hpet_registers.specs.Parts.{timer_at, is_running}
 
 -- a number with the bits below n set at which a test holds, and the others as they were
 abbrev pub with_bits : (ℕ → Bool) → ℕ → ℕ → ℕ
@@ -23,7 +23,8 @@ unfoldable pub hpet_pulsed : HpetParts → HpetParts
 hpet_pulsed h = record h {
   counter = if is_running h then counter_after h.counter 1 else h.counter;
   status = with_bits (λ k. matches_next k h && is_level (timer_at k h)) 8 h.status;
-  timer = if is_running h then map (pulsed (counter_after h.counter 1)) h.timer else h.timer }
+  timer = if is_running h then map (pulsed (counter_after h.counter 1)) h.timer else h.timer;
+}
 
 -- n pulses
 abbrev pub hpet_pulsed_times : ℕ → HpetParts → HpetParts

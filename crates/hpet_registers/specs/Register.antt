@@ -1,5 +1,5 @@
 -- The register map of the HPET (IA-PC HPET specification 1.0a, section 2.3), and accesses to it.
-use Rattle.std.specs.Prelude.{◌≡◌, ℕ, ◌+◌, ◌-◌, ◌*◌, ◌/◌, ◌%◌, ◌^◌, ◌<◌, ◌≤◌, Bool, true, false, ◌&&◌, ◌||◌, ◌==◌, nat_lt, nat_le, if◌then◌else◌, slice_set, bit_and}
+use Rattle.std.specs.Prelude.{◌≡◌, ℕ, ◌+◌, ◌-◌, ◌*◌, ◌/◌, ◌%◌, ◌^◌, ◌<◌, Bool, true, ◌&&◌, ◌||◌, ◌==◌, nat_lt, nat_le, if◌then◌else◌, slice_set, bit_and}
 use Rattle.hpet_counter.specs.Counter.{written, is_register_width}
 use Rattle.hpet_comparator.specs.Timer.{bit_of, config_register, config_written, comparator_written}
 use Rattle.hpet_registers.specs.declared.parts.HpetParts.{HpetParts}
@@ -59,7 +59,8 @@ register_written Status width high v h = record h { status = bit_and h.status (0
 register_written MainCounter width high v h = record h { counter = written width high v h.counter }
 register_written (TimerConfig k) width high v h = record h {
   timer = slice_set h.timer k (config_written (written width high v (timer_config_register k h)) (timer_at k h));
-  message_bit = if h.messages then slice_set h.message_bit k (bit_of 14 (written width high v (timer_config_register k h))) else h.message_bit }
+  message_bit = if h.messages then slice_set h.message_bit k (bit_of 14 (written width high v (timer_config_register k h))) else h.message_bit;
+}
 register_written (TimerComparator k) width high v h = record h { timer = slice_set h.timer k (comparator_written width high v (timer_at k h)) }
 register_written (TimerMessage k) width high v h = record h { message_word = slice_set h.message_word k (written width high v (message_word_at k h)) }
 register_written Reserved width high v h = h

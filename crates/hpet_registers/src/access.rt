@@ -5,12 +5,12 @@ ghost use Rattle.hpet_counter.specs.Counter.{is_register_width};
 ghost use Rattle.hpet_comparator.specs.Timer.{IsTimer, bit_of, config_written, comparator_written};
 ghost use Rattle.hpet_registers.specs.Parts.{IsHpet, timer_at};
 ghost use Rattle.hpet_registers.specs.Register.{
-    IsRegister,
-    is_access_width,
-    part_of,
-    register_value,
-    register_written,
-    timer_config_register,
+  IsRegister,
+  is_access_width,
+  part_of,
+  register_value,
+  register_written,
+  timer_config_register,
 };
 
 use crate::parts::HpetParts;
@@ -47,7 +47,11 @@ fn timer_config(parts: &HpetParts, k: u8) -> u64
     requires range { k < parts.now.timers }
     ensures { result ≡ timer_config_register k parts.now }
 {
-    let bit = if parts.message_bit[k as usize] { MESSAGE } else { 0 };
+    let bit = if parts.message_bit[k as usize] {
+        MESSAGE
+    } else {
+        0
+    };
     let capable = if parts.messages { MESSAGE_CAPABLE } else { 0 };
     timer_of(parts.timer[k as usize]).config() + bit + capable
 }
@@ -157,11 +161,10 @@ fn with_word(list: [u64; 8], k: u8, x: u64) -> [u64; 8]
 fn timer_config_set(parts: HpetParts, k: u8, v: u64) -> HpetParts
     requires valid { IsHpet parts }
     requires range { k < parts.timers }
-    ensures {
-        result ≡ record parts {
-            timer = slice_set parts.timer k (config_written v (timer_at k parts));
-            message_bit = if parts.messages then slice_set parts.message_bit k (bit_of 14 v) else parts.message_bit }
-    }
+    ensures { result ≡ record parts {
+      timer = slice_set parts.timer k (config_written v (timer_at k parts));
+      message_bit = if parts.messages then slice_set parts.message_bit k (bit_of 14 v) else parts.message_bit;
+    } }
 {
     let timer = with_timer(parts.timer, k, timer_config_written(&parts, k, v));
     let message_bit = if parts.messages {
@@ -177,7 +180,13 @@ fn timer_config_set(parts: HpetParts, k: u8, v: u64) -> HpetParts
 }
 
 /// The fields after a write to a register.
-pub(crate) fn written(parts: HpetParts, register: Register, width: u8, high: bool, v: u64) -> HpetParts
+pub(crate) fn written(
+    parts: HpetParts,
+    register: Register,
+    width: u8,
+    high: bool,
+    v: u64,
+) -> HpetParts
     requires valid { IsHpet parts }
     requires range { IsRegister parts.timers parts.messages register }
     requires width { IsTrue (is_register_width width) }

@@ -1,29 +1,27 @@
 //! The HPET: its registers, its pulses, and what its outputs are made of.
 
-ghost use Rattle.std.specs.Prelude.{◌≡◌, ℕ, ◌*◌, ◌^◌, ◌<◌, ◌≤◌, ◌↔◌, ◌⊎◌, true, IsTrue, IsSome, IfSome, length, ◌&&◌, ◌||◌, nat_lt};
+ghost use Rattle.std.specs.Prelude.{◌≡◌, ◌≢◌, ℕ, ◌-◌, ◌*◌, ◌%◌, ◌^◌, ◌<◌, ◌≤◌, ◌↔◌, ◌⊎◌, true, IsTrue, IsSome, IfSome, ◌&&◌, ◌||◌, nat_lt, if◌then◌else◌};
 ghost use Rattle.clk_units.specs.Events.{IsFirst};
-ghost use Rattle.hpet_comparator.specs.Timer.{is_level, bit_of, spacing_of};
+ghost use Rattle.hpet_comparator.specs.Timer.{is_level, bit_of, spacing_of, matches_in};
 ghost use Rattle.hpet_registers.specs.Parts.{
-    IsHpet,
-    hpet_at_power_on,
-    timer_at,
-    is_legacy,
-    level_of,
-    message_of,
+  IsHpet,
+  hpet_at_power_on,
+  timer_at,
+  is_running,
+  is_legacy,
+  level_of,
+  message_of,
 };
 ghost use Rattle.hpet_registers.specs.Register.{is_access_width, hpet_read, hpet_written};
 ghost use Rattle.hpet_registers.specs.Pulses.{
-    hpet_pulsed_times,
-    matches_of,
-    place_of,
-    no_matches,
+  hpet_pulsed_times,
+  matches_of,
+  place_of,
+  no_matches,
 };
 
-use crate::access;
-use crate::parts;
 use crate::parts::{HpetParts, NO_TIMER};
-use crate::register;
-use crate::stretch;
+use crate::{access, parts, register, stretch};
 use hpet_comparator::{Matches, Timer};
 use std::marker::Model;
 
@@ -117,6 +115,10 @@ impl Hpet {
         requires width { IsTrue (is_access_width width) }
         requires fits { v < 2 ^ (8 * width) }
         ensures value { self.new ≡ hpet_written offset width v self.old }
+        // The configuration's register alone starts and stops the counter.
+        ensures running { offset - offset % 8 ≢ 16 → self.new.config ≡ self.old.config }
+        // No write makes a match: it sets no status bit.
+        ensures quiet { self.new.status ≤ self.old.status }
     {
         if register::is_effective(offset, width) {
             let register = register::register_at(
@@ -131,14 +133,25 @@ impl Hpet {
     /// Counts `n` pulses of 10 ns: at each place the matches of that timer, none where there is no timer.
     pub fn pulses(&mut self, n: u64) -> [Matches; 8]
         ensures state { self.new ≡ hpet_pulsed_times n self.old }
-        ensures count {
-            (k : ℕ) → k < self.old.timers → (place_of result k).count ≡ matches_of k self.old n
-        }
+        ensures count { (k : ℕ) → k < self.old.timers → (place_of result k).count ≡ matches_of k self.old n }
         ensures few { (k : ℕ) → k < self.old.timers → (place_of result k).count ≤ n }
-        ensures first {
-            (k : ℕ) → k < self.old.timers → IsFirst (matches_of k self.old) n (place_of result k).first
-        }
+        ensures first { (k : ℕ) → k < self.old.timers → IsFirst (matches_of k self.old) n (place_of result k).first }
         ensures none { (k : ℕ) → k < 8 → self.old.timers ≤ k → place_of result k ≡ no_matches }
+
+        // A timer's matches are its own: they depend on no other timer.
+        ensures alone { (k : ℕ) → matches_of k self.old n
+            ≡ matches_in self.old.counter (timer_at k self.old) (if is_running self.old then n else 0) }
+        // A match of a level timer sets its status bit, and nothing else does.
+        ensures status { (k : ℕ) → k < 8 → bit_of k self.new.status
+            ≡ (bit_of k self.old.status || (nat_lt 0 (matches_of k self.old n) && is_level (timer_at k self.old))) }
+        // Pulses change no configuration.
+        ensures config { (k : ℕ) → (timer_at k self.new).config ≡ (timer_at k self.old).config }
+        ensures kept { self.new
+            ≡ record self.old {
+              counter = self.new.counter;
+              status = self.new.status;
+              timer = self.new.timer;
+            } }
     {
         let from = self.parts.counter;
         let seen = stretch::pulses_seen(self.parts.config, n);

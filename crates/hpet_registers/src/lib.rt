@@ -21,3 +21,6 @@ mod stretch;
 pub use hpet::Hpet;
 pub use parts::HpetParts;
 pub use register::Register;
+
+#[cfg(test)]
+mod tests;

@@ -46,10 +46,8 @@ fn is_place(parts: TimerParts, has_timer: bool) -> bool
 
 /// Whether these can be the places of so many timers.
 fn are_places(timer: &[TimerParts; 8], timers: u8) -> bool
-    ensures {
-        IsTrue result
-            ↔ ((k : ℕ) → k < 8 → IsPlace (nat_lt k timers) (slice_index_or timer.now k no_timer))
-    }
+    ensures { IsTrue result
+        ↔ ((k : ℕ) → k < 8 → IsPlace (nat_lt k timers) (slice_index_or timer.now k no_timer)) }
 {
     for k in 0..8u8 {
         if !is_place(timer[k as usize], k < timers) {
@@ -61,15 +59,13 @@ fn are_places(timer: &[TimerParts; 8], timers: u8) -> bool
 
 /// Whether numbers and flags can be those of an HPET.
 fn are_numbers_valid(parts: &HpetParts) -> bool
-    ensures {
-        IsTrue result
-            ↔ (
-                (parts.now.config ≤ 3)
-                    × ((parts.now.timers ≡ 3) ⊎ (parts.now.timers ≡ 8))
-                    × (parts.now.timers ≡ 3 → parts.now.status ≤ 7)
-                    × (parts.now.messages ≡ true → parts.now.timers ≡ 8)
-            )
-    }
+    ensures { IsTrue result
+        ↔ (
+        (parts.now.config ≤ 3)
+        × ((parts.now.timers ≡ 3) ⊎ (parts.now.timers ≡ 8))
+        × (parts.now.timers ≡ 3 → parts.now.status ≤ 7)
+        × (parts.now.messages ≡ true → parts.now.timers ≡ 8)
+        ) }
 {
     let count = if parts.timers == 3 {
         parts.status <= 7 && !parts.messages
@@ -81,9 +77,7 @@ fn are_numbers_valid(parts: &HpetParts) -> bool
 
 /// Whether there are no message bits and words.
 fn has_no_messages(parts: &HpetParts) -> bool
-    ensures {
-        IsTrue result ↔ ((parts.now.message_bit ≡ no_bits) × (parts.now.message_word ≡ no_words))
-    }
+    ensures { IsTrue result ↔ ((parts.now.message_bit ≡ no_bits) × (parts.now.message_word ≡ no_words)) }
 {
     parts.message_bit == [false; 8] && parts.message_word == [0; 8]
 }

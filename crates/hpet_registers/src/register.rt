@@ -2,11 +2,11 @@
 
 ghost use Rattle.std.specs.Prelude.{◌≡◌, ◌-◌, ◌/◌, ◌%◌, ◌≤◌, IsTrue};
 ghost use Rattle.hpet_registers.specs.Register.{
-    timer_register,
-    register_at,
-    IsRegister,
-    is_access_width,
-    is_effective,
+  timer_register,
+  register_at,
+  IsRegister,
+  is_access_width,
+  is_effective,
 };
 
 /// A register of 8 bytes; a timer's has the timer's number.

@@ -34,18 +34,12 @@ fn place_pulsed(parts: TimerParts, from: u64, n: u64) -> (TimerParts, Matches)
 
 /// Counts `n` pulses of a main counter at `from` for each timer.
 pub(crate) fn pulse_timers(timer: &mut [TimerParts; 8], from: u64, n: u64) -> [Matches; 8]
-    requires places {
-        (k : ℕ) → k < 8
-            → IsTimer (slice_index_or timer.old k no_timer) ⊎ (slice_index_or timer.old k no_timer ≡ no_timer)
-    }
+    requires places { (k : ℕ) → k < 8
+        → IsTimer (slice_index_or timer.old k no_timer) ⊎ (slice_index_or timer.old k no_timer ≡ no_timer) }
     ensures state { timer.new ≡ map (pulsed_times from n) timer.old }
-    ensures matches {
-        (k : ℕ) → k < 8 → IsTimer (slice_index_or timer.old k no_timer)
-            → AreMatches from n (slice_index_or timer.old k no_timer) (place_of result k)
-    }
-    ensures none {
-        (k : ℕ) → k < 8 → slice_index_or timer.old k no_timer ≡ no_timer → place_of result k ≡ no_matches
-    }
+    ensures matches { (k : ℕ) → k < 8 → IsTimer (slice_index_or timer.old k no_timer)
+        → AreMatches from n (slice_index_or timer.old k no_timer) (place_of result k) }
+    ensures none { (k : ℕ) → k < 8 → slice_index_or timer.old k no_timer ≡ no_timer → place_of result k ≡ no_matches }
 {
     let mut matches = [Matches::NONE; 8];
     for k in 0..8 {
@@ -58,12 +52,10 @@ pub(crate) fn pulse_timers(timer: &mut [TimerParts; 8], from: u64, n: u64) -> [M
 
 /// The status with the bit of each level timer set that matched.
 pub(crate) fn raised(timer: &[TimerParts; 8], matches: &[Matches; 8], status: u8) -> u8
-    ensures {
-        result ≡ with_bits
-            (λ k. nat_lt 0 (place_of matches.now k).count && is_level (slice_index_or timer.now k no_timer))
-            8
-            status
-    }
+    ensures { result ≡ with_bits
+        (λ k. nat_lt 0 (place_of matches.now k).count && is_level (slice_index_or timer.now k no_timer))
+        8
+        status }
 {
     let mut status = status;
     for k in 0..8 {

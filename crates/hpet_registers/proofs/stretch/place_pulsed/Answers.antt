@@ -1,4 +1,4 @@
-use Rattle.std.proofs.Common.{◌≡◌, ap, sym, ◌∙◌, inl, inr}
+use Rattle.std.proofs.Common.{ap, sym, ◌∙◌, inl, inr}
 use Rattle.std.proofs.lemmas.Bool.{false≢true}
 use Rattle.hpet_comparator.specs.Timer.{pulsed_times}
 use Rattle.hpet_registers.proofs.Conditions.{pulsed_times-no_timer}

@@ -1,4 +1,4 @@
-use Rattle.std.proofs.Common.{◌≡◌, ℕ, ◌+◌, ◌<◌, List, length, get_or, map, take, drop, ◌++◌, ap, sym, subst, ◌∙◌, inl, inr, arith}
+use Rattle.std.proofs.Common.{◌≡◌, ℕ, ◌+◌, ◌<◌, List, length, get_or, ap, sym, subst, ◌∙◌, inl, inr, arith}
 use Rattle.std.proofs.Math.ListN.{set, length-set}
 use Rattle.std.proofs.lemmas.Bool.{cases_eq}
 use Rattle.std.proofs.lemmas.List.{get_or-set_same, get_or-set_other}
@@ -29,7 +29,7 @@ loop-k-preserved c =
       size = length-set c.loop-k.timer c.loop-k.k c.place_pulsed.result.0 ∙ c.loop-k.invariant.size;
       places = length-set c.loop-k.matches c.loop-k.k c.place_pulsed.result.1 ∙ c.loop-k.invariant.places;
       matches = more (λ j m. IsTimer (get_or c.args.timer.now j no_timer) → AreMatches c.args.from c.args.n (get_or c.args.timer.now j no_timer) m) c.loop-k.matches c.loop-k.k c.place_pulsed.result.1 (omega (arith, c.loop-k.invariant.places)) c.loop-k.invariant.matches
-        (subst (λ (t : TimerParts). IsTimer t → AreMatches c.args.from c.args.n t c.place_pulsed.result.1) here c.place_pulsed.ensures.matches);
+          (subst (λ (t : TimerParts). IsTimer t → AreMatches c.args.from c.args.n t c.place_pulsed.result.1) here c.place_pulsed.ensures.matches);
       none = more (λ j m. get_or c.args.timer.now j no_timer ≡ no_timer → m ≡ no_matches) c.loop-k.matches c.loop-k.k c.place_pulsed.result.1 (omega (arith, c.loop-k.invariant.places)) c.loop-k.invariant.none
-        (subst (λ (t : TimerParts). t ≡ no_timer → c.place_pulsed.result.1 ≡ no_matches) here c.place_pulsed.ensures.none);
+          (subst (λ (t : TimerParts). t ≡ no_timer → c.place_pulsed.result.1 ≡ no_matches) here c.place_pulsed.ensures.none);
     }

@@ -10,4 +10,5 @@ invariant-loop-k l = record {
   size : length l.timer ≡ 8;
   places : length l.matches ≡ 8;
   matches : (j : ℕ) → j < l.k → IsTimer (get_or l.fn.timer j no_timer) → AreMatches l.from l.n (get_or l.fn.timer j no_timer) (get_or l.matches j no_matches);
-  none : (j : ℕ) → j < l.k → get_or l.fn.timer j no_timer ≡ no_timer → get_or l.matches j no_matches ≡ no_matches }
+  none : (j : ℕ) → j < l.k → get_or l.fn.timer j no_timer ≡ no_timer → get_or l.matches j no_matches ≡ no_matches;
+}

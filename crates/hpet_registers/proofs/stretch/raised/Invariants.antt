@@ -1,4 +1,4 @@
-use Rattle.std.proofs.Common.{◌≡◌, ℕ, ◌<◌, ◌&&◌, ◌^◌, get_or, nat_lt}
+use Rattle.std.proofs.Common.{◌≡◌, ◌&&◌, get_or, nat_lt}
 use Rattle.hpet_comparator.specs.Timer.{is_level}
 use Rattle.hpet_registers.specs.Parts.{no_timer}
 use Rattle.hpet_registers.specs.Pulses.{no_matches, with_bits}
