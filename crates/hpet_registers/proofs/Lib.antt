@@ -4,3 +4,4 @@ pub mod Product
 pub mod Places
 pub mod Laws
 mod Rows
+pub mod ThreeTimersLaw

@@ -7,6 +7,7 @@ ghost use Rattle.hpet_registers.specs.Parts.{IsHpet, timer_at};
 ghost use Rattle.hpet_registers.specs.Register.{
   IsRegister,
   is_access_width,
+  hpet_read,
   part_of,
   register_value,
   register_written,
@@ -14,7 +15,7 @@ ghost use Rattle.hpet_registers.specs.Register.{
 };
 
 use crate::parts::HpetParts;
-use crate::register::Register;
+use crate::register::{Register, is_effective, register_at};
 use hpet_comparator::{Timer, TimerParts};
 use hpet_counter::write_part;
 
@@ -75,7 +76,7 @@ fn value(parts: &HpetParts, register: Register) -> u64
 }
 
 /// What an access of this width reads of a register.
-pub(crate) fn read(parts: &HpetParts, register: Register, width: u8, high: bool) -> u64
+fn read(parts: &HpetParts, register: Register, width: u8, high: bool) -> u64
     requires valid { IsHpet parts.now }
     requires range { IsRegister parts.now.timers parts.now.messages register }
     ensures { result ≡ part_of width high (register_value register parts.now) }
@@ -91,7 +92,7 @@ pub(crate) fn read(parts: &HpetParts, register: Register, width: u8, high: bool)
 }
 
 /// The largest number of this width, in bytes.
-pub(crate) fn all_ones(width: u8) -> u64
+fn all_ones(width: u8) -> u64
     requires { IsTrue (is_access_width width) }
     ensures { result + 1 ≡ 2 ^ (8 * width) }
 {
@@ -100,6 +101,21 @@ pub(crate) fn all_ones(width: u8) -> u64
         2 => 0xffff,
         4 => 0xffff_ffff,
         _ => u64::MAX,
+    }
+}
+
+/// What an access reads: a register or a half of one, or all ones where it reaches none.
+pub(crate) fn read_at(parts: &HpetParts, offset: u16, width: u8) -> u64
+    requires valid { IsHpet parts.now }
+    requires offset { offset ≤ 1023 }
+    requires width { IsTrue (is_access_width width) }
+    ensures { result ≡ hpet_read offset width parts.now }
+{
+    if is_effective(offset, width) {
+        let register = register_at(parts.timers, parts.messages, offset - offset % 8);
+        read(parts, register, width, offset % 8 == 4)
+    } else {
+        all_ones(width)
     }
 }
 

@@ -13,6 +13,7 @@ ghost use Rattle.hpet_registers.specs.Parts.{
   message_of,
 };
 ghost use Rattle.hpet_registers.specs.Register.{is_access_width, hpet_read, hpet_written};
+ghost use Rattle.hpet_registers.specs.ThreeTimers.{three_timer_read};
 ghost use Rattle.hpet_registers.specs.Pulses.{
   hpet_pulsed_times,
   matches_of,
@@ -95,17 +96,10 @@ impl Hpet {
         requires offset { offset ≤ 1023 }
         requires width { IsTrue (is_access_width width) }
         ensures value { result ≡ hpet_read offset width self.now }
+        // With three timers every reply is that of the block of three timers.
+        ensures three { self.now.timers ≡ 3 → result ≡ three_timer_read offset width self.now }
     {
-        if register::is_effective(offset, width) {
-            let register = register::register_at(
-                self.parts.timers,
-                self.parts.messages,
-                offset - offset % 8,
-            );
-            access::read(&self.parts, register, width, offset % 8 == 4)
-        } else {
-            access::all_ones(width)
-        }
+        access::read_at(&self.parts, offset, width)
     }
 
     /// A write of `v`, of `width` bytes, at `offset`. One that isn't of 4 or 8 bytes, or isn't aligned to its
