@@ -1,0 +1,4 @@
+pub mod Writes
+pub mod Steps
+pub mod Rounds
+mod Rows

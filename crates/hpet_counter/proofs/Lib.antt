@@ -1,0 +1,2 @@
+pub mod Counter
+mod Rows

@@ -1,0 +1,7 @@
+pub mod Bits
+pub mod Conditions
+pub mod Product
+pub mod Places
+pub mod Laws
+mod Rows
+pub mod ThreeTimersLaw

@@ -1,0 +1,11 @@
+use Rattle.std.proofs.Common.{◌≤◌, sym, subst}
+use Rattle.hpet_registers.specs.declared.parts.HpetParts.{HpetParts}
+use Rattle.hpet_registers.proofs.Conditions.{IsHpet-register_written}
+use Rattle.hpet_registers.proofs.Laws.{status-register_written}
+use Rattle.hpet_registers.proofs.hpet.Hpet.write.Goals as goal
+
+pub invariant_of-self : goal.invariant_of-self
+invariant_of-self c = rw c.written-self-inside.ensures (IsHpet-register_written c.register_at-register.result c.args.width _ c.args.v c.self.inside.parts c.self.invariant c.register_at-register.ensures.range)
+
+pub returns-then-is_effective-clause-quiet : goal.returns-then-is_effective-clause-quiet
+returns-then-is_effective-clause-quiet c = rw (← c.self.view_is) (subst (λ (h : HpetParts). h.status ≤ c.self.inside.parts.status) (sym c.written-self-inside.ensures) (status-register_written c.register_at-register.result c.args.width _ c.args.v c.self.inside.parts))

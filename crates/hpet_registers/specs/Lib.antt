@@ -1,0 +1,4 @@
+pub mod Parts
+pub mod Register
+pub mod Pulses
+pub mod ThreeTimers

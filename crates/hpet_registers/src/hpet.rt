@@ -1,0 +1,201 @@
+//! The HPET: its registers, its pulses, and what its outputs are made of.
+
+ghost use Rattle.std.specs.Prelude.{◌≡◌, ◌≢◌, ℕ, ◌-◌, ◌*◌, ◌%◌, ◌^◌, ◌<◌, ◌≤◌, ◌↔◌, ◌⊎◌, true, IsTrue, IsSome, IfSome, ◌&&◌, ◌||◌, nat_lt, if◌then◌else◌};
+ghost use Rattle.clk_units.specs.Events.{IsFirst};
+ghost use Rattle.hpet_comparator.specs.Timer.{is_level, bit_of, spacing_of, matches_in};
+ghost use Rattle.hpet_registers.specs.Parts.{
+  IsHpet,
+  hpet_at_power_on,
+  timer_at,
+  is_running,
+  is_legacy,
+  level_of,
+  message_of,
+};
+ghost use Rattle.hpet_registers.specs.Register.{is_access_width, hpet_read, hpet_written};
+ghost use Rattle.hpet_registers.specs.ThreeTimers.{three_timer_read};
+ghost use Rattle.hpet_registers.specs.Pulses.{
+  hpet_pulsed_times,
+  matches_of,
+  place_of,
+  no_matches,
+};
+
+use crate::parts::{HpetParts, NO_TIMER};
+use crate::{access, parts, register, stretch};
+use hpet_comparator::{Matches, Timer};
+use std::marker::Model;
+
+/// The HPET.
+#[derive(Clone, Copy, Debug, PartialEq, Eq)]
+pub struct Hpet {
+    parts: HpetParts,
+}
+
+impl Model for Hpet {
+    ghost use Rattle.hpet_registers.specs.declared.parts.HpetParts.{HpetParts};
+    ghost use Rattle.hpet_registers.specs.Parts.{IsHpet};
+
+    ghost Value = { HpetParts };
+
+    ghost view = { λ h. h.parts };
+
+    ghost invariant = { λ h. IsHpet h.parts };
+
+    ghost inverse = { λ p. record { parts = p } };
+}
+
+impl Hpet {
+    /// The HPET at power on, with three or eight timers; message registers come with eight alone.
+    pub fn power_on(timers: u8, messages: bool) -> Hpet
+        requires timers { (timers ≡ 3) ⊎ (timers ≡ 8) }
+        requires messages { messages ≡ true → timers ≡ 8 }
+        ensures { result ≡ hpet_at_power_on timers messages }
+    {
+        let first = Timer::power_on().parts();
+        let last = if timers == 8 { first } else { NO_TIMER };
+        Hpet {
+            parts: HpetParts {
+                config: 0,
+                status: 0,
+                counter: 0,
+                timer: [first, first, first, last, last, last, last, last],
+                timers,
+                messages,
+                message_bit: [false; 8],
+                message_word: [0; 8],
+            },
+        }
+    }
+
+    /// All its fields.
+    pub fn parts(&self) -> HpetParts
+        ensures parts { result ≡ self.now }
+        ensures valid { IsHpet result }
+    {
+        self.parts
+    }
+
+    /// The HPET with these fields, where they are one's: configuration at most 3, three or eight timers, with
+    /// three a status of at most 7, each timer valid and the other places 0, messages with eight timers alone,
+    /// and without them message bits and registers of 0.
+    pub fn of_parts(parts: HpetParts) -> Option<Hpet>
+        ensures valid { IsSome result ↔ IsHpet parts }
+        ensures value { IfSome result (λ h. h ≡ parts) }
+    {
+        if parts::is_valid(&parts) {
+            Some(Hpet { parts })
+        } else {
+            None
+        }
+    }
+
+    /// A read of `width` bytes at `offset`. One of 4 or 8 bytes that is aligned to its width reads a register or
+    /// a half of one; any other reads all ones (this project's own choice).
+    pub fn read(&self, offset: u16, width: u8) -> u64
+        requires offset { offset ≤ 1023 }
+        requires width { IsTrue (is_access_width width) }
+        ensures value { result ≡ hpet_read offset width self.now }
+        // With three timers every reply is that of the block of three timers.
+        ensures three { self.now.timers ≡ 3 → result ≡ three_timer_read offset width self.now }
+    {
+        access::read_at(&self.parts, offset, width)
+    }
+
+    /// A write of `v`, of `width` bytes, at `offset`. One that isn't of 4 or 8 bytes, or isn't aligned to its
+    /// width, does nothing (this project's own choice).
+    pub fn write(&mut self, offset: u16, width: u8, v: u64)
+        requires offset { offset ≤ 1023 }
+        requires width { IsTrue (is_access_width width) }
+        requires fits { v < 2 ^ (8 * width) }
+        ensures value { self.new ≡ hpet_written offset width v self.old }
+        // The configuration's register alone starts and stops the counter.
+        ensures running { offset - offset % 8 ≢ 16 → self.new.config ≡ self.old.config }
+        // No write makes a match: it sets no status bit.
+        ensures quiet { self.new.status ≤ self.old.status }
+    {
+        if register::is_effective(offset, width) {
+            let register = register::register_at(
+                self.parts.timers,
+                self.parts.messages,
+                offset - offset % 8,
+            );
+            self.parts = access::written(self.parts, register, width, offset % 8 == 4, v);
+        }
+    }
+
+    /// Counts `n` pulses of 10 ns: at each place the matches of that timer, none where there is no timer.
+    pub fn pulses(&mut self, n: u64) -> [Matches; 8]
+        ensures state { self.new ≡ hpet_pulsed_times n self.old }
+        ensures count { (k : ℕ) → k < self.old.timers → (place_of result k).count ≡ matches_of k self.old n }
+        ensures few { (k : ℕ) → k < self.old.timers → (place_of result k).count ≤ n }
+        ensures first { (k : ℕ) → k < self.old.timers → IsFirst (matches_of k self.old) n (place_of result k).first }
+        ensures none { (k : ℕ) → k < 8 → self.old.timers ≤ k → place_of result k ≡ no_matches }
+
+        // A timer's matches are its own: they depend on no other timer.
+        ensures alone { (k : ℕ) → matches_of k self.old n
+            ≡ matches_in self.old.counter (timer_at k self.old) (if is_running self.old then n else 0) }
+        // A match of a level timer sets its status bit, and nothing else does.
+        ensures status { (k : ℕ) → k < 8 → bit_of k self.new.status
+            ≡ (bit_of k self.old.status || (nat_lt 0 (matches_of k self.old n) && is_level (timer_at k self.old))) }
+        // Pulses change no configuration.
+        ensures config { (k : ℕ) → (timer_at k self.new).config ≡ (timer_at k self.old).config }
+        ensures kept { self.new
+            ≡ record self.old {
+              counter = self.new.counter;
+              status = self.new.status;
+              timer = self.new.timer;
+            } }
+    {
+        let from = self.parts.counter;
+        let seen = stretch::pulses_seen(self.parts.config, n);
+        let matches = stretch::pulse_timers(&mut self.parts.timer, from, seen);
+        self.parts.status = stretch::raised(&self.parts.timer, &matches, self.parts.status);
+        self.parts.counter = from.wrapping_add(seen);
+        matches
+    }
+
+    /// Whether legacy replacement is on.
+    pub fn legacy(&self) -> bool
+        ensures { result ≡ is_legacy self.now }
+    {
+        self.parts.config / 2 % 2 == 1
+    }
+
+    /// The status bit of a timer with its interrupt enabled: the output of a timer of level type.
+    pub fn level(&self, timer: u8) -> bool
+        requires { timer < self.now.timers }
+        ensures { result ≡ level_of timer self.now }
+    {
+        (self.parts.status >> timer) % 2 == 1 && self.parts.timer[timer as usize].is_enabled()
+    }
+
+    /// Address and data of a timer's messages, where its matches are messages: with bit 14, interrupt enabled,
+    /// of edge type, and not timer 0 or 1 under legacy replacement (this project's own choice).
+    pub fn message(&self, timer: u8) -> Option<(u32, u32)>
+        requires { timer < 8 }
+        ensures { result ≡ message_of timer self.now }
+    {
+        let parts = self.parts.timer[timer as usize];
+        let replaced = self.legacy() && timer < 2;
+        let sends = self.parts.message_bit[timer as usize]
+            && parts.is_enabled()
+            && !parts.is_level()
+            && !replaced;
+        if sends {
+            let word = self.parts.message_word[timer as usize];
+            Some(((word / 0x1_0000_0000) as u32, (word % 0x1_0000_0000) as u32))
+        } else {
+            None
+        }
+    }
+
+    /// The pulses from one match of a timer to the next: its period, or 2^32 or 2^64 by its width where it is
+    /// one-shot or the period is 0.
+    pub fn spacing(&self, timer: u8) -> u128
+        requires { timer < 8 }
+        ensures { result ≡ spacing_of (timer_at timer self.now) }
+    {
+        self.parts.timer[timer as usize].spacing()
+    }
+}
