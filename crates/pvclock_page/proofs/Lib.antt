@@ -1,0 +1,4 @@
+pub mod Scales
+pub mod Shifts
+pub mod Times
+pub mod Fields
