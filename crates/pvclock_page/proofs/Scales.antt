@@ -1,11 +1,11 @@
 -- The scale of a TSC: there is one, and how it is found.
-use Rattle.std.proofs.Common.{◌≡◌, ℕ, ℤ, pos, negsuc, zero, suc, ◌+◌, ◌-◌, ◌*◌, ◌/◌, ◌^◌, ◌<◌, ◌≤◌, ◌+ℤ◌, refl, sym, ap, ◌∙◌, inl, inr, arith}
+use Rattle.std.proofs.Common.{◌≡◌, ℕ, ℤ, pos, negsuc, zero, suc, ◌+◌, ◌-◌, ◌*◌, ◌/◌, ◌^◌, ◌<◌, ◌≤◌, ◌+ℤ◌, leb, cond, refl, sym, ap, ◌∙◌, inl, inr, arith}
 use Rattle.std.proofs.Math.Nat.{div-mul-le_self, div-div-eq-div-mul, mul-div-mul_right, mul-le-mul_right, mul-le-mul_left, one-le-pow, pow-le-pow_right, pow-suc, pow-succ'}
 use Rattle.std.proofs.lemmas.Nat.{le-div, div_below, pow_pos, pow-add, leading_top}
 use Rattle.std.specs.Int.Count.{count_leading_zeros}
 use Rattle.std.proofs.lemmas.Int.{ints}
-use Rattle.std.proofs.lemmas.Bool.{cases_lt, cases_order}
-use Rattle.pvclock_page.specs.Scale.{mul_at, IsScale}
+use Rattle.std.proofs.lemmas.Bool.{cases_lt, cases_order, le-leb, lt-leb}
+use Rattle.pvclock_page.specs.Scale.{mul_at, IsScale, shift_for, mul_for}
 
 -- a quotient is at most half of another, where its number or its divisor says so
 pub halved : (m n a b : ℕ) → 0 < a → n * 2 * a ≤ m * b → 0 < b → n / b * 2 ≤ m / a
@@ -123,9 +123,12 @@ filled w low high = by_top (leading_top 64 w (omega arith) (omega arith))
         let some : 0 < 2 ^ (j - 31) = pow_pos (j - 31) in
         let whole : 2 ^ j ≡ 2 ^ 31 * 2 ^ (j - 31) = ap (λ (i : ℕ). 2 ^ i) (omega arith) ∙ pow-add 2 31 (j - 31) in
         let next : 2 ^ suc j ≡ 2 ^ 32 * 2 ^ (j - 31) = ap (λ (i : ℕ). 2 ^ i) (omega arith) ∙ pow-add 2 32 (j - 31) in
-        rw place (omega arith, omega arith,
+        rw place (
+          omega arith,
+          omega arith,
           le-div (2 ^ 31) w (2 ^ (j - 31)) some (omega arith),
-          div_below w (2 ^ (j - 31)) (2 ^ 32) some (omega arith))
+          div_below w (2 ^ (j - 31)) (2 ^ 32) some (omega arith),
+        )
 
 -- the multiplier of the widest shift to the right has 32 to 39 bits
 pub widest_bounds : (hz : ℕ) → 100000000 ≤ hz → hz ≤ 10000000000 → (2 ^ 31 ≤ 1000000000 * 2 ^ 35 / hz) × (1000000000 * 2 ^ 35 / hz < 2 ^ 39)
@@ -144,3 +147,42 @@ IsScale-filled hz z slow fast e =
       least = full.2;
       most = full.3;
     }
+
+-- a shift is that of a scale where the multiplier fits it
+scale_left : (hz n : ℕ) → 0 < hz → 2 ^ 31 * (hz * 2 ^ n) ≤ 1000000000 * 2 ^ 32 → 1000000000 * 2 ^ 32 < 2 ^ 32 * (hz * 2 ^ n) → IsScale hz (mul_at hz (pos n)) (pos n)
+scale_left hz n runs low high =
+    let full : hz * 1 ≤ hz * 2 ^ n = mul-le-mul_left hz (pow_pos n) in
+    let positive : 0 < hz * 2 ^ n = omega arith in
+    record {
+      value = refl;
+      least = le-div (2 ^ 31) (1000000000 * 2 ^ 32) (hz * 2 ^ n) positive low;
+      most = div_below (1000000000 * 2 ^ 32) (hz * 2 ^ n) (2 ^ 32) positive high;
+    }
+
+scale_right : (hz n : ℕ) → 0 < hz → 2 ^ 31 * hz ≤ 1000000000 * 2 ^ (32 + (n + 1)) → 1000000000 * 2 ^ (32 + (n + 1)) < 2 ^ 32 * hz → IsScale hz (mul_at hz (negsuc n)) (negsuc n)
+scale_right hz n runs low high = record {
+  value = refl;
+  least = le-div (2 ^ 31) (1000000000 * 2 ^ (32 + (n + 1))) hz runs low;
+  most = div_below (1000000000 * 2 ^ (32 + (n + 1))) hz (2 ^ 32) runs high;
+}
+
+-- a shift by a test of the rate is one of two
+either : (hz limit : ℕ) (y z : ℤ) → (hz ≤ limit → IsScale hz (mul_at hz y) y) → (limit < hz → IsScale hz (mul_at hz z) z)
+    → IsScale hz (mul_at hz (cond (leb hz limit) y z)) (cond (leb hz limit) y z)
+either hz limit y z low high = elim (cases_lt limit hz) [
+  | inl above ↦ rw (lt-leb hz limit above) (high above)
+  | inr below ↦ rw (le-leb hz limit below) (low below)
+]
+
+-- the table of shifts gives a scale of each rate in range
+pub IsScale-mul_for : (hz : ℕ) → 100000000 ≤ hz → hz ≤ 10000000000 → IsScale hz (mul_for hz) (shift_for hz)
+unfolding mul_for shift_for
+IsScale-mul_for hz slow fast =
+    either hz 125000000 _ _ (λ h. scale_left hz 4 (omega arith) (omega arith) (omega arith)) (λ a.
+    either hz 250000000 _ _ (λ h. scale_left hz 3 (omega arith) (omega arith) (omega arith)) (λ b.
+    either hz 500000000 _ _ (λ h. scale_left hz 2 (omega arith) (omega arith) (omega arith)) (λ c.
+    either hz 1000000000 _ _ (λ h. scale_left hz 1 (omega arith) (omega arith) (omega arith)) (λ d.
+    either hz 2000000000 _ _ (λ h. scale_left hz 0 (omega arith) (omega arith) (omega arith)) (λ e.
+    either hz 4000000000 _ _ (λ h. scale_right hz 0 (omega arith) (omega arith) (omega arith)) (λ f.
+    either hz 8000000000 _ _ (λ h. scale_right hz 1 (omega arith) (omega arith) (omega arith)) (λ g.
+    scale_right hz 2 (omega arith) (omega arith) (omega arith))))))))

@@ -12,8 +12,8 @@ left_short delta mul n h =
     let split : 2 ^ 32 ≡ 2 ^ (32 - n) * 2 ^ n = ap (λ (i : ℕ). 2 ^ i) place ∙ pow-add 2 (32 - n) n in
     let regrouped : delta * 2 ^ n * mul ≡ delta * mul * 2 ^ n = omega arith in
     sym (ap (λ (m : ℕ). m / 2 ^ 32) regrouped
-        ∙ ap (λ (d : ℕ). delta * mul * 2 ^ n / d) split
-        ∙ mul-div-mul_right (delta * mul) (2 ^ (32 - n)) (pow_pos n))
+    ∙ ap (λ (d : ℕ). delta * mul * 2 ^ n / d) split
+    ∙ mul-div-mul_right (delta * mul) (2 ^ (32 - n)) (pow_pos n))
 
 -- a long one is one to the left
 pub left_long : (delta mul n : ℕ) → 32 ≤ n → delta * mul * 2 ^ (n - 32) ≡ delta * 2 ^ n * mul / 2 ^ 32
@@ -28,7 +28,7 @@ left_long delta mul n h =
 pub right_wide : (delta n : ℕ) (ticks : Option ℕ) → delta < 2 ^ 64 → SomeIff ticks (n < 64) (delta / 2 ^ n) → unwrap_or ticks 0 ≡ delta / 2 ^ n
 right_wide delta n (Some ticks) fits h = h.1
 right_wide delta n None fits h =
-    let wide : 64 ≤ n = elim (cases_lt n 64) [ | inl less ↦ absurd (h less) | inr more ↦ more ] in
+    let wide : 64 ≤ n = elim (cases_lt n 64) [ inl less ↦ absurd (h less) | inr more ↦ more ] in
     let above : 2 ^ 64 ≤ 2 ^ n = pow-le-pow_right (omega arith) wide in
     let small : delta < 2 ^ n = omega arith in
     sym (div-eq_of_lt small)

@@ -1,10 +1,11 @@
 -- The time of a page: it grows with the TSC, and keeps near the exact time.
-use Rattle.std.proofs.Common.{◌≡◌, ℕ, ℤ, pos, negsuc, zero, suc, ◌+◌, ◌-◌, ◌*◌, ◌/◌, ◌%◌, ◌^◌, ◌<◌, ◌≤◌, sym, ap, subst, ◌∙◌, arith}
-use Rattle.std.proofs.Math.Nat.{div-lt_iff_lt-mul, div-mul-le_self, div-zero, lt-div-mul-add, mod-eq_of_lt, mul-le-mul_left, mul-le-mul_right}
+use Rattle.std.proofs.Common.{◌≡◌, ℕ, ℤ, pos, negsuc, zero, suc, ◌+◌, ◌-◌, ◌*◌, ◌/◌, ◌%◌, ◌^◌, ◌<◌, ◌≤◌, refl, sym, ap, subst, ◌∙◌, arith}
+use Rattle.std.proofs.Math.Nat.{div-lt_iff_lt-mul, div-mul-le_self, div-zero, lt-div-mul-add, mod-eq_of_lt, mul-le-mul_left, mul-le-mul_right, zero-div}
 use Rattle.std.proofs.lemmas.Nat.{le-div, pow_pos, pow-add}
+use Rattle.std.proofs.lemmas.Bool.{lt-ltb}
 use Rattle.pvclock_page.specs.declared.page.Page.{Page}
 use Rattle.pvclock_page.specs.Scale.{mul_at, IsScale}
-use Rattle.pvclock_page.specs.Reading.{delta_of, shifted, elapsed_of, whole_reading, reading_of, IsNear}
+use Rattle.pvclock_page.specs.Reading.{ticks_since, delta_of, shifted, elapsed_of, whole_reading, reading_of, IsNear}
 
 -- a greater number has no smaller quotient
 div-mono : (a b k : ℕ) → 0 < k → a ≤ b → a / k ≤ b / k
@@ -23,6 +24,7 @@ elapsed_of-mono mul shift a b h =
 
 -- the time grows with the ticks, as long as it doesn't wrap
 pub reading_of-mono : (page : Page) (earlier tsc : ℕ) → delta_of page earlier ≤ delta_of page tsc → whole_reading page tsc < 2 ^ 64 → reading_of page earlier ≤ reading_of page tsc
+unfolding reading_of
 reading_of-mono page earlier tsc h fits = modulo (whole_reading page earlier) (whole_reading page tsc) grown fits
   where
     grown : whole_reading page earlier ≤ whole_reading page tsc
@@ -53,8 +55,8 @@ rounded d p m e h k q r runs some k_is q_is m_is least r_is =
     let below : q * m / 2 ^ 32 * 2 ^ 32 ≤ q * m = div-mul-le_self (q * m) (2 ^ 32) in
     let above : q * m < q * m / 2 ^ 32 * 2 ^ 32 + 2 ^ 32 = lt-div-mul-add (omega arith) in
     bounds d p m e h r
-      (rw (← m_is, k_is) at low) (rw (← m_is, k_is) at high)
-      (rw (← r_is, q_is) at below) (rw (← r_is, q_is) at above) runs least
+    (rw (← m_is, k_is) at low) (rw (← m_is, k_is) at high)
+    (rw (← r_is, q_is) at below) (rw (← r_is, q_is) at above) runs least
   where
     product : (a b x y : ℕ) → a ≤ b → x ≤ y → a * x ≤ b * y
     product a b x y f g =
@@ -99,7 +101,54 @@ IsNear-elapsed_of hz delta mul (negsuc n) s =
 
 -- what a time that doesn't wrap adds to the page's
 pub elapsed-whole : (page : Page) (tsc : ℕ) → whole_reading page tsc < 2 ^ 64 → reading_of page tsc - page.system_time ≡ elapsed_of (delta_of page tsc) page.mul page.shift
+unfolding reading_of
 elapsed-whole page tsc fits = less (elapsed_of (delta_of page tsc) page.mul page.shift) page.system_time fits
   where
     less : (a b : ℕ) → a + b < 2 ^ 64 → (a + b) % 2 ^ 64 - b ≡ a
     less a b fits = omega arith
+
+-- a time that doesn't wrap
+pub reading_of-whole : (page : Page) (tsc : ℕ) → whole_reading page tsc < 2 ^ 64 → reading_of page tsc ≡ whole_reading page tsc
+unfolding reading_of
+reading_of-whole page tsc fits = mod-eq_of_lt fits
+
+-- a time has 64 bits
+pub reading_of-below : (page : Page) (tsc : ℕ) → reading_of page tsc < 2 ^ 64
+unfolding reading_of
+reading_of-below page tsc = below (whole_reading page tsc)
+  where
+    below : (n : ℕ) → n % 2 ^ 64 < 2 ^ 64
+    below n = omega arith
+
+-- no ticks take no time
+pub elapsed_of-zero : (mul : ℕ) (shift : ℤ) → elapsed_of 0 mul shift ≡ 0
+elapsed_of-zero mul (pos n) = omega arith
+elapsed_of-zero mul (negsuc n) = let none : 0 / 2 ^ (n + 1) ≡ 0 = zero-div (2 ^ (n + 1)) in rw none (omega arith)
+
+-- where no ticks have come the time is the page's
+pub reading_of-zero : (page : Page) (tsc : ℕ) → page.system_time < 2 ^ 64 → delta_of page tsc ≡ 0 → reading_of page tsc ≡ page.system_time
+unfolding reading_of
+reading_of-zero page tsc fits none =
+    let still : elapsed_of (delta_of page tsc) page.mul page.shift ≡ 0 =
+    ap (λ (n : ℕ). elapsed_of n page.mul page.shift) none ∙ elapsed_of-zero page.mul page.shift in
+    ap (λ (n : ℕ). (n + page.system_time) % 2 ^ 64) still ∙ alone page.system_time fits
+  where
+    alone : (n : ℕ) → n < 2 ^ 64 → (0 + n) % 2 ^ 64 ≡ n
+    alone n fits = omega arith
+
+-- at the timestamp no ticks have come
+pub delta_of-timestamp : (page : Page) → page.tsc_timestamp < 2 ^ 64 → delta_of page page.tsc_timestamp ≡ 0
+delta_of-timestamp page fits = at_stamp page.tsc_timestamp fits
+  where
+    at_stamp : (n : ℕ) → n < 2 ^ 64 → ticks_since n n ≡ 0
+    at_stamp n fits = let e : (n + (2 ^ 64 - n)) % 2 ^ 64 ≡ 0 = omega arith in rw e refl
+
+-- of two TSCs ahead of the timestamp the later one has no fewer ticks
+pub delta_of-mono : (page : Page) (earlier tsc : ℕ) → tsc < 2 ^ 64 → page.tsc_timestamp ≤ earlier → earlier ≤ tsc → tsc - page.tsc_timestamp < 2 ^ 63 → delta_of page earlier ≤ delta_of page tsc
+delta_of-mono page earlier tsc fits from h near =
+    rw (ahead page.tsc_timestamp earlier (omega arith) from (omega arith), ahead page.tsc_timestamp tsc fits (omega arith) near) (omega arith)
+  where
+    ahead : (stamp tsc : ℕ) → tsc < 2 ^ 64 → stamp ≤ tsc → tsc - stamp < 2 ^ 63 → ticks_since stamp tsc ≡ tsc - stamp
+    ahead stamp tsc fits from near =
+        let e : (tsc + (2 ^ 64 - stamp)) % 2 ^ 64 ≡ tsc - stamp = omega arith in
+        rw (e, lt-ltb (tsc - stamp) (2 ^ 63) near) refl

@@ -26,10 +26,10 @@ abbrev pub whole_reading : Page → ℕ → ℕ
 whole_reading page tsc = elapsed_of (delta_of page tsc) page.mul page.shift + page.system_time
 
 -- the time as the guest's 64 bits give it
-abbrev pub reading_of : Page → ℕ → ℕ
+unfoldable pub reading_of : Page → ℕ → ℕ
 reading_of page tsc = whole_reading page tsc % 2 ^ 64
 
--- how many nanoseconds rounding down can take: less than one, and one more where a right shift drops ticks
+-- below how many nanoseconds the roundings at the end and at a right shift stay: less than one each
 abbrev pub slack : ℤ → ℕ
 slack (pos n) = 1
 slack (negsuc n) = 2

@@ -3,9 +3,8 @@
 ghost use Rattle.std.specs.Prelude.{◌≡◌, ◌^◌, ◌<◌};
 ghost use Rattle.pvclock_page.specs.Guest.{guest_bytes, IsGuestPage};
 
-use byteorder::{ByteOrder, LittleEndian};
-
 use crate::page::Page;
+use byteorder::{ByteOrder, LittleEndian};
 
 /// The 32 bytes of a page as the guest sees them, `struct pvclock_vcpu_time_info` of Linux's
 /// `pvclock-abi.h`, little-endian: u32 version, u32 pad, u64 tsc_timestamp, u64 system_time,
@@ -15,7 +14,15 @@ pub fn page_bytes(page: &Page) -> [u8; 32]
     ensures layout { result ≡ guest_bytes page.now }
     ensures fields { IsGuestPage result page.now }
 {
-    let Page { version, tsc_timestamp, system_time, mul, shift, flags, .. } = *page;
+    let Page {
+        version,
+        tsc_timestamp,
+        system_time,
+        mul,
+        shift,
+        flags,
+        ..
+    } = *page;
     let mut bytes = [0; 32];
     LittleEndian::write_u32(&mut bytes[..], version as u32);
     LittleEndian::write_u64(&mut bytes[8..], tsc_timestamp);

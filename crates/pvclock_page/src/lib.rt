@@ -17,11 +17,13 @@
 mod guest;
 mod page;
 mod scale;
+#[cfg(test)]
+mod tests;
 mod time;
 mod words;
 
 pub use guest::page_bytes;
-pub use page::{ClockReply, Page, PageReply};
+pub use page::{ClockReply, GUEST_STOPPED, Page, PageReply, TSC_STABLE};
 pub use scale::scale_of;
 pub use time::reading;
 pub use words::{page_words, words_page};

@@ -1,9 +1,15 @@
 //! Pages, and what a monitor answers where it reads one.
 
+/// The flag that says that no processor's TSC differs from another's (`PVCLOCK_TSC_STABLE_BIT`).
+pub const TSC_STABLE: u8 = 1;
+
+/// The flag that says that the guest was stopped before the page was published (`PVCLOCK_GUEST_STOPPED`).
+pub const GUEST_STOPPED: u8 = 2;
+
 /// The page of one processor.
 #[derive(Clone, Copy, Debug, PartialEq, Eq)]
 pub struct Page {
-    /// How often the page was published, twice; odd while it is being written.
+    /// Goes up by 2 at each publishing, and is odd while the page is being written.
     pub version: u64,
     /// The TSC at which `system_time` was right.
     pub tsc_timestamp: u64,
@@ -14,7 +20,7 @@ pub struct Page {
     /// By how many bits ticks are shifted to the left before they are multiplied; to the right where
     /// this is negative.
     pub shift: i8,
-    /// Bit 0 says that the TSC is stable, bit 1 that the guest was stopped.
+    /// `TSC_STABLE`, `GUEST_STOPPED` or both.
     pub flags: u8,
     /// The offset of the TSC from the scaled counter of the host, with which the page was published. No
     /// guest sees it.

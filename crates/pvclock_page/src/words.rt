@@ -25,7 +25,13 @@ pub fn page_words(page: &Page) -> [u64; 5]
     ensures back { page_of result ≡ page.now }
 {
     let scale = packed_scale(page.mul, page.shift, page.flags, page.enabled);
-    [page.version, page.tsc_timestamp, page.system_time, scale, page.offset]
+    [
+        page.version,
+        page.tsc_timestamp,
+        page.system_time,
+        scale,
+        page.offset,
+    ]
 }
 
 /// The page of five words. Bits 49 to 63 of the scale word don't count.

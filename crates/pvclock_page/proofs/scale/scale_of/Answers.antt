@@ -2,7 +2,7 @@
 use Rattle.std.proofs.Common.{◌≡◌, ℕ, pos, ◌≤◌, ◌-◌, ◌/◌, ◌+ℤ◌, ◌-ℤ◌, w8, to_z, of_z, arith}
 use Rattle.std.proofs.lemmas.Int.{ints}
 use Rattle.std.specs.Int.Count.{count_leading_zeros}
-use Rattle.pvclock_page.proofs.Scales.{filled, widest_bounds, IsScale-filled, IsScale-one}
+use Rattle.pvclock_page.proofs.Scales.{filled, widest_bounds, IsScale-filled, IsScale-mul_for, IsScale-one}
 use Rattle.pvclock_page.proofs.scale.scale_of.Goals as goal
 
 pub overflow_sub-surplus_bits : goal.overflow_sub-surplus_bits
@@ -30,3 +30,11 @@ returns-clause-scale c =
 pub returns-clause-only : goal.returns-clause-only
 returns-clause-only c =
     λ mul shift s. IsScale-one c.args.hz mul _ shift _ (omega arith) s (returns-clause-scale c)
+
+pub returns-clause-mul : goal.returns-clause-mul
+returns-clause-mul c =
+    (IsScale-one c.args.hz _ _ _ _ (omega arith) (returns-clause-scale c) (IsScale-mul_for c.args.hz c.requires.slow c.requires.fast)).0
+
+pub returns-clause-shift : goal.returns-clause-shift
+returns-clause-shift c =
+    (IsScale-one c.args.hz _ _ _ _ (omega arith) (returns-clause-scale c) (IsScale-mul_for c.args.hz c.requires.slow c.requires.fast)).1
