@@ -5,7 +5,7 @@ use Rattle.host_counter.specs.declared.TimeFault.{TimeFault}
 use Rattle.host_counter.specs.declared.TimeFault.TheVariants.{BeforeStart, OutOfRange}
 
 -- the nanoseconds at count h, by the rate of the counter (Linux, KVM timekeeping); to round down is our own choice
-abbrev pub time_at : Anchor → ℕ → ℕ
+unfoldable pub time_at : Anchor → ℕ → ℕ
 time_at anchor h = anchor.base_ns + (h - anchor.start) * 1000000 / anchor.khz
 
 -- ns is the time at count h, and in range

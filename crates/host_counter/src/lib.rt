@@ -51,6 +51,7 @@ impl Anchor {
 
     /// The time at count `h` in nanoseconds, rounded down. It is below `clk_units::RANGE_NS`. The rate is
     /// `SLOWEST_KHZ` to `FASTEST_KHZ`.
+    #[tactic(auto, unfolding(crate::specs::Time::time_at))]
     pub fn time(&self, h: u64) -> Result<u64, TimeFault>
         requires slow { SLOWEST_KHZ ≤ self.now.khz }
         requires fast { self.now.khz ≤ FASTEST_KHZ }
@@ -59,7 +60,8 @@ impl Anchor {
 
         // Time never falls as the counter grows, and a clock that is set anew goes on from the same time.
         ensures never_falls { (earlier : ℕ) → earlier ≤ h → IfOk result (λ ns. time_at self.now earlier ≤ ns) }
-        ensures goes_on { (next : Anchor) → next.start ≡ h → IfOk result (λ ns. next.base_ns ≡ ns → time_at next h ≡ ns) }
+        ensures goes_on { (next : Anchor) → next.start ≡ h →
+            IfOk result (λ ns. next.base_ns ≡ ns → time_at next h ≡ ns) }
     {
         if h < self.start {
             return Err(TimeFault::BeforeStart { start: self.start });

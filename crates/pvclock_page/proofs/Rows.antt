@@ -1,5 +1,5 @@
 -- Small rows that pin the definitions.
-use Rattle.std.proofs.Common.{◌≡◌, List, [], ◌∷◌, true, false, pos, negsuc, refl}
+use Rattle.std.proofs.Common.{◌≡◌, [], ◌∷◌, true, false, pos, negsuc, refl}
 use Rattle.pvclock_page.specs.declared.page.Page.{Page}
 use Rattle.pvclock_page.specs.Scale.{mul_at, mul_for, shift_for}
 use Rattle.pvclock_page.specs.Reading.{reading_of, whole_reading, ticks_since, shifted}

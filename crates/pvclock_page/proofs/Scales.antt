@@ -1,6 +1,6 @@
 -- The scale of a TSC: there is one, and how it is found.
-use Rattle.std.proofs.Common.{◌≡◌, ℕ, ℤ, pos, negsuc, zero, suc, ◌+◌, ◌-◌, ◌*◌, ◌/◌, ◌^◌, ◌<◌, ◌≤◌, ◌+ℤ◌, leb, cond, refl, sym, ap, ◌∙◌, inl, inr, arith}
-use Rattle.std.proofs.Math.Nat.{div-mul-le_self, div-div-eq-div-mul, mul-div-mul_right, mul-le-mul_right, mul-le-mul_left, one-le-pow, pow-le-pow_right, pow-suc, pow-succ'}
+use Rattle.std.proofs.Common.{◌≡◌, ℕ, ℤ, pos, negsuc, suc, ◌+◌, ◌-◌, ◌*◌, ◌/◌, ◌^◌, ◌<◌, ◌≤◌, ◌+ℤ◌, leb, cond, refl, sym, ap, ◌∙◌, inl, inr, arith}
+use Rattle.std.proofs.Math.Nat.{div-mul-le_self, div-div-eq-div-mul, mul-div-mul_right, mul-le-mul_right, mul-le-mul_left, pow-le-pow_right, pow-suc}
 use Rattle.std.proofs.lemmas.Nat.{le-div, div_below, pow_pos, pow-add, leading_top}
 use Rattle.std.specs.Int.Count.{count_leading_zeros}
 use Rattle.std.proofs.lemmas.Int.{ints}

@@ -1,10 +1,10 @@
 -- The time of a page: it grows with the TSC, and keeps near the exact time.
-use Rattle.std.proofs.Common.{◌≡◌, ℕ, ℤ, pos, negsuc, zero, suc, ◌+◌, ◌-◌, ◌*◌, ◌/◌, ◌%◌, ◌^◌, ◌<◌, ◌≤◌, refl, sym, ap, subst, ◌∙◌, arith}
+use Rattle.std.proofs.Common.{◌≡◌, ℕ, ℤ, pos, negsuc, zero, suc, ◌+◌, ◌-◌, ◌*◌, ◌/◌, ◌%◌, ◌^◌, ◌<◌, ◌≤◌, refl, ap, ◌∙◌, arith}
 use Rattle.std.proofs.Math.Nat.{div-lt_iff_lt-mul, div-mul-le_self, div-zero, lt-div-mul-add, mod-eq_of_lt, mul-le-mul_left, mul-le-mul_right, zero-div}
 use Rattle.std.proofs.lemmas.Nat.{le-div, pow_pos, pow-add}
 use Rattle.std.proofs.lemmas.Bool.{lt-ltb}
 use Rattle.pvclock_page.specs.declared.page.Page.{Page}
-use Rattle.pvclock_page.specs.Scale.{mul_at, IsScale}
+use Rattle.pvclock_page.specs.Scale.{IsScale}
 use Rattle.pvclock_page.specs.Reading.{ticks_since, delta_of, shifted, elapsed_of, whole_reading, reading_of, IsNear}
 
 -- a greater number has no smaller quotient

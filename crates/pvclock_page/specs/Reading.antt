@@ -1,5 +1,5 @@
 -- The time that a page gives at a TSC: Linux, msr.rst, "MSR_KVM_SYSTEM_TIME_NEW".
-use Rattle.std.specs.Prelude.{◌≡◌, ℕ, ℤ, pos, negsuc, ◌+◌, ◌-◌, ◌*◌, ◌/◌, ◌%◌, ◌^◌, ◌<◌, ◌≤◌, nat_lt, if◌then◌else◌}
+use Rattle.std.specs.Prelude.{ℕ, ℤ, pos, negsuc, ◌+◌, ◌-◌, ◌*◌, ◌/◌, ◌%◌, ◌^◌, ◌<◌, ◌≤◌, nat_lt, if◌then◌else◌}
 use Rattle.pvclock_page.specs.declared.page.Page.{Page}
 
 -- the ticks from a timestamp to a TSC, modulo 2^64; a TSC that lies behind, by up to 2^63, counts none

@@ -3,7 +3,7 @@ use Rattle.std.specs.Prelude.{ℕ, ◌+◌, ◌-◌, ◌*◌, ◌/◌, ◌%◌, 
 use Rattle.tsc_scale.specs.declared.Tsc.{Tsc}
 
 -- the TSC at count h of the host's counter: Intel's manual, volume 3, "use TSC scaling"
-abbrev pub tsc_at : Tsc → ℕ → ℕ → ℕ
+unfoldable pub tsc_at : Tsc → ℕ → ℕ → ℕ
 tsc_at tsc h ratio = (h * ratio / 2 ^ 48 + tsc.offset) % 2 ^ 64
 
 -- how far one number lies above another

@@ -47,6 +47,7 @@ impl Tsc {
     ghost use Rattle.tsc_scale.specs.Tsc.{tsc_at, moved_by, difference};
 
     /// The TSC at count `h` of the host's counter, modulo 2^64.
+    #[tactic(auto, unfolding(crate::specs::Tsc::tsc_at))]
     pub fn read(&self, h: u64, ratio: u64) -> u64
         ensures { result ≡ tsc_at self.now h ratio }
     {
@@ -54,6 +55,7 @@ impl Tsc {
     }
 
     /// Sets the TSC to `v` at count `h` of the host's counter; TSC_ADJUST moves with it.
+    #[tactic(auto, unfolding(crate::specs::Tsc::tsc_at))]
     pub fn write_tsc(&mut self, h: u64, ratio: u64, v: u64)
         ensures moved { self.new ≡ moved_by (difference v (tsc_at self.old h ratio)) self.old }
         ensures written { tsc_at self.new h ratio ≡ v }

@@ -1,6 +1,6 @@
 -- Each field reads as it was written.
-use Rattle.std.proofs.Common.{rules, ◌≡◌, ℕ, List, sym, subst, arith}
-use Rattle.pvclock_page.specs.Guest.{guest_bytes, IsGuestPage}
+use Rattle.std.proofs.Common.{rules, ℕ, List, sym, subst, arith}
+use Rattle.pvclock_page.specs.Guest.{IsGuestPage}
 use Rattle.pvclock_page.proofs.Fields.{IsGuestPage-guest_bytes}
 use Rattle.pvclock_page.proofs.guest.page_bytes.Goals as goal
 

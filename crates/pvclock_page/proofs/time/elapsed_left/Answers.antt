@@ -1,5 +1,5 @@
 -- A shift to the left, behind the product.
-use Rattle.std.proofs.Common.{◌≡◌, ℕ, ◌%◌, ◌^◌, ◌≤◌, ap, ◌∙◌, arith}
+use Rattle.std.proofs.Common.{ℕ, ◌%◌, ◌^◌, ◌≤◌, ap, ◌∙◌, arith}
 use Rattle.std.proofs.Math.Pow.{mod-mod-pow}
 use Rattle.pvclock_page.proofs.Shifts.{left_short, left_long}
 use Rattle.pvclock_page.proofs.time.elapsed_left.Goals as goal

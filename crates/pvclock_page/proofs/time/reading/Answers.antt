@@ -1,6 +1,6 @@
 -- It grows with the TSC, and keeps near the exact time.
-use Rattle.std.proofs.Common.{rules, ◌≡◌, ℕ, ◌+◌, ◌-◌, ◌%◌, ◌^◌, ◌≤◌, ◌<◌, sym, subst, arith}
-use Rattle.pvclock_page.specs.Reading.{delta_of, elapsed_of, whole_reading, reading_of, IsNear}
+use Rattle.std.proofs.Common.{rules, arith}
+use Rattle.pvclock_page.specs.Reading.{delta_of, reading_of}
 use Rattle.pvclock_page.proofs.Times.{reading_of-mono, IsNear-elapsed_of, elapsed-whole, reading_of-zero}
 use Rattle.pvclock_page.proofs.time.reading.Goals as goal
 
