@@ -1,9 +1,9 @@
 //! Pages, and what a monitor answers where it reads one.
 
-/// The flag that says that no processor's TSC differs from another's (`PVCLOCK_TSC_STABLE_BIT`).
+/// The flag that says that times taken on several processors never fall (`PVCLOCK_TSC_STABLE_BIT`).
 pub const TSC_STABLE: u8 = 1;
 
-/// The flag that says that the guest was stopped before the page was published (`PVCLOCK_GUEST_STOPPED`).
+/// The flag that says that the guest was stopped (`PVCLOCK_GUEST_STOPPED`).
 pub const GUEST_STOPPED: u8 = 2;
 
 /// The page of one processor.
