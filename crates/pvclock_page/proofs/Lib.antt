@@ -1,0 +1,5 @@
+pub mod Scales
+pub mod Shifts
+pub mod Times
+pub mod Fields
+mod Rows

@@ -1,0 +1,4 @@
+pub mod Scale
+pub mod Reading
+pub mod Words
+pub mod Guest

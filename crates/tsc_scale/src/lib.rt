@@ -1,0 +1,125 @@
+//! A guest's time stamp counter (TSC), out of the host's counter.
+//!
+//! The guest's TSC is the host's counter times a ratio, which is a fixed-point number of 48 bits behind the
+//! point, plus an offset: the form that VMX gives it ("TSC multiplier" and "TSC offset" of Intel's Software
+//! Developer's Manual, volume 3; Linux's document on KVM timekeeping, "TSC virtualization - VMX"). A guest
+//! sets its TSC by one of two registers, MSR 10h, the TSC itself, and MSR 3Bh, TSC_ADJUST. A write to
+//! either moves the other by the same amount (the manual's "Time-Stamp Counter Adjustment").
+//!
+//! ```text
+//! let ratio = ratio(2_000_000, 1_000_000);      // a guest of 2 GHz on a host of 1 GHz
+//! let mut tsc = Tsc { offset: 0, adjust: 0 };
+//! tsc.read(1_000, ratio) == 2_000
+//! tsc.write_tsc(1_000, ratio, 5_000);
+//! tsc.read(1_000, ratio) == 5_000
+//! tsc.adjust == 3_000
+//! ```
+#![tactic(auto)]
+
+ghost use Rattle.std.specs.Prelude.{◌≡◌, ℕ, ◌+◌, ◌*◌, ◌/◌, ◌%◌, ◌^◌, ◌≤◌};
+ghost use Rattle.tsc_scale.specs.Ratio.{ratio_of};
+
+/// How many bits of a ratio stand behind the point.
+const FRACTION_BITS: u32 = 48;
+
+/// The ratio of a guest's rate to its host's, rounded down, with 48 bits behind the point. Each rate is
+/// 100,000 to 10,000,000 kHz (this project's own range).
+pub fn ratio(guest_khz: u64, host_khz: u64) -> u64
+    requires guest_slow { 100000 ≤ guest_khz }
+    requires guest_fast { guest_khz ≤ 10000000 }
+    requires host_slow { 100000 ≤ host_khz }
+    requires host_fast { host_khz ≤ 10000000 }
+    ensures { result ≡ ratio_of guest_khz host_khz }
+{
+    ((u128::from(guest_khz) << FRACTION_BITS) / u128::from(host_khz)) as u64
+}
+
+/// The two numbers that fix the TSC of one processor of a guest.
+#[derive(Clone, Copy, Debug, PartialEq, Eq)]
+pub struct Tsc {
+    /// What is added to the scaled counter, modulo 2^64.
+    pub offset: u64,
+    /// The register TSC_ADJUST: by how much the guest has moved its TSC, modulo 2^64.
+    pub adjust: u64,
+}
+
+impl Tsc {
+    ghost use Rattle.tsc_scale.specs.Tsc.{tsc_at, moved_by, difference};
+
+    /// The TSC at count `h` of the host's counter, modulo 2^64.
+    #[tactic(auto, unfolding(crate::specs::Tsc::tsc_at))]
+    pub fn read(&self, h: u64, ratio: u64) -> u64
+        ensures { result ≡ tsc_at self.now h ratio }
+    {
+        scaled(h, ratio).wrapping_add(self.offset)
+    }
+
+    /// Sets the TSC to `v` at count `h` of the host's counter; TSC_ADJUST moves with it.
+    #[tactic(auto, unfolding(crate::specs::Tsc::tsc_at))]
+    pub fn write_tsc(&mut self, h: u64, ratio: u64, v: u64)
+        ensures moved { self.new ≡ moved_by (difference v (tsc_at self.old h ratio)) self.old }
+        ensures written { tsc_at self.new h ratio ≡ v }
+    {
+        let distance = v.wrapping_sub(self.read(h, ratio));
+        self.move_by(distance);
+    }
+
+    /// Sets TSC_ADJUST to `v`; the TSC moves with it.
+    pub fn write_adjust(&mut self, v: u64)
+        ensures moved { self.new ≡ moved_by (difference v self.old.adjust) self.old }
+        ensures written { self.new.adjust ≡ v }
+    {
+        let distance = v.wrapping_sub(self.adjust);
+        self.move_by(distance);
+    }
+
+    /// Moves the TSC and TSC_ADJUST on by `distance`.
+    fn move_by(&mut self, distance: u64)
+        ensures { self.new ≡ moved_by distance self.old }
+    {
+        self.offset = self.offset.wrapping_add(distance);
+        self.adjust = self.adjust.wrapping_add(distance);
+    }
+}
+
+/// The host's counter in counts of the guest, modulo 2^64.
+fn scaled(h: u64, ratio: u64) -> u64
+    ensures { result ≡ h * ratio / 2 ^ 48 % 2 ^ 64 }
+{
+    let counts = (u128::from(h) * u128::from(ratio)) >> FRACTION_BITS;
+    (counts % (1 << u64::BITS)) as u64
+}
+
+#[cfg(test)]
+mod tests {
+    use super::*;
+
+    #[test]
+    fn a_write_to_either_register_moves_both(rt: HostRuntime) {
+        let even = ratio(1_000_000, 1_000_000);
+        let mut tsc = Tsc {
+            offset: 0,
+            adjust: 0,
+        };
+        tsc.write_tsc(1_000, even, 0);
+        assert_eq!(rt; tsc.read(1_500, even), 0x1f4);
+        assert_eq!(rt; tsc.adjust, 0xffff_ffff_ffff_fc18);
+        tsc.write_adjust(0);
+        assert_eq!(rt; tsc.read(1_500, even), 0x5dc);
+    }
+
+    #[test]
+    fn ratios_at_both_ends_of_the_rates(rt: HostRuntime) {
+        let tsc = Tsc {
+            offset: 0,
+            adjust: 0,
+        };
+        let fastest = ratio(10_000_000, 100_000);
+        assert_eq!(rt; fastest, 0x64_0000_0000_0000);
+        assert_eq!(rt; tsc.read(u64::MAX, fastest), u64::MAX - 99);
+        let slowest = ratio(100_000, 10_000_000);
+        assert_eq!(rt; slowest, 2_814_749_767_106);
+        assert_eq!(rt; tsc.read(200, slowest), 1);
+        assert_eq!(rt; tsc.read(300, ratio(1_000_000, 3_000_000)), 99);
+    }
+}
