@@ -22,18 +22,19 @@ pub struct Edge {
 /// A list of at most 24 edges, in the order in which they came. It lies where it is held and takes no memory.
 #[derive(Debug, Drop, PartialEq, Eq)]
 pub struct EdgeList {
-    edges: ArrayVec<Edge, 24>,
+    edges: ArrayVec<Edge, PLACES>,
 }
 
 impl Model for EdgeList {
     ghost use Rattle.std.specs.Prelude.{◌≤◌, List, length};
     ghost use Rattle.irq_edges.specs.declared.edges.Edge.{Edge};
+    ghost use Rattle.irq_edges.specs.declared.edges.TheConstants.{PLACES};
 
     ghost Value = { List Edge };
 
     ghost view = { λ l. l.edges.items };
 
-    ghost invariant = { λ l. length l.edges.items ≤ 24 };
+    ghost invariant = { λ l. length l.edges.items ≤ PLACES };
 
     ghost inverse = { λ es. record { edges = record { items = es } } };
 }

@@ -21,7 +21,7 @@ mod edges;
 mod lines;
 mod rises;
 
-pub use edges::{Edge, EdgeList};
+pub use edges::{Edge, EdgeList, PLACES};
 pub use lines::{LINE_NUMBERS, Lines, changes};
 pub use rises::{emit, lines_at, next_rise};
 
