@@ -1,0 +1,5 @@
+pub mod EdgesOf
+pub mod UpFrom
+pub mod NextRise
+pub mod RisesOf
+mod Rows

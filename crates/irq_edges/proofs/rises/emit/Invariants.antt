@@ -1,0 +1,15 @@
+use Rattle.std.proofs.Common.{◌≡◌, ◌+◌, ◌-◌, ◌≤◌, ◌++◌, length}
+use Rattle.irq_edges.specs.Changes.{line_numbers}
+use Rattle.irq_edges.specs.Levels.{down_at, rises_of}
+use Rattle.irq_edges.proofs.rises.emit.Given as goal
+
+abbrev pub invariant-loop-rise : goal.invariant-loop-rise
+invariant-loop-rise l = record {
+  forward : l.from ≤ l.at;
+  inside : l.at ≤ l.to;
+  edges : l.into ≡ l.initial.into ++ rises_of line_numbers l.times l.from (l.at - l.from);
+  room : length l.into + down_at l.at l.times ≤ length l.initial.into + 6;
+}
+
+abbrev pub decreases-loop-rise : goal.decreases-loop-rise
+decreases-loop-rise l = l.to - l.at

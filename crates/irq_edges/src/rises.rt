@@ -1,0 +1,67 @@
+//! Lines that go up once at most in a stretch, each given by the nanosecond from which on it is up.
+ghost use Rattle.std.specs.Prelude.{◌≡◌, ◌+◌, ◌-◌, ◌≤◌, ◌++◌, length};
+ghost use Rattle.irq_edges.specs.declared.edges.TheConstants.{PLACES};
+ghost use Rattle.irq_edges.specs.Changes.{line_numbers};
+ghost use Rattle.irq_edges.specs.Levels.{is_up_at, levels_at, rises_of, earlier_rise, IsNextRise};
+
+use crate::edges::EdgeList;
+use crate::lines::{LINE_NUMBERS, Lines, append_changes};
+
+/// The levels of the six lines at time `t`.
+pub fn lines_at(times: &[Option<u64>; 6], t: u64) -> Lines
+    ensures { result.levels ≡ levels_at t times.now }
+{
+    let mut levels = [false; 6];
+    for place in 0..6 {
+        levels[place] = is_up_at(times[place], t);
+    }
+    Lines { levels }
+}
+
+/// Whether a line that is up from then on is up at time `t`.
+fn is_up_at(from: Option<u64>, t: u64) -> bool
+    ensures { result ≡ is_up_at t from }
+{
+    match from {
+        Some(rise) => rise <= t,
+        None => false,
+    }
+}
+
+/// The first time after `at` and up to `to` at which one of the lines goes up, if there is one.
+pub fn next_rise(times: &[Option<u64>], at: u64, to: u64) -> Option<u64>
+    ensures { IsNextRise times.now at to result }
+{
+    let mut next = None;
+    for time in times {
+        next = earlier_rise(next, *time, at, to);
+    }
+    next
+}
+
+/// The earlier of the first rise so far and a line's rise, where that falls after `at` and up to `to`.
+fn earlier_rise(next: Option<u64>, time: Option<u64>, at: u64, to: u64) -> Option<u64>
+    ensures { result ≡ earlier_rise at to next time }
+{
+    match time {
+        Some(rise) if at < rise && rise <= next.unwrap_or(to) => Some(rise),
+        _ => next,
+    }
+}
+
+/// Appends the edges of the nanoseconds after `from` and up to `to`, in order of time and, at one time, of line
+/// numbers. They are six at most, since no line falls; six places must be free.
+pub fn emit(times: &[Option<u64>; 6], from: u64, to: u64, into: &mut EdgeList)
+    requires forward { from ≤ to }
+    requires room { length into.old + 6 ≤ PLACES }
+    ensures appended { into.new ≡ into.old ++ rises_of line_numbers times.now from (to - from) }
+    ensures few { length into.new ≤ length into.old + 6 }
+{
+    let mut at = from;
+    while let Some(rise) = next_rise(times, at, to) {
+        let before = lines_at(times, at);
+        let after = lines_at(times, rise);
+        append_changes(&LINE_NUMBERS, &before.levels, &after.levels, rise, into);
+        at = rise;
+    }
+}

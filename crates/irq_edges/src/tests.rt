@@ -1,0 +1,59 @@
+use crate::*;
+
+fn edge(at: u64, line: u8, up: bool) -> Edge {
+    Edge { at, line, up }
+}
+
+#[test]
+fn changes_in_order_of_line_numbers(rt: HostRuntime) {
+    let before = Lines {
+        levels: [false, true, false, true, true, false],
+    };
+    let after = Lines {
+        levels: [true, false, false, true, false, true],
+    };
+    let mut edges = EdgeList::new();
+    assert!(rt; edges.is_empty());
+    edges.push(edge(1, 20, false));
+    changes(before, after, 4191, &mut edges);
+    let wanted = [
+        edge(1, 20, false),
+        edge(4191, 0, true),
+        edge(4191, 8, false),
+        edge(4191, 22, false),
+        edge(4191, 23, true),
+    ];
+    assert_eq!(rt; edges.as_slice(), wanted.as_slice());
+    assert_eq!(rt; edges.len(), 5);
+    assert_eq!(rt; edges.copy(), edges);
+}
+
+#[test]
+fn levels_by_line_number(rt: HostRuntime) {
+    let lines = Lines {
+        levels: [true, false, false, true, false, true],
+    };
+    assert!(rt; lines.level(0));
+    assert!(rt; !lines.level(8));
+    assert!(rt; !lines.level(20));
+    assert!(rt; lines.level(21));
+    assert!(rt; !lines.level(22));
+    assert!(rt; lines.level(23));
+}
+
+/// Two lines that rise at one time, one that rises later, one that is up before, and one that rises behind the end.
+#[test]
+fn rises_of_a_stretch(rt: HostRuntime) {
+    let times = [Some(7), Some(12), None, Some(12), Some(15), Some(99)];
+    assert_eq!(rt; next_rise(&times, 10, 20), Some(12));
+    assert_eq!(rt; next_rise(&times, 12, 15), Some(15));
+    assert_eq!(rt; next_rise(&times, 15, 98), None);
+    assert_eq!(rt;
+        lines_at(&times, 12).levels,
+        [true, true, false, true, false, false]
+    );
+    let mut edges = EdgeList::new();
+    emit(&times, 10, 20, &mut edges);
+    let wanted = [edge(12, 8, true), edge(12, 21, true), edge(15, 22, true)];
+    assert_eq!(rt; edges.as_slice(), wanted.as_slice());
+}

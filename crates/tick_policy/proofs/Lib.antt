@@ -1,0 +1,4 @@
+pub mod Ticks
+pub mod Stretches
+pub mod Histories
+mod Rows

@@ -1,0 +1,20 @@
+use Rattle.std.proofs.Common.{◌≡◌, ◌+◌, Bool, cond, Some, sym, ap, ◌∙◌}
+use Rattle.irq_edges.specs.Levels.{is_up_at}
+use Rattle.tick_policy.specs.Line.{ticked_times}
+use Rattle.tick_policy.specs.Stretch.{up_from}
+use Rattle.tick_policy.proofs.Stretches.{line_end-is, up_from-is}
+use Rattle.tick_policy.proofs.stretch.run_line.Goals as goal
+
+pub returns-clause-each_nanosecond : goal.returns-clause-each_nanosecond
+returns-clause-each_nanosecond c = λ source slew n length stretch.
+    c.due.ensures ∙ ap (ticked_times c.args.ticks) c.catch_up_first-rose.ensures.state
+    ∙ line_end-is source slew c.args.from c.args.to n c.args.point c.args.ticks c.args.first c.args.line.now length stretch
+
+pub returns-clause-each_level : goal.returns-clause-each_level
+returns-clause-each_level c = λ source slew n length stretch j h.
+    let start : c.start_of.result ≡ up_from c.args.from c.args.point c.args.to c.args.first c.args.line.now =
+    c.start_of.ensures
+    ∙ ap (λ (b : Bool). cond b (Some c.args.from) (cond c.catch_up_first-rose.result (Some c.args.point) c.args.first)) c.is_up-was_up.ensures
+    ∙ ap (λ (b : Bool). cond c.args.line.now.up (Some c.args.from) (cond b (Some c.args.point) c.args.first)) c.catch_up_first-rose.ensures.rose in
+    up_from-is source slew c.args.from c.args.to n c.args.point c.args.ticks c.args.first c.args.line.now length stretch j h
+    ∙ ap (is_up_at (c.args.from + j)) (sym start)

@@ -1,0 +1,4 @@
+pub mod Line
+pub mod Valid
+pub mod Stretch
+pub mod History
