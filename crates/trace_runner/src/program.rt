@@ -12,6 +12,7 @@ use crate::command::{Command, command_of};
 use crate::output::put_all;
 use crate::replay::Replay;
 use crate::status::Status;
+use crate::text::{JOB_NOT_BUILT, MEMORY_FAULT, SOURCE_FAULT, USAGE};
 use board_io::{Failed, Gate, Sink, Source};
 use clk_units::NoMemory;
 use std::alloc::Global;
@@ -21,19 +22,20 @@ use std::thread::Threads;
 /// How many bytes are taken from the source at a time.
 const PIECE: usize = 4096;
 
-/// How the program is called.
-const USAGE: &[u8] = b"usage: clockboard replay|race [--state] | gen|soak KEY RECORDS CPUS\n";
-
-/// The text of a job that isn't built yet.
-const JOB_NOT_BUILT: &[u8] = b"refused 0 notbuilt\n";
-
-/// The text of a fault of the source.
-const SOURCE_FAULT: &[u8] = b"fault source\n";
-
-/// The text of want of memory.
-const MEMORY_FAULT: &[u8] = b"fault memory\n";
-
-/// Runs the program on these words: reads a trace from `source`, and writes what it answers to `sink`.
+/// Runs the program on its words (those behind its name): the word `replay` reads a trace from `source`, and writes
+/// what it answers to `sink`, in pieces as large as the source's.
+///
+/// Each line whose end was taken is answered before more is taken. Nothing is taken behind the piece that ended the
+/// trace: by the line `end`, by a line that isn't built, or by a line of more than 128 bytes.
+///
+/// # Statuses
+///
+/// - `Ok`: the trace was read to `end`.
+/// - `Usage`: the words are no command; the usage is printed, and nothing is taken.
+/// - `NotBuilt`: that line is the first that isn't built, or, with line 0, the job isn't (`race`, `gen`, `soak`).
+/// - `SourceFault`, `SinkFault`: only where that end counted a fault in this call. What was written is then the blocks
+///   of all whole lines given and `fault source`, or a beginning of what would be printed.
+/// - `NoMemory`: memory ran out; what was written is a beginning of what would be printed, and `fault memory`.
 pub fn run<R: Threads + Wait + Sync, S: Source, K: Sink, G: Gate + Sync>(
     _rt: &R,
     alloc: Global,

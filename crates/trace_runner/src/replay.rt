@@ -103,6 +103,7 @@ impl Replay {
         for byte in piece {
             let end = self.take_byte(*byte, out)?;
             if end.is_some() {
+                // Looked at so that its invariant is known: no line end stands in it.
                 let _ = &self.text;
                 return Ok(end);
             }

@@ -6,8 +6,18 @@ ghost use Rattle.trace_runner.specs.Text.{byte_text, rise_text, value_text, repl
 use clk_units::NoMemory;
 use itoa::Buffer;
 
+/// How the program is called.
+pub(crate) const USAGE: &[u8] =
+    b"usage: clockboard replay|race [--state] | gen|soak KEY RECORDS CPUS\n";
+
+/// The text of a job that isn't built yet.
+pub(crate) const JOB_NOT_BUILT: &[u8] = b"refused 0 notbuilt\n";
+
 /// The text of a fault of the source.
 pub(crate) const SOURCE_FAULT: &[u8] = b"fault source\n";
+
+/// The text of want of memory.
+pub(crate) const MEMORY_FAULT: &[u8] = b"fault memory\n";
 
 /// Appends bytes. After an `Err` the text is as it was.
 pub(crate) fn append(out: &mut Vec<u8>, bytes: &[u8]) -> Result<(), NoMemory>

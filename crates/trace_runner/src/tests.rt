@@ -1,0 +1,232 @@
+//! Traces from their bytes to what is printed. The numbers are worked out from the Intel 8254 data sheet and the
+//! clock of 1,193,182 Hz.
+
+ghost use Rattle.std.specs.Prelude.{◌<◌};
+
+use super::*;
+use board_io::{MemSink, MemSource, OpenGate};
+use std::alloc::{AllocError, Global};
+use std::process::Abort;
+use std::sync::Wait;
+use std::test::Fail;
+use std::thread::Threads;
+
+/// Counter 0 in mode 2 with count 4, and what is printed.
+const FIRST_RISE: &[u8] =
+    b"clockboard 1\nbegin\n0 0 out 43 34\n0 0 out 40 04\n0 0 out 40 00\n0 5000 step\n0 5000 in 40\n0 5000 in 40\nend\n";
+
+const FIRST_RISE_TEXT: &[u8] =
+    b"3 1\n4 2\n5 3\nedge 4191 0 up\n6 4\n7 5 04\n8 6 00\nfinal 5000 6 0 0\n";
+
+/// Which calls of the source and the sink fail, counted from 1, and how many bytes each call moves at most.
+#[derive(Clone, Copy)]
+struct Ends<'a> {
+    source_fails: &'a [u64],
+    source_piece: usize,
+    sink_fails: &'a [u64],
+    sink_piece: usize,
+}
+
+/// Ends that don't fail.
+const WELL: Ends<'static> = Ends {
+    source_fails: &[],
+    source_piece: 4096,
+    sink_fails: &[],
+    sink_piece: 4096,
+};
+
+/// A vector of the strings.
+fn strings(alloc: Global, words: &[&str]) -> Result<Vec<String>, AllocError> {
+    let mut strings = Vec::new(alloc);
+    for word in words {
+        strings.push(String::from_str(alloc, word)?)?;
+    }
+    Ok(strings)
+}
+
+/// Runs the program, and compares how it ends and what it prints.
+fn expect<R: Threads + Wait + Sync + Abort + Alloc<A = Global>>(
+    rt: &R,
+    words: &[&str],
+    trace: &[u8],
+    ends: &Ends,
+    status: Status,
+    text: &[u8],
+) -> Result<(), AllocError>
+    requires source_piece { 0 < ends.now.source_piece }
+    requires sink_piece { 0 < ends.now.sink_piece }
+{
+    let alloc = rt.alloc();
+    let words = strings(alloc, words)?;
+    let bytes = Vec::from_slice(alloc, trace)?;
+    let source_fails = Vec::from_slice(alloc, ends.source_fails)?;
+    let sink_fails = Vec::from_slice(alloc, ends.sink_fails)?;
+    let mut source = MemSource::new(bytes, source_fails, ends.source_piece);
+    let mut sink = MemSink::new(alloc, sink_fails, ends.sink_piece);
+    let got = run(rt, alloc, &words, &mut source, &mut sink, &OpenGate);
+    assert_eq!(rt; got, status);
+    assert!(rt; sink.bytes() == text);
+    Ok(())
+}
+
+#[test]
+fn a_trace_in_pieces_of_any_size(rt: HostRuntime) -> Result<(), Fail> {
+    for source_piece in [1, 7, 4096] {
+        let ends = Ends {
+            source_piece,
+            ..WELL
+        };
+        expect(
+            &rt,
+            &["replay"],
+            FIRST_RISE,
+            &ends,
+            Status::Ok,
+            FIRST_RISE_TEXT,
+        )?;
+    }
+    Ok(())
+}
+
+#[test]
+fn the_timer_behind_its_ports(rt: HostRuntime) -> Result<(), Fail> {
+    let traces: [(&[u8], &[u8]); 5] = [
+        // Mode 0 with count 1.
+        (
+            b"clockboard 1\nbegin\n0 0 out 43 10\n0 0 out 40 01\n0 2000 step\nend\n",
+            b"3 1\n4 2\nedge 1677 0 up\n5 3\nfinal 2000 3 0 0\n",
+        ),
+        // Mode 3 with the odd count 5.
+        (
+            b"clockboard 1\nbegin\n0 0 out 43 36\n0 0 out 40 05\n0 0 out 40 00\n0 10000 step\n0 10000 in 40\nend\n",
+            b"3 1\n4 2\n5 3\nedge 5029 0 up\n6 4\n7 5 04\nfinal 10000 5 0 0\n",
+        ),
+        // Port 61h: the gate and the output of counter 2.
+        (
+            b"clockboard 1\nbegin\n0 0 out 61 01\n0 0 out 43 b4\n0 0 out 42 04\n0 0 out 42 00\n0 2000 out 42 06\n0 2000 out 42 00\n0 3500 in 61\n0 3500 out 61 00\n0 3500 in 61\n0 4500 out 61 01\n0 6000 in 42\n0 6000 in 42\n0 6000 in 61\nend\n",
+            b"3 1\n4 2\n5 3\n6 4\n7 5\n8 6\n9 7 01\n10 8\n11 9 20\n12 10\n13 11 05\n14 12 00\n15 13 21\nfinal 6000 13 0 -\n",
+        ),
+        // Count 0 is the greatest count, in binary and in BCD.
+        (
+            b"clockboard 1\nbegin\n0 0 out 43 34\n0 0 out 40 00\n0 0 out 40 00\n0 2000 in 40\n0 2000 in 40\nend\n",
+            b"3 1\n4 2\n5 3\n6 4 ff\n7 5 ff\nfinal 2000 5 0 -\n",
+        ),
+        (
+            b"clockboard 1\nbegin\n0 0 out 43 35\n0 0 out 40 00\n0 0 out 40 00\n0 2000 in 40\n0 2000 in 40\nend\n",
+            b"3 1\n4 2\n5 3\n6 4 99\n7 5 99\nfinal 2000 5 0 -\n",
+        ),
+    ];
+    for (trace, text) in traces {
+        expect(&rt, &["replay"], trace, &WELL, Status::Ok, text)?;
+    }
+    Ok(())
+}
+
+#[test]
+fn the_first_line_outside_ends_a_trace(rt: HostRuntime) -> Result<(), Fail> {
+    let traces: [(&[u8], u64, &[u8]); 6] = [
+        (b"", 1, b"refused 1 notbuilt\n"),
+        (
+            b"clockboard 1\nbegin\n0 10 step",
+            4,
+            b"3 1\nrefused 4 notbuilt\n",
+        ),
+        (
+            b"clockboard 1\nbegin\n0 10 step\n0 9 step\nend\n",
+            4,
+            b"3 1\nrefused 4 notbuilt\n",
+        ),
+        (
+            b"clockboard 1\nbegin\n1 0 step\nend\n",
+            3,
+            b"refused 3 notbuilt\n",
+        ),
+        (
+            b"clockboard 1\nbegin\n0 00 step\nend\n",
+            3,
+            b"refused 3 notbuilt\n",
+        ),
+        (
+            b"clockboard 1\nbegin\n0 576460752303423488 step\nend\n",
+            3,
+            b"refused 3 notbuilt\n",
+        ),
+    ];
+    for (trace, line, text) in traces {
+        expect(
+            &rt,
+            &["replay"],
+            trace,
+            &WELL,
+            Status::NotBuilt { line },
+            text,
+        )?;
+    }
+    let long = [b'0'; 129];
+    let line = Status::NotBuilt { line: 1 };
+    expect(
+        &rt,
+        &["replay"],
+        &long,
+        &WELL,
+        line,
+        b"refused 1 notbuilt\n",
+    )?;
+    Ok(())
+}
+
+#[test]
+fn words(rt: HostRuntime) -> Result<(), Fail> {
+    let usage = b"usage: clockboard replay|race [--state] | gen|soak KEY RECORDS CPUS\n";
+    let unknown: [&[&str]; 4] = [&[], &["replay", "5"], &["Replay"], &["replay", "--state"]];
+    for words in unknown {
+        expect(&rt, words, FIRST_RISE, &WELL, Status::Usage, usage)?;
+    }
+    let later: [&[&str]; 3] = [&["race"], &["gen", "1", "1"], &["soak"]];
+    for words in later {
+        let status = Status::NotBuilt { line: 0 };
+        expect(
+            &rt,
+            words,
+            FIRST_RISE,
+            &WELL,
+            status,
+            b"refused 0 notbuilt\n",
+        )?;
+    }
+    Ok(())
+}
+
+#[test]
+fn a_source_that_fails(rt: HostRuntime) -> Result<(), Fail> {
+    // The end of line 3 is byte 33, and the end of the last line byte 103.
+    let runs: [(&[u64], Status, &[u8]); 4] = [
+        (&[1], Status::SourceFault, b"fault source\n"),
+        (&[33], Status::SourceFault, b"fault source\n"),
+        (&[34], Status::SourceFault, b"3 1\nfault source\n"),
+        (&[104], Status::Ok, FIRST_RISE_TEXT),
+    ];
+    for (source_fails, status, text) in runs {
+        let ends = Ends {
+            source_fails,
+            source_piece: 1,
+            ..WELL
+        };
+        expect(&rt, &["replay"], FIRST_RISE, &ends, status, text)?;
+    }
+    Ok(())
+}
+
+#[test]
+fn a_sink_that_fails(rt: HostRuntime) -> Result<(), Fail> {
+    let runs: [(&[u64], &[u8]); 2] = [(&[1], b""), (&[5], b"3 1\n")];
+    for (sink_fails, text) in runs {
+        let ends = Ends {
+            sink_fails,
+            sink_piece: 1,
+            ..WELL
+        };
+        expect(&rt, &["replay"], FIRST_RISE, &ends, Status::SinkFault, text)?;
+    }
+    Ok(())
+}
