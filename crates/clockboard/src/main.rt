@@ -6,7 +6,7 @@ use std::env;
 use std::process::ExitCode;
 use trace_runner::run;
 
-/// The exit status where the system doesn't give the program's words as text.
+/// The exit status where the system doesn't give the program's words as text, for whatever cause.
 const WORDS_UNKNOWN: u8 = 11;
 
 fn main(rt: HostRuntime) -> ExitCode {

@@ -28,16 +28,16 @@ abbrev pub rise_between : ℕ → Board → Board → Option ℕ
 rise_between t before after = if not before.line_up && after.line_up then Some t else None
 
 -- a board, and when line 0 rose, if it did
-pub record Ran : Type 0 where
+pub record Reached : Type 0 where
   pub board : Board
   pub rise : Option ℕ
 
 -- one nanosecond more
-unfoldable pub onward : ℕ → Ran → Ran
+unfoldable pub onward : ℕ → Reached → Reached
 onward t r = record { board = at_nanosecond t r.board; rise = first_of r.rise (rise_between t r.board (at_nanosecond t r.board)) }
 
 -- the n nanoseconds behind the board's time
-unfoldable pub run : ℕ → Board → Ran
+unfoldable pub run : ℕ → Board → Reached
 run zero b = record { board = b; rise = None }
 run (suc n) b = onward (b.time + suc n) (run n b)
 
@@ -71,7 +71,7 @@ abbrev pub counted : Board → Board
 counted b = record b { accesses = b.accesses + 1 }
 
 -- a job at the board's time, behind a run
-unfoldable pub done_behind : Job → Ran → Done
+unfoldable pub done_behind : Job → Reached → Done
 done_behind job r = record {
   board = counted (done job r.board);
   rise = first_of r.rise (rise_between r.board.time r.board (done job r.board));

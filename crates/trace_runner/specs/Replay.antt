@@ -22,7 +22,7 @@ pub data Answer : Type 0 where
   Goes : List ℕ → Stage → Board → Answer
   Ends : Ran → Answer
 
--- a line that isn't built ends the trace
+-- a line that isn't built ends the trace; so does one that is wrong, until its own reasons are built
 abbrev pub refused : ℕ → Ran
 refused line = record { text = refused_text line; status = NotBuilt line }
 

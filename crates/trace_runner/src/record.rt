@@ -3,9 +3,7 @@ ghost use Rattle.trace_runner.specs.Ports.{is_pit_port, HasPort};
 ghost use Rattle.trace_runner.specs.Records.{record_in, at_last, job_in, timed_job, in_job, out_job, port_in};
 
 use crate::tokens::{Words, byte_in, decimal_in, hex_in};
-
-/// Times that a trace may name are below 2^59.
-const END_NS: u64 = 576_460_752_303_423_488;
+use clk_units::RANGE_NS;
 
 /// What a record does.
 #[derive(Clone, Copy, Debug, PartialEq, Eq)]
@@ -45,7 +43,7 @@ fn timed_job(words: &mut Words<'_>) -> Option<Record>
     ensures in_range { IfSome result (λ r. r.counter < 576460752303423488) }
 {
     let counter = decimal_in(words.next()?)?;
-    if counter >= END_NS {
+    if counter >= RANGE_NS {
         return None;
     }
     let job = job_in(words)?;
