@@ -1,5 +1,5 @@
 -- The register map of the HPET (IA-PC HPET specification 1.0a, section 2.3), and accesses to it.
-use Rattle.std.specs.Prelude.{◌≡◌, ℕ, ◌+◌, ◌-◌, ◌*◌, ◌/◌, ◌%◌, ◌^◌, ◌<◌, Bool, true, ◌&&◌, ◌||◌, ◌==◌, nat_lt, nat_le, if◌then◌else◌, slice_set, bit_and}
+use Rattle.std.specs.Prelude.{◌≡◌, ℕ, ◌+◌, ◌-◌, ◌*◌, ◌/◌, ◌%◌, ◌^◌, ◌<◌, Bool, true, false, ◌&&◌, ◌||◌, ◌==◌, nat_lt, nat_le, if◌then◌else◌, slice_set, bit_and}
 use Rattle.hpet_counter.specs.Counter.{written, is_register_width}
 use Rattle.hpet_comparator.specs.Timer.{bit_of, config_register, config_written, comparator_written}
 use Rattle.hpet_registers.specs.declared.parts.HpetParts.{HpetParts}
@@ -64,6 +64,13 @@ register_written (TimerConfig k) width high v h = record h {
 register_written (TimerComparator k) width high v h = record h { timer = slice_set h.timer k (comparator_written width high v (timer_at k h)) }
 register_written (TimerMessage k) width high v h = record h { message_word = slice_set h.message_word k (written width high v (message_word_at k h)) }
 register_written Reserved width high v h = h
+
+-- a register of which a whole write is the writes of its low and then of its high half. A timer's configuration is
+-- one: its high half is fixed, and VAL_SET stays as the low half wrote it. A comparator isn't: the first of its
+-- halves clears VAL_SET, so that the second may leave the comparator (comparator_written)
+abbrev pub is_plain : Register → Bool
+is_plain (TimerComparator k) = false
+is_plain _ = true
 
 -- an access that reaches a register: 4 or 8 bytes, aligned to its width (2.4; others are own)
 abbrev pub is_effective : ℕ → ℕ → Bool

@@ -1,6 +1,6 @@
 //! The HPET: its registers, its pulses, and what its outputs are made of.
 
-ghost use Rattle.std.specs.Prelude.{◌≡◌, ◌≢◌, ℕ, ◌-◌, ◌*◌, ◌%◌, ◌^◌, ◌<◌, ◌≤◌, ◌↔◌, ◌⊎◌, true, IsTrue, IsSome, IfSome, ◌&&◌, ◌||◌, nat_lt, if◌then◌else◌};
+ghost use Rattle.std.specs.Prelude.{◌≡◌, ◌≢◌, ℕ, ◌+◌, ◌-◌, ◌*◌, ◌/◌, ◌%◌, ◌^◌, ◌<◌, ◌≤◌, ◌↔◌, ◌⊎◌, true, IsTrue, IsSome, IfSome, ◌&&◌, ◌||◌, nat_lt, if◌then◌else◌};
 ghost use Rattle.clk_units.specs.Events.{IsFirst};
 ghost use Rattle.hpet_comparator.specs.Timer.{is_level, bit_of, spacing_of, matches_in};
 ghost use Rattle.hpet_registers.specs.Parts.{
@@ -12,7 +12,7 @@ ghost use Rattle.hpet_registers.specs.Parts.{
   level_of,
   message_of,
 };
-ghost use Rattle.hpet_registers.specs.Register.{is_access_width, hpet_read, hpet_written};
+ghost use Rattle.hpet_registers.specs.Register.{is_access_width, is_plain, register_at, hpet_read, hpet_written};
 ghost use Rattle.hpet_registers.specs.ThreeTimers.{three_timer_read};
 ghost use Rattle.hpet_registers.specs.Pulses.{
   hpet_pulsed_times,
@@ -113,6 +113,10 @@ impl Hpet {
         ensures running { offset - offset % 8 ≢ 16 → self.new.config ≡ self.old.config }
         // No write makes a match: it sets no status bit.
         ensures quiet { self.new.status ≤ self.old.status }
+        // A whole write is the writes of its halves, low half first, but for a comparator.
+        ensures halves { width ≡ 8 → offset % 8 ≡ 0
+            → is_plain (register_at self.old.timers self.old.messages offset) ≡ true
+            → self.new ≡ hpet_written (offset + 4) 4 (v / 2 ^ 32) (hpet_written offset 4 (v % 2 ^ 32) self.old) }
     {
         if register::is_effective(offset, width) {
             let register = register::register_at(

@@ -1,7 +1,9 @@
-use Rattle.std.proofs.Common.{◌≤◌, sym, subst}
+use Rattle.std.proofs.Common.{rules, ◌≡◌, ℕ, ◌≤◌, ap, sym, subst, ◌∙◌}
 use Rattle.hpet_registers.specs.declared.parts.HpetParts.{HpetParts}
+use Rattle.hpet_registers.specs.Register.{hpet_written}
 use Rattle.hpet_registers.proofs.Conditions.{IsHpet-register_written}
 use Rattle.hpet_registers.proofs.Laws.{status-register_written}
+use Rattle.hpet_registers.proofs.Halves.{hpet_written-halves}
 use Rattle.hpet_registers.proofs.hpet.Hpet.write.Goals as goal
 
 pub invariant_of-self : goal.invariant_of-self
@@ -9,3 +11,8 @@ invariant_of-self c = rw c.written-self-inside.ensures (IsHpet-register_written 
 
 pub returns-then-is_effective-clause-quiet : goal.returns-then-is_effective-clause-quiet
 returns-then-is_effective-clause-quiet c = rw (← c.self.view_is) (subst (λ (h : HpetParts). h.status ≤ c.self.inside.parts.status) (sym c.written-self-inside.ensures) (status-register_written c.register_at-register.result c.args.width _ c.args.v c.self.inside.parts))
+
+pub returns-then-is_effective-clause-halves : goal.returns-then-is_effective-clause-halves
+returns-then-is_effective-clause-halves c = rw (← c.self.view_is) (λ whole aligned plain.
+    let value : c.written-self-inside.result ≡ hpet_written c.args.offset c.args.width c.args.v c.self.inside.parts = search rules in
+    value ∙ (ap (λ (w : ℕ). hpet_written c.args.offset w c.args.v c.self.inside.parts) whole ∙ hpet_written-halves c.args.offset c.args.v c.self.inside.parts aligned plain))
