@@ -1,6 +1,6 @@
 //! The HPET: its registers, its pulses, and what its outputs are made of.
 
-ghost use Rattle.std.specs.Prelude.{◌≡◌, ◌≢◌, ℕ, ◌+◌, ◌-◌, ◌*◌, ◌/◌, ◌%◌, ◌^◌, ◌<◌, ◌≤◌, ◌↔◌, ◌⊎◌, true, IsTrue, IsSome, IfSome, ◌&&◌, ◌||◌, nat_lt, if◌then◌else◌};
+ghost use Rattle.std.specs.Prelude.{bit_and, ◌≡◌, ◌≢◌, ℕ, ◌+◌, ◌-◌, ◌*◌, ◌/◌, ◌%◌, ◌^◌, ◌<◌, ◌≤◌, ◌↔◌, ◌⊎◌, true, IsTrue, IsSome, IfSome, ◌&&◌, ◌||◌, nat_lt, if◌then◌else◌};
 ghost use Rattle.clk_units.specs.Events.{IsFirst};
 ghost use Rattle.hpet_comparator.specs.Timer.{is_level, bit_of, spacing_of, matches_in};
 ghost use Rattle.hpet_registers.specs.Parts.{
@@ -112,7 +112,7 @@ impl Hpet {
         // The configuration's register alone starts and stops the counter.
         ensures running { offset - offset % 8 ≢ 16 → self.new.config ≡ self.old.config }
         // No write makes a match: it sets no status bit.
-        ensures quiet { self.new.status ≤ self.old.status }
+        ensures quiet { bit_and self.new.status self.old.status ≡ self.new.status }
         // A whole write is the writes of its halves, low half first, but for a comparator.
         ensures halves { width ≡ 8 → offset % 8 ≡ 0
             → is_plain (register_at self.old.timers self.old.messages offset) ≡ true

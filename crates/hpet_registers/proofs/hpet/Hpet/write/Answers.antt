@@ -1,4 +1,4 @@
-use Rattle.std.proofs.Common.{rules, ◌≡◌, ℕ, ◌≤◌, ap, sym, subst, ◌∙◌}
+use Rattle.std.proofs.Common.{rules, ◌≡◌, ℕ, bit_and, ap, sym, subst, ◌∙◌}
 use Rattle.hpet_registers.specs.declared.parts.HpetParts.{HpetParts}
 use Rattle.hpet_registers.specs.Register.{hpet_written}
 use Rattle.hpet_registers.proofs.Conditions.{IsHpet-register_written}
@@ -10,7 +10,7 @@ pub invariant_of-self : goal.invariant_of-self
 invariant_of-self c = rw c.written-self-inside.ensures (IsHpet-register_written c.register_at-register.result c.args.width _ c.args.v c.self.inside.parts c.self.invariant c.register_at-register.ensures.range)
 
 pub returns-then-is_effective-clause-quiet : goal.returns-then-is_effective-clause-quiet
-returns-then-is_effective-clause-quiet c = rw (← c.self.view_is) (subst (λ (h : HpetParts). h.status ≤ c.self.inside.parts.status) (sym c.written-self-inside.ensures) (status-register_written c.register_at-register.result c.args.width _ c.args.v c.self.inside.parts))
+returns-then-is_effective-clause-quiet c = rw (← c.self.view_is) (subst (λ (h : HpetParts). bit_and h.status c.self.inside.parts.status ≡ h.status) (sym c.written-self-inside.ensures) (status-register_written c.register_at-register.result c.args.width _ c.args.v c.self.inside.parts))
 
 pub returns-then-is_effective-clause-halves : goal.returns-then-is_effective-clause-halves
 returns-then-is_effective-clause-halves c = rw (← c.self.view_is) (λ whole aligned plain.
