@@ -270,6 +270,9 @@ mod tests {
             let mut timer = Timer::power_on();
             timer.write_config(0x2808);
             timer.write_comparator(8, false, 10);
+            // without VAL_SET the write leaves the comparator, and sets the period
+            assert_eq!(rt; timer.comparator(), 0);
+            assert_eq!(rt; timer.parts().period, 10);
             let matches = timer.pulses(from, n);
             assert_eq!(rt;
                 matches,

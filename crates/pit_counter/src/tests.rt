@@ -1,6 +1,7 @@
 //! Counts and levels worked out by hand from the timing diagrams of the Intel 8254 data sheet, "Mode Definitions".
 
 use super::*;
+use crate::table::{has_risen, pulsed};
 use std::process::Abort;
 
 /// OUT high and low.
@@ -395,40 +396,87 @@ fn the_greatest_count_and_the_least(rt: HostRuntime) {
     }
 }
 
-#[test]
-fn many_pulses_at_once(rt: HostRuntime) {
-    let mut counter = programmed(2, false, 4);
-    let rises = Rises {
-        count: 274_877_906_943,
-        first: Some(5),
+/// The plain program of the definition: one pulse after the other.
+fn pulses_one_by_one(parts: CounterParts, n: u64) -> (CounterParts, Rises) {
+    let mut parts = parts;
+    let mut rises = Rises {
+        count: 0,
+        first: None,
     };
-    assert_eq!(rt;
-        counter.pulses(1_099_511_627_776),
-        rises,
-        "2^40 pulses in mode 2"
-    );
-    for mode in 0..8 {
-        for (bcd, low) in [(false, 1), (true, 4), (false, 5), (true, 0)] {
-            for gates in 0..4 {
-                let mut at_once = programmed(mode, bcd, low);
-                if gates > 0 {
-                    trigger(&mut at_once);
-                }
-                at_once.pulses(gates);
-                at_once.gate(gates < 3);
-                let mut one_by_one = at_once;
-                for n in [2, 0, 7, 4, 30_011] {
-                    at_once.write_byte(low);
-                    one_by_one.write_byte(low);
-                    let mut count = 0u64;
-                    for _ in 0..n {
-                        count = count.saturating_add(one_by_one.pulses(1).count);
-                    }
-                    assert_eq!(rt; at_once.pulses(n).count, count, "mode {mode}");
-                    assert_eq!(rt; at_once, one_by_one, "mode {mode}, {n} pulses");
-                }
-            }
+    for done in 0..n {
+        let next = pulsed(parts);
+        if has_risen(&parts, &next) {
+            rises.count = rises.count.wrapping_add(1);
+            rises.first = rises.first.or(Some(done.wrapping_add(1)));
         }
+        parts = next;
+    }
+    (parts, rises)
+}
+
+/// The next number of a generator with a fixed seed.
+fn next_number(x: u64) -> u64 {
+    x.wrapping_mul(6_364_136_223_846_793_005)
+        .wrapping_add(1_442_695_040_888_963_407)
+}
+
+/// Does to a counter what the bits of a number say: a control word and a small count, any control word, a byte of a
+/// count, a trigger, or GATE low.
+fn change(counter: &mut Counter, x: u64) {
+    let bits = x / 131_072;
+    let small = (x / 8 % 256 / (x / 2_048 % 64 + 1)) as u8;
+    match x % 8 {
+        0 | 1 => {
+            counter.control(16 + (bits % 16) as u8);
+            counter.write_byte(small);
+        }
+        2 => {
+            counter.control(16 + (bits % 48) as u8);
+        }
+        3 | 4 => counter.write_byte(small),
+        5 | 6 => trigger(counter),
+        _ => {
+            counter.gate(false);
+        }
+    }
+}
+
+/// A stretch by the bits of a number: some pulses, or about a whole round of the count.
+fn stretch(x: u64) -> u64 {
+    if x % 16 == 0 {
+        65_530 + x / 16 % 16
+    } else {
+        x / 16 % 64
+    }
+}
+
+#[test]
+fn many_pulses_are_single_ones(rt: HostRuntime) {
+    let mut x = 8254;
+    let mut counter = Counter::power_on(true);
+    let mut rising: u32 = 0;
+    for _ in 0..2_000 {
+        x = next_number(x);
+        change(&mut counter, x >> 32);
+        let n = stretch(x >> 16);
+        let before = counter.parts();
+        let (parts, rises) = pulses_one_by_one(before, n);
+        assert_eq!(rt; counter.pulses(n), rises, "{n} pulses of {before:?}");
+        assert_eq!(rt; counter.parts(), parts, "{n} pulses of {before:?}");
+        rising = rising.saturating_add(u32::from(rises.count > 1));
+    }
+    assert!(rt; rising > 200, "stretches with rises: {rising}");
+}
+
+#[test]
+fn a_long_stretch_takes_no_time(rt: HostRuntime) {
+    for (n, count) in [(1 << 40, 274_877_906_943)] {
+        let mut counter = programmed(2, false, 4);
+        let rises = Rises {
+            count,
+            first: Some(5),
+        };
+        assert_eq!(rt; counter.pulses(n), rises, "2^40 pulses in mode 2");
     }
 }
 

@@ -354,4 +354,13 @@ fn years_go_by_at_once(rt: HostRuntime) {
     for (form, n, behind) in cases {
         assert_eq!(rt; after(new_century, form, n), time(behind), "{n} updates");
     }
+    // an alarm that a day of updates doesn't match never does
+    let never = Alarm {
+        sec: 0xc0,
+        min: 60,
+        hour: 0xc0,
+    };
+    for n in [86_400, 1 << 40] {
+        assert_eq!(rt; first_match(new_century, BINARY, never, n), None);
+    }
 }

@@ -1,5 +1,7 @@
 use super::*;
-use rtc_calendar::TimeBytes;
+use crate::parts::{alarm_of, clock_of, form_of, time_of, write_time};
+use rtc_calendar::{TimeBytes, after, matches};
+use rtc_cycle::{CycleEvents, Divider};
 
 /// The last second of a century, a Saturday, in BCD; the hour byte is given.
 fn last_second(hour: u8) -> TimeBytes {
@@ -154,4 +156,109 @@ fn fields_that_no_clock_has(rt: HostRuntime) {
         }
     }
     assert!(rt; Rtc::of_parts(RtcParts { index: 128, ..good }).is_none());
+}
+
+/// The plain program of the definition: one pulse after the other, from these fields, whose divider is `divider`.
+fn pulses_one_by_one(parts: RtcParts, divider: Divider, n: u64) -> (RtcParts, RtcEvents) {
+    let mut divider = divider;
+    let mut time = time_of(&parts);
+    let mut flags = parts.bytes[12];
+    let mut events = RtcEvents {
+        cycle: CycleEvents {
+            ticks: 0,
+            first_tick: None,
+            updates: 0,
+            first_update: None,
+        },
+        first_alarm: None,
+    };
+    for done in 0..n {
+        let pulse = Some(done.wrapping_add(1));
+        let cycle = divider.pulses(1);
+        if cycle.ticks > 0 {
+            flags |= 0x40;
+            events.cycle.ticks = events.cycle.ticks.wrapping_add(1);
+            events.cycle.first_tick = events.cycle.first_tick.or(pulse);
+        }
+        if cycle.updates > 0 {
+            time = after(time, form_of(&parts), 1);
+            flags |= 0x10;
+            events.cycle.updates = events.cycle.updates.wrapping_add(1);
+            events.cycle.first_update = events.cycle.first_update.or(pulse);
+        }
+        if cycle.updates > 0 && matches(time, alarm_of(&parts)) {
+            flags |= 0x20;
+            events.first_alarm = events.first_alarm.or(pulse);
+        }
+    }
+    let mut bytes = parts.bytes;
+    write_time(&mut bytes, time);
+    bytes[12] = flags;
+    let clock = divider.parts();
+    let parts = RtcParts {
+        bytes,
+        d: clock.d,
+        cycle: clock.cycle,
+        ..parts
+    };
+    (parts, events)
+}
+
+/// The next number of a generator with a fixed seed.
+fn next_number(x: u64) -> u64 {
+    x.wrapping_mul(6_364_136_223_846_793_005)
+        .wrapping_add(1_442_695_040_888_963_407)
+}
+
+/// Does to a clock what the bits of a number say: a rate or now and then a stop, a form of the time bytes or now and
+/// then SET, a time or alarm byte, an alarm within some seconds, or a read of register C.
+fn change(clock: &mut Rtc, x: u64) {
+    let byte = (x / 8 % 256) as u8;
+    match x % 8 {
+        0 => write_at(
+            clock,
+            0x0a,
+            if byte < 0xf0 { 0x20 + byte % 16 } else { byte },
+        ),
+        1 => write_at(clock, 0x0b, if byte < 0xe0 { byte % 128 } else { byte }),
+        2 => write_at(clock, byte % 10, (x / 2_048 % 256) as u8),
+        3..=5 => {
+            let sec = clock.parts().bytes[0].wrapping_add(byte % 4);
+            write_at(clock, 0x01, sec);
+            write_at(clock, 0x03, 0xc0);
+            write_at(clock, 0x05, 0xff);
+        }
+        _ => {
+            byte_at(clock, 0x0c);
+        }
+    }
+}
+
+/// A stretch by the bits of a number: some pulses, up to an update's end, or some seconds.
+fn stretch(x: u64) -> u64 {
+    match x % 4 {
+        0 => x / 4 % 256,
+        1 => 16_440 + x / 4 % 16,
+        2 => 32_760 + x / 4 % 16,
+        _ => x / 4 % 131_072,
+    }
+}
+
+#[test]
+fn many_pulses_are_single_ones(rt: HostRuntime) {
+    let mut x = 146_818;
+    let mut clock = Rtc::power_on(last_second(0x23));
+    let mut alarms: u32 = 0;
+    for _ in 0..400 {
+        x = next_number(x);
+        change(&mut clock, x >> 32);
+        let n = stretch(x >> 16);
+        let before = clock.parts();
+        let divider = Divider::of_parts(clock_of(&before)).expect(&rt, "a clock's divider");
+        let (parts, events) = pulses_one_by_one(before, divider, n);
+        assert_eq!(rt; clock.pulses(n), events, "{n} pulses of {before:?}");
+        assert!(rt; clock.parts() == parts, "{n} pulses of {before:?}");
+        alarms = alarms.saturating_add(u32::from(events.first_alarm.is_some()));
+    }
+    assert!(rt; alarms > 30, "stretches with an alarm: {alarms}");
 }
