@@ -90,7 +90,7 @@ fn a_trace_in_pieces_of_any_size(rt: HostRuntime) -> Result<(), Fail> {
 
 #[test]
 fn the_timer_behind_its_ports(rt: HostRuntime) -> Result<(), Fail> {
-    let traces: [(&[u8], &[u8]); 5] = [
+    let traces: [(&[u8], &[u8]); 6] = [
         // Mode 0 with count 1.
         (
             b"clockboard 1\nbegin\n0 0 out 43 10\n0 0 out 40 01\n0 2000 step\nend\n",
@@ -100,6 +100,11 @@ fn the_timer_behind_its_ports(rt: HostRuntime) -> Result<(), Fail> {
         (
             b"clockboard 1\nbegin\n0 0 out 43 36\n0 0 out 40 05\n0 0 out 40 00\n0 10000 step\n0 10000 in 40\nend\n",
             b"3 1\n4 2\n5 3\nedge 5029 0 up\n6 4\n7 5 04\nfinal 10000 5 0 0\n",
+        ),
+        // A latched count, and then a read-back of status and count, which leaves the count that is latched.
+        (
+            b"clockboard 1\nbegin\n0 0 out 43 34\n0 0 out 40 04\n0 0 out 40 00\n0 1000 out 43 00\n0 2000 out 43 c2\n0 2000 in 40\n0 2000 in 40\n0 2000 in 40\n0 2000 in 40\nend\n",
+            b"3 1\n4 2\n5 3\n6 4\n7 5\n8 6 b4\n9 7 04\n10 8 00\n11 9 03\nfinal 2000 9 0 -\n",
         ),
         // Port 61h: the gate and the output of counter 2.
         (
