@@ -1,10 +1,10 @@
 -- What the program's words ask for, and what it answers to them.
-use Rattle.std.specs.Prelude.{◌≡◌, ℕ, ◌||◌, Bool, List, [], ◌∷◌, ◌++◌, length, Option, Some, None, if◌then◌else◌, codes, ◌⊎◌}
+use Rattle.std.specs.Prelude.{◌≡◌, ℕ, ◌+◌, ◌≤◌, ◌||◌, Bool, List, [], ◌∷◌, ◌++◌, length, Option, Some, None, if◌then◌else◌, codes, ◌⊎◌}
 use Rattle.std.specs.Str.{bytes_eq}
 use Rattle.std.specs.Io.KnownBytes.{Appends}
 use Rattle.trace_runner.specs.Text.{usage_text, job_refused_text, source_fault_text, memory_fault_text}
 use Rattle.trace_runner.specs.Replay.{Ran, replay}
-use Rattle.trace_runner.specs.Reading.{Reading, at_start, Takes, Begins, HasNoEnd}
+use Rattle.trace_runner.specs.Reading.{Reading, IsTaken, at_start, Takes, Begins, HasNoEnd}
 use Rattle.trace_runner.specs.declared.command.Command.{Command}
 use Rattle.trace_runner.specs.declared.command.Command.TheVariants.{Replay, Later, Unknown}
 use Rattle.trace_runner.specs.declared.status.Status.{Status}
@@ -42,6 +42,16 @@ pub record IsInterrupted (input : List ℕ) (given : ℕ) (blocks : List ℕ) : 
   pub reading : Reading
   pub in_line : HasNoEnd reading.text
   pub blocks_are : Takes at_start taken None reading blocks
+
+-- a source that had this input gave so many bytes: before the last 4,096 of them at most, the trace had not ended
+pub record IsStopped (input : List ℕ) (given : ℕ) : Type 0 where
+  pub taken : List ℕ
+  pub left : List ℕ
+  pub blocks : List ℕ
+  pub reading : Reading
+  pub not_ended : IsTaken input taken left blocks reading
+  pub least : length taken ≤ given
+  pub most : given ≤ length taken + 4096
 
 -- what the program would print, were the sink never to fail: the text, or the blocks so far and the word of a fault
 abbrev pub IsPrinted : Ran → List ℕ → Type 0

@@ -6,7 +6,7 @@ ghost use Rattle.trace_runner.specs.Reading.{Begins, ran_at};
 ghost use Rattle.trace_runner.specs.Said.{Said};
 ghost use Rattle.trace_runner.specs.Text.{memory_fault_text};
 ghost use Rattle.trace_runner.specs.Replay.{replay};
-ghost use Rattle.trace_runner.specs.Command.{command_of, outcome_of, Reads, Answers};
+ghost use Rattle.trace_runner.specs.Command.{command_of, outcome_of, Reads, Answers, IsStopped};
 
 use crate::command::{Command, command_of};
 use crate::output::put_all;
@@ -27,6 +27,9 @@ const PIECE: usize = 4096;
 ///
 /// Each line whose end was taken is answered before more is taken. Nothing is taken behind the piece that ended the
 /// trace: by the line `end`, by a line that isn't built, or by a line of more than 128 bytes.
+///
+/// `rt` and `gate` are for the processors' threads of the job `race`, which isn't built yet: no thread is started, and
+/// nobody waits.
 ///
 /// # Statuses
 ///
@@ -49,6 +52,8 @@ pub fn run<R: Threads + Wait + Sync, S: Source, K: Sink, G: Gate + Sync>(
     ensures source_fault { result ≡ Status.SourceFault → Rose (S.faults source.old) (S.faults source.new) }
     ensures sink_fault { result ≡ Status.SinkFault → Rose (K.faults sink.old) (K.faults sink.new) }
     ensures untouched { command_of (map string_bytes words.now) ≢ Command.Replay → S.given source.new ≡ S.given source.old }
+    ensures stopped { (input : List ℕ) → command_of (map string_bytes words.now) ≡ Command.Replay → S.remaining source.old ≡ Some input
+        → IsStopped input (S.given source.new - S.given source.old) }
 {
     match command_of(words) {
         Command::Replay => replay_trace(alloc, source, sink),
@@ -63,6 +68,7 @@ fn replay_trace<S: Source, K: Sink>(alloc: Global, source: &mut S, sink: &mut K)
         → Answers (replay input) input (S.given source.new - S.given source.old) result (K.contents sink.old) (K.contents sink.new) }
     ensures source_fault { result ≡ Status.SourceFault → Rose (S.faults source.old) (S.faults source.new) }
     ensures sink_fault { result ≡ Status.SinkFault → Rose (K.faults sink.old) (K.faults sink.new) }
+    ensures stopped { (input : List ℕ) → S.remaining source.old ≡ Some input → IsStopped input (S.given source.new - S.given source.old) }
 {
     let mut piece = [0; PIECE];
     let mut out = Vec::new(alloc);
