@@ -1,4 +1,4 @@
-ghost use Rattle.std.specs.Prelude.{◌≡◌, ◌<◌, ◌≤◌, ◌+◌, ◌^◌, ◌++◌, true, false, Some, None, Ok, length, IfOk, OnOk, OnErr};
+ghost use Rattle.std.specs.Prelude.{◌≡◌, ◌<◌, ◌≤◌, ◌+◌, ◌^◌, ◌++◌, true, false, Some, None, Ok, IfOk, OnOk, OnErr};
 ghost use Rattle.std.specs.Io.{StartsWith};
 ghost use Rattle.trace_runner.specs.Ports.{HasPort};
 ghost use Rattle.trace_runner.specs.Replay.{answer_of, answer_at, refused, ended, record_answer, printed, end_of, stage_behind, board_behind};

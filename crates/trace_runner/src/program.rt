@@ -1,6 +1,5 @@
-ghost use Rattle.std.specs.Prelude.{◌≡◌, ◌≢◌, ℕ, ◌≤◌, ◌-◌, List, [], ◌++◌, ◌<◌, ◌^◌, ◌⊎◌, Some, OnOk, OnErr, map};
+ghost use Rattle.std.specs.Prelude.{◌≡◌, ◌≢◌, ℕ, ◌≤◌, ◌-◌, List, [], ◌++◌, ◌<◌, ◌^◌, ◌⊎◌, Some, map};
 ghost use Rattle.std.specs.String.{string_bytes};
-ghost use Rattle.std.specs.Io.KnownBytes.{Appends};
 ghost use Rattle.board_io.specs.Faults.{Rose};
 ghost use Rattle.trace_runner.specs.Reading.{Begins, ran_at};
 ghost use Rattle.trace_runner.specs.Said.{Said};

@@ -1,4 +1,4 @@
-ghost use Rattle.std.specs.Prelude.{◌≡◌, ℕ, ◌<◌, true, IfSome};
+ghost use Rattle.std.specs.Prelude.{◌≡◌, ◌<◌, true, IfSome};
 ghost use Rattle.trace_runner.specs.Ports.{is_pit_port, HasPort};
 ghost use Rattle.trace_runner.specs.Records.{record_in, at_last, job_in, timed_job, in_job, out_job, port_in};
 

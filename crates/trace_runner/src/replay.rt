@@ -29,7 +29,7 @@ impl Model for Replay {
 
 impl Replay {
     ghost use Rattle.trace_runner.specs.Reading.{Reading, at_start, ran_at, answer_to, next_line, Takes, Begins, HasNoEnd};
-    ghost use Rattle.trace_runner.specs.Replay.{printed, end_of, refused, Ran};
+    ghost use Rattle.trace_runner.specs.Replay.{printed, end_of, refused};
 
     /// Before the first byte of a trace.
     pub(crate) fn new() -> Replay

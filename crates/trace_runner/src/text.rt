@@ -1,7 +1,7 @@
-ghost use Rattle.std.specs.Prelude.{◌≡◌, ◌++◌, ◌<◌, decimal, length, take, OnOk, OnErr, List, ℕ};
+ghost use Rattle.std.specs.Prelude.{◌≡◌, ◌++◌, ◌<◌, decimal, OnOk, OnErr};
 ghost use Rattle.std.specs.Io.{StartsWith};
 ghost use Rattle.std.specs.Char.{digit_char};
-ghost use Rattle.trace_runner.specs.Text.{byte_text, rise_text, value_text, reply_text, final_text, refused_text, source_fault_text, memory_fault_text, usage_text};
+ghost use Rattle.trace_runner.specs.Text.{rise_text, value_text, reply_text, final_text, refused_text};
 
 use clk_units::NoMemory;
 use itoa::Buffer;
