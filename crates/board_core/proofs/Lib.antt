@@ -1,0 +1,3 @@
+pub mod Laws
+pub mod PowerOn
+pub mod Times

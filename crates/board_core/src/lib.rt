@@ -1,0 +1,6 @@
+//! The board.
+#![tactic(auto)]
+
+mod board;
+
+pub use board::{Access, BoardParts, BoardState, ProcessorParts, Refusal, Reply};

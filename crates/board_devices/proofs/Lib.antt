@@ -1,0 +1,10 @@
+pub mod Rows
+pub mod Rises
+pub mod Places
+pub mod Product
+pub mod Times
+pub mod Advance
+pub mod Edges
+pub mod Masks
+pub mod ClockReads
+pub mod PowerOn

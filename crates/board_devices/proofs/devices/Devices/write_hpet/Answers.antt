@@ -1,0 +1,53 @@
+use Rattle.std.proofs.Common.{◌≡◌, ℕ, Bool, ◌&&◌, not, List, length, get_or, ◌++◌, ap, sym, refl, ◌∙◌, arith}
+use Rattle.rtc_registers.specs.declared.parts.RtcParts.{RtcParts}
+use Rattle.rtc_registers.specs.Registers.{pf_of}
+use Rattle.hpet_registers.specs.declared.parts.HpetParts.{HpetParts}
+use Rattle.pit_readback.specs.declared.parts.PitParts.{PitParts}
+use Rattle.tick_policy.specs.declared.line.TickParts.{TickParts}
+use Rattle.board_devices.specs.declared.devices.DeviceParts.{DeviceParts}
+use Rattle.board_devices.specs.declared.act.Act.TheVariants.{PitWrite, RtcWrite, HpetWrite}
+use Rattle.board_devices.specs.Places.{each, line_at, no_line, ticked_at}
+use Rattle.board_devices.specs.Nanosecond.{counts_rtc}
+use Rattle.board_devices.specs.Act.{acted, first_part, act_edges, rtc_set, pit_ticked}
+use Rattle.board_devices.specs.Lines.{levels}
+use Rattle.board_devices.specs.Valid.{IsDevices}
+use Rattle.board_devices.specs.View.{parts_of}
+use Rattle.board_devices.proofs.Places.{each-at, length-each}
+use Rattle.board_devices.proofs.Masks.{one_part, due-set, due-ticked, line_of_clock}
+use Rattle.board_devices.proofs.devices.Devices.write_hpet.Goals as goal
+
+-- the devices behind the write, their lines as before
+moved : (c : goal.After-changes) → DeviceParts
+moved c = record { pit = c.self.inside.pit; rtc = c.self.inside.rtc; hpet = c.write.new.self; ticks = c.self.inside.ticks; slew_ns = c.self.inside.slew_ns }
+
+lines : (c : goal.After-changes) → c.set_clock_line.new.ticks ≡ each (rtc_set (counts_rtc (moved c) && pf_of (moved c).rtc)) 0 c.self.inside.ticks
+unfolding moved
+lines c = c.set_clock_line.ensures ∙ ap (λ (up : Bool). each (rtc_set up) 0 c.self.inside.ticks) c.clock_up.ensures
+
+state : (c : goal.After-changes) → parts_of (record { pit = c.self.inside.pit; rtc = c.self.inside.rtc; hpet = c.write.new.self; ticks = c.set_clock_line.new.ticks; slew_ns = c.self.inside.slew_ns }) ≡ acted (HpetWrite c.args.offset c.args.width c.args.v) (parts_of c.self.inside)
+unfolding acted moved
+state c =
+    ap (λ (ls : List TickParts). record (moved c) { ticks = ls }) (lines c)
+    ∙ ap (λ (x : HpetParts). record (parts_of c.self.inside) { hpet = x; ticks = each (rtc_set (counts_rtc (record (parts_of c.self.inside) { hpet = x }) && pf_of c.self.inside.rtc)) 0 c.self.inside.ticks }) c.write.ensures.value
+
+pub invariant_of-self : goal.invariant_of-self
+unfolding moved
+invariant_of-self c = record {
+  places = ap (λ (ls : List TickParts). length ls) (lines c) ∙ length-each _ 0 c.self.inside.ticks ∙ c.self.invariant.places;
+  slew_low = c.self.invariant.slew_low;
+  slew_high = c.self.invariant.slew_high;
+  flag = ap (λ (ls : List TickParts). (get_or ls 1 no_line).up) (lines c) ∙ line_of_clock (counts_rtc (moved c) && pf_of (moved c).rtc) c.self.inside.ticks c.self.invariant.places;
+}
+
+pub returns-clause-state : goal.returns-clause-state
+returns-clause-state c = state c ∙ ap (acted (HpetWrite c.args.offset c.args.width c.args.v)) c.self.view_is
+
+pub returns-clause-edges : goal.returns-clause-edges
+unfolding first_part
+returns-clause-edges c =
+    one_part c.args.at c.args.edges.now c.changes.new.into c.lines_of-before.result.levels c.lines_of-after.result.levels (parts_of c.self.inside) (acted (HpetWrite c.args.offset c.args.width c.args.v) (parts_of c.self.inside))
+    c.changes.ensures.appended (c.lines_of-before.ensures c.self.inside.pit c.self.inside.slew_ns) (c.lines_of-after.ensures c.self.inside.pit c.self.inside.slew_ns ∙ ap levels (state c))
+    ∙ ap (λ (d : DeviceParts). c.args.edges.now ++ act_edges c.args.at (HpetWrite c.args.offset c.args.width c.args.v) d) c.self.view_is
+
+pub returns-clause-due : goal.returns-clause-due
+returns-clause-due c = λ k less. rw (← c.self.view_is) (due-set (counts_rtc (moved c) && pf_of (moved c).rtc) c.self.inside.ticks c.set_clock_line.new.ticks c.self.invariant.places (lines c) k less)

@@ -1,0 +1,10 @@
+pub mod Places
+pub mod Nanosecond
+pub mod Lines
+pub mod Run
+pub mod Act
+pub mod Rises
+pub mod Stretch
+pub mod PowerOn
+pub mod Valid
+pub mod View

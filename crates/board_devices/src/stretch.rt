@@ -1,0 +1,182 @@
+//! The tick lines over a stretch of nanoseconds.
+ghost use Rattle.std.specs.Prelude.{◌≡◌, ℕ, ◌+◌, ◌-◌, ◌<◌, ◌≤◌, ◌^◌, ◌&&◌, not, ◌∷◌, [], IfSome, map, slice_index_or, if◌then◌else◌, None};
+ghost use Rattle.clk_units.specs.Pulses.{pulses_from};
+ghost use Rattle.hpet_comparator.specs.Timer.{is_level, is_enabled};
+ghost use Rattle.hpet_registers.specs.Pulses.{place_of};
+ghost use Rattle.board_devices.specs.Places.{no_line};
+ghost use Rattle.board_devices.specs.Nanosecond.{hpet_hz};
+ghost use Rattle.board_devices.specs.Stretch.{eight, first_at, counted, no_ticks, timer_ticks, ticks_at, end_of, up_of};
+
+use clk_units::{pulses_of, time_of_pulse};
+use hpet_comparator::{Matches, TimerParts};
+use hpet_registers::HpetParts;
+use tick_policy::{TickLine, run_line};
+
+/// The HPET's clock.
+pub(crate) const HPET_HZ: u64 = 100_000_000;
+
+/// The ticks of a line's source over a stretch.
+#[derive(Clone, Copy)]
+pub(crate) struct Ticks {
+    /// Whether ticks and catch-up points reach the line.
+    pub(crate) seen: bool,
+    /// How many ticks are due.
+    pub(crate) count: u64,
+    /// The nanosecond of the first of them.
+    pub(crate) first: Option<u64>,
+}
+
+impl Ticks {
+    /// No ticks.
+    pub(crate) const NONE: Ticks = Ticks {
+        seen: false,
+        count: 0,
+        first: None,
+    };
+}
+
+/// The nanosecond of the first event among the pulses behind `from` and up to `to`.
+#[tactic(auto, using(crate::proofs::Times::comes_by, crate::proofs::Times::fits))]
+pub(crate) fn first_at(first: Option<u64>, hz: u64, from: u64, to: u64) -> Option<u64>
+    requires runs { 0 < hz }
+    requires slow { hz ≤ 1000000000 }
+    requires order { from ≤ to }
+    requires range { to < 2 ^ 59 }
+    requires inside { IfSome first (λ k. k ≤ pulses_from hz from (to - from)) }
+    ensures { result ≡ first_at hz from first }
+{
+    match first {
+        Some(k) => Some(time_of_pulse(pulses_of(from, hz) + k, hz)),
+        None => None,
+    }
+}
+
+/// Ticks that are counted where `b` holds.
+pub(crate) fn counted(seen: bool, b: bool, count: u64, first: Option<u64>) -> Ticks
+    ensures { result ≡ counted seen b count first }
+{
+    if b {
+        Ticks { seen, count, first }
+    } else {
+        Ticks {
+            seen,
+            count: 0,
+            first: None,
+        }
+    }
+}
+
+/// Whether a timer has ticks.
+pub(crate) fn has_ticks(timer: &TimerParts) -> bool
+    ensures { result ≡ (is_enabled timer.now && not (is_level timer.now)) }
+{
+    timer.is_enabled() && !timer.is_level()
+}
+
+/// The nanosecond of the first match of timer `k`.
+fn matched_at(matches: &[Matches; 8], k: usize, from: u64, to: u64) -> Option<u64>
+    requires place { k < 8 }
+    requires order { from ≤ to }
+    requires range { to < 2 ^ 59 }
+    requires inside { IfSome (place_of matches.now k).first (λ j. j ≤ pulses_from hpet_hz from (to - from)) }
+    ensures { result ≡ first_at hpet_hz from (place_of matches.now k).first }
+{
+    first_at(matches[k].first, HPET_HZ, from, to)
+}
+
+/// The nanoseconds of the first matches of all timers.
+pub(crate) fn all_matched(matches: &[Matches; 8], from: u64, to: u64) -> [Option<u64>; 8]
+    requires order { from ≤ to }
+    requires range { to < 2 ^ 59 }
+    requires inside { (k : ℕ) → k < 8 → IfSome (place_of matches.now k).first (λ j. j ≤ pulses_from hpet_hz from (to - from)) }
+    ensures { result ≡ map (λ k. first_at hpet_hz from (place_of matches.now k).first) eight }
+{
+    [
+        matched_at(matches, 0, from, to),
+        matched_at(matches, 1, from, to),
+        matched_at(matches, 2, from, to),
+        matched_at(matches, 3, from, to),
+        matched_at(matches, 4, from, to),
+        matched_at(matches, 5, from, to),
+        matched_at(matches, 6, from, to),
+        matched_at(matches, 7, from, to),
+    ]
+}
+
+/// The ticks of timer `k`.
+fn timer_ticks(h: &HpetParts, k: usize, matches: &[Matches; 8], matched: &[Option<u64>; 8]) -> Ticks
+    requires place { k < 8 }
+    ensures { result ≡ timer_ticks k h.now matches.now matched.now }
+{
+    counted(true, has_ticks(&h.timer[k]), matches[k].count, matched[k])
+}
+
+/// The ticks of all timers.
+pub(crate) fn all_timer_ticks(
+    h: &HpetParts,
+    matches: &[Matches; 8],
+    matched: &[Option<u64>; 8],
+) -> [Ticks; 8]
+    ensures { result ≡ map (λ k. timer_ticks k h.now matches.now matched.now) eight }
+{
+    [
+        timer_ticks(h, 0, matches, matched),
+        timer_ticks(h, 1, matches, matched),
+        timer_ticks(h, 2, matches, matched),
+        timer_ticks(h, 3, matches, matched),
+        timer_ticks(h, 4, matches, matched),
+        timer_ticks(h, 5, matches, matched),
+        timer_ticks(h, 6, matches, matched),
+        timer_ticks(h, 7, matches, matched),
+    ]
+}
+
+/// The ticks at a place.
+fn ticks_at(k: usize, pit: Ticks, rtc: Ticks, timers: &[Ticks; 8]) -> Ticks
+    requires { k < 10 }
+    ensures { result ≡ ticks_at pit rtc timers.now k }
+{
+    match k {
+        0 => pit,
+        1 => rtc,
+        _ => timers[k - 2],
+    }
+}
+
+/// Takes one line over a stretch. Answers from when on it is up.
+fn run_one(line: &mut TickLine, ticks: Ticks, from: u64, to: u64, point: u64) -> Option<u64>
+    requires { line.old.counts.due + ticks.count < 2 ^ 63 }
+    ensures state { line.new ≡ end_of point to ticks line.old }
+    ensures up { result ≡ up_of from point to ticks line.old }
+{
+    if ticks.seen {
+        run_line(line, from, to, point, ticks.count, ticks.first).up_from
+    } else if line.is_up() {
+        Some(from)
+    } else {
+        None
+    }
+}
+
+/// Takes all lines over a stretch. Answers from when on each is up.
+pub(crate) fn run_lines(
+    lines: &mut [TickLine; 10],
+    pit: Ticks,
+    rtc: Ticks,
+    timers: &[Ticks; 8],
+    from: u64,
+    to: u64,
+    point: u64,
+) -> [Option<u64>; 10]
+    requires { (k : ℕ) → k < 10 → (slice_index_or lines.old k no_line).counts.due + (ticks_at pit rtc timers.now k).count < 2 ^ 63 }
+    ensures state { (k : ℕ) → k < 10 → slice_index_or lines.new k no_line ≡ end_of point to (ticks_at pit rtc timers.now k) (slice_index_or lines.old k no_line) }
+    ensures up { (k : ℕ) → k < 10 → slice_index_or result k None ≡ up_of from point to (ticks_at pit rtc timers.now k) (slice_index_or lines.old k no_line) }
+{
+    let mut ups = [None; 10];
+    for k in 0..10 {
+        let mut line = lines[k];
+        ups[k] = run_one(&mut line, ticks_at(k, pit, rtc, timers), from, to, point);
+        lines[k] = line;
+    }
+    ups
+}
