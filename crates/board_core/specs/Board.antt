@@ -8,7 +8,7 @@ use Rattle.tsc_scale.specs.declared.Tsc.{Tsc}
 use Rattle.tsc_scale.specs.Tsc.{tsc_at, moved_by, difference}
 use Rattle.tsc_scale.specs.Ratio.{ratio_of}
 use Rattle.pvclock_page.specs.Scale.{mul_for, shift_for}
-use Rattle.board_devices.specs.declared.devices.DeviceParts.{DeviceParts}
+use Rattle.board_devices.specs.declared.parts.DeviceParts.{DeviceParts}
 use Rattle.board_core.specs.declared.board.ProcessorParts.{ProcessorParts}
 use Rattle.board_core.specs.declared.board.BoardParts.{BoardParts}
 use Rattle.board_core.specs.declared.board.Access.{Access}

@@ -29,14 +29,15 @@ use Rattle.tick_policy.specs.declared.line.TickParts.{TickParts}
 use Rattle.tick_policy.specs.Stretch.{line_after, line_end, is_caught, caught_up_where, up_from, IsFirstPoint, IsFirstTick}
 use Rattle.tick_policy.proofs.Ticks.{due_ticked_times}
 use Rattle.tick_policy.proofs.Stretches.{ended, up-after}
-use Rattle.board_devices.specs.declared.devices.DeviceParts.{DeviceParts}
+use Rattle.board_devices.specs.declared.parts.DeviceParts.{DeviceParts}
 use Rattle.board_devices.specs.declared.stretch.Ticks.{Ticks}
 use Rattle.board_devices.specs.Places.{each, line_at, no_line}
 use Rattle.board_devices.specs.Nanosecond.{pit_hz, rtc_hz, hpet_hz, counts_rtc, has_ticks, sees_point}
 use Rattle.board_devices.specs.Lines.{output_of, drives, routed, levels}
 use Rattle.board_devices.specs.Run.{run}
-use Rattle.board_devices.specs.Stretch.{source, line_run, flagged_where, parted, first_at, counted, no_ticks, timer_ticks, ticks_at, end_of, up_of, eight, either_from, flag_from, output_from, routed_from}
-use Rattle.board_devices.specs.Valid.{IsDevices}
+use Rattle.board_devices.specs.private.Stretch.{source, line_run, flagged_where, parted, first_at, counted, no_ticks, timer_ticks, ticks_at, end_of, up_of, eight, either_from, flag_from, output_from, routed_from}
+use Rattle.board_devices.specs.Parts.{IsDevices}
+use Rattle.board_devices.proofs.Keeps.{IsDevices-each, KeepsLines-line_run, timers-times, messages-times}
 use Rattle.board_devices.proofs.Places.{each-at, length-each, same_places, at-eight}
 use Rattle.board_devices.proofs.Product.{Sound, run-parted, same_parts, counts-by, is_legacy-times, register_b-flagged_where, flag-is-line}
 
@@ -376,12 +377,10 @@ module _ {d : DeviceParts} {t n c : ℕ} {rises : Rises} {events : RtcEvents} {m
   -- the conditions hold at each nanosecond
   pub IsDevices-parted : (j : ℕ) → IsDevices (parted t j d)
   unfolding parted flag_at rtc_alone
-  IsDevices-parted j = record {
-    places = length-each (line_run d t j) 0 d.ticks ∙ know.sound.joined.places;
-    slew_low = know.sound.joined.slew_low;
-    slew_high = know.sound.joined.slew_high;
-    flag = flag-now j ∙ ap (λ (b : Bool). b && pf_of (flagged_where (flag_at j) (rtc_alone j))) (sym (counts-now j));
-  }
+  IsDevices-parted j =
+      IsDevices-each d (pit_pulsed_times (pulses_from pit_hz t j) d.pit) (flagged_where (flag_at j) (rtc_alone j)) (hpet_pulsed_times (pulses_from hpet_hz t j) d.hpet) (each (line_run d t j) 0 d.ticks) (line_run d t j)
+      know.sound.joined refl (KeepsLines-line_run d t j know.sound.hpet) (timers-times (pulses_from hpet_hz t j) d.hpet) (messages-times (pulses_from hpet_hz t j) d.hpet)
+      (flag-now j ∙ ap (λ (b : Bool). b && pf_of (flagged_where (flag_at j) (rtc_alone j))) (sym (counts-now j)))
 
   -- the state at the end, as the code leaves it
   pub ran-state : (P to : ℕ) (ls : List TickParts) (p : PitParts) (r : RtcParts) (h : HpetParts) → P ≡ t + c → to ≡ t + n → length ls ≡ 10

@@ -8,7 +8,7 @@ use Rattle.rtc_registers.proofs.Flags.{IsRtc-after_read, pf_of-flagged, register
 use Rattle.tick_policy.specs.declared.line.TickParts.{TickParts}
 use Rattle.tick_policy.specs.Line.{acked, goes_again}
 use Rattle.board_devices.specs.Act.{acked_where}
-use Rattle.board_devices.specs.Stretch.{flagged_where}
+use Rattle.board_devices.specs.private.Stretch.{flagged_where}
 
 bytes-other : (b : Bool) (r : RtcParts) → b ≡ false → record r { bytes = cond b (set r.bytes 12 0) r.bytes } ≡ r
 bytes-other true r e = absurd (no_way e)

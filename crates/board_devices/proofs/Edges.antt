@@ -5,7 +5,7 @@ use Rattle.irq_edges.specs.Changes.{line_numbers, changes}
 use Rattle.irq_edges.specs.Levels.{levels_at, rises_of, IsNextRise}
 use Rattle.irq_edges.proofs.RisesOf.{run-edges, rises_of-next, rises_of-none, rises_of-before}
 use Rattle.irq_edges.proofs.UpFrom.{changes-some}
-use Rattle.board_devices.specs.declared.devices.DeviceParts.{DeviceParts}
+use Rattle.board_devices.specs.declared.parts.DeviceParts.{DeviceParts}
 use Rattle.board_devices.specs.Lines.{levels}
 use Rattle.board_devices.specs.Run.{run, onward, IsNextEdge}
 

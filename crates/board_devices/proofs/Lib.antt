@@ -6,5 +6,8 @@ pub mod Times
 pub mod Advance
 pub mod Edges
 pub mod Masks
+pub mod Fronts
+pub mod Keeps
 pub mod ClockReads
+pub mod ActEdges
 pub mod PowerOn

@@ -9,10 +9,10 @@ use Rattle.tick_policy.specs.declared.line.TickParts.{TickParts}
 use Rattle.tick_policy.specs.Line.{ticked, ticked_times, set_up_to, acked}
 use Rattle.tick_policy.proofs.Ticks.{ticked_times-one}
 use Rattle.tick_policy.specs.Stretch.{ticked_where}
-use Rattle.board_devices.specs.declared.devices.DeviceParts.{DeviceParts}
+use Rattle.board_devices.specs.declared.parts.DeviceParts.{DeviceParts}
 use Rattle.board_devices.specs.Places.{each, no_line, ticked_at}
 use Rattle.board_devices.specs.Act.{acked_where, down_where, rtc_set, pit_ticked}
-use Rattle.board_devices.specs.Stretch.{ten}
+use Rattle.board_devices.specs.private.Stretch.{ten, clock_place}
 use Rattle.board_devices.specs.Lines.{levels}
 use Rattle.board_devices.proofs.Places.{each-at, each-none, length-each, same_places}
 
@@ -92,6 +92,21 @@ pub rtc_set_second : (up : Bool) (ls : List TickParts) → length ls ≡ 10 → 
 rtc_set_second up [] e = absurd (omega (arith, e))
 rtc_set_second up (k ∷ []) e = absurd (omega (arith, e))
 rtc_set_second up (k ∷ l ∷ ls) e = ap (λ (xs : List TickParts). k ∷ set_up_to up l ∷ xs) (sym (set_rest up 0 ls))
+
+-- only the second line is acknowledged
+acked_rest : (b : Bool) (k : ℕ) (ls : List TickParts) → each (λ i l. acked_where (clock_place b i) l) (suc (suc k)) ls ≡ ls
+acked_rest b k [] = refl
+acked_rest b k (l ∷ ls) = ap (λ (xs : List TickParts). l ∷ xs) (acked_rest b (suc k) ls)
+
+pub acked_second : (ls : List TickParts) → length ls ≡ 10 → set ls 1 (acked (get_or ls 1 no_line)) ≡ each (λ k l. acked_where (clock_place true k) l) 0 ls
+acked_second [] e = absurd (omega (arith, e))
+acked_second (k ∷ []) e = absurd (omega (arith, e))
+acked_second (k ∷ l ∷ ls) e = ap (λ (xs : List TickParts). k ∷ acked l ∷ xs) (sym (acked_rest true 0 ls))
+
+pub acked_none : (ls : List TickParts) → ls ≡ each (λ k l. acked_where (clock_place false k) l) 0 ls
+acked_none [] = refl
+acked_none (l ∷ []) = refl
+acked_none (k ∷ l ∷ ls) = ap (λ (xs : List TickParts). k ∷ l ∷ xs) (sym (acked_rest false 0 ls))
 
 -- a write's lines keep their counts
 due-rtc_set : (up : Bool) (k : ℕ) (l : TickParts) → (rtc_set up k l).counts.due ≡ l.counts.due

@@ -4,7 +4,7 @@ use Rattle.std.proofs.lemmas.Bool.{cases_eq}
 use Rattle.std.proofs.lemmas.List.{get_or-set_same, get_or-set_other}
 use Rattle.tick_policy.specs.declared.line.TickParts.{TickParts}
 use Rattle.board_devices.specs.Places.{each}
-use Rattle.board_devices.specs.Stretch.{eight}
+use Rattle.board_devices.specs.private.Stretch.{eight}
 
 -- one after the other
 pub each-each : (f g : ℕ → TickParts → TickParts) (k : ℕ) (ls : List TickParts) → each f k (each g k ls) ≡ each (λ i l. f i (g i l)) k ls

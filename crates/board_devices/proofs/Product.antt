@@ -28,12 +28,12 @@ use Rattle.tick_policy.specs.declared.line.TickParts.{TickParts}
 use Rattle.tick_policy.specs.Line.{ticked, caught_up, is_waiting}
 use Rattle.tick_policy.specs.Stretch.{ticked_where, caught_up_where, line_after}
 use Rattle.tick_policy.proofs.Stretches.{line_after-zero, line_after-suc}
-use Rattle.board_devices.specs.declared.devices.DeviceParts.{DeviceParts}
+use Rattle.board_devices.specs.declared.parts.DeviceParts.{DeviceParts}
 use Rattle.board_devices.specs.Places.{each, ticked_at, caught_up_at, line_at, no_line}
 use Rattle.board_devices.specs.Nanosecond.{pit_hz, rtc_hz, hpet_hz, counts_rtc, has_ticks, pit_due, rtc_due, hpet_due, sees_point, pit_pulse, rtc_pulse, hpet_pulse, catch_up_point, at_nanosecond}
 use Rattle.board_devices.specs.Run.{run, onward}
-use Rattle.board_devices.specs.Stretch.{source, line_run, flagged_where, parted}
-use Rattle.board_devices.specs.Valid.{IsDevices}
+use Rattle.board_devices.specs.private.Stretch.{source, line_run, flagged_where, parted}
+use Rattle.board_devices.specs.Parts.{IsDevices}
 use Rattle.board_devices.proofs.Places.{each-each, each-same, each-none, each-at, length-each}
 
 -- what is known of the devices

@@ -11,12 +11,12 @@ use Rattle.rtc_registers.specs.Registers.{IsRtc, irqf_of, pf_of, af_of, uf_of, p
 use Rattle.rtc_registers.proofs.Flags.{IsRtc-after_read, pf_of-flagged, af_of-flagged, uf_of-flagged, register_b-flagged}
 use Rattle.tick_policy.specs.Line.{goes_again}
 use Rattle.board_devices.specs.declared.act.Act.{Act}
-use Rattle.board_devices.specs.declared.act.Act.TheVariants.{PitWrite, RtcRead, RtcWrite, HpetWrite, Ack, Step}
+use Rattle.board_devices.specs.declared.act.Act.TheVariants.{PitRead, PitWrite, IndexRead, IndexWrite, ClockRead, ClockWrite, HpetRead, HpetWrite, Ack, Nothing}
 use Rattle.board_devices.specs.Act.{acks, reads_c, acked_where, down_where, acted, first_part, act_edges}
 use Rattle.hpet_comparator.specs.Timer.{is_level}
 use Rattle.hpet_registers.specs.Parts.{timer_at, is_legacy, level_of as level_of_timer}
 use Rattle.tick_policy.specs.declared.line.TickParts.{TickParts}
-use Rattle.board_devices.specs.declared.devices.DeviceParts.{DeviceParts}
+use Rattle.board_devices.specs.declared.parts.DeviceParts.{DeviceParts}
 use Rattle.board_devices.specs.Places.{each, line_at, no_line}
 use Rattle.board_devices.specs.Run.{run}
 use Rattle.board_devices.proofs.Edges.{edges-run, run_none_edges}
@@ -261,13 +261,17 @@ length-levels d = refl
 pub second-below : (a : Act) (d : DeviceParts) → IsRtc d.rtc → Below (levels (first_part a d)) (levels (acted a d))
 unfolding first_part acted
 second-below (Ack line) d valid = levels-below (record d { ticks = each (λ k l. down_where (acks line d.hpet k) l) 0 d.ticks }) d.rtc (each (λ k l. acked_where (acks line d.hpet k) l) 0 d.ticks) (λ i. grows (acks line d.hpet) 0 i d.ticks) (λ e. e)
-second-below RtcRead d valid =
+second-below ClockRead d valid =
     levels-below (record d { rtc = after_read d.rtc; ticks = each (λ k l. down_where (reads_c d k) l) 0 d.ticks }) (cond (reads_c d 1 && goes_again (line_at 1 d)) (flagged (after_read d.rtc)) (after_read d.rtc)) (each (λ k l. acked_where (reads_c d k) l) 0 d.ticks)
     (λ i. grows (reads_c d) 0 i d.ticks) (irqf-grows (reads_c d 1 && goes_again (line_at 1 d)) (after_read d.rtc) (IsRtc-after_read d.rtc valid))
+second-below (PitRead port) d valid = Below-same (levels (acted (PitRead port) d))
 second-below (PitWrite port byte) d valid = Below-same (levels (acted (PitWrite port byte) d))
-second-below (RtcWrite byte) d valid = Below-same (levels (acted (RtcWrite byte) d))
+second-below IndexRead d valid = Below-same (levels d)
+second-below (IndexWrite byte) d valid = Below-same (levels (acted (IndexWrite byte) d))
+second-below (ClockWrite byte) d valid = Below-same (levels (acted (ClockWrite byte) d))
+second-below (HpetRead offset width) d valid = Below-same (levels d)
 second-below (HpetWrite offset width v) d valid = Below-same (levels (acted (HpetWrite offset width v) d))
-second-below Step d valid = Below-same (levels d)
+second-below Nothing d valid = Below-same (levels d)
 
 -- so an access of the devices lifts a line as often as its level grows, and once more at most
 pub lifts-act : (n t : ℕ) (a : Act) (d : DeviceParts) → IsRtc d.rtc → lifts n (act_edges t a d) + one_if (level_of line_numbers (levels d) n) ≤ 1 + one_if (level_of line_numbers (levels (acted a d)) n)

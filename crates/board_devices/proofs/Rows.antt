@@ -20,7 +20,7 @@ use Rattle.hpet_registers.specs.Pulses.{matches_next, hpet_pulsed}
 use Rattle.tick_policy.specs.declared.line.TickParts.{TickParts}
 use Rattle.tick_policy.specs.declared.line.Policy.{Policy}
 use Rattle.tick_policy.specs.declared.line.Policy.TheVariants.{Discard, Delay, Slew}
-use Rattle.board_devices.specs.declared.devices.DeviceParts.{DeviceParts}
+use Rattle.board_devices.specs.declared.parts.DeviceParts.{DeviceParts}
 use Rattle.board_devices.specs.Nanosecond.{pit_pulse, rtc_pulse, hpet_pulse, catch_up_point, at_nanosecond}
 use Rattle.board_devices.specs.Lines.{levels}
 use Rattle.board_devices.specs.Run.{onward, run}

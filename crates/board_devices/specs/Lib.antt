@@ -4,7 +4,6 @@ pub mod Lines
 pub mod Run
 pub mod Act
 pub mod Rises
-pub mod Stretch
-pub mod PowerOn
-pub mod Valid
+pub mod Parts
 pub mod View
+pub mod private

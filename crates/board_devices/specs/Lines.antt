@@ -4,7 +4,7 @@ use Rattle.rtc_registers.specs.Registers.{irqf_of}
 use Rattle.hpet_comparator.specs.Timer.{is_level, route_of}
 use Rattle.hpet_registers.specs.declared.parts.HpetParts.{HpetParts}
 use Rattle.hpet_registers.specs.Parts.{timer_at, is_legacy, level_of}
-use Rattle.board_devices.specs.declared.devices.DeviceParts.{DeviceParts}
+use Rattle.board_devices.specs.declared.parts.DeviceParts.{DeviceParts}
 use Rattle.board_devices.specs.Places.{line_at}
 
 -- the output of a timer: its status bit with interrupt enable for level type, else its tick line

@@ -12,7 +12,7 @@ use Rattle.hpet_registers.specs.Parts.{timer_at, is_legacy}
 use Rattle.hpet_registers.specs.Pulses.{hpet_pulsed, matches_next}
 use Rattle.hpet_comparator.specs.Timer.{is_level, is_enabled}
 use Rattle.tick_policy.specs.Line.{is_waiting}
-use Rattle.board_devices.specs.declared.devices.DeviceParts.{DeviceParts}
+use Rattle.board_devices.specs.declared.parts.DeviceParts.{DeviceParts}
 use Rattle.board_devices.specs.Places.{ticked_at, caught_up_at, line_at}
 
 -- the rates of the three clocks

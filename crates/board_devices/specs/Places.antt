@@ -4,7 +4,7 @@ use Rattle.tick_policy.specs.declared.line.TickParts.{TickParts}
 use Rattle.tick_policy.specs.declared.line.Policy.TheVariants.{Discard}
 use Rattle.tick_policy.specs.Line.{powered_on}
 use Rattle.tick_policy.specs.Stretch.{ticked_where, caught_up_where}
-use Rattle.board_devices.specs.declared.devices.DeviceParts.{DeviceParts}
+use Rattle.board_devices.specs.declared.parts.DeviceParts.{DeviceParts}
 
 -- what is done at each place, from place k on
 abbrev pub each : (ℕ → TickParts → TickParts) → ℕ → List TickParts → List TickParts

@@ -1,5 +1,5 @@
 -- How the fields of the devices are seen.
-use Rattle.board_devices.specs.declared.devices.DeviceParts.{DeviceParts}
+use Rattle.board_devices.specs.declared.parts.DeviceParts.{DeviceParts}
 use Rattle.board_devices.specs.declared.devices.Devices.TheInside.{Inside}
 
 abbrev pub parts_of : Inside → DeviceParts

@@ -1,201 +1,319 @@
 //! What accesses do to the devices.
-ghost use Rattle.std.specs.Prelude.{◌≡◌, ℕ, ◌+◌, ◌<◌, ◌≤◌, ◌^◌, ◌&&◌, not, map, false, slice_index_or, if◌then◌else◌};
-ghost use Rattle.pit_readback.specs.declared.parts.PitParts.{PitParts};
-ghost use Rattle.hpet_comparator.specs.Timer.{is_level, route_of};
-ghost use Rattle.hpet_registers.specs.Parts.{timer_at, is_legacy, level_of};
-ghost use Rattle.board_devices.specs.Places.{no_line};
-ghost use Rattle.board_devices.specs.Lines.{levels, drives};
-ghost use Rattle.board_devices.specs.Act.{drives_now, acks, acked_where, down_where};
-ghost use Rattle.board_devices.specs.Stretch.{ten, output_by, routed_by};
+ghost use Rattle.std.specs.Prelude.{◌≡◌, ℕ, ◌+◌, ◌*◌, ◌<◌, ◌≤◌, ◌^◌, ◌&&◌, ◌||◌, ◌++◌, not, length, slice_index_or, IsTrue};
+ghost use Rattle.irq_edges.specs.declared.edges.TheConstants.{PLACES};
+ghost use Rattle.irq_edges.specs.Changes.{line_numbers, level_of, change};
+ghost use Rattle.pit_counter.specs.Table.{has_risen};
+ghost use Rattle.pit_readback.specs.Pit.{counter_of};
+ghost use Rattle.hpet_registers.specs.Register.{is_access_width};
+ghost use Rattle.rtc_registers.specs.Registers.{IsRtc, byte_read as rtc_read};
+ghost use Rattle.board_devices.specs.Rises.{one_if, lifts};
+ghost use Rattle.board_devices.specs.Places.{line_at, no_line, ticked_at};
+ghost use Rattle.board_devices.specs.Lines.{levels};
+ghost use Rattle.board_devices.specs.declared.act.Act.TheVariants.{PitRead, PitWrite, IndexWrite, ClockRead, ClockWrite, HpetWrite, Ack};
+ghost use Rattle.board_devices.specs.Act.{is_pit_port, IsLegal, acted, first_part, value_of, act_edges, pit_value, after_pit_read, pit_written, pit_ticked};
 
-use hpet_registers::{Hpet, HpetParts};
-use irq_edges::Lines;
-use rtc_registers::Rtc;
+use crate::acks::{all_acked, all_acks, all_down};
+use crate::clock::{ack_clock_line, again_where, clock_up, counts_rtc, set_clock_line, set_flag};
+use crate::devices::Devices;
+use crate::lines::lines_of;
+use irq_edges::{Edge, EdgeList, changes};
+use pit_readback::Pit;
 use tick_policy::TickLine;
 
 /// What an access asks of the devices.
 #[derive(Clone, Copy)]
 pub enum Act {
-    /// A write to one of the ports 40h to 43h.
+    /// A read of one of the ports 40h to 43h and 61h.
+    PitRead { port: u8 },
+    /// A write to one of them.
     PitWrite { port: u8, byte: u8 },
+    /// A read of port 70h.
+    IndexRead,
+    /// A write to port 70h.
+    IndexWrite { byte: u8 },
     /// A read of port 71h.
-    RtcRead,
-    /// A write of port 71h.
-    RtcWrite { byte: u8 },
-    /// A write to the HPET.
-    HpetWrite { offset: u16, width: u8, v: u64 },
+    ClockRead,
+    /// A write to port 71h.
+    ClockWrite { byte: u8 },
+    /// A read of the HPET: an offset up to 3FFh, and a width of 1, 2, 4 or 8 bytes.
+    HpetRead { offset: u16, width: u8 },
+    /// A write to the HPET, of a value in its width.
+    HpetWrite { offset: u16, width: u8, value: u64 },
     /// An acknowledgement of a line.
     Ack { line: u8 },
     /// Nothing.
-    Step,
+    Nothing,
 }
 
-/// Whether the tick line at a place is up.
-fn up_at(ticks: &[TickLine; 10], k: usize) -> bool
-    requires { k < 10 }
-    ensures { result ≡ (slice_index_or ticks.now k no_line).up }
-{
-    ticks[k].is_up()
-}
-
-/// The output of timer `k`.
-fn output_by(h: &HpetParts, k: u8, ticks: &[TickLine; 10]) -> bool
-    requires { k < 8 }
-    ensures { result ≡ output_by k h.now ticks.now }
-{
-    let timer = h.timer[k as usize];
-    if timer.is_level() {
-        (h.status >> k) % 2 == 1 && timer.is_enabled()
-    } else {
-        up_at(ticks, k as usize + 2)
+impl Devices {
+    /// Does at nanosecond `at` what an access asks, in its two parts, and appends its edges: twelve places must be
+    /// free. Answers what it reads. It lifts a line as often as its level grows, and once more at most.
+    pub fn act(&mut self, a: Act, at: u64, edges: &mut EdgeList) -> u64
+        requires legal { IsLegal a }
+        requires room { (line_at 0 self.old).counts.due + 1 < 2 ^ 63 }
+        requires places { length edges.old + 12 ≤ PLACES }
+        ensures state { self.new ≡ acted a self.old }
+        ensures value { result ≡ value_of at a self.old }
+        ensures edges { edges.new ≡ edges.old ++ act_edges at a self.old }
+        ensures few { length edges.new ≤ length edges.old + 12 }
+        ensures due { (k : ℕ) → k < 10 → (line_at k self.new).counts.due ≤ (line_at k self.old).counts.due + 1 }
+        ensures lifts { (n : ℕ) → lifts n (act_edges at a self.old) + one_if (level_of line_numbers (levels self.old) n) ≤ 1 + one_if (level_of line_numbers (levels self.new) n) }
+    {
+        let _clock = self.rtc.parts();
+        self.act_parts(a, at, edges)
     }
-}
 
-/// Whether timer `k` drives a line to which it is routed.
-fn drives(line: u8, k: u8, h: &HpetParts) -> bool
-    requires { k < 8 }
-    ensures { result ≡ drives line k h.now }
-{
-    h.timer[k as usize].route() == line && !(h.config / 2 % 2 == 1 && k < 2)
-}
-
-/// Whether a timer that is routed to the line is up.
-fn routed_by(line: u8, h: &HpetParts, ticks: &[TickLine; 10]) -> bool
-    ensures { result ≡ routed_by line 8 h.now ticks.now }
-{
-    let mut up = false;
-    for k in 0..8u8 {
-        up = up || (drives(line, k, h) && output_by(h, k, ticks));
-    }
-    up
-}
-
-/// One of two levels.
-fn choice(b: bool, x: bool, y: bool) -> bool
-    ensures { result ≡ (if b then x else y) }
-{
-    if b { x } else { y }
-}
-
-/// The levels of the lines.
-#[tactic(auto, unfolding(crate::specs::Lines::levels))]
-pub(crate) fn lines_of(rtc: &Rtc, hpet: &Hpet, ticks: &[TickLine; 10]) -> Lines
-    ensures { (p : PitParts) (slew : ℕ) → result.levels ≡ levels (record { pit = p; rtc = rtc.now; hpet = hpet.now; ticks = ticks.now; slew_ns = slew }) }
-{
-    let h = hpet.parts();
-    let legacy = hpet.legacy();
-    Lines {
-        levels: [
-            choice(legacy, output_by(&h, 0, ticks), up_at(ticks, 0)),
-            choice(legacy, output_by(&h, 1, ticks), rtc.irqf()),
-            routed_by(20, &h, ticks),
-            routed_by(21, &h, ticks),
-            routed_by(22, &h, ticks),
-            routed_by(23, &h, ticks),
-        ],
-    }
-}
-
-/// Whether timer `k` drives the line now.
-fn drives_now(line: u8, k: u8, h: &HpetParts) -> bool
-    requires { k < 8 }
-    ensures { result ≡ drives_now line k h.now }
-{
-    if h.config / 2 % 2 == 1 && k < 2 {
-        line == if k == 0 { 0 } else { 8 }
-    } else {
-        h.timer[k as usize].route() == line
-    }
-}
-
-/// Whether an acknowledgement of the line reaches the tick line at a place.
-fn acks(line: u8, k: u8, h: &HpetParts) -> bool
-    requires { k < 10 }
-    ensures { result ≡ acks line h.now k }
-{
-    match k {
-        0 => line == 0 && h.config / 2 % 2 == 0,
-        1 => false,
-        _ => {
-            k - 2 < h.timers && !h.timer[k as usize - 2].is_level() && drives_now(line, k - 2, h)
+    /// Does what an access asks, in its two parts.
+    #[tactic(auto, using(crate::proofs::Masks::no_edges), unfolding(crate::specs::Act::acted, crate::specs::Act::first_part, crate::specs::Act::value_of))]
+    fn act_parts(&mut self, a: Act, at: u64, edges: &mut EdgeList) -> u64
+        requires legal { IsLegal a }
+        requires room { (line_at 0 self.old).counts.due + 1 < 2 ^ 63 }
+        requires places { length edges.old + 12 ≤ PLACES }
+        ensures state { self.new ≡ acted a self.old }
+        ensures value { result ≡ value_of at a self.old }
+        ensures edges { edges.new ≡ edges.old ++ act_edges at a self.old }
+        ensures few { length edges.new ≤ length edges.old + 12 }
+        ensures due { (k : ℕ) → k < 10 → (line_at k self.new).counts.due ≤ (line_at k self.old).counts.due + 1 }
+    {
+        match a {
+            Act::PitRead { port } => self.read_pit(port, at) as u64,
+            Act::PitWrite { port, byte } => {
+                self.write_pit(port, byte, at, edges);
+                0
+            }
+            Act::IndexRead => 0xff,
+            Act::IndexWrite { byte } => {
+                self.write_index(byte);
+                0
+            }
+            Act::ClockRead => self.read_clock(at, edges) as u64,
+            Act::ClockWrite { byte } => {
+                self.write_clock(byte, at, edges);
+                0
+            }
+            Act::HpetRead { offset, width } => self.hpet.read(offset, width),
+            Act::HpetWrite { offset, width, value } => {
+                self.write_hpet(offset, width, value, at, edges);
+                0
+            }
+            Act::Ack { line } => {
+                self.ack(line, at, edges);
+                0
+            }
+            Act::Nothing => 0,
         }
     }
 }
 
-/// The places that an acknowledgement of the line reaches.
-pub(crate) fn all_acks(line: u8, h: &HpetParts) -> [bool; 10]
-    ensures { result ≡ map (acks line h.now) ten }
-{
-    [
-        acks(line, 0, h),
-        acks(line, 1, h),
-        acks(line, 2, h),
-        acks(line, 3, h),
-        acks(line, 4, h),
-        acks(line, 5, h),
-        acks(line, 6, h),
-        acks(line, 7, h),
-        acks(line, 8, h),
-        acks(line, 9, h),
-    ]
-}
-
-/// The line at a place, acknowledged where the mask says so.
-fn acked_at(ticks: &[TickLine; 10], mask: &[bool; 10], k: usize) -> TickLine
-    requires { k < 10 }
-    ensures { result ≡ acked_where (slice_index_or mask.now k false) (slice_index_or ticks.now k no_line) }
-{
-    let mut line = ticks[k];
-    if mask[k] {
-        line.ack();
+impl Devices {
+    /// A read of a port of the 8254.
+    #[tactic(auto, unfolding(crate::specs::Act::acted))]
+    fn read_pit(&mut self, port: u8, at: u64) -> u8
+        requires { IsTrue (is_pit_port port) }
+        ensures state { self.new ≡ acted (PitRead port) self.old }
+        ensures value { result ≡ pit_value at port self.old.pit }
+    {
+        read_port(&mut self.pit, port, at)
     }
-    line
-}
 
-/// All lines, acknowledged where the mask says so.
-pub(crate) fn all_acked(ticks: &[TickLine; 10], mask: &[bool; 10]) -> [TickLine; 10]
-    ensures { result ≡ map (λ k. acked_where (slice_index_or mask.now k false) (slice_index_or ticks.now k no_line)) ten }
-{
-    [
-        acked_at(ticks, mask, 0),
-        acked_at(ticks, mask, 1),
-        acked_at(ticks, mask, 2),
-        acked_at(ticks, mask, 3),
-        acked_at(ticks, mask, 4),
-        acked_at(ticks, mask, 5),
-        acked_at(ticks, mask, 6),
-        acked_at(ticks, mask, 7),
-        acked_at(ticks, mask, 8),
-        acked_at(ticks, mask, 9),
-    ]
-}
-
-/// The line at a place, put down where the mask says so.
-fn down_at(ticks: &[TickLine; 10], mask: &[bool; 10], k: usize) -> TickLine
-    requires { k < 10 }
-    ensures { result ≡ down_where (slice_index_or mask.now k false) (slice_index_or ticks.now k no_line) }
-{
-    let mut line = ticks[k];
-    if mask[k] {
-        line.set_up(false);
+    /// A write to a port of the 8254. A tick is due where OUT 0 rises.
+    #[tactic(auto, unfolding(crate::specs::Act::acted, crate::specs::Act::first_part))]
+    fn write_pit(&mut self, port: u8, byte: u8, at: u64, edges: &mut EdgeList)
+        requires port { IsTrue (is_pit_port port) }
+        requires places { length edges.old + 12 ≤ PLACES }
+        requires room { (line_at 0 self.old).counts.due + 1 < 2 ^ 63 }
+        ensures state { self.new ≡ acted (PitWrite port byte) self.old }
+        ensures edges { edges.new ≡ edges.old ++ act_edges at (PitWrite port byte) self.old }
+        ensures few { length edges.new ≤ length edges.old + 12 }
+        ensures due { (k : ℕ) → k < 10 → (line_at k self.new).counts.due ≤ (line_at k self.old).counts.due + 1 }
+    {
+        let legacy = self.hpet.legacy();
+        let before = self.ticks[0].is_up();
+        let counted = is_counted(write_port(&mut self.pit, port, byte), legacy);
+        tick_first(&mut self.ticks, counted);
+        push_change(0, before, either(before, counted), at, edges);
     }
-    line
 }
 
-/// All lines, put down where the mask says so.
-pub(crate) fn all_down(ticks: &[TickLine; 10], mask: &[bool; 10]) -> [TickLine; 10]
-    ensures { result ≡ map (λ k. down_where (slice_index_or mask.now k false) (slice_index_or ticks.now k no_line)) ten }
+impl Devices {
+    /// A write to port 70h.
+    #[tactic(auto, unfolding(crate::specs::Act::acted))]
+    fn write_index(&mut self, byte: u8)
+        ensures { self.new ≡ acted (IndexWrite byte) self.old }
+    {
+        self.rtc.write_index(byte);
+    }
+
+    /// A read of port 71h. One of register C acknowledges the clock's tick line.
+    #[tactic(auto, unfolding(crate::specs::Act::acted, crate::specs::Act::first_part))]
+    fn read_clock(&mut self, at: u64, edges: &mut EdgeList) -> u8
+        requires { length edges.old + 12 ≤ PLACES }
+        ensures state { self.new ≡ acted ClockRead self.old }
+        ensures value { result ≡ rtc_read self.old.rtc }
+        ensures edges { edges.new ≡ edges.old ++ act_edges at ClockRead self.old }
+        ensures few { length edges.new ≤ length edges.old + 12 }
+        ensures due { (k : ℕ) → k < 10 → (line_at k self.new).counts.due ≡ (line_at k self.old).counts.due }
+    {
+        if self.rtc.parts().index == 0x0c {
+            self.read_flags(at, edges)
+        } else {
+            self.rtc.read()
+        }
+    }
+
+    /// A read of register C.
+    #[tactic(auto, unfolding(crate::specs::Act::acted, crate::specs::Act::first_part))]
+    fn read_flags(&mut self, at: u64, edges: &mut EdgeList) -> u8
+        requires index { self.old.rtc.index ≡ 0x0c }
+        requires valid { IsRtc self.old.rtc }
+        requires places { length edges.old + 12 ≤ PLACES }
+        ensures state { self.new ≡ acted ClockRead self.old }
+        ensures value { result ≡ rtc_read self.old.rtc }
+        ensures edges { edges.new ≡ edges.old ++ act_edges at ClockRead self.old }
+        ensures few { length edges.new ≤ length edges.old + 12 }
+        ensures due { (k : ℕ) → k < 10 → (line_at k self.new).counts.due ≡ (line_at k self.old).counts.due }
+    {
+        let legacy = self.hpet.legacy();
+        let counts = counts_rtc(self.rtc.pie(), legacy);
+        let before = where_plain(legacy, self.rtc.irqf());
+        let byte = self.rtc.read();
+        let middle = where_plain(legacy, self.rtc.irqf());
+        let again = again_where(counts, &self.ticks);
+        set_flag(&mut self.rtc, again);
+        ack_clock_line(&mut self.ticks, counts);
+        let after = where_plain(legacy, self.rtc.irqf());
+        push_change(8, before, middle, at, edges);
+        push_change(8, middle, after, at, edges);
+        byte
+    }
+
+    /// A write to port 71h. The clock's tick line follows PF.
+    #[tactic(auto, unfolding(crate::specs::Act::acted, crate::specs::Act::first_part))]
+    fn write_clock(&mut self, byte: u8, at: u64, edges: &mut EdgeList)
+        requires { length edges.old + 12 ≤ PLACES }
+        ensures state { self.new ≡ acted (ClockWrite byte) self.old }
+        ensures edges { edges.new ≡ edges.old ++ act_edges at (ClockWrite byte) self.old }
+        ensures few { length edges.new ≤ length edges.old + 12 }
+        ensures due { (k : ℕ) → k < 10 → (line_at k self.new).counts.due ≡ (line_at k self.old).counts.due }
+    {
+        let legacy = self.hpet.legacy();
+        let before = where_plain(legacy, self.rtc.irqf());
+        self.rtc.write(byte);
+        set_clock_line(&mut self.ticks, clock_up(&self.rtc, &self.hpet));
+        let after = where_plain(legacy, self.rtc.irqf());
+        push_change(8, before, after, at, edges);
+    }
+}
+
+impl Devices {
+    /// A write to the HPET. The clock's tick line follows PF and legacy replacement.
+    #[tactic(auto, unfolding(crate::specs::Act::acted, crate::specs::Act::first_part))]
+    fn write_hpet(&mut self, offset: u16, width: u8, v: u64, at: u64, edges: &mut EdgeList)
+        requires offset { offset ≤ 0x3ff }
+        requires width { IsTrue (is_access_width width) }
+        requires fits { v < 2 ^ (8 * width) }
+        requires places { length edges.old + 12 ≤ PLACES }
+        ensures state { self.new ≡ acted (HpetWrite offset width v) self.old }
+        ensures edges { edges.new ≡ edges.old ++ act_edges at (HpetWrite offset width v) self.old }
+        ensures few { length edges.new ≤ length edges.old + 12 }
+        ensures due { (k : ℕ) → k < 10 → (line_at k self.new).counts.due ≡ (line_at k self.old).counts.due }
+    {
+        let before = lines_of(&self.rtc, &self.hpet, &self.ticks);
+        self.hpet.write(offset, width, v);
+        set_clock_line(&mut self.ticks, clock_up(&self.rtc, &self.hpet));
+        let after = lines_of(&self.rtc, &self.hpet, &self.ticks);
+        changes(before, after, at, edges);
+    }
+
+    /// An acknowledgement of a line, in its two parts.
+    #[tactic(auto, unfolding(crate::specs::Act::acted, crate::specs::Act::first_part))]
+    fn ack(&mut self, line: u8, at: u64, edges: &mut EdgeList)
+        requires { length edges.old + 12 ≤ PLACES }
+        ensures state { self.new ≡ acted (Ack line) self.old }
+        ensures edges { edges.new ≡ edges.old ++ act_edges at (Ack line) self.old }
+        ensures few { length edges.new ≤ length edges.old + 12 }
+        ensures due { (k : ℕ) → k < 10 → (line_at k self.new).counts.due ≡ (line_at k self.old).counts.due }
+    {
+        let mask = all_acks(line, &self.hpet.parts());
+        let before = lines_of(&self.rtc, &self.hpet, &self.ticks);
+        let down = all_down(&self.ticks, &mask);
+        let middle = lines_of(&self.rtc, &self.hpet, &down);
+        let up_again = all_acked(&self.ticks, &mask);
+        let after = lines_of(&self.rtc, &self.hpet, &up_again);
+        self.ticks = up_again;
+        changes(before, middle, at, edges);
+        changes(middle, after, at, edges);
+    }
+}
+
+/// A read of a port of the 8254.
+fn read_port(pit: &mut Pit, port: u8, at: u64) -> u8
+    requires { IsTrue (is_pit_port port) }
+    ensures state { pit.new ≡ after_pit_read port pit.old }
+    ensures value { result ≡ pit_value at port pit.old }
 {
-    [
-        down_at(ticks, mask, 0),
-        down_at(ticks, mask, 1),
-        down_at(ticks, mask, 2),
-        down_at(ticks, mask, 3),
-        down_at(ticks, mask, 4),
-        down_at(ticks, mask, 5),
-        down_at(ticks, mask, 6),
-        down_at(ticks, mask, 7),
-        down_at(ticks, mask, 8),
-        down_at(ticks, mask, 9),
-    ]
+    if port == 0x61 { pit.read_61(at) } else { pit.read(port) }
+}
+
+/// A write to a port of the 8254. Answers whether OUT 0 rose.
+fn write_port(pit: &mut Pit, port: u8, byte: u8) -> bool
+    requires { IsTrue (is_pit_port port) }
+    ensures state { pit.new ≡ pit_written port byte pit.old }
+    ensures rose { result ≡ has_risen (counter_of pit.old 0) (counter_of (pit_written port byte pit.old) 0) }
+{
+    if port == 0x61 {
+        pit.write_61(byte);
+        false
+    } else {
+        pit.write(port, byte)
+    }
+}
+
+/// Whether a rise of OUT 0 is counted.
+fn is_counted(rose: bool, legacy: bool) -> bool
+    ensures { result ≡ (rose && not legacy) }
+{
+    rose && !legacy
+}
+
+/// Whether one of two holds.
+fn either(a: bool, b: bool) -> bool
+    ensures { result ≡ (a || b) }
+{
+    a || b
+}
+
+/// A level of line 8 that the clock drives: legacy replacement hides it.
+fn where_plain(legacy: bool, level: bool) -> bool
+    ensures { result ≡ (not legacy && level) }
+{
+    !legacy && level
+}
+
+/// A tick is due at the first place, where `b` holds.
+#[tactic(auto, using(crate::proofs::Masks::ticked_first, crate::proofs::Masks::ticked_none))]
+fn tick_first(ticks: &mut [TickLine; 10], b: bool)
+    requires { (slice_index_or ticks.old 0 no_line).counts.due + 1 < 2 ^ 63 }
+    ensures { ticks.new ≡ ticked_at (pit_ticked b) ticks.old }
+{
+    if b {
+        let mut line = ticks[0];
+        line.due(1);
+        ticks[0] = line;
+    }
+}
+
+/// Appends the edge of a line between two levels, where they differ.
+fn push_change(line: u8, before: bool, after: bool, at: u64, edges: &mut EdgeList)
+    requires { length edges.old < PLACES }
+    ensures appended { edges.new ≡ edges.old ++ change at line before after }
+    ensures few { length edges.new ≤ length edges.old + 1 }
+{
+    if before != after {
+        edges.push(Edge {
+            at,
+            line,
+            up: after,
+        });
+    }
 }

@@ -3,13 +3,13 @@ ghost use Rattle.std.specs.Prelude.{◌≡◌, ℕ, ◌+◌, ◌-◌, ◌^◌, �
 ghost use Rattle.rtc_registers.specs.Registers.{has_bit, pie_of, af_of, aie_of, uf_of, uie_of};
 ghost use Rattle.hpet_registers.specs.Parts.{timer_at};
 ghost use Rattle.board_devices.specs.Lines.{drives};
-ghost use Rattle.board_devices.specs.Stretch.{eight, either_from, flag_from, output_from, routed_from};
+ghost use Rattle.board_devices.specs.private.Stretch.{eight, either_from, flag_from, output_from, routed_from};
 
 use hpet_registers::HpetParts;
 use rtc_registers::RtcParts;
 
 /// The earlier of two times.
-#[tactic(auto, unfolding(crate::specs::Stretch::either_from))]
+#[tactic(auto, unfolding(crate::specs::private::Stretch::either_from))]
 pub(crate) fn either_from(a: Option<u64>, b: Option<u64>) -> Option<u64>
     ensures { result ≡ either_from a b }
 {

@@ -5,7 +5,7 @@ ghost use Rattle.hpet_comparator.specs.Timer.{is_level, is_enabled};
 ghost use Rattle.hpet_registers.specs.Pulses.{place_of};
 ghost use Rattle.board_devices.specs.Places.{no_line};
 ghost use Rattle.board_devices.specs.Nanosecond.{hpet_hz};
-ghost use Rattle.board_devices.specs.Stretch.{eight, first_at, counted, no_ticks, timer_ticks, ticks_at, end_of, up_of};
+ghost use Rattle.board_devices.specs.private.Stretch.{eight, first_at, counted, no_ticks, timer_ticks, ticks_at, end_of, up_of};
 
 use clk_units::{pulses_of, time_of_pulse};
 use hpet_comparator::{Matches, TimerParts};

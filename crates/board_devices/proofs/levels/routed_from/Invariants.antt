@@ -1,5 +1,5 @@
 use Rattle.std.proofs.Common.{◌≡◌}
-use Rattle.board_devices.specs.Stretch.{routed_from}
+use Rattle.board_devices.specs.private.Stretch.{routed_from}
 use Rattle.board_devices.proofs.levels.routed_from.Given as goal
 
 abbrev pub invariant-loop-k : goal.invariant-loop-k

@@ -4,7 +4,7 @@ use Rattle.std.proofs.lemmas.List.{get_or_default}
 use Rattle.tick_policy.specs.declared.line.TickParts.{TickParts}
 use Rattle.board_devices.specs.Places.{no_line}
 use Rattle.board_devices.specs.declared.stretch.Ticks.{Ticks}
-use Rattle.board_devices.specs.Stretch.{ticks_at, end_of, up_of}
+use Rattle.board_devices.specs.private.Stretch.{ticks_at, end_of, up_of}
 use Rattle.board_devices.proofs.Places.{more, still_behind}
 use Rattle.board_devices.proofs.stretch.run_lines.Goals as goal
 

@@ -1,6 +1,6 @@
 use Rattle.std.proofs.Common.{◌≡◌, ℕ, ◌<◌, ◌≤◌, get_or, length, None}
 use Rattle.board_devices.specs.Places.{no_line}
-use Rattle.board_devices.specs.Stretch.{ticks_at, end_of, up_of}
+use Rattle.board_devices.specs.private.Stretch.{ticks_at, end_of, up_of}
 use Rattle.board_devices.proofs.stretch.run_lines.Given as goal
 
 abbrev pub invariant-loop-k : goal.invariant-loop-k

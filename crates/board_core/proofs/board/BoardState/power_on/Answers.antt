@@ -2,7 +2,7 @@ use Rattle.std.proofs.Common.{◌≡◌, ℕ, zero, suc, get_or, replicate, refl
 use Rattle.host_counter.specs.Time.{time_at}
 use Rattle.host_counter.proofs.Times.{time_at-start}
 use Rattle.tick_policy.specs.declared.line.Policy.TheVariants.{Delay}
-use Rattle.board_devices.specs.declared.devices.DeviceParts.{DeviceParts}
+use Rattle.board_devices.specs.declared.parts.DeviceParts.{DeviceParts}
 use Rattle.board_devices.specs.Places.{line_at}
 use Rattle.board_core.proofs.PowerOn.{versions_at_power_on}
 use Rattle.board_devices.proofs.PowerOn.{due_at_power_on}

@@ -6,7 +6,7 @@ use Rattle.board_devices.proofs.Rises.{lifts-++, one_if-le}
 use Rattle.host_counter.specs.Time.{time_at}
 use Rattle.board_core.specs.declared.board.BoardParts.{BoardParts}
 use Rattle.board_core.specs.declared.board.ProcessorParts.{ProcessorParts}
-use Rattle.board_devices.specs.declared.devices.DeviceParts.{DeviceParts}
+use Rattle.board_devices.specs.declared.parts.DeviceParts.{DeviceParts}
 use Rattle.board_devices.specs.declared.act.Act.{Act}
 use Rattle.board_devices.specs.Run.{run}
 use Rattle.board_devices.specs.Act.{act_edges}

@@ -1,18 +1,33 @@
-use Rattle.std.proofs.Common.{◌≡◌, ℕ, Bool, List, length, map, ◌++◌, ap, sym, ◌∙◌, arith}
+use Rattle.std.proofs.Common.{◌≡◌, ℕ, Bool, List, length, map, get_or, refl, ◌++◌, ap, sym, ◌∙◌, arith}
 use Rattle.hpet_registers.specs.declared.parts.HpetParts.{HpetParts}
 use Rattle.tick_policy.specs.declared.line.TickParts.{TickParts}
-use Rattle.board_devices.specs.declared.devices.DeviceParts.{DeviceParts}
+use Rattle.board_devices.specs.declared.parts.DeviceParts.{DeviceParts}
 use Rattle.board_devices.specs.declared.act.Act.TheVariants.{Ack}
-use Rattle.board_devices.specs.Places.{each}
+use Rattle.board_devices.specs.Places.{each, no_line}
 use Rattle.board_devices.specs.Act.{acks, acked_where, down_where, acted, first_part, act_edges}
-use Rattle.board_devices.specs.Stretch.{ten}
+use Rattle.board_devices.specs.private.Stretch.{ten}
 use Rattle.board_devices.specs.Lines.{levels}
 use Rattle.board_devices.specs.View.{parts_of}
+use Rattle.board_devices.proofs.Places.{each-at}
+use Rattle.board_devices.proofs.Keeps.{IsDevices-each, KeepsLines-acked}
 use Rattle.board_devices.proofs.Masks.{masked, two_parts, due-acked}
 use Rattle.board_devices.proofs.devices.Devices.ack.Goals as goal
 
 mask_is : (c : goal.After-changes-2) → c.all_acks-mask.result ≡ map (acks c.args.line c.self.inside.hpet) ten
 mask_is c = c.all_acks-mask.ensures ∙ ap (λ (h : HpetParts). map (acks c.args.line h) ten) c.parts.ensures.parts
+
+again : (c : goal.After-changes-2) → c.all_acked-up_again.result ≡ each (λ k l. acked_where (acks c.args.line c.self.inside.hpet k) l) 0 c.self.inside.ticks
+again c = masked acked_where (acks c.args.line c.self.inside.hpet) c.all_acks-mask.result c.self.inside.ticks c.all_acked-up_again.result c.self.invariant.places (mask_is c) c.all_acked-up_again.ensures
+
+pub invariant_of-self : goal.invariant_of-self
+invariant_of-self c =
+    let d : DeviceParts = parts_of c.self.inside in
+    IsDevices-each d d.pit d.rtc d.hpet c.all_acked-up_again.result (λ k l. acked_where (acks c.args.line d.hpet k) l) c.self.invariant (again c) (KeepsLines-acked (acks c.args.line d.hpet) d.hpet.timers) refl refl
+    (ap (λ (ls : List TickParts). (get_or ls 1 no_line).up) (again c) ∙ ap (λ (l : TickParts). l.up) (each-at (λ k l. acked_where (acks c.args.line d.hpet k) l) 0 1 d.ticks no_line (omega (arith, c.self.invariant.places))) ∙ c.self.invariant.flag)
+
+pub returns-clause-state : goal.returns-clause-state
+unfolding acted
+returns-clause-state c = ap (λ (ls : List TickParts). record (parts_of c.self.inside) { ticks = ls }) (again c) ∙ ap (acted (Ack c.args.line)) c.self.view_is
 
 pub returns-clause-due : goal.returns-clause-due
 returns-clause-due c = λ k less. rw (← c.self.view_is) (due-acked (acks c.args.line c.self.inside.hpet) c.self.inside.ticks c.all_acked-up_again.result c.self.invariant.places

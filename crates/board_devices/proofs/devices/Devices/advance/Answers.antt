@@ -8,15 +8,15 @@ use Rattle.clk_units.specs.Events.{CountsUp, IsFirst}
 use Rattle.tick_policy.specs.Stretch.{IsFirstPoint}
 use Rattle.tick_policy.proofs.Stretches.{next_point}
 use Rattle.hpet_registers.specs.Parts.{is_legacy}
-use Rattle.board_devices.specs.declared.devices.DeviceParts.{DeviceParts}
+use Rattle.board_devices.specs.declared.parts.DeviceParts.{DeviceParts}
 use Rattle.board_devices.specs.declared.stretch.Ticks.{Ticks}
 use Rattle.hpet_registers.specs.declared.parts.HpetParts.{HpetParts}
 use Rattle.hpet_registers.specs.Pulses.{place_of}
 use Rattle.board_devices.specs.Places.{line_at, no_line}
 use Rattle.board_devices.specs.Nanosecond.{pit_hz, rtc_hz, hpet_hz, counts_rtc}
-use Rattle.board_devices.specs.Stretch.{first_at, counted, no_ticks, timer_ticks, ticks_at, end_of, up_of, flagged_where}
+use Rattle.board_devices.specs.private.Stretch.{first_at, counted, no_ticks, timer_ticks, ticks_at, end_of, up_of, flagged_where}
 use Rattle.board_devices.specs.Run.{run}
-use Rattle.board_devices.specs.Valid.{IsDevices}
+use Rattle.board_devices.specs.Parts.{IsDevices}
 use Rattle.board_devices.specs.View.{parts_of}
 use Rattle.board_devices.proofs.Places.{at-eight}
 use Rattle.board_devices.proofs.Product.{Sound, run-parted}

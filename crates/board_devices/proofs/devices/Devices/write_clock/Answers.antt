@@ -1,53 +1,53 @@
 use Rattle.std.proofs.Common.{◌≡◌, ℕ, Bool, ◌&&◌, not, List, length, get_or, ◌++◌, ap, sym, refl, ◌∙◌, arith}
+use Rattle.irq_edges.specs.declared.edges.Edge.{Edge}
+use Rattle.irq_edges.specs.Changes.{change}
 use Rattle.rtc_registers.specs.declared.parts.RtcParts.{RtcParts}
-use Rattle.rtc_registers.specs.Registers.{pf_of}
-use Rattle.hpet_registers.specs.declared.parts.HpetParts.{HpetParts}
-use Rattle.pit_readback.specs.declared.parts.PitParts.{PitParts}
+use Rattle.rtc_registers.specs.Registers.{pf_of, irqf_of, written as rtc_written}
+use Rattle.hpet_registers.specs.Parts.{is_legacy}
 use Rattle.tick_policy.specs.declared.line.TickParts.{TickParts}
-use Rattle.board_devices.specs.declared.devices.DeviceParts.{DeviceParts}
-use Rattle.board_devices.specs.declared.act.Act.TheVariants.{PitWrite, RtcWrite, HpetWrite}
-use Rattle.board_devices.specs.Places.{each, line_at, no_line, ticked_at}
+use Rattle.board_devices.specs.declared.parts.DeviceParts.{DeviceParts}
+use Rattle.board_devices.specs.declared.act.Act.TheVariants.{ClockWrite}
+use Rattle.board_devices.specs.Places.{each, line_at, no_line}
 use Rattle.board_devices.specs.Nanosecond.{counts_rtc}
-use Rattle.board_devices.specs.Act.{acted, first_part, act_edges, rtc_set, pit_ticked}
-use Rattle.board_devices.specs.Lines.{levels}
-use Rattle.board_devices.specs.Valid.{IsDevices}
+use Rattle.board_devices.specs.Act.{acted, first_part, act_edges, rtc_set}
 use Rattle.board_devices.specs.View.{parts_of}
-use Rattle.board_devices.proofs.Places.{each-at, length-each}
-use Rattle.board_devices.proofs.Masks.{one_part, due-set, due-ticked, line_of_clock}
+use Rattle.board_devices.proofs.Masks.{due-set, line_of_clock}
+use Rattle.board_devices.proofs.Keeps.{IsDevices-each, KeepsLines-rtc_set}
+use Rattle.board_devices.proofs.ActEdges.{edges-clock_write, shown}
 use Rattle.board_devices.proofs.devices.Devices.write_clock.Goals as goal
 
 -- the devices behind the write, their lines as before
-moved : (c : goal.After-changes) → DeviceParts
+moved : (c : goal.After-push_change) → DeviceParts
 moved c = record { pit = c.self.inside.pit; rtc = c.write.new.self; hpet = c.self.inside.hpet; ticks = c.self.inside.ticks; slew_ns = c.self.inside.slew_ns }
 
-lines : (c : goal.After-changes) → c.set_clock_line.new.ticks ≡ each (rtc_set (counts_rtc (moved c) && pf_of (moved c).rtc)) 0 c.self.inside.ticks
+lines : (c : goal.After-push_change) → c.set_clock_line.new.ticks ≡ each (rtc_set (counts_rtc (moved c) && pf_of (moved c).rtc)) 0 c.self.inside.ticks
 unfolding moved
 lines c = c.set_clock_line.ensures ∙ ap (λ (up : Bool). each (rtc_set up) 0 c.self.inside.ticks) c.clock_up.ensures
 
-state : (c : goal.After-changes) → parts_of (record { pit = c.self.inside.pit; rtc = c.write.new.self; hpet = c.self.inside.hpet; ticks = c.set_clock_line.new.ticks; slew_ns = c.self.inside.slew_ns }) ≡ acted (RtcWrite c.args.byte) (parts_of c.self.inside)
-unfolding acted moved
-state c =
-    ap (λ (ls : List TickParts). record (moved c) { ticks = ls }) (lines c)
-    ∙ ap (λ (x : RtcParts). record (parts_of c.self.inside) { rtc = x; ticks = each (rtc_set (counts_rtc (record (parts_of c.self.inside) { rtc = x }) && pf_of x)) 0 c.self.inside.ticks }) c.write.ensures
-
 pub invariant_of-self : goal.invariant_of-self
 unfolding moved
-invariant_of-self c = record {
-  places = ap (λ (ls : List TickParts). length ls) (lines c) ∙ length-each _ 0 c.self.inside.ticks ∙ c.self.invariant.places;
-  slew_low = c.self.invariant.slew_low;
-  slew_high = c.self.invariant.slew_high;
-  flag = ap (λ (ls : List TickParts). (get_or ls 1 no_line).up) (lines c) ∙ line_of_clock (counts_rtc (moved c) && pf_of (moved c).rtc) c.self.inside.ticks c.self.invariant.places;
-}
+invariant_of-self c = IsDevices-each (parts_of c.self.inside) c.self.inside.pit c.write.new.self c.self.inside.hpet c.set_clock_line.new.ticks _ c.self.invariant (lines c) (KeepsLines-rtc_set (counts_rtc (moved c) && pf_of (moved c).rtc) c.self.inside.hpet.timers) refl refl
+    (ap (λ (ls : List TickParts). (get_or ls 1 no_line).up) (lines c) ∙ line_of_clock (counts_rtc (moved c) && pf_of (moved c).rtc) c.self.inside.ticks c.self.invariant.places)
 
 pub returns-clause-state : goal.returns-clause-state
-returns-clause-state c = state c ∙ ap (acted (RtcWrite c.args.byte)) c.self.view_is
+unfolding acted moved
+returns-clause-state c =
+    ap (λ (ls : List TickParts). record (moved c) { ticks = ls }) (lines c)
+    ∙ ap (λ (x : RtcParts). record (parts_of c.self.inside) { rtc = x; ticks = each (rtc_set (counts_rtc (record (parts_of c.self.inside) { rtc = x }) && pf_of x)) 0 c.self.inside.ticks }) c.write.ensures
+    ∙ ap (acted (ClockWrite c.args.byte)) c.self.view_is
 
 pub returns-clause-edges : goal.returns-clause-edges
-unfolding first_part
-returns-clause-edges c =
-    one_part c.args.at c.args.edges.now c.changes.new.into c.lines_of-before.result.levels c.lines_of-after.result.levels (parts_of c.self.inside) (acted (RtcWrite c.args.byte) (parts_of c.self.inside))
-    c.changes.ensures.appended (c.lines_of-before.ensures c.self.inside.pit c.self.inside.slew_ns) (c.lines_of-after.ensures c.self.inside.pit c.self.inside.slew_ns ∙ ap levels (state c))
-    ∙ ap (λ (d : DeviceParts). c.args.edges.now ++ act_edges c.args.at (RtcWrite c.args.byte) d) c.self.view_is
+returns-clause-edges c = c.push_change.ensures.appended
+    ∙ ap (λ (es : List Edge). c.args.edges.now ++ es) (
+    ap (λ (b : Bool). change c.args.at 8 b c.where_plain-after.result) (before c) ∙ ap (change c.args.at 8 (shown (parts_of c.self.inside) c.self.inside.rtc)) (after c)
+    ∙ sym (edges-clock_write c.args.at c.args.byte (parts_of c.self.inside)))
+    ∙ ap (λ (d : DeviceParts). c.args.edges.now ++ act_edges c.args.at (ClockWrite c.args.byte) d) c.self.view_is
+  where
+    before : (c : goal.After-push_change) → c.where_plain-before.result ≡ shown (parts_of c.self.inside) c.self.inside.rtc
+    before c = rw (c.where_plain-before.ensures, c.legacy-legacy.ensures, c.irqf.ensures) refl
+
+    after : (c : goal.After-push_change) → c.where_plain-after.result ≡ shown (parts_of c.self.inside) (rtc_written c.args.byte c.self.inside.rtc)
+    after c = rw (c.where_plain-after.ensures, c.legacy-legacy.ensures, c.irqf-2.ensures) (ap (λ (r : RtcParts). not (is_legacy c.self.inside.hpet) && irqf_of r) c.write.ensures)
 
 pub returns-clause-due : goal.returns-clause-due
 returns-clause-due c = λ k less. rw (← c.self.view_is) (due-set (counts_rtc (moved c) && pf_of (moved c).rtc) c.self.inside.ticks c.set_clock_line.new.ticks c.self.invariant.places (lines c) k less)

@@ -4,15 +4,15 @@ use Rattle.rtc_registers.specs.Registers.{pf_of}
 use Rattle.hpet_registers.specs.declared.parts.HpetParts.{HpetParts}
 use Rattle.pit_readback.specs.declared.parts.PitParts.{PitParts}
 use Rattle.tick_policy.specs.declared.line.TickParts.{TickParts}
-use Rattle.board_devices.specs.declared.devices.DeviceParts.{DeviceParts}
-use Rattle.board_devices.specs.declared.act.Act.TheVariants.{PitWrite, RtcWrite, HpetWrite}
+use Rattle.board_devices.specs.declared.parts.DeviceParts.{DeviceParts}
+use Rattle.board_devices.specs.declared.act.Act.TheVariants.{PitWrite, ClockWrite, HpetWrite}
 use Rattle.board_devices.specs.Places.{each, line_at, no_line, ticked_at}
 use Rattle.board_devices.specs.Nanosecond.{counts_rtc}
 use Rattle.board_devices.specs.Act.{acted, first_part, act_edges, rtc_set, pit_ticked}
 use Rattle.board_devices.specs.Lines.{levels}
-use Rattle.board_devices.specs.Valid.{IsDevices}
+use Rattle.board_devices.specs.Parts.{IsDevices}
 use Rattle.board_devices.specs.View.{parts_of}
-use Rattle.board_devices.proofs.Places.{each-at, length-each}
+use Rattle.board_devices.proofs.Keeps.{IsDevices-each, KeepsLines-rtc_set, timers-hpet_written, messages-hpet_written}
 use Rattle.board_devices.proofs.Masks.{one_part, due-set, due-ticked, line_of_clock}
 use Rattle.board_devices.proofs.devices.Devices.write_hpet.Goals as goal
 
@@ -32,12 +32,10 @@ state c =
 
 pub invariant_of-self : goal.invariant_of-self
 unfolding moved
-invariant_of-self c = record {
-  places = ap (λ (ls : List TickParts). length ls) (lines c) ∙ length-each _ 0 c.self.inside.ticks ∙ c.self.invariant.places;
-  slew_low = c.self.invariant.slew_low;
-  slew_high = c.self.invariant.slew_high;
-  flag = ap (λ (ls : List TickParts). (get_or ls 1 no_line).up) (lines c) ∙ line_of_clock (counts_rtc (moved c) && pf_of (moved c).rtc) c.self.inside.ticks c.self.invariant.places;
-}
+invariant_of-self c = IsDevices-each (parts_of c.self.inside) c.self.inside.pit c.self.inside.rtc c.write.new.self c.set_clock_line.new.ticks _ c.self.invariant (lines c) (KeepsLines-rtc_set (counts_rtc (moved c) && pf_of (moved c).rtc) c.self.inside.hpet.timers)
+    (ap (λ (h : HpetParts). h.timers) c.write.ensures.value ∙ timers-hpet_written c.args.offset c.args.width c.args.v c.self.inside.hpet)
+    (ap (λ (h : HpetParts). h.messages) c.write.ensures.value ∙ messages-hpet_written c.args.offset c.args.width c.args.v c.self.inside.hpet)
+    (ap (λ (ls : List TickParts). (get_or ls 1 no_line).up) (lines c) ∙ line_of_clock (counts_rtc (moved c) && pf_of (moved c).rtc) c.self.inside.ticks c.self.invariant.places)
 
 pub returns-clause-state : goal.returns-clause-state
 returns-clause-state c = state c ∙ ap (acted (HpetWrite c.args.offset c.args.width c.args.v)) c.self.view_is

@@ -1,51 +1,54 @@
-use Rattle.std.proofs.Common.{◌≡◌, ℕ, Bool, ◌&&◌, not, List, length, get_or, ◌++◌, ap, sym, refl, ◌∙◌, arith}
-use Rattle.rtc_registers.specs.declared.parts.RtcParts.{RtcParts}
-use Rattle.rtc_registers.specs.Registers.{pf_of}
-use Rattle.hpet_registers.specs.declared.parts.HpetParts.{HpetParts}
+use Rattle.std.proofs.Common.{◌≡◌, ℕ, Bool, ◌&&◌, ◌||◌, not, List, length, get_or, ◌++◌, ap, sym, refl, ◌∙◌, arith}
+use Rattle.std.proofs.lemmas.List.{get_or_default}
+use Rattle.irq_edges.specs.Changes.{change}
+use Rattle.irq_edges.specs.declared.edges.Edge.{Edge}
 use Rattle.pit_readback.specs.declared.parts.PitParts.{PitParts}
 use Rattle.tick_policy.specs.declared.line.TickParts.{TickParts}
-use Rattle.board_devices.specs.declared.devices.DeviceParts.{DeviceParts}
-use Rattle.board_devices.specs.declared.act.Act.TheVariants.{PitWrite, RtcWrite, HpetWrite}
-use Rattle.board_devices.specs.Places.{each, line_at, no_line, ticked_at}
-use Rattle.board_devices.specs.Nanosecond.{counts_rtc}
-use Rattle.board_devices.specs.Act.{acted, first_part, act_edges, rtc_set, pit_ticked}
-use Rattle.board_devices.specs.Lines.{levels}
-use Rattle.board_devices.specs.Valid.{IsDevices}
+use Rattle.board_devices.specs.declared.parts.DeviceParts.{DeviceParts}
+use Rattle.board_devices.specs.declared.act.Act.TheVariants.{PitWrite}
+use Rattle.board_devices.specs.Places.{line_at, no_line, ticked_at}
+use Rattle.board_devices.specs.Act.{acted, first_part, act_edges, pit_ticked, pit_written, ticks_on_write}
+use Rattle.board_devices.specs.Parts.{IsDevices}
 use Rattle.board_devices.specs.View.{parts_of}
-use Rattle.board_devices.proofs.Places.{each-at, length-each}
-use Rattle.board_devices.proofs.Masks.{one_part, due-set, due-ticked, line_of_clock}
-use Rattle.pit_counter.specs.Table.{has_risen}
-use Rattle.pit_readback.specs.Pit.{counter_of}
-use Rattle.pit_readback.specs.Ports.{port_written}
-use Rattle.hpet_registers.specs.Parts.{is_legacy}
+use Rattle.board_devices.proofs.Places.{each-at}
+use Rattle.board_devices.proofs.Masks.{due-ticked}
+use Rattle.board_devices.proofs.Keeps.{IsDevices-each, KeepsLines-pit_ticked}
+use Rattle.board_devices.proofs.ActEdges.{edges-pit_write}
 use Rattle.board_devices.proofs.devices.Devices.write_pit.Goals as goal
 
-rises : (c : goal.After-changes) → Bool
-rises c = has_risen (counter_of c.self.inside.pit 0) (counter_of (port_written c.args.port c.args.byte c.self.inside.pit) 0) && not (is_legacy c.self.inside.hpet)
+rises : (c : goal.After-push_change) → Bool
+rises c = ticks_on_write c.args.port c.args.byte (parts_of c.self.inside)
 
-lines : (c : goal.After-changes) → c.tick_first.new.ticks ≡ ticked_at (pit_ticked (rises c)) c.self.inside.ticks
+counted : (c : goal.After-push_change) → c.is_counted-counted.result ≡ rises c
 unfolding rises
-lines c = c.tick_first.ensures ∙ ap (λ (b : Bool). ticked_at (pit_ticked b) c.self.inside.ticks) (rw (c.is_counted.ensures, c.write-rose.ensures.rose, c.legacy-legacy.ensures) refl)
+counted c = rw (c.is_counted-counted.ensures, c.write_port.ensures.rose, c.legacy-legacy.ensures) refl
 
-state : (c : goal.After-changes) → parts_of (record { pit = c.write-rose.new.self; rtc = c.self.inside.rtc; hpet = c.self.inside.hpet; ticks = c.tick_first.new.ticks; slew_ns = c.self.inside.slew_ns }) ≡ acted (PitWrite c.args.port c.args.byte) (parts_of c.self.inside)
-unfolding acted rises
-state c =
-    ap (λ (ls : List TickParts). record (parts_of c.self.inside) { pit = c.write-rose.new.self; ticks = ls }) (lines c)
-    ∙ ap (λ (x : PitParts). record (parts_of c.self.inside) { pit = x; ticks = ticked_at (pit_ticked (rises c)) c.self.inside.ticks }) c.write-rose.ensures.state
+lines : (c : goal.After-push_change) → c.tick_first.new.ticks ≡ ticked_at (pit_ticked (rises c)) c.self.inside.ticks
+lines c = c.tick_first.ensures ∙ ap (λ (b : Bool). ticked_at (pit_ticked b) c.self.inside.ticks) (counted c)
 
 pub invariant_of-self : goal.invariant_of-self
-invariant_of-self c = record {
-  places = ap (λ (ls : List TickParts). length ls) (lines c) ∙ length-each _ 0 c.self.inside.ticks ∙ c.self.invariant.places;
-  slew_low = c.self.invariant.slew_low;
-  slew_high = c.self.invariant.slew_high;
-  flag = ap (λ (ls : List TickParts). (get_or ls 1 no_line).up) (lines c) ∙ ap (λ (l : TickParts). l.up) (each-at _ 0 1 c.self.inside.ticks no_line (omega (arith, c.self.invariant.places))) ∙ c.self.invariant.flag;
-}
+unfolding rises
+invariant_of-self c = IsDevices-each (parts_of c.self.inside) c.write_port.new.pit c.self.inside.rtc c.self.inside.hpet c.tick_first.new.ticks _ c.self.invariant (lines c) (KeepsLines-pit_ticked (rises c) c.self.inside.hpet.timers) refl refl
+    (ap (λ (ls : List TickParts). (get_or ls 1 no_line).up) (lines c) ∙ ap (λ (l : TickParts). l.up) (each-at _ 0 1 c.self.inside.ticks no_line (omega (arith, c.self.invariant.places))) ∙ c.self.invariant.flag)
+
+pub returns-clause-state : goal.returns-clause-state
+unfolding acted rises
+returns-clause-state c =
+    ap (λ (ls : List TickParts). record (parts_of c.self.inside) { pit = c.write_port.new.pit; ticks = ls }) (lines c)
+    ∙ ap (λ (x : PitParts). record (parts_of c.self.inside) { pit = x; ticks = ticked_at (pit_ticked (rises c)) c.self.inside.ticks }) c.write_port.ensures.state
+    ∙ ap (acted (PitWrite c.args.port c.args.byte)) c.self.view_is
+
+before : (c : goal.After-push_change) → c.is_up-before.result ≡ (line_at 0 (parts_of c.self.inside)).up
+before c = c.is_up-before.ensures ∙ ap (λ (l : TickParts). l.up) (get_or_default c.self.inside.ticks 0 c.index-self-0.result no_line (omega (arith, c.self.invariant.places)))
 
 pub returns-clause-edges : goal.returns-clause-edges
-unfolding first_part
-returns-clause-edges c =
-    one_part c.args.at c.args.edges.now c.changes.new.into c.lines_of-before.result.levels c.lines_of-after.result.levels (parts_of c.self.inside) (acted (PitWrite c.args.port c.args.byte) (parts_of c.self.inside))
-    c.changes.ensures.appended (c.lines_of-before.ensures c.self.inside.pit c.self.inside.slew_ns) (c.lines_of-after.ensures c.write-rose.new.self c.self.inside.slew_ns ∙ ap levels (state c))
+unfolding rises
+returns-clause-edges c = c.push_change.ensures.appended
+    ∙ ap (λ (es : List Edge). c.args.edges.now ++ es) (
+    ap (change c.args.at 0 c.is_up-before.result) c.either.ensures
+    ∙ ap (λ (b : Bool). change c.args.at 0 b (b || c.is_counted-counted.result)) (before c)
+    ∙ ap (λ (b : Bool). change c.args.at 0 (line_at 0 (parts_of c.self.inside)).up ((line_at 0 (parts_of c.self.inside)).up || b)) (counted c)
+    ∙ sym (edges-pit_write c.args.at c.args.port c.args.byte (parts_of c.self.inside) c.self.invariant.places))
     ∙ ap (λ (d : DeviceParts). c.args.edges.now ++ act_edges c.args.at (PitWrite c.args.port c.args.byte) d) c.self.view_is
 
 pub returns-clause-due : goal.returns-clause-due

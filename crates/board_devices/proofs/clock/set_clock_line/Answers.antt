@@ -4,7 +4,7 @@ use Rattle.tick_policy.specs.declared.line.TickParts.{TickParts}
 use Rattle.tick_policy.specs.Line.{set_up_to}
 use Rattle.board_devices.specs.Places.{no_line}
 use Rattle.board_devices.proofs.Masks.{rtc_set_second}
-use Rattle.board_devices.proofs.devices.set_clock_line.Goals as goal
+use Rattle.board_devices.proofs.clock.set_clock_line.Goals as goal
 
 pub returns : goal.returns
 returns c =

@@ -14,7 +14,7 @@ use Rattle.hpet_registers.specs.Parts.{is_legacy, timer_at, level_of}
 use Rattle.hpet_registers.specs.Pulses.{hpet_pulsed_times, matches_of, place_of}
 use Rattle.tick_policy.specs.declared.line.TickParts.{TickParts}
 use Rattle.tick_policy.specs.Stretch.{line_after, line_end, up_from}
-use Rattle.board_devices.specs.declared.devices.DeviceParts.{DeviceParts}
+use Rattle.board_devices.specs.declared.parts.DeviceParts.{DeviceParts}
 use Rattle.board_devices.specs.declared.stretch.Ticks.{Ticks}
 use Rattle.board_devices.specs.Lines.{drives}
 use Rattle.board_devices.specs.Places.{each, line_at, no_line}

@@ -1,0 +1,108 @@
+//! The devices over a stretch of nanoseconds in which nobody accesses them.
+ghost use Rattle.std.specs.Prelude.{◌≡◌, ℕ, ◌+◌, ◌-◌, ◌*◌, ◌/◌, ◌<◌, ◌≤◌, ◌^◌, ◌&&◌, ◌++◌, length};
+ghost use Rattle.irq_edges.specs.declared.edges.TheConstants.{PLACES};
+ghost use Rattle.irq_edges.specs.Levels.{levels_at};
+ghost use Rattle.irq_edges.specs.Changes.{line_numbers, level_of};
+ghost use Rattle.board_devices.specs.Rises.{one_if, lifts};
+ghost use Rattle.board_devices.specs.Places.{line_at};
+ghost use Rattle.board_devices.specs.Lines.{levels};
+ghost use Rattle.board_devices.specs.Run.{run, IsNextEdge};
+
+use crate::clock::{counts_rtc, set_flag};
+use crate::devices::Devices;
+use crate::levels::{all_outputs, irq_from, line_times, shown_of};
+use crate::stretch::{HPET_HZ, all_matched, all_timer_ticks, counted, first_at, run_lines};
+use clk_units::{RANGE_NS, pulses_between};
+use irq_edges::{EdgeList, emit, next_rise};
+
+/// The 8254's clock.
+const PIT_HZ: u64 = 1_193_182;
+
+/// The MC146818's clock.
+const RTC_HZ: u64 = 32_768;
+
+impl Devices {
+    /// Runs from nanosecond `from` to `to`. Answers from when on each line is up.
+    fn advance(&mut self, from: u64, to: u64) -> [Option<u64>; 6]
+        requires order { from ≤ to }
+        requires range { to < 2 ^ 59 }
+        requires room { (k : ℕ) → k < 10 → (line_at k self.old).counts.due + (to - from) < 2 ^ 63 }
+        ensures state { self.new ≡ (run from (to - from) self.old).state }
+        ensures levels { (j : ℕ) → from + j ≤ to → levels (run from j self.old).state ≡ levels_at (from + j) result }
+        ensures due { (k : ℕ) → k < 10 → (line_at k self.new).counts.due ≤ (line_at k self.old).counts.due + (to - from) }
+    {
+        let _before = self.pit.parts();
+        let hpet = self.hpet.parts();
+        let legacy = self.hpet.legacy();
+        let clock = self.rtc.parts();
+        let shown = shown_of(&clock);
+        let counts = counts_rtc(shown.pie, legacy);
+        let point = next_point(from, self.slew_ns);
+        let rises = self.pit.pulses(pulses_between(from, to, PIT_HZ));
+        let events = self.rtc.pulses(pulses_between(from, to, RTC_HZ));
+        let matches = self.hpet.pulses(pulses_between(from, to, HPET_HZ));
+        let rise_at = first_at(rises.first, PIT_HZ, from, to);
+        let tick_at = first_at(events.cycle.first_tick, RTC_HZ, from, to);
+        let alarm_at = first_at(events.first_alarm, RTC_HZ, from, to);
+        let update_at = first_at(events.cycle.first_update, RTC_HZ, from, to);
+        let pit = counted(true, !legacy, rises.count, rise_at);
+        let rtc = counted(counts, counts, events.cycle.ticks, tick_at);
+        let matched = all_matched(&matches, from, to);
+        let timers = all_timer_ticks(&hpet, &matches, &matched);
+        let ups = run_lines(&mut self.ticks, pit, rtc, &timers, from, to, point);
+        let flag = counts_rtc_up(counts, self.ticks[1].is_up());
+        set_flag(&mut self.rtc, flag);
+        let outputs = all_outputs(&hpet, from, &matched, &ups);
+        let irq = irq_from(shown, from, ups[1], alarm_at, update_at);
+        line_times(legacy, &hpet, ups[0], irq, &outputs)
+    }
+
+    /// Runs from nanosecond `from` to `to`, and appends the edges on the way. Six places must be free.
+    #[tactic(auto, using(crate::proofs::Edges::run_none_state, crate::proofs::Edges::run_none_edges))]
+    pub fn run_to(&mut self, from: u64, to: u64, edges: &mut EdgeList)
+        requires order { from ≤ to }
+        requires range { to < 2 ^ 59 }
+        requires room { (k : ℕ) → k < 10 → (line_at k self.old).counts.due + (to - from) < 2 ^ 63 }
+        requires places { length edges.old + 6 ≤ PLACES }
+        ensures state { self.new ≡ (run from (to - from) self.old).state }
+        ensures edges { edges.new ≡ edges.old ++ (run from (to - from) self.old).edges }
+        ensures few { length edges.new ≤ length edges.old + 6 }
+        ensures due { (k : ℕ) → k < 10 → (line_at k self.new).counts.due ≤ (line_at k self.old).counts.due + (to - from) }
+        ensures lifts { (n : ℕ) → lifts n (run from (to - from) self.old).edges + one_if (level_of line_numbers (levels self.old) n) ≡ one_if (level_of line_numbers (levels self.new) n) }
+    {
+        if from == to {
+            return;
+        }
+        let times = self.advance(from, to);
+        emit(&times, from, to, edges);
+    }
+
+    /// The first nanosecond after `now` at which a line changes if no access comes, below 2^59.
+    pub fn next_edge(&self, now: u64) -> Option<u64>
+        requires range { now < 2 ^ 59 }
+        requires room { (k : ℕ) → k < 10 → (line_at k self.now).counts.due + (576460752303423487 - now) < 2 ^ 63 }
+        ensures { IsNextEdge now self.now result }
+    {
+        let mut copy = *self;
+        let times = copy.advance(now, RANGE_NS - 1);
+        next_rise(&times, now, RANGE_NS - 1)
+    }
+}
+
+/// Whether PF is to be set.
+fn counts_rtc_up(counts: bool, up: bool) -> bool
+    ensures { result ≡ (counts && up) }
+{
+    counts && up
+}
+
+/// The first catch-up point after `from`.
+#[tactic(auto, using(crate::proofs::Times::point_fits))]
+fn next_point(from: u64, slew_ns: u64) -> u64
+    requires range { from < 2 ^ 59 }
+    requires low { 1 ≤ slew_ns }
+    requires high { slew_ns ≤ 1000000000 }
+    ensures { result ≡ (from / slew_ns + 1) * slew_ns }
+{
+    (from / slew_ns + 1) * slew_ns
+}
