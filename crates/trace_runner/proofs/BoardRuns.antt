@@ -7,7 +7,7 @@ use Rattle.clk_units.proofs.Pulses.{time_of-le, pulses_from-zero, pulses_from-mo
 use Rattle.clk_units.proofs.Events.{CountsUp-mono, first_tick}
 use Rattle.pit_counter.specs.declared.parts.CounterParts.{CounterParts}
 use Rattle.pit_counter.specs.Mode.{mode_of}
-use Rattle.pit_counter.specs.Programming.{powered_on, programmed}
+use Rattle.pit_counter.specs.Programming.{counter_at_power_on, programmed}
 use Rattle.pit_counter.specs.Table.{effect_in, pulsed, pulsed_times, rises_in, rises_next}
 use Rattle.pit_readback.specs.declared.parts.PitParts.{PitParts}
 use Rattle.pit_readback.specs.Pit.{pit_pulsed, pit_pulsed_times, counter_of}
@@ -18,13 +18,13 @@ use Rattle.trace_runner.specs.Division.{parted}
 use Rattle.trace_runner.specs.declared.board.Board.{Board}
 
 -- a pulse leaves a counter at power on as it is
-pulsed-powered_on : powered_on true ≡ pulsed (powered_on true)
+pulsed-counter_at_power_on : counter_at_power_on true ≡ pulsed (counter_at_power_on true)
 unfolding pulsed effect_in mode_of programmed
-pulsed-powered_on = refl
+pulsed-counter_at_power_on = refl
 
 -- counter 0 takes the pulse of all ..
-zeroth-map : (cs : List CounterParts) → slice_index_or (map pulsed cs) 0 (powered_on true) ≡ pulsed (slice_index_or cs 0 (powered_on true))
-zeroth-map [] = pulsed-powered_on
+zeroth-map : (cs : List CounterParts) → slice_index_or (map pulsed cs) 0 (counter_at_power_on true) ≡ pulsed (slice_index_or cs 0 (counter_at_power_on true))
+zeroth-map [] = pulsed-counter_at_power_on
 zeroth-map (c ∷ cs) = refl
 
 -- .. and all their pulses
