@@ -213,8 +213,3 @@ rise-is n b first up is = by_line b.line_up refl first is
 pub first_inside : (now to pulses : ℕ) (count : ℕ → ℕ) (first : Option ℕ) → to < 576460752303423488 → pulses + pulses_by pit_hz now ≡ pulses_by pit_hz to → IsFirst count pulses first → IfSome first (λ k. time_of pit_hz (pulses_by pit_hz now + k) < 18446744073709551616)
 first_inside now to pulses count None small joins is = tt
 first_inside now to pulses count (Some k) small joins is = omega (arith, time_of-le pit_hz (pulses_by pit_hz now + k) to (omega arith) (omega (arith, is.1)))
-
--- there is a first exactly where there are events
-pub is_some-first : (count : ℕ → ℕ) (n : ℕ) (first : Option ℕ) → CountsUp count → IsFirst count n first → is_some first ≡ ltb 0 (count n)
-is_some-first count n None up is = sym (le-ltb 0 (count n) (omega (arith, is)))
-is_some-first count n (Some k) up is = sym (lt-ltb 0 (count n) (omega (arith, CountsUp-mono count up k n is.1, is.3)))
