@@ -1,8 +1,9 @@
--- The edges between two lists of levels.
-use Rattle.std.specs.Prelude.{ℕ, Bool, true, false, ◌==◌, ◌||◌, List, [], ◌∷◌, ◌++◌, if◌then◌else◌}
+-- The six lines, and the edges between two lists of their levels.
+use Rattle.std.specs.Prelude.{ℕ, Bool, true, false, ◌==◌, ◌||◌, IsTrue, if◌then◌else◌}
+use Rattle.std.specs.Prelude.{List, [], ◌∷◌, ◌++◌}
 use Rattle.irq_edges.specs.declared.edges.Edge.{Edge}
 
--- the lines, in order of their numbers
+-- the lines 0 and 8 of a PC, and four inputs of the I/O APIC (own), in order of their numbers
 abbrev pub line_numbers : List ℕ
 line_numbers = 0 ∷ 8 ∷ 20 ∷ 21 ∷ 22 ∷ 23 ∷ []
 
@@ -13,7 +14,7 @@ change at line true false = record { at = at; line = line; up = false } ∷ []
 change at line false true = record { at = at; line = line; up = true } ∷ []
 change at line false false = []
 
--- the edges of lines with these levels before and after, in order of the lines, each with the time `at`
+-- the edges of lines with these levels before and after, in their order, each with the time `at`
 abbrev pub changes : ℕ → List ℕ → List Bool → List Bool → List Edge
 changes at [] before after = []
 changes at (n ∷ ns) [] after = []
@@ -24,7 +25,11 @@ changes at (n ∷ ns) (b ∷ before) (a ∷ after) = change at n b a ++ changes 
 abbrev pub is_line : ℕ → Bool
 is_line n = n == 0 || n == 8 || n == 20 || n == 21 || n == 22 || n == 23
 
--- the level of the line of that number, among lines with these numbers and levels; a number of none is down
+-- an edge is of one of the six lines
+abbrev pub IsOfLine : Edge → Type 0
+IsOfLine e = IsTrue (is_line e.line)
+
+-- the level of the line of that number, among lines of these numbers and levels; else down (own)
 abbrev pub level_of : List ℕ → List Bool → ℕ → Bool
 level_of [] levels line = false
 level_of (n ∷ ns) [] line = false
