@@ -1,5 +1,6 @@
 -- Counts of faults, and the bytes that a source has given.
-use Rattle.std.specs.Prelude.{◌≡◌, ℕ, ◌+◌, ◌<◌, ◌≤◌, ◌⊎◌, Result, MatchResult}
+use Rattle.std.specs.Prelude.{◌≡◌, ℕ, ◌+◌, ◌<◌, ◌≤◌, ◌==◌, ◌⊎◌, Bool, true, Result, Ok, Err}
+use Rattle.std.specs.Prelude.{MatchResult}
 
 -- a count of faults rose in a call, or it stands at its type's end
 abbrev pub Rose : ℕ → ℕ → Type 0
@@ -12,3 +13,8 @@ most_given = 4611686018427387904
 -- what a call gave is added to the bytes given so far, and a call that failed gave none
 abbrev pub AddsGiven : {E : Type 0} → ℕ → ℕ → Result ℕ E → Type 0
 AddsGiven old new r = MatchResult r (λ n. new ≡ old + n) (λ _. new ≡ old)
+
+-- a call gave nothing: it failed, or it was at the end
+abbrev pub gave_nothing : {E : Type 0} → Result ℕ E → Bool
+gave_nothing (Ok n) = n == 0
+gave_nothing (Err e) = true

@@ -3,11 +3,14 @@ use Rattle.std.specs.Prelude.{ℕ, ◌+◌, ◌-◌, min, Bool, ◌||◌, ◌==�
 use Rattle.std.specs.List.{list_any}
 use Rattle.board_io.specs.Faults.{most_given}
 
--- what a source in memory holds: the bytes left, how many it gave, its faults, its calls so far, the calls that
--- are to fail, and the largest piece
+-- what a source in memory holds: the bytes left, how many it gave, and had given at the last call,
+-- whether a call gave nothing, and one came behind it; faults, calls, which fail, the largest piece
 pub record Supply : Type 0 where
   pub left : List ℕ
   pub given : ℕ
+  pub before : ℕ
+  pub done : Bool
+  pub late : Bool
   pub faults : ℕ
   pub calls : ℕ
   pub failing : List ℕ
@@ -29,10 +32,10 @@ next_call calls = min (calls + 1) 18446744073709551615
 abbrev pub is_to_fail : List ℕ → ℕ → Bool
 is_to_fail failing calls = list_any (λ call. call == next_call calls) failing
 
--- whether the next call of a source fails: it is to, or the source has given all that a source gives
+-- whether the next call of a source fails: it is to, or the source has given the most
 abbrev pub supply_fails : Supply → Bool
 supply_fails s = is_to_fail s.failing s.calls || s.given == most_given
 
--- how many bytes a source gives into that many places
+-- how many bytes a source gives into so many places
 abbrev pub piece_of : Supply → ℕ → ℕ
 piece_of s places = min (min places s.largest) (min (length s.left) (most_given - s.given))

@@ -1,4 +1,4 @@
-ghost use Rattle.std.specs.Prelude.{◌≡◌, ◌≤◌};
+ghost use Rattle.std.specs.Prelude.{◌≡◌, ◌≤◌, false, IfOk};
 ghost use Rattle.board_io.specs.Faults.{most_given};
 
 use crate::sink::Sink;
@@ -10,6 +10,9 @@ use std::io::{Read, Write};
 pub struct ReadSource<T: Read + Drop> {
     reader: T,
     given: usize,
+    before: usize,
+    done: bool,
+    late: bool,
     faults: u64,
     ghost few: { given ≤ most_given },
 }
@@ -19,11 +22,17 @@ impl<T: Read + Drop> ReadSource<T> {
     pub fn new(reader: T) -> ReadSource<T>
         ensures remaining { ⟦<ReadSource<T> as Source>⟧.remaining result ≡ T.remaining reader }
         ensures given { ⟦<ReadSource<T> as Source>⟧.given result ≡ 0 }
+        ensures before { ⟦<ReadSource<T> as Source>⟧.before result ≡ 0 }
+        ensures done { ⟦<ReadSource<T> as Source>⟧.done result ≡ false }
+        ensures late { ⟦<ReadSource<T> as Source>⟧.late result ≡ false }
         ensures faults { ⟦<ReadSource<T> as Source>⟧.faults result ≡ 0 }
     {
         ReadSource {
             reader,
             given: 0,
+            before: 0,
+            done: false,
+            late: false,
             faults: 0,
         }
     }
@@ -34,16 +43,26 @@ impl<T: Read + Drop> Source for ReadSource<T> {
 
     ghost given = { λ s. s.given };
 
+    ghost before = { λ s. s.before };
+
+    ghost done = { λ s. s.done };
+
+    ghost late = { λ s. s.late };
+
     ghost faults = { λ s. s.faults };
 
     fn take(&mut self, into: &mut [u8]) -> Result<usize, Failed> {
+        self.before = self.given;
+        self.late = self.late || self.done;
         if self.given < MOST_GIVEN {
             let room = into.len().min(MOST_GIVEN - self.given);
             if let Ok(n) = self.reader.read(&mut into[..room]) {
                 self.given += n;
+                self.done = self.done || n == 0;
                 return Ok(n);
             }
         }
+        self.done = true;
         self.faults = self.faults.saturating_add(1);
         Err(Failed)
     }
@@ -87,19 +106,34 @@ mod tests {
     use super::*;
     use std::io::{Error, ErrorKind, Result};
 
-    /// A device that is broken.
+    /// A device that fails at its first call, and reads ones and takes all from then on.
     #[derive(Drop)]
-    struct Broken;
+    struct Flaky {
+        is_well: bool,
+    }
 
-    impl Read for Broken {
-        fn read(&mut self, _buf: &mut [u8]) -> Result<usize> {
+    impl Flaky {
+        fn call(&mut self, length: usize) -> Result<usize>
+            ensures { IfOk result (λ n. n ≡ length) }
+        {
+            if self.is_well {
+                return Ok(length);
+            }
+            self.is_well = true;
             Err(Error::from(ErrorKind::BrokenPipe))
         }
     }
 
-    impl Write for Broken {
-        fn write(&mut self, _buf: &[u8]) -> Result<usize> {
-            Err(Error::from(ErrorKind::BrokenPipe))
+    impl Read for Flaky {
+        fn read(&mut self, buf: &mut [u8]) -> Result<usize> {
+            buf.fill(1);
+            self.call(buf.len())
+        }
+    }
+
+    impl Write for Flaky {
+        fn write(&mut self, buf: &[u8]) -> Result<usize> {
+            self.call(buf.len())
         }
 
         fn flush(&mut self) -> Result<()> {
@@ -117,7 +151,18 @@ mod tests {
         assert_eq!(rt; source.take(&mut piece), Ok(1));
         assert_eq!(rt; piece, *b"ebcd");
         assert_eq!(rt; source.take(&mut piece), Ok(0));
-        assert_eq!(rt; ReadSource::new(Broken).take(&mut piece), Err(Failed));
+    }
+
+    #[test]
+    fn a_page_is_read_at_once(rt: HostRuntime) {
+        let mut text = [2; 5000];
+        text[4095] = 3;
+        let mut source = ReadSource::new(text.as_slice());
+        let mut piece = [0; 4096];
+        assert_eq!(rt; source.take(&mut piece), Ok(4096));
+        assert_eq!(rt; (piece[0], piece[4095]), (2, 3));
+        assert_eq!(rt; source.take(&mut piece), Ok(904));
+        assert_eq!(rt; source.take(&mut piece), Ok(0));
     }
 
     #[test]
@@ -126,6 +171,19 @@ mod tests {
         assert_eq!(rt; sink.put(b"abc"), Ok(3));
         assert_eq!(rt; sink.put(b"de"), Ok(2));
         assert!(rt; sink.writer.as_slice() == b"abcde".as_slice());
-        assert_eq!(rt; WriteSink::new(Broken).put(b"abc"), Err(Failed));
+    }
+
+    #[test]
+    fn goes_on_behind_a_fault(rt: HostRuntime) {
+        let mut piece = [0; 4096];
+        let mut source = ReadSource::new(Flaky { is_well: false });
+        assert_eq!(rt; source.take(&mut piece), Err(Failed));
+        assert_eq!(rt; source.take(&mut piece), Ok(4096));
+        assert_eq!(rt; piece[4095], 1);
+        assert_eq!(rt; source.faults, 1);
+        let mut sink = WriteSink::new(Flaky { is_well: false });
+        assert_eq!(rt; sink.put(&piece), Err(Failed));
+        assert_eq!(rt; sink.put(&piece), Ok(4096));
+        assert_eq!(rt; sink.faults, 1);
     }
 }

@@ -8,7 +8,8 @@ pub trait Gate {
     /// Called after that record.
     fn after<R: Wait>(&self, rt: &R, cpu: u8, index: u64);
 
-    /// Called once in each access on a shared board, when it has the lock and has done nothing else under it.
+    /// Called once in each access on a shared board, when it has the lock and has done nothing else
+    /// under it.
     fn inside<R: Wait>(&self, rt: &R, cpu: u8);
 }
 

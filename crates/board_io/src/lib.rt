@@ -1,10 +1,12 @@
-//! The outside of the board: where the bytes of a trace come from, where the printed text goes, and a gate that
-//! a test can hold the workers of `race` at.
+//! The outside of the board: where the bytes of a trace come from, where the printed text goes, and
+//! a gate that a test can hold the workers of `race` at.
 //!
-//! A [`Source`] and a [`Sink`] tell contracts which bytes they have left and hold, and count their faults.
-//! `Failed` comes only where that count rose, so a caller's contract can name the cause. [`MemSource`] and
-//! [`MemSink`] are in memory and fail on demand; [`ReadSource`] and [`WriteSink`] adapt std's readers and
-//! writers, and are the trusted edge.
+//! A [`Source`] and a [`Sink`] tell contracts which bytes they have left and hold, and count their
+//! faults. `Failed` comes only where that count rose, and the count stays where a call is well, so
+//! a caller's contract can name the cause. A source also tells how many bytes it had given when it
+//! was called last, and whether it was called behind a call that gave nothing. [`MemSource`] and
+//! [`MemSink`] are in memory and fail on demand; [`ReadSource`] and [`WriteSink`] adapt std's
+//! readers and writers, and are the trusted edge.
 //!
 //! ```text
 //! let mut source = MemSource::new(bytes, failing, 4096);

@@ -1,7 +1,10 @@
-ghost use Rattle.std.specs.Prelude.{◌≡◌, ◌+◌, ◌-◌, ◌<◌, ◌≤◌, ◌||◌, ℕ, Bool, not, true, [], ◌++◌, Some, length, min, drop, IfOk, OnOk, OnErr, IsErr, is_ok, vec_len};
+ghost use Rattle.std.specs.Prelude.{◌≡◌, ◌+◌, ◌-◌, ◌<◌, ◌≤◌, ◌||◌, ℕ, Bool, not, true, false, []};
+ghost use Rattle.std.specs.Prelude.{◌++◌, Some, length, min, drop, IfOk, OnOk, OnErr, IsErr, is_ok};
+ghost use Rattle.std.specs.Prelude.{vec_len};
 ghost use Rattle.std.specs.Io.KnownBytes.{ReadConsumes, WriteAppends};
-ghost use Rattle.board_io.specs.Faults.{Rose, most_given, AddsGiven};
-ghost use Rattle.board_io.specs.Memory.{Supply, Store, next_call, is_to_fail, supply_fails, piece_of};
+ghost use Rattle.board_io.specs.Faults.{Rose, most_given, AddsGiven, gave_nothing};
+ghost use Rattle.board_io.specs.Memory.{Supply, Store, next_call, is_to_fail, supply_fails};
+ghost use Rattle.board_io.specs.Memory.{piece_of};
 
 use crate::sink::Sink;
 use crate::source::{Failed, MOST_GIVEN, Source};
@@ -13,6 +16,9 @@ use std::marker::Model;
 pub struct MemSource {
     bytes: Vec<u8>,
     taken: usize,
+    before: usize,
+    done: bool,
+    late: bool,
     failing: Vec<u64>,
     largest: usize,
     calls: u64,
@@ -22,20 +28,45 @@ pub struct MemSource {
 impl Model for MemSource {
     ghost Value = { Supply };
 
-    ghost view = { λ s. record { left = drop s.taken s.bytes.items; given = s.taken; faults = s.faults; calls = s.calls; failing = s.failing.items; largest = s.largest } };
+    ghost view = { λ s. record {
+      left = drop s.taken s.bytes.items;
+      given = s.taken;
+      before = s.before;
+      done = s.done;
+      late = s.late;
+      faults = s.faults;
+      calls = s.calls;
+      failing = s.failing.items;
+      largest = s.largest;
+    } };
 
-    ghost invariant = { λ s. (s.taken ≤ vec_len s.bytes) × (s.taken ≤ most_given) × (0 < s.largest) };
+    ghost invariant = { λ s.
+        (s.taken ≤ vec_len s.bytes) × (s.taken ≤ most_given) × (0 < s.largest) };
 }
 
 impl MemSource {
-    /// A source of these bytes, in pieces of at most `largest`; the calls of the numbers in `failing` fail.
+    /// A source of these bytes, in pieces of at most `largest`. The calls whose numbers stand in
+    /// `failing` fail.
     pub fn new(bytes: Vec<u8>, failing: Vec<u64>, largest: usize) -> MemSource
         requires { 0 < largest }
-        ensures { result ≡ record { left = bytes.items; given = 0; faults = 0; calls = 0; failing = failing.items; largest = largest } }
+        ensures { result ≡ record {
+          left = bytes.items;
+          given = 0;
+          before = 0;
+          done = false;
+          late = false;
+          faults = 0;
+          calls = 0;
+          failing = failing.items;
+          largest = largest;
+        } }
     {
         MemSource {
             bytes,
             taken: 0,
+            before: 0,
+            done: false,
+            late: false,
             failing,
             largest,
             calls: 0,
@@ -49,6 +80,12 @@ impl Source for MemSource {
 
     ghost given = { λ s. s.given };
 
+    ghost before = { λ s. s.before };
+
+    ghost done = { λ s. s.done };
+
+    ghost late = { λ s. s.late };
+
     ghost faults = { λ s. s.faults };
 
     fn take(&mut self, into: &mut [u8]) -> Result<usize, Failed>
@@ -56,30 +93,40 @@ impl Source for MemSource {
         ensures bound { IfOk result (λ n. n ≤ length into.new) }
         ensures bytes { ReadConsumes (Some self.old.left) (Some self.new.left) result into.new }
         ensures given { AddsGiven self.old.given self.new.given result }
+        ensures before { self.new.before ≡ self.old.given }
+        ensures done { self.new.done ≡ (self.old.done || gave_nothing result) }
+        ensures late { self.new.late ≡ (self.old.late || self.old.done) }
         ensures limit { OnOk result (self.new.given ≤ most_given) }
         ensures spent { self.old.given ≡ most_given → IsErr result }
+        ensures well { OnOk result (self.new.faults ≡ self.old.faults) }
         ensures counted { self.old.faults ≤ self.new.faults }
         ensures failed { OnErr result (Rose self.old.faults self.new.faults) }
         // It fails where it is told to, and where it has given the most.
         ensures told { is_ok result ≡ not (supply_fails self.old) }
         ensures piece { IfOk result (λ n. n ≡ piece_of self.old (length into.old)) }
         ensures calls { self.new.calls ≡ next_call self.old.calls }
-        ensures same { (self.new.failing ≡ self.old.failing) × (self.new.largest ≡ self.old.largest) }
+        ensures same { (self.new.failing ≡ self.old.failing)
+            × (self.new.largest ≡ self.old.largest) }
     {
+        self.before = self.taken;
+        self.late = self.late || self.done;
         self.calls = self.calls.saturating_add(1);
         if self.failing.contains(&self.calls) || self.taken == MOST_GIVEN {
             self.faults = self.faults.saturating_add(1);
+            self.done = true;
             return Err(Failed);
         }
         let left = (self.bytes.len() - self.taken).min(MOST_GIVEN - self.taken);
         let n = into.len().min(self.largest).min(left);
         into[..n].copy_from_slice(&self.bytes[self.taken..self.taken + n]);
         self.taken += n;
+        self.done = self.done || n == 0;
         Ok(n)
     }
 }
 
-/// A sink in memory, which fails at the calls that it is told to, counted from 1, and where memory runs out.
+/// A sink in memory, which fails at the calls that it is told to, counted from 1, and where memory
+/// runs out.
 #[derive(Drop)]
 pub struct MemSink {
     bytes: Vec<u8>,
@@ -92,16 +139,29 @@ pub struct MemSink {
 impl Model for MemSink {
     ghost Value = { Store };
 
-    ghost view = { λ s. record { held = s.bytes.items; faults = s.faults; calls = s.calls; failing = s.failing.items; largest = s.largest } };
+    ghost view = { λ s. record {
+      held = s.bytes.items;
+      faults = s.faults;
+      calls = s.calls;
+      failing = s.failing.items;
+      largest = s.largest;
+    } };
 
     ghost invariant = { λ s. 0 < s.largest };
 }
 
 impl MemSink {
-    /// An empty sink that takes at most `largest` bytes a call; the calls of the numbers in `failing` fail.
+    /// An empty sink that takes at most `largest` bytes a call. The calls whose numbers stand in
+    /// `failing` fail.
     pub fn new(alloc: Global, failing: Vec<u64>, largest: usize) -> MemSink
         requires { 0 < largest }
-        ensures { result ≡ record { held = []; faults = 0; calls = 0; failing = failing.items; largest = largest } }
+        ensures { result ≡ record {
+          held = [];
+          faults = 0;
+          calls = 0;
+          failing = failing.items;
+          largest = largest;
+        } }
     {
         MemSink {
             bytes: Vec::new(alloc),
@@ -130,13 +190,15 @@ impl Sink for MemSink {
         ensures some { IfOk result (λ n. 0 < n) }
         ensures bound { IfOk result (λ n. n ≤ length piece.now) }
         ensures bytes { WriteAppends (Some self.old.held) (Some self.new.held) result piece.now }
+        ensures well { OnOk result (self.new.faults ≡ self.old.faults) }
         ensures counted { self.old.faults ≤ self.new.faults }
         ensures failed { OnErr result (Rose self.old.faults self.new.faults) }
         // It fails where it is told to, and else only where memory runs out.
         ensures told { is_to_fail self.old.failing self.old.calls ≡ true → IsErr result }
         ensures piece { IfOk result (λ n. n ≡ min (length piece.now) self.old.largest) }
         ensures calls { self.new.calls ≡ next_call self.old.calls }
-        ensures same { (self.new.failing ≡ self.old.failing) × (self.new.largest ≡ self.old.largest) }
+        ensures same { (self.new.failing ≡ self.old.failing)
+            × (self.new.largest ≡ self.old.largest) }
     {
         self.calls = self.calls.saturating_add(1);
         let n = piece.len().min(self.largest);
@@ -156,7 +218,7 @@ mod tests {
     use std::test::Fail;
 
     #[test]
-    fn a_source_gives_its_bytes_in_pieces_and_fails_when_told(rt: HostRuntime) -> Result<(), Fail> {
+    fn gives_its_bytes_in_pieces_and_fails_when_told(rt: HostRuntime) -> Result<(), Fail> {
         let bytes = b"abcde".to_vec(rt.alloc())?;
         let mut source = MemSource::new(bytes, vec![in rt.alloc(); 2]?, 3);
         let mut piece = [b'.'; 4];
@@ -170,7 +232,7 @@ mod tests {
     }
 
     #[test]
-    fn a_sink_holds_what_it_took(rt: HostRuntime) -> Result<(), Fail> {
+    fn holds_what_it_took(rt: HostRuntime) -> Result<(), Fail> {
         let mut sink = MemSink::new(rt.alloc(), vec![in rt.alloc(); 2]?, 2);
         assert_eq!(rt; sink.put(b"abc"), Ok(2));
         assert_eq!(rt; sink.put(b"c"), Err(Failed));

@@ -1,4 +1,4 @@
-ghost use Rattle.std.specs.Prelude.{ℕ, ◌<◌, ◌≤◌, List, Option, length, IfOk, OnErr};
+ghost use Rattle.std.specs.Prelude.{ℕ, ◌≡◌, ◌<◌, ◌≤◌, List, Option, length, IfOk, OnOk, OnErr};
 ghost use Rattle.std.specs.Io.KnownBytes.{WriteAppends};
 ghost use Rattle.board_io.specs.Faults.{Rose};
 
@@ -12,13 +12,14 @@ pub trait Sink {
     // How many faults it has had.
     ghost faults: { Self → ℕ };
 
-    /// Takes bytes from the front of `piece`, and answers how many, at least one. A call that fails takes
-    /// nothing; a sink that can take nothing has failed.
+    /// Takes bytes from the front of `piece`, and answers how many, at least one. A call that fails
+    /// takes nothing; a sink that can take nothing has failed.
     fn put(&mut self, piece: &[u8]) -> Result<usize, Failed>
         requires { 0 < length piece.now }
         ensures some { IfOk result (λ n. 0 < n) }
         ensures bound { IfOk result (λ n. n ≤ length piece.now) }
         ensures bytes { WriteAppends (contents self.old) (contents self.new) result piece.now }
+        ensures well { OnOk result (faults self.new ≡ faults self.old) }
         ensures counted { faults self.old ≤ faults self.new }
         ensures failed { OnErr result (Rose (faults self.old) (faults self.new)) };
 }

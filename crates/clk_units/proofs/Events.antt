@@ -1,9 +1,9 @@
 -- Lemmas on events that come at most one a step.
-use Rattle.std.proofs.Common.{◌≡◌, ℕ, zero, suc, ◌+◌, ◌-◌, ◌<◌, ◌≤◌, ◌↔◌, Bool, true, false, cond, Option, Some, None, refl, ap, ◌∙◌, inl, inr, arith}
-use Rattle.std.proofs.lemmas.Bool.{cases_lt, cases_order}
-use Rattle.clk_units.specs.Events.{CountsUp, IsFirst}
+use Rattle.std.proofs.Common.{◌≡◌, ℕ, zero, suc, ◌+◌, ◌-◌, ◌<◌, ◌≤◌, ◌↔◌, Bool, true, false, cond, ltb, ◌&&◌, Option, Some, None, is_some, IfSome, refl, sym, ap, ◌∙◌, inl, inr, arith}
+use Rattle.std.proofs.lemmas.Bool.{cases_lt, cases_order, lt-ltb, le-ltb}
+use Rattle.clk_units.specs.Events.{CountsUp, IsFirst, first_more, first_at}
 use Rattle.clk_units.specs.Pulses.{pulses_by, falls_at, pulses_from, time_of}
-use Rattle.clk_units.proofs.Pulses.{pulses_from-zero, pulses_from-more, pulses_from-mono, pulses_from-joins, le-pulses_by, time_of-le}
+use Rattle.clk_units.proofs.Pulses.{pulses_from-zero, pulses_from-more, pulses_from-mono, pulses_from-joins, le-pulses_by, time_of-le, lt-time_of, comes_by}
 
 -- more steps, no fewer events
 pub CountsUp-mono : (count : ℕ → ℕ) → CountsUp count → (m n : ℕ) → m ≤ n → count m ≤ count n
@@ -52,11 +52,6 @@ pub IsFirst-begun : (count : ℕ → ℕ) (n : ℕ) → count (suc n) ≡ suc (c
 IsFirst-begun count n more h =
     let e : suc n - 1 ≡ n = omega arith in
     (omega arith, omega arith, ap count e ∙ h, omega arith)
-
--- the first so far, after one step more that may bring an event
-abbrev pub first_more : Option ℕ → ℕ → Bool → Option ℕ
-first_more (Some k) n event = Some k
-first_more None n event = cond event (Some (suc n)) None
 
 -- one step more
 pub IsFirst-more : (count : ℕ → ℕ) (n : ℕ) (event : Bool) (first : Option ℕ) → count (suc n) ≡ cond event (suc (count n)) (count n) → IsFirst count n first → IsFirst count (suc n) (first_more first n event)
@@ -115,3 +110,57 @@ first_tick count hz t n k runs up first j = (forth, back)
 -- or none has
 pub first_tick-none : (count : ℕ → ℕ) (hz t n : ℕ) → CountsUp count → IsFirst count (pulses_from hz t n) None → (j : ℕ) → j ≤ n → count (pulses_from hz t j) ≡ 0
 first_tick-none count hz t n up none j h = omega (arith, CountsUp-mono count up (pulses_from hz t j) (pulses_from hz t n) (pulses_from-mono hz t j n h))
+
+-- there is a first exactly where there are events
+pub is_some-first : (count : ℕ → ℕ) → CountsUp count → (n : ℕ) (first : Option ℕ) → IsFirst count n first → is_some first ≡ ltb 0 (count n)
+is_some-first count up n None is = sym (le-ltb 0 (count n) (omega (arith, is)))
+is_some-first count up n (Some k) is = sym (lt-ltb 0 (count n) (omega (arith, CountsUp-mono count up k n is.1, is.3)))
+
+-- the first of n steps is one of them
+pub first_within : (count : ℕ → ℕ) (n : ℕ) (first : Option ℕ) → IsFirst count n first → IfSome first (λ k. k ≤ n)
+first_within count n None is = tt
+first_within count n (Some k) is = is.1
+
+-- the first event of a stretch of a clock falls in it
+pub first_inside : (count : ℕ → ℕ) (hz from to : ℕ) (first : Option ℕ) → 0 < hz → from ≤ to → IsFirst count (pulses_from hz from (to - from)) first
+    → IfSome (first_at hz from first) (λ at. (from < at) × (at ≤ to))
+first_inside count hz from to None runs order is = tt
+first_inside count hz from to (Some k) runs order is = (lt-time_of hz from k runs is.0, comes_by hz from to k runs order is.1)
+
+-- a count of events grows in the nanosecond at which a pulse falls that brings one
+pub count-step : (count : ℕ → ℕ) (test : ℕ → Bool) (hz t n : ℕ) → hz ≤ 1000000000 → ((m : ℕ) → count (suc m) ≡ cond (test m) (suc (count m)) (count m))
+    → ltb (count (pulses_from hz t n)) (count (pulses_from hz t (suc n))) ≡ (falls_at hz (t + n + 1) && test (pulses_from hz t n))
+count-step count test hz t n slow more = rw (pulses_from-more hz t n slow) (by_fall (falls_at hz (t + n + 1)) (pulses_from hz t n))
+  where
+    grows : (b : Bool) (m : ℕ) → ltb m (cond b (suc m) m) ≡ b
+    grows true m = lt-ltb m (suc m) (omega arith)
+    grows false m = le-ltb m m (omega arith)
+
+    by_fall : (x : Bool) (m : ℕ) → ltb (count m) (count (cond x (suc m) m)) ≡ (x && test m)
+    by_fall true m = ap (ltb (count m)) (more m) ∙ grows (test m) (count m)
+    by_fall false m = le-ltb (count m) (count m) (omega arith)
+
+-- .. where the events are counted at all
+pub count_where-step : (b : Bool) (count : ℕ → ℕ) (test : ℕ → Bool) (hz t n : ℕ) → hz ≤ 1000000000 → ((m : ℕ) → count (suc m) ≡ cond (test m) (suc (count m)) (count m))
+    → ltb (cond b (count (pulses_from hz t n)) 0) (cond b (count (pulses_from hz t (suc n))) 0) ≡ (falls_at hz (t + n + 1) && (test (pulses_from hz t n) && b))
+count_where-step true count test hz t n slow more =
+    count-step count test hz t n slow more ∙ ap (λ (x : Bool). falls_at hz (t + n + 1) && x) (and_true (test (pulses_from hz t n)))
+  where
+    and_true : (x : Bool) → x ≡ (x && true)
+    and_true true = refl
+    and_true false = refl
+count_where-step false count test hz t n slow more = le-ltb 0 0 (omega arith) ∙ none (falls_at hz (t + n + 1)) (test (pulses_from hz t n))
+  where
+    none : (x y : Bool) → false ≡ (x && (y && false))
+    none true true = refl
+    none true false = refl
+    none false y = refl
+
+-- the state of a device at the pulses of a clock
+pub times-step : {X : Type 0} (times : ℕ → X) (next : X → X) (hz t n : ℕ) → hz ≤ 1000000000 → ((m : ℕ) → times (suc m) ≡ next (times m))
+    → times (pulses_from hz t (suc n)) ≡ cond (falls_at hz (t + n + 1)) (next (times (pulses_from hz t n))) (times (pulses_from hz t n))
+times-step times next hz t n slow more = rw (pulses_from-more hz t n slow) (by_fall (falls_at hz (t + n + 1)) (pulses_from hz t n))
+  where
+    by_fall : (x : Bool) (m : ℕ) → times (cond x (suc m) m) ≡ cond x (next (times m)) (times m)
+    by_fall true m = more m
+    by_fall false m = refl

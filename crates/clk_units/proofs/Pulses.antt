@@ -115,6 +115,25 @@ time_of-le hz n t runs h =
     time_of_below n t hz runs above =
         let q : (n * 1000000000 + hz - 1) / hz < suc t = (div-lt_iff_lt-mul runs).1 above in omega arith
 
+-- a pulse behind those seen falls later
+pub lt-time_of : (hz t k : ℕ) → 0 < hz → 0 < k → t < time_of hz (pulses_by hz t + k)
+lt-time_of hz t k runs more = elim (cases_lt t (time_of hz (pulses_by hz t + k))) [
+  | inl later ↦ later
+  | inr fallen ↦ absurd (omega (arith, le-pulses_by hz (pulses_by hz t + k) t runs fallen))
+]
+
+-- a pulse of a stretch falls by its end
+pub comes_by : (hz from to k : ℕ) → 0 < hz → from ≤ to → k ≤ pulses_from hz from (to - from) → time_of hz (pulses_by hz from + k) ≤ to
+comes_by hz from to k runs order h =
+    let whole : from + (to - from) ≡ to = omega arith in
+    time_of-le hz (pulses_by hz from + k) to runs (omega (arith, rw whole at (pulses_from-joins hz from (to - from)), h))
+
+-- the pulses by the end of a stretch are no more than its nanoseconds
+pub joined_fits : (hz from to : ℕ) → hz ≤ 1000000000 → from ≤ to → pulses_by hz from + pulses_from hz from (to - from) ≤ to
+joined_fits hz from to slow order =
+    let whole : from + (to - from) ≡ to = omega arith in
+    omega (arith, rw whole at (pulses_from-joins hz from (to - from)), pulses_by_le hz to slow)
+
 -- the formula is the time of the definition
 pub IsTimeOf-time_of : (hz n : ℕ) → 0 < hz → hz ≤ 1000000000 → IsTimeOf hz n (time_of hz n)
 IsTimeOf-time_of hz n runs slow = record {

@@ -1,2 +1,4 @@
+pub mod Bits
+pub mod Ranges
 pub mod Pulses
 pub mod Events

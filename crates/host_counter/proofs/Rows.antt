@@ -1,6 +1,16 @@
--- Small rows that pin the definition of a time.
-use Rattle.std.proofs.Common.{◌≡◌, refl}
-use Rattle.host_counter.specs.Time.{time_at}
+-- Small rows that pin the definitions of a time and of a fault.
+use Rattle.std.proofs.Common.{◌≡◌, refl, arith}
+use Rattle.host_counter.specs.declared.Anchor.{Anchor}
+use Rattle.host_counter.specs.declared.TimeFault.TheVariants.{BeforeStart, OutOfRange}
+use Rattle.host_counter.specs.Time.{time_at, set_anew, IsTimeAt, IsFaultAt, IsJustBehind}
+
+-- a counter of 1 GHz, whose counts are nanoseconds
+abbrev plain : Anchor
+plain = record { khz = 1000000; start = 0; base_ns = 0 }
+
+-- the same from count 500 on
+abbrev later : Anchor
+later = record { khz = 1000000; start = 500; base_ns = 7 }
 
 one_count_is_ten_ns_at_100_mhz : time_at (record { khz = 100000; start = 0; base_ns = 0 }) 1 ≡ 10
 unfolding time_at
@@ -13,3 +23,38 @@ nine_counts_are_no_ns_at_10_ghz = refl
 ten_counts_are_one_ns_at_10_ghz : time_at (record { khz = 10000000; start = 500; base_ns = 7 }) 510 ≡ 8
 unfolding time_at
 ten_counts_are_one_ns_at_10_ghz = refl
+
+-- what is lost by rounding down is lost again where the clock is set anew: 5 and 5 counts are no nanosecond, 10 are one
+lost_at_a_new_anchor : time_at (set_anew (record { khz = 10000000; start = 500; base_ns = 7 }) 505 7) 510 ≡ 7
+unfolding time_at
+lost_at_a_new_anchor = refl
+
+-- 2^59 - 1 is in range, 2^59 is not
+last_time : IsTimeAt plain 576460752303423487 576460752303423487
+unfolding time_at
+last_time = record { started = omega arith; value = refl; in_range = omega arith }
+
+past_the_range : IsTimeAt plain 576460752303423488 576460752303423488 → ⊥
+past_the_range time = omega (arith, time.in_range)
+
+first_time_past_the_range : IsFaultAt plain 576460752303423488 (OutOfRange 576460752303423488)
+unfolding time_at
+first_time_past_the_range = (omega arith, omega arith, refl)
+
+no_fault_in_range : IsFaultAt plain 576460752303423487 (OutOfRange 576460752303423487) → ⊥
+no_fault_in_range fault = omega (arith, fault.1)
+
+before_the_start : IsFaultAt later 499 (BeforeStart 500)
+before_the_start = (omega arith, refl)
+
+not_at_the_start : IsFaultAt later 500 (BeforeStart 500) → ⊥
+not_at_the_start fault = omega (arith, fault.0)
+
+no_time_before_the_start : IsTimeAt later 499 7 → ⊥
+no_time_before_the_start time = omega (arith, time.started)
+
+not_two_behind : IsJustBehind 5 7 → ⊥
+not_two_behind near = omega (arith, near.near)
+
+not_ahead : IsJustBehind 6 5 → ⊥
+not_ahead near = omega (arith, near.not_ahead)

@@ -2,7 +2,7 @@
 use Rattle.std.proofs.Common.{◌≡◌, ℕ, ◌+◌, ◌*◌, ◌/◌, ◌%◌, ◌^◌, ◌<◌, ◌≤◌, Bool, true, false, cond, ◌&&◌, not, eqb, bit_and, refl, ap, sym, subst, ◌∙◌, arith}
 use Rattle.std.proofs.lemmas.Nat.{and_le_r, and_block, and_mask, and_mod, and_assoc, and_shr, mod_below}
 use Rattle.std.proofs.lemmas.Nat.Bits.{bit_at_and}
-use Rattle.hpet_counter.specs.Counter.{written}
+use Rattle.hpet_counter.specs.Counter.{part_written}
 use Rattle.hpet_comparator.specs.declared.parts.TimerParts.{TimerParts}
 use Rattle.hpet_comparator.specs.Timer.{IsTimer, bit_of, route_of, modulus, is_32_bit, is_periodic, takes_comparator, writable_bits, switch_bits, chosen_route, config_written, comparator_written, matches_at, pulsed}
 
@@ -88,8 +88,8 @@ IsTimer-comparator_written width high v t h =
       bits = writable-cleared t.config h.bits;
       low_route = rw (route_of-cleared t.config) h.low_route;
       high_route = rw (route_of-cleared t.config) h.high_route;
-      comparator = subst (λ (m : ℕ). (comparator_written width high v t).comparator < m) same (below (is_periodic t && not (takes_comparator t)) h.comparator (cut (written width high v t.comparator)));
-      period = subst (λ (m : ℕ). (comparator_written width high v t).period < m) same (cut (written width high v t.period));
+      comparator = subst (λ (m : ℕ). (comparator_written width high v t).comparator < m) same (below (is_periodic t && not (takes_comparator t)) h.comparator (cut (part_written width high v t.comparator)));
+      period = subst (λ (m : ℕ). (comparator_written width high v t).period < m) same (cut (part_written width high v t.period));
     }
 
 -- a pulse keeps the conditions

@@ -1,7 +1,7 @@
 -- One timer of the HPET: its configuration, its comparator and its pulses. Sections are those of the IA-PC HPET
 -- specification 1.0a; what it leaves open is marked as this project's own choice.
 use Rattle.std.specs.Prelude.{◌≡◌, ℕ, zero, suc, ◌+◌, ◌*◌, ◌/◌, ◌%◌, ◌^◌, ◌<◌, ◌≤◌, Bool, ◌&&◌, not, ◌==◌, nat_lt, nat_le, if◌then◌else◌, bit_and}
-use Rattle.hpet_counter.specs.Counter.{counter_after, written}
+use Rattle.hpet_counter.specs.Counter.{counter_after, part_written}
 use Rattle.hpet_comparator.specs.declared.parts.TimerParts.{TimerParts}
 
 -- a bit of a number
@@ -77,8 +77,8 @@ config_written v t = narrowed (record t { config = bit_and v switch_bits + chose
 unfoldable pub comparator_written : ℕ → Bool → ℕ → TimerParts → TimerParts
 comparator_written width high v t = record {
   config = bit_and t.config 0xffbf;
-  comparator = if is_periodic t && not (takes_comparator t) then t.comparator else written width high v t.comparator % modulus t;
-  period = written width high v t.period % modulus t;
+  comparator = if is_periodic t && not (takes_comparator t) then t.comparator else part_written width high v t.comparator % modulus t;
+  period = part_written width high v t.period % modulus t;
 }
 
 -- whether the timer matches a main counter that a pulse has brought to c: all of it, or its low half in 32-bit

@@ -1,7 +1,7 @@
 //! The record of a timer's fields, what its configuration says, and the next record of each write and pulse.
 
 ghost use Rattle.std.specs.Prelude.{◌≡◌, ℕ, ◌+◌, ◌*◌, ◌/◌, ◌%◌, ◌^◌, ◌<◌, ◌↔◌, IsTrue};
-ghost use Rattle.hpet_counter.specs.Counter.{counter_after, written, is_register_width};
+ghost use Rattle.hpet_counter.specs.Counter.{counter_after, part_written, is_register_width};
 ghost use Rattle.hpet_comparator.specs.Rounds.{IsDue, advanced};
 ghost use Rattle.hpet_comparator.specs.Timer.{
   bit_of,

@@ -1,6 +1,6 @@
 -- Lemmas on the main counter and on writes to a register of 64 bits.
 use Rattle.std.proofs.Common.{◌≡◌, ℕ, suc, ◌+◌, ◌/◌, ◌%◌, ◌^◌, ◌<◌, Bool, true, false, arith}
-use Rattle.hpet_counter.specs.Counter.{counter_after, written}
+use Rattle.hpet_counter.specs.Counter.{counter_after, part_written}
 
 -- no pulses
 pub counter_after-zero : (v : ℕ) → v < 2 ^ 64 → counter_after v 0 ≡ v
@@ -23,5 +23,5 @@ pub counter_after-low : (v n : ℕ) → counter_after v n % 2 ^ 32 ≡ (v % 2 ^ 
 counter_after-low v n = omega arith
 
 -- a whole write is a write of each half
-pub written-halves : (high : Bool) (v old : ℕ) → written 8 high v old ≡ written 4 true (v / 2 ^ 32) (written 4 false (v % 2 ^ 32) old)
-written-halves high v old = omega arith
+pub part_written-halves : (high : Bool) (v old : ℕ) → part_written 8 high v old ≡ part_written 4 true (v / 2 ^ 32) (part_written 4 false (v % 2 ^ 32) old)
+part_written-halves high v old = omega arith

@@ -1,6 +1,6 @@
 -- Small rows that pin the definitions.
 use Rattle.std.proofs.Common.{◌≡◌, true, false, refl}
-use Rattle.hpet_counter.specs.Counter.{counter_after, written}
+use Rattle.hpet_counter.specs.Counter.{counter_after, part_written}
 
 counts_up : counter_after 0 100 ≡ 100
 counts_up = refl
@@ -8,11 +8,11 @@ counts_up = refl
 goes_on_from_zero : counter_after 0xffffffffffffffff 1 ≡ 0
 goes_on_from_zero = refl
 
-whole_write : written 8 false 0x0102030405060708 0x1111111122222222 ≡ 0x0102030405060708
+whole_write : part_written 8 false 0x0102030405060708 0x1111111122222222 ≡ 0x0102030405060708
 whole_write = refl
 
-low_half_write : written 4 false 0x33333333 0x1111111122222222 ≡ 0x1111111133333333
+low_half_write : part_written 4 false 0x33333333 0x1111111122222222 ≡ 0x1111111133333333
 low_half_write = refl
 
-high_half_write : written 4 true 0x33333333 0x1111111122222222 ≡ 0x3333333322222222
+high_half_write : part_written 4 true 0x33333333 0x1111111122222222 ≡ 0x3333333322222222
 high_half_write = refl

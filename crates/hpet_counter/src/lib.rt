@@ -9,7 +9,7 @@
 #![tactic(auto)]
 
 ghost use Rattle.std.specs.Prelude.{◌≡◌, ◌*◌, ◌/◌, ◌%◌, ◌^◌, ◌<◌, true, false, IsTrue};
-ghost use Rattle.hpet_counter.specs.Counter.{counter_after, written, is_register_width};
+ghost use Rattle.hpet_counter.specs.Counter.{counter_after, part_written, is_register_width};
 
 /// How many numbers a half of a register has.
 const HALF: u64 = 0x1_0000_0000;
@@ -34,7 +34,7 @@ impl MainCounter {
     pub fn write(&mut self, width: u8, high: bool, v: u64)
         requires width { IsTrue (is_register_width width) }
         requires fits { v < 2 ^ (8 * width) }
-        ensures value { self.new.value ≡ written width high v self.old.value }
+        ensures value { self.new.value ≡ part_written width high v self.old.value }
     {
         self.value = write_part(self.value, width, high, v);
     }
@@ -45,8 +45,8 @@ impl MainCounter {
 pub fn write_part(old: u64, width: u8, high: bool, v: u64) -> u64
     requires width { IsTrue (is_register_width width) }
     requires fits { v < 2 ^ (8 * width) }
-    ensures value { result ≡ written width high v old }
-    ensures halves { width ≡ 8 → result ≡ written 4 true (v / 2 ^ 32) (written 4 false (v % 2 ^ 32) old) }
+    ensures value { result ≡ part_written width high v old }
+    ensures halves { width ≡ 8 → result ≡ part_written 4 true (v / 2 ^ 32) (part_written 4 false (v % 2 ^ 32) old) }
 {
     if width == 8 {
         v

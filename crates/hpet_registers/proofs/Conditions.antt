@@ -4,7 +4,7 @@ use Rattle.std.proofs.Math.ListN.{set, get_or-map}
 use Rattle.std.proofs.lemmas.List.{get_or-set_other}
 use Rattle.std.proofs.lemmas.Bool.{cases_eq, lt-ltb, le-ltb, false≢true}
 use Rattle.std.proofs.lemmas.Nat.{and_le_l}
-use Rattle.hpet_counter.specs.Counter.{counter_after, written}
+use Rattle.hpet_counter.specs.Counter.{counter_after, part_written}
 use Rattle.hpet_comparator.specs.declared.parts.TimerParts.{TimerParts}
 use Rattle.hpet_comparator.specs.Timer.{IsTimer, is_periodic, is_level, matches_at, pulsed, pulsed_times, config_written, comparator_written, bit_of}
 use Rattle.hpet_comparator.proofs.Writes.{IsTimer-config_written, IsTimer-comparator_written, IsTimer-pulsed}
@@ -68,7 +68,7 @@ IsHpet-register_written Configuration width high v h valid range = record {
 IsHpet-register_written Status width high v h valid range = record {
   config = valid.config;
   timers = valid.timers;
-  status = λ three. omega (arith, and_le_l h.status (0xff - written width high v 0 % 2 ^ 8), valid.status three);
+  status = λ three. omega (arith, and_le_l h.status (0xff - part_written width high v 0 % 2 ^ 8), valid.status three);
   places = valid.places;
   messages = valid.messages;
   plain = valid.plain;
@@ -85,9 +85,9 @@ IsHpet-register_written (TimerConfig k) width high v h valid range = record {
   config = valid.config;
   timers = valid.timers;
   status = valid.status;
-  places = places-set h.timers k h.timer (config_written (written width high v (timer_config_register k h)) (timer_at k h)) range (IsTimer-config_written (written width high v (timer_config_register k h)) (timer_at k h) (IsTimer-at k h valid range)) valid.places;
+  places = places-set h.timers k h.timer (config_written (part_written width high v (timer_config_register k h)) (timer_at k h)) range (IsTimer-config_written (part_written width high v (timer_config_register k h)) (timer_at k h) (IsTimer-at k h valid range)) valid.places;
   messages = valid.messages;
-  plain = λ off. (ap (λ (b : Bool). cond b (set h.message_bit k (bit_of 14 (written width high v (timer_config_register k h)))) h.message_bit) off ∙ (valid.plain off).0, (valid.plain off).1);
+  plain = λ off. (ap (λ (b : Bool). cond b (set h.message_bit k (bit_of 14 (part_written width high v (timer_config_register k h)))) h.message_bit) off ∙ (valid.plain off).0, (valid.plain off).1);
 }
 IsHpet-register_written (TimerComparator k) width high v h valid range = record {
   config = valid.config;

@@ -4,8 +4,8 @@ use Rattle.std.proofs.Math.ListN.{set}
 use Rattle.std.proofs.Math.Nat.{mod-mod}
 use Rattle.std.proofs.lemmas.Bool.{eq-eqb, ne_eqb, false≢true}
 use Rattle.std.proofs.lemmas.Nat.{and_le_r, and_mask, and_mod, and_assoc, or_disjoint, and_or_apart}
-use Rattle.hpet_counter.specs.Counter.{written}
-use Rattle.hpet_counter.proofs.Counter.{written-halves}
+use Rattle.hpet_counter.specs.Counter.{part_written}
+use Rattle.hpet_counter.proofs.Counter.{part_written-halves}
 use Rattle.hpet_comparator.specs.declared.parts.TimerParts.{TimerParts}
 use Rattle.hpet_comparator.specs.Timer.{bit_of, route_of, modulus, switch_bits, chosen_route, narrowed, config_written, config_register}
 use Rattle.hpet_registers.specs.declared.parts.HpetParts.{HpetParts}
@@ -21,13 +21,13 @@ set-again {A} (a ∷ l) zero x y z d same = ap (λ (b : A). b ∷ l) (same refl)
 set-again {A} (a ∷ l) (suc k) x y z d same = ap (λ (m : List A). a ∷ m) (set-again l k x y z d same)
 
 -- a status loses no bits to the high half
-status-halves : (v s : ℕ) → bit_and s (0xff - v % 2 ^ 8) ≡ bit_and (bit_and s (0xff - written 4 false (v % 2 ^ 32) 0 % 2 ^ 8)) (0xff - written 4 true (v / 2 ^ 32) 0 % 2 ^ 8)
+status-halves : (v s : ℕ) → bit_and s (0xff - v % 2 ^ 8) ≡ bit_and (bit_and s (0xff - part_written 4 false (v % 2 ^ 32) 0 % 2 ^ 8)) (0xff - part_written 4 true (v / 2 ^ 32) 0 % 2 ^ 8)
 status-halves v s =
-    let low : written 4 false (v % 2 ^ 32) 0 % 2 ^ 8 ≡ v % 2 ^ 8 = omega arith in
-    let high : 0xff - written 4 true (v / 2 ^ 32) 0 % 2 ^ 8 ≡ 0xff = omega arith in
+    let low : part_written 4 false (v % 2 ^ 32) 0 % 2 ^ 8 ≡ v % 2 ^ 8 = omega arith in
+    let high : 0xff - part_written 4 true (v / 2 ^ 32) 0 % 2 ^ 8 ≡ 0xff = omega arith in
     let mask : bit_and (bit_and s (0xff - v % 2 ^ 8)) 0xff ≡ bit_and s (0xff - v % 2 ^ 8) % 2 ^ 8 = and_mask (bit_and s (0xff - v % 2 ^ 8)) 8 in
     let small : bit_and s (0xff - v % 2 ^ 8) % 2 ^ 8 ≡ bit_and s (0xff - v % 2 ^ 8) = omega (arith, and_le_r s (0xff - v % 2 ^ 8)) in
-    sym (ap (λ (x : ℕ). bit_and (bit_and s (0xff - x)) (0xff - written 4 true (v / 2 ^ 32) 0 % 2 ^ 8)) low
+    sym (ap (λ (x : ℕ). bit_and (bit_and s (0xff - x)) (0xff - part_written 4 true (v / 2 ^ 32) 0 % 2 ^ 8)) low
     ∙ (ap (bit_and (bit_and s (0xff - v % 2 ^ 8))) high ∙ (mask ∙ small)))
 
 -- the switches are among the low bits
@@ -46,7 +46,7 @@ switches-fixed v =
 
 -- what the high half's write leaves of a configuration register: its switches, route and message enable as they read
 config_low : ℕ → ℕ → ℕ → Bool → Bool → ℕ
-config_low u s r p q = written 4 true u (0x00f0000000000030 + (s + r * 2 ^ 9) + cond p 0x4000 0 + cond q 0x8000 0)
+config_low u s r p q = part_written 4 true u (0x00f0000000000030 + (s + r * 2 ^ 9) + cond p 0x4000 0 + cond q 0x8000 0)
 
 config_low-switches : (u s r : ℕ) (p q : Bool) → s ≤ 334 → config_low u s r p q % 2 ^ 9 ≡ (s + 48) % 2 ^ 9
 unfolding config_low
@@ -62,7 +62,7 @@ config_low-route u s r true false small inside = omega arith
 config_low-route u s r false true small inside = omega arith
 config_low-route u s r false false small inside = omega arith
 
-message-kept : (u c : ℕ) (p q : Bool) → c < 2 ^ 14 - 48 → bit_of 14 (written 4 true u (0x00f0000000000030 + c + cond p 0x4000 0 + cond q 0x8000 0)) ≡ p
+message-kept : (u c : ℕ) (p q : Bool) → c < 2 ^ 14 - 48 → bit_of 14 (part_written 4 true u (0x00f0000000000030 + c + cond p 0x4000 0 + cond q 0x8000 0)) ≡ p
 message-kept u c true true small = eq-eqb _ 1 (omega arith)
 message-kept u c true false small = eq-eqb _ 1 (omega arith)
 message-kept u c false true small = ne_eqb _ 1 (λ e. omega arith)
@@ -107,7 +107,7 @@ config_written-again w v t switches route =
     ∙ (ap (λ (x : ℕ). narrowed (record (narrowed now) { config = bit_and v switch_bits + x * 2 ^ 9 })) left ∙ narrowed-again now)
 
 -- the high half's write leaves it
-config-kept : (u v : ℕ) (p q : Bool) (t : TimerParts) → config_written (written 4 true u (config_register (config_written v t) + cond p 0x4000 0 + cond q 0x8000 0)) (config_written v t) ≡ config_written v t
+config-kept : (u v : ℕ) (p q : Bool) (t : TimerParts) → config_written (part_written 4 true u (config_register (config_written v t) + cond p 0x4000 0 + cond q 0x8000 0)) (config_written v t) ≡ config_written v t
 unfolding config_written config_low
 config-kept u v p q t =
     config_written-again (config_low u (bit_and v switch_bits) (chosen_route (route_of v) (route_of t.config)) p q) v t
@@ -140,15 +140,15 @@ config-low_half k high v h = same_lists h
     (ap (λ (b : Bool). cond h.messages (set h.message_bit k b) h.message_bit) (ap (λ (x : ℕ). eqb x 1) (low-message (timer_config_register k h))))
   where
     low : ℕ → ℕ
-    low r = written 4 false (v % 2 ^ 32) r
+    low r = part_written 4 false (v % 2 ^ 32) r
 
-    low-switches : (r : ℕ) → written 4 false (v % 2 ^ 32) r % 2 ^ 9 ≡ v % 2 ^ 9
+    low-switches : (r : ℕ) → part_written 4 false (v % 2 ^ 32) r % 2 ^ 9 ≡ v % 2 ^ 9
     low-switches r = omega arith
 
-    low-route : (r : ℕ) → route_of (written 4 false (v % 2 ^ 32) r) ≡ route_of v
+    low-route : (r : ℕ) → route_of (part_written 4 false (v % 2 ^ 32) r) ≡ route_of v
     low-route r = omega arith
 
-    low-message : (r : ℕ) → written 4 false (v % 2 ^ 32) r / 2 ^ 14 % 2 ≡ v / 2 ^ 14 % 2
+    low-message : (r : ℕ) → part_written 4 false (v % 2 ^ 32) r / 2 ^ 14 % 2 ≡ v / 2 ^ 14 % 2
     low-message r = omega arith
 
 -- .. and the high half, which writes the low one as it reads, leaves it
@@ -157,9 +157,9 @@ config-high_half k u high v h =
     let next : HpetParts = register_written (TimerConfig k) 8 high v h in
     let p : Bool = message_bit_at k next in
     same_lists h
-    (set-again h.timer k (config_written v (timer_at k h)) (config_written (written 4 true u (timer_config_register k next)) (timer_at k next)) (config_written v (timer_at k h)) no_timer
-    (λ here. ap (λ (t : TimerParts). config_written (written 4 true u (config_register t + cond p 0x4000 0 + cond h.messages 0x8000 0)) t) here ∙ config-kept u v p h.messages (timer_at k h)))
-    (bits-again h.messages h.message_bit k (bit_of 14 v) (bit_of 14 (written 4 true u (timer_config_register k next)))
+    (set-again h.timer k (config_written v (timer_at k h)) (config_written (part_written 4 true u (timer_config_register k next)) (timer_at k next)) (config_written v (timer_at k h)) no_timer
+    (λ here. ap (λ (t : TimerParts). config_written (part_written 4 true u (config_register t + cond p 0x4000 0 + cond h.messages 0x8000 0)) t) here ∙ config-kept u v p h.messages (timer_at k h)))
+    (bits-again h.messages h.message_bit k (bit_of 14 v) (bit_of 14 (part_written 4 true u (timer_config_register k next)))
     (λ here. message-kept u (timer_at k next).config p h.messages (config-small h.timer k (2 ^ 14 - 48) (config_written v (timer_at k h)) (omega arith) (config_written-small v (timer_at k h))) ∙ here))
 
 -- a write of each register
@@ -168,13 +168,13 @@ register-halves Capabilities high v h plain = refl
 register-halves Reserved high v h plain = refl
 register-halves Configuration high v h plain = ap (λ (x : ℕ). record h { config = x }) (low v h.config)
   where
-    low : (v c : ℕ) → v % 2 ^ 2 ≡ written 4 true (v / 2 ^ 32) (written 4 false (v % 2 ^ 32) c % 2 ^ 2) % 2 ^ 2
+    low : (v c : ℕ) → v % 2 ^ 2 ≡ part_written 4 true (v / 2 ^ 32) (part_written 4 false (v % 2 ^ 32) c % 2 ^ 2) % 2 ^ 2
     low v c = omega arith
 register-halves Status high v h plain = ap (λ (x : ℕ). record h { status = x }) (status-halves v h.status)
-register-halves MainCounter high v h plain = ap (λ (x : ℕ). record h { counter = x }) (written-halves high v h.counter)
+register-halves MainCounter high v h plain = ap (λ (x : ℕ). record h { counter = x }) (part_written-halves high v h.counter)
 register-halves (TimerConfig k) high v h plain = sym (ap (register_written (TimerConfig k) 4 true (v / 2 ^ 32)) (config-low_half k high v h) ∙ config-high_half k (v / 2 ^ 32) high v h)
 register-halves (TimerComparator k) high v h plain = absurd (false≢true plain)
-register-halves (TimerMessage k) high v h plain = ap (λ (x : List ℕ). record h { message_word = x }) (sym (set-again h.message_word k (written 4 false (v % 2 ^ 32) (message_word_at k h)) _ v 0 (λ here. ap (written 4 true (v / 2 ^ 32)) here ∙ sym (written-halves high v (message_word_at k h)))))
+register-halves (TimerMessage k) high v h plain = ap (λ (x : List ℕ). record h { message_word = x }) (sym (set-again h.message_word k (part_written 4 false (v % 2 ^ 32) (message_word_at k h)) _ v 0 (λ here. ap (part_written 4 true (v / 2 ^ 32)) here ∙ sym (part_written-halves high v (message_word_at k h)))))
 
 -- a write leaves the register map
 timers-kept : (r : Register) (width : ℕ) (high : Bool) (v : ℕ) (h : HpetParts) → (register_written r width high v h).timers ≡ h.timers
@@ -198,8 +198,8 @@ messages-kept (TimerMessage k) width high v h = refl
 messages-kept Reserved width high v h = refl
 
 -- a write that reaches the register at a place
-written-at : (place offset width v : ℕ) (high : Bool) (h : HpetParts) → is_effective offset width ≡ true → offset - offset % 8 ≡ place → eqb (offset % 8) 4 ≡ high → hpet_written offset width v h ≡ register_written (register_at h.timers h.messages place) width high v h
-written-at place offset width v high h reaches here half =
+hpet_written-at : (place offset width v : ℕ) (high : Bool) (h : HpetParts) → is_effective offset width ≡ true → offset - offset % 8 ≡ place → eqb (offset % 8) 4 ≡ high → hpet_written offset width v h ≡ register_written (register_at h.timers h.messages place) width high v h
+hpet_written-at place offset width v high h reaches here half =
     ap (λ (b : Bool). cond b (register_written (register_at h.timers h.messages (offset - offset % 8)) width (eqb (offset % 8) 4) v h) h) reaches
     ∙ (ap (λ (o : ℕ). register_written (register_at h.timers h.messages o) width (eqb (offset % 8) 4) v h) here
     ∙ ap (λ (b : Bool). register_written (register_at h.timers h.messages place) width b v h) half)
@@ -209,9 +209,9 @@ pub hpet_written-halves : (offset v : ℕ) (h : HpetParts) → offset % 8 ≡ 0 
 hpet_written-halves offset v h aligned plain =
     let r : Register = register_at h.timers h.messages offset in
     let low : HpetParts = register_written r 4 false (v % 2 ^ 32) h in
-    let whole : hpet_written offset 8 v h ≡ register_written r 8 false v h = written-at offset offset 8 v false h (eq-eqb (offset % 8) 0 aligned) (omega arith) (ne_eqb (offset % 8) 4 (λ e. omega arith)) in
-    let first : hpet_written offset 4 (v % 2 ^ 32) h ≡ low = written-at offset offset 4 (v % 2 ^ 32) false h (eq-eqb (offset % 4) 0 (omega arith)) (omega arith) (ne_eqb (offset % 8) 4 (λ e. omega arith)) in
-    let second : hpet_written (offset + 4) 4 (v / 2 ^ 32) low ≡ register_written (register_at low.timers low.messages offset) 4 true (v / 2 ^ 32) low = written-at offset (offset + 4) 4 (v / 2 ^ 32) true low (eq-eqb ((offset + 4) % 4) 0 (omega arith)) (omega arith) (eq-eqb ((offset + 4) % 8) 4 (omega arith)) in
+    let whole : hpet_written offset 8 v h ≡ register_written r 8 false v h = hpet_written-at offset offset 8 v false h (eq-eqb (offset % 8) 0 aligned) (omega arith) (ne_eqb (offset % 8) 4 (λ e. omega arith)) in
+    let first : hpet_written offset 4 (v % 2 ^ 32) h ≡ low = hpet_written-at offset offset 4 (v % 2 ^ 32) false h (eq-eqb (offset % 4) 0 (omega arith)) (omega arith) (ne_eqb (offset % 8) 4 (λ e. omega arith)) in
+    let second : hpet_written (offset + 4) 4 (v / 2 ^ 32) low ≡ register_written (register_at low.timers low.messages offset) 4 true (v / 2 ^ 32) low = hpet_written-at offset (offset + 4) 4 (v / 2 ^ 32) true low (eq-eqb ((offset + 4) % 4) 0 (omega arith)) (omega arith) (eq-eqb ((offset + 4) % 8) 4 (omega arith)) in
     let map : register_at low.timers low.messages offset ≡ r =
     ap (λ (n : ℕ). register_at n low.messages offset) (timers-kept r 4 false (v % 2 ^ 32) h)
     ∙ ap (λ (b : Bool). register_at h.timers b offset) (messages-kept r 4 false (v % 2 ^ 32) h) in

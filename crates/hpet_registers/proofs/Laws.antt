@@ -2,7 +2,7 @@
 use Rattle.std.proofs.Common.{◌≡◌, ℕ, ◌-◌, ◌%◌, ◌^◌, Bool, bit_and, ap, sym, ◌∙◌}
 use Rattle.std.specs.Int.Bits.{and_self}
 use Rattle.std.proofs.lemmas.Nat.{and_comm, and_assoc}
-use Rattle.hpet_counter.specs.Counter.{written}
+use Rattle.hpet_counter.specs.Counter.{part_written}
 use Rattle.hpet_registers.specs.declared.parts.HpetParts.{HpetParts}
 use Rattle.hpet_registers.specs.declared.register.Register.{Register}
 use Rattle.hpet_registers.specs.declared.register.Register.TheVariants.{Capabilities, Configuration, Status, MainCounter, TimerConfig, TimerComparator, TimerMessage, Reserved}
@@ -16,7 +16,7 @@ masked s m = and_comm (bit_and s m) s ∙ (sym (and_assoc m s s) ∙ ap (λ (x :
 pub status-register_written : (r : Register) (width : ℕ) (high : Bool) (v : ℕ) (h : HpetParts) → bit_and (register_written r width high v h).status h.status ≡ (register_written r width high v h).status
 status-register_written Capabilities width high v h = and_self h.status
 status-register_written Configuration width high v h = and_self h.status
-status-register_written Status width high v h = masked h.status (0xff - written width high v 0 % 2 ^ 8)
+status-register_written Status width high v h = masked h.status (0xff - part_written width high v 0 % 2 ^ 8)
 status-register_written MainCounter width high v h = and_self h.status
 status-register_written (TimerConfig k) width high v h = and_self h.status
 status-register_written (TimerComparator k) width high v h = and_self h.status

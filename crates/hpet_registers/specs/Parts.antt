@@ -70,8 +70,8 @@ hpet_at_power_on timers messages = record {
 }
 
 -- the status bit of timer k, with its interrupt enabled (2.3.6)
-abbrev pub level_of : ℕ → HpetParts → Bool
-level_of k h = bit_of k h.status && is_enabled (timer_at k h)
+abbrev pub level_output : ℕ → HpetParts → Bool
+level_output k h = bit_of k h.status && is_enabled (timer_at k h)
 
 -- a timer whose matches are messages: bit 14, enabled, of edge type, and not timer 0 or 1 under legacy
 -- replacement (own)

@@ -40,8 +40,8 @@ matches_of k h (suc n) = if matches_next k (hpet_pulsed_times n h) then suc (mat
 abbrev pub no_matches : Matches
 no_matches = record { count = 0; first = None }
 
-abbrev pub place_of : List Matches → ℕ → Matches
-place_of ms k = slice_index_or ms k no_matches
+abbrev pub timer_matches : List Matches → ℕ → Matches
+timer_matches ms k = slice_index_or ms k no_matches
 
 -- these are a timer's matches over n pulses of a main counter that was at from
 pub record AreMatches (from n : ℕ) (t : TimerParts) (m : Matches) : Type 0 where

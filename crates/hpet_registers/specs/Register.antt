@@ -1,6 +1,6 @@
 -- The register map of the HPET (IA-PC HPET specification 1.0a, section 2.3), and accesses to it.
 use Rattle.std.specs.Prelude.{◌≡◌, ℕ, ◌+◌, ◌-◌, ◌*◌, ◌/◌, ◌%◌, ◌^◌, ◌<◌, Bool, true, false, ◌&&◌, ◌||◌, ◌==◌, nat_lt, nat_le, if◌then◌else◌, slice_set, bit_and}
-use Rattle.hpet_counter.specs.Counter.{written, is_register_width}
+use Rattle.hpet_counter.specs.Counter.{part_written, is_register_width}
 use Rattle.hpet_comparator.specs.Timer.{bit_of, config_register, config_written, comparator_written}
 use Rattle.hpet_registers.specs.declared.parts.HpetParts.{HpetParts}
 use Rattle.hpet_registers.specs.declared.register.Register.{Register}
@@ -54,15 +54,15 @@ register_value Reserved h = 0
 -- reserved places take no write
 abbrev pub register_written : Register → ℕ → Bool → ℕ → HpetParts → HpetParts
 register_written Capabilities width high v h = h
-register_written Configuration width high v h = record h { config = written width high v h.config % 2 ^ 2 }
-register_written Status width high v h = record h { status = bit_and h.status (0xff - written width high v 0 % 2 ^ 8) }
-register_written MainCounter width high v h = record h { counter = written width high v h.counter }
+register_written Configuration width high v h = record h { config = part_written width high v h.config % 2 ^ 2 }
+register_written Status width high v h = record h { status = bit_and h.status (0xff - part_written width high v 0 % 2 ^ 8) }
+register_written MainCounter width high v h = record h { counter = part_written width high v h.counter }
 register_written (TimerConfig k) width high v h = record h {
-  timer = slice_set h.timer k (config_written (written width high v (timer_config_register k h)) (timer_at k h));
-  message_bit = if h.messages then slice_set h.message_bit k (bit_of 14 (written width high v (timer_config_register k h))) else h.message_bit;
+  timer = slice_set h.timer k (config_written (part_written width high v (timer_config_register k h)) (timer_at k h));
+  message_bit = if h.messages then slice_set h.message_bit k (bit_of 14 (part_written width high v (timer_config_register k h))) else h.message_bit;
 }
 register_written (TimerComparator k) width high v h = record h { timer = slice_set h.timer k (comparator_written width high v (timer_at k h)) }
-register_written (TimerMessage k) width high v h = record h { message_word = slice_set h.message_word k (written width high v (message_word_at k h)) }
+register_written (TimerMessage k) width high v h = record h { message_word = slice_set h.message_word k (part_written width high v (message_word_at k h)) }
 register_written Reserved width high v h = h
 
 -- a register of which a whole write is the writes of its low and then of its high half. A timer's configuration is

@@ -196,7 +196,7 @@ fn timer_config_set(parts: HpetParts, k: u8, v: u64) -> HpetParts
 }
 
 /// The fields after a write to a register.
-pub(crate) fn written(
+pub(crate) fn register_written(
     parts: HpetParts,
     register: Register,
     width: u8,

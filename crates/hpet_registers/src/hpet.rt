@@ -9,7 +9,7 @@ ghost use Rattle.hpet_registers.specs.Parts.{
   timer_at,
   is_running,
   is_legacy,
-  level_of,
+  level_output,
   message_of,
 };
 ghost use Rattle.hpet_registers.specs.Register.{is_access_width, is_plain, register_at, hpet_read, hpet_written};
@@ -17,7 +17,7 @@ ghost use Rattle.hpet_registers.specs.ThreeTimers.{three_timer_read};
 ghost use Rattle.hpet_registers.specs.Pulses.{
   hpet_pulsed_times,
   matches_of,
-  place_of,
+  timer_matches,
   no_matches,
 };
 
@@ -124,17 +124,17 @@ impl Hpet {
                 self.parts.messages,
                 offset - offset % 8,
             );
-            self.parts = access::written(self.parts, register, width, offset % 8 == 4, v);
+            self.parts = access::register_written(self.parts, register, width, offset % 8 == 4, v);
         }
     }
 
     /// Counts `n` pulses of 10 ns: at each place the matches of that timer, none where there is no timer.
     pub fn pulses(&mut self, n: u64) -> [Matches; 8]
         ensures state { self.new ≡ hpet_pulsed_times n self.old }
-        ensures count { (k : ℕ) → k < self.old.timers → (place_of result k).count ≡ matches_of k self.old n }
-        ensures few { (k : ℕ) → k < self.old.timers → (place_of result k).count ≤ n }
-        ensures first { (k : ℕ) → k < self.old.timers → IsFirst (matches_of k self.old) n (place_of result k).first }
-        ensures none { (k : ℕ) → k < 8 → self.old.timers ≤ k → place_of result k ≡ no_matches }
+        ensures count { (k : ℕ) → k < self.old.timers → (timer_matches result k).count ≡ matches_of k self.old n }
+        ensures few { (k : ℕ) → k < self.old.timers → (timer_matches result k).count ≤ n }
+        ensures first { (k : ℕ) → k < self.old.timers → IsFirst (matches_of k self.old) n (timer_matches result k).first }
+        ensures none { (k : ℕ) → k < 8 → self.old.timers ≤ k → timer_matches result k ≡ no_matches }
 
         // A timer's matches are its own: they depend on no other timer.
         ensures alone { (k : ℕ) → matches_of k self.old n
@@ -169,7 +169,7 @@ impl Hpet {
     /// The status bit of a timer with its interrupt enabled: the output of a timer of level type.
     pub fn level(&self, timer: u8) -> bool
         requires { timer < self.now.timers }
-        ensures { result ≡ level_of timer self.now }
+        ensures { result ≡ level_output timer self.now }
     {
         (self.parts.status >> timer) % 2 == 1 && self.parts.timer[timer as usize].is_enabled()
     }

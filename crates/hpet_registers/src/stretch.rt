@@ -3,7 +3,7 @@
 ghost use Rattle.std.specs.Prelude.{◌≡◌, ℕ, ◌+◌, ◌<◌, ◌≤◌, ◌⊎◌, Bool, ◌&&◌, nat_lt, if◌then◌else◌, map, slice_index_or, length};
 ghost use Rattle.hpet_comparator.specs.Timer.{IsTimer, is_level, bit_of, pulsed_times};
 ghost use Rattle.hpet_registers.specs.Parts.{IsPlace, no_timer};
-ghost use Rattle.hpet_registers.specs.Pulses.{AreMatches, no_matches, place_of, with_bits};
+ghost use Rattle.hpet_registers.specs.Pulses.{AreMatches, no_matches, timer_matches, with_bits};
 
 use hpet_comparator::{Matches, Timer, TimerParts};
 
@@ -38,8 +38,8 @@ pub(crate) fn pulse_timers(timer: &mut [TimerParts; 8], from: u64, n: u64) -> [M
         → IsTimer (slice_index_or timer.old k no_timer) ⊎ (slice_index_or timer.old k no_timer ≡ no_timer) }
     ensures state { timer.new ≡ map (pulsed_times from n) timer.old }
     ensures matches { (k : ℕ) → k < 8 → IsTimer (slice_index_or timer.old k no_timer)
-        → AreMatches from n (slice_index_or timer.old k no_timer) (place_of result k) }
-    ensures none { (k : ℕ) → k < 8 → slice_index_or timer.old k no_timer ≡ no_timer → place_of result k ≡ no_matches }
+        → AreMatches from n (slice_index_or timer.old k no_timer) (timer_matches result k) }
+    ensures none { (k : ℕ) → k < 8 → slice_index_or timer.old k no_timer ≡ no_timer → timer_matches result k ≡ no_matches }
 {
     let mut matches = [Matches::NONE; 8];
     for k in 0..8 {
@@ -53,7 +53,7 @@ pub(crate) fn pulse_timers(timer: &mut [TimerParts; 8], from: u64, n: u64) -> [M
 /// The status with the bit of each level timer set that matched.
 pub(crate) fn raised(timer: &[TimerParts; 8], matches: &[Matches; 8], status: u8) -> u8
     ensures { result ≡ with_bits
-        (λ k. nat_lt 0 (place_of matches.now k).count && is_level (slice_index_or timer.now k no_timer))
+        (λ k. nat_lt 0 (timer_matches matches.now k).count && is_level (slice_index_or timer.now k no_timer))
         8
         status }
 {

@@ -1,10 +1,11 @@
 -- Lemmas on the edges between two lists of levels.
-use Rattle.std.proofs.Common.{◌≡◌, ℕ, ◌+◌, ◌<◌, ◌≤◌, Bool, true, false, not, List, [], ◌∷◌, ◌++◌, length, get_or, drop, refl, sym, ap, ◌∙◌, arith, append_assoc, length-append}
+use Rattle.std.proofs.Common.{◌≡◌, ℕ, ◌+◌, ◌<◌, ◌≤◌, Bool, true, false, not, List, [], ◌∷◌, ◌++◌, length, get_or, drop, refl, sym, ap, ◌∙◌, arith, append_assoc}
+use Rattle.std.proofs.Common.{length-append}
 use Rattle.std.proofs.lemmas.List.{drop_more, drop_all}
 use Rattle.std.specs.Bool.{beq}
 use Rattle.std.proofs.lemmas.Bool.{false≢true}
 use Rattle.irq_edges.specs.declared.edges.Edge.{Edge}
-use Rattle.irq_edges.specs.Changes.{change, changes}
+use Rattle.irq_edges.specs.Lines.{change, changes}
 
 -- where nothing changes there is no edge
 pub changes-same : (at : ℕ) (ns : List ℕ) (levels : List Bool) → changes at ns levels levels ≡ []
@@ -25,7 +26,8 @@ length-changes-le at (n ∷ ns) (false ∷ before) (false ∷ after) = omega (ar
 
 -- at a place, the edge of that line comes first
 pub changes-drop : (at : ℕ) (ns : List ℕ) (before after : List Bool) (i : ℕ) (b a : Bool) → i < length ns → length before ≡ length ns → length after ≡ length ns
-    → changes at (drop i ns) (drop i before) (drop i after) ≡ change at (get_or ns i 0) (get_or before i b) (get_or after i a) ++ changes at (drop (i + 1) ns) (drop (i + 1) before) (drop (i + 1) after)
+    → changes at (drop i ns) (drop i before) (drop i after) ≡ change at (get_or ns i 0) (get_or before i b) (get_or after i a) ++ changes at (drop (i + 1) ns)
+    (drop (i + 1) before) (drop (i + 1) after)
 changes-drop at ns before after i b a h p q =
     let hb : i < length before = omega arith in
     let ha : i < length after = omega arith in
@@ -50,7 +52,8 @@ change-same at line false true h = absurd (false≢true (sym h))
 change-same at line false false h = refl
 
 -- where an edge is left there is a place for it
-pub room_for : (done rest old all others : List Edge) (edge : Edge) (places : ℕ) → done ++ rest ≡ old ++ all → rest ≡ (edge ∷ []) ++ others → length old + length all ≤ places → length done < places
+pub room_for : (done rest old all others : List Edge) (edge : Edge) (places : ℕ) → done ++ rest ≡ old ++ all → rest ≡ (edge ∷ []) ++ others
+    → length old + length all ≤ places → length done < places
 room_for done rest old all others edge places whole first room =
     omega (arith, ap length whole, length-append done rest, length-append old all, ap length first, length-append (edge ∷ []) others)
 

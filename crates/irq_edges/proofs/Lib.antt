@@ -3,3 +3,4 @@ pub mod UpFrom
 pub mod NextRise
 pub mod RisesOf
 mod Rows
+pub mod OfLines

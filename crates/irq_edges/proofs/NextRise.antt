@@ -3,7 +3,8 @@ use Rattle.std.proofs.Common.{◌≡◌, ℕ, ◌<◌, ◌≤◌, List, [], ◌�
 use Rattle.std.specs.Prelude.{unwrap_or}
 use Rattle.std.proofs.lemmas.Bool.{cases_lt, lt-ltb, le-ltb, le-leb, lt-leb}
 use Rattle.std.proofs.lemmas.List.Elements.{Contains-push, Contains-push_cases, Contains-append_left}
-use Rattle.irq_edges.specs.Levels.{earlier_rise, IsNextRise}
+use Rattle.irq_edges.specs.Rises.{IsNextRise}
+use Rattle.irq_edges.specs.private.Rises.{earlier_rise}
 
 -- no line rises
 pub IsNextRise-none : (at to : ℕ) → IsNextRise [] at to None
@@ -22,7 +23,8 @@ earlier_rise-late : (at to : ℕ) (next : Option ℕ) (r : ℕ) → at < r → u
 earlier_rise-late at to next r h k = rw (lt-ltb at r h, lt-leb r (unwrap_or next to) k) refl
 
 -- one line more: a rise of it that comes first
-taken : (us : List (Option ℕ)) (at to : ℕ) (next : Option ℕ) (r : ℕ) → IsNextRise us at to next → at < r → r ≤ unwrap_or next to → IsNextRise (us ++ Some r ∷ []) at to (Some r)
+taken : (us : List (Option ℕ)) (at to : ℕ) (next : Option ℕ) (r : ℕ) → IsNextRise us at to next → at < r → r ≤ unwrap_or next to
+    → IsNextRise (us ++ Some r ∷ []) at to (Some r)
 taken us at to None r next h k = (
   h,
   k,
@@ -43,7 +45,8 @@ taken us at to (Some s) r next h k = (
 )
 
 -- one line more whose rise doesn't come first
-left : (us : List (Option ℕ)) (at to : ℕ) (next u : Option ℕ) → IsNextRise us at to next → ((r : ℕ) → u ≡ Some r → at < r → unwrap_or next to < r) → IsNextRise (us ++ u ∷ []) at to next
+left : (us : List (Option ℕ)) (at to : ℕ) (next u : Option ℕ) → IsNextRise us at to next → ((r : ℕ) → u ≡ Some r → at < r → unwrap_or next to < r)
+    → IsNextRise (us ++ u ∷ []) at to next
 left us at to None u next later = λ t c lt. elim (Contains-push_cases us u (Some t) c) [
   | inl old ↦ next t old lt
   | inr this ↦ later t this lt
@@ -59,7 +62,8 @@ left us at to (Some s) u next later = (
 )
 
 -- one line more
-pub IsNextRise-push : (us : List (Option ℕ)) (at to : ℕ) (next u : Option ℕ) → IsNextRise us at to next → IsNextRise (us ++ u ∷ []) at to (earlier_rise at to next u)
+pub IsNextRise-push : (us : List (Option ℕ)) (at to : ℕ) (next u : Option ℕ) → IsNextRise us at to next
+    → IsNextRise (us ++ u ∷ []) at to (earlier_rise at to next u)
 IsNextRise-push us at to next None h = left us at to next None h (λ r e lt. cc)
 IsNextRise-push us at to next (Some r) h = elim (cases_lt at r) [
   | inr early ↦ rw (earlier_rise-early at to next r early) (left us at to next (Some r) h (λ s e lt. let same : r ≡ s = cc in absurd (omega arith)))

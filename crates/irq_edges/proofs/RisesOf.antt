@@ -2,8 +2,8 @@
 use Rattle.std.proofs.Common.{◌≡◌, ℕ, zero, suc, ◌+◌, ◌-◌, ◌<◌, ◌≤◌, Bool, List, [], ◌++◌, Option, Some, None, refl, sym, ap, ◌∙◌, arith, append_assoc}
 use Rattle.std.proofs.lemmas.List.{append-nil}
 use Rattle.irq_edges.specs.declared.edges.Edge.{Edge}
-use Rattle.irq_edges.specs.Changes.{changes}
-use Rattle.irq_edges.specs.Levels.{levels_at, rises_of, IsNextRise}
+use Rattle.irq_edges.specs.Lines.{changes}
+use Rattle.irq_edges.specs.Rises.{levels_at, rises_of, IsNextRise}
 use Rattle.irq_edges.proofs.EdgesOf.{changes-same}
 use Rattle.irq_edges.proofs.UpFrom.{between, levels_at-still}
 
@@ -13,7 +13,8 @@ unfolding rises_of
 rises_of-zero ns us t = refl
 
 -- one nanosecond more
-pub rises_of-more : (ns : List ℕ) (us : List (Option ℕ)) (t n : ℕ) → rises_of ns us t (suc n) ≡ rises_of ns us t n ++ changes (t + n + 1) ns (levels_at (t + n) us) (levels_at (t + n + 1) us)
+pub rises_of-more : (ns : List ℕ) (us : List (Option ℕ)) (t n : ℕ)
+    → rises_of ns us t (suc n) ≡ rises_of ns us t n ++ changes (t + n + 1) ns (levels_at (t + n) us) (levels_at (t + n + 1) us)
 unfolding rises_of
 rises_of-more ns us t n = refl
 
@@ -42,12 +43,14 @@ rises_of-add ns us t m (suc n) =
     (append_assoc (rises_of ns us t m) (rises_of ns us (t + m) n) (changes (t + m + n + 1) ns (levels_at (t + m + n) us) (levels_at (t + m + n + 1) us)))
 
 -- where the levels stay until the last nanosecond, the edges are those of that one
-rises_of-last : (ns : List ℕ) (us : List (Option ℕ)) (t n : ℕ) → ((j : ℕ) → j ≤ n → levels_at (t + j) us ≡ levels_at t us) → rises_of ns us t (suc n) ≡ changes (t + n + 1) ns (levels_at t us) (levels_at (t + n + 1) us)
+rises_of-last : (ns : List ℕ) (us : List (Option ℕ)) (t n : ℕ) → ((j : ℕ) → j ≤ n → levels_at (t + j) us ≡ levels_at t us)
+    → rises_of ns us t (suc n) ≡ changes (t + n + 1) ns (levels_at t us) (levels_at (t + n + 1) us)
 rises_of-last ns us t n still =
     rises_of-more ns us t n ∙ rw (rises_of-still ns us t n still, still n (omega arith)) refl
 
 -- up to the next rise the edges are those of its nanosecond
-pub rises_of-next : (ns : List ℕ) (us : List (Option ℕ)) (at to r : ℕ) → IsNextRise us at to (Some r) → rises_of ns us at (r - at) ≡ changes r ns (levels_at at us) (levels_at r us)
+pub rises_of-next : (ns : List ℕ) (us : List (Option ℕ)) (at to r : ℕ) → IsNextRise us at to (Some r)
+    → rises_of ns us at (r - at) ≡ changes r ns (levels_at at us) (levels_at r us)
 rises_of-next ns us at to r next =
     let many : r - at ≡ suc (r - at - 1) = omega (arith, next.0) in
     let place : at + (r - at - 1) + 1 ≡ r = omega (arith, next.0) in
@@ -66,7 +69,8 @@ rises_of-none ns us at to n none h =
     rises_of-still ns us at n (λ j w. levels_at-still at (at + j) us (omega arith) (λ s c lt. omega (arith, none s c lt)))
 
 -- with no further rise there are no further edges
-pub rises_of-end : (ns : List ℕ) (us : List (Option ℕ)) (from at to : ℕ) → from ≤ at → at ≤ to → IsNextRise us at to None → rises_of ns us from (to - from) ≡ rises_of ns us from (at - from)
+pub rises_of-end : (ns : List ℕ) (us : List (Option ℕ)) (from at to : ℕ) → from ≤ at → at ≤ to → IsNextRise us at to None
+    → rises_of ns us from (to - from) ≡ rises_of ns us from (at - from)
 rises_of-end ns us from at to h k none =
     let many : to - from ≡ (at - from) + (to - at) = omega arith in
     let place : from + (at - from) ≡ at = omega arith in
@@ -74,7 +78,8 @@ rises_of-end ns us from at to h k none =
     ap (rises_of ns us from) many ∙ rises_of-add ns us from (at - from) (to - at) ∙ rw (place, quiet) (append-nil (rises_of ns us from (at - from)))
 
 -- the edges up to the next rise
-pub rises_of-on : (ns : List ℕ) (us : List (Option ℕ)) (from at to r : ℕ) → from ≤ at → IsNextRise us at to (Some r) → rises_of ns us from (r - from) ≡ rises_of ns us from (at - from) ++ changes r ns (levels_at at us) (levels_at r us)
+pub rises_of-on : (ns : List ℕ) (us : List (Option ℕ)) (from at to r : ℕ) → from ≤ at → IsNextRise us at to (Some r)
+    → rises_of ns us from (r - from) ≡ rises_of ns us from (at - from) ++ changes r ns (levels_at at us) (levels_at r us)
 rises_of-on ns us from at to r h next =
     let many : r - from ≡ (at - from) + (r - at) = omega (arith, next.0) in
     let place : from + (at - from) ≡ at = omega arith in

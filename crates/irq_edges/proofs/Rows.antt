@@ -1,7 +1,8 @@
 -- Small rows that pin the definitions.
 use Rattle.std.proofs.Common.{◌≡◌, true, false, [], ◌∷◌, Some, None, refl}
-use Rattle.irq_edges.specs.Changes.{line_numbers, changes, level_of}
-use Rattle.irq_edges.specs.Levels.{rises_of, down_at}
+use Rattle.irq_edges.specs.Lines.{line_numbers, changes, is_line, level_of}
+use Rattle.irq_edges.specs.Rises.{rises_of}
+use Rattle.irq_edges.specs.private.Rises.{down_at}
 
 -- a rise and a fall at one time, in order of line numbers
 rise_and_fall : changes 70 line_numbers (false ∷ true ∷ false ∷ true ∷ false ∷ false ∷ []) (true ∷ false ∷ false ∷ true ∷ false ∷ false ∷ [])
@@ -20,6 +21,13 @@ level_of_last = refl
 
 level_of_third : level_of line_numbers (false ∷ false ∷ true ∷ false ∷ false ∷ false ∷ []) 20 ≡ true
 level_of_third = refl
+
+-- a level of no line is down, and the number of no line isn't one
+level_of_none : level_of line_numbers (true ∷ true ∷ true ∷ true ∷ true ∷ true ∷ []) 1 ≡ false
+level_of_none = refl
+
+line_24_is_none : is_line 24 ≡ false
+line_24_is_none = refl
 
 -- two lines that rise at one time, one later, one before the stretch and one behind it
 two_at_a_time : rises_of line_numbers (Some 7 ∷ Some 12 ∷ None ∷ Some 12 ∷ Some 15 ∷ Some 99 ∷ []) 10 20

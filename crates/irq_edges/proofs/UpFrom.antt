@@ -1,11 +1,13 @@
 -- Lemmas on lines that are given by the time from which on they are up.
-use Rattle.std.proofs.Common.{◌≡◌, ℕ, suc, ◌+◌, ◌<◌, ◌≤◌, Bool, true, false, cond, List, [], ◌∷◌, ◌++◌, length, Option, Some, None, refl, sym, ap, ◌∙◌, inl, inr, arith}
+use Rattle.std.proofs.Common.{◌≡◌, ℕ, suc, ◌+◌, ◌<◌, ◌≤◌, Bool, true, false, cond, List, [], ◌∷◌, ◌++◌, length, Option, Some, None, refl, sym, ap, ◌∙◌, inl}
+use Rattle.std.proofs.Common.{inr, arith}
 use Rattle.std.specs.Prelude.{◌≢◌, Contains, ◌⊎◌}
 use Rattle.std.proofs.lemmas.Bool.{cases_lt, leb-true, leb-false, le-leb, lt-leb, false≢true}
 use Rattle.std.proofs.lemmas.List.Elements.{Contains-append_cases, Contains-append_right}
 use Rattle.irq_edges.specs.declared.edges.Edge.{Edge}
-use Rattle.irq_edges.specs.Changes.{change, changes}
-use Rattle.irq_edges.specs.Levels.{is_up_at, levels_at, down_at}
+use Rattle.irq_edges.specs.Lines.{change, changes}
+use Rattle.irq_edges.specs.Rises.{is_up_at, levels_at}
+use Rattle.irq_edges.specs.private.Rises.{down_at}
 
 -- an element is the first or one of the others
 pub Contains-cons_cases : {X : Type 0} (y x : X) (xs : List X) → Contains (y ∷ xs) x → (y ≡ x) ⊎ Contains xs x
@@ -77,24 +79,30 @@ down_at-le t (u ∷ us) = more (is_up_at t u) (down_at t us) (length us) (down_a
     more false x n h = omega arith
 
 -- the edges between two times and the lines that are down later are at most the lines that were down
-pub length-changes : (at a b : ℕ) (ns : List ℕ) (us : List (Option ℕ)) → a ≤ b → length (changes at ns (levels_at a us) (levels_at b us)) + down_at b us ≤ down_at a us
+pub length-changes : (at a b : ℕ) (ns : List ℕ) (us : List (Option ℕ)) → a ≤ b
+    → length (changes at ns (levels_at a us) (levels_at b us)) + down_at b us ≤ down_at a us
 length-changes at a b [] us h = omega (arith, down_at-mono a b us h)
 length-changes at a b (n ∷ ns) [] h = omega arith
-length-changes at a b (n ∷ ns) (u ∷ us) h = more at n (is_up_at a u) (is_up_at b u) (changes at ns (levels_at a us) (levels_at b us)) (down_at a us) (down_at b us) (is_up_at-mono a b u h) (length-changes at a b ns us h)
+length-changes at a b (n ∷ ns) (u ∷ us) h = more at n (is_up_at a u) (is_up_at b u) (changes at ns (levels_at a us) (levels_at b us)) (down_at a us)
+    (down_at b us) (is_up_at-mono a b u h) (length-changes at a b ns us h)
   where
-    more : (at n : ℕ) (p q : Bool) (es : List Edge) (x y : ℕ) → (p ≡ true → q ≡ true) → length es + y ≤ x → length (change at n p q ++ es) + cond q y (suc y) ≤ cond p x (suc x)
+    more : (at n : ℕ) (p q : Bool) (es : List Edge) (x y : ℕ) → (p ≡ true → q ≡ true) → length es + y ≤ x
+        → length (change at n p q ++ es) + cond q y (suc y) ≤ cond p x (suc x)
     more at n true true es x y up k = k
     more at n true false es x y up k = absurd (false≢true (up refl))
     more at n false true es x y up k = omega arith
     more at n false false es x y up k = omega arith
 
 -- a line that rises in between gives an edge
-pub changes-some : (at a b r : ℕ) (ns : List ℕ) (us : List (Option ℕ)) → length us ≤ length ns → Contains us (Some r) → a < r → r ≤ b → changes at ns (levels_at a us) (levels_at b us) ≢ []
+pub changes-some : (at a b r : ℕ) (ns : List ℕ) (us : List (Option ℕ)) → length us ≤ length ns → Contains us (Some r) → a < r → r ≤ b
+    → changes at ns (levels_at a us) (levels_at b us) ≢ []
 changes-some at a b r ns [] h c lt le = absurd (omega (arith, c.1))
 changes-some at a b r [] (u ∷ us) h c lt le = absurd (omega arith)
 changes-some at a b r (n ∷ ns) (u ∷ us) h c lt le = elim (Contains-cons_cases u (Some r) us c) [
-  | inl this ↦ here at n (is_up_at a u) (is_up_at b u) (changes at ns (levels_at a us) (levels_at b us)) (ap (is_up_at a) this ∙ lt-leb r a lt) (ap (is_up_at b) this ∙ le-leb r b le)
-  | inr other ↦ behind at n (is_up_at a u) (is_up_at b u) (changes at ns (levels_at a us) (levels_at b us)) (changes-some at a b r ns us (omega arith) other lt le)
+  | inl this ↦ here at n (is_up_at a u) (is_up_at b u) (changes at ns (levels_at a us) (levels_at b us)) (ap (is_up_at a) this ∙ lt-leb r a lt)
+      (ap (is_up_at b) this ∙ le-leb r b le)
+  | inr other ↦ behind at n (is_up_at a u) (is_up_at b u) (changes at ns (levels_at a us) (levels_at b us))
+      (changes-some at a b r ns us (omega arith) other lt le)
 ]
   where
     here : (at n : ℕ) (p q : Bool) (es : List Edge) → p ≡ false → q ≡ true → change at n p q ++ es ≢ []

@@ -1,2 +1,3 @@
-pub mod Changes
-pub mod Levels
+pub mod Lines
+pub mod Rises
+pub mod private

@@ -1,7 +1,7 @@
 //! The levels of the six lines, and the edges between two of them.
 ghost use Rattle.std.specs.Prelude.{◌≡◌, ◌+◌, ◌≤◌, ◌++◌, length, IsTrue};
-ghost use Rattle.irq_edges.specs.declared.edges.TheConstants.{PLACES};
-ghost use Rattle.irq_edges.specs.Changes.{line_numbers, changes, level_of, is_line};
+ghost use Rattle.irq_edges.specs.declared.edges.TheConstants.{EDGE_PLACES};
+ghost use Rattle.irq_edges.specs.Lines.{line_numbers, changes, level_of, is_line};
 
 use crate::edges::{Edge, EdgeList};
 
@@ -10,6 +10,7 @@ pub const LINE_NUMBERS: [u8; 6] = [0, 8, 20, 21, 22, 23];
 
 /// The levels of the six lines, in order of line numbers: true where a line is up.
 #[derive(Clone, Copy, Debug, Default, PartialEq, Eq)]
+#[repr(C)]
 pub struct Lines {
     /// The levels of the lines 0, 8, 20, 21, 22 and 23.
     pub levels: [bool; 6],
@@ -32,17 +33,18 @@ impl Lines {
     }
 }
 
-/// Appends an edge for each line whose level differs, with the time `at`, in order of line numbers. Six places
-/// must be free.
+/// Appends an edge for each line whose level differs, with the time `at`, in order of line numbers.
+/// Six places must be free.
 pub fn changes(before: Lines, after: Lines, at: u64, into: &mut EdgeList)
-    requires { length into.old + 6 ≤ PLACES }
+    requires { length into.old + 6 ≤ EDGE_PLACES }
     ensures appended { into.new ≡ into.old ++ changes at line_numbers before.levels after.levels }
     ensures few { length into.new ≤ length into.old + 6 }
 {
     append_changes(&LINE_NUMBERS, &before.levels, &after.levels, at, into);
 }
 
-/// Appends an edge for each of these lines whose level differs. There must be a place for each of the edges.
+/// Appends an edge for each of these lines whose level differs. There must be a place for each of
+/// the edges.
 pub(crate) fn append_changes(
     lines: &[u8],
     before: &[bool],
@@ -52,7 +54,8 @@ pub(crate) fn append_changes(
 )
     requires levels_before { length before.now ≡ length lines.now }
     requires levels_after { length after.now ≡ length lines.now }
-    requires room { length into.old + length (changes at lines.now before.now after.now) ≤ PLACES }
+    requires room { length into.old + length (changes at lines.now before.now after.now)
+        ≤ EDGE_PLACES }
     ensures { into.new ≡ into.old ++ changes at lines.now before.now after.now }
 {
     for place in 0..lines.len() {

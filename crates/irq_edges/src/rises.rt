@@ -1,8 +1,9 @@
 //! Lines that go up once at most in a stretch, each given by the nanosecond from which on it is up.
 ghost use Rattle.std.specs.Prelude.{◌≡◌, ◌+◌, ◌-◌, ◌≤◌, ◌++◌, length};
-ghost use Rattle.irq_edges.specs.declared.edges.TheConstants.{PLACES};
-ghost use Rattle.irq_edges.specs.Changes.{line_numbers};
-ghost use Rattle.irq_edges.specs.Levels.{is_up_at, levels_at, rises_of, earlier_rise, IsNextRise};
+ghost use Rattle.irq_edges.specs.declared.edges.TheConstants.{EDGE_PLACES};
+ghost use Rattle.irq_edges.specs.Lines.{line_numbers};
+ghost use Rattle.irq_edges.specs.Rises.{is_up_at, levels_at, rises_of, IsNextRise};
+ghost use Rattle.irq_edges.specs.private.Rises.{earlier_rise};
 
 use crate::edges::EdgeList;
 use crate::lines::{LINE_NUMBERS, Lines, append_changes};
@@ -39,7 +40,8 @@ pub fn next_rise(times: &[Option<u64>], at: u64, to: u64) -> Option<u64>
     next
 }
 
-/// The earlier of the first rise so far and a line's rise, where that falls after `at` and up to `to`.
+/// The earlier of the first rise so far and a line's rise, where that falls after `at` and up to
+/// `to`.
 fn earlier_rise(next: Option<u64>, time: Option<u64>, at: u64, to: u64) -> Option<u64>
     ensures { result ≡ earlier_rise at to next time }
 {
@@ -49,11 +51,11 @@ fn earlier_rise(next: Option<u64>, time: Option<u64>, at: u64, to: u64) -> Optio
     }
 }
 
-/// Appends the edges of the nanoseconds after `from` and up to `to`, in order of time and, at one time, of line
-/// numbers. They are six at most, since no line falls; six places must be free.
+/// Appends the edges of the nanoseconds after `from` and up to `to`, in order of time and, at one
+/// time, of line numbers. They are six at most, since no line falls; six places must be free.
 pub fn emit(times: &[Option<u64>; 6], from: u64, to: u64, into: &mut EdgeList)
     requires forward { from ≤ to }
-    requires room { length into.old + 6 ≤ PLACES }
+    requires room { length into.old + 6 ≤ EDGE_PLACES }
     ensures appended { into.new ≡ into.old ++ rises_of line_numbers times.now from (to - from) }
     ensures few { length into.new ≤ length into.old + 6 }
 {

@@ -41,7 +41,8 @@ fn levels_by_line_number(rt: HostRuntime) {
     assert!(rt; lines.level(23));
 }
 
-/// Two lines that rise at one time, one that rises later, one that is up before, and one that rises behind the end.
+/// Two lines that rise at one time, one that rises later, one that is up before, and one that
+/// rises behind the end.
 #[test]
 fn rises_of_a_stretch(rt: HostRuntime) {
     let times = [Some(7), Some(12), None, Some(12), Some(15), Some(99)];
@@ -56,4 +57,29 @@ fn rises_of_a_stretch(rt: HostRuntime) {
     emit(&times, 10, 20, &mut edges);
     let wanted = [edge(12, 8, true), edge(12, 21, true), edge(15, 22, true)];
     assert_eq!(rt; edges.as_slice(), wanted.as_slice());
+}
+
+#[test]
+fn bursts_in_the_order_in_which_they_came(rt: HostRuntime) {
+    let one = Burst {
+        timer: 3,
+        first: 1000,
+        count: 3,
+        every: 1000,
+        address: 0xfee0_0000,
+        data: 0x41,
+    };
+    let other = Burst {
+        timer: 5,
+        count: 1,
+        every: 0,
+        ..one
+    };
+    let mut bursts = BurstList::new();
+    assert!(rt; bursts.is_empty());
+    bursts.push(one);
+    bursts.push(other);
+    assert_eq!(rt; bursts.as_slice(), [one, other].as_slice());
+    assert_eq!(rt; bursts.len(), 2);
+    assert_eq!(rt; bursts.copy(), bursts);
 }

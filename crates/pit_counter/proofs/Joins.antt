@@ -4,7 +4,7 @@ use Rattle.std.specs.Option.{IfSome}
 use Rattle.clk_units.specs.Events.{IsFirst}
 use Rattle.pit_counter.specs.Joins.{joined_first}
 use Rattle.pit_counter.specs.Table.{pulsed_times, rises_next, rises_in}
-use Rattle.pit_counter.specs.Conditions.{IsCounter}
+use Rattle.pit_counter.specs.Parts.{IsCounter}
 use Rattle.pit_counter.specs.declared.parts.CounterParts.{CounterParts}
 use Rattle.pit_counter.proofs.Keeps.{IsCounter-pulsed}
 use Rattle.pit_counter.proofs.Times.{pulsed_times-+, rises_in-suc, rises_in-zero}

@@ -1,13 +1,13 @@
 -- Every call keeps the conditions on a counter's fields.
 use Rattle.std.proofs.Common.{◌≡◌, ℕ, ◌+◌, ◌-◌, ◌*◌, ◌%◌, ◌<◌, ◌≤◌, Bool, true, false, not, ◌&&◌, ◌||◌, cond, ltb, eqb, refl, ap, arith}
-use Rattle.std.proofs.lemmas.Bool.{and_parts, and_from, eqb-true, eqb-false, cond_both, le-leb, lt-ltb}
+use Rattle.std.proofs.lemmas.Bool.{and_from, eqb-true, eqb-false, cond_both, le-leb, lt-ltb}
 use Rattle.std.proofs.lemmas.Bool.Decides.{nat_tests}
 use Rattle.pit_counter.specs.Mode.{mode_of, access_of, is_square, takes_two, is_bcd}
 use Rattle.pit_counter.specs.Count.{modulus, meant_count, loaded_count, lowered, is_odd_square}
-use Rattle.pit_counter.specs.Programming.{programmed, completed, begun, written_by, written, gated}
+use Rattle.pit_counter.specs.Programming.{programmed, completed, begun, byte_written_by, byte_written, gated}
 use Rattle.pit_counter.specs.Table.{effect_in, affected, pulsed}
 use Rattle.pit_counter.specs.Reading.{with_count_latched, with_status_latched, status_released, count_released, after_read, reads_last}
-use Rattle.pit_counter.specs.Conditions.{IsCounter, bits_stand, flags_stand, cr_stands, ce_stands, part_stands, read_order_stands, latches_stand}
+use Rattle.pit_counter.specs.Parts.{IsCounter, bits_valid, flags_valid, cr_valid, ce_valid, part_valid, read_order_valid, latched_count_valid, latched_status_valid}
 use Rattle.pit_counter.specs.declared.mode.Mode.{Mode}
 use Rattle.pit_counter.specs.declared.mode.Mode.TheVariants.{TerminalCount, OneShot, RateGenerator, SquareWave, SoftwareStrobe, HardwareStrobe}
 use Rattle.pit_counter.specs.declared.mode.Access.{Access}
@@ -17,8 +17,8 @@ use Rattle.pit_counter.specs.declared.table.Effect.TheVariants.{Load, DownToHigh
 use Rattle.pit_counter.specs.declared.parts.CounterParts.{CounterParts}
 
 -- the conditions that a pulse can break
-abbrev Stands : CounterParts → Type 0
-Stands c = (flags_stand c ≡ true) × (ce_stands c ≡ true) × (part_stands c ≡ true)
+abbrev Valid : CounterParts → Type 0
+Valid c = (flags_valid c ≡ true) × (ce_valid c ≡ true) × (part_valid c ≡ true)
 
 -- a load is in range, and even in mode 3
 loaded_count-below : (bits cr : ℕ) → loaded_count bits cr < modulus bits
@@ -50,49 +50,49 @@ unfolding modulus
 positive bits = cond_both (is_bcd bits) 10000 65536 (λ m. ltb 0 m ≡ true) (λ _. refl) (λ _. refl)
 
 -- a pulse in mode 0
-terminal_count : (c : CounterParts) → mode_of c.bits ≡ TerminalCount → Stands c → Stands (affected (effect_in TerminalCount c) c)
-unfolding effect_in flags_stand ce_stands part_stands is_odd_square
+terminal_count : (c : CounterParts) → mode_of c.bits ≡ TerminalCount → Valid c → Valid (affected (effect_in TerminalCount c) c)
+unfolding effect_in flags_valid ce_valid part_valid is_odd_square
 terminal_count c m h =
     let flags = simp m at h.0 in
     let ce = simp m at h.1 in
     let part = simp m at h.2 in
-    cond_both (c.null && c.full) (Load c.out) (cond (c.live && c.gate && not c.part_there) DownToHigh (Stand c.out)) (λ e. Stands (affected e c))
+    cond_both (c.null && c.full) (Load c.out) (cond (c.live && c.gate && not c.part_there) DownToHigh (Stand c.out)) (λ e. Valid (affected e c))
     (λ waits. (simp m (grind arith), simp m (grind (arith, loaded_count-below, nat_tests)), simp m (grind arith)))
-    (λ none. cond_both (c.live && c.gate && not c.part_there) DownToHigh (Stand c.out) (λ e. Stands (affected e c))
+    (λ none. cond_both (c.live && c.gate && not c.part_there) DownToHigh (Stand c.out) (λ e. Valid (affected e c))
     (λ counts. (simp m (grind arith), simp m (grind (arith, lowered-below, nat_tests)), simp m (grind arith)))
     (λ stopped. (simp m (grind arith), simp m (grind arith), simp m (grind arith))))
 
 -- a pulse in mode 1
-one_shot : (c : CounterParts) → mode_of c.bits ≡ OneShot → Stands c → Stands (affected (effect_in OneShot c) c)
-unfolding effect_in flags_stand ce_stands part_stands is_odd_square
+one_shot : (c : CounterParts) → mode_of c.bits ≡ OneShot → Valid c → Valid (affected (effect_in OneShot c) c)
+unfolding effect_in flags_valid ce_valid part_valid is_odd_square
 one_shot c m h =
     let flags = simp m at h.0 in
     let ce = simp m at h.1 in
     let part = simp m at h.2 in
-    cond_both c.trig (Load false) (cond c.live DownToHigh (Stand c.out)) (λ e. Stands (affected e c))
+    cond_both c.trig (Load false) (cond c.live DownToHigh (Stand c.out)) (λ e. Valid (affected e c))
     (λ triggered. (simp m (grind arith), simp m (grind (arith, loaded_count-below, nat_tests)), simp m (grind arith)))
-    (λ none. cond_both c.live DownToHigh (Stand c.out) (λ e. Stands (affected e c))
+    (λ none. cond_both c.live DownToHigh (Stand c.out) (λ e. Valid (affected e c))
     (λ counts. (simp m (grind arith), simp m (grind (arith, lowered-below, nat_tests)), simp m (grind arith)))
     (λ stopped. (simp m (grind arith), simp m (grind arith), simp m (grind arith))))
 
 -- a pulse in mode 2
-rate_generator : (c : CounterParts) → mode_of c.bits ≡ RateGenerator → Stands c → Stands (affected (effect_in RateGenerator c) c)
-unfolding effect_in flags_stand ce_stands part_stands is_odd_square
+rate_generator : (c : CounterParts) → mode_of c.bits ≡ RateGenerator → Valid c → Valid (affected (effect_in RateGenerator c) c)
+unfolding effect_in flags_valid ce_valid part_valid is_odd_square
 rate_generator c m h =
     let flags = simp m at h.0 in
     let ce = simp m at h.1 in
     let part = simp m at h.2 in
-    cond_both ((c.full && not c.live) || c.trig) (Load true) (cond (c.live && c.gate && eqb c.ce 1) (Load true) (cond (c.live && c.gate) DownToLow (Stand c.out))) (λ e. Stands (affected e c))
+    cond_both ((c.full && not c.live) || c.trig) (Load true) (cond (c.live && c.gate && eqb c.ce 1) (Load true) (cond (c.live && c.gate) DownToLow (Stand c.out))) (λ e. Valid (affected e c))
     (λ begins. (simp m (grind arith), simp m (grind (arith, loaded_count-below, nat_tests)), simp m (grind arith)))
-    (λ none. cond_both (c.live && c.gate && eqb c.ce 1) (Load true) (cond (c.live && c.gate) DownToLow (Stand c.out)) (λ e. Stands (affected e c))
+    (λ none. cond_both (c.live && c.gate && eqb c.ce 1) (Load true) (cond (c.live && c.gate) DownToLow (Stand c.out)) (λ e. Valid (affected e c))
     (λ ends. (simp m (grind arith), simp m (grind (arith, loaded_count-below, nat_tests)), simp m (grind arith)))
-    (λ goes_on. cond_both (c.live && c.gate) DownToLow (Stand c.out) (λ e. Stands (affected e c))
+    (λ goes_on. cond_both (c.live && c.gate) DownToLow (Stand c.out) (λ e. Valid (affected e c))
     (λ counts. (simp m (grind arith), simp m (grind (arith, lowered-below, nat_tests)), simp m (grind arith)))
     (λ stopped. (simp m (grind arith), simp m (grind arith), simp m (grind arith)))))
 
 -- a pulse in mode 3
-square_wave : (c : CounterParts) → mode_of c.bits ≡ SquareWave → Stands c → Stands (affected (effect_in SquareWave c) c)
-unfolding effect_in flags_stand ce_stands part_stands is_odd_square
+square_wave : (c : CounterParts) → mode_of c.bits ≡ SquareWave → Valid c → Valid (affected (effect_in SquareWave c) c)
+unfolding effect_in flags_valid ce_valid part_valid is_odd_square
 square_wave c m h =
     let flags = simp m at h.0 in
     let ce = simp m at h.1 in
@@ -101,340 +101,344 @@ square_wave c m h =
     let loaded_even : loaded_count c.bits c.cr % 2 ≡ 0 = loaded_count-even c.bits c.cr square in
     let lowered_even : c.ce % 2 ≡ 0 → lowered c.bits c.ce 2 % 2 ≡ 0 = lowered-even c.bits c.ce in
     let is_end = c.live && c.gate && c.out && c.odd && eqb c.ce 0 in
-    cond_both ((c.full && not c.live) || c.trig) (Load true) _ (λ e. Stands (affected e c))
+    cond_both ((c.full && not c.live) || c.trig) (Load true) _ (λ e. Valid (affected e c))
     (λ begins. (simp m (grind arith), simp m (grind (arith, loaded_count-below, nat_tests)), simp m (grind arith)))
-    (λ none. cond_both (c.live && c.gate && c.out && c.odd && eqb c.ce 0) (Load false) _ (λ e. Stands (affected e c))
+    (λ none. cond_both (c.live && c.gate && c.out && c.odd && eqb c.ce 0) (Load false) _ (λ e. Valid (affected e c))
     (λ ends. (simp m (grind arith), simp m (grind (arith, loaded_count-below, nat_tests)), simp m (grind arith)))
-    (λ goes_on. cond_both (c.live && c.gate && c.out && c.odd) DownByTwo _ (λ e. Stands (affected e c))
+    (λ goes_on. cond_both (c.live && c.gate && c.out && c.odd) DownByTwo _ (λ e. Valid (affected e c))
     (λ counts. (simp m (grind arith), simp m (grind (arith, lowered-below, nat_tests)), simp m (grind arith)))
-    (λ even. cond_both (c.live && c.gate && eqb c.ce 2) (Load (not c.out)) _ (λ e. Stands (affected e c))
+    (λ even. cond_both (c.live && c.gate && eqb c.ce 2) (Load (not c.out)) _ (λ e. Valid (affected e c))
     (λ ends. (simp m (grind arith), simp m (grind (arith, loaded_count-below, nat_tests)), simp m (grind arith)))
-    (λ goes_on. cond_both (c.live && c.gate) DownByTwo (Stand c.out) (λ e. Stands (affected e c))
+    (λ goes_on. cond_both (c.live && c.gate) DownByTwo (Stand c.out) (λ e. Valid (affected e c))
     (λ counts. (simp m (grind arith), simp m (grind (arith, lowered-below, nat_tests)), simp m (grind arith)))
     (λ stopped. (simp m (grind arith), simp m (grind arith), simp m (grind arith)))))))
 
 -- a pulse in mode 4
-software_strobe : (c : CounterParts) → mode_of c.bits ≡ SoftwareStrobe → Stands c → Stands (affected (effect_in SoftwareStrobe c) c)
-unfolding effect_in flags_stand ce_stands part_stands is_odd_square
+software_strobe : (c : CounterParts) → mode_of c.bits ≡ SoftwareStrobe → Valid c → Valid (affected (effect_in SoftwareStrobe c) c)
+unfolding effect_in flags_valid ce_valid part_valid is_odd_square
 software_strobe c m h =
     let flags = simp m at h.0 in
     let ce = simp m at h.1 in
     let part = simp m at h.2 in
-    cond_both (c.null && c.full) (Load true) (cond (c.live && c.gate) DownToStrobe (Stand true)) (λ e. Stands (affected e c))
+    cond_both (c.null && c.full) (Load true) (cond (c.live && c.gate) DownToStrobe (Stand true)) (λ e. Valid (affected e c))
     (λ waits. (simp m (grind arith), simp m (grind (arith, loaded_count-below, nat_tests)), simp m (grind arith)))
-    (λ none. cond_both (c.live && c.gate) DownToStrobe (Stand true) (λ e. Stands (affected e c))
+    (λ none. cond_both (c.live && c.gate) DownToStrobe (Stand true) (λ e. Valid (affected e c))
     (λ counts. (simp m (grind arith), simp m (grind (arith, lowered-below, nat_tests)), simp m (grind arith)))
     (λ stopped. (simp m (grind arith), simp m (grind arith), simp m (grind arith))))
 
 -- a pulse in mode 5
-hardware_strobe : (c : CounterParts) → mode_of c.bits ≡ HardwareStrobe → Stands c → Stands (affected (effect_in HardwareStrobe c) c)
-unfolding effect_in flags_stand ce_stands part_stands is_odd_square
+hardware_strobe : (c : CounterParts) → mode_of c.bits ≡ HardwareStrobe → Valid c → Valid (affected (effect_in HardwareStrobe c) c)
+unfolding effect_in flags_valid ce_valid part_valid is_odd_square
 hardware_strobe c m h =
     let flags = simp m at h.0 in
     let ce = simp m at h.1 in
     let part = simp m at h.2 in
-    cond_both c.trig (Load true) (cond c.live DownToStrobe (Stand true)) (λ e. Stands (affected e c))
+    cond_both c.trig (Load true) (cond c.live DownToStrobe (Stand true)) (λ e. Valid (affected e c))
     (λ triggered. (simp m (grind arith), simp m (grind (arith, loaded_count-below, nat_tests)), simp m (grind arith)))
-    (λ none. cond_both c.live DownToStrobe (Stand true) (λ e. Stands (affected e c))
+    (λ none. cond_both c.live DownToStrobe (Stand true) (λ e. Valid (affected e c))
     (λ counts. (simp m (grind arith), simp m (grind (arith, lowered-below, nat_tests)), simp m (grind arith)))
     (λ stopped. (simp m (grind arith), simp m (grind arith), simp m (grind arith))))
 
 -- a pulse in any mode
-Stands-pulsed : (c : CounterParts) (m : Mode) → mode_of c.bits ≡ m → Stands c → Stands (affected (effect_in m c) c)
-Stands-pulsed c TerminalCount m h = terminal_count c m h
-Stands-pulsed c OneShot m h = one_shot c m h
-Stands-pulsed c RateGenerator m h = rate_generator c m h
-Stands-pulsed c SquareWave m h = square_wave c m h
-Stands-pulsed c SoftwareStrobe m h = software_strobe c m h
-Stands-pulsed c HardwareStrobe m h = hardware_strobe c m h
+Valid-pulsed : (c : CounterParts) (m : Mode) → mode_of c.bits ≡ m → Valid c → Valid (affected (effect_in m c) c)
+Valid-pulsed c TerminalCount m h = terminal_count c m h
+Valid-pulsed c OneShot m h = one_shot c m h
+Valid-pulsed c RateGenerator m h = rate_generator c m h
+Valid-pulsed c SquareWave m h = square_wave c m h
+Valid-pulsed c SoftwareStrobe m h = software_strobe c m h
+Valid-pulsed c HardwareStrobe m h = hardware_strobe c m h
 
 -- no effect touches these
 Kept : CounterParts → Type 0
-Kept c = (bits_stand c ≡ true) × (cr_stands c ≡ true) × (read_order_stands c ≡ true) × (latches_stand c ≡ true)
+Kept c = (bits_valid c ≡ true) × (cr_valid c ≡ true) × (read_order_valid c ≡ true) × (latched_count_valid c ≡ true) × (latched_status_valid c ≡ true)
 
 Kept-affected : (e : Effect) (c : CounterParts) → IsCounter c → Kept (affected e c)
-unfolding Kept bits_stand cr_stands read_order_stands latches_stand
-Kept-affected (Load level) c h = (h.bits, h.cr, h.read_order, h.latches)
-Kept-affected DownToHigh c h = (h.bits, h.cr, h.read_order, h.latches)
-Kept-affected DownToLow c h = (h.bits, h.cr, h.read_order, h.latches)
-Kept-affected DownByTwo c h = (h.bits, h.cr, h.read_order, h.latches)
-Kept-affected DownToStrobe c h = (h.bits, h.cr, h.read_order, h.latches)
-Kept-affected (Stand level) c h = (h.bits, h.cr, h.read_order, h.latches)
+unfolding Kept bits_valid cr_valid read_order_valid latched_count_valid latched_status_valid
+Kept-affected (Load level) c h = (h.bits, h.cr, h.read_order, h.latched_count, h.latched_status)
+Kept-affected DownToHigh c h = (h.bits, h.cr, h.read_order, h.latched_count, h.latched_status)
+Kept-affected DownToLow c h = (h.bits, h.cr, h.read_order, h.latched_count, h.latched_status)
+Kept-affected DownByTwo c h = (h.bits, h.cr, h.read_order, h.latched_count, h.latched_status)
+Kept-affected DownToStrobe c h = (h.bits, h.cr, h.read_order, h.latched_count, h.latched_status)
+Kept-affected (Stand level) c h = (h.bits, h.cr, h.read_order, h.latched_count, h.latched_status)
 
 pub IsCounter-pulsed : (c : CounterParts) → IsCounter c → IsCounter (pulsed c)
 unfolding pulsed Kept
 IsCounter-pulsed c h =
-    let stands = Stands-pulsed c (mode_of c.bits) refl (h.flags, h.ce, h.part) in
+    let valid = Valid-pulsed c (mode_of c.bits) refl (h.flags, h.ce, h.part) in
     let kept = Kept-affected (effect_in (mode_of c.bits) c) c h in
     record {
       bits = kept.0;
-      flags = stands.0;
+      flags = valid.0;
       cr = kept.1;
-      ce = stands.1;
-      part = stands.2;
+      ce = valid.1;
+      part = valid.2;
       read_order = kept.2;
-      latches = kept.3;
+      latched_count = kept.3;
+      latched_status = kept.4;
     }
 
 -- what the conditions say of numbers
 pub IsCounter-ce : (c : CounterParts) → IsCounter c → c.ce < modulus c.bits
-unfolding ce_stands
+unfolding ce_valid
 IsCounter-ce c h = let ce = h.ce in grind (arith, nat_tests)
 
 pub IsCounter-bits : (c : CounterParts) → IsCounter c → c.bits < 64
-unfolding bits_stand
+unfolding bits_valid
 IsCounter-bits c h = let bits = h.bits in grind (arith, nat_tests)
 
 -- a control word
-Stands-programmed : (m : Mode) (bits : ℕ) (gate : Bool) → mode_of bits ≡ m → Stands (programmed bits gate)
-unfolding programmed flags_stand ce_stands part_stands
-Stands-programmed TerminalCount bits gate e = (simp e, simp (e, positive bits), simp e)
-Stands-programmed OneShot bits gate e = (simp e, simp (e, positive bits), simp e)
-Stands-programmed RateGenerator bits gate e = (simp e, simp (e, positive bits), simp e)
-Stands-programmed SquareWave bits gate e = (simp e, simp (e, positive bits), simp e)
-Stands-programmed SoftwareStrobe bits gate e = (simp e, simp (e, positive bits), simp e)
-Stands-programmed HardwareStrobe bits gate e = (simp e, simp (e, positive bits), simp e)
+Valid-programmed : (m : Mode) (bits : ℕ) (gate : Bool) → mode_of bits ≡ m → Valid (programmed bits gate)
+unfolding programmed flags_valid ce_valid part_valid
+Valid-programmed TerminalCount bits gate e = (simp e, simp (e, positive bits), simp e)
+Valid-programmed OneShot bits gate e = (simp e, simp (e, positive bits), simp e)
+Valid-programmed RateGenerator bits gate e = (simp e, simp (e, positive bits), simp e)
+Valid-programmed SquareWave bits gate e = (simp e, simp (e, positive bits), simp e)
+Valid-programmed SoftwareStrobe bits gate e = (simp e, simp (e, positive bits), simp e)
+Valid-programmed HardwareStrobe bits gate e = (simp e, simp (e, positive bits), simp e)
 
 pub IsCounter-programmed : (bits : ℕ) (gate : Bool) → 16 ≤ bits → bits < 64 → IsCounter (programmed bits gate)
-unfolding programmed bits_stand cr_stands read_order_stands latches_stand
+unfolding programmed bits_valid cr_valid read_order_valid latched_count_valid latched_status_valid
 IsCounter-programmed bits gate least greatest =
-    let stands = Stands-programmed (mode_of bits) bits gate refl in
+    let valid = Valid-programmed (mode_of bits) bits gate refl in
     record {
       bits = and_from _ _ (le-leb 16 bits least) (lt-ltb bits 64 greatest);
-      flags = stands.0;
+      flags = valid.0;
       cr = refl;
-      ce = stands.1;
-      part = stands.2;
+      ce = valid.1;
+      part = valid.2;
       read_order = refl;
-      latches = refl;
+      latched_count = refl;
+      latched_status = refl;
     }
 
 -- a count, or its first byte, is written
-completed-terminal_count : (count : ℕ) (c : CounterParts) → mode_of c.bits ≡ TerminalCount → Stands c → Stands (completed count c)
-unfolding completed flags_stand ce_stands part_stands
+completed-terminal_count : (count : ℕ) (c : CounterParts) → mode_of c.bits ≡ TerminalCount → Valid c → Valid (completed count c)
+unfolding completed flags_valid ce_valid part_valid
 completed-terminal_count count c m h =
     let flags = simp m at h.0 in
     let ce = simp m at h.1 in
     let part = simp m at h.2 in
     (simp m (grind arith), simp m (grind arith), simp m (grind arith))
 
-begun-terminal_count : (byte : ℕ) (c : CounterParts) → takes_two (access_of c.bits) ≡ true → mode_of c.bits ≡ TerminalCount → Stands c → Stands (begun byte c)
-unfolding begun flags_stand ce_stands part_stands
+begun-terminal_count : (byte : ℕ) (c : CounterParts) → takes_two (access_of c.bits) ≡ true → mode_of c.bits ≡ TerminalCount → Valid c → Valid (begun byte c)
+unfolding begun flags_valid ce_valid part_valid
 begun-terminal_count byte c two m h =
     let flags = simp m at h.0 in
     let ce = simp m at h.1 in
     let part = simp m at h.2 in
     (simp m (grind arith), simp m (grind arith), simp m (grind arith))
 
-gated-terminal_count : (level : Bool) (c : CounterParts) → mode_of c.bits ≡ TerminalCount → Stands c → Stands (gated level c)
-unfolding gated flags_stand ce_stands part_stands
+gated-terminal_count : (level : Bool) (c : CounterParts) → mode_of c.bits ≡ TerminalCount → Valid c → Valid (gated level c)
+unfolding gated flags_valid ce_valid part_valid
 gated-terminal_count level c m h =
     let flags = simp m at h.0 in
     let ce = simp m at h.1 in
     let part = simp m at h.2 in
     (simp m (grind arith), simp m (grind arith), simp m (grind arith))
 
-completed-one_shot : (count : ℕ) (c : CounterParts) → mode_of c.bits ≡ OneShot → Stands c → Stands (completed count c)
-unfolding completed flags_stand ce_stands part_stands
+completed-one_shot : (count : ℕ) (c : CounterParts) → mode_of c.bits ≡ OneShot → Valid c → Valid (completed count c)
+unfolding completed flags_valid ce_valid part_valid
 completed-one_shot count c m h =
     let flags = simp m at h.0 in
     let ce = simp m at h.1 in
     let part = simp m at h.2 in
     (simp m (grind arith), simp m (grind arith), simp m (grind arith))
 
-begun-one_shot : (byte : ℕ) (c : CounterParts) → takes_two (access_of c.bits) ≡ true → mode_of c.bits ≡ OneShot → Stands c → Stands (begun byte c)
-unfolding begun flags_stand ce_stands part_stands
+begun-one_shot : (byte : ℕ) (c : CounterParts) → takes_two (access_of c.bits) ≡ true → mode_of c.bits ≡ OneShot → Valid c → Valid (begun byte c)
+unfolding begun flags_valid ce_valid part_valid
 begun-one_shot byte c two m h =
     let flags = simp m at h.0 in
     let ce = simp m at h.1 in
     let part = simp m at h.2 in
     (simp m (grind arith), simp m (grind arith), simp m (grind arith))
 
-gated-one_shot : (level : Bool) (c : CounterParts) → mode_of c.bits ≡ OneShot → Stands c → Stands (gated level c)
-unfolding gated flags_stand ce_stands part_stands
+gated-one_shot : (level : Bool) (c : CounterParts) → mode_of c.bits ≡ OneShot → Valid c → Valid (gated level c)
+unfolding gated flags_valid ce_valid part_valid
 gated-one_shot level c m h =
     let flags = simp m at h.0 in
     let ce = simp m at h.1 in
     let part = simp m at h.2 in
     (simp m (grind arith), simp m (grind arith), simp m (grind arith))
 
-completed-rate_generator : (count : ℕ) (c : CounterParts) → mode_of c.bits ≡ RateGenerator → Stands c → Stands (completed count c)
-unfolding completed flags_stand ce_stands part_stands
+completed-rate_generator : (count : ℕ) (c : CounterParts) → mode_of c.bits ≡ RateGenerator → Valid c → Valid (completed count c)
+unfolding completed flags_valid ce_valid part_valid
 completed-rate_generator count c m h =
     let flags = simp m at h.0 in
     let ce = simp m at h.1 in
     let part = simp m at h.2 in
     (simp m (grind arith), simp m (grind arith), simp m (grind arith))
 
-begun-rate_generator : (byte : ℕ) (c : CounterParts) → takes_two (access_of c.bits) ≡ true → mode_of c.bits ≡ RateGenerator → Stands c → Stands (begun byte c)
-unfolding begun flags_stand ce_stands part_stands
+begun-rate_generator : (byte : ℕ) (c : CounterParts) → takes_two (access_of c.bits) ≡ true → mode_of c.bits ≡ RateGenerator → Valid c → Valid (begun byte c)
+unfolding begun flags_valid ce_valid part_valid
 begun-rate_generator byte c two m h =
     let flags = simp m at h.0 in
     let ce = simp m at h.1 in
     let part = simp m at h.2 in
     (simp m (grind arith), simp m (grind arith), simp m (grind arith))
 
-gated-rate_generator : (level : Bool) (c : CounterParts) → mode_of c.bits ≡ RateGenerator → Stands c → Stands (gated level c)
-unfolding gated flags_stand ce_stands part_stands
+gated-rate_generator : (level : Bool) (c : CounterParts) → mode_of c.bits ≡ RateGenerator → Valid c → Valid (gated level c)
+unfolding gated flags_valid ce_valid part_valid
 gated-rate_generator level c m h =
     let flags = simp m at h.0 in
     let ce = simp m at h.1 in
     let part = simp m at h.2 in
     (simp m (grind arith), simp m (grind arith), simp m (grind arith))
 
-completed-square_wave : (count : ℕ) (c : CounterParts) → mode_of c.bits ≡ SquareWave → Stands c → Stands (completed count c)
-unfolding completed flags_stand ce_stands part_stands
+completed-square_wave : (count : ℕ) (c : CounterParts) → mode_of c.bits ≡ SquareWave → Valid c → Valid (completed count c)
+unfolding completed flags_valid ce_valid part_valid
 completed-square_wave count c m h =
     let flags = simp m at h.0 in
     let ce = simp m at h.1 in
     let part = simp m at h.2 in
     (simp m (grind arith), simp m (grind arith), simp m (grind arith))
 
-begun-square_wave : (byte : ℕ) (c : CounterParts) → takes_two (access_of c.bits) ≡ true → mode_of c.bits ≡ SquareWave → Stands c → Stands (begun byte c)
-unfolding begun flags_stand ce_stands part_stands
+begun-square_wave : (byte : ℕ) (c : CounterParts) → takes_two (access_of c.bits) ≡ true → mode_of c.bits ≡ SquareWave → Valid c → Valid (begun byte c)
+unfolding begun flags_valid ce_valid part_valid
 begun-square_wave byte c two m h =
     let flags = simp m at h.0 in
     let ce = simp m at h.1 in
     let part = simp m at h.2 in
     (simp m (grind arith), simp m (grind arith), simp m (grind arith))
 
-gated-square_wave : (level : Bool) (c : CounterParts) → mode_of c.bits ≡ SquareWave → Stands c → Stands (gated level c)
-unfolding gated flags_stand ce_stands part_stands
+gated-square_wave : (level : Bool) (c : CounterParts) → mode_of c.bits ≡ SquareWave → Valid c → Valid (gated level c)
+unfolding gated flags_valid ce_valid part_valid
 gated-square_wave level c m h =
     let flags = simp m at h.0 in
     let ce = simp m at h.1 in
     let part = simp m at h.2 in
     (simp m (grind arith), simp m (grind arith), simp m (grind arith))
 
-completed-software_strobe : (count : ℕ) (c : CounterParts) → mode_of c.bits ≡ SoftwareStrobe → Stands c → Stands (completed count c)
-unfolding completed flags_stand ce_stands part_stands
+completed-software_strobe : (count : ℕ) (c : CounterParts) → mode_of c.bits ≡ SoftwareStrobe → Valid c → Valid (completed count c)
+unfolding completed flags_valid ce_valid part_valid
 completed-software_strobe count c m h =
     let flags = simp m at h.0 in
     let ce = simp m at h.1 in
     let part = simp m at h.2 in
     (simp m (grind arith), simp m (grind arith), simp m (grind arith))
 
-begun-software_strobe : (byte : ℕ) (c : CounterParts) → takes_two (access_of c.bits) ≡ true → mode_of c.bits ≡ SoftwareStrobe → Stands c → Stands (begun byte c)
-unfolding begun flags_stand ce_stands part_stands
+begun-software_strobe : (byte : ℕ) (c : CounterParts) → takes_two (access_of c.bits) ≡ true → mode_of c.bits ≡ SoftwareStrobe → Valid c → Valid (begun byte c)
+unfolding begun flags_valid ce_valid part_valid
 begun-software_strobe byte c two m h =
     let flags = simp m at h.0 in
     let ce = simp m at h.1 in
     let part = simp m at h.2 in
     (simp m (grind arith), simp m (grind arith), simp m (grind arith))
 
-gated-software_strobe : (level : Bool) (c : CounterParts) → mode_of c.bits ≡ SoftwareStrobe → Stands c → Stands (gated level c)
-unfolding gated flags_stand ce_stands part_stands
+gated-software_strobe : (level : Bool) (c : CounterParts) → mode_of c.bits ≡ SoftwareStrobe → Valid c → Valid (gated level c)
+unfolding gated flags_valid ce_valid part_valid
 gated-software_strobe level c m h =
     let flags = simp m at h.0 in
     let ce = simp m at h.1 in
     let part = simp m at h.2 in
     (simp m (grind arith), simp m (grind arith), simp m (grind arith))
 
-completed-hardware_strobe : (count : ℕ) (c : CounterParts) → mode_of c.bits ≡ HardwareStrobe → Stands c → Stands (completed count c)
-unfolding completed flags_stand ce_stands part_stands
+completed-hardware_strobe : (count : ℕ) (c : CounterParts) → mode_of c.bits ≡ HardwareStrobe → Valid c → Valid (completed count c)
+unfolding completed flags_valid ce_valid part_valid
 completed-hardware_strobe count c m h =
     let flags = simp m at h.0 in
     let ce = simp m at h.1 in
     let part = simp m at h.2 in
     (simp m (grind arith), simp m (grind arith), simp m (grind arith))
 
-begun-hardware_strobe : (byte : ℕ) (c : CounterParts) → takes_two (access_of c.bits) ≡ true → mode_of c.bits ≡ HardwareStrobe → Stands c → Stands (begun byte c)
-unfolding begun flags_stand ce_stands part_stands
+begun-hardware_strobe : (byte : ℕ) (c : CounterParts) → takes_two (access_of c.bits) ≡ true → mode_of c.bits ≡ HardwareStrobe → Valid c → Valid (begun byte c)
+unfolding begun flags_valid ce_valid part_valid
 begun-hardware_strobe byte c two m h =
     let flags = simp m at h.0 in
     let ce = simp m at h.1 in
     let part = simp m at h.2 in
     (simp m (grind arith), simp m (grind arith), simp m (grind arith))
 
-gated-hardware_strobe : (level : Bool) (c : CounterParts) → mode_of c.bits ≡ HardwareStrobe → Stands c → Stands (gated level c)
-unfolding gated flags_stand ce_stands part_stands
+gated-hardware_strobe : (level : Bool) (c : CounterParts) → mode_of c.bits ≡ HardwareStrobe → Valid c → Valid (gated level c)
+unfolding gated flags_valid ce_valid part_valid
 gated-hardware_strobe level c m h =
     let flags = simp m at h.0 in
     let ce = simp m at h.1 in
     let part = simp m at h.2 in
     (simp m (grind arith), simp m (grind arith), simp m (grind arith))
 
-Stands-completed : (m : Mode) (count : ℕ) (c : CounterParts) → mode_of c.bits ≡ m → Stands c → Stands (completed count c)
-Stands-completed TerminalCount count c e h = completed-terminal_count count c e h
-Stands-completed OneShot count c e h = completed-one_shot count c e h
-Stands-completed RateGenerator count c e h = completed-rate_generator count c e h
-Stands-completed SquareWave count c e h = completed-square_wave count c e h
-Stands-completed SoftwareStrobe count c e h = completed-software_strobe count c e h
-Stands-completed HardwareStrobe count c e h = completed-hardware_strobe count c e h
+Valid-completed : (m : Mode) (count : ℕ) (c : CounterParts) → mode_of c.bits ≡ m → Valid c → Valid (completed count c)
+Valid-completed TerminalCount count c e h = completed-terminal_count count c e h
+Valid-completed OneShot count c e h = completed-one_shot count c e h
+Valid-completed RateGenerator count c e h = completed-rate_generator count c e h
+Valid-completed SquareWave count c e h = completed-square_wave count c e h
+Valid-completed SoftwareStrobe count c e h = completed-software_strobe count c e h
+Valid-completed HardwareStrobe count c e h = completed-hardware_strobe count c e h
 
-Stands-begun : (m : Mode) (byte : ℕ) (c : CounterParts) → takes_two (access_of c.bits) ≡ true → mode_of c.bits ≡ m → Stands c → Stands (begun byte c)
-Stands-begun TerminalCount byte c two e h = begun-terminal_count byte c two e h
-Stands-begun OneShot byte c two e h = begun-one_shot byte c two e h
-Stands-begun RateGenerator byte c two e h = begun-rate_generator byte c two e h
-Stands-begun SquareWave byte c two e h = begun-square_wave byte c two e h
-Stands-begun SoftwareStrobe byte c two e h = begun-software_strobe byte c two e h
-Stands-begun HardwareStrobe byte c two e h = begun-hardware_strobe byte c two e h
+Valid-begun : (m : Mode) (byte : ℕ) (c : CounterParts) → takes_two (access_of c.bits) ≡ true → mode_of c.bits ≡ m → Valid c → Valid (begun byte c)
+Valid-begun TerminalCount byte c two e h = begun-terminal_count byte c two e h
+Valid-begun OneShot byte c two e h = begun-one_shot byte c two e h
+Valid-begun RateGenerator byte c two e h = begun-rate_generator byte c two e h
+Valid-begun SquareWave byte c two e h = begun-square_wave byte c two e h
+Valid-begun SoftwareStrobe byte c two e h = begun-software_strobe byte c two e h
+Valid-begun HardwareStrobe byte c two e h = begun-hardware_strobe byte c two e h
 
-Stands-gated : (m : Mode) (level : Bool) (c : CounterParts) → mode_of c.bits ≡ m → Stands c → Stands (gated level c)
-Stands-gated TerminalCount level c e h = gated-terminal_count level c e h
-Stands-gated OneShot level c e h = gated-one_shot level c e h
-Stands-gated RateGenerator level c e h = gated-rate_generator level c e h
-Stands-gated SquareWave level c e h = gated-square_wave level c e h
-Stands-gated SoftwareStrobe level c e h = gated-software_strobe level c e h
-Stands-gated HardwareStrobe level c e h = gated-hardware_strobe level c e h
+Valid-gated : (m : Mode) (level : Bool) (c : CounterParts) → mode_of c.bits ≡ m → Valid c → Valid (gated level c)
+Valid-gated TerminalCount level c e h = gated-terminal_count level c e h
+Valid-gated OneShot level c e h = gated-one_shot level c e h
+Valid-gated RateGenerator level c e h = gated-rate_generator level c e h
+Valid-gated SquareWave level c e h = gated-square_wave level c e h
+Valid-gated SoftwareStrobe level c e h = gated-software_strobe level c e h
+Valid-gated HardwareStrobe level c e h = gated-hardware_strobe level c e h
 
 IsCounter-completed : (count : ℕ) (c : CounterParts) → IsCounter c → IsCounter (completed count c)
-unfolding completed bits_stand cr_stands read_order_stands latches_stand
+unfolding completed bits_valid cr_valid read_order_valid latched_count_valid latched_status_valid
 IsCounter-completed count c h =
-    let stands = Stands-completed (mode_of c.bits) count c refl (h.flags, h.ce, h.part) in
+    let valid = Valid-completed (mode_of c.bits) count c refl (h.flags, h.ce, h.part) in
     record {
       bits = h.bits;
-      flags = stands.0;
+      flags = valid.0;
       cr = refl;
-      ce = stands.1;
-      part = stands.2;
+      ce = valid.1;
+      part = valid.2;
       read_order = h.read_order;
-      latches = h.latches;
+      latched_count = h.latched_count;
+      latched_status = h.latched_status;
     }
 
 IsCounter-begun : (byte : ℕ) (c : CounterParts) → takes_two (access_of c.bits) ≡ true → IsCounter c → IsCounter (begun byte c)
-unfolding begun bits_stand cr_stands read_order_stands latches_stand
+unfolding begun bits_valid cr_valid read_order_valid latched_count_valid latched_status_valid
 IsCounter-begun byte c two h =
-    let stands = Stands-begun (mode_of c.bits) byte c two refl (h.flags, h.ce, h.part) in
+    let valid = Valid-begun (mode_of c.bits) byte c two refl (h.flags, h.ce, h.part) in
     record {
       bits = h.bits;
-      flags = stands.0;
+      flags = valid.0;
       cr = h.cr;
-      ce = stands.1;
-      part = stands.2;
+      ce = valid.1;
+      part = valid.2;
       read_order = h.read_order;
-      latches = h.latches;
+      latched_count = h.latched_count;
+      latched_status = h.latched_status;
     }
 
-IsCounter-written_by : (a : Access) (byte : ℕ) (c : CounterParts) → access_of c.bits ≡ a → IsCounter c → IsCounter (written_by a byte c)
-unfolding written_by
-IsCounter-written_by LowByte byte c e h = IsCounter-completed byte c h
-IsCounter-written_by HighByte byte c e h = IsCounter-completed (byte * 256) c h
-IsCounter-written_by LowThenHigh byte c e h =
+IsCounter-byte_written_by : (a : Access) (byte : ℕ) (c : CounterParts) → access_of c.bits ≡ a → IsCounter c → IsCounter (byte_written_by a byte c)
+unfolding byte_written_by
+IsCounter-byte_written_by LowByte byte c e h = IsCounter-completed byte c h
+IsCounter-byte_written_by HighByte byte c e h = IsCounter-completed (byte * 256) c h
+IsCounter-byte_written_by LowThenHigh byte c e h =
     cond_both c.part_there (completed (c.part + byte * 256) c) (begun byte c) IsCounter (λ _. IsCounter-completed (c.part + byte * 256) c h) (λ _. IsCounter-begun byte c (ap takes_two e) h)
 
-pub IsCounter-written : (byte : ℕ) (c : CounterParts) → IsCounter c → IsCounter (written byte c)
-IsCounter-written byte c h = IsCounter-written_by (access_of c.bits) byte c refl h
+pub IsCounter-byte_written : (byte : ℕ) (c : CounterParts) → IsCounter c → IsCounter (byte_written byte c)
+IsCounter-byte_written byte c h = IsCounter-byte_written_by (access_of c.bits) byte c refl h
 
 pub IsCounter-gated : (level : Bool) (c : CounterParts) → IsCounter c → IsCounter (gated level c)
-unfolding gated bits_stand cr_stands read_order_stands latches_stand
+unfolding gated bits_valid cr_valid read_order_valid latched_count_valid latched_status_valid
 IsCounter-gated level c h =
-    let stands = Stands-gated (mode_of c.bits) level c refl (h.flags, h.ce, h.part) in
+    let valid = Valid-gated (mode_of c.bits) level c refl (h.flags, h.ce, h.part) in
     record {
       bits = h.bits;
-      flags = stands.0;
+      flags = valid.0;
       cr = h.cr;
-      ce = stands.1;
-      part = stands.2;
+      ce = valid.1;
+      part = valid.2;
       read_order = h.read_order;
-      latches = h.latches;
+      latched_count = h.latched_count;
+      latched_status = h.latched_status;
     }
 
 -- latches and reads touch the read order and the latches alone
 pub IsCounter-with_count_latched : (c : CounterParts) → IsCounter c → IsCounter (with_count_latched c)
-unfolding with_count_latched bits_stand flags_stand cr_stands ce_stands part_stands read_order_stands latches_stand
+unfolding with_count_latched bits_valid flags_valid cr_valid ce_valid part_valid read_order_valid latched_count_valid latched_status_valid
 IsCounter-with_count_latched c h =
-    let latches = h.latches in
     record {
       bits = h.bits;
       flags = h.flags;
@@ -442,13 +446,13 @@ IsCounter-with_count_latched c h =
       ce = h.ce;
       part = h.part;
       read_order = h.read_order;
-      latches = grind arith;
+      latched_count = refl;
+      latched_status = h.latched_status;
     }
 
 pub IsCounter-with_status_latched : (c : CounterParts) → IsCounter c → IsCounter (with_status_latched c)
-unfolding with_status_latched bits_stand flags_stand cr_stands ce_stands part_stands read_order_stands latches_stand
+unfolding with_status_latched bits_valid flags_valid cr_valid ce_valid part_valid read_order_valid latched_count_valid latched_status_valid
 IsCounter-with_status_latched c h =
-    let latches = h.latches in
     record {
       bits = h.bits;
       flags = h.flags;
@@ -456,13 +460,13 @@ IsCounter-with_status_latched c h =
       ce = h.ce;
       part = h.part;
       read_order = h.read_order;
-      latches = grind arith;
+      latched_count = h.latched_count;
+      latched_status = refl;
     }
 
 IsCounter-status_released : (c : CounterParts) → IsCounter c → IsCounter (status_released c)
-unfolding status_released bits_stand flags_stand cr_stands ce_stands part_stands read_order_stands latches_stand
+unfolding status_released bits_valid flags_valid cr_valid ce_valid part_valid read_order_valid latched_count_valid latched_status_valid
 IsCounter-status_released c h =
-    let latches = h.latches in
     record {
       bits = h.bits;
       flags = h.flags;
@@ -470,7 +474,8 @@ IsCounter-status_released c h =
       ce = h.ce;
       part = h.part;
       read_order = h.read_order;
-      latches = grind arith;
+      latched_count = h.latched_count;
+      latched_status = refl;
     }
 
 released : (last latched : Bool) (count : ℕ) → (latched || eqb count 0) ≡ true → ((latched && not last) || eqb (cond last 0 count) 0) ≡ true
@@ -478,9 +483,8 @@ released true latched count h = grind arith
 released false latched count h = grind arith
 
 IsCounter-count_released : (c : CounterParts) → IsCounter c → IsCounter (count_released c)
-unfolding count_released bits_stand flags_stand cr_stands ce_stands part_stands read_order_stands latches_stand
+unfolding count_released bits_valid flags_valid cr_valid ce_valid part_valid read_order_valid latched_count_valid latched_status_valid
 IsCounter-count_released c h =
-    let latches = h.latches in
     record {
       bits = h.bits;
       flags = h.flags;
@@ -488,7 +492,8 @@ IsCounter-count_released c h =
       ce = h.ce;
       part = h.part;
       read_order = grind arith;
-      latches = and_from _ _ (released (reads_last (access_of c.bits) c.high_next) c.count_latched c.latched_count (and_parts _ _ latches).0) (and_parts _ _ latches).1;
+      latched_count = released (reads_last (access_of c.bits) c.high_next) c.count_latched c.latched_count h.latched_count;
+      latched_status = h.latched_status;
     }
 
 pub IsCounter-after_read : (c : CounterParts) → IsCounter c → IsCounter (after_read c)
@@ -496,4 +501,4 @@ unfolding after_read
 IsCounter-after_read c h = cond_both c.status_latched (status_released c) (count_released c) IsCounter (λ _. IsCounter-status_released c h) (λ _. IsCounter-count_released c h)
 
 -- each call keeps the conditions, and what they say of numbers
-pub ruleset keeps = (IsCounter-programmed, IsCounter-written, IsCounter-gated, IsCounter-pulsed, IsCounter-with_count_latched, IsCounter-with_status_latched, IsCounter-after_read, IsCounter-ce, IsCounter-bits)
+pub ruleset keeps = (IsCounter-programmed, IsCounter-byte_written, IsCounter-gated, IsCounter-pulsed, IsCounter-with_count_latched, IsCounter-with_status_latched, IsCounter-after_read, IsCounter-ce, IsCounter-bits)

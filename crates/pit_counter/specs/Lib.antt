@@ -3,7 +3,7 @@ pub mod Count
 pub mod Table
 pub mod Programming
 pub mod Reading
-pub mod Conditions
+pub mod Parts
 pub mod Glide
 pub mod Joins
 pub mod Period

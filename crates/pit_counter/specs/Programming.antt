@@ -30,8 +30,8 @@ programmed bits gate = record {
 }
 
 -- power on: as programmed with 36h, which is both bytes, mode 3, binary (this project's own choice)
-abbrev pub powered_on : Bool → CounterParts
-powered_on gate = programmed 0x36 gate
+abbrev pub counter_at_power_on : Bool → CounterParts
+counter_at_power_on gate = programmed 0x36 gate
 
 -- a control word keeps the level of GATE alone
 abbrev pub controlled : ℕ → CounterParts → CounterParts
@@ -57,16 +57,16 @@ begun byte c = record c {
 }
 
 -- a byte of a count is written, by RW1 RW0
-unfoldable pub written_by : Access → ℕ → CounterParts → CounterParts
-written_by LowByte byte c = completed byte c
-written_by HighByte byte c = completed (byte * 256) c
-written_by LowThenHigh byte c =
+unfoldable pub byte_written_by : Access → ℕ → CounterParts → CounterParts
+byte_written_by LowByte byte c = completed byte c
+byte_written_by HighByte byte c = completed (byte * 256) c
+byte_written_by LowThenHigh byte c =
     if c.part_there then completed (c.part + byte * 256) c
     else begun byte c
 
 -- a byte of a count is written
-abbrev pub written : ℕ → CounterParts → CounterParts
-written byte c = written_by (access_of c.bits) byte c
+abbrev pub byte_written : ℕ → CounterParts → CounterParts
+byte_written byte c = byte_written_by (access_of c.bits) byte c
 
 -- GATE takes a level: a fall sets OUT high at once in modes 2 and 3, a rise is a trigger in modes 1, 2, 3 and 5 where a count was written
 unfoldable pub gated : Bool → CounterParts → CounterParts

@@ -2,14 +2,13 @@
 
 ghost use Rattle.std.specs.Prelude.{◌≡◌, ◌↔◌, ◌≤◌, ◌<◌, IsSome, IfSome, IsTrue};
 ghost use Rattle.clk_units.specs.Events.{IsFirst};
-ghost use Rattle.pit_counter.specs.Programming.{powered_on, controlled, written, gated};
+ghost use Rattle.pit_counter.specs.Programming.{counter_at_power_on, controlled, byte_written, gated};
 ghost use Rattle.pit_counter.specs.Table.{has_risen, pulsed, pulsed_times, rises_next, rises_in};
 ghost use Rattle.pit_counter.specs.Reading.{count_of, with_count_latched, with_status_latched, byte_read, after_read};
-ghost use Rattle.pit_counter.specs.Conditions.{IsCounter};
+ghost use Rattle.pit_counter.specs.Parts.{IsCounter};
 
-use crate::conditions::is_counter;
 use crate::leap::leaps;
-use crate::parts::CounterParts;
+use crate::parts::{CounterParts, is_counter};
 use crate::rises::Rises;
 use crate::{programming, reading, table};
 use std::marker::Model;
@@ -25,7 +24,7 @@ impl Model for Counter {
 
     ghost Value = { CounterParts };
 
-    ghost use Rattle.pit_counter.specs.Conditions.{IsCounter};
+    ghost use Rattle.pit_counter.specs.Parts.{IsCounter};
 
     ghost view = { λ c. c.parts };
 
@@ -39,7 +38,7 @@ impl Counter {
     /// A counter at power on, with GATE at this level: programmed bits 36h, OUT high, no count (this project's
     /// own choice).
     pub fn power_on(gate: bool) -> Counter
-        ensures { result ≡ powered_on gate }
+        ensures { result ≡ counter_at_power_on gate }
     {
         Counter {
             parts: programming::programmed(0x36, gate),
@@ -49,7 +48,7 @@ impl Counter {
     /// All that the counter holds.
     pub fn parts(&self) -> CounterParts
         ensures value { result ≡ self.now }
-        ensures stands { IsCounter self.now }
+        ensures valid { IsCounter self.now }
     {
         self.parts
     }
@@ -81,9 +80,9 @@ impl Counter {
 
     /// Writes a byte of a count.
     pub fn write_byte(&mut self, byte: u8)
-        ensures { self.new ≡ written byte self.old }
+        ensures { self.new ≡ byte_written byte self.old }
     {
-        self.parts = programming::written(byte, self.parts);
+        self.parts = programming::byte_written(byte, self.parts);
     }
 
     /// Sets GATE to this level. Answers whether OUT rose.

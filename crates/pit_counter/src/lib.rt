@@ -15,7 +15,6 @@
 //! ```
 #![tactic(auto)]
 
-mod conditions;
 mod count;
 mod counter;
 mod glide;

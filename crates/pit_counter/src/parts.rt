@@ -1,4 +1,10 @@
-//! The record of all that a counter holds, and what is true of it in every counter.
+//! The record of all fields of a counter, and the conditions on them.
+
+ghost use Rattle.std.specs.Prelude.{◌≡◌, ◌↔◌, IsTrue};
+ghost use Rattle.pit_counter.specs.Parts.{IsCounter, only_where, may_be_low, count_flags_valid, mode_flags_valid, out_valid, bits_valid, flags_valid, cr_valid, ce_valid, part_valid, read_order_valid, latched_count_valid, latched_status_valid};
+
+use crate::count::modulus;
+use crate::mode::{Mode, access_of, mode_of};
 
 /// All that a counter holds.
 #[derive(Clone, Copy, Debug, PartialEq, Eq)]
@@ -39,4 +45,131 @@ pub struct CounterParts {
     pub status_latched: bool,
     /// That status byte; 0 where there is none.
     pub latched_status: u8,
+}
+
+/// Whether these are the fields of some counter.
+pub fn is_counter(p: &CounterParts) -> bool
+    ensures { IsTrue result ↔ IsCounter p.now }
+{
+    bits_valid(p)
+        && flags_valid(p)
+        && cr_valid(p)
+        && ce_valid(p)
+        && part_valid(p)
+        && read_order_valid(p)
+        && latched_count_valid(p)
+        && latched_status_valid(p)
+}
+
+/// `a` is true only where `b` is.
+fn only_where(a: bool, b: bool) -> bool
+    ensures { result ≡ only_where a b }
+{
+    !a || b
+}
+
+/// The programmed bits are those of a control word.
+#[tactic(auto, unfolding(crate::specs::Parts::bits_valid))]
+fn bits_valid(p: &CounterParts) -> bool
+    ensures { result ≡ bits_valid p.now }
+{
+    16 <= p.bits && p.bits < 64
+}
+
+/// Where OUT may be low, by mode.
+fn may_be_low(mode: Mode, p: &CounterParts) -> bool
+    ensures { result ≡ may_be_low mode p.now.live p.now.gate p.now.armed }
+{
+    match mode {
+        Mode::TerminalCount => true,
+        Mode::OneShot => p.live,
+        Mode::RateGenerator | Mode::SquareWave => p.live && p.gate,
+        Mode::SoftwareStrobe | Mode::HardwareStrobe => p.live && !p.armed,
+    }
+}
+
+/// A count is loaded only where one was written, and null count is 0 only where one is loaded.
+fn count_flags_valid(p: &CounterParts) -> bool
+    ensures { result ≡ count_flags_valid p.now }
+{
+    only_where(p.live, p.full) && (p.null || p.live)
+}
+
+/// Each flag of a mode is set in its modes alone, and where there is a count.
+fn mode_flags_valid(mode: Mode, p: &CounterParts) -> bool
+    ensures { result ≡ mode_flags_valid mode p.now }
+{
+    only_where(p.armed, mode.has_strobe() && p.live)
+        && only_where(p.trig, mode.has_trigger() && p.full)
+        && only_where(p.odd, mode.is_square() && p.live)
+}
+
+/// OUT is low only where its mode lets it be, and in mode 0 it is low while a count waits for its load.
+fn out_valid(mode: Mode, p: &CounterParts) -> bool
+    ensures { result ≡ out_valid mode p.now }
+{
+    (p.out || may_be_low(mode, p)) && only_where(mode.is_terminal() && p.null, !p.out)
+}
+
+/// The flags.
+#[tactic(auto, unfolding(crate::specs::Parts::flags_valid))]
+fn flags_valid(p: &CounterParts) -> bool
+    ensures { result ≡ flags_valid p.now }
+{
+    let mode = mode_of(p.bits);
+    count_flags_valid(p) && mode_flags_valid(mode, p) && out_valid(mode, p)
+}
+
+/// The count register is 0 where no count was written.
+#[tactic(auto, unfolding(crate::specs::Parts::cr_valid))]
+fn cr_valid(p: &CounterParts) -> bool
+    ensures { result ≡ cr_valid p.now }
+{
+    p.full || p.cr == 0
+}
+
+/// The counting element is in its range, 0 before the first load, even in mode 3, and 1 where OUT is low in mode 2.
+#[tactic(auto, unfolding(crate::specs::Parts::ce_valid))]
+fn ce_valid(p: &CounterParts) -> bool
+    ensures { result ≡ ce_valid p.now }
+{
+    let mode = mode_of(p.bits);
+    (p.ce as u32) < modulus(p.bits)
+        && (p.live || p.ce == 0)
+        && only_where(mode.is_square(), p.ce % 2 == 0)
+        && only_where(mode.is_rate() && !p.out, p.ce == 1)
+}
+
+/// A first byte waits only where two are taken, and in mode 0 with OUT low; without one the byte is 0.
+#[tactic(auto, unfolding(crate::specs::Parts::part_valid))]
+fn part_valid(p: &CounterParts) -> bool
+    ensures { result ≡ part_valid p.now }
+{
+    only_where(p.part_there, access_of(p.bits).takes_two())
+        && (p.part_there || p.part == 0)
+        && only_where(mode_of(p.bits).is_terminal() && p.part_there, !p.out)
+}
+
+/// The high byte is next only where both are read.
+#[tactic(auto, unfolding(crate::specs::Parts::read_order_valid))]
+fn read_order_valid(p: &CounterParts) -> bool
+    ensures { result ≡ read_order_valid p.now }
+{
+    only_where(p.high_next, access_of(p.bits).takes_two())
+}
+
+/// A latched count is 0 where none is latched.
+#[tactic(auto, unfolding(crate::specs::Parts::latched_count_valid))]
+fn latched_count_valid(p: &CounterParts) -> bool
+    ensures { result ≡ latched_count_valid p.now }
+{
+    p.count_latched || p.latched_count == 0
+}
+
+/// A latched status is 0 where none is latched.
+#[tactic(auto, unfolding(crate::specs::Parts::latched_status_valid))]
+fn latched_status_valid(p: &CounterParts) -> bool
+    ensures { result ≡ latched_status_valid p.now }
+{
+    p.status_latched || p.latched_status == 0
 }

@@ -1,7 +1,7 @@
 //! What control words, counts and GATE do to a counter. Intel 8254 data sheet, "Programming the 8254".
 
 ghost use Rattle.std.specs.Prelude.{◌≡◌};
-ghost use Rattle.pit_counter.specs.Programming.{programmed, completed, begun, written_by, written, gated};
+ghost use Rattle.pit_counter.specs.Programming.{programmed, completed, begun, byte_written_by, byte_written, gated};
 
 use crate::mode::{Access, access_of, mode_of};
 use crate::parts::CounterParts;
@@ -63,9 +63,9 @@ fn begun(byte: u8, p: CounterParts) -> CounterParts
 }
 
 /// A byte of a count is written.
-#[tactic(auto, unfolding(crate::specs::Programming::written_by))]
-pub fn written(byte: u8, p: CounterParts) -> CounterParts
-    ensures { result ≡ written byte p }
+#[tactic(auto, unfolding(crate::specs::Programming::byte_written_by))]
+pub fn byte_written(byte: u8, p: CounterParts) -> CounterParts
+    ensures { result ≡ byte_written byte p }
 {
     match access_of(p.bits) {
         Access::LowByte => completed(byte as u16, p),
@@ -75,9 +75,9 @@ pub fn written(byte: u8, p: CounterParts) -> CounterParts
 }
 
 /// A byte of a two-byte count is written.
-#[tactic(auto, unfolding(crate::specs::Programming::written_by))]
+#[tactic(auto, unfolding(crate::specs::Programming::byte_written_by))]
 fn second_or_first(byte: u8, p: CounterParts) -> CounterParts
-    ensures { result ≡ written_by Access.LowThenHigh byte p }
+    ensures { result ≡ byte_written_by Access.LowThenHigh byte p }
 {
     if p.part_there {
         completed(p.part as u16 + byte as u16 * 256, p)

@@ -1,7 +1,7 @@
 //! The rises of OUT over some pulses.
 
 ghost use Rattle.std.specs.Prelude.{IfSome, ◌≡◌, ◌+◌, ◌<◌, ◌≤◌, ◌^◌, suc, if◌then◌else◌};
-ghost use Rattle.clk_units.proofs.Events.{first_more};
+ghost use Rattle.clk_units.specs.Events.{first_more};
 ghost use Rattle.pit_counter.specs.Joins.{joined_first};
 
 /// The rises of OUT over some CLK pulses.

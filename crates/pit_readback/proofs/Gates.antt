@@ -7,21 +7,21 @@ use Rattle.pit_counter.specs.declared.mode.Access.TheVariants.{LowByte, HighByte
 use Rattle.pit_counter.specs.declared.table.Effect.{Effect}
 use Rattle.pit_counter.specs.declared.table.Effect.TheVariants.{Load, DownToHigh, DownToLow, DownByTwo, DownToStrobe, Stand}
 use Rattle.pit_counter.specs.Mode.{mode_of, access_of}
-use Rattle.pit_counter.specs.Programming.{powered_on, programmed, controlled, completed, begun, written_by, written}
+use Rattle.pit_counter.specs.Programming.{counter_at_power_on, programmed, controlled, completed, begun, byte_written_by, byte_written}
 use Rattle.pit_counter.specs.Table.{effect_in, affected, pulsed, pulsed_times}
 use Rattle.pit_counter.specs.Reading.{with_count_latched, with_status_latched, status_released, count_released, after_read}
 use Rattle.pit_readback.specs.Wiring.{IsWired}
 use Rattle.pit_readback.specs.Ports.{commanded, count_latched_if, status_latched_if, latches_count, latches_status, read_back_of}
 
-gate-written_by : (a : Access) (byte : ℕ) (c : CounterParts) → (written_by a byte c).gate ≡ c.gate
-unfolding written_by completed begun
-gate-written_by LowByte byte c = refl
-gate-written_by HighByte byte c = refl
-gate-written_by LowThenHigh byte c = cond_both c.part_there (completed (c.part + byte * 256) c) (begun byte c) (λ d. d.gate ≡ c.gate) (λ _. refl) (λ _. refl)
+gate-byte_written_by : (a : Access) (byte : ℕ) (c : CounterParts) → (byte_written_by a byte c).gate ≡ c.gate
+unfolding byte_written_by completed begun
+gate-byte_written_by LowByte byte c = refl
+gate-byte_written_by HighByte byte c = refl
+gate-byte_written_by LowThenHigh byte c = cond_both c.part_there (completed (c.part + byte * 256) c) (begun byte c) (λ d. d.gate ≡ c.gate) (λ _. refl) (λ _. refl)
 
 -- a byte of a count
-pub gate-written : (byte : ℕ) (c : CounterParts) → (written byte c).gate ≡ c.gate
-gate-written byte c = gate-written_by (access_of c.bits) byte c
+pub gate-byte_written : (byte : ℕ) (c : CounterParts) → (byte_written byte c).gate ≡ c.gate
+gate-byte_written byte c = gate-byte_written_by (access_of c.bits) byte c
 
 -- a latch or a control word
 pub gate-commanded : (byte : ℕ) (c : CounterParts) → (commanded byte c).gate ≡ c.gate
@@ -66,7 +66,7 @@ gate-pulsed_times (suc n) c = gate-affected (effect_in (mode_of (pulsed_times n 
 pub IsWired-of : (a b c : CounterParts) (speaker : Bool) → a.gate ≡ true → b.gate ≡ true → IsWired (record { counters = a ∷ b ∷ c ∷ []; speaker = speaker })
 IsWired-of a b c speaker first second = record { three = refl; high = λ k h. high k h }
   where
-    high : (k : ℕ) → k < 2 → (get_or (a ∷ b ∷ c ∷ []) k (powered_on true)).gate ≡ true
+    high : (k : ℕ) → k < 2 → (get_or (a ∷ b ∷ c ∷ []) k (counter_at_power_on true)).gate ≡ true
     high zero h = first
     high (suc zero) h = second
     high (suc (suc k)) h = absurd (omega arith)

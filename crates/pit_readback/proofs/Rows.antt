@@ -1,11 +1,10 @@
 -- Small rows that pin the definitions: the commands at port 43h, and port 61h.
-use Rattle.std.proofs.Common.{◌≡◌, ℕ, true, false, refl}
+use Rattle.std.proofs.Common.{◌≡◌, true, false, refl}
 use Rattle.pit_counter.specs.Mode.{mode_of, access_of, is_bcd}
-use Rattle.pit_counter.specs.Count.{modulus, number_in, meant_count, is_odd_square, loaded_count, lowered, read_as}
-use Rattle.pit_counter.specs.Table.{effect_in, pulsed}
-use Rattle.pit_counter.specs.Programming.{programmed, completed, written_by, written, gated}
+use Rattle.pit_counter.specs.Count.{read_as}
+use Rattle.pit_counter.specs.Programming.{programmed, gated}
 use Rattle.pit_counter.specs.Reading.{count_of, status_of, shown_count, with_count_latched, with_status_latched, byte_read, status_released, count_released, after_read}
-use Rattle.pit_readback.specs.Pit.{counter_of, pit_powered_on}
+use Rattle.pit_readback.specs.Pit.{pit_at_power_on}
 use Rattle.pit_readback.specs.Ports.{is_chosen, latches_count, latches_status, count_latched_if, status_latched_if, read_back_of, read_back, commanded, written_43, port_written, port_read, after_port_read, written_61, read_of_61}
 use Rattle.pit_readback.specs.declared.parts.PitParts.{PitParts}
 
@@ -32,7 +31,7 @@ none_with_d0 = refl
 
 -- the status of counter 1 after the control word 74h: null count, OUT high, both bytes, mode 2
 programmed_74 : PitParts
-programmed_74 = written_43 0x74 pit_powered_on
+programmed_74 = written_43 0x74 pit_at_power_on
 
 status_of_counter_1 : port_read 0x41 (port_written 0x43 0xe4 programmed_74) ≡ 0xf4
 unfolding programmed_74 port_read port_written written_43 commanded read_back read_back_of latches_count latches_status is_chosen count_latched_if status_latched_if programmed with_count_latched with_status_latched status_of byte_read mode_of
@@ -43,15 +42,15 @@ status_is_read_once : port_read 0x41 (after_port_read 0x41 (port_written 0x43 0x
 unfolding programmed_74 port_read after_port_read after_read status_released count_released port_written written_43 commanded read_back read_back_of latches_count latches_status is_chosen count_latched_if status_latched_if programmed with_count_latched with_status_latched status_of byte_read shown_count count_of read_as access_of is_bcd
 status_is_read_once = refl
 
-port_43_reads_ones : port_read 0x43 pit_powered_on ≡ 0xff
+port_43_reads_ones : port_read 0x43 pit_at_power_on ≡ 0xff
 unfolding port_read
 port_43_reads_ones = refl
 
 -- port 61h: GATE 2 and the speaker bit as written, bit 14 of the time, and OUT 2, which is high at power on
-port_61_at_power_on : read_of_61 0 pit_powered_on ≡ 0x20
+port_61_at_power_on : read_of_61 0 pit_at_power_on ≡ 0x20
 unfolding read_of_61 programmed mode_of
 port_61_at_power_on = refl
 
-port_61_as_written : read_of_61 16384 (written_61 0x03 pit_powered_on) ≡ 0x33
+port_61_as_written : read_of_61 16384 (written_61 0x03 pit_at_power_on) ≡ 0x33
 unfolding read_of_61 written_61 gated programmed mode_of
 port_61_as_written = refl

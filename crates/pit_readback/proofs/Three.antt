@@ -1,7 +1,7 @@
 -- Three counters as a list.
 use Rattle.std.proofs.Common.{◌≡◌, ℕ, zero, suc, ◌<◌, List, [], ◌∷◌, length, map, get_or, true, refl, ap, sym, ◌∙◌, arith}
 use Rattle.pit_counter.specs.declared.parts.CounterParts.{CounterParts}
-use Rattle.pit_counter.specs.Programming.{powered_on}
+use Rattle.pit_counter.specs.Programming.{counter_at_power_on}
 use Rattle.pit_counter.specs.Table.{pulsed, pulsed_times}
 use Rattle.pit_readback.specs.Pit.{counter_of, pit_pulsed, pit_pulsed_times}
 use Rattle.pit_readback.specs.declared.parts.PitParts.{PitParts}
@@ -48,7 +48,7 @@ get_or-map_three f (x ∷ xs) (suc k) d h = get_or-map_three f xs k d (omega ari
 -- one counter of them
 pub counter_of-pit_pulsed_times : (n k : ℕ) (p : PitParts) → length p.counters ≡ 3 → k < 3 → counter_of (pit_pulsed_times n p) k ≡ pulsed_times n (counter_of p k)
 counter_of-pit_pulsed_times n k p e h =
-    ap (λ (q : PitParts). counter_of q k) (pit_pulsed_times-each n p) ∙ get_or-map_three (pulsed_times n) p.counters k (powered_on true) (omega arith)
+    ap (λ (q : PitParts). counter_of q k) (pit_pulsed_times-each n p) ∙ get_or-map_three (pulsed_times n) p.counters k (counter_at_power_on true) (omega arith)
 
 length-map_three : (f : CounterParts → CounterParts) (xs : List CounterParts) → length (map f xs) ≡ length xs
 length-map_three f [] = refl
@@ -61,4 +61,4 @@ length-pit_pulsed_times n p = ap (λ (q : PitParts). length q.counters) (pit_pul
 pub pit_pulsed_times-three : (n : ℕ) (p : PitParts) → length p.counters ≡ 3
     → pit_pulsed_times n p ≡ record p { counters = pulsed_times n (counter_of p 0) ∷ pulsed_times n (counter_of p 1) ∷ pulsed_times n (counter_of p 2) ∷ [] }
 pit_pulsed_times-three n p e =
-    pit_pulsed_times-each n p ∙ ap (λ (xs : List CounterParts). record p { counters = map (pulsed_times n) xs }) (three_of p.counters (powered_on true) e)
+    pit_pulsed_times-each n p ∙ ap (λ (xs : List CounterParts). record p { counters = map (pulsed_times n) xs }) (three_of p.counters (counter_at_power_on true) e)

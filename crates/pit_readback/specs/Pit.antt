@@ -1,23 +1,23 @@
 -- Three counters and the speaker bit.
 use Rattle.std.specs.Prelude.{◌≡◌, ℕ, zero, suc, true, false, IsTrue, [], ◌∷◌, length, map, slice_index_or, slice_set}
 use Rattle.pit_counter.specs.declared.parts.CounterParts.{CounterParts}
-use Rattle.pit_counter.specs.Programming.{powered_on}
+use Rattle.pit_counter.specs.Programming.{counter_at_power_on}
 use Rattle.pit_counter.specs.Table.{pulsed}
-use Rattle.pit_counter.specs.Conditions.{IsCounter}
+use Rattle.pit_counter.specs.Parts.{IsCounter}
 use Rattle.pit_readback.specs.declared.parts.PitParts.{PitParts}
 
 -- a counter by its number
 abbrev pub counter_of : PitParts → ℕ → CounterParts
-counter_of p k = slice_index_or p.counters k (powered_on true)
+counter_of p k = slice_index_or p.counters k (counter_at_power_on true)
 
 -- another counter in its place
 abbrev pub with_counter : ℕ → CounterParts → PitParts → PitParts
 with_counter k c p = record p { counters = slice_set p.counters k c }
 
 -- power on: each counter as at its power on, GATE of counter 2 and the speaker bit low (this project's own choice)
-abbrev pub pit_powered_on : PitParts
-pit_powered_on = record {
-  counters = powered_on true ∷ powered_on true ∷ powered_on false ∷ [];
+abbrev pub pit_at_power_on : PitParts
+pit_at_power_on = record {
+  counters = counter_at_power_on true ∷ counter_at_power_on true ∷ counter_at_power_on false ∷ [];
   speaker = false;
 }
 

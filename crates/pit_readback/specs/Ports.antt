@@ -1,7 +1,7 @@
 -- The ports 40h to 43h and 61h. Intel 8254 data sheet, "Programming the 8254", "Counter Latch Command" and "Read-Back Command".
 use Rattle.std.specs.Prelude.{ℕ, ◌+◌, ◌-◌, ◌/◌, ◌%◌, ◌^◌, ◌==◌, ◌&&◌, not, Bool, if◌then◌else◌, [], ◌∷◌, slice_set}
 use Rattle.pit_counter.specs.declared.parts.CounterParts.{CounterParts}
-use Rattle.pit_counter.specs.Programming.{controlled, written, gated}
+use Rattle.pit_counter.specs.Programming.{controlled, byte_written, gated}
 use Rattle.pit_counter.specs.Reading.{with_count_latched, with_status_latched, byte_read, after_read}
 use Rattle.pit_readback.specs.Pit.{counter_of, with_counter}
 use Rattle.pit_readback.specs.declared.parts.PitParts.{PitParts}
@@ -56,7 +56,7 @@ written_43 byte p =
 unfoldable pub port_written : ℕ → ℕ → PitParts → PitParts
 port_written port byte p =
     if port == 0x43 then written_43 byte p
-    else with_counter (port - 0x40) (written byte (counter_of p (port - 0x40))) p
+    else with_counter (port - 0x40) (byte_written byte (counter_of p (port - 0x40))) p
 
 -- what a read of one of them gives; 43h reads FFh (this project's own choice)
 unfoldable pub port_read : ℕ → PitParts → ℕ

@@ -3,9 +3,9 @@
 ghost use Rattle.std.specs.Prelude.{◌≡◌, ◌↔◌, ◌≤◌, ◌<◌, ◌^◌, IsSome, IfSome, IsTrue};
 ghost use Rattle.clk_units.specs.Events.{IsFirst};
 ghost use Rattle.pit_counter.specs.Table.{has_risen, pulsed_times, rises_in};
-ghost use Rattle.pit_counter.specs.Programming.{written};
-ghost use Rattle.pit_counter.specs.Conditions.{IsCounter};
-ghost use Rattle.pit_readback.specs.Pit.{counter_of, with_counter, pit_powered_on, pit_pulsed_times, IsPit};
+ghost use Rattle.pit_counter.specs.Programming.{byte_written};
+ghost use Rattle.pit_counter.specs.Parts.{IsCounter};
+ghost use Rattle.pit_readback.specs.Pit.{counter_of, with_counter, pit_at_power_on, pit_pulsed_times, IsPit};
 ghost use Rattle.pit_readback.specs.Ports.{commanded, read_back, written_43, port_written, port_read, after_port_read, written_61, read_of_61, bit_of};
 
 use crate::parts::PitParts;
@@ -44,7 +44,7 @@ impl Model for Pit {
 impl Pit {
     /// The timer at power on (this project's own choice).
     pub fn power_on() -> Pit
-        ensures { result ≡ pit_powered_on }
+        ensures { result ≡ pit_at_power_on }
     {
         Pit {
             counters: [
@@ -59,7 +59,7 @@ impl Pit {
     /// All that the timer holds.
     pub fn parts(&self) -> PitParts
         ensures value { result ≡ self.now }
-        ensures stands { IsPit self.now }
+        ensures valid { IsPit self.now }
     {
         PitParts {
             counters: [
@@ -98,7 +98,7 @@ impl Pit {
             self.write_43(byte)
         } else {
             let k = port - FIRST;
-            self.replace(k, written(byte, self.counter(k)))
+            self.replace(k, byte_written(byte, self.counter(k)))
         }
     }
 
@@ -235,8 +235,8 @@ fn wired(parts: CounterParts) -> Option<Counter>
 }
 
 /// The counter after a byte of its count is written.
-fn written(byte: u8, mut counter: Counter) -> Counter
-    ensures value { result ≡ written byte counter }
+fn byte_written(byte: u8, mut counter: Counter) -> Counter
+    ensures value { result ≡ byte_written byte counter }
     ensures gate { result.gate ≡ counter.gate }
 {
     counter.write_byte(byte);

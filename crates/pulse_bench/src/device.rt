@@ -1,7 +1,10 @@
 //! The devices that are timed.
+ghost use Rattle.std.specs.Prelude.{◌≤◌};
 
 use hpet_comparator::Timer;
+use hpet_registers::Hpet;
 use pit_counter::Counter;
+use pit_readback::Pit;
 use rtc_calendar::{Alarm, Form, TimeBytes, after, first_match};
 use rtc_cycle::Divider;
 
@@ -32,13 +35,23 @@ const NEVER: Alarm = Alarm {
 /// The count of each counter.
 const COUNT: u8 = 5;
 
+/// A timer's configuration: route 20, VAL_SET, periodic.
+const PERIODIC: u64 = 0x2848;
+
+/// The pulses from one match of a timer to the next.
+const PERIOD: u64 = 10;
+
 /// A device, and where it goes on from.
 #[derive(Clone, Copy)]
 pub enum Device {
     /// A counter of the 8254. Before each stretch its count is written, and it is triggered.
     Counter(Counter),
+    /// The 8254 behind its ports.
+    Pit(Pit),
     /// A timer of the HPET, and its main counter.
     Timer(Timer, u64),
+    /// The whole block of the HPET.
+    Hpet(Hpet),
     /// The divider of the MC146818.
     Divider(Divider),
     /// The time bytes of the MC146818. A pulse is an update.
@@ -56,6 +69,11 @@ impl Device {
                 counter.gate(false);
                 counter.gate(true);
                 counter.pulses(n).count
+            }
+            Device::Pit(pit) => pit.pulses(n).count,
+            Device::Hpet(hpet) => {
+                let [first, second, ..] = hpet.pulses(n);
+                first.count.wrapping_add(second.count)
             }
             Device::Timer(timer, from) => {
                 let matches = timer.pulses(*from, n);
@@ -85,16 +103,62 @@ fn counter(mode: u8) -> Device {
     Device::Counter(counter)
 }
 
-/// A timer with this configuration register and period.
+/// The 8254 as a PC has it: counter 0 in mode 2 at 100 Hz, counter 1 in mode 2 at the rate of the
+/// memory's refresh, and counter 2 in mode 3 at 1 kHz, with its GATE high.
+fn pit() -> Device {
+    let mut pit = Pit::power_on();
+    pit.write_61(1);
+    for (port, control, low, high) in [
+        (0x40, 0x34, 0x9c, 0x2e),
+        (0x41, 0x74, 0x12, 0x00),
+        (0x42, 0xb6, 0xa9, 0x04),
+    ] {
+        pit.write(0x43, control);
+        pit.write(port, low);
+        pit.write(port, high);
+    }
+    Device::Pit(pit)
+}
+
+/// A timer with this configuration register, and this comparator and period.
 fn timer(config: u64, period: u64) -> Device {
     let mut timer = Timer::power_on();
     timer.write_config(config);
     timer.write_comparator(8, false, period);
+    timer.write_comparator(8, false, period);
     Device::Timer(timer, 0)
 }
 
+/// A block of three timers with this general configuration, of which the first is periodic.
+fn three_timers(general: u64) -> Device {
+    let mut hpet = Hpet::power_on(3, false);
+    start_periodic(&mut hpet, 0x100);
+    hpet.write(0x10, 8, general);
+    Device::Hpet(hpet)
+}
+
+/// A block of eight timers, which runs, and all of which are periodic.
+fn eight_timers() -> Device {
+    let mut hpet = Hpet::power_on(8, true);
+    for place in 0..8 {
+        start_periodic(&mut hpet, 0x100 + 0x20 * place);
+    }
+    hpet.write(0x10, 8, 1);
+    Device::Hpet(hpet)
+}
+
+/// Makes a timer periodic whose registers begin at this offset: the configuration with VAL_SET,
+/// then the comparator, then the period.
+fn start_periodic(hpet: &mut Hpet, offset: u16)
+    requires { offset ≤ 1015 }
+{
+    hpet.write(offset, 8, PERIODIC);
+    hpet.write(offset + 8, 8, PERIOD);
+    hpet.write(offset + 8, 8, PERIOD);
+}
+
 /// Each device by its name.
-pub fn all() -> [(&'static str, Device); 12] {
+pub fn all() -> [(&'static str, Device); 16] {
     [
         ("8254, mode 0", counter(0)),
         ("8254, mode 1", counter(1)),
@@ -102,9 +166,13 @@ pub fn all() -> [(&'static str, Device); 12] {
         ("8254, mode 3, odd count", counter(3)),
         ("8254, mode 4", counter(4)),
         ("8254, mode 5", counter(5)),
-        ("HPET, one-shot, 32 bits", timer(0x2900, 10)),
-        ("HPET, periodic, 64 bits", timer(0x2808, 10)),
-        ("HPET, period of 0", timer(0x2808, 0)),
+        ("8254, three counters", pit()),
+        ("HPET, one-shot, 32 bits", timer(0x2900, PERIOD)),
+        ("HPET, periodic, 64 bits", timer(PERIODIC, PERIOD)),
+        ("HPET, period of 0", timer(PERIODIC, 0)),
+        ("HPET, three timers, halted", three_timers(0)),
+        ("HPET, one of three periodic", three_timers(1)),
+        ("HPET, all of eight periodic", eight_timers()),
         ("MC146818, divider", Device::Divider(Divider::power_on())),
         (
             "MC146818, time bytes (updates)",

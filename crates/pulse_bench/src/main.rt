@@ -1,7 +1,7 @@
 //! The program `pulse_bench`: how long the devices take to let many pulses pass at once.
 //!
-//! With the word `time` it prints a line for each device: what a call takes for a short stretch of pulses and for
-//! a long one, and how many pulses a second that is.
+//! With the word `time` it prints a line for each device: what a call takes for a short stretch of
+//! pulses and for a long one, and how many pulses a second that is.
 #![tactic(auto)]
 
 mod device;

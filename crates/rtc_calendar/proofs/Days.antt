@@ -1,10 +1,10 @@
 -- The second of the day and the day of a century of 100 years, and how a second moves them.
 use Rattle.std.proofs.Common.{◌≡◌, ℕ, zero, suc, ◌+◌, ◌-◌, ◌*◌, ◌/◌, ◌%◌, ◌<◌, ◌≤◌, Bool, true, false, cond, eqb, ◌&&◌, refl, sym, ap, ◌∙◌, inl, inr, arith}
 use Rattle.std.proofs.lemmas.Bool.{cond_both, eqb-true, eqb-false, cases_eq, cases_order, cases_Bool, eq-eqb, ne_eqb}
-use Rattle.rtc_calendar.specs.declared.moment.Moment.{Moment}
+use Rattle.rtc_calendar.specs.declared.calendar.Moment.{Moment}
 use Rattle.rtc_calendar.specs.Calendar.{month_length, IsMoment, ends_minute, ends_hour, ends_day, ends_month, ends_year, next_in, next_second, next_seconds, next_day}
-use Rattle.rtc_calendar.specs.Days.{second_of_day, days_of_years, days_of_months, day_number}
-use Rattle.rtc_calendar.proofs.Calendar.{month_length-least, month_length-most, next_in-least, next_in-most, date_in_month, IsMoment-next_second}
+use Rattle.rtc_calendar.specs.private.Days.{second_of_day, days_of_years, days_of_months, day_number}
+use Rattle.rtc_calendar.proofs.Moments.{month_length-least, month_length-most, next_in-least, next_in-most, date_in_month, IsMoment-next_second}
 
 -- what next_in gives at the end and before it
 next_in-last : (low high number : ℕ) → eqb number high ≡ true → next_in low high number ≡ low

@@ -1,5 +1,5 @@
 pub mod Spellings
-pub mod Calendar
-pub mod Updates
+pub mod Moments
+pub mod Times
 pub mod Days
 mod Rows

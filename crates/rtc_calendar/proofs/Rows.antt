@@ -2,8 +2,8 @@
 use Rattle.std.proofs.Common.{◌≡◌, true, false, refl}
 use Rattle.rtc_calendar.specs.Bytes.{spelt, has_digits, is_spelt, number_in, spelling, is_hour, hour_meant, hour_in, hour_of_twelve, hour_spelling}
 use Rattle.rtc_calendar.specs.Calendar.{month_length, ends_minute, ends_hour, ends_day, ends_month, ends_year, next_in, next_second, next_day}
-use Rattle.rtc_calendar.specs.Updates.{month_in, year_in, last_date_in, read, written, updated}
-use Rattle.rtc_calendar.specs.Days.{days_of_years, days_of_months, day_number}
+use Rattle.rtc_calendar.specs.Updates.{month_in, year_in, last_date_in, moment_of, bytes_of, updated}
+use Rattle.rtc_calendar.specs.private.Days.{days_of_years, days_of_months, day_number}
 use Rattle.rtc_calendar.specs.Alarms.{fits_byte, is_match}
 
 bcd_59 : number_in false 0 59 0x59 ≡ 59
@@ -44,13 +44,13 @@ no_leap_day_in_99 = refl
 
 new_century : updated (record { binary = false; hours24 = false }) (record { sec = 0x59; min = 0x59; hour = 0x91; wday = 7; date = 0x31; month = 0x12; year = 0x99 })
     ≡ record { sec = 0; min = 0; hour = 0x12; wday = 1; date = 1; month = 1; year = 0 }
-unfolding updated written read last_date_in month_in year_in number_in is_spelt has_digits spelt hour_in is_hour hour_meant hour_spelling hour_of_twelve spelling
+unfolding updated bytes_of moment_of last_date_in month_in year_in number_in is_spelt has_digits spelt hour_in is_hour hour_meant hour_spelling hour_of_twelve spelling
     next_second ends_year ends_month ends_day ends_hour ends_minute next_in month_length
 new_century = refl
 
 date_past_its_month : updated (record { binary = true; hours24 = true }) (record { sec = 0; min = 0; hour = 0; wday = 3; date = 29; month = 2; year = 99 })
     ≡ record { sec = 1; min = 0; hour = 0; wday = 3; date = 1; month = 2; year = 99 }
-unfolding updated written read last_date_in month_in year_in number_in is_spelt has_digits spelt hour_in is_hour hour_meant hour_spelling hour_of_twelve spelling
+unfolding updated bytes_of moment_of last_date_in month_in year_in number_in is_spelt has_digits spelt hour_in is_hour hour_meant hour_spelling hour_of_twelve spelling
     next_second ends_year ends_month ends_day ends_hour ends_minute next_in month_length
 date_past_its_month = refl
 

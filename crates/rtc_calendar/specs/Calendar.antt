@@ -1,7 +1,7 @@
 -- The clock and the calendar in plain numbers, and the second that an update adds
 -- (MC146818 data sheet, "Update cycle").
 use Rattle.std.specs.Prelude.{ℕ, zero, suc, ◌+◌, ◌%◌, ◌≤◌, Bool, ◌&&◌, ◌||◌, ◌==◌, if◌then◌else◌}
-use Rattle.rtc_calendar.specs.declared.moment.Moment.{Moment}
+use Rattle.rtc_calendar.specs.declared.calendar.Moment.{Moment}
 
 -- February has 29 days in every fourth year, 00 included
 unfoldable pub month_length : ℕ → ℕ → ℕ

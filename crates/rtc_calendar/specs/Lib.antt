@@ -2,4 +2,4 @@ pub mod Bytes
 pub mod Calendar
 pub mod Updates
 pub mod Alarms
-pub mod Days
+pub mod private

@@ -2,7 +2,7 @@
 use Rattle.std.specs.Prelude.{◌≡◌, ℕ, zero, suc, IsTrue}
 use Rattle.rtc_calendar.specs.declared.Form.{Form}
 use Rattle.rtc_calendar.specs.declared.TimeBytes.{TimeBytes}
-use Rattle.rtc_calendar.specs.declared.moment.Moment.{Moment}
+use Rattle.rtc_calendar.specs.declared.calendar.Moment.{Moment}
 use Rattle.rtc_calendar.specs.Bytes.{number_in, is_spelt, spelling, hour_in, is_hour, hour_spelling}
 use Rattle.rtc_calendar.specs.Calendar.{month_length, next_second, next_day}
 
@@ -18,8 +18,8 @@ unfoldable pub last_date_in : Form → TimeBytes → ℕ
 last_date_in form bytes = month_length (year_in form bytes) (month_in form bytes)
 
 -- the moment that the seven bytes stand for; a date above the month's length is invalid
-unfoldable pub read : Form → TimeBytes → Moment
-read form bytes = record {
+unfoldable pub moment_of : Form → TimeBytes → Moment
+moment_of form bytes = record {
   second = number_in form.binary 0 59 bytes.sec;
   minute = number_in form.binary 0 59 bytes.min;
   hour = hour_in form bytes.hour;
@@ -30,8 +30,8 @@ read form bytes = record {
 }
 
 -- the seven bytes of a moment
-unfoldable pub written : Form → Moment → TimeBytes
-written form m = record {
+unfoldable pub bytes_of : Form → Moment → TimeBytes
+bytes_of form m = record {
   sec = spelling form.binary m.second;
   min = spelling form.binary m.minute;
   hour = hour_spelling form m.hour;
@@ -43,7 +43,7 @@ written form m = record {
 
 -- the bytes after one update
 unfoldable pub updated : Form → TimeBytes → TimeBytes
-updated form bytes = written form (next_second (read form bytes))
+updated form bytes = bytes_of form (next_second (moment_of form bytes))
 
 -- the bytes after n updates
 abbrev pub updated_times : Form → ℕ → TimeBytes → TimeBytes
@@ -65,4 +65,4 @@ pub record IsDayLater (form : Form) (old new : TimeBytes) : Type 0 where
   pub sec : new.sec ≡ old.sec
   pub min : new.min ≡ old.min
   pub hour : new.hour ≡ old.hour
-  pub day : read form new ≡ next_day (read form old)
+  pub day : moment_of form new ≡ next_day (moment_of form old)

@@ -4,8 +4,8 @@ ghost use Rattle.clk_units.specs.Events.{IsFirst};
 ghost use Rattle.rtc_calendar.specs.Updates.{updated_times};
 ghost use Rattle.rtc_calendar.specs.Alarms.{fits_byte, is_match, IsDontCare, matches_in};
 
-use crate::later::DAY;
-use crate::update::updated;
+use crate::stretch::DAY;
+use crate::updates::updated;
 use crate::{Alarm, Form, TimeBytes};
 
 /// From this byte on both top bits are set, and an alarm byte matches anything.

@@ -13,12 +13,12 @@
 
 mod alarms;
 mod bytes;
-mod later;
-mod moment;
-mod update;
+mod calendar;
+mod stretch;
+mod updates;
 
 pub use alarms::{first_match, matches};
-pub use update::after;
+pub use updates::after;
 
 /// The seven time bytes, as the clock's registers 0, 2, 4 and 6 to 9 hold them: seconds, minutes, hours, day
 /// of the week (1 is Sunday), date, month, and year of the century. Any bytes may stand there.

@@ -1,7 +1,7 @@
 ghost use Rattle.std.specs.Prelude.{◌+◌, ◌*◌, ◌<◌, ◌≤◌};
 
 use super::*;
-use crate::update::updated;
+use crate::updates::updated;
 
 /// Binary numbers, 24 hours.
 const BINARY: Form = Form {

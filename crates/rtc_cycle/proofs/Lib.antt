@@ -1,4 +1,4 @@
 pub mod Pulse
-pub mod Stretch
+pub mod Times
 pub mod Recurs
 mod Rows

@@ -4,7 +4,8 @@ use Rattle.std.proofs.lemmas.Bool.{cases_eq, eq-eqb, ne_eqb, eqb-true, true≢fa
 use Rattle.clk_units.specs.Events.{CountsUp}
 use Rattle.clk_units.proofs.Events.{CountsUp-by_test}
 use Rattle.rtc_cycle.specs.declared.parts.DividerParts.{DividerParts}
-use Rattle.rtc_cycle.specs.Divider.{IsDivider, pulsed, pulsed_times, ticks_next, updates_next, ticks_in, updates_in}
+use Rattle.rtc_cycle.specs.Divider.{pulsed, pulsed_times, ticks_next, updates_next, ticks_in, updates_in}
+use Rattle.rtc_cycle.specs.Parts.{IsDivider}
 
 below_next : (b : Bool) (d : ℕ) → d < 32768 → cond b ((d + 1) % 32768) d < 32768
 below_next true d h = omega arith

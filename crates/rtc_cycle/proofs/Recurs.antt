@@ -5,10 +5,11 @@ use Rattle.std.proofs.lemmas.Nat.{div-add-mod'}
 use Rattle.std.proofs.lemmas.Bool.{cases_eq, cases_lt, cases_Bool, eq-eqb, ne_eqb, lt-ltb, le-ltb, both_ways}
 use Rattle.clk_units.specs.Events.{IsFirst}
 use Rattle.rtc_cycle.specs.declared.parts.DividerParts.{DividerParts}
-use Rattle.rtc_cycle.specs.Divider.{IsDivider, period, pulsed, pulsed_times, ticks_next, ticks_in, updates_in}
-use Rattle.rtc_cycle.specs.Stretch.{recurs, first_recurs, pulses_to_end, stretched}
+use Rattle.rtc_cycle.specs.Divider.{period, pulsed, pulsed_times, ticks_next, ticks_in, updates_in}
+use Rattle.rtc_cycle.specs.Parts.{IsDivider}
+use Rattle.rtc_cycle.specs.private.Stretch.{recurs, first_recurs, pulses_to_end, stretched}
 use Rattle.rtc_cycle.proofs.Pulse.{IsDivider-pulsed_times, dv-pulsed_times, rs-pulsed_times, set-pulsed_times}
-use Rattle.rtc_cycle.proofs.Stretch.{d-pulsed_times, period-some, ticks_in-is, cycle-at, cycle-while_set, behind, updates_in-is, ticks_in-none, updates_in-none}
+use Rattle.rtc_cycle.proofs.Times.{d-pulsed_times, period-some, ticks_in-is, cycle-at, cycle-while_set, behind, updates_in-is, ticks_in-none, updates_in-none}
 
 -- the first of events at even distances
 pub recurs-first : (next period n : ℕ) → 0 < next → IsFirst (recurs next period) n (first_recurs next n)
@@ -116,13 +117,6 @@ IsDivider-stretched n p valid = subst IsDivider (pulsed_times-is n p valid) (IsD
 -- no periodic event where the divider is held, or at rate 0
 pub ticks_in-stopped : (n : ℕ) (p : DividerParts) → (p.dv ≡ 2 → ⊥) ⊎ ((p.dv ≡ 2) × (p.rs ≡ 0)) → ticks_in p n ≡ 0
 ticks_in-stopped n p why = elim why [ inl held ↦ ticks_in-held n p held | inr none ↦ ticks_in-none n p none.1 ]
-
--- no update cycle ends where the divider is held, or with SET 1
-pub updates_in-stopped : (n : ℕ) (p : DividerParts) → IsDivider p → (p.dv ≡ 2 → ⊥) ⊎ ((p.dv ≡ 2) × (p.set ≡ true)) → updates_in p n ≡ 0
-updates_in-stopped n p valid why = elim why [
-  | inl held ↦ updates_in-none n p valid (λ runs _. held runs)
-  | inr on ↦ updates_in-none n p valid (λ _ off. both_ways p.set off on.1)
-]
 
 -- the first periodic event of a running divider
 pub IsFirst-ticks_in : (p : DividerParts) → IsDivider p → p.dv ≡ 2 → 0 < p.rs → (n : ℕ)

@@ -1,7 +1,9 @@
 -- Small rows that pin the definitions.
-use Rattle.std.proofs.Common.{◌≡◌, ℕ, Bool, true, false, refl}
+use Rattle.std.proofs.Common.{◌≡◌, ℕ, Bool, true, false, refl, ◌⊎◌, inl, inr, arith, lit<, lit≤}
 use Rattle.rtc_cycle.specs.declared.parts.DividerParts.{DividerParts}
 use Rattle.rtc_cycle.specs.Divider.{pulsed, pulsed_times, ticks_next, updates_next, ticks_in, updates_in, uip_of, with_dv, with_set, period, frequency}
+use Rattle.rtc_cycle.specs.Parts.{IsDivider, divider_at_power_on}
+use Rattle.std.proofs.lemmas.Bool.{true≢false, false≢true}
 
 -- a running divider
 running : ℕ → Bool → DividerParts
@@ -79,3 +81,45 @@ period_of_rate_15 = refl
 
 frequency_of_rate_6 : frequency 6 ≡ 1024
 frequency_of_rate_6 = refl
+
+power_on_in_mid_second : divider_at_power_on ≡ running 16384 false
+unfolding running
+power_on_in_mid_second = refl
+
+-- the last pulse of a cycle is a divider's
+in_cycle_at_64 : IsDivider (running 64 true)
+unfolding running
+in_cycle_at_64 = record { below = lit< tt; held = inl refl; in_cycle = λ _. (refl, refl, lit≤ tt); dv = lit≤ tt; rs = lit≤ tt }
+
+held_with_dv_7 : IsDivider (record (running 16384 false) { dv = 7; rs = 15; set = true })
+unfolding running
+held_with_dv_7 = record { below = lit< tt; held = inr refl; in_cycle = λ h. absurd (false≢true h); dv = lit≤ tt; rs = lit≤ tt }
+
+-- what each condition on the fields refuses
+no_place_32768 : IsDivider (running 32768 false) → ⊥
+unfolding running
+no_place_32768 h = omega (arith, h.below)
+
+held_at_16384_alone : IsDivider (record (running 16385 false) { dv = 6 }) → ⊥
+unfolding running
+held_at_16384_alone h = elim h.held [ inl runs ↦ omega (arith, runs) | inr place ↦ omega (arith, place) ]
+
+no_cycle_while_held : IsDivider (record (running 16384 true) { dv = 6 }) → ⊥
+unfolding running
+no_cycle_while_held h = omega (arith, (h.in_cycle refl).0)
+
+no_cycle_with_set : IsDivider (record (running 10 true) { set = true }) → ⊥
+unfolding running
+no_cycle_with_set h = true≢false (h.in_cycle refl).1
+
+no_cycle_at_65 : IsDivider (running 65 true) → ⊥
+unfolding running
+no_cycle_at_65 h = omega (arith, (h.in_cycle refl).2)
+
+dv_of_three_bits : IsDivider (record (running 16384 false) { dv = 8 }) → ⊥
+unfolding running
+dv_of_three_bits h = omega (arith, h.dv)
+
+rs_of_four_bits : IsDivider (record (running 0 false) { rs = 16 }) → ⊥
+unfolding running
+rs_of_four_bits h = omega (arith, h.rs)

@@ -1,16 +1,8 @@
 -- The divider of the MC146818 at a crystal of 32,768 Hz. Sections are those of the Motorola data sheet.
-use Rattle.std.specs.Prelude.{◌≡◌, ℕ, zero, suc, ◌+◌, ◌-◌, ◌%◌, ◌^◌, ◌<◌, ◌≤◌, Bool, true, false, not, ◌&&◌, ◌||◌, nat_le, ◌==◌, if◌then◌else◌, ◌⊎◌, [], ◌∷◌, slice_index}
+use Rattle.std.specs.Prelude.{◌≡◌, ℕ, zero, suc, ◌+◌, ◌-◌, ◌%◌, ◌^◌, ◌≤◌}
+use Rattle.std.specs.Prelude.{Bool, true, false, not, ◌&&◌, ◌||◌, nat_le, ◌==◌, if◌then◌else◌, ◌⊎◌}
+use Rattle.std.specs.Prelude.{[], ◌∷◌, slice_index}
 use Rattle.rtc_cycle.specs.declared.parts.DividerParts.{DividerParts}
-
--- what holds of the fields at all times
-pub record IsDivider (p : DividerParts) : Type 0 where
-  pub below : p.d < 32768
-  -- other values of DV hold it in the middle of a second
-  pub held : (p.dv ≡ 2) ⊎ (p.d ≡ 16384)
-  -- a cycle is in progress only while the divider runs, with SET 0, at its first pulses
-  pub in_cycle : p.cycle ≡ true → (p.dv ≡ 2) × (p.set ≡ false) × (p.d ≤ 64)
-  pub dv : p.dv ≤ 7
-  pub rs : p.rs ≤ 15
 
 -- the pulses from one periodic event to the next ("Periodic interrupt selection": the rates at 32,768 Hz)
 abbrev pub period : ℕ → ℕ
@@ -54,15 +46,13 @@ abbrev pub updates_in : DividerParts → ℕ → ℕ
 updates_in p zero = 0
 updates_in p (suc n) = if updates_next (pulsed_times n p) then suc (updates_in p n) else updates_in p n
 
--- UIP of register A: a cycle is in progress, or begins within 8 pulses, which are 244 microseconds ("Register A", "UIP")
+-- UIP of register A: a cycle is in progress, or begins within 8 pulses, 244 microseconds
+-- ("Register A", "UIP")
 abbrev pub uip_of : DividerParts → Bool
 uip_of p = p.cycle || (nat_le 32760 p.d && not p.set)
 
--- the fields at power on: DV 010 and rate 6, in the middle of a second (the project's own choice)
-abbrev pub at_power_on : DividerParts
-at_power_on = record { d = 16384; cycle = false; dv = 2; rs = 6; set = false }
-
--- the bits DV are written: whatever holds the divider resets it and ends a cycle ("Divider control"; for values below 110 the project's own choice)
+-- the bits DV are written: another value than 010 resets the divider and ends a cycle
+-- ("Divider control"; below 110 own)
 abbrev pub with_dv : ℕ → DividerParts → DividerParts
 with_dv dv p = record p { dv = dv; d = if dv == 2 then p.d else 16384; cycle = dv == 2 && p.cycle }
 
@@ -70,10 +60,19 @@ with_dv dv p = record p { dv = dv; d = if dv == 2 then p.d else 16384; cycle = d
 abbrev pub with_rate : ℕ → DividerParts → DividerParts
 with_rate rs p = record p { rs = rs }
 
--- SET is written: where it is 1 no cycle goes on ("Register B", "SET"; that one in progress is abandoned is the project's own choice)
+-- SET is written: 1 aborts a cycle in progress ("Register B", "SET")
 abbrev pub with_set : Bool → DividerParts → DividerParts
 with_set on p = record p { set = on; cycle = p.cycle && not on }
 
 -- the periodic events of a second at each rate ("Periodic interrupt selection": frequencies at 32,768 Hz)
 abbrev pub frequency : ℕ → ℕ
-frequency rs = slice_index (0 ∷ 256 ∷ 128 ∷ 8192 ∷ 4096 ∷ 2048 ∷ 1024 ∷ 512 ∷ 256 ∷ 128 ∷ 64 ∷ 32 ∷ 16 ∷ 8 ∷ 4 ∷ 2 ∷ []) rs
+frequency rs =
+    slice_index
+    (0 ∷ 256 ∷ 128 ∷ 8192 ∷ 4096 ∷ 2048 ∷ 1024 ∷ 512 ∷ 256 ∷ 128 ∷ 64 ∷ 32 ∷ 16 ∷ 8 ∷ 4 ∷ 2 ∷ [])
+    rs
+
+-- the divider runs with SET 0, and its second's cycle is in progress or behind it, if not to come
+pub record RunsCycles (p : DividerParts) : Type 0 where
+  pub runs : p.dv ≡ 2
+  pub unset : p.set ≡ false
+  pub begun : (p.cycle ≡ true) ⊎ (65 ≤ p.d)

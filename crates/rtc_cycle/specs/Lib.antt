@@ -1,2 +1,3 @@
+pub mod Parts
 pub mod Divider
-pub mod Stretch
+pub mod private

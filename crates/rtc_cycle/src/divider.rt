@@ -2,13 +2,16 @@
 
 ghost use Rattle.std.specs.Prelude.{◌≡◌, ℕ, ◌<◌, ◌≤◌, ◌↔◌, true, false, IsSome, IfSome};
 ghost use Rattle.clk_units.specs.Events.{IsFirst};
-ghost use Rattle.rtc_cycle.specs.Divider.{IsDivider, at_power_on, with_dv, with_rate, with_set, uip_of, pulsed_times, ticks_in, updates_in, frequency};
+ghost use Rattle.rtc_cycle.specs.Divider.{with_dv, with_rate, with_set, uip_of, pulsed_times, ticks_in, updates_in, frequency, RunsCycles};
+ghost use Rattle.rtc_cycle.specs.Parts.{IsDivider, divider_at_power_on};
 
 use crate::events::CycleEvents;
 use crate::parts::{self, DividerParts, HELD, RUNNING};
+use crate::stretch;
 use std::marker::Model;
 
 /// The divider of an MC146818 with a crystal of 32,768 Hz. Contracts see its fields.
+#[repr(C)]
 #[derive(Clone, Copy, Debug, PartialEq, Eq)]
 pub struct Divider {
     parts: DividerParts,
@@ -19,7 +22,7 @@ impl Model for Divider {
 
     ghost Value = { DividerParts };
 
-    ghost use Rattle.rtc_cycle.specs.Divider.{IsDivider};
+    ghost use Rattle.rtc_cycle.specs.Parts.{IsDivider};
 
     ghost view = { λ c. c.parts };
 
@@ -30,9 +33,9 @@ impl Model for Divider {
 
 impl Divider {
     /// The divider at power on: it runs, at rate 6, half a second before the first update cycle begins
-    /// (this project's own choice).
+    /// (own).
     pub fn power_on() -> Divider
-        ensures { result ≡ at_power_on }
+        ensures { result ≡ divider_at_power_on }
     {
         Divider {
             parts: DividerParts {
@@ -45,7 +48,7 @@ impl Divider {
         }
     }
 
-    /// All fields.
+    /// All fields, as a saved state keeps them.
     pub fn parts(&self) -> DividerParts
         ensures value { result ≡ self.now }
         ensures valid { IsDivider result }
@@ -53,7 +56,7 @@ impl Divider {
         self.parts
     }
 
-    /// The divider with these fields, or none where no divider has them.
+    /// The device with these fields, or None exactly where a condition on them fails.
     pub fn of_parts(parts: DividerParts) -> Option<Divider>
         ensures valid { IsSome result ↔ IsDivider parts }
         ensures value { IfSome result (λ c. c ≡ parts) }
@@ -66,7 +69,7 @@ impl Divider {
     }
 
     /// Writes the bits DV of register A. 010 lets the divider run; any other value holds it in the middle of
-    /// a second, with no update cycle in progress (below 110 this project's own choice).
+    /// a second, with no update cycle in progress (own below 110).
     pub fn dv(&mut self, dv: u8)
         requires { dv ≤ 7 }
         ensures { self.new ≡ with_dv dv self.old }
@@ -82,8 +85,8 @@ impl Divider {
         self.parts.rs = rs;
     }
 
-    /// Writes SET of register B. While it is 1 no update cycle begins, and one in progress is abandoned
-    /// (this project's own choice).
+    /// Writes SET of register B. While it is 1 no update cycle begins, and one in progress is aborted (data
+    /// sheet, "Register B", "SET").
     pub fn set(&mut self, on: bool)
         ensures { self.new ≡ with_set on self.old }
     {
@@ -100,7 +103,8 @@ impl Divider {
         parts::is_updating(self.parts)
     }
 
-    /// Lets `n` pulses of the crystal pass, and tells their events.
+    /// Lets `n` pulses of the crystal pass, and tells their events. A second of a divider that runs with SET 0
+    /// ends one update cycle; only where SET was 1 as the second in progress began is there none for it.
     pub fn pulses(&mut self, n: u64) -> CycleEvents
         ensures state { self.new ≡ pulsed_times n self.old }
         ensures ticks { result.ticks ≡ ticks_in self.old n }
@@ -110,10 +114,11 @@ impl Divider {
         ensures few_updates { result.updates ≤ n }
         ensures first_update { IsFirst (updates_in self.old) n result.first_update }
         ensures frequency { n ≡ 32768 → self.old.dv ≡ 2 → result.ticks ≡ frequency self.old.rs }
+        ensures second { n ≡ 32768 → RunsCycles self.old → result.updates ≡ 1 }
     {
-        let ticks = parts::ticks(self.parts, n);
-        let updates = parts::updates(self.parts, n);
-        self.parts = parts::after_pulses(self.parts, n);
+        let ticks = stretch::ticks(self.parts, n);
+        let updates = stretch::updates(self.parts, n);
+        self.parts = stretch::after_pulses(self.parts, n);
         CycleEvents {
             ticks: ticks.count,
             first_tick: ticks.first,

@@ -20,6 +20,7 @@ mod divider;
 mod events;
 mod parts;
 mod recurring;
+mod stretch;
 
 pub use divider::Divider;
 pub use events::CycleEvents;

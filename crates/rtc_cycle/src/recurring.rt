@@ -2,7 +2,7 @@
 
 ghost use Rattle.std.specs.Prelude.{◌≡◌, ◌<◌, ◌≤◌};
 ghost use Rattle.clk_units.specs.Events.{IsFirst};
-ghost use Rattle.rtc_cycle.specs.Stretch.{recurs, first_recurs};
+ghost use Rattle.rtc_cycle.specs.private.Stretch.{recurs, first_recurs};
 
 /// The events of a stretch of steps.
 #[derive(Clone, Copy, Debug, PartialEq, Eq)]

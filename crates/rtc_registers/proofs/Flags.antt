@@ -3,19 +3,20 @@ use Rattle.std.proofs.Common.{◌≡◌, ℕ, zero, suc, ◌≤◌, Bool, true, 
 use Rattle.std.proofs.lemmas.Bool.{cases_Bool}
 use Rattle.rtc_calendar.specs.declared.TimeBytes.{TimeBytes}
 use Rattle.rtc_cycle.specs.declared.parts.DividerParts.{DividerParts}
-use Rattle.rtc_cycle.specs.Divider.{IsDivider, pulsed as clock_pulsed, ticks_next, updates_next}
+use Rattle.rtc_cycle.specs.Divider.{pulsed, ticks_next, updates_next}
+use Rattle.rtc_cycle.specs.Parts.{IsDivider}
 use Rattle.rtc_registers.specs.declared.parts.RtcParts.{RtcParts}
-use Rattle.rtc_registers.specs.Registers.{IsRtc, register_b, register_c, has_bit, flags_byte, pf_of, af_of, uf_of, clock_of, form_of, time_of, alarm_of, after_read, flagged}
-use Rattle.rtc_registers.specs.Pulses.{moved, time_next, flags_next, alarms_next, pulsed, pulsed_times, alarms_in}
+use Rattle.rtc_registers.specs.Registers.{IsRtc, register_b, register_c, has_bit, flags_byte, pf_of, af_of, uf_of, divider_of, form_of, time_of, alarm_of, after_rtc_read, flagged}
+use Rattle.rtc_registers.specs.Pulses.{moved, time_next, flags_next, alarms_next, rtc_pulsed, rtc_pulsed_times, alarms_in}
 use Rattle.rtc_registers.proofs.Bytes.{Moved, moved-bytes, Flagged, flagged-bytes, flags_byte-read, has_bit-pf, has_bit-af, has_bit-uf}
-use Rattle.rtc_registers.proofs.Stretch.{time_next-by, alarms_next-by, flags_next-by, IsRtc-pulsed_times}
+use Rattle.rtc_registers.proofs.Times.{time_next-by, alarms_next-by, flags_next-by, IsRtc-rtc_pulsed_times}
 
 -- register C is replaced
 abbrev pub with_flags : ℕ → RtcParts → RtcParts
 with_flags f r = record r { bytes = set r.bytes 12 f }
 
-pub clock_of-with_flags : (f : ℕ) (r : RtcParts) → 14 ≤ length r.bytes → clock_of (with_flags f r) ≡ clock_of r
-clock_of-with_flags f r h =
+pub divider_of-with_flags : (f : ℕ) (r : RtcParts) → 14 ≤ length r.bytes → divider_of (with_flags f r) ≡ divider_of r
+divider_of-with_flags f r h =
     let m : Flagged f r.bytes = flagged-bytes f r.bytes h in
     rw (m.register_a, m.register_b) refl
 
@@ -29,13 +30,13 @@ IsRtc-with_flags pf af uf r valid =
       register_a = rw m.register_a valid.register_a;
       register_c = rw m.register_c (flags_byte-read pf af uf);
       register_d = m.register_d ∙ valid.register_d;
-      clock = subst IsDivider (sym (clock_of-with_flags (flags_byte pf af uf) r enough)) valid.clock;
+      clock = subst IsDivider (sym (divider_of-with_flags (flags_byte pf af uf) r enough)) valid.clock;
     }
 
 -- a read keeps the conditions
-pub IsRtc-after_read : (r : RtcParts) → IsRtc r → IsRtc (after_read r)
-unfolding after_read
-IsRtc-after_read r valid = elim (cases_Bool (eqb r.index 12)) [
+pub IsRtc-after_rtc_read : (r : RtcParts) → IsRtc r → IsRtc (after_rtc_read r)
+unfolding after_rtc_read
+IsRtc-after_rtc_read r valid = elim (cases_Bool (eqb r.index 12)) [
   | inl c ↦ rw c (IsRtc-with_flags false false false r valid)
   | inr other ↦ rw other valid
 ]
@@ -46,9 +47,9 @@ unfolding flagged
 IsRtc-flagged r valid = IsRtc-with_flags true (af_of r) (uf_of r) r valid
 
 -- what the clock shows with PF set
-pub clock_of-flagged : (r : RtcParts) → IsRtc r → clock_of (flagged r) ≡ clock_of r
+pub divider_of-flagged : (r : RtcParts) → IsRtc r → divider_of (flagged r) ≡ divider_of r
 unfolding flagged
-clock_of-flagged r valid = clock_of-with_flags (flags_byte true (af_of r) (uf_of r)) r (omega (arith, valid.places))
+divider_of-flagged r valid = divider_of-with_flags (flags_byte true (af_of r) (uf_of r)) r (omega (arith, valid.places))
 
 register_c-flagged : (r : RtcParts) → IsRtc r → register_c (flagged r) ≡ flags_byte true (af_of r) (uf_of r)
 unfolding flagged
@@ -96,32 +97,32 @@ time_of-flagged r valid = (flagged-bytes (flags_byte true (af_of r) (uf_of r)) r
 alarms_next-flagged : (r : RtcParts) → IsRtc r → alarms_next (flagged r) ≡ alarms_next r
 unfolding alarms_next
 alarms_next-flagged r valid =
-    alarms_next-by (flagged r) (clock_of r) (form_of r) (alarm_of r) (time_of r) (clock_of-flagged r valid) (form_of-flagged r valid) (alarm_of-flagged r valid) (time_of-flagged r valid)
+    alarms_next-by (flagged r) (divider_of r) (form_of r) (alarm_of r) (time_of r) (divider_of-flagged r valid) (form_of-flagged r valid) (alarm_of-flagged r valid) (time_of-flagged r valid)
 
 -- setting PF goes past a pulse ..
-pub pulsed-flagged : (r : RtcParts) → IsRtc r → pulsed (flagged r) ≡ flagged (pulsed r)
-unfolding pulsed
-pulsed-flagged r valid =
-    let time : time_next (flagged r) ≡ time_next r = time_next-by (flagged r) (clock_of r) (form_of r) (time_of r) (clock_of-flagged r valid) (form_of-flagged r valid) (time_of-flagged r valid) in
-    let flags : flags_next (flagged r) ≡ flags_byte true (af_of r || alarms_next r) (uf_of r || updates_next (clock_of r)) =
-    flags_next-by (flagged r) (clock_of r) true (af_of r) (uf_of r) (clock_of-flagged r valid) (register_c-flagged r valid)
-    ∙ ap (λ (b : Bool). flags_byte true (af_of r || b) (uf_of r || updates_next (clock_of r))) (alarms_next-flagged r valid) in
-    ap (λ (d : DividerParts). moved (clock_pulsed d) (time_next (flagged r)) (flags_next (flagged r)) (flagged r)) (clock_of-flagged r valid)
-    ∙ ap (λ (t : TimeBytes). moved (clock_pulsed (clock_of r)) t (flags_next (flagged r)) (flagged r)) time
-    ∙ ap (λ (f : ℕ). moved (clock_pulsed (clock_of r)) (time_next r) f (flagged r)) flags
-    ∙ moved-flagged (clock_pulsed (clock_of r)) (time_next r) _ r valid
-    ∙ sym (flagged-moved (clock_pulsed (clock_of r)) (time_next r) (pf_of r || ticks_next (clock_of r)) (af_of r || alarms_next r) (uf_of r || updates_next (clock_of r)) r valid)
+pub rtc_pulsed-flagged : (r : RtcParts) → IsRtc r → rtc_pulsed (flagged r) ≡ flagged (rtc_pulsed r)
+unfolding rtc_pulsed
+rtc_pulsed-flagged r valid =
+    let time : time_next (flagged r) ≡ time_next r = time_next-by (flagged r) (divider_of r) (form_of r) (time_of r) (divider_of-flagged r valid) (form_of-flagged r valid) (time_of-flagged r valid) in
+    let flags : flags_next (flagged r) ≡ flags_byte true (af_of r || alarms_next r) (uf_of r || updates_next (divider_of r)) =
+    flags_next-by (flagged r) (divider_of r) true (af_of r) (uf_of r) (divider_of-flagged r valid) (register_c-flagged r valid)
+    ∙ ap (λ (b : Bool). flags_byte true (af_of r || b) (uf_of r || updates_next (divider_of r))) (alarms_next-flagged r valid) in
+    ap (λ (d : DividerParts). moved (pulsed d) (time_next (flagged r)) (flags_next (flagged r)) (flagged r)) (divider_of-flagged r valid)
+    ∙ ap (λ (t : TimeBytes). moved (pulsed (divider_of r)) t (flags_next (flagged r)) (flagged r)) time
+    ∙ ap (λ (f : ℕ). moved (pulsed (divider_of r)) (time_next r) f (flagged r)) flags
+    ∙ moved-flagged (pulsed (divider_of r)) (time_next r) _ r valid
+    ∙ sym (flagged-moved (pulsed (divider_of r)) (time_next r) (pf_of r || ticks_next (divider_of r)) (af_of r || alarms_next r) (uf_of r || updates_next (divider_of r)) r valid)
 
 -- .. and past n of them
-pub pulsed_times-flagged : (n : ℕ) (r : RtcParts) → IsRtc r → pulsed_times n (flagged r) ≡ flagged (pulsed_times n r)
-pulsed_times-flagged zero r valid = refl
-pulsed_times-flagged (suc n) r valid = ap pulsed (pulsed_times-flagged n r valid) ∙ pulsed-flagged (pulsed_times n r) (IsRtc-pulsed_times n r valid)
+pub rtc_pulsed_times-flagged : (n : ℕ) (r : RtcParts) → IsRtc r → rtc_pulsed_times n (flagged r) ≡ flagged (rtc_pulsed_times n r)
+rtc_pulsed_times-flagged zero r valid = refl
+rtc_pulsed_times-flagged (suc n) r valid = ap rtc_pulsed (rtc_pulsed_times-flagged n r valid) ∙ rtc_pulsed-flagged (rtc_pulsed_times n r) (IsRtc-rtc_pulsed_times n r valid)
 
 -- the alarms are the same with PF set
 pub alarms_in-flagged : (n : ℕ) (r : RtcParts) → IsRtc r → alarms_in (flagged r) n ≡ alarms_in r n
 alarms_in-flagged zero r valid = refl
 alarms_in-flagged (suc n) r valid =
-    let next : alarms_next (pulsed_times n (flagged r)) ≡ alarms_next (pulsed_times n r) =
-    ap alarms_next (pulsed_times-flagged n r valid) ∙ alarms_next-flagged (pulsed_times n r) (IsRtc-pulsed_times n r valid) in
+    let next : alarms_next (rtc_pulsed_times n (flagged r)) ≡ alarms_next (rtc_pulsed_times n r) =
+    ap alarms_next (rtc_pulsed_times-flagged n r valid) ∙ alarms_next-flagged (rtc_pulsed_times n r) (IsRtc-rtc_pulsed_times n r valid) in
     ap (λ (b : Bool). cond b (suc (alarms_in (flagged r) n)) (alarms_in (flagged r) n)) next
-    ∙ ap (λ (a : ℕ). cond (alarms_next (pulsed_times n r)) (suc a) a) (alarms_in-flagged n r valid)
+    ∙ ap (λ (a : ℕ). cond (alarms_next (rtc_pulsed_times n r)) (suc a) a) (alarms_in-flagged n r valid)

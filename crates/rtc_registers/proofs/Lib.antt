@@ -1,4 +1,4 @@
 pub mod Bytes
-pub mod Stretch
+pub mod Times
 pub mod Flags
 mod Rows

@@ -5,7 +5,8 @@ use Rattle.rtc_calendar.specs.declared.TimeBytes.{TimeBytes}
 use Rattle.rtc_calendar.specs.declared.Form.{Form}
 use Rattle.rtc_calendar.specs.declared.Alarm.{Alarm}
 use Rattle.rtc_cycle.specs.declared.parts.DividerParts.{DividerParts}
-use Rattle.rtc_cycle.specs.Divider.{IsDivider, uip_of, with_dv, with_rate, with_set}
+use Rattle.rtc_cycle.specs.Divider.{uip_of, with_dv, with_rate, with_set}
+use Rattle.rtc_cycle.specs.Parts.{IsDivider}
 use Rattle.rtc_registers.specs.declared.parts.RtcParts.{RtcParts}
 
 -- whether the byte has the bit of this weight
@@ -54,8 +55,8 @@ abbrev pub flags_byte : Bool → Bool → Bool → ℕ
 flags_byte pf af uf = (if pf then 64 else 0) + ((if af then 32 else 0) + (if uf then 16 else 0))
 
 -- the divider's fields: DV and RS of register A, SET of register B
-abbrev pub clock_of : RtcParts → DividerParts
-clock_of r = record { d = r.d; cycle = r.cycle; dv = register_a r / 16 % 8; rs = register_a r % 16; set = set_of r }
+abbrev pub divider_of : RtcParts → DividerParts
+divider_of r = record { d = r.d; cycle = r.cycle; dv = register_a r / 16 % 8; rs = register_a r % 16; set = set_of r }
 
 -- the form of the time bytes: DM and 24/12 of register B
 abbrev pub form_of : RtcParts → Form
@@ -93,11 +94,11 @@ pub record IsRtc (r : RtcParts) : Type 0 where
   pub register_c : register_c r ≡ flags_byte (pf_of r) (af_of r) (uf_of r)
   -- VRT alone ("Register D"): memory and time are always valid (the project's own choice)
   pub register_d : slice_index r.bytes 13 ≡ 128
-  pub clock : IsDivider (clock_of r)
+  pub clock : IsDivider (divider_of r)
 
 -- the fields at power on: DV 010, rate 6, BCD and 24 hours, all else 0 but the time (the project's own choice)
-unfoldable pub at_power_on : TimeBytes → RtcParts
-at_power_on t = record {
+unfoldable pub rtc_at_power_on : TimeBytes → RtcParts
+rtc_at_power_on t = record {
   index = 0;
   bytes = slice_set (slice_set (slice_set (with_time t (replicate 128 0)) 10 38) 11 2) 13 128;
   d = 16384;
@@ -105,14 +106,14 @@ at_power_on t = record {
 }
 
 -- the byte read at the index: UIP stands in A, IRQF in C
-unfoldable pub byte_read : RtcParts → ℕ
-byte_read r =
-    if r.index == 10 then register_a r + (if uip_of (clock_of r) then 128 else 0)
+unfoldable pub rtc_read : RtcParts → ℕ
+rtc_read r =
+    if r.index == 10 then register_a r + (if uip_of (divider_of r) then 128 else 0)
     else (if r.index == 12 then register_c r + (if irqf_of r then 128 else 0) else slice_index r.bytes r.index)
 
 -- a read of register C clears its flags
-unfoldable pub after_read : RtcParts → RtcParts
-after_read r = record r { bytes = if r.index == 12 then slice_set r.bytes 12 0 else r.bytes }
+unfoldable pub after_rtc_read : RtcParts → RtcParts
+after_rtc_read r = record r { bytes = if r.index == 12 then slice_set r.bytes 12 0 else r.bytes }
 
 -- register B as a write stores it: SET going from 0 to 1 clears UIE ("Register B", "SET")
 abbrev pub b_stored : ℕ → RtcParts → ℕ
@@ -123,17 +124,17 @@ abbrev pub stored : ℕ → RtcParts → ℕ
 stored byte r = if r.index == 10 then byte % 128 else (if r.index == 11 then b_stored byte r else byte)
 
 -- what a write does to the divider: one of A writes DV and RS, one of B writes SET
-abbrev pub clock_written : ℕ → RtcParts → DividerParts
-clock_written byte r =
-    if r.index == 10 then with_rate (byte % 16) (with_dv (byte / 16 % 8) (clock_of r))
-    else (if r.index == 11 then with_set (has_bit 128 byte) (clock_of r) else clock_of r)
+abbrev pub divider_written : ℕ → RtcParts → DividerParts
+divider_written byte r =
+    if r.index == 10 then with_rate (byte % 16) (with_dv (byte / 16 % 8) (divider_of r))
+    else (if r.index == 11 then with_set (has_bit 128 byte) (divider_of r) else divider_of r)
 
 -- the byte is written at the index; C and D are read only
-unfoldable pub written : ℕ → RtcParts → RtcParts
-written byte r = record r {
+unfoldable pub rtc_written : ℕ → RtcParts → RtcParts
+rtc_written byte r = record r {
   bytes = if r.index == 12 || r.index == 13 then r.bytes else slice_set r.bytes r.index (stored byte r);
-  d = (clock_written byte r).d;
-  cycle = (clock_written byte r).cycle;
+  d = (divider_written byte r).d;
+  cycle = (divider_written byte r).cycle;
 }
 
 -- PF is set

@@ -1,8 +1,8 @@
 //! The fields of the clock, and what its bytes mean.
 
 ghost use Rattle.std.specs.Prelude.{◌≡◌, ℕ, ◌<◌, ◌≤◌, ◌↔◌, ◌==◌, if◌then◌else◌, IsTrue};
-ghost use Rattle.rtc_cycle.specs.Divider.{IsDivider};
-ghost use Rattle.rtc_registers.specs.Registers.{IsRtc, has_bit, register_b, register_c, pf_of, af_of, uf_of, irqf_of, flags_byte, clock_of, form_of, time_of, alarm_of, with_time};
+ghost use Rattle.rtc_cycle.specs.Parts.{IsDivider};
+ghost use Rattle.rtc_registers.specs.Registers.{IsRtc, has_bit, register_b, register_c, pf_of, af_of, uf_of, irqf_of, flags_byte, divider_of, form_of, time_of, alarm_of, with_time};
 
 use rtc_calendar::{Alarm, Form, TimeBytes};
 use rtc_cycle::{Divider, DividerParts};
@@ -93,8 +93,8 @@ pub(crate) fn weighed(flag: bool, weight: u8) -> u8
 }
 
 /// The divider's fields.
-pub(crate) fn clock_of(r: &RtcParts) -> DividerParts
-    ensures { result ≡ clock_of r.now }
+pub(crate) fn divider_of(r: &RtcParts) -> DividerParts
+    ensures { result ≡ divider_of r.now }
 {
     let a = r.bytes[REGISTER_A as usize];
     DividerParts {
@@ -109,9 +109,9 @@ pub(crate) fn clock_of(r: &RtcParts) -> DividerParts
 /// The divider.
 pub(crate) fn clock(r: &RtcParts) -> Divider
     requires { IsRtc r.now }
-    ensures { result ≡ clock_of r.now }
+    ensures { result ≡ divider_of r.now }
 {
-    match Divider::of_parts(clock_of(r)) {
+    match Divider::of_parts(divider_of(r)) {
         Some(clock) => clock,
         None => unreachable!(),
     }
@@ -187,5 +187,5 @@ pub(crate) fn is_valid(r: &RtcParts) -> bool
         && r.bytes[REGISTER_A as usize] <= 127
         && has_only_flags(r)
         && r.bytes[REGISTER_D as usize] == VALID
-        && Divider::of_parts(clock_of(r)).is_some()
+        && Divider::of_parts(divider_of(r)).is_some()
 }

@@ -1,8 +1,9 @@
 //! What reads, writes and pulses do to the fields.
 
 ghost use Rattle.std.specs.Prelude.{◌≡◌, ℕ, ◌+◌, ◌-◌, ◌*◌, ◌/◌, ◌%◌, ◌^◌, ◌<◌, ◌≤◌, ◌||◌, ◌==◌, if◌then◌else◌, Some, None, nat_lt, slice_set};
-ghost use Rattle.rtc_cycle.specs.Divider.{IsDivider, with_dv, with_rate, with_set, updates_in};
-ghost use Rattle.rtc_registers.specs.Registers.{IsRtc, has_bit, clock_of, set_of, pf_of, af_of, uf_of, flags_byte, byte_read, after_read, b_stored, stored, clock_written, written, flagged, at_power_on};
+ghost use Rattle.rtc_cycle.specs.Divider.{with_dv, with_rate, with_set, updates_in};
+ghost use Rattle.rtc_cycle.specs.Parts.{IsDivider};
+ghost use Rattle.rtc_registers.specs.Registers.{IsRtc, has_bit, divider_of, set_of, pf_of, af_of, uf_of, flags_byte, rtc_read, after_rtc_read, b_stored, stored, divider_written, rtc_written, flagged, rtc_at_power_on};
 ghost use Rattle.rtc_registers.specs.Pulses.{moved, second_apart};
 
 use crate::parts::{
@@ -25,11 +26,11 @@ const D_AT_POWER_ON: u16 = 16_384;
 const SECOND: u64 = 32_768;
 
 /// The byte that the data port reads.
-#[tactic(auto, unfolding(crate::specs::Registers::byte_read))]
-pub(crate) fn byte_read(r: &RtcParts) -> u8
+#[tactic(auto, unfolding(crate::specs::Registers::rtc_read))]
+pub(crate) fn rtc_read(r: &RtcParts) -> u8
     requires { IsRtc r.now }
-    ensures value { result ≡ byte_read r.now }
-    ensures quiet { r.now.index ≡ 10 → result < 128 → (n : ℕ) → n ≤ 73 → updates_in (clock_of r.now) n ≡ 0 }
+    ensures value { result ≡ rtc_read r.now }
+    ensures quiet { r.now.index ≡ 10 → result < 128 → (n : ℕ) → n ≤ 73 → updates_in (divider_of r.now) n ≡ 0 }
 {
     match r.index {
         REGISTER_A => r.bytes[REGISTER_A as usize] + parts::weighed(parts::clock(r).uip(), SHOWN),
@@ -49,9 +50,9 @@ fn replaced(r: &RtcParts, place: u8, byte: u8) -> RtcParts
 }
 
 /// The fields after a read.
-#[tactic(auto, unfolding(crate::specs::Registers::after_read))]
-pub(crate) fn after_read(r: &RtcParts) -> RtcParts
-    ensures { result ≡ after_read r.now }
+#[tactic(auto, unfolding(crate::specs::Registers::after_rtc_read))]
+pub(crate) fn after_rtc_read(r: &RtcParts) -> RtcParts
+    ensures { result ≡ after_rtc_read r.now }
 {
     if r.index == REGISTER_C {
         replaced(r, REGISTER_C, 0)
@@ -130,9 +131,9 @@ fn set_written(clock: Divider, on: bool) -> Divider
 }
 
 /// The divider's fields after a write.
-fn clock_written(r: &RtcParts, byte: u8) -> DividerParts
+fn divider_written(r: &RtcParts, byte: u8) -> DividerParts
     requires { IsRtc r.now }
-    ensures value { result ≡ clock_written byte r.now }
+    ensures value { result ≡ divider_written byte r.now }
     ensures valid { IsDivider result }
 {
     let clock = parts::clock(r);
@@ -144,13 +145,13 @@ fn clock_written(r: &RtcParts, byte: u8) -> DividerParts
 }
 
 /// The fields after a write.
-#[tactic(auto, unfolding(crate::specs::Registers::written))]
-pub(crate) fn written(r: &RtcParts, byte: u8) -> RtcParts
+#[tactic(auto, unfolding(crate::specs::Registers::rtc_written))]
+pub(crate) fn rtc_written(r: &RtcParts, byte: u8) -> RtcParts
     requires { IsRtc r.now }
-    ensures value { result ≡ written byte r.now }
+    ensures value { result ≡ rtc_written byte r.now }
     ensures valid { IsRtc result }
 {
-    let clock = clock_written(r, byte);
+    let clock = divider_written(r, byte);
     RtcParts {
         index: r.index,
         bytes: bytes_written(r, byte),
@@ -201,9 +202,9 @@ pub(crate) fn update_pulse(first: Option<u64>, matched: Option<u64>) -> Option<u
 }
 
 /// The fields at power on.
-#[tactic(auto, unfolding(crate::specs::Registers::at_power_on))]
-pub(crate) fn at_power_on(time: TimeBytes) -> RtcParts
-    ensures { result ≡ at_power_on time }
+#[tactic(auto, unfolding(crate::specs::Registers::rtc_at_power_on))]
+pub(crate) fn rtc_at_power_on(time: TimeBytes) -> RtcParts
+    ensures { result ≡ rtc_at_power_on time }
 {
     let mut bytes = [0; 128];
     parts::write_time(&mut bytes, time);

@@ -3,8 +3,8 @@
 ghost use Rattle.std.specs.Prelude.{◌≡◌, ℕ, ◌<◌, ◌≤◌, ◌%◌, ◌↔◌, IsSome, IfSome};
 ghost use Rattle.clk_units.specs.Events.{IsFirst};
 ghost use Rattle.rtc_cycle.specs.Divider.{ticks_in, updates_in};
-ghost use Rattle.rtc_registers.specs.Registers.{IsRtc, at_power_on, clock_of, irqf_of, pf_of, pie_of, byte_read, after_read, written, flagged};
-ghost use Rattle.rtc_registers.specs.Pulses.{pulsed_times, alarms_in};
+ghost use Rattle.rtc_registers.specs.Registers.{IsRtc, rtc_at_power_on, divider_of, irqf_of, pf_of, pie_of, rtc_read, after_rtc_read, rtc_written, flagged};
+ghost use Rattle.rtc_registers.specs.Pulses.{rtc_pulsed_times, alarms_in};
 
 use crate::events::RtcEvents;
 use crate::parts::{self, PERIODIC, RtcParts};
@@ -36,10 +36,10 @@ impl Rtc {
     /// The clock at power on, with these time bytes: the divider runs at rate 6, time is BCD and of 24 hours,
     /// nothing may interrupt, and every other byte is 0 (this project's own choice).
     pub fn power_on(bytes: TimeBytes) -> Rtc
-        ensures { result ≡ at_power_on bytes }
+        ensures { result ≡ rtc_at_power_on bytes }
     {
         Rtc {
-            parts: registers::at_power_on(bytes),
+            parts: registers::rtc_at_power_on(bytes),
         }
     }
 
@@ -75,12 +75,12 @@ impl Rtc {
     /// that shows UIP 0 the time bytes don't change for 73 pulses at least, of which 8 are promised by the
     /// data sheet (244 microseconds).
     pub fn read(&mut self) -> u8
-        ensures value { result ≡ byte_read self.old }
-        ensures quiet { self.old.index ≡ 10 → result < 128 → (n : ℕ) → n ≤ 73 → updates_in (clock_of self.old) n ≡ 0 }
-        ensures state { self.new ≡ after_read self.old }
+        ensures value { result ≡ rtc_read self.old }
+        ensures quiet { self.old.index ≡ 10 → result < 128 → (n : ℕ) → n ≤ 73 → updates_in (divider_of self.old) n ≡ 0 }
+        ensures state { self.new ≡ after_rtc_read self.old }
     {
-        let byte = registers::byte_read(&self.parts);
-        self.parts = registers::after_read(&self.parts);
+        let byte = registers::rtc_read(&self.parts);
+        self.parts = registers::after_rtc_read(&self.parts);
         byte
     }
 
@@ -88,20 +88,20 @@ impl Rtc {
     /// turns SET from 0 to 1 clears UIE and abandons an update cycle (that it abandons one is this project's
     /// own choice); written again while it is 1, UIE stands as written.
     pub fn write(&mut self, byte: u8)
-        ensures { self.new ≡ written byte self.old }
+        ensures { self.new ≡ rtc_written byte self.old }
     {
-        self.parts = registers::written(&self.parts, byte);
+        self.parts = registers::rtc_written(&self.parts, byte);
     }
 
     /// Lets `n` pulses of the crystal pass, which set flags and change the time bytes, and tells their events.
     pub fn pulses(&mut self, n: u64) -> RtcEvents
-        ensures state { self.new ≡ pulsed_times n self.old }
-        ensures ticks { result.cycle.ticks ≡ ticks_in (clock_of self.old) n }
+        ensures state { self.new ≡ rtc_pulsed_times n self.old }
+        ensures ticks { result.cycle.ticks ≡ ticks_in (divider_of self.old) n }
         ensures few_ticks { result.cycle.ticks ≤ n }
-        ensures first_tick { IsFirst (ticks_in (clock_of self.old)) n result.cycle.first_tick }
-        ensures updates { result.cycle.updates ≡ updates_in (clock_of self.old) n }
+        ensures first_tick { IsFirst (ticks_in (divider_of self.old)) n result.cycle.first_tick }
+        ensures updates { result.cycle.updates ≡ updates_in (divider_of self.old) n }
         ensures few_updates { result.cycle.updates ≤ n }
-        ensures first_update { IsFirst (updates_in (clock_of self.old)) n result.cycle.first_update }
+        ensures first_update { IsFirst (updates_in (divider_of self.old)) n result.cycle.first_update }
         ensures first_alarm { IsFirst (alarms_in self.old) n result.first_alarm }
     {
         let mut clock = parts::clock(&self.parts);

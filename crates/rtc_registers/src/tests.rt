@@ -1,5 +1,5 @@
 use super::*;
-use crate::parts::{alarm_of, clock_of, form_of, time_of, write_time};
+use crate::parts::{alarm_of, divider_of, form_of, time_of, write_time};
 use rtc_calendar::{TimeBytes, after, matches};
 use rtc_cycle::{CycleEvents, Divider};
 
@@ -254,7 +254,7 @@ fn many_pulses_are_single_ones(rt: HostRuntime) {
         change(&mut clock, x >> 32);
         let n = stretch(x >> 16);
         let before = clock.parts();
-        let divider = Divider::of_parts(clock_of(&before)).expect(&rt, "a clock's divider");
+        let divider = Divider::of_parts(divider_of(&before)).expect(&rt, "a clock's divider");
         let (parts, events) = pulses_one_by_one(before, divider, n);
         assert_eq!(rt; clock.pulses(n), events, "{n} pulses of {before:?}");
         assert!(rt; clock.parts() == parts, "{n} pulses of {before:?}");

@@ -5,7 +5,7 @@ use Rattle.std.proofs.lemmas.Bool.{cases_lt, cases_Bool, lt-ltb, le-ltb, le-leb,
 use Rattle.clk_units.specs.Events.{CountsUp, IsFirst}
 use Rattle.clk_units.specs.Pulses.{pulses_by, pulses_from, time_of}
 use Rattle.clk_units.proofs.Events.{CountsUp-mono, counts-at, first_tick, first_tick-none}
-use Rattle.irq_edges.specs.Levels.{is_up_at}
+use Rattle.irq_edges.specs.Rises.{is_up_at}
 use Rattle.tick_policy.specs.declared.line.TickParts.{TickParts}
 use Rattle.tick_policy.specs.Line.{ticked, ticked_times, is_waiting, caught_up}
 use Rattle.tick_policy.specs.Stretch.{ticked_where, caught_up_where, line_after, IsFirstPoint, IsFirstTick, is_caught, line_end, up_from, IsStretch}

@@ -1,6 +1,6 @@
 //! A tick line over a stretch of nanoseconds in which nobody acknowledges it.
 ghost use Rattle.std.specs.Prelude.{◌≡◌, ℕ, ◌+◌, ◌-◌, ◌^◌, ◌<◌, ◌≤◌, ◌&&◌, if◌then◌else◌, Option, Some};
-ghost use Rattle.irq_edges.specs.Levels.{is_up_at};
+ghost use Rattle.irq_edges.specs.Rises.{is_up_at};
 ghost use Rattle.tick_policy.specs.Line.{is_waiting};
 ghost use Rattle.tick_policy.specs.Stretch.{caught_up_where, is_caught, line_end, up_from, line_after, IsStretch};
 

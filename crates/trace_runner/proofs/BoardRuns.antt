@@ -7,7 +7,7 @@ use Rattle.clk_units.proofs.Pulses.{time_of-le, pulses_from-zero, pulses_from-mo
 use Rattle.clk_units.proofs.Events.{CountsUp-mono, first_tick}
 use Rattle.pit_counter.specs.declared.parts.CounterParts.{CounterParts}
 use Rattle.pit_counter.specs.Mode.{mode_of}
-use Rattle.pit_counter.specs.Programming.{powered_on, programmed}
+use Rattle.pit_counter.specs.Programming.{counter_at_power_on, programmed}
 use Rattle.pit_counter.specs.Table.{effect_in, pulsed, pulsed_times, rises_in, rises_next}
 use Rattle.pit_readback.specs.declared.parts.PitParts.{PitParts}
 use Rattle.pit_readback.specs.Pit.{pit_pulsed, pit_pulsed_times, counter_of}
@@ -18,13 +18,13 @@ use Rattle.trace_runner.specs.Division.{parted}
 use Rattle.trace_runner.specs.declared.board.Board.{Board}
 
 -- a pulse leaves a counter at power on as it is
-pulsed-powered_on : powered_on true ≡ pulsed (powered_on true)
+pulsed-counter_at_power_on : counter_at_power_on true ≡ pulsed (counter_at_power_on true)
 unfolding pulsed effect_in mode_of programmed
-pulsed-powered_on = refl
+pulsed-counter_at_power_on = refl
 
 -- counter 0 takes the pulse of all ..
-zeroth-map : (cs : List CounterParts) → slice_index_or (map pulsed cs) 0 (powered_on true) ≡ pulsed (slice_index_or cs 0 (powered_on true))
-zeroth-map [] = pulsed-powered_on
+zeroth-map : (cs : List CounterParts) → slice_index_or (map pulsed cs) 0 (counter_at_power_on true) ≡ pulsed (slice_index_or cs 0 (counter_at_power_on true))
+zeroth-map [] = pulsed-counter_at_power_on
 zeroth-map (c ∷ cs) = refl
 
 -- .. and all their pulses
@@ -213,8 +213,3 @@ rise-is n b first up is = by_line b.line_up refl first is
 pub first_inside : (now to pulses : ℕ) (count : ℕ → ℕ) (first : Option ℕ) → to < 576460752303423488 → pulses + pulses_by pit_hz now ≡ pulses_by pit_hz to → IsFirst count pulses first → IfSome first (λ k. time_of pit_hz (pulses_by pit_hz now + k) < 18446744073709551616)
 first_inside now to pulses count None small joins is = tt
 first_inside now to pulses count (Some k) small joins is = omega (arith, time_of-le pit_hz (pulses_by pit_hz now + k) to (omega arith) (omega (arith, is.1)))
-
--- there is a first exactly where there are events
-pub is_some-first : (count : ℕ → ℕ) (n : ℕ) (first : Option ℕ) → CountsUp count → IsFirst count n first → is_some first ≡ ltb 0 (count n)
-is_some-first count n None up is = sym (le-ltb 0 (count n) (omega (arith, is)))
-is_some-first count n (Some k) up is = sym (lt-ltb 0 (count n) (omega (arith, CountsUp-mono count up k n is.1, is.3)))

@@ -4,7 +4,7 @@ use Rattle.clk_units.specs.Pulses.{falls_at}
 use Rattle.pit_counter.specs.Table.{has_risen, rises_next}
 use Rattle.trace_runner.specs.Lines.{first_of}
 use Rattle.trace_runner.specs.Clock.{pit_hz}
-use Rattle.pit_readback.specs.Pit.{pit_powered_on, pit_pulsed, counter_of}
+use Rattle.pit_readback.specs.Pit.{pit_at_power_on, pit_pulsed, counter_of}
 use Rattle.pit_readback.specs.Ports.{port_written, port_read, after_port_read, written_61, read_of_61}
 use Rattle.trace_runner.specs.declared.board.Board.{Board}
 use Rattle.trace_runner.specs.declared.record.Job.{Job}
@@ -13,7 +13,7 @@ use Rattle.trace_runner.specs.declared.record.Record.{Record}
 
 -- a board at power on, at nanosecond 0
 abbrev pub powered_on : Board
-powered_on = record { pit = pit_powered_on; time = 0; accesses = 0; line_up = false }
+powered_on = record { pit = pit_at_power_on; time = 0; accesses = 0; line_up = false }
 
 -- the nanosecond t: where a pulse of the 8254 falls, its counters take it; line 0 goes up where OUT of counter 0 rises, and stays up
 unfoldable pub at_nanosecond : ℕ → Board → Board

@@ -1,2 +1,3 @@
 pub mod Ratio
+pub mod Offset
 pub mod Tsc

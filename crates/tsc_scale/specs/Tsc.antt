@@ -1,10 +1,11 @@
 -- A guest's TSC and its register TSC_ADJUST, all modulo 2^64.
-use Rattle.std.specs.Prelude.{ℕ, ◌+◌, ◌-◌, ◌*◌, ◌/◌, ◌%◌, ◌^◌}
+use Rattle.std.specs.Prelude.{ℕ, ◌+◌, ◌-◌, ◌%◌, ◌^◌}
 use Rattle.tsc_scale.specs.declared.Tsc.{Tsc}
+use Rattle.tsc_scale.specs.Offset.{tsc_by}
 
--- the TSC at count h of the host's counter: Intel's manual, volume 3, "use TSC scaling"
-unfoldable pub tsc_at : Tsc → ℕ → ℕ → ℕ
-tsc_at tsc h ratio = (h * ratio / 2 ^ 48 + tsc.offset) % 2 ^ 64
+-- the TSC at count h of the host's counter
+abbrev pub tsc_at : Tsc → ℕ → ℕ → ℕ
+tsc_at tsc h ratio = tsc_by tsc.offset h ratio
 
 -- how far one number lies above another
 abbrev pub difference : ℕ → ℕ → ℕ

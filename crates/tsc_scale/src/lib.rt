@@ -16,19 +16,22 @@
 //! ```
 #![tactic(auto)]
 
-ghost use Rattle.std.specs.Prelude.{◌≡◌, ℕ, ◌+◌, ◌*◌, ◌/◌, ◌%◌, ◌^◌, ◌≤◌};
+ghost use Rattle.std.specs.Prelude.{◌≡◌, ℕ, ◌+◌, ◌*◌, ◌/◌, ◌%◌, ◌^◌};
+ghost use Rattle.clk_units.specs.Ranges.{IsKhz};
 ghost use Rattle.tsc_scale.specs.Ratio.{ratio_of};
+ghost use Rattle.tsc_scale.specs.Offset.{tsc_by};
+
+#[cfg(test)]
+mod tests;
 
 /// How many bits of a ratio stand behind the point.
 const FRACTION_BITS: u32 = 48;
 
 /// The ratio of a guest's rate to its host's, rounded down, with 48 bits behind the point. Each rate is
-/// 100,000 to 10,000,000 kHz (this project's own range).
+/// `clk_units::KHZ_MIN` to `clk_units::KHZ_MAX`, in kHz.
 pub fn ratio(guest_khz: u64, host_khz: u64) -> u64
-    requires guest_slow { 100000 ≤ guest_khz }
-    requires guest_fast { guest_khz ≤ 10000000 }
-    requires host_slow { 100000 ≤ host_khz }
-    requires host_fast { host_khz ≤ 10000000 }
+    requires guest { IsKhz guest_khz }
+    requires host { IsKhz host_khz }
     ensures { result ≡ ratio_of guest_khz host_khz }
 {
     ((u128::from(guest_khz) << FRACTION_BITS) / u128::from(host_khz)) as u64
@@ -36,6 +39,7 @@ pub fn ratio(guest_khz: u64, host_khz: u64) -> u64
 
 /// The two numbers that fix the TSC of one processor of a guest.
 #[derive(Clone, Copy, Debug, PartialEq, Eq)]
+#[repr(C)]
 pub struct Tsc {
     /// What is added to the scaled counter, modulo 2^64.
     pub offset: u64,
@@ -47,15 +51,14 @@ impl Tsc {
     ghost use Rattle.tsc_scale.specs.Tsc.{tsc_at, moved_by, difference};
 
     /// The TSC at count `h` of the host's counter, modulo 2^64.
-    #[tactic(auto, unfolding(crate::specs::Tsc::tsc_at))]
     pub fn read(&self, h: u64, ratio: u64) -> u64
         ensures { result ≡ tsc_at self.now h ratio }
     {
-        scaled(h, ratio).wrapping_add(self.offset)
+        tsc_by(self.offset, h, ratio)
     }
 
     /// Sets the TSC to `v` at count `h` of the host's counter; TSC_ADJUST moves with it.
-    #[tactic(auto, unfolding(crate::specs::Tsc::tsc_at))]
+    #[tactic(auto, unfolding(crate::specs::Offset::tsc_by))]
     pub fn write_tsc(&mut self, h: u64, ratio: u64, v: u64)
         ensures moved { self.new ≡ moved_by (difference v (tsc_at self.old h ratio)) self.old }
         ensures written { tsc_at self.new h ratio ≡ v }
@@ -82,44 +85,19 @@ impl Tsc {
     }
 }
 
+/// The TSC that an offset alone gives at count `h` of the host's counter, modulo 2^64. A page of kvmclock is read
+/// by the offset with which it was published.
+#[tactic(auto, unfolding(crate::specs::Offset::tsc_by))]
+pub fn tsc_by(offset: u64, h: u64, ratio: u64) -> u64
+    ensures { result ≡ tsc_by offset h ratio }
+{
+    scaled(h, ratio).wrapping_add(offset)
+}
+
 /// The host's counter in counts of the guest, modulo 2^64.
 fn scaled(h: u64, ratio: u64) -> u64
     ensures { result ≡ h * ratio / 2 ^ 48 % 2 ^ 64 }
 {
     let counts = (u128::from(h) * u128::from(ratio)) >> FRACTION_BITS;
     (counts % (1 << u64::BITS)) as u64
-}
-
-#[cfg(test)]
-mod tests {
-    use super::*;
-
-    #[test]
-    fn a_write_to_either_register_moves_both(rt: HostRuntime) {
-        let even = ratio(1_000_000, 1_000_000);
-        let mut tsc = Tsc {
-            offset: 0,
-            adjust: 0,
-        };
-        tsc.write_tsc(1_000, even, 0);
-        assert_eq!(rt; tsc.read(1_500, even), 0x1f4);
-        assert_eq!(rt; tsc.adjust, 0xffff_ffff_ffff_fc18);
-        tsc.write_adjust(0);
-        assert_eq!(rt; tsc.read(1_500, even), 0x5dc);
-    }
-
-    #[test]
-    fn ratios_at_both_ends_of_the_rates(rt: HostRuntime) {
-        let tsc = Tsc {
-            offset: 0,
-            adjust: 0,
-        };
-        let fastest = ratio(10_000_000, 100_000);
-        assert_eq!(rt; fastest, 0x64_0000_0000_0000);
-        assert_eq!(rt; tsc.read(u64::MAX, fastest), u64::MAX - 99);
-        let slowest = ratio(100_000, 10_000_000);
-        assert_eq!(rt; slowest, 2_814_749_767_106);
-        assert_eq!(rt; tsc.read(200, slowest), 1);
-        assert_eq!(rt; tsc.read(300, ratio(1_000_000, 3_000_000)), 99);
-    }
 }

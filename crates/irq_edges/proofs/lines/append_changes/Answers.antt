@@ -6,13 +6,20 @@ use Rattle.irq_edges.proofs.lines.append_changes.Goals.{then-before-place, else-
 
 pub push-requires : goal.push-requires
 push-requires c =
-    let first = changes-drop c.args.at c.args.lines.now c.args.before.now c.args.after.now c.loop-place.place false false c.loop-place-test.true c.requires.levels_before c.requires.levels_after in
-    room_for c.loop-place.into _ c.args.into.now _ _ _ _ c.loop-place.invariant (rw (change-differs c.args.at _ _ _ c.if-before-place.true) at first) c.requires.room
+    let first =
+    changes-drop c.args.at c.args.lines.now c.args.before.now c.args.after.now c.loop-place.place false false
+    c.loop-place-test.true c.requires.levels_before c.requires.levels_after in
+    room_for c.loop-place.into _ c.args.into.now _ _ _ _ c.loop-place.invariant
+    (rw (change-differs c.args.at _ _ _ c.if-before-place.true) at first) c.requires.room
 
 pub loop-place-preserved : goal.loop-place-preserved
 loop-place-preserved c =
-    let first = changes-drop c.args.at c.args.lines.now c.args.before.now c.args.after.now c.loop-place.place false false c.loop-place-test.true c.requires.levels_before c.requires.levels_after in
+    let first =
+    changes-drop c.args.at c.args.lines.now c.args.before.now c.args.after.now c.loop-place.place false false
+    c.loop-place-test.true c.requires.levels_before c.requires.levels_after in
     elim c.if-before-place.branch [
-      | then-before-place w ↦ rw (w.into-is, w.push.ensures) (joined c.loop-place.into _ _ _ _ c.loop-place.invariant (rw (change-differs c.args.at _ _ _ w.if-before-place.true) at first))
-      | else-before-place w ↦ rw (w.into-is, ← append-nil c.loop-place.into) (joined c.loop-place.into _ _ _ _ c.loop-place.invariant (rw (change-same c.args.at _ _ _ w.if-before-place.false) at first))
+      | then-before-place w ↦ rw (w.into-is, w.push.ensures)
+          (joined c.loop-place.into _ _ _ _ c.loop-place.invariant (rw (change-differs c.args.at _ _ _ w.if-before-place.true) at first))
+      | else-before-place w ↦ rw (w.into-is, ← append-nil c.loop-place.into)
+          (joined c.loop-place.into _ _ _ _ c.loop-place.invariant (rw (change-same c.args.at _ _ _ w.if-before-place.false) at first))
     ]

@@ -1,5 +1,5 @@
 use Rattle.std.proofs.Common.{◌≡◌, ◌++◌, drop}
-use Rattle.irq_edges.specs.Changes.{changes}
+use Rattle.irq_edges.specs.Lines.{changes}
 use Rattle.irq_edges.proofs.lines.append_changes.Given as goal
 
 -- with the edges of the lines that are left, they are all edges

@@ -1,5 +1,5 @@
 use Rattle.std.proofs.Common.{length-append, arith}
-use Rattle.irq_edges.specs.Changes.{line_numbers}
+use Rattle.irq_edges.specs.Lines.{line_numbers}
 use Rattle.irq_edges.proofs.EdgesOf.{length-changes-le}
 use Rattle.irq_edges.proofs.lines.changes.Goals as goal
 

@@ -1,7 +1,7 @@
 use Rattle.std.proofs.Common.{◌≡◌, ◌-◌, ◌++◌, Some, None, sym, ap, ◌∙◌, arith, append_assoc, length-append}
 use Rattle.std.proofs.lemmas.List.{append-nil}
-use Rattle.irq_edges.specs.Changes.{line_numbers, changes}
-use Rattle.irq_edges.specs.Levels.{levels_at, IsNextRise}
+use Rattle.irq_edges.specs.Lines.{line_numbers, changes}
+use Rattle.irq_edges.specs.Rises.{levels_at, IsNextRise}
 use Rattle.irq_edges.proofs.UpFrom.{length-changes, down_at-le}
 use Rattle.irq_edges.proofs.RisesOf.{rises_of-zero, rises_of-on, rises_of-end}
 use Rattle.irq_edges.proofs.rises.emit.Goals as goal
@@ -20,26 +20,42 @@ pub append_changes-requires-clause-room : goal.append_changes-requires-clause-ro
 append_changes-requires-clause-room c =
     let next : IsNextRise c.args.times.now c.loop-rise.at c.args.to (Some c.in-Some.rise) = c.in-Some.ensures in
     rw (c.lines_at-before.ensures, c.lines_at-after.ensures)
-    (omega (arith, next.0, c.loop-rise.invariant.room, c.requires.room, length-changes c.in-Some.rise c.loop-rise.at c.in-Some.rise line_numbers c.args.times.now (omega (arith, next.0))))
+    (omega (
+      arith,
+      next.0,
+      c.loop-rise.invariant.room,
+      c.requires.room,
+      length-changes c.in-Some.rise c.loop-rise.at c.in-Some.rise line_numbers c.args.times.now (omega (arith, next.0)),
+    ))
 
 pub loop-rise-preserved : goal.loop-rise-preserved
 loop-rise-preserved c =
     let next : IsNextRise c.args.times.now c.loop-rise.at c.args.to (Some c.in-Some.rise) = c.in-Some.ensures in
-    let more : c.append_changes.new.into ≡ c.loop-rise.into ++ changes c.in-Some.rise line_numbers (levels_at c.loop-rise.at c.args.times.now) (levels_at c.in-Some.rise c.args.times.now) =
+    let more : c.append_changes.new.into ≡ c.loop-rise.into ++ changes c.in-Some.rise line_numbers (levels_at c.loop-rise.at c.args.times.now)
+    (levels_at c.in-Some.rise c.args.times.now) =
     rw (c.lines_at-before.ensures, c.lines_at-after.ensures) at c.append_changes.ensures in
     record {
       forward = omega (arith, next.0, c.loop-rise.invariant.forward);
       inside = next.1;
       edges =
-          rw (more, c.loop-rise.invariant.edges, rises_of-on line_numbers c.args.times.now c.args.from c.loop-rise.at c.args.to c.in-Some.rise c.loop-rise.invariant.forward next)
+          rw (
+            more,
+            c.loop-rise.invariant.edges,
+            rises_of-on line_numbers c.args.times.now c.args.from c.loop-rise.at c.args.to c.in-Some.rise c.loop-rise.invariant.forward next,
+          )
           (append_assoc c.args.into.now _ _);
       room =
           rw (more, length-append)
-          (omega (arith, c.loop-rise.invariant.room, length-changes c.in-Some.rise c.loop-rise.at c.in-Some.rise line_numbers c.args.times.now (omega (arith, next.0))));
+          (omega (
+            arith,
+            c.loop-rise.invariant.room,
+            length-changes c.in-Some.rise c.loop-rise.at c.in-Some.rise line_numbers c.args.times.now (omega (arith, next.0)),
+          ));
     }
 
 pub returns-clause-appended : goal.returns-clause-appended
 returns-clause-appended c =
     let none : IsNextRise c.args.times.now c.loop-rise.at c.args.to None = c.in_default.ensures in
     c.loop-rise.invariant.edges
-    ∙ ap (λ es. c.args.into.now ++ es) (sym (rises_of-end line_numbers c.args.times.now c.args.from c.loop-rise.at c.args.to c.loop-rise.invariant.forward c.loop-rise.invariant.inside none))
+    ∙ ap (λ es. c.args.into.now ++ es)
+    (sym (rises_of-end line_numbers c.args.times.now c.args.from c.loop-rise.at c.args.to c.loop-rise.invariant.forward c.loop-rise.invariant.inside none))

@@ -1,6 +1,7 @@
 use Rattle.std.proofs.Common.{◌≡◌, ◌+◌, ◌-◌, ◌≤◌, ◌++◌, length}
-use Rattle.irq_edges.specs.Changes.{line_numbers}
-use Rattle.irq_edges.specs.Levels.{down_at, rises_of}
+use Rattle.irq_edges.specs.Lines.{line_numbers}
+use Rattle.irq_edges.specs.Rises.{rises_of}
+use Rattle.irq_edges.specs.private.Rises.{down_at}
 use Rattle.irq_edges.proofs.rises.emit.Given as goal
 
 abbrev pub invariant-loop-rise : goal.invariant-loop-rise

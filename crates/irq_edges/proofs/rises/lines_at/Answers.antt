@@ -1,6 +1,6 @@
 use Rattle.std.proofs.Common.{◌≡◌, ◌∙◌, refl, sym, ap, length-set, take, map, arith, None}
 use Rattle.std.proofs.lemmas.List.{take_more_set, map_more, take_all}
-use Rattle.irq_edges.specs.Levels.{is_up_at}
+use Rattle.irq_edges.specs.Rises.{is_up_at}
 use Rattle.irq_edges.proofs.rises.lines_at.Goals as goal
 
 pub loop-place-preserved : goal.loop-place-preserved
@@ -11,7 +11,12 @@ loop-place-preserved c =
     record {
       six = length-set levels place c.is_up_at.result ∙ c.loop-place.invariant.six;
       done =
-          rw (take_more_set levels place c.is_up_at.result (omega arith), map_more (is_up_at c.args.t) times place None (omega arith), c.loop-place.invariant.done, c.is_up_at.ensures) refl;
+          rw (
+            take_more_set levels place c.is_up_at.result (omega arith),
+            map_more (is_up_at c.args.t) times place None (omega arith),
+            c.loop-place.invariant.done,
+            c.is_up_at.ensures,
+          ) refl;
     }
 
 pub returns : goal.returns

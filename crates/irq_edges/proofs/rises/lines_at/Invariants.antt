@@ -1,5 +1,5 @@
 use Rattle.std.proofs.Common.{◌≡◌, length, take, map}
-use Rattle.irq_edges.specs.Levels.{is_up_at}
+use Rattle.irq_edges.specs.Rises.{is_up_at}
 use Rattle.irq_edges.proofs.rises.lines_at.Given as goal
 
 abbrev pub invariant-loop-place : goal.invariant-loop-place

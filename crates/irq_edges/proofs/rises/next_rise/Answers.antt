@@ -1,6 +1,6 @@
 use Rattle.std.proofs.Common.{◌≡◌, ℕ, List, take, Option, None, subst, arith}
 use Rattle.std.proofs.lemmas.List.{take_more, take_all}
-use Rattle.irq_edges.specs.Levels.{IsNextRise}
+use Rattle.irq_edges.specs.Rises.{IsNextRise}
 use Rattle.irq_edges.proofs.NextRise.{IsNextRise-push}
 use Rattle.irq_edges.proofs.rises.next_rise.Goals as goal
 

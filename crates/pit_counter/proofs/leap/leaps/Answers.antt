@@ -1,6 +1,6 @@
 use Rattle.std.proofs.Common.{◌≡◌, ◌+◌, ℕ, Option, sym, ap, ◌∙◌, arith, subst, zero-le}
 use Rattle.clk_units.specs.Events.{IsFirst}
-use Rattle.pit_counter.specs.Conditions.{IsCounter}
+use Rattle.pit_counter.specs.Parts.{IsCounter}
 use Rattle.pit_counter.specs.Table.{pulsed_times, rises_in}
 use Rattle.pit_counter.specs.declared.parts.CounterParts.{CounterParts}
 use Rattle.pit_counter.proofs.Keeps.{IsCounter-ce}
@@ -11,14 +11,14 @@ use Rattle.pit_counter.proofs.leap.leaps.Goals as goal
 pub loop-pulses-init : goal.loop-pulses-init
 loop-pulses-init c = record {
   within = zero-le;
-  stands = c.requires;
+  valid = c.requires;
   state = sym (pulsed_times-zero c.args.p);
   count = sym (rises_in-zero c.args.p);
   first = rises_in-zero c.args.p;
 }
 
 pub next_leap-next-requires-clause-below : goal.next_leap-next-requires-clause-below
-next_leap-next-requires-clause-below c = IsCounter-ce c.loop-pulses.parts c.loop-pulses.invariant.stands
+next_leap-next-requires-clause-below c = IsCounter-ce c.loop-pulses.parts c.loop-pulses.invariant.valid
 
 pub joined-rises-requires-clause-fits : goal.joined-rises-requires-clause-fits
 joined-rises-requires-clause-fits c =
@@ -35,7 +35,7 @@ loop-pulses-preserved c =
     subst (λ (d : CounterParts). IsFirst (rises_in d) c.next_leap-next.result.pulses c.next_leap-next.result.rises.first) c.loop-pulses.invariant.state c.next_leap-next.ensures.first in
     record {
       within = omega arith;
-      stands = subst (λ (d : CounterParts). IsCounter d) (sym state) (IsCounter-pulsed_times c.args.p (c.loop-pulses.pulses + c.next_leap-next.result.pulses) c.requires);
+      valid = subst (λ (d : CounterParts). IsCounter d) (sym state) (IsCounter-pulsed_times c.args.p (c.loop-pulses.pulses + c.next_leap-next.result.pulses) c.requires);
       state = state;
       count = omega (arith, c.joined-rises.ensures.count, c.next_leap-next.ensures.count, c.loop-pulses.invariant.count);
       first = subst (λ (o : Option ℕ). IsFirst (rises_in c.args.p) (c.loop-pulses.pulses + c.next_leap-next.result.pulses) o) (sym c.joined-rises.ensures.first)

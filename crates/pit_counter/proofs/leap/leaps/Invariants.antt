@@ -1,13 +1,13 @@
 use Rattle.std.proofs.Common.{◌≡◌, ◌≤◌, ◌-◌}
 use Rattle.clk_units.specs.Events.{IsFirst}
-use Rattle.pit_counter.specs.Conditions.{IsCounter}
+use Rattle.pit_counter.specs.Parts.{IsCounter}
 use Rattle.pit_counter.specs.Table.{pulsed_times, rises_in}
 use Rattle.pit_counter.proofs.leap.leaps.Given as goal
 
 abbrev pub invariant-loop-pulses : goal.invariant-loop-pulses
 invariant-loop-pulses l = record {
   within : l.pulses ≤ l.n;
-  stands : IsCounter l.parts;
+  valid : IsCounter l.parts;
   state : l.parts ≡ pulsed_times l.pulses l.fn.p;
   count : l.rises.count ≡ rises_in l.fn.p l.pulses;
   first : IsFirst (rises_in l.fn.p) l.pulses l.rises.first;

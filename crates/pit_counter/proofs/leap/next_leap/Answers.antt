@@ -1,6 +1,6 @@
 use Rattle.std.proofs.Common.{◌≡◌, ◌≤◌, ℕ, suc, Bool, cond, Option, None, sym, ap, ◌∙◌, arith, subst}
-use Rattle.clk_units.specs.Events.{IsFirst}
-use Rattle.clk_units.proofs.Events.{first_more, IsFirst-more}
+use Rattle.clk_units.specs.Events.{IsFirst, first_more}
+use Rattle.clk_units.proofs.Events.{IsFirst-more}
 use Rattle.pit_counter.specs.Table.{pulsed, pulsed_times, has_risen, rises_next, rises_in}
 use Rattle.pit_counter.specs.Glide.{quiet_for, glided}
 use Rattle.pit_counter.specs.declared.table.Effect.{Effect}

@@ -2,7 +2,7 @@ use Rattle.std.proofs.Common.{◌≡◌, ◌+◌, ◌∙◌, ap, sym, true, fals
 use Rattle.clk_units.specs.Events.{IsFirst}
 use Rattle.rtc_calendar.specs.Updates.{updated}
 use Rattle.rtc_calendar.specs.Alarms.{is_match, matches_in}
-use Rattle.rtc_calendar.proofs.Updates.{IsFirst-any, IsFirst-matches_in, none-more, none-first_day, updated_times-more}
+use Rattle.rtc_calendar.proofs.Times.{IsFirst-any, IsFirst-matches_in, none-more, none-first_day, updated_times-more}
 use Rattle.rtc_calendar.proofs.alarms.first_match.Goals as goal
 
 first_here : (c : goal.Then-matches) → IsFirst (matches_in c.args.form c.args.alarm c.args.bytes) c.args.n (Some (c.loop-done.done + 1))

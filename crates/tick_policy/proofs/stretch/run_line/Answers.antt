@@ -1,5 +1,5 @@
 use Rattle.std.proofs.Common.{◌≡◌, ◌+◌, Bool, cond, Some, sym, ap, ◌∙◌}
-use Rattle.irq_edges.specs.Levels.{is_up_at}
+use Rattle.irq_edges.specs.Rises.{is_up_at}
 use Rattle.tick_policy.specs.Line.{ticked_times}
 use Rattle.tick_policy.specs.Stretch.{up_from}
 use Rattle.tick_policy.proofs.Stretches.{line_end-is, up_from-is}

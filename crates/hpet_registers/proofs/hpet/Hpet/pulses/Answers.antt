@@ -3,7 +3,7 @@ use Rattle.clk_units.specs.Events.{IsFirst}
 use Rattle.hpet_comparator.specs.Timer.{bit_of, matches_in}
 use Rattle.hpet_registers.specs.declared.parts.HpetParts.{HpetParts}
 use Rattle.hpet_registers.specs.Parts.{IsHpet, timer_at}
-use Rattle.hpet_registers.specs.Pulses.{hpet_pulsed_times, place_of, AreMatches}
+use Rattle.hpet_registers.specs.Pulses.{hpet_pulsed_times, timer_matches, AreMatches}
 use Rattle.hpet_registers.proofs.Conditions.{IsHpet-hpet_pulsed_times, IsTimer-at, timers-le}
 use Rattle.hpet_registers.proofs.Product.{matches_of-seen, IsFirst-seen, status-hpet_pulsed_times, config-hpet_pulsed_times}
 use Rattle.hpet_registers.proofs.Places.{stretched}
@@ -24,14 +24,14 @@ returns-clause-state c =
 pub returns-clause-count : goal.returns-clause-count
 returns-clause-count c = rw (← c.self.view_is) (λ k inside.
     let fits : c.self.inside.parts.counter < 2 ^ 64 = omega arith in
-    let found : AreMatches c.self.inside.parts.counter c.pulses_seen-seen.result (timer_at k c.self.inside.parts) (place_of c.pulse_timers-matches.result k) = c.pulse_timers-matches.ensures.matches k (timers-le k c.self.inside.parts c.self.invariant inside) (IsTimer-at k c.self.inside.parts c.self.invariant inside) in
+    let found : AreMatches c.self.inside.parts.counter c.pulses_seen-seen.result (timer_at k c.self.inside.parts) (timer_matches c.pulse_timers-matches.result k) = c.pulse_timers-matches.ensures.matches k (timers-le k c.self.inside.parts c.self.invariant inside) (IsTimer-at k c.self.inside.parts c.self.invariant inside) in
     found.count ∙ (ap (matches_in c.self.inside.parts.counter (timer_at k c.self.inside.parts)) c.pulses_seen-seen.ensures ∙ sym (matches_of-seen k c.args.n c.self.inside.parts fits)))
 
 pub returns-clause-first : goal.returns-clause-first
 returns-clause-first c = rw (← c.self.view_is) (λ k inside.
     let fits : c.self.inside.parts.counter < 2 ^ 64 = omega arith in
-    let found : AreMatches c.self.inside.parts.counter c.pulses_seen-seen.result (timer_at k c.self.inside.parts) (place_of c.pulse_timers-matches.result k) = c.pulse_timers-matches.ensures.matches k (timers-le k c.self.inside.parts c.self.invariant inside) (IsTimer-at k c.self.inside.parts c.self.invariant inside) in
-    IsFirst-seen k c.args.n c.self.inside.parts (place_of c.pulse_timers-matches.result k).first fits (subst (λ (m : ℕ). IsFirst (matches_in c.self.inside.parts.counter (timer_at k c.self.inside.parts)) m (place_of c.pulse_timers-matches.result k).first) c.pulses_seen-seen.ensures found.first))
+    let found : AreMatches c.self.inside.parts.counter c.pulses_seen-seen.result (timer_at k c.self.inside.parts) (timer_matches c.pulse_timers-matches.result k) = c.pulse_timers-matches.ensures.matches k (timers-le k c.self.inside.parts c.self.invariant inside) (IsTimer-at k c.self.inside.parts c.self.invariant inside) in
+    IsFirst-seen k c.args.n c.self.inside.parts (timer_matches c.pulse_timers-matches.result k).first fits (subst (λ (m : ℕ). IsFirst (matches_in c.self.inside.parts.counter (timer_at k c.self.inside.parts)) m (timer_matches c.pulse_timers-matches.result k).first) c.pulses_seen-seen.ensures found.first))
 
 pub returns-clause-alone : goal.returns-clause-alone
 returns-clause-alone c = rw (← c.self.view_is) (λ k.

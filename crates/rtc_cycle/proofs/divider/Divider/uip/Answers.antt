@@ -1,6 +1,7 @@
 use Rattle.std.proofs.Common.{◌∙◌, sym, ap, subst}
-use Rattle.rtc_cycle.specs.Divider.{IsDivider, uip_of}
-use Rattle.rtc_cycle.proofs.Stretch.{uip-early, uip-quiet}
+use Rattle.rtc_cycle.specs.Divider.{uip_of}
+use Rattle.rtc_cycle.specs.Parts.{IsDivider}
+use Rattle.rtc_cycle.proofs.Times.{uip-early, uip-quiet}
 use Rattle.rtc_cycle.proofs.divider.Divider.uip.Goals as goal
 
 pub returns-clause-early : goal.returns-clause-early

@@ -1,12 +1,12 @@
 use Rattle.std.proofs.Common.{inr, refl, lit<, lit≤}
 use Rattle.std.proofs.lemmas.Bool.{false≢true}
 use Rattle.rtc_calendar.specs.declared.TimeBytes.{TimeBytes}
-use Rattle.rtc_registers.specs.Registers.{IsRtc, at_power_on, with_time}
+use Rattle.rtc_registers.specs.Registers.{IsRtc, rtc_at_power_on, with_time}
 use Rattle.rtc_registers.proofs.rtc.Rtc.power_on.Goals as goal
 
-IsRtc-at_power_on : (t : TimeBytes) → IsRtc (at_power_on t)
-unfolding at_power_on with_time
-IsRtc-at_power_on t = record {
+IsRtc-rtc_at_power_on : (t : TimeBytes) → IsRtc (rtc_at_power_on t)
+unfolding rtc_at_power_on with_time
+IsRtc-rtc_at_power_on t = record {
   places = refl;
   index = lit≤ tt;
   register_a = lit≤ tt;
@@ -22,4 +22,4 @@ IsRtc-at_power_on t = record {
 }
 
 pub invariant_of-result : goal.invariant_of-result
-invariant_of-result c = rw c.at_power_on.ensures (IsRtc-at_power_on c.args.bytes)
+invariant_of-result c = rw c.rtc_at_power_on.ensures (IsRtc-rtc_at_power_on c.args.bytes)

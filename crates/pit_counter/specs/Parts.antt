@@ -1,0 +1,85 @@
+-- What is true of the fields of every counter, test by test in the order of the fields in a saved state.
+use Rattle.std.specs.Prelude.{◌%◌, ◌==◌, nat_lt, nat_le, ◌&&◌, ◌||◌, not, Bool, true, IsTrue}
+use Rattle.pit_counter.specs.Mode.{mode_of, access_of, is_terminal, is_rate, is_square, has_trigger, has_strobe, takes_two}
+use Rattle.pit_counter.specs.Count.{modulus}
+use Rattle.pit_counter.specs.declared.mode.Mode.{Mode}
+use Rattle.pit_counter.specs.declared.mode.Mode.TheVariants.{TerminalCount, OneShot, RateGenerator, SquareWave, SoftwareStrobe, HardwareStrobe}
+use Rattle.pit_counter.specs.declared.parts.CounterParts.{CounterParts}
+
+-- a is true only where b is
+abbrev pub only_where : Bool → Bool → Bool
+only_where a b = not a || b
+
+-- the programmed bits are those of a control word: six bits, D5 and D4 not both 0
+unfoldable pub bits_valid : CounterParts → Bool
+bits_valid c = nat_le 16 c.bits && nat_lt c.bits 64
+
+-- where OUT may be low, by mode
+abbrev pub may_be_low : Mode → Bool → Bool → Bool → Bool
+may_be_low TerminalCount live gate armed = true
+may_be_low OneShot live gate armed = live
+may_be_low RateGenerator live gate armed = live && gate
+may_be_low SquareWave live gate armed = live && gate
+may_be_low SoftwareStrobe live gate armed = live && not armed
+may_be_low HardwareStrobe live gate armed = live && not armed
+
+-- a count is loaded only where one was written, and null count is 0 only where one is loaded
+abbrev pub count_flags_valid : CounterParts → Bool
+count_flags_valid c = only_where c.live c.full && (c.null || c.live)
+
+-- each flag of a mode is set in its modes alone, and where there is a count
+abbrev pub mode_flags_valid : Mode → CounterParts → Bool
+mode_flags_valid m c =
+    only_where c.armed (has_strobe m && c.live)
+    && only_where c.trig (has_trigger m && c.full)
+    && only_where c.odd (is_square m && c.live)
+
+-- OUT is low only where its mode lets it be, and in mode 0 it is low while a count waits for its load
+abbrev pub out_valid : Mode → CounterParts → Bool
+out_valid m c = (c.out || may_be_low m c.live c.gate c.armed) && only_where (is_terminal m && c.null) (not c.out)
+
+-- the flags
+unfoldable pub flags_valid : CounterParts → Bool
+flags_valid c = count_flags_valid c && mode_flags_valid (mode_of c.bits) c && out_valid (mode_of c.bits) c
+
+-- the count register is 0 where no count was written
+unfoldable pub cr_valid : CounterParts → Bool
+cr_valid c = c.full || c.cr == 0
+
+-- the counting element is in its range, 0 before the first load, even in mode 3, and 1 where OUT is low in mode 2
+unfoldable pub ce_valid : CounterParts → Bool
+ce_valid c =
+    nat_lt c.ce (modulus c.bits)
+    && (c.live || c.ce == 0)
+    && only_where (is_square (mode_of c.bits)) (c.ce % 2 == 0)
+    && only_where (is_rate (mode_of c.bits) && not c.out) (c.ce == 1)
+
+-- a first byte waits only where two are taken, and in mode 0 with OUT low; without one the byte is 0
+unfoldable pub part_valid : CounterParts → Bool
+part_valid c =
+    only_where c.part_there (takes_two (access_of c.bits))
+    && (c.part_there || c.part == 0)
+    && only_where (is_terminal (mode_of c.bits) && c.part_there) (not c.out)
+
+-- the high byte is next only where both are read
+unfoldable pub read_order_valid : CounterParts → Bool
+read_order_valid c = only_where c.high_next (takes_two (access_of c.bits))
+
+-- a latched count is 0 where none is latched
+unfoldable pub latched_count_valid : CounterParts → Bool
+latched_count_valid c = c.count_latched || c.latched_count == 0
+
+-- a latched status is 0 where none is latched
+unfoldable pub latched_status_valid : CounterParts → Bool
+latched_status_valid c = c.status_latched || c.latched_status == 0
+
+-- the fields of a counter
+pub record IsCounter (c : CounterParts) : Type 0 where
+  pub bits : IsTrue (bits_valid c)
+  pub flags : IsTrue (flags_valid c)
+  pub cr : IsTrue (cr_valid c)
+  pub ce : IsTrue (ce_valid c)
+  pub part : IsTrue (part_valid c)
+  pub read_order : IsTrue (read_order_valid c)
+  pub latched_count : IsTrue (latched_count_valid c)
+  pub latched_status : IsTrue (latched_status_valid c)

@@ -1,6 +1,0 @@
-use Rattle.std.proofs.Common.{◌≡◌, ◌+◌, ◌-◌}
-use Rattle.rtc_calendar.specs.Days.{days_of_months}
-use Rattle.rtc_calendar.proofs.later.date_in_year.Given as goal
-
-abbrev pub invariant-loop-month : goal.invariant-loop-month
-invariant-loop-month l = days_of_months l.year (l.month - 1) + l.rest ≡ l.fn.day

@@ -1,0 +1,8 @@
+use Rattle.std.proofs.Common.{◌+◌, ◌/◌, ◌%◌, arith}
+use Rattle.rtc_calendar.proofs.Days.{next_seconds-at}
+use Rattle.rtc_calendar.proofs.stretch.later.Goals as goal
+
+pub returns : goal.returns
+returns c =
+    next_seconds-at c.args.m c.moment_at.result c.args.n (c.args.n / 86400 + (c.second_of_day.result + c.args.n % 86400) / 86400) c.requires c.moment_at.ensures.valid
+    (omega arith) (omega arith) (omega arith) (omega arith)
