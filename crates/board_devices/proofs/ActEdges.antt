@@ -1,14 +1,13 @@
 -- The edges of the accesses, by the lines that they move.
-use Rattle.std.proofs.Common.{◌≡◌, ℕ, zero, suc, Bool, true, false, cond, eqb, ◌&&◌, ◌||◌, not, List, [], ◌∷◌, ◌++◌, length, get_or, refl, ap, sym, subst, ◌∙◌, append-nil, inl, inr, arith}
-use Rattle.std.proofs.lemmas.Bool.{cases_Bool, false≢true}
+use Rattle.std.proofs.Common.{◌≡◌, ℕ, zero, suc, Bool, true, false, cond, eqb, ◌&&◌, ◌||◌, not, List, [], ◌∷◌, ◌++◌, length, get_or, refl, ap, sym, ◌∙◌, arith}
 use Rattle.irq_edges.specs.declared.edges.Edge.{Edge}
-use Rattle.irq_edges.specs.Changes.{change, changes, line_numbers}
+use Rattle.irq_edges.specs.Lines.{change, changes, line_numbers}
 use Rattle.irq_edges.proofs.EdgesOf.{changes-same}
 use Rattle.pit_counter.specs.Table.{has_risen}
 use Rattle.pit_readback.specs.Pit.{counter_of}
 use Rattle.pit_readback.specs.declared.parts.PitParts.{PitParts}
 use Rattle.rtc_registers.specs.declared.parts.RtcParts.{RtcParts}
-use Rattle.rtc_registers.specs.Registers.{IsRtc, pf_of, irqf_of, after_read, written as rtc_written, flagged}
+use Rattle.rtc_registers.specs.Registers.{pf_of, irqf_of, after_rtc_read, rtc_written, flagged}
 use Rattle.hpet_registers.specs.Parts.{is_legacy}
 use Rattle.tick_policy.specs.declared.line.TickParts.{TickParts}
 use Rattle.tick_policy.specs.Line.{goes_again}
@@ -22,8 +21,8 @@ use Rattle.board_devices.specs.Act.{acted, first_part, act_edges, pit_written, p
 use Rattle.board_devices.specs.Nanosecond.{counts_rtc}
 use Rattle.board_devices.proofs.Places.{each-at, each-none}
 use Rattle.board_devices.proofs.Masks.{ticked_none}
-use Rattle.board_devices.proofs.Fronts.{SameTimers, back, levels-parts, levels-front, changes-first, changes-clock, change-same, no_second}
-use Rattle.board_devices.proofs.ClockReads.{after_read-other}
+use Rattle.board_devices.proofs.Fronts.{SameTimers, back, levels-parts, levels-front, changes-first, changes-clock, no_second}
+use Rattle.board_devices.proofs.ClockReads.{after_rtc_read-other}
 
 -- where both parts have the levels of before there is no edge
 none-of : (t : ℕ) (a : Act) (d : DeviceParts) → levels (first_part a d) ≡ levels d → levels (acted a d) ≡ levels d → act_edges t a d ≡ []
@@ -65,14 +64,14 @@ no-mask b op none d other = each-none (λ k l. op (reads_c d k) l) place 0 d.tic
 pub acted-other : (d : DeviceParts) → eqb d.rtc.index 12 ≡ false → acted ClockRead d ≡ d
 unfolding acted
 acted-other d other =
-    ap (λ (b : Bool). record d { rtc = cond ((b && counts_rtc d) && goes_again (line_at 1 d)) (flagged (after_read d.rtc)) (after_read d.rtc); ticks = each (λ k l. acked_where (reads_c d k) l) 0 d.ticks }) other
-    ∙ ap (λ (r : RtcParts). record d { rtc = r; ticks = each (λ k l. acked_where (reads_c d k) l) 0 d.ticks }) (after_read-other d.rtc other)
+    ap (λ (b : Bool). record d { rtc = cond ((b && counts_rtc d) && goes_again (line_at 1 d)) (flagged (after_rtc_read d.rtc)) (after_rtc_read d.rtc); ticks = each (λ k l. acked_where (reads_c d k) l) 0 d.ticks }) other
+    ∙ ap (λ (r : RtcParts). record d { rtc = r; ticks = each (λ k l. acked_where (reads_c d k) l) 0 d.ticks }) (after_rtc_read-other d.rtc other)
     ∙ ap (λ (ls : List TickParts). record d { ticks = ls }) (no-mask true acked_where (λ l. refl) d other)
 
 first_part-other : (d : DeviceParts) → eqb d.rtc.index 12 ≡ false → first_part ClockRead d ≡ d
 unfolding first_part
 first_part-other d other =
-    ap (λ (r : RtcParts). record d { rtc = r; ticks = each (λ k l. down_where (reads_c d k) l) 0 d.ticks }) (after_read-other d.rtc other)
+    ap (λ (r : RtcParts). record d { rtc = r; ticks = each (λ k l. down_where (reads_c d k) l) 0 d.ticks }) (after_rtc_read-other d.rtc other)
     ∙ ap (λ (ls : List TickParts). record d { ticks = ls }) (no-mask true down_where (λ l. refl) d other)
 
 pub edges-clock_other : (t : ℕ) (d : DeviceParts) → eqb d.rtc.index 12 ≡ false → act_edges t ClockRead d ≡ []
@@ -101,16 +100,16 @@ abbrev pub shown : DeviceParts → RtcParts → Bool
 shown d r = not (is_legacy d.hpet) && irqf_of r
 
 pub edges-clock_read : (t : ℕ) (d : DeviceParts) → act_edges t ClockRead d
-    ≡ change t 8 (shown d d.rtc) (shown d (after_read d.rtc)) ++ change t 8 (shown d (after_read d.rtc)) (shown d (cond (reads_c d 1 && goes_again (line_at 1 d)) (flagged (after_read d.rtc)) (after_read d.rtc)))
+    ≡ change t 8 (shown d d.rtc) (shown d (after_rtc_read d.rtc)) ++ change t 8 (shown d (after_rtc_read d.rtc)) (shown d (cond (reads_c d 1 && goes_again (line_at 1 d)) (flagged (after_rtc_read d.rtc)) (after_rtc_read d.rtc)))
 unfolding acted first_part
 edges-clock_read t d =
     let down : List TickParts = each (λ k l. down_where (reads_c d k) l) 0 d.ticks in
     let again : List TickParts = each (λ k l. acked_where (reads_c d k) l) 0 d.ticks in
-    let r : RtcParts = cond (reads_c d 1 && goes_again (line_at 1 d)) (flagged (after_read d.rtc)) (after_read d.rtc) in
-    ap (λ (es : List Edge). es ++ changes t line_numbers (levels (record d { rtc = after_read d.rtc; ticks = down })) (levels (record d { rtc = r; ticks = again })))
-    (changes-clock t d d.rtc (after_read d.rtc) d.ticks down (λ k. refl) (same-timers (λ k l. down_where (reads_c d k) l) (λ k l. refl) d) (sym (same-first (λ k l. down_where (reads_c d k) l) (λ l. refl) d.ticks)))
-    ∙ ap (λ (es : List Edge). change t 8 (shown d d.rtc) (shown d (after_read d.rtc)) ++ es)
-    (changes-clock t d (after_read d.rtc) r down again (same-timers (λ k l. down_where (reads_c d k) l) (λ k l. refl) d) (same-timers (λ k l. acked_where (reads_c d k) l) (λ k l. refl) d) (same-first (λ k l. down_where (reads_c d k) l) (λ l. refl) d.ticks ∙ sym (same-first (λ k l. acked_where (reads_c d k) l) (λ l. refl) d.ticks)))
+    let r : RtcParts = cond (reads_c d 1 && goes_again (line_at 1 d)) (flagged (after_rtc_read d.rtc)) (after_rtc_read d.rtc) in
+    ap (λ (es : List Edge). es ++ changes t line_numbers (levels (record d { rtc = after_rtc_read d.rtc; ticks = down })) (levels (record d { rtc = r; ticks = again })))
+    (changes-clock t d d.rtc (after_rtc_read d.rtc) d.ticks down (λ k. refl) (same-timers (λ k l. down_where (reads_c d k) l) (λ k l. refl) d) (sym (same-first (λ k l. down_where (reads_c d k) l) (λ l. refl) d.ticks)))
+    ∙ ap (λ (es : List Edge). change t 8 (shown d d.rtc) (shown d (after_rtc_read d.rtc)) ++ es)
+    (changes-clock t d (after_rtc_read d.rtc) r down again (same-timers (λ k l. down_where (reads_c d k) l) (λ k l. refl) d) (same-timers (λ k l. acked_where (reads_c d k) l) (λ k l. refl) d) (same-first (λ k l. down_where (reads_c d k) l) (λ l. refl) d.ticks ∙ sym (same-first (λ k l. acked_where (reads_c d k) l) (λ l. refl) d.ticks)))
 
 -- a write of the clock
 pub edges-clock_write : (t byte : ℕ) (d : DeviceParts) → act_edges t (ClockWrite byte) d ≡ change t 8 (shown d d.rtc) (shown d (rtc_written byte d.rtc))

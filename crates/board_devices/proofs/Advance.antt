@@ -1,10 +1,10 @@
 -- The devices and their levels at each nanosecond of a stretch, from the numbers that its pulses brought.
-use Rattle.std.proofs.Common.{◌≡◌, ℕ, zero, suc, ◌+◌, ◌-◌, ◌%◌, ◌^◌, ◌<◌, ◌≤◌, ◌↔◌, Bool, true, false, cond, ltb, leb, eqb, ◌&&◌, ◌||◌, ◌⊎◌, not, List, [], ◌∷◌, length, get_or, map, Option, Some, None, refl, ap, sym, subst, ◌∙◌, inl, inr, arith}
-use Rattle.std.proofs.lemmas.Bool.{lt-ltb, le-ltb, lt-leb, le-leb, cases_Bool, cases_lt, false≢true, true≢false}
-use Rattle.clk_units.specs.Events.{CountsUp, IsFirst}
-use Rattle.clk_units.specs.Pulses.{falls_at, pulses_by, pulses_from, time_of}
+use Rattle.std.proofs.Common.{◌≡◌, ℕ, zero, suc, ◌+◌, ◌<◌, ◌≤◌, ◌↔◌, Bool, true, false, cond, ltb, leb, eqb, ◌&&◌, ◌||◌, not, List, [], ◌∷◌, length, get_or, map, Option, Some, None, refl, ap, sym, subst, ◌∙◌, inl, inr, arith}
+use Rattle.std.proofs.lemmas.Bool.{lt-ltb, le-ltb, lt-leb, le-leb, cases_lt, false≢true, true≢false}
+use Rattle.clk_units.specs.Events.{CountsUp, IsFirst, first_at}
+use Rattle.clk_units.specs.Pulses.{pulses_by, pulses_from, time_of}
 use Rattle.clk_units.proofs.Events.{CountsUp-few, counts-at, first_tick, first_tick-none}
-use Rattle.irq_edges.specs.Levels.{is_up_at, levels_at}
+use Rattle.irq_edges.specs.Rises.{is_up_at, levels_at}
 use Rattle.pit_counter.specs.declared.rises.Rises.{Rises}
 use Rattle.pit_counter.specs.Table.{rises_in}
 use Rattle.pit_counter.proofs.Times.{CountsUp-rises_in}
@@ -14,16 +14,16 @@ use Rattle.rtc_cycle.specs.Divider.{ticks_in, updates_in}
 use Rattle.rtc_cycle.proofs.Pulse.{CountsUp-ticks_in, CountsUp-updates_in}
 use Rattle.rtc_registers.specs.declared.parts.RtcParts.{RtcParts}
 use Rattle.rtc_registers.specs.declared.events.RtcEvents.{RtcEvents}
-use Rattle.rtc_registers.specs.Registers.{IsRtc, clock_of, pie_of, aie_of, uie_of, pf_of, af_of, uf_of, irqf_of, register_b, has_bit}
-use Rattle.rtc_registers.specs.Pulses.{pulsed_times as rtc_pulsed_times, alarms_in}
-use Rattle.rtc_registers.proofs.Stretch.{register_b-pulsed_times, pf_of-pulsed_times, af_of-pulsed_times, uf_of-pulsed_times, IsRtc-pulsed_times, CountsUp-alarms_in}
+use Rattle.rtc_registers.specs.Registers.{IsRtc, divider_of, pie_of, aie_of, uie_of, pf_of, af_of, uf_of, irqf_of, register_b, has_bit}
+use Rattle.rtc_registers.specs.Pulses.{rtc_pulsed_times, alarms_in}
+use Rattle.rtc_registers.proofs.Times.{register_b-rtc_pulsed_times, pf_of-rtc_pulsed_times, af_of-rtc_pulsed_times, uf_of-rtc_pulsed_times, IsRtc-rtc_pulsed_times, CountsUp-alarms_in}
 use Rattle.rtc_registers.proofs.Flags.{af_of-flagged, uf_of-flagged}
 use Rattle.hpet_comparator.specs.declared.timer.Matches.{Matches}
 use Rattle.hpet_comparator.specs.declared.parts.TimerParts.{TimerParts}
 use Rattle.hpet_comparator.specs.Timer.{is_level, is_enabled, bit_of, route_of}
 use Rattle.hpet_registers.specs.declared.parts.HpetParts.{HpetParts}
-use Rattle.hpet_registers.specs.Parts.{timer_at, is_legacy, level_of, no_timer, IsHpet, IsPlace}
-use Rattle.hpet_registers.specs.Pulses.{hpet_pulsed_times, matches_of, place_of}
+use Rattle.hpet_registers.specs.Parts.{timer_at, is_legacy, IsHpet, IsPlace}
+use Rattle.hpet_registers.specs.Pulses.{hpet_pulsed_times, matches_of, timer_matches}
 use Rattle.hpet_registers.proofs.Product.{config-hpet_pulsed_times, status-hpet_pulsed_times, CountsUp-matches_of}
 use Rattle.tick_policy.specs.declared.line.TickParts.{TickParts}
 use Rattle.tick_policy.specs.Stretch.{line_after, line_end, is_caught, caught_up_where, up_from, IsFirstPoint, IsFirstTick}
@@ -35,7 +35,7 @@ use Rattle.board_devices.specs.Places.{each, line_at, no_line}
 use Rattle.board_devices.specs.Nanosecond.{pit_hz, rtc_hz, hpet_hz, counts_rtc, has_ticks, sees_point}
 use Rattle.board_devices.specs.Lines.{output_of, drives, routed, levels}
 use Rattle.board_devices.specs.Run.{run}
-use Rattle.board_devices.specs.private.Stretch.{source, line_run, flagged_where, parted, first_at, counted, no_ticks, timer_ticks, ticks_at, end_of, up_of, eight, either_from, flag_from, output_from, routed_from}
+use Rattle.board_devices.specs.private.Stretch.{source, line_run, flagged_where, parted, counted, no_ticks, timer_ticks, ticks_at, end_of, up_of, eight, either_from, flag_from, output_from, routed_from}
 use Rattle.board_devices.specs.Parts.{IsDevices}
 use Rattle.board_devices.proofs.Keeps.{IsDevices-each, KeepsLines-line_run, timers-times, messages-times}
 use Rattle.board_devices.proofs.Places.{each-at, length-each, same_places, at-eight}
@@ -151,12 +151,12 @@ first_of_and false b h = h
 pub record Brought (d : DeviceParts) (t n : ℕ) (rises : Rises) (events : RtcEvents) (ms : List Matches) : Type 0 where
   pub pit_count : rises.count ≡ rises_in (counter_of d.pit 0) (pulses_from pit_hz t n)
   pub pit_first : IsFirst (rises_in (counter_of d.pit 0)) (pulses_from pit_hz t n) rises.first
-  pub rtc_count : events.cycle.ticks ≡ ticks_in (clock_of d.rtc) (pulses_from rtc_hz t n)
-  pub rtc_first : IsFirst (ticks_in (clock_of d.rtc)) (pulses_from rtc_hz t n) events.cycle.first_tick
-  pub update_first : IsFirst (updates_in (clock_of d.rtc)) (pulses_from rtc_hz t n) events.cycle.first_update
+  pub rtc_count : events.cycle.ticks ≡ ticks_in (divider_of d.rtc) (pulses_from rtc_hz t n)
+  pub rtc_first : IsFirst (ticks_in (divider_of d.rtc)) (pulses_from rtc_hz t n) events.cycle.first_tick
+  pub update_first : IsFirst (updates_in (divider_of d.rtc)) (pulses_from rtc_hz t n) events.cycle.first_update
   pub alarm_first : IsFirst (alarms_in d.rtc) (pulses_from rtc_hz t n) events.first_alarm
-  pub timer_count : (k : ℕ) → k < d.hpet.timers → (place_of ms k).count ≡ matches_of k d.hpet (pulses_from hpet_hz t n)
-  pub timer_first : (k : ℕ) → k < d.hpet.timers → IsFirst (matches_of k d.hpet) (pulses_from hpet_hz t n) (place_of ms k).first
+  pub timer_count : (k : ℕ) → k < d.hpet.timers → (timer_matches ms k).count ≡ matches_of k d.hpet (pulses_from hpet_hz t n)
+  pub timer_first : (k : ℕ) → k < d.hpet.timers → IsFirst (matches_of k d.hpet) (pulses_from hpet_hz t n) (timer_matches ms k).first
 
 due-caught : (b : Bool) (l : TickParts) → (caught_up_where b l).counts.due ≡ l.counts.due
 due-caught true l = refl
@@ -174,7 +174,7 @@ pub record Known (d : DeviceParts) (t n c : ℕ) (rises : Rises) (events : RtcEv
   pub sound : Sound d
   pub point : IsFirstPoint d.slew_ns t c
   pub brought : Brought d t n rises events ms
-  pub each_matched : (k : ℕ) → k < 8 → get_or matched k None ≡ first_at hpet_hz t (place_of ms k).first
+  pub each_matched : (k : ℕ) → k < 8 → get_or matched k None ≡ first_at hpet_hz t (timer_matches ms k).first
   pub each_timer : (k : ℕ) → k < 8 → get_or timers k no_ticks ≡ timer_ticks k d.hpet ms matched
   pub pit_is : pit ≡ counted true (not (is_legacy d.hpet)) rises.count (first_at pit_hz t rises.first)
   pub rtc_is : rtc ≡ counted (counts_rtc d) (counts_rtc d) events.cycle.ticks (first_at rtc_hz t events.cycle.first_tick)
@@ -189,15 +189,15 @@ module _ {d : DeviceParts} {t n c : ℕ} {rises : Rises} {events : RtcEvents} {m
   })
   known (suc zero) h = subst (AreTicks d t n 1) (sym know.rtc_is) (record {
     seen = refl;
-    counts = counts-where (counts_rtc d) (ticks_in (clock_of d.rtc)) rtc_hz t (omega arith) (CountsUp-ticks_in (clock_of d.rtc));
-    number = number-where (counts_rtc d) (ticks_in (clock_of d.rtc)) rtc_hz t n events.cycle.ticks (λ _. know.brought.rtc_count);
-    first = first-where (counts_rtc d) (ticks_in (clock_of d.rtc)) rtc_hz t n events.cycle.first_tick (omega arith) (CountsUp-ticks_in (clock_of d.rtc)) (λ _. know.brought.rtc_first);
+    counts = counts-where (counts_rtc d) (ticks_in (divider_of d.rtc)) rtc_hz t (omega arith) (CountsUp-ticks_in (divider_of d.rtc));
+    number = number-where (counts_rtc d) (ticks_in (divider_of d.rtc)) rtc_hz t n events.cycle.ticks (λ _. know.brought.rtc_count);
+    first = first-where (counts_rtc d) (ticks_in (divider_of d.rtc)) rtc_hz t n events.cycle.first_tick (omega arith) (CountsUp-ticks_in (divider_of d.rtc)) (λ _. know.brought.rtc_first);
   })
-  known (suc (suc k)) h = subst (AreTicks d t n (suc (suc k))) (sym (know.each_timer k (omega arith) ∙ ap (λ (u : Option ℕ). counted true (has_ticks k d.hpet) (place_of ms k).count u) (know.each_matched k (omega arith)))) (record {
+  known (suc (suc k)) h = subst (AreTicks d t n (suc (suc k))) (sym (know.each_timer k (omega arith) ∙ ap (λ (u : Option ℕ). counted true (has_ticks k d.hpet) (timer_matches ms k).count u) (know.each_matched k (omega arith)))) (record {
     seen = refl;
     counts = counts-where (has_ticks k d.hpet) (matches_of k d.hpet) hpet_hz t (omega arith) (CountsUp-matches_of k d.hpet);
-    number = number-where (has_ticks k d.hpet) (matches_of k d.hpet) hpet_hz t n (place_of ms k).count (λ e. know.brought.timer_count k (here e));
-    first = first-where (has_ticks k d.hpet) (matches_of k d.hpet) hpet_hz t n (place_of ms k).first (omega arith) (CountsUp-matches_of k d.hpet) (λ e. know.brought.timer_first k (here e));
+    number = number-where (has_ticks k d.hpet) (matches_of k d.hpet) hpet_hz t n (timer_matches ms k).count (λ e. know.brought.timer_count k (here e));
+    first = first-where (has_ticks k d.hpet) (matches_of k d.hpet) hpet_hz t n (timer_matches ms k).first (omega arith) (CountsUp-matches_of k d.hpet) (λ e. know.brought.timer_first k (here e));
   })
     where
       here : has_ticks k d.hpet ≡ true → k < d.hpet.timers
@@ -230,7 +230,7 @@ module _ {d : DeviceParts} {t n c : ℕ} {rises : Rises} {events : RtcEvents} {m
 
   -- the output of timer k
   abbrev pub out_at : ℕ → Option ℕ
-  out_at k = output_from t k d.hpet (first_at hpet_hz t (place_of ms k).first) (up_at (suc (suc k)))
+  out_at k = output_from t k d.hpet (first_at hpet_hz t (timer_matches ms k).first) (up_at (suc (suc k)))
 
   config-now : (j k : ℕ) → (timer_at k (parted t j d).hpet).config ≡ (timer_at k d.hpet).config
   unfolding parted
@@ -248,8 +248,8 @@ module _ {d : DeviceParts} {t n c : ℕ} {rises : Rises} {events : RtcEvents} {m
   output-up j k le small =
       ap (λ (g : ℕ). cond (bit_of 1 g) (bit_of k (parted t j d).hpet.status && bit_of 2 g) (line_at (suc (suc k)) (parted t j d)).up) (config-now j k)
       ∙ ap (λ (b : Bool). cond (is_level (timer_at k d.hpet)) (b && is_enabled (timer_at k d.hpet)) (line_at (suc (suc k)) (parted t j d)).up) (status-now j k small)
-      ∙ by_level (is_level (timer_at k d.hpet)) (bit_of k d.hpet.status) (ltb 0 (matches_of k d.hpet (pulses_from hpet_hz t j))) (is_enabled (timer_at k d.hpet)) (line_at (suc (suc k)) (parted t j d)).up j (first_at hpet_hz t (place_of ms k).first) (up_at (suc (suc k)))
-      (λ e. event-up (matches_of k d.hpet) hpet_hz t n (place_of ms k).first (omega arith) (CountsUp-matches_of k d.hpet) (know.brought.timer_first k (is_place d.hpet k know.sound.hpet small (bit_of 1) refl e)) j le)
+      ∙ by_level (is_level (timer_at k d.hpet)) (bit_of k d.hpet.status) (ltb 0 (matches_of k d.hpet (pulses_from hpet_hz t j))) (is_enabled (timer_at k d.hpet)) (line_at (suc (suc k)) (parted t j d)).up j (first_at hpet_hz t (timer_matches ms k).first) (up_at (suc (suc k)))
+      (λ e. event-up (matches_of k d.hpet) hpet_hz t n (timer_matches ms k).first (omega arith) (CountsUp-matches_of k d.hpet) (know.brought.timer_first k (is_place d.hpet k know.sound.hpet small (bit_of 1) refl e)) j le)
       (line-up j (suc (suc k)) le (omega arith))
 
   -- the timers routed to a line
@@ -284,29 +284,29 @@ module _ {d : DeviceParts} {t n c : ℕ} {rises : Rises} {events : RtcEvents} {m
 
   alone-valid : (j : ℕ) → IsRtc (rtc_alone j)
   unfolding rtc_alone
-  alone-valid j = IsRtc-pulsed_times (pulses_from rtc_hz t j) d.rtc know.sound.rtc
+  alone-valid j = IsRtc-rtc_pulsed_times (pulses_from rtc_hz t j) d.rtc know.sound.rtc
 
   af-now : (j : ℕ) (b : Bool) → af_of (flagged_where b (rtc_alone j)) ≡ (af_of d.rtc || ltb 0 (alarms_in d.rtc (pulses_from rtc_hz t j)))
   unfolding rtc_alone flagged_where
-  af-now j true = af_of-flagged (rtc_pulsed_times (pulses_from rtc_hz t j) d.rtc) (IsRtc-pulsed_times (pulses_from rtc_hz t j) d.rtc know.sound.rtc) ∙ af_of-pulsed_times (pulses_from rtc_hz t j) d.rtc know.sound.rtc
-  af-now j false = af_of-pulsed_times (pulses_from rtc_hz t j) d.rtc know.sound.rtc
+  af-now j true = af_of-flagged (rtc_pulsed_times (pulses_from rtc_hz t j) d.rtc) (IsRtc-rtc_pulsed_times (pulses_from rtc_hz t j) d.rtc know.sound.rtc) ∙ af_of-rtc_pulsed_times (pulses_from rtc_hz t j) d.rtc know.sound.rtc
+  af-now j false = af_of-rtc_pulsed_times (pulses_from rtc_hz t j) d.rtc know.sound.rtc
 
-  uf-now : (j : ℕ) (b : Bool) → uf_of (flagged_where b (rtc_alone j)) ≡ (uf_of d.rtc || ltb 0 (updates_in (clock_of d.rtc) (pulses_from rtc_hz t j)))
+  uf-now : (j : ℕ) (b : Bool) → uf_of (flagged_where b (rtc_alone j)) ≡ (uf_of d.rtc || ltb 0 (updates_in (divider_of d.rtc) (pulses_from rtc_hz t j)))
   unfolding rtc_alone flagged_where
-  uf-now j true = uf_of-flagged (rtc_pulsed_times (pulses_from rtc_hz t j) d.rtc) (IsRtc-pulsed_times (pulses_from rtc_hz t j) d.rtc know.sound.rtc) ∙ uf_of-pulsed_times (pulses_from rtc_hz t j) d.rtc know.sound.rtc
-  uf-now j false = uf_of-pulsed_times (pulses_from rtc_hz t j) d.rtc know.sound.rtc
+  uf-now j true = uf_of-flagged (rtc_pulsed_times (pulses_from rtc_hz t j) d.rtc) (IsRtc-rtc_pulsed_times (pulses_from rtc_hz t j) d.rtc know.sound.rtc) ∙ uf_of-rtc_pulsed_times (pulses_from rtc_hz t j) d.rtc know.sound.rtc
+  uf-now j false = uf_of-rtc_pulsed_times (pulses_from rtc_hz t j) d.rtc know.sound.rtc
 
   b-now : (j : ℕ) (b : Bool) → register_b (flagged_where b (rtc_alone j)) ≡ register_b d.rtc
   unfolding rtc_alone
-  b-now j b = register_b-flagged_where b (rtc_pulsed_times (pulses_from rtc_hz t j) d.rtc) (IsRtc-pulsed_times (pulses_from rtc_hz t j) d.rtc know.sound.rtc) ∙ register_b-pulsed_times (pulses_from rtc_hz t j) d.rtc know.sound.rtc
+  b-now j b = register_b-flagged_where b (rtc_pulsed_times (pulses_from rtc_hz t j) d.rtc) (IsRtc-rtc_pulsed_times (pulses_from rtc_hz t j) d.rtc know.sound.rtc) ∙ register_b-rtc_pulsed_times (pulses_from rtc_hz t j) d.rtc know.sound.rtc
 
   -- PF is the line of the MC146818
   pub flag-now : (j : ℕ) → (line_at 1 (parted t j d)).up ≡ (counts_rtc d && pf_of (flagged_where (flag_at j) (rtc_alone j)))
   unfolding parted rtc_alone flag_at
   flag-now j =
       ap (λ (l : TickParts). l.up) (each-at (line_run d t j) 0 1 d.ticks no_line (omega (arith, know.sound.joined.places)))
-      ∙ flag-is-line (counts_rtc d) t j d.slew_ns (λ i. ticks_in (clock_of d.rtc) (pulses_from rtc_hz t i)) (line_at 1 d) d.rtc (rtc_pulsed_times (pulses_from rtc_hz t j) d.rtc) (IsRtc-pulsed_times (pulses_from rtc_hz t j) d.rtc know.sound.rtc)
-      (counts-at (ticks_in (clock_of d.rtc)) rtc_hz t (omega arith) (CountsUp-ticks_in (clock_of d.rtc))).none know.sound.joined.flag (pf_of-pulsed_times (pulses_from rtc_hz t j) d.rtc know.sound.rtc)
+      ∙ flag-is-line (counts_rtc d) t j d.slew_ns (λ i. ticks_in (divider_of d.rtc) (pulses_from rtc_hz t i)) (line_at 1 d) d.rtc (rtc_pulsed_times (pulses_from rtc_hz t j) d.rtc) (IsRtc-rtc_pulsed_times (pulses_from rtc_hz t j) d.rtc know.sound.rtc)
+      (counts-at (ticks_in (divider_of d.rtc)) rtc_hz t (omega arith) (CountsUp-ticks_in (divider_of d.rtc))).none know.sound.joined.flag (pf_of-rtc_pulsed_times (pulses_from rtc_hz t j) d.rtc know.sound.rtc)
 
   swap : (pie legacy pf : Bool) → legacy ≡ false → (pf && pie) ≡ ((pie && not legacy) && pf)
   swap true true pf e = absurd (true≢false e)
@@ -324,7 +324,7 @@ module _ {d : DeviceParts} {t n c : ℕ} {rises : Rises} {events : RtcEvents} {m
       ap (λ (x : Bool). (x && aie_of d.rtc) || (uf_of r && uie_of d.rtc)) (af-now j (flag_at j))
       ∙ ap (λ (x : Bool). x || (uf_of r && uie_of d.rtc)) (flag-up (aie_of d.rtc) (af_of d.rtc) (ltb 0 (alarms_in d.rtc (pulses_from rtc_hz t j))) t j (first_at rtc_hz t events.first_alarm) (λ _. event-up (alarms_in d.rtc) rtc_hz t n events.first_alarm (omega arith) (CountsUp-alarms_in d.rtc) know.brought.alarm_first j le))
       ∙ ap (λ (x : Bool). alarm_up || (x && uie_of d.rtc)) (uf-now j (flag_at j))
-      ∙ ap (λ (x : Bool). alarm_up || x) (flag-up (uie_of d.rtc) (uf_of d.rtc) (ltb 0 (updates_in (clock_of d.rtc) (pulses_from rtc_hz t j))) t j (first_at rtc_hz t events.cycle.first_update) (λ _. event-up (updates_in (clock_of d.rtc)) rtc_hz t n events.cycle.first_update (omega arith) (CountsUp-updates_in (clock_of d.rtc)) know.brought.update_first j le))
+      ∙ ap (λ (x : Bool). alarm_up || x) (flag-up (uie_of d.rtc) (uf_of d.rtc) (ltb 0 (updates_in (divider_of d.rtc) (pulses_from rtc_hz t j))) t j (first_at rtc_hz t events.cycle.first_update) (λ _. event-up (updates_in (divider_of d.rtc)) rtc_hz t n events.cycle.first_update (omega arith) (CountsUp-updates_in (divider_of d.rtc)) know.brought.update_first j le))
       ∙ sym (up-either_from (t + j) _ _))
       ∙ sym (up-either_from (t + j) (up_at 1) _)
     where
@@ -406,7 +406,7 @@ module _ {d : DeviceParts} {t n c : ℕ} {rises : Rises} {events : RtcEvents} {m
       ap (λ (xs : List (Option ℕ)). get_or xs k None) us_are ∙ at-eight (λ k. output_from t k h (get_or matched k None) (get_or ups (k + 2) None)) None k less
       ∙ ap (λ (x : HpetParts). output_from t k x (get_or matched k None) (get_or ups (k + 2) None)) h_is
       ∙ ap (λ (m : Option ℕ). output_from t k d.hpet m (get_or ups (k + 2) None)) (know.each_matched k less)
-      ∙ ap (output_from t k d.hpet (first_at hpet_hz t (place_of ms k).first)) (ap (λ (i : ℕ). get_or ups i None) place ∙ ups_are (suc (suc k)) (omega arith)
+      ∙ ap (output_from t k d.hpet (first_at hpet_hz t (timer_matches ms k).first)) (ap (λ (i : ℕ). get_or ups i None) place ∙ ups_are (suc (suc k)) (omega arith)
       ∙ ap (λ (x : ℕ). up_of t x to (ticks_at pit rtc timers (suc (suc k))) (line_at (suc (suc k)) d)) at_point ∙ ap (λ (x : ℕ). up_of t (t + c) x (ticks_at pit rtc timers (suc (suc k))) (line_at (suc (suc k)) d)) at_end)
 
   pub up-is : (P to : ℕ) (ups : List (Option ℕ)) → P ≡ t + c → to ≡ t + n

@@ -1,8 +1,8 @@
 -- The edges of a run of the devices, and the next of them.
-use Rattle.std.proofs.Common.{◌≡◌, ◌≢◌, ℕ, zero, suc, ◌+◌, ◌-◌, ◌<◌, ◌≤◌, refl, subst, sym, ap, ◌∙◌, arith, List, [], length, Option, Some, None}
+use Rattle.std.proofs.Common.{◌≡◌, ◌≢◌, ℕ, ◌+◌, ◌-◌, ◌≤◌, refl, subst, sym, ◌∙◌, arith, List, [], length, Option, Some, None}
 use Rattle.irq_edges.specs.declared.edges.Edge.{Edge}
-use Rattle.irq_edges.specs.Changes.{line_numbers, changes}
-use Rattle.irq_edges.specs.Levels.{levels_at, rises_of, IsNextRise}
+use Rattle.irq_edges.specs.Lines.{line_numbers}
+use Rattle.irq_edges.specs.Rises.{levels_at, rises_of, IsNextRise}
 use Rattle.irq_edges.proofs.RisesOf.{run-edges, rises_of-next, rises_of-none, rises_of-before}
 use Rattle.irq_edges.proofs.UpFrom.{changes-some}
 use Rattle.board_devices.specs.declared.parts.DeviceParts.{DeviceParts}

@@ -1,13 +1,13 @@
 -- The edges of accesses that move lines 0 and 8 alone.
-use Rattle.std.proofs.Common.{◌≡◌, ℕ, zero, suc, Bool, true, false, cond, ◌&&◌, ◌||◌, not, List, [], ◌∷◌, ◌++◌, length, get_or, refl, ap, sym, subst, ◌∙◌, append-nil, arith}
+use Rattle.std.proofs.Common.{◌≡◌, ℕ, zero, suc, Bool, true, false, cond, ◌&&◌, ◌||◌, not, List, [], ◌∷◌, ◌++◌, get_or, refl, ap, ◌∙◌, append-nil}
 use Rattle.irq_edges.specs.declared.edges.Edge.{Edge}
-use Rattle.irq_edges.specs.Changes.{change, changes, line_numbers}
+use Rattle.irq_edges.specs.Lines.{change, changes, line_numbers}
 use Rattle.irq_edges.proofs.EdgesOf.{changes-same}
 use Rattle.pit_readback.specs.declared.parts.PitParts.{PitParts}
 use Rattle.rtc_registers.specs.declared.parts.RtcParts.{RtcParts}
 use Rattle.rtc_registers.specs.Registers.{irqf_of}
 use Rattle.hpet_comparator.specs.Timer.{is_level}
-use Rattle.hpet_registers.specs.Parts.{timer_at, is_legacy, level_of as level_of_timer}
+use Rattle.hpet_registers.specs.Parts.{timer_at, is_legacy, level_output}
 use Rattle.tick_policy.specs.declared.line.TickParts.{TickParts}
 use Rattle.board_devices.specs.declared.parts.DeviceParts.{DeviceParts}
 use Rattle.board_devices.specs.Places.{line_at, no_line}
@@ -18,7 +18,7 @@ abbrev pub SameTimers : List TickParts → DeviceParts → Type 0
 SameTimers ls d = (k : ℕ) → get_or ls (suc (suc k)) no_line ≡ line_at (suc (suc k)) d
 
 output-same : (k : ℕ) (d : DeviceParts) (p : PitParts) (r : RtcParts) (ls : List TickParts) → SameTimers ls d → output_of k (record d { pit = p; rtc = r; ticks = ls }) ≡ output_of k d
-output-same k d p r ls same = ap (λ (l : TickParts). cond (is_level (timer_at k d.hpet)) (level_of_timer k d.hpet) l.up) (same k)
+output-same k d p r ls same = ap (λ (l : TickParts). cond (is_level (timer_at k d.hpet)) (level_output k d.hpet) l.up) (same k)
 
 routed-same : (line k : ℕ) (d : DeviceParts) (p : PitParts) (r : RtcParts) (ls : List TickParts) → SameTimers ls d → routed line k (record d { pit = p; rtc = r; ticks = ls }) ≡ routed line k d
 routed-same line zero d p r ls same = refl

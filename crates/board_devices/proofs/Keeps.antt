@@ -11,7 +11,7 @@ use Rattle.hpet_comparator.specs.declared.parts.TimerParts.{TimerParts}
 use Rattle.hpet_comparator.specs.Timer.{is_enabled, is_level}
 use Rattle.hpet_registers.specs.Parts.{IsHpet, IsPlace, is_legacy, timer_at}
 use Rattle.hpet_registers.specs.Pulses.{hpet_pulsed, hpet_pulsed_times, matches_of}
-use Rattle.hpet_registers.specs.Register.{register_written, register_at, is_effective, hpet_written}
+use Rattle.hpet_registers.specs.Register.{register_written, is_effective, hpet_written}
 use Rattle.tick_policy.specs.declared.line.TickParts.{TickParts}
 use Rattle.tick_policy.specs.Stretch.{ticked_where, caught_up_where, line_after}
 use Rattle.tick_policy.proofs.Stretches.{line_after-zero, line_after-suc}
@@ -20,7 +20,7 @@ use Rattle.board_devices.specs.Nanosecond.{hpet_hz, has_ticks, sees_point}
 use Rattle.board_devices.specs.private.Stretch.{source, line_run}
 use Rattle.board_devices.specs.declared.parts.DeviceParts.{DeviceParts}
 use Rattle.board_devices.specs.Places.{each, no_line, line_at}
-use Rattle.board_devices.specs.Act.{acked_where, down_where, rtc_set, pit_ticked}
+use Rattle.board_devices.specs.Act.{acked_where, rtc_set, pit_ticked}
 use Rattle.board_devices.specs.Parts.{IsDevices, IsTimerLine}
 use Rattle.board_devices.proofs.Places.{each-at, length-each}
 

@@ -1,20 +1,18 @@
 -- What is done to the lines that a mask names.
-use Rattle.std.proofs.Common.{◌≡◌, ℕ, zero, suc, ◌+◌, ◌<◌, ◌≤◌, Bool, true, false, cond, ◌&&◌, ◌||◌, not, List, [], ◌∷◌, ◌++◌, length, get_or, set, map, refl, ap, sym, ◌∙◌, append-nil, append_assoc, arith}
+use Rattle.std.proofs.Common.{◌≡◌, ℕ, zero, suc, ◌+◌, ◌<◌, ◌≤◌, Bool, true, false, List, [], ◌∷◌, ◌++◌, length, get_or, set, map, refl, ap, sym, ◌∙◌, append-nil, append_assoc, arith}
 use Rattle.irq_edges.specs.declared.edges.Edge.{Edge}
-use Rattle.irq_edges.specs.Changes.{changes, line_numbers}
+use Rattle.irq_edges.specs.Lines.{changes, line_numbers}
 use Rattle.irq_edges.proofs.EdgesOf.{changes-same}
-use Rattle.rtc_registers.specs.declared.parts.RtcParts.{RtcParts}
-use Rattle.rtc_registers.specs.Registers.{IsRtc, pf_of, pie_of, register_b, register_c, has_bit, after_read, flagged}
 use Rattle.tick_policy.specs.declared.line.TickParts.{TickParts}
 use Rattle.tick_policy.specs.Line.{ticked, ticked_times, set_up_to, acked}
 use Rattle.tick_policy.proofs.Ticks.{ticked_times-one}
 use Rattle.tick_policy.specs.Stretch.{ticked_where}
 use Rattle.board_devices.specs.declared.parts.DeviceParts.{DeviceParts}
 use Rattle.board_devices.specs.Places.{each, no_line, ticked_at}
-use Rattle.board_devices.specs.Act.{acked_where, down_where, rtc_set, pit_ticked}
+use Rattle.board_devices.specs.Act.{acked_where, rtc_set, pit_ticked}
 use Rattle.board_devices.specs.private.Stretch.{ten, clock_place}
 use Rattle.board_devices.specs.Lines.{levels}
-use Rattle.board_devices.proofs.Places.{each-at, each-none, length-each, same_places}
+use Rattle.board_devices.proofs.Places.{each-at, length-each, same_places}
 
 pub at-ten : {X : Type 0} (f : ℕ → X) (d : X) (k : ℕ) → k < 10 → get_or (map f ten) k d ≡ f k
 at-ten f d zero h = refl

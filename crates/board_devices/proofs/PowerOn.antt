@@ -1,14 +1,14 @@
 -- Power on.
-use Rattle.std.proofs.Common.{◌≡◌, ℕ, zero, suc, ◌+◌, ◌<◌, ◌≤◌, ◌⊎◌, ltb, ◌&&◌, get_or, length, refl, subst, sym, ◌%◌, inl, inr, arith}
+use Rattle.std.proofs.Common.{◌≡◌, ℕ, zero, suc, ◌<◌, ◌≤◌, ◌⊎◌, ltb, ◌&&◌, get_or, refl, subst, sym, inl, inr, arith}
 use Rattle.rtc_calendar.specs.declared.TimeBytes.{TimeBytes}
-use Rattle.rtc_registers.specs.Registers.{at_power_on, with_time, pf_of}
+use Rattle.rtc_registers.specs.Registers.{rtc_at_power_on, with_time, pf_of}
 use Rattle.tick_policy.specs.declared.line.Policy.{Policy}
 use Rattle.board_devices.specs.Parts.{IsDevices, IsTimerLine, devices_at_power_on, lines_at_power_on}
 use Rattle.board_devices.specs.Places.{line_at, no_line}
 use Rattle.board_devices.specs.Nanosecond.{counts_rtc}
 
-flag_at_power_on : (timers : ℕ) (pit rtc hpet : Policy) (slew : ℕ) (time : TimeBytes) → (line_at 1 (devices_at_power_on timers pit rtc hpet slew time)).up ≡ (counts_rtc (devices_at_power_on timers pit rtc hpet slew time) && pf_of (at_power_on time))
-unfolding at_power_on with_time
+flag_at_power_on : (timers : ℕ) (pit rtc hpet : Policy) (slew : ℕ) (time : TimeBytes) → (line_at 1 (devices_at_power_on timers pit rtc hpet slew time)).up ≡ (counts_rtc (devices_at_power_on timers pit rtc hpet slew time) && pf_of (rtc_at_power_on time))
+unfolding rtc_at_power_on with_time
 flag_at_power_on timers pit rtc hpet slew time = refl
 
 timer_lines_at_power_on : (timers : ℕ) (pit rtc hpet : Policy) → (timers ≡ 3) ⊎ (timers ≡ 8) → (k : ℕ) → k < 8

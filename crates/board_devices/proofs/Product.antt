@@ -1,40 +1,39 @@
 -- The run of the devices is the run of each part by itself.
-use Rattle.std.proofs.Common.{◌≡◌, ℕ, zero, suc, ◌+◌, ◌%◌, ◌^◌, ◌<◌, ◌≤◌, Bool, true, false, cond, ltb, eqb, ◌&&◌, ◌||◌, ◌⊎◌, not, List, [], ◌∷◌, length, get_or, set, map, refl, ap, sym, subst, ◌∙◌, inl, inr, arith}
+use Rattle.std.proofs.Common.{◌≡◌, ℕ, zero, suc, ◌+◌, ◌%◌, ◌^◌, ◌<◌, Bool, true, false, cond, ltb, eqb, ◌&&◌, ◌||◌, ◌⊎◌, not, List, [], ◌∷◌, length, get_or, set, refl, ap, sym, ◌∙◌, inl, inr, arith}
 use Rattle.std.proofs.lemmas.Bool.{lt-ltb, le-ltb, cases_Bool, false≢true, ltb-true}
-use Rattle.clk_units.specs.Events.{CountsUp}
 use Rattle.clk_units.specs.Pulses.{falls_at, pulses_from}
-use Rattle.clk_units.proofs.Pulses.{pulses_from-zero, pulses_from-more}
+use Rattle.clk_units.proofs.Pulses.{pulses_from-zero}
+use Rattle.clk_units.proofs.Events.{count_where-step, times-step}
 use Rattle.pit_counter.specs.declared.parts.CounterParts.{CounterParts}
 use Rattle.pit_counter.specs.Table.{rises_in, rises_next, pulsed_times}
-use Rattle.pit_counter.proofs.Times.{rises_in-suc, CountsUp-rises_in}
+use Rattle.pit_counter.proofs.Times.{rises_in-suc}
 use Rattle.pit_readback.specs.declared.parts.PitParts.{PitParts}
-use Rattle.pit_readback.specs.Pit.{counter_of, pit_pulsed, pit_pulsed_times, IsPit}
+use Rattle.pit_readback.specs.Pit.{counter_of, pit_pulsed, pit_pulsed_times}
 use Rattle.pit_readback.proofs.Three.{pit_pulsed_times-zero, pit_pulsed_times-suc, counter_of-pit_pulsed_times}
 use Rattle.rtc_cycle.specs.declared.parts.DividerParts.{DividerParts}
-use Rattle.rtc_cycle.specs.Divider.{ticks_in, ticks_next, pulsed_times as clock_times}
-use Rattle.rtc_cycle.proofs.Pulse.{ticks_in-suc, CountsUp-ticks_in}
+use Rattle.rtc_cycle.specs.Divider.{ticks_in, ticks_next, pulsed_times as divider_times}
+use Rattle.rtc_cycle.proofs.Pulse.{ticks_in-suc}
 use Rattle.rtc_registers.specs.declared.parts.RtcParts.{RtcParts}
-use Rattle.rtc_registers.specs.Registers.{IsRtc, clock_of, pie_of, pf_of, af_of, uf_of, register_b, has_bit, flags_byte, flagged}
-use Rattle.rtc_registers.specs.Pulses.{pulsed as rtc_pulsed, pulsed_times as rtc_pulsed_times}
-use Rattle.rtc_registers.proofs.Stretch.{clock_of-pulsed_times, register_b-pulsed_times, pf_of-pulsed_times, IsRtc-pulsed_times}
-use Rattle.rtc_registers.proofs.Flags.{clock_of-flagged, register_b-flagged, pf_of-flagged, IsRtc-flagged, pulsed-flagged}
-use Rattle.hpet_comparator.specs.declared.parts.TimerParts.{TimerParts}
-use Rattle.hpet_comparator.specs.Timer.{is_level, is_enabled, bit_of}
+use Rattle.rtc_registers.specs.Registers.{IsRtc, divider_of, pie_of, pf_of, af_of, uf_of, register_b, has_bit, flags_byte, flagged}
+use Rattle.rtc_registers.specs.Pulses.{rtc_pulsed, rtc_pulsed_times}
+use Rattle.rtc_registers.proofs.Times.{divider_of-rtc_pulsed_times, register_b-rtc_pulsed_times, pf_of-rtc_pulsed_times, IsRtc-rtc_pulsed_times}
+use Rattle.rtc_registers.proofs.Flags.{divider_of-flagged, register_b-flagged, pf_of-flagged, IsRtc-flagged, rtc_pulsed-flagged}
+use Rattle.hpet_comparator.specs.Timer.{bit_of}
 use Rattle.hpet_registers.specs.declared.parts.HpetParts.{HpetParts}
-use Rattle.hpet_registers.specs.Parts.{timer_at, is_running, is_legacy, IsHpet}
+use Rattle.hpet_registers.specs.Parts.{is_legacy, IsHpet}
 use Rattle.hpet_registers.specs.Pulses.{hpet_pulsed, hpet_pulsed_times, matches_next, matches_of}
-use Rattle.hpet_registers.proofs.Product.{hpet_pulsed_times-seen, config-hpet_pulsed_times, CountsUp-matches_of}
+use Rattle.hpet_registers.proofs.Product.{hpet_pulsed_times-seen, config-hpet_pulsed_times}
 use Rattle.tick_policy.specs.declared.line.TickParts.{TickParts}
-use Rattle.tick_policy.specs.Line.{ticked, caught_up, is_waiting}
+use Rattle.tick_policy.specs.Line.{ticked, is_waiting}
 use Rattle.tick_policy.specs.Stretch.{ticked_where, caught_up_where, line_after}
 use Rattle.tick_policy.proofs.Stretches.{line_after-zero, line_after-suc}
 use Rattle.board_devices.specs.declared.parts.DeviceParts.{DeviceParts}
-use Rattle.board_devices.specs.Places.{each, ticked_at, caught_up_at, line_at, no_line}
+use Rattle.board_devices.specs.Places.{each, caught_up_at, line_at, no_line}
 use Rattle.board_devices.specs.Nanosecond.{pit_hz, rtc_hz, hpet_hz, counts_rtc, has_ticks, pit_due, rtc_due, hpet_due, sees_point, pit_pulse, rtc_pulse, hpet_pulse, catch_up_point, at_nanosecond}
 use Rattle.board_devices.specs.Run.{run, onward}
 use Rattle.board_devices.specs.private.Stretch.{source, line_run, flagged_where, parted}
 use Rattle.board_devices.specs.Parts.{IsDevices}
-use Rattle.board_devices.proofs.Places.{each-each, each-same, each-none, each-at, length-each}
+use Rattle.board_devices.proofs.Places.{each-each, each-same, each-none, each-at}
 
 -- what is known of the devices
 pub record Sound (d : DeviceParts) : Type 0 where
@@ -44,34 +43,6 @@ pub record Sound (d : DeviceParts) : Type 0 where
   pub counter : d.hpet.counter < 2 ^ 64
   pub joined : IsDevices d
 
--- a source's count grows in the nanosecond at which a pulse falls that brings an event, where it is counted
-pub count-step : (b : Bool) (count : ℕ → ℕ) (next : ℕ → Bool) (hz t n : ℕ) → hz ≤ 1000000000 → ((m : ℕ) → count (suc m) ≡ cond (next m) (suc (count m)) (count m))
-    → ltb (cond b (count (pulses_from hz t n)) 0) (cond b (count (pulses_from hz t (suc n))) 0) ≡ (falls_at hz (t + n + 1) && (next (pulses_from hz t n) && b))
-count-step false count next hz t n slow more = le-ltb 0 0 (omega arith) ∙ none (falls_at hz (t + n + 1)) (next (pulses_from hz t n))
-  where
-    none : (x y : Bool) → false ≡ (x && (y && false))
-    none true true = refl
-    none true false = refl
-    none false y = refl
-count-step true count next hz t n slow more = rw (pulses_from-more hz t n slow) (by_fall (falls_at hz (t + n + 1)) (pulses_from hz t n))
-  where
-    grows : (b : Bool) (m : ℕ) → ltb m (cond b (suc m) m) ≡ (b && true)
-    grows true m = lt-ltb m (suc m) (omega arith)
-    grows false m = le-ltb m m (omega arith)
-
-    by_fall : (x : Bool) (m : ℕ) → ltb (count m) (count (cond x (suc m) m)) ≡ (x && (next m && true))
-    by_fall true m = ap (ltb (count m)) (more m) ∙ grows (next m) (count m)
-    by_fall false m = le-ltb (count m) (count m) (omega arith)
-
--- a device at the pulses of a clock
-pub times-step : {X : Type 0} (times : ℕ → X) (next : X → X) (hz t n : ℕ) → hz ≤ 1000000000 → ((m : ℕ) → times (suc m) ≡ next (times m))
-    → times (pulses_from hz t (suc n)) ≡ cond (falls_at hz (t + n + 1)) (next (times (pulses_from hz t n))) (times (pulses_from hz t n))
-times-step times next hz t n slow more = rw (pulses_from-more hz t n slow) (by_fall (falls_at hz (t + n + 1)) (pulses_from hz t n))
-  where
-    by_fall : (x : Bool) (m : ℕ) → times (cond x (suc m) m) ≡ cond x (next (times m)) (times m)
-    by_fall true m = more m
-    by_fall false m = refl
-
 -- pulses keep the configuration
 pub is_legacy-times : (n : ℕ) (h : HpetParts) → h.counter < 2 ^ 64 → is_legacy (hpet_pulsed_times n h) ≡ is_legacy h
 is_legacy-times n h fits = ap is_legacy (hpet_pulsed_times-seen n h fits)
@@ -80,10 +51,10 @@ pub has_ticks-times : (k n : ℕ) (h : HpetParts) → h.counter < 2 ^ 64 → has
 has_ticks-times k n h fits = ap (λ (c : ℕ). bit_of 2 c && not (bit_of 1 c)) (config-hpet_pulsed_times k n h fits)
 
 -- PF set or not leaves the rest
-pub clock_of-flagged_where : (b : Bool) (r : RtcParts) → IsRtc r → clock_of (flagged_where b r) ≡ clock_of r
+pub divider_of-flagged_where : (b : Bool) (r : RtcParts) → IsRtc r → divider_of (flagged_where b r) ≡ divider_of r
 unfolding flagged_where
-clock_of-flagged_where true r valid = clock_of-flagged r valid
-clock_of-flagged_where false r valid = refl
+divider_of-flagged_where true r valid = divider_of-flagged r valid
+divider_of-flagged_where false r valid = refl
 
 pub register_b-flagged_where : (b : Bool) (r : RtcParts) → IsRtc r → register_b (flagged_where b r) ≡ register_b r
 unfolding flagged_where
@@ -97,7 +68,7 @@ IsRtc-flagged_where false r valid = valid
 
 pulsed-flagged_where : (b : Bool) (r : RtcParts) → IsRtc r → rtc_pulsed (flagged_where b r) ≡ flagged_where b (rtc_pulsed r)
 unfolding flagged_where
-pulsed-flagged_where true r valid = pulsed-flagged r valid
+pulsed-flagged_where true r valid = rtc_pulsed-flagged r valid
 pulsed-flagged_where false r valid = refl
 
 -- no tick and no point
@@ -146,7 +117,7 @@ place-step d t n e0 e1 e2 e3 tests (suc zero) l =
     ∙ ap (caught_up_where (p && counts_rtc d)) (skip_tick (falls_at hpet_hz (t + n + 1)) (ticked_where (falls_at rtc_hz (t + n + 1) && rtc_due e1 1) (ticked_where (falls_at pit_hz (t + n + 1) && false) x))
     ∙ ap (ticked_where (falls_at rtc_hz (t + n + 1) && rtc_due e1 1)) (skip_tick (falls_at pit_hz (t + n + 1)) x)
     ∙ ap (λ (b : Bool). ticked_where b x) tests.rtc)
-    ∙ rtc_line (counts_rtc d) p (λ j. ticks_in (clock_of d.rtc) (pulses_from rtc_hz t j)) d.slew_ns t n l refl
+    ∙ rtc_line (counts_rtc d) p (λ j. ticks_in (divider_of d.rtc) (pulses_from rtc_hz t j)) d.slew_ns t n l refl
 place-step d t n e0 e1 e2 e3 tests (suc (suc k)) l =
     let x : TickParts = line_after (source d t (suc (suc k))) d.slew_ns t n l in
     ap (λ (b : Bool). caught_up_where b (ticked_where (falls_at hpet_hz (t + n + 1) && hpet_due e2 (suc (suc k))) (ticked_where (falls_at rtc_hz (t + n + 1) && false) (ticked_where (falls_at pit_hz (t + n + 1) && false) x)))) (and-true (eqb ((t + n + 1) % d.slew_ns) 0))
@@ -286,11 +257,11 @@ module _ (t n : ℕ) (d : DeviceParts) (sound : Sound d) where
 
   valid-rtc : (m : ℕ) → IsRtc (rtc_times t m d)
   unfolding rtc_times
-  valid-rtc m = IsRtc-pulsed_times (pulses_from rtc_hz t m) d.rtc sound.rtc
+  valid-rtc m = IsRtc-rtc_pulsed_times (pulses_from rtc_hz t m) d.rtc sound.rtc
 
   b-rtc : (m : ℕ) → register_b (rtc_times t m d) ≡ register_b d.rtc
   unfolding rtc_times
-  b-rtc m = register_b-pulsed_times (pulses_from rtc_hz t m) d.rtc sound.rtc
+  b-rtc m = register_b-rtc_pulsed_times (pulses_from rtc_hz t m) d.rtc sound.rtc
 
   -- PF goes past the pulse
   flagged-pulse : (b : Bool) → cond (falls_at rtc_hz (t + n + 1)) (rtc_pulsed (flagged_where b (rtc_times t n d))) (flagged_where b (rtc_times t n d)) ≡ flagged_where b (rtc_times t (suc n) d)
@@ -315,10 +286,10 @@ module _ (t n : ℕ) (d : DeviceParts) (sound : Sound d) where
   legacy-now : (m : ℕ) → is_legacy (hpet_pulsed_times m d.hpet) ≡ is_legacy d.hpet
   legacy-now m = is_legacy-times m d.hpet sound.counter
 
-  next_tick : (ticks_next (clock_of (flagged_where flag_now (rtc_times t n d))) && (pie_of (flagged_where flag_now (rtc_times t n d)) && not (is_legacy (hpet_pulsed_times (pulses_from hpet_hz t n) d.hpet))))
-      ≡ (ticks_next (clock_times (pulses_from rtc_hz t n) (clock_of d.rtc)) && (pie_of (flagged_where flag_now (rtc_times t n d)) && not (is_legacy (hpet_pulsed_times (pulses_from hpet_hz t n) d.hpet))))
+  next_tick : (ticks_next (divider_of (flagged_where flag_now (rtc_times t n d))) && (pie_of (flagged_where flag_now (rtc_times t n d)) && not (is_legacy (hpet_pulsed_times (pulses_from hpet_hz t n) d.hpet))))
+      ≡ (ticks_next (divider_times (pulses_from rtc_hz t n) (divider_of d.rtc)) && (pie_of (flagged_where flag_now (rtc_times t n d)) && not (is_legacy (hpet_pulsed_times (pulses_from hpet_hz t n) d.hpet))))
   unfolding rtc_times flag_now
-  next_tick = ap (λ (c : DividerParts). ticks_next c && (pie_of (flagged_where flag_now (rtc_times t n d)) && not (is_legacy (hpet_pulsed_times (pulses_from hpet_hz t n) d.hpet)))) (clock_of-flagged_where flag_now (rtc_times t n d) (valid-rtc n) ∙ clock_of-pulsed_times (pulses_from rtc_hz t n) d.rtc sound.rtc)
+  next_tick = ap (λ (c : DividerParts). ticks_next c && (pie_of (flagged_where flag_now (rtc_times t n d)) && not (is_legacy (hpet_pulsed_times (pulses_from hpet_hz t n) d.hpet)))) (divider_of-flagged_where flag_now (rtc_times t n d) (valid-rtc n) ∙ divider_of-rtc_pulsed_times (pulses_from rtc_hz t n) d.rtc sound.rtc)
 
   counted : (pie_of (flagged_where flag_now (rtc_times t n d)) && not (is_legacy (hpet_pulsed_times (pulses_from hpet_hz t n) d.hpet))) ≡ counts_rtc d
   unfolding rtc_times flag_now
@@ -330,11 +301,11 @@ module _ (t n : ℕ) (d : DeviceParts) (sound : Sound d) where
     pit = ap (λ (b : Bool). falls_at pit_hz (t + n + 1) && b) (
         ap (λ (c : CounterParts). rises_next c && not (is_legacy (hpet_pulsed_times (pulses_from hpet_hz t n) d.hpet))) (counter_of-pit_pulsed_times (pulses_from pit_hz t n) 0 d.pit sound.pit (omega arith))
         ∙ ap (λ (l : Bool). rises_next (pulsed_times (pulses_from pit_hz t n) (counter_of d.pit 0)) && not l) (legacy-now (pulses_from hpet_hz t n)))
-        ∙ sym (count-step (not (is_legacy d.hpet)) (rises_in (counter_of d.pit 0)) (λ m. rises_next (pulsed_times m (counter_of d.pit 0))) pit_hz t n (omega arith) (rises_in-suc (counter_of d.pit 0)));
-    rtc = ap (λ (b : Bool). falls_at rtc_hz (t + n + 1) && b) (next_tick ∙ ap (λ (b : Bool). ticks_next (clock_times (pulses_from rtc_hz t n) (clock_of d.rtc)) && b) counted)
-        ∙ sym (count-step (counts_rtc d) (ticks_in (clock_of d.rtc)) (λ m. ticks_next (clock_times m (clock_of d.rtc))) rtc_hz t n (omega arith) (ticks_in-suc (clock_of d.rtc)));
+        ∙ sym (count_where-step (not (is_legacy d.hpet)) (rises_in (counter_of d.pit 0)) (λ m. rises_next (pulsed_times m (counter_of d.pit 0))) pit_hz t n (omega arith) (rises_in-suc (counter_of d.pit 0)));
+    rtc = ap (λ (b : Bool). falls_at rtc_hz (t + n + 1) && b) (next_tick ∙ ap (λ (b : Bool). ticks_next (divider_times (pulses_from rtc_hz t n) (divider_of d.rtc)) && b) counted)
+        ∙ sym (count_where-step (counts_rtc d) (ticks_in (divider_of d.rtc)) (λ m. ticks_next (divider_times m (divider_of d.rtc))) rtc_hz t n (omega arith) (ticks_in-suc (divider_of d.rtc)));
     hpet = λ k. ap (λ (b : Bool). falls_at hpet_hz (t + n + 1) && (matches_next k (hpet_pulsed_times (pulses_from hpet_hz t n) d.hpet) && b)) (has_ticks-times k (pulses_from hpet_hz t n) d.hpet sound.counter)
-        ∙ sym (count-step (has_ticks k d.hpet) (matches_of k d.hpet) (λ m. matches_next k (hpet_pulsed_times m d.hpet)) hpet_hz t n (omega arith) (λ m. refl));
+        ∙ sym (count_where-step (has_ticks k d.hpet) (matches_of k d.hpet) (λ m. matches_next k (hpet_pulsed_times m d.hpet)) hpet_hz t n (omega arith) (λ m. refl));
     sees = counts-by (cond (falls_at rtc_hz (t + n + 1)) (rtc_pulsed (flagged_where flag_now (rtc_pulsed_times (pulses_from rtc_hz t n) d.rtc))) (flagged_where flag_now (rtc_pulsed_times (pulses_from rtc_hz t n) d.rtc))) d.rtc (cond (falls_at hpet_hz (t + n + 1)) (hpet_pulsed (hpet_pulsed_times (pulses_from hpet_hz t n) d.hpet)) (hpet_pulsed_times (pulses_from hpet_hz t n) d.hpet)) d.hpet
         (ap register_b (flagged-pulse flag_now) ∙ register_b-flagged_where flag_now (rtc_times t (suc n) d) (valid-rtc (suc n)) ∙ b-rtc (suc n))
         (ap is_legacy (sym pulses-hpet) ∙ legacy-now (pulses_from hpet_hz t (suc n)));
@@ -373,7 +344,7 @@ module _ (t n : ℕ) (d : DeviceParts) (sound : Sound d) where
   next-line : counts_rtc d ≡ true → line_run d t (suc n) 1 (line_at 1 d) ≡ caught_up_where (eqb ((t + n + 1) % d.slew_ns) 0) (ticked_where tick_of_rtc (line_run d t n 1 (line_at 1 d)))
   unfolding tick_of_rtc
   next-line counted =
-      sym (rtc_line (counts_rtc d) (eqb ((t + n + 1) % d.slew_ns) 0) (λ j. ticks_in (clock_of d.rtc) (pulses_from rtc_hz t j)) d.slew_ns t n (line_at 1 d) refl)
+      sym (rtc_line (counts_rtc d) (eqb ((t + n + 1) % d.slew_ns) 0) (λ j. ticks_in (divider_of d.rtc) (pulses_from rtc_hz t j)) d.slew_ns t n (line_at 1 d) refl)
       ∙ ap (λ (c : Bool). caught_up_where c (ticked_where (ltb (source d t 1 n) (source d t 1 (suc n))) (line_run d t n 1 (line_at 1 d)))) (ap (λ (c : Bool). eqb ((t + n + 1) % d.slew_ns) 0 && c) counted ∙ and-true (eqb ((t + n + 1) % d.slew_ns) 0))
 
   some_tick : (c : Bool) (a b : ℕ) → ltb (cond c a 0) (cond c b 0) ≡ true → ltb 0 b ≡ true
@@ -383,8 +354,8 @@ module _ (t n : ℕ) (d : DeviceParts) (sound : Sound d) where
   pf-now : tick_of_rtc ≡ true → pf_of (rtc_times t (suc n) d) ≡ true
   unfolding rtc_times tick_of_rtc
   pf-now e =
-      pf_of-pulsed_times (pulses_from rtc_hz t (suc n)) d.rtc sound.rtc
-      ∙ ap (λ (b : Bool). pf_of d.rtc || b) (some_tick (counts_rtc d) (ticks_in (clock_of d.rtc) (pulses_from rtc_hz t n)) (ticks_in (clock_of d.rtc) (pulses_from rtc_hz t (suc n))) e)
+      pf_of-rtc_pulsed_times (pulses_from rtc_hz t (suc n)) d.rtc sound.rtc
+      ∙ ap (λ (b : Bool). pf_of d.rtc || b) (some_tick (counts_rtc d) (ticks_in (divider_of d.rtc) (pulses_from rtc_hz t n)) (ticks_in (divider_of d.rtc) (pulses_from rtc_hz t (suc n))) e)
       ∙ or-true (pf_of d.rtc)
     where
       or-true : (b : Bool) → (b || true) ≡ true
@@ -419,7 +390,7 @@ parted-zero t d sound = same_parts d
     line_none zero l = line_after-zero (source d t 0) d.slew_ns t l
     line_none (suc zero) l = choice (counts_rtc d)
       where
-        choice : (c : Bool) → cond c (line_after (λ j. cond c (ticks_in (clock_of d.rtc) (pulses_from rtc_hz t j)) 0) d.slew_ns t 0 l) l ≡ l
+        choice : (c : Bool) → cond c (line_after (λ j. cond c (ticks_in (divider_of d.rtc) (pulses_from rtc_hz t j)) 0) d.slew_ns t 0 l) l ≡ l
         choice true = line_after-zero _ d.slew_ns t l
         choice false = refl
     line_none (suc (suc k)) l = line_after-zero (source d t (suc (suc k))) d.slew_ns t l

@@ -2,19 +2,19 @@
 use Rattle.std.proofs.Common.{◌≡◌, ℕ, zero, suc, ◌+◌, ◌-◌, ◌<◌, ◌≤◌, Bool, true, false, cond, eqb, ◌&&◌, ◌||◌, not, List, [], ◌∷◌, ◌++◌, length, get_or, Option, refl, ap, sym, subst, ◌∙◌, inl, inr, arith}
 use Rattle.std.proofs.lemmas.Bool.{cases_Bool, eqb-true, false≢true}
 use Rattle.irq_edges.specs.declared.edges.Edge.{Edge}
-use Rattle.irq_edges.specs.Changes.{change, changes, level_of, line_numbers}
-use Rattle.irq_edges.specs.Levels.{is_up_at, levels_at, rises_of}
+use Rattle.irq_edges.specs.Lines.{change, changes, level_of, line_numbers}
+use Rattle.irq_edges.specs.Rises.{levels_at, rises_of}
 use Rattle.irq_edges.proofs.UpFrom.{is_up_at-mono}
 use Rattle.irq_edges.proofs.RisesOf.{rises_of-zero, rises_of-more}
 use Rattle.rtc_registers.specs.declared.parts.RtcParts.{RtcParts}
-use Rattle.rtc_registers.specs.Registers.{IsRtc, irqf_of, pf_of, af_of, uf_of, pie_of, aie_of, uie_of, has_bit, after_read, flagged}
-use Rattle.rtc_registers.proofs.Flags.{IsRtc-after_read, pf_of-flagged, af_of-flagged, uf_of-flagged, register_b-flagged}
+use Rattle.rtc_registers.specs.Registers.{IsRtc, irqf_of, pf_of, af_of, uf_of, pie_of, aie_of, uie_of, has_bit, after_rtc_read, flagged}
+use Rattle.rtc_registers.proofs.Flags.{IsRtc-after_rtc_read, pf_of-flagged, af_of-flagged, uf_of-flagged, register_b-flagged}
 use Rattle.tick_policy.specs.Line.{goes_again}
 use Rattle.board_devices.specs.declared.act.Act.{Act}
 use Rattle.board_devices.specs.declared.act.Act.TheVariants.{PitRead, PitWrite, IndexRead, IndexWrite, ClockRead, ClockWrite, HpetRead, HpetWrite, Ack, Nothing}
 use Rattle.board_devices.specs.Act.{acks, reads_c, acked_where, down_where, acted, first_part, act_edges}
 use Rattle.hpet_comparator.specs.Timer.{is_level}
-use Rattle.hpet_registers.specs.Parts.{timer_at, is_legacy, level_of as level_of_timer}
+use Rattle.hpet_registers.specs.Parts.{timer_at, is_legacy, level_output}
 use Rattle.tick_policy.specs.declared.line.TickParts.{TickParts}
 use Rattle.board_devices.specs.declared.parts.DeviceParts.{DeviceParts}
 use Rattle.board_devices.specs.Places.{each, line_at, no_line}
@@ -181,7 +181,7 @@ lifts-parts n t a b c la lb lc below =
 output-below : (k : ℕ) (d : DeviceParts) (r : RtcParts) (ls : List TickParts) → ((i : ℕ) → (line_at i d).up ≡ true → (get_or ls i no_line).up ≡ true) → output_of k d ≡ true → output_of k (record d { rtc = r; ticks = ls }) ≡ true
 output-below k d r ls grow up = by_type (is_level (timer_at k d.hpet)) up
   where
-    by_type : (b : Bool) → cond b (level_of_timer k d.hpet) (line_at (suc (suc k)) d).up ≡ true → cond b (level_of_timer k d.hpet) (get_or ls (suc (suc k)) no_line).up ≡ true
+    by_type : (b : Bool) → cond b (level_output k d.hpet) (line_at (suc (suc k)) d).up ≡ true → cond b (level_output k d.hpet) (get_or ls (suc (suc k)) no_line).up ≡ true
     by_type true h = h
     by_type false h = grow (suc (suc k)) h
 
@@ -262,8 +262,8 @@ pub second-below : (a : Act) (d : DeviceParts) → IsRtc d.rtc → Below (levels
 unfolding first_part acted
 second-below (Ack line) d valid = levels-below (record d { ticks = each (λ k l. down_where (acks line d.hpet k) l) 0 d.ticks }) d.rtc (each (λ k l. acked_where (acks line d.hpet k) l) 0 d.ticks) (λ i. grows (acks line d.hpet) 0 i d.ticks) (λ e. e)
 second-below ClockRead d valid =
-    levels-below (record d { rtc = after_read d.rtc; ticks = each (λ k l. down_where (reads_c d k) l) 0 d.ticks }) (cond (reads_c d 1 && goes_again (line_at 1 d)) (flagged (after_read d.rtc)) (after_read d.rtc)) (each (λ k l. acked_where (reads_c d k) l) 0 d.ticks)
-    (λ i. grows (reads_c d) 0 i d.ticks) (irqf-grows (reads_c d 1 && goes_again (line_at 1 d)) (after_read d.rtc) (IsRtc-after_read d.rtc valid))
+    levels-below (record d { rtc = after_rtc_read d.rtc; ticks = each (λ k l. down_where (reads_c d k) l) 0 d.ticks }) (cond (reads_c d 1 && goes_again (line_at 1 d)) (flagged (after_rtc_read d.rtc)) (after_rtc_read d.rtc)) (each (λ k l. acked_where (reads_c d k) l) 0 d.ticks)
+    (λ i. grows (reads_c d) 0 i d.ticks) (irqf-grows (reads_c d 1 && goes_again (line_at 1 d)) (after_rtc_read d.rtc) (IsRtc-after_rtc_read d.rtc valid))
 second-below (PitRead port) d valid = Below-same (levels (acted (PitRead port) d))
 second-below (PitWrite port byte) d valid = Below-same (levels (acted (PitWrite port byte) d))
 second-below IndexRead d valid = Below-same (levels d)

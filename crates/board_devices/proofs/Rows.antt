@@ -1,18 +1,17 @@
 -- Rows on the nanosecond.
-use Rattle.std.proofs.Common.{◌≡◌, ℕ, Bool, true, false, refl, [], ◌∷◌, List}
+use Rattle.std.proofs.Common.{◌≡◌, ℕ, true, false, refl, [], ◌∷◌}
 use Rattle.std.specs.Prelude.{replicate}
 use Rattle.clk_units.specs.Pulses.{falls_at, pulses_by}
 use Rattle.pit_counter.specs.declared.parts.CounterParts.{CounterParts}
 use Rattle.pit_counter.specs.Mode.{mode_of, is_bcd}
 use Rattle.pit_counter.specs.Count.{modulus, number_in, meant_count, is_odd_square, loaded_count, lowered}
 use Rattle.pit_counter.specs.Table.{effect_in, pulsed, rises_next}
-use Rattle.pit_counter.specs.Programming.{programmed, powered_on}
+use Rattle.pit_counter.specs.Programming.{programmed, counter_at_power_on}
 use Rattle.pit_readback.specs.Pit.{pit_pulsed}
-use Rattle.rtc_cycle.specs.Divider.{ticks_next, updates_next, pulsed as clock_pulsed}
+use Rattle.rtc_cycle.specs.Divider.{ticks_next, updates_next, pulsed as divider_pulsed}
 use Rattle.rtc_registers.specs.declared.parts.RtcParts.{RtcParts}
 use Rattle.rtc_registers.specs.Registers.{with_time, flagged}
-use Rattle.rtc_registers.specs.Pulses.{alarms_next, moved, pulsed as rtc_pulsed}
-use Rattle.hpet_comparator.specs.declared.parts.TimerParts.{TimerParts}
+use Rattle.rtc_registers.specs.Pulses.{alarms_next, moved, rtc_pulsed}
 use Rattle.hpet_comparator.specs.Timer.{matches_at, pulsed as timer_pulsed}
 use Rattle.hpet_registers.specs.declared.parts.HpetParts.{HpetParts}
 use Rattle.hpet_registers.specs.Parts.{no_timer, no_bits, no_words}
@@ -30,7 +29,7 @@ line p q = record { policy = p; up = false; counts = record { due = q; rises = 0
 
 -- counter 0 in mode 2 at 2 of 4
 counter : CounterParts
-counter = record (powered_on true) { bits = 52; null = false; full = true; live = true; cr = 4; ce = 2 }
+counter = record (counter_at_power_on true) { bits = 52; null = false; full = true; live = true; cr = 4; ce = 2 }
 
 -- a periodic event at the next pulse, with PIE
 rtc : RtcParts
@@ -56,7 +55,7 @@ hpet = record {
 
 start : DeviceParts
 start = record {
-  pit = record { counters = counter ∷ powered_on true ∷ powered_on false ∷ []; speaker = false };
+  pit = record { counters = counter ∷ counter_at_power_on true ∷ counter_at_power_on false ∷ []; speaker = false };
   rtc = rtc;
   hpet = hpet;
   ticks = line Delay 0 ∷ line Slew 1 ∷ line Delay 0 ∷ line Delay 0 ∷ line Delay 0 ∷ line Discard 0 ∷ line Discard 0 ∷ line Discard 0 ∷ line Discard 0 ∷ line Discard 0 ∷ [];
@@ -65,15 +64,15 @@ start = record {
 
 -- the matches of both timers, and between them the catch-up point, at which the tick that waits comes up
 hpet_rows : (run 0 40 start).edges ≡ record { at = 20; line = 21; up = true } ∷ record { at = 30; line = 20; up = true } ∷ record { at = 35; line = 8; up = true } ∷ []
-unfolding start line rtc hpet counter run onward at_nanosecond pit_pulse rtc_pulse hpet_pulse catch_up_point levels falls_at pulses_by pulsed rises_next pit_pulsed rtc_pulsed ticks_next updates_next clock_pulsed alarms_next moved with_time flagged matches_next hpet_pulsed matches_at timer_pulsed effect_in mode_of is_bcd modulus number_in meant_count is_odd_square loaded_count lowered programmed
+unfolding start line rtc hpet counter run onward at_nanosecond pit_pulse rtc_pulse hpet_pulse catch_up_point levels falls_at pulses_by pulsed rises_next pit_pulsed rtc_pulsed ticks_next updates_next divider_pulsed alarms_next moved with_time flagged matches_next hpet_pulsed matches_at timer_pulsed effect_in mode_of is_bcd modulus number_in meant_count is_odd_square loaded_count lowered programmed
 hpet_rows = refl
 
 -- the clock's periodic event at 30518; no catch-up point comes
 rtc_row : (run 30515 5 (record start { slew_ns = 1000000000 })).edges ≡ record { at = 30518; line = 8; up = true } ∷ []
-unfolding start line rtc hpet counter run onward at_nanosecond pit_pulse rtc_pulse hpet_pulse catch_up_point levels falls_at pulses_by pulsed rises_next pit_pulsed rtc_pulsed ticks_next updates_next clock_pulsed alarms_next moved with_time flagged matches_next hpet_pulsed matches_at timer_pulsed effect_in mode_of is_bcd modulus number_in meant_count is_odd_square loaded_count lowered programmed
+unfolding start line rtc hpet counter run onward at_nanosecond pit_pulse rtc_pulse hpet_pulse catch_up_point levels falls_at pulses_by pulsed rises_next pit_pulsed rtc_pulsed ticks_next updates_next divider_pulsed alarms_next moved with_time flagged matches_next hpet_pulsed matches_at timer_pulsed effect_in mode_of is_bcd modulus number_in meant_count is_odd_square loaded_count lowered programmed
 rtc_row = refl
 
 -- two thousand nanoseconds, with OUT 0 going up at its second pulse
 long_row : (run 0 2000 start).edges ≡ record { at = 20; line = 21; up = true } ∷ record { at = 30; line = 20; up = true } ∷ record { at = 35; line = 8; up = true } ∷ record { at = 1677; line = 0; up = true } ∷ []
-unfolding start line rtc hpet counter run onward at_nanosecond pit_pulse rtc_pulse hpet_pulse catch_up_point levels falls_at pulses_by pulsed rises_next pit_pulsed rtc_pulsed ticks_next updates_next clock_pulsed alarms_next moved with_time flagged matches_next hpet_pulsed matches_at timer_pulsed effect_in mode_of is_bcd modulus number_in meant_count is_odd_square loaded_count lowered programmed
+unfolding start line rtc hpet counter run onward at_nanosecond pit_pulse rtc_pulse hpet_pulse catch_up_point levels falls_at pulses_by pulsed rises_next pit_pulsed rtc_pulsed ticks_next updates_next divider_pulsed alarms_next moved with_time flagged matches_next hpet_pulsed matches_at timer_pulsed effect_in mode_of is_bcd modulus number_in meant_count is_odd_square loaded_count lowered programmed
 long_row = refl

@@ -1,14 +1,14 @@
 -- What an access does to the devices, in its two parts: all its effects but rises out of a queue, and then those
 -- rises. Sections are those of the Intel 8254, the Motorola MC146818 and the IA-PC HPET 1.0a sheets; what they
 -- leave open is marked '(own)'.
-use Rattle.std.specs.Prelude.{◌≡◌, ℕ, zero, suc, ◌<◌, ◌≤◌, ◌^◌, ◌*◌, ◌%◌, Bool, true, false, ◌&&◌, ◌||◌, ◌==◌, not, nat_lt, nat_le, if◌then◌else◌, IsTrue, List, ◌++◌}
+use Rattle.std.specs.Prelude.{ℕ, zero, suc, ◌<◌, ◌≤◌, ◌^◌, ◌*◌, ◌%◌, Bool, false, ◌&&◌, ◌||◌, ◌==◌, not, nat_lt, nat_le, if◌then◌else◌, IsTrue, List, ◌++◌}
 use Rattle.irq_edges.specs.declared.edges.Edge.{Edge}
-use Rattle.irq_edges.specs.Changes.{changes, line_numbers}
+use Rattle.irq_edges.specs.Lines.{changes, line_numbers}
 use Rattle.pit_counter.specs.Table.{has_risen}
 use Rattle.pit_readback.specs.declared.parts.PitParts.{PitParts}
 use Rattle.pit_readback.specs.Pit.{counter_of}
 use Rattle.pit_readback.specs.Ports.{port_written, port_read, after_port_read, written_61, read_of_61}
-use Rattle.rtc_registers.specs.Registers.{pf_of, byte_read as rtc_read, after_read as after_rtc_read, written as rtc_written, flagged}
+use Rattle.rtc_registers.specs.Registers.{pf_of, rtc_read, after_rtc_read, rtc_written, flagged}
 use Rattle.hpet_comparator.specs.Timer.{is_level, route_of}
 use Rattle.hpet_registers.specs.declared.parts.HpetParts.{HpetParts}
 use Rattle.hpet_registers.specs.Parts.{timer_at, is_legacy}

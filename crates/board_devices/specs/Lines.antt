@@ -3,13 +3,13 @@ use Rattle.std.specs.Prelude.{ℕ, zero, suc, Bool, false, ◌&&◌, ◌||◌, �
 use Rattle.rtc_registers.specs.Registers.{irqf_of}
 use Rattle.hpet_comparator.specs.Timer.{is_level, route_of}
 use Rattle.hpet_registers.specs.declared.parts.HpetParts.{HpetParts}
-use Rattle.hpet_registers.specs.Parts.{timer_at, is_legacy, level_of}
+use Rattle.hpet_registers.specs.Parts.{timer_at, is_legacy, level_output}
 use Rattle.board_devices.specs.declared.parts.DeviceParts.{DeviceParts}
 use Rattle.board_devices.specs.Places.{line_at}
 
 -- the output of a timer: its status bit with interrupt enable for level type, else its tick line
 abbrev pub output_of : ℕ → DeviceParts → Bool
-output_of k d = if is_level (timer_at k d.hpet) then level_of k d.hpet else (line_at (suc (suc k)) d).up
+output_of k d = if is_level (timer_at k d.hpet) then level_output k d.hpet else (line_at (suc (suc k)) d).up
 
 -- a timer drives a line to which it is routed, but timers 0 and 1 under legacy replacement
 abbrev pub drives : ℕ → ℕ → HpetParts → Bool

@@ -4,9 +4,8 @@ use Rattle.clk_units.specs.Pulses.{falls_at}
 use Rattle.pit_counter.specs.Table.{rises_next}
 use Rattle.pit_readback.specs.Pit.{counter_of, pit_pulsed}
 use Rattle.rtc_cycle.specs.Divider.{ticks_next}
-use Rattle.rtc_registers.specs.declared.parts.RtcParts.{RtcParts}
-use Rattle.rtc_registers.specs.Registers.{clock_of, pie_of, flagged}
-use Rattle.rtc_registers.specs.Pulses.{pulsed as rtc_pulsed}
+use Rattle.rtc_registers.specs.Registers.{divider_of, pie_of, flagged}
+use Rattle.rtc_registers.specs.Pulses.{rtc_pulsed}
 use Rattle.hpet_registers.specs.declared.parts.HpetParts.{HpetParts}
 use Rattle.hpet_registers.specs.Parts.{timer_at, is_legacy}
 use Rattle.hpet_registers.specs.Pulses.{hpet_pulsed, matches_next}
@@ -40,7 +39,7 @@ pit_due d (suc k) = false
 
 abbrev pub rtc_due : DeviceParts → ℕ → Bool
 rtc_due d zero = false
-rtc_due d (suc zero) = ticks_next (clock_of d.rtc) && counts_rtc d
+rtc_due d (suc zero) = ticks_next (divider_of d.rtc) && counts_rtc d
 rtc_due d (suc (suc k)) = false
 
 abbrev pub hpet_due : DeviceParts → ℕ → Bool

@@ -1,8 +1,8 @@
 -- The devices at power on, the conditions on their fields, and the devices of a board that gets five timers more.
 use Rattle.std.specs.Prelude.{◌≡◌, ℕ, suc, ◌+◌, ◌<◌, ◌≤◌, Bool, true, false, ◌&&◌, ◌==◌, nat_lt, length, map, List, [], ◌∷◌, if◌then◌else◌}
-use Rattle.pit_readback.specs.Pit.{IsPit, pit_powered_on}
+use Rattle.pit_readback.specs.Pit.{IsPit, pit_at_power_on}
 use Rattle.rtc_calendar.specs.declared.TimeBytes.{TimeBytes}
-use Rattle.rtc_registers.specs.Registers.{IsRtc, pf_of, at_power_on}
+use Rattle.rtc_registers.specs.Registers.{IsRtc, pf_of, rtc_at_power_on}
 use Rattle.hpet_comparator.specs.declared.parts.TimerParts.{TimerParts}
 use Rattle.hpet_comparator.specs.Timer.{timer_at_power_on}
 use Rattle.hpet_registers.specs.declared.parts.HpetParts.{HpetParts}
@@ -27,8 +27,8 @@ lines_at_power_on timers pit rtc hpet =
 -- the devices at power on
 abbrev pub devices_at_power_on : ℕ → Policy → Policy → Policy → ℕ → TimeBytes → DeviceParts
 devices_at_power_on timers pit rtc hpet slew_ns time = record {
-  pit = pit_powered_on;
-  rtc = at_power_on time;
+  pit = pit_at_power_on;
+  rtc = rtc_at_power_on time;
   hpet = hpet_at_power_on timers false;
   ticks = lines_at_power_on timers pit rtc hpet;
   slew_ns = slew_ns;

@@ -1,5 +1,5 @@
 -- The ten tick lines by place: 0 is that of the 8254, 1 that of the MC146818, k + 2 that of timer k of the HPET.
-use Rattle.std.specs.Prelude.{ℕ, zero, suc, Bool, false, List, [], ◌∷◌, slice_index_or}
+use Rattle.std.specs.Prelude.{ℕ, suc, Bool, List, [], ◌∷◌, slice_index_or}
 use Rattle.tick_policy.specs.declared.line.TickParts.{TickParts}
 use Rattle.tick_policy.specs.declared.line.Policy.TheVariants.{Discard}
 use Rattle.tick_policy.specs.Line.{powered_on}

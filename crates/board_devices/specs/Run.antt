@@ -1,7 +1,7 @@
 -- Runs of the devices, nanosecond by nanosecond, and the edges on the way.
 use Rattle.std.specs.Prelude.{◌≡◌, ◌≢◌, ℕ, zero, suc, ◌+◌, ◌-◌, ◌<◌, List, [], ◌++◌, Option, Some, None}
 use Rattle.irq_edges.specs.declared.edges.Edge.{Edge}
-use Rattle.irq_edges.specs.Changes.{changes, line_numbers}
+use Rattle.irq_edges.specs.Lines.{changes, line_numbers}
 use Rattle.board_devices.specs.declared.parts.DeviceParts.{DeviceParts}
 use Rattle.board_devices.specs.Nanosecond.{at_nanosecond}
 use Rattle.board_devices.specs.Lines.{levels}

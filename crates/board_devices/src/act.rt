@@ -1,11 +1,11 @@
 //! What accesses do to the devices.
 ghost use Rattle.std.specs.Prelude.{◌≡◌, ℕ, ◌+◌, ◌*◌, ◌<◌, ◌≤◌, ◌^◌, ◌&&◌, ◌||◌, ◌++◌, not, length, slice_index_or, IsTrue};
-ghost use Rattle.irq_edges.specs.declared.edges.TheConstants.{PLACES};
-ghost use Rattle.irq_edges.specs.Changes.{line_numbers, level_of, change};
+ghost use Rattle.irq_edges.specs.declared.edges.TheConstants.{EDGE_PLACES};
+ghost use Rattle.irq_edges.specs.Lines.{line_numbers, level_of, change};
 ghost use Rattle.pit_counter.specs.Table.{has_risen};
 ghost use Rattle.pit_readback.specs.Pit.{counter_of};
 ghost use Rattle.hpet_registers.specs.Register.{is_access_width};
-ghost use Rattle.rtc_registers.specs.Registers.{IsRtc, byte_read as rtc_read};
+ghost use Rattle.rtc_registers.specs.Registers.{IsRtc, rtc_read};
 ghost use Rattle.board_devices.specs.Rises.{one_if, lifts};
 ghost use Rattle.board_devices.specs.Places.{line_at, no_line, ticked_at};
 ghost use Rattle.board_devices.specs.Lines.{levels};
@@ -51,7 +51,7 @@ impl Devices {
     pub fn act(&mut self, a: Act, at: u64, edges: &mut EdgeList) -> u64
         requires legal { IsLegal a }
         requires room { (line_at 0 self.old).counts.due + 1 < 2 ^ 63 }
-        requires places { length edges.old + 12 ≤ PLACES }
+        requires places { length edges.old + 12 ≤ EDGE_PLACES }
         ensures state { self.new ≡ acted a self.old }
         ensures value { result ≡ value_of at a self.old }
         ensures edges { edges.new ≡ edges.old ++ act_edges at a self.old }
@@ -68,7 +68,7 @@ impl Devices {
     fn act_parts(&mut self, a: Act, at: u64, edges: &mut EdgeList) -> u64
         requires legal { IsLegal a }
         requires room { (line_at 0 self.old).counts.due + 1 < 2 ^ 63 }
-        requires places { length edges.old + 12 ≤ PLACES }
+        requires places { length edges.old + 12 ≤ EDGE_PLACES }
         ensures state { self.new ≡ acted a self.old }
         ensures value { result ≡ value_of at a self.old }
         ensures edges { edges.new ≡ edges.old ++ act_edges at a self.old }
@@ -120,7 +120,7 @@ impl Devices {
     #[tactic(auto, unfolding(crate::specs::Act::acted, crate::specs::Act::first_part))]
     fn write_pit(&mut self, port: u8, byte: u8, at: u64, edges: &mut EdgeList)
         requires port { IsTrue (is_pit_port port) }
-        requires places { length edges.old + 12 ≤ PLACES }
+        requires places { length edges.old + 12 ≤ EDGE_PLACES }
         requires room { (line_at 0 self.old).counts.due + 1 < 2 ^ 63 }
         ensures state { self.new ≡ acted (PitWrite port byte) self.old }
         ensures edges { edges.new ≡ edges.old ++ act_edges at (PitWrite port byte) self.old }
@@ -147,7 +147,7 @@ impl Devices {
     /// A read of port 71h. One of register C acknowledges the clock's tick line.
     #[tactic(auto, unfolding(crate::specs::Act::acted, crate::specs::Act::first_part))]
     fn read_clock(&mut self, at: u64, edges: &mut EdgeList) -> u8
-        requires { length edges.old + 12 ≤ PLACES }
+        requires { length edges.old + 12 ≤ EDGE_PLACES }
         ensures state { self.new ≡ acted ClockRead self.old }
         ensures value { result ≡ rtc_read self.old.rtc }
         ensures edges { edges.new ≡ edges.old ++ act_edges at ClockRead self.old }
@@ -166,7 +166,7 @@ impl Devices {
     fn read_flags(&mut self, at: u64, edges: &mut EdgeList) -> u8
         requires index { self.old.rtc.index ≡ 0x0c }
         requires valid { IsRtc self.old.rtc }
-        requires places { length edges.old + 12 ≤ PLACES }
+        requires places { length edges.old + 12 ≤ EDGE_PLACES }
         ensures state { self.new ≡ acted ClockRead self.old }
         ensures value { result ≡ rtc_read self.old.rtc }
         ensures edges { edges.new ≡ edges.old ++ act_edges at ClockRead self.old }
@@ -190,7 +190,7 @@ impl Devices {
     /// A write to port 71h. The clock's tick line follows PF.
     #[tactic(auto, unfolding(crate::specs::Act::acted, crate::specs::Act::first_part))]
     fn write_clock(&mut self, byte: u8, at: u64, edges: &mut EdgeList)
-        requires { length edges.old + 12 ≤ PLACES }
+        requires { length edges.old + 12 ≤ EDGE_PLACES }
         ensures state { self.new ≡ acted (ClockWrite byte) self.old }
         ensures edges { edges.new ≡ edges.old ++ act_edges at (ClockWrite byte) self.old }
         ensures few { length edges.new ≤ length edges.old + 12 }
@@ -212,7 +212,7 @@ impl Devices {
         requires offset { offset ≤ 0x3ff }
         requires width { IsTrue (is_access_width width) }
         requires fits { v < 2 ^ (8 * width) }
-        requires places { length edges.old + 12 ≤ PLACES }
+        requires places { length edges.old + 12 ≤ EDGE_PLACES }
         ensures state { self.new ≡ acted (HpetWrite offset width v) self.old }
         ensures edges { edges.new ≡ edges.old ++ act_edges at (HpetWrite offset width v) self.old }
         ensures few { length edges.new ≤ length edges.old + 12 }
@@ -228,7 +228,7 @@ impl Devices {
     /// An acknowledgement of a line, in its two parts.
     #[tactic(auto, unfolding(crate::specs::Act::acted, crate::specs::Act::first_part))]
     fn ack(&mut self, line: u8, at: u64, edges: &mut EdgeList)
-        requires { length edges.old + 12 ≤ PLACES }
+        requires { length edges.old + 12 ≤ EDGE_PLACES }
         ensures state { self.new ≡ acted (Ack line) self.old }
         ensures edges { edges.new ≡ edges.old ++ act_edges at (Ack line) self.old }
         ensures few { length edges.new ≤ length edges.old + 12 }
@@ -305,7 +305,7 @@ fn tick_first(ticks: &mut [TickLine; 10], b: bool)
 
 /// Appends the edge of a line between two levels, where they differ.
 fn push_change(line: u8, before: bool, after: bool, at: u64, edges: &mut EdgeList)
-    requires { length edges.old < PLACES }
+    requires { length edges.old < EDGE_PLACES }
     ensures appended { edges.new ≡ edges.old ++ change at line before after }
     ensures few { length edges.new ≤ length edges.old + 1 }
 {

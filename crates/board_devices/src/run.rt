@@ -1,8 +1,8 @@
 //! The devices over a stretch of nanoseconds in which nobody accesses them.
 ghost use Rattle.std.specs.Prelude.{◌≡◌, ℕ, ◌+◌, ◌-◌, ◌*◌, ◌/◌, ◌<◌, ◌≤◌, ◌^◌, ◌&&◌, ◌++◌, length};
-ghost use Rattle.irq_edges.specs.declared.edges.TheConstants.{PLACES};
-ghost use Rattle.irq_edges.specs.Levels.{levels_at};
-ghost use Rattle.irq_edges.specs.Changes.{line_numbers, level_of};
+ghost use Rattle.irq_edges.specs.declared.edges.TheConstants.{EDGE_PLACES};
+ghost use Rattle.irq_edges.specs.Rises.{levels_at};
+ghost use Rattle.irq_edges.specs.Lines.{line_numbers, level_of};
 ghost use Rattle.board_devices.specs.Rises.{one_if, lifts};
 ghost use Rattle.board_devices.specs.Places.{line_at};
 ghost use Rattle.board_devices.specs.Lines.{levels};
@@ -11,8 +11,8 @@ ghost use Rattle.board_devices.specs.Run.{run, IsNextEdge};
 use crate::clock::{counts_rtc, set_flag};
 use crate::devices::Devices;
 use crate::levels::{all_outputs, irq_from, line_times, shown_of};
-use crate::stretch::{HPET_HZ, all_matched, all_timer_ticks, counted, first_at, run_lines};
-use clk_units::{RANGE_NS, pulses_between};
+use crate::stretch::{HPET_HZ, all_matched, all_timer_ticks, counted, run_lines};
+use clk_units::{RANGE_NS, first_at, pulses_between};
 use irq_edges::{EdgeList, emit, next_rise};
 
 /// The 8254's clock.
@@ -63,7 +63,7 @@ impl Devices {
         requires order { from ≤ to }
         requires range { to < 2 ^ 59 }
         requires room { (k : ℕ) → k < 10 → (line_at k self.old).counts.due + (to - from) < 2 ^ 63 }
-        requires places { length edges.old + 6 ≤ PLACES }
+        requires places { length edges.old + 6 ≤ EDGE_PLACES }
         ensures state { self.new ≡ (run from (to - from) self.old).state }
         ensures edges { edges.new ≡ edges.old ++ (run from (to - from) self.old).edges }
         ensures few { length edges.new ≤ length edges.old + 6 }

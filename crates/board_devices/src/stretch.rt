@@ -1,13 +1,14 @@
 //! The tick lines over a stretch of nanoseconds.
 ghost use Rattle.std.specs.Prelude.{◌≡◌, ℕ, ◌+◌, ◌-◌, ◌<◌, ◌≤◌, ◌^◌, ◌&&◌, not, ◌∷◌, [], IfSome, map, slice_index_or, if◌then◌else◌, None};
 ghost use Rattle.clk_units.specs.Pulses.{pulses_from};
+ghost use Rattle.clk_units.specs.Events.{first_at};
 ghost use Rattle.hpet_comparator.specs.Timer.{is_level, is_enabled};
-ghost use Rattle.hpet_registers.specs.Pulses.{place_of};
+ghost use Rattle.hpet_registers.specs.Pulses.{timer_matches};
 ghost use Rattle.board_devices.specs.Places.{no_line};
 ghost use Rattle.board_devices.specs.Nanosecond.{hpet_hz};
-ghost use Rattle.board_devices.specs.private.Stretch.{eight, first_at, counted, no_ticks, timer_ticks, ticks_at, end_of, up_of};
+ghost use Rattle.board_devices.specs.private.Stretch.{eight, counted, no_ticks, timer_ticks, ticks_at, end_of, up_of};
 
-use clk_units::{pulses_of, time_of_pulse};
+use clk_units::first_at;
 use hpet_comparator::{Matches, TimerParts};
 use hpet_registers::HpetParts;
 use tick_policy::{TickLine, run_line};
@@ -33,22 +34,6 @@ impl Ticks {
         count: 0,
         first: None,
     };
-}
-
-/// The nanosecond of the first event among the pulses behind `from` and up to `to`.
-#[tactic(auto, using(crate::proofs::Times::comes_by, crate::proofs::Times::fits))]
-pub(crate) fn first_at(first: Option<u64>, hz: u64, from: u64, to: u64) -> Option<u64>
-    requires runs { 0 < hz }
-    requires slow { hz ≤ 1000000000 }
-    requires order { from ≤ to }
-    requires range { to < 2 ^ 59 }
-    requires inside { IfSome first (λ k. k ≤ pulses_from hz from (to - from)) }
-    ensures { result ≡ first_at hz from first }
-{
-    match first {
-        Some(k) => Some(time_of_pulse(pulses_of(from, hz) + k, hz)),
-        None => None,
-    }
 }
 
 /// Ticks that are counted where `b` holds.
@@ -78,8 +63,8 @@ fn matched_at(matches: &[Matches; 8], k: usize, from: u64, to: u64) -> Option<u6
     requires place { k < 8 }
     requires order { from ≤ to }
     requires range { to < 2 ^ 59 }
-    requires inside { IfSome (place_of matches.now k).first (λ j. j ≤ pulses_from hpet_hz from (to - from)) }
-    ensures { result ≡ first_at hpet_hz from (place_of matches.now k).first }
+    requires inside { IfSome (timer_matches matches.now k).first (λ j. j ≤ pulses_from hpet_hz from (to - from)) }
+    ensures { result ≡ first_at hpet_hz from (timer_matches matches.now k).first }
 {
     first_at(matches[k].first, HPET_HZ, from, to)
 }
@@ -88,8 +73,8 @@ fn matched_at(matches: &[Matches; 8], k: usize, from: u64, to: u64) -> Option<u6
 pub(crate) fn all_matched(matches: &[Matches; 8], from: u64, to: u64) -> [Option<u64>; 8]
     requires order { from ≤ to }
     requires range { to < 2 ^ 59 }
-    requires inside { (k : ℕ) → k < 8 → IfSome (place_of matches.now k).first (λ j. j ≤ pulses_from hpet_hz from (to - from)) }
-    ensures { result ≡ map (λ k. first_at hpet_hz from (place_of matches.now k).first) eight }
+    requires inside { (k : ℕ) → k < 8 → IfSome (timer_matches matches.now k).first (λ j. j ≤ pulses_from hpet_hz from (to - from)) }
+    ensures { result ≡ map (λ k. first_at hpet_hz from (timer_matches matches.now k).first) eight }
 {
     [
         matched_at(matches, 0, from, to),

@@ -1,17 +1,17 @@
 -- The devices over a stretch of nanoseconds, each by itself; private contracts alone cite this.
-use Rattle.std.specs.Prelude.{ℕ, zero, suc, ◌+◌, Bool, true, false, ◌&&◌, ◌||◌, not, nat_le, if◌then◌else◌, Option, Some, None, List, [], ◌∷◌, slice_index_or}
-use Rattle.clk_units.specs.Pulses.{pulses_by, pulses_from, time_of}
+use Rattle.std.specs.Prelude.{ℕ, zero, suc, Bool, true, false, ◌&&◌, ◌||◌, not, nat_le, if◌then◌else◌, Option, Some, None, List, [], ◌∷◌, slice_index_or}
+use Rattle.clk_units.specs.Pulses.{pulses_from}
 use Rattle.pit_counter.specs.Table.{rises_in}
 use Rattle.pit_readback.specs.Pit.{counter_of, pit_pulsed_times}
 use Rattle.rtc_cycle.specs.Divider.{ticks_in}
 use Rattle.rtc_registers.specs.declared.parts.RtcParts.{RtcParts}
-use Rattle.rtc_registers.specs.Registers.{clock_of, flagged}
-use Rattle.rtc_registers.specs.Pulses.{pulsed_times as rtc_pulsed_times}
+use Rattle.rtc_registers.specs.Registers.{divider_of, flagged}
+use Rattle.rtc_registers.specs.Pulses.{rtc_pulsed_times}
 use Rattle.hpet_comparator.specs.declared.timer.Matches.{Matches}
-use Rattle.hpet_comparator.specs.Timer.{is_level, is_enabled, bit_of, route_of}
+use Rattle.hpet_comparator.specs.Timer.{is_level, is_enabled, bit_of}
 use Rattle.hpet_registers.specs.declared.parts.HpetParts.{HpetParts}
-use Rattle.hpet_registers.specs.Parts.{is_legacy, timer_at, level_of}
-use Rattle.hpet_registers.specs.Pulses.{hpet_pulsed_times, matches_of, place_of}
+use Rattle.hpet_registers.specs.Parts.{is_legacy, timer_at, level_output}
+use Rattle.hpet_registers.specs.Pulses.{hpet_pulsed_times, matches_of, timer_matches}
 use Rattle.tick_policy.specs.declared.line.TickParts.{TickParts}
 use Rattle.tick_policy.specs.Stretch.{line_after, line_end, up_from}
 use Rattle.board_devices.specs.declared.parts.DeviceParts.{DeviceParts}
@@ -23,7 +23,7 @@ use Rattle.board_devices.specs.Nanosecond.{pit_hz, rtc_hz, hpet_hz, counts_rtc, 
 -- how many ticks are due at place k in the j nanoseconds behind t
 abbrev pub source : DeviceParts → ℕ → ℕ → ℕ → ℕ
 source d t zero = λ j. if not (is_legacy d.hpet) then rises_in (counter_of d.pit 0) (pulses_from pit_hz t j) else 0
-source d t (suc zero) = λ j. if counts_rtc d then ticks_in (clock_of d.rtc) (pulses_from rtc_hz t j) else 0
+source d t (suc zero) = λ j. if counts_rtc d then ticks_in (divider_of d.rtc) (pulses_from rtc_hz t j) else 0
 source d t (suc (suc k)) = λ j. if has_ticks k d.hpet then matches_of k d.hpet (pulses_from hpet_hz t j) else 0
 
 -- the line at place k after n nanoseconds
@@ -43,11 +43,6 @@ parted t n d = record d {
   ticks = each (line_run d t n) 0 d.ticks;
 }
 
--- the nanosecond of the first of a source's events behind t, where it has one
-abbrev pub first_at : ℕ → ℕ → Option ℕ → Option ℕ
-first_at hz t None = None
-first_at hz t (Some k) = Some (time_of hz (pulses_by hz t + k))
-
 -- a line that a catch-up point leaves alone unless `seen`, and the ticks of its source, which are counted where b holds
 abbrev pub counted : Bool → Bool → ℕ → Option ℕ → Ticks
 counted seen b count first = record { seen = seen; count = if b then count else 0; first = if b then first else None }
@@ -57,7 +52,7 @@ no_ticks = record { seen = false; count = 0; first = None }
 
 -- those of a timer's place
 abbrev pub timer_ticks : ℕ → HpetParts → List Matches → List (Option ℕ) → Ticks
-timer_ticks k h ms matched = counted true (is_enabled (timer_at k h) && not (is_level (timer_at k h))) (place_of ms k).count (slice_index_or matched k None)
+timer_ticks k h ms matched = counted true (is_enabled (timer_at k h) && not (is_level (timer_at k h))) (timer_matches ms k).count (slice_index_or matched k None)
 
 -- the places of the timers
 abbrev pub eight : List ℕ
@@ -101,7 +96,7 @@ ten = 0 ∷ 1 ∷ 2 ∷ 3 ∷ 4 ∷ 5 ∷ 6 ∷ 7 ∷ 8 ∷ 9 ∷ []
 
 -- outputs and routed lines, by their parts
 abbrev pub output_by : ℕ → HpetParts → List TickParts → Bool
-output_by k h ls = if is_level (timer_at k h) then level_of k h else (slice_index_or ls (suc (suc k)) no_line).up
+output_by k h ls = if is_level (timer_at k h) then level_output k h else (slice_index_or ls (suc (suc k)) no_line).up
 
 abbrev pub routed_by : ℕ → ℕ → HpetParts → List TickParts → Bool
 routed_by line zero h ls = false

@@ -1,4 +1,4 @@
-use Rattle.std.proofs.Common.{◌≡◌, Bool, sym, subst, ◌∙◌}
+use Rattle.std.proofs.Common.{◌≡◌, Bool, sym, subst}
 use Rattle.board_devices.specs.Act.{pit_ticked}
 use Rattle.board_devices.specs.Places.{ticked_at}
 use Rattle.board_devices.proofs.Masks.{ticked_none}

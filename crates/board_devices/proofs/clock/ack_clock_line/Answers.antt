@@ -1,4 +1,4 @@
-use Rattle.std.proofs.Common.{◌≡◌, ℕ, Bool, List, set, get_or, sym, subst, ap, ◌∙◌, arith}
+use Rattle.std.proofs.Common.{Bool, set, sym, ap, ◌∙◌, arith}
 use Rattle.std.proofs.lemmas.List.{get_or_default}
 use Rattle.tick_policy.specs.declared.line.TickParts.{TickParts}
 use Rattle.tick_policy.specs.Line.{acked}

@@ -1,6 +1,5 @@
-use Rattle.std.proofs.Common.{◌≡◌, ◌+◌, ◌≤◌, ℕ, ap, sym, subst, ◌∙◌}
-use Rattle.irq_edges.specs.Changes.{line_numbers, level_of}
-use Rattle.rtc_registers.specs.declared.parts.RtcParts.{RtcParts}
+use Rattle.std.proofs.Common.{◌+◌, ◌≤◌, ap, sym, subst, ◌∙◌}
+use Rattle.irq_edges.specs.Lines.{line_numbers, level_of}
 use Rattle.rtc_registers.specs.Registers.{IsRtc}
 use Rattle.board_devices.specs.declared.parts.DeviceParts.{DeviceParts}
 use Rattle.board_devices.specs.Act.{act_edges}

@@ -1,31 +1,29 @@
-use Rattle.std.proofs.Common.{◌≡◌, ℕ, ◌+◌, ◌-◌, ◌*◌, ◌/◌, ◌<◌, ◌≤◌, ◌^◌, ◌&&◌, Bool, not, length, get_or, List, Option, None, true, ap, sym, subst, refl, ◌∙◌, arith}
+use Rattle.std.proofs.Common.{◌≡◌, ℕ, ◌+◌, ◌-◌, ◌*◌, ◌/◌, ◌<◌, ◌^◌, ◌&&◌, Bool, get_or, List, Option, None, ap, sym, subst, refl, ◌∙◌, arith}
 use Rattle.std.proofs.lemmas.List.{get_or_default}
 use Rattle.clk_units.specs.Pulses.{pulses_from}
-use Rattle.rtc_registers.specs.Pulses.{pulsed_times as rtc_pulsed_times}
+use Rattle.rtc_registers.specs.Pulses.{rtc_pulsed_times}
 use Rattle.tick_policy.specs.declared.line.TickParts.{TickParts}
 use Rattle.board_devices.specs.Lines.{levels}
-use Rattle.clk_units.specs.Events.{CountsUp, IsFirst}
-use Rattle.tick_policy.specs.Stretch.{IsFirstPoint}
+use Rattle.clk_units.specs.Events.{first_at}
 use Rattle.tick_policy.proofs.Stretches.{next_point}
-use Rattle.hpet_registers.specs.Parts.{is_legacy}
 use Rattle.board_devices.specs.declared.parts.DeviceParts.{DeviceParts}
 use Rattle.board_devices.specs.declared.stretch.Ticks.{Ticks}
 use Rattle.hpet_registers.specs.declared.parts.HpetParts.{HpetParts}
-use Rattle.hpet_registers.specs.Pulses.{place_of}
+use Rattle.hpet_registers.specs.Pulses.{timer_matches}
 use Rattle.board_devices.specs.Places.{line_at, no_line}
-use Rattle.board_devices.specs.Nanosecond.{pit_hz, rtc_hz, hpet_hz, counts_rtc}
-use Rattle.board_devices.specs.private.Stretch.{first_at, counted, no_ticks, timer_ticks, ticks_at, end_of, up_of, flagged_where}
+use Rattle.board_devices.specs.Nanosecond.{rtc_hz, hpet_hz, counts_rtc}
+use Rattle.board_devices.specs.private.Stretch.{no_ticks, timer_ticks, ticks_at, end_of, up_of, flagged_where}
 use Rattle.board_devices.specs.Run.{run}
 use Rattle.board_devices.specs.Parts.{IsDevices}
 use Rattle.board_devices.specs.View.{parts_of}
 use Rattle.board_devices.proofs.Places.{at-eight}
 use Rattle.board_devices.proofs.Product.{Sound, run-parted}
-use Rattle.board_devices.proofs.Advance.{Brought, Known, ticks-few, ran-state, ran-levels, outs-are, up-is, IsDevices-parted, due-few, out_at, up_at, irq_at}
+use Rattle.board_devices.proofs.Advance.{Brought, Known, ticks-few, ran-state, ran-levels, outs-are, up-is, IsDevices-parted, due-few, out_at, irq_at}
 use Rattle.board_devices.proofs.devices.Devices.advance.Goals as goal
 
 sound : (c : goal.After-timers-1) → Sound (parts_of c.self.inside)
 sound c = record {
-  pit = c.parts-before.ensures.stands.three;
+  pit = c.parts-before.ensures.valid.three;
   rtc = rw c.parts-clock.ensures.value at c.parts-clock.ensures.valid;
   hpet = rw c.parts-hpet.ensures.parts at c.parts-hpet.ensures.valid;
   counter = rw c.parts-hpet.ensures.parts at (let f : c.parts-hpet.result.counter < 2 ^ 64 = omega arith in f);
@@ -51,12 +49,12 @@ known c = record {
   point = next_point c.self.inside.slew_ns c.args.from (omega (arith, c.self.invariant.slew_low));
   brought = brought c;
   each_matched = λ k less. ap (λ (xs : List (Option ℕ)). get_or xs k None) c.all_matched-matched.ensures
-      ∙ at-eight (λ i. first_at hpet_hz c.args.from (place_of c.pulses-matches.result i).first) None k less;
+      ∙ at-eight (λ i. first_at hpet_hz c.args.from (timer_matches c.pulses-matches.result i).first) None k less;
   each_timer = λ k less. ap (λ (xs : List Ticks). get_or xs k no_ticks) c.all_timer_ticks-timers.ensures
       ∙ at-eight (λ i. timer_ticks i c.parts-hpet.result c.pulses-matches.result c.all_matched-matched.result) no_ticks k less
       ∙ ap (λ (h : HpetParts). timer_ticks k h c.pulses-matches.result c.all_matched-matched.result) c.parts-hpet.ensures.parts;
-  pit_is = rw (c.counted-pit.ensures, c.first_at-rise_at.ensures, c.legacy-legacy.ensures) refl;
-  rtc_is = rw (c.counted-rtc.ensures, c.first_at-tick_at.ensures, c.counts_rtc-counts.ensures, c.legacy-legacy.ensures, c.shown_of-shown.ensures.pie, c.parts-clock.ensures.value) refl;
+  pit_is = rw (c.counted-pit.ensures, c.first_at-rise_at.ensures.value, c.legacy-legacy.ensures) refl;
+  rtc_is = rw (c.counted-rtc.ensures, c.first_at-tick_at.ensures.value, c.counts_rtc-counts.ensures, c.legacy-legacy.ensures, c.shown_of-shown.ensures.pie, c.parts-clock.ensures.value) refl;
 }
 
 pub run_lines-ups-requires : goal.run_lines-ups-requires
@@ -70,7 +68,7 @@ run_lines-ups-requires c = wanted
 
 sound_end : (c : goal.After-line_times) → Sound (parts_of c.self.inside)
 sound_end c = record {
-  pit = c.parts-before.ensures.stands.three;
+  pit = c.parts-before.ensures.valid.three;
   rtc = rw c.parts-clock.ensures.value at c.parts-clock.ensures.valid;
   hpet = rw c.parts-hpet.ensures.parts at c.parts-hpet.ensures.valid;
   counter = rw c.parts-hpet.ensures.parts at (let f : c.parts-hpet.result.counter < 2 ^ 64 = omega arith in f);
@@ -96,12 +94,12 @@ known_end c = record {
   point = next_point c.self.inside.slew_ns c.args.from (omega (arith, c.self.invariant.slew_low));
   brought = brought_end c;
   each_matched = λ k less. ap (λ (xs : List (Option ℕ)). get_or xs k None) c.all_matched-matched.ensures
-      ∙ at-eight (λ i. first_at hpet_hz c.args.from (place_of c.pulses-matches.result i).first) None k less;
+      ∙ at-eight (λ i. first_at hpet_hz c.args.from (timer_matches c.pulses-matches.result i).first) None k less;
   each_timer = λ k less. ap (λ (xs : List Ticks). get_or xs k no_ticks) c.all_timer_ticks-timers.ensures
       ∙ at-eight (λ i. timer_ticks i c.parts-hpet.result c.pulses-matches.result c.all_matched-matched.result) no_ticks k less
       ∙ ap (λ (h : HpetParts). timer_ticks k h c.pulses-matches.result c.all_matched-matched.result) c.parts-hpet.ensures.parts;
-  pit_is = rw (c.counted-pit.ensures, c.first_at-rise_at.ensures, c.legacy-legacy.ensures) refl;
-  rtc_is = rw (c.counted-rtc.ensures, c.first_at-tick_at.ensures, c.counts_rtc-counts.ensures, c.legacy-legacy.ensures, c.shown_of-shown.ensures.pie, c.parts-clock.ensures.value) refl;
+  pit_is = rw (c.counted-pit.ensures, c.first_at-rise_at.ensures.value, c.legacy-legacy.ensures) refl;
+  rtc_is = rw (c.counted-rtc.ensures, c.first_at-tick_at.ensures.value, c.counts_rtc-counts.ensures, c.legacy-legacy.ensures, c.shown_of-shown.ensures.pie, c.parts-clock.ensures.value) refl;
 }
 
 point_end : (c : goal.After-line_times) → c.next_point-point.result ≡ c.args.from + ((c.args.from / c.self.inside.slew_ns + 1) * c.self.inside.slew_ns - c.args.from)
@@ -141,7 +139,7 @@ pub returns-clause-state : goal.returns-clause-state
 returns-clause-state c = state c ∙ ap (λ (d : DeviceParts). (run c.args.from (c.args.to - c.args.from) d).state) c.self.view_is
 
 irq_is : (c : goal.After-line_times) → c.irq_from-irq.result ≡ irq_at (known_end c)
-irq_is c = rw (c.irq_from-irq.ensures, c.shown_of-shown.ensures.aie, c.shown_of-shown.ensures.af, c.shown_of-shown.ensures.uie, c.shown_of-shown.ensures.uf, c.first_at-alarm_at.ensures, c.first_at-update_at.ensures, c.parts-clock.ensures.value, up-is (known_end c) c.next_point-point.result c.args.to c.run_lines-ups.result (point_end c) (whole c) (ups_are c) 1 (omega arith)) refl
+irq_is c = rw (c.irq_from-irq.ensures, c.shown_of-shown.ensures.aie, c.shown_of-shown.ensures.af, c.shown_of-shown.ensures.uie, c.shown_of-shown.ensures.uf, c.first_at-alarm_at.ensures.value, c.first_at-update_at.ensures.value, c.parts-clock.ensures.value, up-is (known_end c) c.next_point-point.result c.args.to c.run_lines-ups.result (point_end c) (whole c) (ups_are c) 1 (omega arith)) refl
 
 pub returns-clause-levels : goal.returns-clause-levels
 returns-clause-levels c = λ j le.

@@ -1,4 +1,4 @@
-use Rattle.std.proofs.Common.{◌≡◌, refl, arith}
+use Rattle.std.proofs.Common.{refl, arith}
 use Rattle.board_devices.proofs.Edges.{next-is}
 use Rattle.board_devices.proofs.devices.Devices.next_edge.Goals as goal
 

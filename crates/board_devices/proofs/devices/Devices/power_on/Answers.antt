@@ -1,4 +1,3 @@
-use Rattle.std.proofs.Common.{◌≡◌, sym, subst, refl}
 use Rattle.board_devices.specs.Parts.{IsDevices, devices_at_power_on}
 use Rattle.board_devices.proofs.PowerOn.{IsDevices-at_power_on}
 use Rattle.board_devices.proofs.devices.Devices.power_on.Goals as goal

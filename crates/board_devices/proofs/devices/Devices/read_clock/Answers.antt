@@ -1,15 +1,14 @@
-use Rattle.std.proofs.Common.{◌≡◌, ◌==◌, ℕ, Bool, false, ◌++◌, append-nil, List, ap, sym, subst, ◌∙◌, ◌≢◌, arith}
+use Rattle.std.proofs.Common.{◌≡◌, ◌==◌, false, ◌++◌, append-nil, List, ap, sym, subst, ◌∙◌}
 use Rattle.std.proofs.lemmas.Bool.{ne_eqb}
 use Rattle.irq_edges.specs.declared.edges.Edge.{Edge}
 use Rattle.rtc_registers.specs.declared.parts.RtcParts.{RtcParts}
-use Rattle.rtc_registers.specs.Registers.{after_read}
 use Rattle.board_devices.specs.declared.parts.DeviceParts.{DeviceParts}
 use Rattle.board_devices.specs.declared.act.Act.TheVariants.{ClockRead}
 use Rattle.board_devices.specs.Act.{acted, act_edges}
 use Rattle.board_devices.specs.Parts.{IsDevices}
 use Rattle.board_devices.specs.View.{parts_of}
 use Rattle.board_devices.proofs.ActEdges.{acted-other, edges-clock_other}
-use Rattle.board_devices.proofs.ClockReads.{after_read-other}
+use Rattle.board_devices.proofs.ClockReads.{after_rtc_read-other}
 use Rattle.board_devices.proofs.devices.Devices.read_clock.Goals as goal
 
 other : (c : goal.After-read) → (c.self.inside.rtc.index == 12) ≡ false
@@ -17,7 +16,7 @@ other c = ne_eqb c.self.inside.rtc.index 12 (subst (λ (r : RtcParts). r.index �
 
 -- the read leaves the clock
 rtc_is : (c : goal.After-read) → c.read.new.self ≡ c.self.inside.rtc
-rtc_is c = c.read.ensures.state ∙ after_read-other c.self.inside.rtc (other c)
+rtc_is c = c.read.ensures.state ∙ after_rtc_read-other c.self.inside.rtc (other c)
 
 same : (c : goal.After-read) → parts_of (record { pit = c.self.inside.pit; rtc = c.read.new.self; hpet = c.self.inside.hpet; ticks = c.self.inside.ticks; slew_ns = c.self.inside.slew_ns }) ≡ parts_of c.self.inside
 same c = ap (λ (r : RtcParts). record (parts_of c.self.inside) { rtc = r }) (rtc_is c)

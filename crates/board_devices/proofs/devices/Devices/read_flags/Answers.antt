@@ -1,9 +1,9 @@
-use Rattle.std.proofs.Common.{◌≡◌, ℕ, Bool, true, ◌&&◌, ◌==◌, not, cond, List, length, get_or, ◌++◌, append_assoc, ap, sym, refl, ◌∙◌, subst, zero, suc, arith}
+use Rattle.std.proofs.Common.{◌≡◌, ℕ, Bool, true, ◌&&◌, ◌==◌, not, cond, List, get_or, ◌++◌, append_assoc, ap, sym, refl, ◌∙◌, subst, zero, suc, arith}
 use Rattle.std.proofs.lemmas.Bool.{eq-eqb}
 use Rattle.irq_edges.specs.declared.edges.Edge.{Edge}
-use Rattle.irq_edges.specs.Changes.{change}
+use Rattle.irq_edges.specs.Lines.{change}
 use Rattle.rtc_registers.specs.declared.parts.RtcParts.{RtcParts}
-use Rattle.rtc_registers.specs.Registers.{IsRtc, pf_of, pie_of, irqf_of, after_read, flagged}
+use Rattle.rtc_registers.specs.Registers.{IsRtc, pf_of, irqf_of, after_rtc_read, flagged}
 use Rattle.hpet_registers.specs.Parts.{is_legacy}
 use Rattle.tick_policy.specs.declared.line.TickParts.{TickParts}
 use Rattle.tick_policy.specs.Line.{goes_again}
@@ -42,11 +42,11 @@ lines c =
     same d (suc zero) l = refl
     same d (suc (suc k)) l = refl
 
-rtc_is : (c : goal.After-push_change-2) → c.set_flag.new.rtc ≡ flagged_where (reads_c (parts_of c.self.inside) 1 && goes_again (line_at 1 (parts_of c.self.inside))) (after_read c.self.inside.rtc)
+rtc_is : (c : goal.After-push_change-2) → c.set_flag.new.rtc ≡ flagged_where (reads_c (parts_of c.self.inside) 1 && goes_again (line_at 1 (parts_of c.self.inside))) (after_rtc_read c.self.inside.rtc)
 rtc_is c =
     c.set_flag.ensures
     ∙ ap (λ (r : RtcParts). flagged_where c.again_where-again.result r) c.read-byte.ensures.state
-    ∙ ap (λ (b : Bool). flagged_where b (after_read c.self.inside.rtc)) (c.again_where-again.ensures ∙ ap (λ (b : Bool). b && goes_again (line_at 1 (parts_of c.self.inside))) (reads c))
+    ∙ ap (λ (b : Bool). flagged_where b (after_rtc_read c.self.inside.rtc)) (c.again_where-again.ensures ∙ ap (λ (b : Bool). b && goes_again (line_at 1 (parts_of c.self.inside))) (reads c))
 
 pub invariant_of-self : goal.invariant_of-self
 invariant_of-self c =
@@ -56,23 +56,23 @@ invariant_of-self c =
     IsDevices-each d d.pit c.set_flag.new.rtc d.hpet c.ack_clock_line.new.ticks (λ k l. acked_where (reads_c d k) l) c.self.invariant (lines c) (KeepsLines-acked (reads_c d) d.hpet.timers) refl refl
     (ap (λ (l : TickParts). l.up) line
     ∙ flag-read d.rtc (counts_rtc d) (line_at 1 d) (valid c) c.self.invariant.flag
-    ∙ ap (λ (b : Bool). b && pf_of (flagged_where g (after_read d.rtc))) (sym (counts-by (flagged_where g (after_read d.rtc)) d.rtc d.hpet d.hpet (register_b-read g d.rtc (valid c)) refl))
+    ∙ ap (λ (b : Bool). b && pf_of (flagged_where g (after_rtc_read d.rtc))) (sym (counts-by (flagged_where g (after_rtc_read d.rtc)) d.rtc d.hpet d.hpet (register_b-read g d.rtc (valid c)) refl))
     ∙ ap (λ (r : RtcParts). counts_rtc (record d { rtc = r }) && pf_of r) (sym (rtc_is c)))
 
 pub returns-clause-state : goal.returns-clause-state
 unfolding acted flagged_where
 returns-clause-state c =
     ap (λ (r : RtcParts). record (parts_of c.self.inside) { rtc = r; ticks = c.ack_clock_line.new.ticks }) (rtc_is c)
-    ∙ ap (λ (ls : List TickParts). record (parts_of c.self.inside) { rtc = flagged_where (reads_c (parts_of c.self.inside) 1 && goes_again (line_at 1 (parts_of c.self.inside))) (after_read c.self.inside.rtc); ticks = ls }) (lines c)
+    ∙ ap (λ (ls : List TickParts). record (parts_of c.self.inside) { rtc = flagged_where (reads_c (parts_of c.self.inside) 1 && goes_again (line_at 1 (parts_of c.self.inside))) (after_rtc_read c.self.inside.rtc); ticks = ls }) (lines c)
     ∙ ap (acted ClockRead) c.self.view_is
 
 before : (c : goal.After-push_change-2) → c.where_plain-before.result ≡ shown (parts_of c.self.inside) c.self.inside.rtc
 before c = rw (c.where_plain-before.ensures, c.legacy-legacy.ensures, c.irqf.ensures) refl
 
-middle : (c : goal.After-push_change-2) → c.where_plain-middle.result ≡ shown (parts_of c.self.inside) (after_read c.self.inside.rtc)
+middle : (c : goal.After-push_change-2) → c.where_plain-middle.result ≡ shown (parts_of c.self.inside) (after_rtc_read c.self.inside.rtc)
 middle c = rw (c.where_plain-middle.ensures, c.legacy-legacy.ensures, c.irqf-2.ensures) (ap (λ (r : RtcParts). not (is_legacy c.self.inside.hpet) && irqf_of r) c.read-byte.ensures.state)
 
-after : (c : goal.After-push_change-2) → c.where_plain-after.result ≡ shown (parts_of c.self.inside) (cond (reads_c (parts_of c.self.inside) 1 && goes_again (line_at 1 (parts_of c.self.inside))) (flagged (after_read c.self.inside.rtc)) (after_read c.self.inside.rtc))
+after : (c : goal.After-push_change-2) → c.where_plain-after.result ≡ shown (parts_of c.self.inside) (cond (reads_c (parts_of c.self.inside) 1 && goes_again (line_at 1 (parts_of c.self.inside))) (flagged (after_rtc_read c.self.inside.rtc)) (after_rtc_read c.self.inside.rtc))
 unfolding flagged_where
 after c = rw (c.where_plain-after.ensures, c.legacy-legacy.ensures, c.irqf-3.ensures) (ap (λ (r : RtcParts). not (is_legacy c.self.inside.hpet) && irqf_of r) (rtc_is c))
 
@@ -84,7 +84,7 @@ returns-clause-edges c =
     ∙ ap (λ (es : List Edge). c.args.edges.now ++ es) (
     ap (λ (b : Bool). change c.args.at 8 b c.where_plain-middle.result ++ change c.args.at 8 c.where_plain-middle.result c.where_plain-after.result) (before c)
     ∙ ap (λ (b : Bool). change c.args.at 8 (shown (parts_of c.self.inside) c.self.inside.rtc) b ++ change c.args.at 8 b c.where_plain-after.result) (middle c)
-    ∙ ap (λ (b : Bool). change c.args.at 8 (shown (parts_of c.self.inside) c.self.inside.rtc) (shown (parts_of c.self.inside) (after_read c.self.inside.rtc)) ++ change c.args.at 8 (shown (parts_of c.self.inside) (after_read c.self.inside.rtc)) b) (after c)
+    ∙ ap (λ (b : Bool). change c.args.at 8 (shown (parts_of c.self.inside) c.self.inside.rtc) (shown (parts_of c.self.inside) (after_rtc_read c.self.inside.rtc)) ++ change c.args.at 8 (shown (parts_of c.self.inside) (after_rtc_read c.self.inside.rtc)) b) (after c)
     ∙ sym (edges-clock_read c.args.at (parts_of c.self.inside)))
     ∙ ap (λ (x : DeviceParts). c.args.edges.now ++ act_edges c.args.at ClockRead x) c.self.view_is
 

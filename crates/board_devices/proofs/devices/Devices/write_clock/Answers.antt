@@ -1,15 +1,15 @@
-use Rattle.std.proofs.Common.{◌≡◌, ℕ, Bool, ◌&&◌, not, List, length, get_or, ◌++◌, ap, sym, refl, ◌∙◌, arith}
+use Rattle.std.proofs.Common.{◌≡◌, Bool, ◌&&◌, not, List, get_or, ◌++◌, ap, sym, refl, ◌∙◌}
 use Rattle.irq_edges.specs.declared.edges.Edge.{Edge}
-use Rattle.irq_edges.specs.Changes.{change}
+use Rattle.irq_edges.specs.Lines.{change}
 use Rattle.rtc_registers.specs.declared.parts.RtcParts.{RtcParts}
-use Rattle.rtc_registers.specs.Registers.{pf_of, irqf_of, written as rtc_written}
+use Rattle.rtc_registers.specs.Registers.{pf_of, irqf_of, rtc_written}
 use Rattle.hpet_registers.specs.Parts.{is_legacy}
 use Rattle.tick_policy.specs.declared.line.TickParts.{TickParts}
 use Rattle.board_devices.specs.declared.parts.DeviceParts.{DeviceParts}
 use Rattle.board_devices.specs.declared.act.Act.TheVariants.{ClockWrite}
-use Rattle.board_devices.specs.Places.{each, line_at, no_line}
+use Rattle.board_devices.specs.Places.{each, no_line}
 use Rattle.board_devices.specs.Nanosecond.{counts_rtc}
-use Rattle.board_devices.specs.Act.{acted, first_part, act_edges, rtc_set}
+use Rattle.board_devices.specs.Act.{acted, act_edges, rtc_set}
 use Rattle.board_devices.specs.View.{parts_of}
 use Rattle.board_devices.proofs.Masks.{due-set, line_of_clock}
 use Rattle.board_devices.proofs.Keeps.{IsDevices-each, KeepsLines-rtc_set}

@@ -1,19 +1,16 @@
-use Rattle.std.proofs.Common.{◌≡◌, ℕ, Bool, ◌&&◌, not, List, length, get_or, ◌++◌, ap, sym, refl, ◌∙◌, arith}
-use Rattle.rtc_registers.specs.declared.parts.RtcParts.{RtcParts}
+use Rattle.std.proofs.Common.{◌≡◌, Bool, ◌&&◌, List, get_or, ◌++◌, ap, ◌∙◌}
 use Rattle.rtc_registers.specs.Registers.{pf_of}
 use Rattle.hpet_registers.specs.declared.parts.HpetParts.{HpetParts}
-use Rattle.pit_readback.specs.declared.parts.PitParts.{PitParts}
 use Rattle.tick_policy.specs.declared.line.TickParts.{TickParts}
 use Rattle.board_devices.specs.declared.parts.DeviceParts.{DeviceParts}
-use Rattle.board_devices.specs.declared.act.Act.TheVariants.{PitWrite, ClockWrite, HpetWrite}
-use Rattle.board_devices.specs.Places.{each, line_at, no_line, ticked_at}
+use Rattle.board_devices.specs.declared.act.Act.TheVariants.{HpetWrite}
+use Rattle.board_devices.specs.Places.{each, no_line}
 use Rattle.board_devices.specs.Nanosecond.{counts_rtc}
-use Rattle.board_devices.specs.Act.{acted, first_part, act_edges, rtc_set, pit_ticked}
+use Rattle.board_devices.specs.Act.{acted, first_part, act_edges, rtc_set}
 use Rattle.board_devices.specs.Lines.{levels}
-use Rattle.board_devices.specs.Parts.{IsDevices}
 use Rattle.board_devices.specs.View.{parts_of}
 use Rattle.board_devices.proofs.Keeps.{IsDevices-each, KeepsLines-rtc_set, timers-hpet_written, messages-hpet_written}
-use Rattle.board_devices.proofs.Masks.{one_part, due-set, due-ticked, line_of_clock}
+use Rattle.board_devices.proofs.Masks.{one_part, due-set, line_of_clock}
 use Rattle.board_devices.proofs.devices.Devices.write_hpet.Goals as goal
 
 -- the devices behind the write, their lines as before

@@ -1,14 +1,13 @@
-use Rattle.std.proofs.Common.{◌≡◌, ℕ, Bool, ◌&&◌, ◌||◌, not, List, length, get_or, ◌++◌, ap, sym, refl, ◌∙◌, arith}
+use Rattle.std.proofs.Common.{◌≡◌, Bool, ◌||◌, List, get_or, ◌++◌, ap, sym, refl, ◌∙◌, arith}
 use Rattle.std.proofs.lemmas.List.{get_or_default}
-use Rattle.irq_edges.specs.Changes.{change}
+use Rattle.irq_edges.specs.Lines.{change}
 use Rattle.irq_edges.specs.declared.edges.Edge.{Edge}
 use Rattle.pit_readback.specs.declared.parts.PitParts.{PitParts}
 use Rattle.tick_policy.specs.declared.line.TickParts.{TickParts}
 use Rattle.board_devices.specs.declared.parts.DeviceParts.{DeviceParts}
 use Rattle.board_devices.specs.declared.act.Act.TheVariants.{PitWrite}
 use Rattle.board_devices.specs.Places.{line_at, no_line, ticked_at}
-use Rattle.board_devices.specs.Act.{acted, first_part, act_edges, pit_ticked, pit_written, ticks_on_write}
-use Rattle.board_devices.specs.Parts.{IsDevices}
+use Rattle.board_devices.specs.Act.{acted, act_edges, pit_ticked, ticks_on_write}
 use Rattle.board_devices.specs.View.{parts_of}
 use Rattle.board_devices.proofs.Places.{each-at}
 use Rattle.board_devices.proofs.Masks.{due-ticked}
