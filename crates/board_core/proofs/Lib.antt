@@ -1,3 +1,2 @@
-pub mod Laws
-pub mod PowerOn
 pub mod Times
+pub mod Views
