@@ -1,6 +1,6 @@
 //! One access.
 ghost use Rattle.std.specs.Prelude.{◌≡◌, ◌+◌, ◌<◌, ◌≤◌, ◌++◌, [], length, IsTrue, IfSome, IfOk, IfErr, OnOk, OnErr, Some, None};
-ghost use Rattle.board_types.specs.Legal.{is_legal};
+ghost use Rattle.board_types.specs.Legal.{is_source, is_legal};
 ghost use Rattle.board_types.specs.declared.parts.TheConstants.{LAST_VERSION, MOST_ACCESSES};
 ghost use Rattle.board_devices.specs.Act.{act_edges, value_of};
 ghost use Rattle.board_core.specs.Time.{devices_in, now_of, time_of_access, HasTime};
@@ -8,10 +8,12 @@ ghost use Rattle.board_core.specs.Tsc.{msr_read, processor_at};
 ghost use Rattle.board_core.specs.Pages.{published_by};
 ghost use Rattle.board_core.specs.Wall.{publishes_wall, wall_number_after, wall_version_after, wall_words};
 ghost use Rattle.board_core.specs.Access.{read_of_port, write_of_port, act_of, ran_to, after_run, value_at, own_edges, after_act, edges_of, reply_of, after_access, place_of_source};
-ghost use Rattle.board_core.specs.Refusals.{refusal_of};
+ghost use Rattle.board_core.specs.Refusals.{raised_version, refusal_of};
+ghost use Rattle.board_core.specs.private.Values.{told, value_with};
 
 use crate::board::BoardState;
 use crate::processors::{publish_by, tsc_read};
+use crate::refusals::publishes_wall;
 use crate::rises::{count_at, count_rises};
 use board_devices::Act;
 use board_types::{

@@ -42,7 +42,8 @@ pub struct BoardState {
 impl Model for BoardState {
     ghost use Rattle.board_types.specs.declared.parts.BoardParts.{BoardParts};
     ghost use Rattle.board_core.specs.View.{board_parts_of, board_of, IsKept};
-    ghost use Rattle.board_core.proofs.Views.{board_of-parts};
+    ghost use Rattle.std.specs.Prelude.{ℕ};
+    ghost use Rattle.std.proofs.Common.{ap, sym};
 
     ghost Value = { BoardParts };
 
@@ -52,7 +53,7 @@ impl Model for BoardState {
 
     ghost inverse = { board_of };
 
-    ghost inverse_ok = { λ b kept. board_of-parts b kept };
+    ghost inverse_ok = { λ b kept. ap (λ (t : ℕ). record b { time_ns = t }) (sym kept.time) };
 }
 
 impl BoardState {

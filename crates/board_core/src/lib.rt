@@ -17,7 +17,6 @@ mod access;
 mod board;
 mod clock;
 mod moves;
-mod parts;
 mod processors;
 mod refusals;
 mod rises;

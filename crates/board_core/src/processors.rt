@@ -1,5 +1,5 @@
 //! What accesses do to the processors: their TSCs, their numbers, and the publishing of their pages.
-ghost use Rattle.std.specs.Prelude.{◌≡◌, ◌<◌, ◌≤◌, ◌^◌, ◌==◌, ◌||◌, IfSome, slice_index_or};
+ghost use Rattle.std.specs.Prelude.{◌≡◌, ◌<◌, ◌≤◌, ◌^◌, ◌==◌, ◌||◌, IfSome, slice_index_or, if◌then◌else◌};
 ghost use Rattle.host_counter.specs.Time.{time_at};
 ghost use Rattle.board_types.specs.declared.parts.TheConstants.{LAST_VERSION};
 ghost use Rattle.board_core.specs.Tsc.{no_processor, tsc_of, with_tsc, tsc_read, tsc_after, msr_written};

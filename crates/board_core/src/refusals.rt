@@ -65,7 +65,7 @@ impl BoardState {
 }
 
 /// Whether an access publishes the words of the wall clock.
-fn publishes_wall(a: Access) -> bool
+pub(crate) fn publishes_wall(a: Access) -> bool
     ensures { result ≡ publishes_wall a }
 {
     match a {
