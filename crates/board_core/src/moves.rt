@@ -1,0 +1,38 @@
+//! A new anchor, and a later format.
+ghost use Rattle.std.specs.Prelude.{◌≡◌, ◌+◌, ◌<◌, ◌≤◌, ◌^◌, length};
+ghost use Rattle.board_devices.specs.Run.{run};
+ghost use Rattle.board_core.specs.Time.{devices_in, now_of};
+ghost use Rattle.board_core.specs.Reanchor.{reanchored};
+
+use crate::board::BoardState;
+use crate::rises::count_rises;
+use board_types::Ran;
+use host_counter::Anchor;
+use irq_edges::EdgeList;
+
+impl BoardState {
+    /// Runs `gap` nanoseconds, and then gives the new time to count `start` of a host's counter of `khz`, 100,000 to
+    /// 10,000,000. TSC offsets, pages and the number of accesses stay. Answers the edges of the gap, at most six.
+    #[tactic(auto, unfolding(crate::specs::Reanchor::reanchored))]
+    pub fn reanchor(&mut self, khz: u64, start: u64, gap: u64) -> Ran
+        requires slow { 100000 ≤ khz }
+        requires fast { khz ≤ 10000000 }
+        requires range { now_of self.old + gap < 2 ^ 59 }
+        ensures state { self.new ≡ reanchored khz start gap self.old }
+        ensures edges { result.edges ≡ (run (now_of self.old) gap (devices_in self.old)).edges }
+        ensures few { length result.edges ≤ 6 }
+    {
+        let from = self.time_ns;
+        let mut edges = EdgeList::new();
+        self.devices.run_to(from, from + gap, &mut edges);
+        self.anchor = Anchor {
+            khz,
+            start,
+            base_ns: from + gap,
+        };
+        self.host = start;
+        self.time_ns = from + gap;
+        count_rises(&mut self.rises, self.format, edges.as_slice());
+        Ran { edges }
+    }
+}
