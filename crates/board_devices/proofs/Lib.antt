@@ -10,4 +10,5 @@ pub mod Fronts
 pub mod Keeps
 pub mod ClockReads
 pub mod ActEdges
+pub mod Upgrade
 pub mod PowerOn
