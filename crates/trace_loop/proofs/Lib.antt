@@ -1,0 +1,5 @@
+pub mod ByLines
+pub mod Cuts
+pub mod Outcomes
+pub mod Progresses
+pub mod Written
