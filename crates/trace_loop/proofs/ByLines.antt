@@ -1,11 +1,11 @@
 -- The progress behind an input is what its lines give one by one.
 use Rattle.std.proofs.Common.{◌≡◌, ◌≢◌, ℕ, ◌<◌, ◌≤◌, Bool, true, false, cond, eqb, ltb, List, [], ◌∷◌, ◌++◌, length, Option, Some, None, refl, sym, ap, ◌∙◌, arith, subst, append_assoc, append-nil, length-append}
 use Rattle.std.specs.List.{slice_split, onto_first}
-use Rattle.std.proofs.lemmas.Bool.{ne_eqb, lt-ltb, le-ltb, eqb-true, eqb-false, ltb-true, ltb-false, eq-eqb}
+use Rattle.std.proofs.lemmas.Bool.{ne_eqb, eqb-true, eqb-false, ltb-true, ltb-false}
 use Rattle.trace_loop.specs.Progress.{limit_of, Closing, Answer, Goes, Ends, Progress, opened, told, answered, checked, closed, heard_until, behind, ran, finished, finished_by}
 use Rattle.trace_loop.specs.ByLines.{lines_of, without_empty_last, line_told, ran_lines, EndsLong}
 use Rattle.trace_loop.specs.Cut.{HasNoEnd}
-use Rattle.trace_loop.proofs.Progresses.{behind-ended, limit_least, limit_fixed}
+use Rattle.trace_loop.proofs.Progresses.{behind-ended, limit_least}
 
 -- parts, cut by the end of a line
 abbrev parts_of : List ℕ → List (List ℕ)

@@ -85,4 +85,3 @@ across_none word kept rest short first =
     let d = bytes_eq-Decides (take (length kept) word) kept in
     let e = bytes_eq-Decides (take (length word) (kept ++ rest)) word in
     same_bool false (bytes_eq (take (length word) (kept ++ rest)) word) (λ yes. cc) (λ yes. absurd (let h : bytes_eq (take (length kept) word) kept ≡ true = d.1 (across_back word kept rest short (e.0 yes)).0 in cc))
-

@@ -5,12 +5,12 @@ use Rattle.std.proofs.KnownBytes.{Appends-trans}
 use Rattle.std.proofs.lemmas.List.{take_all, take-append-le}
 use Rattle.board_io.specs.Faults.{Rose}
 use Rattle.trace_loop.specs.Text.{source_fault_text, memory_fault_text}
-use Rattle.trace_loop.specs.Progress.{limit_of, Closing, Answer, Goes, Ends, Progress, opened, standing, printed, end_of, state_behind, told, answered, closed, ran, behind, finished, finished_by}
-use Rattle.trace_loop.specs.Cut.{Cut, HasNoEnd, IsLine, IsWhole}
-use Rattle.trace_loop.specs.Outcome.{Begins, Run, run_of, IsText, IsSourceFault, IsMemoryFault, IsCutOff, Outcome, Said}
+use Rattle.trace_loop.specs.Progress.{limit_of, Closing, Answer, Goes, Ends, Progress, opened, standing, printed, end_of, state_behind, told, answered, behind, finished}
+use Rattle.trace_loop.specs.Cut.{Cut, IsLine, IsWhole}
+use Rattle.trace_loop.specs.Outcome.{Begins, Run, run_of, IsText, IsSourceFault, IsMemoryFault, Outcome, Said}
 use Rattle.trace_loop.specs.declared.ended.Ended.{Ended}
 use Rattle.trace_loop.specs.declared.ended.Ended.TheVariants as statuses
-use Rattle.trace_loop.proofs.Progresses.{behind-++, behind-ended, behind-bytes, behind-line, behind-excess, replay-starts, replay-ended, finished-behind}
+use Rattle.trace_loop.proofs.Progresses.{behind-++, behind-bytes, behind-line, behind-excess, replay-starts, replay-ended, finished-behind}
 
 -- a count that rose in one part of a call rose in the call
 pub Rose-within : (a b c d : ℕ) → a ≤ b → c ≤ d → Rose b c → Rose a d

@@ -18,12 +18,7 @@ pub trait Answerer<E> {
 
     /// Answers a line: appends its block, and answers how it ends the trace, if it does. A line that is too long comes
     /// with one byte more than it may have. After an `Err` the text begins as it was.
-    fn answer(
-        &mut self,
-        line: u64,
-        text: &[u8],
-        out: &mut Vec<u8>,
-    ) -> Result<Option<E>, NoMemory>
+    fn answer(&mut self, line: u64, text: &[u8], out: &mut Vec<u8>) -> Result<Option<E>, NoMemory>
         requires room { line < 2 ^ 63 }
         requires may { may line self.old }
         ensures printed { OnOk result (out.new.items ≡ out.old.items ++ printed (answer line self.old text.now)) }

@@ -267,7 +267,11 @@ fn append_part(out: &mut Vec<u8>, piece: &[u8], from: usize, to: usize) -> Resul
 pub fn limit_of(text: &[u8]) -> usize
     ensures { result ≡ limit_of text.now }
 {
-    if starts_with(text, STATE) { 200_000 } else { 128 }
+    if starts_with(text, STATE) {
+        200_000
+    } else {
+        128
+    }
 }
 
 /// The same of a line of which an earlier piece had the front.

@@ -1,4 +1,4 @@
-use Rattle.std.proofs.Common.{Bool, cond, sym, ap, ◌∙◌, ◌≤◌, length, arith}
+use Rattle.std.proofs.Common.{Bool, cond, sym, ap, ◌∙◌}
 use Rattle.trace_loop.specs.Progress.{limit_of}
 use Rattle.trace_loop.proofs.Progresses.{limit_fixed}
 use Rattle.trace_loop.proofs.lines.limit_across.Goals as goal

@@ -1,6 +1,5 @@
-use Rattle.std.proofs.Common.{◌≡◌, ℕ, ◌+◌, ◌-◌, ◌<◌, List, [], ◌++◌, Bool, false, ◌||◌, eqb, Some, Option, length, take, refl, sym, ap, ◌∙◌, subst, inl, inr, arith, append-nil}
+use Rattle.std.proofs.Common.{◌≡◌, ℕ, ◌+◌, ◌-◌, ◌<◌, List, [], ◌++◌, Bool, false, ◌||◌, eqb, Some, length, take, refl, sym, ap, ◌∙◌, subst, inl, inr, arith, append-nil}
 use Rattle.std.proofs.lemmas.Bool.{ne_eqb}
-use Rattle.std.specs.Option.{IfSome}
 use Rattle.std.specs.Io.KnownBytes.{Appends}
 use Rattle.std.proofs.KnownBytes.{Appends-trans}
 use Rattle.board_io.specs.Faults.{Rose}
@@ -8,7 +7,6 @@ use Rattle.trace_loop.specs.Text.{source_fault_text, memory_fault_text}
 use Rattle.trace_loop.specs.Progress.{Closing, Answer, Progress, printed, end_of, state_behind, standing, opened, behind, finished}
 use Rattle.trace_loop.specs.Cut.{Cut, IsLine, IsWhole}
 use Rattle.trace_loop.specs.Outcome.{Begins, Said}
-use Rattle.trace_loop.specs.declared.ended.Ended.{Ended}
 use Rattle.trace_loop.specs.declared.ended.Ended.TheVariants as statuses
 use Rattle.trace_loop.proofs.Outcomes.{Stands, stands_line, ends_line, stands_whole, stands_put, stands_at, stands_starts, stands_asked, stands_refill, stands_end, line_shorter, consumed, at_end, out_ended, out_memory, out_source, out_sink, on_ok_from_is_err, on_err_from_is_err}
 use Rattle.trace_loop.proofs.program.answer_lines.Goals as goal

@@ -1,7 +1,7 @@
 use Rattle.trace_loop.proofs.Outcomes.{excess_some}
 use Rattle.trace_loop.specs.Progress.{limit_of}
 use Rattle.std.proofs.lemmas.List.{length-take-le}
-use Rattle.std.proofs.Common.{◌≡◌, ℕ, ◌<◌, ◌≤◌, List, ◌++◌, length, take, refl, sym, ap, ◌∙◌, subst, arith, length-append}
+use Rattle.std.proofs.Common.{◌≡◌, ℕ, ◌<◌, ◌≤◌, List, ◌++◌, length, take, refl, ap, ◌∙◌, subst, arith, length-append}
 use Rattle.trace_loop.specs.Cut.{Cut}
 use Rattle.trace_loop.proofs.Written.{on_err_from}
 use Rattle.trace_loop.proofs.lines.Lines.advance.Goals as goal

@@ -1,5 +1,5 @@
 use Rattle.trace_loop.specs.Progress.{limit_of}
-use Rattle.std.proofs.Common.{◌≡◌, ℕ, ◌+◌, ◌-◌, ◌≤◌, List, ◌++◌, length, take, drop, sym, ap, ◌∙◌, subst, arith, length-append}
+use Rattle.std.proofs.Common.{◌≡◌, ℕ, ◌-◌, ◌≤◌, List, ◌++◌, length, take, drop, sym, ap, ◌∙◌, subst, arith, length-append}
 use Rattle.trace_loop.specs.Cut.{Cut, HasNoEnd}
 use Rattle.trace_loop.proofs.Cuts.{no_end_++}
 use Rattle.trace_loop.proofs.lines.Lines.keep.Goals as goal
