@@ -53,12 +53,12 @@ fits_byte-hour form alarm hour less valid most =
 pub fits_byte-no_number : (binary : Bool) (alarm number : ℕ) → alarm < 192 → is_spelt binary 0 59 alarm ≡ false → number ≤ 59 → false ≡ fits_byte alarm (spelling binary number)
 fits_byte-no_number binary alarm number less invalid most =
     sym (fits_byte-equal alarm (spelling binary number) less ∙ ne_eqb alarm (spelling binary number)
-      (λ e. both_ways (is_spelt binary 0 59 alarm) invalid (ap (is_spelt binary 0 59) e ∙ is_spelt-spelling binary 0 59 number (omega arith) most (omega arith))))
+    (λ e. both_ways (is_spelt binary 0 59 alarm) invalid (ap (is_spelt binary 0 59) e ∙ is_spelt-spelling binary 0 59 number (omega arith) most (omega arith))))
 
 pub fits_byte-no_hour : (form : Form) (alarm hour : ℕ) → alarm < 192 → is_hour form alarm ≡ false → hour ≤ 23 → false ≡ fits_byte alarm (hour_spelling form hour)
 fits_byte-no_hour form alarm hour less invalid most =
     sym (fits_byte-equal alarm (hour_spelling form hour) less ∙ ne_eqb alarm (hour_spelling form hour)
-      (λ e. both_ways (is_hour form alarm) invalid (ap (is_hour form) e ∙ is_hour-hour_spelling form hour most)))
+    (λ e. both_ways (is_hour form alarm) invalid (ap (is_hour form) e ∙ is_hour-hour_spelling form hour most)))
 
 -- the clock of a second of the day
 pub clock-of_day : (m : Moment) (y : ℕ) → IsMoment m → second_of_day m ≡ y % 86400 → (m.second ≡ y % 60) × (m.minute ≡ y / 60 % 60) × (m.hour ≡ y / 60 / 60 % 24)

@@ -1,5 +1,5 @@
 use Rattle.std.proofs.Common.{◌+◌, ◌-◌, ◌*◌, ◌<◌, arith}
-use Rattle.rtc_registers.proofs.registers.update_pulse.Goals as goal
+use Rattle.rtc_registers.proofs.stretch.update_pulse.Goals as goal
 
 pub overflow_sub-result : goal.overflow_sub-result
 overflow_sub-result c =
