@@ -2,4 +2,5 @@ pub mod Spellings
 pub mod Moments
 pub mod Times
 pub mod Days
+pub mod Next
 mod Rows

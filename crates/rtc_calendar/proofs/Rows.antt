@@ -73,3 +73,31 @@ leap_day_is_day_59 = refl
 saturday_is_followed_by_sunday : (next_day (record { second = 0; minute = 0; hour = 0; weekday = 7; date = 31; month = 12; year = 99 })) ≡ record { second = 0; minute = 0; hour = 0; weekday = 1; date = 1; month = 1; year = 0 }
 unfolding next_day next_in month_length
 saturday_is_followed_by_sunday = refl
+
+april_has_30_days : month_length 1 4 ≡ 30
+unfolding month_length
+april_has_30_days = refl
+
+december_has_31_days : month_length 1 12 ≡ 31
+unfolding month_length
+december_has_31_days = refl
+
+second_60_is_invalid : number_in true 0 59 60 ≡ 0
+unfolding number_in is_spelt has_digits spelt
+second_60_is_invalid = refl
+
+hour_24_is_invalid : hour_in (record { binary = false; hours24 = true }) 0x24 ≡ 0
+unfolding hour_in is_hour hour_meant is_spelt has_digits spelt
+hour_24_is_invalid = refl
+
+alarm_byte_c0_matches_anything : fits_byte 0xc0 0x59 ≡ true
+unfolding fits_byte
+alarm_byte_c0_matches_anything = refl
+
+alarm_needs_its_second : is_match (record { sec = 1; min = 0xff; hour = 0xff }) (record { sec = 0; min = 0; hour = 6; wday = 1; date = 1; month = 1; year = 0 }) ≡ false
+unfolding is_match fits_byte
+alarm_needs_its_second = refl
+
+alarm_needs_its_minute : is_match (record { sec = 0; min = 1; hour = 6 }) (record { sec = 0; min = 0; hour = 6; wday = 1; date = 1; month = 1; year = 0 }) ≡ false
+unfolding is_match fits_byte
+alarm_needs_its_minute = refl

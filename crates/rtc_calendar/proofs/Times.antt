@@ -1,8 +1,8 @@
 -- Lemmas on updates.
-use Rattle.std.proofs.Common.{◌≡◌, ℕ, zero, suc, ◌+◌, ◌-◌, ◌<◌, ◌≤◌, min, inl, inr, Bool, true, false, cond, ◌&&◌, ◌||◌, eqb, leb, Option, Some, refl, sym, ap, subst, ◌∙◌, arith}
+use Rattle.std.proofs.Common.{◌≡◌, ℕ, zero, suc, ◌+◌, ◌-◌, ◌<◌, ◌≤◌, Bool, true, false, cond, ◌&&◌, ◌||◌, eqb, leb, Option, Some, refl, sym, ap, subst, ◌∙◌, arith}
 use Rattle.clk_units.specs.Events.{CountsUp, IsFirst}
-use Rattle.clk_units.proofs.Events.{CountsUp-by_test, CountsUp-few, CountsUp-mono, IsFirst-one}
-use Rattle.std.proofs.lemmas.Bool.{le-leb, or_left, and_from, cases_lt}
+use Rattle.clk_units.proofs.Events.{CountsUp-by_test, CountsUp-few, IsFirst-one}
+use Rattle.std.proofs.lemmas.Bool.{le-leb, or_left, and_from}
 use Rattle.rtc_calendar.specs.declared.Alarm.{Alarm}
 use Rattle.rtc_calendar.specs.declared.Form.{Form}
 use Rattle.rtc_calendar.specs.declared.TimeBytes.{TimeBytes}
@@ -13,7 +13,7 @@ use Rattle.rtc_calendar.specs.Updates.{moment_of, bytes_of, updated, updated_tim
 use Rattle.rtc_calendar.specs.Alarms.{fits_byte, is_match, IsDontCare, alarm_next, matches_in}
 use Rattle.rtc_calendar.proofs.Spellings.{number_in-least, number_in-most, hour_in-most, number_in-spelling, hour_in-hour_spelling, is_spelt-spelling, is_hour-hour_spelling, spelling-number_in, hour_spelling-hour_in}
 use Rattle.rtc_calendar.proofs.Moments.{month_length-least, month_length-most}
-use Rattle.rtc_calendar.proofs.Days.{moment-equal, clock-equal, IsMoment-next_seconds, IsMoment-next_day, second_of_day-next_seconds, next_seconds-day}
+use Rattle.rtc_calendar.proofs.Days.{moment-equal, IsMoment-next_seconds, IsMoment-next_day, next_seconds-day}
 
 -- whatever the bytes, what is read is a moment
 pub IsMoment-moment_of : (form : Form) (bytes : TimeBytes) → IsMoment (moment_of form bytes)
@@ -84,19 +84,6 @@ IsFirst-matches_in form alarm bytes current n all e none here reached =
     let before : n + 1 - 1 ≡ n = omega arith in
     let more : matches_in form alarm bytes (n + 1) ≡ suc (matches_in form alarm bytes n) = rw here at (matches_in-more form alarm bytes current n e) in
     (omega arith, reached, ap (matches_in form alarm bytes) before ∙ none, omega arith)
-
--- and one that doesn't leaves none
-pub none-more : (form : Form) (alarm : Alarm) (bytes current : TimeBytes) (n : ℕ) → current ≡ updated_times form n bytes
-    → matches_in form alarm bytes n ≡ 0 → is_match alarm (updated form current) ≡ false → matches_in form alarm bytes (n + 1) ≡ 0
-none-more form alarm bytes current n e none not_here =
-    let more : matches_in form alarm bytes (n + 1) ≡ matches_in form alarm bytes n = rw not_here at (matches_in-more form alarm bytes current n e) in
-    more ∙ none
-
--- the bytes after one update more
-pub updated_times-more : (form : Form) (bytes current : TimeBytes) (n : ℕ) → current ≡ updated_times form n bytes → updated form current ≡ updated_times form (n + 1) bytes
-updated_times-more form bytes current n e =
-    let next : n + 1 ≡ suc n = omega arith in
-    rw (next) (ap (updated form) e)
 
 -- an alarm that asks for no value matches all bytes
 pub is_match-any : (alarm : Alarm) (bytes : TimeBytes) → IsDontCare alarm → is_match alarm bytes ≡ true
@@ -222,62 +209,3 @@ IsDayLater-updated_times form n bytes day small valid =
       hour = time.2;
       day = moment_of-bytes_of form (next_day (moment_of form bytes)) (IsMoment-next_day (moment_of form bytes) moment);
     })
-
--- bytes that show the same time are matched alike
-is_match-alike : (alarm : Alarm) (a b : TimeBytes) → a.sec ≡ b.sec → a.min ≡ b.min → a.hour ≡ b.hour → is_match alarm a ≡ is_match alarm b
-unfolding is_match
-is_match-alike alarm a b sec min hour =
-    λ i. fits_byte alarm.sec (sec i) && fits_byte alarm.min (min i) && fits_byte alarm.hour (hour i)
-
-time-alike : (form : Form) (a b : Moment) → a.second ≡ b.second → a.minute ≡ b.minute → a.hour ≡ b.hour
-    → ((bytes_of form a).sec ≡ (bytes_of form b).sec) × ((bytes_of form a).min ≡ (bytes_of form b).min) × ((bytes_of form a).hour ≡ (bytes_of form b).hour)
-unfolding bytes_of
-time-alike form a b second minute hour = (ap (spelling form.binary) second, ap (spelling form.binary) minute, ap (hour_spelling form) hour)
-
--- a day apart the alarm matches alike
-is_match-day : (form : Form) (alarm : Alarm) (bytes : TimeBytes) (day n : ℕ) → day ≡ 86400 → 0 < n
-    → is_match alarm (updated_times form (day + n) bytes) ≡ is_match alarm (updated_times form n bytes)
-is_match-day form alarm bytes day n e some =
-    let moment : IsMoment (moment_of form bytes) = IsMoment-moment_of form bytes in
-    let clock = clock-equal (next_seconds (day + n) (moment_of form bytes)) (next_seconds n (moment_of form bytes))
-    (IsMoment-next_seconds (day + n) (moment_of form bytes) moment) (IsMoment-next_seconds n (moment_of form bytes) moment)
-    (omega (arith, second_of_day-next_seconds (day + n) (moment_of form bytes) moment, second_of_day-next_seconds n (moment_of form bytes) moment)) in
-    let time = time-alike form (next_seconds (day + n) (moment_of form bytes)) (next_seconds n (moment_of form bytes)) clock.0 clock.1 clock.2 in
-    ap (is_match alarm) (updated_times-some form (day + n) bytes (omega arith))
-    ∙ is_match-alike alarm (bytes_of form (next_seconds (day + n) (moment_of form bytes))) (bytes_of form (next_seconds n (moment_of form bytes))) time.0 time.1 time.2
-    ∙ ap (is_match alarm) (sym (updated_times-some form n bytes some))
-
--- where no update was matched, none of them is
-none-each : (form : Form) (alarm : Alarm) (bytes : TimeBytes) (j n : ℕ) → j < n → matches_in form alarm bytes n ≡ 0 → is_match alarm (updated_times form (suc j) bytes) ≡ false
-unfolding alarm_next
-none-each form alarm bytes j n before none =
-    let few : matches_in form alarm bytes (suc j) ≡ 0 = omega (arith, CountsUp-mono (matches_in form alarm bytes) (CountsUp-matches_in form alarm bytes) (suc j) n (omega arith)) in
-    not_matched (is_match alarm (updated form (updated_times form j bytes))) (matches_in form alarm bytes j) few
-  where
-    not_matched : (b : Bool) (x : ℕ) → cond b (suc x) x ≡ 0 → b ≡ false
-    not_matched true x h = absurd (omega arith)
-    not_matched false x h = refl
-
--- a day without a match is followed by none
-none-days : (form : Form) (alarm : Alarm) (bytes : TimeBytes) (day more : ℕ) → day ≡ 86400 → matches_in form alarm bytes day ≡ 0 → matches_in form alarm bytes (day + more) ≡ 0
-unfolding alarm_next
-none-days form alarm bytes day zero e none = let all : day + 0 ≡ day = omega arith in rw all none
-none-days form alarm bytes day (suc more) e none =
-    let next : day + suc more ≡ suc (day + more) = omega arith in
-    let before : matches_in form alarm bytes (day + more) ≡ 0 = none-days form alarm bytes day more e none in
-    let here : is_match alarm (updated_times form (suc (day + more)) bytes) ≡ false =
-    ap (λ (x : ℕ). is_match alarm (updated_times form x bytes)) (sym next)
-    ∙ is_match-day form alarm bytes day (suc more) e (omega arith)
-    ∙ none-each form alarm bytes more (day + more) (omega arith) before in
-    ap (matches_in form alarm bytes) next
-    ∙ ap (λ (b : Bool). cond b (suc (matches_in form alarm bytes (day + more))) (matches_in form alarm bytes (day + more))) here
-    ∙ before
-
--- so none in the first day of updates is none
-pub none-first_day : (form : Form) (alarm : Alarm) (bytes : TimeBytes) (looked n : ℕ) → looked ≡ min n 86400 → matches_in form alarm bytes looked ≡ 0 → matches_in form alarm bytes n ≡ 0
-none-first_day form alarm bytes looked n e none = elim (cases_lt looked n) [
-  | inl more ↦
-      let whole : n ≡ looked + (n - looked) = omega arith in
-      ap (matches_in form alarm bytes) whole ∙ none-days form alarm bytes looked (n - looked) (omega arith) none
-  | inr all ↦ let same : n ≡ looked = omega arith in ap (matches_in form alarm bytes) same ∙ none
-]

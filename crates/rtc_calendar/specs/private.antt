@@ -1,2 +1,3 @@
 -- What only proofs and bodies need.
 pub mod Days
+pub mod Wanted

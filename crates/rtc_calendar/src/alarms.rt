@@ -1,15 +1,12 @@
 //! The alarm: which updates it matches.
 ghost use Rattle.std.specs.Prelude.{◌≡◌, ◌<◌, ◌≤◌, IsTrue};
 ghost use Rattle.clk_units.specs.Events.{IsFirst};
-ghost use Rattle.rtc_calendar.specs.Updates.{updated_times};
 ghost use Rattle.rtc_calendar.specs.Alarms.{fits_byte, is_match, IsDontCare, matches_in};
 
-use crate::stretch::DAY;
-use crate::updates::updated;
+use crate::stretch::second_of_day;
+use crate::updates::moment_of;
+use crate::wanted::{ANYTHING, next_second, wanted_time};
 use crate::{Alarm, Form, TimeBytes};
-
-/// From this byte on both top bits are set, and an alarm byte matches anything.
-const ANYTHING: u8 = 0xc0;
 
 /// Whether an alarm byte matches a time byte.
 #[tactic(auto, unfolding(crate::specs::Alarms::fits_byte))]
@@ -33,18 +30,14 @@ pub fn matches(bytes: TimeBytes, alarm: Alarm) -> bool
 }
 
 /// The first of the next `n` updates behind which the alarm matches the bytes, updates being counted from 1
-/// (data sheet, "Alarm"), or `None` where it matches behind none of them. It looks at one day of updates at
-/// most, since from the first update on the time bytes come again each day.
+/// (data sheet, "Alarm"), or `None` where it matches behind none of them. It costs the same whatever `n` is:
+/// the second that comes next, then its minute, then its hour.
 pub fn first_match(bytes: TimeBytes, form: Form, alarm: Alarm, n: u64) -> Option<u64>
     ensures first { IsFirst (matches_in form alarm bytes) n result }
     ensures any { IsDontCare alarm → 0 < n → result ≡ Some 1 }
 {
-    let mut current = bytes;
-    for done in 0..n.min(DAY) {
-        current = updated(current, form);
-        if matches(current, alarm) {
-            return Some(done + 1);
-        }
-    }
-    None
+    let start = second_of_day(moment_of(bytes, form)) + 1;
+    let next = next_second(wanted_time(form, alarm), start)?;
+    let update = next - start + 1;
+    if update <= n { Some(update) } else { None }
 }

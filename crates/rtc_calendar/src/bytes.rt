@@ -32,15 +32,14 @@ fn has_digits(byte: u8) -> bool
 
 /// Whether the byte spells a number of `low` to `high`.
 #[tactic(auto, unfolding(crate::specs::Bytes::is_spelt))]
-fn is_spelt(binary: bool, low: u8, high: u8, byte: u8) -> bool
+pub(crate) fn is_spelt(binary: bool, low: u8, high: u8, byte: u8) -> bool
     ensures { result ≡ is_spelt binary low high byte }
 {
     let number = spelt(binary, byte);
     (binary || has_digits(byte)) && low <= number && number <= high
 }
 
-/// The number read from a byte of the range `low` to `high`; an invalid byte counts as `low` (this
-/// project's own choice).
+/// The number read from a byte of the range `low` to `high`; an invalid byte counts as `low` (own).
 #[tactic(auto, unfolding(crate::specs::Bytes::number_in, crate::specs::Bytes::is_spelt))]
 pub(crate) fn number_in(binary: bool, low: u8, high: u8, byte: u8) -> u8
     ensures value { result ≡ number_in binary low high byte }
@@ -70,7 +69,7 @@ pub(crate) fn spelling(binary: bool, number: u8) -> u8
 
 /// Whether the byte is an hour.
 #[tactic(auto, unfolding(crate::specs::Bytes::is_hour))]
-fn is_hour(form: Form, byte: u8) -> bool
+pub(crate) fn is_hour(form: Form, byte: u8) -> bool
     ensures { result ≡ is_hour form byte }
 {
     if form.hours24 {
@@ -80,8 +79,7 @@ fn is_hour(form: Form, byte: u8) -> bool
     }
 }
 
-/// The hour of the day, 0 to 23, read from its byte; an invalid byte counts as hour 0 (this project's own
-/// choice). In 12-hour form hour 12 opens its half of the day.
+/// The hour of the day, 0 to 23, read from its byte; an invalid byte counts as hour 0 (own). In 12-hour form hour 12 opens its half of the day.
 #[tactic(auto, unfolding(crate::specs::Bytes::hour_in, crate::specs::Bytes::hour_meant, crate::specs::Bytes::is_hour, crate::specs::Bytes::is_spelt))]
 pub(crate) fn hour_in(form: Form, byte: u8) -> u8
     ensures value { result ≡ hour_in form byte }

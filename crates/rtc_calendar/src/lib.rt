@@ -16,6 +16,7 @@ mod bytes;
 mod calendar;
 mod stretch;
 mod updates;
+mod wanted;
 
 pub use alarms::{first_match, matches};
 pub use updates::after;

@@ -10,7 +10,7 @@ const MINUTE: u64 = 60;
 
 const HOUR: u64 = 3_600;
 
-pub(crate) const DAY: u64 = 86_400;
+const DAY: u64 = 86_400;
 
 /// The days of 100 years, every fourth of which has 366.
 const CENTURY_DAYS: u64 = 36_525;
@@ -27,7 +27,7 @@ struct Date {
 
 /// The seconds of the day before a moment.
 #[tactic(auto, unfolding(crate::specs::private::Days::second_of_day))]
-fn second_of_day(m: Moment) -> u64
+pub(crate) fn second_of_day(m: Moment) -> u64
     requires { IsMoment m }
     ensures value { result ≡ second_of_day m }
     ensures below { result < 86400 }

@@ -1,4 +1,5 @@
 pub mod Pulse
 pub mod Times
 pub mod Recurs
+pub mod Writes
 mod Rows

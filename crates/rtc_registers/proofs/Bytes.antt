@@ -1,7 +1,8 @@
 -- Lemmas on the bytes: the time, register C and the rest stand apart.
 use Rattle.std.proofs.Common.{◌≡◌, ℕ, ◌≤◌, Bool, true, false, List, [], ◌∷◌, length, get_or, set, refl, arith}
 use Rattle.rtc_calendar.specs.declared.TimeBytes.{TimeBytes}
-use Rattle.rtc_registers.specs.Registers.{has_bit, flags_byte, time_in, with_time}
+use Rattle.clk_units.specs.Bits.{bit}
+use Rattle.rtc_registers.specs.Registers.{flags_byte, time_in, with_time}
 
 -- of a list of at least 14 bytes it is enough to look at lists that are written out that far
 fourteen : (P : List ℕ → Type 0) → ((b0 b1 b2 b3 b4 b5 b6 b7 b8 b9 b10 b11 b12 b13 : ℕ) (rest : List ℕ) → P (b0 ∷ b1 ∷ b2 ∷ b3 ∷ b4 ∷ b5 ∷ b6 ∷ b7 ∷ b8 ∷ b9 ∷ b10 ∷ b11 ∷ b12 ∷ b13 ∷ rest)) → (bs : List ℕ) → 14 ≤ length bs → P bs
@@ -85,38 +86,38 @@ flagged-bytes flags bs h = fourteen (Flagged flags) (λ b0 b1 b2 b3 b4 b5 b6 b7 
 }) bs h
 
 -- the flags are the bits of their byte
-pub has_bit-pf : (pf af uf : Bool) → has_bit 64 (flags_byte pf af uf) ≡ pf
-has_bit-pf true true true = refl
-has_bit-pf true true false = refl
-has_bit-pf true false true = refl
-has_bit-pf true false false = refl
-has_bit-pf false true true = refl
-has_bit-pf false true false = refl
-has_bit-pf false false true = refl
-has_bit-pf false false false = refl
+pub bit-pf : (pf af uf : Bool) → bit 6 (flags_byte pf af uf) ≡ pf
+bit-pf true true true = refl
+bit-pf true true false = refl
+bit-pf true false true = refl
+bit-pf true false false = refl
+bit-pf false true true = refl
+bit-pf false true false = refl
+bit-pf false false true = refl
+bit-pf false false false = refl
 
-pub has_bit-af : (pf af uf : Bool) → has_bit 32 (flags_byte pf af uf) ≡ af
-has_bit-af true true true = refl
-has_bit-af true true false = refl
-has_bit-af true false true = refl
-has_bit-af true false false = refl
-has_bit-af false true true = refl
-has_bit-af false true false = refl
-has_bit-af false false true = refl
-has_bit-af false false false = refl
+pub bit-af : (pf af uf : Bool) → bit 5 (flags_byte pf af uf) ≡ af
+bit-af true true true = refl
+bit-af true true false = refl
+bit-af true false true = refl
+bit-af true false false = refl
+bit-af false true true = refl
+bit-af false true false = refl
+bit-af false false true = refl
+bit-af false false false = refl
 
-pub has_bit-uf : (pf af uf : Bool) → has_bit 16 (flags_byte pf af uf) ≡ uf
-has_bit-uf true true true = refl
-has_bit-uf true true false = refl
-has_bit-uf true false true = refl
-has_bit-uf true false false = refl
-has_bit-uf false true true = refl
-has_bit-uf false true false = refl
-has_bit-uf false false true = refl
-has_bit-uf false false false = refl
+pub bit-uf : (pf af uf : Bool) → bit 4 (flags_byte pf af uf) ≡ uf
+bit-uf true true true = refl
+bit-uf true true false = refl
+bit-uf true false true = refl
+bit-uf true false false = refl
+bit-uf false true true = refl
+bit-uf false true false = refl
+bit-uf false false true = refl
+bit-uf false false false = refl
 
 -- the byte of its own flags
-pub flags_byte-read : (pf af uf : Bool) → flags_byte pf af uf ≡ flags_byte (has_bit 64 (flags_byte pf af uf)) (has_bit 32 (flags_byte pf af uf)) (has_bit 16 (flags_byte pf af uf))
+pub flags_byte-read : (pf af uf : Bool) → flags_byte pf af uf ≡ flags_byte (bit 6 (flags_byte pf af uf)) (bit 5 (flags_byte pf af uf)) (bit 4 (flags_byte pf af uf))
 flags_byte-read true true true = refl
 flags_byte-read true true false = refl
 flags_byte-read true false true = refl

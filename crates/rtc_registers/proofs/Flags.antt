@@ -1,14 +1,18 @@
 -- Lemmas on register C: a write of its flags keeps the rest of the clock, and setting PF goes past pulses.
-use Rattle.std.proofs.Common.{◌≡◌, ℕ, zero, suc, ◌≤◌, Bool, true, false, ◌||◌, cond, eqb, List, length, set, refl, sym, ap, subst, ◌∙◌, inl, inr, arith}
+use Rattle.std.proofs.Common.{◌≡◌, ℕ, zero, suc, ◌≤◌, ◌<◌, ◌+◌, Bool, true, false, ◌||◌, cond, eqb, List, length, set, refl, sym, ap, subst, ◌∙◌, inl, inr, arith}
 use Rattle.std.proofs.lemmas.Bool.{cases_Bool}
+use Rattle.std.proofs.lemmas.List.{set-get_or}
 use Rattle.rtc_calendar.specs.declared.TimeBytes.{TimeBytes}
 use Rattle.rtc_cycle.specs.declared.parts.DividerParts.{DividerParts}
 use Rattle.rtc_cycle.specs.Divider.{pulsed, ticks_next, updates_next}
 use Rattle.rtc_cycle.specs.Parts.{IsDivider}
 use Rattle.rtc_registers.specs.declared.parts.RtcParts.{RtcParts}
-use Rattle.rtc_registers.specs.Registers.{IsRtc, register_b, register_c, has_bit, flags_byte, pf_of, af_of, uf_of, divider_of, form_of, time_of, alarm_of, after_rtc_read, flagged}
+use Rattle.clk_units.specs.Bits.{bit}
+use Rattle.rtc_registers.specs.Registers.{register_b, register_c, flags_byte, pf_of, af_of, uf_of, divider_of, form_of, time_of, alarm_of}
+use Rattle.rtc_registers.specs.Access.{after_rtc_read, flagged}
+use Rattle.rtc_registers.specs.Parts.{IsRtc}
 use Rattle.rtc_registers.specs.Pulses.{moved, time_next, flags_next, alarms_next, rtc_pulsed, rtc_pulsed_times, alarms_in}
-use Rattle.rtc_registers.proofs.Bytes.{Moved, moved-bytes, Flagged, flagged-bytes, flags_byte-read, has_bit-pf, has_bit-af, has_bit-uf}
+use Rattle.rtc_registers.proofs.Bytes.{Moved, moved-bytes, Flagged, flagged-bytes, flags_byte-read, bit-pf, bit-af, bit-uf}
 use Rattle.rtc_registers.proofs.Times.{time_next-by, alarms_next-by, flags_next-by, IsRtc-rtc_pulsed_times}
 
 -- register C is replaced
@@ -30,7 +34,7 @@ IsRtc-with_flags pf af uf r valid =
       register_a = rw m.register_a valid.register_a;
       register_c = rw m.register_c (flags_byte-read pf af uf);
       register_d = m.register_d ∙ valid.register_d;
-      clock = subst IsDivider (sym (divider_of-with_flags (flags_byte pf af uf) r enough)) valid.clock;
+      divider = subst IsDivider (sym (divider_of-with_flags (flags_byte pf af uf) r enough)) valid.divider;
     }
 
 -- a read keeps the conditions
@@ -60,13 +64,13 @@ unfolding flagged
 register_b-flagged r valid = (flagged-bytes (flags_byte true (af_of r) (uf_of r)) r.bytes (omega (arith, valid.places))).register_b
 
 pub pf_of-flagged : (r : RtcParts) → IsRtc r → pf_of (flagged r) ≡ true
-pf_of-flagged r valid = ap (has_bit 64) (register_c-flagged r valid) ∙ has_bit-pf true (af_of r) (uf_of r)
+pf_of-flagged r valid = ap (bit 6) (register_c-flagged r valid) ∙ bit-pf true (af_of r) (uf_of r)
 
 pub af_of-flagged : (r : RtcParts) → IsRtc r → af_of (flagged r) ≡ af_of r
-af_of-flagged r valid = ap (has_bit 32) (register_c-flagged r valid) ∙ has_bit-af true (af_of r) (uf_of r)
+af_of-flagged r valid = ap (bit 5) (register_c-flagged r valid) ∙ bit-af true (af_of r) (uf_of r)
 
 pub uf_of-flagged : (r : RtcParts) → IsRtc r → uf_of (flagged r) ≡ uf_of r
-uf_of-flagged r valid = ap (has_bit 16) (register_c-flagged r valid) ∙ has_bit-uf true (af_of r) (uf_of r)
+uf_of-flagged r valid = ap (bit 4) (register_c-flagged r valid) ∙ bit-uf true (af_of r) (uf_of r)
 
 moved-flagged : (c : DividerParts) (t : TimeBytes) (f : ℕ) (r : RtcParts) → IsRtc r → moved c t f (flagged r) ≡ moved c t f r
 unfolding moved flagged
@@ -77,7 +81,7 @@ flagged-moved : (c : DividerParts) (t : TimeBytes) (pf af uf : Bool) (r : RtcPar
 unfolding moved flagged
 flagged-moved c t pf af uf r valid =
     let m : Moved t (flags_byte pf af uf) r.bytes = moved-bytes t (flags_byte pf af uf) r.bytes (omega (arith, valid.places)) in
-    rw (m.register_c, has_bit-af pf af uf, has_bit-uf pf af uf)
+    rw (m.register_c, bit-af pf af uf, bit-uf pf af uf)
     (ap (λ (bs : List ℕ). let p : RtcParts = record { index = r.index; bytes = bs; d = c.d; cycle = c.cycle } in p) (m.flags_again (flags_byte true af uf)))
 
 form_of-flagged : (r : RtcParts) → IsRtc r → form_of (flagged r) ≡ form_of r
@@ -126,3 +130,56 @@ alarms_in-flagged (suc n) r valid =
     ap alarms_next (rtc_pulsed_times-flagged n r valid) ∙ alarms_next-flagged (rtc_pulsed_times n r) (IsRtc-rtc_pulsed_times n r valid) in
     ap (λ (b : Bool). cond b (suc (alarms_in (flagged r) n)) (alarms_in (flagged r) n)) next
     ∙ ap (λ (a : ℕ). cond (alarms_next (rtc_pulsed_times n r)) (suc a) a) (alarms_in-flagged n r valid)
+
+-- setting PF again changes nothing
+pub flagged-still : (r : RtcParts) → IsRtc r → pf_of r ≡ true → flagged r ≡ r
+unfolding flagged
+flagged-still r valid up =
+    let same : flags_byte true (af_of r) (uf_of r) ≡ register_c r = ap (λ (b : Bool). flags_byte b (af_of r) (uf_of r)) (sym up) ∙ sym valid.register_c in
+    ap (λ (bs : List ℕ). let p : RtcParts = record { index = r.index; bytes = bs; d = r.d; cycle = r.cycle } in p) (ap (set r.bytes 12) same ∙ set-get_or r.bytes 12 0)
+
+-- a read elsewhere than at register C changes nothing
+pub after_rtc_read-other : (r : RtcParts) → eqb r.index 12 ≡ false → after_rtc_read r ≡ r
+unfolding after_rtc_read
+after_rtc_read-other r other = rw other refl
+
+-- one of register C clears its flags ..
+pub register_c-after_rtc_read : (r : RtcParts) → IsRtc r → eqb r.index 12 ≡ true → register_c (after_rtc_read r) ≡ 0
+unfolding after_rtc_read
+register_c-after_rtc_read r valid here = rw here ((flagged-bytes 0 r.bytes (omega (arith, valid.places))).register_c)
+
+pub pf_of-after_rtc_read : (r : RtcParts) → IsRtc r → eqb r.index 12 ≡ true → pf_of (after_rtc_read r) ≡ false
+pf_of-after_rtc_read r valid here = ap (bit 6) (register_c-after_rtc_read r valid here)
+
+pub af_of-after_rtc_read : (r : RtcParts) → IsRtc r → eqb r.index 12 ≡ true → af_of (after_rtc_read r) ≡ false
+af_of-after_rtc_read r valid here = ap (bit 5) (register_c-after_rtc_read r valid here)
+
+pub uf_of-after_rtc_read : (r : RtcParts) → IsRtc r → eqb r.index 12 ≡ true → uf_of (after_rtc_read r) ≡ false
+uf_of-after_rtc_read r valid here = ap (bit 4) (register_c-after_rtc_read r valid here)
+
+-- .. and leaves all else
+pub register_b-after_rtc_read : (r : RtcParts) → IsRtc r → register_b (after_rtc_read r) ≡ register_b r
+unfolding after_rtc_read
+register_b-after_rtc_read r valid = elim (cases_Bool (eqb r.index 12)) [
+  | inl here ↦ rw here ((flagged-bytes 0 r.bytes (omega (arith, valid.places))).register_b)
+  | inr other ↦ rw other refl
+]
+
+pub divider_of-after_rtc_read : (r : RtcParts) → IsRtc r → divider_of (after_rtc_read r) ≡ divider_of r
+unfolding after_rtc_read
+divider_of-after_rtc_read r valid = elim (cases_Bool (eqb r.index 12)) [
+  | inl here ↦ rw here (divider_of-with_flags 0 r (omega (arith, valid.places)))
+  | inr other ↦ rw other refl
+]
+
+pub time_of-after_rtc_read : (r : RtcParts) → IsRtc r → time_of (after_rtc_read r) ≡ time_of r
+unfolding after_rtc_read
+time_of-after_rtc_read r valid = elim (cases_Bool (eqb r.index 12)) [
+  | inl here ↦ rw here ((flagged-bytes 0 r.bytes (omega (arith, valid.places))).time)
+  | inr other ↦ rw other refl
+]
+
+-- a byte below 80h shows no bit 7
+pub uip-low : (on : Bool) (a shown : ℕ) → shown ≡ cond on 128 0 → a + shown < 128 → on ≡ false
+uip-low true a shown e low = absurd (omega arith)
+uip-low false a shown e low = refl

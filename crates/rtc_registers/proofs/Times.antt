@@ -1,7 +1,7 @@
 -- A stretch of pulses at once: the divider, the time and the flags each go their own way.
 use Rattle.std.proofs.Common.{◌≡◌, ℕ, zero, suc, ◌+◌, ◌-◌, ◌*◌, ◌≤◌, Bool, true, false, ◌&&◌, ◌||◌, cond, ltb, List, length, set, Option, Some, None, refl, sym, ap, subst, ◌∙◌, arith}
 use Rattle.std.proofs.Math.Bool.{or-false, or-true}
-use Rattle.std.proofs.lemmas.Bool.{lt-ltb, le-ltb}
+use Rattle.std.proofs.lemmas.Bool.{lt-ltb, le-ltb, both_ways}
 use Rattle.std.specs.Option.{is_some}
 use Rattle.clk_units.specs.Events.{CountsUp, IsFirst}
 use Rattle.clk_units.proofs.Events.{CountsUp-by_test, CountsUp-mono}
@@ -15,11 +15,14 @@ use Rattle.rtc_cycle.specs.declared.parts.DividerParts.{DividerParts}
 use Rattle.rtc_cycle.specs.Divider.{pulsed, pulsed_times, ticks_next, updates_next, ticks_in, updates_in}
 use Rattle.rtc_cycle.specs.Parts.{IsDivider}
 use Rattle.rtc_cycle.proofs.Pulse.{IsDivider-pulsed_times, dv-pulsed_times, rs-pulsed_times, set-pulsed_times}
-use Rattle.rtc_cycle.proofs.Times.{updates_in-apart}
+use Rattle.rtc_cycle.proofs.Times.{updates_in-apart, updates_in-none}
 use Rattle.rtc_registers.specs.declared.parts.RtcParts.{RtcParts}
-use Rattle.rtc_registers.specs.Registers.{IsRtc, register_b, register_c, has_bit, flags_byte, pf_of, af_of, uf_of, divider_of, form_of, time_of, alarm_of, with_time}
-use Rattle.rtc_registers.specs.Pulses.{moved, time_next, flags_next, alarms_next, rtc_pulsed, rtc_pulsed_times, alarms_in, second_apart}
-use Rattle.rtc_registers.proofs.Bytes.{Moved, moved-bytes, flags_byte-read, same-bytes, has_bit-pf, has_bit-af, has_bit-uf}
+use Rattle.clk_units.specs.Bits.{bit}
+use Rattle.rtc_registers.specs.Registers.{set_of, register_b, register_c, flags_byte, pf_of, af_of, uf_of, divider_of, form_of, time_of, alarm_of, with_time}
+use Rattle.rtc_registers.specs.Parts.{IsRtc}
+use Rattle.rtc_registers.specs.Pulses.{moved, time_next, flags_next, alarms_next, rtc_pulsed, rtc_pulsed_times, alarms_in}
+use Rattle.rtc_registers.specs.private.Stretch.{second_apart}
+use Rattle.rtc_registers.proofs.Bytes.{Moved, moved-bytes, flags_byte-read, same-bytes, bit-pf, bit-af, bit-uf}
 
 same_clock : (c : DividerParts) (dv rs : ℕ) (on : Bool) → c.dv ≡ dv → c.rs ≡ rs → c.set ≡ on → record c { dv = dv; rs = rs; set = on } ≡ c
 same_clock c dv rs on same_dv same_rs same_set =
@@ -84,7 +87,7 @@ IsRtc-moved c t pf af uf r valid clock same =
       register_a = rw m.register_a valid.register_a;
       register_c = rw m.register_c (flags_byte-read pf af uf);
       register_d = m.register_d ∙ valid.register_d;
-      clock = subst IsDivider (sym (divider_of-moved c t (flags_byte pf af uf) r enough same)) clock;
+      divider = subst IsDivider (sym (divider_of-moved c t (flags_byte pf af uf) r enough same)) clock;
     }
 
 -- the byte of register C behind n pulses
@@ -136,9 +139,9 @@ pub flags_next-by : (x : RtcParts) (c : DividerParts) (pf af uf : Bool) → divi
     → flags_next x ≡ flags_byte (pf || ticks_next c) (af || alarms_next x) (uf || updates_next c)
 flags_next-by x c pf af uf same_clock same_flags =
     ap (λ (d : DividerParts). flags_byte (pf_of x || ticks_next d) (af_of x || alarms_next x) (uf_of x || updates_next d)) same_clock
-    ∙ ap (λ (b : Bool). flags_byte (b || ticks_next c) (af_of x || alarms_next x) (uf_of x || updates_next c)) (ap (has_bit 64) same_flags ∙ has_bit-pf pf af uf)
-    ∙ ap (λ (b : Bool). flags_byte (pf || ticks_next c) (b || alarms_next x) (uf_of x || updates_next c)) (ap (has_bit 32) same_flags ∙ has_bit-af pf af uf)
-    ∙ ap (λ (b : Bool). flags_byte (pf || ticks_next c) (af || alarms_next x) (b || updates_next c)) (ap (has_bit 16) same_flags ∙ has_bit-uf pf af uf)
+    ∙ ap (λ (b : Bool). flags_byte (b || ticks_next c) (af_of x || alarms_next x) (uf_of x || updates_next c)) (ap (bit 6) same_flags ∙ bit-pf pf af uf)
+    ∙ ap (λ (b : Bool). flags_byte (pf || ticks_next c) (b || alarms_next x) (uf_of x || updates_next c)) (ap (bit 5) same_flags ∙ bit-af pf af uf)
+    ∙ ap (λ (b : Bool). flags_byte (pf || ticks_next c) (af || alarms_next x) (b || updates_next c)) (ap (bit 4) same_flags ∙ bit-uf pf af uf)
 
 -- one pulse more
 stretched-suc : (n : ℕ) (r : RtcParts) → IsRtc r → rtc_pulsed_times n r ≡ stretched n r → rtc_pulsed (stretched n r) ≡ stretched (suc n) r
@@ -194,18 +197,18 @@ register_c-rtc_pulsed_times n r valid = ap register_c (rtc_pulsed_times-is n r v
 
 -- a flag behind n pulses is the flag before, or a number of events above 0
 pub pf_of-rtc_pulsed_times : (n : ℕ) (r : RtcParts) → IsRtc r → pf_of (rtc_pulsed_times n r) ≡ (pf_of r || ltb 0 (ticks_in (divider_of r) n))
-pf_of-rtc_pulsed_times n r valid = ap (has_bit 64) (register_c-rtc_pulsed_times n r valid) ∙ has_bit-pf _ _ _
+pf_of-rtc_pulsed_times n r valid = ap (bit 6) (register_c-rtc_pulsed_times n r valid) ∙ bit-pf _ _ _
 
 pub af_of-rtc_pulsed_times : (n : ℕ) (r : RtcParts) → IsRtc r → af_of (rtc_pulsed_times n r) ≡ (af_of r || ltb 0 (alarms_in r n))
-af_of-rtc_pulsed_times n r valid = ap (has_bit 32) (register_c-rtc_pulsed_times n r valid) ∙ has_bit-af (pf_of r || ltb 0 (ticks_in (divider_of r) n)) _ _
+af_of-rtc_pulsed_times n r valid = ap (bit 5) (register_c-rtc_pulsed_times n r valid) ∙ bit-af (pf_of r || ltb 0 (ticks_in (divider_of r) n)) _ _
 
 pub uf_of-rtc_pulsed_times : (n : ℕ) (r : RtcParts) → IsRtc r → uf_of (rtc_pulsed_times n r) ≡ (uf_of r || ltb 0 (updates_in (divider_of r) n))
-uf_of-rtc_pulsed_times n r valid = ap (has_bit 16) (register_c-rtc_pulsed_times n r valid) ∙ has_bit-uf (pf_of r || ltb 0 (ticks_in (divider_of r) n)) (af_of r || ltb 0 (alarms_in r n)) _
+uf_of-rtc_pulsed_times n r valid = ap (bit 4) (register_c-rtc_pulsed_times n r valid) ∙ bit-uf (pf_of r || ltb 0 (ticks_in (divider_of r) n)) (af_of r || ltb 0 (alarms_in r n)) _
 
 -- n pulses keep the conditions
 pub IsRtc-rtc_pulsed_times : (n : ℕ) (r : RtcParts) → IsRtc r → IsRtc (rtc_pulsed_times n r)
 IsRtc-rtc_pulsed_times n r valid =
-    subst IsRtc (sym (rtc_pulsed_times-is n r valid)) (IsRtc-moved (pulsed_times n (divider_of r)) _ _ _ _ r valid (IsDivider-pulsed_times n (divider_of r) valid.clock) (SameSetting-times n r))
+    subst IsRtc (sym (rtc_pulsed_times-is n r valid)) (IsRtc-moved (pulsed_times n (divider_of r)) _ _ _ _ r valid (IsDivider-pulsed_times n (divider_of r) valid.divider) (SameSetting-times n r))
 
 -- one pulse more
 pub alarms_in-suc : (r : RtcParts) (n : ℕ) → alarms_in r (suc n) ≡ cond (alarms_next (rtc_pulsed_times n r)) (suc (alarms_in r n)) (alarms_in r n)
@@ -238,7 +241,7 @@ IsFirst-alarms_in n r valid (Some f) None first match = alarms_in-is n r valid �
 IsFirst-alarms_in n r valid (Some f) (Some k) first match =
     let count : ℕ → ℕ = matches_in (form_of r) (alarm_of r) (time_of r) in
     let p : ℕ = f + (k - 1) * 32768 in
-    let apart : (p ≤ n) × (updates_in (divider_of r) p ≡ k) × (updates_in (divider_of r) (p - 1) ≡ k - 1) = updates_in-apart (divider_of r) valid.clock n f k first match.0 match.1 in
+    let apart : (p ≤ n) × (updates_in (divider_of r) p ≡ k) × (updates_in (divider_of r) (p - 1) ≡ k - 1) = updates_in-apart (divider_of r) valid.divider n f k first match.0 match.1 in
     let before : alarms_in r (p - 1) ≡ count (k - 1) = alarms_in-is (p - 1) r valid ∙ ap count apart.2 in
     let there : alarms_in r p ≡ count k = alarms_in-is p r valid ∙ ap count apart.1 in
     (omega (arith, first.0), apart.0, before ∙ match.2, omega (arith, there, match.3))
@@ -270,3 +273,33 @@ pub is_some-match : (n : ℕ) (r : RtcParts) → IsRtc r → (matched : Option �
 is_some-match n r valid matched match =
     is_some-first (matches_in (form_of r) (alarm_of r) (time_of r)) (CountsUp-matches_in (form_of r) (alarm_of r) (time_of r)) (updates_in (divider_of r) n) matched match
     ∙ ap (ltb 0) (sym (alarms_in-is n r valid))
+
+-- the divider moves on where nothing else is replaced
+moved-quiet : (c : DividerParts) (r : RtcParts) → 14 ≤ length r.bytes → record r { d = c.d; cycle = c.cycle } ≡ moved c (time_of r) (register_c r) r
+unfolding moved
+moved-quiet c r h = ap (λ (bs : List ℕ). let p : RtcParts = record { index = r.index; bytes = bs; d = c.d; cycle = c.cycle } in p) (sym (same-bytes r.bytes h))
+
+-- without an update no alarm comes
+pub alarms_in-no_update : (n : ℕ) (r : RtcParts) → IsRtc r → updates_in (divider_of r) n ≡ 0 → alarms_in r n ≡ 0
+alarms_in-no_update n r valid none = alarms_in-is n r valid ∙ ap (matches_in (form_of r) (alarm_of r) (time_of r)) none
+
+-- without an event register C stays
+flags_in-no_event : (n : ℕ) (r : RtcParts) → IsRtc r → ticks_in (divider_of r) n ≡ 0 → updates_in (divider_of r) n ≡ 0 → flags_in r n ≡ register_c r
+flags_in-no_event n r valid no_tick no_update =
+    let no_alarm : alarms_in r n ≡ 0 = alarms_in-no_update n r valid no_update in
+    rw (no_tick, no_alarm, no_update, or-false (pf_of r), or-false (af_of r), or-false (uf_of r)) (sym valid.register_c)
+
+-- without an event the divider alone moves
+pub rtc_pulsed_times-no_event : (n : ℕ) (r : RtcParts) → IsRtc r → (c : DividerParts) → c ≡ pulsed_times n (divider_of r) → ticks_in (divider_of r) n ≡ 0 → updates_in (divider_of r) n ≡ 0
+    → record r { d = c.d; cycle = c.cycle } ≡ rtc_pulsed_times n r
+rtc_pulsed_times-no_event n r valid c divider no_tick no_update =
+    moved-quiet c r (omega (arith, valid.places))
+    ∙ moved-is n r valid c (time_of r) (register_c r) divider (ap (λ (u : ℕ). updated_times (form_of r) u (time_of r)) (sym no_update)) (sym (flags_in-no_event n r valid no_tick no_update))
+
+-- without an update the time stands still ..
+pub time_of-no_update : (n : ℕ) (r : RtcParts) → IsRtc r → updates_in (divider_of r) n ≡ 0 → time_of (rtc_pulsed_times n r) ≡ time_of r
+time_of-no_update n r valid none = time_of-rtc_pulsed_times n r valid ∙ ap (λ (u : ℕ). updated_times (form_of r) u (time_of r)) none
+
+-- .. as it does while SET is 1
+pub time_of-while_set : (n : ℕ) (r : RtcParts) → IsRtc r → set_of r ≡ true → time_of (rtc_pulsed_times n r) ≡ time_of r
+time_of-while_set n r valid on = time_of-no_update n r valid (updates_in-none n (divider_of r) valid.divider (λ _ off. both_ways (set_of r) off on))

@@ -1,2 +1,5 @@
 pub mod Registers
+pub mod Parts
+pub mod Access
 pub mod Pulses
+pub mod private

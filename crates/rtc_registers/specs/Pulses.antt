@@ -1,5 +1,6 @@
--- Pulses of the MC146818's crystal: flags and time bytes change as the divider says ("Update cycle", "Register C").
-use Rattle.std.specs.Prelude.{ℕ, zero, suc, ◌+◌, ◌-◌, ◌*◌, Option, Some, None, Bool, ◌&&◌, ◌||◌, if◌then◌else◌, slice_set}
+-- Pulses of the MC146818's crystal: flags and time bytes change as the divider says
+-- ("Update cycle", "Register C").
+use Rattle.std.specs.Prelude.{ℕ, zero, suc, Bool, ◌&&◌, ◌||◌, if◌then◌else◌, slice_set}
 use Rattle.rtc_calendar.specs.declared.TimeBytes.{TimeBytes}
 use Rattle.rtc_calendar.specs.Updates.{updated}
 use Rattle.rtc_calendar.specs.Alarms.{alarm_next}
@@ -10,7 +11,8 @@ use Rattle.rtc_registers.specs.Registers.{pf_of, af_of, uf_of, flags_byte, divid
 
 -- the time bytes after the next pulse: an update changes them at its end
 abbrev pub time_next : RtcParts → TimeBytes
-time_next r = if updates_next (divider_of r) then updated (form_of r) (time_of r) else time_of r
+time_next r =
+    if updates_next (divider_of r) then updated (form_of r) (time_of r) else time_of r
 
 -- whether the next pulse ends an update that the alarm matches ("Alarm")
 unfoldable pub alarms_next : RtcParts → Bool
@@ -18,11 +20,19 @@ alarms_next r = updates_next (divider_of r) && alarm_next (form_of r) (alarm_of 
 
 -- register C after the next pulse: each event sets its flag, whether or not it may interrupt
 abbrev pub flags_next : RtcParts → ℕ
-flags_next r = flags_byte (pf_of r || ticks_next (divider_of r)) (af_of r || alarms_next r) (uf_of r || updates_next (divider_of r))
+flags_next r =
+    flags_byte
+    (pf_of r || ticks_next (divider_of r))
+    (af_of r || alarms_next r)
+    (uf_of r || updates_next (divider_of r))
 
 -- the divider, the time bytes and register C are replaced
 unfoldable pub moved : DividerParts → TimeBytes → ℕ → RtcParts → RtcParts
-moved clock time flags r = record r { bytes = slice_set (with_time time r.bytes) 12 flags; d = clock.d; cycle = clock.cycle }
+moved divider time flags r = record r {
+  bytes = slice_set (with_time time r.bytes) 0x0c flags;
+  d = divider.d;
+  cycle = divider.cycle;
+}
 
 -- one pulse
 unfoldable pub rtc_pulsed : RtcParts → RtcParts
@@ -36,10 +46,5 @@ rtc_pulsed_times (suc n) r = rtc_pulsed (rtc_pulsed_times n r)
 -- how many of the updates of n pulses the alarm matches
 abbrev pub alarms_in : RtcParts → ℕ → ℕ
 alarms_in r zero = 0
-alarms_in r (suc n) = if alarms_next (rtc_pulsed_times n r) then suc (alarms_in r n) else alarms_in r n
-
--- the pulse of update k, where the first comes at pulse f and each other a second behind the one before
-abbrev pub second_apart : Option ℕ → Option ℕ → Option ℕ
-second_apart None matched = None
-second_apart (Some f) None = None
-second_apart (Some f) (Some k) = Some (f + (k - 1) * 32768)
+alarms_in r (suc n) =
+    if alarms_next (rtc_pulsed_times n r) then suc (alarms_in r n) else alarms_in r n

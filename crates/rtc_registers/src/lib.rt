@@ -16,14 +16,19 @@
 //! ```
 #![tactic(auto)]
 
+mod access;
 mod events;
 mod parts;
 mod registers;
 mod rtc;
+mod stretch;
 
 pub use events::RtcEvents;
-pub use parts::RtcParts;
+pub use parts::{RtcField, RtcParts};
 pub use rtc::Rtc;
+
+/// Pulses of the crystal in a second.
+pub const RTC_HZ: u64 = 32_768;
 
 #[cfg(test)]
 mod tests;

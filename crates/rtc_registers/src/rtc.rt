@@ -1,18 +1,22 @@
 //! The clock as a device: reads, writes and pulses go in, bytes and events come out.
 
-ghost use Rattle.std.specs.Prelude.{◌≡◌, ℕ, ◌<◌, ◌≤◌, ◌%◌, ◌↔◌, IsSome, IfSome};
+ghost use Rattle.std.specs.Prelude.{◌≡◌, ℕ, true, ◌<◌, ◌≤◌, ◌%◌, ◌↔◌, IsSome, IfSome, IsNone};
 ghost use Rattle.clk_units.specs.Events.{IsFirst};
 ghost use Rattle.rtc_cycle.specs.Divider.{ticks_in, updates_in};
-ghost use Rattle.rtc_registers.specs.Registers.{IsRtc, rtc_at_power_on, divider_of, irqf_of, pf_of, pie_of, rtc_read, after_rtc_read, rtc_written, flagged};
+ghost use Rattle.rtc_registers.specs.Access.{index_written, rtc_read, after_rtc_read, rtc_written, flagged};
+ghost use Rattle.rtc_registers.specs.Parts.{IsRtc, rtc_at_power_on, first_fault};
 ghost use Rattle.rtc_registers.specs.Pulses.{rtc_pulsed_times, alarms_in};
+ghost use Rattle.rtc_registers.specs.Registers.{divider_of, time_of, set_of, irqf_of, pf_of, af_of, uf_of, pie_of, aie_of, uie_of};
 
 use crate::events::RtcEvents;
-use crate::parts::{self, PERIODIC, RtcParts};
-use crate::registers;
-use rtc_calendar::{TimeBytes, after, first_match};
+use crate::parts::{self, RtcField, RtcParts};
+use crate::registers::{self, ALARM, PERIODIC, UPDATE_ENDED};
+use crate::{access, stretch};
+use rtc_calendar::TimeBytes;
 use std::marker::Model;
 
 /// The clock. Contracts see its fields.
+#[repr(C)]
 #[derive(Clone, Copy, Debug, PartialEq, Eq)]
 pub struct Rtc {
     parts: RtcParts,
@@ -23,7 +27,7 @@ impl Model for Rtc {
 
     ghost Value = { RtcParts };
 
-    ghost use Rattle.rtc_registers.specs.Registers.{IsRtc};
+    ghost use Rattle.rtc_registers.specs.Parts.{IsRtc};
 
     ghost view = { λ c. c.parts };
 
@@ -34,16 +38,16 @@ impl Model for Rtc {
 
 impl Rtc {
     /// The clock at power on, with these time bytes: the divider runs at rate 6, time is BCD and of 24 hours,
-    /// nothing may interrupt, and every other byte is 0 (this project's own choice).
+    /// nothing may interrupt, and every other byte is 0 (own).
     pub fn power_on(bytes: TimeBytes) -> Rtc
         ensures { result ≡ rtc_at_power_on bytes }
     {
         Rtc {
-            parts: registers::rtc_at_power_on(bytes),
+            parts: access::rtc_at_power_on(bytes),
         }
     }
 
-    /// All fields.
+    /// All fields, as a saved state keeps them.
     pub fn parts(&self) -> RtcParts
         ensures value { result ≡ self.now }
         ensures valid { IsRtc result }
@@ -51,46 +55,63 @@ impl Rtc {
         self.parts
     }
 
-    /// The clock with these fields, or none where no clock has them.
+    /// The device with these fields, or None exactly where a condition on them fails.
     pub fn of_parts(parts: RtcParts) -> Option<Rtc>
         ensures valid { IsSome result ↔ IsRtc parts }
         ensures value { IfSome result (λ c. c ≡ parts) }
     {
-        if parts::is_valid(&parts) {
-            Some(Rtc { parts })
-        } else {
-            None
+        match parts::first_fault(&parts) {
+            None => Some(Rtc { parts }),
+            Some(_) => None,
         }
+    }
+
+    /// The field whose condition fails first, in the order of a saved state, or None exactly where `of_parts`
+    /// has a clock. A condition over several fields belongs to the last of them.
+    pub fn first_fault(parts: &RtcParts) -> Option<RtcField>
+        ensures value { result ≡ first_fault parts.now }
+        ensures valid { IsNone result ↔ IsRtc parts.now }
+    {
+        parts::first_fault(parts)
+    }
+
+    /// The byte that the data port reads and writes, 0 to 7Fh.
+    pub fn index(&self) -> u8
+        ensures value { result ≡ self.now.index }
+        ensures few { result ≤ 0x7f }
+    {
+        self.parts.index
     }
 
     /// Writes the index port, 70h: which byte the data port reads and writes. Bit 7 is ignored.
     pub fn write_index(&mut self, byte: u8)
-        ensures { self.new ≡ record self.old { index = byte % 128 } }
+        ensures { self.new ≡ index_written byte self.old }
     {
-        self.parts.index = byte % 128;
+        self.parts.index = byte % 0x80;
     }
 
     /// Reads the data port, 71h: the byte at the index. Register A shows UIP, and register C shows IRQF and
     /// has its flags cleared by the read (data sheet, "Register A", "Register C"). Behind a read of register A
     /// that shows UIP 0 the time bytes don't change for 73 pulses at least, of which 8 are promised by the
-    /// data sheet (244 microseconds).
+    /// data sheet (244 microseconds). Bytes 40h to 7Fh are memory as 0Eh to 3Fh are (own).
     pub fn read(&mut self) -> u8
         ensures value { result ≡ rtc_read self.old }
-        ensures quiet { self.old.index ≡ 10 → result < 128 → (n : ℕ) → n ≤ 73 → updates_in (divider_of self.old) n ≡ 0 }
         ensures state { self.new ≡ after_rtc_read self.old }
+        ensures still { self.old.index ≡ 0x0a → result < 0x80 → (n : ℕ) → n ≤ 73
+            → time_of (rtc_pulsed_times n self.old) ≡ time_of self.old }
     {
-        let byte = registers::rtc_read(&self.parts);
-        self.parts = registers::after_rtc_read(&self.parts);
+        let byte = access::rtc_read(&self.parts);
+        access::leave_read(&mut self.parts);
         byte
     }
 
     /// Writes the data port, 71h. Registers C and D are read only, and so is UIP. A write of register B that
-    /// turns SET from 0 to 1 clears UIE and abandons an update cycle (that it abandons one is this project's
-    /// own choice); written again while it is 1, UIE stands as written.
+    /// turns SET from 0 to 1 clears UIE and aborts an update cycle (data sheet, "Register B"); written again
+    /// while it is 1, UIE stands as written. SQWE and DSE are stored and do nothing (own).
     pub fn write(&mut self, byte: u8)
         ensures { self.new ≡ rtc_written byte self.old }
     {
-        self.parts = registers::rtc_written(&self.parts, byte);
+        access::write(&mut self.parts, byte);
     }
 
     /// Lets `n` pulses of the crystal pass, which set flags and change the time bytes, and tells their events.
@@ -103,23 +124,10 @@ impl Rtc {
         ensures few_updates { result.cycle.updates ≤ n }
         ensures first_update { IsFirst (updates_in (divider_of self.old)) n result.cycle.first_update }
         ensures first_alarm { IsFirst (alarms_in self.old) n result.first_alarm }
+        // while SET is 1 the time stands still
+        ensures still { set_of self.old ≡ true → time_of self.new ≡ time_of self.old }
     {
-        let mut clock = parts::clock(&self.parts);
-        let time = parts::time_of(&self.parts);
-        let form = parts::form_of(&self.parts);
-        let cycle = clock.pulses(n);
-        let matched = first_match(time, form, parts::alarm_of(&self.parts), cycle.updates);
-        let flags = registers::flags_after(&self.parts, &cycle, matched.is_some());
-        self.parts = registers::moved(
-            &self.parts,
-            clock.parts(),
-            after(time, form, cycle.updates),
-            flags,
-        );
-        RtcEvents {
-            cycle,
-            first_alarm: registers::update_pulse(cycle.first_update, matched),
-        }
+        stretch::pass(&mut self.parts, n)
     }
 
     /// IRQF of register C, which is the level of the interrupt line: a flag is up whose interrupt register B
@@ -127,27 +135,55 @@ impl Rtc {
     pub fn irqf(&self) -> bool
         ensures { result ≡ irqf_of self.now }
     {
-        parts::irqf_of(&self.parts)
+        registers::irqf_of(&self.parts)
     }
 
     /// PF of register C, the flag of periodic events.
     pub fn pf(&self) -> bool
         ensures { result ≡ pf_of self.now }
     {
-        parts::is_flagged(&self.parts, PERIODIC)
+        registers::is_flagged(&self.parts, PERIODIC)
+    }
+
+    /// AF of register C, the flag of updates that the alarm matches.
+    pub fn af(&self) -> bool
+        ensures { result ≡ af_of self.now }
+    {
+        registers::is_flagged(&self.parts, ALARM)
+    }
+
+    /// UF of register C, the flag of ended update cycles.
+    pub fn uf(&self) -> bool
+        ensures { result ≡ uf_of self.now }
+    {
+        registers::is_flagged(&self.parts, UPDATE_ENDED)
     }
 
     /// PIE of register B, which lets periodic events interrupt.
     pub fn pie(&self) -> bool
         ensures { result ≡ pie_of self.now }
     {
-        parts::is_enabled(&self.parts, PERIODIC)
+        registers::is_enabled(&self.parts, PERIODIC)
+    }
+
+    /// AIE of register B, which lets the alarm interrupt.
+    pub fn aie(&self) -> bool
+        ensures { result ≡ aie_of self.now }
+    {
+        registers::is_enabled(&self.parts, ALARM)
+    }
+
+    /// UIE of register B, which lets the end of an update cycle interrupt.
+    pub fn uie(&self) -> bool
+        ensures { result ≡ uie_of self.now }
+    {
+        registers::is_enabled(&self.parts, UPDATE_ENDED)
     }
 
     /// Sets PF, as a periodic event does: for one that is delivered late.
     pub fn set_pf(&mut self)
         ensures { self.new ≡ flagged self.old }
     {
-        self.parts = registers::flagged(&self.parts);
+        access::set_pf(&mut self.parts);
     }
 }

@@ -1,5 +1,5 @@
 use super::*;
-use crate::parts::{alarm_of, divider_of, form_of, time_of, write_time};
+use crate::registers::{alarm_of, divider_of, form_of, time_of, write_time};
 use rtc_calendar::{TimeBytes, after, matches};
 use rtc_cycle::{CycleEvents, Divider};
 

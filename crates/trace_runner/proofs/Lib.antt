@@ -1,7 +1,6 @@
 pub mod BoardRuns
 pub mod Numbers
+pub mod Refused
 pub mod Rows
 pub mod Split
-pub mod Takes
-pub mod Told
-pub mod Written
+pub mod Statuses

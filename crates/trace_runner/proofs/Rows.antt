@@ -2,25 +2,19 @@
 use Rattle.std.proofs.Common.{◌≡◌, [], ◌∷◌, true, false, Some, None, refl}
 use Rattle.std.specs.Prelude.{codes}
 use Rattle.std.specs.Fmt.{digits}
-use Rattle.trace_runner.specs.Tokens.{words_of, lines_of, number_in, decimal_in, hex_in, byte_in}
+use Rattle.trace_runner.specs.Tokens.{words_of, number_in, decimal_in, hex_in, byte_in}
 use Rattle.trace_runner.specs.Records.{record_in}
 use Rattle.trace_runner.specs.Text.{rise_text, value_text, reply_text, final_text, refused_text}
 use Rattle.trace_runner.specs.Command.{command_of}
-use Rattle.trace_runner.specs.Replay.{answer_of, replay}
-use Rattle.trace_runner.specs.Board.{accessed, run, done_behind, done, value_of}
+use Rattle.trace_loop.specs.Progress.{limit_of}
+use Rattle.trace_runner.specs.Replay.{answer_of, progress_behind, replay}
+use Rattle.trace_runner.specs.declared.answers.Stage.TheVariants.{Records}
+use Rattle.trace_runner.specs.Board.{powered_on, accessed, run, done_behind, done, value_of}
 use Rattle.trace_runner.specs.declared.command.Command.TheVariants.{Later, Unknown}
 use Rattle.trace_runner.specs.declared.record.Job.TheVariants.{PortIn, PortOut, Step}
-use Rattle.trace_runner.specs.declared.status.Status.TheVariants.{Ok, NotBuilt}
+use Rattle.trace_runner.specs.declared.status.Verdict.TheVariants.{Done, NotBuilt}
 
--- lines and words
-empty_lines_count : lines_of (codes "a\n\nb") ≡ codes "a" ∷ [] ∷ codes "b" ∷ []
-unfolding lines_of
-empty_lines_count = refl
-
-last_line_end_begins_no_line : lines_of (codes "a\n") ≡ codes "a" ∷ []
-unfolding lines_of
-last_line_end_begins_no_line = refl
-
+-- words
 spaces_part_words : words_of (codes "0  step ") ≡ codes "0" ∷ [] ∷ codes "step" ∷ [] ∷ []
 unfolding words_of
 spaces_part_words = refl
@@ -116,14 +110,23 @@ replay_takes_no_more_words : command_of (codes "replay" ∷ codes "5" ∷ []) �
 replay_takes_no_more_words = refl
 
 -- whole traces
-empty_input : replay [] ≡ record { text = codes "refused 1 notbuilt\n"; status = NotBuilt 1 }
-unfolding replay lines_of refused_text digits
+empty_input : replay [] ≡ record { text = codes "refused 1 notbuilt\n"; end = NotBuilt 1 }
+unfolding replay progress_behind limit_of refused_text digits
 empty_input = refl
 
-a_step_at_power_on : replay (codes "clockboard 1\nbegin\n0 0 step\nend\n") ≡ record { text = codes "3 1\nfinal 0 1 0 -\n"; status = Ok }
-unfolding replay lines_of answer_of record_in words_of decimal_in number_in accessed run done_behind done value_of rise_text reply_text value_text final_text digits
+a_step_at_power_on : replay (codes "clockboard 1\nbegin\n0 0 step\nend\n") ≡ record { text = codes "3 1\nfinal 0 1 0 -\n"; end = Done }
+unfolding replay progress_behind limit_of answer_of record_in words_of decimal_in number_in accessed run done_behind done value_of rise_text reply_text value_text final_text digits
 a_step_at_power_on = refl
 
-line_that_is_not_built : replay (codes "clockboard 1\nbegin\n1 0 step\nend\n") ≡ record { text = codes "refused 3 notbuilt\n"; status = NotBuilt 3 }
-unfolding replay lines_of answer_of record_in words_of refused_text digits
+line_that_is_not_built : replay (codes "clockboard 1\nbegin\n1 0 step\nend\n") ≡ record { text = codes "refused 3 notbuilt\n"; end = NotBuilt 3 }
+unfolding replay progress_behind limit_of answer_of record_in words_of refused_text digits
 line_that_is_not_built = refl
+
+-- part of a trace: the lines that ended are answered, and the present one stands
+part_of_a_line_is_not_answered : progress_behind (codes "clockboard 1\nbegin\n0 0 step\nen") ≡ record { line = 4; text = codes "en"; state = record { stage = Records; board = record powered_on { accesses = 1 } }; printed = codes "3 1\n"; end = None }
+unfolding progress_behind limit_of answer_of record_in words_of decimal_in number_in accessed run done_behind done value_of rise_text reply_text value_text digits
+part_of_a_line_is_not_answered = refl
+
+bytes_behind_the_end : (progress_behind (codes "clockboard 1\nbegin\nend\nmore\n")).end ≡ Some Done
+unfolding progress_behind limit_of answer_of record_in final_text digits
+bytes_behind_the_end = refl

@@ -4,7 +4,6 @@ pub mod Command
 pub mod Division
 pub mod Lines
 pub mod Ports
-pub mod Reading
 pub mod Records
 pub mod Replay
 pub mod Said

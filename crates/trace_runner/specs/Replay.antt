@@ -1,89 +1,86 @@
--- What is printed for a trace, and the status with which the program ends.
-use Rattle.std.specs.Prelude.{ℕ, suc, nat_lt, List, [], ◌∷◌, ◌++◌, length, Option, Some, None, if◌then◌else◌, codes}
+-- What the lines of a trace do, one record by one, and what is printed for a trace.
+use Rattle.std.specs.Prelude.{ℕ, nat_lt, length, take, List, [], ◌++◌, Option, Some, None, if◌then◌else◌, codes}
 use Rattle.std.specs.Str.{bytes_eq}
-use Rattle.trace_runner.specs.Tokens.{lines_of}
+use Rattle.trace_loop.specs.Progress.{limit_of, Closing, Answer, Goes, Ends, Progress, opened, behind, finished}
+use Rattle.trace_loop.specs.Outcome.{Run}
 use Rattle.trace_runner.specs.Records.{record_in}
-use Rattle.trace_runner.specs.Board.{powered_on, Done, accessed}
+use Rattle.trace_runner.specs.Board.{powered_on, Done as Accessed, accessed}
 use Rattle.trace_runner.specs.Text.{rise_text, reply_text, final_text, refused_text}
 use Rattle.trace_runner.specs.declared.board.Board.{Board}
 use Rattle.trace_runner.specs.declared.record.Record.{Record}
 use Rattle.trace_runner.specs.declared.answers.Stage.{Stage}
 use Rattle.trace_runner.specs.declared.answers.Stage.TheVariants.{Opening, Header, Records}
-use Rattle.trace_runner.specs.declared.status.Status.{Status}
-use Rattle.trace_runner.specs.declared.status.Status.TheVariants.{Ok, NotBuilt}
-
--- what is printed, and how it ends
-pub record Ran : Type 0 where
-  pub text : List ℕ
-  pub status : Status
-
--- what a line does: it is answered and the trace goes on, or it ends the trace
-pub data Answer : Type 0 where
-  Goes : List ℕ → Stage → Board → Answer
-  Ends : Ran → Answer
+use Rattle.trace_runner.specs.declared.replay.Replay.{Replay}
+use Rattle.trace_runner.specs.declared.status.Verdict.{Verdict}
+use Rattle.trace_runner.specs.declared.status.Verdict.TheVariants.{Done, NotBuilt}
 
 -- a line that isn't built ends the trace; so does one that is wrong, until its own reasons are built
-abbrev pub refused : ℕ → Ran
-refused line = record { text = refused_text line; status = NotBuilt line }
+abbrev pub refused : ℕ → Closing Verdict
+refused line = record { text = refused_text line; end = NotBuilt line }
+
+-- the trace goes on
+abbrev pub goes : List ℕ → Stage → Board → Answer Replay Verdict
+goes text stage b = Goes text (record { stage = stage; board = b })
 
 -- the block of a record: the edge, and the reply
-abbrev pub block : ℕ → Done → List ℕ
+abbrev pub block : ℕ → Accessed → List ℕ
 block line d = rise_text d.rise ++ reply_text line d.board.accesses d.value
 
 -- a record, whose counter isn't below the one before
-abbrev pub record_answer : ℕ → Board → Option Record → Answer
+abbrev pub record_answer : ℕ → Board → Option Record → Answer Replay Verdict
 record_answer line b None = Ends (refused line)
 record_answer line b (Some r) =
     if nat_lt r.counter b.time then Ends (refused line)
-    else Goes (block line (accessed r b)) Records (accessed r b).board
+    else goes (block line (accessed r b)) Records (accessed r b).board
 
 -- the end of a trace
-abbrev pub ended : Board → Ran
-ended b = record { text = final_text b.time b.accesses b.line_up; status = Ok }
+abbrev pub ended : Board → Closing Verdict
+ended b = record { text = final_text b.time b.accesses b.line_up; end = Done }
 
--- a line of at most 128 bytes: `clockboard 1`, then `begin`, then records up to `end`
-abbrev pub answer_at : ℕ → Stage → Board → List ℕ → Answer
-answer_at line Opening b text = if bytes_eq text (codes "clockboard 1") then Goes [] Header b else Ends (refused line)
-answer_at line Header b text = if bytes_eq text (codes "begin") then Goes [] Records b else Ends (refused line)
+-- a line: `clockboard 1`, then `begin`, then records up to `end`
+abbrev pub answer_at : ℕ → Stage → Board → List ℕ → Answer Replay Verdict
+answer_at line Opening b text = if bytes_eq text (codes "clockboard 1") then goes [] Header b else Ends (refused line)
+answer_at line Header b text = if bytes_eq text (codes "begin") then goes [] Records b else Ends (refused line)
 answer_at line Records b text = if bytes_eq text (codes "end") then Ends (ended b) else record_answer line b (record_in text)
 
--- what the line of this number does
-unfoldable pub answer_of : ℕ → Stage → Board → List ℕ → Answer
-answer_of line stage b text = if nat_lt 128 (length text) then Ends (refused line) else answer_at line stage b text
+-- what the line of this number does: one that is too long is refused
+unfoldable pub answer_of : ℕ → Replay → List ℕ → Answer Replay Verdict
+answer_of line r text =
+    if nat_lt (limit_of text) (length text) then Ends (refused line)
+    else answer_at line r.stage r.board text
 
--- a block, and what comes behind it
-abbrev pub told : List ℕ → Ran → Ran
-told text r = record { text = text ++ r.text; status = r.status }
+-- a trace that has not ended where its input ends is refused at the next line
+abbrev pub closing_of : ℕ → Replay → Closing Verdict
+closing_of line r = refused line
 
--- an answer, and where the trace goes on what comes behind it
-abbrev pub followed_by : Answer → (Stage → Board → Ran) → Ran
-followed_by (Goes text stage b) rest = told text (rest stage b)
-followed_by (Ends r) rest = r
+-- before the first line
+abbrev pub at_start : Replay
+at_start = record { stage = Opening; board = powered_on }
 
--- the lines from this number on; an input that ends before `end` isn't built either
-abbrev pub ran_from : List (List ℕ) → ℕ → Stage → Board → Ran
-ran_from [] line stage b = refused line
-ran_from (text ∷ texts) line stage b = followed_by (answer_of line stage b text) (ran_from texts (suc line))
+-- all that a replay knows and has printed behind some bytes of a trace
+unfoldable pub progress_behind : List ℕ → Progress Replay Verdict
+progress_behind bytes = behind answer_of bytes (opened at_start)
 
--- a trace
-unfoldable pub replay : List ℕ → Ran
-replay bytes = ran_from (lines_of bytes) 1 Opening powered_on
+-- what is printed for a trace, and the status with which the program ends
+unfoldable pub replay : List ℕ → Closing Verdict
+replay bytes = finished answer_of closing_of (progress_behind bytes)
 
--- what an answer prints
-abbrev pub printed : Answer → List ℕ
-printed (Goes text stage b) = text
-printed (Ends r) = r.text
+-- the run of a replay over an input, of which so many bytes were given, and so many before the last call
+abbrev pub replay_run : List ℕ → ℕ → ℕ → ℕ → ℕ → Run Replay Verdict
+replay_run input before given faults faults_now = record {
+  at = λ k. progress_behind (take k input);
+  whole = replay input;
+  before = before;
+  given = given;
+  faults = faults;
+  faults_now = faults_now;
+}
 
--- how it ends the trace, if it does
-abbrev pub end_of : Answer → Option Status
-end_of (Goes text stage b) = None
-end_of (Ends r) = Some r.status
-
--- the state behind it
-abbrev pub stage_behind : Answer → Stage → Stage
-stage_behind (Goes text stage b) old = stage
+-- the state behind an answer
+abbrev pub stage_behind : Answer Replay Verdict → Stage → Stage
+stage_behind (Goes text r) old = r.stage
 stage_behind (Ends r) old = old
 
-abbrev pub board_behind : Answer → Board → Board
-board_behind (Goes text stage b) old = b
+abbrev pub board_behind : Answer Replay Verdict → Board → Board
+board_behind (Goes text r) old = r.board
 board_behind (Ends r) old = old

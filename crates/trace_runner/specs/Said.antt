@@ -1,7 +1,7 @@
--- What a function that writes a text leaves.
+-- What a text that is put whole leaves.
 use Rattle.std.specs.Prelude.{◌≡◌, ℕ, List, Option, ◌⊎◌}
 use Rattle.std.specs.Io.KnownBytes.{Appends}
-use Rattle.trace_runner.specs.Reading.{Begins}
+use Rattle.trace_loop.specs.Outcome.{Begins}
 use Rattle.trace_runner.specs.declared.status.Status.{Status}
 use Rattle.trace_runner.specs.declared.status.Status.TheVariants.{SinkFault}
 

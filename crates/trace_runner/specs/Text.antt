@@ -32,13 +32,6 @@ refused_text line = codes "refused " ++ decimal line ++ codes " notbuilt\n"
 unfoldable pub job_refused_text : List ℕ
 job_refused_text = codes "refused 0 notbuilt\n"
 
--- the source failed, and memory ran out
-unfoldable pub source_fault_text : List ℕ
-source_fault_text = codes "fault source\n"
-
-unfoldable pub memory_fault_text : List ℕ
-memory_fault_text = codes "fault memory\n"
-
 -- how the program is called
 unfoldable pub usage_text : List ℕ
 usage_text = codes "usage: clockboard replay|race [--state] | gen|soak KEY RECORDS CPUS\n"

@@ -5,17 +5,6 @@ use Rattle.std.specs.List.{slice_split, list_all}
 use Rattle.std.specs.Char.{digit_value}
 use Rattle.std.specs.Str.Parse.{digits_value}
 
--- parts without the last of them where that is empty
-abbrev pub without_empty_last : List (List ℕ) → List (List ℕ)
-without_empty_last [] = []
-without_empty_last ([] ∷ []) = []
-without_empty_last ((b ∷ bs) ∷ []) = (b ∷ bs) ∷ []
-without_empty_last (part ∷ next ∷ parts) = part ∷ without_empty_last (next ∷ parts)
-
--- the lines of a trace: cut by the byte 0Ah; what stands behind the last one is a line too, unless it is empty
-unfoldable pub lines_of : List ℕ → List (List ℕ)
-lines_of bytes = without_empty_last (slice_split (λ b. b == 10) bytes)
-
 -- the words of a line: cut by spaces, so that two spaces in a row have an empty word between them
 unfoldable pub words_of : List ℕ → List (List ℕ)
 words_of line = slice_split (λ b. b == 32) line

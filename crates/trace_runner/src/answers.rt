@@ -1,16 +1,14 @@
 ghost use Rattle.std.specs.Prelude.{◌≡◌, ◌<◌, ◌≤◌, ◌+◌, ◌^◌, ◌++◌, true, false, Some, None, Ok, IfOk, OnOk, OnErr};
 ghost use Rattle.std.specs.Io.{StartsWith};
 ghost use Rattle.trace_runner.specs.Ports.{HasPort};
-ghost use Rattle.trace_runner.specs.Replay.{answer_of, answer_at, refused, ended, record_answer, printed, end_of, stage_behind, board_behind};
+ghost use Rattle.trace_loop.specs.Progress.{printed, end_of};
+ghost use Rattle.trace_runner.specs.Replay.{refused, answer_at, ended, record_answer, stage_behind, board_behind};
 
 use crate::board::Board;
 use crate::record::{Record, record_in};
-use crate::status::Status;
+use crate::status::Verdict;
 use crate::text;
 use clk_units::NoMemory;
-
-/// The longest line, in bytes without its end.
-pub(crate) const LONGEST: usize = 128;
 
 /// What may come next in a trace.
 #[derive(Clone, Copy, Debug, PartialEq, Eq)]
@@ -24,25 +22,21 @@ pub(crate) enum Stage {
 }
 
 /// Answers a line: appends what it prints, and answers how it ends the trace, if it does.
-#[tactic(auto, unfolding(crate::specs::Replay::answer_of))]
 pub(crate) fn answer(
     line: u64,
     stage: &mut Stage,
     board: &mut Board,
     text: &[u8],
     out: &mut Vec<u8>,
-) -> Result<Option<Status>, NoMemory>
+) -> Result<Option<Verdict>, NoMemory>
     requires room { board.old.accesses < 2 ^ 63 }
-    ensures printed { OnOk result (out.new.items ≡ out.old.items ++ printed (answer_of line stage.old board.old text.now)) }
-    ensures ends { IfOk result (λ end. end ≡ end_of (answer_of line stage.old board.old text.now)) }
-    ensures stage { OnOk result (stage.new ≡ stage_behind (answer_of line stage.old board.old text.now) stage.old) }
-    ensures board { OnOk result (board.new ≡ board_behind (answer_of line stage.old board.old text.now) board.old) }
+    ensures printed { OnOk result (out.new.items ≡ out.old.items ++ printed (answer_at line stage.old board.old text.now)) }
+    ensures ends { IfOk result (λ end. end ≡ end_of (answer_at line stage.old board.old text.now)) }
+    ensures stage { OnOk result (stage.new ≡ stage_behind (answer_at line stage.old board.old text.now) stage.old) }
+    ensures board { OnOk result (board.new ≡ board_behind (answer_at line stage.old board.old text.now) board.old) }
     ensures accesses { board.new.accesses ≤ board.old.accesses + 1 }
     ensures err { OnErr result (StartsWith out.new.items out.old.items) }
 {
-    if text.len() > LONGEST {
-        return refuse(line, out);
-    }
     match *stage {
         Stage::Opening => turn(
             text == b"clockboard 1".as_slice(),
@@ -68,7 +62,7 @@ fn answer_in_records(
     board: &mut Board,
     text: &[u8],
     out: &mut Vec<u8>,
-) -> Result<Option<Status>, NoMemory>
+) -> Result<Option<Verdict>, NoMemory>
     requires room { board.old.accesses < 2 ^ 63 }
     ensures printed { OnOk result (out.new.items ≡ out.old.items ++ printed (answer_at line Stage.Records board.old text.now)) }
     ensures ends { IfOk result (λ end. end ≡ end_of (answer_at line Stage.Records board.old text.now)) }
@@ -87,23 +81,23 @@ fn answer_in_records(
 }
 
 /// Refuses a line.
-pub(crate) fn refuse(line: u64, out: &mut Vec<u8>) -> Result<Option<Status>, NoMemory>
+pub(crate) fn refuse(line: u64, out: &mut Vec<u8>) -> Result<Option<Verdict>, NoMemory>
     ensures printed { OnOk result (out.new.items ≡ out.old.items ++ (refused line).text) }
-    ensures ends { IfOk result (λ end. end ≡ Some (refused line).status) }
+    ensures ends { IfOk result (λ end. end ≡ Some (refused line).end) }
     ensures err { OnErr result (StartsWith out.new.items out.old.items) }
 {
     text::refused(out, line)?;
-    Ok(Some(Status::NotBuilt { line }))
+    Ok(Some(Verdict::NotBuilt { line }))
 }
 
 /// Ends a trace.
-fn end(board: &Board, out: &mut Vec<u8>) -> Result<Option<Status>, NoMemory>
+fn end(board: &Board, out: &mut Vec<u8>) -> Result<Option<Verdict>, NoMemory>
     ensures printed { OnOk result (out.new.items ≡ out.old.items ++ (ended board.now).text) }
-    ensures ends { IfOk result (λ end. end ≡ Some (ended board.now).status) }
+    ensures ends { IfOk result (λ end. end ≡ Some (ended board.now).end) }
     ensures err { OnErr result (StartsWith out.new.items out.old.items) }
 {
     text::last(out, board.time, board.accesses, board.line_up)?;
-    Ok(Some(Status::Ok))
+    Ok(Some(Verdict::Done))
 }
 
 /// Answers a record.
@@ -112,7 +106,7 @@ fn answer_record(
     board: &mut Board,
     request: &Record,
     out: &mut Vec<u8>,
-) -> Result<Option<Status>, NoMemory>
+) -> Result<Option<Verdict>, NoMemory>
     requires room { board.old.accesses < 2 ^ 63 }
     requires port { HasPort request.now.job }
     requires in_range { request.now.counter < 576460752303423488 }
@@ -138,9 +132,9 @@ fn turn(
     line: u64,
     stage: &mut Stage,
     out: &mut Vec<u8>,
-) -> Result<Option<Status>, NoMemory>
+) -> Result<Option<Verdict>, NoMemory>
     ensures right { is_right ≡ true → (result ≡ Ok None) × (stage.new ≡ next) × (out.new.items ≡ out.old.items) }
-    ensures wrong { is_right ≡ false → (stage.new ≡ stage.old) × IfOk result (λ end. end ≡ Some (refused line).status) × OnOk result (out.new.items ≡ out.old.items ++ (refused line).text) }
+    ensures wrong { is_right ≡ false → (stage.new ≡ stage.old) × IfOk result (λ end. end ≡ Some (refused line).end) × OnOk result (out.new.items ≡ out.old.items ++ (refused line).text) }
     ensures err { OnErr result (StartsWith out.new.items out.old.items) }
 {
     if is_right {

@@ -43,7 +43,6 @@ pub use status::Status;
 mod answers;
 mod board;
 mod command;
-mod output;
 mod program;
 mod record;
 mod replay;

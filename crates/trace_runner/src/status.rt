@@ -1,3 +1,18 @@
+//! How a run of the program ends.
+ghost use Rattle.std.specs.Prelude.{◌≡◌};
+ghost use Rattle.trace_runner.specs.Status.{status_of};
+
+use trace_loop::Ended;
+
+/// How a trace ends.
+#[derive(Clone, Copy, Debug, PartialEq, Eq)]
+pub(crate) enum Verdict {
+    /// It was read to `end`.
+    Done,
+    /// That line isn't built yet.
+    NotBuilt { line: u64 },
+}
+
 /// How a run of the program ends.
 #[derive(Clone, Copy, Debug, PartialEq, Eq)]
 pub enum Status {
@@ -34,5 +49,18 @@ impl Status {
             Status::NoMemory => 6,
             Status::NotBuilt { .. } => 10,
         }
+    }
+}
+
+/// The status of a run over a trace.
+pub(crate) fn status_of(ended: Ended<Verdict>) -> Status
+    ensures { result ≡ status_of ended }
+{
+    match ended {
+        Ended::By(Verdict::Done) => Status::Ok,
+        Ended::By(Verdict::NotBuilt { line }) => Status::NotBuilt { line },
+        Ended::SourceFault => Status::SourceFault,
+        Ended::SinkFault => Status::SinkFault,
+        Ended::NoMemory => Status::NoMemory,
     }
 }

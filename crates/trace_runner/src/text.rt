@@ -13,12 +13,6 @@ pub(crate) const USAGE: &[u8] =
 /// The text of a job that isn't built yet.
 pub(crate) const JOB_NOT_BUILT: &[u8] = b"refused 0 notbuilt\n";
 
-/// The text of a fault of the source.
-pub(crate) const SOURCE_FAULT: &[u8] = b"fault source\n";
-
-/// The text of want of memory.
-pub(crate) const MEMORY_FAULT: &[u8] = b"fault memory\n";
-
 /// Appends bytes. After an `Err` the text is as it was.
 pub(crate) fn append(out: &mut Vec<u8>, bytes: &[u8]) -> Result<(), NoMemory>
     ensures ok { OnOk result (out.new.items ≡ out.old.items ++ bytes.now) }

@@ -1,37 +1,41 @@
-use Rattle.std.proofs.Common.{◌≡◌, ◌+◌, ◌∙◌, ap, sym, true, false, Some, None, arith}
+use Rattle.std.proofs.Common.{◌≡◌, ◌+◌, ◌-◌, Some, None, ap, ◌∙◌, arith}
 use Rattle.clk_units.specs.Events.{IsFirst}
-use Rattle.rtc_calendar.specs.Updates.{updated}
-use Rattle.rtc_calendar.specs.Alarms.{is_match, matches_in}
-use Rattle.rtc_calendar.proofs.Times.{IsFirst-any, IsFirst-matches_in, none-more, none-first_day, updated_times-more}
+use Rattle.rtc_calendar.specs.Updates.{moment_of}
+use Rattle.rtc_calendar.specs.Alarms.{matches_in}
+use Rattle.rtc_calendar.specs.private.Days.{second_of_day}
+use Rattle.rtc_calendar.proofs.Times.{IsFirst-any}
+use Rattle.rtc_calendar.proofs.Next.{AsksFor, matches_in-no_next, matches_in-before, IsFirst-next}
 use Rattle.rtc_calendar.proofs.alarms.first_match.Goals as goal
 
-first_here : (c : goal.Then-matches) → IsFirst (matches_in c.args.form c.args.alarm c.args.bytes) c.args.n (Some (c.loop-done.done + 1))
-first_here c =
-    let here : is_match c.args.alarm (updated c.args.form c.loop-done.current) ≡ true =
-    ap (is_match c.args.alarm) (sym c.updated-current.ensures) ∙ sym c.matches.ensures.value ∙ c.if-matches.true in
-    IsFirst-matches_in c.args.form c.args.alarm c.args.bytes c.loop-done.current c.loop-done.done c.args.n
-    c.loop-done.invariant.bytes c.loop-done.invariant.none here (omega arith)
+pub returns-in_err-next : goal.returns-in_err-next
+returns-in_err-next c =
+    let asks : AsksFor c.args.form c.args.alarm c.wanted_time.result =
+    record { second = c.wanted_time.ensures.second; minute = c.wanted_time.ensures.minute; hour = c.wanted_time.ensures.hour } in
+    let start : c.second_of_day-start.result + 1 ≡ second_of_day (moment_of c.args.form c.args.bytes) + 1 =
+    ap (λ x. x + 1) (c.second_of_day-start.ensures.value ∙ ap second_of_day c.moment_of.ensures.value) in
+    let first : IsFirst (matches_in c.args.form c.args.alarm c.args.bytes) c.args.n None =
+    matches_in-no_next c.args.form c.args.alarm c.wanted_time.result c.args.bytes c.args.n (c.second_of_day-start.result + 1) asks start c.in_err-next.ensures.next in
+    rw c.from_residual.ensures (record { first = first; any = λ any some. IsFirst-any c.args.form c.args.alarm c.args.bytes c.args.n None any some first })
 
-pub returns-then-matches : goal.returns-then-matches
-returns-then-matches c = record {
-  first = first_here c;
-  any = λ any some. IsFirst-any c.args.form c.args.alarm c.args.bytes c.args.n (Some (c.loop-done.done + 1)) any some (first_here c);
-}
-
-pub loop-done-preserved : goal.loop-done-preserved
-loop-done-preserved c =
-    let not_here : is_match c.args.alarm (updated c.args.form c.loop-done.current) ≡ false =
-    ap (is_match c.args.alarm) (sym c.updated-current.ensures) ∙ sym c.matches.ensures.value ∙ c.if-matches.false in
+pub returns-then-update-n : goal.returns-then-update-n
+returns-then-update-n c =
+    let asks : AsksFor c.args.form c.args.alarm c.wanted_time.result =
+    record { second = c.wanted_time.ensures.second; minute = c.wanted_time.ensures.minute; hour = c.wanted_time.ensures.hour } in
+    let start : c.second_of_day-start.result + 1 ≡ second_of_day (moment_of c.args.form c.args.bytes) + 1 =
+    ap (λ x. x + 1) (c.second_of_day-start.ensures.value ∙ ap second_of_day c.moment_of.ensures.value) in
+    let first : IsFirst (matches_in c.args.form c.args.alarm c.args.bytes) c.args.n (Some (c.in_ok-next.next - (c.second_of_day-start.result + 1) + 1)) =
+    IsFirst-next c.args.form c.args.alarm c.wanted_time.result c.args.bytes c.args.n (c.second_of_day-start.result + 1) c.in_ok-next.next asks start c.in_ok-next.ensures.next c.if-update-n.true in
     record {
-      bytes = c.updated-current.ensures ∙ updated_times-more c.args.form c.args.bytes c.loop-done.current c.loop-done.done c.loop-done.invariant.bytes;
-      none = none-more c.args.form c.args.alarm c.args.bytes c.loop-done.current c.loop-done.done c.loop-done.invariant.bytes c.loop-done.invariant.none not_here;
+      first = first;
+      any = λ any some. IsFirst-any c.args.form c.args.alarm c.args.bytes c.args.n (Some (c.in_ok-next.next - (c.second_of_day-start.result + 1) + 1)) any some first;
     }
 
-pub returns : goal.returns
-returns c =
-    let none : matches_in c.args.form c.args.alarm c.args.bytes c.args.n ≡ 0 =
-    none-first_day c.args.form c.args.alarm c.args.bytes c.loop-done.done c.args.n (omega arith) c.loop-done.invariant.none in
-    record {
-      first = none;
-      any = λ any some. IsFirst-any c.args.form c.args.alarm c.args.bytes c.args.n None any some none;
-    }
+pub returns-else-update-n : goal.returns-else-update-n
+returns-else-update-n c =
+    let asks : AsksFor c.args.form c.args.alarm c.wanted_time.result =
+    record { second = c.wanted_time.ensures.second; minute = c.wanted_time.ensures.minute; hour = c.wanted_time.ensures.hour } in
+    let start : c.second_of_day-start.result + 1 ≡ second_of_day (moment_of c.args.form c.args.bytes) + 1 =
+    ap (λ x. x + 1) (c.second_of_day-start.ensures.value ∙ ap second_of_day c.moment_of.ensures.value) in
+    let first : IsFirst (matches_in c.args.form c.args.alarm c.args.bytes) c.args.n None =
+    matches_in-before c.args.form c.args.alarm c.wanted_time.result c.args.bytes c.args.n (c.second_of_day-start.result + 1) c.in_ok-next.next asks start c.in_ok-next.ensures.next (omega (arith, c.if-update-n.false)) in
+    record { first = first; any = λ any some. IsFirst-any c.args.form c.args.alarm c.args.bytes c.args.n None any some first }

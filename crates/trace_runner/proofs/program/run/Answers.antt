@@ -1,31 +1,38 @@
-use Rattle.std.proofs.Common.{◌≡◌, ◌-◌, [], map, refl, sym, ◌∙◌, subst}
-use Rattle.std.specs.String.{string_bytes}
-use Rattle.std.proofs.KnownBytes.{Appends-nil}
+use Rattle.std.proofs.Common.{◌≡◌, ℕ, ◌-◌, None, take, subst, sym}
 use Rattle.trace_runner.specs.Text.{job_refused_text, usage_text}
-use Rattle.trace_runner.specs.Command.{command_of, outcome_of, Reads, Answers}
-use Rattle.trace_runner.specs.declared.command.Command.{Command}
-use Rattle.trace_runner.specs.declared.command.Command.TheVariants.{Replay, Later, Unknown}
-use Rattle.trace_runner.specs.declared.status.Status.TheVariants.{NotBuilt}
-use Rattle.trace_runner.proofs.Told.{answers-said, answers-usage}
+use Rattle.trace_loop.specs.Progress.{opened, behind}
+use Rattle.trace_loop.specs.Outcome.{Outcome, run_of}
+use Rattle.trace_runner.specs.Replay.{answer_of, closing_of, progress_behind, replay, replay_run}
+use Rattle.trace_runner.specs.declared.replay.Replay.{Replay}
+use Rattle.trace_runner.specs.Status.{Shown}
+use Rattle.trace_runner.specs.declared.status.Status.{Status}
+use Rattle.trace_runner.proofs.Statuses.{shown_is}
 use Rattle.trace_runner.proofs.program.run.Goals as goal
 
-pub returns-in-Replay-clause-answers : goal.returns-in-Replay-clause-answers
-returns-in-Replay-clause-answers g c = λ input reads.
-    let asked : command_of (map string_bytes c.args.words.now) ≡ Replay = sym c.command_of.ensures ∙ c.in-Replay.is in
-    subst (λ (k : Command). Answers (outcome_of k input) input (g.S.Source.given c.replay_trace.new.source - g.S.Source.given c.args.source.now) c.replay_trace.result (g.K.Sink.contents c.args.sink.now) (g.K.Sink.contents c.replay_trace.new.sink)) (sym asked)
-    (c.replay_trace.ensures.answers input (subst (λ (k : Command). Reads k (g.S.Source.remaining c.args.source.now) input) asked reads))
+pub returns-in-Replay-clause-replay : goal.returns-in-Replay-clause-replay
+unfolding progress_behind replay
+returns-in-Replay-clause-replay g c = λ is input e.
+    let before : ℕ = g.S.Source.before c.answer_lines.new.source - g.S.Source.given c.args.source.now in
+    let given : ℕ = g.S.Source.given c.answer_lines.new.source - g.S.Source.given c.args.source.now in
+    let faults : ℕ = g.S.Source.faults c.args.source.now in
+    let faults_now : ℕ = g.S.Source.faults c.answer_lines.new.source in
+    let outcome : Outcome (replay_run input before given faults faults_now) c.answer_lines.result (g.K.Sink.contents c.args.sink.now) (g.K.Sink.contents c.answer_lines.new.sink) =
+    subst (λ (r : Replay). Outcome (run_of answer_of closing_of r input before given faults faults_now) c.answer_lines.result (g.K.Sink.contents c.args.sink.now) (g.K.Sink.contents c.answer_lines.new.sink)) c.new.ensures (c.answer_lines.ensures.outcome input e) in
+    subst (λ (s : Status). Shown (replay_run input before given faults faults_now) s (g.K.Sink.contents c.args.sink.now) (g.K.Sink.contents c.answer_lines.new.sink)) (sym c.status_of.ensures)
+    (shown_is (replay_run input before given faults faults_now) c.answer_lines.result (g.K.Sink.contents c.args.sink.now) (g.K.Sink.contents c.answer_lines.new.sink) outcome)
 
-pub returns-in-Later-clause-answers : goal.returns-in-Later-clause-answers
+pub returns-in-Replay-clause-stopped : goal.returns-in-Replay-clause-stopped
+unfolding progress_behind
+returns-in-Replay-clause-stopped g c = λ is input e.
+    subst (λ (r : Replay). (behind answer_of (take (g.S.Source.before c.answer_lines.new.source - g.S.Source.given c.args.source.now) input) (opened r)).end ≡ None) c.new.ensures (c.answer_lines.ensures.stopped input e)
+
+pub returns-in-Later-clause-later : goal.returns-in-Later-clause-later
 unfolding job_refused_text
-returns-in-Later-clause-answers g c = λ input reads.
-    let asked : command_of (map string_bytes c.args.words.now) ≡ Later = sym c.command_of.ensures ∙ c.in-Later.is in
-    subst (λ (k : Command). Answers (outcome_of k input) input (g.S.Source.given c.args.source.now - g.S.Source.given c.args.source.now) c.say.result (g.K.Sink.contents c.args.sink.now) (g.K.Sink.contents c.say.new.sink)) (sym asked)
-    (answers-said (outcome_of Later input) input (g.S.Source.given c.args.source.now - g.S.Source.given c.args.source.now) (NotBuilt 0) c.say.result [] job_refused_text (g.K.Sink.contents c.args.sink.now) (g.K.Sink.contents c.args.sink.now) (g.K.Sink.contents c.say.new.sink) _
-    tt refl refl (Appends-nil (g.K.Sink.contents c.args.sink.now)) c.say.ensures.said)
+returns-in-Later-clause-later g c = λ is. c.say.ensures.said
 
-pub returns-in-Unknown-clause-answers : goal.returns-in-Unknown-clause-answers
+pub returns-in-Unknown-clause-usage : goal.returns-in-Unknown-clause-usage
 unfolding usage_text
-returns-in-Unknown-clause-answers g c = λ input reads.
-    let asked : command_of (map string_bytes c.args.words.now) ≡ Unknown = sym c.command_of.ensures ∙ c.in-Unknown.is in
-    subst (λ (k : Command). Answers (outcome_of k input) input (g.S.Source.given c.args.source.now - g.S.Source.given c.args.source.now) c.say-in-Unknown.result (g.K.Sink.contents c.args.sink.now) (g.K.Sink.contents c.say-in-Unknown.new.sink)) (sym asked)
-    (answers-usage (outcome_of Unknown input) input (g.S.Source.given c.args.source.now - g.S.Source.given c.args.source.now) c.say-in-Unknown.result usage_text (g.K.Sink.contents c.args.sink.now) (g.K.Sink.contents c.say-in-Unknown.new.sink) _ refl refl c.say-in-Unknown.ensures.said)
+returns-in-Unknown-clause-usage g c = λ is. c.say-in-Unknown.ensures.said
+
+pub returns-in-Replay-clause-once : goal.returns-in-Replay-clause-once
+returns-in-Replay-clause-once g c = c.answer_lines.ensures.once

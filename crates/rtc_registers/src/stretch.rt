@@ -1,0 +1,108 @@
+//! Many pulses at once: the divider behind them, and what their events change.
+
+ghost use Rattle.std.specs.Prelude.{◌≡◌, ℕ, ◌+◌, ◌-◌, ◌*◌, ◌^◌, ◌<◌, ◌≤◌, ◌||◌, Some, nat_lt};
+ghost use Rattle.std.specs.Option.{is_some};
+ghost use Rattle.clk_units.specs.Events.{IsFirst};
+ghost use Rattle.rtc_calendar.specs.Updates.{updated_times};
+ghost use Rattle.rtc_calendar.specs.Alarms.{matches_in};
+ghost use Rattle.rtc_cycle.specs.Divider.{ticks_in, updates_in};
+ghost use Rattle.rtc_registers.specs.Parts.{IsRtc};
+ghost use Rattle.rtc_registers.specs.Pulses.{moved, rtc_pulsed_times, alarms_in};
+ghost use Rattle.rtc_registers.specs.Registers.{pf_of, af_of, uf_of, flags_byte, divider_of, form_of, time_of, alarm_of};
+ghost use Rattle.rtc_registers.specs.private.Stretch.{second_apart};
+
+use crate::RTC_HZ;
+use crate::events::RtcEvents;
+use crate::parts::RtcParts;
+use crate::registers::{self, ALARM, PERIODIC, REGISTER_C, UPDATE_ENDED};
+use rtc_calendar::{TimeBytes, after, first_match};
+use rtc_cycle::{CycleEvents, DividerParts};
+
+/// The divider moves on, and nothing else changes.
+fn move_divider(r: &mut RtcParts, divider: DividerParts)
+    ensures { r.new ≡ record r.old { d = divider.d; cycle = divider.cycle } }
+{
+    r.d = divider.d;
+    r.cycle = divider.cycle;
+}
+
+/// The divider, the time bytes and register C are replaced.
+#[tactic(auto, unfolding(crate::specs::Pulses::moved))]
+fn replace(r: &mut RtcParts, divider: DividerParts, time: TimeBytes, flags: u8)
+    ensures { r.new ≡ moved divider time flags r.old }
+{
+    registers::write_time(&mut r.bytes, time);
+    r.bytes[REGISTER_C as usize] = flags;
+    r.d = divider.d;
+    r.cycle = divider.cycle;
+}
+
+/// Register C after these events.
+fn flags_after(r: &RtcParts, cycle: &CycleEvents, alarm: bool) -> u8
+    ensures { result ≡ flags_byte (pf_of r.now || nat_lt 0 cycle.now.ticks) (af_of r.now || alarm) (uf_of r.now || nat_lt 0 cycle.now.updates) }
+{
+    registers::flags_byte(
+        registers::is_flagged(r, PERIODIC) || cycle.ticks > 0,
+        registers::is_flagged(r, ALARM) || alarm,
+        registers::is_flagged(r, UPDATE_ENDED) || cycle.updates > 0,
+    )
+}
+
+/// The divider moves on, and events change time bytes and register C; the first update that the alarm matches,
+/// updates being counted from 1.
+fn take_events(r: &mut RtcParts, divider: DividerParts, cycle: &CycleEvents) -> Option<u64>
+    ensures matched { IsFirst (matches_in (form_of r.old) (alarm_of r.old) (time_of r.old)) cycle.now.updates result }
+    ensures state { r.new ≡ moved divider (updated_times (form_of r.old) cycle.now.updates (time_of r.old))
+        (flags_byte (pf_of r.old || nat_lt 0 cycle.now.ticks) (af_of r.old || is_some result) (uf_of r.old || nat_lt 0 cycle.now.updates))
+        r.old }
+{
+    let time = registers::time_of(r);
+    let form = registers::form_of(r);
+    let matched = first_match(time, form, registers::alarm_of(r), cycle.updates);
+    let flags = flags_after(r, cycle, matched.is_some());
+    replace(r, divider, after(time, form, cycle.updates), flags);
+    matched
+}
+
+/// The pulse of the update numbered `matched`, where the first one comes at pulse `first`.
+fn update_pulse(first: Option<u64>, matched: Option<u64>) -> Option<u64>
+    requires { (f k : ℕ) → first ≡ Some f → matched ≡ Some k → (0 < k) × (f + (k - 1) * RTC_HZ < 2 ^ 64) }
+    ensures { result ≡ second_apart first matched }
+{
+    match first {
+        Some(pulse) => match matched {
+            Some(update) => Some(pulse + (update - 1) * RTC_HZ),
+            None => None,
+        },
+        None => None,
+    }
+}
+
+/// Lets `n` pulses pass. Where no event falls the divider alone moves.
+pub(crate) fn pass(r: &mut RtcParts, n: u64) -> RtcEvents
+    requires { IsRtc r.old }
+    ensures state { r.new ≡ rtc_pulsed_times n r.old }
+    ensures ticks { result.cycle.ticks ≡ ticks_in (divider_of r.old) n }
+    ensures few_ticks { result.cycle.ticks ≤ n }
+    ensures first_tick { IsFirst (ticks_in (divider_of r.old)) n result.cycle.first_tick }
+    ensures updates { result.cycle.updates ≡ updates_in (divider_of r.old) n }
+    ensures few_updates { result.cycle.updates ≤ n }
+    ensures first_update { IsFirst (updates_in (divider_of r.old)) n result.cycle.first_update }
+    ensures first_alarm { IsFirst (alarms_in r.old) n result.first_alarm }
+{
+    let mut divider = registers::divider(r);
+    let cycle = divider.pulses(n);
+    if cycle.ticks == 0 && cycle.updates == 0 {
+        move_divider(r, divider.parts());
+        RtcEvents {
+            cycle,
+            first_alarm: None,
+        }
+    } else {
+        let matched = take_events(r, divider.parts(), &cycle);
+        RtcEvents {
+            cycle,
+            first_alarm: update_pulse(cycle.first_update, matched),
+        }
+    }
+}

@@ -1,0 +1,6 @@
+pub mod ByLines
+pub mod Cuts
+pub mod Outcomes
+pub mod Progresses
+pub mod Rows
+pub mod Written

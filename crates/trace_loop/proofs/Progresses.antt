@@ -1,0 +1,182 @@
+-- Laws of a progress, whatever answers the lines.
+use Rattle.std.proofs.Math.Seq.{take-add}
+use Rattle.std.proofs.lemmas.List.{take-append-le, length-take-le}
+use Rattle.std.specs.Str.{bytes_eq}
+use Rattle.std.proofs.Common.{◌≡◌, ◌≢◌, ℕ, ◌+◌, ◌≤◌, Bool, true, false, cond, eqb, ltb, leb, codes, take, drop, ◌-◌, List, [], ◌∷◌, ◌++◌, length, Option, Some, None, refl, sym, ap, ◌∙◌, arith, subst, append_assoc, append-nil, length-append}
+use Rattle.std.proofs.lemmas.Bool.{ne_eqb, lt-ltb, le-ltb, leb-true, leb-false}
+use Rattle.trace_loop.specs.Progress.{limit_of, Closing, Answer, Goes, Ends, Progress, standing, told, answered, checked, heard_until, behind, closed, ran, finished, finished_by}
+use Rattle.trace_loop.specs.Cut.{HasNoEnd}
+
+-- a text begins with another
+abbrev pub Starts : List ℕ → List ℕ → Type 0
+Starts front text = (more : List ℕ) × (text ≡ front ++ more)
+
+-- the least limit
+pub limit_least : (text : List ℕ) → 128 ≤ limit_of text
+unfolding limit_of
+limit_least text = least (bytes_eq (take 6 text) (codes "state "))
+  where
+    least : (b : Bool) → 128 ≤ cond b 200000 128
+    least true = omega arith
+    least false = omega arith
+
+-- the limit of a line is fixed by its beginning
+pub limit_fixed : (front more : List ℕ) → 6 ≤ length front → limit_of (front ++ more) ≡ limit_of front
+unfolding limit_of
+limit_fixed front more long = ap (λ (l : List ℕ). cond (bytes_eq l (codes "state ")) 200000 128) (take-append-le 6 front more long)
+
+-- so a line within the limit of more of it is within its own
+pub limit_front : (front more : List ℕ) → length front ≤ limit_of (front ++ more) → length front ≤ limit_of front
+limit_front front more short = by_length (leb 6 (length front)) refl
+  where
+    by_length : (b : Bool) → leb 6 (length front) ≡ b → length front ≤ limit_of front
+    by_length true long = omega (arith, short, limit_fixed front more (leb-true 6 (length front) long))
+    by_length false small = omega (arith, limit_least front, leb-false 6 (length front) small)
+
+-- and more of a line has no lower limit, where the line is within its own
+pub limit_grows : (front more : List ℕ) → length front ≤ limit_of front → length front ≤ limit_of (front ++ more)
+limit_grows front more short = by_length (leb 6 (length front)) refl
+  where
+    by_length : (b : Bool) → leb 6 (length front) ≡ b → length front ≤ limit_of (front ++ more)
+    by_length true long = omega (arith, short, limit_fixed front more (leb-true 6 (length front) long))
+    by_length false small = omega (arith, limit_least (front ++ more), leb-false 6 (length front) small)
+
+-- the limit up to a place behind the beginning
+pub limit_part : (text rest : List ℕ) (m n : ℕ) → m ≤ n → m ≤ length rest → 6 ≤ length text + m → limit_of (text ++ take n rest) ≡ limit_of (text ++ take m rest)
+limit_part text rest m n more within long =
+    let parts : take m rest ++ take (n - m) (drop m rest) ≡ take n rest = sym (take-add m (n - m) rest) ∙ ap (λ (k : ℕ). take k rest) (omega arith) in
+    let len : length (take m rest) ≡ m = length-take-le m rest within in
+    ap (λ (l : List ℕ). limit_of (text ++ l)) (sym parts) ∙ ap limit_of (sym (append_assoc text (take m rest) (take (n - m) (drop m rest))))
+    ∙ limit_fixed (text ++ take m rest) (take (n - m) (drop m rest)) (omega (arith, length-append text (take m rest), len))
+
+module _ (A E : Type 0) (answer : ℕ → A → List ℕ → Answer A E) (closing : ℕ → A → Closing E) where
+  -- bytes, and bytes behind them
+  pub behind-++ : (xs ys : List ℕ) (s : Progress A E) → behind answer (xs ++ ys) s ≡ behind answer ys (behind answer xs s)
+  behind-++ [] ys s = refl
+  behind-++ (x ∷ xs) ys s = behind-++ xs ys (heard_until answer s.end x s)
+
+  -- an ended trace stays as it is
+  pub behind-ended : (bs : List ℕ) (s : Progress A E) (status : E) → s.end ≡ Some status → behind answer bs s ≡ s
+  behind-ended [] s status e = refl
+  behind-ended (b ∷ bs) s status e =
+      let same : heard_until answer s.end b s ≡ s = ap (λ (o : Option E). heard_until answer o b s) e in
+      ap (behind answer bs) same ∙ behind-ended bs s status e
+
+  -- a byte of a line
+  heard-byte : (b : ℕ) (s : Progress A E) → s.end ≡ None → b ≢ 10 → length (s.text ++ b ∷ []) ≤ limit_of (s.text ++ b ∷ []) → heard_until answer s.end b s ≡ record s { text = s.text ++ b ∷ [] }
+  heard-byte b s e other short =
+      let fits : ltb (limit_of (s.text ++ b ∷ [])) (length (s.text ++ b ∷ [])) ≡ false = le-ltb (limit_of (s.text ++ b ∷ [])) (length (s.text ++ b ∷ [])) short in
+      ap (λ (o : Option E). heard_until answer o b s) e
+      ∙ ap (λ (t : Bool). cond t (answered answer s) (checked answer (record s { text = s.text ++ b ∷ [] }))) (ne_eqb b 10 other)
+      ∙ ap (λ (t : Bool). cond t (answered answer (record s { text = s.text ++ b ∷ [] })) (record s { text = s.text ++ b ∷ [] })) fits
+
+  -- bytes of a line
+  pub behind-bytes : (bs : List ℕ) (s : Progress A E) → s.end ≡ None → HasNoEnd bs → length (s.text ++ bs) ≤ limit_of (s.text ++ bs) → behind answer bs s ≡ record s { text = s.text ++ bs }
+  behind-bytes [] s e none short = ap (λ (l : List ℕ). record s { text = l }) (sym (append-nil s.text))
+  behind-bytes (b ∷ bs) s e none short =
+      let parts : (s.text ++ b ∷ []) ++ bs ≡ s.text ++ b ∷ bs = append_assoc s.text (b ∷ []) bs in
+      let whole : length ((s.text ++ b ∷ []) ++ bs) ≤ limit_of ((s.text ++ b ∷ []) ++ bs) = subst (λ (l : List ℕ). length l ≤ limit_of l) (sym parts) short in
+      ap (behind answer bs) (heard-byte b s e none.0 (limit_front (s.text ++ b ∷ []) bs (omega (arith, whole, length-append (s.text ++ b ∷ []) bs))))
+      ∙ behind-bytes bs (record s { text = s.text ++ b ∷ [] }) e none.1 whole
+      ∙ ap (λ (l : List ℕ). record s { text = l }) parts
+
+  -- a line, and its end
+  pub behind-line : (bs : List ℕ) (s : Progress A E) → s.end ≡ None → HasNoEnd bs → length (s.text ++ bs) ≤ limit_of (s.text ++ bs) → behind answer (bs ++ 10 ∷ []) s ≡ answered answer (record s { text = s.text ++ bs })
+  behind-line bs s e none short =
+      behind-++ bs (10 ∷ []) s ∙ ap (behind answer (10 ∷ [])) (behind-bytes bs s e none short)
+      ∙ ap (λ (o : Option E). heard_until answer o 10 (record s { text = s.text ++ bs })) e
+
+  -- a line that is one byte too long
+  pub behind-excess : (bs : List ℕ) (s : Progress A E) → s.end ≡ None → HasNoEnd bs → length s.text ≤ limit_of s.text → length (s.text ++ bs) ≡ limit_of (s.text ++ bs) + 1 → behind answer bs s ≡ answered answer (record s { text = s.text ++ bs })
+  behind-excess [] s e none short long = absurd (let same : s.text ++ [] ≡ s.text = append-nil s.text in omega (arith, short, long, ap length same, ap limit_of same))
+  behind-excess (b ∷ []) s e none short long =
+      let over : ltb (limit_of (s.text ++ b ∷ [])) (length (s.text ++ b ∷ [])) ≡ true = lt-ltb (limit_of (s.text ++ b ∷ [])) (length (s.text ++ b ∷ [])) (omega (arith, long)) in
+      ap (λ (o : Option E). heard_until answer o b s) e
+      ∙ ap (λ (t : Bool). cond t (answered answer s) (checked answer (record s { text = s.text ++ b ∷ [] }))) (ne_eqb b 10 none.0)
+      ∙ ap (λ (t : Bool). cond t (answered answer (record s { text = s.text ++ b ∷ [] })) (record s { text = s.text ++ b ∷ [] })) over
+  behind-excess (b ∷ c ∷ bs) s e none short long =
+      let parts : (s.text ++ b ∷ []) ++ c ∷ bs ≡ s.text ++ b ∷ c ∷ bs = append_assoc s.text (b ∷ []) (c ∷ bs) in
+      let whole : length ((s.text ++ b ∷ []) ++ c ∷ bs) ≡ limit_of ((s.text ++ b ∷ []) ++ c ∷ bs) + 1 = subst (λ (l : List ℕ). length l ≡ limit_of l + 1) (sym parts) long in
+      let within : length (s.text ++ b ∷ []) ≤ limit_of (s.text ++ b ∷ []) = limit_front (s.text ++ b ∷ []) (c ∷ bs) (omega (arith, whole, length-append (s.text ++ b ∷ []) (c ∷ bs))) in
+      ap (behind answer (c ∷ bs)) (heard-byte b s e none.0 within)
+      ∙ behind-excess (c ∷ bs) (record s { text = s.text ++ b ∷ [] }) e none.1 within whole
+      ∙ ap (λ (l : List ℕ). answered answer (record s { text = l })) parts
+
+  -- what was printed stays
+  starts-refl : (text : List ℕ) → Starts text text
+  starts-refl text = ([], sym (append-nil text))
+
+  starts-trans : (a b c : List ℕ) → Starts a b → Starts b c → Starts a c
+  starts-trans a b c p q = (p.0 ++ q.0, q.1 ∙ ap (λ (l : List ℕ). l ++ q.0) p.1 ∙ append_assoc a p.0 q.0)
+
+  told-starts : (x : Answer A E) (s : Progress A E) → Starts s.printed (told x s).printed
+  told-starts (Goes block a) s = (block, refl)
+  told-starts (Ends r) s = (r.text, refl)
+
+  either-starts : (t : Bool) (front : List ℕ) (x y : Progress A E) → Starts front x.printed → Starts front y.printed → Starts front (cond t x y).printed
+  either-starts true front x y p q = p
+  either-starts false front x y p q = q
+
+  heard-starts : (o : Option E) (b : ℕ) (s : Progress A E) → Starts s.printed (heard_until answer o b s).printed
+  heard-starts (Some status) b s = starts-refl s.printed
+  heard-starts None b s =
+      let t : Progress A E = record s { text = s.text ++ b ∷ [] } in
+      either-starts (eqb b 10) s.printed (answered answer s) (checked answer t) (told-starts (answer s.line s.state s.text) s)
+      (either-starts (ltb (limit_of t.text) (length t.text)) s.printed (answered answer t) t (told-starts (answer t.line t.state t.text) t) (starts-refl s.printed))
+
+  pub behind-starts : (bs : List ℕ) (s : Progress A E) → Starts s.printed (behind answer bs s).printed
+  behind-starts [] s = starts-refl s.printed
+  behind-starts (b ∷ bs) s =
+      let t : Progress A E = heard_until answer s.end b s in
+      starts-trans s.printed t.printed (behind answer bs t).printed (heard-starts s.end b s) (behind-starts bs t)
+
+  ran-starts : (o : Option E) (s : Progress A E) → Starts s.printed (ran closing o s).text
+  ran-starts None s = ((closing s.line s.state).text, refl)
+  ran-starts (Some status) s = starts-refl s.printed
+
+  closed-starts : (text : List ℕ) (s : Progress A E) → Starts s.printed (closed answer text s).printed
+  closed-starts [] s = starts-refl s.printed
+  closed-starts (b ∷ bs) s = told-starts (answer s.line s.state s.text) s
+
+  finished-starts-by : (o : Option E) (s : Progress A E) → Starts s.printed (finished_by answer closing o s).text
+  finished-starts-by (Some status) s = starts-refl s.printed
+  finished-starts-by None s =
+      let t : Progress A E = closed answer s.text s in
+      starts-trans s.printed t.printed (ran closing t.end t).text (closed-starts s.text s) (ran-starts t.end t)
+
+  pub finished-starts : (s : Progress A E) → Starts s.printed (finished answer closing s).text
+  finished-starts s = finished-starts-by s.end s
+
+  -- what is printed behind some bytes is at the front of what is printed for the whole
+  pub replay-starts : (xs ys : List ℕ) (s : Progress A E) → Starts (behind answer xs s).printed (finished answer closing (behind answer (xs ++ ys) s)).text
+  replay-starts xs ys s =
+      let t : Progress A E = behind answer xs s in
+      subst (λ (u : Progress A E). Starts t.printed (finished answer closing u).text) (sym (behind-++ xs ys s))
+      (starts-trans t.printed (behind answer ys t).printed (finished answer closing (behind answer ys t)).text (behind-starts ys t) (finished-starts (behind answer ys t)))
+
+  -- a trace that ended behind some bytes has ended so
+  pub replay-ended : (xs ys : List ℕ) (s : Progress A E) (status : E) → (behind answer xs s).end ≡ Some status → finished answer closing (behind answer (xs ++ ys) s) ≡ record { text = (behind answer xs s).printed; end = status }
+  replay-ended xs ys s status e =
+      let t : Progress A E = behind answer xs s in
+      ap (finished answer closing) (behind-++ xs ys s ∙ behind-ended ys t status e) ∙ ap (λ (o : Option E). finished_by answer closing o t) e
+
+  -- what is printed at the end of an input, behind what was printed before
+  ran-behind : (p : List ℕ) (o : Option E) (s : Progress A E) → ran closing o (record s { printed = p ++ s.printed }) ≡ record { text = p ++ (ran closing o s).text; end = (ran closing o s).end }
+  ran-behind p None s = ap (λ (l : List ℕ). record { text = l; end = (closing s.line s.state).end }) (append_assoc p s.printed (closing s.line s.state).text)
+  ran-behind p (Some status) s = refl
+
+  told-behind : (p : List ℕ) (x : Answer A E) (s : Progress A E) → told x (record s { printed = p ++ s.printed }) ≡ (let t = told x s in record t { printed = p ++ t.printed })
+  told-behind p (Goes block a) s = ap (λ (l : List ℕ). record { line = s.line + 1; text = []; state = a; printed = l; end = None }) (append_assoc p s.printed block)
+  told-behind p (Ends r) s = ap (λ (l : List ℕ). record s { printed = l; end = Some r.end }) (append_assoc p s.printed r.text)
+
+  closed-behind : (p text : List ℕ) (s : Progress A E) → closed answer text (record s { printed = p ++ s.printed }) ≡ (let t = closed answer text s in record t { printed = p ++ t.printed })
+  closed-behind p [] s = refl
+  closed-behind p (b ∷ bs) s = told-behind p (answer s.line s.state s.text) s
+
+  pub finished-behind : (p : List ℕ) (line : ℕ) (text : List ℕ) (state : A) → finished answer closing (standing line text state p) ≡ record { text = p ++ (finished answer closing (standing line text state [])).text; end = (finished answer closing (standing line text state [])).end }
+  finished-behind p line text state =
+      let s : Progress A E = standing line text state [] in
+      let t : Progress A E = closed answer text s in
+      ap (λ (l : List ℕ). finished answer closing (standing line text state l)) (sym (append-nil p))
+      ∙ ap (λ (u : Progress A E). ran closing u.end u) (closed-behind p text s)
+      ∙ ran-behind p t.end t

@@ -1,0 +1,6 @@
+pub mod Text
+pub mod Progress
+pub mod ByLines
+pub mod Outcome
+pub mod Cut
+pub mod Found

@@ -1,0 +1,72 @@
+-- What a run over lines has written when it ends.
+use Rattle.std.specs.Prelude.{◌≡◌, ℕ, ◌≤◌, List, ◌++◌, take, Option, None, ◌⊎◌}
+use Rattle.std.specs.Io.KnownBytes.{Appends}
+use Rattle.board_io.specs.Faults.{Rose}
+use Rattle.trace_loop.specs.Text.{source_fault_text, memory_fault_text}
+use Rattle.trace_loop.specs.Progress.{Closing, Answer, Progress, opened, behind, finished}
+use Rattle.trace_loop.specs.declared.ended.Ended.{Ended}
+use Rattle.trace_loop.specs.declared.ended.Ended.TheVariants.{By, SourceFault, SinkFault, NoMemory}
+
+-- a text begins with another
+abbrev pub Begins : List ℕ → List ℕ → Type 0
+Begins front text = (more : List ℕ) × (text ≡ front ++ more)
+
+-- a run over an input: the progress behind its first bytes, by their number; what is printed for the whole of it; how
+-- many bytes were given before the source was called last, and in all; the source's faults before the run and behind it
+pub record Run (A E : Type 0) : Type 0 where
+  pub at : ℕ → Progress A E
+  pub whole : Closing E
+  pub before : ℕ
+  pub given : ℕ
+  pub faults : ℕ
+  pub faults_now : ℕ
+
+-- the run of what answers lines and closes an input so, from this state
+abbrev pub run_of : {A E : Type 0} → (ℕ → A → List ℕ → Answer A E) → (ℕ → A → Closing E) → A
+    → List ℕ → ℕ → ℕ → ℕ → ℕ → Run A E
+run_of answer closing a input before given faults faults_now = record {
+  at = λ k. behind answer (take k input) (opened a);
+  whole = finished answer closing (behind answer input (opened a));
+  before = before;
+  given = given;
+  faults = faults;
+  faults_now = faults_now;
+}
+
+-- the whole text
+abbrev pub IsText : {A E : Type 0} → Run A E → List ℕ → Type 0
+IsText w text = (text ≡ w.whole.text) × (w.faults_now ≡ w.faults)
+
+-- the source failed: the blocks of all that was given, behind which the trace has not ended, and the word of the fault
+abbrev pub IsSourceFault : {A E : Type 0} → Run A E → List ℕ → Type 0
+IsSourceFault w text =
+    (text ≡ (w.at w.given).printed ++ source_fault_text)
+    × ((w.at w.given).end ≡ None)
+    × Rose w.faults w.faults_now
+
+-- memory ran out: the blocks of whole lines, at least of those that were given before the last call, and the word of it
+abbrev pub IsMemoryFault : {A E : Type 0} → Run A E → List ℕ → Type 0
+IsMemoryFault w text =
+    (k : ℕ) × (text ≡ (w.at k).printed ++ memory_fault_text) × (w.before ≤ k) × (k ≤ w.given)
+    × ((w.at k).end ≡ None)
+    × (w.faults_now ≡ w.faults)
+
+-- the sink failed: it has all blocks of what was given before the last call, and a beginning of what was to come
+abbrev pub IsCutOff : {A E : Type 0} → Run A E → List ℕ → Type 0
+IsCutOff w cut =
+    Begins (w.at w.before).printed cut
+    × ((text : List ℕ) × (IsText w text ⊎ (IsSourceFault w text ⊎ IsMemoryFault w text)) × Begins cut text)
+
+-- what a run that ended so has appended to the sink
+abbrev pub Outcome : {A E : Type 0} → Run A E → Ended E → Option (List ℕ) → Option (List ℕ) → Type 0
+Outcome w (By end) old new = (end ≡ w.whole.end) × ((text : List ℕ) × IsText w text × Appends old new text)
+Outcome w SourceFault old new = (text : List ℕ) × IsSourceFault w text × Appends old new text
+Outcome w NoMemory old new = (text : List ℕ) × IsMemoryFault w text × Appends old new text
+Outcome w SinkFault old new = (cut : List ℕ) × IsCutOff w cut × Appends old new cut
+
+-- the whole text was written, and this is the end; or the sink failed, which showed, and took the text's beginning
+abbrev pub Said : {E : Type 0} → Ended E → Ended E → Option (List ℕ) → Option (List ℕ) → List ℕ
+    → Type 0 → Type 0
+Said end result old new text shown =
+    ((result ≡ end) × Appends old new text)
+    ⊎ ((result ≡ SinkFault) × shown × ((cut : List ℕ) × Begins cut text × Appends old new cut))

@@ -1,0 +1,123 @@
+-- What is known, and what was printed, behind some bytes of a trace, whatever answers its lines: A is what is kept
+-- from line to line, and E how a trace may end.
+use Rattle.std.specs.Str.{bytes_eq}
+use Rattle.std.specs.Prelude.{
+  ℕ,
+  ◌+◌,
+  ◌==◌,
+  nat_lt,
+  List,
+  [],
+  ◌∷◌,
+  ◌++◌,
+  length,
+  take,
+  codes,
+  Option,
+  Some,
+  None,
+  if◌then◌else◌,
+}
+
+-- how many bytes a line may have without its end: one that begins with `state ` has more
+unfoldable pub limit_of : List ℕ → ℕ
+limit_of text = if bytes_eq (take 6 text) (codes "state ") then 200000 else 128
+
+-- what ends a trace prints, and how it ends
+pub record Closing (E : Type 0) : Type 0 where
+  pub text : List ℕ
+  pub end : E
+
+-- what a line does: its block is printed, and the trace goes on from a new state; or it ends the trace
+pub data Answer (A E : Type 0) : Type 0 where
+  Goes : List ℕ → A → Answer A E
+  Ends : Closing E → Answer A E
+
+-- behind some bytes: the number of the present line and what came of it, the state that will answer it, all that was
+-- printed, and how the trace ended, if it did
+pub record Progress (A E : Type 0) : Type 0 where
+  pub line : ℕ
+  pub text : List ℕ
+  pub state : A
+  pub printed : List ℕ
+  pub end : Option E
+
+-- before the first byte
+abbrev pub opened : {A E : Type 0} → A → Progress A E
+opened a = record { line = 1; text = []; state = a; printed = []; end = None }
+
+-- in a line, of which this came so far
+abbrev pub standing : {A E : Type 0} → ℕ → List ℕ → A → List ℕ → Progress A E
+standing line text a printed =
+    record { line = line; text = text; state = a; printed = printed; end = None }
+
+-- an answer is printed, and the next line begins, or the trace has ended
+abbrev pub told : {A E : Type 0} → Answer A E → Progress A E → Progress A E
+told (Goes block a) s =
+    record { line = s.line + 1; text = []; state = a; printed = s.printed ++ block; end = None }
+told (Ends r) s = record s { printed = s.printed ++ r.text; end = Some r.end }
+
+-- what an answer prints
+abbrev pub printed : {A E : Type 0} → Answer A E → List ℕ
+printed (Goes text a) = text
+printed (Ends r) = r.text
+
+-- how it ends the trace, if it does
+abbrev pub end_of : {A E : Type 0} → Answer A E → Option E
+end_of (Goes text a) = None
+end_of (Ends r) = Some r.end
+
+-- the state behind it
+abbrev pub state_behind : {A E : Type 0} → Answer A E → A → A
+state_behind (Goes text a) old = a
+state_behind (Ends r) old = old
+
+-- the present line is answered, by its number and the state before it
+abbrev pub answered : {A E : Type 0} → (ℕ → A → List ℕ → Answer A E) → Progress A E → Progress A E
+answered answer s = told (answer s.line s.state s.text) s
+
+-- a line is answered as soon as it is too long
+abbrev pub checked : {A E : Type 0} → (ℕ → A → List ℕ → Answer A E) → Progress A E → Progress A E
+checked answer s = if nat_lt (limit_of s.text) (length s.text) then answered answer s else s
+
+-- a byte comes: the end of the line has it answered, and any other byte stands in it
+abbrev pub heard : {A E : Type 0} → (ℕ → A → List ℕ → Answer A E) → ℕ → Progress A E
+    → Progress A E
+heard answer b s =
+    if b == 10 then answered answer s else checked answer (record s { text = s.text ++ b ∷ [] })
+
+-- a trace that has ended looks at no byte more
+abbrev pub heard_until : {A E : Type 0} → (ℕ → A → List ℕ → Answer A E) → Option E → ℕ
+    → Progress A E → Progress A E
+heard_until answer None b s = heard answer b s
+heard_until answer (Some end) b s = s
+
+-- the bytes come, one after the other
+abbrev pub behind : {A E : Type 0} → (ℕ → A → List ℕ → Answer A E) → List ℕ → Progress A E
+    → Progress A E
+behind answer [] s = s
+behind answer (b ∷ bs) s = behind answer bs (heard_until answer s.end b s)
+
+-- what stands in the last line is answered, though its end is missing
+abbrev pub closed : {A E : Type 0} → (ℕ → A → List ℕ → Answer A E) → List ℕ → Progress A E
+    → Progress A E
+closed answer [] s = s
+closed answer (b ∷ bs) s = answered answer s
+
+-- a trace that has not ended where its input ends is closed at the next line
+abbrev pub ran : {A E : Type 0} → (ℕ → A → Closing E) → Option E → Progress A E → Closing E
+ran closing None s = record {
+  text = s.printed ++ (closing s.line s.state).text;
+  end = (closing s.line s.state).end;
+}
+ran closing (Some end) s = record { text = s.printed; end = end }
+
+-- the input ends
+abbrev pub finished_by : {A E : Type 0} → (ℕ → A → List ℕ → Answer A E) → (ℕ → A → Closing E)
+    → Option E → Progress A E → Closing E
+finished_by answer closing None s = let t = closed answer s.text s in ran closing t.end t
+finished_by answer closing (Some end) s = ran closing (Some end) s
+
+abbrev pub finished : {A E : Type 0} → (ℕ → A → List ℕ → Answer A E) → (ℕ → A → Closing E)
+    → Progress A E → Closing E
+finished answer closing s = finished_by answer closing s.end s

@@ -1,0 +1,59 @@
+//! What answers the lines of a trace.
+ghost use Rattle.std.specs.Prelude.{◌≡◌, ℕ, ◌<◌, ◌+◌, ◌^◌, List, ◌++◌, None, IfOk, OnOk, OnErr};
+ghost use Rattle.std.specs.Io.{StartsWith};
+ghost use Rattle.trace_loop.specs.Progress.{Answer, Closing, printed, end_of, state_behind};
+
+use clk_units::NoMemory;
+
+/// What answers the lines of a trace, one after the other, and the end of the input; `E` says how a trace may end.
+pub trait Answerer<E> {
+    // What a line does, by its number, what is known before it, and its bytes.
+    ghost answer: { ℕ → Self → List ℕ → Answer Self E };
+
+    // What the end of the input prints, and how it ends the trace, by the number of the line that would come next.
+    ghost closing: { ℕ → Self → Closing E };
+
+    // It may answer the line of this number.
+    ghost may: { ℕ → Self → Type 0 };
+
+    /// Answers a line: appends its block, and answers how it ends the trace, if it does. A line that is too long comes
+    /// with one byte more than it may have. After an `Err` the text begins as it was.
+    fn answer(&mut self, line: u64, text: &[u8], out: &mut Vec<u8>) -> Result<Option<E>, NoMemory>
+        requires room { line < 2 ^ 63 }
+        requires may { may line self.old }
+        ensures printed { OnOk result (out.new.items ≡ out.old.items ++ printed (answer line self.old text.now)) }
+        ensures ends { IfOk result (λ end. end ≡ end_of (answer line self.old text.now)) }
+        ensures state { OnOk result (self.new ≡ state_behind (answer line self.old text.now) self.old) }
+        ensures may { IfOk result (λ end. end ≡ None → may (line + 1) self.new) }
+        ensures err { OnErr result (StartsWith out.new.items out.old.items) };
+
+    /// Answers the end of the input, where the line of this number would come next.
+    fn close(&mut self, line: u64, out: &mut Vec<u8>) -> Result<E, NoMemory>
+        requires may { may line self.old }
+        ensures printed { OnOk result (out.new.items ≡ out.old.items ++ (closing line self.old).text) }
+        ensures ends { IfOk result (λ end. end ≡ (closing line self.old).end) };
+}
+
+/// Answers a line: appends its block, and answers how it ends the trace, if it does. After an `Err` the text is as it
+/// was.
+pub(crate) fn answer_line<E: Drop, T: Answerer<E>>(
+    answerer: &mut T,
+    line: u64,
+    text: &[u8],
+    out: &mut Vec<u8>,
+) -> Result<Option<E>, NoMemory>
+    requires room { line < 2 ^ 63 }
+    requires may { T.may line answerer.old }
+    ensures printed { OnOk result (out.new.items ≡ out.old.items ++ printed (T.answer line answerer.old text.now)) }
+    ensures ends { IfOk result (λ end. end ≡ end_of (T.answer line answerer.old text.now)) }
+    ensures state { OnOk result (answerer.new ≡ state_behind (T.answer line answerer.old text.now) answerer.old) }
+    ensures may { IfOk result (λ end. end ≡ None → T.may (line + 1) answerer.new) }
+    ensures err { OnErr result (out.new.items ≡ out.old.items) }
+{
+    let whole = out.len();
+    let result = answerer.answer(line, text, out);
+    if result.is_err() {
+        out.truncate(whole);
+    }
+    result
+}

@@ -1,0 +1,32 @@
+//! Texts that are put into a sink, or behind one another.
+ghost use Rattle.std.specs.Prelude.{◌≡◌, ℕ, ◌<◌, ◌≤◌, List, ◌++◌, length, OnOk, OnErr};
+ghost use Rattle.std.specs.Io.KnownBytes.{Appends};
+ghost use Rattle.board_io.specs.Faults.{Rose};
+ghost use Rattle.trace_loop.specs.Outcome.{Begins};
+
+use board_io::{Failed, Sink};
+use clk_units::NoMemory;
+
+/// Puts a whole text into a sink. After an `Err` the sink has taken the text's beginning.
+pub fn put_all<K: Sink>(sink: &mut K, text: &[u8]) -> Result<(), Failed>
+    ensures all { OnOk result (Appends (K.contents sink.old) (K.contents sink.new) text.now) }
+    ensures cut { OnErr result ((cut : List ℕ) × Begins cut text.now × Appends (K.contents sink.old) (K.contents sink.new) cut) }
+    ensures well { OnOk result (K.faults sink.new ≡ K.faults sink.old) }
+    ensures some { OnErr result (0 < length text.now) }
+    ensures counted { K.faults sink.old ≤ K.faults sink.new }
+    ensures failed { OnErr result (Rose (K.faults sink.old) (K.faults sink.new)) }
+{
+    let mut put = 0;
+    while put < text.len() {
+        put += sink.put(&text[put..])?;
+    }
+    Ok(())
+}
+
+/// Appends bytes. After an `Err` the text is as it was.
+pub(crate) fn append(out: &mut Vec<u8>, bytes: &[u8]) -> Result<(), NoMemory>
+    ensures ok { OnOk result (out.new.items ≡ out.old.items ++ bytes.now) }
+    ensures err { OnErr result (out.new.items ≡ out.old.items) }
+{
+    out.extend_from_slice(bytes).map_err(|_| NoMemory)
+}

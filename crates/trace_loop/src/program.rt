@@ -1,0 +1,131 @@
+//! The loop over the lines of a source.
+ghost use Rattle.std.specs.Prelude.{◌≡◌, ◌≢◌, ℕ, ◌<◌, ◌≤◌, ◌+◌, ◌-◌, ◌^◌, List, [], ◌++◌, ◌⊎◌, Some, None, false, take, IfOk, OnOk, OnErr};
+ghost use Rattle.board_io.specs.Faults.{Rose};
+ghost use Rattle.trace_loop.specs.Text.{memory_fault_text};
+ghost use Rattle.trace_loop.specs.Progress.{opened, standing, behind, finished};
+ghost use Rattle.trace_loop.specs.Outcome.{run_of, Outcome, Said};
+
+use crate::answerer::{Answerer, answer_line};
+use crate::ended::Ended;
+use crate::lines::Lines;
+use crate::output::put_all;
+use board_io::{Failed, Sink, Source};
+use clk_units::NoMemory;
+use std::alloc::Global;
+
+/// What is printed where the source failed.
+const SOURCE_FAULT: &[u8] = b"fault source\n";
+
+/// What is printed where memory ran out.
+const MEMORY_FAULT: &[u8] = b"fault memory\n";
+
+/// Has the lines that the source gives answered, and puts what they print. Each line whose end was given is answered,
+/// and its block is put, before more is taken.
+pub fn answer_lines<E: Drop, T: Answerer<E>, S: Source, K: Sink>(
+    alloc: Global,
+    answerer: &mut T,
+    source: &mut S,
+    sink: &mut K,
+) -> Ended<E>
+    requires { T.may 1 answerer.old }
+    ensures outcome { (input : List ℕ) → S.remaining source.old ≡ Some input
+        → Outcome (run_of T.answer T.closing answerer.old input (S.before source.new - S.given source.old) (S.given source.new - S.given source.old) (S.faults source.old) (S.faults source.new)) result (K.contents sink.old) (K.contents sink.new) }
+    ensures stopped { (input : List ℕ) → S.remaining source.old ≡ Some input → (behind T.answer (take (S.before source.new - S.given source.old) input) (opened answerer.old)).end ≡ None }
+    ensures once { S.done source.old ≡ false → S.late source.old ≡ false → S.late source.new ≡ false }
+    ensures well { result ≢ Ended.SourceFault → result ≢ Ended.SinkFault → S.faults source.new ≡ S.faults source.old }
+    ensures source_fault { result ≡ Ended.SourceFault → Rose (S.faults source.old) (S.faults source.new) }
+    ensures sink_fault { result ≡ Ended.SinkFault → Rose (K.faults sink.old) (K.faults sink.new) }
+    ensures sink_well { result ≢ Ended.SinkFault → K.faults sink.new ≡ K.faults sink.old }
+{
+    let mut lines = Lines::new(alloc);
+    let mut out = Vec::new(alloc);
+    'lines: loop {
+        match lines.advance() {
+            Ok(true) => match answer_line(answerer, lines.number(), lines.line(), &mut out) {
+                Ok(None) => {}
+                Ok(Some(end)) => return say(sink, &out, Ended::By(end)),
+                Err(NoMemory) => return want_memory(sink, &out),
+            },
+            Ok(false) => {
+                if put_all(sink, &out).is_err() {
+                    return Ended::SinkFault;
+                }
+                out.clear();
+                match lines.refill(source) {
+                    Ok(0) => return end_input(answerer, &lines, &mut out, sink),
+                    Ok(_) => {}
+                    Err(Failed) => return say(sink, SOURCE_FAULT, Ended::SourceFault),
+                }
+            }
+            Err(NoMemory) => return want_memory(sink, &out),
+        }
+    }
+}
+
+/// Answers the end of the input.
+fn end_input<E: Drop, T: Answerer<E>, K: Sink>(
+    answerer: &mut T,
+    lines: &Lines,
+    out: &mut Vec<u8>,
+    sink: &mut K,
+) -> Ended<E>
+    requires room { lines.now.number + 2 < 2 ^ 63 }
+    requires may { T.may (lines.now.number + 1) answerer.old }
+    requires empty { out.old.items ≡ [] }
+    ensures said { let ran = finished T.answer T.closing (standing (lines.now.number + 1) lines.now.text answerer.old []) in
+        Said (Ended.By ran.end) result (K.contents sink.old) (K.contents sink.new) ran.text (Rose (K.faults sink.old) (K.faults sink.new))
+        ⊎ Said Ended.NoMemory result (K.contents sink.old) (K.contents sink.new) memory_fault_text (Rose (K.faults sink.old) (K.faults sink.new)) }
+    ensures sink_well { result ≢ Ended.SinkFault → K.faults sink.new ≡ K.faults sink.old }
+    ensures counted { K.faults sink.old ≤ K.faults sink.new }
+{
+    match finish(answerer, lines.number() + 1, lines.text(), out) {
+        Ok(end) => say(sink, out, Ended::By(end)),
+        Err(NoMemory) => say(sink, MEMORY_FAULT, Ended::NoMemory),
+    }
+}
+
+/// Answers the end of the input in or before a line: appends what is printed, and answers how the trace ends.
+fn finish<E: Drop, T: Answerer<E>>(
+    answerer: &mut T,
+    line: u64,
+    text: &[u8],
+    out: &mut Vec<u8>,
+) -> Result<E, NoMemory>
+    requires room { line + 1 < 2 ^ 63 }
+    requires may { T.may line answerer.old }
+    ensures printed { OnOk result (out.new.items ≡ out.old.items ++ (finished T.answer T.closing (standing line text.now answerer.old [])).text) }
+    ensures ends { IfOk result (λ end. end ≡ (finished T.answer T.closing (standing line text.now answerer.old [])).end) }
+{
+    if text.is_empty() {
+        return answerer.close(line, out);
+    }
+    match answer_line(answerer, line, text, out)? {
+        Some(end) => Ok(end),
+        None => answerer.close(line + 1, out),
+    }
+}
+
+/// Writes what was answered before memory ran out, and then says so.
+#[tactic(auto, unfolding(crate::specs::Text::memory_fault_text))]
+fn want_memory<E: Drop, K: Sink>(sink: &mut K, out: &[u8]) -> Ended<E>
+    ensures said { Said Ended.NoMemory result (K.contents sink.old) (K.contents sink.new) (out.now ++ memory_fault_text) (Rose (K.faults sink.old) (K.faults sink.new)) }
+    ensures sink_well { result ≢ Ended.SinkFault → K.faults sink.new ≡ K.faults sink.old }
+    ensures counted { K.faults sink.old ≤ K.faults sink.new }
+{
+    if put_all(sink, out).is_err() {
+        return Ended::SinkFault;
+    }
+    say(sink, MEMORY_FAULT, Ended::NoMemory)
+}
+
+/// Writes a text and ends with a status, or with a fault of the sink.
+fn say<E: Drop, K: Sink>(sink: &mut K, text: &[u8], end: Ended<E>) -> Ended<E>
+    ensures said { Said end result (K.contents sink.old) (K.contents sink.new) text.now (Rose (K.faults sink.old) (K.faults sink.new)) }
+    ensures sink_well { result ≢ Ended.SinkFault → K.faults sink.new ≡ K.faults sink.old }
+    ensures counted { K.faults sink.old ≤ K.faults sink.new }
+{
+    match put_all(sink, text) {
+        Ok(()) => end,
+        Err(Failed) => Ended::SinkFault,
+    }
+}
