@@ -7,7 +7,8 @@ use Rattle.pit_counter.specs.Table.{has_risen}
 use Rattle.pit_readback.specs.Pit.{counter_of}
 use Rattle.pit_readback.specs.declared.parts.PitParts.{PitParts}
 use Rattle.rtc_registers.specs.declared.parts.RtcParts.{RtcParts}
-use Rattle.rtc_registers.specs.Registers.{pf_of, irqf_of, after_rtc_read, rtc_written, flagged}
+use Rattle.rtc_registers.specs.Registers.{pf_of, irqf_of}
+use Rattle.rtc_registers.specs.Access.{after_rtc_read, rtc_written, flagged}
 use Rattle.hpet_registers.specs.Parts.{is_legacy}
 use Rattle.tick_policy.specs.declared.line.TickParts.{TickParts}
 use Rattle.tick_policy.specs.Line.{goes_again}
@@ -22,7 +23,7 @@ use Rattle.board_devices.specs.Nanosecond.{counts_rtc}
 use Rattle.board_devices.proofs.Places.{each-at, each-none}
 use Rattle.board_devices.proofs.Masks.{ticked_none}
 use Rattle.board_devices.proofs.Fronts.{SameTimers, back, levels-parts, levels-front, changes-first, changes-clock, no_second}
-use Rattle.board_devices.proofs.ClockReads.{after_rtc_read-other}
+use Rattle.rtc_registers.proofs.Flags.{after_rtc_read-other}
 
 -- where both parts have the levels of before there is no edge
 none-of : (t : ℕ) (a : Act) (d : DeviceParts) → levels (first_part a d) ≡ levels d → levels (acted a d) ≡ levels d → act_edges t a d ≡ []

@@ -14,7 +14,9 @@ use Rattle.rtc_cycle.specs.Divider.{ticks_in, updates_in}
 use Rattle.rtc_cycle.proofs.Pulse.{CountsUp-ticks_in, CountsUp-updates_in}
 use Rattle.rtc_registers.specs.declared.parts.RtcParts.{RtcParts}
 use Rattle.rtc_registers.specs.declared.events.RtcEvents.{RtcEvents}
-use Rattle.rtc_registers.specs.Registers.{IsRtc, divider_of, pie_of, aie_of, uie_of, pf_of, af_of, uf_of, irqf_of, register_b, has_bit}
+use Rattle.rtc_registers.specs.Registers.{divider_of, pie_of, aie_of, uie_of, pf_of, af_of, uf_of, irqf_of, register_b}
+use Rattle.rtc_registers.specs.Parts.{IsRtc}
+use Rattle.clk_units.specs.Bits.{bit}
 use Rattle.rtc_registers.specs.Pulses.{rtc_pulsed_times, alarms_in}
 use Rattle.rtc_registers.proofs.Times.{register_b-rtc_pulsed_times, pf_of-rtc_pulsed_times, af_of-rtc_pulsed_times, uf_of-rtc_pulsed_times, IsRtc-rtc_pulsed_times, CountsUp-alarms_in}
 use Rattle.rtc_registers.proofs.Flags.{af_of-flagged, uf_of-flagged}
@@ -318,7 +320,7 @@ module _ {d : DeviceParts} {t n c : ℕ} {rises : Rises} {events : RtcEvents} {m
 
   pub irqf-up : (j : ℕ) → j ≤ n → is_legacy d.hpet ≡ false → irqf_of (flagged_where (flag_at j) (rtc_alone j)) ≡ is_up_at (t + j) irq_at
   irqf-up j le plain =
-      ap (λ (b : ℕ). (pf_of r && has_bit 64 b) || ((af_of r && has_bit 32 b) || (uf_of r && has_bit 16 b))) (b-now j (flag_at j))
+      ap (λ (b : ℕ). (pf_of r && bit 6 b) || ((af_of r && bit 5 b) || (uf_of r && bit 4 b))) (b-now j (flag_at j))
       ∙ ap (λ (x : Bool). x || ((af_of r && aie_of d.rtc) || (uf_of r && uie_of d.rtc))) (swap (pie_of d.rtc) (is_legacy d.hpet) (pf_of r) plain ∙ sym (flag-now j) ∙ line-up j 1 le (omega arith))
       ∙ ap (λ (x : Bool). is_up_at (t + j) (up_at 1) || x) (
       ap (λ (x : Bool). (x && aie_of d.rtc) || (uf_of r && uie_of d.rtc)) (af-now j (flag_at j))

@@ -2,40 +2,15 @@
 use Rattle.std.proofs.Common.{◌≡◌, Bool, true, false, cond, eqb, ◌&&◌, set, refl, ap, sym, subst, ◌∙◌, inl, inr, arith}
 use Rattle.std.proofs.lemmas.Bool.{cases_Bool}
 use Rattle.rtc_registers.specs.declared.parts.RtcParts.{RtcParts}
-use Rattle.rtc_registers.specs.Registers.{IsRtc, register_b, register_c, pf_of, has_bit, after_rtc_read}
-use Rattle.rtc_registers.proofs.Bytes.{flagged-bytes}
-use Rattle.rtc_registers.proofs.Flags.{IsRtc-after_rtc_read, pf_of-flagged, register_b-flagged}
+use Rattle.rtc_registers.specs.Registers.{register_b, register_c, pf_of}
+use Rattle.rtc_registers.specs.Parts.{IsRtc}
+use Rattle.rtc_registers.specs.Access.{after_rtc_read}
+use Rattle.clk_units.specs.Bits.{bit}
+use Rattle.rtc_registers.proofs.Flags.{IsRtc-after_rtc_read, pf_of-flagged, register_b-flagged, after_rtc_read-other, pf_of-after_rtc_read, register_b-after_rtc_read}
 use Rattle.tick_policy.specs.declared.line.TickParts.{TickParts}
 use Rattle.tick_policy.specs.Line.{goes_again}
 use Rattle.board_devices.specs.Act.{acked_where}
 use Rattle.board_devices.specs.private.Stretch.{flagged_where}
-
-bytes-other : (b : Bool) (r : RtcParts) → b ≡ false → record r { bytes = cond b (set r.bytes 12 0) r.bytes } ≡ r
-bytes-other true r e = absurd (no_way e)
-  where
-    no_way : true ≡ false → ⊥
-    no_way e = cc
-bytes-other false r e = refl
-
--- a read of another register leaves the clock
-pub after_rtc_read-other : (r : RtcParts) → eqb r.index 12 ≡ false → after_rtc_read r ≡ r
-unfolding after_rtc_read
-after_rtc_read-other r other = bytes-other (eqb r.index 12) r other
-
--- a read of register C leaves no flag
-pub pf_of-after_rtc_read : (r : RtcParts) → IsRtc r → eqb r.index 12 ≡ true → pf_of (after_rtc_read r) ≡ false
-unfolding after_rtc_read
-pf_of-after_rtc_read r valid c =
-    ap (λ (b : Bool). has_bit 64 (register_c (record r { bytes = cond b (set r.bytes 12 0) r.bytes }))) c ∙ ap (has_bit 64) (flagged-bytes 0 r.bytes (omega (arith, valid.places))).register_c
-
--- a read leaves register B
-pub register_b-after_rtc_read : (r : RtcParts) → IsRtc r → register_b (after_rtc_read r) ≡ register_b r
-unfolding after_rtc_read
-register_b-after_rtc_read r valid = by_test (eqb r.index 12)
-  where
-    by_test : (b : Bool) → register_b (record r { bytes = cond b (set r.bytes 12 0) r.bytes }) ≡ register_b r
-    by_test true = (flagged-bytes 0 r.bytes (omega (arith, valid.places))).register_b
-    by_test false = refl
 
 pub register_b-read : (b : Bool) (r : RtcParts) → IsRtc r → register_b (flagged_where b (after_rtc_read r)) ≡ register_b r
 unfolding flagged_where

@@ -14,10 +14,13 @@ use Rattle.rtc_cycle.specs.declared.parts.DividerParts.{DividerParts}
 use Rattle.rtc_cycle.specs.Divider.{ticks_in, ticks_next, pulsed_times as divider_times}
 use Rattle.rtc_cycle.proofs.Pulse.{ticks_in-suc}
 use Rattle.rtc_registers.specs.declared.parts.RtcParts.{RtcParts}
-use Rattle.rtc_registers.specs.Registers.{IsRtc, divider_of, pie_of, pf_of, af_of, uf_of, register_b, has_bit, flags_byte, flagged}
+use Rattle.rtc_registers.specs.Registers.{divider_of, pie_of, pf_of, af_of, uf_of, register_b, flags_byte}
+use Rattle.rtc_registers.specs.Parts.{IsRtc}
+use Rattle.rtc_registers.specs.Access.{flagged}
+use Rattle.clk_units.specs.Bits.{bit}
 use Rattle.rtc_registers.specs.Pulses.{rtc_pulsed, rtc_pulsed_times}
 use Rattle.rtc_registers.proofs.Times.{divider_of-rtc_pulsed_times, register_b-rtc_pulsed_times, pf_of-rtc_pulsed_times, IsRtc-rtc_pulsed_times}
-use Rattle.rtc_registers.proofs.Flags.{divider_of-flagged, register_b-flagged, pf_of-flagged, IsRtc-flagged, rtc_pulsed-flagged}
+use Rattle.rtc_registers.proofs.Flags.{divider_of-flagged, register_b-flagged, pf_of-flagged, IsRtc-flagged, rtc_pulsed-flagged, flagged-still}
 use Rattle.hpet_comparator.specs.Timer.{bit_of}
 use Rattle.hpet_registers.specs.declared.parts.HpetParts.{HpetParts}
 use Rattle.hpet_registers.specs.Parts.{is_legacy, IsHpet}
@@ -126,17 +129,6 @@ place-step d t n e0 e1 e2 e3 tests (suc (suc k)) l =
     ∙ sym (line_after-suc (source d t (suc (suc k))) d.slew_ns t n l)
 
 -- PF set again
-pub flagged-still : (r : RtcParts) → IsRtc r → pf_of r ≡ true → flagged r ≡ r
-unfolding flagged
-flagged-still r valid pf =
-    let byte : flags_byte true (af_of r) (uf_of r) ≡ get_or r.bytes 12 0 = ap (λ (b : Bool). flags_byte b (af_of r) (uf_of r)) (sym pf) ∙ sym valid.register_c in
-    ap (λ (bs : List ℕ). record r { bytes = bs }) (ap (set r.bytes 12) byte ∙ set-get r.bytes 12 0)
-  where
-    set-get : (xs : List ℕ) (i d : ℕ) → set xs i (get_or xs i d) ≡ xs
-    set-get [] i d = refl
-    set-get (x ∷ xs) zero d = refl
-    set-get (x ∷ xs) (suc i) d = ap (λ (ys : List ℕ). x ∷ ys) (set-get xs i d)
-
 flag-same : (b : Bool) (r : RtcParts) → IsRtc r → pf_of r ≡ true → flagged_where b r ≡ r
 unfolding flagged_where
 flag-same true r valid pf = flagged-still r valid pf
@@ -238,7 +230,7 @@ rtc_times : ℕ → ℕ → DeviceParts → RtcParts
 rtc_times t n d = rtc_pulsed_times (pulses_from rtc_hz t n) d.rtc
 
 pub counts-by : (r s : RtcParts) (h i : HpetParts) → register_b r ≡ register_b s → is_legacy h ≡ is_legacy i → (pie_of r && not (is_legacy h)) ≡ (pie_of s && not (is_legacy i))
-counts-by r s h i e f = ap (λ (b : ℕ). has_bit 64 b && not (is_legacy h)) e ∙ ap (λ (l : Bool). pie_of s && not l) f
+counts-by r s h i e f = ap (λ (b : ℕ). bit 6 b && not (is_legacy h)) e ∙ ap (λ (l : Bool). pie_of s && not l) f
 
 -- what the nanosecond behind n of them finds
 module _ (t n : ℕ) (d : DeviceParts) (sound : Sound d) where

@@ -7,7 +7,10 @@ use Rattle.irq_edges.specs.Rises.{levels_at, rises_of}
 use Rattle.irq_edges.proofs.UpFrom.{is_up_at-mono}
 use Rattle.irq_edges.proofs.RisesOf.{rises_of-zero, rises_of-more}
 use Rattle.rtc_registers.specs.declared.parts.RtcParts.{RtcParts}
-use Rattle.rtc_registers.specs.Registers.{IsRtc, irqf_of, pf_of, af_of, uf_of, pie_of, aie_of, uie_of, has_bit, after_rtc_read, flagged}
+use Rattle.rtc_registers.specs.Registers.{irqf_of, pf_of, af_of, uf_of, pie_of, aie_of, uie_of}
+use Rattle.rtc_registers.specs.Parts.{IsRtc}
+use Rattle.rtc_registers.specs.Access.{after_rtc_read, flagged}
+use Rattle.clk_units.specs.Bits.{bit}
 use Rattle.rtc_registers.proofs.Flags.{IsRtc-after_rtc_read, pf_of-flagged, af_of-flagged, uf_of-flagged, register_b-flagged}
 use Rattle.tick_policy.specs.Line.{goes_again}
 use Rattle.board_devices.specs.declared.act.Act.{Act}
@@ -236,10 +239,10 @@ irqf-grows : (b : Bool) (r : RtcParts) → IsRtc r → irqf_of r ≡ true → ir
 irqf-grows false r valid h = h
 irqf-grows true r valid h =
     or-grows (pf_of r && pie_of r) ((af_of r && aie_of r) || (uf_of r && uie_of r)) (pf_of (flagged r) && pie_of (flagged r)) ((af_of (flagged r) && aie_of (flagged r)) || (uf_of (flagged r) && uie_of (flagged r)))
-    (λ e. same_enable (pf_of (flagged r)) (pf_of-flagged r valid) (ap (has_bit 64) (register_b-flagged r valid) ∙ second (pf_of r) (pie_of r) e))
+    (λ e. same_enable (pf_of (flagged r)) (pf_of-flagged r valid) (ap (bit 6) (register_b-flagged r valid) ∙ second (pf_of r) (pie_of r) e))
     (λ e. ap (λ (x : Bool). (x && aie_of (flagged r)) || (uf_of (flagged r) && uie_of (flagged r))) (af_of-flagged r valid)
     ∙ ap (λ (x : Bool). (af_of r && aie_of (flagged r)) || (x && uie_of (flagged r))) (uf_of-flagged r valid)
-    ∙ ap (λ (n : ℕ). (af_of r && has_bit 32 n) || (uf_of r && has_bit 16 n)) (register_b-flagged r valid) ∙ e)
+    ∙ ap (λ (n : ℕ). (af_of r && bit 5 n) || (uf_of r && bit 4 n)) (register_b-flagged r valid) ∙ e)
     h
   where
     second : (a b : Bool) → (a && b) ≡ true → b ≡ true

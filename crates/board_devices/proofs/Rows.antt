@@ -10,7 +10,8 @@ use Rattle.pit_counter.specs.Programming.{programmed, counter_at_power_on}
 use Rattle.pit_readback.specs.Pit.{pit_pulsed}
 use Rattle.rtc_cycle.specs.Divider.{ticks_next, updates_next, pulsed as divider_pulsed}
 use Rattle.rtc_registers.specs.declared.parts.RtcParts.{RtcParts}
-use Rattle.rtc_registers.specs.Registers.{with_time, flagged}
+use Rattle.rtc_registers.specs.Registers.{with_time}
+use Rattle.rtc_registers.specs.Access.{flagged}
 use Rattle.rtc_registers.specs.Pulses.{alarms_next, moved, rtc_pulsed}
 use Rattle.hpet_comparator.specs.Timer.{matches_at, pulsed as timer_pulsed}
 use Rattle.hpet_registers.specs.declared.parts.HpetParts.{HpetParts}

@@ -1,14 +1,15 @@
 -- What an access does to the devices, in its two parts: all its effects but rises out of a queue, and then those
 -- rises. Sections are those of the Intel 8254, the Motorola MC146818 and the IA-PC HPET 1.0a sheets; what they
 -- leave open is marked '(own)'.
-use Rattle.std.specs.Prelude.{ℕ, zero, suc, ◌<◌, ◌≤◌, ◌^◌, ◌*◌, ◌%◌, Bool, false, ◌&&◌, ◌||◌, ◌==◌, not, nat_lt, nat_le, if◌then◌else◌, IsTrue, List, ◌++◌}
+use Rattle.std.specs.Prelude.{ℕ, zero, suc, ◌<◌, ◌≤◌, ◌^◌, ◌*◌, Bool, false, ◌&&◌, ◌||◌, ◌==◌, not, nat_lt, nat_le, if◌then◌else◌, IsTrue, List, ◌++◌}
 use Rattle.irq_edges.specs.declared.edges.Edge.{Edge}
 use Rattle.irq_edges.specs.Lines.{changes, line_numbers}
 use Rattle.pit_counter.specs.Table.{has_risen}
 use Rattle.pit_readback.specs.declared.parts.PitParts.{PitParts}
 use Rattle.pit_readback.specs.Pit.{counter_of}
 use Rattle.pit_readback.specs.Ports.{port_written, port_read, after_port_read, written_61, read_of_61}
-use Rattle.rtc_registers.specs.Registers.{pf_of, rtc_read, after_rtc_read, rtc_written, flagged}
+use Rattle.rtc_registers.specs.Registers.{pf_of}
+use Rattle.rtc_registers.specs.Access.{index_written, rtc_read, after_rtc_read, rtc_written, flagged}
 use Rattle.hpet_comparator.specs.Timer.{is_level, route_of}
 use Rattle.hpet_registers.specs.declared.parts.HpetParts.{HpetParts}
 use Rattle.hpet_registers.specs.Parts.{timer_at, is_legacy}
@@ -99,7 +100,7 @@ acted (PitWrite port byte) d = record d {
   ticks = ticked_at (pit_ticked (ticks_on_write port byte d)) d.ticks;
 }
 acted IndexRead d = d
-acted (IndexWrite byte) d = record d { rtc = record d.rtc { index = byte % 128 } }
+acted (IndexWrite byte) d = record d { rtc = index_written byte d.rtc }
 acted ClockRead d = record d {
   rtc = if reads_c d 1 && goes_again (line_at 1 d) then flagged (after_rtc_read d.rtc) else after_rtc_read d.rtc;
   ticks = each (λ k l. acked_where (reads_c d k) l) 0 d.ticks;

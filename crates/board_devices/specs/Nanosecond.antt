@@ -4,7 +4,8 @@ use Rattle.clk_units.specs.Pulses.{falls_at}
 use Rattle.pit_counter.specs.Table.{rises_next}
 use Rattle.pit_readback.specs.Pit.{counter_of, pit_pulsed}
 use Rattle.rtc_cycle.specs.Divider.{ticks_next}
-use Rattle.rtc_registers.specs.Registers.{divider_of, pie_of, flagged}
+use Rattle.rtc_registers.specs.Registers.{divider_of, pie_of}
+use Rattle.rtc_registers.specs.Access.{flagged}
 use Rattle.rtc_registers.specs.Pulses.{rtc_pulsed}
 use Rattle.hpet_registers.specs.declared.parts.HpetParts.{HpetParts}
 use Rattle.hpet_registers.specs.Parts.{timer_at, is_legacy}

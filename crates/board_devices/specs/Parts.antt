@@ -2,7 +2,8 @@
 use Rattle.std.specs.Prelude.{◌≡◌, ℕ, suc, ◌+◌, ◌<◌, ◌≤◌, Bool, true, false, ◌&&◌, ◌==◌, nat_lt, length, map, List, [], ◌∷◌, if◌then◌else◌}
 use Rattle.pit_readback.specs.Pit.{IsPit, pit_at_power_on}
 use Rattle.rtc_calendar.specs.declared.TimeBytes.{TimeBytes}
-use Rattle.rtc_registers.specs.Registers.{IsRtc, pf_of, rtc_at_power_on}
+use Rattle.rtc_registers.specs.Registers.{pf_of}
+use Rattle.rtc_registers.specs.Parts.{IsRtc, rtc_at_power_on}
 use Rattle.hpet_comparator.specs.declared.parts.TimerParts.{TimerParts}
 use Rattle.hpet_comparator.specs.Timer.{timer_at_power_on}
 use Rattle.hpet_registers.specs.declared.parts.HpetParts.{HpetParts}

@@ -5,7 +5,8 @@ ghost use Rattle.irq_edges.specs.Lines.{line_numbers, level_of, change};
 ghost use Rattle.pit_counter.specs.Table.{has_risen};
 ghost use Rattle.pit_readback.specs.Pit.{counter_of};
 ghost use Rattle.hpet_registers.specs.Register.{is_access_width};
-ghost use Rattle.rtc_registers.specs.Registers.{IsRtc, rtc_read};
+ghost use Rattle.rtc_registers.specs.Parts.{IsRtc};
+ghost use Rattle.rtc_registers.specs.Access.{rtc_read};
 ghost use Rattle.board_devices.specs.Rises.{one_if, lifts};
 ghost use Rattle.board_devices.specs.Places.{line_at, no_line, ticked_at};
 ghost use Rattle.board_devices.specs.Lines.{levels};
@@ -154,7 +155,8 @@ impl Devices {
         ensures few { length edges.new ≤ length edges.old + 12 }
         ensures due { (k : ℕ) → k < 10 → (line_at k self.new).counts.due ≡ (line_at k self.old).counts.due }
     {
-        if self.rtc.parts().index == 0x0c {
+        let _clock = self.rtc.parts();
+        if self.rtc.index() == 0x0c {
             self.read_flags(at, edges)
         } else {
             self.rtc.read()

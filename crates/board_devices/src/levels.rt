@@ -1,12 +1,13 @@
 //! From when on the lines are up.
 ghost use Rattle.std.specs.Prelude.{◌≡◌, ℕ, ◌+◌, ◌-◌, ◌^◌, ◌<◌, ◌≤◌, ◌&&◌, ◌∷◌, [], slice_index_or, None, map, if◌then◌else◌};
-ghost use Rattle.rtc_registers.specs.Registers.{has_bit, pie_of, af_of, aie_of, uf_of, uie_of};
+ghost use Rattle.rtc_registers.specs.Registers.{pie_of, af_of, aie_of, uf_of, uie_of};
+ghost use Rattle.clk_units.specs.Bits.{bit};
 ghost use Rattle.hpet_registers.specs.Parts.{timer_at};
 ghost use Rattle.board_devices.specs.Lines.{drives};
 ghost use Rattle.board_devices.specs.private.Stretch.{eight, either_from, flag_from, output_from, routed_from};
 
 use hpet_registers::HpetParts;
-use rtc_registers::RtcParts;
+use rtc_registers::Rtc;
 
 /// The earlier of two times.
 #[tactic(auto, unfolding(crate::specs::private::Stretch::either_from))]
@@ -91,30 +92,20 @@ pub(crate) struct Shown {
     pub(crate) uie: bool,
 }
 
-/// Whether a byte has the bit of this weight.
-fn has_bit(weight: u8, byte: u8) -> bool
-    requires { 0 < weight }
-    ensures { result ≡ has_bit weight byte }
-{
-    byte / weight % 2 == 1
-}
-
 /// What the clock shows.
-pub(crate) fn shown_of(r: &RtcParts) -> Shown
-    ensures pie { result.pie ≡ pie_of r.now }
-    ensures af { result.af ≡ af_of r.now }
-    ensures aie { result.aie ≡ aie_of r.now }
-    ensures uf { result.uf ≡ uf_of r.now }
-    ensures uie { result.uie ≡ uie_of r.now }
+pub(crate) fn shown_of(rtc: &Rtc) -> Shown
+    ensures pie { result.pie ≡ pie_of rtc.now }
+    ensures af { result.af ≡ af_of rtc.now }
+    ensures aie { result.aie ≡ aie_of rtc.now }
+    ensures uf { result.uf ≡ uf_of rtc.now }
+    ensures uie { result.uie ≡ uie_of rtc.now }
 {
-    let b = r.bytes[11];
-    let c = r.bytes[12];
     Shown {
-        pie: has_bit(64, b),
-        af: has_bit(32, c),
-        aie: has_bit(32, b),
-        uf: has_bit(16, c),
-        uie: has_bit(16, b),
+        pie: rtc.pie(),
+        af: rtc.af(),
+        aie: rtc.aie(),
+        uf: rtc.uf(),
+        uie: rtc.uie(),
     }
 }
 

@@ -34,8 +34,8 @@ impl Devices {
         let _before = self.pit.parts();
         let hpet = self.hpet.parts();
         let legacy = self.hpet.legacy();
-        let clock = self.rtc.parts();
-        let shown = shown_of(&clock);
+        let _clock = self.rtc.parts();
+        let shown = shown_of(&self.rtc);
         let counts = counts_rtc(shown.pie, legacy);
         let point = next_point(from, self.slew_ns);
         let rises = self.pit.pulses(pulses_between(from, to, PIT_HZ));

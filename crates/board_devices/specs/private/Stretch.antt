@@ -5,7 +5,8 @@ use Rattle.pit_counter.specs.Table.{rises_in}
 use Rattle.pit_readback.specs.Pit.{counter_of, pit_pulsed_times}
 use Rattle.rtc_cycle.specs.Divider.{ticks_in}
 use Rattle.rtc_registers.specs.declared.parts.RtcParts.{RtcParts}
-use Rattle.rtc_registers.specs.Registers.{divider_of, flagged}
+use Rattle.rtc_registers.specs.Registers.{divider_of}
+use Rattle.rtc_registers.specs.Access.{flagged}
 use Rattle.rtc_registers.specs.Pulses.{rtc_pulsed_times}
 use Rattle.hpet_comparator.specs.declared.timer.Matches.{Matches}
 use Rattle.hpet_comparator.specs.Timer.{is_level, is_enabled, bit_of}

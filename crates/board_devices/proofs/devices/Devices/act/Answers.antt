@@ -1,6 +1,6 @@
 use Rattle.std.proofs.Common.{◌+◌, ◌≤◌, ap, sym, subst, ◌∙◌}
 use Rattle.irq_edges.specs.Lines.{line_numbers, level_of}
-use Rattle.rtc_registers.specs.Registers.{IsRtc}
+use Rattle.rtc_registers.specs.Parts.{IsRtc}
 use Rattle.board_devices.specs.declared.parts.DeviceParts.{DeviceParts}
 use Rattle.board_devices.specs.Act.{act_edges}
 use Rattle.board_devices.specs.Lines.{levels}

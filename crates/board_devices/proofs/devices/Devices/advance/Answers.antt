@@ -54,7 +54,7 @@ known c = record {
       ∙ at-eight (λ i. timer_ticks i c.parts-hpet.result c.pulses-matches.result c.all_matched-matched.result) no_ticks k less
       ∙ ap (λ (h : HpetParts). timer_ticks k h c.pulses-matches.result c.all_matched-matched.result) c.parts-hpet.ensures.parts;
   pit_is = rw (c.counted-pit.ensures, c.first_at-rise_at.ensures.value, c.legacy-legacy.ensures) refl;
-  rtc_is = rw (c.counted-rtc.ensures, c.first_at-tick_at.ensures.value, c.counts_rtc-counts.ensures, c.legacy-legacy.ensures, c.shown_of-shown.ensures.pie, c.parts-clock.ensures.value) refl;
+  rtc_is = rw (c.counted-rtc.ensures, c.first_at-tick_at.ensures.value, c.counts_rtc-counts.ensures, c.legacy-legacy.ensures, c.shown_of-shown.ensures.pie) refl;
 }
 
 pub run_lines-ups-requires : goal.run_lines-ups-requires
@@ -99,7 +99,7 @@ known_end c = record {
       ∙ at-eight (λ i. timer_ticks i c.parts-hpet.result c.pulses-matches.result c.all_matched-matched.result) no_ticks k less
       ∙ ap (λ (h : HpetParts). timer_ticks k h c.pulses-matches.result c.all_matched-matched.result) c.parts-hpet.ensures.parts;
   pit_is = rw (c.counted-pit.ensures, c.first_at-rise_at.ensures.value, c.legacy-legacy.ensures) refl;
-  rtc_is = rw (c.counted-rtc.ensures, c.first_at-tick_at.ensures.value, c.counts_rtc-counts.ensures, c.legacy-legacy.ensures, c.shown_of-shown.ensures.pie, c.parts-clock.ensures.value) refl;
+  rtc_is = rw (c.counted-rtc.ensures, c.first_at-tick_at.ensures.value, c.counts_rtc-counts.ensures, c.legacy-legacy.ensures, c.shown_of-shown.ensures.pie) refl;
 }
 
 point_end : (c : goal.After-line_times) → c.next_point-point.result ≡ c.args.from + ((c.args.from / c.self.inside.slew_ns + 1) * c.self.inside.slew_ns - c.args.from)
@@ -112,7 +112,7 @@ ends : (c : goal.After-line_times) → (k : ℕ) → k < 10 → get_or c.run_lin
 ends c k less = c.run_lines-ups.ensures.state k less
 
 counts_is : (c : goal.After-line_times) → c.counts_rtc-counts.result ≡ counts_rtc (parts_of c.self.inside)
-counts_is c = rw (c.counts_rtc-counts.ensures, c.legacy-legacy.ensures, c.shown_of-shown.ensures.pie, c.parts-clock.ensures.value) refl
+counts_is c = rw (c.counts_rtc-counts.ensures, c.legacy-legacy.ensures, c.shown_of-shown.ensures.pie) refl
 
 rtc_is : (c : goal.After-line_times) → c.set_flag.new.rtc ≡ flagged_where (counts_rtc (parts_of c.self.inside) && (get_or c.run_lines-ups.new.lines 1 no_line).up) (rtc_pulsed_times (pulses_from rtc_hz c.args.from (c.args.to - c.args.from)) c.self.inside.rtc)
 rtc_is c =
@@ -139,7 +139,7 @@ pub returns-clause-state : goal.returns-clause-state
 returns-clause-state c = state c ∙ ap (λ (d : DeviceParts). (run c.args.from (c.args.to - c.args.from) d).state) c.self.view_is
 
 irq_is : (c : goal.After-line_times) → c.irq_from-irq.result ≡ irq_at (known_end c)
-irq_is c = rw (c.irq_from-irq.ensures, c.shown_of-shown.ensures.aie, c.shown_of-shown.ensures.af, c.shown_of-shown.ensures.uie, c.shown_of-shown.ensures.uf, c.first_at-alarm_at.ensures.value, c.first_at-update_at.ensures.value, c.parts-clock.ensures.value, up-is (known_end c) c.next_point-point.result c.args.to c.run_lines-ups.result (point_end c) (whole c) (ups_are c) 1 (omega arith)) refl
+irq_is c = rw (c.irq_from-irq.ensures, c.shown_of-shown.ensures.aie, c.shown_of-shown.ensures.af, c.shown_of-shown.ensures.uie, c.shown_of-shown.ensures.uf, c.first_at-alarm_at.ensures.value, c.first_at-update_at.ensures.value, up-is (known_end c) c.next_point-point.result c.args.to c.run_lines-ups.result (point_end c) (whole c) (ups_are c) 1 (omega arith)) refl
 
 pub returns-clause-levels : goal.returns-clause-levels
 returns-clause-levels c = λ j le.

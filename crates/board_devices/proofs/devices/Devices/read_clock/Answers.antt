@@ -8,11 +8,11 @@ use Rattle.board_devices.specs.Act.{acted, act_edges}
 use Rattle.board_devices.specs.Parts.{IsDevices}
 use Rattle.board_devices.specs.View.{parts_of}
 use Rattle.board_devices.proofs.ActEdges.{acted-other, edges-clock_other}
-use Rattle.board_devices.proofs.ClockReads.{after_rtc_read-other}
+use Rattle.rtc_registers.proofs.Flags.{after_rtc_read-other}
 use Rattle.board_devices.proofs.devices.Devices.read_clock.Goals as goal
 
 other : (c : goal.After-read) → (c.self.inside.rtc.index == 12) ≡ false
-other c = ne_eqb c.self.inside.rtc.index 12 (subst (λ (r : RtcParts). r.index ≡ 12 → ⊥) c.parts.ensures.value c.if-parts-eq12.false)
+other c = ne_eqb c.self.inside.rtc.index 12 (λ e. c.if-index-eq12.false (c.index.ensures.value ∙ e))
 
 -- the read leaves the clock
 rtc_is : (c : goal.After-read) → c.read.new.self ≡ c.self.inside.rtc
@@ -24,10 +24,10 @@ same c = ap (λ (r : RtcParts). record (parts_of c.self.inside) { rtc = r }) (rt
 pub invariant_of-self : goal.invariant_of-self
 invariant_of-self c = subst IsDevices (sym (same c)) c.self.invariant
 
-pub returns-else-parts-eq12-clause-state : goal.returns-else-parts-eq12-clause-state
-returns-else-parts-eq12-clause-state c = same c ∙ sym (acted-other (parts_of c.self.inside) (other c)) ∙ ap (acted ClockRead) c.self.view_is
+pub returns-else-index-eq12-clause-state : goal.returns-else-index-eq12-clause-state
+returns-else-index-eq12-clause-state c = same c ∙ sym (acted-other (parts_of c.self.inside) (other c)) ∙ ap (acted ClockRead) c.self.view_is
 
-pub returns-else-parts-eq12-clause-edges : goal.returns-else-parts-eq12-clause-edges
-returns-else-parts-eq12-clause-edges c =
+pub returns-else-index-eq12-clause-edges : goal.returns-else-index-eq12-clause-edges
+returns-else-index-eq12-clause-edges c =
     sym (ap (λ (d : DeviceParts). c.args.edges.now ++ act_edges c.args.at ClockRead d) (sym c.self.view_is)
     ∙ ap (λ (es : List Edge). c.args.edges.now ++ es) (edges-clock_other c.args.at (parts_of c.self.inside) (other c)) ∙ append-nil c.args.edges.now)

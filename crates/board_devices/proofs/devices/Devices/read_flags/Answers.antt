@@ -3,7 +3,9 @@ use Rattle.std.proofs.lemmas.Bool.{eq-eqb}
 use Rattle.irq_edges.specs.declared.edges.Edge.{Edge}
 use Rattle.irq_edges.specs.Lines.{change}
 use Rattle.rtc_registers.specs.declared.parts.RtcParts.{RtcParts}
-use Rattle.rtc_registers.specs.Registers.{IsRtc, pf_of, irqf_of, after_rtc_read, flagged}
+use Rattle.rtc_registers.specs.Registers.{pf_of, irqf_of}
+use Rattle.rtc_registers.specs.Parts.{IsRtc}
+use Rattle.rtc_registers.specs.Access.{after_rtc_read, flagged}
 use Rattle.hpet_registers.specs.Parts.{is_legacy}
 use Rattle.tick_policy.specs.declared.line.TickParts.{TickParts}
 use Rattle.tick_policy.specs.Line.{goes_again}

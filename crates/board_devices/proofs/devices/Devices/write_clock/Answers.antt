@@ -2,7 +2,8 @@ use Rattle.std.proofs.Common.{◌≡◌, Bool, ◌&&◌, not, List, get_or, ◌+
 use Rattle.irq_edges.specs.declared.edges.Edge.{Edge}
 use Rattle.irq_edges.specs.Lines.{change}
 use Rattle.rtc_registers.specs.declared.parts.RtcParts.{RtcParts}
-use Rattle.rtc_registers.specs.Registers.{pf_of, irqf_of, rtc_written}
+use Rattle.rtc_registers.specs.Registers.{pf_of, irqf_of}
+use Rattle.rtc_registers.specs.Access.{rtc_written}
 use Rattle.hpet_registers.specs.Parts.{is_legacy}
 use Rattle.tick_policy.specs.declared.line.TickParts.{TickParts}
 use Rattle.board_devices.specs.declared.parts.DeviceParts.{DeviceParts}
