@@ -12,8 +12,10 @@ use Rattle.std.specs.Prelude.{
   ◌||◌,
   ◌==◌,
   IsTrue,
+  List,
   slice_index_or,
 }
+use Rattle.host_counter.specs.declared.Anchor.{Anchor}
 use Rattle.irq_edges.specs.Changes.{line_numbers, level_of}
 use Rattle.pvclock_page.specs.Scale.{mul_for, shift_for}
 use Rattle.board_types.specs.declared.parts.BoardParts.{BoardParts}
@@ -24,17 +26,38 @@ use Rattle.board_devices.specs.Places.{line_at}
 use Rattle.board_devices.specs.Lines.{levels}
 use Rattle.board_devices.specs.Parts.{AreDevices}
 use Rattle.board_devices.specs.Rises.{one_if}
-use Rattle.board_core.specs.Time.{devices_in, now_of}
-use Rattle.board_core.specs.Tsc.{no_processor, processor_at}
+use Rattle.board_core.specs.Time.{HasTime, devices_in, now_of}
+use Rattle.board_core.specs.Tsc.{no_processor}
 
--- the flags of a published page: a stable TSC, after a move with a stopped guest
-abbrev pub flags_valid : ℕ → Bool
-flags_valid flags = flags == 1 || flags == 3
+-- the format is one that is built, with as many processors as it allows and the timers that it has
+pub record IsFormat (format cpus timers : ℕ) : Type 0 where
+  pub least : 1 ≤ format
+  pub last : format ≤ 2
+  pub least_cpus : 1 ≤ cpus
+  pub most_cpus : cpus ≤ processors_of format
+  pub has_timers : timers ≡ timers_of format
+
+-- the rates of the host's counter and of the guest's TSC, in kHz
+pub record AreRates (anchor : Anchor) (guest_khz : ℕ) : Type 0 where
+  pub slow : 100000 ≤ anchor.khz
+  pub fast : anchor.khz ≤ 10000000
+  pub guest_slow : 100000 ≤ guest_khz
+  pub guest_fast : guest_khz ≤ 10000000
 
 -- a version is even, and at most the last one
 pub record IsVersion (version : ℕ) : Type 0 where
   pub most : version ≤ LAST_VERSION
   pub even : version % 2 ≡ 0
+
+-- the wall clock: its words' number is 0 before they are published first
+pub record IsWall (number version nsec : ℕ) : Type 0 where
+  pub words : IsVersion version
+  pub unpublished : version ≡ 0 → number ≡ 0
+  pub below_second : nsec < 1000000000
+
+-- the flags of a published page: a stable TSC, after a move with a stopped guest
+abbrev pub flags_valid : ℕ → Bool
+flags_valid flags = flags == 1 || flags == 3
 
 -- a processor: all is 0 before its page is published first; then the page has the scale of the guest
 pub record IsProcessor (guest_khz : ℕ) (p : ProcessorParts) : Type 0 where
@@ -45,35 +68,27 @@ pub record IsProcessor (guest_khz : ℕ) (p : ProcessorParts) : Type 0 where
   pub mul : 0 < p.version → p.mul ≡ mul_for (guest_khz * 1000)
   pub shift : 0 < p.version → p.shift ≡ shift_for (guest_khz * 1000)
 
--- whether a line is up, by its place among the line numbers
-abbrev pub is_line_up : BoardParts → ℕ → Bool
-is_line_up b k =
-    level_of line_numbers (levels (devices_in b)) (slice_index_or line_numbers k 0)
+-- the processors, and the places of those that aren't there
+pub record AreProcessors (guest_khz cpus : ℕ) (ps : List ProcessorParts) : Type 0 where
+  pub each : (k : ℕ) → IsProcessor guest_khz (slice_index_or ps k no_processor)
+  pub absent : (k : ℕ) → cpus ≤ k → slice_index_or ps k no_processor ≡ no_processor
+
+-- the counts of rises: only an access lets a line fall, and once at most; format 1 counts none
+pub record AreRises (format accesses : ℕ) (lines : List Bool) (rises : List ℕ) : Type 0 where
+  pub most : (k : ℕ) → k < 6 → slice_index_or rises k 0
+    ≤ accesses + one_if (level_of line_numbers lines (slice_index_or line_numbers k 0))
+  pub none : format ≤ 1 → (k : ℕ) → slice_index_or rises k 0 ≡ 0
 
 -- what joins the devices and the rest of a board
 pub record IsJoined (b : BoardParts) : Type 0 where
-  pub least_format : 1 ≤ b.format
-  pub last_format : b.format ≤ 2
-  pub least_cpus : 1 ≤ b.cpus
-  pub most_cpus : b.cpus ≤ processors_of b.format
-  pub slow : 100000 ≤ b.anchor.khz
-  pub fast : b.anchor.khz ≤ 10000000
-  pub guest_slow : 100000 ≤ b.guest_khz
-  pub guest_fast : b.guest_khz ≤ 10000000
-  pub started : b.anchor.start ≤ b.host
-  pub range : now_of b < 2 ^ 59
-  pub few : b.accesses ≤ MOST_ACCESSES
-  pub timers : b.hpet.timers ≡ timers_of b.format
+  pub format : IsFormat b.format b.cpus b.hpet.timers
+  pub rates : AreRates b.anchor b.guest_khz
+  pub time : HasTime b.anchor b.host
+  pub accesses : b.accesses ≤ MOST_ACCESSES
   pub due : (k : ℕ) → k < 10 → (line_at k (devices_in b)).counts.due ≤ now_of b + b.accesses
-  pub wall_version : IsVersion b.wall_version
-  pub wall_number : b.wall_version ≡ 0 → b.wall_number ≡ 0
-  pub wall_nsec : b.wall_nsec < 1000000000
-  pub processors : (k : ℕ) → IsProcessor b.guest_khz (processor_at b k)
-  pub absent : (k : ℕ) → b.cpus ≤ k → processor_at b k ≡ no_processor
-  -- only an access lets a line fall, and once at most
-  pub rises : (k : ℕ) → k < 6 →
-    slice_index_or b.rises k 0 ≤ b.accesses + one_if (is_line_up b k)
-  pub no_rises : b.format ≤ 1 → (k : ℕ) → slice_index_or b.rises k 0 ≡ 0
+  pub wall : IsWall b.wall_number b.wall_version b.wall_nsec
+  pub processors : AreProcessors b.guest_khz b.cpus b.processors
+  pub rises : AreRises b.format b.accesses (levels (devices_in b)) b.rises
 
 -- all conditions
 pub record IsBoard (b : BoardParts) : Type 0 where

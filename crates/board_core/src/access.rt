@@ -2,7 +2,7 @@
 ghost use Rattle.std.specs.Prelude.{◌≡◌, ◌+◌, ◌<◌, ◌≤◌, ◌++◌, [], length, IsTrue, IfSome, IfOk, IfErr, OnOk, OnErr, Some, None};
 ghost use Rattle.board_types.specs.Legal.{is_source, is_legal};
 ghost use Rattle.board_types.specs.declared.parts.TheConstants.{LAST_VERSION, MOST_ACCESSES};
-ghost use Rattle.board_devices.specs.Act.{act_edges, value_of};
+ghost use Rattle.board_devices.specs.Act.{act_edges, value_of, reads_byte};
 ghost use Rattle.board_core.specs.Time.{devices_in, now_of, time_of_access, HasTime};
 ghost use Rattle.board_core.specs.Tsc.{msr_read, processor_at};
 ghost use Rattle.board_core.specs.Pages.{published_by};

@@ -5,7 +5,7 @@ ghost use Rattle.board_types.specs.declared.parts.TheConstants.{LAST_VERSION};
 ghost use Rattle.board_core.specs.Tsc.{no_processor, tsc_of, with_tsc, tsc_read, tsc_after, msr_written};
 ghost use Rattle.board_core.specs.Pages.{published, page_in, published_by, page_of_msr, prepared, published_at, processors_after};
 ghost use Rattle.board_core.specs.Time.{HasTime};
-ghost use Rattle.board_core.specs.private.Rates.{AreRates};
+ghost use Rattle.board_core.specs.Conditions.{AreRates};
 
 use board_types::{
     Access, MSR_KVM_SYSTEM_TIME, MSR_TSC, MSR_TSC_ADJUST, ProcessorParts,

@@ -140,6 +140,13 @@ value_of t (HpetWrite offset width v) d = 0
 value_of t (Ack line) d = 0
 value_of t Nothing d = 0
 
+-- whether it reads the byte of a port
+abbrev pub reads_byte : Act → Bool
+reads_byte (PitRead port) = true
+reads_byte IndexRead = true
+reads_byte ClockRead = true
+reads_byte _ = false
+
 -- its edges at t, part after part
 abbrev pub act_edges : ℕ → Act → DeviceParts → List Edge
 act_edges t a d =

@@ -11,7 +11,7 @@ ghost use Rattle.board_devices.specs.Rises.{one_if, lifts};
 ghost use Rattle.board_devices.specs.Places.{line_at, no_line, ticked_at};
 ghost use Rattle.board_devices.specs.Lines.{levels};
 ghost use Rattle.board_devices.specs.declared.act.Act.TheVariants.{PitRead, PitWrite, IndexWrite, ClockRead, ClockWrite, HpetWrite, Ack};
-ghost use Rattle.board_devices.specs.Act.{is_pit_port, IsLegal, acted, first_part, value_of, act_edges, pit_value, after_pit_read, pit_written, pit_ticked};
+ghost use Rattle.board_devices.specs.Act.{is_pit_port, IsLegal, acted, first_part, value_of, reads_byte, act_edges, pit_value, after_pit_read, pit_written, pit_ticked};
 
 use crate::acks::{all_acked, all_acks, all_down};
 use crate::clock::{ack_clock_line, again_where, clock_up, counts_rtc, set_clock_line, set_flag};
@@ -55,6 +55,7 @@ impl Devices {
         requires places { length edges.old + 12 ≤ EDGE_PLACES }
         ensures state { self.new ≡ acted a self.old }
         ensures value { result ≡ value_of at a self.old }
+        ensures byte { IsTrue (reads_byte a) → result < 256 }
         ensures edges { edges.new ≡ edges.old ++ act_edges at a self.old }
         ensures few { length edges.new ≤ length edges.old + 12 }
         ensures due { (k : ℕ) → k < 10 → (line_at k self.new).counts.due ≤ (line_at k self.old).counts.due + 1 }
@@ -72,6 +73,7 @@ impl Devices {
         requires places { length edges.old + 12 ≤ EDGE_PLACES }
         ensures state { self.new ≡ acted a self.old }
         ensures value { result ≡ value_of at a self.old }
+        ensures byte { IsTrue (reads_byte a) → result < 256 }
         ensures edges { edges.new ≡ edges.old ++ act_edges at a self.old }
         ensures few { length edges.new ≤ length edges.old + 12 }
         ensures due { (k : ℕ) → k < 10 → (line_at k self.new).counts.due ≤ (line_at k self.old).counts.due + 1 }
