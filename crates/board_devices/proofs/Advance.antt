@@ -51,7 +51,7 @@ pub record AreTicks (d : DeviceParts) (t n k : ℕ) (s : Ticks) : Type 0 where
   pub first : IsFirstTick (source d t k) t n s.first
 
 -- a source that is counted where b holds
-counts-where : (b : Bool) (count : ℕ → ℕ) (hz t : ℕ) → hz ≤ 1000000000 → CountsUp count → CountsUp (λ j. cond b (count (pulses_from hz t j)) 0)
+pub counts-where : (b : Bool) (count : ℕ → ℕ) (hz t : ℕ) → hz ≤ 1000000000 → CountsUp count → CountsUp (λ j. cond b (count (pulses_from hz t j)) 0)
 counts-where true count hz t slow up = counts-at count hz t slow up
 counts-where false count hz t slow up = record { none = refl; keeps = λ n. omega arith; few = λ n. omega arith }
 
@@ -136,7 +136,7 @@ run-up d t n k c s l known point j le =
     by_test false x u e = constant l.up
 
 -- a place that holds a timer of level type, or one with ticks, is that of a timer
-is_place : (h : HpetParts) (k : ℕ) → IsHpet h → k < 8 → (test : ℕ → Bool) → test 0 ≡ false → test (timer_at k h).config ≡ true → k < h.timers
+pub is_place : (h : HpetParts) (k : ℕ) → IsHpet h → k < 8 → (test : ℕ → Bool) → test 0 ≡ false → test (timer_at k h).config ≡ true → k < h.timers
 is_place h k valid small test none on = elim (cases_lt k h.timers) [
   | inl inside ↦ inside
   | inr outside ↦ absurd (false≢true (sym (ap test (empty outside) ∙ none) ∙ on))
@@ -145,7 +145,7 @@ is_place h k valid small test none on = elim (cases_lt k h.timers) [
     empty : h.timers ≤ k → (timer_at k h).config ≡ 0
     empty outside = ap (λ (t : TimerParts). t.config) (subst (λ (b : Bool). IsPlace b (timer_at k h)) (le-ltb k h.timers outside) (valid.places k small))
 
-first_of_and : (a b : Bool) → (a && b) ≡ true → a ≡ true
+pub first_of_and : (a b : Bool) → (a && b) ≡ true → a ≡ true
 first_of_and true b h = refl
 first_of_and false b h = h
 

@@ -11,4 +11,5 @@ pub mod Keeps
 pub mod ClockReads
 pub mod ActEdges
 pub mod Upgrade
+pub mod Still
 pub mod PowerOn

@@ -1,5 +1,5 @@
 -- The run of the devices is the run of each part by itself.
-use Rattle.std.proofs.Common.{◌≡◌, ℕ, zero, suc, ◌+◌, ◌%◌, ◌^◌, ◌<◌, Bool, true, false, cond, ltb, eqb, ◌&&◌, ◌||◌, ◌⊎◌, not, List, [], ◌∷◌, length, get_or, set, refl, ap, sym, ◌∙◌, inl, inr, arith}
+use Rattle.std.proofs.Common.{◌≡◌, ℕ, zero, suc, ◌+◌, ◌%◌, ◌^◌, ◌<◌, Bool, true, false, cond, ltb, eqb, ◌&&◌, ◌||◌, ◌⊎◌, not, List, length, get_or, refl, ap, sym, ◌∙◌, inl, inr, arith}
 use Rattle.std.proofs.lemmas.Bool.{lt-ltb, le-ltb, cases_Bool, false≢true, ltb-true}
 use Rattle.clk_units.specs.Pulses.{falls_at, pulses_from}
 use Rattle.clk_units.proofs.Pulses.{pulses_from-zero}
@@ -14,7 +14,7 @@ use Rattle.rtc_cycle.specs.declared.parts.DividerParts.{DividerParts}
 use Rattle.rtc_cycle.specs.Divider.{ticks_in, ticks_next, pulsed_times as divider_times}
 use Rattle.rtc_cycle.proofs.Pulse.{ticks_in-suc}
 use Rattle.rtc_registers.specs.declared.parts.RtcParts.{RtcParts}
-use Rattle.rtc_registers.specs.Registers.{divider_of, pie_of, pf_of, af_of, uf_of, register_b, flags_byte}
+use Rattle.rtc_registers.specs.Registers.{divider_of, pie_of, pf_of, register_b}
 use Rattle.rtc_registers.specs.Parts.{IsRtc}
 use Rattle.rtc_registers.specs.Access.{flagged}
 use Rattle.clk_units.specs.Bits.{bit}
@@ -129,12 +129,12 @@ place-step d t n e0 e1 e2 e3 tests (suc (suc k)) l =
     ∙ sym (line_after-suc (source d t (suc (suc k))) d.slew_ns t n l)
 
 -- PF set again
-flag-same : (b : Bool) (r : RtcParts) → IsRtc r → pf_of r ≡ true → flagged_where b r ≡ r
+pub flag-same : (b : Bool) (r : RtcParts) → IsRtc r → pf_of r ≡ true → flagged_where b r ≡ r
 unfolding flagged_where
 flag-same true r valid pf = flagged-still r valid pf
 flag-same false r valid pf = refl
 
-flag-none : (r : RtcParts) → flagged_where false r ≡ r
+pub flag-none : (r : RtcParts) → flagged_where false r ≡ r
 unfolding flagged_where
 flag-none r = refl
 

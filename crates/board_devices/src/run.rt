@@ -1,19 +1,23 @@
 //! The devices over a stretch of nanoseconds in which nobody accesses them.
-ghost use Rattle.std.specs.Prelude.{◌≡◌, ℕ, ◌+◌, ◌-◌, ◌*◌, ◌/◌, ◌<◌, ◌≤◌, ◌^◌, ◌&&◌, ◌++◌, length};
+ghost use Rattle.std.specs.Prelude.{◌≡◌, ℕ, ◌+◌, ◌-◌, ◌*◌, ◌/◌, ◌<◌, ◌≤◌, ◌^◌, ◌&&◌, ◌++◌, length, IsTrue};
 ghost use Rattle.irq_edges.specs.declared.edges.TheConstants.{EDGE_PLACES};
-ghost use Rattle.irq_edges.specs.Rises.{levels_at};
 ghost use Rattle.irq_edges.specs.Lines.{line_numbers, level_of};
 ghost use Rattle.board_devices.specs.Rises.{one_if, lifts};
 ghost use Rattle.board_devices.specs.Places.{line_at};
 ghost use Rattle.board_devices.specs.Lines.{levels};
+ghost use Rattle.hpet_registers.specs.Pulses.{timer_matches};
 ghost use Rattle.board_devices.specs.Run.{run, IsNextEdge};
+ghost use Rattle.board_devices.specs.private.Stretch.{told_levels};
 
 use crate::clock::{counts_rtc, set_flag};
 use crate::devices::Devices;
 use crate::levels::{all_outputs, irq_from, line_times, shown_of};
 use crate::stretch::{HPET_HZ, all_matched, all_timer_ticks, counted, run_lines};
 use clk_units::{RANGE_NS, first_at, pulses_between};
+use hpet_comparator::Matches;
 use irq_edges::{EdgeList, emit, next_rise};
+use pit_counter::Rises;
+use rtc_registers::RtcEvents;
 
 /// The 8254's clock.
 const PIT_HZ: u64 = 1_193_182;
@@ -22,13 +26,14 @@ const PIT_HZ: u64 = 1_193_182;
 const RTC_HZ: u64 = 32_768;
 
 impl Devices {
-    /// Runs from nanosecond `from` to `to`. Answers from when on each line is up.
-    fn advance(&mut self, from: u64, to: u64) -> [Option<u64>; 6]
+    /// Runs from nanosecond `from` to `to`. Answers from when on each line is up, or None where nothing came that
+    /// could move one.
+    fn advance(&mut self, from: u64, to: u64) -> Option<[Option<u64>; 6]>
         requires order { from ≤ to }
         requires range { to < 2 ^ 59 }
         requires room { (k : ℕ) → k < 10 → (line_at k self.old).counts.due + (to - from) < 2 ^ 63 }
         ensures state { self.new ≡ (run from (to - from) self.old).state }
-        ensures levels { (j : ℕ) → from + j ≤ to → levels (run from j self.old).state ≡ levels_at (from + j) result }
+        ensures levels { (j : ℕ) → from + j ≤ to → levels (run from j self.old).state ≡ told_levels (from + j) (levels self.old) result }
         ensures due { (k : ℕ) → k < 10 → (line_at k self.new).counts.due ≤ (line_at k self.old).counts.due + (to - from) }
     {
         let _before = self.pit.parts();
@@ -41,6 +46,9 @@ impl Devices {
         let rises = self.pit.pulses(pulses_between(from, to, PIT_HZ));
         let events = self.rtc.pulses(pulses_between(from, to, RTC_HZ));
         let matches = self.hpet.pulses(pulses_between(from, to, HPET_HZ));
+        if to < point && nothing_came(rises, &events, &matches) {
+            return None;
+        }
         let rise_at = first_at(rises.first, PIT_HZ, from, to);
         let tick_at = first_at(events.cycle.first_tick, RTC_HZ, from, to);
         let alarm_at = first_at(events.first_alarm, RTC_HZ, from, to);
@@ -54,7 +62,7 @@ impl Devices {
         set_flag(&mut self.rtc, flag);
         let outputs = all_outputs(&hpet, from, &matched, &ups);
         let irq = irq_from(shown, from, ups[1], alarm_at, update_at);
-        line_times(legacy, &hpet, ups[0], irq, &outputs)
+        Some(line_times(legacy, &hpet, ups[0], irq, &outputs))
     }
 
     /// Runs from nanosecond `from` to `to`, and appends the edges on the way. Six places must be free.
@@ -73,8 +81,10 @@ impl Devices {
         if from == to {
             return;
         }
-        let times = self.advance(from, to);
-        emit(&times, from, to, edges);
+        match self.advance(from, to) {
+            Some(times) => emit(&times, from, to, edges),
+            None => {}
+        }
     }
 
     /// The first nanosecond after `now` at which a line changes if no access comes, below 2^59.
@@ -84,9 +94,36 @@ impl Devices {
         ensures { IsNextEdge now self.now result }
     {
         let mut copy = *self;
-        let times = copy.advance(now, RANGE_NS - 1);
-        next_rise(&times, now, RANGE_NS - 1)
+        match copy.advance(now, RANGE_NS - 1) {
+            Some(times) => next_rise(&times, now, RANGE_NS - 1),
+            None => None,
+        }
     }
+}
+
+/// Whether a stretch brought no tick, no update and no match.
+fn nothing_came(rises: Rises, events: &RtcEvents, matches: &[Matches; 8]) -> bool
+    ensures rises { IsTrue result → rises.count ≡ 0 }
+    ensures ticks { IsTrue result → events.now.cycle.ticks ≡ 0 }
+    ensures updates { IsTrue result → events.now.cycle.updates ≡ 0 }
+    ensures matches { IsTrue result → (k : ℕ) → k < 8 → (timer_matches matches.now k).count ≡ 0 }
+{
+    rises.count == 0
+        && events.cycle.ticks == 0
+        && events.cycle.updates == 0
+        && nothing_matched(matches)
+}
+
+/// Whether no timer matched.
+fn nothing_matched(matches: &[Matches; 8]) -> bool
+    ensures { IsTrue result → (k : ℕ) → k < 8 → (timer_matches matches.now k).count ≡ 0 }
+{
+    for timer in matches {
+        if timer.count > 0 {
+            return false;
+        }
+    }
+    true
 }
 
 /// Whether PF is to be set.

@@ -1,6 +1,7 @@
 -- The devices over a stretch of nanoseconds, each by itself; private contracts alone cite this.
 use Rattle.std.specs.Prelude.{ℕ, zero, suc, Bool, true, false, ◌&&◌, ◌||◌, not, nat_le, if◌then◌else◌, Option, Some, None, List, [], ◌∷◌, slice_index_or}
 use Rattle.clk_units.specs.Pulses.{pulses_from}
+use Rattle.irq_edges.specs.Rises.{levels_at}
 use Rattle.pit_counter.specs.Table.{rises_in}
 use Rattle.pit_readback.specs.Pit.{counter_of, pit_pulsed_times}
 use Rattle.rtc_cycle.specs.Divider.{ticks_in}
@@ -108,3 +109,8 @@ abbrev pub clock_place : Bool → ℕ → Bool
 clock_place b zero = false
 clock_place b (suc zero) = b
 clock_place b (suc (suc k)) = false
+
+-- the levels at t, as a run tells them: as they were, or by the times from which on the lines are up
+abbrev pub told_levels : ℕ → List Bool → Option (List (Option ℕ)) → List Bool
+told_levels t before None = before
+told_levels t before (Some us) = levels_at t us

@@ -1,4 +1,4 @@
-use Rattle.std.proofs.Common.{◌≡◌, ℕ, ◌+◌, ◌-◌, ◌*◌, ◌/◌, ◌<◌, ◌^◌, ◌&&◌, Bool, get_or, List, Option, None, ap, sym, subst, refl, ◌∙◌, arith}
+use Rattle.std.proofs.Common.{◌≡◌, ℕ, ◌+◌, ◌-◌, ◌*◌, ◌/◌, ◌<◌, ◌^◌, ◌&&◌, Bool, get_or, List, Option, None, ap, sym, subst, refl, ◌∙◌, inl, inr, arith}
 use Rattle.std.proofs.lemmas.List.{get_or_default}
 use Rattle.clk_units.specs.Pulses.{pulses_from}
 use Rattle.rtc_registers.specs.Pulses.{rtc_pulsed_times}
@@ -9,6 +9,7 @@ use Rattle.tick_policy.proofs.Stretches.{next_point}
 use Rattle.board_devices.specs.declared.parts.DeviceParts.{DeviceParts}
 use Rattle.board_devices.specs.declared.stretch.Ticks.{Ticks}
 use Rattle.hpet_registers.specs.declared.parts.HpetParts.{HpetParts}
+use Rattle.hpet_registers.specs.Parts.{IsHpet}
 use Rattle.hpet_registers.specs.Pulses.{timer_matches}
 use Rattle.board_devices.specs.Places.{line_at, no_line}
 use Rattle.board_devices.specs.Nanosecond.{rtc_hz, hpet_hz, counts_rtc}
@@ -19,6 +20,7 @@ use Rattle.board_devices.specs.View.{parts_of}
 use Rattle.board_devices.proofs.Places.{at-eight}
 use Rattle.board_devices.proofs.Product.{Sound, run-parted}
 use Rattle.board_devices.proofs.Advance.{Brought, Known, ticks-few, ran-state, ran-levels, outs-are, up-is, IsDevices-parted, due-few, out_at, irq_at}
+use Rattle.board_devices.proofs.Still.{Quiet, run-still, levels-still, IsDevices-still}
 use Rattle.board_devices.proofs.devices.Devices.advance.Goals as goal
 
 sound : (c : goal.After-timers-1) → Sound (parts_of c.self.inside)
@@ -132,8 +134,8 @@ state c = ran-state (known_end c) c.next_point-point.result c.args.to c.run_line
     (rtc_is c)
     (rw c.pulses_between-3.ensures.value at c.pulses-matches.ensures.state)
 
-pub invariant_of-self : goal.invariant_of-self
-invariant_of-self c = subst IsDevices (sym (state c ∙ run-parted c.args.from (c.args.to - c.args.from) (parts_of c.self.inside) (sound_end c))) (IsDevices-parted (known_end c) (c.args.to - c.args.from))
+pub invariant_of-self-2 : goal.invariant_of-self-2
+invariant_of-self-2 c = subst IsDevices (sym (state c ∙ run-parted c.args.from (c.args.to - c.args.from) (parts_of c.self.inside) (sound_end c))) (IsDevices-parted (known_end c) (c.args.to - c.args.from))
 
 pub returns-clause-state : goal.returns-clause-state
 returns-clause-state c = state c ∙ ap (λ (d : DeviceParts). (run c.args.from (c.args.to - c.args.from) d).state) c.self.view_is
@@ -148,3 +150,40 @@ returns-clause-levels c = λ j le.
 
 pub returns-clause-due : goal.returns-clause-due
 returns-clause-due c = λ k less. rw (← c.self.view_is) (due-few (known_end c) c.next_point-point.result c.args.to c.run_lines-ups.new.lines (ends c) k less)
+
+-- where nothing came
+sound_still : (c : goal.Then-nothing_came) → Sound (parts_of c.self.inside)
+sound_still c = record {
+  pit = c.parts-before.ensures.valid.three;
+  rtc = rw c.parts-clock.ensures.value at c.parts-clock.ensures.valid;
+  hpet = rw c.parts-hpet.ensures.parts at c.parts-hpet.ensures.valid;
+  counter = rw c.parts-hpet.ensures.parts at (let f : c.parts-hpet.result.counter < 2 ^ 64 = omega arith in f);
+  joined = c.self.invariant;
+}
+
+few_timers : (h : HpetParts) (k : ℕ) → IsHpet h → k < h.timers → k < 8
+few_timers h k valid less = elim valid.timers [ inl three ↦ omega (arith, three) | inr eight ↦ omega (arith, eight) ]
+
+still : (c : goal.Then-nothing_came) → Quiet (parts_of c.self.inside) c.args.from (c.args.to - c.args.from) ((c.args.from / c.self.inside.slew_ns + 1) * c.self.inside.slew_ns - c.args.from)
+still c = record {
+  sound = sound_still c;
+  point = next_point c.self.inside.slew_ns c.args.from (omega (arith, c.self.invariant.slew_low));
+  early = omega (arith, c.if-to-point.true, c.next_point-point.ensures, c.requires.order);
+  rises = sym (rw c.pulses_between.ensures.value at c.pulses-rises.ensures.count) ∙ c.if-nothing_came.ensures.rises refl;
+  ticks = sym (rw c.pulses_between-2.ensures.value at c.pulses-events.ensures.ticks) ∙ c.if-nothing_came.ensures.ticks refl;
+  updates = sym (rw c.pulses_between-2.ensures.value at c.pulses-events.ensures.updates) ∙ c.if-nothing_came.ensures.updates refl;
+  matches = λ k less. sym (rw c.pulses_between-3.ensures.value at (c.pulses-matches.ensures.count k less)) ∙ c.if-nothing_came.ensures.matches refl k (few_timers c.self.inside.hpet k (sound_still c).hpet less);
+}
+
+state_still : (c : goal.Then-nothing_came) → parts_of (record { pit = c.pulses-rises.new.self; rtc = c.pulses-events.new.self; hpet = c.pulses-matches.new.self; ticks = c.self.inside.ticks; slew_ns = c.self.inside.slew_ns }) ≡ (run c.args.from (c.args.to - c.args.from) (parts_of c.self.inside)).state
+state_still c = run-still (still c) c.pulses-rises.new.self c.pulses-events.new.self c.pulses-matches.new.self (rw c.pulses_between.ensures.value at c.pulses-rises.ensures.state) (rw c.pulses_between-2.ensures.value at c.pulses-events.ensures.state) (rw c.pulses_between-3.ensures.value at c.pulses-matches.ensures.state)
+
+pub invariant_of-self : goal.invariant_of-self
+invariant_of-self c = IsDevices-still (still c) c.pulses-rises.new.self c.pulses-events.new.self c.pulses-matches.new.self (rw c.pulses_between.ensures.value at c.pulses-rises.ensures.state) (rw c.pulses_between-2.ensures.value at c.pulses-events.ensures.state) (rw c.pulses_between-3.ensures.value at c.pulses-matches.ensures.state)
+
+pub returns-then-nothing_came-clause-state : goal.returns-then-nothing_came-clause-state
+returns-then-nothing_came-clause-state c = state_still c ∙ ap (λ (d : DeviceParts). (run c.args.from (c.args.to - c.args.from) d).state) c.self.view_is
+
+pub returns-then-nothing_came-clause-levels : goal.returns-then-nothing_came-clause-levels
+returns-then-nothing_came-clause-levels c = λ j le.
+    ap (λ (d : DeviceParts). levels (run c.args.from j d).state) (sym c.self.view_is) ∙ levels-still (still c) j (omega (arith, le, c.requires.order)) ∙ ap levels c.self.view_is
