@@ -1,7 +1,7 @@
 -- What an access does to the devices, in its two parts: all its effects but rises out of a queue, and then those
 -- rises. Sections are those of the Intel 8254, the Motorola MC146818 and the IA-PC HPET 1.0a sheets; what they
 -- leave open is marked '(own)'.
-use Rattle.std.specs.Prelude.{ℕ, zero, suc, ◌<◌, ◌≤◌, ◌^◌, ◌*◌, Bool, false, ◌&&◌, ◌||◌, ◌==◌, not, nat_lt, nat_le, if◌then◌else◌, IsTrue, List, ◌++◌}
+use Rattle.std.specs.Prelude.{ℕ, zero, suc, ◌<◌, ◌≤◌, ◌^◌, ◌*◌, Bool, true, false, ◌&&◌, ◌||◌, ◌==◌, not, nat_lt, nat_le, if◌then◌else◌, IsTrue, List, ◌++◌}
 use Rattle.irq_edges.specs.declared.edges.Edge.{Edge}
 use Rattle.irq_edges.specs.Lines.{changes, line_numbers}
 use Rattle.pit_counter.specs.Table.{has_risen}
