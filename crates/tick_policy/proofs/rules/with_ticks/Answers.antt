@@ -1,7 +1,7 @@
 use Rattle.std.proofs.Common.{◌≡◌, Bool, true, false, ltb, ◌||◌, refl}
 use Rattle.tick_policy.proofs.Ticks.{ticked_times-at_once}
-use Rattle.tick_policy.proofs.line.with_ticks.Goals as goal
-use Rattle.tick_policy.proofs.line.with_ticks.Goals.{then-line, else-line}
+use Rattle.tick_policy.proofs.rules.with_ticks.Goals as goal
+use Rattle.tick_policy.proofs.rules.with_ticks.Goals.{then-line, else-line}
 
 either : (a b r : Bool) → a ≡ true → r ≡ a → r ≡ (a || b)
 either true b r e f = f
