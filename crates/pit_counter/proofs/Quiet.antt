@@ -4,7 +4,7 @@ use Rattle.std.proofs.lemmas.Bool.{cond_both, eqb-true, eqb-false, ne_eqb}
 use Rattle.pit_counter.specs.Mode.{mode_of, is_bcd}
 use Rattle.pit_counter.specs.Count.{modulus, lowered}
 use Rattle.pit_counter.specs.Table.{effect_in, affected, pulsed, pulsed_times, rises_next, rises_in}
-use Rattle.pit_counter.specs.Glide.{step_of, forever, height, quiet_for, glided_count, glided}
+use Rattle.pit_counter.specs.private.Stretch.{step_of, forever, height, quiet_for, glided_count, glided}
 use Rattle.pit_counter.specs.declared.mode.Mode.{Mode}
 use Rattle.pit_counter.specs.declared.mode.Mode.TheVariants.{TerminalCount, OneShot, RateGenerator, SquareWave, SoftwareStrobe, HardwareStrobe}
 use Rattle.pit_counter.specs.declared.table.Effect.{Effect}

@@ -5,8 +5,8 @@ use Rattle.clk_units.specs.Events.{IsFirst}
 use Rattle.pit_counter.specs.Mode.{mode_of, is_bcd, is_periodic, is_square, has_strobe}
 use Rattle.pit_counter.specs.Count.{modulus, number_in, meant_count, loaded_count, is_odd_square, lowered}
 use Rattle.pit_counter.specs.Table.{effect_in, affected, pulsed, pulsed_times, rises_next, rises_in}
-use Rattle.pit_counter.specs.Glide.{quiet_for, height, glided_count, glided}
-use Rattle.pit_counter.specs.Period.{is_reloaded}
+use Rattle.pit_counter.specs.private.Stretch.{quiet_for, height, glided_count, glided}
+use Rattle.pit_counter.specs.private.Stretch.{is_reloaded}
 use Rattle.pit_counter.specs.declared.mode.Mode.{Mode}
 use Rattle.pit_counter.specs.declared.mode.Mode.TheVariants.{TerminalCount, OneShot, RateGenerator, SquareWave, SoftwareStrobe, HardwareStrobe}
 use Rattle.pit_counter.specs.declared.table.Effect.{Effect}

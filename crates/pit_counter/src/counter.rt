@@ -7,14 +7,14 @@ ghost use Rattle.pit_counter.specs.Table.{has_risen, pulsed, pulsed_times, rises
 ghost use Rattle.pit_counter.specs.Reading.{count_of, with_count_latched, with_status_latched, byte_read, after_read};
 ghost use Rattle.pit_counter.specs.Parts.{IsCounter};
 
-use crate::leap::leaps;
 use crate::parts::{CounterParts, is_counter};
-use crate::rises::Rises;
+use crate::stretch::{Rises, take_pulses};
 use crate::{programming, reading, table};
 use std::marker::Model;
 
 /// One counter of an Intel 8254.
 #[derive(Clone, Copy, Debug, PartialEq, Eq)]
+#[repr(C)]
 pub struct Counter {
     parts: CounterParts,
 }
@@ -102,9 +102,7 @@ impl Counter {
         ensures few { result.count ≤ n }
         ensures first { IsFirst (rises_in self.old) n result.first }
     {
-        let taken = leaps(self.parts, n);
-        self.parts = taken.parts;
-        taken.rises
+        take_pulses(&mut self.parts, n)
     }
 
     /// The count as it reads now: a 16-bit number, in BCD as four digits.

@@ -17,18 +17,16 @@
 
 mod count;
 mod counter;
-mod glide;
-mod leap;
 mod mode;
 mod parts;
 mod programming;
 mod reading;
-mod rises;
+mod stretch;
 mod table;
 
 pub use counter::Counter;
 pub use parts::CounterParts;
-pub use rises::Rises;
+pub use stretch::Rises;
 
 #[cfg(test)]
 mod tests;

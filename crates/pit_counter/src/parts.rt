@@ -8,6 +8,7 @@ use crate::mode::{Mode, access_of, mode_of};
 
 /// All that a counter holds.
 #[derive(Clone, Copy, Debug, PartialEq, Eq)]
+#[repr(C)]
 pub struct CounterParts {
     /// D5 to D0 of the last control word.
     pub bits: u8,

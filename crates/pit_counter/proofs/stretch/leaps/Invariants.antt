@@ -2,7 +2,7 @@ use Rattle.std.proofs.Common.{◌≡◌, ◌≤◌, ◌-◌}
 use Rattle.clk_units.specs.Events.{IsFirst}
 use Rattle.pit_counter.specs.Parts.{IsCounter}
 use Rattle.pit_counter.specs.Table.{pulsed_times, rises_in}
-use Rattle.pit_counter.proofs.leap.leaps.Given as goal
+use Rattle.pit_counter.proofs.stretch.leaps.Given as goal
 
 abbrev pub invariant-loop-pulses : goal.invariant-loop-pulses
 invariant-loop-pulses l = record {

@@ -1,6 +1,7 @@
--- Stretches of pulses that count and do nothing else.
-use Rattle.std.specs.Prelude.{ℕ, ◌+◌, ◌-◌, ◌*◌, ◌/◌, ◌%◌, ◌^◌, ◌==◌, ◌&&◌, if◌then◌else◌}
-use Rattle.pit_counter.specs.Count.{modulus}
+-- Words of the closed form of many pulses alone. What a pulse does is told in Table.
+use Rattle.std.specs.Prelude.{ℕ, ◌+◌, ◌-◌, ◌*◌, ◌/◌, ◌%◌, ◌^◌, ◌==◌, ◌&&◌, not, Bool, Option, Some, None, if◌then◌else◌}
+use Rattle.pit_counter.specs.Mode.{mode_of, is_periodic}
+use Rattle.pit_counter.specs.Count.{modulus, loaded_count, is_odd_square}
 use Rattle.pit_counter.specs.declared.table.Effect.{Effect}
 use Rattle.pit_counter.specs.declared.table.Effect.TheVariants.{Load, DownToHigh, DownToLow, DownByTwo, DownToStrobe, Stand}
 use Rattle.pit_counter.specs.declared.parts.CounterParts.{CounterParts}
@@ -38,3 +39,22 @@ glided_count bits ce down = (ce + modulus bits - down % modulus bits) % modulus 
 -- the counter after n quiet pulses
 unfoldable pub glided : Effect → ℕ → CounterParts → CounterParts
 glided e n c = record c { ce = glided_count c.bits c.ce (step_of e * n) }
+
+-- the counter is as a load leaves it in modes 2 and 3, with GATE high: a period begins
+unfoldable pub is_reloaded : CounterParts → Bool
+is_reloaded c =
+    is_periodic (mode_of c.bits)
+    && c.gate
+    && c.live
+    && c.out
+    && not c.null
+    && not c.trig
+    && not c.armed
+    && c.ce == loaded_count c.bits c.cr
+    && (if is_odd_square c.bits c.cr then c.odd else not c.odd)
+
+-- the first of both, where the second begins behind the first m
+abbrev pub joined_first : Option ℕ → ℕ → Option ℕ → Option ℕ
+joined_first (Some k) m later = Some k
+joined_first None m (Some j) = Some (m + j)
+joined_first None m None = None

@@ -3,8 +3,8 @@ use Rattle.std.proofs.Math.Nat.{div-mul-le_self, mul-le-mul_right}
 use Rattle.std.proofs.lemmas.Nat.{le-div}
 use Rattle.pit_counter.specs.Count.{modulus, meant_count}
 use Rattle.pit_counter.proofs.Reloaded.{Round, round, state_many, rises_many, first_many}
-use Rattle.pit_counter.proofs.leap.whole_periods.Goals as goal
-use Rattle.pit_counter.proofs.leap.whole_periods.Goals.{After-meant_count-period}
+use Rattle.pit_counter.proofs.stretch.whole_periods.Goals as goal
+use Rattle.pit_counter.proofs.stretch.whole_periods.Goals.{After-meant_count-period}
 
 the_round : (c : After-meant_count-period) → Round c.args.p c.meant_count-period.result
 the_round c =
