@@ -1,9 +1,11 @@
 -- What is true of the fields of every counter, test by test in the order of the fields in a saved state.
-use Rattle.std.specs.Prelude.{◌%◌, ◌==◌, nat_lt, nat_le, ◌&&◌, ◌||◌, not, Bool, true, IsTrue}
+use Rattle.std.specs.Prelude.{◌%◌, ◌==◌, nat_lt, nat_le, ◌&&◌, ◌||◌, not, Bool, true, IsTrue, Option, Some, None, if◌then◌else◌}
 use Rattle.pit_counter.specs.Mode.{mode_of, access_of, is_terminal, is_rate, is_square, has_trigger, has_strobe, takes_two}
 use Rattle.pit_counter.specs.Count.{modulus}
 use Rattle.pit_counter.specs.declared.mode.Mode.{Mode}
 use Rattle.pit_counter.specs.declared.mode.Mode.TheVariants.{TerminalCount, OneShot, RateGenerator, SquareWave, SoftwareStrobe, HardwareStrobe}
+use Rattle.pit_counter.specs.declared.parts.CounterField.{CounterField}
+use Rattle.pit_counter.specs.declared.parts.CounterField.TheVariants.{ProgrammedBits, Flags, CountRegister, CountingElement, FirstByte, ReadOrder, LatchedCount, LatchedStatus}
 use Rattle.pit_counter.specs.declared.parts.CounterParts.{CounterParts}
 
 -- a is true only where b is
@@ -83,3 +85,21 @@ pub record IsCounter (c : CounterParts) : Type 0 where
   pub read_order : IsTrue (read_order_valid c)
   pub latched_count : IsTrue (latched_count_valid c)
   pub latched_status : IsTrue (latched_status_valid c)
+
+-- the first field behind the counting element whose condition fails
+abbrev pub fault_behind_count : CounterParts → Option CounterField
+fault_behind_count c =
+    if not (part_valid c) then Some FirstByte
+    else if not (read_order_valid c) then Some ReadOrder
+    else if not (latched_count_valid c) then Some LatchedCount
+    else if not (latched_status_valid c) then Some LatchedStatus
+    else None
+
+-- the first field, in the order of a saved state, whose condition fails
+abbrev pub first_fault : CounterParts → Option CounterField
+first_fault c =
+    if not (bits_valid c) then Some ProgrammedBits
+    else if not (flags_valid c) then Some Flags
+    else if not (cr_valid c) then Some CountRegister
+    else if not (ce_valid c) then Some CountingElement
+    else fault_behind_count c

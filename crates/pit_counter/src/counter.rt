@@ -7,7 +7,7 @@ ghost use Rattle.pit_counter.specs.Table.{has_risen, pulsed, pulsed_times, rises
 ghost use Rattle.pit_counter.specs.Reading.{count_of, with_count_latched, with_status_latched, byte_read, after_read};
 ghost use Rattle.pit_counter.specs.Parts.{IsCounter};
 
-use crate::parts::{CounterParts, is_counter};
+use crate::parts::CounterParts;
 use crate::stretch::{Rises, take_pulses};
 use crate::{programming, reading, table};
 use std::marker::Model;
@@ -45,7 +45,7 @@ impl Counter {
         }
     }
 
-    /// All that the counter holds.
+    /// All fields, as a saved state keeps them.
     pub fn parts(&self) -> CounterParts
         ensures value { result ≡ self.now }
         ensures valid { IsCounter self.now }
@@ -53,15 +53,14 @@ impl Counter {
         self.parts
     }
 
-    /// The counter that holds this, if one can.
+    /// The device with these fields, or None exactly where a condition on them fails.
     pub fn of_parts(parts: CounterParts) -> Option<Counter>
         ensures valid { IsSome result ↔ IsCounter parts }
         ensures value { IfSome result (λ c. c ≡ parts) }
     {
-        if is_counter(&parts) {
-            Some(Counter { parts })
-        } else {
-            None
+        match parts.first_fault() {
+            None => Some(Counter { parts }),
+            Some(_) => None,
         }
     }
 

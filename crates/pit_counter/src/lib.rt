@@ -25,7 +25,7 @@ mod stretch;
 mod table;
 
 pub use counter::Counter;
-pub use parts::CounterParts;
+pub use parts::{CounterField, CounterParts};
 pub use stretch::Rises;
 
 #[cfg(test)]

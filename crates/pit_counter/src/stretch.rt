@@ -6,7 +6,7 @@ ghost use Rattle.clk_units.specs.Events.{IsFirst, first_more};
 ghost use Rattle.pit_counter.specs.Count.{modulus, meant_count};
 ghost use Rattle.pit_counter.specs.Parts.{IsCounter};
 ghost use Rattle.pit_counter.specs.Table.{pulsed_times, rises_in};
-ghost use Rattle.pit_counter.specs.private.Stretch.{step_of, height, quiet_for, glided_count, glided, is_reloaded, joined_first};
+ghost use Rattle.pit_counter.specs.private.Stretch.{step_of, is_still, height, quiet_for, glided_count, glided, is_reloaded, joined_first};
 
 use crate::count::{is_odd_square, loaded_count, meant_count, modulus};
 use crate::mode::{is_bcd, mode_of};
@@ -85,6 +85,16 @@ fn height(p: &CounterParts) -> u64
     }
 }
 
+/// Whether a pulse with this effect changes nothing.
+fn is_still(effect: Effect, out: bool) -> bool
+    ensures { result ≡ is_still effect out }
+{
+    match effect {
+        Effect::Stand(level) => same(level, out),
+        _ => false,
+    }
+}
+
 /// How many pulses with this effect leave all but the count as it is, and keep the effect.
 #[tactic(auto, unfolding(crate::specs::private::Stretch::quiet_for))]
 fn quiet_for(effect: Effect, p: &CounterParts) -> u64
@@ -154,9 +164,6 @@ fn glided_count(bits: u8, ce: u16, step: u8, n: u64) -> u16
     requires small { step ≤ 2 }
     ensures { result ≡ glided_count bits ce (step * n) }
 {
-    if step == 0 {
-        return ce;
-    }
     let down = remainder(bits, step as u64 * remainder(bits, n) as u64);
     remainder(bits, (ce as u32 + modulus(bits) - down) as u64) as u16
 }
@@ -184,6 +191,9 @@ fn glide(p: &mut CounterParts, n: u64) -> bool
         return true;
     }
     let effect = next_effect(p);
+    if is_still(effect, p.out) {
+        return true;
+    }
     if n > quiet_for(effect, p) {
         return false;
     }
@@ -314,5 +324,8 @@ pub fn take_pulses(p: &mut CounterParts, n: u64) -> Rises
     ensures count { result.count ≡ rises_in p.old n }
     ensures first { IsFirst (rises_in p.old) n result.first }
 {
-    if glide(p, n) { NONE } else { leaps(p, n) }
+    if glide(p, n) {
+        return NONE;
+    }
+    leaps(p, n)
 }

@@ -1,5 +1,5 @@
 -- Words of the closed form of many pulses alone. What a pulse does is told in Table.
-use Rattle.std.specs.Prelude.{ℕ, ◌+◌, ◌-◌, ◌*◌, ◌/◌, ◌%◌, ◌^◌, ◌==◌, ◌&&◌, not, Bool, Option, Some, None, if◌then◌else◌}
+use Rattle.std.specs.Prelude.{ℕ, ◌+◌, ◌-◌, ◌*◌, ◌/◌, ◌%◌, ◌^◌, ◌==◌, ◌&&◌, not, Bool, false, Option, Some, None, if◌then◌else◌}
 use Rattle.pit_counter.specs.Mode.{mode_of, is_periodic}
 use Rattle.pit_counter.specs.Count.{modulus, loaded_count, is_odd_square}
 use Rattle.pit_counter.specs.declared.table.Effect.{Effect}
@@ -14,6 +14,15 @@ step_of DownToLow = 1
 step_of DownByTwo = 2
 step_of DownToStrobe = 1
 step_of (Stand level) = 0
+
+-- a pulse with this effect changes nothing
+abbrev pub is_still : Effect → Bool → Bool
+is_still (Load level) out = false
+is_still DownToHigh out = false
+is_still DownToLow out = false
+is_still DownByTwo out = false
+is_still DownToStrobe out = false
+is_still (Stand level) out = if level then out else not out
 
 -- more pulses than are ever asked for
 abbrev pub forever : ℕ

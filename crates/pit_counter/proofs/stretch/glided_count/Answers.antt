@@ -1,14 +1,8 @@
-use Rattle.std.proofs.Common.{◌≡◌, ◌+◌, ◌-◌, ◌*◌, ◌%◌, ℕ, sym, ap, ◌∙◌, arith}
+use Rattle.std.proofs.Common.{◌≡◌, ◌+◌, ◌-◌, ◌*◌, ◌%◌, ℕ, ap, ◌∙◌}
 use Rattle.std.proofs.lemmas.Nat.{mul-mod_second}
 use Rattle.pit_counter.specs.Count.{modulus}
 use Rattle.pit_counter.specs.private.Stretch.{glided_count}
-use Rattle.pit_counter.proofs.Quiet.{glided_count-zero}
 use Rattle.pit_counter.proofs.stretch.glided_count.Goals as goal
-
-pub returns-then-step-eq0 : goal.returns-then-step-eq0
-returns-then-step-eq0 c =
-    let none : c.args.step * c.args.n ≡ 0 = ap (λ (s : ℕ). s * c.args.n) c.if-step-eq0.true ∙ omega arith in
-    sym (ap (glided_count c.args.bits c.args.ce) none ∙ glided_count-zero c.args.bits c.args.ce c.requires.below)
 
 pub returns : goal.returns
 unfolding glided_count
