@@ -1,5 +1,24 @@
 -- Two stretches of pulses, one behind the other.
-use Rattle.std.proofs.Common.{◌≡◌, ℕ, zero, suc, ◌+◌, ◌-◌, ◌^◌, ◌<◌, Bool, true, false, cond, Option, Some, None, ap, ◌∙◌, arith}
+use Rattle.std.proofs.Common.{
+  ◌≡◌,
+  ℕ,
+  zero,
+  suc,
+  ◌+◌,
+  ◌-◌,
+  ◌^◌,
+  ◌<◌,
+  Bool,
+  true,
+  false,
+  cond,
+  Option,
+  Some,
+  None,
+  ap,
+  ◌∙◌,
+  arith,
+}
 use Rattle.std.specs.Option.{IfSome}
 use Rattle.clk_units.specs.Events.{IsFirst}
 use Rattle.pit_counter.specs.private.Stretch.{joined_first}

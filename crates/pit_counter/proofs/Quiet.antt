@@ -1,14 +1,61 @@
 -- Quiet pulses are pulses.
-use Rattle.std.proofs.Common.{◌≡◌, ℕ, zero, suc, ◌+◌, ◌-◌, ◌*◌, ◌/◌, ◌%◌, ◌<◌, ◌≤◌, Bool, true, false, not, ◌&&◌, ◌||◌, cond, eqb, refl, sym, ap, ◌∙◌, arith}
+use Rattle.std.proofs.Common.{
+  ◌≡◌,
+  ℕ,
+  zero,
+  suc,
+  ◌+◌,
+  ◌-◌,
+  ◌*◌,
+  ◌/◌,
+  ◌%◌,
+  ◌<◌,
+  ◌≤◌,
+  Bool,
+  true,
+  false,
+  not,
+  ◌&&◌,
+  ◌||◌,
+  cond,
+  eqb,
+  refl,
+  sym,
+  ap,
+  ◌∙◌,
+  arith,
+}
 use Rattle.std.proofs.lemmas.Bool.{cond_both, eqb-true, eqb-false, ne_eqb}
 use Rattle.pit_counter.specs.Mode.{mode_of, is_bcd}
 use Rattle.pit_counter.specs.Count.{modulus, lowered}
 use Rattle.pit_counter.specs.Table.{effect_in, affected, pulsed, pulsed_times, rises_next, rises_in}
-use Rattle.pit_counter.specs.private.Stretch.{step_of, is_still, forever, height, quiet_for, glided_count, glided}
+use Rattle.pit_counter.specs.private.Stretch.{
+  step_of,
+  is_still,
+  forever,
+  height,
+  quiet_for,
+  glided_count,
+  glided,
+}
 use Rattle.pit_counter.specs.declared.mode.Mode.{Mode}
-use Rattle.pit_counter.specs.declared.mode.Mode.TheVariants.{TerminalCount, OneShot, RateGenerator, SquareWave, SoftwareStrobe, HardwareStrobe}
+use Rattle.pit_counter.specs.declared.mode.Mode.TheVariants.{
+  TerminalCount,
+  OneShot,
+  RateGenerator,
+  SquareWave,
+  SoftwareStrobe,
+  HardwareStrobe,
+}
 use Rattle.pit_counter.specs.declared.table.Effect.{Effect}
-use Rattle.pit_counter.specs.declared.table.Effect.TheVariants.{Load, DownToHigh, DownToLow, DownByTwo, DownToStrobe, Stand}
+use Rattle.pit_counter.specs.declared.table.Effect.TheVariants.{
+  Load,
+  DownToHigh,
+  DownToLow,
+  DownByTwo,
+  DownToStrobe,
+  Stand,
+}
 use Rattle.pit_counter.specs.declared.parts.CounterParts.{CounterParts}
 
 -- ---- counts
@@ -52,7 +99,7 @@ strobe_stays true true k height z h f = (ap not (ne_eqb z 0 (f h)), ap not (ne_e
 strobe_stays true false k height z h f = (refl, refl)
 strobe_stays false armed k height z h f = absurd (omega arith)
 
-level_stays : (level out : Bool) (k : ℕ) → k < cond level (cond out forever 0) (cond out 0 forever) → level ≡ out
+level_stays : (level out : Bool) (k : ℕ) → k < cond (cond level out (not out)) forever 0 → level ≡ out
 level_stays true true k h = refl
 level_stays true false k h = absurd (omega arith)
 level_stays false true k h = absurd (omega arith)

@@ -1,12 +1,35 @@
-//! Many pulses at once: stretches that count and do nothing else, whole periods, and single pulses between them.
+//! Many pulses at once: stretches that count and do nothing else, whole periods, and single pulses
+//! between them.
 
-ghost use Rattle.std.specs.Prelude.{IfSome, ◌≡◌, ◌+◌, ◌*◌, ◌%◌, ◌<◌, ◌≤◌, ◌^◌, suc, true, not, if◌then◌else◌};
+ghost use Rattle.std.specs.Prelude.{
+  IfSome,
+  ◌≡◌,
+  ◌+◌,
+  ◌*◌,
+  ◌%◌,
+  ◌<◌,
+  ◌≤◌,
+  ◌^◌,
+  suc,
+  true,
+  not,
+  if◌then◌else◌,
+};
 ghost use Rattle.std.specs.Bool.{OnTrue, OnFalse};
 ghost use Rattle.clk_units.specs.Events.{IsFirst, first_more};
 ghost use Rattle.pit_counter.specs.Count.{modulus, meant_count};
 ghost use Rattle.pit_counter.specs.Parts.{IsCounter};
 ghost use Rattle.pit_counter.specs.Table.{pulsed_times, rises_in};
-ghost use Rattle.pit_counter.specs.private.Stretch.{step_of, is_still, height, quiet_for, glided_count, glided, is_reloaded, joined_first};
+ghost use Rattle.pit_counter.specs.private.Stretch.{
+  step_of,
+  is_still,
+  height,
+  quiet_for,
+  glided_count,
+  glided,
+  is_reloaded,
+  joined_first,
+};
 
 use crate::count::{is_odd_square, loaded_count, meant_count, modulus};
 use crate::mode::{is_bcd, mode_of};
@@ -118,15 +141,7 @@ fn quiet_for(effect: Effect, p: &CounterParts) -> u64
             }
         }
         Effect::DownToStrobe => quiet_before_strobe(p),
-        Effect::Stand(level) => {
-            if level {
-                if p.out { FOREVER } else { 0 }
-            } else if p.out {
-                0
-            } else {
-                FOREVER
-            }
-        }
+        Effect::Stand(_) => { if is_still(effect, p.out) { FOREVER } else { 0 } }
     }
 }
 
@@ -241,7 +256,8 @@ fn same(a: bool, b: bool) -> bool
     if a { b } else { !b }
 }
 
-/// Takes as many whole periods as there are in `n` pulses. Each ends where it began, with a rise at its last pulse.
+/// Takes as many whole periods as there are in `n` pulses. Each ends where it began, with a rise at
+/// its last pulse.
 fn whole_periods(p: CounterParts, n: u64) -> Leap
     requires one { meant_count p.bits p.cr ≤ n }
     requires below { p.ce < modulus p.bits }

@@ -1,9 +1,33 @@
 -- Words of the closed form of many pulses alone. What a pulse does is told in Table.
-use Rattle.std.specs.Prelude.{ℕ, ◌+◌, ◌-◌, ◌*◌, ◌/◌, ◌%◌, ◌^◌, ◌==◌, ◌&&◌, not, Bool, false, Option, Some, None, if◌then◌else◌}
+use Rattle.std.specs.Prelude.{
+  ℕ,
+  ◌+◌,
+  ◌-◌,
+  ◌*◌,
+  ◌/◌,
+  ◌%◌,
+  ◌^◌,
+  ◌==◌,
+  ◌&&◌,
+  not,
+  Bool,
+  false,
+  Option,
+  Some,
+  None,
+  if◌then◌else◌,
+}
 use Rattle.pit_counter.specs.Mode.{mode_of, is_periodic}
 use Rattle.pit_counter.specs.Count.{modulus, loaded_count, is_odd_square}
 use Rattle.pit_counter.specs.declared.table.Effect.{Effect}
-use Rattle.pit_counter.specs.declared.table.Effect.TheVariants.{Load, DownToHigh, DownToLow, DownByTwo, DownToStrobe, Stand}
+use Rattle.pit_counter.specs.declared.table.Effect.TheVariants.{
+  Load,
+  DownToHigh,
+  DownToLow,
+  DownByTwo,
+  DownToStrobe,
+  Stand,
+}
 use Rattle.pit_counter.specs.declared.parts.CounterParts.{CounterParts}
 
 -- how far the count goes down at each pulse
@@ -39,7 +63,7 @@ quiet_for DownToHigh c = if c.out then forever else height c - 1
 quiet_for DownToLow c = height c - 2
 quiet_for DownByTwo c = if c.out && c.odd then c.ce / 2 else height c / 2 - 1
 quiet_for DownToStrobe c = if c.out then (if c.armed then height c - 1 else forever) else 0
-quiet_for (Stand level) c = if level then (if c.out then forever else 0) else (if c.out then 0 else forever)
+quiet_for (Stand level) c = if is_still (Stand level) c.out then forever else 0
 
 -- the count lower by `down`
 unfoldable pub glided_count : ℕ → ℕ → ℕ → ℕ

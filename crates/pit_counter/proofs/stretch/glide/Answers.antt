@@ -4,7 +4,13 @@ use Rattle.pit_counter.specs.Table.{pulsed_times, rises_in}
 use Rattle.pit_counter.specs.declared.table.Effect.{Effect}
 use Rattle.pit_counter.specs.declared.parts.CounterParts.{CounterParts}
 use Rattle.pit_counter.proofs.Times.{pulsed_times-zero, rises_in-zero}
-use Rattle.pit_counter.proofs.Quiet.{next_effect, pulsed_times-glided, rises_in-glided, pulsed_times-still, rises_in-still}
+use Rattle.pit_counter.proofs.Quiet.{
+  next_effect,
+  pulsed_times-glided,
+  rises_in-glided,
+  pulsed_times-still,
+  rises_in-still,
+}
 use Rattle.pit_counter.proofs.stretch.glide.Goals as goal
 
 pub returns-then-n-eq0-clause-state : goal.returns-then-n-eq0-clause-state

@@ -5,7 +5,12 @@ use Rattle.pit_counter.specs.Table.{pulsed_times, rises_in}
 use Rattle.pit_counter.specs.declared.parts.CounterParts.{CounterParts}
 use Rattle.pit_counter.proofs.Keeps.{IsCounter-ce}
 use Rattle.pit_counter.proofs.Times.{pulsed_times-zero, rises_in-zero, rises_in-le}
-use Rattle.pit_counter.proofs.Joins.{pulsed_times-joined, rises_in-joined, IsFirst-joined, IsCounter-pulsed_times}
+use Rattle.pit_counter.proofs.Joins.{
+  pulsed_times-joined,
+  rises_in-joined,
+  IsFirst-joined,
+  IsCounter-pulsed_times,
+}
 use Rattle.pit_counter.proofs.stretch.leaps.Goals as goal
 
 pub loop-pulses-init : goal.loop-pulses-init

@@ -1,11 +1,30 @@
-use Rattle.std.proofs.Common.{◌≡◌, ◌≤◌, ℕ, suc, Bool, cond, Option, None, sym, ap, ◌∙◌, arith, subst}
+use Rattle.std.proofs.Common.{
+  ◌≡◌,
+  ◌≤◌,
+  ℕ,
+  suc,
+  Bool,
+  cond,
+  Option,
+  None,
+  sym,
+  ap,
+  ◌∙◌,
+  arith,
+  subst,
+}
 use Rattle.clk_units.specs.Events.{IsFirst, first_more}
 use Rattle.clk_units.proofs.Events.{IsFirst-more}
 use Rattle.pit_counter.specs.Table.{pulsed, pulsed_times, has_risen, rises_next, rises_in}
 use Rattle.pit_counter.specs.private.Stretch.{quiet_for, glided}
 use Rattle.pit_counter.specs.declared.table.Effect.{Effect}
 use Rattle.pit_counter.specs.declared.parts.CounterParts.{CounterParts}
-use Rattle.pit_counter.proofs.Times.{pulsed_times-zero, pulsed_times-suc, rises_in-zero, rises_in-suc}
+use Rattle.pit_counter.proofs.Times.{
+  pulsed_times-zero,
+  pulsed_times-suc,
+  rises_in-zero,
+  rises_in-suc,
+}
 use Rattle.pit_counter.proofs.Quiet.{next_effect, pulsed_times-glided, rises_in-glided}
 use Rattle.pit_counter.proofs.stretch.next_leap.Goals as goal
 
