@@ -27,6 +27,7 @@ use Rattle.std.proofs.Common.{
 }
 use Rattle.std.proofs.lemmas.Bool.{cond_both, eqb-true, eqb-false, ne_eqb}
 use Rattle.pit_counter.specs.Mode.{mode_of, is_bcd}
+use Rattle.pit_counter.specs.Programming.{programmed, counter_at_power_on}
 use Rattle.pit_counter.specs.Count.{modulus, lowered}
 use Rattle.pit_counter.specs.Table.{effect_in, affected, pulsed, pulsed_times, rises_next, rises_in}
 use Rattle.pit_counter.specs.private.Stretch.{
@@ -264,3 +265,8 @@ rises_in-still c (suc n) h =
     let still : (not (pulsed_times n c).out && (pulsed (pulsed_times n c)).out) ≡ false =
     ap (λ (d : CounterParts). not d.out && (pulsed d).out) same ∙ ap (λ (b : Bool). not c.out && b) after ∙ never_both c.out in
     ap (λ (b : Bool). cond b (suc (rises_in c n)) (rises_in c n)) still ∙ rises_in-still c n h
+
+-- a counter at power on stays as it is
+pub pulsed_times-counter_at_power_on : (gate : Bool) (n : ℕ) → pulsed_times n (counter_at_power_on gate) ≡ counter_at_power_on gate
+unfolding effect_in mode_of programmed
+pulsed_times-counter_at_power_on gate n = pulsed_times-still (counter_at_power_on gate) n refl

@@ -19,7 +19,8 @@ ghost use Rattle.pit_counter.specs.Reading.{
 ghost use Rattle.pit_counter.specs.Parts.{IsCounter};
 
 use crate::parts::CounterParts;
-use crate::stretch::{Rises, take_pulses};
+use crate::rises::Rises;
+use crate::stretch::take_pulses;
 use crate::{programming, reading, table};
 use std::marker::Model;
 

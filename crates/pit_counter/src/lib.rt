@@ -21,12 +21,13 @@ mod mode;
 mod parts;
 mod programming;
 mod reading;
+mod rises;
 mod stretch;
 mod table;
 
 pub use counter::Counter;
 pub use parts::{CounterField, CounterParts};
-pub use stretch::Rises;
+pub use rises::Rises;
 
 #[cfg(test)]
 mod tests;

@@ -16,7 +16,7 @@ ghost use Rattle.std.specs.Prelude.{
   if◌then◌else◌,
 };
 ghost use Rattle.std.specs.Bool.{OnTrue, OnFalse};
-ghost use Rattle.clk_units.specs.Events.{IsFirst, first_more};
+ghost use Rattle.clk_units.specs.Events.{IsFirst};
 ghost use Rattle.pit_counter.specs.Count.{modulus, meant_count};
 ghost use Rattle.pit_counter.specs.Parts.{IsCounter};
 ghost use Rattle.pit_counter.specs.Table.{pulsed_times, rises_in};
@@ -34,51 +34,8 @@ ghost use Rattle.pit_counter.specs.private.Stretch.{
 use crate::count::{is_odd_square, loaded_count, meant_count, modulus};
 use crate::mode::{is_bcd, mode_of};
 use crate::parts::CounterParts;
+use crate::rises::{NONE, Rises, joined, with_pulse};
 use crate::table::{Effect, has_risen, next_effect, pulsed};
-
-/// The rises of OUT over some CLK pulses.
-#[derive(Clone, Copy, Debug, PartialEq, Eq)]
-pub struct Rises {
-    /// How many there were.
-    pub count: u64,
-    /// The pulse of the first, pulses being counted from 1.
-    pub first: Option<u64>,
-}
-
-/// The rises of one pulse more, behind the first `done`.
-fn with_pulse(rises: Rises, done: u64, rose: bool) -> Rises
-    requires few { rises.count ≤ done }
-    requires fits { done + 1 < 2 ^ 64 }
-    ensures count { result.count ≡ (if rose then suc rises.count else rises.count) }
-    ensures first { result.first ≡ first_more rises.first done rose }
-{
-    if rose {
-        Rises {
-            count: rises.count + 1,
-            first: Some(rises.first.unwrap_or(done + 1)),
-        }
-    } else {
-        rises
-    }
-}
-
-/// The rises of two stretches, the second behind the `done` pulses of the first.
-fn joined(rises: Rises, done: u64, later: Rises) -> Rises
-    requires fits { rises.count + later.count < 2 ^ 64 }
-    requires first_fits { IfSome later.first (λ j. done + j < 2 ^ 64) }
-    ensures count { result.count ≡ rises.count + later.count }
-    ensures first { result.first ≡ joined_first rises.first done later.first }
-{
-    let first = match (rises.first, later.first) {
-        (Some(k), _) => Some(k),
-        (None, Some(j)) => Some(done + j),
-        (None, None) => None,
-    };
-    Rises {
-        count: rises.count + later.count,
-        first,
-    }
-}
 
 /// More pulses than are ever asked for.
 const FOREVER: u64 = u64::MAX;
@@ -215,12 +172,6 @@ fn glide(p: &mut CounterParts, n: u64) -> bool
     p.ce = glided_count(p.bits, p.ce, step_of(effect), n);
     true
 }
-
-/// No rises.
-const NONE: Rises = Rises {
-    count: 0,
-    first: None,
-};
 
 /// Some pulses that were taken.
 #[derive(Clone, Copy)]

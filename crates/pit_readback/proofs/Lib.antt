@@ -1,3 +1,4 @@
+pub mod Faults
 pub mod Gates
 pub mod Rows
 pub mod Three
