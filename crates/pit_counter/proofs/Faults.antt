@@ -1,8 +1,7 @@
 -- The first field whose condition fails, and the conditions as a whole.
-use Rattle.std.proofs.Common.{◌≡◌, Bool, true, false, not, cond, Option, Some, None, refl, ◌↔◌}
+use Rattle.std.proofs.Common.{◌≡◌, Bool, true, false, not, cond, Option, Some, refl}
 use Rattle.std.specs.Option.{IsNone}
-use Rattle.pit_counter.specs.Parts.{IsCounter, first_fault, fault_behind_count}
-use Rattle.pit_counter.specs.declared.parts.CounterField.{CounterField}
+use Rattle.pit_counter.specs.Parts.{IsCounter, first_fault}
 use Rattle.pit_counter.specs.declared.parts.CounterParts.{CounterParts}
 
 -- a test that doesn't fail, and the tests behind it

@@ -1,6 +1,17 @@
 -- The conditions on the fields of a timer.
 use Rattle.std.specs.Prelude.{
-  ◌≡◌, ℕ, nat_le, ◌&&◌, ◌||◌, not, IsTrue, length, Option, Some, None, if◌then◌else◌
+  ◌≡◌,
+  ℕ,
+  nat_le,
+  ◌&&◌,
+  ◌||◌,
+  not,
+  IsTrue,
+  length,
+  Option,
+  Some,
+  None,
+  if◌then◌else◌,
 }
 use Rattle.pit_counter.specs.Parts.{IsCounter, bits_valid, flags_valid, first_fault}
 use Rattle.pit_counter.specs.declared.parts.CounterParts.{CounterParts}
@@ -36,5 +47,5 @@ fault_at k None later = later
 abbrev pub pit_fault : PitParts → Option PitFault
 pit_fault p =
     fault_at 0 (fault_of 0 (counter_of p 0))
-      (fault_at 1 (fault_of 1 (counter_of p 1))
-        (fault_at 2 (fault_of 2 (counter_of p 2)) None))
+    (fault_at 1 (fault_of 1 (counter_of p 1))
+    (fault_at 2 (fault_of 2 (counter_of p 2)) None))

@@ -1,12 +1,31 @@
 -- The ports 40h to 43h and 61h. Intel 8254 data sheet, "Programming the 8254", "Counter Latch
 -- Command" and "Read-Back Command"; port 61h is that of the PC AT.
 use Rattle.std.specs.Prelude.{
-  ℕ, ◌+◌, ◌-◌, ◌/◌, ◌%◌, ◌==◌, nat_le, ◌&&◌, ◌||◌, not, Bool, if◌then◌else◌, [], ◌∷◌, slice_set
+  ℕ,
+  ◌+◌,
+  ◌-◌,
+  ◌/◌,
+  ◌%◌,
+  ◌==◌,
+  nat_le,
+  ◌&&◌,
+  ◌||◌,
+  not,
+  Bool,
+  if◌then◌else◌,
+  [],
+  ◌∷◌,
+  slice_set,
 }
 use Rattle.clk_units.specs.Bits.{bit, bit_value}
 use Rattle.pit_counter.specs.declared.parts.CounterParts.{CounterParts}
 use Rattle.pit_counter.specs.Programming.{controlled, byte_written, gated}
-use Rattle.pit_counter.specs.Reading.{with_count_latched, with_status_latched, byte_read, after_read}
+use Rattle.pit_counter.specs.Reading.{
+  with_count_latched,
+  with_status_latched,
+  byte_read,
+  after_read,
+}
 use Rattle.pit_readback.specs.Pit.{counter_of, with_counter}
 use Rattle.pit_readback.specs.declared.parts.PitParts.{PitParts}
 
@@ -44,10 +63,10 @@ read_back_of byte k c =
 unfoldable pub read_back : ℕ → PitParts → PitParts
 read_back byte p = record p {
   counters =
-    read_back_of byte 0 (counter_of p 0)
-    ∷ read_back_of byte 1 (counter_of p 1)
-    ∷ read_back_of byte 2 (counter_of p 2)
-    ∷ [];
+      read_back_of byte 0 (counter_of p 0)
+      ∷ read_back_of byte 1 (counter_of p 1)
+      ∷ read_back_of byte 2 (counter_of p 2)
+      ∷ [];
 }
 
 -- a word for one counter: D5 D4 = 00 latches its count, another is a control word

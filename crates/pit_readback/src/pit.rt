@@ -1,14 +1,39 @@
 //! The timer, and its calls.
 
-ghost use Rattle.std.specs.Prelude.{◌≡◌, ◌↔◌, ◌≤◌, ◌<◌, length, map, true, slice_index_or, IsSome, IfSome, IsTrue};
+ghost use Rattle.std.specs.Prelude.{
+  ◌≡◌,
+  ◌↔◌,
+  ◌≤◌,
+  ◌<◌,
+  length,
+  map,
+  true,
+  slice_index_or,
+  IsSome,
+  IfSome,
+  IsTrue,
+};
 ghost use Rattle.clk_units.specs.Events.{IsFirst};
 ghost use Rattle.pit_counter.specs.Table.{has_risen, pulsed_times, rises_in};
 ghost use Rattle.pit_counter.specs.Programming.{byte_written, counter_at_power_on};
 ghost use Rattle.pit_counter.specs.Parts.{IsCounter};
-ghost use Rattle.pit_readback.specs.Pit.{counter_of, with_counter, pit_at_power_on, pit_pulsed_times};
+ghost use Rattle.pit_readback.specs.Pit.{
+  counter_of,
+  with_counter,
+  pit_at_power_on,
+  pit_pulsed_times,
+};
 ghost use Rattle.pit_readback.specs.Parts.{IsPit};
 ghost use Rattle.pit_readback.specs.Ports.{
-  is_pit_port, commanded, read_back, written_43, port_written, port_read, after_port_read, written_61, read_of_61,
+  is_pit_port,
+  commanded,
+  read_back,
+  written_43,
+  port_written,
+  port_read,
+  after_port_read,
+  written_61,
+  read_of_61,
 };
 
 use crate::parts::PitParts;
@@ -100,9 +125,7 @@ impl Pit {
     pub fn write(&mut self, port: u8, byte: u8) -> bool
         requires { IsTrue (is_pit_port port) }
         ensures state { self.new ≡ port_written port byte self.old }
-        ensures rose {
-            result ≡ has_risen (counter_of self.old 0) (counter_of (port_written port byte self.old) 0)
-        }
+        ensures rose { result ≡ has_risen (counter_of self.old 0) (counter_of (port_written port byte self.old) 0) }
     {
         if port == SYSTEM {
             self.write_61(byte);
@@ -120,9 +143,7 @@ impl Pit {
     #[tactic(auto, unfolding(crate::specs::Ports::written_43))]
     fn write_43(&mut self, byte: u8) -> bool
         ensures state { self.new ≡ written_43 byte self.old }
-        ensures rose {
-            result ≡ has_risen (counter_of self.old 0) (counter_of (written_43 byte self.old) 0)
-        }
+        ensures rose { result ≡ has_risen (counter_of self.old 0) (counter_of (written_43 byte self.old) 0) }
     {
         let k = byte / 64;
         if k == 3 {
@@ -227,9 +248,7 @@ impl Pit {
         requires three { k < 3 }
         requires wired { k < 2 → IsTrue counter.gate }
         ensures state { self.new ≡ with_counter k counter self.old }
-        ensures rose {
-            result ≡ has_risen (counter_of self.old 0) (counter_of (with_counter k counter self.old) 0)
-        }
+        ensures rose { result ≡ has_risen (counter_of self.old 0) (counter_of (with_counter k counter self.old) 0) }
     {
         let out = self.counters[0].out();
         self.counters[k as usize] = counter;

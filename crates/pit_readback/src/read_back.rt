@@ -1,7 +1,14 @@
 //! The read-back command. Intel 8254 data sheet, "Read-Back Command".
 
 ghost use Rattle.std.specs.Prelude.{◌≡◌, ◌<◌, ◌≤◌};
-ghost use Rattle.pit_readback.specs.Ports.{is_chosen, latches_count, latches_status, count_latched_if, status_latched_if, read_back_of};
+ghost use Rattle.pit_readback.specs.Ports.{
+  is_chosen,
+  latches_count,
+  latches_status,
+  count_latched_if,
+  status_latched_if,
+  read_back_of,
+};
 
 use clk_units::bit;
 use pit_counter::Counter;

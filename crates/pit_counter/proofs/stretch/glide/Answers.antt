@@ -1,8 +1,7 @@
-use Rattle.std.proofs.Common.{◌≡◌, ◌≤◌, ◌*◌, ℕ, true, sym, ap, ◌∙◌, arith}
+use Rattle.std.proofs.Common.{◌≡◌, ◌*◌, ℕ, true, sym, ap, ◌∙◌, arith}
 use Rattle.pit_counter.specs.private.Stretch.{step_of, is_still, quiet_for, glided_count, glided}
 use Rattle.pit_counter.specs.Table.{pulsed_times, rises_in}
 use Rattle.pit_counter.specs.declared.table.Effect.{Effect}
-use Rattle.pit_counter.specs.declared.parts.CounterParts.{CounterParts}
 use Rattle.pit_counter.proofs.Times.{pulsed_times-zero, rises_in-zero}
 use Rattle.pit_counter.proofs.Quiet.{
   next_effect,

@@ -1,4 +1,4 @@
-use Rattle.std.proofs.Common.{◌≡◌, ◌<◌, ℕ, Bool, true, false, not, ◌&&◌, refl, ap, sym, ◌∙◌, lit<}
+use Rattle.std.proofs.Common.{◌≡◌, ℕ, Bool, true, false, not, ◌&&◌, refl, ap, sym, ◌∙◌, lit<}
 use Rattle.pit_counter.specs.Table.{has_risen}
 use Rattle.pit_readback.specs.Pit.{counter_of}
 use Rattle.pit_readback.specs.Ports.{port_written}
