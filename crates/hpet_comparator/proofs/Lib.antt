@@ -1,4 +1,6 @@
 pub mod Writes
 pub mod Steps
 pub mod Rounds
+pub mod Falls
+pub mod Conditions
 mod Rows

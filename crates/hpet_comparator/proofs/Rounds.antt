@@ -5,8 +5,9 @@ use Rattle.std.proofs.lemmas.Nat.{mod_below, div-add-mod'}
 use Rattle.clk_units.specs.Events.{IsFirst}
 use Rattle.hpet_counter.specs.Counter.{counter_after}
 use Rattle.hpet_comparator.specs.declared.parts.TimerParts.{TimerParts}
-use Rattle.hpet_comparator.specs.Timer.{IsTimer, modulus, is_32_bit, is_periodic, matches_at, pulsed, pulsed_times, matches_in, spacing_of}
-use Rattle.hpet_comparator.specs.Rounds.{IsDue, advanced}
+use Rattle.hpet_comparator.specs.Parts.{IsTimer, modulus, is_32_bit, is_periodic}
+use Rattle.hpet_comparator.specs.Stretch.{matches_at, pulsed, pulsed_times, matches_in, spacing_of}
+use Rattle.hpet_comparator.specs.private.Rounds.{IsDue, advanced}
 use Rattle.hpet_comparator.proofs.Writes.{modulus-pos, below}
 
 -- the counter in the timer's width

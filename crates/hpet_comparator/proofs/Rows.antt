@@ -1,6 +1,9 @@
 -- Small rows that pin the definitions.
 use Rattle.std.proofs.Common.{◌≡◌, true, false, refl}
-use Rattle.hpet_comparator.specs.Timer.{timer_at_power_on, config_register, config_written, comparator_written, matches_at, pulsed, matches_in, spacing_of}
+use Rattle.hpet_comparator.specs.Parts.{timer_at_power_on}
+use Rattle.hpet_comparator.specs.Config.{config_register, config_written}
+use Rattle.hpet_comparator.specs.Comparator.{comparator_written}
+use Rattle.hpet_comparator.specs.Stretch.{matches_at, pulsed, matches_in, spacing_of}
 
 reads_at_power_on : config_register timer_at_power_on ≡ 0x00f0000000002830
 reads_at_power_on = refl

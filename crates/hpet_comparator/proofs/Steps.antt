@@ -4,7 +4,9 @@ use Rattle.clk_units.specs.Events.{CountsUp}
 use Rattle.clk_units.proofs.Events.{CountsUp-by_test}
 use Rattle.hpet_counter.specs.Counter.{counter_after}
 use Rattle.hpet_comparator.specs.declared.parts.TimerParts.{TimerParts}
-use Rattle.hpet_comparator.specs.Timer.{IsTimer, bit_of, is_32_bit, is_periodic, modulus, matches_at, pulsed, pulsed_times, matches_in}
+use Rattle.clk_units.specs.Bits.{bit}
+use Rattle.hpet_comparator.specs.Parts.{IsTimer, is_32_bit, is_periodic, modulus}
+use Rattle.hpet_comparator.specs.Stretch.{matches_at, pulsed, pulsed_times, matches_in}
 use Rattle.hpet_comparator.proofs.Writes.{IsTimer-pulsed}
 
 -- one pulse more
@@ -19,6 +21,15 @@ CountsUp-matches_in from t = CountsUp-by_test (matches_in from t) (λ n. matches
 pub IsTimer-pulsed_times : (from n : ℕ) (t : TimerParts) → IsTimer t → IsTimer (pulsed_times from n t)
 IsTimer-pulsed_times from zero t h = h
 IsTimer-pulsed_times from (suc n) t h = IsTimer-pulsed (counter_after from (suc n)) (pulsed_times from n t) (IsTimer-pulsed_times from n t h)
+
+-- a pulse leaves the configuration and the period
+pub config-pulsed : (c : ℕ) (t : TimerParts) → (pulsed c t).config ≡ t.config
+unfolding pulsed
+config-pulsed c t = refl
+
+pub period-pulsed : (c : ℕ) (t : TimerParts) → (pulsed c t).period ≡ t.period
+unfolding pulsed
+period-pulsed c t = refl
 
 -- pulses leave the configuration
 pub config-pulsed_times : (from n : ℕ) (t : TimerParts) → (pulsed_times from n t).config ≡ t.config
@@ -44,7 +55,7 @@ unfolding pulsed
 pulsed-low from k t narrow = ap (λ (b : Bool). record t { comparator = cond (b && is_periodic t) ((t.comparator + t.period) % modulus t) t.comparator }) (matches_at-low from k t narrow)
 
 narrow-pulsed_times : (from n : ℕ) (t : TimerParts) → is_32_bit t ≡ true → is_32_bit (pulsed_times from n t) ≡ true
-narrow-pulsed_times from n t narrow = ap (λ (c : ℕ). bit_of 8 c) (config-pulsed_times from n t) ∙ narrow
+narrow-pulsed_times from n t narrow = ap (λ (c : ℕ). bit 8 c) (config-pulsed_times from n t) ∙ narrow
 
 pub pulsed_times-low : (from n : ℕ) (t : TimerParts) → is_32_bit t ≡ true → pulsed_times from n t ≡ pulsed_times (from % 2 ^ 32) n t
 pulsed_times-low from zero t narrow = refl

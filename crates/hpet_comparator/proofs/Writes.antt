@@ -2,9 +2,13 @@
 use Rattle.std.proofs.Common.{◌≡◌, ℕ, ◌+◌, ◌*◌, ◌/◌, ◌%◌, ◌^◌, ◌<◌, ◌≤◌, Bool, true, false, cond, ◌&&◌, not, eqb, bit_and, refl, ap, sym, subst, ◌∙◌, arith}
 use Rattle.std.proofs.lemmas.Nat.{and_le_r, and_block, and_mask, and_mod, and_assoc, and_shr, mod_below}
 use Rattle.std.proofs.lemmas.Nat.Bits.{bit_at_and}
-use Rattle.hpet_counter.specs.Counter.{part_written}
+use Rattle.hpet_counter.specs.Part.{part_written}
 use Rattle.hpet_comparator.specs.declared.parts.TimerParts.{TimerParts}
-use Rattle.hpet_comparator.specs.Timer.{IsTimer, bit_of, route_of, modulus, is_32_bit, is_periodic, takes_comparator, writable_bits, switch_bits, chosen_route, config_written, comparator_written, matches_at, pulsed}
+use Rattle.clk_units.specs.Bits.{bit}
+use Rattle.hpet_comparator.specs.Parts.{IsTimer, route_of, modulus, is_32_bit, is_periodic, takes_comparator, writable_bits}
+use Rattle.hpet_comparator.specs.Config.{switch_bits, chosen_route, config_written}
+use Rattle.hpet_comparator.specs.Comparator.{comparator_written}
+use Rattle.hpet_comparator.specs.Stretch.{matches_at, pulsed}
 
 -- a timer's counter has values
 pub modulus-pos : (t : TimerParts) → 0 < modulus t
@@ -60,8 +64,8 @@ IsTimer-config_written v t h =
     }
 
 -- clearing VAL_SET leaves the other bits ..
-pub bit_of-cleared : (c place : ℕ) → 0xffbf / 2 ^ place % 2 ≡ 1 → bit_of place (bit_and c 0xffbf) ≡ bit_of place c
-bit_of-cleared c place other = ap (λ (x : ℕ). eqb x 1) (omega (arith, bit_at_and c 0xffbf place, other))
+pub bit-cleared : (c place : ℕ) → 0xffbf / 2 ^ place % 2 ≡ 1 → bit place (bit_and c 0xffbf) ≡ bit place c
+bit-cleared c place other = ap (λ (x : ℕ). eqb x 1) (omega (arith, bit_at_and c 0xffbf place, other))
 
 -- .. and the route
 pub route_of-cleared : (c : ℕ) → route_of (bit_and c 0xffbf) ≡ route_of c
@@ -82,7 +86,7 @@ writable-cleared c h =
 pub IsTimer-comparator_written : (width : ℕ) (high : Bool) (v : ℕ) (t : TimerParts) → IsTimer t → IsTimer (comparator_written width high v t)
 unfolding comparator_written
 IsTimer-comparator_written width high v t h =
-    let same : modulus t ≡ modulus (comparator_written width high v t) = ap (λ (b : Bool). cond b (2 ^ 32) (2 ^ 64)) (sym (bit_of-cleared t.config 8 refl)) in
+    let same : modulus t ≡ modulus (comparator_written width high v t) = ap (λ (b : Bool). cond b (2 ^ 32) (2 ^ 64)) (sym (bit-cleared t.config 8 refl)) in
     let cut : (x : ℕ) → x % modulus t < modulus t = λ x. mod_below x (modulus t) (modulus-pos t) in
     record {
       bits = writable-cleared t.config h.bits;

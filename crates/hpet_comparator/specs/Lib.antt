@@ -1,2 +1,5 @@
-pub mod Timer
-pub mod Rounds
+pub mod Parts
+pub mod Config
+pub mod Comparator
+pub mod Stretch
+pub mod private

@@ -9,8 +9,15 @@
 //! ```
 #![tactic(auto)]
 
+mod comparator;
+mod config;
 mod parts;
+mod stretch;
 mod timer;
 
-pub use parts::TimerParts;
-pub use timer::{Matches, Timer};
+pub use parts::{TimerField, TimerParts};
+pub use stretch::Matches;
+pub use timer::Timer;
+
+#[cfg(test)]
+mod tests;

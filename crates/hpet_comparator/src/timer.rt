@@ -1,45 +1,30 @@
 //! A timer: its registers and its pulses.
 
-ghost use Rattle.std.specs.Prelude.{◌≡◌, ◌-◌, ◌*◌, ◌%◌, ◌^◌, ◌<◌, ◌≤◌, ◌↔◌, suc, IsTrue, IsSome, IfSome, if◌then◌else◌};
+ghost use Rattle.std.specs.Prelude.{◌≡◌, ℕ, suc, ◌*◌, ◌%◌, ◌^◌, ◌<◌, ◌≤◌, ◌↔◌, IsTrue, IsSome, IfSome};
 ghost use Rattle.clk_units.specs.Events.{IsFirst};
-ghost use Rattle.hpet_counter.specs.Counter.{counter_after, is_register_width};
-ghost use Rattle.hpet_comparator.specs.Rounds.{advanced};
-ghost use Rattle.hpet_comparator.specs.Timer.{
-  IsTimer,
-  is_32_bit,
-  timer_at_power_on,
-  config_register,
-  config_written,
-  comparator_written,
+ghost use Rattle.hpet_counter.specs.Counter.{counter_after};
+ghost use Rattle.hpet_counter.specs.Part.{is_register_width};
+ghost use Rattle.hpet_comparator.specs.Parts.{IsTimer, is_32_bit, timer_at_power_on};
+ghost use Rattle.hpet_comparator.specs.Config.{config_register, config_written};
+ghost use Rattle.hpet_comparator.specs.Comparator.{comparator_written};
+ghost use Rattle.hpet_comparator.specs.Stretch.{
+  matches_at,
   pulsed_times,
   matches_in,
+  spacing_of,
+  falls_on,
 };
 
-use crate::parts;
 use crate::parts::TimerParts;
+use crate::stretch::Matches;
+use crate::{comparator, config, stretch};
 use std::marker::Model;
 
 /// The fixed bits of the configuration register: periodic and 64-bit capable, and the lines 20 to 23.
 const FIXED: u64 = 0x00f0_0000_0000_0030;
 
-/// The matches of a stretch of pulses.
-#[derive(Clone, Copy, Debug, PartialEq, Eq)]
-pub struct Matches {
-    /// How many there are.
-    pub count: u64,
-    /// The pulse of the first of them, counted from 1, where there is one.
-    pub first: Option<u64>,
-}
-
-impl Matches {
-    /// No matches.
-    pub const NONE: Matches = Matches {
-        count: 0,
-        first: None,
-    };
-}
-
 /// One timer.
+#[repr(C)]
 #[derive(Clone, Copy, Debug, PartialEq, Eq)]
 pub struct Timer {
     parts: TimerParts,
@@ -47,7 +32,7 @@ pub struct Timer {
 
 impl Model for Timer {
     ghost use Rattle.hpet_comparator.specs.declared.parts.TimerParts.{TimerParts};
-    ghost use Rattle.hpet_comparator.specs.Timer.{IsTimer};
+    ghost use Rattle.hpet_comparator.specs.Parts.{IsTimer};
 
     ghost Value = { TimerParts };
 
@@ -59,8 +44,8 @@ impl Model for Timer {
 }
 
 impl Timer {
-    /// The timer at power on: a one-shot of edge type and 64 bits, disabled, on line 20 (this project's own
-    /// choice), comparator and period 0.
+    /// The timer at power on: a one-shot of edge type and 64 bits, disabled, on line 20, comparator and period 0
+    /// (this project's own choice).
     pub fn power_on() -> Timer
         ensures { result ≡ timer_at_power_on }
     {
@@ -73,7 +58,8 @@ impl Timer {
         }
     }
 
-    /// All its fields.
+    /// All fields, as a saved state keeps them.
+    #[inline]
     pub fn parts(&self) -> TimerParts
         ensures parts { result ≡ self.now }
         ensures valid { IsTimer result }
@@ -81,17 +67,26 @@ impl Timer {
         self.parts
     }
 
-    /// The timer with these fields, where they are a timer's: the configuration has writable bits alone and a
-    /// route of 20 to 23, and in 32-bit mode comparator and period are below 2^32.
+    /// The device with these fields, or None exactly where a condition on them fails.
     pub fn of_parts(parts: TimerParts) -> Option<Timer>
         ensures valid { IsSome result ↔ IsTimer parts }
         ensures value { IfSome result (λ t. t ≡ parts) }
     {
-        if parts::is_valid(&parts) {
+        if parts.first_fault().is_none() {
             Some(Timer { parts })
         } else {
             None
         }
+    }
+
+    /// The device with these fields, of which it is known that they are a timer's: for a caller that keeps them
+    /// in a record of its own. No condition is looked at again.
+    #[inline]
+    pub fn of_valid_parts(parts: TimerParts) -> Timer
+        requires { IsTimer parts }
+        ensures { result ≡ parts }
+    {
+        Timer { parts }
     }
 
     /// The configuration register.
@@ -106,7 +101,7 @@ impl Timer {
     pub fn write_config(&mut self, v: u64)
         ensures { self.new ≡ config_written v self.old }
     {
-        self.parts = parts::config_written(self.parts, v);
+        self.parts = config::config_written(self.parts, v);
     }
 
     /// The comparator register.
@@ -123,236 +118,26 @@ impl Timer {
         requires fits { v < 2 ^ (8 * width) }
         ensures { self.new ≡ comparator_written width high v self.old }
     {
-        self.parts = parts::comparator_written(self.parts, width, high, v);
+        self.parts = comparator::comparator_written(self.parts, width, high, v);
     }
 
     /// Counts the `n` pulses that follow the main counter's value `from`: how many of them match, and which is
     /// the first. A pulse matches where it brings the main counter, in 32-bit mode its low half, to the
     /// comparator; a periodic timer then adds its period to the comparator, modulo 2^32 or 2^64.
+    #[inline]
     pub fn pulses(&mut self, from: u64, n: u64) -> Matches
         ensures state { self.new ≡ pulsed_times from n self.old }
         ensures count { result.count ≡ matches_in from self.old n }
         ensures few { result.count ≤ n }
         ensures first { IsFirst (matches_in from self.old) n result.first }
+        // The matches fall at the first, a spacing later, two later and so on, and at no other pulse.
+        ensures every { (i : ℕ) → i < n
+            → matches_at (counter_after from (suc i)) (pulsed_times from i self.old)
+            ≡ falls_on result.first result.count (spacing_of self.old) (suc i) }
         // In 32-bit mode the low half of the main counter decides alone.
-        ensures low_half { IsTrue (is_32_bit self.old) → result.count ≡ matches_in (from % 2 ^ 32) self.old n }
+        ensures low_half { IsTrue (is_32_bit self.old)
+            → result.count ≡ matches_in (from % 2 ^ 32) self.old n }
     {
-        let matches = matches_over(&self.parts, from, n);
-        self.parts = parts::advanced(self.parts, matches.count);
-        matches
-    }
-}
-
-/// The matches of a timer over `n` pulses of a main counter at `from`.
-fn matches_over(parts: &TimerParts, from: u64, n: u64) -> Matches
-    requires valid { IsTimer parts.now }
-    ensures count { result.count ≡ matches_in from parts.now n }
-    ensures few { result.count ≤ n }
-    ensures first { IsFirst (matches_in from parts.now) n result.first }
-    ensures state { pulsed_times from n parts.now ≡ advanced result.count parts.now }
-{
-    let before = parts::pulses_before(parts, from);
-    if n <= before {
-        return Matches::NONE;
-    }
-    let first = before + 1;
-    Matches {
-        count: 1 + parts::further_matches(parts, n - first),
-        first: Some(first),
-    }
-}
-
-#[cfg(test)]
-mod tests {
-    use super::*;
-
-    /// Config, comparator and period; the main counter before and the number of pulses; the number and the
-    /// first of the matches, and the comparator after them.
-    const PULSES: [(u16, u64, u64, u64, u64, u64, Option<u64>, u64); 12] = [
-        // a one-shot timer matches once, on the pulse that reaches the comparator
-        (0x2804, 100, 100, 0, 99, 0, None, 100),
-        (0x2804, 100, 100, 0, 100, 1, Some(100), 100),
-        (0x2804, 100, 100, 0, 5_000, 1, Some(100), 100),
-        // a periodic one each period
-        (0x280c, 100, 30, 0, 99, 0, None, 100),
-        (0x280c, 100, 30, 0, 190, 4, Some(100), 220),
-        // a comparator that the counter equals already has a whole round before it
-        (0x280c, 7, 30, 7, 5_000, 0, None, 7),
-        (0x290c, 7, 30, 0x1_0000_0007, 5_000, 0, None, 7),
-        // a period of 0 matches once a round
-        (0x280c, 7, 0, 0, 5_000, 1, Some(7), 7),
-        // 32 bits, across the wrap
-        (0x290c, 0xffff_fff8, 0x10, 0xffff_fff0, 45, 3, Some(8), 0x28),
-        (0x2904, 3, 3, 0x7_ffff_fffe, 10, 1, Some(5), 3),
-        // 64 bits, across the wrap
-        (
-            0x280c,
-            0xffff_ffff_ffff_fff8,
-            0x10,
-            0xffff_ffff_ffff_fff0,
-            45,
-            3,
-            Some(8),
-            0x28,
-        ),
-        (0x2804, 3, 3, 0xffff_ffff_ffff_fffe, 10, 1, Some(5), 3),
-    ];
-
-    #[test]
-    fn matches_over_a_stretch(rt: HostRuntime) {
-        for (config, comparator, period, from, n, count, first, after) in PULSES {
-            let parts = TimerParts {
-                config,
-                comparator,
-                period,
-            };
-            let mut timer = Timer::of_parts(parts).expect(&rt, "a timer's parts");
-            let matches = timer.pulses(from, n);
-            assert_eq!(rt; matches, Matches { count, first }, "{parts:?} from {from}");
-            assert_eq!(rt; timer.comparator(), after, "{parts:?} from {from}");
-            assert_eq!(rt; timer.parts().period, period);
-        }
-    }
-
-    /// The plain program of the definition: one pulse after the other.
-    fn pulses_one_by_one(parts: TimerParts, from: u64, n: u64) -> (TimerParts, Matches) {
-        let mut parts = parts;
-        let mut matches = Matches::NONE;
-        for k in 0..n {
-            let counter = from.wrapping_add(k).wrapping_add(1);
-            if parts::within(&parts, counter) == parts.comparator {
-                matches.count = matches.count.wrapping_add(1);
-                matches.first = matches.first.or(Some(k.wrapping_add(1)));
-                if parts.is_periodic() {
-                    let comparator = parts.comparator.wrapping_add(parts.period);
-                    parts.comparator = parts::within(&parts, comparator);
-                }
-            }
-        }
-        (parts, matches)
-    }
-
-    /// The next number of a generator with a fixed seed.
-    fn next_number(x: u64) -> u64 {
-        x.wrapping_mul(6_364_136_223_846_793_005)
-            .wrapping_add(1_442_695_040_888_963_407)
-    }
-
-    /// A timer near a main counter, so that first matches, periods and wraps fall within a short stretch.
-    fn timer_near(from: u64, x: u64) -> Timer {
-        let mut timer = Timer::power_on();
-        // 32-bit mode and periodic by turns, the comparator by VAL_SET, and then the period
-        timer.write_config(0x2840 | x & 0x108);
-        timer.write_comparator(8, false, from.wrapping_add(x / 512 % 32));
-        timer.write_comparator(8, false, x / 16_384 % 8);
-        timer
-    }
-
-    #[test]
-    fn many_pulses_are_single_ones(rt: HostRuntime) {
-        let mut x = 1;
-        for _ in 0..400 {
-            x = next_number(x);
-            let from = (x >> 20) % 64;
-            let n = (x >> 26) % 100;
-            for from in [from, !from] {
-                let mut timer = timer_near(from, x >> 33);
-                let (parts, matches) = pulses_one_by_one(timer.parts(), from, n);
-                assert_eq!(rt; timer.pulses(from, n), matches, "from {from} over {n}");
-                assert_eq!(rt; timer.parts(), parts, "from {from} over {n}");
-            }
-        }
-    }
-
-    #[test]
-    fn a_long_stretch_takes_no_time(rt: HostRuntime) {
-        for (from, n, count) in [(0xffff_ffff_ffff_ffff, 1 << 40, 109_951_162_778)] {
-            let mut timer = Timer::power_on();
-            timer.write_config(0x2808);
-            timer.write_comparator(8, false, 10);
-            // without VAL_SET the write leaves the comparator, and sets the period
-            assert_eq!(rt; timer.comparator(), 0);
-            assert_eq!(rt; timer.parts().period, 10);
-            let matches = timer.pulses(from, n);
-            assert_eq!(rt;
-                matches,
-                Matches {
-                    count,
-                    first: Some(1)
-                }
-            );
-        }
-    }
-
-    #[test]
-    fn registers_of_a_timer(rt: HostRuntime) {
-        let mut timer = Timer::power_on();
-        assert_eq!(rt; timer.config(), 0x00f0_0000_0000_2830);
-        // VAL_SET reads as set until the next write of the comparator
-        timer.write_config(0x294c);
-        assert_eq!(rt; timer.config(), 0x00f0_0000_0000_297c);
-        timer.write_comparator(8, false, 0xffff_fff8);
-        assert_eq!(rt; timer.config(), 0x00f0_0000_0000_293c);
-        timer.write_comparator(8, false, 0x10);
-        assert_eq!(rt; timer.comparator(), 0xffff_fff8);
-        assert_eq!(rt; timer.parts().period, 0x10);
-        // a route outside 20 to 23 leaves the route, one inside is taken
-        timer.write_config(0x0000);
-        assert_eq!(rt; timer.config(), 0x00f0_0000_0000_2830);
-        timer.write_config(0x2e00);
-        assert_eq!(rt; timer.config(), 0x00f0_0000_0000_2e30);
-        // halves, and the cut of 32-bit mode
-        timer.write_comparator(4, true, 0x5);
-        assert_eq!(rt; timer.comparator(), 0x5_ffff_fff8);
-        assert_eq!(rt; timer.parts().period, 0x5_0000_0010);
-        timer.write_config(0x2f00);
-        assert_eq!(rt; timer.comparator(), 0xffff_fff8);
-        timer.write_comparator(4, true, 0x5);
-        timer.write_comparator(4, false, 0x6);
-        assert_eq!(rt;
-            timer.parts(),
-            TimerParts {
-                config: 0x2f00,
-                comparator: 6,
-                period: 6
-            }
-        );
-    }
-
-    #[test]
-    fn what_a_configuration_says(rt: HostRuntime) {
-        let parts = TimerParts {
-            config: 0x2f4e,
-            comparator: 0,
-            period: 6,
-        };
-        assert!(rt; parts.is_level() && parts.is_enabled() && parts.is_periodic());
-        assert!(rt; parts.takes_comparator() && parts.is_32_bit());
-        assert_eq!(rt; parts.route(), 23);
-        assert_eq!(rt; parts.spacing(), 6);
-        let one_shot = Timer::power_on().parts();
-        assert!(rt; !one_shot.is_level() && !one_shot.is_enabled() && !one_shot.is_periodic());
-        assert!(rt; !one_shot.takes_comparator() && !one_shot.is_32_bit());
-        assert_eq!(rt; one_shot.spacing(), 0x1_0000_0000_0000_0000);
-    }
-
-    #[test]
-    fn fields_that_are_no_timers(rt: HostRuntime) {
-        for (config, comparator, period) in [
-            (0x0000, 0, 0),
-            (0x2600, 0, 0),
-            (0x3000, 0, 0),
-            (0x2801, 0, 0),
-            (0x6800, 0, 0),
-            (0x2900, 0x1_0000_0000, 0),
-            (0x2900, 0, 0x1_0000_0000),
-        ] {
-            let parts = TimerParts {
-                config,
-                comparator,
-                period,
-            };
-            assert_eq!(rt; Timer::of_parts(parts), None, "{parts:?}");
-        }
+        stretch::pulse(&mut self.parts, from, n)
     }
 }

@@ -4,8 +4,8 @@ use Rattle.std.proofs.lemmas.Bool.{cases_order, cases_lt, lt-ltb, le-ltb}
 use Rattle.std.proofs.lemmas.Nat.{or_lt, pow_below}
 use Rattle.std.proofs.lemmas.Nat.Bits.{bit_at_or, bit_at-pow_same, bit_at-pow_other, bit_at-lt, same_from_bits}
 use Rattle.std.specs.Int.{bit_at}
-use Rattle.hpet_comparator.specs.Timer.{bit_of}
-use Rattle.hpet_registers.specs.Pulses.{with_bits}
+use Rattle.clk_units.specs.Bits.{bit}
+use Rattle.hpet_registers.specs.Stretch.{with_bits}
 
 -- equal tests set equal bits
 pub with_bits-same : (p q : ℕ → Bool) (n s : ℕ) → ((k : ℕ) → k < n → p k ≡ q k) → with_bits p n s ≡ with_bits q n s
@@ -68,8 +68,8 @@ with_bits-twice p q n s = same_from_bits (with_bits p n (with_bits q n s)) (with
     either true false c x = omega arith
 
 -- a status bit is set where it was or where its test holds
-pub bit_of-with_bits : (p : ℕ → Bool) (n s i : ℕ) → i < n → bit_of i (with_bits p n s) ≡ (bit_of i s || p i)
-bit_of-with_bits p n s i inside =
+pub bit-with_bits : (p : ℕ → Bool) (n s i : ℕ) → i < n → bit i (with_bits p n s) ≡ (bit i s || p i)
+bit-with_bits p n s i inside =
     ap (λ (x : ℕ). eqb x 1) (bit_at-with_bits p n s i ∙ ap (λ (b : Bool). max (bit_at s i) (cond (b && p i) 1 0)) (lt-ltb i n inside))
     ∙ tested (p i) (bit_at s i) (bit_at-lt s i)
   where

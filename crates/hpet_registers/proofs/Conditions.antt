@@ -4,16 +4,22 @@ use Rattle.std.proofs.Math.ListN.{set, get_or-map}
 use Rattle.std.proofs.lemmas.List.{get_or-set_other}
 use Rattle.std.proofs.lemmas.Bool.{cases_eq, lt-ltb, le-ltb, false≢true}
 use Rattle.std.proofs.lemmas.Nat.{and_le_l}
-use Rattle.hpet_counter.specs.Counter.{counter_after, part_written}
+use Rattle.hpet_counter.specs.Counter.{counter_after}
+use Rattle.hpet_counter.specs.Part.{part_written}
 use Rattle.hpet_comparator.specs.declared.parts.TimerParts.{TimerParts}
-use Rattle.hpet_comparator.specs.Timer.{IsTimer, is_periodic, is_level, matches_at, pulsed, pulsed_times, config_written, comparator_written, bit_of}
+use Rattle.clk_units.specs.Bits.{bit}
+use Rattle.hpet_comparator.specs.Parts.{IsTimer, is_periodic, is_level}
+use Rattle.hpet_comparator.specs.Stretch.{matches_at, pulsed, pulsed_times}
+use Rattle.hpet_comparator.specs.Config.{config_written}
+use Rattle.hpet_comparator.specs.Comparator.{comparator_written}
 use Rattle.hpet_comparator.proofs.Writes.{IsTimer-config_written, IsTimer-comparator_written, IsTimer-pulsed}
 use Rattle.hpet_registers.specs.declared.parts.HpetParts.{HpetParts}
 use Rattle.hpet_registers.specs.declared.register.Register.{Register}
 use Rattle.hpet_registers.specs.declared.register.Register.TheVariants.{Capabilities, Configuration, Status, MainCounter, TimerConfig, TimerComparator, TimerMessage, Reserved}
 use Rattle.hpet_registers.specs.Parts.{no_timer, timer_at, IsPlace, IsHpet, is_running}
-use Rattle.hpet_registers.specs.Register.{IsRegister, register_written, timer_config_register}
-use Rattle.hpet_registers.specs.Pulses.{matches_next, hpet_pulsed, hpet_pulsed_times}
+use Rattle.hpet_registers.specs.Register.{IsRegister}
+use Rattle.hpet_registers.specs.Access.{register_written, timer_config_register}
+use Rattle.hpet_registers.specs.Stretch.{matches_next, hpet_pulsed, hpet_pulsed_times}
 use Rattle.hpet_registers.proofs.Bits.{with_bits-lt}
 
 -- pulses leave a place without a timer
@@ -87,7 +93,7 @@ IsHpet-register_written (TimerConfig k) width high v h valid range = record {
   status = valid.status;
   places = places-set h.timers k h.timer (config_written (part_written width high v (timer_config_register k h)) (timer_at k h)) range (IsTimer-config_written (part_written width high v (timer_config_register k h)) (timer_at k h) (IsTimer-at k h valid range)) valid.places;
   messages = valid.messages;
-  plain = λ off. (ap (λ (b : Bool). cond b (set h.message_bit k (bit_of 14 (part_written width high v (timer_config_register k h)))) h.message_bit) off ∙ (valid.plain off).0, (valid.plain off).1);
+  plain = λ off j small. (ap (λ (b : Bool). get_or (cond b (set h.message_bit k (bit 14 (part_written width high v (timer_config_register k h)))) h.message_bit) j false) off ∙ (valid.plain off j small).0, (valid.plain off j small).1);
 }
 IsHpet-register_written (TimerComparator k) width high v h valid range = record {
   config = valid.config;
@@ -103,7 +109,7 @@ IsHpet-register_written (TimerMessage k) width high v h valid range = record {
   status = valid.status;
   places = valid.places;
   messages = valid.messages;
-  plain = λ off. absurd (false≢true (sym off ∙ range.1));
+  plain = λ off j small. absurd (false≢true (sym off ∙ range.1));
 }
 
 -- a pulse keeps a place

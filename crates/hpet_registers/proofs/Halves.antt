@@ -4,15 +4,18 @@ use Rattle.std.proofs.Math.ListN.{set}
 use Rattle.std.proofs.Math.Nat.{mod-mod}
 use Rattle.std.proofs.lemmas.Bool.{eq-eqb, ne_eqb, false≢true}
 use Rattle.std.proofs.lemmas.Nat.{and_le_r, and_mask, and_mod, and_assoc, or_disjoint, and_or_apart}
-use Rattle.hpet_counter.specs.Counter.{part_written}
-use Rattle.hpet_counter.proofs.Counter.{part_written-halves}
+use Rattle.hpet_counter.specs.Part.{part_written}
+use Rattle.hpet_counter.proofs.Halves.{part_written-halves}
 use Rattle.hpet_comparator.specs.declared.parts.TimerParts.{TimerParts}
-use Rattle.hpet_comparator.specs.Timer.{bit_of, route_of, modulus, switch_bits, chosen_route, narrowed, config_written, config_register}
+use Rattle.clk_units.specs.Bits.{bit}
+use Rattle.hpet_comparator.specs.Parts.{route_of, modulus}
+use Rattle.hpet_comparator.specs.Config.{switch_bits, chosen_route, narrowed, config_written, config_register}
 use Rattle.hpet_registers.specs.declared.parts.HpetParts.{HpetParts}
 use Rattle.hpet_registers.specs.declared.register.Register.{Register}
 use Rattle.hpet_registers.specs.declared.register.Register.TheVariants.{Capabilities, Configuration, Status, MainCounter, TimerConfig, TimerComparator, TimerMessage, Reserved}
 use Rattle.hpet_registers.specs.Parts.{no_timer, timer_at, message_bit_at, message_word_at}
-use Rattle.hpet_registers.specs.Register.{register_at, register_written, timer_config_register, is_effective, is_plain, hpet_written}
+use Rattle.hpet_registers.specs.Register.{register_at}
+use Rattle.hpet_registers.specs.Access.{register_written, timer_config_register, is_effective, is_plain, hpet_written}
 
 -- a place that is set twice, where the second value may depend on the first
 set-again : {A : Type 0} (l : List A) (k : ℕ) (x y z d : A) → (get_or (set l k x) k d ≡ x → y ≡ z) → set (set l k x) k y ≡ set l k z
@@ -62,7 +65,7 @@ config_low-route u s r true false small inside = omega arith
 config_low-route u s r false true small inside = omega arith
 config_low-route u s r false false small inside = omega arith
 
-message-kept : (u c : ℕ) (p q : Bool) → c < 2 ^ 14 - 48 → bit_of 14 (part_written 4 true u (0x00f0000000000030 + c + cond p 0x4000 0 + cond q 0x8000 0)) ≡ p
+message-kept : (u c : ℕ) (p q : Bool) → c < 2 ^ 14 - 48 → bit 14 (part_written 4 true u (0x00f0000000000030 + c + cond p 0x4000 0 + cond q 0x8000 0)) ≡ p
 message-kept u c true true small = eq-eqb _ 1 (omega arith)
 message-kept u c true false small = eq-eqb _ 1 (omega arith)
 message-kept u c false true small = ne_eqb _ 1 (λ e. omega arith)
@@ -159,7 +162,7 @@ config-high_half k u high v h =
     same_lists h
     (set-again h.timer k (config_written v (timer_at k h)) (config_written (part_written 4 true u (timer_config_register k next)) (timer_at k next)) (config_written v (timer_at k h)) no_timer
     (λ here. ap (λ (t : TimerParts). config_written (part_written 4 true u (config_register t + cond p 0x4000 0 + cond h.messages 0x8000 0)) t) here ∙ config-kept u v p h.messages (timer_at k h)))
-    (bits-again h.messages h.message_bit k (bit_of 14 v) (bit_of 14 (part_written 4 true u (timer_config_register k next)))
+    (bits-again h.messages h.message_bit k (bit 14 v) (bit 14 (part_written 4 true u (timer_config_register k next)))
     (λ here. message-kept u (timer_at k next).config p h.messages (config-small h.timer k (2 ^ 14 - 48) (config_written v (timer_at k h)) (omega arith) (config_written-small v (timer_at k h))) ∙ here))
 
 -- a write of each register

@@ -2,11 +2,11 @@
 use Rattle.std.proofs.Common.{◌≡◌, ℕ, ◌-◌, ◌%◌, ◌^◌, Bool, bit_and, ap, sym, ◌∙◌}
 use Rattle.std.specs.Int.Bits.{and_self}
 use Rattle.std.proofs.lemmas.Nat.{and_comm, and_assoc}
-use Rattle.hpet_counter.specs.Counter.{part_written}
+use Rattle.hpet_counter.specs.Part.{part_written}
 use Rattle.hpet_registers.specs.declared.parts.HpetParts.{HpetParts}
 use Rattle.hpet_registers.specs.declared.register.Register.{Register}
 use Rattle.hpet_registers.specs.declared.register.Register.TheVariants.{Capabilities, Configuration, Status, MainCounter, TimerConfig, TimerComparator, TimerMessage, Reserved}
-use Rattle.hpet_registers.specs.Register.{register_written}
+use Rattle.hpet_registers.specs.Access.{register_written}
 
 -- what is masked has no bit that it hadn't
 masked : (s m : ℕ) → bit_and (bit_and s m) s ≡ bit_and s m

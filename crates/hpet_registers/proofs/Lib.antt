@@ -1,6 +1,8 @@
 pub mod Bits
 pub mod Conditions
+pub mod Faults
 pub mod Product
+pub mod Behind
 pub mod Places
 pub mod Laws
 pub mod Halves

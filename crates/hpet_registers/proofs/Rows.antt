@@ -2,7 +2,8 @@
 use Rattle.std.proofs.Common.{◌≡◌, true, false, refl}
 use Rattle.hpet_registers.specs.declared.register.Register.TheVariants.{TimerConfig, TimerMessage, Reserved}
 use Rattle.hpet_registers.specs.Parts.{hpet_at_power_on}
-use Rattle.hpet_registers.specs.Register.{register_at, hpet_read}
+use Rattle.hpet_registers.specs.Register.{register_at}
+use Rattle.hpet_registers.specs.Access.{hpet_read}
 
 capabilities_of_three : hpet_read 0 8 (hpet_at_power_on 3 false) ≡ 0x009896808086a201
 capabilities_of_three = refl

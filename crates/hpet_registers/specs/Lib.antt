@@ -1,4 +1,7 @@
 pub mod Parts
+pub mod Outputs
 pub mod Register
-pub mod Pulses
+pub mod Access
+pub mod Stretch
 pub mod ThreeTimers
+pub mod private

@@ -1,9 +1,15 @@
--- The fields of the HPET and their conditions. Sections are those of the IA-PC HPET specification 1.0a; what it
--- leaves open is marked as this project's own choice.
-use Rattle.std.specs.Prelude.{◌≡◌, ℕ, ◌<◌, ◌≤◌, Bool, true, false, ◌&&◌, ◌==◌, not, nat_lt, if◌then◌else◌, List, [], ◌∷◌, slice_index_or, ◌⊎◌, ◌/◌, ◌%◌, ◌^◌, Option, Some, None}
+-- The fields of the HPET and their conditions. Sections are those of the IA-PC HPET specification 1.0a; (own) marks
+-- what it leaves open and this project chose.
+use Rattle.std.specs.Prelude.{◌≡◌, ℕ, zero, suc, ◌<◌, ◌≤◌, Bool, true, false, ◌||◌, ◌==◌, not, nat_lt, nat_le, if◌then◌else◌, List, [], ◌∷◌, slice_index_or, ◌⊎◌, Option, Some, None}
 use Rattle.hpet_comparator.specs.declared.parts.TimerParts.{TimerParts}
-use Rattle.hpet_comparator.specs.Timer.{IsTimer, bit_of, is_level, is_enabled, timer_at_power_on}
+use Rattle.hpet_comparator.specs.declared.parts.TimerField.{TimerField}
+use Rattle.hpet_comparator.specs.declared.parts.TimerField.TheVariants.{Comparator, Period}
+use Rattle.hpet_comparator.specs.declared.parts.TimerField.TheVariants as timer_field
+use Rattle.clk_units.specs.Bits.{bit}
+use Rattle.hpet_comparator.specs.Parts.{IsTimer, timer_fault, timer_at_power_on}
 use Rattle.hpet_registers.specs.declared.parts.HpetParts.{HpetParts}
+use Rattle.hpet_registers.specs.declared.parts.HpetField.{HpetField}
+use Rattle.hpet_registers.specs.declared.parts.HpetField.TheVariants.{Timers, Messages, Config, Status, Timer, MessageBit, MessageWord}
 
 -- what the place of a timer that isn't there holds
 abbrev pub no_timer : TimerParts
@@ -21,20 +27,13 @@ message_bit_at k h = slice_index_or h.message_bit k false
 abbrev pub message_word_at : ℕ → HpetParts → ℕ
 message_word_at k h = slice_index_or h.message_word k 0
 
--- no message bits and no message words
-abbrev pub no_bits : List Bool
-no_bits = false ∷ false ∷ false ∷ false ∷ false ∷ false ∷ false ∷ false ∷ []
-
-abbrev pub no_words : List ℕ
-no_words = 0 ∷ 0 ∷ 0 ∷ 0 ∷ 0 ∷ 0 ∷ 0 ∷ 0 ∷ []
-
 -- ENABLE_CNF, bit 0 of the configuration: the main counter runs (2.3.5)
 abbrev pub is_running : HpetParts → Bool
-is_running h = bit_of 0 h.config
+is_running h = bit 0 h.config
 
 -- LEG_RT_CNF, bit 1: legacy replacement (2.3.5)
 abbrev pub is_legacy : HpetParts → Bool
-is_legacy h = bit_of 1 h.config
+is_legacy h = bit 1 h.config
 
 -- a place of the timers: a timer, or nothing where there is none
 abbrev pub IsPlace : Bool → TimerParts → Type 0
@@ -48,7 +47,81 @@ pub record IsHpet (h : HpetParts) : Type 0 where
   pub status : h.timers ≡ 3 → h.status ≤ 7
   pub places : (k : ℕ) → k < 8 → IsPlace (nat_lt k h.timers) (timer_at k h)
   pub messages : h.messages ≡ true → h.timers ≡ 8
-  pub plain : h.messages ≡ false → (h.message_bit ≡ no_bits) × (h.message_word ≡ no_words)
+  pub plain : h.messages ≡ false → (k : ℕ) → k < 8
+      → (message_bit_at k h ≡ false) × (message_word_at k h ≡ 0)
+
+-- the condition on the number of timers
+abbrev pub timers_valid : HpetParts → Bool
+timers_valid h = h.timers == 3 || h.timers == 8
+
+-- the condition on messages: they come with eight timers
+abbrev pub messages_valid : HpetParts → Bool
+messages_valid h = not h.messages || h.timers == 8
+
+-- the condition on the configuration: ENABLE and LEG_RT alone
+abbrev pub hpet_config_valid : HpetParts → Bool
+hpet_config_valid h = nat_le h.config 3
+
+-- the condition on the status: no bit of a timer that isn't there
+abbrev pub hpet_status_valid : HpetParts → Bool
+hpet_status_valid h = h.timers == 8 || nat_le h.status 7
+
+-- the first field of a place that isn't 0
+abbrev pub rest_fault : TimerParts → Option TimerField
+rest_fault t =
+    if t.config == 0 then
+    if t.comparator == 0 then
+    if t.period == 0 then None else Some Period
+    else Some Comparator
+    else Some timer_field.Config
+
+-- the first field of place k whose condition fails: a timer's, and 0 where there is none
+abbrev pub place_fault : Bool → TimerParts → Option TimerField
+place_fault true t = timer_fault t
+place_fault false t = rest_fault t
+
+-- the same as a field of the HPET
+abbrev pub of_timer : ℕ → Option TimerField → Option HpetField
+of_timer k None = None
+of_timer k (Some field) = Some (Timer k field)
+
+-- the first fault of timer k
+abbrev pub timer_fault_at : HpetParts → ℕ → Option HpetField
+timer_fault_at h k = of_timer k (place_fault (nat_lt k h.timers) (timer_at k h))
+
+-- the first fault of the messages of timer k: without messages they are 0
+abbrev pub message_fault_at : HpetParts → ℕ → Option HpetField
+message_fault_at h k =
+    if h.messages then None
+    else if message_bit_at k h then Some (MessageBit k)
+    else if message_word_at k h == 0 then None
+    else Some (MessageWord k)
+
+-- the first of two faults
+abbrev pub or_else : Option HpetField → Option HpetField → Option HpetField
+or_else None next = next
+or_else (Some field) next = Some field
+
+-- the first fault of the places below n
+unfoldable pub first_below : (ℕ → Option HpetField) → ℕ → Option HpetField
+first_below fault zero = None
+first_below fault (suc n) = or_else (first_below fault n) (fault n)
+
+-- the first field whose condition fails
+abbrev pub hpet_fault : HpetParts → Option HpetField
+hpet_fault h =
+    if not (timers_valid h) then Some Timers
+    else if not (messages_valid h) then Some Messages
+    else if not (hpet_config_valid h) then Some Config
+    else if not (hpet_status_valid h) then Some Status
+    else or_else (first_below (timer_fault_at h) 8) (first_below (message_fault_at h) 8)
+
+-- no message bits and no message words
+abbrev pub no_bits : List Bool
+no_bits = false ∷ false ∷ false ∷ false ∷ false ∷ false ∷ false ∷ false ∷ []
+
+abbrev pub no_words : List ℕ
+no_words = 0 ∷ 0 ∷ 0 ∷ 0 ∷ 0 ∷ 0 ∷ 0 ∷ 0 ∷ []
 
 -- the places of three timers, and of eight, at power on
 abbrev pub timers_at_power_on : ℕ → List TimerParts
@@ -68,16 +141,3 @@ hpet_at_power_on timers messages = record {
   message_bit = no_bits;
   message_word = no_words;
 }
-
--- the status bit of timer k, with its interrupt enabled (2.3.6)
-abbrev pub level_output : ℕ → HpetParts → Bool
-level_output k h = bit_of k h.status && is_enabled (timer_at k h)
-
--- a timer whose matches are messages: bit 14, enabled, of edge type, and not timer 0 or 1 under legacy
--- replacement (own)
-abbrev pub is_message : ℕ → HpetParts → Bool
-is_message k h = message_bit_at k h && (is_enabled (timer_at k h) && (not (is_level (timer_at k h)) && not (is_legacy h && nat_lt k 2)))
-
--- the address and the data of its messages (2.3.10)
-abbrev pub message_of : ℕ → HpetParts → Option (ℕ × ℕ)
-message_of k h = if is_message k h then Some (message_word_at k h / 2 ^ 32, message_word_at k h % 2 ^ 32) else None

@@ -1,12 +1,12 @@
 -- The block of three timers without messages, place by place (IA-PC HPET specification 1.0a, section 2.3): the least
 -- block that the specification allows, written out.
 use Rattle.std.specs.Prelude.{ℕ, ◌-◌, ◌*◌, ◌^◌, ◌%◌, ◌==◌, if◌then◌else◌}
-use Rattle.hpet_comparator.specs.Timer.{config_register}
+use Rattle.hpet_comparator.specs.Config.{config_register}
 use Rattle.hpet_registers.specs.declared.parts.HpetParts.{HpetParts}
 use Rattle.hpet_registers.specs.declared.register.Register.{Register}
 use Rattle.hpet_registers.specs.declared.register.Register.TheVariants.{Capabilities, Configuration, Status, MainCounter, TimerConfig, TimerComparator, TimerMessage, Reserved}
 use Rattle.hpet_registers.specs.Parts.{timer_at}
-use Rattle.hpet_registers.specs.Register.{is_effective, part_of}
+use Rattle.hpet_registers.specs.Access.{is_effective, part_of}
 
 -- what stands at an offset
 abbrev pub three_timer_register : ℕ → Register

@@ -1,23 +1,19 @@
 //! What a register holds, and the fields after a write to it.
 
 ghost use Rattle.std.specs.Prelude.{◌≡◌, ◌+◌, ◌*◌, ◌^◌, ◌<◌, ◌≤◌, length, IsTrue, nat_lt, slice_set, if◌then◌else◌};
-ghost use Rattle.hpet_counter.specs.Counter.{is_register_width};
-ghost use Rattle.hpet_comparator.specs.Timer.{IsTimer, bit_of, config_written, comparator_written};
+ghost use Rattle.hpet_counter.specs.Part.{part_written, is_register_width};
+ghost use Rattle.clk_units.specs.Bits.{bit};
+ghost use Rattle.hpet_comparator.specs.Parts.{IsTimer};
+ghost use Rattle.hpet_comparator.specs.Config.{config_written};
+ghost use Rattle.hpet_comparator.specs.Comparator.{comparator_written};
 ghost use Rattle.hpet_registers.specs.Parts.{IsHpet, timer_at};
-ghost use Rattle.hpet_registers.specs.Register.{
-  IsRegister,
-  is_access_width,
-  hpet_read,
-  part_of,
-  register_value,
-  register_written,
-  timer_config_register,
-};
+ghost use Rattle.hpet_registers.specs.Register.{IsRegister};
+ghost use Rattle.hpet_registers.specs.Access.{is_access_width, hpet_read, part_of, register_value, register_written, timer_config_register, timer_config_written};
 
 use crate::parts::HpetParts;
 use crate::register::{Register, is_effective, register_at};
 use hpet_comparator::{Timer, TimerParts};
-use hpet_counter::write_part;
+use hpet_counter::{MainCounter, write_part};
 
 /// The capabilities of a block of one timer: 10 ns a pulse, vendor 8086h, legacy replacement, 64 bits,
 /// revision 1.
@@ -31,17 +27,6 @@ const MESSAGE_CAPABLE: u64 = 0x8000;
 /// How many numbers a half of a register has.
 const HALF: u64 = 0x1_0000_0000;
 
-/// The timer with these parts.
-pub(crate) fn timer_of(parts: TimerParts) -> Timer
-    requires { IsTimer parts }
-    ensures { result ≡ parts }
-{
-    match Timer::of_parts(parts) {
-        Some(timer) => timer,
-        None => unreachable!(),
-    }
-}
-
 /// The configuration register of timer `k`.
 fn timer_config(parts: &HpetParts, k: u8) -> u64
     requires valid { IsHpet parts.now }
@@ -54,7 +39,7 @@ fn timer_config(parts: &HpetParts, k: u8) -> u64
         0
     };
     let capable = if parts.messages { MESSAGE_CAPABLE } else { 0 };
-    timer_of(parts.timer[k as usize]).config() + bit + capable
+    Timer::of_valid_parts(parts.timer[k as usize]).config() + bit + capable
 }
 
 /// What a register holds.
@@ -119,13 +104,24 @@ pub(crate) fn read_at(parts: &HpetParts, offset: u16, width: u8) -> u64
     }
 }
 
+/// The main counter after a write.
+fn counter_written(value: u64, width: u8, high: bool, v: u64) -> u64
+    requires width { IsTrue (is_register_width width) }
+    requires fits { v < 2 ^ (8 * width) }
+    ensures { result ≡ part_written width high v value }
+{
+    let mut counter = MainCounter { value };
+    counter.write(width, high, v);
+    counter.value
+}
+
 /// Timer `k` after a write of `v` to its configuration register.
 fn timer_config_written(parts: &HpetParts, k: u8, v: u64) -> TimerParts
     requires valid { IsHpet parts.now }
     requires range { k < parts.now.timers }
     ensures { result ≡ config_written v (timer_at k parts.now) }
 {
-    let mut timer = timer_of(parts.timer[k as usize]);
+    let mut timer = Timer::of_valid_parts(parts.timer[k as usize]);
     timer.write_config(v);
     timer.parts()
 }
@@ -138,7 +134,7 @@ fn timer_comparator_written(parts: &HpetParts, k: u8, width: u8, high: bool, v: 
     requires fits { v < 2 ^ (8 * width) }
     ensures { result ≡ comparator_written width high v (timer_at k parts.now) }
 {
-    let mut timer = timer_of(parts.timer[k as usize]);
+    let mut timer = Timer::of_valid_parts(parts.timer[k as usize]);
     timer.write_comparator(width, high, v);
     timer.parts()
 }
@@ -177,10 +173,7 @@ fn with_word(list: [u64; 8], k: u8, x: u64) -> [u64; 8]
 fn timer_config_set(parts: HpetParts, k: u8, v: u64) -> HpetParts
     requires valid { IsHpet parts }
     requires range { k < parts.timers }
-    ensures { result ≡ record parts {
-      timer = slice_set parts.timer k (config_written v (timer_at k parts));
-      message_bit = if parts.messages then slice_set parts.message_bit k (bit_of 14 v) else parts.message_bit;
-    } }
+    ensures { result ≡ timer_config_written k v parts }
 {
     let timer = with_timer(parts.timer, k, timer_config_written(&parts, k, v));
     let message_bit = if parts.messages {
@@ -220,7 +213,7 @@ pub(crate) fn register_written(
             ..parts
         },
         Register::MainCounter => HpetParts {
-            counter: write_part(parts.counter, width, high, v),
+            counter: counter_written(parts.counter, width, high, v),
             ..parts
         },
         Register::TimerConfig(k) => {

@@ -1,20 +1,29 @@
 //! The HPET: its registers, its pulses, and what its outputs are made of.
 
-ghost use Rattle.std.specs.Prelude.{bit_and, ◌≡◌, ◌≢◌, ℕ, ◌+◌, ◌-◌, ◌*◌, ◌/◌, ◌%◌, ◌^◌, ◌<◌, ◌≤◌, ◌↔◌, ◌⊎◌, true, IsTrue, IsSome, IfSome, ◌&&◌, ◌||◌, nat_lt, if◌then◌else◌};
+ghost use Rattle.std.specs.Prelude.{bit_and, ◌≡◌, ◌≢◌, ℕ, suc, ◌+◌, ◌-◌, ◌*◌, ◌/◌, ◌%◌, ◌^◌, ◌<◌, ◌≤◌, ◌↔◌, ◌⊎◌, true, IsTrue, IsSome, IfSome, ◌&&◌, ◌||◌, nat_lt, if◌then◌else◌};
 ghost use Rattle.clk_units.specs.Events.{IsFirst};
-ghost use Rattle.hpet_comparator.specs.Timer.{is_level, bit_of, spacing_of, matches_in};
+ghost use Rattle.clk_units.specs.Bits.{bit};
+ghost use Rattle.hpet_comparator.specs.Parts.{IsTimer, is_level};
+ghost use Rattle.hpet_comparator.specs.Stretch.{spacing_of, matches_in, falls_on};
 ghost use Rattle.hpet_registers.specs.Parts.{
   IsHpet,
   hpet_at_power_on,
   timer_at,
   is_running,
   is_legacy,
+};
+ghost use Rattle.hpet_registers.specs.Outputs.{
   level_output,
+  has_edge_ticks,
+  is_message,
+  has_ticks,
   message_of,
 };
-ghost use Rattle.hpet_registers.specs.Register.{is_access_width, is_plain, register_at, hpet_read, hpet_written};
+ghost use Rattle.hpet_registers.specs.Register.{register_at};
+ghost use Rattle.hpet_registers.specs.Access.{is_access_width, is_plain, hpet_read, hpet_written};
 ghost use Rattle.hpet_registers.specs.ThreeTimers.{three_timer_read};
-ghost use Rattle.hpet_registers.specs.Pulses.{
+ghost use Rattle.hpet_registers.specs.Stretch.{
+  matches_next,
   hpet_pulsed_times,
   matches_of,
   timer_matches,
@@ -22,11 +31,15 @@ ghost use Rattle.hpet_registers.specs.Pulses.{
 };
 
 use crate::parts::{HpetParts, NO_TIMER};
-use crate::{access, parts, register, stretch};
-use hpet_comparator::{Matches, Timer};
+use crate::{access, register, stretch};
+use hpet_comparator::{Matches, Timer, TimerParts};
 use std::marker::Model;
 
+/// Pulses of the main counter a second: one each 10 ns.
+pub const HPET_HZ: u64 = 100_000_000;
+
 /// The HPET.
+#[repr(C)]
 #[derive(Clone, Copy, Debug, PartialEq, Eq)]
 pub struct Hpet {
     parts: HpetParts,
@@ -68,7 +81,7 @@ impl Hpet {
         }
     }
 
-    /// All its fields.
+    /// All fields, as a saved state keeps them.
     pub fn parts(&self) -> HpetParts
         ensures parts { result ≡ self.now }
         ensures valid { IsHpet result }
@@ -76,14 +89,12 @@ impl Hpet {
         self.parts
     }
 
-    /// The HPET with these fields, where they are one's: configuration at most 3, three or eight timers, with
-    /// three a status of at most 7, each timer valid and the other places 0, messages with eight timers alone,
-    /// and without them message bits and registers of 0.
+    /// The device with these fields, or None exactly where a condition on them fails.
     pub fn of_parts(parts: HpetParts) -> Option<Hpet>
         ensures valid { IsSome result ↔ IsHpet parts }
         ensures value { IfSome result (λ h. h ≡ parts) }
     {
-        if parts::is_valid(&parts) {
+        if parts.first_fault().is_none() {
             Some(Hpet { parts })
         } else {
             None
@@ -131,17 +142,29 @@ impl Hpet {
     /// Counts `n` pulses of 10 ns: at each place the matches of that timer, none where there is no timer.
     pub fn pulses(&mut self, n: u64) -> [Matches; 8]
         ensures state { self.new ≡ hpet_pulsed_times n self.old }
-        ensures count { (k : ℕ) → k < self.old.timers → (timer_matches result k).count ≡ matches_of k self.old n }
-        ensures few { (k : ℕ) → k < self.old.timers → (timer_matches result k).count ≤ n }
-        ensures first { (k : ℕ) → k < self.old.timers → IsFirst (matches_of k self.old) n (timer_matches result k).first }
-        ensures none { (k : ℕ) → k < 8 → self.old.timers ≤ k → timer_matches result k ≡ no_matches }
+        ensures count { (k : ℕ) → (timer_matches result k).count ≡ matches_of k self.old n }
+        ensures few { (k : ℕ) → (timer_matches result k).count ≤ n }
+        ensures first { (k : ℕ) → IsFirst (matches_of k self.old) n (timer_matches result k).first }
+        ensures none { (k : ℕ) → self.old.timers ≤ k → timer_matches result k ≡ no_matches }
+        // A timer's matches fall at the first, a spacing later, two later and so on, and at no other pulse.
+        ensures every { (k i : ℕ) → i < n
+            → matches_next k (hpet_pulsed_times i self.old)
+            ≡ falls_on
+            (timer_matches result k).first
+            (timer_matches result k).count
+            (spacing_of (timer_at k self.old))
+            (suc i) }
 
         // A timer's matches are its own: they depend on no other timer.
-        ensures alone { (k : ℕ) → matches_of k self.old n
-            ≡ matches_in self.old.counter (timer_at k self.old) (if is_running self.old then n else 0) }
+        ensures alone { (k : ℕ) → k < self.old.timers → matches_of k self.old n
+            ≡ matches_in
+            self.old.counter
+            (timer_at k self.old)
+            (if is_running self.old then n else 0) }
         // A match of a level timer sets its status bit, and nothing else does.
-        ensures status { (k : ℕ) → k < 8 → bit_of k self.new.status
-            ≡ (bit_of k self.old.status || (nat_lt 0 (matches_of k self.old n) && is_level (timer_at k self.old))) }
+        ensures status { (k : ℕ) → k < 8 → bit k self.new.status
+            ≡ (bit k self.old.status
+            || (nat_lt 0 (matches_of k self.old n) && is_level (timer_at k self.old))) }
         // Pulses change no configuration.
         ensures config { (k : ℕ) → (timer_at k self.new).config ≡ (timer_at k self.old).config }
         ensures kept { self.new
@@ -151,12 +174,39 @@ impl Hpet {
               timer = self.new.timer;
             } }
     {
-        let from = self.parts.counter;
-        let seen = stretch::pulses_seen(self.parts.config, n);
-        let matches = stretch::pulse_timers(&mut self.parts.timer, from, seen);
-        self.parts.status = stretch::raised(&self.parts.timer, &matches, self.parts.status);
-        self.parts.counter = from.wrapping_add(seen);
-        matches
+        stretch::pulse(&mut self.parts, n)
+    }
+
+    /// The configuration: bit 0 ENABLE, bit 1 legacy replacement.
+    pub fn config(&self) -> u8
+        ensures { result ≡ self.now.config }
+    {
+        self.parts.config
+    }
+
+    /// How many timers there are: 3 or 8.
+    pub fn timers(&self) -> u8
+        ensures value { result ≡ self.now.timers }
+        ensures range { (result ≡ 3) ⊎ (result ≡ 8) }
+    {
+        self.parts.timers
+    }
+
+    /// The fields of a timer; all 0 where there is no such timer.
+    pub fn timer(&self, timer: u8) -> TimerParts
+        requires { timer < 8 }
+        ensures value { result ≡ timer_at timer self.now }
+        ensures valid { timer < self.now.timers → IsTimer result }
+    {
+        self.parts.timer[timer as usize]
+    }
+
+    /// The status bit of a timer.
+    pub fn status_bit(&self, timer: u8) -> bool
+        requires { timer < 8 }
+        ensures { result ≡ bit timer self.now.status }
+    {
+        (self.parts.status >> timer) % 2 == 1
     }
 
     /// Whether legacy replacement is on.
@@ -174,19 +224,22 @@ impl Hpet {
         (self.parts.status >> timer) % 2 == 1 && self.parts.timer[timer as usize].is_enabled()
     }
 
+    /// Whether a timer's matches are ticks of its line: of edge type, with its interrupt enabled, and no message
+    /// timer.
+    pub fn has_ticks(&self, timer: u8) -> bool
+        requires { timer < 8 }
+        ensures { result ≡ has_ticks timer self.now }
+    {
+        self.has_edge_ticks(timer) && !self.is_message(timer)
+    }
+
     /// Address and data of a timer's messages, where its matches are messages: with bit 14, interrupt enabled,
     /// of edge type, and not timer 0 or 1 under legacy replacement (this project's own choice).
     pub fn message(&self, timer: u8) -> Option<(u32, u32)>
         requires { timer < 8 }
         ensures { result ≡ message_of timer self.now }
     {
-        let parts = self.parts.timer[timer as usize];
-        let replaced = self.legacy() && timer < 2;
-        let sends = self.parts.message_bit[timer as usize]
-            && parts.is_enabled()
-            && !parts.is_level()
-            && !replaced;
-        if sends {
+        if self.is_message(timer) {
             let word = self.parts.message_word[timer as usize];
             Some(((word / 0x1_0000_0000) as u32, (word % 0x1_0000_0000) as u32))
         } else {
@@ -201,5 +254,23 @@ impl Hpet {
         ensures { result ≡ spacing_of (timer_at timer self.now) }
     {
         self.parts.timer[timer as usize].spacing()
+    }
+
+    /// Whether a timer is of edge type with its interrupt enabled.
+    fn has_edge_ticks(&self, timer: u8) -> bool
+        requires { timer < 8 }
+        ensures { result ≡ has_edge_ticks timer self.now }
+    {
+        let parts = self.parts.timer[timer as usize];
+        parts.is_enabled() && !parts.is_level()
+    }
+
+    /// Whether a timer's matches are messages.
+    fn is_message(&self, timer: u8) -> bool
+        requires { timer < 8 }
+        ensures { result ≡ is_message timer self.now }
+    {
+        let replaced = self.legacy() && timer < 2;
+        self.parts.message_bit[timer as usize] && self.has_edge_ticks(timer) && !replaced
     }
 }

@@ -18,8 +18,8 @@ mod parts;
 mod register;
 mod stretch;
 
-pub use hpet::Hpet;
-pub use parts::HpetParts;
+pub use hpet::{HPET_HZ, Hpet};
+pub use parts::{HpetField, HpetParts};
 pub use register::Register;
 
 #[cfg(test)]

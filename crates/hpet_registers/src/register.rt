@@ -1,13 +1,8 @@
 //! The register map.
 
 ghost use Rattle.std.specs.Prelude.{◌≡◌, ◌-◌, ◌/◌, ◌%◌, ◌≤◌, IsTrue};
-ghost use Rattle.hpet_registers.specs.Register.{
-  timer_register,
-  register_at,
-  IsRegister,
-  is_access_width,
-  is_effective,
-};
+ghost use Rattle.hpet_registers.specs.Register.{timer_register, register_at, IsRegister};
+ghost use Rattle.hpet_registers.specs.Access.{is_access_width, is_effective};
 
 /// A register of 8 bytes; a timer's has the timer's number.
 #[derive(Clone, Copy, Debug, PartialEq, Eq)]

@@ -1,67 +1,105 @@
 //! The pulses of all timers at once.
 
-ghost use Rattle.std.specs.Prelude.{◌≡◌, ℕ, ◌+◌, ◌<◌, ◌≤◌, ◌⊎◌, Bool, ◌&&◌, nat_lt, if◌then◌else◌, map, slice_index_or, length};
-ghost use Rattle.hpet_comparator.specs.Timer.{IsTimer, is_level, bit_of, pulsed_times};
-ghost use Rattle.hpet_registers.specs.Parts.{IsPlace, no_timer};
-ghost use Rattle.hpet_registers.specs.Pulses.{AreMatches, no_matches, timer_matches, with_bits};
+ghost use Rattle.std.specs.Prelude.{◌≡◌, ℕ, suc, ◌<◌, ◌≤◌, ◌&&◌, ◌||◌, nat_lt, if◌then◌else◌, slice_set, bit_or, ◌^◌, map};
+ghost use Rattle.clk_units.specs.Events.{IsFirst};
+ghost use Rattle.clk_units.specs.Bits.{bit};
+ghost use Rattle.hpet_comparator.specs.Parts.{IsTimer, is_level};
+ghost use Rattle.hpet_comparator.specs.Stretch.{pulsed_times, matches_in, spacing_of, falls_on};
+ghost use Rattle.hpet_registers.specs.Parts.{IsHpet, timer_at};
+ghost use Rattle.hpet_registers.specs.Stretch.{
+  with_bits,
+  matches_next,
+  hpet_pulsed_times,
+  matches_of,
+  no_matches,
+  timer_matches,
+};
+ghost use Rattle.hpet_registers.specs.private.Matches.{AreMatches};
 
-use hpet_comparator::{Matches, Timer, TimerParts};
+use crate::parts::HpetParts;
+use hpet_comparator::{Matches, Timer};
+use hpet_counter::MainCounter;
 
-/// The pulses that the main counter sees of `n`: all of them, or none where it stands still.
-pub(crate) fn pulses_seen(config: u8, n: u64) -> u64
-    ensures { result ≡ (if bit_of 0 config then n else 0) }
+/// The status behind so many matches of timer `k`: they set its bit where it is of level type.
+fn raised(status: u8, k: u8, count: u64, level: bool) -> u8
+    requires { k < 8 }
+    ensures { result ≡ (if nat_lt 0 count && level then bit_or status (2 ^ k) else status) }
 {
-    if config % 2 == 1 { n } else { 0 }
-}
-
-/// What stands at one place after `n` pulses of a main counter at `from`, and its matches: none where there is
-/// no timer.
-fn place_pulsed(parts: TimerParts, from: u64, n: u64) -> (TimerParts, Matches)
-    requires place { IsTimer parts ⊎ (parts ≡ no_timer) }
-    ensures state { result.0 ≡ pulsed_times from n parts }
-    ensures matches { IsTimer parts → AreMatches from n parts result.1 }
-    ensures none { parts ≡ no_timer → result.1 ≡ no_matches }
-{
-    match Timer::of_parts(parts) {
-        Some(timer) => {
-            let mut timer = timer;
-            let matches = timer.pulses(from, n);
-            (timer.parts(), matches)
-        }
-        None => (parts, Matches::NONE),
+    if count > 0 && level {
+        status | 1 << k
+    } else {
+        status
     }
 }
 
-/// Counts `n` pulses of a main counter at `from` for each timer.
-pub(crate) fn pulse_timers(timer: &mut [TimerParts; 8], from: u64, n: u64) -> [Matches; 8]
-    requires places { (k : ℕ) → k < 8
-        → IsTimer (slice_index_or timer.old k no_timer) ⊎ (slice_index_or timer.old k no_timer ≡ no_timer) }
-    ensures state { timer.new ≡ map (pulsed_times from n) timer.old }
-    ensures matches { (k : ℕ) → k < 8 → IsTimer (slice_index_or timer.old k no_timer)
-        → AreMatches from n (slice_index_or timer.old k no_timer) (timer_matches result k) }
-    ensures none { (k : ℕ) → k < 8 → slice_index_or timer.old k no_timer ≡ no_timer → timer_matches result k ≡ no_matches }
+/// Counts `n` pulses for timer `k`: its matches, and its status bit where it is of level type and matched.
+fn pulse_timer(parts: &mut HpetParts, k: u8, n: u64) -> Matches
+    requires place { k < 8 }
+    requires valid { IsTimer (timer_at k parts.old) }
+    ensures state { parts.new
+        ≡ record parts.old {
+          timer = slice_set parts.old.timer k (pulsed_times parts.old.counter n (timer_at k parts.old));
+          status =
+              if nat_lt 0 result.count && is_level (timer_at k parts.old) then bit_or parts.old.status (2 ^ k)
+              else parts.old.status;
+        } }
+    ensures matches { AreMatches parts.old.counter n (timer_at k parts.old) result }
+{
+    let before = parts.timer[k as usize];
+    let mut timer = Timer::of_valid_parts(before);
+    let matches = timer.pulses(parts.counter, n);
+    parts.timer[k as usize] = timer.parts();
+    parts.status = raised(parts.status, k, matches.count, before.is_level());
+    matches
+}
+
+/// Counts `n` pulses of a counter that runs for each timer.
+fn pulse_timers(parts: &mut HpetParts, n: u64) -> [Matches; 8]
+    requires { IsHpet parts.old }
+    ensures state { parts.new
+        ≡ record parts.old {
+          timer = map (pulsed_times parts.old.counter n) parts.old.timer;
+          status = with_bits
+              (λ j. nat_lt 0 (matches_in parts.old.counter (timer_at j parts.old) n)
+              && is_level (timer_at j parts.old))
+              parts.old.timers
+              parts.old.status;
+        } }
+    ensures matches { (k : ℕ) → k < parts.old.timers
+        → AreMatches parts.old.counter n (timer_at k parts.old) (timer_matches result k) }
+    ensures none { (k : ℕ) → parts.old.timers ≤ k → timer_matches result k ≡ no_matches }
 {
     let mut matches = [Matches::NONE; 8];
-    for k in 0..8 {
-        let (parts, found) = place_pulsed(timer[k], from, n);
-        timer[k] = parts;
-        matches[k] = found;
+    for k in 0..parts.timers {
+        matches[k as usize] = pulse_timer(parts, k, n);
     }
     matches
 }
 
-/// The status with the bit of each level timer set that matched.
-pub(crate) fn raised(timer: &[TimerParts; 8], matches: &[Matches; 8], status: u8) -> u8
-    ensures { result ≡ with_bits
-        (λ k. nat_lt 0 (timer_matches matches.now k).count && is_level (slice_index_or timer.now k no_timer))
-        8
-        status }
+/// Counts `n` pulses: the matches of each timer.
+pub(crate) fn pulse(parts: &mut HpetParts, n: u64) -> [Matches; 8]
+    requires valid { IsHpet parts.old }
+    requires fits { parts.old.counter < 2 ^ 64 }
+    ensures state { parts.new ≡ hpet_pulsed_times n parts.old }
+    ensures count { (k : ℕ) → (timer_matches result k).count ≡ matches_of k parts.old n }
+    ensures few { (k : ℕ) → (timer_matches result k).count ≤ n }
+    ensures first { (k : ℕ) → IsFirst (matches_of k parts.old) n (timer_matches result k).first }
+    ensures every { (k i : ℕ) → i < n
+        → matches_next k (hpet_pulsed_times i parts.old)
+        ≡ falls_on
+        (timer_matches result k).first
+        (timer_matches result k).count
+        (spacing_of (timer_at k parts.old))
+        (suc i) }
+    ensures none { (k : ℕ) → parts.old.timers ≤ k → timer_matches result k ≡ no_matches }
 {
-    let mut status = status;
-    for k in 0..8 {
-        if matches[k].count > 0 && timer[k].is_level() {
-            status |= 1 << k;
-        }
+    let from = parts.counter;
+    if parts.config % 2 == 0 {
+        return [Matches::NONE; 8];
     }
-    status
+    let matches = pulse_timers(parts, n);
+    let mut counter = MainCounter { value: from };
+    counter.pulses(n);
+    parts.counter = counter.value;
+    matches
 }

@@ -1,8 +1,27 @@
 -- Two stretches of pulses, one behind the other.
-use Rattle.std.proofs.Common.{◌≡◌, ℕ, zero, suc, ◌+◌, ◌-◌, ◌^◌, ◌<◌, Bool, true, false, cond, Option, Some, None, ap, ◌∙◌, arith}
+use Rattle.std.proofs.Common.{
+  ◌≡◌,
+  ℕ,
+  zero,
+  suc,
+  ◌+◌,
+  ◌-◌,
+  ◌^◌,
+  ◌<◌,
+  Bool,
+  true,
+  false,
+  cond,
+  Option,
+  Some,
+  None,
+  ap,
+  ◌∙◌,
+  arith,
+}
 use Rattle.std.specs.Option.{IfSome}
 use Rattle.clk_units.specs.Events.{IsFirst}
-use Rattle.pit_counter.specs.Joins.{joined_first}
+use Rattle.pit_counter.specs.private.Stretch.{joined_first}
 use Rattle.pit_counter.specs.Table.{pulsed_times, rises_next, rises_in}
 use Rattle.pit_counter.specs.Parts.{IsCounter}
 use Rattle.pit_counter.specs.declared.parts.CounterParts.{CounterParts}

@@ -1,19 +1,78 @@
 -- Every call keeps the conditions on a counter's fields.
-use Rattle.std.proofs.Common.{◌≡◌, ℕ, ◌+◌, ◌-◌, ◌*◌, ◌%◌, ◌<◌, ◌≤◌, Bool, true, false, not, ◌&&◌, ◌||◌, cond, ltb, eqb, refl, ap, arith}
+use Rattle.std.proofs.Common.{
+  ◌≡◌,
+  ℕ,
+  ◌+◌,
+  ◌-◌,
+  ◌*◌,
+  ◌%◌,
+  ◌<◌,
+  ◌≤◌,
+  Bool,
+  true,
+  false,
+  not,
+  ◌&&◌,
+  ◌||◌,
+  cond,
+  ltb,
+  eqb,
+  refl,
+  ap,
+  arith,
+}
 use Rattle.std.proofs.lemmas.Bool.{and_from, eqb-true, eqb-false, cond_both, le-leb, lt-ltb}
 use Rattle.std.proofs.lemmas.Bool.Decides.{nat_tests}
 use Rattle.pit_counter.specs.Mode.{mode_of, access_of, is_square, takes_two, is_bcd}
 use Rattle.pit_counter.specs.Count.{modulus, meant_count, loaded_count, lowered, is_odd_square}
-use Rattle.pit_counter.specs.Programming.{programmed, completed, begun, byte_written_by, byte_written, gated}
+use Rattle.pit_counter.specs.Programming.{
+  programmed,
+  completed,
+  begun,
+  byte_written_by,
+  byte_written,
+  gated,
+}
 use Rattle.pit_counter.specs.Table.{effect_in, affected, pulsed}
-use Rattle.pit_counter.specs.Reading.{with_count_latched, with_status_latched, status_released, count_released, after_read, reads_last}
-use Rattle.pit_counter.specs.Parts.{IsCounter, bits_valid, flags_valid, cr_valid, ce_valid, part_valid, read_order_valid, latched_count_valid, latched_status_valid}
+use Rattle.pit_counter.specs.Reading.{
+  with_count_latched,
+  with_status_latched,
+  status_released,
+  count_released,
+  after_read,
+  reads_last,
+}
+use Rattle.pit_counter.specs.Parts.{
+  IsCounter,
+  bits_valid,
+  flags_valid,
+  cr_valid,
+  ce_valid,
+  part_valid,
+  read_order_valid,
+  latched_count_valid,
+  latched_status_valid,
+}
 use Rattle.pit_counter.specs.declared.mode.Mode.{Mode}
-use Rattle.pit_counter.specs.declared.mode.Mode.TheVariants.{TerminalCount, OneShot, RateGenerator, SquareWave, SoftwareStrobe, HardwareStrobe}
+use Rattle.pit_counter.specs.declared.mode.Mode.TheVariants.{
+  TerminalCount,
+  OneShot,
+  RateGenerator,
+  SquareWave,
+  SoftwareStrobe,
+  HardwareStrobe,
+}
 use Rattle.pit_counter.specs.declared.mode.Access.{Access}
 use Rattle.pit_counter.specs.declared.mode.Access.TheVariants.{LowByte, HighByte, LowThenHigh}
 use Rattle.pit_counter.specs.declared.table.Effect.{Effect}
-use Rattle.pit_counter.specs.declared.table.Effect.TheVariants.{Load, DownToHigh, DownToLow, DownByTwo, DownToStrobe, Stand}
+use Rattle.pit_counter.specs.declared.table.Effect.TheVariants.{
+  Load,
+  DownToHigh,
+  DownToLow,
+  DownByTwo,
+  DownToStrobe,
+  Stand,
+}
 use Rattle.pit_counter.specs.declared.parts.CounterParts.{CounterParts}
 
 -- the conditions that a pulse can break

@@ -1,14 +1,62 @@
 -- Quiet pulses are pulses.
-use Rattle.std.proofs.Common.{◌≡◌, ℕ, zero, suc, ◌+◌, ◌-◌, ◌*◌, ◌/◌, ◌%◌, ◌<◌, ◌≤◌, Bool, true, false, not, ◌&&◌, ◌||◌, cond, eqb, refl, sym, ap, ◌∙◌, arith}
+use Rattle.std.proofs.Common.{
+  ◌≡◌,
+  ℕ,
+  zero,
+  suc,
+  ◌+◌,
+  ◌-◌,
+  ◌*◌,
+  ◌/◌,
+  ◌%◌,
+  ◌<◌,
+  ◌≤◌,
+  Bool,
+  true,
+  false,
+  not,
+  ◌&&◌,
+  ◌||◌,
+  cond,
+  eqb,
+  refl,
+  sym,
+  ap,
+  ◌∙◌,
+  arith,
+}
 use Rattle.std.proofs.lemmas.Bool.{cond_both, eqb-true, eqb-false, ne_eqb}
 use Rattle.pit_counter.specs.Mode.{mode_of, is_bcd}
+use Rattle.pit_counter.specs.Programming.{programmed, counter_at_power_on}
 use Rattle.pit_counter.specs.Count.{modulus, lowered}
 use Rattle.pit_counter.specs.Table.{effect_in, affected, pulsed, pulsed_times, rises_next, rises_in}
-use Rattle.pit_counter.specs.Glide.{step_of, forever, height, quiet_for, glided_count, glided}
+use Rattle.pit_counter.specs.private.Stretch.{
+  step_of,
+  is_still,
+  forever,
+  height,
+  quiet_for,
+  glided_count,
+  glided,
+}
 use Rattle.pit_counter.specs.declared.mode.Mode.{Mode}
-use Rattle.pit_counter.specs.declared.mode.Mode.TheVariants.{TerminalCount, OneShot, RateGenerator, SquareWave, SoftwareStrobe, HardwareStrobe}
+use Rattle.pit_counter.specs.declared.mode.Mode.TheVariants.{
+  TerminalCount,
+  OneShot,
+  RateGenerator,
+  SquareWave,
+  SoftwareStrobe,
+  HardwareStrobe,
+}
 use Rattle.pit_counter.specs.declared.table.Effect.{Effect}
-use Rattle.pit_counter.specs.declared.table.Effect.TheVariants.{Load, DownToHigh, DownToLow, DownByTwo, DownToStrobe, Stand}
+use Rattle.pit_counter.specs.declared.table.Effect.TheVariants.{
+  Load,
+  DownToHigh,
+  DownToLow,
+  DownByTwo,
+  DownToStrobe,
+  Stand,
+}
 use Rattle.pit_counter.specs.declared.parts.CounterParts.{CounterParts}
 
 -- ---- counts
@@ -52,7 +100,7 @@ strobe_stays true true k height z h f = (ap not (ne_eqb z 0 (f h)), ap not (ne_e
 strobe_stays true false k height z h f = (refl, refl)
 strobe_stays false armed k height z h f = absurd (omega arith)
 
-level_stays : (level out : Bool) (k : ℕ) → k < cond level (cond out forever 0) (cond out 0 forever) → level ≡ out
+level_stays : (level out : Bool) (k : ℕ) → k < cond (cond level out (not out)) forever 0 → level ≡ out
 level_stays true true k h = refl
 level_stays true false k h = absurd (omega arith)
 level_stays false true k h = absurd (omega arith)
@@ -185,3 +233,40 @@ rises_in-glided c (suc n) below h =
     let still : (not (pulsed_times n c).out && (pulsed (pulsed_times n c)).out) ≡ false =
     ap (λ (b : Bool). not b && (pulsed (pulsed_times n c)).out) before ∙ ap (λ (b : Bool). not c.out && b) after ∙ never_both c.out in
     ap (λ (b : Bool). cond b (suc (rises_in c n)) (rises_in c n)) still ∙ rises_in-glided c n below (omega arith)
+
+-- ---- a counter that doesn't count
+
+affected-still : (e : Effect) (c : CounterParts) → is_still e c.out ≡ true → affected e c ≡ c
+affected-still (Load level) c h = cc
+affected-still DownToHigh c h = cc
+affected-still DownToLow c h = cc
+affected-still DownByTwo c h = cc
+affected-still DownToStrobe c h = cc
+affected-still (Stand true) c h = ap (λ (b : Bool). record c { out = b }) (sym h)
+affected-still (Stand false) c h = ap (λ (b : Bool). record c { out = b }) (is_low c.out h)
+  where
+    is_low : (b : Bool) → not b ≡ true → false ≡ b
+    is_low true h = h
+    is_low false h = refl
+
+-- it stays as it is ..
+pub pulsed_times-still : (c : CounterParts) (n : ℕ) → is_still (next_effect c) c.out ≡ true → pulsed_times n c ≡ c
+unfolding pulsed_times pulsed
+pulsed_times-still c zero h = refl
+pulsed_times-still c (suc n) h = ap pulsed (pulsed_times-still c n h) ∙ affected-still (next_effect c) c h
+
+-- .. and OUT doesn't rise
+pub rises_in-still : (c : CounterParts) (n : ℕ) → is_still (next_effect c) c.out ≡ true → rises_in c n ≡ 0
+unfolding rises_in rises_next pulsed
+rises_in-still c zero h = refl
+rises_in-still c (suc n) h =
+    let same : pulsed_times n c ≡ c = pulsed_times-still c n h in
+    let after : (pulsed c).out ≡ c.out = ap (λ (d : CounterParts). d.out) (affected-still (next_effect c) c h) in
+    let still : (not (pulsed_times n c).out && (pulsed (pulsed_times n c)).out) ≡ false =
+    ap (λ (d : CounterParts). not d.out && (pulsed d).out) same ∙ ap (λ (b : Bool). not c.out && b) after ∙ never_both c.out in
+    ap (λ (b : Bool). cond b (suc (rises_in c n)) (rises_in c n)) still ∙ rises_in-still c n h
+
+-- a counter at power on stays as it is
+pub pulsed_times-counter_at_power_on : (gate : Bool) (n : ℕ) → pulsed_times n (counter_at_power_on gate) ≡ counter_at_power_on gate
+unfolding effect_in mode_of programmed
+pulsed_times-counter_at_power_on gate n = pulsed_times-still (counter_at_power_on gate) n refl

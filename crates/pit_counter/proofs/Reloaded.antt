@@ -1,19 +1,73 @@
 -- Whole periods of modes 2 and 3.
-use Rattle.std.proofs.Common.{◌≡◌, ℕ, zero, suc, ◌+◌, ◌-◌, ◌*◌, ◌/◌, ◌%◌, ◌<◌, ◌≤◌, Bool, true, false, not, ◌&&◌, ◌||◌, cond, eqb, Some, refl, sym, ap, ◌∙◌, arith, subst, lit≤}
+use Rattle.std.proofs.Common.{
+  ◌≡◌,
+  ℕ,
+  zero,
+  suc,
+  ◌+◌,
+  ◌-◌,
+  ◌*◌,
+  ◌/◌,
+  ◌%◌,
+  ◌<◌,
+  ◌≤◌,
+  Bool,
+  true,
+  false,
+  not,
+  ◌&&◌,
+  ◌||◌,
+  cond,
+  eqb,
+  Some,
+  refl,
+  sym,
+  ap,
+  ◌∙◌,
+  arith,
+  subst,
+  lit≤,
+}
 use Rattle.std.proofs.lemmas.Bool.{and_parts, cond_both, eqb-true, eqb-false, ne_eqb, eq-eqb}
 use Rattle.clk_units.specs.Events.{IsFirst}
 use Rattle.pit_counter.specs.Mode.{mode_of, is_bcd, is_periodic, is_square, has_strobe}
-use Rattle.pit_counter.specs.Count.{modulus, number_in, meant_count, loaded_count, is_odd_square, lowered}
+use Rattle.pit_counter.specs.Count.{
+  modulus,
+  number_in,
+  meant_count,
+  loaded_count,
+  is_odd_square,
+  lowered,
+}
 use Rattle.pit_counter.specs.Table.{effect_in, affected, pulsed, pulsed_times, rises_next, rises_in}
-use Rattle.pit_counter.specs.Glide.{quiet_for, height, glided_count, glided}
-use Rattle.pit_counter.specs.Period.{is_reloaded}
+use Rattle.pit_counter.specs.private.Stretch.{quiet_for, height, glided_count, glided}
+use Rattle.pit_counter.specs.private.Stretch.{is_reloaded}
 use Rattle.pit_counter.specs.declared.mode.Mode.{Mode}
-use Rattle.pit_counter.specs.declared.mode.Mode.TheVariants.{TerminalCount, OneShot, RateGenerator, SquareWave, SoftwareStrobe, HardwareStrobe}
+use Rattle.pit_counter.specs.declared.mode.Mode.TheVariants.{
+  TerminalCount,
+  OneShot,
+  RateGenerator,
+  SquareWave,
+  SoftwareStrobe,
+  HardwareStrobe,
+}
 use Rattle.pit_counter.specs.declared.table.Effect.{Effect}
 use Rattle.pit_counter.specs.declared.table.Effect.TheVariants.{Load, DownToLow, DownByTwo}
 use Rattle.pit_counter.specs.declared.parts.CounterParts.{CounterParts}
-use Rattle.pit_counter.proofs.Quiet.{next_effect, rate_effect, square_effect, glided_count-height, pulsed_times-glided, rises_in-glided}
-use Rattle.pit_counter.proofs.Times.{pulsed_times-zero, pulsed_times-suc, rises_in-zero, rises_in-suc}
+use Rattle.pit_counter.proofs.Quiet.{
+  next_effect,
+  rate_effect,
+  square_effect,
+  glided_count-height,
+  pulsed_times-glided,
+  rises_in-glided,
+}
+use Rattle.pit_counter.proofs.Times.{
+  pulsed_times-zero,
+  pulsed_times-suc,
+  rises_in-zero,
+  rises_in-suc,
+}
 use Rattle.pit_counter.proofs.Joins.{pulsed_times-joined, rises_in-joined}
 
 -- what the test says

@@ -1,9 +1,27 @@
 -- Small rows that pin the definitions, worked out by hand from the timing diagrams.
 use Rattle.std.proofs.Common.{◌≡◌, ℕ, true, false, refl}
 use Rattle.pit_counter.specs.Mode.{mode_of, access_of, is_bcd}
-use Rattle.pit_counter.specs.Count.{modulus, from_digits, to_digits, number_in, meant_count, is_odd_square, loaded_count, lowered, read_as}
+use Rattle.pit_counter.specs.Count.{
+  modulus,
+  from_digits,
+  to_digits,
+  number_in,
+  meant_count,
+  is_odd_square,
+  loaded_count,
+  lowered,
+  read_as,
+}
 use Rattle.pit_counter.specs.Table.{effect_in, pulsed, pulsed_times, rises_next, rises_in}
-use Rattle.pit_counter.specs.Programming.{programmed, controlled, counter_at_power_on, completed, byte_written_by, byte_written, gated}
+use Rattle.pit_counter.specs.Programming.{
+  programmed,
+  controlled,
+  counter_at_power_on,
+  completed,
+  byte_written_by,
+  byte_written,
+  gated,
+}
 use Rattle.pit_counter.specs.Reading.{count_of}
 use Rattle.pit_counter.specs.declared.parts.CounterParts.{CounterParts}
 

@@ -1,4 +1,4 @@
--- Counts in binary and in BCD.
+-- Counts in binary and in BCD. Intel 8254 data sheet, "Programming the 8254".
 use Rattle.std.specs.Prelude.{ℕ, ◌+◌, ◌-◌, ◌*◌, ◌/◌, ◌%◌, ◌==◌, ◌&&◌, Bool, if◌then◌else◌}
 use Rattle.pit_counter.specs.Mode.{mode_of, is_bcd, is_periodic, is_square}
 
@@ -6,7 +6,7 @@ use Rattle.pit_counter.specs.Mode.{mode_of, is_bcd, is_periodic, is_square}
 unfoldable pub modulus : ℕ → ℕ
 modulus bits = if is_bcd bits then 10000 else 65536
 
--- four decimal digits as a number; a digit above 9 counts as its value (this project's own choice)
+-- four decimal digits as a number; a digit above 9 counts as its value (own)
 unfoldable pub from_digits : ℕ → ℕ
 from_digits word = word / 4096 * 1000 + word / 256 % 16 * 100 + word / 16 % 16 * 10 + word % 16
 
@@ -18,8 +18,8 @@ to_digits n = n / 1000 * 4096 + n / 100 % 10 * 256 + n / 10 % 10 * 16 + n % 10
 unfoldable pub number_in : ℕ → ℕ → ℕ
 number_in bits cr = if is_bcd bits then from_digits cr % 10000 else cr
 
--- the count that a count register means: 0 means the greatest count, 65,536 or 10,000 ("Programming the 8254":
--- a count of 0 is 2^16 or 10^4), and in modes 2 and 3 a count of 1, which the sheet forbids, acts as 2 (this project's own choice)
+-- the count that a count register means: 0 means the greatest count, 2^16 or 10^4, and in modes 2
+-- and 3 a count of 1, which the sheet forbids, acts as 2 (own)
 unfoldable pub meant_count : ℕ → ℕ → ℕ
 meant_count bits cr =
     let n = number_in bits cr in
@@ -31,9 +31,11 @@ meant_count bits cr =
 unfoldable pub is_odd_square : ℕ → ℕ → Bool
 is_odd_square bits cr = is_square (mode_of bits) && meant_count bits cr % 2 == 1
 
--- what a load puts into the counting element: the count, and in mode 3 an odd count less 1; the greatest count is 0 there
+-- what a load puts into the counting element: the count, in mode 3 an odd one less 1; the greatest
+-- count is 0 there
 unfoldable pub loaded_count : ℕ → ℕ → ℕ
-loaded_count bits cr = (meant_count bits cr - (if is_odd_square bits cr then 1 else 0)) % modulus bits
+loaded_count bits cr =
+    (meant_count bits cr - (if is_odd_square bits cr then 1 else 0)) % modulus bits
 
 -- the count lower by `by`, going round below 0
 unfoldable pub lowered : ℕ → ℕ → ℕ → ℕ

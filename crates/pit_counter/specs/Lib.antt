@@ -4,6 +4,4 @@ pub mod Table
 pub mod Programming
 pub mod Reading
 pub mod Parts
-pub mod Glide
-pub mod Joins
-pub mod Period
+pub mod private

@@ -1,7 +1,15 @@
 -- What the six programmed bits of a control word say. Intel 8254 data sheet, "Control Word Format".
 use Rattle.std.specs.Prelude.{ℕ, ◌/◌, ◌%◌, ◌==◌, Bool, true, false, if◌then◌else◌}
+use Rattle.clk_units.specs.Bits.{bit}
 use Rattle.pit_counter.specs.declared.mode.Mode.{Mode}
-use Rattle.pit_counter.specs.declared.mode.Mode.TheVariants.{TerminalCount, OneShot, RateGenerator, SquareWave, SoftwareStrobe, HardwareStrobe}
+use Rattle.pit_counter.specs.declared.mode.Mode.TheVariants.{
+  TerminalCount,
+  OneShot,
+  RateGenerator,
+  SquareWave,
+  SoftwareStrobe,
+  HardwareStrobe,
+}
 use Rattle.pit_counter.specs.declared.mode.Access.{Access}
 use Rattle.pit_counter.specs.declared.mode.Access.TheVariants.{LowByte, HighByte, LowThenHigh}
 
@@ -16,7 +24,7 @@ mode_of bits =
     else if m == 4 then SoftwareStrobe
     else HardwareStrobe
 
--- RW1 RW0 are D5 and D4: 01 the low byte alone, 10 the high byte alone, 11 the low byte and then the high one
+-- RW1 RW0 are D5 and D4: 01 the low byte alone, 10 the high byte alone, 11 both, the low one first
 unfoldable pub access_of : ℕ → Access
 access_of bits =
     let rw = bits / 16 % 4 in
@@ -26,7 +34,7 @@ access_of bits =
 
 -- D0 is 1 for BCD
 unfoldable pub is_bcd : ℕ → Bool
-is_bcd bits = bits % 2 == 1
+is_bcd bits = bit 0 bits
 
 -- mode 0, in which writing a count sets OUT low
 abbrev pub is_terminal : Mode → Bool

@@ -1,9 +1,52 @@
--- What is true of the fields of every counter, test by test in the order of the fields in a saved state.
-use Rattle.std.specs.Prelude.{◌%◌, ◌==◌, nat_lt, nat_le, ◌&&◌, ◌||◌, not, Bool, true, IsTrue}
-use Rattle.pit_counter.specs.Mode.{mode_of, access_of, is_terminal, is_rate, is_square, has_trigger, has_strobe, takes_two}
+-- The conditions on the fields of a counter, in the order of a saved state's fields. A condition on
+-- several fields is one on the first of them at which it is certain that it fails (own).
+use Rattle.std.specs.Prelude.{
+  ◌%◌,
+  ◌==◌,
+  nat_lt,
+  nat_le,
+  ◌&&◌,
+  ◌||◌,
+  not,
+  Bool,
+  true,
+  IsTrue,
+  Option,
+  Some,
+  None,
+  if◌then◌else◌,
+}
+use Rattle.pit_counter.specs.Mode.{
+  mode_of,
+  access_of,
+  is_terminal,
+  is_rate,
+  is_square,
+  has_trigger,
+  has_strobe,
+  takes_two,
+}
 use Rattle.pit_counter.specs.Count.{modulus}
 use Rattle.pit_counter.specs.declared.mode.Mode.{Mode}
-use Rattle.pit_counter.specs.declared.mode.Mode.TheVariants.{TerminalCount, OneShot, RateGenerator, SquareWave, SoftwareStrobe, HardwareStrobe}
+use Rattle.pit_counter.specs.declared.mode.Mode.TheVariants.{
+  TerminalCount,
+  OneShot,
+  RateGenerator,
+  SquareWave,
+  SoftwareStrobe,
+  HardwareStrobe,
+}
+use Rattle.pit_counter.specs.declared.parts.CounterField.{CounterField}
+use Rattle.pit_counter.specs.declared.parts.CounterField.TheVariants.{
+  ProgrammedBits,
+  Flags,
+  CountRegister,
+  CountingElement,
+  FirstByte,
+  ReadOrder,
+  LatchedCount,
+  LatchedStatus,
+}
 use Rattle.pit_counter.specs.declared.parts.CounterParts.{CounterParts}
 
 -- a is true only where b is
@@ -34,19 +77,22 @@ mode_flags_valid m c =
     && only_where c.trig (has_trigger m && c.full)
     && only_where c.odd (is_square m && c.live)
 
--- OUT is low only where its mode lets it be, and in mode 0 it is low while a count waits for its load
+-- OUT is low only where its mode lets it be, and in mode 0 while a count waits for its load
 abbrev pub out_valid : Mode → CounterParts → Bool
-out_valid m c = (c.out || may_be_low m c.live c.gate c.armed) && only_where (is_terminal m && c.null) (not c.out)
+out_valid m c =
+    (c.out || may_be_low m c.live c.gate c.armed) && only_where (is_terminal m && c.null) (not c.out)
 
 -- the flags
 unfoldable pub flags_valid : CounterParts → Bool
-flags_valid c = count_flags_valid c && mode_flags_valid (mode_of c.bits) c && out_valid (mode_of c.bits) c
+flags_valid c =
+    count_flags_valid c && mode_flags_valid (mode_of c.bits) c && out_valid (mode_of c.bits) c
 
 -- the count register is 0 where no count was written
 unfoldable pub cr_valid : CounterParts → Bool
 cr_valid c = c.full || c.cr == 0
 
--- the counting element is in its range, 0 before the first load, even in mode 3, and 1 where OUT is low in mode 2
+-- the counting element is in its range, 0 before the first load, even in mode 3, and 1 where OUT is
+-- low in mode 2
 unfoldable pub ce_valid : CounterParts → Bool
 ce_valid c =
     nat_lt c.ce (modulus c.bits)
@@ -54,7 +100,7 @@ ce_valid c =
     && only_where (is_square (mode_of c.bits)) (c.ce % 2 == 0)
     && only_where (is_rate (mode_of c.bits) && not c.out) (c.ce == 1)
 
--- a first byte waits only where two are taken, and in mode 0 with OUT low; without one the byte is 0
+-- a first byte waits only where two are taken, in mode 0 with OUT low; without one the byte is 0
 unfoldable pub part_valid : CounterParts → Bool
 part_valid c =
     only_where c.part_there (takes_two (access_of c.bits))
@@ -83,3 +129,21 @@ pub record IsCounter (c : CounterParts) : Type 0 where
   pub read_order : IsTrue (read_order_valid c)
   pub latched_count : IsTrue (latched_count_valid c)
   pub latched_status : IsTrue (latched_status_valid c)
+
+-- the first field behind the counting element whose condition fails
+abbrev pub fault_behind_count : CounterParts → Option CounterField
+fault_behind_count c =
+    if not (part_valid c) then Some FirstByte
+    else if not (read_order_valid c) then Some ReadOrder
+    else if not (latched_count_valid c) then Some LatchedCount
+    else if not (latched_status_valid c) then Some LatchedStatus
+    else None
+
+-- the first field, in the order of a saved state, whose condition fails
+abbrev pub first_fault : CounterParts → Option CounterField
+first_fault c =
+    if not (bits_valid c) then Some ProgrammedBits
+    else if not (flags_valid c) then Some Flags
+    else if not (cr_valid c) then Some CountRegister
+    else if not (ce_valid c) then Some CountingElement
+    else fault_behind_count c

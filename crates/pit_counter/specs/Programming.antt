@@ -1,12 +1,13 @@
--- What control words, counts and GATE do to a counter. Intel 8254 data sheet, "Programming the 8254" and "Gate".
+-- What control words, counts and GATE do to a counter. Intel 8254 data sheet, "Programming the
+-- 8254" and "Gate".
 use Rattle.std.specs.Prelude.{ℕ, ◌+◌, ◌*◌, ◌&&◌, ◌||◌, not, Bool, true, false, if◌then◌else◌}
 use Rattle.pit_counter.specs.Mode.{mode_of, access_of, is_terminal, is_periodic, has_trigger}
 use Rattle.pit_counter.specs.declared.mode.Access.{Access}
 use Rattle.pit_counter.specs.declared.mode.Access.TheVariants.{LowByte, HighByte, LowThenHigh}
 use Rattle.pit_counter.specs.declared.parts.CounterParts.{CounterParts}
 
--- a counter just programmed: OUT is low in mode 0 and high in the others; there is no count, and nothing is latched;
--- the count reads 0 until the first load (this project's own choice)
+-- a counter just programmed: OUT is low in mode 0 and high in the others, there is no count, and
+-- nothing is latched; the count reads 0 until the first load (own)
 unfoldable pub programmed : ℕ → Bool → CounterParts
 programmed bits gate = record {
   bits = bits;
@@ -29,7 +30,7 @@ programmed bits gate = record {
   latched_status = 0;
 }
 
--- power on: as programmed with 36h, which is both bytes, mode 3, binary (this project's own choice)
+-- power on: as programmed with 36h, which is both bytes, mode 3, binary (own)
 abbrev pub counter_at_power_on : Bool → CounterParts
 counter_at_power_on gate = programmed 0x36 gate
 
@@ -68,7 +69,8 @@ byte_written_by LowThenHigh byte c =
 abbrev pub byte_written : ℕ → CounterParts → CounterParts
 byte_written byte c = byte_written_by (access_of c.bits) byte c
 
--- GATE takes a level: a fall sets OUT high at once in modes 2 and 3, a rise is a trigger in modes 1, 2, 3 and 5 where a count was written
+-- GATE takes a level: a fall sets OUT high at once in modes 2 and 3, a rise is a trigger in modes
+-- 1, 2, 3 and 5 where a count was written (own)
 unfoldable pub gated : Bool → CounterParts → CounterParts
 gated level c = record c {
   gate = level;

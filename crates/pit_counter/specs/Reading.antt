@@ -1,6 +1,7 @@
--- Latches, and the order in which a counter's bytes are read. Intel 8254 data sheet, "Read Operations",
--- "Counter Latch Command" and "Read-Back Command".
+-- Latches, and the order in which a counter's bytes are read. Intel 8254 data sheet, "Read
+-- Operations", "Counter Latch Command" and "Read-Back Command".
 use Rattle.std.specs.Prelude.{ℕ, ◌+◌, ◌/◌, ◌%◌, ◌&&◌, not, Bool, true, false, if◌then◌else◌}
+use Rattle.clk_units.specs.Bits.{bit_value}
 use Rattle.pit_counter.specs.Mode.{access_of, takes_two}
 use Rattle.pit_counter.specs.Count.{read_as}
 use Rattle.pit_counter.specs.declared.mode.Access.{Access}
@@ -13,7 +14,7 @@ count_of c = read_as c.bits c.ce
 
 -- the status byte: D7 OUT, D6 null count, D5 to D0 the programmed bits
 unfoldable pub status_of : CounterParts → ℕ
-status_of c = (if c.out then 128 else 0) + (if c.null then 64 else 0) + c.bits
+status_of c = bit_value c.out 7 + bit_value c.null 6 + c.bits
 
 -- the count that a read is of: the latched one, or the present one
 unfoldable pub shown_count : CounterParts → ℕ

@@ -1,34 +1,51 @@
--- The mode table: what one CLK pulse does. Intel 8254 data sheet, "Mode Definitions". What an edge or a level
--- of GATE does, and what the count reads between two loads of an odd count in mode 3, is this project's own choice.
+-- The mode table: what one CLK pulse does. Intel 8254 data sheet, "Mode Definitions". What GATE does
+-- by its level, and what the count reads between two loads of an odd count in mode 3, are (own).
 use Rattle.std.specs.Prelude.{ℕ, zero, suc, ◌==◌, ◌&&◌, ◌||◌, not, Bool, true, false, if◌then◌else◌}
 use Rattle.pit_counter.specs.Mode.{mode_of, has_strobe}
 use Rattle.pit_counter.specs.Count.{loaded_count, is_odd_square, lowered}
 use Rattle.pit_counter.specs.declared.mode.Mode.{Mode}
-use Rattle.pit_counter.specs.declared.mode.Mode.TheVariants.{TerminalCount, OneShot, RateGenerator, SquareWave, SoftwareStrobe, HardwareStrobe}
+use Rattle.pit_counter.specs.declared.mode.Mode.TheVariants.{
+  TerminalCount,
+  OneShot,
+  RateGenerator,
+  SquareWave,
+  SoftwareStrobe,
+  HardwareStrobe,
+}
 use Rattle.pit_counter.specs.declared.table.Effect.{Effect}
-use Rattle.pit_counter.specs.declared.table.Effect.TheVariants.{Load, DownToHigh, DownToLow, DownByTwo, DownToStrobe, Stand}
+use Rattle.pit_counter.specs.declared.table.Effect.TheVariants.{
+  Load,
+  DownToHigh,
+  DownToLow,
+  DownByTwo,
+  DownToStrobe,
+  Stand,
+}
 use Rattle.pit_counter.specs.declared.parts.CounterParts.{CounterParts}
 
 -- The effect of a pulse in each mode: that of the first row that applies.
 unfoldable pub effect_in : Mode → CounterParts → Effect
--- mode 0, interrupt on terminal count: a load doesn't count; GATE low or a half-written count stops the count; OUT goes high at 0
+-- mode 0, interrupt on terminal count: a load doesn't count; GATE low (own) or a half-written count
+-- stops the count; OUT goes high at 0
 effect_in TerminalCount c =
     if c.null && c.full then Load c.out
     else if c.live && c.gate && not c.part_there then DownToHigh
     else Stand c.out
--- mode 1, hardware retriggerable one-shot: a trigger loads and sets OUT low; OUT goes high at 0
+-- mode 1, hardware retriggerable one-shot: a trigger (own) loads and sets OUT low; OUT goes high at 0
 effect_in OneShot c =
     if c.trig then Load false
     else if c.live then DownToHigh
     else Stand c.out
--- mode 2, rate generator: the first count or a trigger loads; at 1 OUT is low for one pulse, then the count is loaded again
+-- mode 2, rate generator: the first count or a trigger (own) loads; at 1 OUT is low for one pulse,
+-- then the count is loaded again; GATE low stops the count (own)
 effect_in RateGenerator c =
     if (c.full && not c.live) || c.trig then Load true
     else if c.live && c.gate && c.ce == 1 then Load true
     else if c.live && c.gate then DownToLow
     else Stand c.out
--- mode 3, square wave: the first count or a trigger loads; down by two; OUT toggles and the count is loaded again at the end
--- of each half; the high half of an odd count is one pulse longer
+-- mode 3, square wave: the first count or a trigger (own) loads; down by two; OUT toggles and the
+-- count is loaded again at the end of each half; the high half of an odd count is one pulse longer;
+-- GATE low stops the count (own)
 effect_in SquareWave c =
     if (c.full && not c.live) || c.trig then Load true
     else if c.live && c.gate && c.out && c.odd && c.ce == 0 then Load false
@@ -36,12 +53,14 @@ effect_in SquareWave c =
     else if c.live && c.gate && c.ce == 2 then Load (not c.out)
     else if c.live && c.gate then DownByTwo
     else Stand c.out
--- mode 4, software triggered strobe: a written count loads; at 0 OUT is low for one pulse, once a load (own); GATE low stops the count
+-- mode 4, software triggered strobe: a written count loads; at 0 OUT is low for one pulse, once a
+-- load (own); GATE low stops the count (own)
 effect_in SoftwareStrobe c =
     if c.null && c.full then Load true
     else if c.live && c.gate then DownToStrobe
     else Stand true
--- mode 5, hardware triggered strobe: a trigger loads; at 0 OUT is low for one pulse, once a load (own)
+-- mode 5, hardware triggered strobe: a trigger (own) loads; at 0 OUT is low for one pulse, once a
+-- load (own)
 effect_in HardwareStrobe c =
     if c.trig then Load true
     else if c.live then DownToStrobe
@@ -49,7 +68,8 @@ effect_in HardwareStrobe c =
 
 -- What each effect does to the counter.
 abbrev pub affected : Effect → CounterParts → CounterParts
--- the count is loaded and OUT takes this level; null count and a waiting trigger are cleared, a strobe is due in modes 4 and 5
+-- the count is loaded and OUT takes this level; null count and a waiting trigger are cleared, a
+-- strobe is due in modes 4 and 5
 affected (Load level) c = record c {
   ce = loaded_count c.bits c.cr;
   out = level;

@@ -1,7 +1,17 @@
-//! Counts in binary and in BCD.
+//! Counts in binary and in BCD. Intel 8254 data sheet, "Programming the 8254".
 
 ghost use Rattle.std.specs.Prelude.{◌≡◌, ◌<◌, ◌≤◌};
-ghost use Rattle.pit_counter.specs.Count.{modulus, from_digits, to_digits, number_in, meant_count, is_odd_square, loaded_count, lowered, read_as};
+ghost use Rattle.pit_counter.specs.Count.{
+  modulus,
+  from_digits,
+  to_digits,
+  number_in,
+  meant_count,
+  is_odd_square,
+  loaded_count,
+  lowered,
+  read_as,
+};
 
 use crate::mode::{is_bcd, mode_of};
 
@@ -15,7 +25,7 @@ pub fn modulus(bits: u8) -> u32
     if is_bcd(bits) { 10_000 } else { 65_536 }
 }
 
-/// Four decimal digits as a number; a digit above 9 counts as its value (this project's own choice).
+/// Four decimal digits as a number; a digit above 9 counts as its value (own).
 #[tactic(auto, unfolding(crate::specs::Count::from_digits))]
 fn from_digits(word: u16) -> u16
     ensures value { result ≡ from_digits word }
@@ -45,8 +55,8 @@ fn number_in(bits: u8, cr: u16) -> u16
     }
 }
 
-/// The count that a count register means: 0 means the greatest count, and in modes 2 and 3 a count of 1,
-/// which the data sheet forbids, acts as 2 (this project's own choice).
+/// The count that a count register means: 0 means the greatest count, and in modes 2 and 3 a count
+/// of 1, which the data sheet forbids, acts as 2 (own).
 #[tactic(auto, unfolding(crate::specs::Count::meant_count, crate::specs::Count::modulus))]
 pub fn meant_count(bits: u8, cr: u16) -> u32
     ensures value { result ≡ meant_count bits cr }
@@ -72,7 +82,7 @@ pub fn is_odd_square(bits: u8, cr: u16) -> bool
     mode_of(bits).is_square() && meant_count(bits, cr) % 2 == 1
 }
 
-/// What a load puts into the counting element: the count, and in mode 3 an odd count less 1; the greatest
+/// What a load puts into the counting element: the count, in mode 3 an odd one less 1; the greatest
 /// count is 0 there.
 #[tactic(auto, unfolding(crate::specs::Count::loaded_count))]
 pub fn loaded_count(bits: u8, cr: u16) -> u16

@@ -2,19 +2,31 @@
 
 ghost use Rattle.std.specs.Prelude.{◌≡◌, ◌↔◌, ◌≤◌, ◌<◌, IsSome, IfSome, IsTrue};
 ghost use Rattle.clk_units.specs.Events.{IsFirst};
-ghost use Rattle.pit_counter.specs.Programming.{counter_at_power_on, controlled, byte_written, gated};
+ghost use Rattle.pit_counter.specs.Programming.{
+  counter_at_power_on,
+  controlled,
+  byte_written,
+  gated,
+};
 ghost use Rattle.pit_counter.specs.Table.{has_risen, pulsed, pulsed_times, rises_next, rises_in};
-ghost use Rattle.pit_counter.specs.Reading.{count_of, with_count_latched, with_status_latched, byte_read, after_read};
+ghost use Rattle.pit_counter.specs.Reading.{
+  count_of,
+  with_count_latched,
+  with_status_latched,
+  byte_read,
+  after_read,
+};
 ghost use Rattle.pit_counter.specs.Parts.{IsCounter};
 
-use crate::leap::leaps;
-use crate::parts::{CounterParts, is_counter};
+use crate::parts::CounterParts;
 use crate::rises::Rises;
+use crate::stretch::take_pulses;
 use crate::{programming, reading, table};
 use std::marker::Model;
 
 /// One counter of an Intel 8254.
 #[derive(Clone, Copy, Debug, PartialEq, Eq)]
+#[repr(C)]
 pub struct Counter {
     parts: CounterParts,
 }
@@ -35,8 +47,7 @@ impl Model for Counter {
 
 #[tactic(auto, using(crate::proofs::Keeps::keeps))]
 impl Counter {
-    /// A counter at power on, with GATE at this level: programmed bits 36h, OUT high, no count (this project's
-    /// own choice).
+    /// A counter at power on, with GATE at this level: programmed bits 36h, OUT high, no count (own).
     pub fn power_on(gate: bool) -> Counter
         ensures { result ≡ counter_at_power_on gate }
     {
@@ -45,7 +56,7 @@ impl Counter {
         }
     }
 
-    /// All that the counter holds.
+    /// All fields, as a saved state keeps them.
     pub fn parts(&self) -> CounterParts
         ensures value { result ≡ self.now }
         ensures valid { IsCounter self.now }
@@ -53,20 +64,19 @@ impl Counter {
         self.parts
     }
 
-    /// The counter that holds this, if one can.
+    /// The device with these fields, or None exactly where a condition on them fails.
     pub fn of_parts(parts: CounterParts) -> Option<Counter>
         ensures valid { IsSome result ↔ IsCounter parts }
         ensures value { IfSome result (λ c. c ≡ parts) }
     {
-        if is_counter(&parts) {
-            Some(Counter { parts })
-        } else {
-            None
+        match parts.first_fault() {
+            None => Some(Counter { parts }),
+            Some(_) => None,
         }
     }
 
-    /// Writes a control word, of which `bits` is D5 to D0: the mode, the number system and the bytes of the
-    /// count. Answers whether OUT rose.
+    /// Writes a control word, of which `bits` is D5 to D0: the mode, the number system and the bytes
+    /// of the count. Answers whether OUT rose.
     pub fn control(&mut self, bits: u8) -> bool
         requires least { 16 ≤ bits }
         requires greatest { bits < 64 }
@@ -85,7 +95,7 @@ impl Counter {
         self.parts = programming::byte_written(byte, self.parts);
     }
 
-    /// Sets GATE to this level. Answers whether OUT rose.
+    /// Sets GATE to this level; what its edges do is (own). Answers whether OUT rose.
     pub fn gate(&mut self, level: bool) -> bool
         ensures state { self.new ≡ gated level self.old }
         ensures rose { result ≡ has_risen self.old (gated level self.old) }
@@ -102,9 +112,7 @@ impl Counter {
         ensures few { result.count ≤ n }
         ensures first { IsFirst (rises_in self.old) n result.first }
     {
-        let taken = leaps(self.parts, n);
-        self.parts = taken.parts;
-        taken.rises
+        take_pulses(&mut self.parts, n)
     }
 
     /// The count as it reads now: a 16-bit number, in BCD as four digits.
@@ -142,8 +150,8 @@ impl Counter {
         self.parts = reading::with_status_latched(self.parts);
     }
 
-    /// Reads a byte: a latched status first, then a latched count, else the present count, its bytes by the
-    /// programmed bits.
+    /// Reads a byte: a latched status first, then a latched count, else the present count, its bytes
+    /// by the programmed bits.
     pub fn read(&mut self) -> u8
         ensures state { self.new ≡ after_read self.old }
         ensures byte { result ≡ byte_read self.old }

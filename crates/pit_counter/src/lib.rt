@@ -1,8 +1,8 @@
-//! One counter of the Intel 8254 programmable interval timer: its six modes, binary and BCD counts, GATE,
-//! latches and the order in which its bytes are read.
+//! One counter of the Intel 8254 programmable interval timer: its six modes, binary and BCD counts,
+//! GATE, latches and the order in which its bytes are read.
 //!
-//! The standard is the Intel 8254 data sheet. A counter takes time as CLK pulses and says at which of them
-//! OUT rises. Counter 0 of a PC, programmed to divide by 4:
+//! The standard is the Intel 8254 data sheet; where it leaves a choice, ours is marked (own). A counter
+//! takes time as CLK pulses and says at which of them OUT rises. Counter 0 of a PC, dividing by 4:
 //!
 //! ```text
 //! let mut counter = Counter::power_on(true);
@@ -17,17 +17,16 @@
 
 mod count;
 mod counter;
-mod glide;
-mod leap;
 mod mode;
 mod parts;
 mod programming;
 mod reading;
 mod rises;
+mod stretch;
 mod table;
 
 pub use counter::Counter;
-pub use parts::CounterParts;
+pub use parts::{CounterField, CounterParts};
 pub use rises::Rises;
 
 #[cfg(test)]

@@ -1,8 +1,21 @@
-//! The programmed bits of a control word: D5 and D4 how the count is written and read, D3 to D1 the mode,
-//! D0 the number system. Intel 8254 data sheet, "Control Word Format".
+//! The programmed bits of a control word: D5 and D4 how the count is written and read, D3 to D1 the
+//! mode, D0 the number system. Intel 8254 data sheet, "Control Word Format".
 
 ghost use Rattle.std.specs.Prelude.{◌≡◌};
-ghost use Rattle.pit_counter.specs.Mode.{mode_of, access_of, is_bcd, is_terminal, is_rate, is_square, is_periodic, has_trigger, has_strobe, takes_two};
+ghost use Rattle.pit_counter.specs.Mode.{
+  mode_of,
+  access_of,
+  is_bcd,
+  is_terminal,
+  is_rate,
+  is_square,
+  is_periodic,
+  has_trigger,
+  has_strobe,
+  takes_two,
+};
+
+use clk_units::bit;
 
 /// The six modes of a counter.
 #[derive(Clone, Copy, Debug, PartialEq, Eq)]
@@ -64,7 +77,7 @@ pub fn access_of(bits: u8) -> Access
 pub fn is_bcd(bits: u8) -> bool
     ensures { result ≡ is_bcd bits }
 {
-    bits % 2 == 1
+    bit(0, bits as u64)
 }
 
 impl Mode {

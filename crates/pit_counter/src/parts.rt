@@ -1,13 +1,31 @@
 //! The record of all fields of a counter, and the conditions on them.
 
-ghost use Rattle.std.specs.Prelude.{◌≡◌, ◌↔◌, IsTrue};
-ghost use Rattle.pit_counter.specs.Parts.{IsCounter, only_where, may_be_low, count_flags_valid, mode_flags_valid, out_valid, bits_valid, flags_valid, cr_valid, ce_valid, part_valid, read_order_valid, latched_count_valid, latched_status_valid};
+ghost use Rattle.std.specs.Prelude.{◌≡◌, ◌↔◌, IsNone};
+ghost use Rattle.pit_counter.specs.Parts.{
+  IsCounter,
+  first_fault,
+  fault_behind_count,
+  only_where,
+  may_be_low,
+  count_flags_valid,
+  mode_flags_valid,
+  out_valid,
+  bits_valid,
+  flags_valid,
+  cr_valid,
+  ce_valid,
+  part_valid,
+  read_order_valid,
+  latched_count_valid,
+  latched_status_valid,
+};
 
 use crate::count::modulus;
 use crate::mode::{Mode, access_of, mode_of};
 
 /// All that a counter holds.
 #[derive(Clone, Copy, Debug, PartialEq, Eq)]
+#[repr(C)]
 pub struct CounterParts {
     /// D5 to D0 of the last control word.
     pub bits: u8,
@@ -47,18 +65,64 @@ pub struct CounterParts {
     pub latched_status: u8,
 }
 
-/// Whether these are the fields of some counter.
-pub fn is_counter(p: &CounterParts) -> bool
-    ensures { IsTrue result ↔ IsCounter p.now }
-{
-    bits_valid(p)
-        && flags_valid(p)
-        && cr_valid(p)
-        && ce_valid(p)
-        && part_valid(p)
-        && read_order_valid(p)
-        && latched_count_valid(p)
-        && latched_status_valid(p)
+/// The fields of a counter as a saved state keeps them, in its order.
+#[derive(Clone, Copy, Debug, PartialEq, Eq)]
+pub enum CounterField {
+    /// The programmed bits.
+    ProgrammedBits,
+    /// The flags: null count, OUT, GATE, `full`, `live`, `armed`, `trig`, `odd`.
+    Flags,
+    /// The count register.
+    CountRegister,
+    /// The counting element.
+    CountingElement,
+    /// The first byte of a two-byte count.
+    FirstByte,
+    /// Which byte is read next.
+    ReadOrder,
+    /// The latched count.
+    LatchedCount,
+    /// The latched status byte.
+    LatchedStatus,
+}
+
+impl CounterParts {
+    /// The first field whose condition fails, or None where these are the fields of a counter. A
+    /// condition on several fields is one on the first of them at which it is certain that it fails
+    /// (own).
+    pub fn first_fault(&self) -> Option<CounterField>
+        ensures value { result ≡ first_fault self.now }
+        ensures none { IsNone result ↔ IsCounter self.now }
+    {
+        if !bits_valid(self) {
+            Some(CounterField::ProgrammedBits)
+        } else if !flags_valid(self) {
+            Some(CounterField::Flags)
+        } else if !cr_valid(self) {
+            Some(CounterField::CountRegister)
+        } else if !ce_valid(self) {
+            Some(CounterField::CountingElement)
+        } else {
+            self.fault_behind_count()
+        }
+    }
+
+    /// The same of the fields behind the counting element.
+    fn fault_behind_count(&self) -> Option<CounterField>
+        ensures { result ≡ fault_behind_count self.now }
+    {
+        if !part_valid(self) {
+            Some(CounterField::FirstByte)
+        } else if !read_order_valid(self) {
+            Some(CounterField::ReadOrder)
+        } else if !latched_count_valid(self) {
+            Some(CounterField::LatchedCount)
+        } else if !latched_status_valid(self) {
+            Some(CounterField::LatchedStatus)
+        } else {
+            None
+        }
+    }
 }
 
 /// `a` is true only where `b` is.
@@ -104,7 +168,7 @@ fn mode_flags_valid(mode: Mode, p: &CounterParts) -> bool
         && only_where(p.odd, mode.is_square() && p.live)
 }
 
-/// OUT is low only where its mode lets it be, and in mode 0 it is low while a count waits for its load.
+/// OUT is low only where its mode lets it be, and in mode 0 while a count waits for its load.
 fn out_valid(mode: Mode, p: &CounterParts) -> bool
     ensures { result ≡ out_valid mode p.now }
 {
@@ -128,7 +192,8 @@ fn cr_valid(p: &CounterParts) -> bool
     p.full || p.cr == 0
 }
 
-/// The counting element is in its range, 0 before the first load, even in mode 3, and 1 where OUT is low in mode 2.
+/// The counting element is in its range, 0 before the first load, even in mode 3, and 1 where OUT is
+/// low in mode 2.
 #[tactic(auto, unfolding(crate::specs::Parts::ce_valid))]
 fn ce_valid(p: &CounterParts) -> bool
     ensures { result ≡ ce_valid p.now }
@@ -140,7 +205,7 @@ fn ce_valid(p: &CounterParts) -> bool
         && only_where(mode.is_rate() && !p.out, p.ce == 1)
 }
 
-/// A first byte waits only where two are taken, and in mode 0 with OUT low; without one the byte is 0.
+/// A first byte waits only where two are taken, in mode 0 with OUT low; without one the byte is 0.
 #[tactic(auto, unfolding(crate::specs::Parts::part_valid))]
 fn part_valid(p: &CounterParts) -> bool
     ensures { result ≡ part_valid p.now }

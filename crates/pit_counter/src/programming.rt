@@ -1,7 +1,15 @@
-//! What control words, counts and GATE do to a counter. Intel 8254 data sheet, "Programming the 8254".
+//! What control words, counts and GATE do to a counter. Intel 8254 data sheet, "Programming the 8254"
+//! and "Gate".
 
 ghost use Rattle.std.specs.Prelude.{◌≡◌};
-ghost use Rattle.pit_counter.specs.Programming.{programmed, completed, begun, byte_written_by, byte_written, gated};
+ghost use Rattle.pit_counter.specs.Programming.{
+  programmed,
+  completed,
+  begun,
+  byte_written_by,
+  byte_written,
+  gated,
+};
 
 use crate::mode::{Access, access_of, mode_of};
 use crate::parts::CounterParts;
@@ -86,7 +94,7 @@ fn second_or_first(byte: u8, p: CounterParts) -> CounterParts
     }
 }
 
-/// GATE takes a level.
+/// GATE takes a level; what its edges do is (own).
 #[tactic(auto, unfolding(crate::specs::Programming::gated))]
 pub fn gated(level: bool, p: CounterParts) -> CounterParts
     ensures { result ≡ gated level p }

@@ -1,8 +1,21 @@
-//! Latches, and the order in which a counter's bytes are read. Intel 8254 data sheet, "Read Operations".
+//! Latches, and the order in which a counter's bytes are read. Intel 8254 data sheet, "Read
+//! Operations", "Counter Latch Command" and "Read-Back Command".
 
 ghost use Rattle.std.specs.Prelude.{◌≡◌, ◌<◌, ◌+◌, ◌%◌, ◌*◌, ◌/◌};
 ghost use Rattle.pit_counter.specs.Count.{modulus};
-ghost use Rattle.pit_counter.specs.Reading.{count_of, status_of, with_count_latched, with_status_latched, shown_count, reads_high, reads_last, byte_read, status_released, count_released, after_read};
+ghost use Rattle.pit_counter.specs.Reading.{
+  count_of,
+  status_of,
+  with_count_latched,
+  with_status_latched,
+  shown_count,
+  reads_high,
+  reads_last,
+  byte_read,
+  status_released,
+  count_released,
+  after_read,
+};
 
 use crate::count::read_as;
 use crate::mode::{Access, access_of};
@@ -23,8 +36,8 @@ fn status_of(p: &CounterParts) -> u8
     requires { p.now.bits < 64 }
     ensures { result ≡ status_of p.now }
 {
-    let out = if p.out { 128 } else { 0 };
-    let null = if p.null { 64 } else { 0 };
+    let out = if p.out { 1 << 7 } else { 0 };
+    let null = if p.null { 1 << 6 } else { 0 };
     out + null + p.bits
 }
 

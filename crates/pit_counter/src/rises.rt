@@ -2,7 +2,7 @@
 
 ghost use Rattle.std.specs.Prelude.{IfSome, ◌≡◌, ◌+◌, ◌<◌, ◌≤◌, ◌^◌, suc, if◌then◌else◌};
 ghost use Rattle.clk_units.specs.Events.{first_more};
-ghost use Rattle.pit_counter.specs.Joins.{joined_first};
+ghost use Rattle.pit_counter.specs.private.Stretch.{joined_first};
 
 /// The rises of OUT over some CLK pulses.
 #[derive(Clone, Copy, Debug, PartialEq, Eq)]
@@ -12,6 +12,12 @@ pub struct Rises {
     /// The pulse of the first, pulses being counted from 1.
     pub first: Option<u64>,
 }
+
+/// No rises.
+pub const NONE: Rises = Rises {
+    count: 0,
+    first: None,
+};
 
 /// The rises of one pulse more, behind the first `done`.
 pub fn with_pulse(rises: Rises, done: u64, rose: bool) -> Rises

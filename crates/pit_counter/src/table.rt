@@ -1,6 +1,6 @@
 //! The mode table: what one CLK pulse does. Intel 8254 data sheet, "Mode Definitions".
 
-ghost use Rattle.std.specs.Prelude.{◌≡◌};
+ghost use Rattle.std.specs.Prelude.{◌≡◌, ◌&&◌, ◌||◌, not};
 ghost use Rattle.pit_counter.specs.Mode.{mode_of};
 ghost use Rattle.pit_counter.specs.Table.{effect_in, affected, pulsed, has_risen};
 
@@ -68,12 +68,19 @@ fn effect_in_one_shot(p: &CounterParts) -> Effect
     }
 }
 
+/// Modes 2 and 3: the first count or a trigger loads.
+fn loads_at_once(p: &CounterParts) -> bool
+    ensures { result ≡ ((p.now.full && not p.now.live) || p.now.trig) }
+{
+    if p.live { p.trig } else { p.full || p.trig }
+}
+
 /// Mode 2.
 #[tactic(auto, unfolding(crate::specs::Table::effect_in))]
 fn effect_in_rate_generator(p: &CounterParts) -> Effect
     ensures { result ≡ effect_in Mode.RateGenerator p.now }
 {
-    if (p.full && !p.live) || p.trig {
+    if loads_at_once(p) {
         Effect::Load(true)
     } else if p.live && p.gate && p.ce == 1 {
         Effect::Load(true)
@@ -89,7 +96,7 @@ fn effect_in_rate_generator(p: &CounterParts) -> Effect
 fn effect_in_square_wave(p: &CounterParts) -> Effect
     ensures { result ≡ effect_in Mode.SquareWave p.now }
 {
-    if (p.full && !p.live) || p.trig {
+    if loads_at_once(p) {
         Effect::Load(true)
     } else if p.live && p.gate && p.out && p.odd && p.ce == 0 {
         Effect::Load(false)

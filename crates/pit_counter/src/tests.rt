@@ -1,4 +1,5 @@
-//! Counts and levels worked out by hand from the timing diagrams of the Intel 8254 data sheet, "Mode Definitions".
+//! Counts and levels worked out by hand from the timing diagrams of the Intel 8254 data sheet, "Mode
+//! Definitions".
 
 use super::*;
 use crate::table::{has_risen, pulsed};
@@ -420,8 +421,8 @@ fn next_number(x: u64) -> u64 {
         .wrapping_add(1_442_695_040_888_963_407)
 }
 
-/// Does to a counter what the bits of a number say: a control word and a small count, any control word, a byte of a
-/// count, a trigger, or GATE low.
+/// Does to a counter what the bits of a number say: a control word and a small count, any control
+/// word, a byte of a count, a trigger, or GATE low.
 fn change(counter: &mut Counter, x: u64) {
     let bits = x / 131_072;
     let small = (x / 8 % 256 / (x / 2_048 % 64 + 1)) as u8;

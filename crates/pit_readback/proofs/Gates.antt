@@ -1,5 +1,5 @@
 -- What leaves GATE of a counter as it is: all but a write of port 61h.
-use Rattle.std.proofs.Common.{◌≡◌, ℕ, zero, suc, ◌+◌, ◌*◌, ◌%◌, ◌/◌, eqb, ◌<◌, [], ◌∷◌, get_or, arith, Bool, true, false, refl, ◌∙◌}
+use Rattle.std.proofs.Common.{◌≡◌, ℕ, zero, suc, ◌+◌, ◌*◌, ◌%◌, ◌/◌, eqb, ◌<◌, [], ◌∷◌, get_or, arith, Bool, true, false, refl, ap, ◌∙◌}
 use Rattle.std.proofs.lemmas.Bool.{cond_both}
 use Rattle.pit_counter.specs.declared.parts.CounterParts.{CounterParts}
 use Rattle.pit_counter.specs.declared.mode.Access.{Access}
@@ -10,7 +10,10 @@ use Rattle.pit_counter.specs.Mode.{mode_of, access_of}
 use Rattle.pit_counter.specs.Programming.{counter_at_power_on, programmed, controlled, completed, begun, byte_written_by, byte_written}
 use Rattle.pit_counter.specs.Table.{effect_in, affected, pulsed, pulsed_times}
 use Rattle.pit_counter.specs.Reading.{with_count_latched, with_status_latched, status_released, count_released, after_read}
-use Rattle.pit_readback.specs.Wiring.{IsWired}
+use Rattle.pit_readback.specs.private.Wiring.{IsWired}
+use Rattle.pit_readback.specs.Pit.{counter_of, pit_pulsed_times}
+use Rattle.pit_readback.specs.declared.parts.PitParts.{PitParts}
+use Rattle.pit_readback.proofs.Three.{length-pit_pulsed_times, counter_of-pit_pulsed_times}
 use Rattle.pit_readback.specs.Ports.{commanded, count_latched_if, status_latched_if, latches_count, latches_status, read_back_of}
 
 gate-byte_written_by : (a : Access) (byte : ℕ) (c : CounterParts) → (byte_written_by a byte c).gate ≡ c.gate
@@ -70,3 +73,10 @@ IsWired-of a b c speaker first second = record { three = refl; high = λ k h. hi
     high zero h = first
     high (suc zero) h = second
     high (suc (suc k)) h = absurd (omega arith)
+
+-- pulses leave the wiring
+pub IsWired-pulsed_times : (n : ℕ) (p : PitParts) → IsWired p → IsWired (pit_pulsed_times n p)
+IsWired-pulsed_times n p h = record {
+  three = length-pit_pulsed_times n p ∙ h.three;
+  high = λ k small. ap (λ (c : CounterParts). c.gate) (counter_of-pit_pulsed_times n k p) ∙ gate-pulsed_times n (counter_of p k) ∙ h.high k small;
+}

@@ -33,16 +33,16 @@ none_with_d0 = refl
 programmed_74 : PitParts
 programmed_74 = written_43 0x74 pit_at_power_on
 
-status_of_counter_1 : port_read 0x41 (port_written 0x43 0xe4 programmed_74) ≡ 0xf4
+status_of_counter_1 : port_read 0 0x41 (port_written 0x43 0xe4 programmed_74) ≡ 0xf4
 unfolding programmed_74 port_read port_written written_43 commanded read_back read_back_of latches_count latches_status is_chosen count_latched_if status_latched_if programmed with_count_latched with_status_latched status_of byte_read mode_of
 status_of_counter_1 = refl
 
 -- once read, the count comes next
-status_is_read_once : port_read 0x41 (after_port_read 0x41 (port_written 0x43 0xe4 programmed_74)) ≡ 0x00
+status_is_read_once : port_read 0 0x41 (after_port_read 0x41 (port_written 0x43 0xe4 programmed_74)) ≡ 0x00
 unfolding programmed_74 port_read after_port_read after_read status_released count_released port_written written_43 commanded read_back read_back_of latches_count latches_status is_chosen count_latched_if status_latched_if programmed with_count_latched with_status_latched status_of byte_read shown_count count_of read_as access_of is_bcd
 status_is_read_once = refl
 
-port_43_reads_ones : port_read 0x43 pit_at_power_on ≡ 0xff
+port_43_reads_ones : port_read 0 0x43 pit_at_power_on ≡ 0xff
 unfolding port_read
 port_43_reads_ones = refl
 

@@ -1,3 +1,4 @@
+pub mod Parts
 pub mod Pit
 pub mod Ports
-pub mod Wiring
+pub mod private

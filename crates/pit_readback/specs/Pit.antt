@@ -1,9 +1,8 @@
 -- Three counters and the speaker bit.
-use Rattle.std.specs.Prelude.{◌≡◌, ℕ, zero, suc, true, false, IsTrue, [], ◌∷◌, length, map, slice_index_or, slice_set}
+use Rattle.std.specs.Prelude.{ℕ, zero, suc, true, false, [], ◌∷◌, map, slice_index_or, slice_set}
 use Rattle.pit_counter.specs.declared.parts.CounterParts.{CounterParts}
 use Rattle.pit_counter.specs.Programming.{counter_at_power_on}
 use Rattle.pit_counter.specs.Table.{pulsed}
-use Rattle.pit_counter.specs.Parts.{IsCounter}
 use Rattle.pit_readback.specs.declared.parts.PitParts.{PitParts}
 
 -- a counter by its number
@@ -14,7 +13,8 @@ counter_of p k = slice_index_or p.counters k (counter_at_power_on true)
 abbrev pub with_counter : ℕ → CounterParts → PitParts → PitParts
 with_counter k c p = record p { counters = slice_set p.counters k c }
 
--- power on: each counter as at its power on, GATE of counter 2 and the speaker bit low (this project's own choice)
+-- power on: each counter as at its power on, GATE of counter 2 and the
+-- speaker bit low (own)
 abbrev pub pit_at_power_on : PitParts
 pit_at_power_on = record {
   counters = counter_at_power_on true ∷ counter_at_power_on true ∷ counter_at_power_on false ∷ [];
@@ -29,12 +29,3 @@ pit_pulsed p = record p { counters = map pulsed p.counters }
 unfoldable pub pit_pulsed_times : ℕ → PitParts → PitParts
 pit_pulsed_times zero p = p
 pit_pulsed_times (suc n) p = pit_pulsed (pit_pulsed_times n p)
-
--- the fields of a timer: three counters, with GATE of counters 0 and 1 high
-pub record IsPit (p : PitParts) : Type 0 where
-  pub three : length p.counters ≡ 3
-  pub first : IsCounter (counter_of p 0)
-  pub second : IsCounter (counter_of p 1)
-  pub third : IsCounter (counter_of p 2)
-  pub gate_of_first : IsTrue (counter_of p 0).gate
-  pub gate_of_second : IsTrue (counter_of p 1).gate

@@ -1,15 +1,44 @@
 //! The timer, and its calls.
 
-ghost use Rattle.std.specs.Prelude.{◌≡◌, ◌↔◌, ◌≤◌, ◌<◌, ◌^◌, IsSome, IfSome, IsTrue};
+ghost use Rattle.std.specs.Prelude.{
+  ◌≡◌,
+  ◌↔◌,
+  ◌≤◌,
+  ◌<◌,
+  length,
+  map,
+  true,
+  slice_index_or,
+  IsSome,
+  IfSome,
+  IsTrue,
+};
 ghost use Rattle.clk_units.specs.Events.{IsFirst};
 ghost use Rattle.pit_counter.specs.Table.{has_risen, pulsed_times, rises_in};
-ghost use Rattle.pit_counter.specs.Programming.{byte_written};
+ghost use Rattle.pit_counter.specs.Programming.{byte_written, counter_at_power_on};
 ghost use Rattle.pit_counter.specs.Parts.{IsCounter};
-ghost use Rattle.pit_readback.specs.Pit.{counter_of, with_counter, pit_at_power_on, pit_pulsed_times, IsPit};
-ghost use Rattle.pit_readback.specs.Ports.{commanded, read_back, written_43, port_written, port_read, after_port_read, written_61, read_of_61, bit_of};
+ghost use Rattle.pit_readback.specs.Pit.{
+  counter_of,
+  with_counter,
+  pit_at_power_on,
+  pit_pulsed_times,
+};
+ghost use Rattle.pit_readback.specs.Parts.{IsPit};
+ghost use Rattle.pit_readback.specs.Ports.{
+  is_pit_port,
+  commanded,
+  read_back,
+  written_43,
+  port_written,
+  port_read,
+  after_port_read,
+  written_61,
+  read_of_61,
+};
 
 use crate::parts::PitParts;
-use crate::read_back::{has_bit, read_back_of};
+use crate::read_back::read_back_of;
+use clk_units::{bit, bit_value};
 use pit_counter::{Counter, CounterParts, Rises};
 use std::marker::Model;
 
@@ -19,8 +48,12 @@ const CONTROL: u8 = 0x43;
 /// The port of counter 0.
 const FIRST: u8 = 0x40;
 
+/// The system control port of the PC AT.
+const SYSTEM: u8 = 0x61;
+
 /// The three counters of an Intel 8254, wired as in a PC, and the bits of port 61h.
 #[derive(Clone, Copy, Debug, PartialEq, Eq)]
+#[repr(C)]
 pub struct Pit {
     counters: [Counter; 3],
     speaker: bool,
@@ -32,7 +65,7 @@ impl Model for Pit {
 
     ghost Value = { PitParts };
 
-    ghost use Rattle.pit_readback.specs.Wiring.{parts_of, IsWired};
+    ghost use Rattle.pit_readback.specs.private.Wiring.{parts_of, IsWired};
 
     ghost view = { parts_of };
 
@@ -42,7 +75,7 @@ impl Model for Pit {
 }
 
 impl Pit {
-    /// The timer at power on (this project's own choice).
+    /// The timer at power on (own).
     pub fn power_on() -> Pit
         ensures { result ≡ pit_at_power_on }
     {
@@ -56,7 +89,7 @@ impl Pit {
         }
     }
 
-    /// All that the timer holds.
+    /// All fields, as a saved state keeps them.
     pub fn parts(&self) -> PitParts
         ensures value { result ≡ self.now }
         ensures valid { IsPit self.now }
@@ -71,29 +104,33 @@ impl Pit {
         }
     }
 
-    /// The timer that holds this, if one can.
+    /// The device with these fields, or None exactly where a condition on them fails.
     pub fn of_parts(parts: PitParts) -> Option<Pit>
         ensures valid { IsSome result ↔ IsPit parts }
         ensures value { IfSome result (λ p. p ≡ parts) }
     {
-        let first = wired(counter_parts(&parts, 0))?;
-        let second = wired(counter_parts(&parts, 1))?;
-        let third = Counter::of_parts(counter_parts(&parts, 2))?;
+        let first = wired(parts.counter(0))?;
+        let second = wired(parts.counter(1))?;
+        let third = Counter::of_parts(parts.counter(2))?;
         Some(Pit {
             counters: [first, second, third],
             speaker: parts.speaker,
         })
     }
 
-    /// Writes a byte to one of the ports 40h to 43h: a byte of a count, or to 43h a control word, a latch or a
-    /// read-back command. Answers whether OUT of counter 0 rose.
+    /// Writes a byte to one of the ports: to 40h, 41h or 42h a byte of a count, to 43h a control word,
+    /// a latch or a read-back command, to 61h GATE of counter 2 and speaker data. Answers whether OUT
+    /// of counter 0 rose.
     #[tactic(auto, unfolding(crate::specs::Ports::port_written))]
     pub fn write(&mut self, port: u8, byte: u8) -> bool
-        requires least { 0x40 ≤ port }
-        requires greatest { port ≤ 0x43 }
+        requires { IsTrue (is_pit_port port) }
         ensures state { self.new ≡ port_written port byte self.old }
         ensures rose { result ≡ has_risen (counter_of self.old 0) (counter_of (port_written port byte self.old) 0) }
     {
+        if port == SYSTEM {
+            self.write_61(byte);
+            return false;
+        }
         if port == CONTROL {
             self.write_43(byte)
         } else {
@@ -131,15 +168,17 @@ impl Pit {
         rose
     }
 
-    /// Reads one of the ports 40h to 43h: a latched status first, then a latched count, else the present count.
-    /// Port 43h reads FFh (this project's own choice).
+    /// Reads one of the ports at nanosecond `now`: 40h, 41h or 42h gives a latched status first, then
+    /// a latched count, else the present count; 43h reads FFh (own); 61h as `read_61` tells.
     #[tactic(auto, unfolding(crate::specs::Ports::port_read, crate::specs::Ports::after_port_read))]
-    pub fn read(&mut self, port: u8) -> u8
-        requires least { 0x40 ≤ port }
-        requires greatest { port ≤ 0x43 }
+    pub fn read(&mut self, port: u8, now: u64) -> u8
+        requires { IsTrue (is_pit_port port) }
         ensures state { self.new ≡ after_port_read port self.old }
-        ensures byte { result ≡ port_read port self.old }
+        ensures byte { result ≡ port_read now port self.old }
     {
+        if port == SYSTEM {
+            return self.read_61(now);
+        }
         if port == CONTROL {
             return 0xff;
         }
@@ -156,49 +195,52 @@ impl Pit {
         ensures { self.new ≡ written_61 byte self.old }
     {
         let mut counter = self.counters[2];
-        counter.gate(has_bit(byte, 0));
+        counter.gate(bit(0, byte as u64));
         self.counters[2] = counter;
-        self.speaker = has_bit(byte, 1);
+        self.speaker = bit(1, byte as u64);
     }
 
-    /// Reads port 61h at nanosecond `now`: bit 0 GATE of counter 2, bit 1 speaker data, bit 4 bit 14 of `now` (this
-    /// project's own choice), bit 5 OUT of counter 2.
+    /// Reads port 61h at nanosecond `now`: bit 0 GATE of counter 2, bit 1 speaker data, bit 4 bit 14 of
+    /// `now` (own), bit 5 OUT of counter 2.
     #[tactic(auto, unfolding(crate::specs::Ports::read_of_61))]
     pub fn read_61(&self, now: u64) -> u8
         ensures { result ≡ read_of_61 now self.now }
     {
         let counter = self.counters[2].parts();
-        bit_of(counter.gate, 0)
-            + bit_of(self.speaker, 1)
-            + bit_of(now / 16_384 % 2 == 1, 4)
-            + bit_of(counter.out, 5)
+        let bits = bit_value(counter.gate, 0)
+            + bit_value(self.speaker, 1)
+            + bit_value(bit(14, now), 4)
+            + bit_value(counter.out, 5);
+        bits as u8
     }
 
-    /// Takes `n` CLK pulses in each counter. Answers how often OUT of counter 0 rose, and at which of them first.
+    /// Takes `n` CLK pulses in each counter. Answers how often OUT of counter 0 rose, and at which of
+    /// them first.
     pub fn pulses(&mut self, n: u64) -> Rises
         ensures state { self.new ≡ pit_pulsed_times n self.old }
+        ensures three { length self.new.counters ≡ 3 }
         ensures count { result.count ≡ rises_in (counter_of self.old 0) n }
         ensures few { result.count ≤ n }
         ensures first { IsFirst (rises_in (counter_of self.old 0)) n result.first }
     {
-        let mut first = self.counter(0);
-        let mut second = self.counter(1);
-        let mut third = self.counter(2);
-        let rises = first.pulses(n);
-        second.pulses(n);
-        third.pulses(n);
-        let counters = [first, second, third];
-        self.counters = counters;
-        rises
+        pulse_each(&mut self.counters, n)
     }
 
     /// Counter `k`.
-    fn counter(&self, k: u8) -> Counter
+    pub fn counter(&self, k: u8) -> Counter
         requires { k < 3 }
         ensures value { result ≡ counter_of self.now k }
         ensures wired { k < 2 → IsTrue result.gate }
     {
         self.counters[k as usize]
+    }
+
+    /// The level of OUT of counter `k`.
+    pub fn out(&self, k: u8) -> bool
+        requires { k < 3 }
+        ensures { result ≡ (counter_of self.now k).out }
+    {
+        self.counters[k as usize].out()
     }
 
     /// Puts another counter in the place of counter `k`. Answers whether OUT of counter 0 rose by that.
@@ -214,12 +256,17 @@ impl Pit {
     }
 }
 
-/// What counter `k` holds.
-fn counter_parts(parts: &PitParts, k: u8) -> CounterParts
-    requires { k < 3 }
-    ensures { result ≡ counter_of parts.now k }
+/// Takes `n` CLK pulses in each of three counters. Answers the rises of OUT of the first.
+fn pulse_each(counters: &mut [Counter; 3], n: u64) -> Rises
+    ensures state { counters.new ≡ map (pulsed_times n) counters.old }
+    ensures count { result.count ≡ rises_in (slice_index_or counters.old 0 (counter_at_power_on true)) n }
+    ensures few { result.count ≤ n }
+    ensures first { IsFirst (rises_in (slice_index_or counters.old 0 (counter_at_power_on true))) n result.first }
 {
-    parts.counters[k as usize]
+    let rises = counters[0].pulses(n);
+    counters[1].pulses(n);
+    counters[2].pulses(n);
+    rises
 }
 
 /// The counter that holds this, if one can and GATE is high.
@@ -255,13 +302,4 @@ fn commanded(byte: u8, mut counter: Counter) -> Counter
     }
     counter.control(byte % 64);
     counter
-}
-
-/// A bit at its place.
-fn bit_of(bit: bool, k: u8) -> u8
-    requires { k < 8 }
-    ensures value { result ≡ bit_of bit k }
-    ensures place { result ≤ 2 ^ k }
-{
-    if bit { 1 << k } else { 0 }
 }

@@ -1,25 +1,25 @@
 //! The read-back command. Intel 8254 data sheet, "Read-Back Command".
 
 ghost use Rattle.std.specs.Prelude.{◌≡◌, ◌<◌, ◌≤◌};
-ghost use Rattle.pit_readback.specs.Ports.{has_bit, is_chosen, latches_count, latches_status, count_latched_if, status_latched_if, read_back_of};
+ghost use Rattle.pit_readback.specs.Ports.{
+  is_chosen,
+  latches_count,
+  latches_status,
+  count_latched_if,
+  status_latched_if,
+  read_back_of,
+};
 
+use clk_units::bit;
 use pit_counter::Counter;
 
-/// Whether a bit of a byte is 1.
-pub fn has_bit(byte: u8, k: u8) -> bool
-    requires { k < 8 }
-    ensures { result ≡ has_bit byte k }
-{
-    (byte >> k) % 2 == 1
-}
-
-/// Whether a read-back command chooses counter `k`; one with D0 = 1 does nothing (this project's own choice).
+/// Whether a read-back command chooses counter `k`; one with D0 = 1 does nothing (own).
 #[tactic(auto, unfolding(crate::specs::Ports::is_chosen))]
 fn is_chosen(byte: u8, k: u8) -> bool
     requires { k < 3 }
     ensures { result ≡ is_chosen byte k }
 {
-    !has_bit(byte, 0) && has_bit(byte, k + 1)
+    !bit(0, byte as u64) && bit(k as u32 + 1, byte as u64)
 }
 
 /// D5 = 0 latches the counts of the chosen counters.
@@ -28,7 +28,7 @@ fn latches_count(byte: u8, k: u8) -> bool
     requires { k < 3 }
     ensures { result ≡ latches_count byte k }
 {
-    is_chosen(byte, k) && !has_bit(byte, 5)
+    is_chosen(byte, k) && !bit(5, byte as u64)
 }
 
 /// D4 = 0 latches their status.
@@ -37,7 +37,7 @@ fn latches_status(byte: u8, k: u8) -> bool
     requires { k < 3 }
     ensures { result ≡ latches_status byte k }
 {
-    is_chosen(byte, k) && !has_bit(byte, 4)
+    is_chosen(byte, k) && !bit(4, byte as u64)
 }
 
 /// The counter after a latch of the count, if there is one.

@@ -13,7 +13,7 @@ fn write(pit: &mut Pit, rows: &[(u8, u8)]) {
 /// Reads one of the ports 40h to 43h again and again.
 fn expect(rt: &impl Abort, pit: &mut Pit, port: u8, want: &[u8]) {
     for byte in want {
-        assert_eq!(rt; pit.read(0x40 + port % 4), *byte);
+        assert_eq!(rt; pit.read(0x40 + port % 4, 0), *byte);
     }
 }
 

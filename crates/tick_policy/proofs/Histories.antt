@@ -2,7 +2,7 @@
 use Rattle.std.proofs.Common.{◌≡◌, ◌+◌, ◌≤◌, refl, arith}
 use Rattle.tick_policy.specs.declared.history.Event.{Event}
 use Rattle.tick_policy.specs.declared.history.Event.TheVariants.{Tick, Acknowledgement, CatchUpPoint}
-use Rattle.tick_policy.specs.declared.line.TickParts.{TickParts}
+use Rattle.tick_policy.specs.declared.parts.TickParts.{TickParts}
 use Rattle.tick_policy.specs.History.{after_event, tick_of}
 
 -- an event keeps the policy

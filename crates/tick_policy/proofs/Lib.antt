@@ -1,4 +1,7 @@
+pub mod Bytes
 pub mod Ticks
 pub mod Stretches
+pub mod Orders
 pub mod Histories
+pub mod Kept
 mod Rows

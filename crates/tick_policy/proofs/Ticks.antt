@@ -1,10 +1,12 @@
 -- Lemmas on ticks, acknowledgements and catch-up points.
 use Rattle.std.proofs.Common.{◌≡◌, ℕ, zero, suc, ◌+◌, ◌-◌, ◌<◌, Bool, true, false, not, ltb, ◌&&◌, ◌||◌, refl, sym, ap, ◌∙◌, inl, inr, arith}
 use Rattle.std.proofs.lemmas.Bool.{cases_Bool, lt-ltb, false≢true}
-use Rattle.tick_policy.specs.declared.line.Policy.{Policy}
-use Rattle.tick_policy.specs.declared.line.Policy.TheVariants.{Discard, Delay, Slew}
-use Rattle.tick_policy.specs.declared.line.TickParts.{TickParts}
-use Rattle.tick_policy.specs.Line.{is_slew, ticked, ticked_times, shown_at_once, with_missed, with_one_shown, acked, is_waiting, caught_up}
+use Rattle.tick_policy.specs.declared.parts.Policy.{Policy}
+use Rattle.tick_policy.specs.declared.parts.Policy.TheVariants.{Discard, Delay, Slew}
+use Rattle.tick_policy.specs.declared.parts.TickParts.{TickParts}
+use Rattle.tick_policy.specs.Parts.{is_delay, is_slew}
+use Rattle.tick_policy.specs.Line.{ticked, ticked_times, with_one_shown, goes_again, acked, acked_down, is_waiting, caught_up}
+use Rattle.tick_policy.specs.private.AtOnce.{shown_at_once, with_missed}
 
 -- no ticks
 pub ticked_times-zero : (l : TickParts) → ticked_times 0 l ≡ l
@@ -53,6 +55,24 @@ is_waiting-up l up = none (is_slew l.policy) l.up (ltb 0 l.counts.queue) up
     none true true some e = refl
     none false up some e = refl
     none true false some e = absurd (false≢true e)
+
+-- under Discard and Delay no line waits for a catch-up point
+pub is_waiting-discard : (l : TickParts) → l.policy ≡ Discard → is_waiting l ≡ false
+is_waiting-discard l e = ap (λ (p : Policy). is_slew p && (not l.up && ltb 0 l.counts.queue)) e
+
+pub is_waiting-delay : (l : TickParts) → l.policy ≡ Delay → is_waiting l ≡ false
+is_waiting-delay l e = ap (λ (p : Policy). is_slew p && (not l.up && ltb 0 l.counts.queue)) e
+
+-- .. and under Discard and Slew none goes up again at an acknowledgement
+pub goes_again-discard : (l : TickParts) → l.policy ≡ Discard → goes_again l ≡ false
+goes_again-discard l e = ap (λ (p : Policy). is_delay p && (l.up && ltb 0 l.counts.queue)) e
+
+pub goes_again-slew : (l : TickParts) → l.policy ≡ Slew → goes_again l ≡ false
+goes_again-slew l e = ap (λ (p : Policy). is_delay p && (l.up && ltb 0 l.counts.queue)) e
+
+-- an acknowledgement that brings no line up again is its first part
+pub acked-acked_down : (l : TickParts) → goes_again l ≡ false → acked l ≡ acked_down l
+acked-acked_down l none = ap (λ (b : Bool). record l { up = b; counts = with_one_shown b l.counts }) none
 
 -- a catch-up point brings the line up exactly where it waits for one
 pub up-caught_up : (l : TickParts) → (caught_up l).up ≡ (l.up || is_waiting l)
@@ -148,3 +168,17 @@ pub ticked_times-at_once : (n : ℕ) (l : TickParts) → ticked_times n l ≡ at
 ticked_times-at_once zero l = ticked_times-zero l ∙ at_once-zero l.policy l.up l.counts.due l.counts.rises l.counts.queue l.counts.lost
 ticked_times-at_once (suc n) l =
     ticked_times-suc n l ∙ ap ticked (ticked_times-at_once n l) ∙ at_once-more n l.policy l.up l.counts.due l.counts.rises l.counts.queue l.counts.lost
+
+-- a catch-up point and a tick of one nanosecond, in either order
+pub caught_up-ticked : (l : TickParts) → caught_up (ticked l) ≡ ticked (caught_up l)
+caught_up-ticked l = either l.policy l.up l.counts.due l.counts.rises l.counts.queue l.counts.lost
+  where
+    either : (p : Policy) (up : Bool) (d r q x : ℕ) → caught_up (ticked (line_of p up d r q x)) ≡ ticked (caught_up (line_of p up d r q x))
+    either Discard true d r q x = refl
+    either Discard false d r q x = refl
+    either Delay true d r q x = refl
+    either Delay false d r q x = refl
+    either Slew true d r q x = refl
+    either Slew false d r zero x = refl
+    either Slew false d r (suc q) x =
+        rw (lt-ltb 0 (suc q) (omega arith)) (same_line Slew _ _ _ _ _ _ _ _ _ _ refl (omega arith) (omega arith) (omega arith) (omega arith))

@@ -1,8 +1,9 @@
 -- A tick line over any list of events.
 use Rattle.std.specs.Prelude.{ℕ, ◌+◌, List, [], ◌∷◌}
 use Rattle.tick_policy.specs.declared.history.Event.{Event}
-use Rattle.tick_policy.specs.declared.history.Event.TheVariants.{Tick, Acknowledgement, CatchUpPoint}
-use Rattle.tick_policy.specs.declared.line.TickParts.{TickParts}
+use Rattle.tick_policy.specs.declared.history.Event.TheVariants.{Tick, Acknowledgement}
+use Rattle.tick_policy.specs.declared.history.Event.TheVariants.{CatchUpPoint}
+use Rattle.tick_policy.specs.declared.parts.TickParts.{TickParts}
 use Rattle.tick_policy.specs.Line.{ticked, acked, caught_up}
 
 -- the line after an event

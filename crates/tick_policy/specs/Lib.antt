@@ -1,4 +1,6 @@
+pub mod Parts
+pub mod Stored
 pub mod Line
-pub mod Valid
 pub mod Stretch
 pub mod History
+pub mod private

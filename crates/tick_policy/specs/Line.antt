@@ -1,33 +1,20 @@
--- A tick line and its events. The names of the policies are QEMU's, the rules this project's own.
-use Rattle.std.specs.Prelude.{ℕ, zero, suc, ◌+◌, ◌-◌, Bool, true, false, not, ◌&&◌, ◌||◌, if◌then◌else◌, nat_lt, min}
-use Rattle.tick_policy.specs.declared.line.Policy.{Policy}
-use Rattle.tick_policy.specs.declared.line.Policy.TheVariants.{Discard, Delay, Slew}
+-- A tick line and its events. The names of the policies are QEMU's, all rules (own).
+use Rattle.std.specs.Prelude.{ℕ, zero, suc, ◌+◌, ◌-◌, Bool, true, false, not, ◌&&◌, ◌||◌, nat_lt}
+use Rattle.std.specs.Prelude.{if◌then◌else◌}
+use Rattle.tick_policy.specs.declared.parts.Policy.{Policy}
+use Rattle.tick_policy.specs.declared.parts.Counts.{Counts}
+use Rattle.tick_policy.specs.declared.parts.TickParts.{TickParts}
 use Rattle.tick_policy.specs.declared.line.Acked.{Acked}
 use Rattle.tick_policy.specs.declared.line.Acked.TheVariants.{NotUp, Down, DownUp}
-use Rattle.tick_policy.specs.declared.line.Counts.{Counts}
-use Rattle.tick_policy.specs.declared.line.TickParts.{TickParts}
-
--- whether a tick that finds the line up waits; else it is lost
-abbrev pub is_kept : Policy → Bool
-is_kept Discard = false
-is_kept Delay = true
-is_kept Slew = true
-
--- whether an acknowledgement shows a tick that waits
-abbrev pub is_delay : Policy → Bool
-is_delay Discard = false
-is_delay Delay = true
-is_delay Slew = false
-
--- whether a catch-up point shows a tick that waits
-abbrev pub is_slew : Policy → Bool
-is_slew Discard = false
-is_slew Delay = false
-is_slew Slew = true
+use Rattle.tick_policy.specs.Parts.{is_kept, is_delay, is_slew}
 
 -- a line that is down and has seen no tick
-abbrev pub powered_on : Policy → TickParts
-powered_on policy = record { policy = policy; up = false; counts = record { due = 0; rises = 0; queue = 0; lost = 0 } }
+abbrev pub line_at_power_on : Policy → TickParts
+line_at_power_on policy = record {
+  policy = policy;
+  up = false;
+  counts = record { due = 0; rises = 0; queue = 0; lost = 0 };
+}
 
 -- a tick is due: the line goes up with it, or where it is up already the tick waits or is lost
 abbrev pub ticked : TickParts → TickParts
@@ -46,17 +33,6 @@ unfoldable pub ticked_times : ℕ → TickParts → TickParts
 ticked_times zero l = l
 ticked_times (suc n) l = ticked (ticked_times n l)
 
--- how many of n ticks bring the line up: the first of them, where it is down
-abbrev pub shown_at_once : Bool → ℕ → ℕ
-shown_at_once up n = if up then 0 else min n 1
-
--- the counts with n ticks more that found the line up
-abbrev pub with_missed : Policy → ℕ → Counts → Counts
-with_missed policy n c = record c {
-  queue = if is_kept policy then c.queue + n else c.queue;
-  lost = if is_kept policy then c.lost else c.lost + n;
-}
-
 -- the counts with one tick shown that waited, where b holds
 abbrev pub with_one_shown : Bool → Counts → Counts
 with_one_shown b c = record c {
@@ -72,6 +48,10 @@ goes_again l = is_delay l.policy && (l.up && nat_lt 0 l.counts.queue)
 abbrev pub acked : TickParts → TickParts
 acked l = record l { up = goes_again l; counts = with_one_shown (goes_again l) l.counts }
 
+-- an acknowledgement without its rise, as in the first part of an access: the line is down
+abbrev pub acked_down : TickParts → TickParts
+acked_down l = record l { up = false }
+
 -- what an acknowledgement did
 abbrev pub ack_answer : TickParts → Acked
 ack_answer l = if l.up then (if goes_again l then DownUp else Down) else NotUp
@@ -82,7 +62,10 @@ is_waiting l = is_slew l.policy && (not l.up && nat_lt 0 l.counts.queue)
 
 -- a catch-up point: the line goes up with a tick that waits
 abbrev pub caught_up : TickParts → TickParts
-caught_up l = record l { up = l.up || is_waiting l; counts = with_one_shown (is_waiting l) l.counts }
+caught_up l = record l {
+  up = l.up || is_waiting l;
+  counts = with_one_shown (is_waiting l) l.counts;
+}
 
 -- the line is put up or down without a tick
 abbrev pub set_up_to : Bool → TickParts → TickParts

@@ -1,6 +1,6 @@
 //! A tick line over any list of events, and the laws of its counts.
-ghost use Rattle.std.specs.Prelude.{◌≡◌, ◌+◌, ◌^◌, ◌<◌, length};
-ghost use Rattle.tick_policy.specs.History.{after_event, after_events, ticks_of};
+ghost use Rattle.std.specs.Prelude.{◌≡◌, ◌+◌, ◌^◌, ◌<◌};
+ghost use Rattle.tick_policy.specs.History.{after_event, after_events, tick_of, ticks_of};
 
 use crate::{Counts, Policy, TickLine};
 
@@ -16,14 +16,16 @@ pub enum Event {
 }
 
 impl TickLine {
-    /// All these events, one after the other; answers the counts that they leave. However they fall, each tick
-    /// is shown, waits or is lost: under `Discard` none waits, and under `Delay` and `Slew` none is lost.
+    /// All these events, one after the other; answers the counts that they leave. However they
+    /// fall, each tick is shown, waits or is lost: under `Discard` none waits, and under `Delay`
+    /// and `Slew` none is lost.
     pub fn run_events(&mut self, events: &[Event]) -> Counts
-        requires { self.old.counts.due + length events.now < 2 ^ 63 }
+        requires { self.old.counts.due + ticks_of events.now < 2 ^ 63 }
         ensures state { self.new ≡ after_events events.now self.old }
         ensures counts { result ≡ self.new.counts }
         ensures due { result.due ≡ self.old.counts.due + ticks_of events.now }
-        ensures discard { self.old.policy ≡ Policy.Discard → result.due ≡ result.rises + result.lost }
+        ensures discard { self.old.policy ≡ Policy.Discard →
+            result.due ≡ result.rises + result.lost }
         ensures delay { self.old.policy ≡ Policy.Delay → result.due ≡ result.rises + result.queue }
         ensures slew { self.old.policy ≡ Policy.Slew → result.due ≡ result.rises + result.queue }
     {
@@ -35,7 +37,7 @@ impl TickLine {
 
     /// One event.
     fn run_event(&mut self, event: Event)
-        requires { self.old.counts.due + 1 < 2 ^ 63 }
+        requires { self.old.counts.due + tick_of event < 2 ^ 63 }
         ensures { self.new ≡ after_event event self.old }
     {
         match event {

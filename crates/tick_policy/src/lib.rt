@@ -1,9 +1,10 @@
 //! A tick line of a timer, with the counts of its ticks and a policy for those that a guest misses.
 //!
-//! A source of ticks (a channel of the 8254, the periodic interrupt of the MC146818, a timer of the HPET)
-//! makes a tick due at each of its events. The line goes up with the tick and comes down when the guest
-//! acknowledges it. A tick that is due while the line is still up can't be shown: the policy says what
-//! becomes of it. The names of the policies are QEMU's, their rules are this project's own.
+//! A source of ticks (a channel of the 8254, the periodic interrupt of the MC146818, a timer of the
+//! HPET) makes a tick due at each of its events. The line goes up with the tick and comes down when
+//! the guest acknowledges it. A tick that is due while the line is still up can't be shown: the
+//! policy says what becomes of it. The names of the policies are QEMU's, all rules are the
+//! project's (own).
 //!
 //! ```text
 //! let mut line = TickLine::power_on(Policy::Delay);
@@ -16,11 +17,13 @@
 
 mod history;
 mod line;
+mod parts;
+mod rules;
 mod stretch;
-
-pub use history::Event;
-pub use line::{Acked, Counts, Policy, TickLine, TickParts};
-pub use stretch::{LineRun, run_line};
-
 #[cfg(test)]
 mod tests;
+
+pub use history::Event;
+pub use line::{Acked, TickLine};
+pub use parts::{Counts, Policy, TickField, TickParts};
+pub use stretch::run_line;

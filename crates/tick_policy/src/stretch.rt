@@ -1,27 +1,23 @@
 //! A tick line over a stretch of nanoseconds in which nobody acknowledges it.
-ghost use Rattle.std.specs.Prelude.{◌≡◌, ℕ, ◌+◌, ◌-◌, ◌^◌, ◌<◌, ◌≤◌, ◌&&◌, if◌then◌else◌, Option, Some};
+
+ghost use Rattle.std.specs.Prelude.{◌≡◌, ℕ, ◌+◌, ◌-◌, ◌^◌, ◌<◌, ◌≤◌, ◌&&◌, if◌then◌else◌, Option};
+ghost use Rattle.std.specs.Prelude.{Some};
 ghost use Rattle.irq_edges.specs.Rises.{is_up_at};
 ghost use Rattle.tick_policy.specs.Line.{is_waiting};
-ghost use Rattle.tick_policy.specs.Stretch.{caught_up_where, is_caught, line_end, up_from, line_after, IsStretch};
+ghost use Rattle.tick_policy.specs.Stretch.{caught_up_where, is_caught, line_end, up_from};
+ghost use Rattle.tick_policy.specs.Stretch.{IsStretch};
+ghost use Rattle.tick_policy.specs.Stretch.{line_after, line_after_points};
 
 use crate::TickLine;
 
-/// How a line went through a stretch.
-#[derive(Clone, Copy, Debug, PartialEq, Eq)]
-pub struct LineRun {
-    /// The nanosecond from which on it is up: the beginning of the stretch where it was up before, and none
-    /// where it stays down.
-    pub up_from: Option<u64>,
-    /// Whether a catch-up point brought it up.
-    pub rose: bool,
-}
-
-/// Takes the line through the nanoseconds after `from` and up to `to`. `point` is the first catch-up point
-/// after `from`, `ticks` is how many ticks are due in the stretch, and `first` the nanosecond of the first of
-/// them. A tick that is due at a catch-up point comes before it.
+/// Takes the line through the nanoseconds after `from` and up to `to`. `point` is the first
+/// catch-up point after `from`, `ticks` is how many ticks are due in the stretch, and `first` the
+/// nanosecond of the first of them. Answers the nanosecond from which on the line is up: `from`
+/// where it was up before, and none where it stays down.
 ///
-/// Nobody acknowledges the line in the stretch. So it rises once at most, and later catch-up points find it
-/// up or with no tick that waits.
+/// Nobody acknowledges the line in the stretch. So it rises once at most, and later catch-up points
+/// find it up or with no tick that waits. Whether a tick comes before or behind the catch-up point
+/// of its nanosecond makes no difference behind that nanosecond.
 pub fn run_line(
     line: &mut TickLine,
     from: u64,
@@ -29,28 +25,37 @@ pub fn run_line(
     point: u64,
     ticks: u64,
     first: Option<u64>,
-) -> LineRun
+) -> Option<u64>
     requires { line.old.counts.due + ticks < 2 ^ 63 }
     ensures state { line.new ≡ line_end point to first ticks line.old }
-    ensures up { result.up_from ≡ up_from from point to first line.old }
-    ensures rose { result.rose ≡ (is_caught point to first && is_waiting line.old) }
-    // the same by single nanoseconds: the end, and the level at each of them
-    ensures each_nanosecond { (source : ℕ → ℕ) (slew n : ℕ) → to ≡ from + n → IsStretch source slew from n point ticks first →
+    ensures up { result ≡ up_from from point to first line.old }
+    ensures due { line.new.counts.due ≡ line.old.counts.due + ticks }
+    ensures policy { line.new.policy ≡ line.old.policy }
+
+    // the same by single nanoseconds, a tick before the catch-up point: the end, and each level
+    ensures each_nanosecond { (source : ℕ → ℕ) (slew n : ℕ) → to ≡ from + n →
+        IsStretch source slew from n point ticks first →
         line.new ≡ line_after source slew from n line.old }
-    ensures each_level { (source : ℕ → ℕ) (slew n : ℕ) → to ≡ from + n → IsStretch source slew from n point ticks first →
-        (j : ℕ) → j ≤ n → (line_after source slew from j line.old).up ≡ is_up_at (from + j) result.up_from }
+    ensures each_level { (source : ℕ → ℕ) (slew n : ℕ) → to ≡ from + n →
+        IsStretch source slew from n point ticks first → (j : ℕ) → j ≤ n →
+        (line_after source slew from j line.old).up ≡ is_up_at (from + j) result }
+
+    // and a tick behind it
+    ensures each_nanosecond_points { (source : ℕ → ℕ) (slew n : ℕ) → to ≡ from + n →
+        IsStretch source slew from n point ticks first →
+        line.new ≡ line_after_points source slew from n line.old }
+    ensures each_level_points { (source : ℕ → ℕ) (slew n : ℕ) → to ≡ from + n →
+        IsStretch source slew from n point ticks first → (j : ℕ) → j ≤ n →
+        (line_after_points source slew from j line.old).up ≡ is_up_at (from + j) result }
 {
     let was_up = line.is_up();
     let rose = catch_up_first(line, point, to, first);
     line.due(ticks);
-    LineRun {
-        up_from: start_of(was_up, rose, from, point, first),
-        rose,
-    }
+    start_of(was_up, rose, from, point, first)
 }
 
-/// Takes the line through the first catch-up point, where that comes by `to` and before the first tick.
-/// Answers whether it rose.
+/// Takes the line through the first catch-up point, where that comes by `to` and before the first
+/// tick. Answers whether it rose.
 fn catch_up_first(line: &mut TickLine, point: u64, to: u64, first: Option<u64>) -> bool
     ensures state { line.new ≡ caught_up_where (is_caught point to first) line.old }
     ensures rose { result ≡ (is_caught point to first && is_waiting line.old) }

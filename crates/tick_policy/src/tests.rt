@@ -46,8 +46,14 @@ fn ten_missed_ticks(rt: HostRuntime) {
         line.due(11);
         assert!(rt; line.is_up());
         assert_eq!(rt; line.counts(), missed);
+        let mut halfway = line;
+        halfway.ack_down();
+        assert!(rt; !halfway.is_up());
+        assert_eq!(rt; halfway.counts(), missed);
+        assert_eq!(rt; line.goes_again(), answer == Acked::DownUp);
         assert_eq!(rt; line.ack(), answer);
         assert_eq!(rt; line.counts(), acknowledged);
+        assert_eq!(rt; line.is_waiting(), rose);
         assert_eq!(rt; line.catch_up(), rose);
         assert_eq!(rt; line.counts(), caught_up);
     }
@@ -69,48 +75,54 @@ fn none_missed(rt: HostRuntime) {
 }
 
 #[test]
-fn parts_and_back(rt: HostRuntime) -> Result<(), Fail> {
+fn parts_and_back(rt: HostRuntime) {
     let cases = [
-        (Policy::Discard, counts(11, 1, 0, 10), true),
-        (Policy::Discard, counts(11, 1, 10, 0), false),
-        (Policy::Delay, counts(11, 2, 9, 0), true),
-        (Policy::Delay, counts(11, 2, 0, 9), false),
-        (Policy::Slew, counts(11, 2, 9, 0), true),
-        (Policy::Slew, counts(11, 2, 0, 9), false),
-        (Policy::Delay, counts(12, 2, 9, 0), false),
+        (Policy::Discard, counts(11, 1, 0, 10), None),
+        (
+            Policy::Discard,
+            counts(11, 1, 10, 0),
+            Some(TickField::Queue),
+        ),
+        (Policy::Delay, counts(11, 2, 9, 0), None),
+        (Policy::Delay, counts(11, 2, 0, 9), Some(TickField::Lost)),
+        (Policy::Slew, counts(11, 2, 9, 0), None),
+        (Policy::Slew, counts(11, 2, 0, 9), Some(TickField::Lost)),
+        (Policy::Delay, counts(12, 2, 9, 0), Some(TickField::Lost)),
         (
             Policy::Delay,
             counts(1, 18_446_744_073_709_551_615, 2, 0),
-            false,
+            Some(TickField::Lost),
         ),
     ];
-    for (policy, counts, valid) in cases {
+    for (policy, counts, fault) in cases {
         let parts = TickParts {
             policy,
             up: false,
             counts,
         };
+        assert_eq!(rt; parts.first_fault(), fault);
+        assert_eq!(rt; Policy::of_byte(policy.byte()), Some(policy));
         let line = TickLine::of_parts(parts);
-        assert_eq!(rt; line.is_some(), valid);
-        if valid {
-            assert_eq!(rt; line.ok_or("no line")?.parts(), parts);
+        assert_eq!(rt; line.is_some(), fault.is_none());
+        if let Some(line) = line {
+            assert_eq!(rt; line.parts(), parts);
         }
     }
-    Ok(())
 }
 
-/// Slewed lines of which two ticks wait, over the nanoseconds 101 to 112: one tick is due at 110, or none is.
+/// Slewed lines of which two ticks wait, over the nanoseconds 101 to 112: one tick is due at 110,
+/// or none is.
 #[test]
 fn stretches(rt: HostRuntime) -> Result<(), Fail> {
     let cases = [
-        (false, 104, None, Some(104), true, counts(3, 2, 1, 0)),
-        (false, 104, Some(110), Some(104), true, counts(4, 2, 2, 0)),
-        (false, 110, Some(110), Some(110), false, counts(4, 2, 2, 0)),
-        (false, 120, Some(110), Some(110), false, counts(4, 2, 2, 0)),
-        (false, 120, None, None, false, counts(3, 1, 2, 0)),
-        (true, 104, Some(110), Some(100), false, counts(4, 1, 3, 0)),
+        (false, 104, None, Some(104), counts(3, 2, 1, 0)),
+        (false, 104, Some(110), Some(104), counts(4, 2, 2, 0)),
+        (false, 110, Some(110), Some(110), counts(4, 2, 2, 0)),
+        (false, 120, Some(110), Some(110), counts(4, 2, 2, 0)),
+        (false, 120, None, None, counts(3, 1, 2, 0)),
+        (true, 104, Some(110), Some(100), counts(4, 1, 3, 0)),
     ];
-    for (up, point, first, up_from, rose, wanted) in cases {
+    for (up, point, first, up_from, wanted) in cases {
         let parts = TickParts {
             policy: Policy::Slew,
             up,
@@ -124,7 +136,7 @@ fn stretches(rt: HostRuntime) -> Result<(), Fail> {
         let mut line = TickLine::of_parts(parts).ok_or("no line")?;
         let ticks = if first.is_some() { 1 } else { 0 };
         let run = run_line(&mut line, 100, 112, point, ticks, first);
-        assert_eq!(rt; run, LineRun { up_from, rose });
+        assert_eq!(rt; run, up_from);
         assert_eq!(rt; line.counts(), wanted);
     }
     Ok(())

@@ -1,11 +1,11 @@
 -- The board of a trace: the 8254 and line 0, stepped nanosecond by nanosecond.
-use Rattle.std.specs.Prelude.{ℕ, zero, suc, ◌+◌, ◌-◌, ◌==◌, ◌&&◌, ◌||◌, not, false, Option, Some, None, if◌then◌else◌}
+use Rattle.std.specs.Prelude.{ℕ, zero, suc, ◌+◌, ◌-◌, ◌&&◌, ◌||◌, not, false, Option, Some, None, if◌then◌else◌}
 use Rattle.clk_units.specs.Pulses.{falls_at}
 use Rattle.pit_counter.specs.Table.{has_risen, rises_next}
 use Rattle.trace_runner.specs.Lines.{first_of}
 use Rattle.trace_runner.specs.Clock.{pit_hz}
 use Rattle.pit_readback.specs.Pit.{pit_at_power_on, pit_pulsed, counter_of}
-use Rattle.pit_readback.specs.Ports.{port_written, port_read, after_port_read, written_61, read_of_61}
+use Rattle.pit_readback.specs.Ports.{port_written, port_read, after_port_read}
 use Rattle.trace_runner.specs.declared.board.Board.{Board}
 use Rattle.trace_runner.specs.declared.record.Job.{Job}
 use Rattle.trace_runner.specs.declared.record.Job.TheVariants.{PortIn, PortOut, Step}
@@ -44,19 +44,19 @@ run (suc n) b = onward (b.time + suc n) (run n b)
 -- a port is written: line 0 goes up where that makes OUT of counter 0 rise
 unfoldable pub written : ℕ → ℕ → Board → Board
 written port byte b = record b {
-  pit = if port == 0x61 then written_61 byte b.pit else port_written port byte b.pit;
-  line_up = b.line_up || (not (port == 0x61) && has_risen (counter_of b.pit 0) (counter_of (port_written port byte b.pit) 0));
+  pit = port_written port byte b.pit;
+  line_up = b.line_up || has_risen (counter_of b.pit 0) (counter_of (port_written port byte b.pit) 0);
 }
 
 -- what a job leaves of the board ..
 unfoldable pub done : Job → Board → Board
-done (PortIn port) b = record b { pit = if port == 0x61 then b.pit else after_port_read port b.pit }
+done (PortIn port) b = record b { pit = after_port_read port b.pit }
 done (PortOut port byte) b = written port byte b
 done Step b = b
 
 -- .. and the value that it gives
 unfoldable pub value_of : Job → Board → Option ℕ
-value_of (PortIn port) b = Some (if port == 0x61 then read_of_61 b.time b.pit else port_read port b.pit)
+value_of (PortIn port) b = Some (port_read b.time port b.pit)
 value_of (PortOut port byte) b = None
 value_of Step b = None
 

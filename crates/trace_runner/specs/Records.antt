@@ -3,7 +3,7 @@ use Rattle.std.specs.Prelude.{ℕ, nat_lt, List, [], ◌∷◌, Option, Some, No
 use Rattle.std.specs.Option.{option_map}
 use Rattle.std.specs.Str.{bytes_eq}
 use Rattle.trace_runner.specs.Tokens.{words_of, decimal_in, hex_in, byte_in}
-use Rattle.trace_runner.specs.Ports.{is_pit_port}
+use Rattle.pit_readback.specs.Ports.{is_pit_port}
 use Rattle.trace_runner.specs.declared.record.Job.{Job}
 use Rattle.trace_runner.specs.declared.record.Job.TheVariants.{PortIn, PortOut, Step}
 use Rattle.trace_runner.specs.declared.record.Record.{Record}

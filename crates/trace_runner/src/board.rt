@@ -1,21 +1,13 @@
 ghost use Rattle.std.specs.Prelude.{◌≡◌, ◌<◌, ◌≤◌, ◌+◌, ◌-◌, ◌^◌, ◌&&◌, ◌||◌, ◌==◌, not, true, if◌then◌else◌, Some, None, IfSome, is_some};
 ghost use Rattle.clk_units.specs.Pulses.{pulses_by, time_of};
-ghost use Rattle.pit_counter.specs.Table.{has_risen};
-ghost use Rattle.pit_readback.specs.Pit.{counter_of};
-ghost use Rattle.pit_readback.specs.Ports.{written_61, port_written, port_read, after_port_read, read_of_61};
+ghost use Rattle.pit_readback.specs.Ports.{is_pit_port};
 ghost use Rattle.trace_runner.specs.Lines.{first_of};
-ghost use Rattle.trace_runner.specs.Ports.{is_pit_port, HasPort};
+ghost use Rattle.trace_runner.specs.Ports.{HasPort};
 ghost use Rattle.trace_runner.specs.Clock.{pit_hz, rise_time};
 
 use crate::record::{Job, Record};
 use clk_units::{pulses_between, pulses_of, time_of_pulse};
-use pit_readback::Pit;
-
-/// Pulses a second of the 8254's clock.
-const PIT_HZ: u64 = 1_193_182;
-
-/// The port of the speaker's gate.
-const SPEAKER: u8 = 0x61;
+use pit_readback::{PIT_HZ, Pit};
 
 /// The board of a trace: the 8254, and line 0, which stays up once it has risen.
 #[derive(Drop)]
@@ -94,7 +86,7 @@ impl Board {
         ensures value { result ≡ value_of job self.old }
     {
         match job {
-            Job::PortIn(port) => Some(read_port(&mut self.pit, port, self.time)),
+            Job::PortIn(port) => Some(self.pit.read(port, self.time)),
             Job::PortOut(port, byte) => {
                 self.write(port, byte);
                 None
@@ -110,7 +102,7 @@ impl Board {
         ensures board { self.new ≡ written port byte self.old }
         ensures same { self.new.accesses ≡ self.old.accesses }
     {
-        let rose = write_port(&mut self.pit, port, byte);
+        let rose = self.pit.write(port, byte);
         self.line_up = either(self.line_up, rose);
     }
 }
@@ -137,32 +129,6 @@ fn rise_between(now: u64, before: bool, after: bool) -> Option<u64>
     ensures { result ≡ (if not before && after then Some now else None) }
 {
     if !before && after { Some(now) } else { None }
-}
-
-/// Writes a byte to a port of the 8254. Answers whether OUT of counter 0 rose.
-fn write_port(pit: &mut Pit, port: u8, byte: u8) -> bool
-    requires { is_pit_port port ≡ true }
-    ensures pit { pit.new ≡ (if port == 0x61 then written_61 byte pit.old else port_written port byte pit.old) }
-    ensures rose { result ≡ (not (port == 0x61) && has_risen (counter_of pit.old 0) (counter_of (port_written port byte pit.old) 0)) }
-{
-    if port == SPEAKER {
-        pit.write_61(byte);
-        return false;
-    }
-    pit.write(port, byte)
-}
-
-/// Reads a byte from a port of the 8254.
-fn read_port(pit: &mut Pit, port: u8, now: u64) -> u8
-    requires { is_pit_port port ≡ true }
-    ensures pit { pit.new ≡ (if port == 0x61 then pit.old else after_port_read port pit.old) }
-    ensures value { result ≡ (if port == 0x61 then read_of_61 now pit.old else port_read port pit.old) }
-{
-    if port == SPEAKER {
-        pit.read_61(now)
-    } else {
-        pit.read(port)
-    }
 }
 
 /// Whether a line is up that was up, or that rises at a pulse.

@@ -1,5 +1,6 @@
 ghost use Rattle.std.specs.Prelude.{◌≡◌, ◌<◌, true, IfSome};
-ghost use Rattle.trace_runner.specs.Ports.{is_pit_port, HasPort};
+ghost use Rattle.pit_readback.specs.Ports.{is_pit_port};
+ghost use Rattle.trace_runner.specs.Ports.{HasPort};
 ghost use Rattle.trace_runner.specs.Records.{record_in, at_last, job_in, timed_job, in_job, out_job, port_in};
 
 use crate::tokens::{Words, byte_in, decimal_in, hex_in};

@@ -1,6 +1,6 @@
 use Rattle.std.proofs.Common.{rules, ◌≡◌, ℕ, bit_and, ap, sym, subst, ◌∙◌}
 use Rattle.hpet_registers.specs.declared.parts.HpetParts.{HpetParts}
-use Rattle.hpet_registers.specs.Register.{hpet_written}
+use Rattle.hpet_registers.specs.Access.{hpet_written}
 use Rattle.hpet_registers.proofs.Conditions.{IsHpet-register_written}
 use Rattle.hpet_registers.proofs.Laws.{status-register_written}
 use Rattle.hpet_registers.proofs.Halves.{hpet_written-halves}

@@ -12,7 +12,8 @@ loop-event-preserved c =
     let i = c.loop-event.event-index in
     let l = c.loop-event.self in
     let event : Event = get_or es i Tick in
-    let states : after_events (drop i es) l ≡ after_events (drop (i + 1) es) (after_event event l) = at_drop_more (λ xs. after_events xs l) es i Tick c.loop-event-test.true in
+    let states : after_events (drop i es) l ≡ after_events (drop (i + 1) es) (after_event event l) =
+    at_drop_more (λ xs. after_events xs l) es i Tick c.loop-event-test.true in
     let ticks : ticks_of (drop i es) ≡ tick_of event + ticks_of (drop (i + 1) es) = at_drop_more ticks_of es i Tick c.loop-event-test.true in
     rw c.run_event.ensures
     record {

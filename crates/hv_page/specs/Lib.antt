@@ -1,0 +1,4 @@
+pub mod Scale
+pub mod Time
+pub mod Page
+pub mod Words

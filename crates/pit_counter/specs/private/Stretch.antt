@@ -1,0 +1,93 @@
+-- Words of the closed form of many pulses alone. What a pulse does is told in Table.
+use Rattle.std.specs.Prelude.{
+  ℕ,
+  ◌+◌,
+  ◌-◌,
+  ◌*◌,
+  ◌/◌,
+  ◌%◌,
+  ◌^◌,
+  ◌==◌,
+  ◌&&◌,
+  not,
+  Bool,
+  false,
+  Option,
+  Some,
+  None,
+  if◌then◌else◌,
+}
+use Rattle.pit_counter.specs.Mode.{mode_of, is_periodic}
+use Rattle.pit_counter.specs.Count.{modulus, loaded_count, is_odd_square}
+use Rattle.pit_counter.specs.declared.table.Effect.{Effect}
+use Rattle.pit_counter.specs.declared.table.Effect.TheVariants.{
+  Load,
+  DownToHigh,
+  DownToLow,
+  DownByTwo,
+  DownToStrobe,
+  Stand,
+}
+use Rattle.pit_counter.specs.declared.parts.CounterParts.{CounterParts}
+
+-- how far the count goes down at each pulse
+abbrev pub step_of : Effect → ℕ
+step_of (Load level) = 0
+step_of DownToHigh = 1
+step_of DownToLow = 1
+step_of DownByTwo = 2
+step_of DownToStrobe = 1
+step_of (Stand level) = 0
+
+-- a pulse with this effect changes nothing
+abbrev pub is_still : Effect → Bool → Bool
+is_still (Load level) out = false
+is_still DownToHigh out = false
+is_still DownToLow out = false
+is_still DownByTwo out = false
+is_still DownToStrobe out = false
+is_still (Stand level) out = if level then out else not out
+
+-- more pulses than are ever asked for
+abbrev pub forever : ℕ
+forever = 2 ^ 64 - 1
+
+-- how far the count is above 0: the whole way round where it is 0
+unfoldable pub height : CounterParts → ℕ
+height c = if c.ce == 0 then modulus c.bits else c.ce
+
+-- how many pulses with this effect leave all but the count as it is, and keep the effect
+unfoldable pub quiet_for : Effect → CounterParts → ℕ
+quiet_for (Load level) c = 0
+quiet_for DownToHigh c = if c.out then forever else height c - 1
+quiet_for DownToLow c = height c - 2
+quiet_for DownByTwo c = if c.out && c.odd then c.ce / 2 else height c / 2 - 1
+quiet_for DownToStrobe c = if c.out then (if c.armed then height c - 1 else forever) else 0
+quiet_for (Stand level) c = if is_still (Stand level) c.out then forever else 0
+
+-- the count lower by `down`
+unfoldable pub glided_count : ℕ → ℕ → ℕ → ℕ
+glided_count bits ce down = (ce + modulus bits - down % modulus bits) % modulus bits
+
+-- the counter after n quiet pulses
+unfoldable pub glided : Effect → ℕ → CounterParts → CounterParts
+glided e n c = record c { ce = glided_count c.bits c.ce (step_of e * n) }
+
+-- the counter is as a load leaves it in modes 2 and 3, with GATE high: a period begins
+unfoldable pub is_reloaded : CounterParts → Bool
+is_reloaded c =
+    is_periodic (mode_of c.bits)
+    && c.gate
+    && c.live
+    && c.out
+    && not c.null
+    && not c.trig
+    && not c.armed
+    && c.ce == loaded_count c.bits c.cr
+    && (if is_odd_square c.bits c.cr then c.odd else not c.odd)
+
+-- the first of both, where the second begins behind the first m
+abbrev pub joined_first : Option ℕ → ℕ → Option ℕ → Option ℕ
+joined_first (Some k) m later = Some k
+joined_first None m (Some j) = Some (m + j)
+joined_first None m None = None
