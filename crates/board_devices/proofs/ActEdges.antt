@@ -5,12 +5,13 @@ use Rattle.irq_edges.specs.Lines.{change, changes, line_numbers}
 use Rattle.irq_edges.proofs.EdgesOf.{changes-same}
 use Rattle.pit_counter.specs.Table.{has_risen}
 use Rattle.pit_readback.specs.Pit.{counter_of}
+use Rattle.pit_readback.specs.Ports.{port_written}
 use Rattle.pit_readback.specs.declared.parts.PitParts.{PitParts}
 use Rattle.rtc_registers.specs.declared.parts.RtcParts.{RtcParts}
 use Rattle.rtc_registers.specs.Registers.{pf_of, irqf_of}
 use Rattle.rtc_registers.specs.Access.{after_rtc_read, rtc_written, flagged}
 use Rattle.hpet_registers.specs.Parts.{is_legacy}
-use Rattle.tick_policy.specs.declared.line.TickParts.{TickParts}
+use Rattle.tick_policy.specs.declared.parts.TickParts.{TickParts}
 use Rattle.tick_policy.specs.Line.{goes_again}
 use Rattle.tick_policy.specs.Stretch.{ticked_where}
 use Rattle.board_devices.specs.declared.parts.DeviceParts.{DeviceParts}
@@ -18,7 +19,7 @@ use Rattle.board_devices.specs.declared.act.Act.{Act}
 use Rattle.board_devices.specs.declared.act.Act.TheVariants.{PitRead, PitWrite, IndexRead, IndexWrite, ClockRead, ClockWrite, HpetRead, Nothing}
 use Rattle.board_devices.specs.Places.{each, line_at, no_line, ticked_at}
 use Rattle.board_devices.specs.Lines.{output_of, levels}
-use Rattle.board_devices.specs.Act.{acted, first_part, act_edges, pit_written, pit_ticked, ticks_on_write, reads_c, acked_where, down_where, rtc_set}
+use Rattle.board_devices.specs.Act.{acted, first_part, act_edges, pit_ticked, ticks_on_write, reads_c, acked_where, down_where, rtc_set}
 use Rattle.board_devices.specs.Nanosecond.{counts_rtc}
 use Rattle.board_devices.proofs.Places.{each-at, each-none}
 use Rattle.board_devices.proofs.Masks.{ticked_none}
@@ -125,7 +126,7 @@ pub edges-pit_write : (t port byte : ℕ) (d : DeviceParts) → length d.ticks �
 unfolding acted first_part
 edges-pit_write t port byte d long =
     no_second t (changes t line_numbers (levels d) (levels (acted (PitWrite port byte) d))) (levels (acted (PitWrite port byte) d))
-    ∙ by_tick (has_risen (counter_of d.pit 0) (counter_of (pit_written port byte d.pit) 0)) (is_legacy d.hpet) refl
+    ∙ by_tick (has_risen (counter_of d.pit 0) (counter_of (port_written port byte d.pit) 0)) (is_legacy d.hpet) refl
   where
     or-false : (a : Bool) → change t 0 a (a || false) ≡ []
     or-false true = refl
@@ -136,7 +137,7 @@ edges-pit_write t port byte d long =
     or-true false = refl
 
     p : PitParts
-    p = pit_written port byte d.pit
+    p = port_written port byte d.pit
 
     same_levels : levels (record d { pit = p; ticks = d.ticks }) ≡ levels d
     same_levels = levels-front d p d.rtc d.ticks (λ k. refl) ∙ sym (levels-parts d)

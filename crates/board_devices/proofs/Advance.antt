@@ -1,8 +1,11 @@
 -- The devices and their levels at each nanosecond of a stretch, from the numbers that its pulses brought.
-use Rattle.std.proofs.Common.{◌≡◌, ℕ, zero, suc, ◌+◌, ◌<◌, ◌≤◌, ◌↔◌, Bool, true, false, cond, ltb, leb, eqb, ◌&&◌, ◌||◌, not, List, [], ◌∷◌, length, get_or, map, Option, Some, None, refl, ap, sym, subst, ◌∙◌, inl, inr, arith}
-use Rattle.std.proofs.lemmas.Bool.{lt-ltb, le-ltb, lt-leb, le-leb, cases_lt, false≢true, true≢false}
+use Rattle.std.proofs.Common.{◌≡◌, ℕ, zero, suc, ◌+◌, ◌<◌, ◌≤◌, Bool, true, false, cond, ltb, leb, eqb, ◌&&◌, ◌||◌, not, List, [], ◌∷◌, length, get_or, map, Option, Some, None, refl, ap, sym, subst, ◌∙◌, inl, inr, arith}
+use Rattle.pit_readback.specs.declared.TheConstants.{PIT_HZ}
+use Rattle.rtc_registers.specs.declared.TheConstants.{RTC_HZ}
+use Rattle.hpet_registers.specs.declared.hpet.TheConstants.{HPET_HZ}
+use Rattle.std.proofs.lemmas.Bool.{lt-leb, le-leb, cases_lt, true≢false}
 use Rattle.clk_units.specs.Events.{CountsUp, IsFirst, first_at}
-use Rattle.clk_units.specs.Pulses.{pulses_by, pulses_from, time_of}
+use Rattle.clk_units.specs.Pulses.{pulses_from}
 use Rattle.clk_units.proofs.Events.{CountsUp-few, counts-at, first_tick, first_tick-none}
 use Rattle.irq_edges.specs.Rises.{is_up_at, levels_at}
 use Rattle.pit_counter.specs.declared.rises.Rises.{Rises}
@@ -20,28 +23,28 @@ use Rattle.clk_units.specs.Bits.{bit}
 use Rattle.rtc_registers.specs.Pulses.{rtc_pulsed_times, alarms_in}
 use Rattle.rtc_registers.proofs.Times.{register_b-rtc_pulsed_times, pf_of-rtc_pulsed_times, af_of-rtc_pulsed_times, uf_of-rtc_pulsed_times, IsRtc-rtc_pulsed_times, CountsUp-alarms_in}
 use Rattle.rtc_registers.proofs.Flags.{af_of-flagged, uf_of-flagged}
-use Rattle.hpet_comparator.specs.declared.timer.Matches.{Matches}
-use Rattle.hpet_comparator.specs.declared.parts.TimerParts.{TimerParts}
-use Rattle.hpet_comparator.specs.Timer.{is_level, is_enabled, bit_of, route_of}
+use Rattle.hpet_comparator.specs.declared.stretch.Matches.{Matches}
+use Rattle.hpet_comparator.specs.Parts.{is_level, is_enabled, route_of}
 use Rattle.hpet_registers.specs.declared.parts.HpetParts.{HpetParts}
-use Rattle.hpet_registers.specs.Parts.{timer_at, is_legacy, IsHpet, IsPlace}
-use Rattle.hpet_registers.specs.Pulses.{hpet_pulsed_times, matches_of, timer_matches}
-use Rattle.hpet_registers.proofs.Product.{config-hpet_pulsed_times, status-hpet_pulsed_times, CountsUp-matches_of}
-use Rattle.tick_policy.specs.declared.line.TickParts.{TickParts}
-use Rattle.tick_policy.specs.Stretch.{line_after, line_end, is_caught, caught_up_where, up_from, IsFirstPoint, IsFirstTick}
-use Rattle.tick_policy.proofs.Ticks.{due_ticked_times}
-use Rattle.tick_policy.proofs.Stretches.{ended, up-after}
+use Rattle.hpet_registers.specs.Parts.{timer_at, is_legacy}
+use Rattle.hpet_registers.specs.Outputs.{has_ticks}
+use Rattle.hpet_registers.specs.Stretch.{hpet_pulsed_times, matches_of, timer_matches}
+use Rattle.hpet_registers.proofs.Product.{timer_config-hpet_pulsed_times, status_bit-hpet_pulsed_times, is_legacy-hpet_pulsed_times, timers-hpet_pulsed_times, messages-hpet_pulsed_times, CountsUp-matches_of}
+use Rattle.tick_policy.specs.declared.parts.TickParts.{TickParts}
+use Rattle.tick_policy.specs.Stretch.{line_after, line_end, up_from, IsFirstPoint, IsFirstTick}
+use Rattle.tick_policy.proofs.Kept.{due-line_end}
+use Rattle.tick_policy.proofs.Stretches.{ended, up-after, event-up}
 use Rattle.board_devices.specs.declared.parts.DeviceParts.{DeviceParts}
 use Rattle.board_devices.specs.declared.stretch.Ticks.{Ticks}
 use Rattle.board_devices.specs.Places.{each, line_at, no_line}
-use Rattle.board_devices.specs.Nanosecond.{pit_hz, rtc_hz, hpet_hz, counts_rtc, has_ticks, sees_point}
+use Rattle.board_devices.specs.Nanosecond.{counts_rtc, sees_point}
 use Rattle.board_devices.specs.Lines.{output_of, drives, routed, levels}
 use Rattle.board_devices.specs.Run.{run}
 use Rattle.board_devices.specs.private.Stretch.{source, line_run, flagged_where, parted, counted, no_ticks, timer_ticks, ticks_at, end_of, up_of, eight, either_from, flag_from, output_from, routed_from}
 use Rattle.board_devices.specs.Parts.{IsDevices}
-use Rattle.board_devices.proofs.Keeps.{IsDevices-each, KeepsLines-line_run, timers-times, messages-times}
+use Rattle.board_devices.proofs.Keeps.{IsDevices-each, KeepsLines-line_run}
 use Rattle.board_devices.proofs.Places.{each-at, length-each, same_places, at-eight}
-use Rattle.board_devices.proofs.Product.{Sound, run-parted, same_parts, counts-by, is_legacy-times, register_b-flagged_where, flag-is-line}
+use Rattle.board_devices.proofs.Product.{Sound, run-parted, same_parts, counts-by, register_b-flagged_where, flag-is-line}
 
 -- what is known of the ticks at a place
 pub record AreTicks (d : DeviceParts) (t n k : ℕ) (s : Ticks) : Type 0 where
@@ -66,17 +69,6 @@ first-of count hz t n (Some k) runs up h = λ j _. first_tick count hz t n k run
 first-where : (b : Bool) (count : ℕ → ℕ) (hz t n : ℕ) (first : Option ℕ) → 0 < hz → CountsUp count → (b ≡ true → IsFirst count (pulses_from hz t n) first) → IsFirstTick (λ j. cond b (count (pulses_from hz t j)) 0) t n (cond b (first_at hz t first) None)
 first-where true count hz t n first runs up h = first-of count hz t n first runs up (h refl)
 first-where false count hz t n first runs up h = λ j _. refl
-
--- an event has come exactly where its time has
-event-up : (count : ℕ → ℕ) (hz t n : ℕ) (first : Option ℕ) → 0 < hz → CountsUp count → IsFirst count (pulses_from hz t n) first → (j : ℕ) → j ≤ n → ltb 0 (count (pulses_from hz t j)) ≡ is_up_at (t + j) (first_at hz t first)
-event-up count hz t n None runs up h j le = ap (ltb 0) (first_tick-none count hz t n up h j le) ∙ le-ltb 0 0 (omega arith)
-event-up count hz t n (Some k) runs up h j le = same_test (count (pulses_from hz t j)) (time_of hz (pulses_by hz t + k)) (t + j) (first_tick count hz t n k runs up h j)
-  where
-    same_test : (m a b : ℕ) → (0 < m) ↔ (a ≤ b) → ltb 0 m ≡ leb a b
-    same_test m a b e = elim (cases_lt 0 m) [
-      | inl some ↦ lt-ltb 0 m some ∙ sym (le-leb a b (e.0 some))
-      | inr none ↦ elim (cases_lt b a) [ inl late ↦ le-ltb 0 m none ∙ sym (lt-leb a b late) | inr reached ↦ absurd (let some : 0 < m = e.1 reached in omega arith) ]
-    ]
 
 -- a flag that is shown where b holds
 flag-up : (b flag event : Bool) (t j : ℕ) (first : Option ℕ) → (b ≡ true → event ≡ is_up_at (t + j) first) → ((flag || event) && b) ≡ is_up_at (t + j) (flag_from b flag t first)
@@ -135,40 +127,22 @@ run-up d t n k c s l known point j le =
     by_test true x u e = e
     by_test false x u e = constant l.up
 
--- a place that holds a timer of level type, or one with ticks, is that of a timer
-pub is_place : (h : HpetParts) (k : ℕ) → IsHpet h → k < 8 → (test : ℕ → Bool) → test 0 ≡ false → test (timer_at k h).config ≡ true → k < h.timers
-is_place h k valid small test none on = elim (cases_lt k h.timers) [
-  | inl inside ↦ inside
-  | inr outside ↦ absurd (false≢true (sym (ap test (empty outside) ∙ none) ∙ on))
-]
-  where
-    empty : h.timers ≤ k → (timer_at k h).config ≡ 0
-    empty outside = ap (λ (t : TimerParts). t.config) (subst (λ (b : Bool). IsPlace b (timer_at k h)) (le-ltb k h.timers outside) (valid.places k small))
-
-pub first_of_and : (a b : Bool) → (a && b) ≡ true → a ≡ true
-first_of_and true b h = refl
-first_of_and false b h = h
-
 -- what the pulses of a stretch brought
 pub record Brought (d : DeviceParts) (t n : ℕ) (rises : Rises) (events : RtcEvents) (ms : List Matches) : Type 0 where
-  pub pit_count : rises.count ≡ rises_in (counter_of d.pit 0) (pulses_from pit_hz t n)
-  pub pit_first : IsFirst (rises_in (counter_of d.pit 0)) (pulses_from pit_hz t n) rises.first
-  pub rtc_count : events.cycle.ticks ≡ ticks_in (divider_of d.rtc) (pulses_from rtc_hz t n)
-  pub rtc_first : IsFirst (ticks_in (divider_of d.rtc)) (pulses_from rtc_hz t n) events.cycle.first_tick
-  pub update_first : IsFirst (updates_in (divider_of d.rtc)) (pulses_from rtc_hz t n) events.cycle.first_update
-  pub alarm_first : IsFirst (alarms_in d.rtc) (pulses_from rtc_hz t n) events.first_alarm
-  pub timer_count : (k : ℕ) → k < d.hpet.timers → (timer_matches ms k).count ≡ matches_of k d.hpet (pulses_from hpet_hz t n)
-  pub timer_first : (k : ℕ) → k < d.hpet.timers → IsFirst (matches_of k d.hpet) (pulses_from hpet_hz t n) (timer_matches ms k).first
-
-due-caught : (b : Bool) (l : TickParts) → (caught_up_where b l).counts.due ≡ l.counts.due
-due-caught true l = refl
-due-caught false l = refl
+  pub pit_count : rises.count ≡ rises_in (counter_of d.pit 0) (pulses_from PIT_HZ t n)
+  pub pit_first : IsFirst (rises_in (counter_of d.pit 0)) (pulses_from PIT_HZ t n) rises.first
+  pub rtc_count : events.cycle.ticks ≡ ticks_in (divider_of d.rtc) (pulses_from RTC_HZ t n)
+  pub rtc_first : IsFirst (ticks_in (divider_of d.rtc)) (pulses_from RTC_HZ t n) events.cycle.first_tick
+  pub update_first : IsFirst (updates_in (divider_of d.rtc)) (pulses_from RTC_HZ t n) events.cycle.first_update
+  pub alarm_first : IsFirst (alarms_in d.rtc) (pulses_from RTC_HZ t n) events.first_alarm
+  pub timer_count : (k : ℕ) → (timer_matches ms k).count ≡ matches_of k d.hpet (pulses_from HPET_HZ t n)
+  pub timer_first : (k : ℕ) → IsFirst (matches_of k d.hpet) (pulses_from HPET_HZ t n) (timer_matches ms k).first
 
 due-end : (P to : ℕ) (s : Ticks) (l : TickParts) → (end_of P to s l).counts.due ≤ l.counts.due + s.count
 due-end P to s l = by_test s.seen
   where
     by_test : (b : Bool) → (cond b (line_end P to s.first s.count l) l).counts.due ≤ l.counts.due + s.count
-    by_test true = omega (arith, due_ticked_times s.count (caught_up_where (is_caught P to s.first) l), due-caught (is_caught P to s.first) l)
+    by_test true = omega (arith, due-line_end P to s.first s.count l)
     by_test false = omega arith
 
 -- all that is known of a stretch
@@ -176,34 +150,31 @@ pub record Known (d : DeviceParts) (t n c : ℕ) (rises : Rises) (events : RtcEv
   pub sound : Sound d
   pub point : IsFirstPoint d.slew_ns t c
   pub brought : Brought d t n rises events ms
-  pub each_matched : (k : ℕ) → k < 8 → get_or matched k None ≡ first_at hpet_hz t (timer_matches ms k).first
+  pub each_matched : (k : ℕ) → k < 8 → get_or matched k None ≡ first_at HPET_HZ t (timer_matches ms k).first
   pub each_timer : (k : ℕ) → k < 8 → get_or timers k no_ticks ≡ timer_ticks k d.hpet ms matched
-  pub pit_is : pit ≡ counted true (not (is_legacy d.hpet)) rises.count (first_at pit_hz t rises.first)
-  pub rtc_is : rtc ≡ counted (counts_rtc d) (counts_rtc d) events.cycle.ticks (first_at rtc_hz t events.cycle.first_tick)
+  pub pit_is : pit ≡ counted true (not (is_legacy d.hpet)) rises.count (first_at PIT_HZ t rises.first)
+  pub rtc_is : rtc ≡ counted (counts_rtc d) (counts_rtc d) events.cycle.ticks (first_at RTC_HZ t events.cycle.first_tick)
 
 module _ {d : DeviceParts} {t n c : ℕ} {rises : Rises} {events : RtcEvents} {ms : List Matches} {matched : List (Option ℕ)} {pit rtc : Ticks} {timers : List Ticks} (know : Known d t n c rises events ms matched pit rtc timers) where
   pub known : (k : ℕ) → k < 10 → AreTicks d t n k (ticks_at pit rtc timers k)
   known zero h = subst (AreTicks d t n 0) (sym know.pit_is) (record {
     seen = refl;
-    counts = counts-where (not (is_legacy d.hpet)) (rises_in (counter_of d.pit 0)) pit_hz t (omega arith) (CountsUp-rises_in (counter_of d.pit 0));
-    number = number-where (not (is_legacy d.hpet)) (rises_in (counter_of d.pit 0)) pit_hz t n rises.count (λ _. know.brought.pit_count);
-    first = first-where (not (is_legacy d.hpet)) (rises_in (counter_of d.pit 0)) pit_hz t n rises.first (omega arith) (CountsUp-rises_in (counter_of d.pit 0)) (λ _. know.brought.pit_first);
+    counts = counts-where (not (is_legacy d.hpet)) (rises_in (counter_of d.pit 0)) PIT_HZ t (omega arith) (CountsUp-rises_in (counter_of d.pit 0));
+    number = number-where (not (is_legacy d.hpet)) (rises_in (counter_of d.pit 0)) PIT_HZ t n rises.count (λ _. know.brought.pit_count);
+    first = first-where (not (is_legacy d.hpet)) (rises_in (counter_of d.pit 0)) PIT_HZ t n rises.first (omega arith) (CountsUp-rises_in (counter_of d.pit 0)) (λ _. know.brought.pit_first);
   })
   known (suc zero) h = subst (AreTicks d t n 1) (sym know.rtc_is) (record {
     seen = refl;
-    counts = counts-where (counts_rtc d) (ticks_in (divider_of d.rtc)) rtc_hz t (omega arith) (CountsUp-ticks_in (divider_of d.rtc));
-    number = number-where (counts_rtc d) (ticks_in (divider_of d.rtc)) rtc_hz t n events.cycle.ticks (λ _. know.brought.rtc_count);
-    first = first-where (counts_rtc d) (ticks_in (divider_of d.rtc)) rtc_hz t n events.cycle.first_tick (omega arith) (CountsUp-ticks_in (divider_of d.rtc)) (λ _. know.brought.rtc_first);
+    counts = counts-where (counts_rtc d) (ticks_in (divider_of d.rtc)) RTC_HZ t (omega arith) (CountsUp-ticks_in (divider_of d.rtc));
+    number = number-where (counts_rtc d) (ticks_in (divider_of d.rtc)) RTC_HZ t n events.cycle.ticks (λ _. know.brought.rtc_count);
+    first = first-where (counts_rtc d) (ticks_in (divider_of d.rtc)) RTC_HZ t n events.cycle.first_tick (omega arith) (CountsUp-ticks_in (divider_of d.rtc)) (λ _. know.brought.rtc_first);
   })
   known (suc (suc k)) h = subst (AreTicks d t n (suc (suc k))) (sym (know.each_timer k (omega arith) ∙ ap (λ (u : Option ℕ). counted true (has_ticks k d.hpet) (timer_matches ms k).count u) (know.each_matched k (omega arith)))) (record {
     seen = refl;
-    counts = counts-where (has_ticks k d.hpet) (matches_of k d.hpet) hpet_hz t (omega arith) (CountsUp-matches_of k d.hpet);
-    number = number-where (has_ticks k d.hpet) (matches_of k d.hpet) hpet_hz t n (timer_matches ms k).count (λ e. know.brought.timer_count k (here e));
-    first = first-where (has_ticks k d.hpet) (matches_of k d.hpet) hpet_hz t n (timer_matches ms k).first (omega arith) (CountsUp-matches_of k d.hpet) (λ e. know.brought.timer_first k (here e));
+    counts = counts-where (has_ticks k d.hpet) (matches_of k d.hpet) HPET_HZ t (omega arith) (CountsUp-matches_of k d.hpet);
+    number = number-where (has_ticks k d.hpet) (matches_of k d.hpet) HPET_HZ t n (timer_matches ms k).count (λ _. know.brought.timer_count k);
+    first = first-where (has_ticks k d.hpet) (matches_of k d.hpet) HPET_HZ t n (timer_matches ms k).first (omega arith) (CountsUp-matches_of k d.hpet) (λ _. know.brought.timer_first k);
   })
-    where
-      here : has_ticks k d.hpet ≡ true → k < d.hpet.timers
-      here e = is_place d.hpet k know.sound.hpet (omega arith) (bit_of 2) refl (first_of_and (is_enabled (timer_at k d.hpet)) (not (is_level (timer_at k d.hpet))) e)
 
   -- the lines at the end
   pub lines-end : (ls : List TickParts) → length ls ≡ 10 → ((k : ℕ) → k < 10 → get_or ls k no_line ≡ end_of (t + c) (t + n) (ticks_at pit rtc timers k) (line_at k d)) → ls ≡ each (line_run d t n) 0 d.ticks
@@ -232,26 +203,26 @@ module _ {d : DeviceParts} {t n c : ℕ} {rises : Rises} {events : RtcEvents} {m
 
   -- the output of timer k
   abbrev pub out_at : ℕ → Option ℕ
-  out_at k = output_from t k d.hpet (first_at hpet_hz t (timer_matches ms k).first) (up_at (suc (suc k)))
+  out_at k = output_from t k d.hpet (first_at HPET_HZ t (timer_matches ms k).first) (up_at (suc (suc k)))
 
   config-now : (j k : ℕ) → (timer_at k (parted t j d).hpet).config ≡ (timer_at k d.hpet).config
   unfolding parted
-  config-now j k = config-hpet_pulsed_times k (pulses_from hpet_hz t j) d.hpet know.sound.counter
+  config-now j k = timer_config-hpet_pulsed_times k (pulses_from HPET_HZ t j) d.hpet
 
   legacy-at : (j : ℕ) → is_legacy (parted t j d).hpet ≡ is_legacy d.hpet
   unfolding parted
-  legacy-at j = is_legacy-times (pulses_from hpet_hz t j) d.hpet know.sound.counter
+  legacy-at j = is_legacy-hpet_pulsed_times (pulses_from HPET_HZ t j) d.hpet
 
-  status-now : (j k : ℕ) → k < 8 → bit_of k (parted t j d).hpet.status ≡ (bit_of k d.hpet.status || (ltb 0 (matches_of k d.hpet (pulses_from hpet_hz t j)) && is_level (timer_at k d.hpet)))
+  status-now : (j k : ℕ) → k < 8 → bit k (parted t j d).hpet.status ≡ (bit k d.hpet.status || (ltb 0 (matches_of k d.hpet (pulses_from HPET_HZ t j)) && is_level (timer_at k d.hpet)))
   unfolding parted
-  status-now j k small = status-hpet_pulsed_times k (pulses_from hpet_hz t j) d.hpet know.sound.counter small
+  status-now j k small = status_bit-hpet_pulsed_times k (pulses_from HPET_HZ t j) d.hpet small
 
   pub output-up : (j k : ℕ) → j ≤ n → k < 8 → output_of k (parted t j d) ≡ is_up_at (t + j) (out_at k)
   output-up j k le small =
-      ap (λ (g : ℕ). cond (bit_of 1 g) (bit_of k (parted t j d).hpet.status && bit_of 2 g) (line_at (suc (suc k)) (parted t j d)).up) (config-now j k)
+      ap (λ (g : ℕ). cond (bit 1 g) (bit k (parted t j d).hpet.status && bit 2 g) (line_at (suc (suc k)) (parted t j d)).up) (config-now j k)
       ∙ ap (λ (b : Bool). cond (is_level (timer_at k d.hpet)) (b && is_enabled (timer_at k d.hpet)) (line_at (suc (suc k)) (parted t j d)).up) (status-now j k small)
-      ∙ by_level (is_level (timer_at k d.hpet)) (bit_of k d.hpet.status) (ltb 0 (matches_of k d.hpet (pulses_from hpet_hz t j))) (is_enabled (timer_at k d.hpet)) (line_at (suc (suc k)) (parted t j d)).up j (first_at hpet_hz t (timer_matches ms k).first) (up_at (suc (suc k)))
-      (λ e. event-up (matches_of k d.hpet) hpet_hz t n (timer_matches ms k).first (omega arith) (CountsUp-matches_of k d.hpet) (know.brought.timer_first k (is_place d.hpet k know.sound.hpet small (bit_of 1) refl e)) j le)
+      ∙ by_level (is_level (timer_at k d.hpet)) (bit k d.hpet.status) (ltb 0 (matches_of k d.hpet (pulses_from HPET_HZ t j))) (is_enabled (timer_at k d.hpet)) (line_at (suc (suc k)) (parted t j d)).up j (first_at HPET_HZ t (timer_matches ms k).first) (up_at (suc (suc k)))
+      (λ _. event-up (matches_of k d.hpet) HPET_HZ t n (timer_matches ms k).first (omega arith) (CountsUp-matches_of k d.hpet) (know.brought.timer_first k) j le)
       (line-up j (suc (suc k)) le (omega arith))
 
   -- the timers routed to a line
@@ -276,39 +247,39 @@ module _ {d : DeviceParts} {t n c : ℕ} {rises : Rises} {events : RtcEvents} {m
 
   -- IRQF
   abbrev pub irq_at : Option ℕ
-  irq_at = either_from (up_at 1) (either_from (flag_from (aie_of d.rtc) (af_of d.rtc) t (first_at rtc_hz t events.first_alarm)) (flag_from (uie_of d.rtc) (uf_of d.rtc) t (first_at rtc_hz t events.cycle.first_update)))
+  irq_at = either_from (up_at 1) (either_from (flag_from (aie_of d.rtc) (af_of d.rtc) t (first_at RTC_HZ t events.first_alarm)) (flag_from (uie_of d.rtc) (uf_of d.rtc) t (first_at RTC_HZ t events.cycle.first_update)))
 
   pub flag_at : ℕ → Bool
   flag_at j = counts_rtc d && (line_run d t j 1 (line_at 1 d)).up
 
   pub rtc_alone : ℕ → RtcParts
-  rtc_alone j = rtc_pulsed_times (pulses_from rtc_hz t j) d.rtc
+  rtc_alone j = rtc_pulsed_times (pulses_from RTC_HZ t j) d.rtc
 
   alone-valid : (j : ℕ) → IsRtc (rtc_alone j)
   unfolding rtc_alone
-  alone-valid j = IsRtc-rtc_pulsed_times (pulses_from rtc_hz t j) d.rtc know.sound.rtc
+  alone-valid j = IsRtc-rtc_pulsed_times (pulses_from RTC_HZ t j) d.rtc know.sound.rtc
 
-  af-now : (j : ℕ) (b : Bool) → af_of (flagged_where b (rtc_alone j)) ≡ (af_of d.rtc || ltb 0 (alarms_in d.rtc (pulses_from rtc_hz t j)))
+  af-now : (j : ℕ) (b : Bool) → af_of (flagged_where b (rtc_alone j)) ≡ (af_of d.rtc || ltb 0 (alarms_in d.rtc (pulses_from RTC_HZ t j)))
   unfolding rtc_alone flagged_where
-  af-now j true = af_of-flagged (rtc_pulsed_times (pulses_from rtc_hz t j) d.rtc) (IsRtc-rtc_pulsed_times (pulses_from rtc_hz t j) d.rtc know.sound.rtc) ∙ af_of-rtc_pulsed_times (pulses_from rtc_hz t j) d.rtc know.sound.rtc
-  af-now j false = af_of-rtc_pulsed_times (pulses_from rtc_hz t j) d.rtc know.sound.rtc
+  af-now j true = af_of-flagged (rtc_pulsed_times (pulses_from RTC_HZ t j) d.rtc) (IsRtc-rtc_pulsed_times (pulses_from RTC_HZ t j) d.rtc know.sound.rtc) ∙ af_of-rtc_pulsed_times (pulses_from RTC_HZ t j) d.rtc know.sound.rtc
+  af-now j false = af_of-rtc_pulsed_times (pulses_from RTC_HZ t j) d.rtc know.sound.rtc
 
-  uf-now : (j : ℕ) (b : Bool) → uf_of (flagged_where b (rtc_alone j)) ≡ (uf_of d.rtc || ltb 0 (updates_in (divider_of d.rtc) (pulses_from rtc_hz t j)))
+  uf-now : (j : ℕ) (b : Bool) → uf_of (flagged_where b (rtc_alone j)) ≡ (uf_of d.rtc || ltb 0 (updates_in (divider_of d.rtc) (pulses_from RTC_HZ t j)))
   unfolding rtc_alone flagged_where
-  uf-now j true = uf_of-flagged (rtc_pulsed_times (pulses_from rtc_hz t j) d.rtc) (IsRtc-rtc_pulsed_times (pulses_from rtc_hz t j) d.rtc know.sound.rtc) ∙ uf_of-rtc_pulsed_times (pulses_from rtc_hz t j) d.rtc know.sound.rtc
-  uf-now j false = uf_of-rtc_pulsed_times (pulses_from rtc_hz t j) d.rtc know.sound.rtc
+  uf-now j true = uf_of-flagged (rtc_pulsed_times (pulses_from RTC_HZ t j) d.rtc) (IsRtc-rtc_pulsed_times (pulses_from RTC_HZ t j) d.rtc know.sound.rtc) ∙ uf_of-rtc_pulsed_times (pulses_from RTC_HZ t j) d.rtc know.sound.rtc
+  uf-now j false = uf_of-rtc_pulsed_times (pulses_from RTC_HZ t j) d.rtc know.sound.rtc
 
   b-now : (j : ℕ) (b : Bool) → register_b (flagged_where b (rtc_alone j)) ≡ register_b d.rtc
   unfolding rtc_alone
-  b-now j b = register_b-flagged_where b (rtc_pulsed_times (pulses_from rtc_hz t j) d.rtc) (IsRtc-rtc_pulsed_times (pulses_from rtc_hz t j) d.rtc know.sound.rtc) ∙ register_b-rtc_pulsed_times (pulses_from rtc_hz t j) d.rtc know.sound.rtc
+  b-now j b = register_b-flagged_where b (rtc_pulsed_times (pulses_from RTC_HZ t j) d.rtc) (IsRtc-rtc_pulsed_times (pulses_from RTC_HZ t j) d.rtc know.sound.rtc) ∙ register_b-rtc_pulsed_times (pulses_from RTC_HZ t j) d.rtc know.sound.rtc
 
   -- PF is the line of the MC146818
   pub flag-now : (j : ℕ) → (line_at 1 (parted t j d)).up ≡ (counts_rtc d && pf_of (flagged_where (flag_at j) (rtc_alone j)))
   unfolding parted rtc_alone flag_at
   flag-now j =
       ap (λ (l : TickParts). l.up) (each-at (line_run d t j) 0 1 d.ticks no_line (omega (arith, know.sound.joined.places)))
-      ∙ flag-is-line (counts_rtc d) t j d.slew_ns (λ i. ticks_in (divider_of d.rtc) (pulses_from rtc_hz t i)) (line_at 1 d) d.rtc (rtc_pulsed_times (pulses_from rtc_hz t j) d.rtc) (IsRtc-rtc_pulsed_times (pulses_from rtc_hz t j) d.rtc know.sound.rtc)
-      (counts-at (ticks_in (divider_of d.rtc)) rtc_hz t (omega arith) (CountsUp-ticks_in (divider_of d.rtc))).none know.sound.joined.flag (pf_of-rtc_pulsed_times (pulses_from rtc_hz t j) d.rtc know.sound.rtc)
+      ∙ flag-is-line (counts_rtc d) t j d.slew_ns (λ i. ticks_in (divider_of d.rtc) (pulses_from RTC_HZ t i)) (line_at 1 d) d.rtc (rtc_pulsed_times (pulses_from RTC_HZ t j) d.rtc) (IsRtc-rtc_pulsed_times (pulses_from RTC_HZ t j) d.rtc know.sound.rtc)
+      (counts-at (ticks_in (divider_of d.rtc)) RTC_HZ t (omega arith) (CountsUp-ticks_in (divider_of d.rtc))).none know.sound.joined.flag (pf_of-rtc_pulsed_times (pulses_from RTC_HZ t j) d.rtc know.sound.rtc)
 
   swap : (pie legacy pf : Bool) → legacy ≡ false → (pf && pie) ≡ ((pie && not legacy) && pf)
   swap true true pf e = absurd (true≢false e)
@@ -324,9 +295,9 @@ module _ {d : DeviceParts} {t n c : ℕ} {rises : Rises} {events : RtcEvents} {m
       ∙ ap (λ (x : Bool). x || ((af_of r && aie_of d.rtc) || (uf_of r && uie_of d.rtc))) (swap (pie_of d.rtc) (is_legacy d.hpet) (pf_of r) plain ∙ sym (flag-now j) ∙ line-up j 1 le (omega arith))
       ∙ ap (λ (x : Bool). is_up_at (t + j) (up_at 1) || x) (
       ap (λ (x : Bool). (x && aie_of d.rtc) || (uf_of r && uie_of d.rtc)) (af-now j (flag_at j))
-      ∙ ap (λ (x : Bool). x || (uf_of r && uie_of d.rtc)) (flag-up (aie_of d.rtc) (af_of d.rtc) (ltb 0 (alarms_in d.rtc (pulses_from rtc_hz t j))) t j (first_at rtc_hz t events.first_alarm) (λ _. event-up (alarms_in d.rtc) rtc_hz t n events.first_alarm (omega arith) (CountsUp-alarms_in d.rtc) know.brought.alarm_first j le))
+      ∙ ap (λ (x : Bool). x || (uf_of r && uie_of d.rtc)) (flag-up (aie_of d.rtc) (af_of d.rtc) (ltb 0 (alarms_in d.rtc (pulses_from RTC_HZ t j))) t j (first_at RTC_HZ t events.first_alarm) (λ _. event-up (alarms_in d.rtc) RTC_HZ t n events.first_alarm (omega arith) (CountsUp-alarms_in d.rtc) know.brought.alarm_first j le))
       ∙ ap (λ (x : Bool). alarm_up || (x && uie_of d.rtc)) (uf-now j (flag_at j))
-      ∙ ap (λ (x : Bool). alarm_up || x) (flag-up (uie_of d.rtc) (uf_of d.rtc) (ltb 0 (updates_in (divider_of d.rtc) (pulses_from rtc_hz t j))) t j (first_at rtc_hz t events.cycle.first_update) (λ _. event-up (updates_in (divider_of d.rtc)) rtc_hz t n events.cycle.first_update (omega arith) (CountsUp-updates_in (divider_of d.rtc)) know.brought.update_first j le))
+      ∙ ap (λ (x : Bool). alarm_up || x) (flag-up (uie_of d.rtc) (uf_of d.rtc) (ltb 0 (updates_in (divider_of d.rtc) (pulses_from RTC_HZ t j))) t j (first_at RTC_HZ t events.cycle.first_update) (λ _. event-up (updates_in (divider_of d.rtc)) RTC_HZ t n events.cycle.first_update (omega arith) (CountsUp-updates_in (divider_of d.rtc)) know.brought.update_first j le))
       ∙ sym (up-either_from (t + j) _ _))
       ∙ sym (up-either_from (t + j) (up_at 1) _)
     where
@@ -334,7 +305,7 @@ module _ {d : DeviceParts} {t n c : ℕ} {rises : Rises} {events : RtcEvents} {m
       r = flagged_where (flag_at j) (rtc_alone j)
 
       alarm_up : Bool
-      alarm_up = is_up_at (t + j) (flag_from (aie_of d.rtc) (af_of d.rtc) t (first_at rtc_hz t events.first_alarm))
+      alarm_up = is_up_at (t + j) (flag_from (aie_of d.rtc) (af_of d.rtc) t (first_at RTC_HZ t events.first_alarm))
 
   -- from when on each line is up
   abbrev pub lines_from : List (Option ℕ) → List (Option ℕ)
@@ -374,29 +345,29 @@ module _ {d : DeviceParts} {t n c : ℕ} {rises : Rises} {events : RtcEvents} {m
 
   counts-now : (j : ℕ) → counts_rtc (parted t j d) ≡ counts_rtc d
   unfolding parted flag_at rtc_alone
-  counts-now j = counts-by (flagged_where (flag_at j) (rtc_alone j)) d.rtc (hpet_pulsed_times (pulses_from hpet_hz t j) d.hpet) d.hpet (b-now j (flag_at j)) (is_legacy-times (pulses_from hpet_hz t j) d.hpet know.sound.counter)
+  counts-now j = counts-by (flagged_where (flag_at j) (rtc_alone j)) d.rtc (hpet_pulsed_times (pulses_from HPET_HZ t j) d.hpet) d.hpet (b-now j (flag_at j)) (is_legacy-hpet_pulsed_times (pulses_from HPET_HZ t j) d.hpet)
 
   -- the conditions hold at each nanosecond
   pub IsDevices-parted : (j : ℕ) → IsDevices (parted t j d)
   unfolding parted flag_at rtc_alone
   IsDevices-parted j =
-      IsDevices-each d (pit_pulsed_times (pulses_from pit_hz t j) d.pit) (flagged_where (flag_at j) (rtc_alone j)) (hpet_pulsed_times (pulses_from hpet_hz t j) d.hpet) (each (line_run d t j) 0 d.ticks) (line_run d t j)
-      know.sound.joined refl (KeepsLines-line_run d t j know.sound.hpet) (timers-times (pulses_from hpet_hz t j) d.hpet) (messages-times (pulses_from hpet_hz t j) d.hpet)
+      IsDevices-each d (pit_pulsed_times (pulses_from PIT_HZ t j) d.pit) (flagged_where (flag_at j) (rtc_alone j)) (hpet_pulsed_times (pulses_from HPET_HZ t j) d.hpet) (each (line_run d t j) 0 d.ticks) (line_run d t j)
+      know.sound.joined refl (KeepsLines-line_run d t j) (timers-hpet_pulsed_times (pulses_from HPET_HZ t j) d.hpet) (messages-hpet_pulsed_times (pulses_from HPET_HZ t j) d.hpet)
       (flag-now j ∙ ap (λ (b : Bool). b && pf_of (flagged_where (flag_at j) (rtc_alone j))) (sym (counts-now j)))
 
   -- the state at the end, as the code leaves it
   pub ran-state : (P to : ℕ) (ls : List TickParts) (p : PitParts) (r : RtcParts) (h : HpetParts) → P ≡ t + c → to ≡ t + n → length ls ≡ 10
       → ((k : ℕ) → k < 10 → get_or ls k no_line ≡ end_of P to (ticks_at pit rtc timers k) (line_at k d))
-      → p ≡ pit_pulsed_times (pulses_from pit_hz t n) d.pit
-      → r ≡ flagged_where (counts_rtc d && (get_or ls 1 no_line).up) (rtc_pulsed_times (pulses_from rtc_hz t n) d.rtc)
-      → h ≡ hpet_pulsed_times (pulses_from hpet_hz t n) d.hpet
+      → p ≡ pit_pulsed_times (pulses_from PIT_HZ t n) d.pit
+      → r ≡ flagged_where (counts_rtc d && (get_or ls 1 no_line).up) (rtc_pulsed_times (pulses_from RTC_HZ t n) d.rtc)
+      → h ≡ hpet_pulsed_times (pulses_from HPET_HZ t n) d.hpet
       → record d { pit = p; rtc = r; hpet = h; ticks = ls } ≡ (run t n d).state
   unfolding parted
   ran-state P to ls p r h at_point at_end ten ends p_is r_is h_is =
       let end : (k : ℕ) → k < 10 → get_or ls k no_line ≡ end_of (t + c) (t + n) (ticks_at pit rtc timers k) (line_at k d) = λ k less. ends k less ∙ ap (λ (x : ℕ). end_of x to (ticks_at pit rtc timers k) (line_at k d)) at_point ∙ ap (λ (x : ℕ). end_of (t + c) x (ticks_at pit rtc timers k) (line_at k d)) at_end in
       let all : ls ≡ each (line_run d t n) 0 d.ticks = lines-end ls ten end in
       let one : get_or ls 1 no_line ≡ line_run d t n 1 (line_at 1 d) = ap (λ (xs : List TickParts). get_or xs 1 no_line) all ∙ each-at (line_run d t n) 0 1 d.ticks no_line (omega (arith, know.sound.joined.places)) in
-      same_parts d p_is (r_is ∙ ap (λ (l : TickParts). flagged_where (counts_rtc d && l.up) (rtc_pulsed_times (pulses_from rtc_hz t n) d.rtc)) one) h_is all
+      same_parts d p_is (r_is ∙ ap (λ (l : TickParts). flagged_where (counts_rtc d && l.up) (rtc_pulsed_times (pulses_from RTC_HZ t n) d.rtc)) one) h_is all
       ∙ sym (run-parted t n d know.sound)
 
   pub outs-are : (P to : ℕ) (us ups : List (Option ℕ)) (h : HpetParts) → P ≡ t + c → to ≡ t + n → h ≡ d.hpet
@@ -408,7 +379,7 @@ module _ {d : DeviceParts} {t n c : ℕ} {rises : Rises} {events : RtcEvents} {m
       ap (λ (xs : List (Option ℕ)). get_or xs k None) us_are ∙ at-eight (λ k. output_from t k h (get_or matched k None) (get_or ups (k + 2) None)) None k less
       ∙ ap (λ (x : HpetParts). output_from t k x (get_or matched k None) (get_or ups (k + 2) None)) h_is
       ∙ ap (λ (m : Option ℕ). output_from t k d.hpet m (get_or ups (k + 2) None)) (know.each_matched k less)
-      ∙ ap (output_from t k d.hpet (first_at hpet_hz t (timer_matches ms k).first)) (ap (λ (i : ℕ). get_or ups i None) place ∙ ups_are (suc (suc k)) (omega arith)
+      ∙ ap (output_from t k d.hpet (first_at HPET_HZ t (timer_matches ms k).first)) (ap (λ (i : ℕ). get_or ups i None) place ∙ ups_are (suc (suc k)) (omega arith)
       ∙ ap (λ (x : ℕ). up_of t x to (ticks_at pit rtc timers (suc (suc k))) (line_at (suc (suc k)) d)) at_point ∙ ap (λ (x : ℕ). up_of t (t + c) x (ticks_at pit rtc timers (suc (suc k))) (line_at (suc (suc k)) d)) at_end)
 
   pub up-is : (P to : ℕ) (ups : List (Option ℕ)) → P ≡ t + c → to ≡ t + n

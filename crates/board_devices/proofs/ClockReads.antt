@@ -6,7 +6,7 @@ use Rattle.rtc_registers.specs.Registers.{register_b, pf_of}
 use Rattle.rtc_registers.specs.Parts.{IsRtc}
 use Rattle.rtc_registers.specs.Access.{after_rtc_read}
 use Rattle.rtc_registers.proofs.Flags.{IsRtc-after_rtc_read, pf_of-flagged, register_b-flagged, after_rtc_read-other, pf_of-after_rtc_read, register_b-after_rtc_read}
-use Rattle.tick_policy.specs.declared.line.TickParts.{TickParts}
+use Rattle.tick_policy.specs.declared.parts.TickParts.{TickParts}
 use Rattle.tick_policy.specs.Line.{goes_again}
 use Rattle.board_devices.specs.Act.{acked_where}
 use Rattle.board_devices.specs.private.Stretch.{flagged_where}

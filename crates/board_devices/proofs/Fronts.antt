@@ -6,9 +6,10 @@ use Rattle.irq_edges.proofs.EdgesOf.{changes-same}
 use Rattle.pit_readback.specs.declared.parts.PitParts.{PitParts}
 use Rattle.rtc_registers.specs.declared.parts.RtcParts.{RtcParts}
 use Rattle.rtc_registers.specs.Registers.{irqf_of}
-use Rattle.hpet_comparator.specs.Timer.{is_level}
-use Rattle.hpet_registers.specs.Parts.{timer_at, is_legacy, level_output}
-use Rattle.tick_policy.specs.declared.line.TickParts.{TickParts}
+use Rattle.hpet_comparator.specs.Parts.{is_level}
+use Rattle.hpet_registers.specs.Parts.{timer_at, is_legacy}
+use Rattle.hpet_registers.specs.Outputs.{level_output}
+use Rattle.tick_policy.specs.declared.parts.TickParts.{TickParts}
 use Rattle.board_devices.specs.declared.parts.DeviceParts.{DeviceParts}
 use Rattle.board_devices.specs.Places.{line_at, no_line}
 use Rattle.board_devices.specs.Lines.{output_of, drives, routed, levels}

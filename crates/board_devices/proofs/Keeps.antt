@@ -1,5 +1,6 @@
 -- The conditions that join the devices, behind what is done at each place.
 use Rattle.std.proofs.Common.{◌≡◌, ℕ, zero, suc, ◌+◌, ◌<◌, ◌≤◌, Bool, true, false, cond, ltb, eqb, ◌%◌, ◌&&◌, not, List, length, get_or, refl, ap, sym, subst, ◌∙◌, inl, inr, arith}
+use Rattle.hpet_registers.specs.declared.hpet.TheConstants.{HPET_HZ}
 use Rattle.std.proofs.lemmas.Bool.{lt-ltb, le-ltb, cases_lt}
 use Rattle.pit_readback.specs.declared.parts.PitParts.{PitParts}
 use Rattle.rtc_registers.specs.declared.parts.RtcParts.{RtcParts}
@@ -7,16 +8,17 @@ use Rattle.rtc_registers.specs.Registers.{pie_of, pf_of}
 use Rattle.hpet_registers.specs.declared.parts.HpetParts.{HpetParts}
 use Rattle.hpet_registers.specs.declared.register.Register.{Register}
 use Rattle.hpet_registers.specs.declared.register.Register.TheVariants.{Capabilities, Configuration, Status, MainCounter, TimerConfig, TimerComparator, TimerMessage, Reserved}
-use Rattle.hpet_comparator.specs.declared.parts.TimerParts.{TimerParts}
-use Rattle.hpet_comparator.specs.Timer.{is_enabled, is_level}
-use Rattle.hpet_registers.specs.Parts.{IsHpet, IsPlace, is_legacy, timer_at}
-use Rattle.hpet_registers.specs.Pulses.{hpet_pulsed, hpet_pulsed_times, matches_of}
-use Rattle.hpet_registers.specs.Register.{register_written, is_effective, hpet_written}
-use Rattle.tick_policy.specs.declared.line.TickParts.{TickParts}
+use Rattle.hpet_registers.specs.Outputs.{has_ticks}
+use Rattle.hpet_registers.proofs.Product.{matches_of-absent}
+use Rattle.hpet_registers.specs.Parts.{is_legacy}
+use Rattle.hpet_registers.specs.Stretch.{matches_of}
+use Rattle.hpet_registers.specs.Access.{register_written, is_effective, hpet_written}
+use Rattle.tick_policy.specs.declared.parts.TickParts.{TickParts}
 use Rattle.tick_policy.specs.Stretch.{ticked_where, caught_up_where, line_after}
+use Rattle.tick_policy.proofs.Kept.{policy-line_after}
 use Rattle.tick_policy.proofs.Stretches.{line_after-zero, line_after-suc}
 use Rattle.clk_units.specs.Pulses.{pulses_from}
-use Rattle.board_devices.specs.Nanosecond.{hpet_hz, has_ticks, sees_point}
+use Rattle.board_devices.specs.Nanosecond.{sees_point}
 use Rattle.board_devices.specs.private.Stretch.{source, line_run}
 use Rattle.board_devices.specs.declared.parts.DeviceParts.{DeviceParts}
 use Rattle.board_devices.specs.Places.{each, no_line, line_at}
@@ -114,38 +116,22 @@ timers-hpet_written offset width v h = where_effective (λ (g : HpetParts). g.ti
 pub messages-hpet_written : (offset width v : ℕ) (h : HpetParts) → (hpet_written offset width v h).messages ≡ h.messages
 messages-hpet_written offset width v h = where_effective (λ (g : HpetParts). g.messages) (is_effective offset width) _ h (messages-register_written _ width _ v h)
 
--- so do the nanoseconds of a run
-policy-line_after : (ticks : ℕ → ℕ) (slew t n : ℕ) (l : TickParts) → (line_after ticks slew t n l).policy ≡ l.policy
-policy-line_after ticks slew t zero l = ap (λ (x : TickParts). x.policy) (line_after-zero ticks slew t l)
-policy-line_after ticks slew t (suc n) l =
-    ap (λ (x : TickParts). x.policy) (line_after-suc ticks slew t n l)
-    ∙ point (eqb ((t + n + 1) % slew) 0) (ticked_where (ltb (ticks n) (ticks (suc n))) (line_after ticks slew t n l))
-    ∙ tick (ltb (ticks n) (ticks (suc n))) (line_after ticks slew t n l)
-    ∙ policy-line_after ticks slew t n l
-  where
-    point : (b : Bool) (x : TickParts) → (caught_up_where b x).policy ≡ x.policy
-    point true x = refl
-    point false x = refl
-
-    tick : (b : Bool) (x : TickParts) → (ticked_where b x).policy ≡ x.policy
-    tick true x = refl
-    tick false x = refl
-
 -- a line without ticks that holds nothing
-none-line_after : (slew t n : ℕ) → line_after (λ j. 0) slew t n no_line ≡ no_line
-none-line_after slew t zero = line_after-zero (λ j. 0) slew t no_line
-none-line_after slew t (suc n) =
-    line_after-suc (λ j. 0) slew t n no_line
-    ∙ ap (λ (x : TickParts). caught_up_where (eqb ((t + n + 1) % slew) 0) (ticked_where (ltb 0 0) x)) (none-line_after slew t n)
-    ∙ ap (λ (b : Bool). caught_up_where (eqb ((t + n + 1) % slew) 0) (ticked_where b no_line)) (le-ltb 0 0 (omega arith))
+none-line_after : (ticks : ℕ → ℕ) → ((j : ℕ) → ticks j ≡ 0) → (slew t n : ℕ) → line_after ticks slew t n no_line ≡ no_line
+none-line_after ticks none slew t zero = line_after-zero ticks slew t no_line
+none-line_after ticks none slew t (suc n) =
+    line_after-suc ticks slew t n no_line
+    ∙ ap (λ (x : TickParts). caught_up_where (eqb ((t + n + 1) % slew) 0) (ticked_where (ltb (ticks n) (ticks (suc n))) x)) (none-line_after ticks none slew t n)
+    ∙ ap (λ (b : Bool). caught_up_where (eqb ((t + n + 1) % slew) 0) (ticked_where b no_line)) (le-ltb (ticks n) (ticks (suc n)) (omega (arith, none (suc n))))
     ∙ point (eqb ((t + n + 1) % slew) 0)
   where
     point : (b : Bool) → caught_up_where b no_line ≡ no_line
     point true = refl
     point false = refl
 
-pub KeepsLines-line_run : (d : DeviceParts) (t n : ℕ) → IsHpet d.hpet → KeepsLines (line_run d t n) d.hpet.timers
-KeepsLines-line_run d t n valid = record { policy = policy; absent = absent }
+-- so do the nanoseconds of a run
+pub KeepsLines-line_run : (d : DeviceParts) (t n : ℕ) → KeepsLines (line_run d t n) d.hpet.timers
+KeepsLines-line_run d t n = record { policy = policy; absent = absent }
   where
     seen : (b : Bool) (x l : TickParts) → x.policy ≡ l.policy → (cond b x l).policy ≡ l.policy
     seen true x l e = e
@@ -154,21 +140,9 @@ KeepsLines-line_run d t n valid = record { policy = policy; absent = absent }
     policy : (k : ℕ) (l : TickParts) → (line_run d t n k l).policy ≡ l.policy
     policy k l = seen (sees_point d k) (line_after (source d t k) d.slew_ns t n l) l (policy-line_after (source d t k) d.slew_ns t n l)
 
-    no_ticks : (k : ℕ) → d.hpet.timers ≤ k → k < 8 → has_ticks k d.hpet ≡ false
-    no_ticks k gone small = ap (λ (x : TimerParts). is_enabled x && not (is_level x)) (subst (λ (b : Bool). IsPlace b (timer_at k d.hpet)) (le-ltb k d.hpet.timers gone) (valid.places k small))
+    counted : (b : Bool) (m : ℕ) → m ≡ 0 → cond b m 0 ≡ 0
+    counted true m e = e
+    counted false m e = refl
 
     absent : (k : ℕ) → d.hpet.timers ≤ k → k < 8 → line_run d t n (suc (suc k)) no_line ≡ no_line
-    absent k gone small =
-        ap (λ (b : Bool). line_after (λ j. cond b (matches_of k d.hpet (pulses_from hpet_hz t j)) 0) d.slew_ns t n no_line) (no_ticks k gone small)
-        ∙ none-line_after d.slew_ns t n
-
--- pulses send no messages, and keep the number of timers
-pub messages-times : (n : ℕ) (h : HpetParts) → (hpet_pulsed_times n h).messages ≡ h.messages
-unfolding hpet_pulsed
-messages-times zero h = refl
-messages-times (suc n) h = messages-times n h
-
-pub timers-times : (n : ℕ) (h : HpetParts) → (hpet_pulsed_times n h).timers ≡ h.timers
-unfolding hpet_pulsed
-timers-times zero h = refl
-timers-times (suc n) h = timers-times n h
+    absent k gone small = none-line_after (source d t (suc (suc k))) (λ j. counted (has_ticks k d.hpet) (matches_of k d.hpet (pulses_from HPET_HZ t j)) (matches_of-absent k (pulses_from HPET_HZ t j) d.hpet gone)) d.slew_ns t n

@@ -3,7 +3,7 @@ use Rattle.std.proofs.Common.{◌≡◌, ℕ, zero, suc, ◌+◌, ◌<◌, ◌�
 use Rattle.irq_edges.specs.declared.edges.Edge.{Edge}
 use Rattle.irq_edges.specs.Lines.{changes, line_numbers}
 use Rattle.irq_edges.proofs.EdgesOf.{changes-same}
-use Rattle.tick_policy.specs.declared.line.TickParts.{TickParts}
+use Rattle.tick_policy.specs.declared.parts.TickParts.{TickParts}
 use Rattle.tick_policy.specs.Line.{ticked, ticked_times, set_up_to, acked}
 use Rattle.tick_policy.proofs.Ticks.{ticked_times-one}
 use Rattle.tick_policy.specs.Stretch.{ticked_where}

@@ -3,7 +3,7 @@ use Rattle.std.proofs.Common.{◌≡◌, ℕ, zero, suc, ◌<◌, ◌≤◌, ◌
 use Rattle.rtc_calendar.specs.declared.TimeBytes.{TimeBytes}
 use Rattle.rtc_registers.specs.Registers.{with_time, pf_of}
 use Rattle.rtc_registers.specs.Parts.{rtc_at_power_on}
-use Rattle.tick_policy.specs.declared.line.Policy.{Policy}
+use Rattle.tick_policy.specs.declared.parts.Policy.{Policy}
 use Rattle.board_devices.specs.Parts.{IsDevices, IsTimerLine, devices_at_power_on, lines_at_power_on}
 use Rattle.board_devices.specs.Places.{line_at, no_line}
 use Rattle.board_devices.specs.Nanosecond.{counts_rtc}

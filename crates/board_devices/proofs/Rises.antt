@@ -16,9 +16,10 @@ use Rattle.tick_policy.specs.Line.{goes_again}
 use Rattle.board_devices.specs.declared.act.Act.{Act}
 use Rattle.board_devices.specs.declared.act.Act.TheVariants.{PitRead, PitWrite, IndexRead, IndexWrite, ClockRead, ClockWrite, HpetRead, HpetWrite, Ack, Nothing}
 use Rattle.board_devices.specs.Act.{acks, reads_c, acked_where, down_where, acted, first_part, act_edges}
-use Rattle.hpet_comparator.specs.Timer.{is_level}
-use Rattle.hpet_registers.specs.Parts.{timer_at, is_legacy, level_output}
-use Rattle.tick_policy.specs.declared.line.TickParts.{TickParts}
+use Rattle.hpet_comparator.specs.Parts.{is_level}
+use Rattle.hpet_registers.specs.Parts.{timer_at, is_legacy}
+use Rattle.hpet_registers.specs.Outputs.{level_output}
+use Rattle.tick_policy.specs.declared.parts.TickParts.{TickParts}
 use Rattle.board_devices.specs.declared.parts.DeviceParts.{DeviceParts}
 use Rattle.board_devices.specs.Places.{each, line_at, no_line}
 use Rattle.board_devices.specs.Run.{run}

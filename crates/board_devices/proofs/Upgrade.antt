@@ -3,11 +3,13 @@ use Rattle.std.proofs.Common.{◌≡◌, ℕ, zero, suc, ◌+◌, ◌<◌, ◌�
 use Rattle.std.proofs.lemmas.Bool.{lt-ltb, le-ltb, cases_lt}
 use Rattle.rtc_registers.specs.Registers.{irqf_of}
 use Rattle.hpet_comparator.specs.declared.parts.TimerParts.{TimerParts}
-use Rattle.hpet_comparator.specs.Timer.{IsTimer, bit_of, is_enabled, is_level, route_of, timer_at_power_on}
+use Rattle.clk_units.specs.Bits.{bit}
+use Rattle.hpet_comparator.specs.Parts.{IsTimer, is_enabled, is_level, route_of, timer_at_power_on}
 use Rattle.hpet_registers.specs.declared.parts.HpetParts.{HpetParts}
-use Rattle.hpet_registers.specs.Parts.{IsHpet, IsPlace, is_legacy, timer_at, no_timer, level_output}
-use Rattle.tick_policy.specs.declared.line.TickParts.{TickParts}
-use Rattle.tick_policy.specs.Line.{powered_on}
+use Rattle.hpet_registers.specs.Parts.{IsHpet, IsPlace, is_legacy, timer_at, no_timer}
+use Rattle.hpet_registers.specs.Outputs.{level_output}
+use Rattle.tick_policy.specs.declared.parts.TickParts.{TickParts}
+use Rattle.tick_policy.specs.Line.{line_at_power_on}
 use Rattle.board_devices.specs.declared.parts.DeviceParts.{DeviceParts}
 use Rattle.board_devices.specs.Places.{each, line_at, no_line}
 use Rattle.board_devices.specs.Lines.{output_of, drives, routed, levels}
@@ -59,10 +61,10 @@ unfolding devices_upgraded
 line_at-upgraded k d long less = each-at (line_upgraded d) 0 k d.ticks no_line (omega (arith, long)) ∙ ap (λ (i : ℕ). line_upgraded d i (line_at k d)) (omega arith)
 
 old_line : (k : ℕ) (d : DeviceParts) → length d.ticks ≡ 10 → k < 10 → k < d.hpet.timers + 2 → line_at k (devices_upgraded d) ≡ line_at k d
-old_line k d long less there = line_at-upgraded k d long less ∙ ap (λ (b : Bool). cond b (line_at k d) (powered_on (line_at 2 d).policy)) (lt-ltb k (d.hpet.timers + 2) there)
+old_line k d long less there = line_at-upgraded k d long less ∙ ap (λ (b : Bool). cond b (line_at k d) (line_at_power_on (line_at 2 d).policy)) (lt-ltb k (d.hpet.timers + 2) there)
 
-new_line : (k : ℕ) (d : DeviceParts) → length d.ticks ≡ 10 → k < 10 → d.hpet.timers + 2 ≤ k → line_at k (devices_upgraded d) ≡ powered_on (line_at 2 d).policy
-new_line k d long less gone = line_at-upgraded k d long less ∙ ap (λ (b : Bool). cond b (line_at k d) (powered_on (line_at 2 d).policy)) (le-ltb k (d.hpet.timers + 2) gone)
+new_line : (k : ℕ) (d : DeviceParts) → length d.ticks ≡ 10 → k < 10 → d.hpet.timers + 2 ≤ k → line_at k (devices_upgraded d) ≡ line_at_power_on (line_at 2 d).policy
+new_line k d long less gone = line_at-upgraded k d long less ∙ ap (λ (b : Bool). cond b (line_at k d) (line_at_power_on (line_at 2 d).policy)) (le-ltb k (d.hpet.timers + 2) gone)
 
 pub IsDevices-upgraded : (d : DeviceParts) → IsHpet d.hpet → IsDevices d → IsDevices (devices_upgraded d)
 unfolding devices_upgraded
@@ -101,14 +103,14 @@ and-false false = refl
 pub output_of-upgraded : (k : ℕ) (d : DeviceParts) → length d.ticks ≡ 10 → k < 8 → k < d.hpet.timers → output_of k (devices_upgraded d) ≡ output_of k d
 unfolding devices_upgraded
 output_of-upgraded k d long small there =
-    ap (λ (t : TimerParts). cond (is_level t) (bit_of k d.hpet.status && is_enabled t) (get_or (each (line_upgraded d) 0 d.ticks) (suc (suc k)) no_line).up) (old_timer k d.hpet small there)
+    ap (λ (t : TimerParts). cond (is_level t) (bit k d.hpet.status && is_enabled t) (get_or (each (line_upgraded d) 0 d.ticks) (suc (suc k)) no_line).up) (old_timer k d.hpet small there)
     ∙ ap (λ (l : TickParts). cond (is_level (timer_at k d.hpet)) (level_output k d.hpet) l.up) (old_line (suc (suc k)) d long (omega arith) (omega arith))
 
 -- a timer that wasn't there is down
 output_of-new : (k : ℕ) (d : DeviceParts) → length d.ticks ≡ 10 → k < 8 → d.hpet.timers ≤ k → output_of k (devices_upgraded d) ≡ false
 unfolding devices_upgraded
 output_of-new k d long small gone =
-    ap (λ (t : TimerParts). cond (is_level t) (bit_of k d.hpet.status && is_enabled t) (get_or (each (line_upgraded d) 0 d.ticks) (suc (suc k)) no_line).up) (new_timer k d.hpet small gone)
+    ap (λ (t : TimerParts). cond (is_level t) (bit k d.hpet.status && is_enabled t) (get_or (each (line_upgraded d) 0 d.ticks) (suc (suc k)) no_line).up) (new_timer k d.hpet small gone)
     ∙ ap (λ (l : TickParts). l.up) (new_line (suc (suc k)) d long (omega arith) (omega arith))
 
 drives-upgraded : (line k : ℕ) (d : DeviceParts) → k < 8 → k < d.hpet.timers → drives line k (devices_upgraded d).hpet ≡ drives line k d.hpet

@@ -1,84 +1,81 @@
--- One nanosecond of the board: the pulses that fall in it, in the order 8254, MC146818, HPET, and the catch-up point.
+-- One nanosecond of the devices: the pulses that fall in it, in the order 8254, MC146818, HPET, and
+-- then the catch-up point, where it is one. Sections are those of the Intel 8254, the Motorola
+-- MC146818 and the IA-PC HPET 1.0a sheets.
 use Rattle.std.specs.Prelude.{ℕ, zero, suc, ◌%◌, Bool, true, false, ◌&&◌, ◌==◌, not, if◌then◌else◌}
 use Rattle.clk_units.specs.Pulses.{falls_at}
 use Rattle.pit_counter.specs.Table.{rises_next}
+use Rattle.pit_readback.specs.declared.TheConstants.{PIT_HZ}
 use Rattle.pit_readback.specs.Pit.{counter_of, pit_pulsed}
 use Rattle.rtc_cycle.specs.Divider.{ticks_next}
+use Rattle.rtc_registers.specs.declared.TheConstants.{RTC_HZ}
 use Rattle.rtc_registers.specs.Registers.{divider_of, pie_of}
 use Rattle.rtc_registers.specs.Access.{flagged}
 use Rattle.rtc_registers.specs.Pulses.{rtc_pulsed}
-use Rattle.hpet_registers.specs.declared.parts.HpetParts.{HpetParts}
-use Rattle.hpet_registers.specs.Parts.{timer_at, is_legacy}
-use Rattle.hpet_registers.specs.Pulses.{hpet_pulsed, matches_next}
-use Rattle.hpet_comparator.specs.Timer.{is_level, is_enabled}
+use Rattle.hpet_registers.specs.declared.hpet.TheConstants.{HPET_HZ}
+use Rattle.hpet_registers.specs.Parts.{is_legacy}
+use Rattle.hpet_registers.specs.Stretch.{hpet_pulsed, tick_next}
 use Rattle.tick_policy.specs.Line.{is_waiting}
 use Rattle.board_devices.specs.declared.parts.DeviceParts.{DeviceParts}
 use Rattle.board_devices.specs.Places.{ticked_at, caught_up_at, line_at}
 
--- the rates of the three clocks
-abbrev pub pit_hz : ℕ
-pit_hz = 1193182
-
-abbrev pub rtc_hz : ℕ
-rtc_hz = 32768
-
-abbrev pub hpet_hz : ℕ
-hpet_hz = 100000000
-
--- the ticks of the MC146818 are counted while PIE is 1 and LEG_RT is 0
+-- the ticks of the MC146818, its periodic events, are counted while PIE is 1 and LEG_RT is 0 (own)
 abbrev pub counts_rtc : DeviceParts → Bool
 counts_rtc d = pie_of d.rtc && not (is_legacy d.hpet)
 
--- a timer has ticks where it is of edge type with its interrupt enabled
-abbrev pub has_ticks : ℕ → HpetParts → Bool
-has_ticks k h = is_enabled (timer_at k h) && not (is_level (timer_at k h))
-
--- at which place the next pulse of each clock makes a tick due
+-- at which place the next pulse of the 8254 makes a tick due: its own, where OUT of counter 0
+-- rises, while LEG_RT is 0 (8254, modes 0 to 5; HPET 2.3.5, LEG_RT_CNF)
 abbrev pub pit_due : DeviceParts → ℕ → Bool
 pit_due d zero = rises_next (counter_of d.pit 0) && not (is_legacy d.hpet)
 pit_due d (suc k) = false
 
+-- that of the MC146818: its own, at a periodic event that is counted (MC146818, "Periodic interrupt
+-- selection")
 abbrev pub rtc_due : DeviceParts → ℕ → Bool
 rtc_due d zero = false
 rtc_due d (suc zero) = ticks_next (divider_of d.rtc) && counts_rtc d
 rtc_due d (suc (suc k)) = false
 
+-- that of the HPET: timer k's, at a match of an enabled timer of edge type (HPET 2.3.8)
 abbrev pub hpet_due : DeviceParts → ℕ → Bool
 hpet_due d zero = false
 hpet_due d (suc zero) = false
-hpet_due d (suc (suc k)) = matches_next k d.hpet && has_ticks k d.hpet
+hpet_due d (suc (suc k)) = tick_next k d.hpet
 
--- at which places a catch-up point is seen: by the line of the MC146818 only while its ticks are counted
+-- at which places a catch-up point is seen: at that of the MC146818 only while its ticks are
+-- counted (own)
 abbrev pub sees_point : DeviceParts → ℕ → Bool
 sees_point d zero = true
 sees_point d (suc zero) = counts_rtc d
 sees_point d (suc (suc k)) = true
 
--- the 8254's pulse, where one falls at t
+-- the pulse of the 8254, where one falls at t: all counters take it, and a tick may be due
 unfoldable pub pit_pulse : ℕ → DeviceParts → DeviceParts
 pit_pulse t d = record d {
-  pit = if falls_at pit_hz t then pit_pulsed d.pit else d.pit;
-  ticks = ticked_at (λ k. falls_at pit_hz t && pit_due d k) d.ticks;
+  pit = if falls_at PIT_HZ t then pit_pulsed d.pit else d.pit;
+  ticks = ticked_at (λ k. falls_at PIT_HZ t && pit_due d k) d.ticks;
 }
 
--- the MC146818's
+-- the pulse of the MC146818, likewise; a periodic event sets PF, counted or not
 unfoldable pub rtc_pulse : ℕ → DeviceParts → DeviceParts
 rtc_pulse t d = record d {
-  rtc = if falls_at rtc_hz t then rtc_pulsed d.rtc else d.rtc;
-  ticks = ticked_at (λ k. falls_at rtc_hz t && rtc_due d k) d.ticks;
+  rtc = if falls_at RTC_HZ t then rtc_pulsed d.rtc else d.rtc;
+  ticks = ticked_at (λ k. falls_at RTC_HZ t && rtc_due d k) d.ticks;
 }
 
--- the HPET's
+-- the pulse of the HPET, likewise; a match of a timer of level type sets its status bit
 unfoldable pub hpet_pulse : ℕ → DeviceParts → DeviceParts
 hpet_pulse t d = record d {
-  hpet = if falls_at hpet_hz t then hpet_pulsed d.hpet else d.hpet;
-  ticks = ticked_at (λ k. falls_at hpet_hz t && hpet_due d k) d.ticks;
+  hpet = if falls_at HPET_HZ t then hpet_pulsed d.hpet else d.hpet;
+  ticks = ticked_at (λ k. falls_at HPET_HZ t && hpet_due d k) d.ticks;
 }
 
--- the catch-up point, where t is one; the line of the MC146818, going up, sets PF
+-- the catch-up point, where slew_ns divides t: a line that is down shows a tick that waits, and
+-- that of the MC146818, going up, sets PF (own)
 unfoldable pub catch_up_point : ℕ → DeviceParts → DeviceParts
 catch_up_point t d = record d {
-  rtc = if (t % d.slew_ns == 0) && (counts_rtc d && is_waiting (line_at 1 d)) then flagged d.rtc else d.rtc;
+  rtc =
+      if (t % d.slew_ns == 0) && (counts_rtc d && is_waiting (line_at 1 d)) then flagged d.rtc
+      else d.rtc;
   ticks = caught_up_at (λ k. (t % d.slew_ns == 0) && sees_point d k) d.ticks;
 }
 

@@ -1,28 +1,31 @@
--- The devices at power on, the conditions on their fields, and the devices of a board that gets five timers more.
+-- The devices at power on, the conditions on their fields, and the devices of a board that gets
+-- five timers more.
 use Rattle.std.specs.Prelude.{◌≡◌, ℕ, suc, ◌+◌, ◌<◌, ◌≤◌, Bool, true, false, ◌&&◌, ◌==◌, nat_lt, length, map, List, [], ◌∷◌, if◌then◌else◌}
-use Rattle.pit_readback.specs.Pit.{IsPit, pit_at_power_on}
+use Rattle.pit_readback.specs.Parts.{IsPit}
+use Rattle.pit_readback.specs.Pit.{pit_at_power_on}
 use Rattle.rtc_calendar.specs.declared.TimeBytes.{TimeBytes}
 use Rattle.rtc_registers.specs.Registers.{pf_of}
 use Rattle.rtc_registers.specs.Parts.{IsRtc, rtc_at_power_on}
 use Rattle.hpet_comparator.specs.declared.parts.TimerParts.{TimerParts}
-use Rattle.hpet_comparator.specs.Timer.{timer_at_power_on}
+use Rattle.hpet_comparator.specs.Parts.{timer_at_power_on}
 use Rattle.hpet_registers.specs.declared.parts.HpetParts.{HpetParts}
 use Rattle.hpet_registers.specs.Parts.{IsHpet, timer_at, hpet_at_power_on}
-use Rattle.tick_policy.specs.declared.line.Policy.{Policy}
-use Rattle.tick_policy.specs.declared.line.Policy.TheVariants.{Discard}
-use Rattle.tick_policy.specs.declared.line.TickParts.{TickParts}
-use Rattle.tick_policy.specs.Line.{powered_on}
-use Rattle.tick_policy.specs.Valid.{IsTickLine}
+use Rattle.tick_policy.specs.declared.parts.Policy.{Policy}
+use Rattle.tick_policy.specs.declared.parts.Policy.TheVariants.{Discard}
+use Rattle.tick_policy.specs.declared.parts.TickParts.{TickParts}
+use Rattle.tick_policy.specs.Line.{line_at_power_on}
+use Rattle.tick_policy.specs.Parts.{IsTickLine}
 use Rattle.board_devices.specs.declared.parts.DeviceParts.{DeviceParts}
 use Rattle.board_devices.specs.Places.{each, line_at, no_line}
 use Rattle.board_devices.specs.Nanosecond.{counts_rtc}
 
--- the tick lines at power on: a policy each for the 8254, the MC146818 and the timers of the HPET; a place
--- whose timer isn't there holds 0
+-- the tick lines at power on: a policy each for the 8254, the MC146818 and the timers of the HPET;
+-- a place whose timer isn't there holds 0
 abbrev pub lines_at_power_on : ℕ → Policy → Policy → Policy → List TickParts
 lines_at_power_on timers pit rtc hpet =
-    let later : TickParts = powered_on (if timers == 8 then hpet else Discard) in
-    powered_on pit ∷ powered_on rtc ∷ powered_on hpet ∷ powered_on hpet ∷ powered_on hpet
+    let later : TickParts = line_at_power_on (if timers == 8 then hpet else Discard) in
+    line_at_power_on pit ∷ line_at_power_on rtc ∷ line_at_power_on hpet ∷ line_at_power_on hpet
+    ∷ line_at_power_on hpet
     ∷ later ∷ later ∷ later ∷ later ∷ later ∷ []
 
 -- the devices at power on
@@ -67,9 +70,11 @@ eight_timers h =
     map (λ k. if nat_lt k h.timers then timer_at k h else timer_at_power_on)
     (0 ∷ 1 ∷ 2 ∷ 3 ∷ 4 ∷ 5 ∷ 6 ∷ 7 ∷ [])
 
--- the tick line at place k: that of a timer that wasn't there is as at power on, with the policy of the others
+-- the tick line at place k: that of a timer that wasn't there is as at power on, with the policy of
+-- the others
 abbrev pub line_upgraded : DeviceParts → ℕ → TickParts → TickParts
-line_upgraded d k l = if nat_lt k (d.hpet.timers + 2) then l else powered_on (line_at 2 d).policy
+line_upgraded d k l =
+    if nat_lt k (d.hpet.timers + 2) then l else line_at_power_on (line_at 2 d).policy
 
 -- the devices with eight timers: those that weren't there as at power on, and all else kept
 unfoldable pub devices_upgraded : DeviceParts → DeviceParts

@@ -1,8 +1,9 @@
--- The ten tick lines by place: 0 is that of the 8254, 1 that of the MC146818, k + 2 that of timer k of the HPET.
+-- The ten tick lines by place: 0 is that of the 8254, 1 that of the MC146818, k + 2 that of timer k
+-- of the HPET.
 use Rattle.std.specs.Prelude.{ℕ, suc, Bool, List, [], ◌∷◌, slice_index_or}
-use Rattle.tick_policy.specs.declared.line.TickParts.{TickParts}
-use Rattle.tick_policy.specs.declared.line.Policy.TheVariants.{Discard}
-use Rattle.tick_policy.specs.Line.{powered_on}
+use Rattle.tick_policy.specs.declared.parts.TickParts.{TickParts}
+use Rattle.tick_policy.specs.declared.parts.Policy.TheVariants.{Discard}
+use Rattle.tick_policy.specs.Line.{line_at_power_on}
 use Rattle.tick_policy.specs.Stretch.{ticked_where, caught_up_where}
 use Rattle.board_devices.specs.declared.parts.DeviceParts.{DeviceParts}
 
@@ -21,7 +22,7 @@ caught_up_at test ls = each (λ k l. caught_up_where (test k) l) 0 ls
 
 -- what the place of a line that isn't there holds
 abbrev pub no_line : TickParts
-no_line = powered_on Discard
+no_line = line_at_power_on Discard
 
 -- the line at place k
 abbrev pub line_at : ℕ → DeviceParts → TickParts

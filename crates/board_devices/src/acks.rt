@@ -4,37 +4,35 @@ ghost use Rattle.board_devices.specs.Places.{no_line};
 ghost use Rattle.board_devices.specs.Act.{drives_now, acks, acked_where, down_where};
 ghost use Rattle.board_devices.specs.private.Stretch.{ten};
 
-use hpet_registers::HpetParts;
+use hpet_registers::Hpet;
 use tick_policy::TickLine;
 
 /// Whether timer `k` drives the line now.
-fn drives_now(line: u8, k: u8, h: &HpetParts) -> bool
+fn drives_now(line: u8, k: u8, h: &Hpet) -> bool
     requires { k < 8 }
     ensures { result ≡ drives_now line k h.now }
 {
-    if h.config / 2 % 2 == 1 && k < 2 {
+    if h.legacy() && k < 2 {
         line == if k == 0 { 0 } else { 8 }
     } else {
-        h.timer[k as usize].route() == line
+        h.timer(k).route() == line
     }
 }
 
 /// Whether an acknowledgement of the line reaches the tick line at a place.
-fn acks(line: u8, k: u8, h: &HpetParts) -> bool
+fn acks(line: u8, k: u8, h: &Hpet) -> bool
     requires { k < 10 }
     ensures { result ≡ acks line h.now k }
 {
     match k {
-        0 => line == 0 && h.config / 2 % 2 == 0,
+        0 => line == 0 && !h.legacy(),
         1 => false,
-        _ => {
-            k - 2 < h.timers && !h.timer[k as usize - 2].is_level() && drives_now(line, k - 2, h)
-        }
+        _ => { k - 2 < h.timers() && !h.timer(k - 2).is_level() && drives_now(line, k - 2, h) }
     }
 }
 
 /// The places that an acknowledgement of the line reaches.
-pub(crate) fn all_acks(line: u8, h: &HpetParts) -> [bool; 10]
+pub(crate) fn all_acks(line: u8, h: &Hpet) -> [bool; 10]
     ensures { result ≡ map (acks line h.now) ten }
 {
     [
@@ -88,7 +86,7 @@ fn down_at(ticks: &[TickLine; 10], mask: &[bool; 10], k: usize) -> TickLine
 {
     let mut line = ticks[k];
     if mask[k] {
-        line.set_up(false);
+        line.ack_down();
     }
     line
 }

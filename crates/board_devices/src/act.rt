@@ -2,23 +2,21 @@
 ghost use Rattle.std.specs.Prelude.{◌≡◌, ℕ, ◌+◌, ◌*◌, ◌<◌, ◌≤◌, ◌^◌, ◌&&◌, ◌||◌, ◌++◌, not, length, slice_index_or, IsTrue};
 ghost use Rattle.irq_edges.specs.declared.edges.TheConstants.{EDGE_PLACES};
 ghost use Rattle.irq_edges.specs.Lines.{line_numbers, level_of, change};
-ghost use Rattle.pit_counter.specs.Table.{has_risen};
-ghost use Rattle.pit_readback.specs.Pit.{counter_of};
-ghost use Rattle.hpet_registers.specs.Register.{is_access_width};
+ghost use Rattle.pit_readback.specs.Ports.{is_pit_port, port_read};
+ghost use Rattle.hpet_registers.specs.Access.{is_access_width};
 ghost use Rattle.rtc_registers.specs.Parts.{IsRtc};
 ghost use Rattle.rtc_registers.specs.Access.{rtc_read};
 ghost use Rattle.board_devices.specs.Rises.{one_if, lifts};
 ghost use Rattle.board_devices.specs.Places.{line_at, no_line, ticked_at};
 ghost use Rattle.board_devices.specs.Lines.{levels};
 ghost use Rattle.board_devices.specs.declared.act.Act.TheVariants.{PitRead, PitWrite, IndexWrite, ClockRead, ClockWrite, HpetWrite, Ack};
-ghost use Rattle.board_devices.specs.Act.{is_pit_port, IsLegal, acted, first_part, value_of, reads_byte, act_edges, pit_value, after_pit_read, pit_written, pit_ticked};
+ghost use Rattle.board_devices.specs.Act.{IsLegal, acted, first_part, value_of, reads_byte, act_edges, pit_ticked};
 
 use crate::acks::{all_acked, all_acks, all_down};
 use crate::clock::{ack_clock_line, again_where, clock_up, counts_rtc, set_clock_line, set_flag};
 use crate::devices::Devices;
 use crate::lines::lines_of;
 use irq_edges::{Edge, EdgeList, changes};
-use pit_readback::Pit;
 use tick_policy::TickLine;
 
 /// What an access asks of the devices.
@@ -47,8 +45,9 @@ pub enum Act {
 }
 
 impl Devices {
-    /// Does at nanosecond `at` what an access asks, in its two parts, and appends its edges: twelve places must be
-    /// free. Answers what it reads. It lifts a line as often as its level grows, and once more at most.
+    /// Does at nanosecond `at` what an access asks, in its two parts, and appends its edges: twelve
+    /// places must be free. Answers what it reads. It lifts a line as often as its level grows, and
+    /// once more at most.
     pub fn act(&mut self, a: Act, at: u64, edges: &mut EdgeList) -> u64
         requires legal { IsLegal a }
         requires room { (line_at 0 self.old).counts.due + 1 < 2 ^ 63 }
@@ -58,8 +57,11 @@ impl Devices {
         ensures byte { IsTrue (reads_byte a) → result < 256 }
         ensures edges { edges.new ≡ edges.old ++ act_edges at a self.old }
         ensures few { length edges.new ≤ length edges.old + 12 }
-        ensures due { (k : ℕ) → k < 10 → (line_at k self.new).counts.due ≤ (line_at k self.old).counts.due + 1 }
-        ensures lifts { (n : ℕ) → lifts n (act_edges at a self.old) + one_if (level_of line_numbers (levels self.old) n) ≤ 1 + one_if (level_of line_numbers (levels self.new) n) }
+        ensures due { (k : ℕ) → k < 10 → (line_at k self.new).counts.due
+            ≤ (line_at k self.old).counts.due + 1 }
+        ensures lifts { (n : ℕ) → lifts n (act_edges at a self.old)
+            + one_if (level_of line_numbers (levels self.old) n) ≤ 1
+            + one_if (level_of line_numbers (levels self.new) n) }
     {
         let _clock = self.rtc.parts();
         self.act_parts(a, at, edges)
@@ -76,7 +78,8 @@ impl Devices {
         ensures byte { IsTrue (reads_byte a) → result < 256 }
         ensures edges { edges.new ≡ edges.old ++ act_edges at a self.old }
         ensures few { length edges.new ≤ length edges.old + 12 }
-        ensures due { (k : ℕ) → k < 10 → (line_at k self.new).counts.due ≤ (line_at k self.old).counts.due + 1 }
+        ensures due { (k : ℕ) → k < 10 → (line_at k self.new).counts.due
+            ≤ (line_at k self.old).counts.due + 1 }
     {
         match a {
             Act::PitRead { port } => self.read_pit(port, at) as u64,
@@ -95,7 +98,11 @@ impl Devices {
                 0
             }
             Act::HpetRead { offset, width } => self.hpet.read(offset, width),
-            Act::HpetWrite { offset, width, value } => {
+            Act::HpetWrite {
+                offset,
+                width,
+                value,
+            } => {
                 self.write_hpet(offset, width, value, at, edges);
                 0
             }
@@ -114,9 +121,9 @@ impl Devices {
     fn read_pit(&mut self, port: u8, at: u64) -> u8
         requires { IsTrue (is_pit_port port) }
         ensures state { self.new ≡ acted (PitRead port) self.old }
-        ensures value { result ≡ pit_value at port self.old.pit }
+        ensures value { result ≡ port_read at port self.old.pit }
     {
-        read_port(&mut self.pit, port, at)
+        self.pit.read(port, at)
     }
 
     /// A write to a port of the 8254. A tick is due where OUT 0 rises.
@@ -128,11 +135,12 @@ impl Devices {
         ensures state { self.new ≡ acted (PitWrite port byte) self.old }
         ensures edges { edges.new ≡ edges.old ++ act_edges at (PitWrite port byte) self.old }
         ensures few { length edges.new ≤ length edges.old + 12 }
-        ensures due { (k : ℕ) → k < 10 → (line_at k self.new).counts.due ≤ (line_at k self.old).counts.due + 1 }
+        ensures due { (k : ℕ) → k < 10 → (line_at k self.new).counts.due
+            ≤ (line_at k self.old).counts.due + 1 }
     {
         let legacy = self.hpet.legacy();
         let before = self.ticks[0].is_up();
-        let counted = is_counted(write_port(&mut self.pit, port, byte), legacy);
+        let counted = is_counted(self.pit.write(port, byte), legacy);
         tick_first(&mut self.ticks, counted);
         push_change(0, before, either(before, counted), at, edges);
     }
@@ -155,7 +163,8 @@ impl Devices {
         ensures value { result ≡ rtc_read self.old.rtc }
         ensures edges { edges.new ≡ edges.old ++ act_edges at ClockRead self.old }
         ensures few { length edges.new ≤ length edges.old + 12 }
-        ensures due { (k : ℕ) → k < 10 → (line_at k self.new).counts.due ≡ (line_at k self.old).counts.due }
+        ensures due { (k : ℕ) → k < 10 → (line_at k self.new).counts.due
+            ≡ (line_at k self.old).counts.due }
     {
         let _clock = self.rtc.parts();
         if self.rtc.index() == 0x0c {
@@ -175,7 +184,8 @@ impl Devices {
         ensures value { result ≡ rtc_read self.old.rtc }
         ensures edges { edges.new ≡ edges.old ++ act_edges at ClockRead self.old }
         ensures few { length edges.new ≤ length edges.old + 12 }
-        ensures due { (k : ℕ) → k < 10 → (line_at k self.new).counts.due ≡ (line_at k self.old).counts.due }
+        ensures due { (k : ℕ) → k < 10 → (line_at k self.new).counts.due
+            ≡ (line_at k self.old).counts.due }
     {
         let legacy = self.hpet.legacy();
         let counts = counts_rtc(self.rtc.pie(), legacy);
@@ -198,7 +208,8 @@ impl Devices {
         ensures state { self.new ≡ acted (ClockWrite byte) self.old }
         ensures edges { edges.new ≡ edges.old ++ act_edges at (ClockWrite byte) self.old }
         ensures few { length edges.new ≤ length edges.old + 12 }
-        ensures due { (k : ℕ) → k < 10 → (line_at k self.new).counts.due ≡ (line_at k self.old).counts.due }
+        ensures due { (k : ℕ) → k < 10 → (line_at k self.new).counts.due
+            ≡ (line_at k self.old).counts.due }
     {
         let legacy = self.hpet.legacy();
         let before = where_plain(legacy, self.rtc.irqf());
@@ -220,7 +231,8 @@ impl Devices {
         ensures state { self.new ≡ acted (HpetWrite offset width v) self.old }
         ensures edges { edges.new ≡ edges.old ++ act_edges at (HpetWrite offset width v) self.old }
         ensures few { length edges.new ≤ length edges.old + 12 }
-        ensures due { (k : ℕ) → k < 10 → (line_at k self.new).counts.due ≡ (line_at k self.old).counts.due }
+        ensures due { (k : ℕ) → k < 10 → (line_at k self.new).counts.due
+            ≡ (line_at k self.old).counts.due }
     {
         let before = lines_of(&self.rtc, &self.hpet, &self.ticks);
         self.hpet.write(offset, width, v);
@@ -236,9 +248,10 @@ impl Devices {
         ensures state { self.new ≡ acted (Ack line) self.old }
         ensures edges { edges.new ≡ edges.old ++ act_edges at (Ack line) self.old }
         ensures few { length edges.new ≤ length edges.old + 12 }
-        ensures due { (k : ℕ) → k < 10 → (line_at k self.new).counts.due ≡ (line_at k self.old).counts.due }
+        ensures due { (k : ℕ) → k < 10 → (line_at k self.new).counts.due
+            ≡ (line_at k self.old).counts.due }
     {
-        let mask = all_acks(line, &self.hpet.parts());
+        let mask = all_acks(line, &self.hpet);
         let before = lines_of(&self.rtc, &self.hpet, &self.ticks);
         let down = all_down(&self.ticks, &mask);
         let middle = lines_of(&self.rtc, &self.hpet, &down);
@@ -247,29 +260,6 @@ impl Devices {
         self.ticks = up_again;
         changes(before, middle, at, edges);
         changes(middle, after, at, edges);
-    }
-}
-
-/// A read of a port of the 8254.
-fn read_port(pit: &mut Pit, port: u8, at: u64) -> u8
-    requires { IsTrue (is_pit_port port) }
-    ensures state { pit.new ≡ after_pit_read port pit.old }
-    ensures value { result ≡ pit_value at port pit.old }
-{
-    if port == 0x61 { pit.read_61(at) } else { pit.read(port) }
-}
-
-/// A write to a port of the 8254. Answers whether OUT 0 rose.
-fn write_port(pit: &mut Pit, port: u8, byte: u8) -> bool
-    requires { IsTrue (is_pit_port port) }
-    ensures state { pit.new ≡ pit_written port byte pit.old }
-    ensures rose { result ≡ has_risen (counter_of pit.old 0) (counter_of (pit_written port byte pit.old) 0) }
-{
-    if port == 0x61 {
-        pit.write_61(byte);
-        false
-    } else {
-        pit.write(port, byte)
     }
 }
 

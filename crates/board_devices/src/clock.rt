@@ -9,7 +9,7 @@ ghost use Rattle.board_devices.specs.private.Stretch.{flagged_where, clock_place
 
 use hpet_registers::Hpet;
 use rtc_registers::Rtc;
-use tick_policy::{Policy, TickLine, TickParts};
+use tick_policy::TickLine;
 
 /// Whether the ticks of the clock are counted.
 pub(crate) fn counts_rtc(pie: bool, legacy: bool) -> bool
@@ -45,21 +45,11 @@ pub(crate) fn set_flag(rtc: &mut Rtc, flag: bool)
     }
 }
 
-/// Whether an acknowledgement brings the line up again.
-fn goes_again(line: TickParts) -> bool
-    ensures { result ≡ goes_again line }
-{
-    match line.policy {
-        Policy::Delay => line.up && line.counts.queue > 0,
-        Policy::Discard | Policy::Slew => false,
-    }
-}
-
 /// Whether the clock's line goes up again, where `b` holds.
 pub(crate) fn again_where(b: bool, ticks: &[TickLine; 10]) -> bool
     ensures { result ≡ (b && goes_again (slice_index_or ticks.now 1 no_line)) }
 {
-    b && goes_again(ticks[1].parts())
+    b && ticks[1].goes_again()
 }
 
 /// Acknowledges the clock's line, where `b` holds.

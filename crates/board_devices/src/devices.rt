@@ -14,7 +14,8 @@ use rtc_registers::Rtc;
 use std::marker::Model;
 use tick_policy::{Counts, Policy, TickLine};
 
-/// The devices that run with time: an 8254, an MC146818, an HPET, and the tick line of each source of ticks.
+/// The devices that run with time: an 8254, an MC146818, an HPET, and the tick line of each source
+/// of ticks.
 #[derive(Clone, Copy)]
 #[repr(C)]
 pub struct Devices {
@@ -40,8 +41,8 @@ impl Model for Devices {
 }
 
 impl Devices {
-    /// The devices at power on, with 3 or 8 timers, a policy for the ticks of each device, catch-up points that
-    /// come `slew_ns` nanoseconds apart, and the time of the MC146818.
+    /// The devices at power on, with 3 or 8 timers, a policy for the ticks of each device, catch-up
+    /// points that come `slew_ns` nanoseconds apart, and the time of the MC146818.
     pub fn power_on(
         timers: u8,
         pit: Policy,
@@ -71,8 +72,8 @@ impl Devices {
         self.slew_ns
     }
 
-    /// The counts of the tick line at a place: 0 is that of the 8254, 1 that of the MC146818, k + 2 that of
-    /// timer k of the HPET.
+    /// The counts of the tick line at a place: 0 is that of the 8254, 1 that of the MC146818, k + 2
+    /// that of timer k of the HPET.
     pub fn counts(&self, place: u8) -> Counts
         requires { place < 10 }
         ensures { result ≡ (line_at place self.now).counts }
@@ -85,7 +86,7 @@ impl Devices {
         requires { place < 10 }
         ensures { result ≡ (line_at place self.now).policy }
     {
-        self.ticks[place as usize].parts().policy
+        self.ticks[place as usize].policy()
     }
 
     /// The levels of the lines.

@@ -6,7 +6,7 @@ ghost use Rattle.hpet_registers.specs.Parts.{timer_at};
 ghost use Rattle.board_devices.specs.Lines.{drives};
 ghost use Rattle.board_devices.specs.private.Stretch.{eight, either_from, flag_from, output_from, routed_from};
 
-use hpet_registers::HpetParts;
+use hpet_registers::Hpet;
 use rtc_registers::Rtc;
 
 /// The earlier of two times.
@@ -36,7 +36,7 @@ pub(crate) fn flag_from(b: bool, flag: bool, from: u64, first: Option<u64>) -> O
 
 /// From when on the output of timer `k` is up.
 pub(crate) fn output_from(
-    h: &HpetParts,
+    h: &Hpet,
     k: u8,
     from: u64,
     matched: Option<u64>,
@@ -45,20 +45,20 @@ pub(crate) fn output_from(
     requires { k < 8 }
     ensures { result ≡ output_from from k h.now matched line }
 {
-    let timer = h.timer[k as usize];
+    let timer = h.timer(k);
     if timer.is_level() {
-        flag_from(timer.is_enabled(), (h.status >> k) % 2 == 1, from, matched)
+        flag_from(timer.is_enabled(), h.status_bit(k), from, matched)
     } else {
         line
     }
 }
 
 /// Whether timer `k` drives a line to which it is routed.
-fn drives(line: u8, k: u8, h: &HpetParts) -> bool
+fn drives(line: u8, k: u8, h: &Hpet) -> bool
     requires { k < 8 }
     ensures { result ≡ drives line k h.now }
 {
-    h.timer[k as usize].route() == line && !(h.config / 2 % 2 == 1 && k < 2)
+    h.timer(k).route() == line && !(h.legacy() && k < 2)
 }
 
 /// A time, where `b` holds.
@@ -69,7 +69,7 @@ fn where_driven(b: bool, time: Option<u64>) -> Option<u64>
 }
 
 /// From when on a timer that is routed to the line is up.
-pub(crate) fn routed_from(line: u8, h: &HpetParts, outputs: &[Option<u64>; 8]) -> Option<u64>
+pub(crate) fn routed_from(line: u8, h: &Hpet, outputs: &[Option<u64>; 8]) -> Option<u64>
     ensures { result ≡ routed_from line 8 h.now outputs.now }
 {
     let mut time = None;
@@ -130,7 +130,7 @@ pub(crate) fn irq_from(
 
 /// From when on the output of timer `k` is up, by its first match and the lines.
 fn output_at(
-    h: &HpetParts,
+    h: &Hpet,
     k: u8,
     from: u64,
     matched: &[Option<u64>; 8],
@@ -144,7 +144,7 @@ fn output_at(
 
 /// From when on the outputs of all timers are up.
 pub(crate) fn all_outputs(
-    h: &HpetParts,
+    h: &Hpet,
     from: u64,
     matched: &[Option<u64>; 8],
     ups: &[Option<u64>; 10],
@@ -173,13 +173,15 @@ fn choice(b: bool, x: Option<u64>, y: Option<u64>) -> Option<u64>
 /// From when on the six lines are up.
 pub(crate) fn line_times(
     legacy: bool,
-    h: &HpetParts,
+    h: &Hpet,
     pit: Option<u64>,
     irq: Option<u64>,
     outputs: &[Option<u64>; 8],
 ) -> [Option<u64>; 6]
-    ensures { result ≡ (if legacy then slice_index_or outputs.now 0 None else pit) ∷ (if legacy then slice_index_or outputs.now 1 None else irq)
-        ∷ routed_from 20 8 h.now outputs.now ∷ routed_from 21 8 h.now outputs.now ∷ routed_from 22 8 h.now outputs.now ∷ routed_from 23 8 h.now outputs.now ∷ [] }
+    ensures { result ≡ (if legacy then slice_index_or outputs.now 0 None else pit)
+        ∷ (if legacy then slice_index_or outputs.now 1 None else irq)
+        ∷ routed_from 20 8 h.now outputs.now ∷ routed_from 21 8 h.now outputs.now
+        ∷ routed_from 22 8 h.now outputs.now ∷ routed_from 23 8 h.now outputs.now ∷ [] }
 {
     [
         choice(legacy, outputs[0], pit),

@@ -1,10 +1,10 @@
 //! All fields of the devices, the conditions on them, and five timers more.
 ghost use Rattle.std.specs.Prelude.{◌≡◌, ℕ, ◌+◌, ◌<◌, ◌↔◌, map, nat_lt, slice_index_or, if◌then◌else◌, IsTrue, IsSome, IfSome};
 ghost use Rattle.pit_readback.specs.declared.parts.PitParts.{PitParts};
-ghost use Rattle.hpet_comparator.specs.Timer.{timer_at_power_on};
+ghost use Rattle.hpet_comparator.specs.Parts.{timer_at_power_on};
 ghost use Rattle.hpet_registers.specs.Parts.{timer_at};
-ghost use Rattle.tick_policy.specs.Line.{powered_on};
-ghost use Rattle.tick_policy.specs.Valid.{IsTickLine};
+ghost use Rattle.tick_policy.specs.Line.{line_at_power_on};
+ghost use Rattle.tick_policy.specs.Parts.{IsTickLine};
 ghost use Rattle.board_devices.specs.Places.{no_line};
 ghost use Rattle.board_devices.specs.Lines.{levels};
 ghost use Rattle.board_devices.specs.Parts.{IsTimerLine, IsDevices, AreDevices, eight_timers, devices_upgraded};
@@ -30,7 +30,8 @@ pub struct DeviceParts {
     pub rtc: RtcParts,
     /// The HPET.
     pub hpet: HpetParts,
-    /// The tick lines: that of the 8254, that of the MC146818, and from place 2 on those of the HPET's timers.
+    /// The tick lines: that of the 8254, that of the MC146818, and from place 2 on those of the
+    /// HPET's timers.
     pub ticks: [TickParts; 10],
     /// Nanoseconds between catch-up points, 1 to `SLEW_MAX_NS`.
     pub slew_ns: u64,
@@ -73,8 +74,8 @@ impl Devices {
         }
     }
 
-    /// The devices with eight timers: those that weren't there, and their tick lines, are as at power on, with the
-    /// policy of the others, and all else is kept. No line changes its level.
+    /// The devices with eight timers: those that weren't there, and their tick lines, are as at
+    /// power on, with the policy of the others, and all else is kept. No line changes its level.
     #[tactic(auto, unfolding(crate::specs::Parts::devices_upgraded))]
     pub fn upgraded(&self) -> Devices
         ensures value { result ≡ devices_upgraded self.now }
@@ -105,7 +106,8 @@ fn parts_of_lines(lines: &[TickLine; 10]) -> [TickParts; 10]
 
 /// The tick lines with these fields, or None where a condition on one of them fails.
 fn lines_of_parts(parts: &[TickParts; 10]) -> Option<[TickLine; 10]>
-    ensures valid { IsSome result ↔ ((k : ℕ) → k < 10 → IsTickLine (slice_index_or parts.now k no_line)) }
+    ensures valid { IsSome result ↔ ((k : ℕ) → k < 10
+        → IsTickLine (slice_index_or parts.now k no_line)) }
     ensures value { IfSome result (λ lines. lines ≡ parts.now) }
 {
     let mut lines = [TickLine::power_on(Policy::Discard); 10];
@@ -120,7 +122,8 @@ fn lines_of_parts(parts: &[TickParts; 10]) -> Option<[TickLine; 10]>
 
 /// Whether the conditions that join the devices hold.
 fn are_joined(rtc: &Rtc, hpet: &Hpet, ticks: &[TickLine; 10], slew_ns: u64) -> bool
-    ensures { (p : PitParts) → IsTrue result ↔ IsDevices (record { pit = p; rtc = rtc.now; hpet = hpet.now; ticks = ticks.now; slew_ns = slew_ns }) }
+    ensures { (p : PitParts)
+        → IsTrue result ↔ IsDevices (record { pit = p; rtc = rtc.now; hpet = hpet.now; ticks = ticks.now; slew_ns = slew_ns }) }
 {
     let h = hpet.parts();
     1 <= slew_ns
@@ -132,9 +135,10 @@ fn are_joined(rtc: &Rtc, hpet: &Hpet, ticks: &[TickLine; 10], slew_ns: u64) -> b
 
 /// Whether the lines of the timers have one policy, and the other places hold nothing.
 fn are_timer_lines(ticks: &[TickLine; 10], timers: u8) -> bool
-    ensures { IsTrue result ↔ ((k : ℕ) → k < 8 → IsTimerLine (nat_lt k timers) (slice_index_or ticks.now 2 no_line).policy (slice_index_or ticks.now (k + 2) no_line)) }
+    ensures { IsTrue result ↔ ((k : ℕ) → k < 8
+        → IsTimerLine (nat_lt k timers) (slice_index_or ticks.now 2 no_line).policy (slice_index_or ticks.now (k + 2) no_line)) }
 {
-    let policy = ticks[2].parts().policy;
+    let policy = ticks[2].policy();
     for k in 0..8u8 {
         if !is_timer_line(k < timers, policy, ticks[k as usize + 2].parts()) {
             return false;
@@ -194,18 +198,21 @@ fn with_eight_timers(hpet: &Hpet) -> Hpet
 /// The line at a place where it is there, else one as at power on.
 fn line_or_new(ticks: &[TickLine; 10], k: usize, timers: u8) -> TickLine
     requires { k < 10 }
-    ensures { result ≡ (if nat_lt k (timers + 2) then slice_index_or ticks.now k no_line else powered_on (slice_index_or ticks.now 2 no_line).policy) }
+    ensures { result ≡ (if nat_lt k (timers + 2) then slice_index_or ticks.now k no_line
+        else line_at_power_on (slice_index_or ticks.now 2 no_line).policy) }
 {
     if k < timers as usize + 2 {
         ticks[k]
     } else {
-        TickLine::power_on(ticks[2].parts().policy)
+        TickLine::power_on(ticks[2].policy())
     }
 }
 
 /// The tick lines of eight timers.
 fn lines_upgraded(ticks: &[TickLine; 10], timers: u8) -> [TickLine; 10]
-    ensures { result ≡ map (λ k. if nat_lt k (timers + 2) then slice_index_or ticks.now k no_line else powered_on (slice_index_or ticks.now 2 no_line).policy) ten }
+    ensures { result ≡ map (λ k. if nat_lt k (timers + 2)
+        then slice_index_or ticks.now k no_line
+        else line_at_power_on (slice_index_or ticks.now 2 no_line).policy) ten }
 {
     [
         line_or_new(ticks, 0, timers),

@@ -5,40 +5,37 @@ ghost use Rattle.irq_edges.specs.Lines.{line_numbers, level_of};
 ghost use Rattle.board_devices.specs.Rises.{one_if, lifts};
 ghost use Rattle.board_devices.specs.Places.{line_at};
 ghost use Rattle.board_devices.specs.Lines.{levels};
-ghost use Rattle.hpet_registers.specs.Pulses.{timer_matches};
+ghost use Rattle.hpet_registers.specs.Stretch.{timer_matches};
 ghost use Rattle.board_devices.specs.Run.{run, IsNextEdge};
 ghost use Rattle.board_devices.specs.private.Stretch.{told_levels};
 
 use crate::clock::{counts_rtc, set_flag};
 use crate::devices::Devices;
 use crate::levels::{all_outputs, irq_from, line_times, shown_of};
-use crate::stretch::{HPET_HZ, all_matched, all_timer_ticks, counted, run_lines};
+use crate::stretch::{all_matched, all_timer_ticks, counted, run_lines};
 use clk_units::{RANGE_NS, first_at, pulses_between};
 use hpet_comparator::Matches;
+use hpet_registers::HPET_HZ;
 use irq_edges::{EdgeList, emit, next_rise};
 use pit_counter::Rises;
-use rtc_registers::RtcEvents;
-
-/// The 8254's clock.
-const PIT_HZ: u64 = 1_193_182;
-
-/// The MC146818's clock.
-const RTC_HZ: u64 = 32_768;
+use pit_readback::PIT_HZ;
+use rtc_registers::{RTC_HZ, RtcEvents};
 
 impl Devices {
-    /// Runs from nanosecond `from` to `to`. Answers from when on each line is up, or None where nothing came that
-    /// could move one.
+    /// Runs from nanosecond `from` to `to`. Answers from when on each line is up, or None where
+    /// nothing came that could move one.
     fn advance(&mut self, from: u64, to: u64) -> Option<[Option<u64>; 6]>
         requires order { from ≤ to }
         requires range { to < 2 ^ 59 }
         requires room { (k : ℕ) → k < 10 → (line_at k self.old).counts.due + (to - from) < 2 ^ 63 }
         ensures state { self.new ≡ (run from (to - from) self.old).state }
-        ensures levels { (j : ℕ) → from + j ≤ to → levels (run from j self.old).state ≡ told_levels (from + j) (levels self.old) result }
-        ensures due { (k : ℕ) → k < 10 → (line_at k self.new).counts.due ≤ (line_at k self.old).counts.due + (to - from) }
+        ensures levels { (j : ℕ) → from + j ≤ to → levels (run from j self.old).state
+            ≡ told_levels (from + j) (levels self.old) result }
+        ensures due { (k : ℕ) → k < 10 → (line_at k self.new).counts.due
+            ≤ (line_at k self.old).counts.due + (to - from) }
     {
-        let _before = self.pit.parts();
-        let hpet = self.hpet.parts();
-        let legacy = self.hpet.legacy();
+        let hpet = self.hpet;
+        let legacy = hpet.legacy();
         let _clock = self.rtc.parts();
         let shown = shown_of(&self.rtc);
         let counts = counts_rtc(shown.pie, legacy);
@@ -65,7 +62,8 @@ impl Devices {
         Some(line_times(legacy, &hpet, ups[0], irq, &outputs))
     }
 
-    /// Runs from nanosecond `from` to `to`, and appends the edges on the way. Six places must be free.
+    /// Runs from nanosecond `from` to `to`, and appends the edges on the way. Six places must be
+    /// free.
     #[tactic(auto, using(crate::proofs::Edges::run_none_state, crate::proofs::Edges::run_none_edges))]
     pub fn run_to(&mut self, from: u64, to: u64, edges: &mut EdgeList)
         requires order { from ≤ to }
@@ -75,8 +73,11 @@ impl Devices {
         ensures state { self.new ≡ (run from (to - from) self.old).state }
         ensures edges { edges.new ≡ edges.old ++ (run from (to - from) self.old).edges }
         ensures few { length edges.new ≤ length edges.old + 6 }
-        ensures due { (k : ℕ) → k < 10 → (line_at k self.new).counts.due ≤ (line_at k self.old).counts.due + (to - from) }
-        ensures lifts { (n : ℕ) → lifts n (run from (to - from) self.old).edges + one_if (level_of line_numbers (levels self.old) n) ≡ one_if (level_of line_numbers (levels self.new) n) }
+        ensures due { (k : ℕ) → k < 10 → (line_at k self.new).counts.due
+            ≤ (line_at k self.old).counts.due + (to - from) }
+        ensures lifts { (n : ℕ) → lifts n (run from (to - from) self.old).edges
+            + one_if (level_of line_numbers (levels self.old) n)
+            ≡ one_if (level_of line_numbers (levels self.new) n) }
     {
         if from == to {
             return;
@@ -90,7 +91,8 @@ impl Devices {
     /// The first nanosecond after `now` at which a line changes if no access comes, below 2^59.
     pub fn next_edge(&self, now: u64) -> Option<u64>
         requires range { now < 2 ^ 59 }
-        requires room { (k : ℕ) → k < 10 → (line_at k self.now).counts.due + (576460752303423487 - now) < 2 ^ 63 }
+        requires room { (k : ℕ) → k < 10 → (line_at k self.now).counts.due
+            + (RANGE_NS - 1 - now) < 2 ^ 63 }
         ensures { IsNextEdge now self.now result }
     {
         let mut copy = *self;

@@ -1,20 +1,16 @@
 //! The tick lines over a stretch of nanoseconds.
 ghost use Rattle.std.specs.Prelude.{◌≡◌, ℕ, ◌+◌, ◌-◌, ◌<◌, ◌≤◌, ◌^◌, ◌&&◌, not, ◌∷◌, [], IfSome, map, slice_index_or, if◌then◌else◌, None};
+ghost use Rattle.hpet_registers.specs.declared.hpet.TheConstants.{HPET_HZ};
 ghost use Rattle.clk_units.specs.Pulses.{pulses_from};
 ghost use Rattle.clk_units.specs.Events.{first_at};
-ghost use Rattle.hpet_comparator.specs.Timer.{is_level, is_enabled};
-ghost use Rattle.hpet_registers.specs.Pulses.{timer_matches};
+ghost use Rattle.hpet_registers.specs.Stretch.{timer_matches};
 ghost use Rattle.board_devices.specs.Places.{no_line};
-ghost use Rattle.board_devices.specs.Nanosecond.{hpet_hz};
 ghost use Rattle.board_devices.specs.private.Stretch.{eight, counted, no_ticks, timer_ticks, ticks_at, end_of, up_of};
 
 use clk_units::first_at;
-use hpet_comparator::{Matches, TimerParts};
-use hpet_registers::HpetParts;
+use hpet_comparator::Matches;
+use hpet_registers::{HPET_HZ, Hpet};
 use tick_policy::{TickLine, run_line};
-
-/// The HPET's clock.
-pub(crate) const HPET_HZ: u64 = 100_000_000;
 
 /// The ticks of a line's source over a stretch.
 #[derive(Clone, Copy)]
@@ -51,20 +47,14 @@ pub(crate) fn counted(seen: bool, b: bool, count: u64, first: Option<u64>) -> Ti
     }
 }
 
-/// Whether a timer has ticks.
-pub(crate) fn has_ticks(timer: &TimerParts) -> bool
-    ensures { result ≡ (is_enabled timer.now && not (is_level timer.now)) }
-{
-    timer.is_enabled() && !timer.is_level()
-}
-
 /// The nanosecond of the first match of timer `k`.
 fn matched_at(matches: &[Matches; 8], k: usize, from: u64, to: u64) -> Option<u64>
     requires place { k < 8 }
     requires order { from ≤ to }
     requires range { to < 2 ^ 59 }
-    requires inside { IfSome (timer_matches matches.now k).first (λ j. j ≤ pulses_from hpet_hz from (to - from)) }
-    ensures { result ≡ first_at hpet_hz from (timer_matches matches.now k).first }
+    requires inside { IfSome (timer_matches matches.now k).first (λ j. j
+        ≤ pulses_from HPET_HZ from (to - from)) }
+    ensures { result ≡ first_at HPET_HZ from (timer_matches matches.now k).first }
 {
     first_at(matches[k].first, HPET_HZ, from, to)
 }
@@ -73,8 +63,9 @@ fn matched_at(matches: &[Matches; 8], k: usize, from: u64, to: u64) -> Option<u6
 pub(crate) fn all_matched(matches: &[Matches; 8], from: u64, to: u64) -> [Option<u64>; 8]
     requires order { from ≤ to }
     requires range { to < 2 ^ 59 }
-    requires inside { (k : ℕ) → k < 8 → IfSome (timer_matches matches.now k).first (λ j. j ≤ pulses_from hpet_hz from (to - from)) }
-    ensures { result ≡ map (λ k. first_at hpet_hz from (timer_matches matches.now k).first) eight }
+    requires inside { (k : ℕ) → k < 8 → IfSome (timer_matches matches.now k).first (λ j. j
+        ≤ pulses_from HPET_HZ from (to - from)) }
+    ensures { result ≡ map (λ k. first_at HPET_HZ from (timer_matches matches.now k).first) eight }
 {
     [
         matched_at(matches, 0, from, to),
@@ -89,16 +80,21 @@ pub(crate) fn all_matched(matches: &[Matches; 8], from: u64, to: u64) -> [Option
 }
 
 /// The ticks of timer `k`.
-fn timer_ticks(h: &HpetParts, k: usize, matches: &[Matches; 8], matched: &[Option<u64>; 8]) -> Ticks
+fn timer_ticks(h: &Hpet, k: u8, matches: &[Matches; 8], matched: &[Option<u64>; 8]) -> Ticks
     requires place { k < 8 }
     ensures { result ≡ timer_ticks k h.now matches.now matched.now }
 {
-    counted(true, has_ticks(&h.timer[k]), matches[k].count, matched[k])
+    counted(
+        true,
+        h.has_ticks(k),
+        matches[k as usize].count,
+        matched[k as usize],
+    )
 }
 
 /// The ticks of all timers.
 pub(crate) fn all_timer_ticks(
-    h: &HpetParts,
+    h: &Hpet,
     matches: &[Matches; 8],
     matched: &[Option<u64>; 8],
 ) -> [Ticks; 8]
@@ -135,7 +131,7 @@ fn run_one(line: &mut TickLine, ticks: Ticks, from: u64, to: u64, point: u64) ->
     ensures up { result ≡ up_of from point to ticks line.old }
 {
     if ticks.seen {
-        run_line(line, from, to, point, ticks.count, ticks.first).up_from
+        run_line(line, from, to, point, ticks.count, ticks.first)
     } else if line.is_up() {
         Some(from)
     } else {
@@ -153,9 +149,12 @@ pub(crate) fn run_lines(
     to: u64,
     point: u64,
 ) -> [Option<u64>; 10]
-    requires { (k : ℕ) → k < 10 → (slice_index_or lines.old k no_line).counts.due + (ticks_at pit rtc timers.now k).count < 2 ^ 63 }
-    ensures state { (k : ℕ) → k < 10 → slice_index_or lines.new k no_line ≡ end_of point to (ticks_at pit rtc timers.now k) (slice_index_or lines.old k no_line) }
-    ensures up { (k : ℕ) → k < 10 → slice_index_or result k None ≡ up_of from point to (ticks_at pit rtc timers.now k) (slice_index_or lines.old k no_line) }
+    requires { (k : ℕ) → k < 10 → (slice_index_or lines.old k no_line).counts.due
+        + (ticks_at pit rtc timers.now k).count < 2 ^ 63 }
+    ensures state { (k : ℕ) → k < 10 → slice_index_or lines.new k no_line
+        ≡ end_of point to (ticks_at pit rtc timers.now k) (slice_index_or lines.old k no_line) }
+    ensures up { (k : ℕ) → k < 10 → slice_index_or result k None
+        ≡ up_of from point to (ticks_at pit rtc timers.now k) (slice_index_or lines.old k no_line) }
 {
     let mut ups = [None; 10];
     for k in 0..10 {

@@ -1,6 +1,6 @@
 use Rattle.std.proofs.Common.{Bool, set, sym, ap, ◌∙◌, arith}
 use Rattle.std.proofs.lemmas.List.{get_or_default}
-use Rattle.tick_policy.specs.declared.line.TickParts.{TickParts}
+use Rattle.tick_policy.specs.declared.parts.TickParts.{TickParts}
 use Rattle.tick_policy.specs.Line.{acked}
 use Rattle.board_devices.specs.Act.{acked_where}
 use Rattle.board_devices.specs.Places.{each, no_line}

@@ -1,5 +1,5 @@
 use Rattle.std.proofs.Common.{◌≡◌, ℕ, ◌<◌, get_or, length}
-use Rattle.tick_policy.specs.Valid.{IsTickLine}
+use Rattle.tick_policy.specs.Parts.{IsTickLine}
 use Rattle.board_devices.specs.Places.{no_line}
 use Rattle.board_devices.proofs.parts.parts_of_lines.Given as goal
 

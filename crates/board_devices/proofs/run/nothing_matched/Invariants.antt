@@ -1,5 +1,5 @@
 use Rattle.std.proofs.Common.{◌≡◌, ℕ, ◌<◌}
-use Rattle.hpet_registers.specs.Pulses.{timer_matches}
+use Rattle.hpet_registers.specs.Stretch.{timer_matches}
 use Rattle.board_devices.proofs.run.nothing_matched.Given as goal
 
 abbrev pub invariant-loop-timer : goal.invariant-loop-timer

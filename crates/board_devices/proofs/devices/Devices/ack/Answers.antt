@@ -1,6 +1,5 @@
 use Rattle.std.proofs.Common.{◌≡◌, List, length, map, get_or, refl, ◌++◌, ap, ◌∙◌, arith}
-use Rattle.hpet_registers.specs.declared.parts.HpetParts.{HpetParts}
-use Rattle.tick_policy.specs.declared.line.TickParts.{TickParts}
+use Rattle.tick_policy.specs.declared.parts.TickParts.{TickParts}
 use Rattle.board_devices.specs.declared.parts.DeviceParts.{DeviceParts}
 use Rattle.board_devices.specs.declared.act.Act.TheVariants.{Ack}
 use Rattle.board_devices.specs.Places.{each, no_line}
@@ -14,7 +13,7 @@ use Rattle.board_devices.proofs.Masks.{masked, two_parts, due-acked}
 use Rattle.board_devices.proofs.devices.Devices.ack.Goals as goal
 
 mask_is : (c : goal.After-changes-2) → c.all_acks-mask.result ≡ map (acks c.args.line c.self.inside.hpet) ten
-mask_is c = c.all_acks-mask.ensures ∙ ap (λ (h : HpetParts). map (acks c.args.line h) ten) c.parts.ensures.parts
+mask_is c = c.all_acks-mask.ensures
 
 again : (c : goal.After-changes-2) → c.all_acked-up_again.result ≡ each (λ k l. acked_where (acks c.args.line c.self.inside.hpet k) l) 0 c.self.inside.ticks
 again c = masked acked_where (acks c.args.line c.self.inside.hpet) c.all_acks-mask.result c.self.inside.ticks c.all_acked-up_again.result c.self.invariant.places (mask_is c) c.all_acked-up_again.ensures
@@ -38,7 +37,7 @@ unfolding acted first_part
 returns-clause-edges c =
     let d : DeviceParts = parts_of c.self.inside in
     let long : length c.self.inside.ticks ≡ 10 = c.self.invariant.places in
-    let mask_is : c.all_acks-mask.result ≡ map (acks c.args.line d.hpet) ten = c.all_acks-mask.ensures ∙ ap (λ (h : HpetParts). map (acks c.args.line h) ten) c.parts.ensures.parts in
+    let mask_is : c.all_acks-mask.result ≡ map (acks c.args.line d.hpet) ten = c.all_acks-mask.ensures in
     let down : c.all_down-down.result ≡ each (λ k l. down_where (acks c.args.line d.hpet k) l) 0 d.ticks = masked down_where (acks c.args.line d.hpet) c.all_acks-mask.result d.ticks c.all_down-down.result long mask_is c.all_down-down.ensures in
     let again : c.all_acked-up_again.result ≡ each (λ k l. acked_where (acks c.args.line d.hpet k) l) 0 d.ticks = masked acked_where (acks c.args.line d.hpet) c.all_acks-mask.result d.ticks c.all_acked-up_again.result long mask_is c.all_acked-up_again.ensures in
     two_parts c.args.at c.args.edges.now c.changes.new.into c.changes-2.new.into c.lines_of-before.result.levels c.lines_of-middle.result.levels c.lines_of-after.result.levels d (first_part (Ack c.args.line) d) (acted (Ack c.args.line) d)

@@ -1,18 +1,18 @@
-use Rattle.std.proofs.Common.{◌≡◌, ℕ, ◌+◌, ◌-◌, ◌*◌, ◌/◌, ◌<◌, ◌^◌, ◌&&◌, Bool, get_or, List, Option, None, ap, sym, subst, refl, ◌∙◌, inl, inr, arith}
+use Rattle.std.proofs.Common.{◌≡◌, ℕ, ◌+◌, ◌-◌, ◌*◌, ◌/◌, ◌<◌, ◌^◌, ◌&&◌, Bool, get_or, List, Option, None, ap, sym, subst, refl, ◌∙◌, arith}
+use Rattle.rtc_registers.specs.declared.TheConstants.{RTC_HZ}
+use Rattle.hpet_registers.specs.declared.hpet.TheConstants.{HPET_HZ}
 use Rattle.std.proofs.lemmas.List.{get_or_default}
 use Rattle.clk_units.specs.Pulses.{pulses_from}
 use Rattle.rtc_registers.specs.Pulses.{rtc_pulsed_times}
-use Rattle.tick_policy.specs.declared.line.TickParts.{TickParts}
+use Rattle.tick_policy.specs.declared.parts.TickParts.{TickParts}
 use Rattle.board_devices.specs.Lines.{levels}
 use Rattle.clk_units.specs.Events.{first_at}
 use Rattle.tick_policy.proofs.Stretches.{next_point}
 use Rattle.board_devices.specs.declared.parts.DeviceParts.{DeviceParts}
 use Rattle.board_devices.specs.declared.stretch.Ticks.{Ticks}
-use Rattle.hpet_registers.specs.declared.parts.HpetParts.{HpetParts}
-use Rattle.hpet_registers.specs.Parts.{IsHpet}
-use Rattle.hpet_registers.specs.Pulses.{timer_matches}
+use Rattle.hpet_registers.specs.Stretch.{timer_matches}
 use Rattle.board_devices.specs.Places.{line_at, no_line}
-use Rattle.board_devices.specs.Nanosecond.{rtc_hz, hpet_hz, counts_rtc}
+use Rattle.board_devices.specs.Nanosecond.{counts_rtc}
 use Rattle.board_devices.specs.private.Stretch.{no_ticks, timer_ticks, ticks_at, end_of, up_of, flagged_where}
 use Rattle.board_devices.specs.Run.{run}
 use Rattle.board_devices.specs.Parts.{IsDevices}
@@ -25,10 +25,7 @@ use Rattle.board_devices.proofs.devices.Devices.advance.Goals as goal
 
 sound : (c : goal.After-timers-1) → Sound (parts_of c.self.inside)
 sound c = record {
-  pit = c.parts-before.ensures.valid.three;
   rtc = rw c.parts-clock.ensures.value at c.parts-clock.ensures.valid;
-  hpet = rw c.parts-hpet.ensures.parts at c.parts-hpet.ensures.valid;
-  counter = rw c.parts-hpet.ensures.parts at (let f : c.parts-hpet.result.counter < 2 ^ 64 = omega arith in f);
   joined = c.self.invariant;
 }
 
@@ -51,10 +48,9 @@ known c = record {
   point = next_point c.self.inside.slew_ns c.args.from (omega (arith, c.self.invariant.slew_low));
   brought = brought c;
   each_matched = λ k less. ap (λ (xs : List (Option ℕ)). get_or xs k None) c.all_matched-matched.ensures
-      ∙ at-eight (λ i. first_at hpet_hz c.args.from (timer_matches c.pulses-matches.result i).first) None k less;
+      ∙ at-eight (λ i. first_at HPET_HZ c.args.from (timer_matches c.pulses-matches.result i).first) None k less;
   each_timer = λ k less. ap (λ (xs : List Ticks). get_or xs k no_ticks) c.all_timer_ticks-timers.ensures
-      ∙ at-eight (λ i. timer_ticks i c.parts-hpet.result c.pulses-matches.result c.all_matched-matched.result) no_ticks k less
-      ∙ ap (λ (h : HpetParts). timer_ticks k h c.pulses-matches.result c.all_matched-matched.result) c.parts-hpet.ensures.parts;
+      ∙ at-eight (λ i. timer_ticks i c.self.inside.hpet c.pulses-matches.result c.all_matched-matched.result) no_ticks k less;
   pit_is = rw (c.counted-pit.ensures, c.first_at-rise_at.ensures.value, c.legacy-legacy.ensures) refl;
   rtc_is = rw (c.counted-rtc.ensures, c.first_at-tick_at.ensures.value, c.counts_rtc-counts.ensures, c.legacy-legacy.ensures, c.shown_of-shown.ensures.pie) refl;
 }
@@ -70,10 +66,7 @@ run_lines-ups-requires c = wanted
 
 sound_end : (c : goal.After-line_times) → Sound (parts_of c.self.inside)
 sound_end c = record {
-  pit = c.parts-before.ensures.valid.three;
   rtc = rw c.parts-clock.ensures.value at c.parts-clock.ensures.valid;
-  hpet = rw c.parts-hpet.ensures.parts at c.parts-hpet.ensures.valid;
-  counter = rw c.parts-hpet.ensures.parts at (let f : c.parts-hpet.result.counter < 2 ^ 64 = omega arith in f);
   joined = c.self.invariant;
 }
 
@@ -96,10 +89,9 @@ known_end c = record {
   point = next_point c.self.inside.slew_ns c.args.from (omega (arith, c.self.invariant.slew_low));
   brought = brought_end c;
   each_matched = λ k less. ap (λ (xs : List (Option ℕ)). get_or xs k None) c.all_matched-matched.ensures
-      ∙ at-eight (λ i. first_at hpet_hz c.args.from (timer_matches c.pulses-matches.result i).first) None k less;
+      ∙ at-eight (λ i. first_at HPET_HZ c.args.from (timer_matches c.pulses-matches.result i).first) None k less;
   each_timer = λ k less. ap (λ (xs : List Ticks). get_or xs k no_ticks) c.all_timer_ticks-timers.ensures
-      ∙ at-eight (λ i. timer_ticks i c.parts-hpet.result c.pulses-matches.result c.all_matched-matched.result) no_ticks k less
-      ∙ ap (λ (h : HpetParts). timer_ticks k h c.pulses-matches.result c.all_matched-matched.result) c.parts-hpet.ensures.parts;
+      ∙ at-eight (λ i. timer_ticks i c.self.inside.hpet c.pulses-matches.result c.all_matched-matched.result) no_ticks k less;
   pit_is = rw (c.counted-pit.ensures, c.first_at-rise_at.ensures.value, c.legacy-legacy.ensures) refl;
   rtc_is = rw (c.counted-rtc.ensures, c.first_at-tick_at.ensures.value, c.counts_rtc-counts.ensures, c.legacy-legacy.ensures, c.shown_of-shown.ensures.pie) refl;
 }
@@ -116,7 +108,7 @@ ends c k less = c.run_lines-ups.ensures.state k less
 counts_is : (c : goal.After-line_times) → c.counts_rtc-counts.result ≡ counts_rtc (parts_of c.self.inside)
 counts_is c = rw (c.counts_rtc-counts.ensures, c.legacy-legacy.ensures, c.shown_of-shown.ensures.pie) refl
 
-rtc_is : (c : goal.After-line_times) → c.set_flag.new.rtc ≡ flagged_where (counts_rtc (parts_of c.self.inside) && (get_or c.run_lines-ups.new.lines 1 no_line).up) (rtc_pulsed_times (pulses_from rtc_hz c.args.from (c.args.to - c.args.from)) c.self.inside.rtc)
+rtc_is : (c : goal.After-line_times) → c.set_flag.new.rtc ≡ flagged_where (counts_rtc (parts_of c.self.inside) && (get_or c.run_lines-ups.new.lines 1 no_line).up) (rtc_pulsed_times (pulses_from RTC_HZ c.args.from (c.args.to - c.args.from)) c.self.inside.rtc)
 rtc_is c =
     let one : get_or c.run_lines-ups.new.lines 1 c.index-self-1.result ≡ get_or c.run_lines-ups.new.lines 1 no_line = get_or_default c.run_lines-ups.new.lines 1 c.index-self-1.result no_line (omega arith) in
     let flag : c.counts_rtc_up-flag.result ≡ (counts_rtc (parts_of c.self.inside) && (get_or c.run_lines-ups.new.lines 1 no_line).up) = c.counts_rtc_up-flag.ensures ∙ ap (λ (b : Bool). b && c.is_up.result) (counts_is c) ∙ ap (λ (b : Bool). counts_rtc (parts_of c.self.inside) && b) (c.is_up.ensures ∙ ap (λ (l : TickParts). l.up) one) in
@@ -126,7 +118,7 @@ ups_are : (c : goal.After-line_times) → (k : ℕ) → k < 10 → get_or c.run_
 ups_are c k less = c.run_lines-ups.ensures.up k less
 
 outs : (c : goal.After-line_times) → (k : ℕ) → k < 8 → get_or c.all_outputs-outputs.result k None ≡ out_at (known_end c) k
-outs c = outs-are (known_end c) c.next_point-point.result c.args.to c.all_outputs-outputs.result c.run_lines-ups.result c.parts-hpet.result (point_end c) (whole c) c.parts-hpet.ensures.parts (ups_are c) c.all_outputs-outputs.ensures
+outs c = outs-are (known_end c) c.next_point-point.result c.args.to c.all_outputs-outputs.result c.run_lines-ups.result c.self.inside.hpet (point_end c) (whole c) refl (ups_are c) c.all_outputs-outputs.ensures
 
 state : (c : goal.After-line_times) → parts_of (record { pit = c.pulses-rises.new.self; rtc = c.set_flag.new.rtc; hpet = c.pulses-matches.new.self; ticks = c.run_lines-ups.new.lines; slew_ns = c.self.inside.slew_ns }) ≡ (run c.args.from (c.args.to - c.args.from) (parts_of c.self.inside)).state
 state c = ran-state (known_end c) c.next_point-point.result c.args.to c.run_lines-ups.new.lines c.pulses-rises.new.self c.set_flag.new.rtc c.pulses-matches.new.self (point_end c) (whole c) (omega arith) (ends c)
@@ -146,7 +138,7 @@ irq_is c = rw (c.irq_from-irq.ensures, c.shown_of-shown.ensures.aie, c.shown_of-
 pub returns-clause-levels : goal.returns-clause-levels
 returns-clause-levels c = λ j le.
     ap (λ (d : DeviceParts). levels (run c.args.from j d).state) (sym c.self.view_is)
-    ∙ ran-levels (known_end c) c.line_times.result c.all_outputs-outputs.result c.legacy-legacy.result c.parts-hpet.result _ c.irq_from-irq.result c.legacy-legacy.ensures c.parts-hpet.ensures.parts (up-is (known_end c) c.next_point-point.result c.args.to c.run_lines-ups.result (point_end c) (whole c) (ups_are c) 0 (omega arith)) (irq_is c) (outs c) c.line_times.ensures j (omega (arith, le, whole c))
+    ∙ ran-levels (known_end c) c.line_times.result c.all_outputs-outputs.result c.legacy-legacy.result c.self.inside.hpet _ c.irq_from-irq.result c.legacy-legacy.ensures refl (up-is (known_end c) c.next_point-point.result c.args.to c.run_lines-ups.result (point_end c) (whole c) (ups_are c) 0 (omega arith)) (irq_is c) (outs c) c.line_times.ensures j (omega (arith, le, whole c))
 
 pub returns-clause-due : goal.returns-clause-due
 returns-clause-due c = λ k less. rw (← c.self.view_is) (due-few (known_end c) c.next_point-point.result c.args.to c.run_lines-ups.new.lines (ends c) k less)
@@ -154,15 +146,9 @@ returns-clause-due c = λ k less. rw (← c.self.view_is) (due-few (known_end c)
 -- where nothing came
 sound_still : (c : goal.Then-nothing_came) → Sound (parts_of c.self.inside)
 sound_still c = record {
-  pit = c.parts-before.ensures.valid.three;
   rtc = rw c.parts-clock.ensures.value at c.parts-clock.ensures.valid;
-  hpet = rw c.parts-hpet.ensures.parts at c.parts-hpet.ensures.valid;
-  counter = rw c.parts-hpet.ensures.parts at (let f : c.parts-hpet.result.counter < 2 ^ 64 = omega arith in f);
   joined = c.self.invariant;
 }
-
-few_timers : (h : HpetParts) (k : ℕ) → IsHpet h → k < h.timers → k < 8
-few_timers h k valid less = elim valid.timers [ inl three ↦ omega (arith, three) | inr eight ↦ omega (arith, eight) ]
 
 still : (c : goal.Then-nothing_came) → Quiet (parts_of c.self.inside) c.args.from (c.args.to - c.args.from) ((c.args.from / c.self.inside.slew_ns + 1) * c.self.inside.slew_ns - c.args.from)
 still c = record {
@@ -172,7 +158,7 @@ still c = record {
   rises = sym (rw c.pulses_between.ensures.value at c.pulses-rises.ensures.count) ∙ c.if-nothing_came.ensures.rises refl;
   ticks = sym (rw c.pulses_between-2.ensures.value at c.pulses-events.ensures.ticks) ∙ c.if-nothing_came.ensures.ticks refl;
   updates = sym (rw c.pulses_between-2.ensures.value at c.pulses-events.ensures.updates) ∙ c.if-nothing_came.ensures.updates refl;
-  matches = λ k less. sym (rw c.pulses_between-3.ensures.value at (c.pulses-matches.ensures.count k less)) ∙ c.if-nothing_came.ensures.matches refl k (few_timers c.self.inside.hpet k (sound_still c).hpet less);
+  matches = λ k less. sym (rw c.pulses_between-3.ensures.value at (c.pulses-matches.ensures.count k)) ∙ c.if-nothing_came.ensures.matches refl k less;
 }
 
 state_still : (c : goal.Then-nothing_came) → parts_of (record { pit = c.pulses-rises.new.self; rtc = c.pulses-events.new.self; hpet = c.pulses-matches.new.self; ticks = c.self.inside.ticks; slew_ns = c.self.inside.slew_ns }) ≡ (run c.args.from (c.args.to - c.args.from) (parts_of c.self.inside)).state

@@ -7,7 +7,7 @@ use Rattle.rtc_registers.specs.Registers.{pf_of, irqf_of}
 use Rattle.rtc_registers.specs.Parts.{IsRtc}
 use Rattle.rtc_registers.specs.Access.{after_rtc_read, flagged}
 use Rattle.hpet_registers.specs.Parts.{is_legacy}
-use Rattle.tick_policy.specs.declared.line.TickParts.{TickParts}
+use Rattle.tick_policy.specs.declared.parts.TickParts.{TickParts}
 use Rattle.tick_policy.specs.Line.{goes_again}
 use Rattle.board_devices.specs.declared.parts.DeviceParts.{DeviceParts}
 use Rattle.board_devices.specs.declared.act.Act.TheVariants.{ClockRead}

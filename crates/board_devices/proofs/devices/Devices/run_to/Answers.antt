@@ -33,6 +33,6 @@ pub returns-in-None-clause-lifts : goal.returns-in-None-clause-lifts
 returns-in-None-clause-lifts c = λ n.
     let none : lifts n (run c.args.from (c.args.to - c.args.from) c.args.self.now).edges ≡ 0 = ap (lifts n) (edges-still c.args.self.now c.args.from c.args.to c.in-None.ensures.levels (c.args.to - c.args.from) (omega (arith, c.requires.order))) in
     let same : one_if (level_of line_numbers (levels c.args.self.now) n) ≡ one_if (level_of line_numbers (levels c.advance.new.self) n) =
-        ap (λ (bs : List Bool). one_if (level_of line_numbers bs n)) (sym (c.in-None.ensures.levels (c.args.to - c.args.from) (omega (arith, c.requires.order))))
-        ∙ ap (λ (d : DeviceParts). one_if (level_of line_numbers (levels d) n)) (sym c.advance.ensures.state) in
+    ap (λ (bs : List Bool). one_if (level_of line_numbers bs n)) (sym (c.in-None.ensures.levels (c.args.to - c.args.from) (omega (arith, c.requires.order))))
+    ∙ ap (λ (d : DeviceParts). one_if (level_of line_numbers (levels d) n)) (sym c.advance.ensures.state) in
     omega (arith, none, same)

@@ -1,8 +1,8 @@
 use Rattle.std.proofs.Common.{◌≡◌, ◌+◌, List, map, cond, ltb, get_or, ap, sym, subst, ◌∙◌}
 use Rattle.hpet_registers.specs.declared.parts.HpetParts.{HpetParts}
 use Rattle.hpet_registers.specs.Parts.{IsHpet}
-use Rattle.tick_policy.specs.declared.line.TickParts.{TickParts}
-use Rattle.tick_policy.specs.Line.{powered_on}
+use Rattle.tick_policy.specs.declared.parts.TickParts.{TickParts}
+use Rattle.tick_policy.specs.Line.{line_at_power_on}
 use Rattle.board_devices.specs.declared.parts.DeviceParts.{DeviceParts}
 use Rattle.board_devices.specs.Places.{each, no_line}
 use Rattle.board_devices.specs.Lines.{levels}
@@ -21,7 +21,7 @@ hpet c = subst (λ (d : DeviceParts). IsHpet d.hpet) (before c) c.parts-before.e
 lines : (c : goal.After-lines_upgraded) → c.lines_upgraded.result ≡ each (line_upgraded (parts_of c.self.inside)) 0 c.self.inside.ticks
 lines c =
     c.lines_upgraded.ensures
-    ∙ ap (λ (d : DeviceParts). map (λ k. cond (ltb k (d.hpet.timers + 2)) (get_or c.self.inside.ticks k no_line) (powered_on (get_or c.self.inside.ticks 2 no_line).policy)) ten) (before c)
+    ∙ ap (λ (d : DeviceParts). map (λ k. cond (ltb k (d.hpet.timers + 2)) (get_or c.self.inside.ticks k no_line) (line_at_power_on (get_or c.self.inside.ticks 2 no_line).policy)) ten) (before c)
     ∙ each-ten (line_upgraded (parts_of c.self.inside)) c.self.inside.ticks c.self.invariant.places
 
 state : (c : goal.After-lines_upgraded) → parts_of (record { pit = c.self.inside.pit; rtc = c.self.inside.rtc; hpet = c.with_eight_timers.result; ticks = c.lines_upgraded.result; slew_ns = c.self.inside.slew_ns }) ≡ devices_upgraded (parts_of c.self.inside)

@@ -5,7 +5,7 @@ use Rattle.rtc_registers.specs.declared.parts.RtcParts.{RtcParts}
 use Rattle.rtc_registers.specs.Registers.{pf_of, irqf_of}
 use Rattle.rtc_registers.specs.Access.{rtc_written}
 use Rattle.hpet_registers.specs.Parts.{is_legacy}
-use Rattle.tick_policy.specs.declared.line.TickParts.{TickParts}
+use Rattle.tick_policy.specs.declared.parts.TickParts.{TickParts}
 use Rattle.board_devices.specs.declared.parts.DeviceParts.{DeviceParts}
 use Rattle.board_devices.specs.declared.act.Act.TheVariants.{ClockWrite}
 use Rattle.board_devices.specs.Places.{each, no_line}

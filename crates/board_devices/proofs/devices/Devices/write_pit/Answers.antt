@@ -3,7 +3,7 @@ use Rattle.std.proofs.lemmas.List.{get_or_default}
 use Rattle.irq_edges.specs.Lines.{change}
 use Rattle.irq_edges.specs.declared.edges.Edge.{Edge}
 use Rattle.pit_readback.specs.declared.parts.PitParts.{PitParts}
-use Rattle.tick_policy.specs.declared.line.TickParts.{TickParts}
+use Rattle.tick_policy.specs.declared.parts.TickParts.{TickParts}
 use Rattle.board_devices.specs.declared.parts.DeviceParts.{DeviceParts}
 use Rattle.board_devices.specs.declared.act.Act.TheVariants.{PitWrite}
 use Rattle.board_devices.specs.Places.{line_at, no_line, ticked_at}
@@ -20,21 +20,21 @@ rises c = ticks_on_write c.args.port c.args.byte (parts_of c.self.inside)
 
 counted : (c : goal.After-push_change) → c.is_counted-counted.result ≡ rises c
 unfolding rises
-counted c = rw (c.is_counted-counted.ensures, c.write_port.ensures.rose, c.legacy-legacy.ensures) refl
+counted c = rw (c.is_counted-counted.ensures, c.write.ensures.rose, c.legacy-legacy.ensures) refl
 
 lines : (c : goal.After-push_change) → c.tick_first.new.ticks ≡ ticked_at (pit_ticked (rises c)) c.self.inside.ticks
 lines c = c.tick_first.ensures ∙ ap (λ (b : Bool). ticked_at (pit_ticked b) c.self.inside.ticks) (counted c)
 
 pub invariant_of-self : goal.invariant_of-self
 unfolding rises
-invariant_of-self c = IsDevices-each (parts_of c.self.inside) c.write_port.new.pit c.self.inside.rtc c.self.inside.hpet c.tick_first.new.ticks _ c.self.invariant (lines c) (KeepsLines-pit_ticked (rises c) c.self.inside.hpet.timers) refl refl
+invariant_of-self c = IsDevices-each (parts_of c.self.inside) c.write.new.self c.self.inside.rtc c.self.inside.hpet c.tick_first.new.ticks _ c.self.invariant (lines c) (KeepsLines-pit_ticked (rises c) c.self.inside.hpet.timers) refl refl
     (ap (λ (ls : List TickParts). (get_or ls 1 no_line).up) (lines c) ∙ ap (λ (l : TickParts). l.up) (each-at _ 0 1 c.self.inside.ticks no_line (omega (arith, c.self.invariant.places))) ∙ c.self.invariant.flag)
 
 pub returns-clause-state : goal.returns-clause-state
 unfolding acted rises
 returns-clause-state c =
-    ap (λ (ls : List TickParts). record (parts_of c.self.inside) { pit = c.write_port.new.pit; ticks = ls }) (lines c)
-    ∙ ap (λ (x : PitParts). record (parts_of c.self.inside) { pit = x; ticks = ticked_at (pit_ticked (rises c)) c.self.inside.ticks }) c.write_port.ensures.state
+    ap (λ (ls : List TickParts). record (parts_of c.self.inside) { pit = c.write.new.self; ticks = ls }) (lines c)
+    ∙ ap (λ (x : PitParts). record (parts_of c.self.inside) { pit = x; ticks = ticked_at (pit_ticked (rises c)) c.self.inside.ticks }) c.write.ensures.state
     ∙ ap (acted (PitWrite c.args.port c.args.byte)) c.self.view_is
 
 before : (c : goal.After-push_change) → c.is_up-before.result ≡ (line_at 0 (parts_of c.self.inside)).up
