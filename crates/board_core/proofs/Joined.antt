@@ -3,7 +3,7 @@ use Rattle.std.proofs.Common.{◌≡◌, ℕ, zero, suc, pos, ◌+◌, ◌*◌, 
 use Rattle.std.proofs.lemmas.Bool.{cases_lt, cases_eq}
 use Rattle.std.proofs.lemmas.List.{get_or-set_same, get_or-set_other}
 use Rattle.irq_edges.specs.declared.edges.Edge.{Edge}
-use Rattle.irq_edges.specs.Changes.{line_numbers, level_of}
+use Rattle.irq_edges.specs.Lines.{line_numbers, level_of}
 use Rattle.host_counter.specs.declared.Anchor.{Anchor}
 use Rattle.host_counter.specs.Time.{time_at}
 use Rattle.host_counter.proofs.Times.{time_at-mono}
@@ -13,6 +13,7 @@ use Rattle.board_types.specs.declared.access.TheConstants.{MSR_KVM_WALL_CLOCK}
 use Rattle.board_types.specs.declared.parts.BoardParts.{BoardParts}
 use Rattle.board_types.specs.declared.parts.ProcessorParts.{ProcessorParts}
 use Rattle.board_types.specs.declared.parts.TheConstants.{LAST_VERSION}
+use Rattle.board_types.specs.Setup.{processors_of}
 use Rattle.board_devices.specs.Rises.{lifts, one_if, rises_with}
 use Rattle.board_devices.proofs.Rises.{at-counted}
 use Rattle.board_core.specs.Time.{HasTime, now_of, time_of_access}
@@ -20,7 +21,7 @@ use Rattle.board_core.specs.Tsc.{no_processor}
 use Rattle.board_core.specs.Pages.{published, prepared, published_at, published_by, processors_after}
 use Rattle.board_core.specs.Wall.{wall_number_after, wall_version_after, publishes_wall}
 use Rattle.board_core.specs.Rises.{rises_after}
-use Rattle.board_core.specs.Conditions.{IsVersion, IsWall, flags_valid, IsProcessor, AreProcessors, AreRises}
+use Rattle.board_core.specs.Conditions.{IsFormat, IsVersion, IsWall, flags_valid, IsProcessor, AreProcessors, AreRises}
 use Rattle.board_core.proofs.Times.{time_at_max}
 
 -- a count up to the board's has a time, and moves none
@@ -106,10 +107,10 @@ AreProcessors-none guest_khz cpus n = record {
     none (suc n) (suc k) = none n k
 
 -- the counts of rises behind these edges
-pub AreRises-after : (format n d : ℕ) (before after : List Bool) (es : List Edge) (rises : List ℕ) → length rises ≡ 6 → AreRises format n before rises
+pub AreRises-after : (format n m d : ℕ) (before after : List Bool) (es : List Edge) (rises : List ℕ) → length rises ≡ 6 → n + d ≡ m → AreRises format n before rises
     → ((line : ℕ) → lifts line es + one_if (level_of line_numbers before line) ≤ d + one_if (level_of line_numbers after line))
-    → AreRises format (n + d) after (rises_after format es rises)
-AreRises-after format n d before after es rises long valid lifted = record {
+    → AreRises format m after (rises_after format es rises)
+AreRises-after format n m d before after es rises long sum valid lifted = record {
   most = λ k less. omega (arith, at-counted (leb 2 format) es rises k long less, valid.most k less, lifted (get_or line_numbers k 0));
   none = λ old k. ap (λ (b : Bool). get_or (cond b (rises_with es line_numbers rises) rises) k 0) (old_format format old) ∙ valid.none old k;
 }
@@ -134,3 +135,14 @@ IsWall-after (MsrWrite msr v) number version nsec fresh valid = elim (eqb msr MS
   | false ↦ λ less. valid
 ] fresh
 IsWall-after _ number version nsec fresh valid = valid
+
+-- no format has more than 64 processors
+processors_of-most : (format : ℕ) → processors_of format ≤ 64
+processors_of-most format = by (leb format 1)
+  where
+    by : (b : Bool) → cond b 16 64 ≤ 64
+    by true = omega arith
+    by false = omega arith
+
+pub most-cpus : (format cpus timers : ℕ) → IsFormat format cpus timers → cpus ≤ 64
+most-cpus format cpus timers valid = omega (arith, valid.most_cpus, processors_of-most format)

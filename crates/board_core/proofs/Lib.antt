@@ -1,3 +1,8 @@
 pub mod Times
+pub mod Timers
 pub mod Nexts
 pub mod Joined
+pub mod Values
+pub mod Steps
+pub mod Legals
+pub mod Laws

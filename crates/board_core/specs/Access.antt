@@ -10,7 +10,7 @@ use Rattle.std.specs.Prelude.{
   ◌++◌,
 }
 use Rattle.irq_edges.specs.declared.edges.Edge.{Edge}
-use Rattle.irq_edges.specs.Changes.{line_numbers}
+use Rattle.irq_edges.specs.Lines.{line_numbers}
 use Rattle.board_types.specs.declared.access.Access.{Access}
 use Rattle.board_types.specs.declared.access.Access.TheVariants.{
   PortIn,

@@ -5,7 +5,6 @@ use Rattle.std.specs.Prelude.{
   ◌+◌,
   ◌*◌,
   ◌%◌,
-  ◌^◌,
   ◌<◌,
   ◌≤◌,
   Bool,
@@ -15,8 +14,10 @@ use Rattle.std.specs.Prelude.{
   List,
   slice_index_or,
 }
+use Rattle.clk_units.specs.Ranges.{IsKhz}
+use Rattle.clk_units.specs.declared.ranges.TheConstants.{RANGE_NS}
 use Rattle.host_counter.specs.declared.Anchor.{Anchor}
-use Rattle.irq_edges.specs.Changes.{line_numbers, level_of}
+use Rattle.irq_edges.specs.Lines.{line_numbers, level_of}
 use Rattle.pvclock_page.specs.Scale.{mul_for, shift_for}
 use Rattle.board_types.specs.declared.parts.BoardParts.{BoardParts}
 use Rattle.board_types.specs.declared.parts.ProcessorParts.{ProcessorParts}
@@ -39,10 +40,8 @@ pub record IsFormat (format cpus timers : ℕ) : Type 0 where
 
 -- the rates of the host's counter and of the guest's TSC, in kHz
 pub record AreRates (anchor : Anchor) (guest_khz : ℕ) : Type 0 where
-  pub slow : 100000 ≤ anchor.khz
-  pub fast : anchor.khz ≤ 10000000
-  pub guest_slow : 100000 ≤ guest_khz
-  pub guest_fast : guest_khz ≤ 10000000
+  pub host : IsKhz anchor.khz
+  pub guest : IsKhz guest_khz
 
 -- a version is even, and at most the last one
 pub record IsVersion (version : ℕ) : Type 0 where
@@ -62,7 +61,7 @@ flags_valid flags = flags == 1 || flags == 3
 -- a processor: all is 0 before its page is published first; then the page has the scale of the guest
 pub record IsProcessor (guest_khz : ℕ) (p : ProcessorParts) : Type 0 where
   pub version : IsVersion p.version
-  pub time : p.system_time < 2 ^ 59
+  pub time : p.system_time < RANGE_NS
   pub unpublished : p.version ≡ 0 → p ≡ no_processor
   pub flags : 0 < p.version → IsTrue (flags_valid p.flags)
   pub mul : 0 < p.version → p.mul ≡ mul_for (guest_khz * 1000)

@@ -1,5 +1,6 @@
 -- When a line changes next, if no access comes.
-use Rattle.std.specs.Prelude.{ℕ, zero, suc, ◌+◌, ◌-◌, ◌^◌, List, [], ◌∷◌, Option, Some, None}
+use Rattle.std.specs.Prelude.{ℕ, zero, suc, ◌+◌, ◌-◌, List, [], ◌∷◌, Option, Some, None}
+use Rattle.clk_units.specs.declared.ranges.TheConstants.{RANGE_NS}
 use Rattle.irq_edges.specs.declared.edges.Edge.{Edge}
 use Rattle.board_devices.specs.declared.parts.DeviceParts.{DeviceParts}
 use Rattle.board_devices.specs.Run.{run}
@@ -20,6 +21,6 @@ first_edge now zero d = None
 first_edge now (suc n) d =
     or_later (first_edge now n d) (at_first_edge (now + n + 1) (run now (suc n) d).edges)
 
--- the first nanosecond behind now, and below 2^59, in which a line changes
+-- the first nanosecond behind now, and below `RANGE_NS`, in which a line changes
 abbrev pub next_of : ℕ → DeviceParts → Option ℕ
-next_of now d = first_edge now (2 ^ 59 - 1 - now) d
+next_of now d = first_edge now (RANGE_NS - 1 - now) d

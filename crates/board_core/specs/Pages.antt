@@ -4,7 +4,6 @@ use Rattle.std.specs.Prelude.{
   ℕ,
   ◌+◌,
   ◌*◌,
-  ◌%◌,
   ◌==◌,
   ◌||◌,
   max,
@@ -16,9 +15,12 @@ use Rattle.std.specs.Prelude.{
   Some,
   None,
 }
+use Rattle.clk_units.specs.Bits.{bit}
 use Rattle.host_counter.specs.declared.Anchor.{Anchor}
 use Rattle.host_counter.specs.Time.{time_at}
 use Rattle.tsc_scale.specs.declared.Tsc.{Tsc}
+use Rattle.tsc_scale.specs.Offset.{tsc_by}
+use Rattle.tsc_scale.specs.Ratio.{ratio_of}
 use Rattle.pvclock_page.specs.Scale.{mul_for, shift_for}
 use Rattle.pvclock_page.specs.declared.page.Page.{Page}
 use Rattle.pvclock_page.specs.declared.page.PageReply.{PageReply}
@@ -66,7 +68,7 @@ page_in p = record {
   shift = p.shift;
   flags = p.flags;
   offset = p.offset;
-  enabled = p.number % 2 == 1;
+  enabled = bit 0 p.number;
 }
 
 -- the page that a write to an MSR publishes: one to the TSC, TSC_ADJUST or MSR_KVM_SYSTEM_TIME_NEW that
@@ -115,7 +117,7 @@ page_reply b cpu h =
     if (page_in (processor_at b cpu)).enabled then
       On (page_in (processor_at b cpu))
       (reading_of (page_in (processor_at b cpu))
-      (tsc_read b.anchor b.guest_khz h (processor_at b cpu)))
+      (tsc_by (page_in (processor_at b cpu)).offset h (ratio_of b.guest_khz b.anchor.khz)))
     else Off
 
 -- the clamp: a clock tells the greater of a page's reading and of all that was told before

@@ -1,7 +1,6 @@
 -- Why an access is refused.
 use Rattle.std.specs.Prelude.{
   ℕ,
-  ◌^◌,
   nat_lt,
   nat_le,
   if◌then◌else◌,
@@ -11,6 +10,7 @@ use Rattle.std.specs.Prelude.{
   Some,
   None,
 }
+use Rattle.clk_units.specs.declared.ranges.TheConstants.{RANGE_NS}
 use Rattle.host_counter.specs.Time.{time_at}
 use Rattle.board_types.specs.declared.access.Access.{Access}
 use Rattle.board_types.specs.declared.parts.BoardParts.{BoardParts}
@@ -44,10 +44,10 @@ spent_version (Some version) next =
     if nat_le LAST_VERSION version then Some (VersionsSpent version) else next
 
 -- why an access at count h is refused, the causes in this order: the count is before the anchor's;
--- its time is 2^59 ns or more; a version is spent; the accesses are spent
+-- its time is `RANGE_NS` or more; a version is spent; the accesses are spent
 unfoldable pub refusal_of : BoardParts → ℕ → ℕ → Access → Option Refusal
 refusal_of b cpu h a =
     if nat_lt h b.anchor.start then Some (BeforeStart b.anchor.start)
-    else (if nat_le (2 ^ 59) (time_at b.anchor h) then Some (OutOfRange (time_at b.anchor h))
+    else (if nat_le RANGE_NS (time_at b.anchor h) then Some (OutOfRange (time_at b.anchor h))
     else spent_version (raised_version b.processors b.wall_version cpu a)
     (if nat_le MOST_ACCESSES b.accesses then Some (Spent b.accesses) else None))

@@ -1,7 +1,7 @@
 -- How often each line went up: counted from format 2 on.
 use Rattle.std.specs.Prelude.{ℕ, ◌+◌, ◌==◌, nat_le, if◌then◌else◌, List, [], ◌∷◌}
 use Rattle.irq_edges.specs.declared.edges.Edge.{Edge}
-use Rattle.irq_edges.specs.Changes.{line_numbers}
+use Rattle.irq_edges.specs.Lines.{line_numbers}
 use Rattle.board_devices.specs.Rises.{rises_with}
 
 -- the counts behind these edges, in order of line numbers: each edge upwards counts one

@@ -1,5 +1,6 @@
 -- The time of a board, and what of it runs with time.
-use Rattle.std.specs.Prelude.{ℕ, ◌<◌, ◌≤◌, ◌^◌, max}
+use Rattle.std.specs.Prelude.{ℕ, ◌<◌, ◌≤◌, max}
+use Rattle.clk_units.specs.declared.ranges.TheConstants.{RANGE_NS}
 use Rattle.host_counter.specs.declared.Anchor.{Anchor}
 use Rattle.host_counter.specs.Time.{time_at}
 use Rattle.board_types.specs.declared.parts.BoardParts.{BoardParts}
@@ -23,7 +24,7 @@ now_of b = time_at b.anchor b.host
 abbrev pub time_of_access : BoardParts → ℕ → ℕ
 time_of_access b h = max (now_of b) (time_at b.anchor h)
 
--- a count has a time: it isn't before the anchor's, and its time is below 2^59 ns
+-- a count has a time: it isn't before the anchor's, and its time is below `RANGE_NS`
 pub record HasTime (anchor : Anchor) (h : ℕ) : Type 0 where
   pub started : anchor.start ≤ h
-  pub range : time_at anchor h < 2 ^ 59
+  pub range : time_at anchor h < RANGE_NS

@@ -65,7 +65,7 @@ impl BoardState {
         self.devices.run_to(self.time_ns, to, edges);
         self.host = self.host.max(h);
         self.time_ns = to;
-        count_rises(&mut self.rises, self.format, edges.as_slice());
+        count_rises(&mut self.rises, self.format, edges, 0);
     }
 
     /// The access itself, on a board that has run to its time.
@@ -90,7 +90,7 @@ impl BoardState {
         self.wall_number = wall_number_after(a, self.wall_number);
         self.wall_version = wall_version_after(a, self.wall_version);
         publish_by(&mut self.processors, self.anchor, self.guest_khz, cpu, h, a);
-        count_rises(&mut self.rises, self.format, &edges.as_slice()[before..]);
+        count_rises(&mut self.rises, self.format, edges, before);
         value_with(a, word, told)
     }
 

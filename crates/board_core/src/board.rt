@@ -1,5 +1,6 @@
 //! The board, and what it tells of itself.
-ghost use Rattle.std.specs.Prelude.{◌≡◌, ◌<◌, ◌^◌};
+ghost use Rattle.std.specs.Prelude.{◌≡◌, ◌<◌};
+ghost use Rattle.clk_units.specs.declared.ranges.TheConstants.{RANGE_NS};
 ghost use Rattle.board_types.specs.Setup.{IsSetup};
 ghost use Rattle.board_devices.specs.Lines.{levels};
 ghost use Rattle.board_core.specs.Time.{devices_in, now_of};
@@ -105,7 +106,7 @@ impl BoardState {
     /// The time in nanoseconds: that of the greatest count of all accesses.
     pub fn now(&self) -> u64
         ensures value { result ≡ now_of self.now }
-        ensures range { result < 2 ^ 59 }
+        ensures range { result < RANGE_NS }
     {
         self.time_ns
     }

@@ -1,5 +1,7 @@
 //! A new anchor, and a later format.
-ghost use Rattle.std.specs.Prelude.{◌≡◌, ◌+◌, ◌<◌, ◌≤◌, ◌^◌, length};
+ghost use Rattle.std.specs.Prelude.{◌≡◌, ◌+◌, ◌<◌, ◌≤◌, length};
+ghost use Rattle.clk_units.specs.Ranges.{IsKhz};
+ghost use Rattle.clk_units.specs.declared.ranges.TheConstants.{RANGE_NS};
 ghost use Rattle.board_devices.specs.Run.{run};
 ghost use Rattle.board_core.specs.Time.{devices_in, now_of};
 ghost use Rattle.board_core.specs.Reanchor.{reanchored};
@@ -15,9 +17,8 @@ impl BoardState {
     /// 10,000,000. TSC offsets, pages and the number of accesses stay. Answers the edges of the gap, at most six.
     #[tactic(auto, unfolding(crate::specs::Reanchor::reanchored))]
     pub fn reanchor(&mut self, khz: u64, start: u64, gap: u64) -> Ran
-        requires slow { 100000 ≤ khz }
-        requires fast { khz ≤ 10000000 }
-        requires range { now_of self.old + gap < 2 ^ 59 }
+        requires rate { IsKhz khz }
+        requires range { now_of self.old + gap < RANGE_NS }
         ensures state { self.new ≡ reanchored khz start gap self.old }
         ensures edges { result.edges ≡ (run (now_of self.old) gap (devices_in self.old)).edges }
         ensures few { length result.edges ≤ 6 }
@@ -32,7 +33,7 @@ impl BoardState {
         };
         self.host = start;
         self.time_ns = from + gap;
-        count_rises(&mut self.rises, self.format, edges.as_slice());
+        count_rises(&mut self.rises, self.format, &edges, 0);
         Ran { edges }
     }
 }

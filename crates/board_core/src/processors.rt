@@ -1,5 +1,6 @@
 //! What accesses do to the processors: their TSCs, their numbers, and the publishing of their pages.
 ghost use Rattle.std.specs.Prelude.{◌≡◌, ◌<◌, ◌≤◌, ◌^◌, ◌==◌, ◌||◌, IfSome, slice_index_or, if◌then◌else◌};
+ghost use Rattle.clk_units.specs.Ranges.{IsKhz};
 ghost use Rattle.host_counter.specs.Time.{time_at};
 ghost use Rattle.board_types.specs.declared.parts.TheConstants.{LAST_VERSION};
 ghost use Rattle.board_core.specs.Tsc.{no_processor, tsc_of, with_tsc, tsc_read, tsc_after, msr_written};
@@ -10,6 +11,7 @@ ghost use Rattle.board_core.specs.Conditions.{AreRates};
 use board_types::{
     Access, MSR_KVM_SYSTEM_TIME, MSR_TSC, MSR_TSC_ADJUST, ProcessorParts,
 };
+use clk_units::bit;
 use host_counter::Anchor;
 use pvclock_page::{Page, TSC_STABLE, scale_of};
 use tsc_scale::{Tsc, ratio};
@@ -39,7 +41,7 @@ pub(crate) fn page_in(p: &ProcessorParts) -> Page
         shift: p.shift,
         flags: p.flags,
         offset: p.offset,
-        enabled: p.number % 2 == 1,
+        enabled: bit(0, p.number),
     }
 }
 
@@ -57,8 +59,7 @@ pub(crate) fn tsc_read(p: &ProcessorParts, anchor: Anchor, guest_khz: u64, h: u6
 
 /// The time at a count that has one.
 fn time_of(anchor: Anchor, h: u64) -> u64
-    requires slow { 100000 ≤ anchor.khz }
-    requires fast { anchor.khz ≤ 10000000 }
+    requires rate { IsKhz anchor.khz }
     requires time { HasTime anchor h }
     ensures { result ≡ time_at anchor h }
 {

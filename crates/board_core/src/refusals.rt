@@ -1,6 +1,7 @@
 //! Why an access is refused.
-ghost use Rattle.std.specs.Prelude.{◌≡◌, ◌<◌, ◌≤◌, IfSome, IfOk, IfErr, OnOk, None, Some, nat_le, if◌then◌else◌};
+ghost use Rattle.std.specs.Prelude.{◌≡◌, ◌<◌, ◌≤◌, IfSome, IfOk, IfErr, OnOk, None, Some, nat_le, if◌then◌else◌, IsTrue};
 ghost use Rattle.host_counter.specs.Time.{IsFaultAt};
+ghost use Rattle.board_types.specs.Legal.{is_legal};
 ghost use Rattle.board_types.specs.declared.parts.TheConstants.{MOST_ACCESSES};
 ghost use Rattle.board_types.specs.declared.reply.Refusal.TheVariants.{Spent};
 ghost use Rattle.board_core.specs.Time.{time_of_access, HasTime};
@@ -17,7 +18,8 @@ impl BoardState {
     /// The time to which an access at count `h` runs, or why it is refused.
     #[tactic(auto, unfolding(crate::specs::Refusals::refusal_of))]
     pub(crate) fn admit(&self, cpu: u8, h: u64, a: Access) -> Result<u64, Refusal>
-        requires { IfSome (published_by cpu a) (λ k. k < 64) }
+        requires cpu { cpu < self.now.cpus }
+        requires legal { IsTrue (is_legal self.now.cpus self.now.format a) }
         ensures refused { IfErr result (λ e. refusal_of self.now cpu h a ≡ Some e) }
         ensures taken { OnOk result (refusal_of self.now cpu h a ≡ None) }
         ensures time { IfOk result (λ to. to ≡ time_of_access self.now h) }

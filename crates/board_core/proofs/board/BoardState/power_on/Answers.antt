@@ -21,10 +21,8 @@ invariant_of-result c = record {
       has_timers = ap (λ (d : DeviceParts). d.hpet.timers) c.devices_of_setup.ensures;
     };
     rates = record {
-      slow = c.requires.slow;
-      fast = c.requires.fast;
-      guest_slow = c.requires.guest_slow;
-      guest_fast = c.requires.guest_fast;
+      host = record { slow = c.requires.slow; fast = c.requires.fast };
+      guest = record { slow = c.requires.guest_slow; fast = c.requires.guest_fast };
     };
     time = record { started = omega arith; range = omega (arith, time_at-start c.args.setup.now.anchor, c.requires.base) };
     accesses = omega arith;
