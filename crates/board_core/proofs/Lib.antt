@@ -6,3 +6,4 @@ pub mod Values
 pub mod Steps
 pub mod Legals
 pub mod Laws
+mod Rows

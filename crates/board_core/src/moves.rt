@@ -3,8 +3,10 @@ ghost use Rattle.std.specs.Prelude.{◌≡◌, ◌+◌, ◌<◌, ◌≤◌, leng
 ghost use Rattle.clk_units.specs.Ranges.{IsKhz};
 ghost use Rattle.clk_units.specs.declared.ranges.TheConstants.{RANGE_NS};
 ghost use Rattle.board_devices.specs.Run.{run};
+ghost use Rattle.board_devices.specs.Lines.{levels};
 ghost use Rattle.board_core.specs.Time.{devices_in, now_of};
 ghost use Rattle.board_core.specs.Reanchor.{reanchored};
+ghost use Rattle.board_core.specs.Upgrade.{upgraded_to};
 
 use crate::board::BoardState;
 use crate::rises::count_rises;
@@ -35,5 +37,22 @@ impl BoardState {
         self.time_ns = from + gap;
         count_rises(&mut self.rises, self.format, &edges, 0);
         Ran { edges }
+    }
+
+    /// The board in a later format, or the same. From format 1 to 2 it gets five timers, which are as at power on,
+    /// and counts of rises, which are 0; all else is kept, the levels of its lines too.
+    #[tactic(auto, unfolding(crate::specs::Upgrade::upgraded_to))]
+    pub fn upgraded(&self, to: u8) -> BoardState
+        requires later { self.now.format ≤ to }
+        requires built { to ≤ 2 }
+        ensures state { result ≡ upgraded_to to self.now }
+        ensures lines { levels (devices_in result) ≡ levels (devices_in self.now) }
+    {
+        let mut board = *self;
+        if self.format < 2 && 2 <= to {
+            board.devices = self.devices.upgraded();
+        }
+        board.format = to;
+        board
     }
 }
