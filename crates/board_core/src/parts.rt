@@ -29,6 +29,9 @@ impl BoardState {
         ensures valid { IsBoard result }
     {
         let devices = self.devices.parts();
+        let ticks = devices.ticks;
+        let processors = self.processors;
+        let rises = self.rises;
         BoardParts {
             format: self.format,
             cpus: self.cpus,
@@ -41,13 +44,13 @@ impl BoardState {
             pit: devices.pit,
             rtc: devices.rtc,
             hpet: devices.hpet,
-            ticks: devices.ticks,
+            ticks,
             wall_number: self.wall_number,
             wall_version: self.wall_version,
             wall_sec: self.wall_sec,
             wall_nsec: self.wall_nsec,
-            processors: self.processors,
-            rises: self.rises,
+            processors,
+            rises,
         }
     }
 
@@ -58,6 +61,8 @@ impl BoardState {
     {
         let devices = Devices::of_parts(devices_in(&parts))?;
         let time_ns = time_of_parts(&parts)?;
+        let processors = parts.processors;
+        let rises = parts.rises;
         if are_joined(&parts, time_ns, &devices.lines()) {
             Some(BoardState {
                 format: parts.format,
@@ -73,8 +78,8 @@ impl BoardState {
                 wall_version: parts.wall_version,
                 wall_sec: parts.wall_sec,
                 wall_nsec: parts.wall_nsec,
-                processors: parts.processors,
-                rises: parts.rises,
+                processors,
+                rises,
             })
         } else {
             None
@@ -86,11 +91,12 @@ impl BoardState {
 fn devices_in(parts: &BoardParts) -> DeviceParts
     ensures { result ≡ devices_in parts.now }
 {
+    let ticks = parts.ticks;
     DeviceParts {
         pit: parts.pit,
         rtc: parts.rtc,
         hpet: parts.hpet,
-        ticks: parts.ticks,
+        ticks,
         slew_ns: parts.slew_ns,
     }
 }
