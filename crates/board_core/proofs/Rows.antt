@@ -10,7 +10,7 @@ use Rattle.pvclock_page.specs.declared.page.ClockReply.TheVariants.{Off as Clock
 use Rattle.pvclock_page.specs.Scale.{mul_for, shift_for}
 use Rattle.pvclock_page.specs.Reading.{reading_of}
 use Rattle.rtc_calendar.specs.declared.TimeBytes.{TimeBytes}
-use Rattle.tick_policy.specs.declared.line.Policy.TheVariants.{Delay}
+use Rattle.tick_policy.specs.declared.parts.Policy.TheVariants.{Delay}
 use Rattle.board_types.specs.declared.access.Access.{Access}
 use Rattle.board_types.specs.declared.access.Access.TheVariants.{PortIn, PortOut, MsrWrite, Step, Refresh, Wall, Next}
 use Rattle.board_types.specs.declared.parts.BoardParts.{BoardParts}

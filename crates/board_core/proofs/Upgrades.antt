@@ -1,7 +1,7 @@
 -- What an upgrade does to the timers and their tick lines.
 use Rattle.std.proofs.Common.{◌≡◌, ℕ, zero, suc, ◌+◌, ◌≤◌, Bool, true, false, cond, ltb, List, [], ◌∷◌, get_or, refl, arith}
-use Rattle.tick_policy.specs.declared.line.TickParts.{TickParts}
-use Rattle.tick_policy.specs.Line.{powered_on}
+use Rattle.tick_policy.specs.declared.parts.TickParts.{TickParts}
+use Rattle.tick_policy.specs.Line.{line_at_power_on}
 use Rattle.board_devices.specs.declared.parts.DeviceParts.{DeviceParts}
 use Rattle.board_devices.specs.Places.{each, no_line, line_at}
 use Rattle.board_devices.specs.Parts.{line_upgraded, devices_upgraded}
@@ -24,4 +24,4 @@ due-each f k (suc i) (l ∷ ls) fewer = due-each f (suc k) i ls fewer
 pub due-later : (more : Bool) (d : DeviceParts) (k : ℕ) → (get_or (cond more (devices_upgraded d).ticks d.ticks) k no_line).counts.due ≤ (line_at k d).counts.due
 unfolding devices_upgraded
 due-later false d k = omega arith
-due-later true d k = due-each (line_upgraded d) 0 k d.ticks (λ j l. due-where (ltb j (d.hpet.timers + 2)) l (powered_on (line_at 2 d).policy) refl)
+due-later true d k = due-each (line_upgraded d) 0 k d.ticks (λ j l. due-where (ltb j (d.hpet.timers + 2)) l (line_at_power_on (line_at 2 d).policy) refl)

@@ -1,7 +1,7 @@
 use Rattle.std.proofs.Common.{◌≡◌, ℕ, ◌≤◌, ◌<◌, ◌+◌, Bool, cond, List, length, get_or, ap, sym, subst, ◌∙◌, arith}
 use Rattle.host_counter.specs.Time.{time_at}
 use Rattle.hpet_registers.specs.declared.parts.HpetParts.{HpetParts}
-use Rattle.tick_policy.specs.declared.line.TickParts.{TickParts}
+use Rattle.tick_policy.specs.declared.parts.TickParts.{TickParts}
 use Rattle.board_types.specs.declared.parts.BoardParts.{BoardParts}
 use Rattle.board_devices.specs.declared.parts.DeviceParts.{DeviceParts}
 use Rattle.board_devices.specs.Places.{no_line, line_at}
