@@ -1,8 +1,10 @@
 -- Lemmas on the clock and the calendar in plain numbers.
-use Rattle.std.proofs.Common.{◌≡◌, ℕ, ◌+◌, ◌%◌, ◌≤◌, Bool, true, false, cond, eqb, ◌&&◌, ◌||◌, refl, sym, arith}
+use Rattle.std.proofs.Common.{◌≡◌, ℕ, ◌+◌, ◌%◌, ◌≤◌, Bool, true, false, cond, eqb, ◌&&◌, ◌||◌, refl, sym}
+use Rattle.std.proofs.Common.{arith}
 use Rattle.std.proofs.lemmas.Bool.{cond_both, eqb-false}
 use Rattle.rtc_calendar.specs.declared.calendar.Moment.{Moment}
-use Rattle.rtc_calendar.specs.Calendar.{month_length, IsMoment, ends_minute, ends_hour, ends_day, ends_month, ends_year, next_in, next_second}
+use Rattle.rtc_calendar.specs.Calendar.{month_length, IsMoment, ends_minute, ends_hour, ends_day, ends_month}
+use Rattle.rtc_calendar.specs.Calendar.{ends_year, next_in, next_second}
 
 -- a month has 28 days at least ..
 pub month_length-least : (year month : ℕ) → 28 ≤ month_length year month
@@ -43,7 +45,8 @@ next_in-most low high number order h =
     not_last other = omega arith
 
 -- behind the last of a month comes a first, which every month has
-pub date_in_month : (day last end : Bool) (date year month next_year next_month : ℕ) → last ≡ eqb date (month_length year month) → date ≤ month_length year month
+pub date_in_month : (day last end : Bool) (date year month next_year next_month : ℕ) → last ≡ eqb date (month_length year month)
+    → date ≤ month_length year month
     → cond day (next_in 1 (month_length year month) date) date ≤ month_length (cond (day && last && end) next_year year) (cond (day && last) next_month month)
 unfolding next_in
 date_in_month false last end date year month next_year next_month e h = h

@@ -1,7 +1,9 @@
 -- Small rows that pin the definitions.
 use Rattle.std.proofs.Common.{◌≡◌, true, false, refl}
-use Rattle.rtc_calendar.specs.Bytes.{spelt, has_digits, is_spelt, number_in, spelling, is_hour, hour_meant, hour_in, hour_of_twelve, hour_spelling}
-use Rattle.rtc_calendar.specs.Calendar.{month_length, ends_minute, ends_hour, ends_day, ends_month, ends_year, next_in, next_second, next_day}
+use Rattle.rtc_calendar.specs.Bytes.{spelt, has_digits, is_spelt, number_in, spelling, is_hour, hour_meant}
+use Rattle.rtc_calendar.specs.Bytes.{hour_in, hour_of_twelve, hour_spelling}
+use Rattle.rtc_calendar.specs.Calendar.{month_length, ends_minute, ends_hour, ends_day, ends_month}
+use Rattle.rtc_calendar.specs.Calendar.{ends_year, next_in, next_second, next_day}
 use Rattle.rtc_calendar.specs.Updates.{month_in, year_in, last_date_in, moment_of, bytes_of, updated}
 use Rattle.rtc_calendar.specs.private.Days.{days_of_years, days_of_months, day_number}
 use Rattle.rtc_calendar.specs.Alarms.{fits_byte, is_match}

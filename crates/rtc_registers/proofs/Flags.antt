@@ -1,5 +1,6 @@
 -- Lemmas on register C: a write of its flags keeps the rest of the clock, and setting PF goes past pulses.
-use Rattle.std.proofs.Common.{◌≡◌, ℕ, zero, suc, ◌≤◌, ◌<◌, ◌+◌, Bool, true, false, ◌||◌, cond, eqb, List, length, set, refl, sym, ap, subst, ◌∙◌, inl, inr, arith}
+use Rattle.std.proofs.Common.{◌≡◌, ℕ, zero, suc, ◌≤◌, ◌<◌, ◌+◌, Bool, true, false, ◌||◌, cond, eqb, List}
+use Rattle.std.proofs.Common.{length, set, refl, sym, ap, subst, ◌∙◌, inl, inr, arith}
 use Rattle.std.proofs.lemmas.Bool.{cases_Bool}
 use Rattle.std.proofs.lemmas.List.{set-get_or}
 use Rattle.rtc_calendar.specs.declared.TimeBytes.{TimeBytes}
@@ -8,11 +9,14 @@ use Rattle.rtc_cycle.specs.Divider.{pulsed, ticks_next, updates_next}
 use Rattle.rtc_cycle.specs.Parts.{IsDivider}
 use Rattle.rtc_registers.specs.declared.parts.RtcParts.{RtcParts}
 use Rattle.clk_units.specs.Bits.{bit}
-use Rattle.rtc_registers.specs.Registers.{register_b, register_c, flags_byte, pf_of, af_of, uf_of, divider_of, form_of, time_of, alarm_of}
+use Rattle.rtc_registers.specs.Registers.{register_b, register_c, flags_byte, pf_of, af_of, uf_of}
+use Rattle.rtc_registers.specs.Registers.{divider_of, form_of, time_of, alarm_of}
 use Rattle.rtc_registers.specs.Access.{after_rtc_read, flagged}
 use Rattle.rtc_registers.specs.Parts.{IsRtc}
-use Rattle.rtc_registers.specs.Pulses.{moved, time_next, flags_next, alarms_next, rtc_pulsed, rtc_pulsed_times, alarms_in}
-use Rattle.rtc_registers.proofs.Bytes.{Moved, moved-bytes, Flagged, flagged-bytes, flags_byte-read, bit-pf, bit-af, bit-uf}
+use Rattle.rtc_registers.specs.Pulses.{moved, time_next, flags_next, alarms_next, rtc_pulsed}
+use Rattle.rtc_registers.specs.Pulses.{rtc_pulsed_times, alarms_in}
+use Rattle.rtc_registers.proofs.Bytes.{Moved, moved-bytes, Flagged, flagged-bytes, flags_byte-read, bit-pf}
+use Rattle.rtc_registers.proofs.Bytes.{bit-af, bit-uf}
 use Rattle.rtc_registers.proofs.Times.{time_next-by, alarms_next-by, flags_next-by, IsRtc-rtc_pulsed_times}
 
 -- register C is replaced
@@ -77,7 +81,8 @@ unfolding moved flagged
 moved-flagged c t f r valid =
     ap (λ (bs : List ℕ). let p : RtcParts = record { index = r.index; bytes = bs; d = c.d; cycle = c.cycle } in p) ((moved-bytes t f r.bytes (omega (arith, valid.places))).flags_before (flags_byte true (af_of r) (uf_of r)))
 
-flagged-moved : (c : DividerParts) (t : TimeBytes) (pf af uf : Bool) (r : RtcParts) → IsRtc r → flagged (moved c t (flags_byte pf af uf) r) ≡ moved c t (flags_byte true af uf) r
+flagged-moved : (c : DividerParts) (t : TimeBytes) (pf af uf : Bool) (r : RtcParts) → IsRtc r
+    → flagged (moved c t (flags_byte pf af uf) r) ≡ moved c t (flags_byte true af uf) r
 unfolding moved flagged
 flagged-moved c t pf af uf r valid =
     let m : Moved t (flags_byte pf af uf) r.bytes = moved-bytes t (flags_byte pf af uf) r.bytes (omega (arith, valid.places)) in
@@ -107,7 +112,8 @@ alarms_next-flagged r valid =
 pub rtc_pulsed-flagged : (r : RtcParts) → IsRtc r → rtc_pulsed (flagged r) ≡ flagged (rtc_pulsed r)
 unfolding rtc_pulsed
 rtc_pulsed-flagged r valid =
-    let time : time_next (flagged r) ≡ time_next r = time_next-by (flagged r) (divider_of r) (form_of r) (time_of r) (divider_of-flagged r valid) (form_of-flagged r valid) (time_of-flagged r valid) in
+    let time : time_next (flagged r) ≡ time_next r =
+    time_next-by (flagged r) (divider_of r) (form_of r) (time_of r) (divider_of-flagged r valid) (form_of-flagged r valid) (time_of-flagged r valid) in
     let flags : flags_next (flagged r) ≡ flags_byte true (af_of r || alarms_next r) (uf_of r || updates_next (divider_of r)) =
     flags_next-by (flagged r) (divider_of r) true (af_of r) (uf_of r) (divider_of-flagged r valid) (register_c-flagged r valid)
     ∙ ap (λ (b : Bool). flags_byte true (af_of r || b) (uf_of r || updates_next (divider_of r))) (alarms_next-flagged r valid) in
