@@ -33,10 +33,8 @@ pub struct WantedTime {
 
 /// The seconds or minutes that an alarm byte matches.
 fn wanted_number(binary: bool, alarm: u8) -> Wanted
-    ensures value {
-        (number : ℕ) → number ≤ 59
-            → is_wanted result number ≡ fits_byte alarm (spelling binary number)
-    }
+    ensures value { (number : ℕ) → number ≤ 59
+        → is_wanted result number ≡ fits_byte alarm (spelling binary number) }
     ensures within { IsBelow result 60 }
 {
     if alarm >= ANYTHING {
@@ -50,10 +48,8 @@ fn wanted_number(binary: bool, alarm: u8) -> Wanted
 
 /// The hours that an alarm byte matches.
 fn wanted_hour(form: Form, alarm: u8) -> Wanted
-    ensures value {
-        (hour : ℕ) → hour ≤ 23
-            → is_wanted result hour ≡ fits_byte alarm (hour_spelling form hour)
-    }
+    ensures value { (hour : ℕ) → hour ≤ 23
+        → is_wanted result hour ≡ fits_byte alarm (hour_spelling form hour) }
     ensures within { IsBelow result 24 }
 {
     if alarm >= ANYTHING {
@@ -67,18 +63,12 @@ fn wanted_hour(form: Form, alarm: u8) -> Wanted
 
 /// The times that an alarm matches.
 pub(crate) fn wanted_time(form: Form, alarm: Alarm) -> WantedTime
-    ensures second {
-        (number : ℕ) → number ≤ 59
-            → is_wanted result.second number ≡ fits_byte alarm.sec (spelling form.binary number)
-    }
-    ensures minute {
-        (number : ℕ) → number ≤ 59
-            → is_wanted result.minute number ≡ fits_byte alarm.min (spelling form.binary number)
-    }
-    ensures hour {
-        (hour : ℕ) → hour ≤ 23
-            → is_wanted result.hour hour ≡ fits_byte alarm.hour (hour_spelling form hour)
-    }
+    ensures second { (number : ℕ) → number ≤ 59
+        → is_wanted result.second number ≡ fits_byte alarm.sec (spelling form.binary number) }
+    ensures minute { (number : ℕ) → number ≤ 59
+        → is_wanted result.minute number ≡ fits_byte alarm.min (spelling form.binary number) }
+    ensures hour { (hour : ℕ) → hour ≤ 23
+        → is_wanted result.hour hour ≡ fits_byte alarm.hour (hour_spelling form hour) }
     ensures within { IsInDay result }
 {
     WantedTime {

@@ -97,10 +97,8 @@ fn stored(r: &RtcParts, byte: u8) -> u8
 /// Stores a byte where one can be written.
 fn store(bytes: &mut [u8; 128], index: u8, byte: u8)
     requires { index < 128 }
-    ensures {
-        bytes.new
-            ≡ (if index == 0x0c || index == 0x0d then bytes.old else slice_set bytes.old index byte)
-    }
+    ensures { bytes.new
+        ≡ (if index == 0x0c || index == 0x0d then bytes.old else slice_set bytes.old index byte) }
 {
     if index != REGISTER_C && index != REGISTER_D {
         bytes[index as usize] = byte;

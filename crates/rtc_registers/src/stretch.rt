@@ -52,14 +52,10 @@ fn flags_after(r: &RtcParts, cycle: &CycleEvents, alarm: bool) -> u8
 /// The divider moves on, and events change time bytes and register C; the first update that the alarm matches,
 /// updates being counted from 1.
 fn take_events(r: &mut RtcParts, divider: DividerParts, cycle: &CycleEvents) -> Option<u64>
-    ensures matched {
-        IsFirst (matches_in (form_of r.old) (alarm_of r.old) (time_of r.old)) cycle.now.updates result
-    }
-    ensures state {
-        r.new
-            ≡ moved divider (updated_times (form_of r.old) cycle.now.updates (time_of r.old))
-            (flags_behind cycle.now (is_some result) r.old) r.old
-    }
+    ensures matched { IsFirst (matches_in (form_of r.old) (alarm_of r.old) (time_of r.old)) cycle.now.updates result }
+    ensures state { r.new
+        ≡ moved divider (updated_times (form_of r.old) cycle.now.updates (time_of r.old))
+        (flags_behind cycle.now (is_some result) r.old) r.old }
 {
     let time = registers::time_of(r);
     let form = registers::form_of(r);
@@ -71,10 +67,8 @@ fn take_events(r: &mut RtcParts, divider: DividerParts, cycle: &CycleEvents) -> 
 
 /// The pulse of the update numbered `matched`, where the first one comes at pulse `first`.
 fn update_pulse(first: Option<u64>, matched: Option<u64>) -> Option<u64>
-    requires {
-        (f k : ℕ) → first ≡ Some f → matched ≡ Some k
-            → (0 < k) × (f + (k - 1) * RTC_HZ < 2 ^ 64)
-    }
+    requires { (f k : ℕ) → first ≡ Some f → matched ≡ Some k
+        → (0 < k) × (f + (k - 1) * RTC_HZ < 2 ^ 64) }
     ensures { result ≡ second_apart first matched }
 {
     match first {
@@ -98,6 +92,9 @@ pub(crate) fn pass(r: &mut RtcParts, n: u64) -> RtcEvents
     ensures first_update { IsFirst (updates_in (divider_of r.old)) n result.cycle.first_update }
     ensures first_alarm { IsFirst (alarms_in r.old) n result.first_alarm }
 {
+    if n == 0 {
+        return RtcEvents::NONE;
+    }
     let mut divider = registers::divider(r);
     let cycle = divider.pulses(n);
     if cycle.ticks == 0 && cycle.updates == 0 {

@@ -1,4 +1,4 @@
-use Rattle.std.proofs.Common.{◌≡◌, ◌+◌, ◌-◌, Some, None, ap, ◌∙◌, arith}
+use Rattle.std.proofs.Common.{◌≡◌, ◌+◌, ◌-◌, Some, None, refl, ap, ◌∙◌, arith}
 use Rattle.clk_units.specs.Events.{IsFirst}
 use Rattle.rtc_calendar.specs.Updates.{moment_of}
 use Rattle.rtc_calendar.specs.Alarms.{matches_in}
@@ -39,3 +39,6 @@ returns-else-update-n c =
     let first : IsFirst (matches_in c.args.form c.args.alarm c.args.bytes) c.args.n None =
     matches_in-before c.args.form c.args.alarm c.wanted_time.result c.args.bytes c.args.n (c.second_of_day-start.result + 1) c.in_ok-next.next asks start c.in_ok-next.ensures.next (omega (arith, c.if-update-n.false)) in
     record { first = first; any = λ any some. IsFirst-any c.args.form c.args.alarm c.args.bytes c.args.n None any some first }
+
+pub returns-then-n-eq0 : goal.returns-then-n-eq0
+returns-then-n-eq0 c = record { first = rw c.if-n-eq0.true refl; any = λ any some. absurd (omega arith) }
