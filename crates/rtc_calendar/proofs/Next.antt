@@ -100,7 +100,8 @@ pub is_match-updated_times : (form : Form) (alarm : Alarm) (w : WantedTime) (byt
 is_match-updated_times form alarm w bytes n asks some =
     ap (is_match alarm) (updated_times-some form n bytes some)
     ∙ is_match-moment form alarm w (next_seconds n (moment_of form bytes)) (second_of_day (moment_of form bytes) + n) asks
-    (IsMoment-next_seconds n (moment_of form bytes) (IsMoment-moment_of form bytes)) (second_of_day-next_seconds n (moment_of form bytes) (IsMoment-moment_of form bytes))
+    (IsMoment-next_seconds n (moment_of form bytes) (IsMoment-moment_of form bytes))
+    (second_of_day-next_seconds n (moment_of form bytes) (IsMoment-moment_of form bytes))
 
 -- where none of n updates is matched the count is 0
 matches_in-none : (form : Form) (alarm : Alarm) (bytes : TimeBytes) (n : ℕ)
@@ -124,14 +125,16 @@ pub matches_in-no_next : (form : Form) (alarm : Alarm) (w : WantedTime) (bytes :
     → start ≡ second_of_day (moment_of form bytes) + 1
     → IsNext (is_wanted_second w) start None → matches_in form alarm bytes n ≡ 0
 matches_in-no_next form alarm w bytes n start asks e none =
-    matches_in-none form alarm bytes n (λ i some few. is_match-updated_times form alarm w bytes i asks some ∙ none (second_of_day (moment_of form bytes) + i) (omega arith))
+    matches_in-none form alarm bytes n
+    (λ i some few. is_match-updated_times form alarm w bytes i asks some ∙ none (second_of_day (moment_of form bytes) + i) (omega arith))
 
 -- nor is there one before the next of them
 pub matches_in-before : (form : Form) (alarm : Alarm) (w : WantedTime) (bytes : TimeBytes) (n start next : ℕ) → AsksFor form alarm w
     → start ≡ second_of_day (moment_of form bytes) + 1
     → IsNext (is_wanted_second w) start (Some next) → n < next - start + 1 → matches_in form alarm bytes n ≡ 0
 matches_in-before form alarm w bytes n start next asks e found early =
-    matches_in-none form alarm bytes n (λ i some few. is_match-updated_times form alarm w bytes i asks some ∙ found.2 (second_of_day (moment_of form bytes) + i) (omega arith) (omega (arith, found.0)))
+    matches_in-none form alarm bytes n
+    (λ i some few. is_match-updated_times form alarm w bytes i asks some ∙ found.2 (second_of_day (moment_of form bytes) + i) (omega arith) (omega (arith, found.0)))
 
 -- and there it is
 pub IsFirst-next : (form : Form) (alarm : Alarm) (w : WantedTime) (bytes : TimeBytes) (n start next : ℕ) → AsksFor form alarm w

@@ -41,7 +41,8 @@ pub updated_times-suc : (form : Form) (n : ℕ) (bytes : TimeBytes) → updated_
 updated_times-suc form n bytes = refl
 
 pub matches_in-suc : (form : Form) (alarm : Alarm) (bytes : TimeBytes) (n : ℕ)
-    → matches_in form alarm bytes (suc n) ≡ cond (alarm_next form alarm (updated_times form n bytes)) (suc (matches_in form alarm bytes n)) (matches_in form alarm bytes n)
+    → matches_in form alarm bytes (suc n) ≡ cond (alarm_next form alarm (updated_times form n bytes)) (suc (matches_in form alarm bytes n))
+    (matches_in form alarm bytes n)
 matches_in-suc form alarm bytes n = refl
 
 -- updates behind updates
@@ -58,8 +59,10 @@ matches_in-add form alarm bytes n zero = let all : n + 0 ≡ n = omega arith in 
 matches_in-add form alarm bytes n (suc more) =
     let next : n + suc more ≡ suc (n + more) = omega arith in
     ap (matches_in form alarm bytes) next
-    ∙ ap (λ (b : TimeBytes). cond (alarm_next form alarm b) (suc (matches_in form alarm bytes (n + more))) (matches_in form alarm bytes (n + more))) (updated_times-add form n more bytes)
-    ∙ one_more (alarm_next form alarm (updated_times form more (updated_times form n bytes))) (matches_in form alarm bytes (n + more)) (matches_in form alarm bytes n)
+    ∙ ap (λ (b : TimeBytes). cond (alarm_next form alarm b) (suc (matches_in form alarm bytes (n + more))) (matches_in form alarm bytes (n + more)))
+    (updated_times-add form n more bytes)
+    ∙ one_more (alarm_next form alarm (updated_times form more (updated_times form n bytes))) (matches_in form alarm bytes (n + more))
+    (matches_in form alarm bytes n)
     (matches_in form alarm (updated_times form n bytes) more) (matches_in-add form alarm bytes n more)
   where
     one_more : (b : Bool) (x y z : ℕ) → x ≡ y + z → cond b (suc x) x ≡ y + cond b (suc z) z
@@ -97,7 +100,8 @@ is_match-any alarm bytes any =
     let sec : leb 192 alarm.sec ≡ true = le-leb 192 alarm.sec any.sec in
     let min : leb 192 alarm.min ≡ true = le-leb 192 alarm.min any.min in
     let hour : leb 192 alarm.hour ≡ true = le-leb 192 alarm.hour any.hour in
-    and_from ((leb 192 alarm.sec || eqb alarm.sec bytes.sec) && (leb 192 alarm.min || eqb alarm.min bytes.min)) (leb 192 alarm.hour || eqb alarm.hour bytes.hour)
+    and_from ((leb 192 alarm.sec || eqb alarm.sec bytes.sec) && (leb 192 alarm.min || eqb alarm.min bytes.min))
+    (leb 192 alarm.hour || eqb alarm.hour bytes.hour)
     (and_from (leb 192 alarm.sec || eqb alarm.sec bytes.sec) (leb 192 alarm.min || eqb alarm.min bytes.min)
     (or_left (leb 192 alarm.sec) (eqb alarm.sec bytes.sec) sec)
     (or_left (leb 192 alarm.min) (eqb alarm.min bytes.min) min))
@@ -118,7 +122,8 @@ moment_of-bytes_of form m v =
     number_in-spelling form.binary 1 12 m.month v.first_month v.last_month (omega arith) in
     let year : number_in form.binary 0 99 (spelling form.binary m.year) ≡ m.year =
     number_in-spelling form.binary 0 99 m.year (omega arith) v.year (omega arith) in
-    let date : number_in form.binary 1 (month_length (number_in form.binary 0 99 (spelling form.binary m.year)) (number_in form.binary 1 12 (spelling form.binary m.month))) (spelling form.binary m.date) ≡ m.date =
+    let date : number_in form.binary 1
+    (month_length (number_in form.binary 0 99 (spelling form.binary m.year)) (number_in form.binary 1 12 (spelling form.binary m.month))) (spelling form.binary m.date) ≡ m.date =
     ap (λ (y : ℕ). number_in form.binary 1 (month_length y (number_in form.binary 1 12 (spelling form.binary m.month))) (spelling form.binary m.date)) year
     ∙ ap (λ (x : ℕ). number_in form.binary 1 (month_length m.year x) (spelling form.binary m.date)) month
     ∙ number_in-spelling form.binary 1 (month_length m.year m.month) m.date v.first_date v.last_date (omega (arith, month_length-most m.year m.month)) in
@@ -128,7 +133,8 @@ moment_of-bytes_of form m v =
       minute = number_in form.binary 0 59 (spelling form.binary m.minute);
       hour = hour_in form (hour_spelling form m.hour);
       weekday = number_in form.binary 1 7 (spelling form.binary m.weekday);
-      date = number_in form.binary 1 (month_length (number_in form.binary 0 99 (spelling form.binary m.year)) (number_in form.binary 1 12 (spelling form.binary m.month))) (spelling form.binary m.date);
+      date = number_in form.binary 1
+          (month_length (number_in form.binary 0 99 (spelling form.binary m.year)) (number_in form.binary 1 12 (spelling form.binary m.month))) (spelling form.binary m.date);
       month = number_in form.binary 1 12 (spelling form.binary m.month);
       year = number_in form.binary 0 99 (spelling form.binary m.year);
     })
@@ -175,7 +181,8 @@ unfolding updated
 updated_times-bytes_of form zero bytes = refl
 updated_times-bytes_of form (suc n) bytes =
     ap (updated form) (updated_times-bytes_of form n bytes)
-    ∙ ap (λ (m : Moment). bytes_of form (next_second m)) (moment_of-bytes_of form (next_seconds (suc n) (moment_of form bytes)) (IsMoment-next_seconds (suc n) (moment_of form bytes) (IsMoment-moment_of form bytes)))
+    ∙ ap (λ (m : Moment). bytes_of form (next_second m))
+    (moment_of-bytes_of form (next_seconds (suc n) (moment_of form bytes)) (IsMoment-next_seconds (suc n) (moment_of form bytes) (IsMoment-moment_of form bytes)))
 
 pub updated_times-some : (form : Form) (n : ℕ) (bytes : TimeBytes) → 0 < n → updated_times form n bytes ≡ bytes_of form (next_seconds n (moment_of form bytes))
 updated_times-some form zero bytes h = absurd (omega arith)

@@ -127,7 +127,8 @@ pub IsFirst-ticks_in : (p : DividerParts) → IsDivider p → p.dv ≡ 2 → 0 <
 IsFirst-ticks_in p valid runs some n =
     let positive : 0 < period p.rs = period-some p.rs some valid.rs in
     let next : 0 < period p.rs - p.d % period p.rs = within p.d (period p.rs) positive in
-    IsFirst-same (recurs (period p.rs - p.d % period p.rs) (period p.rs)) (ticks_in p) (ticks_in-recurs p valid runs some) n _ (recurs-first (period p.rs - p.d % period p.rs) (period p.rs) n next)
+    IsFirst-same (recurs (period p.rs - p.d % period p.rs) (period p.rs)) (ticks_in p) (ticks_in-recurs p valid runs some) n _
+    (recurs-first (period p.rs - p.d % period p.rs) (period p.rs) n next)
   where
     within : (d m : ℕ) → 0 < m → 0 < m - d % m
     within d m positive = omega arith

@@ -120,14 +120,16 @@ cycle-pulsed_times zero p below quiet h = absurd (both_ways p.cycle quiet h)
 cycle-pulsed_times (suc n) p below quiet h = elim (cases_eq p.dv 2) [
   | inl runs ↦
       let on : eqb (pulsed_times n p).dv 2 ≡ true = eq-eqb (pulsed_times n p).dv 2 (dv-pulsed_times n p ∙ runs) in
-      let after : ((eqb (((pulsed_times n p).d + 1) % 32768) 0 && not (pulsed_times n p).set) || ((pulsed_times n p).cycle && not (eqb (((pulsed_times n p).d + 1) % 32768) 65))) ≡ true =
+      let after :
+      ((eqb (((pulsed_times n p).d + 1) % 32768) 0 && not (pulsed_times n p).set) || ((pulsed_times n p).cycle && not (eqb (((pulsed_times n p).d + 1) % 32768) 65))) ≡ true =
       rw on at h in
       elim (or_cases (eqb (((pulsed_times n p).d + 1) % 32768) 0 && not (pulsed_times n p).set) ((pulsed_times n p).cycle && not (eqb (((pulsed_times n p).d + 1) % 32768) 65)) after) [
         | inl begins ↦
             let parts : (eqb (((pulsed_times n p).d + 1) % 32768) 0 ≡ true) × (not (pulsed_times n p).set ≡ true) =
             and_parts (eqb (((pulsed_times n p).d + 1) % 32768) 0) (not (pulsed_times n p).set) begins in
             (runs, sym (set-pulsed_times n p) ∙ not-true (pulsed_times n p).set parts.1, omega (arith, eqb-true (((pulsed_times n p).d + 1) % 32768) 0 parts.0, d-pulsed_times n p runs below))
-        | inr goes_on ↦ further (cycle-pulsed_times n p below quiet (and_parts (pulsed_times n p).cycle (not (eqb (((pulsed_times n p).d + 1) % 32768) 65)) goes_on).0)
+        | inr goes_on ↦ further
+            (cycle-pulsed_times n p below quiet (and_parts (pulsed_times n p).cycle (not (eqb (((pulsed_times n p).d + 1) % 32768) 65)) goes_on).0)
       ]
   | inr held ↦
       let off : eqb (pulsed_times n p).dv 2 ≡ false = ne_eqb (pulsed_times n p).dv 2 (λ e. held (sym (dv-pulsed_times n p) ∙ e)) in
@@ -311,7 +313,8 @@ runs-updates_in n p valid some = elim (cases_eq p.dv 2) [
 
 a_second_apart : (cycle : Bool) (d n f k : ℕ) → 0 < f → (d + (f - 1) + 32703) / 32768 - behind cycle ≡ 0 → 0 < (d + f + 32703) / 32768 - behind cycle
     → 0 < k → k ≤ (d + n + 32703) / 32768 - behind cycle
-    → (f + (k - 1) * 32768 ≤ n) × ((d + (f + (k - 1) * 32768) + 32703) / 32768 - behind cycle ≡ k) × ((d + (f + (k - 1) * 32768 - 1) + 32703) / 32768 - behind cycle ≡ k - 1)
+    → (f + (k - 1) * 32768 ≤ n) × ((d + (f + (k - 1) * 32768) + 32703) / 32768 - behind cycle ≡ k) ×
+    ((d + (f + (k - 1) * 32768 - 1) + 32703) / 32768 - behind cycle ≡ k - 1)
 a_second_apart true d n f k some before first has few = (omega arith, omega arith, omega arith)
 a_second_apart false d n f k some before first has few = (omega arith, omega arith, omega arith)
 
@@ -321,14 +324,16 @@ pub updates_in-apart : (p : DividerParts) → IsDivider p → (n f k : ℕ) → 
 updates_in-apart p valid n f k first has few =
     let on : (p.dv ≡ 2) × (p.set ≡ false) = runs-updates_in f p valid first.3 in
     let at : (m : ℕ) → updates_in p m ≡ (p.d + m + 32703) / 32768 - behind p.cycle = λ m. updates_in-is m p valid on.0 on.1 in
-    let apart : (f + (k - 1) * 32768 ≤ n) × ((p.d + (f + (k - 1) * 32768) + 32703) / 32768 - behind p.cycle ≡ k) × ((p.d + (f + (k - 1) * 32768 - 1) + 32703) / 32768 - behind p.cycle ≡ k - 1) =
+    let apart : (f + (k - 1) * 32768 ≤ n) × ((p.d + (f + (k - 1) * 32768) + 32703) / 32768 - behind p.cycle ≡ k)
+    × ((p.d + (f + (k - 1) * 32768 - 1) + 32703) / 32768 - behind p.cycle ≡ k - 1) =
     a_second_apart p.cycle p.d n f k first.0 (sym (at (f - 1)) ∙ first.2) (omega (arith, at f, first.3)) has (omega (arith, at n)) in
     (apart.0, at (f + (k - 1) * 32768) ∙ apart.1, at (f + (k - 1) * 32768 - 1) ∙ apart.2)
 
 -- a second ends one update cycle, where its own is in progress or behind it
 pub updates_in-second : (p : DividerParts) → IsDivider p → RunsCycles p → updates_in p 32768 ≡ 1
 updates_in-second p valid runs =
-    updates_in-is 32768 p valid runs.runs runs.unset ∙ one p.cycle p.d valid.below (λ c. let early : (p.dv ≡ 2) × (p.set ≡ false) × (p.d ≤ 64) = valid.in_cycle c in early.2) runs.begun
+    updates_in-is 32768 p valid runs.runs runs.unset
+    ∙ one p.cycle p.d valid.below (λ c. let early : (p.dv ≡ 2) × (p.set ≡ false) × (p.d ≤ 64) = valid.in_cycle c in early.2) runs.begun
   where
     one : (cycle : Bool) (d : ℕ) → d < 32768 → (cycle ≡ true → d ≤ 64) → (cycle ≡ true) ⊎ (65 ≤ d) → (d + 32768 + 32703) / 32768 - behind cycle ≡ 1
     one true d below early begun = omega (arith, early refl)

@@ -79,7 +79,8 @@ uf_of-flagged r valid = ap (bit 4) (register_c-flagged r valid) ∙ bit-uf true 
 moved-flagged : (c : DividerParts) (t : TimeBytes) (f : ℕ) (r : RtcParts) → IsRtc r → moved c t f (flagged r) ≡ moved c t f r
 unfolding moved flagged
 moved-flagged c t f r valid =
-    ap (λ (bs : List ℕ). let p : RtcParts = record { index = r.index; bytes = bs; d = c.d; cycle = c.cycle } in p) ((moved-bytes t f r.bytes (omega (arith, valid.places))).flags_before (flags_byte true (af_of r) (uf_of r)))
+    ap (λ (bs : List ℕ). let p : RtcParts = record { index = r.index; bytes = bs; d = c.d; cycle = c.cycle } in p)
+    ((moved-bytes t f r.bytes (omega (arith, valid.places))).flags_before (flags_byte true (af_of r) (uf_of r)))
 
 flagged-moved : (c : DividerParts) (t : TimeBytes) (pf af uf : Bool) (r : RtcParts) → IsRtc r
     → flagged (moved c t (flags_byte pf af uf) r) ≡ moved c t (flags_byte true af uf) r
@@ -106,7 +107,8 @@ time_of-flagged r valid = (flagged-bytes (flags_byte true (af_of r) (uf_of r)) r
 alarms_next-flagged : (r : RtcParts) → IsRtc r → alarms_next (flagged r) ≡ alarms_next r
 unfolding alarms_next
 alarms_next-flagged r valid =
-    alarms_next-by (flagged r) (divider_of r) (form_of r) (alarm_of r) (time_of r) (divider_of-flagged r valid) (form_of-flagged r valid) (alarm_of-flagged r valid) (time_of-flagged r valid)
+    alarms_next-by (flagged r) (divider_of r) (form_of r) (alarm_of r) (time_of r) (divider_of-flagged r valid) (form_of-flagged r valid)
+    (alarm_of-flagged r valid) (time_of-flagged r valid)
 
 -- setting PF goes past a pulse ..
 pub rtc_pulsed-flagged : (r : RtcParts) → IsRtc r → rtc_pulsed (flagged r) ≡ flagged (rtc_pulsed r)
@@ -126,7 +128,8 @@ rtc_pulsed-flagged r valid =
 -- .. and past n of them
 pub rtc_pulsed_times-flagged : (n : ℕ) (r : RtcParts) → IsRtc r → rtc_pulsed_times n (flagged r) ≡ flagged (rtc_pulsed_times n r)
 rtc_pulsed_times-flagged zero r valid = refl
-rtc_pulsed_times-flagged (suc n) r valid = ap rtc_pulsed (rtc_pulsed_times-flagged n r valid) ∙ rtc_pulsed-flagged (rtc_pulsed_times n r) (IsRtc-rtc_pulsed_times n r valid)
+rtc_pulsed_times-flagged (suc n) r valid = ap rtc_pulsed (rtc_pulsed_times-flagged n r valid)
+    ∙ rtc_pulsed-flagged (rtc_pulsed_times n r) (IsRtc-rtc_pulsed_times n r valid)
 
 -- the alarms are the same with PF set
 pub alarms_in-flagged : (n : ℕ) (r : RtcParts) → IsRtc r → alarms_in (flagged r) n ≡ alarms_in r n
@@ -142,7 +145,8 @@ pub flagged-still : (r : RtcParts) → IsRtc r → pf_of r ≡ true → flagged 
 unfolding flagged
 flagged-still r valid up =
     let same : flags_byte true (af_of r) (uf_of r) ≡ register_c r = ap (λ (b : Bool). flags_byte b (af_of r) (uf_of r)) (sym up) ∙ sym valid.register_c in
-    ap (λ (bs : List ℕ). let p : RtcParts = record { index = r.index; bytes = bs; d = r.d; cycle = r.cycle } in p) (ap (set r.bytes 12) same ∙ set-get_or r.bytes 12 0)
+    ap (λ (bs : List ℕ). let p : RtcParts = record { index = r.index; bytes = bs; d = r.d; cycle = r.cycle } in p)
+    (ap (set r.bytes 12) same ∙ set-get_or r.bytes 12 0)
 
 -- a read elsewhere than at register C changes nothing
 pub after_rtc_read-other : (r : RtcParts) → eqb r.index 12 ≡ false → after_rtc_read r ≡ r

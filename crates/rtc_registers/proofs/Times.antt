@@ -165,9 +165,12 @@ stretched-suc n r valid so_far =
     time_next-by (stretched n r) c (form_of r) t clock form time ∙ time_more (form_of r) (time_of r) (updates_next c) u in
     let next_flags : flags_next (stretched n r) ≡ flags_in r (suc n) =
     flags_next-by (stretched n r) c (pf_of r || ltb 0 (ticks_in (divider_of r) n)) (af_of r || ltb 0 (alarms_in r n)) (uf_of r || ltb 0 u) clock flags
-    ∙ ap (λ (b : Bool). flags_byte b ((af_of r || ltb 0 (alarms_in r n)) || alarms_next (stretched n r)) ((uf_of r || ltb 0 u) || updates_next c)) (flag_more (pf_of r) (ticks_next c) (ticks_in (divider_of r) n))
-    ∙ ap (λ (b : Bool). flags_byte (pf_of r || ltb 0 (ticks_in (divider_of r) (suc n))) b ((uf_of r || ltb 0 u) || updates_next c)) (ap (λ (b : Bool). (af_of r || ltb 0 (alarms_in r n)) || b) alarms ∙ flag_more (af_of r) (alarms_next (rtc_pulsed_times n r)) (alarms_in r n))
-    ∙ ap (λ (b : Bool). flags_byte (pf_of r || ltb 0 (ticks_in (divider_of r) (suc n))) (af_of r || ltb 0 (alarms_in r (suc n))) b) (flag_more (uf_of r) (updates_next c) u)
+    ∙ ap (λ (b : Bool). flags_byte b ((af_of r || ltb 0 (alarms_in r n)) || alarms_next (stretched n r)) ((uf_of r || ltb 0 u) || updates_next c))
+    (flag_more (pf_of r) (ticks_next c) (ticks_in (divider_of r) n))
+    ∙ ap (λ (b : Bool). flags_byte (pf_of r || ltb 0 (ticks_in (divider_of r) (suc n))) b ((uf_of r || ltb 0 u) || updates_next c))
+    (ap (λ (b : Bool). (af_of r || ltb 0 (alarms_in r n)) || b) alarms ∙ flag_more (af_of r) (alarms_next (rtc_pulsed_times n r)) (alarms_in r n))
+    ∙ ap (λ (b : Bool). flags_byte (pf_of r || ltb 0 (ticks_in (divider_of r) (suc n))) (af_of r || ltb 0 (alarms_in r (suc n))) b)
+    (flag_more (uf_of r) (updates_next c) u)
     in
     ap (λ (d : DividerParts). moved (pulsed d) (time_next (stretched n r)) (flags_next (stretched n r)) (stretched n r)) clock
     ∙ ap (λ (v : TimeBytes). moved (pulsed c) v (flags_next (stretched n r)) (stretched n r)) next_time
@@ -220,7 +223,8 @@ uf_of-rtc_pulsed_times n r valid =
 -- n pulses keep the conditions
 pub IsRtc-rtc_pulsed_times : (n : ℕ) (r : RtcParts) → IsRtc r → IsRtc (rtc_pulsed_times n r)
 IsRtc-rtc_pulsed_times n r valid =
-    subst IsRtc (sym (rtc_pulsed_times-is n r valid)) (IsRtc-moved (pulsed_times n (divider_of r)) _ _ _ _ r valid (IsDivider-pulsed_times n (divider_of r) valid.divider) (SameSetting-times n r))
+    subst IsRtc (sym (rtc_pulsed_times-is n r valid))
+    (IsRtc-moved (pulsed_times n (divider_of r)) _ _ _ _ r valid (IsDivider-pulsed_times n (divider_of r) valid.divider) (SameSetting-times n r))
 
 -- one pulse more
 pub alarms_in-suc : (r : RtcParts) (n : ℕ) → alarms_in r (suc n) ≡ cond (alarms_next (rtc_pulsed_times n r)) (suc (alarms_in r n)) (alarms_in r n)
@@ -234,11 +238,14 @@ CountsUp-alarms_in r = CountsUp-by_test (alarms_in r) (λ n. alarms_next (rtc_pu
 pub alarms_in-is : (n : ℕ) (r : RtcParts) → IsRtc r → alarms_in r n ≡ matches_in (form_of r) (alarm_of r) (time_of r) (updates_in (divider_of r) n)
 alarms_in-is zero r valid = refl
 alarms_in-is (suc n) r valid =
-    let next : alarms_next (rtc_pulsed_times n r) ≡ (updates_next (pulsed_times n (divider_of r)) && alarm_next (form_of r) (alarm_of r) (updated_times (form_of r) (updates_in (divider_of r) n) (time_of r))) =
-    alarms_next-by (rtc_pulsed_times n r) (pulsed_times n (divider_of r)) (form_of r) (alarm_of r) (updated_times (form_of r) (updates_in (divider_of r) n) (time_of r))
+    let next : alarms_next (rtc_pulsed_times n r) ≡
+    (updates_next (pulsed_times n (divider_of r)) && alarm_next (form_of r) (alarm_of r) (updated_times (form_of r) (updates_in (divider_of r) n) (time_of r))) =
+    alarms_next-by (rtc_pulsed_times n r) (pulsed_times n (divider_of r)) (form_of r) (alarm_of r)
+    (updated_times (form_of r) (updates_in (divider_of r) n) (time_of r))
     (divider_of-rtc_pulsed_times n r valid) (form_of-rtc_pulsed_times n r valid) (alarm_of-rtc_pulsed_times n r valid) (time_of-rtc_pulsed_times n r valid) in
     ap (λ (b : Bool). cond b (suc (alarms_in r n)) (alarms_in r n)) next
-    ∙ matched (form_of r) (alarm_of r) (time_of r) (updates_next (pulsed_times n (divider_of r))) (updates_in (divider_of r) n) (alarms_in r n) (alarms_in-is n r valid)
+    ∙ matched (form_of r) (alarm_of r) (time_of r) (updates_next (pulsed_times n (divider_of r))) (updates_in (divider_of r) n) (alarms_in r n)
+    (alarms_in-is n r valid)
   where
     matched : (form : Form) (alarm : Alarm) (t : TimeBytes) (event : Bool) (u a : ℕ) → a ≡ matches_in form alarm t u
         → cond (event && alarm_next form alarm (updated_times form u t)) (suc a) a ≡ matches_in form alarm t (cond event (suc u) u)
@@ -284,7 +291,8 @@ flags_in-is n r t u a ticks alarms updates =
 pub is_some-match : (n : ℕ) (r : RtcParts) → IsRtc r → (matched : Option ℕ)
     → IsFirst (matches_in (form_of r) (alarm_of r) (time_of r)) (updates_in (divider_of r) n) matched → is_some matched ≡ ltb 0 (alarms_in r n)
 is_some-match n r valid matched match =
-    is_some-first (matches_in (form_of r) (alarm_of r) (time_of r)) (CountsUp-matches_in (form_of r) (alarm_of r) (time_of r)) (updates_in (divider_of r) n) matched match
+    is_some-first (matches_in (form_of r) (alarm_of r) (time_of r)) (CountsUp-matches_in (form_of r) (alarm_of r) (time_of r))
+    (updates_in (divider_of r) n) matched match
     ∙ ap (ltb 0) (sym (alarms_in-is n r valid))
 
 -- the divider moves on where nothing else is replaced
@@ -308,7 +316,8 @@ pub rtc_pulsed_times-no_event : (n : ℕ) (r : RtcParts) → IsRtc r → (c : Di
     → record r { d = c.d; cycle = c.cycle } ≡ rtc_pulsed_times n r
 rtc_pulsed_times-no_event n r valid c divider no_tick no_update =
     moved-quiet c r (omega (arith, valid.places))
-    ∙ moved-is n r valid c (time_of r) (register_c r) divider (ap (λ (u : ℕ). updated_times (form_of r) u (time_of r)) (sym no_update)) (sym (flags_in-no_event n r valid no_tick no_update))
+    ∙ moved-is n r valid c (time_of r) (register_c r) divider (ap (λ (u : ℕ). updated_times (form_of r) u (time_of r)) (sym no_update))
+    (sym (flags_in-no_event n r valid no_tick no_update))
 
 -- without an update the time stands still ..
 pub time_of-no_update : (n : ℕ) (r : RtcParts) → IsRtc r → updates_in (divider_of r) n ≡ 0 → time_of (rtc_pulsed_times n r) ≡ time_of r

@@ -72,7 +72,8 @@ register_a-rtc_written byte r valid = elim (cases_eq r.index 10) [
   | inl here ↦
       let at : get_or (rtc_written byte r).bytes r.index 0 ≡ stored byte r = get_or-rtc_written byte r valid (free-index r.index 10 here (lit< tt)) in
       let byte_stored : stored byte r ≡ byte % 128 = rw (eq-eqb r.index 10 here) refl in
-      ap (λ (k : ℕ). get_or (rtc_written byte r).bytes k 0) (sym here) ∙ at ∙ byte_stored ∙ sym (ap (λ (b : Bool). cond b (byte % 128) (register_a r)) (eq-eqb r.index 10 here))
+      ap (λ (k : ℕ). get_or (rtc_written byte r).bytes k 0) (sym here) ∙ at ∙ byte_stored
+      ∙ sym (ap (λ (b : Bool). cond b (byte % 128) (register_a r)) (eq-eqb r.index 10 here))
   | inr other ↦ get_or-rtc_written_other byte 10 r (λ e. other (sym e)) ∙ sym (ap (λ (b : Bool). cond b (byte % 128) (register_a r)) (ne_eqb r.index 10 other))
 ]
 
@@ -82,8 +83,10 @@ register_b-rtc_written byte r valid = elim (cases_eq r.index 11) [
   | inl here ↦
       let at : get_or (rtc_written byte r).bytes r.index 0 ≡ stored byte r = get_or-rtc_written byte r valid (free-index r.index 11 here (lit< tt)) in
       let byte_stored : stored byte r ≡ b_stored byte r = rw (ne_eqb r.index 10 (λ e. omega arith), eq-eqb r.index 11 here) refl in
-      ap (λ (k : ℕ). get_or (rtc_written byte r).bytes k 0) (sym here) ∙ at ∙ byte_stored ∙ sym (ap (λ (b : Bool). cond b (b_stored byte r) (register_b r)) (eq-eqb r.index 11 here))
-  | inr other ↦ get_or-rtc_written_other byte 11 r (λ e. other (sym e)) ∙ sym (ap (λ (b : Bool). cond b (b_stored byte r) (register_b r)) (ne_eqb r.index 11 other))
+      ap (λ (k : ℕ). get_or (rtc_written byte r).bytes k 0) (sym here) ∙ at ∙ byte_stored
+      ∙ sym (ap (λ (b : Bool). cond b (b_stored byte r) (register_b r)) (eq-eqb r.index 11 here))
+  | inr other ↦ get_or-rtc_written_other byte 11 r (λ e. other (sym e))
+      ∙ sym (ap (λ (b : Bool). cond b (b_stored byte r) (register_b r)) (ne_eqb r.index 11 other))
 ]
 
 -- what register B stores differs from the byte in UIE alone
@@ -167,7 +170,8 @@ divider_of-rtc_written byte r valid = elim (cases_eq r.index 10) [
 
 IsDivider-divider_written : (byte : ℕ) (r : RtcParts) → IsRtc r → IsDivider (divider_written byte r)
 IsDivider-divider_written byte r valid = elim (cases_Bool (eqb r.index 10)) [
-  | inl here ↦ rw here (IsDivider-with_rate (byte % 16) (with_dv (byte / 16 % 8) (divider_of r)) (omega arith) (IsDivider-with_dv (byte / 16 % 8) (divider_of r) (omega arith) valid.divider))
+  | inl here ↦ rw here
+      (IsDivider-with_rate (byte % 16) (with_dv (byte / 16 % 8) (divider_of r)) (omega arith) (IsDivider-with_dv (byte / 16 % 8) (divider_of r) (omega arith) valid.divider))
   | inr elsewhere ↦ elim (cases_Bool (eqb r.index 11)) [
     | inl here ↦ rw (elsewhere, here) (IsDivider-with_set (bit 7 byte) (divider_of r) valid.divider)
     | inr other ↦ rw (elsewhere, other) valid.divider

@@ -19,7 +19,8 @@ update_pulse-requires c = λ f k is_f is_k.
     let first : IsFirst (updates_in (divider_of r)) c.args.n (Some f) = rw (c.divider-divider.ensures, is_f) at c.pulses-cycle.ensures.first_update in
     let match : IsFirst (matches_in (form_of r) (alarm_of r) (time_of r)) c.pulses-cycle.result.updates (Some k) =
     rw is_k at c.take_events-matched.ensures.matched in
-    let apart : (f + (k - 1) * 32768 ≤ c.args.n) × (updates_in (divider_of r) (f + (k - 1) * 32768) ≡ k) × (updates_in (divider_of r) (f + (k - 1) * 32768 - 1) ≡ k - 1) =
+    let apart : (f + (k - 1) * 32768 ≤ c.args.n) × (updates_in (divider_of r) (f + (k - 1) * 32768) ≡ k)
+    × (updates_in (divider_of r) (f + (k - 1) * 32768 - 1) ≡ k - 1) =
     updates_in-apart (divider_of r) c.requires.divider c.args.n f k first match.0 (omega (arith, match.1, updates)) in
     (match.0, omega (arith, apart.0, c.ranges.n.fits))
 
