@@ -1,5 +1,5 @@
 -- Rows that pin the conditions on a counter's fields, one test of each condition a row.
-use Rattle.std.proofs.Common.{◌≡◌, ℕ, true, false, Option, Some, None, refl}
+use Rattle.std.proofs.Common.{◌≡◌, ℕ, true, false, Some, None, refl}
 use Rattle.pit_counter.specs.Mode.{mode_of, access_of, is_bcd}
 use Rattle.pit_counter.specs.Count.{modulus}
 use Rattle.pit_counter.specs.Programming.{programmed}
@@ -14,7 +14,6 @@ use Rattle.pit_counter.specs.Parts.{
   latched_count_valid,
   latched_status_valid,
 }
-use Rattle.pit_counter.specs.declared.parts.CounterField.{CounterField}
 use Rattle.pit_counter.specs.declared.parts.CounterField.TheVariants.{
   ProgrammedBits,
   Flags,
