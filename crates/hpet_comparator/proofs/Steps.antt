@@ -1,5 +1,5 @@
 -- Single pulses of a timer, one after the other.
-use Rattle.std.proofs.Common.{◌≡◌, ℕ, zero, suc, ◌+◌, ◌%◌, ◌^◌, Bool, true, cond, ◌&&◌, eqb, refl, ap, sym, subst, ◌∙◌, arith}
+use Rattle.std.proofs.Common.{◌≡◌, ℕ, zero, suc, ◌+◌, ◌%◌, ◌^◌, Bool, true, false, cond, ◌&&◌, eqb, refl, ap, sym, subst, ◌∙◌, arith}
 use Rattle.clk_units.specs.Events.{CountsUp}
 use Rattle.clk_units.proofs.Events.{CountsUp-by_test}
 use Rattle.hpet_counter.specs.Counter.{counter_after}
@@ -16,6 +16,21 @@ matches_in-suc from t n = refl
 -- matches count up
 pub CountsUp-matches_in : (from : ℕ) (t : TimerParts) → CountsUp (matches_in from t)
 CountsUp-matches_in from t = CountsUp-by_test (matches_in from t) (λ n. matches_at (counter_after from (suc n)) (pulsed_times from n t)) refl (matches_in-suc from t)
+
+-- pulses without a match leave the timer
+pulsed-quiet : (c : ℕ) (t : TimerParts) → matches_at c t ≡ false → pulsed c t ≡ t
+unfolding pulsed
+pulsed-quiet c t h = ap (λ (b : Bool). record t { comparator = cond (b && is_periodic t) ((t.comparator + t.period) % modulus t) t.comparator }) h
+
+pub pulsed_times-quiet : (from n : ℕ) (t : TimerParts) → matches_in from t n ≡ 0 → pulsed_times from n t ≡ t
+pulsed_times-quiet from zero t none = refl
+pulsed_times-quiet from (suc n) t none =
+    let last : (matches_at (counter_after from (suc n)) (pulsed_times from n t) ≡ false) × (matches_in from t n ≡ 0) = split (matches_at (counter_after from (suc n)) (pulsed_times from n t)) (matches_in from t n) none in
+    pulsed-quiet (counter_after from (suc n)) (pulsed_times from n t) last.0 ∙ pulsed_times-quiet from n t last.1
+  where
+    split : (b : Bool) (m : ℕ) → cond b (suc m) m ≡ 0 → (b ≡ false) × (m ≡ 0)
+    split true m e = absurd (omega (arith, e))
+    split false m e = (refl, e)
 
 -- pulses keep a timer's conditions
 pub IsTimer-pulsed_times : (from n : ℕ) (t : TimerParts) → IsTimer t → IsTimer (pulsed_times from n t)

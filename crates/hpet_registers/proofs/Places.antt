@@ -2,7 +2,7 @@
 use Rattle.std.proofs.Common.{◌≡◌, ℕ, zero, suc, ◌+◌, ◌^◌, ◌<◌, ◌≤◌, Bool, true, false, cond, ◌&&◌, ltb, List, [], ◌∷◌, map, length, get_or, bit_or, refl, ap, sym, subst, ◌∙◌, ◌⊎◌, inl, inr, arith}
 use Rattle.std.proofs.Math.ListN.{set, length-set}
 use Rattle.std.proofs.lemmas.Bool.{cases_eq, cases_lt}
-use Rattle.std.proofs.lemmas.List.{get_or-set_same, get_or-set_other, ext_get_or, length-map}
+use Rattle.std.proofs.lemmas.List.{get_or-set_same, get_or-set_other, ext_get_or, length-map, set-get_or}
 use Rattle.hpet_counter.specs.Counter.{counter_after}
 use Rattle.hpet_comparator.specs.declared.parts.TimerParts.{TimerParts}
 use Rattle.hpet_comparator.specs.declared.stretch.Matches.{Matches}
@@ -160,3 +160,11 @@ timer_matches-none (suc (suc (suc (suc (suc zero))))) = refl
 timer_matches-none (suc (suc (suc (suc (suc (suc zero)))))) = refl
 timer_matches-none (suc (suc (suc (suc (suc (suc (suc zero))))))) = refl
 timer_matches-none (suc (suc (suc (suc (suc (suc (suc (suc k)))))))) = refl
+
+-- a timer without a match leaves all as it was
+pub unmatched : (h : HpetParts) (k count : ℕ) (moved : TimerParts) → count ≡ 0 → moved ≡ timer_at k h
+    → h ≡ record h { timer = set h.timer k moved; status = cond (ltb 0 count && is_level (timer_at k h)) (bit_or h.status (2 ^ k)) h.status }
+unmatched h k count moved none still = sym (
+    ap (λ (t : TimerParts). record h { timer = set h.timer k t; status = cond (ltb 0 count && is_level (timer_at k h)) (bit_or h.status (2 ^ k)) h.status }) still
+    ∙ (ap (λ (ts : List TimerParts). record h { timer = ts; status = cond (ltb 0 count && is_level (timer_at k h)) (bit_or h.status (2 ^ k)) h.status }) (set-get_or h.timer k no_timer)
+    ∙ ap (λ (m : ℕ). record h { status = cond (ltb 0 m && is_level (timer_at k h)) (bit_or h.status (2 ^ k)) h.status }) none))

@@ -20,16 +20,12 @@ use crate::parts::HpetParts;
 use hpet_comparator::{Matches, Timer};
 use hpet_counter::MainCounter;
 
-/// The status behind so many matches of timer `k`: they set its bit where it is of level type.
-fn raised(status: u8, k: u8, count: u64, level: bool) -> u8
+/// The status behind matches of timer `k`: they set its bit where it is of level type.
+fn raised(status: u8, k: u8, level: bool) -> u8
     requires { k < 8 }
-    ensures { result ≡ (if nat_lt 0 count && level then bit_or status (2 ^ k) else status) }
+    ensures { result ≡ (if level then bit_or status (2 ^ k) else status) }
 {
-    if count > 0 && level {
-        status | 1 << k
-    } else {
-        status
-    }
+    if level { status | 1 << k } else { status }
 }
 
 /// Counts `n` pulses for timer `k`: its matches, and its status bit where it is of level type and matched.
@@ -48,8 +44,10 @@ fn pulse_timer(parts: &mut HpetParts, k: u8, n: u64) -> Matches
     let before = parts.timer[k as usize];
     let mut timer = Timer::of_valid_parts(before);
     let matches = timer.pulses(parts.counter, n);
-    parts.timer[k as usize] = timer.parts();
-    parts.status = raised(parts.status, k, matches.count, before.is_level());
+    if matches.count > 0 {
+        parts.timer[k as usize] = timer.parts();
+        parts.status = raised(parts.status, k, before.is_level());
+    }
     matches
 }
 
