@@ -17,7 +17,8 @@ route_inside_is_taken : config_written 0xffffffffffff2fff timer_at_power_on ≡ 
 unfolding config_written
 route_inside_is_taken = refl
 
-narrow_mode_cuts : config_written 0x2900 (record { config = 0x2800; comparator = 0x500000006; period = 0x700000008 }) ≡ record { config = 0x2900; comparator = 6; period = 8 }
+narrow_mode_cuts : config_written 0x2900 (record { config = 0x2800; comparator = 0x500000006; period = 0x700000008 })
+    ≡ record { config = 0x2900; comparator = 6; period = 8 }
 unfolding config_written
 narrow_mode_cuts = refl
 
@@ -25,19 +26,23 @@ one_shot_write_sets_both : comparator_written 8 false 100 timer_at_power_on ≡ 
 unfolding comparator_written
 one_shot_write_sets_both = refl
 
-periodic_write_sets_the_period : comparator_written 8 false 10 (record { config = 0x2808; comparator = 3; period = 4 }) ≡ record { config = 0x2808; comparator = 3; period = 10 }
+periodic_write_sets_the_period : comparator_written 8 false 10 (record { config = 0x2808; comparator = 3; period = 4 })
+    ≡ record { config = 0x2808; comparator = 3; period = 10 }
 unfolding comparator_written
 periodic_write_sets_the_period = refl
 
-val_set_write_sets_both_once : comparator_written 8 false 10 (record { config = 0x2848; comparator = 3; period = 4 }) ≡ record { config = 0x2808; comparator = 10; period = 10 }
+val_set_write_sets_both_once : comparator_written 8 false 10 (record { config = 0x2848; comparator = 3; period = 4 })
+    ≡ record { config = 0x2808; comparator = 10; period = 10 }
 unfolding comparator_written
 val_set_write_sets_both_once = refl
 
-half_write_keeps_the_other_half : comparator_written 4 true 1 (record { config = 0x2800; comparator = 3; period = 4 }) ≡ record { config = 0x2800; comparator = 0x100000003; period = 0x100000004 }
+half_write_keeps_the_other_half : comparator_written 4 true 1 (record { config = 0x2800; comparator = 3; period = 4 })
+    ≡ record { config = 0x2800; comparator = 0x100000003; period = 0x100000004 }
 unfolding comparator_written
 half_write_keeps_the_other_half = refl
 
-high_half_is_cut_in_narrow_mode : comparator_written 4 true 1 (record { config = 0x2900; comparator = 3; period = 4 }) ≡ record { config = 0x2900; comparator = 3; period = 4 }
+high_half_is_cut_in_narrow_mode : comparator_written 4 true 1 (record { config = 0x2900; comparator = 3; period = 4 })
+    ≡ record { config = 0x2900; comparator = 3; period = 4 }
 unfolding comparator_written
 high_half_is_cut_in_narrow_mode = refl
 
@@ -57,7 +62,8 @@ periodic_adds_its_period : pulsed 3 (record { config = 0x2808; comparator = 3; p
 unfolding pulsed matches_at
 periodic_adds_its_period = refl
 
-narrow_comparator_wraps : pulsed 0xfffffffe (record { config = 0x2908; comparator = 0xfffffffe; period = 4 }) ≡ record { config = 0x2908; comparator = 2; period = 4 }
+narrow_comparator_wraps : pulsed 0xfffffffe (record { config = 0x2908; comparator = 0xfffffffe; period = 4 })
+    ≡ record { config = 0x2908; comparator = 2; period = 4 }
 unfolding pulsed matches_at
 narrow_comparator_wraps = refl
 
@@ -86,7 +92,8 @@ power_on_is_valid = refl
 all_switches_are_valid : timer_fault (record { config = 0x2f4e; comparator = 0xffffffff; period = 0xffffffff }) ≡ None
 all_switches_are_valid = refl
 
-bits_that_are_not_writable : map (λ b. timer_fault (record { config = 0x2800 + b; comparator = 0; period = 0 })) (0x0001 ∷ 0x0010 ∷ 0x0020 ∷ 0x0080 ∷ 0x4000 ∷ 0x8000 ∷ [])
+bits_that_are_not_writable : map (λ b. timer_fault (record { config = 0x2800 + b; comparator = 0; period = 0 }))
+    (0x0001 ∷ 0x0010 ∷ 0x0020 ∷ 0x0080 ∷ 0x4000 ∷ 0x8000 ∷ [])
     ≡ Some Config ∷ Some Config ∷ Some Config ∷ Some Config ∷ Some Config ∷ Some Config ∷ []
 bits_that_are_not_writable = refl
 
@@ -138,15 +145,18 @@ val_set_reads_as_set : config_register (config_written 0x2848 timer_at_power_on)
 unfolding config_written
 val_set_reads_as_set = refl
 
-high_half_clears_val_set : comparator_written 4 true 1 (record { config = 0x2848; comparator = 3; period = 4 }) ≡ record { config = 0x2808; comparator = 0x100000003; period = 0x100000004 }
+high_half_clears_val_set : comparator_written 4 true 1 (record { config = 0x2848; comparator = 3; period = 4 })
+    ≡ record { config = 0x2808; comparator = 0x100000003; period = 0x100000004 }
 unfolding comparator_written
 high_half_clears_val_set = refl
 
-low_half_clears_val_set : comparator_written 4 false 9 (record { config = 0x2848; comparator = 0x100000003; period = 0x200000004 }) ≡ record { config = 0x2808; comparator = 0x100000009; period = 0x200000009 }
+low_half_clears_val_set : comparator_written 4 false 9 (record { config = 0x2848; comparator = 0x100000003; period = 0x200000004 })
+    ≡ record { config = 0x2808; comparator = 0x100000009; period = 0x200000009 }
 unfolding comparator_written
 low_half_clears_val_set = refl
 
-one_shot_clears_val_set : comparator_written 8 false 10 (record { config = 0x2840; comparator = 3; period = 4 }) ≡ record { config = 0x2800; comparator = 10; period = 10 }
+one_shot_clears_val_set : comparator_written 8 false 10 (record { config = 0x2840; comparator = 3; period = 4 })
+    ≡ record { config = 0x2800; comparator = 10; period = 10 }
 unfolding comparator_written
 one_shot_clears_val_set = refl
 
@@ -167,7 +177,8 @@ narrow_periods_across_the_wrap : matches_in 0xfffffff0 (record { config = 0x290c
 unfolding pulsed matches_at
 narrow_periods_across_the_wrap = refl
 
-wide_comparator_wraps : pulsed 0xfffffffffffffffe (record { config = 0x2808; comparator = 0xfffffffffffffffe; period = 4 }) ≡ record { config = 0x2808; comparator = 2; period = 4 }
+wide_comparator_wraps : pulsed 0xfffffffffffffffe (record { config = 0x2808; comparator = 0xfffffffffffffffe; period = 4 })
+    ≡ record { config = 0x2808; comparator = 2; period = 4 }
 unfolding pulsed matches_at
 wide_comparator_wraps = refl
 

@@ -70,7 +70,8 @@ power_on_is_valid : map hpet_fault (hpet_at_power_on 3 false ∷ hpet_at_power_o
 unfolding first_below
 power_on_is_valid = refl
 
-three_or_eight_timers : map (λ n. hpet_fault (record three { timers = n })) (0 ∷ 2 ∷ 4 ∷ 7 ∷ 9 ∷ []) ≡ Some Timers ∷ Some Timers ∷ Some Timers ∷ Some Timers ∷ Some Timers ∷ []
+three_or_eight_timers : map (λ n. hpet_fault (record three { timers = n })) (0 ∷ 2 ∷ 4 ∷ 7 ∷ 9 ∷ [])
+    ≡ Some Timers ∷ Some Timers ∷ Some Timers ∷ Some Timers ∷ Some Timers ∷ []
 three_or_eight_timers = refl
 
 messages_with_eight_timers : hpet_fault (hpet_at_power_on 3 true) ≡ Some Messages
@@ -98,7 +99,8 @@ a_place_that_is_not_empty : map (λ t. hpet_fault (with_place t))
 unfolding first_below
 a_place_that_is_not_empty = refl
 
-message_bit_without_messages : hpet_fault (record three { message_bit = false ∷ false ∷ true ∷ false ∷ false ∷ false ∷ false ∷ true ∷ [] }) ≡ Some (MessageBit 2)
+message_bit_without_messages : hpet_fault (record three { message_bit = false ∷ false ∷ true ∷ false ∷ false ∷ false ∷ false ∷ true ∷ [] })
+    ≡ Some (MessageBit 2)
 unfolding first_below
 message_bit_without_messages = refl
 
@@ -111,7 +113,8 @@ unfolding first_below
 message_words_with_messages = refl
 
 -- a pulse: without ENABLE nothing, with it all timers that are there see it
-at_the_wrap : map (λ k. matches_next k (record three { config = 1; counter = 0xffffffffffffffff })) (0 ∷ 2 ∷ 3 ∷ 7 ∷ 8 ∷ []) ≡ true ∷ true ∷ false ∷ false ∷ false ∷ []
+at_the_wrap : map (λ k. matches_next k (record three { config = 1; counter = 0xffffffffffffffff })) (0 ∷ 2 ∷ 3 ∷ 7 ∷ 8 ∷ [])
+    ≡ true ∷ true ∷ false ∷ false ∷ false ∷ []
 unfolding matches_next matches_at
 at_the_wrap = refl
 
@@ -125,7 +128,8 @@ standing_still_changes_nothing = refl
 
 -- level and enabled, level alone, edge: the first two set their status bits
 abbrev at_nine : HpetParts
-at_nine = with_timers 1 9 (record { config = 0x2806; comparator = 10; period = 0 }) (record { config = 0x2802; comparator = 10; period = 0 }) (record { config = 0x2804; comparator = 10; period = 0 })
+at_nine = with_timers 1 9 (record { config = 0x2806; comparator = 10; period = 0 }) (record { config = 0x2802; comparator = 10; period = 0 })
+    (record { config = 0x2804; comparator = 10; period = 0 })
 
 level_timers_set_their_bits : (hpet_pulsed at_nine).status ≡ 3
 unfolding hpet_pulsed matches_next matches_at pulsed
