@@ -47,7 +47,7 @@ impl Model for Timer {
 
 impl Timer {
     /// The timer at power on: a one-shot of edge type and 64 bits, disabled, on line 20, comparator
-    /// and period 0 (this project's own choice).
+    /// and period 0 (own).
     pub fn power_on() -> Timer
         ensures { result ≡ timer_at_power_on }
     {
@@ -99,8 +99,7 @@ impl Timer {
     }
 
     /// A write of the configuration register. Bits that aren't writable are left, and so is the
-    /// route where `v` names another than 20 to 23; 32-bit mode cuts comparator and period (both
-    /// this project's own choice).
+    /// route where `v` names another than 20 to 23; 32-bit mode cuts comparator and period (own).
     pub fn write_config(&mut self, v: u64)
         ensures { self.new ≡ config_written v self.old }
     {

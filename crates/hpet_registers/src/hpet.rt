@@ -104,7 +104,7 @@ impl Hpet {
     }
 
     /// A read of `width` bytes at `offset`. One of 4 or 8 bytes that is aligned to its width reads
-    /// a register or a half of one; any other reads all ones (this project's own choice).
+    /// a register or a half of one; any other reads all ones (own).
     pub fn read(&self, offset: u16, width: u8) -> u64
         requires offset { offset ≤ 1023 }
         requires width { IsTrue (is_access_width width) }
@@ -116,7 +116,7 @@ impl Hpet {
     }
 
     /// A write of `v`, of `width` bytes, at `offset`. One that isn't of 4 or 8 bytes, or isn't
-    /// aligned to its width, does nothing (this project's own choice).
+    /// aligned to its width, does nothing (own).
     pub fn write(&mut self, offset: u16, width: u8, v: u64)
         requires offset { offset ≤ 1023 }
         requires width { IsTrue (is_access_width width) }
@@ -245,8 +245,7 @@ impl Hpet {
     }
 
     /// Address and data of a timer's messages, where its matches are messages: with bit 14,
-    /// interrupt enabled, of edge type, and not timer 0 or 1 under legacy replacement (this
-    /// project's own choice).
+    /// interrupt enabled, of edge type, and not timer 0 or 1 under legacy replacement (own).
     pub fn message(&self, timer: u8) -> Option<(u32, u32)>
         requires { timer < 8 }
         ensures { result ≡ message_of timer self.now }
