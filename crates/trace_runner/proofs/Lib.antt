@@ -1,6 +1,4 @@
-pub mod BoardRuns
-pub mod Numbers
-pub mod Refused
-pub mod Rows
-pub mod Split
+pub mod Counts
+pub mod Edges
+pub mod ReadyNext
 pub mod Statuses

@@ -37,17 +37,15 @@
 //! ```
 #![tactic(auto)]
 
+mod command;
+mod deliveries;
+mod program;
+mod records;
+mod replay;
+mod status;
+
 pub use program::run;
 pub use status::Status;
 
-mod answers;
-mod board;
-mod command;
-mod program;
-mod record;
-mod replay;
-mod status;
 #[cfg(test)]
 mod tests;
-mod text;
-mod tokens;

@@ -11,12 +11,18 @@ ghost use Rattle.trace_runner.specs.Command.{command_of};
 use crate::command::{Command, command_of};
 use crate::replay::Replay;
 use crate::status::{Status, status_of};
-use crate::text::{JOB_NOT_BUILT, USAGE};
 use board_io::{Failed, Gate, Sink, Source};
 use std::alloc::Global;
 use std::sync::Wait;
 use std::thread::Threads;
 use trace_loop::{answer_lines, put_all};
+
+/// How the program is called.
+const USAGE: &[u8] =
+    b"usage: clockboard replay|race [--state] | gen|soak KEY RECORDS CPUS\n";
+
+/// The text of a job that isn't built yet.
+const JOB_NOT_BUILT: &[u8] = b"refused 0 notbuilt\n";
 
 /// Runs the program on its words (those behind its name): the word `replay` reads a trace from `source`, and writes
 /// what it answers to `sink`, in pieces as large as the source's.
