@@ -5,7 +5,6 @@ use Rattle.clk_units.specs.declared.NoMemory.{NoMemory}
 use Rattle.board_types.specs.declared.access.Access.{Access}
 use Rattle.board_types.specs.declared.parts.BoardParts.{BoardParts}
 use Rattle.board_types.specs.declared.reply.Refusal.{Refusal}
-use Rattle.board_core.specs.Access.{after_access}
 use Rattle.board_core.specs.Refusals.{refusal_of}
 use Rattle.board_core.specs.Pages.{after_clock}
 use Rattle.board_core.proofs.Laws.{after_access-cpus, after_access-format}
@@ -28,7 +27,7 @@ use Rattle.trace_text.specs.declared.reading.Item.TheVariants.{Skipped, Part, Be
 use Rattle.trace_text.specs.declared.reading.ReadingParts.{ReadingParts}
 use Rattle.trace_text.specs.declared.reading.Stage.{Stage}
 use Rattle.trace_text.specs.declared.reading.Stage.TheVariants.{Opening, Heading, Running, Ended, Refused as Stops}
-use Rattle.trace_loop.specs.Progress.{Closing, Answer, Goes, Ends, end_of, state_behind}
+use Rattle.trace_loop.specs.Progress.{Answer, Goes, Ends, end_of, state_behind}
 use Rattle.trace_runner.specs.Records.{access_answer, read_answer, job_answer}
 use Rattle.trace_runner.specs.Replay.{board_of, item_answer, with_board}
 use Rattle.trace_runner.specs.Ready.{IsRound, IsReady}

@@ -7,7 +7,6 @@ use Rattle.reply_text.specs.declared.ends.Refused.TheVariants.{Form, Steal, Cpu,
 use Rattle.trace_runner.specs.declared.replay.Replay.{Replay}
 use Rattle.trace_runner.specs.declared.status.Verdict.{Verdict}
 use Rattle.trace_runner.specs.declared.status.Verdict.TheVariants.{Done, Stopped}
-use Rattle.trace_runner.specs.declared.status.Status.{Status}
 use Rattle.trace_runner.specs.declared.status.Status.TheVariants.{SourceFault, SinkFault}
 use Rattle.trace_runner.specs.Status.{status_of, Shown}
 

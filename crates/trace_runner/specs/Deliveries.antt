@@ -39,7 +39,7 @@ by_default line = record { cpu = 0; vector = 0x30 + line }
 abbrev pub filled : Bool → ℕ → List (Option Delivery) → Option Delivery
 filled any place routes =
     if any then
-      Some (unwrap_or (slice_index_or routes place None) (by_default (slice_index line_numbers place)))
+    Some (unwrap_or (slice_index_or routes place None) (by_default (slice_index line_numbers place)))
     else None
 
 abbrev pub six : List ℕ

@@ -1,17 +1,5 @@
 -- What records do to the board, and what they print.
-use Rattle.std.specs.Prelude.{
-  ℕ,
-  ◌^◌,
-  nat_lt,
-  nat_le,
-  List,
-  [],
-  ◌++◌,
-  Option,
-  Some,
-  None,
-  if◌then◌else◌,
-}
+use Rattle.std.specs.Prelude.{ℕ, ◌^◌, nat_lt, nat_le, List, ◌++◌, Option, Some, None, if◌then◌else◌}
 use Rattle.host_counter.specs.Time.{time_at}
 use Rattle.host_counter.specs.declared.TimeFault.{TimeFault}
 use Rattle.host_counter.specs.declared.TimeFault.TheVariants.{

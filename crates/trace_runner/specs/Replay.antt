@@ -1,5 +1,5 @@
 -- What the lines of a trace do, and what is printed for a trace.
-use Rattle.std.specs.Prelude.{ℕ, take, replicate, List, [], Option, Some, None, Result, Ok, Err}
+use Rattle.std.specs.Prelude.{ℕ, take, replicate, List, [], None, Result, Ok, Err}
 use Rattle.board_types.specs.declared.setup.Setup.{Setup}
 use Rattle.board_types.specs.declared.parts.BoardParts.{BoardParts}
 use Rattle.board_devices.specs.Lines.{levels}

@@ -18,8 +18,7 @@ use std::thread::Threads;
 use trace_loop::{answer_lines, put_all};
 
 /// How the program is called.
-const USAGE: &[u8] =
-    b"usage: clockboard replay|race [--state] | gen|soak KEY RECORDS CPUS\n";
+const USAGE: &[u8] = b"usage: clockboard replay|race [--state] | gen|soak KEY RECORDS CPUS\n";
 
 /// The text of a job that isn't built yet.
 const JOB_NOT_BUILT: &[u8] = b"refused 0 notbuilt\n";

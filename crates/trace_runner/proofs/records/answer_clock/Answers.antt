@@ -1,4 +1,4 @@
-use Rattle.std.proofs.Common.{◌≡◌, ℕ, List, ◌++◌, OnOk, IfOk, Option, Some, sym, ap, subst, ◌∙◌}
+use Rattle.std.proofs.Common.{◌≡◌, ◌++◌, OnOk, IfOk, Some, sym, ap, subst, ◌∙◌}
 use Rattle.board_types.specs.declared.parts.BoardParts.{BoardParts}
 use Rattle.pvclock_page.specs.declared.page.ClockReply.{ClockReply}
 use Rattle.reply_text.specs.Text.{clock_text, refused_text}

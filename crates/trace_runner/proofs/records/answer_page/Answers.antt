@@ -1,10 +1,9 @@
-use Rattle.std.proofs.Common.{◌≡◌, ℕ, List, ◌++◌, OnOk, IfOk, Option, Some, sym, ap, subst, ◌∙◌}
+use Rattle.std.proofs.Common.{◌≡◌, ◌++◌, OnOk, IfOk, Some, sym, ap, subst, ◌∙◌}
 use Rattle.board_types.specs.declared.parts.BoardParts.{BoardParts}
 use Rattle.pvclock_page.specs.declared.page.PageReply.{PageReply}
 use Rattle.reply_text.specs.Text.{page_text, refused_text}
 use Rattle.reply_text.specs.declared.ends.Refused.{Refused}
 use Rattle.trace_loop.specs.Progress.{Answer, printed, end_of}
-use Rattle.trace_runner.specs.Records.{page_answer}
 use Rattle.trace_runner.specs.declared.status.Verdict.{Verdict}
 use Rattle.trace_runner.specs.declared.status.Verdict.TheVariants.{Stopped}
 use Rattle.trace_runner.proofs.Counts.{page-read, page-refused}

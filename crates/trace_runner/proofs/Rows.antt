@@ -1,0 +1,40 @@
+-- Small rows that pin the definitions.
+use Rattle.std.proofs.Common.{◌≡◌, [], ◌∷◌, false, Some, None, codes, replicate, refl}
+use Rattle.trace_text.specs.declared.faults.Reason.TheVariants.{CounterFell}
+use Rattle.trace_runner.specs.Command.{command_of}
+use Rattle.trace_runner.specs.Deliveries.{deliveries_of, delivery_of}
+use Rattle.trace_runner.specs.Records.{refused_by}
+use Rattle.trace_runner.specs.Status.{number_of, refused_status}
+use Rattle.trace_runner.specs.declared.command.Command.TheVariants.{Replay, Later, Unknown}
+use Rattle.trace_runner.specs.declared.status.Status.TheVariants.{BadRecord, OutOfRange, Spent, VersionsSpent}
+
+-- words
+replay_alone : command_of (codes "replay" ∷ []) ≡ Replay
+replay_alone = refl
+
+replay_takes_no_more_words : command_of (codes "replay" ∷ codes "5" ∷ []) ≡ Unknown
+replay_takes_no_more_words = refl
+
+race_is_later : command_of (codes "race" ∷ []) ≡ Later
+race_is_later = refl
+
+-- deliveries
+no_route_no_delivery : deliveries_of (replicate 6 None) ≡ replicate 6 None
+unfolding deliveries_of
+no_route_no_delivery = refl
+
+one_route_delivers_all : deliveries_of (None ∷ Some (record { cpu = 1; vector = 0x40 }) ∷ None ∷ None ∷ None ∷ None ∷ [])
+    ≡ Some (record { cpu = 0; vector = 0x30 }) ∷ Some (record { cpu = 1; vector = 0x40 }) ∷ Some (record { cpu = 0; vector = 0x44 }) ∷ Some (record { cpu = 0; vector = 0x45 })
+    ∷ Some (record { cpu = 0; vector = 0x46 }) ∷ Some (record { cpu = 0; vector = 0x47 }) ∷ []
+unfolding deliveries_of
+one_route_delivers_all = refl
+
+a_fall_is_not_delivered : delivery_of (Some (record { cpu = 0; vector = 0x30 }) ∷ []) (record { at = 5; line = 0; up = false }) ≡ None
+a_fall_is_not_delivered = refl
+
+-- statuses
+statuses_have_their_numbers : (number_of (OutOfRange 3 0) ∷ number_of (Spent 3 0) ∷ number_of (VersionsSpent 3 0) ∷ []) ≡ 7 ∷ 8 ∷ 9 ∷ []
+statuses_have_their_numbers = refl
+
+a_counter_fell : refused_status 4 (refused_by (CounterFell 10)) ≡ BadRecord 4 (CounterFell 10)
+a_counter_fell = refl
