@@ -1,5 +1,5 @@
 -- The conditions on the parts of a board are kept.
-use Rattle.std.proofs.Common.{◌≡◌, ℕ, zero, suc, pos, ◌+◌, ◌*◌, ◌%◌, ◌^◌, ◌<◌, ◌≤◌, Bool, true, false, cond, leb, eqb, List, length, get_or, set, replicate, Option, Some, None, IfSome, IsTrue, refl, sym, ap, subst, ◌∙◌, arith, inl, inr}
+use Rattle.std.proofs.Common.{◌≡◌, ℕ, zero, suc, pos, ◌+◌, ◌*◌, ◌%◌, ◌^◌, ◌<◌, ◌≤◌, ◌⊎◌, Bool, true, false, cond, leb, eqb, List, length, get_or, set, replicate, Option, Some, None, IfSome, IsTrue, refl, sym, ap, subst, ◌∙◌, arith, inl, inr}
 use Rattle.std.proofs.lemmas.Bool.{cases_lt, cases_eq}
 use Rattle.std.proofs.lemmas.List.{get_or-set_same, get_or-set_other}
 use Rattle.irq_edges.specs.declared.edges.Edge.{Edge}
@@ -22,7 +22,7 @@ use Rattle.board_core.specs.Pages.{published, prepared, published_at, published_
 use Rattle.board_core.specs.Wall.{wall_number_after, wall_version_after, publishes_wall}
 use Rattle.board_core.specs.Rises.{rises_after}
 use Rattle.board_core.specs.Conditions.{IsFormat, IsVersion, IsWall, flags_valid, IsProcessor, AreProcessors, AreRises}
-use Rattle.board_core.proofs.Times.{time_at_max}
+use Rattle.board_core.specs.Upgrade.{gets_timers}
 
 -- a count up to the board's has a time, and moves none
 pub early : (b : BoardParts) (h : ℕ) → 0 < b.anchor.khz → HasTime b.anchor b.host → b.anchor.start ≤ h → h ≤ b.host
@@ -146,3 +146,36 @@ processors_of-most format = by (leb format 1)
 
 pub most-cpus : (format cpus timers : ℕ) → IsFormat format cpus timers → cpus ≤ 64
 most-cpus format cpus timers valid = omega (arith, valid.most_cpus, processors_of-most format)
+
+-- a later format
+pub IsFormat-later : (format to cpus timers more : ℕ) → IsFormat format cpus timers → format ≤ to → to ≤ 2 → more ≡ cond (gets_timers format to) 8 timers → IsFormat to cpus more
+IsFormat-later format to cpus timers more valid later built e = elim (cases_lt format 2) [
+  | inl old ↦
+      let first : 1 ≡ format = omega (arith, valid.least) in
+      from first (elim (cases_lt to 2) [
+      | inl stays ↦ let same : 1 ≡ to = omega (arith, valid.least) in inl same
+      | inr grows ↦ let second : 2 ≡ to = omega arith in inr second
+      ])
+  | inr new ↦
+      let second : 2 ≡ format = omega (arith, valid.last) in
+      let same : 2 ≡ to = omega (arith, valid.last) in
+      let timers_are : more ≡ timers = subst (λ (f : ℕ). more ≡ cond (gets_timers f to) 8 timers) (sym second) e in
+      subst (λ (f : ℕ). IsFormat f cpus more) (sym second ∙ same) (subst (λ (n : ℕ). IsFormat format cpus n) (sym timers_are) valid)
+]
+  where
+    from : 1 ≡ format → (1 ≡ to) ⊎ (2 ≡ to) → IsFormat to cpus more
+    from first (inl same) =
+        let timers_are : more ≡ timers = subst (λ (t : ℕ). more ≡ cond (gets_timers 1 t) 8 timers) (sym same) (subst (λ (f : ℕ). more ≡ cond (gets_timers f to) 8 timers) (sym first) e) in
+        subst (λ (f : ℕ). IsFormat f cpus more) (sym first ∙ same) (subst (λ (n : ℕ). IsFormat format cpus n) (sym timers_are) valid)
+    from first (inr second) =
+        let eight : more ≡ 8 = subst (λ (t : ℕ). more ≡ cond (gets_timers 1 t) 8 timers) (sym second) (subst (λ (f : ℕ). more ≡ cond (gets_timers f to) 8 timers) (sym first) e) in
+        let old : IsFormat 1 cpus timers = subst (λ (f : ℕ). IsFormat f cpus timers) (sym first) valid in
+        subst (λ (f : ℕ). IsFormat f cpus more) second (record {
+          least = omega arith; last = omega arith; least_cpus = valid.least_cpus; most_cpus = omega (arith, old.most_cpus); has_timers = eight;
+        })
+
+pub AreRises-later : (format to accesses : ℕ) (lines more : List Bool) (rises : List ℕ) → AreRises format accesses lines rises → format ≤ to → lines ≡ more → AreRises to accesses more rises
+AreRises-later format to accesses lines more rises valid later same = record {
+  most = λ k less. subst (λ (ls : List Bool). get_or rises k 0 ≤ accesses + one_if (level_of line_numbers ls (get_or line_numbers k 0))) same (valid.most k less);
+  none = λ first k. valid.none (omega (arith, later)) k;
+}

@@ -5,4 +5,6 @@ pub mod Joined
 pub mod Values
 pub mod Steps
 pub mod Legals
+pub mod Upgrades
 pub mod Laws
+mod Rows

@@ -17,6 +17,7 @@ mod access;
 mod board;
 mod clock;
 mod moves;
+mod parts;
 mod processors;
 mod refusals;
 mod rises;
@@ -27,3 +28,6 @@ pub use board_types::{
     MSR_TSC, MSR_TSC_ADJUST, ProcessorParts, Ran, Refusal, Reply, Setup, TickSource, Value,
     processors_of, timers_of,
 };
+
+#[cfg(test)]
+mod tests;

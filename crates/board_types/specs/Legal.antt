@@ -1,7 +1,7 @@
 -- The accesses that a board takes.
 use Rattle.std.specs.Prelude.{ℕ, ◌*◌, ◌^◌, Bool, true, ◌&&◌, ◌||◌, ◌==◌, nat_lt, nat_le}
 use Rattle.irq_edges.specs.Lines.{is_line}
-use Rattle.hpet_registers.specs.Register.{is_access_width}
+use Rattle.hpet_registers.specs.Access.{is_access_width}
 use Rattle.board_types.specs.declared.access.TheConstants.{
   MSR_TSC,
   MSR_TSC_ADJUST,

@@ -1,6 +1,6 @@
 //! The accesses that a board takes.
 ghost use Rattle.std.specs.Prelude.{◌≡◌, ◌*◌, ◌^◌, nat_lt, IsTrue};
-ghost use Rattle.hpet_registers.specs.Register.{is_access_width};
+ghost use Rattle.hpet_registers.specs.Access.{is_access_width};
 ghost use Rattle.irq_edges.specs.Lines.{is_line};
 ghost use Rattle.board_types.specs.Legal.{is_port, is_msr, is_hpet_place, is_source, is_legal};
 

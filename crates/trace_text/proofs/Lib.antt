@@ -1,0 +1,5 @@
+pub mod Numbers
+pub mod Spells
+pub mod FirstWord
+pub mod Tokens
+mod Rows
