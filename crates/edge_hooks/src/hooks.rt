@@ -13,7 +13,7 @@ pub struct Hooks<F: Fn(Edge) -> Delivery> {
     /// How many processors there are.
     pub cpus: u8,
     /// The hook.
-    pub f: F,
+    pub hook: F,
 }
 
 impl<F: Fn(Edge) -> Delivery> Hooks<F> {
@@ -21,17 +21,17 @@ impl<F: Fn(Edge) -> Delivery> Hooks<F> {
     /// be called, gives a processor below `cpus` and a vector from 16 to 255, and always the same.
     pub fn new(cpus: u8, f: F) -> Hooks<F>
         requires { IsEdgeHook cpus (F.pre f) (F.post f) }
-        ensures { result ≡ record { cpus = cpus; f = f } }
+        ensures { result ≡ record { cpus = cpus; hook = f } }
     {
-        Hooks { cpus, f }
+        Hooks { cpus, hook: f }
     }
 
     /// The hook's answers on the rises among these edges, in order, none left out. Each edge is of
     /// one of the six lines, and the hook is as `new` takes it.
     pub fn deliver(&self, edges: &EdgeList) -> DeliveryList
-        requires hook { IsEdgeHook self.now.cpus (F.pre self.now.f) (F.post self.now.f) }
+        requires hook { IsEdgeHook self.now.cpus (F.pre self.now.hook) (F.post self.now.hook) }
         requires lines { All IsOfLine edges.now }
-        ensures answers { AllZip (F.post self.now.f) (rises_among edges.now) result }
+        ensures answers { AllZip (F.post self.now.hook) (rises_among edges.now) result }
         ensures valid { All (IsDelivery self.now.cpus) result }
     {
         let mut deliveries = DeliveryList::new();
@@ -46,11 +46,11 @@ impl<F: Fn(Edge) -> Delivery> Hooks<F> {
 
     /// The hook's answer on an edge.
     fn answer(&self, edge: Edge) -> Delivery
-        requires hook { IsEdgeHook self.now.cpus (F.pre self.now.f) (F.post self.now.f) }
+        requires hook { IsEdgeHook self.now.cpus (F.pre self.now.hook) (F.post self.now.hook) }
         requires line { IsOfLine edge }
-        ensures answer { F.post self.now.f edge result }
+        ensures answer { F.post self.now.hook edge result }
         ensures valid { IsDelivery self.now.cpus result }
     {
-        (self.f)(edge)
+        (self.hook)(edge)
     }
 }

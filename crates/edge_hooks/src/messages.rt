@@ -25,7 +25,7 @@ pub struct MessageHooks<G: Fn(Message) -> Delivery> {
     /// How many processors there are.
     pub cpus: u8,
     /// The hook.
-    pub g: G,
+    pub hook: G,
 }
 
 impl<G: Fn(Message) -> Delivery> MessageHooks<G> {
@@ -33,16 +33,16 @@ impl<G: Fn(Message) -> Delivery> MessageHooks<G> {
     /// a processor below `cpus` and a vector from 16 to 255, and always the same.
     pub fn new(cpus: u8, g: G) -> MessageHooks<G>
         requires { IsMessageHook cpus (G.pre g) (G.post g) }
-        ensures { result ≡ record { cpus = cpus; g = g } }
+        ensures { result ≡ record { cpus = cpus; hook = g } }
     {
-        MessageHooks { cpus, g }
+        MessageHooks { cpus, hook: g }
     }
 
     /// Each of these bursts, in order, none left out, with the hook's answer on its message. The
     /// hook is as `new` takes it.
     pub fn send(&self, bursts: &BurstList) -> SentList
-        requires { IsMessageHook self.now.cpus (G.pre self.now.g) (G.post self.now.g) }
-        ensures answers { AllZip (IsSent (G.post self.now.g)) bursts.now result }
+        requires { IsMessageHook self.now.cpus (G.pre self.now.hook) (G.post self.now.hook) }
+        ensures answers { AllZip (IsSent (G.post self.now.hook)) bursts.now result }
         ensures valid { All (λ sent. IsDelivery self.now.cpus sent.to) result }
     {
         let mut sent = SentList::new();
@@ -54,12 +54,12 @@ impl<G: Fn(Message) -> Delivery> MessageHooks<G> {
 
     /// A burst with the hook's answer on its message.
     fn answer(&self, burst: Burst) -> Sent
-        requires { IsMessageHook self.now.cpus (G.pre self.now.g) (G.post self.now.g) }
-        ensures answer { IsSent (G.post self.now.g) burst result }
+        requires { IsMessageHook self.now.cpus (G.pre self.now.hook) (G.post self.now.hook) }
+        ensures answer { IsSent (G.post self.now.hook) burst result }
         ensures valid { IsDelivery self.now.cpus result.to }
     {
         let Burst { address, data, .. } = burst;
-        let to = (self.g)(Message { address, data });
+        let to = (self.hook)(Message { address, data });
         Sent { burst, to }
     }
 }

@@ -49,12 +49,16 @@ div-sum a b k some =
     record { not_ahead = le-div (a / k + b / k) (a + b) k some (omega arith); near = omega arith }
 
 -- a clock that is set anew goes on
-pub set_anew-goes_on : (anchor : Anchor) (h ns later : ℕ) → 0 < anchor.khz → IsTimeAt anchor h ns → h ≤ later → IsJustBehind (time_at (set_anew anchor h ns) later) (time_at anchor later)
+pub set_anew-goes_on : (anchor : Anchor) (h ns later : ℕ) → 0 < anchor.khz → IsTimeAt anchor h ns → h ≤ later
+    → IsJustBehind (time_at (set_anew anchor h ns) later) (time_at anchor later)
 unfolding time_at
 set_anew-goes_on anchor h ns later runs time behind =
     let parts : (later - anchor.start) * 1000000 ≡ (h - anchor.start) * 1000000 + (later - h) * 1000000 = omega (arith, time.started) in
-    let sum : IsJustBehind ((h - anchor.start) * 1000000 / anchor.khz + (later - h) * 1000000 / anchor.khz) (((h - anchor.start) * 1000000 + (later - h) * 1000000) / anchor.khz) = div-sum ((h - anchor.start) * 1000000) ((later - h) * 1000000) anchor.khz runs in
-    let whole : (later - anchor.start) * 1000000 / anchor.khz ≡ ((h - anchor.start) * 1000000 + (later - h) * 1000000) / anchor.khz = ap (λ (n : ℕ). n / anchor.khz) parts in
+    let sum : IsJustBehind ((h - anchor.start) * 1000000 / anchor.khz + (later - h) * 1000000 / anchor.khz)
+    (((h - anchor.start) * 1000000 + (later - h) * 1000000) / anchor.khz) =
+    div-sum ((h - anchor.start) * 1000000) ((later - h) * 1000000) anchor.khz runs in
+    let whole : (later - anchor.start) * 1000000 / anchor.khz ≡ ((h - anchor.start) * 1000000 + (later - h) * 1000000) / anchor.khz =
+    ap (λ (n : ℕ). n / anchor.khz) parts in
     record {
       not_ahead = omega (arith, time.value, whole, sum.not_ahead);
       near = omega (arith, time.value, whole, sum.near);
@@ -63,7 +67,8 @@ set_anew-goes_on anchor h ns later runs time behind =
 -- by whole milliseconds and the rest
 pub since-split : (counts khz : ℕ) → 0 < khz → counts / khz * 1000000 + counts % khz * 1000000 / khz ≡ counts * 1000000 / khz
 since-split counts khz runs =
-    let product : counts * 1000000 ≡ counts % khz * 1000000 + counts / khz * 1000000 * khz = sym (grouped (counts / khz) (counts % khz) counts khz (div-add-mod' counts khz)) in
+    let product : counts * 1000000 ≡ counts % khz * 1000000 + counts / khz * 1000000 * khz =
+    sym (grouped (counts / khz) (counts % khz) counts khz (div-add-mod' counts khz)) in
     ◌∙◌ (omega arith) (sym (ap (λ (x : ℕ). x / khz) product ∙ add-mul-div_right (counts % khz * 1000000) (counts / khz * 1000000) runs))
   where
     grouped : (q r n k : ℕ) → q * k + r ≡ n → r * 1000000 + q * 1000000 * k ≡ n * 1000000

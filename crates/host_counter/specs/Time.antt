@@ -5,7 +5,7 @@ use Rattle.host_counter.specs.declared.Anchor.{Anchor}
 use Rattle.host_counter.specs.declared.TimeFault.{TimeFault}
 use Rattle.host_counter.specs.declared.TimeFault.TheVariants.{BeforeStart, OutOfRange}
 
--- the nanoseconds at count h, by the rate of the counter (Linux, KVM timekeeping), rounded down (own)
+-- the nanoseconds at count h, by the counter's rate (Linux, KVM timekeeping), rounded down (own)
 unfoldable pub time_at : Anchor → ℕ → ℕ
 time_at anchor h = anchor.base_ns + (h - anchor.start) * 1000000 / anchor.khz
 

@@ -58,7 +58,8 @@ impl Anchor {
 
         // Time never falls as the counter grows, and a clock that is set anew goes on: it is at each later
         // count what it would have been, or a nanosecond behind.
-        ensures never_falls { (earlier : ℕ) → earlier ≤ h → IfOk result (λ ns. time_at self.now earlier ≤ ns) }
+        ensures never_falls { (earlier : ℕ) → earlier ≤ h →
+            IfOk result (λ ns. time_at self.now earlier ≤ ns) }
         ensures goes_on { IfOk result (λ ns. (later : ℕ) → h ≤ later →
             IsJustBehind (time_at (set_anew self.now h ns) later) (time_at self.now later)) }
     {

@@ -28,11 +28,15 @@ both-true false b e = cc
 -- no fault: all conditions hold ..
 pub IsTimer-no_fault : (t : TimerParts) → timer_fault t ≡ None → IsTimer t
 IsTimer-no_fault t none =
-    let config : (config_valid t ≡ true) × (cond (comparator_valid t) (cond (period_valid t) None (Some Period)) (Some Comparator) ≡ None) = peel (config_valid t) Config (cond (comparator_valid t) (cond (period_valid t) None (Some Period)) (Some Comparator)) none in
-    let comparator : (comparator_valid t ≡ true) × (cond (period_valid t) None (Some Period) ≡ None) = peel (comparator_valid t) Comparator (cond (period_valid t) None (Some Period)) config.1 in
+    let config : (config_valid t ≡ true) × (cond (comparator_valid t) (cond (period_valid t) None (Some Period)) (Some Comparator) ≡ None) = peel
+    (config_valid t) Config (cond (comparator_valid t) (cond (period_valid t) None (Some Period)) (Some Comparator)) none in
+    let comparator : (comparator_valid t ≡ true) × (cond (period_valid t) None (Some Period) ≡ None) = peel (comparator_valid t) Comparator
+    (cond (period_valid t) None (Some Period)) config.1 in
     let period : (period_valid t ≡ true) × (None ≡ None) = peel (period_valid t) Period None comparator.1 in
-    let bits : (eqb (bit_and t.config writable_bits) t.config ≡ true) × ((leb 20 (route_of t.config) && leb (route_of t.config) 23) ≡ true) = both-true (eqb (bit_and t.config writable_bits) t.config) (leb 20 (route_of t.config) && leb (route_of t.config) 23) config.0 in
-    let routes : (leb 20 (route_of t.config) ≡ true) × (leb (route_of t.config) 23 ≡ true) = both-true (leb 20 (route_of t.config)) (leb (route_of t.config) 23) bits.1 in
+    let bits : (eqb (bit_and t.config writable_bits) t.config ≡ true) × ((leb 20 (route_of t.config) && leb (route_of t.config) 23) ≡ true) = both-true
+    (eqb (bit_and t.config writable_bits) t.config) (leb 20 (route_of t.config) && leb (route_of t.config) 23) config.0 in
+    let routes : (leb 20 (route_of t.config) ≡ true) × (leb (route_of t.config) 23 ≡ true) = both-true (leb 20 (route_of t.config))
+    (leb (route_of t.config) 23) bits.1 in
     record {
       bits = eqb-true (bit_and t.config writable_bits) t.config bits.0;
       low_route = leb-true 20 (route_of t.config) routes.0;
@@ -44,8 +48,12 @@ IsTimer-no_fault t none =
 -- .. and where they hold there is none
 pub no_fault-IsTimer : (t : TimerParts) → IsTimer t → timer_fault t ≡ None
 no_fault-IsTimer t h =
-    ap (λ (b : Bool). cond (b && (leb 20 (route_of t.config) && leb (route_of t.config) 23)) (cond (comparator_valid t) (cond (period_valid t) None (Some Period)) (Some Comparator)) (Some Config)) (eq-eqb (bit_and t.config writable_bits) t.config h.bits)
-    ∙ (ap (λ (b : Bool). cond (b && leb (route_of t.config) 23) (cond (comparator_valid t) (cond (period_valid t) None (Some Period)) (Some Comparator)) (Some Config)) (le-leb 20 (route_of t.config) h.low_route)
-    ∙ (ap (λ (b : Bool). cond b (cond (comparator_valid t) (cond (period_valid t) None (Some Period)) (Some Comparator)) (Some Config)) (le-leb (route_of t.config) 23 h.high_route)
+    ap (λ (b : Bool). cond (b && (leb 20 (route_of t.config) && leb (route_of t.config) 23))
+    (cond (comparator_valid t) (cond (period_valid t) None (Some Period)) (Some Comparator)) (Some Config))
+    (eq-eqb (bit_and t.config writable_bits) t.config h.bits)
+    ∙ (ap (λ (b : Bool). cond (b && leb (route_of t.config) 23) (cond (comparator_valid t) (cond (period_valid t) None (Some Period)) (Some Comparator))
+    (Some Config)) (le-leb 20 (route_of t.config) h.low_route)
+    ∙ (ap (λ (b : Bool). cond b (cond (comparator_valid t) (cond (period_valid t) None (Some Period)) (Some Comparator)) (Some Config))
+    (le-leb (route_of t.config) 23 h.high_route)
     ∙ (ap (λ (b : Bool). cond b (cond (period_valid t) None (Some Period)) (Some Comparator)) (lt-ltb t.comparator (modulus t) h.comparator)
     ∙ ap (λ (b : Bool). cond b None (Some Period)) (lt-ltb t.period (modulus t) h.period))))

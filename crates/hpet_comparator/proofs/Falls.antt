@@ -1,5 +1,6 @@
 -- The pulses on which a timer matches: the first, and every spacing later.
-use Rattle.std.proofs.Common.{◌≡◌, ℕ, suc, ◌+◌, ◌-◌, ◌*◌, ◌/◌, ◌%◌, ◌<◌, ◌≤◌, Bool, true, false, cond, ◌&&◌, ltb, eqb, Some, refl, ap, sym, ◌∙◌, inl, inr, arith}
+use Rattle.std.proofs.Common.{◌≡◌, ℕ, suc, ◌+◌, ◌-◌, ◌*◌, ◌/◌, ◌%◌, ◌<◌, ◌≤◌, Bool, true, false, cond, ◌&&◌, ltb, eqb, Some, refl, ap, sym, ◌∙◌, inl, inr}
+use Rattle.std.proofs.Common.{arith}
 use Rattle.std.proofs.Math.Bool.{and-true}
 use Rattle.std.proofs.Math.Nat.{div-mul-le_self}
 use Rattle.std.proofs.lemmas.Bool.{cases_lt, lt-ltb, le-ltb, lt-leb, le-leb, eq-eqb, ne_eqb}
@@ -77,18 +78,22 @@ matches_at-before c d i t h less =
 -- the match that is due
 first-match : (c i : ℕ) (t : TimerParts) → IsDue c t (suc i) → matches_at (counter_after c (suc i)) (pulsed_times c i t) ≡ true
 first-match c i t h =
-    test-first (matches_at (counter_after c (suc i)) (pulsed_times c i t)) (matches_in c t i) (up_to_due c (suc i) t h).1 (early c (suc i) i t h (omega arith)).1
+    test-first (matches_at (counter_after c (suc i)) (pulsed_times c i t)) (matches_in c t i) (up_to_due c (suc i) t h).1
+    (early c (suc i) i t h (omega arith)).1
 
 -- those behind it
-later-match : (c d j : ℕ) (t : TimerParts) → IsTimer t → IsDue c t d → matches_at (counter_after c (suc (d + j))) (pulsed_times c (d + j) t) ≡ eqb (suc j % spacing_of t) 0
+later-match : (c d j : ℕ) (t : TimerParts) → IsTimer t → IsDue c t d
+    → matches_at (counter_after c (suc (d + j))) (pulsed_times c (d + j) t) ≡ eqb (suc j % spacing_of t) 0
 later-match c d j t valid h =
     let e : d + suc j ≡ suc (d + j) = omega arith in
     let next : matches_in c t (suc (d + j)) ≡ suc (suc j / spacing_of t) = ap (matches_in c t) (sym e) ∙ (from_due c d (suc j) t valid h).1 in
-    test-step (matches_at (counter_after c (suc (d + j))) (pulsed_times c (d + j) t)) (matches_in c t (d + j)) (matches_in c t (suc (d + j))) (j / spacing_of t) (suc j / spacing_of t) refl (from_due c d j t valid h).1 next
+    test-step (matches_at (counter_after c (suc (d + j))) (pulsed_times c (d + j) t)) (matches_in c t (d + j)) (matches_in c t (suc (d + j)))
+    (j / spacing_of t) (suc j / spacing_of t) refl (from_due c d j t valid h).1 next
     ∙ div-step (spacing_of t) j (spacing_of-pos t)
 
 -- the matches of a stretch fall at the first and every spacing later
-pub matches_at-falls : (c d n i : ℕ) (t : TimerParts) → IsTimer t → IsDue c t d → i < n → matches_at (counter_after c (suc i)) (pulsed_times c i t) ≡ falls_on (Some d) (1 + (n - d) / spacing_of t) (spacing_of t) (suc i)
+pub matches_at-falls : (c d n i : ℕ) (t : TimerParts) → IsTimer t → IsDue c t d → i < n
+    → matches_at (counter_after c (suc i)) (pulsed_times c i t) ≡ falls_on (Some d) (1 + (n - d) / spacing_of t) (spacing_of t) (suc i)
 matches_at-falls c d n i t valid h inside = elim (cases_lt (suc i) d) [
   | inl less ↦ matches_at-before c d i t h less ∙ sym (falls_on-before d (1 + (n - d) / spacing_of t) (spacing_of t) (suc i) less)
   | inr past ↦ elim (cases_lt d (suc i)) [

@@ -1,5 +1,6 @@
 -- Many pulses of a timer at once: from one match to the next, and over any stretch.
-use Rattle.std.proofs.Common.{◌≡◌, ℕ, zero, suc, ◌+◌, ◌-◌, ◌*◌, ◌/◌, ◌%◌, ◌^◌, ◌<◌, ◌≤◌, Bool, true, false, cond, ◌&&◌, ltb, Some, None, refl, ap, sym, ◌∙◌, subst, inl, inr, arith, IsTrue}
+use Rattle.std.proofs.Common.{◌≡◌, ℕ, zero, suc, ◌+◌, ◌-◌, ◌*◌, ◌/◌, ◌%◌, ◌^◌, ◌<◌, ◌≤◌, Bool, true, false, cond, ◌&&◌, ltb, Some, None, refl, ap, sym, ◌∙◌}
+use Rattle.std.proofs.Common.{subst, inl, inr, arith, IsTrue}
 use Rattle.std.proofs.lemmas.Bool.{cases_lt, lt-ltb, le-ltb, eq-eqb, ne_eqb, eqb-true}
 use Rattle.std.proofs.lemmas.Nat.{mod_below, div-add-mod'}
 use Rattle.clk_units.specs.Events.{IsFirst}
@@ -16,7 +17,8 @@ counter_within true c k = omega arith
 counter_within false c k = omega arith
 
 -- two places less than a round apart differ
-places_differ : (b : Bool) (c k d : ℕ) → 0 < k → k < d → d ≤ cond b (2 ^ 32) (2 ^ 64) → (c + k) % cond b (2 ^ 32) (2 ^ 64) ≡ (c + d) % cond b (2 ^ 32) (2 ^ 64) → ⊥
+places_differ : (b : Bool) (c k d : ℕ) → 0 < k → k < d → d ≤ cond b (2 ^ 32) (2 ^ 64)
+    → (c + k) % cond b (2 ^ 32) (2 ^ 64) ≡ (c + d) % cond b (2 ^ 32) (2 ^ 64) → ⊥
 places_differ true c k d h less near same = omega arith
 places_differ false c k d h less near same = omega arith
 
@@ -29,7 +31,8 @@ matches_at-due c d t h = eq-eqb (counter_after c d % modulus t) t.comparator (co
 pub matches_at-early : (c d k : ℕ) (t : TimerParts) → IsDue c t d → 0 < k → k < d → matches_at (counter_after c k) t ≡ false
 unfolding matches_at
 matches_at-early c d k t h ahead less = ne_eqb (counter_after c k % modulus t) t.comparator
-    (λ (same : counter_after c k % modulus t ≡ t.comparator). places_differ (is_32_bit t) c k d ahead less h.within (sym (counter_within (is_32_bit t) c k) ∙ (same ∙ sym h.reaches)))
+    (λ (same : counter_after c k % modulus t ≡ t.comparator). places_differ (is_32_bit t) c k d ahead less h.within (sym (counter_within (is_32_bit t) c k)
+    ∙ (same ∙ sym h.reaches)))
 
 -- a match of the first pulse makes it due
 pub due-matches_at : (c : ℕ) (t : TimerParts) → IsTrue (matches_at (counter_after c 1) t) → IsDue c t 1
@@ -79,16 +82,23 @@ up_to_due c d t h =
     subst (λ (n : ℕ). (pulsed_times c n t ≡ advanced 1 t) × (matches_in c t n ≡ 1)) e (up_to_suc c (d - 1) t (subst (IsDue c t) (sym e) h))
 
 -- two stretches are one
-pub parted : (c m n : ℕ) (t : TimerParts) → (pulsed_times c (m + n) t ≡ pulsed_times (counter_after c m) n (pulsed_times c m t)) × (matches_in c t (m + n) ≡ matches_in c t m + matches_in (counter_after c m) (pulsed_times c m t) n)
+pub parted : (c m n : ℕ) (t : TimerParts)
+    → (pulsed_times c (m + n) t ≡ pulsed_times (counter_after c m) n (pulsed_times c m t)) ×
+    (matches_in c t (m + n) ≡ matches_in c t m + matches_in (counter_after c m) (pulsed_times c m t) n)
 parted c m zero t = let e : m + 0 ≡ m = omega arith in rw e (refl, omega arith)
 parted c m (suc n) t =
-    let before : (pulsed_times c (m + n) t ≡ pulsed_times (counter_after c m) n (pulsed_times c m t)) × (matches_in c t (m + n) ≡ matches_in c t m + matches_in (counter_after c m) (pulsed_times c m t) n) = parted c m n t in
+    let before : (pulsed_times c (m + n) t ≡ pulsed_times (counter_after c m) n (pulsed_times c m t)) ×
+    (matches_in c t (m + n) ≡ matches_in c t m + matches_in (counter_after c m) (pulsed_times c m t) n) = parted c m n t in
     let place : counter_after c (suc (m + n)) ≡ counter_after (counter_after c m) (suc n) = omega arith in
-    let test : matches_at (counter_after c (suc (m + n))) (pulsed_times c (m + n) t) ≡ matches_at (counter_after (counter_after c m) (suc n)) (pulsed_times (counter_after c m) n (pulsed_times c m t)) = ap (λ (x : ℕ). matches_at x (pulsed_times c (m + n) t)) place ∙ ap (matches_at (counter_after (counter_after c m) (suc n))) before.0 in
+    let test : matches_at (counter_after c (suc (m + n))) (pulsed_times c (m + n) t)
+    ≡ matches_at (counter_after (counter_after c m) (suc n)) (pulsed_times (counter_after c m) n (pulsed_times c m t)) = ap
+    (λ (x : ℕ). matches_at x (pulsed_times c (m + n) t)) place ∙ ap (matches_at (counter_after (counter_after c m) (suc n))) before.0 in
     let e : m + suc n ≡ suc (m + n) = omega arith in
     rw e (
       ap (λ (x : ℕ). pulsed x (pulsed_times c (m + n) t)) place ∙ ap (pulsed (counter_after (counter_after c m) (suc n))) before.0,
-      ap (λ (b : Bool). cond b (suc (matches_in c t (m + n))) (matches_in c t (m + n))) test ∙ counted (matches_at (counter_after (counter_after c m) (suc n)) (pulsed_times (counter_after c m) n (pulsed_times c m t))) (matches_in c t (m + n)) (matches_in c t m) (matches_in (counter_after c m) (pulsed_times c m t) n) before.1,
+      ap (λ (b : Bool). cond b (suc (matches_in c t (m + n))) (matches_in c t (m + n))) test
+          ∙ counted (matches_at (counter_after (counter_after c m) (suc n)) (pulsed_times (counter_after c m) n (pulsed_times c m t)))
+          (matches_in c t (m + n)) (matches_in c t m) (matches_in (counter_after c m) (pulsed_times c m t) n) before.1,
     )
   where
     counted : (b : Bool) (x y z : ℕ) → x ≡ y + z → cond b (suc x) x ≡ y + cond b (suc z) z
@@ -101,7 +111,9 @@ advance-zero b false x y h = refl
 advance-zero true true x y h = omega arith
 advance-zero false true x y h = omega arith
 
-advance-more : (b p : Bool) (x y q : ℕ) → cond p ((cond p ((x + 1 * y) % cond b (2 ^ 32) (2 ^ 64)) x + q * y) % cond b (2 ^ 32) (2 ^ 64)) (cond p ((x + 1 * y) % cond b (2 ^ 32) (2 ^ 64)) x) ≡ cond p ((x + suc q * y) % cond b (2 ^ 32) (2 ^ 64)) x
+advance-more : (b p : Bool) (x y q : ℕ)
+    → cond p ((cond p ((x + 1 * y) % cond b (2 ^ 32) (2 ^ 64)) x + q * y) % cond b (2 ^ 32) (2 ^ 64)) (cond p ((x + 1 * y) % cond b (2 ^ 32) (2 ^ 64)) x)
+    ≡ cond p ((x + suc q * y) % cond b (2 ^ 32) (2 ^ 64)) x
 advance-more b false x y q = refl
 advance-more true true x y q = omega arith
 advance-more false true x y q = omega arith
@@ -117,7 +129,8 @@ joined : (c d n q : ℕ) (t : TimerParts) → (pulsed_times c d t ≡ advanced 1
     → (pulsed_times (counter_after c d) n (advanced 1 t) ≡ advanced q (advanced 1 t)) × (matches_in (counter_after c d) (advanced 1 t) n ≡ q)
     → (pulsed_times c (d + n) t ≡ advanced (suc q) t) × (matches_in c t (d + n) ≡ suc q)
 joined c d n q t first rest =
-    let split : (pulsed_times c (d + n) t ≡ pulsed_times (counter_after c d) n (pulsed_times c d t)) × (matches_in c t (d + n) ≡ matches_in c t d + matches_in (counter_after c d) (pulsed_times c d t) n) = parted c d n t in
+    let split : (pulsed_times c (d + n) t ≡ pulsed_times (counter_after c d) n (pulsed_times c d t)) ×
+    (matches_in c t (d + n) ≡ matches_in c t d + matches_in (counter_after c d) (pulsed_times c d t) n) = parted c d n t in
     let onward : matches_in (counter_after c d) (pulsed_times c d t) n ≡ q = ap (λ (s : TimerParts). matches_in (counter_after c d) s n) first.0 ∙ rest.1 in (
       split.0 ∙ (ap (pulsed_times (counter_after c d) n) first.0 ∙ (rest.0 ∙ advanced-more q t)),
       omega (arith, split.1, first.1, onward),
@@ -140,7 +153,8 @@ spacing-le true period m h = elim (cases_lt 0 period) [
 
 -- .. and leads from a match to the next
 spacing-reaches : (b p : Bool) (x comparator period : ℕ) → x % cond b (2 ^ 32) (2 ^ 64) ≡ comparator → period < cond b (2 ^ 32) (2 ^ 64)
-    → (x + cond (p && ltb 0 period) period (cond b (2 ^ 32) (2 ^ 64))) % cond b (2 ^ 32) (2 ^ 64) ≡ cond p ((comparator + 1 * period) % cond b (2 ^ 32) (2 ^ 64)) comparator
+    → (x + cond (p && ltb 0 period) period (cond b (2 ^ 32) (2 ^ 64))) % cond b (2 ^ 32) (2 ^ 64)
+    ≡ cond p ((comparator + 1 * period) % cond b (2 ^ 32) (2 ^ 64)) comparator
 spacing-reaches true false x comparator period e h = omega arith
 spacing-reaches false false x comparator period e h = omega arith
 spacing-reaches true true x comparator period e h = elim (cases_lt 0 period) [
@@ -174,7 +188,8 @@ due-next c d t valid h = record {
 }
 
 -- rounds of a spacing each, and some pulses more
-pub rounds : (c q r : ℕ) (t : TimerParts) → IsTimer t → IsDue c t (spacing_of t) → r < spacing_of t → (pulsed_times c (q * spacing_of t + r) t ≡ advanced q t) × (matches_in c t (q * spacing_of t + r) ≡ q)
+pub rounds : (c q r : ℕ) (t : TimerParts) → IsTimer t → IsDue c t (spacing_of t) → r < spacing_of t
+    → (pulsed_times c (q * spacing_of t + r) t ≡ advanced q t) × (matches_in c t (q * spacing_of t + r) ≡ q)
 rounds c zero r t valid h less =
     let e : r ≡ 0 * spacing_of t + r = omega arith in
     let before : (pulsed_times c r t ≡ t) × (matches_in c t r ≡ 0) = early c (spacing_of t) r t h less in
@@ -182,18 +197,27 @@ rounds c zero r t valid h less =
 rounds c (suc q) r t valid h less =
     let e : spacing_of t + (q * spacing_of t + r) ≡ suc q * spacing_of t + r = omega arith in
     let first : (pulsed_times c (spacing_of t) t ≡ advanced 1 t) × (matches_in c t (spacing_of t) ≡ 1) = up_to_due c (spacing_of t) t h in
-    let rest : (pulsed_times (counter_after c (spacing_of t)) (q * spacing_of t + r) (advanced 1 t) ≡ advanced q (advanced 1 t)) × (matches_in (counter_after c (spacing_of t)) (advanced 1 t) (q * spacing_of t + r) ≡ q) = rounds (counter_after c (spacing_of t)) q r (advanced 1 t) (IsTimer-advanced 1 t valid) (due-next c (spacing_of t) t valid h) less in
+    let rest : (pulsed_times (counter_after c (spacing_of t)) (q * spacing_of t + r) (advanced 1 t) ≡ advanced q (advanced 1 t)) ×
+    (matches_in (counter_after c (spacing_of t)) (advanced 1 t) (q * spacing_of t + r) ≡ q) = rounds (counter_after c (spacing_of t)) q r (advanced 1 t)
+    (IsTimer-advanced 1 t valid) (due-next c (spacing_of t) t valid h) less in
     subst (λ (n : ℕ). (pulsed_times c n t ≡ advanced (suc q) t) × (matches_in c t n ≡ suc q)) e (joined c (spacing_of t) (q * spacing_of t + r) q t first rest)
 
 -- from the first match on
-pub from_due : (c d j : ℕ) (t : TimerParts) → IsTimer t → IsDue c t d → (pulsed_times c (d + j) t ≡ advanced (suc (j / spacing_of t)) t) × (matches_in c t (d + j) ≡ suc (j / spacing_of t))
+pub from_due : (c d j : ℕ) (t : TimerParts) → IsTimer t → IsDue c t d
+    → (pulsed_times c (d + j) t ≡ advanced (suc (j / spacing_of t)) t) × (matches_in c t (d + j) ≡ suc (j / spacing_of t))
 from_due c d j t valid h =
     let whole : j / spacing_of t * spacing_of t + j % spacing_of t ≡ j = div-add-mod' j (spacing_of t) in
-    let rest : (pulsed_times (counter_after c d) (j / spacing_of t * spacing_of t + j % spacing_of t) (advanced 1 t) ≡ advanced (j / spacing_of t) (advanced 1 t)) × (matches_in (counter_after c d) (advanced 1 t) (j / spacing_of t * spacing_of t + j % spacing_of t) ≡ j / spacing_of t) = rounds (counter_after c d) (j / spacing_of t) (j % spacing_of t) (advanced 1 t) (IsTimer-advanced 1 t valid) (due-next c d t valid h) (mod_below j (spacing_of t) (spacing_of-pos t)) in
-    subst (λ (n : ℕ). (pulsed_times c (d + n) t ≡ advanced (suc (j / spacing_of t)) t) × (matches_in c t (d + n) ≡ suc (j / spacing_of t))) whole (joined c d (j / spacing_of t * spacing_of t + j % spacing_of t) (j / spacing_of t) t (up_to_due c d t h) rest)
+    let rest :
+    (pulsed_times (counter_after c d) (j / spacing_of t * spacing_of t + j % spacing_of t) (advanced 1 t) ≡ advanced (j / spacing_of t) (advanced 1 t)) ×
+    (matches_in (counter_after c d) (advanced 1 t) (j / spacing_of t * spacing_of t + j % spacing_of t) ≡ j / spacing_of t) = rounds (counter_after c d)
+    (j / spacing_of t) (j % spacing_of t) (advanced 1 t) (IsTimer-advanced 1 t valid) (due-next c d t valid h)
+    (mod_below j (spacing_of t) (spacing_of-pos t)) in
+    subst (λ (n : ℕ). (pulsed_times c (d + n) t ≡ advanced (suc (j / spacing_of t)) t) × (matches_in c t (d + n) ≡ suc (j / spacing_of t))) whole
+    (joined c d (j / spacing_of t * spacing_of t + j % spacing_of t) (j / spacing_of t) t (up_to_due c d t h) rest)
 
 -- a timer that matches on the first pulse does so again on every pulse a spacing later
-pub matches_in-every : (from j : ℕ) (t : TimerParts) → IsTimer t → IsTrue (matches_at (counter_after from 1) t) → matches_in from t (1 + j) ≡ 1 + j / spacing_of t
+pub matches_in-every : (from j : ℕ) (t : TimerParts) → IsTimer t → IsTrue (matches_at (counter_after from 1) t)
+    → matches_in from t (1 + j) ≡ 1 + j / spacing_of t
 matches_in-every from j t valid h = (from_due from 1 j t valid (due-matches_at from t h)).1 ∙ omega arith
 
 -- before the first match of a stretch
@@ -221,6 +245,7 @@ pulsed_times-advanced c d n t valid h = elim (cases_lt n d) [
       none.0 ∙ (sym (advanced-zero t valid) ∙ ap (λ (q : ℕ). advanced q t) (sym none.1))
   | inr inside ↦
       let e : d + (n - d) ≡ n = omega arith in
-      let some : (pulsed_times c (d + (n - d)) t ≡ advanced (suc ((n - d) / spacing_of t)) t) × (matches_in c t (d + (n - d)) ≡ suc ((n - d) / spacing_of t)) = from_due c d (n - d) t valid h in
+      let some : (pulsed_times c (d + (n - d)) t ≡ advanced (suc ((n - d) / spacing_of t)) t) ×
+      (matches_in c t (d + (n - d)) ≡ suc ((n - d) / spacing_of t)) = from_due c d (n - d) t valid h in
       subst (λ (m : ℕ). pulsed_times c m t ≡ advanced (matches_in c t m) t) e (some.0 ∙ ap (λ (q : ℕ). advanced q t) (sym some.1))
 ]

@@ -41,7 +41,8 @@ writable-parts v r small =
     let below : bit_and v 334 ≤ 334 = and_le_r v 334 in
     let route : bit_and r 31 ≡ r = and_mask r 5 ∙ omega arith in
     let switches : bit_and (bit_and v 334) 334 ≡ bit_and v 334 = and_assoc 334 v 334 in
-    let block : bit_and (r * 2 ^ 9 + bit_and v 334) (31 * 2 ^ 9 + 334) ≡ bit_and r 31 * 2 ^ 9 + bit_and (bit_and v 334) 334 = and_block 9 r 31 (bit_and v 334) 334 (omega arith) (omega arith) in
+    let block : bit_and (r * 2 ^ 9 + bit_and v 334) (31 * 2 ^ 9 + 334)
+    ≡ bit_and r 31 * 2 ^ 9 + bit_and (bit_and v 334) 334 = and_block 9 r 31 (bit_and v 334) 334 (omega arith) (omega arith) in
     let turned : bit_and v 334 + r * 2 ^ 9 ≡ r * 2 ^ 9 + bit_and v 334 = omega arith in
     rw turned (block ∙ omega (arith, route, switches))
 
@@ -53,7 +54,8 @@ route_of-parts v r small = omega (arith, and_le_r v 334)
 pub IsTimer-config_written : (v : ℕ) (t : TimerParts) → IsTimer t → IsTimer (config_written v t)
 unfolding config_written
 IsTimer-config_written v t h =
-    let within : (20 ≤ chosen_route (route_of v) (route_of t.config)) × (chosen_route (route_of v) (route_of t.config) ≤ 23) = chosen_route-within (route_of v) (route_of t.config) h.low_route h.high_route in
+    let within : (20 ≤ chosen_route (route_of v) (route_of t.config)) × (chosen_route (route_of v) (route_of t.config) ≤ 23) = chosen_route-within
+    (route_of v) (route_of t.config) h.low_route h.high_route in
     let next : TimerParts = record t { config = bit_and v switch_bits + chosen_route (route_of v) (route_of t.config) * 2 ^ 9 } in
     record {
       bits = writable-parts v (chosen_route (route_of v) (route_of t.config)) within.1;
@@ -92,7 +94,8 @@ IsTimer-comparator_written width high v t h =
       bits = writable-cleared t.config h.bits;
       low_route = rw (route_of-cleared t.config) h.low_route;
       high_route = rw (route_of-cleared t.config) h.high_route;
-      comparator = subst (λ (m : ℕ). (comparator_written width high v t).comparator < m) same (below (is_periodic t && not (takes_comparator t)) h.comparator (cut (part_written width high v t.comparator)));
+      comparator = subst (λ (m : ℕ). (comparator_written width high v t).comparator < m) same
+          (below (is_periodic t && not (takes_comparator t)) h.comparator (cut (part_written width high v t.comparator)));
       period = subst (λ (m : ℕ). (comparator_written width high v t).period < m) same (cut (part_written width high v t.period));
     }
 

@@ -4,8 +4,9 @@ use Rattle.hpet_counter.specs.Part.{part_written}
 use Rattle.hpet_comparator.specs.declared.parts.TimerParts.{TimerParts}
 use Rattle.hpet_comparator.specs.Parts.{is_periodic, takes_comparator, modulus}
 
--- a write to the comparator register, whole or of one half: it sets the period and, unless the timer is periodic
--- without VAL_SET, the comparator; and it clears VAL_SET (2.3.9.2; that it reads as set until then is own)
+-- a write to the comparator register, whole or of one half: it sets the period and, unless the
+-- timer is periodic without VAL_SET, the comparator; and it clears VAL_SET (2.3.9.2; that it reads
+-- as set until then is own)
 unfoldable pub comparator_written : ℕ → Bool → ℕ → TimerParts → TimerParts
 comparator_written width high v t = record {
   config = bit_and t.config 0xffbf;

@@ -3,8 +3,8 @@ use Rattle.std.specs.Prelude.{ℕ, ◌+◌, ◌*◌, ◌%◌, ◌^◌, ◌&&◌,
 use Rattle.hpet_comparator.specs.declared.parts.TimerParts.{TimerParts}
 use Rattle.hpet_comparator.specs.Parts.{route_of, modulus}
 
--- the configuration register: bits 4 and 5 (periodic and 64-bit capable) are 1, and bits 63 to 32, the lines
--- that it may be routed to, are those of lines 20 to 23 (2.3.8)
+-- the configuration register: bits 4 and 5 (periodic and 64-bit capable) are 1, and bits 63 to 32,
+-- the lines that it may be routed to, are those of lines 20 to 23 (2.3.8)
 abbrev pub config_register : TimerParts → ℕ
 config_register t = 0x00f0000000000030 + t.config
 

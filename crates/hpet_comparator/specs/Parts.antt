@@ -1,6 +1,8 @@
--- The fields of a timer of the HPET, what its configuration says, and the conditions. Sections are those of the
--- IA-PC HPET specification 1.0a; (own) marks what it leaves open and this project chose.
-use Rattle.std.specs.Prelude.{◌≡◌, ℕ, ◌/◌, ◌%◌, ◌^◌, ◌<◌, ◌≤◌, Bool, ◌&&◌, ◌==◌, nat_lt, nat_le, if◌then◌else◌, bit_and, Option, Some, None}
+-- The fields of a timer of the HPET, what its configuration says, and the conditions. Sections are
+-- those of the IA-PC HPET specification 1.0a; (own) marks what it leaves open and this project
+-- chose.
+use Rattle.std.specs.Prelude.{◌≡◌, ℕ, ◌/◌, ◌%◌, ◌^◌, ◌<◌, ◌≤◌, Bool, ◌&&◌, ◌==◌, nat_lt, nat_le}
+use Rattle.std.specs.Prelude.{if◌then◌else◌, bit_and, Option, Some, None}
 use Rattle.clk_units.specs.Bits.{bit}
 use Rattle.hpet_comparator.specs.declared.parts.TimerParts.{TimerParts}
 use Rattle.hpet_comparator.specs.declared.parts.TimerField.{TimerField}
@@ -38,7 +40,8 @@ modulus t = if is_32_bit t then 2 ^ 32 else 2 ^ 64
 abbrev pub writable_bits : ℕ
 writable_bits = 0x3f4e
 
--- the condition on the configuration: writable bits alone, and a route to one of the lines 20 to 23 (own)
+-- the condition on the configuration: writable bits alone, and a route to one of the lines 20 to 23
+-- (own)
 abbrev pub config_valid : TimerParts → Bool
 config_valid t = bit_and t.config writable_bits == t.config
     && (nat_le 20 (route_of t.config) && nat_le (route_of t.config) 23)
@@ -68,6 +71,7 @@ pub record IsTimer (t : TimerParts) : Type 0 where
   pub comparator : t.comparator < modulus t
   pub period : t.period < modulus t
 
--- the timer at power on: a one-shot of edge type and 64 bits, disabled, on line 20, comparator and period 0 (own)
+-- the timer at power on: a one-shot of edge type and 64 bits, disabled, on line 20, comparator and
+-- period 0 (own)
 abbrev pub timer_at_power_on : TimerParts
 timer_at_power_on = record { config = 0x2800; comparator = 0; period = 0 }

@@ -1,5 +1,6 @@
-//! One timer of the HPET (IA-PC HPET specification 1.0a, sections 2.3.8 and 2.3.9): its configuration, its
-//! comparator, one-shot or periodic, of 32 or 64 bits, and its matches with the main counter.
+//! One timer of the HPET (IA-PC HPET specification 1.0a, sections 2.3.8 and 2.3.9): its
+//! configuration, its comparator, one-shot or periodic, of 32 or 64 bits, and its matches with the
+//! main counter.
 //!
 //! ```text
 //! let mut timer = Timer::power_on();

@@ -2,7 +2,9 @@
 
 ghost use Rattle.std.specs.Prelude.{◌≡◌, ℕ, ◌/◌, ◌%◌, ◌^◌, ◌<◌, ◌↔◌, None};
 ghost use Rattle.clk_units.specs.Bits.{bit};
-ghost use Rattle.hpet_comparator.specs.Parts.{is_level, is_enabled, is_periodic, takes_comparator, is_32_bit, route_of, modulus, config_valid, comparator_valid, period_valid, timer_fault, IsTimer};
+ghost use Rattle.hpet_comparator.specs.Parts.{is_level, is_enabled, is_periodic, takes_comparator};
+ghost use Rattle.hpet_comparator.specs.Parts.{is_32_bit, route_of, modulus, config_valid};
+ghost use Rattle.hpet_comparator.specs.Parts.{comparator_valid, period_valid, timer_fault, IsTimer};
 
 use clk_units::bit;
 
@@ -29,8 +31,8 @@ pub(crate) const MODULUS_32: u64 = 0x1_0000_0000;
 #[repr(C)]
 #[derive(Clone, Copy, Debug, PartialEq, Eq)]
 pub struct TimerParts {
-    /// The writable bits of the configuration register, at their places there: 1 level type, 2 interrupt
-    /// enable, 3 periodic, 6 VAL_SET, 8 32-bit mode, 13 to 9 route.
+    /// The writable bits of the configuration register, at their places there: 1 level type, 2
+    /// interrupt enable, 3 periodic, 6 VAL_SET, 8 32-bit mode, 13 to 9 route.
     pub config: u16,
     /// The main counter's value at which the timer matches.
     pub comparator: u64,
@@ -98,8 +100,8 @@ impl TimerParts {
         (self.config as u64 / ROUTE_UNIT % ROUTES) as u8
     }
 
-    /// The first field, in the order in which a saved state keeps them, whose condition fails; None exactly
-    /// where these are a timer's fields.
+    /// The first field, in the order in which a saved state keeps them, whose condition fails; None
+    /// exactly where these are a timer's fields.
     pub fn first_fault(&self) -> Option<TimerField>
         ensures value { result ≡ timer_fault self.now }
         ensures none { (result ≡ None) ↔ IsTimer self.now }

@@ -36,11 +36,12 @@ impl Matches {
 }
 
 impl TimerParts {
-    /// The pulses from one match to the next: the period, or 2^32 or 2^64 by the timer's width where it is
-    /// one-shot or the period is 0.
+    /// The pulses from one match to the next: the period, or 2^32 or 2^64 by the timer's width
+    /// where it is one-shot or the period is 0.
     pub fn spacing(&self) -> u128
         ensures value { result ≡ spacing_of self.now }
-        // A timer that matches on the first pulse does so again on every pulse a spacing later, and on no other.
+        // A timer that matches on the first pulse does so again on every pulse a spacing later, and
+        // on no other.
         ensures every { (from j : ℕ) → IsTimer self.now
             → IsTrue (matches_at (counter_after from 1) self.now)
             → matches_in from self.now (1 + j) ≡ 1 + j / spacing_of self.now }

@@ -2,8 +2,8 @@
 
 use super::*;
 
-/// Config, comparator and period; the main counter before and the number of pulses; the number and the
-/// first of the matches, and the comparator after them.
+/// Config, comparator and period; the main counter before and the number of pulses; the number and
+/// the first of the matches, and the comparator after them.
 const PULSES: [(u16, u64, u64, u64, u64, u64, Option<u64>, u64); 12] = [
     // a one-shot timer matches once, on the pulse that reaches the comparator
     (0x2804, 100, 100, 0, 99, 0, None, 100),
@@ -74,7 +74,8 @@ fn next_number(x: u64) -> u64 {
         .wrapping_add(1_442_695_040_888_963_407)
 }
 
-/// A timer near a main counter, so that first matches, periods and wraps fall within a short stretch.
+/// A timer near a main counter, so that first matches, periods and wraps fall within a short
+/// stretch.
 fn timer_near(from: u64, x: u64) -> Timer {
     let mut timer = Timer::power_on();
     // 32-bit mode and periodic by turns, the comparator by VAL_SET, and then the period

@@ -1,6 +1,7 @@
 //! A timer: its registers and its pulses.
 
-ghost use Rattle.std.specs.Prelude.{◌≡◌, ℕ, suc, ◌*◌, ◌%◌, ◌^◌, ◌<◌, ◌≤◌, ◌↔◌, IsTrue, IsSome, IfSome};
+ghost use Rattle.std.specs.Prelude.{◌≡◌, ℕ, suc, ◌*◌, ◌%◌, ◌^◌, ◌<◌, ◌≤◌, ◌↔◌, IsTrue, IsSome};
+ghost use Rattle.std.specs.Prelude.{IfSome};
 ghost use Rattle.clk_units.specs.Events.{IsFirst};
 ghost use Rattle.hpet_counter.specs.Counter.{counter_after};
 ghost use Rattle.hpet_counter.specs.Part.{is_register_width};
@@ -20,7 +21,8 @@ use crate::stretch::Matches;
 use crate::{comparator, config, stretch};
 use std::marker::Model;
 
-/// The fixed bits of the configuration register: periodic and 64-bit capable, and the lines 20 to 23.
+/// The fixed bits of the configuration register: periodic and 64-bit capable, and the lines 20 to
+/// 23.
 const FIXED: u64 = 0x00f0_0000_0000_0030;
 
 /// One timer.
@@ -44,8 +46,8 @@ impl Model for Timer {
 }
 
 impl Timer {
-    /// The timer at power on: a one-shot of edge type and 64 bits, disabled, on line 20, comparator and period 0
-    /// (this project's own choice).
+    /// The timer at power on: a one-shot of edge type and 64 bits, disabled, on line 20, comparator
+    /// and period 0 (own).
     pub fn power_on() -> Timer
         ensures { result ≡ timer_at_power_on }
     {
@@ -79,8 +81,8 @@ impl Timer {
         }
     }
 
-    /// The device with these fields, of which it is known that they are a timer's: for a caller that keeps them
-    /// in a record of its own. No condition is looked at again.
+    /// The device with these fields, of which it is known that they are a timer's: for a caller
+    /// that keeps them in a record of its own. No condition is looked at again.
     #[inline]
     pub fn of_valid_parts(parts: TimerParts) -> Timer
         requires { IsTimer parts }
@@ -96,8 +98,8 @@ impl Timer {
         FIXED + self.parts.config as u64
     }
 
-    /// A write of the configuration register. Bits that aren't writable are left, and so is the route where `v`
-    /// names another than 20 to 23; 32-bit mode cuts comparator and period (both this project's own choice).
+    /// A write of the configuration register. Bits that aren't writable are left, and so is the
+    /// route where `v` names another than 20 to 23; 32-bit mode cuts comparator and period (own).
     pub fn write_config(&mut self, v: u64)
         ensures { self.new ≡ config_written v self.old }
     {
@@ -111,8 +113,9 @@ impl Timer {
         self.parts.comparator
     }
 
-    /// A write of the comparator register, whole (`width` 8) or of one half (`width` 4; `high` tells which). It
-    /// sets the period and, unless the timer is periodic without VAL_SET, the comparator, and clears VAL_SET.
+    /// A write of the comparator register, whole (`width` 8) or of one half (`width` 4; `high`
+    /// tells which). It sets the period and, unless the timer is periodic without VAL_SET, the
+    /// comparator, and clears VAL_SET.
     pub fn write_comparator(&mut self, width: u8, high: bool, v: u64)
         requires width { IsTrue (is_register_width width) }
         requires fits { v < 2 ^ (8 * width) }
@@ -121,16 +124,18 @@ impl Timer {
         self.parts = comparator::comparator_written(self.parts, width, high, v);
     }
 
-    /// Counts the `n` pulses that follow the main counter's value `from`: how many of them match, and which is
-    /// the first. A pulse matches where it brings the main counter, in 32-bit mode its low half, to the
-    /// comparator; a periodic timer then adds its period to the comparator, modulo 2^32 or 2^64.
+    /// Counts the `n` pulses that follow the main counter's value `from`: how many of them match,
+    /// and which is the first. A pulse matches where it brings the main counter, in 32-bit mode its
+    /// low half, to the comparator; a periodic timer then adds its period to the comparator, modulo
+    /// 2^32 or 2^64.
     #[inline]
     pub fn pulses(&mut self, from: u64, n: u64) -> Matches
         ensures state { self.new ≡ pulsed_times from n self.old }
         ensures count { result.count ≡ matches_in from self.old n }
         ensures few { result.count ≤ n }
         ensures first { IsFirst (matches_in from self.old) n result.first }
-        // The matches fall at the first, a spacing later, two later and so on, and at no other pulse.
+        // The matches fall at the first, a spacing later, two later and so on, and at no other
+        // pulse.
         ensures every { (i : ℕ) → i < n
             → matches_at (counter_after from (suc i)) (pulsed_times from i self.old)
             ≡ falls_on result.first result.count (spacing_of self.old) (suc i) }

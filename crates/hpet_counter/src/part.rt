@@ -6,8 +6,9 @@ ghost use Rattle.hpet_counter.specs.Part.{part_written, is_register_width};
 /// How many numbers a half of a register has.
 const HALF: u64 = 0x1_0000_0000;
 
-/// What a register of 64 bits that holds `old` holds after a write of `v`, of 8 bytes or of the 4 bytes of one
-/// half (IA-PC HPET specification 1.0a, section 2.4: software may use 32 or 64 bit accesses).
+/// What a register of 64 bits that holds `old` holds after a write of `v`, of 8 bytes or of the 4
+/// bytes of one half (IA-PC HPET specification 1.0a, section 2.4: software may use 32 or 64 bit
+/// accesses).
 pub fn write_part(old: u64, width: u8, high: bool, v: u64) -> u64
     requires width { IsTrue (is_register_width width) }
     requires fits { v < 2 ^ (8 * width) }

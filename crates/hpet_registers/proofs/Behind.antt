@@ -1,5 +1,6 @@
 -- What a board asks of an HPET behind pulses: levels, ticks and messages; and the conditions at power on and behind a write.
-use Rattle.std.proofs.Common.{◌≡◌, ℕ, zero, suc, ◌-◌, ◌/◌, ◌%◌, ◌^◌, ◌<◌, ◌≤◌, Bool, true, false, cond, ◌&&◌, ◌||◌, not, ltb, leb, eqb, get_or, Some, None, ◌⊎◌, refl, ap, sym, subst, ◌∙◌, inl, inr, arith}
+use Rattle.std.proofs.Common.{◌≡◌, ℕ, zero, suc, ◌-◌, ◌/◌, ◌%◌, ◌^◌, ◌<◌, ◌≤◌, Bool, true, false, cond, ◌&&◌, ◌||◌, not, ltb, leb, eqb, get_or, Some, None, ◌⊎◌}
+use Rattle.std.proofs.Common.{refl, ap, sym, subst, ◌∙◌, inl, inr, arith}
 use Rattle.std.proofs.Math.Bool.{and-true}
 use Rattle.std.proofs.Math.Nat.{zero-div}
 use Rattle.std.proofs.lemmas.Bool.{cases_lt, le-ltb, le-leb, false≢true}
@@ -11,17 +12,21 @@ use Rattle.hpet_comparator.specs.Parts.{is_level, is_enabled}
 use Rattle.hpet_comparator.proofs.Conditions.{IsTimer-timer_at_power_on}
 use Rattle.hpet_registers.specs.declared.parts.HpetParts.{HpetParts}
 use Rattle.hpet_registers.specs.declared.register.Register.{Register}
-use Rattle.hpet_registers.specs.declared.register.Register.TheVariants.{Capabilities, Configuration, Status, MainCounter, TimerConfig, TimerComparator, TimerMessage, Reserved}
-use Rattle.hpet_registers.specs.Parts.{no_timer, no_bits, no_words, timer_at, message_bit_at, message_word_at, is_legacy, IsPlace, IsHpet, hpet_at_power_on, timers_at_power_on}
+use Rattle.hpet_registers.specs.declared.register.Register.TheVariants.{Capabilities, Configuration, Status, MainCounter, TimerConfig, TimerComparator}
+use Rattle.hpet_registers.specs.declared.register.Register.TheVariants.{TimerMessage, Reserved}
+use Rattle.hpet_registers.specs.Parts.{no_timer, no_bits, no_words, timer_at, message_bit_at, message_word_at, is_legacy, IsPlace, IsHpet, hpet_at_power_on}
+use Rattle.hpet_registers.specs.Parts.{timers_at_power_on}
 use Rattle.hpet_registers.specs.Outputs.{level_output, has_edge_ticks, is_message, has_ticks, message_of}
 use Rattle.hpet_registers.specs.Register.{IsRegister, timer_register, register_at}
 use Rattle.hpet_registers.specs.Access.{is_effective, register_written, hpet_written}
 use Rattle.hpet_registers.specs.Stretch.{matches_next, tick_next, hpet_pulsed_times, matches_of, ticks_of}
 use Rattle.hpet_registers.proofs.Conditions.{IsHpet-register_written}
-use Rattle.hpet_registers.proofs.Product.{status_bit-hpet_pulsed_times, is_enabled-hpet_pulsed_times, is_legacy-hpet_pulsed_times, timer_config-hpet_pulsed_times, message_bit_at-hpet_pulsed_times, message_word_at-hpet_pulsed_times}
+use Rattle.hpet_registers.proofs.Product.{status_bit-hpet_pulsed_times, is_enabled-hpet_pulsed_times, is_legacy-hpet_pulsed_times}
+use Rattle.hpet_registers.proofs.Product.{timer_config-hpet_pulsed_times, message_bit_at-hpet_pulsed_times, message_word_at-hpet_pulsed_times}
 
 -- levels behind pulses
-pub level_output-hpet_pulsed_times : (k n : ℕ) (h : HpetParts) → k < 8 → level_output k (hpet_pulsed_times n h) ≡ ((bit k h.status || (ltb 0 (matches_of k h n) && is_level (timer_at k h))) && is_enabled (timer_at k h))
+pub level_output-hpet_pulsed_times : (k n : ℕ) (h : HpetParts) → k < 8
+    → level_output k (hpet_pulsed_times n h) ≡ ((bit k h.status || (ltb 0 (matches_of k h n) && is_level (timer_at k h))) && is_enabled (timer_at k h))
 level_output-hpet_pulsed_times k n h small =
     ap (λ (b : Bool). b && is_enabled (timer_at k (hpet_pulsed_times n h))) (status_bit-hpet_pulsed_times k n h small)
     ∙ ap (λ (b : Bool). (bit k h.status || (ltb 0 (matches_of k h n) && is_level (timer_at k h))) && b) (is_enabled-hpet_pulsed_times k n h)
@@ -32,7 +37,8 @@ has_edge_ticks-hpet_pulsed_times k n h = ap (λ (c : ℕ). bit 2 c && not (bit 1
 
 pub is_message-hpet_pulsed_times : (k n : ℕ) (h : HpetParts) → is_message k (hpet_pulsed_times n h) ≡ is_message k h
 is_message-hpet_pulsed_times k n h =
-    ap (λ (b : Bool). b && (has_edge_ticks k (hpet_pulsed_times n h) && not (is_legacy (hpet_pulsed_times n h) && ltb k 2))) (message_bit_at-hpet_pulsed_times k n h)
+    ap (λ (b : Bool). b && (has_edge_ticks k (hpet_pulsed_times n h) && not (is_legacy (hpet_pulsed_times n h) && ltb k 2)))
+    (message_bit_at-hpet_pulsed_times k n h)
     ∙ (ap (λ (b : Bool). message_bit_at k h && (b && not (is_legacy (hpet_pulsed_times n h) && ltb k 2))) (has_edge_ticks-hpet_pulsed_times k n h)
     ∙ ap (λ (b : Bool). message_bit_at k h && (has_edge_ticks k h && not (b && ltb k 2))) (is_legacy-hpet_pulsed_times n h))
 
@@ -43,7 +49,8 @@ has_ticks-hpet_pulsed_times k n h =
 
 pub message_of-hpet_pulsed_times : (k n : ℕ) (h : HpetParts) → message_of k (hpet_pulsed_times n h) ≡ message_of k h
 message_of-hpet_pulsed_times k n h =
-    ap (λ (b : Bool). cond b (Some (message_word_at k (hpet_pulsed_times n h) / 2 ^ 32, message_word_at k (hpet_pulsed_times n h) % 2 ^ 32)) None) (is_message-hpet_pulsed_times k n h)
+    ap (λ (b : Bool). cond b (Some (message_word_at k (hpet_pulsed_times n h) / 2 ^ 32, message_word_at k (hpet_pulsed_times n h) % 2 ^ 32)) None)
+    (is_message-hpet_pulsed_times k n h)
     ∙ ap (λ (w : ℕ). cond (is_message k h) (Some (w / 2 ^ 32, w % 2 ^ 32)) None) (message_word_at-hpet_pulsed_times k n h)
 
 -- ticks count up, by one where one is due
@@ -86,12 +93,14 @@ pub is_place : (i k : ℕ) (h : HpetParts) → IsHpet h → k < 8 → bit i (tim
 is_place i k h valid small set = elim (cases_lt k h.timers) [
   | inl inside ↦ inside
   | inr past ↦
-      let none : bit i (timer_at k h).config ≡ false = ap (λ (t : TimerParts). bit i t.config) (timer_at-absent k h valid small past) ∙ ap (λ (x : ℕ). eqb (x % 2) 1) (zero-div (2 ^ i)) in
+      let none : bit i (timer_at k h).config ≡ false = ap (λ (t : TimerParts). bit i t.config) (timer_at-absent k h valid small past)
+      ∙ ap (λ (x : ℕ). eqb (x % 2) 1) (zero-div (2 ^ i)) in
       absurd (false≢true (sym none ∙ set))
 ]
 
 -- the register at a place is one of the block
-pick : (timers : ℕ) (messages b : Bool) (r s : Register) → (b ≡ true → IsRegister timers messages r) → (b ≡ false → IsRegister timers messages s) → IsRegister timers messages (cond b r s)
+pick : (timers : ℕ) (messages b : Bool) (r s : Register) → (b ≡ true → IsRegister timers messages r) → (b ≡ false → IsRegister timers messages s)
+    → IsRegister timers messages (cond b r s)
 pick timers messages true r s f g = f refl
 pick timers messages false r s f g = g refl
 
@@ -128,7 +137,8 @@ IsHpet-hpet_written offset width v h valid = kept (is_effective offset width)
     written = register_written (register_at h.timers h.messages (offset - offset % 8)) width (eqb (offset % 8) 4) v h
 
     kept : (b : Bool) → IsHpet (cond b written h)
-    kept true = IsHpet-register_written (register_at h.timers h.messages (offset - offset % 8)) width (eqb (offset % 8) 4) v h valid (IsRegister-register_at h.timers h.messages (offset - offset % 8))
+    kept true = IsHpet-register_written (register_at h.timers h.messages (offset - offset % 8)) width (eqb (offset % 8) 4) v h valid
+        (IsRegister-register_at h.timers h.messages (offset - offset % 8))
     kept false = valid
 
 -- at power on they hold
@@ -165,7 +175,8 @@ plain-at_power_on (suc (suc (suc (suc (suc (suc zero)))))) h = (refl, refl)
 plain-at_power_on (suc (suc (suc (suc (suc (suc (suc zero))))))) h = (refl, refl)
 plain-at_power_on (suc (suc (suc (suc (suc (suc (suc (suc k)))))))) h = absurd (omega arith)
 
-pub IsHpet-hpet_at_power_on : (timers : ℕ) (messages : Bool) → (timers ≡ 3) ⊎ (timers ≡ 8) → (messages ≡ true → timers ≡ 8) → IsHpet (hpet_at_power_on timers messages)
+pub IsHpet-hpet_at_power_on : (timers : ℕ) (messages : Bool) → (timers ≡ 3) ⊎ (timers ≡ 8) → (messages ≡ true → timers ≡ 8)
+    → IsHpet (hpet_at_power_on timers messages)
 IsHpet-hpet_at_power_on timers messages some with_messages = record {
   config = omega arith;
   timers = some;

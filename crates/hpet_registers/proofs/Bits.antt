@@ -35,19 +35,25 @@ bit_at-with_bits p (suc n) s i =
     let before : bit_at (with_bits p n s) i ≡ max (bit_at s i) (cond (ltb i n && p i) 1 0) = bit_at-with_bits p n s i in
     elim (cases_order i n) [
       | inl same ↦
-          let out : bit_at (with_bits p n s) i ≡ bit_at s i = before ∙ (ap (λ (b : Bool). max (bit_at s i) (cond (b && p i) 1 0)) (le-ltb i n (omega arith)) ∙ omega arith) in
+          let out : bit_at (with_bits p n s) i ≡ bit_at s i = before
+          ∙ (ap (λ (b : Bool). max (bit_at s i) (cond (b && p i) 1 0)) (le-ltb i n (omega arith)) ∙ omega arith) in
           let now : ltb i (suc n) ≡ true = lt-ltb i (suc n) (omega arith) in
-          let step : bit_at (cond (p n) (bit_or (with_bits p n s) (2 ^ n)) (with_bits p n s)) n ≡ max (bit_at s i) (cond (p n) 1 0) = bit_at-set_here (p n) (with_bits p n s) n (bit_at s i) (ap (bit_at (with_bits p n s)) (sym same) ∙ out) (bit_at-lt s i) in
-          ap (bit_at (with_bits p (suc n) s)) same ∙ (step ∙ (ap (λ (j : ℕ). max (bit_at s i) (cond (p j) 1 0)) (sym same) ∙ ap (λ (b : Bool). max (bit_at s i) (cond (b && p i) 1 0)) (sym now)))
+          let step : bit_at (cond (p n) (bit_or (with_bits p n s) (2 ^ n)) (with_bits p n s)) n
+          ≡ max (bit_at s i) (cond (p n) 1 0) = bit_at-set_here (p n) (with_bits p n s) n (bit_at s i) (ap (bit_at (with_bits p n s)) (sym same)
+          ∙ out) (bit_at-lt s i) in
+          ap (bit_at (with_bits p (suc n) s)) same
+          ∙ (step ∙ (ap (λ (j : ℕ). max (bit_at s i) (cond (p j) 1 0)) (sym same) ∙ ap (λ (b : Bool). max (bit_at s i) (cond (b && p i) 1 0)) (sym now)))
       | inr other ↦ elim other [
         | inl less ↦
             let apart : i ≡ n → ⊥ = λ e. omega arith in
             let tests : ltb i n ≡ ltb i (suc n) = lt-ltb i n less ∙ sym (lt-ltb i (suc n) (omega arith)) in
-            bit_at-set (p n) (with_bits p n s) n i (max (bit_at s i) (cond (ltb i (suc n) && p i) 1 0)) (before ∙ ap (λ (b : Bool). max (bit_at s i) (cond (b && p i) 1 0)) tests) (bit_at-pow_other n i apart)
+            bit_at-set (p n) (with_bits p n s) n i (max (bit_at s i) (cond (ltb i (suc n) && p i) 1 0)) (before
+            ∙ ap (λ (b : Bool). max (bit_at s i) (cond (b && p i) 1 0)) tests) (bit_at-pow_other n i apart)
         | inr more ↦
             let apart : i ≡ n → ⊥ = λ e. omega arith in
             let tests : ltb i n ≡ ltb i (suc n) = le-ltb i n (omega arith) ∙ sym (le-ltb i (suc n) (omega arith)) in
-            bit_at-set (p n) (with_bits p n s) n i (max (bit_at s i) (cond (ltb i (suc n) && p i) 1 0)) (before ∙ ap (λ (b : Bool). max (bit_at s i) (cond (b && p i) 1 0)) tests) (bit_at-pow_other n i apart)
+            bit_at-set (p n) (with_bits p n s) n i (max (bit_at s i) (cond (ltb i (suc n) && p i) 1 0)) (before
+            ∙ ap (λ (b : Bool). max (bit_at s i) (cond (b && p i) 1 0)) tests) (bit_at-pow_other n i apart)
       ]
     ]
 

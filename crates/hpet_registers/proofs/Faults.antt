@@ -1,5 +1,6 @@
 -- No field's condition fails exactly where all hold.
-use Rattle.std.proofs.Common.{◌≡◌, ℕ, zero, suc, ◌+◌, ◌<◌, ◌≤◌, Bool, true, false, cond, ◌||◌, not, ltb, leb, eqb, Option, Some, None, ◌⊎◌, refl, ap, sym, ◌∙◌, inl, inr, arith}
+use Rattle.std.proofs.Common.{◌≡◌, ℕ, zero, suc, ◌+◌, ◌<◌, ◌≤◌, Bool, true, false, cond, ◌||◌, not, ltb, leb, eqb, Option, Some, None, ◌⊎◌, refl, ap, sym, ◌∙◌}
+use Rattle.std.proofs.Common.{inl, inr, arith}
 use Rattle.std.proofs.lemmas.Bool.{cases_lt, cases_eq, leb-true, eqb-true, le-leb, eq-eqb}
 use Rattle.hpet_comparator.specs.declared.parts.TimerParts.{TimerParts}
 use Rattle.hpet_comparator.specs.declared.parts.TimerField.{TimerField}
@@ -8,7 +9,8 @@ use Rattle.hpet_comparator.specs.declared.parts.TimerField.TheVariants as timer_
 use Rattle.hpet_registers.specs.declared.parts.HpetParts.{HpetParts}
 use Rattle.hpet_registers.specs.declared.parts.HpetField.{HpetField}
 use Rattle.hpet_registers.specs.declared.parts.HpetField.TheVariants.{Timers, Messages, Config, Status, MessageBit, MessageWord}
-use Rattle.hpet_registers.specs.Parts.{no_timer, timer_at, message_bit_at, message_word_at, IsPlace, IsHpet, timers_valid, messages_valid, hpet_config_valid, hpet_status_valid, rest_fault, place_fault, of_timer, timer_fault_at, message_fault_at, or_else, first_below, hpet_fault}
+use Rattle.hpet_registers.specs.Parts.{no_timer, timer_at, message_bit_at, message_word_at, IsPlace, IsHpet, timers_valid, messages_valid, hpet_config_valid}
+use Rattle.hpet_registers.specs.Parts.{hpet_status_valid, rest_fault, place_fault, of_timer, timer_fault_at, message_fault_at, or_else, first_below, hpet_fault}
 
 -- one place more
 pub first_below-more : (fault : ℕ → Option HpetField) (n : ℕ) (r : Option HpetField) → first_below fault n ≡ None → fault n ≡ r → first_below fault (n + 1) ≡ r
@@ -58,8 +60,12 @@ of_timer-none k (Some field) e = cc
 
 rest-none : (t : TimerParts) → rest_fault t ≡ None → t ≡ no_timer
 rest-none t none =
-    let config : (eqb t.config 0 ≡ true) × (cond (eqb t.comparator 0) (cond (eqb t.period 0) None (Some timer_field.Period)) (Some timer_field.Comparator) ≡ None) = peel (eqb t.config 0) timer_field.Config (cond (eqb t.comparator 0) (cond (eqb t.period 0) None (Some timer_field.Period)) (Some timer_field.Comparator)) none in
-    let comparator : (eqb t.comparator 0 ≡ true) × (cond (eqb t.period 0) None (Some timer_field.Period) ≡ None) = peel (eqb t.comparator 0) timer_field.Comparator (cond (eqb t.period 0) None (Some timer_field.Period)) config.1 in
+    let config : (eqb t.config 0 ≡ true) ×
+    (cond (eqb t.comparator 0) (cond (eqb t.period 0) None (Some timer_field.Period)) (Some timer_field.Comparator) ≡ None) = peel
+    (eqb t.config 0) timer_field.Config
+    (cond (eqb t.comparator 0) (cond (eqb t.period 0) None (Some timer_field.Period)) (Some timer_field.Comparator)) none in
+    let comparator : (eqb t.comparator 0 ≡ true) × (cond (eqb t.period 0) None (Some timer_field.Period) ≡ None) = peel
+    (eqb t.comparator 0) timer_field.Comparator (cond (eqb t.period 0) None (Some timer_field.Period)) config.1 in
     let period : (eqb t.period 0 ≡ true) × (None ≡ None) = peel (eqb t.period 0) timer_field.Period None comparator.1 in
     ap (λ (x : ℕ). record t { config = x }) (eqb-true t.config 0 config.0)
     ∙ (ap (λ (x : ℕ). record t { config = 0; comparator = x }) (eqb-true t.comparator 0 comparator.0)
@@ -109,7 +115,8 @@ fact-status : (n s : ℕ) → (n ≡ 3) ⊎ (n ≡ 8) → (n ≡ 3 → s ≤ 7) 
 fact-status n s (inl e) h = ap (λ (x : ℕ). eqb x 8 || leb s 7) e ∙ le-leb s 7 (h e)
 fact-status n s (inr e) h = ap (λ (x : ℕ). eqb x 8 || leb s 7) e
 
-plain-fact : (k : ℕ) (m b : Bool) (w : ℕ) → cond m None (cond b (Some (MessageBit k)) (cond (eqb w 0) None (Some (MessageWord k)))) ≡ None → m ≡ false → (b ≡ false) × (w ≡ 0)
+plain-fact : (k : ℕ) (m b : Bool) (w : ℕ) → cond m None (cond b (Some (MessageBit k)) (cond (eqb w 0) None (Some (MessageWord k)))) ≡ None → m ≡ false
+    → (b ≡ false) × (w ≡ 0)
 plain-fact k true b w e off = cc
 plain-fact k false true w e off = cc
 plain-fact k false false w e off = (refl, by_test (eqb w 0) refl e)
@@ -118,7 +125,8 @@ plain-fact k false false w e off = (refl, by_test (eqb w 0) refl e)
     by_test true t _ = eqb-true w 0 t
     by_test false t f = cc
 
-fact-plain : (k : ℕ) (m b : Bool) (w : ℕ) → (m ≡ false → (b ≡ false) × (w ≡ 0)) → cond m None (cond b (Some (MessageBit k)) (cond (eqb w 0) None (Some (MessageWord k)))) ≡ None
+fact-plain : (k : ℕ) (m b : Bool) (w : ℕ) → (m ≡ false → (b ≡ false) × (w ≡ 0))
+    → cond m None (cond b (Some (MessageBit k)) (cond (eqb w 0) None (Some (MessageWord k)))) ≡ None
 fact-plain k true b w h = refl
 fact-plain k false b w h =
     ap (λ (x : Bool). cond x (Some (MessageBit k)) (cond (eqb w 0) None (Some (MessageWord k)))) (h refl).0
@@ -135,12 +143,14 @@ IsHpet-no_fault h none =
     let b : (messages_valid h ≡ true) × (config ≡ None) = peeled (messages_valid h) Messages config a.1 in
     let c : (hpet_config_valid h ≡ true) × (status ≡ None) = peeled (hpet_config_valid h) Config status b.1 in
     let d : (hpet_status_valid h ≡ true) × (places ≡ None) = peeled (hpet_status_valid h) Status places c.1 in
-    let e : (first_below (timer_fault_at h) 8 ≡ None) × (first_below (message_fault_at h) 8 ≡ None) = both-none (first_below (timer_fault_at h) 8) (first_below (message_fault_at h) 8) d.1 in
+    let e : (first_below (timer_fault_at h) 8 ≡ None) × (first_below (message_fault_at h) 8 ≡ None) = both-none (first_below (timer_fault_at h) 8)
+    (first_below (message_fault_at h) 8) d.1 in
     record {
       config = leb-true h.config 3 c.0;
       timers = timers-fact h.timers a.0;
       status = status-fact h.timers h.status d.0;
-      places = λ k small. IsPlace-none (ltb k h.timers) (timer_at k h) (of_timer-none k (place_fault (ltb k h.timers) (timer_at k h)) (first_below-none (timer_fault_at h) 8 e.0 k small));
+      places = λ k small. IsPlace-none (ltb k h.timers) (timer_at k h)
+          (of_timer-none k (place_fault (ltb k h.timers) (timer_at k h)) (first_below-none (timer_fault_at h) 8 e.0 k small));
       messages = messages-fact h.messages h.timers b.0;
       plain = λ off k small. plain-fact k h.messages (message_bit_at k h) (message_word_at k h) (first_below-none (message_fault_at h) 8 e.1 k small) off;
     }
@@ -152,8 +162,11 @@ no_fault-IsHpet h valid =
     let status : Option HpetField = cond (not (hpet_status_valid h)) (Some Status) places in
     let config : Option HpetField = cond (not (hpet_config_valid h)) (Some Config) status in
     let messages : Option HpetField = cond (not (messages_valid h)) (Some Messages) config in
-    let timer_none : first_below (timer_fault_at h) 8 ≡ None = none-first_below (timer_fault_at h) 8 (λ k small. ap (of_timer k) (none-IsPlace (ltb k h.timers) (timer_at k h) (valid.places k small))) in
-    let message_none : first_below (message_fault_at h) 8 ≡ None = none-first_below (message_fault_at h) 8 (λ k small. fact-plain k h.messages (message_bit_at k h) (message_word_at k h) (λ off. valid.plain off k small)) in
+    let timer_none : first_below (timer_fault_at h) 8
+    ≡ None = none-first_below (timer_fault_at h) 8 (λ k small. ap (of_timer k) (none-IsPlace (ltb k h.timers) (timer_at k h) (valid.places k small))) in
+    let message_none : first_below (message_fault_at h) 8
+    ≡ None = none-first_below (message_fault_at h) 8
+    (λ k small. fact-plain k h.messages (message_bit_at k h) (message_word_at k h) (λ off. valid.plain off k small)) in
     peel_on (timers_valid h) Timers messages (fact-timers h.timers valid.timers)
     (peel_on (messages_valid h) Messages config (fact-messages h.messages h.timers valid.messages)
     (peel_on (hpet_config_valid h) Config status (le-leb h.config 3 valid.config)

@@ -5,7 +5,8 @@ use Rattle.std.proofs.lemmas.Nat.{and_comm, and_assoc}
 use Rattle.hpet_counter.specs.Part.{part_written}
 use Rattle.hpet_registers.specs.declared.parts.HpetParts.{HpetParts}
 use Rattle.hpet_registers.specs.declared.register.Register.{Register}
-use Rattle.hpet_registers.specs.declared.register.Register.TheVariants.{Capabilities, Configuration, Status, MainCounter, TimerConfig, TimerComparator, TimerMessage, Reserved}
+use Rattle.hpet_registers.specs.declared.register.Register.TheVariants.{Capabilities, Configuration, Status, MainCounter, TimerConfig, TimerComparator}
+use Rattle.hpet_registers.specs.declared.register.Register.TheVariants.{TimerMessage, Reserved}
 use Rattle.hpet_registers.specs.Access.{register_written}
 
 -- what is masked has no bit that it hadn't
@@ -13,7 +14,8 @@ masked : (s m : ℕ) → bit_and (bit_and s m) s ≡ bit_and s m
 masked s m = and_comm (bit_and s m) s ∙ (sym (and_assoc m s s) ∙ ap (λ (x : ℕ). bit_and x m) (and_self s))
 
 -- no write sets a status bit
-pub status-register_written : (r : Register) (width : ℕ) (high : Bool) (v : ℕ) (h : HpetParts) → bit_and (register_written r width high v h).status h.status ≡ (register_written r width high v h).status
+pub status-register_written : (r : Register) (width : ℕ) (high : Bool) (v : ℕ) (h : HpetParts)
+    → bit_and (register_written r width high v h).status h.status ≡ (register_written r width high v h).status
 status-register_written Capabilities width high v h = and_self h.status
 status-register_written Configuration width high v h = and_self h.status
 status-register_written Status width high v h = masked h.status (0xff - part_written width high v 0 % 2 ^ 8)

@@ -1,8 +1,9 @@
 -- The loop over the timers, and the status that it leaves.
-use Rattle.std.proofs.Common.{◌≡◌, ℕ, zero, suc, ◌+◌, ◌^◌, ◌<◌, ◌≤◌, Bool, true, false, cond, ◌&&◌, ltb, List, [], ◌∷◌, map, length, get_or, bit_or, refl, ap, sym, subst, ◌∙◌, ◌⊎◌, inl, inr, arith}
+use Rattle.std.proofs.Common.{◌≡◌, ℕ, zero, suc, ◌+◌, ◌^◌, ◌<◌, ◌≤◌, Bool, true, false, cond, ◌&&◌, ltb, List, [], ◌∷◌, map, length, get_or, bit_or, refl, ap}
+use Rattle.std.proofs.Common.{sym, subst, ◌∙◌, ◌⊎◌, inl, inr, arith}
 use Rattle.std.proofs.Math.ListN.{set, length-set}
 use Rattle.std.proofs.lemmas.Bool.{cases_eq, cases_lt}
-use Rattle.std.proofs.lemmas.List.{get_or-set_same, get_or-set_other, ext_get_or, length-map}
+use Rattle.std.proofs.lemmas.List.{get_or-set_same, get_or-set_other, ext_get_or, length-map, set-get_or}
 use Rattle.hpet_counter.specs.Counter.{counter_after}
 use Rattle.hpet_comparator.specs.declared.parts.TimerParts.{TimerParts}
 use Rattle.hpet_comparator.specs.declared.stretch.Matches.{Matches}
@@ -15,12 +16,15 @@ use Rattle.hpet_registers.specs.private.Matches.{AreMatches}
 use Rattle.hpet_registers.proofs.Bits.{with_bits-same}
 use Rattle.hpet_registers.proofs.Conditions.{pulsed_times-no_timer}
 use Rattle.hpet_registers.proofs.Behind.{timer_at-absent}
-use Rattle.hpet_registers.proofs.Product.{same_fields, kept-hpet_pulsed_times, counter-hpet_pulsed_times, timer-hpet_pulsed_times, status-hpet_pulsed_times, matches_of-running, matches_of-absent, get_or-pulsed_times}
+use Rattle.hpet_registers.proofs.Product.{same_fields, kept-hpet_pulsed_times, counter-hpet_pulsed_times, timer-hpet_pulsed_times, status-hpet_pulsed_times}
+use Rattle.hpet_registers.proofs.Product.{matches_of-running, matches_of-absent, get_or-pulsed_times}
 
 -- what holds of each place below i, and of place i that is set, holds of each below i + 1
-pub set-more : {A : Type 0} (P : ℕ → A → Type 0) (l : List A) (i : ℕ) (x d : A) → i < length l → ((j : ℕ) → j < i → P j (get_or l j d)) → P i x → (j : ℕ) → j < i + 1 → P j (get_or (set l i x) j d)
+pub set-more : {A : Type 0} (P : ℕ → A → Type 0) (l : List A) (i : ℕ) (x d : A) → i < length l → ((j : ℕ) → j < i → P j (get_or l j d)) → P i x → (j : ℕ)
+    → j < i + 1 → P j (get_or (set l i x) j d)
 set-more {A} P l i x d inside before here j less = elim (cases_eq j i) [
-  | inl same ↦ subst (λ (y : A). P j y) (sym (ap (λ (k : ℕ). get_or (set l i x) k d) same ∙ get_or-set_same l i x d inside)) (subst (λ (k : ℕ). P k x) (sym same) here)
+  | inl same ↦ subst (λ (y : A). P j y) (sym (ap (λ (k : ℕ). get_or (set l i x) k d) same ∙ get_or-set_same l i x d inside))
+      (subst (λ (k : ℕ). P k x) (sym same) here)
   | inr other ↦ subst (λ (y : A). P j y) (sym (get_or-set_other l i j x d other)) (before j (below j i less other))
 ]
   where
@@ -39,16 +43,19 @@ pub all-pulsed : (c n : ℕ) (h : HpetParts) (us : List TimerParts) → IsHpet h
     → ((k : ℕ) → k < h.timers → get_or us k no_timer ≡ pulsed_times c n (timer_at k h)) → ((k : ℕ) → h.timers ≤ k → get_or us k no_timer ≡ timer_at k h)
     → us ≡ map (pulsed_times c n) h.timer
 all-pulsed c n h us valid long size here behind =
-    ext_get_or no_timer us (map (pulsed_times c n) h.timer) (size ∙ sym (length-map h.timer (pulsed_times c n) ∙ long)) (λ k small. place k (omega (arith, size, small)) ∙ sym (get_or-pulsed_times c n k h.timer))
+    ext_get_or no_timer us (map (pulsed_times c n) h.timer) (size
+    ∙ sym (length-map h.timer (pulsed_times c n) ∙ long)) (λ k small. place k (omega (arith, size, small)) ∙ sym (get_or-pulsed_times c n k h.timer))
   where
     place : (k : ℕ) → k < 8 → get_or us k no_timer ≡ pulsed_times c n (timer_at k h)
     place k small = elim (cases_lt k h.timers) [
       | inl inside ↦ here k inside
-      | inr past ↦ behind k past ∙ (timer_at-absent k h valid small past ∙ (sym (pulsed_times-no_timer c n) ∙ ap (pulsed_times c n) (sym (timer_at-absent k h valid small past))))
+      | inr past ↦ behind k past
+          ∙ (timer_at-absent k h valid small past ∙ (sym (pulsed_times-no_timer c n) ∙ ap (pulsed_times c n) (sym (timer_at-absent k h valid small past))))
     ]
 
 -- the bits from the last timer on aren't raised
-pub with_bits-timers : (p q : ℕ → Bool) (h : HpetParts) → IsHpet h → ((k : ℕ) → k < h.timers → p k ≡ q k) → ((k : ℕ) → h.timers ≤ k → q k ≡ false) → with_bits p h.timers h.status ≡ with_bits q 8 h.status
+pub with_bits-timers : (p q : ℕ → Bool) (h : HpetParts) → IsHpet h → ((k : ℕ) → k < h.timers → p k ≡ q k) → ((k : ℕ) → h.timers ≤ k → q k ≡ false)
+    → with_bits p h.timers h.status ≡ with_bits q 8 h.status
 with_bits-timers p q h valid same none = split valid.timers
   where
     few : (n : ℕ) → h.timers ≤ n → with_bits q n h.status ≡ with_bits q (suc n) h.status
@@ -57,7 +64,8 @@ with_bits-timers p q h valid same none = split valid.timers
     split : (h.timers ≡ 3) ⊎ (h.timers ≡ 8) → with_bits p h.timers h.status ≡ with_bits q 8 h.status
     split (inl three) =
         with_bits-same p q h.timers h.status same
-        ∙ (ap (λ (m : ℕ). with_bits q m h.status) three ∙ (few 3 (omega arith) ∙ (few 4 (omega arith) ∙ (few 5 (omega arith) ∙ (few 6 (omega arith) ∙ few 7 (omega arith))))))
+        ∙ (ap (λ (m : ℕ). with_bits q m h.status) three
+        ∙ (few 3 (omega arith) ∙ (few 4 (omega arith) ∙ (few 5 (omega arith) ∙ (few 6 (omega arith) ∙ few 7 (omega arith))))))
     split (inr eight) = with_bits-same p q h.timers h.status same ∙ ap (λ (m : ℕ). with_bits q m h.status) eight
 
 -- counter, timers and status together are the HPET behind n pulses
@@ -71,8 +79,10 @@ stretched n h valid runs fits =
     same_fields h (sym (counter-hpet_pulsed_times n h runs fits)) (raised ∙ sym (status-hpet_pulsed_times n h)) (sym (timer-hpet_pulsed_times n h runs fits))
     ∙ sym (kept-hpet_pulsed_times n h)
   where
-    raised : with_bits (λ j. ltb 0 (matches_in h.counter (timer_at j h) n) && is_level (timer_at j h)) h.timers h.status ≡ with_bits (λ k. ltb 0 (matches_of k h n) && is_level (timer_at k h)) 8 h.status
-    raised = with_bits-timers (λ j. ltb 0 (matches_in h.counter (timer_at j h) n) && is_level (timer_at j h)) (λ k. ltb 0 (matches_of k h n) && is_level (timer_at k h)) h valid
+    raised : with_bits (λ j. ltb 0 (matches_in h.counter (timer_at j h) n) && is_level (timer_at j h)) h.timers h.status
+        ≡ with_bits (λ k. ltb 0 (matches_of k h n) && is_level (timer_at k h)) 8 h.status
+    raised = with_bits-timers (λ j. ltb 0 (matches_in h.counter (timer_at j h) n) && is_level (timer_at j h))
+        (λ k. ltb 0 (matches_of k h n) && is_level (timer_at k h)) h valid
         (λ k inside. ap (λ (m : ℕ). ltb 0 m && is_level (timer_at k h)) (sym (matches_of-running k n h runs fits inside)))
         (λ k past. ap (λ (m : ℕ). ltb 0 m && is_level (timer_at k h)) (matches_of-absent k n h past))
 
@@ -89,7 +99,11 @@ pub record ArePulsed (h : HpetParts) (n k : ℕ) (p : HpetParts) (ms : List Matc
 
 -- one timer more
 pub ArePulsed-more : (h : HpetParts) (n k : ℕ) (p q : HpetParts) (ms : List Matches) (m : Matches) → ArePulsed h n k p ms → k < 8
-    → q ≡ record p { timer = set p.timer k (pulsed_times p.counter n (timer_at k p)); status = cond (ltb 0 m.count && is_level (timer_at k p)) (bit_or p.status (2 ^ k)) p.status }
+    → q ≡ record p {
+      timer = set p.timer k (pulsed_times p.counter n (timer_at k p));
+      status = cond (ltb 0 m.count && is_level (timer_at k p))
+          (bit_or p.status (2 ^ k)) p.status;
+    }
     → AreMatches p.counter n (timer_at k p) m → ArePulsed h n (k + 1) q (set ms k m)
 ArePulsed-more h n k p q ms m known small next found = record {
   state =
@@ -100,7 +114,8 @@ ArePulsed-more h n k p q ms m known small next found = record {
   size = ap length timers ∙ (length-set p.timer k (pulsed_times p.counter n (timer_at k p)) ∙ known.size);
   places = length-set ms k m ∙ known.places;
   here = λ j less. ap (λ (ts : List TimerParts). get_or ts j no_timer) timers
-      ∙ set-more (λ i t. t ≡ pulsed_times h.counter n (timer_at i h)) p.timer k (pulsed_times p.counter n (timer_at k p)) no_timer (omega (arith, known.size)) known.here pulsed_here j less;
+      ∙ set-more (λ i t. t ≡ pulsed_times h.counter n (timer_at i h)) p.timer k (pulsed_times p.counter n (timer_at k p)) no_timer
+      (omega (arith, known.size)) known.here pulsed_here j less;
   ahead = λ j past. ap (λ (ts : List TimerParts). get_or ts j no_timer) timers
       ∙ (set-behind p.timer k j (pulsed_times p.counter n (timer_at k p)) no_timer past ∙ known.ahead j (omega arith));
   matches = set-more (λ i x. AreMatches h.counter n (timer_at i h) x) ms k m no_matches (omega (arith, known.places)) known.matches found_here;
@@ -143,14 +158,28 @@ ArePulsed-more h n k p q ms m known small next found = record {
 
 -- all timers
 pub ArePulsed-all : (h : HpetParts) (n k : ℕ) (p : HpetParts) (ms : List Matches) → IsHpet h → ArePulsed h n k p ms → k ≡ h.timers
-    → p ≡ record h { timer = map (pulsed_times h.counter n) h.timer; status = with_bits (λ j. ltb 0 (matches_in h.counter (timer_at j h) n) && is_level (timer_at j h)) h.timers h.status }
+    → p ≡ record h {
+      timer = map (pulsed_times h.counter n) h.timer;
+      status = with_bits
+          (λ j. ltb 0 (matches_in h.counter (timer_at j h) n) && is_level (timer_at j h)) h.timers h.status;
+    }
 ArePulsed-all h n k p ms valid known last =
     known.state
-    ∙ (ap (λ (ts : List TimerParts). record h { timer = ts; status = with_bits (λ j. ltb 0 (matches_in h.counter (timer_at j h) n) && is_level (timer_at j h)) k h.status }) (all-pulsed h.counter n h p.timer valid known.long known.size (λ j less. known.here j (omega arith)) (λ j past. known.ahead j (omega arith)))
-    ∙ ap (λ (i : ℕ). record h { timer = map (pulsed_times h.counter n) h.timer; status = with_bits (λ j. ltb 0 (matches_in h.counter (timer_at j h) n) && is_level (timer_at j h)) i h.status }) last)
+    ∙ (ap (λ (ts : List TimerParts). record h {
+      timer = ts;
+      status = with_bits
+          (λ j. ltb 0 (matches_in h.counter (timer_at j h) n) && is_level (timer_at j h)) k h.status;
+    })
+    (all-pulsed h.counter n h p.timer valid known.long known.size (λ j less. known.here j (omega arith)) (λ j past. known.ahead j (omega arith)))
+    ∙ ap (λ (i : ℕ). record h {
+      timer = map (pulsed_times h.counter n) h.timer;
+      status = with_bits
+          (λ j. ltb 0 (matches_in h.counter (timer_at j h) n) && is_level (timer_at j h)) i h.status;
+    }) last)
 
 -- eight times no matches
-pub timer_matches-none : (k : ℕ) → timer_matches (no_matches ∷ no_matches ∷ no_matches ∷ no_matches ∷ no_matches ∷ no_matches ∷ no_matches ∷ no_matches ∷ []) k ≡ no_matches
+pub timer_matches-none : (k : ℕ)
+    → timer_matches (no_matches ∷ no_matches ∷ no_matches ∷ no_matches ∷ no_matches ∷ no_matches ∷ no_matches ∷ no_matches ∷ []) k ≡ no_matches
 timer_matches-none zero = refl
 timer_matches-none (suc zero) = refl
 timer_matches-none (suc (suc zero)) = refl
@@ -160,3 +189,13 @@ timer_matches-none (suc (suc (suc (suc (suc zero))))) = refl
 timer_matches-none (suc (suc (suc (suc (suc (suc zero)))))) = refl
 timer_matches-none (suc (suc (suc (suc (suc (suc (suc zero))))))) = refl
 timer_matches-none (suc (suc (suc (suc (suc (suc (suc (suc k)))))))) = refl
+
+-- a timer without a match leaves all as it was
+pub unmatched : (h : HpetParts) (k count : ℕ) (moved : TimerParts) → count ≡ 0 → moved ≡ timer_at k h
+    → h ≡ record h { timer = set h.timer k moved; status = cond (ltb 0 count && is_level (timer_at k h)) (bit_or h.status (2 ^ k)) h.status }
+unmatched h k count moved none still = sym (
+    ap (λ (t : TimerParts). record h { timer = set h.timer k t; status = cond (ltb 0 count && is_level (timer_at k h)) (bit_or h.status (2 ^ k)) h.status })
+    still
+    ∙ (ap (λ (ts : List TimerParts). record h { timer = ts; status = cond (ltb 0 count && is_level (timer_at k h)) (bit_or h.status (2 ^ k)) h.status })
+    (set-get_or h.timer k no_timer)
+    ∙ ap (λ (m : ℕ). record h { status = cond (ltb 0 m && is_level (timer_at k h)) (bit_or h.status (2 ^ k)) h.status }) none))

@@ -5,7 +5,8 @@ use Rattle.std.proofs.lemmas.Bool.{false≢true}
 use Rattle.std.specs.List.{range_with_len}
 use Rattle.hpet_registers.specs.declared.parts.HpetParts.{HpetParts}
 use Rattle.hpet_registers.specs.declared.register.Register.{Register}
-use Rattle.hpet_registers.specs.declared.register.Register.TheVariants.{Capabilities, Configuration, Status, MainCounter, TimerConfig, TimerComparator, TimerMessage, Reserved}
+use Rattle.hpet_registers.specs.declared.register.Register.TheVariants.{Capabilities, Configuration, Status, MainCounter, TimerConfig, TimerComparator}
+use Rattle.hpet_registers.specs.declared.register.Register.TheVariants.{TimerMessage, Reserved}
 use Rattle.hpet_registers.specs.Parts.{IsHpet, timer_at, message_bit_at}
 use Rattle.hpet_registers.specs.Register.{register_at, IsRegister}
 use Rattle.hpet_registers.specs.Access.{register_value, hpet_read, is_effective, part_of}
@@ -41,7 +42,8 @@ IsRegister-three o =
     (pick (eqb o 0x148) (TimerComparator 2) Reserved (omega arith) tt)))))))))
 
 -- what they read
-value-three : (r : Register) (h : HpetParts) → h.timers ≡ 3 → h.messages ≡ false → ((k : ℕ) → k < 8 → message_bit_at k h ≡ false) → IsRegister 3 false r → register_value r h ≡ three_timer_value r h
+value-three : (r : Register) (h : HpetParts) → h.timers ≡ 3 → h.messages ≡ false → ((k : ℕ) → k < 8 → message_bit_at k h ≡ false) → IsRegister 3 false r
+    → register_value r h ≡ three_timer_value r h
 value-three Capabilities h three off bits range = omega arith
 value-three Configuration h three off bits range = refl
 value-three Status h three off bits range = refl

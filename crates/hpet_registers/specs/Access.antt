@@ -1,24 +1,31 @@
--- What a register holds, and accesses (IA-PC HPET specification 1.0a, sections 2.3.4 to 2.3.10 and 2.4).
-use Rattle.std.specs.Prelude.{ℕ, ◌+◌, ◌-◌, ◌*◌, ◌/◌, ◌%◌, ◌^◌, Bool, true, false, ◌&&◌, ◌||◌, ◌==◌, if◌then◌else◌, slice_set, bit_and}
+-- What a register holds, and accesses (IA-PC HPET specification 1.0a, sections 2.3.4 to 2.3.10 and
+-- 2.4).
+use Rattle.std.specs.Prelude.{ℕ, ◌+◌, ◌-◌, ◌*◌, ◌/◌, ◌%◌, ◌^◌, Bool, true, false, ◌&&◌, ◌||◌, ◌==◌}
+use Rattle.std.specs.Prelude.{if◌then◌else◌, slice_set, bit_and}
 use Rattle.hpet_counter.specs.Part.{part_written, is_register_width}
 use Rattle.clk_units.specs.Bits.{bit}
 use Rattle.hpet_comparator.specs.Config.{config_register, config_written}
 use Rattle.hpet_comparator.specs.Comparator.{comparator_written}
 use Rattle.hpet_registers.specs.declared.parts.HpetParts.{HpetParts}
 use Rattle.hpet_registers.specs.declared.register.Register.{Register}
-use Rattle.hpet_registers.specs.declared.register.Register.TheVariants.{Capabilities, Configuration, Status, MainCounter, TimerConfig, TimerComparator, TimerMessage, Reserved}
+use Rattle.hpet_registers.specs.declared.register.Register.TheVariants.{Capabilities, Configuration}
+use Rattle.hpet_registers.specs.declared.register.Register.TheVariants.{Status, MainCounter}
+use Rattle.hpet_registers.specs.declared.register.Register.TheVariants.{TimerConfig}
+use Rattle.hpet_registers.specs.declared.register.Register.TheVariants.{TimerComparator}
+use Rattle.hpet_registers.specs.declared.register.Register.TheVariants.{TimerMessage, Reserved}
 use Rattle.hpet_registers.specs.Parts.{timer_at, message_bit_at, message_word_at}
 use Rattle.hpet_registers.specs.Register.{register_at}
 
--- the configuration register of timer k: with messages bit 15, FSB capable, is 1, and bit 14 is kept here (2.3.8)
+-- the configuration register of timer k: with messages bit 15, FSB capable, is 1, and bit 14 is
+-- kept here (2.3.8)
 abbrev pub timer_config_register : ℕ → HpetParts → ℕ
 timer_config_register k h =
     config_register (timer_at k h)
     + (if message_bit_at k h then 0x4000 else 0)
     + (if h.messages then 0x8000 else 0)
 
--- what a register holds. Capabilities: 10 ns in bits 63 to 32, vendor 8086h, LEG_RT_CAP, 64-bit counter, the
--- last timer in bits 12 to 8, revision 1 (2.3.4)
+-- what a register holds. Capabilities: 10 ns in bits 63 to 32, vendor 8086h, LEG_RT_CAP, 64-bit
+-- counter, the last timer in bits 12 to 8, revision 1 (2.3.4)
 abbrev pub register_value : Register → HpetParts → ℕ
 register_value Capabilities h = 0x009896808086a001 + (h.timers - 1) * 2 ^ 8
 register_value Configuration h = h.config
@@ -36,9 +43,10 @@ timer_config_written k v h = record h {
   message_bit = if h.messages then slice_set h.message_bit k (bit 14 v) else h.message_bit;
 }
 
--- a write to a register, whole or to one half. Status: a written 1 clears its bit, and a half that isn't written
--- clears none (2.3.6). Every other half that isn't written stays as it reads; fixed bits, capabilities and
--- reserved places take no write; the main counter takes one at any time, also while it runs (own)
+-- a write to a register, whole or to one half. Status: a written 1 clears its bit, and a half that
+-- isn't written clears none (2.3.6). Every other half that isn't written stays as it reads; fixed
+-- bits, capabilities and reserved places take no write; the main counter takes one at any time,
+-- also while it runs (own)
 abbrev pub register_written : Register → ℕ → Bool → ℕ → HpetParts → HpetParts
 register_written Capabilities width high v h = h
 register_written Configuration width high v h =
@@ -57,9 +65,10 @@ register_written (TimerMessage k) width high v h =
     }
 register_written Reserved width high v h = h
 
--- a register of which a whole write is the writes of its low and then of its high half. A timer's configuration is
--- one: its high half is fixed, and VAL_SET stays as the low half wrote it. A comparator isn't: the first of its
--- halves clears VAL_SET, so that the second may leave the comparator (comparator_written)
+-- a register of which a whole write is the writes of its low and then of its high half. A timer's
+-- configuration is one: its high half is fixed, and VAL_SET stays as the low half wrote it. A
+-- comparator isn't: the first of its halves clears VAL_SET, so that the second may leave the
+-- comparator (comparator_written)
 abbrev pub is_plain : Register → Bool
 is_plain (TimerComparator k) = false
 is_plain _ = true

@@ -1,6 +1,8 @@
--- The fields of the HPET and their conditions. Sections are those of the IA-PC HPET specification 1.0a; (own) marks
--- what it leaves open and this project chose.
-use Rattle.std.specs.Prelude.{◌≡◌, ℕ, zero, suc, ◌<◌, ◌≤◌, Bool, true, false, ◌||◌, ◌==◌, not, nat_lt, nat_le, if◌then◌else◌, List, [], ◌∷◌, slice_index_or, ◌⊎◌, Option, Some, None}
+-- The fields of the HPET and their conditions. Sections are those of the IA-PC HPET specification
+-- 1.0a; (own) marks what it leaves open and this project chose.
+use Rattle.std.specs.Prelude.{◌≡◌, ℕ, zero, suc, ◌<◌, ◌≤◌, Bool, true, false, ◌||◌, ◌==◌, not}
+use Rattle.std.specs.Prelude.{nat_lt, nat_le, if◌then◌else◌, List, [], ◌∷◌, slice_index_or, ◌⊎◌}
+use Rattle.std.specs.Prelude.{Option, Some, None}
 use Rattle.hpet_comparator.specs.declared.parts.TimerParts.{TimerParts}
 use Rattle.hpet_comparator.specs.declared.parts.TimerField.{TimerField}
 use Rattle.hpet_comparator.specs.declared.parts.TimerField.TheVariants.{Comparator, Period}
@@ -9,7 +11,9 @@ use Rattle.clk_units.specs.Bits.{bit}
 use Rattle.hpet_comparator.specs.Parts.{IsTimer, timer_fault, timer_at_power_on}
 use Rattle.hpet_registers.specs.declared.parts.HpetParts.{HpetParts}
 use Rattle.hpet_registers.specs.declared.parts.HpetField.{HpetField}
-use Rattle.hpet_registers.specs.declared.parts.HpetField.TheVariants.{Timers, Messages, Config, Status, Timer, MessageBit, MessageWord}
+use Rattle.hpet_registers.specs.declared.parts.HpetField.TheVariants.{Timers, Messages, Config}
+use Rattle.hpet_registers.specs.declared.parts.HpetField.TheVariants.{Status, Timer, MessageBit}
+use Rattle.hpet_registers.specs.declared.parts.HpetField.TheVariants.{MessageWord}
 
 -- what the place of a timer that isn't there holds
 abbrev pub no_timer : TimerParts
@@ -127,7 +131,8 @@ no_words = 0 ∷ 0 ∷ 0 ∷ 0 ∷ 0 ∷ 0 ∷ 0 ∷ 0 ∷ []
 abbrev pub timers_at_power_on : ℕ → List TimerParts
 timers_at_power_on timers =
     let last : TimerParts = if timers == 8 then timer_at_power_on else no_timer in
-    timer_at_power_on ∷ timer_at_power_on ∷ timer_at_power_on ∷ last ∷ last ∷ last ∷ last ∷ last ∷ []
+    timer_at_power_on ∷ timer_at_power_on ∷ timer_at_power_on
+    ∷ last ∷ last ∷ last ∷ last ∷ last ∷ []
 
 -- the HPET at power on (2.3: each register's reset value)
 abbrev pub hpet_at_power_on : ℕ → Bool → HpetParts

@@ -1,9 +1,15 @@
 -- The register map of the HPET (IA-PC HPET specification 1.0a, section 2.3).
-use Rattle.std.specs.Prelude.{◌≡◌, ℕ, ◌-◌, ◌/◌, ◌%◌, ◌<◌, Bool, true, ◌&&◌, ◌==◌, nat_lt, nat_le, if◌then◌else◌}
+use Rattle.std.specs.Prelude.{◌≡◌, ℕ, ◌-◌, ◌/◌, ◌%◌, ◌<◌, Bool, true, ◌&&◌, ◌==◌, nat_lt, nat_le}
+use Rattle.std.specs.Prelude.{if◌then◌else◌}
 use Rattle.hpet_registers.specs.declared.register.Register.{Register}
-use Rattle.hpet_registers.specs.declared.register.Register.TheVariants.{Capabilities, Configuration, Status, MainCounter, TimerConfig, TimerComparator, TimerMessage, Reserved}
+use Rattle.hpet_registers.specs.declared.register.Register.TheVariants.{Capabilities, Configuration}
+use Rattle.hpet_registers.specs.declared.register.Register.TheVariants.{Status, MainCounter}
+use Rattle.hpet_registers.specs.declared.register.Register.TheVariants.{TimerConfig}
+use Rattle.hpet_registers.specs.declared.register.Register.TheVariants.{TimerComparator}
+use Rattle.hpet_registers.specs.declared.register.Register.TheVariants.{TimerMessage, Reserved}
 
--- the register at a place of the block of timer k (2.3.8 to 2.3.10); a place without one is reserved
+-- the register at a place of the block of timer k (2.3.8 to 2.3.10); a place without one is
+-- reserved
 abbrev pub timer_register : ℕ → Bool → ℕ → ℕ → Register
 timer_register timers messages k place =
     if nat_le timers k then Reserved

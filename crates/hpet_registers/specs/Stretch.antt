@@ -1,5 +1,6 @@
 -- The pulses of the HPET, one and many (IA-PC HPET specification 1.0a, sections 2.3.5 to 2.3.9).
-use Rattle.std.specs.Prelude.{ℕ, zero, suc, ◌^◌, Bool, ◌&&◌, nat_lt, if◌then◌else◌, bit_or, map, List, slice_index_or, None}
+use Rattle.std.specs.Prelude.{ℕ, zero, suc, ◌^◌, Bool, ◌&&◌, nat_lt, if◌then◌else◌, bit_or, map}
+use Rattle.std.specs.Prelude.{List, slice_index_or, None}
 use Rattle.hpet_counter.specs.Counter.{counter_after}
 use Rattle.hpet_comparator.specs.declared.stretch.Matches.{Matches}
 use Rattle.hpet_comparator.specs.Parts.{is_level}
@@ -11,10 +12,11 @@ use Rattle.hpet_registers.specs.Outputs.{has_ticks}
 -- a number with the bits below n set at which a test holds, and the others as they were
 abbrev pub with_bits : (ℕ → Bool) → ℕ → ℕ → ℕ
 with_bits test zero s = s
-with_bits test (suc k) s = if test k then bit_or (with_bits test k s) (2 ^ k) else with_bits test k s
+with_bits test (suc k) s =
+    if test k then bit_or (with_bits test k s) (2 ^ k) else with_bits test k s
 
--- whether the next pulse is a match of timer k: there is that timer, and the counter runs and goes to its
--- comparator (2.3.9.1)
+-- whether the next pulse is a match of timer k: there is that timer, and the counter runs and goes
+-- to its comparator (2.3.9.1)
 unfoldable pub matches_next : ℕ → HpetParts → Bool
 matches_next k h =
     nat_lt k h.timers && (is_running h && matches_at (counter_after h.counter 1) (timer_at k h))
@@ -23,8 +25,8 @@ matches_next k h =
 abbrev pub tick_next : ℕ → HpetParts → Bool
 tick_next k h = matches_next k h && has_ticks k h
 
--- one pulse: where the counter runs it goes up by 1, each timer sees it, and a match of a level timer sets its
--- status bit, enabled or not (2.3.6); an edge timer sets none (own)
+-- one pulse: where the counter runs it goes up by 1, each timer sees it, and a match of a level
+-- timer sets its status bit, enabled or not (2.3.6); an edge timer sets none (own)
 unfoldable pub hpet_pulsed : HpetParts → HpetParts
 hpet_pulsed h = record h {
   counter = if is_running h then counter_after h.counter 1 else h.counter;

@@ -1,10 +1,14 @@
--- The block of three timers without messages, place by place (IA-PC HPET specification 1.0a, section 2.3): the least
--- block that the specification allows, written out.
+-- The block of three timers without messages, place by place (IA-PC HPET specification 1.0a,
+-- section 2.3): the least block that the specification allows, written out.
 use Rattle.std.specs.Prelude.{ℕ, ◌-◌, ◌*◌, ◌^◌, ◌%◌, ◌==◌, if◌then◌else◌}
 use Rattle.hpet_comparator.specs.Config.{config_register}
 use Rattle.hpet_registers.specs.declared.parts.HpetParts.{HpetParts}
 use Rattle.hpet_registers.specs.declared.register.Register.{Register}
-use Rattle.hpet_registers.specs.declared.register.Register.TheVariants.{Capabilities, Configuration, Status, MainCounter, TimerConfig, TimerComparator, TimerMessage, Reserved}
+use Rattle.hpet_registers.specs.declared.register.Register.TheVariants.{Capabilities, Configuration}
+use Rattle.hpet_registers.specs.declared.register.Register.TheVariants.{Status, MainCounter}
+use Rattle.hpet_registers.specs.declared.register.Register.TheVariants.{TimerConfig}
+use Rattle.hpet_registers.specs.declared.register.Register.TheVariants.{TimerComparator}
+use Rattle.hpet_registers.specs.declared.register.Register.TheVariants.{TimerMessage, Reserved}
 use Rattle.hpet_registers.specs.Parts.{timer_at}
 use Rattle.hpet_registers.specs.Access.{is_effective, part_of}
 
@@ -37,5 +41,6 @@ three_timer_value Reserved h = 0
 -- a read
 abbrev pub three_timer_read : ℕ → ℕ → HpetParts → ℕ
 three_timer_read offset width h =
-    if is_effective offset width then part_of width (offset % 8 == 4) (three_timer_value (three_timer_register (offset - offset % 8)) h)
+    let register = three_timer_register (offset - offset % 8) in
+    if is_effective offset width then part_of width (offset % 8 == 4) (three_timer_value register h)
     else 2 ^ (8 * width) - 1

@@ -1,6 +1,7 @@
 //! What a register holds, and the fields after a write to it.
 
-ghost use Rattle.std.specs.Prelude.{◌≡◌, ◌+◌, ◌*◌, ◌^◌, ◌<◌, ◌≤◌, length, IsTrue, nat_lt, slice_set, if◌then◌else◌};
+ghost use Rattle.std.specs.Prelude.{◌≡◌, ◌+◌, ◌*◌, ◌^◌, ◌<◌, ◌≤◌, length, IsTrue, nat_lt};
+ghost use Rattle.std.specs.Prelude.{slice_set, if◌then◌else◌};
 ghost use Rattle.hpet_counter.specs.Part.{part_written, is_register_width};
 ghost use Rattle.clk_units.specs.Bits.{bit};
 ghost use Rattle.hpet_comparator.specs.Parts.{IsTimer};
@@ -8,15 +9,17 @@ ghost use Rattle.hpet_comparator.specs.Config.{config_written};
 ghost use Rattle.hpet_comparator.specs.Comparator.{comparator_written};
 ghost use Rattle.hpet_registers.specs.Parts.{IsHpet, timer_at};
 ghost use Rattle.hpet_registers.specs.Register.{IsRegister};
-ghost use Rattle.hpet_registers.specs.Access.{is_access_width, hpet_read, part_of, register_value, register_written, timer_config_register, timer_config_written};
+ghost use Rattle.hpet_registers.specs.Access.{is_access_width, hpet_read, part_of, register_value};
+ghost use Rattle.hpet_registers.specs.Access.{register_written, timer_config_register};
+ghost use Rattle.hpet_registers.specs.Access.{timer_config_written};
 
 use crate::parts::HpetParts;
 use crate::register::{Register, is_effective, register_at};
 use hpet_comparator::{Timer, TimerParts};
 use hpet_counter::{MainCounter, write_part};
 
-/// The capabilities of a block of one timer: 10 ns a pulse, vendor 8086h, legacy replacement, 64 bits,
-/// revision 1.
+/// The capabilities of a block of one timer: 10 ns a pulse, vendor 8086h, legacy replacement, 64
+/// bits, revision 1.
 const CAPABILITIES: u64 = 0x0098_9680_8086_a001;
 /// One more timer, in the capabilities.
 const ONE_TIMER: u64 = 0x100;

@@ -1,6 +1,8 @@
 //! The HPET: its registers, its pulses, and what its outputs are made of.
 
-ghost use Rattle.std.specs.Prelude.{bit_and, ◌≡◌, ◌≢◌, ℕ, suc, ◌+◌, ◌-◌, ◌*◌, ◌/◌, ◌%◌, ◌^◌, ◌<◌, ◌≤◌, ◌↔◌, ◌⊎◌, true, IsTrue, IsSome, IfSome, ◌&&◌, ◌||◌, nat_lt, if◌then◌else◌};
+ghost use Rattle.std.specs.Prelude.{bit_and, ◌≡◌, ◌≢◌, ℕ, suc, ◌+◌, ◌-◌, ◌*◌, ◌/◌, ◌%◌, ◌^◌, ◌<◌};
+ghost use Rattle.std.specs.Prelude.{◌≤◌, ◌↔◌, ◌⊎◌, true, IsTrue, IsSome, IfSome, ◌&&◌, ◌||◌};
+ghost use Rattle.std.specs.Prelude.{nat_lt, if◌then◌else◌};
 ghost use Rattle.clk_units.specs.Events.{IsFirst};
 ghost use Rattle.clk_units.specs.Bits.{bit};
 ghost use Rattle.hpet_comparator.specs.Parts.{IsTimer, is_level};
@@ -101,8 +103,8 @@ impl Hpet {
         }
     }
 
-    /// A read of `width` bytes at `offset`. One of 4 or 8 bytes that is aligned to its width reads a register or
-    /// a half of one; any other reads all ones (this project's own choice).
+    /// A read of `width` bytes at `offset`. One of 4 or 8 bytes that is aligned to its width reads
+    /// a register or a half of one; any other reads all ones (own).
     pub fn read(&self, offset: u16, width: u8) -> u64
         requires offset { offset ≤ 1023 }
         requires width { IsTrue (is_access_width width) }
@@ -113,8 +115,8 @@ impl Hpet {
         access::read_at(&self.parts, offset, width)
     }
 
-    /// A write of `v`, of `width` bytes, at `offset`. One that isn't of 4 or 8 bytes, or isn't aligned to its
-    /// width, does nothing (this project's own choice).
+    /// A write of `v`, of `width` bytes, at `offset`. One that isn't of 4 or 8 bytes, or isn't
+    /// aligned to its width, does nothing (own).
     pub fn write(&mut self, offset: u16, width: u8, v: u64)
         requires offset { offset ≤ 1023 }
         requires width { IsTrue (is_access_width width) }
@@ -127,7 +129,12 @@ impl Hpet {
         // A whole write is the writes of its halves, low half first, but for a comparator.
         ensures halves { width ≡ 8 → offset % 8 ≡ 0
             → is_plain (register_at self.old.timers self.old.messages offset) ≡ true
-            → self.new ≡ hpet_written (offset + 4) 4 (v / 2 ^ 32) (hpet_written offset 4 (v % 2 ^ 32) self.old) }
+            → self.new
+            ≡ hpet_written
+            (offset + 4)
+            4
+            (v / 2 ^ 32)
+            (hpet_written offset 4 (v % 2 ^ 32) self.old) }
     {
         if register::is_effective(offset, width) {
             let register = register::register_at(
@@ -139,14 +146,18 @@ impl Hpet {
         }
     }
 
-    /// Counts `n` pulses of 10 ns: at each place the matches of that timer, none where there is no timer.
+    /// Counts `n` pulses of 10 ns: at each place the matches of that timer, none where there is no
+    /// timer.
+    // Where it is inlined the answer isn't copied, which would cost as much as the pulses do.
+    #[inline(always)]
     pub fn pulses(&mut self, n: u64) -> [Matches; 8]
         ensures state { self.new ≡ hpet_pulsed_times n self.old }
         ensures count { (k : ℕ) → (timer_matches result k).count ≡ matches_of k self.old n }
         ensures few { (k : ℕ) → (timer_matches result k).count ≤ n }
         ensures first { (k : ℕ) → IsFirst (matches_of k self.old) n (timer_matches result k).first }
         ensures none { (k : ℕ) → self.old.timers ≤ k → timer_matches result k ≡ no_matches }
-        // A timer's matches fall at the first, a spacing later, two later and so on, and at no other pulse.
+        // A timer's matches fall at the first, a spacing later, two later and so on, and at no
+        // other pulse.
         ensures every { (k i : ℕ) → i < n
             → matches_next k (hpet_pulsed_times i self.old)
             ≡ falls_on
@@ -224,8 +235,8 @@ impl Hpet {
         (self.parts.status >> timer) % 2 == 1 && self.parts.timer[timer as usize].is_enabled()
     }
 
-    /// Whether a timer's matches are ticks of its line: of edge type, with its interrupt enabled, and no message
-    /// timer.
+    /// Whether a timer's matches are ticks of its line: of edge type, with its interrupt enabled,
+    /// and no message timer.
     pub fn has_ticks(&self, timer: u8) -> bool
         requires { timer < 8 }
         ensures { result ≡ has_ticks timer self.now }
@@ -233,8 +244,8 @@ impl Hpet {
         self.has_edge_ticks(timer) && !self.is_message(timer)
     }
 
-    /// Address and data of a timer's messages, where its matches are messages: with bit 14, interrupt enabled,
-    /// of edge type, and not timer 0 or 1 under legacy replacement (this project's own choice).
+    /// Address and data of a timer's messages, where its matches are messages: with bit 14,
+    /// interrupt enabled, of edge type, and not timer 0 or 1 under legacy replacement (own).
     pub fn message(&self, timer: u8) -> Option<(u32, u32)>
         requires { timer < 8 }
         ensures { result ≡ message_of timer self.now }
@@ -247,8 +258,8 @@ impl Hpet {
         }
     }
 
-    /// The pulses from one match of a timer to the next: its period, or 2^32 or 2^64 by its width where it is
-    /// one-shot or the period is 0.
+    /// The pulses from one match of a timer to the next: its period, or 2^32 or 2^64 by its width
+    /// where it is one-shot or the period is 0.
     pub fn spacing(&self, timer: u8) -> u128
         requires { timer < 8 }
         ensures { result ≡ spacing_of (timer_at timer self.now) }

@@ -1,7 +1,9 @@
-//! The HPET's block of registers (IA-PC HPET specification 1.0a): capabilities, configuration, status, main
-//! counter, and three or eight timers, with message registers where there are eight and they are wanted.
+//! The HPET's block of registers (IA-PC HPET specification 1.0a): capabilities, configuration,
+//! status, main counter, and three or eight timers, with message registers where there are eight
+//! and they are wanted.
 //!
-//! Time comes in as pulses of 10 ns; what comes out is how often each timer matched, and when first.
+//! Time comes in as pulses of 10 ns; what comes out is how often each timer matched, and when
+//! first.
 //!
 //! ```text
 //! let mut hpet = Hpet::power_on(3, false);

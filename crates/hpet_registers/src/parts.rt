@@ -35,7 +35,8 @@ pub struct HpetParts {
     pub message_word: [u64; 8],
 }
 
-/// A field of the HPET: the form of the block first, and then in the order in which a saved state keeps them.
+/// A field of the HPET: the form of the block first, and then in the order in which a saved state
+/// keeps them.
 #[derive(Clone, Copy, Debug, PartialEq, Eq)]
 pub enum HpetField {
     /// The number of timers: 3 or 8.
@@ -62,8 +63,8 @@ pub(crate) const NO_TIMER: TimerParts = TimerParts {
 };
 
 impl HpetParts {
-    /// The first field, in the order of `HpetField`, whose condition fails; None exactly where these are the
-    /// fields of an HPET.
+    /// The first field, in the order of `HpetField`, whose condition fails; None exactly where
+    /// these are the fields of an HPET.
     pub fn first_fault(&self) -> Option<HpetField>
         ensures value { result ≡ hpet_fault self.now }
         ensures none { (result ≡ None) ↔ IsHpet self.now }
@@ -164,7 +165,9 @@ fn message_faults(parts: &HpetParts) -> Option<HpetField>
 /// The first fault of all places.
 fn place_faults(parts: &HpetParts) -> Option<HpetField>
     ensures { result
-        ≡ or_else (first_below (timer_fault_at parts.now) 8) (first_below (message_fault_at parts.now) 8) }
+        ≡ or_else
+        (first_below (timer_fault_at parts.now) 8)
+        (first_below (message_fault_at parts.now) 8) }
 {
     match timer_faults(parts) {
         Some(field) => Some(field),

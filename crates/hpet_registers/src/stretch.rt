@@ -1,6 +1,7 @@
 //! The pulses of all timers at once.
 
-ghost use Rattle.std.specs.Prelude.{◌≡◌, ℕ, suc, ◌<◌, ◌≤◌, ◌&&◌, ◌||◌, nat_lt, if◌then◌else◌, slice_set, bit_or, ◌^◌, map};
+ghost use Rattle.std.specs.Prelude.{◌≡◌, ℕ, suc, ◌<◌, ◌≤◌, ◌&&◌, ◌||◌, nat_lt, if◌then◌else◌};
+ghost use Rattle.std.specs.Prelude.{slice_set, bit_or, ◌^◌, map};
 ghost use Rattle.clk_units.specs.Events.{IsFirst};
 ghost use Rattle.clk_units.specs.Bits.{bit};
 ghost use Rattle.hpet_comparator.specs.Parts.{IsTimer, is_level};
@@ -20,27 +21,29 @@ use crate::parts::HpetParts;
 use hpet_comparator::{Matches, Timer};
 use hpet_counter::MainCounter;
 
-/// The status behind so many matches of timer `k`: they set its bit where it is of level type.
-fn raised(status: u8, k: u8, count: u64, level: bool) -> u8
+/// The status behind matches of timer `k`: they set its bit where it is of level type.
+fn raised(status: u8, k: u8, level: bool) -> u8
     requires { k < 8 }
-    ensures { result ≡ (if nat_lt 0 count && level then bit_or status (2 ^ k) else status) }
+    ensures { result ≡ (if level then bit_or status (2 ^ k) else status) }
 {
-    if count > 0 && level {
-        status | 1 << k
-    } else {
-        status
-    }
+    if level { status | 1 << k } else { status }
 }
 
-/// Counts `n` pulses for timer `k`: its matches, and its status bit where it is of level type and matched.
+/// Counts `n` pulses for timer `k`: its matches, and its status bit where it is of level type and
+/// matched.
+#[inline]
 fn pulse_timer(parts: &mut HpetParts, k: u8, n: u64) -> Matches
     requires place { k < 8 }
     requires valid { IsTimer (timer_at k parts.old) }
     ensures state { parts.new
         ≡ record parts.old {
-          timer = slice_set parts.old.timer k (pulsed_times parts.old.counter n (timer_at k parts.old));
+          timer = slice_set
+              parts.old.timer
+              k
+              (pulsed_times parts.old.counter n (timer_at k parts.old));
           status =
-              if nat_lt 0 result.count && is_level (timer_at k parts.old) then bit_or parts.old.status (2 ^ k)
+              if nat_lt 0 result.count && is_level (timer_at k parts.old)
+              then bit_or parts.old.status (2 ^ k)
               else parts.old.status;
         } }
     ensures matches { AreMatches parts.old.counter n (timer_at k parts.old) result }
@@ -48,12 +51,15 @@ fn pulse_timer(parts: &mut HpetParts, k: u8, n: u64) -> Matches
     let before = parts.timer[k as usize];
     let mut timer = Timer::of_valid_parts(before);
     let matches = timer.pulses(parts.counter, n);
-    parts.timer[k as usize] = timer.parts();
-    parts.status = raised(parts.status, k, matches.count, before.is_level());
+    if matches.count > 0 {
+        parts.timer[k as usize] = timer.parts();
+        parts.status = raised(parts.status, k, before.is_level());
+    }
     matches
 }
 
 /// Counts `n` pulses of a counter that runs for each timer.
+#[inline]
 fn pulse_timers(parts: &mut HpetParts, n: u64) -> [Matches; 8]
     requires { IsHpet parts.old }
     ensures state { parts.new
@@ -77,6 +83,7 @@ fn pulse_timers(parts: &mut HpetParts, n: u64) -> [Matches; 8]
 }
 
 /// Counts `n` pulses: the matches of each timer.
+#[inline(always)]
 pub(crate) fn pulse(parts: &mut HpetParts, n: u64) -> [Matches; 8]
     requires valid { IsHpet parts.old }
     requires fits { parts.old.counter < 2 ^ 64 }

@@ -47,7 +47,8 @@ rises_in-joined c m (suc k) =
     by_test s false x y z total e f g = rw (e, g) (omega arith)
 
 -- the first of both
-pub IsFirst-joined : (c : CounterParts) (m k : ℕ) (first later : Option ℕ) → IsFirst (rises_in c) m first → IsFirst (rises_in (pulsed_times m c)) k later → IsFirst (rises_in c) (m + k) (joined_first first m later)
+pub IsFirst-joined : (c : CounterParts) (m k : ℕ) (first later : Option ℕ) → IsFirst (rises_in c) m first → IsFirst (rises_in (pulsed_times m c)) k later
+    → IsFirst (rises_in c) (m + k) (joined_first first m later)
 IsFirst-joined c m k (Some x) later f g = (f.0, omega arith, f.2, f.3)
 IsFirst-joined c m k None None f g = omega (arith, rises_in-joined c m k)
 IsFirst-joined c m k None (Some j) f g =

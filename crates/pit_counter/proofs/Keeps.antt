@@ -82,7 +82,8 @@ Valid c = (flags_valid c ≡ true) × (ce_valid c ≡ true) × (part_valid c ≡
 -- a load is in range, and even in mode 3
 loaded_count-below : (bits cr : ℕ) → loaded_count bits cr < modulus bits
 unfolding loaded_count modulus
-loaded_count-below bits cr = cond_both (is_bcd bits) 10000 65536 (λ m. (meant_count bits cr - cond (is_odd_square bits cr) 1 0) % m < m) (λ _. omega arith) (λ _. omega arith)
+loaded_count-below bits cr = cond_both (is_bcd bits) 10000 65536 (λ m. (meant_count bits cr - cond (is_odd_square bits cr) 1 0) % m < m) (λ _. omega arith)
+    (λ _. omega arith)
 
 lowered-below : (bits ce by : ℕ) → lowered bits ce by < modulus bits
 unfolding lowered modulus
@@ -141,7 +142,8 @@ rate_generator c m h =
     let flags = simp m at h.0 in
     let ce = simp m at h.1 in
     let part = simp m at h.2 in
-    cond_both ((c.full && not c.live) || c.trig) (Load true) (cond (c.live && c.gate && eqb c.ce 1) (Load true) (cond (c.live && c.gate) DownToLow (Stand c.out))) (λ e. Valid (affected e c))
+    cond_both ((c.full && not c.live) || c.trig) (Load true)
+    (cond (c.live && c.gate && eqb c.ce 1) (Load true) (cond (c.live && c.gate) DownToLow (Stand c.out))) (λ e. Valid (affected e c))
     (λ begins. (simp m (grind arith), simp m (grind (arith, loaded_count-below, nat_tests)), simp m (grind arith)))
     (λ none. cond_both (c.live && c.gate && eqb c.ce 1) (Load true) (cond (c.live && c.gate) DownToLow (Stand c.out)) (λ e. Valid (affected e c))
     (λ ends. (simp m (grind arith), simp m (grind (arith, loaded_count-below, nat_tests)), simp m (grind arith)))
@@ -474,7 +476,8 @@ unfolding byte_written_by
 IsCounter-byte_written_by LowByte byte c e h = IsCounter-completed byte c h
 IsCounter-byte_written_by HighByte byte c e h = IsCounter-completed (byte * 256) c h
 IsCounter-byte_written_by LowThenHigh byte c e h =
-    cond_both c.part_there (completed (c.part + byte * 256) c) (begun byte c) IsCounter (λ _. IsCounter-completed (c.part + byte * 256) c h) (λ _. IsCounter-begun byte c (ap takes_two e) h)
+    cond_both c.part_there (completed (c.part + byte * 256) c) (begun byte c) IsCounter (λ _. IsCounter-completed (c.part + byte * 256) c h)
+    (λ _. IsCounter-begun byte c (ap takes_two e) h)
 
 pub IsCounter-byte_written : (byte : ℕ) (c : CounterParts) → IsCounter c → IsCounter (byte_written byte c)
 IsCounter-byte_written byte c h = IsCounter-byte_written_by (access_of c.bits) byte c refl h
@@ -557,7 +560,18 @@ IsCounter-count_released c h =
 
 pub IsCounter-after_read : (c : CounterParts) → IsCounter c → IsCounter (after_read c)
 unfolding after_read
-IsCounter-after_read c h = cond_both c.status_latched (status_released c) (count_released c) IsCounter (λ _. IsCounter-status_released c h) (λ _. IsCounter-count_released c h)
+IsCounter-after_read c h = cond_both c.status_latched (status_released c) (count_released c) IsCounter (λ _. IsCounter-status_released c h)
+    (λ _. IsCounter-count_released c h)
 
 -- each call keeps the conditions, and what they say of numbers
-pub ruleset keeps = (IsCounter-programmed, IsCounter-byte_written, IsCounter-gated, IsCounter-pulsed, IsCounter-with_count_latched, IsCounter-with_status_latched, IsCounter-after_read, IsCounter-ce, IsCounter-bits)
+pub ruleset keeps = (
+  IsCounter-programmed,
+  IsCounter-byte_written,
+  IsCounter-gated,
+  IsCounter-pulsed,
+  IsCounter-with_count_latched,
+  IsCounter-with_status_latched,
+  IsCounter-after_read,
+  IsCounter-ce,
+  IsCounter-bits,
+)

@@ -4,4 +4,5 @@ pub mod Times
 pub mod Quiet
 pub mod Joins
 pub mod Reloaded
+mod PartRows
 mod Rows

@@ -75,16 +75,20 @@ lowered-glided bits ce down by h =
 -- on the way down the count is what is left of the height
 pub glided_count-height : (c : CounterParts) (down : ℕ) → c.ce < modulus c.bits → 0 < down → down < height c → glided_count c.bits c.ce down ≡ height c - down
 unfolding glided_count height modulus
-glided_count-height c down = cond_both (is_bcd c.bits) 10000 65536 (λ m. c.ce < m → 0 < down → down < cond (eqb c.ce 0) m c.ce → (c.ce + m - down % m) % m ≡ cond (eqb c.ce 0) m c.ce - down)
-    (λ _ below some within. cond_both (eqb c.ce 0) 10000 c.ce (λ x. down < x → (c.ce + 10000 - down % 10000) % 10000 ≡ x - down) (λ e h. omega (arith, eqb-true c.ce 0 e)) (λ e h. omega (arith, eqb-false c.ce 0 e)) within)
-    (λ _ below some within. cond_both (eqb c.ce 0) 65536 c.ce (λ x. down < x → (c.ce + 65536 - down % 65536) % 65536 ≡ x - down) (λ e h. omega (arith, eqb-true c.ce 0 e)) (λ e h. omega (arith, eqb-false c.ce 0 e)) within)
+glided_count-height c down = cond_both (is_bcd c.bits) 10000 65536
+    (λ m. c.ce < m → 0 < down → down < cond (eqb c.ce 0) m c.ce → (c.ce + m - down % m) % m ≡ cond (eqb c.ce 0) m c.ce - down)
+    (λ _ below some within. cond_both (eqb c.ce 0) 10000 c.ce (λ x. down < x → (c.ce + 10000 - down % 10000) % 10000 ≡ x - down)
+    (λ e h. omega (arith, eqb-true c.ce 0 e)) (λ e h. omega (arith, eqb-false c.ce 0 e)) within)
+    (λ _ below some within. cond_both (eqb c.ce 0) 65536 c.ce (λ x. down < x → (c.ce + 65536 - down % 65536) % 65536 ≡ x - down)
+    (λ e h. omega (arith, eqb-true c.ce 0 e)) (λ e h. omega (arith, eqb-false c.ce 0 e)) within)
 
 -- ---- one quiet pulse, by its effect
 
 two : (c : CounterParts) (x y : ℕ) (o p : Bool) → x ≡ y → o ≡ p → record c { ce = x; out = o } ≡ record c { ce = y; out = p }
 two c x y o p e f = ap (λ (z : ℕ). record c { ce = z; out = o }) e ∙ ap (λ (q : Bool). record c { ce = y; out = q }) f
 
-three : (c : CounterParts) (x y : ℕ) (o p a b : Bool) → x ≡ y → o ≡ p → a ≡ b → record c { ce = x; out = o; armed = a } ≡ record c { ce = y; out = p; armed = b }
+three : (c : CounterParts) (x y : ℕ) (o p a b : Bool) → x ≡ y → o ≡ p → a ≡ b
+    → record c { ce = x; out = o; armed = a } ≡ record c { ce = y; out = p; armed = b }
 three c x y o p a b e f g = two (record c { armed = a }) x y o p e f ∙ ap (λ (q : Bool). record c { ce = y; out = p; armed = q }) g
 
 high_stays : (out : Bool) (z : ℕ) → (out ≡ false → z ≡ 0 → ⊥) → (out || eqb z 0) ≡ out
@@ -95,7 +99,8 @@ low_stays : (out : Bool) (z : ℕ) → (z ≡ 1 → ⊥) → (out && not (eqb z 
 low_stays true z h = ap not (ne_eqb z 1 h)
 low_stays false z h = refl
 
-strobe_stays : (out armed : Bool) (k height z : ℕ) → k < cond out (cond armed (height - 1) forever) 0 → (k < height - 1 → z ≡ 0 → ⊥) → (not (armed && eqb z 0) ≡ out) × ((armed && not (eqb z 0)) ≡ armed)
+strobe_stays : (out armed : Bool) (k height z : ℕ) → k < cond out (cond armed (height - 1) forever) 0 → (k < height - 1 → z ≡ 0 → ⊥)
+    → (not (armed && eqb z 0) ≡ out) × ((armed && not (eqb z 0)) ≡ armed)
 strobe_stays true true k height z h f = (ap not (ne_eqb z 0 (f h)), ap not (ne_eqb z 0 (f h)))
 strobe_stays true false k height z h f = (refl, refl)
 strobe_stays false armed k height z h f = absurd (omega arith)
@@ -136,7 +141,8 @@ affected-glided (Stand level) c k below h =
 -- ---- the effect stays through quiet pulses
 
 -- the count isn't the one that ends a stretch
-apart : (c : CounterParts) (down end : ℕ) → c.ce < modulus c.bits → eqb c.ce end ≡ false → down < height c → end < height c - down → eqb (glided_count c.bits c.ce down) end ≡ false
+apart : (c : CounterParts) (down end : ℕ) → c.ce < modulus c.bits → eqb c.ce end ≡ false → down < height c → end < height c - down
+    → eqb (glided_count c.bits c.ce down) end ≡ false
 apart c zero end below first within above = ap (λ (x : ℕ). eqb x end) (glided_count-zero c.bits c.ce below) ∙ first
 apart c (suc k) end below first within above =
     let place = glided_count-height c (suc k) below (omega arith) within in
@@ -145,7 +151,8 @@ apart c (suc k) end below first within above =
 abbrev pub rate_effect : Bool → Bool → Bool → Bool → Effect
 rate_effect begins counts ends out = cond begins (Load true) (cond (counts && ends) (Load true) (cond counts DownToLow (Stand out)))
 
-rate_stays : (begins counts ends out : Bool) (c : CounterParts) (k : ℕ) → c.ce < modulus c.bits → eqb c.ce 1 ≡ ends → k < quiet_for (rate_effect begins counts ends out) c
+rate_stays : (begins counts ends out : Bool) (c : CounterParts) (k : ℕ) → c.ce < modulus c.bits → eqb c.ce 1 ≡ ends
+    → k < quiet_for (rate_effect begins counts ends out) c
     → rate_effect begins counts (eqb (glided_count c.bits c.ce (step_of (rate_effect begins counts ends out) * k)) 1) out ≡ rate_effect begins counts ends out
 unfolding quiet_for
 rate_stays true counts ends out c k below at_end h = refl
@@ -166,9 +173,11 @@ height-some : (c : CounterParts) → eqb c.ce 0 ≡ false → height c ≡ c.ce
 unfolding height
 height-some c e = simp e
 
-square_stays : (begins counts out odd at_zero at_two : Bool) (c : CounterParts) (k : ℕ) → c.ce < modulus c.bits → eqb c.ce 0 ≡ at_zero → eqb c.ce 2 ≡ at_two → c.out ≡ out → c.odd ≡ odd
+square_stays : (begins counts out odd at_zero at_two : Bool) (c : CounterParts) (k : ℕ) → c.ce < modulus c.bits → eqb c.ce 0 ≡ at_zero → eqb c.ce 2 ≡ at_two
+    → c.out ≡ out → c.odd ≡ odd
     → k < quiet_for (square_effect begins counts out odd at_zero at_two) c
-    → square_effect begins counts out odd (eqb (glided_count c.bits c.ce (step_of (square_effect begins counts out odd at_zero at_two) * k)) 0) (eqb (glided_count c.bits c.ce (step_of (square_effect begins counts out odd at_zero at_two) * k)) 2)
+    → square_effect begins counts out odd (eqb (glided_count c.bits c.ce (step_of (square_effect begins counts out odd at_zero at_two) * k)) 0)
+    (eqb (glided_count c.bits c.ce (step_of (square_effect begins counts out odd at_zero at_two) * k)) 2)
     ≡ square_effect begins counts out odd at_zero at_two
 unfolding quiet_for
 square_stays true counts out odd at_zero at_two c k below ez et eo ed h = refl
@@ -187,12 +196,14 @@ square_stays false true false odd at_zero false c k below ez et eo ed h =
     let within : k < height c / 2 - 1 = simp eo at h in
     ap (λ (b : Bool). cond b (Load true) DownByTwo) (apart c (2 * k) 2 below et (omega arith) (omega arith))
 
-effect_in-glided : (m : Mode) (c : CounterParts) (k : ℕ) → c.ce < modulus c.bits → k < quiet_for (effect_in m c) c → effect_in m (glided (effect_in m c) k c) ≡ effect_in m c
+effect_in-glided : (m : Mode) (c : CounterParts) (k : ℕ) → c.ce < modulus c.bits → k < quiet_for (effect_in m c) c
+    → effect_in m (glided (effect_in m c) k c) ≡ effect_in m c
 unfolding effect_in glided
 effect_in-glided TerminalCount c k below h = refl
 effect_in-glided OneShot c k below h = refl
 effect_in-glided RateGenerator c k below h = rate_stays ((c.full && not c.live) || c.trig) (c.live && c.gate) (eqb c.ce 1) c.out c k below refl h
-effect_in-glided SquareWave c k below h = square_stays ((c.full && not c.live) || c.trig) (c.live && c.gate) c.out c.odd (eqb c.ce 0) (eqb c.ce 2) c k below refl refl refl refl h
+effect_in-glided SquareWave c k below h = square_stays ((c.full && not c.live) || c.trig) (c.live && c.gate) c.out c.odd (eqb c.ce 0)
+    (eqb c.ce 2) c k below refl refl refl refl h
 effect_in-glided SoftwareStrobe c k below h = refl
 effect_in-glided HardwareStrobe c k below h = refl
 
@@ -202,7 +213,8 @@ effect_in-glided HardwareStrobe c k below h = refl
 abbrev pub next_effect : CounterParts → Effect
 next_effect c = effect_in (mode_of c.bits) c
 
-pulsed-glided : (c : CounterParts) (k : ℕ) → c.ce < modulus c.bits → k < quiet_for (next_effect c) c → pulsed (glided (next_effect c) k c) ≡ glided (next_effect c) (suc k) c
+pulsed-glided : (c : CounterParts) (k : ℕ) → c.ce < modulus c.bits → k < quiet_for (next_effect c) c
+    → pulsed (glided (next_effect c) k c) ≡ glided (next_effect c) (suc k) c
 unfolding pulsed glided
 pulsed-glided c k below h =
     ap (λ (e : Effect). affected e (glided (next_effect c) k c)) (effect_in-glided (mode_of c.bits) c k below h) ∙ affected-glided (next_effect c) c k below h

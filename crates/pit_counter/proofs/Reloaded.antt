@@ -116,8 +116,18 @@ Reloaded-from c h =
 -- a load leaves such a counter as it is
 reload-same : (c : CounterParts) → Reloaded c → has_strobe (mode_of c.bits) ≡ false → affected (Load true) c ≡ c
 reload-same c r strobe =
-    ap (λ (x : ℕ). record c { ce = x; out = true; null = false; live = true; trig = false; armed = has_strobe (mode_of c.bits); odd = is_odd_square c.bits c.cr }) (sym r.ce)
-    ∙ ap (λ (b : Bool). record c { out = b; null = false; live = true; trig = false; armed = has_strobe (mode_of c.bits); odd = is_odd_square c.bits c.cr }) (sym r.out)
+    ap (λ (x : ℕ). record c {
+      ce = x;
+      out = true;
+      null = false;
+      live = true;
+      trig = false;
+      armed = has_strobe
+          (mode_of c.bits);
+      odd = is_odd_square c.bits c.cr;
+    }) (sym r.ce)
+    ∙ ap (λ (b : Bool). record c { out = b; null = false; live = true; trig = false; armed = has_strobe (mode_of c.bits); odd = is_odd_square c.bits c.cr })
+    (sym r.out)
     ∙ ap (λ (b : Bool). record c { null = b; live = true; trig = false; armed = has_strobe (mode_of c.bits); odd = is_odd_square c.bits c.cr }) (sym r.null)
     ∙ ap (λ (b : Bool). record c { live = b; trig = false; armed = has_strobe (mode_of c.bits); odd = is_odd_square c.bits c.cr }) (sym r.live)
     ∙ ap (λ (b : Bool). record c { trig = b; armed = has_strobe (mode_of c.bits); odd = is_odd_square c.bits c.cr }) (sym r.trig)
@@ -132,7 +142,8 @@ pub record Round (c : CounterParts) (n : ℕ) : Type 0 where
   pub rise : rises_in c n ≡ 1
 
 -- one pulse behind some without a rise
-one_more : (c d e : CounterParts) (n : ℕ) → pulsed_times n c ≡ d → rises_in c n ≡ 0 → pulsed d ≡ e → (rises : Bool) → rises_next d ≡ rises → (pulsed_times (suc n) c ≡ e) × (rises_in c (suc n) ≡ cond rises 1 0)
+one_more : (c d e : CounterParts) (n : ℕ) → pulsed_times n c ≡ d → rises_in c n ≡ 0 → pulsed d ≡ e → (rises : Bool) → rises_next d ≡ rises
+    → (pulsed_times (suc n) c ≡ e) × (rises_in c (suc n) ≡ cond rises 1 0)
 one_more c d e n here none next rises test = (
   pulsed_times-suc n c ∙ ap pulsed here ∙ next,
   rises_in-suc c n ∙ ap (λ (b : Bool). cond b (suc (rises_in c n)) (rises_in c n)) (ap rises_next here ∙ test) ∙ ap (λ (x : ℕ). cond rises (suc x) x) none,
@@ -165,14 +176,16 @@ two : (c : CounterParts) (x y : ℕ) (o p : Bool) → x ≡ y → o ≡ p → re
 two c x y o p e f = ap (λ (z : ℕ). record c { ce = z; out = o }) e ∙ ap (λ (q : Bool). record c { ce = y; out = q }) f
 
 -- the effect of a pulse at another count and level
-effect-rate : (c : CounterParts) (x : ℕ) (o : Bool) → Reloaded c → mode_of c.bits ≡ RateGenerator → effect_in (mode_of c.bits) (record c { ce = x; out = o }) ≡ rate_effect false true (eqb x 1) o
+effect-rate : (c : CounterParts) (x : ℕ) (o : Bool) → Reloaded c → mode_of c.bits ≡ RateGenerator
+    → effect_in (mode_of c.bits) (record c { ce = x; out = o }) ≡ rate_effect false true (eqb x 1) o
 unfolding effect_in
 effect-rate c x o r m =
     ap (λ (n : Mode). effect_in n (record c { ce = x; out = o })) m
     ∙ ap (λ (b : Bool). rate_effect b (c.live && c.gate) (eqb x 1) o) (begins-not c r)
     ∙ ap (λ (b : Bool). rate_effect false b (eqb x 1) o) (counts c r)
 
-effect-square : (c : CounterParts) (x : ℕ) (o : Bool) → Reloaded c → mode_of c.bits ≡ SquareWave → effect_in (mode_of c.bits) (record c { ce = x; out = o }) ≡ square_effect false true o c.odd (eqb x 0) (eqb x 2)
+effect-square : (c : CounterParts) (x : ℕ) (o : Bool) → Reloaded c → mode_of c.bits ≡ SquareWave
+    → effect_in (mode_of c.bits) (record c { ce = x; out = o }) ≡ square_effect false true o c.odd (eqb x 0) (eqb x 2)
 unfolding effect_in
 effect-square c x o r m =
     ap (λ (n : Mode). effect_in n (record c { ce = x; out = o })) m
@@ -197,15 +210,18 @@ unfolding height
 count-not c low some h = ne_eqb c.ce low (not_low c.ce (modulus c.bits) low some h)
 
 -- down to 2
-to_two : (c : CounterParts) (q : ℕ) → Reloaded c → mode_of c.bits ≡ RateGenerator → c.ce < modulus c.bits → height c ≡ suc (suc q) → (pulsed_times q c ≡ record c { ce = 2 }) × (rises_in c q ≡ 0)
+to_two : (c : CounterParts) (q : ℕ) → Reloaded c → mode_of c.bits ≡ RateGenerator → c.ce < modulus c.bits → height c ≡ suc (suc q)
+    → (pulsed_times q c ≡ record c { ce = 2 }) × (rises_in c q ≡ 0)
 unfolding quiet_for glided
 to_two c zero r m below h = (pulsed_times-zero c ∙ ap (λ (x : ℕ). record c { ce = x }) (low-height c h), rises_in-zero c)
 to_two c (suc q) r m below h =
-    let effect : next_effect c ≡ DownToLow = effect-rate c c.ce c.out r m ∙ ap (λ (b : Bool). rate_effect false true b c.out) (count-not c 1 (omega arith) (omega (arith, h))) in
+    let effect : next_effect c ≡ DownToLow = effect-rate c c.ce c.out r m
+    ∙ ap (λ (b : Bool). rate_effect false true b c.out) (count-not c 1 (omega arith) (omega (arith, h))) in
     let within : suc q ≤ quiet_for (next_effect c) c = subst (λ (e : Effect). suc q ≤ quiet_for e c) (sym effect) (omega (arith, h)) in
     let place : glided_count c.bits c.ce (suc q) ≡ height c - suc q = glided_count-height c (suc q) below (omega arith) (omega (arith, h)) in
     let one : 1 * suc q ≡ suc q = omega arith in (
-      pulsed_times-glided c (suc q) below within ∙ ap (λ (e : Effect). glided e (suc q) c) effect ∙ ap (λ (x : ℕ). record c { ce = x }) (ap (glided_count c.bits c.ce) one ∙ place ∙ omega (arith, h)),
+      pulsed_times-glided c (suc q) below within ∙ ap (λ (e : Effect). glided e (suc q) c) effect
+          ∙ ap (λ (x : ℕ). record c { ce = x }) (ap (glided_count c.bits c.ce) one ∙ place ∙ omega (arith, h)),
       rises_in-glided c (suc q) below within,
     )
 
@@ -219,7 +235,8 @@ unfolding pulsed rises_next
 round_2 c q r m below h =
     let down = to_two c q r m below h in
     let falls : pulsed (record c { ce = 2 }) ≡ record c { ce = 1; out = false } =
-    ap (λ (e : Effect). affected e (record c { ce = 2 })) (effect-rate c 2 c.out r m) ∙ two c _ _ _ _ (lowered-two c.bits) (low_at_one c.out (lowered c.bits 2 1) (lowered-two c.bits)) in
+    ap (λ (e : Effect). affected e (record c { ce = 2 })) (effect-rate c 2 c.out r m)
+    ∙ two c _ _ _ _ (lowered-two c.bits) (low_at_one c.out (lowered c.bits 2 1) (lowered-two c.bits)) in
     let no_rise : rises_next (record c { ce = 2 }) ≡ false = ap (λ (b : Bool). not b && (pulsed (record c { ce = 2 })).out) r.out in
     let first = one_more c (record c { ce = 2 }) (record c { ce = 1; out = false }) q down.0 down.1 falls false no_rise in
     let loads : pulsed (record c { ce = 1; out = false }) ≡ c =
@@ -242,7 +259,8 @@ toggles true false h = refl
 toggles false odd h = refl
 
 -- the level at the end of a half
-toggled : (c : CounterParts) (x : ℕ) (o p : Bool) → Reloaded c → mode_of c.bits ≡ SquareWave → affected (Load p) (record c { ce = x; out = o }) ≡ record c { out = p }
+toggled : (c : CounterParts) (x : ℕ) (o p : Bool) → Reloaded c → mode_of c.bits ≡ SquareWave
+    → affected (Load p) (record c { ce = x; out = o }) ≡ record c { out = p }
 toggled c x o p r m = ap (λ (d : CounterParts). record d { out = p }) (reload-same c r (ap has_strobe m))
 
 both_same : (b : Bool) → (b && b) ≡ b
@@ -250,7 +268,8 @@ both_same true = refl
 both_same false = refl
 
 -- down to 2 in a half that ends there
-half_to_two : (c : CounterParts) (o : Bool) (k : ℕ) → Reloaded c → mode_of c.bits ≡ SquareWave → c.ce < modulus c.bits → (o && c.odd) ≡ false → height c ≡ 2 * suc k
+half_to_two : (c : CounterParts) (o : Bool) (k : ℕ) → Reloaded c → mode_of c.bits ≡ SquareWave → c.ce < modulus c.bits → (o && c.odd) ≡ false
+    → height c ≡ 2 * suc k
     → (pulsed_times k (record c { out = o }) ≡ record c { ce = 2; out = o }) × (rises_in (record c { out = o }) k ≡ 0)
 unfolding quiet_for glided height
 half_to_two c o zero r m below even h =
@@ -258,18 +277,21 @@ half_to_two c o zero r m below even h =
 half_to_two c o (suc k) r m below even h =
     let d : CounterParts = record c { out = o } in
     let effect : next_effect (record c { out = o }) ≡ DownByTwo =
-    effect-square c c.ce o r m ∙ ap (λ (b : Bool). square_effect false true o c.odd (eqb c.ce 0) b) (count-not c 2 (omega arith) (omega (arith, h))) ∙ down_by_two o c.odd (eqb c.ce 0) even in
+    effect-square c c.ce o r m ∙ ap (λ (b : Bool). square_effect false true o c.odd (eqb c.ce 0) b) (count-not c 2 (omega arith) (omega (arith, h)))
+    ∙ down_by_two o c.odd (eqb c.ce 0) even in
     let quiet : quiet_for DownByTwo (record c { out = o }) ≡ height c / 2 - 1 = ap (λ (b : Bool). cond b (c.ce / 2) (height c / 2 - 1)) even in
     let within : suc k ≤ quiet_for (next_effect (record c { out = o })) (record c { out = o }) =
     subst (λ (e : Effect). suc k ≤ quiet_for e (record c { out = o })) (sym effect) (omega (arith, h, quiet)) in
     let place : glided_count c.bits c.ce (2 * suc k) ≡ height c - 2 * suc k = glided_count-height c (2 * suc k) below (omega arith) (omega (arith, h)) in (
-      pulsed_times-glided (record c { out = o }) (suc k) below within ∙ ap (λ (e : Effect). glided e (suc k) (record c { out = o })) effect ∙ ap (λ (x : ℕ). record c { ce = x; out = o }) (place ∙ omega (arith, h)),
+      pulsed_times-glided (record c { out = o }) (suc k) below within ∙ ap (λ (e : Effect). glided e (suc k) (record c { out = o })) effect
+          ∙ ap (λ (x : ℕ). record c { ce = x; out = o }) (place ∙ omega (arith, h)),
       rises_in-glided (record c { out = o }) (suc k) below within,
     )
 
 -- and the toggle at its end
 half : (c : CounterParts) (o : Bool) (k : ℕ) → Reloaded c → mode_of c.bits ≡ SquareWave → c.ce < modulus c.bits → (o && c.odd) ≡ false → height c ≡ 2 * suc k
-    → (pulsed_times (suc k) (record c { out = o }) ≡ record c { out = not o }) × (rises_in (record c { out = o }) (suc k) ≡ cond (not o) 1 0) × (rises_in (record c { out = o }) k ≡ 0)
+    → (pulsed_times (suc k) (record c { out = o }) ≡ record c { out = not o }) × (rises_in (record c { out = o }) (suc k) ≡ cond (not o) 1 0) ×
+    (rises_in (record c { out = o }) k ≡ 0)
 unfolding pulsed rises_next
 half c o k r m below even h =
     let down = half_to_two c o k r m below even h in
@@ -299,7 +321,8 @@ odd_half c k r m below odd h =
     let quiet : quiet_for DownByTwo c ≡ c.ce / 2 = ap (λ (b : Bool). cond b (c.ce / 2) (height c / 2 - 1)) flags in
     let within : suc k ≤ quiet_for (next_effect c) c = subst (λ (e : Effect). suc k ≤ quiet_for e c) (sym effect) (omega (arith, h, quiet)) in
     let place : glided_count c.bits c.ce (2 * suc k) ≡ 0 = ap (glided_count c.bits c.ce) (sym h) ∙ glided_count-all c.bits c.ce below in
-    let down : pulsed_times (suc k) c ≡ record c { ce = 0 } = pulsed_times-glided c (suc k) below within ∙ ap (λ (e : Effect). glided e (suc k) c) effect ∙ ap (λ (x : ℕ). record c { ce = x }) place in
+    let down : pulsed_times (suc k) c ≡ record c { ce = 0 } = pulsed_times-glided c (suc k) below within ∙ ap (λ (e : Effect). glided e (suc k) c) effect
+    ∙ ap (λ (x : ℕ). record c { ce = x }) place in
     let turns : pulsed (record c { ce = 0 }) ≡ record c { out = false } =
     ap (λ (e : Effect). affected e (record c { ce = 0 }))
     (effect-square c 0 c.out r m
@@ -311,7 +334,8 @@ odd_half c k r m below odd h =
 
 -- two halves
 round_of : (c : CounterParts) (m k : ℕ) → Reloaded c → (pulsed_times m c ≡ record c { out = false }) → rises_in c m ≡ 0
-    → (pulsed_times (suc k) (record c { out = false }) ≡ record c { out = true }) → rises_in (record c { out = false }) (suc k) ≡ 1 → rises_in (record c { out = false }) k ≡ 0
+    → (pulsed_times (suc k) (record c { out = false }) ≡ record c { out = true }) → rises_in (record c { out = false }) (suc k) ≡ 1
+    → rises_in (record c { out = false }) k ≡ 0
     → Round c (m + suc k)
 round_of c m k r here none back one quiet =
     let high : record c { out = true } ≡ c = ap (λ (b : Bool). record c { out = b }) (sym r.out) in
@@ -324,15 +348,18 @@ round_of c m k r here none back one quiet =
     }
 
 -- a period of mode 3, even ..
-round_3_even : (c : CounterParts) (k : ℕ) → Reloaded c → mode_of c.bits ≡ SquareWave → c.ce < modulus c.bits → c.odd ≡ false → height c ≡ 2 * suc k → Round c (suc k + suc k)
+round_3_even : (c : CounterParts) (k : ℕ) → Reloaded c → mode_of c.bits ≡ SquareWave → c.ce < modulus c.bits → c.odd ≡ false → height c ≡ 2 * suc k
+    → Round c (suc k + suc k)
 round_3_even c k r m below odd h =
     let high : record c { out = true } ≡ c = ap (λ (b : Bool). record c { out = b }) (sym r.out) in
     let first = half c true k r m below odd h in
     let second = half c false k r m below refl h in
-    round_of c (suc k) k r (ap (pulsed_times (suc k)) (sym high) ∙ first.0) (ap (λ (d : CounterParts). rises_in d (suc k)) (sym high) ∙ first.1) second.0 second.1 second.2
+    round_of c (suc k) k r (ap (pulsed_times (suc k)) (sym high) ∙ first.0)
+    (ap (λ (d : CounterParts). rises_in d (suc k)) (sym high) ∙ first.1) second.0 second.1 second.2
 
 -- .. and odd
-round_3_odd : (c : CounterParts) (k : ℕ) → Reloaded c → mode_of c.bits ≡ SquareWave → c.ce < modulus c.bits → c.odd ≡ true → c.ce ≡ 2 * suc k → height c ≡ 2 * suc k → Round c (suc (suc k) + suc k)
+round_3_odd : (c : CounterParts) (k : ℕ) → Reloaded c → mode_of c.bits ≡ SquareWave → c.ce < modulus c.bits → c.odd ≡ true → c.ce ≡ 2 * suc k
+    → height c ≡ 2 * suc k → Round c (suc (suc k) + suc k)
 round_3_odd c k r m below odd h height_ =
     let first = odd_half c k r m below odd h in
     let second = half c false k r m below refl height_ in
@@ -345,7 +372,8 @@ unfolding loaded_count
 loaded_with c odd r e = r.ce ∙ ap (λ (b : Bool). (meant_count c.bits c.cr - cond b 1 0) % modulus c.bits) e
 
 -- mode 2
-round_in_2 : (c : CounterParts) → Reloaded c → mode_of c.bits ≡ RateGenerator → c.ce < modulus c.bits → 2 ≤ meant_count c.bits c.cr → meant_count c.bits c.cr ≤ modulus c.bits → Round c (meant_count c.bits c.cr)
+round_in_2 : (c : CounterParts) → Reloaded c → mode_of c.bits ≡ RateGenerator → c.ce < modulus c.bits → 2 ≤ meant_count c.bits c.cr
+    → meant_count c.bits c.cr ≤ modulus c.bits → Round c (meant_count c.bits c.cr)
 unfolding is_odd_square
 round_in_2 c r m below some few =
     let even : is_odd_square c.bits c.cr ≡ false = ap (λ (n : Mode). is_square n && eqb (meant_count c.bits c.cr % 2) 1) m in
@@ -364,7 +392,8 @@ unfolding height
 height-nonzero c e = simp e
 
 -- mode 3, by whether the count is odd
-round_in_3 : (c : CounterParts) (odd : Bool) → Reloaded c → mode_of c.bits ≡ SquareWave → c.ce < modulus c.bits → 2 ≤ meant_count c.bits c.cr → meant_count c.bits c.cr ≤ modulus c.bits
+round_in_3 : (c : CounterParts) (odd : Bool) → Reloaded c → mode_of c.bits ≡ SquareWave → c.ce < modulus c.bits → 2 ≤ meant_count c.bits c.cr
+    → meant_count c.bits c.cr ≤ modulus c.bits
     → eqb (meant_count c.bits c.cr % 2) 1 ≡ odd → Round c (meant_count c.bits c.cr)
 unfolding is_odd_square
 round_in_3 c false r m below some few e =
@@ -381,10 +410,12 @@ round_in_3 c true r m below some few e =
     let loaded : c.ce ≡ meant_count c.bits c.cr - 1 = loaded_with c true r odd ∙ odd_count c.bits (meant_count c.bits c.cr) few halves in
     let whole : c.ce ≡ 2 * suc (meant_count c.bits c.cr / 2 - 1) = omega (arith, loaded, halves) in
     let tall : height c ≡ c.ce = height-nonzero c (ne_eqb c.ce 0 (λ z. omega (arith, whole))) in
-    let place : suc (suc (meant_count c.bits c.cr / 2 - 1)) + suc (meant_count c.bits c.cr / 2 - 1) ≡ meant_count c.bits c.cr = omega (arith, whole, loaded, halves) in
+    let place : suc (suc (meant_count c.bits c.cr / 2 - 1)) + suc (meant_count c.bits c.cr / 2 - 1) ≡ meant_count c.bits c.cr = omega
+    (arith, whole, loaded, halves) in
     subst (λ (n : ℕ). Round c n) place (round_3_odd c (meant_count c.bits c.cr / 2 - 1) r m below (r.odd ∙ odd) whole (tall ∙ whole))
 
-round_at : (c : CounterParts) (m : Mode) → mode_of c.bits ≡ m → is_periodic m ≡ true → Reloaded c → c.ce < modulus c.bits → 2 ≤ meant_count c.bits c.cr → meant_count c.bits c.cr ≤ modulus c.bits → Round c (meant_count c.bits c.cr)
+round_at : (c : CounterParts) (m : Mode) → mode_of c.bits ≡ m → is_periodic m ≡ true → Reloaded c → c.ce < modulus c.bits → 2 ≤ meant_count c.bits c.cr
+    → meant_count c.bits c.cr ≤ modulus c.bits → Round c (meant_count c.bits c.cr)
 round_at c TerminalCount m p r below some few = cc
 round_at c OneShot m p r below some few = cc
 round_at c RateGenerator m p r below some few = round_in_2 c r m below some few
@@ -410,7 +441,8 @@ periodic-from c h =
 meant_count-some : (bits cr : ℕ) → is_periodic (mode_of bits) ≡ true → 2 ≤ meant_count bits cr
 unfolding meant_count modulus
 meant_count-some bits cr p =
-    cond_both (eqb (number_in bits cr) 0) (cond (is_bcd bits) 10000 65536) (cond (eqb (number_in bits cr) 1 && is_periodic (mode_of bits)) 2 (number_in bits cr)) (λ x. 2 ≤ x)
+    cond_both (eqb (number_in bits cr) 0) (cond (is_bcd bits) 10000 65536)
+    (cond (eqb (number_in bits cr) 1 && is_periodic (mode_of bits)) 2 (number_in bits cr)) (λ x. 2 ≤ x)
     (λ _. cond_both (is_bcd bits) 10000 65536 (λ x. 2 ≤ x) (λ _. lit≤ tt) (λ _. lit≤ tt))
     (λ zero_. cond_both (eqb (number_in bits cr) 1 && is_periodic (mode_of bits)) 2 (number_in bits cr) (λ x. 2 ≤ x)
     (λ _. lit≤ tt)

@@ -80,7 +80,8 @@ mode_flags_valid m c =
 -- OUT is low only where its mode lets it be, and in mode 0 while a count waits for its load
 abbrev pub out_valid : Mode → CounterParts → Bool
 out_valid m c =
-    (c.out || may_be_low m c.live c.gate c.armed) && only_where (is_terminal m && c.null) (not c.out)
+    (c.out || may_be_low m c.live c.gate c.armed)
+    && only_where (is_terminal m && c.null) (not c.out)
 
 -- the flags
 unfoldable pub flags_valid : CounterParts → Bool

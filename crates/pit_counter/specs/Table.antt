@@ -1,5 +1,5 @@
--- The mode table: what one CLK pulse does. Intel 8254 data sheet, "Mode Definitions". What GATE does
--- by its level, and what the count reads between two loads of an odd count in mode 3, are (own).
+-- The mode table: what one CLK pulse does. Intel 8254 data sheet, "Mode Definitions". What GATE
+-- does by its level, and what the count reads between two loads of an odd count in mode 3, are (own).
 use Rattle.std.specs.Prelude.{ℕ, zero, suc, ◌==◌, ◌&&◌, ◌||◌, not, Bool, true, false, if◌then◌else◌}
 use Rattle.pit_counter.specs.Mode.{mode_of, has_strobe}
 use Rattle.pit_counter.specs.Count.{loaded_count, is_odd_square, lowered}
@@ -31,7 +31,8 @@ effect_in TerminalCount c =
     if c.null && c.full then Load c.out
     else if c.live && c.gate && not c.part_there then DownToHigh
     else Stand c.out
--- mode 1, hardware retriggerable one-shot: a trigger (own) loads and sets OUT low; OUT goes high at 0
+-- mode 1, hardware retriggerable one-shot: a trigger (own) loads and sets OUT low; OUT goes high
+-- at 0
 effect_in OneShot c =
     if c.trig then Load false
     else if c.live then DownToHigh

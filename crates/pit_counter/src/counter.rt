@@ -47,7 +47,8 @@ impl Model for Counter {
 
 #[tactic(auto, using(crate::proofs::Keeps::keeps))]
 impl Counter {
-    /// A counter at power on, with GATE at this level: programmed bits 36h, OUT high, no count (own).
+    /// A counter at power on, with GATE at this level: programmed bits 36h, OUT high, no count
+    /// (own).
     pub fn power_on(gate: bool) -> Counter
         ensures { result ≡ counter_at_power_on gate }
     {
@@ -75,8 +76,8 @@ impl Counter {
         }
     }
 
-    /// Writes a control word, of which `bits` is D5 to D0: the mode, the number system and the bytes
-    /// of the count. Answers whether OUT rose.
+    /// Writes a control word, of which `bits` is D5 to D0: the mode, the number system and the
+    /// bytes of the count. Answers whether OUT rose.
     pub fn control(&mut self, bits: u8) -> bool
         requires least { 16 ≤ bits }
         requires greatest { bits < 64 }
@@ -150,8 +151,8 @@ impl Counter {
         self.parts = reading::with_status_latched(self.parts);
     }
 
-    /// Reads a byte: a latched status first, then a latched count, else the present count, its bytes
-    /// by the programmed bits.
+    /// Reads a byte: a latched status first, then a latched count, else the present count, its
+    /// bytes by the programmed bits.
     pub fn read(&mut self) -> u8
         ensures state { self.new ≡ after_read self.old }
         ensures byte { result ≡ byte_read self.old }

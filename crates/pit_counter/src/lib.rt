@@ -1,8 +1,9 @@
 //! One counter of the Intel 8254 programmable interval timer: its six modes, binary and BCD counts,
 //! GATE, latches and the order in which its bytes are read.
 //!
-//! The standard is the Intel 8254 data sheet; where it leaves a choice, ours is marked (own). A counter
-//! takes time as CLK pulses and says at which of them OUT rises. Counter 0 of a PC, dividing by 4:
+//! The standard is the Intel 8254 data sheet; where it leaves a choice, ours is marked (own). A
+//! counter takes time as CLK pulses and says at which of them OUT rises. Counter 0 of a PC,
+//! dividing by 4:
 //!
 //! ```text
 //! let mut counter = Counter::power_on(true);

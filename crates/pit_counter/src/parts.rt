@@ -192,8 +192,8 @@ fn cr_valid(p: &CounterParts) -> bool
     p.full || p.cr == 0
 }
 
-/// The counting element is in its range, 0 before the first load, even in mode 3, and 1 where OUT is
-/// low in mode 2.
+/// The counting element is in its range, 0 before the first load, even in mode 3, and 1 where OUT
+/// is low in mode 2.
 #[tactic(auto, unfolding(crate::specs::Parts::ce_valid))]
 fn ce_valid(p: &CounterParts) -> bool
     ensures { result ≡ ce_valid p.now }

@@ -1,5 +1,5 @@
-//! What control words, counts and GATE do to a counter. Intel 8254 data sheet, "Programming the 8254"
-//! and "Gate".
+//! What control words, counts and GATE do to a counter. Intel 8254 data sheet, "Programming the
+//! 8254" and "Gate".
 
 ghost use Rattle.std.specs.Prelude.{◌≡◌};
 ghost use Rattle.pit_counter.specs.Programming.{

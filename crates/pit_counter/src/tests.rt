@@ -1,5 +1,5 @@
-//! Counts and levels worked out by hand from the timing diagrams of the Intel 8254 data sheet, "Mode
-//! Definitions".
+//! Counts and levels worked out by hand from the timing diagrams of the Intel 8254 data sheet,
+//! "Mode Definitions".
 
 use super::*;
 use crate::table::{has_risen, pulsed};

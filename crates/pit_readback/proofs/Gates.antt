@@ -20,7 +20,8 @@ gate-byte_written_by : (a : Access) (byte : ℕ) (c : CounterParts) → (byte_wr
 unfolding byte_written_by completed begun
 gate-byte_written_by LowByte byte c = refl
 gate-byte_written_by HighByte byte c = refl
-gate-byte_written_by LowThenHigh byte c = cond_both c.part_there (completed (c.part + byte * 256) c) (begun byte c) (λ d. d.gate ≡ c.gate) (λ _. refl) (λ _. refl)
+gate-byte_written_by LowThenHigh byte c = cond_both c.part_there (completed (c.part + byte * 256) c) (begun byte c) (λ d. d.gate ≡ c.gate) (λ _. refl)
+    (λ _. refl)
 
 -- a byte of a count
 pub gate-byte_written : (byte : ℕ) (c : CounterParts) → (byte_written byte c).gate ≡ c.gate
@@ -49,7 +50,8 @@ gate-status_latched_if false c = refl
 -- a read-back command
 pub gate-read_back_of : (byte k : ℕ) (c : CounterParts) → (read_back_of byte k c).gate ≡ c.gate
 unfolding read_back_of
-gate-read_back_of byte k c = gate-status_latched_if (latches_status byte k) (count_latched_if (latches_count byte k) c) ∙ gate-count_latched_if (latches_count byte k) c
+gate-read_back_of byte k c = gate-status_latched_if (latches_status byte k) (count_latched_if (latches_count byte k) c)
+    ∙ gate-count_latched_if (latches_count byte k) c
 
 gate-affected : (e : Effect) (c : CounterParts) → (affected e c).gate ≡ c.gate
 gate-affected (Load level) c = refl

@@ -1,5 +1,32 @@
 -- Each definition keeps the conditions on a timer's fields.
-use Rattle.std.proofs.Common.{◌≡◌, ℕ, ◌-◌, ◌/◌, ◌%◌, ◌<◌, Bool, true, false, List, length, slice_set, get_or, eqb, zero, suc, refl, sym, ap, ◌∙◌, subst, inl, inr, arith, lit<, lit≤}
+use Rattle.std.proofs.Common.{
+  ◌≡◌,
+  ℕ,
+  ◌-◌,
+  ◌/◌,
+  ◌%◌,
+  ◌<◌,
+  Bool,
+  true,
+  false,
+  List,
+  length,
+  slice_set,
+  get_or,
+  eqb,
+  zero,
+  suc,
+  refl,
+  sym,
+  ap,
+  ◌∙◌,
+  subst,
+  inl,
+  inr,
+  arith,
+  lit<,
+  lit≤,
+}
 use Rattle.std.proofs.lemmas.Bool.{cases_order, cond_both, eqb-false}
 use Rattle.std.proofs.lemmas.List.{get_or-set_other, length-set, get_or_past}
 use Rattle.std.proofs.lemmas.Grind.{get_or-set_at}
@@ -34,12 +61,7 @@ use Rattle.pit_readback.specs.Ports.{
   after_port_read,
 }
 use Rattle.pit_readback.proofs.Gates.{gate-byte_written, gate-commanded, gate-after_read, gate-read_back_of, gate-pulsed_times}
-use Rattle.pit_readback.proofs.Three.{
-  pit_pulsed_times-zero,
-  pit_pulsed_times-suc,
-  counter_of-pit_pulsed_times,
-  length-pit_pulsed_times,
-}
+use Rattle.pit_readback.proofs.Three.{pit_pulsed_times-zero, pit_pulsed_times-suc, counter_of-pit_pulsed_times, length-pit_pulsed_times}
 
 -- what holds of a counter and of the new one holds of the counter at its place
 at : (P : CounterParts → Type 0) (xs : List CounterParts) (k j : ℕ) (c d : CounterParts) → j < length xs → P (get_or xs j d) → (k ≡ j → P c)

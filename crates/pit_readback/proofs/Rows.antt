@@ -1,11 +1,41 @@
 -- Small rows that pin the definitions: the commands at port 43h, and port 61h.
-use Rattle.std.proofs.Common.{◌≡◌, true, false, refl}
+use Rattle.std.proofs.Common.{◌≡◌, Bool, true, false, Some, None, [], ◌∷◌, refl}
 use Rattle.pit_counter.specs.Mode.{mode_of, access_of, is_bcd}
-use Rattle.pit_counter.specs.Count.{read_as}
-use Rattle.pit_counter.specs.Programming.{programmed, gated}
-use Rattle.pit_counter.specs.Reading.{count_of, status_of, shown_count, with_count_latched, with_status_latched, byte_read, status_released, count_released, after_read}
+use Rattle.pit_counter.specs.Count.{modulus, read_as}
+use Rattle.pit_counter.specs.Programming.{programmed, counter_at_power_on, gated}
+use Rattle.pit_counter.specs.Reading.{
+  count_of,
+  status_of,
+  shown_count,
+  with_count_latched,
+  with_status_latched,
+  byte_read,
+  status_released,
+  count_released,
+  after_read,
+}
 use Rattle.pit_readback.specs.Pit.{pit_at_power_on}
-use Rattle.pit_readback.specs.Ports.{is_chosen, latches_count, latches_status, count_latched_if, status_latched_if, read_back_of, read_back, commanded, written_43, port_written, port_read, after_port_read, written_61, read_of_61}
+use Rattle.pit_readback.specs.Ports.{
+  is_pit_port,
+  is_chosen,
+  latches_count,
+  latches_status,
+  count_latched_if,
+  status_latched_if,
+  read_back_of,
+  read_back,
+  commanded,
+  written_43,
+  port_written,
+  port_read,
+  after_port_read,
+  written_61,
+  read_of_61,
+}
+use Rattle.pit_counter.specs.Parts.{bits_valid, flags_valid, cr_valid, ce_valid, part_valid, read_order_valid, latched_count_valid, latched_status_valid}
+use Rattle.pit_counter.specs.declared.parts.CounterField.TheVariants.{ProgrammedBits, Flags}
+use Rattle.pit_counter.specs.declared.parts.CounterParts.{CounterParts}
+use Rattle.pit_readback.specs.Parts.{pit_fault}
 use Rattle.pit_readback.specs.declared.parts.PitParts.{PitParts}
 
 -- read-back of D5 D4 = 00, 01 and 10, with counters 0 and 2 chosen, and one with D0 = 1
@@ -34,12 +64,15 @@ programmed_74 : PitParts
 programmed_74 = written_43 0x74 pit_at_power_on
 
 status_of_counter_1 : port_read 0 0x41 (port_written 0x43 0xe4 programmed_74) ≡ 0xf4
-unfolding programmed_74 port_read port_written written_43 commanded read_back read_back_of latches_count latches_status is_chosen count_latched_if status_latched_if programmed with_count_latched with_status_latched status_of byte_read mode_of
+unfolding programmed_74 port_read port_written written_43 commanded read_back read_back_of latches_count latches_status is_chosen count_latched_if
+    status_latched_if programmed with_count_latched with_status_latched status_of byte_read mode_of
 status_of_counter_1 = refl
 
 -- once read, the count comes next
 status_is_read_once : port_read 0 0x41 (after_port_read 0x41 (port_written 0x43 0xe4 programmed_74)) ≡ 0x00
-unfolding programmed_74 port_read after_port_read after_read status_released count_released port_written written_43 commanded read_back read_back_of latches_count latches_status is_chosen count_latched_if status_latched_if programmed with_count_latched with_status_latched status_of byte_read shown_count count_of read_as access_of is_bcd
+unfolding programmed_74 port_read after_port_read after_read status_released count_released port_written written_43 commanded read_back read_back_of
+    latches_count latches_status is_chosen count_latched_if status_latched_if programmed with_count_latched with_status_latched status_of byte_read
+    shown_count count_of read_as access_of is_bcd
 status_is_read_once = refl
 
 port_43_reads_ones : port_read 0 0x43 pit_at_power_on ≡ 0xff
@@ -54,3 +87,69 @@ port_61_at_power_on = refl
 port_61_as_written : read_of_61 16384 (written_61 0x03 pit_at_power_on) ≡ 0x33
 unfolding read_of_61 written_61 gated programmed mode_of
 port_61_as_written = refl
+
+-- the ports
+the_system_port : is_pit_port 0x61 ≡ true
+the_system_port = refl
+
+the_last_port : is_pit_port 0x43 ≡ true
+the_last_port = refl
+
+no_port_behind : is_pit_port 0x44 ≡ false
+no_port_behind = refl
+
+no_port_before : is_pit_port 0x3f ≡ false
+no_port_before = refl
+
+-- port 61h through the calls for all ports
+port_61_written : (port_written 0x61 0x02 pit_at_power_on).speaker ≡ true
+unfolding port_written written_61
+port_61_written = refl
+
+port_61_read : port_read 16384 0x61 pit_at_power_on ≡ 0x30
+unfolding port_read read_of_61 programmed mode_of
+port_61_read = refl
+
+port_61_is_read_again : after_port_read 0x61 pit_at_power_on ≡ pit_at_power_on
+unfolding after_port_read
+port_61_is_read_again = refl
+
+-- ---- the conditions on the fields: GATE of counters 0 and 1 is one on the flags
+
+-- a timer of these counters
+abbrev of_counters : CounterParts → CounterParts → CounterParts → PitParts
+of_counters a b c = record { counters = a ∷ b ∷ c ∷ []; speaker = false }
+
+-- a counter at power on, with GATE at a level
+abbrev at_gate : Bool → CounterParts
+at_gate level = counter_at_power_on level
+
+no_fault : pit_fault (of_counters (at_gate true) (at_gate true) (at_gate false)) ≡ None
+unfolding programmed mode_of access_of is_bcd modulus
+    bits_valid flags_valid cr_valid ce_valid part_valid read_order_valid latched_count_valid latched_status_valid
+no_fault = refl
+
+gate_2_is_free : pit_fault (of_counters (at_gate true) (at_gate true) (at_gate true)) ≡ None
+unfolding programmed mode_of access_of is_bcd modulus
+    bits_valid flags_valid cr_valid ce_valid part_valid read_order_valid latched_count_valid latched_status_valid
+gate_2_is_free = refl
+
+gate_0_is_high : pit_fault (of_counters (at_gate false) (at_gate true) (at_gate false)) ≡ Some (record { counter = 0; field = Flags })
+unfolding programmed mode_of access_of is_bcd modulus
+    bits_valid flags_valid cr_valid ce_valid part_valid read_order_valid latched_count_valid latched_status_valid
+gate_0_is_high = refl
+
+gate_1_is_high : pit_fault (of_counters (at_gate true) (at_gate false) (at_gate false)) ≡ Some (record { counter = 1; field = Flags })
+unfolding programmed mode_of access_of is_bcd modulus
+    bits_valid flags_valid cr_valid ce_valid part_valid read_order_valid latched_count_valid latched_status_valid
+gate_1_is_high = refl
+
+bits_before_gate : pit_fault (of_counters (at_gate true) (programmed 0 false) (programmed 0 false)) ≡ Some (record { counter = 1; field = ProgrammedBits })
+unfolding programmed mode_of access_of is_bcd modulus
+    bits_valid flags_valid cr_valid ce_valid part_valid read_order_valid latched_count_valid latched_status_valid
+bits_before_gate = refl
+
+bits_of_counter_2 : pit_fault (of_counters (at_gate true) (at_gate true) (programmed 0 false)) ≡ Some (record { counter = 2; field = ProgrammedBits })
+unfolding programmed mode_of access_of is_bcd modulus
+    bits_valid flags_valid cr_valid ce_valid part_valid read_order_valid latched_count_valid latched_status_valid
+bits_of_counter_2 = refl

@@ -42,10 +42,12 @@ map_more n (x ∷ xs) = ap (λ (ys : List CounterParts). pulsed (pulsed_times n 
 pub pit_pulsed_times-each : (n : ℕ) (p : PitParts) → pit_pulsed_times n p ≡ record p { counters = map (pulsed_times n) p.counters }
 unfolding pit_pulsed_times pit_pulsed
 pit_pulsed_times-each zero p = ap (λ (xs : List CounterParts). record p { counters = xs }) (sym (map_same p.counters))
-pit_pulsed_times-each (suc n) p = ap pit_pulsed (pit_pulsed_times-each n p) ∙ ap (λ (xs : List CounterParts). record p { counters = xs }) (map_more n p.counters)
+pit_pulsed_times-each (suc n) p = ap pit_pulsed (pit_pulsed_times-each n p)
+    ∙ ap (λ (xs : List CounterParts). record p { counters = xs }) (map_more n p.counters)
 
 -- where no counter is there a pulse changes nothing
-get_or-map_pulsed : (n : ℕ) (xs : List CounterParts) (k : ℕ) → get_or (map (pulsed_times n) xs) k (counter_at_power_on true) ≡ pulsed_times n (get_or xs k (counter_at_power_on true))
+get_or-map_pulsed : (n : ℕ) (xs : List CounterParts) (k : ℕ)
+    → get_or (map (pulsed_times n) xs) k (counter_at_power_on true) ≡ pulsed_times n (get_or xs k (counter_at_power_on true))
 get_or-map_pulsed n [] k = sym (pulsed_times-counter_at_power_on true n)
 get_or-map_pulsed n (x ∷ xs) zero = refl
 get_or-map_pulsed n (x ∷ xs) (suc k) = get_or-map_pulsed n xs k

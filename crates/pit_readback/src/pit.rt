@@ -118,14 +118,15 @@ impl Pit {
         })
     }
 
-    /// Writes a byte to one of the ports: to 40h, 41h or 42h a byte of a count, to 43h a control word,
-    /// a latch or a read-back command, to 61h GATE of counter 2 and speaker data. Answers whether OUT
-    /// of counter 0 rose.
+    /// Writes a byte to one of the ports: to 40h, 41h or 42h a byte of a count, to 43h a control
+    /// word, a latch or a read-back command, to 61h GATE of counter 2 and speaker data. Answers
+    /// whether OUT of counter 0 rose.
     #[tactic(auto, unfolding(crate::specs::Ports::port_written))]
     pub fn write(&mut self, port: u8, byte: u8) -> bool
         requires { IsTrue (is_pit_port port) }
         ensures state { self.new ≡ port_written port byte self.old }
-        ensures rose { result ≡ has_risen (counter_of self.old 0) (counter_of (port_written port byte self.old) 0) }
+        ensures rose { result ≡ has_risen (counter_of self.old 0)
+            (counter_of (port_written port byte self.old) 0) }
     {
         if port == SYSTEM {
             self.write_61(byte);
@@ -143,7 +144,8 @@ impl Pit {
     #[tactic(auto, unfolding(crate::specs::Ports::written_43))]
     fn write_43(&mut self, byte: u8) -> bool
         ensures state { self.new ≡ written_43 byte self.old }
-        ensures rose { result ≡ has_risen (counter_of self.old 0) (counter_of (written_43 byte self.old) 0) }
+        ensures rose { result ≡ has_risen (counter_of self.old 0)
+            (counter_of (written_43 byte self.old) 0) }
     {
         let k = byte / 64;
         if k == 3 {
@@ -157,7 +159,8 @@ impl Pit {
     #[tactic(auto, unfolding(crate::specs::Ports::read_back))]
     fn read_back(&mut self, byte: u8) -> bool
         ensures state { self.new ≡ read_back byte self.old }
-        ensures rose { result ≡ has_risen (counter_of self.old 0) (counter_of (read_back byte self.old) 0) }
+        ensures rose { result ≡ has_risen (counter_of self.old 0)
+            (counter_of (read_back byte self.old) 0) }
     {
         let first = read_back_of(byte, 0, self.counter(0));
         let second = read_back_of(byte, 1, self.counter(1));
@@ -168,8 +171,8 @@ impl Pit {
         rose
     }
 
-    /// Reads one of the ports at nanosecond `now`: 40h, 41h or 42h gives a latched status first, then
-    /// a latched count, else the present count; 43h reads FFh (own); 61h as `read_61` tells.
+    /// Reads one of the ports at nanosecond `now`: 40h, 41h or 42h gives a latched status first,
+    /// then a latched count, else the present count; 43h reads FFh (own); 61h as `read_61` tells.
     #[tactic(auto, unfolding(crate::specs::Ports::port_read, crate::specs::Ports::after_port_read))]
     pub fn read(&mut self, port: u8, now: u64) -> u8
         requires { IsTrue (is_pit_port port) }
@@ -200,8 +203,8 @@ impl Pit {
         self.speaker = bit(1, byte as u64);
     }
 
-    /// Reads port 61h at nanosecond `now`: bit 0 GATE of counter 2, bit 1 speaker data, bit 4 bit 14 of
-    /// `now` (own), bit 5 OUT of counter 2.
+    /// Reads port 61h at nanosecond `now`: bit 0 GATE of counter 2, bit 1 speaker data, bit 4 bit
+    /// 14 of `now` (own), bit 5 OUT of counter 2.
     #[tactic(auto, unfolding(crate::specs::Ports::read_of_61))]
     pub fn read_61(&self, now: u64) -> u8
         ensures { result ≡ read_of_61 now self.now }
@@ -214,8 +217,8 @@ impl Pit {
         bits as u8
     }
 
-    /// Takes `n` CLK pulses in each counter. Answers how often OUT of counter 0 rose, and at which of
-    /// them first.
+    /// Takes `n` CLK pulses in each counter. Answers how often OUT of counter 0 rose, and at which
+    /// of them first.
     pub fn pulses(&mut self, n: u64) -> Rises
         ensures state { self.new ≡ pit_pulsed_times n self.old }
         ensures three { length self.new.counters ≡ 3 }
@@ -243,12 +246,14 @@ impl Pit {
         self.counters[k as usize].out()
     }
 
-    /// Puts another counter in the place of counter `k`. Answers whether OUT of counter 0 rose by that.
+    /// Puts another counter in the place of counter `k`. Answers whether OUT of counter 0 rose by
+    /// that.
     fn replace(&mut self, k: u8, counter: Counter) -> bool
         requires three { k < 3 }
         requires wired { k < 2 → IsTrue counter.gate }
         ensures state { self.new ≡ with_counter k counter self.old }
-        ensures rose { result ≡ has_risen (counter_of self.old 0) (counter_of (with_counter k counter self.old) 0) }
+        ensures rose { result ≡ has_risen (counter_of self.old 0)
+            (counter_of (with_counter k counter self.old) 0) }
     {
         let out = self.counters[0].out();
         self.counters[k as usize] = counter;
@@ -259,9 +264,11 @@ impl Pit {
 /// Takes `n` CLK pulses in each of three counters. Answers the rises of OUT of the first.
 fn pulse_each(counters: &mut [Counter; 3], n: u64) -> Rises
     ensures state { counters.new ≡ map (pulsed_times n) counters.old }
-    ensures count { result.count ≡ rises_in (slice_index_or counters.old 0 (counter_at_power_on true)) n }
+    ensures count { result.count
+        ≡ rises_in (slice_index_or counters.old 0 (counter_at_power_on true)) n }
     ensures few { result.count ≤ n }
-    ensures first { IsFirst (rises_in (slice_index_or counters.old 0 (counter_at_power_on true))) n result.first }
+    ensures first { IsFirst (rises_in (slice_index_or counters.old 0 (counter_at_power_on true)))
+        n result.first }
 {
     let rises = counters[0].pulses(n);
     counters[1].pulses(n);

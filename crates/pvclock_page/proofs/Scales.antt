@@ -105,11 +105,13 @@ mul_at-halved hz n (negsuc k) e =
 
 -- how far a number of 32 to 39 bits is shifted to fill 32 bits
 pub filled : (w : ℕ) → 2 ^ 31 ≤ w → w < 2 ^ 39
-    → (25 ≤ count_leading_zeros 64 w) × (count_leading_zeros 64 w ≤ 32) × (2 ^ 31 ≤ w / 2 ^ (32 - count_leading_zeros 64 w)) × (w / 2 ^ (32 - count_leading_zeros 64 w) < 2 ^ 32)
+    → (25 ≤ count_leading_zeros 64 w) × (count_leading_zeros 64 w ≤ 32) × (2 ^ 31 ≤ w / 2 ^ (32 - count_leading_zeros 64 w))
+    × (w / 2 ^ (32 - count_leading_zeros 64 w) < 2 ^ 32)
 filled w low high = by_top (leading_top 64 w (omega arith) (omega arith))
   where
     by_top : (j : ℕ) × (count_leading_zeros 64 w + suc j ≡ 64) × (2 ^ j ≤ w) × (w < 2 ^ suc j)
-        → (25 ≤ count_leading_zeros 64 w) × (count_leading_zeros 64 w ≤ 32) × (2 ^ 31 ≤ w / 2 ^ (32 - count_leading_zeros 64 w)) × (w / 2 ^ (32 - count_leading_zeros 64 w) < 2 ^ 32)
+        → (25 ≤ count_leading_zeros 64 w) × (count_leading_zeros 64 w ≤ 32) × (2 ^ 31 ≤ w / 2 ^ (32 - count_leading_zeros 64 w))
+        × (w / 2 ^ (32 - count_leading_zeros 64 w) < 2 ^ 32)
     by_top (j, e, least, most) =
         let above : 31 ≤ j = elim (cases_lt j 31) [
           | inl less ↦ let short : 2 ^ suc j ≤ 2 ^ 31 = pow-le-pow_right (omega arith) less in absurd (omega arith)
@@ -149,7 +151,8 @@ IsScale-filled hz z slow fast e =
     }
 
 -- a shift is that of a scale where the multiplier fits it
-scale_left : (hz n : ℕ) → 0 < hz → 2 ^ 31 * (hz * 2 ^ n) ≤ 1000000000 * 2 ^ 32 → 1000000000 * 2 ^ 32 < 2 ^ 32 * (hz * 2 ^ n) → IsScale hz (mul_at hz (pos n)) (pos n)
+scale_left : (hz n : ℕ) → 0 < hz → 2 ^ 31 * (hz * 2 ^ n) ≤ 1000000000 * 2 ^ 32 → 1000000000 * 2 ^ 32 < 2 ^ 32 * (hz * 2 ^ n)
+    → IsScale hz (mul_at hz (pos n)) (pos n)
 scale_left hz n runs low high =
     let full : hz * 1 ≤ hz * 2 ^ n = mul-le-mul_left hz (pow_pos n) in
     let positive : 0 < hz * 2 ^ n = omega arith in
@@ -159,7 +162,8 @@ scale_left hz n runs low high =
       most = div_below (1000000000 * 2 ^ 32) (hz * 2 ^ n) (2 ^ 32) positive high;
     }
 
-scale_right : (hz n : ℕ) → 0 < hz → 2 ^ 31 * hz ≤ 1000000000 * 2 ^ (32 + (n + 1)) → 1000000000 * 2 ^ (32 + (n + 1)) < 2 ^ 32 * hz → IsScale hz (mul_at hz (negsuc n)) (negsuc n)
+scale_right : (hz n : ℕ) → 0 < hz → 2 ^ 31 * hz ≤ 1000000000 * 2 ^ (32 + (n + 1)) → 1000000000 * 2 ^ (32 + (n + 1)) < 2 ^ 32 * hz
+    → IsScale hz (mul_at hz (negsuc n)) (negsuc n)
 scale_right hz n runs low high = record {
   value = refl;
   least = le-div (2 ^ 31) (1000000000 * 2 ^ (32 + (n + 1))) hz runs low;

@@ -23,12 +23,14 @@ elapsed_of-mono mul shift a b h =
     div-mono (shifted shift a * mul) (shifted shift b * mul) (2 ^ 32) some (mul-le-mul_right mul (shifted-mono shift a b h))
 
 -- the time grows with the ticks, as long as it doesn't wrap
-pub reading_of-mono : (page : Page) (earlier tsc : ℕ) → delta_of page earlier ≤ delta_of page tsc → whole_reading page tsc < 2 ^ 64 → reading_of page earlier ≤ reading_of page tsc
+pub reading_of-mono : (page : Page) (earlier tsc : ℕ) → delta_of page earlier ≤ delta_of page tsc → whole_reading page tsc < 2 ^ 64
+    → reading_of page earlier ≤ reading_of page tsc
 unfolding reading_of
 reading_of-mono page earlier tsc h fits = modulo (whole_reading page earlier) (whole_reading page tsc) grown fits
   where
     grown : whole_reading page earlier ≤ whole_reading page tsc
-    grown = let e : elapsed_of (delta_of page earlier) page.mul page.shift ≤ elapsed_of (delta_of page tsc) page.mul page.shift = elapsed_of-mono page.mul page.shift (delta_of page earlier) (delta_of page tsc) h in omega (arith, e)
+    grown = let e : elapsed_of (delta_of page earlier) page.mul page.shift ≤ elapsed_of (delta_of page tsc) page.mul page.shift =
+        elapsed_of-mono page.mul page.shift (delta_of page earlier) (delta_of page tsc) h in omega (arith, e)
 
     modulo : (a b : ℕ) → a ≤ b → b < 2 ^ 64 → a % 2 ^ 64 ≤ b % 2 ^ 64
     modulo a b h fits = omega arith
@@ -80,27 +82,42 @@ rounded d p m e h k q r runs some k_is q_is m_is least r_is =
 pub IsNear-elapsed_of : (hz delta mul : ℕ) (shift : ℤ) → IsScale hz mul shift → IsNear hz delta shift (elapsed_of delta mul shift)
 IsNear-elapsed_of hz delta mul (pos n) s =
     let runs : 0 < hz = IsScale-runs hz mul (pos n) s in
-    let near = rounded delta (2 ^ n) mul (1000000000 * 2 ^ 32) hz (hz * 2 ^ n) (delta * 2 ^ n) (delta * 2 ^ n * mul / 2 ^ 32) runs (pow_pos n) (omega arith) (omega arith) s.value s.least (omega arith) in
+    let near = rounded delta (2 ^ n) mul (1000000000 * 2 ^ 32) hz (hz * 2 ^ n) (delta * 2 ^ n) (delta * 2 ^ n * mul / 2 ^ 32) runs (pow_pos n)
+    (omega arith) (omega arith) s.value s.least (omega arith) in
     record { not_ahead = omega (arith, near.0); behind = omega (arith, near.1) }
 IsNear-elapsed_of hz delta mul (negsuc n) s =
     let runs : 0 < hz = IsScale-runs hz mul (negsuc n) s in
     let some : 0 < 2 ^ (n + 1) = pow_pos (n + 1) in
     let wide : 1000000000 * 2 ^ (32 + (n + 1)) ≡ 1000000000 * 2 ^ 32 * 2 ^ (n + 1) = ap (λ (x : ℕ). 1000000000 * x) (pow-add 2 32 (n + 1)) ∙ omega arith in
     let mul_is : mul ≡ 1000000000 * 2 ^ 32 * 2 ^ (n + 1) / hz = s.value ∙ ap (λ (x : ℕ). x / hz) wide in
-    let near = rounded (delta / 2 ^ (n + 1)) 1 mul (1000000000 * 2 ^ 32 * 2 ^ (n + 1)) hz hz (delta / 2 ^ (n + 1)) (delta / 2 ^ (n + 1) * mul / 2 ^ 32) runs (omega arith) (omega arith) (omega arith) mul_is s.least (omega arith) in
+    let near = rounded (delta / 2 ^ (n + 1)) 1 mul (1000000000 * 2 ^ 32 * 2 ^ (n + 1)) hz hz (delta / 2 ^ (n + 1))
+    (delta / 2 ^ (n + 1) * mul / 2 ^ 32) runs (omega arith) (omega arith) (omega arith) mul_is s.least (omega arith) in
     let quotient : 1000000000 * 2 ^ 32 * 2 ^ (n + 1) / hz < 2 ^ 32 = omega (arith, mul_is, s.most) in
     let narrow : 1000000000 * 2 ^ 32 * 2 ^ (n + 1) < 2 ^ 32 * hz = (div-lt_iff_lt-mul runs).0 quotient in
     let kept : delta / 2 ^ (n + 1) * 2 ^ (n + 1) ≤ delta = div-mul-le_self delta (2 ^ (n + 1)) in
     let dropped : delta < delta / 2 ^ (n + 1) * 2 ^ (n + 1) + 2 ^ (n + 1) = lt-div-mul-add some in
-    near_right hz delta (delta / 2 ^ (n + 1)) (2 ^ (n + 1)) (delta / 2 ^ (n + 1) * mul / 2 ^ 32) n near.0 near.1 narrow kept dropped
+    let bounds = right_bounds hz delta (delta / 2 ^ (n + 1)) (2 ^ (n + 1)) (delta - delta / 2 ^ (n + 1) * 2 ^ (n + 1)) (delta / 2 ^ (n + 1) * mul / 2 ^ 32)
+    (2 * 2 ^ (n + 1) - 1)
+    some near.0 near.1 narrow (omega arith) (omega arith) (omega arith) in
+    record { not_ahead = bounds.0; behind = bounds.1 }
   where
-    near_right : (hz delta d s r n : ℕ) → r * 2 ^ 32 * hz ≤ d * (1000000000 * 2 ^ 32 * s)
+    right_bounds : (hz delta d s e r u : ℕ) → 0 < s → r * 2 ^ 32 * hz ≤ d * (1000000000 * 2 ^ 32 * s)
         → d * (1000000000 * 2 ^ 32 * s) * 2 ^ 31 < (r + 1) * 2 ^ 32 * hz * 2 ^ 31 + d * (1000000000 * 2 ^ 32 * s)
-        → 1000000000 * 2 ^ 32 * s < 2 ^ 32 * hz → d * s ≤ delta → delta < d * s + s → IsNear hz delta (negsuc n) r
-    near_right hz delta d s r n low high narrow kept dropped = record { not_ahead = omega arith; behind = omega arith }
+        → 1000000000 * 2 ^ 32 * s < 2 ^ 32 * hz → d * s + e ≡ delta → e < s → u + 1 ≡ 2 * s
+        → (r * hz ≤ delta * 1000000000) × (delta * 1000000000 * s * 2 ^ 31 < (r * s + u) * hz * 2 ^ 31 + delta * 1000000000 * s)
+    right_bounds hz delta d s e r u some low high narrow whole few slack_is =
+        let tick : 1000000000 * s + 1 ≤ hz = omega arith in
+        let units : d * s * 1000000000 * 2 ^ 31 + 1 ≤ r * hz * 2 ^ 31 + hz * 2 ^ 31 + d * s * 1000000000 = omega arith in
+        let all : (d * s * 1000000000 * 2 ^ 31 + 1) * s ≤ (r * hz * 2 ^ 31 + hz * 2 ^ 31 + d * s * 1000000000) * s = mul-le-mul_right s units in
+        let dropped : e * (1000000000 * s + 1) ≤ e * hz = mul-le-mul_left e tick in
+        let rest : e + 1 ≤ s = omega arith in
+        let short : (e + 1) * hz ≤ s * hz = mul-le-mul_right hz rest in
+        let slack : (u + 1) * hz ≡ 2 * s * hz = ap (λ (x : ℕ). x * hz) slack_is in
+        rw (← whole) (omega arith, omega arith)
 
 -- what a time that doesn't wrap adds to the page's
-pub elapsed-whole : (page : Page) (tsc : ℕ) → whole_reading page tsc < 2 ^ 64 → reading_of page tsc - page.system_time ≡ elapsed_of (delta_of page tsc) page.mul page.shift
+pub elapsed-whole : (page : Page) (tsc : ℕ) → whole_reading page tsc < 2 ^ 64
+    → reading_of page tsc - page.system_time ≡ elapsed_of (delta_of page tsc) page.mul page.shift
 unfolding reading_of
 elapsed-whole page tsc fits = less (elapsed_of (delta_of page tsc) page.mul page.shift) page.system_time fits
   where
@@ -137,14 +154,15 @@ reading_of-zero page tsc fits none =
     alone n fits = omega arith
 
 -- at the timestamp no ticks have come
+pub ticks_since-same : (n : ℕ) → n < 2 ^ 64 → ticks_since n n ≡ 0
+ticks_since-same n fits = let e : (n + (2 ^ 64 - n)) % 2 ^ 64 ≡ 0 = omega arith in rw e refl
+
 pub delta_of-timestamp : (page : Page) → page.tsc_timestamp < 2 ^ 64 → delta_of page page.tsc_timestamp ≡ 0
-delta_of-timestamp page fits = at_stamp page.tsc_timestamp fits
-  where
-    at_stamp : (n : ℕ) → n < 2 ^ 64 → ticks_since n n ≡ 0
-    at_stamp n fits = let e : (n + (2 ^ 64 - n)) % 2 ^ 64 ≡ 0 = omega arith in rw e refl
+delta_of-timestamp page fits = ticks_since-same page.tsc_timestamp fits
 
 -- of two TSCs ahead of the timestamp the later one has no fewer ticks
-pub delta_of-mono : (page : Page) (earlier tsc : ℕ) → tsc < 2 ^ 64 → page.tsc_timestamp ≤ earlier → earlier ≤ tsc → tsc - page.tsc_timestamp < 2 ^ 63 → delta_of page earlier ≤ delta_of page tsc
+pub delta_of-mono : (page : Page) (earlier tsc : ℕ) → tsc < 2 ^ 64 → page.tsc_timestamp ≤ earlier → earlier ≤ tsc → tsc - page.tsc_timestamp < 2 ^ 63
+    → delta_of page earlier ≤ delta_of page tsc
 delta_of-mono page earlier tsc fits from h near =
     rw (ahead page.tsc_timestamp earlier (omega arith) from (omega arith), ahead page.tsc_timestamp tsc fits (omega arith) near) (omega arith)
   where

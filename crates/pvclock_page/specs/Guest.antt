@@ -1,13 +1,14 @@
--- The bytes of a page in the guest's memory: struct pvclock_vcpu_time_info of Linux's pvclock-abi.h.
+-- The bytes of a page in the guest's memory: struct pvclock_vcpu_time_info, Linux's pvclock-abi.h.
 use Rattle.std.specs.Prelude.{◌≡◌, ℕ, ◌++◌, List, [], ◌∷◌, drop, slice_index}
 use Rattle.std.specs.Int.{w8, cast_unsigned, cast_signed}
 use Rattle.byteorder.specs.Endian.{little_bytes, little_number}
 use Rattle.pvclock_page.specs.declared.page.Page.{Page}
 
--- u32 version, u32 pad, u64 tsc_timestamp, u64 system_time, u32 mul, i8 shift, u8 flags, u8 pad[2]
+-- u32 version, u32 pad, u64 tsc, u64 time, u32 mul, i8 shift, u8 flags, u8 pad[2]; pads are 0 (own)
 abbrev pub guest_bytes : Page → List ℕ
 guest_bytes page =
-    little_bytes 4 page.version ++ little_bytes 4 0 ++ little_bytes 8 page.tsc_timestamp ++ little_bytes 8 page.system_time
+    little_bytes 4 page.version ++ little_bytes 4 0
+    ++ little_bytes 8 page.tsc_timestamp ++ little_bytes 8 page.system_time
     ++ little_bytes 4 page.mul ++ cast_unsigned w8 page.shift ∷ page.flags ∷ 0 ∷ 0 ∷ []
 
 -- what a guest reads of these bytes at the place of each field

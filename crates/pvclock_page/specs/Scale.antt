@@ -1,5 +1,6 @@
 -- The scale of a TSC: a multiplier in 2^-32ths of a nanosecond, and a shift to the left.
-use Rattle.std.specs.Prelude.{◌≡◌, ℕ, ℤ, pos, negsuc, ◌+◌, ◌*◌, ◌/◌, ◌^◌, ◌<◌, ◌≤◌, nat_le, if◌then◌else◌}
+use Rattle.std.specs.Prelude.{◌≡◌, ℕ, ℤ, pos, negsuc, ◌+◌, ◌*◌, ◌/◌, ◌^◌, ◌<◌, ◌≤◌, nat_le}
+use Rattle.std.specs.Prelude.{if◌then◌else◌}
 
 -- the multiplier that goes with a shift: 10^9 * 2^(32 - shift) / hz, rounded down
 abbrev pub mul_at : ℕ → ℤ → ℕ

@@ -8,6 +8,7 @@ pub const GUEST_STOPPED: u8 = 2;
 
 /// The page of one processor.
 #[derive(Clone, Copy, Debug, PartialEq, Eq)]
+#[repr(C)]
 pub struct Page {
     /// Goes up by 2 at each publishing, and is odd while the page is being written.
     pub version: u64,

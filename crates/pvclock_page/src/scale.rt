@@ -13,7 +13,7 @@ pub(crate) const FRACTION_BITS: u32 = 32;
 const MOST_RIGHT: i8 = 3;
 
 /// The scale of a TSC of `hz` ticks a second, which is 10^8 to 10^10: the multiplier and the shift. It is
-/// the one pair whose multiplier, rounded down, has its highest bit set (this project's own choice).
+/// the one pair whose multiplier, rounded down, has its highest bit set, as KVM takes it.
 pub fn scale_of(hz: u64) -> (u32, i8)
     requires slow { 100000000 ≤ hz }
     requires fast { hz ≤ 10000000000 }
@@ -22,7 +22,8 @@ pub fn scale_of(hz: u64) -> (u32, i8)
 
     // It is a scale of this rate, and there is no other.
     ensures scale { IsScale hz result.0 result.1 }
-    ensures only { (mul : ℕ) (shift : ℤ) → IsScale hz mul shift → (mul ≡ result.0) × (shift ≡ result.1) }
+    ensures only { (mul : ℕ) (shift : ℤ) → IsScale hz mul shift →
+        (mul ≡ result.0) × (shift ≡ result.1) }
 {
     let widest = ((SECOND_NS << (FRACTION_BITS + MOST_RIGHT as u32)) / u128::from(hz)) as u64;
     let surplus_bits = u32::BITS - widest.leading_zeros();

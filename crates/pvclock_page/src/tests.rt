@@ -25,6 +25,24 @@ fn scales_of_rates(rt: HostRuntime) {
 }
 
 #[test]
+fn a_page_that_is_published(rt: HostRuntime) {
+    let news = Publishing {
+        guest_khz: 2_000_000,
+        tsc: 2_000_004_000,
+        system_time: 1_000_002_000,
+        flags: TSC_STABLE | GUEST_STOPPED,
+        offset: 4_000,
+        enabled: true,
+    };
+    let next = published(2, &news);
+    assert_eq!(rt;
+        (next.version, next.mul, next.shift, next.flags),
+        (4, 0x8000_0000, 0, 3)
+    );
+    assert_eq!(rt; reading(&next, 2_000_006_000), 1_000_003_000);
+}
+
+#[test]
 fn readings_of_a_page(rt: HostRuntime) {
     assert_eq!(rt; reading(&page(), 2_000), 1_000);
     assert_eq!(rt; reading(&page(), 1_800), 900);

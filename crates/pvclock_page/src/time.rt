@@ -1,7 +1,8 @@
 //! The time that a page gives.
 
 ghost use Rattle.std.specs.Prelude.{◌≡◌, ℕ, ◌+◌, ◌-◌, ◌*◌, ◌/◌, ◌%◌, ◌^◌, ◌<◌, ◌≤◌};
-ghost use Rattle.pvclock_page.specs.Reading.{delta_of, elapsed_of, whole_reading, reading_of, ticks_since, IsNear};
+ghost use Rattle.pvclock_page.specs.Reading.{delta_of, elapsed_of, whole_reading, reading_of};
+ghost use Rattle.pvclock_page.specs.Reading.{ticks_since, IsNear};
 ghost use Rattle.pvclock_page.specs.Scale.{IsScale};
 
 use crate::page::Page;
@@ -11,10 +12,11 @@ use crate::scale::FRACTION_BITS;
 const BEHIND: u64 = 1 << 63;
 
 /// The time that `page` gives at `tsc` in nanoseconds, modulo 2^64. A TSC behind the page's timestamp
-/// reads as the timestamp does (this project's own choice).
+/// reads as the timestamp does (own).
 ///
 /// With the scale of its rate a page is never ahead of the exact time, and behind it by less than one
-/// nanosecond (two where the scale shifts to the right) and a 2^31th of the time since the timestamp.
+/// nanosecond (2 - 2^-k where the scale shifts to the right by k) and a 2^31th of the time since the
+/// timestamp.
 #[tactic(auto, unfolding(crate::specs::Reading::reading_of))]
 pub fn reading(page: &Page, tsc: u64) -> u64
     ensures value { result ≡ reading_of page.now tsc }
@@ -24,7 +26,8 @@ pub fn reading(page: &Page, tsc: u64) -> u64
     ensures begins { delta_of page.now tsc ≡ 0 → result ≡ page.now.system_time }
     ensures grows { (earlier : ℕ) → delta_of page.now earlier ≤ delta_of page.now tsc →
         whole_reading page.now tsc < 2 ^ 64 → reading_of page.now earlier ≤ result }
-    ensures near { (hz : ℕ) → IsScale hz page.now.mul page.now.shift → whole_reading page.now tsc < 2 ^ 64 →
+    ensures near { (hz : ℕ) → IsScale hz page.now.mul page.now.shift →
+        whole_reading page.now tsc < 2 ^ 64 →
         IsNear hz (delta_of page.now tsc) page.now.shift (result - page.now.system_time) }
 {
     let delta = ticks_between(page.tsc_timestamp, tsc);

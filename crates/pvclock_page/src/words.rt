@@ -4,6 +4,7 @@ ghost use Rattle.std.specs.Prelude.{◌≡◌, ℕ, ℤ, Bool};
 ghost use Rattle.pvclock_page.specs.Words.{words_of, page_of, scale_word};
 
 use crate::page::Page;
+use clk_units::{bit, bit_value};
 
 /// Where the shift begins in the scale word, behind the multiplier.
 const SHIFT_AT: u64 = 1 << 32;
@@ -12,14 +13,14 @@ const SHIFT_AT: u64 = 1 << 32;
 const FLAGS_AT: u64 = 1 << 40;
 
 /// The bit of the scale word that says that the page is enabled.
-const ENABLED_AT: u64 = 1 << 48;
+const ENABLED_BIT: u32 = 48;
 
 /// How many values a byte has.
 const BYTE: u64 = 1 << 8;
 
 /// The five words of a page: version, timestamp, system time, scale, offset. The scale word holds the
 /// multiplier in bits 0 to 31, the shift in two's complement in bits 32 to 39, the flags in bits 40 to 47,
-/// and in bit 48 whether the page is enabled (this project's own layout).
+/// and in bit 48 whether the page is enabled (own).
 pub fn page_words(page: &Page) -> [u64; 5]
     ensures value { result ≡ words_of page.now }
     ensures back { page_of result ≡ page.now }
@@ -47,7 +48,7 @@ pub fn words_page(words: &[u64; 5]) -> Page
         shift: ((scale / SHIFT_AT % BYTE) as u8).cast_signed(),
         flags: (scale / FLAGS_AT % BYTE) as u8,
         offset,
-        enabled: scale / ENABLED_AT % 2 == 1,
+        enabled: bit(ENABLED_BIT, scale),
     }
 }
 
@@ -57,5 +58,5 @@ fn packed_scale(mul: u32, shift: i8, flags: u8, enabled: bool) -> u64
 {
     let shift_bits = u64::from(shift.cast_unsigned()) * SHIFT_AT;
     let flag_bits = u64::from(flags) * FLAGS_AT;
-    u64::from(mul) + shift_bits + flag_bits + u64::from(enabled) * ENABLED_AT
+    u64::from(mul) + shift_bits + flag_bits + bit_value(enabled, ENABLED_BIT)
 }

@@ -1,10 +1,14 @@
 -- The second of the day and the day of a century of 100 years, and how a second moves them.
-use Rattle.std.proofs.Common.{◌≡◌, ℕ, zero, suc, ◌+◌, ◌-◌, ◌*◌, ◌/◌, ◌%◌, ◌<◌, ◌≤◌, Bool, true, false, cond, eqb, ◌&&◌, refl, sym, ap, ◌∙◌, inl, inr, arith}
-use Rattle.std.proofs.lemmas.Bool.{cond_both, eqb-true, eqb-false, cases_eq, cases_order, cases_Bool, eq-eqb, ne_eqb}
+use Rattle.std.proofs.Common.{◌≡◌, ℕ, zero, suc, ◌+◌, ◌-◌, ◌*◌, ◌/◌, ◌%◌, ◌<◌, ◌≤◌, Bool, true, false, cond}
+use Rattle.std.proofs.Common.{eqb, ◌&&◌, refl, sym, ap, ◌∙◌, inl, inr, arith}
+use Rattle.std.proofs.lemmas.Bool.{cond_both, eqb-true, eqb-false, cases_eq, cases_order, cases_Bool, eq-eqb}
+use Rattle.std.proofs.lemmas.Bool.{ne_eqb}
 use Rattle.rtc_calendar.specs.declared.calendar.Moment.{Moment}
-use Rattle.rtc_calendar.specs.Calendar.{month_length, IsMoment, ends_minute, ends_hour, ends_day, ends_month, ends_year, next_in, next_second, next_seconds, next_day}
+use Rattle.rtc_calendar.specs.Calendar.{month_length, IsMoment, ends_minute, ends_hour, ends_day, ends_month}
+use Rattle.rtc_calendar.specs.Calendar.{ends_year, next_in, next_second, next_seconds, next_day}
 use Rattle.rtc_calendar.specs.private.Days.{second_of_day, days_of_years, days_of_months, day_number}
-use Rattle.rtc_calendar.proofs.Moments.{month_length-least, month_length-most, next_in-least, next_in-most, date_in_month, IsMoment-next_second}
+use Rattle.rtc_calendar.proofs.Moments.{month_length-least, month_length-most, next_in-least, next_in-most}
+use Rattle.rtc_calendar.proofs.Moments.{date_in_month, IsMoment-next_second}
 
 -- what next_in gives at the end and before it
 next_in-last : (low high number : ℕ) → eqb number high ≡ true → next_in low high number ≡ low
@@ -16,7 +20,8 @@ unfolding next_in
 next_in-inside low high number e = rw e refl
 
 -- the clock of 86,400 seconds
-clock : (last_second last_minute last_hour : Bool) (second minute hour : ℕ) → last_second ≡ eqb second 59 → last_minute ≡ eqb minute 59 → last_hour ≡ eqb hour 23
+clock : (last_second last_minute last_hour : Bool) (second minute hour : ℕ) → last_second ≡ eqb second 59 → last_minute ≡ eqb minute 59
+    → last_hour ≡ eqb hour 23
     → second ≤ 59 → minute ≤ 59 → hour ≤ 23
     → cond (last_second && last_minute) (next_in 0 23 hour) hour * 3600 + cond last_second (next_in 0 59 minute) minute * 60 + next_in 0 59 second
     ≡ (hour * 3600 + minute * 60 + second + 1) % 86400
@@ -35,7 +40,8 @@ second_of_day-next_second m v =
     clock (eqb m.second 59) (eqb m.minute 59) (eqb m.hour 23) m.second m.minute m.hour refl refl refl v.second v.minute v.hour
 
 -- the last second of a day is second 86,399
-last_second : (last_second last_minute last_hour : Bool) (second minute hour : ℕ) → last_second ≡ eqb second 59 → last_minute ≡ eqb minute 59 → last_hour ≡ eqb hour 23
+last_second : (last_second last_minute last_hour : Bool) (second minute hour : ℕ) → last_second ≡ eqb second 59 → last_minute ≡ eqb minute 59
+    → last_hour ≡ eqb hour 23
     → second ≤ 59 → minute ≤ 59 → hour ≤ 23 → (last_second && last_minute && last_hour) ≡ eqb (hour * 3600 + minute * 60 + second) 86399
 last_second false last_minute last_hour second minute hour s mi h bs bm bh =
     sym (ne_eqb (hour * 3600 + minute * 60 + second) 86399 (λ e. omega (arith, eqb-false second 59 (sym s))))
@@ -92,7 +98,8 @@ days_of_months-year year = elim (cases_Bool (eqb (year % 4) 0)) [
 -- the years before a year, with every fourth one day longer
 pub days_of_years-suc : (year : ℕ) → days_of_years (year + 1) ≡ days_of_years year + days_of_months year 12
 unfolding days_of_years
-days_of_years-suc year = rw days_of_months-year (cond_both (eqb (year % 4) 0) 366 365 (λ x. (year + 1) * 365 + (year + 1 + 3) / 4 ≡ year * 365 + (year + 3) / 4 + x)
+days_of_years-suc year =
+    rw days_of_months-year (cond_both (eqb (year % 4) 0) 366 365 (λ x. (year + 1) * 365 + (year + 1 + 3) / 4 ≡ year * 365 + (year + 3) / 4 + x)
     (λ e. omega (arith, eqb-true (year % 4) 0 e)) (λ e. not_leap (eqb-false (year % 4) 0 e)))
   where
     not_leap : (year % 4 ≡ 0 → ⊥) → (year + 1) * 365 + (year + 1 + 3) / 4 ≡ year * 365 + (year + 3) / 4 + 365
@@ -290,25 +297,29 @@ month-one year a b i j first_a first_b fits_a fits_b same = elim (cases_order a 
 ]
 
 -- a moment from its numbers
-pub moment-equal : (a b : Moment) → a.second ≡ b.second → a.minute ≡ b.minute → a.hour ≡ b.hour → a.weekday ≡ b.weekday → a.date ≡ b.date → a.month ≡ b.month → a.year ≡ b.year → a ≡ b
+pub moment-equal : (a b : Moment) → a.second ≡ b.second → a.minute ≡ b.minute → a.hour ≡ b.hour → a.weekday ≡ b.weekday → a.date ≡ b.date
+    → a.month ≡ b.month → a.year ≡ b.year → a ≡ b
 moment-equal a b second minute hour weekday date month year =
     λ i. record { second = second i; minute = minute i; hour = hour i; weekday = weekday i; date = date i; month = month i; year = year i }
 
 year-of_moment : (m : Moment) → IsMoment m → day_number m * 4 / 1461 ≡ m.year
 unfolding day_number
 year-of_moment m v =
-    let grouped : days_of_years m.year + days_of_months m.year (m.month - 1) + (m.date - 1) ≡ days_of_years m.year + (days_of_months m.year (m.month - 1) + (m.date - 1)) = omega arith in
+    let grouped : days_of_years m.year + days_of_months m.year (m.month - 1) + (m.date - 1) ≡ days_of_years m.year + (days_of_months m.year (m.month - 1) + (m.date - 1)) =
+    omega arith in
     ap (λ (x : ℕ). x * 4 / 1461) grouped
     ∙ year-of_day m.year (days_of_months m.year (m.month - 1) + (m.date - 1)) (day_of_year-below m.year m.month m.date v.first_month v.last_month v.first_date v.last_date)
 
-day_of_year-equal : (a b : Moment) → day_number a ≡ day_number b → a.year ≡ b.year → days_of_months a.year (a.month - 1) + (a.date - 1) ≡ days_of_months a.year (b.month - 1) + (b.date - 1)
+day_of_year-equal : (a b : Moment) → day_number a ≡ day_number b → a.year ≡ b.year
+    → days_of_months a.year (a.month - 1) + (a.date - 1) ≡ days_of_months a.year (b.month - 1) + (b.date - 1)
 unfolding day_number
 day_of_year-equal a b days year =
     let years : days_of_years a.year ≡ days_of_years b.year = ap days_of_years year in
     let months : days_of_months a.year (b.month - 1) ≡ days_of_months b.year (b.month - 1) = ap (λ (y : ℕ). days_of_months y (b.month - 1)) year in
     omega arith
 
-pub clock-equal : (a b : Moment) → IsMoment a → IsMoment b → second_of_day a ≡ second_of_day b → (a.second ≡ b.second) × (a.minute ≡ b.minute) × (a.hour ≡ b.hour)
+pub clock-equal : (a b : Moment) → IsMoment a → IsMoment b → second_of_day a ≡ second_of_day b
+    → (a.second ≡ b.second) × (a.minute ≡ b.minute) × (a.hour ≡ b.hour)
 unfolding second_of_day
 clock-equal a b v w e = (omega arith, omega arith, omega arith)
 
@@ -361,7 +372,8 @@ next_seconds-day n m e v =
     (omega (arith, weekday-next_seconds n m v, weekday-next_day m v, second_of_day-below m v))
 
 -- the year of a day of the century, and the days of the year before the day
-pub year_of_day-rest : (day : ℕ) → day < 36525 → (day * 4 / 1461 ≤ 99) × (days_of_years (day * 4 / 1461) ≤ day) × (day - days_of_years (day * 4 / 1461) < days_of_months (day * 4 / 1461) 12)
+pub year_of_day-rest : (day : ℕ) → day < 36525
+    → (day * 4 / 1461 ≤ 99) × (days_of_years (day * 4 / 1461) ≤ day) × (day - days_of_years (day * 4 / 1461) < days_of_months (day * 4 / 1461) 12)
 unfolding days_of_years
 year_of_day-rest day h = (
   omega arith,
@@ -383,14 +395,16 @@ unfolding second_of_day
 second_of_day-at second weekday date month year h = omega arith
 
 -- from the day of the century to the date and back
-pub day_number-at : (second minute hour weekday date month year day : ℕ) → days_of_years year ≤ day → days_of_months year (month - 1) + (date - 1) ≡ day - days_of_years year
+pub day_number-at : (second minute hour weekday date month year day : ℕ) → days_of_years year ≤ day
+    → days_of_months year (month - 1) + (date - 1) ≡ day - days_of_years year
     → day_number (record { second = second; minute = minute; hour = hour; weekday = weekday; date = date; month = month; year = year }) ≡ day
 unfolding day_number
 day_number-at second minute hour weekday date month year day before rest = omega arith
 
 -- a moment is the one n seconds later where its second of the day, its day and its day of the week are
 pub next_seconds-at : (m found : Moment) (n days : ℕ) → IsMoment m → IsMoment found → days ≡ n / 86400 + (second_of_day m + n % 86400) / 86400
-    → second_of_day found ≡ (second_of_day m + n % 86400) % 86400 → day_number found ≡ (day_number m + days) % 36525 → found.weekday ≡ (m.weekday - 1 + days) % 7 + 1
+    → second_of_day found ≡ (second_of_day m + n % 86400) % 86400 → day_number found ≡ (day_number m + days) % 36525
+    → found.weekday ≡ (m.weekday - 1 + days) % 7 + 1
     → found ≡ next_seconds n m
 next_seconds-at m found n days v valid e second day weekday =
     one_moment found (next_seconds n m) valid (IsMoment-next_seconds n m v)

@@ -1,8 +1,10 @@
 -- Lemmas on the clock and the calendar in plain numbers.
-use Rattle.std.proofs.Common.{◌≡◌, ℕ, ◌+◌, ◌%◌, ◌≤◌, Bool, true, false, cond, eqb, ◌&&◌, ◌||◌, refl, sym, arith}
+use Rattle.std.proofs.Common.{◌≡◌, ℕ, ◌+◌, ◌%◌, ◌≤◌, Bool, true, false, cond, eqb, ◌&&◌, ◌||◌, refl, sym}
+use Rattle.std.proofs.Common.{arith}
 use Rattle.std.proofs.lemmas.Bool.{cond_both, eqb-false}
 use Rattle.rtc_calendar.specs.declared.calendar.Moment.{Moment}
-use Rattle.rtc_calendar.specs.Calendar.{month_length, IsMoment, ends_minute, ends_hour, ends_day, ends_month, ends_year, next_in, next_second}
+use Rattle.rtc_calendar.specs.Calendar.{month_length, IsMoment, ends_minute, ends_hour, ends_day, ends_month}
+use Rattle.rtc_calendar.specs.Calendar.{ends_year, next_in, next_second}
 
 -- a month has 28 days at least ..
 pub month_length-least : (year month : ℕ) → 28 ≤ month_length year month
@@ -43,7 +45,8 @@ next_in-most low high number order h =
     not_last other = omega arith
 
 -- behind the last of a month comes a first, which every month has
-pub date_in_month : (day last end : Bool) (date year month next_year next_month : ℕ) → last ≡ eqb date (month_length year month) → date ≤ month_length year month
+pub date_in_month : (day last end : Bool) (date year month next_year next_month : ℕ) → last ≡ eqb date (month_length year month)
+    → date ≤ month_length year month
     → cond day (next_in 1 (month_length year month) date) date ≤ month_length (cond (day && last && end) next_year year) (cond (day && last) next_month month)
 unfolding next_in
 date_in_month false last end date year month next_year next_month e h = h
@@ -61,11 +64,16 @@ IsMoment-next_second m v = record {
   second = next_in-most 0 59 m.second (omega arith) v.second;
   minute = cond_both (ends_minute m) (next_in 0 59 m.minute) m.minute (λ x. x ≤ 59) (λ _. next_in-most 0 59 m.minute (omega arith) v.minute) (λ _. v.minute);
   hour = cond_both (ends_hour m) (next_in 0 23 m.hour) m.hour (λ x. x ≤ 23) (λ _. next_in-most 0 23 m.hour (omega arith) v.hour) (λ _. v.hour);
-  first_weekday = cond_both (ends_day m) (next_in 1 7 m.weekday) m.weekday (λ x. 1 ≤ x) (λ _. next_in-least 1 7 m.weekday v.first_weekday) (λ _. v.first_weekday);
-  last_weekday = cond_both (ends_day m) (next_in 1 7 m.weekday) m.weekday (λ x. x ≤ 7) (λ _. next_in-most 1 7 m.weekday (omega arith) v.last_weekday) (λ _. v.last_weekday);
-  first_date = cond_both (ends_day m) (next_in 1 (month_length m.year m.month) m.date) m.date (λ x. 1 ≤ x) (λ _. next_in-least 1 (month_length m.year m.month) m.date v.first_date) (λ _. v.first_date);
-  last_date = date_in_month (ends_day m) (eqb m.date (month_length m.year m.month)) (eqb m.month 12) m.date m.year m.month (next_in 0 99 m.year) (next_in 1 12 m.month) refl v.last_date;
+  first_weekday = cond_both (ends_day m) (next_in 1 7 m.weekday) m.weekday (λ x. 1 ≤ x) (λ _. next_in-least 1 7 m.weekday v.first_weekday)
+      (λ _. v.first_weekday);
+  last_weekday = cond_both (ends_day m) (next_in 1 7 m.weekday) m.weekday (λ x. x ≤ 7) (λ _. next_in-most 1 7 m.weekday (omega arith) v.last_weekday)
+      (λ _. v.last_weekday);
+  first_date = cond_both (ends_day m) (next_in 1 (month_length m.year m.month) m.date) m.date (λ x. 1 ≤ x)
+      (λ _. next_in-least 1 (month_length m.year m.month) m.date v.first_date) (λ _. v.first_date);
+  last_date = date_in_month (ends_day m) (eqb m.date (month_length m.year m.month)) (eqb m.month 12) m.date m.year m.month (next_in 0 99 m.year)
+      (next_in 1 12 m.month) refl v.last_date;
   first_month = cond_both (ends_month m) (next_in 1 12 m.month) m.month (λ x. 1 ≤ x) (λ _. next_in-least 1 12 m.month v.first_month) (λ _. v.first_month);
-  last_month = cond_both (ends_month m) (next_in 1 12 m.month) m.month (λ x. x ≤ 12) (λ _. next_in-most 1 12 m.month (omega arith) v.last_month) (λ _. v.last_month);
+  last_month = cond_both (ends_month m) (next_in 1 12 m.month) m.month (λ x. x ≤ 12) (λ _. next_in-most 1 12 m.month (omega arith) v.last_month)
+      (λ _. v.last_month);
   year = cond_both (ends_year m) (next_in 0 99 m.year) m.year (λ x. x ≤ 99) (λ _. next_in-most 0 99 m.year (omega arith) v.year) (λ _. v.year);
 }

@@ -1,5 +1,6 @@
 -- Lemmas on the times that an alarm asks for, and on the next of them.
-use Rattle.std.proofs.Common.{◌≡◌, ℕ, zero, suc, ◌+◌, ◌-◌, ◌/◌, ◌%◌, ◌<◌, ◌≤◌, Bool, true, false, ◌&&◌, eqb, Some, None, inl, inr, refl, sym, ap, ◌∙◌, arith}
+use Rattle.std.proofs.Common.{◌≡◌, ℕ, zero, suc, ◌+◌, ◌-◌, ◌/◌, ◌%◌, ◌<◌, ◌≤◌, Bool, true, false, ◌&&◌, eqb}
+use Rattle.std.proofs.Common.{Some, None, inl, inr, refl, sym, ap, ◌∙◌, arith}
 use Rattle.std.proofs.lemmas.Bool.{cases_eq, eq-eqb, ne_eqb, le-leb, lt-leb, both_ways}
 use Rattle.clk_units.specs.Events.{IsFirst}
 use Rattle.rtc_calendar.specs.declared.Alarm.{Alarm}
@@ -13,7 +14,9 @@ use Rattle.rtc_calendar.specs.Updates.{moment_of, bytes_of, updated, updated_tim
 use Rattle.rtc_calendar.specs.Alarms.{fits_byte, is_match, alarm_next, matches_in}
 use Rattle.rtc_calendar.specs.private.Days.{second_of_day}
 use Rattle.rtc_calendar.specs.private.Wanted.{is_wanted, is_wanted_second, IsNext}
-use Rattle.rtc_calendar.proofs.Spellings.{number_in-spelling, is_spelt-spelling, spelling-number_in, hour_in-hour_spelling, is_hour-hour_spelling, hour_spelling-hour_in}
+use Rattle.rtc_calendar.proofs.Spellings.{number_in-spelling, is_spelt-spelling, spelling-number_in}
+use Rattle.rtc_calendar.proofs.Spellings.{hour_in-hour_spelling, is_hour-hour_spelling}
+use Rattle.rtc_calendar.proofs.Spellings.{hour_spelling-hour_in}
 use Rattle.rtc_calendar.proofs.Days.{IsMoment-next_seconds, second_of_day-next_seconds}
 use Rattle.rtc_calendar.proofs.Times.{IsMoment-moment_of, updated_times-some}
 
@@ -50,18 +53,21 @@ fits_byte-hour form alarm hour less valid most =
     ∙ sym (fits_byte-equal alarm (hour_spelling form hour) less)
 
 -- .. and one that is invalid asks for none
-pub fits_byte-no_number : (binary : Bool) (alarm number : ℕ) → alarm < 192 → is_spelt binary 0 59 alarm ≡ false → number ≤ 59 → false ≡ fits_byte alarm (spelling binary number)
+pub fits_byte-no_number : (binary : Bool) (alarm number : ℕ) → alarm < 192 → is_spelt binary 0 59 alarm ≡ false → number ≤ 59
+    → false ≡ fits_byte alarm (spelling binary number)
 fits_byte-no_number binary alarm number less invalid most =
     sym (fits_byte-equal alarm (spelling binary number) less ∙ ne_eqb alarm (spelling binary number)
     (λ e. both_ways (is_spelt binary 0 59 alarm) invalid (ap (is_spelt binary 0 59) e ∙ is_spelt-spelling binary 0 59 number (omega arith) most (omega arith))))
 
-pub fits_byte-no_hour : (form : Form) (alarm hour : ℕ) → alarm < 192 → is_hour form alarm ≡ false → hour ≤ 23 → false ≡ fits_byte alarm (hour_spelling form hour)
+pub fits_byte-no_hour : (form : Form) (alarm hour : ℕ) → alarm < 192 → is_hour form alarm ≡ false → hour ≤ 23
+    → false ≡ fits_byte alarm (hour_spelling form hour)
 fits_byte-no_hour form alarm hour less invalid most =
     sym (fits_byte-equal alarm (hour_spelling form hour) less ∙ ne_eqb alarm (hour_spelling form hour)
     (λ e. both_ways (is_hour form alarm) invalid (ap (is_hour form) e ∙ is_hour-hour_spelling form hour most)))
 
 -- the clock of a second of the day
-pub clock-of_day : (m : Moment) (y : ℕ) → IsMoment m → second_of_day m ≡ y % 86400 → (m.second ≡ y % 60) × (m.minute ≡ y / 60 % 60) × (m.hour ≡ y / 60 / 60 % 24)
+pub clock-of_day : (m : Moment) (y : ℕ) → IsMoment m → second_of_day m ≡ y % 86400
+    → (m.second ≡ y % 60) × (m.minute ≡ y / 60 % 60) × (m.hour ≡ y / 60 / 60 % 24)
 unfolding second_of_day
 clock-of_day m y v e = (omega arith, omega arith, omega arith)
 
@@ -80,9 +86,12 @@ is_match-moment : (form : Form) (alarm : Alarm) (w : WantedTime) (m : Moment) (y
 unfolding is_match bytes_of
 is_match-moment form alarm w m y asks v e =
     let clock : (m.second ≡ y % 60) × (m.minute ≡ y / 60 % 60) × (m.hour ≡ y / 60 / 60 % 24) = clock-of_day m y v e in
-    let second : fits_byte alarm.sec (spelling form.binary m.second) ≡ is_wanted w.second (y % 60) = sym (asks.second m.second v.second) ∙ ap (is_wanted w.second) clock.0 in
-    let minute : fits_byte alarm.min (spelling form.binary m.minute) ≡ is_wanted w.minute (y / 60 % 60) = sym (asks.minute m.minute v.minute) ∙ ap (is_wanted w.minute) clock.1 in
-    let hour : fits_byte alarm.hour (hour_spelling form m.hour) ≡ is_wanted w.hour (y / 60 / 60 % 24) = sym (asks.hour m.hour v.hour) ∙ ap (is_wanted w.hour) clock.2 in
+    let second : fits_byte alarm.sec (spelling form.binary m.second) ≡ is_wanted w.second (y % 60) =
+    sym (asks.second m.second v.second) ∙ ap (is_wanted w.second) clock.0 in
+    let minute : fits_byte alarm.min (spelling form.binary m.minute) ≡ is_wanted w.minute (y / 60 % 60) =
+    sym (asks.minute m.minute v.minute) ∙ ap (is_wanted w.minute) clock.1 in
+    let hour : fits_byte alarm.hour (hour_spelling form m.hour) ≡ is_wanted w.hour (y / 60 / 60 % 24) =
+    sym (asks.hour m.hour v.hour) ∙ ap (is_wanted w.hour) clock.2 in
     rw (second, minute, hour) (and-assoc (is_wanted w.second (y % 60)) (is_wanted w.minute (y / 60 % 60)) (is_wanted w.hour (y / 60 / 60 % 24)))
 
 -- whether the alarm matches behind n updates
@@ -91,17 +100,20 @@ pub is_match-updated_times : (form : Form) (alarm : Alarm) (w : WantedTime) (byt
 is_match-updated_times form alarm w bytes n asks some =
     ap (is_match alarm) (updated_times-some form n bytes some)
     ∙ is_match-moment form alarm w (next_seconds n (moment_of form bytes)) (second_of_day (moment_of form bytes) + n) asks
-    (IsMoment-next_seconds n (moment_of form bytes) (IsMoment-moment_of form bytes)) (second_of_day-next_seconds n (moment_of form bytes) (IsMoment-moment_of form bytes))
+    (IsMoment-next_seconds n (moment_of form bytes) (IsMoment-moment_of form bytes))
+    (second_of_day-next_seconds n (moment_of form bytes) (IsMoment-moment_of form bytes))
 
 -- where none of n updates is matched the count is 0
-matches_in-none : (form : Form) (alarm : Alarm) (bytes : TimeBytes) (n : ℕ) → ((i : ℕ) → 0 < i → i ≤ n → is_match alarm (updated_times form i bytes) ≡ false) → matches_in form alarm bytes n ≡ 0
+matches_in-none : (form : Form) (alarm : Alarm) (bytes : TimeBytes) (n : ℕ)
+    → ((i : ℕ) → 0 < i → i ≤ n → is_match alarm (updated_times form i bytes) ≡ false) → matches_in form alarm bytes n ≡ 0
 unfolding alarm_next
 matches_in-none form alarm bytes zero none = refl
 matches_in-none form alarm bytes (suc n) none =
     let here : is_match alarm (updated form (updated_times form n bytes)) ≡ false = none (suc n) (omega arith) (omega arith) in
     rw here (matches_in-none form alarm bytes n (λ i some few. none i some (omega arith)))
 
-matches_in-here : (form : Form) (alarm : Alarm) (bytes : TimeBytes) (n : ℕ) → 0 < n → is_match alarm (updated_times form n bytes) ≡ true → 0 < matches_in form alarm bytes n
+matches_in-here : (form : Form) (alarm : Alarm) (bytes : TimeBytes) (n : ℕ) → 0 < n → is_match alarm (updated_times form n bytes) ≡ true
+    → 0 < matches_in form alarm bytes n
 unfolding alarm_next
 matches_in-here form alarm bytes zero some here = absurd (omega arith)
 matches_in-here form alarm bytes (suc n) some here =
@@ -109,19 +121,24 @@ matches_in-here form alarm bytes (suc n) some here =
     rw now (omega arith)
 
 -- no time that is asked for is no match
-pub matches_in-no_next : (form : Form) (alarm : Alarm) (w : WantedTime) (bytes : TimeBytes) (n start : ℕ) → AsksFor form alarm w → start ≡ second_of_day (moment_of form bytes) + 1
+pub matches_in-no_next : (form : Form) (alarm : Alarm) (w : WantedTime) (bytes : TimeBytes) (n start : ℕ) → AsksFor form alarm w
+    → start ≡ second_of_day (moment_of form bytes) + 1
     → IsNext (is_wanted_second w) start None → matches_in form alarm bytes n ≡ 0
 matches_in-no_next form alarm w bytes n start asks e none =
-    matches_in-none form alarm bytes n (λ i some few. is_match-updated_times form alarm w bytes i asks some ∙ none (second_of_day (moment_of form bytes) + i) (omega arith))
+    matches_in-none form alarm bytes n
+    (λ i some few. is_match-updated_times form alarm w bytes i asks some ∙ none (second_of_day (moment_of form bytes) + i) (omega arith))
 
 -- nor is there one before the next of them
-pub matches_in-before : (form : Form) (alarm : Alarm) (w : WantedTime) (bytes : TimeBytes) (n start next : ℕ) → AsksFor form alarm w → start ≡ second_of_day (moment_of form bytes) + 1
+pub matches_in-before : (form : Form) (alarm : Alarm) (w : WantedTime) (bytes : TimeBytes) (n start next : ℕ) → AsksFor form alarm w
+    → start ≡ second_of_day (moment_of form bytes) + 1
     → IsNext (is_wanted_second w) start (Some next) → n < next - start + 1 → matches_in form alarm bytes n ≡ 0
 matches_in-before form alarm w bytes n start next asks e found early =
-    matches_in-none form alarm bytes n (λ i some few. is_match-updated_times form alarm w bytes i asks some ∙ found.2 (second_of_day (moment_of form bytes) + i) (omega arith) (omega (arith, found.0)))
+    matches_in-none form alarm bytes n
+    (λ i some few. is_match-updated_times form alarm w bytes i asks some ∙ found.2 (second_of_day (moment_of form bytes) + i) (omega arith) (omega (arith, found.0)))
 
 -- and there it is
-pub IsFirst-next : (form : Form) (alarm : Alarm) (w : WantedTime) (bytes : TimeBytes) (n start next : ℕ) → AsksFor form alarm w → start ≡ second_of_day (moment_of form bytes) + 1
+pub IsFirst-next : (form : Form) (alarm : Alarm) (w : WantedTime) (bytes : TimeBytes) (n start next : ℕ) → AsksFor form alarm w
+    → start ≡ second_of_day (moment_of form bytes) + 1
     → IsNext (is_wanted_second w) start (Some next) → next - start + 1 ≤ n → IsFirst (matches_in form alarm bytes) n (Some (next - start + 1))
 IsFirst-next form alarm w bytes n start next asks e found few =
     let at : second_of_day (moment_of form bytes) + (next - start + 1) ≡ next = omega (arith, found.0) in

@@ -1,7 +1,9 @@
 -- Small rows that pin the definitions.
 use Rattle.std.proofs.Common.{◌≡◌, true, false, refl}
-use Rattle.rtc_calendar.specs.Bytes.{spelt, has_digits, is_spelt, number_in, spelling, is_hour, hour_meant, hour_in, hour_of_twelve, hour_spelling}
-use Rattle.rtc_calendar.specs.Calendar.{month_length, ends_minute, ends_hour, ends_day, ends_month, ends_year, next_in, next_second, next_day}
+use Rattle.rtc_calendar.specs.Bytes.{spelt, has_digits, is_spelt, number_in, spelling, is_hour, hour_meant}
+use Rattle.rtc_calendar.specs.Bytes.{hour_in, hour_of_twelve, hour_spelling}
+use Rattle.rtc_calendar.specs.Calendar.{month_length, ends_minute, ends_hour, ends_day, ends_month}
+use Rattle.rtc_calendar.specs.Calendar.{ends_year, next_in, next_second, next_day}
 use Rattle.rtc_calendar.specs.Updates.{month_in, year_in, last_date_in, moment_of, bytes_of, updated}
 use Rattle.rtc_calendar.specs.private.Days.{days_of_years, days_of_months, day_number}
 use Rattle.rtc_calendar.specs.Alarms.{fits_byte, is_match}
@@ -42,7 +44,8 @@ no_leap_day_in_99 : month_length 99 2 ≡ 28
 unfolding month_length
 no_leap_day_in_99 = refl
 
-new_century : updated (record { binary = false; hours24 = false }) (record { sec = 0x59; min = 0x59; hour = 0x91; wday = 7; date = 0x31; month = 0x12; year = 0x99 })
+new_century : updated (record { binary = false; hours24 = false })
+    (record { sec = 0x59; min = 0x59; hour = 0x91; wday = 7; date = 0x31; month = 0x12; year = 0x99 })
     ≡ record { sec = 0; min = 0; hour = 0x12; wday = 1; date = 1; month = 1; year = 0 }
 unfolding updated bytes_of moment_of last_date_in month_in year_in number_in is_spelt has_digits spelt hour_in is_hour hour_meant hour_spelling hour_of_twelve spelling
     next_second ends_year ends_month ends_day ends_hour ends_minute next_in month_length
@@ -54,7 +57,8 @@ unfolding updated bytes_of moment_of last_date_in month_in year_in number_in is_
     next_second ends_year ends_month ends_day ends_hour ends_minute next_in month_length
 date_past_its_month = refl
 
-alarm_needs_its_hour : is_match (record { sec = 0xc0; min = 0xff; hour = 5 }) (record { sec = 0; min = 0; hour = 6; wday = 1; date = 1; month = 1; year = 0 }) ≡ false
+alarm_needs_its_hour : is_match (record { sec = 0xc0; min = 0xff; hour = 5 })
+    (record { sec = 0; min = 0; hour = 6; wday = 1; date = 1; month = 1; year = 0 }) ≡ false
 unfolding is_match fits_byte
 alarm_needs_its_hour = refl
 
@@ -70,7 +74,8 @@ leap_day_is_day_59 : day_number (record { second = 0; minute = 0; hour = 0; week
 unfolding day_number days_of_years days_of_months month_length
 leap_day_is_day_59 = refl
 
-saturday_is_followed_by_sunday : (next_day (record { second = 0; minute = 0; hour = 0; weekday = 7; date = 31; month = 12; year = 99 })) ≡ record { second = 0; minute = 0; hour = 0; weekday = 1; date = 1; month = 1; year = 0 }
+saturday_is_followed_by_sunday :
+    (next_day (record { second = 0; minute = 0; hour = 0; weekday = 7; date = 31; month = 12; year = 99 })) ≡ record { second = 0; minute = 0; hour = 0; weekday = 1; date = 1; month = 1; year = 0 }
 unfolding next_day next_in month_length
 saturday_is_followed_by_sunday = refl
 
@@ -94,10 +99,12 @@ alarm_byte_c0_matches_anything : fits_byte 0xc0 0x59 ≡ true
 unfolding fits_byte
 alarm_byte_c0_matches_anything = refl
 
-alarm_needs_its_second : is_match (record { sec = 1; min = 0xff; hour = 0xff }) (record { sec = 0; min = 0; hour = 6; wday = 1; date = 1; month = 1; year = 0 }) ≡ false
+alarm_needs_its_second : is_match (record { sec = 1; min = 0xff; hour = 0xff })
+    (record { sec = 0; min = 0; hour = 6; wday = 1; date = 1; month = 1; year = 0 }) ≡ false
 unfolding is_match fits_byte
 alarm_needs_its_second = refl
 
-alarm_needs_its_minute : is_match (record { sec = 0; min = 1; hour = 6 }) (record { sec = 0; min = 0; hour = 6; wday = 1; date = 1; month = 1; year = 0 }) ≡ false
+alarm_needs_its_minute : is_match (record { sec = 0; min = 1; hour = 6 })
+    (record { sec = 0; min = 0; hour = 6; wday = 1; date = 1; month = 1; year = 0 }) ≡ false
 unfolding is_match fits_byte
 alarm_needs_its_minute = refl

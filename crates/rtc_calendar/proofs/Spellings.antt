@@ -1,8 +1,11 @@
 -- Lemmas on the bytes of numbers: what was written reads back, and what is valid is written again.
-use Rattle.std.proofs.Common.{◌≡◌, ℕ, ◌+◌, ◌*◌, ◌/◌, ◌%◌, ◌<◌, ◌≤◌, Bool, true, false, cond, eqb, leb, ◌&&◌, ◌||◌, refl, ap, ◌∙◌, arith}
-use Rattle.std.proofs.lemmas.Bool.{cond_both, cond-true, and_parts, and_from, leb-true, leb-false, le-leb, lt-leb, eqb-true, eqb-false}
+use Rattle.std.proofs.Common.{◌≡◌, ℕ, ◌+◌, ◌*◌, ◌/◌, ◌%◌, ◌<◌, ◌≤◌, Bool, true, false, cond, eqb, leb, ◌&&◌}
+use Rattle.std.proofs.Common.{◌||◌, refl, ap, ◌∙◌, arith}
+use Rattle.std.proofs.lemmas.Bool.{cond_both, cond-true, and_parts, and_from, leb-true, leb-false, le-leb}
+use Rattle.std.proofs.lemmas.Bool.{lt-leb, eqb-true, eqb-false}
 use Rattle.rtc_calendar.specs.declared.Form.{Form}
-use Rattle.rtc_calendar.specs.Bytes.{spelt, has_digits, is_spelt, number_in, spelling, is_hour, hour_meant, hour_in, hour_of_twelve, hour_spelling}
+use Rattle.rtc_calendar.specs.Bytes.{spelt, has_digits, is_spelt, number_in, spelling, is_hour, hour_meant}
+use Rattle.rtc_calendar.specs.Bytes.{hour_in, hour_of_twelve, hour_spelling}
 
 -- a valid byte spells a number of the range
 pub is_spelt-range : (binary : Bool) (low high byte : ℕ) → is_spelt binary low high byte ≡ true → (low ≤ spelt binary byte) × (spelt binary byte ≤ high)
@@ -31,7 +34,8 @@ hour_in-most form byte = by_form form.hours24 form.binary
     half true hour = omega arith
     half false hour = omega arith
 
-    by_form : (hours24 binary : Bool) → cond (cond hours24 (is_spelt binary 0 23 byte) (is_spelt binary 1 12 (byte % 128))) (cond hours24 (spelt binary byte) (spelt binary (byte % 128) % 12 + cond (leb 128 byte) 12 0)) 0 ≤ 23
+    by_form : (hours24 binary : Bool)
+        → cond (cond hours24 (is_spelt binary 0 23 byte) (is_spelt binary 1 12 (byte % 128))) (cond hours24 (spelt binary byte) (spelt binary (byte % 128) % 12 + cond (leb 128 byte) 12 0)) 0 ≤ 23
     by_form true binary = cond_both (is_spelt binary 0 23 byte) (spelt binary byte) 0 (λ x. x ≤ 23) (λ h. (is_spelt-range binary 0 23 byte h).1) (λ _. omega arith)
     by_form false binary = cond_both (is_spelt binary 1 12 (byte % 128)) (spelt binary (byte % 128) % 12 + cond (leb 128 byte) 12 0) 0 (λ x. x ≤ 23) (λ _. half (leb 128 byte) (spelt binary (byte % 128))) (λ _. omega arith)
 
@@ -50,7 +54,8 @@ has_digits-spelling number h =
     (le-leb ((number / 10 * 16 + number % 10) % 16) 9 (omega arith))
 
 -- a number of the range is written as a valid byte ..
-pub is_spelt-spelling : (binary : Bool) (low high number : ℕ) → low ≤ number → number ≤ high → high ≤ 99 → is_spelt binary low high (spelling binary number) ≡ true
+pub is_spelt-spelling : (binary : Bool) (low high number : ℕ) → low ≤ number → number ≤ high → high ≤ 99
+    → is_spelt binary low high (spelling binary number) ≡ true
 unfolding is_spelt
 is_spelt-spelling binary low high number least most small =
     let e : spelt binary (spelling binary number) ≡ number = spelt-spelling binary number (omega arith) in
@@ -63,7 +68,8 @@ is_spelt-spelling binary low high number least most small =
     digits false = has_digits-spelling number (omega arith)
 
 -- .. that reads back
-pub number_in-spelling : (binary : Bool) (low high number : ℕ) → low ≤ number → number ≤ high → high ≤ 99 → number_in binary low high (spelling binary number) ≡ number
+pub number_in-spelling : (binary : Bool) (low high number : ℕ) → low ≤ number → number ≤ high → high ≤ 99
+    → number_in binary low high (spelling binary number) ≡ number
 unfolding number_in
 number_in-spelling binary low high number least most small =
     cond-true (is_spelt binary low high (spelling binary number)) (spelt binary (spelling binary number)) low (is_spelt-spelling binary low high number least most small)
@@ -129,7 +135,8 @@ is_hour-hour_spelling form hour h = by_form form.hours24
     rest : (spelling form.binary (hour_of_twelve hour) + cond (leb 12 hour) 128 0) % 128 ≡ spelling form.binary (hour_of_twelve hour)
     rest = bit_7-rest (leb 12 hour) (spelling form.binary (hour_of_twelve hour)) (spelling-small form.binary (hour_of_twelve hour) range.1)
 
-    by_form : (hours24 : Bool) → cond hours24 (is_spelt form.binary 0 23 (cond hours24 (spelling form.binary hour) (spelling form.binary (hour_of_twelve hour) + cond (leb 12 hour) 128 0)))
+    by_form : (hours24 : Bool)
+        → cond hours24 (is_spelt form.binary 0 23 (cond hours24 (spelling form.binary hour) (spelling form.binary (hour_of_twelve hour) + cond (leb 12 hour) 128 0)))
         (is_spelt form.binary 1 12 (cond hours24 (spelling form.binary hour) (spelling form.binary (hour_of_twelve hour) + cond (leb 12 hour) 128 0) % 128)) ≡ true
     by_form true = is_spelt-spelling form.binary 0 23 hour (omega arith) h (omega arith)
     by_form false = rw rest (is_spelt-spelling form.binary 1 12 (hour_of_twelve hour) range.0 range.1 (omega arith))
@@ -154,7 +161,8 @@ hour_meant-hour_spelling form hour h = by_form form.hours24
     halves : hour % 12 + cond (leb 12 hour) 12 0 ≡ hour
     halves = cond_both (leb 12 hour) 12 0 (λ x. hour % 12 + x ≡ hour) (λ e. omega (arith, leb-true 12 hour e)) (λ e. omega (arith, leb-false 12 hour e))
 
-    by_form : (hours24 : Bool) → cond hours24 (spelt form.binary (cond hours24 (spelling form.binary hour) (spelling form.binary (hour_of_twelve hour) + cond (leb 12 hour) 128 0)))
+    by_form : (hours24 : Bool)
+        → cond hours24 (spelt form.binary (cond hours24 (spelling form.binary hour) (spelling form.binary (hour_of_twelve hour) + cond (leb 12 hour) 128 0)))
         (spelt form.binary (cond hours24 (spelling form.binary hour) (spelling form.binary (hour_of_twelve hour) + cond (leb 12 hour) 128 0) % 128) % 12
         + cond (leb 128 (cond hours24 (spelling form.binary hour) (spelling form.binary (hour_of_twelve hour) + cond (leb 12 hour) 128 0))) 12 0) ≡ hour
     by_form true = spelt-spelling form.binary hour (omega arith)
@@ -185,7 +193,8 @@ half_day-hour late number least most = rw (rest late) (by_hour (eqb-true (number
     other : (number % 12 ≡ 0 → ⊥) → number % 12 ≡ number
     other e = omega arith
 
-    by_hour : (eqb (number % 12) 0 ≡ true → number % 12 ≡ 0) → (eqb (number % 12) 0 ≡ false → number % 12 ≡ 0 → ⊥) → cond (eqb (number % 12) 0) 12 (number % 12) ≡ number
+    by_hour : (eqb (number % 12) 0 ≡ true → number % 12 ≡ 0) → (eqb (number % 12) 0 ≡ false → number % 12 ≡ 0 → ⊥)
+        → cond (eqb (number % 12) 0) 12 (number % 12) ≡ number
     by_hour zero some = cond_both (eqb (number % 12) 0) 12 (number % 12) (λ x. x ≡ number) (λ e. noon (zero e)) (λ e. other (some e))
 
 hour_spelling-hour_meant : (form : Form) (byte : ℕ) → byte < 256 → is_hour form byte ≡ true → hour_spelling form (hour_meant form byte) ≡ byte

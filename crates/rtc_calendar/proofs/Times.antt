@@ -1,5 +1,6 @@
 -- Lemmas on updates.
-use Rattle.std.proofs.Common.{◌≡◌, ℕ, zero, suc, ◌+◌, ◌-◌, ◌<◌, ◌≤◌, Bool, true, false, cond, ◌&&◌, ◌||◌, eqb, leb, Option, Some, refl, sym, ap, subst, ◌∙◌, arith}
+use Rattle.std.proofs.Common.{◌≡◌, ℕ, zero, suc, ◌+◌, ◌-◌, ◌<◌, ◌≤◌, Bool, true, false, cond, ◌&&◌, ◌||◌}
+use Rattle.std.proofs.Common.{eqb, leb, Option, Some, refl, sym, ap, subst, ◌∙◌, arith}
 use Rattle.clk_units.specs.Events.{CountsUp, IsFirst}
 use Rattle.clk_units.proofs.Events.{CountsUp-by_test, CountsUp-few, IsFirst-one}
 use Rattle.std.proofs.lemmas.Bool.{le-leb, or_left, and_from}
@@ -9,9 +10,12 @@ use Rattle.rtc_calendar.specs.declared.TimeBytes.{TimeBytes}
 use Rattle.rtc_calendar.specs.declared.calendar.Moment.{Moment}
 use Rattle.rtc_calendar.specs.Bytes.{number_in, spelling, is_spelt, hour_in, hour_spelling}
 use Rattle.rtc_calendar.specs.Calendar.{IsMoment, month_length, next_second, next_seconds, next_day}
-use Rattle.rtc_calendar.specs.Updates.{moment_of, bytes_of, updated, updated_times, month_in, year_in, last_date_in, IsValid, IsDayLater}
+use Rattle.rtc_calendar.specs.Updates.{moment_of, bytes_of, updated, updated_times, month_in, year_in}
+use Rattle.rtc_calendar.specs.Updates.{last_date_in, IsValid, IsDayLater}
 use Rattle.rtc_calendar.specs.Alarms.{fits_byte, is_match, IsDontCare, alarm_next, matches_in}
-use Rattle.rtc_calendar.proofs.Spellings.{number_in-least, number_in-most, hour_in-most, number_in-spelling, hour_in-hour_spelling, is_spelt-spelling, is_hour-hour_spelling, spelling-number_in, hour_spelling-hour_in}
+use Rattle.rtc_calendar.proofs.Spellings.{number_in-least, number_in-most, hour_in-most, number_in-spelling}
+use Rattle.rtc_calendar.proofs.Spellings.{hour_in-hour_spelling, is_spelt-spelling, is_hour-hour_spelling}
+use Rattle.rtc_calendar.proofs.Spellings.{spelling-number_in, hour_spelling-hour_in}
 use Rattle.rtc_calendar.proofs.Moments.{month_length-least, month_length-most}
 use Rattle.rtc_calendar.proofs.Days.{moment-equal, IsMoment-next_seconds, IsMoment-next_day, next_seconds-day}
 
@@ -37,11 +41,13 @@ pub updated_times-suc : (form : Form) (n : ℕ) (bytes : TimeBytes) → updated_
 updated_times-suc form n bytes = refl
 
 pub matches_in-suc : (form : Form) (alarm : Alarm) (bytes : TimeBytes) (n : ℕ)
-    → matches_in form alarm bytes (suc n) ≡ cond (alarm_next form alarm (updated_times form n bytes)) (suc (matches_in form alarm bytes n)) (matches_in form alarm bytes n)
+    → matches_in form alarm bytes (suc n) ≡ cond (alarm_next form alarm (updated_times form n bytes)) (suc (matches_in form alarm bytes n))
+    (matches_in form alarm bytes n)
 matches_in-suc form alarm bytes n = refl
 
 -- updates behind updates
-pub updated_times-add : (form : Form) (n more : ℕ) (bytes : TimeBytes) → updated_times form (n + more) bytes ≡ updated_times form more (updated_times form n bytes)
+pub updated_times-add : (form : Form) (n more : ℕ) (bytes : TimeBytes)
+    → updated_times form (n + more) bytes ≡ updated_times form more (updated_times form n bytes)
 updated_times-add form n zero bytes = ap (λ (x : ℕ). updated_times form x bytes) (omega arith)
 updated_times-add form n (suc more) bytes =
     let next : n + suc more ≡ suc (n + more) = omega arith in
@@ -53,8 +59,10 @@ matches_in-add form alarm bytes n zero = let all : n + 0 ≡ n = omega arith in 
 matches_in-add form alarm bytes n (suc more) =
     let next : n + suc more ≡ suc (n + more) = omega arith in
     ap (matches_in form alarm bytes) next
-    ∙ ap (λ (b : TimeBytes). cond (alarm_next form alarm b) (suc (matches_in form alarm bytes (n + more))) (matches_in form alarm bytes (n + more))) (updated_times-add form n more bytes)
-    ∙ one_more (alarm_next form alarm (updated_times form more (updated_times form n bytes))) (matches_in form alarm bytes (n + more)) (matches_in form alarm bytes n)
+    ∙ ap (λ (b : TimeBytes). cond (alarm_next form alarm b) (suc (matches_in form alarm bytes (n + more))) (matches_in form alarm bytes (n + more)))
+    (updated_times-add form n more bytes)
+    ∙ one_more (alarm_next form alarm (updated_times form more (updated_times form n bytes))) (matches_in form alarm bytes (n + more))
+    (matches_in form alarm bytes n)
     (matches_in form alarm (updated_times form n bytes) more) (matches_in-add form alarm bytes n more)
   where
     one_more : (b : Bool) (x y z : ℕ) → x ≡ y + z → cond b (suc x) x ≡ y + cond b (suc z) z
@@ -92,7 +100,8 @@ is_match-any alarm bytes any =
     let sec : leb 192 alarm.sec ≡ true = le-leb 192 alarm.sec any.sec in
     let min : leb 192 alarm.min ≡ true = le-leb 192 alarm.min any.min in
     let hour : leb 192 alarm.hour ≡ true = le-leb 192 alarm.hour any.hour in
-    and_from ((leb 192 alarm.sec || eqb alarm.sec bytes.sec) && (leb 192 alarm.min || eqb alarm.min bytes.min)) (leb 192 alarm.hour || eqb alarm.hour bytes.hour)
+    and_from ((leb 192 alarm.sec || eqb alarm.sec bytes.sec) && (leb 192 alarm.min || eqb alarm.min bytes.min))
+    (leb 192 alarm.hour || eqb alarm.hour bytes.hour)
     (and_from (leb 192 alarm.sec || eqb alarm.sec bytes.sec) (leb 192 alarm.min || eqb alarm.min bytes.min)
     (or_left (leb 192 alarm.sec) (eqb alarm.sec bytes.sec) sec)
     (or_left (leb 192 alarm.min) (eqb alarm.min bytes.min) min))
@@ -109,9 +118,12 @@ IsFirst-any form alarm bytes n first any some h =
 pub moment_of-bytes_of : (form : Form) (m : Moment) → IsMoment m → moment_of form (bytes_of form m) ≡ m
 unfolding moment_of bytes_of last_date_in month_in year_in
 moment_of-bytes_of form m v =
-    let month : number_in form.binary 1 12 (spelling form.binary m.month) ≡ m.month = number_in-spelling form.binary 1 12 m.month v.first_month v.last_month (omega arith) in
-    let year : number_in form.binary 0 99 (spelling form.binary m.year) ≡ m.year = number_in-spelling form.binary 0 99 m.year (omega arith) v.year (omega arith) in
-    let date : number_in form.binary 1 (month_length (number_in form.binary 0 99 (spelling form.binary m.year)) (number_in form.binary 1 12 (spelling form.binary m.month))) (spelling form.binary m.date) ≡ m.date =
+    let month : number_in form.binary 1 12 (spelling form.binary m.month) ≡ m.month =
+    number_in-spelling form.binary 1 12 m.month v.first_month v.last_month (omega arith) in
+    let year : number_in form.binary 0 99 (spelling form.binary m.year) ≡ m.year =
+    number_in-spelling form.binary 0 99 m.year (omega arith) v.year (omega arith) in
+    let date : number_in form.binary 1
+    (month_length (number_in form.binary 0 99 (spelling form.binary m.year)) (number_in form.binary 1 12 (spelling form.binary m.month))) (spelling form.binary m.date) ≡ m.date =
     ap (λ (y : ℕ). number_in form.binary 1 (month_length y (number_in form.binary 1 12 (spelling form.binary m.month))) (spelling form.binary m.date)) year
     ∙ ap (λ (x : ℕ). number_in form.binary 1 (month_length m.year x) (spelling form.binary m.date)) month
     ∙ number_in-spelling form.binary 1 (month_length m.year m.month) m.date v.first_date v.last_date (omega (arith, month_length-most m.year m.month)) in
@@ -121,7 +133,8 @@ moment_of-bytes_of form m v =
       minute = number_in form.binary 0 59 (spelling form.binary m.minute);
       hour = hour_in form (hour_spelling form m.hour);
       weekday = number_in form.binary 1 7 (spelling form.binary m.weekday);
-      date = number_in form.binary 1 (month_length (number_in form.binary 0 99 (spelling form.binary m.year)) (number_in form.binary 1 12 (spelling form.binary m.month))) (spelling form.binary m.date);
+      date = number_in form.binary 1
+          (month_length (number_in form.binary 0 99 (spelling form.binary m.year)) (number_in form.binary 1 12 (spelling form.binary m.month))) (spelling form.binary m.date);
       month = number_in form.binary 1 12 (spelling form.binary m.month);
       year = number_in form.binary 0 99 (spelling form.binary m.year);
     })
@@ -136,12 +149,15 @@ moment_of-bytes_of form m v =
 last_date_in-bytes_of : (form : Form) (m : Moment) → IsMoment m → last_date_in form (bytes_of form m) ≡ month_length m.year m.month
 unfolding bytes_of last_date_in month_in year_in
 last_date_in-bytes_of form m v =
-    let month : number_in form.binary 1 12 (spelling form.binary m.month) ≡ m.month = number_in-spelling form.binary 1 12 m.month v.first_month v.last_month (omega arith) in
-    let year : number_in form.binary 0 99 (spelling form.binary m.year) ≡ m.year = number_in-spelling form.binary 0 99 m.year (omega arith) v.year (omega arith) in
+    let month : number_in form.binary 1 12 (spelling form.binary m.month) ≡ m.month =
+    number_in-spelling form.binary 1 12 m.month v.first_month v.last_month (omega arith) in
+    let year : number_in form.binary 0 99 (spelling form.binary m.year) ≡ m.year =
+    number_in-spelling form.binary 0 99 m.year (omega arith) v.year (omega arith) in
     ap (λ (y : ℕ). month_length y (number_in form.binary 1 12 (spelling form.binary m.month))) year ∙ ap (month_length m.year) month
 
 -- and its bytes are valid
-IsValid-parts : (form : Form) (m : Moment) → IsMoment m → is_spelt form.binary 1 (last_date_in form (bytes_of form m)) (spelling form.binary m.date) ≡ true → IsValid form (bytes_of form m)
+IsValid-parts : (form : Form) (m : Moment) → IsMoment m
+    → is_spelt form.binary 1 (last_date_in form (bytes_of form m)) (spelling form.binary m.date) ≡ true → IsValid form (bytes_of form m)
 unfolding bytes_of
 IsValid-parts form m v date = record {
   sec = is_spelt-spelling form.binary 0 59 m.second (omega arith) v.second (omega arith);
@@ -159,12 +175,14 @@ IsValid-bytes_of form m v =
     ∙ is_spelt-spelling form.binary 1 (month_length m.year m.month) m.date v.first_date v.last_date (omega (arith, month_length-most m.year m.month)))
 
 -- updates add seconds to what was read first
-pub updated_times-bytes_of : (form : Form) (n : ℕ) (bytes : TimeBytes) → updated_times form (suc n) bytes ≡ bytes_of form (next_seconds (suc n) (moment_of form bytes))
+pub updated_times-bytes_of : (form : Form) (n : ℕ) (bytes : TimeBytes)
+    → updated_times form (suc n) bytes ≡ bytes_of form (next_seconds (suc n) (moment_of form bytes))
 unfolding updated
 updated_times-bytes_of form zero bytes = refl
 updated_times-bytes_of form (suc n) bytes =
     ap (updated form) (updated_times-bytes_of form n bytes)
-    ∙ ap (λ (m : Moment). bytes_of form (next_second m)) (moment_of-bytes_of form (next_seconds (suc n) (moment_of form bytes)) (IsMoment-next_seconds (suc n) (moment_of form bytes) (IsMoment-moment_of form bytes)))
+    ∙ ap (λ (m : Moment). bytes_of form (next_second m))
+    (moment_of-bytes_of form (next_seconds (suc n) (moment_of form bytes)) (IsMoment-next_seconds (suc n) (moment_of form bytes) (IsMoment-moment_of form bytes)))
 
 pub updated_times-some : (form : Form) (n : ℕ) (bytes : TimeBytes) → 0 < n → updated_times form n bytes ≡ bytes_of form (next_seconds n (moment_of form bytes))
 updated_times-some form zero bytes h = absurd (omega arith)
@@ -182,7 +200,8 @@ IsValid-kept form zero bytes valid = valid
 IsValid-kept form (suc n) bytes valid = IsValid-updated_times form (suc n) bytes (omega arith)
 
 -- the time bytes of a moment at the same time of day as valid bytes are theirs
-time-bytes_of : (form : Form) (bytes : TimeBytes) (m : Moment) → IsValid form bytes → bytes.hour < 256 → m.second ≡ (moment_of form bytes).second → m.minute ≡ (moment_of form bytes).minute → m.hour ≡ (moment_of form bytes).hour
+time-bytes_of : (form : Form) (bytes : TimeBytes) (m : Moment) → IsValid form bytes → bytes.hour < 256 → m.second ≡ (moment_of form bytes).second
+    → m.minute ≡ (moment_of form bytes).minute → m.hour ≡ (moment_of form bytes).hour
     → ((bytes_of form m).sec ≡ bytes.sec) × ((bytes_of form m).min ≡ bytes.min) × ((bytes_of form m).hour ≡ bytes.hour)
 unfolding bytes_of moment_of
 time-bytes_of form bytes m valid small second minute hour = (
@@ -196,7 +215,8 @@ unfolding next_day
 same_time-next_day m = (refl, refl, refl)
 
 -- a day of updates keeps the time, and moves the date on by a day
-pub IsDayLater-updated_times : (form : Form) (n : ℕ) (bytes : TimeBytes) → n ≡ 86400 → bytes.hour < 256 → IsValid form bytes → IsDayLater form bytes (updated_times form n bytes)
+pub IsDayLater-updated_times : (form : Form) (n : ℕ) (bytes : TimeBytes) → n ≡ 86400 → bytes.hour < 256 → IsValid form bytes
+    → IsDayLater form bytes (updated_times form n bytes)
 IsDayLater-updated_times form n bytes day small valid =
     let moment : IsMoment (moment_of form bytes) = IsMoment-moment_of form bytes in
     let same = same_time-next_day (moment_of form bytes) in

@@ -11,7 +11,10 @@ fits_byte alarm byte = nat_le 192 alarm || alarm == byte
 
 -- all three alarm bytes match
 unfoldable pub is_match : Alarm → TimeBytes → Bool
-is_match alarm bytes = fits_byte alarm.sec bytes.sec && fits_byte alarm.min bytes.min && fits_byte alarm.hour bytes.hour
+is_match alarm bytes =
+    fits_byte alarm.sec bytes.sec
+    && fits_byte alarm.min bytes.min
+    && fits_byte alarm.hour bytes.hour
 
 -- no alarm byte asks for a value: each is of C0h to FFh
 pub record IsDontCare (alarm : Alarm) : Type 0 where
@@ -27,4 +30,6 @@ alarm_next form alarm bytes = is_match alarm (updated form bytes)
 abbrev pub matches_in : Form → Alarm → TimeBytes → ℕ → ℕ
 matches_in form alarm bytes zero = 0
 matches_in form alarm bytes (suc n) =
-    if alarm_next form alarm (updated_times form n bytes) then suc (matches_in form alarm bytes n) else matches_in form alarm bytes n
+    if alarm_next form alarm (updated_times form n bytes)
+    then suc (matches_in form alarm bytes n)
+    else matches_in form alarm bytes n

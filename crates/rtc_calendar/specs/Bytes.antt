@@ -13,9 +13,12 @@ has_digits byte = nat_le (byte / 16) 9 && nat_le (byte % 16) 9
 
 -- the byte spells a number of low to high; in BCD its digits are at most 9
 unfoldable pub is_spelt : Bool → ℕ → ℕ → ℕ → Bool
-is_spelt binary low high byte = (binary || has_digits byte) && nat_le low (spelt binary byte) && nat_le (spelt binary byte) high
+is_spelt binary low high byte =
+    (binary || has_digits byte)
+    && nat_le low (spelt binary byte)
+    && nat_le (spelt binary byte) high
 
--- the number read from a byte of the range low to high; an invalid byte counts as the lowest value (this project's own choice)
+-- the number read from a byte of the range low to high; an invalid byte counts as low (own)
 unfoldable pub number_in : Bool → ℕ → ℕ → ℕ → ℕ
 number_in binary low high byte = if is_spelt binary low high byte then spelt binary byte else low
 
@@ -25,13 +28,17 @@ spelling binary number = if binary then number else number / 10 * 16 + number % 
 
 -- the byte is an hour: 0 to 23, or in 12-hour form 1 to 12 with bit 7 for PM
 unfoldable pub is_hour : Form → ℕ → Bool
-is_hour form byte = if form.hours24 then is_spelt form.binary 0 23 byte else is_spelt form.binary 1 12 (byte % 128)
+is_hour form byte =
+    if form.hours24 then is_spelt form.binary 0 23 byte
+    else is_spelt form.binary 1 12 (byte % 128)
 
 -- the hour of the day that a byte stands for; in 12-hour form hour 12 opens its half of the day
 unfoldable pub hour_meant : Form → ℕ → ℕ
-hour_meant form byte = if form.hours24 then spelt form.binary byte else spelt form.binary (byte % 128) % 12 + (if nat_le 128 byte then 12 else 0)
+hour_meant form byte =
+    if form.hours24 then spelt form.binary byte
+    else spelt form.binary (byte % 128) % 12 + (if nat_le 128 byte then 12 else 0)
 
--- the hour of the day, 0 to 23, read from its byte; an invalid byte counts as hour 0 (this project's own choice)
+-- the hour of the day, 0 to 23, read from its byte; an invalid byte counts as hour 0 (own)
 unfoldable pub hour_in : Form → ℕ → ℕ
 hour_in form byte = if is_hour form byte then hour_meant form byte else 0
 
@@ -41,4 +48,6 @@ hour_of_twelve hour = if hour % 12 == 0 then 12 else hour % 12
 
 -- the byte of an hour of the day
 unfoldable pub hour_spelling : Form → ℕ → ℕ
-hour_spelling form hour = if form.hours24 then spelling form.binary hour else spelling form.binary (hour_of_twelve hour) + (if nat_le 12 hour then 128 else 0)
+hour_spelling form hour =
+    if form.hours24 then spelling form.binary hour
+    else spelling form.binary (hour_of_twelve hour) + (if nat_le 12 hour then 128 else 0)

@@ -65,5 +65,7 @@ next_day m = record m {
   weekday = next_in 1 7 m.weekday;
   date = next_in 1 (month_length m.year m.month) m.date;
   month = if m.date == month_length m.year m.month then next_in 1 12 m.month else m.month;
-  year = if m.date == month_length m.year m.month && m.month == 12 then next_in 0 99 m.year else m.year;
+  year = if m.date == month_length m.year m.month && m.month == 12
+      then next_in 0 99 m.year
+      else m.year;
 }

@@ -60,7 +60,7 @@ pub record IsValid (form : Form) (bytes : TimeBytes) : Type 0 where
   pub month : IsTrue (is_spelt form.binary 1 12 bytes.month)
   pub year : IsTrue (is_spelt form.binary 0 99 bytes.year)
 
--- the bytes of the next day: the same time, and the date, month, year and day of the week that follow
+-- the bytes of the next day: the same time, and the date and day of the week that follow
 pub record IsDayLater (form : Form) (old new : TimeBytes) : Type 0 where
   pub sec : new.sec ≡ old.sec
   pub min : new.min ≡ old.min

@@ -36,6 +36,9 @@ pub fn first_match(bytes: TimeBytes, form: Form, alarm: Alarm, n: u64) -> Option
     ensures first { IsFirst (matches_in form alarm bytes) n result }
     ensures any { IsDontCare alarm → 0 < n → result ≡ Some 1 }
 {
+    if n == 0 {
+        return None;
+    }
     let start = second_of_day(moment_of(bytes, form)) + 1;
     let next = next_second(wanted_time(form, alarm), start)?;
     let update = next - start + 1;

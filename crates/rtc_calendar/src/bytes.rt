@@ -1,6 +1,8 @@
 //! How a time byte spells a number.
 ghost use Rattle.std.specs.Prelude.{◌≡◌, ◌<◌, ◌≤◌};
-ghost use Rattle.rtc_calendar.specs.Bytes.{spelt, has_digits, is_spelt, number_in, spelling, is_hour, hour_meant, hour_in, hour_of_twelve, hour_spelling};
+ghost use Rattle.rtc_calendar.specs.Bytes.{spelt, has_digits, is_spelt, number_in, spelling};
+ghost use Rattle.rtc_calendar.specs.Bytes.{is_hour, hour_meant, hour_in, hour_of_twelve};
+ghost use Rattle.rtc_calendar.specs.Bytes.{hour_spelling};
 
 use crate::Form;
 

@@ -1,6 +1,8 @@
 //! A second of the clock and the calendar in plain numbers, whatever form the bytes have.
 ghost use Rattle.std.specs.Prelude.{◌≡◌, ◌≤◌};
-ghost use Rattle.rtc_calendar.specs.Calendar.{month_length, IsMoment, ends_minute, ends_hour, ends_day, ends_month, ends_year, next_in, next_second};
+ghost use Rattle.rtc_calendar.specs.Calendar.{month_length, IsMoment, ends_minute, ends_hour};
+ghost use Rattle.rtc_calendar.specs.Calendar.{ends_day, ends_month, ends_year, next_in};
+ghost use Rattle.rtc_calendar.specs.Calendar.{next_second};
 
 /// A second: hour 0 to 23, day of the week 1 (Sunday) to 7, date from 1, month 1 to 12, year 0 to 99.
 #[derive(Clone, Copy)]

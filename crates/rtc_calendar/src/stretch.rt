@@ -1,7 +1,8 @@
 //! Any number of seconds at once, by the second of the day and the day of a century of 100 years.
 ghost use Rattle.std.specs.Prelude.{◌≡◌, ◌+◌, ◌-◌, ◌*◌, ◌<◌, ◌≤◌};
 ghost use Rattle.rtc_calendar.specs.Calendar.{month_length, IsMoment, next_seconds};
-ghost use Rattle.rtc_calendar.specs.private.Days.{second_of_day, days_of_years, days_of_months, day_number};
+ghost use Rattle.rtc_calendar.specs.private.Days.{second_of_day, days_of_years, days_of_months};
+ghost use Rattle.rtc_calendar.specs.private.Days.{day_number};
 
 use crate::calendar::{Moment, month_length};
 

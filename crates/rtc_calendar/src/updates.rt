@@ -1,7 +1,8 @@
 //! Updates: the second that the clock adds to its bytes.
 ghost use Rattle.std.specs.Prelude.{◌≡◌, ◌<◌};
 ghost use Rattle.rtc_calendar.specs.Calendar.{IsMoment, next_second, next_seconds};
-ghost use Rattle.rtc_calendar.specs.Updates.{moment_of, bytes_of, updated, updated_times, IsValid, IsDayLater};
+ghost use Rattle.rtc_calendar.specs.Updates.{moment_of, bytes_of, updated, updated_times, IsValid};
+ghost use Rattle.rtc_calendar.specs.Updates.{IsDayLater};
 
 use crate::bytes::{hour_in, hour_spelling, number_in, spelling};
 use crate::calendar::{Moment, month_length, next_second};
@@ -9,7 +10,7 @@ use crate::stretch::later;
 use crate::{Form, TimeBytes};
 
 /// The moment that the bytes stand for. An invalid byte counts as its lowest value, and a date above the
-/// month's length is invalid (this project's own choice).
+/// month's length is invalid (own).
 #[tactic(auto, unfolding(crate::specs::Updates::moment_of, crate::specs::Updates::month_in, crate::specs::Updates::year_in, crate::specs::Updates::last_date_in))]
 pub(crate) fn moment_of(bytes: TimeBytes, form: Form) -> Moment
     ensures value { result ≡ moment_of form bytes }
@@ -60,8 +61,7 @@ pub(crate) fn updated(bytes: TimeBytes, form: Form) -> TimeBytes
 ///
 /// Every fourth year is a leap year, 00 included. A byte that is invalid in `form` counts as its lowest
 /// value: 0 for seconds, minutes, hour of the day and year, 1 for day of the week, month and date; a date
-/// above the month's length is invalid (this project's own choice). With no update the bytes stay as they
-/// are.
+/// above the month's length is invalid (own). With no update the bytes stay as they are.
 pub fn after(bytes: TimeBytes, form: Form, n: u64) -> TimeBytes
     ensures value { result ≡ updated_times form n bytes }
     ensures valid { 0 < n → IsValid form result }

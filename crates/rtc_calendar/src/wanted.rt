@@ -2,7 +2,9 @@
 ghost use Rattle.std.specs.Prelude.{◌≡◌, ℕ, ◌+◌, ◌%◌, ◌<◌, ◌≤◌, ◌^◌, ◌⊎◌, IfSome};
 ghost use Rattle.rtc_calendar.specs.Bytes.{spelling, hour_spelling};
 ghost use Rattle.rtc_calendar.specs.Alarms.{fits_byte};
-ghost use Rattle.rtc_calendar.specs.private.Wanted.{is_wanted, lowest, IsBelow, IsInDay, is_wanted_hour, is_wanted_minute, is_wanted_second, IsNext};
+ghost use Rattle.rtc_calendar.specs.private.Wanted.{is_wanted, lowest, IsBelow, IsInDay};
+ghost use Rattle.rtc_calendar.specs.private.Wanted.{is_wanted_hour, is_wanted_minute};
+ghost use Rattle.rtc_calendar.specs.private.Wanted.{is_wanted_second, IsNext};
 
 use crate::bytes::{hour_in, is_hour, is_spelt, number_in};
 use crate::{Alarm, Form};
@@ -31,7 +33,8 @@ pub struct WantedTime {
 
 /// The seconds or minutes that an alarm byte matches.
 fn wanted_number(binary: bool, alarm: u8) -> Wanted
-    ensures value { (number : ℕ) → number ≤ 59 → is_wanted result number ≡ fits_byte alarm (spelling binary number) }
+    ensures value { (number : ℕ) → number ≤ 59
+        → is_wanted result number ≡ fits_byte alarm (spelling binary number) }
     ensures within { IsBelow result 60 }
 {
     if alarm >= ANYTHING {
@@ -45,7 +48,8 @@ fn wanted_number(binary: bool, alarm: u8) -> Wanted
 
 /// The hours that an alarm byte matches.
 fn wanted_hour(form: Form, alarm: u8) -> Wanted
-    ensures value { (hour : ℕ) → hour ≤ 23 → is_wanted result hour ≡ fits_byte alarm (hour_spelling form hour) }
+    ensures value { (hour : ℕ) → hour ≤ 23
+        → is_wanted result hour ≡ fits_byte alarm (hour_spelling form hour) }
     ensures within { IsBelow result 24 }
 {
     if alarm >= ANYTHING {
@@ -59,9 +63,12 @@ fn wanted_hour(form: Form, alarm: u8) -> Wanted
 
 /// The times that an alarm matches.
 pub(crate) fn wanted_time(form: Form, alarm: Alarm) -> WantedTime
-    ensures second { (number : ℕ) → number ≤ 59 → is_wanted result.second number ≡ fits_byte alarm.sec (spelling form.binary number) }
-    ensures minute { (number : ℕ) → number ≤ 59 → is_wanted result.minute number ≡ fits_byte alarm.min (spelling form.binary number) }
-    ensures hour { (hour : ℕ) → hour ≤ 23 → is_wanted result.hour hour ≡ fits_byte alarm.hour (hour_spelling form hour) }
+    ensures second { (number : ℕ) → number ≤ 59
+        → is_wanted result.second number ≡ fits_byte alarm.sec (spelling form.binary number) }
+    ensures minute { (number : ℕ) → number ≤ 59
+        → is_wanted result.minute number ≡ fits_byte alarm.min (spelling form.binary number) }
+    ensures hour { (hour : ℕ) → hour ≤ 23
+        → is_wanted result.hour hour ≡ fits_byte alarm.hour (hour_spelling form hour) }
     ensures within { IsInDay result }
 {
     WantedTime {

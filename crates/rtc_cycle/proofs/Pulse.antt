@@ -1,6 +1,8 @@
 -- Lemmas on one pulse of the divider, and on counts of events.
-use Rattle.std.proofs.Common.{◌≡◌, ℕ, zero, suc, ◌+◌, ◌%◌, ◌<◌, ◌≤◌, Bool, true, false, not, ◌&&◌, ◌||◌, cond, eqb, ◌⊎◌, inl, inr, refl, arith}
-use Rattle.std.proofs.lemmas.Bool.{cases_eq, eq-eqb, ne_eqb, eqb-true, true≢false, false≢true, or_cases, and_parts}
+use Rattle.std.proofs.Common.{◌≡◌, ℕ, zero, suc, ◌+◌, ◌%◌, ◌<◌, ◌≤◌, Bool, true, false, not, ◌&&◌, ◌||◌}
+use Rattle.std.proofs.Common.{cond, eqb, ◌⊎◌, inl, inr, refl, arith}
+use Rattle.std.proofs.lemmas.Bool.{cases_eq, eq-eqb, ne_eqb, eqb-true, true≢false, false≢true, or_cases}
+use Rattle.std.proofs.lemmas.Bool.{and_parts}
 use Rattle.clk_units.specs.Events.{CountsUp}
 use Rattle.clk_units.proofs.Events.{CountsUp-by_test}
 use Rattle.rtc_cycle.specs.declared.parts.DividerParts.{DividerParts}
@@ -41,7 +43,8 @@ cycle_next : (dv d : ℕ) (cycle set : Bool) → (cycle ≡ true → (dv ≡ 2) 
     → cond (eqb dv 2) ((eqb ((d + 1) % 32768) 0 && not set) || (cycle && not (eqb ((d + 1) % 32768) 65))) cycle ≡ true
     → (dv ≡ 2) × (set ≡ false) × (cond (eqb dv 2) ((d + 1) % 32768) d ≤ 64)
 cycle_next dv d cycle set h = elim (cases_eq dv 2) [
-  | inl runs ↦ rw (eq-eqb dv 2 runs) (λ e. let after : (set ≡ false) × ((d + 1) % 32768 ≤ 64) = cycle_running d cycle set (λ c. let was : (dv ≡ 2) × (set ≡ false) × (d ≤ 64) = h c in (was.1, was.2)) e in (runs, after.0, after.1))
+  | inl runs ↦ rw (eq-eqb dv 2 runs)
+      (λ e. let after : (set ≡ false) × ((d + 1) % 32768 ≤ 64) = cycle_running d cycle set (λ c. let was : (dv ≡ 2) × (set ≡ false) × (d ≤ 64) = h c in (was.1, was.2)) e in (runs, after.0, after.1))
   | inr held ↦ rw (ne_eqb dv 2 held) (λ e. h e)
 ]
 

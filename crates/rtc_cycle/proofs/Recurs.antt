@@ -1,5 +1,7 @@
 -- What the bodies do at once is what the pulses do one by one.
-use Rattle.std.proofs.Common.{◌≡◌, ℕ, zero, suc, ◌+◌, ◌-◌, ◌*◌, ◌/◌, ◌%◌, ◌<◌, ◌≤◌, Bool, true, false, not, ◌&&◌, ◌||◌, cond, leb, Option, Some, None, ◌⊎◌, inl, inr, refl, sym, ap, subst, ◌∙◌, arith}
+use Rattle.std.proofs.Common.{◌≡◌, ℕ, zero, suc, ◌+◌, ◌-◌, ◌*◌, ◌/◌, ◌%◌, ◌<◌, ◌≤◌, Bool, true, false, not}
+use Rattle.std.proofs.Common.{◌&&◌, ◌||◌, cond, leb, Option, Some, None, ◌⊎◌, inl, inr, refl, sym, ap, subst}
+use Rattle.std.proofs.Common.{◌∙◌, arith}
 use Rattle.std.proofs.Math.Nat.{add-mul-div_right, div-eq_of_lt}
 use Rattle.std.proofs.lemmas.Nat.{div-add-mod'}
 use Rattle.std.proofs.lemmas.Bool.{cases_eq, cases_lt, cases_Bool, eq-eqb, ne_eqb, lt-ltb, le-ltb}
@@ -9,7 +11,8 @@ use Rattle.rtc_cycle.specs.Divider.{period, pulsed, pulsed_times, ticks_next, ti
 use Rattle.rtc_cycle.specs.Parts.{IsDivider}
 use Rattle.rtc_cycle.specs.private.Stretch.{recurs, first_recurs, pulses_to_end, stretched}
 use Rattle.rtc_cycle.proofs.Pulse.{IsDivider-pulsed_times, dv-pulsed_times, rs-pulsed_times, set-pulsed_times}
-use Rattle.rtc_cycle.proofs.Times.{d-pulsed_times, period-some, ticks_in-is, cycle-at, cycle-while_set, behind, updates_in-is, ticks_in-none}
+use Rattle.rtc_cycle.proofs.Times.{d-pulsed_times, period-some, ticks_in-is, cycle-at, cycle-while_set}
+use Rattle.rtc_cycle.proofs.Times.{behind, updates_in-is, ticks_in-none}
 
 -- the first of events at even distances
 pub recurs-first : (next period n : ℕ) → 0 < next → IsFirst (recurs next period) n (first_recurs next n)
@@ -124,7 +127,8 @@ pub IsFirst-ticks_in : (p : DividerParts) → IsDivider p → p.dv ≡ 2 → 0 <
 IsFirst-ticks_in p valid runs some n =
     let positive : 0 < period p.rs = period-some p.rs some valid.rs in
     let next : 0 < period p.rs - p.d % period p.rs = within p.d (period p.rs) positive in
-    IsFirst-same (recurs (period p.rs - p.d % period p.rs) (period p.rs)) (ticks_in p) (ticks_in-recurs p valid runs some) n _ (recurs-first (period p.rs - p.d % period p.rs) (period p.rs) n next)
+    IsFirst-same (recurs (period p.rs - p.d % period p.rs) (period p.rs)) (ticks_in p) (ticks_in-recurs p valid runs some) n _
+    (recurs-first (period p.rs - p.d % period p.rs) (period p.rs) n next)
   where
     within : (d m : ℕ) → 0 < m → 0 < m - d % m
     within d m positive = omega arith

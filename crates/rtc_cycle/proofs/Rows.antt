@@ -1,7 +1,8 @@
 -- Small rows that pin the definitions.
 use Rattle.std.proofs.Common.{◌≡◌, ℕ, Bool, true, false, refl, inl, inr, arith, lit<, lit≤}
 use Rattle.rtc_cycle.specs.declared.parts.DividerParts.{DividerParts}
-use Rattle.rtc_cycle.specs.Divider.{pulsed, pulsed_times, ticks_next, updates_next, ticks_in, updates_in, uip_of, with_dv, with_set, period, frequency}
+use Rattle.rtc_cycle.specs.Divider.{pulsed, pulsed_times, ticks_next, updates_next, ticks_in, updates_in}
+use Rattle.rtc_cycle.specs.Divider.{uip_of, with_dv, with_set, period, frequency}
 use Rattle.rtc_cycle.specs.Parts.{IsDivider, divider_at_power_on}
 use Rattle.std.proofs.lemmas.Bool.{true≢false, false≢true}
 

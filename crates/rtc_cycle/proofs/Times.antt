@@ -1,12 +1,17 @@
 -- A stretch of pulses at once: where the divider stands behind it, and how many events it brought.
-use Rattle.std.proofs.Common.{◌≡◌, ℕ, zero, suc, ◌+◌, ◌-◌, ◌*◌, ◌/◌, ◌%◌, ◌<◌, ◌≤◌, Bool, true, false, not, ◌&&◌, ◌||◌, cond, eqb, leb, Some, ◌⊎◌, inl, inr, refl, sym, ap, ◌∙◌, arith}
+use Rattle.std.proofs.Common.{◌≡◌, ℕ, zero, suc, ◌+◌, ◌-◌, ◌*◌, ◌/◌, ◌%◌, ◌<◌, ◌≤◌, Bool, true, false, not}
+use Rattle.std.proofs.Common.{◌&&◌, ◌||◌, cond, eqb, leb, Some, ◌⊎◌, inl, inr, refl, sym, ap, ◌∙◌, arith}
 use Rattle.std.proofs.Math.Nat.{add-mul-div_right, mul-add-mod_self_left, suc-mul, mul_assoc, mul_comm}
 use Rattle.std.proofs.lemmas.Nat.{div-add-mod', div-mul-add, mod-mul-add}
-use Rattle.std.proofs.lemmas.Bool.{cases_eq, eq-eqb, ne_eqb, eqb-true, cases_lt, agree_below_at, or_cases, and_parts, and_right, not-true, both_ways, or_parts, and_cases, leb-false, not_from_false, false_from_ne_true, le-leb, lt-leb, cases_Bool, false≢true}
+use Rattle.std.proofs.lemmas.Bool.{cases_eq, eq-eqb, ne_eqb, eqb-true, cases_lt, agree_below_at, or_cases}
+use Rattle.std.proofs.lemmas.Bool.{and_parts, and_right, not-true, both_ways, or_parts, and_cases, leb-false}
+use Rattle.std.proofs.lemmas.Bool.{not_from_false, false_from_ne_true, le-leb, lt-leb, cases_Bool}
+use Rattle.std.proofs.lemmas.Bool.{false≢true}
 use Rattle.std.proofs.Math.Bool.{or-true, and-true}
 use Rattle.clk_units.specs.Events.{IsFirst}
 use Rattle.rtc_cycle.specs.declared.parts.DividerParts.{DividerParts}
-use Rattle.rtc_cycle.specs.Divider.{period, frequency, pulsed, pulsed_times, ticks_next, updates_next, ticks_in, updates_in, uip_of, RunsCycles}
+use Rattle.rtc_cycle.specs.Divider.{period, frequency, pulsed, pulsed_times, ticks_next, updates_next}
+use Rattle.rtc_cycle.specs.Divider.{ticks_in, updates_in, uip_of, RunsCycles}
 use Rattle.rtc_cycle.specs.Parts.{IsDivider}
 use Rattle.rtc_cycle.proofs.Pulse.{IsDivider-pulsed_times, dv-pulsed_times, rs-pulsed_times, set-pulsed_times}
 
@@ -37,7 +42,8 @@ div-suc x m positive = elim (cases_eq (x % m + 1) m) [
 -- at each rate the period goes into the second
 pub period-times : (rs : ℕ) → 0 < rs → rs ≤ 15 → period rs * frequency rs ≡ 32768
 period-times rs some most =
-    let e : ((eqb rs 0) || eqb (period rs * frequency rs) 32768) ≡ true = agree_below_at (λ r. eqb r 0 || eqb (period r * frequency r) 32768) (λ _. true) 16 rs refl (omega arith) in
+    let e : ((eqb rs 0) || eqb (period rs * frequency rs) 32768) ≡ true =
+    agree_below_at (λ r. eqb r 0 || eqb (period r * frequency r) 32768) (λ _. true) 16 rs refl (omega arith) in
     elim (or_cases (eqb rs 0) (eqb (period rs * frequency rs) 32768) e) [
       | inl none ↦ absurd (omega (arith, eqb-true rs 0 none))
       | inr times ↦ eqb-true (period rs * frequency rs) 32768 times
@@ -114,12 +120,16 @@ cycle-pulsed_times zero p below quiet h = absurd (both_ways p.cycle quiet h)
 cycle-pulsed_times (suc n) p below quiet h = elim (cases_eq p.dv 2) [
   | inl runs ↦
       let on : eqb (pulsed_times n p).dv 2 ≡ true = eq-eqb (pulsed_times n p).dv 2 (dv-pulsed_times n p ∙ runs) in
-      let after : ((eqb (((pulsed_times n p).d + 1) % 32768) 0 && not (pulsed_times n p).set) || ((pulsed_times n p).cycle && not (eqb (((pulsed_times n p).d + 1) % 32768) 65))) ≡ true = rw on at h in
+      let after :
+      ((eqb (((pulsed_times n p).d + 1) % 32768) 0 && not (pulsed_times n p).set) || ((pulsed_times n p).cycle && not (eqb (((pulsed_times n p).d + 1) % 32768) 65))) ≡ true =
+      rw on at h in
       elim (or_cases (eqb (((pulsed_times n p).d + 1) % 32768) 0 && not (pulsed_times n p).set) ((pulsed_times n p).cycle && not (eqb (((pulsed_times n p).d + 1) % 32768) 65)) after) [
         | inl begins ↦
-            let parts : (eqb (((pulsed_times n p).d + 1) % 32768) 0 ≡ true) × (not (pulsed_times n p).set ≡ true) = and_parts (eqb (((pulsed_times n p).d + 1) % 32768) 0) (not (pulsed_times n p).set) begins in
+            let parts : (eqb (((pulsed_times n p).d + 1) % 32768) 0 ≡ true) × (not (pulsed_times n p).set ≡ true) =
+            and_parts (eqb (((pulsed_times n p).d + 1) % 32768) 0) (not (pulsed_times n p).set) begins in
             (runs, sym (set-pulsed_times n p) ∙ not-true (pulsed_times n p).set parts.1, omega (arith, eqb-true (((pulsed_times n p).d + 1) % 32768) 0 parts.0, d-pulsed_times n p runs below))
-        | inr goes_on ↦ further (cycle-pulsed_times n p below quiet (and_parts (pulsed_times n p).cycle (not (eqb (((pulsed_times n p).d + 1) % 32768) 65)) goes_on).0)
+        | inr goes_on ↦ further
+            (cycle-pulsed_times n p below quiet (and_parts (pulsed_times n p).cycle (not (eqb (((pulsed_times n p).d + 1) % 32768) 65)) goes_on).0)
       ]
   | inr held ↦
       let off : eqb (pulsed_times n p).dv 2 ≡ false = ne_eqb (pulsed_times n p).dv 2 (λ e. held (sym (dv-pulsed_times n p) ∙ e)) in
@@ -162,7 +172,8 @@ uip-quiet zero p below h few = refl
 uip-quiet (suc n) p below h few =
     let none_next : updates_next (pulsed_times n p) ≡ false = false_from_ne_true (updates_next (pulsed_times n p)) (λ ends.
     let quiet : (p.cycle ≡ false) × (p.set ≡ false → p.d < 32760) = uip_of-false p h in
-    let end : ((pulsed_times n p).dv ≡ 2) × ((pulsed_times n p).cycle ≡ true) × (((pulsed_times n p).d + 1) % 32768 ≡ 65) = updates_next-true (pulsed_times n p) ends in
+    let end : ((pulsed_times n p).dv ≡ 2) × ((pulsed_times n p).cycle ≡ true) × (((pulsed_times n p).d + 1) % 32768 ≡ 65) =
+    updates_next-true (pulsed_times n p) ends in
     let passed : (p.dv ≡ 2) × (p.set ≡ false) × (32768 ≤ p.d + n) = cycle-pulsed_times n p below quiet.0 end.1 in
     let early : p.d < 32760 = quiet.1 passed.1 in
     let place : (pulsed_times n p).d ≡ (p.d + n) % 32768 = d-pulsed_times n p passed.0 below in
@@ -209,7 +220,8 @@ cycle_goes_on y cycle = elim (cases_eq (suc y % 32768) 0) [
 
 cycle_now : (d : ℕ) (cycle : Bool) → d < 32768 → (cycle ≡ true → d ≤ 64) → cycle ≡ (leb ((d + 0) % 32768) 64 && (cycle || leb 32768 (d + 0)))
 cycle_now d true below early = let few : (d + 0) % 32768 ≤ 64 = omega (arith, early refl) in rw (le-leb ((d + 0) % 32768) 64 few) refl
-cycle_now d false below early = let few : d + 0 < 32768 = omega arith in sym (and_right (leb ((d + 0) % 32768) 64) (leb 32768 (d + 0)) (lt-leb 32768 (d + 0) few))
+cycle_now d false below early =
+    let few : d + 0 < 32768 = omega arith in sym (and_right (leb ((d + 0) % 32768) 64) (leb 32768 (d + 0)) (lt-leb 32768 (d + 0) few))
 
 -- whether a cycle is in progress behind n pulses of a running divider with SET 0
 pub cycle-at : (n : ℕ) (p : DividerParts) → IsDivider p → p.dv ≡ 2 → p.set ≡ false
@@ -228,7 +240,8 @@ cycle-while_set n p valid on = false_from_ne_true (pulsed_times n p).cycle (λ c
     let off : ((pulsed_times n p).dv ≡ 2) × ((pulsed_times n p).set ≡ false) × ((pulsed_times n p).d ≤ 64) = (IsDivider-pulsed_times n p valid).in_cycle c in
     both_ways p.set (sym (set-pulsed_times n p) ∙ off.1) on)
 
-ending : (y : ℕ) (cycle : Bool) → ((leb (y % 32768) 64 && (cycle || leb 32768 y)) && eqb (suc y % 32768) 65) ≡ (eqb (suc y % 32768) 65 && (cycle || leb 32768 y))
+ending : (y : ℕ) (cycle : Bool)
+    → ((leb (y % 32768) 64 && (cycle || leb 32768 y)) && eqb (suc y % 32768) 65) ≡ (eqb (suc y % 32768) 65 && (cycle || leb 32768 y))
 ending y cycle = elim (cases_eq (suc y % 32768) 65) [
   | inl ends ↦
       let was : y % 32768 ≤ 64 = omega arith in
@@ -259,7 +272,8 @@ counted_on y cycle u e = elim (cases_eq (suc y % 32768) 65) [
   | inr other ↦ rw (ne_eqb (suc y % 32768) 65 other) (omega arith)
 ]
   where
-    ended : (cycle : Bool) → suc y % 32768 ≡ 65 → u ≡ (y + 32703) / 32768 - behind cycle → cond (cycle || leb 32768 y) (suc u) u ≡ (suc y + 32703) / 32768 - behind cycle
+    ended : (cycle : Bool) → suc y % 32768 ≡ 65 → u ≡ (y + 32703) / 32768 - behind cycle
+        → cond (cycle || leb 32768 y) (suc u) u ≡ (suc y + 32703) / 32768 - behind cycle
     ended true ends e = omega arith
     ended false ends e = elim (cases_lt y 32768) [
       | inl first ↦ rw (lt-leb 32768 y first) (omega arith)
@@ -269,7 +283,8 @@ counted_on y cycle u e = elim (cases_eq (suc y % 32768) 65) [
 -- the update cycles that end are the 65th pulses of seconds that are passed, the first second's only where its cycle is in progress
 pub updates_in-is : (n : ℕ) (p : DividerParts) → IsDivider p → p.dv ≡ 2 → p.set ≡ false
     → updates_in p n ≡ (p.d + n + 32703) / 32768 - behind p.cycle
-updates_in-is zero p valid runs off = none_yet p.d p.cycle valid.below (λ c. let early : (p.dv ≡ 2) × (p.set ≡ false) × (p.d ≤ 64) = valid.in_cycle c in early.2)
+updates_in-is zero p valid runs off =
+    none_yet p.d p.cycle valid.below (λ c. let early : (p.dv ≡ 2) × (p.set ≡ false) × (p.d ≤ 64) = valid.in_cycle c in early.2)
 updates_in-is (suc n) p valid runs off =
     let place : p.d + suc n ≡ suc (p.d + n) = omega arith in
     rw (place, updates_next-at n p valid runs off) (counted_on (p.d + n) p.cycle (updates_in p n) (updates_in-is n p valid runs off))
@@ -279,8 +294,10 @@ pub updates_in-none : (n : ℕ) (p : DividerParts) → IsDivider p → (p.dv ≡
 updates_in-none zero p valid stops = refl
 updates_in-none (suc n) p valid stops =
     let none_next : updates_next (pulsed_times n p) ≡ false = false_from_ne_true (updates_next (pulsed_times n p)) (λ ends.
-    let end : ((pulsed_times n p).dv ≡ 2) × ((pulsed_times n p).cycle ≡ true) × (((pulsed_times n p).d + 1) % 32768 ≡ 65) = updates_next-true (pulsed_times n p) ends in
-    let off : ((pulsed_times n p).dv ≡ 2) × ((pulsed_times n p).set ≡ false) × ((pulsed_times n p).d ≤ 64) = (IsDivider-pulsed_times n p valid).in_cycle end.1 in
+    let end : ((pulsed_times n p).dv ≡ 2) × ((pulsed_times n p).cycle ≡ true) × (((pulsed_times n p).d + 1) % 32768 ≡ 65) =
+    updates_next-true (pulsed_times n p) ends in
+    let off : ((pulsed_times n p).dv ≡ 2) × ((pulsed_times n p).set ≡ false) × ((pulsed_times n p).d ≤ 64) =
+    (IsDivider-pulsed_times n p valid).in_cycle end.1 in
     stops (sym (dv-pulsed_times n p) ∙ end.0) (sym (set-pulsed_times n p) ∙ off.1)) in
     rw none_next (updates_in-none n p valid stops)
 
@@ -296,7 +313,8 @@ runs-updates_in n p valid some = elim (cases_eq p.dv 2) [
 
 a_second_apart : (cycle : Bool) (d n f k : ℕ) → 0 < f → (d + (f - 1) + 32703) / 32768 - behind cycle ≡ 0 → 0 < (d + f + 32703) / 32768 - behind cycle
     → 0 < k → k ≤ (d + n + 32703) / 32768 - behind cycle
-    → (f + (k - 1) * 32768 ≤ n) × ((d + (f + (k - 1) * 32768) + 32703) / 32768 - behind cycle ≡ k) × ((d + (f + (k - 1) * 32768 - 1) + 32703) / 32768 - behind cycle ≡ k - 1)
+    → (f + (k - 1) * 32768 ≤ n) × ((d + (f + (k - 1) * 32768) + 32703) / 32768 - behind cycle ≡ k) ×
+    ((d + (f + (k - 1) * 32768 - 1) + 32703) / 32768 - behind cycle ≡ k - 1)
 a_second_apart true d n f k some before first has few = (omega arith, omega arith, omega arith)
 a_second_apart false d n f k some before first has few = (omega arith, omega arith, omega arith)
 
@@ -306,14 +324,16 @@ pub updates_in-apart : (p : DividerParts) → IsDivider p → (n f k : ℕ) → 
 updates_in-apart p valid n f k first has few =
     let on : (p.dv ≡ 2) × (p.set ≡ false) = runs-updates_in f p valid first.3 in
     let at : (m : ℕ) → updates_in p m ≡ (p.d + m + 32703) / 32768 - behind p.cycle = λ m. updates_in-is m p valid on.0 on.1 in
-    let apart : (f + (k - 1) * 32768 ≤ n) × ((p.d + (f + (k - 1) * 32768) + 32703) / 32768 - behind p.cycle ≡ k) × ((p.d + (f + (k - 1) * 32768 - 1) + 32703) / 32768 - behind p.cycle ≡ k - 1) =
+    let apart : (f + (k - 1) * 32768 ≤ n) × ((p.d + (f + (k - 1) * 32768) + 32703) / 32768 - behind p.cycle ≡ k)
+    × ((p.d + (f + (k - 1) * 32768 - 1) + 32703) / 32768 - behind p.cycle ≡ k - 1) =
     a_second_apart p.cycle p.d n f k first.0 (sym (at (f - 1)) ∙ first.2) (omega (arith, at f, first.3)) has (omega (arith, at n)) in
     (apart.0, at (f + (k - 1) * 32768) ∙ apart.1, at (f + (k - 1) * 32768 - 1) ∙ apart.2)
 
 -- a second ends one update cycle, where its own is in progress or behind it
 pub updates_in-second : (p : DividerParts) → IsDivider p → RunsCycles p → updates_in p 32768 ≡ 1
 updates_in-second p valid runs =
-    updates_in-is 32768 p valid runs.runs runs.unset ∙ one p.cycle p.d valid.below (λ c. let early : (p.dv ≡ 2) × (p.set ≡ false) × (p.d ≤ 64) = valid.in_cycle c in early.2) runs.begun
+    updates_in-is 32768 p valid runs.runs runs.unset
+    ∙ one p.cycle p.d valid.below (λ c. let early : (p.dv ≡ 2) × (p.set ≡ false) × (p.d ≤ 64) = valid.in_cycle c in early.2) runs.begun
   where
     one : (cycle : Bool) (d : ℕ) → d < 32768 → (cycle ≡ true → d ≤ 64) → (cycle ≡ true) ⊎ (65 ≤ d) → (d + 32768 + 32703) / 32768 - behind cycle ≡ 1
     one true d below early begun = omega (arith, early refl)

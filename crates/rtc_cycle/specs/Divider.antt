@@ -1,10 +1,11 @@
--- The divider of the MC146818 at a crystal of 32,768 Hz. Sections are those of the Motorola data sheet.
+-- The divider of the MC146818 at a crystal of 32,768 Hz. Sections are those of the Motorola
+-- data sheet.
 use Rattle.std.specs.Prelude.{◌≡◌, ℕ, zero, suc, ◌+◌, ◌-◌, ◌%◌, ◌^◌, ◌≤◌}
 use Rattle.std.specs.Prelude.{Bool, true, false, not, ◌&&◌, ◌||◌, nat_le, ◌==◌, if◌then◌else◌, ◌⊎◌}
 use Rattle.std.specs.Prelude.{[], ◌∷◌, slice_index}
 use Rattle.rtc_cycle.specs.declared.parts.DividerParts.{DividerParts}
 
--- the pulses from one periodic event to the next ("Periodic interrupt selection": the rates at 32,768 Hz)
+-- the pulses from one periodic event to the next ("Periodic interrupt selection")
 abbrev pub period : ℕ → ℕ
 period rs = if rs == 1 then 128 else (if rs == 2 then 256 else 2 ^ (rs - 1))
 
@@ -44,7 +45,8 @@ ticks_in p (suc n) = if ticks_next (pulsed_times n p) then suc (ticks_in p n) el
 -- how many update cycles end in n pulses
 abbrev pub updates_in : DividerParts → ℕ → ℕ
 updates_in p zero = 0
-updates_in p (suc n) = if updates_next (pulsed_times n p) then suc (updates_in p n) else updates_in p n
+updates_in p (suc n) =
+    if updates_next (pulsed_times n p) then suc (updates_in p n) else updates_in p n
 
 -- UIP of register A: a cycle is in progress, or begins within 8 pulses, 244 microseconds
 -- ("Register A", "UIP")
@@ -64,7 +66,7 @@ with_rate rs p = record p { rs = rs }
 abbrev pub with_set : Bool → DividerParts → DividerParts
 with_set on p = record p { set = on; cycle = p.cycle && not on }
 
--- the periodic events of a second at each rate ("Periodic interrupt selection": frequencies at 32,768 Hz)
+-- the periodic events of a second at each rate ("Periodic interrupt selection")
 abbrev pub frequency : ℕ → ℕ
 frequency rs =
     slice_index

@@ -2,7 +2,8 @@
 
 ghost use Rattle.std.specs.Prelude.{◌≡◌, ℕ, ◌<◌, ◌≤◌, ◌↔◌, true, false, IsSome, IfSome};
 ghost use Rattle.clk_units.specs.Events.{IsFirst};
-ghost use Rattle.rtc_cycle.specs.Divider.{with_dv, with_rate, with_set, uip_of, pulsed_times, ticks_in, updates_in, frequency, RunsCycles};
+ghost use Rattle.rtc_cycle.specs.Divider.{with_dv, with_rate, with_set, uip_of, pulsed_times};
+ghost use Rattle.rtc_cycle.specs.Divider.{ticks_in, updates_in, frequency, RunsCycles};
 ghost use Rattle.rtc_cycle.specs.Parts.{IsDivider, divider_at_power_on};
 
 use crate::events::CycleEvents;

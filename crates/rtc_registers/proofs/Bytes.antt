@@ -5,7 +5,8 @@ use Rattle.clk_units.specs.Bits.{bit}
 use Rattle.rtc_registers.specs.Registers.{flags_byte, time_in, with_time}
 
 -- of a list of at least 14 bytes it is enough to look at lists that are written out that far
-fourteen : (P : List ℕ → Type 0) → ((b0 b1 b2 b3 b4 b5 b6 b7 b8 b9 b10 b11 b12 b13 : ℕ) (rest : List ℕ) → P (b0 ∷ b1 ∷ b2 ∷ b3 ∷ b4 ∷ b5 ∷ b6 ∷ b7 ∷ b8 ∷ b9 ∷ b10 ∷ b11 ∷ b12 ∷ b13 ∷ rest)) → (bs : List ℕ) → 14 ≤ length bs → P bs
+fourteen : (P : List ℕ → Type 0)
+    → ((b0 b1 b2 b3 b4 b5 b6 b7 b8 b9 b10 b11 b12 b13 : ℕ) (rest : List ℕ) → P (b0 ∷ b1 ∷ b2 ∷ b3 ∷ b4 ∷ b5 ∷ b6 ∷ b7 ∷ b8 ∷ b9 ∷ b10 ∷ b11 ∷ b12 ∷ b13 ∷ rest)) → (bs : List ℕ) → 14 ≤ length bs → P bs
 fourteen P shown [] h = absurd (omega arith)
 fourteen P shown (b0 ∷ []) h = absurd (omega arith)
 fourteen P shown (b0 ∷ b1 ∷ []) h = absurd (omega arith)
@@ -117,7 +118,8 @@ bit-uf false false true = refl
 bit-uf false false false = refl
 
 -- the byte of its own flags
-pub flags_byte-read : (pf af uf : Bool) → flags_byte pf af uf ≡ flags_byte (bit 6 (flags_byte pf af uf)) (bit 5 (flags_byte pf af uf)) (bit 4 (flags_byte pf af uf))
+pub flags_byte-read : (pf af uf : Bool)
+    → flags_byte pf af uf ≡ flags_byte (bit 6 (flags_byte pf af uf)) (bit 5 (flags_byte pf af uf)) (bit 4 (flags_byte pf af uf))
 flags_byte-read true true true = refl
 flags_byte-read true true false = refl
 flags_byte-read true false true = refl

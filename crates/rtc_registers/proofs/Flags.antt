@@ -1,5 +1,6 @@
 -- Lemmas on register C: a write of its flags keeps the rest of the clock, and setting PF goes past pulses.
-use Rattle.std.proofs.Common.{◌≡◌, ℕ, zero, suc, ◌≤◌, ◌<◌, ◌+◌, Bool, true, false, ◌||◌, cond, eqb, List, length, set, refl, sym, ap, subst, ◌∙◌, inl, inr, arith}
+use Rattle.std.proofs.Common.{◌≡◌, ℕ, zero, suc, ◌≤◌, ◌<◌, ◌+◌, Bool, true, false, ◌||◌, cond, eqb, List}
+use Rattle.std.proofs.Common.{length, set, refl, sym, ap, subst, ◌∙◌, inl, inr, arith}
 use Rattle.std.proofs.lemmas.Bool.{cases_Bool}
 use Rattle.std.proofs.lemmas.List.{set-get_or}
 use Rattle.rtc_calendar.specs.declared.TimeBytes.{TimeBytes}
@@ -8,11 +9,14 @@ use Rattle.rtc_cycle.specs.Divider.{pulsed, ticks_next, updates_next}
 use Rattle.rtc_cycle.specs.Parts.{IsDivider}
 use Rattle.rtc_registers.specs.declared.parts.RtcParts.{RtcParts}
 use Rattle.clk_units.specs.Bits.{bit}
-use Rattle.rtc_registers.specs.Registers.{register_b, register_c, flags_byte, pf_of, af_of, uf_of, divider_of, form_of, time_of, alarm_of}
+use Rattle.rtc_registers.specs.Registers.{register_b, register_c, flags_byte, pf_of, af_of, uf_of}
+use Rattle.rtc_registers.specs.Registers.{divider_of, form_of, time_of, alarm_of}
 use Rattle.rtc_registers.specs.Access.{after_rtc_read, flagged}
 use Rattle.rtc_registers.specs.Parts.{IsRtc}
-use Rattle.rtc_registers.specs.Pulses.{moved, time_next, flags_next, alarms_next, rtc_pulsed, rtc_pulsed_times, alarms_in}
-use Rattle.rtc_registers.proofs.Bytes.{Moved, moved-bytes, Flagged, flagged-bytes, flags_byte-read, bit-pf, bit-af, bit-uf}
+use Rattle.rtc_registers.specs.Pulses.{moved, time_next, flags_next, alarms_next, rtc_pulsed}
+use Rattle.rtc_registers.specs.Pulses.{rtc_pulsed_times, alarms_in}
+use Rattle.rtc_registers.proofs.Bytes.{Moved, moved-bytes, Flagged, flagged-bytes, flags_byte-read, bit-pf}
+use Rattle.rtc_registers.proofs.Bytes.{bit-af, bit-uf}
 use Rattle.rtc_registers.proofs.Times.{time_next-by, alarms_next-by, flags_next-by, IsRtc-rtc_pulsed_times}
 
 -- register C is replaced
@@ -75,9 +79,11 @@ uf_of-flagged r valid = ap (bit 4) (register_c-flagged r valid) ∙ bit-uf true 
 moved-flagged : (c : DividerParts) (t : TimeBytes) (f : ℕ) (r : RtcParts) → IsRtc r → moved c t f (flagged r) ≡ moved c t f r
 unfolding moved flagged
 moved-flagged c t f r valid =
-    ap (λ (bs : List ℕ). let p : RtcParts = record { index = r.index; bytes = bs; d = c.d; cycle = c.cycle } in p) ((moved-bytes t f r.bytes (omega (arith, valid.places))).flags_before (flags_byte true (af_of r) (uf_of r)))
+    ap (λ (bs : List ℕ). let p : RtcParts = record { index = r.index; bytes = bs; d = c.d; cycle = c.cycle } in p)
+    ((moved-bytes t f r.bytes (omega (arith, valid.places))).flags_before (flags_byte true (af_of r) (uf_of r)))
 
-flagged-moved : (c : DividerParts) (t : TimeBytes) (pf af uf : Bool) (r : RtcParts) → IsRtc r → flagged (moved c t (flags_byte pf af uf) r) ≡ moved c t (flags_byte true af uf) r
+flagged-moved : (c : DividerParts) (t : TimeBytes) (pf af uf : Bool) (r : RtcParts) → IsRtc r
+    → flagged (moved c t (flags_byte pf af uf) r) ≡ moved c t (flags_byte true af uf) r
 unfolding moved flagged
 flagged-moved c t pf af uf r valid =
     let m : Moved t (flags_byte pf af uf) r.bytes = moved-bytes t (flags_byte pf af uf) r.bytes (omega (arith, valid.places)) in
@@ -101,13 +107,15 @@ time_of-flagged r valid = (flagged-bytes (flags_byte true (af_of r) (uf_of r)) r
 alarms_next-flagged : (r : RtcParts) → IsRtc r → alarms_next (flagged r) ≡ alarms_next r
 unfolding alarms_next
 alarms_next-flagged r valid =
-    alarms_next-by (flagged r) (divider_of r) (form_of r) (alarm_of r) (time_of r) (divider_of-flagged r valid) (form_of-flagged r valid) (alarm_of-flagged r valid) (time_of-flagged r valid)
+    alarms_next-by (flagged r) (divider_of r) (form_of r) (alarm_of r) (time_of r) (divider_of-flagged r valid) (form_of-flagged r valid)
+    (alarm_of-flagged r valid) (time_of-flagged r valid)
 
 -- setting PF goes past a pulse ..
 pub rtc_pulsed-flagged : (r : RtcParts) → IsRtc r → rtc_pulsed (flagged r) ≡ flagged (rtc_pulsed r)
 unfolding rtc_pulsed
 rtc_pulsed-flagged r valid =
-    let time : time_next (flagged r) ≡ time_next r = time_next-by (flagged r) (divider_of r) (form_of r) (time_of r) (divider_of-flagged r valid) (form_of-flagged r valid) (time_of-flagged r valid) in
+    let time : time_next (flagged r) ≡ time_next r =
+    time_next-by (flagged r) (divider_of r) (form_of r) (time_of r) (divider_of-flagged r valid) (form_of-flagged r valid) (time_of-flagged r valid) in
     let flags : flags_next (flagged r) ≡ flags_byte true (af_of r || alarms_next r) (uf_of r || updates_next (divider_of r)) =
     flags_next-by (flagged r) (divider_of r) true (af_of r) (uf_of r) (divider_of-flagged r valid) (register_c-flagged r valid)
     ∙ ap (λ (b : Bool). flags_byte true (af_of r || b) (uf_of r || updates_next (divider_of r))) (alarms_next-flagged r valid) in
@@ -120,7 +128,8 @@ rtc_pulsed-flagged r valid =
 -- .. and past n of them
 pub rtc_pulsed_times-flagged : (n : ℕ) (r : RtcParts) → IsRtc r → rtc_pulsed_times n (flagged r) ≡ flagged (rtc_pulsed_times n r)
 rtc_pulsed_times-flagged zero r valid = refl
-rtc_pulsed_times-flagged (suc n) r valid = ap rtc_pulsed (rtc_pulsed_times-flagged n r valid) ∙ rtc_pulsed-flagged (rtc_pulsed_times n r) (IsRtc-rtc_pulsed_times n r valid)
+rtc_pulsed_times-flagged (suc n) r valid = ap rtc_pulsed (rtc_pulsed_times-flagged n r valid)
+    ∙ rtc_pulsed-flagged (rtc_pulsed_times n r) (IsRtc-rtc_pulsed_times n r valid)
 
 -- the alarms are the same with PF set
 pub alarms_in-flagged : (n : ℕ) (r : RtcParts) → IsRtc r → alarms_in (flagged r) n ≡ alarms_in r n
@@ -136,7 +145,8 @@ pub flagged-still : (r : RtcParts) → IsRtc r → pf_of r ≡ true → flagged 
 unfolding flagged
 flagged-still r valid up =
     let same : flags_byte true (af_of r) (uf_of r) ≡ register_c r = ap (λ (b : Bool). flags_byte b (af_of r) (uf_of r)) (sym up) ∙ sym valid.register_c in
-    ap (λ (bs : List ℕ). let p : RtcParts = record { index = r.index; bytes = bs; d = r.d; cycle = r.cycle } in p) (ap (set r.bytes 12) same ∙ set-get_or r.bytes 12 0)
+    ap (λ (bs : List ℕ). let p : RtcParts = record { index = r.index; bytes = bs; d = r.d; cycle = r.cycle } in p)
+    (ap (set r.bytes 12) same ∙ set-get_or r.bytes 12 0)
 
 -- a read elsewhere than at register C changes nothing
 pub after_rtc_read-other : (r : RtcParts) → eqb r.index 12 ≡ false → after_rtc_read r ≡ r

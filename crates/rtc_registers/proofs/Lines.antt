@@ -3,13 +3,18 @@ use Rattle.std.proofs.Common.{◌≡◌, ℕ, Bool, true, false, not, ◌&&◌, 
 use Rattle.clk_units.specs.Bits.{bit}
 use Rattle.rtc_cycle.specs.Divider.{ticks_in, updates_in}
 use Rattle.rtc_registers.specs.declared.parts.RtcParts.{RtcParts}
-use Rattle.rtc_registers.specs.Registers.{register_b, set_of, pf_of, af_of, uf_of, pie_of, aie_of, uie_of, irqf_of, divider_of}
+use Rattle.rtc_registers.specs.Registers.{register_b, set_of, pf_of, af_of, uf_of, pie_of, aie_of, uie_of}
+use Rattle.rtc_registers.specs.Registers.{irqf_of, divider_of}
 use Rattle.rtc_registers.specs.Parts.{IsRtc}
 use Rattle.rtc_registers.specs.Access.{b_stored, after_rtc_read, rtc_written, flagged}
 use Rattle.rtc_registers.specs.Pulses.{rtc_pulsed_times, alarms_in}
-use Rattle.rtc_registers.proofs.Times.{register_b-rtc_pulsed_times, pf_of-rtc_pulsed_times, af_of-rtc_pulsed_times, uf_of-rtc_pulsed_times}
-use Rattle.rtc_registers.proofs.Flags.{register_b-flagged, pf_of-flagged, af_of-flagged, uf_of-flagged, register_b-after_rtc_read, pf_of-after_rtc_read, af_of-after_rtc_read, uf_of-after_rtc_read, after_rtc_read-other}
-use Rattle.rtc_registers.proofs.Writes.{register_b-rtc_written, pf_of-rtc_written, af_of-rtc_written, uf_of-rtc_written, pie-b_stored, aie-b_stored, uie-b_stored}
+use Rattle.rtc_registers.proofs.Times.{register_b-rtc_pulsed_times, pf_of-rtc_pulsed_times}
+use Rattle.rtc_registers.proofs.Times.{af_of-rtc_pulsed_times, uf_of-rtc_pulsed_times}
+use Rattle.rtc_registers.proofs.Flags.{register_b-flagged, pf_of-flagged, af_of-flagged, uf_of-flagged}
+use Rattle.rtc_registers.proofs.Flags.{register_b-after_rtc_read, pf_of-after_rtc_read, af_of-after_rtc_read}
+use Rattle.rtc_registers.proofs.Flags.{uf_of-after_rtc_read, after_rtc_read-other}
+use Rattle.rtc_registers.proofs.Writes.{register_b-rtc_written, pf_of-rtc_written, af_of-rtc_written}
+use Rattle.rtc_registers.proofs.Writes.{uf_of-rtc_written, pie-b_stored, aie-b_stored, uie-b_stored}
 
 -- what register B lets through stays, whatever else happens than a write of B
 pub pie_of-rtc_pulsed_times : (n : ℕ) (r : RtcParts) → IsRtc r → pie_of (rtc_pulsed_times n r) ≡ pie_of r
@@ -52,7 +57,8 @@ pie_of-written byte r valid here = ap (bit 6) (register_b-written byte r valid h
 pub aie_of-written : (byte : ℕ) (r : RtcParts) → IsRtc r → eqb r.index 11 ≡ true → aie_of (rtc_written byte r) ≡ bit 5 byte
 aie_of-written byte r valid here = ap (bit 5) (register_b-written byte r valid here) ∙ aie-b_stored byte r
 
-pub uie_of-written : (byte : ℕ) (r : RtcParts) → IsRtc r → eqb r.index 11 ≡ true → uie_of (rtc_written byte r) ≡ (bit 4 byte && not (bit 7 byte && not (set_of r)))
+pub uie_of-written : (byte : ℕ) (r : RtcParts) → IsRtc r → eqb r.index 11 ≡ true
+    → uie_of (rtc_written byte r) ≡ (bit 4 byte && not (bit 7 byte && not (set_of r)))
 uie_of-written byte r valid here = ap (bit 4) (register_b-written byte r valid here) ∙ uie-b_stored byte r
 
 -- a write elsewhere leaves register B

@@ -1,7 +1,9 @@
 -- Small rows that pin the definitions.
 use Rattle.std.proofs.Common.{◌≡◌, ℕ, Bool, true, false, [], ◌∷◌, Some, None, refl}
-use Rattle.rtc_calendar.specs.Bytes.{spelt, has_digits, is_spelt, number_in, spelling, is_hour, hour_meant, hour_in, hour_of_twelve, hour_spelling}
-use Rattle.rtc_calendar.specs.Calendar.{month_length, ends_minute, ends_hour, ends_day, ends_month, ends_year, next_in, next_second}
+use Rattle.rtc_calendar.specs.Bytes.{spelt, has_digits, is_spelt, number_in, spelling, is_hour, hour_meant}
+use Rattle.rtc_calendar.specs.Bytes.{hour_in, hour_of_twelve, hour_spelling}
+use Rattle.rtc_calendar.specs.Calendar.{month_length, ends_minute, ends_hour, ends_day, ends_month}
+use Rattle.rtc_calendar.specs.Calendar.{ends_year, next_in, next_second}
 use Rattle.rtc_calendar.specs.Updates.{month_in, year_in, last_date_in, moment_of, bytes_of, updated}
 use Rattle.rtc_calendar.specs.Alarms.{fits_byte, is_match, alarm_next}
 use Rattle.rtc_cycle.specs.Divider.{pulsed, ticks_next, updates_next}
@@ -110,60 +112,71 @@ ticking d cycle sec min hour c = record {
 
 -- PF at a tick, though PIE is 0
 pf_at_a_tick : register_c (rtc_pulsed (ticking 31 false 0 0 0 0)) ≡ 0x40
-unfolding rtc_pulsed moved with_time alarms_next alarm_next is_match fits_byte updated bytes_of moment_of last_date_in month_in year_in number_in is_spelt has_digits spelt hour_in
-    is_hour hour_meant hour_spelling hour_of_twelve spelling next_second ends_year ends_month ends_day ends_hour ends_minute next_in month_length pulsed ticks_next updates_next ticking
+unfolding rtc_pulsed moved with_time alarms_next alarm_next is_match fits_byte updated bytes_of moment_of last_date_in month_in year_in number_in
+    is_spelt has_digits spelt hour_in is_hour hour_meant hour_spelling hour_of_twelve spelling next_second
+    ends_year ends_month ends_day ends_hour ends_minute next_in month_length pulsed ticks_next updates_next ticking
 pf_at_a_tick = refl
 
 no_pf_between_ticks : register_c (rtc_pulsed (ticking 30 false 0 0 0 0)) ≡ 0
-unfolding rtc_pulsed moved with_time alarms_next alarm_next is_match fits_byte updated bytes_of moment_of last_date_in month_in year_in number_in is_spelt has_digits spelt hour_in
-    is_hour hour_meant hour_spelling hour_of_twelve spelling next_second ends_year ends_month ends_day ends_hour ends_minute next_in month_length pulsed ticks_next updates_next ticking
+unfolding rtc_pulsed moved with_time alarms_next alarm_next is_match fits_byte updated bytes_of moment_of last_date_in month_in year_in number_in
+    is_spelt has_digits spelt hour_in is_hour hour_meant hour_spelling hour_of_twelve spelling next_second
+    ends_year ends_month ends_day ends_hour ends_minute next_in month_length pulsed ticks_next updates_next ticking
 no_pf_between_ticks = refl
 
 -- UF at the end of an update
 uf_at_an_update : register_c (rtc_pulsed (ticking 64 true 0 0 0 0)) ≡ 0x10
-unfolding rtc_pulsed moved with_time alarms_next alarm_next is_match fits_byte updated bytes_of moment_of last_date_in month_in year_in number_in is_spelt has_digits spelt hour_in
-    is_hour hour_meant hour_spelling hour_of_twelve spelling next_second ends_year ends_month ends_day ends_hour ends_minute next_in month_length pulsed ticks_next updates_next ticking
+unfolding rtc_pulsed moved with_time alarms_next alarm_next is_match fits_byte updated bytes_of moment_of last_date_in month_in year_in number_in
+    is_spelt has_digits spelt hour_in is_hour hour_meant hour_spelling hour_of_twelve spelling next_second
+    ends_year ends_month ends_day ends_hour ends_minute next_in month_length pulsed ticks_next updates_next ticking
 uf_at_an_update = refl
 
 no_uf_before_its_end : register_c (rtc_pulsed (ticking 62 true 0 0 0 0)) ≡ 0
-unfolding rtc_pulsed moved with_time alarms_next alarm_next is_match fits_byte updated bytes_of moment_of last_date_in month_in year_in number_in is_spelt has_digits spelt hour_in
-    is_hour hour_meant hour_spelling hour_of_twelve spelling next_second ends_year ends_month ends_day ends_hour ends_minute next_in month_length pulsed ticks_next updates_next ticking
+unfolding rtc_pulsed moved with_time alarms_next alarm_next is_match fits_byte updated bytes_of moment_of last_date_in month_in year_in number_in
+    is_spelt has_digits spelt hour_in is_hour hour_meant hour_spelling hour_of_twelve spelling next_second
+    ends_year ends_month ends_day ends_hour ends_minute next_in month_length pulsed ticks_next updates_next ticking
 no_uf_before_its_end = refl
 
 -- AF where the alarm matches the new bytes
 af_by_the_new_bytes : register_c (rtc_pulsed (ticking 64 true 2 3 0xc0 0)) ≡ 0x30
-unfolding rtc_pulsed moved with_time alarms_next alarm_next is_match fits_byte updated bytes_of moment_of last_date_in month_in year_in number_in is_spelt has_digits spelt hour_in
-    is_hour hour_meant hour_spelling hour_of_twelve spelling next_second ends_year ends_month ends_day ends_hour ends_minute next_in month_length pulsed ticks_next updates_next ticking
+unfolding rtc_pulsed moved with_time alarms_next alarm_next is_match fits_byte updated bytes_of moment_of last_date_in month_in year_in number_in
+    is_spelt has_digits spelt hour_in is_hour hour_meant hour_spelling hour_of_twelve spelling next_second
+    ends_year ends_month ends_day ends_hour ends_minute next_in month_length pulsed ticks_next updates_next ticking
 af_by_the_new_bytes = refl
 
 no_af_by_the_old_bytes : register_c (rtc_pulsed (ticking 64 true 1 3 5 0)) ≡ 0x10
-unfolding rtc_pulsed moved with_time alarms_next alarm_next is_match fits_byte updated bytes_of moment_of last_date_in month_in year_in number_in is_spelt has_digits spelt hour_in
-    is_hour hour_meant hour_spelling hour_of_twelve spelling next_second ends_year ends_month ends_day ends_hour ends_minute next_in month_length pulsed ticks_next updates_next ticking
+unfolding rtc_pulsed moved with_time alarms_next alarm_next is_match fits_byte updated bytes_of moment_of last_date_in month_in year_in number_in
+    is_spelt has_digits spelt hour_in is_hour hour_meant hour_spelling hour_of_twelve spelling next_second
+    ends_year ends_month ends_day ends_hour ends_minute next_in month_length pulsed ticks_next updates_next ticking
 no_af_by_the_old_bytes = refl
 
 no_af_without_an_update : register_c (rtc_pulsed (ticking 31 false 1 3 5 0)) ≡ 0x40
-unfolding rtc_pulsed moved with_time alarms_next alarm_next is_match fits_byte updated bytes_of moment_of last_date_in month_in year_in number_in is_spelt has_digits spelt hour_in
-    is_hour hour_meant hour_spelling hour_of_twelve spelling next_second ends_year ends_month ends_day ends_hour ends_minute next_in month_length pulsed ticks_next updates_next ticking
+unfolding rtc_pulsed moved with_time alarms_next alarm_next is_match fits_byte updated bytes_of moment_of last_date_in month_in year_in number_in
+    is_spelt has_digits spelt hour_in is_hour hour_meant hour_spelling hour_of_twelve spelling next_second
+    ends_year ends_month ends_day ends_hour ends_minute next_in month_length pulsed ticks_next updates_next ticking
 no_af_without_an_update = refl
 
 flags_stay : register_c (rtc_pulsed (ticking 30 false 0 0 0 0x70)) ≡ 0x70
-unfolding rtc_pulsed moved with_time alarms_next alarm_next is_match fits_byte updated bytes_of moment_of last_date_in month_in year_in number_in is_spelt has_digits spelt hour_in
-    is_hour hour_meant hour_spelling hour_of_twelve spelling next_second ends_year ends_month ends_day ends_hour ends_minute next_in month_length pulsed ticks_next updates_next ticking
+unfolding rtc_pulsed moved with_time alarms_next alarm_next is_match fits_byte updated bytes_of moment_of last_date_in month_in year_in number_in
+    is_spelt has_digits spelt hour_in is_hour hour_meant hour_spelling hour_of_twelve spelling next_second
+    ends_year ends_month ends_day ends_hour ends_minute next_in month_length pulsed ticks_next updates_next ticking
 flags_stay = refl
 
 flags_join : register_c (rtc_pulsed (ticking 31 false 0 0 0 0x30)) ≡ 0x70
-unfolding rtc_pulsed moved with_time alarms_next alarm_next is_match fits_byte updated bytes_of moment_of last_date_in month_in year_in number_in is_spelt has_digits spelt hour_in
-    is_hour hour_meant hour_spelling hour_of_twelve spelling next_second ends_year ends_month ends_day ends_hour ends_minute next_in month_length pulsed ticks_next updates_next ticking
+unfolding rtc_pulsed moved with_time alarms_next alarm_next is_match fits_byte updated bytes_of moment_of last_date_in month_in year_in number_in
+    is_spelt has_digits spelt hour_in is_hour hour_meant hour_spelling hour_of_twelve spelling next_second
+    ends_year ends_month ends_day ends_hour ends_minute next_in month_length pulsed ticks_next updates_next ticking
 flags_join = refl
 
 second_at_an_update : time_of (rtc_pulsed (ticking 64 true 0 0 0 0)) ≡ record { sec = 2; min = 3; hour = 5; wday = 7; date = 8; month = 9; year = 10 }
-unfolding rtc_pulsed moved with_time alarms_next alarm_next is_match fits_byte updated bytes_of moment_of last_date_in month_in year_in number_in is_spelt has_digits spelt hour_in
-    is_hour hour_meant hour_spelling hour_of_twelve spelling next_second ends_year ends_month ends_day ends_hour ends_minute next_in month_length pulsed ticks_next updates_next ticking
+unfolding rtc_pulsed moved with_time alarms_next alarm_next is_match fits_byte updated bytes_of moment_of last_date_in month_in year_in number_in
+    is_spelt has_digits spelt hour_in is_hour hour_meant hour_spelling hour_of_twelve spelling next_second
+    ends_year ends_month ends_day ends_hour ends_minute next_in month_length pulsed ticks_next updates_next ticking
 second_at_an_update = refl
 
 old_second_in_the_cycle : time_of (rtc_pulsed (ticking 62 true 0 0 0 0)) ≡ record { sec = 1; min = 3; hour = 5; wday = 7; date = 8; month = 9; year = 10 }
-unfolding rtc_pulsed moved with_time alarms_next alarm_next is_match fits_byte updated bytes_of moment_of last_date_in month_in year_in number_in is_spelt has_digits spelt hour_in
-    is_hour hour_meant hour_spelling hour_of_twelve spelling next_second ends_year ends_month ends_day ends_hour ends_minute next_in month_length pulsed ticks_next updates_next ticking
+unfolding rtc_pulsed moved with_time alarms_next alarm_next is_match fits_byte updated bytes_of moment_of last_date_in month_in year_in number_in
+    is_spelt has_digits spelt hour_in is_hour hour_meant hour_spelling hour_of_twelve spelling next_second
+    ends_year ends_month ends_day ends_hour ends_minute next_in month_length pulsed ticks_next updates_next ticking
 old_second_in_the_cycle = refl
 
 -- the condition that fails first, field by field

@@ -1,5 +1,6 @@
 -- A stretch of pulses at once: the divider, the time and the flags each go their own way.
-use Rattle.std.proofs.Common.{◌≡◌, ℕ, zero, suc, ◌+◌, ◌-◌, ◌*◌, ◌≤◌, Bool, true, false, ◌&&◌, ◌||◌, cond, ltb, List, length, set, Option, Some, None, refl, sym, ap, subst, ◌∙◌, arith}
+use Rattle.std.proofs.Common.{◌≡◌, ℕ, zero, suc, ◌+◌, ◌-◌, ◌*◌, ◌≤◌, Bool, true, false, ◌&&◌, ◌||◌, cond}
+use Rattle.std.proofs.Common.{ltb, List, length, set, Option, Some, None, refl, sym, ap, subst, ◌∙◌, arith}
 use Rattle.std.proofs.Math.Bool.{or-false, or-true}
 use Rattle.std.proofs.lemmas.Bool.{lt-ltb, le-ltb, both_ways}
 use Rattle.std.specs.Option.{is_some}
@@ -18,11 +19,14 @@ use Rattle.rtc_cycle.proofs.Pulse.{IsDivider-pulsed_times, dv-pulsed_times, rs-p
 use Rattle.rtc_cycle.proofs.Times.{updates_in-apart, updates_in-none}
 use Rattle.rtc_registers.specs.declared.parts.RtcParts.{RtcParts}
 use Rattle.clk_units.specs.Bits.{bit}
-use Rattle.rtc_registers.specs.Registers.{set_of, register_b, register_c, flags_byte, pf_of, af_of, uf_of, divider_of, form_of, time_of, alarm_of, with_time}
+use Rattle.rtc_registers.specs.Registers.{set_of, register_b, register_c, flags_byte, pf_of, af_of, uf_of}
+use Rattle.rtc_registers.specs.Registers.{divider_of, form_of, time_of, alarm_of, with_time}
 use Rattle.rtc_registers.specs.Parts.{IsRtc}
-use Rattle.rtc_registers.specs.Pulses.{moved, time_next, flags_next, alarms_next, rtc_pulsed, rtc_pulsed_times, alarms_in}
+use Rattle.rtc_registers.specs.Pulses.{moved, time_next, flags_next, alarms_next, rtc_pulsed}
+use Rattle.rtc_registers.specs.Pulses.{rtc_pulsed_times, alarms_in}
 use Rattle.rtc_registers.specs.private.Stretch.{second_apart}
-use Rattle.rtc_registers.proofs.Bytes.{Moved, moved-bytes, flags_byte-read, same-bytes, bit-pf, bit-af, bit-uf}
+use Rattle.rtc_registers.proofs.Bytes.{Moved, moved-bytes, flags_byte-read, same-bytes, bit-pf, bit-af}
+use Rattle.rtc_registers.proofs.Bytes.{bit-uf}
 
 same_clock : (c : DividerParts) (dv rs : ℕ) (on : Bool) → c.dv ≡ dv → c.rs ≡ rs → c.set ≡ on → record c { dv = dv; rs = rs; set = on } ≡ c
 same_clock c dv rs on same_dv same_rs same_set =
@@ -126,7 +130,8 @@ time_next-by x c form t same_clock same_form same_time =
     ∙ ap (λ (f : Form). cond (updates_next c) (updated f (time_of x)) (time_of x)) same_form
     ∙ ap (λ (u : TimeBytes). cond (updates_next c) (updated form u) u) same_time
 
-pub alarms_next-by : (x : RtcParts) (c : DividerParts) (form : Form) (alarm : Alarm) (t : TimeBytes) → divider_of x ≡ c → form_of x ≡ form → alarm_of x ≡ alarm → time_of x ≡ t
+pub alarms_next-by : (x : RtcParts) (c : DividerParts) (form : Form) (alarm : Alarm) (t : TimeBytes) → divider_of x ≡ c → form_of x ≡ form
+    → alarm_of x ≡ alarm → time_of x ≡ t
     → alarms_next x ≡ (updates_next c && alarm_next form alarm t)
 unfolding alarms_next
 alarms_next-by x c form alarm t same_clock same_form same_alarm same_time =
@@ -160,9 +165,12 @@ stretched-suc n r valid so_far =
     time_next-by (stretched n r) c (form_of r) t clock form time ∙ time_more (form_of r) (time_of r) (updates_next c) u in
     let next_flags : flags_next (stretched n r) ≡ flags_in r (suc n) =
     flags_next-by (stretched n r) c (pf_of r || ltb 0 (ticks_in (divider_of r) n)) (af_of r || ltb 0 (alarms_in r n)) (uf_of r || ltb 0 u) clock flags
-    ∙ ap (λ (b : Bool). flags_byte b ((af_of r || ltb 0 (alarms_in r n)) || alarms_next (stretched n r)) ((uf_of r || ltb 0 u) || updates_next c)) (flag_more (pf_of r) (ticks_next c) (ticks_in (divider_of r) n))
-    ∙ ap (λ (b : Bool). flags_byte (pf_of r || ltb 0 (ticks_in (divider_of r) (suc n))) b ((uf_of r || ltb 0 u) || updates_next c)) (ap (λ (b : Bool). (af_of r || ltb 0 (alarms_in r n)) || b) alarms ∙ flag_more (af_of r) (alarms_next (rtc_pulsed_times n r)) (alarms_in r n))
-    ∙ ap (λ (b : Bool). flags_byte (pf_of r || ltb 0 (ticks_in (divider_of r) (suc n))) (af_of r || ltb 0 (alarms_in r (suc n))) b) (flag_more (uf_of r) (updates_next c) u)
+    ∙ ap (λ (b : Bool). flags_byte b ((af_of r || ltb 0 (alarms_in r n)) || alarms_next (stretched n r)) ((uf_of r || ltb 0 u) || updates_next c))
+    (flag_more (pf_of r) (ticks_next c) (ticks_in (divider_of r) n))
+    ∙ ap (λ (b : Bool). flags_byte (pf_of r || ltb 0 (ticks_in (divider_of r) (suc n))) b ((uf_of r || ltb 0 u) || updates_next c))
+    (ap (λ (b : Bool). (af_of r || ltb 0 (alarms_in r n)) || b) alarms ∙ flag_more (af_of r) (alarms_next (rtc_pulsed_times n r)) (alarms_in r n))
+    ∙ ap (λ (b : Bool). flags_byte (pf_of r || ltb 0 (ticks_in (divider_of r) (suc n))) (af_of r || ltb 0 (alarms_in r (suc n))) b)
+    (flag_more (uf_of r) (updates_next c) u)
     in
     ap (λ (d : DividerParts). moved (pulsed d) (time_next (stretched n r)) (flags_next (stretched n r)) (stretched n r)) clock
     ∙ ap (λ (v : TimeBytes). moved (pulsed c) v (flags_next (stretched n r)) (stretched n r)) next_time
@@ -180,20 +188,26 @@ divider_of-rtc_pulsed_times n r valid =
     ap divider_of (rtc_pulsed_times-is n r valid) ∙ divider_of-moved (pulsed_times n (divider_of r)) _ _ r (omega (arith, valid.places)) (SameSetting-times n r)
 
 pub form_of-rtc_pulsed_times : (n : ℕ) (r : RtcParts) → IsRtc r → form_of (rtc_pulsed_times n r) ≡ form_of r
-form_of-rtc_pulsed_times n r valid = ap form_of (rtc_pulsed_times-is n r valid) ∙ form_of-moved (pulsed_times n (divider_of r)) _ _ r (omega (arith, valid.places))
+form_of-rtc_pulsed_times n r valid =
+    ap form_of (rtc_pulsed_times-is n r valid) ∙ form_of-moved (pulsed_times n (divider_of r)) _ _ r (omega (arith, valid.places))
 
 pub alarm_of-rtc_pulsed_times : (n : ℕ) (r : RtcParts) → IsRtc r → alarm_of (rtc_pulsed_times n r) ≡ alarm_of r
-alarm_of-rtc_pulsed_times n r valid = ap alarm_of (rtc_pulsed_times-is n r valid) ∙ alarm_of-moved (pulsed_times n (divider_of r)) _ _ r (omega (arith, valid.places))
+alarm_of-rtc_pulsed_times n r valid =
+    ap alarm_of (rtc_pulsed_times-is n r valid) ∙ alarm_of-moved (pulsed_times n (divider_of r)) _ _ r (omega (arith, valid.places))
 
-pub time_of-rtc_pulsed_times : (n : ℕ) (r : RtcParts) → IsRtc r → time_of (rtc_pulsed_times n r) ≡ updated_times (form_of r) (updates_in (divider_of r) n) (time_of r)
-time_of-rtc_pulsed_times n r valid = ap time_of (rtc_pulsed_times-is n r valid) ∙ time_of-moved (pulsed_times n (divider_of r)) _ _ r (omega (arith, valid.places))
+pub time_of-rtc_pulsed_times : (n : ℕ) (r : RtcParts) → IsRtc r
+    → time_of (rtc_pulsed_times n r) ≡ updated_times (form_of r) (updates_in (divider_of r) n) (time_of r)
+time_of-rtc_pulsed_times n r valid =
+    ap time_of (rtc_pulsed_times-is n r valid) ∙ time_of-moved (pulsed_times n (divider_of r)) _ _ r (omega (arith, valid.places))
 
 -- register B, so which interrupts are let through, stays
 pub register_b-rtc_pulsed_times : (n : ℕ) (r : RtcParts) → IsRtc r → register_b (rtc_pulsed_times n r) ≡ register_b r
-register_b-rtc_pulsed_times n r valid = ap register_b (rtc_pulsed_times-is n r valid) ∙ register_b-moved (pulsed_times n (divider_of r)) _ _ r (omega (arith, valid.places))
+register_b-rtc_pulsed_times n r valid =
+    ap register_b (rtc_pulsed_times-is n r valid) ∙ register_b-moved (pulsed_times n (divider_of r)) _ _ r (omega (arith, valid.places))
 
 register_c-rtc_pulsed_times : (n : ℕ) (r : RtcParts) → IsRtc r → register_c (rtc_pulsed_times n r) ≡ flags_in r n
-register_c-rtc_pulsed_times n r valid = ap register_c (rtc_pulsed_times-is n r valid) ∙ register_c-moved (pulsed_times n (divider_of r)) _ _ r (omega (arith, valid.places))
+register_c-rtc_pulsed_times n r valid =
+    ap register_c (rtc_pulsed_times-is n r valid) ∙ register_c-moved (pulsed_times n (divider_of r)) _ _ r (omega (arith, valid.places))
 
 -- a flag behind n pulses is the flag before, or a number of events above 0
 pub pf_of-rtc_pulsed_times : (n : ℕ) (r : RtcParts) → IsRtc r → pf_of (rtc_pulsed_times n r) ≡ (pf_of r || ltb 0 (ticks_in (divider_of r) n))
@@ -203,12 +217,14 @@ pub af_of-rtc_pulsed_times : (n : ℕ) (r : RtcParts) → IsRtc r → af_of (rtc
 af_of-rtc_pulsed_times n r valid = ap (bit 5) (register_c-rtc_pulsed_times n r valid) ∙ bit-af (pf_of r || ltb 0 (ticks_in (divider_of r) n)) _ _
 
 pub uf_of-rtc_pulsed_times : (n : ℕ) (r : RtcParts) → IsRtc r → uf_of (rtc_pulsed_times n r) ≡ (uf_of r || ltb 0 (updates_in (divider_of r) n))
-uf_of-rtc_pulsed_times n r valid = ap (bit 4) (register_c-rtc_pulsed_times n r valid) ∙ bit-uf (pf_of r || ltb 0 (ticks_in (divider_of r) n)) (af_of r || ltb 0 (alarms_in r n)) _
+uf_of-rtc_pulsed_times n r valid =
+    ap (bit 4) (register_c-rtc_pulsed_times n r valid) ∙ bit-uf (pf_of r || ltb 0 (ticks_in (divider_of r) n)) (af_of r || ltb 0 (alarms_in r n)) _
 
 -- n pulses keep the conditions
 pub IsRtc-rtc_pulsed_times : (n : ℕ) (r : RtcParts) → IsRtc r → IsRtc (rtc_pulsed_times n r)
 IsRtc-rtc_pulsed_times n r valid =
-    subst IsRtc (sym (rtc_pulsed_times-is n r valid)) (IsRtc-moved (pulsed_times n (divider_of r)) _ _ _ _ r valid (IsDivider-pulsed_times n (divider_of r) valid.divider) (SameSetting-times n r))
+    subst IsRtc (sym (rtc_pulsed_times-is n r valid))
+    (IsRtc-moved (pulsed_times n (divider_of r)) _ _ _ _ r valid (IsDivider-pulsed_times n (divider_of r) valid.divider) (SameSetting-times n r))
 
 -- one pulse more
 pub alarms_in-suc : (r : RtcParts) (n : ℕ) → alarms_in r (suc n) ≡ cond (alarms_next (rtc_pulsed_times n r)) (suc (alarms_in r n)) (alarms_in r n)
@@ -222,11 +238,14 @@ CountsUp-alarms_in r = CountsUp-by_test (alarms_in r) (λ n. alarms_next (rtc_pu
 pub alarms_in-is : (n : ℕ) (r : RtcParts) → IsRtc r → alarms_in r n ≡ matches_in (form_of r) (alarm_of r) (time_of r) (updates_in (divider_of r) n)
 alarms_in-is zero r valid = refl
 alarms_in-is (suc n) r valid =
-    let next : alarms_next (rtc_pulsed_times n r) ≡ (updates_next (pulsed_times n (divider_of r)) && alarm_next (form_of r) (alarm_of r) (updated_times (form_of r) (updates_in (divider_of r) n) (time_of r))) =
-    alarms_next-by (rtc_pulsed_times n r) (pulsed_times n (divider_of r)) (form_of r) (alarm_of r) (updated_times (form_of r) (updates_in (divider_of r) n) (time_of r))
+    let next : alarms_next (rtc_pulsed_times n r) ≡
+    (updates_next (pulsed_times n (divider_of r)) && alarm_next (form_of r) (alarm_of r) (updated_times (form_of r) (updates_in (divider_of r) n) (time_of r))) =
+    alarms_next-by (rtc_pulsed_times n r) (pulsed_times n (divider_of r)) (form_of r) (alarm_of r)
+    (updated_times (form_of r) (updates_in (divider_of r) n) (time_of r))
     (divider_of-rtc_pulsed_times n r valid) (form_of-rtc_pulsed_times n r valid) (alarm_of-rtc_pulsed_times n r valid) (time_of-rtc_pulsed_times n r valid) in
     ap (λ (b : Bool). cond b (suc (alarms_in r n)) (alarms_in r n)) next
-    ∙ matched (form_of r) (alarm_of r) (time_of r) (updates_next (pulsed_times n (divider_of r))) (updates_in (divider_of r) n) (alarms_in r n) (alarms_in-is n r valid)
+    ∙ matched (form_of r) (alarm_of r) (time_of r) (updates_next (pulsed_times n (divider_of r))) (updates_in (divider_of r) n) (alarms_in r n)
+    (alarms_in-is n r valid)
   where
     matched : (form : Form) (alarm : Alarm) (t : TimeBytes) (event : Bool) (u a : ℕ) → a ≡ matches_in form alarm t u
         → cond (event && alarm_next form alarm (updated_times form u t)) (suc a) a ≡ matches_in form alarm t (cond event (suc u) u)
@@ -241,7 +260,8 @@ IsFirst-alarms_in n r valid (Some f) None first match = alarms_in-is n r valid �
 IsFirst-alarms_in n r valid (Some f) (Some k) first match =
     let count : ℕ → ℕ = matches_in (form_of r) (alarm_of r) (time_of r) in
     let p : ℕ = f + (k - 1) * 32768 in
-    let apart : (p ≤ n) × (updates_in (divider_of r) p ≡ k) × (updates_in (divider_of r) (p - 1) ≡ k - 1) = updates_in-apart (divider_of r) valid.divider n f k first match.0 match.1 in
+    let apart : (p ≤ n) × (updates_in (divider_of r) p ≡ k) × (updates_in (divider_of r) (p - 1) ≡ k - 1) =
+    updates_in-apart (divider_of r) valid.divider n f k first match.0 match.1 in
     let before : alarms_in r (p - 1) ≡ count (k - 1) = alarms_in-is (p - 1) r valid ∙ ap count apart.2 in
     let there : alarms_in r p ≡ count k = alarms_in-is p r valid ∙ ap count apart.1 in
     (omega (arith, first.0), apart.0, before ∙ match.2, omega (arith, there, match.3))
@@ -271,7 +291,8 @@ flags_in-is n r t u a ticks alarms updates =
 pub is_some-match : (n : ℕ) (r : RtcParts) → IsRtc r → (matched : Option ℕ)
     → IsFirst (matches_in (form_of r) (alarm_of r) (time_of r)) (updates_in (divider_of r) n) matched → is_some matched ≡ ltb 0 (alarms_in r n)
 is_some-match n r valid matched match =
-    is_some-first (matches_in (form_of r) (alarm_of r) (time_of r)) (CountsUp-matches_in (form_of r) (alarm_of r) (time_of r)) (updates_in (divider_of r) n) matched match
+    is_some-first (matches_in (form_of r) (alarm_of r) (time_of r)) (CountsUp-matches_in (form_of r) (alarm_of r) (time_of r))
+    (updates_in (divider_of r) n) matched match
     ∙ ap (ltb 0) (sym (alarms_in-is n r valid))
 
 -- the divider moves on where nothing else is replaced
@@ -290,11 +311,13 @@ flags_in-no_event n r valid no_tick no_update =
     rw (no_tick, no_alarm, no_update, or-false (pf_of r), or-false (af_of r), or-false (uf_of r)) (sym valid.register_c)
 
 -- without an event the divider alone moves
-pub rtc_pulsed_times-no_event : (n : ℕ) (r : RtcParts) → IsRtc r → (c : DividerParts) → c ≡ pulsed_times n (divider_of r) → ticks_in (divider_of r) n ≡ 0 → updates_in (divider_of r) n ≡ 0
+pub rtc_pulsed_times-no_event : (n : ℕ) (r : RtcParts) → IsRtc r → (c : DividerParts) → c ≡ pulsed_times n (divider_of r)
+    → ticks_in (divider_of r) n ≡ 0 → updates_in (divider_of r) n ≡ 0
     → record r { d = c.d; cycle = c.cycle } ≡ rtc_pulsed_times n r
 rtc_pulsed_times-no_event n r valid c divider no_tick no_update =
     moved-quiet c r (omega (arith, valid.places))
-    ∙ moved-is n r valid c (time_of r) (register_c r) divider (ap (λ (u : ℕ). updated_times (form_of r) u (time_of r)) (sym no_update)) (sym (flags_in-no_event n r valid no_tick no_update))
+    ∙ moved-is n r valid c (time_of r) (register_c r) divider (ap (λ (u : ℕ). updated_times (form_of r) u (time_of r)) (sym no_update))
+    (sym (flags_in-no_event n r valid no_tick no_update))
 
 -- without an update the time stands still ..
 pub time_of-no_update : (n : ℕ) (r : RtcParts) → IsRtc r → updates_in (divider_of r) n ≡ 0 → time_of (rtc_pulsed_times n r) ≡ time_of r

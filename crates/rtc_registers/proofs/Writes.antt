@@ -1,5 +1,6 @@
 -- Lemmas on writes: which register each changes, and what it does to the divider.
-use Rattle.std.proofs.Common.{◌≡◌, ◌≢◌, ℕ, ◌-◌, ◌/◌, ◌%◌, ◌<◌, ◌≤◌, Bool, true, false, not, ◌&&◌, ◌||◌, cond, eqb, length, get_or, inl, inr, refl, sym, ap, subst, ◌∙◌, lit<, lit≤, arith}
+use Rattle.std.proofs.Common.{◌≡◌, ◌≢◌, ℕ, ◌-◌, ◌/◌, ◌%◌, ◌<◌, ◌≤◌, Bool, true, false, not, ◌&&◌, ◌||◌, cond}
+use Rattle.std.proofs.Common.{eqb, length, get_or, inl, inr, refl, sym, ap, subst, ◌∙◌, lit<, lit≤, arith}
 use Rattle.std.proofs.lemmas.Bool.{cases_Bool, cases_eq, eq-eqb, ne_eqb, eqb-true, false≢true}
 use Rattle.std.proofs.lemmas.List.{length-set, get_or-set_other, get_or-set_same}
 use Rattle.clk_units.specs.Bits.{bit}
@@ -9,7 +10,8 @@ use Rattle.rtc_cycle.specs.Divider.{with_dv}
 use Rattle.rtc_cycle.specs.Parts.{IsDivider, divider_at_power_on}
 use Rattle.rtc_cycle.proofs.Writes.{IsDivider-with_dv, IsDivider-with_rate, IsDivider-with_set}
 use Rattle.rtc_registers.specs.declared.parts.RtcParts.{RtcParts}
-use Rattle.rtc_registers.specs.Registers.{register_a, register_b, register_c, register_d, set_of, pf_of, af_of, uf_of, divider_of, with_time}
+use Rattle.rtc_registers.specs.Registers.{register_a, register_b, register_c, register_d, set_of, pf_of}
+use Rattle.rtc_registers.specs.Registers.{af_of, uf_of, divider_of, with_time}
 use Rattle.rtc_registers.specs.Parts.{IsRtc, rtc_at_power_on}
 use Rattle.rtc_registers.specs.Access.{index_written, b_stored, stored, divider_written, rtc_written}
 
@@ -22,7 +24,8 @@ get_or-rtc_written_other byte k r other = elim (cases_Bool (eqb r.index 12 || eq
 ]
 
 -- the byte at the index is stored, but for registers C and D
-pub get_or-rtc_written : (byte : ℕ) (r : RtcParts) → IsRtc r → (eqb r.index 12 || eqb r.index 13) ≡ false → get_or (rtc_written byte r).bytes r.index 0 ≡ stored byte r
+pub get_or-rtc_written : (byte : ℕ) (r : RtcParts) → IsRtc r → (eqb r.index 12 || eqb r.index 13) ≡ false
+    → get_or (rtc_written byte r).bytes r.index 0 ≡ stored byte r
 unfolding rtc_written
 get_or-rtc_written byte r valid free = rw free (get_or-set_same r.bytes r.index (stored byte r) 0 (omega (arith, valid.places, valid.index)))
 
@@ -69,7 +72,8 @@ register_a-rtc_written byte r valid = elim (cases_eq r.index 10) [
   | inl here ↦
       let at : get_or (rtc_written byte r).bytes r.index 0 ≡ stored byte r = get_or-rtc_written byte r valid (free-index r.index 10 here (lit< tt)) in
       let byte_stored : stored byte r ≡ byte % 128 = rw (eq-eqb r.index 10 here) refl in
-      ap (λ (k : ℕ). get_or (rtc_written byte r).bytes k 0) (sym here) ∙ at ∙ byte_stored ∙ sym (ap (λ (b : Bool). cond b (byte % 128) (register_a r)) (eq-eqb r.index 10 here))
+      ap (λ (k : ℕ). get_or (rtc_written byte r).bytes k 0) (sym here) ∙ at ∙ byte_stored
+      ∙ sym (ap (λ (b : Bool). cond b (byte % 128) (register_a r)) (eq-eqb r.index 10 here))
   | inr other ↦ get_or-rtc_written_other byte 10 r (λ e. other (sym e)) ∙ sym (ap (λ (b : Bool). cond b (byte % 128) (register_a r)) (ne_eqb r.index 10 other))
 ]
 
@@ -79,12 +83,15 @@ register_b-rtc_written byte r valid = elim (cases_eq r.index 11) [
   | inl here ↦
       let at : get_or (rtc_written byte r).bytes r.index 0 ≡ stored byte r = get_or-rtc_written byte r valid (free-index r.index 11 here (lit< tt)) in
       let byte_stored : stored byte r ≡ b_stored byte r = rw (ne_eqb r.index 10 (λ e. omega arith), eq-eqb r.index 11 here) refl in
-      ap (λ (k : ℕ). get_or (rtc_written byte r).bytes k 0) (sym here) ∙ at ∙ byte_stored ∙ sym (ap (λ (b : Bool). cond b (b_stored byte r) (register_b r)) (eq-eqb r.index 11 here))
-  | inr other ↦ get_or-rtc_written_other byte 11 r (λ e. other (sym e)) ∙ sym (ap (λ (b : Bool). cond b (b_stored byte r) (register_b r)) (ne_eqb r.index 11 other))
+      ap (λ (k : ℕ). get_or (rtc_written byte r).bytes k 0) (sym here) ∙ at ∙ byte_stored
+      ∙ sym (ap (λ (b : Bool). cond b (b_stored byte r) (register_b r)) (eq-eqb r.index 11 here))
+  | inr other ↦ get_or-rtc_written_other byte 11 r (λ e. other (sym e))
+      ∙ sym (ap (λ (b : Bool). cond b (b_stored byte r) (register_b r)) (ne_eqb r.index 11 other))
 ]
 
 -- what register B stores differs from the byte in UIE alone
-b_stored-by : (ends : Bool) (byte : ℕ) (k : ℕ) → (bit 4 byte ≡ true → bit k (byte - 16) ≡ bit k byte) → (ends ≡ true → bit 4 byte ≡ true) → bit k (cond ends (byte - 16) byte) ≡ bit k byte
+b_stored-by : (ends : Bool) (byte : ℕ) (k : ℕ) → (bit 4 byte ≡ true → bit k (byte - 16) ≡ bit k byte) → (ends ≡ true → bit 4 byte ≡ true)
+    → bit k (cond ends (byte - 16) byte) ≡ bit k byte
 b_stored-by true byte k same has = same (has refl)
 b_stored-by false byte k same has = refl
 
@@ -163,7 +170,8 @@ divider_of-rtc_written byte r valid = elim (cases_eq r.index 10) [
 
 IsDivider-divider_written : (byte : ℕ) (r : RtcParts) → IsRtc r → IsDivider (divider_written byte r)
 IsDivider-divider_written byte r valid = elim (cases_Bool (eqb r.index 10)) [
-  | inl here ↦ rw here (IsDivider-with_rate (byte % 16) (with_dv (byte / 16 % 8) (divider_of r)) (omega arith) (IsDivider-with_dv (byte / 16 % 8) (divider_of r) (omega arith) valid.divider))
+  | inl here ↦ rw here
+      (IsDivider-with_rate (byte % 16) (with_dv (byte / 16 % 8) (divider_of r)) (omega arith) (IsDivider-with_dv (byte / 16 % 8) (divider_of r) (omega arith) valid.divider))
   | inr elsewhere ↦ elim (cases_Bool (eqb r.index 11)) [
     | inl here ↦ rw (elsewhere, here) (IsDivider-with_set (bit 7 byte) (divider_of r) valid.divider)
     | inr other ↦ rw (elsewhere, other) valid.divider

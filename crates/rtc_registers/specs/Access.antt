@@ -5,13 +5,15 @@ use Rattle.clk_units.specs.Bits.{bit, bit_value}
 use Rattle.rtc_cycle.specs.declared.parts.DividerParts.{DividerParts}
 use Rattle.rtc_cycle.specs.Divider.{uip_of, with_dv, with_rate, with_set}
 use Rattle.rtc_registers.specs.declared.parts.RtcParts.{RtcParts}
-use Rattle.rtc_registers.specs.Registers.{register_a, register_c, set_of, af_of, uf_of, irqf_of, flags_byte, divider_of}
+use Rattle.rtc_registers.specs.Registers.{register_a, register_c, set_of, af_of, uf_of, irqf_of}
+use Rattle.rtc_registers.specs.Registers.{flags_byte, divider_of}
 
 -- the index is written: bit 7 is ignored
 abbrev pub index_written : ℕ → RtcParts → RtcParts
 index_written byte r = record r { index = byte % 0x80 }
 
--- the byte read at the index: UIP stands in A, IRQF in C; 0Eh to 7Fh are plain memory (own from 40h on)
+-- the byte read at the index: UIP stands in A, IRQF in C; 0Eh to 7Fh are plain memory
+-- ("RAM" to 3Fh; from 40h on own)
 unfoldable pub rtc_read : RtcParts → ℕ
 rtc_read r =
     if r.index == 0x0a then register_a r + bit_value (uip_of (divider_of r)) 7

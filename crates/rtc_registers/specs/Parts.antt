@@ -1,12 +1,14 @@
 -- The fields of the MC146818, and the conditions on them.
-use Rattle.std.specs.Prelude.{◌≡◌, ◌≤◌, Bool, false, not, ◌&&◌, ◌||◌, ◌==◌, nat_le, nat_lt, if◌then◌else◌}
+use Rattle.std.specs.Prelude.{◌≡◌, ◌≤◌, Bool, false, not, ◌&&◌, ◌||◌, ◌==◌, nat_le, nat_lt}
+use Rattle.std.specs.Prelude.{if◌then◌else◌}
 use Rattle.std.specs.Prelude.{Option, Some, None, length, replicate, slice_set}
 use Rattle.rtc_calendar.specs.declared.TimeBytes.{TimeBytes}
 use Rattle.rtc_cycle.specs.Parts.{IsDivider}
 use Rattle.rtc_registers.specs.declared.parts.RtcField.{RtcField}
 use Rattle.rtc_registers.specs.declared.parts.RtcField.TheVariants.{Index, Bytes, Divider, Cycle}
 use Rattle.rtc_registers.specs.declared.parts.RtcParts.{RtcParts}
-use Rattle.rtc_registers.specs.Registers.{register_a, register_c, register_d, pf_of, af_of, uf_of, flags_byte, set_of, divider_of, with_time}
+use Rattle.rtc_registers.specs.Registers.{register_a, register_c, register_d, pf_of, af_of, uf_of}
+use Rattle.rtc_registers.specs.Registers.{flags_byte, set_of, divider_of, with_time}
 
 -- what holds of the fields at all times
 pub record IsRtc (r : RtcParts) : Type 0 where
@@ -20,7 +22,8 @@ pub record IsRtc (r : RtcParts) : Type 0 where
   pub register_d : register_d r ≡ 0x80
   pub divider : IsDivider (divider_of r)
 
--- the conditions field by field, as a saved state has them in order; one over several fields is the last field's
+-- the conditions field by field, in the order of a saved state; one over several fields is the
+-- last field's
 abbrev pub index_valid : RtcParts → Bool
 index_valid r = nat_le r.index 0x7f
 
@@ -47,7 +50,9 @@ first_fault r =
 unfoldable pub rtc_at_power_on : TimeBytes → RtcParts
 rtc_at_power_on t = record {
   index = 0;
-  bytes = slice_set (slice_set (slice_set (with_time t (replicate 128 0)) 0x0a 0x26) 0x0b 0x02) 0x0d 0x80;
+  bytes = slice_set
+      (slice_set (slice_set (with_time t (replicate 128 0)) 0x0a 0x26) 0x0b 0x02)
+      0x0d 0x80;
   d = 16384;
   cycle = false;
 }

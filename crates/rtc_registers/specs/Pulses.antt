@@ -7,7 +7,8 @@ use Rattle.rtc_calendar.specs.Alarms.{alarm_next}
 use Rattle.rtc_cycle.specs.declared.parts.DividerParts.{DividerParts}
 use Rattle.rtc_cycle.specs.Divider.{pulsed, ticks_next, updates_next}
 use Rattle.rtc_registers.specs.declared.parts.RtcParts.{RtcParts}
-use Rattle.rtc_registers.specs.Registers.{pf_of, af_of, uf_of, flags_byte, divider_of, form_of, time_of, alarm_of, with_time}
+use Rattle.rtc_registers.specs.Registers.{pf_of, af_of, uf_of, flags_byte, divider_of, form_of}
+use Rattle.rtc_registers.specs.Registers.{time_of, alarm_of, with_time}
 
 -- the time bytes after the next pulse: an update changes them at its end
 abbrev pub time_next : RtcParts → TimeBytes

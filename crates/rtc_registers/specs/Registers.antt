@@ -1,5 +1,5 @@
--- The registers of the MC146818 and what their bits mean. Sections are those of the Motorola data sheet; 0Ah to 0Dh are
--- registers A to D, and a bit is named by its place.
+-- The registers of the MC146818 and what their bits mean. Sections are those of the Motorola data
+-- sheet; 0Ah to 0Dh are registers A to D, and a bit is named by its place.
 use Rattle.std.specs.Prelude.{ℕ, ◌+◌, ◌/◌, ◌%◌, Bool, ◌&&◌, ◌||◌, List, slice_index, slice_set}
 use Rattle.clk_units.specs.Bits.{bit, bit_value}
 use Rattle.rtc_calendar.specs.declared.TimeBytes.{TimeBytes}
@@ -21,8 +21,8 @@ register_c r = slice_index r.bytes 0x0c
 abbrev pub register_d : RtcParts → ℕ
 register_d r = slice_index r.bytes 0x0d
 
--- the bits of register B ("Register B"): SET holds updates back, and the others let a flag interrupt;
--- SQWE and DSE are stored, and do nothing (own)
+-- the bits of register B ("Register B"): SET holds updates back, and the others let a flag
+-- interrupt; SQWE and DSE are stored, and do nothing (own)
 abbrev pub set_of : RtcParts → Bool
 set_of r = bit 7 (register_b r)
 

@@ -1,9 +1,11 @@
 //! What reads and writes do to the fields, in place.
 
-ghost use Rattle.std.specs.Prelude.{◌≡◌, ℕ, ◌/◌, ◌%◌, ◌<◌, ◌≤◌, ◌||◌, ◌==◌, if◌then◌else◌, slice_set};
+ghost use Rattle.std.specs.Prelude.{◌≡◌, ℕ, ◌/◌, ◌%◌, ◌<◌, ◌≤◌, ◌||◌, ◌==◌, if◌then◌else◌};
+ghost use Rattle.std.specs.Prelude.{slice_set};
 ghost use Rattle.rtc_cycle.specs.Divider.{with_dv, with_rate, with_set};
 ghost use Rattle.rtc_cycle.specs.Parts.{IsDivider};
-ghost use Rattle.rtc_registers.specs.Access.{rtc_read, after_rtc_read, b_stored, stored, divider_written, rtc_written, flagged};
+ghost use Rattle.rtc_registers.specs.Access.{rtc_read, after_rtc_read, b_stored, stored};
+ghost use Rattle.rtc_registers.specs.Access.{divider_written, rtc_written, flagged};
 ghost use Rattle.rtc_registers.specs.Parts.{IsRtc, rtc_at_power_on};
 ghost use Rattle.rtc_registers.specs.Pulses.{rtc_pulsed_times};
 ghost use Rattle.rtc_registers.specs.Registers.{time_of};
@@ -95,7 +97,8 @@ fn stored(r: &RtcParts, byte: u8) -> u8
 /// Stores a byte where one can be written.
 fn store(bytes: &mut [u8; 128], index: u8, byte: u8)
     requires { index < 128 }
-    ensures { bytes.new ≡ (if index == 0x0c || index == 0x0d then bytes.old else slice_set bytes.old index byte) }
+    ensures { bytes.new
+        ≡ (if index == 0x0c || index == 0x0d then bytes.old else slice_set bytes.old index byte) }
 {
     if index != REGISTER_C && index != REGISTER_D {
         bytes[index as usize] = byte;

@@ -11,3 +11,16 @@ pub struct RtcEvents {
     /// The pulse of the first update that the alarm matches.
     pub first_alarm: Option<u64>,
 }
+
+impl RtcEvents {
+    /// No event.
+    pub(crate) const NONE: RtcEvents = RtcEvents {
+        cycle: CycleEvents {
+            ticks: 0,
+            first_tick: None,
+            updates: 0,
+            first_update: None,
+        },
+        first_alarm: None,
+    };
+}

@@ -1,7 +1,8 @@
 //! The fields of the clock, and the conditions on them.
 
 ghost use Rattle.std.specs.Prelude.{◌≡◌, ◌↔◌, IsNone, ◌&&◌, ◌==◌, not, nat_le};
-ghost use Rattle.rtc_registers.specs.Parts.{IsRtc, index_valid, bytes_valid, divider_valid, cycle_valid, first_fault};
+ghost use Rattle.rtc_registers.specs.Parts.{IsRtc, index_valid, bytes_valid, divider_valid};
+ghost use Rattle.rtc_registers.specs.Parts.{cycle_valid, first_fault};
 
 use crate::registers::{self, REGISTER_A, REGISTER_D};
 use rtc_cycle::DividerParts;

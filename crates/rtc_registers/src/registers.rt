@@ -3,7 +3,9 @@
 ghost use Rattle.std.specs.Prelude.{◌≡◌, ◌≤◌, ◌==◌, if◌then◌else◌};
 ghost use Rattle.clk_units.specs.Bits.{bit};
 ghost use Rattle.rtc_registers.specs.Parts.{IsRtc};
-ghost use Rattle.rtc_registers.specs.Registers.{register_b, register_c, pf_of, af_of, uf_of, irqf_of, flags_byte, divider_of, form_of, time_of, alarm_of, with_time};
+ghost use Rattle.rtc_registers.specs.Registers.{register_b, register_c, pf_of, af_of, uf_of};
+ghost use Rattle.rtc_registers.specs.Registers.{irqf_of, flags_byte, divider_of, form_of, time_of};
+ghost use Rattle.rtc_registers.specs.Registers.{alarm_of, with_time};
 
 use crate::parts::RtcParts;
 use clk_units::bit;

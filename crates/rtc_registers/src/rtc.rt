@@ -3,10 +3,12 @@
 ghost use Rattle.std.specs.Prelude.{◌≡◌, ℕ, true, ◌<◌, ◌≤◌, ◌%◌, ◌↔◌, IsSome, IfSome, IsNone};
 ghost use Rattle.clk_units.specs.Events.{IsFirst};
 ghost use Rattle.rtc_cycle.specs.Divider.{ticks_in, updates_in};
-ghost use Rattle.rtc_registers.specs.Access.{index_written, rtc_read, after_rtc_read, rtc_written, flagged};
+ghost use Rattle.rtc_registers.specs.Access.{index_written, rtc_read, after_rtc_read, rtc_written};
+ghost use Rattle.rtc_registers.specs.Access.{flagged};
 ghost use Rattle.rtc_registers.specs.Parts.{IsRtc, rtc_at_power_on, first_fault};
 ghost use Rattle.rtc_registers.specs.Pulses.{rtc_pulsed_times, alarms_in};
-ghost use Rattle.rtc_registers.specs.Registers.{divider_of, time_of, set_of, irqf_of, pf_of, af_of, uf_of, pie_of, aie_of, uie_of};
+ghost use Rattle.rtc_registers.specs.Registers.{divider_of, time_of, set_of, irqf_of, pf_of, af_of};
+ghost use Rattle.rtc_registers.specs.Registers.{uf_of, pie_of, aie_of, uie_of};
 
 use crate::events::RtcEvents;
 use crate::parts::{self, RtcField, RtcParts};

@@ -8,8 +8,9 @@ ghost use Rattle.rtc_calendar.specs.Alarms.{matches_in};
 ghost use Rattle.rtc_cycle.specs.Divider.{ticks_in, updates_in};
 ghost use Rattle.rtc_registers.specs.Parts.{IsRtc};
 ghost use Rattle.rtc_registers.specs.Pulses.{moved, rtc_pulsed_times, alarms_in};
-ghost use Rattle.rtc_registers.specs.Registers.{pf_of, af_of, uf_of, flags_byte, divider_of, form_of, time_of, alarm_of};
-ghost use Rattle.rtc_registers.specs.private.Stretch.{second_apart};
+ghost use Rattle.rtc_registers.specs.Registers.{pf_of, af_of, uf_of, flags_byte, divider_of};
+ghost use Rattle.rtc_registers.specs.Registers.{form_of, time_of, alarm_of};
+ghost use Rattle.rtc_registers.specs.private.Stretch.{second_apart, flags_behind};
 
 use crate::RTC_HZ;
 use crate::events::RtcEvents;
@@ -39,7 +40,7 @@ fn replace(r: &mut RtcParts, divider: DividerParts, time: TimeBytes, flags: u8)
 
 /// Register C after these events.
 fn flags_after(r: &RtcParts, cycle: &CycleEvents, alarm: bool) -> u8
-    ensures { result ≡ flags_byte (pf_of r.now || nat_lt 0 cycle.now.ticks) (af_of r.now || alarm) (uf_of r.now || nat_lt 0 cycle.now.updates) }
+    ensures { result ≡ flags_behind cycle.now alarm r.now }
 {
     registers::flags_byte(
         registers::is_flagged(r, PERIODIC) || cycle.ticks > 0,
@@ -52,9 +53,9 @@ fn flags_after(r: &RtcParts, cycle: &CycleEvents, alarm: bool) -> u8
 /// updates being counted from 1.
 fn take_events(r: &mut RtcParts, divider: DividerParts, cycle: &CycleEvents) -> Option<u64>
     ensures matched { IsFirst (matches_in (form_of r.old) (alarm_of r.old) (time_of r.old)) cycle.now.updates result }
-    ensures state { r.new ≡ moved divider (updated_times (form_of r.old) cycle.now.updates (time_of r.old))
-        (flags_byte (pf_of r.old || nat_lt 0 cycle.now.ticks) (af_of r.old || is_some result) (uf_of r.old || nat_lt 0 cycle.now.updates))
-        r.old }
+    ensures state { r.new
+        ≡ moved divider (updated_times (form_of r.old) cycle.now.updates (time_of r.old))
+        (flags_behind cycle.now (is_some result) r.old) r.old }
 {
     let time = registers::time_of(r);
     let form = registers::form_of(r);
@@ -66,7 +67,8 @@ fn take_events(r: &mut RtcParts, divider: DividerParts, cycle: &CycleEvents) -> 
 
 /// The pulse of the update numbered `matched`, where the first one comes at pulse `first`.
 fn update_pulse(first: Option<u64>, matched: Option<u64>) -> Option<u64>
-    requires { (f k : ℕ) → first ≡ Some f → matched ≡ Some k → (0 < k) × (f + (k - 1) * RTC_HZ < 2 ^ 64) }
+    requires { (f k : ℕ) → first ≡ Some f → matched ≡ Some k
+        → (0 < k) × (f + (k - 1) * RTC_HZ < 2 ^ 64) }
     ensures { result ≡ second_apart first matched }
 {
     match first {
@@ -90,6 +92,9 @@ pub(crate) fn pass(r: &mut RtcParts, n: u64) -> RtcEvents
     ensures first_update { IsFirst (updates_in (divider_of r.old)) n result.cycle.first_update }
     ensures first_alarm { IsFirst (alarms_in r.old) n result.first_alarm }
 {
+    if n == 0 {
+        return RtcEvents::NONE;
+    }
     let mut divider = registers::divider(r);
     let cycle = divider.pulses(n);
     if cycle.ticks == 0 && cycle.updates == 0 {

@@ -62,10 +62,12 @@ fn alarm_at_midnight_in_twelve_hours(rt: HostRuntime) {
     let events = clock.pulses(16_449 + 32_768);
     assert_eq!(rt; events.cycle.updates, 2);
     assert_eq!(rt; events.first_alarm, Some(16_449));
-    assert!(rt; clock.irqf());
+    assert!(rt; clock.irqf() && clock.aie() && !clock.uie());
+    assert!(rt; clock.pf() && clock.af() && clock.uf());
     assert_eq!(rt; byte_at(&mut clock, 0x04), 0x12);
     assert_eq!(rt; byte_at(&mut clock, 0x0c), 0xf0);
-    assert!(rt; !clock.irqf());
+    assert_eq!(rt; clock.index(), 0x0c);
+    assert!(rt; !clock.irqf() && !clock.af() && !clock.uf());
     assert_eq!(rt; byte_at(&mut clock, 0x0c), 0x00);
     // a minute after the first match comes the next
     assert_eq!(rt; clock.pulses(32_768 * 60).first_alarm, Some(32_768 * 59));
@@ -123,24 +125,25 @@ fn what_writes_leave(rt: HostRuntime) {
 }
 
 #[test]
-fn fields_that_no_clock_has(rt: HostRuntime) {
+fn field_that_fails_first(rt: HostRuntime) {
     let good = Rtc::power_on(last_second(0x23)).parts();
     let cases = [
-        (0x0a, 0x7f, 16_384, false, true),
-        (0x0a, 0x80, 16_384, false, false),
-        (0x0a, 0x36, 16_384, false, true),
-        (0x0a, 0x36, 16_385, false, false),
-        (0x0b, 0xff, 0, false, true),
-        (0x0b, 0x80, 0, true, false),
-        (0x0c, 0x70, 64, true, true),
-        (0x0c, 0x70, 65, true, false),
-        (0x0c, 0x80, 0, false, false),
-        (0x0c, 0x01, 0, false, false),
-        (0x0d, 0x00, 0, false, false),
-        (0x0e, 0xff, 32_767, false, true),
-        (0x0e, 0xff, 32_768, false, false),
+        (0x0a, 0x7f, 16_384, false, None),
+        (0x0a, 0x80, 32_768, false, Some(RtcField::Bytes)),
+        (0x0a, 0x36, 16_384, false, None),
+        (0x0a, 0x36, 16_385, true, Some(RtcField::Divider)),
+        (0x0a, 0x36, 16_384, true, Some(RtcField::Cycle)),
+        (0x0b, 0xff, 0, false, None),
+        (0x0b, 0x80, 0, true, Some(RtcField::Cycle)),
+        (0x0c, 0x70, 64, true, None),
+        (0x0c, 0x70, 65, true, Some(RtcField::Cycle)),
+        (0x0c, 0x80, 0, false, Some(RtcField::Bytes)),
+        (0x0c, 0x01, 0, false, Some(RtcField::Bytes)),
+        (0x0d, 0x00, 0, false, Some(RtcField::Bytes)),
+        (0x0e, 0xff, 32_767, false, None),
+        (0x0e, 0xff, 32_768, false, Some(RtcField::Divider)),
     ];
-    for (place, byte, d, cycle, valid) in cases {
+    for (place, byte, d, cycle, fault) in cases {
         assert!(rt; place < 128);
         let mut bytes = good.bytes;
         bytes[place] = byte;
@@ -150,12 +153,15 @@ fn fields_that_no_clock_has(rt: HostRuntime) {
             cycle,
             ..good
         };
+        assert_eq!(rt; Rtc::first_fault(&parts), fault, "byte {place}");
         match Rtc::of_parts(parts) {
-            Some(clock) => assert!(rt; valid && clock.parts() == parts),
-            None => assert!(rt; !valid, "byte {place}"),
+            Some(clock) => assert!(rt; fault.is_none() && clock.parts() == parts),
+            None => assert!(rt; fault.is_some(), "byte {place}"),
         }
     }
-    assert!(rt; Rtc::of_parts(RtcParts { index: 128, ..good }).is_none());
+    let parts = RtcParts { index: 128, ..good };
+    assert_eq!(rt; Rtc::first_fault(&parts), Some(RtcField::Index));
+    assert!(rt; Rtc::of_parts(parts).is_none());
 }
 
 /// The plain program of the definition: one pulse after the other, from these fields, whose divider is `divider`.

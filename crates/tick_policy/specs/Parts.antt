@@ -1,4 +1,4 @@
--- The fields of a tick line and the conditions on them. The policies' names are QEMU's, all rules (own).
+-- The fields of a tick line and their conditions. The policies' names are QEMU's, all rules (own).
 use Rattle.std.specs.Prelude.{◌≡◌, ℕ, ◌+◌, Bool, true, false, not, ◌&&◌, ◌||◌, ◌==◌, if◌then◌else◌}
 use Rattle.std.specs.Prelude.{Option, Some, None}
 use Rattle.tick_policy.specs.declared.parts.Policy.{Policy}

@@ -5,7 +5,7 @@ ghost use Rattle.tick_policy.specs.Line.{line_at_power_on, ticked_times, goes_ag
 ghost use Rattle.tick_policy.specs.Line.{acked_down, ack_answer, is_waiting, caught_up, set_up_to};
 ghost use Rattle.tick_policy.specs.Parts.{IsTickLine, FollowsPolicy};
 
-use crate::rules::{self, acknowledged, answer_of, brought_up, with_ticks};
+use crate::rules::{acknowledged, answer_of, brought_up, with_ticks};
 use crate::{Counts, Policy, TickParts};
 use std::marker::Model;
 
@@ -72,7 +72,9 @@ impl TickLine {
         requires { self.old.counts.due + n < 2 ^ 63 }
         ensures { self.new ≡ ticked_times n self.old }
     {
-        *self = TickLine::of(with_ticks(self.parts(), n));
+        if n > 0 {
+            *self = TickLine::of(with_ticks(self.parts(), n));
+        }
     }
 
     /// An acknowledgement: a line that is up goes down, and under `Delay` up again while a tick
@@ -99,9 +101,11 @@ impl TickLine {
         ensures state { self.new ≡ caught_up self.old }
         ensures rose { result ≡ is_waiting self.old }
     {
-        let parts = self.parts();
-        *self = TickLine::of(brought_up(parts));
-        rules::is_waiting(parts)
+        let rises = self.is_waiting();
+        if rises {
+            *self = TickLine::of(brought_up(self.parts()));
+        }
+        rises
     }
 
     /// Puts the line up or down and counts nothing. The periodic flag of the MC146818 is such a
@@ -124,7 +128,7 @@ impl TickLine {
     pub fn is_waiting(&self) -> bool
         ensures { result ≡ is_waiting self.now }
     {
-        rules::is_waiting(self.parts())
+        self.policy == Policy::Slew as u8 && !self.up && self.counts.queue > 0
     }
 
     /// Whether an acknowledgement would bring the line up again: under `Delay`, where it is up and
@@ -132,7 +136,7 @@ impl TickLine {
     pub fn goes_again(&self) -> bool
         ensures { result ≡ goes_again self.now }
     {
-        rules::goes_again(self.parts())
+        self.policy == Policy::Delay as u8 && self.up && self.counts.queue > 0
     }
 
     /// The counts of its ticks.

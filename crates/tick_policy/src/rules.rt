@@ -9,7 +9,7 @@ ghost use Rattle.tick_policy.specs.private.AtOnce.{shown_at_once, with_missed};
 use crate::{Acked, Counts, Policy, TickParts};
 
 /// Whether an acknowledgement brings the line up again.
-pub(crate) fn goes_again(line: TickParts) -> bool
+fn goes_again(line: TickParts) -> bool
     ensures { result ≡ goes_again line }
 {
     match line.policy {
@@ -19,7 +19,7 @@ pub(crate) fn goes_again(line: TickParts) -> bool
 }
 
 /// Whether a catch-up point brings the line up.
-pub(crate) fn is_waiting(line: TickParts) -> bool
+fn is_waiting(line: TickParts) -> bool
     ensures { result ≡ is_waiting line }
 {
     match line.policy {

@@ -21,16 +21,19 @@ pub trait Answerer<E> {
     fn answer(&mut self, line: u64, text: &[u8], out: &mut Vec<u8>) -> Result<Option<E>, NoMemory>
         requires room { line < 2 ^ 63 }
         requires may { may line self.old }
-        ensures printed { OnOk result (out.new.items ≡ out.old.items ++ printed (answer line self.old text.now)) }
+        ensures printed { OnOk result
+            (out.new.items ≡ out.old.items ++ printed (answer line self.old text.now)) }
         ensures ends { IfOk result (λ end. end ≡ end_of (answer line self.old text.now)) }
-        ensures state { OnOk result (self.new ≡ state_behind (answer line self.old text.now) self.old) }
+        ensures state { OnOk result
+            (self.new ≡ state_behind (answer line self.old text.now) self.old) }
         ensures may { IfOk result (λ end. end ≡ None → may (line + 1) self.new) }
         ensures err { OnErr result (StartsWith out.new.items out.old.items) };
 
     /// Answers the end of the input, where the line of this number would come next.
     fn close(&mut self, line: u64, out: &mut Vec<u8>) -> Result<E, NoMemory>
         requires may { may line self.old }
-        ensures printed { OnOk result (out.new.items ≡ out.old.items ++ (closing line self.old).text) }
+        ensures printed { OnOk result
+            (out.new.items ≡ out.old.items ++ (closing line self.old).text) }
         ensures ends { IfOk result (λ end. end ≡ (closing line self.old).end) };
 }
 
@@ -44,9 +47,11 @@ pub(crate) fn answer_line<E: Drop, T: Answerer<E>>(
 ) -> Result<Option<E>, NoMemory>
     requires room { line < 2 ^ 63 }
     requires may { T.may line answerer.old }
-    ensures printed { OnOk result (out.new.items ≡ out.old.items ++ printed (T.answer line answerer.old text.now)) }
+    ensures printed { OnOk result
+        (out.new.items ≡ out.old.items ++ printed (T.answer line answerer.old text.now)) }
     ensures ends { IfOk result (λ end. end ≡ end_of (T.answer line answerer.old text.now)) }
-    ensures state { OnOk result (answerer.new ≡ state_behind (T.answer line answerer.old text.now) answerer.old) }
+    ensures state { OnOk result
+        (answerer.new ≡ state_behind (T.answer line answerer.old text.now) answerer.old) }
     ensures may { IfOk result (λ end. end ≡ None → T.may (line + 1) answerer.new) }
     ensures err { OnErr result (out.new.items ≡ out.old.items) }
 {

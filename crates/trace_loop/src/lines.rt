@@ -1,5 +1,29 @@
 //! The lines of a source that is read piece by piece.
-ghost use Rattle.std.specs.Prelude.{◌≡◌, ℕ, ◌||◌, ◌<◌, ◌≤◌, ◌+◌, ◌-◌, ◌^◌, List, [], ◌∷◌, ◌++◌, length, take, drop, slice_index, true, false, codes, IfOk, OnOk, OnErr, if◌then◌else◌};
+ghost use Rattle.std.specs.Prelude.{
+  ◌≡◌,
+  ℕ,
+  ◌||◌,
+  ◌<◌,
+  ◌≤◌,
+  ◌+◌,
+  ◌-◌,
+  ◌^◌,
+  List,
+  [],
+  ◌∷◌,
+  ◌++◌,
+  length,
+  take,
+  drop,
+  slice_index,
+  true,
+  false,
+  codes,
+  IfOk,
+  OnOk,
+  OnErr,
+  if◌then◌else◌,
+};
 ghost use Rattle.std.specs.Str.{bytes_eq};
 ghost use Rattle.std.specs.Io.KnownBytes.{Consumes, IsAtEnd};
 ghost use Rattle.board_io.specs.Faults.{Rose, most_given, AddsGiven, gave_nothing};
@@ -59,7 +83,8 @@ impl Model for Lines {
       left = take (r.to - r.from) (drop r.from r.piece);
     } };
 
-    ghost invariant = { λ r. (r.from ≤ r.to) × (r.to ≤ 4096) × (r.start ≤ r.stop) × (r.stop ≤ 4096) × HasNoEnd r.kept.items × (length r.kept.items ≤ limit_of r.kept.items) };
+    ghost invariant = { λ r. (r.from ≤ r.to) × (r.to ≤ 4096) × (r.start ≤ r.stop) × (r.stop ≤ 4096)
+        × HasNoEnd r.kept.items × (length r.kept.items ≤ limit_of r.kept.items) };
 }
 
 impl Lines {
@@ -215,7 +240,8 @@ impl Lines {
     /// Keeps the bytes that are left, in which the present line doesn't end.
     fn keep(&mut self) -> Result<(), NoMemory>
         requires in_line { HasNoEnd self.old.left }
-        requires short { length self.old.text + length self.old.left ≤ limit_of (self.old.text ++ self.old.left) }
+        requires short { length self.old.text + length self.old.left
+            ≤ limit_of (self.old.text ++ self.old.left) }
         ensures text { OnOk result (self.new.text ≡ self.old.text ++ self.old.left) }
         ensures left { OnOk result (self.new.left ≡ []) }
         ensures number { OnOk result (self.new.number ≡ self.old.number) }
@@ -238,7 +264,8 @@ impl Lines {
         ensures done { S.done source.new ≡ (S.done source.old || gave_nothing result) }
         ensures late { S.late source.new ≡ (S.late source.old || S.done source.old) }
         ensures count { IfOk result (λ n. length self.new.left ≡ n) }
-        ensures bytes { OnOk result (Consumes (S.remaining source.old) (S.remaining source.new) self.new.left) }
+        ensures bytes { OnOk result
+            (Consumes (S.remaining source.old) (S.remaining source.new) self.new.left) }
         ensures end { IfOk result (λ n. n ≡ 0 → IsAtEnd (S.remaining source.new)) }
         ensures well { OnOk result (S.faults source.new ≡ S.faults source.old) }
         ensures failed { OnErr result (Rose (S.faults source.old) (S.faults source.new)) }
@@ -257,7 +284,8 @@ impl Lines {
 fn append_part(out: &mut Vec<u8>, piece: &[u8], from: usize, to: usize) -> Result<(), NoMemory>
     requires order { from ≤ to }
     requires within { to ≤ length piece.now }
-    ensures ok { OnOk result (out.new.items ≡ out.old.items ++ take (to - from) (drop from piece.now)) }
+    ensures ok { OnOk result
+        (out.new.items ≡ out.old.items ++ take (to - from) (drop from piece.now)) }
     ensures err { OnErr result (out.new.items ≡ out.old.items) }
 {
     append(out, &piece[from..to])

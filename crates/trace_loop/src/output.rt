@@ -10,7 +10,8 @@ use clk_units::NoMemory;
 /// Puts a whole text into a sink. After an `Err` the sink has taken the text's beginning.
 pub fn put_all<K: Sink>(sink: &mut K, text: &[u8]) -> Result<(), Failed>
     ensures all { OnOk result (Appends (K.contents sink.old) (K.contents sink.new) text.now) }
-    ensures cut { OnErr result ((cut : List ℕ) × Begins cut text.now × Appends (K.contents sink.old) (K.contents sink.new) cut) }
+    ensures cut { OnErr result ((cut : List ℕ) × Begins cut text.now
+        × Appends (K.contents sink.old) (K.contents sink.new) cut) }
     ensures well { OnOk result (K.faults sink.new ≡ K.faults sink.old) }
     ensures some { OnErr result (0 < length text.now) }
     ensures counted { K.faults sink.old ≤ K.faults sink.new }

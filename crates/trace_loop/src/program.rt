@@ -1,5 +1,25 @@
 //! The loop over the lines of a source.
-ghost use Rattle.std.specs.Prelude.{◌≡◌, ◌≢◌, ℕ, ◌<◌, ◌≤◌, ◌+◌, ◌-◌, ◌^◌, List, [], ◌++◌, ◌⊎◌, Some, None, false, take, IfOk, OnOk, OnErr};
+ghost use Rattle.std.specs.Prelude.{
+  ◌≡◌,
+  ◌≢◌,
+  ℕ,
+  ◌<◌,
+  ◌≤◌,
+  ◌+◌,
+  ◌-◌,
+  ◌^◌,
+  List,
+  [],
+  ◌++◌,
+  ◌⊎◌,
+  Some,
+  None,
+  false,
+  take,
+  IfOk,
+  OnOk,
+  OnErr,
+};
 ghost use Rattle.board_io.specs.Faults.{Rose};
 ghost use Rattle.trace_loop.specs.Text.{memory_fault_text};
 ghost use Rattle.trace_loop.specs.Progress.{opened, standing, behind, finished};
@@ -29,11 +49,19 @@ pub fn answer_lines<E: Drop, T: Answerer<E>, S: Source, K: Sink>(
 ) -> Ended<E>
     requires { T.may 1 answerer.old }
     ensures outcome { (input : List ℕ) → S.remaining source.old ≡ Some input
-        → Outcome (run_of T.answer T.closing answerer.old input (S.before source.new - S.given source.old) (S.given source.new - S.given source.old) (S.faults source.old) (S.faults source.new)) result (K.contents sink.old) (K.contents sink.new) }
-    ensures stopped { (input : List ℕ) → S.remaining source.old ≡ Some input → (behind T.answer (take (S.before source.new - S.given source.old) input) (opened answerer.old)).end ≡ None }
-    ensures once { S.done source.old ≡ false → S.late source.old ≡ false → S.late source.new ≡ false }
-    ensures well { result ≢ Ended.SourceFault → result ≢ Ended.SinkFault → S.faults source.new ≡ S.faults source.old }
-    ensures source_fault { result ≡ Ended.SourceFault → Rose (S.faults source.old) (S.faults source.new) }
+        → Outcome (run_of T.answer T.closing answerer.old input
+        (S.before source.new - S.given source.old) (S.given source.new - S.given source.old)
+        (S.faults source.old) (S.faults source.new))
+        result (K.contents sink.old) (K.contents sink.new) }
+    ensures stopped { (input : List ℕ) → S.remaining source.old ≡ Some input
+        → (behind T.answer (take (S.before source.new - S.given source.old) input)
+        (opened answerer.old)).end ≡ None }
+    ensures once { S.done source.old ≡ false → S.late source.old ≡ false
+        → S.late source.new ≡ false }
+    ensures well { result ≢ Ended.SourceFault → result ≢ Ended.SinkFault
+        → S.faults source.new ≡ S.faults source.old }
+    ensures source_fault { result ≡ Ended.SourceFault
+        → Rose (S.faults source.old) (S.faults source.new) }
     ensures sink_fault { result ≡ Ended.SinkFault → Rose (K.faults sink.old) (K.faults sink.new) }
     ensures sink_well { result ≢ Ended.SinkFault → K.faults sink.new ≡ K.faults sink.old }
 {
@@ -72,9 +100,12 @@ fn end_input<E: Drop, T: Answerer<E>, K: Sink>(
     requires room { lines.now.number + 2 < 2 ^ 63 }
     requires may { T.may (lines.now.number + 1) answerer.old }
     requires empty { out.old.items ≡ [] }
-    ensures said { let ran = finished T.answer T.closing (standing (lines.now.number + 1) lines.now.text answerer.old []) in
-        Said (Ended.By ran.end) result (K.contents sink.old) (K.contents sink.new) ran.text (Rose (K.faults sink.old) (K.faults sink.new))
-        ⊎ Said Ended.NoMemory result (K.contents sink.old) (K.contents sink.new) memory_fault_text (Rose (K.faults sink.old) (K.faults sink.new)) }
+    ensures said { let ran = finished T.answer T.closing
+        (standing (lines.now.number + 1) lines.now.text answerer.old []) in
+        Said (Ended.By ran.end) result (K.contents sink.old) (K.contents sink.new) ran.text
+        (Rose (K.faults sink.old) (K.faults sink.new))
+        ⊎ Said Ended.NoMemory result (K.contents sink.old) (K.contents sink.new)
+        memory_fault_text (Rose (K.faults sink.old) (K.faults sink.new)) }
     ensures sink_well { result ≢ Ended.SinkFault → K.faults sink.new ≡ K.faults sink.old }
     ensures counted { K.faults sink.old ≤ K.faults sink.new }
 {
@@ -93,8 +124,10 @@ fn finish<E: Drop, T: Answerer<E>>(
 ) -> Result<E, NoMemory>
     requires room { line + 1 < 2 ^ 63 }
     requires may { T.may line answerer.old }
-    ensures printed { OnOk result (out.new.items ≡ out.old.items ++ (finished T.answer T.closing (standing line text.now answerer.old [])).text) }
-    ensures ends { IfOk result (λ end. end ≡ (finished T.answer T.closing (standing line text.now answerer.old [])).end) }
+    ensures printed { OnOk result (out.new.items ≡ out.old.items
+        ++ (finished T.answer T.closing (standing line text.now answerer.old [])).text) }
+    ensures ends { IfOk result
+        (λ end. end ≡ (finished T.answer T.closing (standing line text.now answerer.old [])).end) }
 {
     if text.is_empty() {
         return answerer.close(line, out);
@@ -108,7 +141,8 @@ fn finish<E: Drop, T: Answerer<E>>(
 /// Writes what was answered before memory ran out, and then says so.
 #[tactic(auto, unfolding(crate::specs::Text::memory_fault_text))]
 fn want_memory<E: Drop, K: Sink>(sink: &mut K, out: &[u8]) -> Ended<E>
-    ensures said { Said Ended.NoMemory result (K.contents sink.old) (K.contents sink.new) (out.now ++ memory_fault_text) (Rose (K.faults sink.old) (K.faults sink.new)) }
+    ensures said { Said Ended.NoMemory result (K.contents sink.old) (K.contents sink.new)
+        (out.now ++ memory_fault_text) (Rose (K.faults sink.old) (K.faults sink.new)) }
     ensures sink_well { result ≢ Ended.SinkFault → K.faults sink.new ≡ K.faults sink.old }
     ensures counted { K.faults sink.old ≤ K.faults sink.new }
 {
@@ -120,7 +154,8 @@ fn want_memory<E: Drop, K: Sink>(sink: &mut K, out: &[u8]) -> Ended<E>
 
 /// Writes a text and ends with a status, or with a fault of the sink.
 fn say<E: Drop, K: Sink>(sink: &mut K, text: &[u8], end: Ended<E>) -> Ended<E>
-    ensures said { Said end result (K.contents sink.old) (K.contents sink.new) text.now (Rose (K.faults sink.old) (K.faults sink.new)) }
+    ensures said { Said end result (K.contents sink.old) (K.contents sink.new) text.now
+        (Rose (K.faults sink.old) (K.faults sink.new)) }
     ensures sink_well { result ≢ Ended.SinkFault → K.faults sink.new ≡ K.faults sink.old }
     ensures counted { K.faults sink.old ≤ K.faults sink.new }
 {

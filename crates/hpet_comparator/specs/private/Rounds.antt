@@ -11,4 +11,7 @@ pub record IsDue (c : ℕ) (t : TimerParts) (d : ℕ) : Type 0 where
 
 -- the timer behind q matches
 abbrev pub advanced : ℕ → TimerParts → TimerParts
-advanced q t = record t { comparator = if is_periodic t then (t.comparator + q * t.period) % modulus t else t.comparator }
+advanced q t = record t {
+  comparator =
+      if is_periodic t then (t.comparator + q * t.period) % modulus t else t.comparator;
+}

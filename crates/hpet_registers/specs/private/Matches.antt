@@ -4,7 +4,8 @@ use Rattle.clk_units.specs.Events.{IsFirst}
 use Rattle.hpet_counter.specs.Counter.{counter_after}
 use Rattle.hpet_comparator.specs.declared.parts.TimerParts.{TimerParts}
 use Rattle.hpet_comparator.specs.declared.stretch.Matches.{Matches}
-use Rattle.hpet_comparator.specs.Stretch.{matches_at, pulsed_times, matches_in, spacing_of, falls_on}
+use Rattle.hpet_comparator.specs.Stretch.{matches_at, pulsed_times, matches_in, spacing_of}
+use Rattle.hpet_comparator.specs.Stretch.{falls_on}
 
 -- these are a timer's matches over n pulses of a main counter that was at from
 pub record AreMatches (from n : ℕ) (t : TimerParts) (m : Matches) : Type 0 where

@@ -1,5 +1,6 @@
 -- Which times of the day an alarm asks for, and the next of them, for the bodies alone.
-use Rattle.std.specs.Prelude.{◌≡◌, ℕ, ◌/◌, ◌%◌, ◌<◌, ◌≤◌, Bool, true, false, ◌&&◌, ◌==◌, Option, Some, None}
+use Rattle.std.specs.Prelude.{◌≡◌, ℕ, ◌/◌, ◌%◌, ◌<◌, ◌≤◌, Bool, true, false, ◌&&◌, ◌==◌, Option}
+use Rattle.std.specs.Prelude.{Some, None}
 use Rattle.rtc_calendar.specs.declared.wanted.Wanted.{Wanted}
 use Rattle.rtc_calendar.specs.declared.wanted.Wanted.TheVariants.{Anything, Only, Nothing}
 use Rattle.rtc_calendar.specs.declared.wanted.WantedTime.{WantedTime}

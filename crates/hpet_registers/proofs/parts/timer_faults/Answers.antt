@@ -8,7 +8,10 @@ loop-k-init c = first_below-nothing (timer_fault_at c.args.parts.now)
 
 pub returns-in-Some : goal.returns-in-Some
 returns-in-Some c =
-    sym (first_below-stays (timer_fault_at c.args.parts.now) 8 (c.loop-k.k + 1) c.in-Some.field (first_below-more (timer_fault_at c.args.parts.now) c.loop-k.k (Some c.in-Some.field) c.loop-k.invariant (sym c.timer_fault.ensures ∙ c.in-Some.is)) (omega arith))
+    sym (first_below-stays (timer_fault_at c.args.parts.now) 8 (c.loop-k.k + 1) c.in-Some.field
+    (first_below-more (timer_fault_at c.args.parts.now) c.loop-k.k (Some c.in-Some.field) c.loop-k.invariant (sym c.timer_fault.ensures ∙ c.in-Some.is))
+    (omega arith))
 
 pub loop-k-preserved : goal.loop-k-preserved
-loop-k-preserved c = first_below-more (timer_fault_at c.args.parts.now) c.loop-k.k None c.loop-k.invariant (sym c.timer_fault.ensures ∙ none-some c.timer_fault.result c.in_default.not-Some)
+loop-k-preserved c = first_below-more (timer_fault_at c.args.parts.now) c.loop-k.k None c.loop-k.invariant (sym c.timer_fault.ensures
+    ∙ none-some c.timer_fault.result c.in_default.not-Some)

@@ -7,7 +7,8 @@ use Rattle.hpet_comparator.specs.Stretch.{spacing_of, falls_on}
 use Rattle.hpet_registers.specs.declared.parts.HpetParts.{HpetParts}
 use Rattle.hpet_registers.specs.Parts.{timer_at, is_running}
 use Rattle.hpet_registers.specs.Stretch.{matches_of, timer_matches, matches_next}
-use Rattle.hpet_registers.proofs.Product.{hpet_pulsed_times-standing, matches_of-standing, matches_next-standing, matches_of-running, matches_of-absent, matches_next-absent, matches_next-hpet_pulsed_times, IsFirst-running}
+use Rattle.hpet_registers.proofs.Product.{hpet_pulsed_times-standing, matches_of-standing, matches_next-standing, matches_of-running, matches_of-absent}
+use Rattle.hpet_registers.proofs.Product.{matches_next-absent, matches_next-hpet_pulsed_times, IsFirst-running}
 use Rattle.hpet_registers.proofs.Places.{stretched, timer_matches-none}
 use Rattle.hpet_registers.proofs.stretch.pulse.Goals as goal
 
@@ -23,11 +24,13 @@ returns-then-parts-eq0-clause-state c = sym (hpet_pulsed_times-standing c.args.n
 
 pub returns-then-parts-eq0-clause-count : goal.returns-then-parts-eq0-clause-count
 returns-then-parts-eq0-clause-count c = λ k.
-    ap (λ (m : Matches). m.count) (timer_matches-none k) ∙ sym (matches_of-standing k c.args.n c.args.parts.now (stands c.args.parts.now.config c.if-parts-eq0.true))
+    ap (λ (m : Matches). m.count) (timer_matches-none k)
+    ∙ sym (matches_of-standing k c.args.n c.args.parts.now (stands c.args.parts.now.config c.if-parts-eq0.true))
 
 pub returns-then-parts-eq0-clause-first : goal.returns-then-parts-eq0-clause-first
 returns-then-parts-eq0-clause-first c = λ k.
-    subst (λ (m : Matches). IsFirst (matches_of k c.args.parts.now) c.args.n m.first) (sym (timer_matches-none k)) (matches_of-standing k c.args.n c.args.parts.now (stands c.args.parts.now.config c.if-parts-eq0.true))
+    subst (λ (m : Matches). IsFirst (matches_of k c.args.parts.now) c.args.n m.first) (sym (timer_matches-none k))
+    (matches_of-standing k c.args.n c.args.parts.now (stands c.args.parts.now.config c.if-parts-eq0.true))
 
 pub returns-then-parts-eq0-clause-every : goal.returns-then-parts-eq0-clause-every
 returns-then-parts-eq0-clause-every c = λ k i inside.
@@ -48,7 +51,8 @@ pub returns-clause-count : goal.returns-clause-count
 returns-clause-count c = λ k.
     let running : is_running c.args.parts.now ≡ true = runs c.args.parts.now.config c.if-parts-eq0.false in
     elim (cases_lt k c.args.parts.now.timers) [
-      | inl inside ↦ (c.pulse_timers-matches.ensures.matches k inside).count ∙ sym (matches_of-running k c.args.n c.args.parts.now running c.requires.fits inside)
+      | inl inside ↦ (c.pulse_timers-matches.ensures.matches k inside).count
+          ∙ sym (matches_of-running k c.args.n c.args.parts.now running c.requires.fits inside)
       | inr past ↦ ap (λ (m : Matches). m.count) (c.pulse_timers-matches.ensures.none k past) ∙ sym (matches_of-absent k c.args.n c.args.parts.now past)
     ]
 
@@ -56,15 +60,18 @@ pub returns-clause-first : goal.returns-clause-first
 returns-clause-first c = λ k.
     let running : is_running c.args.parts.now ≡ true = runs c.args.parts.now.config c.if-parts-eq0.false in
     elim (cases_lt k c.args.parts.now.timers) [
-      | inl inside ↦ IsFirst-running k c.args.n c.args.parts.now (timer_matches c.pulse_timers-matches.result k).first running c.requires.fits inside (c.pulse_timers-matches.ensures.matches k inside).first
-      | inr past ↦ subst (λ (m : Matches). IsFirst (matches_of k c.args.parts.now) c.args.n m.first) (sym (c.pulse_timers-matches.ensures.none k past)) (matches_of-absent k c.args.n c.args.parts.now past)
+      | inl inside ↦ IsFirst-running k c.args.n c.args.parts.now (timer_matches c.pulse_timers-matches.result k).first running c.requires.fits inside
+          (c.pulse_timers-matches.ensures.matches k inside).first
+      | inr past ↦ subst (λ (m : Matches). IsFirst (matches_of k c.args.parts.now) c.args.n m.first) (sym (c.pulse_timers-matches.ensures.none k past))
+          (matches_of-absent k c.args.n c.args.parts.now past)
     ]
 
 pub returns-clause-every : goal.returns-clause-every
 returns-clause-every c = λ k i less.
     let running : is_running c.args.parts.now ≡ true = runs c.args.parts.now.config c.if-parts-eq0.false in
     elim (cases_lt k c.args.parts.now.timers) [
-      | inl inside ↦ matches_next-hpet_pulsed_times k i c.args.parts.now running c.requires.fits inside ∙ (c.pulse_timers-matches.ensures.matches k inside).every i less
+      | inl inside ↦ matches_next-hpet_pulsed_times k i c.args.parts.now running c.requires.fits inside
+          ∙ (c.pulse_timers-matches.ensures.matches k inside).every i less
       | inr past ↦ matches_next-absent k i c.args.parts.now past
           ∙ ap (λ (m : Matches). falls_on m.first m.count (spacing_of (timer_at k c.args.parts.now)) (suc i)) (sym (c.pulse_timers-matches.ensures.none k past))
     ]

@@ -30,17 +30,20 @@ returns-clause-state c =
 
 pub returns-clause-quiet : goal.returns-clause-quiet
 returns-clause-quiet c =
-    let quiet : c.quiet_for.result ≡ quiet_for (next_effect c.args.p.now) c.args.p.now = c.quiet_for.ensures ∙ ap (λ (e : Effect). quiet_for e c.args.p.now) c.next_effect-effect.ensures in
+    let quiet : c.quiet_for.result ≡ quiet_for (next_effect c.args.p.now) c.args.p.now = c.quiet_for.ensures
+    ∙ ap (λ (e : Effect). quiet_for e c.args.p.now) c.next_effect-effect.ensures in
     rises_in-glided c.args.p.now c.args.n c.requires (omega arith)
 
 pub returns-then-is_still-clause-state : goal.returns-then-is_still-clause-state
 returns-then-is_still-clause-state c =
     let p = c.args.p.now in
-    let still : is_still (next_effect p) p.out ≡ true = ap (λ (e : Effect). is_still e p.out) (sym c.next_effect-effect.ensures) ∙ sym c.is_still.ensures ∙ c.if-is_still.true in
+    let still : is_still (next_effect p) p.out ≡ true = ap (λ (e : Effect). is_still e p.out) (sym c.next_effect-effect.ensures) ∙ sym c.is_still.ensures
+    ∙ c.if-is_still.true in
     sym (pulsed_times-still p c.args.n still)
 
 pub returns-then-is_still-clause-quiet : goal.returns-then-is_still-clause-quiet
 returns-then-is_still-clause-quiet c =
     let p = c.args.p.now in
-    let still : is_still (next_effect p) p.out ≡ true = ap (λ (e : Effect). is_still e p.out) (sym c.next_effect-effect.ensures) ∙ sym c.is_still.ensures ∙ c.if-is_still.true in
+    let still : is_still (next_effect p) p.out ≡ true = ap (λ (e : Effect). is_still e p.out) (sym c.next_effect-effect.ensures) ∙ sym c.is_still.ensures
+    ∙ c.if-is_still.true in
     rises_in-still p c.args.n still

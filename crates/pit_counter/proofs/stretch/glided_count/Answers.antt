@@ -9,7 +9,8 @@ unfolding glided_count
 returns c =
     let bits = c.args.bits in
     let rest : c.remainder-down.result ≡ c.args.step * c.args.n % modulus bits =
-    c.remainder-down.ensures.value ∙ ap (λ (x : ℕ). c.args.step * x % modulus bits) c.remainder.ensures.value ∙ mul-mod_second c.args.step c.args.n (modulus bits) in
+    c.remainder-down.ensures.value ∙ ap (λ (x : ℕ). c.args.step * x % modulus bits) c.remainder.ensures.value
+    ∙ mul-mod_second c.args.step c.args.n (modulus bits) in
     c.remainder-2.ensures.value
     ∙ ap (λ (m : ℕ). (c.args.ce + m - c.remainder-down.result) % modulus bits) c.modulus.ensures.value
     ∙ ap (λ (x : ℕ). (c.args.ce + modulus bits - x) % modulus bits) rest

@@ -32,17 +32,23 @@ joined-rises-requires-clause-fits c =
 pub loop-pulses-preserved : goal.loop-pulses-preserved
 loop-pulses-preserved c =
     let state : c.next_leap-next.result.parts ≡ pulsed_times (c.loop-pulses.pulses + c.next_leap-next.result.pulses) c.args.p.now =
-    c.next_leap-next.ensures.state ∙ ap (pulsed_times c.next_leap-next.result.pulses) c.loop-pulses.invariant.state ∙ sym (pulsed_times-joined c.args.p.now c.loop-pulses.pulses c.next_leap-next.result.pulses) in
+    c.next_leap-next.ensures.state ∙ ap (pulsed_times c.next_leap-next.result.pulses) c.loop-pulses.invariant.state
+    ∙ sym (pulsed_times-joined c.args.p.now c.loop-pulses.pulses c.next_leap-next.result.pulses) in
     let both = rises_in-joined c.args.p.now c.loop-pulses.pulses c.next_leap-next.result.pulses in
-    let later : rises_in c.loop-pulses.parts c.next_leap-next.result.pulses ≡ rises_in (pulsed_times c.loop-pulses.pulses c.args.p.now) c.next_leap-next.result.pulses =
+    let later : rises_in c.loop-pulses.parts c.next_leap-next.result.pulses ≡ rises_in
+    (pulsed_times c.loop-pulses.pulses c.args.p.now) c.next_leap-next.result.pulses =
     ap (λ (d : CounterParts). rises_in d c.next_leap-next.result.pulses) c.loop-pulses.invariant.state in
     let first : IsFirst (rises_in (pulsed_times c.loop-pulses.pulses c.args.p.now)) c.next_leap-next.result.pulses c.next_leap-next.result.rises.first =
-    subst (λ (d : CounterParts). IsFirst (rises_in d) c.next_leap-next.result.pulses c.next_leap-next.result.rises.first) c.loop-pulses.invariant.state c.next_leap-next.ensures.first in
+    subst (λ (d : CounterParts). IsFirst (rises_in d) c.next_leap-next.result.pulses c.next_leap-next.result.rises.first)
+    c.loop-pulses.invariant.state c.next_leap-next.ensures.first in
     record {
       within = omega arith;
-      valid = subst (λ (d : CounterParts). IsCounter d) (sym state) (IsCounter-pulsed_times c.args.p.now (c.loop-pulses.pulses + c.next_leap-next.result.pulses) c.requires);
+      valid = subst (λ (d : CounterParts). IsCounter d) (sym state)
+          (IsCounter-pulsed_times c.args.p.now (c.loop-pulses.pulses + c.next_leap-next.result.pulses) c.requires);
       state = state;
       count = omega (arith, c.joined-rises.ensures.count, c.next_leap-next.ensures.count, c.loop-pulses.invariant.count);
-      first = subst (λ (o : Option ℕ). IsFirst (rises_in c.args.p.now) (c.loop-pulses.pulses + c.next_leap-next.result.pulses) o) (sym c.joined-rises.ensures.first)
-          (IsFirst-joined c.args.p.now c.loop-pulses.pulses c.next_leap-next.result.pulses c.loop-pulses.rises.first c.next_leap-next.result.rises.first c.loop-pulses.invariant.first first);
+      first = subst (λ (o : Option ℕ). IsFirst (rises_in c.args.p.now) (c.loop-pulses.pulses + c.next_leap-next.result.pulses) o)
+          (sym c.joined-rises.ensures.first)
+          (IsFirst-joined c.args.p.now c.loop-pulses.pulses c.next_leap-next.result.pulses c.loop-pulses.rises.first
+          c.next_leap-next.result.rises.first c.loop-pulses.invariant.first first);
     }

@@ -30,19 +30,23 @@ use Rattle.pit_counter.proofs.stretch.next_leap.Goals as goal
 
 pub returns-then-quiet-gt0-clause-state : goal.returns-then-quiet-gt0-clause-state
 returns-then-quiet-gt0-clause-state c =
-    let quiet : c.quiet_for.result ≡ quiet_for (next_effect c.args.p) c.args.p = c.quiet_for.ensures ∙ ap (λ (e : Effect). quiet_for e c.args.p) c.next_effect-effect.ensures in
+    let quiet : c.quiet_for.result ≡ quiet_for (next_effect c.args.p) c.args.p = c.quiet_for.ensures
+    ∙ ap (λ (e : Effect). quiet_for e c.args.p) c.next_effect-effect.ensures in
     let within : c.min-quiet.result ≤ quiet_for (next_effect c.args.p) c.args.p = omega (arith, c.min-quiet.ensures) in
-    c.glided.ensures ∙ ap (λ (e : Effect). glided e c.min-quiet.result c.args.p) c.next_effect-effect.ensures ∙ sym (pulsed_times-glided c.args.p c.min-quiet.result c.requires.below within)
+    c.glided.ensures ∙ ap (λ (e : Effect). glided e c.min-quiet.result c.args.p) c.next_effect-effect.ensures
+    ∙ sym (pulsed_times-glided c.args.p c.min-quiet.result c.requires.below within)
 
 pub returns-then-quiet-gt0-clause-count : goal.returns-then-quiet-gt0-clause-count
 returns-then-quiet-gt0-clause-count c =
-    let quiet : c.quiet_for.result ≡ quiet_for (next_effect c.args.p) c.args.p = c.quiet_for.ensures ∙ ap (λ (e : Effect). quiet_for e c.args.p) c.next_effect-effect.ensures in
+    let quiet : c.quiet_for.result ≡ quiet_for (next_effect c.args.p) c.args.p = c.quiet_for.ensures
+    ∙ ap (λ (e : Effect). quiet_for e c.args.p) c.next_effect-effect.ensures in
     let within : c.min-quiet.result ≤ quiet_for (next_effect c.args.p) c.args.p = omega (arith, c.min-quiet.ensures) in
     sym (rises_in-glided c.args.p c.min-quiet.result c.requires.below within)
 
 pub returns-then-quiet-gt0-clause-first : goal.returns-then-quiet-gt0-clause-first
 returns-then-quiet-gt0-clause-first c =
-    let quiet : c.quiet_for.result ≡ quiet_for (next_effect c.args.p) c.args.p = c.quiet_for.ensures ∙ ap (λ (e : Effect). quiet_for e c.args.p) c.next_effect-effect.ensures in
+    let quiet : c.quiet_for.result ≡ quiet_for (next_effect c.args.p) c.args.p = c.quiet_for.ensures
+    ∙ ap (λ (e : Effect). quiet_for e c.args.p) c.next_effect-effect.ensures in
     let within : c.min-quiet.result ≤ quiet_for (next_effect c.args.p) c.args.p = omega (arith, c.min-quiet.ensures) in
     rises_in-glided c.args.p c.min-quiet.result c.requires.below within
 
@@ -61,10 +65,13 @@ pub returns-clause-count : goal.returns-clause-count
 returns-clause-count c =
     let test = single_rises c.args.p c.pulsed-parts.result c.has_risen-rose.result c.pulsed-parts.ensures c.has_risen-rose.ensures in
     let none = rises_in-zero c.args.p in
-    c.with_pulse.ensures.count ∙ sym (rises_in-suc c.args.p 0 ∙ ap (λ (b : Bool). cond b (suc (rises_in c.args.p 0)) (rises_in c.args.p 0)) test ∙ ap (λ (n : ℕ). cond c.has_risen-rose.result (suc n) n) none)
+    c.with_pulse.ensures.count ∙ sym (rises_in-suc c.args.p 0 ∙ ap (λ (b : Bool). cond b (suc (rises_in c.args.p 0)) (rises_in c.args.p 0)) test
+    ∙ ap (λ (n : ℕ). cond c.has_risen-rose.result (suc n) n) none)
 
 pub returns-clause-first : goal.returns-clause-first
 returns-clause-first c =
     let test = single_rises c.args.p c.pulsed-parts.result c.has_risen-rose.result c.pulsed-parts.ensures c.has_risen-rose.ensures in
-    let first : first_more None 0 (rises_next (pulsed_times 0 c.args.p)) ≡ c.with_pulse.result.first = ap (first_more None 0) test ∙ sym c.with_pulse.ensures.first in
-    subst (λ (o : Option ℕ). IsFirst (rises_in c.args.p) 1 o) first (IsFirst-more (rises_in c.args.p) 0 (rises_next (pulsed_times 0 c.args.p)) None (rises_in-suc c.args.p 0) (rises_in-zero c.args.p))
+    let first : first_more None 0 (rises_next (pulsed_times 0 c.args.p)) ≡ c.with_pulse.result.first = ap (first_more None 0) test
+    ∙ sym c.with_pulse.ensures.first in
+    subst (λ (o : Option ℕ). IsFirst (rises_in c.args.p) 1 o) first
+    (IsFirst-more (rises_in c.args.p) 0 (rises_next (pulsed_times 0 c.args.p)) None (rises_in-suc c.args.p 0) (rises_in-zero c.args.p))

@@ -8,18 +8,23 @@ use Rattle.pit_counter.proofs.stretch.whole_periods.Goals.{After-meant_count-per
 
 the_round : (c : After-meant_count-period) → Round c.args.p c.meant_count-period.result
 the_round c =
-    let few : meant_count c.args.p.bits c.args.p.cr ≤ modulus c.args.p.bits = omega (arith, c.meant_count-period.ensures.greatest, c.meant_count-period.ensures.value) in
+    let few : meant_count c.args.p.bits c.args.p.cr ≤ modulus c.args.p.bits = omega
+    (arith, c.meant_count-period.ensures.greatest, c.meant_count-period.ensures.value) in
     subst (λ (n : ℕ). Round c.args.p n) (sym c.meant_count-period.ensures.value) (round c.args.p c.requires.begins c.requires.below few)
 
 some : (c : After-meant_count-period) → 1 ≤ c.args.n / c.meant_count-period.result
 some c = le-div 1 c.args.n c.meant_count-period.result c.meant_count-period.ensures.some (omega (arith, c.requires.one, c.meant_count-period.ensures.value))
 
 pub overflow_mul-result : goal.overflow_mul-result
-overflow_mul-result c = let within : c.args.n / c.meant_count-period.result * c.meant_count-period.result ≤ c.args.n = div-mul-le_self c.args.n c.meant_count-period.result in omega arith
+overflow_mul-result c =
+    let within : c.args.n / c.meant_count-period.result * c.meant_count-period.result ≤ c.args.n =
+    div-mul-le_self c.args.n c.meant_count-period.result in
+    omega arith
 
 pub returns-clause-forward : goal.returns-clause-forward
 returns-clause-forward c =
-    let more : 1 * c.meant_count-period.result ≤ c.args.n / c.meant_count-period.result * c.meant_count-period.result = mul-le-mul_right c.meant_count-period.result (some c) in
+    let more : 1 * c.meant_count-period.result ≤ c.args.n / c.meant_count-period.result * c.meant_count-period.result =
+    mul-le-mul_right c.meant_count-period.result (some c) in
     omega (arith, c.meant_count-period.ensures.some)
 
 pub returns-clause-within : goal.returns-clause-within

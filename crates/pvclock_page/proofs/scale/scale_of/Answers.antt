@@ -25,7 +25,8 @@ pub returns-clause-scale : goal.returns-clause-scale
 returns-clause-scale c =
     let bounds = widest_bounds c.args.hz c.requires.slow c.requires.fast in
     let full = filled _ bounds.0 bounds.1 in
-    rw c.from.ensures (IsScale-filled c.args.hz _ c.requires.slow c.requires.fast (shift_place (32 - count_leading_zeros 64 (34359738368000000000 / c.args.hz)) (omega (arith, full.0))))
+    rw c.from.ensures (IsScale-filled c.args.hz _ c.requires.slow c.requires.fast
+    (shift_place (32 - count_leading_zeros 64 (34359738368000000000 / c.args.hz)) (omega (arith, full.0))))
 
 pub returns-clause-only : goal.returns-clause-only
 returns-clause-only c =

@@ -9,7 +9,8 @@ loop-month-init c = omega (arith, days_of_months-zero c.args.year)
 
 pub loop-month-preserved : goal.loop-month-preserved
 loop-month-preserved c =
-    let next : days_of_months c.args.year (c.loop-month.month + 1 - 1) ≡ days_of_months c.args.year c.loop-month.month = ap (days_of_months c.args.year) (omega arith) in
+    let next : days_of_months c.args.year (c.loop-month.month + 1 - 1) ≡ days_of_months c.args.year c.loop-month.month =
+    ap (days_of_months c.args.year) (omega arith) in
     omega (arith, next, days_of_months-month c.args.year c.loop-month.month (omega arith))
 
 pub overflow_cast-result-2 : goal.overflow_cast-result-2

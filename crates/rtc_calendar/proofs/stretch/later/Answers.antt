@@ -4,5 +4,6 @@ use Rattle.rtc_calendar.proofs.stretch.later.Goals as goal
 
 pub returns : goal.returns
 returns c =
-    next_seconds-at c.args.m c.moment_at.result c.args.n (c.args.n / 86400 + (c.second_of_day.result + c.args.n % 86400) / 86400) c.requires c.moment_at.ensures.valid
+    next_seconds-at c.args.m c.moment_at.result c.args.n
+    (c.args.n / 86400 + (c.second_of_day.result + c.args.n % 86400) / 86400) c.requires c.moment_at.ensures.valid
     (omega arith) (omega arith) (omega arith) (omega arith)

@@ -15,5 +15,6 @@ returns-clause-second c =
 pub returns-clause-day : goal.returns-clause-day
 returns-clause-day c =
     let year = year_of_day-rest c.args.day c.requires.in_century in
-    day_number-at (c.args.second % 60) (c.args.second / 60 % 60) (c.args.second / 3600) c.args.weekday c.date_in_year-date.result.date c.date_in_year-date.result.month (c.args.day * 4 / 1461) c.args.day
+    day_number-at (c.args.second % 60) (c.args.second / 60 % 60)
+    (c.args.second / 3600) c.args.weekday c.date_in_year-date.result.date c.date_in_year-date.result.month (c.args.day * 4 / 1461) c.args.day
     year.1 (c.date_in_year-date.ensures.day ∙ ap (λ x. c.args.day - x) c.days_of_years.ensures.value)

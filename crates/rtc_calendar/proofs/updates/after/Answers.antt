@@ -4,7 +4,8 @@ use Rattle.rtc_calendar.specs.declared.calendar.Moment.{Moment}
 use Rattle.rtc_calendar.specs.Calendar.{IsMoment, next_seconds}
 use Rattle.rtc_calendar.specs.Updates.{bytes_of, updated_times, IsValid, IsDayLater}
 use Rattle.rtc_calendar.proofs.Days.{IsMoment-next_seconds}
-use Rattle.rtc_calendar.proofs.Times.{updated_times-some, IsValid-updated_times, IsValid-kept, IsDayLater-updated_times}
+use Rattle.rtc_calendar.proofs.Times.{updated_times-some, IsValid-updated_times, IsValid-kept}
+use Rattle.rtc_calendar.proofs.Times.{IsDayLater-updated_times}
 use Rattle.rtc_calendar.proofs.updates.after.Goals as goal
 
 pub bytes_of-requires : goal.bytes_of-requires

@@ -12,4 +12,5 @@ returns-then-is_spelt-clause-value c = λ number most.
     ∙ fits_byte-number c.args.binary c.args.alarm number c.if-alarm-ge-ANYTHING.false (sym c.if-is_spelt.ensures) most
 
 pub returns-else-is_spelt-clause-value : goal.returns-else-is_spelt-clause-value
-returns-else-is_spelt-clause-value c = λ number most. fits_byte-no_number c.args.binary c.args.alarm number c.if-alarm-ge-ANYTHING.false (sym c.if-is_spelt.ensures) most
+returns-else-is_spelt-clause-value c =
+    λ number most. fits_byte-no_number c.args.binary c.args.alarm number c.if-alarm-ge-ANYTHING.false (sym c.if-is_spelt.ensures) most

@@ -6,5 +6,5 @@ abbrev pub invariant-loop-edge : goal.invariant-loop-edge
 invariant-loop-edge g l = record {
   edges : l.edge-items ≡ l.edges;
   fits : length l.edge-items ≤ 24;
-  delivered : Delivered l.self.cpus (goal.F-post g l.self.f) (take l.edge-index l.edge-items) l.deliveries;
+  delivered : Delivered l.self.cpus (goal.F-post g l.self.hook) (take l.edge-index l.edge-items) l.deliveries;
 }

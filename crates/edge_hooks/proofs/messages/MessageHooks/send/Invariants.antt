@@ -6,5 +6,5 @@ abbrev pub invariant-loop-burst : goal.invariant-loop-burst
 invariant-loop-burst g l = record {
   bursts : l.burst-items ≡ l.bursts;
   fits : length l.burst-items ≤ 8;
-  sent : SentAll l.self.cpus (goal.G-post g l.self.g) (take l.burst-index l.burst-items) l.sent;
+  sent : SentAll l.self.cpus (goal.G-post g l.self.hook) (take l.burst-index l.burst-items) l.sent;
 }

@@ -7,12 +7,16 @@ use Rattle.hpet_registers.proofs.Halves.{hpet_written-halves}
 use Rattle.hpet_registers.proofs.hpet.Hpet.write.Goals as goal
 
 pub invariant_of-self : goal.invariant_of-self
-invariant_of-self c = rw c.register_written-self-inside.ensures (IsHpet-register_written c.register_at-register.result c.args.width _ c.args.v c.self.inside.parts c.self.invariant c.register_at-register.ensures.range)
+invariant_of-self c = rw c.register_written-self-inside.ensures
+    (IsHpet-register_written c.register_at-register.result c.args.width _ c.args.v c.self.inside.parts c.self.invariant c.register_at-register.ensures.range)
 
 pub returns-then-is_effective-clause-quiet : goal.returns-then-is_effective-clause-quiet
-returns-then-is_effective-clause-quiet c = rw (← c.self.view_is) (subst (λ (h : HpetParts). bit_and h.status c.self.inside.parts.status ≡ h.status) (sym c.register_written-self-inside.ensures) (status-register_written c.register_at-register.result c.args.width _ c.args.v c.self.inside.parts))
+returns-then-is_effective-clause-quiet c = rw (← c.self.view_is)
+    (subst (λ (h : HpetParts). bit_and h.status c.self.inside.parts.status ≡ h.status) (sym c.register_written-self-inside.ensures)
+    (status-register_written c.register_at-register.result c.args.width _ c.args.v c.self.inside.parts))
 
 pub returns-then-is_effective-clause-halves : goal.returns-then-is_effective-clause-halves
 returns-then-is_effective-clause-halves c = rw (← c.self.view_is) (λ whole aligned plain.
     let value : c.register_written-self-inside.result ≡ hpet_written c.args.offset c.args.width c.args.v c.self.inside.parts = search rules in
-    value ∙ (ap (λ (w : ℕ). hpet_written c.args.offset w c.args.v c.self.inside.parts) whole ∙ hpet_written-halves c.args.offset c.args.v c.self.inside.parts aligned plain))
+    value ∙ (ap (λ (w : ℕ). hpet_written c.args.offset w c.args.v c.self.inside.parts) whole
+    ∙ hpet_written-halves c.args.offset c.args.v c.self.inside.parts aligned plain))
