@@ -101,7 +101,7 @@ impl Reading {
                     line: self.parts.lines,
                     reason,
                 };
-                self.parts.stage = Stage::Refused(fault);
+                self.parts.stage.refuse(fault);
                 Err(fault)
             }
         }
@@ -136,6 +136,24 @@ impl Stage {
         }
     }
 
+    /// A line is refused.
+    #[inline(never)]
+    #[cold]
+    fn refuse(&mut self, fault: RecordFault)
+        ensures { self.new ≡ Stage.Refused fault }
+    {
+        *self = Stage::Refused(fault);
+    }
+
+    /// The trace has ended.
+    #[inline(never)]
+    #[cold]
+    fn end(&mut self)
+        ensures { self.new ≡ Stage.Ended }
+    {
+        *self = Stage::Ended;
+    }
+
     /// What a line is, and the stage behind it.
     #[inline(always)]
     #[tactic(auto, unfolding(crate::specs::Lines::stepped))]
@@ -157,7 +175,7 @@ impl Stage {
         match self {
             Stage::Running(body) => {
                 if line == b"end".as_slice() {
-                    *self = Stage::Ended;
+                    self.end();
                     return Ok(Item::End);
                 }
                 let record = body.record(&mut Words::new(line))?;
@@ -168,6 +186,8 @@ impl Stage {
     }
 
     /// The same before `begin`.
+    #[inline(never)]
+    #[cold]
     #[tactic(auto, unfolding(crate::specs::Lines::stepped))]
     fn step_in_header(&mut self, line: &[u8]) -> Result<Item, Reason>
         requires valid { IsStage self.old }

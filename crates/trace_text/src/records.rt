@@ -90,6 +90,7 @@ fn out_job(body: &Body, words: &mut Words<'_>) -> Result<Job, Reason>
     board(body, Access::PortOut { port, byte })
 }
 
+#[inline(never)]
 fn hr_job(body: &Body, words: &mut Words<'_>) -> Result<Job, Reason>
     ensures job { result ≡ hr_row body.now words.old }
     ensures valid { IfOk result (IsJob body.now) }
@@ -100,6 +101,7 @@ fn hr_job(body: &Body, words: &mut Words<'_>) -> Result<Job, Reason>
     board(body, Access::HpetRead { offset, width })
 }
 
+#[inline(never)]
 fn hw_job(body: &Body, words: &mut Words<'_>) -> Result<Job, Reason>
     ensures job { result ≡ hw_row body.now words.old }
     ensures valid { IfOk result (IsJob body.now) }
@@ -279,6 +281,7 @@ fn job_in(body: &Body, words: &mut Words<'_>) -> Result<Job, Reason>
     }
 }
 
+#[inline(never)]
 fn msr_job(body: &Body, words: &mut Words<'_>) -> Result<Job, Reason>
     ensures job { result ≡ by_table (msr_rows body.now ++ told_rows body.now ++ last_rows body.now) words.old }
     ensures valid { IfOk result (IsJob body.now) }
@@ -298,6 +301,7 @@ fn msr_job(body: &Body, words: &mut Words<'_>) -> Result<Job, Reason>
     }
 }
 
+#[inline(never)]
 fn told_job(body: &Body, words: &mut Words<'_>) -> Result<Job, Reason>
     ensures job { result ≡ by_table (told_rows body.now ++ last_rows body.now) words.old }
     ensures valid { IfOk result (IsJob body.now) }
@@ -317,6 +321,7 @@ fn told_job(body: &Body, words: &mut Words<'_>) -> Result<Job, Reason>
     }
 }
 
+#[inline(never)]
 fn last_job(body: &Body, words: &mut Words<'_>) -> Result<Job, Reason>
     ensures job { result ≡ by_table (last_rows body.now) words.old }
     ensures valid { IfOk result (IsJob body.now) }
