@@ -1,5 +1,5 @@
 //! Records: what a processor does at a host counter.
-ghost use Rattle.std.specs.Prelude.{◌≡◌, ◌<◌, ◌≤◌, ◌++◌, Ok, IfOk, OnSome};
+ghost use Rattle.std.specs.Prelude.{◌≡◌, ◌<◌, ◌≤◌, ◌++◌, Ok, IfOk, OnErr, OnSome};
 ghost use Rattle.trace_text.specs.Tokens.{rest};
 ghost use Rattle.trace_text.specs.Rows.{by_table, last};
 ghost use Rattle.trace_text.specs.Records.{board, to_msr, on_page, source, in_row, out_row, hr_row, hw_row, rdmsr_row, wrmsr_row, ack_row, rose_row, counts_row, refresh_row, page_row, clock_row, move_row, page_at, port_rows, msr_rows, told_rows, last_rows, job_of, record_of, in_turn, body_behind, IsJob, IsRecord};
@@ -346,6 +346,7 @@ impl Body {
         ensures record { result ≡ record_of self.old words.old }
         ensures valid { IfOk result (IsRecord self.old) }
         ensures behind { IfOk result (λ r. self.new ≡ body_behind self.old r) }
+        ensures still { OnErr result (self.new ≡ self.old) }
     {
         let cpu = words.dec().ok_or(Reason::Form)?;
         let h = words.dec().ok_or(Reason::Form)?;
@@ -361,6 +362,7 @@ impl Body {
         ensures record { result ≡ in_turn self.old cpu h job }
         ensures valid { IfOk result (IsRecord self.old) }
         ensures behind { IfOk result (λ r. self.new ≡ body_behind self.old r) }
+        ensures still { OnErr result (self.new ≡ self.old) }
     {
         if cpu >= u64::from(self.cpus) {
             return Err(Reason::Cpu);
