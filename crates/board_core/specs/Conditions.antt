@@ -58,7 +58,7 @@ pub record IsWall (number version nsec : ℕ) : Type 0 where
 abbrev pub flags_valid : ℕ → Bool
 flags_valid flags = flags == 1 || flags == 3
 
--- a processor: all is 0 before its page is published first; then the page has the scale of the guest
+-- a processor: all is 0 before its page is published first; then the page has the guest's scale
 pub record IsProcessor (guest_khz : ℕ) (p : ProcessorParts) : Type 0 where
   pub version : IsVersion p.version
   pub time : p.system_time < RANGE_NS

@@ -54,7 +54,8 @@ impl BoardState {
 
     /// Whether the accesses are spent.
     fn spent(&self) -> Option<Refusal>
-        ensures { result ≡ (if nat_le MOST_ACCESSES self.now.accesses then Some (Spent self.now.accesses) else None) }
+        ensures { result ≡ (if nat_le MOST_ACCESSES self.now.accesses
+            then Some (Spent self.now.accesses) else None) }
     {
         if self.accesses >= MOST_ACCESSES {
             Some(Refusal::Spent {

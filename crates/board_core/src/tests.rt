@@ -2,6 +2,8 @@
 ghost use Rattle.std.specs.Prelude.{◌≤◌};
 ghost use Rattle.board_types.specs.Setup.{IsSetup};
 
+mod steps;
+
 use super::*;
 use host_counter::{Anchor, TimeFault};
 use irq_edges::Edge;

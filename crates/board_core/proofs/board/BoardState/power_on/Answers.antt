@@ -34,4 +34,5 @@ invariant_of-result c = record {
 }
   where
     none : (k : ℕ) → (line_at k (devices_of_setup c.args.setup.now)).counts.due ≡ 0
-    none k = due_at_power_on (timers_of c.args.setup.now.format) c.args.setup.now.pit c.args.setup.now.rtc c.args.setup.now.hpet c.args.setup.now.slew_ns c.args.setup.now.time k
+    none k = due_at_power_on (timers_of c.args.setup.now.format) c.args.setup.now.pit c.args.setup.now.rtc c.args.setup.now.hpet
+        c.args.setup.now.slew_ns c.args.setup.now.time k
