@@ -2,7 +2,19 @@
 use Rattle.std.proofs.Common.{◌≡◌, ℕ, refl}
 use Rattle.board_types.specs.declared.access.Access.{Access}
 use Rattle.board_types.specs.declared.access.Access.TheVariants.{
-  PortIn, PortOut, HpetRead, HpetWrite, MsrRead, MsrWrite, Ack, Step, Refresh, Wall, CountsOf, Next, Rose,
+  PortIn,
+  PortOut,
+  HpetRead,
+  HpetWrite,
+  MsrRead,
+  MsrWrite,
+  Ack,
+  Step,
+  Refresh,
+  Wall,
+  CountsOf,
+  Next,
+  Rose,
 }
 use Rattle.board_types.specs.declared.parts.BoardParts.{BoardParts}
 use Rattle.board_devices.specs.Act.{value_of}

@@ -75,7 +75,7 @@ pub record AreProcessors (guest_khz cpus : ℕ) (ps : List ProcessorParts) : Typ
 -- the counts of rises: only an access lets a line fall, and once at most; format 1 counts none
 pub record AreRises (format accesses : ℕ) (lines : List Bool) (rises : List ℕ) : Type 0 where
   pub most : (k : ℕ) → k < 6 → slice_index_or rises k 0
-    ≤ accesses + one_if (level_of line_numbers lines (slice_index_or line_numbers k 0))
+      ≤ accesses + one_if (level_of line_numbers lines (slice_index_or line_numbers k 0))
   pub none : format ≤ 1 → (k : ℕ) → slice_index_or rises k 0 ≡ 0
 
 -- what joins the devices and the rest of a board

@@ -37,14 +37,7 @@ use Rattle.board_types.specs.declared.access.TheConstants.{
 }
 use Rattle.board_types.specs.declared.parts.BoardParts.{BoardParts}
 use Rattle.board_types.specs.declared.parts.ProcessorParts.{ProcessorParts}
-use Rattle.board_core.specs.Tsc.{
-  no_processor,
-  processor_at,
-  tsc_of,
-  with_tsc,
-  tsc_read,
-  msr_written,
-}
+use Rattle.board_core.specs.Tsc.{no_processor, processor_at, with_tsc, tsc_read, msr_written}
 
 -- a processor's page is published at count h, with these flags: its version goes up by 2, and it
 -- tells the TSC and the time at h, and the scale of the guest's rate
@@ -108,16 +101,16 @@ processors_after anchor guest_khz cpu h a ps =
 unfoldable pub published_at_host : ℕ → Tsc → ℕ → BoardParts → BoardParts
 published_at_host cpu tsc flags b = record b {
   processors = slice_set b.processors cpu
-    (published b.anchor b.guest_khz b.host flags (with_tsc tsc (processor_at b cpu)));
+      (published b.anchor b.guest_khz b.host flags (with_tsc tsc (processor_at b cpu)));
 }
 
 -- a read of a page at count h: the time that it gives at the TSC there, by the page's own offset
 unfoldable pub page_reply : BoardParts → ℕ → ℕ → PageReply
 page_reply b cpu h =
     if (page_in (processor_at b cpu)).enabled then
-      On (page_in (processor_at b cpu))
-      (reading_of (page_in (processor_at b cpu))
-      (tsc_by (page_in (processor_at b cpu)).offset h (ratio_of b.guest_khz b.anchor.khz)))
+    On (page_in (processor_at b cpu))
+    (reading_of (page_in (processor_at b cpu))
+    (tsc_by (page_in (processor_at b cpu)).offset h (ratio_of b.guest_khz b.anchor.khz)))
     else Off
 
 -- the clamp: a clock tells the greater of a page's reading and of all that was told before

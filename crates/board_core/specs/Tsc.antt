@@ -62,7 +62,7 @@ msr_read b cpu h msr =
 abbrev pub tsc_after : Anchor → ℕ → ℕ → ℕ → ℕ → Tsc → Tsc
 tsc_after anchor guest_khz h msr v tsc =
     if msr == MSR_TSC then
-      moved_by (difference v (tsc_at tsc h (ratio_of guest_khz anchor.khz))) tsc
+    moved_by (difference v (tsc_at tsc h (ratio_of guest_khz anchor.khz))) tsc
     else (if msr == MSR_TSC_ADJUST then moved_by (difference v tsc.adjust) tsc else tsc)
 
 -- a processor behind it; MSR_KVM_SYSTEM_TIME_NEW keeps v

@@ -11,7 +11,9 @@ ghost use Rattle.board_core.specs.Refusals.{version_at, raised_version, spent_ve
 
 use crate::board::BoardState;
 use crate::processors::published_by;
-use board_types::{Access, LAST_VERSION, MOST_ACCESSES, MSR_KVM_WALL_CLOCK, ProcessorParts, Refusal};
+use board_types::{
+    Access, LAST_VERSION, MOST_ACCESSES, MSR_KVM_WALL_CLOCK, ProcessorParts, Refusal,
+};
 use host_counter::TimeFault;
 
 impl BoardState {

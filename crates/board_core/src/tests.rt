@@ -109,7 +109,14 @@ const fn read(h: u64, port: u8, byte: u8) -> (u64, Access, Value) {
 }
 
 /// Ticks of a source: due, rises, queue, lost.
-const fn counts(h: u64, from: TickSource, due: u64, rises: u64, queue: u64, lost: u64) -> (u64, Access, Value) {
+const fn counts(
+    h: u64,
+    from: TickSource,
+    due: u64,
+    rises: u64,
+    queue: u64,
+    lost: u64,
+) -> (u64, Access, Value) {
     let counts = Counts {
         due,
         rises,
@@ -122,7 +129,11 @@ const fn counts(h: u64, from: TickSource, due: u64, rises: u64, queue: u64, lost
 #[test]
 fn ticks_of_the_8254_in_modes_0_2_and_3(rt: HostRuntime) {
     let mut first = board(Policy::Delay);
-    let rows = [out(0x43, 0x10), out(0x40, 1), counts(2_000, TickSource::Pit, 1, 1, 0, 0)];
+    let rows = [
+        out(0x43, 0x10),
+        out(0x40, 1),
+        counts(2_000, TickSource::Pit, 1, 1, 0, 0),
+    ];
     play(&rt, &mut first, &rows, &[(1677, 0, true)]);
     let mut second = board(Policy::Delay);
     let rows = [
@@ -148,11 +159,21 @@ fn ticks_of_the_8254_in_modes_0_2_and_3(rt: HostRuntime) {
 fn the_next_edge_of_a_whole_count(rt: HostRuntime) {
     let mut binary = board(Policy::Delay);
     let next = (0, Access::Next, Value::Next(Some(54_926_240)));
-    play(&rt, &mut binary, &[out(0x43, 0x34), out(0x40, 0), out(0x40, 0), next], &[]);
+    play(
+        &rt,
+        &mut binary,
+        &[out(0x43, 0x34), out(0x40, 0), out(0x40, 0), next],
+        &[],
+    );
     assert_eq!(rt; binary.next_edge(), Some(54_926_240));
     let mut decimal = board(Policy::Delay);
     let next = (0, Access::Next, Value::Next(Some(8_381_790)));
-    play(&rt, &mut decimal, &[out(0x43, 0x35), out(0x40, 0), out(0x40, 0), next], &[]);
+    play(
+        &rt,
+        &mut decimal,
+        &[out(0x43, 0x35), out(0x40, 0), out(0x40, 0), next],
+        &[],
+    );
     let mut none = board(Policy::Delay);
     play(&rt, &mut none, &[(0, Access::Next, Value::Next(None))], &[]);
 }
@@ -165,8 +186,22 @@ fn a_first_of_two_bytes_takes_the_line_down(rt: HostRuntime) {
         out(0x40, 2),
         out(0x40, 0),
         (3_000, Access::Ack { line: 0 }, Value::Nothing),
-        (3_000, Access::PortOut { port: 0x40, byte: 5 }, Value::Nothing),
-        (5_000, Access::PortOut { port: 0x43, byte: 0xe2 }, Value::Nothing),
+        (
+            3_000,
+            Access::PortOut {
+                port: 0x40,
+                byte: 5,
+            },
+            Value::Nothing,
+        ),
+        (
+            5_000,
+            Access::PortOut {
+                port: 0x43,
+                byte: 0xe2,
+            },
+            Value::Nothing,
+        ),
         read(5_000, 0x40, 0x30),
         read(5_000, 0x40, 0),
         read(5_000, 0x40, 0),
@@ -201,9 +236,16 @@ fn a_tick_of_the_clock_that_waits_shows_at_a_read_of_c(rt: HostRuntime) {
         read(2_000_000, 0x71, 0xc0),
         counts(2_000_000, TickSource::Rtc, 2, 2, 0, 0),
     ];
-    let edges = [(976_563, 8, true), (2_000_000, 8, false), (2_000_000, 8, true)];
+    let edges = [
+        (976_563, 8, true),
+        (2_000_000, 8, false),
+        (2_000_000, 8, true),
+    ];
     play(&rt, &mut board, &rows, &edges);
-    assert_eq!(rt; board.lines().levels, [false, true, false, false, false, false]);
+    assert_eq!(rt;
+        board.lines().levels,
+        [false, true, false, false, false, false]
+    );
     assert_eq!(rt; (board.now(), board.accesses()), (2_000_000, 6));
 }
 
@@ -219,7 +261,11 @@ const fn hpet_write(offset: u16, value: u64) -> (u64, Access, Value) {
 
 /// A read of 8 bytes of the HPET.
 const fn hpet_read(h: u64, offset: u16, value: u64) -> (u64, Access, Value) {
-    (h, Access::HpetRead { offset, width: 8 }, Value::Word { width: 8, value })
+    (
+        h,
+        Access::HpetRead { offset, width: 8 },
+        Value::Word { width: 8, value },
+    )
 }
 
 #[test]
@@ -272,7 +318,12 @@ fn ten_missed_ticks_under_each_policy(rt: HostRuntime) {
         ack,
         counts(39_000, TickSource::Pit, 11, 1, 0, 10),
     ];
-    play(&rt, &mut discard, &rows, &[(4191, 0, true), (38_000, 0, false)]);
+    play(
+        &rt,
+        &mut discard,
+        &rows,
+        &[(4191, 0, true), (38_000, 0, false)],
+    );
     let mut delay = board(Policy::Delay);
     play(&rt, &mut delay, &begin, &[]);
     let rows = [
@@ -280,7 +331,12 @@ fn ten_missed_ticks_under_each_policy(rt: HostRuntime) {
         ack,
         counts(39_000, TickSource::Pit, 11, 2, 9, 0),
     ];
-    play(&rt, &mut delay, &rows, &[(4191, 0, true), (38_000, 0, false), (38_000, 0, true)]);
+    play(
+        &rt,
+        &mut delay,
+        &rows,
+        &[(4191, 0, true), (38_000, 0, false), (38_000, 0, true)],
+    );
     let mut slew = board(Policy::Slew);
     play(&rt, &mut slew, &begin, &[]);
     let rows = [
@@ -288,7 +344,12 @@ fn ten_missed_ticks_under_each_policy(rt: HostRuntime) {
         ack,
         counts(39_000, TickSource::Pit, 11, 2, 9, 0),
     ];
-    play(&rt, &mut slew, &rows, &[(4191, 0, true), (38_000, 0, false), (39_000, 0, true)]);
+    play(
+        &rt,
+        &mut slew,
+        &rows,
+        &[(4191, 0, true), (38_000, 0, false), (39_000, 0, true)],
+    );
 }
 
 #[test]
@@ -299,8 +360,22 @@ fn ten_years_in_one_step(rt: HostRuntime) {
         out(0x43, 0x34),
         out(0x40, 4),
         out(0x40, 0),
-        counts(years, TickSource::Pit, 94_070_468_879_999, 1, 94_070_468_879_998, 0),
-        (years, Access::PortOut { port: 0x70, byte: 7 }, Value::Nothing),
+        counts(
+            years,
+            TickSource::Pit,
+            94_070_468_879_999,
+            1,
+            94_070_468_879_998,
+            0,
+        ),
+        (
+            years,
+            Access::PortOut {
+                port: 0x70,
+                byte: 7,
+            },
+            Value::Nothing,
+        ),
         read(years, 0x71, 0x29),
     ];
     play(&rt, &mut board, &rows, &[(4191, 0, true)]);
@@ -420,7 +495,10 @@ fn a_move_to_a_faster_host(rt: HostRuntime) {
         up: true,
     };
     assert_eq!(rt; ran.edges.as_slice().first().copied(), Some(rise));
-    assert_eq!(rt; (ran.edges.len(), board.now(), board.accesses()), (1, 1_000_002_000, 5));
+    assert_eq!(rt;
+        (ran.edges.len(), board.now(), board.accesses()),
+        (1, 1_000_002_000, 5)
+    );
     let rows = [counts(500, TickSource::Pit, 18, 1, 17, 0)];
     play(&rt, &mut board, &rows, &[]);
 }
@@ -452,6 +530,9 @@ fn refusals_leave_the_board(rt: HostRuntime) {
         }
     }
     if board.cpus() == 1 {
-        assert_eq!(rt; board.page_of(0, 99), Err(TimeFault::BeforeStart { start: 100 }));
+        assert_eq!(rt;
+            board.page_of(0, 99),
+            Err(TimeFault::BeforeStart { start: 100 })
+        );
     }
 }

@@ -128,7 +128,9 @@ fn compare(rt: &impl Abort, policy: Policy, seed: u64) {
         assert_eq!(rt; reply.edges, edges, "{access:?} at {h}");
         assert_eq!(rt; board.lines(), stepped.lines());
         if n % 10 == 0 {
-            let next = board.next_edge().filter(|t| *t <= board.now().wrapping_add(300));
+            let next = board
+                .next_edge()
+                .filter(|t| *t <= board.now().wrapping_add(300));
             assert_eq!(rt; next, next_by_steps(rt, &board));
         }
     }
