@@ -1,5 +1,8 @@
 -- The conditions on the parts of a board are kept.
-use Rattle.std.proofs.Common.{◌≡◌, ℕ, zero, suc, ◌+◌, ◌<◌, ◌≤◌, ◌⊎◌, Bool, true, false, cond, leb, eqb, List, length, get_or, set, replicate, Option, Some, None, IfSome, IsTrue, refl, sym, ap, subst, ◌∙◌, arith, inl, inr}
+use Rattle.std.proofs.Common.{
+  ◌≡◌, ℕ, zero, suc, ◌+◌, ◌<◌, ◌≤◌, ◌⊎◌, Bool, true, false, cond, leb, eqb, List, length, get_or, set, replicate, Option, Some, None, IfSome, IsTrue,
+  refl, sym, ap, subst, ◌∙◌, arith, inl, inr,
+}
 use Rattle.std.proofs.lemmas.Bool.{cases_lt, cases_eq}
 use Rattle.std.proofs.lemmas.List.{get_or-set_same, get_or-set_other}
 use Rattle.irq_edges.specs.declared.edges.Edge.{Edge}
