@@ -1,5 +1,8 @@
 -- The conditions on the parts of a board are kept.
-use Rattle.std.proofs.Common.{◌≡◌, ℕ, zero, suc, pos, ◌+◌, ◌*◌, ◌%◌, ◌^◌, ◌<◌, ◌≤◌, ◌⊎◌, Bool, true, false, cond, leb, eqb, List, length, get_or, set, replicate, Option, Some, None, IfSome, IsTrue, refl, sym, ap, subst, ◌∙◌, arith, inl, inr}
+use Rattle.std.proofs.Common.{
+  ◌≡◌, ℕ, zero, suc, ◌+◌, ◌<◌, ◌≤◌, ◌⊎◌, Bool, true, false, cond, leb, eqb, List, length, get_or, set, replicate, Option, Some, None, IfSome, IsTrue,
+  refl, sym, ap, subst, ◌∙◌, arith, inl, inr,
+}
 use Rattle.std.proofs.lemmas.Bool.{cases_lt, cases_eq}
 use Rattle.std.proofs.lemmas.List.{get_or-set_same, get_or-set_other}
 use Rattle.irq_edges.specs.declared.edges.Edge.{Edge}
@@ -66,9 +69,10 @@ AreProcessors-set guest_khz cpus ps i x long inside most valid new = record { ea
     at : (k : ℕ) → IsProcessor guest_khz (get_or (set ps i x) k no_processor)
     at k = elim (cases_eq k i) [
       | inl same ↦ subst (λ (p : ProcessorParts). IsProcessor guest_khz p)
-            (sym (ap (λ (j : ℕ). get_or (set ps i x) j no_processor) same ∙ get_or-set_same ps i x no_processor (omega (arith, long)))) new
+          (sym (ap (λ (j : ℕ). get_or (set ps i x) j no_processor) same ∙ get_or-set_same ps i x no_processor (omega (arith, long)))) new
       | inr other ↦ subst (λ (p : ProcessorParts). IsProcessor guest_khz p) (sym (get_or-set_other ps i k x no_processor other)) (valid.each k)
     ]
+
     others : (k : ℕ) → cpus ≤ k → get_or (set ps i x) k no_processor ≡ no_processor
     others k more = get_or-set_other ps i k x no_processor (λ (e : k ≡ i). omega (arith, e)) ∙ valid.absent k more
 
@@ -107,7 +111,8 @@ AreProcessors-none guest_khz cpus n = record {
     none (suc n) (suc k) = none n k
 
 -- the counts of rises behind these edges
-pub AreRises-after : (format n m d : ℕ) (before after : List Bool) (es : List Edge) (rises : List ℕ) → length rises ≡ 6 → n + d ≡ m → AreRises format n before rises
+pub AreRises-after : (format n m d : ℕ) (before after : List Bool) (es : List Edge) (rises : List ℕ) → length rises ≡ 6 → n + d ≡ m
+    → AreRises format n before rises
     → ((line : ℕ) → lifts line es + one_if (level_of line_numbers before line) ≤ d + one_if (level_of line_numbers after line))
     → AreRises format m after (rises_after format es rises)
 AreRises-after format n m d before after es rises long sum valid lifted = record {
@@ -131,9 +136,14 @@ pub IsWall-after : (a : Access) (number version nsec : ℕ) → (publishes_wall 
     → IsWall (wall_number_after a number) (wall_version_after a version) nsec
 IsWall-after (MsrWrite msr v) number version nsec fresh valid = elim (eqb msr MSR_KVM_WALL_CLOCK) as
     (λ (b : Bool). (b ≡ true → version < LAST_VERSION) → IsWall (cond b v number) (cond b (version + 2) version) nsec) [
-  | true ↦ λ less. record { words = IsVersion-raised version valid.words (less refl); unpublished = λ e. absurd (omega (arith, e)); below_second = valid.below_second }
-  | false ↦ λ less. valid
-] fresh
+      | true ↦ λ less. record {
+        words = IsVersion-raised version valid.words (less refl);
+        unpublished = λ e. absurd
+            (omega (arith, e));
+        below_second = valid.below_second;
+      }
+      | false ↦ λ less. valid
+    ] fresh
 IsWall-after _ number version nsec fresh valid = valid
 
 -- no format has more than 64 processors
@@ -148,13 +158,14 @@ pub most-cpus : (format cpus timers : ℕ) → IsFormat format cpus timers → c
 most-cpus format cpus timers valid = omega (arith, valid.most_cpus, processors_of-most format)
 
 -- a later format
-pub IsFormat-later : (format to cpus timers more : ℕ) → IsFormat format cpus timers → format ≤ to → to ≤ 2 → more ≡ cond (gets_timers format to) 8 timers → IsFormat to cpus more
+pub IsFormat-later : (format to cpus timers more : ℕ) → IsFormat format cpus timers → format ≤ to → to ≤ 2
+    → more ≡ cond (gets_timers format to) 8 timers → IsFormat to cpus more
 IsFormat-later format to cpus timers more valid later built e = elim (cases_lt format 2) [
   | inl old ↦
       let first : 1 ≡ format = omega (arith, valid.least) in
       from first (elim (cases_lt to 2) [
-      | inl stays ↦ let same : 1 ≡ to = omega (arith, valid.least) in inl same
-      | inr grows ↦ let second : 2 ≡ to = omega arith in inr second
+        | inl stays ↦ let same : 1 ≡ to = omega (arith, valid.least) in inl same
+        | inr grows ↦ let second : 2 ≡ to = omega arith in inr second
       ])
   | inr new ↦
       let second : 2 ≡ format = omega (arith, valid.last) in
@@ -165,17 +176,25 @@ IsFormat-later format to cpus timers more valid later built e = elim (cases_lt f
   where
     from : 1 ≡ format → (1 ≡ to) ⊎ (2 ≡ to) → IsFormat to cpus more
     from first (inl same) =
-        let timers_are : more ≡ timers = subst (λ (t : ℕ). more ≡ cond (gets_timers 1 t) 8 timers) (sym same) (subst (λ (f : ℕ). more ≡ cond (gets_timers f to) 8 timers) (sym first) e) in
+        let timers_are : more ≡ timers = subst (λ (t : ℕ). more ≡ cond (gets_timers 1 t) 8 timers) (sym same)
+        (subst (λ (f : ℕ). more ≡ cond (gets_timers f to) 8 timers) (sym first) e) in
         subst (λ (f : ℕ). IsFormat f cpus more) (sym first ∙ same) (subst (λ (n : ℕ). IsFormat format cpus n) (sym timers_are) valid)
     from first (inr second) =
-        let eight : more ≡ 8 = subst (λ (t : ℕ). more ≡ cond (gets_timers 1 t) 8 timers) (sym second) (subst (λ (f : ℕ). more ≡ cond (gets_timers f to) 8 timers) (sym first) e) in
+        let eight : more ≡ 8 = subst (λ (t : ℕ). more ≡ cond (gets_timers 1 t) 8 timers) (sym second)
+        (subst (λ (f : ℕ). more ≡ cond (gets_timers f to) 8 timers) (sym first) e) in
         let old : IsFormat 1 cpus timers = subst (λ (f : ℕ). IsFormat f cpus timers) (sym first) valid in
         subst (λ (f : ℕ). IsFormat f cpus more) second (record {
-          least = omega arith; last = omega arith; least_cpus = valid.least_cpus; most_cpus = omega (arith, old.most_cpus); has_timers = eight;
+          least = omega arith;
+          last = omega arith;
+          least_cpus = valid.least_cpus;
+          most_cpus = omega (arith, old.most_cpus);
+          has_timers = eight;
         })
 
-pub AreRises-later : (format to accesses : ℕ) (lines more : List Bool) (rises : List ℕ) → AreRises format accesses lines rises → format ≤ to → lines ≡ more → AreRises to accesses more rises
+pub AreRises-later : (format to accesses : ℕ) (lines more : List Bool) (rises : List ℕ) → AreRises format accesses lines rises → format ≤ to
+    → lines ≡ more → AreRises to accesses more rises
 AreRises-later format to accesses lines more rises valid later same = record {
-  most = λ k less. subst (λ (ls : List Bool). get_or rises k 0 ≤ accesses + one_if (level_of line_numbers ls (get_or line_numbers k 0))) same (valid.most k less);
+  most = λ k less. subst (λ (ls : List Bool). get_or rises k 0 ≤ accesses + one_if (level_of line_numbers ls (get_or line_numbers k 0))) same
+      (valid.most k less);
   none = λ first k. valid.none (omega (arith, later)) k;
 }

@@ -1,6 +1,5 @@
 -- Rows on the definitions: each rule at one small case, so that a weaker rule is seen.
-use Rattle.std.proofs.Common.{◌≡◌, ℕ, pos, ◌+◌, ◌-◌, ◌<◌, ◌^◌, Bool, true, false, List, [], ◌∷◌, Option, Some, None, IsTrue, refl, ap, arith}
-use Rattle.clk_units.specs.Pulses.{pulses_by, falls_at, pulses_from, time_of}
+use Rattle.std.proofs.Common.{◌≡◌, ℕ, pos, ◌+◌, ◌-◌, ◌^◌, true, false, List, [], ◌∷◌, Some, None, refl, ap, arith}
 use Rattle.host_counter.specs.declared.Anchor.{Anchor}
 use Rattle.host_counter.specs.Time.{time_at}
 use Rattle.tsc_scale.specs.Offset.{tsc_by}
@@ -9,10 +8,8 @@ use Rattle.pvclock_page.specs.declared.page.PageReply.TheVariants.{Off, On}
 use Rattle.pvclock_page.specs.declared.page.ClockReply.TheVariants.{Off as ClockOff, On as ClockOn}
 use Rattle.pvclock_page.specs.Scale.{mul_for, shift_for}
 use Rattle.pvclock_page.specs.Reading.{reading_of}
-use Rattle.rtc_calendar.specs.declared.TimeBytes.{TimeBytes}
 use Rattle.tick_policy.specs.declared.parts.Policy.TheVariants.{Delay}
-use Rattle.board_types.specs.declared.access.Access.{Access}
-use Rattle.board_types.specs.declared.access.Access.TheVariants.{PortIn, PortOut, MsrWrite, Step, Refresh, Wall, Next}
+use Rattle.board_types.specs.declared.access.Access.TheVariants.{PortIn, PortOut, MsrWrite, Step, Refresh}
 use Rattle.board_types.specs.declared.parts.BoardParts.{BoardParts}
 use Rattle.board_types.specs.declared.parts.ProcessorParts.{ProcessorParts}
 use Rattle.board_types.specs.declared.reply.Refusal.TheVariants.{BeforeStart, OutOfRange, VersionsSpent, Spent}
@@ -21,7 +18,7 @@ use Rattle.board_types.specs.declared.setup.Setup.{Setup}
 use Rattle.board_devices.specs.declared.act.Act.TheVariants.{PitRead, PitWrite, IndexRead, IndexWrite, ClockRead, ClockWrite, Nothing}
 use Rattle.board_core.specs.Time.{now_of, time_of_access}
 use Rattle.board_core.specs.Tsc.{no_processor, msr_read, msr_written}
-use Rattle.board_core.specs.Pages.{published, page_in, published_by, published_at, page_reply, clamped, greatest_with}
+use Rattle.board_core.specs.Pages.{published, page_in, published_by, page_reply, clamped, greatest_with}
 use Rattle.board_core.specs.Wall.{wall_number_after, wall_version_after, wall_words}
 use Rattle.board_core.specs.Refusals.{refusal_of}
 use Rattle.board_core.specs.Rises.{rises_after, count_at}
@@ -38,8 +35,17 @@ moved = record { khz = 3000000; start = 500; base_ns = 1000002000 }
 
 abbrev setup : Setup
 setup = record {
-  format = 2; anchor = record { khz = 1000000; start = 100; base_ns = 5000 }; guest_khz = 2000000; cpus = 2; pit = Delay; rtc = Delay; hpet = Delay;
-  slew_ns = 1000; wall_sec = 7; wall_nsec = 9; time = record { sec = 0; min = 0; hour = 0; wday = 1; date = 1; month = 1; year = 0 };
+  format = 2;
+  anchor = record { khz = 1000000; start = 100; base_ns = 5000 };
+  guest_khz = 2000000;
+  cpus = 2;
+  pit = Delay;
+  rtc = Delay;
+  hpet = Delay;
+  slew_ns = 1000;
+  wall_sec = 7;
+  wall_nsec = 9;
+  time = record { sec = 0; min = 0; hour = 0; wday = 1; date = 1; month = 1; year = 0 };
 }
 
 abbrev board : BoardParts
@@ -115,7 +121,14 @@ with_page p = record board { processors = p ∷ [] }
 
 abbrev page : ℕ → ℕ → ProcessorParts
 page number offset = record no_processor {
-  offset = offset; number = number; version = 2; tsc_timestamp = 2000; system_time = 1000; mul = 0x80000000; shift = pos 0; flags = 1;
+  offset = offset;
+  number = number;
+  version = 2;
+  tsc_timestamp = 2000;
+  system_time = 1000;
+  mul = 0x80000000;
+  shift = pos 0;
+  flags = 1;
 }
 
 page-off : page_reply (with_page (page 2 0)) 0 1500 ≡ Off

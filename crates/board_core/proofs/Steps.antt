@@ -1,6 +1,5 @@
 -- A board behind an access, by its parts.
-use Rattle.std.proofs.Common.{◌≡◌, ℕ, ◌+◌, List, ◌++◌, drop, length, ap, ◌∙◌, refl}
-use Rattle.irq_edges.specs.declared.edges.Edge.{Edge}
+use Rattle.std.proofs.Common.{◌≡◌, ℕ, ◌+◌, List, ap, ◌∙◌}
 use Rattle.board_types.specs.declared.access.Access.{Access}
 use Rattle.board_types.specs.declared.parts.BoardParts.{BoardParts}
 use Rattle.board_types.specs.declared.parts.ProcessorParts.{ProcessorParts}
@@ -35,5 +34,7 @@ with_parts-is b cpu h a d number version ps rises ds ns vs pss rs =
     ap (λ (x : DeviceParts). with_parts b x number version ps rises) ds
     ∙ ap (λ (x : ℕ). with_parts b (acted (act_of a) (devices_in b)) x version ps rises) ns
     ∙ ap (λ (x : ℕ). with_parts b (acted (act_of a) (devices_in b)) (wall_number_after a b.wall_number) x ps rises) vs
-    ∙ ap (λ (x : List ProcessorParts). with_parts b (acted (act_of a) (devices_in b)) (wall_number_after a b.wall_number) (wall_version_after a b.wall_version) x rises) pss
-    ∙ ap (with_parts b (acted (act_of a) (devices_in b)) (wall_number_after a b.wall_number) (wall_version_after a b.wall_version) (processors_after b.anchor b.guest_khz cpu h a b.processors)) rs
+    ∙ ap (λ (x : List ProcessorParts). with_parts b (acted (act_of a) (devices_in b)) (wall_number_after a b.wall_number)
+    (wall_version_after a b.wall_version) x rises) pss
+    ∙ ap (with_parts b (acted (act_of a) (devices_in b)) (wall_number_after a b.wall_number) (wall_version_after a b.wall_version)
+    (processors_after b.anchor b.guest_khz cpu h a b.processors)) rs

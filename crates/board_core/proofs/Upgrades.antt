@@ -21,7 +21,8 @@ due-each f k i [] fewer = omega arith
 due-each f k zero (l ∷ ls) fewer = fewer k l
 due-each f k (suc i) (l ∷ ls) fewer = due-each f (suc k) i ls fewer
 
-pub due-later : (more : Bool) (d : DeviceParts) (k : ℕ) → (get_or (cond more (devices_upgraded d).ticks d.ticks) k no_line).counts.due ≤ (line_at k d).counts.due
+pub due-later : (more : Bool) (d : DeviceParts) (k : ℕ) → (get_or (cond more (devices_upgraded d).ticks d.ticks) k no_line).counts.due ≤
+    (line_at k d).counts.due
 unfolding devices_upgraded
 due-later false d k = omega arith
 due-later true d k = due-each (line_upgraded d) 0 k d.ticks (λ j l. due-where (ltb j (d.hpet.timers + 2)) l (line_at_power_on (line_at 2 d).policy) refl)

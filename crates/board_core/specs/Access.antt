@@ -63,8 +63,8 @@ use Rattle.board_core.specs.Wall.{wall_number_after, wall_version_after, wall_wo
 use Rattle.board_core.specs.Next.{next_of}
 use Rattle.board_core.specs.Rises.{rises_after, count_at}
 
--- what a read or a write of a port asks of the devices: 70h is the index of the MC146818, 71h the byte
--- there, and the others are ports of the 8254
+-- what a read or a write of a port asks of the devices: 70h is the index of the MC146818, 71h the
+-- byte there, and the others are ports of the 8254
 abbrev pub read_of_port : ℕ → Act
 read_of_port port =
     if port == 0x70 then IndexRead else (if port == 0x71 then ClockRead else PitRead port)
@@ -112,8 +112,8 @@ place_of_source Pit = 0
 place_of_source Rtc = 1
 place_of_source (Hpet timer) = timer + 2
 
--- what an access at count h reads of a board that has run to its time: a port gives a byte, the HPET a
--- word of the width, an MSR and a count of rises a word of 8 bytes
+-- what an access at count h reads of a board that has run to its time: a port gives a byte, the
+-- HPET a word of the width, an MSR and a count of rises a word of 8 bytes
 unfoldable pub value_at : BoardParts → ℕ → ℕ → Access → Value
 value_at b cpu h (PortIn port) = Byte (value_of (now_of b) (read_of_port port) (devices_in b))
 value_at b cpu h (PortOut port byte) = Nothing

@@ -58,7 +58,7 @@ pub record IsWall (number version nsec : ℕ) : Type 0 where
 abbrev pub flags_valid : ℕ → Bool
 flags_valid flags = flags == 1 || flags == 3
 
--- a processor: all is 0 before its page is published first; then the page has the scale of the guest
+-- a processor: all is 0 before its page is published first; then the page has the guest's scale
 pub record IsProcessor (guest_khz : ℕ) (p : ProcessorParts) : Type 0 where
   pub version : IsVersion p.version
   pub time : p.system_time < RANGE_NS
@@ -75,7 +75,7 @@ pub record AreProcessors (guest_khz cpus : ℕ) (ps : List ProcessorParts) : Typ
 -- the counts of rises: only an access lets a line fall, and once at most; format 1 counts none
 pub record AreRises (format accesses : ℕ) (lines : List Bool) (rises : List ℕ) : Type 0 where
   pub most : (k : ℕ) → k < 6 → slice_index_or rises k 0
-    ≤ accesses + one_if (level_of line_numbers lines (slice_index_or line_numbers k 0))
+      ≤ accesses + one_if (level_of line_numbers lines (slice_index_or line_numbers k 0))
   pub none : format ≤ 1 → (k : ℕ) → slice_index_or rises k 0 ≡ 0
 
 -- what joins the devices and the rest of a board

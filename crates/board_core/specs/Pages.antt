@@ -37,17 +37,10 @@ use Rattle.board_types.specs.declared.access.TheConstants.{
 }
 use Rattle.board_types.specs.declared.parts.BoardParts.{BoardParts}
 use Rattle.board_types.specs.declared.parts.ProcessorParts.{ProcessorParts}
-use Rattle.board_core.specs.Tsc.{
-  no_processor,
-  processor_at,
-  tsc_of,
-  with_tsc,
-  tsc_read,
-  msr_written,
-}
+use Rattle.board_core.specs.Tsc.{no_processor, processor_at, with_tsc, tsc_read, msr_written}
 
--- a processor's page is published at count h, with these flags: its version goes up by 2, and it tells
--- the TSC and the time at h, and the scale of the guest's rate
+-- a processor's page is published at count h, with these flags: its version goes up by 2, and it
+-- tells the TSC and the time at h, and the scale of the guest's rate
 unfoldable pub published : Anchor → ℕ → ℕ → ℕ → ProcessorParts → ProcessorParts
 published anchor guest_khz h flags p = record p {
   version = p.version + 2;
@@ -71,8 +64,8 @@ page_in p = record {
   enabled = bit 0 p.number;
 }
 
--- the page that a write to an MSR publishes: one to the TSC, TSC_ADJUST or MSR_KVM_SYSTEM_TIME_NEW that
--- of the processor (own)
+-- the page that a write to an MSR publishes: one to the TSC, TSC_ADJUST or MSR_KVM_SYSTEM_TIME_NEW
+-- that of the processor (own)
 abbrev pub page_of_msr : ℕ → ℕ → Option ℕ
 page_of_msr cpu msr =
     if msr == MSR_TSC || msr == MSR_TSC_ADJUST || msr == MSR_KVM_SYSTEM_TIME then Some cpu
@@ -104,20 +97,20 @@ unfoldable pub processors_after :
 processors_after anchor guest_khz cpu h a ps =
     published_at (published_by cpu a) anchor guest_khz h a ps
 
--- the board with a processor's TSC set, and its page published at the greatest count of all accesses
+-- the board with a processor's TSC set, and its page published at the greatest count of accesses
 unfoldable pub published_at_host : ℕ → Tsc → ℕ → BoardParts → BoardParts
 published_at_host cpu tsc flags b = record b {
   processors = slice_set b.processors cpu
-    (published b.anchor b.guest_khz b.host flags (with_tsc tsc (processor_at b cpu)));
+      (published b.anchor b.guest_khz b.host flags (with_tsc tsc (processor_at b cpu)));
 }
 
 -- a read of a page at count h: the time that it gives at the TSC there, by the page's own offset
 unfoldable pub page_reply : BoardParts → ℕ → ℕ → PageReply
 page_reply b cpu h =
     if (page_in (processor_at b cpu)).enabled then
-      On (page_in (processor_at b cpu))
-      (reading_of (page_in (processor_at b cpu))
-      (tsc_by (page_in (processor_at b cpu)).offset h (ratio_of b.guest_khz b.anchor.khz)))
+    On (page_in (processor_at b cpu))
+    (reading_of (page_in (processor_at b cpu))
+    (tsc_by (page_in (processor_at b cpu)).offset h (ratio_of b.guest_khz b.anchor.khz)))
     else Off
 
 -- the clamp: a clock tells the greater of a page's reading and of all that was told before

@@ -6,8 +6,8 @@ use Rattle.board_devices.specs.Run.{run}
 use Rattle.board_core.specs.Time.{devices_in, now_of}
 use Rattle.board_core.specs.Rises.{rises_after}
 
--- the board runs gap nanoseconds; then count `start` of a counter of this rate has the new time. TSC
--- offsets, pages and the number of accesses stay
+-- the board runs gap nanoseconds; then count `start` of a counter of this rate has the new time.
+-- TSC offsets, pages and the number of accesses stay
 unfoldable pub reanchored : ℕ → ℕ → ℕ → BoardParts → BoardParts
 reanchored khz start gap b =
     let d : DeviceParts = (run (now_of b) gap (devices_in b)).state in

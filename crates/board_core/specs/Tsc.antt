@@ -1,4 +1,4 @@
--- The processors, and the MSRs of a guest's clocks (Intel SDM, volume 4; Linux, "KVM-specific MSRs").
+-- The processors, and the MSRs of a guest's clocks (Intel SDM, volume 4; Linux, msr.rst).
 use Rattle.std.specs.Prelude.{
   ℕ,
   pos,
@@ -45,7 +45,7 @@ tsc_of p = record { offset = p.offset; adjust = p.adjust }
 abbrev pub with_tsc : Tsc → ProcessorParts → ProcessorParts
 with_tsc tsc p = record p { offset = tsc.offset; adjust = tsc.adjust }
 
--- its TSC at count h of the host's counter: the count of the access itself, also where that is behind
+-- its TSC at count h: the count of the access itself, also where that is behind the board's
 abbrev pub tsc_read : Anchor → ℕ → ℕ → ProcessorParts → ℕ
 tsc_read anchor guest_khz h p = tsc_at (tsc_of p) h (ratio_of guest_khz anchor.khz)
 
@@ -57,11 +57,12 @@ msr_read b cpu h msr =
     else (if msr == MSR_KVM_WALL_CLOCK then b.wall_number else (processor_at b cpu).number))
 
 -- the TSC behind a write of v to an MSR at count h: IA32_TIME_STAMP_COUNTER is set to v and
--- TSC_ADJUST moves with it, or the other way round (Intel SDM, volume 3, "Time-Stamp Counter Adjustment")
+-- TSC_ADJUST moves with it, or the other way round (Intel SDM, volume 3, "Time-Stamp Counter
+-- Adjustment")
 abbrev pub tsc_after : Anchor → ℕ → ℕ → ℕ → ℕ → Tsc → Tsc
 tsc_after anchor guest_khz h msr v tsc =
     if msr == MSR_TSC then
-      moved_by (difference v (tsc_at tsc h (ratio_of guest_khz anchor.khz))) tsc
+    moved_by (difference v (tsc_at tsc h (ratio_of guest_khz anchor.khz))) tsc
     else (if msr == MSR_TSC_ADJUST then moved_by (difference v tsc.adjust) tsc else tsc)
 
 -- a processor behind it; MSR_KVM_SYSTEM_TIME_NEW keeps v

@@ -9,8 +9,8 @@ use Rattle.board_core.specs.Time.{devices_in}
 abbrev pub gets_timers : ℕ → ℕ → Bool
 gets_timers format to = nat_lt format 2 && nat_le 2 to
 
--- the format is set; the five timers and their tick lines are as at power on, the counts of rises go on
--- from 0, and all else is kept
+-- the format is set; the five timers and their tick lines are as at power on, the counts of rises
+-- go on from 0, and all else is kept
 unfoldable pub upgraded_to : ℕ → BoardParts → BoardParts
 upgraded_to to b =
     let d : DeviceParts = devices_upgraded (devices_in b) in

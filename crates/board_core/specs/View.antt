@@ -43,7 +43,13 @@ board_of p = record {
   guest_khz = p.guest_khz;
   accesses = p.accesses;
   greatest = p.greatest;
-  devices = record { pit = p.pit; rtc = p.rtc; hpet = p.hpet; ticks = p.ticks; slew_ns = p.slew_ns };
+  devices = record {
+    pit = p.pit;
+    rtc = p.rtc;
+    hpet = p.hpet;
+    ticks = p.ticks;
+    slew_ns = p.slew_ns;
+  };
   wall_number = p.wall_number;
   wall_version = p.wall_version;
   wall_sec = p.wall_sec;

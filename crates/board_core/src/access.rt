@@ -226,7 +226,11 @@ fn wall_number_after(a: Access, number: u64) -> u64
     ensures { result ≡ wall_number_after a number }
 {
     match a {
-        Access::MsrWrite { msr, value } => if msr == MSR_KVM_WALL_CLOCK { value } else { number },
+        Access::MsrWrite { msr, value } => if msr == MSR_KVM_WALL_CLOCK {
+            value
+        } else {
+            number
+        },
         _ => number,
     }
 }
@@ -236,5 +240,9 @@ fn wall_version_after(a: Access, version: u32) -> u32
     requires { IsTrue (publishes_wall a) → version < LAST_VERSION }
     ensures { result ≡ wall_version_after a version }
 {
-    if publishes_wall(a) { version + 2 } else { version }
+    if publishes_wall(a) {
+        version + 2
+    } else {
+        version
+    }
 }

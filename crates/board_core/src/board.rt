@@ -6,6 +6,7 @@ ghost use Rattle.board_devices.specs.Lines.{levels};
 ghost use Rattle.board_core.specs.Time.{devices_in, now_of};
 ghost use Rattle.board_core.specs.Tsc.{processor_at, tsc_of};
 ghost use Rattle.board_core.specs.Pages.{page_in, with_greatest};
+ghost use Rattle.board_core.specs.Conditions.{IsVersion, IsJoined};
 ghost use Rattle.board_core.specs.Next.{next_of};
 ghost use Rattle.board_core.specs.PowerOn.{board_at_power_on, devices_of_setup};
 
@@ -89,9 +90,10 @@ impl BoardState {
         self.format
     }
 
-    /// How many processors there are.
+    /// How many processors there are. A caller learns here what joins the parts of every board.
     pub fn cpus(&self) -> u8
-        ensures { result ≡ self.now.cpus }
+        ensures value { result ≡ self.now.cpus }
+        ensures joined { IsJoined self.now }
     {
         self.cpus
     }
@@ -142,7 +144,8 @@ impl BoardState {
     /// The page of a processor.
     pub fn page(&self, cpu: u8) -> Page
         requires { cpu < self.now.cpus }
-        ensures { result ≡ page_in (processor_at self.now cpu) }
+        ensures value { result ≡ page_in (processor_at self.now cpu) }
+        ensures version { IsVersion result.version }
     {
         page_in(&self.processors[cpu as usize])
     }

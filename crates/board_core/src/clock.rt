@@ -72,8 +72,7 @@ impl BoardState {
         ensures { self.new ≡ published_at_host cpu tsc flags self.old }
     {
         let p = with_tsc(self.processors[cpu as usize], tsc);
-        self.processors[cpu as usize] =
-            published(p, self.anchor, self.guest_khz, self.host, flags);
+        self.processors[cpu as usize] = published(p, self.anchor, self.guest_khz, self.host, flags);
     }
 }
 

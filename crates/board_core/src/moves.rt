@@ -70,8 +70,10 @@ fn gets_timers(format: u8, to: u8) -> bool
 fn devices_upgraded(devices: &Devices, more: bool) -> Devices
     ensures pit { result.pit ≡ devices.now.pit }
     ensures rtc { result.rtc ≡ devices.now.rtc }
-    ensures hpet { result.hpet ≡ (if more then (devices_upgraded devices.now).hpet else devices.now.hpet) }
-    ensures ticks { result.ticks ≡ (if more then (devices_upgraded devices.now).ticks else devices.now.ticks) }
+    ensures hpet { result.hpet ≡
+        (if more then (devices_upgraded devices.now).hpet else devices.now.hpet) }
+    ensures ticks { result.ticks ≡
+        (if more then (devices_upgraded devices.now).ticks else devices.now.ticks) }
     ensures slew { result.slew_ns ≡ devices.now.slew_ns }
     ensures levels { levels result ≡ levels devices.now }
 {

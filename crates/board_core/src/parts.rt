@@ -103,7 +103,8 @@ fn devices_in(parts: &BoardParts) -> DeviceParts
 
 /// The time at the count of the host, where the rates are in range and the count has one.
 fn time_of_parts(parts: &BoardParts) -> Option<u64>
-    ensures { SomeIff result (AreRates parts.now.anchor parts.now.guest_khz × HasTime parts.now.anchor parts.now.host)
+    ensures { SomeIff result
+        (AreRates parts.now.anchor parts.now.guest_khz × HasTime parts.now.anchor parts.now.host)
         (time_at parts.now.anchor parts.now.host) }
 {
     if are_rates(&parts.anchor, parts.guest_khz) {
@@ -193,7 +194,8 @@ fn are_processors(ps: &[ProcessorParts; 64], cpus: u8, guest_khz: u64) -> bool
 
 /// Whether no tick line has more due ticks than this.
 fn are_due(ticks: &[TickParts; 10], most: u64) -> bool
-    ensures { IsTrue result ↔ ((k : ℕ) → k < 10 → (slice_index_or ticks.now k no_line).counts.due ≤ most) }
+    ensures { IsTrue result ↔
+        ((k : ℕ) → k < 10 → (slice_index_or ticks.now k no_line).counts.due ≤ most) }
 {
     for k in 0..10 {
         if ticks[k].counts.due > most {

@@ -8,9 +8,7 @@ ghost use Rattle.board_core.specs.Pages.{published, page_in, published_by, page_
 ghost use Rattle.board_core.specs.Time.{HasTime};
 ghost use Rattle.board_core.specs.Conditions.{AreRates};
 
-use board_types::{
-    Access, MSR_KVM_SYSTEM_TIME, MSR_TSC, MSR_TSC_ADJUST, ProcessorParts,
-};
+use board_types::{Access, MSR_KVM_SYSTEM_TIME, MSR_TSC, MSR_TSC_ADJUST, ProcessorParts};
 use clk_units::bit;
 use host_counter::Anchor;
 use pvclock_page::{Page, TSC_STABLE, scale_of};
@@ -141,7 +139,11 @@ fn msr_written(
 fn number_after(number: u64, msr: u32, v: u64) -> u64
     ensures { result ≡ (if msr == MSR_KVM_SYSTEM_TIME then v else number) }
 {
-    if msr == MSR_KVM_SYSTEM_TIME { v } else { number }
+    if msr == MSR_KVM_SYSTEM_TIME {
+        v
+    } else {
+        number
+    }
 }
 
 /// The page that an access of a processor publishes.

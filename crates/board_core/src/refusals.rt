@@ -11,7 +11,9 @@ ghost use Rattle.board_core.specs.Refusals.{version_at, raised_version, spent_ve
 
 use crate::board::BoardState;
 use crate::processors::published_by;
-use board_types::{Access, LAST_VERSION, MOST_ACCESSES, MSR_KVM_WALL_CLOCK, ProcessorParts, Refusal};
+use board_types::{
+    Access, LAST_VERSION, MOST_ACCESSES, MSR_KVM_WALL_CLOCK, ProcessorParts, Refusal,
+};
 use host_counter::TimeFault;
 
 impl BoardState {
@@ -54,7 +56,8 @@ impl BoardState {
 
     /// Whether the accesses are spent.
     fn spent(&self) -> Option<Refusal>
-        ensures { result ≡ (if nat_le MOST_ACCESSES self.now.accesses then Some (Spent self.now.accesses) else None) }
+        ensures { result ≡ (if nat_le MOST_ACCESSES self.now.accesses
+            then Some (Spent self.now.accesses) else None) }
     {
         if self.accesses >= MOST_ACCESSES {
             Some(Refusal::Spent {

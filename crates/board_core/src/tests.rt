@@ -2,6 +2,9 @@
 ghost use Rattle.std.specs.Prelude.{◌≤◌};
 ghost use Rattle.board_types.specs.Setup.{IsSetup};
 
+mod clocks;
+mod steps;
+
 use super::*;
 use host_counter::{Anchor, TimeFault};
 use irq_edges::Edge;
@@ -107,7 +110,14 @@ const fn read(h: u64, port: u8, byte: u8) -> (u64, Access, Value) {
 }
 
 /// Ticks of a source: due, rises, queue, lost.
-const fn counts(h: u64, from: TickSource, due: u64, rises: u64, queue: u64, lost: u64) -> (u64, Access, Value) {
+const fn counts(
+    h: u64,
+    from: TickSource,
+    due: u64,
+    rises: u64,
+    queue: u64,
+    lost: u64,
+) -> (u64, Access, Value) {
     let counts = Counts {
         due,
         rises,
@@ -120,7 +130,11 @@ const fn counts(h: u64, from: TickSource, due: u64, rises: u64, queue: u64, lost
 #[test]
 fn ticks_of_the_8254_in_modes_0_2_and_3(rt: HostRuntime) {
     let mut first = board(Policy::Delay);
-    let rows = [out(0x43, 0x10), out(0x40, 1), counts(2_000, TickSource::Pit, 1, 1, 0, 0)];
+    let rows = [
+        out(0x43, 0x10),
+        out(0x40, 1),
+        counts(2_000, TickSource::Pit, 1, 1, 0, 0),
+    ];
     play(&rt, &mut first, &rows, &[(1677, 0, true)]);
     let mut second = board(Policy::Delay);
     let rows = [
@@ -146,11 +160,21 @@ fn ticks_of_the_8254_in_modes_0_2_and_3(rt: HostRuntime) {
 fn the_next_edge_of_a_whole_count(rt: HostRuntime) {
     let mut binary = board(Policy::Delay);
     let next = (0, Access::Next, Value::Next(Some(54_926_240)));
-    play(&rt, &mut binary, &[out(0x43, 0x34), out(0x40, 0), out(0x40, 0), next], &[]);
+    play(
+        &rt,
+        &mut binary,
+        &[out(0x43, 0x34), out(0x40, 0), out(0x40, 0), next],
+        &[],
+    );
     assert_eq!(rt; binary.next_edge(), Some(54_926_240));
     let mut decimal = board(Policy::Delay);
     let next = (0, Access::Next, Value::Next(Some(8_381_790)));
-    play(&rt, &mut decimal, &[out(0x43, 0x35), out(0x40, 0), out(0x40, 0), next], &[]);
+    play(
+        &rt,
+        &mut decimal,
+        &[out(0x43, 0x35), out(0x40, 0), out(0x40, 0), next],
+        &[],
+    );
     let mut none = board(Policy::Delay);
     play(&rt, &mut none, &[(0, Access::Next, Value::Next(None))], &[]);
 }
@@ -163,8 +187,22 @@ fn a_first_of_two_bytes_takes_the_line_down(rt: HostRuntime) {
         out(0x40, 2),
         out(0x40, 0),
         (3_000, Access::Ack { line: 0 }, Value::Nothing),
-        (3_000, Access::PortOut { port: 0x40, byte: 5 }, Value::Nothing),
-        (5_000, Access::PortOut { port: 0x43, byte: 0xe2 }, Value::Nothing),
+        (
+            3_000,
+            Access::PortOut {
+                port: 0x40,
+                byte: 5,
+            },
+            Value::Nothing,
+        ),
+        (
+            5_000,
+            Access::PortOut {
+                port: 0x43,
+                byte: 0xe2,
+            },
+            Value::Nothing,
+        ),
         read(5_000, 0x40, 0x30),
         read(5_000, 0x40, 0),
         read(5_000, 0x40, 0),
@@ -199,9 +237,16 @@ fn a_tick_of_the_clock_that_waits_shows_at_a_read_of_c(rt: HostRuntime) {
         read(2_000_000, 0x71, 0xc0),
         counts(2_000_000, TickSource::Rtc, 2, 2, 0, 0),
     ];
-    let edges = [(976_563, 8, true), (2_000_000, 8, false), (2_000_000, 8, true)];
+    let edges = [
+        (976_563, 8, true),
+        (2_000_000, 8, false),
+        (2_000_000, 8, true),
+    ];
     play(&rt, &mut board, &rows, &edges);
-    assert_eq!(rt; board.lines().levels, [false, true, false, false, false, false]);
+    assert_eq!(rt;
+        board.lines().levels,
+        [false, true, false, false, false, false]
+    );
     assert_eq!(rt; (board.now(), board.accesses()), (2_000_000, 6));
 }
 
@@ -217,7 +262,11 @@ const fn hpet_write(offset: u16, value: u64) -> (u64, Access, Value) {
 
 /// A read of 8 bytes of the HPET.
 const fn hpet_read(h: u64, offset: u16, value: u64) -> (u64, Access, Value) {
-    (h, Access::HpetRead { offset, width: 8 }, Value::Word { width: 8, value })
+    (
+        h,
+        Access::HpetRead { offset, width: 8 },
+        Value::Word { width: 8, value },
+    )
 }
 
 #[test]
@@ -270,7 +319,12 @@ fn ten_missed_ticks_under_each_policy(rt: HostRuntime) {
         ack,
         counts(39_000, TickSource::Pit, 11, 1, 0, 10),
     ];
-    play(&rt, &mut discard, &rows, &[(4191, 0, true), (38_000, 0, false)]);
+    play(
+        &rt,
+        &mut discard,
+        &rows,
+        &[(4191, 0, true), (38_000, 0, false)],
+    );
     let mut delay = board(Policy::Delay);
     play(&rt, &mut delay, &begin, &[]);
     let rows = [
@@ -278,7 +332,12 @@ fn ten_missed_ticks_under_each_policy(rt: HostRuntime) {
         ack,
         counts(39_000, TickSource::Pit, 11, 2, 9, 0),
     ];
-    play(&rt, &mut delay, &rows, &[(4191, 0, true), (38_000, 0, false), (38_000, 0, true)]);
+    play(
+        &rt,
+        &mut delay,
+        &rows,
+        &[(4191, 0, true), (38_000, 0, false), (38_000, 0, true)],
+    );
     let mut slew = board(Policy::Slew);
     play(&rt, &mut slew, &begin, &[]);
     let rows = [
@@ -286,7 +345,12 @@ fn ten_missed_ticks_under_each_policy(rt: HostRuntime) {
         ack,
         counts(39_000, TickSource::Pit, 11, 2, 9, 0),
     ];
-    play(&rt, &mut slew, &rows, &[(4191, 0, true), (38_000, 0, false), (39_000, 0, true)]);
+    play(
+        &rt,
+        &mut slew,
+        &rows,
+        &[(4191, 0, true), (38_000, 0, false), (39_000, 0, true)],
+    );
 }
 
 #[test]
@@ -297,159 +361,23 @@ fn ten_years_in_one_step(rt: HostRuntime) {
         out(0x43, 0x34),
         out(0x40, 4),
         out(0x40, 0),
-        counts(years, TickSource::Pit, 94_070_468_879_999, 1, 94_070_468_879_998, 0),
-        (years, Access::PortOut { port: 0x70, byte: 7 }, Value::Nothing),
+        counts(
+            years,
+            TickSource::Pit,
+            94_070_468_879_999,
+            1,
+            94_070_468_879_998,
+            0,
+        ),
+        (
+            years,
+            Access::PortOut {
+                port: 0x70,
+                byte: 7,
+            },
+            Value::Nothing,
+        ),
         read(years, 0x71, 0x29),
     ];
     play(&rt, &mut board, &rows, &[(4191, 0, true)]);
-}
-
-/// A read of an MSR at a count.
-const fn rdmsr(h: u64, msr: u32, value: u64) -> (u64, Access, Value) {
-    (h, Access::MsrRead { msr }, Value::Word { width: 8, value })
-}
-
-/// A write of an MSR at a count.
-const fn wrmsr(h: u64, msr: u32, value: u64) -> (u64, Access, Value) {
-    (h, Access::MsrWrite { msr, value }, Value::Nothing)
-}
-
-#[test]
-fn tsc_adjust_moves_with_the_tsc(rt: HostRuntime) {
-    let mut board = board(Policy::Delay);
-    let words = Value::Wall {
-        version: 2,
-        sec: 11,
-        nsec: 12,
-    };
-    let none = Value::Wall {
-        version: 0,
-        sec: 0,
-        nsec: 0,
-    };
-    let rows = [
-        wrmsr(1_000, MSR_TSC, 0),
-        rdmsr(1_500, MSR_TSC, 0x1f4),
-        rdmsr(1_500, MSR_TSC_ADJUST, 0xffff_ffff_ffff_fc18),
-        wrmsr(1_500, MSR_TSC_ADJUST, 0),
-        rdmsr(1_500, MSR_TSC, 0x5dc),
-        (1_500, Access::Wall, none),
-        wrmsr(1_500, MSR_KVM_WALL_CLOCK, 0x1234),
-        rdmsr(1_500, MSR_KVM_WALL_CLOCK, 0x1234),
-        (1_500, Access::Wall, words),
-    ];
-    play(&rt, &mut board, &rows, &[]);
-    assert!(rt; board.cpus() == 1);
-    if board.cpus() == 1 {
-        assert_eq!(rt; board.page(0).version, 4);
-    }
-}
-
-#[test]
-fn no_clock_tells_less_than_one_before_it(rt: HostRuntime) {
-    let two = Setup {
-        cpus: 2,
-        guest_khz: 2_000_000,
-        ..setup(1, Policy::Delay, MIDNIGHT)
-    };
-    let mut board = BoardState::power_on(&two);
-    if board.cpus() != 2 {
-        panic!(&rt; "two processors");
-    }
-    assert_eq!(rt; board.clock_of(0, 500), Ok(ClockReply::Off));
-    for cpu in [0, 1] {
-        let enable = Access::MsrWrite {
-            msr: MSR_KVM_SYSTEM_TIME,
-            value: 1,
-        };
-        if cpu < board.cpus() && enable.legal(board.cpus(), board.format()) {
-            assert!(rt; board.access(cpu, 0, enable).is_ok());
-        }
-    }
-    if board.cpus() != 2 {
-        panic!(&rt; "two processors");
-    }
-    let first = ClockReply::On {
-        reading: 1_000,
-        clock: 1_000,
-    };
-    assert_eq!(rt; board.clock_of(0, 1_000), Ok(first));
-    if board.cpus() != 2 {
-        panic!(&rt; "two processors");
-    }
-    let second = ClockReply::On {
-        reading: 900,
-        clock: 1_000,
-    };
-    match board.page_of(1, 900) {
-        Ok(PageReply::On { page, reading }) => {
-            assert_eq!(rt; (page.version, page.tsc_timestamp, page.flags), (2, 0, 1));
-            assert_eq!(rt; (page.mul, page.shift, reading), (0x8000_0000, 0, 900));
-        }
-        _ => panic!(&rt; "the page is on"),
-    }
-    assert_eq!(rt; board.clock_of(1, 900), Ok(second));
-    assert_eq!(rt; board.greatest(), 1_000);
-    assert_eq!(rt; (board.now(), board.accesses()), (0, 2));
-}
-
-#[test]
-fn a_move_to_a_faster_host(rt: HostRuntime) {
-    let fast = Setup {
-        guest_khz: 2_000_000,
-        ..setup(1, Policy::Delay, MIDNIGHT)
-    };
-    let mut board = BoardState::power_on(&fast);
-    let rows = [
-        out(0x43, 0x34),
-        out(0x40, 0),
-        out(0x40, 0),
-        wrmsr(0, MSR_KVM_SYSTEM_TIME, 1),
-        (2_000, Access::Step, Value::Nothing),
-    ];
-    play(&rt, &mut board, &rows, &[]);
-    if board.now() != 2_000 || board.cpus() != 1 {
-        panic!(&rt; "a board of one processor at 2000");
-    }
-    let ran = board.reanchor(3_000_000, 500, 1_000_000_000);
-    let rise = Edge {
-        at: 54_926_240,
-        line: 0,
-        up: true,
-    };
-    assert_eq!(rt; ran.edges.as_slice().first().copied(), Some(rise));
-    assert_eq!(rt; (ran.edges.len(), board.now(), board.accesses()), (1, 1_000_002_000, 5));
-    let rows = [counts(500, TickSource::Pit, 18, 1, 17, 0)];
-    play(&rt, &mut board, &rows, &[]);
-}
-
-#[test]
-fn refusals_leave_the_board(rt: HostRuntime) {
-    let late = Setup {
-        anchor: Anchor {
-            khz: 1_000_000,
-            start: 100,
-            base_ns: 5,
-        },
-        ..setup(1, Policy::Delay, MIDNIGHT)
-    };
-    let mut board = BoardState::power_on(&late);
-    let last = 100 + (1 << 59) - 6;
-    let rows = [
-        (99, Some(Refusal::BeforeStart { start: 100 })),
-        (last + 1, Some(Refusal::OutOfRange { ns: 1 << 59 })),
-        (100, None),
-        (last, None),
-    ];
-    for (h, refusal) in rows {
-        let step = Access::Step;
-        if board.cpus() == 1 && step.legal(board.cpus(), board.format()) {
-            let before = (board.now(), board.accesses());
-            assert_eq!(rt; board.access(0, h, step).err(), refusal, "at {h}");
-            assert!(rt; refusal.is_none() || before == (board.now(), board.accesses()));
-        }
-    }
-    if board.cpus() == 1 {
-        assert_eq!(rt; board.page_of(0, 99), Err(TimeFault::BeforeStart { start: 100 }));
-    }
 }

@@ -55,7 +55,8 @@ unfolding acted first_part
 edges-nothing t d = none-of t Nothing d refl refl
 
 -- a read of the clock at another index
-no-mask : (b : Bool) (op : Bool → TickParts → TickParts) → ((l : TickParts) → op false l ≡ l) → (d : DeviceParts) → eqb d.rtc.index 12 ≡ false → each (λ k l. op (reads_c d k) l) 0 d.ticks ≡ d.ticks
+no-mask : (b : Bool) (op : Bool → TickParts → TickParts) → ((l : TickParts) → op false l ≡ l) → (d : DeviceParts) → eqb d.rtc.index 12 ≡ false
+    → each (λ k l. op (reads_c d k) l) 0 d.ticks ≡ d.ticks
 no-mask b op none d other = each-none (λ k l. op (reads_c d k) l) place 0 d.ticks
   where
     place : (k : ℕ) (l : TickParts) → op (reads_c d k) l ≡ l
@@ -66,7 +67,11 @@ no-mask b op none d other = each-none (λ k l. op (reads_c d k) l) place 0 d.tic
 pub acted-other : (d : DeviceParts) → eqb d.rtc.index 12 ≡ false → acted ClockRead d ≡ d
 unfolding acted
 acted-other d other =
-    ap (λ (b : Bool). record d { rtc = cond ((b && counts_rtc d) && goes_again (line_at 1 d)) (flagged (after_rtc_read d.rtc)) (after_rtc_read d.rtc); ticks = each (λ k l. acked_where (reads_c d k) l) 0 d.ticks }) other
+    ap (λ (b : Bool). record d {
+      rtc = cond ((b && counts_rtc d) && goes_again (line_at 1 d)) (flagged (after_rtc_read d.rtc))
+          (after_rtc_read d.rtc);
+      ticks = each (λ k l. acked_where (reads_c d k) l) 0 d.ticks;
+    }) other
     ∙ ap (λ (r : RtcParts). record d { rtc = r; ticks = each (λ k l. acked_where (reads_c d k) l) 0 d.ticks }) (after_rtc_read-other d.rtc other)
     ∙ ap (λ (ls : List TickParts). record d { ticks = ls }) (no-mask true acked_where (λ l. refl) d other)
 
@@ -93,7 +98,8 @@ same-timers f same d k = place 0 d.ticks k
     place i (l ∷ []) k = refl
     place i (l ∷ m ∷ ls) k = from 0 ls k
 
-same-first : (f : ℕ → TickParts → TickParts) → ((l : TickParts) → (f 0 l).up ≡ l.up) → (ls : List TickParts) → (get_or (each f 0 ls) 0 no_line).up ≡ (get_or ls 0 no_line).up
+same-first : (f : ℕ → TickParts → TickParts) → ((l : TickParts) → (f 0 l).up ≡ l.up) → (ls : List TickParts) → (get_or (each f 0 ls) 0 no_line).up
+    ≡ (get_or ls 0 no_line).up
 same-first f same [] = refl
 same-first f same (l ∷ ls) = same l
 
@@ -102,16 +108,22 @@ abbrev pub shown : DeviceParts → RtcParts → Bool
 shown d r = not (is_legacy d.hpet) && irqf_of r
 
 pub edges-clock_read : (t : ℕ) (d : DeviceParts) → act_edges t ClockRead d
-    ≡ change t 8 (shown d d.rtc) (shown d (after_rtc_read d.rtc)) ++ change t 8 (shown d (after_rtc_read d.rtc)) (shown d (cond (reads_c d 1 && goes_again (line_at 1 d)) (flagged (after_rtc_read d.rtc)) (after_rtc_read d.rtc)))
+    ≡ change t 8 (shown d d.rtc) (shown d (after_rtc_read d.rtc))
+    ++ change t 8 (shown d (after_rtc_read d.rtc))
+    (shown d (cond (reads_c d 1 && goes_again (line_at 1 d)) (flagged (after_rtc_read d.rtc)) (after_rtc_read d.rtc)))
 unfolding acted first_part
 edges-clock_read t d =
     let down : List TickParts = each (λ k l. down_where (reads_c d k) l) 0 d.ticks in
     let again : List TickParts = each (λ k l. acked_where (reads_c d k) l) 0 d.ticks in
     let r : RtcParts = cond (reads_c d 1 && goes_again (line_at 1 d)) (flagged (after_rtc_read d.rtc)) (after_rtc_read d.rtc) in
-    ap (λ (es : List Edge). es ++ changes t line_numbers (levels (record d { rtc = after_rtc_read d.rtc; ticks = down })) (levels (record d { rtc = r; ticks = again })))
-    (changes-clock t d d.rtc (after_rtc_read d.rtc) d.ticks down (λ k. refl) (same-timers (λ k l. down_where (reads_c d k) l) (λ k l. refl) d) (sym (same-first (λ k l. down_where (reads_c d k) l) (λ l. refl) d.ticks)))
+    ap (λ (es : List Edge). es ++ changes t line_numbers (levels (record d { rtc = after_rtc_read d.rtc; ticks = down }))
+    (levels (record d { rtc = r; ticks = again })))
+    (changes-clock t d d.rtc (after_rtc_read d.rtc) d.ticks down (λ k. refl) (same-timers (λ k l. down_where (reads_c d k) l) (λ k l. refl) d)
+    (sym (same-first (λ k l. down_where (reads_c d k) l) (λ l. refl) d.ticks)))
     ∙ ap (λ (es : List Edge). change t 8 (shown d d.rtc) (shown d (after_rtc_read d.rtc)) ++ es)
-    (changes-clock t d (after_rtc_read d.rtc) r down again (same-timers (λ k l. down_where (reads_c d k) l) (λ k l. refl) d) (same-timers (λ k l. acked_where (reads_c d k) l) (λ k l. refl) d) (same-first (λ k l. down_where (reads_c d k) l) (λ l. refl) d.ticks ∙ sym (same-first (λ k l. acked_where (reads_c d k) l) (λ l. refl) d.ticks)))
+    (changes-clock t d (after_rtc_read d.rtc) r down again (same-timers (λ k l. down_where (reads_c d k) l) (λ k l. refl) d)
+    (same-timers (λ k l. acked_where (reads_c d k) l) (λ k l. refl) d)
+    (same-first (λ k l. down_where (reads_c d k) l) (λ l. refl) d.ticks ∙ sym (same-first (λ k l. acked_where (reads_c d k) l) (λ l. refl) d.ticks)))
 
 -- a write of the clock
 pub edges-clock_write : (t byte : ℕ) (d : DeviceParts) → act_edges t (ClockWrite byte) d ≡ change t 8 (shown d d.rtc) (shown d (rtc_written byte d.rtc))
@@ -119,10 +131,12 @@ unfolding acted first_part
 edges-clock_write t byte d =
     let f : ℕ → TickParts → TickParts = rtc_set (counts_rtc (record d { rtc = rtc_written byte d.rtc }) && pf_of (rtc_written byte d.rtc)) in
     no_second t (changes t line_numbers (levels d) (levels (acted (ClockWrite byte) d))) (levels (acted (ClockWrite byte) d))
-    ∙ changes-clock t d d.rtc (rtc_written byte d.rtc) d.ticks (each f 0 d.ticks) (λ k. refl) (same-timers f (λ k l. refl) d) (sym (same-first f (λ l. refl) d.ticks))
+    ∙ changes-clock t d d.rtc (rtc_written byte d.rtc) d.ticks (each f 0 d.ticks) (λ k. refl) (same-timers f (λ k l. refl) d)
+    (sym (same-first f (λ l. refl) d.ticks))
 
 -- a write of the 8254
-pub edges-pit_write : (t port byte : ℕ) (d : DeviceParts) → length d.ticks ≡ 10 → act_edges t (PitWrite port byte) d ≡ change t 0 (line_at 0 d).up ((line_at 0 d).up || ticks_on_write port byte d)
+pub edges-pit_write : (t port byte : ℕ) (d : DeviceParts) → length d.ticks ≡ 10 → act_edges t (PitWrite port byte) d
+    ≡ change t 0 (line_at 0 d).up ((line_at 0 d).up || ticks_on_write port byte d)
 unfolding acted first_part
 edges-pit_write t port byte d long =
     no_second t (changes t line_numbers (levels d) (levels (acted (PitWrite port byte) d))) (levels (acted (PitWrite port byte) d))
@@ -142,7 +156,8 @@ edges-pit_write t port byte d long =
     same_levels : levels (record d { pit = p; ticks = d.ticks }) ≡ levels d
     same_levels = levels-front d p d.rtc d.ticks (λ k. refl) ∙ sym (levels-parts d)
 
-    quiet : changes t line_numbers (levels d) (levels (record d { pit = p; ticks = ticked_at (pit_ticked false) d.ticks })) ≡ change t 0 (line_at 0 d).up ((line_at 0 d).up || false)
+    quiet : changes t line_numbers (levels d) (levels (record d { pit = p; ticks = ticked_at (pit_ticked false) d.ticks }))
+        ≡ change t 0 (line_at 0 d).up ((line_at 0 d).up || false)
     quiet =
         ap (λ (ks : List TickParts). changes t line_numbers (levels d) (levels (record d { pit = p; ticks = ks }))) (sym (ticked_none d.ticks))
         ∙ ap (changes t line_numbers (levels d)) same_levels
@@ -151,15 +166,21 @@ edges-pit_write t port byte d long =
     up : (get_or (each (λ k l. ticked_where (pit_ticked true k) l) 0 d.ticks) 0 no_line).up ≡ true
     up = ap (λ (l : TickParts). l.up) (each-at (λ k l. ticked_where (pit_ticked true k) l) 0 0 d.ticks no_line (omega (arith, long)))
 
-    rises : is_legacy d.hpet ≡ false → changes t line_numbers (levels d) (levels (record d { pit = p; ticks = ticked_at (pit_ticked true) d.ticks })) ≡ change t 0 (line_at 0 d).up ((line_at 0 d).up || true)
+    rises : is_legacy d.hpet ≡ false → changes t line_numbers (levels d) (levels (record d { pit = p; ticks = ticked_at (pit_ticked true) d.ticks }))
+        ≡ change t 0 (line_at 0 d).up ((line_at 0 d).up || true)
     rises plain =
         ap (λ (bs : List Bool). changes t line_numbers bs (levels (record d { pit = p; ticks = ticked_at (pit_ticked true) d.ticks }))) (levels-parts d)
-        ∙ ap (changes t line_numbers (cond (is_legacy d.hpet) (output_of 0 d) (line_at 0 d).up ∷ cond (is_legacy d.hpet) (output_of 1 d) (irqf_of d.rtc) ∷ back d)) (levels-front d p d.rtc (ticked_at (pit_ticked true) d.ticks) (same-timers (λ k l. ticked_where (pit_ticked true k) l) (λ k l. refl) d))
-        ∙ changes-first t (cond (is_legacy d.hpet) (output_of 0 d) (line_at 0 d).up) (cond (is_legacy d.hpet) (output_of 1 d) (irqf_of d.rtc)) (cond (is_legacy d.hpet) (output_of 0 d) (get_or (ticked_at (pit_ticked true) d.ticks) 0 no_line).up) d
-        ∙ ap (λ (l : Bool). change t 0 (cond l (output_of 0 d) (line_at 0 d).up) (cond l (output_of 0 d) (get_or (ticked_at (pit_ticked true) d.ticks) 0 no_line).up)) plain
+        ∙ ap (changes t line_numbers (cond (is_legacy d.hpet) (output_of 0 d) (line_at 0 d).up ∷ cond (is_legacy d.hpet) (output_of 1 d) (irqf_of d.rtc)
+        ∷ back d)) (levels-front d p d.rtc (ticked_at (pit_ticked true) d.ticks) (same-timers (λ k l. ticked_where (pit_ticked true k) l) (λ k l. refl) d))
+        ∙ changes-first t (cond (is_legacy d.hpet) (output_of 0 d) (line_at 0 d).up) (cond (is_legacy d.hpet) (output_of 1 d) (irqf_of d.rtc))
+        (cond (is_legacy d.hpet) (output_of 0 d) (get_or (ticked_at (pit_ticked true) d.ticks) 0 no_line).up) d
+        ∙ ap (λ (l : Bool). change t 0 (cond l (output_of 0 d) (line_at 0 d).up)
+        (cond l (output_of 0 d) (get_or (ticked_at (pit_ticked true) d.ticks) 0 no_line).up)) plain
         ∙ ap (change t 0 (line_at 0 d).up) (up ∙ or-true (line_at 0 d).up)
 
-    by_tick : (rose legacy : Bool) → is_legacy d.hpet ≡ legacy → changes t line_numbers (levels d) (levels (record d { pit = p; ticks = ticked_at (pit_ticked (rose && not legacy)) d.ticks })) ≡ change t 0 (line_at 0 d).up ((line_at 0 d).up || (rose && not legacy))
+    by_tick : (rose legacy : Bool) → is_legacy d.hpet ≡ legacy
+        → changes t line_numbers (levels d) (levels (record d { pit = p; ticks = ticked_at (pit_ticked (rose && not legacy)) d.ticks }))
+        ≡ change t 0 (line_at 0 d).up ((line_at 0 d).up || (rose && not legacy))
     by_tick true true e = quiet
     by_tick true false e = rises e
     by_tick false legacy e = quiet

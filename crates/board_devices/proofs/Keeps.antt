@@ -1,5 +1,6 @@
 -- The conditions that join the devices, behind what is done at each place.
-use Rattle.std.proofs.Common.{◌≡◌, ℕ, zero, suc, ◌+◌, ◌<◌, ◌≤◌, Bool, true, false, cond, ltb, eqb, ◌%◌, ◌&&◌, not, List, length, get_or, refl, ap, sym, subst, ◌∙◌, inl, inr, arith}
+use Rattle.std.proofs.Common.{◌≡◌, ℕ, zero, suc, ◌+◌, ◌<◌, ◌≤◌, Bool, true, false, cond, ltb, eqb, ◌%◌, ◌&&◌, not, List, length, get_or, refl, ap}
+use Rattle.std.proofs.Common.{sym, subst, ◌∙◌, inl, inr, arith}
 use Rattle.hpet_registers.specs.declared.hpet.TheConstants.{HPET_HZ}
 use Rattle.std.proofs.lemmas.Bool.{lt-ltb, le-ltb, cases_lt}
 use Rattle.pit_readback.specs.declared.parts.PitParts.{PitParts}
@@ -7,7 +8,8 @@ use Rattle.rtc_registers.specs.declared.parts.RtcParts.{RtcParts}
 use Rattle.rtc_registers.specs.Registers.{pie_of, pf_of}
 use Rattle.hpet_registers.specs.declared.parts.HpetParts.{HpetParts}
 use Rattle.hpet_registers.specs.declared.register.Register.{Register}
-use Rattle.hpet_registers.specs.declared.register.Register.TheVariants.{Capabilities, Configuration, Status, MainCounter, TimerConfig, TimerComparator, TimerMessage, Reserved}
+use Rattle.hpet_registers.specs.declared.register.Register.TheVariants.{Capabilities, Configuration, Status, MainCounter, TimerConfig}
+use Rattle.hpet_registers.specs.declared.register.Register.TheVariants.{TimerComparator, TimerMessage, Reserved}
 use Rattle.hpet_registers.specs.Outputs.{has_ticks}
 use Rattle.hpet_registers.proofs.Product.{matches_of-absent}
 use Rattle.hpet_registers.specs.Parts.{is_legacy}
@@ -31,7 +33,8 @@ pub record KeepsLines (f : ℕ → TickParts → TickParts) (timers : ℕ) : Typ
   pub policy : (k : ℕ) (l : TickParts) → (f k l).policy ≡ l.policy
   pub absent : (k : ℕ) → timers ≤ k → k < 8 → f (suc (suc k)) no_line ≡ no_line
 
-pub IsDevices-each : (d : DeviceParts) (p : PitParts) (r : RtcParts) (h : HpetParts) (ls : List TickParts) (f : ℕ → TickParts → TickParts) → IsDevices d → ls ≡ each f 0 d.ticks → KeepsLines f d.hpet.timers
+pub IsDevices-each : (d : DeviceParts) (p : PitParts) (r : RtcParts) (h : HpetParts) (ls : List TickParts) (f : ℕ → TickParts → TickParts) → IsDevices d → ls
+    ≡ each f 0 d.ticks → KeepsLines f d.hpet.timers
     → h.timers ≡ d.hpet.timers → h.messages ≡ d.hpet.messages → (get_or ls 1 no_line).up ≡ ((pie_of r && not (is_legacy h)) && pf_of r)
     → IsDevices (record d { pit = p; rtc = r; hpet = h; ticks = ls })
 IsDevices-each d p r h ls f valid ls_is keeps timers messages flag = record {
@@ -39,12 +42,14 @@ IsDevices-each d p r h ls f valid ls_is keeps timers messages flag = record {
   slew_low = valid.slew_low;
   slew_high = valid.slew_high;
   flag = flag;
-  timer_lines = λ k small. subst (λ (n : ℕ). IsTimerLine (ltb k n) (get_or ls 2 no_line).policy (get_or ls (suc (suc k)) no_line)) (sym timers) (timer_line k small);
+  timer_lines = λ k small. subst (λ (n : ℕ). IsTimerLine (ltb k n) (get_or ls 2 no_line).policy (get_or ls (suc (suc k)) no_line)) (sym timers)
+      (timer_line k small);
   messages = messages ∙ valid.messages;
 }
   where
     at : (k : ℕ) → k < 10 → get_or ls k no_line ≡ f k (line_at k d)
-    at k less = ap (λ (xs : List TickParts). get_or xs k no_line) ls_is ∙ each-at f 0 k d.ticks no_line (omega (arith, valid.places)) ∙ ap (λ (i : ℕ). f i (line_at k d)) (omega arith)
+    at k less = ap (λ (xs : List TickParts). get_or xs k no_line) ls_is ∙ each-at f 0 k d.ticks no_line (omega (arith, valid.places))
+        ∙ ap (λ (i : ℕ). f i (line_at k d)) (omega arith)
 
     policy_at : (k : ℕ) → k < 10 → (get_or ls k no_line).policy ≡ (line_at k d).policy
     policy_at k less = ap (λ (l : TickParts). l.policy) (at k less) ∙ keeps.policy k (line_at k d)
@@ -52,11 +57,17 @@ IsDevices-each d p r h ls f valid ls_is keeps timers messages flag = record {
     timer_line : (k : ℕ) → k < 8 → IsTimerLine (ltb k d.hpet.timers) (get_or ls 2 no_line).policy (get_or ls (suc (suc k)) no_line)
     timer_line k small = elim (cases_lt k d.hpet.timers) [
       | inl there ↦
-          let line : (line_at (suc (suc k)) d).policy ≡ (line_at 2 d).policy = subst (λ (b : Bool). IsTimerLine b (line_at 2 d).policy (line_at (suc (suc k)) d)) (lt-ltb k d.hpet.timers there) (valid.timer_lines k small) in
-          subst (λ (b : Bool). IsTimerLine b (get_or ls 2 no_line).policy (get_or ls (suc (suc k)) no_line)) (sym (lt-ltb k d.hpet.timers there)) (policy_at (suc (suc k)) (omega arith) ∙ line ∙ sym (policy_at 2 (omega arith)))
+          let line : (line_at (suc (suc k)) d).policy
+          ≡ (line_at 2 d).policy = subst (λ (b : Bool). IsTimerLine b (line_at 2 d).policy (line_at (suc (suc k)) d)) (lt-ltb k d.hpet.timers there)
+          (valid.timer_lines k small) in
+          subst (λ (b : Bool). IsTimerLine b (get_or ls 2 no_line).policy (get_or ls (suc (suc k)) no_line)) (sym (lt-ltb k d.hpet.timers there))
+          (policy_at (suc (suc k)) (omega arith) ∙ line ∙ sym (policy_at 2 (omega arith)))
       | inr gone ↦
-          let line : line_at (suc (suc k)) d ≡ no_line = subst (λ (b : Bool). IsTimerLine b (line_at 2 d).policy (line_at (suc (suc k)) d)) (le-ltb k d.hpet.timers gone) (valid.timer_lines k small) in
-          subst (λ (b : Bool). IsTimerLine b (get_or ls 2 no_line).policy (get_or ls (suc (suc k)) no_line)) (sym (le-ltb k d.hpet.timers gone)) (at (suc (suc k)) (omega arith) ∙ ap (f (suc (suc k))) line ∙ keeps.absent k gone small)
+          let line : line_at (suc (suc k)) d
+          ≡ no_line = subst (λ (b : Bool). IsTimerLine b (line_at 2 d).policy (line_at (suc (suc k)) d)) (le-ltb k d.hpet.timers gone)
+          (valid.timer_lines k small) in
+          subst (λ (b : Bool). IsTimerLine b (get_or ls 2 no_line).policy (get_or ls (suc (suc k)) no_line)) (sym (le-ltb k d.hpet.timers gone))
+          (at (suc (suc k)) (omega arith) ∙ ap (f (suc (suc k))) line ∙ keeps.absent k gone small)
     ]
 
 pub KeepsLines-acked : (test : ℕ → Bool) (timers : ℕ) → KeepsLines (λ k l. acked_where (test k) l) timers
@@ -96,7 +107,8 @@ timers-register_written (TimerComparator k) width high v h = refl
 timers-register_written (TimerMessage k) width high v h = refl
 timers-register_written Reserved width high v h = refl
 
-messages-register_written : (register : Register) (width : ℕ) (high : Bool) (v : ℕ) (h : HpetParts) → (register_written register width high v h).messages ≡ h.messages
+messages-register_written : (register : Register) (width : ℕ) (high : Bool) (v : ℕ) (h : HpetParts) → (register_written register width high v h).messages
+    ≡ h.messages
 messages-register_written Capabilities width high v h = refl
 messages-register_written Configuration width high v h = refl
 messages-register_written Status width high v h = refl
@@ -114,14 +126,16 @@ pub timers-hpet_written : (offset width v : ℕ) (h : HpetParts) → (hpet_writt
 timers-hpet_written offset width v h = where_effective (λ (g : HpetParts). g.timers) (is_effective offset width) _ h (timers-register_written _ width _ v h)
 
 pub messages-hpet_written : (offset width v : ℕ) (h : HpetParts) → (hpet_written offset width v h).messages ≡ h.messages
-messages-hpet_written offset width v h = where_effective (λ (g : HpetParts). g.messages) (is_effective offset width) _ h (messages-register_written _ width _ v h)
+messages-hpet_written offset width v h = where_effective (λ (g : HpetParts). g.messages) (is_effective offset width) _ h
+    (messages-register_written _ width _ v h)
 
 -- a line without ticks that holds nothing
 none-line_after : (ticks : ℕ → ℕ) → ((j : ℕ) → ticks j ≡ 0) → (slew t n : ℕ) → line_after ticks slew t n no_line ≡ no_line
 none-line_after ticks none slew t zero = line_after-zero ticks slew t no_line
 none-line_after ticks none slew t (suc n) =
     line_after-suc ticks slew t n no_line
-    ∙ ap (λ (x : TickParts). caught_up_where (eqb ((t + n + 1) % slew) 0) (ticked_where (ltb (ticks n) (ticks (suc n))) x)) (none-line_after ticks none slew t n)
+    ∙ ap (λ (x : TickParts). caught_up_where (eqb ((t + n + 1) % slew) 0) (ticked_where (ltb (ticks n) (ticks (suc n))) x))
+    (none-line_after ticks none slew t n)
     ∙ ap (λ (b : Bool). caught_up_where (eqb ((t + n + 1) % slew) 0) (ticked_where b no_line)) (le-ltb (ticks n) (ticks (suc n)) (omega (arith, none (suc n))))
     ∙ point (eqb ((t + n + 1) % slew) 0)
   where
@@ -145,4 +159,6 @@ KeepsLines-line_run d t n = record { policy = policy; absent = absent }
     counted false m e = refl
 
     absent : (k : ℕ) → d.hpet.timers ≤ k → k < 8 → line_run d t n (suc (suc k)) no_line ≡ no_line
-    absent k gone small = none-line_after (source d t (suc (suc k))) (λ j. counted (has_ticks k d.hpet) (matches_of k d.hpet (pulses_from HPET_HZ t j)) (matches_of-absent k (pulses_from HPET_HZ t j) d.hpet gone)) d.slew_ns t n
+    absent k gone small = none-line_after (source d t (suc (suc k)))
+        (λ j. counted (has_ticks k d.hpet) (matches_of k d.hpet (pulses_from HPET_HZ t j))
+        (matches_of-absent k (pulses_from HPET_HZ t j) d.hpet gone)) d.slew_ns t n

@@ -1,5 +1,6 @@
 -- What is done to the lines that a mask names.
-use Rattle.std.proofs.Common.{◌≡◌, ℕ, zero, suc, ◌+◌, ◌<◌, ◌≤◌, Bool, true, false, List, [], ◌∷◌, ◌++◌, length, get_or, set, map, refl, ap, sym, ◌∙◌, append-nil, append_assoc, arith}
+use Rattle.std.proofs.Common.{◌≡◌, ℕ, zero, suc, ◌+◌, ◌<◌, ◌≤◌, Bool, true, false, List, [], ◌∷◌, ◌++◌, length, get_or, set, map, refl, ap, sym, ◌∙◌}
+use Rattle.std.proofs.Common.{append-nil, append_assoc, arith}
 use Rattle.irq_edges.specs.declared.edges.Edge.{Edge}
 use Rattle.irq_edges.specs.Lines.{changes, line_numbers}
 use Rattle.irq_edges.proofs.EdgesOf.{changes-same}
@@ -31,13 +32,15 @@ at-ten f d (suc (suc (suc (suc (suc (suc (suc (suc (suc (suc k)))))))))) h = abs
 pub masked : (op : Bool → TickParts → TickParts) (test : ℕ → Bool) (mask : List Bool) (ls new : List TickParts) → length ls ≡ 10 → mask ≡ map test ten
     → new ≡ map (λ k. op (get_or mask k false) (get_or ls k no_line)) ten → new ≡ each (λ k l. op (test k) l) 0 ls
 masked op test mask ls new long mask_is new_is =
-    new_is ∙ same_places (map (λ k. op (get_or mask k false) (get_or ls k no_line)) ten) (each (λ k l. op (test k) l) 0 ls) no_line (sym (length-each (λ k l. op (test k) l) 0 ls ∙ long)) (λ k less.
+    new_is ∙ same_places (map (λ k. op (get_or mask k false) (get_or ls k no_line)) ten) (each (λ k l. op (test k) l) 0 ls) no_line
+    (sym (length-each (λ k l. op (test k) l) 0 ls ∙ long)) (λ k less.
     at-ten (λ i. op (get_or mask i false) (get_or ls i no_line)) no_line k less
     ∙ ap (λ (b : Bool). op b (get_or ls k no_line)) (ap (λ (m : List Bool). get_or m k false) mask_is ∙ at-ten test false k less)
     ∙ sym (each-at (λ i l. op (test i) l) 0 k ls no_line (omega (arith, long)) ∙ ap (λ (i : ℕ). op (test i) (get_or ls k no_line)) (omega arith)))
 
 -- edges that were appended in two parts
-pub two_parts : (t : ℕ) (es0 es1 es2 : List Edge) (a b c : List Bool) (d m w : DeviceParts) → es1 ≡ es0 ++ changes t line_numbers a b → es2 ≡ es1 ++ changes t line_numbers b c → a ≡ levels d → b ≡ levels m → c ≡ levels w
+pub two_parts : (t : ℕ) (es0 es1 es2 : List Edge) (a b c : List Bool) (d m w : DeviceParts) → es1 ≡ es0 ++ changes t line_numbers a b → es2 ≡ es1
+    ++ changes t line_numbers b c → a ≡ levels d → b ≡ levels m → c ≡ levels w
     → es2 ≡ es0 ++ (changes t line_numbers (levels d) (levels m) ++ changes t line_numbers (levels m) (levels w))
 two_parts t es0 es1 es2 a b c d m w first second a_is b_is c_is =
     second ∙ ap (λ (es : List Edge). es ++ changes t line_numbers b c) first ∙ append_assoc es0 (changes t line_numbers a b) (changes t line_numbers b c)
@@ -52,20 +55,24 @@ one_part t es0 es1 a b d w only a_is b_is =
     only
     ∙ ap (λ (x : List Bool). es0 ++ changes t line_numbers x b) a_is
     ∙ ap (λ (x : List Bool). es0 ++ changes t line_numbers (levels d) x) b_is
-    ∙ ap (λ (es : List Edge). es0 ++ es) (sym (append-nil (changes t line_numbers (levels d) (levels w))) ∙ ap (λ (es : List Edge). changes t line_numbers (levels d) (levels w) ++ es) (sym (changes-same t line_numbers (levels w))))
+    ∙ ap (λ (es : List Edge). es0 ++ es)
+    (sym (append-nil (changes t line_numbers (levels d) (levels w)))
+    ∙ ap (λ (es : List Edge). changes t line_numbers (levels d) (levels w) ++ es) (sym (changes-same t line_numbers (levels w))))
 
 due-acked_where : (b : Bool) (l : TickParts) → (acked_where b l).counts.due ≡ l.counts.due
 due-acked_where true l = refl
 due-acked_where false l = refl
 
 -- no acknowledgement makes a tick due
-pub due-acked : (test : ℕ → Bool) (ls new : List TickParts) → length ls ≡ 10 → new ≡ each (λ k l. acked_where (test k) l) 0 ls → (k : ℕ) → k < 10 → (get_or new k no_line).counts.due ≡ (get_or ls k no_line).counts.due
+pub due-acked : (test : ℕ → Bool) (ls new : List TickParts) → length ls ≡ 10 → new ≡ each (λ k l. acked_where (test k) l) 0 ls → (k : ℕ) → k < 10
+    → (get_or new k no_line).counts.due ≡ (get_or ls k no_line).counts.due
 due-acked test ls new long new_is k less =
     ap (λ (xs : List TickParts). (get_or xs k no_line).counts.due) new_is
     ∙ ap (λ (l : TickParts). l.counts.due) (each-at (λ i l. acked_where (test i) l) 0 k ls no_line (omega (arith, long)))
     ∙ due-acked_where (test (0 + k)) (get_or ls k no_line)
 
-pub no_edges : (t : ℕ) (es : List Edge) (d : DeviceParts) → es ++ (changes t line_numbers (levels d) (levels d) ++ changes t line_numbers (levels d) (levels d)) ≡ es
+pub no_edges : (t : ℕ) (es : List Edge) (d : DeviceParts) → es
+    ++ (changes t line_numbers (levels d) (levels d) ++ changes t line_numbers (levels d) (levels d)) ≡ es
 no_edges t es d = ap (λ (xs : List Edge). es ++ (xs ++ xs)) (changes-same t line_numbers (levels d)) ∙ append-nil es
 
 -- only the first line has a tick
@@ -112,7 +119,8 @@ due-rtc_set up zero l = refl
 due-rtc_set up (suc zero) l = refl
 due-rtc_set up (suc (suc k)) l = refl
 
-pub due-set : (up : Bool) (ls new : List TickParts) → length ls ≡ 10 → new ≡ each (rtc_set up) 0 ls → (k : ℕ) → k < 10 → (get_or new k no_line).counts.due ≡ (get_or ls k no_line).counts.due
+pub due-set : (up : Bool) (ls new : List TickParts) → length ls ≡ 10 → new ≡ each (rtc_set up) 0 ls → (k : ℕ) → k < 10 → (get_or new k no_line).counts.due
+    ≡ (get_or ls k no_line).counts.due
 due-set up ls new long new_is k less =
     ap (λ (xs : List TickParts). (get_or xs k no_line).counts.due) new_is
     ∙ ap (λ (l : TickParts). l.counts.due) (each-at (rtc_set up) 0 k ls no_line (omega (arith, long)))
@@ -122,9 +130,12 @@ due-where : (b : Bool) (l : TickParts) → (ticked_where b l).counts.due ≤ l.c
 due-where true l = omega arith
 due-where false l = omega arith
 
-pub due-ticked : (test : ℕ → Bool) (ls new : List TickParts) → length ls ≡ 10 → new ≡ ticked_at test ls → (k : ℕ) → k < 10 → (get_or new k no_line).counts.due ≤ (get_or ls k no_line).counts.due + 1
+pub due-ticked : (test : ℕ → Bool) (ls new : List TickParts) → length ls ≡ 10 → new ≡ ticked_at test ls → (k : ℕ) → k < 10
+    → (get_or new k no_line).counts.due ≤ (get_or ls k no_line).counts.due + 1
 due-ticked test ls new long new_is k less =
-    let e : (get_or new k no_line).counts.due ≡ (ticked_where (test (0 + k)) (get_or ls k no_line)).counts.due = ap (λ (xs : List TickParts). (get_or xs k no_line).counts.due) new_is ∙ ap (λ (l : TickParts). l.counts.due) (each-at (λ i l. ticked_where (test i) l) 0 k ls no_line (omega (arith, long))) in
+    let e : (get_or new k no_line).counts.due
+    ≡ (ticked_where (test (0 + k)) (get_or ls k no_line)).counts.due = ap (λ (xs : List TickParts). (get_or xs k no_line).counts.due) new_is
+    ∙ ap (λ (l : TickParts). l.counts.due) (each-at (λ i l. ticked_where (test i) l) 0 k ls no_line (omega (arith, long))) in
     omega (arith, e, due-where (test (0 + k)) (get_or ls k no_line))
 
 pub line_of_clock : (up : Bool) (ls : List TickParts) → length ls ≡ 10 → (get_or (each (rtc_set up) 0 ls) 1 no_line).up ≡ up

@@ -21,7 +21,8 @@ each-none f e k [] = refl
 each-none f e k (l ∷ ls) = ap (λ (x : TickParts). x ∷ each f (suc k) ls) (e k l) ∙ ap (λ (xs : List TickParts). l ∷ xs) (each-none f e (suc k) ls)
 
 -- one place
-pub each-at : (f : ℕ → TickParts → TickParts) (k i : ℕ) (ls : List TickParts) (d : TickParts) → i < length ls → get_or (each f k ls) i d ≡ f (k + i) (get_or ls i d)
+pub each-at : (f : ℕ → TickParts → TickParts) (k i : ℕ) (ls : List TickParts) (d : TickParts) → i < length ls → get_or (each f k ls) i d
+    ≡ f (k + i) (get_or ls i d)
 each-at f k i [] d h = absurd (omega arith)
 each-at f k zero (l ∷ ls) d h = ap (λ (j : ℕ). f j l) (omega arith)
 each-at f k (suc i) (l ∷ ls) d h = each-at f (suc k) i ls d (omega arith) ∙ ap (λ (j : ℕ). f j (get_or ls i d)) (omega arith)
@@ -31,9 +32,11 @@ length-each f k [] = refl
 length-each f k (l ∷ ls) = ap suc (length-each f (suc k) ls)
 
 -- what holds of the places so far, and of one more, holds of both
-pub more : {X : Type 0} (P : ℕ → X → Type 0) (xs : List X) (d : X) (i : ℕ) (x : X) → i < length xs → ((j : ℕ) → j < i → P j (get_or xs j d)) → P i x → (j : ℕ) → j < i + 1 → P j (get_or (set xs i x) j d)
+pub more : {X : Type 0} (P : ℕ → X → Type 0) (xs : List X) (d : X) (i : ℕ) (x : X) → i < length xs → ((j : ℕ) → j < i → P j (get_or xs j d)) → P i x → (j : ℕ)
+    → j < i + 1 → P j (get_or (set xs i x) j d)
 more P xs d i x inside before here j less = elim (cases_eq j i) [
-  | inl same ↦ subst (λ y. P j y) (sym (ap (λ (k : ℕ). get_or (set xs i x) k d) same ∙ get_or-set_same xs i x d inside)) (subst (λ (k : ℕ). P k x) (sym same) here)
+  | inl same ↦ subst (λ y. P j y) (sym (ap (λ (k : ℕ). get_or (set xs i x) k d) same ∙ get_or-set_same xs i x d inside))
+      (subst (λ (k : ℕ). P k x) (sym same) here)
   | inr other ↦ subst (λ y. P j y) (sym (get_or-set_other xs i j x d other)) (before j (below j i less other))
 ]
   where
@@ -41,7 +44,8 @@ more P xs d i x inside before here j less = elim (cases_eq j i) [
     below j i h apart = omega arith
 
 -- the places behind are as they were
-pub still_behind : {X : Type 0} (xs ys : List X) (d : X) (i : ℕ) (x : X) → ((j : ℕ) → i ≤ j → get_or xs j d ≡ get_or ys j d) → (j : ℕ) → i + 1 ≤ j → get_or (set xs i x) j d ≡ get_or ys j d
+pub still_behind : {X : Type 0} (xs ys : List X) (d : X) (i : ℕ) (x : X) → ((j : ℕ) → i ≤ j → get_or xs j d ≡ get_or ys j d) → (j : ℕ) → i + 1 ≤ j
+    → get_or (set xs i x) j d ≡ get_or ys j d
 still_behind xs ys d i x before j h = get_or-set_other xs i j x d (λ e. absurd (omega (arith, e))) ∙ before j (omega arith)
 
 -- lists that are the same at each place

@@ -1,5 +1,6 @@
 -- The run of the devices is the run of each part by itself.
-use Rattle.std.proofs.Common.{◌≡◌, ℕ, zero, suc, ◌+◌, ◌%◌, Bool, true, false, cond, ltb, eqb, ◌&&◌, ◌||◌, not, List, get_or, refl, ap, sym, ◌∙◌, inl, inr, arith}
+use Rattle.std.proofs.Common.{◌≡◌, ℕ, zero, suc, ◌+◌, ◌%◌, Bool, true, false, cond, ltb, eqb, ◌&&◌, ◌||◌, not, List, get_or, refl, ap, sym, ◌∙◌, inl}
+use Rattle.std.proofs.Common.{inr, arith}
 use Rattle.pit_readback.specs.declared.TheConstants.{PIT_HZ}
 use Rattle.rtc_registers.specs.declared.TheConstants.{RTC_HZ}
 use Rattle.hpet_registers.specs.declared.hpet.TheConstants.{HPET_HZ}
@@ -91,34 +92,52 @@ record Tests (d : DeviceParts) (t n : ℕ) (e0 e1 e2 e3 : DeviceParts) : Type 0 
 -- what a nanosecond does at place k
 abbrev at_place : (t n slew : ℕ) (e0 e1 e2 e3 : DeviceParts) → ℕ → TickParts → TickParts
 at_place t n slew e0 e1 e2 e3 k l =
-    caught_up_where (eqb ((t + n + 1) % slew) 0 && sees_point e3 k) (ticked_where (falls_at HPET_HZ (t + n + 1) && hpet_due e2 k) (ticked_where (falls_at RTC_HZ (t + n + 1) && rtc_due e1 k) (ticked_where (falls_at PIT_HZ (t + n + 1) && pit_due e0 k) l)))
+    caught_up_where (eqb ((t + n + 1) % slew) 0 && sees_point e3 k)
+    (ticked_where (falls_at HPET_HZ (t + n + 1) && hpet_due e2 k)
+    (ticked_where (falls_at RTC_HZ (t + n + 1) && rtc_due e1 k) (ticked_where (falls_at PIT_HZ (t + n + 1) && pit_due e0 k) l)))
 
 rtc_line : (c p : Bool) (ticks : ℕ → ℕ) (slew t n : ℕ) (l : TickParts) → p ≡ eqb ((t + n + 1) % slew) 0
-    → caught_up_where (p && c) (ticked_where (ltb (cond c (ticks n) 0) (cond c (ticks (suc n)) 0)) (cond c (line_after (λ j. cond c (ticks j) 0) slew t n l) l)) ≡ cond c (line_after (λ j. cond c (ticks j) 0) slew t (suc n) l) l
-rtc_line true p ticks slew t n l e = ap (λ (b : Bool). caught_up_where b (ticked_where (ltb (ticks n) (ticks (suc n))) (line_after (λ j. ticks j) slew t n l))) (and-true p ∙ e) ∙ sym (line_after-suc (λ j. ticks j) slew t n l)
+    → caught_up_where (p && c) (ticked_where (ltb (cond c (ticks n) 0) (cond c (ticks (suc n)) 0))
+    (cond c (line_after (λ j. cond c (ticks j) 0) slew t n l) l)) ≡ cond c (line_after (λ j. cond c (ticks j) 0) slew t (suc n) l) l
+rtc_line true p ticks slew t n l e = ap (λ (b : Bool). caught_up_where b (ticked_where (ltb (ticks n) (ticks (suc n))) (line_after (λ j. ticks j) slew t n l)))
+    (and-true p ∙ e) ∙ sym (line_after-suc (λ j. ticks j) slew t n l)
 rtc_line false p ticks slew t n l e = skip_point p (ticked_where (ltb 0 0) l) ∙ ap (λ (b : Bool). ticked_where b l) (le-ltb 0 0 (omega arith))
 
 place-step : (d : DeviceParts) (t n : ℕ) (e0 e1 e2 e3 : DeviceParts) → Tests d t n e0 e1 e2 e3 → (k : ℕ) (l : TickParts)
     → at_place t n d.slew_ns e0 e1 e2 e3 k (line_run d t n k l) ≡ line_run d t (suc n) k l
 place-step d t n e0 e1 e2 e3 tests zero l =
     let x : TickParts = line_after (source d t 0) d.slew_ns t n l in
-    ap (λ (b : Bool). caught_up_where b (ticked_where (falls_at HPET_HZ (t + n + 1) && false) (ticked_where (falls_at RTC_HZ (t + n + 1) && false) (ticked_where (falls_at PIT_HZ (t + n + 1) && pit_due e0 0) x)))) (and-true (eqb ((t + n + 1) % d.slew_ns) 0))
-    ∙ ap (caught_up_where (eqb ((t + n + 1) % d.slew_ns) 0)) (skip_tick (falls_at HPET_HZ (t + n + 1)) (ticked_where (falls_at RTC_HZ (t + n + 1) && false) (ticked_where (falls_at PIT_HZ (t + n + 1) && pit_due e0 0) x))
+    ap (λ (b : Bool). caught_up_where b
+    (ticked_where (falls_at HPET_HZ (t + n + 1) && false)
+    (ticked_where (falls_at RTC_HZ (t + n + 1) && false) (ticked_where (falls_at PIT_HZ (t + n + 1) && pit_due e0 0) x))))
+    (and-true (eqb ((t + n + 1) % d.slew_ns) 0))
+    ∙ ap (caught_up_where (eqb ((t + n + 1) % d.slew_ns) 0))
+    (skip_tick (falls_at HPET_HZ (t + n + 1))
+    (ticked_where (falls_at RTC_HZ (t + n + 1) && false) (ticked_where (falls_at PIT_HZ (t + n + 1) && pit_due e0 0) x))
     ∙ skip_tick (falls_at RTC_HZ (t + n + 1)) (ticked_where (falls_at PIT_HZ (t + n + 1) && pit_due e0 0) x)
     ∙ ap (λ (b : Bool). ticked_where b x) tests.pit)
     ∙ sym (line_after-suc (source d t 0) d.slew_ns t n l)
 place-step d t n e0 e1 e2 e3 tests (suc zero) l =
     let p : Bool = eqb ((t + n + 1) % d.slew_ns) 0 in
     let x : TickParts = line_run d t n 1 l in
-    ap (λ (b : Bool). caught_up_where (p && b) (ticked_where (falls_at HPET_HZ (t + n + 1) && false) (ticked_where (falls_at RTC_HZ (t + n + 1) && rtc_due e1 1) (ticked_where (falls_at PIT_HZ (t + n + 1) && false) x)))) tests.sees
-    ∙ ap (caught_up_where (p && counts_rtc d)) (skip_tick (falls_at HPET_HZ (t + n + 1)) (ticked_where (falls_at RTC_HZ (t + n + 1) && rtc_due e1 1) (ticked_where (falls_at PIT_HZ (t + n + 1) && false) x))
+    ap (λ (b : Bool). caught_up_where (p && b)
+    (ticked_where (falls_at HPET_HZ (t + n + 1) && false)
+    (ticked_where (falls_at RTC_HZ (t + n + 1) && rtc_due e1 1) (ticked_where (falls_at PIT_HZ (t + n + 1) && false) x)))) tests.sees
+    ∙ ap (caught_up_where (p && counts_rtc d))
+    (skip_tick (falls_at HPET_HZ (t + n + 1))
+    (ticked_where (falls_at RTC_HZ (t + n + 1) && rtc_due e1 1) (ticked_where (falls_at PIT_HZ (t + n + 1) && false) x))
     ∙ ap (ticked_where (falls_at RTC_HZ (t + n + 1) && rtc_due e1 1)) (skip_tick (falls_at PIT_HZ (t + n + 1)) x)
     ∙ ap (λ (b : Bool). ticked_where b x) tests.rtc)
     ∙ rtc_line (counts_rtc d) p (λ j. ticks_in (divider_of d.rtc) (pulses_from RTC_HZ t j)) d.slew_ns t n l refl
 place-step d t n e0 e1 e2 e3 tests (suc (suc k)) l =
     let x : TickParts = line_after (source d t (suc (suc k))) d.slew_ns t n l in
-    ap (λ (b : Bool). caught_up_where b (ticked_where (falls_at HPET_HZ (t + n + 1) && hpet_due e2 (suc (suc k))) (ticked_where (falls_at RTC_HZ (t + n + 1) && false) (ticked_where (falls_at PIT_HZ (t + n + 1) && false) x)))) (and-true (eqb ((t + n + 1) % d.slew_ns) 0))
-    ∙ ap (caught_up_where (eqb ((t + n + 1) % d.slew_ns) 0)) (ap (ticked_where (falls_at HPET_HZ (t + n + 1) && hpet_due e2 (suc (suc k)))) (skip_tick (falls_at RTC_HZ (t + n + 1)) (ticked_where (falls_at PIT_HZ (t + n + 1) && false) x) ∙ skip_tick (falls_at PIT_HZ (t + n + 1)) x)
+    ap (λ (b : Bool). caught_up_where b
+    (ticked_where (falls_at HPET_HZ (t + n + 1) && hpet_due e2 (suc (suc k)))
+    (ticked_where (falls_at RTC_HZ (t + n + 1) && false) (ticked_where (falls_at PIT_HZ (t + n + 1) && false) x))))
+    (and-true (eqb ((t + n + 1) % d.slew_ns) 0))
+    ∙ ap (caught_up_where (eqb ((t + n + 1) % d.slew_ns) 0))
+    (ap (ticked_where (falls_at HPET_HZ (t + n + 1) && hpet_due e2 (suc (suc k))))
+    (skip_tick (falls_at RTC_HZ (t + n + 1)) (ticked_where (falls_at PIT_HZ (t + n + 1) && false) x) ∙ skip_tick (falls_at PIT_HZ (t + n + 1)) x)
     ∙ ap (λ (b : Bool). ticked_where b x) (tests.hpet k))
     ∙ sym (line_after-suc (source d t (suc (suc k))) d.slew_ns t n l)
 
@@ -159,12 +178,14 @@ flag-step false p e l m r valid is_next ticks = ap (λ (b : Bool). flagged_where
 flag-step true p false l m r valid is_next ticks =
     flag-join (p && is_waiting l) l.up r valid ∙ ap (λ (b : Bool). flagged_where b r) (sym (up-point p l) ∙ ap (λ (k : TickParts). k.up) (sym (is_next refl)))
 flag-step true p true l m r valid is_next ticks =
-    ap (flagged_where (p && is_waiting (ticked l))) (flag-same l.up r valid (ticks refl)) ∙ flag-same (p && is_waiting (ticked l)) r valid (ticks refl) ∙ sym (flag-same m.up r valid (ticks refl))
+    ap (flagged_where (p && is_waiting (ticked l))) (flag-same l.up r valid (ticks refl)) ∙ flag-same (p && is_waiting (ticked l)) r valid (ticks refl)
+    ∙ sym (flag-same m.up r valid (ticks refl))
 
 -- PF is the line
 pub flag-is-line : (c : Bool) (t n : ℕ) (slew : ℕ) (ticks : ℕ → ℕ) (l : TickParts) (start r : RtcParts) → IsRtc r → ticks 0 ≡ 0
     → l.up ≡ (c && pf_of start) → pf_of r ≡ (pf_of start || ltb 0 (ticks n))
-    → (cond c (line_after (λ j. cond c (ticks j) 0) slew t n l) l).up ≡ (c && pf_of (flagged_where (c && (cond c (line_after (λ j. cond c (ticks j) 0) slew t n l) l).up) r))
+    → (cond c (line_after (λ j. cond c (ticks j) 0) slew t n l) l).up
+    ≡ (c && pf_of (flagged_where (c && (cond c (line_after (λ j. cond c (ticks j) 0) slew t n l) l).up) r))
 unfolding flagged_where
 flag-is-line false t n slew ticks l start r valid none flag pf = flag
 flag-is-line true t n slew ticks l start r valid none flag pf = elim (cases_Bool (line_after (λ j. ticks j) slew t n l).up) [
@@ -188,7 +209,8 @@ same_parts d {p} {q} {r} {s} {h} {i} {ls} {ms} e f g k =
 rtc_times : ℕ → ℕ → DeviceParts → RtcParts
 rtc_times t n d = rtc_pulsed_times (pulses_from RTC_HZ t n) d.rtc
 
-pub counts-by : (r s : RtcParts) (h i : HpetParts) → register_b r ≡ register_b s → is_legacy h ≡ is_legacy i → (pie_of r && not (is_legacy h)) ≡ (pie_of s && not (is_legacy i))
+pub counts-by : (r s : RtcParts) (h i : HpetParts) → register_b r ≡ register_b s → is_legacy h ≡ is_legacy i → (pie_of r && not (is_legacy h))
+    ≡ (pie_of s && not (is_legacy i))
 counts-by r s h i e f = ap (λ (b : ℕ). bit 6 b && not (is_legacy h)) e ∙ ap (λ (l : Bool). pie_of s && not l) f
 
 -- what the nanosecond behind n of them finds
@@ -196,10 +218,13 @@ module _ (t n : ℕ) (d : DeviceParts) (sound : Sound d) where
   flag_now : Bool
   flag_now = counts_rtc d && (line_run d t n 1 (line_at 1 d)).up
 
-  pulses-pit : pit_pulsed_times (pulses_from PIT_HZ t (suc n)) d.pit ≡ cond (falls_at PIT_HZ (t + n + 1)) (pit_pulsed (pit_pulsed_times (pulses_from PIT_HZ t n) d.pit)) (pit_pulsed_times (pulses_from PIT_HZ t n) d.pit)
+  pulses-pit : pit_pulsed_times (pulses_from PIT_HZ t (suc n)) d.pit
+      ≡ cond (falls_at PIT_HZ (t + n + 1)) (pit_pulsed (pit_pulsed_times (pulses_from PIT_HZ t n) d.pit)) (pit_pulsed_times (pulses_from PIT_HZ t n) d.pit)
   pulses-pit = times-step (λ m. pit_pulsed_times m d.pit) pit_pulsed PIT_HZ t n (omega arith) (λ m. pit_pulsed_times-suc m d.pit)
 
-  pulses-hpet : hpet_pulsed_times (pulses_from HPET_HZ t (suc n)) d.hpet ≡ cond (falls_at HPET_HZ (t + n + 1)) (hpet_pulsed (hpet_pulsed_times (pulses_from HPET_HZ t n) d.hpet)) (hpet_pulsed_times (pulses_from HPET_HZ t n) d.hpet)
+  pulses-hpet : hpet_pulsed_times (pulses_from HPET_HZ t (suc n)) d.hpet
+      ≡ cond (falls_at HPET_HZ (t + n + 1)) (hpet_pulsed (hpet_pulsed_times (pulses_from HPET_HZ t n) d.hpet))
+      (hpet_pulsed_times (pulses_from HPET_HZ t n) d.hpet)
   pulses-hpet = times-step (λ m. hpet_pulsed_times m d.hpet) hpet_pulsed HPET_HZ t n (omega arith) (λ m. refl)
 
   pulses-rtc : rtc_times t (suc n) d ≡ cond (falls_at RTC_HZ (t + n + 1)) (rtc_pulsed (rtc_times t n d)) (rtc_times t n d)
@@ -215,10 +240,12 @@ module _ (t n : ℕ) (d : DeviceParts) (sound : Sound d) where
   b-rtc m = register_b-rtc_pulsed_times (pulses_from RTC_HZ t m) d.rtc sound.rtc
 
   -- PF goes past the pulse
-  flagged-pulse : (b : Bool) → cond (falls_at RTC_HZ (t + n + 1)) (rtc_pulsed (flagged_where b (rtc_times t n d))) (flagged_where b (rtc_times t n d)) ≡ flagged_where b (rtc_times t (suc n) d)
+  flagged-pulse : (b : Bool) → cond (falls_at RTC_HZ (t + n + 1)) (rtc_pulsed (flagged_where b (rtc_times t n d))) (flagged_where b (rtc_times t n d))
+      ≡ flagged_where b (rtc_times t (suc n) d)
   flagged-pulse b = past (falls_at RTC_HZ (t + n + 1)) ∙ ap (flagged_where b) (sym pulses-rtc)
     where
-      past : (f : Bool) → cond f (rtc_pulsed (flagged_where b (rtc_times t n d))) (flagged_where b (rtc_times t n d)) ≡ flagged_where b (cond f (rtc_pulsed (rtc_times t n d)) (rtc_times t n d))
+      past : (f : Bool) → cond f (rtc_pulsed (flagged_where b (rtc_times t n d))) (flagged_where b (rtc_times t n d))
+          ≡ flagged_where b (cond f (rtc_pulsed (rtc_times t n d)) (rtc_times t n d))
       past true = pulsed-flagged_where b (rtc_times t n d) (valid-rtc n)
       past false = refl
 
@@ -237,48 +264,70 @@ module _ (t n : ℕ) (d : DeviceParts) (sound : Sound d) where
   legacy-now : (m : ℕ) → is_legacy (hpet_pulsed_times m d.hpet) ≡ is_legacy d.hpet
   legacy-now m = is_legacy-hpet_pulsed_times m d.hpet
 
-  next_tick : (ticks_next (divider_of (flagged_where flag_now (rtc_times t n d))) && (pie_of (flagged_where flag_now (rtc_times t n d)) && not (is_legacy (hpet_pulsed_times (pulses_from HPET_HZ t n) d.hpet))))
-      ≡ (ticks_next (divider_times (pulses_from RTC_HZ t n) (divider_of d.rtc)) && (pie_of (flagged_where flag_now (rtc_times t n d)) && not (is_legacy (hpet_pulsed_times (pulses_from HPET_HZ t n) d.hpet))))
+  next_tick : (ticks_next (divider_of (flagged_where flag_now (rtc_times t n d)))
+      && (pie_of (flagged_where flag_now (rtc_times t n d)) && not (is_legacy (hpet_pulsed_times (pulses_from HPET_HZ t n) d.hpet))))
+      ≡ (ticks_next (divider_times (pulses_from RTC_HZ t n) (divider_of d.rtc))
+      && (pie_of (flagged_where flag_now (rtc_times t n d)) && not (is_legacy (hpet_pulsed_times (pulses_from HPET_HZ t n) d.hpet))))
   unfolding rtc_times flag_now
-  next_tick = ap (λ (c : DividerParts). ticks_next c && (pie_of (flagged_where flag_now (rtc_times t n d)) && not (is_legacy (hpet_pulsed_times (pulses_from HPET_HZ t n) d.hpet)))) (divider_of-flagged_where flag_now (rtc_times t n d) (valid-rtc n) ∙ divider_of-rtc_pulsed_times (pulses_from RTC_HZ t n) d.rtc sound.rtc)
+  next_tick = ap (λ (c : DividerParts). ticks_next c
+      && (pie_of (flagged_where flag_now (rtc_times t n d)) && not (is_legacy (hpet_pulsed_times (pulses_from HPET_HZ t n) d.hpet))))
+      (divider_of-flagged_where flag_now (rtc_times t n d) (valid-rtc n) ∙ divider_of-rtc_pulsed_times (pulses_from RTC_HZ t n) d.rtc sound.rtc)
 
   counted : (pie_of (flagged_where flag_now (rtc_times t n d)) && not (is_legacy (hpet_pulsed_times (pulses_from HPET_HZ t n) d.hpet))) ≡ counts_rtc d
   unfolding rtc_times flag_now
-  counted = counts-by (flagged_where flag_now (rtc_times t n d)) d.rtc (hpet_pulsed_times (pulses_from HPET_HZ t n) d.hpet) d.hpet (register_b-flagged_where flag_now (rtc_times t n d) (valid-rtc n) ∙ b-rtc n) (legacy-now (pulses_from HPET_HZ t n))
+  counted = counts-by (flagged_where flag_now (rtc_times t n d)) d.rtc (hpet_pulsed_times (pulses_from HPET_HZ t n) d.hpet) d.hpet
+      (register_b-flagged_where flag_now (rtc_times t n d) (valid-rtc n) ∙ b-rtc n) (legacy-now (pulses_from HPET_HZ t n))
 
   tests : Tests d t n before then_pit then_rtc then_hpet
   unfolding before then_pit then_rtc then_hpet parted pit_pulse rtc_pulse hpet_pulse rtc_times flag_now
   tests = record {
     pit = ap (λ (b : Bool). falls_at PIT_HZ (t + n + 1) && b) (
-        ap (λ (c : CounterParts). rises_next c && not (is_legacy (hpet_pulsed_times (pulses_from HPET_HZ t n) d.hpet))) (counter_of-pit_pulsed_times (pulses_from PIT_HZ t n) 0 d.pit)
+        ap (λ (c : CounterParts). rises_next c && not (is_legacy (hpet_pulsed_times (pulses_from HPET_HZ t n) d.hpet)))
+        (counter_of-pit_pulsed_times (pulses_from PIT_HZ t n) 0 d.pit)
         ∙ ap (λ (l : Bool). rises_next (pulsed_times (pulses_from PIT_HZ t n) (counter_of d.pit 0)) && not l) (legacy-now (pulses_from HPET_HZ t n)))
-        ∙ sym (count_where-step (not (is_legacy d.hpet)) (rises_in (counter_of d.pit 0)) (λ m. rises_next (pulsed_times m (counter_of d.pit 0))) PIT_HZ t n (omega arith) (rises_in-suc (counter_of d.pit 0)));
-    rtc = ap (λ (b : Bool). falls_at RTC_HZ (t + n + 1) && b) (next_tick ∙ ap (λ (b : Bool). ticks_next (divider_times (pulses_from RTC_HZ t n) (divider_of d.rtc)) && b) counted)
-        ∙ sym (count_where-step (counts_rtc d) (ticks_in (divider_of d.rtc)) (λ m. ticks_next (divider_times m (divider_of d.rtc))) RTC_HZ t n (omega arith) (ticks_in-suc (divider_of d.rtc)));
-    hpet = λ k. ap (λ (b : Bool). falls_at HPET_HZ (t + n + 1) && (matches_next k (hpet_pulsed_times (pulses_from HPET_HZ t n) d.hpet) && b)) (has_ticks-hpet_pulsed_times k (pulses_from HPET_HZ t n) d.hpet)
-        ∙ sym (count_where-step (has_ticks k d.hpet) (matches_of k d.hpet) (λ m. matches_next k (hpet_pulsed_times m d.hpet)) HPET_HZ t n (omega arith) (λ m. refl));
-    sees = counts-by (cond (falls_at RTC_HZ (t + n + 1)) (rtc_pulsed (flagged_where flag_now (rtc_pulsed_times (pulses_from RTC_HZ t n) d.rtc))) (flagged_where flag_now (rtc_pulsed_times (pulses_from RTC_HZ t n) d.rtc))) d.rtc (cond (falls_at HPET_HZ (t + n + 1)) (hpet_pulsed (hpet_pulsed_times (pulses_from HPET_HZ t n) d.hpet)) (hpet_pulsed_times (pulses_from HPET_HZ t n) d.hpet)) d.hpet
+        ∙ sym (count_where-step (not (is_legacy d.hpet)) (rises_in (counter_of d.pit 0)) (λ m. rises_next (pulsed_times m (counter_of d.pit 0))) PIT_HZ t n
+        (omega arith) (rises_in-suc (counter_of d.pit 0)));
+    rtc = ap (λ (b : Bool). falls_at RTC_HZ (t + n + 1) && b)
+        (next_tick ∙ ap (λ (b : Bool). ticks_next (divider_times (pulses_from RTC_HZ t n) (divider_of d.rtc)) && b) counted)
+        ∙ sym (count_where-step (counts_rtc d) (ticks_in (divider_of d.rtc)) (λ m. ticks_next (divider_times m (divider_of d.rtc))) RTC_HZ t n (omega arith)
+        (ticks_in-suc (divider_of d.rtc)));
+    hpet = λ k. ap (λ (b : Bool). falls_at HPET_HZ (t + n + 1) && (matches_next k (hpet_pulsed_times (pulses_from HPET_HZ t n) d.hpet) && b))
+        (has_ticks-hpet_pulsed_times k (pulses_from HPET_HZ t n) d.hpet)
+        ∙ sym (count_where-step (has_ticks k d.hpet) (matches_of k d.hpet) (λ m. matches_next k (hpet_pulsed_times m d.hpet)) HPET_HZ t n (omega arith)
+        (λ m. refl));
+    sees = counts-by (cond (falls_at RTC_HZ (t + n + 1)) (rtc_pulsed (flagged_where flag_now (rtc_pulsed_times (pulses_from RTC_HZ t n) d.rtc)))
+        (flagged_where flag_now (rtc_pulsed_times (pulses_from RTC_HZ t n) d.rtc))) d.rtc
+        (cond (falls_at HPET_HZ (t + n + 1)) (hpet_pulsed (hpet_pulsed_times (pulses_from HPET_HZ t n) d.hpet))
+        (hpet_pulsed_times (pulses_from HPET_HZ t n) d.hpet)) d.hpet
         (ap register_b (flagged-pulse flag_now) ∙ register_b-flagged_where flag_now (rtc_times t (suc n) d) (valid-rtc (suc n)) ∙ b-rtc (suc n))
         (ap is_legacy (sym pulses-hpet) ∙ legacy-now (pulses_from HPET_HZ t (suc n)));
   }
 
   -- the lines behind the three pulses
   ticked_line : ℕ → TickParts → TickParts
-  ticked_line k l = ticked_where (falls_at HPET_HZ (t + n + 1) && hpet_due then_rtc k) (ticked_where (falls_at RTC_HZ (t + n + 1) && rtc_due then_pit k) (ticked_where (falls_at PIT_HZ (t + n + 1) && pit_due before k) (line_run d t n k l)))
+  ticked_line k l = ticked_where (falls_at HPET_HZ (t + n + 1) && hpet_due then_rtc k)
+      (ticked_where (falls_at RTC_HZ (t + n + 1) && rtc_due then_pit k) (ticked_where (falls_at PIT_HZ (t + n + 1) && pit_due before k) (line_run d t n k l)))
 
   ticks-now : then_hpet.ticks ≡ each ticked_line 0 d.ticks
   unfolding ticked_line then_hpet then_rtc then_pit before hpet_pulse rtc_pulse pit_pulse parted
   ticks-now =
-      ap (λ (ls : List TickParts). each (λ k l. ticked_where (falls_at HPET_HZ (t + n + 1) && hpet_due then_rtc k) l) 0 (each (λ k l. ticked_where (falls_at RTC_HZ (t + n + 1) && rtc_due then_pit k) l) 0 ls)) (each-each (λ k l. ticked_where (falls_at PIT_HZ (t + n + 1) && pit_due before k) l) (line_run d t n) 0 d.ticks)
-      ∙ ap (each (λ k l. ticked_where (falls_at HPET_HZ (t + n + 1) && hpet_due then_rtc k) l) 0) (each-each (λ k l. ticked_where (falls_at RTC_HZ (t + n + 1) && rtc_due then_pit k) l) (λ k l. ticked_where (falls_at PIT_HZ (t + n + 1) && pit_due before k) (line_run d t n k l)) 0 d.ticks)
-      ∙ each-each (λ k l. ticked_where (falls_at HPET_HZ (t + n + 1) && hpet_due then_rtc k) l) (λ k l. ticked_where (falls_at RTC_HZ (t + n + 1) && rtc_due then_pit k) (ticked_where (falls_at PIT_HZ (t + n + 1) && pit_due before k) (line_run d t n k l))) 0 d.ticks
+      ap (λ (ls : List TickParts). each (λ k l. ticked_where (falls_at HPET_HZ (t + n + 1) && hpet_due then_rtc k) l) 0
+      (each (λ k l. ticked_where (falls_at RTC_HZ (t + n + 1) && rtc_due then_pit k) l) 0 ls))
+      (each-each (λ k l. ticked_where (falls_at PIT_HZ (t + n + 1) && pit_due before k) l) (line_run d t n) 0 d.ticks)
+      ∙ ap (each (λ k l. ticked_where (falls_at HPET_HZ (t + n + 1) && hpet_due then_rtc k) l) 0)
+      (each-each (λ k l. ticked_where (falls_at RTC_HZ (t + n + 1) && rtc_due then_pit k) l)
+      (λ k l. ticked_where (falls_at PIT_HZ (t + n + 1) && pit_due before k) (line_run d t n k l)) 0 d.ticks)
+      ∙ each-each (λ k l. ticked_where (falls_at HPET_HZ (t + n + 1) && hpet_due then_rtc k) l)
+      (λ k l. ticked_where (falls_at RTC_HZ (t + n + 1) && rtc_due then_pit k)
+      (ticked_where (falls_at PIT_HZ (t + n + 1) && pit_due before k) (line_run d t n k l))) 0 d.ticks
 
   ticks-step : caught_up_at (λ k. eqb ((t + n + 1) % d.slew_ns) 0 && sees_point then_hpet k) then_hpet.ticks ≡ each (line_run d t (suc n)) 0 d.ticks
   unfolding ticked_line
   ticks-step =
       ap (each (λ k l. caught_up_where (eqb ((t + n + 1) % d.slew_ns) 0 && sees_point then_hpet k) l) 0) ticks-now
       ∙ each-each (λ k l. caught_up_where (eqb ((t + n + 1) % d.slew_ns) 0 && sees_point then_hpet k) l) ticked_line 0 d.ticks
-      ∙ each-same (λ k l. caught_up_where (eqb ((t + n + 1) % d.slew_ns) 0 && sees_point then_hpet k) (ticked_line k l)) (line_run d t (suc n)) (place-step d t n before then_pit then_rtc then_hpet tests) 0 d.ticks
+      ∙ each-same (λ k l. caught_up_where (eqb ((t + n + 1) % d.slew_ns) 0 && sees_point then_hpet k) (ticked_line k l)) (line_run d t (suc n))
+      (place-step d t n before then_pit then_rtc then_hpet tests) 0 d.ticks
 
   tick_of_rtc : Bool
   tick_of_rtc = ltb (source d t 1 n) (source d t 1 (suc n))
@@ -288,15 +337,20 @@ module _ (t n : ℕ) (d : DeviceParts) (sound : Sound d) where
   line-now =
       ap (λ (ls : List TickParts). get_or ls 1 no_line) ticks-now
       ∙ each-at ticked_line 0 1 d.ticks no_line (omega (arith, sound.joined.places))
-      ∙ skip_tick (falls_at HPET_HZ (t + n + 1)) (ticked_where (falls_at RTC_HZ (t + n + 1) && rtc_due then_pit 1) (ticked_where (falls_at PIT_HZ (t + n + 1) && false) (line_run d t n 1 (line_at 1 d))))
+      ∙ skip_tick (falls_at HPET_HZ (t + n + 1))
+      (ticked_where (falls_at RTC_HZ (t + n + 1) && rtc_due then_pit 1)
+      (ticked_where (falls_at PIT_HZ (t + n + 1) && false) (line_run d t n 1 (line_at 1 d))))
       ∙ ap (ticked_where (falls_at RTC_HZ (t + n + 1) && rtc_due then_pit 1)) (skip_tick (falls_at PIT_HZ (t + n + 1)) (line_run d t n 1 (line_at 1 d)))
       ∙ ap (λ (b : Bool). ticked_where b (line_run d t n 1 (line_at 1 d))) tests.rtc
 
-  next-line : counts_rtc d ≡ true → line_run d t (suc n) 1 (line_at 1 d) ≡ caught_up_where (eqb ((t + n + 1) % d.slew_ns) 0) (ticked_where tick_of_rtc (line_run d t n 1 (line_at 1 d)))
+  next-line : counts_rtc d ≡ true → line_run d t (suc n) 1 (line_at 1 d)
+      ≡ caught_up_where (eqb ((t + n + 1) % d.slew_ns) 0) (ticked_where tick_of_rtc (line_run d t n 1 (line_at 1 d)))
   unfolding tick_of_rtc
   next-line counted =
-      sym (rtc_line (counts_rtc d) (eqb ((t + n + 1) % d.slew_ns) 0) (λ j. ticks_in (divider_of d.rtc) (pulses_from RTC_HZ t j)) d.slew_ns t n (line_at 1 d) refl)
-      ∙ ap (λ (c : Bool). caught_up_where c (ticked_where (ltb (source d t 1 n) (source d t 1 (suc n))) (line_run d t n 1 (line_at 1 d)))) (ap (λ (c : Bool). eqb ((t + n + 1) % d.slew_ns) 0 && c) counted ∙ and-true (eqb ((t + n + 1) % d.slew_ns) 0))
+      sym (rtc_line (counts_rtc d) (eqb ((t + n + 1) % d.slew_ns) 0) (λ j. ticks_in (divider_of d.rtc) (pulses_from RTC_HZ t j)) d.slew_ns t n
+      (line_at 1 d) refl)
+      ∙ ap (λ (c : Bool). caught_up_where c (ticked_where (ltb (source d t 1 n) (source d t 1 (suc n))) (line_run d t n 1 (line_at 1 d))))
+      (ap (λ (c : Bool). eqb ((t + n + 1) % d.slew_ns) 0 && c) counted ∙ and-true (eqb ((t + n + 1) % d.slew_ns) 0))
 
   some_tick : (c : Bool) (a b : ℕ) → ltb (cond c a 0) (cond c b 0) ≡ true → ltb 0 b ≡ true
   some_tick true a b h = lt-ltb 0 b (omega (arith, ltb-true a b h))
@@ -306,7 +360,8 @@ module _ (t n : ℕ) (d : DeviceParts) (sound : Sound d) where
   unfolding rtc_times tick_of_rtc
   pf-now e =
       pf_of-rtc_pulsed_times (pulses_from RTC_HZ t (suc n)) d.rtc sound.rtc
-      ∙ ap (λ (b : Bool). pf_of d.rtc || b) (some_tick (counts_rtc d) (ticks_in (divider_of d.rtc) (pulses_from RTC_HZ t n)) (ticks_in (divider_of d.rtc) (pulses_from RTC_HZ t (suc n))) e)
+      ∙ ap (λ (b : Bool). pf_of d.rtc || b)
+      (some_tick (counts_rtc d) (ticks_in (divider_of d.rtc) (pulses_from RTC_HZ t n)) (ticks_in (divider_of d.rtc) (pulses_from RTC_HZ t (suc n))) e)
       ∙ or-true (pf_of d.rtc)
     where
       or-true : (b : Bool) → (b || true) ≡ true
@@ -317,9 +372,13 @@ module _ (t n : ℕ) (d : DeviceParts) (sound : Sound d) where
       ≡ flagged_where (counts_rtc d && (line_run d t (suc n) 1 (line_at 1 d)).up) (rtc_times t (suc n) d)
   unfolding then_hpet then_rtc then_pit before hpet_pulse rtc_pulse pit_pulse parted flagged_where rtc_times flag_now
   rtc-step =
-      ap (λ (b : Bool). flagged_where b then_hpet.rtc) (ap (λ (b : Bool). eqb ((t + n + 1) % d.slew_ns) 0 && (b && is_waiting (line_at 1 then_hpet))) tests.sees ∙ ap (λ (l : TickParts). eqb ((t + n + 1) % d.slew_ns) 0 && (counts_rtc d && is_waiting l)) line-now)
-      ∙ ap (flagged_where (eqb ((t + n + 1) % d.slew_ns) 0 && (counts_rtc d && is_waiting (ticked_where tick_of_rtc (line_run d t n 1 (line_at 1 d)))))) (flagged-pulse flag_now)
-      ∙ flag-step (counts_rtc d) (eqb ((t + n + 1) % d.slew_ns) 0) tick_of_rtc (line_run d t n 1 (line_at 1 d)) (line_run d t (suc n) 1 (line_at 1 d)) (rtc_times t (suc n) d) (valid-rtc (suc n)) next-line pf-now
+      ap (λ (b : Bool). flagged_where b then_hpet.rtc)
+      (ap (λ (b : Bool). eqb ((t + n + 1) % d.slew_ns) 0 && (b && is_waiting (line_at 1 then_hpet))) tests.sees
+      ∙ ap (λ (l : TickParts). eqb ((t + n + 1) % d.slew_ns) 0 && (counts_rtc d && is_waiting l)) line-now)
+      ∙ ap (flagged_where (eqb ((t + n + 1) % d.slew_ns) 0 && (counts_rtc d && is_waiting (ticked_where tick_of_rtc (line_run d t n 1 (line_at 1 d))))))
+      (flagged-pulse flag_now)
+      ∙ flag-step (counts_rtc d) (eqb ((t + n + 1) % d.slew_ns) 0) tick_of_rtc (line_run d t n 1 (line_at 1 d)) (line_run d t (suc n) 1 (line_at 1 d))
+      (rtc_times t (suc n) d) (valid-rtc (suc n)) next-line pf-now
 
   step : at_nanosecond (t + n + 1) (parted t n d) ≡ parted t (suc n) d
   unfolding at_nanosecond catch_up_point then_hpet then_rtc then_pit before hpet_pulse rtc_pulse pit_pulse parted rtc_times

@@ -61,7 +61,8 @@ hpet config status counter = record {
   config = config;
   status = status;
   counter = counter;
-  timer = record { config = 10244; comparator = 3; period = 0 } ∷ record { config = 10758; comparator = 2; period = 0 } ∷ record { config = 10240; comparator = 0; period = 0 }
+  timer = record { config = 10244; comparator = 3; period = 0 } ∷ record { config = 10758; comparator = 2; period = 0 }
+      ∷ record { config = 10240; comparator = 0; period = 0 }
       ∷ no_timer ∷ no_timer ∷ no_timer ∷ no_timer ∷ no_timer ∷ [];
   timers = 3;
   messages = false;
@@ -76,7 +77,8 @@ start : DeviceParts
 start = record { pit = pit counter; rtc = rtc 66 0; hpet = hpet 1 0 0; ticks = lines (line Delay 0) (line Slew 1) (line Delay 0); slew_ns = 35 }
 
 -- the matches of both timers, and between them and the next the catch-up point, at which the tick that waits comes up
-hpet_rows : (run 0 40 start).edges ≡ record { at = 20; line = 21; up = true } ∷ record { at = 30; line = 20; up = true } ∷ record { at = 35; line = 8; up = true } ∷ []
+hpet_rows : (run 0 40 start).edges ≡ record { at = 20; line = 21; up = true } ∷ record { at = 30; line = 20; up = true }
+    ∷ record { at = 35; line = 8; up = true } ∷ []
 unfolding start line rtc hpet lines pit counter run onward at_nanosecond pit_pulse rtc_pulse hpet_pulse catch_up_point levels falls_at pulses_by flagged matches_next hpet_pulsed matches_at timer_pulsed
 hpet_rows = refl
 
@@ -86,7 +88,8 @@ unfolding start line rtc hpet lines pit counter run onward at_nanosecond pit_pul
 rtc_row = refl
 
 -- the second pulse of the 8254 at 1677, with which OUT 0 goes up
-pit_row : (run 1676 2 (record start { pit = pit (record counter { out = false; ce = 1 }); slew_ns = 1000000000 })).edges ≡ record { at = 1677; line = 0; up = true } ∷ []
+pit_row : (run 1676 2 (record start { pit = pit (record counter { out = false; ce = 1 }); slew_ns = 1000000000 })).edges
+    ≡ record { at = 1677; line = 0; up = true } ∷ []
 unfolding start line rtc hpet lines pit counter run onward at_nanosecond pit_pulse rtc_pulse hpet_pulse catch_up_point levels falls_at pulses_by pulsed rises_next pit_pulsed flagged effect_in mode_of is_bcd modulus number_in meant_count is_odd_square loaded_count lowered programmed
 pit_row = refl
 
@@ -130,16 +133,19 @@ unfolding start line rtc hpet lines pit counter at_nanosecond pit_pulse rtc_puls
 no_tick_while_pie_is_0 = refl
 
 -- LEG_RT: lines 0 and 8 are the outputs of timers 0 and 1, which drive no other line
-plain_levels : levels (record start { rtc = rtc 66 64; hpet = hpet 1 2 9; ticks = lines (shown Delay 0) (shown Delay 0) (line Delay 0) }) ≡ true ∷ true ∷ false ∷ true ∷ false ∷ false ∷ []
+plain_levels : levels (record start { rtc = rtc 66 64; hpet = hpet 1 2 9; ticks = lines (shown Delay 0) (shown Delay 0) (line Delay 0) }) ≡ true ∷ true ∷ false
+    ∷ true ∷ false ∷ false ∷ []
 unfolding start line shown rtc hpet lines pit counter levels
 plain_levels = refl
 
-legacy_levels : levels (record start { rtc = rtc 66 64; hpet = hpet 3 2 9; ticks = lines (shown Delay 0) (line Delay 0) (line Delay 0) }) ≡ false ∷ true ∷ false ∷ false ∷ false ∷ false ∷ []
+legacy_levels : levels (record start { rtc = rtc 66 64; hpet = hpet 3 2 9; ticks = lines (shown Delay 0) (line Delay 0) (line Delay 0) }) ≡ false ∷ true
+    ∷ false ∷ false ∷ false ∷ false ∷ []
 unfolding start line shown rtc hpet lines pit counter levels
 legacy_levels = refl
 
 -- an acknowledgement with a tick that waits: under Delay the line falls and rises again
-ack_delay : act_edges 5 (Ack 20) (record start { ticks = lines (line Delay 0) (line Slew 0) (shown Delay 1) }) ≡ record { at = 5; line = 20; up = false } ∷ record { at = 5; line = 20; up = true } ∷ []
+ack_delay : act_edges 5 (Ack 20) (record start { ticks = lines (line Delay 0) (line Slew 0) (shown Delay 1) }) ≡ record { at = 5; line = 20; up = false }
+    ∷ record { at = 5; line = 20; up = true } ∷ []
 unfolding start line shown rtc hpet lines pit counter levels acted first_part
 ack_delay = refl
 
@@ -152,7 +158,8 @@ ack_slew_waits : line_at 2 (acted (Ack 20) (record start { ticks = lines (line D
 unfolding start line shown rtc hpet lines pit counter acted
 ack_slew_waits = refl
 
-ack_discard : act_edges 5 (Ack 20) (record start { ticks = lines (line Delay 0) (line Slew 0) (shown Discard 0) }) ≡ record { at = 5; line = 20; up = false } ∷ []
+ack_discard : act_edges 5 (Ack 20) (record start { ticks = lines (line Delay 0) (line Slew 0) (shown Discard 0) }) ≡ record { at = 5; line = 20; up = false }
+    ∷ []
 unfolding start line shown rtc hpet lines pit counter levels acted first_part
 ack_discard = refl
 
@@ -170,7 +177,8 @@ unfolding start line shown rtc hpet lines pit counter acted
 ack_clock = refl
 
 -- a read of register C acknowledges the clock: under Delay the line falls and rises again, and PF is set again
-read_c : act_edges 5 ClockRead (record start { rtc = rtc 66 64; ticks = lines (line Delay 0) (shown Delay 1) (line Delay 0) }) ≡ record { at = 5; line = 8; up = false } ∷ record { at = 5; line = 8; up = true } ∷ []
+read_c : act_edges 5 ClockRead (record start { rtc = rtc 66 64; ticks = lines (line Delay 0) (shown Delay 1) (line Delay 0) })
+    ≡ record { at = 5; line = 8; up = false } ∷ record { at = 5; line = 8; up = true } ∷ []
 unfolding start line shown rtc hpet lines pit counter levels acted first_part after_rtc_read flagged
 read_c = refl
 
@@ -179,7 +187,8 @@ unfolding start line shown rtc hpet lines pit counter acted after_rtc_read flagg
 read_c_flag = refl
 
 -- at power on no line is up, and a place whose timer isn't there holds nothing
-power_on_levels : (pit rtc hpet : Policy) (slew : ℕ) (time : TimeBytes) → levels (devices_at_power_on 3 pit rtc hpet slew time) ≡ false ∷ false ∷ false ∷ false ∷ false ∷ false ∷ []
+power_on_levels : (pit rtc hpet : Policy) (slew : ℕ) (time : TimeBytes) → levels (devices_at_power_on 3 pit rtc hpet slew time) ≡ false ∷ false ∷ false ∷ false
+    ∷ false ∷ false ∷ []
 unfolding levels rtc_at_power_on with_time
 power_on_levels pit rtc hpet slew time = refl
 

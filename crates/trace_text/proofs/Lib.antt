@@ -3,3 +3,4 @@ pub mod Spells
 pub mod FirstWord
 pub mod Tokens
 mod Rows
+pub mod Limits

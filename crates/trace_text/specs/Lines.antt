@@ -30,6 +30,9 @@ pub record Step : Type 0 where
   pub item : Item
   pub stage : Stage
 
+abbrev pub met : Record → Stage → Step
+met r stage = record { item = NextItem r; stage = stage }
+
 -- a header line, `begin`, a record, `end`
 abbrev pub part : Result Head Reason → Result Step Reason
 part (Ok head) = Ok (record { item = Part; stage = Heading head })

@@ -1,6 +1,8 @@
 //! A trace that is read line by line.
-ghost use Rattle.std.specs.Prelude.{◌≡◌, ◌≢◌, ◌+◌, ◌^◌, ◌<◌, ◌≤◌, Ok, OnOk, IfOk};
-ghost use Rattle.trace_text.specs.Lines.{at_start, IsOpen, IsEarly, IsStage, fault_of, taken, behind, end_fault, IsItem, stepped, step_of, item_in, stage_in, limit_of, is_skipped};
+ghost use Rattle.std.specs.Prelude.{◌≡◌, ◌≢◌, ◌+◌, ◌^◌, ◌<◌, ◌≤◌, nat_lt, false, length, codes, None, Ok, OnOk, IfOk, OnSome, IfSome, IfNone};
+ghost use Rattle.std.specs.Bool.{OnTrue};
+ghost use Rattle.std.specs.Str.{bytes_eq};
+ghost use Rattle.trace_text.specs.Lines.{at_start, IsOpen, IsEarly, IsStage, IsRecordAt, fault_of, taken, behind, end_fault, IsItem, stepped, step_of, item_in, stage_in, met, limit_of, is_skipped};
 
 use crate::faults::{Reason, RecordFault};
 use crate::header::{Head, Header, first_line};
@@ -90,6 +92,26 @@ impl Reading {
         ensures open { result ≢ Ok Item.End → IsOpen self.new.stage }
         ensures count { self.new.lines ≤ self.old.lines + 1 }
     {
+        match self.parts.stage.record(line) {
+            Some(record) => {
+                self.parts.lines += 1;
+                Ok(Item::Next(record))
+            }
+            None => self.take_slowly(line),
+        }
+    }
+
+    /// The same for every line.
+    #[inline(never)]
+    fn take_slowly(&mut self, line: &[u8]) -> Result<Item, RecordFault>
+        requires open { IsOpen self.old.stage }
+        requires few { self.old.lines < 2 ^ 63 }
+        ensures item { result ≡ taken self.old line.now }
+        ensures state { self.new ≡ behind line.now self.old }
+        ensures valid { IfOk result (IsItem self.old.stage) }
+        ensures open { result ≢ Ok Item.End → IsOpen self.new.stage }
+        ensures count { self.new.lines ≤ self.old.lines + 1 }
+    {
         if let Some(fault) = self.parts.stage.fault() {
             return Err(fault);
         }
@@ -101,7 +123,7 @@ impl Reading {
                     line: self.parts.lines,
                     reason,
                 };
-                self.parts.stage = Stage::Refused(fault);
+                self.parts.stage.refuse(fault);
                 Err(fault)
             }
         }
@@ -136,6 +158,45 @@ impl Stage {
         }
     }
 
+    /// A record behind `begin`; None for any other line, and for one that is refused, which change nothing.
+    #[inline(always)]
+    #[tactic(auto, unfolding(crate::specs::Lines::stepped))]
+    fn record(&mut self, line: &[u8]) -> Option<Record>
+        requires valid { IsStage self.old }
+        ensures record { IfSome result (λ r. stepped self.old line.now
+            ≡ Ok (met r self.new)) }
+        ensures valid { IfSome result (IsRecordAt self.old) }
+        ensures open { OnSome result (IsOpen self.new) }
+        ensures kept { IsStage self.new }
+        ensures fresh { OnSome result (fault_of self.old ≡ None) }
+        ensures none { IfNone result (self.new ≡ self.old) }
+    {
+        match self {
+            Stage::Running(body) if may_be_record(line) => {
+                body.record(&mut Words::new(line)).ok()
+            }
+            _ => None,
+        }
+    }
+
+    /// A line is refused.
+    #[inline(never)]
+    #[cold]
+    fn refuse(&mut self, fault: RecordFault)
+        ensures { self.new ≡ Stage.Refused fault }
+    {
+        *self = Stage::Refused(fault);
+    }
+
+    /// The trace has ended.
+    #[inline(never)]
+    #[cold]
+    fn end(&mut self)
+        ensures { self.new ≡ Stage.Ended }
+    {
+        *self = Stage::Ended;
+    }
+
     /// What a line is, and the stage behind it.
     #[inline(always)]
     #[tactic(auto, unfolding(crate::specs::Lines::stepped))]
@@ -157,7 +218,7 @@ impl Stage {
         match self {
             Stage::Running(body) => {
                 if line == b"end".as_slice() {
-                    *self = Stage::Ended;
+                    self.end();
                     return Ok(Item::End);
                 }
                 let record = body.record(&mut Words::new(line))?;
@@ -168,6 +229,8 @@ impl Stage {
     }
 
     /// The same before `begin`.
+    #[inline(never)]
+    #[cold]
     #[tactic(auto, unfolding(crate::specs::Lines::stepped))]
     fn step_in_header(&mut self, line: &[u8]) -> Result<Item, Reason>
         requires valid { IsStage self.old }
@@ -218,5 +281,18 @@ fn is_skipped(line: &[u8]) -> bool
     match line {
         [] => true,
         [first, ..] => *first == b'#',
+    }
+}
+
+/// Whether a line is of words, and isn't `end`: it is short, and begins with a digit.
+#[inline(always)]
+fn may_be_record(line: &[u8]) -> bool
+    ensures short { OnTrue result (nat_lt (limit_of line.now) (length line.now) ≡ false) }
+    ensures words { OnTrue result (is_skipped line.now ≡ false) }
+    ensures record { OnTrue result (bytes_eq line.now (codes "end") ≡ false) }
+{
+    match line {
+        [b'0'..=b'9', ..] => line.len() <= 128,
+        _ => false,
     }
 }

@@ -1,5 +1,5 @@
 //! Records: what a processor does at a host counter.
-ghost use Rattle.std.specs.Prelude.{◌≡◌, ◌<◌, ◌≤◌, ◌++◌, Ok, IfOk, OnSome};
+ghost use Rattle.std.specs.Prelude.{◌≡◌, ◌<◌, ◌≤◌, ◌++◌, Ok, IfOk, OnErr, OnSome};
 ghost use Rattle.trace_text.specs.Tokens.{rest};
 ghost use Rattle.trace_text.specs.Rows.{by_table, last};
 ghost use Rattle.trace_text.specs.Records.{board, to_msr, on_page, source, in_row, out_row, hr_row, hw_row, rdmsr_row, wrmsr_row, ack_row, rose_row, counts_row, refresh_row, page_row, clock_row, move_row, page_at, port_rows, msr_rows, told_rows, last_rows, job_of, record_of, in_turn, body_behind, IsJob, IsRecord};
@@ -90,6 +90,7 @@ fn out_job(body: &Body, words: &mut Words<'_>) -> Result<Job, Reason>
     board(body, Access::PortOut { port, byte })
 }
 
+#[inline(never)]
 fn hr_job(body: &Body, words: &mut Words<'_>) -> Result<Job, Reason>
     ensures job { result ≡ hr_row body.now words.old }
     ensures valid { IfOk result (IsJob body.now) }
@@ -100,6 +101,7 @@ fn hr_job(body: &Body, words: &mut Words<'_>) -> Result<Job, Reason>
     board(body, Access::HpetRead { offset, width })
 }
 
+#[inline(never)]
 fn hw_job(body: &Body, words: &mut Words<'_>) -> Result<Job, Reason>
     ensures job { result ≡ hw_row body.now words.old }
     ensures valid { IfOk result (IsJob body.now) }
@@ -279,6 +281,7 @@ fn job_in(body: &Body, words: &mut Words<'_>) -> Result<Job, Reason>
     }
 }
 
+#[inline(never)]
 fn msr_job(body: &Body, words: &mut Words<'_>) -> Result<Job, Reason>
     ensures job { result ≡ by_table (msr_rows body.now ++ told_rows body.now ++ last_rows body.now) words.old }
     ensures valid { IfOk result (IsJob body.now) }
@@ -298,6 +301,7 @@ fn msr_job(body: &Body, words: &mut Words<'_>) -> Result<Job, Reason>
     }
 }
 
+#[inline(never)]
 fn told_job(body: &Body, words: &mut Words<'_>) -> Result<Job, Reason>
     ensures job { result ≡ by_table (told_rows body.now ++ last_rows body.now) words.old }
     ensures valid { IfOk result (IsJob body.now) }
@@ -317,6 +321,7 @@ fn told_job(body: &Body, words: &mut Words<'_>) -> Result<Job, Reason>
     }
 }
 
+#[inline(never)]
 fn last_job(body: &Body, words: &mut Words<'_>) -> Result<Job, Reason>
     ensures job { result ≡ by_table (last_rows body.now) words.old }
     ensures valid { IfOk result (IsJob body.now) }
@@ -341,6 +346,7 @@ impl Body {
         ensures record { result ≡ record_of self.old words.old }
         ensures valid { IfOk result (IsRecord self.old) }
         ensures behind { IfOk result (λ r. self.new ≡ body_behind self.old r) }
+        ensures still { OnErr result (self.new ≡ self.old) }
     {
         let cpu = words.dec().ok_or(Reason::Form)?;
         let h = words.dec().ok_or(Reason::Form)?;
@@ -356,6 +362,7 @@ impl Body {
         ensures record { result ≡ in_turn self.old cpu h job }
         ensures valid { IfOk result (IsRecord self.old) }
         ensures behind { IfOk result (λ r. self.new ≡ body_behind self.old r) }
+        ensures still { OnErr result (self.new ≡ self.old) }
     {
         if cpu >= u64::from(self.cpus) {
             return Err(Reason::Cpu);

@@ -1,5 +1,4 @@
-use Rattle.std.proofs.Common.{◌≡◌, ℕ, ◌*◌, ◌<◌, get_or}
-use Rattle.pvclock_page.specs.Scale.{mul_for, shift_for}
+use Rattle.std.proofs.Common.{ℕ, ◌<◌, get_or}
 use Rattle.board_core.specs.Tsc.{no_processor}
 use Rattle.board_core.specs.private.Places.{IsPlace}
 use Rattle.board_core.proofs.parts.are_processors.Given as goal

@@ -1,8 +1,7 @@
-use Rattle.std.proofs.Common.{◌≡◌, ℕ, ◌+◌, ◌<◌, ◌≤◌, List, ◌++◌, drop, length, Bool, true, false, cond, IfSome, IsTrue, refl, ap, sym, subst, ◌∙◌, arith, Option, Some, None}
+use Rattle.std.proofs.Common.{◌≡◌, ℕ, ◌+◌, ◌<◌, ◌≤◌, List, ◌++◌, drop, IfSome, refl, ap, sym, subst, ◌∙◌, arith}
 use Rattle.std.proofs.Math.Seq.{drop-append_seam}
 use Rattle.irq_edges.specs.declared.edges.Edge.{Edge}
 use Rattle.host_counter.specs.Time.{time_at}
-use Rattle.board_types.specs.Legal.{is_legal}
 use Rattle.board_types.specs.declared.parts.BoardParts.{BoardParts}
 use Rattle.board_types.specs.declared.parts.ProcessorParts.{ProcessorParts}
 use Rattle.board_types.specs.declared.parts.TheConstants.{LAST_VERSION, MOST_ACCESSES}
@@ -14,10 +13,9 @@ use Rattle.board_devices.specs.Places.{line_at}
 use Rattle.board_devices.specs.Lines.{levels}
 use Rattle.board_devices.specs.Rises.{lifts}
 use Rattle.board_core.specs.Time.{HasTime, devices_in, now_of}
-use Rattle.board_core.specs.Tsc.{no_processor}
 use Rattle.board_core.specs.Pages.{published_by}
-use Rattle.board_core.specs.Wall.{wall_number_after, publishes_wall}
-use Rattle.board_core.specs.Refusals.{raised_version, version_at}
+use Rattle.board_core.specs.Wall.{wall_number_after}
+use Rattle.board_core.specs.Refusals.{raised_version}
 use Rattle.board_core.specs.Rises.{rises_after}
 use Rattle.board_core.specs.Access.{act_of, own_edges, after_act, value_at}
 use Rattle.board_core.specs.Conditions.{IsFormat, IsWall, AreProcessors, AreRises}
@@ -25,7 +23,7 @@ use Rattle.board_core.specs.View.{board_parts_of}
 use Rattle.board_core.specs.private.Values.{told, value_with}
 use Rattle.board_core.proofs.Timers.{timers-acted}
 use Rattle.board_core.proofs.Values.{value_with-told}
-use Rattle.board_core.proofs.Steps.{with_parts, with_parts-is}
+use Rattle.board_core.proofs.Steps.{with_parts-is}
 use Rattle.board_core.proofs.Legals.{legal-page, raised-wall, raised-page}
 use Rattle.board_core.proofs.Joined.{most-cpus, IsWall-after, AreProcessors-after, AreRises-after}
 use Rattle.board_core.proofs.board.BoardState.act.Goals as goal
@@ -52,8 +50,10 @@ own_are c =
 rises_are : (c : goal.After-value_with) → c.count_rises.new.rises ≡ rises_after c.self.inside.format (own_edges (seen c) c.args.a) c.self.inside.rises
 rises_are c = c.count_rises.ensures ∙ ap (λ (es : List Edge). rises_after c.self.inside.format es c.self.inside.rises) (own_are c)
 
-version_is : (c : goal.After-value_with) → IfSome (raised_version c.self.inside.processors c.self.inside.wall_version c.args.cpu c.args.a) (λ v. v < LAST_VERSION)
-version_is c = subst (λ (b : BoardParts). IfSome (raised_version b.processors b.wall_version c.args.cpu c.args.a) (λ v. v < LAST_VERSION)) (sym c.self.view_is) c.requires.version
+version_is : (c : goal.After-value_with) → IfSome (raised_version c.self.inside.processors c.self.inside.wall_version c.args.cpu c.args.a)
+    (λ v. v < LAST_VERSION)
+version_is c = subst (λ (b : BoardParts). IfSome (raised_version b.processors b.wall_version c.args.cpu c.args.a) (λ v. v < LAST_VERSION))
+    (sym c.self.view_is) c.requires.version
 
 place_is : (c : goal.After-value_with) → IfSome (published_by c.args.cpu c.args.a) (λ k. k < c.self.inside.cpus)
 place_is c = subst (λ (b : BoardParts). IfSome (published_by c.args.cpu c.args.a) (λ k. k < b.cpus)) (sym c.self.view_is)
@@ -76,7 +76,8 @@ invariant_of-self c =
             let r : (line_at k c.act-word.new.self).counts.due ≤ time_at c.self.inside.anchor c.self.inside.host + (c.self.inside.accesses + 1) =
             omega (arith, c.act-word.ensures.due k less, c.self.invariant.joined.due k less) in r;
         wall = subst (λ (n : ℕ). IsWall n c.wall_version_after-self-inside.result c.self.inside.wall_nsec) (sym c.wall_number_after-self-inside.ensures)
-            (subst (λ (n : ℕ). IsWall (wall_number_after c.args.a c.self.inside.wall_number) n c.self.inside.wall_nsec) (sym c.wall_version_after-self-inside.ensures)
+            (subst (λ (n : ℕ). IsWall (wall_number_after c.args.a c.self.inside.wall_number) n c.self.inside.wall_nsec)
+            (sym c.wall_version_after-self-inside.ensures)
             (IsWall-after c.args.a c.self.inside.wall_number c.self.inside.wall_version c.self.inside.wall_nsec
             (raised-wall c.self.inside.processors c.self.inside.wall_version c.args.cpu c.args.a (version_is c)) c.self.invariant.joined.wall));
         processors = subst (λ (ps : List ProcessorParts). AreProcessors c.self.inside.guest_khz c.self.inside.cpus ps) (sym c.publish_by.ensures)
@@ -85,7 +86,8 @@ invariant_of-self c =
             c.self.invariant.joined.processors time c.args.cpu (place_is c)
             (raised-page c.self.inside.processors c.self.inside.wall_version c.args.cpu c.args.a (version_is c)));
         rises = subst (λ (rs : List ℕ). AreRises c.self.inside.format (c.self.inside.accesses + 1) (levels c.act-word.new.self) rs) (sym (rises_are c))
-            (AreRises-after c.self.inside.format c.self.inside.accesses (c.self.inside.accesses + 1) 1 (levels c.self.inside.devices) (levels c.act-word.new.self)
+            (AreRises-after c.self.inside.format c.self.inside.accesses (c.self.inside.accesses + 1) 1 (levels c.self.inside.devices)
+            (levels c.act-word.new.self)
             (own_edges (seen c) c.args.a) c.self.inside.rises (omega arith) refl c.self.invariant.joined.rises
             (λ line. omega (arith, c.act-word.ensures.lifts line, ap (lifts line) (own_by c))));
       };
@@ -106,7 +108,8 @@ returns-clause-state c =
 pub returns-clause-value : goal.returns-clause-value
 returns-clause-value c =
     c.value_with.ensures
-    ∙ ap (λ (v : Value). value_with c.args.a c.act-word.result v) (c.told-told.ensures ∙ ap (λ (b : BoardParts). told b c.args.cpu c.args.h c.args.a) (sym c.self.view_is))
+    ∙ ap (λ (v : Value). value_with c.args.a c.act-word.result v) (c.told-told.ensures
+    ∙ ap (λ (b : BoardParts). told b c.args.cpu c.args.h c.args.a) (sym c.self.view_is))
     ∙ ap (λ (n : ℕ). value_with c.args.a n (told (seen c) c.args.cpu c.args.h c.args.a)) word
     ∙ value_with-told (seen c) c.args.cpu c.args.h c.args.a
     ∙ ap (λ (b : BoardParts). value_at b c.args.cpu c.args.h c.args.a) c.self.view_is

@@ -1,5 +1,4 @@
-use Rattle.std.proofs.Common.{◌≡◌, ℕ, ap, sym, refl, ◌∙◌, ◌≤◌, ◌+◌, arith}
-use Rattle.host_counter.specs.Time.{time_at}
+use Rattle.std.proofs.Common.{◌≡◌, ℕ, ap, sym, refl, ◌∙◌, arith}
 use Rattle.host_counter.proofs.Times.{time_at-start}
 use Rattle.board_devices.specs.declared.parts.DeviceParts.{DeviceParts}
 use Rattle.board_devices.specs.Places.{line_at}
@@ -34,4 +33,5 @@ invariant_of-result c = record {
 }
   where
     none : (k : ℕ) → (line_at k (devices_of_setup c.args.setup.now)).counts.due ≡ 0
-    none k = due_at_power_on (timers_of c.args.setup.now.format) c.args.setup.now.pit c.args.setup.now.rtc c.args.setup.now.hpet c.args.setup.now.slew_ns c.args.setup.now.time k
+    none k = due_at_power_on (timers_of c.args.setup.now.format) c.args.setup.now.pit c.args.setup.now.rtc c.args.setup.now.hpet
+        c.args.setup.now.slew_ns c.args.setup.now.time k

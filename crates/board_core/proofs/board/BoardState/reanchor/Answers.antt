@@ -1,4 +1,4 @@
-use Rattle.std.proofs.Common.{◌≡◌, ℕ, ◌+◌, ◌-◌, ◌<◌, ◌≤◌, List, [], ◌++◌, length, ap, sym, subst, ◌∙◌, arith}
+use Rattle.std.proofs.Common.{◌≡◌, ℕ, ◌+◌, ◌-◌, ◌<◌, ◌≤◌, List, ◌++◌, ap, sym, subst, ◌∙◌, arith}
 use Rattle.clk_units.specs.declared.ranges.TheConstants.{RANGE_NS}
 use Rattle.irq_edges.specs.declared.edges.Edge.{Edge}
 use Rattle.host_counter.specs.declared.Anchor.{Anchor}
@@ -23,14 +23,16 @@ invariant_of-self c =
     let anchor : Anchor = record { khz = c.args.khz; start = c.args.start; base_ns = to } in
     let now_is : time_at anchor c.args.start ≡ to = time_at-start anchor in
     let from : c.self.inside.time_ns ≡ now_of (board_parts_of c.self.inside) = c.self.invariant.time in
-    let small : now_of (board_parts_of c.self.inside) + c.args.gap < RANGE_NS = subst (λ (b : BoardParts). now_of b + c.args.gap < RANGE_NS) (sym c.self.view_is) c.requires.range in
+    let small : now_of (board_parts_of c.self.inside) + c.args.gap < RANGE_NS = subst (λ (b : BoardParts). now_of b + c.args.gap < RANGE_NS)
+    (sym c.self.view_is) c.requires.range in
     let ran : List Edge = (run c.self.inside.time_ns (to - c.self.inside.time_ns) c.self.inside.devices).edges in
     let es : c.run_to.new.edges ≡ ran = c.run_to.ensures.edges ∙ ap (λ (es : List Edge). es ++ ran) c.new-edges.ensures in
     record {
       time = sym now_is;
       joined = record {
         format = subst (λ (n : ℕ). IsFormat c.self.inside.format c.self.inside.cpus n)
-            (sym (ap (λ (d : DeviceParts). d.hpet.timers) c.run_to.ensures.state ∙ timers-run c.self.inside.time_ns (to - c.self.inside.time_ns) c.self.inside.devices))
+            (sym (ap (λ (d : DeviceParts). d.hpet.timers) c.run_to.ensures.state
+            ∙ timers-run c.self.inside.time_ns (to - c.self.inside.time_ns) c.self.inside.devices))
             c.self.invariant.joined.format;
         rates = record { host = c.requires.rate; guest = c.self.invariant.joined.rates.guest };
         time = record {

@@ -1,4 +1,4 @@
-use Rattle.std.proofs.Common.{◌≡◌, ℕ, ◌+◌, ◌-◌, ◌<◌, ◌≤◌, max, List, [], ◌++◌, length, ap, sym, subst, ◌∙◌, arith}
+use Rattle.std.proofs.Common.{◌≡◌, ℕ, ◌+◌, ◌-◌, ◌<◌, ◌≤◌, max, List, ◌++◌, ap, sym, subst, ◌∙◌, arith}
 use Rattle.clk_units.specs.declared.ranges.TheConstants.{RANGE_NS}
 use Rattle.irq_edges.specs.declared.edges.Edge.{Edge}
 use Rattle.host_counter.specs.Time.{time_at}
@@ -41,12 +41,14 @@ invariant_of-self c =
       time = now_is c;
       joined = record {
         format = subst (λ (n : ℕ). IsFormat c.self.inside.format c.self.inside.cpus n)
-            (sym (ap (λ (d : DeviceParts). d.hpet.timers) c.run_to.ensures.state ∙ timers-run c.self.inside.time_ns (c.args.to - c.self.inside.time_ns) c.self.inside.devices))
+            (sym (ap (λ (d : DeviceParts). d.hpet.timers) c.run_to.ensures.state
+            ∙ timers-run c.self.inside.time_ns (c.args.to - c.self.inside.time_ns) c.self.inside.devices))
             c.self.invariant.joined.format;
         rates = c.self.invariant.joined.rates;
         time = record {
           started = omega (arith, c.self.invariant.joined.time.started, c.max-self-inside.ensures);
-          range = let r : time_at c.self.inside.anchor c.max-self-inside.result < RANGE_NS = omega (arith, now_is c, to_is c, low, c.self.invariant.joined.time.range) in r;
+          range = let r : time_at c.self.inside.anchor c.max-self-inside.result < RANGE_NS = omega
+              (arith, now_is c, to_is c, low, c.self.invariant.joined.time.range) in r;
         };
         accesses = c.self.invariant.joined.accesses;
         due = λ k less.

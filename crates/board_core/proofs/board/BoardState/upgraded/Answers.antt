@@ -1,4 +1,4 @@
-use Rattle.std.proofs.Common.{◌≡◌, ℕ, ◌≤◌, ◌<◌, ◌+◌, Bool, cond, List, length, get_or, ap, sym, subst, ◌∙◌, arith}
+use Rattle.std.proofs.Common.{◌≡◌, ℕ, ◌≤◌, ◌+◌, Bool, cond, List, get_or, ap, sym, subst, ◌∙◌, arith}
 use Rattle.host_counter.specs.Time.{time_at}
 use Rattle.hpet_registers.specs.declared.parts.HpetParts.{HpetParts}
 use Rattle.tick_policy.specs.declared.parts.TickParts.{TickParts}
@@ -6,7 +6,6 @@ use Rattle.board_types.specs.declared.parts.BoardParts.{BoardParts}
 use Rattle.board_devices.specs.declared.parts.DeviceParts.{DeviceParts}
 use Rattle.board_devices.specs.Places.{no_line, line_at}
 use Rattle.board_devices.specs.Lines.{levels}
-use Rattle.board_devices.specs.Parts.{devices_upgraded}
 use Rattle.board_core.specs.Upgrade.{gets_timers}
 use Rattle.board_core.proofs.Upgrades.{timers-later, due-later}
 use Rattle.board_core.proofs.Joined.{IsFormat-later, AreRises-later}

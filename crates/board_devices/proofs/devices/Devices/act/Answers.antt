@@ -10,5 +10,7 @@ use Rattle.board_devices.proofs.devices.Devices.act.Goals as goal
 
 pub returns-clause-lifts : goal.returns-clause-lifts
 returns-clause-lifts c = λ n.
-    let valid : IsRtc c.args.self.now.rtc = subst IsRtc (c.parts-clock.ensures.value ∙ ap (λ (d : DeviceParts). d.rtc) c.self.view_is) c.parts-clock.ensures.valid in
-    subst (λ (d : DeviceParts). lifts n (act_edges c.args.at c.args.a c.args.self.now) + one_if (level_of line_numbers (levels c.args.self.now) n) ≤ 1 + one_if (level_of line_numbers (levels d) n)) (sym c.act_parts.ensures.state) (lifts-act n c.args.at c.args.a c.args.self.now valid)
+    let valid : IsRtc c.args.self.now.rtc = subst IsRtc
+    (c.parts-clock.ensures.value ∙ ap (λ (d : DeviceParts). d.rtc) c.self.view_is) c.parts-clock.ensures.valid in
+    subst (λ (d : DeviceParts). lifts n (act_edges c.args.at c.args.a c.args.self.now) + one_if (level_of line_numbers (levels c.args.self.now) n) ≤ 1 + one_if
+    (level_of line_numbers (levels d) n)) (sym c.act_parts.ensures.state) (lifts-act n c.args.at c.args.a c.args.self.now valid)

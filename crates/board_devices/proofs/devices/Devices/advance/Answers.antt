@@ -29,7 +29,8 @@ sound c = record {
   joined = c.self.invariant;
 }
 
-brought : (c : goal.After-timers-1) → Brought (parts_of c.self.inside) c.args.from (c.args.to - c.args.from) c.pulses-rises.result c.pulses-events.result c.pulses-matches.result
+brought : (c : goal.After-timers-1)
+    → Brought (parts_of c.self.inside) c.args.from (c.args.to - c.args.from) c.pulses-rises.result c.pulses-events.result c.pulses-matches.result
 brought c = record {
   pit_count = rw c.pulses_between.ensures.value at c.pulses-rises.ensures.count;
   pit_first = rw c.pulses_between.ensures.value at c.pulses-rises.ensures.first;
@@ -41,7 +42,8 @@ brought c = record {
   timer_first = rw c.pulses_between-3.ensures.value at c.pulses-matches.ensures.first;
 }
 
-known : (c : goal.After-timers-1) → Known (parts_of c.self.inside) c.args.from (c.args.to - c.args.from) ((c.args.from / c.self.inside.slew_ns + 1) * c.self.inside.slew_ns - c.args.from)
+known : (c : goal.After-timers-1)
+    → Known (parts_of c.self.inside) c.args.from (c.args.to - c.args.from) ((c.args.from / c.self.inside.slew_ns + 1) * c.self.inside.slew_ns - c.args.from)
     c.pulses-rises.result c.pulses-events.result c.pulses-matches.result c.all_matched-matched.result c.counted-pit.result c.counted-rtc.result c.all_timer_ticks-timers.result
 known c = record {
   sound = sound c;
@@ -61,7 +63,8 @@ run_lines-ups-requires c = wanted
     room : (k : ℕ) → k < 10 → (line_at k (parts_of c.self.inside)).counts.due + (c.args.to - c.args.from) < 2 ^ 63
     room k less = rw (← c.self.view_is) at (c.requires.room k less)
 
-    wanted : (k : ℕ) → k < 10 → (get_or c.self.inside.ticks k no_line).counts.due + (ticks_at c.counted-pit.result c.counted-rtc.result c.all_timer_ticks-timers.result k).count < 2 ^ 63
+    wanted : (k : ℕ) → k < 10 → (get_or c.self.inside.ticks k no_line).counts.due +
+        (ticks_at c.counted-pit.result c.counted-rtc.result c.all_timer_ticks-timers.result k).count < 2 ^ 63
     wanted k less = omega (arith, room k less, ticks-few (known c) k less)
 
 sound_end : (c : goal.After-line_times) → Sound (parts_of c.self.inside)
@@ -70,7 +73,8 @@ sound_end c = record {
   joined = c.self.invariant;
 }
 
-brought_end : (c : goal.After-line_times) → Brought (parts_of c.self.inside) c.args.from (c.args.to - c.args.from) c.pulses-rises.result c.pulses-events.result c.pulses-matches.result
+brought_end : (c : goal.After-line_times)
+    → Brought (parts_of c.self.inside) c.args.from (c.args.to - c.args.from) c.pulses-rises.result c.pulses-events.result c.pulses-matches.result
 brought_end c = record {
   pit_count = rw c.pulses_between.ensures.value at c.pulses-rises.ensures.count;
   pit_first = rw c.pulses_between.ensures.value at c.pulses-rises.ensures.first;
@@ -82,7 +86,8 @@ brought_end c = record {
   timer_first = rw c.pulses_between-3.ensures.value at c.pulses-matches.ensures.first;
 }
 
-known_end : (c : goal.After-line_times) → Known (parts_of c.self.inside) c.args.from (c.args.to - c.args.from) ((c.args.from / c.self.inside.slew_ns + 1) * c.self.inside.slew_ns - c.args.from)
+known_end : (c : goal.After-line_times)
+    → Known (parts_of c.self.inside) c.args.from (c.args.to - c.args.from) ((c.args.from / c.self.inside.slew_ns + 1) * c.self.inside.slew_ns - c.args.from)
     c.pulses-rises.result c.pulses-events.result c.pulses-matches.result c.all_matched-matched.result c.counted-pit.result c.counted-rtc.result c.all_timer_ticks-timers.result
 known_end c = record {
   sound = sound_end c;
@@ -96,38 +101,54 @@ known_end c = record {
   rtc_is = rw (c.counted-rtc.ensures, c.first_at-tick_at.ensures.value, c.counts_rtc-counts.ensures, c.legacy-legacy.ensures, c.shown_of-shown.ensures.pie) refl;
 }
 
-point_end : (c : goal.After-line_times) → c.next_point-point.result ≡ c.args.from + ((c.args.from / c.self.inside.slew_ns + 1) * c.self.inside.slew_ns - c.args.from)
+point_end : (c : goal.After-line_times) → c.next_point-point.result
+    ≡ c.args.from + ((c.args.from / c.self.inside.slew_ns + 1) * c.self.inside.slew_ns - c.args.from)
 point_end c = omega (arith, (known_end c).point.later, c.next_point-point.ensures)
 
 whole : (c : goal.After-line_times) → c.args.to ≡ c.args.from + (c.args.to - c.args.from)
 whole c = omega (arith, c.requires.order)
 
-ends : (c : goal.After-line_times) → (k : ℕ) → k < 10 → get_or c.run_lines-ups.new.lines k no_line ≡ end_of c.next_point-point.result c.args.to (ticks_at c.counted-pit.result c.counted-rtc.result c.all_timer_ticks-timers.result k) (line_at k (parts_of c.self.inside))
+ends : (c : goal.After-line_times) → (k : ℕ) → k < 10 → get_or c.run_lines-ups.new.lines k no_line
+    ≡ end_of c.next_point-point.result c.args.to (ticks_at c.counted-pit.result c.counted-rtc.result c.all_timer_ticks-timers.result k)
+    (line_at k (parts_of c.self.inside))
 ends c k less = c.run_lines-ups.ensures.state k less
 
 counts_is : (c : goal.After-line_times) → c.counts_rtc-counts.result ≡ counts_rtc (parts_of c.self.inside)
 counts_is c = rw (c.counts_rtc-counts.ensures, c.legacy-legacy.ensures, c.shown_of-shown.ensures.pie) refl
 
-rtc_is : (c : goal.After-line_times) → c.set_flag.new.rtc ≡ flagged_where (counts_rtc (parts_of c.self.inside) && (get_or c.run_lines-ups.new.lines 1 no_line).up) (rtc_pulsed_times (pulses_from RTC_HZ c.args.from (c.args.to - c.args.from)) c.self.inside.rtc)
+rtc_is : (c : goal.After-line_times) → c.set_flag.new.rtc
+    ≡ flagged_where (counts_rtc (parts_of c.self.inside) && (get_or c.run_lines-ups.new.lines 1 no_line).up)
+    (rtc_pulsed_times (pulses_from RTC_HZ c.args.from (c.args.to - c.args.from)) c.self.inside.rtc)
 rtc_is c =
-    let one : get_or c.run_lines-ups.new.lines 1 c.index-self-1.result ≡ get_or c.run_lines-ups.new.lines 1 no_line = get_or_default c.run_lines-ups.new.lines 1 c.index-self-1.result no_line (omega arith) in
-    let flag : c.counts_rtc_up-flag.result ≡ (counts_rtc (parts_of c.self.inside) && (get_or c.run_lines-ups.new.lines 1 no_line).up) = c.counts_rtc_up-flag.ensures ∙ ap (λ (b : Bool). b && c.is_up.result) (counts_is c) ∙ ap (λ (b : Bool). counts_rtc (parts_of c.self.inside) && b) (c.is_up.ensures ∙ ap (λ (l : TickParts). l.up) one) in
-    c.set_flag.ensures ∙ ap (λ (b : Bool). flagged_where b c.pulses-events.new.self) flag ∙ ap (flagged_where (counts_rtc (parts_of c.self.inside) && (get_or c.run_lines-ups.new.lines 1 no_line).up)) (rw c.pulses_between-2.ensures.value at c.pulses-events.ensures.state)
+    let one : get_or c.run_lines-ups.new.lines 1 c.index-self-1.result
+    ≡ get_or c.run_lines-ups.new.lines 1 no_line = get_or_default c.run_lines-ups.new.lines 1 c.index-self-1.result no_line (omega arith) in
+    let flag : c.counts_rtc_up-flag.result
+    ≡ (counts_rtc (parts_of c.self.inside) && (get_or c.run_lines-ups.new.lines 1 no_line).up) = c.counts_rtc_up-flag.ensures
+    ∙ ap (λ (b : Bool). b && c.is_up.result) (counts_is c)
+    ∙ ap (λ (b : Bool). counts_rtc (parts_of c.self.inside) && b) (c.is_up.ensures ∙ ap (λ (l : TickParts). l.up) one) in
+    c.set_flag.ensures ∙ ap (λ (b : Bool). flagged_where b c.pulses-events.new.self) flag
+    ∙ ap (flagged_where (counts_rtc (parts_of c.self.inside) && (get_or c.run_lines-ups.new.lines 1 no_line).up))
+    (rw c.pulses_between-2.ensures.value at c.pulses-events.ensures.state)
 
-ups_are : (c : goal.After-line_times) → (k : ℕ) → k < 10 → get_or c.run_lines-ups.result k None ≡ up_of c.args.from c.next_point-point.result c.args.to (ticks_at c.counted-pit.result c.counted-rtc.result c.all_timer_ticks-timers.result k) (line_at k (parts_of c.self.inside))
+ups_are : (c : goal.After-line_times) → (k : ℕ) → k < 10 → get_or c.run_lines-ups.result k None
+    ≡ up_of c.args.from c.next_point-point.result c.args.to (ticks_at c.counted-pit.result c.counted-rtc.result c.all_timer_ticks-timers.result k)
+    (line_at k (parts_of c.self.inside))
 ups_are c k less = c.run_lines-ups.ensures.up k less
 
 outs : (c : goal.After-line_times) → (k : ℕ) → k < 8 → get_or c.all_outputs-outputs.result k None ≡ out_at (known_end c) k
-outs c = outs-are (known_end c) c.next_point-point.result c.args.to c.all_outputs-outputs.result c.run_lines-ups.result c.self.inside.hpet (point_end c) (whole c) refl (ups_are c) c.all_outputs-outputs.ensures
+outs c = outs-are (known_end c) c.next_point-point.result c.args.to c.all_outputs-outputs.result c.run_lines-ups.result c.self.inside.hpet (point_end c)
+    (whole c) refl (ups_are c) c.all_outputs-outputs.ensures
 
-state : (c : goal.After-line_times) → parts_of (record { pit = c.pulses-rises.new.self; rtc = c.set_flag.new.rtc; hpet = c.pulses-matches.new.self; ticks = c.run_lines-ups.new.lines; slew_ns = c.self.inside.slew_ns }) ≡ (run c.args.from (c.args.to - c.args.from) (parts_of c.self.inside)).state
+state : (c : goal.After-line_times)
+    → parts_of (record { pit = c.pulses-rises.new.self; rtc = c.set_flag.new.rtc; hpet = c.pulses-matches.new.self; ticks = c.run_lines-ups.new.lines; slew_ns = c.self.inside.slew_ns }) ≡ (run c.args.from (c.args.to - c.args.from) (parts_of c.self.inside)).state
 state c = ran-state (known_end c) c.next_point-point.result c.args.to c.run_lines-ups.new.lines c.pulses-rises.new.self c.set_flag.new.rtc c.pulses-matches.new.self (point_end c) (whole c) (omega arith) (ends c)
     (rw c.pulses_between.ensures.value at c.pulses-rises.ensures.state)
     (rtc_is c)
     (rw c.pulses_between-3.ensures.value at c.pulses-matches.ensures.state)
 
 pub invariant_of-self-2 : goal.invariant_of-self-2
-invariant_of-self-2 c = subst IsDevices (sym (state c ∙ run-parted c.args.from (c.args.to - c.args.from) (parts_of c.self.inside) (sound_end c))) (IsDevices-parted (known_end c) (c.args.to - c.args.from))
+invariant_of-self-2 c = subst IsDevices (sym (state c ∙ run-parted c.args.from (c.args.to - c.args.from) (parts_of c.self.inside) (sound_end c)))
+    (IsDevices-parted (known_end c) (c.args.to - c.args.from))
 
 pub returns-clause-state : goal.returns-clause-state
 returns-clause-state c = state c ∙ ap (λ (d : DeviceParts). (run c.args.from (c.args.to - c.args.from) d).state) c.self.view_is
@@ -150,7 +171,8 @@ sound_still c = record {
   joined = c.self.invariant;
 }
 
-still : (c : goal.Then-nothing_came) → Quiet (parts_of c.self.inside) c.args.from (c.args.to - c.args.from) ((c.args.from / c.self.inside.slew_ns + 1) * c.self.inside.slew_ns - c.args.from)
+still : (c : goal.Then-nothing_came)
+    → Quiet (parts_of c.self.inside) c.args.from (c.args.to - c.args.from) ((c.args.from / c.self.inside.slew_ns + 1) * c.self.inside.slew_ns - c.args.from)
 still c = record {
   sound = sound_still c;
   point = next_point c.self.inside.slew_ns c.args.from (omega (arith, c.self.invariant.slew_low));
@@ -161,15 +183,21 @@ still c = record {
   matches = λ k less. sym (rw c.pulses_between-3.ensures.value at (c.pulses-matches.ensures.count k)) ∙ c.if-nothing_came.ensures.matches refl k less;
 }
 
-state_still : (c : goal.Then-nothing_came) → parts_of (record { pit = c.pulses-rises.new.self; rtc = c.pulses-events.new.self; hpet = c.pulses-matches.new.self; ticks = c.self.inside.ticks; slew_ns = c.self.inside.slew_ns }) ≡ (run c.args.from (c.args.to - c.args.from) (parts_of c.self.inside)).state
-state_still c = run-still (still c) c.pulses-rises.new.self c.pulses-events.new.self c.pulses-matches.new.self (rw c.pulses_between.ensures.value at c.pulses-rises.ensures.state) (rw c.pulses_between-2.ensures.value at c.pulses-events.ensures.state) (rw c.pulses_between-3.ensures.value at c.pulses-matches.ensures.state)
+state_still : (c : goal.Then-nothing_came)
+    → parts_of (record { pit = c.pulses-rises.new.self; rtc = c.pulses-events.new.self; hpet = c.pulses-matches.new.self; ticks = c.self.inside.ticks; slew_ns = c.self.inside.slew_ns }) ≡ (run c.args.from (c.args.to - c.args.from) (parts_of c.self.inside)).state
+state_still c = run-still (still c) c.pulses-rises.new.self c.pulses-events.new.self c.pulses-matches.new.self
+    (rw c.pulses_between.ensures.value at c.pulses-rises.ensures.state) (rw c.pulses_between-2.ensures.value at c.pulses-events.ensures.state)
+    (rw c.pulses_between-3.ensures.value at c.pulses-matches.ensures.state)
 
 pub invariant_of-self : goal.invariant_of-self
-invariant_of-self c = IsDevices-still (still c) c.pulses-rises.new.self c.pulses-events.new.self c.pulses-matches.new.self (rw c.pulses_between.ensures.value at c.pulses-rises.ensures.state) (rw c.pulses_between-2.ensures.value at c.pulses-events.ensures.state) (rw c.pulses_between-3.ensures.value at c.pulses-matches.ensures.state)
+invariant_of-self c = IsDevices-still (still c) c.pulses-rises.new.self c.pulses-events.new.self c.pulses-matches.new.self
+    (rw c.pulses_between.ensures.value at c.pulses-rises.ensures.state) (rw c.pulses_between-2.ensures.value at c.pulses-events.ensures.state)
+    (rw c.pulses_between-3.ensures.value at c.pulses-matches.ensures.state)
 
 pub returns-then-nothing_came-clause-state : goal.returns-then-nothing_came-clause-state
 returns-then-nothing_came-clause-state c = state_still c ∙ ap (λ (d : DeviceParts). (run c.args.from (c.args.to - c.args.from) d).state) c.self.view_is
 
 pub returns-then-nothing_came-clause-levels : goal.returns-then-nothing_came-clause-levels
 returns-then-nothing_came-clause-levels c = λ j le.
-    ap (λ (d : DeviceParts). levels (run c.args.from j d).state) (sym c.self.view_is) ∙ levels-still (still c) j (omega (arith, le, c.requires.order)) ∙ ap levels c.self.view_is
+    ap (λ (d : DeviceParts). levels (run c.args.from j d).state) (sym c.self.view_is) ∙ levels-still (still c) j (omega (arith, le, c.requires.order))
+    ∙ ap levels c.self.view_is

@@ -23,5 +23,7 @@ returns-then-are_joined-clause-valid c = (
 pub returns-else-are_joined-clause-valid : goal.returns-else-are_joined-clause-valid
 returns-else-are_joined-clause-valid c = (
   λ e. absurd (false≢true e),
-  λ (all : AreDevices c.args.parts). sym c.if-are_joined.false ∙ (c.are_joined.ensures c.in_ok-pit.pit).1 (subst IsDevices (sym (same_parts c.args.parts c.in_ok-pit.ensures.value c.in_ok-rtc.ensures.value c.in_ok-hpet.ensures.value c.in_ok-ticks.ensures.value)) all.joined),
+  λ (all : AreDevices c.args.parts). sym c.if-are_joined.false
+      ∙ (c.are_joined.ensures c.in_ok-pit.pit).1
+      (subst IsDevices (sym (same_parts c.args.parts c.in_ok-pit.ensures.value c.in_ok-rtc.ensures.value c.in_ok-hpet.ensures.value c.in_ok-ticks.ensures.value)) all.joined),
 )

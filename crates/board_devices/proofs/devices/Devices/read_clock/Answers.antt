@@ -18,7 +18,9 @@ other c = ne_eqb c.self.inside.rtc.index 12 (λ e. c.if-index-eq12.false (c.inde
 rtc_is : (c : goal.After-read) → c.read.new.self ≡ c.self.inside.rtc
 rtc_is c = c.read.ensures.state ∙ after_rtc_read-other c.self.inside.rtc (other c)
 
-same : (c : goal.After-read) → parts_of (record { pit = c.self.inside.pit; rtc = c.read.new.self; hpet = c.self.inside.hpet; ticks = c.self.inside.ticks; slew_ns = c.self.inside.slew_ns }) ≡ parts_of c.self.inside
+same : (c : goal.After-read) → parts_of
+    (record { pit = c.self.inside.pit; rtc = c.read.new.self; hpet = c.self.inside.hpet; ticks = c.self.inside.ticks; slew_ns = c.self.inside.slew_ns })
+    ≡ parts_of c.self.inside
 same c = ap (λ (r : RtcParts). record (parts_of c.self.inside) { rtc = r }) (rtc_is c)
 
 pub invariant_of-self : goal.invariant_of-self

@@ -21,14 +21,17 @@ hpet c = subst (λ (d : DeviceParts). IsHpet d.hpet) (before c) c.parts-before.e
 lines : (c : goal.After-lines_upgraded) → c.lines_upgraded.result ≡ each (line_upgraded (parts_of c.self.inside)) 0 c.self.inside.ticks
 lines c =
     c.lines_upgraded.ensures
-    ∙ ap (λ (d : DeviceParts). map (λ k. cond (ltb k (d.hpet.timers + 2)) (get_or c.self.inside.ticks k no_line) (line_at_power_on (get_or c.self.inside.ticks 2 no_line).policy)) ten) (before c)
+    ∙ ap (λ (d : DeviceParts). map (λ k. cond (ltb k (d.hpet.timers + 2)) (get_or c.self.inside.ticks k no_line)
+    (line_at_power_on (get_or c.self.inside.ticks 2 no_line).policy)) ten) (before c)
     ∙ each-ten (line_upgraded (parts_of c.self.inside)) c.self.inside.ticks c.self.invariant.places
 
-state : (c : goal.After-lines_upgraded) → parts_of (record { pit = c.self.inside.pit; rtc = c.self.inside.rtc; hpet = c.with_eight_timers.result; ticks = c.lines_upgraded.result; slew_ns = c.self.inside.slew_ns }) ≡ devices_upgraded (parts_of c.self.inside)
+state : (c : goal.After-lines_upgraded)
+    → parts_of (record { pit = c.self.inside.pit; rtc = c.self.inside.rtc; hpet = c.with_eight_timers.result; ticks = c.lines_upgraded.result; slew_ns = c.self.inside.slew_ns }) ≡ devices_upgraded (parts_of c.self.inside)
 unfolding devices_upgraded
 state c =
     ap (λ (ls : List TickParts). record (parts_of c.self.inside) { hpet = c.with_eight_timers.result; ticks = ls }) (lines c)
-    ∙ ap (λ (h : HpetParts). record (parts_of c.self.inside) { hpet = h; ticks = each (line_upgraded (parts_of c.self.inside)) 0 c.self.inside.ticks }) c.with_eight_timers.ensures
+    ∙ ap (λ (h : HpetParts). record
+    (parts_of c.self.inside) { hpet = h; ticks = each (line_upgraded (parts_of c.self.inside)) 0 c.self.inside.ticks }) c.with_eight_timers.ensures
 
 pub invariant_of-result : goal.invariant_of-result
 invariant_of-result c = subst IsDevices (sym (state c)) (IsDevices-upgraded (parts_of c.self.inside) (hpet c) c.self.invariant)

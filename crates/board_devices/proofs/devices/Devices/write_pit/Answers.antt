@@ -27,8 +27,10 @@ lines c = c.tick_first.ensures ∙ ap (λ (b : Bool). ticked_at (pit_ticked b) c
 
 pub invariant_of-self : goal.invariant_of-self
 unfolding rises
-invariant_of-self c = IsDevices-each (parts_of c.self.inside) c.write.new.self c.self.inside.rtc c.self.inside.hpet c.tick_first.new.ticks _ c.self.invariant (lines c) (KeepsLines-pit_ticked (rises c) c.self.inside.hpet.timers) refl refl
-    (ap (λ (ls : List TickParts). (get_or ls 1 no_line).up) (lines c) ∙ ap (λ (l : TickParts). l.up) (each-at _ 0 1 c.self.inside.ticks no_line (omega (arith, c.self.invariant.places))) ∙ c.self.invariant.flag)
+invariant_of-self c = IsDevices-each (parts_of c.self.inside) c.write.new.self c.self.inside.rtc c.self.inside.hpet c.tick_first.new.ticks _ c.self.invariant
+    (lines c) (KeepsLines-pit_ticked (rises c) c.self.inside.hpet.timers) refl refl
+    (ap (λ (ls : List TickParts). (get_or ls 1 no_line).up) (lines c)
+    ∙ ap (λ (l : TickParts). l.up) (each-at _ 0 1 c.self.inside.ticks no_line (omega (arith, c.self.invariant.places))) ∙ c.self.invariant.flag)
 
 pub returns-clause-state : goal.returns-clause-state
 unfolding acted rises
@@ -38,7 +40,8 @@ returns-clause-state c =
     ∙ ap (acted (PitWrite c.args.port c.args.byte)) c.self.view_is
 
 before : (c : goal.After-push_change) → c.is_up-before.result ≡ (line_at 0 (parts_of c.self.inside)).up
-before c = c.is_up-before.ensures ∙ ap (λ (l : TickParts). l.up) (get_or_default c.self.inside.ticks 0 c.index-self-0.result no_line (omega (arith, c.self.invariant.places)))
+before c = c.is_up-before.ensures
+    ∙ ap (λ (l : TickParts). l.up) (get_or_default c.self.inside.ticks 0 c.index-self-0.result no_line (omega (arith, c.self.invariant.places)))
 
 pub returns-clause-edges : goal.returns-clause-edges
 unfolding rises
@@ -51,4 +54,5 @@ returns-clause-edges c = c.push_change.ensures.appended
     ∙ ap (λ (d : DeviceParts). c.args.edges.now ++ act_edges c.args.at (PitWrite c.args.port c.args.byte) d) c.self.view_is
 
 pub returns-clause-due : goal.returns-clause-due
-returns-clause-due c = λ k less. rw (← c.self.view_is) (due-ticked (pit_ticked (rises c)) c.self.inside.ticks c.tick_first.new.ticks c.self.invariant.places (lines c) k less)
+returns-clause-due c = λ k less. rw (← c.self.view_is)
+    (due-ticked (pit_ticked (rises c)) c.self.inside.ticks c.tick_first.new.ticks c.self.invariant.places (lines c) k less)
