@@ -47,7 +47,14 @@ fn print_table(rt: &(impl Print + Clock)) -> io::Result<()> {
     let mut edges = 0u64;
     let rows = [
         ("port 40h, no time", Access::PortIn { port: 0x40 }, 0),
-        ("HPET main counter, no time", Access::HpetRead { offset: 0xf0, width: 8 }, 0),
+        (
+            "HPET main counter, no time",
+            Access::HpetRead {
+                offset: 0xf0,
+                width: 8,
+            },
+            0,
+        ),
         ("step of no time", Access::Step, 0),
         ("step of 700 ns", Access::Step, 700),
         ("acknowledgement, ticks waiting", Access::Ack { line: 0 }, 0),
@@ -121,7 +128,13 @@ fn running() -> BoardState {
         wall_nsec: 0,
         time: MIDNIGHT,
     });
-    for (port, byte) in [(0x43, 0x34), (0x40, 4), (0x40, 0), (0x70, 0x0b), (0x71, 0x42)] {
+    for (port, byte) in [
+        (0x43, 0x34),
+        (0x40, 4),
+        (0x40, 0),
+        (0x70, 0x0b),
+        (0x71, 0x42),
+    ] {
         ask(&mut board, 0, Access::PortOut { port, byte });
     }
     for (offset, value) in [(0x100, 0x284c), (0x108, 100), (0x10, 1)] {
