@@ -27,7 +27,7 @@ const JOB_NOT_BUILT: &[u8] = b"refused 0 notbuilt\n";
 /// what it answers to `sink`, in pieces as large as the source's.
 ///
 /// Each line whose end was taken is answered before more is taken. Nothing is taken behind the piece that ended the
-/// trace: by the line `end`, by a line that isn't built, or by a line of more than 128 bytes.
+/// trace: by the line `end`, by a line that is refused, or by a line that is too long.
 ///
 /// `rt` and `gate` are for the processors' threads of the job `race`, which isn't built yet: no thread is started, and
 /// nobody waits.
@@ -36,7 +36,12 @@ const JOB_NOT_BUILT: &[u8] = b"refused 0 notbuilt\n";
 ///
 /// - `Ok`: the trace was read to `end`.
 /// - `Usage`: the words are no command; the usage is printed, and nothing is taken.
-/// - `NotBuilt`: that line is the first that isn't built, or, with line 0, the job isn't (`race`, `gen`, `soak`).
+/// - `BadRecord`: that line, or the end of the input at it, is refused for the reason given.
+/// - `OutOfRange`: the time of that line's count is 2^59 ns or more.
+/// - `VersionsSpent`: that line would publish a page, or the wall clock's words, behind the last version.
+/// - `Spent`: 2^62 accesses came before that line.
+/// - `NotBuilt`: that line saves or moves the board, which isn't built yet, or, with line 0, the job isn't (`race`,
+///   `gen`, `soak`).
 /// - `SourceFault`, `SinkFault`: only where that end counted a fault in this call. What was written is then the blocks
 ///   of all whole lines given and `fault source`, or a beginning of what would be printed.
 /// - `NoMemory`: memory ran out; what was written is a beginning of what would be printed, and `fault memory`.
