@@ -60,7 +60,7 @@ pub drop_part : (piece : List ℕ) (from to n : ℕ) → from + n ≤ to → dro
 drop_part piece from to n within =
     let parts : n + (to - (from + n)) ≡ to - from = omega arith in
     ap (λ (m : ℕ). drop n (take m (drop from piece))) (sym parts) ∙ drop-take n (to - (from + n)) (drop from piece)
-        ∙ ap (take (to - (from + n))) (drop-drop n from piece)
+    ∙ ap (take (to - (from + n))) (drop-drop n from piece)
 
 -- the part up to n bytes behind its front
 pub take_part : (piece : List ℕ) (from to n : ℕ) → from + n ≤ to → take n (take (to - from) (drop from piece)) ≡ take n (drop from piece)
@@ -121,4 +121,4 @@ across_none word kept rest short first =
     let d = bytes_eq-Decides (take (length kept) word) kept in
     let e = bytes_eq-Decides (take (length word) (kept ++ rest)) word in
     same_bool false (bytes_eq (take (length word) (kept ++ rest)) word) (λ yes. cc)
-        (λ yes. absurd (let h : bytes_eq (take (length kept) word) kept ≡ true = d.1 (across_back word kept rest short (e.0 yes)).0 in cc))
+    (λ yes. absurd (let h : bytes_eq (take (length kept) word) kept ≡ true = d.1 (across_back word kept rest short (e.0 yes)).0 in cc))

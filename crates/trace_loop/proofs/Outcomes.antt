@@ -137,7 +137,7 @@ module _ (A E : Type 0) (answer : ℕ → A → List ℕ → Answer A E) (closin
   line_heard : (bytes : List ℕ) (line : ℕ) (state : A) (before : List ℕ) (old new : Cut) → behind answer bytes (opened a)
       ≡ standing line old.text state before → IsLine old new
       → (more : List ℕ) × (old.left ≡ more ++ new.left) ×
-          (behind answer (bytes ++ more) (opened a) ≡ answered answer (standing line new.line state before)) × (0 < length old.left)
+      (behind answer (bytes ++ more) (opened a) ≡ answered answer (standing line new.line state before)) × (0 < length old.left)
   line_heard bytes line state before old new there l = by_end l.end
     where
       s : Progress A E
@@ -149,7 +149,7 @@ module _ (A E : Type 0) (answer : ℕ → A → List ℕ → Answer A E) (closin
       by_end : ((length new.line ≤ limit_of new.line) × (old.left ≡ l.bytes ++ 10 ∷ new.left)) ⊎
           ((length new.line ≡ limit_of new.line + 1) × (old.left ≡ l.bytes ++ new.left))
           → (more : List ℕ) × (old.left ≡ more ++ new.left) ×
-              (behind answer (bytes ++ more) (opened a) ≡ answered answer (standing line new.line state before)) × (0 < length old.left)
+          (behind answer (bytes ++ more) (opened a) ≡ answered answer (standing line new.line state before)) × (0 < length old.left)
       by_end (inl h) = (
         l.bytes ++ 10 ∷ [],
         h.1 ∙ sym (append_assoc l.bytes (10 ∷ []) new.left),
@@ -217,10 +217,10 @@ module _ (A E : Type 0) (answer : ℕ → A → List ℕ → Answer A E) (closin
       let t = told_ends x line new.line state (put ++ out) status some in
       let parts : input ≡ (s.bytes ++ h.0) ++ (new.left ++ rest) =
       s.whole ∙ ap (λ (left : List ℕ). (s.bytes ++ left) ++ rest) h.1 ∙ ap (λ (l : List ℕ). l ++ rest) (sym (append_assoc s.bytes h.0 new.left))
-          ∙ append_assoc (s.bytes ++ h.0) new.left rest in
+      ∙ append_assoc (s.bytes ++ h.0) new.left rest in
       let end : (behind answer (s.bytes ++ h.0) (opened a)).end ≡ Some status = ap (λ (u : Progress A E). u.end) h.2 ∙ t.0 in
       let text : (behind answer (s.bytes ++ h.0) (opened a)).printed ≡ put ++ grown = ap (λ (u : Progress A E). u.printed) h.2 ∙ t.1
-          ∙ append_assoc put out (printed x) ∙ ap (λ (p : List ℕ). put ++ p) (sym shown) in (
+      ∙ append_assoc put out (printed x) ∙ ap (λ (p : List ℕ). put ++ p) (sym shown) in (
         ap (λ (l : List ℕ). finished answer closing (behind answer l (opened a))) parts
             ∙ replay-ended A E answer closing (s.bytes ++ h.0) (new.left ++ rest) (opened a) status end
             ∙ ap (λ (l : List ℕ). record { text = l; end = status }) text,
@@ -240,7 +240,7 @@ module _ (A E : Type 0) (answer : ℕ → A → List ℕ → Answer A E) (closin
         there =
             behind-++ A E answer closing s.bytes old.left (opened a) ∙ ap (behind answer old.left) s.there
             ∙ behind-bytes A E answer closing old.left (standing line old.text state (put ++ out)) refl l.in_line
-                (subst (λ (t : List ℕ). length t ≤ limit_of t) l.text l.short)
+            (subst (λ (t : List ℕ). length t ≤ limit_of t) l.text l.short)
             ∙ ap (λ (text : List ℕ). standing line text state (put ++ out)) (sym l.text);
         asked = λ some. later input put before (length s.bytes) (length (s.bytes ++ old.left)) (omega (arith, length-append s.bytes old.left))
             (s.asked (omega arith));
@@ -249,8 +249,8 @@ module _ (A E : Type 0) (answer : ℕ → A → List ℕ → Answer A E) (closin
   -- what is to be put is put, and then the source is called
   pub stands_put : (input rest put out : List ℕ) (given before line : ℕ) (text : List ℕ) (state : A)
       → Stands A E answer closing a input [] rest put out given before (standing line text state (put ++ out))
-          → (input ≡ take given input ++ rest) × (length (take given input) ≡ given) ×
-          (behind answer (take given input) (opened a) ≡ standing line text state (put ++ out))
+      → (input ≡ take given input ++ rest) × (length (take given input) ≡ given) ×
+      (behind answer (take given input) (opened a) ≡ standing line text state (put ++ out))
   stands_put input rest put out given before line text state s =
       let bytes : input ≡ s.bytes ++ rest = s.whole ∙ ap (λ (l : List ℕ). l ++ rest) (append-nil s.bytes) in
       let len : length s.bytes ≡ given = omega (arith, s.count) in
@@ -260,19 +260,23 @@ module _ (A E : Type 0) (answer : ℕ → A → List ℕ → Answer A E) (closin
   -- a piece more was given
   pub stands_piece : (input rest more piece put out : List ℕ) (given before asked now line : ℕ) (text : List ℕ) (state : A)
       → Stands A E answer closing a input [] rest put out given before (standing line text state (put ++ out)) → rest ≡ piece ++ more → asked ≡ given → now
-          ≡ given + length piece
+      ≡ given + length piece
       → Stands A E answer closing a input piece more (put ++ out) [] now asked (standing line text state ((put ++ out) ++ []))
   stands_piece input rest more piece put out given before asked now line text state s parts is count =
       let t = stands_put input rest put out given before line text state s in
       let same : behind answer (take asked input) (opened a)
-          ≡ standing line text state (put ++ out) = ap (λ (n : ℕ). behind answer (take n input) (opened a)) is ∙ t.2 in
+      ≡ standing line text state (put ++ out) = ap (λ (n : ℕ). behind answer (take n input) (opened a)) is ∙ t.2 in
       record {
         bytes = take given input;
         whole = t.0 ∙ ap (λ (l : List ℕ). take given input ++ l) parts ∙ sym (append_assoc (take given input) piece more);
         count = omega (arith, t.1, count);
         there = t.2 ∙ ap (λ (p : List ℕ). standing line text state p) (sym (append-nil (put ++ out)));
-        asked = λ some. record { least = omega (arith, t.1, is); printed_ = ap (λ (u : Progress A E). u.printed) same; going = ap
-            (λ (u : Progress A E). u.end) same };
+        asked = λ some. record {
+          least = omega (arith, t.1, is);
+          printed_ = ap (λ (u : Progress A E). u.printed) same;
+          going = ap
+              (λ (u : Progress A E). u.end) same;
+        };
       }
 
 -- one of the three texts that may be put
@@ -325,17 +329,17 @@ module _ (A E : Type 0) (answer : ℕ → A → List ℕ → Answer A E) (closin
   -- a line ended the trace
   pub out_ended : (end : E) (result : Ended E) (put last : List ℕ) (place : ℕ) (c0 c1 c2 : Option (List ℕ)) (fault : Type 0)
       → finished answer closing (behind answer input (opened a)) ≡ record { text = put ++ last; end = end } → f' ≡ f
-          → IsAsked A E answer closing a input put before place → Appends c0 c1 put
+      → IsAsked A E answer closing a input put before place → Appends c0 c1 put
       → Said (statuses.By end) result c1 c2 last fault → Outcome (run_of answer closing a input before given f f') result c0 c2
   out_ended end result put last place c0 c1 c2 fault is well asked shown said =
       said_out A E (run_of answer closing a input before given f f') (statuses.By end) result put last c0 c1 c2 fault shown (held put place asked)
-          (inl (sym (ap (λ (r : Closing E). r.text) is), well))
+      (inl (sym (ap (λ (r : Closing E). r.text) is), well))
       (λ all. ended_out A E (run_of answer closing a input before given f f') end (put ++ last) c0 c2 is well all) said
 
   -- memory ran out behind some lines
   pub out_memory : (result : Ended E) (put last text : List ℕ) (place : ℕ) (c0 c1 c2 : Option (List ℕ)) (fault : Type 0)
       → (behind answer (take place input) (opened a)).printed ≡ put ++ text → (behind answer (take place input) (opened a)).end ≡ None → place ≤ given → last
-          ≡ text ++ memory_fault_text → f' ≡ f
+      ≡ text ++ memory_fault_text → f' ≡ f
       → IsAsked A E answer closing a input put before place → Appends c0 c1 put
       → Said statuses.NoMemory result c1 c2 last fault → Outcome (run_of answer closing a input before given f f') result c0 c2
   out_memory result put last text place c0 c1 c2 fault is going within parts well asked shown said =
@@ -348,18 +352,18 @@ module _ (A E : Type 0) (answer : ℕ → A → List ℕ → Answer A E) (closin
         well,
       ) in
       said_out A E (run_of answer closing a input before given f f') statuses.NoMemory result put last c0 c1 c2 fault shown (held put place asked)
-          (inr (inr memory)) (λ all. (put ++ last, memory, all)) said
+      (inr (inr memory)) (λ all. (put ++ last, memory, all)) said
 
   -- the source failed
   pub out_source : (result : Ended E) (put : List ℕ) (place : ℕ) (c0 c1 c2 : Option (List ℕ)) (fault : Type 0)
       → (behind answer (take given input) (opened a)).printed ≡ put → (behind answer (take given input) (opened a)).end ≡ None → Rose f f'
-          → IsAsked A E answer closing a input put before place → Appends c0 c1 put
+      → IsAsked A E answer closing a input put before place → Appends c0 c1 put
       → Said statuses.SourceFault result c1 c2 source_fault_text fault → Outcome (run_of answer closing a input before given f f') result c0 c2
   out_source result put place c0 c1 c2 fault is going rose asked shown said =
       let source : IsSourceFault (run_of answer closing a input before given f f') (put ++ source_fault_text) =
-          (ap (λ (l : List ℕ). l ++ source_fault_text) (sym is), going, rose) in
+      (ap (λ (l : List ℕ). l ++ source_fault_text) (sym is), going, rose) in
       said_out A E (run_of answer closing a input before given f f') statuses.SourceFault result put source_fault_text c0 c1 c2 fault shown
-          (held put place asked) (inr (inl source)) (λ all. (put ++ source_fault_text, source, all)) said
+      (held put place asked) (inr (inl source)) (λ all. (put ++ source_fault_text, source, all)) said
 
   -- the sink failed
   pub out_sink : (put last more : List ℕ) (place : ℕ) (c0 c1 c2 : Option (List ℕ)) → (finished answer closing (behind answer input (opened a))).text
@@ -367,22 +371,22 @@ module _ (A E : Type 0) (answer : ℕ → A → List ℕ → Answer A E) (closin
       → (cut : List ℕ) × Begins cut last × Appends c1 c2 cut → Outcome (run_of answer closing a input before given f f') statuses.SinkFault c0 c2
   out_sink put last more place c0 c1 c2 is well asked shown cut =
       cut_off A E (run_of answer closing a input before given f f') put last more
-          (finished answer closing (behind answer input (opened a))).text c0 c1 c2 shown (held put place asked) (inl (refl, well)) is cut
+      (finished answer closing (behind answer input (opened a))).text c0 c1 c2 shown (held put place asked) (inl (refl, well)) is cut
 
 -- the place where a run stands, as a number of bytes
 pub stands_at : (A E : Type 0) (answer : ℕ → A → List ℕ → Answer A E) (closing : ℕ → A → Closing E) (a : A) (input left rest put out : List ℕ)
     (given before line : ℕ) (text : List ℕ) (state : A)
     → (s : Stands A E answer closing a input left rest put out given before (standing line text state (put ++ out)))
-        → behind answer (take (length s.bytes) input) (opened a) ≡ standing line text state (put ++ out)
+    → behind answer (take (length s.bytes) input) (opened a) ≡ standing line text state (put ++ out)
 stands_at A E answer closing a input left rest put out given before line text state s =
     ap (λ (l : List ℕ). behind answer l (opened a))
-        (ap (take (length s.bytes)) (s.whole ∙ append_assoc s.bytes left rest) ∙ front s.bytes (left ++ rest) (length s.bytes) refl) ∙ s.there
+    (ap (take (length s.bytes)) (s.whole ∙ append_assoc s.bytes left rest) ∙ front s.bytes (left ++ rest) (length s.bytes) refl) ∙ s.there
 
 -- what is printed behind the bytes so far is at the front of what is printed for the whole
 pub stands_starts : (A E : Type 0) (answer : ℕ → A → List ℕ → Answer A E) (closing : ℕ → A → Closing E) (a : A) (input left rest put out : List ℕ)
     (given before line : ℕ) (text : List ℕ) (state : A)
     → Stands A E answer closing a input left rest put out given before (standing line text state (put ++ out))
-        → (more : List ℕ) × ((finished answer closing (behind answer input (opened a))).text ≡ put ++ (out ++ more))
+    → (more : List ℕ) × ((finished answer closing (behind answer input (opened a))).text ≡ put ++ (out ++ more))
 stands_starts A E answer closing a input left rest put out given before line text state s =
     let parts : input ≡ s.bytes ++ (left ++ rest) = s.whole ∙ append_assoc s.bytes left rest in
     let t = replay-starts A E answer closing s.bytes (left ++ rest) (opened a) in (
@@ -424,17 +428,17 @@ line_shorter old new l = by_end l.end
 pub stands_asked : (A E : Type 0) (answer : ℕ → A → List ℕ → Answer A E) (closing : ℕ → A → Closing E) (a : A) (input rest put out : List ℕ)
     (given before asked line : ℕ) (text : List ℕ) (state : A)
     → Stands A E answer closing a input [] rest put out given before (standing line text state (put ++ out)) → asked ≡ given
-        → IsAsked A E answer closing a input (put ++ out) asked given
+    → IsAsked A E answer closing a input (put ++ out) asked given
 stands_asked A E answer closing a input rest put out given before asked line text state s is =
     let same : behind answer (take asked input) (opened a)
-        ≡ standing line text state (put ++ out) = ap (λ (n : ℕ). behind answer (take n input) (opened a)) is
-        ∙ (stands_put A E answer closing a input rest put out given before line text state s).2 in
+    ≡ standing line text state (put ++ out) = ap (λ (n : ℕ). behind answer (take n input) (opened a)) is
+    ∙ (stands_put A E answer closing a input rest put out given before line text state s).2 in
     record { least = omega (arith, is); printed_ = ap (λ (u : Progress A E). u.printed) same; going = ap (λ (u : Progress A E). u.end) same }
 
 pub stands_refill : (A E : Type 0) (answer : ℕ → A → List ℕ → Answer A E) (closing : ℕ → A → Closing E) (a : A) (input rest more piece put out : List ℕ)
     (given before asked now line : ℕ) (text : List ℕ) (state : A) (line' : ℕ) (text' out' : List ℕ)
     → Stands A E answer closing a input [] rest put out given before (standing line text state (put ++ out)) → rest ≡ piece ++ more → asked ≡ given → now
-        ≡ given + length piece → line' ≡ line → text' ≡ text → out' ≡ []
+    ≡ given + length piece → line' ≡ line → text' ≡ text → out' ≡ []
     → Stands A E answer closing a input piece more (put ++ out) out' now asked (standing line' text' state ((put ++ out) ++ out'))
 stands_refill A E answer closing a input rest more piece put out given before asked now line text state line' text' out' s parts is count el et eo =
     rw el (rw et (rw eo (stands_piece A E answer closing a input rest more piece put out given before asked now line text state s parts is count)))
@@ -444,11 +448,11 @@ pub stands_end : (A E : Type 0) (answer : ℕ → A → List ℕ → Answer A E)
     (given before line : ℕ) (text : List ℕ) (state : A) (line' : ℕ) (text' : List ℕ)
     → Stands A E answer closing a input [] rest put out given before (standing line text state (put ++ out)) → rest ≡ [] → line' ≡ line → text' ≡ text
     → (let r = finished answer closing (standing line' text' state []) in finished answer closing (behind answer input (opened a))
-        ≡ record { text = (put ++ out) ++ r.text; end = r.end })
+    ≡ record { text = (put ++ out) ++ r.text; end = r.end })
 stands_end A E answer closing a input rest put out given before line text state line' text' s none el et =
     let t = stands_put A E answer closing a input rest put out given before line text state s in
     let all : input ≡ take given input = t.0 ∙ ap (λ (l : List ℕ). take given input ++ l) none ∙ append-nil (take given input) in
     ap (λ (l : List ℕ). finished answer closing (behind answer l (opened a))) all ∙ ap (finished answer closing) t.2
     ∙ ap (λ (n : ℕ). finished answer closing (standing n text state (put ++ out))) (sym el)
-        ∙ ap (λ (l : List ℕ). finished answer closing (standing line' l state (put ++ out))) (sym et)
+    ∙ ap (λ (l : List ℕ). finished answer closing (standing line' l state (put ++ out))) (sym et)
     ∙ finished-behind A E answer closing (put ++ out) line' text' state

@@ -119,7 +119,7 @@ module _ (A E : Type 0) (answer : ℕ → A → List ℕ → Answer A E) (closin
       ≡ record s { text = s.text ++ b ∷ [] }
   heard-byte b s e other short =
       let fits : ltb (limit_of (s.text ++ b ∷ [])) (length (s.text ++ b ∷ []))
-          ≡ false = le-ltb (limit_of (s.text ++ b ∷ [])) (length (s.text ++ b ∷ [])) short in
+      ≡ false = le-ltb (limit_of (s.text ++ b ∷ [])) (length (s.text ++ b ∷ [])) short in
       ap (λ (o : Option E). heard_until answer o b s) e
       ∙ ap (λ (t : Bool). cond t (answered answer s) (checked answer (record s { text = s.text ++ b ∷ [] }))) (ne_eqb b 10 other)
       ∙ ap (λ (t : Bool). cond t (answered answer (record s { text = s.text ++ b ∷ [] })) (record s { text = s.text ++ b ∷ [] })) fits
@@ -149,16 +149,16 @@ module _ (A E : Type 0) (answer : ℕ → A → List ℕ → Answer A E) (closin
       (let same : s.text ++ [] ≡ s.text = append-nil s.text in omega (arith, short, long, ap length same, ap limit_of same))
   behind-excess (b ∷ []) s e none short long =
       let over : ltb (limit_of (s.text ++ b ∷ [])) (length (s.text ++ b ∷ []))
-          ≡ true = lt-ltb (limit_of (s.text ++ b ∷ [])) (length (s.text ++ b ∷ [])) (omega (arith, long)) in
+      ≡ true = lt-ltb (limit_of (s.text ++ b ∷ [])) (length (s.text ++ b ∷ [])) (omega (arith, long)) in
       ap (λ (o : Option E). heard_until answer o b s) e
       ∙ ap (λ (t : Bool). cond t (answered answer s) (checked answer (record s { text = s.text ++ b ∷ [] }))) (ne_eqb b 10 none.0)
       ∙ ap (λ (t : Bool). cond t (answered answer (record s { text = s.text ++ b ∷ [] })) (record s { text = s.text ++ b ∷ [] })) over
   behind-excess (b ∷ c ∷ bs) s e none short long =
       let parts : (s.text ++ b ∷ []) ++ c ∷ bs ≡ s.text ++ b ∷ c ∷ bs = append_assoc s.text (b ∷ []) (c ∷ bs) in
       let whole : length ((s.text ++ b ∷ []) ++ c ∷ bs)
-          ≡ limit_of ((s.text ++ b ∷ []) ++ c ∷ bs) + 1 = subst (λ (l : List ℕ). length l ≡ limit_of l + 1) (sym parts) long in
+      ≡ limit_of ((s.text ++ b ∷ []) ++ c ∷ bs) + 1 = subst (λ (l : List ℕ). length l ≡ limit_of l + 1) (sym parts) long in
       let within : length (s.text ++ b ∷ []) ≤ limit_of (s.text ++ b ∷ []) = limit_front (s.text ++ b ∷ []) (c ∷ bs)
-          (omega (arith, whole, length-append (s.text ++ b ∷ []) (c ∷ bs))) in
+      (omega (arith, whole, length-append (s.text ++ b ∷ []) (c ∷ bs))) in
       ap (behind answer (c ∷ bs)) (heard-byte b s e none.0 within)
       ∙ behind-excess (c ∷ bs) (record s { text = s.text ++ b ∷ [] }) e none.1 within whole
       ∙ ap (λ (l : List ℕ). answered answer (record s { text = l })) parts
@@ -184,7 +184,7 @@ module _ (A E : Type 0) (answer : ℕ → A → List ℕ → Answer A E) (closin
       let t : Progress A E = record s { text = s.text ++ b ∷ [] } in
       either-starts (eqb b 10) s.printed (answered answer s) (checked answer t) (told-starts (answer s.line s.state s.text) s)
       (either-starts (ltb (limit_of t.text) (length t.text)) s.printed (answered answer t) t (told-starts (answer t.line t.state t.text) t)
-          (starts-refl s.printed))
+      (starts-refl s.printed))
 
   pub behind-starts : (bs : List ℕ) (s : Progress A E) → Starts s.printed (behind answer bs s).printed
   behind-starts [] s = starts-refl s.printed
@@ -215,7 +215,7 @@ module _ (A E : Type 0) (answer : ℕ → A → List ℕ → Answer A E) (closin
       let t : Progress A E = behind answer xs s in
       subst (λ (u : Progress A E). Starts t.printed (finished answer closing u).text) (sym (behind-++ xs ys s))
       (starts-trans t.printed (behind answer ys t).printed (finished answer closing (behind answer ys t)).text (behind-starts ys t)
-          (finished-starts (behind answer ys t)))
+      (finished-starts (behind answer ys t)))
 
   -- a trace that ended behind some bytes has ended so
   pub replay-ended : (xs ys : List ℕ) (s : Progress A E) (status : E) → (behind answer xs s).end ≡ Some status

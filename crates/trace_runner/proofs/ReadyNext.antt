@@ -175,27 +175,30 @@ item_ready : (line : ℕ) (item : Item) (t : Stage) (r : Replay) → r.reading.l
     → end_of (item_answer line item r) ≡ None → IsReady (line + 1) (state_behind (item_answer line item r) r)
 item_ready line Skipped t r count is round none = record { count = omega (arith, count); round = subst (λ (s : Stage). IsRound s r.board) (sym is) round }
 item_ready line Part t r count is round none = record { count = omega (arith, count); round = subst (λ (s : Stage). IsRound s r.board) (sym is) round }
-item_ready line (Begun header) t r count is round none = record { count = omega (arith, count); round = subst
-    (λ (s : Stage). IsRound s (board_of header.begin)) (sym is) round }
+item_ready line (Begun header) t r count is round none = record {
+  count = omega (arith, count);
+  round = subst
+      (λ (s : Stage). IsRound s (board_of header.begin)) (sym is) round;
+}
 item_ready line (Next rec) t r count is round none =
     record_ready line t r (job_answer line rec.cpu rec.h rec.job r.deliveries r.board) count is round
-        (same_job line rec.cpu rec.h rec.job r.deliveries r.board) none
+    (same_job line rec.cpu rec.h rec.job r.deliveries r.board) none
 item_ready line End t r count is round none = cc
 
 -- behind a step of the reader
 step_ready : (line n : ℕ) (x : Result Step Reason) (item : Item) (r : Replay) → n ≡ line → Fits r.board x → answer_in n x ≡ Ok item
     → (let r' : Replay = record r { reading = record { lines = n; stage = stage_behind n x } } in end_of (item_answer line item r') ≡ None
-        → IsReady (line + 1) (state_behind (item_answer line item r') r'))
+    → IsReady (line + 1) (state_behind (item_answer line item r') r'))
 step_ready line n (Err reason) item r count fit took = λ none. cc
 step_ready line n (Ok step) item r count fit took = λ none.
     let same : step.item ≡ item = cc in
     item_ready line item step.stage (record r { reading = record { lines = n; stage = step.stage } }) count refl
-        (subst (λ (i : Item). Onward i step.stage r.board) same fit) none
+    (subst (λ (i : Item). Onward i step.stage r.board) same fit) none
 
 -- behind a line that was read
 pub ready_next : (line : ℕ) (r : Replay) (text : List ℕ) (item : Item) → IsReady line r → taken r.reading text ≡ Ok item
     → (let r' : Replay = record r { reading = behind text r.reading } in end_of (item_answer line item r') ≡ None
-        → IsReady (line + 1) (state_behind (item_answer line item r') r'))
+    → IsReady (line + 1) (state_behind (item_answer line item r') r'))
 ready_next line r text item ready took =
     let n : ℕ = r.reading.lines + 1 in
     let none : fault_of r.reading.stage ≡ None = going r.reading.stage r.board ready.round in
@@ -203,8 +206,8 @@ ready_next line r text item ready took =
     let answer_ : answer_in n x ≡ Ok item = ap (λ (o : Option RecordFault). answer_by o r.reading text) (sym none) ∙ took in
     let reading_ : behind text r.reading ≡ record { lines = n; stage = stage_behind n x } = ap (λ (o : Option RecordFault). behind_by o text r.reading) none in
     subst (λ (p : ReadingParts).
-        (let r' : Replay = record r { reading = p } in end_of (item_answer line item r') ≡ None
-        → IsReady (line + 1) (state_behind (item_answer line item r') r'))) (sym reading_)
+    (let r' : Replay = record r { reading = p } in end_of (item_answer line item r') ≡ None
+    → IsReady (line + 1) (state_behind (item_answer line item r') r'))) (sym reading_)
     (step_ready line n x item r ready.count (fits text r.board r.reading.stage ready.round) answer_)
 
 -- an answer that was given, as a fact of the next line

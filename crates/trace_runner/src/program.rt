@@ -56,8 +56,8 @@ pub fn run<R: Threads + Wait + Sync, S: Source, K: Sink, G: Gate + Sync>(
     ensures replay { command_of (map string_bytes words.now) ≡ Command.Replay
         → (input : List ℕ) → S.remaining source.old ≡ Some input
         → Shown (replay_run input (S.before source.new - S.given source.old)
-                (S.given source.new - S.given source.old) (S.faults source.old) (S.faults source.new))
-            result (K.contents sink.old) (K.contents sink.new) }
+        (S.given source.new - S.given source.old) (S.faults source.old) (S.faults source.new))
+        result (K.contents sink.old) (K.contents sink.new) }
     ensures stopped { command_of (map string_bytes words.now) ≡ Command.Replay
         → (input : List ℕ) → S.remaining source.old ≡ Some input
         → (progress_behind (take (S.before source.new - S.given source.old) input)).end ≡ None }
@@ -65,10 +65,10 @@ pub fn run<R: Threads + Wait + Sync, S: Source, K: Sink, G: Gate + Sync>(
         → S.late source.new ≡ false }
     ensures later { command_of (map string_bytes words.now) ≡ Command.Later
         → Said (Status.NotBuilt 0) result (K.contents sink.old) (K.contents sink.new)
-            job_refused_text (Rose (K.faults sink.old) (K.faults sink.new)) }
+        job_refused_text (Rose (K.faults sink.old) (K.faults sink.new)) }
     ensures usage { command_of (map string_bytes words.now) ≡ Command.Unknown
         → Said Status.Usage result (K.contents sink.old) (K.contents sink.new)
-            usage_text (Rose (K.faults sink.old) (K.faults sink.new)) }
+        usage_text (Rose (K.faults sink.old) (K.faults sink.new)) }
     ensures untouched { command_of (map string_bytes words.now) ≢ Command.Replay
         → source.new ≡ source.old }
     ensures well { result ≢ Status.SourceFault → result ≢ Status.SinkFault

@@ -20,9 +20,13 @@ returns-in_err-put-clause-cut g c =
 pub loop-put-preserved : goal.loop-put-preserved
 loop-put-preserved g c =
     let contents = g.K.Sink.contents in
-    let inside : c.loop-put.put + c.in_ok-put.field-0 ≤ length c.args.text.now = omega
-        (arith, c.in_ok-put.ensures.bound, length-take (length c.args.text.now - c.loop-put.put)
-        (drop c.loop-put.put c.args.text.now), length-drop c.loop-put.put c.args.text.now) in (
+    let inside : c.loop-put.put + c.in_ok-put.field-0 ≤ length c.args.text.now = omega (
+      arith,
+      c.in_ok-put.ensures.bound,
+      length-take (length c.args.text.now - c.loop-put.put)
+          (drop c.loop-put.put c.args.text.now),
+      length-drop c.loop-put.put c.args.text.now,
+    ) in (
       inside,
       subst (λ (l : List ℕ). Appends (contents c.args.sink.now) (contents c.put.new.self) l)
           (take_piece c.args.text.now c.loop-put.put c.in_ok-put.field-0 inside)
