@@ -1,0 +1,5 @@
+pub mod Blocks
+pub mod Little
+pub mod Filled
+pub mod Walk
+pub mod Agreeing
