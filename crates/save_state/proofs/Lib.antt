@@ -3,3 +3,4 @@ pub mod Little
 pub mod Filled
 pub mod Walk
 pub mod Agreeing
+mod Rows

@@ -58,7 +58,7 @@ unfoldable pub fault_in : List ℕ → ℕ → List Row → Option StateFault
 fault_in bytes place [] = None
 fault_in bytes place (r ∷ rows) =
     if nat_lt (length bytes) (place + r.size) then
-      Some (record { place = length bytes; kind = Short })
+    Some (record { place = length bytes; kind = Short })
     else if r.valid then fault_in bytes (place + r.size) rows
     else Some (record { place = place; kind = r.kind })
 

@@ -62,7 +62,7 @@ processor_rows guest_khz place bytes =
     ∷ field 8 (page_valid p p.system_time (nat_lt p.system_time RANGE_NS))
     ∷ field 4 (page_valid p p.mul (p.mul == mul_for (guest_khz * 1000)))
     ∷ field 1 (page_valid p (byte_at (place + 48) bytes)
-        (byte_at (place + 48) bytes == cast_unsigned w8 (shift_for (guest_khz * 1000))))
+    (byte_at (place + 48) bytes == cast_unsigned w8 (shift_for (guest_khz * 1000))))
     ∷ field 1 (page_valid p p.flags (flags_valid p.flags))
     ∷ []
 

@@ -93,7 +93,7 @@ policy_in bytes k = policy_of (byte_at (76 + (if nat_le 2 k then 2 else k)) byte
 abbrev pub line_place_in : List ℕ → ℕ → TickParts
 line_place_in bytes k =
     if nat_lt k (timers_of (format_in bytes) + 2) then
-      line_in (policy_in bytes k) (line_place (format_in bytes) k) bytes
+    line_in (policy_in bytes k) (line_place (format_in bytes) k) bytes
     else no_line
 
 -- the tick lines
@@ -104,7 +104,7 @@ lines_in bytes = places_below (line_place_in bytes) 0 10
 abbrev pub rise_in : List ℕ → ℕ → ℕ
 rise_in bytes k =
     if nat_le 2 (format_in bytes) then
-      number_at 8 (rises_place (format_in bytes) + 8 * k) bytes
+    number_at 8 (rises_place (format_in bytes) + 8 * k) bytes
     else 0
 
 -- the counts of rises

@@ -149,11 +149,11 @@ rise_valid bytes k =
 unfoldable pub rises_rows : List ℕ → List Row
 rises_rows bytes =
     if nat_le 2 (format_in bytes) then
-      field 48
-      (rise_valid bytes 0 && rise_valid bytes 1 && rise_valid bytes 2 && rise_valid bytes 3
-      && rise_valid bytes 4
-      && rise_valid bytes 5)
-      ∷ []
+    field 48
+    (rise_valid bytes 0 && rise_valid bytes 1 && rise_valid bytes 2 && rise_valid bytes 3
+    && rise_valid bytes 4
+    && rise_valid bytes 5)
+    ∷ []
     else []
 
 -- the wall clock: the number of its words, which is 0 before they are published first; their version,

@@ -81,7 +81,15 @@ pub(crate) fn put_counter(out: &mut Vec<u8>, c: &CounterParts) -> Result<(), NoM
     put(out, &[c.bits, counter_flags(c)])?;
     put_2(out, c.cr)?;
     put_2(out, c.ce)?;
-    put(out, &[flag_byte(c.part_there), c.part, flag_byte(c.high_next), flag_byte(c.count_latched)])?;
+    put(
+        out,
+        &[
+            flag_byte(c.part_there),
+            c.part,
+            flag_byte(c.high_next),
+            flag_byte(c.count_latched),
+        ],
+    )?;
     put_2(out, c.latched_count)?;
     put(out, &[flag_byte(c.status_latched), c.latched_status])
 }

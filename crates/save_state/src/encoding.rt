@@ -13,7 +13,9 @@ ghost use Rattle.save_state.specs.Writing.{blocks_below, head_bytes, host_bytes,
 ghost use Rattle.save_state.specs.Ticks.{line_bytes};
 ghost use Rattle.save_state.specs.Processors.{processor_bytes};
 
-use crate::appending::{flag_byte, put, put_2, put_4, put_8, put_counter, put_line, put_processor, put_timer};
+use crate::appending::{
+    flag_byte, put, put_2, put_4, put_8, put_counter, put_line, put_processor, put_timer,
+};
 use board_core::{BoardParts, BoardState, timers_of};
 use clk_units::NoMemory;
 use hpet_registers::HpetParts;
@@ -26,7 +28,9 @@ pub(crate) const MAGIC: u64 = 0x4452_414f_424b_4c43;
 
 /// How many bytes a saved state has without its processors, in formats 1 and 2, and for each processor.
 const FIRST_LEN: usize = 503;
+
 const SECOND_LEN: usize = 806;
+
 const PROCESSOR_LEN: usize = 50;
 
 /// The bytes of a board, in one allocation of their number.

@@ -25,7 +25,11 @@ pub(crate) fn counter_fault(bytes: &[u8], k: u8) -> Option<StateFault>
         flag_valid(bytes, place + 9),
         flag_valid(bytes, place + 12),
     ];
-    fault_in(bytes, place, &counter_rows(counter_row(c.first_fault()), flags))
+    fault_in(
+        bytes,
+        place,
+        &counter_rows(counter_row(c.first_fault()), flags),
+    )
 }
 
 /// Whether GATE of counter `k` is as it is wired: high at counters 0 and 1.
@@ -103,5 +107,9 @@ fn timer_row(fault: Option<TimerField>) -> u8
 fn timer_rows(failing: u8) -> [Row; 3]
     ensures { result ≡ failing_timer_rows failing }
 {
-    [field(2, 0 < failing), field(8, 1 < failing), field(8, 2 < failing)]
+    [
+        field(2, 0 < failing),
+        field(8, 1 < failing),
+        field(8, 2 < failing),
+    ]
 }

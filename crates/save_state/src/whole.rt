@@ -98,7 +98,11 @@ fn pit_in(bytes: &[u8]) -> PitParts
     ensures { result ≡ pit_in bytes.now }
 {
     PitParts {
-        counters: [counter_in(bytes, 79), counter_in(bytes, 93), counter_in(bytes, 107)],
+        counters: [
+            counter_in(bytes, 79),
+            counter_in(bytes, 93),
+            counter_in(bytes, 107),
+        ],
         speaker: flag_at(bytes, 121),
     }
 }
@@ -145,7 +149,11 @@ fn timer_place_in(bytes: &[u8], format: u8, k: usize) -> TimerParts
     requires k { k < 8 }
     ensures { result ≡ timer_place_in bytes.now k }
 {
-    if k < usize::from(timers_of(format)) { timer_in(bytes, 264 + 18 * k) } else { NO_TIMER }
+    if k < usize::from(timers_of(format)) {
+        timer_in(bytes, 264 + 18 * k)
+    } else {
+        NO_TIMER
+    }
 }
 
 /// The HPET.
@@ -185,7 +193,11 @@ pub(crate) fn line_place_in(bytes: &[u8], format: u8, k: u8) -> TickParts
     ensures { result ≡ line_place_in bytes.now k }
 {
     if k < timers_of(format) + 2 {
-        line_in(bytes, policy_in(bytes, usize::from(k)), line_place(format, k))
+        line_in(
+            bytes,
+            policy_in(bytes, usize::from(k)),
+            line_place(format, k),
+        )
     } else {
         NO_LINE
     }
@@ -212,7 +224,11 @@ fn rise_in(bytes: &[u8], format: u8, k: usize) -> u64
     requires k { k < 6 }
     ensures { result ≡ rise_in bytes.now k }
 {
-    if format >= 2 { eight_at(bytes, line_place(format, timers_of(format) + 2) + 8 * k) } else { 0 }
+    if format >= 2 {
+        eight_at(bytes, line_place(format, timers_of(format) + 2) + 8 * k)
+    } else {
+        0
+    }
 }
 
 /// The counts of rises.
@@ -237,7 +253,11 @@ fn processor_place_in(bytes: &[u8], format: u8, cpus: u8, k: u8) -> ProcessorPar
     requires k { k < 64 }
     ensures { result ≡ processor_place_in bytes.now k }
 {
-    if k < cpus { processor_in(bytes, processor_place(format, k)) } else { NO_PROCESSOR }
+    if k < cpus {
+        processor_in(bytes, processor_place(format, k))
+    } else {
+        NO_PROCESSOR
+    }
 }
 
 /// The processors.

@@ -53,12 +53,12 @@ spent_below-is b n zero v none less last is = absurd (omega arith)
 spent_below-is b n (suc j) v none less last is = elim (cases_lt n j) [
   | inl below ↦ ap (λ (f : Option MoveFault). or_spent f j (processor_at b j).version) (spent_below-is b n j v none below last is)
   | inr above ↦
-    let same : n ≡ j = omega arith in
-    let here : or_spent (spent_below b n) n (processor_at b n).version ≡ Some (VersionsSpent n v) =
-    ap (λ (f : Option MoveFault). or_spent f n (processor_at b n).version) none
-    ∙ or_spent-last n (processor_at b n).version last
-    ∙ ap (λ (w : ℕ). Some (VersionsSpent n w)) (sym is) in
-    subst (λ (i : ℕ). Some (VersionsSpent n v) ≡ or_spent (spent_below b i) i (processor_at b i).version) same (sym here)
+      let same : n ≡ j = omega arith in
+      let here : or_spent (spent_below b n) n (processor_at b n).version ≡ Some (VersionsSpent n v) =
+      ap (λ (f : Option MoveFault). or_spent f n (processor_at b n).version) none
+      ∙ or_spent-last n (processor_at b n).version last
+      ∙ ap (λ (w : ℕ). Some (VersionsSpent n w)) (sym is) in
+      subst (λ (i : ℕ). Some (VersionsSpent n v) ≡ or_spent (spent_below b i) i (processor_at b i).version) same (sym here)
 ]
 
 -- publishing keeps how many processors there are
@@ -92,7 +92,7 @@ unfolding move_fault
 move_fault-none gap b e = elim (cases_lt (now_of b + gap) RANGE_NS) [
   | inl less ↦ (less, sym (ap (λ (t : Bool). cond t (Some (OutOfRange (now_of b + gap))) (spent_below b b.cpus)) (lt-leb RANGE_NS (now_of b + gap) less)) ∙ e)
   | inr more ↦ let t : leb RANGE_NS (now_of b + gap) ≡ true = le-leb RANGE_NS (now_of b + gap) more in
-    let some : Some (OutOfRange (now_of b + gap)) ≡ None = sym (ap (λ (t : Bool). cond t (Some (OutOfRange (now_of b + gap))) (spent_below b b.cpus)) t) ∙ e in cc
+      let some : Some (OutOfRange (now_of b + gap)) ≡ None = sym (ap (λ (t : Bool). cond t (Some (OutOfRange (now_of b + gap))) (spent_below b b.cpus)) t) ∙ e in cc
 ]
 
 -- while pages below n are published, the processors that are left have pages that can be

@@ -16,8 +16,17 @@ use Rattle.transfer.specs.Move.{counts_in, tsc_behind, tsc_moved, published_belo
 
 abbrev setup : Setup
 setup = record {
-  format = 1; anchor = record { khz = 1000000; start = 0; base_ns = 0 }; guest_khz = 2000000; cpus = 2; pit = Delay; rtc = Delay; hpet = Delay;
-  slew_ns = 1000; wall_sec = 0; wall_nsec = 0; time = record { sec = 0; min = 0; hour = 0; wday = 1; date = 1; month = 1; year = 0 };
+  format = 1;
+  anchor = record { khz = 1000000; start = 0; base_ns = 0 };
+  guest_khz = 2000000;
+  cpus = 2;
+  pit = Delay;
+  rtc = Delay;
+  hpet = Delay;
+  slew_ns = 1000;
+  wall_sec = 0;
+  wall_nsec = 0;
+  time = record { sec = 0; min = 0; hour = 0; wday = 1; date = 1; month = 1; year = 0 };
 }
 
 -- processor 0 has moved its TSC by 5 and its page was published; processor 1 has done nothing

@@ -107,13 +107,22 @@ fn a_move_to_3_ghz_over_a_second(rt: HostRuntime) {
     assert_eq!(rt; board.accesses(), 5);
     assert_eq!(rt; board.greatest(), 1_000);
     assert_eq!(rt; before.now(), 2_000);
-    assert_eq!(rt; clock(&rt, &mut board, 3_500), (1_000_003_000, 1_000_003_000));
+    assert_eq!(rt;
+        clock(&rt, &mut board, 3_500),
+        (1_000_003_000, 1_000_003_000)
+    );
     let told = page(&rt, &board);
-    assert_eq!(rt; (told.version, told.tsc_timestamp, told.system_time), (4, 2_000_004_000, 1_000_002_000));
+    assert_eq!(rt;
+        (told.version, told.tsc_timestamp, told.system_time),
+        (4, 2_000_004_000, 1_000_002_000)
+    );
     assert_eq!(rt; (told.mul, told.shift, told.flags), (0x8000_0000, 0, 3));
     let _ = ask(&rt, &mut board, 3_500, Access::Refresh { page: 0 });
     let told = page(&rt, &board);
-    assert_eq!(rt; (told.version, told.tsc_timestamp, told.system_time), (6, 2_000_006_000, 1_000_003_000));
+    assert_eq!(rt;
+        (told.version, told.tsc_timestamp, told.system_time),
+        (6, 2_000_006_000, 1_000_003_000)
+    );
     assert_eq!(rt; told.flags, 1);
     let counts = Counts {
         due: 18,
@@ -122,7 +131,10 @@ fn a_move_to_3_ghz_over_a_second(rt: HostRuntime) {
         lost: 0,
     };
     let from = board_core::TickSource::Pit;
-    assert_eq!(rt; ask(&rt, &mut board, 3_500, Access::CountsOf { from }).value, Value::Counts(counts));
+    assert_eq!(rt;
+        ask(&rt, &mut board, 3_500, Access::CountsOf { from }).value,
+        Value::Counts(counts)
+    );
 }
 
 #[test]
@@ -151,7 +163,10 @@ fn tsc_adjust_is_kept(rt: HostRuntime) {
 fn a_move_past_the_range_is_refused(rt: HostRuntime) {
     let board = running(&rt);
     let last = (1 << 59) - 1 - board.now();
-    let past = [(last + 1, 1 << 59), (u64::MAX, u128::from(u64::MAX) + 2_000)];
+    let past = [
+        (last + 1, 1 << 59),
+        (u64::MAX, u128::from(u64::MAX) + 2_000),
+    ];
     for (gap, ns) in past {
         match moved(&board, 1_000_000, 0, gap) {
             Err(fault) => assert_eq!(rt; fault, MoveFault::OutOfRange { ns }),
