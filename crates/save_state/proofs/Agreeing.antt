@@ -1,0 +1,75 @@
+-- A block's rows by the first that fails are its rows by their conditions.
+use Rattle.std.proofs.Common.{◌≡◌, ℕ, Bool, true, false, cond, not, ◌&&◌, ◌||◌, ◌+◌, leb, ap, ◌∙◌, List, [], ◌∷◌, Option, None, Some, refl}
+use Rattle.pit_counter.specs.declared.parts.CounterField.{CounterField}
+use Rattle.pit_counter.specs.declared.parts.CounterField.TheVariants.{ProgrammedBits, Flags, CountRegister, CountingElement, FirstByte, ReadOrder, LatchedCount, LatchedStatus}
+use Rattle.hpet_comparator.specs.declared.parts.TimerField.{TimerField}
+use Rattle.hpet_comparator.specs.declared.parts.TimerField.TheVariants.{Config, Comparator, Period}
+use Rattle.pit_counter.specs.declared.parts.CounterParts.{CounterParts}
+use Rattle.pit_counter.specs.Parts.{bits_valid, flags_valid, cr_valid, ce_valid, part_valid, read_order_valid, latched_count_valid, latched_status_valid, first_fault}
+use Rattle.hpet_comparator.specs.declared.parts.TimerParts.{TimerParts}
+use Rattle.hpet_comparator.specs.Parts.{config_valid, comparator_valid, period_valid, timer_fault as timer_field_fault}
+use Rattle.save_state.specs.declared.table.Row.{Row}
+use Rattle.save_state.specs.declared.fault.StateFault.{StateFault}
+use Rattle.save_state.specs.Pit.{counter_in}
+use Rattle.save_state.specs.Hpet.{timer_in}
+use Rattle.save_state.specs.Places.{counter_place, timer_place}
+use Rattle.save_state.specs.Table.{counter_fault, timer_fault}
+use Rattle.save_state.specs.Fields.{field, fault_in, flag_valid}
+use Rattle.save_state.specs.private.Failing.{counter_row, timer_row, failing_counter_rows, failing_timer_rows}
+
+-- the first of eight conditions that fails
+abbrev chain : Bool → Bool → Bool → Bool → Bool → Bool → Bool → Bool → Option CounterField
+chain b0 b1 b2 b3 b4 b5 b6 b7 =
+    cond (not b0) (Some ProgrammedBits) (cond (not b1) (Some Flags) (cond (not b2) (Some CountRegister) (cond (not b3) (Some CountingElement)
+    (cond (not b4) (Some FirstByte) (cond (not b5) (Some ReadOrder) (cond (not b6) (Some LatchedCount) (cond (not b7) (Some LatchedStatus) None)))))))
+
+pub counter_rows-agree : (bytes : List ℕ) (p : ℕ) (b0 b1 b2 b3 b4 b5 b6 b7 w f6 f8 f9 f12 : Bool)
+    → fault_in bytes p (failing_counter_rows (counter_row (chain b0 b1 b2 b3 b4 b5 b6 b7)) (w ∷ f6 ∷ f8 ∷ f9 ∷ f12 ∷ []))
+    ≡ fault_in bytes p (field 1 b0 ∷ field 1 (b1 && w) ∷ field 2 b2 ∷ field 2 b3 ∷ field 2 (f6 && b4) ∷ field 1 (f8 && b5) ∷ field 3 (f9 && b6) ∷ field 2 (f12 && b7) ∷ [])
+unfolding fault_in
+counter_rows-agree bytes p false b1 b2 b3 b4 b5 b6 b7 w f6 f8 f9 f12 = refl
+counter_rows-agree bytes p true false b2 b3 b4 b5 b6 b7 w f6 f8 f9 f12 = refl
+counter_rows-agree bytes p true true false b3 b4 b5 b6 b7 w f6 f8 f9 f12 = refl
+counter_rows-agree bytes p true true true false b4 b5 b6 b7 w f6 f8 f9 f12 = refl
+counter_rows-agree bytes p true true true true false b5 b6 b7 w false f8 f9 f12 = refl
+counter_rows-agree bytes p true true true true false b5 b6 b7 w true f8 f9 f12 = refl
+counter_rows-agree bytes p true true true true true false b6 b7 w f6 false f9 f12 = refl
+counter_rows-agree bytes p true true true true true false b6 b7 w f6 true f9 f12 = refl
+counter_rows-agree bytes p true true true true true true false b7 w f6 f8 false f12 = refl
+counter_rows-agree bytes p true true true true true true false b7 w f6 f8 true f12 = refl
+counter_rows-agree bytes p true true true true true true true false w f6 f8 f9 f12 = refl
+counter_rows-agree bytes p true true true true true true true true w f6 f8 f9 f12 = refl
+
+pub timer_rows-agree : (bytes : List ℕ) (p : ℕ) (b0 b1 b2 : Bool)
+    → fault_in bytes p (failing_timer_rows (timer_row (cond b0 (cond b1 (cond b2 None (Some Period)) (Some Comparator)) (Some Config))))
+    ≡ fault_in bytes p (field 2 b0 ∷ field 8 b1 ∷ field 8 b2 ∷ [])
+unfolding fault_in
+timer_rows-agree bytes p false b1 b2 = refl
+timer_rows-agree bytes p true false b2 = refl
+timer_rows-agree bytes p true true false = refl
+timer_rows-agree bytes p true true true = refl
+
+pub counter_fault-is : (bytes : List ℕ) (k m : ℕ) (c : CounterParts) (w f6 f8 f9 f12 : Bool) (f : Option CounterField) (rows : List Row) (result : Option StateFault)
+    → c ≡ counter_in (counter_place k) bytes → f ≡ first_fault c → m ≡ counter_row f → w ≡ (c.gate || leb 2 k)
+    → f6 ≡ flag_valid (counter_place k + 6) bytes → f8 ≡ flag_valid (counter_place k + 8) bytes → f9 ≡ flag_valid (counter_place k + 9) bytes → f12 ≡ flag_valid (counter_place k + 12) bytes
+    → rows ≡ failing_counter_rows m (w ∷ f6 ∷ f8 ∷ f9 ∷ f12 ∷ []) → result ≡ fault_in bytes (counter_place k) rows → result ≡ counter_fault bytes k
+unfolding counter_fault
+counter_fault-is bytes k m c w f6 f8 f9 f12 f rows result c_is f_is m_is w_is e6 e8 e9 e12 rows_are result_is =
+    let at = counter_in (counter_place k) bytes in
+    let m_at : m ≡ counter_row (first_fault at) = m_is ∙ ap counter_row (f_is ∙ ap first_fault c_is) in
+    let w_at : w ≡ (at.gate || leb 2 k) = w_is ∙ ap (λ (x : CounterParts). x.gate || leb 2 k) c_is in
+    let flags : (w ∷ f6 ∷ f8 ∷ f9 ∷ f12 ∷ []) ≡ ((at.gate || leb 2 k) ∷ flag_valid (counter_place k + 6) bytes ∷ flag_valid (counter_place k + 8) bytes ∷ flag_valid (counter_place k + 9) bytes ∷ flag_valid (counter_place k + 12) bytes ∷ []) = cc in
+    result_is ∙ ap (λ (rs : List Row). fault_in bytes (counter_place k) rs)
+    (rows_are ∙ ap (λ (n : ℕ). failing_counter_rows n (w ∷ f6 ∷ f8 ∷ f9 ∷ f12 ∷ [])) m_at ∙ ap (λ (fs : List Bool). failing_counter_rows (counter_row (first_fault at)) fs) flags)
+    ∙ counter_rows-agree bytes (counter_place k) (bits_valid at) (flags_valid at) (cr_valid at) (ce_valid at) (part_valid at) (read_order_valid at) (latched_count_valid at) (latched_status_valid at)
+    (at.gate || leb 2 k) (flag_valid (counter_place k + 6) bytes) (flag_valid (counter_place k + 8) bytes) (flag_valid (counter_place k + 9) bytes) (flag_valid (counter_place k + 12) bytes)
+
+pub timer_fault-is : (bytes : List ℕ) (k m : ℕ) (t : TimerParts) (f : Option TimerField) (rows : List Row) (result : Option StateFault)
+    → t ≡ timer_in (timer_place k) bytes → f ≡ timer_field_fault t → m ≡ timer_row f → rows ≡ failing_timer_rows m → result ≡ fault_in bytes (timer_place k) rows
+    → result ≡ timer_fault bytes k
+unfolding timer_fault
+timer_fault-is bytes k m t f rows result t_is f_is m_is rows_are result_is =
+    let at = timer_in (timer_place k) bytes in
+    let m_at : m ≡ timer_row (timer_field_fault at) = m_is ∙ ap timer_row (f_is ∙ ap timer_field_fault t_is) in
+    result_is ∙ ap (λ (rs : List Row). fault_in bytes (timer_place k) rs) (rows_are ∙ ap failing_timer_rows m_at)
+    ∙ timer_rows-agree bytes (timer_place k) (config_valid at) (comparator_valid at) (period_valid at)

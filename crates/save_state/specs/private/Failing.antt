@@ -1,0 +1,54 @@
+-- The rows of a block by the first that fails, as the leaf crates tell it.
+use Rattle.std.specs.Prelude.{ℕ, nat_lt, Bool, false, ◌&&◌, List, [], ◌∷◌, slice_index_or, Option, Some, None}
+use Rattle.pit_counter.specs.declared.parts.CounterField.{CounterField}
+use Rattle.pit_counter.specs.declared.parts.CounterField.TheVariants.{
+  ProgrammedBits,
+  Flags,
+  CountRegister,
+  CountingElement,
+  FirstByte,
+  ReadOrder,
+  LatchedCount,
+  LatchedStatus,
+}
+use Rattle.hpet_comparator.specs.declared.parts.TimerField.{TimerField}
+use Rattle.hpet_comparator.specs.declared.parts.TimerField.TheVariants.{Config, Comparator, Period}
+use Rattle.save_state.specs.declared.table.Row.{Row}
+use Rattle.save_state.specs.Fields.{field}
+
+-- the number of the row of a counter's field, 8 where none fails
+abbrev pub counter_row : Option CounterField → ℕ
+counter_row None = 8
+counter_row (Some ProgrammedBits) = 0
+counter_row (Some Flags) = 1
+counter_row (Some CountRegister) = 2
+counter_row (Some CountingElement) = 3
+counter_row (Some FirstByte) = 4
+counter_row (Some ReadOrder) = 5
+counter_row (Some LatchedCount) = 6
+counter_row (Some LatchedStatus) = 7
+
+-- a counter's rows: flags are GATE's wiring, and the four bytes of flags
+abbrev pub failing_counter_rows : ℕ → List Bool → List Row
+failing_counter_rows m flags =
+    field 1 (nat_lt 0 m)
+    ∷ field 1 (nat_lt 1 m && slice_index_or flags 0 false)
+    ∷ field 2 (nat_lt 2 m)
+    ∷ field 2 (nat_lt 3 m)
+    ∷ field 2 (slice_index_or flags 1 false && nat_lt 4 m)
+    ∷ field 1 (slice_index_or flags 2 false && nat_lt 5 m)
+    ∷ field 3 (slice_index_or flags 3 false && nat_lt 6 m)
+    ∷ field 2 (slice_index_or flags 4 false && nat_lt 7 m)
+    ∷ []
+
+-- the number of the row of a timer's field, 3 where none fails
+abbrev pub timer_row : Option TimerField → ℕ
+timer_row None = 3
+timer_row (Some Config) = 0
+timer_row (Some Comparator) = 1
+timer_row (Some Period) = 2
+
+-- a timer's rows
+abbrev pub failing_timer_rows : ℕ → List Row
+failing_timer_rows m =
+    field 2 (nat_lt 0 m) ∷ field 8 (nat_lt 1 m) ∷ field 8 (nat_lt 2 m) ∷ []

@@ -1,0 +1,115 @@
+//! The first fault of each block.
+ghost use Rattle.std.specs.Prelude.{◌≡◌, ◌<◌, ◌&&◌, ◌||◌, nat_le};
+ghost use Rattle.save_state.specs.Table.{counter_fault, timer_fault};
+ghost use Rattle.save_state.specs.private.Failing.{counter_row, timer_row, failing_counter_rows, failing_timer_rows};
+
+use crate::fault::StateFault;
+use crate::numbers::flag_valid;
+use crate::pieces::{counter_in, timer_in};
+use crate::table::{Row, fault_in, field};
+use hpet_comparator::TimerField;
+use pit_counter::CounterField;
+
+/// The first fault of counter `k`.
+#[tactic(auto, unfolding(crate::specs::Table::counter_fault))]
+pub(crate) fn counter_fault(bytes: &[u8], k: u8) -> Option<StateFault>
+    requires { k < 3 }
+    ensures { result ≡ counter_fault bytes.now k }
+{
+    let place = 79 + 14 * k as usize;
+    let c = counter_in(bytes, place);
+    let flags = [
+        is_wired(c.gate, k),
+        flag_valid(bytes, place + 6),
+        flag_valid(bytes, place + 8),
+        flag_valid(bytes, place + 9),
+        flag_valid(bytes, place + 12),
+    ];
+    fault_in(
+        bytes,
+        place,
+        &counter_rows(counter_row(c.first_fault()), flags),
+    )
+}
+
+/// Whether GATE of counter `k` is as it is wired: high at counters 0 and 1.
+fn is_wired(gate: bool, k: u8) -> bool
+    ensures { result ≡ (gate || nat_le 2 k) }
+{
+    gate || k >= 2
+}
+
+/// Which row of a counter fails first, 8 where none does.
+fn counter_row(fault: Option<CounterField>) -> u8
+    ensures { result ≡ counter_row fault }
+{
+    match fault {
+        Some(CounterField::ProgrammedBits) => 0,
+        Some(CounterField::Flags) => 1,
+        Some(CounterField::CountRegister) => 2,
+        Some(CounterField::CountingElement) => 3,
+        Some(CounterField::FirstByte) => 4,
+        Some(CounterField::ReadOrder) => 5,
+        Some(CounterField::LatchedCount) => 6,
+        Some(CounterField::LatchedStatus) => 7,
+        None => 8,
+    }
+}
+
+/// Whether both hold.
+fn both(a: bool, b: bool) -> bool
+    ensures { result ≡ (a && b) }
+{
+    a && b
+}
+
+/// The rows of a counter, by the first that fails, and by what the bytes tell.
+fn counter_rows(failing: u8, flags: [bool; 5]) -> [Row; 8]
+    ensures { result ≡ failing_counter_rows failing flags }
+{
+    [
+        field(1, 0 < failing),
+        field(1, both(1 < failing, flags[0])),
+        field(2, 2 < failing),
+        field(2, 3 < failing),
+        field(2, both(flags[1], 4 < failing)),
+        field(1, both(flags[2], 5 < failing)),
+        field(3, both(flags[3], 6 < failing)),
+        field(2, both(flags[4], 7 < failing)),
+    ]
+}
+
+/// The first fault of timer `k`.
+#[tactic(auto, unfolding(crate::specs::Table::timer_fault))]
+pub(crate) fn timer_fault(bytes: &[u8], k: u8) -> Option<StateFault>
+    requires { k < 8 }
+    ensures { result ≡ timer_fault bytes.now k }
+{
+    let place = 264 + 18 * k as usize;
+    let t = timer_in(bytes, place);
+    let failing = timer_row(t.first_fault());
+    fault_in(bytes, place, &timer_rows(failing))
+}
+
+/// Which row of a timer fails first, 3 where none does.
+fn timer_row(fault: Option<TimerField>) -> u8
+    ensures { result ≡ timer_row fault }
+{
+    match fault {
+        Some(TimerField::Config) => 0,
+        Some(TimerField::Comparator) => 1,
+        Some(TimerField::Period) => 2,
+        None => 3,
+    }
+}
+
+/// The rows of a timer, by the first that fails.
+fn timer_rows(failing: u8) -> [Row; 3]
+    ensures { result ≡ failing_timer_rows failing }
+{
+    [
+        field(2, 0 < failing),
+        field(8, 1 < failing),
+        field(8, 2 < failing),
+    ]
+}

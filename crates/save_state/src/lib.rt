@@ -1,0 +1,19 @@
+//! A board as bytes, for a file or another host, and back.
+//!
+//! A saved state has a magic word, its version, which is the board's format, and then all fields of the
+//! board, numbers with their lowest byte first. One board has one spelling: bytes are those of a board
+//! exactly where each field has its condition and nothing stands behind the last; else the first field
+//! at fault is told by its place. The format is this project's own.
+#![tactic(auto)]
+
+mod appending;
+mod encoding;
+mod fault;
+mod faults;
+mod numbers;
+mod pieces;
+mod table;
+mod whole;
+
+pub use encoding::encode;
+pub use fault::{StateFault, StateKind};

@@ -1,0 +1,2 @@
+pub mod Publishing
+mod Rows

@@ -1,0 +1,118 @@
+-- Rows on the definitions: each rule at one small case, so that a weaker rule is seen.
+use Rattle.std.proofs.Common.{◌≡◌, ℕ, pos, ◌-◌, ◌^◌, List, [], ◌∷◌, Option, Some, None, get_or, refl}
+use Rattle.host_counter.specs.Time.{time_at}
+use Rattle.tsc_scale.specs.Offset.{tsc_by}
+use Rattle.pvclock_page.specs.Scale.{mul_for, shift_for}
+use Rattle.rtc_calendar.specs.declared.TimeBytes.{TimeBytes}
+use Rattle.tick_policy.specs.declared.parts.Policy.TheVariants.{Delay}
+use Rattle.board_types.specs.declared.parts.BoardParts.{BoardParts}
+use Rattle.board_types.specs.declared.parts.ProcessorParts.{ProcessorParts}
+use Rattle.board_types.specs.declared.setup.Setup.{Setup}
+use Rattle.board_core.specs.Tsc.{no_processor, processor_at}
+use Rattle.board_core.specs.Pages.{published, published_at_host}
+use Rattle.board_core.specs.PowerOn.{board_at_power_on}
+use Rattle.transfer.specs.declared.outcome.MoveFault.TheVariants.{OutOfRange, VersionsSpent}
+use Rattle.transfer.specs.Move.{counts_in, tsc_behind, tsc_moved, published_below, or_spent, spent_below, move_fault}
+
+abbrev setup : Setup
+setup = record {
+  format = 1;
+  anchor = record { khz = 1000000; start = 0; base_ns = 0 };
+  guest_khz = 2000000;
+  cpus = 2;
+  pit = Delay;
+  rtc = Delay;
+  hpet = Delay;
+  slew_ns = 1000;
+  wall_sec = 0;
+  wall_nsec = 0;
+  time = record { sec = 0; min = 0; hour = 0; wday = 1; date = 1; month = 1; year = 0 };
+}
+
+-- processor 0 has moved its TSC by 5 and its page was published; processor 1 has done nothing
+abbrev first : ProcessorParts
+first = record no_processor { offset = 5; adjust = 5; number = 1; version = 2; mul = mul_for 2000000000; shift = shift_for 2000000000; flags = 1 }
+
+abbrev board : BoardParts
+board = record (board_at_power_on setup) { host = 2000; accesses = 5; greatest = 1000; processors = first ∷ no_processor ∷ [] }
+
+-- the same board with a page at its last version
+abbrev spent : BoardParts
+spent = record board { processors = first ∷ record no_processor { version = 0xfffffffe } ∷ [] }
+
+-- the gap in counts of the guest, rounded down
+counts_in-second : counts_in 2000000 1000000000 ≡ 2000000000
+counts_in-second = refl
+
+counts_in-less_than_one : counts_in 999999 1 ≡ 0
+counts_in-less_than_one = refl
+
+counts_in-below_three : counts_in 2999999 1 ≡ 2
+counts_in-below_three = refl
+
+-- a TSC goes on from its value at the greatest count: 4005, and a second at 2 GHz; at its end it wraps
+tsc_behind-second : tsc_behind board 1000000000 0 ≡ 2000004005
+unfolding tsc_by
+tsc_behind-second = refl
+
+tsc_behind-wraps : tsc_behind (record board { processors = record no_processor { offset = 2 ^ 64 - 4001 } ∷ [] }) 1 0 ≡ 1
+unfolding tsc_by
+tsc_behind-wraps = refl
+
+-- at count 500 of a host of 3 GHz 333 counts of the guest are over; TSC_ADJUST is kept
+tsc_moved-first : tsc_moved board 3000000 500 1000000000 0 ≡ record { offset = 2000003672; adjust = 5 }
+unfolding tsc_by
+tsc_moved-first = refl
+
+-- a count beyond the TSC's asks for an offset below 0
+tsc_moved-beyond : tsc_moved board 1000000 3000000000 1000000000 1 ≡ record { offset = 2 ^ 64 - 3999996000; adjust = 0 }
+unfolding tsc_by
+tsc_moved-beyond = refl
+
+-- the board on its new host, before the pages are published
+abbrev there : BoardParts
+there = record board { anchor = record { khz = 3000000; start = 500; base_ns = 1000002000 }; host = 500 }
+
+-- each page is published at `start`, enabled or not, with flags 3, and no other
+published_below-both : (published_below board 3000000 500 1000000000 2 there).processors
+    ≡ record first { offset = 2000003672; version = 4; tsc_timestamp = 2000004005; system_time = 1000002000; flags = 3 }
+    ∷ record no_processor { offset = 2000003667; version = 2; tsc_timestamp = 2000004000; system_time = 1000002000; mul = mul_for 2000000000; shift = shift_for 2000000000; flags = 3 }
+    ∷ []
+unfolding published_below published_at_host published tsc_by time_at
+published_below-both = refl
+
+published_below-greatest : (published_below board 3000000 500 1000000000 2 there).greatest ≡ 1000
+unfolding published_below published_at_host
+published_below-greatest = refl
+
+published_below-accesses : (published_below board 3000000 500 1000000000 2 there).accesses ≡ 5
+unfolding published_below published_at_host
+published_below-accesses = refl
+
+-- the last version, that below it, and the first such processor
+or_spent-last : or_spent None 3 0xfffffffe ≡ Some (VersionsSpent 3 0xfffffffe)
+or_spent-last = refl
+
+or_spent-before : or_spent None 3 0xfffffffc ≡ None
+or_spent-before = refl
+
+spent_below-second : spent_below spent 2 ≡ Some (VersionsSpent 1 0xfffffffe)
+unfolding spent_below
+spent_below-second = refl
+
+spent_below-first_of_two : spent_below (record board { processors = record first { version = 0xfffffffe } ∷ record first { version = 0xfffffffe } ∷ [] }) 2 ≡ Some (VersionsSpent 0 0xfffffffe)
+unfolding spent_below
+spent_below-first_of_two = refl
+
+-- the last time in range is 2^59 - 1, and the range is tested first
+move_fault-last_time : move_fault (2 ^ 59 - 2001) board ≡ None
+unfolding move_fault spent_below time_at
+move_fault-last_time = refl
+
+move_fault-range : move_fault (2 ^ 59 - 2000) spent ≡ Some (OutOfRange (2 ^ 59))
+unfolding move_fault spent_below time_at
+move_fault-range = refl
+
+move_fault-versions : move_fault (2 ^ 59 - 2001) spent ≡ Some (VersionsSpent 1 0xfffffffe)
+unfolding move_fault spent_below time_at
+move_fault-versions = refl

@@ -1,0 +1,81 @@
+-- A board moved to another host (own, after Linux's "Live migration" of a guest's TSC and kvmclock).
+use Rattle.std.specs.Prelude.{
+  ℕ,
+  zero,
+  suc,
+  ◌+◌,
+  ◌*◌,
+  ◌/◌,
+  ◌%◌,
+  ◌^◌,
+  nat_le,
+  if◌then◌else◌,
+  Option,
+  Some,
+  None,
+}
+use Rattle.clk_units.specs.declared.ranges.TheConstants.{RANGE_NS}
+use Rattle.tsc_scale.specs.declared.Tsc.{Tsc}
+use Rattle.tsc_scale.specs.Ratio.{ratio_of}
+use Rattle.tsc_scale.specs.Offset.{tsc_by}
+use Rattle.tsc_scale.specs.Tsc.{difference}
+use Rattle.board_types.specs.declared.parts.BoardParts.{BoardParts}
+use Rattle.board_types.specs.declared.parts.TheConstants.{LAST_VERSION}
+use Rattle.board_core.specs.Time.{now_of}
+use Rattle.board_core.specs.Tsc.{processor_at, tsc_read}
+use Rattle.board_core.specs.Pages.{published_at_host}
+use Rattle.board_core.specs.Reanchor.{reanchored}
+use Rattle.transfer.specs.declared.outcome.MoveFault.{MoveFault}
+use Rattle.transfer.specs.declared.outcome.MoveFault.TheVariants.{OutOfRange, VersionsSpent}
+
+-- the counts of the guest's TSC in a gap of nanoseconds, rounded down
+abbrev pub counts_in : ℕ → ℕ → ℕ
+counts_in guest_khz gap = gap * guest_khz / 1000000
+
+-- the TSC of a processor behind the gap: it goes on from its value at the greatest count
+abbrev pub tsc_behind : BoardParts → ℕ → ℕ → ℕ
+tsc_behind b gap cpu =
+    (tsc_read b.anchor b.guest_khz b.host (processor_at b cpu) + counts_in b.guest_khz gap) % 2 ^ 64
+
+-- the offset with which a TSC is v at count h
+abbrev pub offset_for : ℕ → ℕ → ℕ → ℕ
+offset_for v h ratio = difference v (tsc_by 0 h ratio)
+
+-- the TSC of a processor on the new host: at count `start` it goes on, and TSC_ADJUST is kept
+abbrev pub tsc_moved : BoardParts → ℕ → ℕ → ℕ → ℕ → Tsc
+tsc_moved b khz start gap cpu = record {
+  offset = offset_for (tsc_behind b gap cpu) start (ratio_of b.guest_khz khz);
+  adjust = (processor_at b cpu).adjust;
+}
+
+-- the processors below n have their TSC go on, and their pages, enabled or not, are published at
+-- `start`: with a stable TSC, and with the guest stopped
+unfoldable pub published_below : BoardParts → ℕ → ℕ → ℕ → ℕ → BoardParts → BoardParts
+published_below b khz start gap zero moved = moved
+published_below b khz start gap (suc n) moved =
+    published_at_host n (tsc_moved b khz start gap n) 3
+    (published_below b khz start gap n moved)
+
+-- the board moved: it runs gap nanoseconds, count `start` of the new host's counter has the new time,
+-- and each processor goes on. All else is kept, the greatest reading and TSC_ADJUST among it
+unfoldable pub moved_to : ℕ → ℕ → ℕ → BoardParts → BoardParts
+moved_to khz start gap b =
+    published_below b khz start gap b.cpus (reanchored khz start gap b)
+
+-- an earlier fault, or else that of a page whose version is the last one
+abbrev pub or_spent : Option MoveFault → ℕ → ℕ → Option MoveFault
+or_spent (Some fault) cpu version = Some fault
+or_spent None cpu version =
+    if nat_le LAST_VERSION version then Some (VersionsSpent cpu version) else None
+
+-- the first processor below n whose page has the last version
+unfoldable pub spent_below : BoardParts → ℕ → Option MoveFault
+spent_below b zero = None
+spent_below b (suc n) = or_spent (spent_below b n) n (processor_at b n).version
+
+-- why a move is refused, the causes in this order: the new time is `RANGE_NS` or more; a page's
+-- version is the last one
+unfoldable pub move_fault : ℕ → BoardParts → Option MoveFault
+move_fault gap b =
+    if nat_le RANGE_NS (now_of b + gap) then Some (OutOfRange (now_of b + gap))
+    else spent_below b b.cpus

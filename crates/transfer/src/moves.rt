@@ -1,0 +1,123 @@
+//! A move of a board.
+ghost use Rattle.std.specs.Prelude.{◌≡◌, ◌+◌, ◌*◌, ◌/◌, ◌%◌, ◌^◌, ◌<◌, ◌≤◌, None, Some, IfErr, IfOk, OnOk, IfSome, length};
+ghost use Rattle.clk_units.specs.Ranges.{IsKhz};
+ghost use Rattle.board_devices.specs.Run.{run};
+ghost use Rattle.board_core.specs.Time.{devices_in, now_of};
+ghost use Rattle.board_core.specs.Conditions.{AreRates};
+ghost use Rattle.clk_units.specs.declared.ranges.TheConstants.{RANGE_NS};
+ghost use Rattle.board_core.specs.Reanchor.{reanchored};
+ghost use Rattle.transfer.specs.Move.{counts_in, offset_for, tsc_moved, published_below, moved_to, spent_below, move_fault};
+
+use crate::outcome::{MoveFault, Moved};
+use board_core::{BoardParts, BoardState, LAST_VERSION};
+use clk_units::RANGE_NS;
+use pvclock_page::{GUEST_STOPPED, TSC_STABLE};
+use tsc_scale::{Tsc, ratio, tsc_by};
+
+/// The flags of a page that a move publishes: a stable TSC, and a guest that was stopped.
+const MOVED_FLAGS: u8 = TSC_STABLE | GUEST_STOPPED;
+
+/// The board on a host whose counter runs at `khz`, 100,000 to 10,000,000, and counts `start` when the gap, in
+/// nanoseconds, is over. Each TSC goes on by the gap's counts, rounded down, and each page, enabled or not, is
+/// published at `start`. All else is kept, TSC_ADJUST and the greatest reading among it, and `state` stays as it is.
+#[tactic(auto, unfolding(crate::specs::Move::moved_to))]
+pub fn moved(state: &BoardState, khz: u64, start: u64, gap: u64) -> Result<Moved, MoveFault>
+    requires { IsKhz khz }
+    ensures refused { IfErr result (λ e. move_fault gap state.now ≡ Some e) }
+    ensures taken { OnOk result (move_fault gap state.now ≡ None) }
+    ensures state { IfOk result (λ m. m.state ≡ moved_to khz start gap state.now) }
+    ensures edges { IfOk result (λ m. m.edges ≡ (run (now_of state.now) gap (devices_in state.now)).edges) }
+    ensures few { IfOk result (λ m. length m.edges ≤ 6) }
+{
+    let from = state.parts();
+    if let Some(fault) = move_fault(gap, state.now(), &from) {
+        return Err(fault);
+    }
+    let mut board = *state;
+    let ran = board.reanchor(khz, start, gap);
+    publish_all(&mut board, &from, khz, start, gap);
+    Ok(Moved {
+        state: board,
+        edges: ran.edges,
+    })
+}
+
+/// Lets the TSC of each processor go on, and publishes its page.
+fn publish_all(board: &mut BoardState, from: &BoardParts, khz: u64, start: u64, gap: u64)
+    requires rates { AreRates from.now.anchor from.now.guest_khz }
+    requires rate { IsKhz khz }
+    requires gap { gap < RANGE_NS }
+    requires cpus { from.now.cpus ≤ 64 }
+    requires board { board.old ≡ reanchored khz start gap from.now }
+    requires fresh { spent_below from.now from.now.cpus ≡ None }
+    ensures { board.new ≡ published_below from.now khz start gap from.now.cpus board.old }
+{
+    for cpu in 0..from.cpus {
+        let tsc = tsc_moved(from, khz, start, gap, cpu);
+        board.publish(cpu, tsc, MOVED_FLAGS);
+    }
+}
+
+/// Why a move of a board whose time is `now` is refused.
+#[tactic(auto, unfolding(crate::specs::Move::move_fault))]
+fn move_fault(gap: u64, now: u64, from: &BoardParts) -> Option<MoveFault>
+    requires now { now ≡ now_of from.now }
+    requires cpus { from.now.cpus ≤ 64 }
+    ensures { result ≡ move_fault gap from.now }
+{
+    let ns = u128::from(now) + u128::from(gap);
+    if ns >= u128::from(RANGE_NS) {
+        return Some(MoveFault::OutOfRange { ns });
+    }
+    spent(from)
+}
+
+/// The first processor whose page has the last version.
+fn spent(from: &BoardParts) -> Option<MoveFault>
+    requires { from.now.cpus ≤ 64 }
+    ensures { result ≡ spent_below from.now from.now.cpus }
+{
+    for cpu in 0..from.cpus {
+        let version = from.processors[cpu as usize].version;
+        if version >= LAST_VERSION {
+            return Some(MoveFault::VersionsSpent {
+                cpu,
+                version: u64::from(version),
+            });
+        }
+    }
+    None
+}
+
+/// The TSC of a processor behind the gap, at count `start` of the new host.
+fn tsc_moved(from: &BoardParts, khz: u64, start: u64, gap: u64, cpu: u8) -> Tsc
+    requires rates { AreRates from.now.anchor from.now.guest_khz }
+    requires rate { IsKhz khz }
+    requires gap { gap < RANGE_NS }
+    requires cpu { cpu < 64 }
+    ensures { result ≡ tsc_moved from.now khz start gap cpu }
+{
+    let p = from.processors[cpu as usize];
+    let before = tsc_by(p.offset, from.host, ratio(from.guest_khz, from.anchor.khz));
+    let v = before.wrapping_add(counts_in(from.guest_khz, gap));
+    Tsc {
+        offset: offset_for(v, start, ratio(from.guest_khz, khz)),
+        adjust: p.adjust,
+    }
+}
+
+/// The counts of the guest's TSC in a gap.
+fn counts_in(guest_khz: u64, gap: u64) -> u64
+    requires rate { IsKhz guest_khz }
+    requires gap { gap < RANGE_NS }
+    ensures { result ≡ counts_in guest_khz gap }
+{
+    (u128::from(gap) * u128::from(guest_khz) / 1_000_000) as u64
+}
+
+/// The offset with which a TSC is `v` at count `h`.
+fn offset_for(v: u64, h: u64, ratio: u64) -> u64
+    ensures { result ≡ offset_for v h ratio }
+{
+    v.wrapping_sub(tsc_by(0, h, ratio))
+}
