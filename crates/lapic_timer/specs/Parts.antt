@@ -6,7 +6,8 @@ use Rattle.std.specs.Prelude.{◌==◌, nat_lt, nat_le, if◌then◌else◌, Opt
 use Rattle.clk_units.specs.Bits.{bit}
 use Rattle.lapic_timer.specs.declared.parts.ApicParts.{ApicParts}
 use Rattle.lapic_timer.specs.declared.parts.ApicField.{ApicField}
-use Rattle.lapic_timer.specs.declared.parts.ApicField.TheVariants.{Lvt, Divide, Initial, Current, Phase, Deadline}
+use Rattle.lapic_timer.specs.declared.parts.ApicField.TheVariants.{Lvt, Divide, Initial, Current}
+use Rattle.lapic_timer.specs.declared.parts.ApicField.TheVariants.{Phase, Deadline}
 
 -- the bits of the LVT timer register that are kept: vector, 7 to 0; mask, 16; mode, 18 and 17
 -- ("Local Vector Table")

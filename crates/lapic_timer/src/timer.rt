@@ -1,12 +1,12 @@
 //! The timer as a device: its registers, and time that passes.
 
-ghost use Rattle.std.specs.Prelude.{◌≡◌, ◌≢◌, ◌*◌, ◌<◌, ◌≤◌, ◌↔◌, IsSome, IfSome, true};
+ghost use Rattle.std.specs.Prelude.{◌≡◌, ◌≢◌, ℕ, ◌*◌, ◌<◌, ◌≤◌, ◌↔◌, IsSome, IfSome, true};
 ghost use Rattle.clk_units.specs.Events.{IsFirst};
 ghost use Rattle.lapic_timer.specs.Parts.{IsApicTimer, apic_at_power_on, is_masked, vector_of};
 ghost use Rattle.lapic_timer.specs.Parts.{mode_of, divisor};
 ghost use Rattle.lapic_timer.specs.Registers.{lvt_written, divide_written, initial_written};
 ghost use Rattle.lapic_timer.specs.Registers.{deadline_written};
-ghost use Rattle.lapic_timer.specs.Stretch.{passed_times, fires_in};
+ghost use Rattle.lapic_timer.specs.Stretch.{passed_times, fires_in, nanosecond, nanoseconds};
 ghost use Rattle.lapic_timer.specs.Deadline.{is_reached, looked};
 
 use crate::parts::ApicParts;
@@ -171,6 +171,10 @@ impl ApicTimer {
             → (result.count ≡ 1) × (self.new ≡ self.old) }
         ensures once { mode_of self.old.lvt ≢ 1 → result.count ≤ 1 }
         ensures by_deadline { mode_of self.old.lvt ≡ 2 → self.new ≡ self.old }
+
+        // Outside deadline mode these are the nanoseconds behind any, whatever the TSC is at each.
+        ensures nanoseconds { mode_of self.old.lvt ≢ 2 → (tsc : ℕ → ℕ) (from : ℕ)
+            → self.new ≡ nanoseconds tsc from n self.old }
     {
         stretch::run(&mut self.parts, n)
     }
@@ -181,6 +185,7 @@ impl ApicTimer {
         ensures state { self.new ≡ looked tsc self.old }
         ensures reached { result ≡ is_reached self.old.deadline tsc }
         ensures spent { result ≡ true → self.new.deadline ≡ 0 }
+        ensures nanosecond { mode_of self.old.lvt ≡ 2 → self.new ≡ nanosecond tsc self.old }
     {
         let reached = deadline::is_reached(self.parts.deadline, tsc);
         if reached {
