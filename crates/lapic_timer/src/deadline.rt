@@ -57,13 +57,7 @@ fn wait_of(offset: u64, deadline: u64, scaled: u128) -> u64
 
 /// The least nanosecond at which `scaled` counts of the guest have passed, of which fewer have passed at
 /// the anchor.
-#[tactic(
-    auto,
-    unfolding(
-        crate::specs::private::Wait::count_for,
-        crate::specs::private::Wait::time_for
-    )
-)]
+#[tactic(auto, unfolding(crate::specs::private::Wait::count_for, crate::specs::private::Wait::time_for))]
 fn time_of_scaled(anchor: &Anchor, ratio: u64, scaled: u128) -> u128
     requires rate { 0 < anchor.now.khz }
     requires ratio { 2 ^ 41 ≤ ratio }

@@ -17,40 +17,51 @@ fn timer_of(divide: u32, lvt: u32, initial: u32) -> ApicTimer {
     timer
 }
 
-#[test]
-fn a_periodic_timer_of_100_nanoseconds(rt: HostRuntime) {
-    let mut timer = timer_of(0xb, 0x2_0030, 0x64);
-    assert_eq!(rt; timer.vector(), 0x30);
-    assert!(rt; !timer.is_masked());
-    let fires = timer.run(250);
-    assert_eq!(rt; fires.count, 2);
-    assert_eq!(rt; fires.first, Some(100));
-    assert_eq!(rt; timer.current(), 0x32);
-    assert_eq!(rt; timer.initial(), 0x64);
-    let fires = timer.run(50);
-    assert_eq!(rt; fires.count, 1);
-    assert_eq!(rt; fires.first, Some(50));
+/// The timer behind `n` nanoseconds, and its fires.
+fn after(timer: ApicTimer, n: u64) -> (ApicTimer, Fires) {
+    let mut timer = timer;
+    let fires = timer.run(n);
+    (timer, fires)
+}
+
+/// So many fires, the first at a nanosecond.
+fn fires(count: u64, first: u64) -> Fires {
+    Fires {
+        count,
+        first: Some(first),
+    }
 }
 
 #[test]
-fn a_deadline_of_a_guest_of_2_ghz(rt: HostRuntime) {
-    let mut timer = ApicTimer::power_on();
-    timer.write_lvt(0x4_0031);
-    timer.write_deadline(0x7d1);
-    timer.write_initial(5);
+fn a_periodic_timer_of_100_nanoseconds(rt: HostRuntime) {
+    let timer = timer_of(0xb, 0x2_0030, 0x64);
+    assert_eq!(rt; timer.vector(), 0x30);
+    assert!(rt; !timer.is_masked());
+    let (timer, by_250) = after(timer, 250);
+    assert_eq!(rt; by_250, fires(2, 100));
+    assert_eq!(rt; timer.current(), 0x32);
+    let (_, by_300) = after(timer, 50);
+    assert_eq!(rt; by_300, fires(1, 50));
+}
+
+/// TSCs that come one after the other, and whether a deadline of 2,001 is reached at each.
+const TSCS: [(u64, bool); 4] = [(2_000, false), (1, false), (2_002, true), (2_003, false)];
+
+#[test]
+fn a_deadline_is_reached_once(rt: HostRuntime) {
+    let mut timer = timer_of(0, 0x4_0031, 5);
     assert_eq!(rt; timer.initial(), 0);
-    let tsc = Tsc {
-        offset: 0,
-        adjust: 0,
-    };
-    let twice = ratio(2_000_000, 1_000_000);
-    assert!(rt; !timer.reach(tsc.read(1_000, twice)));
-    assert_eq!(rt; timer.deadline(), 0x7d1);
+    timer.write_deadline(0x7d1);
     assert_eq!(rt; timer.run(1 << 63), Fires::NONE);
-    assert!(rt; timer.reach(tsc.read(1_001, twice)));
+    for (tsc, reached) in TSCS {
+        assert_eq!(rt; timer.reach(tsc), reached);
+    }
     assert_eq!(rt; timer.deadline(), 0);
-    assert!(rt; !timer.reach(tsc.read(1_002, twice)));
-    // a deadline at the last TSC has been reached by TSC 0
+}
+
+#[test]
+fn a_deadline_at_the_last_tsc_is_reached_by_tsc_0(rt: HostRuntime) {
+    let mut timer = timer_of(0, 0x4_0031, 0);
     timer.write_deadline(0xffff_ffff_ffff_ffff);
     assert!(rt; timer.reach(0));
 }
@@ -68,33 +79,36 @@ const DIVISORS: [(u32, u64, u64); 8] = [
 ];
 
 #[test]
-fn fires_at_each_divisor(rt: HostRuntime) {
+fn periodic_fires_at_each_divisor(rt: HostRuntime) {
     for (divide, divisor, count) in DIVISORS {
-        let mut timer = timer_of(divide, 0x2_0030, 5);
-        assert_eq!(rt; timer.divide(), divide);
-        let fires = timer.run(1_000);
-        assert_eq!(rt; fires.count, count, "divided by {divisor}");
-        assert_eq!(rt; fires.first, Some(divisor.wrapping_mul(5)));
-        // one-shot: the last nanosecond alone fires, once
-        let mut timer = timer_of(divide, 0x30, 5);
+        let (_, seen) = after(timer_of(divide, 0x2_0030, 5), 1_000);
+        assert_eq!(rt;
+            seen,
+            fires(count, divisor.wrapping_mul(5)),
+            "divided by {divisor}"
+        );
+    }
+}
+
+#[test]
+fn a_one_shot_fires_once_at_each_divisor(rt: HostRuntime) {
+    for (divide, divisor, _) in DIVISORS {
         let first = divisor.wrapping_mul(5);
-        assert_eq!(rt; timer.run(first.saturating_sub(1)), Fires::NONE);
-        assert_eq!(rt; timer.current(), 1);
-        assert_eq!(rt; timer.run(1_000).first, Some(1), "divided by {divisor}");
+        let (timer, before) = after(timer_of(divide, 0x30, 5), first.wrapping_sub(1));
+        assert_eq!(rt; before, Fires::NONE);
+        let (timer, last) = after(timer, 1_000);
+        assert_eq!(rt; last, fires(1, 1), "divided by {divisor}");
         assert_eq!(rt; timer.current(), 0);
-        assert_eq!(rt; timer.run(1_000), Fires::NONE);
     }
 }
 
 #[test]
 fn a_long_stretch_takes_no_time(rt: HostRuntime) {
-    let mut timer = timer_of(0xb, 0x2_0030, 1_000);
-    let fires = timer.run(1 << 40);
-    assert_eq!(rt; fires.count, 1_099_511_627);
-    assert_eq!(rt; fires.first, Some(1_000));
+    let (timer, seen) = after(timer_of(0xb, 0x2_0030, 1_000), 1 << 40);
+    assert_eq!(rt; seen, fires(1_099_511_627, 1_000));
     assert_eq!(rt; timer.current(), 224);
-    let mut timer = timer_of(0xb, 0x2_0030, 1);
-    assert_eq!(rt; timer.run(u64::MAX).count, u64::MAX);
+    let (_, seen) = after(timer_of(0xb, 0x2_0030, 1), u64::MAX);
+    assert_eq!(rt; seen, fires(u64::MAX, 1));
 }
 
 /// The plain program of the definition: one nanosecond after the other.
@@ -121,46 +135,50 @@ fn run_one_by_one(parts: ApicParts, divisor: u8, n: u64) -> (ApicParts, Fires) {
     (parts, fires)
 }
 
+/// A timer in the middle of its counts, by the bits of a number: one-shot or periodic, masked or not.
+fn some_timer(divide: u32, x: u64) -> ApicTimer {
+    let lvt = (x >> 60) as u32 % 4 * 0x1_0000;
+    let (timer, _) = after(timer_of(divide, lvt, (x >> 50) as u32 % 9), (x >> 40) % 300);
+    timer
+}
+
+/// The next number of a generator with a fixed seed.
+fn next_number(x: u64) -> u64 {
+    x.wrapping_mul(6_364_136_223_846_793_005)
+        .wrapping_add(1_442_695_040_888_963_407)
+}
+
 #[test]
 fn many_nanoseconds_are_single_ones(rt: HostRuntime) {
     let mut x: u64 = 1;
     for _ in 0..200 {
-        x = x
-            .wrapping_mul(6_364_136_223_846_793_005)
-            .wrapping_add(1_442_695_040_888_963_407);
         for (divide, divisor, _) in DIVISORS {
-            // one-shot and periodic by turns, masked or not
-            let lvt = (x >> 60) as u32 % 4 * 0x1_0000;
-            let mut timer = timer_of(divide, lvt, (x >> 50) as u32 % 9);
-            let _ = timer.run((x >> 40) % 300);
+            x = next_number(x);
+            let timer = some_timer(divide, x);
             let n = (x >> 30) % 700;
-            let (parts, fires) = run_one_by_one(timer.parts(), divisor as u8, n);
-            assert_eq!(rt; timer.run(n), fires, "{parts:?} behind {n}");
-            assert_eq!(rt; timer.parts(), parts, "behind {n}");
+            let (parts, single) = run_one_by_one(timer.parts(), divisor as u8, n);
+            let (timer, seen) = after(timer, n);
+            assert_eq!(rt; seen, single, "{parts:?} behind {n}");
+            assert!(rt; timer.parts() == parts, "behind {n}");
         }
     }
 }
 
+/// Divide configuration and LVT as written, and as read.
+const WRITES: [(u32, u32, u32, u32); 4] = [
+    (0xffff_fff4, 0, 0xfff9_ff20, 0x1_0020),
+    (0xffff_ffff, 0xb, 0xfffd_ff21, 0x5_0021),
+    (0x8, 0x8, 0x6_0022, 0x22),
+    (0x3, 0x3, 0x7_0023, 0x1_0023),
+];
+
 #[test]
-fn writes_keep_what_their_registers_have(rt: HostRuntime) {
-    let mut timer = timer_of(0xffff_fff4, 0xfff9_ff20, 9);
-    assert_eq!(rt; timer.divide(), 0);
-    assert_eq!(rt; timer.lvt(), 0x1_0020);
-    assert!(rt; timer.is_masked());
-    let _ = timer.run(7);
-    assert_eq!(rt; timer.current(), 6);
-    assert_eq!(rt; timer.parts().phase, 1);
-    // a deadline is none of this mode's; mode 11 leaves the mode, and so the count
-    timer.write_deadline(77);
-    timer.write_lvt(0x6_0021);
-    assert_eq!(rt; timer.deadline(), 0);
-    assert_eq!(rt; timer.lvt(), 0x21);
-    assert_eq!(rt; timer.current(), 6);
-    timer.write_divide(0);
-    assert_eq!(rt; timer.parts().phase, 0);
-    timer.write_lvt(0x2_0021);
-    assert_eq!(rt; timer.initial(), 0);
-    assert_eq!(rt; timer.current(), 0);
+fn registers_keep_their_bits(rt: HostRuntime) {
+    for (divide, divide_read, lvt, lvt_read) in WRITES {
+        let timer = timer_of(divide, lvt, 9);
+        assert_eq!(rt; timer.divide(), divide_read);
+        assert_eq!(rt; timer.lvt(), lvt_read);
+    }
 }
 
 /// Fields in the order of the record, and the first whose condition fails.
@@ -278,15 +296,71 @@ const DEADLINES: [(u64, u64, u64, u64, u64, u64, Option<u64>); 14] = [
     (1_000_000, 1_000_000, 0, 0, 500, 600, None),
     (1_000_000, 1_000_000, 0, 7, 500, 500, None),
     // a TSC that starts 1,000 before the modulus
-    (1_000_000, 1_000_000, 0xffff_ffff_ffff_fc18, 5, 0, 5_000, Some(1_005)),
-    (1_000_000, 1_000_000, 0xffff_ffff_ffff_fc18, 0xffff_ffff_ffff_fff6, 0, 5_000, Some(990)),
-    (1_000_000, 1_000_000, 0xffff_ffff_ffff_fc18, 0xffff_ffff_ffff_ffff, 0, 5_000, Some(999)),
+    (
+        1_000_000,
+        1_000_000,
+        0xffff_ffff_ffff_fc18,
+        5,
+        0,
+        5_000,
+        Some(1_005),
+    ),
+    (
+        1_000_000,
+        1_000_000,
+        0xffff_ffff_ffff_fc18,
+        0xffff_ffff_ffff_fff6,
+        0,
+        5_000,
+        Some(990),
+    ),
+    (
+        1_000_000,
+        1_000_000,
+        0xffff_ffff_ffff_fc18,
+        0xffff_ffff_ffff_ffff,
+        0,
+        5_000,
+        Some(999),
+    ),
     // 2^63 past a deadline is before it
-    (1_000_000, 1_000_000, 0x7fff_ffff_ffff_ffff, 1, 0, 5_000, Some(1)),
-    (1_000_000, 1_000_000, 0x8000_0000_0000_0000, 1, 0, 5_000, None),
+    (
+        1_000_000,
+        1_000_000,
+        0x7fff_ffff_ffff_ffff,
+        1,
+        0,
+        5_000,
+        Some(1),
+    ),
+    (
+        1_000_000,
+        1_000_000,
+        0x8000_0000_0000_0000,
+        1,
+        0,
+        5_000,
+        None,
+    ),
     // the last nanosecond in range
-    (1_000_000, 1_000_000, 0, 0x7ff_ffff_ffff_ffff, 0, 0x7ff_ffff_ffff_ffff, Some(0x7ff_ffff_ffff_ffff)),
-    (1_000_000, 1_000_000, 0, 0x800_0000_0000_0000, 0, 0x7ff_ffff_ffff_ffff, None),
+    (
+        1_000_000,
+        1_000_000,
+        0,
+        0x7ff_ffff_ffff_ffff,
+        0,
+        0x7ff_ffff_ffff_ffff,
+        Some(0x7ff_ffff_ffff_ffff),
+    ),
+    (
+        1_000_000,
+        1_000_000,
+        0,
+        0x800_0000_0000_0000,
+        0,
+        0x7ff_ffff_ffff_ffff,
+        None,
+    ),
 ];
 
 #[test]
@@ -299,41 +373,46 @@ fn first_nanoseconds_of_deadlines(rt: HostRuntime) {
             base_ns: 0,
             offset,
         };
-        assert_eq!(rt; clock.first_reach(deadline, from, to), Some(first), "{clock:?} {deadline}");
+        assert_eq!(rt;
+            clock.first_reach(deadline, from, to),
+            Some(first),
+            "{clock:?} {deadline}"
+        );
     }
 }
 
+/// Rates of host and guest in kHz, and the offset of the TSC.
+const RATES: [(u64, u64, u64); 8] = [
+    (100_000, 10_000_000, 0),
+    (100_000, 10_000_000, 0xffff_ffff_ffff_ff00),
+    (10_000_000, 100_000, 0),
+    (10_000_000, 100_000, 700),
+    (3_000_000, 2_999_999, 0xffff_ffff_ffff_ff00),
+    (3_000_000, 2_999_999, 0x8000_0000_0000_0000),
+    (999_999, 1_000_001, 700),
+    (999_999, 1_000_001, 0xffff_ffff_ffff_ff00),
+];
+
 #[test]
 fn deadlines_by_single_nanoseconds(rt: HostRuntime) {
-    let rates = [
-        (100_000, 10_000_000),
-        (10_000_000, 100_000),
-        (3_000_000, 2_999_999),
-        (999_999, 1_000_001),
-    ];
     let mut reached: u64 = 0;
-    for (host_khz, guest_khz) in rates {
-        for offset in [0, 700, 0xffff_ffff_ffff_ff00, 0x8000_0000_0000_0000] {
-            let clock = Clock {
-                host_khz,
-                guest_khz,
-                start: 1_000,
-                base_ns: 40,
-                offset,
-            };
-            for k in 0..40 {
-                let deadline = offset.wrapping_add(k * 23);
-                let first = clock.first_reach(deadline, 50, 250);
-                assert_eq!(rt;
-                    first,
-                    clock.first_by_steps(deadline, 50, 250),
-                    "{clock:?} {k}"
-                );
-                if first.is_some_and(|first| first.is_some()) {
-                    reached = reached.wrapping_add(1);
-                }
+    for (host_khz, guest_khz, offset) in RATES {
+        let clock = Clock {
+            host_khz,
+            guest_khz,
+            start: 1_000,
+            base_ns: 40,
+            offset,
+        };
+        for k in 0..60 {
+            let deadline = offset.wrapping_add(k * 23);
+            let first = clock.first_reach(deadline, 50, 250);
+            let single = clock.first_by_steps(deadline, 50, 250);
+            assert!(rt; first == single, "{clock:?} {k}");
+            if first.is_some_and(|first| first.is_some()) {
+                reached = reached.wrapping_add(1);
             }
         }
     }
-    assert!(rt; reached > 300, "deadlines reached: {reached}");
+    assert!(rt; reached > 200, "deadlines reached: {reached}");
 }
