@@ -24,13 +24,14 @@ pub trait Answerer<E> {
         ensures printed { OnOk result
             (out.new.items ≡ out.old.items ++ printed (answer line self.old text.now)) }
         ensures ends { IfOk result (λ end. end ≡ end_of (answer line self.old text.now)) }
-        ensures state { OnOk result
-            (self.new ≡ state_behind (answer line self.old text.now) self.old) }
+        ensures state { IfOk result (λ end. end ≡ None
+            → self.new ≡ state_behind (answer line self.old text.now) self.old) }
         ensures may { IfOk result (λ end. end ≡ None → may (line + 1) self.new) }
         ensures err { OnErr result (StartsWith out.new.items out.old.items) };
 
     /// Answers the end of the input, where the line of this number would come next.
     fn close(&mut self, line: u64, out: &mut Vec<u8>) -> Result<E, NoMemory>
+        requires room { line < 2 ^ 63 }
         requires may { may line self.old }
         ensures printed { OnOk result
             (out.new.items ≡ out.old.items ++ (closing line self.old).text) }
@@ -50,8 +51,8 @@ pub(crate) fn answer_line<E: Drop, T: Answerer<E>>(
     ensures printed { OnOk result
         (out.new.items ≡ out.old.items ++ printed (T.answer line answerer.old text.now)) }
     ensures ends { IfOk result (λ end. end ≡ end_of (T.answer line answerer.old text.now)) }
-    ensures state { OnOk result
-        (answerer.new ≡ state_behind (T.answer line answerer.old text.now) answerer.old) }
+    ensures state { IfOk result (λ end. end ≡ None
+        → answerer.new ≡ state_behind (T.answer line answerer.old text.now) answerer.old) }
     ensures may { IfOk result (λ end. end ≡ None → T.may (line + 1) answerer.new) }
     ensures err { OnErr result (out.new.items ≡ out.old.items) }
 {

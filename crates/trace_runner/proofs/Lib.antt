@@ -1,6 +1,5 @@
-pub mod BoardRuns
-pub mod Numbers
-pub mod Refused
+pub mod Counts
+pub mod Edges
+pub mod ReadyNext
 pub mod Rows
-pub mod Split
 pub mod Statuses

@@ -1,12 +1,8 @@
-pub mod Board
-pub mod Clock
 pub mod Command
-pub mod Division
-pub mod Lines
-pub mod Ports
+pub mod Deliveries
+pub mod Ready
 pub mod Records
 pub mod Replay
 pub mod Said
 pub mod Status
 pub mod Text
-pub mod Tokens

@@ -1,56 +1,128 @@
--- The records of a trace: a processor, a host counter, and what is done.
-use Rattle.std.specs.Prelude.{ℕ, nat_lt, List, [], ◌∷◌, Option, Some, None, if◌then◌else◌, codes, option_and_then}
-use Rattle.std.specs.Option.{option_map}
-use Rattle.std.specs.Str.{bytes_eq}
-use Rattle.trace_runner.specs.Tokens.{words_of, decimal_in, hex_in, byte_in}
-use Rattle.pit_readback.specs.Ports.{is_pit_port}
-use Rattle.trace_runner.specs.declared.record.Job.{Job}
-use Rattle.trace_runner.specs.declared.record.Job.TheVariants.{PortIn, PortOut, Step}
-use Rattle.trace_runner.specs.declared.record.Record.{Record}
+-- What records do to the board, and what they print.
+use Rattle.std.specs.Prelude.{ℕ, ◌^◌, nat_lt, nat_le, List, ◌++◌, Option, Some, None, if◌then◌else◌}
+use Rattle.host_counter.specs.Time.{time_at}
+use Rattle.host_counter.specs.declared.TimeFault.{TimeFault}
+use Rattle.host_counter.specs.declared.TimeFault.TheVariants.{
+  BeforeStart as FaultBeforeStart,
+  OutOfRange as FaultOutOfRange,
+}
+use Rattle.board_types.specs.declared.access.Access.{Access}
+use Rattle.board_types.specs.declared.parts.BoardParts.{BoardParts}
+use Rattle.board_types.specs.declared.reply.Reply.{Reply}
+use Rattle.board_types.specs.declared.reply.Refusal.{Refusal}
+use Rattle.board_types.specs.declared.reply.Refusal.TheVariants.{
+  BeforeStart,
+  OutOfRange,
+  VersionsSpent,
+  Spent as AccessesSpent,
+}
+use Rattle.board_core.specs.Access.{after_access, reply_of}
+use Rattle.board_core.specs.Refusals.{refusal_of}
+use Rattle.board_core.specs.Pages.{page_reply, clock_reply, after_clock}
+use Rattle.edge_hooks.specs.declared.deliveries.Delivery.{Delivery}
+use Rattle.reply_text.specs.Text.{board_text, page_text, clock_text, refused_text}
+use Rattle.reply_text.specs.declared.ends.Refused.{Refused}
+use Rattle.reply_text.specs.declared.ends.Refused.TheVariants.{
+  Form,
+  Steal,
+  Cpu,
+  Fell,
+  State,
+  Long,
+  Many,
+  NoEnd,
+  Range,
+  Versions,
+  Spent,
+  NotBuilt,
+}
+use Rattle.trace_text.specs.declared.faults.Reason.{Reason}
+use Rattle.trace_text.specs.declared.faults.Reason.TheVariants.{
+  Form as OutOfForm,
+  Steal as AsksSteal,
+  Cpu as NoSuchCpu,
+  CounterFell,
+  StateBytes,
+  TooLong,
+  TooMany,
+  NoEnd as EndsEarly,
+}
+use Rattle.trace_text.specs.declared.records.Job.{Job}
+use Rattle.trace_text.specs.declared.records.Job.TheVariants.{Board, Page, Clock, Save, Move}
+use Rattle.trace_loop.specs.Progress.{Closing, Answer, Goes, Ends}
+use Rattle.trace_runner.specs.Deliveries.{edges_text}
+use Rattle.trace_runner.specs.declared.status.Verdict.{Verdict}
+use Rattle.trace_runner.specs.declared.status.Verdict.TheVariants.{Stopped}
 
--- this value, where no word is left
-abbrev pub at_last : {T : Type 0} → T → List (List ℕ) → Option T
-at_last x [] = Some x
-at_last x (w ∷ ws) = None
+-- the reason of a line's grammar, as it is printed
+abbrev pub refused_by : Reason → Refused
+refused_by OutOfForm = Form
+refused_by AsksSteal = Steal
+refused_by NoSuchCpu = Cpu
+refused_by (CounterFell before) = Fell before
+refused_by (StateBytes at) = State at
+refused_by TooLong = Long
+refused_by TooMany = Many
+refused_by EndsEarly = NoEnd
 
--- a word that is a port
-abbrev pub port_in : List ℕ → Option ℕ
-port_in word = option_and_then (λ p. if is_pit_port p then Some p else None) (hex_in word)
+-- the board's refusal; a counter before the anchor's fell below it
+abbrev pub refused_access : Refusal → Refused
+refused_access (BeforeStart start) = Fell start
+refused_access (OutOfRange ns) = Range ns
+refused_access (VersionsSpent version) = Versions version
+refused_access (AccessesSpent number) = Spent number
 
--- `in PORT`
-abbrev pub in_job : List (List ℕ) → Option Job
-in_job [] = None
-in_job (port ∷ ws) = option_and_then (λ p. at_last (PortIn p) ws) (port_in port)
+-- a count of the host's counter that has no time
+abbrev pub refused_fault : TimeFault → Refused
+refused_fault (FaultBeforeStart start) = Fell start
+refused_fault (FaultOutOfRange ns) = Range ns
 
--- the last word of `out PORT BYTE`
-abbrev pub out_byte : ℕ → List (List ℕ) → Option Job
-out_byte port [] = None
-out_byte port (byte ∷ ws) = option_and_then (λ b. at_last (PortOut port b) ws) (byte_in byte)
-
--- `out PORT BYTE`
-abbrev pub out_job : List (List ℕ) → Option Job
-out_job [] = None
-out_job (port ∷ ws) = option_and_then (λ p. out_byte p ws) (port_in port)
-
--- what is done
-abbrev pub job_in : List (List ℕ) → Option Job
-job_in [] = None
-job_in (name ∷ ws) =
-    if bytes_eq name (codes "step") then at_last Step ws
-    else if bytes_eq name (codes "in") then in_job ws
-    else if bytes_eq name (codes "out") then out_job ws
+-- why a count of the host's counter has no time, if it has none
+unfoldable pub refused_count : BoardParts → ℕ → Option Refused
+refused_count b h =
+    if nat_lt h b.anchor.start then Some (Fell b.anchor.start)
+    else if nat_le (2 ^ 59) (time_at b.anchor h) then Some (Range (time_at b.anchor h))
     else None
 
--- the host counter, below 2^59, and what is done
-abbrev pub timed_job : List (List ℕ) → Option Record
-timed_job [] = None
-timed_job (counter ∷ ws) = option_and_then (λ h. if nat_lt h 576460752303423488 then option_map (λ job. record { counter = h; job = job }) (job_in ws) else None) (decimal_in counter)
+-- a line that is refused ends the trace
+abbrev pub stops : ℕ → Refused → Closing Verdict
+stops line why = record { text = refused_text line why; end = Stopped line why }
 
--- the record of processor 0 that these words are
-abbrev pub record_of_words : List (List ℕ) → Option Record
-record_of_words [] = None
-record_of_words (cpu ∷ ws) = if bytes_eq cpu (codes "0") then timed_job ws else None
+-- the block of an access: its edges in order, and its reply
+abbrev pub block : ℕ → List (Option Delivery) → Reply → List ℕ
+block line ds reply = edges_text ds reply.edges ++ board_text line reply
 
--- the record that a line is
-unfoldable pub record_in : List ℕ → Option Record
-record_in line = record_of_words (words_of line)
+-- an access to the board
+abbrev pub access_answer : Option Refusal → ℕ → ℕ → ℕ → Access → List (Option Delivery)
+    → BoardParts → Answer BoardParts Verdict
+access_answer (Some refusal) line cpu h a ds b = Ends (stops line (refused_access refusal))
+access_answer None line cpu h a ds b =
+    Goes (block line ds (reply_of b cpu h a)) (after_access b cpu h a)
+
+abbrev pub board_answer : ℕ → ℕ → ℕ → Access → List (Option Delivery) → BoardParts
+    → Answer BoardParts Verdict
+board_answer line cpu h a ds b = access_answer (refusal_of b cpu h a) line cpu h a ds b
+
+-- a read of a page changes nothing
+abbrev pub read_answer : Option Refused → ℕ → List ℕ → BoardParts → Answer BoardParts Verdict
+read_answer (Some why) line text b = Ends (stops line why)
+read_answer None line text b = Goes text b
+
+abbrev pub page_answer : ℕ → ℕ → ℕ → BoardParts → Answer BoardParts Verdict
+page_answer line page h b =
+    read_answer (refused_count b h) line (page_text line (page_reply b page h)) b
+
+-- a read of the clock may raise the greatest reading that was told
+abbrev pub clock_answer : ℕ → ℕ → ℕ → BoardParts → Answer BoardParts Verdict
+clock_answer line page h b =
+    read_answer (refused_count b h) line (clock_text line (clock_reply b page h))
+    (after_clock b page h)
+
+-- a record, by what it does; saves and moves aren't built yet
+abbrev pub job_answer : ℕ → ℕ → ℕ → Job → List (Option Delivery) → BoardParts
+    → Answer BoardParts Verdict
+job_answer line cpu h (Board a) ds b = board_answer line cpu h a ds b
+job_answer line cpu h (Page page) ds b = page_answer line page h b
+job_answer line cpu h (Clock page) ds b = clock_answer line page h b
+job_answer line cpu h Save ds b = Ends (stops line NotBuilt)
+job_answer line cpu h (Move khz start gap) ds b = Ends (stops line NotBuilt)

@@ -1,67 +1,109 @@
--- What the lines of a trace do, one record by one, and what is printed for a trace.
-use Rattle.std.specs.Prelude.{ℕ, nat_lt, length, take, List, [], ◌++◌, Option, Some, None, if◌then◌else◌, codes}
-use Rattle.std.specs.Str.{bytes_eq}
-use Rattle.trace_loop.specs.Progress.{limit_of, Closing, Answer, Goes, Ends, Progress, opened, behind, finished}
+-- What the lines of a trace do, and what is printed for a trace.
+use Rattle.std.specs.Prelude.{ℕ, take, replicate, List, [], None, Result, Ok, Err}
+use Rattle.board_types.specs.declared.setup.Setup.{Setup}
+use Rattle.board_types.specs.declared.parts.BoardParts.{BoardParts}
+use Rattle.board_devices.specs.Lines.{levels}
+use Rattle.board_core.specs.Time.{devices_in, now_of}
+use Rattle.board_core.specs.PowerOn.{board_at_power_on}
+use Rattle.reply_text.specs.Text.{final_text}
+use Rattle.tick_policy.specs.declared.parts.Policy.TheVariants.{Delay}
+use Rattle.trace_text.specs.Lines.{at_start as reading_at_start, taken, behind, end_fault}
+use Rattle.trace_text.specs.declared.faults.RecordFault.{RecordFault}
+use Rattle.trace_text.specs.declared.header.Begin.{Begin}
+use Rattle.trace_text.specs.declared.header.Begin.TheVariants.{Fresh}
+use Rattle.trace_text.specs.declared.reading.Item.{Item}
+use Rattle.trace_text.specs.declared.reading.Item.TheVariants.{Skipped, Part, Begun, Next, End}
+use Rattle.trace_text.specs.declared.records.Record.{Record}
+use Rattle.trace_loop.specs.Progress.{
+  Closing,
+  Answer,
+  Goes,
+  Ends,
+  Progress,
+  opened,
+  behind as heard_behind,
+  finished,
+}
 use Rattle.trace_loop.specs.Outcome.{Run}
-use Rattle.trace_runner.specs.Records.{record_in}
-use Rattle.trace_runner.specs.Board.{powered_on, Done as Accessed, accessed}
-use Rattle.trace_runner.specs.Text.{rise_text, reply_text, final_text, refused_text}
-use Rattle.trace_runner.specs.declared.board.Board.{Board}
-use Rattle.trace_runner.specs.declared.record.Record.{Record}
-use Rattle.trace_runner.specs.declared.answers.Stage.{Stage}
-use Rattle.trace_runner.specs.declared.answers.Stage.TheVariants.{Opening, Header, Records}
+use Rattle.trace_runner.specs.Deliveries.{deliveries_of}
+use Rattle.trace_runner.specs.Records.{refused_by, stops, job_answer}
 use Rattle.trace_runner.specs.declared.replay.Replay.{Replay}
 use Rattle.trace_runner.specs.declared.status.Verdict.{Verdict}
-use Rattle.trace_runner.specs.declared.status.Verdict.TheVariants.{Done, NotBuilt}
+use Rattle.trace_runner.specs.declared.status.Verdict.TheVariants.{Done}
 
--- a line that isn't built ends the trace; so does one that is wrong, until its own reasons are built
-abbrev pub refused : ℕ → Closing Verdict
-refused line = record { text = refused_text line; end = NotBuilt line }
+-- the board with which a trace begins
+abbrev pub board_of : Begin → BoardParts
+board_of (Fresh setup) = board_at_power_on setup
 
--- the trace goes on
-abbrev pub goes : List ℕ → Stage → Board → Answer Replay Verdict
-goes text stage b = Goes text (record { stage = stage; board = b })
+-- before the first line; the board is one that no line asks
+abbrev pub opening : Setup
+opening = record {
+  format = 1;
+  anchor = record { khz = 1000000; start = 0; base_ns = 0 };
+  guest_khz = 1000000;
+  cpus = 1;
+  pit = Delay;
+  rtc = Delay;
+  hpet = Delay;
+  slew_ns = 1000000;
+  wall_sec = 0;
+  wall_nsec = 0;
+  time = record { sec = 0; min = 0; hour = 0; wday = 1; date = 1; month = 1; year = 0 };
+}
 
--- the block of a record: the edge, and the reply
-abbrev pub block : ℕ → Accessed → List ℕ
-block line d = rise_text d.rise ++ reply_text line d.board.accesses d.value
+abbrev pub at_start : Replay
+at_start = record {
+  reading = reading_at_start;
+  board = board_at_power_on opening;
+  deliveries = replicate 6 None;
+}
 
--- a record, whose counter isn't below the one before
-abbrev pub record_answer : ℕ → Board → Option Record → Answer Replay Verdict
-record_answer line b None = Ends (refused line)
-record_answer line b (Some r) =
-    if nat_lt r.counter b.time then Ends (refused line)
-    else goes (block line (accessed r b)) Records (accessed r b).board
+-- the line that ends a trace: the time, the accesses, the greatest clock reading, the lines that are up
+abbrev pub ended : BoardParts → Closing Verdict
+ended b = record {
+  text = final_text (now_of b) b.accesses b.greatest (record { levels = levels (devices_in b) });
+  end = Done;
+}
 
--- the end of a trace
-abbrev pub ended : Board → Closing Verdict
-ended b = record { text = final_text b.time b.accesses b.line_up; end = Done }
+-- the answer to a record, with the board put back
+abbrev pub with_board : Answer BoardParts Verdict → Replay → Answer Replay Verdict
+with_board (Goes text b) r = Goes text (record r { board = b })
+with_board (Ends closing) r = Ends closing
 
--- a line: `clockboard 1`, then `begin`, then records up to `end`
-abbrev pub answer_at : ℕ → Stage → Board → List ℕ → Answer Replay Verdict
-answer_at line Opening b text = if bytes_eq text (codes "clockboard 1") then goes [] Header b else Ends (refused line)
-answer_at line Header b text = if bytes_eq text (codes "begin") then goes [] Records b else Ends (refused line)
-answer_at line Records b text = if bytes_eq text (codes "end") then Ends (ended b) else record_answer line b (record_in text)
+abbrev pub record_answer : ℕ → Record → Replay → Answer Replay Verdict
+record_answer line rec r =
+    with_board (job_answer line rec.cpu rec.h rec.job r.deliveries r.board) r
 
--- what the line of this number does: one that is too long is refused
+-- what a line does, by what it is
+abbrev pub item_answer : ℕ → Item → Replay → Answer Replay Verdict
+item_answer line Skipped r = Goes [] r
+item_answer line Part r = Goes [] r
+item_answer line (Begun header) r = Goes [] (record r {
+  board = board_of header.begin;
+  deliveries = deliveries_of header.routes;
+})
+item_answer line (Next rec) r = record_answer line rec r
+item_answer line End r = Ends (ended r.board)
+
+-- or that it is refused
+abbrev pub taken_answer : ℕ → Result Item RecordFault → Replay → Answer Replay Verdict
+taken_answer line (Ok item) r = item_answer line item r
+taken_answer line (Err fault) r = Ends (stops fault.line (refused_by fault.reason))
+
+-- what the line of this number does
 unfoldable pub answer_of : ℕ → Replay → List ℕ → Answer Replay Verdict
 answer_of line r text =
-    if nat_lt (limit_of text) (length text) then Ends (refused line)
-    else answer_at line r.stage r.board text
+    taken_answer line (taken r.reading text) (record r { reading = behind text r.reading })
 
 -- a trace that has not ended where its input ends is refused at the next line
 abbrev pub closing_of : ℕ → Replay → Closing Verdict
-closing_of line r = refused line
-
--- before the first line
-abbrev pub at_start : Replay
-at_start = record { stage = Opening; board = powered_on }
+closing_of line r = stops (end_fault r.reading).line (refused_by (end_fault r.reading).reason)
 
 -- all that a replay knows and has printed behind some bytes of a trace
 unfoldable pub progress_behind : List ℕ → Progress Replay Verdict
-progress_behind bytes = behind answer_of bytes (opened at_start)
+progress_behind bytes = heard_behind answer_of bytes (opened at_start)
 
--- what is printed for a trace, and the status with which the program ends
+-- what is printed for a trace, and how it ends
 unfoldable pub replay : List ℕ → Closing Verdict
 replay bytes = finished answer_of closing_of (progress_behind bytes)
 
@@ -75,12 +117,3 @@ replay_run input before given faults faults_now = record {
   faults = faults;
   faults_now = faults_now;
 }
-
--- the state behind an answer
-abbrev pub stage_behind : Answer Replay Verdict → Stage → Stage
-stage_behind (Goes text r) old = r.stage
-stage_behind (Ends r) old = old
-
-abbrev pub board_behind : Answer Replay Verdict → Board → Board
-board_behind (Goes text r) old = r.board
-board_behind (Ends r) old = old

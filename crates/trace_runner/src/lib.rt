@@ -1,7 +1,8 @@
-//! The runner behind the program `clockboard`: it reads a trace of accesses to the 8254, runs the board to the time
-//! of each, and prints the replies and the rise of interrupt line 0.
+//! The runner behind the program `clockboard`: it reads a trace of what processors do to a clock board (8254,
+//! MC146818, HPET, TSCs, pvclock pages), runs the board to the time of each record, and prints replies and edges.
 //!
-//! [`run`] is the one call. A trace is a text; each record names a processor, the time in nanoseconds, and an access:
+//! [`run`] is the one call. A trace is a text: a header, and records. A record names a processor, a count of the
+//! host's counter (nanoseconds here, as the header says nothing else), and what is done:
 //!
 //! ```text
 //! clockboard 1
@@ -15,8 +16,8 @@
 //! ```
 //!
 //! Each record is answered by its line and its number, with the value where it reads one, and before that by the
-//! rise of line 0 where it rose up to then. The last line gives the time, the number of accesses, the greatest clock
-//! reading (0, since no clock page is built yet), and the lines that are up:
+//! edges of the lines up to then. The last line gives the time in nanoseconds, the number of accesses, the greatest
+//! clock reading that was told, and the lines that are up:
 //!
 //! ```text
 //! 3 1
@@ -37,17 +38,15 @@
 //! ```
 #![tactic(auto)]
 
+mod command;
+mod deliveries;
+mod program;
+mod records;
+mod replay;
+mod status;
+
 pub use program::run;
 pub use status::Status;
 
-mod answers;
-mod board;
-mod command;
-mod program;
-mod record;
-mod replay;
-mod status;
 #[cfg(test)]
 mod tests;
-mod text;
-mod tokens;

@@ -11,18 +11,23 @@ ghost use Rattle.trace_runner.specs.Command.{command_of};
 use crate::command::{Command, command_of};
 use crate::replay::Replay;
 use crate::status::{Status, status_of};
-use crate::text::{JOB_NOT_BUILT, USAGE};
 use board_io::{Failed, Gate, Sink, Source};
 use std::alloc::Global;
 use std::sync::Wait;
 use std::thread::Threads;
 use trace_loop::{answer_lines, put_all};
 
+/// How the program is called.
+const USAGE: &[u8] = b"usage: clockboard replay|race [--state] | gen|soak KEY RECORDS CPUS\n";
+
+/// The text of a job that isn't built yet.
+const JOB_NOT_BUILT: &[u8] = b"refused 0 notbuilt\n";
+
 /// Runs the program on its words (those behind its name): the word `replay` reads a trace from `source`, and writes
 /// what it answers to `sink`, in pieces as large as the source's.
 ///
 /// Each line whose end was taken is answered before more is taken. Nothing is taken behind the piece that ended the
-/// trace: by the line `end`, by a line that isn't built, or by a line of more than 128 bytes.
+/// trace: by the line `end`, by a line that is refused, or by a line that is too long.
 ///
 /// `rt` and `gate` are for the processors' threads of the job `race`, which isn't built yet: no thread is started, and
 /// nobody waits.
@@ -31,7 +36,12 @@ use trace_loop::{answer_lines, put_all};
 ///
 /// - `Ok`: the trace was read to `end`.
 /// - `Usage`: the words are no command; the usage is printed, and nothing is taken.
-/// - `NotBuilt`: that line is the first that isn't built, or, with line 0, the job isn't (`race`, `gen`, `soak`).
+/// - `BadRecord`: that line, or the end of the input at it, is refused for the reason given.
+/// - `OutOfRange`: the time of that line's count is 2^59 ns or more.
+/// - `VersionsSpent`: that line would publish a page, or the wall clock's words, behind the last version.
+/// - `Spent`: 2^62 accesses came before that line.
+/// - `NotBuilt`: that line saves or moves the board, which isn't built yet, or, with line 0, the job isn't (`race`,
+///   `gen`, `soak`).
 /// - `SourceFault`, `SinkFault`: only where that end counted a fault in this call. What was written is then the blocks
 ///   of all whole lines given and `fault source`, or a beginning of what would be printed.
 /// - `NoMemory`: memory ran out; what was written is a beginning of what would be printed, and `fault memory`.

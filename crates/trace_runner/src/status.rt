@@ -1,40 +1,51 @@
 //! How a run of the program ends.
-ghost use Rattle.std.specs.Prelude.{◌≡◌};
-ghost use Rattle.trace_runner.specs.Status.{status_of};
+ghost use Rattle.std.specs.Prelude.{◌≡◌, ◌++◌, Some, IfOk, OnOk, OnErr};
+ghost use Rattle.reply_text.specs.Text.{refused_text};
+ghost use Rattle.trace_runner.specs.Records.{refused_by, refused_access, refused_fault};
+ghost use Rattle.trace_runner.specs.Status.{status_of, refused_status};
 
+use board_core::Refusal;
+use clk_units::NoMemory;
+use host_counter::TimeFault;
+use reply_text::{Refused, refused_line};
 use trace_loop::Ended;
+use trace_text::Reason;
 
 /// How a trace ends.
 #[derive(Clone, Copy, Debug, PartialEq, Eq)]
 pub(crate) enum Verdict {
     /// It was read to `end`.
     Done,
-    /// That line isn't built yet.
-    NotBuilt { line: u64 },
+    /// That line is refused.
+    Stopped { line: u64, why: Refused },
 }
 
-/// How a run of the program ends.
+/// How a run of the program ends. A line is that of the trace, counted from 1.
 #[derive(Clone, Copy, Debug, PartialEq, Eq)]
 pub enum Status {
     /// The job was done; a trace was read to `end`.
     Ok,
     /// The words are no defined command.
     Usage,
+    /// That line is the first outside the grammar.
+    BadRecord { line: u64, reason: Reason },
     /// The source failed.
     SourceFault,
     /// The sink failed.
     SinkFault,
     /// Memory ran out.
     NoMemory,
-    /// A line, or with line 0 a job, isn't built yet.
-    NotBuilt {
-        /// The line of the trace, counted from 1.
-        line: u64,
-    },
+    /// The time of that line's counter, which is given in nanoseconds, is 2^59 or more.
+    OutOfRange { line: u64, ns: u128 },
+    /// There were 2^62 accesses before that line.
+    Spent { line: u64, number: u64 },
+    /// That line would publish again a page, or the wall clock's words, whose version is the last one.
+    VersionsSpent { line: u64, version: u64 },
+    /// That line, or with line 0 a job, isn't built yet.
+    NotBuilt { line: u64 },
 }
 
 impl Status {
-    ghost use Rattle.std.specs.Prelude.{◌≡◌};
     ghost use Rattle.trace_runner.specs.Status.{number_of};
 
     /// The exit status of the program.
@@ -44,12 +55,37 @@ impl Status {
         match self {
             Status::Ok => 0,
             Status::Usage => 2,
+            Status::BadRecord { .. } => 3,
             Status::SourceFault => 4,
             Status::SinkFault => 5,
             Status::NoMemory => 6,
+            Status::OutOfRange { .. } => 7,
+            Status::Spent { .. } => 8,
+            Status::VersionsSpent { .. } => 9,
             Status::NotBuilt { .. } => 10,
         }
     }
+}
+
+/// A line that is refused, as a status.
+fn refused_status(line: u64, why: Refused) -> Status
+    ensures { result ≡ refused_status line why }
+{
+    let reason = match why {
+        Refused::Range { ns } => return Status::OutOfRange { line, ns },
+        Refused::Versions { version } => return Status::VersionsSpent { line, version },
+        Refused::Spent { number } => return Status::Spent { line, number },
+        Refused::NotBuilt => return Status::NotBuilt { line },
+        Refused::Form => Reason::Form,
+        Refused::Steal => Reason::Steal,
+        Refused::Cpu => Reason::Cpu,
+        Refused::Fell { before } => Reason::CounterFell { before },
+        Refused::State { place } => Reason::StateBytes { place },
+        Refused::Long => Reason::TooLong,
+        Refused::Many => Reason::TooMany,
+        Refused::NoEnd => Reason::NoEnd,
+    };
+    Status::BadRecord { line, reason }
 }
 
 /// The status of a run over a trace.
@@ -58,9 +94,71 @@ pub(crate) fn status_of(ended: Ended<Verdict>) -> Status
 {
     match ended {
         Ended::By(Verdict::Done) => Status::Ok,
-        Ended::By(Verdict::NotBuilt { line }) => Status::NotBuilt { line },
+        Ended::By(Verdict::Stopped { line, why }) => refused_status(line, why),
         Ended::SourceFault => Status::SourceFault,
         Ended::SinkFault => Status::SinkFault,
         Ended::NoMemory => Status::NoMemory,
     }
+}
+
+/// The reason of a line's grammar, as it is printed.
+pub(crate) fn refused_by(reason: Reason) -> Refused
+    ensures { result ≡ refused_by reason }
+{
+    match reason {
+        Reason::Form => Refused::Form,
+        Reason::Steal => Refused::Steal,
+        Reason::Cpu => Refused::Cpu,
+        Reason::CounterFell { before } => Refused::Fell { before },
+        Reason::StateBytes { place } => Refused::State { place },
+        Reason::TooLong => Refused::Long,
+        Reason::TooMany => Refused::Many,
+        Reason::NoEnd => Refused::NoEnd,
+    }
+}
+
+/// The board's refusal. A counter before the anchor's fell below it.
+pub(crate) fn refused_access(refusal: Refusal) -> Refused
+    ensures { result ≡ refused_access refusal }
+{
+    match refusal {
+        Refusal::BeforeStart { start } => Refused::Fell { before: start },
+        Refusal::OutOfRange { ns } => Refused::Range { ns },
+        Refusal::VersionsSpent { version } => Refused::Versions { version },
+        Refusal::Spent { number } => Refused::Spent { number },
+    }
+}
+
+/// The same of a count that has no time.
+pub(crate) fn refused_time(fault: TimeFault) -> Refused
+    ensures { result ≡ refused_fault fault }
+{
+    match fault {
+        TimeFault::BeforeStart { start } => Refused::Fell { before: start },
+        TimeFault::OutOfRange { ns } => Refused::Range { ns },
+    }
+}
+
+/// Appends the line of a refusal, which ends the trace.
+pub(crate) fn stop(line: u64, why: Refused, out: &mut Vec<u8>) -> Result<Verdict, NoMemory>
+    ensures printed { OnOk result (out.new.items ≡ out.old.items ++ refused_text line why) }
+    ensures ends { IfOk result (λ verdict. verdict ≡ Verdict.Stopped line why) }
+    ensures err { OnErr result (out.new.items ≡ out.old.items) }
+{
+    refused_line(line, why, out)?;
+    Ok(Verdict::Stopped { line, why })
+}
+
+/// The same as the answer to a line.
+pub(crate) fn refuse(
+    line: u64,
+    why: Refused,
+    out: &mut Vec<u8>,
+) -> Result<Option<Verdict>, NoMemory>
+    ensures printed { OnOk result (out.new.items ≡ out.old.items ++ refused_text line why) }
+    ensures ends { IfOk result (λ end. end ≡ Some (Verdict.Stopped line why)) }
+    ensures err { OnErr result (out.new.items ≡ out.old.items) }
+{
+    let verdict = stop(line, why, out)?;
+    Ok(Some(verdict))
 }

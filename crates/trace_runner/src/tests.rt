@@ -1,5 +1,5 @@
-//! Traces from their bytes to what is printed. The numbers are worked out from the Intel 8254 data sheet and the
-//! clock of 1,193,182 Hz.
+//! Traces from their bytes to what is printed. The numbers are worked out from the data sheets and the clocks of
+//! 1,193,182 Hz, 32,768 Hz and 100 MHz.
 
 ghost use Rattle.std.specs.Prelude.{◌<◌};
 
@@ -10,6 +10,7 @@ use std::process::Abort;
 use std::sync::Wait;
 use std::test::Fail;
 use std::thread::Threads;
+use trace_text::Reason;
 
 /// Counter 0 in mode 2 with count 4, and what is printed.
 const FIRST_RISE: &[u8] =
@@ -128,54 +129,104 @@ fn the_timer_behind_its_ports(rt: HostRuntime) -> Result<(), Fail> {
 }
 
 #[test]
+fn all_devices_behind_their_records(rt: HostRuntime) -> Result<(), Fail> {
+    let traces: [(&[u8], &[u8]); 6] = [
+        // The clock's periodic ticks under the policy delay, and a read of register C that shows the second.
+        (
+            b"clockboard 1\nbegin\n0 0 out 70 0b\n0 0 out 71 42\n0 2000000 counts rtc\n0 2000000 out 70 0c\n0 2000000 in 71\n0 2000000 counts rtc\nend\n",
+            b"3 1\n4 2\nedge 976563 8 up\n5 3 2 1 1 0\n6 4\nedge 2000000 8 down\nedge 2000000 8 up\n7 5 c0\n8 6 2 2 0 0\nfinal 2000000 6 0 8\n",
+        ),
+        // A periodic timer of 32 bits across the wrap.
+        (
+            b"clockboard 1\nbegin\n0 0 hw 100 8 294c\n0 0 hw 108 8 fffffff8\n0 0 hw 108 8 10\n0 0 hw f0 8 fffffff0\n0 0 hw 10 4 1\n0 450 counts hpet0\n0 450 hr 108 8\n0 450 hr f0 8\n0 450 hr 100 8\nend\n",
+            b"3 1\n4 2\n5 3\n6 4\n7 5\nedge 80 20 up\n8 6 3 1 2 0\n9 7 0000000000000028\n10 8 000000010000001d\n11 9 00f000000000293c\nfinal 450 9 0 20\n",
+        ),
+        // Legacy replacement while OUT of counter 0 is low.
+        (
+            b"clockboard 1\nbegin\n0 0 out 43 34\n0 0 out 40 04\n0 0 out 40 00\n0 0 hw 100 8 2804\n0 0 hw 108 8 64\n0 3500 hw 10 4 3\n0 5000 counts pit\n0 5000 counts hpet0\nend\n",
+            b"3 1\n4 2\n5 3\n6 4\n7 5\n8 6\nedge 4500 0 up\n9 7 0 0 0 0\n10 8 1 1 0 0\nfinal 5000 8 0 0\n",
+        ),
+        // Two processors read their clocks: the second one's page is behind, and the clamp isn't.
+        (
+            b"clockboard 1\nguest 2000000\ncpus 2\nbegin\n0 0 wrmsr 4b564d01 1\n1 0 wrmsr 4b564d01 1\n0 1000 clock 0\n1 900 page 1\n1 900 clock 1\nend\n",
+            b"5 1\n6 2\n7 clock 1000 1000\n8 page 2 0 0 80000000 0 01 900\n9 clock 900 1000\nfinal 0 2 1000 -\n",
+        ),
+        // A line without a route goes to processor 0 with vector 30h and its number.
+        (
+            b"clockboard 1\nroute 8 0 40\nbegin\n0 0 out 43 10\n0 0 out 40 01\n0 2000 step\nend\n",
+            b"4 1\n5 2\nedge 1677 0 up 0 30\n6 3\nfinal 2000 3 0 0\n",
+        ),
+        // Format 2: eight timers.
+        (
+            b"clockboard 2\nbegin\n0 0 hr 0 8\n0 0 hr 1e0 8\nend\n",
+            b"3 1 009896808086a701\n4 2 00f0000000002830\nfinal 0 2 0 -\n",
+        ),
+    ];
+    for (trace, text) in traces {
+        expect(&rt, &["replay"], trace, &WELL, Status::Ok, text)?;
+    }
+    Ok(())
+}
+
+/// The status of a line outside the grammar.
+fn bad(line: u64, reason: Reason) -> Status {
+    Status::BadRecord { line, reason }
+}
+
+#[test]
 fn the_first_line_outside_ends_a_trace(rt: HostRuntime) -> Result<(), Fail> {
-    let traces: [(&[u8], u64, &[u8]); 6] = [
-        (b"", 1, b"refused 1 notbuilt\n"),
+    let traces: [(&[u8], Status, &[u8]); 8] = [
+        (b"", bad(1, Reason::NoEnd), b"refused 1 noend\n"),
         (
             b"clockboard 1\nbegin\n0 10 step",
-            4,
-            b"3 1\nrefused 4 notbuilt\n",
+            bad(4, Reason::NoEnd),
+            b"3 1\nrefused 4 noend\n",
         ),
         (
             b"clockboard 1\nbegin\n0 10 step\n0 9 step\nend\n",
-            4,
-            b"3 1\nrefused 4 notbuilt\n",
+            bad(4, Reason::CounterFell { before: 10 }),
+            b"3 1\nrefused 4 fell 10\n",
         ),
         (
             b"clockboard 1\nbegin\n1 0 step\nend\n",
-            3,
-            b"refused 3 notbuilt\n",
+            bad(3, Reason::Cpu),
+            b"refused 3 cpu\n",
+        ),
+        (
+            b"clockboard 1\nbegin\n0 0 rdmsr 4b564d03\nend\n",
+            bad(3, Reason::Steal),
+            b"refused 3 steal\n",
         ),
         (
             b"clockboard 1\nbegin\n0 00 step\nend\n",
-            3,
-            b"refused 3 notbuilt\n",
+            bad(3, Reason::Form),
+            b"refused 3 form\n",
         ),
         (
             b"clockboard 1\nbegin\n0 576460752303423488 step\nend\n",
-            3,
+            Status::OutOfRange {
+                line: 3,
+                ns: 576_460_752_303_423_488,
+            },
+            b"refused 3 range 576460752303423488\n",
+        ),
+        (
+            b"clockboard 1\nbegin\n0 0 save\nend\n",
+            Status::NotBuilt { line: 3 },
             b"refused 3 notbuilt\n",
         ),
     ];
-    for (trace, line, text) in traces {
-        expect(
-            &rt,
-            &["replay"],
-            trace,
-            &WELL,
-            Status::NotBuilt { line },
-            text,
-        )?;
+    for (trace, status, text) in traces {
+        expect(&rt, &["replay"], trace, &WELL, status, text)?;
     }
     let long = [b'0'; 129];
-    let line = Status::NotBuilt { line: 1 };
     expect(
         &rt,
         &["replay"],
         &long,
         &WELL,
-        line,
-        b"refused 1 notbuilt\n",
+        bad(1, Reason::TooLong),
+        b"refused 1 long\n",
     )?;
     Ok(())
 }

@@ -30,7 +30,7 @@ lines-preserved-in-Ok-None g c =
                 (stands_line g.row.T.Denot g.row.E.Denot g.T.Answerer.answer g.T.Answerer.closing c.args.answerer.now input m.0 m.1 c.lines.out.items c.answer_line.new.out.items _ _ (old.number + 1) c.lines.answerer c.answer_line.new.answerer old new m.4 l
                 (sym c.in-Ok-None.field-0-is ∙ c.in-Ok-None.ensures.ends ∙ ap end_of same)
                 (c.in-Ok-None.ensures.printed ∙ ap (λ (a : Answer g.row.T.Denot g.row.E.Denot). c.lines.out.items ++ printed a) same)
-                (c.in-Ok-None.ensures.state ∙ ap (λ (a : Answer g.row.T.Denot g.row.E.Denot). state_behind a c.lines.answerer) same)),
+                (c.in-Ok-None.ensures.state c.in-Ok-None.field-0-is ∙ ap (λ (a : Answer g.row.T.Denot g.row.E.Denot). state_behind a c.lines.answerer) same)),
           );
       may = subst (λ (n : ℕ). g.T.Answerer.may (n + 1) c.answer_line.new.answerer) c.number.ensures (c.in-Ok-None.ensures.may c.in-Ok-None.field-0-is);
       lines = omega (arith, l.number, line_shorter old new l, c.lines.invariant.lines);

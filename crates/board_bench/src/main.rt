@@ -1,0 +1,150 @@
+//! The program `board_bench`: how many accesses a second a board takes.
+//!
+//! With the word `time` it prints a line for each kind of access, on a board of format 1 with all devices running:
+//! counter 0 of the 8254 in mode 2, the periodic ticks of the MC146818, and a periodic timer of the HPET.
+#![tactic(auto)]
+
+use board_core::{Access, BoardState, Setup};
+use host_counter::Anchor;
+use rtc_calendar::TimeBytes;
+use std::rt::Clock;
+use std::time::Instant;
+use std::{env, io};
+use tick_policy::Policy;
+
+/// How the program is called.
+const USAGE: &str = "usage: board_bench time";
+
+/// How many accesses are timed.
+const CALLS: u32 = 200_000;
+
+/// Nanoseconds in a second.
+const SECOND: u128 = 1_000_000_000;
+
+/// A Saturday at midnight, in BCD.
+const MIDNIGHT: TimeBytes = TimeBytes {
+    sec: 0,
+    min: 0,
+    hour: 0,
+    wday: 7,
+    date: 1,
+    month: 1,
+    year: 0,
+};
+
+fn main(rt: HostRuntime) -> io::Result<()> {
+    let mut words = env::args(&rt)?.skip(1);
+    match words.next() {
+        Some(word) if word.as_bytes() == b"time".as_slice() => print_table(&rt),
+        _ => println!(rt; "{USAGE}"),
+    }
+}
+
+/// Times each kind of access.
+fn print_table(rt: &(impl Print + Clock)) -> io::Result<()> {
+    let mut board = running();
+    println!(rt; "an access                        nanoseconds    accesses a second")?;
+    let mut edges = 0u64;
+    let rows = [
+        ("port 40h, no time", Access::PortIn { port: 0x40 }, 0),
+        (
+            "HPET main counter, no time",
+            Access::HpetRead {
+                offset: 0xf0,
+                width: 8,
+            },
+            0,
+        ),
+        ("step of no time", Access::Step, 0),
+        ("step of 700 ns", Access::Step, 700),
+        ("acknowledgement, ticks waiting", Access::Ack { line: 0 }, 0),
+        ("TSC", Access::MsrRead { msr: 0x10 }, 0),
+        ("next edge", Access::Next, 0),
+    ];
+    for (name, access, gap) in rows {
+        edges = edges.wrapping_add(print_row(rt, name, &mut board, access, gap)?);
+    }
+    // the edges are used, so that no access can be left out
+    println!(rt; "edges: {edges}")
+}
+
+/// Times one kind of access, each a number of nanoseconds behind the last. Returns how many edges there were.
+fn print_row(
+    rt: &(impl Print + Clock),
+    name: &str,
+    board: &mut BoardState,
+    access: Access,
+    gap: u64,
+) -> io::Result<u64> {
+    let start = Instant::now(rt)?;
+    let edges = many(board, access, gap);
+    let nanoseconds = start.elapsed(rt)?.as_nanos();
+    println!(rt;
+        "{name:<32}{:>12}{:>21}",
+        nanoseconds / u128::from(CALLS),
+        u128::from(CALLS) * SECOND / nanoseconds.max(1)
+    )?;
+    Ok(edges)
+}
+
+/// Makes many accesses. Returns how many edges there were.
+fn many(board: &mut BoardState, access: Access, gap: u64) -> u64 {
+    let mut edges = 0u64;
+    let mut h = board.now();
+    for _ in 0..CALLS {
+        h = h.wrapping_add(gap);
+        edges = edges.wrapping_add(ask(board, h, access));
+    }
+    edges
+}
+
+/// One access of processor 0, where it is legal. Returns how many edges it brought.
+fn ask(board: &mut BoardState, h: u64, access: Access) -> u64 {
+    if board.cpus() == 0 || !access.legal(board.cpus(), board.format()) {
+        return 0;
+    }
+    match board.access(0, h, access) {
+        Ok(reply) => reply.edges.len() as u64,
+        Err(_) => 0,
+    }
+}
+
+/// A board with all devices running.
+fn running() -> BoardState {
+    let mut board = BoardState::power_on(&Setup {
+        format: 1,
+        anchor: Anchor {
+            khz: 1_000_000,
+            start: 0,
+            base_ns: 0,
+        },
+        guest_khz: 1_000_000,
+        cpus: 1,
+        pit: Policy::Delay,
+        rtc: Policy::Delay,
+        hpet: Policy::Delay,
+        slew_ns: 1_000_000,
+        wall_sec: 0,
+        wall_nsec: 0,
+        time: MIDNIGHT,
+    });
+    for (port, byte) in [
+        (0x43, 0x34),
+        (0x40, 4),
+        (0x40, 0),
+        (0x70, 0x0b),
+        (0x71, 0x42),
+    ] {
+        ask(&mut board, 0, Access::PortOut { port, byte });
+    }
+    for (offset, value) in [(0x100, 0x284c), (0x108, 100), (0x10, 1)] {
+        let write = Access::HpetWrite {
+            offset,
+            width: 8,
+            value,
+        };
+        ask(&mut board, 0, write);
+    }
+    ask(&mut board, 5_000, Access::Step);
+    board
+}

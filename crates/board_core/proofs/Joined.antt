@@ -1,0 +1,230 @@
+-- The conditions on the parts of a board are kept.
+use Rattle.std.proofs.Common.{
+  ◌≡◌,
+  ℕ,
+  zero,
+  suc,
+  ◌+◌,
+  ◌<◌,
+  ◌≤◌,
+  ◌⊎◌,
+  Bool,
+  true,
+  false,
+  cond,
+  leb,
+  eqb,
+  List,
+  length,
+  get_or,
+  set,
+  replicate,
+  Option,
+  Some,
+  None,
+  IfSome,
+  IsTrue,
+  refl,
+  sym,
+  ap,
+  subst,
+  ◌∙◌,
+  arith,
+  inl,
+  inr,
+}
+use Rattle.std.proofs.lemmas.Bool.{cases_lt, cases_eq}
+use Rattle.std.proofs.lemmas.List.{get_or-set_same, get_or-set_other}
+use Rattle.irq_edges.specs.declared.edges.Edge.{Edge}
+use Rattle.irq_edges.specs.Lines.{line_numbers, level_of}
+use Rattle.host_counter.specs.declared.Anchor.{Anchor}
+use Rattle.host_counter.specs.Time.{time_at}
+use Rattle.host_counter.proofs.Times.{time_at-mono}
+use Rattle.board_types.specs.declared.access.Access.{Access}
+use Rattle.board_types.specs.declared.access.Access.TheVariants.{MsrWrite}
+use Rattle.board_types.specs.declared.access.TheConstants.{MSR_KVM_WALL_CLOCK}
+use Rattle.board_types.specs.declared.parts.BoardParts.{BoardParts}
+use Rattle.board_types.specs.declared.parts.ProcessorParts.{ProcessorParts}
+use Rattle.board_types.specs.declared.parts.TheConstants.{LAST_VERSION}
+use Rattle.board_types.specs.Setup.{processors_of}
+use Rattle.board_devices.specs.Rises.{lifts, one_if, rises_with}
+use Rattle.board_devices.proofs.Rises.{at-counted}
+use Rattle.board_core.specs.Time.{HasTime, now_of, time_of_access}
+use Rattle.board_core.specs.Tsc.{no_processor}
+use Rattle.board_core.specs.Pages.{published, prepared, published_at, published_by, processors_after}
+use Rattle.board_core.specs.Wall.{wall_number_after, wall_version_after, publishes_wall}
+use Rattle.board_core.specs.Rises.{rises_after}
+use Rattle.board_core.specs.Conditions.{IsFormat, IsVersion, IsWall, flags_valid, IsProcessor, AreProcessors, AreRises}
+use Rattle.board_core.specs.Upgrade.{gets_timers}
+
+-- a count up to the board's has a time, and moves none
+pub early : (b : BoardParts) (h : ℕ) → 0 < b.anchor.khz → HasTime b.anchor b.host → b.anchor.start ≤ h → h ≤ b.host
+    → HasTime b.anchor h × (now_of b ≡ time_of_access b h)
+early b h runs host started le =
+    let before : time_at b.anchor h ≤ now_of b = time_at-mono b.anchor h b.host runs le in
+    (record { started = started; range = omega (arith, before, host.range) }, omega (arith, before))
+
+-- a version that is raised
+pub IsVersion-raised : (n : ℕ) → IsVersion n → n < LAST_VERSION → IsVersion (n + 2)
+IsVersion-raised n valid less = record { most = omega (arith, valid.even); even = omega (arith, valid.even) }
+
+-- a processor at power on, and one that is published
+pub IsProcessor-none : (guest_khz : ℕ) → IsProcessor guest_khz no_processor
+IsProcessor-none guest_khz = record {
+  version = record { most = omega arith; even = omega arith };
+  time = omega arith;
+  unpublished = λ e. refl;
+  flags = λ less. absurd (omega arith);
+  mul = λ less. absurd (omega arith);
+  shift = λ less. absurd (omega arith);
+}
+
+pub IsProcessor-published : (anchor : Anchor) (guest_khz h flags : ℕ) (p : ProcessorParts) → IsVersion p.version → p.version < LAST_VERSION
+    → HasTime anchor h → IsTrue (flags_valid flags) → IsProcessor guest_khz (published anchor guest_khz h flags p)
+unfolding published
+IsProcessor-published anchor guest_khz h flags p valid less time stable = record {
+  version = IsVersion-raised p.version valid less;
+  time = time.range;
+  unpublished = λ e. absurd (omega (arith, e));
+  flags = λ some. stable;
+  mul = λ some. refl;
+  shift = λ some. refl;
+}
+
+-- the processors, with one of them set
+pub AreProcessors-set : (guest_khz cpus : ℕ) (ps : List ProcessorParts) (i : ℕ) (x : ProcessorParts) → length ps ≡ 64 → i < cpus → cpus ≤ 64
+    → AreProcessors guest_khz cpus ps → IsProcessor guest_khz x → AreProcessors guest_khz cpus (set ps i x)
+AreProcessors-set guest_khz cpus ps i x long inside most valid new = record { each = at; absent = others }
+  where
+    at : (k : ℕ) → IsProcessor guest_khz (get_or (set ps i x) k no_processor)
+    at k = elim (cases_eq k i) [
+      | inl same ↦ subst (λ (p : ProcessorParts). IsProcessor guest_khz p)
+          (sym (ap (λ (j : ℕ). get_or (set ps i x) j no_processor) same ∙ get_or-set_same ps i x no_processor (omega (arith, long)))) new
+      | inr other ↦ subst (λ (p : ProcessorParts). IsProcessor guest_khz p) (sym (get_or-set_other ps i k x no_processor other)) (valid.each k)
+    ]
+
+    others : (k : ℕ) → cpus ≤ k → get_or (set ps i x) k no_processor ≡ no_processor
+    others k more = get_or-set_other ps i k x no_processor (λ (e : k ≡ i). omega (arith, e)) ∙ valid.absent k more
+
+prepared-version : (anchor : Anchor) (guest_khz h : ℕ) (a : Access) (p : ProcessorParts) → (prepared anchor guest_khz h a p).version ≡ p.version
+prepared-version anchor guest_khz h (MsrWrite msr v) p = refl
+prepared-version anchor guest_khz h _ p = refl
+
+-- the processors after an access
+module _ (anchor : Anchor) (guest_khz cpus h : ℕ) (a : Access) (ps : List ProcessorParts) (long : length ps ≡ 64) (most : cpus ≤ 64)
+    (valid : AreProcessors guest_khz cpus ps) (time : HasTime anchor h) where
+  at : (place : Option ℕ) → IfSome place (λ k. k < cpus) → IfSome place (λ k. (get_or ps k no_processor).version < LAST_VERSION)
+      → AreProcessors guest_khz cpus (published_at place anchor guest_khz h a ps)
+  at None inside fresh = valid
+  at (Some k) inside fresh =
+      let p : ProcessorParts = get_or ps k no_processor in
+      let same : (prepared anchor guest_khz h a p).version ≡ p.version = prepared-version anchor guest_khz h a p in
+      AreProcessors-set guest_khz cpus ps k _ long inside most valid
+      (IsProcessor-published anchor guest_khz h 1 (prepared anchor guest_khz h a p)
+      (subst IsVersion (sym same) (valid.each k).version) (omega (arith, same, fresh)) time refl)
+
+  pub AreProcessors-after : (cpu : ℕ) → IfSome (published_by cpu a) (λ k. k < cpus)
+      → IfSome (published_by cpu a) (λ k. (get_or ps k no_processor).version < LAST_VERSION)
+      → AreProcessors guest_khz cpus (processors_after anchor guest_khz cpu h a ps)
+  unfolding processors_after
+  AreProcessors-after cpu inside fresh = at (published_by cpu a) inside fresh
+
+pub AreProcessors-none : (guest_khz cpus n : ℕ) → AreProcessors guest_khz cpus (replicate n no_processor)
+AreProcessors-none guest_khz cpus n = record {
+  each = λ k. subst (λ (p : ProcessorParts). IsProcessor guest_khz p) (sym (none n k)) (IsProcessor-none guest_khz);
+  absent = λ k more. none n k;
+}
+  where
+    none : (n k : ℕ) → get_or (replicate n no_processor) k no_processor ≡ no_processor
+    none zero k = refl
+    none (suc n) zero = refl
+    none (suc n) (suc k) = none n k
+
+-- the counts of rises behind these edges
+pub AreRises-after : (format n m d : ℕ) (before after : List Bool) (es : List Edge) (rises : List ℕ) → length rises ≡ 6 → n + d ≡ m
+    → AreRises format n before rises
+    → ((line : ℕ) → lifts line es + one_if (level_of line_numbers before line) ≤ d + one_if (level_of line_numbers after line))
+    → AreRises format m after (rises_after format es rises)
+AreRises-after format n m d before after es rises long sum valid lifted = record {
+  most = λ k less. omega (arith, at-counted (leb 2 format) es rises k long less, valid.most k less, lifted (get_or line_numbers k 0));
+  none = λ old k. ap (λ (b : Bool). get_or (cond b (rises_with es line_numbers rises) rises) k 0) (old_format format old) ∙ valid.none old k;
+}
+  where
+    old_format : (format : ℕ) → format ≤ 1 → leb 2 format ≡ false
+    old_format format le = grind arith
+
+pub AreRises-none : (format accesses n : ℕ) (lines : List Bool) → AreRises format accesses lines (replicate n 0)
+AreRises-none format accesses n lines = record { most = λ k less. omega (arith, zeros n k); none = λ old k. zeros n k }
+  where
+    zeros : (n k : ℕ) → get_or (replicate {A = ℕ} n 0) k 0 ≡ 0
+    zeros zero k = refl
+    zeros (suc n) zero = refl
+    zeros (suc n) (suc k) = zeros n k
+
+-- the wall clock behind an access
+pub IsWall-after : (a : Access) (number version nsec : ℕ) → (publishes_wall a ≡ true → version < LAST_VERSION) → IsWall number version nsec
+    → IsWall (wall_number_after a number) (wall_version_after a version) nsec
+IsWall-after (MsrWrite msr v) number version nsec fresh valid = elim (eqb msr MSR_KVM_WALL_CLOCK) as
+    (λ (b : Bool). (b ≡ true → version < LAST_VERSION) → IsWall (cond b v number) (cond b (version + 2) version) nsec) [
+      | true ↦ λ less. record {
+        words = IsVersion-raised version valid.words (less refl);
+        unpublished = λ e. absurd
+            (omega (arith, e));
+        below_second = valid.below_second;
+      }
+      | false ↦ λ less. valid
+    ] fresh
+IsWall-after _ number version nsec fresh valid = valid
+
+-- no format has more than 64 processors
+processors_of-most : (format : ℕ) → processors_of format ≤ 64
+processors_of-most format = by (leb format 1)
+  where
+    by : (b : Bool) → cond b 16 64 ≤ 64
+    by true = omega arith
+    by false = omega arith
+
+pub most-cpus : (format cpus timers : ℕ) → IsFormat format cpus timers → cpus ≤ 64
+most-cpus format cpus timers valid = omega (arith, valid.most_cpus, processors_of-most format)
+
+-- a later format
+pub IsFormat-later : (format to cpus timers more : ℕ) → IsFormat format cpus timers → format ≤ to → to ≤ 2
+    → more ≡ cond (gets_timers format to) 8 timers → IsFormat to cpus more
+IsFormat-later format to cpus timers more valid later built e = elim (cases_lt format 2) [
+  | inl old ↦
+      let first : 1 ≡ format = omega (arith, valid.least) in
+      from first (elim (cases_lt to 2) [
+        | inl stays ↦ let same : 1 ≡ to = omega (arith, valid.least) in inl same
+        | inr grows ↦ let second : 2 ≡ to = omega arith in inr second
+      ])
+  | inr new ↦
+      let second : 2 ≡ format = omega (arith, valid.last) in
+      let same : 2 ≡ to = omega (arith, valid.last) in
+      let timers_are : more ≡ timers = subst (λ (f : ℕ). more ≡ cond (gets_timers f to) 8 timers) (sym second) e in
+      subst (λ (f : ℕ). IsFormat f cpus more) (sym second ∙ same) (subst (λ (n : ℕ). IsFormat format cpus n) (sym timers_are) valid)
+]
+  where
+    from : 1 ≡ format → (1 ≡ to) ⊎ (2 ≡ to) → IsFormat to cpus more
+    from first (inl same) =
+        let timers_are : more ≡ timers = subst (λ (t : ℕ). more ≡ cond (gets_timers 1 t) 8 timers) (sym same)
+        (subst (λ (f : ℕ). more ≡ cond (gets_timers f to) 8 timers) (sym first) e) in
+        subst (λ (f : ℕ). IsFormat f cpus more) (sym first ∙ same) (subst (λ (n : ℕ). IsFormat format cpus n) (sym timers_are) valid)
+    from first (inr second) =
+        let eight : more ≡ 8 = subst (λ (t : ℕ). more ≡ cond (gets_timers 1 t) 8 timers) (sym second)
+        (subst (λ (f : ℕ). more ≡ cond (gets_timers f to) 8 timers) (sym first) e) in
+        let old : IsFormat 1 cpus timers = subst (λ (f : ℕ). IsFormat f cpus timers) (sym first) valid in
+        subst (λ (f : ℕ). IsFormat f cpus more) second (record {
+          least = omega arith;
+          last = omega arith;
+          least_cpus = valid.least_cpus;
+          most_cpus = omega (arith, old.most_cpus);
+          has_timers = eight;
+        })
+
+pub AreRises-later : (format to accesses : ℕ) (lines more : List Bool) (rises : List ℕ) → AreRises format accesses lines rises → format ≤ to
+    → lines ≡ more → AreRises to accesses more rises
+AreRises-later format to accesses lines more rises valid later same = record {
+  most = λ k less. subst (λ (ls : List Bool). get_or rises k 0 ≤ accesses + one_if (level_of line_numbers ls (get_or line_numbers k 0))) same
+      (valid.most k less);
+  none = λ first k. valid.none (omega (arith, later)) k;
+}

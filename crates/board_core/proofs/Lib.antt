@@ -1,0 +1,10 @@
+pub mod Times
+pub mod Timers
+pub mod Nexts
+pub mod Joined
+pub mod Values
+pub mod Steps
+pub mod Legals
+pub mod Upgrades
+pub mod Laws
+mod Rows

@@ -1,0 +1,40 @@
+-- A board behind an access, by its parts.
+use Rattle.std.proofs.Common.{◌≡◌, ℕ, ◌+◌, List, ap, ◌∙◌}
+use Rattle.board_types.specs.declared.access.Access.{Access}
+use Rattle.board_types.specs.declared.parts.BoardParts.{BoardParts}
+use Rattle.board_types.specs.declared.parts.ProcessorParts.{ProcessorParts}
+use Rattle.board_devices.specs.declared.parts.DeviceParts.{DeviceParts}
+use Rattle.board_devices.specs.Act.{acted}
+use Rattle.board_core.specs.Time.{devices_in}
+use Rattle.board_core.specs.Pages.{processors_after}
+use Rattle.board_core.specs.Wall.{wall_number_after, wall_version_after}
+use Rattle.board_core.specs.Rises.{rises_after}
+use Rattle.board_core.specs.Access.{act_of, own_edges, after_act}
+
+abbrev pub with_parts : BoardParts → DeviceParts → ℕ → ℕ → List ProcessorParts → List ℕ → BoardParts
+with_parts b d number version ps rises = record b {
+  accesses = b.accesses + 1;
+  pit = d.pit;
+  rtc = d.rtc;
+  hpet = d.hpet;
+  ticks = d.ticks;
+  slew_ns = d.slew_ns;
+  wall_number = number;
+  wall_version = version;
+  processors = ps;
+  rises = rises;
+}
+
+pub with_parts-is : (b : BoardParts) (cpu h : ℕ) (a : Access) (d : DeviceParts) (number version : ℕ) (ps : List ProcessorParts) (rises : List ℕ)
+    → d ≡ acted (act_of a) (devices_in b) → number ≡ wall_number_after a b.wall_number → version ≡ wall_version_after a b.wall_version
+    → ps ≡ processors_after b.anchor b.guest_khz cpu h a b.processors → rises ≡ rises_after b.format (own_edges b a) b.rises
+    → with_parts b d number version ps rises ≡ after_act b cpu h a
+unfolding after_act
+with_parts-is b cpu h a d number version ps rises ds ns vs pss rs =
+    ap (λ (x : DeviceParts). with_parts b x number version ps rises) ds
+    ∙ ap (λ (x : ℕ). with_parts b (acted (act_of a) (devices_in b)) x version ps rises) ns
+    ∙ ap (λ (x : ℕ). with_parts b (acted (act_of a) (devices_in b)) (wall_number_after a b.wall_number) x ps rises) vs
+    ∙ ap (λ (x : List ProcessorParts). with_parts b (acted (act_of a) (devices_in b)) (wall_number_after a b.wall_number)
+    (wall_version_after a b.wall_version) x rises) pss
+    ∙ ap (with_parts b (acted (act_of a) (devices_in b)) (wall_number_after a b.wall_number) (wall_version_after a b.wall_version)
+    (processors_after b.anchor b.guest_khz cpu h a b.processors)) rs

@@ -1,0 +1,37 @@
+use Rattle.std.proofs.Common.{◌≡◌, ℕ, ap, sym, refl, ◌∙◌, arith}
+use Rattle.host_counter.proofs.Times.{time_at-start}
+use Rattle.board_devices.specs.declared.parts.DeviceParts.{DeviceParts}
+use Rattle.board_devices.specs.Places.{line_at}
+use Rattle.board_devices.proofs.PowerOn.{due_at_power_on}
+use Rattle.board_types.specs.Setup.{timers_of}
+use Rattle.board_core.specs.PowerOn.{devices_of_setup}
+use Rattle.board_core.proofs.Joined.{AreProcessors-none, AreRises-none}
+use Rattle.board_core.proofs.board.BoardState.power_on.Goals as goal
+
+pub invariant_of-result : goal.invariant_of-result
+invariant_of-result c = record {
+  time = sym (time_at-start c.args.setup.now.anchor);
+  joined = record {
+    format = record {
+      least = c.requires.least_format;
+      last = c.requires.last_format;
+      least_cpus = c.requires.least_cpus;
+      most_cpus = c.requires.most_cpus;
+      has_timers = ap (λ (d : DeviceParts). d.hpet.timers) c.devices_of_setup.ensures;
+    };
+    rates = record {
+      host = record { slow = c.requires.slow; fast = c.requires.fast };
+      guest = record { slow = c.requires.guest_slow; fast = c.requires.guest_fast };
+    };
+    time = record { started = omega arith; range = omega (arith, time_at-start c.args.setup.now.anchor, c.requires.base) };
+    accesses = omega arith;
+    due = λ k less. omega (arith, ap (λ (d : DeviceParts). (line_at k d).counts.due) c.devices_of_setup.ensures ∙ none k);
+    wall = record { words = record { most = omega arith; even = omega arith }; unpublished = λ e. refl; below_second = c.requires.wall_nsec };
+    processors = AreProcessors-none c.args.setup.now.guest_khz c.args.setup.now.cpus 64;
+    rises = AreRises-none c.args.setup.now.format 0 6 _;
+  };
+}
+  where
+    none : (k : ℕ) → (line_at k (devices_of_setup c.args.setup.now)).counts.due ≡ 0
+    none k = due_at_power_on (timers_of c.args.setup.now.format) c.args.setup.now.pit c.args.setup.now.rtc c.args.setup.now.hpet
+        c.args.setup.now.slew_ns c.args.setup.now.time k

@@ -1,0 +1,53 @@
+use Rattle.std.proofs.Common.{◌≡◌, ℕ, ◌+◌, ◌-◌, ◌<◌, ◌≤◌, List, ◌++◌, ap, sym, subst, ◌∙◌, arith}
+use Rattle.clk_units.specs.declared.ranges.TheConstants.{RANGE_NS}
+use Rattle.irq_edges.specs.declared.edges.Edge.{Edge}
+use Rattle.host_counter.specs.declared.Anchor.{Anchor}
+use Rattle.host_counter.specs.Time.{time_at}
+use Rattle.host_counter.proofs.Times.{time_at-start}
+use Rattle.board_types.specs.declared.parts.BoardParts.{BoardParts}
+use Rattle.board_devices.specs.declared.parts.DeviceParts.{DeviceParts}
+use Rattle.board_devices.specs.Places.{line_at}
+use Rattle.board_devices.specs.Lines.{levels}
+use Rattle.board_devices.specs.Rises.{lifts}
+use Rattle.board_devices.specs.Run.{run}
+use Rattle.board_core.specs.Time.{now_of}
+use Rattle.board_core.specs.Conditions.{IsFormat, AreRises}
+use Rattle.board_core.specs.View.{board_parts_of}
+use Rattle.board_core.proofs.Timers.{timers-run}
+use Rattle.board_core.proofs.Joined.{AreRises-after}
+use Rattle.board_core.proofs.board.BoardState.reanchor.Goals as goal
+
+pub invariant_of-self : goal.invariant_of-self
+invariant_of-self c =
+    let to : ℕ = c.self.inside.time_ns + c.args.gap in
+    let anchor : Anchor = record { khz = c.args.khz; start = c.args.start; base_ns = to } in
+    let now_is : time_at anchor c.args.start ≡ to = time_at-start anchor in
+    let from : c.self.inside.time_ns ≡ now_of (board_parts_of c.self.inside) = c.self.invariant.time in
+    let small : now_of (board_parts_of c.self.inside) + c.args.gap < RANGE_NS = subst (λ (b : BoardParts). now_of b + c.args.gap < RANGE_NS)
+    (sym c.self.view_is) c.requires.range in
+    let ran : List Edge = (run c.self.inside.time_ns (to - c.self.inside.time_ns) c.self.inside.devices).edges in
+    let es : c.run_to.new.edges ≡ ran = c.run_to.ensures.edges ∙ ap (λ (es : List Edge). es ++ ran) c.new-edges.ensures in
+    record {
+      time = sym now_is;
+      joined = record {
+        format = subst (λ (n : ℕ). IsFormat c.self.inside.format c.self.inside.cpus n)
+            (sym (ap (λ (d : DeviceParts). d.hpet.timers) c.run_to.ensures.state
+            ∙ timers-run c.self.inside.time_ns (to - c.self.inside.time_ns) c.self.inside.devices))
+            c.self.invariant.joined.format;
+        rates = record { host = c.requires.rate; guest = c.self.invariant.joined.rates.guest };
+        time = record {
+          started = omega arith;
+          range = let r : time_at anchor c.args.start < RANGE_NS = omega (arith, now_is, from, small) in r;
+        };
+        accesses = c.self.invariant.joined.accesses;
+        due = λ k less.
+            let r : (line_at k c.run_to.new.self).counts.due ≤ time_at anchor c.args.start + c.self.inside.accesses =
+            omega (arith, c.run_to.ensures.due k less, c.self.invariant.joined.due k less, from, now_is) in r;
+        wall = c.self.invariant.joined.wall;
+        processors = c.self.invariant.joined.processors;
+        rises = subst (λ (rs : List ℕ). AreRises c.self.inside.format c.self.inside.accesses (levels c.run_to.new.self) rs) (sym c.count_rises.ensures)
+            (AreRises-after c.self.inside.format c.self.inside.accesses c.self.inside.accesses 0 (levels c.self.inside.devices) (levels c.run_to.new.self)
+            c.run_to.new.edges c.self.inside.rises (omega arith) (omega arith) c.self.invariant.joined.rises
+            (λ line. omega (arith, ap (lifts line) es, c.run_to.ensures.lifts line)));
+      };
+    }

@@ -1,0 +1,40 @@
+use Rattle.std.proofs.Common.{◌≡◌, ℕ, ◌≤◌, ◌+◌, Bool, cond, List, get_or, ap, sym, subst, ◌∙◌, arith}
+use Rattle.host_counter.specs.Time.{time_at}
+use Rattle.hpet_registers.specs.declared.parts.HpetParts.{HpetParts}
+use Rattle.tick_policy.specs.declared.parts.TickParts.{TickParts}
+use Rattle.board_types.specs.declared.parts.BoardParts.{BoardParts}
+use Rattle.board_devices.specs.declared.parts.DeviceParts.{DeviceParts}
+use Rattle.board_devices.specs.Places.{no_line, line_at}
+use Rattle.board_devices.specs.Lines.{levels}
+use Rattle.board_core.specs.Upgrade.{gets_timers}
+use Rattle.board_core.proofs.Upgrades.{timers-later, due-later}
+use Rattle.board_core.proofs.Joined.{IsFormat-later, AreRises-later}
+use Rattle.board_core.proofs.board.BoardState.upgraded.Goals as goal
+
+pub invariant_of-board : goal.invariant_of-board
+invariant_of-board c =
+    let d : DeviceParts = c.self.inside.devices in
+    let later : c.self.inside.format ≤ c.args.to = subst (λ (b : BoardParts). b.format ≤ c.args.to) (sym c.self.view_is) c.requires.later in
+    let timers : c.devices_upgraded-devices.result.hpet.timers ≡ cond (gets_timers c.self.inside.format c.args.to) 8 d.hpet.timers =
+    ap (λ (h : HpetParts). h.timers) c.devices_upgraded-devices.ensures.hpet ∙ timers-later c.gets_timers.result d
+    ∙ ap (λ (b : Bool). let n : ℕ = cond b 8 d.hpet.timers in n) c.gets_timers.ensures in
+    record {
+      time = c.self.invariant.time;
+      joined = record {
+        format = IsFormat-later c.self.inside.format c.args.to c.self.inside.cpus d.hpet.timers c.devices_upgraded-devices.result.hpet.timers
+            c.self.invariant.joined.format later c.requires.built timers;
+        rates = c.self.invariant.joined.rates;
+        time = c.self.invariant.joined.time;
+        accesses = c.self.invariant.joined.accesses;
+        due = λ k less.
+            let fewer : (get_or c.devices_upgraded-devices.result.ticks k no_line).counts.due ≤ (line_at k d).counts.due =
+            subst (λ (ls : List TickParts). (get_or ls k no_line).counts.due ≤ (line_at k d).counts.due) (sym c.devices_upgraded-devices.ensures.ticks)
+            (due-later c.gets_timers.result d k) in
+            let r : (line_at k c.devices_upgraded-devices.result).counts.due ≤ time_at c.self.inside.anchor c.self.inside.host + c.self.inside.accesses =
+            omega (arith, fewer, c.self.invariant.joined.due k less) in r;
+        wall = c.self.invariant.joined.wall;
+        processors = c.self.invariant.joined.processors;
+        rises = AreRises-later c.self.inside.format c.args.to c.self.inside.accesses (levels d) (levels c.devices_upgraded-devices.result) c.self.inside.rises
+            c.self.invariant.joined.rises later (sym c.devices_upgraded-devices.ensures.levels);
+      };
+    }

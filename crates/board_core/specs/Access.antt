@@ -1,0 +1,168 @@
+-- One access: the devices run to its time, it acts once, and it is answered.
+use Rattle.std.specs.Prelude.{
+  ℕ,
+  ◌+◌,
+  ◌-◌,
+  ◌==◌,
+  max,
+  if◌then◌else◌,
+  List,
+  ◌++◌,
+}
+use Rattle.irq_edges.specs.declared.edges.Edge.{Edge}
+use Rattle.irq_edges.specs.Lines.{line_numbers}
+use Rattle.board_types.specs.declared.access.Access.{Access}
+use Rattle.board_types.specs.declared.access.Access.TheVariants.{
+  PortIn,
+  PortOut,
+  HpetRead,
+  HpetWrite,
+  MsrRead,
+  MsrWrite,
+  Ack,
+  Step,
+  Refresh,
+  Wall,
+  CountsOf,
+  Next,
+  Rose,
+}
+use Rattle.board_types.specs.declared.access.TickSource.{TickSource}
+use Rattle.board_types.specs.declared.access.TickSource.TheVariants.{Pit, Rtc, Hpet}
+use Rattle.board_types.specs.declared.parts.BoardParts.{BoardParts}
+use Rattle.board_types.specs.declared.reply.Reply.{Reply}
+use Rattle.board_types.specs.declared.reply.Value.{Value}
+use Rattle.board_types.specs.declared.reply.Value.TheVariants.{
+  Nothing,
+  Byte,
+  Word,
+  Counts,
+  Next as NextEdge,
+}
+use Rattle.board_devices.specs.declared.parts.DeviceParts.{DeviceParts}
+use Rattle.board_devices.specs.declared.act.Act.{Act}
+use Rattle.board_devices.specs.declared.act.Act.TheVariants.{
+  PitRead,
+  PitWrite,
+  IndexRead,
+  IndexWrite,
+  ClockRead,
+  ClockWrite,
+  HpetRead as ReadHpet,
+  HpetWrite as WriteHpet,
+  Ack as AckLine,
+  Nothing as NoAct,
+}
+use Rattle.board_devices.specs.Places.{line_at}
+use Rattle.board_devices.specs.Run.{Ran, run}
+use Rattle.board_devices.specs.Act.{acted, act_edges, value_of}
+use Rattle.board_core.specs.Time.{devices_in, now_of, time_of_access}
+use Rattle.board_core.specs.Tsc.{msr_read}
+use Rattle.board_core.specs.Pages.{processors_after}
+use Rattle.board_core.specs.Wall.{wall_number_after, wall_version_after, wall_words}
+use Rattle.board_core.specs.Next.{next_of}
+use Rattle.board_core.specs.Rises.{rises_after, count_at}
+
+-- what a read or a write of a port asks of the devices: 70h is the index of the MC146818, 71h the
+-- byte there, and the others are ports of the 8254
+abbrev pub read_of_port : ℕ → Act
+read_of_port port =
+    if port == 0x70 then IndexRead else (if port == 0x71 then ClockRead else PitRead port)
+
+abbrev pub write_of_port : ℕ → ℕ → Act
+write_of_port port byte =
+    if port == 0x70 then IndexWrite byte
+    else (if port == 0x71 then ClockWrite byte else PitWrite port byte)
+
+-- what an access asks of the devices
+abbrev pub act_of : Access → Act
+act_of (PortIn port) = read_of_port port
+act_of (PortOut port byte) = write_of_port port byte
+act_of (HpetRead offset width) = ReadHpet offset width
+act_of (HpetWrite offset width value) = WriteHpet offset width value
+act_of (MsrRead msr) = NoAct
+act_of (MsrWrite msr value) = NoAct
+act_of (Ack line) = AckLine line
+act_of Step = NoAct
+act_of (Refresh page) = NoAct
+act_of Wall = NoAct
+act_of (CountsOf from) = NoAct
+act_of Next = NoAct
+act_of (Rose line) = NoAct
+
+-- the run up to the time of an access at count h: what it leaves, and its edges
+abbrev pub ran_to : BoardParts → ℕ → Ran
+ran_to b h = run (now_of b) (time_of_access b h - now_of b) (devices_in b)
+
+-- the board at that time, with the access still to come
+unfoldable pub after_run : BoardParts → ℕ → BoardParts
+after_run b h = record b {
+  host = max b.host h;
+  pit = (ran_to b h).state.pit;
+  rtc = (ran_to b h).state.rtc;
+  hpet = (ran_to b h).state.hpet;
+  ticks = (ran_to b h).state.ticks;
+  slew_ns = (ran_to b h).state.slew_ns;
+  rises = rises_after b.format (ran_to b h).edges b.rises;
+}
+
+-- the place of a source's tick line
+abbrev pub place_of_source : TickSource → ℕ
+place_of_source Pit = 0
+place_of_source Rtc = 1
+place_of_source (Hpet timer) = timer + 2
+
+-- what an access at count h reads of a board that has run to its time: a port gives a byte, the
+-- HPET a word of the width, an MSR and a count of rises a word of 8 bytes
+unfoldable pub value_at : BoardParts → ℕ → ℕ → Access → Value
+value_at b cpu h (PortIn port) = Byte (value_of (now_of b) (read_of_port port) (devices_in b))
+value_at b cpu h (PortOut port byte) = Nothing
+value_at b cpu h (HpetRead offset width) =
+    Word width (value_of (now_of b) (ReadHpet offset width) (devices_in b))
+value_at b cpu h (HpetWrite offset width value) = Nothing
+value_at b cpu h (MsrRead msr) = Word 8 (msr_read b cpu h msr)
+value_at b cpu h (MsrWrite msr value) = Nothing
+value_at b cpu h (Ack line) = Nothing
+value_at b cpu h Step = Nothing
+value_at b cpu h (Refresh page) = Nothing
+value_at b cpu h Wall = wall_words b
+value_at b cpu h (CountsOf from) = Counts (line_at (place_of_source from) (devices_in b)).counts
+value_at b cpu h Next = NextEdge (next_of (now_of b) (devices_in b))
+value_at b cpu h (Rose line) = Word 8 (count_at line_numbers b.rises line)
+
+-- the edges of the access itself, part after part
+abbrev pub own_edges : BoardParts → Access → List Edge
+own_edges b a = act_edges (now_of b) (act_of a) (devices_in b)
+
+-- such a board behind the access: what isn't named here stays
+unfoldable pub after_act : BoardParts → ℕ → ℕ → Access → BoardParts
+after_act b cpu h a =
+    let d : DeviceParts = acted (act_of a) (devices_in b) in
+    record b {
+      accesses = b.accesses + 1;
+      pit = d.pit;
+      rtc = d.rtc;
+      hpet = d.hpet;
+      ticks = d.ticks;
+      slew_ns = d.slew_ns;
+      wall_number = wall_number_after a b.wall_number;
+      wall_version = wall_version_after a b.wall_version;
+      processors = processors_after b.anchor b.guest_khz cpu h a b.processors;
+      rises = rises_after b.format (own_edges b a) b.rises;
+    }
+
+-- the edges of an access: those of the run, and then its own
+unfoldable pub edges_of : BoardParts → ℕ → Access → List Edge
+edges_of b h a = (ran_to b h).edges ++ own_edges (after_run b h) a
+
+-- what an access is answered: the number that follows, its value, its edges
+unfoldable pub reply_of : BoardParts → ℕ → ℕ → Access → Reply
+reply_of b cpu h a = record {
+  number = b.accesses + 1;
+  value = value_at (after_run b h) cpu h a;
+  edges = edges_of b h a;
+}
+
+-- the board after an access
+unfoldable pub after_access : BoardParts → ℕ → ℕ → Access → BoardParts
+after_access b cpu h a = after_act (after_run b h) cpu h a

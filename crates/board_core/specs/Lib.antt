@@ -1,0 +1,14 @@
+pub mod Time
+pub mod Tsc
+pub mod Pages
+pub mod Wall
+pub mod Next
+pub mod Rises
+pub mod Access
+pub mod Refusals
+pub mod Reanchor
+pub mod PowerOn
+pub mod Upgrade
+pub mod Conditions
+pub mod View
+pub mod private

@@ -1,0 +1,134 @@
+-- The pages of the paravirtual clock: publishing, reading, and the clamp (Linux, msr.rst,
+-- "MSR_KVM_SYSTEM_TIME_NEW", and pvclock-abi.h).
+use Rattle.std.specs.Prelude.{
+  ℕ,
+  ◌+◌,
+  ◌*◌,
+  ◌==◌,
+  ◌||◌,
+  max,
+  if◌then◌else◌,
+  List,
+  slice_index_or,
+  slice_set,
+  Option,
+  Some,
+  None,
+}
+use Rattle.clk_units.specs.Bits.{bit}
+use Rattle.host_counter.specs.declared.Anchor.{Anchor}
+use Rattle.host_counter.specs.Time.{time_at}
+use Rattle.tsc_scale.specs.declared.Tsc.{Tsc}
+use Rattle.tsc_scale.specs.Offset.{tsc_by}
+use Rattle.tsc_scale.specs.Ratio.{ratio_of}
+use Rattle.pvclock_page.specs.Scale.{mul_for, shift_for}
+use Rattle.pvclock_page.specs.declared.page.Page.{Page}
+use Rattle.pvclock_page.specs.declared.page.PageReply.{PageReply}
+use Rattle.pvclock_page.specs.declared.page.PageReply.TheVariants.{Off, On}
+use Rattle.pvclock_page.specs.declared.page.ClockReply.{ClockReply}
+use Rattle.pvclock_page.specs.declared.page.ClockReply.TheVariants.{Off as ClockOff, On as ClockOn}
+use Rattle.pvclock_page.specs.Reading.{reading_of}
+use Rattle.board_types.specs.declared.access.Access.{Access}
+use Rattle.board_types.specs.declared.access.Access.TheVariants.{Refresh, MsrWrite}
+use Rattle.board_types.specs.declared.access.TheConstants.{
+  MSR_TSC,
+  MSR_TSC_ADJUST,
+  MSR_KVM_SYSTEM_TIME,
+}
+use Rattle.board_types.specs.declared.parts.BoardParts.{BoardParts}
+use Rattle.board_types.specs.declared.parts.ProcessorParts.{ProcessorParts}
+use Rattle.board_core.specs.Tsc.{no_processor, processor_at, with_tsc, tsc_read, msr_written}
+
+-- a processor's page is published at count h, with these flags: its version goes up by 2, and it
+-- tells the TSC and the time at h, and the scale of the guest's rate
+unfoldable pub published : Anchor → ℕ → ℕ → ℕ → ProcessorParts → ProcessorParts
+published anchor guest_khz h flags p = record p {
+  version = p.version + 2;
+  tsc_timestamp = tsc_read anchor guest_khz h p;
+  system_time = time_at anchor h;
+  mul = mul_for (guest_khz * 1000);
+  shift = shift_for (guest_khz * 1000);
+  flags = flags;
+}
+
+-- the page of a processor; bit 0 of the number in MSR_KVM_SYSTEM_TIME_NEW enables it
+abbrev pub page_in : ProcessorParts → Page
+page_in p = record {
+  version = p.version;
+  tsc_timestamp = p.tsc_timestamp;
+  system_time = p.system_time;
+  mul = p.mul;
+  shift = p.shift;
+  flags = p.flags;
+  offset = p.offset;
+  enabled = bit 0 p.number;
+}
+
+-- the page that a write to an MSR publishes: one to the TSC, TSC_ADJUST or MSR_KVM_SYSTEM_TIME_NEW
+-- that of the processor (own)
+abbrev pub page_of_msr : ℕ → ℕ → Option ℕ
+page_of_msr cpu msr =
+    if msr == MSR_TSC || msr == MSR_TSC_ADJUST || msr == MSR_KVM_SYSTEM_TIME then Some cpu
+    else None
+
+-- the page that an access of a processor publishes, a Refresh that which it names
+abbrev pub published_by : ℕ → Access → Option ℕ
+published_by cpu (Refresh page) = Some page
+published_by cpu (MsrWrite msr v) = page_of_msr cpu msr
+published_by cpu _ = None
+
+-- what an access does to that processor before its page is published
+abbrev pub prepared : Anchor → ℕ → ℕ → Access → ProcessorParts → ProcessorParts
+prepared anchor guest_khz h (MsrWrite msr v) p = msr_written anchor guest_khz h msr v p
+prepared anchor guest_khz h _ p = p
+
+-- the processors with the page at a place published, if there is one, with the flag of a stable TSC
+abbrev pub published_at :
+    Option ℕ → Anchor → ℕ → ℕ → Access → List ProcessorParts → List ProcessorParts
+published_at None anchor guest_khz h a ps = ps
+published_at (Some k) anchor guest_khz h a ps =
+    slice_set ps k
+    (published anchor guest_khz h 1
+    (prepared anchor guest_khz h a (slice_index_or ps k no_processor)))
+
+-- the processors after an access: all but the published one stay
+unfoldable pub processors_after :
+    Anchor → ℕ → ℕ → ℕ → Access → List ProcessorParts → List ProcessorParts
+processors_after anchor guest_khz cpu h a ps =
+    published_at (published_by cpu a) anchor guest_khz h a ps
+
+-- the board with a processor's TSC set, and its page published at the greatest count of accesses
+unfoldable pub published_at_host : ℕ → Tsc → ℕ → BoardParts → BoardParts
+published_at_host cpu tsc flags b = record b {
+  processors = slice_set b.processors cpu
+      (published b.anchor b.guest_khz b.host flags (with_tsc tsc (processor_at b cpu)));
+}
+
+-- a read of a page at count h: the time that it gives at the TSC there, by the page's own offset
+unfoldable pub page_reply : BoardParts → ℕ → ℕ → PageReply
+page_reply b cpu h =
+    if (page_in (processor_at b cpu)).enabled then
+    On (page_in (processor_at b cpu))
+    (reading_of (page_in (processor_at b cpu))
+    (tsc_by (page_in (processor_at b cpu)).offset h (ratio_of b.guest_khz b.anchor.khz)))
+    else Off
+
+-- the clamp: a clock tells the greater of a page's reading and of all that was told before
+abbrev pub clamped : ℕ → PageReply → ClockReply
+clamped greatest Off = ClockOff
+clamped greatest (On page reading) = ClockOn reading (max reading greatest)
+
+abbrev pub greatest_with : ℕ → PageReply → ℕ
+greatest_with greatest Off = greatest
+greatest_with greatest (On page reading) = max reading greatest
+
+-- a read of the clock by a page at count h, and what it leaves
+unfoldable pub clock_reply : BoardParts → ℕ → ℕ → ClockReply
+clock_reply b cpu h = clamped b.greatest (page_reply b cpu h)
+
+unfoldable pub after_clock : BoardParts → ℕ → ℕ → BoardParts
+after_clock b cpu h = record b { greatest = greatest_with b.greatest (page_reply b cpu h) }
+
+-- the board with another greatest reading
+abbrev pub with_greatest : BoardParts → ℕ → BoardParts
+with_greatest b g = record b { greatest = g }

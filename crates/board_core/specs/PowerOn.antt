@@ -1,0 +1,35 @@
+-- A board at power on.
+use Rattle.std.specs.Prelude.{replicate}
+use Rattle.board_types.specs.declared.setup.Setup.{Setup}
+use Rattle.board_types.specs.declared.parts.BoardParts.{BoardParts}
+use Rattle.board_types.specs.Setup.{timers_of}
+use Rattle.board_devices.specs.declared.parts.DeviceParts.{DeviceParts}
+use Rattle.board_devices.specs.Parts.{devices_at_power_on}
+use Rattle.board_core.specs.Tsc.{no_processor}
+
+-- the devices of a setup, at power on
+abbrev pub devices_of_setup : Setup → DeviceParts
+devices_of_setup s = devices_at_power_on (timers_of s.format) s.pit s.rtc s.hpet s.slew_ns s.time
+
+-- no access yet, the time of the anchor's first count, no page published, no number written
+abbrev pub board_at_power_on : Setup → BoardParts
+board_at_power_on s = record {
+  format = s.format;
+  cpus = s.cpus;
+  anchor = s.anchor;
+  host = s.anchor.start;
+  guest_khz = s.guest_khz;
+  accesses = 0;
+  greatest = 0;
+  slew_ns = (devices_of_setup s).slew_ns;
+  pit = (devices_of_setup s).pit;
+  rtc = (devices_of_setup s).rtc;
+  hpet = (devices_of_setup s).hpet;
+  ticks = (devices_of_setup s).ticks;
+  wall_number = 0;
+  wall_version = 0;
+  wall_sec = s.wall_sec;
+  wall_nsec = s.wall_nsec;
+  processors = replicate 64 no_processor;
+  rises = replicate 6 0;
+}

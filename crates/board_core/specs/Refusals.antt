@@ -1,0 +1,53 @@
+-- Why an access is refused.
+use Rattle.std.specs.Prelude.{
+  ℕ,
+  nat_lt,
+  nat_le,
+  if◌then◌else◌,
+  List,
+  slice_index_or,
+  Option,
+  Some,
+  None,
+}
+use Rattle.clk_units.specs.declared.ranges.TheConstants.{RANGE_NS}
+use Rattle.host_counter.specs.Time.{time_at}
+use Rattle.board_types.specs.declared.access.Access.{Access}
+use Rattle.board_types.specs.declared.parts.BoardParts.{BoardParts}
+use Rattle.board_types.specs.declared.parts.ProcessorParts.{ProcessorParts}
+use Rattle.board_types.specs.declared.parts.TheConstants.{LAST_VERSION, MOST_ACCESSES}
+use Rattle.board_types.specs.declared.reply.Refusal.{Refusal}
+use Rattle.board_types.specs.declared.reply.Refusal.TheVariants.{
+  BeforeStart,
+  OutOfRange,
+  VersionsSpent,
+  Spent,
+}
+use Rattle.board_core.specs.Tsc.{no_processor}
+use Rattle.board_core.specs.Pages.{published_by}
+use Rattle.board_core.specs.Wall.{publishes_wall}
+
+-- the version of a page, if there is one
+abbrev pub version_at : Option ℕ → List ProcessorParts → Option ℕ
+version_at None ps = None
+version_at (Some k) ps = Some (slice_index_or ps k no_processor).version
+
+-- the version that an access would raise: that of the wall clock's words, or of a page
+abbrev pub raised_version : List ProcessorParts → ℕ → ℕ → Access → Option ℕ
+raised_version ps wall_version cpu a =
+    if publishes_wall a then Some wall_version else version_at (published_by cpu a) ps
+
+-- versions are spent where that is the last one; else the next cause counts
+abbrev pub spent_version : Option ℕ → Option Refusal → Option Refusal
+spent_version None next = next
+spent_version (Some version) next =
+    if nat_le LAST_VERSION version then Some (VersionsSpent version) else next
+
+-- why an access at count h is refused, the causes in this order: the count is before the anchor's;
+-- its time is `RANGE_NS` or more; a version is spent; the accesses are spent
+unfoldable pub refusal_of : BoardParts → ℕ → ℕ → Access → Option Refusal
+refusal_of b cpu h a =
+    if nat_lt h b.anchor.start then Some (BeforeStart b.anchor.start)
+    else (if nat_le RANGE_NS (time_at b.anchor h) then Some (OutOfRange (time_at b.anchor h))
+    else spent_version (raised_version b.processors b.wall_version cpu a)
+    (if nat_le MOST_ACCESSES b.accesses then Some (Spent b.accesses) else None))

@@ -1,0 +1,30 @@
+-- The time of a board, and what of it runs with time.
+use Rattle.std.specs.Prelude.{ℕ, ◌<◌, ◌≤◌, max}
+use Rattle.clk_units.specs.declared.ranges.TheConstants.{RANGE_NS}
+use Rattle.host_counter.specs.declared.Anchor.{Anchor}
+use Rattle.host_counter.specs.Time.{time_at}
+use Rattle.board_types.specs.declared.parts.BoardParts.{BoardParts}
+use Rattle.board_devices.specs.declared.parts.DeviceParts.{DeviceParts}
+
+-- the devices of a board
+abbrev pub devices_in : BoardParts → DeviceParts
+devices_in b = record {
+  pit = b.pit;
+  rtc = b.rtc;
+  hpet = b.hpet;
+  ticks = b.ticks;
+  slew_ns = b.slew_ns;
+}
+
+-- the time of a board, in nanoseconds: that of the greatest count of its accesses
+abbrev pub now_of : BoardParts → ℕ
+now_of b = time_at b.anchor b.host
+
+-- the time of an access at count h: a count behind the board's moves no time (own)
+abbrev pub time_of_access : BoardParts → ℕ → ℕ
+time_of_access b h = max (now_of b) (time_at b.anchor h)
+
+-- a count has a time: it isn't before the anchor's, and its time is below `RANGE_NS`
+pub record HasTime (anchor : Anchor) (h : ℕ) : Type 0 where
+  pub started : anchor.start ≤ h
+  pub range : time_at anchor h < RANGE_NS

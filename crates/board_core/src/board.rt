@@ -1,0 +1,186 @@
+//! The board, and what it tells of itself.
+ghost use Rattle.std.specs.Prelude.{◌≡◌, ◌<◌};
+ghost use Rattle.clk_units.specs.declared.ranges.TheConstants.{RANGE_NS};
+ghost use Rattle.board_types.specs.Setup.{IsSetup};
+ghost use Rattle.board_devices.specs.Lines.{levels};
+ghost use Rattle.board_core.specs.Time.{devices_in, now_of};
+ghost use Rattle.board_core.specs.Tsc.{processor_at, tsc_of};
+ghost use Rattle.board_core.specs.Pages.{page_in, with_greatest};
+ghost use Rattle.board_core.specs.Conditions.{IsVersion, IsJoined};
+ghost use Rattle.board_core.specs.Next.{next_of};
+ghost use Rattle.board_core.specs.PowerOn.{board_at_power_on, devices_of_setup};
+
+use crate::processors::{NO_PROCESSOR, page_in};
+use board_devices::Devices;
+use board_types::{ProcessorParts, Setup, timers_of};
+use host_counter::Anchor;
+use irq_edges::Lines;
+use pvclock_page::Page;
+use std::marker::Model;
+use tsc_scale::Tsc;
+
+/// A board. All that it holds lies in place, so that a monitor in C can keep it in memory of its own.
+#[derive(Clone, Copy)]
+#[repr(C)]
+pub struct BoardState {
+    pub(crate) format: u8,
+    pub(crate) cpus: u8,
+    pub(crate) anchor: Anchor,
+    pub(crate) host: u64,
+    /// The time at `host`.
+    pub(crate) time_ns: u64,
+    pub(crate) guest_khz: u64,
+    pub(crate) accesses: u64,
+    pub(crate) greatest: u64,
+    pub(crate) devices: Devices,
+    pub(crate) wall_number: u64,
+    pub(crate) wall_version: u32,
+    pub(crate) wall_sec: u32,
+    pub(crate) wall_nsec: u32,
+    pub(crate) processors: [ProcessorParts; 64],
+    pub(crate) rises: [u64; 6],
+}
+
+impl Model for BoardState {
+    ghost use Rattle.board_types.specs.declared.parts.BoardParts.{BoardParts};
+    ghost use Rattle.board_core.specs.View.{board_parts_of, board_of, IsKept};
+    ghost use Rattle.std.specs.Prelude.{ℕ};
+    ghost use Rattle.std.proofs.Common.{ap, sym};
+
+    ghost Value = { BoardParts };
+
+    ghost view = { board_parts_of };
+
+    ghost invariant = { IsKept };
+
+    ghost inverse = { board_of };
+
+    ghost inverse_ok = { λ b kept. ap (λ (t : ℕ). record b { time_ns = t }) (sym kept.time) };
+}
+
+impl BoardState {
+    /// A board at power on. The setup's ranges are those of `Setup`'s fields.
+    pub fn power_on(setup: &Setup) -> BoardState
+        requires { IsSetup setup.now }
+        ensures { result ≡ board_at_power_on setup.now }
+    {
+        BoardState {
+            format: setup.format,
+            cpus: setup.cpus,
+            anchor: setup.anchor,
+            host: setup.anchor.start,
+            time_ns: setup.anchor.base_ns,
+            guest_khz: setup.guest_khz,
+            accesses: 0,
+            greatest: 0,
+            devices: devices_of_setup(setup),
+            wall_number: 0,
+            wall_version: 0,
+            wall_sec: setup.wall_sec,
+            wall_nsec: setup.wall_nsec,
+            processors: [NO_PROCESSOR; 64],
+            rises: [0; 6],
+        }
+    }
+
+    /// The format: 1 or 2.
+    pub fn format(&self) -> u8
+        ensures { result ≡ self.now.format }
+    {
+        self.format
+    }
+
+    /// How many processors there are. A caller learns here what joins the parts of every board.
+    pub fn cpus(&self) -> u8
+        ensures value { result ≡ self.now.cpus }
+        ensures joined { IsJoined self.now }
+    {
+        self.cpus
+    }
+
+    /// The rate, first count and first time of the host's counter.
+    pub fn anchor(&self) -> Anchor
+        ensures { result ≡ self.now.anchor }
+    {
+        self.anchor
+    }
+
+    /// The time in nanoseconds: that of the greatest count of all accesses.
+    pub fn now(&self) -> u64
+        ensures value { result ≡ now_of self.now }
+        ensures range { result < RANGE_NS }
+    {
+        self.time_ns
+    }
+
+    /// How many accesses there were.
+    pub fn accesses(&self) -> u64
+        ensures { result ≡ self.now.accesses }
+    {
+        self.accesses
+    }
+
+    /// The greatest clock reading that was told, in nanoseconds.
+    pub fn greatest(&self) -> u64
+        ensures { result ≡ self.now.greatest }
+    {
+        self.greatest
+    }
+
+    /// Sets the greatest clock reading, and nothing else.
+    pub fn set_greatest(&mut self, greatest: u64)
+        ensures { self.new ≡ with_greatest self.old greatest }
+    {
+        self.greatest = greatest;
+    }
+
+    /// The levels of the six lines.
+    pub fn lines(&self) -> Lines
+        ensures { result.levels ≡ levels (devices_in self.now) }
+    {
+        self.devices.lines()
+    }
+
+    /// The page of a processor.
+    pub fn page(&self, cpu: u8) -> Page
+        requires { cpu < self.now.cpus }
+        ensures value { result ≡ page_in (processor_at self.now cpu) }
+        ensures version { IsVersion result.version }
+    {
+        page_in(&self.processors[cpu as usize])
+    }
+
+    /// The TSC of a processor.
+    pub fn tsc(&self, cpu: u8) -> Tsc
+        requires { cpu < self.now.cpus }
+        ensures { result ≡ tsc_of (processor_at self.now cpu) }
+    {
+        let p = &self.processors[cpu as usize];
+        Tsc {
+            offset: p.offset,
+            adjust: p.adjust,
+        }
+    }
+
+    /// The first nanosecond behind the board's time, and below 2^59, in which a line changes if no access comes.
+    pub fn next_edge(&self) -> Option<u64>
+        ensures { result ≡ next_of (now_of self.now) (devices_in self.now) }
+    {
+        self.devices.next_edge(self.time_ns)
+    }
+}
+
+/// The devices of a setup, at power on.
+fn devices_of_setup(setup: &Setup) -> Devices
+    requires { IsSetup setup.now }
+    ensures { result ≡ devices_of_setup setup.now }
+{
+    Devices::power_on(
+        timers_of(setup.format),
+        setup.pit,
+        setup.rtc,
+        setup.hpet,
+        setup.slew_ns,
+        setup.time,
+    )
+}

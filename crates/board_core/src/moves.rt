@@ -1,0 +1,81 @@
+//! A new anchor, and a later format.
+ghost use Rattle.std.specs.Prelude.{◌≡◌, if◌then◌else◌, ◌+◌, ◌<◌, ◌≤◌, length};
+ghost use Rattle.clk_units.specs.Ranges.{IsKhz};
+ghost use Rattle.clk_units.specs.declared.ranges.TheConstants.{RANGE_NS};
+ghost use Rattle.board_devices.specs.Run.{run};
+ghost use Rattle.board_devices.specs.Lines.{levels};
+ghost use Rattle.board_devices.specs.Parts.{devices_upgraded};
+ghost use Rattle.board_core.specs.Time.{devices_in, now_of};
+ghost use Rattle.board_core.specs.Reanchor.{reanchored};
+ghost use Rattle.board_core.specs.Upgrade.{gets_timers, upgraded_to};
+
+use crate::board::BoardState;
+use crate::rises::count_rises;
+use board_devices::Devices;
+use board_types::Ran;
+use host_counter::Anchor;
+use irq_edges::EdgeList;
+
+impl BoardState {
+    /// Runs `gap` nanoseconds, and then gives the new time to count `start` of a host's counter of `khz`, 100,000 to
+    /// 10,000,000. TSC offsets, pages and the number of accesses stay. Answers the edges of the gap, at most six.
+    #[tactic(auto, unfolding(crate::specs::Reanchor::reanchored))]
+    pub fn reanchor(&mut self, khz: u64, start: u64, gap: u64) -> Ran
+        requires rate { IsKhz khz }
+        requires range { now_of self.old + gap < RANGE_NS }
+        ensures state { self.new ≡ reanchored khz start gap self.old }
+        ensures edges { result.edges ≡ (run (now_of self.old) gap (devices_in self.old)).edges }
+        ensures few { length result.edges ≤ 6 }
+    {
+        let from = self.time_ns;
+        let mut edges = EdgeList::new();
+        self.devices.run_to(from, from + gap, &mut edges);
+        self.anchor = Anchor {
+            khz,
+            start,
+            base_ns: from + gap,
+        };
+        self.host = start;
+        self.time_ns = from + gap;
+        count_rises(&mut self.rises, self.format, &edges, 0);
+        Ran { edges }
+    }
+
+    /// The board in a later format, or the same. From format 1 to 2 it gets five timers, which are as at power on,
+    /// and counts of rises, which are 0; all else is kept, the levels of its lines too.
+    #[tactic(auto, unfolding(crate::specs::Upgrade::upgraded_to))]
+    pub fn upgraded(&self, to: u8) -> BoardState
+        requires later { self.now.format ≤ to }
+        requires built { to ≤ 2 }
+        ensures state { result ≡ upgraded_to to self.now }
+        ensures lines { levels (devices_in result) ≡ levels (devices_in self.now) }
+    {
+        let devices = devices_upgraded(&self.devices, gets_timers(self.format, to));
+        let mut board = *self;
+        board.devices = devices;
+        board.format = to;
+        board
+    }
+}
+
+/// Whether a board of the one format gets the five timers that format 2 brings.
+fn gets_timers(format: u8, to: u8) -> bool
+    ensures { result ≡ gets_timers format to }
+{
+    format < 2 && 2 <= to
+}
+
+/// The devices, with five timers more where `more` holds.
+#[tactic(auto, unfolding(board_devices::specs::Parts::devices_upgraded))]
+fn devices_upgraded(devices: &Devices, more: bool) -> Devices
+    ensures pit { result.pit ≡ devices.now.pit }
+    ensures rtc { result.rtc ≡ devices.now.rtc }
+    ensures hpet { result.hpet ≡
+        (if more then (devices_upgraded devices.now).hpet else devices.now.hpet) }
+    ensures ticks { result.ticks ≡
+        (if more then (devices_upgraded devices.now).ticks else devices.now.ticks) }
+    ensures slew { result.slew_ns ≡ devices.now.slew_ns }
+    ensures levels { levels result ≡ levels devices.now }
+{
+    if more { devices.upgraded() } else { *devices }
+}

@@ -1,0 +1,222 @@
+//! What accesses do to the processors: their TSCs, their numbers, and the publishing of their pages.
+ghost use Rattle.std.specs.Prelude.{◌≡◌, ◌<◌, ◌≤◌, ◌^◌, ◌==◌, ◌||◌, IfSome, slice_index_or, if◌then◌else◌};
+ghost use Rattle.clk_units.specs.Ranges.{IsKhz};
+ghost use Rattle.host_counter.specs.Time.{time_at};
+ghost use Rattle.board_types.specs.declared.parts.TheConstants.{LAST_VERSION};
+ghost use Rattle.board_core.specs.Tsc.{no_processor, tsc_of, with_tsc, tsc_read, tsc_after, msr_written};
+ghost use Rattle.board_core.specs.Pages.{published, page_in, published_by, page_of_msr, prepared, published_at, processors_after};
+ghost use Rattle.board_core.specs.Time.{HasTime};
+ghost use Rattle.board_core.specs.Conditions.{AreRates};
+
+use board_types::{Access, MSR_KVM_SYSTEM_TIME, MSR_TSC, MSR_TSC_ADJUST, ProcessorParts};
+use clk_units::bit;
+use host_counter::Anchor;
+use pvclock_page::{Page, TSC_STABLE, scale_of};
+use tsc_scale::{Tsc, ratio};
+
+/// What the place of a processor that isn't there holds, and each processor at power on.
+pub(crate) const NO_PROCESSOR: ProcessorParts = ProcessorParts {
+    offset: 0,
+    adjust: 0,
+    number: 0,
+    version: 0,
+    tsc_timestamp: 0,
+    system_time: 0,
+    mul: 0,
+    shift: 0,
+    flags: 0,
+};
+
+/// The page of a processor.
+pub(crate) fn page_in(p: &ProcessorParts) -> Page
+    ensures { result ≡ page_in p.now }
+{
+    Page {
+        version: u64::from(p.version),
+        tsc_timestamp: p.tsc_timestamp,
+        system_time: p.system_time,
+        mul: p.mul,
+        shift: p.shift,
+        flags: p.flags,
+        offset: p.offset,
+        enabled: bit(0, p.number),
+    }
+}
+
+/// The TSC of a processor at count `h`.
+pub(crate) fn tsc_read(p: &ProcessorParts, anchor: Anchor, guest_khz: u64, h: u64) -> u64
+    requires { AreRates anchor guest_khz }
+    ensures { result ≡ tsc_read anchor guest_khz h p.now }
+{
+    let tsc = Tsc {
+        offset: p.offset,
+        adjust: p.adjust,
+    };
+    tsc.read(h, ratio(guest_khz, anchor.khz))
+}
+
+/// The time at a count that has one.
+fn time_of(anchor: Anchor, h: u64) -> u64
+    requires rate { IsKhz anchor.khz }
+    requires time { HasTime anchor h }
+    ensures { result ≡ time_at anchor h }
+{
+    match anchor.time(h) {
+        Ok(ns) => ns,
+        Err(_) => unreachable!(),
+    }
+}
+
+/// A processor whose page is published at count `h`.
+#[tactic(auto, unfolding(crate::specs::Pages::published))]
+pub(crate) fn published(
+    p: ProcessorParts,
+    anchor: Anchor,
+    guest_khz: u64,
+    h: u64,
+    flags: u8,
+) -> ProcessorParts
+    requires rates { AreRates anchor guest_khz }
+    requires time { HasTime anchor h }
+    requires version { p.version < LAST_VERSION }
+    ensures { result ≡ published anchor guest_khz h flags p }
+{
+    let (mul, shift) = scale_of(guest_khz * 1000);
+    ProcessorParts {
+        version: p.version + 2,
+        tsc_timestamp: tsc_read(&p, anchor, guest_khz, h),
+        system_time: time_of(anchor, h),
+        mul,
+        shift,
+        flags,
+        ..p
+    }
+}
+
+/// The TSC behind a write of `v` to an MSR.
+fn tsc_after(tsc: Tsc, anchor: Anchor, guest_khz: u64, h: u64, msr: u32, v: u64) -> Tsc
+    requires { AreRates anchor guest_khz }
+    ensures { result ≡ tsc_after anchor guest_khz h msr v tsc }
+{
+    let mut moved = tsc;
+    if msr == MSR_TSC {
+        moved.write_tsc(h, ratio(guest_khz, anchor.khz), v);
+        return moved;
+    }
+    if msr == MSR_TSC_ADJUST {
+        moved.write_adjust(v);
+        return moved;
+    }
+    tsc
+}
+
+/// A processor behind a write of `v` to one of its MSRs.
+fn msr_written(
+    p: ProcessorParts,
+    anchor: Anchor,
+    guest_khz: u64,
+    h: u64,
+    msr: u32,
+    v: u64,
+) -> ProcessorParts
+    requires { AreRates anchor guest_khz }
+    ensures { result ≡ msr_written anchor guest_khz h msr v p }
+{
+    let tsc = Tsc {
+        offset: p.offset,
+        adjust: p.adjust,
+    };
+    let moved = tsc_after(tsc, anchor, guest_khz, h, msr, v);
+    ProcessorParts {
+        offset: moved.offset,
+        adjust: moved.adjust,
+        number: number_after(p.number, msr, v),
+        ..p
+    }
+}
+
+/// The number in MSR_KVM_SYSTEM_TIME behind a write of `v` to an MSR.
+fn number_after(number: u64, msr: u32, v: u64) -> u64
+    ensures { result ≡ (if msr == MSR_KVM_SYSTEM_TIME then v else number) }
+{
+    if msr == MSR_KVM_SYSTEM_TIME {
+        v
+    } else {
+        number
+    }
+}
+
+/// The page that an access of a processor publishes.
+pub(crate) fn published_by(cpu: u8, a: Access) -> Option<u8>
+    ensures { result ≡ published_by cpu a }
+{
+    match a {
+        Access::Refresh { page } => Some(page),
+        Access::MsrWrite { msr, .. } => page_of_msr(cpu, msr),
+        _ => None,
+    }
+}
+
+/// The page that a write to an MSR publishes.
+fn page_of_msr(cpu: u8, msr: u32) -> Option<u8>
+    ensures { result ≡ page_of_msr cpu msr }
+{
+    if msr == MSR_TSC || msr == MSR_TSC_ADJUST || msr == MSR_KVM_SYSTEM_TIME {
+        Some(cpu)
+    } else {
+        None
+    }
+}
+
+/// What an access does to a processor before its page is published.
+fn prepared(p: ProcessorParts, anchor: Anchor, guest_khz: u64, h: u64, a: Access) -> ProcessorParts
+    requires { AreRates anchor guest_khz }
+    ensures { result ≡ prepared anchor guest_khz h a p }
+{
+    match a {
+        Access::MsrWrite { msr, value } => msr_written(p, anchor, guest_khz, h, msr, value),
+        _ => p,
+    }
+}
+
+/// What an access does to the processors, where it publishes the page at this place.
+fn publish_at(
+    processors: &mut [ProcessorParts; 64],
+    place: Option<u8>,
+    anchor: Anchor,
+    guest_khz: u64,
+    h: u64,
+    a: Access,
+)
+    requires rates { AreRates anchor guest_khz }
+    requires time { HasTime anchor h }
+    requires place { IfSome place (λ k. k < 64) }
+    requires version { IfSome place (λ k.
+        (slice_index_or processors.old k no_processor).version < LAST_VERSION) }
+    ensures { processors.new ≡ published_at place anchor guest_khz h a processors.old }
+{
+    if let Some(place) = place {
+        let p = prepared(processors[place as usize], anchor, guest_khz, h, a);
+        processors[place as usize] = published(p, anchor, guest_khz, h, TSC_STABLE);
+    }
+}
+
+/// What an access of processor `cpu` at count `h` does to the processors.
+#[tactic(auto, unfolding(crate::specs::Pages::processors_after))]
+pub(crate) fn publish_by(
+    processors: &mut [ProcessorParts; 64],
+    anchor: Anchor,
+    guest_khz: u64,
+    cpu: u8,
+    h: u64,
+    a: Access,
+)
+    requires rates { AreRates anchor guest_khz }
+    requires time { HasTime anchor h }
+    requires place { IfSome (published_by cpu a) (λ k. k < 64) }
+    requires version { IfSome (published_by cpu a) (λ k.
+        (slice_index_or processors.old k no_processor).version < LAST_VERSION) }
+    ensures { processors.new ≡ processors_after anchor guest_khz cpu h a processors.old }
+{
+    publish_at(processors, published_by(cpu, a), anchor, guest_khz, h, a);
+}

@@ -1,0 +1,126 @@
+//! Why an access is refused.
+ghost use Rattle.std.specs.Prelude.{◌≡◌, ◌<◌, ◌≤◌, IfSome, IfOk, IfErr, OnOk, None, Some, nat_le, if◌then◌else◌, IsTrue};
+ghost use Rattle.host_counter.specs.Time.{IsFaultAt};
+ghost use Rattle.board_types.specs.Legal.{is_legal};
+ghost use Rattle.board_types.specs.declared.parts.TheConstants.{MOST_ACCESSES};
+ghost use Rattle.board_types.specs.declared.reply.Refusal.TheVariants.{Spent};
+ghost use Rattle.board_core.specs.Time.{time_of_access, HasTime};
+ghost use Rattle.board_core.specs.Pages.{published_by};
+ghost use Rattle.board_core.specs.Wall.{publishes_wall};
+ghost use Rattle.board_core.specs.Refusals.{version_at, raised_version, spent_version, refusal_of};
+
+use crate::board::BoardState;
+use crate::processors::published_by;
+use board_types::{
+    Access, LAST_VERSION, MOST_ACCESSES, MSR_KVM_WALL_CLOCK, ProcessorParts, Refusal,
+};
+use host_counter::TimeFault;
+
+impl BoardState {
+    /// The time to which an access at count `h` runs, or why it is refused.
+    #[tactic(auto, unfolding(crate::specs::Refusals::refusal_of))]
+    pub(crate) fn admit(&self, cpu: u8, h: u64, a: Access) -> Result<u64, Refusal>
+        requires cpu { cpu < self.now.cpus }
+        requires legal { IsTrue (is_legal self.now.cpus self.now.format a) }
+        ensures refused { IfErr result (λ e. refusal_of self.now cpu h a ≡ Some e) }
+        ensures taken { OnOk result (refusal_of self.now cpu h a ≡ None) }
+        ensures time { IfOk result (λ to. to ≡ time_of_access self.now h) }
+    {
+        let to = match self.time_to(h) {
+            Err(TimeFault::BeforeStart { start }) => return Err(Refusal::BeforeStart { start }),
+            Err(TimeFault::OutOfRange { ns }) => return Err(Refusal::OutOfRange { ns }),
+            Ok(to) => to,
+        };
+        let version = raised_version(&self.processors, self.wall_version, cpu, a);
+        match spent_version(version, self.spent()) {
+            Some(refusal) => Err(refusal),
+            None => Ok(to),
+        }
+    }
+
+    /// The greater of the board's time and of that at count `h`. A count that isn't beyond the board's asks for no
+    /// division.
+    pub(crate) fn time_to(&self, h: u64) -> Result<u64, TimeFault>
+        ensures ok { OnOk result (HasTime self.now.anchor h) }
+        ensures time { IfOk result (λ to. to ≡ time_of_access self.now h) }
+        ensures fault { IfErr result (IsFaultAt self.now.anchor h) }
+    {
+        if self.anchor.start <= h && h <= self.host {
+            return Ok(self.time_ns);
+        }
+        match self.anchor.time(h) {
+            Ok(ns) => Ok(ns.max(self.time_ns)),
+            Err(fault) => Err(fault),
+        }
+    }
+
+    /// Whether the accesses are spent.
+    fn spent(&self) -> Option<Refusal>
+        ensures { result ≡ (if nat_le MOST_ACCESSES self.now.accesses
+            then Some (Spent self.now.accesses) else None) }
+    {
+        if self.accesses >= MOST_ACCESSES {
+            Some(Refusal::Spent {
+                number: self.accesses,
+            })
+        } else {
+            None
+        }
+    }
+}
+
+/// Whether an access publishes the words of the wall clock.
+pub(crate) fn publishes_wall(a: Access) -> bool
+    ensures { result ≡ publishes_wall a }
+{
+    match a {
+        Access::MsrWrite { msr, .. } => msr == MSR_KVM_WALL_CLOCK,
+        _ => false,
+    }
+}
+
+/// The version of a page.
+fn version_at(page: Option<u8>, processors: &[ProcessorParts; 64]) -> Option<u32>
+    requires { IfSome page (λ k. k < 64) }
+    ensures { result ≡ version_at page processors.now }
+{
+    match page {
+        Some(page) => Some(processors[page as usize].version),
+        None => None,
+    }
+}
+
+/// The version that an access would raise.
+fn raised_version(
+    processors: &[ProcessorParts; 64],
+    wall_version: u32,
+    cpu: u8,
+    a: Access,
+) -> Option<u32>
+    requires { IfSome (published_by cpu a) (λ k. k < 64) }
+    ensures { result ≡ raised_version processors.now wall_version cpu a }
+{
+    if publishes_wall(a) {
+        Some(wall_version)
+    } else {
+        version_at(published_by(cpu, a), processors)
+    }
+}
+
+/// The refusal where a version is the last one, else the next cause.
+fn spent_version(version: Option<u32>, next: Option<Refusal>) -> Option<Refusal>
+    ensures { result ≡ spent_version version next }
+{
+    match version {
+        Some(version) => {
+            if version >= LAST_VERSION {
+                Some(Refusal::VersionsSpent {
+                    version: u64::from(version),
+                })
+            } else {
+                next
+            }
+        }
+        None => next,
+    }
+}

@@ -1,0 +1,383 @@
+//! Sequences worked out by hand from the data sheets, and stretches against steps of a nanosecond.
+ghost use Rattle.std.specs.Prelude.{◌≤◌};
+ghost use Rattle.board_types.specs.Setup.{IsSetup};
+
+mod clocks;
+mod steps;
+
+use super::*;
+use host_counter::{Anchor, TimeFault};
+use irq_edges::Edge;
+use pvclock_page::{ClockReply, PageReply};
+use rtc_calendar::TimeBytes;
+use std::process::Abort;
+use tick_policy::{Counts, Policy};
+
+/// A host and a guest of 1 GHz from 0, one processor, one policy for all ticks, and a time of day.
+fn setup(format: u8, policy: Policy, time: TimeBytes) -> Setup
+    requires low { 1 ≤ format }
+    requires high { format ≤ 2 }
+    ensures { IsSetup result }
+{
+    Setup {
+        format,
+        anchor: Anchor {
+            khz: 1_000_000,
+            start: 0,
+            base_ns: 0,
+        },
+        guest_khz: 1_000_000,
+        cpus: 1,
+        pit: policy,
+        rtc: Policy::Delay,
+        hpet: Policy::Delay,
+        slew_ns: 1_000,
+        wall_sec: 11,
+        wall_nsec: 12,
+        time,
+    }
+}
+
+/// The first second of 2000, a Saturday, in BCD.
+const MIDNIGHT: TimeBytes = TimeBytes {
+    sec: 0,
+    min: 0,
+    hour: 0,
+    wday: 7,
+    date: 1,
+    month: 1,
+    year: 0,
+};
+
+/// The last second of 1999, in BCD.
+const LAST_SECOND: TimeBytes = TimeBytes {
+    sec: 0x59,
+    min: 0x59,
+    hour: 0x23,
+    wday: 6,
+    date: 0x31,
+    month: 0x12,
+    year: 0x99,
+};
+
+/// A board of format 1.
+fn board(policy: Policy) -> BoardState {
+    BoardState::power_on(&setup(1, policy, MIDNIGHT))
+}
+
+/// An access of processor 0, which is legal and isn't refused.
+fn ask(rt: &impl Abort, board: &mut BoardState, h: u64, access: Access) -> Reply {
+    if board.cpus() == 0 || !access.legal(board.cpus(), board.format()) {
+        panic!(rt; "{access:?} isn't legal");
+    }
+    match board.access(0, h, access) {
+        Ok(reply) => reply,
+        Err(refusal) => panic!(rt; "{refusal:?}"),
+    }
+}
+
+/// Accesses of processor 0, each with its count and the value that it gives, and all their edges.
+fn play(
+    rt: &impl Abort,
+    board: &mut BoardState,
+    steps: &[(u64, Access, Value)],
+    edges: &[(u64, u8, bool)],
+) {
+    let mut seen = 0;
+    for (h, access, value) in steps {
+        let reply = ask(rt, board, *h, *access);
+        assert_eq!(rt; reply.value, *value, "{access:?} at {h}");
+        for edge in reply.edges.as_slice() {
+            assert!(rt; seen < edges.len(), "{edge:?}");
+            if seen < edges.len() {
+                let (at, line, up) = edges[seen];
+                assert_eq!(rt; *edge, Edge { at, line, up });
+                seen += 1;
+            }
+        }
+    }
+    assert_eq!(rt; seen, edges.len());
+}
+
+/// A write of a byte to a port at 0.
+const fn out(port: u8, byte: u8) -> (u64, Access, Value) {
+    (0, Access::PortOut { port, byte }, Value::Nothing)
+}
+
+/// A read of a port.
+const fn read(h: u64, port: u8, byte: u8) -> (u64, Access, Value) {
+    (h, Access::PortIn { port }, Value::Byte(byte))
+}
+
+/// Ticks of a source: due, rises, queue, lost.
+const fn counts(
+    h: u64,
+    from: TickSource,
+    due: u64,
+    rises: u64,
+    queue: u64,
+    lost: u64,
+) -> (u64, Access, Value) {
+    let counts = Counts {
+        due,
+        rises,
+        queue,
+        lost,
+    };
+    (h, Access::CountsOf { from }, Value::Counts(counts))
+}
+
+#[test]
+fn ticks_of_the_8254_in_modes_0_2_and_3(rt: HostRuntime) {
+    let mut first = board(Policy::Delay);
+    let rows = [
+        out(0x43, 0x10),
+        out(0x40, 1),
+        counts(2_000, TickSource::Pit, 1, 1, 0, 0),
+    ];
+    play(&rt, &mut first, &rows, &[(1677, 0, true)]);
+    let mut second = board(Policy::Delay);
+    let rows = [
+        out(0x43, 0x34),
+        out(0x40, 4),
+        out(0x40, 0),
+        read(5_000, 0x40, 4),
+        read(5_000, 0x40, 0),
+    ];
+    play(&rt, &mut second, &rows, &[(4191, 0, true)]);
+    let mut third = board(Policy::Delay);
+    let rows = [
+        out(0x43, 0x36),
+        out(0x40, 5),
+        out(0x40, 0),
+        counts(10_000, TickSource::Pit, 2, 1, 1, 0),
+        read(10_000, 0x40, 4),
+    ];
+    play(&rt, &mut third, &rows, &[(5029, 0, true)]);
+}
+
+#[test]
+fn the_next_edge_of_a_whole_count(rt: HostRuntime) {
+    let mut binary = board(Policy::Delay);
+    let next = (0, Access::Next, Value::Next(Some(54_926_240)));
+    play(
+        &rt,
+        &mut binary,
+        &[out(0x43, 0x34), out(0x40, 0), out(0x40, 0), next],
+        &[],
+    );
+    assert_eq!(rt; binary.next_edge(), Some(54_926_240));
+    let mut decimal = board(Policy::Delay);
+    let next = (0, Access::Next, Value::Next(Some(8_381_790)));
+    play(
+        &rt,
+        &mut decimal,
+        &[out(0x43, 0x35), out(0x40, 0), out(0x40, 0), next],
+        &[],
+    );
+    let mut none = board(Policy::Delay);
+    play(&rt, &mut none, &[(0, Access::Next, Value::Next(None))], &[]);
+}
+
+#[test]
+fn a_first_of_two_bytes_takes_the_line_down(rt: HostRuntime) {
+    let mut board = board(Policy::Delay);
+    let rows = [
+        out(0x43, 0x30),
+        out(0x40, 2),
+        out(0x40, 0),
+        (3_000, Access::Ack { line: 0 }, Value::Nothing),
+        (
+            3_000,
+            Access::PortOut {
+                port: 0x40,
+                byte: 5,
+            },
+            Value::Nothing,
+        ),
+        (
+            5_000,
+            Access::PortOut {
+                port: 0x43,
+                byte: 0xe2,
+            },
+            Value::Nothing,
+        ),
+        read(5_000, 0x40, 0x30),
+        read(5_000, 0x40, 0),
+        read(5_000, 0x40, 0),
+    ];
+    play(&rt, &mut board, &rows, &[(2515, 0, true), (3000, 0, false)]);
+}
+
+#[test]
+fn the_clock_turns_the_century(rt: HostRuntime) {
+    let mut board = BoardState::power_on(&setup(1, Policy::Delay, LAST_SECOND));
+    let rows = [
+        out(0x70, 0x0a),
+        read(499_755_859, 0x71, 0x26),
+        read(499_755_860, 0x71, 0xa6),
+        out(0x70, 0),
+        read(501_983_642, 0x71, 0x59),
+        read(501_983_643, 0x71, 0),
+        out(0x70, 9),
+        read(501_983_643, 0x71, 0),
+    ];
+    play(&rt, &mut board, &rows, &[]);
+}
+
+#[test]
+fn a_tick_of_the_clock_that_waits_shows_at_a_read_of_c(rt: HostRuntime) {
+    let mut board = board(Policy::Delay);
+    let rows = [
+        out(0x70, 0x0b),
+        out(0x71, 0x42),
+        counts(2_000_000, TickSource::Rtc, 2, 1, 1, 0),
+        out(0x70, 0x0c),
+        read(2_000_000, 0x71, 0xc0),
+        counts(2_000_000, TickSource::Rtc, 2, 2, 0, 0),
+    ];
+    let edges = [
+        (976_563, 8, true),
+        (2_000_000, 8, false),
+        (2_000_000, 8, true),
+    ];
+    play(&rt, &mut board, &rows, &edges);
+    assert_eq!(rt;
+        board.lines().levels,
+        [false, true, false, false, false, false]
+    );
+    assert_eq!(rt; (board.now(), board.accesses()), (2_000_000, 6));
+}
+
+/// A write of 8 bytes to the HPET at 0.
+const fn hpet_write(offset: u16, value: u64) -> (u64, Access, Value) {
+    let access = Access::HpetWrite {
+        offset,
+        width: 8,
+        value,
+    };
+    (0, access, Value::Nothing)
+}
+
+/// A read of 8 bytes of the HPET.
+const fn hpet_read(h: u64, offset: u16, value: u64) -> (u64, Access, Value) {
+    (
+        h,
+        Access::HpetRead { offset, width: 8 },
+        Value::Word { width: 8, value },
+    )
+}
+
+#[test]
+fn a_periodic_timer_across_a_wrap(rt: HostRuntime) {
+    let mut board = board(Policy::Delay);
+    let rows = [
+        hpet_read(0, 0, 0x0098_9680_8086_a201),
+        hpet_write(0x100, 0x294c),
+        hpet_write(0x108, 0xffff_fff8),
+        hpet_write(0x108, 0x10),
+        hpet_write(0xf0, 0xffff_fff0),
+        hpet_write(0x10, 1),
+        counts(450, TickSource::Hpet(0), 3, 1, 2, 0),
+        hpet_read(450, 0x108, 0x28),
+        hpet_read(450, 0xf0, 0x1_0000_001d),
+        hpet_read(450, 0x100, 0x00f0_0000_0000_293c),
+    ];
+    play(&rt, &mut board, &rows, &[(80, 20, true)]);
+}
+
+#[test]
+fn legacy_replacement_while_out_0_is_low(rt: HostRuntime) {
+    let mut board = board(Policy::Delay);
+    let enable = Access::HpetWrite {
+        offset: 0x10,
+        width: 4,
+        value: 3,
+    };
+    let rows = [
+        out(0x43, 0x34),
+        out(0x40, 4),
+        out(0x40, 0),
+        hpet_write(0x100, 0x2804),
+        hpet_write(0x108, 0x64),
+        (3_500, enable, Value::Nothing),
+        counts(5_000, TickSource::Pit, 0, 0, 0, 0),
+        counts(5_000, TickSource::Hpet(0), 1, 1, 0, 0),
+    ];
+    play(&rt, &mut board, &rows, &[(4500, 0, true)]);
+}
+
+#[test]
+fn ten_missed_ticks_under_each_policy(rt: HostRuntime) {
+    let ack = (38_000, Access::Ack { line: 0 }, Value::Nothing);
+    let begin = [out(0x43, 0x34), out(0x40, 4), out(0x40, 0)];
+    let mut discard = board(Policy::Discard);
+    play(&rt, &mut discard, &begin, &[]);
+    let rows = [
+        counts(38_000, TickSource::Pit, 11, 1, 0, 10),
+        ack,
+        counts(39_000, TickSource::Pit, 11, 1, 0, 10),
+    ];
+    play(
+        &rt,
+        &mut discard,
+        &rows,
+        &[(4191, 0, true), (38_000, 0, false)],
+    );
+    let mut delay = board(Policy::Delay);
+    play(&rt, &mut delay, &begin, &[]);
+    let rows = [
+        counts(38_000, TickSource::Pit, 11, 1, 10, 0),
+        ack,
+        counts(39_000, TickSource::Pit, 11, 2, 9, 0),
+    ];
+    play(
+        &rt,
+        &mut delay,
+        &rows,
+        &[(4191, 0, true), (38_000, 0, false), (38_000, 0, true)],
+    );
+    let mut slew = board(Policy::Slew);
+    play(&rt, &mut slew, &begin, &[]);
+    let rows = [
+        counts(38_000, TickSource::Pit, 11, 1, 10, 0),
+        ack,
+        counts(39_000, TickSource::Pit, 11, 2, 9, 0),
+    ];
+    play(
+        &rt,
+        &mut slew,
+        &rows,
+        &[(4191, 0, true), (38_000, 0, false), (39_000, 0, true)],
+    );
+}
+
+#[test]
+fn ten_years_in_one_step(rt: HostRuntime) {
+    let mut board = board(Policy::Delay);
+    let years = 315_360_000_000_000_000;
+    let rows = [
+        out(0x43, 0x34),
+        out(0x40, 4),
+        out(0x40, 0),
+        counts(
+            years,
+            TickSource::Pit,
+            94_070_468_879_999,
+            1,
+            94_070_468_879_998,
+            0,
+        ),
+        (
+            years,
+            Access::PortOut {
+                port: 0x70,
+                byte: 7,
+            },
+            Value::Nothing,
+        ),
+        read(years, 0x71, 0x29),
+    ];
+    play(&rt, &mut board, &rows, &[(4191, 0, true)]);
+}

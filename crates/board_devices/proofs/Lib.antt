@@ -1,0 +1,15 @@
+pub mod Rows
+pub mod Rises
+pub mod Places
+pub mod Product
+pub mod Times
+pub mod Advance
+pub mod Edges
+pub mod Masks
+pub mod Fronts
+pub mod Keeps
+pub mod ClockReads
+pub mod ActEdges
+pub mod Upgrade
+pub mod Still
+pub mod PowerOn

@@ -1,0 +1,198 @@
+-- Rows on the definitions: each rule of a nanosecond, of the lines and of an access, at one state shortly before it.
+use Rattle.std.proofs.Common.{◌≡◌, ℕ, true, false, refl, [], ◌∷◌, List}
+use Rattle.std.specs.Prelude.{replicate}
+use Rattle.clk_units.specs.Pulses.{falls_at, pulses_by}
+use Rattle.pit_counter.specs.declared.parts.CounterParts.{CounterParts}
+use Rattle.pit_counter.specs.Mode.{mode_of, is_bcd}
+use Rattle.pit_counter.specs.Count.{modulus, number_in, meant_count, is_odd_square, loaded_count, lowered}
+use Rattle.pit_counter.specs.Table.{effect_in, pulsed, rises_next}
+use Rattle.pit_counter.specs.Programming.{programmed, counter_at_power_on}
+use Rattle.pit_readback.specs.declared.parts.PitParts.{PitParts}
+use Rattle.pit_readback.specs.Pit.{pit_pulsed}
+use Rattle.rtc_cycle.specs.Divider.{ticks_next, updates_next, pulsed as divider_pulsed}
+use Rattle.rtc_calendar.specs.declared.TimeBytes.{TimeBytes}
+use Rattle.rtc_registers.specs.declared.parts.RtcParts.{RtcParts}
+use Rattle.rtc_registers.specs.Registers.{with_time, pf_of}
+use Rattle.rtc_registers.specs.Parts.{rtc_at_power_on}
+use Rattle.rtc_registers.specs.Access.{after_rtc_read, flagged}
+use Rattle.rtc_registers.specs.Pulses.{alarms_next, moved, rtc_pulsed}
+use Rattle.hpet_comparator.specs.Stretch.{matches_at, pulsed as timer_pulsed}
+use Rattle.hpet_registers.specs.declared.parts.HpetParts.{HpetParts}
+use Rattle.hpet_registers.specs.Parts.{no_timer, no_bits, no_words}
+use Rattle.hpet_registers.specs.Stretch.{matches_next, hpet_pulsed}
+use Rattle.tick_policy.specs.declared.parts.TickParts.{TickParts}
+use Rattle.tick_policy.specs.declared.parts.Policy.{Policy}
+use Rattle.tick_policy.specs.declared.parts.Policy.TheVariants.{Discard, Delay, Slew}
+use Rattle.board_devices.specs.declared.parts.DeviceParts.{DeviceParts}
+use Rattle.board_devices.specs.declared.act.Act.TheVariants.{Ack, ClockRead}
+use Rattle.board_devices.specs.Places.{line_at, no_line}
+use Rattle.board_devices.specs.Nanosecond.{pit_pulse, rtc_pulse, hpet_pulse, catch_up_point, at_nanosecond}
+use Rattle.board_devices.specs.Lines.{levels}
+use Rattle.board_devices.specs.Run.{onward, run}
+use Rattle.board_devices.specs.Act.{acted, first_part, act_edges}
+use Rattle.board_devices.specs.Parts.{devices_at_power_on, devices_upgraded}
+
+-- a line with q ticks that wait, and one that is up with them
+line : Policy → ℕ → TickParts
+line p q = record { policy = p; up = false; counts = record { due = q; rises = 0; queue = q; lost = 0 } }
+
+shown : Policy → ℕ → TickParts
+shown p q = record { policy = p; up = true; counts = record { due = q; rises = 0; queue = q; lost = 0 } }
+
+-- counter 0 in mode 2 at 2 of 4
+counter : CounterParts
+counter = record (counter_at_power_on true) { bits = 52; null = false; full = true; live = true; cr = 4; ce = 2 }
+
+pit : CounterParts → PitParts
+pit c = record { counters = c ∷ counter_at_power_on true ∷ counter_at_power_on false ∷ []; speaker = false }
+
+-- a periodic event at the next pulse, with this register B and these flags
+rtc : ℕ → ℕ → RtcParts
+rtc b c = record {
+  index = 12;
+  bytes = 0 ∷ 0 ∷ 0 ∷ 0 ∷ 0 ∷ 0 ∷ 1 ∷ 1 ∷ 1 ∷ 0 ∷ 38 ∷ b ∷ c ∷ 128 ∷ replicate 114 0;
+  d = 31;
+  cycle = false;
+}
+
+-- timer 0 of edge type at 3 on line 20, timer 1 of level type at 2 on line 21, both enabled
+hpet : ℕ → ℕ → ℕ → HpetParts
+hpet config status counter = record {
+  config = config;
+  status = status;
+  counter = counter;
+  timer = record { config = 10244; comparator = 3; period = 0 } ∷ record { config = 10758; comparator = 2; period = 0 }
+      ∷ record { config = 10240; comparator = 0; period = 0 }
+      ∷ no_timer ∷ no_timer ∷ no_timer ∷ no_timer ∷ no_timer ∷ [];
+  timers = 3;
+  messages = false;
+  message_bit = no_bits;
+  message_word = no_words;
+}
+
+lines : TickParts → TickParts → TickParts → List TickParts
+lines p r h = p ∷ r ∷ h ∷ line Delay 0 ∷ line Delay 0 ∷ no_line ∷ no_line ∷ no_line ∷ no_line ∷ no_line ∷ []
+
+start : DeviceParts
+start = record { pit = pit counter; rtc = rtc 66 0; hpet = hpet 1 0 0; ticks = lines (line Delay 0) (line Slew 1) (line Delay 0); slew_ns = 35 }
+
+-- the matches of both timers, and between them and the next the catch-up point, at which the tick that waits comes up
+hpet_rows : (run 0 40 start).edges ≡ record { at = 20; line = 21; up = true } ∷ record { at = 30; line = 20; up = true }
+    ∷ record { at = 35; line = 8; up = true } ∷ []
+unfolding start line rtc hpet lines pit counter run onward at_nanosecond pit_pulse rtc_pulse hpet_pulse catch_up_point levels falls_at pulses_by flagged matches_next hpet_pulsed matches_at timer_pulsed
+hpet_rows = refl
+
+-- the clock's periodic event at 30518; no catch-up point comes
+rtc_row : (run 30515 5 (record start { slew_ns = 1000000000 })).edges ≡ record { at = 30518; line = 8; up = true } ∷ []
+unfolding start line rtc hpet lines pit counter run onward at_nanosecond pit_pulse rtc_pulse hpet_pulse catch_up_point levels falls_at pulses_by pulsed rises_next pit_pulsed rtc_pulsed ticks_next updates_next divider_pulsed alarms_next moved with_time flagged matches_next hpet_pulsed matches_at timer_pulsed effect_in mode_of is_bcd modulus number_in meant_count is_odd_square loaded_count lowered programmed
+rtc_row = refl
+
+-- the second pulse of the 8254 at 1677, with which OUT 0 goes up
+pit_row : (run 1676 2 (record start { pit = pit (record counter { out = false; ce = 1 }); slew_ns = 1000000000 })).edges
+    ≡ record { at = 1677; line = 0; up = true } ∷ []
+unfolding start line rtc hpet lines pit counter run onward at_nanosecond pit_pulse rtc_pulse hpet_pulse catch_up_point levels falls_at pulses_by pulsed rises_next pit_pulsed flagged effect_in mode_of is_bcd modulus number_in meant_count is_odd_square loaded_count lowered programmed
+pit_row = refl
+
+-- a rise of OUT 0 under legacy replacement is no tick
+legacy_pit_row : line_at 0 (at_nanosecond 1677 (record start { pit = pit (record counter { out = false; ce = 1 }); hpet = hpet 3 0 9 })) ≡ line Delay 0
+unfolding start line rtc hpet lines pit counter at_nanosecond pit_pulse rtc_pulse hpet_pulse catch_up_point falls_at pulses_by pulsed rises_next pit_pulsed flagged effect_in mode_of is_bcd modulus number_in meant_count is_odd_square loaded_count lowered programmed
+legacy_pit_row = refl
+
+-- a catch-up point that brings the clock's line up sets PF
+catch_up_sets_pf : pf_of (at_nanosecond 35 start).rtc ≡ true
+unfolding start line rtc hpet lines pit counter at_nanosecond pit_pulse rtc_pulse hpet_pulse catch_up_point falls_at pulses_by flagged
+catch_up_sets_pf = refl
+
+-- .. but none while its ticks aren't counted
+no_catch_up_while_pie_is_0 : line_at 1 (at_nanosecond 35 (record start { rtc = rtc 2 0 })) ≡ line Slew 1
+unfolding start line rtc hpet lines pit counter at_nanosecond pit_pulse rtc_pulse hpet_pulse catch_up_point falls_at pulses_by flagged
+no_catch_up_while_pie_is_0 = refl
+
+-- a tick in the nanosecond of a catch-up point comes first: the one that waits goes on waiting
+tie_row : line_at 2 (at_nanosecond 70 (record start { hpet = hpet 1 0 2; ticks = lines (line Delay 0) (line Slew 0) (line Slew 1) }))
+    ≡ record { policy = Slew; up = true; counts = record { due = 2; rises = 1; queue = 1; lost = 0 } }
+unfolding start line rtc hpet lines pit counter at_nanosecond pit_pulse rtc_pulse hpet_pulse catch_up_point falls_at pulses_by flagged matches_next hpet_pulsed matches_at timer_pulsed
+tie_row = refl
+
+-- a match of a level timer sets its status bit, and makes no tick due
+level_row : (at_nanosecond 20 (record start { hpet = hpet 1 0 1 })).hpet.status ≡ 2
+unfolding start line rtc hpet lines pit counter at_nanosecond pit_pulse rtc_pulse hpet_pulse catch_up_point falls_at pulses_by flagged matches_next hpet_pulsed matches_at timer_pulsed
+level_row = refl
+
+no_level_tick : line_at 3 (at_nanosecond 20 (record start { hpet = hpet 1 0 1 })) ≡ line Delay 0
+unfolding start line rtc hpet lines pit counter at_nanosecond pit_pulse rtc_pulse hpet_pulse catch_up_point falls_at pulses_by flagged matches_next hpet_pulsed matches_at timer_pulsed
+no_level_tick = refl
+
+-- a periodic event while PIE is 0 sets PF, and is no tick
+pf_while_pie_is_0 : pf_of (at_nanosecond 30518 (record start { rtc = rtc 2 0 })).rtc ≡ true
+unfolding start line rtc hpet lines pit counter at_nanosecond pit_pulse rtc_pulse hpet_pulse catch_up_point falls_at pulses_by rtc_pulsed ticks_next updates_next divider_pulsed alarms_next moved with_time flagged
+pf_while_pie_is_0 = refl
+
+no_tick_while_pie_is_0 : line_at 1 (at_nanosecond 30518 (record start { rtc = rtc 2 0 })) ≡ line Slew 1
+unfolding start line rtc hpet lines pit counter at_nanosecond pit_pulse rtc_pulse hpet_pulse catch_up_point falls_at pulses_by rtc_pulsed ticks_next updates_next divider_pulsed alarms_next moved with_time flagged
+no_tick_while_pie_is_0 = refl
+
+-- LEG_RT: lines 0 and 8 are the outputs of timers 0 and 1, which drive no other line
+plain_levels : levels (record start { rtc = rtc 66 64; hpet = hpet 1 2 9; ticks = lines (shown Delay 0) (shown Delay 0) (line Delay 0) }) ≡ true ∷ true ∷ false
+    ∷ true ∷ false ∷ false ∷ []
+unfolding start line shown rtc hpet lines pit counter levels
+plain_levels = refl
+
+legacy_levels : levels (record start { rtc = rtc 66 64; hpet = hpet 3 2 9; ticks = lines (shown Delay 0) (line Delay 0) (line Delay 0) }) ≡ false ∷ true
+    ∷ false ∷ false ∷ false ∷ false ∷ []
+unfolding start line shown rtc hpet lines pit counter levels
+legacy_levels = refl
+
+-- an acknowledgement with a tick that waits: under Delay the line falls and rises again
+ack_delay : act_edges 5 (Ack 20) (record start { ticks = lines (line Delay 0) (line Slew 0) (shown Delay 1) }) ≡ record { at = 5; line = 20; up = false }
+    ∷ record { at = 5; line = 20; up = true } ∷ []
+unfolding start line shown rtc hpet lines pit counter levels acted first_part
+ack_delay = refl
+
+-- .. under Slew and Discard it falls, and under Slew the tick goes on waiting
+ack_slew : act_edges 5 (Ack 20) (record start { ticks = lines (line Delay 0) (line Slew 0) (shown Slew 1) }) ≡ record { at = 5; line = 20; up = false } ∷ []
+unfolding start line shown rtc hpet lines pit counter levels acted first_part
+ack_slew = refl
+
+ack_slew_waits : line_at 2 (acted (Ack 20) (record start { ticks = lines (line Delay 0) (line Slew 0) (shown Slew 1) })) ≡ line Slew 1
+unfolding start line shown rtc hpet lines pit counter acted
+ack_slew_waits = refl
+
+ack_discard : act_edges 5 (Ack 20) (record start { ticks = lines (line Delay 0) (line Slew 0) (shown Discard 0) }) ≡ record { at = 5; line = 20; up = false }
+    ∷ []
+unfolding start line shown rtc hpet lines pit counter levels acted first_part
+ack_discard = refl
+
+-- a level timer isn't acknowledged, nor the 8254 under legacy replacement, nor the clock
+ack_level : act_edges 5 (Ack 21) (record start { hpet = hpet 1 2 9 }) ≡ []
+unfolding start line rtc hpet lines pit counter levels acted first_part
+ack_level = refl
+
+ack_legacy : line_at 0 (acted (Ack 0) (record start { hpet = hpet 3 0 9; ticks = lines (shown Delay 1) (line Slew 0) (line Delay 0) })) ≡ shown Delay 1
+unfolding start line shown rtc hpet lines pit counter acted
+ack_legacy = refl
+
+ack_clock : line_at 1 (acted (Ack 8) (record start { rtc = rtc 66 64; ticks = lines (line Delay 0) (shown Delay 1) (line Delay 0) })) ≡ shown Delay 1
+unfolding start line shown rtc hpet lines pit counter acted
+ack_clock = refl
+
+-- a read of register C acknowledges the clock: under Delay the line falls and rises again, and PF is set again
+read_c : act_edges 5 ClockRead (record start { rtc = rtc 66 64; ticks = lines (line Delay 0) (shown Delay 1) (line Delay 0) })
+    ≡ record { at = 5; line = 8; up = false } ∷ record { at = 5; line = 8; up = true } ∷ []
+unfolding start line shown rtc hpet lines pit counter levels acted first_part after_rtc_read flagged
+read_c = refl
+
+read_c_flag : pf_of (acted ClockRead (record start { rtc = rtc 66 64; ticks = lines (line Delay 0) (shown Delay 1) (line Delay 0) })).rtc ≡ true
+unfolding start line shown rtc hpet lines pit counter acted after_rtc_read flagged
+read_c_flag = refl
+
+-- at power on no line is up, and a place whose timer isn't there holds nothing
+power_on_levels : (pit rtc hpet : Policy) (slew : ℕ) (time : TimeBytes) → levels (devices_at_power_on 3 pit rtc hpet slew time) ≡ false ∷ false ∷ false ∷ false
+    ∷ false ∷ false ∷ []
+unfolding levels rtc_at_power_on with_time
+power_on_levels pit rtc hpet slew time = refl
+
+-- five timers more: their lines have the policy of the others
+upgraded_line : line_at 5 (devices_upgraded start) ≡ line Delay 0
+unfolding start line rtc hpet lines pit counter devices_upgraded
+upgraded_line = refl

@@ -1,0 +1,9 @@
+pub mod Places
+pub mod Nanosecond
+pub mod Lines
+pub mod Run
+pub mod Act
+pub mod Rises
+pub mod Parts
+pub mod View
+pub mod private

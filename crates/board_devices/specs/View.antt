@@ -1,0 +1,11 @@
+-- How the fields of the devices are seen.
+use Rattle.board_devices.specs.declared.parts.DeviceParts.{DeviceParts}
+use Rattle.board_devices.specs.declared.devices.Devices.TheInside.{Inside}
+
+abbrev pub parts_of : Inside → DeviceParts
+parts_of d =
+    record { pit = d.pit; rtc = d.rtc; hpet = d.hpet; ticks = d.ticks; slew_ns = d.slew_ns }
+
+abbrev pub devices_of : DeviceParts → Inside
+devices_of d =
+    record { pit = d.pit; rtc = d.rtc; hpet = d.hpet; ticks = d.ticks; slew_ns = d.slew_ns }

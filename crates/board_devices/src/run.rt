@@ -1,0 +1,147 @@
+//! The devices over a stretch of nanoseconds in which nobody accesses them.
+ghost use Rattle.std.specs.Prelude.{◌≡◌, ℕ, ◌+◌, ◌-◌, ◌*◌, ◌/◌, ◌<◌, ◌≤◌, ◌^◌, ◌&&◌, ◌++◌, length, IsTrue};
+ghost use Rattle.irq_edges.specs.declared.edges.TheConstants.{EDGE_PLACES};
+ghost use Rattle.irq_edges.specs.Lines.{line_numbers, level_of};
+ghost use Rattle.board_devices.specs.Rises.{one_if, lifts};
+ghost use Rattle.board_devices.specs.Places.{line_at};
+ghost use Rattle.board_devices.specs.Lines.{levels};
+ghost use Rattle.hpet_registers.specs.Stretch.{timer_matches};
+ghost use Rattle.board_devices.specs.Run.{run, IsNextEdge};
+ghost use Rattle.board_devices.specs.private.Stretch.{told_levels};
+
+use crate::clock::{counts_rtc, set_flag};
+use crate::devices::Devices;
+use crate::levels::{all_outputs, irq_from, line_times, shown_of};
+use crate::stretch::{all_matched, all_timer_ticks, counted, run_lines};
+use clk_units::{RANGE_NS, first_at, pulses_between};
+use hpet_comparator::Matches;
+use hpet_registers::HPET_HZ;
+use irq_edges::{EdgeList, emit, next_rise};
+use pit_counter::Rises;
+use pit_readback::PIT_HZ;
+use rtc_registers::{RTC_HZ, RtcEvents};
+
+impl Devices {
+    /// Runs from nanosecond `from` to `to`. Answers from when on each line is up, or None where
+    /// nothing came that could move one.
+    fn advance(&mut self, from: u64, to: u64) -> Option<[Option<u64>; 6]>
+        requires order { from ≤ to }
+        requires range { to < 2 ^ 59 }
+        requires room { (k : ℕ) → k < 10 → (line_at k self.old).counts.due + (to - from) < 2 ^ 63 }
+        ensures state { self.new ≡ (run from (to - from) self.old).state }
+        ensures levels { (j : ℕ) → from + j ≤ to → levels (run from j self.old).state
+            ≡ told_levels (from + j) (levels self.old) result }
+        ensures due { (k : ℕ) → k < 10 → (line_at k self.new).counts.due
+            ≤ (line_at k self.old).counts.due + (to - from) }
+    {
+        let hpet = self.hpet;
+        let legacy = hpet.legacy();
+        let _clock = self.rtc.parts();
+        let shown = shown_of(&self.rtc);
+        let counts = counts_rtc(shown.pie, legacy);
+        let point = next_point(from, self.slew_ns);
+        let rises = self.pit.pulses(pulses_between(from, to, PIT_HZ));
+        let events = self.rtc.pulses(pulses_between(from, to, RTC_HZ));
+        let matches = self.hpet.pulses(pulses_between(from, to, HPET_HZ));
+        if to < point && nothing_came(rises, &events, &matches) {
+            return None;
+        }
+        let rise_at = first_at(rises.first, PIT_HZ, from, to);
+        let tick_at = first_at(events.cycle.first_tick, RTC_HZ, from, to);
+        let alarm_at = first_at(events.first_alarm, RTC_HZ, from, to);
+        let update_at = first_at(events.cycle.first_update, RTC_HZ, from, to);
+        let pit = counted(true, !legacy, rises.count, rise_at);
+        let rtc = counted(counts, counts, events.cycle.ticks, tick_at);
+        let matched = all_matched(&matches, from, to);
+        let timers = all_timer_ticks(&hpet, &matches, &matched);
+        let ups = run_lines(&mut self.ticks, pit, rtc, &timers, from, to, point);
+        let flag = counts_rtc_up(counts, self.ticks[1].is_up());
+        set_flag(&mut self.rtc, flag);
+        let outputs = all_outputs(&hpet, from, &matched, &ups);
+        let irq = irq_from(shown, from, ups[1], alarm_at, update_at);
+        Some(line_times(legacy, &hpet, ups[0], irq, &outputs))
+    }
+
+    /// Runs from nanosecond `from` to `to`, and appends the edges on the way. Six places must be
+    /// free.
+    #[tactic(auto, using(crate::proofs::Edges::run_none_state, crate::proofs::Edges::run_none_edges))]
+    pub fn run_to(&mut self, from: u64, to: u64, edges: &mut EdgeList)
+        requires order { from ≤ to }
+        requires range { to < 2 ^ 59 }
+        requires room { (k : ℕ) → k < 10 → (line_at k self.old).counts.due + (to - from) < 2 ^ 63 }
+        requires places { length edges.old + 6 ≤ EDGE_PLACES }
+        ensures state { self.new ≡ (run from (to - from) self.old).state }
+        ensures edges { edges.new ≡ edges.old ++ (run from (to - from) self.old).edges }
+        ensures few { length edges.new ≤ length edges.old + 6 }
+        ensures due { (k : ℕ) → k < 10 → (line_at k self.new).counts.due
+            ≤ (line_at k self.old).counts.due + (to - from) }
+        ensures lifts { (n : ℕ) → lifts n (run from (to - from) self.old).edges
+            + one_if (level_of line_numbers (levels self.old) n)
+            ≡ one_if (level_of line_numbers (levels self.new) n) }
+    {
+        if from == to {
+            return;
+        }
+        match self.advance(from, to) {
+            Some(times) => emit(&times, from, to, edges),
+            None => {}
+        }
+    }
+
+    /// The first nanosecond after `now` at which a line changes if no access comes, below 2^59.
+    pub fn next_edge(&self, now: u64) -> Option<u64>
+        requires range { now < 2 ^ 59 }
+        requires room { (k : ℕ) → k < 10 → (line_at k self.now).counts.due
+            + (RANGE_NS - 1 - now) < 2 ^ 63 }
+        ensures { IsNextEdge now self.now result }
+    {
+        let mut copy = *self;
+        match copy.advance(now, RANGE_NS - 1) {
+            Some(times) => next_rise(&times, now, RANGE_NS - 1),
+            None => None,
+        }
+    }
+}
+
+/// Whether a stretch brought no tick, no update and no match.
+fn nothing_came(rises: Rises, events: &RtcEvents, matches: &[Matches; 8]) -> bool
+    ensures rises { IsTrue result → rises.count ≡ 0 }
+    ensures ticks { IsTrue result → events.now.cycle.ticks ≡ 0 }
+    ensures updates { IsTrue result → events.now.cycle.updates ≡ 0 }
+    ensures matches { IsTrue result → (k : ℕ) → k < 8 → (timer_matches matches.now k).count ≡ 0 }
+{
+    rises.count == 0
+        && events.cycle.ticks == 0
+        && events.cycle.updates == 0
+        && nothing_matched(matches)
+}
+
+/// Whether no timer matched.
+fn nothing_matched(matches: &[Matches; 8]) -> bool
+    ensures { IsTrue result → (k : ℕ) → k < 8 → (timer_matches matches.now k).count ≡ 0 }
+{
+    for timer in matches {
+        if timer.count > 0 {
+            return false;
+        }
+    }
+    true
+}
+
+/// Whether PF is to be set.
+fn counts_rtc_up(counts: bool, up: bool) -> bool
+    ensures { result ≡ (counts && up) }
+{
+    counts && up
+}
+
+/// The first catch-up point after `from`.
+#[tactic(auto, using(crate::proofs::Times::point_fits))]
+fn next_point(from: u64, slew_ns: u64) -> u64
+    requires range { from < 2 ^ 59 }
+    requires low { 1 ≤ slew_ns }
+    requires high { slew_ns ≤ 1000000000 }
+    ensures { result ≡ (from / slew_ns + 1) * slew_ns }
+{
+    (from / slew_ns + 1) * slew_ns
+}

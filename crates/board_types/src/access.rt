@@ -1,0 +1,139 @@
+//! The accesses that a board takes.
+ghost use Rattle.std.specs.Prelude.{◌≡◌, ◌*◌, ◌^◌, nat_lt, IsTrue};
+ghost use Rattle.hpet_registers.specs.Access.{is_access_width};
+ghost use Rattle.irq_edges.specs.Lines.{is_line};
+ghost use Rattle.board_types.specs.Legal.{is_port, is_msr, is_hpet_place, is_source, is_legal};
+
+use crate::setup::timers_of;
+
+/// IA32_TIME_STAMP_COUNTER: the processor's TSC (Intel SDM, volume 4).
+pub const MSR_TSC: u32 = 0x10;
+
+/// IA32_TSC_ADJUST: by how much the TSC was moved (Intel SDM, volume 4).
+pub const MSR_TSC_ADJUST: u32 = 0x3b;
+
+/// MSR_KVM_WALL_CLOCK_NEW: where the guest wants the wall clock (Linux, "KVM-specific MSRs").
+pub const MSR_KVM_WALL_CLOCK: u32 = 0x4b56_4d00;
+
+/// MSR_KVM_SYSTEM_TIME_NEW: where the guest wants its pvclock page; bit 0 enables it (Linux, "KVM-specific MSRs").
+pub const MSR_KVM_SYSTEM_TIME: u32 = 0x4b56_4d01;
+
+/// A source of ticks, whose lost and late ones are counted.
+#[derive(Clone, Copy, Debug, PartialEq, Eq)]
+pub enum TickSource {
+    /// Counter 0 of the 8254.
+    Pit,
+    /// The periodic events of the MC146818.
+    Rtc,
+    /// The matches of a timer of the HPET, by its number.
+    Hpet(u8),
+}
+
+/// What a processor, or its monitor, may ask of a board.
+#[derive(Clone, Copy, Debug, PartialEq, Eq)]
+pub enum Access {
+    /// A read of one of the ports 40h to 43h, 61h, 70h and 71h.
+    PortIn { port: u8 },
+    /// A write to one of these ports.
+    PortOut { port: u8, byte: u8 },
+    /// A read of the HPET: 1, 2, 4 or 8 bytes at an offset up to 3FFh.
+    HpetRead { offset: u16, width: u8 },
+    /// A write to the HPET of a value that fits its width.
+    HpetWrite { offset: u16, width: u8, value: u64 },
+    /// A read of one of the four MSRs above, by the processor that makes the access.
+    MsrRead { msr: u32 },
+    /// A write to one of them.
+    MsrWrite { msr: u32, value: u64 },
+    /// An acknowledgement of one of the lines 0, 8, 20, 21, 22 and 23.
+    Ack { line: u8 },
+    /// Nothing but the time that has gone by.
+    Step,
+    /// The pvclock page of this processor is published.
+    Refresh { page: u8 },
+    /// A read of the wall clock's words.
+    Wall,
+    /// How many ticks of a source there were, and what became of them.
+    CountsOf { from: TickSource },
+    /// When a line changes next, if no access comes.
+    Next,
+    /// How often a line went up; from format 2 on.
+    Rose { line: u8 },
+}
+
+impl Access {
+    /// Whether a board of this many processors and this format takes the access: whether its port, register,
+    /// width, line, source or page is there, and a written value fits its width.
+    pub fn legal(&self, cpus: u8, format: u8) -> bool
+        ensures { result ≡ is_legal cpus format self.now }
+    {
+        match *self {
+            Access::PortIn { port } | Access::PortOut { port, .. } => is_port(port),
+            Access::HpetRead { offset, width } => is_hpet_place(offset, width),
+            Access::HpetWrite {
+                offset,
+                width,
+                value,
+            } => is_hpet_place(offset, width) && fits(value, width),
+            Access::MsrRead { msr } | Access::MsrWrite { msr, .. } => is_msr(msr),
+            Access::Ack { line } => is_line(line),
+            Access::Step | Access::Wall | Access::Next => true,
+            Access::Refresh { page } => page < cpus,
+            Access::CountsOf { from } => is_source(from, format),
+            Access::Rose { line } => 2 <= format && is_line(line),
+        }
+    }
+}
+
+/// Whether a port is one of the 8254 (40h to 43h, 61h) or of the MC146818 (70h, 71h).
+fn is_port(port: u8) -> bool
+    ensures { result ≡ is_port port }
+{
+    matches!(port, 0x40 | 0x41 | 0x42 | 0x43 | 0x61 | 0x70 | 0x71)
+}
+
+/// Whether an MSR is one of the four.
+fn is_msr(msr: u32) -> bool
+    ensures { result ≡ is_msr msr }
+{
+    msr == MSR_TSC
+        || msr == MSR_TSC_ADJUST
+        || msr == MSR_KVM_WALL_CLOCK
+        || msr == MSR_KVM_SYSTEM_TIME
+}
+
+/// Whether a line is one of the six.
+fn is_line(line: u8) -> bool
+    ensures { result ≡ is_line line }
+{
+    matches!(line, 0 | 8 | 20 | 21 | 22 | 23)
+}
+
+/// Whether an access to the HPET lies in its block, with a width that a processor has.
+fn is_hpet_place(offset: u16, width: u8) -> bool
+    ensures { result ≡ is_hpet_place offset width }
+{
+    offset <= 0x3ff && matches!(width, 1 | 2 | 4 | 8)
+}
+
+/// Whether a value fits a width of an access, in bytes.
+fn fits(value: u64, width: u8) -> bool
+    requires { IsTrue (is_access_width width) }
+    ensures { result ≡ nat_lt value (2 ^ (8 * width)) }
+{
+    match width {
+        1 => value < 0x100,
+        2 => value < 0x1_0000,
+        4 => value < 0x1_0000_0000,
+        _ => true,
+    }
+}
+
+/// Whether a source of ticks is there in a format.
+fn is_source(from: TickSource, format: u8) -> bool
+    ensures { result ≡ is_source format from }
+{
+    match from {
+        TickSource::Pit | TickSource::Rtc => true,
+        TickSource::Hpet(timer) => timer < timers_of(format),
+    }
+}

@@ -1,0 +1,27 @@
+//! What is said to a board and heard from it: how it is set up, the accesses that it takes, what it answers, why
+//! it refuses, and all that it holds.
+//!
+//! These are plain types without a device behind them, so that a reader of traces, a writer of answers and a
+//! reader of saved states can be built beside the board.
+//!
+//! ```text
+//! let access = Access::PortOut { port: 0x43, byte: 0x34 };
+//! access.legal(1, 1) == true
+//! Access::Refresh { page: 1 }.legal(1, 1) == false
+//! ```
+#![tactic(auto)]
+
+mod access;
+mod parts;
+mod reply;
+mod setup;
+
+pub use access::{
+    Access, MSR_KVM_SYSTEM_TIME, MSR_KVM_WALL_CLOCK, MSR_TSC, MSR_TSC_ADJUST, TickSource,
+};
+pub use parts::{BoardParts, LAST_VERSION, MOST_ACCESSES, ProcessorParts};
+pub use reply::{Ran, Refusal, Reply, Value};
+pub use setup::{Setup, processors_of, timers_of};
+
+#[cfg(test)]
+mod tests;

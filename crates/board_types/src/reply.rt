@@ -1,0 +1,51 @@
+//! What a board answers, and why it refuses.
+use irq_edges::EdgeList;
+use tick_policy::Counts;
+
+/// What an access gives.
+#[derive(Clone, Copy, Debug, PartialEq, Eq)]
+pub enum Value {
+    /// No value.
+    Nothing,
+    /// The byte of a port.
+    Byte(u8),
+    /// A value of this many bytes: of the HPET, of an MSR (8 bytes), or a count of rises (8 bytes).
+    Word { width: u8, value: u64 },
+    /// The ticks of a source.
+    Counts(Counts),
+    /// The wall clock's words: version, seconds, nanoseconds.
+    Wall { version: u32, sec: u32, nsec: u32 },
+    /// The nanosecond at which a line changes next, if one does below 2^59.
+    Next(Option<u64>),
+}
+
+/// What an access that isn't refused is answered.
+#[derive(Debug, Drop, PartialEq, Eq)]
+pub struct Reply {
+    /// The number of the access, from 1 on.
+    pub number: u64,
+    /// The value that it gives.
+    pub value: Value,
+    /// The changes of lines: those up to its time, then its own.
+    pub edges: EdgeList,
+}
+
+/// What a run of the board brought.
+#[derive(Debug, Drop, PartialEq, Eq)]
+pub struct Ran {
+    /// The changes of lines.
+    pub edges: EdgeList,
+}
+
+/// Why an access is refused. The causes are tested in this order, and a board that refuses stays as it is.
+#[derive(Clone, Copy, Debug, PartialEq, Eq)]
+pub enum Refusal {
+    /// The count of the host's counter lies before the anchor's, which is given.
+    BeforeStart { start: u64 },
+    /// The time, which is given in nanoseconds, is 2^59 or more.
+    OutOfRange { ns: u128 },
+    /// The access would publish a page, or the wall clock's words, whose version is the last one, which is given.
+    VersionsSpent { version: u64 },
+    /// There were 2^62 accesses, which is the number that is given.
+    Spent { number: u64 },
+}

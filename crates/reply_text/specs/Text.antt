@@ -1,0 +1,116 @@
+-- The printed lines, one row a line.
+use Rattle.std.specs.Prelude.{ℕ, ◌*◌, min, Bool, true, false, List, [], ◌∷◌, ◌++◌, Option, Some, None, codes, decimal}
+use Rattle.std.specs.Fmt.{signed_decimal}
+use Rattle.board_types.specs.declared.reply.Reply.{Reply}
+use Rattle.board_types.specs.declared.reply.Value.{Value}
+use Rattle.board_types.specs.declared.reply.Value.TheVariants.{Nothing, Byte, Word, Counts, Wall, Next}
+use Rattle.edge_hooks.specs.declared.deliveries.Delivery.{Delivery}
+use Rattle.irq_edges.specs.Lines.{line_numbers}
+use Rattle.irq_edges.specs.declared.edges.Edge.{Edge}
+use Rattle.irq_edges.specs.declared.lines.Lines.{Lines}
+use Rattle.pvclock_page.specs.declared.page.PageReply.{PageReply}
+use Rattle.pvclock_page.specs.declared.page.PageReply.TheVariants.{Off as PageOff, On as PageOn}
+use Rattle.pvclock_page.specs.declared.page.ClockReply.{ClockReply}
+use Rattle.pvclock_page.specs.declared.page.ClockReply.TheVariants.{Off as ClockOff, On as ClockOn}
+use Rattle.reply_text.specs.Words.{hex_text, hexes, line_of}
+use Rattle.reply_text.specs.declared.ends.Refused.{Refused}
+use Rattle.reply_text.specs.declared.ends.Refused.TheVariants.{Form, Steal, Cpu, Fell, State, Long, Many, NoEnd, Range, Versions, Spent, NotBuilt}
+
+-- a direction
+abbrev pub direction : Bool → List ℕ
+direction true = codes "up"
+direction false = codes "down"
+
+-- `edge AT LINE up`, `edge AT LINE down`, and with a delivery `edge AT LINE up CPU VV`
+unfoldable pub edge_text : Edge → Option Delivery → List ℕ
+edge_text e None =
+    line_of (codes "edge") (decimal e.at ∷ decimal e.line ∷ direction e.up ∷ [])
+edge_text e (Some to) =
+    line_of (codes "edge")
+    (decimal e.at ∷ decimal e.line ∷ direction e.up ∷ decimal to.cpu ∷ hex_text 2 to.vector ∷ [])
+
+-- the value of a reply: two digits a byte, at most the 16 of 64 bits (own); or decimal numbers
+abbrev pub value_words : Value → List (List ℕ)
+value_words Nothing = []
+value_words (Byte b) = hex_text 2 b ∷ []
+value_words (Word width v) = hex_text (2 * min width 8) v ∷ []
+value_words (Counts c) = decimal c.due ∷ decimal c.rises ∷ decimal c.queue ∷ decimal c.lost ∷ []
+value_words (Wall version sec nsec) = decimal version ∷ decimal sec ∷ decimal nsec ∷ []
+value_words (Next None) = codes "none" ∷ []
+value_words (Next (Some t)) = decimal t ∷ []
+
+-- `LINE NUMBER`, and a space and the value where there is one
+unfoldable pub board_text : ℕ → Reply → List ℕ
+board_text line reply = line_of (decimal line) (decimal reply.number ∷ value_words reply.value)
+
+-- `LINE page VERSION STAMP SYSTEM MUL SHIFT FLAGS READING`, or `LINE page off`
+unfoldable pub page_text : ℕ → PageReply → List ℕ
+page_text line PageOff = line_of (decimal line) (codes "page" ∷ codes "off" ∷ [])
+page_text line (PageOn page reading) =
+    line_of (decimal line)
+    (codes "page" ∷ decimal page.version ∷ decimal page.tsc_timestamp ∷ decimal page.system_time
+    ∷ hex_text 8 page.mul ∷ signed_decimal page.shift ∷ hex_text 2 page.flags ∷ decimal reading ∷ [])
+
+-- `LINE clock READING CLOCK`, or `LINE clock off`
+unfoldable pub clock_text : ℕ → ClockReply → List ℕ
+clock_text line ClockOff = line_of (decimal line) (codes "clock" ∷ codes "off" ∷ [])
+clock_text line (ClockOn reading clock) =
+    line_of (decimal line) (codes "clock" ∷ decimal reading ∷ decimal clock ∷ [])
+
+-- `LINE NUMBER state HEXES`, two digits a byte
+unfoldable pub save_text : ℕ → ℕ → List ℕ → List ℕ
+save_text line number bytes =
+    line_of (decimal line) (decimal number ∷ codes "state" ∷ hexes bytes ∷ [])
+
+-- `LINE NUMBER moved TIME`
+unfoldable pub move_text : ℕ → ℕ → ℕ → List ℕ
+move_text line number time =
+    line_of (decimal line) (decimal number ∷ codes "moved" ∷ decimal time ∷ [])
+
+-- the numbers of the lines that are up, rising
+abbrev pub up_numbers : List ℕ → List Bool → List ℕ
+up_numbers [] levels = []
+up_numbers (n ∷ ns) [] = []
+up_numbers (n ∷ ns) (true ∷ levels) = n ∷ up_numbers ns levels
+up_numbers (n ∷ ns) (false ∷ levels) = up_numbers ns levels
+
+-- numbers joined by commas
+abbrev pub joined : List ℕ → List ℕ
+joined [] = []
+joined (n ∷ []) = decimal n
+joined (n ∷ m ∷ ms) = decimal n ++ 44 ∷ joined (m ∷ ms)
+
+-- LINES: the lines that are up, or `-`
+abbrev pub up_word : List ℕ → List ℕ
+up_word [] = codes "-"
+up_word (n ∷ ns) = joined (n ∷ ns)
+
+-- `final TIME ACCESSES GREATEST LINES`
+unfoldable pub final_text : ℕ → ℕ → ℕ → Lines → List ℕ
+final_text time accesses greatest lines =
+    line_of (codes "final")
+    (decimal time ∷ decimal accesses ∷ decimal greatest
+    ∷ up_word (up_numbers line_numbers lines.levels) ∷ [])
+
+-- `state HEXES`
+unfoldable pub state_text : List ℕ → List ℕ
+state_text bytes = line_of (codes "state") (hexes bytes ∷ [])
+
+-- REASON
+abbrev pub reason_words : Refused → List (List ℕ)
+reason_words Form = codes "form" ∷ []
+reason_words Steal = codes "steal" ∷ []
+reason_words Cpu = codes "cpu" ∷ []
+reason_words (Fell before) = codes "fell" ∷ decimal before ∷ []
+reason_words (State place) = codes "state" ∷ decimal place ∷ []
+reason_words Long = codes "long" ∷ []
+reason_words Many = codes "many" ∷ []
+reason_words NoEnd = codes "noend" ∷ []
+reason_words (Range ns) = codes "range" ∷ decimal ns ∷ []
+reason_words (Versions version) = codes "versions" ∷ decimal version ∷ []
+reason_words (Spent number) = codes "spent" ∷ decimal number ∷ []
+reason_words NotBuilt = codes "notbuilt" ∷ []
+
+-- `refused LINE REASON`
+unfoldable pub refused_text : ℕ → Refused → List ℕ
+refused_text line why = line_of (codes "refused") (decimal line ∷ reason_words why)

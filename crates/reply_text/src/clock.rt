@@ -1,0 +1,52 @@
+//! Pages and clock readings.
+ghost use Rattle.std.specs.Prelude.{◌≡◌, ◌+◌, ◌<◌, ◌++◌, length, OnOk, OnErr, vec_len, vec_capacity};
+ghost use Rattle.reply_text.specs.Text.{page_text, clock_text};
+
+use crate::tail::Tail;
+use clk_units::NoMemory;
+use pvclock_page::{ClockReply, PageReply};
+
+/// The line of a page that was read, with the reading at its time; or that it is off.
+#[tactic(auto, unfolding(crate::specs::Text::page_text))]
+pub fn page_line(line: u64, reply: &PageReply, out: &mut Vec<u8>) -> Result<(), NoMemory>
+    ensures ok { OnOk result (out.new.items ≡ out.old.items ++ page_text line reply.now) }
+    ensures err { OnErr result (out.new.items ≡ out.old.items) }
+    ensures full { OnErr result (vec_capacity out.old < vec_len out.old + length (page_text line reply.now)) }
+{
+    let mut tail = Tail::new();
+    match reply {
+        PageReply::Off => tail.word(b"off"),
+        PageReply::On { page, reading } => {
+            tail.number(*reading);
+            tail.hex(u64::from(page.flags), 2);
+            tail.signed(page.shift);
+            tail.hex(u64::from(page.mul), 8);
+            tail.number(page.system_time);
+            tail.number(page.tsc_timestamp);
+            tail.number(page.version);
+        }
+    }
+    tail.word(b"page");
+    tail.digits(line);
+    tail.append_to(out)
+}
+
+/// The line of a clock reading, as the page gives it and as the clamp makes it; or that the page is off.
+#[tactic(auto, unfolding(crate::specs::Text::clock_text))]
+pub fn clock_line(line: u64, reply: &ClockReply, out: &mut Vec<u8>) -> Result<(), NoMemory>
+    ensures ok { OnOk result (out.new.items ≡ out.old.items ++ clock_text line reply.now) }
+    ensures err { OnErr result (out.new.items ≡ out.old.items) }
+    ensures full { OnErr result (vec_capacity out.old < vec_len out.old + length (clock_text line reply.now)) }
+{
+    let mut tail = Tail::new();
+    match *reply {
+        ClockReply::Off => tail.word(b"off"),
+        ClockReply::On { reading, clock } => {
+            tail.number(clock);
+            tail.number(reading);
+        }
+    }
+    tail.word(b"clock");
+    tail.digits(line);
+    tail.append_to(out)
+}

@@ -1,0 +1,65 @@
+//! What no clause says: with ample memory each call answers Ok, and lines stand one behind the other.
+use super::*;
+use board_types::{Reply, Value};
+use edge_hooks::Delivery;
+use irq_edges::{Edge, EdgeList, Lines};
+use pvclock_page::{ClockReply, Page, PageReply};
+use std::test::Fail;
+
+/// The block of an access, then each other kind of line, and the line that ends a trace.
+#[test]
+fn lines_of_a_replay(rt: HostRuntime) -> Result<(), Fail> {
+    let mut out = Vec::new(rt.alloc());
+    let edge = Edge {
+        at: 4191,
+        line: 0,
+        up: true,
+    };
+    let to = Delivery {
+        cpu: 0,
+        vector: 0x30,
+    };
+    let reply = Reply {
+        number: 4,
+        value: Value::Word {
+            width: 8,
+            value: 0x0098_9680_8086_a201,
+        },
+        edges: EdgeList::new(),
+    };
+    let page = Page {
+        version: 4,
+        tsc_timestamp: 2_000_004_000,
+        system_time: 1_000_002_000,
+        mul: 0x8000_0000,
+        shift: -1,
+        flags: 3,
+        offset: 0,
+        enabled: true,
+    };
+    let lines = Lines {
+        levels: [true, false, false, true, false, true],
+    };
+    edge_line(&edge, None, &mut out)?;
+    edge_line(&edge, Some(to), &mut out)?;
+    board_line(6, &reply, &mut out)?;
+    page_line(
+        11,
+        &PageReply::On {
+            page,
+            reading: 1_000_003_000,
+        },
+        &mut out,
+    )?;
+    clock_line(12, &ClockReply::Off, &mut out)?;
+    move_line(9, 5, 1_000_002_000, &mut out)?;
+    save_line(3, 1, b"CLKBOARD", &mut out)?;
+    state_line(b"\xfe\x0f", &mut out)?;
+    final_line(5000, 6, 0, lines, &mut out)?;
+    refused_line(4, Refused::Fell { before: 10 }, &mut out)?;
+    let wanted = b"edge 4191 0 up\nedge 4191 0 up 0 30\n6 4 009896808086a201\n\
+11 page 4 2000004000 1000002000 80000000 -1 03 1000003000\n12 clock off\n9 5 moved 1000002000\n\
+3 1 state 434c4b424f415244\nstate fe0f\nfinal 5000 6 0 0,21,23\nrefused 4 fell 10\n";
+    assert_eq!(rt; out.as_slice(), wanted.as_slice());
+    Ok(())
+}

@@ -1,0 +1,165 @@
+-- What is true of a replay before each line stays true behind it.
+use Rattle.std.proofs.Common.{◌≡◌, ℕ, ◌+◌, Bool, true, false, cond, ltb, List, Option, Some, None, Result, Ok, Err, IfOk, length, codes, refl, sym, ap, subst, ◌∙◌, arith}
+use Rattle.std.specs.Str.{bytes_eq}
+use Rattle.clk_units.specs.declared.NoMemory.{NoMemory}
+use Rattle.board_types.specs.declared.access.Access.{Access}
+use Rattle.board_types.specs.declared.parts.BoardParts.{BoardParts}
+use Rattle.board_types.specs.declared.reply.Refusal.{Refusal}
+use Rattle.board_core.specs.Refusals.{refusal_of}
+use Rattle.board_core.specs.Pages.{after_clock}
+use Rattle.board_core.proofs.Laws.{after_access-cpus, after_access-format}
+use Rattle.edge_hooks.specs.declared.deliveries.Delivery.{Delivery}
+use Rattle.reply_text.specs.declared.ends.Refused.{Refused}
+use Rattle.trace_text.specs.Tokens.{words_of}
+use Rattle.trace_text.specs.Header.{first_line, header_line}
+use Rattle.trace_text.specs.Records.{record_of}
+use Rattle.trace_text.specs.Lines.{limit_of, is_skipped, Step, step_of, stepped, part, begun, next, fault_of, answer_in, stage_behind, answer_by, behind_by, taken, behind}
+use Rattle.trace_text.specs.declared.faults.Reason.{Reason}
+use Rattle.trace_text.specs.declared.faults.Reason.TheVariants.{TooLong}
+use Rattle.trace_text.specs.declared.faults.RecordFault.{RecordFault}
+use Rattle.trace_text.specs.declared.header.Head.{Head}
+use Rattle.trace_text.specs.declared.records.Body.{Body}
+use Rattle.trace_text.specs.declared.records.Job.{Job}
+use Rattle.trace_text.specs.declared.records.Job.TheVariants.{Board, Page, Clock, Save, Move}
+use Rattle.trace_text.specs.declared.records.Record.{Record}
+use Rattle.trace_text.specs.declared.reading.Item.{Item}
+use Rattle.trace_text.specs.declared.reading.Item.TheVariants.{Skipped, Part, Begun, Next, End}
+use Rattle.trace_text.specs.declared.reading.ReadingParts.{ReadingParts}
+use Rattle.trace_text.specs.declared.reading.Stage.{Stage}
+use Rattle.trace_text.specs.declared.reading.Stage.TheVariants.{Opening, Heading, Running, Ended, Refused as Stops}
+use Rattle.trace_loop.specs.Progress.{Answer, Goes, Ends, end_of, state_behind}
+use Rattle.trace_runner.specs.Records.{access_answer, read_answer, job_answer}
+use Rattle.trace_runner.specs.Replay.{board_of, item_answer, with_board}
+use Rattle.trace_runner.specs.Ready.{IsRound, IsReady}
+use Rattle.trace_runner.specs.declared.replay.Replay.{Replay}
+use Rattle.trace_runner.specs.declared.status.Verdict.{Verdict}
+
+-- behind an item the reader's stage goes with the board that the item leaves
+abbrev Onward : Item → Stage → BoardParts → Type 0
+Onward Skipped t b = IsRound t b
+Onward Part t b = IsRound t b
+Onward (Begun header) t b = IsRound t (board_of header.begin)
+Onward (Next rec) t b = IsRound t b
+Onward End t b = Unit {0}
+
+abbrev Fits : BoardParts → Result Step Reason → Type 0
+Fits b (Ok step) = Onward step.item step.stage b
+Fits b (Err reason) = Unit {0}
+
+module _ (text : List ℕ) (b : BoardParts) where
+  part_fits : (x : Result Head Reason) → Fits b (part x)
+  part_fits (Ok head) = tt
+  part_fits (Err reason) = tt
+
+  next_fits : (body : Body) (x : Result Record Reason) → IsRound (Running body) b → Fits b (next body x)
+  next_fits body (Ok r) round = round
+  next_fits body (Err reason) round = tt
+
+  stage_fits : (s : Stage) → IsRound s b → Fits b (step_of s text)
+  stage_fits Opening round = part_fits (first_line (words_of text))
+  stage_fits (Heading head) round = by_begin (bytes_eq text (codes "begin"))
+    where
+      by_begin : (t : Bool) → Fits b (cond t (Ok (begun head)) (part (header_line head (words_of text))))
+      by_begin true = (refl, refl)
+      by_begin false = part_fits (header_line head (words_of text))
+  stage_fits (Running body) round = by_end (bytes_eq text (codes "end"))
+    where
+      by_end : (t : Bool) → Fits b (cond t (Ok (record { item = End; stage = Ended })) (next body (record_of body (words_of text))))
+      by_end true = tt
+      by_end false = next_fits body (record_of body (words_of text)) round
+  stage_fits Ended round = absurd round
+  stage_fits (Stops fault) round = absurd round
+
+  fits : (s : Stage) → IsRound s b → Fits b (stepped s text)
+  unfolding stepped
+  fits s round = by_long (ltb (limit_of text) (length text))
+    where
+      by_skip : (t : Bool) → Fits b (cond t (Ok (record { item = Skipped; stage = s })) (step_of s text))
+      by_skip true = round
+      by_skip false = stage_fits s round
+
+      by_long : (t : Bool) → Fits b (cond t (Err TooLong) (cond (is_skipped text) (Ok (record { item = Skipped; stage = s })) (step_of s text)))
+      by_long true = tt
+      by_long false = by_skip (is_skipped text)
+
+-- a trace that goes on has no fault
+going : (s : Stage) (b : BoardParts) → IsRound s b → fault_of s ≡ None
+going Opening b round = refl
+going (Heading head) b round = refl
+going (Running body) b round = refl
+going Ended b round = absurd round
+going (Stops fault) b round = absurd round
+
+-- a board with as many processors and the same format serves as well
+round_same : (t : Stage) (b b' : BoardParts) → b'.cpus ≡ b.cpus → b'.format ≡ b.format → IsRound t b → IsRound t b'
+round_same Opening b b' cpus format round = tt
+round_same (Heading head) b b' cpus format round = tt
+round_same (Running body) b b' cpus format round = (round.0 ∙ sym cpus, round.1 ∙ sym format)
+round_same Ended b b' cpus format round = round
+round_same (Stops fault) b b' cpus format round = round
+
+-- a record leaves such a board
+abbrev Same : BoardParts → Answer BoardParts Verdict → Type 0
+Same b (Goes text b') = (b'.cpus ≡ b.cpus) × (b'.format ≡ b.format)
+Same b (Ends closing) = Unit {0}
+
+same_access : (o : Option Refusal) (line cpu h : ℕ) (a : Access) (ds : List (Option Delivery)) (b : BoardParts) → Same b (access_answer o line cpu h a ds b)
+same_access None line cpu h a ds b = (after_access-cpus b cpu h a, after_access-format b cpu h a)
+same_access (Some refusal) line cpu h a ds b = tt
+
+same_read : (o : Option Refused) (line : ℕ) (text : List ℕ) (b b' : BoardParts) → b'.cpus ≡ b.cpus → b'.format ≡ b.format → Same b (read_answer o line text b')
+same_read None line text b b' cpus format = (cpus, format)
+same_read (Some why) line text b b' cpus format = tt
+
+same_job : (line cpu h : ℕ) (job : Job) (ds : List (Option Delivery)) (b : BoardParts) → Same b (job_answer line cpu h job ds b)
+unfolding after_clock
+same_job line cpu h (Board a) ds b = same_access (refusal_of b cpu h a) line cpu h a ds b
+same_job line cpu h (Page page) ds b = same_read _ line _ b b refl refl
+same_job line cpu h (Clock page) ds b = same_read _ line _ b (after_clock b page h) refl refl
+same_job line cpu h Save ds b = tt
+same_job line cpu h (Move khz start gap) ds b = tt
+
+-- behind a record
+record_ready : (line : ℕ) (t : Stage) (r : Replay) (x : Answer BoardParts Verdict) → r.reading.lines ≡ line → r.reading.stage ≡ t → IsRound t r.board → Same r.board x
+    → end_of (with_board x r) ≡ None → IsReady (line + 1) (state_behind (with_board x r) r)
+record_ready line t r (Goes text b) count is round same none = record {
+  count = omega (arith, count);
+  round = subst (λ (s : Stage). IsRound s b) (sym is) (round_same t r.board b same.0 same.1 round);
+}
+record_ready line t r (Ends closing) count is round same none = cc
+
+-- behind an item
+item_ready : (line : ℕ) (item : Item) (t : Stage) (r : Replay) → r.reading.lines ≡ line → r.reading.stage ≡ t → Onward item t r.board
+    → end_of (item_answer line item r) ≡ None → IsReady (line + 1) (state_behind (item_answer line item r) r)
+item_ready line Skipped t r count is round none = record { count = omega (arith, count); round = subst (λ (s : Stage). IsRound s r.board) (sym is) round }
+item_ready line Part t r count is round none = record { count = omega (arith, count); round = subst (λ (s : Stage). IsRound s r.board) (sym is) round }
+item_ready line (Begun header) t r count is round none = record { count = omega (arith, count); round = subst (λ (s : Stage). IsRound s (board_of header.begin)) (sym is) round }
+item_ready line (Next rec) t r count is round none =
+    record_ready line t r (job_answer line rec.cpu rec.h rec.job r.deliveries r.board) count is round (same_job line rec.cpu rec.h rec.job r.deliveries r.board) none
+item_ready line End t r count is round none = cc
+
+-- behind a step of the reader
+step_ready : (line n : ℕ) (x : Result Step Reason) (item : Item) (r : Replay) → n ≡ line → Fits r.board x → answer_in n x ≡ Ok item
+    → (let r' : Replay = record r { reading = record { lines = n; stage = stage_behind n x } } in end_of (item_answer line item r') ≡ None → IsReady (line + 1) (state_behind (item_answer line item r') r'))
+step_ready line n (Err reason) item r count fit took = λ none. cc
+step_ready line n (Ok step) item r count fit took = λ none.
+    let same : step.item ≡ item = cc in
+    item_ready line item step.stage (record r { reading = record { lines = n; stage = step.stage } }) count refl (subst (λ (i : Item). Onward i step.stage r.board) same fit) none
+
+-- behind a line that was read
+pub ready_next : (line : ℕ) (r : Replay) (text : List ℕ) (item : Item) → IsReady line r → taken r.reading text ≡ Ok item
+    → (let r' : Replay = record r { reading = behind text r.reading } in end_of (item_answer line item r') ≡ None → IsReady (line + 1) (state_behind (item_answer line item r') r'))
+ready_next line r text item ready took =
+    let n : ℕ = r.reading.lines + 1 in
+    let none : fault_of r.reading.stage ≡ None = going r.reading.stage r.board ready.round in
+    let x : Result Step Reason = stepped r.reading.stage text in
+    let answer_ : answer_in n x ≡ Ok item = ap (λ (o : Option RecordFault). answer_by o r.reading text) (sym none) ∙ took in
+    let reading_ : behind text r.reading ≡ record { lines = n; stage = stage_behind n x } = ap (λ (o : Option RecordFault). behind_by o text r.reading) none in
+    subst (λ (p : ReadingParts). (let r' : Replay = record r { reading = p } in end_of (item_answer line item r') ≡ None → IsReady (line + 1) (state_behind (item_answer line item r') r'))) (sym reading_)
+    (step_ready line n x item r ready.count (fits text r.board r.reading.stage ready.round) answer_)
+
+-- an answer that was given, as a fact of the next line
+pub next_if : (res : Result (Option Verdict) NoMemory) (n : ℕ) (a : Answer Replay Verdict) (old new : Replay) → IfOk res (λ end. end ≡ end_of a) → IfOk res (λ end. end ≡ None → new ≡ state_behind a old)
+    → (end_of a ≡ None → IsReady n (state_behind a old)) → IfOk res (λ end. end ≡ None → IsReady n new)
+next_if (Ok end) n a old new ends state ready = λ none. subst (IsReady n) (sym (state none)) (ready (sym ends ∙ none))
+next_if (Err e) n a old new ends state ready = tt

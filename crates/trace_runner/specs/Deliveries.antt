@@ -1,0 +1,70 @@
+-- Where the rises of lines go, and the lines that edges print.
+use Rattle.std.specs.Prelude.{
+  ℕ,
+  ◌+◌,
+  Bool,
+  ◌||◌,
+  ◌==◌,
+  List,
+  [],
+  ◌∷◌,
+  ◌++◌,
+  map,
+  slice_index,
+  slice_index_or,
+  Option,
+  Some,
+  None,
+  is_some,
+  unwrap_or,
+  if◌then◌else◌,
+}
+use Rattle.irq_edges.specs.Lines.{line_numbers}
+use Rattle.irq_edges.specs.declared.edges.Edge.{Edge}
+use Rattle.edge_hooks.specs.declared.deliveries.Delivery.{Delivery}
+use Rattle.reply_text.specs.Text.{edge_text}
+
+-- whether the line at a place has a route, and whether any line has one
+abbrev pub there : ℕ → List (Option Delivery) → Bool
+there place routes = is_some (slice_index_or routes place None)
+
+abbrev pub any_route : List (Option Delivery) → Bool
+any_route rs = there 0 rs || there 1 rs || there 2 rs || there 3 rs || there 4 rs || there 5 rs
+
+-- a line without a route goes to processor 0, with the vector 30h plus its number (own)
+abbrev pub by_default : ℕ → Delivery
+by_default line = record { cpu = 0; vector = 0x30 + line }
+
+-- who gets the rises of the line at a place: nobody where no line has a route
+abbrev pub filled : Bool → ℕ → List (Option Delivery) → Option Delivery
+filled any place routes =
+    if any then
+    Some (unwrap_or (slice_index_or routes place None) (by_default (slice_index line_numbers place)))
+    else None
+
+abbrev pub six : List ℕ
+six = 0 ∷ 1 ∷ 2 ∷ 3 ∷ 4 ∷ 5 ∷ []
+
+-- who gets the rises of all lines, by the routes of a header
+unfoldable pub deliveries_of : List (Option Delivery) → List (Option Delivery)
+deliveries_of routes = map (λ place. filled (any_route routes) place routes) six
+
+-- who gets a rise of the line of this number
+abbrev pub delivery_to : List (Option Delivery) → ℕ → Option Delivery
+delivery_to ds line =
+    if line == 0 then slice_index_or ds 0 None
+    else if line == 8 then slice_index_or ds 1 None
+    else if line == 20 then slice_index_or ds 2 None
+    else if line == 21 then slice_index_or ds 3 None
+    else if line == 22 then slice_index_or ds 4 None
+    else if line == 23 then slice_index_or ds 5 None
+    else None
+
+-- a rise alone is delivered
+abbrev pub delivery_of : List (Option Delivery) → Edge → Option Delivery
+delivery_of ds e = if e.up then delivery_to ds e.line else None
+
+-- the lines of edges, in order
+abbrev pub edges_text : List (Option Delivery) → List Edge → List ℕ
+edges_text ds [] = []
+edges_text ds (e ∷ es) = edge_text e (delivery_of ds e) ++ edges_text ds es

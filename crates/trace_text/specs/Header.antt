@@ -1,0 +1,169 @@
+-- The header: what a trace is set up with.
+use Rattle.std.specs.Prelude.{ℕ, ◌+◌, ◌-◌, ◌==◌, nat_lt, nat_le, ◌&&◌, List, [], ◌∷◌, ◌++◌, Option, Some, None, Result, Ok, Err, if◌then◌else◌, codes, slice_set, replicate, ◌≡◌, ◌<◌, ◌≤◌, All}
+use Rattle.board_types.specs.Setup.{IsSetup, processors_of}
+use Rattle.board_types.specs.declared.setup.Setup.{Setup}
+use Rattle.edge_hooks.specs.declared.deliveries.Delivery.{Delivery}
+use Rattle.irq_edges.specs.Lines.{is_line}
+use Rattle.tick_policy.specs.declared.parts.Policy.{Policy}
+use Rattle.tick_policy.specs.declared.parts.Policy.TheVariants.{Discard, Delay, Slew}
+use Rattle.trace_text.specs.Tokens.{dec, byte, khz, dec_within, starts, such_that}
+use Rattle.trace_text.specs.Rows.{place, last, Row, row, by_table}
+use Rattle.trace_text.specs.declared.faults.Reason.{Reason}
+use Rattle.trace_text.specs.declared.faults.Reason.TheVariants.{Form, Cpu}
+use Rattle.trace_text.specs.declared.header.Head.{Head}
+use Rattle.trace_text.specs.declared.header.Header.{Header}
+use Rattle.trace_text.specs.declared.header.Begin.{Begin}
+use Rattle.trace_text.specs.declared.header.Begin.TheVariants.{Fresh}
+use Rattle.trace_text.specs.declared.records.Body.{Body}
+
+-- what stands where no line says otherwise
+abbrev pub setup_by_default : ℕ → Setup
+setup_by_default format = record {
+  format = format;
+  anchor = record { khz = 1000000; start = 0; base_ns = 0 };
+  guest_khz = 1000000;
+  cpus = 1;
+  pit = Delay;
+  rtc = Delay;
+  hpet = Delay;
+  slew_ns = 1000000;
+  wall_sec = 0;
+  wall_nsec = 0;
+  time = record { sec = 0; min = 0; hour = 0; wday = 1; date = 1; month = 1; year = 0 };
+}
+
+-- behind the first line
+abbrev pub head_of : ℕ → Head
+head_of format = record { row = 0; setup = setup_by_default format; next_line = 0; routes = replicate 6 None }
+
+-- `1`, `2`: the format
+abbrev pub format_word : List (List ℕ) → Option ℕ
+format_word ws = if starts (codes "1") ws then Some 1 else if starts (codes "2") ws then Some 2 else None
+
+-- `clockboard 1`, `clockboard 2`
+abbrev pub first_line : List (List ℕ) → Result Head Reason
+first_line = by_table (row (codes "clockboard") (place format_word (λ format. last (Ok (head_of format)))) ∷ [])
+
+-- `discard`, `delay`, `slew`
+abbrev pub policy : List (List ℕ) → Option Policy
+policy ws =
+    if starts (codes "discard") ws then Some Discard
+    else if starts (codes "delay") ws then Some Delay
+    else if starts (codes "slew") ws then Some Slew
+    else None
+
+-- a line stands behind those of smaller numbers
+abbrev pub in_order : ℕ → Head → Result Head Reason → Result Head Reason
+in_order number head answer = if nat_lt head.row number then answer else Err Form
+
+-- a line sets something up
+abbrev pub sets : ℕ → Head → Setup → Result Head Reason
+sets number head setup = Ok (record head { row = number; setup = setup })
+
+-- `host KHZ START`
+abbrev pub host_row : Head → List (List ℕ) → Result Head Reason
+host_row head = place khz (λ k. place dec (λ start. last (sets 1 head (record head.setup { anchor = record { khz = k; start = start; base_ns = 0 } }))))
+
+-- `guest KHZ`
+abbrev pub guest_row : Head → List (List ℕ) → Result Head Reason
+guest_row head = place khz (λ k. last (sets 2 head (record head.setup { guest_khz = k })))
+
+-- `cpus N`
+abbrev pub cpus_row : Head → List (List ℕ) → Result Head Reason
+cpus_row head = place (dec_within 1 (processors_of head.setup.format)) (λ n. last (sets 3 head (record head.setup { cpus = n })))
+
+-- `policy P Q R`: of the 8254, the RTC, the HPET
+abbrev pub policy_row : Head → List (List ℕ) → Result Head Reason
+policy_row head =
+    place policy (λ p. place policy (λ q. place policy (λ r.
+    last (sets 4 head (record head.setup { pit = p; rtc = q; hpet = r })))))
+
+-- `slew NS`
+abbrev pub slew_row : Head → List (List ℕ) → Result Head Reason
+slew_row head = place (dec_within 1 1000000000) (λ ns. last (sets 5 head (record head.setup { slew_ns = ns })))
+
+-- `wall SEC NSEC`
+abbrev pub wall_row : Head → List (List ℕ) → Result Head Reason
+wall_row head =
+    place (dec_within 0 4294967295) (λ sec. place (dec_within 0 999999999) (λ nsec.
+    last (sets 6 head (record head.setup { wall_sec = sec; wall_nsec = nsec }))))
+
+-- `rtc S M H W D O Y`
+abbrev pub rtc_row : Head → List (List ℕ) → Result Head Reason
+rtc_row head =
+    place byte (λ s. place byte (λ m. place byte (λ h. place byte (λ w.
+    place byte (λ d. place byte (λ o. place byte (λ y.
+    last (sets 7 head (record head.setup {
+      time = record { sec = s; min = m; hour = h; wday = w; date = d; month = o; year = y };
+    })))))))))
+
+-- the place of a line among the six, by its number
+abbrev pub place_of_line : ℕ → ℕ
+place_of_line line = if line == 0 then 0 else if line == 8 then 1 else line - 18
+
+-- a line's route goes to a processor that is there
+abbrev pub routed : Head → ℕ → ℕ → ℕ → Result Head Reason
+routed head line cpu vector =
+    if nat_lt cpu head.setup.cpus then
+    Ok (record head {
+      row = 9;
+      next_line = line + 1;
+      routes = slice_set head.routes (place_of_line line) (Some (record { cpu = cpu; vector = vector }));
+    })
+    else Err Cpu
+
+-- `route LINE CPU VECTOR`: lines rising, vectors from 10h on
+abbrev pub route_row : Head → List (List ℕ) → Result Head Reason
+route_row head =
+    place (λ ws. such_that (λ n. is_line n && nat_le head.next_line n) (dec ws)) (λ line. place dec (λ cpu.
+    place (λ ws. such_that (λ n. nat_le 0x10 n) (byte ws)) (λ vector. last (routed head line cpu vector))))
+
+-- the table of header lines, in their order
+abbrev pub first_rows : Head → List (Row Head)
+first_rows head =
+    row (codes "host") (λ ws. in_order 1 head (host_row head ws))
+    ∷ row (codes "guest") (λ ws. in_order 2 head (guest_row head ws))
+    ∷ row (codes "cpus") (λ ws. in_order 3 head (cpus_row head ws))
+    ∷ row (codes "policy") (λ ws. in_order 4 head (policy_row head ws))
+    ∷ []
+
+abbrev pub later_rows : Head → List (Row Head)
+later_rows head =
+    row (codes "slew") (λ ws. in_order 5 head (slew_row head ws))
+    ∷ row (codes "wall") (λ ws. in_order 6 head (wall_row head ws))
+    ∷ row (codes "rtc") (λ ws. in_order 7 head (rtc_row head ws))
+    ∷ row (codes "route") (route_row head)
+    ∷ []
+
+unfoldable pub header_line : Head → List (List ℕ) → Result Head Reason
+header_line head = by_table (first_rows head ++ later_rows head)
+
+-- what `begin` begins
+abbrev pub header_of : Head → Header
+header_of head = record { begin = Fresh head.setup; routes = head.routes }
+
+-- and what is known behind it: each processor's counter before is the anchor's start
+abbrev pub body_of : Head → Body
+body_of head = record {
+  format = head.setup.format;
+  cpus = head.setup.cpus;
+  before = replicate 64 head.setup.anchor.start;
+}
+
+-- a delivery goes to a processor that is there, with a vector from 10h on
+abbrev pub IsRoute : ℕ → Option Delivery → Type 0
+IsRoute cpus None = Unit {0}
+IsRoute cpus (Some to) = (to.cpu < cpus) × (16 ≤ to.vector)
+
+-- what is known of a header's setup and routes
+pub record IsHeader (s : Setup) (to : List (Option Delivery)) : Type 0 where
+  pub setup : IsSetup s
+  pub routes : All (IsRoute s.cpus) to
+
+-- and before `begin`: no line is routed before the first route
+pub record IsHead (h : Head) : Type 0 where
+  pub header : IsHeader h.setup h.routes
+  pub quiet : h.row < 9 → h.routes ≡ replicate 6 None
+
+abbrev pub IsBegin : Begin → List (Option Delivery) → Type 0
+IsBegin (Fresh s) to = IsHeader s to

@@ -1,0 +1,6 @@
+pub mod Tokens
+pub mod Rows
+pub mod Records
+pub mod Header
+pub mod Lines
+pub mod private

@@ -1,0 +1,157 @@
+-- The lines of a trace: what each of them is, behind those before it.
+use Rattle.std.specs.Prelude.{ℕ, ◌+◌, ◌==◌, ◌≤◌, nat_lt, Bool, true, List, [], ◌∷◌, length, take, Option, Some, None, unwrap_or, Result, Ok, Err, if◌then◌else◌, codes}
+use Rattle.std.specs.Str.{bytes_eq}
+use Rattle.trace_text.specs.Tokens.{words_of}
+use Rattle.trace_text.specs.Records.{record_of, body_behind, IsRecord}
+use Rattle.trace_text.specs.Header.{first_line, header_line, header_of, body_of, IsHead, IsBegin}
+use Rattle.trace_text.specs.declared.faults.Reason.{Reason}
+use Rattle.trace_text.specs.declared.faults.Reason.TheVariants.{Form, TooLong, NoEnd}
+use Rattle.trace_text.specs.declared.faults.RecordFault.{RecordFault}
+use Rattle.trace_text.specs.declared.header.Head.{Head}
+use Rattle.trace_text.specs.declared.records.Record.{Record}
+use Rattle.trace_text.specs.declared.records.Body.{Body}
+use Rattle.trace_text.specs.declared.reading.Item.{Item}
+use Rattle.trace_text.specs.declared.reading.Item.TheVariants.{Skipped, Part, Begun, Next as NextItem, End}
+use Rattle.trace_text.specs.declared.reading.Stage.{Stage}
+use Rattle.trace_text.specs.declared.reading.Stage.TheVariants.{Opening, Heading, Running, Ended, Refused}
+use Rattle.trace_text.specs.declared.reading.ReadingParts.{ReadingParts}
+
+-- how long a line may be, its end not counted: a saved state's line is longer
+unfoldable pub limit_of : List ℕ → ℕ
+limit_of line = if bytes_eq (take 6 line) (codes "state ") then 200000 else 128
+
+-- an empty line, and one that begins with `#`, is skipped
+abbrev pub is_skipped : List ℕ → Bool
+is_skipped [] = true
+is_skipped (c ∷ cs) = c == 35
+
+-- what a line is, and the stage behind it
+pub record Step : Type 0 where
+  pub item : Item
+  pub stage : Stage
+
+abbrev pub met : Record → Stage → Step
+met r stage = record { item = NextItem r; stage = stage }
+
+-- a header line, `begin`, a record, `end`
+abbrev pub part : Result Head Reason → Result Step Reason
+part (Ok head) = Ok (record { item = Part; stage = Heading head })
+part (Err reason) = Err reason
+
+abbrev pub begun : Head → Step
+begun head = record { item = Begun (header_of head); stage = Running (body_of head) }
+
+abbrev pub next : Body → Result Record Reason → Result Step Reason
+next body (Ok r) = Ok (record { item = NextItem r; stage = Running (body_behind body r) })
+next body (Err reason) = Err reason
+
+-- by the stage: the first line; a header line or `begin`; a record or `end`
+abbrev pub step_of : Stage → List ℕ → Result Step Reason
+step_of Opening line = part (first_line (words_of line))
+step_of (Heading head) line =
+    if bytes_eq line (codes "begin") then Ok (begun head) else part (header_line head (words_of line))
+step_of (Running body) line =
+    if bytes_eq line (codes "end") then Ok (record { item = End; stage = Ended })
+    else next body (record_of body (words_of line))
+step_of Ended line = Err Form
+step_of (Refused fault) line = Err fault.reason
+
+-- what a line is by its bytes: too long, skipped, or words
+unfoldable pub stepped : Stage → List ℕ → Result Step Reason
+stepped stage line =
+    if nat_lt (limit_of line) (length line) then Err TooLong
+    else if is_skipped line then Ok (record { item = Skipped; stage = stage })
+    else step_of stage line
+
+-- the item of a step, and the stage behind it
+abbrev pub item_in : Result Step Reason → Result Item Reason
+item_in (Ok step) = Ok step.item
+item_in (Err reason) = Err reason
+
+abbrev pub stage_in : Result Step Reason → Stage → Stage
+stage_in (Ok step) old = step.stage
+stage_in (Err reason) old = old
+
+-- the answer to a line with this number, and the stage behind it: a refusal stays
+abbrev pub answer_in : ℕ → Result Step Reason → Result Item RecordFault
+answer_in line (Ok step) = Ok step.item
+answer_in line (Err reason) = Err (record { line = line; reason = reason })
+
+abbrev pub stage_behind : ℕ → Result Step Reason → Stage
+stage_behind line (Ok step) = step.stage
+stage_behind line (Err reason) = Refused (record { line = line; reason = reason })
+
+-- the fault of a reader that has refused
+abbrev pub fault_of : Stage → Option RecordFault
+fault_of Opening = None
+fault_of (Heading head) = None
+fault_of (Running body) = None
+fault_of Ended = None
+fault_of (Refused fault) = Some fault
+
+-- before the first line
+abbrev pub at_start : ReadingParts
+at_start = record { lines = 0; stage = Opening }
+
+-- what `take_line` answers: the same fault again, or what the line is behind those before it
+abbrev pub answer_by : Option RecordFault → ReadingParts → List ℕ → Result Item RecordFault
+answer_by (Some fault) r line = Err fault
+answer_by None r line = answer_in (r.lines + 1) (stepped r.stage line)
+
+abbrev pub taken : ReadingParts → List ℕ → Result Item RecordFault
+taken r line = answer_by (fault_of r.stage) r line
+
+-- and the reader behind it
+abbrev pub behind_by : Option RecordFault → List ℕ → ReadingParts → ReadingParts
+behind_by (Some fault) line r = r
+behind_by None line r = record { lines = r.lines + 1; stage = stage_behind (r.lines + 1) (stepped r.stage line) }
+
+abbrev pub behind : List ℕ → ReadingParts → ReadingParts
+behind line r = behind_by (fault_of r.stage) line r
+
+-- what `at_end` answers
+abbrev pub end_fault : ReadingParts → RecordFault
+end_fault r = unwrap_or (fault_of r.stage) (record { line = r.lines + 1; reason = NoEnd })
+
+-- `end` wasn't taken
+abbrev pub IsOpen : Stage → Type 0
+IsOpen Opening = Unit {0}
+IsOpen (Heading head) = Unit {0}
+IsOpen (Running body) = Unit {0}
+IsOpen Ended = ⊥
+IsOpen (Refused fault) = Unit {0}
+
+-- no record may stand there
+abbrev pub IsEarly : Stage → Type 0
+IsEarly Opening = Unit {0}
+IsEarly (Heading head) = Unit {0}
+IsEarly (Running body) = ⊥
+IsEarly Ended = Unit {0}
+IsEarly (Refused fault) = Unit {0}
+
+-- what is known at each stage
+abbrev pub IsStage : Stage → Type 0
+IsStage Opening = Unit {0}
+IsStage (Heading head) = IsHead head
+IsStage (Running body) = body.cpus ≤ 64
+IsStage Ended = Unit {0}
+IsStage (Refused fault) = Unit {0}
+
+abbrev pub IsReading : ReadingParts → Type 0
+IsReading r = IsStage r.stage
+
+-- what is known of a record at a stage
+abbrev pub IsRecordAt : Stage → Record → Type 0
+IsRecordAt Opening r = ⊥
+IsRecordAt (Heading head) r = ⊥
+IsRecordAt (Running body) r = IsRecord body r
+IsRecordAt Ended r = ⊥
+IsRecordAt (Refused fault) r = ⊥
+
+-- and of an item: a header's setup and routes are in range, a record's access is one that the board takes
+abbrev pub IsItem : Stage → Item → Type 0
+IsItem stage Skipped = Unit {0}
+IsItem stage Part = Unit {0}
+IsItem stage (Begun header) = IsBegin header.begin header.routes
+IsItem stage (NextItem r) = IsRecordAt stage r
+IsItem stage End = Unit {0}

@@ -1,0 +1,174 @@
+-- Records: `CPU H` and one of the rows below.
+use Rattle.std.specs.Prelude.{ℕ, ◌==◌, nat_lt, true, List, [], ◌∷◌, ◌++◌, Option, Some, None, Result, Ok, Err, if◌then◌else◌, codes, slice_index, slice_set, replicate, ◌≡◌, ◌<◌, ◌≤◌}
+use Rattle.board_types.specs.Legal.{is_legal}
+use Rattle.board_types.specs.declared.access.Access.{Access}
+use Rattle.board_types.specs.declared.access.Access.TheVariants.{PortIn, PortOut, HpetRead, HpetWrite, MsrRead, MsrWrite, Ack, Step, Refresh, Wall, CountsOf, Next, Rose}
+use Rattle.board_types.specs.declared.access.TickSource.{TickSource}
+use Rattle.board_types.specs.declared.access.TickSource.TheVariants.{Pit, Rtc, Hpet}
+use Rattle.trace_text.specs.Tokens.{dec, hex, byte, khz, dec_of_bits, hex_of_bits, starts}
+use Rattle.trace_text.specs.Rows.{place, last, Row, row, by_table}
+use Rattle.trace_text.specs.declared.faults.Reason.{Reason}
+use Rattle.trace_text.specs.declared.faults.Reason.TheVariants.{Form, Steal, Cpu, CounterFell}
+use Rattle.trace_text.specs.declared.records.Job.{Job}
+use Rattle.trace_text.specs.declared.records.Job.TheVariants.{Board, Page, Clock, Save, Move}
+use Rattle.trace_text.specs.declared.records.Record.{Record}
+use Rattle.trace_text.specs.declared.records.Body.{Body}
+
+-- an access, where the board takes it
+abbrev pub board : Body → Access → Result Job Reason
+board body a = if is_legal body.cpus body.format a then Ok (Board a) else Err Form
+
+-- an access to an MSR: that of steal time has a reason of its own
+abbrev pub to_msr : Body → ℕ → Access → Result Job Reason
+to_msr body m a = if m == 0x4b564d03 then Err Steal else board body a
+
+-- a job on the page of a processor, which has to be there
+abbrev pub on_page : Body → ℕ → Job → Result Job Reason
+on_page body p job = if nat_lt p body.cpus then Ok job else Err Cpu
+
+-- `pit`, `rtc`, `hpet0`, `hpet1`, ..
+abbrev pub source : List (List ℕ) → Option TickSource
+source ws =
+    if starts (codes "pit") ws then Some Pit
+    else if starts (codes "rtc") ws then Some Rtc
+    else if starts (codes "hpet0") ws then Some (Hpet 0)
+    else if starts (codes "hpet1") ws then Some (Hpet 1)
+    else if starts (codes "hpet2") ws then Some (Hpet 2)
+    else if starts (codes "hpet3") ws then Some (Hpet 3)
+    else if starts (codes "hpet4") ws then Some (Hpet 4)
+    else if starts (codes "hpet5") ws then Some (Hpet 5)
+    else if starts (codes "hpet6") ws then Some (Hpet 6)
+    else if starts (codes "hpet7") ws then Some (Hpet 7)
+    else None
+
+-- `in PORT`, `out PORT BYTE`
+abbrev pub in_row : Body → List (List ℕ) → Result Job Reason
+in_row body = place (hex_of_bits 8) (λ port. last (board body (PortIn port)))
+
+abbrev pub out_row : Body → List (List ℕ) → Result Job Reason
+out_row body = place (hex_of_bits 8) (λ port. place byte (λ b. last (board body (PortOut port b))))
+
+-- `hr OFFSET W`, `hw OFFSET W HEX`
+abbrev pub hr_row : Body → List (List ℕ) → Result Job Reason
+hr_row body =
+    place (hex_of_bits 16) (λ offset. place (dec_of_bits 8) (λ w. last (board body (HpetRead offset w))))
+
+abbrev pub hw_row : Body → List (List ℕ) → Result Job Reason
+hw_row body =
+    place (hex_of_bits 16) (λ offset. place (dec_of_bits 8) (λ w. place hex (λ v.
+    last (board body (HpetWrite offset w v)))))
+
+-- `rdmsr M`, `wrmsr M HEX`
+abbrev pub rdmsr_row : Body → List (List ℕ) → Result Job Reason
+rdmsr_row body = place (hex_of_bits 32) (λ m. last (to_msr body m (MsrRead m)))
+
+abbrev pub wrmsr_row : Body → List (List ℕ) → Result Job Reason
+wrmsr_row body = place (hex_of_bits 32) (λ m. place hex (λ v. last (to_msr body m (MsrWrite m v))))
+
+-- `ack LINE`, `rose LINE`
+abbrev pub ack_row : Body → List (List ℕ) → Result Job Reason
+ack_row body = place (dec_of_bits 8) (λ line. last (board body (Ack line)))
+
+abbrev pub rose_row : Body → List (List ℕ) → Result Job Reason
+rose_row body = place (dec_of_bits 8) (λ line. last (board body (Rose line)))
+
+-- `counts WHO`
+abbrev pub counts_row : Body → List (List ℕ) → Result Job Reason
+counts_row body = place source (λ who. last (board body (CountsOf who)))
+
+-- `P`, last in its line
+abbrev pub page_at : Body → List (List ℕ) → Result ℕ Reason
+page_at body = place dec (λ p. last (if nat_lt p body.cpus then Ok p else Err Cpu))
+
+-- `refresh P`, `page P`, `clock P`
+abbrev pub refresh_row : Body → List (List ℕ) → Result Job Reason
+refresh_row body = place dec (λ p. last (on_page body p (Board (Refresh p))))
+
+abbrev pub page_row : Body → List (List ℕ) → Result Job Reason
+page_row body = place dec (λ p. last (on_page body p (Page p)))
+
+abbrev pub clock_row : Body → List (List ℕ) → Result Job Reason
+clock_row body = place dec (λ p. last (on_page body p (Clock p)))
+
+-- `move KHZ START GAP`
+abbrev pub move_row : Body → List (List ℕ) → Result Job Reason
+move_row body = place khz (λ k. place dec (λ start. place dec (λ gap. last (Ok (Move k start gap)))))
+
+-- the table of records, in four parts
+abbrev pub port_rows : Body → List (Row Job)
+port_rows body =
+    row (codes "in") (in_row body)
+    ∷ row (codes "out") (out_row body)
+    ∷ row (codes "hr") (hr_row body)
+    ∷ row (codes "hw") (hw_row body)
+    ∷ []
+
+abbrev pub msr_rows : Body → List (Row Job)
+msr_rows body =
+    row (codes "rdmsr") (rdmsr_row body)
+    ∷ row (codes "wrmsr") (wrmsr_row body)
+    ∷ row (codes "ack") (ack_row body)
+    ∷ row (codes "step") (last (board body Step))
+    ∷ row (codes "refresh") (refresh_row body)
+    ∷ []
+
+abbrev pub told_rows : Body → List (Row Job)
+told_rows body =
+    row (codes "wall") (last (board body Wall))
+    ∷ row (codes "counts") (counts_row body)
+    ∷ row (codes "next") (last (board body Next))
+    ∷ row (codes "page") (page_row body)
+    ∷ row (codes "clock") (clock_row body)
+    ∷ []
+
+-- `rose` is a word of format 2: the board takes it from there on
+abbrev pub last_rows : Body → List (Row Job)
+last_rows body =
+    row (codes "save") (last (Ok Save))
+    ∷ row (codes "move") (move_row body)
+    ∷ row (codes "rose") (rose_row body)
+    ∷ []
+
+unfoldable pub job_of : Body → List (List ℕ) → Result Job Reason
+job_of body = by_table (port_rows body ++ msr_rows body ++ told_rows body ++ last_rows body)
+
+-- the record of a processor that is there, at a counter that didn't fall
+abbrev pub in_turn : Body → ℕ → ℕ → Job → Result Record Reason
+in_turn body cpu h job =
+    if nat_lt cpu body.cpus then
+    (if nat_lt h (slice_index body.before cpu) then Err (CounterFell (slice_index body.before cpu))
+    else Ok (record { cpu = cpu; h = h; job = job }))
+    else Err Cpu
+
+-- the reasons in their order: Form and those of the job, Cpu, CounterFell
+abbrev pub judged : Body → ℕ → ℕ → Result Job Reason → Result Record Reason
+judged body cpu h (Err reason) = Err reason
+judged body cpu h (Ok job) = in_turn body cpu h job
+
+-- `CPU H` and a row of the table
+unfoldable pub record_of : Body → List (List ℕ) → Result Record Reason
+record_of body = place dec (λ cpu. place dec (λ h ws. judged body cpu h (job_of body ws)))
+
+-- the counters before, behind a record: a move begins with its own start, for every processor
+abbrev pub before_behind : List ℕ → Record → Job → List ℕ
+before_behind before r (Move k start gap) = replicate 64 start
+before_behind before r (Board a) = slice_set before r.cpu r.h
+before_behind before r (Page p) = slice_set before r.cpu r.h
+before_behind before r (Clock p) = slice_set before r.cpu r.h
+before_behind before r Save = slice_set before r.cpu r.h
+
+abbrev pub body_behind : Body → Record → Body
+body_behind body r = record body { before = before_behind body.before r r.job }
+
+-- what is known of a job: the board takes the access, the page is there, the rate is in range
+abbrev pub IsJob : Body → Job → Type 0
+IsJob body (Board a) = is_legal body.cpus body.format a ≡ true
+IsJob body (Page p) = p < body.cpus
+IsJob body (Clock p) = p < body.cpus
+IsJob body Save = Unit {0}
+IsJob body (Move k start gap) = (100000 ≤ k) × (k ≤ 10000000)
+
+-- and of a record
+pub record IsRecord (body : Body) (r : Record) : Type 0 where
+  pub cpu : r.cpu < body.cpus
+  pub job : IsJob body r.job

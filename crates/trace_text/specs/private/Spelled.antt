@@ -1,0 +1,44 @@
+-- A line read byte by byte.
+use Rattle.std.specs.Prelude.{ℕ, ◌+◌, ◌*◌, ◌==◌, nat_lt, nat_le, ◌&&◌, ◌||◌, List, [], ◌∷◌, length, drop, slice_index, Option, Some, None, if◌then◌else◌}
+use Rattle.std.specs.Option.{option_map}
+use Rattle.std.specs.Char.{digit_value}
+use Rattle.trace_text.specs.Tokens.{words_of, number_in}
+use Rattle.trace_text.specs.declared.bytes.Number.{Number}
+
+-- what was spelled: how many digits, their number, and the words behind
+pub record Spelled : Type 0 where
+  pub count : ℕ
+  pub value : ℕ
+  pub left : List (List ℕ)
+
+-- the number that is spelled up to the next space, behind `count` digits that spelled n
+unfoldable pub spelled : ℕ → ℕ → ℕ → List ℕ → Option Spelled
+spelled base count n [] = Some (record { count = count; value = n; left = [] })
+spelled base count n (c ∷ cs) =
+    if c == 32 then Some (record { count = count; value = n; left = words_of cs })
+    else if nat_lt (digit_value c) base && nat_lt (n * base + digit_value c) 18446744073709551616
+    then spelled base (count + 1) (n * base + digit_value c) cs
+    else None
+
+-- the words behind a first word that is this one
+unfoldable pub behind_word : List ℕ → List ℕ → Option (List (List ℕ))
+behind_word [] [] = Some []
+behind_word [] (c ∷ cs) = if c == 32 then Some (words_of cs) else None
+behind_word (b ∷ bs) [] = None
+behind_word (b ∷ bs) (c ∷ cs) = if c == b then behind_word bs cs else None
+
+-- the words of a line from a place on: none behind its end
+unfoldable pub words_from : ℕ → List ℕ → List (List ℕ)
+words_from at line = if nat_le at (length line) then words_of (drop at line) else []
+
+-- a word's number, how many digits it has, and whether it begins with a zero
+unfoldable pub number_of : ℕ → List ℕ → Option Number
+number_of base word = option_map (λ n. record { value = n; digits = length word; zero = slice_index word 0 == 48 }) (number_in base word)
+
+-- what a decimal number is: it has digits, and no zero in front of others
+abbrev pub decimal_of : Number → Option ℕ
+decimal_of n = if n.digits == 0 || (n.zero && nat_lt 1 n.digits) then None else Some n.value
+
+-- what a hexadecimal number is: it has digits, and no more than that many
+abbrev pub hex_of : ℕ → Number → Option ℕ
+hex_of most n = if n.digits == 0 || nat_lt most n.digits then None else Some n.value

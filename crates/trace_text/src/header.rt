@@ -1,0 +1,430 @@
+//! The header: what a trace is set up with.
+ghost use Rattle.std.specs.Prelude.{◌≡◌, ◌<◌, ◌≤◌, ◌++◌, ◌&&◌, nat_le, true, Ok, IfOk, OnSome, IfSome, MatchResult};
+ghost use Rattle.board_types.specs.Setup.{IsSetup};
+ghost use Rattle.irq_edges.specs.Lines.{is_line};
+ghost use Rattle.trace_text.specs.Tokens.{rest, dec, byte, such_that};
+ghost use Rattle.trace_text.specs.Rows.{by_table};
+ghost use Rattle.trace_text.specs.Header.{setup_by_default, head_of, format_word, first_line, policy, in_order, host_row, guest_row, cpus_row, policy_row, slew_row, wall_row, rtc_row, place_of_line, routed, route_row, first_rows, later_rows, header_line, header_of, body_of, IsHead};
+
+use crate::faults::Reason;
+use crate::records::Body;
+use crate::words::Words;
+use board_types::{Setup, processors_of};
+use edge_hooks::Delivery;
+use host_counter::Anchor;
+use rtc_calendar::TimeBytes;
+use tick_policy::Policy;
+
+/// What a trace begins with.
+#[derive(Clone, Copy, Debug, PartialEq, Eq)]
+pub enum Begin {
+    /// A board at power on.
+    Fresh(Setup),
+}
+
+/// What the lines before `begin` say.
+#[derive(Clone, Copy, Debug, PartialEq, Eq)]
+pub struct Header {
+    /// What the trace begins with.
+    pub begin: Begin,
+    /// Where the rises of the lines 0, 8, 20, 21, 22 and 23 go, for those that have a route.
+    pub routes: [Option<Delivery>; 6],
+}
+
+/// What is known before `begin`: the number of the last line, what is set up, the least line that may be routed
+/// next, and the routes.
+#[derive(Clone, Copy, Debug, PartialEq, Eq)]
+pub struct Head {
+    pub(crate) row: u8,
+    pub(crate) setup: Setup,
+    pub(crate) next_line: u8,
+    pub(crate) routes: [Option<Delivery>; 6],
+}
+
+/// A format's word.
+fn format_word(words: &mut Words<'_>) -> Option<u8>
+    ensures value { result ≡ format_word words.old }
+    ensures past { OnSome result (words.new ≡ rest words.old) }
+    ensures within { IfSome result (λ f. (1 ≤ f) × (f ≤ 2)) }
+{
+    if words.takes(b"1") {
+        Some(1)
+    } else if words.takes(b"2") {
+        Some(2)
+    } else {
+        None
+    }
+}
+
+/// A policy's word.
+fn policy(words: &mut Words<'_>) -> Option<Policy>
+    ensures value { result ≡ policy words.old }
+    ensures past { OnSome result (words.new ≡ rest words.old) }
+{
+    if words.takes(b"discard") {
+        Some(Policy::Discard)
+    } else if words.takes(b"delay") {
+        Some(Policy::Delay)
+    } else if words.takes(b"slew") {
+        Some(Policy::Slew)
+    } else {
+        None
+    }
+}
+
+/// What is known behind the first line.
+pub(crate) fn first_line(words: &mut Words<'_>) -> Result<Head, Reason>
+    ensures head { result ≡ first_line words.old }
+    ensures valid { IfOk result IsHead }
+{
+    if !words.takes(b"clockboard") {
+        return Err(Reason::Form);
+    }
+    let format = format_word(words).ok_or(Reason::Form)?;
+    words.end()?;
+    Ok(Head::of_format(format))
+}
+
+impl Head {
+    /// What stands where no line says otherwise.
+    fn of_format(format: u8) -> Head
+        requires { (1 ≤ format) × (format ≤ 2) }
+        ensures head { result ≡ head_of format }
+        ensures valid { IsHead result }
+    {
+        let time = TimeBytes {
+            sec: 0,
+            min: 0,
+            hour: 0,
+            wday: 1,
+            date: 1,
+            month: 1,
+            year: 0,
+        };
+        let setup = Setup {
+            format,
+            anchor: Anchor {
+                khz: 1_000_000,
+                start: 0,
+                base_ns: 0,
+            },
+            guest_khz: 1_000_000,
+            cpus: 1,
+            pit: Policy::Delay,
+            rtc: Policy::Delay,
+            hpet: Policy::Delay,
+            slew_ns: 1_000_000,
+            wall_sec: 0,
+            wall_nsec: 0,
+            time,
+        };
+        Head {
+            row: 0,
+            setup,
+            next_line: 0,
+            routes: [None; 6],
+        }
+    }
+
+    /// The next line of a header.
+    #[tactic(auto, unfolding(crate::specs::Header::header_line))]
+    pub(crate) fn line(self, words: &mut Words<'_>) -> Result<Head, Reason>
+        requires { IsHead self }
+        ensures head { result ≡ header_line self words.old }
+        ensures valid { IfOk result IsHead }
+    {
+        if words.takes(b"host") {
+            self.in_order(1)?;
+            self.host(words)
+        } else if words.takes(b"guest") {
+            self.in_order(2)?;
+            self.guest(words)
+        } else if words.takes(b"cpus") {
+            self.in_order(3)?;
+            self.cpus(words)
+        } else if words.takes(b"policy") {
+            self.in_order(4)?;
+            self.policies(words)
+        } else {
+            self.later_line(words)
+        }
+    }
+
+    fn later_line(self, words: &mut Words<'_>) -> Result<Head, Reason>
+        requires { IsHead self }
+        ensures head { result ≡ by_table (later_rows self) words.old }
+        ensures valid { IfOk result IsHead }
+    {
+        if words.takes(b"slew") {
+            self.in_order(5)?;
+            self.slew(words)
+        } else if words.takes(b"wall") {
+            self.in_order(6)?;
+            self.wall(words)
+        } else if words.takes(b"rtc") {
+            self.in_order(7)?;
+            self.rtc(words)
+        } else if words.takes(b"route") {
+            self.route(words)
+        } else {
+            Err(Reason::Form)
+        }
+    }
+
+    /// Whether a line of this number may stand behind the last one; else it is out of form.
+    fn in_order(&self, number: u8) -> Result<(), Reason>
+        ensures { MatchResult result (λ _. self.now.row < number)
+            (λ e. (e ≡ Reason.Form) × (number ≤ self.now.row)) }
+    {
+        if self.row < number {
+            Ok(())
+        } else {
+            Err(Reason::Form)
+        }
+    }
+
+    fn host(self, words: &mut Words<'_>) -> Result<Head, Reason>
+        requires valid { IsHead self }
+        requires early { self.row < 9 }
+        ensures head { result ≡ host_row self words.old }
+        ensures valid { IfOk result IsHead }
+    {
+        let khz = words.khz().ok_or(Reason::Form)?;
+        let start = words.dec().ok_or(Reason::Form)?;
+        words.end()?;
+        let anchor = Anchor {
+            khz,
+            start,
+            base_ns: 0,
+        };
+        let setup = Setup {
+            anchor,
+            ..self.setup
+        };
+        Ok(Head {
+            row: 1,
+            setup,
+            ..self
+        })
+    }
+
+    fn guest(self, words: &mut Words<'_>) -> Result<Head, Reason>
+        requires valid { IsHead self }
+        requires early { self.row < 9 }
+        ensures head { result ≡ guest_row self words.old }
+        ensures valid { IfOk result IsHead }
+    {
+        let guest_khz = words.khz().ok_or(Reason::Form)?;
+        words.end()?;
+        let setup = Setup {
+            guest_khz,
+            ..self.setup
+        };
+        Ok(Head {
+            row: 2,
+            setup,
+            ..self
+        })
+    }
+
+    fn cpus(self, words: &mut Words<'_>) -> Result<Head, Reason>
+        requires valid { IsHead self }
+        requires early { self.row < 9 }
+        ensures head { result ≡ cpus_row self words.old }
+        ensures valid { IfOk result IsHead }
+    {
+        let most = u64::from(processors_of(self.setup.format));
+        let cpus = words.dec_within(1, most).ok_or(Reason::Form)?;
+        words.end()?;
+        let setup = Setup {
+            cpus: cpus as u8,
+            ..self.setup
+        };
+        Ok(Head {
+            row: 3,
+            setup,
+            ..self
+        })
+    }
+
+    fn policies(self, words: &mut Words<'_>) -> Result<Head, Reason>
+        requires valid { IsHead self }
+        requires early { self.row < 9 }
+        ensures head { result ≡ policy_row self words.old }
+        ensures valid { IfOk result IsHead }
+    {
+        let pit = policy(words).ok_or(Reason::Form)?;
+        let rtc = policy(words).ok_or(Reason::Form)?;
+        let hpet = policy(words).ok_or(Reason::Form)?;
+        words.end()?;
+        let setup = Setup {
+            pit,
+            rtc,
+            hpet,
+            ..self.setup
+        };
+        Ok(Head {
+            row: 4,
+            setup,
+            ..self
+        })
+    }
+
+    fn slew(self, words: &mut Words<'_>) -> Result<Head, Reason>
+        requires valid { IsHead self }
+        requires early { self.row < 9 }
+        ensures head { result ≡ slew_row self words.old }
+        ensures valid { IfOk result IsHead }
+    {
+        let slew_ns = words.dec_within(1, 1_000_000_000).ok_or(Reason::Form)?;
+        words.end()?;
+        let setup = Setup {
+            slew_ns,
+            ..self.setup
+        };
+        Ok(Head {
+            row: 5,
+            setup,
+            ..self
+        })
+    }
+
+    fn wall(self, words: &mut Words<'_>) -> Result<Head, Reason>
+        requires valid { IsHead self }
+        requires early { self.row < 9 }
+        ensures head { result ≡ wall_row self words.old }
+        ensures valid { IfOk result IsHead }
+    {
+        let sec = words.dec_within(0, 4_294_967_295).ok_or(Reason::Form)?;
+        let nsec = words.dec_within(0, 999_999_999).ok_or(Reason::Form)?;
+        words.end()?;
+        let setup = Setup {
+            wall_sec: sec as u32,
+            wall_nsec: nsec as u32,
+            ..self.setup
+        };
+        Ok(Head {
+            row: 6,
+            setup,
+            ..self
+        })
+    }
+
+    fn rtc(self, words: &mut Words<'_>) -> Result<Head, Reason>
+        requires valid { IsHead self }
+        requires early { self.row < 9 }
+        ensures head { result ≡ rtc_row self words.old }
+        ensures valid { IfOk result IsHead }
+    {
+        let time = TimeBytes {
+            sec: words.byte().ok_or(Reason::Form)?,
+            min: words.byte().ok_or(Reason::Form)?,
+            hour: words.byte().ok_or(Reason::Form)?,
+            wday: words.byte().ok_or(Reason::Form)?,
+            date: words.byte().ok_or(Reason::Form)?,
+            month: words.byte().ok_or(Reason::Form)?,
+            year: words.byte().ok_or(Reason::Form)?,
+        };
+        words.end()?;
+        let setup = Setup { time, ..self.setup };
+        Ok(Head {
+            row: 7,
+            setup,
+            ..self
+        })
+    }
+
+    fn route(self, words: &mut Words<'_>) -> Result<Head, Reason>
+        requires { IsHead self }
+        ensures head { result ≡ route_row self words.old }
+        ensures valid { IfOk result IsHead }
+    {
+        let line = self.line_in(words).ok_or(Reason::Form)?;
+        let cpu = words.dec().ok_or(Reason::Form)?;
+        let vector = vector_in(words).ok_or(Reason::Form)?;
+        words.end()?;
+        self.routed(line, cpu, vector)
+    }
+
+    /// The number of a line that may be routed next.
+    fn line_in(&self, words: &mut Words<'_>) -> Option<u8>
+        ensures value { result ≡ such_that (λ n. is_line n && nat_le self.now.next_line n) (dec words.old) }
+        ensures past { OnSome result (words.new ≡ rest words.old) }
+        ensures valid { IfSome result (λ n. is_line n ≡ true) }
+    {
+        let line = words.dec()?;
+        if matches!(line, 0 | 8 | 20 | 21 | 22 | 23) && u64::from(self.next_line) <= line {
+            Some(line as u8)
+        } else {
+            None
+        }
+    }
+
+    /// A line's route to a processor that is there.
+    fn routed(self, line: u8, cpu: u64, vector: u8) -> Result<Head, Reason>
+        requires valid { IsHead self }
+        requires line { is_line line ≡ true }
+        requires vector { 16 ≤ vector }
+        ensures head { result ≡ routed self line cpu vector }
+        ensures valid { IfOk result IsHead }
+    {
+        if cpu >= u64::from(self.setup.cpus) {
+            return Err(Reason::Cpu);
+        }
+        let mut routes = self.routes;
+        routes[place_of_line(line)] = Some(Delivery {
+            cpu: cpu as u8,
+            vector,
+        });
+        Ok(Head {
+            row: 9,
+            next_line: line + 1,
+            routes,
+            ..self
+        })
+    }
+
+    /// What `begin` begins.
+    pub(crate) fn header(&self) -> Header
+        ensures { result ≡ header_of self.now }
+    {
+        Header {
+            begin: Begin::Fresh(self.setup),
+            routes: self.routes,
+        }
+    }
+
+    /// What is known behind it.
+    pub(crate) fn body(&self) -> Body
+        ensures { result ≡ body_of self.now }
+    {
+        Body {
+            format: self.setup.format,
+            cpus: self.setup.cpus,
+            before: [self.setup.anchor.start; 64],
+        }
+    }
+}
+
+/// A vector from 10h on.
+fn vector_in(words: &mut Words<'_>) -> Option<u8>
+    ensures value { result ≡ such_that (λ n. nat_le 0x10 n) (byte words.old) }
+    ensures past { OnSome result (words.new ≡ rest words.old) }
+    ensures valid { IfSome result (λ n. 16 ≤ n) }
+{
+    let vector = words.byte()?;
+    if vector >= 0x10 { Some(vector) } else { None }
+}
+
+/// The place of a line among the six.
+fn place_of_line(line: u8) -> usize
+    requires { is_line line ≡ true }
+    ensures place { result ≡ place_of_line line }
+    ensures within { result < 6 }
+{
+    match line {
+        0 => 0,
+        8 => 1,
+        _ => usize::from(line) - 18,
+    }
+}

@@ -1,0 +1,298 @@
+//! A trace that is read line by line.
+ghost use Rattle.std.specs.Prelude.{◌≡◌, ◌≢◌, ◌+◌, ◌^◌, ◌<◌, ◌≤◌, nat_lt, false, length, codes, None, Ok, OnOk, IfOk, OnSome, IfSome, IfNone};
+ghost use Rattle.std.specs.Bool.{OnTrue};
+ghost use Rattle.std.specs.Str.{bytes_eq};
+ghost use Rattle.trace_text.specs.Lines.{at_start, IsOpen, IsEarly, IsStage, IsRecordAt, fault_of, taken, behind, end_fault, IsItem, stepped, step_of, item_in, stage_in, met, limit_of, is_skipped};
+
+use crate::faults::{Reason, RecordFault};
+use crate::header::{Head, Header, first_line};
+use crate::records::{Body, Record};
+use crate::words::Words;
+use std::marker::Model;
+
+/// What a line is.
+#[derive(Clone, Copy, Debug, PartialEq, Eq)]
+pub enum Item {
+    /// An empty line, or a comment.
+    Skipped,
+    /// A line of the header before `begin`.
+    Part,
+    /// `begin`: the header is whole.
+    Begun(Header),
+    /// A record.
+    Next(Record),
+    /// `end`.
+    End,
+}
+
+/// How far a trace was read.
+#[derive(Clone, Copy, Debug, PartialEq, Eq)]
+pub enum Stage {
+    /// Before the first line.
+    Opening,
+    /// In the header.
+    Heading(Head),
+    /// Behind `begin`.
+    Running(Body),
+    /// Behind `end`.
+    Ended,
+    /// Behind a line that was refused.
+    Refused(RecordFault),
+}
+
+/// What a reader knows.
+#[derive(Clone, Copy, Debug, PartialEq, Eq)]
+pub struct ReadingParts {
+    pub(crate) lines: u64,
+    pub(crate) stage: Stage,
+}
+
+/// A reader of a trace, which takes its lines one by one.
+#[derive(Debug, Drop)]
+pub struct Reading {
+    parts: ReadingParts,
+}
+
+impl Model for Reading {
+    ghost use Rattle.trace_text.specs.declared.reading.ReadingParts.{ReadingParts};
+
+    ghost Value = { ReadingParts };
+
+    ghost use Rattle.trace_text.specs.Lines.{IsReading};
+
+    ghost view = { λ r. r.parts };
+
+    ghost invariant = { λ r. IsReading r.parts };
+}
+
+impl Reading {
+    /// A reader before the first line.
+    pub fn new() -> Reading
+        ensures { result ≡ at_start }
+    {
+        Reading {
+            parts: ReadingParts {
+                lines: 0,
+                stage: Stage::Opening,
+            },
+        }
+    }
+
+    /// Takes the next line, without its end. A line over its limit of 128 bytes, or 200,000 where it begins with
+    /// `state `, may be handed in up to its first byte too many. `end` must not have been taken, and fewer than
+    /// 2^63 lines. After a fault the same fault comes again, whatever the line.
+    pub fn take_line(&mut self, line: &[u8]) -> Result<Item, RecordFault>
+        requires open { IsOpen self.old.stage }
+        requires few { self.old.lines < 2 ^ 63 }
+        ensures item { result ≡ taken self.old line.now }
+        ensures state { self.new ≡ behind line.now self.old }
+        ensures valid { IfOk result (IsItem self.old.stage) }
+
+        // Another line may follow any but `end`.
+        ensures open { result ≢ Ok Item.End → IsOpen self.new.stage }
+        ensures count { self.new.lines ≤ self.old.lines + 1 }
+    {
+        match self.parts.stage.record(line) {
+            Some(record) => {
+                self.parts.lines += 1;
+                Ok(Item::Next(record))
+            }
+            None => self.take_slowly(line),
+        }
+    }
+
+    /// The same for every line.
+    #[inline(never)]
+    fn take_slowly(&mut self, line: &[u8]) -> Result<Item, RecordFault>
+        requires open { IsOpen self.old.stage }
+        requires few { self.old.lines < 2 ^ 63 }
+        ensures item { result ≡ taken self.old line.now }
+        ensures state { self.new ≡ behind line.now self.old }
+        ensures valid { IfOk result (IsItem self.old.stage) }
+        ensures open { result ≢ Ok Item.End → IsOpen self.new.stage }
+        ensures count { self.new.lines ≤ self.old.lines + 1 }
+    {
+        if let Some(fault) = self.parts.stage.fault() {
+            return Err(fault);
+        }
+        self.parts.lines += 1;
+        match self.parts.stage.step(line) {
+            Ok(item) => Ok(item),
+            Err(reason) => {
+                let fault = RecordFault {
+                    line: self.parts.lines,
+                    reason,
+                };
+                self.parts.stage.refuse(fault);
+                Err(fault)
+            }
+        }
+    }
+
+    /// The input ends before `end`: why the trace is refused, at the line behind the last one. `end` must not have
+    /// been taken, and fewer than 2^63 lines.
+    pub fn at_end(&self) -> RecordFault
+        requires open { IsOpen self.now.stage }
+        requires few { self.now.lines < 2 ^ 63 }
+        ensures { result ≡ end_fault self.now }
+    {
+        match self.parts.stage {
+            Stage::Refused(fault) => fault,
+            _ => RecordFault {
+                line: self.parts.lines + 1,
+                reason: Reason::NoEnd,
+            },
+        }
+    }
+}
+
+impl Stage {
+    /// The fault of a reader that has refused a line.
+    #[inline(always)]
+    fn fault(&self) -> Option<RecordFault>
+        ensures { result ≡ fault_of self.now }
+    {
+        match *self {
+            Stage::Refused(fault) => Some(fault),
+            _ => None,
+        }
+    }
+
+    /// A record behind `begin`; None for any other line, and for one that is refused, which change nothing.
+    #[inline(always)]
+    #[tactic(auto, unfolding(crate::specs::Lines::stepped))]
+    fn record(&mut self, line: &[u8]) -> Option<Record>
+        requires valid { IsStage self.old }
+        ensures record { IfSome result (λ r. stepped self.old line.now
+            ≡ Ok (met r self.new)) }
+        ensures valid { IfSome result (IsRecordAt self.old) }
+        ensures open { OnSome result (IsOpen self.new) }
+        ensures kept { IsStage self.new }
+        ensures fresh { OnSome result (fault_of self.old ≡ None) }
+        ensures none { IfNone result (self.new ≡ self.old) }
+    {
+        match self {
+            Stage::Running(body) if may_be_record(line) => {
+                body.record(&mut Words::new(line)).ok()
+            }
+            _ => None,
+        }
+    }
+
+    /// A line is refused.
+    #[inline(never)]
+    #[cold]
+    fn refuse(&mut self, fault: RecordFault)
+        ensures { self.new ≡ Stage.Refused fault }
+    {
+        *self = Stage::Refused(fault);
+    }
+
+    /// The trace has ended.
+    #[inline(never)]
+    #[cold]
+    fn end(&mut self)
+        ensures { self.new ≡ Stage.Ended }
+    {
+        *self = Stage::Ended;
+    }
+
+    /// What a line is, and the stage behind it.
+    #[inline(always)]
+    #[tactic(auto, unfolding(crate::specs::Lines::stepped))]
+    fn step(&mut self, line: &[u8]) -> Result<Item, Reason>
+        requires valid { IsStage self.old }
+        requires open { IsOpen self.old }
+        ensures item { result ≡ item_in (stepped self.old line.now) }
+        ensures stage { OnOk result (self.new ≡ stage_in (stepped self.old line.now) self.old) }
+        ensures open { IfOk result (λ item. item ≢ Item.End → IsOpen self.new) }
+        ensures valid { IfOk result (IsItem self.old) }
+        ensures kept { OnOk result (IsStage self.new) }
+    {
+        if line.len() > limit_of(line) {
+            return Err(Reason::TooLong);
+        }
+        if is_skipped(line) {
+            return Ok(Item::Skipped);
+        }
+        match self {
+            Stage::Running(body) => {
+                if line == b"end".as_slice() {
+                    self.end();
+                    return Ok(Item::End);
+                }
+                let record = body.record(&mut Words::new(line))?;
+                Ok(Item::Next(record))
+            }
+            _ => self.step_in_header(line),
+        }
+    }
+
+    /// The same before `begin`.
+    #[inline(never)]
+    #[cold]
+    #[tactic(auto, unfolding(crate::specs::Lines::stepped))]
+    fn step_in_header(&mut self, line: &[u8]) -> Result<Item, Reason>
+        requires valid { IsStage self.old }
+        requires early { IsEarly self.old }
+        ensures item { result ≡ item_in (step_of self.old line.now) }
+        ensures stage { OnOk result (self.new ≡ stage_in (step_of self.old line.now) self.old) }
+        ensures open { OnOk result (IsOpen self.new) }
+        ensures valid { IfOk result (IsItem self.old) }
+        ensures kept { OnOk result (IsStage self.new) }
+    {
+        match *self {
+            Stage::Opening => {
+                let head = first_line(&mut Words::new(line))?;
+                *self = Stage::Heading(head);
+                Ok(Item::Part)
+            }
+            Stage::Heading(head) => {
+                if line == b"begin".as_slice() {
+                    *self = Stage::Running(head.body());
+                    return Ok(Item::Begun(head.header()));
+                }
+                let head = head.line(&mut Words::new(line))?;
+                *self = Stage::Heading(head);
+                Ok(Item::Part)
+            }
+            Stage::Running(_) | Stage::Ended => Err(Reason::Form),
+            Stage::Refused(fault) => Err(fault.reason),
+        }
+    }
+}
+
+/// How long a line may be: one that begins with `state ` has a saved state.
+#[tactic(auto, unfolding(crate::specs::Lines::limit_of))]
+fn limit_of(line: &[u8]) -> usize
+    ensures { result ≡ limit_of line.now }
+{
+    if line.starts_with(b"state ") {
+        200_000
+    } else {
+        128
+    }
+}
+
+/// Whether a line is empty or a comment.
+fn is_skipped(line: &[u8]) -> bool
+    ensures { result ≡ is_skipped line.now }
+{
+    match line {
+        [] => true,
+        [first, ..] => *first == b'#',
+    }
+}
+
+/// Whether a line is of words, and isn't `end`: it is short, and begins with a digit.
+#[inline(always)]
+fn may_be_record(line: &[u8]) -> bool
+    ensures short { OnTrue result (nat_lt (limit_of line.now) (length line.now) ≡ false) }
+    ensures words { OnTrue result (is_skipped line.now ≡ false) }
+    ensures record { OnTrue result (bytes_eq line.now (codes "end") ≡ false) }
+{
+    match line {
+        [b'0'..=b'9', ..] => line.len() <= 128,
+        _ => false,
+    }
+}

@@ -1,0 +1,199 @@
+//! The words of a line, read one behind the other, and the numbers that they spell.
+ghost use Rattle.std.specs.Prelude.{◌≡◌, ℕ, ◌+◌, ◌-◌, ◌*◌, ◌^◌, ◌<◌, ◌≤◌, ◌==◌, not, true, List, [], drop, length, Option, Some, None, Ok, OnSome, IfSome, IsTrue, MatchOption};
+ghost use Rattle.std.specs.Bool.{OnTrue, OnFalse};
+ghost use Rattle.std.specs.List.{list_all};
+ghost use Rattle.trace_text.specs.Tokens.{words_of, first, rest, starts, dec, hex, byte, dec_within, dec_of_bits, hex_of_bits, khz};
+ghost use Rattle.trace_text.specs.Rows.{last};
+
+use crate::bytes::{Number, end_of_word, is_zero, spelling_at};
+use crate::faults::Reason;
+use std::marker::Model;
+
+/// The words of a line that are still to be read. They are cut by single spaces.
+#[derive(Drop)]
+pub(crate) struct Words<'a> {
+    line: &'a [u8],
+    at: usize,
+}
+
+impl<'a> Model for Words<'a> {
+    ghost use Rattle.std.specs.Prelude.{ℕ, ◌+◌, ◌≤◌, List, length};
+    ghost use Rattle.trace_text.specs.private.Spelled.{words_from};
+
+    ghost Value = { List (List ℕ) };
+
+    ghost view = { λ w. words_from w.at w.line.now };
+
+    ghost invariant = { λ w. w.at ≤ length w.line.now + 1 };
+}
+
+impl<'a> Words<'a> {
+    ghost use Rattle.trace_text.specs.private.Spelled.{number_of};
+
+    /// All words of a line.
+    pub(crate) fn new(line: &'a [u8]) -> Words<'a>
+        ensures { result ≡ words_of line.now }
+    {
+        Words { line, at: 0 }
+    }
+
+    /// Whether no word is left; else the line is out of form.
+    #[inline(always)]
+    pub(crate) fn end(&self) -> Result<(), Reason>
+        ensures { result ≡ last (Ok tt) self.now }
+    {
+        if self.at > self.line.len() {
+            Ok(())
+        } else {
+            Err(Reason::Form)
+        }
+    }
+
+    /// Goes past the next word if it is this one, which has no space.
+    #[inline(always)]
+    pub(crate) fn takes(&mut self, name: &[u8]) -> bool
+        requires { IsTrue (list_all (λ b. not (b == 32)) name.now) }
+        ensures found { result ≡ starts name.now self.old }
+        ensures past { OnTrue result (self.new ≡ rest self.old) }
+        ensures still { OnFalse result (self.new ≡ self.old) }
+    {
+        match end_of_word(self.line, self.at, name) {
+            Some(end) => {
+                self.at = end;
+                true
+            }
+            None => false,
+        }
+    }
+
+    /// Goes past the next word, if it is a number in this base.
+    #[inline(always)]
+    fn number(&mut self, base: u32) -> Option<Number>
+        requires least { 2 ≤ base }
+        requires most { base ≤ 36 }
+        ensures value { result ≡ first (number_of base) self.old }
+        ensures past { OnSome result (self.new ≡ rest self.old) }
+    {
+        let at = self.at;
+        if at > self.line.len() {
+            return None;
+        }
+        let spelling = spelling_at(self.line, at, base)?;
+        self.at = spelling.end + 1;
+        Some(Number {
+            value: spelling.value,
+            digits: spelling.end - at,
+            zero: is_zero(self.line, at, spelling.end),
+        })
+    }
+
+    /// The next word as a DEC.
+    #[inline(always)]
+    pub(crate) fn dec(&mut self) -> Option<u64>
+        ensures value { result ≡ dec self.old }
+        ensures past { OnSome result (self.new ≡ rest self.old) }
+    {
+        self.number(10)?.decimal()
+    }
+
+    /// The next word as a HEX.
+    #[inline(always)]
+    pub(crate) fn hex(&mut self) -> Option<u64>
+        ensures value { result ≡ hex self.old }
+        ensures past { OnSome result (self.new ≡ rest self.old) }
+    {
+        self.number(16)?.hexadecimal(16)
+    }
+
+    /// The next word as a BYTE.
+    #[inline(always)]
+    pub(crate) fn byte(&mut self) -> Option<u8>
+        ensures value { result ≡ byte self.old }
+        ensures past { OnSome result (self.new ≡ rest self.old) }
+    {
+        let byte = self.number(16)?.hexadecimal(2)?;
+        Some(byte as u8)
+    }
+
+    /// The next word as a DEC within these bounds.
+    pub(crate) fn dec_within(&mut self, least: u64, most: u64) -> Option<u64>
+        ensures value { result ≡ dec_within least most self.old }
+        ensures past { OnSome result (self.new ≡ rest self.old) }
+        ensures least { IfSome result (λ n. least ≤ n) }
+        ensures most { IfSome result (λ n. n ≤ most) }
+    {
+        let n = self.dec()?;
+        if least <= n && n <= most {
+            Some(n)
+        } else {
+            None
+        }
+    }
+
+    /// The next word as a KHZ.
+    pub(crate) fn khz(&mut self) -> Option<u64>
+        ensures value { result ≡ khz self.old }
+        ensures past { OnSome result (self.new ≡ rest self.old) }
+        ensures least { IfSome result (λ n. 100000 ≤ n) }
+        ensures most { IfSome result (λ n. n ≤ 10000000) }
+    {
+        self.dec_within(100_000, 10_000_000)
+    }
+
+    /// The next word as a DEC of 8 bits.
+    #[inline(always)]
+    pub(crate) fn dec8(&mut self) -> Option<u8>
+        ensures value { result ≡ dec_of_bits 8 self.old }
+        ensures past { OnSome result (self.new ≡ rest self.old) }
+    {
+        let n = self.dec()?;
+        if n < 0x100 { Some(n as u8) } else { None }
+    }
+
+    /// The next word as a DEC of 32 bits.
+    pub(crate) fn dec32(&mut self) -> Option<u32>
+        ensures value { result ≡ dec_of_bits 32 self.old }
+        ensures past { OnSome result (self.new ≡ rest self.old) }
+    {
+        let n = self.dec()?;
+        if n < 0x1_0000_0000 {
+            Some(n as u32)
+        } else {
+            None
+        }
+    }
+
+    /// The next word as a HEX of 8 bits.
+    #[inline(always)]
+    pub(crate) fn hex8(&mut self) -> Option<u8>
+        ensures value { result ≡ hex_of_bits 8 self.old }
+        ensures past { OnSome result (self.new ≡ rest self.old) }
+    {
+        let n = self.hex()?;
+        if n < 0x100 { Some(n as u8) } else { None }
+    }
+
+    /// The next word as a HEX of 16 bits.
+    #[inline(always)]
+    pub(crate) fn hex16(&mut self) -> Option<u16>
+        ensures value { result ≡ hex_of_bits 16 self.old }
+        ensures past { OnSome result (self.new ≡ rest self.old) }
+    {
+        let n = self.hex()?;
+        if n < 0x1_0000 { Some(n as u16) } else { None }
+    }
+
+    /// The next word as a HEX of 32 bits.
+    #[inline(always)]
+    pub(crate) fn hex32(&mut self) -> Option<u32>
+        ensures value { result ≡ hex_of_bits 32 self.old }
+        ensures past { OnSome result (self.new ≡ rest self.old) }
+    {
+        let n = self.hex()?;
+        if n < 0x1_0000_0000 {
+            Some(n as u32)
+        } else {
+            None
+        }
+    }
+}
