@@ -44,26 +44,35 @@ fn a_periodic_timer_of_100_nanoseconds(rt: HostRuntime) {
     assert_eq!(rt; by_300, fires(1, 50));
 }
 
-/// TSCs that come one after the other, and whether a deadline of 2,001 is reached at each.
-const TSCS: [(u64, bool); 4] = [(2_000, false), (1, false), (2_002, true), (2_003, false)];
+/// Whether a look at a TSC reaches a deadline, and the deadline behind it.
+fn looked_at(deadline: u64, tsc: u64) -> (bool, u64) {
+    let mut timer = timer_of(0, 0x4_0031, 0);
+    timer.write_deadline(deadline);
+    let reached = timer.reach(tsc);
+    (reached, timer.deadline())
+}
+
+/// A deadline, a TSC, whether it is reached, and the deadline behind the look.
+const LOOKS: [(u64, u64, bool, u64); 5] = [
+    (2_001, 2_000, false, 2_001),
+    (2_001, 2_002, true, 0),
+    (2_001, 1, false, 2_001),
+    (0xffff_ffff_ffff_ffff, 0, true, 0),
+    (0, 2_002, false, 0),
+];
 
 #[test]
-fn a_deadline_is_reached_once(rt: HostRuntime) {
-    let mut timer = timer_of(0, 0x4_0031, 5);
-    assert_eq!(rt; timer.initial(), 0);
-    timer.write_deadline(0x7d1);
-    assert_eq!(rt; timer.run(1 << 63), Fires::NONE);
-    for (tsc, reached) in TSCS {
-        assert_eq!(rt; timer.reach(tsc), reached);
+fn looks_at_a_deadline(rt: HostRuntime) {
+    for (deadline, tsc, reached, left) in LOOKS {
+        assert_eq!(rt; looked_at(deadline, tsc), (reached, left));
     }
-    assert_eq!(rt; timer.deadline(), 0);
 }
 
 #[test]
-fn a_deadline_at_the_last_tsc_is_reached_by_tsc_0(rt: HostRuntime) {
-    let mut timer = timer_of(0, 0x4_0031, 0);
-    timer.write_deadline(0xffff_ffff_ffff_ffff);
-    assert!(rt; timer.reach(0));
+fn nothing_counts_in_deadline_mode(rt: HostRuntime) {
+    let (timer, seen) = after(timer_of(0, 0x4_0031, 5), 1 << 63);
+    assert_eq!(rt; seen, Fires::NONE);
+    assert_eq!(rt; timer.initial(), 0);
 }
 
 /// The divisors of the manual's table, and how often a periodic timer of 5 fires in 1,000 ns.
