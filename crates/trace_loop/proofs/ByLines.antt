@@ -1,8 +1,54 @@
 -- The progress behind an input is what its lines give one by one.
-use Rattle.std.proofs.Common.{◌≡◌, ◌≢◌, ℕ, ◌<◌, ◌≤◌, Bool, true, false, cond, eqb, ltb, List, [], ◌∷◌, ◌++◌, length, Option, Some, None, refl, sym, ap, ◌∙◌, arith, subst, append_assoc, append-nil, length-append}
+use Rattle.std.proofs.Common.{
+  ◌≡◌,
+  ◌≢◌,
+  ℕ,
+  ◌<◌,
+  ◌≤◌,
+  Bool,
+  true,
+  false,
+  cond,
+  eqb,
+  ltb,
+  List,
+  [],
+  ◌∷◌,
+  ◌++◌,
+  length,
+  Option,
+  Some,
+  None,
+  refl,
+  sym,
+  ap,
+  ◌∙◌,
+  arith,
+  subst,
+  append_assoc,
+  append-nil,
+  length-append,
+}
 use Rattle.std.specs.List.{slice_split, onto_first}
 use Rattle.std.proofs.lemmas.Bool.{ne_eqb, eqb-true, eqb-false, ltb-true, ltb-false}
-use Rattle.trace_loop.specs.Progress.{limit_of, Closing, Answer, Goes, Ends, Progress, opened, told, answered, checked, closed, heard_until, behind, ran, finished, finished_by}
+use Rattle.trace_loop.specs.Progress.{
+  limit_of,
+  Closing,
+  Answer,
+  Goes,
+  Ends,
+  Progress,
+  opened,
+  told,
+  answered,
+  checked,
+  closed,
+  heard_until,
+  behind,
+  ran,
+  finished,
+  finished_by,
+}
 use Rattle.trace_loop.specs.ByLines.{lines_of, without_empty_last, line_told, ran_lines, EndsLong}
 use Rattle.trace_loop.specs.Cut.{HasNoEnd}
 use Rattle.trace_loop.proofs.Progresses.{behind-ended, limit_least}
@@ -16,7 +62,8 @@ some_part : (bytes : List ℕ) → (part : List ℕ) × (parts : List (List ℕ)
 some_part [] = ([], [], refl)
 some_part (b ∷ bs) = by_end (eqb b 10) (some_part bs)
   where
-    by_end : (e : Bool) → (part : List ℕ) × (parts : List (List ℕ)) × (parts_of bs ≡ part ∷ parts) → (part : List ℕ) × (parts : List (List ℕ)) × (cond e ([] ∷ parts_of bs) (onto_first b (parts_of bs)) ≡ part ∷ parts)
+    by_end : (e : Bool) → (part : List ℕ) × (parts : List (List ℕ)) × (parts_of bs ≡ part ∷ parts)
+        → (part : List ℕ) × (parts : List (List ℕ)) × (cond e ([] ∷ parts_of bs) (onto_first b (parts_of bs)) ≡ part ∷ parts)
     by_end true h = ([], parts_of bs, refl)
     by_end false h = (b ∷ h.0, h.1, ap (onto_first b) h.2)
 
@@ -52,7 +99,9 @@ first_kept b bs [] = ([], refl)
 first_kept b bs (next ∷ parts) = (without_empty_last (next ∷ parts), refl)
 
 -- so the first line is at least as long
-lines-front : (front rest : List ℕ) → 0 < length front → HasNoEnd front → (line : List ℕ) × (lines : List (List ℕ)) × (lines_of (front ++ rest) ≡ line ∷ lines) × (length front ≤ length line) × ((part : List ℕ) × (line ≡ front ++ part))
+lines-front : (front rest : List ℕ) → 0 < length front → HasNoEnd front
+    → (line : List ℕ) × (lines : List (List ℕ)) × (lines_of (front ++ rest) ≡ line ∷ lines) × (length front ≤ length line) ×
+    ((part : List ℕ) × (line ≡ front ++ part))
 unfolding lines_of
 lines-front [] rest some none = absurd (omega arith)
 lines-front (b ∷ front) rest some none =
@@ -86,9 +135,11 @@ module _ (A E : Type 0) (answer : ℕ → A → List ℕ → Answer A E) (closin
   abbrev Agrees : List ℕ → Progress A E → Type 0
   Agrees bs s = finished answer closing (behind answer bs s) ≡ ran_lines answer closing (lines_of (s.text ++ bs)) (record s { text = [] })
 
-  last_line : (text : List ℕ) (s : Progress A E) → s.text ≡ text → s.end ≡ None → HasNoEnd text → finished answer closing s ≡ ran_lines answer closing (lines_of text) (record s { text = [] })
+  last_line : (text : List ℕ) (s : Progress A E) → s.text ≡ text → s.end ≡ None → HasNoEnd text → finished answer closing s
+      ≡ ran_lines answer closing (lines_of text) (record s { text = [] })
   unfolding lines_of
-  last_line [] s is going none = ap (λ (o : Option E). finished_by answer closing o s) going ∙ ap (λ (l : List ℕ). (let t = closed answer l s in ran closing t.end t)) is ∙ ap (λ (l : List ℕ). ran closing s.end (record s { text = l })) is
+  last_line [] s is going none = ap (λ (o : Option E). finished_by answer closing o s) going
+      ∙ ap (λ (l : List ℕ). (let t = closed answer l s in ran closing t.end t)) is ∙ ap (λ (l : List ℕ). ran closing s.end (record s { text = l })) is
   last_line (b ∷ bs) s is going none =
       ap (λ (o : Option E). finished_by answer closing o s) going
       ∙ ap (λ (l : List ℕ). (let t = closed answer l s in ran closing t.end t)) is
@@ -97,12 +148,14 @@ module _ (A E : Type 0) (answer : ℕ → A → List ℕ → Answer A E) (closin
       ∙ ap (λ (ls : List (List ℕ)). ran_lines answer closing ls (record s { text = [] })) (sym (lines-last (b ∷ bs) (omega arith) none))
 
   -- a line that ends here
-  line_end : (bs : List ℕ) (s : Progress A E) → s.end ≡ None → ((t : Progress A E) → t.end ≡ None → t.text ≡ [] → Agrees bs t) → finished answer closing (behind answer bs (answered answer s)) ≡ ran_lines answer closing (lines_of bs) (answered answer s)
+  line_end : (bs : List ℕ) (s : Progress A E) → s.end ≡ None → ((t : Progress A E) → t.end ≡ None → t.text ≡ [] → Agrees bs t)
+      → finished answer closing (behind answer bs (answered answer s)) ≡ ran_lines answer closing (lines_of bs) (answered answer s)
   line_end bs s going later = by_answer (answer s.line s.state s.text)
     where
       by_answer : (x : Answer A E) → finished answer closing (behind answer bs (told x s)) ≡ ran_lines answer closing (lines_of bs) (told x s)
       by_answer (Goes block a) = later (told (Goes block a) s) refl refl
-      by_answer (Ends r) = ap (finished answer closing) (behind-ended A E answer closing bs (told (Ends r) s) r.end refl) ∙ sym (lines-ended (lines_of bs) (told (Ends r) s) r.end refl)
+      by_answer (Ends r) = ap (finished answer closing) (behind-ended A E answer closing bs (told (Ends r) s) r.end refl)
+          ∙ sym (lines-ended (lines_of bs) (told (Ends r) s) r.end refl)
 
   -- what ends a line that is too long
   abbrev excess : List ℕ → Progress A E → Closing E
@@ -121,7 +174,8 @@ module _ (A E : Type 0) (answer : ℕ → A → List ℕ → Answer A E) (closin
       ∙ ap (λ (o : Option E). ran_lines answer closing h.1 (line_told answer o h.0 (record s { text = [] }))) (sym going)
       ∙ ap (λ (ls : List (List ℕ)). ran_lines answer closing ls (record s { text = [] })) (sym h.2)
 
-  by_byte : (b : ℕ) (bs : List ℕ) (s : Progress A E) → s.end ≡ None → HasNoEnd s.text → ((t : Progress A E) → t.end ≡ None → HasNoEnd t.text → length t.text ≤ limit_of t.text → Agrees bs t) → Agrees (b ∷ bs) s
+  by_byte : (b : ℕ) (bs : List ℕ) (s : Progress A E) → s.end ≡ None → HasNoEnd s.text
+      → ((t : Progress A E) → t.end ≡ None → HasNoEnd t.text → length t.text ≤ limit_of t.text → Agrees bs t) → Agrees (b ∷ bs) s
   by_byte b bs s going none later = by_end (eqb b 10) refl
     where
       grown : Progress A E
@@ -130,7 +184,9 @@ module _ (A E : Type 0) (answer : ℕ → A → List ℕ → Answer A E) (closin
       bytes : (s.text ++ b ∷ []) ++ bs ≡ s.text ++ b ∷ bs
       bytes = append_assoc s.text (b ∷ []) bs
 
-      by_over : (t : Bool) → ltb (limit_of grown.text) (length grown.text) ≡ t → b ≢ 10 → finished answer closing (behind answer bs (cond t (answered answer grown) grown)) ≡ ran_lines answer closing (lines_of (s.text ++ b ∷ bs)) (record s { text = [] })
+      by_over : (t : Bool) → ltb (limit_of grown.text) (length grown.text) ≡ t → b ≢ 10
+          → finished answer closing (behind answer bs (cond t (answered answer grown) grown))
+          ≡ ran_lines answer closing (lines_of (s.text ++ b ∷ bs)) (record s { text = [] })
       by_over true over other =
           let long : limit_of grown.text < length grown.text = ltb-true (limit_of grown.text) (length grown.text) over in
           let answer_ : answer s.line s.state grown.text ≡ Ends (excess grown.text s) =
@@ -159,7 +215,8 @@ module _ (A E : Type 0) (answer : ℕ → A → List ℕ → Answer A E) (closin
           ∙ by_over (ltb (limit_of grown.text) (length grown.text)) refl (eqb-false b 10 is)
 
   pub by_lines : (bs : List ℕ) (s : Progress A E) → s.end ≡ None → HasNoEnd s.text → length s.text ≤ limit_of s.text → Agrees bs s
-  by_lines [] s going none short = last_line s.text s refl going none ∙ ap (λ (l : List ℕ). ran_lines answer closing (lines_of l) (record s { text = [] })) (sym (append-nil s.text))
+  by_lines [] s going none short = last_line s.text s refl going none
+      ∙ ap (λ (l : List ℕ). ran_lines answer closing (lines_of l) (record s { text = [] })) (sym (append-nil s.text))
   by_lines (b ∷ bs) s going none short = by_byte b bs s going none (by_lines bs)
 
 -- what is printed for an input is what is printed for its lines

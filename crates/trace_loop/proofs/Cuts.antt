@@ -1,5 +1,36 @@
 -- Laws of cutting lines off a piece.
-use Rattle.std.proofs.Common.{◌≡◌, ◌≢◌, ℕ, zero, suc, ◌+◌, ◌-◌, ◌<◌, ◌≤◌, List, [], ◌∷◌, ◌++◌, length, take, drop, slice_index, Option, Some, None, unwrap_or, sym, ap, ◌∙◌, arith, subst, refl, Bool, true, false}
+use Rattle.std.proofs.Common.{
+  ◌≡◌,
+  ◌≢◌,
+  ℕ,
+  zero,
+  suc,
+  ◌+◌,
+  ◌-◌,
+  ◌<◌,
+  ◌≤◌,
+  List,
+  [],
+  ◌∷◌,
+  ◌++◌,
+  length,
+  take,
+  drop,
+  slice_index,
+  Option,
+  Some,
+  None,
+  unwrap_or,
+  sym,
+  ap,
+  ◌∙◌,
+  arith,
+  subst,
+  refl,
+  Bool,
+  true,
+  false,
+}
 use Rattle.std.proofs.lemmas.Bool.{eq-eqb, eqb-true}
 use Rattle.std.proofs.lemmas.List.{drop-take, drop-drop}
 use Rattle.std.proofs.lemmas.Grind.{common_steps}
@@ -28,7 +59,8 @@ found_within rest (Some j) first = let h = first.0.high in omega arith
 pub drop_part : (piece : List ℕ) (from to n : ℕ) → from + n ≤ to → drop n (take (to - from) (drop from piece)) ≡ take (to - (from + n)) (drop (from + n) piece)
 drop_part piece from to n within =
     let parts : n + (to - (from + n)) ≡ to - from = omega arith in
-    ap (λ (m : ℕ). drop n (take m (drop from piece))) (sym parts) ∙ drop-take n (to - (from + n)) (drop from piece) ∙ ap (take (to - (from + n))) (drop-drop n from piece)
+    ap (λ (m : ℕ). drop n (take m (drop from piece))) (sym parts) ∙ drop-take n (to - (from + n)) (drop from piece)
+        ∙ ap (take (to - (from + n))) (drop-drop n from piece)
 
 -- the part up to n bytes behind its front
 pub take_part : (piece : List ℕ) (from to n : ℕ) → from + n ≤ to → take n (take (to - from) (drop from piece)) ≡ take n (drop from piece)
@@ -48,7 +80,8 @@ no_end_++ [] ys p q = q
 no_end_++ (x ∷ xs) ys p q = (p.0, no_end_++ xs ys p.1 q)
 
 -- a line of which an earlier piece had the front begins with a word
-pub across : (word kept rest : List ℕ) → length kept ≤ length word → take (length kept) word ≡ kept → take (length (drop (length kept) word)) rest ≡ drop (length kept) word → take (length word) (kept ++ rest) ≡ word
+pub across : (word kept rest : List ℕ) → length kept ≤ length word → take (length kept) word ≡ kept → take (length (drop (length kept) word)) rest
+    ≡ drop (length kept) word → take (length word) (kept ++ rest) ≡ word
 across word [] rest short first second = second
 across [] (k ∷ ks) rest short first second = absurd (omega arith)
 across (w ∷ ws) (k ∷ ks) rest short first second =
@@ -57,7 +90,8 @@ across (w ∷ ws) (k ∷ ks) rest short first second =
     let later : take (length ws) (ks ++ rest) ≡ ws = across ws ks rest (omega arith) tail second in
     ap (λ (l : List ℕ). k ∷ l) later ∙ ap (λ (b : ℕ). b ∷ ws) (sym head)
 
-pub across_back : (word kept rest : List ℕ) → length kept ≤ length word → take (length word) (kept ++ rest) ≡ word → (take (length kept) word ≡ kept) × (take (length (drop (length kept) word)) rest ≡ drop (length kept) word)
+pub across_back : (word kept rest : List ℕ) → length kept ≤ length word → take (length word) (kept ++ rest) ≡ word
+    → (take (length kept) word ≡ kept) × (take (length (drop (length kept) word)) rest ≡ drop (length kept) word)
 across_back word [] rest short all = (refl, all)
 across_back [] (k ∷ ks) rest short all = absurd (omega arith)
 across_back (w ∷ ws) (k ∷ ks) rest short all =
@@ -72,7 +106,8 @@ same_bool false true p q = q refl
 same_bool false false p q = refl
 
 -- the same as tests
-pub across_test : (word kept rest : List ℕ) → length kept ≤ length word → bytes_eq (take (length kept) word) kept ≡ true → bytes_eq (take (length (drop (length kept) word)) rest) (drop (length kept) word) ≡ bytes_eq (take (length word) (kept ++ rest)) word
+pub across_test : (word kept rest : List ℕ) → length kept ≤ length word → bytes_eq (take (length kept) word) kept ≡ true
+    → bytes_eq (take (length (drop (length kept) word)) rest) (drop (length kept) word) ≡ bytes_eq (take (length word) (kept ++ rest)) word
 across_test word kept rest short first =
     let is : take (length kept) word ≡ kept = (bytes_eq-Decides (take (length kept) word) kept).0 first in
     let d = bytes_eq-Decides (take (length (drop (length kept) word)) rest) (drop (length kept) word) in
@@ -80,8 +115,10 @@ across_test word kept rest short first =
     same_bool (bytes_eq (take (length (drop (length kept) word)) rest) (drop (length kept) word)) (bytes_eq (take (length word) (kept ++ rest)) word)
     (λ yes. e.1 (across word kept rest short is (d.0 yes))) (λ yes. d.1 (across_back word kept rest short (e.0 yes)).1)
 
-pub across_none : (word kept rest : List ℕ) → length kept ≤ length word → bytes_eq (take (length kept) word) kept ≡ false → false ≡ bytes_eq (take (length word) (kept ++ rest)) word
+pub across_none : (word kept rest : List ℕ) → length kept ≤ length word → bytes_eq (take (length kept) word) kept ≡ false → false
+    ≡ bytes_eq (take (length word) (kept ++ rest)) word
 across_none word kept rest short first =
     let d = bytes_eq-Decides (take (length kept) word) kept in
     let e = bytes_eq-Decides (take (length word) (kept ++ rest)) word in
-    same_bool false (bytes_eq (take (length word) (kept ++ rest)) word) (λ yes. cc) (λ yes. absurd (let h : bytes_eq (take (length kept) word) kept ≡ true = d.1 (across_back word kept rest short (e.0 yes)).0 in cc))
+    same_bool false (bytes_eq (take (length word) (kept ++ rest)) word) (λ yes. cc)
+        (λ yes. absurd (let h : bytes_eq (take (length kept) word) kept ≡ true = d.1 (across_back word kept rest short (e.0 yes)).0 in cc))

@@ -1,11 +1,62 @@
 -- What a run has written when it ends, from what it wrote before and what its last step wrote.
-use Rattle.std.proofs.Common.{◌≡◌, ℕ, ◌+◌, ◌<◌, ◌≤◌, true, false, List, [], ◌∷◌, ◌++◌, length, take, Option, Some, None, Result, Ok, Err, is_err, OnOk, OnErr, refl, sym, ap, ◌∙◌, inl, inr, ◌⊎◌, arith, subst, append_assoc, append-nil, length-append}
+use Rattle.std.proofs.Common.{
+  ◌≡◌,
+  ℕ,
+  ◌+◌,
+  ◌<◌,
+  ◌≤◌,
+  true,
+  false,
+  List,
+  [],
+  ◌∷◌,
+  ◌++◌,
+  length,
+  take,
+  Option,
+  Some,
+  None,
+  Result,
+  Ok,
+  Err,
+  is_err,
+  OnOk,
+  OnErr,
+  refl,
+  sym,
+  ap,
+  ◌∙◌,
+  inl,
+  inr,
+  ◌⊎◌,
+  arith,
+  subst,
+  append_assoc,
+  append-nil,
+  length-append,
+}
 use Rattle.std.specs.Io.KnownBytes.{Appends, Consumes, IsAtEnd}
 use Rattle.std.proofs.KnownBytes.{Appends-trans}
 use Rattle.std.proofs.lemmas.List.{take_all, take-append-le}
 use Rattle.board_io.specs.Faults.{Rose}
 use Rattle.trace_loop.specs.Text.{source_fault_text, memory_fault_text}
-use Rattle.trace_loop.specs.Progress.{limit_of, Closing, Answer, Goes, Ends, Progress, opened, standing, printed, end_of, state_behind, told, answered, behind, finished}
+use Rattle.trace_loop.specs.Progress.{
+  limit_of,
+  Closing,
+  Answer,
+  Goes,
+  Ends,
+  Progress,
+  opened,
+  standing,
+  printed,
+  end_of,
+  state_behind,
+  told,
+  answered,
+  behind,
+  finished,
+}
 use Rattle.trace_loop.specs.Cut.{Cut, IsLine, IsWhole}
 use Rattle.trace_loop.specs.Outcome.{Begins, Run, run_of, IsText, IsSourceFault, IsMemoryFault, Outcome, Said}
 use Rattle.trace_loop.specs.declared.ended.Ended.{Ended}
@@ -28,7 +79,8 @@ on_err_from_is_err {T} {E} (Ok x) A failed h = cc
 on_err_from_is_err {T} {E} (Err e) A failed h = h
 
 -- a text that was written whole, and another behind it
-pub said-behind : {E : Type 0} (status result : Ended E) (c0 c1 c2 : Option (List ℕ)) (first second : List ℕ) (f0 f1 f2 : ℕ) → f0 ≤ f1 → Appends c0 c1 first → Said status result c1 c2 second (Rose f1 f2) → Said status result c0 c2 (first ++ second) (Rose f0 f2)
+pub said-behind : {E : Type 0} (status result : Ended E) (c0 c1 c2 : Option (List ℕ)) (first second : List ℕ) (f0 f1 f2 : ℕ) → f0 ≤ f1 → Appends c0 c1 first
+    → Said status result c1 c2 second (Rose f1 f2) → Said status result c0 c2 (first ++ second) (Rose f0 f2)
 said-behind status result c0 c1 c2 first second f0 f1 f2 more before (inl said) = inl (said.0, Appends-trans c0 c1 c2 first second before said.1)
 said-behind status result c0 c1 c2 first second f0 f1 f2 more before (inr cut) = inr (
   cut.0,
@@ -41,14 +93,16 @@ said-behind status result c0 c1 c2 first second f0 f1 f2 more before (inr cut) =
 )
 
 -- what was put before the source was called last is what was printed behind the bytes that it had given
-pub record IsAsked (A E : Type 0) (answer : ℕ → A → List ℕ → Answer A E) (closing : ℕ → A → Closing E) (a : A) (input put : List ℕ) (before place : ℕ) : Type 0 where
+pub record IsAsked (A E : Type 0) (answer : ℕ → A → List ℕ → Answer A E) (closing : ℕ → A → Closing E) (a : A) (input put : List ℕ)
+    (before place : ℕ) : Type 0 where
   pub least : before ≤ place
   pub printed_ : (behind answer (take before input) (opened a)).printed ≡ put
   pub going : (behind answer (take before input) (opened a)).end ≡ None
 
 -- where a run stands in an input: `heard` is answered or stands in the present line, `left` was given and is to be
 -- heard, and `rest` is to be given; `put` was put, and `out` is to be
-pub record Stands (A E : Type 0) (answer : ℕ → A → List ℕ → Answer A E) (closing : ℕ → A → Closing E) (a : A) (input left rest put out : List ℕ) (given before : ℕ) (s : Progress A E) : Type 0 where
+pub record Stands (A E : Type 0) (answer : ℕ → A → List ℕ → Answer A E) (closing : ℕ → A → Closing E) (a : A) (input left rest put out : List ℕ)
+    (given before : ℕ) (s : Progress A E) : Type 0 where
   pub bytes : List ℕ
   pub whole : input ≡ (bytes ++ left) ++ rest
   pub count : length bytes + length left ≡ given
@@ -80,8 +134,10 @@ front xs ys n is = take-append-le n xs ys (omega arith) ∙ take_all n xs (omega
 
 module _ (A E : Type 0) (answer : ℕ → A → List ℕ → Answer A E) (closing : ℕ → A → Closing E) (a : A) where
   -- a line that was cut off is heard: it is answered
-  line_heard : (bytes : List ℕ) (line : ℕ) (state : A) (before : List ℕ) (old new : Cut) → behind answer bytes (opened a) ≡ standing line old.text state before → IsLine old new
-      → (more : List ℕ) × (old.left ≡ more ++ new.left) × (behind answer (bytes ++ more) (opened a) ≡ answered answer (standing line new.line state before)) × (0 < length old.left)
+  line_heard : (bytes : List ℕ) (line : ℕ) (state : A) (before : List ℕ) (old new : Cut) → behind answer bytes (opened a)
+      ≡ standing line old.text state before → IsLine old new
+      → (more : List ℕ) × (old.left ≡ more ++ new.left) ×
+          (behind answer (bytes ++ more) (opened a) ≡ answered answer (standing line new.line state before)) × (0 < length old.left)
   line_heard bytes line state before old new there l = by_end l.end
     where
       s : Progress A E
@@ -90,8 +146,10 @@ module _ (A E : Type 0) (answer : ℕ → A → List ℕ → Answer A E) (closin
       len : length new.line ≡ length old.text + length l.bytes
       len = ap length l.line ∙ length-append old.text l.bytes
 
-      by_end : ((length new.line ≤ limit_of new.line) × (old.left ≡ l.bytes ++ 10 ∷ new.left)) ⊎ ((length new.line ≡ limit_of new.line + 1) × (old.left ≡ l.bytes ++ new.left))
-          → (more : List ℕ) × (old.left ≡ more ++ new.left) × (behind answer (bytes ++ more) (opened a) ≡ answered answer (standing line new.line state before)) × (0 < length old.left)
+      by_end : ((length new.line ≤ limit_of new.line) × (old.left ≡ l.bytes ++ 10 ∷ new.left)) ⊎
+          ((length new.line ≡ limit_of new.line + 1) × (old.left ≡ l.bytes ++ new.left))
+          → (more : List ℕ) × (old.left ≡ more ++ new.left) ×
+              (behind answer (bytes ++ more) (opened a) ≡ answered answer (standing line new.line state before)) × (0 < length old.left)
       by_end (inl h) = (
         l.bytes ++ 10 ∷ [],
         h.1 ∙ sym (append_assoc l.bytes (10 ∷ []) new.left),
@@ -113,7 +171,8 @@ module _ (A E : Type 0) (answer : ℕ → A → List ℕ → Answer A E) (closin
   pub stands_start : (input : List ℕ) (before : ℕ) → Stands A E answer closing a input [] input [] [] 0 before (opened a)
   stands_start input before = record { bytes = []; whole = refl; count = refl; there = refl; asked = λ some. absurd (omega arith) }
 
-  told_goes : (x : Answer A E) (line : ℕ) (text : List ℕ) (state : A) (before : List ℕ) → None ≡ end_of x → told x (standing line text state before) ≡ standing (line + 1) [] (state_behind x state) (before ++ printed x)
+  told_goes : (x : Answer A E) (line : ℕ) (text : List ℕ) (state : A) (before : List ℕ) → None ≡ end_of x → told x (standing line text state before)
+      ≡ standing (line + 1) [] (state_behind x state) (before ++ printed x)
   told_goes (Goes block b) line text state before none = refl
   told_goes (Ends r) line text state before none = cc
 
@@ -122,7 +181,8 @@ module _ (A E : Type 0) (answer : ℕ → A → List ℕ → Answer A E) (closin
   told_ends (Goes block b) line text state before status is = cc
   told_ends (Ends r) line text state before status is = (sym is, refl)
 
-  later : (input put : List ℕ) (before place more : ℕ) → place ≤ more → IsAsked A E answer closing a input put before place → IsAsked A E answer closing a input put before more
+  later : (input put : List ℕ) (before place more : ℕ) → place ≤ more → IsAsked A E answer closing a input put before place
+      → IsAsked A E answer closing a input put before more
   later input put before place more on asked = record { least = omega (arith, asked.least); printed_ = asked.printed_; going = asked.going }
 
   -- a line is answered, and the trace goes on
@@ -142,7 +202,8 @@ module _ (A E : Type 0) (answer : ℕ → A → List ℕ → Answer A E) (closin
             ∙ ap (λ (text : List ℕ). standing (line + 1) text (state_behind x state) ((put ++ out) ++ printed x)) (sym l.text)
             ∙ ap (λ (b : A). standing (line + 1) new.text b ((put ++ out) ++ printed x)) (sym is)
             ∙ ap (λ (p : List ℕ). standing (line + 1) new.text now p) (append_assoc put out (printed x) ∙ ap (λ (p : List ℕ). put ++ p) (sym shown));
-        asked = λ some. later input put before (length s.bytes) (length (s.bytes ++ h.0)) (omega (arith, length-append s.bytes h.0)) (s.asked (omega (arith, h.3)));
+        asked = λ some. later input put before (length s.bytes) (length (s.bytes ++ h.0)) (omega (arith, length-append s.bytes h.0))
+            (s.asked (omega (arith, h.3)));
       }
 
   -- a line is answered, and ends the trace
@@ -155,10 +216,14 @@ module _ (A E : Type 0) (answer : ℕ → A → List ℕ → Answer A E) (closin
       let x : Answer A E = answer line state new.line in
       let t = told_ends x line new.line state (put ++ out) status some in
       let parts : input ≡ (s.bytes ++ h.0) ++ (new.left ++ rest) =
-      s.whole ∙ ap (λ (left : List ℕ). (s.bytes ++ left) ++ rest) h.1 ∙ ap (λ (l : List ℕ). l ++ rest) (sym (append_assoc s.bytes h.0 new.left)) ∙ append_assoc (s.bytes ++ h.0) new.left rest in
+      s.whole ∙ ap (λ (left : List ℕ). (s.bytes ++ left) ++ rest) h.1 ∙ ap (λ (l : List ℕ). l ++ rest) (sym (append_assoc s.bytes h.0 new.left))
+          ∙ append_assoc (s.bytes ++ h.0) new.left rest in
       let end : (behind answer (s.bytes ++ h.0) (opened a)).end ≡ Some status = ap (λ (u : Progress A E). u.end) h.2 ∙ t.0 in
-      let text : (behind answer (s.bytes ++ h.0) (opened a)).printed ≡ put ++ grown = ap (λ (u : Progress A E). u.printed) h.2 ∙ t.1 ∙ append_assoc put out (printed x) ∙ ap (λ (p : List ℕ). put ++ p) (sym shown) in (
-        ap (λ (l : List ℕ). finished answer closing (behind answer l (opened a))) parts ∙ replay-ended A E answer closing (s.bytes ++ h.0) (new.left ++ rest) (opened a) status end ∙ ap (λ (l : List ℕ). record { text = l; end = status }) text,
+      let text : (behind answer (s.bytes ++ h.0) (opened a)).printed ≡ put ++ grown = ap (λ (u : Progress A E). u.printed) h.2 ∙ t.1
+          ∙ append_assoc put out (printed x) ∙ ap (λ (p : List ℕ). put ++ p) (sym shown) in (
+        ap (λ (l : List ℕ). finished answer closing (behind answer l (opened a))) parts
+            ∙ replay-ended A E answer closing (s.bytes ++ h.0) (new.left ++ rest) (opened a) status end
+            ∙ ap (λ (l : List ℕ). record { text = l; end = status }) text,
         h.3,
       )
 
@@ -174,14 +239,18 @@ module _ (A E : Type 0) (answer : ℕ → A → List ℕ → Answer A E) (closin
         count = omega (arith, s.count, length-append s.bytes old.left);
         there =
             behind-++ A E answer closing s.bytes old.left (opened a) ∙ ap (behind answer old.left) s.there
-            ∙ behind-bytes A E answer closing old.left (standing line old.text state (put ++ out)) refl l.in_line (subst (λ (t : List ℕ). length t ≤ limit_of t) l.text l.short)
+            ∙ behind-bytes A E answer closing old.left (standing line old.text state (put ++ out)) refl l.in_line
+                (subst (λ (t : List ℕ). length t ≤ limit_of t) l.text l.short)
             ∙ ap (λ (text : List ℕ). standing line text state (put ++ out)) (sym l.text);
-        asked = λ some. later input put before (length s.bytes) (length (s.bytes ++ old.left)) (omega (arith, length-append s.bytes old.left)) (s.asked (omega arith));
+        asked = λ some. later input put before (length s.bytes) (length (s.bytes ++ old.left)) (omega (arith, length-append s.bytes old.left))
+            (s.asked (omega arith));
       }
 
   -- what is to be put is put, and then the source is called
   pub stands_put : (input rest put out : List ℕ) (given before line : ℕ) (text : List ℕ) (state : A)
-      → Stands A E answer closing a input [] rest put out given before (standing line text state (put ++ out)) → (input ≡ take given input ++ rest) × (length (take given input) ≡ given) × (behind answer (take given input) (opened a) ≡ standing line text state (put ++ out))
+      → Stands A E answer closing a input [] rest put out given before (standing line text state (put ++ out))
+          → (input ≡ take given input ++ rest) × (length (take given input) ≡ given) ×
+          (behind answer (take given input) (opened a) ≡ standing line text state (put ++ out))
   stands_put input rest put out given before line text state s =
       let bytes : input ≡ s.bytes ++ rest = s.whole ∙ ap (λ (l : List ℕ). l ++ rest) (append-nil s.bytes) in
       let len : length s.bytes ≡ given = omega (arith, s.count) in
@@ -190,17 +259,20 @@ module _ (A E : Type 0) (answer : ℕ → A → List ℕ → Answer A E) (closin
 
   -- a piece more was given
   pub stands_piece : (input rest more piece put out : List ℕ) (given before asked now line : ℕ) (text : List ℕ) (state : A)
-      → Stands A E answer closing a input [] rest put out given before (standing line text state (put ++ out)) → rest ≡ piece ++ more → asked ≡ given → now ≡ given + length piece
+      → Stands A E answer closing a input [] rest put out given before (standing line text state (put ++ out)) → rest ≡ piece ++ more → asked ≡ given → now
+          ≡ given + length piece
       → Stands A E answer closing a input piece more (put ++ out) [] now asked (standing line text state ((put ++ out) ++ []))
   stands_piece input rest more piece put out given before asked now line text state s parts is count =
       let t = stands_put input rest put out given before line text state s in
-      let same : behind answer (take asked input) (opened a) ≡ standing line text state (put ++ out) = ap (λ (n : ℕ). behind answer (take n input) (opened a)) is ∙ t.2 in
+      let same : behind answer (take asked input) (opened a)
+          ≡ standing line text state (put ++ out) = ap (λ (n : ℕ). behind answer (take n input) (opened a)) is ∙ t.2 in
       record {
         bytes = take given input;
         whole = t.0 ∙ ap (λ (l : List ℕ). take given input ++ l) parts ∙ sym (append_assoc (take given input) piece more);
         count = omega (arith, t.1, count);
         there = t.2 ∙ ap (λ (p : List ℕ). standing line text state p) (sym (append-nil (put ++ out)));
-        asked = λ some. record { least = omega (arith, t.1, is); printed_ = ap (λ (u : Progress A E). u.printed) same; going = ap (λ (u : Progress A E). u.end) same };
+        asked = λ some. record { least = omega (arith, t.1, is); printed_ = ap (λ (u : Progress A E). u.printed) same; going = ap
+            (λ (u : Progress A E). u.end) same };
       }
 
 -- one of the three texts that may be put
@@ -209,7 +281,8 @@ IsShown w text = IsText w text ⊎ (IsSourceFault w text ⊎ IsMemoryFault w tex
 
 module _ (A E : Type 0) (w : Run A E) where
   -- a sink that failed has taken what was put before, and a beginning of the last text
-  pub cut_off : (put last more text : List ℕ) (c0 c1 c2 : Option (List ℕ)) → Appends c0 c1 put → Begins (w.at w.before).printed put → IsShown w text → text ≡ put ++ (last ++ more)
+  pub cut_off : (put last more text : List ℕ) (c0 c1 c2 : Option (List ℕ)) → Appends c0 c1 put → Begins (w.at w.before).printed put → IsShown w text → text
+      ≡ put ++ (last ++ more)
       → (cut : List ℕ) × Begins cut last × Appends c1 c2 cut → Outcome w statuses.SinkFault c0 c2
   cut_off put last more text c0 c1 c2 before held shown whole cut = (
     put ++ cut.0,
@@ -220,7 +293,8 @@ module _ (A E : Type 0) (w : Run A E) where
         shown,
         (
           cut.1.0 ++ more,
-          whole ∙ ap (λ (l : List ℕ). put ++ (l ++ more)) cut.1.1 ∙ ap (λ (l : List ℕ). put ++ l) (append_assoc cut.0 cut.1.0 more) ∙ sym (append_assoc put cut.0 (cut.1.0 ++ more)),
+          whole ∙ ap (λ (l : List ℕ). put ++ (l ++ more)) cut.1.1 ∙ ap (λ (l : List ℕ). put ++ l) (append_assoc cut.0 cut.1.0 more)
+              ∙ sym (append_assoc put cut.0 (cut.1.0 ++ more)),
         ),
       ),
     ),
@@ -228,7 +302,8 @@ module _ (A E : Type 0) (w : Run A E) where
   )
 
   -- the last text was put, or the sink failed
-  pub said_out : (status result : Ended E) (put last : List ℕ) (c0 c1 c2 : Option (List ℕ)) (fault : Type 0) → Appends c0 c1 put → Begins (w.at w.before).printed put → IsShown w (put ++ last)
+  pub said_out : (status result : Ended E) (put last : List ℕ) (c0 c1 c2 : Option (List ℕ)) (fault : Type 0) → Appends c0 c1 put
+      → Begins (w.at w.before).printed put → IsShown w (put ++ last)
       → (Appends c0 c2 (put ++ last) → Outcome w status c0 c2) → Said status result c1 c2 last fault → Outcome w result c0 c2
   said_out status result put last c0 c1 c2 fault before held shown out (inl said) =
       subst (λ (s : Ended E). Outcome w s c0 c2) (sym said.0) (out (Appends-trans c0 c1 c2 put last before said.1))
@@ -236,7 +311,8 @@ module _ (A E : Type 0) (w : Run A E) where
       subst (λ (s : Ended E). Outcome w s c0 c2) (sym cut.0)
       (cut_off put last [] (put ++ last) c0 c1 c2 before held shown (ap (λ (l : List ℕ). put ++ l) (sym (append-nil last))) cut.2)
 
-  pub ended_out : (end : E) (text : List ℕ) (c0 c2 : Option (List ℕ)) → w.whole ≡ record { text = text; end = end } → w.faults_now ≡ w.faults → Appends c0 c2 text → Outcome w (statuses.By end) c0 c2
+  pub ended_out : (end : E) (text : List ℕ) (c0 c2 : Option (List ℕ)) → w.whole ≡ record { text = text; end = end } → w.faults_now ≡ w.faults
+      → Appends c0 c2 text → Outcome w (statuses.By end) c0 c2
   ended_out end text c0 c2 is well shown = (sym (ap (λ (r : Closing E). r.end) is), (text, (sym (ap (λ (r : Closing E). r.text) is), well), shown))
 
 module _ (A E : Type 0) (answer : ℕ → A → List ℕ → Answer A E) (closing : ℕ → A → Closing E) (a : A) (input : List ℕ) (before given f f' : ℕ) where
@@ -248,15 +324,18 @@ module _ (A E : Type 0) (answer : ℕ → A → List ℕ → Answer A E) (closin
 
   -- a line ended the trace
   pub out_ended : (end : E) (result : Ended E) (put last : List ℕ) (place : ℕ) (c0 c1 c2 : Option (List ℕ)) (fault : Type 0)
-      → finished answer closing (behind answer input (opened a)) ≡ record { text = put ++ last; end = end } → f' ≡ f → IsAsked A E answer closing a input put before place → Appends c0 c1 put
+      → finished answer closing (behind answer input (opened a)) ≡ record { text = put ++ last; end = end } → f' ≡ f
+          → IsAsked A E answer closing a input put before place → Appends c0 c1 put
       → Said (statuses.By end) result c1 c2 last fault → Outcome (run_of answer closing a input before given f f') result c0 c2
   out_ended end result put last place c0 c1 c2 fault is well asked shown said =
-      said_out A E (run_of answer closing a input before given f f') (statuses.By end) result put last c0 c1 c2 fault shown (held put place asked) (inl (sym (ap (λ (r : Closing E). r.text) is), well))
+      said_out A E (run_of answer closing a input before given f f') (statuses.By end) result put last c0 c1 c2 fault shown (held put place asked)
+          (inl (sym (ap (λ (r : Closing E). r.text) is), well))
       (λ all. ended_out A E (run_of answer closing a input before given f f') end (put ++ last) c0 c2 is well all) said
 
   -- memory ran out behind some lines
   pub out_memory : (result : Ended E) (put last text : List ℕ) (place : ℕ) (c0 c1 c2 : Option (List ℕ)) (fault : Type 0)
-      → (behind answer (take place input) (opened a)).printed ≡ put ++ text → (behind answer (take place input) (opened a)).end ≡ None → place ≤ given → last ≡ text ++ memory_fault_text → f' ≡ f
+      → (behind answer (take place input) (opened a)).printed ≡ put ++ text → (behind answer (take place input) (opened a)).end ≡ None → place ≤ given → last
+          ≡ text ++ memory_fault_text → f' ≡ f
       → IsAsked A E answer closing a input put before place → Appends c0 c1 put
       → Said statuses.NoMemory result c1 c2 last fault → Outcome (run_of answer closing a input before given f f') result c0 c2
   out_memory result put last text place c0 c1 c2 fault is going within parts well asked shown said =
@@ -268,44 +347,58 @@ module _ (A E : Type 0) (answer : ℕ → A → List ℕ → Answer A E) (closin
         going,
         well,
       ) in
-      said_out A E (run_of answer closing a input before given f f') statuses.NoMemory result put last c0 c1 c2 fault shown (held put place asked) (inr (inr memory)) (λ all. (put ++ last, memory, all)) said
+      said_out A E (run_of answer closing a input before given f f') statuses.NoMemory result put last c0 c1 c2 fault shown (held put place asked)
+          (inr (inr memory)) (λ all. (put ++ last, memory, all)) said
 
   -- the source failed
   pub out_source : (result : Ended E) (put : List ℕ) (place : ℕ) (c0 c1 c2 : Option (List ℕ)) (fault : Type 0)
-      → (behind answer (take given input) (opened a)).printed ≡ put → (behind answer (take given input) (opened a)).end ≡ None → Rose f f' → IsAsked A E answer closing a input put before place → Appends c0 c1 put
+      → (behind answer (take given input) (opened a)).printed ≡ put → (behind answer (take given input) (opened a)).end ≡ None → Rose f f'
+          → IsAsked A E answer closing a input put before place → Appends c0 c1 put
       → Said statuses.SourceFault result c1 c2 source_fault_text fault → Outcome (run_of answer closing a input before given f f') result c0 c2
   out_source result put place c0 c1 c2 fault is going rose asked shown said =
-      let source : IsSourceFault (run_of answer closing a input before given f f') (put ++ source_fault_text) = (ap (λ (l : List ℕ). l ++ source_fault_text) (sym is), going, rose) in
-      said_out A E (run_of answer closing a input before given f f') statuses.SourceFault result put source_fault_text c0 c1 c2 fault shown (held put place asked) (inr (inl source)) (λ all. (put ++ source_fault_text, source, all)) said
+      let source : IsSourceFault (run_of answer closing a input before given f f') (put ++ source_fault_text) =
+          (ap (λ (l : List ℕ). l ++ source_fault_text) (sym is), going, rose) in
+      said_out A E (run_of answer closing a input before given f f') statuses.SourceFault result put source_fault_text c0 c1 c2 fault shown
+          (held put place asked) (inr (inl source)) (λ all. (put ++ source_fault_text, source, all)) said
 
   -- the sink failed
-  pub out_sink : (put last more : List ℕ) (place : ℕ) (c0 c1 c2 : Option (List ℕ)) → (finished answer closing (behind answer input (opened a))).text ≡ put ++ (last ++ more) → f' ≡ f → IsAsked A E answer closing a input put before place → Appends c0 c1 put
+  pub out_sink : (put last more : List ℕ) (place : ℕ) (c0 c1 c2 : Option (List ℕ)) → (finished answer closing (behind answer input (opened a))).text
+      ≡ put ++ (last ++ more) → f' ≡ f → IsAsked A E answer closing a input put before place → Appends c0 c1 put
       → (cut : List ℕ) × Begins cut last × Appends c1 c2 cut → Outcome (run_of answer closing a input before given f f') statuses.SinkFault c0 c2
   out_sink put last more place c0 c1 c2 is well asked shown cut =
-      cut_off A E (run_of answer closing a input before given f f') put last more (finished answer closing (behind answer input (opened a))).text c0 c1 c2 shown (held put place asked) (inl (refl, well)) is cut
+      cut_off A E (run_of answer closing a input before given f f') put last more
+          (finished answer closing (behind answer input (opened a))).text c0 c1 c2 shown (held put place asked) (inl (refl, well)) is cut
 
 -- the place where a run stands, as a number of bytes
-pub stands_at : (A E : Type 0) (answer : ℕ → A → List ℕ → Answer A E) (closing : ℕ → A → Closing E) (a : A) (input left rest put out : List ℕ) (given before line : ℕ) (text : List ℕ) (state : A)
-    → (s : Stands A E answer closing a input left rest put out given before (standing line text state (put ++ out))) → behind answer (take (length s.bytes) input) (opened a) ≡ standing line text state (put ++ out)
+pub stands_at : (A E : Type 0) (answer : ℕ → A → List ℕ → Answer A E) (closing : ℕ → A → Closing E) (a : A) (input left rest put out : List ℕ)
+    (given before line : ℕ) (text : List ℕ) (state : A)
+    → (s : Stands A E answer closing a input left rest put out given before (standing line text state (put ++ out)))
+        → behind answer (take (length s.bytes) input) (opened a) ≡ standing line text state (put ++ out)
 stands_at A E answer closing a input left rest put out given before line text state s =
-    ap (λ (l : List ℕ). behind answer l (opened a)) (ap (take (length s.bytes)) (s.whole ∙ append_assoc s.bytes left rest) ∙ front s.bytes (left ++ rest) (length s.bytes) refl) ∙ s.there
+    ap (λ (l : List ℕ). behind answer l (opened a))
+        (ap (take (length s.bytes)) (s.whole ∙ append_assoc s.bytes left rest) ∙ front s.bytes (left ++ rest) (length s.bytes) refl) ∙ s.there
 
 -- what is printed behind the bytes so far is at the front of what is printed for the whole
-pub stands_starts : (A E : Type 0) (answer : ℕ → A → List ℕ → Answer A E) (closing : ℕ → A → Closing E) (a : A) (input left rest put out : List ℕ) (given before line : ℕ) (text : List ℕ) (state : A)
-    → Stands A E answer closing a input left rest put out given before (standing line text state (put ++ out)) → (more : List ℕ) × ((finished answer closing (behind answer input (opened a))).text ≡ put ++ (out ++ more))
+pub stands_starts : (A E : Type 0) (answer : ℕ → A → List ℕ → Answer A E) (closing : ℕ → A → Closing E) (a : A) (input left rest put out : List ℕ)
+    (given before line : ℕ) (text : List ℕ) (state : A)
+    → Stands A E answer closing a input left rest put out given before (standing line text state (put ++ out))
+        → (more : List ℕ) × ((finished answer closing (behind answer input (opened a))).text ≡ put ++ (out ++ more))
 stands_starts A E answer closing a input left rest put out given before line text state s =
     let parts : input ≡ s.bytes ++ (left ++ rest) = s.whole ∙ append_assoc s.bytes left rest in
     let t = replay-starts A E answer closing s.bytes (left ++ rest) (opened a) in (
       t.0,
-      ap (λ (l : List ℕ). (finished answer closing (behind answer l (opened a))).text) parts ∙ t.1 ∙ ap (λ (u : Progress A E). u.printed ++ t.0) s.there ∙ append_assoc put out t.0,
+      ap (λ (l : List ℕ). (finished answer closing (behind answer l (opened a))).text) parts ∙ t.1 ∙ ap (λ (u : Progress A E). u.printed ++ t.0) s.there
+          ∙ append_assoc put out t.0,
     )
 
 -- what a status says of the faults
-pub said-source : {E : Type 0} (status result : Ended E) (c1 c2 : Option (List ℕ)) (text : List ℕ) (shown : Type 0) → (status ≡ statuses.SourceFault → ⊥) → Said status result c1 c2 text shown → result ≡ statuses.SourceFault → ⊥
+pub said-source : {E : Type 0} (status result : Ended E) (c1 c2 : Option (List ℕ)) (text : List ℕ) (shown : Type 0) → (status ≡ statuses.SourceFault → ⊥)
+    → Said status result c1 c2 text shown → result ≡ statuses.SourceFault → ⊥
 said-source status result c1 c2 text shown other (inl said) is = other (sym said.0 ∙ is)
 said-source status result c1 c2 text shown other (inr cut) is = let e : statuses.SinkFault ≡ statuses.SourceFault = sym cut.0 ∙ is in cc
 
-pub said-sink : {E : Type 0} (status result : Ended E) (c1 c2 : Option (List ℕ)) (text : List ℕ) (shown : Type 0) → (status ≡ statuses.SinkFault → ⊥) → Said status result c1 c2 text shown → result ≡ statuses.SinkFault → shown
+pub said-sink : {E : Type 0} (status result : Ended E) (c1 c2 : Option (List ℕ)) (text : List ℕ) (shown : Type 0) → (status ≡ statuses.SinkFault → ⊥)
+    → Said status result c1 c2 text shown → result ≡ statuses.SinkFault → shown
 said-sink status result c1 c2 text shown other (inl said) is = absurd (other (sym said.0 ∙ is))
 said-sink status result c1 c2 text shown other (inr cut) is = cut.1
 
@@ -322,30 +415,40 @@ line_shorter old new l = by_end l.end
     len : length new.line ≡ length old.text + length l.bytes
     len = ap length l.line ∙ length-append old.text l.bytes
 
-    by_end : ((length new.line ≤ limit_of new.line) × (old.left ≡ l.bytes ++ 10 ∷ new.left)) ⊎ ((length new.line ≡ limit_of new.line + 1) × (old.left ≡ l.bytes ++ new.left)) → length new.left + 1 ≤ length old.left
+    by_end : ((length new.line ≤ limit_of new.line) × (old.left ≡ l.bytes ++ 10 ∷ new.left)) ⊎
+        ((length new.line ≡ limit_of new.line + 1) × (old.left ≡ l.bytes ++ new.left)) → length new.left + 1 ≤ length old.left
     by_end (inl h) = omega (arith, ap length h.1, length-append l.bytes (10 ∷ new.left))
     by_end (inr h) = omega (arith, ap length h.1, length-append l.bytes new.left, excess_some old.text l.bytes new.line l.line l.short h.0)
 
 -- all was put before the source is called: what is printed behind the bytes given
-pub stands_asked : (A E : Type 0) (answer : ℕ → A → List ℕ → Answer A E) (closing : ℕ → A → Closing E) (a : A) (input rest put out : List ℕ) (given before asked line : ℕ) (text : List ℕ) (state : A)
-    → Stands A E answer closing a input [] rest put out given before (standing line text state (put ++ out)) → asked ≡ given → IsAsked A E answer closing a input (put ++ out) asked given
+pub stands_asked : (A E : Type 0) (answer : ℕ → A → List ℕ → Answer A E) (closing : ℕ → A → Closing E) (a : A) (input rest put out : List ℕ)
+    (given before asked line : ℕ) (text : List ℕ) (state : A)
+    → Stands A E answer closing a input [] rest put out given before (standing line text state (put ++ out)) → asked ≡ given
+        → IsAsked A E answer closing a input (put ++ out) asked given
 stands_asked A E answer closing a input rest put out given before asked line text state s is =
-    let same : behind answer (take asked input) (opened a) ≡ standing line text state (put ++ out) = ap (λ (n : ℕ). behind answer (take n input) (opened a)) is ∙ (stands_put A E answer closing a input rest put out given before line text state s).2 in
+    let same : behind answer (take asked input) (opened a)
+        ≡ standing line text state (put ++ out) = ap (λ (n : ℕ). behind answer (take n input) (opened a)) is
+        ∙ (stands_put A E answer closing a input rest put out given before line text state s).2 in
     record { least = omega (arith, is); printed_ = ap (λ (u : Progress A E). u.printed) same; going = ap (λ (u : Progress A E). u.end) same }
 
-pub stands_refill : (A E : Type 0) (answer : ℕ → A → List ℕ → Answer A E) (closing : ℕ → A → Closing E) (a : A) (input rest more piece put out : List ℕ) (given before asked now line : ℕ) (text : List ℕ) (state : A) (line' : ℕ) (text' out' : List ℕ)
-    → Stands A E answer closing a input [] rest put out given before (standing line text state (put ++ out)) → rest ≡ piece ++ more → asked ≡ given → now ≡ given + length piece → line' ≡ line → text' ≡ text → out' ≡ []
+pub stands_refill : (A E : Type 0) (answer : ℕ → A → List ℕ → Answer A E) (closing : ℕ → A → Closing E) (a : A) (input rest more piece put out : List ℕ)
+    (given before asked now line : ℕ) (text : List ℕ) (state : A) (line' : ℕ) (text' out' : List ℕ)
+    → Stands A E answer closing a input [] rest put out given before (standing line text state (put ++ out)) → rest ≡ piece ++ more → asked ≡ given → now
+        ≡ given + length piece → line' ≡ line → text' ≡ text → out' ≡ []
     → Stands A E answer closing a input piece more (put ++ out) out' now asked (standing line' text' state ((put ++ out) ++ out'))
 stands_refill A E answer closing a input rest more piece put out given before asked now line text state line' text' out' s parts is count el et eo =
     rw el (rw et (rw eo (stands_piece A E answer closing a input rest more piece put out given before asked now line text state s parts is count)))
 
 -- the input ended here
-pub stands_end : (A E : Type 0) (answer : ℕ → A → List ℕ → Answer A E) (closing : ℕ → A → Closing E) (a : A) (input rest put out : List ℕ) (given before line : ℕ) (text : List ℕ) (state : A) (line' : ℕ) (text' : List ℕ)
+pub stands_end : (A E : Type 0) (answer : ℕ → A → List ℕ → Answer A E) (closing : ℕ → A → Closing E) (a : A) (input rest put out : List ℕ)
+    (given before line : ℕ) (text : List ℕ) (state : A) (line' : ℕ) (text' : List ℕ)
     → Stands A E answer closing a input [] rest put out given before (standing line text state (put ++ out)) → rest ≡ [] → line' ≡ line → text' ≡ text
-    → (let r = finished answer closing (standing line' text' state []) in finished answer closing (behind answer input (opened a)) ≡ record { text = (put ++ out) ++ r.text; end = r.end })
+    → (let r = finished answer closing (standing line' text' state []) in finished answer closing (behind answer input (opened a))
+        ≡ record { text = (put ++ out) ++ r.text; end = r.end })
 stands_end A E answer closing a input rest put out given before line text state line' text' s none el et =
     let t = stands_put A E answer closing a input rest put out given before line text state s in
     let all : input ≡ take given input = t.0 ∙ ap (λ (l : List ℕ). take given input ++ l) none ∙ append-nil (take given input) in
     ap (λ (l : List ℕ). finished answer closing (behind answer l (opened a))) all ∙ ap (finished answer closing) t.2
-    ∙ ap (λ (n : ℕ). finished answer closing (standing n text state (put ++ out))) (sym el) ∙ ap (λ (l : List ℕ). finished answer closing (standing line' l state (put ++ out))) (sym et)
+    ∙ ap (λ (n : ℕ). finished answer closing (standing n text state (put ++ out))) (sym el)
+        ∙ ap (λ (l : List ℕ). finished answer closing (standing line' l state (put ++ out))) (sym et)
     ∙ finished-behind A E answer closing (put ++ out) line' text' state

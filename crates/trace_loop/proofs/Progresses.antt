@@ -2,9 +2,60 @@
 use Rattle.std.proofs.Math.Seq.{take-add}
 use Rattle.std.proofs.lemmas.List.{take-append-le, length-take-le}
 use Rattle.std.specs.Str.{bytes_eq}
-use Rattle.std.proofs.Common.{◌≡◌, ◌≢◌, ℕ, ◌+◌, ◌≤◌, Bool, true, false, cond, eqb, ltb, leb, codes, take, drop, ◌-◌, List, [], ◌∷◌, ◌++◌, length, Option, Some, None, refl, sym, ap, ◌∙◌, arith, subst, append_assoc, append-nil, length-append}
+use Rattle.std.proofs.Common.{
+  ◌≡◌,
+  ◌≢◌,
+  ℕ,
+  ◌+◌,
+  ◌≤◌,
+  Bool,
+  true,
+  false,
+  cond,
+  eqb,
+  ltb,
+  leb,
+  codes,
+  take,
+  drop,
+  ◌-◌,
+  List,
+  [],
+  ◌∷◌,
+  ◌++◌,
+  length,
+  Option,
+  Some,
+  None,
+  refl,
+  sym,
+  ap,
+  ◌∙◌,
+  arith,
+  subst,
+  append_assoc,
+  append-nil,
+  length-append,
+}
 use Rattle.std.proofs.lemmas.Bool.{ne_eqb, lt-ltb, le-ltb, leb-true, leb-false}
-use Rattle.trace_loop.specs.Progress.{limit_of, Closing, Answer, Goes, Ends, Progress, standing, told, answered, checked, heard_until, behind, closed, ran, finished, finished_by}
+use Rattle.trace_loop.specs.Progress.{
+  limit_of,
+  Closing,
+  Answer,
+  Goes,
+  Ends,
+  Progress,
+  standing,
+  told,
+  answered,
+  checked,
+  heard_until,
+  behind,
+  closed,
+  ran,
+  finished,
+  finished_by,
+}
 use Rattle.trace_loop.specs.Cut.{HasNoEnd}
 
 -- a text begins with another
@@ -42,7 +93,8 @@ limit_grows front more short = by_length (leb 6 (length front)) refl
     by_length false small = omega (arith, limit_least (front ++ more), leb-false 6 (length front) small)
 
 -- the limit up to a place behind the beginning
-pub limit_part : (text rest : List ℕ) (m n : ℕ) → m ≤ n → m ≤ length rest → 6 ≤ length text + m → limit_of (text ++ take n rest) ≡ limit_of (text ++ take m rest)
+pub limit_part : (text rest : List ℕ) (m n : ℕ) → m ≤ n → m ≤ length rest → 6 ≤ length text + m → limit_of (text ++ take n rest)
+    ≡ limit_of (text ++ take m rest)
 limit_part text rest m n more within long =
     let parts : take m rest ++ take (n - m) (drop m rest) ≡ take n rest = sym (take-add m (n - m) rest) ∙ ap (λ (k : ℕ). take k rest) (omega arith) in
     let len : length (take m rest) ≡ m = length-take-le m rest within in
@@ -63,15 +115,18 @@ module _ (A E : Type 0) (answer : ℕ → A → List ℕ → Answer A E) (closin
       ap (behind answer bs) same ∙ behind-ended bs s status e
 
   -- a byte of a line
-  heard-byte : (b : ℕ) (s : Progress A E) → s.end ≡ None → b ≢ 10 → length (s.text ++ b ∷ []) ≤ limit_of (s.text ++ b ∷ []) → heard_until answer s.end b s ≡ record s { text = s.text ++ b ∷ [] }
+  heard-byte : (b : ℕ) (s : Progress A E) → s.end ≡ None → b ≢ 10 → length (s.text ++ b ∷ []) ≤ limit_of (s.text ++ b ∷ []) → heard_until answer s.end b s
+      ≡ record s { text = s.text ++ b ∷ [] }
   heard-byte b s e other short =
-      let fits : ltb (limit_of (s.text ++ b ∷ [])) (length (s.text ++ b ∷ [])) ≡ false = le-ltb (limit_of (s.text ++ b ∷ [])) (length (s.text ++ b ∷ [])) short in
+      let fits : ltb (limit_of (s.text ++ b ∷ [])) (length (s.text ++ b ∷ []))
+          ≡ false = le-ltb (limit_of (s.text ++ b ∷ [])) (length (s.text ++ b ∷ [])) short in
       ap (λ (o : Option E). heard_until answer o b s) e
       ∙ ap (λ (t : Bool). cond t (answered answer s) (checked answer (record s { text = s.text ++ b ∷ [] }))) (ne_eqb b 10 other)
       ∙ ap (λ (t : Bool). cond t (answered answer (record s { text = s.text ++ b ∷ [] })) (record s { text = s.text ++ b ∷ [] })) fits
 
   -- bytes of a line
-  pub behind-bytes : (bs : List ℕ) (s : Progress A E) → s.end ≡ None → HasNoEnd bs → length (s.text ++ bs) ≤ limit_of (s.text ++ bs) → behind answer bs s ≡ record s { text = s.text ++ bs }
+  pub behind-bytes : (bs : List ℕ) (s : Progress A E) → s.end ≡ None → HasNoEnd bs → length (s.text ++ bs) ≤ limit_of (s.text ++ bs) → behind answer bs s
+      ≡ record s { text = s.text ++ bs }
   behind-bytes [] s e none short = ap (λ (l : List ℕ). record s { text = l }) (sym (append-nil s.text))
   behind-bytes (b ∷ bs) s e none short =
       let parts : (s.text ++ b ∷ []) ++ bs ≡ s.text ++ b ∷ bs = append_assoc s.text (b ∷ []) bs in
@@ -81,23 +136,29 @@ module _ (A E : Type 0) (answer : ℕ → A → List ℕ → Answer A E) (closin
       ∙ ap (λ (l : List ℕ). record s { text = l }) parts
 
   -- a line, and its end
-  pub behind-line : (bs : List ℕ) (s : Progress A E) → s.end ≡ None → HasNoEnd bs → length (s.text ++ bs) ≤ limit_of (s.text ++ bs) → behind answer (bs ++ 10 ∷ []) s ≡ answered answer (record s { text = s.text ++ bs })
+  pub behind-line : (bs : List ℕ) (s : Progress A E) → s.end ≡ None → HasNoEnd bs → length (s.text ++ bs) ≤ limit_of (s.text ++ bs)
+      → behind answer (bs ++ 10 ∷ []) s ≡ answered answer (record s { text = s.text ++ bs })
   behind-line bs s e none short =
       behind-++ bs (10 ∷ []) s ∙ ap (behind answer (10 ∷ [])) (behind-bytes bs s e none short)
       ∙ ap (λ (o : Option E). heard_until answer o 10 (record s { text = s.text ++ bs })) e
 
   -- a line that is one byte too long
-  pub behind-excess : (bs : List ℕ) (s : Progress A E) → s.end ≡ None → HasNoEnd bs → length s.text ≤ limit_of s.text → length (s.text ++ bs) ≡ limit_of (s.text ++ bs) + 1 → behind answer bs s ≡ answered answer (record s { text = s.text ++ bs })
-  behind-excess [] s e none short long = absurd (let same : s.text ++ [] ≡ s.text = append-nil s.text in omega (arith, short, long, ap length same, ap limit_of same))
+  pub behind-excess : (bs : List ℕ) (s : Progress A E) → s.end ≡ None → HasNoEnd bs → length s.text ≤ limit_of s.text → length (s.text ++ bs)
+      ≡ limit_of (s.text ++ bs) + 1 → behind answer bs s ≡ answered answer (record s { text = s.text ++ bs })
+  behind-excess [] s e none short long = absurd
+      (let same : s.text ++ [] ≡ s.text = append-nil s.text in omega (arith, short, long, ap length same, ap limit_of same))
   behind-excess (b ∷ []) s e none short long =
-      let over : ltb (limit_of (s.text ++ b ∷ [])) (length (s.text ++ b ∷ [])) ≡ true = lt-ltb (limit_of (s.text ++ b ∷ [])) (length (s.text ++ b ∷ [])) (omega (arith, long)) in
+      let over : ltb (limit_of (s.text ++ b ∷ [])) (length (s.text ++ b ∷ []))
+          ≡ true = lt-ltb (limit_of (s.text ++ b ∷ [])) (length (s.text ++ b ∷ [])) (omega (arith, long)) in
       ap (λ (o : Option E). heard_until answer o b s) e
       ∙ ap (λ (t : Bool). cond t (answered answer s) (checked answer (record s { text = s.text ++ b ∷ [] }))) (ne_eqb b 10 none.0)
       ∙ ap (λ (t : Bool). cond t (answered answer (record s { text = s.text ++ b ∷ [] })) (record s { text = s.text ++ b ∷ [] })) over
   behind-excess (b ∷ c ∷ bs) s e none short long =
       let parts : (s.text ++ b ∷ []) ++ c ∷ bs ≡ s.text ++ b ∷ c ∷ bs = append_assoc s.text (b ∷ []) (c ∷ bs) in
-      let whole : length ((s.text ++ b ∷ []) ++ c ∷ bs) ≡ limit_of ((s.text ++ b ∷ []) ++ c ∷ bs) + 1 = subst (λ (l : List ℕ). length l ≡ limit_of l + 1) (sym parts) long in
-      let within : length (s.text ++ b ∷ []) ≤ limit_of (s.text ++ b ∷ []) = limit_front (s.text ++ b ∷ []) (c ∷ bs) (omega (arith, whole, length-append (s.text ++ b ∷ []) (c ∷ bs))) in
+      let whole : length ((s.text ++ b ∷ []) ++ c ∷ bs)
+          ≡ limit_of ((s.text ++ b ∷ []) ++ c ∷ bs) + 1 = subst (λ (l : List ℕ). length l ≡ limit_of l + 1) (sym parts) long in
+      let within : length (s.text ++ b ∷ []) ≤ limit_of (s.text ++ b ∷ []) = limit_front (s.text ++ b ∷ []) (c ∷ bs)
+          (omega (arith, whole, length-append (s.text ++ b ∷ []) (c ∷ bs))) in
       ap (behind answer (c ∷ bs)) (heard-byte b s e none.0 within)
       ∙ behind-excess (c ∷ bs) (record s { text = s.text ++ b ∷ [] }) e none.1 within whole
       ∙ ap (λ (l : List ℕ). answered answer (record s { text = l })) parts
@@ -122,7 +183,8 @@ module _ (A E : Type 0) (answer : ℕ → A → List ℕ → Answer A E) (closin
   heard-starts None b s =
       let t : Progress A E = record s { text = s.text ++ b ∷ [] } in
       either-starts (eqb b 10) s.printed (answered answer s) (checked answer t) (told-starts (answer s.line s.state s.text) s)
-      (either-starts (ltb (limit_of t.text) (length t.text)) s.printed (answered answer t) t (told-starts (answer t.line t.state t.text) t) (starts-refl s.printed))
+      (either-starts (ltb (limit_of t.text) (length t.text)) s.printed (answered answer t) t (told-starts (answer t.line t.state t.text) t)
+          (starts-refl s.printed))
 
   pub behind-starts : (bs : List ℕ) (s : Progress A E) → Starts s.printed (behind answer bs s).printed
   behind-starts [] s = starts-refl s.printed
@@ -152,28 +214,35 @@ module _ (A E : Type 0) (answer : ℕ → A → List ℕ → Answer A E) (closin
   replay-starts xs ys s =
       let t : Progress A E = behind answer xs s in
       subst (λ (u : Progress A E). Starts t.printed (finished answer closing u).text) (sym (behind-++ xs ys s))
-      (starts-trans t.printed (behind answer ys t).printed (finished answer closing (behind answer ys t)).text (behind-starts ys t) (finished-starts (behind answer ys t)))
+      (starts-trans t.printed (behind answer ys t).printed (finished answer closing (behind answer ys t)).text (behind-starts ys t)
+          (finished-starts (behind answer ys t)))
 
   -- a trace that ended behind some bytes has ended so
-  pub replay-ended : (xs ys : List ℕ) (s : Progress A E) (status : E) → (behind answer xs s).end ≡ Some status → finished answer closing (behind answer (xs ++ ys) s) ≡ record { text = (behind answer xs s).printed; end = status }
+  pub replay-ended : (xs ys : List ℕ) (s : Progress A E) (status : E) → (behind answer xs s).end ≡ Some status
+      → finished answer closing (behind answer (xs ++ ys) s) ≡ record { text = (behind answer xs s).printed; end = status }
   replay-ended xs ys s status e =
       let t : Progress A E = behind answer xs s in
       ap (finished answer closing) (behind-++ xs ys s ∙ behind-ended ys t status e) ∙ ap (λ (o : Option E). finished_by answer closing o t) e
 
   -- what is printed at the end of an input, behind what was printed before
-  ran-behind : (p : List ℕ) (o : Option E) (s : Progress A E) → ran closing o (record s { printed = p ++ s.printed }) ≡ record { text = p ++ (ran closing o s).text; end = (ran closing o s).end }
+  ran-behind : (p : List ℕ) (o : Option E) (s : Progress A E) → ran closing o (record s { printed = p ++ s.printed })
+      ≡ record { text = p ++ (ran closing o s).text; end = (ran closing o s).end }
   ran-behind p None s = ap (λ (l : List ℕ). record { text = l; end = (closing s.line s.state).end }) (append_assoc p s.printed (closing s.line s.state).text)
   ran-behind p (Some status) s = refl
 
-  told-behind : (p : List ℕ) (x : Answer A E) (s : Progress A E) → told x (record s { printed = p ++ s.printed }) ≡ (let t = told x s in record t { printed = p ++ t.printed })
-  told-behind p (Goes block a) s = ap (λ (l : List ℕ). record { line = s.line + 1; text = []; state = a; printed = l; end = None }) (append_assoc p s.printed block)
+  told-behind : (p : List ℕ) (x : Answer A E) (s : Progress A E) → told x (record s { printed = p ++ s.printed })
+      ≡ (let t = told x s in record t { printed = p ++ t.printed })
+  told-behind p (Goes block a) s = ap (λ (l : List ℕ). record { line = s.line + 1; text = []; state = a; printed = l; end = None })
+      (append_assoc p s.printed block)
   told-behind p (Ends r) s = ap (λ (l : List ℕ). record s { printed = l; end = Some r.end }) (append_assoc p s.printed r.text)
 
-  closed-behind : (p text : List ℕ) (s : Progress A E) → closed answer text (record s { printed = p ++ s.printed }) ≡ (let t = closed answer text s in record t { printed = p ++ t.printed })
+  closed-behind : (p text : List ℕ) (s : Progress A E) → closed answer text (record s { printed = p ++ s.printed })
+      ≡ (let t = closed answer text s in record t { printed = p ++ t.printed })
   closed-behind p [] s = refl
   closed-behind p (b ∷ bs) s = told-behind p (answer s.line s.state s.text) s
 
-  pub finished-behind : (p : List ℕ) (line : ℕ) (text : List ℕ) (state : A) → finished answer closing (standing line text state p) ≡ record { text = p ++ (finished answer closing (standing line text state [])).text; end = (finished answer closing (standing line text state [])).end }
+  pub finished-behind : (p : List ℕ) (line : ℕ) (text : List ℕ) (state : A) → finished answer closing (standing line text state p)
+      ≡ record { text = p ++ (finished answer closing (standing line text state [])).text; end = (finished answer closing (standing line text state [])).end }
   finished-behind p line text state =
       let s : Progress A E = standing line text state [] in
       let t : Progress A E = closed answer text s in

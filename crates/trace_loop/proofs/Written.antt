@@ -1,5 +1,28 @@
 -- What a sink holds after several puts.
-use Rattle.std.proofs.Common.{◌≡◌, ℕ, ◌+◌, ◌-◌, ◌≤◌, List, ◌++◌, Result, Ok, Err, OnErr, Option, Some, None, length, take, drop, sym, ap, ◌∙◌, arith, length-drop}
+use Rattle.std.proofs.Common.{
+  ◌≡◌,
+  ℕ,
+  ◌+◌,
+  ◌-◌,
+  ◌≤◌,
+  List,
+  ◌++◌,
+  Result,
+  Ok,
+  Err,
+  OnErr,
+  Option,
+  Some,
+  None,
+  length,
+  take,
+  drop,
+  sym,
+  ap,
+  ◌∙◌,
+  arith,
+  length-drop,
+}
 use Rattle.std.specs.Io.KnownBytes.{Appends, Keeps}
 use Rattle.std.proofs.Math.Seq.{take-add}
 use Rattle.std.proofs.lemmas.List.{take_all}

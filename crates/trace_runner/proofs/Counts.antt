@@ -40,11 +40,15 @@ faulted b h (OutOfRange ns) is =
 pub page-read : (line page h : ℕ) (b : BoardParts) → HasTime b.anchor h → page_answer line page h b ≡ Goes (page_text line (page_reply b page h)) b
 page-read line page h b t = ap (λ (o : Option Refused). read_answer o line (page_text line (page_reply b page h)) b) (counted b h t)
 
-pub page-refused : (line page h : ℕ) (b : BoardParts) (fault : TimeFault) → IsFaultAt b.anchor h fault → page_answer line page h b ≡ Ends (stops line (refused_fault fault))
+pub page-refused : (line page h : ℕ) (b : BoardParts) (fault : TimeFault) → IsFaultAt b.anchor h fault → page_answer line page h b
+    ≡ Ends (stops line (refused_fault fault))
 page-refused line page h b fault is = ap (λ (o : Option Refused). read_answer o line (page_text line (page_reply b page h)) b) (faulted b h fault is)
 
-pub clock-read : (line page h : ℕ) (b : BoardParts) → HasTime b.anchor h → clock_answer line page h b ≡ Goes (clock_text line (clock_reply b page h)) (after_clock b page h)
+pub clock-read : (line page h : ℕ) (b : BoardParts) → HasTime b.anchor h → clock_answer line page h b
+    ≡ Goes (clock_text line (clock_reply b page h)) (after_clock b page h)
 clock-read line page h b t = ap (λ (o : Option Refused). read_answer o line (clock_text line (clock_reply b page h)) (after_clock b page h)) (counted b h t)
 
-pub clock-refused : (line page h : ℕ) (b : BoardParts) (fault : TimeFault) → IsFaultAt b.anchor h fault → clock_answer line page h b ≡ Ends (stops line (refused_fault fault))
-clock-refused line page h b fault is = ap (λ (o : Option Refused). read_answer o line (clock_text line (clock_reply b page h)) (after_clock b page h)) (faulted b h fault is)
+pub clock-refused : (line page h : ℕ) (b : BoardParts) (fault : TimeFault) → IsFaultAt b.anchor h fault → clock_answer line page h b
+    ≡ Ends (stops line (refused_fault fault))
+clock-refused line page h b fault is = ap (λ (o : Option Refused). read_answer o line (clock_text line (clock_reply b page h)) (after_clock b page h))
+    (faulted b h fault is)

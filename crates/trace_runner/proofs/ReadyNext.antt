@@ -1,5 +1,30 @@
 -- What is true of a replay before each line stays true behind it.
-use Rattle.std.proofs.Common.{◌≡◌, ℕ, ◌+◌, Bool, true, false, cond, ltb, List, Option, Some, None, Result, Ok, Err, IfOk, length, codes, refl, sym, ap, subst, ◌∙◌, arith}
+use Rattle.std.proofs.Common.{
+  ◌≡◌,
+  ℕ,
+  ◌+◌,
+  Bool,
+  true,
+  false,
+  cond,
+  ltb,
+  List,
+  Option,
+  Some,
+  None,
+  Result,
+  Ok,
+  Err,
+  IfOk,
+  length,
+  codes,
+  refl,
+  sym,
+  ap,
+  subst,
+  ◌∙◌,
+  arith,
+}
 use Rattle.std.specs.Str.{bytes_eq}
 use Rattle.clk_units.specs.declared.NoMemory.{NoMemory}
 use Rattle.board_types.specs.declared.access.Access.{Access}
@@ -13,7 +38,23 @@ use Rattle.reply_text.specs.declared.ends.Refused.{Refused}
 use Rattle.trace_text.specs.Tokens.{words_of}
 use Rattle.trace_text.specs.Header.{first_line, header_line}
 use Rattle.trace_text.specs.Records.{record_of}
-use Rattle.trace_text.specs.Lines.{limit_of, is_skipped, Step, step_of, stepped, part, begun, next, fault_of, answer_in, stage_behind, answer_by, behind_by, taken, behind}
+use Rattle.trace_text.specs.Lines.{
+  limit_of,
+  is_skipped,
+  Step,
+  step_of,
+  stepped,
+  part,
+  begun,
+  next,
+  fault_of,
+  answer_in,
+  stage_behind,
+  answer_by,
+  behind_by,
+  taken,
+  behind,
+}
 use Rattle.trace_text.specs.declared.faults.Reason.{Reason}
 use Rattle.trace_text.specs.declared.faults.Reason.TheVariants.{TooLong}
 use Rattle.trace_text.specs.declared.faults.RecordFault.{RecordFault}
@@ -120,7 +161,8 @@ same_job line cpu h Save ds b = tt
 same_job line cpu h (Move khz start gap) ds b = tt
 
 -- behind a record
-record_ready : (line : ℕ) (t : Stage) (r : Replay) (x : Answer BoardParts Verdict) → r.reading.lines ≡ line → r.reading.stage ≡ t → IsRound t r.board → Same r.board x
+record_ready : (line : ℕ) (t : Stage) (r : Replay) (x : Answer BoardParts Verdict) → r.reading.lines ≡ line → r.reading.stage ≡ t → IsRound t r.board
+    → Same r.board x
     → end_of (with_board x r) ≡ None → IsReady (line + 1) (state_behind (with_board x r) r)
 record_ready line t r (Goes text b) count is round same none = record {
   count = omega (arith, count);
@@ -133,33 +175,41 @@ item_ready : (line : ℕ) (item : Item) (t : Stage) (r : Replay) → r.reading.l
     → end_of (item_answer line item r) ≡ None → IsReady (line + 1) (state_behind (item_answer line item r) r)
 item_ready line Skipped t r count is round none = record { count = omega (arith, count); round = subst (λ (s : Stage). IsRound s r.board) (sym is) round }
 item_ready line Part t r count is round none = record { count = omega (arith, count); round = subst (λ (s : Stage). IsRound s r.board) (sym is) round }
-item_ready line (Begun header) t r count is round none = record { count = omega (arith, count); round = subst (λ (s : Stage). IsRound s (board_of header.begin)) (sym is) round }
+item_ready line (Begun header) t r count is round none = record { count = omega (arith, count); round = subst
+    (λ (s : Stage). IsRound s (board_of header.begin)) (sym is) round }
 item_ready line (Next rec) t r count is round none =
-    record_ready line t r (job_answer line rec.cpu rec.h rec.job r.deliveries r.board) count is round (same_job line rec.cpu rec.h rec.job r.deliveries r.board) none
+    record_ready line t r (job_answer line rec.cpu rec.h rec.job r.deliveries r.board) count is round
+        (same_job line rec.cpu rec.h rec.job r.deliveries r.board) none
 item_ready line End t r count is round none = cc
 
 -- behind a step of the reader
 step_ready : (line n : ℕ) (x : Result Step Reason) (item : Item) (r : Replay) → n ≡ line → Fits r.board x → answer_in n x ≡ Ok item
-    → (let r' : Replay = record r { reading = record { lines = n; stage = stage_behind n x } } in end_of (item_answer line item r') ≡ None → IsReady (line + 1) (state_behind (item_answer line item r') r'))
+    → (let r' : Replay = record r { reading = record { lines = n; stage = stage_behind n x } } in end_of (item_answer line item r') ≡ None
+        → IsReady (line + 1) (state_behind (item_answer line item r') r'))
 step_ready line n (Err reason) item r count fit took = λ none. cc
 step_ready line n (Ok step) item r count fit took = λ none.
     let same : step.item ≡ item = cc in
-    item_ready line item step.stage (record r { reading = record { lines = n; stage = step.stage } }) count refl (subst (λ (i : Item). Onward i step.stage r.board) same fit) none
+    item_ready line item step.stage (record r { reading = record { lines = n; stage = step.stage } }) count refl
+        (subst (λ (i : Item). Onward i step.stage r.board) same fit) none
 
 -- behind a line that was read
 pub ready_next : (line : ℕ) (r : Replay) (text : List ℕ) (item : Item) → IsReady line r → taken r.reading text ≡ Ok item
-    → (let r' : Replay = record r { reading = behind text r.reading } in end_of (item_answer line item r') ≡ None → IsReady (line + 1) (state_behind (item_answer line item r') r'))
+    → (let r' : Replay = record r { reading = behind text r.reading } in end_of (item_answer line item r') ≡ None
+        → IsReady (line + 1) (state_behind (item_answer line item r') r'))
 ready_next line r text item ready took =
     let n : ℕ = r.reading.lines + 1 in
     let none : fault_of r.reading.stage ≡ None = going r.reading.stage r.board ready.round in
     let x : Result Step Reason = stepped r.reading.stage text in
     let answer_ : answer_in n x ≡ Ok item = ap (λ (o : Option RecordFault). answer_by o r.reading text) (sym none) ∙ took in
     let reading_ : behind text r.reading ≡ record { lines = n; stage = stage_behind n x } = ap (λ (o : Option RecordFault). behind_by o text r.reading) none in
-    subst (λ (p : ReadingParts). (let r' : Replay = record r { reading = p } in end_of (item_answer line item r') ≡ None → IsReady (line + 1) (state_behind (item_answer line item r') r'))) (sym reading_)
+    subst (λ (p : ReadingParts).
+        (let r' : Replay = record r { reading = p } in end_of (item_answer line item r') ≡ None
+        → IsReady (line + 1) (state_behind (item_answer line item r') r'))) (sym reading_)
     (step_ready line n x item r ready.count (fits text r.board r.reading.stage ready.round) answer_)
 
 -- an answer that was given, as a fact of the next line
-pub next_if : (res : Result (Option Verdict) NoMemory) (n : ℕ) (a : Answer Replay Verdict) (old new : Replay) → IfOk res (λ end. end ≡ end_of a) → IfOk res (λ end. end ≡ None → new ≡ state_behind a old)
+pub next_if : (res : Result (Option Verdict) NoMemory) (n : ℕ) (a : Answer Replay Verdict) (old new : Replay) → IfOk res (λ end. end ≡ end_of a)
+    → IfOk res (λ end. end ≡ None → new ≡ state_behind a old)
     → (end_of a ≡ None → IsReady n (state_behind a old)) → IfOk res (λ end. end ≡ None → IsReady n new)
 next_if (Ok end) n a old new ends state ready = λ none. subst (IsReady n) (sym (state none)) (ready (sym ends ∙ none))
 next_if (Err e) n a old new ends state ready = tt

@@ -24,7 +24,8 @@ unfolding deliveries_of
 no_route_no_delivery = refl
 
 one_route_delivers_all : deliveries_of (None ∷ Some (record { cpu = 1; vector = 0x40 }) ∷ None ∷ None ∷ None ∷ None ∷ [])
-    ≡ Some (record { cpu = 0; vector = 0x30 }) ∷ Some (record { cpu = 1; vector = 0x40 }) ∷ Some (record { cpu = 0; vector = 0x44 }) ∷ Some (record { cpu = 0; vector = 0x45 })
+    ≡ Some (record { cpu = 0; vector = 0x30 }) ∷ Some (record { cpu = 1; vector = 0x40 }) ∷ Some (record { cpu = 0; vector = 0x44 })
+        ∷ Some (record { cpu = 0; vector = 0x45 })
     ∷ Some (record { cpu = 0; vector = 0x46 }) ∷ Some (record { cpu = 0; vector = 0x47 }) ∷ []
 unfolding deliveries_of
 one_route_delivers_all = refl

@@ -3,7 +3,20 @@ use Rattle.std.proofs.Common.{◌≡◌, List, ℕ, Option}
 use Rattle.trace_loop.specs.declared.ended.Ended.{Ended}
 use Rattle.trace_loop.specs.declared.ended.Ended.TheVariants.{By, SourceFault as FailsSource, SinkFault as FailsSink, NoMemory as WantsMemory}
 use Rattle.trace_loop.specs.Outcome.{Run, Outcome}
-use Rattle.reply_text.specs.declared.ends.Refused.TheVariants.{Form, Steal, Cpu, Fell, State, Long, Many, NoEnd, Range, Versions as LastVersion, Spent as AllSpent, NotBuilt as IsntBuilt}
+use Rattle.reply_text.specs.declared.ends.Refused.TheVariants.{
+  Form,
+  Steal,
+  Cpu,
+  Fell,
+  State,
+  Long,
+  Many,
+  NoEnd,
+  Range,
+  Versions as LastVersion,
+  Spent as AllSpent,
+  NotBuilt as IsntBuilt,
+}
 use Rattle.trace_runner.specs.declared.replay.Replay.{Replay}
 use Rattle.trace_runner.specs.declared.status.Verdict.{Verdict}
 use Rattle.trace_runner.specs.declared.status.Verdict.TheVariants.{Done, Stopped}

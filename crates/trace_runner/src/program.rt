@@ -53,17 +53,30 @@ pub fn run<R: Threads + Wait + Sync, S: Source, K: Sink, G: Gate + Sync>(
     sink: &mut K,
     _gate: &G,
 ) -> Status
-    ensures replay { command_of (map string_bytes words.now) ≡ Command.Replay → (input : List ℕ) → S.remaining source.old ≡ Some input
-        → Shown (replay_run input (S.before source.new - S.given source.old) (S.given source.new - S.given source.old) (S.faults source.old) (S.faults source.new)) result (K.contents sink.old) (K.contents sink.new) }
-    ensures stopped { command_of (map string_bytes words.now) ≡ Command.Replay → (input : List ℕ) → S.remaining source.old ≡ Some input
+    ensures replay { command_of (map string_bytes words.now) ≡ Command.Replay
+        → (input : List ℕ) → S.remaining source.old ≡ Some input
+        → Shown (replay_run input (S.before source.new - S.given source.old)
+                (S.given source.new - S.given source.old) (S.faults source.old) (S.faults source.new))
+            result (K.contents sink.old) (K.contents sink.new) }
+    ensures stopped { command_of (map string_bytes words.now) ≡ Command.Replay
+        → (input : List ℕ) → S.remaining source.old ≡ Some input
         → (progress_behind (take (S.before source.new - S.given source.old) input)).end ≡ None }
-    ensures once { S.done source.old ≡ false → S.late source.old ≡ false → S.late source.new ≡ false }
-    ensures later { command_of (map string_bytes words.now) ≡ Command.Later → Said (Status.NotBuilt 0) result (K.contents sink.old) (K.contents sink.new) job_refused_text (Rose (K.faults sink.old) (K.faults sink.new)) }
-    ensures usage { command_of (map string_bytes words.now) ≡ Command.Unknown → Said Status.Usage result (K.contents sink.old) (K.contents sink.new) usage_text (Rose (K.faults sink.old) (K.faults sink.new)) }
-    ensures untouched { command_of (map string_bytes words.now) ≢ Command.Replay → source.new ≡ source.old }
-    ensures well { result ≢ Status.SourceFault → result ≢ Status.SinkFault → S.faults source.new ≡ S.faults source.old }
-    ensures source_fault { result ≡ Status.SourceFault → Rose (S.faults source.old) (S.faults source.new) }
-    ensures sink_fault { result ≡ Status.SinkFault → Rose (K.faults sink.old) (K.faults sink.new) }
+    ensures once { S.done source.old ≡ false → S.late source.old ≡ false
+        → S.late source.new ≡ false }
+    ensures later { command_of (map string_bytes words.now) ≡ Command.Later
+        → Said (Status.NotBuilt 0) result (K.contents sink.old) (K.contents sink.new)
+            job_refused_text (Rose (K.faults sink.old) (K.faults sink.new)) }
+    ensures usage { command_of (map string_bytes words.now) ≡ Command.Unknown
+        → Said Status.Usage result (K.contents sink.old) (K.contents sink.new)
+            usage_text (Rose (K.faults sink.old) (K.faults sink.new)) }
+    ensures untouched { command_of (map string_bytes words.now) ≢ Command.Replay
+        → source.new ≡ source.old }
+    ensures well { result ≢ Status.SourceFault → result ≢ Status.SinkFault
+        → S.faults source.new ≡ S.faults source.old }
+    ensures source_fault { result ≡ Status.SourceFault
+        → Rose (S.faults source.old) (S.faults source.new) }
+    ensures sink_fault { result ≡ Status.SinkFault
+        → Rose (K.faults sink.old) (K.faults sink.new) }
     ensures sink_well { result ≢ Status.SinkFault → K.faults sink.new ≡ K.faults sink.old }
 {
     match command_of(words) {
@@ -75,7 +88,8 @@ pub fn run<R: Threads + Wait + Sync, S: Source, K: Sink, G: Gate + Sync>(
 
 /// Writes a text and ends with a status, or with a fault of the sink.
 fn say<K: Sink>(sink: &mut K, text: &[u8], status: Status) -> Status
-    ensures said { Said status result (K.contents sink.old) (K.contents sink.new) text.now (Rose (K.faults sink.old) (K.faults sink.new)) }
+    ensures said { Said status result (K.contents sink.old) (K.contents sink.new) text.now
+        (Rose (K.faults sink.old) (K.faults sink.new)) }
     ensures sink_well { result ≢ Status.SinkFault → K.faults sink.new ≡ K.faults sink.old }
     ensures counted { K.faults sink.old ≤ K.faults sink.new }
 {

@@ -13,15 +13,19 @@ returns-in_err-put-clause-cut g c =
     on_err_from c.from_residual.result ((cut : List ℕ) × Begins cut c.args.text.now × Appends (contents c.args.sink.now) (contents c.put.new.self) cut) (
       take c.loop-put.put c.args.text.now,
       (drop c.loop-put.put c.args.text.now, sym (take-append-drop c.loop-put.put c.args.text.now)),
-      Appends-kept (contents c.args.sink.now) (contents c.loop-put.sink) (contents c.put.new.self) (take c.loop-put.put c.args.text.now) c.loop-put.invariant.1 c.in_err-put.ensures.bytes,
+      Appends-kept (contents c.args.sink.now) (contents c.loop-put.sink) (contents c.put.new.self)
+          (take c.loop-put.put c.args.text.now) c.loop-put.invariant.1 c.in_err-put.ensures.bytes,
     )
 
 pub loop-put-preserved : goal.loop-put-preserved
 loop-put-preserved g c =
     let contents = g.K.Sink.contents in
-    let inside : c.loop-put.put + c.in_ok-put.field-0 ≤ length c.args.text.now = omega (arith, c.in_ok-put.ensures.bound, length-take (length c.args.text.now - c.loop-put.put) (drop c.loop-put.put c.args.text.now), length-drop c.loop-put.put c.args.text.now) in (
+    let inside : c.loop-put.put + c.in_ok-put.field-0 ≤ length c.args.text.now = omega
+        (arith, c.in_ok-put.ensures.bound, length-take (length c.args.text.now - c.loop-put.put)
+        (drop c.loop-put.put c.args.text.now), length-drop c.loop-put.put c.args.text.now) in (
       inside,
-      subst (λ (l : List ℕ). Appends (contents c.args.sink.now) (contents c.put.new.self) l) (take_piece c.args.text.now c.loop-put.put c.in_ok-put.field-0 inside)
+      subst (λ (l : List ℕ). Appends (contents c.args.sink.now) (contents c.put.new.self) l)
+          (take_piece c.args.text.now c.loop-put.put c.in_ok-put.field-0 inside)
           (Appends-trans (contents c.args.sink.now) (contents c.loop-put.sink) (contents c.put.new.self) _ _ c.loop-put.invariant.1 c.in_ok-put.ensures.bytes),
       c.in_ok-put.ensures.well ∙ c.loop-put.invariant.2,
     )

@@ -18,7 +18,8 @@ invariant-lines g l =
       lines : l.lines.number + length l.lines.left ≤ given;
       more : g.S.Source.given l.fn.source ≤ g.S.Source.given l.source;
       most : g.S.Source.given l.source - g.S.Source.given l.fn.source ≤ 4611686018427387904;
-      quiet : g.S.Source.done l.fn.source ≡ false → g.S.Source.late l.fn.source ≡ false → (g.S.Source.done l.source ≡ false) × (g.S.Source.late l.source ≡ false);
+      quiet : g.S.Source.done l.fn.source ≡ false → g.S.Source.late l.fn.source ≡ false
+          → (g.S.Source.done l.source ≡ false) × (g.S.Source.late l.source ≡ false);
       source_faults : g.S.Source.faults l.source ≡ g.S.Source.faults l.fn.source;
       sink_faults : g.K.Sink.faults l.sink ≡ g.K.Sink.faults l.fn.sink;
     }

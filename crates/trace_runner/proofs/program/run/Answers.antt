@@ -16,15 +16,20 @@ returns-in-Replay-clause-replay g c = λ is input e.
     let given : ℕ = g.S.Source.given c.answer_lines.new.source - g.S.Source.given c.args.source.now in
     let faults : ℕ = g.S.Source.faults c.args.source.now in
     let faults_now : ℕ = g.S.Source.faults c.answer_lines.new.source in
-    let outcome : Outcome (replay_run input before given faults faults_now) c.answer_lines.result (g.K.Sink.contents c.args.sink.now) (g.K.Sink.contents c.answer_lines.new.sink) =
-    subst (λ (r : Replay). Outcome (run_of answer_of closing_of r input before given faults faults_now) c.answer_lines.result (g.K.Sink.contents c.args.sink.now) (g.K.Sink.contents c.answer_lines.new.sink)) c.new.ensures (c.answer_lines.ensures.outcome input e) in
-    subst (λ (s : Status). Shown (replay_run input before given faults faults_now) s (g.K.Sink.contents c.args.sink.now) (g.K.Sink.contents c.answer_lines.new.sink)) (sym c.status_of.ensures)
-    (shown_is (replay_run input before given faults faults_now) c.answer_lines.result (g.K.Sink.contents c.args.sink.now) (g.K.Sink.contents c.answer_lines.new.sink) outcome)
+    let outcome : Outcome (replay_run input before given faults faults_now) c.answer_lines.result (g.K.Sink.contents c.args.sink.now)
+        (g.K.Sink.contents c.answer_lines.new.sink) =
+    subst (λ (r : Replay). Outcome (run_of answer_of closing_of r input before given faults faults_now) c.answer_lines.result
+        (g.K.Sink.contents c.args.sink.now) (g.K.Sink.contents c.answer_lines.new.sink)) c.new.ensures (c.answer_lines.ensures.outcome input e) in
+    subst (λ (s : Status). Shown (replay_run input before given faults faults_now) s (g.K.Sink.contents c.args.sink.now)
+        (g.K.Sink.contents c.answer_lines.new.sink)) (sym c.status_of.ensures)
+    (shown_is (replay_run input before given faults faults_now) c.answer_lines.result (g.K.Sink.contents c.args.sink.now)
+        (g.K.Sink.contents c.answer_lines.new.sink) outcome)
 
 pub returns-in-Replay-clause-stopped : goal.returns-in-Replay-clause-stopped
 unfolding progress_behind
 returns-in-Replay-clause-stopped g c = λ is input e.
-    subst (λ (r : Replay). (behind answer_of (take (g.S.Source.before c.answer_lines.new.source - g.S.Source.given c.args.source.now) input) (opened r)).end ≡ None) c.new.ensures (c.answer_lines.ensures.stopped input e)
+    subst (λ (r : Replay). (behind answer_of (take (g.S.Source.before c.answer_lines.new.source - g.S.Source.given c.args.source.now) input) (opened r)).end
+        ≡ None) c.new.ensures (c.answer_lines.ensures.stopped input e)
 
 pub returns-in-Later-clause-later : goal.returns-in-Later-clause-later
 unfolding job_refused_text

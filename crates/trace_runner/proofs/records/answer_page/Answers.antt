@@ -13,7 +13,8 @@ pub returns-in_ok-page_line-in-Ok-clause-printed : goal.returns-in_ok-page_line-
 returns-in_ok-page_line-in-Ok-clause-printed c =
     c.in_ok-page_line-in-Ok.ensures.ok
     ∙ ap (λ (r : PageReply). c.args.out.now.items ++ page_text c.args.line r) c.in-Ok.ensures.value
-    ∙ ap (λ (a : Answer BoardParts Verdict). c.args.out.now.items ++ printed a) (sym (page-read c.args.line c.args.page c.args.h c.args.board.now c.in-Ok.ensures.ok))
+    ∙ ap (λ (a : Answer BoardParts Verdict). c.args.out.now.items ++ printed a)
+        (sym (page-read c.args.line c.args.page c.args.h c.args.board.now c.in-Ok.ensures.ok))
 
 pub returns-in_ok-page_line-in-Ok-clause-ends : goal.returns-in_ok-page_line-in-Ok-clause-ends
 returns-in_ok-page_line-in-Ok-clause-ends c = ap end_of (sym (page-read c.args.line c.args.page c.args.h c.args.board.now c.in-Ok.ensures.ok))
@@ -22,7 +23,8 @@ pub returns-in-Err-clause-printed : goal.returns-in-Err-clause-printed
 returns-in-Err-clause-printed c =
     subst (λ (a : Answer BoardParts Verdict). OnOk c.refuse.result (c.refuse.new.out.items ≡ c.args.out.now.items ++ printed a))
     (sym (page-refused c.args.line c.args.page c.args.h c.args.board.now c.in-Err.fault c.in-Err.ensures.fault))
-    (subst (λ (w : Refused). OnOk c.refuse.result (c.refuse.new.out.items ≡ c.args.out.now.items ++ refused_text c.args.line w)) c.refused_time.ensures c.refuse.ensures.printed)
+    (subst (λ (w : Refused). OnOk c.refuse.result
+        (c.refuse.new.out.items ≡ c.args.out.now.items ++ refused_text c.args.line w)) c.refused_time.ensures c.refuse.ensures.printed)
 
 pub returns-in-Err-clause-ends : goal.returns-in-Err-clause-ends
 returns-in-Err-clause-ends c =

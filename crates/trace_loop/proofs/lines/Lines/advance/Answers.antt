@@ -14,4 +14,5 @@ returns-in_err-hand_out-in-Excess-clause-err c =
     let n : ℕ = c.in-Excess.n in
     let len : length (take n left) ≡ n = length-take-le n left c.in-Excess.ensures.0 in
     let short : length c.args.self.now.text ≤ limit_of c.args.self.now.text = subst (λ (t : List ℕ). length t ≤ limit_of t) text c.self.invariant.5 in
-    omega (arith, len, c.in-Excess.ensures.0, excess_some c.args.self.now.text (take n left) (c.args.self.now.text ++ take n left) refl short (length-append c.args.self.now.text (take n left) ∙ omega (arith, len, c.in-Excess.ensures.2))))
+    omega (arith, len, c.in-Excess.ensures.0, excess_some c.args.self.now.text (take n left) (c.args.self.now.text ++ take n left) refl short
+        (length-append c.args.self.now.text (take n left) ∙ omega (arith, len, c.in-Excess.ensures.2))))

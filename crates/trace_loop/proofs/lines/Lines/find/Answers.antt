@@ -13,7 +13,8 @@ overflow_sub-result c =
     let left : rest ≡ c.args.self.now.left = ap (λ (s : Cut). s.left) c.self.view_is in
     let text : r.kept.items ≡ c.args.self.now.text = ap (λ (s : Cut). s.text) c.self.view_is in
     let N : ℕ = c.unwrap_or-n.result in
-    let limit : c.limit_across-limit.result ≡ limit_of (r.kept.items ++ take N rest) = c.limit_across-limit.ensures ∙ ap (λ (t : List ℕ). limit_of (t ++ take N rest)) c.deref.ensures.value in
+    let limit : c.limit_across-limit.result ≡ limit_of (r.kept.items ++ take N rest) = c.limit_across-limit.ensures
+        ∙ ap (λ (t : List ℕ). limit_of (t ++ take N rest)) c.deref.ensures.value in
     omega (arith, limit, limit_grows r.kept.items (take N rest) c.self.invariant.5, c.len-then-len-n.ensures, r.kept.ok.0)
 
 pub returns-then-len-n : goal.returns-then-len-n
@@ -23,7 +24,8 @@ returns-then-len-n c =
     let left : rest ≡ c.args.self.now.left = ap (λ (s : Cut). s.left) c.self.view_is in
     let text : r.kept.items ≡ c.args.self.now.text = ap (λ (s : Cut). s.text) c.self.view_is in
     let N : ℕ = c.unwrap_or-n.result in
-    let limit : c.limit_across-limit.result ≡ limit_of (r.kept.items ++ take N rest) = c.limit_across-limit.ensures ∙ ap (λ (t : List ℕ). limit_of (t ++ take N rest)) c.deref.ensures.value in
+    let limit : c.limit_across-limit.result ≡ limit_of (r.kept.items ++ take N rest) = c.limit_across-limit.ensures
+        ∙ ap (λ (t : List ℕ). limit_of (t ++ take N rest)) c.deref.ensures.value in
     let L : ℕ = c.limit_across-limit.result in
     let k : ℕ = c.len-then-len-n.result in
     let n : ℕ = L + 1 - k in
@@ -31,9 +33,12 @@ returns-then-len-n c =
     let grows : length r.kept.items ≤ L = omega (arith, limit, limit_grows r.kept.items (take N rest) c.self.invariant.5) in
     let low : n ≤ N = omega (arith, kept, c.len.ensures, r.kept.ok.0, c.if-len-n.true) in
     let most : N ≤ length rest = omega (arith, c.unwrap_or-n.ensures, found_within rest c.memchr-end.result c.memchr-end.ensures) in
-    let same : limit_of (r.kept.items ++ take N rest) ≡ limit_of (r.kept.items ++ take n rest) = limit_part r.kept.items rest n N low (omega (arith, low, most)) (omega (arith, kept, grows, limit, limit_least (r.kept.items ++ take N rest))) in (
+    let same : limit_of (r.kept.items ++ take N rest)
+        ≡ limit_of (r.kept.items ++ take n rest) = limit_part r.kept.items rest n N low (omega (arith, low, most))
+        (omega (arith, kept, grows, limit, limit_least (r.kept.items ++ take N rest))) in (
       subst (λ (l : List ℕ). n ≤ length l) left (omega (arith, low, most)),
-      subst (λ (l : List ℕ). HasNoEnd (take n l)) left (no_end_found rest c.memchr-end.result n c.memchr-end.ensures (omega (arith, low, c.unwrap_or-n.ensures))),
+      subst (λ (l : List ℕ). HasNoEnd (take n l)) left
+          (no_end_found rest c.memchr-end.result n c.memchr-end.ensures (omega (arith, low, c.unwrap_or-n.ensures))),
       subst (λ (l : List ℕ). length c.args.self.now.text + n ≡ limit_of (c.args.self.now.text ++ take n l) + 1) left
           (subst (λ (t : List ℕ). length t + n ≡ limit_of (t ++ take n rest) + 1) text (omega (arith, same, limit, kept, grows))),
     )
@@ -45,7 +50,8 @@ returns-in-Some c =
     let left : rest ≡ c.args.self.now.left = ap (λ (s : Cut). s.left) c.self.view_is in
     let text : r.kept.items ≡ c.args.self.now.text = ap (λ (s : Cut). s.text) c.self.view_is in
     let N : ℕ = c.unwrap_or-n.result in
-    let limit : c.limit_across-limit.result ≡ limit_of (r.kept.items ++ take N rest) = c.limit_across-limit.ensures ∙ ap (λ (t : List ℕ). limit_of (t ++ take N rest)) c.deref.ensures.value in
+    let limit : c.limit_across-limit.result ≡ limit_of (r.kept.items ++ take N rest) = c.limit_across-limit.ensures
+        ∙ ap (λ (t : List ℕ). limit_of (t ++ take N rest)) c.deref.ensures.value in
     let at = found_at rest c.memchr-end.result c.in-Some.n c.memchr-end.ensures c.in-Some.is in
     let is : unwrap_or c.memchr-end.result (length rest) ≡ c.in-Some.n = ap (λ o. unwrap_or o (length rest)) c.in-Some.is in (
       subst (λ (l : List ℕ). c.in-Some.n < length l) left at.0,
@@ -53,7 +59,8 @@ returns-in-Some c =
       subst (λ (l : List ℕ). slice_index l c.in-Some.n ≡ 10) left at.1,
       subst (λ (l : List ℕ). length c.args.self.now.text + c.in-Some.n ≤ limit_of (c.args.self.now.text ++ take c.in-Some.n l)) left
           (subst (λ (t : List ℕ). length t + c.in-Some.n ≤ limit_of (t ++ take c.in-Some.n rest)) text
-          (subst (λ (n : ℕ). length r.kept.items + n ≤ limit_of (r.kept.items ++ take n rest)) (c.unwrap_or-n.ensures ∙ is) (omega (arith, limit, c.len.ensures, r.kept.ok.0)))),
+          (subst (λ (n : ℕ). length r.kept.items + n ≤ limit_of (r.kept.items ++ take n rest)) (c.unwrap_or-n.ensures ∙ is)
+              (omega (arith, limit, c.len.ensures, r.kept.ok.0)))),
     )
 
 pub returns-in-None : goal.returns-in-None
@@ -63,11 +70,14 @@ returns-in-None c =
     let left : rest ≡ c.args.self.now.left = ap (λ (s : Cut). s.left) c.self.view_is in
     let text : r.kept.items ≡ c.args.self.now.text = ap (λ (s : Cut). s.text) c.self.view_is in
     let N : ℕ = c.unwrap_or-n.result in
-    let limit : c.limit_across-limit.result ≡ limit_of (r.kept.items ++ take N rest) = c.limit_across-limit.ensures ∙ ap (λ (t : List ℕ). limit_of (t ++ take N rest)) c.deref.ensures.value in
+    let limit : c.limit_across-limit.result ≡ limit_of (r.kept.items ++ take N rest) = c.limit_across-limit.ensures
+        ∙ ap (λ (t : List ℕ). limit_of (t ++ take N rest)) c.deref.ensures.value in
     let is : unwrap_or c.memchr-end.result (length rest) ≡ length rest = ap (λ o. unwrap_or o (length rest)) c.in-None.is in (
-      subst HasNoEnd (take_all (length rest) rest (omega arith) ∙ left) (no_end_found rest c.memchr-end.result (length rest) c.memchr-end.ensures (omega (arith, is))),
+      subst HasNoEnd (take_all (length rest) rest (omega arith) ∙ left)
+          (no_end_found rest c.memchr-end.result (length rest) c.memchr-end.ensures (omega (arith, is))),
       subst (λ (l : List ℕ). length c.args.self.now.text + length l ≤ limit_of (c.args.self.now.text ++ l)) left
           (subst (λ (t : List ℕ). length t + length rest ≤ limit_of (t ++ rest)) text
           (subst (λ (l : List ℕ). length r.kept.items + length rest ≤ limit_of (r.kept.items ++ l)) (take_all (length rest) rest (omega arith))
-          (subst (λ (n : ℕ). length r.kept.items + n ≤ limit_of (r.kept.items ++ take n rest)) (c.unwrap_or-n.ensures ∙ is) (omega (arith, limit, c.len.ensures, r.kept.ok.0))))),
+          (subst (λ (n : ℕ). length r.kept.items + n ≤ limit_of (r.kept.items ++ take n rest)) (c.unwrap_or-n.ensures ∙ is)
+              (omega (arith, limit, c.len.ensures, r.kept.ok.0))))),
     )

@@ -17,5 +17,6 @@ invariant_of-self-2 c =
       c.self.invariant.2,
       c.self.invariant.3,
       subst HasNoEnd (sym all) (no_end_++ r.kept.items rest c.self.invariant.4 none),
-      subst (λ (t : List ℕ). length t ≤ limit_of t) (sym (all ∙ ap (λ (t : List ℕ). t ++ rest) text ∙ ap (λ (l : List ℕ). c.args.self.now.text ++ l) left)) (omega (arith, length-append c.args.self.now.text c.args.self.now.left, c.requires.short)),
+      subst (λ (t : List ℕ). length t ≤ limit_of t) (sym (all ∙ ap (λ (t : List ℕ). t ++ rest) text ∙ ap (λ (l : List ℕ). c.args.self.now.text ++ l) left))
+          (omega (arith, length-append c.args.self.now.text c.args.self.now.left, c.requires.short)),
     )

@@ -11,7 +11,10 @@ pub returns-in-Ok-clause-may : goal.returns-in-Ok-clause-may
 returns-in-Ok-clause-may c =
     let r : Replay = c.args.self.now in
     let line : ℕ = c.args.line in
-    next_if c.answer_item.result (line + 1) (item_answer line c.in-Ok.item (record r { reading = c.take_line.new.self })) (record r { reading = c.take_line.new.self }) c.answer_item.new.self
+    next_if c.answer_item.result (line + 1) (item_answer line c.in-Ok.item (record r { reading = c.take_line.new.self }))
+        (record r { reading = c.take_line.new.self }) c.answer_item.new.self
     c.answer_item.ensures.ends c.answer_item.ensures.state
-    (subst (λ (p : ReadingParts). (let r' : Replay = record r { reading = p } in end_of (item_answer line c.in-Ok.item r') ≡ None → IsReady (line + 1) (state_behind (item_answer line c.in-Ok.item r') r'))) (sym c.take_line.ensures.state)
+    (subst (λ (p : ReadingParts).
+        (let r' : Replay = record r { reading = p } in end_of (item_answer line c.in-Ok.item r') ≡ None
+        → IsReady (line + 1) (state_behind (item_answer line c.in-Ok.item r') r'))) (sym c.take_line.ensures.state)
     (ready_next line r c.args.text.now c.in-Ok.item c.requires.may (sym c.take_line.ensures.item ∙ c.in-Ok.is)))
