@@ -1,12 +1,15 @@
 //! The first fault of each block.
-ghost use Rattle.std.specs.Prelude.{◌≡◌, ◌<◌, ◌&&◌, ◌||◌, nat_le};
-ghost use Rattle.save_state.specs.Table.{counter_fault, timer_fault};
+ghost use Rattle.std.specs.Prelude.{◌≡◌, ◌<◌, ◌≤◌, ◌&&◌, ◌||◌, nat_le};
+ghost use Rattle.save_state.specs.Fields.{fault_in};
+ghost use Rattle.save_state.specs.Places.{format_in, cpus_in};
+ghost use Rattle.save_state.specs.Table.{counter_fault, timer_fault, hpet_rows, trailing_fault};
 ghost use Rattle.save_state.specs.private.Failing.{counter_row, timer_row, failing_counter_rows, failing_timer_rows};
 
-use crate::fault::StateFault;
-use crate::numbers::flag_valid;
+use crate::fault::{StateFault, StateKind};
+use crate::numbers::{byte_at, flag_valid};
 use crate::pieces::{counter_in, timer_in};
 use crate::table::{Row, fault_in, field};
+use crate::whole::processor_place;
 use hpet_comparator::TimerField;
 use pit_counter::CounterField;
 
@@ -112,4 +115,46 @@ fn timer_rows(failing: u8) -> [Row; 3]
         field(8, 1 < failing),
         field(8, 2 < failing),
     ]
+}
+
+/// Whether one of the two holds.
+fn either(a: bool, b: bool) -> bool
+    ensures { result ≡ (a || b) }
+{
+    a || b
+}
+
+/// The first fault of the HPET's configuration, status and main counter.
+#[tactic(auto, unfolding(crate::specs::Table::hpet_rows))]
+pub(crate) fn hpet_fault(bytes: &[u8], format: u8) -> Option<StateFault>
+    requires { format ≡ format_in bytes.now }
+    ensures { result ≡ fault_in bytes.now 254 (hpet_rows bytes.now) }
+{
+    let config = byte_at(bytes, 254) <= 3;
+    let status = either(format >= 2, byte_at(bytes, 255) <= 7);
+    fault_in(
+        bytes,
+        254,
+        &[field(1, config), field(1, status), field(8, true)],
+    )
+}
+
+/// Bytes behind the last field.
+#[tactic(auto, unfolding(crate::specs::Table::trailing_fault))]
+pub(crate) fn trailing_fault(bytes: &[u8], format: u8, cpus: u8) -> Option<StateFault>
+    requires format { format ≡ format_in bytes.now }
+    requires built { format ≤ 2 }
+    requires cpus { cpus ≡ cpus_in bytes.now }
+    requires most { cpus ≤ 64 }
+    ensures { result ≡ trailing_fault bytes.now }
+{
+    let wanted = processor_place(format, cpus);
+    if wanted < bytes.len() {
+        Some(StateFault {
+            place: wanted as u64,
+            kind: StateKind::Trailing,
+        })
+    } else {
+        None
+    }
 }
