@@ -52,7 +52,8 @@ fn board(format: u8) -> BoardState
 fn a_board_of_version_1_at_power_on(rt: HostRuntime) -> Result<(), Fail> {
     let bytes = encode(rt.alloc(), &board(1))?;
     assert_eq!(rt; bytes.len(), 553);
-    assert_eq!(rt; &bytes[..79], FRONT.as_slice());
+    let front = &bytes[0..79];
+    assert_eq!(rt; front, FRONT.as_slice());
     assert_eq!(rt;
         &bytes[79..93],
         [0x36, 7, 0, 0, 0, 0, 0, 0, 0, 0, 0, 0, 0, 0].as_slice()
