@@ -8,14 +8,19 @@ use Rattle.pit_counter.specs.declared.parts.CounterParts.{CounterParts}
 use Rattle.pit_counter.specs.Parts.{bits_valid, flags_valid, cr_valid, ce_valid, part_valid, read_order_valid, latched_count_valid, latched_status_valid, first_fault}
 use Rattle.hpet_comparator.specs.declared.parts.TimerParts.{TimerParts}
 use Rattle.hpet_comparator.specs.Parts.{config_valid, comparator_valid, period_valid, timer_fault as timer_field_fault}
+use Rattle.rtc_registers.specs.declared.parts.RtcParts.{RtcParts}
+use Rattle.rtc_registers.specs.declared.parts.RtcField.{RtcField}
+use Rattle.rtc_registers.specs.declared.parts.RtcField.TheVariants.{Index, Bytes, Divider, Cycle}
+use Rattle.rtc_registers.specs.Parts.{index_valid, bytes_valid, divider_valid, cycle_valid, first_fault as first_rtc_fault}
+use Rattle.save_state.specs.Reading.{rtc_in}
 use Rattle.save_state.specs.declared.table.Row.{Row}
 use Rattle.save_state.specs.declared.fault.StateFault.{StateFault}
 use Rattle.save_state.specs.Pit.{counter_in}
 use Rattle.save_state.specs.Hpet.{timer_in}
 use Rattle.save_state.specs.Places.{counter_place, timer_place}
-use Rattle.save_state.specs.Table.{counter_fault, timer_fault}
+use Rattle.save_state.specs.Table.{counter_fault, timer_fault, clock_rows}
 use Rattle.save_state.specs.Fields.{field, fault_in, flag_valid}
-use Rattle.save_state.specs.private.Failing.{counter_row, timer_row, failing_counter_rows, failing_timer_rows}
+use Rattle.save_state.specs.private.Failing.{counter_row, timer_row, clock_row, failing_counter_rows, failing_timer_rows, failing_clock_rows}
 
 -- the first of eight conditions that fails
 abbrev chain : Bool → Bool → Bool → Bool → Bool → Bool → Bool → Bool → Option CounterField
@@ -73,3 +78,27 @@ timer_fault-is bytes k m t f rows result t_is f_is m_is rows_are result_is =
     let m_at : m ≡ timer_row (timer_field_fault at) = m_is ∙ ap timer_row (f_is ∙ ap timer_field_fault t_is) in
     result_is ∙ ap (λ (rs : List Row). fault_in bytes (timer_place k) rs) (rows_are ∙ ap failing_timer_rows m_at)
     ∙ timer_rows-agree bytes (timer_place k) (config_valid at) (comparator_valid at) (period_valid at)
+
+pub clock_rows-agree : (bytes : List ℕ) (p : ℕ) (b0 b1 b2 b3 speaker cycle : Bool)
+    → fault_in bytes p (failing_clock_rows (clock_row (cond (not b0) (Some Index) (cond (not b1) (Some Bytes) (cond (not b2) (Some Divider) (cond (not b3) (Some Cycle) None))))) speaker cycle)
+    ≡ fault_in bytes p (field 1 speaker ∷ field 1 b0 ∷ field 128 b1 ∷ field 2 b2 ∷ field 1 (cycle && b3) ∷ [])
+unfolding fault_in
+clock_rows-agree bytes p false b1 b2 b3 speaker cycle = refl
+clock_rows-agree bytes p true false b2 b3 speaker cycle = refl
+clock_rows-agree bytes p true true false b3 speaker cycle = refl
+clock_rows-agree bytes p true true true false speaker false = refl
+clock_rows-agree bytes p true true true false speaker true = refl
+clock_rows-agree bytes p true true true true speaker cycle = refl
+
+pub clock_fault-is : (bytes : List ℕ) (m : ℕ) (r : RtcParts) (speaker cycle : Bool) (f : Option RtcField) (rows : List Row) (result : Option StateFault)
+    → r ≡ rtc_in bytes → f ≡ first_rtc_fault r → m ≡ clock_row f → speaker ≡ flag_valid 121 bytes → cycle ≡ flag_valid 253 bytes
+    → rows ≡ failing_clock_rows m speaker cycle → result ≡ fault_in bytes 121 rows → result ≡ fault_in bytes 121 (clock_rows bytes)
+unfolding clock_rows
+clock_fault-is bytes m r speaker cycle f rows result r_is f_is m_is speaker_is cycle_is rows_are result_is =
+    let m_at : m ≡ clock_row (first_rtc_fault (rtc_in bytes)) = m_is ∙ ap clock_row (f_is ∙ ap first_rtc_fault r_is) in
+    result_is ∙ ap (λ (rs : List Row). fault_in bytes 121 rs)
+    (rows_are ∙ ap (λ (n : ℕ). failing_clock_rows n speaker cycle) m_at
+    ∙ ap (λ (b : Bool). failing_clock_rows (clock_row (first_rtc_fault (rtc_in bytes))) b cycle) speaker_is
+    ∙ ap (λ (b : Bool). failing_clock_rows (clock_row (first_rtc_fault (rtc_in bytes))) (flag_valid 121 bytes) b) cycle_is)
+    ∙ clock_rows-agree bytes 121 (index_valid (rtc_in bytes)) (bytes_valid (rtc_in bytes)) (divider_valid (rtc_in bytes)) (cycle_valid (rtc_in bytes))
+    (flag_valid 121 bytes) (flag_valid 253 bytes)

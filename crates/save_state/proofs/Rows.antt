@@ -46,7 +46,8 @@ abbrev board : BoardParts
 board = record (board_at_power_on setup) { accesses = 1 }
 
 unfoldable example : List ℕ
-unfolding number_bytes counter_bytes timer_bytes line_bytes processor_bytes head_bytes host_bytes guest_bytes policy_bytes pit_bytes clock_bytes hpet_bytes rises_bytes wall_bytes tsc_bytes page_bytes front_bytes device_bytes back_bytes blocks_below bytes_of with_time rtc_at_power_on
+unfolding number_bytes counter_bytes timer_bytes line_bytes processor_bytes head_bytes host_bytes guest_bytes policy_bytes pit_bytes clock_bytes
+    hpet_bytes rises_bytes wall_bytes tsc_bytes page_bytes front_bytes device_bytes back_bytes blocks_below bytes_of with_time rtc_at_power_on
 example = bytes_of board
 
 example-length : length example ≡ 553
@@ -54,7 +55,9 @@ unfolding example
 example-length = refl
 
 example-head : take 79 example
-    ≡ 67 ∷ 76 ∷ 75 ∷ 66 ∷ 79 ∷ 65 ∷ 82 ∷ 68 ∷ 1 ∷ 0 ∷ 1 ∷ 0 ∷ 64 ∷ 66 ∷ 15 ∷ 0 ∷ 0 ∷ 0 ∷ 0 ∷ 0 ∷ 0 ∷ 0 ∷ 0 ∷ 0 ∷ 0 ∷ 0 ∷ 0 ∷ 0 ∷ 0 ∷ 0 ∷ 0 ∷ 0 ∷ 0 ∷ 0 ∷ 0 ∷ 0 ∷ 0 ∷ 0 ∷ 0 ∷ 0 ∷ 0 ∷ 0 ∷ 0 ∷ 0 ∷ 64 ∷ 66 ∷ 15 ∷ 0 ∷ 0 ∷ 0 ∷ 0 ∷ 0 ∷ 1 ∷ 0 ∷ 0 ∷ 0 ∷ 0 ∷ 0 ∷ 0 ∷ 0 ∷ 0 ∷ 0 ∷ 0 ∷ 0 ∷ 0 ∷ 0 ∷ 0 ∷ 0 ∷ 64 ∷ 66 ∷ 15 ∷ 0 ∷ 0 ∷ 0 ∷ 0 ∷ 0 ∷ 1 ∷ 1 ∷ 1 ∷ []
+    ≡ 67 ∷ 76 ∷ 75 ∷ 66 ∷ 79 ∷ 65 ∷ 82 ∷ 68 ∷ 1 ∷ 0 ∷ 1 ∷ 0 ∷ 64 ∷ 66 ∷ 15 ∷ 0 ∷ 0 ∷ 0 ∷ 0 ∷ 0 ∷ 0 ∷ 0 ∷ 0 ∷ 0 ∷ 0 ∷ 0 ∷ 0 ∷ 0 ∷ 0 ∷ 0 ∷ 0
+    ∷ 0 ∷ 0 ∷ 0 ∷ 0 ∷ 0 ∷ 0 ∷ 0 ∷ 0 ∷ 0 ∷ 0 ∷ 0 ∷ 0 ∷ 0 ∷ 64 ∷ 66 ∷ 15 ∷ 0 ∷ 0 ∷ 0 ∷ 0 ∷ 0 ∷ 1 ∷ 0 ∷ 0 ∷ 0 ∷ 0 ∷ 0 ∷ 0 ∷ 0 ∷ 0 ∷ 0 ∷ 0 ∷ 0
+    ∷ 0 ∷ 0 ∷ 0 ∷ 0 ∷ 64 ∷ 66 ∷ 15 ∷ 0 ∷ 0 ∷ 0 ∷ 0 ∷ 0 ∷ 1 ∷ 1 ∷ 1 ∷ []
 unfolding example
 example-head = refl
 
@@ -62,244 +65,259 @@ example-processor : drop 503 example ≡ replicate 50 0
 unfolding example
 example-processor = refl
 
-example-is_one : fault_of example ≡ None
-unfolding example number_at fault_in fault_below places_below counter_in timer_in line_in processor_in anchor_in pit_in rtc_in hpet_in lines_in rises_in processors_in board_in head_rows clock_rows hpet_rows line_fault rises_rows wall_rows counter_fault timer_fault processor_fault trailing_fault fault_of bits_valid flags_valid cr_valid ce_valid part_valid read_order_valid latched_count_valid latched_status_valid programmed modulus mode_of access_of is_bcd levels time_at mul_for shift_for rtc_at_power_on with_time
+-- the fault and the board of bytes, computed
+unfoldable fault : List ℕ → Option StateFault
+unfolding example number_at fault_in fault_below places_below counter_in timer_in line_in processor_in anchor_in pit_in rtc_in hpet_in lines_in
+    rises_in processors_in board_in head_rows clock_rows hpet_rows line_fault rises_rows wall_rows counter_fault timer_fault processor_fault
+    trailing_fault fault_of bits_valid flags_valid cr_valid ce_valid part_valid read_order_valid latched_count_valid latched_status_valid programmed
+    modulus mode_of access_of is_bcd levels time_at mul_for shift_for rtc_at_power_on with_time
+fault bytes = fault_of bytes
+
+unfoldable read : List ℕ → BoardParts
+unfolding example number_at fault_in fault_below places_below counter_in timer_in line_in processor_in anchor_in pit_in rtc_in hpet_in lines_in
+    rises_in processors_in board_in head_rows clock_rows hpet_rows line_fault rises_rows wall_rows counter_fault timer_fault processor_fault
+    trailing_fault fault_of bits_valid flags_valid cr_valid ce_valid part_valid read_order_valid latched_count_valid latched_status_valid programmed
+    modulus mode_of access_of is_bcd levels time_at mul_for shift_for rtc_at_power_on with_time
+read bytes = board_in bytes
+
+example-is_one : fault example ≡ None
+unfolding example fault
 example-is_one = refl
 
-example-board : board_in example ≡ board
-unfolding example number_at fault_in fault_below places_below counter_in timer_in line_in processor_in anchor_in pit_in rtc_in hpet_in lines_in rises_in processors_in board_in head_rows clock_rows hpet_rows line_fault rises_rows wall_rows counter_fault timer_fault processor_fault trailing_fault fault_of bits_valid flags_valid cr_valid ce_valid part_valid read_order_valid latched_count_valid latched_status_valid programmed modulus mode_of access_of is_bcd levels time_at mul_for shift_for rtc_at_power_on with_time
+example-board : read example ≡ board
+unfolding example read
 example-board = refl
 
 -- cut, or with more
-cut-nothing : fault_of [] ≡ Some (record { place = 0; kind = Short })
-unfolding example number_at fault_in fault_below places_below counter_in timer_in line_in processor_in anchor_in pit_in rtc_in hpet_in lines_in rises_in processors_in board_in head_rows clock_rows hpet_rows line_fault rises_rows wall_rows counter_fault timer_fault processor_fault trailing_fault fault_of bits_valid flags_valid cr_valid ce_valid part_valid read_order_valid latched_count_valid latched_status_valid programmed modulus mode_of access_of is_bcd levels time_at mul_for shift_for rtc_at_power_on with_time
+cut-nothing : fault [] ≡ Some (record { place = 0; kind = Short })
+unfolding example fault
 cut-nothing = refl
 
-cut-in_version : fault_of (take 9 example) ≡ Some (record { place = 9; kind = Short })
-unfolding example number_at fault_in fault_below places_below counter_in timer_in line_in processor_in anchor_in pit_in rtc_in hpet_in lines_in rises_in processors_in board_in head_rows clock_rows hpet_rows line_fault rises_rows wall_rows counter_fault timer_fault processor_fault trailing_fault fault_of bits_valid flags_valid cr_valid ce_valid part_valid read_order_valid latched_count_valid latched_status_valid programmed modulus mode_of access_of is_bcd levels time_at mul_for shift_for rtc_at_power_on with_time
+cut-in_version : fault (take 9 example) ≡ Some (record { place = 9; kind = Short })
+unfolding example fault
 cut-in_version = refl
 
-cut-last : fault_of (take 552 example) ≡ Some (record { place = 552; kind = Short })
-unfolding example number_at fault_in fault_below places_below counter_in timer_in line_in processor_in anchor_in pit_in rtc_in hpet_in lines_in rises_in processors_in board_in head_rows clock_rows hpet_rows line_fault rises_rows wall_rows counter_fault timer_fault processor_fault trailing_fault fault_of bits_valid flags_valid cr_valid ce_valid part_valid read_order_valid latched_count_valid latched_status_valid programmed modulus mode_of access_of is_bcd levels time_at mul_for shift_for rtc_at_power_on with_time
+cut-last : fault (take 552 example) ≡ Some (record { place = 552; kind = Short })
+unfolding example fault
 cut-last = refl
 
-more : fault_of (example ++ 0 ∷ []) ≡ Some (record { place = 553; kind = Trailing })
-unfolding example number_at fault_in fault_below places_below counter_in timer_in line_in processor_in anchor_in pit_in rtc_in hpet_in lines_in rises_in processors_in board_in head_rows clock_rows hpet_rows line_fault rises_rows wall_rows counter_fault timer_fault processor_fault trailing_fault fault_of bits_valid flags_valid cr_valid ce_valid part_valid read_order_valid latched_count_valid latched_status_valid programmed modulus mode_of access_of is_bcd levels time_at mul_for shift_for rtc_at_power_on with_time
+more : fault (example ++ 0 ∷ []) ≡ Some (record { place = 553; kind = Trailing })
+unfolding example fault
 more = refl
 
 -- one byte set: its place, its value, and the fault
-magic : fault_of (set example 7 69) ≡ Some (record { place = 0; kind = Magic })
-unfolding example number_at fault_in fault_below places_below counter_in timer_in line_in processor_in anchor_in pit_in rtc_in hpet_in lines_in rises_in processors_in board_in head_rows clock_rows hpet_rows line_fault rises_rows wall_rows counter_fault timer_fault processor_fault trailing_fault fault_of bits_valid flags_valid cr_valid ce_valid part_valid read_order_valid latched_count_valid latched_status_valid programmed modulus mode_of access_of is_bcd levels time_at mul_for shift_for rtc_at_power_on with_time
+magic : fault (set example 7 69) ≡ Some (record { place = 0; kind = Magic })
+unfolding example fault
 magic = refl
 
-version_0 : fault_of (set example 8 0) ≡ Some (record { place = 8; kind = Version })
-unfolding example number_at fault_in fault_below places_below counter_in timer_in line_in processor_in anchor_in pit_in rtc_in hpet_in lines_in rises_in processors_in board_in head_rows clock_rows hpet_rows line_fault rises_rows wall_rows counter_fault timer_fault processor_fault trailing_fault fault_of bits_valid flags_valid cr_valid ce_valid part_valid read_order_valid latched_count_valid latched_status_valid programmed modulus mode_of access_of is_bcd levels time_at mul_for shift_for rtc_at_power_on with_time
+version_0 : fault (set example 8 0) ≡ Some (record { place = 8; kind = Version })
+unfolding example fault
 version_0 = refl
 
-version_3 : fault_of (set example 8 3) ≡ Some (record { place = 8; kind = Version })
-unfolding example number_at fault_in fault_below places_below counter_in timer_in line_in processor_in anchor_in pit_in rtc_in hpet_in lines_in rises_in processors_in board_in head_rows clock_rows hpet_rows line_fault rises_rows wall_rows counter_fault timer_fault processor_fault trailing_fault fault_of bits_valid flags_valid cr_valid ce_valid part_valid read_order_valid latched_count_valid latched_status_valid programmed modulus mode_of access_of is_bcd levels time_at mul_for shift_for rtc_at_power_on with_time
+version_3 : fault (set example 8 3) ≡ Some (record { place = 8; kind = Version })
+unfolding example fault
 version_3 = refl
 
-version_high : fault_of (set example 9 1) ≡ Some (record { place = 8; kind = Version })
-unfolding example number_at fault_in fault_below places_below counter_in timer_in line_in processor_in anchor_in pit_in rtc_in hpet_in lines_in rises_in processors_in board_in head_rows clock_rows hpet_rows line_fault rises_rows wall_rows counter_fault timer_fault processor_fault trailing_fault fault_of bits_valid flags_valid cr_valid ce_valid part_valid read_order_valid latched_count_valid latched_status_valid programmed modulus mode_of access_of is_bcd levels time_at mul_for shift_for rtc_at_power_on with_time
+version_high : fault (set example 9 1) ≡ Some (record { place = 8; kind = Version })
+unfolding example fault
 version_high = refl
 
-cpus_0 : fault_of (set example 10 0) ≡ Some (record { place = 10; kind = Field })
-unfolding example number_at fault_in fault_below places_below counter_in timer_in line_in processor_in anchor_in pit_in rtc_in hpet_in lines_in rises_in processors_in board_in head_rows clock_rows hpet_rows line_fault rises_rows wall_rows counter_fault timer_fault processor_fault trailing_fault fault_of bits_valid flags_valid cr_valid ce_valid part_valid read_order_valid latched_count_valid latched_status_valid programmed modulus mode_of access_of is_bcd levels time_at mul_for shift_for rtc_at_power_on with_time
+cpus_0 : fault (set example 10 0) ≡ Some (record { place = 10; kind = Field })
+unfolding example fault
 cpus_0 = refl
 
-cpus_17 : fault_of (set example 10 17) ≡ Some (record { place = 10; kind = Field })
-unfolding example number_at fault_in fault_below places_below counter_in timer_in line_in processor_in anchor_in pit_in rtc_in hpet_in lines_in rises_in processors_in board_in head_rows clock_rows hpet_rows line_fault rises_rows wall_rows counter_fault timer_fault processor_fault trailing_fault fault_of bits_valid flags_valid cr_valid ce_valid part_valid read_order_valid latched_count_valid latched_status_valid programmed modulus mode_of access_of is_bcd levels time_at mul_for shift_for rtc_at_power_on with_time
+cpus_17 : fault (set example 10 17) ≡ Some (record { place = 10; kind = Field })
+unfolding example fault
 cpus_17 = refl
 
-khz_low : fault_of (set example 14 0) ≡ Some (record { place = 12; kind = Field })
-unfolding example number_at fault_in fault_below places_below counter_in timer_in line_in processor_in anchor_in pit_in rtc_in hpet_in lines_in rises_in processors_in board_in head_rows clock_rows hpet_rows line_fault rises_rows wall_rows counter_fault timer_fault processor_fault trailing_fault fault_of bits_valid flags_valid cr_valid ce_valid part_valid read_order_valid latched_count_valid latched_status_valid programmed modulus mode_of access_of is_bcd levels time_at mul_for shift_for rtc_at_power_on with_time
+khz_low : fault (set example 14 0) ≡ Some (record { place = 12; kind = Field })
+unfolding example fault
 khz_low = refl
 
-base_range : fault_of (set example 35 8) ≡ Some (record { place = 28; kind = Field })
-unfolding example number_at fault_in fault_below places_below counter_in timer_in line_in processor_in anchor_in pit_in rtc_in hpet_in lines_in rises_in processors_in board_in head_rows clock_rows hpet_rows line_fault rises_rows wall_rows counter_fault timer_fault processor_fault trailing_fault fault_of bits_valid flags_valid cr_valid ce_valid part_valid read_order_valid latched_count_valid latched_status_valid programmed modulus mode_of access_of is_bcd levels time_at mul_for shift_for rtc_at_power_on with_time
+base_range : fault (set example 35 8) ≡ Some (record { place = 28; kind = Field })
+unfolding example fault
 base_range = refl
 
-host_range : fault_of (set example 43 8) ≡ Some (record { place = 36; kind = Field })
-unfolding example number_at fault_in fault_below places_below counter_in timer_in line_in processor_in anchor_in pit_in rtc_in hpet_in lines_in rises_in processors_in board_in head_rows clock_rows hpet_rows line_fault rises_rows wall_rows counter_fault timer_fault processor_fault trailing_fault fault_of bits_valid flags_valid cr_valid ce_valid part_valid read_order_valid latched_count_valid latched_status_valid programmed modulus mode_of access_of is_bcd levels time_at mul_for shift_for rtc_at_power_on with_time
+host_range : fault (set example 43 8) ≡ Some (record { place = 36; kind = Field })
+unfolding example fault
 host_range = refl
 
-guest_high : fault_of (set example 47 1) ≡ Some (record { place = 44; kind = Field })
-unfolding example number_at fault_in fault_below places_below counter_in timer_in line_in processor_in anchor_in pit_in rtc_in hpet_in lines_in rises_in processors_in board_in head_rows clock_rows hpet_rows line_fault rises_rows wall_rows counter_fault timer_fault processor_fault trailing_fault fault_of bits_valid flags_valid cr_valid ce_valid part_valid read_order_valid latched_count_valid latched_status_valid programmed modulus mode_of access_of is_bcd levels time_at mul_for shift_for rtc_at_power_on with_time
+guest_high : fault (set example 47 1) ≡ Some (record { place = 44; kind = Field })
+unfolding example fault
 guest_high = refl
 
-accesses_high : fault_of (set example 59 128) ≡ Some (record { place = 52; kind = Field })
-unfolding example number_at fault_in fault_below places_below counter_in timer_in line_in processor_in anchor_in pit_in rtc_in hpet_in lines_in rises_in processors_in board_in head_rows clock_rows hpet_rows line_fault rises_rows wall_rows counter_fault timer_fault processor_fault trailing_fault fault_of bits_valid flags_valid cr_valid ce_valid part_valid read_order_valid latched_count_valid latched_status_valid programmed modulus mode_of access_of is_bcd levels time_at mul_for shift_for rtc_at_power_on with_time
+accesses_high : fault (set example 59 128) ≡ Some (record { place = 52; kind = Field })
+unfolding example fault
 accesses_high = refl
 
-slew_high : fault_of (set example 71 0x40) ≡ Some (record { place = 68; kind = Field })
-unfolding example number_at fault_in fault_below places_below counter_in timer_in line_in processor_in anchor_in pit_in rtc_in hpet_in lines_in rises_in processors_in board_in head_rows clock_rows hpet_rows line_fault rises_rows wall_rows counter_fault timer_fault processor_fault trailing_fault fault_of bits_valid flags_valid cr_valid ce_valid part_valid read_order_valid latched_count_valid latched_status_valid programmed modulus mode_of access_of is_bcd levels time_at mul_for shift_for rtc_at_power_on with_time
+slew_high : fault (set example 71 0x40) ≡ Some (record { place = 68; kind = Field })
+unfolding example fault
 slew_high = refl
 
-policy_pit : fault_of (set example 76 3) ≡ Some (record { place = 76; kind = Field })
-unfolding example number_at fault_in fault_below places_below counter_in timer_in line_in processor_in anchor_in pit_in rtc_in hpet_in lines_in rises_in processors_in board_in head_rows clock_rows hpet_rows line_fault rises_rows wall_rows counter_fault timer_fault processor_fault trailing_fault fault_of bits_valid flags_valid cr_valid ce_valid part_valid read_order_valid latched_count_valid latched_status_valid programmed modulus mode_of access_of is_bcd levels time_at mul_for shift_for rtc_at_power_on with_time
+policy_pit : fault (set example 76 3) ≡ Some (record { place = 76; kind = Field })
+unfolding example fault
 policy_pit = refl
 
-policy_rtc : fault_of (set example 77 3) ≡ Some (record { place = 77; kind = Field })
-unfolding example number_at fault_in fault_below places_below counter_in timer_in line_in processor_in anchor_in pit_in rtc_in hpet_in lines_in rises_in processors_in board_in head_rows clock_rows hpet_rows line_fault rises_rows wall_rows counter_fault timer_fault processor_fault trailing_fault fault_of bits_valid flags_valid cr_valid ce_valid part_valid read_order_valid latched_count_valid latched_status_valid programmed modulus mode_of access_of is_bcd levels time_at mul_for shift_for rtc_at_power_on with_time
+policy_rtc : fault (set example 77 3) ≡ Some (record { place = 77; kind = Field })
+unfolding example fault
 policy_rtc = refl
 
-policy_hpet : fault_of (set example 78 3) ≡ Some (record { place = 78; kind = Field })
-unfolding example number_at fault_in fault_below places_below counter_in timer_in line_in processor_in anchor_in pit_in rtc_in hpet_in lines_in rises_in processors_in board_in head_rows clock_rows hpet_rows line_fault rises_rows wall_rows counter_fault timer_fault processor_fault trailing_fault fault_of bits_valid flags_valid cr_valid ce_valid part_valid read_order_valid latched_count_valid latched_status_valid programmed modulus mode_of access_of is_bcd levels time_at mul_for shift_for rtc_at_power_on with_time
+policy_hpet : fault (set example 78 3) ≡ Some (record { place = 78; kind = Field })
+unfolding example fault
 policy_hpet = refl
 
-counter_bits : fault_of (set example 79 64) ≡ Some (record { place = 79; kind = Field })
-unfolding example number_at fault_in fault_below places_below counter_in timer_in line_in processor_in anchor_in pit_in rtc_in hpet_in lines_in rises_in processors_in board_in head_rows clock_rows hpet_rows line_fault rises_rows wall_rows counter_fault timer_fault processor_fault trailing_fault fault_of bits_valid flags_valid cr_valid ce_valid part_valid read_order_valid latched_count_valid latched_status_valid programmed modulus mode_of access_of is_bcd levels time_at mul_for shift_for rtc_at_power_on with_time
+counter_bits : fault (set example 79 64) ≡ Some (record { place = 79; kind = Field })
+unfolding example fault
 counter_bits = refl
 
-counter_bcd_no_access : fault_of (set example 79 6) ≡ Some (record { place = 79; kind = Field })
-unfolding example number_at fault_in fault_below places_below counter_in timer_in line_in processor_in anchor_in pit_in rtc_in hpet_in lines_in rises_in processors_in board_in head_rows clock_rows hpet_rows line_fault rises_rows wall_rows counter_fault timer_fault processor_fault trailing_fault fault_of bits_valid flags_valid cr_valid ce_valid part_valid read_order_valid latched_count_valid latched_status_valid programmed modulus mode_of access_of is_bcd levels time_at mul_for shift_for rtc_at_power_on with_time
+counter_bcd_no_access : fault (set example 79 6) ≡ Some (record { place = 79; kind = Field })
+unfolding example fault
 counter_bcd_no_access = refl
 
-counter_flags_gate : fault_of (set example 80 3) ≡ Some (record { place = 80; kind = Field })
-unfolding example number_at fault_in fault_below places_below counter_in timer_in line_in processor_in anchor_in pit_in rtc_in hpet_in lines_in rises_in processors_in board_in head_rows clock_rows hpet_rows line_fault rises_rows wall_rows counter_fault timer_fault processor_fault trailing_fault fault_of bits_valid flags_valid cr_valid ce_valid part_valid read_order_valid latched_count_valid latched_status_valid programmed modulus mode_of access_of is_bcd levels time_at mul_for shift_for rtc_at_power_on with_time
+counter_flags_gate : fault (set example 80 3) ≡ Some (record { place = 80; kind = Field })
+unfolding example fault
 counter_flags_gate = refl
 
-counter_second_gate : fault_of (set example 94 3) ≡ Some (record { place = 94; kind = Field })
-unfolding example number_at fault_in fault_below places_below counter_in timer_in line_in processor_in anchor_in pit_in rtc_in hpet_in lines_in rises_in processors_in board_in head_rows clock_rows hpet_rows line_fault rises_rows wall_rows counter_fault timer_fault processor_fault trailing_fault fault_of bits_valid flags_valid cr_valid ce_valid part_valid read_order_valid latched_count_valid latched_status_valid programmed modulus mode_of access_of is_bcd levels time_at mul_for shift_for rtc_at_power_on with_time
+counter_second_gate : fault (set example 94 3) ≡ Some (record { place = 94; kind = Field })
+unfolding example fault
 counter_second_gate = refl
 
-counter_cr : fault_of (set example 81 1) ≡ Some (record { place = 81; kind = Field })
-unfolding example number_at fault_in fault_below places_below counter_in timer_in line_in processor_in anchor_in pit_in rtc_in hpet_in lines_in rises_in processors_in board_in head_rows clock_rows hpet_rows line_fault rises_rows wall_rows counter_fault timer_fault processor_fault trailing_fault fault_of bits_valid flags_valid cr_valid ce_valid part_valid read_order_valid latched_count_valid latched_status_valid programmed modulus mode_of access_of is_bcd levels time_at mul_for shift_for rtc_at_power_on with_time
+counter_cr : fault (set example 81 1) ≡ Some (record { place = 81; kind = Field })
+unfolding example fault
 counter_cr = refl
 
-counter_ce : fault_of (set example 83 1) ≡ Some (record { place = 83; kind = Field })
-unfolding example number_at fault_in fault_below places_below counter_in timer_in line_in processor_in anchor_in pit_in rtc_in hpet_in lines_in rises_in processors_in board_in head_rows clock_rows hpet_rows line_fault rises_rows wall_rows counter_fault timer_fault processor_fault trailing_fault fault_of bits_valid flags_valid cr_valid ce_valid part_valid read_order_valid latched_count_valid latched_status_valid programmed modulus mode_of access_of is_bcd levels time_at mul_for shift_for rtc_at_power_on with_time
+counter_ce : fault (set example 83 1) ≡ Some (record { place = 83; kind = Field })
+unfolding example fault
 counter_ce = refl
 
-counter_part_flag : fault_of (set example 85 2) ≡ Some (record { place = 85; kind = Field })
-unfolding example number_at fault_in fault_below places_below counter_in timer_in line_in processor_in anchor_in pit_in rtc_in hpet_in lines_in rises_in processors_in board_in head_rows clock_rows hpet_rows line_fault rises_rows wall_rows counter_fault timer_fault processor_fault trailing_fault fault_of bits_valid flags_valid cr_valid ce_valid part_valid read_order_valid latched_count_valid latched_status_valid programmed modulus mode_of access_of is_bcd levels time_at mul_for shift_for rtc_at_power_on with_time
+counter_part_flag : fault (set example 85 2) ≡ Some (record { place = 85; kind = Field })
+unfolding example fault
 counter_part_flag = refl
 
-counter_part_byte : fault_of (set example 86 1) ≡ Some (record { place = 85; kind = Field })
-unfolding example number_at fault_in fault_below places_below counter_in timer_in line_in processor_in anchor_in pit_in rtc_in hpet_in lines_in rises_in processors_in board_in head_rows clock_rows hpet_rows line_fault rises_rows wall_rows counter_fault timer_fault processor_fault trailing_fault fault_of bits_valid flags_valid cr_valid ce_valid part_valid read_order_valid latched_count_valid latched_status_valid programmed modulus mode_of access_of is_bcd levels time_at mul_for shift_for rtc_at_power_on with_time
+counter_part_byte : fault (set example 86 1) ≡ Some (record { place = 85; kind = Field })
+unfolding example fault
 counter_part_byte = refl
 
-counter_read_order : fault_of (set example 87 2) ≡ Some (record { place = 87; kind = Field })
-unfolding example number_at fault_in fault_below places_below counter_in timer_in line_in processor_in anchor_in pit_in rtc_in hpet_in lines_in rises_in processors_in board_in head_rows clock_rows hpet_rows line_fault rises_rows wall_rows counter_fault timer_fault processor_fault trailing_fault fault_of bits_valid flags_valid cr_valid ce_valid part_valid read_order_valid latched_count_valid latched_status_valid programmed modulus mode_of access_of is_bcd levels time_at mul_for shift_for rtc_at_power_on with_time
+counter_read_order : fault (set example 87 2) ≡ Some (record { place = 87; kind = Field })
+unfolding example fault
 counter_read_order = refl
 
-counter_latched_count : fault_of (set example 89 1) ≡ Some (record { place = 88; kind = Field })
-unfolding example number_at fault_in fault_below places_below counter_in timer_in line_in processor_in anchor_in pit_in rtc_in hpet_in lines_in rises_in processors_in board_in head_rows clock_rows hpet_rows line_fault rises_rows wall_rows counter_fault timer_fault processor_fault trailing_fault fault_of bits_valid flags_valid cr_valid ce_valid part_valid read_order_valid latched_count_valid latched_status_valid programmed modulus mode_of access_of is_bcd levels time_at mul_for shift_for rtc_at_power_on with_time
+counter_latched_count : fault (set example 89 1) ≡ Some (record { place = 88; kind = Field })
+unfolding example fault
 counter_latched_count = refl
 
-counter_latched_status : fault_of (set example 92 1) ≡ Some (record { place = 91; kind = Field })
-unfolding example number_at fault_in fault_below places_below counter_in timer_in line_in processor_in anchor_in pit_in rtc_in hpet_in lines_in rises_in processors_in board_in head_rows clock_rows hpet_rows line_fault rises_rows wall_rows counter_fault timer_fault processor_fault trailing_fault fault_of bits_valid flags_valid cr_valid ce_valid part_valid read_order_valid latched_count_valid latched_status_valid programmed modulus mode_of access_of is_bcd levels time_at mul_for shift_for rtc_at_power_on with_time
+counter_latched_status : fault (set example 92 1) ≡ Some (record { place = 91; kind = Field })
+unfolding example fault
 counter_latched_status = refl
 
-speaker : fault_of (set example 121 2) ≡ Some (record { place = 121; kind = Field })
-unfolding example number_at fault_in fault_below places_below counter_in timer_in line_in processor_in anchor_in pit_in rtc_in hpet_in lines_in rises_in processors_in board_in head_rows clock_rows hpet_rows line_fault rises_rows wall_rows counter_fault timer_fault processor_fault trailing_fault fault_of bits_valid flags_valid cr_valid ce_valid part_valid read_order_valid latched_count_valid latched_status_valid programmed modulus mode_of access_of is_bcd levels time_at mul_for shift_for rtc_at_power_on with_time
+speaker : fault (set example 121 2) ≡ Some (record { place = 121; kind = Field })
+unfolding example fault
 speaker = refl
 
-clock_index : fault_of (set example 122 128) ≡ Some (record { place = 122; kind = Field })
-unfolding example number_at fault_in fault_below places_below counter_in timer_in line_in processor_in anchor_in pit_in rtc_in hpet_in lines_in rises_in processors_in board_in head_rows clock_rows hpet_rows line_fault rises_rows wall_rows counter_fault timer_fault processor_fault trailing_fault fault_of bits_valid flags_valid cr_valid ce_valid part_valid read_order_valid latched_count_valid latched_status_valid programmed modulus mode_of access_of is_bcd levels time_at mul_for shift_for rtc_at_power_on with_time
+clock_index : fault (set example 122 128) ≡ Some (record { place = 122; kind = Field })
+unfolding example fault
 clock_index = refl
 
-clock_register_a : fault_of (set example 133 166) ≡ Some (record { place = 123; kind = Field })
-unfolding example number_at fault_in fault_below places_below counter_in timer_in line_in processor_in anchor_in pit_in rtc_in hpet_in lines_in rises_in processors_in board_in head_rows clock_rows hpet_rows line_fault rises_rows wall_rows counter_fault timer_fault processor_fault trailing_fault fault_of bits_valid flags_valid cr_valid ce_valid part_valid read_order_valid latched_count_valid latched_status_valid programmed modulus mode_of access_of is_bcd levels time_at mul_for shift_for rtc_at_power_on with_time
+clock_register_a : fault (set example 133 166) ≡ Some (record { place = 123; kind = Field })
+unfolding example fault
 clock_register_a = refl
 
-clock_register_c : fault_of (set example 135 1) ≡ Some (record { place = 123; kind = Field })
-unfolding example number_at fault_in fault_below places_below counter_in timer_in line_in processor_in anchor_in pit_in rtc_in hpet_in lines_in rises_in processors_in board_in head_rows clock_rows hpet_rows line_fault rises_rows wall_rows counter_fault timer_fault processor_fault trailing_fault fault_of bits_valid flags_valid cr_valid ce_valid part_valid read_order_valid latched_count_valid latched_status_valid programmed modulus mode_of access_of is_bcd levels time_at mul_for shift_for rtc_at_power_on with_time
+clock_register_c : fault (set example 135 1) ≡ Some (record { place = 123; kind = Field })
+unfolding example fault
 clock_register_c = refl
 
-clock_register_d : fault_of (set example 136 0) ≡ Some (record { place = 123; kind = Field })
-unfolding example number_at fault_in fault_below places_below counter_in timer_in line_in processor_in anchor_in pit_in rtc_in hpet_in lines_in rises_in processors_in board_in head_rows clock_rows hpet_rows line_fault rises_rows wall_rows counter_fault timer_fault processor_fault trailing_fault fault_of bits_valid flags_valid cr_valid ce_valid part_valid read_order_valid latched_count_valid latched_status_valid programmed modulus mode_of access_of is_bcd levels time_at mul_for shift_for rtc_at_power_on with_time
+clock_register_d : fault (set example 136 0) ≡ Some (record { place = 123; kind = Field })
+unfolding example fault
 clock_register_d = refl
 
-divider : fault_of (set example 252 128) ≡ Some (record { place = 251; kind = Field })
-unfolding example number_at fault_in fault_below places_below counter_in timer_in line_in processor_in anchor_in pit_in rtc_in hpet_in lines_in rises_in processors_in board_in head_rows clock_rows hpet_rows line_fault rises_rows wall_rows counter_fault timer_fault processor_fault trailing_fault fault_of bits_valid flags_valid cr_valid ce_valid part_valid read_order_valid latched_count_valid latched_status_valid programmed modulus mode_of access_of is_bcd levels time_at mul_for shift_for rtc_at_power_on with_time
+divider : fault (set example 252 128) ≡ Some (record { place = 251; kind = Field })
+unfolding example fault
 divider = refl
 
-cycle_flag : fault_of (set example 253 2) ≡ Some (record { place = 253; kind = Field })
-unfolding example number_at fault_in fault_below places_below counter_in timer_in line_in processor_in anchor_in pit_in rtc_in hpet_in lines_in rises_in processors_in board_in head_rows clock_rows hpet_rows line_fault rises_rows wall_rows counter_fault timer_fault processor_fault trailing_fault fault_of bits_valid flags_valid cr_valid ce_valid part_valid read_order_valid latched_count_valid latched_status_valid programmed modulus mode_of access_of is_bcd levels time_at mul_for shift_for rtc_at_power_on with_time
+cycle_flag : fault (set example 253 2) ≡ Some (record { place = 253; kind = Field })
+unfolding example fault
 cycle_flag = refl
 
-cycle_early : fault_of (set example 253 1) ≡ Some (record { place = 253; kind = Field })
-unfolding example number_at fault_in fault_below places_below counter_in timer_in line_in processor_in anchor_in pit_in rtc_in hpet_in lines_in rises_in processors_in board_in head_rows clock_rows hpet_rows line_fault rises_rows wall_rows counter_fault timer_fault processor_fault trailing_fault fault_of bits_valid flags_valid cr_valid ce_valid part_valid read_order_valid latched_count_valid latched_status_valid programmed modulus mode_of access_of is_bcd levels time_at mul_for shift_for rtc_at_power_on with_time
+cycle_early : fault (set example 253 1) ≡ Some (record { place = 253; kind = Field })
+unfolding example fault
 cycle_early = refl
 
-hpet_config : fault_of (set example 254 4) ≡ Some (record { place = 254; kind = Field })
-unfolding example number_at fault_in fault_below places_below counter_in timer_in line_in processor_in anchor_in pit_in rtc_in hpet_in lines_in rises_in processors_in board_in head_rows clock_rows hpet_rows line_fault rises_rows wall_rows counter_fault timer_fault processor_fault trailing_fault fault_of bits_valid flags_valid cr_valid ce_valid part_valid read_order_valid latched_count_valid latched_status_valid programmed modulus mode_of access_of is_bcd levels time_at mul_for shift_for rtc_at_power_on with_time
+hpet_config : fault (set example 254 4) ≡ Some (record { place = 254; kind = Field })
+unfolding example fault
 hpet_config = refl
 
-hpet_status : fault_of (set example 255 8) ≡ Some (record { place = 255; kind = Field })
-unfolding example number_at fault_in fault_below places_below counter_in timer_in line_in processor_in anchor_in pit_in rtc_in hpet_in lines_in rises_in processors_in board_in head_rows clock_rows hpet_rows line_fault rises_rows wall_rows counter_fault timer_fault processor_fault trailing_fault fault_of bits_valid flags_valid cr_valid ce_valid part_valid read_order_valid latched_count_valid latched_status_valid programmed modulus mode_of access_of is_bcd levels time_at mul_for shift_for rtc_at_power_on with_time
+hpet_status : fault (set example 255 8) ≡ Some (record { place = 255; kind = Field })
+unfolding example fault
 hpet_status = refl
 
-timer_config : fault_of (set example 264 1) ≡ Some (record { place = 264; kind = Field })
-unfolding example number_at fault_in fault_below places_below counter_in timer_in line_in processor_in anchor_in pit_in rtc_in hpet_in lines_in rises_in processors_in board_in head_rows clock_rows hpet_rows line_fault rises_rows wall_rows counter_fault timer_fault processor_fault trailing_fault fault_of bits_valid flags_valid cr_valid ce_valid part_valid read_order_valid latched_count_valid latched_status_valid programmed modulus mode_of access_of is_bcd levels time_at mul_for shift_for rtc_at_power_on with_time
+timer_config : fault (set example 264 1) ≡ Some (record { place = 264; kind = Field })
+unfolding example fault
 timer_config = refl
 
-timer_route : fault_of (set example 265 38) ≡ Some (record { place = 264; kind = Field })
-unfolding example number_at fault_in fault_below places_below counter_in timer_in line_in processor_in anchor_in pit_in rtc_in hpet_in lines_in rises_in processors_in board_in head_rows clock_rows hpet_rows line_fault rises_rows wall_rows counter_fault timer_fault processor_fault trailing_fault fault_of bits_valid flags_valid cr_valid ce_valid part_valid read_order_valid latched_count_valid latched_status_valid programmed modulus mode_of access_of is_bcd levels time_at mul_for shift_for rtc_at_power_on with_time
+timer_route : fault (set example 265 38) ≡ Some (record { place = 264; kind = Field })
+unfolding example fault
 timer_route = refl
 
-second_timer_config : fault_of (set example 282 1) ≡ Some (record { place = 282; kind = Field })
-unfolding example number_at fault_in fault_below places_below counter_in timer_in line_in processor_in anchor_in pit_in rtc_in hpet_in lines_in rises_in processors_in board_in head_rows clock_rows hpet_rows line_fault rises_rows wall_rows counter_fault timer_fault processor_fault trailing_fault fault_of bits_valid flags_valid cr_valid ce_valid part_valid read_order_valid latched_count_valid latched_status_valid programmed modulus mode_of access_of is_bcd levels time_at mul_for shift_for rtc_at_power_on with_time
+second_timer_config : fault (set example 282 1) ≡ Some (record { place = 282; kind = Field })
+unfolding example fault
 second_timer_config = refl
 
-line_up : fault_of (set example 318 2) ≡ Some (record { place = 318; kind = Field })
-unfolding example number_at fault_in fault_below places_below counter_in timer_in line_in processor_in anchor_in pit_in rtc_in hpet_in lines_in rises_in processors_in board_in head_rows clock_rows hpet_rows line_fault rises_rows wall_rows counter_fault timer_fault processor_fault trailing_fault fault_of bits_valid flags_valid cr_valid ce_valid part_valid read_order_valid latched_count_valid latched_status_valid programmed modulus mode_of access_of is_bcd levels time_at mul_for shift_for rtc_at_power_on with_time
+line_up : fault (set example 318 2) ≡ Some (record { place = 318; kind = Field })
+unfolding example fault
 line_up = refl
 
-line_due : fault_of (set example 319 2) ≡ Some (record { place = 319; kind = Field })
-unfolding example number_at fault_in fault_below places_below counter_in timer_in line_in processor_in anchor_in pit_in rtc_in hpet_in lines_in rises_in processors_in board_in head_rows clock_rows hpet_rows line_fault rises_rows wall_rows counter_fault timer_fault processor_fault trailing_fault fault_of bits_valid flags_valid cr_valid ce_valid part_valid read_order_valid latched_count_valid latched_status_valid programmed modulus mode_of access_of is_bcd levels time_at mul_for shift_for rtc_at_power_on with_time
+line_due : fault (set example 319 2) ≡ Some (record { place = 319; kind = Field })
+unfolding example fault
 line_due = refl
 
-line_lost : fault_of (set example 343 1) ≡ Some (record { place = 343; kind = Field })
-unfolding example number_at fault_in fault_below places_below counter_in timer_in line_in processor_in anchor_in pit_in rtc_in hpet_in lines_in rises_in processors_in board_in head_rows clock_rows hpet_rows line_fault rises_rows wall_rows counter_fault timer_fault processor_fault trailing_fault fault_of bits_valid flags_valid cr_valid ce_valid part_valid read_order_valid latched_count_valid latched_status_valid programmed modulus mode_of access_of is_bcd levels time_at mul_for shift_for rtc_at_power_on with_time
+line_lost : fault (set example 343 1) ≡ Some (record { place = 343; kind = Field })
+unfolding example fault
 line_lost = refl
 
-line_sum : fault_of (set example 327 1) ≡ Some (record { place = 343; kind = Field })
-unfolding example number_at fault_in fault_below places_below counter_in timer_in line_in processor_in anchor_in pit_in rtc_in hpet_in lines_in rises_in processors_in board_in head_rows clock_rows hpet_rows line_fault rises_rows wall_rows counter_fault timer_fault processor_fault trailing_fault fault_of bits_valid flags_valid cr_valid ce_valid part_valid read_order_valid latched_count_valid latched_status_valid programmed modulus mode_of access_of is_bcd levels time_at mul_for shift_for rtc_at_power_on with_time
+line_sum : fault (set example 327 1) ≡ Some (record { place = 343; kind = Field })
+unfolding example fault
 line_sum = refl
 
-clock_line_up : fault_of (set example 351 1) ≡ Some (record { place = 351; kind = Field })
-unfolding example number_at fault_in fault_below places_below counter_in timer_in line_in processor_in anchor_in pit_in rtc_in hpet_in lines_in rises_in processors_in board_in head_rows clock_rows hpet_rows line_fault rises_rows wall_rows counter_fault timer_fault processor_fault trailing_fault fault_of bits_valid flags_valid cr_valid ce_valid part_valid read_order_valid latched_count_valid latched_status_valid programmed modulus mode_of access_of is_bcd levels time_at mul_for shift_for rtc_at_power_on with_time
+clock_line_up : fault (set example 351 1) ≡ Some (record { place = 351; kind = Field })
+unfolding example fault
 clock_line_up = refl
 
-wall_version_odd : fault_of (set example 491 1) ≡ Some (record { place = 491; kind = Field })
-unfolding example number_at fault_in fault_below places_below counter_in timer_in line_in processor_in anchor_in pit_in rtc_in hpet_in lines_in rises_in processors_in board_in head_rows clock_rows hpet_rows line_fault rises_rows wall_rows counter_fault timer_fault processor_fault trailing_fault fault_of bits_valid flags_valid cr_valid ce_valid part_valid read_order_valid latched_count_valid latched_status_valid programmed modulus mode_of access_of is_bcd levels time_at mul_for shift_for rtc_at_power_on with_time
+wall_version_odd : fault (set example 491 1) ≡ Some (record { place = 491; kind = Field })
+unfolding example fault
 wall_version_odd = refl
 
-wall_number : fault_of (set example 483 1) ≡ Some (record { place = 491; kind = Field })
-unfolding example number_at fault_in fault_below places_below counter_in timer_in line_in processor_in anchor_in pit_in rtc_in hpet_in lines_in rises_in processors_in board_in head_rows clock_rows hpet_rows line_fault rises_rows wall_rows counter_fault timer_fault processor_fault trailing_fault fault_of bits_valid flags_valid cr_valid ce_valid part_valid read_order_valid latched_count_valid latched_status_valid programmed modulus mode_of access_of is_bcd levels time_at mul_for shift_for rtc_at_power_on with_time
+wall_number : fault (set example 483 1) ≡ Some (record { place = 491; kind = Field })
+unfolding example fault
 wall_number = refl
 
-wall_nsec : fault_of (set example 502 64) ≡ Some (record { place = 499; kind = Field })
-unfolding example number_at fault_in fault_below places_below counter_in timer_in line_in processor_in anchor_in pit_in rtc_in hpet_in lines_in rises_in processors_in board_in head_rows clock_rows hpet_rows line_fault rises_rows wall_rows counter_fault timer_fault processor_fault trailing_fault fault_of bits_valid flags_valid cr_valid ce_valid part_valid read_order_valid latched_count_valid latched_status_valid programmed modulus mode_of access_of is_bcd levels time_at mul_for shift_for rtc_at_power_on with_time
+wall_nsec : fault (set example 502 64) ≡ Some (record { place = 499; kind = Field })
+unfolding example fault
 wall_nsec = refl
 
-processor_offset : fault_of (set example 503 1) ≡ Some (record { place = 527; kind = Field })
-unfolding example number_at fault_in fault_below places_below counter_in timer_in line_in processor_in anchor_in pit_in rtc_in hpet_in lines_in rises_in processors_in board_in head_rows clock_rows hpet_rows line_fault rises_rows wall_rows counter_fault timer_fault processor_fault trailing_fault fault_of bits_valid flags_valid cr_valid ce_valid part_valid read_order_valid latched_count_valid latched_status_valid programmed modulus mode_of access_of is_bcd levels time_at mul_for shift_for rtc_at_power_on with_time
+processor_offset : fault (set example 503 1) ≡ Some (record { place = 527; kind = Field })
+unfolding example fault
 processor_offset = refl
 
-processor_version_odd : fault_of (set example 527 1) ≡ Some (record { place = 527; kind = Field })
-unfolding example number_at fault_in fault_below places_below counter_in timer_in line_in processor_in anchor_in pit_in rtc_in hpet_in lines_in rises_in processors_in board_in head_rows clock_rows hpet_rows line_fault rises_rows wall_rows counter_fault timer_fault processor_fault trailing_fault fault_of bits_valid flags_valid cr_valid ce_valid part_valid read_order_valid latched_count_valid latched_status_valid programmed modulus mode_of access_of is_bcd levels time_at mul_for shift_for rtc_at_power_on with_time
+processor_version_odd : fault (set example 527 1) ≡ Some (record { place = 527; kind = Field })
+unfolding example fault
 processor_version_odd = refl
 
-processor_tsc : fault_of (set example 531 1) ≡ Some (record { place = 531; kind = Field })
-unfolding example number_at fault_in fault_below places_below counter_in timer_in line_in processor_in anchor_in pit_in rtc_in hpet_in lines_in rises_in processors_in board_in head_rows clock_rows hpet_rows line_fault rises_rows wall_rows counter_fault timer_fault processor_fault trailing_fault fault_of bits_valid flags_valid cr_valid ce_valid part_valid read_order_valid latched_count_valid latched_status_valid programmed modulus mode_of access_of is_bcd levels time_at mul_for shift_for rtc_at_power_on with_time
+processor_tsc : fault (set example 531 1) ≡ Some (record { place = 531; kind = Field })
+unfolding example fault
 processor_tsc = refl
 
-processor_time : fault_of (set example 539 1) ≡ Some (record { place = 539; kind = Field })
-unfolding example number_at fault_in fault_below places_below counter_in timer_in line_in processor_in anchor_in pit_in rtc_in hpet_in lines_in rises_in processors_in board_in head_rows clock_rows hpet_rows line_fault rises_rows wall_rows counter_fault timer_fault processor_fault trailing_fault fault_of bits_valid flags_valid cr_valid ce_valid part_valid read_order_valid latched_count_valid latched_status_valid programmed modulus mode_of access_of is_bcd levels time_at mul_for shift_for rtc_at_power_on with_time
+processor_time : fault (set example 539 1) ≡ Some (record { place = 539; kind = Field })
+unfolding example fault
 processor_time = refl
 
-processor_mul : fault_of (set example 547 1) ≡ Some (record { place = 547; kind = Field })
-unfolding example number_at fault_in fault_below places_below counter_in timer_in line_in processor_in anchor_in pit_in rtc_in hpet_in lines_in rises_in processors_in board_in head_rows clock_rows hpet_rows line_fault rises_rows wall_rows counter_fault timer_fault processor_fault trailing_fault fault_of bits_valid flags_valid cr_valid ce_valid part_valid read_order_valid latched_count_valid latched_status_valid programmed modulus mode_of access_of is_bcd levels time_at mul_for shift_for rtc_at_power_on with_time
+processor_mul : fault (set example 547 1) ≡ Some (record { place = 547; kind = Field })
+unfolding example fault
 processor_mul = refl
 
-processor_shift : fault_of (set example 551 1) ≡ Some (record { place = 551; kind = Field })
-unfolding example number_at fault_in fault_below places_below counter_in timer_in line_in processor_in anchor_in pit_in rtc_in hpet_in lines_in rises_in processors_in board_in head_rows clock_rows hpet_rows line_fault rises_rows wall_rows counter_fault timer_fault processor_fault trailing_fault fault_of bits_valid flags_valid cr_valid ce_valid part_valid read_order_valid latched_count_valid latched_status_valid programmed modulus mode_of access_of is_bcd levels time_at mul_for shift_for rtc_at_power_on with_time
+processor_shift : fault (set example 551 1) ≡ Some (record { place = 551; kind = Field })
+unfolding example fault
 processor_shift = refl
 
-processor_flags : fault_of (set example 552 1) ≡ Some (record { place = 552; kind = Field })
-unfolding example number_at fault_in fault_below places_below counter_in timer_in line_in processor_in anchor_in pit_in rtc_in hpet_in lines_in rises_in processors_in board_in head_rows clock_rows hpet_rows line_fault rises_rows wall_rows counter_fault timer_fault processor_fault trailing_fault fault_of bits_valid flags_valid cr_valid ce_valid part_valid read_order_valid latched_count_valid latched_status_valid programmed modulus mode_of access_of is_bcd levels time_at mul_for shift_for rtc_at_power_on with_time
+processor_flags : fault (set example 552 1) ≡ Some (record { place = 552; kind = Field })
+unfolding example fault
 processor_flags = refl

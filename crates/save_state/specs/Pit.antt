@@ -13,7 +13,15 @@ use Rattle.pit_counter.specs.Parts.{
   latched_status_valid,
 }
 use Rattle.save_state.specs.declared.table.Row.{Row}
-use Rattle.save_state.specs.Fields.{byte_at, number_at, flag_at, flag_valid, flag_byte, field, number_bytes}
+use Rattle.save_state.specs.Fields.{
+  byte_at,
+  number_at,
+  flag_at,
+  flag_valid,
+  flag_byte,
+  field,
+  number_bytes,
+}
 
 -- the counter whose first byte is at a place
 unfoldable pub counter_in : ℕ → List ℕ → CounterParts

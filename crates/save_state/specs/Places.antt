@@ -1,4 +1,5 @@
--- Where the blocks of a saved state begin; the format and the number of processors stand at 8 and 10.
+-- Where the blocks of a saved state begin; the format and the number of processors stand at 8 and
+-- 10.
 use Rattle.std.specs.Prelude.{ℕ, ◌+◌, ◌*◌, nat_le, if◌then◌else◌, List}
 use Rattle.board_types.specs.Setup.{timers_of}
 use Rattle.save_state.specs.Fields.{number_at}

@@ -39,7 +39,15 @@ use Rattle.board_core.specs.Time.{devices_in, now_of}
 use Rattle.save_state.specs.declared.fault.StateFault.{StateFault}
 use Rattle.save_state.specs.declared.fault.StateKind.TheVariants.{Magic, Version, Trailing}
 use Rattle.save_state.specs.declared.table.Row.{Row}
-use Rattle.save_state.specs.Fields.{byte_at, number_at, flag_valid, field, fault_in, or_else, fault_below}
+use Rattle.save_state.specs.Fields.{
+  byte_at,
+  number_at,
+  flag_valid,
+  field,
+  fault_in,
+  or_else,
+  fault_below,
+}
 use Rattle.save_state.specs.Pit.{counter_rows}
 use Rattle.save_state.specs.Hpet.{timer_rows}
 use Rattle.save_state.specs.Ticks.{line_rows}
@@ -76,9 +84,9 @@ host_valid bytes =
     nat_le (number_at 8 20 bytes) (number_at 8 36 bytes)
     && nat_lt (time_at (anchor_in bytes) (number_at 8 36 bytes)) RANGE_NS
 
--- from place 0: magic, version, number of processors, the anchor's rate, count and time, the greatest
--- count, the guest's rate, the number of accesses, the greatest reading, the nanoseconds between
--- catch-up points, the policies of the 8254, the MC146818 and the HPET
+-- from place 0: magic, version, number of processors, the anchor's rate, count and time, the
+-- greatest count, the guest's rate, the number of accesses, the greatest reading, the nanoseconds
+-- between catch-up points, the policies of the 8254, the MC146818 and the HPET
 unfoldable pub head_rows : List ℕ → List Row
 head_rows bytes =
     record { size = 8; valid = number_at 8 0 bytes == magic; kind = Magic }
@@ -130,7 +138,8 @@ abbrev pub up_allowed : BoardParts → ℕ → Bool → Bool
 up_allowed b k up =
     if k == 1 then same up (counts_rtc (devices_in b) && pf_of b.rtc) else true
 
--- the first fault of tick line k: at most as many ticks are due as there were nanoseconds and accesses
+-- the first fault of tick line k: as many ticks are due, at most, as there were nanoseconds and
+-- accesses
 unfoldable pub line_fault : List ℕ → ℕ → Option StateFault
 line_fault bytes k =
     fault_in bytes (line_place (format_in bytes) k)
@@ -156,8 +165,8 @@ rises_rows bytes =
     ∷ []
     else []
 
--- the wall clock: the number of its words, which is 0 before they are published first; their version,
--- which is even; its seconds and nanoseconds at power on
+-- the wall clock: the number of its words, which is 0 before they are published first; their
+-- version, which is even; its seconds and nanoseconds at power on
 unfoldable pub wall_rows : List ℕ → List Row
 wall_rows bytes =
     let b : BoardParts = board_in bytes in

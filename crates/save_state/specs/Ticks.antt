@@ -19,7 +19,8 @@ line_in policy place bytes = record {
   };
 }
 
--- the rows of a tick line: up, which may be only where `allowed`; due, at most `most`; rises; queue;
+-- the rows of a tick line: up, which may be only where `allowed`; due, at most `most`; rises;
+-- queue;
 -- lost, with the sum
 abbrev pub line_rows : (Bool → Bool) → ℕ → Policy → ℕ → List ℕ → List Row
 line_rows allowed most policy place bytes =

@@ -1,14 +1,19 @@
 //! The first fault of each block.
-ghost use Rattle.std.specs.Prelude.{◌≡◌, ◌<◌, ◌&&◌, ◌||◌, nat_le};
-ghost use Rattle.save_state.specs.Table.{counter_fault, timer_fault};
-ghost use Rattle.save_state.specs.private.Failing.{counter_row, timer_row, failing_counter_rows, failing_timer_rows};
+ghost use Rattle.std.specs.Prelude.{◌≡◌, ◌<◌, ◌≤◌, ◌&&◌, ◌||◌, nat_le};
+ghost use Rattle.save_state.specs.Fields.{fault_in};
+ghost use Rattle.save_state.specs.Places.{format_in, cpus_in, wall_place};
+ghost use Rattle.save_state.specs.Reading.{rtc_in};
+ghost use Rattle.save_state.specs.Table.{counter_fault, timer_fault, clock_rows, hpet_rows, wall_rows, trailing_fault};
+ghost use Rattle.save_state.specs.private.Failing.{counter_row, timer_row, clock_row, failing_counter_rows, failing_timer_rows, failing_clock_rows};
 
-use crate::fault::StateFault;
-use crate::numbers::flag_valid;
+use crate::fault::{StateFault, StateKind};
+use crate::numbers::{byte_at, eight_at, flag_valid, four_at};
 use crate::pieces::{counter_in, timer_in};
 use crate::table::{Row, fault_in, field};
+use crate::whole::{processor_place, wall_place};
 use hpet_comparator::TimerField;
 use pit_counter::CounterField;
+use rtc_registers::{Rtc, RtcField, RtcParts};
 
 /// The first fault of counter `k`.
 #[tactic(auto, unfolding(crate::specs::Table::counter_fault))]
@@ -112,4 +117,107 @@ fn timer_rows(failing: u8) -> [Row; 3]
         field(8, 1 < failing),
         field(8, 2 < failing),
     ]
+}
+
+/// Whether one of the two holds.
+fn either(a: bool, b: bool) -> bool
+    ensures { result ≡ (a || b) }
+{
+    a || b
+}
+
+/// The first fault of the HPET's configuration, status and main counter.
+#[tactic(auto, unfolding(crate::specs::Table::hpet_rows))]
+pub(crate) fn hpet_fault(bytes: &[u8], format: u8) -> Option<StateFault>
+    requires { format ≡ format_in bytes.now }
+    ensures { result ≡ fault_in bytes.now 254 (hpet_rows bytes.now) }
+{
+    let config = byte_at(bytes, 254) <= 3;
+    let status = either(format >= 2, byte_at(bytes, 255) <= 7);
+    fault_in(
+        bytes,
+        254,
+        &[field(1, config), field(1, status), field(8, true)],
+    )
+}
+
+/// Bytes behind the last field.
+#[tactic(auto, unfolding(crate::specs::Table::trailing_fault))]
+pub(crate) fn trailing_fault(bytes: &[u8], format: u8, cpus: u8) -> Option<StateFault>
+    requires format { format ≡ format_in bytes.now }
+    requires built { format ≤ 2 }
+    requires cpus { cpus ≡ cpus_in bytes.now }
+    requires most { cpus ≤ 64 }
+    ensures { result ≡ trailing_fault bytes.now }
+{
+    let wanted = processor_place(format, cpus);
+    if wanted < bytes.len() {
+        Some(StateFault {
+            place: wanted as u64,
+            kind: StateKind::Trailing,
+        })
+    } else {
+        None
+    }
+}
+
+/// The first fault of speaker data and of the MC146818.
+#[tactic(auto, unfolding(crate::specs::Table::clock_rows))]
+pub(crate) fn clock_fault(bytes: &[u8], r: &RtcParts) -> Option<StateFault>
+    requires { r.now ≡ rtc_in bytes.now }
+    ensures { result ≡ fault_in bytes.now 121 (clock_rows bytes.now) }
+{
+    let failing = clock_row(Rtc::first_fault(r));
+    let rows = clock_rows(failing, flag_valid(bytes, 121), flag_valid(bytes, 253));
+    fault_in(bytes, 121, &rows)
+}
+
+/// Which row of the MC146818 fails first, 4 where none does.
+fn clock_row(fault: Option<RtcField>) -> u8
+    ensures { result ≡ clock_row fault }
+{
+    match fault {
+        Some(RtcField::Index) => 0,
+        Some(RtcField::Bytes) => 1,
+        Some(RtcField::Divider) => 2,
+        Some(RtcField::Cycle) => 3,
+        None => 4,
+    }
+}
+
+/// The rows of speaker data and of the MC146818, by the first that fails, and by the bytes of two flags.
+fn clock_rows(failing: u8, speaker: bool, cycle: bool) -> [Row; 5]
+    ensures { result ≡ failing_clock_rows failing speaker cycle }
+{
+    [
+        field(1, speaker),
+        field(1, 0 < failing),
+        field(128, 1 < failing),
+        field(2, 2 < failing),
+        field(1, both(cycle, 3 < failing)),
+    ]
+}
+
+/// The first fault of the wall clock.
+#[tactic(auto, unfolding(crate::specs::Table::wall_rows, crate::specs::Reading::board_in))]
+pub(crate) fn wall_fault(bytes: &[u8], format: u8) -> Option<StateFault>
+    requires format { format ≡ format_in bytes.now }
+    requires built { format ≤ 2 }
+    ensures { result ≡ fault_in bytes.now (wall_place (format_in bytes.now)) (wall_rows bytes.now) }
+{
+    let place = wall_place(format);
+    let version = four_at(bytes, place + 8);
+    let known = either(0 < version, eight_at(bytes, place) == 0);
+    let even = both(version % 2 == 0, known);
+    let nsec = four_at(bytes, place + 16) < 1_000_000_000;
+    fault_in(
+        bytes,
+        place,
+        &[
+            field(8, true),
+            field(4, even),
+            field(4, true),
+            field(4, nsec),
+        ],
+    )
 }

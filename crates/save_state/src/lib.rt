@@ -17,3 +17,6 @@ mod whole;
 
 pub use encoding::encode;
 pub use fault::{StateFault, StateKind};
+
+#[cfg(test)]
+mod tests;

@@ -1,5 +1,18 @@
 -- The rows of a block by the first that fails, as the leaf crates tell it.
-use Rattle.std.specs.Prelude.{ℕ, nat_lt, Bool, false, ◌&&◌, List, [], ◌∷◌, slice_index_or, Option, Some, None}
+use Rattle.std.specs.Prelude.{
+  ℕ,
+  nat_lt,
+  Bool,
+  false,
+  ◌&&◌,
+  List,
+  [],
+  ◌∷◌,
+  slice_index_or,
+  Option,
+  Some,
+  None,
+}
 use Rattle.pit_counter.specs.declared.parts.CounterField.{CounterField}
 use Rattle.pit_counter.specs.declared.parts.CounterField.TheVariants.{
   ProgrammedBits,
@@ -13,6 +26,8 @@ use Rattle.pit_counter.specs.declared.parts.CounterField.TheVariants.{
 }
 use Rattle.hpet_comparator.specs.declared.parts.TimerField.{TimerField}
 use Rattle.hpet_comparator.specs.declared.parts.TimerField.TheVariants.{Config, Comparator, Period}
+use Rattle.rtc_registers.specs.declared.parts.RtcField.{RtcField}
+use Rattle.rtc_registers.specs.declared.parts.RtcField.TheVariants.{Index, Bytes, Divider, Cycle}
 use Rattle.save_state.specs.declared.table.Row.{Row}
 use Rattle.save_state.specs.Fields.{field}
 
@@ -52,3 +67,21 @@ timer_row (Some Period) = 2
 abbrev pub failing_timer_rows : ℕ → List Row
 failing_timer_rows m =
     field 2 (nat_lt 0 m) ∷ field 8 (nat_lt 1 m) ∷ field 8 (nat_lt 2 m) ∷ []
+
+-- the number of the row of a field of the MC146818, 4 where none fails
+abbrev pub clock_row : Option RtcField → ℕ
+clock_row None = 4
+clock_row (Some Index) = 0
+clock_row (Some Bytes) = 1
+clock_row (Some Divider) = 2
+clock_row (Some Cycle) = 3
+
+-- the rows of speaker data and of the MC146818, with the validity of two bytes of flags
+abbrev pub failing_clock_rows : ℕ → Bool → Bool → List Row
+failing_clock_rows m speaker cycle =
+    field 1 speaker
+    ∷ field 1 (nat_lt 0 m)
+    ∷ field 128 (nat_lt 1 m)
+    ∷ field 2 (nat_lt 2 m)
+    ∷ field 1 (cycle && nat_lt 3 m)
+    ∷ []
