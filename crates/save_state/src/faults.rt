@@ -1,16 +1,20 @@
 //! The first fault of each block.
-ghost use Rattle.std.specs.Prelude.{◌≡◌, ◌<◌, ◌≤◌, ◌&&◌, ◌||◌, nat_le};
-ghost use Rattle.save_state.specs.Fields.{fault_in};
+ghost use Rattle.std.specs.Prelude.{◌≡◌, ◌<◌, ◌*◌, ◌≤◌, ◌&&◌, ◌||◌, nat_le};
+ghost use Rattle.save_state.specs.Fields.{number_at, fault_in};
 ghost use Rattle.save_state.specs.Places.{format_in, cpus_in, wall_place};
+ghost use Rattle.pvclock_page.specs.Scale.{mul_for, shift_for};
+ghost use Rattle.save_state.specs.Processors.{version_valid, page_valid};
 ghost use Rattle.save_state.specs.Reading.{rtc_in};
-ghost use Rattle.save_state.specs.Table.{counter_fault, timer_fault, clock_rows, hpet_rows, wall_rows, trailing_fault};
+ghost use Rattle.save_state.specs.Table.{counter_fault, timer_fault, clock_rows, hpet_rows, wall_rows, processor_fault, trailing_fault};
 ghost use Rattle.save_state.specs.private.Failing.{counter_row, timer_row, clock_row, failing_counter_rows, failing_timer_rows, failing_clock_rows};
 
 use crate::fault::{StateFault, StateKind};
 use crate::numbers::{byte_at, eight_at, flag_valid, four_at};
-use crate::pieces::{counter_in, timer_in};
+use crate::pieces::{counter_in, processor_in, timer_in};
 use crate::table::{Row, fault_in, field};
 use crate::whole::{processor_place, wall_place};
+use board_core::ProcessorParts;
+use clk_units::RANGE_NS;
 use hpet_comparator::TimerField;
 use pit_counter::CounterField;
 use rtc_registers::{Rtc, RtcField, RtcParts};
@@ -220,4 +224,61 @@ pub(crate) fn wall_fault(bytes: &[u8], format: u8) -> Option<StateFault>
             field(4, nsec),
         ],
     )
+}
+
+/// The first fault of processor `k`, by the scale of the guest's rate.
+#[tactic(auto, unfolding(crate::specs::Table::processor_fault))]
+pub(crate) fn processor_fault(
+    bytes: &[u8],
+    format: u8,
+    k: u8,
+    mul: u32,
+    shift: i8,
+) -> Option<StateFault>
+    requires format { format ≡ format_in bytes.now }
+    requires built { format ≤ 2 }
+    requires k { k < 64 }
+    requires mul { mul ≡ mul_for (number_at 8 44 bytes.now * 1000) }
+    requires shift { shift ≡ shift_for (number_at 8 44 bytes.now * 1000) }
+    ensures { result ≡ processor_fault bytes.now k }
+{
+    let place = processor_place(format, k);
+    let p = processor_in(bytes, place);
+    let shift_byte = byte_at(bytes, place + 48);
+    let rows = [
+        field(8, true),
+        field(8, true),
+        field(8, true),
+        field(4, version_valid(&p)),
+        field(8, page_valid(&p, p.tsc_timestamp, true)),
+        field(8, page_valid(&p, p.system_time, p.system_time < RANGE_NS)),
+        field(4, page_valid(&p, u64::from(p.mul), p.mul == mul)),
+        field(
+            1,
+            page_valid(
+                &p,
+                u64::from(shift_byte),
+                shift_byte == shift.cast_unsigned(),
+            ),
+        ),
+        field(
+            1,
+            page_valid(&p, u64::from(p.flags), either(p.flags == 1, p.flags == 3)),
+        ),
+    ];
+    fault_in(bytes, place, &rows)
+}
+
+/// Whether the version is even, and before the first publishing 0 with what stands before it.
+fn version_valid(p: &ProcessorParts) -> bool
+    ensures { result ≡ version_valid p.now }
+{
+    p.version % 2 == 0 && (0 < p.version || (p.offset == 0 && p.adjust == 0 && p.number == 0))
+}
+
+/// Whether a field behind the version is 0 before the first publishing, and then as it has to be.
+fn page_valid(p: &ProcessorParts, value: u64, valid: bool) -> bool
+    ensures { result ≡ page_valid p.now value valid }
+{
+    if p.version == 0 { value == 0 } else { valid }
 }

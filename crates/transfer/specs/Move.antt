@@ -1,4 +1,4 @@
--- A board moved to another host (own, after Linux's "Live migration" of a guest's TSC and kvmclock).
+-- A board moved to another host (own, after what KVM's users do with a guest's TSC and kvmclock).
 use Rattle.std.specs.Prelude.{
   ℕ,
   zero,
@@ -56,8 +56,8 @@ published_below b khz start gap (suc n) moved =
     published_at_host n (tsc_moved b khz start gap n) 3
     (published_below b khz start gap n moved)
 
--- the board moved: it runs gap nanoseconds, count `start` of the new host's counter has the new time,
--- and each processor goes on. All else is kept, the greatest reading and TSC_ADJUST among it
+-- the board moved: it runs gap nanoseconds, count `start` of the new host's counter has the new
+-- time, and each processor goes on. All else is kept, the greatest reading and TSC_ADJUST among it
 unfoldable pub moved_to : ℕ → ℕ → ℕ → BoardParts → BoardParts
 moved_to khz start gap b =
     published_below b khz start gap b.cpus (reanchored khz start gap b)

@@ -26,7 +26,8 @@ pub fn moved(state: &BoardState, khz: u64, start: u64, gap: u64) -> Result<Moved
     ensures refused { IfErr result (λ e. move_fault gap state.now ≡ Some e) }
     ensures taken { OnOk result (move_fault gap state.now ≡ None) }
     ensures state { IfOk result (λ m. m.state ≡ moved_to khz start gap state.now) }
-    ensures edges { IfOk result (λ m. m.edges ≡ (run (now_of state.now) gap (devices_in state.now)).edges) }
+    ensures edges { IfOk result (λ m. m.edges
+        ≡ (run (now_of state.now) gap (devices_in state.now)).edges) }
     ensures few { IfOk result (λ m. length m.edges ≤ 6) }
 {
     let from = state.parts();
