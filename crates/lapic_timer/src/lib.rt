@@ -2,7 +2,7 @@
 //! "TSC-Deadline Mode"): one-shot, periodic, and by a deadline of the processor's TSC.
 //!
 //! The timer's clock is one count a nanosecond (own), which the divide configuration slows down. A
-//! fire isn't yet an interrupt: whoever keeps the timer looks at `is_masked` and `vector`.
+//! fire isn't yet an interrupt: whoever keeps the timer asks for its `ticks` and its `vector`.
 //!
 //! ```text
 //! let mut timer = ApicTimer::power_on();

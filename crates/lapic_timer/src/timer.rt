@@ -2,7 +2,7 @@
 
 ghost use Rattle.std.specs.Prelude.{◌≡◌, ◌≢◌, ℕ, ◌*◌, ◌<◌, ◌≤◌, ◌↔◌, IsSome, IfSome, true};
 ghost use Rattle.clk_units.specs.Events.{IsFirst};
-ghost use Rattle.lapic_timer.specs.Parts.{IsApicTimer, apic_at_power_on, is_masked, vector_of};
+ghost use Rattle.lapic_timer.specs.Parts.{IsApicTimer, apic_at_power_on, is_masked, ticks_of, vector_of};
 ghost use Rattle.lapic_timer.specs.Parts.{mode_of, divisor};
 ghost use Rattle.lapic_timer.specs.Registers.{lvt_written, divide_written, initial_written};
 ghost use Rattle.lapic_timer.specs.Registers.{deadline_written};
@@ -98,6 +98,14 @@ impl ApicTimer {
         ensures { result ≡ is_masked self.now }
     {
         self.parts.is_masked()
+    }
+
+    /// The ticks of the processor's tick line that so many fires make: a masked fire is none.
+    pub fn ticks(&self, fires: u64) -> u64
+        ensures value { result ≡ ticks_of self.now fires }
+        ensures masked { is_masked self.now ≡ true → result ≡ 0 }
+    {
+        if self.is_masked() { 0 } else { fires }
     }
 
     /// The divide configuration register.
