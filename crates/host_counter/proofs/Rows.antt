@@ -1,5 +1,6 @@
 -- Small rows that pin the definitions of a time and of a fault.
-use Rattle.std.proofs.Common.{◌≡◌, refl, arith}
+use Rattle.std.proofs.Common.{◌≡◌, ◌-◌, refl, arith}
+use Rattle.clk_units.specs.declared.ranges.TheConstants.{RANGE_NS}
 use Rattle.host_counter.specs.declared.Anchor.{Anchor}
 use Rattle.host_counter.specs.declared.TimeFault.TheVariants.{BeforeStart, OutOfRange}
 use Rattle.host_counter.specs.Time.{time_at, set_anew, IsTimeAt, IsFaultAt, IsJustBehind}
@@ -29,19 +30,19 @@ lost_at_a_new_anchor : time_at (set_anew (record { khz = 10000000; start = 500; 
 unfolding time_at
 lost_at_a_new_anchor = refl
 
--- 2^59 - 1 is in range, 2^59 is not
-last_time : IsTimeAt plain 576460752303423487 576460752303423487
+-- the last time in range, and the first past it
+last_time : IsTimeAt plain (RANGE_NS - 1) (RANGE_NS - 1)
 unfolding time_at
 last_time = record { started = omega arith; value = refl; in_range = omega arith }
 
-past_the_range : IsTimeAt plain 576460752303423488 576460752303423488 → ⊥
+past_the_range : IsTimeAt plain RANGE_NS RANGE_NS → ⊥
 past_the_range time = omega (arith, time.in_range)
 
-first_time_past_the_range : IsFaultAt plain 576460752303423488 (OutOfRange 576460752303423488)
+first_time_past_the_range : IsFaultAt plain RANGE_NS (OutOfRange RANGE_NS)
 unfolding time_at
 first_time_past_the_range = (omega arith, omega arith, refl)
 
-no_fault_in_range : IsFaultAt plain 576460752303423487 (OutOfRange 576460752303423487) → ⊥
+no_fault_in_range : IsFaultAt plain (RANGE_NS - 1) (OutOfRange (RANGE_NS - 1)) → ⊥
 no_fault_in_range fault = omega (arith, fault.1)
 
 before_the_start : IsFaultAt later 499 (BeforeStart 500)

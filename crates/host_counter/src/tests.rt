@@ -1,7 +1,7 @@
 ghost use Rattle.std.specs.Prelude.{◌≡◌};
 
 use crate::*;
-use clk_units::{KHZ_MAX, KHZ_MIN};
+use clk_units::{KHZ_MAX, KHZ_MIN, RANGE_NS};
 
 fn anchor(khz: u64, start: u64, base_ns: u64) -> Anchor
     ensures rate { result.khz ≡ khz }
@@ -27,14 +27,11 @@ fn times_at_both_ends_of_the_rate(rt: HostRuntime) {
 #[test]
 fn counts_without_a_time(rt: HostRuntime) {
     let plain = anchor(1_000_000, 0, 0);
+    assert_eq!(rt; plain.time(RANGE_NS - 1), Ok(RANGE_NS - 1));
     assert_eq!(rt;
-        plain.time(576_460_752_303_423_487),
-        Ok(576_460_752_303_423_487)
-    );
-    assert_eq!(rt;
-        plain.time(576_460_752_303_423_488),
+        plain.time(RANGE_NS),
         Err(TimeFault::OutOfRange {
-            ns: 576_460_752_303_423_488
+            ns: RANGE_NS as u128
         })
     );
     let late = anchor(KHZ_MIN, 1, u64::MAX);

@@ -8,6 +8,7 @@ use Rattle.std.proofs.Common.{
   ◌-◌,
   ◌^◌,
   ◌<◌,
+  ◌≤◌,
   Bool,
   true,
   false,
@@ -15,9 +16,12 @@ use Rattle.std.proofs.Common.{
   Option,
   Some,
   None,
+  refl,
+  sym,
   ap,
   ◌∙◌,
   arith,
+  subst,
 }
 use Rattle.std.specs.Option.{IfSome}
 use Rattle.clk_units.specs.Events.{IsFirst}
@@ -65,3 +69,26 @@ pub IsCounter-pulsed_times : (c : CounterParts) (n : ℕ) → IsCounter c → Is
 unfolding pulsed_times
 IsCounter-pulsed_times c zero h = h
 IsCounter-pulsed_times c (suc n) h = IsCounter-pulsed (pulsed_times n c) (IsCounter-pulsed_times c n h)
+
+-- ---- n pulses, of which the first m lead to d
+
+pub state_behind : (c d : CounterParts) (n m : ℕ) → m ≤ n → d ≡ pulsed_times m c → pulsed_times (n - m) d ≡ pulsed_times n c
+state_behind c d n m within e =
+    let place : m + (n - m) ≡ n = omega arith in
+    ap (pulsed_times (n - m)) e ∙ sym (pulsed_times-joined c m (n - m)) ∙ ap (λ (k : ℕ). pulsed_times k c) place
+
+pub rises_behind : (c d : CounterParts) (n m : ℕ) → m ≤ n → d ≡ pulsed_times m c → rises_in c n ≡ rises_in c m + rises_in d (n - m)
+rises_behind c d n m within e =
+    let place : n ≡ m + (n - m) = omega arith in
+    ap (rises_in c) place ∙ rises_in-joined c m (n - m) ∙ ap (λ (x : CounterParts). rises_in c m + rises_in x (n - m)) (sym e)
+
+pub first_behind : (c d : CounterParts) (n m : ℕ) (first later : Option ℕ) → m ≤ n → d ≡ pulsed_times m c → IsFirst (rises_in c) m first
+    → IsFirst (rises_in d) (n - m) later → IsFirst (rises_in c) n (joined_first first m later)
+first_behind c d n m first later within e f g =
+    let place : m + (n - m) ≡ n = omega arith in
+    subst (λ (k : ℕ). IsFirst (rises_in c) k (joined_first first m later)) place
+    (IsFirst-joined c m (n - m) first later f (subst (λ (x : CounterParts). IsFirst (rises_in x) (n - m) later) e g))
+
+pub joined_first-none : (first : Option ℕ) (m : ℕ) → joined_first first m None ≡ first
+joined_first-none (Some k) m = refl
+joined_first-none None m = refl

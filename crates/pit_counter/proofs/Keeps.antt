@@ -80,7 +80,7 @@ abbrev Valid : CounterParts → Type 0
 Valid c = (flags_valid c ≡ true) × (ce_valid c ≡ true) × (part_valid c ≡ true)
 
 -- a load is in range, and even in mode 3
-loaded_count-below : (bits cr : ℕ) → loaded_count bits cr < modulus bits
+pub loaded_count-below : (bits cr : ℕ) → loaded_count bits cr < modulus bits
 unfolding loaded_count modulus
 loaded_count-below bits cr = cond_both (is_bcd bits) 10000 65536 (λ m. (meant_count bits cr - cond (is_odd_square bits cr) 1 0) % m < m) (λ _. omega arith)
     (λ _. omega arith)

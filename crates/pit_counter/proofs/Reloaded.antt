@@ -30,7 +30,7 @@ use Rattle.std.proofs.Common.{
 }
 use Rattle.std.proofs.lemmas.Bool.{and_parts, cond_both, eqb-true, eqb-false, ne_eqb, eq-eqb}
 use Rattle.clk_units.specs.Events.{IsFirst}
-use Rattle.pit_counter.specs.Mode.{mode_of, is_bcd, is_periodic, is_square, has_strobe}
+use Rattle.pit_counter.specs.Mode.{mode_of, is_bcd, is_rate, is_periodic, is_square, has_strobe}
 use Rattle.pit_counter.specs.Count.{
   modulus,
   number_in,
@@ -41,7 +41,7 @@ use Rattle.pit_counter.specs.Count.{
 }
 use Rattle.pit_counter.specs.Table.{effect_in, affected, pulsed, pulsed_times, rises_next, rises_in}
 use Rattle.pit_counter.specs.private.Stretch.{quiet_for, height, glided_count, glided}
-use Rattle.pit_counter.specs.private.Stretch.{is_reloaded}
+use Rattle.pit_counter.specs.private.Stretch.{is_reloaded, is_dividing}
 use Rattle.pit_counter.specs.declared.mode.Mode.{Mode}
 use Rattle.pit_counter.specs.declared.mode.Mode.TheVariants.{
   TerminalCount,
@@ -62,6 +62,7 @@ use Rattle.pit_counter.proofs.Quiet.{
   pulsed_times-glided,
   rises_in-glided,
 }
+use Rattle.pit_counter.proofs.Keeps.{loaded_count-below}
 use Rattle.pit_counter.proofs.Times.{
   pulsed_times-zero,
   pulsed_times-suc,
@@ -151,15 +152,23 @@ one_more c d e n here none next rises test = (
 
 -- ---- mode 2
 
-begins-not : (c : CounterParts) → Reloaded c → ((c.full && not c.live) || c.trig) ≡ false
-begins-not c r = let live = r.live in let trig = r.trig in simp (live, trig) (by_full c.full)
+-- a pulse counts, and loads only at the end
+record Counting (c : CounterParts) : Type 0 where
+  begins : ((c.full && not c.live) || c.trig) ≡ false
+  counts : (c.live && c.gate) ≡ true
+
+Counting-from : (c : CounterParts) → c.gate ≡ true → c.live ≡ true → c.trig ≡ false → Counting c
+Counting-from c gate live trig = record {
+  begins = simp (live, trig) (by_full c.full);
+  counts = simp (live, gate);
+}
   where
     by_full : (b : Bool) → ((b && false) || false) ≡ false
     by_full true = refl
     by_full false = refl
 
-counts : (c : CounterParts) → Reloaded c → (c.live && c.gate) ≡ true
-counts c r = let live = r.live in let gate = r.gate in simp (live, gate)
+Counting-reloaded : (c : CounterParts) → Reloaded c → Counting c
+Counting-reloaded c r = Counting-from c r.gate r.live r.trig
 
 -- the height of the count that a load leaves
 height-loaded : (c : CounterParts) (n : ℕ) → c.ce ≡ n % modulus c.bits → 2 ≤ n → n ≤ modulus c.bits → height c ≡ n
@@ -176,21 +185,21 @@ two : (c : CounterParts) (x y : ℕ) (o p : Bool) → x ≡ y → o ≡ p → re
 two c x y o p e f = ap (λ (z : ℕ). record c { ce = z; out = o }) e ∙ ap (λ (q : Bool). record c { ce = y; out = q }) f
 
 -- the effect of a pulse at another count and level
-effect-rate : (c : CounterParts) (x : ℕ) (o : Bool) → Reloaded c → mode_of c.bits ≡ RateGenerator
+effect-rate : (c : CounterParts) (x : ℕ) (o : Bool) → Counting c → mode_of c.bits ≡ RateGenerator
     → effect_in (mode_of c.bits) (record c { ce = x; out = o }) ≡ rate_effect false true (eqb x 1) o
 unfolding effect_in
-effect-rate c x o r m =
+effect-rate c x o k m =
     ap (λ (n : Mode). effect_in n (record c { ce = x; out = o })) m
-    ∙ ap (λ (b : Bool). rate_effect b (c.live && c.gate) (eqb x 1) o) (begins-not c r)
-    ∙ ap (λ (b : Bool). rate_effect false b (eqb x 1) o) (counts c r)
+    ∙ ap (λ (b : Bool). rate_effect b (c.live && c.gate) (eqb x 1) o) k.begins
+    ∙ ap (λ (b : Bool). rate_effect false b (eqb x 1) o) k.counts
 
 effect-square : (c : CounterParts) (x : ℕ) (o : Bool) → Reloaded c → mode_of c.bits ≡ SquareWave
     → effect_in (mode_of c.bits) (record c { ce = x; out = o }) ≡ square_effect false true o c.odd (eqb x 0) (eqb x 2)
 unfolding effect_in
 effect-square c x o r m =
     ap (λ (n : Mode). effect_in n (record c { ce = x; out = o })) m
-    ∙ ap (λ (b : Bool). square_effect b (c.live && c.gate) o c.odd (eqb x 0) (eqb x 2)) (begins-not c r)
-    ∙ ap (λ (b : Bool). square_effect false b o c.odd (eqb x 0) (eqb x 2)) (counts c r)
+    ∙ ap (λ (b : Bool). square_effect b (c.live && c.gate) o c.odd (eqb x 0) (eqb x 2)) (Counting-reloaded c r).begins
+    ∙ ap (λ (b : Bool). square_effect false b o c.odd (eqb x 0) (eqb x 2)) (Counting-reloaded c r).counts
 
 -- a height of 2 is a count of 2
 low-height : (c : CounterParts) → height c ≡ 2 → c.ce ≡ 2
@@ -210,12 +219,12 @@ unfolding height
 count-not c low some h = ne_eqb c.ce low (not_low c.ce (modulus c.bits) low some h)
 
 -- down to 2
-to_two : (c : CounterParts) (q : ℕ) → Reloaded c → mode_of c.bits ≡ RateGenerator → c.ce < modulus c.bits → height c ≡ suc (suc q)
+to_two : (c : CounterParts) (q : ℕ) → Counting c → mode_of c.bits ≡ RateGenerator → c.ce < modulus c.bits → height c ≡ suc (suc q)
     → (pulsed_times q c ≡ record c { ce = 2 }) × (rises_in c q ≡ 0)
 unfolding quiet_for glided
-to_two c zero r m below h = (pulsed_times-zero c ∙ ap (λ (x : ℕ). record c { ce = x }) (low-height c h), rises_in-zero c)
-to_two c (suc q) r m below h =
-    let effect : next_effect c ≡ DownToLow = effect-rate c c.ce c.out r m
+to_two c zero k m below h = (pulsed_times-zero c ∙ ap (λ (x : ℕ). record c { ce = x }) (low-height c h), rises_in-zero c)
+to_two c (suc q) k m below h =
+    let effect : next_effect c ≡ DownToLow = effect-rate c c.ce c.out k m
     ∙ ap (λ (b : Bool). rate_effect false true b c.out) (count-not c 1 (omega arith) (omega (arith, h))) in
     let within : suc q ≤ quiet_for (next_effect c) c = subst (λ (e : Effect). suc q ≤ quiet_for e c) (sym effect) (omega (arith, h)) in
     let place : glided_count c.bits c.ce (suc q) ≡ height c - suc q = glided_count-height c (suc q) below (omega arith) (omega (arith, h)) in
@@ -229,22 +238,38 @@ low_at_one : (o : Bool) (x : ℕ) → x ≡ 1 → (o && not (eqb x 1)) ≡ false
 low_at_one true x e = ap not (eq-eqb x 1 e)
 low_at_one false x e = refl
 
+no_level : (b : Bool) → (b && false) ≡ false
+no_level true = refl
+no_level false = refl
+
+-- what is left of a period of mode 2: down to 1, and a load
+to_load : (c : CounterParts) (q : ℕ) → Counting c → mode_of c.bits ≡ RateGenerator → c.ce < modulus c.bits → height c ≡ suc (suc q)
+    → (pulsed_times (suc (suc q)) c ≡ affected (Load true) c) × (rises_in c (suc q) ≡ 0) × (rises_in c (suc (suc q)) ≡ 1)
+unfolding pulsed rises_next
+to_load c q k m below h =
+    let down = to_two c q k m below h in
+    let falls : pulsed (record c { ce = 2 }) ≡ record c { ce = 1; out = false } =
+    ap (λ (e : Effect). affected e (record c { ce = 2 })) (effect-rate c 2 c.out k m)
+    ∙ two c _ _ _ _ (lowered-two c.bits) (low_at_one c.out (lowered c.bits 2 1) (lowered-two c.bits)) in
+    let no_rise : rises_next (record c { ce = 2 }) ≡ false = ap (λ (d : CounterParts). not c.out && d.out) falls ∙ no_level (not c.out) in
+    let first = one_more c (record c { ce = 2 }) (record c { ce = 1; out = false }) q down.0 down.1 falls false no_rise in
+    let loads : pulsed (record c { ce = 1; out = false }) ≡ affected (Load true) c =
+    ap (λ (e : Effect). affected e (record c { ce = 1; out = false })) (effect-rate c 1 false k m) in
+    let rises : rises_next (record c { ce = 1; out = false }) ≡ true = ap (λ (d : CounterParts). d.out) loads in
+    let second = one_more c (record c { ce = 1; out = false }) (affected (Load true) c) (suc q) first.0 first.1 loads true rises in
+    (second.0, first.1, second.1)
+
 -- a period of mode 2
 round_2 : (c : CounterParts) (q : ℕ) → Reloaded c → mode_of c.bits ≡ RateGenerator → c.ce < modulus c.bits → height c ≡ suc (suc q) → Round c (suc (suc q))
-unfolding pulsed rises_next
 round_2 c q r m below h =
-    let down = to_two c q r m below h in
-    let falls : pulsed (record c { ce = 2 }) ≡ record c { ce = 1; out = false } =
-    ap (λ (e : Effect). affected e (record c { ce = 2 })) (effect-rate c 2 c.out r m)
-    ∙ two c _ _ _ _ (lowered-two c.bits) (low_at_one c.out (lowered c.bits 2 1) (lowered-two c.bits)) in
-    let no_rise : rises_next (record c { ce = 2 }) ≡ false = ap (λ (b : Bool). not b && (pulsed (record c { ce = 2 })).out) r.out in
-    let first = one_more c (record c { ce = 2 }) (record c { ce = 1; out = false }) q down.0 down.1 falls false no_rise in
-    let loads : pulsed (record c { ce = 1; out = false }) ≡ c =
-    ap (λ (e : Effect). affected e (record c { ce = 1; out = false })) (effect-rate c 1 false r m) ∙ reload-same c r (ap has_strobe m) in
-    let rises : rises_next (record c { ce = 1; out = false }) ≡ true = ap (λ (d : CounterParts). d.out) loads ∙ r.out in
-    let second = one_more c (record c { ce = 1; out = false }) c (suc q) first.0 first.1 loads true rises in
+    let all = to_load c q (Counting-reloaded c r) m below h in
     let place : suc (suc q) - 1 ≡ suc q = omega arith in
-    record { state = second.0; some = omega arith; quiet = ap (rises_in c) place ∙ first.1; rise = second.1 }
+    record {
+      state = all.0 ∙ reload-same c r (ap has_strobe m);
+      some = omega arith;
+      quiet = ap (rises_in c) place ∙ all.1;
+      rise = all.2;
+    }
 
 -- ---- mode 3
 
@@ -478,3 +503,75 @@ rises_many c n (suc q) r =
 pub first_many : (c : CounterParts) (n q : ℕ) → Round c n → 0 < q → IsFirst (rises_in c) (q * n) (Some n)
 first_many c n zero r h = absurd (omega arith)
 first_many c n (suc q) r h = (r.some, omega arith, r.quiet, omega (arith, r.rise))
+
+-- ---- mode 2 from any count on
+
+-- a load of mode 2 begins a period
+round_behind_load : (c : CounterParts) → c.gate ≡ true → mode_of c.bits ≡ RateGenerator → meant_count c.bits c.cr ≤ modulus c.bits
+    → Round (affected (Load true) c) (meant_count c.bits c.cr)
+round_behind_load c gate m few =
+    round_in_2 (affected (Load true) c)
+    (record { gate = gate; live = refl; out = refl; null = refl; trig = refl; armed = ap has_strobe m; ce = refl; odd = refl })
+    m (loaded_count-below c.bits c.cr) (meant_count-some c.bits c.cr (ap is_periodic m)) few
+
+rate-from : (m : Mode) → is_rate m ≡ true → m ≡ RateGenerator
+rate-from TerminalCount h = cc
+rate-from OneShot h = cc
+rate-from RateGenerator h = refl
+rate-from SquareWave h = cc
+rate-from SoftwareStrobe h = cc
+rate-from HardwareStrobe h = cc
+
+-- where the count isn't 1 there are two pulses at least
+height-two : (c : CounterParts) → eqb c.ce 1 ≡ false → 2 ≤ height c
+unfolding height modulus
+height-two c other = cond_both (eqb c.ce 0) (cond (is_bcd c.bits) 10000 65536) c.ce (λ x. 2 ≤ x)
+    (λ _. cond_both (is_bcd c.bits) 10000 65536 (λ x. 2 ≤ x) (λ _. lit≤ tt) (λ _. lit≤ tt))
+    (λ some. omega (arith, eqb-false c.ce 0 some, eqb-false c.ce 1 other))
+
+-- n pulses to a load, with one rise, at the last, and whole periods behind it
+pub record Ending (c : CounterParts) (n : ℕ) : Type 0 where
+  pub state : pulsed_times n c ≡ affected (Load true) c
+  pub some : 0 < n
+  pub quiet : rises_in c (n - 1) ≡ 0
+  pub rise : rises_in c n ≡ 1
+  pub later : Round (affected (Load true) c) (meant_count c.bits c.cr)
+
+pub ending : (c : CounterParts) → is_dividing c ≡ true → c.ce < modulus c.bits → meant_count c.bits c.cr ≤ modulus c.bits → Ending c (height c)
+unfolding is_dividing
+ending c h below few =
+    let a = and_parts _ _ h in
+    let b = and_parts _ _ a.0 in
+    let d = and_parts _ _ b.0 in
+    let e = and_parts _ _ d.0 in
+    let m = rate-from (mode_of c.bits) e.0 in
+    let tall = height-two c (not_from (eqb c.ce 1) a.1) in
+    let place : height c ≡ suc (suc (height c - 2)) = omega arith in
+    let before : height c - 1 ≡ suc (height c - 2) = omega arith in
+    let all = to_load c (height c - 2) (Counting-from c e.1 d.1 (not_from c.trig b.1)) m below place in
+    record {
+      state = ap (λ (n : ℕ). pulsed_times n c) place ∙ all.0;
+      some = omega arith;
+      quiet = ap (rises_in c) before ∙ all.1;
+      rise = ap (rises_in c) place ∙ all.2;
+      later = round_behind_load c e.1 m few;
+    }
+
+-- q whole periods behind what is left of one
+pub state_ending : (c : CounterParts) (n q : ℕ) → Ending c n → pulsed_times (n + q * meant_count c.bits c.cr) c ≡ affected (Load true) c
+state_ending c n q r =
+    pulsed_times-joined c n (q * meant_count c.bits c.cr) ∙ ap (pulsed_times (q * meant_count c.bits c.cr)) r.state
+    ∙ state_many (affected (Load true) c) (meant_count c.bits c.cr) q r.later
+
+pub rises_ending : (c : CounterParts) (n q : ℕ) → Ending c n → rises_in c (n + q * meant_count c.bits c.cr) ≡ 1 + q
+rises_ending c n q r =
+    rises_in-joined c n (q * meant_count c.bits c.cr)
+    ∙ omega (
+      arith,
+      r.rise,
+      ap (λ (d : CounterParts). rises_in d (q * meant_count c.bits c.cr)) r.state,
+      rises_many (affected (Load true) c) (meant_count c.bits c.cr) q r.later,
+    )
+
+pub first_ending : (c : CounterParts) (n q : ℕ) → Ending c n → IsFirst (rises_in c) (n + q * meant_count c.bits c.cr) (Some n)
+first_ending c n q r = (r.some, omega arith, r.quiet, omega (arith, r.rise))

@@ -28,6 +28,7 @@ ghost use Rattle.pit_counter.specs.private.Stretch.{
   glided_count,
   glided,
   is_reloaded,
+  is_dividing,
   joined_first,
 };
 
@@ -35,7 +36,7 @@ use crate::count::{is_odd_square, loaded_count, meant_count, modulus};
 use crate::mode::{is_bcd, mode_of};
 use crate::parts::CounterParts;
 use crate::rises::{NONE, Rises, joined, with_pulse};
-use crate::table::{Effect, has_risen, next_effect, pulsed};
+use crate::table::{Effect, has_risen, loaded, next_effect, pulsed};
 
 /// More pulses than are ever asked for.
 const FOREVER: u64 = u64::MAX;
@@ -153,6 +154,7 @@ fn glided(effect: Effect, n: u64, p: CounterParts) -> CounterParts
 }
 
 /// Takes `n` pulses if all of them are quiet, which most calls ask for. Answers whether they are.
+#[inline(always)]
 fn glide(p: &mut CounterParts, n: u64) -> bool
     requires { p.old.ce < modulus p.old.bits }
     ensures state { OnTrue result (p.new ≡ pulsed_times n p.old) }
@@ -200,6 +202,14 @@ fn is_reloaded(p: &CounterParts) -> bool
         && same(is_odd_square(p.bits, p.cr), p.odd)
 }
 
+/// Mode 2 counts with GATE high, on to the load behind a count of 1.
+#[tactic(auto, unfolding(crate::specs::private::Stretch::is_dividing))]
+fn is_dividing(p: &CounterParts) -> bool
+    ensures { result ≡ is_dividing p.now }
+{
+    mode_of(p.bits).is_rate() && p.gate && p.live && !p.trig && p.ce != 1
+}
+
 /// Whether two flags are the same.
 fn same(a: bool, b: bool) -> bool
     ensures { result ≡ (if a then b else not b) }
@@ -227,6 +237,31 @@ fn whole_periods(p: CounterParts, n: u64) -> Leap
         rises: Rises {
             count,
             first: Some(period),
+        },
+    }
+}
+
+/// In mode 2 takes what is left of a period, and as many whole ones as there are behind it in `n`
+/// pulses. Each ends with a load, and with a rise at its last pulse.
+fn rate_periods(p: CounterParts, n: u64) -> Leap
+    requires one { height p ≤ n }
+    requires below { p.ce < modulus p.bits }
+    requires counts { is_dividing p ≡ true }
+    ensures forward { 0 < result.pulses }
+    ensures within { result.pulses ≤ n }
+    ensures state { result.parts ≡ pulsed_times result.pulses p }
+    ensures count { result.rises.count ≡ rises_in p result.pulses }
+    ensures first { IsFirst (rises_in p) result.pulses result.rises.first }
+{
+    let left = height(&p);
+    let period = meant_count(p.bits, p.cr) as u64;
+    let whole = (n - left) / period;
+    Leap {
+        parts: loaded(true, p),
+        pulses: left + whole * period,
+        rises: Rises {
+            count: 1 + whole,
+            first: Some(left),
         },
     }
 }
@@ -262,7 +297,7 @@ fn next_leap(p: CounterParts, n: u64) -> Leap
     }
 }
 
-/// Takes `n` pulses, leap by leap. It stays out of the way of the calls that don't need it.
+/// Takes `n` pulses, leap by leap.
 #[cold]
 #[inline(never)]
 fn leaps(p: &mut CounterParts, n: u64) -> Rises
@@ -284,6 +319,28 @@ fn leaps(p: &mut CounterParts, n: u64) -> Rises
     rises
 }
 
+/// Takes `n` pulses that aren't all quiet. It stays out of the way of the calls that don't need it.
+#[cold]
+#[inline(never)]
+fn take_loud_pulses(p: &mut CounterParts, n: u64) -> Rises
+    requires { IsCounter p.old }
+    ensures state { p.new ≡ pulsed_times n p.old }
+    ensures count { result.count ≡ rises_in p.old n }
+    ensures first { IsFirst (rises_in p.old) n result.first }
+{
+    if !is_dividing(p) || height(p) > n {
+        return leaps(p, n);
+    }
+    let periods = rate_periods(*p, n);
+    *p = periods.parts;
+    let rest = n - periods.pulses;
+    if glide(p, rest) {
+        return periods.rises;
+    }
+    let later = leaps(p, rest);
+    joined(periods.rises, periods.pulses, later)
+}
+
 /// Takes `n` pulses.
 pub fn take_pulses(p: &mut CounterParts, n: u64) -> Rises
     requires { IsCounter p.old }
@@ -294,5 +351,5 @@ pub fn take_pulses(p: &mut CounterParts, n: u64) -> Rises
     if glide(p, n) {
         return NONE;
     }
-    leaps(p, n)
+    take_loud_pulses(p, n)
 }

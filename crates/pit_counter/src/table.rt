@@ -180,7 +180,7 @@ fn affected(effect: Effect, p: CounterParts) -> CounterParts
 }
 
 /// The counter after a load.
-fn loaded(level: bool, p: CounterParts) -> CounterParts
+pub fn loaded(level: bool, p: CounterParts) -> CounterParts
     ensures { result ≡ affected (Effect.Load level) p }
 {
     CounterParts {

@@ -25,265 +25,230 @@ fn trigger(counter: &mut Counter) {
 }
 
 /// Takes a pulse for each of these counts and levels, and compares them.
-fn expect(rt: &impl Abort, name: &str, counter: &mut Counter, want: &[(u16, bool)]) {
-    for row in want {
+fn expect<const N: usize>(
+    rt: &impl Abort,
+    name: &str,
+    counter: &mut Counter,
+    counts: [u16; N],
+    levels: [bool; N],
+) {
+    for (count, level) in counts.iter().zip(levels.iter()) {
         counter.pulses(1);
-        assert_eq!(rt; (counter.count(), counter.out()), *row, "{name}");
+        assert_eq!(rt;
+            (counter.count(), counter.out()),
+            (*count, *level),
+            "{name}"
+        );
     }
 }
 
-#[test]
-fn counts_and_levels_with_gate_high(rt: HostRuntime) {
-    let cases = [
-        (
-            "figure 15, mode 0",
-            0,
-            false,
-            4,
-            false,
-            [
-                (4, L),
-                (3, L),
-                (2, L),
-                (1, L),
-                (0, H),
-                (0xffff, H),
-                (0xfffe, H),
-            ],
-        ),
-        (
-            "mode 0 in BCD",
-            0,
-            true,
-            4,
-            false,
-            [
-                (4, L),
-                (3, L),
-                (2, L),
-                (1, L),
-                (0, H),
-                (0x9999, H),
-                (0x9998, H),
-            ],
-        ),
-        (
-            "figure 16, mode 1",
-            1,
-            false,
-            3,
-            true,
-            [
-                (3, L),
-                (2, L),
-                (1, L),
-                (0, H),
-                (0xffff, H),
-                (0xfffe, H),
-                (0xfffd, H),
-            ],
-        ),
-        (
-            "mode 1 in BCD",
-            1,
-            true,
-            3,
-            true,
-            [
-                (3, L),
-                (2, L),
-                (1, L),
-                (0, H),
-                (0x9999, H),
-                (0x9998, H),
-                (0x9997, H),
-            ],
-        ),
-        (
-            "figure 17, mode 2",
-            2,
-            false,
-            3,
-            false,
-            [(3, H), (2, H), (1, L), (3, H), (2, H), (1, L), (3, H)],
-        ),
-        (
-            "mode 2 in BCD",
-            6,
-            true,
-            0x11,
-            false,
-            [(0x11, H), (0x10, H), (9, H), (8, H), (7, H), (6, H), (5, H)],
-        ),
-        (
-            "figure 18, mode 3",
-            3,
-            false,
-            4,
-            false,
-            [(4, H), (2, H), (4, L), (2, L), (4, H), (2, H), (4, L)],
-        ),
-        (
-            "mode 3, odd",
-            7,
-            false,
-            5,
-            false,
-            [(4, H), (2, H), (0, H), (4, L), (2, L), (4, H), (2, H)],
-        ),
-        (
-            "mode 3 in BCD",
-            3,
-            true,
-            0x12,
-            false,
-            [
-                (0x12, H),
-                (0x10, H),
-                (8, H),
-                (6, H),
-                (4, H),
-                (2, H),
-                (0x12, L),
-            ],
-        ),
-        (
-            "figure 19, mode 4",
-            4,
-            false,
-            3,
-            false,
-            [
-                (3, H),
-                (2, H),
-                (1, H),
-                (0, L),
-                (0xffff, H),
-                (0xfffe, H),
-                (0xfffd, H),
-            ],
-        ),
-        (
-            "mode 4 in BCD",
-            4,
-            true,
-            3,
-            false,
-            [
-                (3, H),
-                (2, H),
-                (1, H),
-                (0, L),
-                (0x9999, H),
-                (0x9998, H),
-                (0x9997, H),
-            ],
-        ),
-        (
-            "figure 20, mode 5",
-            5,
-            false,
-            3,
-            true,
-            [
-                (3, H),
-                (2, H),
-                (1, H),
-                (0, L),
-                (0xffff, H),
-                (0xfffe, H),
-                (0xfffd, H),
-            ],
-        ),
-        (
-            "mode 5 in BCD",
-            5,
-            true,
-            3,
-            true,
-            [
-                (3, H),
-                (2, H),
-                (1, H),
-                (0, L),
-                (0x9999, H),
-                (0x9998, H),
-                (0x9997, H),
-            ],
-        ),
-    ];
-    for (name, mode, bcd, low, triggered, want) in cases {
-        let mut counter = programmed(mode, bcd, low);
-        if triggered {
-            trigger(&mut counter);
-        }
-        expect(&rt, name, &mut counter, &want);
-    }
+/// Takes two pulses; then GATE is low for two, which leave these counts, and high for three.
+fn expect_around_low_gate(
+    rt: &impl Abort,
+    name: &str,
+    counter: &mut Counter,
+    low: [u16; 2],
+    high: [u16; 3],
+    levels: [bool; 5],
+) {
+    let [first, second, third, fourth, fifth] = levels;
+    counter.pulses(2);
+    counter.gate(false);
+    expect(rt, name, counter, low, [first, second]);
+    counter.gate(true);
+    expect(rt, name, counter, high, [third, fourth, fifth]);
 }
 
 #[test]
-fn counts_and_levels_with_gate_low(rt: HostRuntime) {
-    let cases = [
-        (
-            "figure 15, mode 0",
-            0,
-            3,
-            false,
-            [(2, L), (2, L)],
-            [(1, L), (0, H), (0xffff, H)],
-        ),
-        (
-            "figure 16, mode 1",
-            1,
-            3,
-            true,
-            [(1, L), (0, H)],
-            [(3, L), (2, L), (1, L)],
-        ),
-        (
-            "figure 17, mode 2",
-            2,
-            3,
-            false,
-            [(2, H), (2, H)],
-            [(3, H), (2, H), (1, L)],
-        ),
-        (
-            "figure 18, mode 3",
-            3,
-            4,
-            false,
-            [(2, H), (2, H)],
-            [(4, H), (2, H), (4, L)],
-        ),
-        (
-            "figure 19, mode 4",
-            4,
-            3,
-            false,
-            [(2, H), (2, H)],
-            [(1, H), (0, L), (0xffff, H)],
-        ),
-        (
-            "figure 20, mode 5",
-            5,
-            3,
-            true,
-            [(1, H), (0, L)],
-            [(3, H), (2, H), (1, H)],
-        ),
-    ];
-    for (name, mode, low, triggered, with_low, with_high) in cases {
-        let mut counter = programmed(mode, false, low);
-        if triggered {
-            trigger(&mut counter);
-        }
-        counter.pulses(2);
-        counter.gate(false);
-        expect(&rt, name, &mut counter, &with_low);
-        counter.gate(true);
-        expect(&rt, name, &mut counter, &with_high);
-    }
+fn mode_0_ends_at_its_count(rt: HostRuntime) {
+    let mut counter = programmed(0, false, 4);
+    expect(
+        &rt,
+        "figure 15, mode 0",
+        &mut counter,
+        [4, 3, 2, 1, 0, 0xffff, 0xfffe],
+        [L, L, L, L, H, H, H],
+    );
+    let mut counter = programmed(0, true, 4);
+    expect(
+        &rt,
+        "mode 0 in BCD",
+        &mut counter,
+        [4, 3, 2, 1, 0, 0x9999, 0x9998],
+        [L, L, L, L, H, H, H],
+    );
+    let mut counter = programmed(0, false, 3);
+    expect_around_low_gate(
+        &rt,
+        "figure 15, mode 0, GATE low",
+        &mut counter,
+        [2, 2],
+        [1, 0, 0xffff],
+        [L, L, L, H, H],
+    );
+}
+
+#[test]
+fn mode_1_is_low_for_its_count(rt: HostRuntime) {
+    let mut counter = programmed(1, false, 3);
+    trigger(&mut counter);
+    expect(
+        &rt,
+        "figure 16, mode 1",
+        &mut counter,
+        [3, 2, 1, 0, 0xffff, 0xfffe, 0xfffd],
+        [L, L, L, H, H, H, H],
+    );
+    let mut counter = programmed(1, true, 3);
+    trigger(&mut counter);
+    expect(
+        &rt,
+        "mode 1 in BCD",
+        &mut counter,
+        [3, 2, 1, 0, 0x9999, 0x9998, 0x9997],
+        [L, L, L, H, H, H, H],
+    );
+    let mut counter = programmed(1, false, 3);
+    trigger(&mut counter);
+    expect_around_low_gate(
+        &rt,
+        "figure 16, mode 1, GATE low",
+        &mut counter,
+        [1, 0],
+        [3, 2, 1],
+        [L, H, L, L, L],
+    );
+}
+
+#[test]
+fn mode_2_divides_by_its_count(rt: HostRuntime) {
+    let mut counter = programmed(2, false, 3);
+    expect(
+        &rt,
+        "figure 17, mode 2",
+        &mut counter,
+        [3, 2, 1, 3, 2, 1, 3],
+        [H, H, L, H, H, L, H],
+    );
+    let mut counter = programmed(6, true, 0x11);
+    expect(
+        &rt,
+        "mode 2 in BCD",
+        &mut counter,
+        [0x11, 0x10, 9, 8, 7, 6, 5],
+        [H, H, H, H, H, H, H],
+    );
+    let mut counter = programmed(2, false, 3);
+    expect_around_low_gate(
+        &rt,
+        "figure 17, mode 2, GATE low",
+        &mut counter,
+        [2, 2],
+        [3, 2, 1],
+        [H, H, H, H, L],
+    );
+}
+
+#[test]
+fn mode_3_is_a_square_wave(rt: HostRuntime) {
+    let mut counter = programmed(3, false, 4);
+    expect(
+        &rt,
+        "figure 18, mode 3",
+        &mut counter,
+        [4, 2, 4, 2, 4, 2, 4],
+        [H, H, L, L, H, H, L],
+    );
+    let mut counter = programmed(7, false, 5);
+    expect(
+        &rt,
+        "mode 3, odd",
+        &mut counter,
+        [4, 2, 0, 4, 2, 4, 2],
+        [H, H, H, L, L, H, H],
+    );
+    let mut counter = programmed(3, true, 0x12);
+    expect(
+        &rt,
+        "mode 3 in BCD",
+        &mut counter,
+        [0x12, 0x10, 8, 6, 4, 2, 0x12],
+        [H, H, H, H, H, H, L],
+    );
+    let mut counter = programmed(3, false, 4);
+    expect_around_low_gate(
+        &rt,
+        "figure 18, mode 3, GATE low",
+        &mut counter,
+        [2, 2],
+        [4, 2, 4],
+        [H, H, H, H, L],
+    );
+}
+
+#[test]
+fn mode_4_strobes_at_its_count(rt: HostRuntime) {
+    let mut counter = programmed(4, false, 3);
+    expect(
+        &rt,
+        "figure 19, mode 4",
+        &mut counter,
+        [3, 2, 1, 0, 0xffff, 0xfffe, 0xfffd],
+        [H, H, H, L, H, H, H],
+    );
+    let mut counter = programmed(4, true, 3);
+    expect(
+        &rt,
+        "mode 4 in BCD",
+        &mut counter,
+        [3, 2, 1, 0, 0x9999, 0x9998, 0x9997],
+        [H, H, H, L, H, H, H],
+    );
+    let mut counter = programmed(4, false, 3);
+    expect_around_low_gate(
+        &rt,
+        "figure 19, mode 4, GATE low",
+        &mut counter,
+        [2, 2],
+        [1, 0, 0xffff],
+        [H, H, H, L, H],
+    );
+}
+
+#[test]
+fn mode_5_strobes_behind_a_trigger(rt: HostRuntime) {
+    let mut counter = programmed(5, false, 3);
+    trigger(&mut counter);
+    expect(
+        &rt,
+        "figure 20, mode 5",
+        &mut counter,
+        [3, 2, 1, 0, 0xffff, 0xfffe, 0xfffd],
+        [H, H, H, L, H, H, H],
+    );
+    let mut counter = programmed(5, true, 3);
+    trigger(&mut counter);
+    expect(
+        &rt,
+        "mode 5 in BCD",
+        &mut counter,
+        [3, 2, 1, 0, 0x9999, 0x9998, 0x9997],
+        [H, H, H, L, H, H, H],
+    );
+    let mut counter = programmed(5, false, 3);
+    trigger(&mut counter);
+    expect_around_low_gate(
+        &rt,
+        "figure 20, mode 5, GATE low",
+        &mut counter,
+        [1, 0],
+        [3, 2, 1],
+        [H, L, H, H, H],
+    );
+}
+
+#[test]
+fn gate_low_sets_a_low_out_in_modes_2_and_3(rt: HostRuntime) {
     for (mode, low) in [(2, 3), (3, 4)] {
         let mut counter = programmed(mode, false, low);
         counter.pulses(3);
@@ -302,38 +267,31 @@ fn counts_written_while_counting(rt: HostRuntime) {
             0,
             3,
             2,
-            [(2, L), (1, L), (0, H), (0xffff, H)],
+            [2, 1, 0, 0xffff],
+            [L, L, H, H],
         ),
-        (
-            "figure 17, mode 2",
-            2,
-            4,
-            5,
-            [(1, L), (5, H), (4, H), (3, H)],
-        ),
-        (
-            "figure 18, mode 3",
-            3,
-            4,
-            6,
-            [(2, L), (6, H), (4, H), (2, H)],
-        ),
+        ("figure 17, mode 2", 2, 4, 5, [1, 5, 4, 3], [L, H, H, H]),
+        ("figure 18, mode 3", 3, 4, 6, [2, 6, 4, 2], [L, H, H, H]),
         (
             "figure 19, mode 4",
             4,
             3,
             2,
-            [(2, H), (1, H), (0, L), (0xffff, H)],
+            [2, 1, 0, 0xffff],
+            [H, H, L, H],
         ),
     ];
-    for (name, mode, low, next, want) in cases {
+    for (name, mode, low, next, counts, levels) in cases {
         let mut counter = programmed(mode, false, low);
         counter.pulses(3);
         counter.write_byte(next);
-        expect(&rt, name, &mut counter, &want);
+        expect(&rt, name, &mut counter, counts, levels);
     }
+}
 
-    // Mode 0, both bytes: the first stops the count and sets OUT low, the second loads.
+#[test]
+fn two_bytes_of_mode_0_written_while_counting(rt: HostRuntime) {
+    // The first stops the count and sets OUT low, the second loads.
     let mut counter = Counter::power_on(true);
     counter.control(0x30);
     counter.write_byte(2);
@@ -351,49 +309,18 @@ fn counts_written_while_counting(rt: HostRuntime) {
 
 #[test]
 fn the_greatest_count_and_the_least(rt: HostRuntime) {
-    for (bits, low, high, rises) in [
-        (
-            0x34,
-            0,
-            0,
-            Rises {
-                count: 1,
-                first: Some(65_537),
-            },
-        ),
-        (
-            0x35,
-            0,
-            0,
-            Rises {
-                count: 6,
-                first: Some(10_001),
-            },
-        ),
-        (
-            0x34,
-            1,
-            0,
-            Rises {
-                count: 34_999,
-                first: Some(3),
-            },
-        ),
-        (
-            0x35,
-            0x9a,
-            0x99,
-            Rises {
-                count: 6,
-                first: Some(10_001),
-            },
-        ),
+    for (bits, low, high, count, first) in [
+        (0x34, 0, 0, 1, 65_537),
+        (0x35, 0, 0, 6, 10_001),
+        (0x34, 1, 0, 34_999, 3),
+        (0x35, 0x9a, 0x99, 6, 10_001),
     ] {
         let mut counter = Counter::power_on(true);
         counter.control(bits % 16 + 0x30);
         counter.write_byte(low);
         counter.write_byte(high);
-        assert_eq!(rt; counter.pulses(70_000), rises, "{bits}");
+        let first = Some(first);
+        assert_eq!(rt; counter.pulses(70_000), Rises { count, first }, "{bits}");
     }
 }
 

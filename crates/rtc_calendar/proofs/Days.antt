@@ -30,9 +30,25 @@ clock false last_minute last_hour second minute hour s mi h bs bm bh =
 clock true false last_hour second minute hour s mi h bs bm bh =
     omega (arith, next_in-last 0 59 second (sym s), eqb-true second 59 (sym s), next_in-inside 0 59 minute (sym mi), eqb-false minute 59 (sym mi))
 clock true true false second minute hour s mi h bs bm bh =
-    omega (arith, next_in-last 0 59 second (sym s), eqb-true second 59 (sym s), next_in-last 0 59 minute (sym mi), eqb-true minute 59 (sym mi), next_in-inside 0 23 hour (sym h), eqb-false hour 23 (sym h))
+    omega (
+      arith,
+      next_in-last 0 59 second (sym s),
+      eqb-true second 59 (sym s),
+      next_in-last 0 59 minute (sym mi),
+      eqb-true minute 59 (sym mi),
+      next_in-inside 0 23 hour (sym h),
+      eqb-false hour 23 (sym h),
+    )
 clock true true true second minute hour s mi h bs bm bh =
-    omega (arith, next_in-last 0 59 second (sym s), eqb-true second 59 (sym s), next_in-last 0 59 minute (sym mi), eqb-true minute 59 (sym mi), next_in-last 0 23 hour (sym h), eqb-true hour 23 (sym h))
+    omega (
+      arith,
+      next_in-last 0 59 second (sym s),
+      eqb-true second 59 (sym s),
+      next_in-last 0 59 minute (sym mi),
+      eqb-true minute 59 (sym mi),
+      next_in-last 0 23 hour (sym h),
+      eqb-true hour 23 (sym h),
+    )
 
 pub second_of_day-next_second : (m : Moment) → IsMoment m → second_of_day (next_second m) ≡ (second_of_day m + 1) % 86400
 unfolding second_of_day next_second ends_hour ends_minute
@@ -148,7 +164,12 @@ next_date : (last_date last_month : Bool) (date month year : ℕ) → last_date 
     ≡ (days_of_years year + days_of_months year (month - 1) + (date - 1) + 1) % 36525
 next_date false last_month date month year d mo first_date fits first_month most_month bound =
     let other : date ≡ month_length year month → ⊥ = eqb-false date (month_length year month) (sym d) in
-    omega (arith, next_in-inside 1 (month_length year month) date (sym d), day_of_year-below year month (date + 1) first_month most_month (omega arith) (omega arith), century year bound)
+    omega (
+      arith,
+      next_in-inside 1 (month_length year month) date (sym d),
+      day_of_year-below year month (date + 1) first_month most_month (omega arith) (omega arith),
+      century year bound,
+    )
 next_date true false date month year d mo first_date fits first_month most_month bound =
     let other : month ≡ 12 → ⊥ = eqb-false month 12 (sym mo) in
     let next_month : days_of_months year (next_in 1 12 month - 1) ≡ days_of_months year month =
@@ -173,7 +194,15 @@ next_date true true date month year d mo first_date fits first_month most_month 
     elim (cases_eq year 99) [
       | inl last ↦
           let new : days_of_years (next_in 0 99 year) ≡ 0 = ap days_of_years (next_in-last 0 99 year (eq-eqb year 99 last)) ∙ days_of_years-first in
-          omega (arith, new, january (next_in 0 99 year), whole, next_in-last 1 (month_length year month) date (sym d), eqb-true date (month_length year month) (sym d), days_of_years-last year last)
+          omega (
+            arith,
+            new,
+            january (next_in 0 99 year),
+            whole,
+            next_in-last 1 (month_length year month) date (sym d),
+            eqb-true date (month_length year month) (sym d),
+            days_of_years-last year last,
+          )
       | inr other ↦
           let new : days_of_years (next_in 0 99 year) ≡ days_of_years (year + 1) = ap days_of_years (next_in-inside 0 99 year (ne_eqb year 99 other)) in
           omega (
@@ -192,7 +221,8 @@ next_date true true date month year d mo first_date fits first_month most_month 
 pub day_number-next_day : (m : Moment) → IsMoment m → day_number (next_day m) ≡ (day_number m + 1) % 36525
 unfolding day_number next_day
 day_number-next_day m v =
-    next_date (eqb m.date (month_length m.year m.month)) (eqb m.month 12) m.date m.month m.year refl refl v.first_date v.last_date v.first_month v.last_month v.year
+    next_date (eqb m.date (month_length m.year m.month)) (eqb m.month 12) m.date m.month m.year refl refl
+    v.first_date v.last_date v.first_month v.last_month v.year
 
 -- a second later the date is the next day's, or the same
 pub day_number-next_second : (m : Moment) → IsMoment m → day_number (next_second m) ≡ cond (ends_day m) ((day_number m + 1) % 36525) (day_number m)
@@ -200,10 +230,13 @@ unfolding day_number next_second ends_month ends_year
 day_number-next_second m v = by_day (ends_day m)
   where
     by_day : (b : Bool) → days_of_years (cond (b && eqb m.date (month_length m.year m.month) && eqb m.month 12) (next_in 0 99 m.year) m.year)
-        + days_of_months (cond (b && eqb m.date (month_length m.year m.month) && eqb m.month 12) (next_in 0 99 m.year) m.year) (cond (b && eqb m.date (month_length m.year m.month)) (next_in 1 12 m.month) m.month - 1)
+        + days_of_months (cond (b && eqb m.date (month_length m.year m.month) && eqb m.month 12) (next_in 0 99 m.year) m.year)
+        (cond (b && eqb m.date (month_length m.year m.month)) (next_in 1 12 m.month) m.month - 1)
         + (cond b (next_in 1 (month_length m.year m.month) m.date) m.date - 1)
-        ≡ cond b ((days_of_years m.year + days_of_months m.year (m.month - 1) + (m.date - 1) + 1) % 36525) (days_of_years m.year + days_of_months m.year (m.month - 1) + (m.date - 1))
-    by_day true = next_date (eqb m.date (month_length m.year m.month)) (eqb m.month 12) m.date m.month m.year refl refl v.first_date v.last_date v.first_month v.last_month v.year
+        ≡ cond b ((days_of_years m.year + days_of_months m.year (m.month - 1) + (m.date - 1) + 1) % 36525)
+        (days_of_years m.year + days_of_months m.year (m.month - 1) + (m.date - 1))
+    by_day true = next_date (eqb m.date (month_length m.year m.month)) (eqb m.month 12) m.date m.month m.year refl refl
+        v.first_date v.last_date v.first_month v.last_month v.year
     by_day false = refl
 
 pub weekday-next_second : (m : Moment) → IsMoment m → (next_second m).weekday ≡ cond (ends_day m) (m.weekday % 7 + 1) m.weekday
@@ -282,7 +315,8 @@ year-of_day year rest h = elim (cases_Bool (eqb (year % 4) 0)) [
     short not_leap length = omega arith
 
 -- two dates of a year that stand at one day of it are in one month
-month-below : (year a b i j : ℕ) → 1 ≤ a → i < month_length year a → days_of_months year (a - 1) + i ≡ days_of_months year (b - 1) + j → a < b → ⊥
+month-below : (year a b i j : ℕ) → 1 ≤ a → i < month_length year a
+    → days_of_months year (a - 1) + i ≡ days_of_months year (b - 1) + j → a < b → ⊥
 month-below year a b i j first_month fits same less =
     omega (arith, days_of_months-month year a first_month, days_of_months-mono year a (b - 1) (omega arith))
 
@@ -305,10 +339,12 @@ moment-equal a b second minute hour weekday date month year =
 year-of_moment : (m : Moment) → IsMoment m → day_number m * 4 / 1461 ≡ m.year
 unfolding day_number
 year-of_moment m v =
-    let grouped : days_of_years m.year + days_of_months m.year (m.month - 1) + (m.date - 1) ≡ days_of_years m.year + (days_of_months m.year (m.month - 1) + (m.date - 1)) =
+    let grouped : days_of_years m.year + days_of_months m.year (m.month - 1) + (m.date - 1)
+    ≡ days_of_years m.year + (days_of_months m.year (m.month - 1) + (m.date - 1)) =
     omega arith in
     ap (λ (x : ℕ). x * 4 / 1461) grouped
-    ∙ year-of_day m.year (days_of_months m.year (m.month - 1) + (m.date - 1)) (day_of_year-below m.year m.month m.date v.first_month v.last_month v.first_date v.last_date)
+    ∙ year-of_day m.year (days_of_months m.year (m.month - 1) + (m.date - 1))
+    (day_of_year-below m.year m.month m.date v.first_month v.last_month v.first_date v.last_date)
 
 day_of_year-equal : (a b : Moment) → day_number a ≡ day_number b → a.year ≡ b.year
     → days_of_months a.year (a.month - 1) + (a.date - 1) ≡ days_of_months a.year (b.month - 1) + (b.date - 1)
@@ -324,7 +360,8 @@ unfolding second_of_day
 clock-equal a b v w e = (omega arith, omega arith, omega arith)
 
 -- the second of the day, the day of the century and the day of the week are a moment
-pub one_moment : (a b : Moment) → IsMoment a → IsMoment b → second_of_day a ≡ second_of_day b → day_number a ≡ day_number b → a.weekday ≡ b.weekday → a ≡ b
+pub one_moment : (a b : Moment) → IsMoment a → IsMoment b → second_of_day a ≡ second_of_day b
+    → day_number a ≡ day_number b → a.weekday ≡ b.weekday → a ≡ b
 one_moment a b v w seconds days weekday =
     let clock = clock-equal a b v w seconds in
     let year : a.year ≡ b.year = sym (year-of_moment a v) ∙ ap (λ (x : ℕ). x * 4 / 1461) days ∙ year-of_moment b w in
@@ -345,10 +382,14 @@ IsMoment-next_day m v = record {
   first_weekday = next_in-least 1 7 m.weekday v.first_weekday;
   last_weekday = next_in-most 1 7 m.weekday (omega arith) v.last_weekday;
   first_date = next_in-least 1 (month_length m.year m.month) m.date v.first_date;
-  last_date = date_in_month true (eqb m.date (month_length m.year m.month)) (eqb m.month 12) m.date m.year m.month (next_in 0 99 m.year) (next_in 1 12 m.month) refl v.last_date;
-  first_month = cond_both (eqb m.date (month_length m.year m.month)) (next_in 1 12 m.month) m.month (λ x. 1 ≤ x) (λ _. next_in-least 1 12 m.month v.first_month) (λ _. v.first_month);
-  last_month = cond_both (eqb m.date (month_length m.year m.month)) (next_in 1 12 m.month) m.month (λ x. x ≤ 12) (λ _. next_in-most 1 12 m.month (omega arith) v.last_month) (λ _. v.last_month);
-  year = cond_both (eqb m.date (month_length m.year m.month) && eqb m.month 12) (next_in 0 99 m.year) m.year (λ x. x ≤ 99) (λ _. next_in-most 0 99 m.year (omega arith) v.year) (λ _. v.year);
+  last_date = date_in_month true (eqb m.date (month_length m.year m.month)) (eqb m.month 12) m.date m.year m.month
+      (next_in 0 99 m.year) (next_in 1 12 m.month) refl v.last_date;
+  first_month = cond_both (eqb m.date (month_length m.year m.month)) (next_in 1 12 m.month) m.month (λ x. 1 ≤ x)
+      (λ _. next_in-least 1 12 m.month v.first_month) (λ _. v.first_month);
+  last_month = cond_both (eqb m.date (month_length m.year m.month)) (next_in 1 12 m.month) m.month (λ x. x ≤ 12)
+      (λ _. next_in-most 1 12 m.month (omega arith) v.last_month) (λ _. v.last_month);
+  year = cond_both (eqb m.date (month_length m.year m.month) && eqb m.month 12) (next_in 0 99 m.year) m.year (λ x. x ≤ 99)
+      (λ _. next_in-most 0 99 m.year (omega arith) v.year) (λ _. v.year);
 }
 
 second_of_day-next_day : (m : Moment) → second_of_day (next_day m) ≡ second_of_day m
@@ -390,7 +431,15 @@ year_of_day-rest day h = (
 
 -- from the second of a day to the clock and back
 pub second_of_day-at : (second weekday date month year : ℕ) → second < 86400
-    → second_of_day (record { second = second % 60; minute = second / 60 % 60; hour = second / 3600; weekday = weekday; date = date; month = month; year = year }) ≡ second
+    → second_of_day (record {
+      second = second % 60;
+      minute = second / 60 % 60;
+      hour = second / 3600;
+      weekday = weekday;
+      date = date;
+      month = month;
+      year = year;
+    }) ≡ second
 unfolding second_of_day
 second_of_day-at second weekday date month year h = omega arith
 

@@ -47,7 +47,8 @@ next_in-most low high number order h =
 -- behind the last of a month comes a first, which every month has
 pub date_in_month : (day last end : Bool) (date year month next_year next_month : ℕ) → last ≡ eqb date (month_length year month)
     → date ≤ month_length year month
-    → cond day (next_in 1 (month_length year month) date) date ≤ month_length (cond (day && last && end) next_year year) (cond (day && last) next_month month)
+    → cond day (next_in 1 (month_length year month) date) date
+    ≤ month_length (cond (day && last && end) next_year year) (cond (day && last) next_month month)
 unfolding next_in
 date_in_month false last end date year month next_year next_month e h = h
 date_in_month true false end date year month next_year next_month e h = rw (← e) (inside (eqb-false date (month_length year month) (sym e)))
@@ -62,7 +63,8 @@ pub IsMoment-next_second : (m : Moment) → IsMoment m → IsMoment (next_second
 unfolding next_second ends_month ends_year
 IsMoment-next_second m v = record {
   second = next_in-most 0 59 m.second (omega arith) v.second;
-  minute = cond_both (ends_minute m) (next_in 0 59 m.minute) m.minute (λ x. x ≤ 59) (λ _. next_in-most 0 59 m.minute (omega arith) v.minute) (λ _. v.minute);
+  minute = cond_both (ends_minute m) (next_in 0 59 m.minute) m.minute (λ x. x ≤ 59) (λ _. next_in-most 0 59 m.minute (omega arith) v.minute)
+      (λ _. v.minute);
   hour = cond_both (ends_hour m) (next_in 0 23 m.hour) m.hour (λ x. x ≤ 23) (λ _. next_in-most 0 23 m.hour (omega arith) v.hour) (λ _. v.hour);
   first_weekday = cond_both (ends_day m) (next_in 1 7 m.weekday) m.weekday (λ x. 1 ≤ x) (λ _. next_in-least 1 7 m.weekday v.first_weekday)
       (λ _. v.first_weekday);

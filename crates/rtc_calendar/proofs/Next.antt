@@ -57,7 +57,8 @@ pub fits_byte-no_number : (binary : Bool) (alarm number : ℕ) → alarm < 192 �
     → false ≡ fits_byte alarm (spelling binary number)
 fits_byte-no_number binary alarm number less invalid most =
     sym (fits_byte-equal alarm (spelling binary number) less ∙ ne_eqb alarm (spelling binary number)
-    (λ e. both_ways (is_spelt binary 0 59 alarm) invalid (ap (is_spelt binary 0 59) e ∙ is_spelt-spelling binary 0 59 number (omega arith) most (omega arith))))
+    (λ e. both_ways (is_spelt binary 0 59 alarm) invalid (ap (is_spelt binary 0 59) e
+    ∙ is_spelt-spelling binary 0 59 number (omega arith) most (omega arith))))
 
 pub fits_byte-no_hour : (form : Form) (alarm hour : ℕ) → alarm < 192 → is_hour form alarm ≡ false → hour ≤ 23
     → false ≡ fits_byte alarm (hour_spelling form hour)
@@ -81,7 +82,8 @@ pub record AsksFor (form : Form) (alarm : Alarm) (w : WantedTime) : Type 0 where
   pub minute : (number : ℕ) → number ≤ 59 → is_wanted w.minute number ≡ fits_byte alarm.min (spelling form.binary number)
   pub hour : (hour : ℕ) → hour ≤ 23 → is_wanted w.hour hour ≡ fits_byte alarm.hour (hour_spelling form hour)
 
-is_match-moment : (form : Form) (alarm : Alarm) (w : WantedTime) (m : Moment) (y : ℕ) → AsksFor form alarm w → IsMoment m → second_of_day m ≡ y % 86400
+is_match-moment : (form : Form) (alarm : Alarm) (w : WantedTime) (m : Moment) (y : ℕ) → AsksFor form alarm w
+    → IsMoment m → second_of_day m ≡ y % 86400
     → is_match alarm (bytes_of form m) ≡ is_wanted_second w y
 unfolding is_match bytes_of
 is_match-moment form alarm w m y asks v e =
@@ -134,7 +136,8 @@ pub matches_in-before : (form : Form) (alarm : Alarm) (w : WantedTime) (bytes : 
     → IsNext (is_wanted_second w) start (Some next) → n < next - start + 1 → matches_in form alarm bytes n ≡ 0
 matches_in-before form alarm w bytes n start next asks e found early =
     matches_in-none form alarm bytes n
-    (λ i some few. is_match-updated_times form alarm w bytes i asks some ∙ found.2 (second_of_day (moment_of form bytes) + i) (omega arith) (omega (arith, found.0)))
+    (λ i some few. is_match-updated_times form alarm w bytes i asks some
+    ∙ found.2 (second_of_day (moment_of form bytes) + i) (omega arith) (omega (arith, found.0)))
 
 -- and there it is
 pub IsFirst-next : (form : Form) (alarm : Alarm) (w : WantedTime) (bytes : TimeBytes) (n start next : ℕ) → AsksFor form alarm w

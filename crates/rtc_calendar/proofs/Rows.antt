@@ -47,14 +47,14 @@ no_leap_day_in_99 = refl
 new_century : updated (record { binary = false; hours24 = false })
     (record { sec = 0x59; min = 0x59; hour = 0x91; wday = 7; date = 0x31; month = 0x12; year = 0x99 })
     ≡ record { sec = 0; min = 0; hour = 0x12; wday = 1; date = 1; month = 1; year = 0 }
-unfolding updated bytes_of moment_of last_date_in month_in year_in number_in is_spelt has_digits spelt hour_in is_hour hour_meant hour_spelling hour_of_twelve spelling
-    next_second ends_year ends_month ends_day ends_hour ends_minute next_in month_length
+unfolding updated bytes_of moment_of last_date_in month_in year_in number_in is_spelt has_digits spelt hour_in is_hour hour_meant
+    hour_spelling hour_of_twelve spelling next_second ends_year ends_month ends_day ends_hour ends_minute next_in month_length
 new_century = refl
 
 date_past_its_month : updated (record { binary = true; hours24 = true }) (record { sec = 0; min = 0; hour = 0; wday = 3; date = 29; month = 2; year = 99 })
     ≡ record { sec = 1; min = 0; hour = 0; wday = 3; date = 1; month = 2; year = 99 }
-unfolding updated bytes_of moment_of last_date_in month_in year_in number_in is_spelt has_digits spelt hour_in is_hour hour_meant hour_spelling hour_of_twelve spelling
-    next_second ends_year ends_month ends_day ends_hour ends_minute next_in month_length
+unfolding updated bytes_of moment_of last_date_in month_in year_in number_in is_spelt has_digits spelt hour_in is_hour hour_meant
+    hour_spelling hour_of_twelve spelling next_second ends_year ends_month ends_day ends_hour ends_minute next_in month_length
 date_past_its_month = refl
 
 alarm_needs_its_hour : is_match (record { sec = 0xc0; min = 0xff; hour = 5 })
@@ -75,7 +75,8 @@ unfolding day_number days_of_years days_of_months month_length
 leap_day_is_day_59 = refl
 
 saturday_is_followed_by_sunday :
-    (next_day (record { second = 0; minute = 0; hour = 0; weekday = 7; date = 31; month = 12; year = 99 })) ≡ record { second = 0; minute = 0; hour = 0; weekday = 1; date = 1; month = 1; year = 0 }
+    (next_day (record { second = 0; minute = 0; hour = 0; weekday = 7; date = 31; month = 12; year = 99 }))
+    ≡ record { second = 0; minute = 0; hour = 0; weekday = 1; date = 1; month = 1; year = 0 }
 unfolding next_day next_in month_length
 saturday_is_followed_by_sunday = refl
 

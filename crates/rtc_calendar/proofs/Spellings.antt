@@ -8,7 +8,8 @@ use Rattle.rtc_calendar.specs.Bytes.{spelt, has_digits, is_spelt, number_in, spe
 use Rattle.rtc_calendar.specs.Bytes.{hour_in, hour_of_twelve, hour_spelling}
 
 -- a valid byte spells a number of the range
-pub is_spelt-range : (binary : Bool) (low high byte : ℕ) → is_spelt binary low high byte ≡ true → (low ≤ spelt binary byte) × (spelt binary byte ≤ high)
+pub is_spelt-range : (binary : Bool) (low high byte : ℕ) → is_spelt binary low high byte ≡ true
+    → (low ≤ spelt binary byte) × (spelt binary byte ≤ high)
 unfolding is_spelt
 is_spelt-range binary low high byte h =
     let outer = and_parts ((binary || has_digits byte) && leb low (spelt binary byte)) (leb (spelt binary byte) high) h in
@@ -35,9 +36,12 @@ hour_in-most form byte = by_form form.hours24 form.binary
     half false hour = omega arith
 
     by_form : (hours24 binary : Bool)
-        → cond (cond hours24 (is_spelt binary 0 23 byte) (is_spelt binary 1 12 (byte % 128))) (cond hours24 (spelt binary byte) (spelt binary (byte % 128) % 12 + cond (leb 128 byte) 12 0)) 0 ≤ 23
-    by_form true binary = cond_both (is_spelt binary 0 23 byte) (spelt binary byte) 0 (λ x. x ≤ 23) (λ h. (is_spelt-range binary 0 23 byte h).1) (λ _. omega arith)
-    by_form false binary = cond_both (is_spelt binary 1 12 (byte % 128)) (spelt binary (byte % 128) % 12 + cond (leb 128 byte) 12 0) 0 (λ x. x ≤ 23) (λ _. half (leb 128 byte) (spelt binary (byte % 128))) (λ _. omega arith)
+        → cond (cond hours24 (is_spelt binary 0 23 byte) (is_spelt binary 1 12 (byte % 128)))
+        (cond hours24 (spelt binary byte) (spelt binary (byte % 128) % 12 + cond (leb 128 byte) 12 0)) 0 ≤ 23
+    by_form true binary = cond_both (is_spelt binary 0 23 byte) (spelt binary byte) 0 (λ x. x ≤ 23)
+        (λ h. (is_spelt-range binary 0 23 byte h).1) (λ _. omega arith)
+    by_form false binary = cond_both (is_spelt binary 1 12 (byte % 128)) (spelt binary (byte % 128) % 12 + cond (leb 128 byte) 12 0) 0
+        (λ x. x ≤ 23) (λ _. half (leb 128 byte) (spelt binary (byte % 128))) (λ _. omega arith)
 
 -- a number that was written is spelt by its byte
 pub spelt-spelling : (binary : Bool) (number : ℕ) → number ≤ 99 → spelt binary (spelling binary number) ≡ number
@@ -72,7 +76,8 @@ pub number_in-spelling : (binary : Bool) (low high number : ℕ) → low ≤ num
     → number_in binary low high (spelling binary number) ≡ number
 unfolding number_in
 number_in-spelling binary low high number least most small =
-    cond-true (is_spelt binary low high (spelling binary number)) (spelt binary (spelling binary number)) low (is_spelt-spelling binary low high number least most small)
+    cond-true (is_spelt binary low high (spelling binary number)) (spelt binary (spelling binary number)) low
+    (is_spelt-spelling binary low high number least most small)
     ∙ spelt-spelling binary number (omega arith)
 
 -- two decimal digits are written again
@@ -92,9 +97,11 @@ pub spelling-spelt : (binary : Bool) (low high byte : ℕ) → is_spelt binary l
 unfolding is_spelt
 spelling-spelt true low high byte h = spelling-binary byte
 spelling-spelt false low high byte h =
-    spelling-digits byte (and_parts (has_digits byte) (leb low (spelt false byte)) (and_parts (has_digits byte && leb low (spelt false byte)) (leb (spelt false byte) high) h).0).0
+    spelling-digits byte (and_parts (has_digits byte) (leb low (spelt false byte))
+    (and_parts (has_digits byte && leb low (spelt false byte)) (leb (spelt false byte) high) h).0).0
 
-pub spelling-number_in : (binary : Bool) (low high byte : ℕ) → is_spelt binary low high byte ≡ true → spelling binary (number_in binary low high byte) ≡ byte
+pub spelling-number_in : (binary : Bool) (low high byte : ℕ) → is_spelt binary low high byte ≡ true
+    → spelling binary (number_in binary low high byte) ≡ byte
 unfolding number_in
 spelling-number_in binary low high byte h =
     ap (spelling binary) (cond-true (is_spelt binary low high byte) (spelt binary byte) low h) ∙ spelling-spelt binary low high byte h
@@ -136,8 +143,10 @@ is_hour-hour_spelling form hour h = by_form form.hours24
     rest = bit_7-rest (leb 12 hour) (spelling form.binary (hour_of_twelve hour)) (spelling-small form.binary (hour_of_twelve hour) range.1)
 
     by_form : (hours24 : Bool)
-        → cond hours24 (is_spelt form.binary 0 23 (cond hours24 (spelling form.binary hour) (spelling form.binary (hour_of_twelve hour) + cond (leb 12 hour) 128 0)))
-        (is_spelt form.binary 1 12 (cond hours24 (spelling form.binary hour) (spelling form.binary (hour_of_twelve hour) + cond (leb 12 hour) 128 0) % 128)) ≡ true
+        → cond hours24 (is_spelt form.binary 0 23
+        (cond hours24 (spelling form.binary hour) (spelling form.binary (hour_of_twelve hour) + cond (leb 12 hour) 128 0)))
+        (is_spelt form.binary 1 12
+        (cond hours24 (spelling form.binary hour) (spelling form.binary (hour_of_twelve hour) + cond (leb 12 hour) 128 0) % 128)) ≡ true
     by_form true = is_spelt-spelling form.binary 0 23 hour (omega arith) h (omega arith)
     by_form false = rw rest (is_spelt-spelling form.binary 1 12 (hour_of_twelve hour) range.0 range.1 (omega arith))
 
@@ -202,13 +211,19 @@ unfolding hour_spelling hour_meant is_hour
 hour_spelling-hour_meant form byte small = by_form form.hours24
   where
     bit_7 : byte % 128 + cond (leb 128 byte) 128 0 ≡ byte
-    bit_7 = cond_both (leb 128 byte) 128 0 (λ x. byte % 128 + x ≡ byte) (λ e. omega (arith, leb-true 128 byte e)) (λ e. omega (arith, leb-false 128 byte e))
+    bit_7 = cond_both (leb 128 byte) 128 0 (λ x. byte % 128 + x ≡ byte)
+        (λ e. omega (arith, leb-true 128 byte e)) (λ e. omega (arith, leb-false 128 byte e))
 
     half : is_spelt form.binary 1 12 (byte % 128) ≡ true
-        → spelling form.binary (hour_of_twelve (spelt form.binary (byte % 128) % 12 + cond (leb 128 byte) 12 0)) + cond (leb 12 (spelt form.binary (byte % 128) % 12 + cond (leb 128 byte) 12 0)) 128 0 ≡ byte
+        → spelling form.binary (hour_of_twelve (spelt form.binary (byte % 128) % 12 + cond (leb 128 byte) 12 0))
+        + cond (leb 12 (spelt form.binary (byte % 128) % 12 + cond (leb 128 byte) 12 0)) 128 0 ≡ byte
     half valid =
         let range = is_spelt-range form.binary 1 12 (byte % 128) valid in
-        rw (half_day-hour (leb 128 byte) (spelt form.binary (byte % 128)) range.0 range.1, half_day-late (leb 128 byte) (spelt form.binary (byte % 128)) range.0 range.1, spelling-spelt form.binary 1 12 (byte % 128) valid) bit_7
+        rw (
+          half_day-hour (leb 128 byte) (spelt form.binary (byte % 128)) range.0 range.1,
+          half_day-late (leb 128 byte) (spelt form.binary (byte % 128)) range.0 range.1,
+          spelling-spelt form.binary 1 12 (byte % 128) valid,
+        ) bit_7
 
     by_form : (hours24 : Bool) → cond hours24 (is_spelt form.binary 0 23 byte) (is_spelt form.binary 1 12 (byte % 128)) ≡ true
         → cond hours24 (spelling form.binary (cond hours24 (spelt form.binary byte) (spelt form.binary (byte % 128) % 12 + cond (leb 128 byte) 12 0)))

@@ -79,7 +79,8 @@ matches_in-few form alarm bytes n = CountsUp-few (matches_in form alarm bytes) (
 
 -- one update more, by whether the alarm matches its bytes
 pub matches_in-more : (form : Form) (alarm : Alarm) (bytes current : TimeBytes) (n : ℕ) → current ≡ updated_times form n bytes
-    → matches_in form alarm bytes (n + 1) ≡ cond (is_match alarm (updated form current)) (suc (matches_in form alarm bytes n)) (matches_in form alarm bytes n)
+    → matches_in form alarm bytes (n + 1) ≡ cond (is_match alarm (updated form current))
+    (suc (matches_in form alarm bytes n)) (matches_in form alarm bytes n)
 unfolding alarm_next
 matches_in-more form alarm bytes current n e =
     let next : n + 1 ≡ suc n = omega arith in
@@ -87,7 +88,8 @@ matches_in-more form alarm bytes current n e =
 
 -- where none came before, an update that matches is the first of any number that reaches it
 pub IsFirst-matches_in : (form : Form) (alarm : Alarm) (bytes current : TimeBytes) (n all : ℕ) → current ≡ updated_times form n bytes
-    → matches_in form alarm bytes n ≡ 0 → is_match alarm (updated form current) ≡ true → n + 1 ≤ all → IsFirst (matches_in form alarm bytes) all (Some (n + 1))
+    → matches_in form alarm bytes n ≡ 0 → is_match alarm (updated form current) ≡ true
+    → n + 1 ≤ all → IsFirst (matches_in form alarm bytes) all (Some (n + 1))
 IsFirst-matches_in form alarm bytes current n all e none here reached =
     let before : n + 1 - 1 ≡ n = omega arith in
     let more : matches_in form alarm bytes (n + 1) ≡ suc (matches_in form alarm bytes n) = rw here at (matches_in-more form alarm bytes current n e) in
@@ -123,7 +125,8 @@ moment_of-bytes_of form m v =
     let year : number_in form.binary 0 99 (spelling form.binary m.year) ≡ m.year =
     number_in-spelling form.binary 0 99 m.year (omega arith) v.year (omega arith) in
     let date : number_in form.binary 1
-    (month_length (number_in form.binary 0 99 (spelling form.binary m.year)) (number_in form.binary 1 12 (spelling form.binary m.month))) (spelling form.binary m.date) ≡ m.date =
+    (month_length (number_in form.binary 0 99 (spelling form.binary m.year)) (number_in form.binary 1 12 (spelling form.binary m.month)))
+    (spelling form.binary m.date) ≡ m.date =
     ap (λ (y : ℕ). number_in form.binary 1 (month_length y (number_in form.binary 1 12 (spelling form.binary m.month))) (spelling form.binary m.date)) year
     ∙ ap (λ (x : ℕ). number_in form.binary 1 (month_length m.year x) (spelling form.binary m.date)) month
     ∙ number_in-spelling form.binary 1 (month_length m.year m.month) m.date v.first_date v.last_date (omega (arith, month_length-most m.year m.month)) in
@@ -134,7 +137,8 @@ moment_of-bytes_of form m v =
       hour = hour_in form (hour_spelling form m.hour);
       weekday = number_in form.binary 1 7 (spelling form.binary m.weekday);
       date = number_in form.binary 1
-          (month_length (number_in form.binary 0 99 (spelling form.binary m.year)) (number_in form.binary 1 12 (spelling form.binary m.month))) (spelling form.binary m.date);
+          (month_length (number_in form.binary 0 99 (spelling form.binary m.year)) (number_in form.binary 1 12 (spelling form.binary m.month)))
+          (spelling form.binary m.date);
       month = number_in form.binary 1 12 (spelling form.binary m.month);
       year = number_in form.binary 0 99 (spelling form.binary m.year);
     })
@@ -182,9 +186,11 @@ updated_times-bytes_of form zero bytes = refl
 updated_times-bytes_of form (suc n) bytes =
     ap (updated form) (updated_times-bytes_of form n bytes)
     ∙ ap (λ (m : Moment). bytes_of form (next_second m))
-    (moment_of-bytes_of form (next_seconds (suc n) (moment_of form bytes)) (IsMoment-next_seconds (suc n) (moment_of form bytes) (IsMoment-moment_of form bytes)))
+    (moment_of-bytes_of form (next_seconds (suc n) (moment_of form bytes))
+    (IsMoment-next_seconds (suc n) (moment_of form bytes) (IsMoment-moment_of form bytes)))
 
-pub updated_times-some : (form : Form) (n : ℕ) (bytes : TimeBytes) → 0 < n → updated_times form n bytes ≡ bytes_of form (next_seconds n (moment_of form bytes))
+pub updated_times-some : (form : Form) (n : ℕ) (bytes : TimeBytes) → 0 < n
+    → updated_times form n bytes ≡ bytes_of form (next_seconds n (moment_of form bytes))
 updated_times-some form zero bytes h = absurd (omega arith)
 updated_times-some form (suc n) bytes h = updated_times-bytes_of form n bytes
 

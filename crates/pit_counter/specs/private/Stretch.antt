@@ -17,7 +17,7 @@ use Rattle.std.specs.Prelude.{
   None,
   if◌then◌else◌,
 }
-use Rattle.pit_counter.specs.Mode.{mode_of, is_periodic}
+use Rattle.pit_counter.specs.Mode.{mode_of, is_rate, is_periodic}
 use Rattle.pit_counter.specs.Count.{modulus, loaded_count, is_odd_square}
 use Rattle.pit_counter.specs.declared.table.Effect.{Effect}
 use Rattle.pit_counter.specs.declared.table.Effect.TheVariants.{
@@ -85,6 +85,10 @@ is_reloaded c =
     && not c.armed
     && c.ce == loaded_count c.bits c.cr
     && (if is_odd_square c.bits c.cr then c.odd else not c.odd)
+
+-- mode 2 counts with GATE high, on to the load behind a count of 1
+unfoldable pub is_dividing : CounterParts → Bool
+is_dividing c = is_rate (mode_of c.bits) && c.gate && c.live && not c.trig && not (c.ce == 1)
 
 -- the first of both, where the second begins behind the first m
 abbrev pub joined_first : Option ℕ → ℕ → Option ℕ → Option ℕ
