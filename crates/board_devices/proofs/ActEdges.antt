@@ -27,7 +27,7 @@ use Rattle.board_devices.proofs.Fronts.{SameTimers, back, levels-parts, levels-f
 use Rattle.rtc_registers.proofs.Flags.{after_rtc_read-other}
 
 -- where both parts have the levels of before there is no edge
-none-of : (t : ℕ) (a : Act) (d : DeviceParts) → levels (first_part a d) ≡ levels d → levels (acted a d) ≡ levels d → act_edges t a d ≡ []
+pub none-of : (t : ℕ) (a : Act) (d : DeviceParts) → levels (first_part a d) ≡ levels d → levels (acted a d) ≡ levels d → act_edges t a d ≡ []
 none-of t a d first whole =
     ap (λ (bs : List Bool). changes t line_numbers (levels d) bs ++ changes t line_numbers bs (levels (acted a d))) first
     ∙ ap (λ (bs : List Bool). changes t line_numbers (levels d) (levels d) ++ changes t line_numbers (levels d) bs) whole

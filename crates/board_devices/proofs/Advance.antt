@@ -43,7 +43,7 @@ use Rattle.board_devices.specs.Places.{each, line_at, no_line}
 use Rattle.board_devices.specs.Nanosecond.{counts_rtc, sees_point}
 use Rattle.board_devices.specs.Lines.{output_of, drives, routed, levels}
 use Rattle.board_devices.specs.Run.{run}
-use Rattle.board_devices.specs.private.Stretch.{source, line_run, flagged_where, parted, counted, no_ticks, timer_ticks, ticks_at, end_of, up_of}
+use Rattle.board_devices.specs.private.Stretch.{source, line_run, flagged_where, parted, counted, ticks_at, end_of, up_of}
 use Rattle.board_devices.specs.private.Stretch.{eight, either_from, flag_from, output_from, routed_from}
 use Rattle.board_devices.specs.Parts.{IsDevices}
 use Rattle.board_devices.proofs.Keeps.{IsDevices-each, KeepsLines-line_run}
@@ -158,19 +158,16 @@ due-end P to s l = by_test s.seen
     by_test false = omega arith
 
 -- all that is known of a stretch
-pub record Known (d : DeviceParts) (t n c : ℕ) (rises : Rises) (events : RtcEvents) (ms : List Matches) (matched : List (Option ℕ)) (pit rtc : Ticks)
-    (timers : List Ticks) : Type 0 where
+pub record Known (d : DeviceParts) (t n c : ℕ) (rises : Rises) (events : RtcEvents) (ms : List Matches) (pit rtc : Ticks) : Type 0 where
   pub sound : Sound d
   pub point : IsFirstPoint d.slew_ns t c
   pub brought : Brought d t n rises events ms
-  pub each_matched : (k : ℕ) → k < 8 → get_or matched k None ≡ first_at HPET_HZ t (timer_matches ms k).first
-  pub each_timer : (k : ℕ) → k < 8 → get_or timers k no_ticks ≡ timer_ticks k d.hpet ms matched
   pub pit_is : pit ≡ counted true (not (is_legacy d.hpet)) rises.count (first_at PIT_HZ t rises.first)
   pub rtc_is : rtc ≡ counted (counts_rtc d) (counts_rtc d) events.cycle.ticks (first_at RTC_HZ t events.cycle.first_tick)
 
-module _ {d : DeviceParts} {t n c : ℕ} {rises : Rises} {events : RtcEvents} {ms : List Matches} {matched : List
-    (Option ℕ)} {pit rtc : Ticks} {timers : List Ticks} (know : Known d t n c rises events ms matched pit rtc timers) where
-  pub known : (k : ℕ) → k < 10 → AreTicks d t n k (ticks_at pit rtc timers k)
+module _ {d : DeviceParts} {t n c : ℕ} {rises : Rises} {events : RtcEvents} {ms : List Matches} {pit rtc : Ticks}
+    (know : Known d t n c rises events ms pit rtc) where
+  pub known : (k : ℕ) → k < 10 → AreTicks d t n k (ticks_at t d.hpet ms pit rtc k)
   known zero h = subst (AreTicks d t n 0) (sym know.pit_is) (record {
     seen = refl;
     counts = counts-where (not (is_legacy d.hpet)) (rises_in (counter_of d.pit 0)) PIT_HZ t (omega arith) (CountsUp-rises_in (counter_of d.pit 0));
@@ -185,35 +182,33 @@ module _ {d : DeviceParts} {t n c : ℕ} {rises : Rises} {events : RtcEvents} {m
     first = first-where (counts_rtc d) (ticks_in (divider_of d.rtc)) RTC_HZ t n events.cycle.first_tick (omega arith) (CountsUp-ticks_in (divider_of d.rtc))
         (λ _. know.brought.rtc_first);
   })
-  known (suc (suc k)) h = subst (AreTicks d t n (suc (suc k)))
-      (sym (know.each_timer k (omega arith)
-      ∙ ap (λ (u : Option ℕ). counted true (has_ticks k d.hpet) (timer_matches ms k).count u) (know.each_matched k (omega arith)))) (record {
-        seen = refl;
-        counts = counts-where (has_ticks k d.hpet) (matches_of k d.hpet) HPET_HZ t (omega arith) (CountsUp-matches_of k d.hpet);
-        number = number-where (has_ticks k d.hpet) (matches_of k d.hpet) HPET_HZ t n (timer_matches ms k).count (λ _. know.brought.timer_count k);
-        first = first-where (has_ticks k d.hpet) (matches_of k d.hpet) HPET_HZ t n (timer_matches ms k).first (omega arith) (CountsUp-matches_of k d.hpet)
-            (λ _. know.brought.timer_first k);
-      })
+  known (suc (suc k)) h = record {
+    seen = refl;
+    counts = counts-where (has_ticks k d.hpet) (matches_of k d.hpet) HPET_HZ t (omega arith) (CountsUp-matches_of k d.hpet);
+    number = number-where (has_ticks k d.hpet) (matches_of k d.hpet) HPET_HZ t n (timer_matches ms k).count (λ _. know.brought.timer_count k);
+    first = first-where (has_ticks k d.hpet) (matches_of k d.hpet) HPET_HZ t n (timer_matches ms k).first (omega arith) (CountsUp-matches_of k d.hpet)
+        (λ _. know.brought.timer_first k);
+  }
 
   -- the lines at the end
   pub lines-end : (ls : List TickParts) → length ls ≡ 10
-      → ((k : ℕ) → k < 10 → get_or ls k no_line ≡ end_of (t + c) (t + n) (ticks_at pit rtc timers k) (line_at k d)) → ls ≡ each (line_run d t n) 0 d.ticks
+      → ((k : ℕ) → k < 10 → get_or ls k no_line ≡ end_of (t + c) (t + n) (ticks_at t d.hpet ms pit rtc k) (line_at k d)) → ls ≡ each (line_run d t n) 0 d.ticks
   lines-end ls ten ends = same_places ls (each (line_run d t n) 0 d.ticks) no_line
       (ten ∙ sym (length-each (line_run d t n) 0 d.ticks ∙ know.sound.joined.places)) (λ k less.
-      ends k (omega (arith, ten)) ∙ run-end d t n k c (ticks_at pit rtc timers k) (line_at k d) (known k (omega (arith, ten))) know.point
+      ends k (omega (arith, ten)) ∙ run-end d t n k c (ticks_at t d.hpet ms pit rtc k) (line_at k d) (known k (omega (arith, ten))) know.point
       ∙ sym (each-at (line_run d t n) 0 k d.ticks no_line (omega (arith, ten, know.sound.joined.places))
       ∙ ap (λ (i : ℕ). line_run d t n i (line_at k d)) (omega arith)))
 
   -- the line at place k, behind j nanoseconds
   abbrev pub up_at : ℕ → Option ℕ
-  up_at k = up_of t (t + c) (t + n) (ticks_at pit rtc timers k) (line_at k d)
+  up_at k = up_of t (t + c) (t + n) (ticks_at t d.hpet ms pit rtc k) (line_at k d)
 
   pub line-up : (j k : ℕ) → j ≤ n → k < 10 → (line_at k (parted t j d)).up ≡ is_up_at (t + j) (up_at k)
   unfolding parted
   line-up j k le less =
       ap (λ (l : TickParts). l.up) (each-at (line_run d t j) 0 k d.ticks no_line (omega (arith, know.sound.joined.places))
       ∙ ap (λ (i : ℕ). line_run d t j i (line_at k d)) (omega arith))
-      ∙ run-up d t n k c (ticks_at pit rtc timers k) (line_at k d) (known k less) know.point j le
+      ∙ run-up d t n k c (ticks_at t d.hpet ms pit rtc k) (line_at k d) (known k less) know.point j le
 
   by_level : (l flag event en up : Bool) (j : ℕ) (first line : Option ℕ) → (l ≡ true → event ≡ is_up_at (t + j) first) → up ≡ is_up_at (t + j) line
       → cond l ((flag || (event && l)) && en) up ≡ is_up_at (t + j) (cond l (flag_from en flag t first) line)
@@ -387,7 +382,7 @@ module _ {d : DeviceParts} {t n c : ℕ} {rises : Rises} {events : RtcEvents} {m
       ≡ levels_at (t + j) (lines_from us)
   levels-run us outs j le = ap levels (run-parted t j d know.sound) ∙ levels-parted us outs j le
 
-  pub ticks-few : (k : ℕ) → k < 10 → (ticks_at pit rtc timers k).count ≤ n
+  pub ticks-few : (k : ℕ) → k < 10 → (ticks_at t d.hpet ms pit rtc k).count ≤ n
   ticks-few k h = omega (arith, CountsUp-few (source d t k) (known k h).counts n, (known k h).number)
 
   counts-now : (j : ℕ) → counts_rtc (parted t j d) ≡ counts_rtc d
@@ -407,69 +402,44 @@ module _ {d : DeviceParts} {t n c : ℕ} {rises : Rises} {events : RtcEvents} {m
 
   -- the state at the end, as the code leaves it
   pub ran-state : (P to : ℕ) (ls : List TickParts) (p : PitParts) (r : RtcParts) (h : HpetParts) → P ≡ t + c → to ≡ t + n → length ls ≡ 10
-      → ((k : ℕ) → k < 10 → get_or ls k no_line ≡ end_of P to (ticks_at pit rtc timers k) (line_at k d))
+      → ((k : ℕ) → k < 10 → get_or ls k no_line ≡ end_of P to (ticks_at t d.hpet ms pit rtc k) (line_at k d))
       → p ≡ pit_pulsed_times (pulses_from PIT_HZ t n) d.pit
       → r ≡ flagged_where (counts_rtc d && (get_or ls 1 no_line).up) (rtc_pulsed_times (pulses_from RTC_HZ t n) d.rtc)
       → h ≡ hpet_pulsed_times (pulses_from HPET_HZ t n) d.hpet
       → record d { pit = p; rtc = r; hpet = h; ticks = ls } ≡ (run t n d).state
   unfolding parted
   ran-state P to ls p r h at_point at_end ten ends p_is r_is h_is =
-      let end : (k : ℕ) → k < 10 → get_or ls k no_line ≡ end_of (t + c) (t + n) (ticks_at pit rtc timers k) (line_at k d) = λ k less. ends k less
-      ∙ ap (λ (x : ℕ). end_of x to (ticks_at pit rtc timers k) (line_at k d)) at_point
-      ∙ ap (λ (x : ℕ). end_of (t + c) x (ticks_at pit rtc timers k) (line_at k d)) at_end in
+      let end : (k : ℕ) → k < 10 → get_or ls k no_line ≡ end_of (t + c) (t + n) (ticks_at t d.hpet ms pit rtc k) (line_at k d) = λ k less. ends k less
+      ∙ ap (λ (x : ℕ). end_of x to (ticks_at t d.hpet ms pit rtc k) (line_at k d)) at_point
+      ∙ ap (λ (x : ℕ). end_of (t + c) x (ticks_at t d.hpet ms pit rtc k) (line_at k d)) at_end in
       let all : ls ≡ each (line_run d t n) 0 d.ticks = lines-end ls ten end in
       let one : get_or ls 1 no_line ≡ line_run d t n 1 (line_at 1 d) = ap (λ (xs : List TickParts). get_or xs 1 no_line) all
       ∙ each-at (line_run d t n) 0 1 d.ticks no_line (omega (arith, know.sound.joined.places)) in
       same_parts d p_is (r_is ∙ ap (λ (l : TickParts). flagged_where (counts_rtc d && l.up) (rtc_pulsed_times (pulses_from RTC_HZ t n) d.rtc)) one) h_is all
       ∙ sym (run-parted t n d know.sound)
 
-  pub outs-are : (P to : ℕ) (us ups : List (Option ℕ)) (h : HpetParts) → P ≡ t + c → to ≡ t + n → h ≡ d.hpet
-      → ((k : ℕ) → k < 10 → get_or ups k None ≡ up_of t P to (ticks_at pit rtc timers k) (line_at k d))
-      → us ≡ map (λ k. output_from t k h (get_or matched k None) (get_or ups (k + 2) None)) eight
-      → (k : ℕ) → k < 8 → get_or us k None ≡ out_at k
-  outs-are P to us ups h at_point at_end h_is ups_are us_are k less =
-      let place : k + 2 ≡ suc (suc k) = omega arith in
-      ap (λ (xs : List (Option ℕ)). get_or xs k None) us_are ∙ at-eight (λ k. output_from t k h (get_or matched k None) (get_or ups (k + 2) None)) None k less
-      ∙ ap (λ (x : HpetParts). output_from t k x (get_or matched k None) (get_or ups (k + 2) None)) h_is
-      ∙ ap (λ (m : Option ℕ). output_from t k d.hpet m (get_or ups (k + 2) None)) (know.each_matched k less)
-      ∙ ap (output_from t k d.hpet (first_at HPET_HZ t (timer_matches ms k).first))
-      (ap (λ (i : ℕ). get_or ups i None) place ∙ ups_are (suc (suc k)) (omega arith)
-      ∙ ap (λ (x : ℕ). up_of t x to (ticks_at pit rtc timers (suc (suc k))) (line_at (suc (suc k)) d)) at_point
-      ∙ ap (λ (x : ℕ). up_of t (t + c) x (ticks_at pit rtc timers (suc (suc k))) (line_at (suc (suc k)) d)) at_end)
+  -- from when on a line is up, as the code tells it
+  pub up-is : (P to k : ℕ) → P ≡ t + c → to ≡ t + n → up_of t P to (ticks_at t d.hpet ms pit rtc k) (line_at k d) ≡ up_at k
+  up-is P to k at_point at_end =
+      ap (λ (x : ℕ). up_of t x to (ticks_at t d.hpet ms pit rtc k) (line_at k d)) at_point
+      ∙ ap (λ (x : ℕ). up_of t (t + c) x (ticks_at t d.hpet ms pit rtc k) (line_at k d)) at_end
 
-  pub up-is : (P to : ℕ) (ups : List (Option ℕ)) → P ≡ t + c → to ≡ t + n
-      → ((k : ℕ) → k < 10 → get_or ups k None ≡ up_of t P to (ticks_at pit rtc timers k) (line_at k d))
-      → (k : ℕ) → k < 10 → get_or ups k None ≡ up_at k
-  up-is P to ups at_point at_end ups_are k less =
-      ups_are k less ∙ ap (λ (x : ℕ). up_of t x to (ticks_at pit rtc timers k) (line_at k d)) at_point
-      ∙ ap (λ (x : ℕ). up_of t (t + c) x (ticks_at pit rtc timers k) (line_at k d)) at_end
+  -- from when on the outputs are up
+  pub outs : List (Option ℕ)
+  outs = map out_at eight
+
+  pub outs-are : (k : ℕ) → k < 8 → get_or outs k None ≡ out_at k
+  unfolding outs
+  outs-are k less = at-eight out_at None k less
 
   -- the levels at each nanosecond, as the code tells them
-  pub ran-levels : (times us : List (Option ℕ)) (legacy : Bool) (h : HpetParts) (up irq : Option ℕ) → legacy ≡ is_legacy d.hpet → h ≡ d.hpet → up ≡ up_at 0
-      → irq ≡ irq_at
-      → ((k : ℕ) → k < 8 → get_or us k None ≡ out_at k)
-      → times ≡ cond legacy (get_or us 0 None) up ∷ cond legacy (get_or us 1 None) irq ∷ routed_from 20 8 h us ∷ routed_from 21 8 h us ∷ routed_from 22 8 h us
-      ∷ routed_from 23 8 h us ∷ []
-      → (j : ℕ) → t + j ≤ t + n → levels (run t j d).state ≡ levels_at (t + j) times
-  ran-levels times us legacy h up irq legacy_is h_is up_is irq_is outs times_are j le =
-      let same : times ≡ lines_from us = times_are
-      ∙ ap (λ (l : Bool). cond l (get_or us 0 None) up ∷ cond l (get_or us 1 None) irq ∷ routed_from 20 8 h us ∷ routed_from 21 8 h us ∷ routed_from 22 8 h us
-      ∷ routed_from 23 8 h us ∷ []) legacy_is
-      ∙ ap (λ (x : HpetParts). cond (is_legacy d.hpet) (get_or us 0 None) up ∷ cond (is_legacy d.hpet) (get_or us 1 None) irq ∷ routed_from 20 8 x us
-      ∷ routed_from 21 8 x us ∷ routed_from 22 8 x us ∷ routed_from 23 8 x us ∷ []) h_is
-      ∙ ap (λ (x : Option ℕ). cond (is_legacy d.hpet) (get_or us 0 None) x ∷ cond (is_legacy d.hpet) (get_or us 1 None) irq ∷ rest) up_is
-      ∙ ap (λ (x : Option ℕ). cond (is_legacy d.hpet) (get_or us 0 None) (up_at 0) ∷ cond (is_legacy d.hpet) (get_or us 1 None) x ∷ rest) irq_is
-      ∙ ap (λ (x : Option ℕ). cond (is_legacy d.hpet) x (up_at 0) ∷ cond (is_legacy d.hpet) (get_or us 1 None) irq_at ∷ rest) (outs 0 (omega arith))
-      ∙ ap (λ (x : Option ℕ). cond (is_legacy d.hpet) (out_at 0) (up_at 0) ∷ cond (is_legacy d.hpet) x irq_at ∷ rest) (outs 1 (omega arith)) in
-      levels-run us outs j (omega arith) ∙ ap (levels_at (t + j)) (sym same)
-    where
-      rest : List (Option ℕ)
-      rest = routed_from 20 8 d.hpet us ∷ routed_from 21 8 d.hpet us ∷ routed_from 22 8 d.hpet us ∷ routed_from 23 8 d.hpet us ∷ []
+  pub ran-levels : (times : List (Option ℕ)) → times ≡ lines_from outs → (j : ℕ) → t + j ≤ t + n → levels (run t j d).state ≡ levels_at (t + j) times
+  ran-levels times times_are j le = levels-run outs outs-are j (omega arith) ∙ ap (levels_at (t + j)) (sym times_are)
 
   -- ticks that became due
-  pub due-few : (P to : ℕ) (ls : List TickParts) → ((k : ℕ) → k < 10 → get_or ls k no_line ≡ end_of P to (ticks_at pit rtc timers k) (line_at k d))
+  pub due-few : (P to : ℕ) (ls : List TickParts) → ((k : ℕ) → k < 10 → get_or ls k no_line ≡ end_of P to (ticks_at t d.hpet ms pit rtc k) (line_at k d))
       → (k : ℕ) → k < 10 → (get_or ls k no_line).counts.due ≤ (line_at k d).counts.due + n
   due-few P to ls ends k less =
       let e : (get_or ls k no_line).counts.due
-      ≡ (end_of P to (ticks_at pit rtc timers k) (line_at k d)).counts.due = ap (λ (l : TickParts). l.counts.due) (ends k less) in
-      omega (arith, e, due-end P to (ticks_at pit rtc timers k) (line_at k d), ticks-few k less)
+      ≡ (end_of P to (ticks_at t d.hpet ms pit rtc k) (line_at k d)).counts.due = ap (λ (l : TickParts). l.counts.due) (ends k less) in
+      omega (arith, e, due-end P to (ticks_at t d.hpet ms pit rtc k) (line_at k d), ticks-few k less)

@@ -12,4 +12,11 @@ pub mod ClockReads
 pub mod ActEdges
 pub mod Upgrade
 pub mod Still
+pub mod Idle
+pub mod QuietWrites
+pub mod AckLevels
+pub mod AckEdges
+pub mod Slots
+pub mod LevelsOf
+pub mod Timers
 pub mod PowerOn

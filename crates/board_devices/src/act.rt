@@ -11,8 +11,9 @@ ghost use Rattle.board_devices.specs.Places.{line_at, no_line, ticked_at};
 ghost use Rattle.board_devices.specs.Lines.{levels};
 ghost use Rattle.board_devices.specs.declared.act.Act.TheVariants.{PitRead, PitWrite, IndexWrite, ClockRead, ClockWrite, HpetWrite, Ack};
 ghost use Rattle.board_devices.specs.Act.{IsLegal, acted, first_part, value_of, reads_byte, act_edges, pit_ticked};
+ghost use Rattle.board_devices.specs.private.Writes.{moves_lines};
 
-use crate::acks::{all_acked, all_acks, all_down};
+use crate::acks::ack_lines;
 use crate::clock::{ack_clock_line, again_where, clock_up, counts_rtc, set_clock_line, set_flag};
 use crate::devices::Devices;
 use crate::lines::lines_of;
@@ -234,6 +235,10 @@ impl Devices {
         ensures due { (k : ℕ) → k < 10 → (line_at k self.new).counts.due
             ≡ (line_at k self.old).counts.due }
     {
+        if !moves_lines(offset) {
+            self.hpet.write(offset, width, v);
+            return;
+        }
         let before = lines_of(&self.rtc, &self.hpet, &self.ticks);
         self.hpet.write(offset, width, v);
         set_clock_line(&mut self.ticks, clock_up(&self.rtc, &self.hpet));
@@ -251,16 +256,19 @@ impl Devices {
         ensures due { (k : ℕ) → k < 10 → (line_at k self.new).counts.due
             ≡ (line_at k self.old).counts.due }
     {
-        let mask = all_acks(line, &self.hpet);
-        let before = lines_of(&self.rtc, &self.hpet, &self.ticks);
-        let down = all_down(&self.ticks, &mask);
-        let middle = lines_of(&self.rtc, &self.hpet, &down);
-        let up_again = all_acked(&self.ticks, &mask);
-        let after = lines_of(&self.rtc, &self.hpet, &up_again);
-        self.ticks = up_again;
-        changes(before, middle, at, edges);
-        changes(middle, after, at, edges);
+        let levels = ack_lines(&mut self.ticks, &self.hpet, line);
+        push_change(line, levels.before, levels.between, at, edges);
+        push_change(line, levels.between, levels.after, at, edges);
     }
+}
+
+/// Whether a write to the HPET at this offset may move a line: to its configuration, its status or
+/// the configuration of a timer.
+fn moves_lines(offset: u16) -> bool
+    ensures { result ≡ moves_lines offset }
+{
+    let place = offset - offset % 8;
+    place == 0x10 || (place == 0x20 || (place >= 0x100 && place % 0x20 == 0))
 }
 
 /// Whether a rise of OUT 0 is counted.

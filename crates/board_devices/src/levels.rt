@@ -1,17 +1,19 @@
 //! From when on the lines are up.
-ghost use Rattle.std.specs.Prelude.{◌≡◌, ℕ, ◌+◌, ◌-◌, ◌^◌, ◌<◌, ◌≤◌, ◌&&◌, ◌∷◌, [], slice_index_or, None, map, if◌then◌else◌};
+ghost use Rattle.std.specs.Prelude.{◌≡◌, ◌-◌, ◌<◌, ◌≤◌, ◌^◌, ◌∷◌, [], None, Some, IfSome, if◌then◌else◌};
+ghost use Rattle.rtc_registers.specs.declared.TheConstants.{RTC_HZ};
+ghost use Rattle.clk_units.specs.Pulses.{pulses_from};
+ghost use Rattle.clk_units.specs.Events.{first_at};
 ghost use Rattle.rtc_registers.specs.Registers.{pie_of, af_of, aie_of, uf_of, uie_of};
-ghost use Rattle.clk_units.specs.Bits.{bit};
-ghost use Rattle.hpet_registers.specs.Parts.{timer_at};
-ghost use Rattle.board_devices.specs.Lines.{drives};
-ghost use Rattle.board_devices.specs.private.Stretch.{eight, either_from, flag_from, output_from, routed_from};
+ghost use Rattle.board_devices.specs.private.Stretch.{either_from, flag_from, slot_of, with_rise};
 
+use crate::stretch::Span;
+use clk_units::first_at;
 use hpet_registers::Hpet;
-use rtc_registers::Rtc;
+use rtc_registers::{RTC_HZ, Rtc, RtcEvents};
 
 /// The earlier of two times.
 #[tactic(auto, unfolding(crate::specs::private::Stretch::either_from))]
-pub(crate) fn either_from(a: Option<u64>, b: Option<u64>) -> Option<u64>
+fn either_from(a: Option<u64>, b: Option<u64>) -> Option<u64>
     ensures { result ≡ either_from a b }
 {
     match a {
@@ -32,51 +34,6 @@ pub(crate) fn flag_from(b: bool, flag: bool, from: u64, first: Option<u64>) -> O
     } else {
         None
     }
-}
-
-/// From when on the output of timer `k` is up.
-pub(crate) fn output_from(
-    h: &Hpet,
-    k: u8,
-    from: u64,
-    matched: Option<u64>,
-    line: Option<u64>,
-) -> Option<u64>
-    requires { k < 8 }
-    ensures { result ≡ output_from from k h.now matched line }
-{
-    let timer = h.timer(k);
-    if timer.is_level() {
-        flag_from(timer.is_enabled(), h.status_bit(k), from, matched)
-    } else {
-        line
-    }
-}
-
-/// Whether timer `k` drives a line to which it is routed.
-fn drives(line: u8, k: u8, h: &Hpet) -> bool
-    requires { k < 8 }
-    ensures { result ≡ drives line k h.now }
-{
-    h.timer(k).route() == line && !(h.legacy() && k < 2)
-}
-
-/// A time, where `b` holds.
-fn where_driven(b: bool, time: Option<u64>) -> Option<u64>
-    ensures { result ≡ (if b then time else None) }
-{
-    if b { time } else { None }
-}
-
-/// From when on a timer that is routed to the line is up.
-pub(crate) fn routed_from(line: u8, h: &Hpet, outputs: &[Option<u64>; 8]) -> Option<u64>
-    ensures { result ≡ routed_from line 8 h.now outputs.now }
-{
-    let mut time = None;
-    for k in 0..8u8 {
-        time = either_from(time, where_driven(drives(line, k, h), outputs[k as usize]));
-    }
-    time
 }
 
 /// What the MC146818 shows of its flags.
@@ -109,86 +66,67 @@ pub(crate) fn shown_of(rtc: &Rtc) -> Shown
     }
 }
 
-/// From when on IRQF is up, by the tick line and the times of alarm and update.
-pub(crate) fn irq_from(
-    shown: Shown,
-    from: u64,
-    line: Option<u64>,
-    alarm: Option<u64>,
-    update: Option<u64>,
-) -> Option<u64>
-    ensures { result ≡ either_from line (either_from (flag_from shown.aie shown.af from alarm) (flag_from shown.uie shown.uf from update)) }
+/// From when on IRQF is up, by what the clock showed before, by its tick line and by its events.
+pub(crate) fn irq_up(shown: Shown, line: Option<u64>, events: &RtcEvents, span: Span) -> Option<u64>
+    requires order { span.from ≤ span.to }
+    requires range { span.to < 2 ^ 59 }
+    requires alarm { IfSome events.now.first_alarm (λ j. j
+        ≤ pulses_from RTC_HZ span.from (span.to - span.from)) }
+    requires update { IfSome events.now.cycle.first_update (λ j. j
+        ≤ pulses_from RTC_HZ span.from (span.to - span.from)) }
+    ensures { result ≡ either_from line (either_from
+        (flag_from shown.aie shown.af span.from (first_at RTC_HZ span.from events.now.first_alarm))
+        (flag_from shown.uie shown.uf span.from
+        (first_at RTC_HZ span.from events.now.cycle.first_update))) }
 {
+    let alarm = first_at(events.first_alarm, RTC_HZ, span.from, span.to);
+    let update = first_at(events.cycle.first_update, RTC_HZ, span.from, span.to);
     either_from(
         line,
         either_from(
-            flag_from(shown.aie, shown.af, from, alarm),
-            flag_from(shown.uie, shown.uf, from, update),
+            flag_from(shown.aie, shown.af, span.from, alarm),
+            flag_from(shown.uie, shown.uf, span.from, update),
         ),
     )
 }
 
-/// From when on the output of timer `k` is up, by its first match and the lines.
-fn output_at(
-    h: &Hpet,
-    k: u8,
-    from: u64,
-    matched: &[Option<u64>; 8],
-    ups: &[Option<u64>; 10],
-) -> Option<u64>
-    requires place { k < 8 }
-    ensures { result ≡ output_from from k h.now (slice_index_or matched.now k None) (slice_index_or ups.now (k + 2) None) }
+/// From when on the six lines are up by the 8254 and the MC146818, where legacy replacement doesn't
+/// hide them.
+pub(crate) fn front_times(legacy: bool, pit: Option<u64>, irq: Option<u64>) -> [Option<u64>; 6]
+    ensures { result ≡ (if legacy then None else pit) ∷ (if legacy then None else irq)
+        ∷ None ∷ None ∷ None ∷ None ∷ [] }
 {
-    output_from(h, k, from, matched[k as usize], ups[k as usize + 2])
+    if legacy {
+        [None; 6]
+    } else {
+        [pit, irq, None, None, None, None]
+    }
 }
 
-/// From when on the outputs of all timers are up.
-pub(crate) fn all_outputs(
-    h: &Hpet,
-    from: u64,
-    matched: &[Option<u64>; 8],
-    ups: &[Option<u64>; 10],
-) -> [Option<u64>; 8]
-    ensures { result ≡ map (λ k. output_from from k h.now (slice_index_or matched.now k None) (slice_index_or ups.now (k + 2) None)) eight }
+/// The place, among the six lines, of the one that timer `k` drives.
+pub(crate) fn slot_of(h: &Hpet, k: u8) -> Option<usize>
+    requires { k < 8 }
+    ensures value { result ≡ slot_of k h.now }
+    ensures range { IfSome result (λ i. i < 6) }
 {
-    [
-        output_at(h, 0, from, matched, ups),
-        output_at(h, 1, from, matched, ups),
-        output_at(h, 2, from, matched, ups),
-        output_at(h, 3, from, matched, ups),
-        output_at(h, 4, from, matched, ups),
-        output_at(h, 5, from, matched, ups),
-        output_at(h, 6, from, matched, ups),
-        output_at(h, 7, from, matched, ups),
-    ]
+    if h.legacy() && k < 2 {
+        return Some(k as usize);
+    }
+    match h.timer(k).route() {
+        20 => Some(2),
+        21 => Some(3),
+        22 => Some(4),
+        23 => Some(5),
+        _ => None,
+    }
 }
 
-/// One of two times.
-fn choice(b: bool, x: Option<u64>, y: Option<u64>) -> Option<u64>
-    ensures { result ≡ (if b then x else y) }
+/// The line at a slot, where there is one, is up from this time on, too.
+pub(crate) fn add_rise(times: &mut [Option<u64>; 6], slot: Option<usize>, time: u64)
+    requires { IfSome slot (λ i. i < 6) }
+    ensures { times.new ≡ with_rise (Some time) slot times.old }
 {
-    if b { x } else { y }
-}
-
-/// From when on the six lines are up.
-pub(crate) fn line_times(
-    legacy: bool,
-    h: &Hpet,
-    pit: Option<u64>,
-    irq: Option<u64>,
-    outputs: &[Option<u64>; 8],
-) -> [Option<u64>; 6]
-    ensures { result ≡ (if legacy then slice_index_or outputs.now 0 None else pit)
-        ∷ (if legacy then slice_index_or outputs.now 1 None else irq)
-        ∷ routed_from 20 8 h.now outputs.now ∷ routed_from 21 8 h.now outputs.now
-        ∷ routed_from 22 8 h.now outputs.now ∷ routed_from 23 8 h.now outputs.now ∷ [] }
-{
-    [
-        choice(legacy, outputs[0], pit),
-        choice(legacy, outputs[1], irq),
-        routed_from(20, h, outputs),
-        routed_from(21, h, outputs),
-        routed_from(22, h, outputs),
-        routed_from(23, h, outputs),
-    ]
+    if let Some(i) = slot {
+        times[i] = either_from(times[i], Some(time));
+    }
 }

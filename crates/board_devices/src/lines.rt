@@ -1,12 +1,13 @@
 //! The levels of the lines.
-ghost use Rattle.std.specs.Prelude.{◌≡◌, ℕ, ◌<◌, ◌&&◌, slice_index_or, if◌then◌else◌};
+ghost use Rattle.std.specs.Prelude.{◌≡◌, ℕ, ◌<◌, Some, None, slice_index_or, if◌then◌else◌};
 ghost use Rattle.pit_readback.specs.declared.parts.PitParts.{PitParts};
 ghost use Rattle.board_devices.specs.Places.{no_line};
-ghost use Rattle.board_devices.specs.Lines.{levels, drives};
-ghost use Rattle.board_devices.specs.private.Stretch.{output_by, routed_by};
+ghost use Rattle.board_devices.specs.Lines.{levels};
+ghost use Rattle.board_devices.specs.private.Stretch.{output_by};
 
+use crate::levels::{add_rise, front_times, slot_of};
 use hpet_registers::Hpet;
-use irq_edges::Lines;
+use irq_edges::{Lines, lines_at};
 use rtc_registers::Rtc;
 use tick_policy::TickLine;
 
@@ -31,47 +32,25 @@ fn output_by(h: &Hpet, k: u8, ticks: &[TickLine; 10]) -> bool
     }
 }
 
-/// Whether timer `k` drives a line to which it is routed.
-fn drives(line: u8, k: u8, h: &Hpet) -> bool
-    requires { k < 8 }
-    ensures { result ≡ drives line k h.now }
+/// From when on a line is up of which the level alone is asked.
+fn at_once(up: bool) -> Option<u64>
+    ensures { result ≡ (if up then Some 0 else None) }
 {
-    h.timer(k).route() == line && !(h.legacy() && k < 2)
-}
-
-/// Whether a timer that is routed to the line is up.
-fn routed_by(line: u8, h: &Hpet, ticks: &[TickLine; 10]) -> bool
-    ensures { result ≡ routed_by line 8 h.now ticks.now }
-{
-    let mut up = false;
-    for k in 0..8u8 {
-        up = up || (drives(line, k, h) && output_by(h, k, ticks));
-    }
-    up
-}
-
-/// One of two levels.
-fn choice(b: bool, x: bool, y: bool) -> bool
-    ensures { result ≡ (if b then x else y) }
-{
-    if b { x } else { y }
+    if up { Some(0) } else { None }
 }
 
 /// The levels of the lines.
-#[tactic(auto, unfolding(crate::specs::Lines::levels))]
 pub(crate) fn lines_of(rtc: &Rtc, hpet: &Hpet, ticks: &[TickLine; 10]) -> Lines
     ensures { (p : PitParts) (slew : ℕ) → result.levels
         ≡ levels (record { pit = p; rtc = rtc.now; hpet = hpet.now; ticks = ticks.now; slew_ns = slew }) }
 {
-    let legacy = hpet.legacy();
-    Lines {
-        levels: [
-            choice(legacy, output_by(hpet, 0, ticks), up_at(ticks, 0)),
-            choice(legacy, output_by(hpet, 1, ticks), rtc.irqf()),
-            routed_by(20, hpet, ticks),
-            routed_by(21, hpet, ticks),
-            routed_by(22, hpet, ticks),
-            routed_by(23, hpet, ticks),
-        ],
+    let _parts = hpet.parts();
+    let pit = at_once(up_at(ticks, 0));
+    let mut times = front_times(hpet.legacy(), pit, at_once(rtc.irqf()));
+    for k in 0..hpet.timers() {
+        if output_by(hpet, k, ticks) {
+            add_rise(&mut times, slot_of(hpet, k), 0);
+        }
     }
+    lines_at(&times, 0)
 }

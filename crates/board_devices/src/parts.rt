@@ -22,7 +22,7 @@ use tick_policy::{Policy, TickLine, TickParts};
 pub const SLEW_MAX_NS: u64 = 1_000_000_000;
 
 /// All that runs with time.
-#[derive(Clone, Copy)]
+#[derive(Clone, Copy, Debug, PartialEq, Eq)]
 pub struct DeviceParts {
     /// The 8254.
     pub pit: PitParts,

@@ -11,9 +11,9 @@ ghost use Rattle.board_devices.specs.private.Stretch.{told_levels};
 
 use crate::clock::{counts_rtc, set_flag};
 use crate::devices::Devices;
-use crate::levels::{all_outputs, irq_from, line_times, shown_of};
-use crate::stretch::{all_matched, all_timer_ticks, counted, run_lines};
-use clk_units::{RANGE_NS, first_at, pulses_between};
+use crate::levels::{front_times, irq_up, shown_of};
+use crate::stretch::{Span, pit_ticks, rtc_ticks, run_at, run_timers};
+use clk_units::{RANGE_NS, pulses_between};
 use hpet_comparator::Matches;
 use hpet_registers::HPET_HZ;
 use irq_edges::{EdgeList, emit, next_rise};
@@ -34,11 +34,10 @@ impl Devices {
         ensures due { (k : ℕ) → k < 10 → (line_at k self.new).counts.due
             ≤ (line_at k self.old).counts.due + (to - from) }
     {
-        let hpet = self.hpet;
-        let legacy = hpet.legacy();
         let _clock = self.rtc.parts();
         let shown = shown_of(&self.rtc);
-        let counts = counts_rtc(shown.pie, legacy);
+        let legacy = self.hpet.legacy();
+        let status = self.hpet.parts().status;
         let point = next_point(from, self.slew_ns);
         let rises = self.pit.pulses(pulses_between(from, to, PIT_HZ));
         let events = self.rtc.pulses(pulses_between(from, to, RTC_HZ));
@@ -46,20 +45,25 @@ impl Devices {
         if to < point && nothing_came(rises, &events, &matches) {
             return None;
         }
-        let rise_at = first_at(rises.first, PIT_HZ, from, to);
-        let tick_at = first_at(events.cycle.first_tick, RTC_HZ, from, to);
-        let alarm_at = first_at(events.first_alarm, RTC_HZ, from, to);
-        let update_at = first_at(events.cycle.first_update, RTC_HZ, from, to);
-        let pit = counted(true, !legacy, rises.count, rise_at);
-        let rtc = counted(counts, counts, events.cycle.ticks, tick_at);
-        let matched = all_matched(&matches, from, to);
-        let timers = all_timer_ticks(&hpet, &matches, &matched);
-        let ups = run_lines(&mut self.ticks, pit, rtc, &timers, from, to, point);
+        let span = Span { from, to, point };
+        let counts = counts_rtc(shown.pie, legacy);
+        let pit = pit_ticks(legacy, rises, span);
+        let rtc = rtc_ticks(counts, &events, span);
+        let pit_up = run_at(&mut self.ticks, 0, pit, span);
+        let rtc_up = run_at(&mut self.ticks, 1, rtc, span);
         let flag = counts_rtc_up(counts, self.ticks[1].is_up());
         set_flag(&mut self.rtc, flag);
-        let outputs = all_outputs(&hpet, from, &matched, &ups);
-        let irq = irq_from(shown, from, ups[1], alarm_at, update_at);
-        Some(line_times(legacy, &hpet, ups[0], irq, &outputs))
+        let irq = irq_up(shown, rtc_up, &events, span);
+        let mut times = front_times(legacy, pit_up, irq);
+        run_timers(
+            &mut self.ticks,
+            &self.hpet,
+            status,
+            &matches,
+            span,
+            &mut times,
+        );
+        Some(times)
     }
 
     /// Runs from nanosecond `from` to `to`, and appends the edges on the way. Six places must be

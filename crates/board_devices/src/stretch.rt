@@ -1,16 +1,34 @@
 //! The tick lines over a stretch of nanoseconds.
-ghost use Rattle.std.specs.Prelude.{◌≡◌, ℕ, ◌+◌, ◌-◌, ◌<◌, ◌≤◌, ◌^◌, ◌&&◌, not, ◌∷◌, [], IfSome, map, slice_index_or, if◌then◌else◌, None};
+ghost use Rattle.std.specs.Prelude.{◌≡◌, ◌≢◌, ℕ, ◌+◌, ◌-◌, ◌<◌, ◌≤◌, ◌^◌, true, not, IfSome, length, slice_index_or};
+ghost use Rattle.clk_units.specs.Bits.{bit};
+ghost use Rattle.pit_readback.specs.declared.TheConstants.{PIT_HZ};
+ghost use Rattle.rtc_registers.specs.declared.TheConstants.{RTC_HZ};
 ghost use Rattle.hpet_registers.specs.declared.hpet.TheConstants.{HPET_HZ};
 ghost use Rattle.clk_units.specs.Pulses.{pulses_from};
 ghost use Rattle.clk_units.specs.Events.{first_at};
 ghost use Rattle.hpet_registers.specs.Stretch.{timer_matches};
 ghost use Rattle.board_devices.specs.Places.{no_line};
-ghost use Rattle.board_devices.specs.private.Stretch.{eight, counted, no_ticks, timer_ticks, ticks_at, end_of, up_of};
+ghost use Rattle.board_devices.specs.private.Stretch.{counted, timer_ticks, moves, end_of, up_of, output_up, slots_from};
 
-use clk_units::first_at;
+use crate::levels::{add_rise, flag_from, slot_of};
+use clk_units::{bit, first_at};
 use hpet_comparator::Matches;
 use hpet_registers::{HPET_HZ, Hpet};
+use pit_counter::Rises;
+use pit_readback::PIT_HZ;
+use rtc_registers::{RTC_HZ, RtcEvents};
 use tick_policy::{TickLine, run_line};
+
+/// The nanoseconds behind `from` and up to `to`.
+#[derive(Clone, Copy)]
+pub(crate) struct Span {
+    /// The nanosecond before the first.
+    pub(crate) from: u64,
+    /// The last nanosecond.
+    pub(crate) to: u64,
+    /// The first catch-up point behind `from`.
+    pub(crate) point: u64,
+}
 
 /// The ticks of a line's source over a stretch.
 #[derive(Clone, Copy)]
@@ -23,18 +41,10 @@ pub(crate) struct Ticks {
     pub(crate) first: Option<u64>,
 }
 
-impl Ticks {
-    /// No ticks.
-    pub(crate) const NONE: Ticks = Ticks {
-        seen: false,
-        count: 0,
-        first: None,
-    };
-}
-
 /// Ticks that are counted where `b` holds.
 pub(crate) fn counted(seen: bool, b: bool, count: u64, first: Option<u64>) -> Ticks
-    ensures { result ≡ counted seen b count first }
+    ensures value { result ≡ counted seen b count first }
+    ensures few { result.count ≤ count }
 {
     if b {
         Ticks { seen, count, first }
@@ -47,120 +57,151 @@ pub(crate) fn counted(seen: bool, b: bool, count: u64, first: Option<u64>) -> Ti
     }
 }
 
-/// The nanosecond of the first match of timer `k`.
-fn matched_at(matches: &[Matches; 8], k: usize, from: u64, to: u64) -> Option<u64>
-    requires place { k < 8 }
-    requires order { from ≤ to }
-    requires range { to < 2 ^ 59 }
-    requires inside { IfSome (timer_matches matches.now k).first (λ j. j
-        ≤ pulses_from HPET_HZ from (to - from)) }
-    ensures { result ≡ first_at HPET_HZ from (timer_matches matches.now k).first }
+/// The ticks of the 8254, by the rises of OUT 0; legacy replacement leaves them out.
+pub(crate) fn pit_ticks(legacy: bool, rises: Rises, span: Span) -> Ticks
+    requires order { span.from ≤ span.to }
+    requires range { span.to < 2 ^ 59 }
+    requires inside { IfSome rises.first (λ j. j
+        ≤ pulses_from PIT_HZ span.from (span.to - span.from)) }
+    ensures value { result
+        ≡ counted true (not legacy) rises.count (first_at PIT_HZ span.from rises.first) }
+    ensures few { result.count ≤ rises.count }
 {
-    first_at(matches[k].first, HPET_HZ, from, to)
+    let first = first_at(rises.first, PIT_HZ, span.from, span.to);
+    counted(true, !legacy, rises.count, first)
 }
 
-/// The nanoseconds of the first matches of all timers.
-pub(crate) fn all_matched(matches: &[Matches; 8], from: u64, to: u64) -> [Option<u64>; 8]
-    requires order { from ≤ to }
-    requires range { to < 2 ^ 59 }
-    requires inside { (k : ℕ) → k < 8 → IfSome (timer_matches matches.now k).first (λ j. j
-        ≤ pulses_from HPET_HZ from (to - from)) }
-    ensures { result ≡ map (λ k. first_at HPET_HZ from (timer_matches matches.now k).first) eight }
+/// The ticks of the MC146818, which are counted where `b` holds.
+pub(crate) fn rtc_ticks(b: bool, events: &RtcEvents, span: Span) -> Ticks
+    requires order { span.from ≤ span.to }
+    requires range { span.to < 2 ^ 59 }
+    requires inside { IfSome events.now.cycle.first_tick (λ j. j
+        ≤ pulses_from RTC_HZ span.from (span.to - span.from)) }
+    ensures value { result ≡ counted b b events.now.cycle.ticks
+        (first_at RTC_HZ span.from events.now.cycle.first_tick) }
+    ensures few { result.count ≤ events.now.cycle.ticks }
 {
-    [
-        matched_at(matches, 0, from, to),
-        matched_at(matches, 1, from, to),
-        matched_at(matches, 2, from, to),
-        matched_at(matches, 3, from, to),
-        matched_at(matches, 4, from, to),
-        matched_at(matches, 5, from, to),
-        matched_at(matches, 6, from, to),
-        matched_at(matches, 7, from, to),
-    ]
+    let first = first_at(events.cycle.first_tick, RTC_HZ, span.from, span.to);
+    counted(b, b, events.cycle.ticks, first)
 }
 
-/// The ticks of timer `k`.
-fn timer_ticks(h: &Hpet, k: u8, matches: &[Matches; 8], matched: &[Option<u64>; 8]) -> Ticks
-    requires place { k < 8 }
-    ensures { result ≡ timer_ticks k h.now matches.now matched.now }
+/// Whether a stretch may change a line: a tick is due, or its catch-up point finds one that waits.
+fn moves(line: &TickLine, ticks: Ticks, span: Span) -> bool
+    ensures { result ≡ moves span.point span.to ticks line.now }
 {
-    counted(
-        true,
-        h.has_ticks(k),
-        matches[k as usize].count,
-        matched[k as usize],
-    )
+    ticks.seen
+        && (ticks.count > 0
+            || (ticks.first.is_some() || (span.point <= span.to && line.is_waiting())))
 }
 
-/// The ticks of all timers.
-pub(crate) fn all_timer_ticks(
-    h: &Hpet,
-    matches: &[Matches; 8],
-    matched: &[Option<u64>; 8],
-) -> [Ticks; 8]
-    ensures { result ≡ map (λ k. timer_ticks k h.now matches.now matched.now) eight }
+/// Takes the line at place `k` over a stretch. Answers from when on it is up.
+pub(crate) fn run_at(lines: &mut [TickLine; 10], k: usize, ticks: Ticks, span: Span) -> Option<u64>
+    requires place { k < 10 }
+    requires room { (slice_index_or lines.old k no_line).counts.due + ticks.count < 2 ^ 63 }
+    ensures places { length lines.new ≡ 10 }
+    ensures here { slice_index_or lines.new k no_line
+        ≡ end_of span.point span.to ticks (slice_index_or lines.old k no_line) }
+    ensures others { (j : ℕ) → j ≢ k
+        → slice_index_or lines.new j no_line ≡ slice_index_or lines.old j no_line }
+    ensures up { result
+        ≡ up_of span.from span.point span.to ticks (slice_index_or lines.old k no_line) }
 {
-    [
-        timer_ticks(h, 0, matches, matched),
-        timer_ticks(h, 1, matches, matched),
-        timer_ticks(h, 2, matches, matched),
-        timer_ticks(h, 3, matches, matched),
-        timer_ticks(h, 4, matches, matched),
-        timer_ticks(h, 5, matches, matched),
-        timer_ticks(h, 6, matches, matched),
-        timer_ticks(h, 7, matches, matched),
-    ]
-}
-
-/// The ticks at a place.
-fn ticks_at(k: usize, pit: Ticks, rtc: Ticks, timers: &[Ticks; 8]) -> Ticks
-    requires { k < 10 }
-    ensures { result ≡ ticks_at pit rtc timers.now k }
-{
-    match k {
-        0 => pit,
-        1 => rtc,
-        _ => timers[k - 2],
+    if !moves(&lines[k], ticks, span) {
+        return if lines[k].is_up() {
+            Some(span.from)
+        } else {
+            None
+        };
     }
+    let mut line = lines[k];
+    let up = run_line(
+        &mut line,
+        span.from,
+        span.to,
+        span.point,
+        ticks.count,
+        ticks.first,
+    );
+    lines[k] = line;
+    up
 }
 
-/// Takes one line over a stretch. Answers from when on it is up.
-fn run_one(line: &mut TickLine, ticks: Ticks, from: u64, to: u64, point: u64) -> Option<u64>
-    requires { line.old.counts.due + ticks.count < 2 ^ 63 }
-    ensures state { line.new ≡ end_of point to ticks line.old }
-    ensures up { result ≡ up_of from point to ticks line.old }
-{
-    if ticks.seen {
-        run_line(line, from, to, point, ticks.count, ticks.first)
-    } else if line.is_up() {
-        Some(from)
-    } else {
-        None
-    }
-}
-
-/// Takes all lines over a stretch. Answers from when on each is up.
-pub(crate) fn run_lines(
+/// Takes the tick line of timer `k` of an HPET that has had its pulses over a stretch. Answers from
+/// when on the timer's output is up; `was_set` is its status bit before.
+fn run_timer(
     lines: &mut [TickLine; 10],
-    pit: Ticks,
-    rtc: Ticks,
-    timers: &[Ticks; 8],
-    from: u64,
-    to: u64,
-    point: u64,
-) -> [Option<u64>; 10]
-    requires { (k : ℕ) → k < 10 → (slice_index_or lines.old k no_line).counts.due
-        + (ticks_at pit rtc timers.now k).count < 2 ^ 63 }
-    ensures state { (k : ℕ) → k < 10 → slice_index_or lines.new k no_line
-        ≡ end_of point to (ticks_at pit rtc timers.now k) (slice_index_or lines.old k no_line) }
-    ensures up { (k : ℕ) → k < 10 → slice_index_or result k None
-        ≡ up_of from point to (ticks_at pit rtc timers.now k) (slice_index_or lines.old k no_line) }
+    h: &Hpet,
+    k: u8,
+    was_set: bool,
+    matches: Matches,
+    span: Span,
+) -> Option<u64>
+    requires place { k < 8 }
+    requires order { span.from ≤ span.to }
+    requires range { span.to < 2 ^ 59 }
+    requires inside { IfSome matches.first (λ j. j
+        ≤ pulses_from HPET_HZ span.from (span.to - span.from)) }
+    requires room { (slice_index_or lines.old (k + 2) no_line).counts.due + matches.count < 2 ^ 63 }
+    ensures places { length lines.new ≡ 10 }
+    ensures here { slice_index_or lines.new (k + 2) no_line
+        ≡ end_of span.point span.to (timer_ticks span.from k h.now matches)
+        (slice_index_or lines.old (k + 2) no_line) }
+    ensures others { (j : ℕ) → j ≢ k + 2
+        → slice_index_or lines.new j no_line ≡ slice_index_or lines.old j no_line }
+    ensures output { result
+        ≡ output_up span k h.now was_set matches (slice_index_or lines.old (k + 2) no_line) }
 {
-    let mut ups = [None; 10];
-    for k in 0..10 {
-        let mut line = lines[k];
-        ups[k] = run_one(&mut line, ticks_at(k, pit, rtc, timers), from, to, point);
-        lines[k] = line;
+    let timer = h.timer(k);
+    let first = first_at(matches.first, HPET_HZ, span.from, span.to);
+    let ticks = counted(true, h.has_ticks(k), matches.count, first);
+    let up = run_at(lines, k as usize + 2, ticks, span);
+    if timer.is_level() {
+        flag_from(timer.is_enabled(), was_set, span.from, first)
+    } else {
+        up
     }
-    ups
+}
+
+/// The status bit of timer `k`.
+fn is_set(status: u8, k: u8) -> bool
+    ensures { result ≡ bit k status }
+{
+    bit(u32::from(k), u64::from(status))
+}
+
+/// Takes the tick lines of the timers of an HPET that has had its pulses over a stretch, and adds
+/// from when on the lines are up that they drive. `status` is the HPET's before.
+pub(crate) fn run_timers(
+    lines: &mut [TickLine; 10],
+    h: &Hpet,
+    status: u8,
+    matches: &[Matches; 8],
+    span: Span,
+    times: &mut [Option<u64>; 6],
+)
+    requires order { span.from ≤ span.to }
+    requires range { span.to < 2 ^ 59 }
+    requires inside { (k : ℕ) → k < 8 → IfSome (timer_matches matches.now k).first (λ j. j
+        ≤ pulses_from HPET_HZ span.from (span.to - span.from)) }
+    requires room { (k : ℕ) → k < 8 → (slice_index_or lines.old (k + 2) no_line).counts.due
+        + (timer_matches matches.now k).count < 2 ^ 63 }
+    ensures places { length lines.new ≡ 10 }
+    ensures front { (j : ℕ) → j < 2
+        → slice_index_or lines.new j no_line ≡ slice_index_or lines.old j no_line }
+    ensures done { (k : ℕ) → k < h.now.timers → slice_index_or lines.new (k + 2) no_line
+        ≡ end_of span.point span.to (timer_ticks span.from k h.now (timer_matches matches.now k))
+        (slice_index_or lines.old (k + 2) no_line) }
+    ensures rest { (j : ℕ) → h.now.timers + 2 ≤ j
+        → slice_index_or lines.new j no_line ≡ slice_index_or lines.old j no_line }
+    ensures times { times.new
+        ≡ slots_from h.now.timers h.now (λ k. output_up span k h.now (bit k status)
+        (timer_matches matches.now k) (slice_index_or lines.old (k + 2) no_line)) times.old }
+{
+    for k in 0..h.timers() {
+        let was_set = is_set(status, k);
+        let output = run_timer(lines, h, k, was_set, matches[k as usize], span);
+        if let Some(time) = output {
+            add_rise(times, slot_of(h, k), time);
+        }
+    }
 }

@@ -1,5 +1,6 @@
 //! Worked values of a board's devices, as calls.
 ghost use Rattle.std.specs.Prelude.{◌≡◌, ℕ, ◌<◌, ◌≤◌, ◌^◌, IsTrue};
+ghost use Rattle.pit_readback.specs.Ports.{is_pit_port};
 ghost use Rattle.board_devices.specs.Places.{line_at};
 ghost use Rattle.board_devices.specs.Act.{IsLegal};
 
@@ -8,6 +9,8 @@ use irq_edges::{Edge, EdgeList};
 use rtc_calendar::TimeBytes;
 use std::process::Abort;
 use tick_policy::{Counts, Policy};
+
+mod steps;
 
 const TIME: TimeBytes = TimeBytes {
     sec: 0,
@@ -73,35 +76,37 @@ fn counts(due: u64, rises: u64, queue: u64, lost: u64) -> Counts {
     }
 }
 
+/// A write to a port of the 8254 at 0.
+fn out(rt: &impl Abort, devices: &mut Devices, port: u8, byte: u8)
+    requires { IsTrue (is_pit_port port) }
+{
+    act(rt, devices, Act::PitWrite { port, byte }, 0);
+}
+
+/// A write of 8 bytes to the HPET.
+fn set(rt: &impl Abort, devices: &mut Devices, offset: u16, value: u64, at: u64)
+    requires { offset ≤ 0x3ff }
+{
+    let write = Act::HpetWrite {
+        offset,
+        width: 8,
+        value,
+    };
+    act(rt, devices, write, at);
+}
+
+/// A read of 8 bytes of the HPET.
+fn get(rt: &impl Abort, devices: &mut Devices, offset: u16, at: u64) -> u64
+    requires { offset ≤ 0x3ff }
+{
+    act(rt, devices, Act::HpetRead { offset, width: 8 }, at).0
+}
+
 /// Counter 0 in mode 2 with count 4.
 fn start_counter(rt: &impl Abort, devices: &mut Devices) {
-    act(
-        rt,
-        devices,
-        Act::PitWrite {
-            port: 0x43,
-            byte: 0x34,
-        },
-        0,
-    );
-    act(
-        rt,
-        devices,
-        Act::PitWrite {
-            port: 0x40,
-            byte: 4,
-        },
-        0,
-    );
-    act(
-        rt,
-        devices,
-        Act::PitWrite {
-            port: 0x40,
-            byte: 0,
-        },
-        0,
-    );
+    out(rt, devices, 0x43, 0x34);
+    out(rt, devices, 0x40, 4);
+    out(rt, devices, 0x40, 0);
 }
 
 // periodic interrupts of the MC146818 at rate 6, and a read of register C that shows the next
@@ -127,89 +132,17 @@ fn a_read_of_register_c_shows_a_tick_that_waits(rt: HostRuntime) {
 #[test]
 fn a_periodic_timer_of_32_bits_wraps(rt: HostRuntime) {
     let mut d = devices(Policy::Delay, 1_000_000);
-    act(
-        &rt,
-        &mut d,
-        Act::HpetWrite {
-            offset: 0x100,
-            width: 8,
-            value: 0x294c,
-        },
-        0,
-    );
-    act(
-        &rt,
-        &mut d,
-        Act::HpetWrite {
-            offset: 0x108,
-            width: 8,
-            value: 0xffff_fff8,
-        },
-        0,
-    );
-    act(
-        &rt,
-        &mut d,
-        Act::HpetWrite {
-            offset: 0x108,
-            width: 8,
-            value: 0x10,
-        },
-        0,
-    );
-    act(
-        &rt,
-        &mut d,
-        Act::HpetWrite {
-            offset: 0xf0,
-            width: 8,
-            value: 0xffff_fff0,
-        },
-        0,
-    );
-    act(
-        &rt,
-        &mut d,
-        Act::HpetWrite {
-            offset: 0x10,
-            width: 4,
-            value: 1,
-        },
-        0,
-    );
+    set(&rt, &mut d, 0x100, 0x294c, 0);
+    set(&rt, &mut d, 0x108, 0xffff_fff8, 0);
+    set(&rt, &mut d, 0x108, 0x10, 0);
+    set(&rt, &mut d, 0xf0, 0xffff_fff0, 0);
+    set(&rt, &mut d, 0x10, 1, 0);
     let edges = run(&rt, &mut d, 0, 450);
     assert_eq!(rt; edges.as_slice(), [edge(80, 20, true)].as_slice());
     assert_eq!(rt; d.counts(2), counts(3, 1, 2, 0));
-    let (comparator, _) = act(
-        &rt,
-        &mut d,
-        Act::HpetRead {
-            offset: 0x108,
-            width: 8,
-        },
-        450,
-    );
-    assert_eq!(rt; comparator, 0x28);
-    let (counter, _) = act(
-        &rt,
-        &mut d,
-        Act::HpetRead {
-            offset: 0xf0,
-            width: 8,
-        },
-        450,
-    );
-    assert_eq!(rt; counter, 0x1_0000_001d);
-    let (config, _) = act(
-        &rt,
-        &mut d,
-        Act::HpetRead {
-            offset: 0x100,
-            width: 8,
-        },
-        450,
-    );
-    assert_eq!(rt; config, 0x00f0_0000_0000_293c);
+    assert_eq!(rt; get(&rt, &mut d, 0x108, 450), 0x28);
+    assert_eq!(rt; get(&rt, &mut d, 0xf0, 450), 0x1_0000_001d);
+    assert_eq!(rt; get(&rt, &mut d, 0x100, 450), 0x00f0_0000_0000_293c);
 }
 
 // legacy replacement while OUT 0 is low
@@ -217,92 +150,79 @@ fn a_periodic_timer_of_32_bits_wraps(rt: HostRuntime) {
 fn legacy_replacement_takes_line_0(rt: HostRuntime) {
     let mut d = devices(Policy::Delay, 1_000_000);
     start_counter(&rt, &mut d);
-    act(
-        &rt,
-        &mut d,
-        Act::HpetWrite {
-            offset: 0x100,
-            width: 8,
-            value: 0x2804,
-        },
-        0,
-    );
-    act(
-        &rt,
-        &mut d,
-        Act::HpetWrite {
-            offset: 0x108,
-            width: 8,
-            value: 0x64,
-        },
-        0,
-    );
+    set(&rt, &mut d, 0x100, 0x2804, 0);
+    set(&rt, &mut d, 0x108, 0x64, 0);
     run(&rt, &mut d, 0, 3_500);
-    act(
-        &rt,
-        &mut d,
-        Act::HpetWrite {
-            offset: 0x10,
-            width: 4,
-            value: 3,
-        },
-        3_500,
-    );
+    set(&rt, &mut d, 0x10, 3, 3_500);
     let edges = run(&rt, &mut d, 3_500, 5_000);
     assert_eq!(rt; edges.as_slice(), [edge(4_500, 0, true)].as_slice());
     assert_eq!(rt; d.counts(0), counts(0, 0, 0, 0));
     assert_eq!(rt; d.counts(2), counts(1, 1, 0, 0));
 }
 
-// ten ticks that a guest misses, under each policy
+/// What becomes of ten ticks that a guest misses under a policy, with catch-up points this far
+/// apart: the counts before the guest acknowledges at 38,000 ns, whether line 0 goes up again then,
+/// or at 39,000 ns, and the counts after.
+#[derive(Clone, Copy)]
+struct Missed {
+    policy: Policy,
+    slew_ns: u64,
+    before: Counts,
+    again: bool,
+    later: bool,
+    after: Counts,
+}
+
+/// Counter 0 of the 8254 until 39,000 ns, acknowledged once.
+fn miss_ticks(rt: &impl Abort, row: &Missed) {
+    assert!(rt; row.slew_ns >= 1 && row.slew_ns <= 1_000_000);
+    let mut d = devices(row.policy, row.slew_ns);
+    start_counter(rt, &mut d);
+    let edges = run(rt, &mut d, 0, 38_000);
+    assert_eq!(rt; edges.as_slice(), [edge(4_191, 0, true)].as_slice());
+    assert_eq!(rt; d.counts(0), row.before);
+    let (_, edges) = act(rt, &mut d, Act::Ack { line: 0 }, 38_000);
+    let down = edge(38_000, 0, false);
+    if row.again {
+        assert_eq!(rt; edges.as_slice(), [down, edge(38_000, 0, true)].as_slice());
+    } else {
+        assert_eq!(rt; edges.as_slice(), [down].as_slice());
+    }
+    let edges = run(rt, &mut d, 38_000, 39_000);
+    if row.later {
+        assert_eq!(rt; edges.as_slice(), [edge(39_000, 0, true)].as_slice());
+    } else {
+        assert!(rt; edges.is_empty());
+    }
+    assert_eq!(rt; d.counts(0), row.after);
+}
+
 #[test]
 fn ten_missed_ticks(rt: HostRuntime) {
-    let down = edge(38_000, 0, false);
-    let rows = [
-        (
-            Policy::Discard,
-            1_000_000,
-            counts(11, 1, 0, 10),
-            false,
-            false,
-            counts(11, 1, 0, 10),
-        ),
-        (
-            Policy::Delay,
-            1_000_000,
-            counts(11, 1, 10, 0),
-            true,
-            false,
-            counts(11, 2, 9, 0),
-        ),
-        (
-            Policy::Slew,
-            1_000,
-            counts(11, 1, 10, 0),
-            false,
-            true,
-            counts(11, 2, 9, 0),
-        ),
-    ];
-    for (policy, slew_ns, missed, again, later, end) in rows {
-        let mut d = devices(policy, slew_ns);
-        start_counter(&rt, &mut d);
-        let edges = run(&rt, &mut d, 0, 38_000);
-        assert_eq!(rt; edges.as_slice(), [edge(4_191, 0, true)].as_slice());
-        assert_eq!(rt; d.counts(0), missed);
-        let (_, edges) = act(&rt, &mut d, Act::Ack { line: 0 }, 38_000);
-        if again {
-            assert_eq!(rt; edges.as_slice(), [down, edge(38_000, 0, true)].as_slice());
-        } else {
-            assert_eq!(rt; edges.as_slice(), [down].as_slice());
-        }
-        let edges = run(&rt, &mut d, 38_000, 39_000);
-        if later {
-            assert_eq!(rt; edges.as_slice(), [edge(39_000, 0, true)].as_slice());
-        } else {
-            assert!(rt; edges.is_empty());
-        }
-        assert_eq!(rt; d.counts(0), end);
+    let discard = Missed {
+        policy: Policy::Discard,
+        slew_ns: 1_000_000,
+        before: counts(11, 1, 0, 10),
+        again: false,
+        later: false,
+        after: counts(11, 1, 0, 10),
+    };
+    let delay = Missed {
+        policy: Policy::Delay,
+        before: counts(11, 1, 10, 0),
+        again: true,
+        after: counts(11, 2, 9, 0),
+        ..discard
+    };
+    let slew = Missed {
+        policy: Policy::Slew,
+        slew_ns: 1_000,
+        again: false,
+        later: true,
+        ..delay
+    };
+    for row in [discard, delay, slew] {
+        miss_ticks(&rt, &row);
     }
 }
 

@@ -4,3 +4,4 @@ pub mod NextRise
 pub mod RisesOf
 mod Rows
 pub mod OfLines
+pub mod Rising

@@ -45,13 +45,7 @@ pub fn changes(before: Lines, after: Lines, at: u64, into: &mut EdgeList)
 
 /// Appends an edge for each of these lines whose level differs. There must be a place for each of
 /// the edges.
-pub(crate) fn append_changes(
-    lines: &[u8],
-    before: &[bool],
-    after: &[bool],
-    at: u64,
-    into: &mut EdgeList,
-)
+fn append_changes(lines: &[u8], before: &[bool], after: &[bool], at: u64, into: &mut EdgeList)
     requires levels_before { length before.now ≡ length lines.now }
     requires levels_after { length after.now ≡ length lines.now }
     requires room { length into.old + length (changes at lines.now before.now after.now)

@@ -3,10 +3,10 @@ ghost use Rattle.std.specs.Prelude.{◌≡◌, ◌+◌, ◌-◌, ◌≤◌, ◌+
 ghost use Rattle.irq_edges.specs.declared.edges.TheConstants.{EDGE_PLACES};
 ghost use Rattle.irq_edges.specs.Lines.{line_numbers};
 ghost use Rattle.irq_edges.specs.Rises.{is_up_at, levels_at, rises_of, IsNextRise};
-ghost use Rattle.irq_edges.specs.private.Rises.{earlier_rise};
+ghost use Rattle.irq_edges.specs.private.Rises.{earlier_rise, rises_at, rising};
 
-use crate::edges::EdgeList;
-use crate::lines::{LINE_NUMBERS, Lines, append_changes};
+use crate::edges::{Edge, EdgeList};
+use crate::lines::{LINE_NUMBERS, Lines};
 
 /// The levels of the six lines at time `t`.
 pub fn lines_at(times: &[Option<u64>; 6], t: u64) -> Lines
@@ -51,6 +51,32 @@ fn earlier_rise(next: Option<u64>, time: Option<u64>, at: u64, to: u64) -> Optio
     }
 }
 
+/// Whether a line that is up from then on goes up at time `t`.
+fn rises_at(time: Option<u64>, t: u64) -> bool
+    ensures { result ≡ rises_at t time }
+{
+    match time {
+        Some(rise) => rise == t,
+        None => false,
+    }
+}
+
+/// Appends an edge for each line that goes up at time `t`. There must be a place for each of them.
+fn append_rises(times: &[Option<u64>; 6], t: u64, into: &mut EdgeList)
+    requires { length into.old + length (rising t line_numbers times.now) ≤ EDGE_PLACES }
+    ensures { into.new ≡ into.old ++ rising t line_numbers times.now }
+{
+    for place in 0..6 {
+        if rises_at(times[place], t) {
+            into.push(Edge {
+                at: t,
+                line: LINE_NUMBERS[place],
+                up: true,
+            });
+        }
+    }
+}
+
 /// Appends the edges of the nanoseconds after `from` and up to `to`, in order of time and, at one
 /// time, of line numbers. They are six at most, since no line falls; six places must be free.
 pub fn emit(times: &[Option<u64>; 6], from: u64, to: u64, into: &mut EdgeList)
@@ -61,9 +87,7 @@ pub fn emit(times: &[Option<u64>; 6], from: u64, to: u64, into: &mut EdgeList)
 {
     let mut at = from;
     while let Some(rise) = next_rise(times, at, to) {
-        let before = lines_at(times, at);
-        let after = lines_at(times, rise);
-        append_changes(&LINE_NUMBERS, &before.levels, &after.levels, rise, into);
+        append_rises(times, rise, into);
         at = rise;
     }
 }

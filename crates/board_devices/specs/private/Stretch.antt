@@ -1,9 +1,11 @@
 -- The devices over a stretch of nanoseconds, each by itself; private contracts alone cite this.
-use Rattle.std.specs.Prelude.{ℕ, zero, suc, Bool, true, false, ◌&&◌, ◌||◌, not, nat_le, if◌then◌else◌, Option, Some, None, List, [], ◌∷◌, slice_index_or}
+use Rattle.std.specs.Prelude.{ℕ, zero, suc, Bool, true, false, ◌&&◌, ◌||◌, ◌==◌, not, nat_le, nat_lt, if◌then◌else◌, Option, Some, None, List, [], ◌∷◌, slice_index_or, slice_set}
+use Rattle.std.specs.Option.{is_some}
 use Rattle.pit_readback.specs.declared.TheConstants.{PIT_HZ}
 use Rattle.rtc_registers.specs.declared.TheConstants.{RTC_HZ}
 use Rattle.hpet_registers.specs.declared.hpet.TheConstants.{HPET_HZ}
 use Rattle.clk_units.specs.Pulses.{pulses_from}
+use Rattle.clk_units.specs.Events.{first_at}
 use Rattle.irq_edges.specs.Rises.{levels_at}
 use Rattle.pit_counter.specs.Table.{rises_in}
 use Rattle.pit_readback.specs.Pit.{counter_of, pit_pulsed_times}
@@ -14,15 +16,17 @@ use Rattle.rtc_registers.specs.Access.{flagged}
 use Rattle.rtc_registers.specs.Pulses.{rtc_pulsed_times}
 use Rattle.hpet_comparator.specs.declared.stretch.Matches.{Matches}
 use Rattle.clk_units.specs.Bits.{bit}
-use Rattle.hpet_comparator.specs.Parts.{is_level, is_enabled}
+use Rattle.hpet_comparator.specs.Parts.{is_level, is_enabled, route_of}
 use Rattle.hpet_registers.specs.declared.parts.HpetParts.{HpetParts}
 use Rattle.hpet_registers.specs.Parts.{is_legacy, timer_at}
 use Rattle.hpet_registers.specs.Outputs.{has_ticks, level_output}
 use Rattle.hpet_registers.specs.Stretch.{hpet_pulsed_times, matches_of, timer_matches}
 use Rattle.tick_policy.specs.declared.parts.TickParts.{TickParts}
+use Rattle.tick_policy.specs.Line.{is_waiting}
 use Rattle.tick_policy.specs.Stretch.{line_after, line_end, up_from}
 use Rattle.board_devices.specs.declared.parts.DeviceParts.{DeviceParts}
 use Rattle.board_devices.specs.declared.stretch.Ticks.{Ticks}
+use Rattle.board_devices.specs.declared.stretch.Span.{Span}
 use Rattle.board_devices.specs.Lines.{drives}
 use Rattle.board_devices.specs.Places.{each, line_at, no_line}
 use Rattle.board_devices.specs.Nanosecond.{counts_rtc, sees_point}
@@ -62,23 +66,24 @@ abbrev pub counted : Bool → Bool → ℕ → Option ℕ → Ticks
 counted seen b count first =
     record { seen = seen; count = if b then count else 0; first = if b then first else None }
 
-abbrev pub no_ticks : Ticks
-no_ticks = record { seen = false; count = 0; first = None }
+-- those of timer k, by its matches
+abbrev pub timer_ticks : ℕ → ℕ → HpetParts → Matches → Ticks
+timer_ticks from k h m = counted true (has_ticks k h) m.count (first_at HPET_HZ from m.first)
 
--- those of a timer's place
-abbrev pub timer_ticks : ℕ → HpetParts → List Matches → List (Option ℕ) → Ticks
-timer_ticks k h ms matched =
-    counted true (has_ticks k h) (timer_matches ms k).count (slice_index_or matched k None)
+-- whether a stretch may change a line: a tick is due, or the catch-up point finds one that waits
+abbrev pub moves : ℕ → ℕ → Ticks → TickParts → Bool
+moves point to s l =
+    s.seen && (nat_lt 0 s.count || (is_some s.first || (nat_le point to && is_waiting l)))
 
 -- the places of the timers
 abbrev pub eight : List ℕ
 eight = 0 ∷ 1 ∷ 2 ∷ 3 ∷ 4 ∷ 5 ∷ 6 ∷ 7 ∷ []
 
--- those at a place
-abbrev pub ticks_at : Ticks → Ticks → List Ticks → ℕ → Ticks
-ticks_at pit rtc timers zero = pit
-ticks_at pit rtc timers (suc zero) = rtc
-ticks_at pit rtc timers (suc (suc k)) = slice_index_or timers k no_ticks
+-- those at a place, by the matches of the timers
+abbrev pub ticks_at : ℕ → HpetParts → List Matches → Ticks → Ticks → ℕ → Ticks
+ticks_at from h ms pit rtc zero = pit
+ticks_at from h ms pit rtc (suc zero) = rtc
+ticks_at from h ms pit rtc (suc (suc k)) = timer_ticks from k h (timer_matches ms k)
 
 -- a line at the end of a stretch, and from when on it is up
 abbrev pub end_of : ℕ → ℕ → Ticks → TickParts → TickParts
@@ -104,6 +109,13 @@ output_from from k h matched line =
     if is_level (timer_at k h)
     then flag_from (is_enabled (timer_at k h)) (bit k h.status) from matched else line
 
+-- the same by its matches, by what its status bit was, and by its tick line before
+abbrev pub output_up : Span → ℕ → HpetParts → Bool → Matches → TickParts → Option ℕ
+output_up span k h was_set m l =
+    if is_level (timer_at k h)
+    then flag_from (is_enabled (timer_at k h)) was_set span.from (first_at HPET_HZ span.from m.first)
+    else up_of span.from span.point span.to (timer_ticks span.from k h m) l
+
 -- from when on one of the first n timers drives the line and is up
 abbrev pub routed_from : ℕ → ℕ → HpetParts → List (Option ℕ) → Option ℕ
 routed_from line zero h us = None
@@ -111,19 +123,41 @@ routed_from line (suc k) h us =
     either_from (routed_from line k h us) (if drives line k h then slice_index_or us k None
     else None)
 
+-- the place, among the six lines, of the one to which a route leads
+abbrev pub slot_of_route : ℕ → Option ℕ
+slot_of_route route =
+    if route == 20 then Some 2
+    else if route == 21 then Some 3
+    else if route == 22 then Some 4
+    else if route == 23 then Some 5
+    else None
+
+-- .. and of the one that timer k drives
+abbrev pub slot_of : ℕ → HpetParts → Option ℕ
+slot_of k h =
+    if is_legacy h && nat_lt k 2 then Some k else slot_of_route (route_of (timer_at k h).config)
+
+-- the line at a slot is up from a time on, too
+abbrev pub with_rise : Option ℕ → Option ℕ → List (Option ℕ) → List (Option ℕ)
+with_rise None slot times = times
+with_rise (Some t) None times = times
+with_rise (Some t) (Some i) times =
+    slice_set times i (either_from (slice_index_or times i None) (Some t))
+
+-- the lines that the first n timers drive, timer k being up from `us k` on
+abbrev pub slots_from : ℕ → HpetParts → (ℕ → Option ℕ) → List (Option ℕ) → List (Option ℕ)
+slots_from zero h us times = times
+slots_from (suc k) h us times = with_rise (us k) (slot_of k h) (slots_from k h us times)
+
 -- the places of all lines
 abbrev pub ten : List ℕ
 ten = 0 ∷ 1 ∷ 2 ∷ 3 ∷ 4 ∷ 5 ∷ 6 ∷ 7 ∷ 8 ∷ 9 ∷ []
 
--- outputs and routed lines, by their parts
+-- outputs, by their parts
 abbrev pub output_by : ℕ → HpetParts → List TickParts → Bool
 output_by k h ls =
     if is_level (timer_at k h) then level_output k h
     else (slice_index_or ls (suc (suc k)) no_line).up
-
-abbrev pub routed_by : ℕ → ℕ → HpetParts → List TickParts → Bool
-routed_by line zero h ls = false
-routed_by line (suc k) h ls = routed_by line k h ls || (drives line k h && output_by k h ls)
 
 -- the place of the clock's line, where b holds
 abbrev pub clock_place : Bool → ℕ → Bool

@@ -1,6 +1,7 @@
 -- Words of the bodies of `emit` and `next_rise`.
-use Rattle.std.specs.Prelude.{ℕ, suc, ◌&&◌, nat_lt, nat_le, unwrap_or, if◌then◌else◌}
-use Rattle.std.specs.Prelude.{List, [], ◌∷◌, Option, Some, None}
+use Rattle.std.specs.Prelude.{ℕ, suc, Bool, true, false, ◌&&◌, ◌==◌, nat_lt, nat_le, unwrap_or, if◌then◌else◌}
+use Rattle.std.specs.Prelude.{List, [], ◌∷◌, ◌++◌, Option, Some, None}
+use Rattle.irq_edges.specs.declared.edges.Edge.{Edge}
 use Rattle.irq_edges.specs.Rises.{is_up_at}
 
 -- how many lines are down at t
@@ -13,3 +14,18 @@ abbrev pub earlier_rise : ℕ → ℕ → Option ℕ → Option ℕ → Option �
 earlier_rise at to next None = next
 earlier_rise at to next (Some r) =
     if nat_lt at r && nat_le r (unwrap_or next to) then Some r else next
+
+-- whether a line that is up from then on goes up at t
+abbrev pub rises_at : ℕ → Option ℕ → Bool
+rises_at t None = false
+rises_at t (Some r) = r == t
+
+-- the edge of such a line at t
+abbrev pub rise_of : ℕ → ℕ → Option ℕ → List Edge
+rise_of t n u = if rises_at t u then record { at = t; line = n; up = true } ∷ [] else []
+
+-- the edges of lines with these numbers at t, in their order
+abbrev pub rising : ℕ → List ℕ → List (Option ℕ) → List Edge
+rising t [] us = []
+rising t (n ∷ ns) [] = []
+rising t (n ∷ ns) (u ∷ us) = rise_of t n u ++ rising t ns us

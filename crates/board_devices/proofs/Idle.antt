@@ -1,0 +1,43 @@
+-- A line that no tick and no catch-up point moves.
+use Rattle.std.specs.Option.{is_some}
+use Rattle.std.proofs.Common.{◌≡◌, ℕ, Bool, true, false, cond, leb, ltb, ◌&&◌, ◌||◌, Option, Some, None, refl, ap, sym, ◌∙◌, inl, inr, arith}
+use Rattle.std.proofs.lemmas.Bool.{cases_lt, lt-ltb, true≢false}
+use Rattle.tick_policy.specs.declared.parts.TickParts.{TickParts}
+use Rattle.tick_policy.specs.Line.{is_waiting, ticked_times}
+use Rattle.tick_policy.specs.Stretch.{caught_up_where, line_end}
+use Rattle.tick_policy.proofs.Ticks.{ticked_times-zero, caught_up-still}
+use Rattle.board_devices.specs.declared.stretch.Ticks.{Ticks}
+use Rattle.board_devices.specs.private.Stretch.{moves, end_of}
+
+-- without a tick, and with a catch-up point that finds nothing
+still : (point to count : ℕ) (first : Option ℕ) (l : TickParts) → (ltb 0 count || (is_some first || (leb point to && is_waiting l))) ≡ false
+    → line_end point to first count l ≡ l
+still point to count (Some at) l e = absurd (true≢false (or-true (ltb 0 count) ∙ e))
+  where
+    or-true : (b : Bool) → true ≡ (b || true)
+    or-true true = refl
+    or-true false = refl
+still point to count None l e = elim (cases_lt 0 count) [
+  | inl some ↦ absurd (true≢false (sym (ap (λ (b : Bool). b || (leb point to && is_waiting l)) (lt-ltb 0 count some)) ∙ e))
+  | inr few ↦
+      let none : count ≡ 0 = omega arith in
+      ap (λ (n : ℕ). ticked_times n (caught_up_where (leb point to) l)) none
+      ∙ ticked_times-zero (caught_up_where (leb point to) l)
+      ∙ by_point (leb point to) (last (ltb 0 count) (leb point to && is_waiting l) e)
+]
+  where
+    last : (a b : Bool) → (a || b) ≡ false → b ≡ false
+    last true b h = absurd (true≢false h)
+    last false b h = h
+
+    by_point : (b : Bool) → (b && is_waiting l) ≡ false → caught_up_where b l ≡ l
+    by_point true h = caught_up-still l h
+    by_point false h = refl
+
+pub end-still : (point to : ℕ) (s : Ticks) (l : TickParts) → moves point to s l ≡ false → end_of point to s l ≡ l
+end-still point to s l e = by_seen s.seen e
+  where
+    by_seen : (b : Bool) → (b && (ltb 0 s.count || (is_some s.first || (leb point to && is_waiting l)))) ≡ false
+        → cond b (line_end point to s.first s.count l) l ≡ l
+    by_seen true h = still point to s.count s.first l h
+    by_seen false h = refl
