@@ -13,7 +13,7 @@ use std::{env, io};
 use tick_policy::Policy;
 
 /// How the program is called.
-const USAGE: &str = "usage: board_bench time";
+const USAGE: &str = "usage: board_bench time|read|hpet|set|config|still|step|ack|tsc|next";
 
 /// How many accesses are timed.
 const CALLS: u32 = 200_000;
@@ -32,11 +32,81 @@ const MIDNIGHT: TimeBytes = TimeBytes {
     year: 0,
 };
 
+/// A kind of access, each a number of nanoseconds behind the last.
+#[derive(Clone, Copy)]
+struct Row {
+    /// The word that asks for this row alone.
+    word: &'static str,
+    /// What the table calls it.
+    name: &'static str,
+    access: Access,
+    gap: u64,
+}
+
+/// A row of the table.
+fn make_row(word: &'static str, name: &'static str, access: Access, gap: u64) -> Row {
+    Row {
+        word,
+        name,
+        access,
+        gap,
+    }
+}
+
+/// A write of 8 bytes to the HPET.
+fn hpet_write(offset: u16, value: u64) -> Access {
+    Access::HpetWrite {
+        offset,
+        width: 8,
+        value,
+    }
+}
+
+/// All rows of the table.
+fn rows() -> [Row; 9] {
+    let counter = Access::HpetRead {
+        offset: 0xf0,
+        width: 8,
+    };
+    [
+        make_row(
+            "read",
+            "port 40h, no time",
+            Access::PortIn { port: 0x40 },
+            0,
+        ),
+        make_row("hpet", "HPET main counter, no time", counter, 0),
+        make_row(
+            "set",
+            "HPET comparator set, no time",
+            hpet_write(0x128, 100),
+            0,
+        ),
+        make_row(
+            "config",
+            "HPET timer configured, no time",
+            hpet_write(0x120, 0x2a40),
+            0,
+        ),
+        make_row("still", "step of no time", Access::Step, 0),
+        make_row("step", "step of 700 ns", Access::Step, 700),
+        make_row(
+            "ack",
+            "acknowledgement, ticks waiting",
+            Access::Ack { line: 0 },
+            0,
+        ),
+        make_row("tsc", "TSC", Access::MsrRead { msr: 0x10 }, 0),
+        make_row("next", "next edge", Access::Next, 0),
+    ]
+}
+
 fn main(rt: HostRuntime) -> io::Result<()> {
     let mut words = env::args(&rt)?.skip(1);
     match words.next() {
         Some(word) if word.as_bytes() == b"time".as_slice() => print_table(&rt),
-        _ => println!(rt; "{USAGE}"),
+        Some(word) => run_alone(&rt, word.as_bytes()),
+        None => println!(rt; "{USAGE}"),
     }
 }
 
@@ -45,27 +115,22 @@ fn print_table(rt: &(impl Print + Clock)) -> io::Result<()> {
     let mut board = running();
     println!(rt; "an access                        nanoseconds    accesses a second")?;
     let mut edges = 0u64;
-    let rows = [
-        ("port 40h, no time", Access::PortIn { port: 0x40 }, 0),
-        (
-            "HPET main counter, no time",
-            Access::HpetRead {
-                offset: 0xf0,
-                width: 8,
-            },
-            0,
-        ),
-        ("step of no time", Access::Step, 0),
-        ("step of 700 ns", Access::Step, 700),
-        ("acknowledgement, ticks waiting", Access::Ack { line: 0 }, 0),
-        ("TSC", Access::MsrRead { msr: 0x10 }, 0),
-        ("next edge", Access::Next, 0),
-    ];
-    for (name, access, gap) in rows {
-        edges = edges.wrapping_add(print_row(rt, name, &mut board, access, gap)?);
+    for row in rows() {
+        edges = edges.wrapping_add(print_row(rt, row.name, &mut board, row.access, row.gap)?);
     }
     // the edges are used, so that no access can be left out
     println!(rt; "edges: {edges}")
+}
+
+/// Makes the accesses of the row of this word alone, for a program that counts instructions.
+fn run_alone(rt: &impl Print, word: &[u8]) -> io::Result<()> {
+    for row in rows() {
+        if row.word.as_bytes() == word {
+            let edges = many(&mut running(), row.access, row.gap);
+            return println!(rt; "edges: {edges}");
+        }
+    }
+    println!(rt; "{USAGE}")
 }
 
 /// Times one kind of access, each a number of nanoseconds behind the last. Returns how many edges there were.

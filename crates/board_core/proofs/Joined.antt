@@ -45,17 +45,22 @@ use Rattle.board_types.specs.declared.access.Access.TheVariants.{MsrWrite}
 use Rattle.board_types.specs.declared.access.TheConstants.{MSR_KVM_WALL_CLOCK}
 use Rattle.board_types.specs.declared.parts.BoardParts.{BoardParts}
 use Rattle.board_types.specs.declared.parts.ProcessorParts.{ProcessorParts}
-use Rattle.board_types.specs.declared.parts.TheConstants.{LAST_VERSION}
+use Rattle.board_types.specs.declared.parts.TheConstants.{LAST_VERSION, MOST_ACCESSES}
 use Rattle.board_types.specs.Setup.{processors_of}
+use Rattle.board_devices.specs.Act.{acted}
+use Rattle.board_devices.specs.Lines.{levels}
+use Rattle.board_devices.specs.Places.{line_at}
 use Rattle.board_devices.specs.Rises.{lifts, one_if, rises_with}
 use Rattle.board_devices.proofs.Rises.{at-counted}
-use Rattle.board_core.specs.Time.{HasTime, now_of, time_of_access}
+use Rattle.board_core.specs.Time.{HasTime, devices_in, now_of, time_of_access}
 use Rattle.board_core.specs.Tsc.{no_processor}
 use Rattle.board_core.specs.Pages.{published, prepared, published_at, published_by, processors_after}
 use Rattle.board_core.specs.Wall.{wall_number_after, wall_version_after, publishes_wall}
 use Rattle.board_core.specs.Rises.{rises_after}
-use Rattle.board_core.specs.Conditions.{IsFormat, IsVersion, IsWall, flags_valid, IsProcessor, AreProcessors, AreRises}
+use Rattle.board_core.specs.Access.{act_of, own_edges, after_act}
+use Rattle.board_core.specs.Conditions.{IsFormat, IsVersion, IsWall, flags_valid, IsProcessor, AreProcessors, AreRises, IsJoined}
 use Rattle.board_core.specs.Upgrade.{gets_timers}
+use Rattle.board_core.proofs.Timers.{timers-acted}
 
 -- a count up to the board's has a time, and moves none
 pub early : (b : BoardParts) (h : ℕ) → 0 < b.anchor.khz → HasTime b.anchor b.host → b.anchor.start ≤ h → h ≤ b.host
@@ -227,4 +232,54 @@ AreRises-later format to accesses lines more rises valid later same = record {
   most = λ k less. subst (λ (ls : List Bool). get_or rises k 0 ≤ accesses + one_if (level_of line_numbers ls (get_or line_numbers k 0))) same
       (valid.most k less);
   none = λ first k. valid.none (omega (arith, later)) k;
+}
+
+-- a board whose greatest count grows, where its time stays
+pub IsJoined-same_time : (b : BoardParts) (host : ℕ) → IsJoined b → b.host ≤ host → time_at b.anchor host ≡ now_of b
+    → IsJoined (record b { host = host })
+IsJoined-same_time b host valid more same = record {
+  format = valid.format;
+  rates = valid.rates;
+  time = record { started = omega (arith, valid.time.started); range = omega (arith, same, valid.time.range) };
+  accesses = valid.accesses;
+  due = λ k less. let r : (line_at k (devices_in b)).counts.due ≤ time_at b.anchor host + b.accesses = omega (arith, same, valid.due k less) in r;
+  wall = valid.wall;
+  processors = valid.processors;
+  rises = valid.rises;
+}
+
+-- a board behind an access, by what is known of its devices, wall clock and processors
+pub IsJoined-acted : (b : BoardParts) (cpu h : ℕ) (a : Access) → IsJoined b → b.accesses < MOST_ACCESSES → length b.rises ≡ 6
+    → IsWall (wall_number_after a b.wall_number) (wall_version_after a b.wall_version) b.wall_nsec
+    → AreProcessors b.guest_khz b.cpus (processors_after b.anchor b.guest_khz cpu h a b.processors)
+    → ((k : ℕ) → k < 10 → (line_at k (acted (act_of a) (devices_in b))).counts.due ≤ (line_at k (devices_in b)).counts.due + 1)
+    → ((n : ℕ) → lifts n (own_edges b a) + one_if (level_of line_numbers (levels (devices_in b)) n)
+    ≤ 1 + one_if (level_of line_numbers (levels (acted (act_of a) (devices_in b))) n))
+    → IsJoined (after_act b cpu h a)
+unfolding after_act
+IsJoined-acted b cpu h a valid few six wall processors due lifted = record {
+  format = subst (λ (n : ℕ). IsFormat b.format b.cpus n) (sym (timers-acted (act_of a) (devices_in b))) valid.format;
+  rates = valid.rates;
+  time = valid.time;
+  accesses = omega arith;
+  due = λ k less.
+      let r : (line_at k (acted (act_of a) (devices_in b))).counts.due ≤ now_of b + (b.accesses + 1) =
+      omega (arith, due k less, valid.due k less) in r;
+  wall = wall;
+  processors = processors;
+  rises = AreRises-after b.format b.accesses (b.accesses + 1) 1 (levels (devices_in b)) (levels (acted (act_of a) (devices_in b))) (own_edges b a) b.rises
+      six refl valid.rises lifted;
+}
+
+-- a board behind an access that only reads
+pub IsJoined-counted : (b : BoardParts) → IsJoined b → b.accesses < MOST_ACCESSES → IsJoined (record b { accesses = b.accesses + 1 })
+IsJoined-counted b valid few = record {
+  format = valid.format;
+  rates = valid.rates;
+  time = valid.time;
+  accesses = omega arith;
+  due = λ k less. let r : (line_at k (devices_in b)).counts.due ≤ now_of b + (b.accesses + 1) = omega (arith, valid.due k less) in r;
+  wall = valid.wall;
+  processors = valid.processors;
+  rises = record { most = λ k less. omega (arith, valid.rises.most k less); none = valid.rises.none };
 }

@@ -2,9 +2,10 @@ pub mod Times
 pub mod Timers
 pub mod Nexts
 pub mod Joined
-pub mod Values
 pub mod Steps
 pub mod Legals
 pub mod Upgrades
+pub mod Counted
+pub mod Kept
 pub mod Laws
 mod Rows

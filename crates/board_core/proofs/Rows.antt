@@ -1,5 +1,5 @@
 -- Rows on the definitions: each rule at one small case, so that a weaker rule is seen.
-use Rattle.std.proofs.Common.{◌≡◌, ℕ, pos, ◌+◌, ◌-◌, ◌^◌, true, false, List, [], ◌∷◌, Some, None, refl, ap, arith}
+use Rattle.std.proofs.Common.{◌≡◌, ℕ, pos, ◌+◌, ◌-◌, ◌^◌, true, false, List, [], ◌∷◌, set, Some, None, refl, ap, arith}
 use Rattle.host_counter.specs.declared.Anchor.{Anchor}
 use Rattle.host_counter.specs.Time.{time_at}
 use Rattle.tsc_scale.specs.Offset.{tsc_by}
@@ -8,7 +8,8 @@ use Rattle.pvclock_page.specs.declared.page.PageReply.TheVariants.{Off, On}
 use Rattle.pvclock_page.specs.declared.page.ClockReply.TheVariants.{Off as ClockOff, On as ClockOn}
 use Rattle.pvclock_page.specs.Scale.{mul_for, shift_for}
 use Rattle.pvclock_page.specs.Reading.{reading_of}
-use Rattle.tick_policy.specs.declared.parts.Policy.TheVariants.{Delay}
+use Rattle.tick_policy.specs.declared.parts.Policy.TheVariants.{Delay, Slew}
+use Rattle.tick_policy.specs.declared.parts.TickParts.{TickParts}
 use Rattle.board_types.specs.declared.access.Access.TheVariants.{PortIn, PortOut, MsrWrite, Step, Refresh}
 use Rattle.board_types.specs.declared.parts.BoardParts.{BoardParts}
 use Rattle.board_types.specs.declared.parts.ProcessorParts.{ProcessorParts}
@@ -24,6 +25,8 @@ use Rattle.board_core.specs.Refusals.{refusal_of}
 use Rattle.board_core.specs.Rises.{rises_after, count_at}
 use Rattle.board_core.specs.Access.{act_of}
 use Rattle.board_core.specs.PowerOn.{board_at_power_on}
+use Rattle.board_core.specs.Upgrade.{upgraded_to}
+use Rattle.board_devices.specs.Parts.{devices_upgraded}
 use Rattle.board_core.specs.Conditions.{IsVersion, IsWall, flags_valid, IsProcessor, AreRises, IsFormat}
 
 -- a host and a guest of 1 GHz, and a guest of 2 GHz
@@ -301,3 +304,39 @@ cpus_of_format_1 valid = omega (arith, valid.most_cpus)
 
 timers_of_format_2 : IsFormat 2 17 3 → ⊥
 timers_of_format_2 valid = omega (arith, valid.has_timers)
+
+-- a board of format 1 gets five timers as at power on, with lines of the policy of the others; each other part is kept
+abbrev setup_of : ℕ → Setup
+setup_of format = record setup { format = format; hpet = Slew }
+
+upgraded-power_on : upgraded_to 2 (board_at_power_on (setup_of 1)) ≡ board_at_power_on (setup_of 2)
+unfolding upgraded_to devices_upgraded
+upgraded-power_on = refl
+
+abbrev used : TickParts
+used = record { policy = Slew; up = true; counts = record { due = 3; rises = 1; queue = 2; lost = 0 } }
+
+-- the same board in use
+abbrev in_use : BoardParts → BoardParts
+in_use b = record b {
+  host = 900;
+  accesses = 7;
+  greatest = 5800;
+  hpet = record b.hpet { config = 1; status = 5; counter = 90 };
+  ticks = set b.ticks 4 used;
+  wall_number = 1;
+  wall_version = 2;
+  processors = page 1 40 ∷ no_processor ∷ [];
+}
+
+upgraded-in_use : upgraded_to 2 (in_use (board_at_power_on (setup_of 1))) ≡ in_use (board_at_power_on (setup_of 2))
+unfolding upgraded_to devices_upgraded
+upgraded-in_use = refl
+
+upgraded-same : upgraded_to 1 (in_use (board_at_power_on (setup_of 1))) ≡ in_use (board_at_power_on (setup_of 1))
+unfolding upgraded_to devices_upgraded
+upgraded-same = refl
+
+upgraded-again : upgraded_to 2 (in_use board) ≡ in_use board
+unfolding upgraded_to devices_upgraded
+upgraded-again = refl

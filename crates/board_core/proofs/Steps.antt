@@ -1,5 +1,5 @@
--- A board behind an access, by its parts.
-use Rattle.std.proofs.Common.{◌≡◌, ℕ, ◌+◌, List, ap, ◌∙◌}
+-- A board behind a run, and behind an access, by its parts.
+use Rattle.std.proofs.Common.{◌≡◌, ℕ, ◌+◌, max, List, ap, ◌∙◌}
 use Rattle.board_types.specs.declared.access.Access.{Access}
 use Rattle.board_types.specs.declared.parts.BoardParts.{BoardParts}
 use Rattle.board_types.specs.declared.parts.ProcessorParts.{ProcessorParts}
@@ -9,7 +9,26 @@ use Rattle.board_core.specs.Time.{devices_in}
 use Rattle.board_core.specs.Pages.{processors_after}
 use Rattle.board_core.specs.Wall.{wall_number_after, wall_version_after}
 use Rattle.board_core.specs.Rises.{rises_after}
-use Rattle.board_core.specs.Access.{act_of, own_edges, after_act}
+use Rattle.board_core.specs.Access.{act_of, ran_to, after_run, own_edges, after_act}
+
+abbrev pub with_run : BoardParts → ℕ → DeviceParts → List ℕ → BoardParts
+with_run b host d rises = record b {
+  host = host;
+  pit = d.pit;
+  rtc = d.rtc;
+  hpet = d.hpet;
+  ticks = d.ticks;
+  slew_ns = d.slew_ns;
+  rises = rises;
+}
+
+pub with_run-is : (b : BoardParts) (h host : ℕ) (d : DeviceParts) (rises : List ℕ) → host ≡ max b.host h → d ≡ (ran_to b h).state
+    → rises ≡ rises_after b.format (ran_to b h).edges b.rises → with_run b host d rises ≡ after_run b h
+unfolding after_run
+with_run-is b h host d rises hs ds rs =
+    ap (λ (x : ℕ). with_run b x d rises) hs
+    ∙ ap (λ (x : DeviceParts). with_run b (max b.host h) x rises) ds
+    ∙ ap (with_run b (max b.host h) (ran_to b h).state) rs
 
 abbrev pub with_parts : BoardParts → DeviceParts → ℕ → ℕ → List ProcessorParts → List ℕ → BoardParts
 with_parts b d number version ps rises = record b {

@@ -22,6 +22,7 @@ use Rattle.pvclock_page.specs.Scale.{mul_for, shift_for}
 use Rattle.board_types.specs.declared.parts.BoardParts.{BoardParts}
 use Rattle.board_types.specs.declared.parts.ProcessorParts.{ProcessorParts}
 use Rattle.board_types.specs.declared.parts.TheConstants.{LAST_VERSION, MOST_ACCESSES}
+use Rattle.board_types.specs.declared.setup.TheConstants.{SECOND_NS}
 use Rattle.board_types.specs.Setup.{timers_of, processors_of}
 use Rattle.board_devices.specs.Places.{line_at}
 use Rattle.board_devices.specs.Lines.{levels}
@@ -52,7 +53,7 @@ pub record IsVersion (version : ℕ) : Type 0 where
 pub record IsWall (number version nsec : ℕ) : Type 0 where
   pub words : IsVersion version
   pub unpublished : version ≡ 0 → number ≡ 0
-  pub below_second : nsec < 1000000000
+  pub below_second : nsec < SECOND_NS
 
 -- the flags of a published page: a stable TSC, after a move with a stopped guest
 abbrev pub flags_valid : ℕ → Bool

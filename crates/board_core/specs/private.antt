@@ -1,3 +1,4 @@
 -- What proofs and private contracts alone cite.
+pub mod Kinds
 pub mod Values
 pub mod Places

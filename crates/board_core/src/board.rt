@@ -163,6 +163,7 @@ impl BoardState {
     }
 
     /// The first nanosecond behind the board's time, and below 2^59, in which a line changes if no access comes.
+    #[inline(never)]
     pub fn next_edge(&self) -> Option<u64>
         ensures { result ≡ next_of (now_of self.now) (devices_in self.now) }
     {

@@ -14,6 +14,7 @@
 #![tactic(auto)]
 
 mod access;
+mod acts;
 mod board;
 mod clock;
 mod moves;
@@ -25,8 +26,8 @@ mod rises;
 pub use board::BoardState;
 pub use board_types::{
     Access, BoardParts, LAST_VERSION, MOST_ACCESSES, MSR_KVM_SYSTEM_TIME, MSR_KVM_WALL_CLOCK,
-    MSR_TSC, MSR_TSC_ADJUST, ProcessorParts, Ran, Refusal, Reply, Setup, TickSource, Value,
-    processors_of, timers_of,
+    MSR_TSC, MSR_TSC_ADJUST, ProcessorParts, Ran, Refusal, Reply, SECOND_NS, SLEW_MAX_NS, Setup,
+    TickSource, Value, processors_of, timers_of,
 };
 
 #[cfg(test)]

@@ -15,7 +15,7 @@ ghost use Rattle.board_core.specs.private.Places.{IsPlace, IsCount};
 use crate::board::BoardState;
 use crate::processors::NO_PROCESSOR;
 use board_devices::{DeviceParts, Devices};
-use board_types::{BoardParts, MOST_ACCESSES, ProcessorParts, processors_of, timers_of};
+use board_types::{BoardParts, MOST_ACCESSES, ProcessorParts, SECOND_NS, processors_of, timers_of};
 use clk_units::{KHZ_MAX, KHZ_MIN, RANGE_NS};
 use host_counter::Anchor;
 use irq_edges::Lines;
@@ -147,7 +147,7 @@ fn is_format(format: u8, cpus: u8, timers: u8) -> bool
 fn is_wall(number: u64, version: u32, nsec: u32) -> bool
     ensures { IsTrue result ↔ IsWall number version nsec }
 {
-    version % 2 == 0 && (version != 0 || number == 0) && nsec < 1_000_000_000
+    version % 2 == 0 && (version != 0 || number == 0) && nsec < SECOND_NS
 }
 
 /// Whether a processor's fields are valid, by the scale of the guest's rate.

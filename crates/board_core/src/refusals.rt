@@ -9,6 +9,7 @@ ghost use Rattle.board_core.specs.Pages.{published_by};
 ghost use Rattle.board_core.specs.Wall.{publishes_wall};
 ghost use Rattle.board_core.specs.Refusals.{version_at, raised_version, spent_version, refusal_of};
 
+use crate::acts::publishes;
 use crate::board::BoardState;
 use crate::processors::published_by;
 use board_types::{
@@ -90,7 +91,8 @@ fn version_at(page: Option<u8>, processors: &[ProcessorParts; 64]) -> Option<u32
     }
 }
 
-/// The version that an access would raise.
+/// The version that an access would raise. Most accesses publish nothing, which is seen at once.
+#[tactic(auto, using(crate::proofs::Kept::raised_none))]
 fn raised_version(
     processors: &[ProcessorParts; 64],
     wall_version: u32,
@@ -100,6 +102,9 @@ fn raised_version(
     requires { IfSome (published_by cpu a) (λ k. k < 64) }
     ensures { result ≡ raised_version processors.now wall_version cpu a }
 {
+    if !publishes(a) {
+        return None;
+    }
     if publishes_wall(a) {
         Some(wall_version)
     } else {

@@ -24,6 +24,7 @@ fn lifts(edges: &[Edge], line: u8) -> u64
 }
 
 /// Counts the edges upwards of the list from place `from` on, where the format counts them.
+#[inline(always)]
 pub(crate) fn count_rises(rises: &mut [u64; 6], format: u8, edges: &EdgeList, from: usize)
     requires inside { from ≤ length edges.now }
     requires room { (k : ℕ) → k < 6 → slice_index_or rises.old k 0 + EDGE_PLACES < 2 ^ 64 }
@@ -44,13 +45,28 @@ fn behind(edges: &EdgeList, from: usize) -> &[Edge]
     &all[from..]
 }
 
-/// Adds the edges upwards to the counts.
+/// Adds the edges upwards to the counts. Most accesses have none, and then nothing is done.
+#[inline(always)]
+#[tactic(auto, using(crate::proofs::Counted::none_counted))]
 fn add_rises(rises: &mut [u64; 6], edges: &[Edge])
     requires few { length edges.now ≤ EDGE_PLACES }
     requires room { (k : ℕ) → k < 6 → slice_index_or rises.old k 0 + EDGE_PLACES < 2 ^ 64 }
     ensures { rises.new ≡ rises_with edges.now line_numbers rises.old }
 {
-    let counted = [
+    if edges.is_empty() {
+        return;
+    }
+    add_some(rises, edges);
+}
+
+/// Adds the edges upwards to the counts, line by line.
+#[inline(never)]
+fn add_some(rises: &mut [u64; 6], edges: &[Edge])
+    requires few { length edges.now ≤ EDGE_PLACES }
+    requires room { (k : ℕ) → k < 6 → slice_index_or rises.old k 0 + EDGE_PLACES < 2 ^ 64 }
+    ensures { rises.new ≡ rises_with edges.now line_numbers rises.old }
+{
+    *rises = [
         rises[0] + lifts(edges, 0),
         rises[1] + lifts(edges, 8),
         rises[2] + lifts(edges, 20),
@@ -58,7 +74,6 @@ fn add_rises(rises: &mut [u64; 6], edges: &[Edge])
         rises[4] + lifts(edges, 22),
         rises[5] + lifts(edges, 23),
     ];
-    *rises = counted;
 }
 
 /// The count of a line.

@@ -3,6 +3,8 @@ ghost use Rattle.std.specs.Prelude.{◌≤◌};
 ghost use Rattle.board_types.specs.Setup.{IsSetup};
 
 mod clocks;
+mod formats;
+mod refusals;
 mod steps;
 
 use super::*;
@@ -224,6 +226,50 @@ fn the_clock_turns_the_century(rt: HostRuntime) {
         read(501_983_643, 0x71, 0),
     ];
     play(&rt, &mut board, &rows, &[]);
+}
+
+#[test]
+fn an_alarm_at_midnight_by_a_clock_of_twelve_hours(rt: HostRuntime) {
+    let before = TimeBytes {
+        hour: 0x91,
+        ..LAST_SECOND
+    };
+    let mut board = BoardState::power_on(&setup(1, Policy::Delay, before));
+    let begin = [
+        out(0x70, 0x0b),
+        out(0x71, 0x20),
+        out(0x70, 1),
+        out(0x71, 0),
+        out(0x70, 3),
+        out(0x71, 0xc0),
+        out(0x70, 5),
+        out(0x71, 0xc0),
+    ];
+    play(&rt, &mut board, &begin, &[]);
+    let at = 501_983_643;
+    let rows = [
+        (at, Access::Step, Value::Nothing),
+        out(0x70, 4),
+        read(at, 0x71, 0x12),
+        out(0x70, 0x0c),
+        read(at, 0x71, 0xf0),
+    ];
+    play(&rt, &mut board, &rows, &[(at, 8, true), (at, 8, false)]);
+}
+
+/// An access at a count before the board's is taken, moves no time, and gets the next number.
+#[test]
+fn a_count_before_the_boards_moves_no_time(rt: HostRuntime) {
+    let mut board = board(Policy::Delay);
+    for (h, now, number) in [(10, 10, 1), (9, 10, 2), (0, 10, 3), (11, 11, 4)] {
+        let reply = ask(&rt, &mut board, h, Access::Step);
+        assert_eq!(rt;
+            (reply.number, reply.value),
+            (number, Value::Nothing),
+            "at {h}"
+        );
+        assert_eq!(rt; (board.now(), board.accesses()), (now, number), "at {h}");
+    }
 }
 
 #[test]

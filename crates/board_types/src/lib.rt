@@ -21,7 +21,7 @@ pub use access::{
 };
 pub use parts::{BoardParts, LAST_VERSION, MOST_ACCESSES, ProcessorParts};
 pub use reply::{Ran, Refusal, Reply, Value};
-pub use setup::{Setup, processors_of, timers_of};
+pub use setup::{SECOND_NS, SLEW_MAX_NS, Setup, processors_of, timers_of};
 
 #[cfg(test)]
 mod tests;

@@ -20,8 +20,8 @@ invariant_of-result c = record {
       has_timers = ap (λ (d : DeviceParts). d.hpet.timers) c.devices_of_setup.ensures;
     };
     rates = record {
-      host = record { slow = c.requires.slow; fast = c.requires.fast };
-      guest = record { slow = c.requires.guest_slow; fast = c.requires.guest_fast };
+      host = c.requires.host;
+      guest = c.requires.guest;
     };
     time = record { started = omega arith; range = omega (arith, time_at-start c.args.setup.now.anchor, c.requires.base) };
     accesses = omega arith;

@@ -1,64 +1,62 @@
-use Rattle.std.proofs.Common.{◌≡◌, ℕ, ◌+◌, ◌-◌, ◌<◌, ◌≤◌, max, List, ◌++◌, ap, sym, subst, ◌∙◌, arith}
-use Rattle.clk_units.specs.declared.ranges.TheConstants.{RANGE_NS}
+use Rattle.std.proofs.Common.{◌≡◌, ℕ, ◌<◌, max, List, [], ◌++◌, length, append-nil, ap, sym, ◌∙◌, arith}
 use Rattle.irq_edges.specs.declared.edges.Edge.{Edge}
 use Rattle.host_counter.specs.Time.{time_at}
 use Rattle.board_types.specs.declared.parts.BoardParts.{BoardParts}
-use Rattle.board_devices.specs.declared.parts.DeviceParts.{DeviceParts}
-use Rattle.board_devices.specs.Places.{line_at}
-use Rattle.board_devices.specs.Lines.{levels}
-use Rattle.board_devices.specs.Rises.{lifts}
-use Rattle.board_devices.specs.Run.{run}
-use Rattle.board_core.specs.Time.{HasTime, now_of, time_of_access}
-use Rattle.board_core.specs.Conditions.{IsFormat, AreRises}
+use Rattle.board_devices.proofs.Edges.{run_none_state, run_none_edges}
+use Rattle.board_core.specs.Time.{devices_in, now_of, time_of_access}
+use Rattle.board_core.specs.Rises.{rises_after}
+use Rattle.board_core.specs.Access.{ran_to, after_run}
 use Rattle.board_core.specs.View.{board_parts_of}
 use Rattle.board_core.proofs.Times.{time_at_max}
-use Rattle.board_core.proofs.Timers.{timers-run}
-use Rattle.board_core.proofs.Joined.{AreRises-after}
+use Rattle.board_core.proofs.Counted.{rises_after-none}
+use Rattle.board_core.proofs.Joined.{IsJoined-same_time}
+use Rattle.board_core.proofs.Steps.{with_run-is}
 use Rattle.board_core.proofs.board.BoardState.run_to.Goals as goal
 
-to_is : (c : goal.After-count_rises) → c.args.to ≡ time_of_access (board_parts_of c.self.inside) c.args.h
-to_is c = c.requires.to ∙ ap (λ (b : BoardParts). time_of_access b c.args.h) (sym c.self.view_is)
+-- an access at the board's own time runs nothing
+module _ (b : BoardParts) (h : ℕ) (stays : now_of b ≡ time_of_access b h) where
+  state-none : (ran_to b h).state ≡ devices_in b
+  state-none = run_none_state (now_of b) (time_of_access b h) (devices_in b) stays
 
-time_in : (c : goal.After-count_rises) → HasTime c.self.inside.anchor c.args.h
-time_in c = subst (λ (b : BoardParts). HasTime b.anchor c.args.h) (sym c.self.view_is) c.requires.time
+  edges-none : (ran_to b h).edges ≡ []
+  edges-none = run_none_edges (now_of b) (time_of_access b h) (devices_in b) stays
 
-host_is : (c : goal.After-count_rises) → c.max-self-inside.result ≡ max c.self.inside.host c.args.h
-host_is c = omega (arith, c.max-self-inside.ensures)
+  same_time : (host : ℕ) → 0 < b.anchor.khz → host ≡ max b.host h → time_at b.anchor host ≡ now_of b
+  same_time host runs is = ap (time_at b.anchor) is ∙ time_at_max b.anchor b.host h runs ∙ sym stays
 
-now_is : (c : goal.After-count_rises) → c.args.to ≡ time_at c.self.inside.anchor c.max-self-inside.result
-now_is c =
-    to_is c
-    ∙ sym (time_at_max c.self.inside.anchor c.self.inside.host c.args.h (omega (arith, c.self.invariant.joined.rates.host.slow)))
-    ∙ sym (ap (time_at c.self.inside.anchor) (host_is c))
+  run-none : (host : ℕ) → host ≡ max b.host h → record b { host = host } ≡ after_run b h
+  run-none host is = with_run-is b h host (devices_in b) b.rises is (sym state-none)
+      (sym (ap (λ (es : List Edge). rises_after b.format es b.rises) edges-none ∙ rises_after-none b.format b.rises))
 
 pub invariant_of-self : goal.invariant_of-self
 invariant_of-self c =
-    let ran : List Edge = (run c.self.inside.time_ns (c.args.to - c.self.inside.time_ns) c.self.inside.devices).edges in
-    let es : c.run_to.new.edges ≡ ran = c.run_to.ensures.edges ∙ ap (λ (es : List Edge). es ++ ran) c.requires.empty in
-    let from : c.self.inside.time_ns ≡ now_of (board_parts_of c.self.inside) = c.self.invariant.time in
-    let low : time_at c.self.inside.anchor c.args.h < RANGE_NS = (time_in c).range in
+    let b : BoardParts = board_parts_of c.self.inside in
+    let stays : now_of b ≡ time_of_access b c.args.h =
+    sym c.self.invariant.time ∙ sym c.if-to-self.true ∙ c.requires.to ∙ ap (λ (x : BoardParts). time_of_access x c.args.h) (sym c.self.view_is) in
+    let same : time_at b.anchor c.max-self-inside.result ≡ now_of b =
+    same_time b c.args.h stays c.max-self-inside.result (omega (arith, c.self.invariant.joined.rates.host.slow)) c.max-self-inside.ensures in
     record {
-      time = now_is c;
-      joined = record {
-        format = subst (λ (n : ℕ). IsFormat c.self.inside.format c.self.inside.cpus n)
-            (sym (ap (λ (d : DeviceParts). d.hpet.timers) c.run_to.ensures.state
-            ∙ timers-run c.self.inside.time_ns (c.args.to - c.self.inside.time_ns) c.self.inside.devices))
-            c.self.invariant.joined.format;
-        rates = c.self.invariant.joined.rates;
-        time = record {
-          started = omega (arith, c.self.invariant.joined.time.started, c.max-self-inside.ensures);
-          range = let r : time_at c.self.inside.anchor c.max-self-inside.result < RANGE_NS = omega
-              (arith, now_is c, to_is c, low, c.self.invariant.joined.time.range) in r;
-        };
-        accesses = c.self.invariant.joined.accesses;
-        due = λ k less.
-            let r : (line_at k c.run_to.new.self).counts.due ≤ time_at c.self.inside.anchor c.max-self-inside.result + c.self.inside.accesses =
-            omega (arith, c.run_to.ensures.due k less, c.self.invariant.joined.due k less, from, now_is c, to_is c) in r;
-        wall = c.self.invariant.joined.wall;
-        processors = c.self.invariant.joined.processors;
-        rises = subst (λ (rs : List ℕ). AreRises c.self.inside.format c.self.inside.accesses (levels c.run_to.new.self) rs) (sym c.count_rises.ensures)
-            (AreRises-after c.self.inside.format c.self.inside.accesses c.self.inside.accesses 0 (levels c.self.inside.devices) (levels c.run_to.new.self)
-            c.run_to.new.edges c.self.inside.rises (omega arith) (omega arith) c.self.invariant.joined.rises
-            (λ line. omega (arith, ap (lifts line) es, c.run_to.ensures.lifts line)));
-      };
+      time = c.self.invariant.time ∙ sym same;
+      joined = IsJoined-same_time b c.max-self-inside.result c.self.invariant.joined (omega (arith, c.max-self-inside.ensures)) same;
     }
+
+pub returns-then-to-self-clause-state : goal.returns-then-to-self-clause-state
+returns-then-to-self-clause-state c =
+    let b : BoardParts = board_parts_of c.self.inside in
+    let stays : now_of b ≡ time_of_access b c.args.h =
+    sym c.self.invariant.time ∙ sym c.if-to-self.true ∙ c.requires.to ∙ ap (λ (x : BoardParts). time_of_access x c.args.h) (sym c.self.view_is) in
+    run-none b c.args.h stays c.max-self-inside.result c.max-self-inside.ensures ∙ ap (λ (x : BoardParts). after_run x c.args.h) c.self.view_is
+
+pub returns-then-to-self-clause-edges : goal.returns-then-to-self-clause-edges
+returns-then-to-self-clause-edges c =
+    let b : BoardParts = c.args.self.now in
+    let stays : now_of b ≡ time_of_access b c.args.h =
+    ap now_of (sym c.self.view_is) ∙ sym c.self.invariant.time ∙ sym c.if-to-self.true ∙ c.requires.to in
+    sym (ap (λ (es : List Edge). c.args.edges.now ++ es) (edges-none b c.args.h stays) ∙ append-nil c.args.edges.now)
+
+pub returns-then-to-self-clause-few : goal.returns-then-to-self-clause-few
+returns-then-to-self-clause-few c =
+    let b : BoardParts = c.args.self.now in
+    let stays : now_of b ≡ time_of_access b c.args.h =
+    ap now_of (sym c.self.view_is) ∙ sym c.self.invariant.time ∙ sym c.if-to-self.true ∙ c.requires.to in
+    omega (arith, ap length (edges-none b c.args.h stays))

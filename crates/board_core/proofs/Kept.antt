@@ -1,0 +1,188 @@
+-- Kinds of accesses: what each leaves as it is.
+use Rattle.std.proofs.Common.{◌≡◌, ℕ, ◌+◌, true, false, ◌<◌, ◌≤◌, List, [], ◌++◌, refl, ap, sym, subst, ◌∙◌, arith, None}
+use Rattle.std.proofs.lemmas.Bool.{false≢true}
+use Rattle.irq_edges.specs.declared.edges.Edge.{Edge}
+use Rattle.irq_edges.specs.Lines.{line_numbers, level_of}
+use Rattle.irq_edges.proofs.EdgesOf.{changes-same}
+use Rattle.host_counter.specs.declared.Anchor.{Anchor}
+use Rattle.board_types.specs.declared.access.Access.{Access}
+use Rattle.board_types.specs.declared.access.Access.TheVariants.{
+  PortIn,
+  PortOut,
+  HpetRead,
+  HpetWrite,
+  MsrRead,
+  MsrWrite,
+  Ack,
+  Step,
+  Refresh,
+  Wall,
+  CountsOf,
+  Next,
+  Rose,
+}
+use Rattle.board_types.specs.declared.parts.BoardParts.{BoardParts}
+use Rattle.board_types.specs.declared.parts.ProcessorParts.{ProcessorParts}
+use Rattle.board_types.specs.declared.reply.Value.TheVariants.{Nothing}
+use Rattle.board_devices.specs.declared.act.Act.TheVariants.{Nothing as NoAct}
+use Rattle.board_devices.specs.declared.parts.DeviceParts.{DeviceParts}
+use Rattle.board_devices.specs.Act.{acted, first_part, act_edges, value_of}
+use Rattle.board_devices.specs.Lines.{levels}
+use Rattle.board_devices.specs.Places.{line_at}
+use Rattle.board_devices.specs.Rises.{lifts, one_if}
+use Rattle.board_core.specs.Time.{devices_in, now_of}
+use Rattle.board_core.specs.Pages.{processors_after}
+use Rattle.board_core.specs.Wall.{wall_number_after, wall_version_after}
+use Rattle.board_core.specs.Rises.{rises_after}
+use Rattle.board_core.specs.Access.{act_of, own_edges, value_at}
+use Rattle.board_core.specs.Refusals.{raised_version}
+use Rattle.board_core.specs.private.Kinds.{touches, publishes}
+use Rattle.board_core.specs.private.Values.{told, value_with}
+use Rattle.board_core.proofs.Counted.{rises_after-none}
+
+-- no access is of two kinds
+pub touches-quiet : (a : Access) → touches a ≡ true → publishes a ≡ false
+touches-quiet (PortIn port) e = refl
+touches-quiet (PortOut port byte) e = refl
+touches-quiet (HpetRead offset width) e = refl
+touches-quiet (HpetWrite offset width v) e = refl
+touches-quiet (MsrRead msr) e = refl
+touches-quiet (MsrWrite msr v) e = absurd (false≢true e)
+touches-quiet (Ack line) e = refl
+touches-quiet Step e = refl
+touches-quiet (Refresh page) e = absurd (false≢true e)
+touches-quiet Wall e = refl
+touches-quiet (CountsOf from) e = refl
+touches-quiet Next e = refl
+touches-quiet (Rose line) e = refl
+
+pub publishes-untouched : (a : Access) → publishes a ≡ true → touches a ≡ false
+publishes-untouched (PortIn port) e = absurd (false≢true e)
+publishes-untouched (PortOut port byte) e = absurd (false≢true e)
+publishes-untouched (HpetRead offset width) e = absurd (false≢true e)
+publishes-untouched (HpetWrite offset width v) e = absurd (false≢true e)
+publishes-untouched (MsrRead msr) e = refl
+publishes-untouched (MsrWrite msr v) e = refl
+publishes-untouched (Ack line) e = absurd (false≢true e)
+publishes-untouched Step e = refl
+publishes-untouched (Refresh page) e = refl
+publishes-untouched Wall e = refl
+publishes-untouched (CountsOf from) e = refl
+publishes-untouched Next e = refl
+publishes-untouched (Rose line) e = refl
+
+-- what touches no device
+none-asked : (a : Access) → touches a ≡ false → act_of a ≡ NoAct
+none-asked (PortIn port) e = absurd (false≢true (sym e))
+none-asked (PortOut port byte) e = absurd (false≢true (sym e))
+none-asked (HpetRead offset width) e = absurd (false≢true (sym e))
+none-asked (HpetWrite offset width v) e = absurd (false≢true (sym e))
+none-asked (MsrRead msr) e = refl
+none-asked (MsrWrite msr v) e = refl
+none-asked (Ack line) e = absurd (false≢true (sym e))
+none-asked Step e = refl
+none-asked (Refresh page) e = refl
+none-asked Wall e = refl
+none-asked (CountsOf from) e = refl
+none-asked Next e = refl
+none-asked (Rose line) e = refl
+
+acted-none : (d : DeviceParts) → acted NoAct d ≡ d
+unfolding acted
+acted-none d = refl
+
+edges-none : (t : ℕ) (d : DeviceParts) → act_edges t NoAct d ≡ []
+unfolding acted first_part
+edges-none t d = ap (λ (es : List Edge). es ++ es) (changes-same t line_numbers (levels d))
+
+pub devices-kept : (a : Access) (d : DeviceParts) → touches a ≡ false → acted (act_of a) d ≡ d
+devices-kept a d e = ap (λ x. acted x d) (none-asked a e) ∙ acted-none d
+
+pub own-none : (b : BoardParts) (a : Access) → touches a ≡ false → own_edges b a ≡ []
+own-none b a e = ap (λ x. act_edges (now_of b) x (devices_in b)) (none-asked a e) ∙ edges-none (now_of b) (devices_in b)
+
+pub rises-kept : (b : BoardParts) (a : Access) → touches a ≡ false → rises_after b.format (own_edges b a) b.rises ≡ b.rises
+rises-kept b a e = ap (λ (es : List Edge). rises_after b.format es b.rises) (own-none b a e) ∙ rises_after-none b.format b.rises
+
+pub due-kept : (a : Access) (d : DeviceParts) → touches a ≡ false → (k : ℕ) → k < 10
+    → (line_at k (acted (act_of a) d)).counts.due ≤ (line_at k d).counts.due + 1
+due-kept a d e k less = subst (λ (x : DeviceParts). (line_at k x).counts.due ≤ (line_at k d).counts.due + 1) (sym (devices-kept a d e)) (omega arith)
+
+pub lifts-kept : (b : BoardParts) (a : Access) → touches a ≡ false → (n : ℕ)
+    → lifts n (own_edges b a) + one_if (level_of line_numbers (levels (devices_in b)) n)
+    ≤ 1 + one_if (level_of line_numbers (levels (acted (act_of a) (devices_in b))) n)
+lifts-kept b a e n =
+    subst (λ (x : DeviceParts). lifts n (own_edges b a) + one_if (level_of line_numbers (levels (devices_in b)) n)
+    ≤ 1 + one_if (level_of line_numbers (levels x) n)) (sym (devices-kept a (devices_in b) e))
+    (omega (arith, ap (lifts n) (own-none b a e)))
+
+-- what doesn't publish
+pub number-kept : (a : Access) (n : ℕ) → publishes a ≡ false → wall_number_after a n ≡ n
+number-kept (MsrWrite msr v) n e = absurd (false≢true (sym e))
+number-kept _ n e = refl
+
+pub version-kept : (a : Access) (n : ℕ) → publishes a ≡ false → wall_version_after a n ≡ n
+version-kept (MsrWrite msr v) n e = absurd (false≢true (sym e))
+version-kept _ n e = refl
+
+pub processors-kept : (anchor : Anchor) (guest_khz cpu h : ℕ) (a : Access) (ps : List ProcessorParts) → publishes a ≡ false
+    → processors_after anchor guest_khz cpu h a ps ≡ ps
+unfolding processors_after
+processors-kept anchor guest_khz cpu h (MsrWrite msr v) ps e = absurd (false≢true (sym e))
+processors-kept anchor guest_khz cpu h (Refresh page) ps e = absurd (false≢true (sym e))
+processors-kept anchor guest_khz cpu h _ ps e = refl
+
+-- the values
+pub value-touched : (b : BoardParts) (cpu h : ℕ) (a : Access) → touches a ≡ true
+    → value_with a (value_of (now_of b) (act_of a) (devices_in b)) Nothing ≡ value_at b cpu h a
+unfolding value_at
+value-touched b cpu h (PortIn port) e = refl
+value-touched b cpu h (PortOut port byte) e = refl
+value-touched b cpu h (HpetRead offset width) e = refl
+value-touched b cpu h (HpetWrite offset width v) e = refl
+value-touched b cpu h (MsrRead msr) e = absurd (false≢true e)
+value-touched b cpu h (MsrWrite msr v) e = absurd (false≢true e)
+value-touched b cpu h (Ack line) e = refl
+value-touched b cpu h Step e = absurd (false≢true e)
+value-touched b cpu h (Refresh page) e = absurd (false≢true e)
+value-touched b cpu h Wall e = absurd (false≢true e)
+value-touched b cpu h (CountsOf from) e = absurd (false≢true e)
+value-touched b cpu h Next e = absurd (false≢true e)
+value-touched b cpu h (Rose line) e = absurd (false≢true e)
+
+pub value-published : (b : BoardParts) (cpu h : ℕ) (a : Access) → publishes a ≡ true → Nothing ≡ value_at b cpu h a
+unfolding value_at
+value-published b cpu h (PortIn port) e = absurd (false≢true e)
+value-published b cpu h (PortOut port byte) e = absurd (false≢true e)
+value-published b cpu h (HpetRead offset width) e = absurd (false≢true e)
+value-published b cpu h (HpetWrite offset width v) e = absurd (false≢true e)
+value-published b cpu h (MsrRead msr) e = absurd (false≢true e)
+value-published b cpu h (MsrWrite msr v) e = refl
+value-published b cpu h (Ack line) e = absurd (false≢true e)
+value-published b cpu h Step e = absurd (false≢true e)
+value-published b cpu h (Refresh page) e = refl
+value-published b cpu h Wall e = absurd (false≢true e)
+value-published b cpu h (CountsOf from) e = absurd (false≢true e)
+value-published b cpu h Next e = absurd (false≢true e)
+value-published b cpu h (Rose line) e = absurd (false≢true e)
+
+pub value-told : (b : BoardParts) (n cpu h : ℕ) (a : Access) → touches a ≡ false → told (record b { accesses = n }) cpu h a ≡ value_at b cpu h a
+unfolding value_at
+value-told b n cpu h (PortIn port) e = absurd (false≢true (sym e))
+value-told b n cpu h (PortOut port byte) e = absurd (false≢true (sym e))
+value-told b n cpu h (HpetRead offset width) e = absurd (false≢true (sym e))
+value-told b n cpu h (HpetWrite offset width v) e = absurd (false≢true (sym e))
+value-told b n cpu h (MsrRead msr) e = refl
+value-told b n cpu h (MsrWrite msr v) e = refl
+value-told b n cpu h (Ack line) e = absurd (false≢true (sym e))
+value-told b n cpu h Step e = refl
+value-told b n cpu h (Refresh page) e = refl
+value-told b n cpu h Wall e = refl
+value-told b n cpu h (CountsOf from) e = refl
+value-told b n cpu h Next e = refl
+value-told b n cpu h (Rose line) e = refl
+
+pub raised_none : (ps : List ProcessorParts) (wall cpu : ℕ) (a : Access) → publishes a ≡ false → raised_version ps wall cpu a ≡ None
+raised_none ps wall cpu (MsrWrite msr v) e = absurd (false≢true (sym e))
+raised_none ps wall cpu (Refresh page) e = absurd (false≢true (sym e))
+raised_none ps wall cpu _ e = refl

@@ -1,0 +1,60 @@
+use Rattle.std.proofs.Common.{false, ◌≡◌, ◌<◌, IfSome, ap, sym, subst, ◌∙◌, arith}
+use Rattle.board_types.specs.declared.parts.BoardParts.{BoardParts}
+use Rattle.board_types.specs.declared.parts.TheConstants.{LAST_VERSION, MOST_ACCESSES}
+use Rattle.board_core.specs.Time.{HasTime, devices_in}
+use Rattle.board_core.specs.Pages.{published_by}
+use Rattle.board_core.specs.Refusals.{raised_version}
+use Rattle.board_core.specs.Access.{after_act}
+use Rattle.board_core.specs.Conditions.{IsJoined}
+use Rattle.board_core.specs.View.{board_parts_of}
+use Rattle.board_core.specs.private.Kinds.{touches}
+use Rattle.board_core.proofs.Kept.{publishes-untouched, devices-kept, rises-kept, due-kept, lifts-kept}
+use Rattle.board_core.proofs.Steps.{with_parts, with_parts-is}
+use Rattle.board_core.proofs.Legals.{legal-page, raised-wall, raised-page}
+use Rattle.board_core.proofs.Joined.{most-cpus, IsWall-after, AreProcessors-after, IsJoined-acted}
+use Rattle.board_core.proofs.board.BoardState.publish_for.Goals as goal
+
+-- the board that the access finds
+abbrev seen : goal.After-publish_by → BoardParts
+seen c = board_parts_of c.self.inside
+
+untouched : (c : goal.After-publish_by) → touches c.args.a ≡ false
+untouched c = publishes-untouched c.args.a c.requires.publishes
+
+version_is : (c : goal.After-publish_by) → IfSome (raised_version c.self.inside.processors c.self.inside.wall_version c.args.cpu c.args.a)
+    (λ v. v < LAST_VERSION)
+version_is c = subst (λ (b : BoardParts). IfSome (raised_version b.processors b.wall_version c.args.cpu c.args.a) (λ v. v < LAST_VERSION))
+    (sym c.self.view_is) c.requires.version
+
+place_is : (c : goal.After-publish_by) → IfSome (published_by c.args.cpu c.args.a) (λ k. k < c.self.inside.cpus)
+place_is c = subst (λ (b : BoardParts). IfSome (published_by c.args.cpu c.args.a) (λ k. k < b.cpus)) (sym c.self.view_is)
+    (legal-page c.args.self.now.cpus c.args.self.now.format c.args.cpu c.args.a c.requires.cpu c.requires.legal)
+
+state_is : (c : goal.After-publish_by) → with_parts (seen c) (devices_in (seen c)) c.wall_number_after-self-inside.result
+    c.wall_version_after-self-inside.result c.publish_by.new.processors (seen c).rises ≡ after_act (seen c) c.args.cpu c.args.h c.args.a
+state_is c =
+    with_parts-is (seen c) c.args.cpu c.args.h c.args.a (devices_in (seen c)) c.wall_number_after-self-inside.result c.wall_version_after-self-inside.result
+    c.publish_by.new.processors (seen c).rises (sym (devices-kept c.args.a (devices_in (seen c)) (untouched c))) c.wall_number_after-self-inside.ensures
+    c.wall_version_after-self-inside.ensures c.publish_by.ensures (sym (rises-kept (seen c) c.args.a (untouched c)))
+
+pub invariant_of-self : goal.invariant_of-self
+invariant_of-self c = record {
+  time = c.self.invariant.time;
+  joined = subst IsJoined (sym (state_is c)) (IsJoined-acted (seen c) c.args.cpu c.args.h c.args.a c.self.invariant.joined few (omega arith)
+      (IsWall-after c.args.a c.self.inside.wall_number c.self.inside.wall_version c.self.inside.wall_nsec
+      (raised-wall c.self.inside.processors c.self.inside.wall_version c.args.cpu c.args.a (version_is c)) c.self.invariant.joined.wall)
+      (AreProcessors-after c.self.inside.anchor c.self.inside.guest_khz c.self.inside.cpus c.args.h c.args.a c.self.inside.processors (omega arith)
+      (most-cpus c.self.inside.format c.self.inside.cpus c.self.inside.devices.hpet.timers c.self.invariant.joined.format)
+      c.self.invariant.joined.processors time c.args.cpu (place_is c)
+      (raised-page c.self.inside.processors c.self.inside.wall_version c.args.cpu c.args.a (version_is c)))
+      (due-kept c.args.a (devices_in (seen c)) (untouched c)) (lifts-kept (seen c) c.args.a (untouched c)));
+}
+  where
+    few : c.self.inside.accesses < MOST_ACCESSES
+    few = subst (λ (b : BoardParts). b.accesses < MOST_ACCESSES) (sym c.self.view_is) c.requires.accesses
+
+    time : HasTime c.self.inside.anchor c.args.h
+    time = subst (λ (b : BoardParts). HasTime b.anchor c.args.h) (sym c.self.view_is) c.requires.time
+
+pub returns : goal.returns
+returns c = state_is c ∙ ap (λ (b : BoardParts). after_act b c.args.cpu c.args.h c.args.a) c.self.view_is

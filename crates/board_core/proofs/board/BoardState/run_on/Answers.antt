@@ -1,0 +1,101 @@
+use Rattle.std.proofs.Common.{◌≡◌, ℕ, ◌+◌, ◌-◌, ◌<◌, ◌≤◌, max, List, ◌++◌, length, length-append, drop, ap, sym, subst, ◌∙◌, arith}
+use Rattle.std.proofs.Math.Seq.{drop-append_seam}
+use Rattle.clk_units.specs.declared.ranges.TheConstants.{RANGE_NS}
+use Rattle.irq_edges.specs.declared.edges.Edge.{Edge}
+use Rattle.host_counter.specs.Time.{time_at}
+use Rattle.board_types.specs.declared.parts.BoardParts.{BoardParts}
+use Rattle.board_devices.specs.declared.parts.DeviceParts.{DeviceParts}
+use Rattle.board_devices.specs.Places.{line_at}
+use Rattle.board_devices.specs.Lines.{levels}
+use Rattle.board_devices.specs.Rises.{lifts}
+use Rattle.board_devices.specs.Run.{Ran, run}
+use Rattle.board_core.specs.Time.{HasTime, now_of, time_of_access}
+use Rattle.board_core.specs.Conditions.{IsFormat, AreRises}
+use Rattle.board_core.specs.View.{board_parts_of}
+use Rattle.board_core.proofs.Times.{time_at_max}
+use Rattle.board_core.proofs.Timers.{timers-run}
+use Rattle.board_core.specs.Access.{ran_to, after_run}
+use Rattle.board_core.specs.Rises.{rises_after}
+use Rattle.board_core.proofs.Joined.{AreRises-after}
+use Rattle.board_core.proofs.Steps.{with_run-is}
+use Rattle.board_core.proofs.board.BoardState.run_on.Goals as goal
+
+-- the board that the run finds
+abbrev seen : goal.After-count_rises → BoardParts
+seen c = board_parts_of c.self.inside
+
+to_is : (c : goal.After-count_rises) → c.args.to ≡ time_of_access (seen c) c.args.h
+to_is c = c.requires.to ∙ ap (λ (b : BoardParts). time_of_access b c.args.h) (sym c.self.view_is)
+
+time_in : (c : goal.After-count_rises) → HasTime c.self.inside.anchor c.args.h
+time_in c = subst (λ (b : BoardParts). HasTime b.anchor c.args.h) (sym c.self.view_is) c.requires.time
+
+host_is : (c : goal.After-count_rises) → c.max-self-inside.result ≡ max c.self.inside.host c.args.h
+host_is c = omega (arith, c.max-self-inside.ensures)
+
+now_is : (c : goal.After-count_rises) → c.args.to ≡ time_at c.self.inside.anchor c.max-self-inside.result
+now_is c =
+    to_is c
+    ∙ sym (time_at_max c.self.inside.anchor c.self.inside.host c.args.h (omega (arith, c.self.invariant.joined.rates.host.slow)))
+    ∙ sym (ap (time_at c.self.inside.anchor) (host_is c))
+
+-- the run of the devices is that of the definition
+ran_is : (c : goal.After-count_rises) → run c.self.inside.time_ns (c.args.to - c.self.inside.time_ns) c.self.inside.devices ≡ ran_to (seen c) c.args.h
+ran_is c =
+    ap (λ (n : ℕ). run c.self.inside.time_ns (n - c.self.inside.time_ns) c.self.inside.devices) (to_is c)
+    ∙ ap (λ (t : ℕ). run t (time_of_access (seen c) c.args.h - t) c.self.inside.devices) c.self.invariant.time
+
+edges_are : (c : goal.After-count_rises) → c.run_to.new.edges ≡ c.args.edges.now ++ (ran_to (seen c) c.args.h).edges
+edges_are c = c.run_to.ensures.edges ∙ ap (λ (r : Ran). c.args.edges.now ++ r.edges) (ran_is c)
+
+rises_are : (c : goal.After-count_rises) → c.count_rises.new.rises ≡ rises_after c.self.inside.format (ran_to (seen c) c.args.h).edges c.self.inside.rises
+rises_are c =
+    c.count_rises.ensures
+    ∙ ap (λ (es : List Edge). rises_after c.self.inside.format es c.self.inside.rises)
+    (ap (drop c.len-before.result) (edges_are c)
+    ∙ ap (λ (n : ℕ). drop n (c.args.edges.now ++ (ran_to (seen c) c.args.h).edges)) c.len-before.ensures.value
+    ∙ drop-append_seam c.args.edges.now (ran_to (seen c) c.args.h).edges)
+
+pub invariant_of-self : goal.invariant_of-self
+invariant_of-self c =
+    let from : c.self.inside.time_ns ≡ now_of (board_parts_of c.self.inside) = c.self.invariant.time in
+    let low : time_at c.self.inside.anchor c.args.h < RANGE_NS = (time_in c).range in
+    record {
+      time = now_is c;
+      joined = record {
+        format = subst (λ (n : ℕ). IsFormat c.self.inside.format c.self.inside.cpus n)
+            (sym (ap (λ (d : DeviceParts). d.hpet.timers) c.run_to.ensures.state
+            ∙ timers-run c.self.inside.time_ns (c.args.to - c.self.inside.time_ns) c.self.inside.devices))
+            c.self.invariant.joined.format;
+        rates = c.self.invariant.joined.rates;
+        time = record {
+          started = omega (arith, c.self.invariant.joined.time.started, c.max-self-inside.ensures);
+          range = let r : time_at c.self.inside.anchor c.max-self-inside.result < RANGE_NS = omega
+              (arith, now_is c, to_is c, low, c.self.invariant.joined.time.range) in r;
+        };
+        accesses = c.self.invariant.joined.accesses;
+        due = λ k less.
+            let r : (line_at k c.run_to.new.self).counts.due ≤ time_at c.self.inside.anchor c.max-self-inside.result + c.self.inside.accesses =
+            omega (arith, c.run_to.ensures.due k less, c.self.invariant.joined.due k less, from, now_is c, to_is c) in r;
+        wall = c.self.invariant.joined.wall;
+        processors = c.self.invariant.joined.processors;
+        rises = subst (λ (rs : List ℕ). AreRises c.self.inside.format c.self.inside.accesses (levels c.run_to.new.self) rs) (sym (rises_are c))
+            (AreRises-after c.self.inside.format c.self.inside.accesses c.self.inside.accesses 0 (levels c.self.inside.devices) (levels c.run_to.new.self)
+            (ran_to (seen c) c.args.h).edges c.self.inside.rises (omega arith) (omega arith) c.self.invariant.joined.rises
+            (λ line. omega (arith, ap (λ (r : Ran). lifts line r.edges) (ran_is c), c.run_to.ensures.lifts line)));
+      };
+    }
+
+pub returns-clause-state : goal.returns-clause-state
+returns-clause-state c =
+    with_run-is (seen c) c.args.h c.max-self-inside.result c.run_to.new.self c.count_rises.new.rises (host_is c)
+    (c.run_to.ensures.state ∙ ap (λ (r : Ran). r.state) (ran_is c)) (rises_are c)
+    ∙ ap (λ (b : BoardParts). after_run b c.args.h) c.self.view_is
+
+pub returns-clause-edges : goal.returns-clause-edges
+returns-clause-edges c = edges_are c ∙ ap (λ (b : BoardParts). c.args.edges.now ++ (ran_to b c.args.h).edges) c.self.view_is
+
+pub returns-clause-few : goal.returns-clause-few
+returns-clause-few c =
+    subst (λ (b : BoardParts). length (ran_to b c.args.h).edges ≤ 6) c.self.view_is
+    (omega (arith, c.run_to.ensures.few, ap length (edges_are c), length-append c.args.edges.now (ran_to (seen c) c.args.h).edges))
