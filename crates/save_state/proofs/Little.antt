@@ -1,7 +1,6 @@
 -- Numbers by their bytes.
 use Rattle.std.proofs.Common.{◌≡◌, ℕ, ◌+◌, ◌*◌, List, get_or, drop, ap, sym, ◌∙◌, arith}
 use Rattle.std.proofs.lemmas.List.{get_or-drop}
-use Rattle.byteorder.specs.Endian.{little_number}
 use Rattle.save_state.specs.Fields.{number_at}
 
 -- a byte of the rest, by its place

@@ -1,8 +1,6 @@
 -- Rows on the definitions: the example of a saved state, and one fault of each kind and field.
 use Rattle.std.proofs.Common.{◌≡◌, ℕ, List, [], ◌∷◌, ◌++◌, length, take, drop, replicate, set, Option, Some, None, refl}
-use Rattle.byteorder.specs.Endian.{little_number}
 use Rattle.host_counter.specs.Time.{time_at}
-use Rattle.rtc_calendar.specs.declared.TimeBytes.{TimeBytes}
 use Rattle.tick_policy.specs.declared.parts.Policy.TheVariants.{Delay}
 use Rattle.board_types.specs.declared.parts.BoardParts.{BoardParts}
 use Rattle.board_types.specs.declared.setup.Setup.{Setup}
@@ -15,8 +13,10 @@ use Rattle.save_state.specs.Hpet.{timer_in, timer_bytes}
 use Rattle.save_state.specs.Ticks.{line_in, line_bytes}
 use Rattle.save_state.specs.Processors.{processor_in, tsc_bytes, page_bytes, processor_bytes}
 use Rattle.save_state.specs.Reading.{anchor_in, pit_in, rtc_in, hpet_in, lines_in, rises_in, processors_in, board_in}
-use Rattle.save_state.specs.Table.{head_rows, clock_rows, hpet_rows, line_fault, rises_rows, wall_rows, counter_fault, timer_fault, processor_fault, trailing_fault, fault_of}
-use Rattle.save_state.specs.Writing.{blocks_below, head_bytes, host_bytes, guest_bytes, policy_bytes, pit_bytes, clock_bytes, hpet_bytes, rises_bytes, wall_bytes, front_bytes, device_bytes, back_bytes, bytes_of}
+use Rattle.save_state.specs.Table.{head_rows, clock_rows, hpet_rows, line_fault, rises_rows, wall_rows, counter_fault, timer_fault, processor_fault}
+use Rattle.save_state.specs.Table.{trailing_fault, fault_of}
+use Rattle.save_state.specs.Writing.{blocks_below, head_bytes, host_bytes, guest_bytes, policy_bytes, pit_bytes, clock_bytes, hpet_bytes, rises_bytes}
+use Rattle.save_state.specs.Writing.{wall_bytes, front_bytes, device_bytes, back_bytes, bytes_of}
 use Rattle.pit_counter.specs.Count.{modulus}
 use Rattle.pit_counter.specs.Mode.{mode_of, access_of, is_bcd}
 use Rattle.pit_counter.specs.Programming.{programmed}
@@ -26,7 +26,7 @@ use Rattle.rtc_registers.specs.Registers.{with_time}
 use Rattle.rtc_registers.specs.Parts.{rtc_at_power_on}
 use Rattle.pvclock_page.specs.Scale.{mul_for, shift_for}
 
-abbrev setup : Setup
+abbrev pub setup : Setup
 setup = record {
   format = 1;
   anchor = record { khz = 1000000; start = 0; base_ns = 0 };
@@ -42,10 +42,10 @@ setup = record {
 }
 
 -- a board at power on, behind one access that did nothing
-abbrev board : BoardParts
+abbrev pub board : BoardParts
 board = record (board_at_power_on setup) { accesses = 1 }
 
-unfoldable example : List ℕ
+unfoldable pub example : List ℕ
 unfolding number_bytes counter_bytes timer_bytes line_bytes processor_bytes head_bytes host_bytes guest_bytes policy_bytes pit_bytes clock_bytes
     hpet_bytes rises_bytes wall_bytes tsc_bytes page_bytes front_bytes device_bytes back_bytes blocks_below bytes_of with_time rtc_at_power_on
 example = bytes_of board
@@ -66,14 +66,14 @@ unfolding example
 example-processor = refl
 
 -- the fault and the board of bytes, computed
-unfoldable fault : List ℕ → Option StateFault
+unfoldable pub fault : List ℕ → Option StateFault
 unfolding example number_at fault_in fault_below places_below counter_in timer_in line_in processor_in anchor_in pit_in rtc_in hpet_in lines_in
     rises_in processors_in board_in head_rows clock_rows hpet_rows line_fault rises_rows wall_rows counter_fault timer_fault processor_fault
     trailing_fault fault_of bits_valid flags_valid cr_valid ce_valid part_valid read_order_valid latched_count_valid latched_status_valid programmed
     modulus mode_of access_of is_bcd levels time_at mul_for shift_for rtc_at_power_on with_time
 fault bytes = fault_of bytes
 
-unfoldable read : List ℕ → BoardParts
+unfoldable pub read : List ℕ → BoardParts
 unfolding example number_at fault_in fault_below places_below counter_in timer_in line_in processor_in anchor_in pit_in rtc_in hpet_in lines_in
     rises_in processors_in board_in head_rows clock_rows hpet_rows line_fault rises_rows wall_rows counter_fault timer_fault processor_fault
     trailing_fault fault_of bits_valid flags_valid cr_valid ce_valid part_valid read_order_valid latched_count_valid latched_status_valid programmed

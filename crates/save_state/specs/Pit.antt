@@ -1,5 +1,5 @@
 -- The counters of the 8254 in a saved state: 14 bytes each.
-use Rattle.std.specs.Prelude.{ℕ, ◌+◌, nat_le, Bool, ◌&&◌, ◌||◌, List, [], ◌∷◌, ◌++◌}
+use Rattle.std.specs.Prelude.{ℕ, ◌+◌, nat_le, ◌&&◌, ◌||◌, List, [], ◌∷◌, ◌++◌}
 use Rattle.clk_units.specs.Bits.{bit, bit_value}
 use Rattle.pit_counter.specs.declared.parts.CounterParts.{CounterParts}
 use Rattle.pit_counter.specs.Parts.{

@@ -10,7 +10,6 @@ use Rattle.std.specs.Prelude.{
   true,
   ◌&&◌,
   ◌||◌,
-  not,
   if◌then◌else◌,
   List,
   [],

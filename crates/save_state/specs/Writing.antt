@@ -10,8 +10,6 @@ use Rattle.std.specs.Prelude.{
   [],
   ◌∷◌,
   ◌++◌,
-  map,
-  slice_index_or,
   slice_index,
 }
 use Rattle.pit_readback.specs.Pit.{counter_of}

@@ -1,9 +1,11 @@
-//! Numbers, and the blocks of a saved state, appended to bytes.
+//! Numbers, and the blocks of a saved state, appended to bytes. Each block's clause `fits` tells what the types of its
+//! fields say, that each number fits its bytes: so the bytes are read as the block.
 ghost use Rattle.std.specs.Prelude.{◌≡◌, ◌+◌, ◌≤◌, ◌∷◌, [], ◌++◌, OnOk, if◌then◌else◌};
 ghost use Rattle.save_state.specs.Fields.{number_bytes, flag_byte};
 ghost use Rattle.save_state.specs.Pit.{counter_flags, counter_bytes};
 ghost use Rattle.save_state.specs.Hpet.{timer_bytes};
 ghost use Rattle.save_state.specs.Ticks.{line_bytes};
+ghost use Rattle.save_state.specs.private.Fits.{CounterFits, TimerFits, LineFits, TscFits, PageFits, ProcessorFits};
 ghost use Rattle.save_state.specs.Processors.{tsc_bytes, page_bytes, processor_bytes};
 
 use board_core::ProcessorParts;
@@ -76,7 +78,8 @@ fn counter_flags(c: &CounterParts) -> u8
 /// Appends a counter.
 #[tactic(auto, unfolding(crate::specs::Pit::counter_bytes))]
 pub(crate) fn put_counter(out: &mut Vec<u8>, c: &CounterParts) -> Result<(), NoMemory>
-    ensures { OnOk result (out.new.items ≡ out.old.items ++ counter_bytes c.now) }
+    ensures bytes { OnOk result (out.new.items ≡ out.old.items ++ counter_bytes c.now) }
+    ensures fits { OnOk result (CounterFits c.now) }
 {
     put(out, &[c.bits, counter_flags(c)])?;
     put_2(out, c.cr)?;
@@ -97,7 +100,8 @@ pub(crate) fn put_counter(out: &mut Vec<u8>, c: &CounterParts) -> Result<(), NoM
 /// Appends a timer.
 #[tactic(auto, unfolding(crate::specs::Hpet::timer_bytes))]
 pub(crate) fn put_timer(out: &mut Vec<u8>, t: &TimerParts) -> Result<(), NoMemory>
-    ensures { OnOk result (out.new.items ≡ out.old.items ++ timer_bytes t.now) }
+    ensures bytes { OnOk result (out.new.items ≡ out.old.items ++ timer_bytes t.now) }
+    ensures fits { OnOk result (TimerFits t.now) }
 {
     put_2(out, t.config)?;
     put_8(out, t.comparator)?;
@@ -107,7 +111,8 @@ pub(crate) fn put_timer(out: &mut Vec<u8>, t: &TimerParts) -> Result<(), NoMemor
 /// Appends a tick line.
 #[tactic(auto, unfolding(crate::specs::Ticks::line_bytes))]
 pub(crate) fn put_line(out: &mut Vec<u8>, line: &TickParts) -> Result<(), NoMemory>
-    ensures { OnOk result (out.new.items ≡ out.old.items ++ line_bytes line.now) }
+    ensures bytes { OnOk result (out.new.items ≡ out.old.items ++ line_bytes line.now) }
+    ensures fits { OnOk result (LineFits line.now) }
 {
     put(out, &[flag_byte(line.up)])?;
     put_8(out, line.counts.due)?;
@@ -119,7 +124,8 @@ pub(crate) fn put_line(out: &mut Vec<u8>, line: &TickParts) -> Result<(), NoMemo
 /// Appends a processor.
 #[tactic(auto, unfolding(crate::specs::Processors::processor_bytes))]
 pub(crate) fn put_processor(out: &mut Vec<u8>, p: &ProcessorParts) -> Result<(), NoMemory>
-    ensures { OnOk result (out.new.items ≡ out.old.items ++ processor_bytes p.now) }
+    ensures bytes { OnOk result (out.new.items ≡ out.old.items ++ processor_bytes p.now) }
+    ensures fits { OnOk result (ProcessorFits p.now) }
 {
     put_tsc(out, p)?;
     put_page(out, p)
@@ -128,7 +134,8 @@ pub(crate) fn put_processor(out: &mut Vec<u8>, p: &ProcessorParts) -> Result<(),
 /// Appends the TSC of a processor, and the version of its page.
 #[tactic(auto, unfolding(crate::specs::Processors::tsc_bytes))]
 fn put_tsc(out: &mut Vec<u8>, p: &ProcessorParts) -> Result<(), NoMemory>
-    ensures { OnOk result (out.new.items ≡ out.old.items ++ tsc_bytes p.now) }
+    ensures bytes { OnOk result (out.new.items ≡ out.old.items ++ tsc_bytes p.now) }
+    ensures fits { OnOk result (TscFits p.now) }
 {
     put_8(out, p.offset)?;
     put_8(out, p.adjust)?;
@@ -139,7 +146,8 @@ fn put_tsc(out: &mut Vec<u8>, p: &ProcessorParts) -> Result<(), NoMemory>
 /// Appends the page of a processor.
 #[tactic(auto, unfolding(crate::specs::Processors::page_bytes))]
 fn put_page(out: &mut Vec<u8>, p: &ProcessorParts) -> Result<(), NoMemory>
-    ensures { OnOk result (out.new.items ≡ out.old.items ++ page_bytes p.now) }
+    ensures bytes { OnOk result (out.new.items ≡ out.old.items ++ page_bytes p.now) }
+    ensures fits { OnOk result (PageFits p.now) }
 {
     put_8(out, p.tsc_timestamp)?;
     put_8(out, p.system_time)?;

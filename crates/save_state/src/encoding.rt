@@ -1,5 +1,5 @@
 //! The bytes of a board.
-ghost use Rattle.std.specs.Prelude.{◌≡◌, ◌+◌, ◌≤◌, ◌∷◌, [], ◌++◌, OnOk, IfOk, slice_index};
+ghost use Rattle.std.specs.Prelude.{◌≡◌, ◌+◌, ◌≤◌, ◌∷◌, [], ◌++◌, None, OnOk, IfOk, slice_index};
 ghost use Rattle.save_state.specs.Fields.{number_bytes};
 ghost use Rattle.save_state.specs.Pit.{counter_bytes};
 ghost use Rattle.save_state.specs.Hpet.{timer_bytes};
@@ -9,6 +9,9 @@ ghost use Rattle.board_types.specs.Setup.{timers_of};
 ghost use Rattle.board_devices.specs.Places.{line_at};
 ghost use Rattle.board_core.specs.Time.{devices_in};
 ghost use Rattle.board_core.specs.Tsc.{processor_at};
+ghost use Rattle.save_state.specs.private.Fits.{CountersFit, TimersFit, LinesFit, ProcessorsFit, BlocksFit};
+ghost use Rattle.save_state.specs.Reading.{board_in};
+ghost use Rattle.save_state.specs.Table.{fault_of};
 ghost use Rattle.save_state.specs.Writing.{blocks_below, head_bytes, host_bytes, guest_bytes, policy_bytes, pit_bytes, clock_bytes, hpet_bytes, rises_bytes, wall_bytes, front_bytes, device_bytes, back_bytes, bytes_of};
 ghost use Rattle.save_state.specs.Ticks.{line_bytes};
 ghost use Rattle.save_state.specs.Processors.{processor_bytes};
@@ -33,9 +36,11 @@ const SECOND_LEN: usize = 806;
 
 const PROCESSOR_LEN: usize = 50;
 
-/// The bytes of a board, in one allocation of their number.
+/// The bytes of a board, in one allocation of their number. They have no fault, and `decode` gives the board back.
 pub fn encode(alloc: Global, state: &BoardState) -> Result<Vec<u8>, NoMemory>
-    ensures { IfOk result (λ bytes. bytes.items ≡ bytes_of state.now) }
+    ensures bytes { IfOk result (λ bytes. bytes.items ≡ bytes_of state.now) }
+    ensures valid { IfOk result (λ bytes. fault_of bytes.items ≡ None) }
+    ensures reads_back { IfOk result (λ bytes. board_in bytes.items ≡ state.now) }
 {
     let b = state.parts();
     match Vec::with_capacity(alloc, length_of(b.format, b.cpus)) {
@@ -52,7 +57,8 @@ pub fn encode(alloc: Global, state: &BoardState) -> Result<Vec<u8>, NoMemory>
 fn put_board(out: &mut Vec<u8>, b: &BoardParts) -> Result<(), NoMemory>
     requires timers { b.now.hpet.timers ≤ 8 }
     requires cpus { b.now.cpus ≤ 64 }
-    ensures { OnOk result (out.new.items ≡ out.old.items ++ bytes_of b.now) }
+    ensures bytes { OnOk result (out.new.items ≡ out.old.items ++ bytes_of b.now) }
+    ensures fit { OnOk result (BlocksFit b.now) }
 {
     put_front(out, b)?;
     put_devices(out, b)?;
@@ -63,7 +69,10 @@ fn put_board(out: &mut Vec<u8>, b: &BoardParts) -> Result<(), NoMemory>
 #[tactic(auto, unfolding(crate::specs::Writing::device_bytes))]
 fn put_devices(out: &mut Vec<u8>, b: &BoardParts) -> Result<(), NoMemory>
     requires { b.now.hpet.timers ≤ 8 }
-    ensures { OnOk result (out.new.items ≡ out.old.items ++ device_bytes b.now) }
+    ensures bytes { OnOk result (out.new.items ≡ out.old.items ++ device_bytes b.now) }
+    ensures counters { OnOk result (CountersFit b.now.pit) }
+    ensures timers { OnOk result (TimersFit b.now.hpet) }
+    ensures lines { OnOk result (LinesFit b.now) }
 {
     put_pit(out, &b.pit)?;
     put_clock(out, &b.rtc)?;
@@ -75,7 +84,8 @@ fn put_devices(out: &mut Vec<u8>, b: &BoardParts) -> Result<(), NoMemory>
 #[tactic(auto, unfolding(crate::specs::Writing::back_bytes))]
 fn put_back(out: &mut Vec<u8>, b: &BoardParts) -> Result<(), NoMemory>
     requires { b.now.cpus ≤ 64 }
-    ensures { OnOk result (out.new.items ≡ out.old.items ++ back_bytes b.now) }
+    ensures bytes { OnOk result (out.new.items ≡ out.old.items ++ back_bytes b.now) }
+    ensures fit { OnOk result (ProcessorsFit b.now) }
 {
     put_rises(out, b)?;
     put_wall(out, b)?;
@@ -145,7 +155,8 @@ fn put_front(out: &mut Vec<u8>, b: &BoardParts) -> Result<(), NoMemory>
 /// Appends the 8254.
 #[tactic(auto, unfolding(crate::specs::Writing::pit_bytes))]
 fn put_pit(out: &mut Vec<u8>, p: &PitParts) -> Result<(), NoMemory>
-    ensures { OnOk result (out.new.items ≡ out.old.items ++ pit_bytes p.now) }
+    ensures bytes { OnOk result (out.new.items ≡ out.old.items ++ pit_bytes p.now) }
+    ensures fit { OnOk result (CountersFit p.now) }
 {
     put_counters(out, p)?;
     put(out, &[flag_byte(p.speaker)])
@@ -153,8 +164,9 @@ fn put_pit(out: &mut Vec<u8>, p: &PitParts) -> Result<(), NoMemory>
 
 /// Appends the counters of the 8254.
 fn put_counters(out: &mut Vec<u8>, p: &PitParts) -> Result<(), NoMemory>
-    ensures { OnOk result (out.new.items
+    ensures bytes { OnOk result (out.new.items
         ≡ out.old.items ++ blocks_below (λ k. counter_bytes (counter_of p.now k)) 3) }
+    ensures fit { OnOk result (CountersFit p.now) }
 {
     for k in 0..3 {
         put_counter(out, &p.counter(k))?;
@@ -177,7 +189,8 @@ fn put_clock(out: &mut Vec<u8>, r: &RtcParts) -> Result<(), NoMemory>
 #[tactic(auto, unfolding(crate::specs::Writing::hpet_bytes))]
 fn put_hpet(out: &mut Vec<u8>, h: &HpetParts) -> Result<(), NoMemory>
     requires { h.now.timers ≤ 8 }
-    ensures { OnOk result (out.new.items ≡ out.old.items ++ hpet_bytes h.now) }
+    ensures bytes { OnOk result (out.new.items ≡ out.old.items ++ hpet_bytes h.now) }
+    ensures fit { OnOk result (TimersFit h.now) }
 {
     put(out, &[h.config, h.status])?;
     put_8(out, h.counter)?;
@@ -187,8 +200,9 @@ fn put_hpet(out: &mut Vec<u8>, h: &HpetParts) -> Result<(), NoMemory>
 /// Appends the timers of the HPET.
 fn put_timers(out: &mut Vec<u8>, h: &HpetParts) -> Result<(), NoMemory>
     requires { h.now.timers ≤ 8 }
-    ensures { OnOk result (out.new.items
+    ensures bytes { OnOk result (out.new.items
         ≡ out.old.items ++ blocks_below (λ k. timer_bytes (timer_at k h.now)) h.now.timers) }
+    ensures fit { OnOk result (TimersFit h.now) }
 {
     for k in 0..h.timers {
         put_timer(out, &h.timer[k as usize])?;
@@ -198,8 +212,9 @@ fn put_timers(out: &mut Vec<u8>, h: &HpetParts) -> Result<(), NoMemory>
 
 /// Appends the tick lines.
 fn put_lines(out: &mut Vec<u8>, b: &BoardParts) -> Result<(), NoMemory>
-    ensures { OnOk result (out.new.items ≡ out.old.items
+    ensures bytes { OnOk result (out.new.items ≡ out.old.items
         ++ blocks_below (λ k. line_bytes (line_at k (devices_in b.now))) (timers_of b.now.format + 2)) }
+    ensures fit { OnOk result (LinesFit b.now) }
 {
     for k in 0..timers_of(b.format) + 2 {
         put_line(out, &b.ticks[k as usize])?;
@@ -243,8 +258,9 @@ fn put_wall(out: &mut Vec<u8>, b: &BoardParts) -> Result<(), NoMemory>
 /// Appends the processors.
 fn put_processors(out: &mut Vec<u8>, b: &BoardParts) -> Result<(), NoMemory>
     requires { b.now.cpus ≤ 64 }
-    ensures { OnOk result (out.new.items
+    ensures bytes { OnOk result (out.new.items
         ≡ out.old.items ++ blocks_below (λ k. processor_bytes (processor_at b.now k)) b.now.cpus) }
+    ensures fit { OnOk result (ProcessorsFit b.now) }
 {
     for k in 0..b.cpus {
         put_processor(out, &b.processors[k as usize])?;

@@ -11,7 +11,7 @@ ghost use Rattle.save_state.specs.private.Failing.{counter_row, timer_row, clock
 use crate::fault::{StateFault, StateKind};
 use crate::numbers::{byte_at, eight_at, flag_valid, four_at};
 use crate::pieces::{counter_in, processor_in, timer_in};
-use crate::table::{Row, fault_in, field};
+use crate::table::{Row, both, either, fault_in, field};
 use crate::whole::{processor_place, wall_place};
 use board_core::ProcessorParts;
 use clk_units::RANGE_NS;
@@ -65,13 +65,6 @@ fn counter_row(fault: Option<CounterField>) -> u8
     }
 }
 
-/// Whether both hold.
-fn both(a: bool, b: bool) -> bool
-    ensures { result ≡ (a && b) }
-{
-    a && b
-}
-
 /// The rows of a counter, by the first that fails, and by what the bytes tell.
 fn counter_rows(failing: u8, flags: [bool; 5]) -> [Row; 8]
     ensures { result ≡ failing_counter_rows failing flags }
@@ -121,13 +114,6 @@ fn timer_rows(failing: u8) -> [Row; 3]
         field(8, 1 < failing),
         field(8, 2 < failing),
     ]
-}
-
-/// Whether one of the two holds.
-fn either(a: bool, b: bool) -> bool
-    ensures { result ≡ (a || b) }
-{
-    a || b
 }
 
 /// The first fault of the HPET's configuration, status and main counter.

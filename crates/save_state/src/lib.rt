@@ -4,17 +4,27 @@
 //! board, numbers with their lowest byte first. One board has one spelling: bytes are those of a board
 //! exactly where each field has its condition and nothing stands behind the last; else the first field
 //! at fault is told by its place. The format is this project's own.
+//!
+//! ```text
+//! let bytes = encode(alloc, &board)?;
+//! decode(&bytes)                      // Ok: the same board
+//! decode(&bytes[..9])                 // Err: Short, at place 9
+//! ```
 #![tactic(auto)]
 
 mod appending;
+mod decoding;
 mod encoding;
 mod fault;
 mod faults;
+mod head;
+mod lines;
 mod numbers;
 mod pieces;
 mod table;
 mod whole;
 
+pub use decoding::decode;
 pub use encoding::encode;
 pub use fault::{StateFault, StateKind};
 

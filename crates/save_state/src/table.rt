@@ -1,5 +1,5 @@
 //! Rows of the table of a saved state, and the first at fault.
-ghost use Rattle.std.specs.Prelude.{◌≡◌, ◌<◌, ◌≤◌, ◌+◌, length};
+ghost use Rattle.std.specs.Prelude.{◌≡◌, ◌<◌, ◌≤◌, ◌+◌, ◌&&◌, ◌||◌, length};
 ghost use Rattle.save_state.specs.Fields.{field, fault_in, or_else};
 
 use crate::fault::{StateFault, StateKind};
@@ -24,6 +24,20 @@ pub(crate) const fn field(size: u8, valid: bool) -> Row
         valid,
         kind: StateKind::Field,
     }
+}
+
+/// Whether both hold.
+pub(crate) fn both(a: bool, b: bool) -> bool
+    ensures { result ≡ (a && b) }
+{
+    a && b
+}
+
+/// Whether one of the two holds.
+pub(crate) fn either(a: bool, b: bool) -> bool
+    ensures { result ≡ (a || b) }
+{
+    a || b
 }
 
 /// The first fault of the rows from a place on.

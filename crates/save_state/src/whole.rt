@@ -175,7 +175,7 @@ fn hpet_in(bytes: &[u8], format: u8) -> HpetParts
 }
 
 /// The policy of the tick line at place `k`.
-fn policy_in(bytes: &[u8], k: usize) -> Policy
+pub(crate) fn policy_in(bytes: &[u8], k: usize) -> Policy
     ensures { result ≡ policy_in bytes.now k }
 {
     match byte_at(bytes, 76 + k.min(2)) {

@@ -92,21 +92,32 @@ unfolding move_fault
 move_fault-none gap b e = elim (cases_lt (now_of b + gap) RANGE_NS) [
   | inl less ↦ (less, sym (ap (λ (t : Bool). cond t (Some (OutOfRange (now_of b + gap))) (spent_below b b.cpus)) (lt-leb RANGE_NS (now_of b + gap) less)) ∙ e)
   | inr more ↦ let t : leb RANGE_NS (now_of b + gap) ≡ true = le-leb RANGE_NS (now_of b + gap) more in
-      let some : Some (OutOfRange (now_of b + gap)) ≡ None = sym (ap (λ (t : Bool). cond t (Some (OutOfRange (now_of b + gap))) (spent_below b b.cpus)) t) ∙ e in cc
+      let some : Some (OutOfRange (now_of b + gap)) ≡ None =
+      sym (ap (λ (t : Bool). cond t (Some (OutOfRange (now_of b + gap))) (spent_below b b.cpus)) t) ∙ e in cc
 ]
 
 -- while pages below n are published, the processors that are left have pages that can be
-module _ (b : BoardParts) (khz start gap : ℕ) (m board : BoardParts) (n : ℕ) (at_first : m ≡ reanchored khz start gap b) (so_far : board ≡ published_below b khz start gap n m) where
+module _ (b : BoardParts) (khz start gap : ℕ) (m board : BoardParts) (n : ℕ) (at_first : m ≡ reanchored khz start gap b)
+    (so_far : board ≡ published_below b khz start gap n m) where
   pub is_there : n < b.cpus → n < board.cpus
-  is_there less = subst (λ (c : ℕ). n < c) (sym (ap (λ (x : BoardParts). x.cpus) so_far ∙ published_below-cpus b khz start gap n m ∙ ap (λ (x : BoardParts). x.cpus) at_first ∙ reanchored-cpus khz start gap b)) less
+  is_there less =
+      let same : board.cpus ≡ b.cpus =
+      ap (λ (x : BoardParts). x.cpus) so_far ∙ published_below-cpus b khz start gap n m ∙ ap (λ (x : BoardParts). x.cpus) at_first
+      ∙ reanchored-cpus khz start gap b in
+      subst (λ (c : ℕ). n < c) (sym same) less
 
   pub is_fresh : spent_below b b.cpus ≡ None → n < b.cpus → (processor_at board n).version < LAST_VERSION
   is_fresh none less =
       let same : processor_at board n ≡ processor_at b n =
-      ap (λ (x : BoardParts). processor_at x n) so_far ∙ published_below-later b khz start gap n m n (omega arith) ∙ ap (λ (x : BoardParts). processor_at x n) at_first ∙ reanchored-processor khz start gap b n in
+      ap (λ (x : BoardParts). processor_at x n) so_far ∙ published_below-later b khz start gap n m n (omega arith)
+      ∙ ap (λ (x : BoardParts). processor_at x n) at_first
+      ∙ reanchored-processor khz start gap b n in
       subst (λ (p : ProcessorParts). p.version < LAST_VERSION) (sym same) (spent_below-none b b.cpus none n less)
 
-  pub one_more : (new : BoardParts) (tsc : Tsc) → new ≡ published_at_host n tsc 3 board → tsc ≡ tsc_moved b khz start gap n → new ≡ published_below b khz start gap (n + 1) m
+  pub one_more : (new : BoardParts) (tsc : Tsc) → new ≡ published_at_host n tsc 3 board → tsc ≡ tsc_moved b khz start gap n
+      → new ≡ published_below b khz start gap (n + 1) m
   unfolding published_below
   one_more new tsc is tsc_is =
-      rw add-one (is ∙ ap (λ (t : Tsc). published_at_host n t 3 board) tsc_is ∙ ap (λ (x : BoardParts). published_at_host n (tsc_moved b khz start gap n) 3 x) so_far)
+      rw add-one
+      (is ∙ ap (λ (t : Tsc). published_at_host n t 3 board) tsc_is
+      ∙ ap (λ (x : BoardParts). published_at_host n (tsc_moved b khz start gap n) 3 x) so_far)

@@ -1,14 +1,13 @@
 -- Rows on the definitions: each rule at one small case, so that a weaker rule is seen.
-use Rattle.std.proofs.Common.{◌≡◌, ℕ, pos, ◌-◌, ◌^◌, List, [], ◌∷◌, Option, Some, None, get_or, refl}
+use Rattle.std.proofs.Common.{◌≡◌, ◌-◌, ◌^◌, [], ◌∷◌, Some, None, refl}
 use Rattle.host_counter.specs.Time.{time_at}
 use Rattle.tsc_scale.specs.Offset.{tsc_by}
 use Rattle.pvclock_page.specs.Scale.{mul_for, shift_for}
-use Rattle.rtc_calendar.specs.declared.TimeBytes.{TimeBytes}
 use Rattle.tick_policy.specs.declared.parts.Policy.TheVariants.{Delay}
 use Rattle.board_types.specs.declared.parts.BoardParts.{BoardParts}
 use Rattle.board_types.specs.declared.parts.ProcessorParts.{ProcessorParts}
 use Rattle.board_types.specs.declared.setup.Setup.{Setup}
-use Rattle.board_core.specs.Tsc.{no_processor, processor_at}
+use Rattle.board_core.specs.Tsc.{no_processor}
 use Rattle.board_core.specs.Pages.{published, published_at_host}
 use Rattle.board_core.specs.PowerOn.{board_at_power_on}
 use Rattle.transfer.specs.declared.outcome.MoveFault.TheVariants.{OutOfRange, VersionsSpent}
@@ -76,7 +75,15 @@ there = record board { anchor = record { khz = 3000000; start = 500; base_ns = 1
 -- each page is published at `start`, enabled or not, with flags 3, and no other
 published_below-both : (published_below board 3000000 500 1000000000 2 there).processors
     ≡ record first { offset = 2000003672; version = 4; tsc_timestamp = 2000004005; system_time = 1000002000; flags = 3 }
-    ∷ record no_processor { offset = 2000003667; version = 2; tsc_timestamp = 2000004000; system_time = 1000002000; mul = mul_for 2000000000; shift = shift_for 2000000000; flags = 3 }
+    ∷ record no_processor {
+      offset = 2000003667;
+      version = 2;
+      tsc_timestamp = 2000004000;
+      system_time = 1000002000;
+      mul = mul_for 2000000000;
+      shift = shift_for 2000000000;
+      flags = 3;
+    }
     ∷ []
 unfolding published_below published_at_host published tsc_by time_at
 published_below-both = refl
@@ -100,7 +107,11 @@ spent_below-second : spent_below spent 2 ≡ Some (VersionsSpent 1 0xfffffffe)
 unfolding spent_below
 spent_below-second = refl
 
-spent_below-first_of_two : spent_below (record board { processors = record first { version = 0xfffffffe } ∷ record first { version = 0xfffffffe } ∷ [] }) 2 ≡ Some (VersionsSpent 0 0xfffffffe)
+-- the same board with both pages at their last version
+abbrev spent_twice : BoardParts
+spent_twice = record board { processors = record first { version = 0xfffffffe } ∷ record first { version = 0xfffffffe } ∷ [] }
+
+spent_below-first_of_two : spent_below spent_twice 2 ≡ Some (VersionsSpent 0 0xfffffffe)
 unfolding spent_below
 spent_below-first_of_two = refl
 

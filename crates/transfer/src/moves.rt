@@ -1,12 +1,13 @@
 //! A move of a board.
-ghost use Rattle.std.specs.Prelude.{◌≡◌, ◌+◌, ◌*◌, ◌/◌, ◌%◌, ◌^◌, ◌<◌, ◌≤◌, None, Some, IfErr, IfOk, OnOk, IfSome, length};
+ghost use Rattle.std.specs.Prelude.{◌≡◌, ℕ, ◌+◌, ◌*◌, ◌/◌, ◌%◌, ◌^◌, ◌<◌, ◌≤◌, None, Some, IfErr, IfOk, OnOk, IfSome, length};
 ghost use Rattle.clk_units.specs.Ranges.{IsKhz};
 ghost use Rattle.board_devices.specs.Run.{run};
 ghost use Rattle.board_core.specs.Time.{devices_in, now_of};
+ghost use Rattle.board_core.specs.Tsc.{processor_at, tsc_read};
 ghost use Rattle.board_core.specs.Conditions.{AreRates};
 ghost use Rattle.clk_units.specs.declared.ranges.TheConstants.{RANGE_NS};
 ghost use Rattle.board_core.specs.Reanchor.{reanchored};
-ghost use Rattle.transfer.specs.Move.{counts_in, offset_for, tsc_moved, published_below, moved_to, spent_below, move_fault};
+ghost use Rattle.transfer.specs.Move.{counts_in, offset_for, tsc_behind, tsc_moved, published_below, moved_to, spent_below, move_fault};
 
 use crate::outcome::{MoveFault, Moved};
 use board_core::{BoardParts, BoardState, LAST_VERSION};
@@ -29,6 +30,10 @@ pub fn moved(state: &BoardState, khz: u64, start: u64, gap: u64) -> Result<Moved
     ensures edges { IfOk result (λ m. m.edges
         ≡ (run (now_of state.now) gap (devices_in state.now)).edges) }
     ensures few { IfOk result (λ m. length m.edges ≤ 6) }
+    // A TSC that is read at count `start` has gone on from its value at the greatest count.
+    ensures tscs { IfOk result (λ m. (k : ℕ) → k < state.now.cpus
+        → tsc_read m.state.anchor m.state.guest_khz start (processor_at m.state k)
+        ≡ tsc_behind state.now gap k) }
 {
     let from = state.parts();
     if let Some(fault) = move_fault(gap, state.now(), &from) {

@@ -3,7 +3,9 @@ ghost use Rattle.std.specs.Prelude.{◌≤◌};
 ghost use Rattle.board_types.specs.Setup.{IsSetup};
 
 use super::*;
-use board_core::{Access, BoardState, MSR_KVM_SYSTEM_TIME, MSR_TSC_ADJUST, Reply, Setup, Value};
+use board_core::{
+    Access, BoardState, LAST_VERSION, MSR_KVM_SYSTEM_TIME, MSR_TSC_ADJUST, Reply, Setup, Value,
+};
 use host_counter::Anchor;
 use irq_edges::Edge;
 use pvclock_page::{ClockReply, Page};
@@ -175,6 +177,36 @@ fn a_move_past_the_range_is_refused(rt: HostRuntime) {
     }
     match moved(&board, 1_000_000, 0, last) {
         Ok(moved) => assert_eq!(rt; moved.state.now(), (1 << 59) - 1),
+        Err(fault) => panic!(rt; "{fault:?}"),
+    }
+}
+
+#[test]
+fn a_page_at_its_last_version_refuses_the_move(rt: HostRuntime) {
+    let mut parts = running(&rt).parts();
+    parts.processors[0].version = LAST_VERSION;
+    let Some(board) = BoardState::of_parts(parts) else {
+        panic!(rt; "no board");
+    };
+    let fault = MoveFault::VersionsSpent {
+        cpu: 0,
+        version: 4_294_967_294,
+    };
+    match moved(&board, 3_000_000, 500, 1_000_000_000) {
+        Err(found) => assert_eq!(rt; found, fault),
+        Ok(_) => panic!(rt; "moved"),
+    }
+}
+
+#[test]
+fn a_page_two_versions_before_the_last_moves(rt: HostRuntime) {
+    let mut parts = running(&rt).parts();
+    parts.processors[0].version = LAST_VERSION - 2;
+    let Some(board) = BoardState::of_parts(parts) else {
+        panic!(rt; "no board");
+    };
+    match moved(&board, 3_000_000, 500, 1_000_000_000) {
+        Ok(moved) => assert_eq!(rt; page(&rt, &moved.state).version, u64::from(LAST_VERSION)),
         Err(fault) => panic!(rt; "{fault:?}"),
     }
 }

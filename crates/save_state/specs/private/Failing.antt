@@ -3,6 +3,7 @@ use Rattle.std.specs.Prelude.{
   ℕ,
   nat_lt,
   Bool,
+  true,
   false,
   ◌&&◌,
   List,
@@ -28,6 +29,8 @@ use Rattle.hpet_comparator.specs.declared.parts.TimerField.{TimerField}
 use Rattle.hpet_comparator.specs.declared.parts.TimerField.TheVariants.{Config, Comparator, Period}
 use Rattle.rtc_registers.specs.declared.parts.RtcField.{RtcField}
 use Rattle.rtc_registers.specs.declared.parts.RtcField.TheVariants.{Index, Bytes, Divider, Cycle}
+use Rattle.tick_policy.specs.declared.parts.TickField.{TickField}
+use Rattle.tick_policy.specs.declared.parts.TickField.TheVariants.{Queue, Lost}
 use Rattle.save_state.specs.declared.table.Row.{Row}
 use Rattle.save_state.specs.Fields.{field}
 
@@ -85,3 +88,14 @@ failing_clock_rows m speaker cycle =
     ∷ field 2 (nat_lt 2 m)
     ∷ field 1 (cycle && nat_lt 3 m)
     ∷ []
+
+-- the number of the row of a tick line's queue or lost ticks, 2 where none fails
+abbrev pub line_row : Option TickField → ℕ
+line_row None = 2
+line_row (Some Queue) = 0
+line_row (Some Lost) = 1
+
+-- a tick line's rows, with the validity of whether it is up, and of how many ticks were due
+abbrev pub failing_line_rows : ℕ → Bool → Bool → List Row
+failing_line_rows m up due =
+    field 1 up ∷ field 8 due ∷ field 8 true ∷ field 8 (nat_lt 0 m) ∷ field 8 (nat_lt 1 m) ∷ []

@@ -1,6 +1,3 @@
-use Rattle.std.proofs.Common.{ℕ, List, ◌++◌, ap, ◌∙◌}
-use Rattle.pit_counter.specs.declared.parts.CounterParts.{CounterParts}
-use Rattle.save_state.specs.Pit.{counter_bytes}
 use Rattle.save_state.proofs.Blocks.{blocks_none, blocks_more}
 use Rattle.save_state.proofs.encoding.put_counts.Goals as goal
 

@@ -1,4 +1,4 @@
-use Rattle.std.proofs.Common.{ℕ, ◌≡◌, ◌+◌, ◌≤◌, false, get_or, drop, ap, sym, ◌∙◌, arith}
+use Rattle.std.proofs.Common.{ℕ, ◌+◌, false, get_or, drop, ap, sym, ◌∙◌, arith}
 use Rattle.save_state.specs.declared.fault.StateKind.TheVariants.{Short}
 use Rattle.save_state.specs.declared.table.Row.{Row}
 use Rattle.save_state.specs.Fields.{fault_in}

@@ -1,10 +1,7 @@
-use Rattle.std.proofs.Common.{◌≡◌, ℕ, ◌+◌, ◌<◌, ap, ◌∙◌, arith}
+use Rattle.std.proofs.Common.{ℕ, ◌<◌, ap, ◌∙◌, arith}
 use Rattle.std.proofs.lemmas.List.{length-replicate, length-set}
-use Rattle.hpet_registers.specs.Parts.{no_timer}
 use Rattle.board_devices.specs.Places.{no_line}
-use Rattle.board_core.specs.Tsc.{no_processor}
-use Rattle.save_state.specs.Fields.{byte_at}
-use Rattle.save_state.specs.Reading.{timer_place_in, line_place_in, lines_in, rise_in, rises_in, processor_place_in, processors_in}
+use Rattle.save_state.specs.Reading.{line_place_in, lines_in}
 use Rattle.save_state.proofs.Filled.{places_are, filled_more}
 use Rattle.save_state.proofs.whole.lines_in.Goals as goal
 
@@ -16,7 +13,8 @@ loop-k-preserved c =
     let F = line_place_in c.args.bytes.now in
     record {
       len = length-set c.loop-k.all c.loop-k.k c.line_place_in.result ∙ c.loop-k.invariant.len;
-      each = filled_more F no_line c.line_place_in.result c.loop-k.all c.loop-k.k 10 c.loop-k.invariant.len c.loop-k.invariant.each c.loop-k-test.true c.line_place_in.ensures;
+      each = filled_more F no_line c.line_place_in.result c.loop-k.all c.loop-k.k 10 c.loop-k.invariant.len c.loop-k.invariant.each c.loop-k-test.true
+          c.line_place_in.ensures;
     }
 
 pub returns : goal.returns

@@ -1,10 +1,6 @@
-use Rattle.std.proofs.Common.{◌≡◌, ℕ, ◌+◌, ◌<◌, ap, ◌∙◌, arith}
+use Rattle.std.proofs.Common.{ℕ, ◌<◌, ap, ◌∙◌, arith}
 use Rattle.std.proofs.lemmas.List.{length-replicate, length-set}
-use Rattle.hpet_registers.specs.Parts.{no_timer}
-use Rattle.board_devices.specs.Places.{no_line}
-use Rattle.board_core.specs.Tsc.{no_processor}
-use Rattle.save_state.specs.Fields.{byte_at}
-use Rattle.save_state.specs.Reading.{timer_place_in, line_place_in, lines_in, rise_in, rises_in, processor_place_in, processors_in}
+use Rattle.save_state.specs.Reading.{rise_in, rises_in}
 use Rattle.save_state.proofs.Filled.{places_are, filled_more}
 use Rattle.save_state.proofs.whole.rises_in.Goals as goal
 

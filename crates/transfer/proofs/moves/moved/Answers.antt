@@ -1,14 +1,17 @@
-use Rattle.std.proofs.Common.{◌≡◌, ◌+◌, ◌<◌, None, sym, subst, arith}
+use Rattle.std.proofs.Common.{◌≡◌, ℕ, ◌+◌, ◌<◌, ◌≤◌, length, None, ap, sym, subst, ◌∙◌, rules, arith}
 use Rattle.clk_units.specs.declared.ranges.TheConstants.{RANGE_NS}
 use Rattle.board_types.specs.declared.parts.BoardParts.{BoardParts}
 use Rattle.board_core.specs.Time.{now_of}
-use Rattle.transfer.specs.Move.{spent_below, move_fault}
+use Rattle.board_core.specs.Tsc.{processor_at, tsc_read}
+use Rattle.transfer.specs.Move.{tsc_behind, moved_to, move_fault}
+use Rattle.transfer.proofs.GoingOn.{tsc_read-moved_to}
 use Rattle.transfer.proofs.Publishing.{move_fault-none}
 use Rattle.transfer.proofs.moves.moved.Goals as goal
 
 pub reanchor-ran-requires-clause-range : goal.reanchor-ran-requires-clause-range
 reanchor-ran-requires-clause-range c =
-    let none : move_fault c.args.gap c.args.state.now ≡ None = subst (λ (b : BoardParts). move_fault c.args.gap b ≡ None) c.parts-from.ensures.value (sym c.in_default.ensures) in
+    let none : move_fault c.args.gap c.args.state.now ≡ None =
+    subst (λ (b : BoardParts). move_fault c.args.gap b ≡ None) c.parts-from.ensures.value (sym c.in_default.ensures) in
     (move_fault-none c.args.gap c.args.state.now none).0
 
 pub publish_all-requires-clause-gap : goal.publish_all-requires-clause-gap
@@ -17,3 +20,17 @@ publish_all-requires-clause-gap c =
 
 pub publish_all-requires-clause-fresh : goal.publish_all-requires-clause-fresh
 publish_all-requires-clause-fresh c = (move_fault-none c.args.gap c.parts-from.result (sym c.in_default.ensures)).1
+
+pub returns-clause-tscs : goal.returns-clause-tscs
+unfolding moved_to
+returns-clause-tscs c =
+    let from : BoardParts = c.parts-from.result in
+    let moved : BoardParts = c.publish_all.new.board in
+    let places : length from.processors ≡ 64 = search rules in
+    let few : from.cpus ≤ 64 = search rules in
+    let is : moved ≡ moved_to c.args.khz c.args.start c.args.gap from = search rules in
+    λ (k : ℕ) (less : k < c.args.state.now.cpus).
+    let there : k < from.cpus = subst (λ (b : BoardParts). k < b.cpus) (sym c.parts-from.ensures.value) less in
+    ap (λ (b : BoardParts). tsc_read b.anchor b.guest_khz c.args.start (processor_at b k)) is
+    ∙ tsc_read-moved_to from c.args.khz c.args.start c.args.gap k (omega (arith, places, few)) there
+    ∙ ap (λ (b : BoardParts). tsc_behind b c.args.gap k) c.parts-from.ensures.value

@@ -9,7 +9,8 @@ loop-cpu-init c = refl
 
 pub publish-requires-clause-cpu : goal.publish-requires-clause-cpu
 publish-requires-clause-cpu c =
-    is_there c.args.from.now c.args.khz c.args.start c.args.gap c.args.board.now c.loop-cpu.board c.loop-cpu.cpu c.requires.board c.loop-cpu.invariant c.loop-cpu-test.true
+    is_there c.args.from.now c.args.khz c.args.start c.args.gap c.args.board.now c.loop-cpu.board c.loop-cpu.cpu c.requires.board c.loop-cpu.invariant
+    c.loop-cpu-test.true
 
 pub publish-requires-clause-version : goal.publish-requires-clause-version
 publish-requires-clause-version c =

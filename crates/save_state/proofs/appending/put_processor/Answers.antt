@@ -1,0 +1,8 @@
+use Rattle.std.proofs.lemmas.Result.{on_ok_weaker}
+use Rattle.save_state.specs.private.Fits.{TscFits, PageFits}
+use Rattle.save_state.proofs.appending.put_processor.Goals as goal
+
+pub returns-clause-fits : goal.returns-clause-fits
+returns-clause-fits c =
+    let tsc : TscFits c.args.p.now = c.in_ok-put_tsc.ensures.fits in
+    on_ok_weaker c.put_page.result (λ (page : PageFits c.args.p.now). record { tsc = tsc; page = page }) c.put_page.ensures.fits

@@ -1,0 +1,16 @@
+use Rattle.std.proofs.Common.{sym, arith}
+use Rattle.save_state.specs.Places.{cpus_in}
+use Rattle.save_state.specs.Table.{processor_fault}
+use Rattle.save_state.proofs.Below.{fault_below-zero, fault_below-more, fault_below-is}
+use Rattle.save_state.proofs.decoding.processors_fault.Goals as goal
+
+pub loop-k-init : goal.loop-k-init
+loop-k-init c = fault_below-zero (processor_fault c.args.bytes.now)
+
+pub returns-in-Some : goal.returns-in-Some
+returns-in-Some c =
+    fault_below-is (processor_fault c.args.bytes.now) c.loop-k.k (cpus_in c.args.bytes.now) c.in-Some.fault c.loop-k.invariant (omega arith)
+    (sym c.in-Some.ensures)
+
+pub loop-k-preserved : goal.loop-k-preserved
+loop-k-preserved c = fault_below-more (processor_fault c.args.bytes.now) c.loop-k.k c.loop-k.invariant (sym c.in_default.ensures)

@@ -1,0 +1,47 @@
+use Rattle.std.proofs.Common.{◌≡◌, ℕ, List, ◌++◌, rules, ap, ◌∙◌}
+use Rattle.save_state.specs.private.Fits.{BoardFits}
+use Rattle.save_state.specs.Reading.{board_in}
+use Rattle.save_state.specs.Table.{fault_of}
+use Rattle.save_state.specs.Writing.{bytes_of}
+use Rattle.save_state.proofs.RoundTripBoard.{board_in-bytes_of}
+use Rattle.save_state.proofs.RoundTrip.{bytes_of-valid}
+use Rattle.save_state.proofs.encoding.encode.Goals as goal
+use Rattle.save_state.proofs.encoding.encode.Goals.{In_ok-put_board-in-Ok}
+
+-- the bytes that were written
+bytes_are : (c : In_ok-put_board-in-Ok) → c.put_board.new.out.items ≡ bytes_of c.parts-b.result
+bytes_are c = c.in_ok-put_board-in-Ok.ensures.bytes ∙ ap (λ (xs : List ℕ). xs ++ bytes_of c.parts-b.result) c.in-Ok.ensures.items
+
+-- what the types of the board's fields say
+board_fits : (c : In_ok-put_board-in-Ok) → BoardFits c.parts-b.result
+board_fits c = record {
+  khz = search rules;
+  start = search rules;
+  base_ns = search rules;
+  host = search rules;
+  guest_khz = search rules;
+  accesses = search rules;
+  greatest = search rules;
+  slew_ns = search rules;
+  divider = search rules;
+  counter = search rules;
+  blocks = c.in_ok-put_board-in-Ok.ensures.fit;
+  timer_places = search rules;
+  bit_places = search rules;
+  word_places = search rules;
+  wall_number = search rules;
+  wall_version = search rules;
+  wall_sec = search rules;
+  wall_nsec = search rules;
+  processor_places = search rules;
+  rises = λ (k : ℕ). search rules;
+  rise_places = search rules;
+}
+
+pub returns-in_ok-put_board-in-Ok-clause-valid : goal.returns-in_ok-put_board-in-Ok-clause-valid
+returns-in_ok-put_board-in-Ok-clause-valid c =
+    ap fault_of (bytes_are c) ∙ bytes_of-valid c.parts-b.result c.parts-b.ensures.valid (board_fits c)
+
+pub returns-in_ok-put_board-in-Ok-clause-reads_back : goal.returns-in_ok-put_board-in-Ok-clause-reads_back
+returns-in_ok-put_board-in-Ok-clause-reads_back c =
+    ap board_in (bytes_are c) ∙ board_in-bytes_of c.parts-b.result c.parts-b.ensures.valid (board_fits c) ∙ c.parts-b.ensures.value

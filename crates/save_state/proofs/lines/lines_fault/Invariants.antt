@@ -1,0 +1,7 @@
+use Rattle.std.proofs.Common.{◌≡◌, None}
+use Rattle.save_state.specs.Fields.{fault_below}
+use Rattle.save_state.specs.Table.{line_fault}
+use Rattle.save_state.proofs.lines.lines_fault.Given as goal
+
+abbrev pub invariant-loop-k : goal.invariant-loop-k
+invariant-loop-k l = fault_below (line_fault l.bytes) l.k ≡ None
