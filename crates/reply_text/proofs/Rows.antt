@@ -6,6 +6,7 @@ use Rattle.board_types.specs.declared.reply.Value.TheVariants.{Nothing, Byte, Wo
 use Rattle.pvclock_page.specs.declared.page.PageReply.TheVariants.{Off as PageOff, On as PageOn}
 use Rattle.pvclock_page.specs.declared.page.ClockReply.TheVariants.{Off as ClockOff, On as ClockOn}
 use Rattle.reply_text.specs.Words.{hex_text, hexes}
+use Rattle.reply_text.specs.Soak.{soak_text}
 use Rattle.reply_text.specs.Text.{edge_text, board_text, page_text, clock_text, save_text, move_text, final_text, state_text, refused_text}
 use Rattle.reply_text.specs.declared.ends.Refused.TheVariants.{Form, Steal, Cpu, Fell, State, Long, Many, NoEnd, Range, Versions, Spent, NotBuilt}
 
@@ -153,3 +154,8 @@ refused_for_its_number = refl
 refused_since_it_isnt_built : refused_text 0 NotBuilt ≡ codes "refused 0 notbuilt\n"
 unfolding refused_text digits
 refused_since_it_isnt_built = refl
+
+-- a soak: the records come first, then the edges
+a_soak : soak_text 1 0 34774 7 ≡ codes "soak 1 0 34774 7\n"
+unfolding soak_text digits
+a_soak = refl

@@ -49,7 +49,8 @@ page_text line PageOff = line_of (decimal line) (codes "page" ∷ codes "off" �
 page_text line (PageOn page reading) =
     line_of (decimal line)
     (codes "page" ∷ decimal page.version ∷ decimal page.tsc_timestamp ∷ decimal page.system_time
-    ∷ hex_text 8 page.mul ∷ signed_decimal page.shift ∷ hex_text 2 page.flags ∷ decimal reading ∷ [])
+    ∷ hex_text 8 page.mul ∷ signed_decimal page.shift ∷ hex_text 2 page.flags
+    ∷ decimal reading ∷ [])
 
 -- `LINE clock READING CLOCK`, or `LINE clock off`
 unfoldable pub clock_text : ℕ → ClockReply → List ℕ

@@ -11,7 +11,8 @@ use pvclock_page::{ClockReply, PageReply};
 pub fn page_line(line: u64, reply: &PageReply, out: &mut Vec<u8>) -> Result<(), NoMemory>
     ensures ok { OnOk result (out.new.items ≡ out.old.items ++ page_text line reply.now) }
     ensures err { OnErr result (out.new.items ≡ out.old.items) }
-    ensures full { OnErr result (vec_capacity out.old < vec_len out.old + length (page_text line reply.now)) }
+    ensures full { OnErr result (vec_capacity out.old
+        < vec_len out.old + length (page_text line reply.now)) }
 {
     let mut tail = Tail::new();
     match reply {
@@ -36,7 +37,8 @@ pub fn page_line(line: u64, reply: &PageReply, out: &mut Vec<u8>) -> Result<(), 
 pub fn clock_line(line: u64, reply: &ClockReply, out: &mut Vec<u8>) -> Result<(), NoMemory>
     ensures ok { OnOk result (out.new.items ≡ out.old.items ++ clock_text line reply.now) }
     ensures err { OnErr result (out.new.items ≡ out.old.items) }
-    ensures full { OnErr result (vec_capacity out.old < vec_len out.old + length (clock_text line reply.now)) }
+    ensures full { OnErr result (vec_capacity out.old
+        < vec_len out.old + length (clock_text line reply.now)) }
 {
     let mut tail = Tail::new();
     match *reply {

@@ -47,10 +47,11 @@ pub fn final_line(
     lines: Lines,
     out: &mut Vec<u8>,
 ) -> Result<(), NoMemory>
-    ensures ok { OnOk result (out.new.items ≡ out.old.items ++ final_text time accesses greatest lines) }
+    ensures ok { OnOk result (out.new.items
+        ≡ out.old.items ++ final_text time accesses greatest lines) }
     ensures err { OnErr result (out.new.items ≡ out.old.items) }
-    ensures full { OnErr result
-        (vec_capacity out.old < vec_len out.old + length (final_text time accesses greatest lines)) }
+    ensures full { OnErr result (vec_capacity out.old
+        < vec_len out.old + length (final_text time accesses greatest lines)) }
 {
     let mut tail = up_tail(&lines.levels);
     tail.number(greatest);
@@ -80,7 +81,8 @@ fn up_tail(levels: &[bool; 6]) -> Tail
 /// A line's number in front of those found, if it is up; whether one is found now.
 fn put_line(tail: &mut Tail, found: bool, line: u8, up: bool) -> bool
     requires { length tail.old + 4 ≤ LONGEST }
-    ensures value { tail.new ≡ (if up then decimal line ++ (if found then 44 ∷ tail.old else tail.old) else tail.old) }
+    ensures value { tail.new
+        ≡ (if up then decimal line ++ (if found then 44 ∷ tail.old else tail.old) else tail.old) }
     ensures found { result ≡ (up || found) }
     ensures len { length tail.new ≤ length tail.old + 4 }
 {
@@ -99,7 +101,8 @@ fn put_line(tail: &mut Tail, found: bool, line: u8, up: bool) -> bool
 pub fn refused_line(line: u64, why: Refused, out: &mut Vec<u8>) -> Result<(), NoMemory>
     ensures ok { OnOk result (out.new.items ≡ out.old.items ++ refused_text line why) }
     ensures err { OnErr result (out.new.items ≡ out.old.items) }
-    ensures full { OnErr result (vec_capacity out.old < vec_len out.old + length (refused_text line why)) }
+    ensures full { OnErr result (vec_capacity out.old
+        < vec_len out.old + length (refused_text line why)) }
 {
     let mut tail = reason_tail(why);
     tail.number(line);

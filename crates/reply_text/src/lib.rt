@@ -17,12 +17,14 @@ mod digits;
 mod ends;
 mod replies;
 mod saved;
+mod soak;
 mod tail;
 
 pub use clock::{clock_line, page_line};
 pub use ends::{Refused, final_line, refused_line};
 pub use replies::{board_line, edge_line};
 pub use saved::{move_line, save_line, state_line};
+pub use soak::soak_line;
 
 #[cfg(test)]
 mod tests;

@@ -14,7 +14,8 @@ use irq_edges::Edge;
 pub fn board_line(line: u64, reply: &Reply, out: &mut Vec<u8>) -> Result<(), NoMemory>
     ensures ok { OnOk result (out.new.items ≡ out.old.items ++ board_text line reply.now) }
     ensures err { OnErr result (out.new.items ≡ out.old.items) }
-    ensures full { OnErr result (vec_capacity out.old < vec_len out.old + length (board_text line reply.now)) }
+    ensures full { OnErr result (vec_capacity out.old
+        < vec_len out.old + length (board_text line reply.now)) }
 {
     let mut tail = value_tail(&reply.value);
     tail.number(reply.number);
@@ -57,7 +58,8 @@ pub fn edge_line(edge: &Edge, to: Option<Delivery>, out: &mut Vec<u8>) -> Result
     requires { OnSome to (IsTrue edge.now.up) }
     ensures ok { OnOk result (out.new.items ≡ out.old.items ++ edge_text edge.now to) }
     ensures err { OnErr result (out.new.items ≡ out.old.items) }
-    ensures full { OnErr result (vec_capacity out.old < vec_len out.old + length (edge_text edge.now to)) }
+    ensures full { OnErr result (vec_capacity out.old
+        < vec_len out.old + length (edge_text edge.now to)) }
 {
     let mut tail = Tail::new();
     if let Some(to) = to {

@@ -13,7 +13,8 @@ use clk_units::NoMemory;
 pub fn save_line(line: u64, number: u64, bytes: &[u8], out: &mut Vec<u8>) -> Result<(), NoMemory>
     ensures ok { OnOk result (out.new.items ≡ out.old.items ++ save_text line number bytes.now) }
     ensures err { OnErr result (out.new.items ≡ out.old.items) }
-    ensures full { OnErr result (vec_capacity out.old < vec_len out.old + length (save_text line number bytes.now)) }
+    ensures full { OnErr result (vec_capacity out.old
+        < vec_len out.old + length (save_text line number bytes.now)) }
 {
     let mut front = Tail::empty();
     front.text(b" state ");
@@ -27,7 +28,8 @@ pub fn save_line(line: u64, number: u64, bytes: &[u8], out: &mut Vec<u8>) -> Res
 pub fn state_line(bytes: &[u8], out: &mut Vec<u8>) -> Result<(), NoMemory>
     ensures ok { OnOk result (out.new.items ≡ out.old.items ++ state_text bytes.now) }
     ensures err { OnErr result (out.new.items ≡ out.old.items) }
-    ensures full { OnErr result (vec_capacity out.old < vec_len out.old + length (state_text bytes.now)) }
+    ensures full { OnErr result (vec_capacity out.old
+        < vec_len out.old + length (state_text bytes.now)) }
 {
     let mut front = Tail::empty();
     front.text(b"state ");
@@ -39,7 +41,8 @@ pub fn state_line(bytes: &[u8], out: &mut Vec<u8>) -> Result<(), NoMemory>
 pub fn move_line(line: u64, number: u64, time: u64, out: &mut Vec<u8>) -> Result<(), NoMemory>
     ensures ok { OnOk result (out.new.items ≡ out.old.items ++ move_text line number time) }
     ensures err { OnErr result (out.new.items ≡ out.old.items) }
-    ensures full { OnErr result (vec_capacity out.old < vec_len out.old + length (move_text line number time)) }
+    ensures full { OnErr result (vec_capacity out.old
+        < vec_len out.old + length (move_text line number time)) }
 {
     let mut tail = Tail::new();
     tail.number(time);
@@ -51,10 +54,11 @@ pub fn move_line(line: u64, number: u64, time: u64, out: &mut Vec<u8>) -> Result
 
 /// Appends a front, the digits of bytes and the line's end.
 fn append_state(front: &Tail, bytes: &[u8], out: &mut Vec<u8>) -> Result<(), NoMemory>
-    ensures ok { OnOk result (out.new.items ≡ out.old.items ++ front.now ++ hexes bytes.now ++ 10 ∷ []) }
+    ensures ok { OnOk result (out.new.items
+        ≡ out.old.items ++ front.now ++ hexes bytes.now ++ 10 ∷ []) }
     ensures err { OnErr result (out.new.items ≡ out.old.items) }
-    ensures full { OnErr result
-        (vec_capacity out.old < vec_len out.old + length (front.now ++ hexes bytes.now ++ 10 ∷ [])) }
+    ensures full { OnErr result (vec_capacity out.old
+        < vec_len out.old + length (front.now ++ hexes bytes.now ++ 10 ∷ [])) }
 {
     let before = out.len();
     let appended = append_parts(front, bytes, out);
@@ -66,10 +70,11 @@ fn append_state(front: &Tail, bytes: &[u8], out: &mut Vec<u8>) -> Result<(), NoM
 
 /// The same, but what was appended stays behind an `Err`.
 fn append_parts(front: &Tail, bytes: &[u8], out: &mut Vec<u8>) -> Result<(), NoMemory>
-    ensures ok { OnOk result (out.new.items ≡ out.old.items ++ front.now ++ hexes bytes.now ++ 10 ∷ []) }
+    ensures ok { OnOk result (out.new.items
+        ≡ out.old.items ++ front.now ++ hexes bytes.now ++ 10 ∷ []) }
     ensures err { OnErr result (StartsWith out.new.items out.old.items) }
-    ensures full { OnErr result
-        (vec_capacity out.old < vec_len out.old + length (front.now ++ hexes bytes.now ++ 10 ∷ [])) }
+    ensures full { OnErr result (vec_capacity out.old
+        < vec_len out.old + length (front.now ++ hexes bytes.now ++ 10 ∷ [])) }
 {
     front.append_to(out)?;
     append_hexes(bytes, out)?;

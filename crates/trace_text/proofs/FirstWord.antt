@@ -1,16 +1,17 @@
 -- The first word of a line, by its bytes: what number it spells, and which word it is.
-use Rattle.std.proofs.Common.{◌≡◌, ℕ, ◌+◌, ◌*◌, ◌-◌, ◌<◌, ◌≤◌, Bool, true, false, not, ◌&&◌, cond, eqb, ltb, length, drop, get_or, List, [], ◌∷◌, Option, Some, None, refl, sym, ◌∙◌, ap, IsTrue, arith, inl, inr, add-zero}
-use Rattle.std.specs.Char.{digit_value}
+use Rattle.std.proofs.Common.{◌≡◌, ◌≢◌, ℕ, ◌+◌, ◌-◌, ◌<◌, ◌≤◌, Bool, true, false, not, ◌&&◌, cond, eqb, ltb, length, drop, get_or, List, [], ◌∷◌, Option, Some, None, refl, sym, ◌∙◌, ap, IsTrue, arith, inl, inr, add-zero}
 use Rattle.std.specs.List.{slice_split, onto_first, list_all}
 use Rattle.std.specs.Option.{option_map}
 use Rattle.std.specs.Str.{bytes_eq}
 use Rattle.std.proofs.lemmas.Bool.{cases_lt, cases_eq, lt-ltb, le-ltb, eq-eqb, ne_eqb}
 use Rattle.std.proofs.lemmas.List.{get_or-drop}
+use Rattle.std.proofs.Math.ListN.{drop_of_length-le}
 use Rattle.trace_text.specs.Tokens.{words_of, rest, first, starts}
 use Rattle.trace_text.specs.private.Spelled.{Spelled, spelled, behind_word, words_from, number_of}
+use Rattle.trace_text.specs.private.Groups.{IsInitial}
 use Rattle.trace_text.specs.declared.bytes.Number.{Number}
-use Rattle.trace_text.proofs.Numbers.{number_after, number_in-is}
-use Rattle.trace_text.proofs.Spells.{words_from-within}
+use Rattle.trace_text.proofs.Numbers.{with_digit, may_read, number_after, number_in-is}
+use Rattle.trace_text.proofs.Spells.{words_from-within, words_from-behind}
 
 -- the first of some words
 abbrev pub first_word : List (List ℕ) → List ℕ
@@ -27,46 +28,62 @@ words_of-cons (c ∷ cs) = by_space (eqb c 32) (slice_split (λ b. eqb b 32) cs)
     onto [] = refl
     onto (w ∷ ws) = refl
 
-    by_space : (space : Bool) (ws : List (List ℕ)) → cond space ([] ∷ ws) (onto_first c ws) ≡ first_word (cond space ([] ∷ ws) (onto_first c ws)) ∷ rest (cond space ([] ∷ ws) (onto_first c ws))
+    by_space : (space : Bool) (ws : List (List ℕ)) → cond space ([] ∷ ws) (onto_first c ws)
+        ≡ first_word (cond space ([] ∷ ws) (onto_first c ws)) ∷ rest (cond space ([] ∷ ws) (onto_first c ws))
     by_space true ws = refl
     by_space false ws = onto ws
 
+-- that many digits spelled a number, and words are left
+abbrev spelt : ℕ → List (List ℕ) → ℕ → Spelled
+spelt count left m = record { count = count; value = m; left = left }
+
 -- what the first word spells behind `count` digits that spelled n, and the words behind it
 abbrev pub answer : ℕ → ℕ → ℕ → List (List ℕ) → Option Spelled
-answer base count n ws = option_map (λ m. record { count = count + length (first_word ws); value = m; left = rest ws }) (number_after base n (first_word ws))
+answer base count n ws =
+    option_map (spelt (count + length (first_word ws)) (rest ws)) (number_after base n (first_word ws))
 
 -- a digit in front of it
 answer-onto : (base count n c : ℕ) (ws : List (List ℕ)) → answer base count n (onto_first c ws)
-    ≡ cond (ltb (digit_value c) base && ltb (n * base + digit_value c) 18446744073709551616) (answer base (count + 1) (n * base + digit_value c) ws) None
+    ≡ cond (may_read base n c) (answer base (count + 1) (with_digit base n c) ws) None
 answer-onto base count n c ws = by_words ws
   where
-    m : ℕ
-    m = n * base + digit_value c
-
     by_test : (t : Bool) (o : Option ℕ) (k j : ℕ) (left : List (List ℕ)) → k ≡ j
-        → option_map (λ (x : ℕ). let s : Spelled = record { count = k; value = x; left = left } in s) (cond t o None) ≡ cond t (option_map (λ (x : ℕ). let s : Spelled = record { count = j; value = x; left = left } in s) o) None
-    by_test true o k j left e = ap (λ (i : ℕ). option_map (λ (x : ℕ). let s : Spelled = record { count = i; value = x; left = left } in s) o) e
+        → option_map (spelt k left) (cond t o None) ≡ cond t (option_map (spelt j left) o) None
+    by_test true o k j left e = ap (λ (i : ℕ). option_map (spelt i left) o) e
     by_test false o k j left e = refl
 
     by_words : (ws : List (List ℕ)) → answer base count n (onto_first c ws)
-        ≡ cond (ltb (digit_value c) base && ltb (n * base + digit_value c) 18446744073709551616) (answer base (count + 1) (n * base + digit_value c) ws) None
-    by_words [] = by_test (ltb (digit_value c) base && ltb (n * base + digit_value c) 18446744073709551616) (number_after base (n * base + digit_value c) []) (count + length (c ∷ [])) (count + 1 + 0) [] (omega arith)
-    by_words (w ∷ ws) = by_test (ltb (digit_value c) base && ltb (n * base + digit_value c) 18446744073709551616) (number_after base (n * base + digit_value c) w) (count + length (c ∷ w)) (count + 1 + length w) ws (omega arith)
+        ≡ cond (may_read base n c) (answer base (count + 1) (with_digit base n c) ws) None
+    by_words [] =
+        by_test (may_read base n c) (number_after base (with_digit base n c) [])
+        (count + length (c ∷ [])) (count + 1 + 0) [] (omega arith)
+    by_words (w ∷ ws) =
+        by_test (may_read base n c) (number_after base (with_digit base n c) w)
+        (count + length (c ∷ w)) (count + 1 + length w) ws (omega arith)
 
 -- byte by byte as by words
-pub spelled-is : (base count n : ℕ) (bytes : List ℕ) → spelled base count n bytes ≡ answer base count n (words_of bytes)
+pub spelled-is : (base count n : ℕ) (bytes : List ℕ)
+    → spelled base count n bytes ≡ answer base count n (words_of bytes)
 unfolding spelled words_of
-spelled-is base count n [] = let none : count ≡ count + 0 = omega arith in ap (λ (k : ℕ). let s : Spelled = record { count = k; value = n; left = [] } in Some s) none
-spelled-is base count n (c ∷ cs) = by_space (eqb c 32) (spelled-is base (count + 1) (n * base + digit_value c) cs)
+spelled-is base count n [] =
+    let none : count ≡ count + 0 = omega arith in
+    ap (λ (k : ℕ). Some (spelt k [] n)) none
+spelled-is base count n (c ∷ cs) =
+    by_space (eqb c 32) (spelled-is base (count + 1) (with_digit base n c) cs)
   where
-    test : Bool
-    test = ltb (digit_value c) base && ltb (n * base + digit_value c) 18446744073709551616
-
-    by_space : (space : Bool) → spelled base (count + 1) (n * base + digit_value c) cs ≡ answer base (count + 1) (n * base + digit_value c) (slice_split (λ b. eqb b 32) cs)
-        → cond space (Some (record { count = count; value = n; left = words_of cs })) (cond (ltb (digit_value c) base && ltb (n * base + digit_value c) 18446744073709551616) (spelled base (count + 1) (n * base + digit_value c) cs) None)
-        ≡ answer base count n (cond space ([] ∷ slice_split (λ b. eqb b 32) cs) (onto_first c (slice_split (λ b. eqb b 32) cs)))
-    by_space true e = let none : count ≡ count + 0 = omega arith in ap (λ (k : ℕ). let s : Spelled = record { count = k; value = n; left = words_of cs } in Some s) none
-    by_space false e = ap (λ (o : Option Spelled). cond (ltb (digit_value c) base && ltb (n * base + digit_value c) 18446744073709551616) o None) e ∙ sym (answer-onto base count n c (slice_split (λ b. eqb b 32) cs))
+    by_space : (space : Bool)
+        → spelled base (count + 1) (with_digit base n c) cs
+        ≡ answer base (count + 1) (with_digit base n c) (slice_split (λ b. eqb b 32) cs)
+        → cond space (Some (spelt count (words_of cs) n))
+        (cond (may_read base n c) (spelled base (count + 1) (with_digit base n c) cs) None)
+        ≡ answer base count n
+        (cond space ([] ∷ slice_split (λ b. eqb b 32) cs) (onto_first c (slice_split (λ b. eqb b 32) cs)))
+    by_space true e =
+        let none : count ≡ count + 0 = omega arith in
+        ap (λ (k : ℕ). Some (spelt k (words_of cs) n)) none
+    by_space false e =
+        ap (λ (o : Option Spelled). cond (may_read base n c) o None) e
+        ∙ sym (answer-onto base count n c (slice_split (λ b. eqb b 32) cs))
 
 -- the first byte of a word that has one
 first_word-head : (bytes : List ℕ) → 0 < length (first_word (words_of bytes)) → get_or (first_word (words_of bytes)) 0 0 ≡ get_or bytes 0 0
@@ -74,7 +91,8 @@ unfolding words_of
 first_word-head [] h = absurd (omega arith)
 first_word-head (c ∷ cs) h = by_space (eqb c 32) (slice_split (λ b. eqb b 32) cs) h
   where
-    by_space : (space : Bool) (ws : List (List ℕ)) → 0 < length (first_word (cond space ([] ∷ ws) (onto_first c ws))) → get_or (first_word (cond space ([] ∷ ws) (onto_first c ws))) 0 0 ≡ c
+    by_space : (space : Bool) (ws : List (List ℕ)) → 0 < length (first_word (cond space ([] ∷ ws) (onto_first c ws)))
+        → get_or (first_word (cond space ([] ∷ ws) (onto_first c ws))) 0 0 ≡ c
     by_space true ws h = absurd (omega arith)
     by_space false [] h = refl
     by_space false (w ∷ ws) h = refl
@@ -84,7 +102,8 @@ pub from_place : (at : ℕ) (line : List ℕ) → at ≤ length line → words_f
 from_place at line h = words_from-within at line h ∙ words_of-cons (drop at line)
 
 -- a token of the first word there
-pub first-from : {A : Type 0} (token : List ℕ → Option A) (at : ℕ) (line : List ℕ) → at ≤ length line → first token (words_from at line) ≡ token (first_word (words_of (drop at line)))
+pub first-from : {A : Type 0} (token : List ℕ → Option A) (at : ℕ) (line : List ℕ) → at ≤ length line
+    → first token (words_from at line) ≡ token (first_word (words_of (drop at line)))
 first-from token at line h = ap (first token) (from_place at line h)
 
 pub rest-from : (at : ℕ) (line : List ℕ) → at ≤ length line → rest (words_from at line) ≡ rest (words_of (drop at line))
@@ -94,7 +113,8 @@ rest-from at line h = ap rest (words_from-within at line h)
 none-answer : (base count n : ℕ) (ws : List (List ℕ)) → answer base count n ws ≡ None → number_after base n (first_word ws) ≡ None
 none-answer base count n ws h = by_number (number_after base n (first_word ws)) h
   where
-    by_number : (o : Option ℕ) → option_map (λ (m : ℕ). let s : Spelled = record { count = count + length (first_word ws); value = m; left = rest ws } in s) o ≡ None → o ≡ None
+    by_number : (o : Option ℕ) → option_map (spelt (count + length (first_word ws)) (rest ws)) o ≡ None
+        → o ≡ None
     by_number None e = refl
     by_number (Some m) e = cc
 
@@ -102,25 +122,29 @@ some-answer : (base count n : ℕ) (ws : List (List ℕ)) (s : Spelled) → answ
     → (number_after base n (first_word ws) ≡ Some s.value) × (count + length (first_word ws) ≡ s.count) × (rest ws ≡ s.left)
 some-answer base count n ws s h = by_number (number_after base n (first_word ws)) h
   where
-    by_number : (o : Option ℕ) → option_map (λ (m : ℕ). let t : Spelled = record { count = count + length (first_word ws); value = m; left = rest ws } in t) o ≡ Some s
+    by_number : (o : Option ℕ) → option_map (spelt (count + length (first_word ws)) (rest ws)) o ≡ Some s
         → (o ≡ Some s.value) × (count + length (first_word ws) ≡ s.count) × (rest ws ≡ s.left)
     by_number None e = (cc, cc, cc)
     by_number (Some m) e =
-        let same : ◌≡◌ {A = Spelled} (record { count = count + length (first_word ws); value = m; left = rest ws }) s = cc in
-        (ap (λ (t : Spelled). Some t.value) same, ap (λ (t : Spelled). t.count) same, ap (λ (t : Spelled). t.left) same)
+        let same : spelt (count + length (first_word ws)) (rest ws) m ≡ s = cc in (
+          ap (λ (t : Spelled). Some t.value) same,
+          ap (λ (t : Spelled). t.count) same,
+          ap (λ (t : Spelled). t.left) same,
+        )
 
 -- what a word that spells a number is
 shape : List ℕ → ℕ → Number
 shape w n = record { value = n; digits = length w; zero = eqb (get_or w 0 0) 48 }
 
 -- no number stands there
-pub no_number : (base at : ℕ) (line : List ℕ) → 0 < base → at ≤ length line → spelled base 0 0 (drop at line) ≡ None
-    → first (number_of base) (words_from at line) ≡ None
+pub no_number : (base at : ℕ) (line : List ℕ) → 0 < base → at ≤ length line
+    → spelled base 0 0 (drop at line) ≡ None → first (number_of base) (words_from at line) ≡ None
 unfolding number_of shape
 no_number base at line b h e =
+    let ws : List (List ℕ) = words_of (drop at line) in
+    let none = none-answer base 0 0 ws (sym (spelled-is base 0 0 (drop at line)) ∙ e) in
     first-from (number_of base) at line h
-    ∙ ap (option_map (shape (first_word (words_of (drop at line))))) (number_in-is base (first_word (words_of (drop at line))) b
-    ∙ none-answer base 0 0 (words_of (drop at line)) (sym (spelled-is base 0 0 (drop at line)) ∙ e))
+    ∙ ap (option_map (shape (first_word ws))) (number_in-is base (first_word ws) b ∙ none)
 
 -- whether its first byte is a zero
 zero_first : (at last : ℕ) (line : List ℕ) → length (first_word (words_of (drop at line))) ≡ last - at
@@ -138,19 +162,26 @@ zero_first at last line long = elim (cases_lt at last) [
 
 -- a number stands there
 pub a_number : (base at last value : ℕ) (line : List ℕ) → 0 < base → at ≤ length line
-    → spelled base 0 0 (drop at line) ≡ Some (record { count = last - at; value = value; left = words_from (last + 1) line })
-    → (first (number_of base) (words_from at line) ≡ Some (record { value = value; digits = last - at; zero = ltb at last && eqb (get_or line at 0) 48 }))
+    → spelled base 0 0 (drop at line) ≡ Some (spelt (last - at) (words_from (last + 1) line) value)
+    → (first (number_of base) (words_from at line)
+    ≡ Some (record { value = value; digits = last - at; zero = ltb at last && eqb (get_or line at 0) 48 }))
     × (words_from (last + 1) line ≡ rest (words_from at line))
 unfolding number_of shape
 a_number base at last value line b h e =
     let w : List ℕ = first_word (words_of (drop at line)) in
-    let parts = some-answer base 0 0 (words_of (drop at line)) (record { count = last - at; value = value; left = words_from (last + 1) line }) (sym (spelled-is base 0 0 (drop at line)) ∙ e) in
+    let parts =
+    some-answer base 0 0 (words_of (drop at line)) (spelt (last - at) (words_from (last + 1) line) value)
+    (sym (spelled-is base 0 0 (drop at line)) ∙ e) in
     let long : length (first_word (words_of (drop at line))) ≡ last - at = omega (arith, parts.1) in
     let number = ap (option_map (shape w)) (number_in-is base w b ∙ parts.0) in
     let zero = zero_first at last line long in (
       first-from (number_of base) at line h ∙ number ∙ rw (long, zero) refl,
       sym parts.2 ∙ sym (rest-from at line h),
     )
+
+-- words behind a byte
+abbrev joined : ℕ → List (List ℕ) → List (List ℕ)
+joined c ws = cond (eqb c 32) ([] ∷ ws) (onto_first c ws)
 
 -- whether it is a word
 pub behind_word-is : (name bytes : List ℕ) → IsTrue (list_all (λ b. not (eqb b 32)) name)
@@ -190,13 +221,12 @@ behind_word-is (b ∷ bs) (c ∷ cs) h =
     another false ws e = rw (onto_eq ws, e) refl
 
     the_byte : c ≡ b → eqb b 32 ≡ false
-        → behind_word bs cs ≡ cond (bytes_eq (first_word (slice_split (λ b. eqb b 32) cs)) bs) (Some (rest (slice_split (λ b. eqb b 32) cs))) None
+        → behind_word bs cs ≡ cond (bytes_eq (first_word (words_of cs)) bs) (Some (rest (words_of cs))) None
         → cond (eqb c b) (behind_word bs cs) None
-        ≡ cond (bytes_eq (first_word (cond (eqb c 32) ([] ∷ slice_split (λ b. eqb b 32) cs) (onto_first c (slice_split (λ b. eqb b 32) cs)))) (b ∷ bs))
-        (Some (rest (cond (eqb c 32) ([] ∷ slice_split (λ b. eqb b 32) cs) (onto_first c (slice_split (λ b. eqb b 32) cs))))) None
+        ≡ cond (bytes_eq (first_word (joined c (words_of cs))) (b ∷ bs)) (Some (rest (joined c (words_of cs)))) None
     the_byte same no_space e =
         let here : eqb c 32 ≡ false = ap (λ (x : ℕ). eqb x 32) same ∙ no_space in
-        rw (here, onto_eq (slice_split (λ b. eqb b 32) cs), onto_rest (slice_split (λ b. eqb b 32) cs), eq-eqb c b same) e
+        rw (here, onto_eq (words_of cs), onto_rest (words_of cs), eq-eqb c b same) e
 
 -- a word that stands there, and one that doesn't
 pub a_word : (name : List ℕ) (at : ℕ) (line : List ℕ) (ws : List (List ℕ)) → IsTrue (list_all (λ b. not (eqb b 32)) name) → at ≤ length line
@@ -211,8 +241,35 @@ a_word name at line ws plain h e =
 
 pub no_word : (name : List ℕ) (at : ℕ) (line : List ℕ) → IsTrue (list_all (λ b. not (eqb b 32)) name) → at ≤ length line
     → behind_word name (drop at line) ≡ None → starts name (words_from at line) ≡ false
-no_word name at line plain h e = ap (starts name) (from_place at line h) ∙ by_test (bytes_eq (first_word (words_of (drop at line))) name) (sym (behind_word-is name (drop at line) plain) ∙ e)
+no_word name at line plain h e =
+    ap (starts name) (from_place at line h)
+    ∙ by_test (bytes_eq (first_word (words_of (drop at line))) name) (sym (behind_word-is name (drop at line) plain) ∙ e)
   where
     by_test : (t : Bool) → cond t (Some (rest (words_of (drop at line)))) None ≡ None → t ≡ false
     by_test true e = cc
     by_test false e = refl
+
+-- a word that begins with another byte
+other_word : (n : ℕ) (ns bytes : List ℕ) → n ≢ get_or bytes 0 0 → bytes_eq (first_word (words_of bytes)) (n ∷ ns) ≡ false
+other_word n ns bytes other = by_word (first_word (words_of bytes)) (first_word-head bytes)
+  where
+    by_word : (w : List ℕ) → (0 < length w → get_or w 0 0 ≡ get_or bytes 0 0) → bytes_eq w (n ∷ ns) ≡ false
+    by_word [] h = refl
+    by_word (c ∷ cs) h =
+        let same : c ≡ get_or bytes 0 0 = h (omega arith) in
+        rw (ne_eqb c n (λ e. other (sym e ∙ same))) refl
+
+-- the first byte that stands there, or none
+pub initial-there : (at : ℕ) (line : List ℕ) → at < length line → IsInitial (get_or line at 0) (words_from at line)
+initial-there at line h = λ n ns other.
+    let within : at ≤ length line = omega arith in
+    let here : get_or (drop at line) 0 0 ≡ get_or line at 0 = rw (get_or-drop at line 0 0, add-zero) refl in
+    ap (starts (n ∷ ns)) (from_place at line within) ∙ other_word n ns (drop at line) (λ e. other (e ∙ here))
+
+pub initial-none : (at : ℕ) (line : List ℕ) → length line ≤ at → IsInitial 0 (words_from at line)
+initial-none at line h = λ n ns other. elim (cases_lt (length line) at) [
+  | inl past ↦ ap (starts (n ∷ ns)) (words_from-behind at line past)
+  | inr within ↦
+      let none : drop at line ≡ [] = drop_of_length-le line h in
+      ap (starts (n ∷ ns)) (from_place at line within) ∙ other_word n ns (drop at line) (rw none other)
+]

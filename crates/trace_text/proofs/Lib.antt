@@ -2,5 +2,8 @@ pub mod Numbers
 pub mod Spells
 pub mod FirstWord
 pub mod Tokens
+pub mod ShortWords
+pub mod WordAt
+pub mod States
 mod Rows
 pub mod Limits

@@ -1,12 +1,14 @@
 -- Small rows that pin the definitions, one line of a trace each.
 use Rattle.std.proofs.Common.{◌≡◌, ℕ, [], ◌∷◌, List, Some, None, Ok, Err, refl}
-use Rattle.std.specs.Prelude.{codes, replicate}
+use Rattle.std.specs.Prelude.{Result, codes, replicate}
 use Rattle.board_types.specs.declared.access.Access.TheVariants.{PortIn, PortOut, HpetRead, HpetWrite, MsrRead, MsrWrite, Ack, Step, Refresh, Wall, CountsOf, Next, Rose}
 use Rattle.board_types.specs.declared.access.TickSource.TheVariants.{Hpet}
 use Rattle.trace_text.specs.Tokens.{words_of, number_in, decimal_in, hex_in, dec, hex, byte, khz}
 use Rattle.trace_text.specs.Records.{record_of, job_of, body_behind}
-use Rattle.trace_text.specs.Header.{header_line, head_of}
+use Rattle.board_types.specs.declared.setup.Setup.{Setup}
+use Rattle.trace_text.specs.Header.{header_line, head_of, setup_by_default}
 use Rattle.trace_text.specs.Lines.{limit_of, stepped, item_in, taken, behind, at_start, end_fault}
+use Rattle.trace_text.specs.declared.faults.Reason.{Reason}
 use Rattle.trace_text.specs.declared.faults.Reason.TheVariants.{Form, Steal, Cpu, CounterFell, TooLong, NoEnd}
 use Rattle.trace_text.specs.declared.records.Body.{Body}
 use Rattle.trace_text.specs.declared.records.Job.TheVariants.{Board, Page, Clock, Save, Move}
@@ -285,15 +287,25 @@ a_fault_stays = refl
 abbrev head : Head
 head = head_of 1
 
-host_line : header_line head (words_of (codes "host 2000000 1000000")) ≡ Ok (record head { row = 1; setup = record head.setup { anchor = record { khz = 2000000; start = 1000000; base_ns = 0 } } })
+abbrev setup : Setup
+setup = setup_by_default 1
+
+-- what a line of this number sets up
+abbrev set : ℕ → Setup → Result Head Reason
+set number s = Ok (record head { row = number; begin = Fresh s })
+
+host_line : header_line head (words_of (codes "host 2000000 1000000"))
+    ≡ set 1 (record setup { anchor = record { khz = 2000000; start = 1000000; base_ns = 0 } })
 unfolding header_line words_of decimal_in number_in
 host_line = refl
 
-guest_line : header_line head (words_of (codes "guest 2000000")) ≡ Ok (record head { row = 2; setup = record head.setup { guest_khz = 2000000 } })
+guest_line : header_line head (words_of (codes "guest 2000000"))
+    ≡ set 2 (record setup { guest_khz = 2000000 })
 unfolding header_line words_of decimal_in number_in
 guest_line = refl
 
-cpus_line : header_line head (words_of (codes "cpus 16")) ≡ Ok (record head { row = 3; setup = record head.setup { cpus = 16 } })
+cpus_line : header_line head (words_of (codes "cpus 16"))
+    ≡ set 3 (record setup { cpus = 16 })
 unfolding header_line words_of decimal_in number_in
 cpus_line = refl
 
@@ -301,15 +313,18 @@ cpus_of_format_1 : header_line head (words_of (codes "cpus 64")) ≡ Err Form
 unfolding header_line words_of decimal_in number_in
 cpus_of_format_1 = refl
 
-cpus_of_format_2 : header_line (head_of 2) (words_of (codes "cpus 64")) ≡ Ok (record (head_of 2) { row = 3; setup = record (head_of 2).setup { cpus = 64 } })
+cpus_of_format_2 : header_line (head_of 2) (words_of (codes "cpus 64"))
+    ≡ Ok (record (head_of 2) { row = 3; begin = Fresh (record (setup_by_default 2) { cpus = 64 }) })
 unfolding header_line words_of decimal_in number_in
 cpus_of_format_2 = refl
 
-policy_line : header_line head (words_of (codes "policy slew discard delay")) ≡ Ok (record head { row = 4; setup = record head.setup { pit = Slew; rtc = Discard; hpet = Delay } })
+policy_line : header_line head (words_of (codes "policy slew discard delay"))
+    ≡ set 4 (record setup { pit = Slew; rtc = Discard; hpet = Delay })
 unfolding header_line words_of
 policy_line = refl
 
-slew_line : header_line head (words_of (codes "slew 1000")) ≡ Ok (record head { row = 5; setup = record head.setup { slew_ns = 1000 } })
+slew_line : header_line head (words_of (codes "slew 1000"))
+    ≡ set 5 (record setup { slew_ns = 1000 })
 unfolding header_line words_of decimal_in number_in
 slew_line = refl
 
@@ -317,15 +332,18 @@ no_slew : header_line head (words_of (codes "slew 0")) ≡ Err Form
 unfolding header_line words_of decimal_in number_in
 no_slew = refl
 
-wall_line : header_line head (words_of (codes "wall 1700000000 999999999")) ≡ Ok (record head { row = 6; setup = record head.setup { wall_sec = 1700000000; wall_nsec = 999999999 } })
+wall_line : header_line head (words_of (codes "wall 1700000000 999999999"))
+    ≡ set 6 (record setup { wall_sec = 1700000000; wall_nsec = 999999999 })
 unfolding header_line words_of decimal_in number_in
 wall_line = refl
 
-rtc_line : header_line head (words_of (codes "rtc 59 58 23 07 31 12 99")) ≡ Ok (record head { row = 7; setup = record head.setup { time = record { sec = 0x59; min = 0x58; hour = 0x23; wday = 7; date = 0x31; month = 0x12; year = 0x99 } } })
+rtc_line : header_line head (words_of (codes "rtc 59 58 23 07 31 12 99"))
+    ≡ set 7 (record setup { time = record { sec = 0x59; min = 0x58; hour = 0x23; wday = 7; date = 0x31; month = 0x12; year = 0x99 } })
 unfolding header_line words_of hex_in number_in
 rtc_line = refl
 
-route_line : header_line head (words_of (codes "route 20 0 30")) ≡ Ok (record head { row = 9; next_line = 21; routes = None ∷ None ∷ Some (record { cpu = 0; vector = 0x30 }) ∷ None ∷ None ∷ None ∷ [] })
+route_line : header_line head (words_of (codes "route 20 0 30"))
+    ≡ Ok (record head { row = 9; next_line = 21; routes = None ∷ None ∷ Some (record { cpu = 0; vector = 0x30 }) ∷ None ∷ None ∷ None ∷ [] })
 unfolding header_line words_of decimal_in hex_in number_in
 route_line = refl
 
@@ -350,7 +368,7 @@ unfolding header_line words_of decimal_in number_in
 a_line_twice = refl
 
 -- `begin` and `end` stand alone in their lines
-begin_line : item_in (stepped (Heading head) (codes "begin")) ≡ Ok (Begun (record { begin = Fresh head.setup; routes = head.routes }))
+begin_line : item_in (stepped (Heading head) (codes "begin")) ≡ Ok (Begun (record { begin = Fresh setup; routes = head.routes }))
 unfolding stepped limit_of
 begin_line = refl
 

@@ -1,8 +1,10 @@
 -- Lemmas on a line that is read byte by byte.
-use Rattle.std.proofs.Common.{◌≡◌, ℕ, ◌+◌, ◌*◌, ◌<◌, ◌≤◌, Bool, true, false, cond, eqb, length, drop, get_or, List, [], ◌∷◌, Some, None, refl, ◌∙◌, arith}
+use Rattle.std.proofs.Common.{◌≡◌, ℕ, ◌+◌, ◌-◌, ◌*◌, ◌^◌, ◌<◌, ◌≤◌, Bool, true, false, cond, eqb, length, drop, get_or, List, [], ◌∷◌, Some, None, refl, ap, ◌∙◌, inl, inr, arith}
 use Rattle.std.specs.Char.{digit_value}
-use Rattle.std.proofs.lemmas.Bool.{lt-ltb, le-ltb, eq-eqb, ne_eqb, le-leb, lt-leb}
+use Rattle.std.proofs.lemmas.Bool.{cases_lt, lt-ltb, le-ltb, eq-eqb, ne_eqb, le-leb, lt-leb}
 use Rattle.std.proofs.lemmas.List.{at_drop_more, drop_more}
+use Rattle.std.proofs.lemmas.Grind.{pow_more}
+use Rattle.std.proofs.Math.Nat.{mul-le-mul_left, pow-le-pow_right}
 use Rattle.std.proofs.Math.ListN.{drop_of_length-le}
 use Rattle.trace_text.specs.Tokens.{words_of}
 use Rattle.trace_text.specs.private.Spelled.{spelled, behind_word, words_from}
@@ -42,7 +44,12 @@ pub spelled-too_large : (base count n i : ℕ) (xs : List ℕ) → i < length xs
 unfolding spelled
 spelled-too_large base count n i xs h other small large =
     at_drop_more (spelled base count n) xs i 0 h
-    ∙ rw (ne_eqb (get_or xs i 0) 32 other, lt-ltb (digit_value (get_or xs i 0)) base small, le-ltb (n * base + digit_value (get_or xs i 0)) 18446744073709551616 large) refl
+    ∙ rw (
+      ne_eqb (get_or xs i 0) 32 other,
+      lt-ltb (digit_value (get_or xs i 0)) base small,
+      le-ltb (n * base + digit_value (get_or xs i 0)) 18446744073709551616 large,
+    )
+    refl
 
 -- a digit more
 pub spelled-more : (base count n i : ℕ) (xs : List ℕ) → i < length xs → (get_or xs i 0 ≡ 32 → ⊥) → digit_value (get_or xs i 0) < base
@@ -51,7 +58,12 @@ pub spelled-more : (base count n i : ℕ) (xs : List ℕ) → i < length xs → 
 unfolding spelled
 spelled-more base count n i xs h other small fits =
     at_drop_more (spelled base count n) xs i 0 h
-    ∙ rw (ne_eqb (get_or xs i 0) 32 other, lt-ltb (digit_value (get_or xs i 0)) base small, lt-ltb (n * base + digit_value (get_or xs i 0)) 18446744073709551616 fits) refl
+    ∙ rw (
+      ne_eqb (get_or xs i 0) 32 other,
+      lt-ltb (digit_value (get_or xs i 0)) base small,
+      lt-ltb (n * base + digit_value (get_or xs i 0)) 18446744073709551616 fits,
+    )
+    refl
 
 -- another byte than the word's
 pub word-differs : (at i : ℕ) (name line : List ℕ) → i < length name → at + i < length line → (get_or line (at + i) 0 ≡ get_or name i 0 → ⊥)
@@ -85,4 +97,75 @@ pub word-short : (bs cs : List ℕ) → length cs < length bs → behind_word bs
 unfolding behind_word
 word-short [] cs h = absurd (omega arith)
 word-short (b ∷ bs) [] h = refl
-word-short (b ∷ bs) (c ∷ cs) h = elim (eqb c b) as (λ (same : Bool). cond same (behind_word bs cs) None ≡ None) [ true ↦ word-short bs cs (omega arith) | false ↦ refl ]
+word-short (b ∷ bs) (c ∷ cs) h =
+    elim (eqb c b) as (λ (same : Bool). cond same (behind_word bs cs) None ≡ None) [
+      | true ↦ word-short bs cs (omega arith)
+      | false ↦ refl
+    ]
+
+-- what a byte is as a digit, by what a reader of digits says
+pub large_digit : (base d v : ℕ) → base ≤ 16 → base ≤ d → (d < 16 → v ≡ d) → (16 ≤ d → 16 ≤ v) → base ≤ v
+large_digit base d v most large same none = elim (cases_lt d 16) [
+  | inl less ↦ omega (arith, same less)
+  | inr more ↦ omega (arith, none more)
+]
+
+pub small_digit : (base d v : ℕ) → base ≤ 16 → d < base → (d < 16 → v ≡ d) → v ≡ d
+small_digit base d v most small same = same (omega arith)
+
+-- a space is no digit
+pub not_space : (base b : ℕ) → base ≤ 16 → digit_value b < base → b ≡ 32 → ⊥
+not_space base b most small e =
+    let value : digit_value b ≡ 36 = ap digit_value e in
+    omega arith
+
+-- a digit and a space
+pub one_digit : (base at digit : ℕ) (line : List ℕ) → base ≤ 16 → digit_value (get_or line at 0) ≡ digit → digit < base
+    → at + 1 < length line → get_or line (at + 1) 0 ≡ 32
+    → spelled base 0 0 (drop at line)
+    ≡ Some (record { count = at + 1 - at; value = digit; left = words_from (at + 1 + 1) line })
+one_digit base at digit line most same small h space =
+    let byte : ℕ = get_or line at 0 in
+    let less : digit_value byte < base = omega arith in
+    let fits : 0 * base + digit_value byte < 18446744073709551616 = omega arith in
+    let value : 0 * base + digit_value byte ≡ digit = omega arith in
+    let count : at + 1 - at ≡ 0 + 1 = omega arith in
+    let more = spelled-more base 0 0 at line (omega arith) (not_space base byte most less) less fits in
+    rw (count) (more ∙ rw value (spelled-space base (0 + 1) digit (at + 1) line h space))
+
+-- two digits, and a space or the line's end
+pub two_digits : (at high low : ℕ) (line : List ℕ)
+    → digit_value (get_or line at 0) ≡ high → high < 16 → digit_value (get_or line (at + 1) 0) ≡ low → low < 16
+    → at + 2 ≤ length line → (at + 2 < length line → get_or line (at + 2) 0 ≡ 32)
+    → spelled 16 0 0 (drop at line)
+    ≡ Some (record { count = at + 2 - at; value = 16 * high + low; left = words_from (at + 2 + 1) line })
+two_digits at high low line h high_digit l low_digit inside space =
+    let first : ℕ = digit_value (get_or line at 0) in
+    let second : ℕ = digit_value (get_or line (at + 1) 0) in
+    let n : ℕ = 0 * 16 + first in
+    let a : first < 16 = omega arith in
+    let b : second < 16 = omega arith in
+    let value : n * 16 + second ≡ 16 * high + low = omega arith in
+    let count : at + 2 - at ≡ 0 + 1 + 1 = omega arith in
+    let next : at + 1 + 1 ≡ at + 2 = omega arith in
+    let one = spelled-more 16 0 0 at line (omega arith) (not_space 16 (get_or line at 0) (omega arith) a) a (omega arith) in
+    let two =
+    spelled-more 16 (0 + 1) n (at + 1) line (omega arith) (not_space 16 (get_or line (at + 1) 0) (omega arith) b) b (omega arith) in
+    let ended : spelled 16 (0 + 1 + 1) (16 * high + low) (drop (at + 2) line)
+    ≡ Some (record { count = 0 + 1 + 1; value = 16 * high + low; left = words_from (at + 2 + 1) line }) =
+    elim (cases_lt (at + 2) (length line)) [
+      | inl less ↦ spelled-space 16 (0 + 1 + 1) (16 * high + low) (at + 2) line less (space less)
+      | inr more ↦ spelled-end 16 (0 + 1 + 1) (16 * high + low) (at + 2) line more
+    ] in
+    rw count (one ∙ two ∙ rw (value, next) ended)
+
+-- one digit more stays below the next power of 16
+pub more_digits : (base n k digit : ℕ) → base ≤ 16 → digit < base → n < 16 ^ k → n * base + digit < 16 ^ (k + 1)
+more_digits base n k digit most small h =
+    let next : 16 ^ (k + 1) ≡ 16 ^ k * 16 = pow_more 16 k in
+    let product : n * base ≤ n * 16 = mul-le-mul_left n most in
+    omega arith
+
+-- 16 digits fit 64 bits
+pub digits_fit : (k : ℕ) → k ≤ 16 → 16 ^ k ≤ 18446744073709551616
+digits_fit k h = pow-le-pow_right {n = 16} (omega arith) {i = k} {j = 16} h

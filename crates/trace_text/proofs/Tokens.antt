@@ -8,23 +8,29 @@ use Rattle.trace_text.specs.private.Spelled.{number_of, decimal_of, hex_of}
 use Rattle.trace_text.specs.declared.bytes.Number.{Number}
 use Rattle.trace_text.proofs.Numbers.{byte_fits}
 
+-- what a word that spells n is
+shaped : ℕ → Bool → ℕ → Number
+shaped digits zero n = record { value = n; digits = digits; zero = zero }
+
 -- DEC
 decimal_in-is : (w : List ℕ) → decimal_in w ≡ option_and_then decimal_of (number_of 10 w)
-unfolding decimal_in number_of
+unfolding decimal_in number_of shaped
 decimal_in-is [] = none (number_in 10 [])
   where
-    none : (o : Option ℕ) → None ≡ option_and_then decimal_of (option_map (λ (n : ℕ). let m : Number = record { value = n; digits = 0; zero = eqb 0 48 } in m) o)
+    none : (o : Option ℕ) → None ≡ option_and_then decimal_of (option_map (shaped 0 (eqb 0 48)) o)
     none None = refl
     none (Some m) = refl
 decimal_in-is (c ∷ []) = one (eqb c 48) (number_in 10 (c ∷ []))
   where
-    one : (z : Bool) (o : Option ℕ) → o ≡ option_and_then decimal_of (option_map (λ (n : ℕ). let m : Number = record { value = n; digits = length (c ∷ []); zero = z } in m) o)
+    one : (z : Bool) (o : Option ℕ)
+        → o ≡ option_and_then decimal_of (option_map (shaped (length (c ∷ [])) z) o)
     one z None = refl
     one true (Some m) = refl
     one false (Some m) = refl
 decimal_in-is (c ∷ d ∷ ds) = more (eqb c 48) (number_in 10 (c ∷ d ∷ ds)) (length (c ∷ d ∷ ds)) (omega arith)
   where
-    more : (z : Bool) (o : Option ℕ) (k : ℕ) → 1 < k → cond z None o ≡ option_and_then decimal_of (option_map (λ (n : ℕ). let m : Number = record { value = n; digits = k; zero = z } in m) o)
+    more : (z : Bool) (o : Option ℕ) (k : ℕ) → 1 < k
+        → cond z None o ≡ option_and_then decimal_of (option_map (shaped k z) o)
     more true None k h = refl
     more false None k h = refl
     more true (Some m) k h = rw (ne_eqb k 0 (λ e. omega arith), lt-ltb 1 k h) refl
@@ -36,7 +42,7 @@ dec-is (w ∷ ws) = decimal_in-is w
 
 -- HEX and BYTE
 hex_in-is : (most : ℕ) (w : List ℕ) → hex_in most w ≡ option_and_then (hex_of most) (number_of 16 w)
-unfolding hex_in number_of
+unfolding hex_in number_of shaped
 hex_in-is most w = by_number (number_in 16 w)
   where
     none : (t : Bool) → cond t (let o : Option ℕ = None in o) None ≡ None
@@ -44,7 +50,7 @@ hex_in-is most w = by_number (number_in 16 w)
     none false = refl
 
     by_number : (o : Option ℕ) → cond (eqb (length w) 0 || ltb most (length w)) None o
-        ≡ option_and_then (hex_of most) (option_map (λ (n : ℕ). let m : Number = record { value = n; digits = length w; zero = eqb (get_or w 0 0) 48 } in m) o)
+        ≡ option_and_then (hex_of most) (option_map (shaped (length w) (eqb (get_or w 0 0) 48)) o)
     by_number None = none (eqb (length w) 0 || ltb most (length w))
     by_number (Some m) = refl
 

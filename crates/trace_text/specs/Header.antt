@@ -7,13 +7,15 @@ use Rattle.irq_edges.specs.Lines.{is_line}
 use Rattle.tick_policy.specs.declared.parts.Policy.{Policy}
 use Rattle.tick_policy.specs.declared.parts.Policy.TheVariants.{Discard, Delay, Slew}
 use Rattle.trace_text.specs.Tokens.{dec, byte, khz, dec_within, starts, such_that}
+use Rattle.trace_text.specs.State.{hexes, restored}
+use Rattle.board_types.specs.declared.parts.BoardParts.{BoardParts}
 use Rattle.trace_text.specs.Rows.{place, last, Row, row, by_table}
 use Rattle.trace_text.specs.declared.faults.Reason.{Reason}
 use Rattle.trace_text.specs.declared.faults.Reason.TheVariants.{Form, Cpu}
 use Rattle.trace_text.specs.declared.header.Head.{Head}
 use Rattle.trace_text.specs.declared.header.Header.{Header}
 use Rattle.trace_text.specs.declared.header.Begin.{Begin}
-use Rattle.trace_text.specs.declared.header.Begin.TheVariants.{Fresh}
+use Rattle.trace_text.specs.declared.header.Begin.TheVariants.{Fresh, Saved}
 use Rattle.trace_text.specs.declared.records.Body.{Body}
 
 -- what stands where no line says otherwise
@@ -34,15 +36,23 @@ setup_by_default format = record {
 
 -- behind the first line
 abbrev pub head_of : ℕ → Head
-head_of format = record { row = 0; setup = setup_by_default format; next_line = 0; routes = replicate 6 None }
+head_of format = record {
+  row = 0;
+  begin = Fresh (setup_by_default format);
+  next_line = 0;
+  routes = replicate 6 None;
+}
 
 -- `1`, `2`: the format
 abbrev pub format_word : List (List ℕ) → Option ℕ
-format_word ws = if starts (codes "1") ws then Some 1 else if starts (codes "2") ws then Some 2 else None
+format_word ws =
+    if starts (codes "1") ws then Some 1 else if starts (codes "2") ws then Some 2 else None
 
 -- `clockboard 1`, `clockboard 2`
 abbrev pub first_line : List (List ℕ) → Result Head Reason
-first_line = by_table (row (codes "clockboard") (place format_word (λ format. last (Ok (head_of format)))) ∷ [])
+first_line =
+    by_table (row (codes "clockboard")
+    (place format_word (λ format. last (Ok (head_of format)))) ∷ [])
 
 -- `discard`, `delay`, `slew`
 abbrev pub policy : List (List ℕ) → Option Policy
@@ -58,44 +68,77 @@ in_order number head answer = if nat_lt head.row number then answer else Err For
 
 -- a line sets something up
 abbrev pub sets : ℕ → Head → Setup → Result Head Reason
-sets number head setup = Ok (record head { row = number; setup = setup })
+sets number head s = Ok (record head { row = number; begin = Fresh s })
 
 -- `host KHZ START`
-abbrev pub host_row : Head → List (List ℕ) → Result Head Reason
-host_row head = place khz (λ k. place dec (λ start. last (sets 1 head (record head.setup { anchor = record { khz = k; start = start; base_ns = 0 } }))))
+abbrev pub host_row : Head → Setup → List (List ℕ) → Result Head Reason
+host_row head s =
+    place khz (λ k. place dec (λ start.
+    last (sets 1 head (record s {
+      anchor = record { khz = k; start = start; base_ns = 0 };
+    }))))
 
 -- `guest KHZ`
-abbrev pub guest_row : Head → List (List ℕ) → Result Head Reason
-guest_row head = place khz (λ k. last (sets 2 head (record head.setup { guest_khz = k })))
+abbrev pub guest_row : Head → Setup → List (List ℕ) → Result Head Reason
+guest_row head s = place khz (λ k. last (sets 2 head (record s { guest_khz = k })))
 
 -- `cpus N`
-abbrev pub cpus_row : Head → List (List ℕ) → Result Head Reason
-cpus_row head = place (dec_within 1 (processors_of head.setup.format)) (λ n. last (sets 3 head (record head.setup { cpus = n })))
+abbrev pub cpus_row : Head → Setup → List (List ℕ) → Result Head Reason
+cpus_row head s =
+    place (dec_within 1 (processors_of s.format)) (λ n.
+    last (sets 3 head (record s { cpus = n })))
 
 -- `policy P Q R`: of the 8254, the RTC, the HPET
-abbrev pub policy_row : Head → List (List ℕ) → Result Head Reason
-policy_row head =
+abbrev pub policy_row : Head → Setup → List (List ℕ) → Result Head Reason
+policy_row head s =
     place policy (λ p. place policy (λ q. place policy (λ r.
-    last (sets 4 head (record head.setup { pit = p; rtc = q; hpet = r })))))
+    last (sets 4 head (record s { pit = p; rtc = q; hpet = r })))))
 
 -- `slew NS`
-abbrev pub slew_row : Head → List (List ℕ) → Result Head Reason
-slew_row head = place (dec_within 1 1000000000) (λ ns. last (sets 5 head (record head.setup { slew_ns = ns })))
+abbrev pub slew_row : Head → Setup → List (List ℕ) → Result Head Reason
+slew_row head s =
+    place (dec_within 1 1000000000) (λ ns.
+    last (sets 5 head (record s { slew_ns = ns })))
 
 -- `wall SEC NSEC`
-abbrev pub wall_row : Head → List (List ℕ) → Result Head Reason
-wall_row head =
+abbrev pub wall_row : Head → Setup → List (List ℕ) → Result Head Reason
+wall_row head s =
     place (dec_within 0 4294967295) (λ sec. place (dec_within 0 999999999) (λ nsec.
-    last (sets 6 head (record head.setup { wall_sec = sec; wall_nsec = nsec }))))
+    last (sets 6 head (record s { wall_sec = sec; wall_nsec = nsec }))))
 
 -- `rtc S M H W D O Y`
-abbrev pub rtc_row : Head → List (List ℕ) → Result Head Reason
-rtc_row head =
-    place byte (λ s. place byte (λ m. place byte (λ h. place byte (λ w.
+abbrev pub rtc_row : Head → Setup → List (List ℕ) → Result Head Reason
+rtc_row head s =
+    place byte (λ sec. place byte (λ m. place byte (λ h. place byte (λ w.
     place byte (λ d. place byte (λ o. place byte (λ y.
-    last (sets 7 head (record head.setup {
-      time = record { sec = s; min = m; hour = h; wday = w; date = d; month = o; year = y };
+    last (sets 7 head (record s {
+      time = record { sec = sec; min = m; hour = h; wday = w; date = d; month = o; year = y };
     })))))))))
+
+-- the format and the processors that a trace begins with, and its counter at the anchor
+abbrev pub format_of : Begin → ℕ
+format_of (Fresh s) = s.format
+format_of (Saved b) = b.format
+
+abbrev pub cpus_of : Begin → ℕ
+cpus_of (Fresh s) = s.cpus
+cpus_of (Saved b) = b.cpus
+
+abbrev pub start_of : Begin → ℕ
+start_of (Fresh s) = s.anchor.start
+start_of (Saved b) = b.anchor.start
+
+-- a line stands in front of all others
+abbrev pub in_front : Head → Result Head Reason → Result Head Reason
+in_front head answer = if head.row == 0 then answer else Err Form
+
+-- `state HEXES`: a saved board in place of a setup
+abbrev pub resumes : Head → Result BoardParts Reason → Result Head Reason
+resumes head (Ok b) = Ok (record head { row = 8; begin = Saved b })
+resumes head (Err reason) = Err reason
+
+abbrev pub state_row : Head → Setup → List (List ℕ) → Result Head Reason
+state_row head s = place hexes (λ bytes. last (resumes head (restored s.format bytes)))
 
 -- the place of a line among the six, by its number
 abbrev pub place_of_line : ℕ → ℕ
@@ -104,50 +147,61 @@ place_of_line line = if line == 0 then 0 else if line == 8 then 1 else line - 18
 -- a line's route goes to a processor that is there
 abbrev pub routed : Head → ℕ → ℕ → ℕ → Result Head Reason
 routed head line cpu vector =
-    if nat_lt cpu head.setup.cpus then
+    if nat_lt cpu (cpus_of head.begin) then
     Ok (record head {
       row = 9;
       next_line = line + 1;
-      routes = slice_set head.routes (place_of_line line) (Some (record { cpu = cpu; vector = vector }));
+      routes =
+          slice_set head.routes (place_of_line line) (Some (record { cpu = cpu; vector = vector }));
     })
     else Err Cpu
 
 -- `route LINE CPU VECTOR`: lines rising, vectors from 10h on
 abbrev pub route_row : Head → List (List ℕ) → Result Head Reason
 route_row head =
-    place (λ ws. such_that (λ n. is_line n && nat_le head.next_line n) (dec ws)) (λ line. place dec (λ cpu.
-    place (λ ws. such_that (λ n. nat_le 0x10 n) (byte ws)) (λ vector. last (routed head line cpu vector))))
+    place (λ ws. such_that (λ n. is_line n && nat_le head.next_line n) (dec ws)) (λ line.
+    place dec (λ cpu.
+    place (λ ws. such_that (λ n. nat_le 0x10 n) (byte ws)) (λ vector.
+    last (routed head line cpu vector))))
 
 -- the table of header lines, in their order
-abbrev pub first_rows : Head → List (Row Head)
-first_rows head =
-    row (codes "host") (λ ws. in_order 1 head (host_row head ws))
-    ∷ row (codes "guest") (λ ws. in_order 2 head (guest_row head ws))
-    ∷ row (codes "cpus") (λ ws. in_order 3 head (cpus_row head ws))
-    ∷ row (codes "policy") (λ ws. in_order 4 head (policy_row head ws))
+abbrev pub last_rows : Head → List (Row Head)
+last_rows head = row (codes "route") (route_row head) ∷ []
+
+abbrev pub first_rows : Head → Setup → List (Row Head)
+first_rows head s =
+    row (codes "host") (λ ws. in_order 1 head (host_row head s ws))
+    ∷ row (codes "guest") (λ ws. in_order 2 head (guest_row head s ws))
+    ∷ row (codes "cpus") (λ ws. in_order 3 head (cpus_row head s ws))
+    ∷ row (codes "policy") (λ ws. in_order 4 head (policy_row head s ws))
     ∷ []
 
-abbrev pub later_rows : Head → List (Row Head)
-later_rows head =
-    row (codes "slew") (λ ws. in_order 5 head (slew_row head ws))
-    ∷ row (codes "wall") (λ ws. in_order 6 head (wall_row head ws))
-    ∷ row (codes "rtc") (λ ws. in_order 7 head (rtc_row head ws))
-    ∷ row (codes "route") (route_row head)
-    ∷ []
+abbrev pub later_rows : Head → Setup → List (Row Head)
+later_rows head s =
+    row (codes "slew") (λ ws. in_order 5 head (slew_row head s ws))
+    ∷ row (codes "wall") (λ ws. in_order 6 head (wall_row head s ws))
+    ∷ row (codes "rtc") (λ ws. in_order 7 head (rtc_row head s ws))
+    ∷ row (codes "state") (λ ws. in_front head (state_row head s ws))
+    ∷ last_rows head
+
+-- behind a saved state routes alone may stand
+abbrev pub rows_of : Head → Begin → List (Row Head)
+rows_of head (Fresh s) = first_rows head s ++ later_rows head s
+rows_of head (Saved b) = last_rows head
 
 unfoldable pub header_line : Head → List (List ℕ) → Result Head Reason
-header_line head = by_table (first_rows head ++ later_rows head)
+header_line head = by_table (rows_of head head.begin)
 
 -- what `begin` begins
 abbrev pub header_of : Head → Header
-header_of head = record { begin = Fresh head.setup; routes = head.routes }
+header_of head = record { begin = head.begin; routes = head.routes }
 
 -- and what is known behind it: each processor's counter before is the anchor's start
 abbrev pub body_of : Head → Body
 body_of head = record {
-  format = head.setup.format;
-  cpus = head.setup.cpus;
-  before = replicate 64 head.setup.anchor.start;
+  format = format_of head.begin;
+  cpus = cpus_of head.begin;
+  before = replicate 64 (start_of head.begin);
 }
 
 -- a delivery goes to a processor that is there, with a vector from 10h on
@@ -155,15 +209,17 @@ abbrev pub IsRoute : ℕ → Option Delivery → Type 0
 IsRoute cpus None = Unit {0}
 IsRoute cpus (Some to) = (to.cpu < cpus) × (16 ≤ to.vector)
 
--- what is known of a header's setup and routes
-pub record IsHeader (s : Setup) (to : List (Option Delivery)) : Type 0 where
-  pub setup : IsSetup s
-  pub routes : All (IsRoute s.cpus) to
+-- what is known of what a trace begins with
+abbrev pub IsStart : Begin → Type 0
+IsStart (Fresh s) = IsSetup s
+IsStart (Saved b) = b.cpus ≤ 64
+
+-- and of its routes
+pub record IsBegin (b : Begin) (to : List (Option Delivery)) : Type 0 where
+  pub start : IsStart b
+  pub routes : All (IsRoute (cpus_of b)) to
 
 -- and before `begin`: no line is routed before the first route
 pub record IsHead (h : Head) : Type 0 where
-  pub header : IsHeader h.setup h.routes
+  pub begin : IsBegin h.begin h.routes
   pub quiet : h.row < 9 → h.routes ≡ replicate 6 None
-
-abbrev pub IsBegin : Begin → List (Option Delivery) → Type 0
-IsBegin (Fresh s) to = IsHeader s to

@@ -49,7 +49,8 @@ next body (Err reason) = Err reason
 abbrev pub step_of : Stage → List ℕ → Result Step Reason
 step_of Opening line = part (first_line (words_of line))
 step_of (Heading head) line =
-    if bytes_eq line (codes "begin") then Ok (begun head) else part (header_line head (words_of line))
+    if bytes_eq line (codes "begin") then Ok (begun head)
+    else part (header_line head (words_of line))
 step_of (Running body) line =
     if bytes_eq line (codes "end") then Ok (record { item = End; stage = Ended })
     else next body (record_of body (words_of line))
@@ -104,7 +105,8 @@ taken r line = answer_by (fault_of r.stage) r line
 -- and the reader behind it
 abbrev pub behind_by : Option RecordFault → List ℕ → ReadingParts → ReadingParts
 behind_by (Some fault) line r = r
-behind_by None line r = record { lines = r.lines + 1; stage = stage_behind (r.lines + 1) (stepped r.stage line) }
+behind_by None line r =
+    record { lines = r.lines + 1; stage = stage_behind (r.lines + 1) (stepped r.stage line) }
 
 abbrev pub behind : List ℕ → ReadingParts → ReadingParts
 behind line r = behind_by (fault_of r.stage) line r
@@ -148,7 +150,7 @@ IsRecordAt (Running body) r = IsRecord body r
 IsRecordAt Ended r = ⊥
 IsRecordAt (Refused fault) r = ⊥
 
--- and of an item: a header's setup and routes are in range, a record's access is one that the board takes
+-- and of an item: setup and routes are in range, a record's access is one that the board takes
 abbrev pub IsItem : Stage → Item → Type 0
 IsItem stage Skipped = Unit {0}
 IsItem stage Part = Unit {0}

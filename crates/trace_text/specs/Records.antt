@@ -1,5 +1,5 @@
 -- Records: `CPU H` and one of the rows below.
-use Rattle.std.specs.Prelude.{ℕ, ◌==◌, nat_lt, true, List, [], ◌∷◌, ◌++◌, Option, Some, None, Result, Ok, Err, if◌then◌else◌, codes, slice_index, slice_set, replicate, ◌≡◌, ◌<◌, ◌≤◌}
+use Rattle.std.specs.Prelude.{ℕ, ◌==◌, nat_lt, true, List, [], ◌∷◌, Option, Some, None, Result, Ok, Err, if◌then◌else◌, codes, slice_index, slice_set, replicate, ◌≡◌, ◌<◌, ◌≤◌}
 use Rattle.board_types.specs.Legal.{is_legal}
 use Rattle.board_types.specs.declared.access.Access.{Access}
 use Rattle.board_types.specs.declared.access.Access.TheVariants.{PortIn, PortOut, HpetRead, HpetWrite, MsrRead, MsrWrite, Ack, Step, Refresh, Wall, CountsOf, Next, Rose}
@@ -51,7 +51,8 @@ out_row body = place (hex_of_bits 8) (λ port. place byte (λ b. last (board bod
 -- `hr OFFSET W`, `hw OFFSET W HEX`
 abbrev pub hr_row : Body → List (List ℕ) → Result Job Reason
 hr_row body =
-    place (hex_of_bits 16) (λ offset. place (dec_of_bits 8) (λ w. last (board body (HpetRead offset w))))
+    place (hex_of_bits 16) (λ offset. place (dec_of_bits 8) (λ w.
+    last (board body (HpetRead offset w))))
 
 abbrev pub hw_row : Body → List (List ℕ) → Result Job Reason
 hw_row body =
@@ -92,45 +93,33 @@ clock_row body = place dec (λ p. last (on_page body p (Clock p)))
 
 -- `move KHZ START GAP`
 abbrev pub move_row : Body → List (List ℕ) → Result Job Reason
-move_row body = place khz (λ k. place dec (λ start. place dec (λ gap. last (Ok (Move k start gap)))))
+move_row body =
+    place khz (λ k. place dec (λ start. place dec (λ gap. last (Ok (Move k start gap)))))
 
--- the table of records, in four parts
-abbrev pub port_rows : Body → List (Row Job)
-port_rows body =
+-- the table of records; `rose` is a word of format 2: the board takes it from there on
+abbrev pub rows : Body → List (Row Job)
+rows body =
     row (codes "in") (in_row body)
     ∷ row (codes "out") (out_row body)
     ∷ row (codes "hr") (hr_row body)
     ∷ row (codes "hw") (hw_row body)
-    ∷ []
-
-abbrev pub msr_rows : Body → List (Row Job)
-msr_rows body =
-    row (codes "rdmsr") (rdmsr_row body)
+    ∷ row (codes "rdmsr") (rdmsr_row body)
     ∷ row (codes "wrmsr") (wrmsr_row body)
     ∷ row (codes "ack") (ack_row body)
     ∷ row (codes "step") (last (board body Step))
     ∷ row (codes "refresh") (refresh_row body)
-    ∷ []
-
-abbrev pub told_rows : Body → List (Row Job)
-told_rows body =
-    row (codes "wall") (last (board body Wall))
+    ∷ row (codes "wall") (last (board body Wall))
     ∷ row (codes "counts") (counts_row body)
     ∷ row (codes "next") (last (board body Next))
     ∷ row (codes "page") (page_row body)
     ∷ row (codes "clock") (clock_row body)
-    ∷ []
-
--- `rose` is a word of format 2: the board takes it from there on
-abbrev pub last_rows : Body → List (Row Job)
-last_rows body =
-    row (codes "save") (last (Ok Save))
+    ∷ row (codes "save") (last (Ok Save))
     ∷ row (codes "move") (move_row body)
     ∷ row (codes "rose") (rose_row body)
     ∷ []
 
 unfoldable pub job_of : Body → List (List ℕ) → Result Job Reason
-job_of body = by_table (port_rows body ++ msr_rows body ++ told_rows body ++ last_rows body)
+job_of body = by_table (rows body)
 
 -- the record of a processor that is there, at a counter that didn't fall
 abbrev pub in_turn : Body → ℕ → ℕ → Job → Result Record Reason

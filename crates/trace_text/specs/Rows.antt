@@ -5,12 +5,14 @@ use Rattle.trace_text.specs.declared.faults.Reason.{Reason}
 use Rattle.trace_text.specs.declared.faults.Reason.TheVariants.{Form}
 
 -- what a token's value, if there is one, makes of the words behind it
-abbrev pub placed : {A T : Type 0} → (A → List (List ℕ) → Result T Reason) → List (List ℕ) → Option A → Result T Reason
+abbrev pub placed : {A T : Type 0} → (A → List (List ℕ) → Result T Reason)
+    → List (List ℕ) → Option A → Result T Reason
 placed row behind None = Err Form
 placed row behind (Some x) = row x behind
 
 -- a token stands first; its value makes of the words behind it what the row says
-abbrev pub place : {A T : Type 0} → (List (List ℕ) → Option A) → (A → List (List ℕ) → Result T Reason) → List (List ℕ) → Result T Reason
+abbrev pub place : {A T : Type 0} → (List (List ℕ) → Option A)
+    → (A → List (List ℕ) → Result T Reason) → List (List ℕ) → Result T Reason
 place token row ws = placed row (rest ws) (token ws)
 
 -- no word is left

@@ -1,5 +1,7 @@
 //! A line byte by byte: the number that stands at a place, and whether a word stands there.
-ghost use Rattle.std.specs.Prelude.{◌≡◌, ℕ, ◌+◌, ◌-◌, ◌*◌, ◌<◌, ◌≤◌, ◌==◌, ◌&&◌, nat_lt, slice_index, not, List, drop, length, Option, Some, None, IsTrue, MatchOption};
+ghost use Rattle.std.specs.Prelude.{◌≡◌, ℕ, ◌+◌, ◌-◌, ◌*◌, ◌<◌, ◌≤◌, ◌==◌, ◌&&◌, nat_lt, slice_index, not, List, drop, length, Option, Some, None, IsTrue, IfSome, MatchOption};
+ghost use Rattle.std.specs.Bool.{OnTrue};
+ghost use Rattle.std.specs.Char.{digit_value};
 ghost use Rattle.std.specs.Option.{SomeIff};
 ghost use Rattle.std.specs.List.{list_all};
 ghost use Rattle.trace_text.specs.private.Spelled.{spelled, behind_word, words_from, Spelled};
@@ -48,32 +50,173 @@ pub(crate) struct Spelling {
     pub(crate) end: usize,
 }
 
-/// A number with one digit more, if it is below 2^64.
+/// How many digits of a base of at most 16 spell a number below 2^64, whichever they are.
+const DIGITS_THAT_FIT: usize = 16;
+
+/// The value of a byte as a digit, of either case; 16 or more where it is no digit of a base of at most 16.
 #[inline(always)]
-fn pushed(n: u64, base: u64, digit: u64) -> Option<u64>
+fn digit_of(byte: u8) -> u8
+    ensures digit { result < 16 → digit_value byte ≡ result }
+    ensures none { 16 ≤ result → 16 ≤ digit_value byte }
+{
+    match byte {
+        b'0'..=b'9' => byte - b'0',
+        b'a'..=b'f' => byte - b'a' + 10,
+        b'A'..=b'F' => byte - b'A' + 10,
+        _ => 36,
+    }
+}
+
+/// A number with one digit more.
+#[inline(always)]
+fn with_digit(n: u64, base: u8, digit: u8) -> u64
+    requires { n * base + digit < 18446744073709551616 }
+    ensures { result ≡ n * base + digit }
+{
+    n * u64::from(base) + u64::from(digit)
+}
+
+/// A number with one digit more, if it is below 2^64.
+fn pushed(n: u64, base: u8, digit: u8) -> Option<u64>
     ensures { SomeIff result (n * base + digit < 18446744073709551616) (n * base + digit) }
 {
-    n.checked_mul(base)?.checked_add(digit)
+    n.checked_mul(u64::from(base))?
+        .checked_add(u64::from(digit))
 }
 
 /// The number in a base that stands at a place of a line, up to the next space or the line's end.
 #[inline(always)]
-pub(crate) fn spelling_at(line: &[u8], at: usize, base: u32) -> Option<Spelling>
+pub(crate) fn spelling_at(line: &[u8], at: usize, base: u8) -> Option<Spelling>
     requires least { 2 ≤ base }
-    requires most { base ≤ 36 }
+    requires most { base ≤ 16 }
     requires within { at ≤ length line.now }
     ensures { MatchOption result (spelled base 0 0 (drop at line.now) ≡ None)
         (λ s. (at ≤ s.end) × (s.end ≤ length line.now) × (spelled base 0 0 (drop at line.now)
-        ≡ Some (record { count = s.end - at; value = s.value; left = words_from (s.end + 1) line.now }))) }
+        ≡ Some (record {
+          count = s.end - at;
+          value = s.value;
+          left = words_from (s.end + 1) line.now;
+        }))) }
 {
+    let last = line.len().min(at + DIGITS_THAT_FIT);
     let mut n = 0;
-    for i in at..line.len() {
+    for i in at..last {
+        let byte = line[i];
+        let digit = digit_of(byte);
+        if digit >= base {
+            return if byte == b' ' {
+                Some(Spelling { value: n, end: i })
+            } else {
+                None
+            };
+        }
+        n = with_digit(n, base, digit);
+    }
+    if last < line.len() {
+        return longer_spelling(line, at, last, base, n);
+    }
+    Some(Spelling {
+        value: n,
+        end: last,
+    })
+}
+
+/// The same, apart from where it is called: for words that are rarely read so.
+#[inline(never)]
+pub(crate) fn spelling_apart(line: &[u8], at: usize, base: u8) -> Option<Spelling>
+    requires least { 2 ≤ base }
+    requires most { base ≤ 16 }
+    requires within { at ≤ length line.now }
+    ensures { MatchOption result (spelled base 0 0 (drop at line.now) ≡ None)
+        (λ s. (at ≤ s.end) × (s.end ≤ length line.now) × (spelled base 0 0 (drop at line.now)
+        ≡ Some (record {
+          count = s.end - at;
+          value = s.value;
+          left = words_from (s.end + 1) line.now;
+        }))) }
+{
+    spelling_at(line, at, base)
+}
+
+/// The decimal digit that stands at a place of a line, if a space stands behind it.
+#[inline(always)]
+pub(crate) fn one_digit_at(line: &[u8], at: usize) -> Option<u8>
+    requires { at ≤ length line.now + 1 }
+    ensures { IfSome result (λ n. (at + 1 < length line.now) × (spelled 10 0 0 (drop at line.now)
+        ≡ Some (record {
+          count = at + 1 - at;
+          value = n;
+          left = words_from (at + 1 + 1) line.now;
+        }))) }
+{
+    if line.len() <= at + 1 || line[at + 1] != b' ' {
+        return None;
+    }
+    let digit = digit_of(line[at]);
+    if digit < 10 { Some(digit) } else { None }
+}
+
+/// Whether a word that reaches up to a place ends there.
+#[inline(always)]
+fn ends_at(line: &[u8], at: usize) -> bool
+    ensures { OnTrue result (at < length line.now → slice_index line.now at ≡ 32) }
+{
+    at >= line.len() || line[at] == b' '
+}
+
+/// The byte of the two hexadecimal digits that stand at a place of a line, if the line ends behind them, or a space
+/// stands there.
+#[inline(always)]
+pub(crate) fn two_digits_at(line: &[u8], at: usize) -> Option<u8>
+    requires { at ≤ length line.now + 1 }
+    ensures { IfSome result (λ n. (at + 2 ≤ length line.now) × (spelled 16 0 0 (drop at line.now)
+        ≡ Some (record {
+          count = at + 2 - at;
+          value = n;
+          left = words_from (at + 2 + 1) line.now;
+        }))) }
+{
+    if line.len() < at + 2 {
+        return None;
+    }
+    if !ends_at(line, at + 2) {
+        return None;
+    }
+    let high = digit_of(line[at]);
+    let low = digit_of(line[at + 1]);
+    if high < 16 && low < 16 {
+        Some(16 * high + low)
+    } else {
+        None
+    }
+}
+
+/// The same where the digits before `from` were read, and spelled a number.
+#[inline(never)]
+fn longer_spelling(line: &[u8], at: usize, from: usize, base: u8, read: u64) -> Option<Spelling>
+    requires least { 2 ≤ base }
+    requires most { base ≤ 16 }
+    requires behind { at ≤ from }
+    requires within { from ≤ length line.now }
+    ensures { MatchOption result (spelled base (from - at) read (drop from line.now) ≡ None)
+        (λ s. (at ≤ s.end) × (s.end ≤ length line.now)
+        × (spelled base (from - at) read (drop from line.now) ≡ Some (record {
+          count = s.end - at;
+          value = s.value;
+          left = words_from (s.end + 1) line.now;
+        }))) }
+{
+    let mut n = read;
+    for i in from..line.len() {
         let byte = line[i];
         if byte == b' ' {
             return Some(Spelling { value: n, end: i });
         }
-        let digit = char::from(byte).to_digit(base)?;
-        n = pushed(n, u64::from(base), u64::from(digit))?;
+        let digit = digit_of(byte);
+        if digit >= base {
+            return None;
+        }
+        n = pushed(n, base, digit)?;
     }
     Some(Spelling {
         value: n,
@@ -94,7 +237,8 @@ pub(crate) fn is_zero(line: &[u8], at: usize, end: usize) -> bool
 #[inline(always)]
 pub(crate) fn end_of_word(line: &[u8], at: usize, name: &[u8]) -> Option<usize>
     requires { at ≤ length line.now + 1 }
-    ensures { MatchOption result ((at ≤ length line.now) → behind_word name.now (drop at line.now) ≡ None)
+    ensures { MatchOption result
+        ((at ≤ length line.now) → behind_word name.now (drop at line.now) ≡ None)
         (λ end. (at ≤ length line.now) × (end ≤ length line.now + 1)
         × (behind_word name.now (drop at line.now) ≡ Some (words_from end line.now))) }
 {

@@ -4,11 +4,13 @@ ghost use Rattle.board_types.specs.Setup.{IsSetup};
 ghost use Rattle.irq_edges.specs.Lines.{is_line};
 ghost use Rattle.trace_text.specs.Tokens.{rest, dec, byte, such_that};
 ghost use Rattle.trace_text.specs.Rows.{by_table};
-ghost use Rattle.trace_text.specs.Header.{setup_by_default, head_of, format_word, first_line, policy, in_order, host_row, guest_row, cpus_row, policy_row, slew_row, wall_row, rtc_row, place_of_line, routed, route_row, first_rows, later_rows, header_line, header_of, body_of, IsHead};
+ghost use Rattle.trace_text.specs.Header.{setup_by_default, head_of, format_word, first_line, policy, in_order, host_row, guest_row, cpus_row, policy_row, slew_row, wall_row, rtc_row, in_front, state_row, place_of_line, routed, route_row, first_rows, later_rows, last_rows, header_line, format_of, cpus_of, start_of, header_of, body_of, IsHead};
 
 use crate::faults::Reason;
 use crate::records::Body;
+use crate::state::board_of;
 use crate::words::Words;
+use board_core::BoardState;
 use board_types::{Setup, processors_of};
 use edge_hooks::Delivery;
 use host_counter::Anchor;
@@ -16,14 +18,16 @@ use rtc_calendar::TimeBytes;
 use tick_policy::Policy;
 
 /// What a trace begins with.
-#[derive(Clone, Copy, Debug, PartialEq, Eq)]
+#[derive(Clone, Copy)]
 pub enum Begin {
     /// A board at power on.
     Fresh(Setup),
+    /// A saved board, in the trace's format.
+    Saved(BoardState),
 }
 
 /// What the lines before `begin` say.
-#[derive(Clone, Copy, Debug, PartialEq, Eq)]
+#[derive(Clone, Copy)]
 pub struct Header {
     /// What the trace begins with.
     pub begin: Begin,
@@ -31,14 +35,46 @@ pub struct Header {
     pub routes: [Option<Delivery>; 6],
 }
 
-/// What is known before `begin`: the number of the last line, what is set up, the least line that may be routed
-/// next, and the routes.
-#[derive(Clone, Copy, Debug, PartialEq, Eq)]
+/// What is known before `begin`: the number of the last line, what the trace begins with, the least line that may be
+/// routed next, and the routes.
+#[derive(Clone, Copy)]
 pub struct Head {
     pub(crate) row: u8,
-    pub(crate) setup: Setup,
+    pub(crate) begin: Begin,
     pub(crate) next_line: u8,
     pub(crate) routes: [Option<Delivery>; 6],
+}
+
+impl Begin {
+    /// The format.
+    fn format(&self) -> u8
+        ensures { result ≡ format_of self.now }
+    {
+        match self {
+            Begin::Fresh(setup) => setup.format,
+            Begin::Saved(state) => state.format(),
+        }
+    }
+
+    /// How many processors there are.
+    fn cpus(&self) -> u8
+        ensures { result ≡ cpus_of self.now }
+    {
+        match self {
+            Begin::Fresh(setup) => setup.cpus,
+            Begin::Saved(state) => state.cpus(),
+        }
+    }
+
+    /// The host's counter at the anchor.
+    fn start(&self) -> u64
+        ensures { result ≡ start_of self.now }
+    {
+        match self {
+            Begin::Fresh(setup) => setup.anchor.start,
+            Begin::Saved(state) => state.anchor().start,
+        }
+    }
 }
 
 /// A format's word.
@@ -120,7 +156,7 @@ impl Head {
         };
         Head {
             row: 0,
-            setup,
+            begin: Begin::Fresh(setup),
             next_line: 0,
             routes: [None; 6],
         }
@@ -133,38 +169,65 @@ impl Head {
         ensures head { result ≡ header_line self words.old }
         ensures valid { IfOk result IsHead }
     {
-        if words.takes(b"host") {
-            self.in_order(1)?;
-            self.host(words)
-        } else if words.takes(b"guest") {
-            self.in_order(2)?;
-            self.guest(words)
-        } else if words.takes(b"cpus") {
-            self.in_order(3)?;
-            self.cpus(words)
-        } else if words.takes(b"policy") {
-            self.in_order(4)?;
-            self.policies(words)
-        } else {
-            self.later_line(words)
+        match self.begin {
+            Begin::Fresh(setup) => self.first_line(setup, words),
+            Begin::Saved(_) => self.last_line(words),
         }
     }
 
-    fn later_line(self, words: &mut Words<'_>) -> Result<Head, Reason>
-        requires { IsHead self }
-        ensures head { result ≡ by_table (later_rows self) words.old }
+    /// The next line of a header without a saved state.
+    fn first_line(self, setup: Setup, words: &mut Words<'_>) -> Result<Head, Reason>
+        requires valid { IsHead self }
+        requires setup { IsSetup setup }
+        ensures head { result ≡ by_table (first_rows self setup ++ later_rows self setup) words.old }
+        ensures valid { IfOk result IsHead }
+    {
+        if words.takes(b"host") {
+            self.in_order(1)?;
+            self.host(setup, words)
+        } else if words.takes(b"guest") {
+            self.in_order(2)?;
+            self.guest(setup, words)
+        } else if words.takes(b"cpus") {
+            self.in_order(3)?;
+            self.cpus(setup, words)
+        } else if words.takes(b"policy") {
+            self.in_order(4)?;
+            self.policies(setup, words)
+        } else {
+            self.later_line(setup, words)
+        }
+    }
+
+    fn later_line(self, setup: Setup, words: &mut Words<'_>) -> Result<Head, Reason>
+        requires valid { IsHead self }
+        requires setup { IsSetup setup }
+        ensures head { result ≡ by_table (later_rows self setup) words.old }
         ensures valid { IfOk result IsHead }
     {
         if words.takes(b"slew") {
             self.in_order(5)?;
-            self.slew(words)
+            self.slew(setup, words)
         } else if words.takes(b"wall") {
             self.in_order(6)?;
-            self.wall(words)
+            self.wall(setup, words)
         } else if words.takes(b"rtc") {
             self.in_order(7)?;
-            self.rtc(words)
-        } else if words.takes(b"route") {
+            self.rtc(setup, words)
+        } else if words.takes(b"state") {
+            self.state(setup, words)
+        } else {
+            self.last_line(words)
+        }
+    }
+
+    /// A route, the one line that may stand behind a saved state.
+    fn last_line(self, words: &mut Words<'_>) -> Result<Head, Reason>
+        requires { IsHead self }
+        ensures head { result ≡ by_table (last_rows self) words.old }
+        ensures valid { IfOk result IsHead }
+    {
+        if words.takes(b"route") {
             self.route(words)
         } else {
             Err(Reason::Form)
@@ -183,10 +246,11 @@ impl Head {
         }
     }
 
-    fn host(self, words: &mut Words<'_>) -> Result<Head, Reason>
+    fn host(self, setup: Setup, words: &mut Words<'_>) -> Result<Head, Reason>
         requires valid { IsHead self }
+        requires setup { IsSetup setup }
         requires early { self.row < 9 }
-        ensures head { result ≡ host_row self words.old }
+        ensures head { result ≡ host_row self setup words.old }
         ensures valid { IfOk result IsHead }
     {
         let khz = words.khz().ok_or(Reason::Form)?;
@@ -197,60 +261,57 @@ impl Head {
             start,
             base_ns: 0,
         };
-        let setup = Setup {
-            anchor,
-            ..self.setup
-        };
+        let setup = Setup { anchor, ..setup };
         Ok(Head {
             row: 1,
-            setup,
+            begin: Begin::Fresh(setup),
             ..self
         })
     }
 
-    fn guest(self, words: &mut Words<'_>) -> Result<Head, Reason>
+    fn guest(self, setup: Setup, words: &mut Words<'_>) -> Result<Head, Reason>
         requires valid { IsHead self }
+        requires setup { IsSetup setup }
         requires early { self.row < 9 }
-        ensures head { result ≡ guest_row self words.old }
+        ensures head { result ≡ guest_row self setup words.old }
         ensures valid { IfOk result IsHead }
     {
         let guest_khz = words.khz().ok_or(Reason::Form)?;
         words.end()?;
-        let setup = Setup {
-            guest_khz,
-            ..self.setup
-        };
+        let setup = Setup { guest_khz, ..setup };
         Ok(Head {
             row: 2,
-            setup,
+            begin: Begin::Fresh(setup),
             ..self
         })
     }
 
-    fn cpus(self, words: &mut Words<'_>) -> Result<Head, Reason>
+    fn cpus(self, setup: Setup, words: &mut Words<'_>) -> Result<Head, Reason>
         requires valid { IsHead self }
+        requires setup { IsSetup setup }
         requires early { self.row < 9 }
-        ensures head { result ≡ cpus_row self words.old }
+        ensures head { result ≡ cpus_row self setup words.old }
         ensures valid { IfOk result IsHead }
     {
-        let most = u64::from(processors_of(self.setup.format));
+        let most = u64::from(processors_of(setup.format));
         let cpus = words.dec_within(1, most).ok_or(Reason::Form)?;
         words.end()?;
         let setup = Setup {
             cpus: cpus as u8,
-            ..self.setup
+            ..setup
         };
         Ok(Head {
             row: 3,
-            setup,
+            begin: Begin::Fresh(setup),
             ..self
         })
     }
 
-    fn policies(self, words: &mut Words<'_>) -> Result<Head, Reason>
+    fn policies(self, setup: Setup, words: &mut Words<'_>) -> Result<Head, Reason>
         requires valid { IsHead self }
+        requires setup { IsSetup setup }
         requires early { self.row < 9 }
-        ensures head { result ≡ policy_row self words.old }
+        ensures head { result ≡ policy_row self setup words.old }
         ensures valid { IfOk result IsHead }
     {
         let pit = policy(words).ok_or(Reason::Form)?;
@@ -261,38 +322,37 @@ impl Head {
             pit,
             rtc,
             hpet,
-            ..self.setup
+            ..setup
         };
         Ok(Head {
             row: 4,
-            setup,
+            begin: Begin::Fresh(setup),
             ..self
         })
     }
 
-    fn slew(self, words: &mut Words<'_>) -> Result<Head, Reason>
+    fn slew(self, setup: Setup, words: &mut Words<'_>) -> Result<Head, Reason>
         requires valid { IsHead self }
+        requires setup { IsSetup setup }
         requires early { self.row < 9 }
-        ensures head { result ≡ slew_row self words.old }
+        ensures head { result ≡ slew_row self setup words.old }
         ensures valid { IfOk result IsHead }
     {
         let slew_ns = words.dec_within(1, 1_000_000_000).ok_or(Reason::Form)?;
         words.end()?;
-        let setup = Setup {
-            slew_ns,
-            ..self.setup
-        };
+        let setup = Setup { slew_ns, ..setup };
         Ok(Head {
             row: 5,
-            setup,
+            begin: Begin::Fresh(setup),
             ..self
         })
     }
 
-    fn wall(self, words: &mut Words<'_>) -> Result<Head, Reason>
+    fn wall(self, setup: Setup, words: &mut Words<'_>) -> Result<Head, Reason>
         requires valid { IsHead self }
+        requires setup { IsSetup setup }
         requires early { self.row < 9 }
-        ensures head { result ≡ wall_row self words.old }
+        ensures head { result ≡ wall_row self setup words.old }
         ensures valid { IfOk result IsHead }
     {
         let sec = words.dec_within(0, 4_294_967_295).ok_or(Reason::Form)?;
@@ -301,19 +361,20 @@ impl Head {
         let setup = Setup {
             wall_sec: sec as u32,
             wall_nsec: nsec as u32,
-            ..self.setup
+            ..setup
         };
         Ok(Head {
             row: 6,
-            setup,
+            begin: Begin::Fresh(setup),
             ..self
         })
     }
 
-    fn rtc(self, words: &mut Words<'_>) -> Result<Head, Reason>
+    fn rtc(self, setup: Setup, words: &mut Words<'_>) -> Result<Head, Reason>
         requires valid { IsHead self }
+        requires setup { IsSetup setup }
         requires early { self.row < 9 }
-        ensures head { result ≡ rtc_row self words.old }
+        ensures head { result ≡ rtc_row self setup words.old }
         ensures valid { IfOk result IsHead }
     {
         let time = TimeBytes {
@@ -326,10 +387,29 @@ impl Head {
             year: words.byte().ok_or(Reason::Form)?,
         };
         words.end()?;
-        let setup = Setup { time, ..self.setup };
+        let setup = Setup { time, ..setup };
         Ok(Head {
             row: 7,
-            setup,
+            begin: Begin::Fresh(setup),
+            ..self
+        })
+    }
+
+    fn state(self, setup: Setup, words: &mut Words<'_>) -> Result<Head, Reason>
+        requires valid { IsHead self }
+        requires setup { IsSetup setup }
+        ensures head { result ≡ in_front self (state_row self setup words.old) }
+        ensures valid { IfOk result IsHead }
+    {
+        if self.row > 0 {
+            return Err(Reason::Form);
+        }
+        let digits = words.word().ok_or(Reason::Form)?;
+        words.end()?;
+        let board = board_of(digits, setup.format)?;
+        Ok(Head {
+            row: 8,
+            begin: Begin::Saved(board),
             ..self
         })
     }
@@ -348,7 +428,8 @@ impl Head {
 
     /// The number of a line that may be routed next.
     fn line_in(&self, words: &mut Words<'_>) -> Option<u8>
-        ensures value { result ≡ such_that (λ n. is_line n && nat_le self.now.next_line n) (dec words.old) }
+        ensures value { result
+            ≡ such_that (λ n. is_line n && nat_le self.now.next_line n) (dec words.old) }
         ensures past { OnSome result (words.new ≡ rest words.old) }
         ensures valid { IfSome result (λ n. is_line n ≡ true) }
     {
@@ -368,7 +449,7 @@ impl Head {
         ensures head { result ≡ routed self line cpu vector }
         ensures valid { IfOk result IsHead }
     {
-        if cpu >= u64::from(self.setup.cpus) {
+        if cpu >= u64::from(self.begin.cpus()) {
             return Err(Reason::Cpu);
         }
         let mut routes = self.routes;
@@ -389,7 +470,7 @@ impl Head {
         ensures { result ≡ header_of self.now }
     {
         Header {
-            begin: Begin::Fresh(self.setup),
+            begin: self.begin,
             routes: self.routes,
         }
     }
@@ -399,9 +480,9 @@ impl Head {
         ensures { result ≡ body_of self.now }
     {
         Body {
-            format: self.setup.format,
-            cpus: self.setup.cpus,
-            before: [self.setup.anchor.start; 64],
+            format: self.begin.format(),
+            cpus: self.begin.cpus(),
+            before: [self.begin.start(); 64],
         }
     }
 }

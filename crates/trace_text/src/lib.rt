@@ -19,6 +19,7 @@ mod faults;
 mod header;
 mod reading;
 mod records;
+mod state;
 mod words;
 
 pub use faults::{Reason, RecordFault};

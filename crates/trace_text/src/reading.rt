@@ -11,7 +11,7 @@ use crate::words::Words;
 use std::marker::Model;
 
 /// What a line is.
-#[derive(Clone, Copy, Debug, PartialEq, Eq)]
+#[derive(Clone, Copy)]
 pub enum Item {
     /// An empty line, or a comment.
     Skipped,
@@ -26,7 +26,7 @@ pub enum Item {
 }
 
 /// How far a trace was read.
-#[derive(Clone, Copy, Debug, PartialEq, Eq)]
+#[derive(Clone, Copy)]
 pub enum Stage {
     /// Before the first line.
     Opening,
@@ -41,14 +41,14 @@ pub enum Stage {
 }
 
 /// What a reader knows.
-#[derive(Clone, Copy, Debug, PartialEq, Eq)]
+#[derive(Clone, Copy)]
 pub struct ReadingParts {
     pub(crate) lines: u64,
     pub(crate) stage: Stage,
 }
 
 /// A reader of a trace, which takes its lines one by one.
-#[derive(Debug, Drop)]
+#[derive(Drop)]
 pub struct Reading {
     parts: ReadingParts,
 }
@@ -92,13 +92,27 @@ impl Reading {
         ensures open { result ≢ Ok Item.End → IsOpen self.new.stage }
         ensures count { self.new.lines ≤ self.old.lines + 1 }
     {
-        match self.parts.stage.record(line) {
-            Some(record) => {
-                self.parts.lines += 1;
-                Ok(Item::Next(record))
-            }
+        match self.take_record(line) {
+            Some(record) => Ok(Item::Next(record)),
             None => self.take_slowly(line),
         }
+    }
+
+    /// Takes the next line if it is a record. For any other line, and for a record that is refused, the answer is
+    /// None and the reader stays as it was: `take_line` then has the answer. It costs less than `take_line`, whose
+    /// items have room for a whole board.
+    #[inline(always)]
+    pub fn take_record(&mut self, line: &[u8]) -> Option<Record>
+        requires { self.old.lines < 2 ^ 63 }
+        ensures record { IfSome result (λ r. taken self.old line.now ≡ Ok (Item.Next r)) }
+        ensures state { OnSome result (self.new ≡ behind line.now self.old) }
+        ensures valid { IfSome result (IsRecordAt self.old.stage) }
+        ensures open { OnSome result (IsOpen self.new.stage) }
+        ensures none { IfNone result (self.new ≡ self.old) }
+    {
+        let record = self.parts.stage.record(line)?;
+        self.parts.lines += 1;
+        Some(record)
     }
 
     /// The same for every line.
@@ -172,9 +186,7 @@ impl Stage {
         ensures none { IfNone result (self.new ≡ self.old) }
     {
         match self {
-            Stage::Running(body) if may_be_record(line) => {
-                body.record(&mut Words::new(line)).ok()
-            }
+            Stage::Running(body) if may_be_record(line) => { body.record(Words::new(line)).ok() }
             _ => None,
         }
     }
@@ -221,7 +233,7 @@ impl Stage {
                     self.end();
                     return Ok(Item::End);
                 }
-                let record = body.record(&mut Words::new(line))?;
+                let record = body.record(Words::new(line))?;
                 Ok(Item::Next(record))
             }
             _ => self.step_in_header(line),

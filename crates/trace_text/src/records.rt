@@ -1,8 +1,10 @@
 //! Records: what a processor does at a host counter.
-ghost use Rattle.std.specs.Prelude.{◌≡◌, ◌<◌, ◌≤◌, ◌++◌, Ok, IfOk, OnErr, OnSome};
+ghost use Rattle.std.specs.Prelude.{◌≡◌, ◌<◌, ◌≤◌, Ok, IfOk, OnErr, OnSome};
+ghost use Rattle.board_types.specs.Legal.{is_port};
 ghost use Rattle.trace_text.specs.Tokens.{rest};
 ghost use Rattle.trace_text.specs.Rows.{by_table, last};
-ghost use Rattle.trace_text.specs.Records.{board, to_msr, on_page, source, in_row, out_row, hr_row, hw_row, rdmsr_row, wrmsr_row, ack_row, rose_row, counts_row, refresh_row, page_row, clock_row, move_row, page_at, port_rows, msr_rows, told_rows, last_rows, job_of, record_of, in_turn, body_behind, IsJob, IsRecord};
+ghost use Rattle.trace_text.specs.private.Groups.{port_rows, step_rows, msr_rows, told_rows};
+ghost use Rattle.trace_text.specs.Records.{board, to_msr, on_page, source, in_row, out_row, hr_row, hw_row, rdmsr_row, wrmsr_row, ack_row, rose_row, counts_row, refresh_row, page_row, clock_row, move_row, page_at, job_of, record_of, in_turn, judged, body_behind, IsJob, IsRecord};
 
 use crate::faults::Reason;
 use crate::words::Words;
@@ -58,6 +60,14 @@ fn board(body: &Body, access: Access) -> Result<Job, Reason>
     }
 }
 
+/// Whether the board has this port, as `Access::legal` asks of an access that lies in memory.
+#[inline(always)]
+fn is_port(port: u8) -> bool
+    ensures { result ≡ is_port port }
+{
+    matches!(port, 0x40..=0x43 | 0x61 | 0x70 | 0x71)
+}
+
 /// An access to this MSR.
 fn to_msr(body: &Body, msr: u32, access: Access) -> Result<Job, Reason>
     ensures job { result ≡ to_msr body.now msr access }
@@ -76,7 +86,11 @@ fn in_job(body: &Body, words: &mut Words<'_>) -> Result<Job, Reason>
 {
     let port = words.hex8().ok_or(Reason::Form)?;
     words.end()?;
-    board(body, Access::PortIn { port })
+    if is_port(port) {
+        Ok(Job::Board(Access::PortIn { port }))
+    } else {
+        Err(Reason::Form)
+    }
 }
 
 #[inline(always)]
@@ -261,11 +275,33 @@ fn move_job(body: &Body, words: &mut Words<'_>) -> Result<Job, Reason>
     Ok(Job::Move { khz, start, gap })
 }
 
-/// What a record does, by the words behind its counter.
+/// What a record does, by the words behind its counter: their first byte says which rows of the table it may be.
 #[inline(always)]
 #[tactic(auto, unfolding(crate::specs::Records::job_of))]
 fn job_in(body: &Body, words: &mut Words<'_>) -> Result<Job, Reason>
     ensures job { result ≡ job_of body.now words.old }
+    ensures valid { IfOk result (IsJob body.now) }
+{
+    match words.initial() {
+        b'i' => port_job(body, words),
+        b'o' => port_job(body, words),
+        b'h' => port_job(body, words),
+        b'a' => step_job(body, words),
+        b's' => step_job(body, words),
+        b'r' => msr_job(body, words),
+        b'w' => msr_job(body, words),
+        b'c' => told_job(body, words),
+        b'n' => told_job(body, words),
+        b'p' => told_job(body, words),
+        b'm' => told_job(body, words),
+        _ => Err(Reason::Form),
+    }
+}
+
+/// The records of a port or of the HPET.
+#[inline(always)]
+fn port_job(body: &Body, words: &mut Words<'_>) -> Result<Job, Reason>
+    ensures job { result ≡ by_table (port_rows body.now) words.old }
     ensures valid { IfOk result (IsJob body.now) }
 {
     if words.takes(b"in") {
@@ -277,59 +313,41 @@ fn job_in(body: &Body, words: &mut Words<'_>) -> Result<Job, Reason>
     } else if words.takes(b"hw") {
         hw_job(body, words)
     } else {
-        msr_job(body, words)
+        Err(Reason::Form)
     }
 }
 
+/// An acknowledgement, a step, a save.
+#[inline(never)]
+fn step_job(body: &Body, words: &mut Words<'_>) -> Result<Job, Reason>
+    ensures job { result ≡ by_table (step_rows body.now) words.old }
+    ensures valid { IfOk result (IsJob body.now) }
+{
+    if words.takes(b"ack") {
+        ack_job(body, words)
+    } else if words.takes(b"step") {
+        plain_job(body, Access::Step, words)
+    } else if words.takes(b"save") {
+        save_job(words)
+    } else {
+        Err(Reason::Form)
+    }
+}
+
+/// The records of MSRs, pages that are published, the wall clock's words, and counts of rises.
 #[inline(never)]
 fn msr_job(body: &Body, words: &mut Words<'_>) -> Result<Job, Reason>
-    ensures job { result ≡ by_table (msr_rows body.now ++ told_rows body.now ++ last_rows body.now) words.old }
+    ensures job { result ≡ by_table (msr_rows body.now) words.old }
     ensures valid { IfOk result (IsJob body.now) }
 {
     if words.takes(b"rdmsr") {
         rdmsr_job(body, words)
     } else if words.takes(b"wrmsr") {
         wrmsr_job(body, words)
-    } else if words.takes(b"ack") {
-        ack_job(body, words)
-    } else if words.takes(b"step") {
-        plain_job(body, Access::Step, words)
     } else if words.takes(b"refresh") {
         refresh_job(body, words)
-    } else {
-        told_job(body, words)
-    }
-}
-
-#[inline(never)]
-fn told_job(body: &Body, words: &mut Words<'_>) -> Result<Job, Reason>
-    ensures job { result ≡ by_table (told_rows body.now ++ last_rows body.now) words.old }
-    ensures valid { IfOk result (IsJob body.now) }
-{
-    if words.takes(b"wall") {
+    } else if words.takes(b"wall") {
         plain_job(body, Access::Wall, words)
-    } else if words.takes(b"counts") {
-        counts_job(body, words)
-    } else if words.takes(b"next") {
-        plain_job(body, Access::Next, words)
-    } else if words.takes(b"page") {
-        page_job(body, words)
-    } else if words.takes(b"clock") {
-        clock_job(body, words)
-    } else {
-        last_job(body, words)
-    }
-}
-
-#[inline(never)]
-fn last_job(body: &Body, words: &mut Words<'_>) -> Result<Job, Reason>
-    ensures job { result ≡ by_table (last_rows body.now) words.old }
-    ensures valid { IfOk result (IsJob body.now) }
-{
-    if words.takes(b"save") {
-        save_job(words)
-    } else if words.takes(b"move") {
-        move_job(body, words)
     } else if words.takes(b"rose") {
         rose_job(body, words)
     } else {
@@ -337,20 +355,57 @@ fn last_job(body: &Body, words: &mut Words<'_>) -> Result<Job, Reason>
     }
 }
 
+/// What is told without an access, but for saves, and moves.
+#[inline(never)]
+fn told_job(body: &Body, words: &mut Words<'_>) -> Result<Job, Reason>
+    ensures job { result ≡ by_table (told_rows body.now) words.old }
+    ensures valid { IfOk result (IsJob body.now) }
+{
+    if words.takes(b"counts") {
+        counts_job(body, words)
+    } else if words.takes(b"next") {
+        plain_job(body, Access::Next, words)
+    } else if words.takes(b"page") {
+        page_job(body, words)
+    } else if words.takes(b"clock") {
+        clock_job(body, words)
+    } else if words.takes(b"move") {
+        move_job(body, words)
+    } else {
+        Err(Reason::Form)
+    }
+}
+
 impl Body {
-    /// The record of these words, which is remembered for its processor.
+    /// The record of these words, which is remembered for its processor. What most records are stays out of memory.
     #[inline(always)]
-    #[tactic(auto, unfolding(crate::specs::Records::record_of))]
-    pub(crate) fn record(&mut self, words: &mut Words<'_>) -> Result<Record, Reason>
+    #[tactic(auto, unfolding(crate::specs::Records::record_of, crate::specs::Records::job_of))]
+    pub(crate) fn record(&mut self, mut words: Words<'_>) -> Result<Record, Reason>
         requires { self.old.cpus ≤ 64 }
-        ensures record { result ≡ record_of self.old words.old }
+        ensures record { result ≡ record_of self.old words.entry }
         ensures valid { IfOk result (IsRecord self.old) }
         ensures behind { IfOk result (λ r. self.new ≡ body_behind self.old r) }
         ensures still { OnErr result (self.new ≡ self.old) }
     {
-        let cpu = words.dec().ok_or(Reason::Form)?;
+        let cpu = words.short_dec().ok_or(Reason::Form)?;
         let h = words.dec().ok_or(Reason::Form)?;
-        let job = job_in(self, words)?;
+        if words.takes(b"in") {
+            let job = in_job(self, &mut words)?;
+            return self.in_turn(cpu, h, job);
+        }
+        self.other_record(cpu, h, words)
+    }
+
+    /// The record of a processor and a counter, by the words behind them.
+    #[inline(never)]
+    fn other_record(&mut self, cpu: u64, h: u64, mut words: Words<'_>) -> Result<Record, Reason>
+        requires { self.old.cpus ≤ 64 }
+        ensures record { result ≡ judged self.old cpu h (job_of self.old words.entry) }
+        ensures valid { IfOk result (IsRecord self.old) }
+        ensures behind { IfOk result (λ r. self.new ≡ body_behind self.old r) }
+        ensures still { OnErr result (self.new ≡ self.old) }
+    {
+        let job = job_in(self, &mut words)?;
         self.in_turn(cpu, h, job)
     }
 

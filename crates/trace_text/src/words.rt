@@ -1,12 +1,15 @@
 //! The words of a line, read one behind the other, and the numbers that they spell.
-ghost use Rattle.std.specs.Prelude.{◌≡◌, ℕ, ◌+◌, ◌-◌, ◌*◌, ◌^◌, ◌<◌, ◌≤◌, ◌==◌, not, true, List, [], drop, length, Option, Some, None, Ok, OnSome, IfSome, IsTrue, MatchOption};
+ghost use Rattle.std.specs.Prelude.{◌≡◌, ℕ, ◌+◌, ◌-◌, ◌*◌, ◌^◌, ◌<◌, ◌≤◌, ◌==◌, not, true, List, [], ◌∷◌, drop, length, Option, Some, None, Ok, OnSome, IfSome, IfNone, IsTrue, MatchOption};
 ghost use Rattle.std.specs.Bool.{OnTrue, OnFalse};
 ghost use Rattle.std.specs.List.{list_all};
 ghost use Rattle.trace_text.specs.Tokens.{words_of, first, rest, starts, dec, hex, byte, dec_within, dec_of_bits, hex_of_bits, khz};
 ghost use Rattle.trace_text.specs.Rows.{last};
 
-use crate::bytes::{Number, end_of_word, is_zero, spelling_at};
+use crate::bytes::{
+    Number, end_of_word, is_zero, one_digit_at, spelling_apart, spelling_at, two_digits_at,
+};
 use crate::faults::Reason;
+use memchr::memchr;
 use std::marker::Model;
 
 /// The words of a line that are still to be read. They are cut by single spaces.
@@ -29,6 +32,7 @@ impl<'a> Model for Words<'a> {
 
 impl<'a> Words<'a> {
     ghost use Rattle.trace_text.specs.private.Spelled.{number_of};
+    ghost use Rattle.trace_text.specs.private.Groups.{IsInitial};
 
     /// All words of a line.
     pub(crate) fn new(line: &'a [u8]) -> Words<'a>
@@ -46,6 +50,31 @@ impl<'a> Words<'a> {
             Ok(())
         } else {
             Err(Reason::Form)
+        }
+    }
+
+    /// The next word as it stands.
+    pub(crate) fn word(&mut self) -> Option<&'a [u8]>
+        ensures { MatchOption result (self.old ≡ []) (λ w. self.old ≡ w.now ∷ self.new) }
+    {
+        if self.at > self.line.len() {
+            return None;
+        }
+        let left = &self.line[self.at..];
+        let count = memchr(b' ', left).unwrap_or(left.len());
+        self.at = self.at + count + 1;
+        Some(&left[..count])
+    }
+
+    /// The first byte of the next word, by which words that begin with another are ruled out.
+    #[inline(always)]
+    pub(crate) fn initial(&self) -> u8
+        ensures { IsInitial result self.now }
+    {
+        if self.at < self.line.len() {
+            self.line[self.at]
+        } else {
+            0
         }
     }
 
@@ -68,9 +97,9 @@ impl<'a> Words<'a> {
 
     /// Goes past the next word, if it is a number in this base.
     #[inline(always)]
-    fn number(&mut self, base: u32) -> Option<Number>
+    fn number(&mut self, base: u8) -> Option<Number>
         requires least { 2 ≤ base }
-        requires most { base ≤ 36 }
+        requires most { base ≤ 16 }
         ensures value { result ≡ first (number_of base) self.old }
         ensures past { OnSome result (self.new ≡ rest self.old) }
     {
@@ -85,6 +114,74 @@ impl<'a> Words<'a> {
             digits: spelling.end - at,
             zero: is_zero(self.line, at, spelling.end),
         })
+    }
+
+    /// The same, apart from where it is called.
+    #[inline(always)]
+    fn number_apart(&mut self, base: u8) -> Option<Number>
+        requires least { 2 ≤ base }
+        requires most { base ≤ 16 }
+        ensures value { result ≡ first (number_of base) self.old }
+        ensures past { OnSome result (self.new ≡ rest self.old) }
+    {
+        let at = self.at;
+        if at > self.line.len() {
+            return None;
+        }
+        let spelling = spelling_apart(self.line, at, base)?;
+        self.at = spelling.end + 1;
+        Some(Number {
+            value: spelling.value,
+            digits: spelling.end - at,
+            zero: is_zero(self.line, at, spelling.end),
+        })
+    }
+
+    /// The next word as a decimal digit, behind which another stands; None where it is anything else, and then it
+    /// stays.
+    #[inline(always)]
+    fn one_digit(&mut self) -> Option<u8>
+        ensures value { IfSome result (λ n. dec self.old ≡ Some n) }
+        ensures past { OnSome result (self.new ≡ rest self.old) }
+        ensures still { IfNone result (self.new ≡ self.old) }
+    {
+        let n = one_digit_at(self.line, self.at)?;
+        self.at += 2;
+        Some(n)
+    }
+
+    /// The next word as a DEC, which most likely has one digit.
+    #[inline(always)]
+    pub(crate) fn short_dec(&mut self) -> Option<u64>
+        ensures value { result ≡ dec self.old }
+        ensures past { OnSome result (self.new ≡ rest self.old) }
+    {
+        match self.one_digit() {
+            Some(digit) => Some(u64::from(digit)),
+            None => self.dec_apart(),
+        }
+    }
+
+    /// The next word as a DEC, apart from where it is called.
+    #[inline(always)]
+    fn dec_apart(&mut self) -> Option<u64>
+        ensures value { result ≡ dec self.old }
+        ensures past { OnSome result (self.new ≡ rest self.old) }
+    {
+        self.number_apart(10)?.decimal()
+    }
+
+    /// The next word as two hexadecimal digits; None where it is anything else, and then it stays.
+    #[inline(always)]
+    fn two_digits(&mut self) -> Option<u8>
+        ensures byte { IfSome result (λ n. byte self.old ≡ Some n) }
+        ensures hex { IfSome result (λ n. hex self.old ≡ Some n) }
+        ensures past { OnSome result (self.new ≡ rest self.old) }
+        ensures still { IfNone result (self.new ≡ self.old) }
+    {
+        let n = two_digits_at(self.line, self.at)?;
+        self.at += 3;
+        Some(n)
     }
 
     /// The next word as a DEC.
@@ -105,13 +202,34 @@ impl<'a> Words<'a> {
         self.number(16)?.hexadecimal(16)
     }
 
+    /// The same, apart from where it is called.
+    #[inline(always)]
+    fn hex_apart(&mut self) -> Option<u64>
+        ensures value { result ≡ hex self.old }
+        ensures past { OnSome result (self.new ≡ rest self.old) }
+    {
+        self.number_apart(16)?.hexadecimal(16)
+    }
+
     /// The next word as a BYTE.
     #[inline(always)]
     pub(crate) fn byte(&mut self) -> Option<u8>
         ensures value { result ≡ byte self.old }
         ensures past { OnSome result (self.new ≡ rest self.old) }
     {
-        let byte = self.number(16)?.hexadecimal(2)?;
+        match self.two_digits() {
+            Some(byte) => Some(byte),
+            None => self.byte_apart(),
+        }
+    }
+
+    /// The same, apart from where it is called.
+    #[inline(always)]
+    fn byte_apart(&mut self) -> Option<u8>
+        ensures value { result ≡ byte self.old }
+        ensures past { OnSome result (self.new ≡ rest self.old) }
+    {
+        let byte = self.number_apart(16)?.hexadecimal(2)?;
         Some(byte as u8)
     }
 
@@ -169,7 +287,10 @@ impl<'a> Words<'a> {
         ensures value { result ≡ hex_of_bits 8 self.old }
         ensures past { OnSome result (self.new ≡ rest self.old) }
     {
-        let n = self.hex()?;
+        if let Some(n) = self.two_digits() {
+            return Some(n);
+        }
+        let n = self.hex_apart()?;
         if n < 0x100 { Some(n as u8) } else { None }
     }
 

@@ -33,7 +33,12 @@ words_from at line = if nat_le at (length line) then words_of (drop at line) els
 
 -- a word's number, how many digits it has, and whether it begins with a zero
 unfoldable pub number_of : ℕ → List ℕ → Option Number
-number_of base word = option_map (λ n. record { value = n; digits = length word; zero = slice_index word 0 == 48 }) (number_in base word)
+number_of base word =
+    option_map (λ n. record {
+      value = n;
+      digits = length word;
+      zero = slice_index word 0 == 48;
+    }) (number_in base word)
 
 -- what a decimal number is: it has digits, and no zero in front of others
 abbrev pub decimal_of : Number → Option ℕ

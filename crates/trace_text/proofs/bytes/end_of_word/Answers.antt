@@ -1,9 +1,14 @@
-use Rattle.std.proofs.Common.{◌≡◌, ◌+◌, length, drop, [], refl, ◌∙◌, arith, length-drop}
+use Rattle.std.proofs.Common.{◌≡◌, ℕ, ◌+◌, ◌≤◌, length, drop, List, [], refl, ◌∙◌, arith, length-drop}
 use Rattle.std.proofs.Math.ListN.{drop_of_length-le}
 use Rattle.trace_text.specs.private.Spelled.{behind_word}
 use Rattle.trace_text.proofs.Spells.{word-differs, word-same, word-at_end, word-at_space, word-longer, word-short}
 use Rattle.trace_text.proofs.bytes.end_of_word.Goals.{then-at-line-via-then-at-line, then-at-line-via-else-at-line+then-line-at, else-end-line-via-then-end-line+else-line-end-ne32, else-end-line-via-else-end-line}
 use Rattle.trace_text.proofs.bytes.end_of_word.Goals as goal
+
+-- all bytes of a name were there
+all_taken : (at i : ℕ) (name line : List ℕ) → length name ≤ i → i ≡ length name
+    → behind_word (drop i name) (drop (at + i) line) ≡ behind_word [] (drop (at + length name) line)
+all_taken at i name line h same = rw (drop_of_length-le name h, same) refl
 
 pub returns-then-at-line : goal.returns-then-at-line
 returns-then-at-line c = elim c.then-at-line.branch [
@@ -27,15 +32,17 @@ loop-i-preserved c =
 pub returns-then-line-end-ne32 : goal.returns-then-line-end-ne32
 returns-then-line-end-ne32 c = λ within.
     let i : c.loop-i.i ≡ length c.args.name.now = omega arith in
-    let done : behind_word (drop c.loop-i.i c.args.name.now) (drop (c.args.at + c.loop-i.i) c.args.line.now) ≡ behind_word [] (drop (c.args.at + length c.args.name.now) c.args.line.now) =
-    rw (drop_of_length-le c.args.name.now c.loop-i-test.false, i) refl in
-    c.loop-i.invariant ∙ done ∙ word-longer (c.args.at + length c.args.name.now) c.args.line.now c.if-end-line.true c.if-line-end-ne32.true
+    let done =
+    all_taken c.args.at c.loop-i.i c.args.name.now c.args.line.now c.loop-i-test.false i in
+    c.loop-i.invariant
+    ∙ done
+    ∙ word-longer (c.args.at + length c.args.name.now) c.args.line.now c.if-end-line.true c.if-line-end-ne32.true
 
 pub returns : goal.returns
 returns c =
     let i : c.loop-i.i ≡ length c.args.name.now = omega arith in
-    let done : behind_word (drop c.loop-i.i c.args.name.now) (drop (c.args.at + c.loop-i.i) c.args.line.now) ≡ behind_word [] (drop (c.args.at + length c.args.name.now) c.args.line.now) =
-    rw (drop_of_length-le c.args.name.now c.loop-i-test.false, i) refl in
+    let done =
+    all_taken c.args.at c.loop-i.i c.args.name.now c.args.line.now c.loop-i-test.false i in
     elim c.else-end-line.branch [
       | else-end-line-via-then-end-line+else-line-end-ne32 w ↦ (
         omega arith,

@@ -5,7 +5,11 @@ use Rattle.trace_text.proofs.Tokens.{dec-is}
 use Rattle.trace_text.proofs.words.Words.dec.Goals as goal
 
 pub returns-in_err-number-clause-value : goal.returns-in_err-number-clause-value
-returns-in_err-number-clause-value c = c.from_residual.ensures ∙ sym (dec-is c.args.self.now ∙ ap (option_and_then decimal_of) (sym c.in_err-number.ensures.value))
+returns-in_err-number-clause-value c =
+    let spelt = dec-is c.args.self.now ∙ ap (option_and_then decimal_of) (sym c.in_err-number.ensures.value) in
+    c.from_residual.ensures ∙ sym spelt
 
 pub returns-clause-value : goal.returns-clause-value
-returns-clause-value c = c.decimal.ensures ∙ sym (dec-is c.args.self.now ∙ ap (option_and_then decimal_of) (sym c.in_ok-number.ensures.value))
+returns-clause-value c =
+    let spelt = dec-is c.args.self.now ∙ ap (option_and_then decimal_of) (sym c.in_ok-number.ensures.value) in
+    c.decimal.ensures ∙ sym spelt

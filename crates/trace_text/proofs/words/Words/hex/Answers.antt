@@ -5,7 +5,11 @@ use Rattle.trace_text.proofs.Tokens.{hex-is}
 use Rattle.trace_text.proofs.words.Words.hex.Goals as goal
 
 pub returns-in_err-number-clause-value : goal.returns-in_err-number-clause-value
-returns-in_err-number-clause-value c = c.from_residual.ensures ∙ sym (hex-is 16 c.args.self.now ∙ ap (option_and_then (hex_of 16)) (sym c.in_err-number.ensures.value))
+returns-in_err-number-clause-value c =
+    let spelt = hex-is 16 c.args.self.now ∙ ap (option_and_then (hex_of 16)) (sym c.in_err-number.ensures.value) in
+    c.from_residual.ensures ∙ sym spelt
 
 pub returns-clause-value : goal.returns-clause-value
-returns-clause-value c = c.hexadecimal.ensures ∙ sym (hex-is 16 c.args.self.now ∙ ap (option_and_then (hex_of 16)) (sym c.in_ok-number.ensures.value))
+returns-clause-value c =
+    let spelt = hex-is 16 c.args.self.now ∙ ap (option_and_then (hex_of 16)) (sym c.in_ok-number.ensures.value) in
+    c.hexadecimal.ensures ∙ sym spelt

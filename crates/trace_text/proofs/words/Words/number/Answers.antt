@@ -18,10 +18,14 @@ returns-in_err-spelling-clause-value c =
 
 pub returns-clause-value : goal.returns-clause-value
 returns-clause-value c =
-    let there = a_number c.args.base c.self.inside.at c.in_ok-spelling.spelling.end c.in_ok-spelling.spelling.value c.self.inside.line.now (omega arith) c.if-at-self.false c.in_ok-spelling.ensures.2 in
+    let s = c.in_ok-spelling.spelling in
+    let there =
+    a_number c.args.base c.self.inside.at s.end s.value c.self.inside.line.now (omega arith) c.if-at-self.false c.in_ok-spelling.ensures.2 in
     rw c.is_zero.ensures (sym there.0 ∙ ap (first (number_of c.args.base)) c.self.view_is)
 
 pub returns-clause-past : goal.returns-clause-past
 returns-clause-past c =
-    let there = a_number c.args.base c.self.inside.at c.in_ok-spelling.spelling.end c.in_ok-spelling.spelling.value c.self.inside.line.now (omega arith) c.if-at-self.false c.in_ok-spelling.ensures.2 in
+    let s = c.in_ok-spelling.spelling in
+    let there =
+    a_number c.args.base c.self.inside.at s.end s.value c.self.inside.line.now (omega arith) c.if-at-self.false c.in_ok-spelling.ensures.2 in
     there.1 ∙ ap rest c.self.view_is

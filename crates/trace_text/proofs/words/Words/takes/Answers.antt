@@ -1,4 +1,4 @@
-use Rattle.std.proofs.Common.{◌≡◌, length, [], refl, sym, ◌∙◌, ap, inl, inr}
+use Rattle.std.proofs.Common.{◌≡◌, ℕ, List, length, [], refl, sym, ◌∙◌, ap, inl, inr}
 use Rattle.std.proofs.lemmas.Bool.{cases_lt}
 use Rattle.trace_text.specs.Tokens.{starts, rest}
 use Rattle.trace_text.specs.private.Spelled.{words_from}
@@ -8,12 +8,16 @@ use Rattle.trace_text.proofs.words.Words.takes.Goals as goal
 
 pub returns-in-Some-clause-found : goal.returns-in-Some-clause-found
 returns-in-Some-clause-found c =
-    let there = a_word c.args.name.now c.self.inside.at c.self.inside.line.now (words_from c.in-Some.end c.self.inside.line.now) c.requires c.in-Some.ensures.0 c.in-Some.ensures.2 in
+    let inside = c.self.inside in
+    let behind : List (List ℕ) = words_from c.in-Some.end inside.line.now in
+    let there = a_word c.args.name.now inside.at inside.line.now behind c.requires c.in-Some.ensures.0 c.in-Some.ensures.2 in
     sym there.0 ∙ ap (starts c.args.name.now) c.self.view_is
 
 pub returns-in-Some-clause-past : goal.returns-in-Some-clause-past
 returns-in-Some-clause-past c =
-    let there = a_word c.args.name.now c.self.inside.at c.self.inside.line.now (words_from c.in-Some.end c.self.inside.line.now) c.requires c.in-Some.ensures.0 c.in-Some.ensures.2 in
+    let inside = c.self.inside in
+    let behind : List (List ℕ) = words_from c.in-Some.end inside.line.now in
+    let there = a_word c.args.name.now inside.at inside.line.now behind c.requires c.in-Some.ensures.0 c.in-Some.ensures.2 in
     there.1 ∙ ap rest c.self.view_is
 
 pub returns-in-None-clause-found : goal.returns-in-None-clause-found
@@ -21,5 +25,7 @@ returns-in-None-clause-found c = elim (cases_lt (length c.self.inside.line.now) 
   | inl past ↦
       let none : c.args.self.now ≡ [] = sym c.self.view_is ∙ words_from-behind c.self.inside.at c.self.inside.line.now past in
       rw none refl
-  | inr within ↦ sym (no_word c.args.name.now c.self.inside.at c.self.inside.line.now c.requires within (c.in-None.ensures within)) ∙ ap (starts c.args.name.now) c.self.view_is
+  | inr within ↦
+      let other = no_word c.args.name.now c.self.inside.at c.self.inside.line.now c.requires within (c.in-None.ensures within) in
+      sym other ∙ ap (starts c.args.name.now) c.self.view_is
 ]

@@ -1,0 +1,57 @@
+-- The header line `state`, by its first word and those behind it.
+use Rattle.std.proofs.Common.{◌≡◌, ℕ, ◌/◌, ◌%◌, Bool, true, false, cond, eqb, length, List, [], ◌∷◌, Option, Some, None, Ok, Err, refl, sym, ◌∙◌}
+use Rattle.std.specs.Prelude.{Result}
+use Rattle.std.proofs.lemmas.Bool.{eq-eqb}
+use Rattle.hex.specs.Hex.{decode_of, decode_pairs, decode_sized}
+use Rattle.hex.specs.declared.error.FromHexError.{FromHexError}
+use Rattle.hex.specs.declared.error.FromHexError.TheVariants.{OddLength, InvalidStringLength}
+use Rattle.board_types.specs.declared.setup.Setup.{Setup}
+use Rattle.trace_text.specs.Rows.{placed, last}
+use Rattle.trace_text.specs.State.{hexes_in, decoded, restored}
+use Rattle.trace_text.specs.Header.{state_row, resumes}
+use Rattle.trace_text.specs.private.State.{restored_digits, restored_from}
+use Rattle.trace_text.specs.declared.faults.Reason.TheVariants.{Form}
+use Rattle.trace_text.specs.declared.header.Head.{Head}
+
+-- one word
+pub one_word : (head : Head) (s : Setup) (digits : List ℕ)
+    → state_row head s (digits ∷ []) ≡ resumes head (restored_digits s.format digits)
+one_word head s digits = by_bytes (hexes_in digits)
+  where
+    by_bytes : (o : Option (List ℕ))
+        → placed (λ (bytes : List ℕ). last (resumes head (restored s.format bytes))) [] o
+        ≡ resumes head (restored_from s.format o)
+    by_bytes None = refl
+    by_bytes (Some bytes) = refl
+
+-- more words
+pub more_words : (head : Head) (s : Setup) (digits w : List ℕ) (ws : List (List ℕ))
+    → state_row head s (digits ∷ w ∷ ws) ≡ Err Form
+more_words head s digits w ws = by_bytes (hexes_in digits)
+  where
+    by_bytes : (o : Option (List ℕ))
+        → placed (λ (bytes : List ℕ). last (resumes head (restored s.format bytes))) (w ∷ ws) o ≡ Err Form
+    by_bytes None = refl
+    by_bytes (Some bytes) = refl
+
+-- what is decoded into room for as many bytes as there are pairs of digits
+sized : (digits : List ℕ) (n : ℕ) → n ≡ length digits / 2 → decode_sized digits n ≡ decode_of digits
+sized digits n half = by_odd (eqb (length digits % 2) 1)
+  where
+    room : eqb (length digits / 2) n ≡ true
+    room = eq-eqb (length digits / 2) n (sym half)
+
+    by_odd : (odd : Bool)
+        → cond odd (Err OddLength) (cond (eqb (length digits / 2) n) (decode_pairs 0 digits) (Err InvalidStringLength))
+        ≡ cond odd (Err OddLength) (decode_pairs 0 digits)
+    by_odd true = refl
+    by_odd false = rw room refl
+
+-- digits that aren't decoded are no bytes
+pub not_decoded : (digits : List ℕ) (n : ℕ) → n ≡ length digits / 2
+    → ((bytes : List ℕ) → decode_sized digits n ≡ Ok bytes → ⊥) → decoded (decode_of digits) ≡ None
+not_decoded digits n half none = by_pairs (decode_of digits) (λ bytes e. none bytes (sized digits n half ∙ e))
+  where
+    by_pairs : (d : Result (List ℕ) FromHexError) → ((bytes : List ℕ) → d ≡ Ok bytes → ⊥) → decoded d ≡ None
+    by_pairs (Ok bytes) h = absurd (h bytes refl)
+    by_pairs (Err e) h = refl

@@ -1,0 +1,64 @@
+-- The header line `state`: a saved board, which the trace goes on with.
+use Rattle.std.specs.Prelude.{
+  ℕ,
+  min,
+  ◌==◌,
+  nat_lt,
+  nat_le,
+  Bool,
+  ◌&&◌,
+  ◌||◌,
+  List,
+  length,
+  Option,
+  Some,
+  None,
+  Result,
+  Ok,
+  Err,
+  if◌then◌else◌,
+}
+use Rattle.hex.specs.Hex.{decode_of}
+use Rattle.hex.specs.declared.error.FromHexError.{FromHexError}
+use Rattle.board_core.specs.Upgrade.{upgraded_to}
+use Rattle.board_types.specs.declared.parts.BoardParts.{BoardParts}
+use Rattle.save_state.specs.Places.{format_in}
+use Rattle.save_state.specs.Reading.{board_in}
+use Rattle.save_state.specs.Table.{fault_of}
+use Rattle.save_state.specs.declared.fault.StateFault.{StateFault}
+use Rattle.trace_text.specs.Tokens.{first}
+use Rattle.trace_text.specs.declared.faults.Reason.{Reason}
+use Rattle.trace_text.specs.declared.faults.Reason.TheVariants.{StateBytes}
+
+-- what was decoded, if all digits are some
+abbrev pub decoded : Result (List ℕ) FromHexError → Option (List ℕ)
+decoded (Ok bytes) = Some bytes
+decoded (Err fault) = None
+
+-- HEXES: bytes of two digits each, of either case, at least one; no line has 200,000 digits
+abbrev pub hexes_in : List ℕ → Option (List ℕ)
+hexes_in word =
+    if (length word == 0) || nat_lt 200000 (length word) then None else decoded (decode_of word)
+
+abbrev pub hexes : List (List ℕ) → Option (List ℕ)
+hexes = first hexes_in
+
+-- whether the version of bytes, which stands from 8 up to 10, is above the trace's format
+abbrev pub is_newer : ℕ → List ℕ → Bool
+is_newer format bytes = nat_le 10 (length bytes) && nat_lt format (format_in bytes)
+
+-- the place of a fault: such a version is one too
+abbrev pub place_in : ℕ → List ℕ → StateFault → ℕ
+place_in format bytes fault = if is_newer format bytes then min fault.place 8 else fault.place
+
+-- a board in the trace's format
+abbrev pub in_format : ℕ → BoardParts → Result BoardParts Reason
+in_format format b = if nat_lt format b.format then Err (StateBytes 8) else Ok (upgraded_to format b)
+
+-- the board that bytes are, by their first fault, if they have one
+abbrev pub restored_by : ℕ → List ℕ → Option StateFault → Result BoardParts Reason
+restored_by format bytes (Some fault) = Err (StateBytes (place_in format bytes fault))
+restored_by format bytes None = in_format format (board_in bytes)
+
+unfoldable pub restored : ℕ → List ℕ → Result BoardParts Reason
+restored format bytes = restored_by format bytes (fault_of bytes)
