@@ -1,0 +1,3 @@
+mod Single
+mod Numbers
+mod Parsed

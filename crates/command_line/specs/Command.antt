@@ -1,0 +1,135 @@
+-- What words ask for: they are read as the crate clap reads a command with four positionals and a flag.
+use Rattle.std.specs.Prelude.{
+  ℕ,
+  ◌^◌,
+  ◌-◌,
+  Bool,
+  true,
+  false,
+  List,
+  [],
+  ◌∷◌,
+  Option,
+  Some,
+  None,
+  option_and_then,
+  if◌then◌else◌,
+  codes,
+}
+use Rattle.std.specs.Option.{option_map_or}
+use Rattle.std.specs.Str.{bytes_eq}
+use Rattle.std.specs.Str.Parse.{digits_value, without_leading_plus}
+use Rattle.clap.specs.ValueTests.{is_unsigned_in}
+use Rattle.clap.specs.Words.{
+  App,
+  Kinds,
+  Row,
+  Rule,
+  Text,
+  fault_of,
+  first_of,
+  matches_of,
+  new_app,
+  new_rule,
+  with_rule,
+}
+use Rattle.clap.specs.declared.builder.action.ArgAction.TheVariants.{SetTrue}
+use Rattle.clap.specs.declared.builder.value_parser.ValueParser.TheVariants.{Unsigned}
+use Rattle.clap.specs.declared.error.kind.ErrorKind.{ErrorKind}
+use Rattle.clap.specs.declared.error.kind.ErrorKind.TheVariants.{DisplayHelp, DisplayVersion}
+use Rattle.command_line.specs.declared.command.Command.{Command}
+use Rattle.command_line.specs.declared.command.Command.TheVariants.{
+  Replay,
+  Race,
+  Gen,
+  Soak,
+  Help,
+  Version,
+  Unknown,
+}
+use Rattle.command_line.specs.declared.command.Size.{Size}
+
+-- a positional of a number in a range
+abbrev pub number_rule : Text → ℕ → ℕ → Rule
+number_rule id least most = record (new_rule id) { parser = Some (Unsigned least most) }
+
+abbrev pub job_rule : Rule
+job_rule = record (new_rule (codes "job")) { required = true }
+
+abbrev pub state_rule : Rule
+state_rule =
+    record (new_rule (codes "state")) { long = Some (codes "state"); action = Some SetTrue }
+
+-- a command that has a version, and no word of its own name
+abbrev pub bare : App
+bare =
+    record (new_app (codes "clockboard")) {
+      top = record (new_app (codes "clockboard")).top { no_binary_name = true; has_version = true };
+    }
+
+-- the command: a job, which is needed, a key, records up to 200,000, 1 to 16 processors, `--state`
+abbrev pub app : App
+app = with_rule (with_rule (with_rule (with_rule (with_rule bare job_rule)
+    (number_rule (codes "key") 0 (2 ^ 64 - 1))) (number_rule (codes "records") 0 200000))
+    (number_rule (codes "cpus") 1 16)) state_rule
+
+-- a number of 64 bits, maybe behind a plus
+abbrev pub number_of : Text → Option ℕ
+number_of text =
+    if is_unsigned_in 0 (2 ^ 64 - 1) text then Some (digits_value 10 (without_leading_plus text))
+    else None
+
+abbrev pub number_in : Text → List Row → Option ℕ
+number_in id rows = option_and_then number_of (first_of id rows)
+
+-- whether a flag was used
+abbrev pub is_used : Text → List Row → Bool
+is_used id rows = option_map_or (λ text. bytes_eq text (codes "true")) (first_of id rows) false
+
+-- `replay` and `race` take no number
+abbrev pub trace_job : Command → Option ℕ → Option ℕ → Option ℕ → Command
+trace_job command None None None = command
+trace_job command key records cpus = Unknown
+
+-- `gen` and `soak` take three, and no flag
+abbrev pub size_of : Option ℕ → Option ℕ → Option ℕ → Bool → Option Size
+size_of (Some key) (Some records) (Some cpus) false =
+    Some (record { key = key; records = records; cpus = cpus })
+size_of key records cpus shows_state = None
+
+abbrev pub sized_job : (Size → Command) → Option Size → Command
+sized_job job None = Unknown
+sized_job job (Some size) = job size
+
+-- the job of this name
+abbrev pub job_named : Text → Option ℕ → Option ℕ → Option ℕ → Bool → Command
+job_named name key records cpus shows_state =
+    if bytes_eq name (codes "replay") then trace_job (Replay shows_state) key records cpus
+    else if bytes_eq name (codes "race") then trace_job (Race shows_state) key records cpus
+    else if bytes_eq name (codes "gen") then sized_job Gen (size_of key records cpus shows_state)
+    else if bytes_eq name (codes "soak") then sized_job Soak (size_of key records cpus shows_state)
+    else Unknown
+
+abbrev pub asked_for : Option Text → Option ℕ → Option ℕ → Option ℕ → Bool → Command
+asked_for None key records cpus shows_state = Unknown
+asked_for (Some name) key records cpus shows_state = job_named name key records cpus shows_state
+
+-- what clap's matches ask for
+abbrev pub by_rows : List Row → Command
+by_rows rows = asked_for (first_of (codes "job") rows) (number_in (codes "key") rows)
+    (number_in (codes "records") rows) (number_in (codes "cpus") rows)
+    (is_used (codes "state") rows)
+
+-- what words ask for that clap refuses for this cause
+abbrev pub refused_for : ErrorKind → Command
+refused_for DisplayHelp = Help
+refused_for DisplayVersion = Version
+refused_for kind = Unknown
+
+abbrev pub by_kinds : Kinds → List Row → Command
+by_kinds [] rows = by_rows rows
+by_kinds (kind ∷ kinds) rows = refused_for kind
+
+-- what words ask for
+unfoldable pub command_of : List Text → Command
+command_of words = by_kinds (fault_of app words) (matches_of app words)

@@ -1,0 +1,40 @@
+//! The commands.
+/// How large a trace is that is generated.
+#[derive(Clone, Copy, Debug, PartialEq, Eq)]
+pub struct Size {
+    /// What the random numbers come from.
+    pub key: u64,
+    /// How many records there are, up to 200,000.
+    pub records: u64,
+    /// How many processors there are, 1 to 16.
+    pub cpus: u64,
+}
+
+/// What a list of words asks for.
+#[derive(Clone, Copy, Debug, PartialEq, Eq)]
+pub enum Command {
+    /// `replay`: a trace is answered record by record; at its end the board's state is shown where that is asked.
+    Replay { shows_state: bool },
+    /// `race`: the processors of a trace run on threads of their own.
+    Race { shows_state: bool },
+    /// `gen`: a trace is generated and printed.
+    Gen(Size),
+    /// `soak`: the same trace is generated and answered, and a summary is printed.
+    Soak(Size),
+    /// `--help`, or `-h`.
+    Help,
+    /// `--version`, or `-V`.
+    Version,
+    /// No command.
+    Unknown,
+}
+
+/// What the words of a parse name.
+#[derive(Clone, Copy)]
+pub(crate) struct Named<'a> {
+    pub(crate) job: Option<&'a str>,
+    pub(crate) key: Option<u64>,
+    pub(crate) records: Option<u64>,
+    pub(crate) cpus: Option<u64>,
+    pub(crate) shows_state: bool,
+}

@@ -1,0 +1,17 @@
+use Rattle.std.proofs.Common.{◌-◌, arith, append_assoc}
+use Rattle.trace_gen.specs.Draws.{drawn}
+use Rattle.trace_gen.specs.Text.{record_text, records_text, end_text}
+use Rattle.trace_gen.proofs.Steps.{records_text-more, records_text-none}
+use Rattle.trace_gen.proofs.course.Course.draw_next.Goals as goal
+
+pub returns-then-self-eq0-clause-text : goal.returns-then-self-eq0-clause-text
+unfolding end_text
+returns-then-self-eq0-clause-text c =
+    let none = records_text-none c.args.self.now.left c.args.self.now.cpus c.args.self.now.draws end_text (omega arith) in
+    rw (c.requires.stage, c.of.ensures) none
+
+pub returns-clause-text : goal.returns-clause-text
+returns-clause-text c =
+    let more = records_text-more c.args.self.now.left (c.args.self.now.left - 1) c.args.self.now.cpus c.args.self.now.draws (omega arith) in
+    rw (c.requires.stage, c.record_line.ensures.value, c.draw.ensures.value, more) (append_assoc (record_text c.args.self.now.cpus (drawn c.args.self.now.draws))
+    (records_text (c.args.self.now.left - 1) c.args.self.now.cpus (drawn c.args.self.now.draws)) end_text)

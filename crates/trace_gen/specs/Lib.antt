@@ -1,0 +1,4 @@
+pub mod Draws
+pub mod Text
+pub mod Feed
+pub mod private
