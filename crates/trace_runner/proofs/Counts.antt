@@ -1,5 +1,21 @@
 -- Counts with a time and without, as answers to reads.
-use Rattle.std.proofs.Common.{◌≡◌, ℕ, ◌^◌, Bool, true, false, cond, ltb, leb, Option, Some, None, sym, ap, ◌∙◌}
+use Rattle.std.proofs.Common.{
+  ◌≡◌,
+  ℕ,
+  ◌^◌,
+  Bool,
+  true,
+  false,
+  cond,
+  ltb,
+  leb,
+  Option,
+  Some,
+  None,
+  sym,
+  ap,
+  ◌∙◌,
+}
 use Rattle.std.proofs.lemmas.Bool.{lt-ltb, le-ltb, le-leb, lt-leb}
 use Rattle.host_counter.specs.Time.{time_at, IsFaultAt}
 use Rattle.host_counter.specs.declared.TimeFault.{TimeFault}
@@ -11,7 +27,14 @@ use Rattle.reply_text.specs.Text.{page_text, clock_text}
 use Rattle.reply_text.specs.declared.ends.Refused.{Refused}
 use Rattle.reply_text.specs.declared.ends.Refused.TheVariants.{Fell, Range}
 use Rattle.trace_loop.specs.Progress.{Goes, Ends}
-use Rattle.trace_runner.specs.Records.{refused_count, refused_fault, read_answer, page_answer, clock_answer, stops}
+use Rattle.trace_runner.specs.Records.{
+  refused_count,
+  refused_fault,
+  read_answer,
+  page_answer,
+  clock_answer,
+  stops,
+}
 
 -- a count with a time isn't refused
 pub counted : (b : BoardParts) (h : ℕ) → HasTime b.anchor h → refused_count b h ≡ None

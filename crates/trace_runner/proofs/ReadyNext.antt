@@ -2,6 +2,8 @@
 use Rattle.std.proofs.Common.{
   ◌≡◌,
   ℕ,
+  zero,
+  suc,
   ◌+◌,
   Bool,
   true,
@@ -28,20 +30,29 @@ use Rattle.std.proofs.Common.{
 use Rattle.std.specs.Str.{bytes_eq}
 use Rattle.clk_units.specs.declared.NoMemory.{NoMemory}
 use Rattle.board_types.specs.declared.access.Access.{Access}
+use Rattle.board_types.specs.declared.access.Access.TheVariants.{Step}
 use Rattle.board_types.specs.declared.parts.BoardParts.{BoardParts}
 use Rattle.board_types.specs.declared.reply.Refusal.{Refusal}
+use Rattle.board_types.specs.declared.reply.Reply.{Reply}
 use Rattle.board_core.specs.Refusals.{refusal_of}
-use Rattle.board_core.specs.Pages.{after_clock}
+use Rattle.board_core.specs.Access.{after_access, reply_of}
+use Rattle.board_core.specs.Pages.{after_clock, published_at_host}
+use Rattle.board_core.specs.Reanchor.{reanchored}
 use Rattle.board_core.proofs.Laws.{after_access-cpus, after_access-format}
+use Rattle.transfer.specs.Move.{move_fault, moved_to, published_below}
+use Rattle.transfer.specs.declared.outcome.MoveFault.{MoveFault}
+use Rattle.transfer.proofs.Publishing.{published_below-cpus}
 use Rattle.edge_hooks.specs.declared.deliveries.Delivery.{Delivery}
 use Rattle.reply_text.specs.declared.ends.Refused.{Refused}
 use Rattle.trace_text.specs.Tokens.{words_of}
-use Rattle.trace_text.specs.Header.{first_line, header_line}
+use Rattle.trace_text.specs.Header.{first_line, header_line, cpus_of, format_of}
+use Rattle.trace_text.specs.declared.header.Begin.{Begin}
+use Rattle.trace_text.specs.declared.header.Begin.TheVariants.{Fresh, Saved}
 use Rattle.trace_text.specs.Records.{record_of}
 use Rattle.trace_text.specs.Lines.{
   limit_of,
   is_skipped,
-  Step,
+  Step as Stepped,
   step_of,
   stepped,
   part,
@@ -67,9 +78,22 @@ use Rattle.trace_text.specs.declared.reading.Item.{Item}
 use Rattle.trace_text.specs.declared.reading.Item.TheVariants.{Skipped, Part, Begun, Next, End}
 use Rattle.trace_text.specs.declared.reading.ReadingParts.{ReadingParts}
 use Rattle.trace_text.specs.declared.reading.Stage.{Stage}
-use Rattle.trace_text.specs.declared.reading.Stage.TheVariants.{Opening, Heading, Running, Ended, Refused as Stops}
+use Rattle.trace_text.specs.declared.reading.Stage.TheVariants.{
+  Opening,
+  Heading,
+  Running,
+  Ended,
+  Refused as Stops,
+}
 use Rattle.trace_loop.specs.Progress.{Answer, Goes, Ends, end_of, state_behind}
-use Rattle.trace_runner.specs.Records.{access_answer, read_answer, job_answer}
+use Rattle.trace_runner.specs.Records.{
+  access_answer,
+  read_answer,
+  saved_answer,
+  gap_answer,
+  moved_answer,
+  job_answer,
+}
 use Rattle.trace_runner.specs.Replay.{board_of, item_answer, with_board}
 use Rattle.trace_runner.specs.Ready.{IsRound, IsReady}
 use Rattle.trace_runner.specs.declared.replay.Replay.{Replay}
@@ -83,7 +107,16 @@ Onward (Begun header) t b = IsRound t (board_of header.begin)
 Onward (Next rec) t b = IsRound t b
 Onward End t b = Unit {0}
 
-abbrev Fits : BoardParts → Result Step Reason → Type 0
+-- the board with which a trace begins is that of its header
+begun-cpus : (b : Begin) → cpus_of b ≡ (board_of b).cpus
+begun-cpus (Fresh setup) = refl
+begun-cpus (Saved board) = refl
+
+begun-format : (b : Begin) → format_of b ≡ (board_of b).format
+begun-format (Fresh setup) = refl
+begun-format (Saved board) = refl
+
+abbrev Fits : BoardParts → Result Stepped Reason → Type 0
 Fits b (Ok step) = Onward step.item step.stage b
 Fits b (Err reason) = Unit {0}
 
@@ -101,7 +134,7 @@ module _ (text : List ℕ) (b : BoardParts) where
   stage_fits (Heading head) round = by_begin (bytes_eq text (codes "begin"))
     where
       by_begin : (t : Bool) → Fits b (cond t (Ok (begun head)) (part (header_line head (words_of text))))
-      by_begin true = (refl, refl)
+      by_begin true = (begun-cpus head.begin, begun-format head.begin)
       by_begin false = part_fits (header_line head (words_of text))
   stage_fits (Running body) round = by_end (bytes_eq text (codes "end"))
     where
@@ -152,13 +185,43 @@ same_read : (o : Option Refused) (line : ℕ) (text : List ℕ) (b b' : BoardPar
 same_read None line text b b' cpus format = (cpus, format)
 same_read (Some why) line text b b' cpus format = tt
 
+-- so do a save and a move
+same_save : (o : Option Refusal) (line cpu h : ℕ) (ds : List (Option Delivery)) (b : BoardParts) → Same b (saved_answer o line cpu h ds b)
+same_save None line cpu h ds b = (after_access-cpus b cpu h Step, after_access-format b cpu h Step)
+same_save (Some refusal) line cpu h ds b = tt
+
+published-format : (b : BoardParts) (khz start gap n : ℕ) (m : BoardParts) → (published_below b khz start gap n m).format ≡ m.format
+unfolding published_below published_at_host
+published-format b khz start gap zero m = refl
+published-format b khz start gap (suc n) m = published-format b khz start gap n m
+
+moved-cpus : (khz start gap : ℕ) (b : BoardParts) → (moved_to khz start gap b).cpus ≡ b.cpus
+unfolding moved_to reanchored
+moved-cpus khz start gap b = published_below-cpus b khz start gap b.cpus (reanchored khz start gap b)
+
+moved-format : (khz start gap : ℕ) (b : BoardParts) → (moved_to khz start gap b).format ≡ b.format
+unfolding moved_to reanchored
+moved-format khz start gap b = published-format b khz start gap b.cpus (reanchored khz start gap b)
+
+same_gap : (o : Option MoveFault) (line khz start gap : ℕ) (ds : List (Option Delivery)) (reply : Reply) (b b' : BoardParts)
+    → b'.cpus ≡ b.cpus → b'.format ≡ b.format → Same b (gap_answer o line khz start gap ds reply b')
+same_gap None line khz start gap ds reply b b' cpus format = (moved-cpus khz start gap b' ∙ cpus, moved-format khz start gap b' ∙ format)
+same_gap (Some fault) line khz start gap ds reply b b' cpus format = tt
+
+same_move : (o : Option Refusal) (line cpu h khz start gap : ℕ) (ds : List (Option Delivery)) (b : BoardParts)
+    → Same b (moved_answer o line cpu h khz start gap ds b)
+same_move None line cpu h khz start gap ds b =
+    same_gap (move_fault gap (after_access b cpu h Step)) line khz start gap ds (reply_of b cpu h Step) b (after_access b cpu h Step)
+    (after_access-cpus b cpu h Step) (after_access-format b cpu h Step)
+same_move (Some refusal) line cpu h khz start gap ds b = tt
+
 same_job : (line cpu h : ℕ) (job : Job) (ds : List (Option Delivery)) (b : BoardParts) → Same b (job_answer line cpu h job ds b)
 unfolding after_clock
 same_job line cpu h (Board a) ds b = same_access (refusal_of b cpu h a) line cpu h a ds b
 same_job line cpu h (Page page) ds b = same_read _ line _ b b refl refl
 same_job line cpu h (Clock page) ds b = same_read _ line _ b (after_clock b page h) refl refl
-same_job line cpu h Save ds b = tt
-same_job line cpu h (Move khz start gap) ds b = tt
+same_job line cpu h Save ds b = same_save (refusal_of b cpu h Step) line cpu h ds b
+same_job line cpu h (Move khz start gap) ds b = same_move (refusal_of b cpu h Step) line cpu h khz start gap ds b
 
 -- behind a record
 record_ready : (line : ℕ) (t : Stage) (r : Replay) (x : Answer BoardParts Verdict) → r.reading.lines ≡ line → r.reading.stage ≡ t → IsRound t r.board
@@ -186,7 +249,7 @@ item_ready line (Next rec) t r count is round none =
 item_ready line End t r count is round none = cc
 
 -- behind a step of the reader
-step_ready : (line n : ℕ) (x : Result Step Reason) (item : Item) (r : Replay) → n ≡ line → Fits r.board x → answer_in n x ≡ Ok item
+step_ready : (line n : ℕ) (x : Result Stepped Reason) (item : Item) (r : Replay) → n ≡ line → Fits r.board x → answer_in n x ≡ Ok item
     → (let r' : Replay = record r { reading = record { lines = n; stage = stage_behind n x } } in end_of (item_answer line item r') ≡ None
     → IsReady (line + 1) (state_behind (item_answer line item r') r'))
 step_ready line n (Err reason) item r count fit took = λ none. cc
@@ -202,7 +265,7 @@ pub ready_next : (line : ℕ) (r : Replay) (text : List ℕ) (item : Item) → I
 ready_next line r text item ready took =
     let n : ℕ = r.reading.lines + 1 in
     let none : fault_of r.reading.stage ≡ None = going r.reading.stage r.board ready.round in
-    let x : Result Step Reason = stepped r.reading.stage text in
+    let x : Result Stepped Reason = stepped r.reading.stage text in
     let answer_ : answer_in n x ≡ Ok item = ap (λ (o : Option RecordFault). answer_by o r.reading text) (sym none) ∙ took in
     let reading_ : behind text r.reading ≡ record { lines = n; stage = stage_behind n x } = ap (λ (o : Option RecordFault). behind_by o text r.reading) none in
     subst (λ (p : ReadingParts).

@@ -1,7 +1,12 @@
 -- What the status of a run over a trace says.
 use Rattle.std.proofs.Common.{◌≡◌, List, ℕ, Option}
 use Rattle.trace_loop.specs.declared.ended.Ended.{Ended}
-use Rattle.trace_loop.specs.declared.ended.Ended.TheVariants.{By, SourceFault as FailsSource, SinkFault as FailsSink, NoMemory as WantsMemory}
+use Rattle.trace_loop.specs.declared.ended.Ended.TheVariants.{
+  By,
+  SourceFault as FailsSource,
+  SinkFault as FailsSink,
+  NoMemory as WantsMemory,
+}
 use Rattle.trace_loop.specs.Outcome.{Run, Outcome}
 use Rattle.reply_text.specs.declared.ends.Refused.TheVariants.{
   Form,

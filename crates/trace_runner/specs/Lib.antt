@@ -1,8 +1,10 @@
-pub mod Command
 pub mod Deliveries
 pub mod Ready
 pub mod Records
 pub mod Replay
 pub mod Said
+pub mod Sayings
+pub mod Size
+pub mod Soak
 pub mod Status
 pub mod Text

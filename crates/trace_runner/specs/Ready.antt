@@ -1,5 +1,6 @@
 -- What is true of a replay before each line, so that its calls' conditions are met.
 use Rattle.std.specs.Prelude.{◌≡◌, ℕ, ◌+◌, ◌<◌, true}
+use Rattle.clk_units.specs.Ranges.{IsKhz}
 use Rattle.board_types.specs.Legal.{is_legal}
 use Rattle.board_types.specs.declared.parts.BoardParts.{BoardParts}
 use Rattle.trace_text.specs.Header.{IsBegin}
@@ -36,7 +37,7 @@ JobSuits (Board a) b = is_legal b.cpus b.format a ≡ true
 JobSuits (Page page) b = page < b.cpus
 JobSuits (Clock page) b = page < b.cpus
 JobSuits Save b = Unit {0}
-JobSuits (Move khz start gap) b = Unit {0}
+JobSuits (Move khz start gap) b = IsKhz khz
 
 -- and a line
 abbrev pub Suits : Item → BoardParts → Type 0

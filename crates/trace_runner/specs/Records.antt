@@ -7,6 +7,7 @@ use Rattle.host_counter.specs.declared.TimeFault.TheVariants.{
   OutOfRange as FaultOutOfRange,
 }
 use Rattle.board_types.specs.declared.access.Access.{Access}
+use Rattle.board_types.specs.declared.access.Access.TheVariants.{Step}
 use Rattle.board_types.specs.declared.parts.BoardParts.{BoardParts}
 use Rattle.board_types.specs.declared.reply.Reply.{Reply}
 use Rattle.board_types.specs.declared.reply.Refusal.{Refusal}
@@ -16,11 +17,27 @@ use Rattle.board_types.specs.declared.reply.Refusal.TheVariants.{
   VersionsSpent,
   Spent as AccessesSpent,
 }
+use Rattle.board_devices.specs.Run.{run}
+use Rattle.board_core.specs.Time.{devices_in, now_of}
 use Rattle.board_core.specs.Access.{after_access, reply_of}
 use Rattle.board_core.specs.Refusals.{refusal_of}
 use Rattle.board_core.specs.Pages.{page_reply, clock_reply, after_clock}
 use Rattle.edge_hooks.specs.declared.deliveries.Delivery.{Delivery}
-use Rattle.reply_text.specs.Text.{board_text, page_text, clock_text, refused_text}
+use Rattle.transfer.specs.Move.{move_fault, moved_to}
+use Rattle.transfer.specs.declared.outcome.MoveFault.{MoveFault}
+use Rattle.transfer.specs.declared.outcome.MoveFault.TheVariants.{
+  OutOfRange as GapOutOfRange,
+  VersionsSpent as PageSpent,
+}
+use Rattle.save_state.specs.Writing.{bytes_of}
+use Rattle.reply_text.specs.Text.{
+  board_text,
+  page_text,
+  clock_text,
+  save_text,
+  move_text,
+  refused_text,
+}
 use Rattle.reply_text.specs.declared.ends.Refused.{Refused}
 use Rattle.reply_text.specs.declared.ends.Refused.TheVariants.{
   Form,
@@ -34,7 +51,6 @@ use Rattle.reply_text.specs.declared.ends.Refused.TheVariants.{
   Range,
   Versions,
   Spent,
-  NotBuilt,
 }
 use Rattle.trace_text.specs.declared.faults.Reason.{Reason}
 use Rattle.trace_text.specs.declared.faults.Reason.TheVariants.{
@@ -118,11 +134,58 @@ clock_answer line page h b =
     read_answer (refused_count b h) line (clock_text line (clock_reply b page h))
     (after_clock b page h)
 
--- a record, by what it does; saves and moves aren't built yet
+-- a save: time passes by an access, and the state behind it is printed
+abbrev pub save_block : ℕ → List (Option Delivery) → Reply → BoardParts → List ℕ
+save_block line ds reply b = edges_text ds reply.edges ++ save_text line reply.number (bytes_of b)
+
+abbrev pub saved_answer : Option Refusal → ℕ → ℕ → ℕ → List (Option Delivery) → BoardParts
+    → Answer BoardParts Verdict
+saved_answer (Some refusal) line cpu h ds b = Ends (stops line (refused_access refusal))
+saved_answer None line cpu h ds b =
+    Goes (save_block line ds (reply_of b cpu h Step) (after_access b cpu h Step))
+    (after_access b cpu h Step)
+
+abbrev pub save_answer : ℕ → ℕ → ℕ → List (Option Delivery) → BoardParts
+    → Answer BoardParts Verdict
+save_answer line cpu h ds b = saved_answer (refusal_of b cpu h Step) line cpu h ds b
+
+-- a move that is refused: the time behind the gap, or the version of a page
+abbrev pub refused_move : MoveFault → Refused
+refused_move (GapOutOfRange ns) = Range ns
+refused_move (PageSpent cpu version) = Versions version
+
+-- a move: time passes by an access, which gave this reply; then the board runs over the gap and goes
+-- on at the new host. The edges of the access are printed, those of the gap, and the time behind it
+abbrev pub move_block : ℕ → ℕ → List (Option Delivery) → Reply → BoardParts → BoardParts → List ℕ
+move_block line gap ds reply b moved =
+    edges_text ds reply.edges
+    ++ edges_text ds (run (now_of b) gap (devices_in b)).edges
+    ++ move_text line reply.number (now_of moved)
+
+abbrev pub gap_answer : Option MoveFault → ℕ → ℕ → ℕ → ℕ → List (Option Delivery) → Reply
+    → BoardParts → Answer BoardParts Verdict
+gap_answer (Some fault) line khz start gap ds reply b = Ends (stops line (refused_move fault))
+gap_answer None line khz start gap ds reply b =
+    Goes (move_block line gap ds reply b (moved_to khz start gap b)) (moved_to khz start gap b)
+
+abbrev pub moved_answer : Option Refusal → ℕ → ℕ → ℕ → ℕ → ℕ → ℕ → List (Option Delivery)
+    → BoardParts → Answer BoardParts Verdict
+moved_answer (Some refusal) line cpu h khz start gap ds b =
+    Ends (stops line (refused_access refusal))
+moved_answer None line cpu h khz start gap ds b =
+    gap_answer (move_fault gap (after_access b cpu h Step)) line khz start gap ds
+    (reply_of b cpu h Step) (after_access b cpu h Step)
+
+abbrev pub move_answer : ℕ → ℕ → ℕ → ℕ → ℕ → ℕ → List (Option Delivery) → BoardParts
+    → Answer BoardParts Verdict
+move_answer line cpu h khz start gap ds b =
+    moved_answer (refusal_of b cpu h Step) line cpu h khz start gap ds b
+
+-- a record, by what it does
 abbrev pub job_answer : ℕ → ℕ → ℕ → Job → List (Option Delivery) → BoardParts
     → Answer BoardParts Verdict
 job_answer line cpu h (Board a) ds b = board_answer line cpu h a ds b
 job_answer line cpu h (Page page) ds b = page_answer line page h b
 job_answer line cpu h (Clock page) ds b = clock_answer line page h b
-job_answer line cpu h Save ds b = Ends (stops line NotBuilt)
-job_answer line cpu h (Move khz start gap) ds b = Ends (stops line NotBuilt)
+job_answer line cpu h Save ds b = save_answer line cpu h ds b
+job_answer line cpu h (Move khz start gap) ds b = move_answer line cpu h khz start gap ds b

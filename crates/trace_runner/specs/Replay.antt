@@ -1,16 +1,30 @@
 -- What the lines of a trace do, and what is printed for a trace.
-use Rattle.std.specs.Prelude.{ℕ, take, replicate, List, [], None, Result, Ok, Err}
+use Rattle.std.specs.Prelude.{
+  ℕ,
+  Bool,
+  take,
+  replicate,
+  List,
+  [],
+  ◌++◌,
+  None,
+  Result,
+  Ok,
+  Err,
+  if◌then◌else◌,
+}
 use Rattle.board_types.specs.declared.setup.Setup.{Setup}
 use Rattle.board_types.specs.declared.parts.BoardParts.{BoardParts}
 use Rattle.board_devices.specs.Lines.{levels}
 use Rattle.board_core.specs.Time.{devices_in, now_of}
 use Rattle.board_core.specs.PowerOn.{board_at_power_on}
-use Rattle.reply_text.specs.Text.{final_text}
+use Rattle.save_state.specs.Writing.{bytes_of}
+use Rattle.reply_text.specs.Text.{final_text, state_text}
 use Rattle.tick_policy.specs.declared.parts.Policy.TheVariants.{Delay}
 use Rattle.trace_text.specs.Lines.{at_start as reading_at_start, taken, behind, end_fault}
 use Rattle.trace_text.specs.declared.faults.RecordFault.{RecordFault}
 use Rattle.trace_text.specs.declared.header.Begin.{Begin}
-use Rattle.trace_text.specs.declared.header.Begin.TheVariants.{Fresh}
+use Rattle.trace_text.specs.declared.header.Begin.TheVariants.{Fresh, Saved}
 use Rattle.trace_text.specs.declared.reading.Item.{Item}
 use Rattle.trace_text.specs.declared.reading.Item.TheVariants.{Skipped, Part, Begun, Next, End}
 use Rattle.trace_text.specs.declared.records.Record.{Record}
@@ -34,6 +48,7 @@ use Rattle.trace_runner.specs.declared.status.Verdict.TheVariants.{Done}
 -- the board with which a trace begins
 abbrev pub board_of : Begin → BoardParts
 board_of (Fresh setup) = board_at_power_on setup
+board_of (Saved board) = board
 
 -- before the first line; the board is one that no line asks
 abbrev pub opening : Setup
@@ -51,17 +66,22 @@ opening = record {
   time = record { sec = 0; min = 0; hour = 0; wday = 1; date = 1; month = 1; year = 0 };
 }
 
-abbrev pub at_start : Replay
-at_start = record {
+abbrev pub at_start : Bool → Replay
+at_start shows_state = record {
   reading = reading_at_start;
+  shows_state = shows_state;
   board = board_at_power_on opening;
   deliveries = replicate 6 None;
 }
 
 -- the line that ends a trace: the time, the accesses, the greatest clock reading, the lines that are up
-abbrev pub ended : BoardParts → Closing Verdict
-ended b = record {
-  text = final_text (now_of b) b.accesses b.greatest (record { levels = levels (devices_in b) });
+abbrev pub final_of : BoardParts → List ℕ
+final_of b = final_text (now_of b) b.accesses b.greatest (record { levels = levels (devices_in b) })
+
+-- and behind it, where that is asked, the board's state
+abbrev pub ended : Bool → BoardParts → Closing Verdict
+ended shows_state b = record {
+  text = if shows_state then final_of b ++ state_text (bytes_of b) else final_of b;
   end = Done;
 }
 
@@ -83,7 +103,7 @@ item_answer line (Begun header) r = Goes [] (record r {
   deliveries = deliveries_of header.routes;
 })
 item_answer line (Next rec) r = record_answer line rec r
-item_answer line End r = Ends (ended r.board)
+item_answer line End r = Ends (ended r.shows_state r.board)
 
 -- or that it is refused
 abbrev pub taken_answer : ℕ → Result Item RecordFault → Replay → Answer Replay Verdict
@@ -100,18 +120,18 @@ abbrev pub closing_of : ℕ → Replay → Closing Verdict
 closing_of line r = stops (end_fault r.reading).line (refused_by (end_fault r.reading).reason)
 
 -- all that a replay knows and has printed behind some bytes of a trace
-unfoldable pub progress_behind : List ℕ → Progress Replay Verdict
-progress_behind bytes = heard_behind answer_of bytes (opened at_start)
+unfoldable pub progress_behind : Bool → List ℕ → Progress Replay Verdict
+progress_behind shows_state bytes = heard_behind answer_of bytes (opened (at_start shows_state))
 
 -- what is printed for a trace, and how it ends
-unfoldable pub replay : List ℕ → Closing Verdict
-replay bytes = finished answer_of closing_of (progress_behind bytes)
+unfoldable pub replay : Bool → List ℕ → Closing Verdict
+replay shows_state bytes = finished answer_of closing_of (progress_behind shows_state bytes)
 
 -- the run of a replay over an input, of which so many bytes were given, and so many before the last call
-abbrev pub replay_run : List ℕ → ℕ → ℕ → ℕ → ℕ → Run Replay Verdict
-replay_run input before given faults faults_now = record {
-  at = λ k. progress_behind (take k input);
-  whole = replay input;
+abbrev pub replay_run : Bool → List ℕ → ℕ → ℕ → ℕ → ℕ → Run Replay Verdict
+replay_run shows_state input before given faults faults_now = record {
+  at = λ k. progress_behind shows_state (take k input);
+  whole = replay shows_state input;
   before = before;
   given = given;
   faults = faults;

@@ -1,7 +1,33 @@
 //! Where the rises of lines go, and the lines of edges.
-ghost use Rattle.std.specs.Prelude.{◌≡◌, ◌<◌, ◌++◌, ◌||◌, map, slice_index_or, Some, None, OnOk, OnErr, OnSome, IsTrue, is_some, if◌then◌else◌, unwrap_or};
+ghost use Rattle.std.specs.Prelude.{
+  ◌≡◌,
+  ◌<◌,
+  ◌++◌,
+  ◌||◌,
+  map,
+  slice_index_or,
+  Some,
+  None,
+  OnOk,
+  OnErr,
+  OnSome,
+  IsTrue,
+  is_some,
+  if◌then◌else◌,
+  unwrap_or,
+};
 ghost use Rattle.std.specs.Io.{StartsWith};
-ghost use Rattle.trace_runner.specs.Deliveries.{there, any_route, by_default, filled, six, deliveries_of, delivery_to, delivery_of, edges_text};
+ghost use Rattle.trace_runner.specs.Deliveries.{
+  there,
+  any_route,
+  by_default,
+  filled,
+  six,
+  deliveries_of,
+  delivery_to,
+  delivery_of,
+  edges_text,
+};
 
 use clk_units::NoMemory;
 use edge_hooks::Delivery;

@@ -38,12 +38,15 @@
 //! ```
 #![tactic(auto)]
 
-mod command;
 mod deliveries;
+mod generate;
+mod moves;
 mod program;
 mod records;
 mod replay;
+mod soak;
 mod status;
+mod texts;
 
 pub use program::run;
 pub use status::Status;

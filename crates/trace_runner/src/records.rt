@@ -7,10 +7,11 @@ ghost use Rattle.trace_runner.specs.Records.{job_answer, board_answer, page_answ
 ghost use Rattle.trace_runner.specs.Ready.{JobSuits};
 
 use crate::deliveries::{Deliveries, edge_lines};
+use crate::moves::{NewHost, answer_move, answer_save};
 use crate::status::{Verdict, refuse, refused_access, refused_time};
 use board_core::{Access, BoardState};
 use clk_units::NoMemory;
-use reply_text::{Refused, board_line, clock_line, page_line};
+use reply_text::{board_line, clock_line, page_line};
 use trace_text::{Job, Record};
 
 /// Answers a record: appends its block, or refuses it. After an `Err` the text begins as it was.
@@ -37,7 +38,11 @@ pub(crate) fn answer(
         }
         Job::Page { page } => answer_page(line, page, record.h, board, out),
         Job::Clock { page } => answer_clock(line, page, record.h, board, out),
-        Job::Save | Job::Move { .. } => refuse(line, Refused::NotBuilt, out),
+        Job::Save => answer_save(line, record.cpu, record.h, board, deliveries, out),
+        Job::Move { khz, start, gap } => {
+            let host = NewHost { khz, start, gap };
+            answer_move(line, record.cpu, record.h, host, board, deliveries, out)
+        }
     }
 }
 

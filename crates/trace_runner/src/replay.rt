@@ -5,8 +5,8 @@ ghost use Rattle.trace_loop.specs.Progress.{printed, end_of, state_behind};
 ghost use Rattle.trace_text.specs.Lines.{at_start as reading_at_start};
 ghost use Rattle.trace_runner.specs.Deliveries.{deliveries_of};
 ghost use Rattle.trace_runner.specs.Records.{stops};
-ghost use Rattle.trace_runner.specs.Replay.{board_of, item_answer, record_answer, opening, ended};
-ghost use Rattle.trace_runner.specs.Ready.{Suits, JobSuits};
+ghost use Rattle.trace_runner.specs.Replay.{answer_of, board_of, item_answer, record_answer, opening, ended};
+ghost use Rattle.trace_runner.specs.Ready.{IsReady, Suits};
 
 use crate::deliveries::{Deliveries, deliveries_of};
 use crate::records;
@@ -14,8 +14,9 @@ use crate::status::{Verdict, refuse, refused_by, stop};
 use board_core::{BoardState, Setup};
 use clk_units::NoMemory;
 use host_counter::Anchor;
-use reply_text::final_line;
+use reply_text::{final_line, state_line};
 use rtc_calendar::TimeBytes;
+use save_state::encode;
 use tick_policy::Policy;
 use trace_loop::Answerer;
 use trace_text::{Begin, Header, Item, Reading, Record};
@@ -25,6 +26,8 @@ use trace_text::{Begin, Header, Item, Reading, Record};
 pub(crate) struct Replay {
     /// The reader of its lines.
     pub(crate) reading: Reading,
+    /// Whether the board's state is shown at the end.
+    pub(crate) shows_state: bool,
     /// The board; before `begin` one that no line asks.
     pub(crate) board: BoardState,
     /// Where rises go, where the header has routes.
@@ -65,12 +68,13 @@ fn opening() -> Setup
 impl Replay {
     ghost use Rattle.trace_runner.specs.Replay.{at_start};
 
-    /// Before the first line of a trace.
-    pub(crate) fn new() -> Replay
-        ensures { result ≡ at_start }
+    /// Before the first line of a trace, at whose end the board's state is shown or not.
+    pub(crate) fn new(shows_state: bool) -> Replay
+        ensures { result ≡ at_start shows_state }
     {
         Replay {
             reading: Reading::new(),
+            shows_state,
             board: BoardState::power_on(&opening()),
             deliveries: [None; 6],
         }
@@ -82,9 +86,11 @@ impl Replay {
         ensures board { self.new.board ≡ board_of header.now.begin }
         ensures deliveries { self.new.deliveries ≡ deliveries_of header.now.routes }
         ensures reading { self.new.reading ≡ self.old.reading }
+        ensures shows_state { self.new.shows_state ≡ self.old.shows_state }
     {
         match header.begin {
             Begin::Fresh(setup) => self.board = BoardState::power_on(&setup),
+            Begin::Saved(board) => self.board = board,
         }
         self.deliveries = deliveries_of(&header.routes);
     }
@@ -110,21 +116,67 @@ impl Replay {
                 self.begin(header);
                 Ok(None)
             }
-            Item::Next(record) => {
-                records::answer(line, record, &mut self.board, &self.deliveries, out)
-            }
+            Item::Next(record) => self.answer_record(line, record, out),
             Item::End => {
-                end(&self.board, out)?;
+                end(&self.board, self.shows_state, out)?;
                 Ok(Some(Verdict::Done))
             }
         }
     }
 }
 
-/// Appends the line that ends a trace.
-fn end(board: &BoardState, out: &mut Vec<u8>) -> Result<(), NoMemory>
-    ensures printed { OnOk result (out.new.items ≡ out.old.items ++ (ended board.now).text) }
-    ensures err { OnErr result (out.new.items ≡ out.old.items) }
+impl Replay {
+    /// Answers a record.
+    fn answer_record(
+        &mut self,
+        line: u64,
+        record: &Record,
+        out: &mut Vec<u8>,
+    ) -> Result<Option<Verdict>, NoMemory>
+        requires { Suits (Item.Next record.now) self.old.board }
+        ensures printed { OnOk result
+            (out.new.items ≡ out.old.items ++ printed (record_answer line record.now self.old)) }
+        ensures ends { IfOk result (λ end. end ≡ end_of (record_answer line record.now self.old)) }
+        ensures state { IfOk result (λ end. end ≡ None
+            → self.new ≡ state_behind (record_answer line record.now self.old) self.old) }
+        ensures err { OnErr result (StartsWith out.new.items out.old.items) }
+    {
+        records::answer(line, record, &mut self.board, &self.deliveries, out)
+    }
+
+    /// Answers a line that is no record, or one that is refused. It stands apart, since its item has room for a board,
+    /// which a call clears as it begins.
+    #[cold]
+    #[inline(never)]
+    #[tactic(auto, unfolding(crate::specs::Replay::answer_of))]
+    fn answer_other(
+        &mut self,
+        line: u64,
+        text: &[u8],
+        out: &mut Vec<u8>,
+    ) -> Result<Option<Verdict>, NoMemory>
+        requires room { line < 2 ^ 63 }
+        requires may { IsReady line self.old }
+        ensures printed { OnOk result
+            (out.new.items ≡ out.old.items ++ printed (answer_of line self.old text.now)) }
+        ensures ends { IfOk result (λ end. end ≡ end_of (answer_of line self.old text.now)) }
+        ensures state { IfOk result (λ end. end ≡ None
+            → self.new ≡ state_behind (answer_of line self.old text.now) self.old) }
+        ensures may { IfOk result (λ end. end ≡ None → IsReady (line + 1) self.new) }
+        ensures err { OnErr result (StartsWith out.new.items out.old.items) }
+    {
+        match self.reading.take_line(text) {
+            Ok(item) => self.answer_item(line, &item, out),
+            Err(fault) => refuse(fault.line, refused_by(fault.reason), out),
+        }
+    }
+}
+
+/// Appends what ends a trace: its last line, and the state where it is shown.
+fn end(board: &BoardState, shows_state: bool, out: &mut Vec<u8>) -> Result<(), NoMemory>
+    ensures printed { OnOk result
+        (out.new.items ≡ out.old.items ++ (ended shows_state board.now).text) }
+    ensures err { OnErr result (StartsWith out.new.items out.old.items) }
 {
     final_line(
         board.now(),
@@ -132,7 +184,12 @@ fn end(board: &BoardState, out: &mut Vec<u8>) -> Result<(), NoMemory>
         board.greatest(),
         board.lines(),
         out,
-    )
+    )?;
+    if shows_state {
+        let bytes = encode(*out.allocator(), board)?;
+        state_line(&bytes, out)?;
+    }
+    Ok(())
 }
 
 impl Answerer<Verdict> for Replay {
@@ -152,10 +209,10 @@ impl Answerer<Verdict> for Replay {
         text: &[u8],
         out: &mut Vec<u8>,
     ) -> Result<Option<Verdict>, NoMemory> {
-        match self.reading.take_line(text) {
-            Ok(item) => self.answer_item(line, &item, out),
-            Err(fault) => refuse(fault.line, refused_by(fault.reason), out),
+        if let Some(record) = self.reading.take_record(text) {
+            return self.answer_record(line, &record, out);
         }
+        self.answer_other(line, text, out)
     }
 
     fn close(&mut self, _line: u64, out: &mut Vec<u8>) -> Result<Verdict, NoMemory> {

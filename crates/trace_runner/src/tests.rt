@@ -4,6 +4,7 @@
 ghost use Rattle.std.specs.Prelude.{◌<◌};
 
 use super::*;
+use crate::texts::HELP;
 use board_io::{MemSink, MemSource, OpenGate};
 use std::alloc::{AllocError, Global};
 use std::process::Abort;
@@ -210,10 +211,14 @@ fn the_first_line_outside_ends_a_trace(rt: HostRuntime) -> Result<(), Fail> {
             },
             b"refused 3 range 576460752303423488\n",
         ),
+        // A move whose gap ends behind the range prints nothing but its refusal, not the rise before it.
         (
-            b"clockboard 1\nbegin\n0 0 save\nend\n",
-            Status::NotBuilt { line: 3 },
-            b"refused 3 notbuilt\n",
+            b"clockboard 1\nbegin\n0 0 out 43 10\n0 0 out 40 01\n0 2000 move 1000000 0 576460752303421488\nend\n",
+            Status::OutOfRange {
+                line: 5,
+                ns: 576_460_752_303_423_488,
+            },
+            b"3 1\n4 2\nrefused 5 range 576460752303423488\n",
         ),
     ];
     for (trace, status, text) in traces {
@@ -234,22 +239,60 @@ fn the_first_line_outside_ends_a_trace(rt: HostRuntime) -> Result<(), Fail> {
 #[test]
 fn words(rt: HostRuntime) -> Result<(), Fail> {
     let usage = b"usage: clockboard replay|race [--state] | gen|soak KEY RECORDS CPUS\n";
-    let unknown: [&[&str]; 4] = [&[], &["replay", "5"], &["Replay"], &["replay", "--state"]];
+    let unknown: [&[&str]; 4] = [&[], &["replay", "5"], &["Replay"], &["gen", "1", "1"]];
     for words in unknown {
         expect(&rt, words, FIRST_RISE, &WELL, Status::Usage, usage)?;
     }
-    let later: [&[&str]; 3] = [&["race"], &["gen", "1", "1"], &["soak"]];
-    for words in later {
-        let status = Status::NotBuilt { line: 0 };
-        expect(
-            &rt,
-            words,
-            FIRST_RISE,
-            &WELL,
-            status,
-            b"refused 0 notbuilt\n",
-        )?;
-    }
+    let status = Status::NotBuilt { line: 0 };
+    expect(
+        &rt,
+        &["race"],
+        FIRST_RISE,
+        &WELL,
+        status,
+        b"refused 0 notbuilt\n",
+    )?;
+    expect(
+        &rt,
+        &["--version"],
+        b"",
+        &WELL,
+        Status::Ok,
+        b"clockboard 0.1.0\n",
+    )?;
+    expect(&rt, &["--help"], b"", &WELL, Status::Ok, HELP)?;
+    Ok(())
+}
+
+/// A generated trace of one record, as the format gives it for the key 1.
+const GENERATED: &[u8] =
+    b"clockboard 1\nguest 2000000\ncpus 1\nbegin\n0 0 wrmsr 4b564d01 1\n0 0 hw 10 4 1\n0 34774 step\nend\n";
+
+#[test]
+fn generated_traces(rt: HostRuntime) -> Result<(), Fail> {
+    expect(
+        &rt,
+        &["gen", "1", "1", "1"],
+        b"",
+        &WELL,
+        Status::Ok,
+        GENERATED,
+    )?;
+    let sum = b"soak 1 0 34774 0\n";
+    expect(&rt, &["soak", "1", "1", "1"], b"", &WELL, Status::Ok, sum)?;
+    Ok(())
+}
+
+/// A guest of 2 GHz that is moved to a host of 3 GHz, over a second (the numbers are worked out in transfer's tests).
+const MOVED: &[u8] =
+    b"clockboard 1\nguest 2000000\nbegin\n0 0 out 43 34\n0 0 out 40 00\n0 0 out 40 00\n0 0 wrmsr 4b564d01 1\n0 1000 clock 0\n0 2000 move 3000000 500 1000000000\n0 3500 clock 0\n0 3500 counts pit\nend\n";
+
+const MOVED_TEXT: &[u8] =
+    b"4 1\n5 2\n6 3\n7 4\n8 clock 1000 1000\nedge 54926240 0 up\n9 5 moved 1000002000\n10 clock 1000003000 1000003000\n11 6 18 1 17 0\nfinal 1000003000 6 1000003000 0\n";
+
+#[test]
+fn a_guest_that_is_moved(rt: HostRuntime) -> Result<(), Fail> {
+    expect(&rt, &["replay"], MOVED, &WELL, Status::Ok, MOVED_TEXT)?;
     Ok(())
 }
 

@@ -1,4 +1,16 @@
-use Rattle.std.proofs.Common.{◌++◌, List, ℕ, false, Option, get_or, take, sym, ap, ◌∙◌, append_assoc}
+use Rattle.std.proofs.Common.{
+  ◌++◌,
+  List,
+  ℕ,
+  false,
+  Option,
+  get_or,
+  take,
+  sym,
+  ap,
+  ◌∙◌,
+  append_assoc,
+}
 use Rattle.irq_edges.specs.declared.edges.Edge.{Edge}
 use Rattle.edge_hooks.specs.declared.deliveries.Delivery.{Delivery}
 use Rattle.reply_text.specs.Text.{edge_text}

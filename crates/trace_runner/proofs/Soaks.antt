@@ -1,0 +1,131 @@
+-- Lemmas on soaks.
+use Rattle.std.proofs.Common.{
+  ◌≡◌,
+  ℕ,
+  ◌==◌,
+  ltb,
+  Bool,
+  true,
+  false,
+  cond,
+  List,
+  [],
+  ◌∷◌,
+  ◌++◌,
+  length,
+  take,
+  drop,
+  Option,
+  Some,
+  None,
+  inl,
+  inr,
+  refl,
+  ap,
+  subst,
+  ◌∙◌,
+}
+use Rattle.std.proofs.Math.Seq.{take-append_seam, drop-append_seam}
+use Rattle.std.specs.Io.KnownBytes.{Appends}
+use Rattle.board_io.specs.Faults.{Rose}
+use Rattle.trace_loop.specs.Text.{memory_fault_text}
+use Rattle.trace_loop.specs.Progress.{
+  limit_of,
+  Answer,
+  Goes,
+  Ends,
+  Progress,
+  printed,
+  end_of,
+  told,
+  answered,
+  checked,
+  heard,
+  heard_until,
+  behind,
+}
+use Rattle.trace_loop.specs.Outcome.{Begins, Run, Outcome}
+use Rattle.trace_loop.specs.declared.ended.Ended.{Ended}
+use Rattle.trace_loop.specs.declared.ended.Ended.TheVariants.{
+  By,
+  SourceFault as FailsSource,
+  SinkFault as FailsSink,
+  NoMemory as WantsMemory,
+}
+use Rattle.trace_runner.specs.Replay.{answer_of}
+use Rattle.trace_runner.specs.Soak.{sum_of, sum_text, soaked, soak_answer, Soaked}
+use Rattle.trace_runner.specs.Status.{verdict_status, status_of}
+use Rattle.trace_runner.specs.declared.replay.Replay.{Replay}
+use Rattle.trace_runner.specs.declared.soak.Soak.{Soak}
+use Rattle.trace_runner.specs.declared.status.Verdict.{Verdict}
+
+-- a line that ends the trace
+pub soaked-ends : (a : Answer Replay Verdict) (s : Soak) (v : Verdict) → end_of a ≡ Some v
+    → soaked a s ≡ Ends (record { text = sum_text v (printed a) (sum_of s); end = v })
+soaked-ends (Goes block r) s v e = cc
+soaked-ends (Ends closing) s v e = cc
+
+-- a text in the place of what stands behind another
+pub in_place : (front old new : List ℕ) (whole : ℕ) (f : List ℕ → List ℕ) → whole ≡ length front
+    → new ≡ take whole (front ++ old) ++ f (drop whole (front ++ old))
+    → new ≡ front ++ f old
+in_place front old new whole f is_whole is_new = rw (is_new, is_whole, take-append_seam front old, drop-append_seam front old) refl
+
+-- nothing is printed before the trace has ended
+abbrev pub IsQuiet : Progress Soak Verdict → Type 0
+IsQuiet s = s.end ≡ None → s.printed ≡ []
+
+quiet-told : (a : Answer Replay Verdict) (k : Soak) (s : Progress Soak Verdict) → s.printed ≡ [] → IsQuiet (told (soaked a k) s)
+quiet-told (Goes block r) k s e = λ _. rw e refl
+quiet-told (Ends closing) k s e = λ none. cc
+
+quiet-answered : (s : Progress Soak Verdict) → s.printed ≡ [] → IsQuiet (answered soak_answer s)
+unfolding soak_answer
+quiet-answered s e = quiet-told (answer_of s.line s.state.replay s.text) s.state s e
+
+quiet-cond : (t : Bool) (a b : Progress Soak Verdict) → IsQuiet a → IsQuiet b → IsQuiet (cond t a b)
+quiet-cond true a b x y = x
+quiet-cond false a b x y = y
+
+quiet-heard : (b : ℕ) (s : Progress Soak Verdict) → s.printed ≡ [] → IsQuiet (heard soak_answer b s)
+quiet-heard b s e =
+    let longer : Progress Soak Verdict = record s { text = s.text ++ b ∷ [] } in
+    quiet-cond (b == 10) (answered soak_answer s) (checked soak_answer longer) (quiet-answered s e)
+    (quiet-cond (ltb (limit_of longer.text) (length longer.text)) (answered soak_answer longer) longer (quiet-answered longer e) (λ _. e))
+
+quiet-until : (end : Option Verdict) (b : ℕ) (s : Progress Soak Verdict) → s.end ≡ end → IsQuiet s → IsQuiet (heard_until soak_answer end b s)
+quiet-until None b s is h = quiet-heard b s (h is)
+quiet-until (Some v) b s is h = h
+
+-- whatever comes
+pub quiet-behind : (bytes : List ℕ) (s : Progress Soak Verdict) → IsQuiet s → IsQuiet (behind soak_answer bytes s)
+quiet-behind [] s h = h
+quiet-behind (b ∷ bs) s h = quiet-behind bs (heard_until soak_answer s.end b s) (quiet-until s.end b s refl h)
+
+-- what a run has left that printed nothing before its end, over a source that has no fault
+pub soaked_is : (w : Run Soak Verdict) (e : Ended Verdict) (old new : Option (List ℕ)) (shown : Type 0)
+    → ((k : ℕ) → IsQuiet (w.at k))
+    → (Rose w.faults w.faults_now → ⊥)
+    → (e ≡ FailsSink → shown)
+    → Outcome w e old new
+    → Soaked w.whole (status_of e) old new shown
+soaked_is w (By v) old new shown quiet calm failed o =
+    inl (inl (ap verdict_status o.0, subst (λ (t : List ℕ). Appends old new t) o.1.1.0 o.1.2))
+soaked_is w FailsSource old new shown quiet calm failed o = absurd (calm o.1.2)
+soaked_is w WantsMemory old new shown quiet calm failed o =
+    inr (inl (refl, subst (λ (t : List ℕ). Appends old new t) (o.1.1 ∙ ap (λ (l : List ℕ). l ++ memory_fault_text) (quiet o.1.0 o.1.4)) o.2))
+soaked_is w FailsSink old new shown quiet calm failed o = elim o.1.1.1 [
+  | inl whole ↦ inl (inr (refl, failed refl, (o.0, subst (λ (t : List ℕ). Begins o.0 t) whole.0 o.1.1.2, o.2)))
+  | inr fault ↦ elim fault [
+    | inl source ↦ absurd (calm source.2)
+    | inr memory ↦ inr (inr (
+      refl,
+      failed refl,
+      (
+        o.0,
+        subst (λ (t : List ℕ). Begins o.0 t) (memory.1 ∙ ap (λ (l : List ℕ). l ++ memory_fault_text) (quiet memory.0 memory.4)) o.1.1.2,
+        o.2,
+      ),
+    ))
+  ]
+]

@@ -1,0 +1,39 @@
+use Rattle.std.proofs.Common.{ℕ, List, ◌++◌, take, drop, refl, sym, subst, ◌∙◌, inr, arith}
+use Rattle.std.specs.Io.KnownBytes.{Appends}
+use Rattle.std.proofs.KnownBytes.{Appends-trans}
+use Rattle.board_io.specs.Faults.{Rose}
+use Rattle.trace_runner.proofs.Pieces.{filled_front, piece_more, piece_cut}
+use Rattle.trace_runner.proofs.generate.generate.Goals as goal
+
+pub pieces-preserved : goal.pieces-preserved
+pieces-preserved g c =
+    let contents = g.K.Sink.contents in
+    let n : ℕ = c.fill-n.result in
+    let left : List ℕ = c.pieces.generator in
+    let put : List ℕ = c.pieces.invariant.0 in
+    let front = filled_front left c.pieces.piece c.fill-n.new.into n (omega arith) c.fill-n.ensures.bytes in (
+      put ++ take n left,
+      rw c.fill-n.ensures.rest (piece_more _ put left n c.pieces.invariant.1),
+      Appends-trans (contents c.args.sink.now) (contents c.pieces.sink) (contents c.put_all.new.sink) put (take n left) c.pieces.invariant.2
+          (subst (λ (l : List ℕ). Appends (contents c.pieces.sink) (contents c.put_all.new.sink) l) front c.in-Ok.ensures.all),
+      c.in-Ok.ensures.well ∙ c.pieces.invariant.3,
+    )
+
+pub returns-in-Err-clause-said : goal.returns-in-Err-clause-said
+returns-in-Err-clause-said g c =
+    let contents = g.K.Sink.contents in
+    let n : ℕ = c.fill-n.result in
+    let left : List ℕ = c.pieces.generator in
+    let put : List ℕ = c.pieces.invariant.0 in
+    let cut : List ℕ = c.in-Err.ensures.cut.0 in
+    let more : List ℕ = c.in-Err.ensures.cut.1.0 in
+    let front = filled_front left c.pieces.piece c.fill-n.new.into n (omega arith) c.fill-n.ensures.bytes in
+    inr (
+      refl,
+      subst (λ (k : ℕ). Rose k (g.K.Sink.faults c.put_all.new.sink)) c.pieces.invariant.3 c.in-Err.ensures.failed,
+      (
+        put ++ cut,
+        (more ++ drop n left, piece_cut _ put left cut more n c.pieces.invariant.1 (sym front ∙ c.in-Err.ensures.cut.1.1)),
+        Appends-trans (contents c.args.sink.now) (contents c.pieces.sink) (contents c.put_all.new.sink) put cut c.pieces.invariant.2 c.in-Err.ensures.cut.2,
+      ),
+    )

@@ -1,0 +1,31 @@
+use Rattle.std.proofs.Common.{ℕ, ◌-◌, List, Some, take, refl, sym, ap, subst, arith, inl, inr}
+use Rattle.board_io.specs.Faults.{Rose}
+use Rattle.trace_gen.specs.Text.{gen_text}
+use Rattle.trace_gen.specs.Feed.{Feed}
+use Rattle.trace_loop.specs.Progress.{opened}
+use Rattle.trace_loop.specs.Outcome.{Run, run_of}
+use Rattle.trace_runner.specs.Soak.{soak_answer, soak_closing, soak_from, soak_of, Soaked}
+use Rattle.trace_runner.specs.Status.{status_of}
+use Rattle.trace_runner.specs.declared.replay.Replay.{Replay}
+use Rattle.trace_runner.specs.declared.soak.Soak.{Soak}
+use Rattle.trace_runner.specs.declared.status.Status.{Status}
+use Rattle.trace_runner.specs.declared.status.Verdict.{Verdict}
+use Rattle.trace_runner.proofs.Soaks.{quiet-behind, soaked_is}
+use Rattle.trace_runner.proofs.soak.run_soak.Goals as goal
+
+pub returns-clause-said : goal.returns-clause-said
+unfolding soak_of
+returns-clause-said g c =
+    let text : List ℕ = gen_text c.args.size.key c.args.size.records c.args.size.cpus in
+    let start : Soak = record { replay = c.new.result; records = c.args.size.records; edges = 0 } in
+    let before : ℕ = c.answer_lines.new.source.before - c.new-source.result.given in
+    let given : ℕ = c.answer_lines.new.source.given - c.new-source.result.given in
+    let w : Run Soak Verdict = run_of soak_answer soak_closing start text before given 0 0 in
+    let shown : Type 0 = Rose (g.K.Sink.faults c.args.sink.now) (g.K.Sink.faults c.answer_lines.new.sink) in
+    let is = soaked_is w c.answer_lines.result (g.K.Sink.contents c.args.sink.now) (g.K.Sink.contents c.answer_lines.new.sink) shown
+    (λ k. quiet-behind (take k text) (opened start) (λ _. refl)) (λ rose. elim rose [ inl some ↦ omega arith | inr last ↦ omega arith ])
+    c.answer_lines.ensures.sink_fault (c.answer_lines.ensures.outcome text (ap (λ (f : Feed). Some f.left) c.new-source.ensures)) in
+    subst (λ (s : Status). Soaked (soak_of c.args.size) s (g.K.Sink.contents c.args.sink.now) (g.K.Sink.contents c.answer_lines.new.sink) shown)
+    (sym c.status_of.ensures)
+    (subst (λ (r : Replay). Soaked (soak_from r c.args.size.records text) (status_of c.answer_lines.result) (g.K.Sink.contents c.args.sink.now) (g.K.Sink.contents c.answer_lines.new.sink) shown)
+    c.new.ensures is)

@@ -1,0 +1,167 @@
+//! A generated trace that is replayed, of which only a sum is printed.
+ghost use Rattle.std.specs.Prelude.{◌≡◌, ◌≢◌, ◌<◌, ◌≤◌, ◌++◌, take, drop, vec_len, OnOk, OnErr};
+ghost use Rattle.board_io.specs.Faults.{Rose};
+ghost use Rattle.trace_runner.specs.Size.{IsSize};
+ghost use Rattle.trace_runner.specs.Soak.{soak_of, is_edge, edges_in, Soaked};
+
+use crate::replay::Replay;
+use crate::status::{Status, Verdict, status_of};
+use board_io::Sink;
+use clk_units::NoMemory;
+use command_line::Size;
+use reply_text::soak_line;
+use std::alloc::Global;
+use trace_gen::GenSource;
+use trace_loop::{Answerer, answer_lines};
+
+/// A replay whose edges are counted, and whose lines aren't printed.
+#[derive(Drop)]
+pub(crate) struct Soak {
+    pub(crate) replay: Replay,
+    /// How many records were asked for.
+    pub(crate) records: u64,
+    /// How many edges came; it stands still at its type's end.
+    pub(crate) edges: u64,
+}
+
+/// What a soak tells.
+#[derive(Clone, Copy, Debug, PartialEq, Eq)]
+pub(crate) struct Sum {
+    pub(crate) records: u64,
+    pub(crate) edges: u64,
+    /// The time, in nanoseconds.
+    pub(crate) time: u64,
+    /// The greatest clock reading that was told.
+    pub(crate) greatest: u64,
+}
+
+/// Replays the generated trace of this size, and writes how many edges came, the time and the greatest clock reading
+/// behind it. It takes nothing from a source.
+pub(crate) fn run_soak<K: Sink>(alloc: Global, size: Size, sink: &mut K) -> Status
+    requires { IsSize size }
+    ensures said { Soaked (soak_of size) result (K.contents sink.old) (K.contents sink.new)
+        (Rose (K.faults sink.old) (K.faults sink.new)) }
+    ensures sink_well { result ≢ Status.SinkFault → K.faults sink.new ≡ K.faults sink.old }
+{
+    let mut source = GenSource::new(size.key, size.records, size.cpus as u8);
+    let mut soak = Soak {
+        replay: Replay::new(false),
+        records: size.records,
+        edges: 0,
+    };
+    status_of(answer_lines(alloc, &mut soak, &mut source, sink))
+}
+
+/// Whether a line is that of an edge.
+fn is_edge(line: &[u8]) -> bool
+    ensures { result ≡ is_edge line.now }
+{
+    line.len() >= 5 && &line[..5] == b"edge ".as_slice()
+}
+
+/// How many lines of a text are those of edges.
+fn edges_in(text: &[u8]) -> u64
+    ensures { result ≡ edges_in text.now }
+{
+    text.split(|byte| *byte == b'\n')
+        .filter(|line| is_edge(line))
+        .count() as u64
+}
+
+impl Soak {
+    ghost use Rattle.trace_runner.specs.Soak.{sum_of};
+
+    /// What there is to be told now.
+    fn sum(&self) -> Sum
+        ensures { result ≡ sum_of self.now }
+    {
+        Sum {
+            records: self.records,
+            edges: self.edges,
+            time: self.replay.board.now(),
+            greatest: self.replay.board.greatest(),
+        }
+    }
+}
+
+impl Sum {
+    ghost use Rattle.trace_runner.specs.Soak.{sum_text};
+
+    /// Puts what the end of the trace prints in the place of what the replay printed for it, from `whole` on. After an
+    /// `Err` the text ends there.
+    fn put(&self, verdict: Verdict, whole: usize, out: &mut Vec<u8>) -> Result<(), NoMemory>
+        requires { whole ≤ vec_len out.old }
+        ensures printed { OnOk result (out.new.items ≡ take whole out.old.items
+            ++ sum_text verdict (drop whole out.old.items) self.now) }
+        ensures err { OnErr result (out.new.items ≡ take whole out.old.items) }
+    {
+        if let Verdict::Stopped { .. } = verdict {
+            return Ok(());
+        }
+        out.truncate(whole);
+        soak_line(self.records, self.edges, self.time, self.greatest, out)
+    }
+}
+
+impl Answerer<Verdict> for Soak {
+    ghost use Rattle.trace_runner.specs.Soak.{soak_answer, soak_closing};
+    ghost use Rattle.trace_runner.specs.Soak.{IsSoakReady};
+
+    ghost answer = { soak_answer };
+
+    ghost closing = { soak_closing };
+
+    ghost may = { IsSoakReady };
+
+    #[tactic(auto, unfolding(crate::specs::Soak::soak_answer))]
+    fn answer(
+        &mut self,
+        line: u64,
+        text: &[u8],
+        out: &mut Vec<u8>,
+    ) -> Result<Option<Verdict>, NoMemory> {
+        let whole = out.len();
+        let sum = self.sum();
+        match self.replay.answer(line, text, out)? {
+            None => {
+                self.edges = self.edges.saturating_add(edges_in(&out[whole..]));
+                out.truncate(whole);
+                Ok(None)
+            }
+            Some(verdict) => {
+                sum.put(verdict, whole, out)?;
+                Ok(Some(verdict))
+            }
+        }
+    }
+
+    fn close(&mut self, line: u64, out: &mut Vec<u8>) -> Result<Verdict, NoMemory> {
+        self.replay.close(line, out)
+    }
+}
+
+#[cfg(test)]
+mod tests {
+    use super::*;
+    use crate::generate::is_size;
+    use board_io::MemSink;
+    use std::test::Fail;
+
+    /// The sums are those of a plain board that steps nanosecond by nanosecond.
+    #[test]
+    fn sums_of_generated_traces(rt: HostRuntime) -> Result<(), Fail> {
+        let soaks: [(u64, u64, u64, &[u8]); 3] = [
+            (1, 1, 1, b"soak 1 0 34774 0\n"),
+            (3, 500, 3, b"soak 500 25 25254290 24011396\n"),
+            (7, 2000, 16, b"soak 2000 148 100237116 99817260\n"),
+        ];
+        for (key, records, cpus, text) in soaks {
+            let size = Size { key, records, cpus };
+            assert!(rt; is_size(&size));
+            let mut sink = MemSink::new(rt.alloc(), Vec::new(rt.alloc()), 4096);
+            assert_eq!(rt; run_soak(rt.alloc(), size, &mut sink), Status::Ok);
+            assert!(rt; sink.bytes() == text);
+        }
+        Ok(())
+    }
+}
