@@ -13,24 +13,21 @@ use Rattle.std.specs.Prelude.{
   take,
   codes,
   Option,
-  ◌⊎◌,
 }
 use Rattle.std.specs.Str.{bytes_eq}
 use Rattle.board_core.specs.Time.{now_of}
 use Rattle.command_line.specs.declared.command.Size.{Size}
 use Rattle.reply_text.specs.Soak.{soak_text}
 use Rattle.trace_gen.specs.Text.{gen_text}
-use Rattle.trace_loop.specs.Text.{memory_fault_text}
 use Rattle.trace_loop.specs.Progress.{Closing, Answer, Goes, Ends, opened, behind, finished}
 use Rattle.trace_runner.specs.Ready.{IsReady}
 use Rattle.trace_runner.specs.Replay.{at_start, answer_of, closing_of}
 use Rattle.trace_runner.specs.declared.replay.Replay.{Replay}
 use Rattle.trace_runner.specs.declared.soak.Soak.{Soak}
 use Rattle.trace_runner.specs.declared.soak.Sum.{Sum}
-use Rattle.trace_runner.specs.Said.{Said}
+use Rattle.trace_runner.specs.Said.{SaidAtMost}
 use Rattle.trace_runner.specs.Status.{verdict_status}
 use Rattle.trace_runner.specs.declared.status.Status.{Status}
-use Rattle.trace_runner.specs.declared.status.Status.TheVariants.{NoMemory}
 use Rattle.trace_runner.specs.declared.status.Verdict.{Verdict}
 use Rattle.trace_runner.specs.declared.status.Verdict.TheVariants.{Done, Stopped}
 
@@ -88,8 +85,7 @@ soak_of size = soak_from (at_start false) size.records (gen_text size.key size.r
 -- what a soak leaves: all of that, with its status; or memory ran out, and only that is told
 abbrev pub Soaked : Closing Verdict → Status → Option (List ℕ) → Option (List ℕ) → Type 0 → Type 0
 Soaked closing result old new shown =
-    Said (verdict_status closing.end) result old new closing.text shown
-    ⊎ Said NoMemory result old new memory_fault_text shown
+    SaidAtMost (verdict_status closing.end) result old new closing.text shown
 
 -- what is true before each line
 abbrev pub IsSoakReady : ℕ → Soak → Type 0
