@@ -1,5 +1,33 @@
 -- Lemmas on events that come at most one a step.
-use Rattle.std.proofs.Common.{◌≡◌, ℕ, zero, suc, ◌+◌, ◌-◌, ◌<◌, ◌≤◌, ◌↔◌, Bool, true, false, cond, ltb, ◌&&◌, Option, Some, None, is_some, IfSome, refl, sym, ap, ◌∙◌, inl, inr, arith}
+use Rattle.std.proofs.Common.{
+  ◌≡◌,
+  ℕ,
+  zero,
+  suc,
+  ◌+◌,
+  ◌-◌,
+  ◌<◌,
+  ◌≤◌,
+  ◌↔◌,
+  Bool,
+  true,
+  false,
+  cond,
+  ltb,
+  ◌&&◌,
+  Option,
+  Some,
+  None,
+  is_some,
+  IfSome,
+  refl,
+  sym,
+  ap,
+  ◌∙◌,
+  inl,
+  inr,
+  arith,
+}
 use Rattle.std.proofs.lemmas.Bool.{cases_lt, cases_order, lt-ltb, le-ltb}
 use Rattle.clk_units.specs.Events.{CountsUp, IsFirst, first_more, first_at}
 use Rattle.clk_units.specs.Pulses.{pulses_by, falls_at, pulses_from, time_of}
@@ -54,7 +82,8 @@ IsFirst-begun count n more h =
     (omega arith, omega arith, ap count e ∙ h, omega arith)
 
 -- one step more
-pub IsFirst-more : (count : ℕ → ℕ) (n : ℕ) (event : Bool) (first : Option ℕ) → count (suc n) ≡ cond event (suc (count n)) (count n) → IsFirst count n first → IsFirst count (suc n) (first_more first n event)
+pub IsFirst-more : (count : ℕ → ℕ) (n : ℕ) (event : Bool) (first : Option ℕ) → count (suc n) ≡ cond event (suc (count n)) (count n)
+    → IsFirst count n first → IsFirst count (suc n) (first_more first n event)
 IsFirst-more count n event (Some k) more h = IsFirst-past count n k h
 IsFirst-more count n true None more h = IsFirst-begun count n more h
 IsFirst-more count n false None more h = more ∙ h
@@ -108,7 +137,8 @@ first_tick count hz t n k runs up first j = (forth, back)
         omega (arith, CountsUp-mono count up k (pulses_from hz t j) (omega (arith, joins)), first.3)
 
 -- or none has
-pub first_tick-none : (count : ℕ → ℕ) (hz t n : ℕ) → CountsUp count → IsFirst count (pulses_from hz t n) None → (j : ℕ) → j ≤ n → count (pulses_from hz t j) ≡ 0
+pub first_tick-none : (count : ℕ → ℕ) (hz t n : ℕ) → CountsUp count → IsFirst count (pulses_from hz t n) None → (j : ℕ) → j ≤ n
+    → count (pulses_from hz t j) ≡ 0
 first_tick-none count hz t n up none j h = omega (arith, CountsUp-mono count up (pulses_from hz t j) (pulses_from hz t n) (pulses_from-mono hz t j n h))
 
 -- there is a first exactly where there are events
@@ -141,8 +171,10 @@ count-step count test hz t n slow more = rw (pulses_from-more hz t n slow) (by_f
     by_fall false m = le-ltb (count m) (count m) (omega arith)
 
 -- .. where the events are counted at all
-pub count_where-step : (b : Bool) (count : ℕ → ℕ) (test : ℕ → Bool) (hz t n : ℕ) → hz ≤ 1000000000 → ((m : ℕ) → count (suc m) ≡ cond (test m) (suc (count m)) (count m))
-    → ltb (cond b (count (pulses_from hz t n)) 0) (cond b (count (pulses_from hz t (suc n))) 0) ≡ (falls_at hz (t + n + 1) && (test (pulses_from hz t n) && b))
+pub count_where-step : (b : Bool) (count : ℕ → ℕ) (test : ℕ → Bool) (hz t n : ℕ) → hz ≤ 1000000000
+    → ((m : ℕ) → count (suc m) ≡ cond (test m) (suc (count m)) (count m))
+    → ltb (cond b (count (pulses_from hz t n)) 0) (cond b (count (pulses_from hz t (suc n))) 0) ≡
+    (falls_at hz (t + n + 1) && (test (pulses_from hz t n) && b))
 count_where-step true count test hz t n slow more =
     count-step count test hz t n slow more ∙ ap (λ (x : Bool). falls_at hz (t + n + 1) && x) (and_true (test (pulses_from hz t n)))
   where

@@ -62,7 +62,8 @@ unfolding pulses_from
 pulses_from-zero hz t = let e : pulses_by hz (t + 0) ≡ pulses_by hz t = ap (pulses_by hz) (omega arith) in omega arith
 
 -- one nanosecond more
-pub pulses_from-more : (hz t n : ℕ) → hz ≤ 1000000000 → pulses_from hz t (suc n) ≡ cond (falls_at hz (t + n + 1)) (suc (pulses_from hz t n)) (pulses_from hz t n)
+pub pulses_from-more : (hz t n : ℕ) → hz ≤ 1000000000 → pulses_from hz t (suc n) ≡
+    cond (falls_at hz (t + n + 1)) (suc (pulses_from hz t n)) (pulses_from hz t n)
 unfolding pulses_from
 pulses_from-more hz t n slow =
     let place : t + suc n ≡ suc (t + n) = omega arith in
@@ -166,7 +167,8 @@ time_of-split hz n runs =
     let parts : n / hz * hz + n % hz ≡ n = div-add-mod' n hz in
     let rest : n % hz * 1000000000 / hz + min 1 (n % hz * 1000000000 % hz) ≡ (n % hz * 1000000000 + hz - 1) / hz = rounded_up (n % hz * 1000000000) hz runs in
     let whole : n * 1000000000 + hz - 1 ≡ n % hz * 1000000000 + hz - 1 + n / hz * 1000000000 * hz = grouped (n / hz) (n % hz) n hz runs parts in
-    let quotient : (n % hz * 1000000000 + hz - 1 + n / hz * 1000000000 * hz) / hz ≡ (n % hz * 1000000000 + hz - 1) / hz + n / hz * 1000000000 = add-mul-div_right (n % hz * 1000000000 + hz - 1) (n / hz * 1000000000) runs in
+    let quotient : (n % hz * 1000000000 + hz - 1 + n / hz * 1000000000 * hz) / hz ≡ (n % hz * 1000000000 + hz - 1) / hz + n / hz * 1000000000 =
+    add-mul-div_right (n % hz * 1000000000 + hz - 1) (n / hz * 1000000000) runs in
     rw (rest, whole, quotient) (omega arith)
   where
     grouped : (q r n hz : ℕ) → 0 < hz → q * hz + r ≡ n → n * 1000000000 + hz - 1 ≡ r * 1000000000 + hz - 1 + q * 1000000000 * hz

@@ -1,5 +1,18 @@
 -- Events that steps of some device bring, one at most a step: `count n` is how many the first n steps bring.
-use Rattle.std.specs.Prelude.{◌≡◌, ℕ, suc, ◌+◌, ◌-◌, ◌<◌, ◌≤◌, Bool, if◌then◌else◌, Option, Some, None}
+use Rattle.std.specs.Prelude.{
+  ◌≡◌,
+  ℕ,
+  suc,
+  ◌+◌,
+  ◌-◌,
+  ◌<◌,
+  ◌≤◌,
+  Bool,
+  if◌then◌else◌,
+  Option,
+  Some,
+  None,
+}
 use Rattle.clk_units.specs.Pulses.{pulses_by, time_of}
 
 -- no step brings more than one, and none comes before the first step

@@ -25,7 +25,8 @@ pub fn reading(page: &HvPage, tsc: u64) -> u64
         reference_time page.now earlier + more < 2 ^ 64 → reference_time page.now earlier ≤ result }
     ensures near { (khz : ℕ) → IsKhz khz → page.now.scale ≡ tsc_scale khz →
         IsNear khz tsc (units_of page.now.scale tsc) }
-    ensures between { (khz earlier : ℕ) → IsKhz khz → page.now.scale ≡ tsc_scale khz → earlier ≤ tsc →
+    ensures between { (khz earlier : ℕ) → IsKhz khz → page.now.scale ≡ tsc_scale khz
+        → earlier ≤ tsc →
         let more = units_of page.now.scale tsc - units_of page.now.scale earlier in
         IsWithinTwo khz (tsc - earlier) more }
 {

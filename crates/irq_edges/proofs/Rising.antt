@@ -1,6 +1,6 @@
 -- The edges of the first nanosecond in which a line goes up.
-use Rattle.std.proofs.Common.{◌≡◌, ℕ, ◌+◌, ◌<◌, ◌≤◌, Bool, true, false, cond, eqb, List, [], ◌∷◌, ◌++◌, length, get_or, drop, Option, Some, None}
-use Rattle.std.proofs.Common.{refl, sym, ap, ◌∙◌, inl, inr, arith}
+use Rattle.std.proofs.Common.{◌≡◌, ℕ, ◌+◌, ◌<◌, ◌≤◌, List, [], ◌∷◌, ◌++◌, length, get_or, drop, Option, Some, None}
+use Rattle.std.proofs.Common.{refl, ap, ◌∙◌, inl, inr, arith}
 use Rattle.std.specs.Prelude.{Contains}
 use Rattle.std.proofs.lemmas.Bool.{cases_lt, cases_eq, le-leb, lt-leb, ne_eqb, eq-eqb}
 use Rattle.std.proofs.lemmas.List.{drop_more}
@@ -8,7 +8,7 @@ use Rattle.std.proofs.lemmas.List.Elements.{Contains-append_right}
 use Rattle.irq_edges.specs.declared.edges.Edge.{Edge}
 use Rattle.irq_edges.specs.Lines.{change, changes}
 use Rattle.irq_edges.specs.Rises.{is_up_at, levels_at}
-use Rattle.irq_edges.specs.private.Rises.{rises_at, rise_of, rising}
+use Rattle.irq_edges.specs.private.Rises.{rise_of, rising}
 
 -- at a place, the edge of that line comes first
 pub rising-drop : (t : ℕ) (ns : List ℕ) (us : List (Option ℕ)) (i : ℕ) (u : Option ℕ) → i < length ns → length us ≡ length ns

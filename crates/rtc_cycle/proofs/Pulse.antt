@@ -44,7 +44,8 @@ cycle_next : (dv d : ℕ) (cycle set : Bool) → (cycle ≡ true → (dv ≡ 2) 
     → (dv ≡ 2) × (set ≡ false) × (cond (eqb dv 2) ((d + 1) % 32768) d ≤ 64)
 cycle_next dv d cycle set h = elim (cases_eq dv 2) [
   | inl runs ↦ rw (eq-eqb dv 2 runs)
-      (λ e. let after : (set ≡ false) × ((d + 1) % 32768 ≤ 64) = cycle_running d cycle set (λ c. let was : (dv ≡ 2) × (set ≡ false) × (d ≤ 64) = h c in (was.1, was.2)) e in (runs, after.0, after.1))
+      (λ e. let after : (set ≡ false) × ((d + 1) % 32768 ≤ 64) = cycle_running d cycle set (λ c. let was : (dv ≡ 2) × (set ≡ false) × (d ≤ 64) =
+      h c in (was.1, was.2)) e in (runs, after.0, after.1))
   | inr held ↦ rw (ne_eqb dv 2 held) (λ e. h e)
 ]
 

@@ -63,7 +63,14 @@ ticks_next-pulsed_times n p runs below some most =
     let on : eqb (pulsed_times n p).dv 2 ≡ true = eq-eqb (pulsed_times n p).dv 2 (dv-pulsed_times n p ∙ runs) in
     let rate : eqb p.rs 0 ≡ false = ne_eqb p.rs 0 (omega arith) in
     let place : (pulsed_times n p).d ≡ (p.d + n) % 32768 = d-pulsed_times n p runs below in
-    rw (on, rs-pulsed_times n p, rate, place, next_place (p.d + n), mod-second (suc (p.d + n)) (period p.rs) (frequency p.rs) (period-times p.rs some most)) refl
+    rw (
+      on,
+      rs-pulsed_times n p,
+      rate,
+      place,
+      next_place (p.d + n),
+      mod-second (suc (p.d + n)) (period p.rs) (frequency p.rs) (period-times p.rs some most),
+    ) refl
 
 -- a period isn't 0
 pub period-some : (rs : ℕ) → 0 < rs → rs ≤ 15 → 0 < period rs
@@ -121,13 +128,18 @@ cycle-pulsed_times (suc n) p below quiet h = elim (cases_eq p.dv 2) [
   | inl runs ↦
       let on : eqb (pulsed_times n p).dv 2 ≡ true = eq-eqb (pulsed_times n p).dv 2 (dv-pulsed_times n p ∙ runs) in
       let after :
-      ((eqb (((pulsed_times n p).d + 1) % 32768) 0 && not (pulsed_times n p).set) || ((pulsed_times n p).cycle && not (eqb (((pulsed_times n p).d + 1) % 32768) 65))) ≡ true =
+      ((eqb (((pulsed_times n p).d + 1) % 32768) 0 && not (pulsed_times n p).set)
+      || ((pulsed_times n p).cycle && not (eqb (((pulsed_times n p).d + 1) % 32768) 65))) ≡ true =
       rw on at h in
-      elim (or_cases (eqb (((pulsed_times n p).d + 1) % 32768) 0 && not (pulsed_times n p).set) ((pulsed_times n p).cycle && not (eqb (((pulsed_times n p).d + 1) % 32768) 65)) after) [
+      elim (or_cases (eqb (((pulsed_times n p).d + 1) % 32768) 0 && not (pulsed_times n p).set)
+      ((pulsed_times n p).cycle && not (eqb (((pulsed_times n p).d + 1) % 32768) 65)) after) [
         | inl begins ↦
             let parts : (eqb (((pulsed_times n p).d + 1) % 32768) 0 ≡ true) × (not (pulsed_times n p).set ≡ true) =
-            and_parts (eqb (((pulsed_times n p).d + 1) % 32768) 0) (not (pulsed_times n p).set) begins in
-            (runs, sym (set-pulsed_times n p) ∙ not-true (pulsed_times n p).set parts.1, omega (arith, eqb-true (((pulsed_times n p).d + 1) % 32768) 0 parts.0, d-pulsed_times n p runs below))
+            and_parts (eqb (((pulsed_times n p).d + 1) % 32768) 0) (not (pulsed_times n p).set) begins in (
+              runs,
+              sym (set-pulsed_times n p) ∙ not-true (pulsed_times n p).set parts.1,
+              omega (arith, eqb-true (((pulsed_times n p).d + 1) % 32768) 0 parts.0, d-pulsed_times n p runs below),
+            )
         | inr goes_on ↦ further
             (cycle-pulsed_times n p below quiet (and_parts (pulsed_times n p).cycle (not (eqb (((pulsed_times n p).d + 1) % 32768) 65)) goes_on).0)
       ]
@@ -196,7 +208,14 @@ cycle_goes_on y cycle = elim (cases_eq (suc y % 32768) 0) [
           let was : y % 32768 ≤ 64 = omega arith in
           let is : suc y % 32768 ≤ 64 = omega arith in
           let same : leb 32768 y ≡ leb 32768 (suc y) = same_second y within in
-          rw (next_place y, ne_eqb (suc y % 32768) 0 within, ne_eqb (suc y % 32768) 65 other, le-leb (y % 32768) 64 was, le-leb (suc y % 32768) 64 is, same) (and-true (cycle || leb 32768 (suc y)))
+          rw (
+            next_place y,
+            ne_eqb (suc y % 32768) 0 within,
+            ne_eqb (suc y % 32768) 65 other,
+            le-leb (y % 32768) 64 was,
+            le-leb (suc y % 32768) 64 is,
+            same,
+          ) (and-true (cycle || leb 32768 (suc y)))
       | inr late ↦
           let was : 64 < y % 32768 = omega arith in
           let is : 64 < suc y % 32768 = omega arith in

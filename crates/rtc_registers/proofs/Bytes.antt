@@ -6,7 +6,8 @@ use Rattle.rtc_registers.specs.Registers.{flags_byte, time_in, with_time}
 
 -- of a list of at least 14 bytes it is enough to look at lists that are written out that far
 fourteen : (P : List ℕ → Type 0)
-    → ((b0 b1 b2 b3 b4 b5 b6 b7 b8 b9 b10 b11 b12 b13 : ℕ) (rest : List ℕ) → P (b0 ∷ b1 ∷ b2 ∷ b3 ∷ b4 ∷ b5 ∷ b6 ∷ b7 ∷ b8 ∷ b9 ∷ b10 ∷ b11 ∷ b12 ∷ b13 ∷ rest)) → (bs : List ℕ) → 14 ≤ length bs → P bs
+    → ((b0 b1 b2 b3 b4 b5 b6 b7 b8 b9 b10 b11 b12 b13 : ℕ) (rest : List ℕ)
+    → P (b0 ∷ b1 ∷ b2 ∷ b3 ∷ b4 ∷ b5 ∷ b6 ∷ b7 ∷ b8 ∷ b9 ∷ b10 ∷ b11 ∷ b12 ∷ b13 ∷ rest)) → (bs : List ℕ) → 14 ≤ length bs → P bs
 fourteen P shown [] h = absurd (omega arith)
 fourteen P shown (b0 ∷ []) h = absurd (omega arith)
 fourteen P shown (b0 ∷ b1 ∷ []) h = absurd (omega arith)

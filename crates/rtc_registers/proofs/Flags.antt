@@ -96,7 +96,8 @@ form_of-flagged r valid = rw (register_b-flagged r valid) refl
 alarm_of-flagged : (r : RtcParts) → IsRtc r → alarm_of (flagged r) ≡ alarm_of r
 unfolding flagged
 alarm_of-flagged r valid =
-    let m : Flagged (flags_byte true (af_of r) (uf_of r)) r.bytes = flagged-bytes (flags_byte true (af_of r) (uf_of r)) r.bytes (omega (arith, valid.places)) in
+    let m : Flagged (flags_byte true (af_of r) (uf_of r)) r.bytes =
+    flagged-bytes (flags_byte true (af_of r) (uf_of r)) r.bytes (omega (arith, valid.places)) in
     rw (m.alarm_sec, m.alarm_min, m.alarm_hour) refl
 
 time_of-flagged : (r : RtcParts) → IsRtc r → time_of (flagged r) ≡ time_of r
@@ -123,7 +124,8 @@ rtc_pulsed-flagged r valid =
     ∙ ap (λ (t : TimeBytes). moved (pulsed (divider_of r)) t (flags_next (flagged r)) (flagged r)) time
     ∙ ap (λ (f : ℕ). moved (pulsed (divider_of r)) (time_next r) f (flagged r)) flags
     ∙ moved-flagged (pulsed (divider_of r)) (time_next r) _ r valid
-    ∙ sym (flagged-moved (pulsed (divider_of r)) (time_next r) (pf_of r || ticks_next (divider_of r)) (af_of r || alarms_next r) (uf_of r || updates_next (divider_of r)) r valid)
+    ∙ sym (flagged-moved (pulsed (divider_of r)) (time_next r) (pf_of r || ticks_next (divider_of r)) (af_of r || alarms_next r)
+    (uf_of r || updates_next (divider_of r)) r valid)
 
 -- .. and past n of them
 pub rtc_pulsed_times-flagged : (n : ℕ) (r : RtcParts) → IsRtc r → rtc_pulsed_times n (flagged r) ≡ flagged (rtc_pulsed_times n r)

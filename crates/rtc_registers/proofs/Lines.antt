@@ -87,7 +87,14 @@ irqf_of-after_rtc_read_other r other = ap irqf_of (after_rtc_read-other r other)
 pub irqf_of-written : (byte : ℕ) (r : RtcParts) → IsRtc r → eqb r.index 11 ≡ true → irqf_of (rtc_written byte r)
     ≡ ((pf_of r && bit 6 byte) || ((af_of r && bit 5 byte) || (uf_of r && (bit 4 byte && not (bit 7 byte && not (set_of r))))))
 irqf_of-written byte r valid here =
-    rw (pf_of-rtc_written byte r, af_of-rtc_written byte r, uf_of-rtc_written byte r, pie_of-written byte r valid here, aie_of-written byte r valid here, uie_of-written byte r valid here) refl
+    rw (
+      pf_of-rtc_written byte r,
+      af_of-rtc_written byte r,
+      uf_of-rtc_written byte r,
+      pie_of-written byte r valid here,
+      aie_of-written byte r valid here,
+      uie_of-written byte r valid here,
+    ) refl
 
 pub irqf_of-written_elsewhere : (byte : ℕ) (r : RtcParts) → IsRtc r → eqb r.index 11 ≡ false → irqf_of (rtc_written byte r) ≡ irqf_of r
 irqf_of-written_elsewhere byte r valid other =

@@ -108,7 +108,8 @@ unfolding moved
 stretched-none r valid =
     let enough : 14 ≤ length r.bytes = omega (arith, valid.places) in
     let flags : flags_in r 0 ≡ register_c r = rw (or-false (pf_of r), or-false (af_of r), or-false (uf_of r)) (sym valid.register_c) in
-    ap (λ (bs : List ℕ). let p : RtcParts = record r { bytes = bs } in p) (sym (ap (set (with_time (time_of r) r.bytes) 12) flags ∙ same-bytes r.bytes enough))
+    ap (λ (bs : List ℕ). let p : RtcParts = record r { bytes = bs } in p) (sym (ap (set (with_time (time_of r) r.bytes) 12) flags
+    ∙ same-bytes r.bytes enough))
 
 -- a flag is up where it was or where an event came
 flag_more : (up event : Bool) (count : ℕ) → ((up || ltb 0 count) || event) ≡ (up || ltb 0 (cond event (suc count) count))
@@ -185,7 +186,8 @@ rtc_pulsed_times-is (suc n) r valid = ap rtc_pulsed (rtc_pulsed_times-is n r val
 -- the clock's parts behind n pulses
 pub divider_of-rtc_pulsed_times : (n : ℕ) (r : RtcParts) → IsRtc r → divider_of (rtc_pulsed_times n r) ≡ pulsed_times n (divider_of r)
 divider_of-rtc_pulsed_times n r valid =
-    ap divider_of (rtc_pulsed_times-is n r valid) ∙ divider_of-moved (pulsed_times n (divider_of r)) _ _ r (omega (arith, valid.places)) (SameSetting-times n r)
+    ap divider_of (rtc_pulsed_times-is n r valid)
+    ∙ divider_of-moved (pulsed_times n (divider_of r)) _ _ r (omega (arith, valid.places)) (SameSetting-times n r)
 
 pub form_of-rtc_pulsed_times : (n : ℕ) (r : RtcParts) → IsRtc r → form_of (rtc_pulsed_times n r) ≡ form_of r
 form_of-rtc_pulsed_times n r valid =
@@ -239,7 +241,8 @@ pub alarms_in-is : (n : ℕ) (r : RtcParts) → IsRtc r → alarms_in r n ≡ ma
 alarms_in-is zero r valid = refl
 alarms_in-is (suc n) r valid =
     let next : alarms_next (rtc_pulsed_times n r) ≡
-    (updates_next (pulsed_times n (divider_of r)) && alarm_next (form_of r) (alarm_of r) (updated_times (form_of r) (updates_in (divider_of r) n) (time_of r))) =
+    (updates_next (pulsed_times n (divider_of r)) && alarm_next (form_of r) (alarm_of r)
+    (updated_times (form_of r) (updates_in (divider_of r) n) (time_of r))) =
     alarms_next-by (rtc_pulsed_times n r) (pulsed_times n (divider_of r)) (form_of r) (alarm_of r)
     (updated_times (form_of r) (updates_in (divider_of r) n) (time_of r))
     (divider_of-rtc_pulsed_times n r valid) (form_of-rtc_pulsed_times n r valid) (alarm_of-rtc_pulsed_times n r valid) (time_of-rtc_pulsed_times n r valid) in
@@ -298,7 +301,8 @@ is_some-match n r valid matched match =
 -- the divider moves on where nothing else is replaced
 moved-quiet : (c : DividerParts) (r : RtcParts) → 14 ≤ length r.bytes → record r { d = c.d; cycle = c.cycle } ≡ moved c (time_of r) (register_c r) r
 unfolding moved
-moved-quiet c r h = ap (λ (bs : List ℕ). let p : RtcParts = record { index = r.index; bytes = bs; d = c.d; cycle = c.cycle } in p) (sym (same-bytes r.bytes h))
+moved-quiet c r h = ap (λ (bs : List ℕ). let p : RtcParts =
+    record { index = r.index; bytes = bs; d = c.d; cycle = c.cycle } in p) (sym (same-bytes r.bytes h))
 
 -- without an update no alarm comes
 pub alarms_in-no_update : (n : ℕ) (r : RtcParts) → IsRtc r → updates_in (divider_of r) n ≡ 0 → alarms_in r n ≡ 0

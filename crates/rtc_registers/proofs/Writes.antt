@@ -29,7 +29,8 @@ pub get_or-rtc_written : (byte : ℕ) (r : RtcParts) → IsRtc r → (eqb r.inde
 unfolding rtc_written
 get_or-rtc_written byte r valid free = rw free (get_or-set_same r.bytes r.index (stored byte r) 0 (omega (arith, valid.places, valid.index)))
 
-get_or-rtc_written_fixed : (byte k : ℕ) (r : RtcParts) → (eqb r.index 12 || eqb r.index 13) ≡ true → get_or (rtc_written byte r).bytes k 0 ≡ get_or r.bytes k 0
+get_or-rtc_written_fixed : (byte k : ℕ) (r : RtcParts) → (eqb r.index 12 || eqb r.index 13) ≡ true → get_or (rtc_written byte r).bytes k 0 ≡
+    get_or r.bytes k 0
 unfolding rtc_written
 get_or-rtc_written_fixed byte k r fixed = rw fixed refl
 
@@ -74,7 +75,8 @@ register_a-rtc_written byte r valid = elim (cases_eq r.index 10) [
       let byte_stored : stored byte r ≡ byte % 128 = rw (eq-eqb r.index 10 here) refl in
       ap (λ (k : ℕ). get_or (rtc_written byte r).bytes k 0) (sym here) ∙ at ∙ byte_stored
       ∙ sym (ap (λ (b : Bool). cond b (byte % 128) (register_a r)) (eq-eqb r.index 10 here))
-  | inr other ↦ get_or-rtc_written_other byte 10 r (λ e. other (sym e)) ∙ sym (ap (λ (b : Bool). cond b (byte % 128) (register_a r)) (ne_eqb r.index 10 other))
+  | inr other ↦ get_or-rtc_written_other byte 10 r (λ e. other (sym e))
+      ∙ sym (ap (λ (b : Bool). cond b (byte % 128) (register_a r)) (ne_eqb r.index 10 other))
 ]
 
 -- register B is written at its index alone
@@ -171,7 +173,8 @@ divider_of-rtc_written byte r valid = elim (cases_eq r.index 10) [
 IsDivider-divider_written : (byte : ℕ) (r : RtcParts) → IsRtc r → IsDivider (divider_written byte r)
 IsDivider-divider_written byte r valid = elim (cases_Bool (eqb r.index 10)) [
   | inl here ↦ rw here
-      (IsDivider-with_rate (byte % 16) (with_dv (byte / 16 % 8) (divider_of r)) (omega arith) (IsDivider-with_dv (byte / 16 % 8) (divider_of r) (omega arith) valid.divider))
+      (IsDivider-with_rate (byte % 16) (with_dv (byte / 16 % 8) (divider_of r)) (omega arith)
+      (IsDivider-with_dv (byte / 16 % 8) (divider_of r) (omega arith) valid.divider))
   | inr elsewhere ↦ elim (cases_Bool (eqb r.index 11)) [
     | inl here ↦ rw (elsewhere, here) (IsDivider-with_set (bit 7 byte) (divider_of r) valid.divider)
     | inr other ↦ rw (elsewhere, other) valid.divider

@@ -52,7 +52,8 @@ fn flags_after(r: &RtcParts, cycle: &CycleEvents, alarm: bool) -> u8
 /// The divider moves on, and events change time bytes and register C; the first update that the alarm matches,
 /// updates being counted from 1.
 fn take_events(r: &mut RtcParts, divider: DividerParts, cycle: &CycleEvents) -> Option<u64>
-    ensures matched { IsFirst (matches_in (form_of r.old) (alarm_of r.old) (time_of r.old)) cycle.now.updates result }
+    ensures matched { IsFirst (matches_in (form_of r.old) (alarm_of r.old) (time_of r.old))
+        cycle.now.updates result }
     ensures state { r.new
         ≡ moved divider (updated_times (form_of r.old) cycle.now.updates (time_of r.old))
         (flags_behind cycle.now (is_some result) r.old) r.old }

@@ -20,4 +20,11 @@ returns-clause-joins c =
 pub returns-clause-few : goal.returns-clause-few
 returns-clause-few c =
     let e : pulses_by c.args.hz (c.args.from + (c.args.to - c.args.from)) ≡ pulses_by c.args.hz c.args.to = ap (pulses_by c.args.hz) (omega arith) in
-    omega (arith, e, pulses_from_le c.args.hz c.args.from (c.args.to - c.args.from) c.requires.slow, pulses_from-joins c.args.hz c.args.from (c.args.to - c.args.from), c.pulses_of.ensures.value, c.pulses_of-2.ensures.value)
+    omega (
+      arith,
+      e,
+      pulses_from_le c.args.hz c.args.from (c.args.to - c.args.from) c.requires.slow,
+      pulses_from-joins c.args.hz c.args.from (c.args.to - c.args.from),
+      c.pulses_of.ensures.value,
+      c.pulses_of-2.ensures.value,
+    )

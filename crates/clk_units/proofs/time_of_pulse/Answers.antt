@@ -8,7 +8,8 @@ returns-clause-value c = omega (arith, c.div_ceil.ensures, time_of-split c.args.
 
 pub returns-clause-time : goal.returns-clause-time
 returns-clause-time c =
-    let value : time_of c.args.hz c.args.n ≡ c.args.n / c.args.hz * 1000000000 + c.div_ceil.result = omega (arith, c.div_ceil.ensures, time_of-split c.args.hz c.args.n c.requires.runs) in
+    let value : time_of c.args.hz c.args.n ≡ c.args.n / c.args.hz * 1000000000 + c.div_ceil.result =
+    omega (arith, c.div_ceil.ensures, time_of-split c.args.hz c.args.n c.requires.runs) in
     subst (λ (t : ℕ). IsTimeOf c.args.hz c.args.n t) value (IsTimeOf-time_of c.args.hz c.args.n c.requires.runs c.requires.slow)
 
 pub overflow_mul-result : goal.overflow_mul-result

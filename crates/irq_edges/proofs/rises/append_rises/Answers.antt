@@ -1,6 +1,5 @@
-use Rattle.std.proofs.Common.{◌≡◌, ℕ, ◌+◌, ◌<◌, Option, Bool, true, false, cond, List, [], ◌∷◌, ◌++◌, length, get_or, drop, None, ap, sym, ◌∙◌, arith}
+use Rattle.std.proofs.Common.{◌≡◌, ℕ, ◌+◌, ◌<◌, Option, Bool, true, false, cond, List, [], ◌∷◌, ◌++◌, length, get_or, drop, None, ap, sym, ◌∙◌}
 use Rattle.std.proofs.lemmas.List.{append-nil}
-use Rattle.irq_edges.specs.declared.edges.Edge.{Edge}
 use Rattle.irq_edges.specs.Lines.{line_numbers}
 use Rattle.irq_edges.specs.private.Rises.{rises_at, rising}
 use Rattle.irq_edges.proofs.EdgesOf.{room_for, joined}
