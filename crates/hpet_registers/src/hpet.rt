@@ -146,23 +146,24 @@ impl Hpet {
         }
     }
 
-    /// Counts `n` pulses of 10 ns: at each place the matches of that timer, none where there is no
-    /// timer.
-    // Where it is inlined the answer isn't copied, which would cost as much as the pulses do.
+    /// Counts `n` pulses of 10 ns, and puts into each place of `matches` those of that timer, none
+    /// where there is no timer.
+    // The caller holds the matches: to move all eight would cost as much as the pulses do.
     #[inline(always)]
-    pub fn pulses(&mut self, n: u64) -> [Matches; 8]
+    pub fn pulses(&mut self, n: u64, matches: &mut [Matches; 8])
         ensures state { self.new ≡ hpet_pulsed_times n self.old }
-        ensures count { (k : ℕ) → (timer_matches result k).count ≡ matches_of k self.old n }
-        ensures few { (k : ℕ) → (timer_matches result k).count ≤ n }
-        ensures first { (k : ℕ) → IsFirst (matches_of k self.old) n (timer_matches result k).first }
-        ensures none { (k : ℕ) → self.old.timers ≤ k → timer_matches result k ≡ no_matches }
+        ensures count { (k : ℕ) → (timer_matches matches.new k).count ≡ matches_of k self.old n }
+        ensures few { (k : ℕ) → (timer_matches matches.new k).count ≤ n }
+        ensures first { (k : ℕ) → IsFirst (matches_of k self.old) n
+            (timer_matches matches.new k).first }
+        ensures none { (k : ℕ) → self.old.timers ≤ k → timer_matches matches.new k ≡ no_matches }
         // A timer's matches fall at the first, a spacing later, two later and so on, and at no
         // other pulse.
         ensures every { (k i : ℕ) → i < n
             → matches_next k (hpet_pulsed_times i self.old)
             ≡ falls_on
-            (timer_matches result k).first
-            (timer_matches result k).count
+            (timer_matches matches.new k).first
+            (timer_matches matches.new k).count
             (spacing_of (timer_at k self.old))
             (suc i) }
 
@@ -185,7 +186,7 @@ impl Hpet {
               timer = self.new.timer;
             } }
     {
-        stretch::pulse(&mut self.parts, n)
+        stretch::pulse(&mut self.parts, n, matches);
     }
 
     /// The configuration: bit 0 ENABLE, bit 1 legacy replacement.

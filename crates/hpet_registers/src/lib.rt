@@ -10,7 +10,8 @@
 //! hpet.write(0x100, 8, 0x2804);           // timer 0: enabled, one-shot, line 20
 //! hpet.write(0x108, 8, 100);              // its comparator
 //! hpet.write(0x010, 4, 1);                // ENABLE
-//! let matches = hpet.pulses(5_000);       // matches[0]: one, at pulse 100
+//! let mut matches = [Matches::NONE; 8];
+//! hpet.pulses(5_000, &mut matches);       // matches[0]: one, at pulse 100
 //! ```
 #![tactic(auto)]
 

@@ -58,9 +58,10 @@ fn pulse_timer(parts: &mut HpetParts, k: u8, n: u64) -> Matches
     matches
 }
 
-/// Counts `n` pulses of a counter that runs for each timer.
+/// Counts `n` pulses of a counter that runs for each timer, and puts the matches of each into
+/// `matches`.
 #[inline]
-fn pulse_timers(parts: &mut HpetParts, n: u64) -> [Matches; 8]
+fn pulse_timers(parts: &mut HpetParts, n: u64, matches: &mut [Matches; 8])
     requires { IsHpet parts.old }
     ensures state { parts.new
         ≡ record parts.old {
@@ -72,41 +73,41 @@ fn pulse_timers(parts: &mut HpetParts, n: u64) -> [Matches; 8]
               parts.old.status;
         } }
     ensures matches { (k : ℕ) → k < parts.old.timers
-        → AreMatches parts.old.counter n (timer_at k parts.old) (timer_matches result k) }
-    ensures none { (k : ℕ) → parts.old.timers ≤ k → timer_matches result k ≡ no_matches }
+        → AreMatches parts.old.counter n (timer_at k parts.old) (timer_matches matches.new k) }
+    ensures none { (k : ℕ) → parts.old.timers ≤ k → timer_matches matches.new k ≡ no_matches }
 {
-    let mut matches = [Matches::NONE; 8];
+    *matches = [Matches::NONE; 8];
     for k in 0..parts.timers {
         matches[k as usize] = pulse_timer(parts, k, n);
     }
-    matches
 }
 
-/// Counts `n` pulses: the matches of each timer.
+/// Counts `n` pulses, and puts the matches of each timer into `matches`.
 #[inline(always)]
-pub(crate) fn pulse(parts: &mut HpetParts, n: u64) -> [Matches; 8]
+pub(crate) fn pulse(parts: &mut HpetParts, n: u64, matches: &mut [Matches; 8])
     requires valid { IsHpet parts.old }
     requires fits { parts.old.counter < 2 ^ 64 }
     ensures state { parts.new ≡ hpet_pulsed_times n parts.old }
-    ensures count { (k : ℕ) → (timer_matches result k).count ≡ matches_of k parts.old n }
-    ensures few { (k : ℕ) → (timer_matches result k).count ≤ n }
-    ensures first { (k : ℕ) → IsFirst (matches_of k parts.old) n (timer_matches result k).first }
+    ensures count { (k : ℕ) → (timer_matches matches.new k).count ≡ matches_of k parts.old n }
+    ensures few { (k : ℕ) → (timer_matches matches.new k).count ≤ n }
+    ensures first { (k : ℕ) → IsFirst (matches_of k parts.old) n
+        (timer_matches matches.new k).first }
     ensures every { (k i : ℕ) → i < n
         → matches_next k (hpet_pulsed_times i parts.old)
         ≡ falls_on
-        (timer_matches result k).first
-        (timer_matches result k).count
+        (timer_matches matches.new k).first
+        (timer_matches matches.new k).count
         (spacing_of (timer_at k parts.old))
         (suc i) }
-    ensures none { (k : ℕ) → parts.old.timers ≤ k → timer_matches result k ≡ no_matches }
+    ensures none { (k : ℕ) → parts.old.timers ≤ k → timer_matches matches.new k ≡ no_matches }
 {
     let from = parts.counter;
     if parts.config % 2 == 0 {
-        return [Matches::NONE; 8];
+        *matches = [Matches::NONE; 8];
+        return;
     }
-    let matches = pulse_timers(parts, n);
+    pulse_timers(parts, n, matches);
     let mut counter = MainCounter { value: from };
     counter.pulses(n);
     parts.counter = counter.value;
-    matches
 }

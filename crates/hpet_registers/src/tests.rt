@@ -46,7 +46,8 @@ fn read_all(rt: &impl Abort, hpet: &Hpet, reads: &[Access]) {
 
 /// The matches of timer 0 over `n` pulses; the other timers must have none.
 fn matches_of_first(rt: &impl Abort, hpet: &mut Hpet, n: u64) -> Matches {
-    let matches = hpet.pulses(n);
+    let mut matches = [Matches::NONE; 8];
+    hpet.pulses(n, &mut matches);
     for other in &matches[1..] {
         assert_eq!(rt; *other, Matches::NONE);
     }
@@ -192,7 +193,7 @@ fn status_of_level_timers(rt: HostRuntime) {
         (0x010, 4, 1),
     ];
     write_all(&rt, &mut hpet, &writes);
-    let _ = hpet.pulses(10);
+    hpet.pulses(10, &mut [Matches::NONE; 8]);
     read_all(&rt, &hpet, &[(0x020, 8, 3)]);
     assert_eq!(rt; hpet.parts().timers, 3);
     assert!(rt; hpet.level(0) && !hpet.level(1) && !hpet.level(2));

@@ -1,7 +1,7 @@
 //! The devices that are timed.
 ghost use Rattle.std.specs.Prelude.{◌≤◌};
 
-use hpet_comparator::Timer;
+use hpet_comparator::{Matches, Timer};
 use hpet_registers::Hpet;
 use pit_counter::Counter;
 use pit_readback::Pit;
@@ -72,8 +72,9 @@ impl Device {
             }
             Device::Pit(pit) => pit.pulses(n).count,
             Device::Hpet(hpet) => {
-                let [first, second, ..] = hpet.pulses(n);
-                first.count.wrapping_add(second.count)
+                let mut matches = [Matches::NONE; 8];
+                hpet.pulses(n, &mut matches);
+                matches[0].count.wrapping_add(matches[1].count)
             }
             Device::Timer(timer, from) => {
                 let matches = timer.pulses(*from, n);
