@@ -1,11 +1,15 @@
 //! The program `board_bench`: how many accesses a second a board takes.
 //!
 //! With the word `time` it prints a line for each kind of access, on a board of format 1 with all devices running:
-//! counter 0 of the 8254 in mode 2, the periodic ticks of the MC146818, and a periodic timer of the HPET.
+//! counter 0 of the 8254 in mode 2, the periodic ticks of the MC146818, and a periodic timer of the HPET. With the word
+//! of a row it makes those accesses alone, for a program that counts instructions.
 #![tactic(auto)]
+
+ghost use Rattle.std.specs.Prelude.{◌≡◌, []};
 
 use board_core::{Access, BoardState, Setup};
 use host_counter::Anchor;
+use irq_edges::{EDGE_PLACES, EdgeList};
 use rtc_calendar::TimeBytes;
 use std::rt::Clock;
 use std::time::Instant;
@@ -152,26 +156,39 @@ fn print_row(
     Ok(edges)
 }
 
-/// Makes many accesses. Returns how many edges there were.
+/// Makes many accesses, with one list of edges for all. Returns how many edges there were.
 fn many(board: &mut BoardState, access: Access, gap: u64) -> u64 {
+    let mut list = EdgeList::new();
     let mut edges = 0u64;
     let mut h = board.now();
     for _ in 0..CALLS {
         h = h.wrapping_add(gap);
-        edges = edges.wrapping_add(ask(board, h, access));
+        edges = edges.wrapping_add(ask(board, h, access, &mut list));
     }
     edges
 }
 
 /// One access of processor 0, where it is legal. Returns how many edges it brought.
-fn ask(board: &mut BoardState, h: u64, access: Access) -> u64 {
+fn ask(board: &mut BoardState, h: u64, access: Access, list: &mut EdgeList) -> u64 {
     if board.cpus() == 0 || !access.legal(board.cpus(), board.format()) {
         return 0;
     }
-    match board.access(0, h, access) {
-        Ok(reply) => reply.edges.len() as u64,
+    if list.len() > EDGE_PLACES - 18 {
+        empty(list);
+    }
+    let before = list.len();
+    match board.answer(0, h, access, list) {
+        Ok(_) => list.len().saturating_sub(before) as u64,
         Err(_) => 0,
     }
+}
+
+/// Empties a list. It stands apart, so that an access that brings no edge needs no room for a list.
+#[inline(never)]
+fn empty(list: &mut EdgeList)
+    ensures { list.new ≡ [] }
+{
+    *list = EdgeList::new();
 }
 
 /// A board with all devices running.
@@ -193,6 +210,7 @@ fn running() -> BoardState {
         wall_nsec: 0,
         time: MIDNIGHT,
     });
+    let mut list = EdgeList::new();
     for (port, byte) in [
         (0x43, 0x34),
         (0x40, 4),
@@ -200,7 +218,7 @@ fn running() -> BoardState {
         (0x70, 0x0b),
         (0x71, 0x42),
     ] {
-        ask(&mut board, 0, Access::PortOut { port, byte });
+        ask(&mut board, 0, Access::PortOut { port, byte }, &mut list);
     }
     for (offset, value) in [(0x100, 0x284c), (0x108, 100), (0x10, 1)] {
         let write = Access::HpetWrite {
@@ -208,8 +226,8 @@ fn running() -> BoardState {
             width: 8,
             value,
         };
-        ask(&mut board, 0, write);
+        ask(&mut board, 0, write, &mut list);
     }
-    ask(&mut board, 5_000, Access::Step);
+    ask(&mut board, 5_000, Access::Step, &mut list);
     board
 }

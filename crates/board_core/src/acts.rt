@@ -6,8 +6,21 @@ ghost use Rattle.board_types.specs.declared.parts.TheConstants.{LAST_VERSION, MO
 ghost use Rattle.board_devices.specs.Act.{reads_byte, value_of};
 ghost use Rattle.board_core.specs.Time.{HasTime, devices_in, now_of};
 ghost use Rattle.board_core.specs.Tsc.{msr_read};
-ghost use Rattle.board_core.specs.Wall.{publishes_wall, wall_number_after, wall_version_after, wall_words};
-ghost use Rattle.board_core.specs.Access.{read_of_port, write_of_port, act_of, value_at, own_edges, after_act, place_of_source};
+ghost use Rattle.board_core.specs.Wall.{
+  publishes_wall,
+  wall_number_after,
+  wall_version_after,
+  wall_words,
+};
+ghost use Rattle.board_core.specs.Access.{
+  read_of_port,
+  write_of_port,
+  act_of,
+  value_at,
+  own_edges,
+  after_act,
+  place_of_source,
+};
 ghost use Rattle.board_core.specs.Refusals.{raised_version};
 ghost use Rattle.board_core.specs.private.Kinds.{touches, publishes};
 ghost use Rattle.board_core.specs.private.Values.{told, value_with};
@@ -21,8 +34,7 @@ use board_types::{Access, MSR_KVM_WALL_CLOCK, MSR_TSC, MSR_TSC_ADJUST, TickSourc
 use irq_edges::EdgeList;
 
 impl BoardState {
-    /// The access itself, on a board that has run to its time. It goes to the devices, publishes, or only reads: each
-    /// in a function of its own, so that none pays for the others.
+    /// The access itself, on a board that has run to its time. It goes to the devices, publishes, or only reads.
     pub(crate) fn act(&mut self, cpu: u8, h: u64, a: Access, edges: &mut EdgeList) -> Value
         requires cpu { cpu < self.old.cpus }
         requires legal { IsTrue (is_legal self.old.cpus self.old.format a) }
@@ -48,7 +60,6 @@ impl BoardState {
     }
 
     /// An access to the devices, which is the same for each processor and count. Answers what they give.
-    #[inline(never)]
     fn touch(&mut self, a: &Access, edges: &mut EdgeList) -> u64
         requires touches { IsTrue (touches a.now) }
         requires legal { IsTrue (is_legal self.old.cpus self.old.format a.now) }

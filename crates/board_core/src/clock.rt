@@ -5,7 +5,14 @@ ghost use Rattle.board_types.specs.declared.parts.TheConstants.{LAST_VERSION};
 ghost use Rattle.board_core.specs.Time.{HasTime};
 ghost use Rattle.board_core.specs.Tsc.{processor_at, with_tsc};
 ghost use Rattle.board_core.specs.Conditions.{flags_valid};
-ghost use Rattle.board_core.specs.Pages.{page_reply, clamped, greatest_with, clock_reply, after_clock, published_at_host};
+ghost use Rattle.board_core.specs.Pages.{
+  page_reply,
+  clamped,
+  greatest_with,
+  clock_reply,
+  after_clock,
+  published_at_host,
+};
 
 use crate::board::BoardState;
 use crate::processors::{page_in, published, tsc_read};

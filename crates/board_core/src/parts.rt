@@ -1,5 +1,17 @@
 //! All that a board holds, and the conditions on it.
-ghost use Rattle.std.specs.Prelude.{◌≡◌, ℕ, ◌+◌, ◌*◌, ◌<◌, ◌≤◌, ◌↔◌, IsTrue, IsSome, IfSome, slice_index_or};
+ghost use Rattle.std.specs.Prelude.{
+  ◌≡◌,
+  ℕ,
+  ◌+◌,
+  ◌*◌,
+  ◌<◌,
+  ◌≤◌,
+  ◌↔◌,
+  IsTrue,
+  IsSome,
+  IfSome,
+  slice_index_or,
+};
 ghost use Rattle.std.specs.Option.{SomeIff};
 ghost use Rattle.clk_units.specs.Ranges.{IsKhz};
 ghost use Rattle.host_counter.specs.Time.{time_at};
@@ -9,7 +21,16 @@ ghost use Rattle.board_devices.specs.Lines.{levels};
 ghost use Rattle.board_devices.specs.Places.{no_line};
 ghost use Rattle.board_core.specs.Time.{HasTime, devices_in};
 ghost use Rattle.board_core.specs.Tsc.{no_processor};
-ghost use Rattle.board_core.specs.Conditions.{IsFormat, AreRates, IsWall, IsProcessor, AreProcessors, AreRises, IsJoined, IsBoard};
+ghost use Rattle.board_core.specs.Conditions.{
+  IsFormat,
+  AreRates,
+  IsWall,
+  IsProcessor,
+  AreProcessors,
+  AreRises,
+  IsJoined,
+  IsBoard,
+};
 ghost use Rattle.board_core.specs.private.Places.{IsPlace, IsCount};
 
 use crate::board::BoardState;

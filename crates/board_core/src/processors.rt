@@ -1,10 +1,35 @@
 //! What accesses do to the processors: their TSCs, their numbers, and the publishing of their pages.
-ghost use Rattle.std.specs.Prelude.{◌≡◌, ◌<◌, ◌≤◌, ◌^◌, ◌==◌, ◌||◌, IfSome, slice_index_or, if◌then◌else◌};
+ghost use Rattle.std.specs.Prelude.{
+  ◌≡◌,
+  ◌<◌,
+  ◌≤◌,
+  ◌^◌,
+  ◌==◌,
+  ◌||◌,
+  IfSome,
+  slice_index_or,
+  if◌then◌else◌,
+};
 ghost use Rattle.clk_units.specs.Ranges.{IsKhz};
 ghost use Rattle.host_counter.specs.Time.{time_at};
 ghost use Rattle.board_types.specs.declared.parts.TheConstants.{LAST_VERSION};
-ghost use Rattle.board_core.specs.Tsc.{no_processor, tsc_of, with_tsc, tsc_read, tsc_after, msr_written};
-ghost use Rattle.board_core.specs.Pages.{published, page_in, published_by, page_of_msr, prepared, published_at, processors_after};
+ghost use Rattle.board_core.specs.Tsc.{
+  no_processor,
+  tsc_of,
+  with_tsc,
+  tsc_read,
+  tsc_after,
+  msr_written,
+};
+ghost use Rattle.board_core.specs.Pages.{
+  published,
+  page_in,
+  published_by,
+  page_of_msr,
+  prepared,
+  published_at,
+  processors_after,
+};
 ghost use Rattle.board_core.specs.Time.{HasTime};
 ghost use Rattle.board_core.specs.Conditions.{AreRates};
 

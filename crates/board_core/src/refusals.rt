@@ -1,5 +1,18 @@
 //! Why an access is refused.
-ghost use Rattle.std.specs.Prelude.{◌≡◌, ◌<◌, ◌≤◌, IfSome, IfOk, IfErr, OnOk, None, Some, nat_le, if◌then◌else◌, IsTrue};
+ghost use Rattle.std.specs.Prelude.{
+  ◌≡◌,
+  ◌<◌,
+  ◌≤◌,
+  IfSome,
+  IfOk,
+  IfErr,
+  OnOk,
+  None,
+  Some,
+  nat_le,
+  if◌then◌else◌,
+  IsTrue,
+};
 ghost use Rattle.host_counter.specs.Time.{IsFaultAt};
 ghost use Rattle.board_types.specs.Legal.{is_legal};
 ghost use Rattle.board_types.specs.declared.parts.TheConstants.{MOST_ACCESSES};

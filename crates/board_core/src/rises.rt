@@ -1,5 +1,18 @@
 //! How often each line went up.
-ghost use Rattle.std.specs.Prelude.{◌≡◌, ℕ, ◌+◌, ◌<◌, ◌≤◌, ◌^◌, length, drop, nat_le, slice_index_or, if◌then◌else◌, IsTrue};
+ghost use Rattle.std.specs.Prelude.{
+  ◌≡◌,
+  ℕ,
+  ◌+◌,
+  ◌<◌,
+  ◌≤◌,
+  ◌^◌,
+  length,
+  drop,
+  nat_le,
+  slice_index_or,
+  if◌then◌else◌,
+  IsTrue,
+};
 ghost use Rattle.irq_edges.specs.declared.edges.TheConstants.{EDGE_PLACES};
 ghost use Rattle.irq_edges.specs.Lines.{line_numbers, is_line};
 ghost use Rattle.board_devices.specs.Rises.{lifts, rises_with};

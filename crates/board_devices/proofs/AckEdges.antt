@@ -129,7 +129,8 @@ module _ (h : HpetParts) (ls : List TickParts) where
       by_parts false x = refl
 
   nothing-level : (l : Bool) (n : ℕ) → is_io_line n ≡ false → eqb n 0 ≡ false → eqb n 8 ≡ false → level_by l n h ls ≡ false
-  nothing-level l n io apart0 apart8 = ap (λ (b : Bool). cond (b && not l) (get_or ls 0 no_line).up (shown_by l n 8 h ls)) apart0 ∙ nothing l n 8 io apart0 apart8
+  nothing-level l n io apart0 apart8 =
+      ap (λ (b : Bool). cond (b && not l) (get_or ls 0 no_line).up (shown_by l n 8 h ls)) apart0 ∙ nothing l n 8 io apart0 apart8
 
 -- the edges where one line alone moves
 abbrev all_changes : (t : ℕ) (a0 a8 a20 a21 a22 a23 b0 b8 b20 b21 b22 b23 : Bool) → List Edge
@@ -139,32 +140,38 @@ all_changes t a0 a8 a20 a21 a22 a23 b0 b8 b20 b21 b22 b23 =
 only0 : (t : ℕ) (a0 b0 : Bool) {a8 a20 a21 a22 a23 b8 b20 b21 b22 b23 : Bool} → a8 ≡ b8 → a20 ≡ b20 → a21 ≡ b21 → a22 ≡ b22 → a23 ≡ b23
     → all_changes t a0 a8 a20 a21 a22 a23 b0 b8 b20 b21 b22 b23 ≡ change t 0 a0 b0
 only0 t a0 b0 {a8} {a20} {a21} {a22} {a23} {b8} {b20} {b21} {b22} {b23} v w x y z =
-    rw (v, w, x, y, z, change-same t 8 b8, change-same t 20 b20, change-same t 21 b21, change-same t 22 b22, change-same t 23 b23) (append-nil (change t 0 a0 b0))
+    rw (v, w, x, y, z) (rw (change-same t 8 b8, change-same t 20 b20, change-same t 21 b21, change-same t 22 b22, change-same t 23 b23)
+    (append-nil (change t 0 a0 b0)))
 
 only8 : (t : ℕ) (a8 b8 : Bool) {a0 a20 a21 a22 a23 b0 b20 b21 b22 b23 : Bool} → a0 ≡ b0 → a20 ≡ b20 → a21 ≡ b21 → a22 ≡ b22 → a23 ≡ b23
     → all_changes t a0 a8 a20 a21 a22 a23 b0 b8 b20 b21 b22 b23 ≡ change t 8 a8 b8
 only8 t a8 b8 {a0} {a20} {a21} {a22} {a23} {b0} {b20} {b21} {b22} {b23} v w x y z =
-    rw (v, w, x, y, z, change-same t 0 b0, change-same t 20 b20, change-same t 21 b21, change-same t 22 b22, change-same t 23 b23) (append-nil (change t 8 a8 b8))
+    rw (v, w, x, y, z) (rw (change-same t 0 b0, change-same t 20 b20, change-same t 21 b21, change-same t 22 b22, change-same t 23 b23)
+    (append-nil (change t 8 a8 b8)))
 
 only20 : (t : ℕ) (a20 b20 : Bool) {a0 a8 a21 a22 a23 b0 b8 b21 b22 b23 : Bool} → a0 ≡ b0 → a8 ≡ b8 → a21 ≡ b21 → a22 ≡ b22 → a23 ≡ b23
     → all_changes t a0 a8 a20 a21 a22 a23 b0 b8 b20 b21 b22 b23 ≡ change t 20 a20 b20
 only20 t a20 b20 {a0} {a8} {a21} {a22} {a23} {b0} {b8} {b21} {b22} {b23} v w x y z =
-    rw (v, w, x, y, z, change-same t 0 b0, change-same t 8 b8, change-same t 21 b21, change-same t 22 b22, change-same t 23 b23) (append-nil (change t 20 a20 b20))
+    rw (v, w, x, y, z) (rw (change-same t 0 b0, change-same t 8 b8, change-same t 21 b21, change-same t 22 b22, change-same t 23 b23)
+    (append-nil (change t 20 a20 b20)))
 
 only21 : (t : ℕ) (a21 b21 : Bool) {a0 a8 a20 a22 a23 b0 b8 b20 b22 b23 : Bool} → a0 ≡ b0 → a8 ≡ b8 → a20 ≡ b20 → a22 ≡ b22 → a23 ≡ b23
     → all_changes t a0 a8 a20 a21 a22 a23 b0 b8 b20 b21 b22 b23 ≡ change t 21 a21 b21
 only21 t a21 b21 {a0} {a8} {a20} {a22} {a23} {b0} {b8} {b20} {b22} {b23} v w x y z =
-    rw (v, w, x, y, z, change-same t 0 b0, change-same t 8 b8, change-same t 20 b20, change-same t 22 b22, change-same t 23 b23) (append-nil (change t 21 a21 b21))
+    rw (v, w, x, y, z) (rw (change-same t 0 b0, change-same t 8 b8, change-same t 20 b20, change-same t 22 b22, change-same t 23 b23)
+    (append-nil (change t 21 a21 b21)))
 
 only22 : (t : ℕ) (a22 b22 : Bool) {a0 a8 a20 a21 a23 b0 b8 b20 b21 b23 : Bool} → a0 ≡ b0 → a8 ≡ b8 → a20 ≡ b20 → a21 ≡ b21 → a23 ≡ b23
     → all_changes t a0 a8 a20 a21 a22 a23 b0 b8 b20 b21 b22 b23 ≡ change t 22 a22 b22
 only22 t a22 b22 {a0} {a8} {a20} {a21} {a23} {b0} {b8} {b20} {b21} {b23} v w x y z =
-    rw (v, w, x, y, z, change-same t 0 b0, change-same t 8 b8, change-same t 20 b20, change-same t 21 b21, change-same t 23 b23) (append-nil (change t 22 a22 b22))
+    rw (v, w, x, y, z) (rw (change-same t 0 b0, change-same t 8 b8, change-same t 20 b20, change-same t 21 b21, change-same t 23 b23)
+    (append-nil (change t 22 a22 b22)))
 
 only23 : (t : ℕ) (a23 b23 : Bool) {a0 a8 a20 a21 a22 b0 b8 b20 b21 b22 : Bool} → a0 ≡ b0 → a8 ≡ b8 → a20 ≡ b20 → a21 ≡ b21 → a22 ≡ b22
     → all_changes t a0 a8 a20 a21 a22 a23 b0 b8 b20 b21 b22 b23 ≡ change t 23 a23 b23
 only23 t a23 b23 {a0} {a8} {a20} {a21} {a22} {b0} {b8} {b20} {b21} {b22} v w x y z =
-    rw (v, w, x, y, z, change-same t 0 b0, change-same t 8 b8, change-same t 20 b20, change-same t 21 b21, change-same t 22 b22) (append-nil (change t 23 a23 b23))
+    rw (v, w, x, y, z) (rw (change-same t 0 b0, change-same t 8 b8, change-same t 20 b20, change-same t 21 b21, change-same t 22 b22)
+    (append-nil (change t 23 a23 b23)))
 
 -- where only those lines move that an acknowledgement reaches, the edges are those of its line
 module _ (d : DeviceParts) (line : ℕ) (ls ms : List TickParts) (same : SameElse line d.hpet ls ms) (t : ℕ) where
@@ -236,7 +243,8 @@ module _ (d : DeviceParts) (line : ℕ) (ls ms : List TickParts) (same : SameEls
                               only23 t _ _ z i (r 20 (far 20 (omega arith))) (r 21 (far 21 (omega arith))) (r 22 (far 22 (omega arith)))
                               ∙ io-changes 23 refl refl refl ∙ ap on_line (sym e)
                           | inr not23 ↦
-                              let io : is_io_line line ≡ false = rw (ne_eqb line 20 not20, ne_eqb line 21 not21, ne_eqb line 22 not22, ne_eqb line 23 not23) refl in
+                              let io : is_io_line line ≡ false =
+                              rw (ne_eqb line 20 not20, ne_eqb line 21 not21, ne_eqb line 22 not22, ne_eqb line 23 not23) refl in
                               let zero : eqb line 0 ≡ false = ne_eqb line 0 not0 in
                               let eight : eqb line 8 ≡ false = ne_eqb line 8 not8 in
                               only0 t _ _ i (r 20 (λ h. not20 (sym h))) (r 21 (λ h. not21 (sym h))) (r 22 (λ h. not22 (sym h))) (r 23 (λ h. not23 (sym h)))

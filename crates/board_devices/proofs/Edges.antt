@@ -1,5 +1,5 @@
 -- The edges of a run of the devices, and the next of them.
-use Rattle.std.proofs.Common.{◌≡◌, ◌≢◌, ℕ, ◌+◌, ◌-◌, ◌≤◌, refl, subst, sym, ◌∙◌, arith, List, [], length, Option, Some, None}
+use Rattle.std.proofs.Common.{◌≡◌, ◌≢◌, ℕ, ◌+◌, ◌-◌, ◌≤◌, Bool, true, false, cond, refl, ap, subst, sym, ◌∙◌, arith, List, [], length, Option, Some, None}
 use Rattle.irq_edges.specs.declared.edges.Edge.{Edge}
 use Rattle.irq_edges.specs.Lines.{line_numbers}
 use Rattle.irq_edges.specs.Rises.{levels_at, rises_of, IsNextRise}
@@ -8,6 +8,7 @@ use Rattle.irq_edges.proofs.UpFrom.{changes-some}
 use Rattle.board_devices.specs.declared.parts.DeviceParts.{DeviceParts}
 use Rattle.board_devices.specs.Lines.{levels}
 use Rattle.board_devices.specs.Run.{run, onward, IsNextEdge}
+use Rattle.board_devices.specs.private.Stretch.{told_levels}
 
 module _ (d : DeviceParts) (us : List (Option ℕ)) (t to : ℕ) (levels_are : (j : ℕ) → t + j ≤ to → levels (run t j d).state ≡ levels_at (t + j) us) where
   pub edges-run : (n : ℕ) → t + n ≤ to → (run t n d).edges ≡ rises_of line_numbers us t n
@@ -33,3 +34,14 @@ run_none_state t u d e = let none : u - t ≡ 0 = omega arith in subst (λ (n : 
 pub run_none_edges : (t u : ℕ) (d : DeviceParts) → t ≡ u → (run t (u - t) d).edges ≡ []
 unfolding run
 run_none_edges t u d e = let none : u - t ≡ 0 = omega arith in subst (λ (n : ℕ). (run t n d).edges ≡ []) (sym none) refl
+
+-- the levels that a run told, where something came and where nothing did
+pub told-moved : (d : DeviceParts) (us : List (Option ℕ)) (t to : ℕ) (came : Bool) → came ≡ true
+    → ((j : ℕ) → t + j ≤ to → levels (run t j d).state ≡ told_levels (t + j) (levels d) (cond came (Some us) None))
+    → (j : ℕ) → t + j ≤ to → levels (run t j d).state ≡ levels_at (t + j) us
+told-moved d us t to came is told = λ j le. told j le ∙ ap (λ (b : Bool). told_levels (t + j) (levels d) (cond b (Some us) None)) is
+
+pub told-still : (d : DeviceParts) (us : List (Option ℕ)) (t to : ℕ) (came : Bool) → came ≡ false
+    → ((j : ℕ) → t + j ≤ to → levels (run t j d).state ≡ told_levels (t + j) (levels d) (cond came (Some us) None))
+    → (j : ℕ) → t + j ≤ to → levels (run t j d).state ≡ levels d
+told-still d us t to came is told = λ j le. told j le ∙ ap (λ (b : Bool). told_levels (t + j) (levels d) (cond b (Some us) None)) is

@@ -1,6 +1,6 @@
 -- What is done to the lines that a mask names.
 use Rattle.std.proofs.Common.{◌≡◌, ℕ, zero, suc, ◌+◌, ◌<◌, ◌≤◌, Bool, true, false, List, [], ◌∷◌, ◌++◌, length, get_or, set, map, refl, ap, sym, ◌∙◌}
-use Rattle.std.proofs.Common.{append-nil, append_assoc, arith}
+use Rattle.std.proofs.Common.{append-nil, arith}
 use Rattle.irq_edges.specs.declared.edges.Edge.{Edge}
 use Rattle.irq_edges.specs.Lines.{changes, line_numbers}
 use Rattle.irq_edges.proofs.EdgesOf.{changes-same}
@@ -13,7 +13,7 @@ use Rattle.board_devices.specs.Places.{each, no_line, ticked_at}
 use Rattle.board_devices.specs.Act.{acked_where, rtc_set, pit_ticked}
 use Rattle.board_devices.specs.private.Stretch.{ten, clock_place}
 use Rattle.board_devices.specs.Lines.{levels}
-use Rattle.board_devices.proofs.Places.{each-at, length-each, same_places}
+use Rattle.board_devices.proofs.Places.{each-at}
 
 pub at-ten : {X : Type 0} (f : ℕ → X) (d : X) (k : ℕ) → k < 10 → get_or (map f ten) k d ≡ f k
 at-ten f d zero h = refl
@@ -28,27 +28,7 @@ at-ten f d (suc (suc (suc (suc (suc (suc (suc (suc zero)))))))) h = refl
 at-ten f d (suc (suc (suc (suc (suc (suc (suc (suc (suc zero))))))))) h = refl
 at-ten f d (suc (suc (suc (suc (suc (suc (suc (suc (suc (suc k)))))))))) h = absurd (omega arith)
 
--- an operation on each line that a mask names
-pub masked : (op : Bool → TickParts → TickParts) (test : ℕ → Bool) (mask : List Bool) (ls new : List TickParts) → length ls ≡ 10 → mask ≡ map test ten
-    → new ≡ map (λ k. op (get_or mask k false) (get_or ls k no_line)) ten → new ≡ each (λ k l. op (test k) l) 0 ls
-masked op test mask ls new long mask_is new_is =
-    new_is ∙ same_places (map (λ k. op (get_or mask k false) (get_or ls k no_line)) ten) (each (λ k l. op (test k) l) 0 ls) no_line
-    (sym (length-each (λ k l. op (test k) l) 0 ls ∙ long)) (λ k less.
-    at-ten (λ i. op (get_or mask i false) (get_or ls i no_line)) no_line k less
-    ∙ ap (λ (b : Bool). op b (get_or ls k no_line)) (ap (λ (m : List Bool). get_or m k false) mask_is ∙ at-ten test false k less)
-    ∙ sym (each-at (λ i l. op (test i) l) 0 k ls no_line (omega (arith, long)) ∙ ap (λ (i : ℕ). op (test i) (get_or ls k no_line)) (omega arith)))
-
--- edges that were appended in two parts
-pub two_parts : (t : ℕ) (es0 es1 es2 : List Edge) (a b c : List Bool) (d m w : DeviceParts) → es1 ≡ es0 ++ changes t line_numbers a b → es2 ≡ es1
-    ++ changes t line_numbers b c → a ≡ levels d → b ≡ levels m → c ≡ levels w
-    → es2 ≡ es0 ++ (changes t line_numbers (levels d) (levels m) ++ changes t line_numbers (levels m) (levels w))
-two_parts t es0 es1 es2 a b c d m w first second a_is b_is c_is =
-    second ∙ ap (λ (es : List Edge). es ++ changes t line_numbers b c) first ∙ append_assoc es0 (changes t line_numbers a b) (changes t line_numbers b c)
-    ∙ ap (λ (x : List Bool). es0 ++ (changes t line_numbers x b ++ changes t line_numbers b c)) a_is
-    ∙ ap (λ (x : List Bool). es0 ++ (changes t line_numbers (levels d) x ++ changes t line_numbers x c)) b_is
-    ∙ ap (λ (x : List Bool). es0 ++ (changes t line_numbers (levels d) (levels m) ++ changes t line_numbers (levels m) x)) c_is
-
--- or in one, where no line goes up again
+-- edges that were appended, where no line goes up again
 pub one_part : (t : ℕ) (es0 es1 : List Edge) (a b : List Bool) (d w : DeviceParts) → es1 ≡ es0 ++ changes t line_numbers a b → a ≡ levels d → b ≡ levels w
     → es1 ≡ es0 ++ (changes t line_numbers (levels d) (levels w) ++ changes t line_numbers (levels w) (levels w))
 one_part t es0 es1 a b d w only a_is b_is =

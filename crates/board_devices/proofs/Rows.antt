@@ -79,23 +79,28 @@ start = record { pit = pit counter; rtc = rtc 66 0; hpet = hpet 1 0 0; ticks = l
 -- the matches of both timers, and between them and the next the catch-up point, at which the tick that waits comes up
 hpet_rows : (run 0 40 start).edges ≡ record { at = 20; line = 21; up = true } ∷ record { at = 30; line = 20; up = true }
     ∷ record { at = 35; line = 8; up = true } ∷ []
-unfolding start line rtc hpet lines pit counter run onward at_nanosecond pit_pulse rtc_pulse hpet_pulse catch_up_point levels falls_at pulses_by flagged matches_next hpet_pulsed matches_at timer_pulsed
+unfolding start line rtc hpet lines pit counter run onward at_nanosecond pit_pulse rtc_pulse hpet_pulse catch_up_point levels falls_at pulses_by flagged
+    matches_next hpet_pulsed matches_at timer_pulsed
 hpet_rows = refl
 
 -- the clock's periodic event at 30518; no catch-up point comes
 rtc_row : (run 30515 5 (record start { slew_ns = 1000000000 })).edges ≡ record { at = 30518; line = 8; up = true } ∷ []
-unfolding start line rtc hpet lines pit counter run onward at_nanosecond pit_pulse rtc_pulse hpet_pulse catch_up_point levels falls_at pulses_by pulsed rises_next pit_pulsed rtc_pulsed ticks_next updates_next divider_pulsed alarms_next moved with_time flagged matches_next hpet_pulsed matches_at timer_pulsed effect_in mode_of is_bcd modulus number_in meant_count is_odd_square loaded_count lowered programmed
+unfolding start line rtc hpet lines pit counter run onward at_nanosecond pit_pulse rtc_pulse hpet_pulse catch_up_point levels falls_at pulses_by pulsed
+    rises_next pit_pulsed rtc_pulsed ticks_next updates_next divider_pulsed alarms_next moved with_time flagged matches_next hpet_pulsed matches_at
+    timer_pulsed effect_in mode_of is_bcd modulus number_in meant_count is_odd_square loaded_count lowered programmed
 rtc_row = refl
 
 -- the second pulse of the 8254 at 1677, with which OUT 0 goes up
 pit_row : (run 1676 2 (record start { pit = pit (record counter { out = false; ce = 1 }); slew_ns = 1000000000 })).edges
     ≡ record { at = 1677; line = 0; up = true } ∷ []
-unfolding start line rtc hpet lines pit counter run onward at_nanosecond pit_pulse rtc_pulse hpet_pulse catch_up_point levels falls_at pulses_by pulsed rises_next pit_pulsed flagged effect_in mode_of is_bcd modulus number_in meant_count is_odd_square loaded_count lowered programmed
+unfolding start line rtc hpet lines pit counter run onward at_nanosecond pit_pulse rtc_pulse hpet_pulse catch_up_point levels falls_at pulses_by pulsed
+    rises_next pit_pulsed flagged effect_in mode_of is_bcd modulus number_in meant_count is_odd_square loaded_count lowered programmed
 pit_row = refl
 
 -- a rise of OUT 0 under legacy replacement is no tick
 legacy_pit_row : line_at 0 (at_nanosecond 1677 (record start { pit = pit (record counter { out = false; ce = 1 }); hpet = hpet 3 0 9 })) ≡ line Delay 0
-unfolding start line rtc hpet lines pit counter at_nanosecond pit_pulse rtc_pulse hpet_pulse catch_up_point falls_at pulses_by pulsed rises_next pit_pulsed flagged effect_in mode_of is_bcd modulus number_in meant_count is_odd_square loaded_count lowered programmed
+unfolding start line rtc hpet lines pit counter at_nanosecond pit_pulse rtc_pulse hpet_pulse catch_up_point falls_at pulses_by pulsed rises_next pit_pulsed
+    flagged effect_in mode_of is_bcd modulus number_in meant_count is_odd_square loaded_count lowered programmed
 legacy_pit_row = refl
 
 -- a catch-up point that brings the clock's line up sets PF
@@ -111,25 +116,30 @@ no_catch_up_while_pie_is_0 = refl
 -- a tick in the nanosecond of a catch-up point comes first: the one that waits goes on waiting
 tie_row : line_at 2 (at_nanosecond 70 (record start { hpet = hpet 1 0 2; ticks = lines (line Delay 0) (line Slew 0) (line Slew 1) }))
     ≡ record { policy = Slew; up = true; counts = record { due = 2; rises = 1; queue = 1; lost = 0 } }
-unfolding start line rtc hpet lines pit counter at_nanosecond pit_pulse rtc_pulse hpet_pulse catch_up_point falls_at pulses_by flagged matches_next hpet_pulsed matches_at timer_pulsed
+unfolding start line rtc hpet lines pit counter at_nanosecond pit_pulse rtc_pulse hpet_pulse catch_up_point falls_at pulses_by flagged matches_next
+    hpet_pulsed matches_at timer_pulsed
 tie_row = refl
 
 -- a match of a level timer sets its status bit, and makes no tick due
 level_row : (at_nanosecond 20 (record start { hpet = hpet 1 0 1 })).hpet.status ≡ 2
-unfolding start line rtc hpet lines pit counter at_nanosecond pit_pulse rtc_pulse hpet_pulse catch_up_point falls_at pulses_by flagged matches_next hpet_pulsed matches_at timer_pulsed
+unfolding start line rtc hpet lines pit counter at_nanosecond pit_pulse rtc_pulse hpet_pulse catch_up_point falls_at pulses_by flagged matches_next
+    hpet_pulsed matches_at timer_pulsed
 level_row = refl
 
 no_level_tick : line_at 3 (at_nanosecond 20 (record start { hpet = hpet 1 0 1 })) ≡ line Delay 0
-unfolding start line rtc hpet lines pit counter at_nanosecond pit_pulse rtc_pulse hpet_pulse catch_up_point falls_at pulses_by flagged matches_next hpet_pulsed matches_at timer_pulsed
+unfolding start line rtc hpet lines pit counter at_nanosecond pit_pulse rtc_pulse hpet_pulse catch_up_point falls_at pulses_by flagged matches_next
+    hpet_pulsed matches_at timer_pulsed
 no_level_tick = refl
 
 -- a periodic event while PIE is 0 sets PF, and is no tick
 pf_while_pie_is_0 : pf_of (at_nanosecond 30518 (record start { rtc = rtc 2 0 })).rtc ≡ true
-unfolding start line rtc hpet lines pit counter at_nanosecond pit_pulse rtc_pulse hpet_pulse catch_up_point falls_at pulses_by rtc_pulsed ticks_next updates_next divider_pulsed alarms_next moved with_time flagged
+unfolding start line rtc hpet lines pit counter at_nanosecond pit_pulse rtc_pulse hpet_pulse catch_up_point falls_at pulses_by rtc_pulsed ticks_next
+    updates_next divider_pulsed alarms_next moved with_time flagged
 pf_while_pie_is_0 = refl
 
 no_tick_while_pie_is_0 : line_at 1 (at_nanosecond 30518 (record start { rtc = rtc 2 0 })) ≡ line Slew 1
-unfolding start line rtc hpet lines pit counter at_nanosecond pit_pulse rtc_pulse hpet_pulse catch_up_point falls_at pulses_by rtc_pulsed ticks_next updates_next divider_pulsed alarms_next moved with_time flagged
+unfolding start line rtc hpet lines pit counter at_nanosecond pit_pulse rtc_pulse hpet_pulse catch_up_point falls_at pulses_by rtc_pulsed ticks_next
+    updates_next divider_pulsed alarms_next moved with_time flagged
 no_tick_while_pie_is_0 = refl
 
 -- LEG_RT: lines 0 and 8 are the outputs of timers 0 and 1, which drive no other line

@@ -25,7 +25,8 @@ by_route r u x0 x1 x20 x21 x22 x23 = elim (cases_eq r 20) [
       | inl e ↦ subst Goal (sym e) (at22 u)
       | inr g ↦ elim (cases_eq r 23) [
         | inl e ↦ subst Goal (sym e) (at23 u)
-        | inr h ↦ rw (ne_eqb r 20 a, ne_eqb r 21 b, ne_eqb r 22 g, ne_eqb r 23 h, either-none x20, either-none x21, either-none x22, either-none x23) (nowhere u)
+        | inr h ↦ rw (ne_eqb r 20 a, ne_eqb r 21 b, ne_eqb r 22 g, ne_eqb r 23 h)
+            (rw (either-none x20, either-none x21, either-none x22, either-none x23) (nowhere u))
       ]
     ]
   ]
@@ -114,7 +115,8 @@ module _ (h : HpetParts) (us : List (Option ℕ)) (f : ℕ → Option ℕ) (pit 
   next k small =
       ap (λ (b : Bool). with_rise (f k) (cond (b && ltb k 2) (Some k) (slot_of_route (route_of (timer_at k h).config))) (so_far k)) l_is
       ∙ step f pit irq (routed_from 20 k h us) (routed_from 21 k h us) (routed_from 22 k h us) (routed_from 23 k h us) l k (route_of (timer_at k h).config)
-      ∙ ap (λ (b : Bool). first l pit f (suc k) ∷ second l irq f (suc k) ∷ with_line 20 b (f k) ∷ with_line 21 b (f k) ∷ with_line 22 b (f k) ∷ with_line 23 b (f k) ∷ []) (sym l_is)
+      ∙ ap (λ (b : Bool). first l pit f (suc k) ∷ second l irq f (suc k) ∷ with_line 20 b (f k) ∷ with_line 21 b (f k)
+      ∷ with_line 22 b (f k) ∷ with_line 23 b (f k) ∷ []) (sym l_is)
       ∙ ap (λ (u : Option ℕ). first l pit f (suc k) ∷ second l irq f (suc k) ∷ with_line 20 (is_legacy h) u ∷ with_line 21 (is_legacy h) u
       ∷ with_line 22 (is_legacy h) u ∷ with_line 23 (is_legacy h) u ∷ []) (sym (us_are k small))
     where
@@ -130,7 +132,8 @@ module _ (h : HpetParts) (us : List (Option ℕ)) (f : ℕ → Option ℕ) (pit 
   absent : (line k : ℕ) → eqb 0 line ≡ false → IsHpet h → h.timers ≤ k → k < 8 → routed_from line (suc k) h us ≡ routed_from line k h us
   absent line k other valid gone small =
       let none : timer_at k h ≡ no_timer = subst (λ (b : Bool). IsPlace b (timer_at k h)) (le-ltb k h.timers gone) (valid.places k small) in
-      ap (λ (t : TimerParts). either_from (routed_from line k h us) (cond (eqb (route_of t.config) line && not (is_legacy h && ltb k 2)) (get_or us k None) None)) none
+      ap (λ (t : TimerParts). either_from (routed_from line k h us)
+      (cond (eqb (route_of t.config) line && not (is_legacy h && ltb k 2)) (get_or us k None) None)) none
       ∙ ap (λ (b : Bool). either_from (routed_from line k h us) (cond (b && not (is_legacy h && ltb k 2)) (get_or us k None) None)) other
       ∙ either-none (routed_from line k h us)
 
@@ -164,7 +167,8 @@ module _ (h : HpetParts) (us : List (Option ℕ)) (f : ℕ → Option ℕ) (pit 
       at_most (inl e) = omega arith
       at_most (inr e) = omega arith
 
-      start : (b : Bool) → cond b None pit ∷ cond b None irq ∷ None ∷ None ∷ None ∷ None ∷ [] ≡ first b pit f 0 ∷ second b irq f 0 ∷ None ∷ None ∷ None ∷ None ∷ []
+      start : (b : Bool)
+          → cond b None pit ∷ cond b None irq ∷ None ∷ None ∷ None ∷ None ∷ [] ≡ first b pit f 0 ∷ second b irq f 0 ∷ None ∷ None ∷ None ∷ None ∷ []
       start true = refl
       start false = refl
 

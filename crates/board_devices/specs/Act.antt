@@ -1,14 +1,39 @@
 -- What an access does to the devices, in its two parts: all its effects but rises out of a queue,
 -- and then those rises. Sections are those of the Intel 8254, the Motorola MC146818 and the IA-PC
 -- HPET 1.0a sheets; what they leave open is marked '(own)'.
-use Rattle.std.specs.Prelude.{ℕ, zero, suc, ◌<◌, ◌≤◌, ◌^◌, ◌*◌, Bool, true, false, ◌&&◌, ◌==◌, not, nat_lt, if◌then◌else◌, IsTrue, List, ◌++◌}
+use Rattle.std.specs.Prelude.{
+  ℕ,
+  zero,
+  suc,
+  ◌<◌,
+  ◌≤◌,
+  ◌^◌,
+  ◌*◌,
+  Bool,
+  true,
+  false,
+  ◌&&◌,
+  ◌==◌,
+  not,
+  nat_lt,
+  if◌then◌else◌,
+  IsTrue,
+  List,
+  ◌++◌,
+}
 use Rattle.irq_edges.specs.declared.edges.Edge.{Edge}
 use Rattle.irq_edges.specs.Lines.{changes, line_numbers}
 use Rattle.pit_counter.specs.Table.{has_risen}
 use Rattle.pit_readback.specs.Pit.{counter_of}
 use Rattle.pit_readback.specs.Ports.{is_pit_port, port_written, port_read, after_port_read}
 use Rattle.rtc_registers.specs.Registers.{pf_of}
-use Rattle.rtc_registers.specs.Access.{index_written, rtc_read, after_rtc_read, rtc_written, flagged}
+use Rattle.rtc_registers.specs.Access.{
+  index_written,
+  rtc_read,
+  after_rtc_read,
+  rtc_written,
+  flagged,
+}
 use Rattle.hpet_comparator.specs.Parts.{is_level, route_of}
 use Rattle.hpet_registers.specs.declared.parts.HpetParts.{HpetParts}
 use Rattle.hpet_registers.specs.Parts.{timer_at, is_legacy}
@@ -17,7 +42,18 @@ use Rattle.tick_policy.specs.declared.parts.TickParts.{TickParts}
 use Rattle.tick_policy.specs.Line.{acked, acked_down, goes_again, set_up_to}
 use Rattle.board_devices.specs.declared.parts.DeviceParts.{DeviceParts}
 use Rattle.board_devices.specs.declared.act.Act.{Act}
-use Rattle.board_devices.specs.declared.act.Act.TheVariants.{PitRead, PitWrite, IndexRead, IndexWrite, ClockRead, ClockWrite, HpetRead, HpetWrite, Ack, Nothing}
+use Rattle.board_devices.specs.declared.act.Act.TheVariants.{
+  PitRead,
+  PitWrite,
+  IndexRead,
+  IndexWrite,
+  ClockRead,
+  ClockWrite,
+  HpetRead,
+  HpetWrite,
+  Ack,
+  Nothing,
+}
 use Rattle.board_devices.specs.Places.{each, ticked_at, line_at}
 use Rattle.board_devices.specs.Nanosecond.{counts_rtc}
 use Rattle.board_devices.specs.Lines.{levels}

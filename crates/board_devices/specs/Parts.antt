@@ -1,6 +1,25 @@
 -- The devices at power on, the conditions on their fields, and the devices of a board that gets
 -- five timers more.
-use Rattle.std.specs.Prelude.{◌≡◌, ℕ, suc, ◌+◌, ◌<◌, ◌≤◌, Bool, true, false, ◌&&◌, ◌==◌, nat_lt, length, map, List, [], ◌∷◌, if◌then◌else◌}
+use Rattle.std.specs.Prelude.{
+  ◌≡◌,
+  ℕ,
+  suc,
+  ◌+◌,
+  ◌<◌,
+  ◌≤◌,
+  Bool,
+  true,
+  false,
+  ◌&&◌,
+  ◌==◌,
+  nat_lt,
+  length,
+  map,
+  List,
+  [],
+  ◌∷◌,
+  if◌then◌else◌,
+}
 use Rattle.pit_readback.specs.Parts.{IsPit}
 use Rattle.pit_readback.specs.Pit.{pit_at_power_on}
 use Rattle.rtc_calendar.specs.declared.TimeBytes.{TimeBytes}

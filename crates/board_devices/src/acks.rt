@@ -4,7 +4,14 @@ ghost use Rattle.tick_policy.specs.Line.{acked};
 ghost use Rattle.hpet_registers.specs.Parts.{is_legacy};
 ghost use Rattle.board_devices.specs.Places.{no_line, each};
 ghost use Rattle.board_devices.specs.Act.{drives_now, acks, acked_where, down_where};
-ghost use Rattle.board_devices.specs.private.Acks.{is_io_line, shows, timer_acks, timer_levels, shown_by, level_by};
+ghost use Rattle.board_devices.specs.private.Acks.{
+  is_io_line,
+  shows,
+  timer_acks,
+  timer_levels,
+  shown_by,
+  level_by,
+};
 
 use hpet_registers::Hpet;
 use tick_policy::TickLine;

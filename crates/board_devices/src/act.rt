@@ -1,5 +1,20 @@
 //! What accesses do to the devices.
-ghost use Rattle.std.specs.Prelude.{◌≡◌, ℕ, ◌+◌, ◌*◌, ◌<◌, ◌≤◌, ◌^◌, ◌&&◌, ◌||◌, ◌++◌, not, length, slice_index_or, IsTrue};
+ghost use Rattle.std.specs.Prelude.{
+  ◌≡◌,
+  ℕ,
+  ◌+◌,
+  ◌*◌,
+  ◌<◌,
+  ◌≤◌,
+  ◌^◌,
+  ◌&&◌,
+  ◌||◌,
+  ◌++◌,
+  not,
+  length,
+  slice_index_or,
+  IsTrue,
+};
 ghost use Rattle.irq_edges.specs.declared.edges.TheConstants.{EDGE_PLACES};
 ghost use Rattle.irq_edges.specs.Lines.{line_numbers, level_of, change};
 ghost use Rattle.pit_readback.specs.Ports.{is_pit_port, port_read};
@@ -9,8 +24,24 @@ ghost use Rattle.rtc_registers.specs.Access.{rtc_read};
 ghost use Rattle.board_devices.specs.Rises.{one_if, lifts};
 ghost use Rattle.board_devices.specs.Places.{line_at, no_line, ticked_at};
 ghost use Rattle.board_devices.specs.Lines.{levels};
-ghost use Rattle.board_devices.specs.declared.act.Act.TheVariants.{PitRead, PitWrite, IndexWrite, ClockRead, ClockWrite, HpetWrite, Ack};
-ghost use Rattle.board_devices.specs.Act.{IsLegal, acted, first_part, value_of, reads_byte, act_edges, pit_ticked};
+ghost use Rattle.board_devices.specs.declared.act.Act.TheVariants.{
+  PitRead,
+  PitWrite,
+  IndexWrite,
+  ClockRead,
+  ClockWrite,
+  HpetWrite,
+  Ack,
+};
+ghost use Rattle.board_devices.specs.Act.{
+  IsLegal,
+  acted,
+  first_part,
+  value_of,
+  reads_byte,
+  act_edges,
+  pit_ticked,
+};
 ghost use Rattle.board_devices.specs.private.Writes.{moves_lines};
 
 use crate::acks::ack_lines;
@@ -128,6 +159,7 @@ impl Devices {
     }
 
     /// A write to a port of the 8254. A tick is due where OUT 0 rises.
+    #[inline(never)]
     #[tactic(auto, unfolding(crate::specs::Act::acted, crate::specs::Act::first_part))]
     fn write_pit(&mut self, port: u8, byte: u8, at: u64, edges: &mut EdgeList)
         requires port { IsTrue (is_pit_port port) }
@@ -157,6 +189,7 @@ impl Devices {
     }
 
     /// A read of port 71h. One of register C acknowledges the clock's tick line.
+    #[inline(never)]
     #[tactic(auto, unfolding(crate::specs::Act::acted, crate::specs::Act::first_part))]
     fn read_clock(&mut self, at: u64, edges: &mut EdgeList) -> u8
         requires { length edges.old + 12 ≤ EDGE_PLACES }
@@ -203,6 +236,7 @@ impl Devices {
     }
 
     /// A write to port 71h. The clock's tick line follows PF.
+    #[inline(never)]
     #[tactic(auto, unfolding(crate::specs::Act::acted, crate::specs::Act::first_part))]
     fn write_clock(&mut self, byte: u8, at: u64, edges: &mut EdgeList)
         requires { length edges.old + 12 ≤ EDGE_PLACES }
@@ -223,6 +257,7 @@ impl Devices {
 
 impl Devices {
     /// A write to the HPET. The clock's tick line follows PF and legacy replacement.
+    #[inline(never)]
     #[tactic(auto, unfolding(crate::specs::Act::acted, crate::specs::Act::first_part))]
     fn write_hpet(&mut self, offset: u16, width: u8, v: u64, at: u64, edges: &mut EdgeList)
         requires offset { offset ≤ 0x3ff }
@@ -247,6 +282,7 @@ impl Devices {
     }
 
     /// An acknowledgement of a line, in its two parts.
+    #[inline(never)]
     #[tactic(auto, unfolding(crate::specs::Act::acted, crate::specs::Act::first_part))]
     fn ack(&mut self, line: u8, at: u64, edges: &mut EdgeList)
         requires { length edges.old + 12 ≤ EDGE_PLACES }

@@ -1,5 +1,17 @@
 //! From when on the lines are up.
-ghost use Rattle.std.specs.Prelude.{◌≡◌, ◌-◌, ◌<◌, ◌≤◌, ◌^◌, ◌∷◌, [], None, Some, IfSome, if◌then◌else◌};
+ghost use Rattle.std.specs.Prelude.{
+  ◌≡◌,
+  ◌-◌,
+  ◌<◌,
+  ◌≤◌,
+  ◌^◌,
+  ◌∷◌,
+  [],
+  None,
+  Some,
+  IfSome,
+  if◌then◌else◌,
+};
 ghost use Rattle.rtc_registers.specs.declared.TheConstants.{RTC_HZ};
 ghost use Rattle.clk_units.specs.Pulses.{pulses_from};
 ghost use Rattle.clk_units.specs.Events.{first_at};
@@ -67,6 +79,7 @@ pub(crate) fn shown_of(rtc: &Rtc) -> Shown
 }
 
 /// From when on IRQF is up, by what the clock showed before, by its tick line and by its events.
+/// With its other interrupts disabled, as most guests leave them, it is the tick line.
 pub(crate) fn irq_up(shown: Shown, line: Option<u64>, events: &RtcEvents, span: Span) -> Option<u64>
     requires order { span.from ≤ span.to }
     requires range { span.to < 2 ^ 59 }
@@ -79,6 +92,9 @@ pub(crate) fn irq_up(shown: Shown, line: Option<u64>, events: &RtcEvents, span: 
         (flag_from shown.uie shown.uf span.from
         (first_at RTC_HZ span.from events.now.cycle.first_update))) }
 {
+    if !shown.aie && !shown.uie {
+        return line;
+    }
     let alarm = first_at(events.first_alarm, RTC_HZ, span.from, span.to);
     let update = first_at(events.cycle.first_update, RTC_HZ, span.from, span.to);
     either_from(

@@ -26,7 +26,7 @@ mod stretch;
 
 pub use act::Act;
 pub use devices::Devices;
-pub use parts::{DeviceParts, SLEW_MAX_NS};
+pub use parts::DeviceParts;
 
 #[cfg(test)]
 mod tests;

@@ -41,8 +41,13 @@ fn at_once(up: bool) -> Option<u64>
 
 /// The levels of the lines.
 pub(crate) fn lines_of(rtc: &Rtc, hpet: &Hpet, ticks: &[TickLine; 10]) -> Lines
-    ensures { (p : PitParts) (slew : ℕ) → result.levels
-        ≡ levels (record { pit = p; rtc = rtc.now; hpet = hpet.now; ticks = ticks.now; slew_ns = slew }) }
+    ensures { (p : PitParts) (slew : ℕ) → result.levels ≡ levels (record {
+      pit = p;
+      rtc = rtc.now;
+      hpet = hpet.now;
+      ticks = ticks.now;
+      slew_ns = slew;
+    }) }
 {
     let _parts = hpet.parts();
     let pit = at_once(up_at(ticks, 0));

@@ -1,5 +1,18 @@
 //! All fields of the devices, the conditions on them, and five timers more.
-ghost use Rattle.std.specs.Prelude.{◌≡◌, ℕ, ◌+◌, ◌<◌, ◌↔◌, map, nat_lt, slice_index_or, if◌then◌else◌, IsTrue, IsSome, IfSome};
+ghost use Rattle.std.specs.Prelude.{
+  ◌≡◌,
+  ℕ,
+  ◌+◌,
+  ◌<◌,
+  ◌↔◌,
+  map,
+  nat_lt,
+  slice_index_or,
+  if◌then◌else◌,
+  IsTrue,
+  IsSome,
+  IfSome,
+};
 ghost use Rattle.pit_readback.specs.declared.parts.PitParts.{PitParts};
 ghost use Rattle.hpet_comparator.specs.Parts.{timer_at_power_on};
 ghost use Rattle.hpet_registers.specs.Parts.{timer_at};
@@ -7,19 +20,23 @@ ghost use Rattle.tick_policy.specs.Line.{line_at_power_on};
 ghost use Rattle.tick_policy.specs.Parts.{IsTickLine};
 ghost use Rattle.board_devices.specs.Places.{no_line};
 ghost use Rattle.board_devices.specs.Lines.{levels};
-ghost use Rattle.board_devices.specs.Parts.{IsTimerLine, IsDevices, AreDevices, eight_timers, devices_upgraded};
+ghost use Rattle.board_devices.specs.Parts.{
+  IsTimerLine,
+  IsDevices,
+  AreDevices,
+  eight_timers,
+  devices_upgraded,
+};
 ghost use Rattle.board_devices.specs.private.Stretch.{ten};
 
 use crate::clock::clock_up;
 use crate::devices::Devices;
+use board_types::SLEW_MAX_NS;
 use hpet_comparator::{Timer, TimerParts};
 use hpet_registers::{Hpet, HpetParts};
 use pit_readback::{Pit, PitParts};
 use rtc_registers::{Rtc, RtcParts};
 use tick_policy::{Policy, TickLine, TickParts};
-
-/// The greatest number of nanoseconds between catch-up points.
-pub const SLEW_MAX_NS: u64 = 1_000_000_000;
 
 /// All that runs with time.
 #[derive(Clone, Copy, Debug, PartialEq, Eq)]
@@ -123,7 +140,13 @@ fn lines_of_parts(parts: &[TickParts; 10]) -> Option<[TickLine; 10]>
 /// Whether the conditions that join the devices hold.
 fn are_joined(rtc: &Rtc, hpet: &Hpet, ticks: &[TickLine; 10], slew_ns: u64) -> bool
     ensures { (p : PitParts)
-        → IsTrue result ↔ IsDevices (record { pit = p; rtc = rtc.now; hpet = hpet.now; ticks = ticks.now; slew_ns = slew_ns }) }
+        → IsTrue result ↔ IsDevices (record {
+          pit = p;
+          rtc = rtc.now;
+          hpet = hpet.now;
+          ticks = ticks.now;
+          slew_ns = slew_ns;
+        }) }
 {
     let h = hpet.parts();
     1 <= slew_ns
@@ -136,7 +159,8 @@ fn are_joined(rtc: &Rtc, hpet: &Hpet, ticks: &[TickLine; 10], slew_ns: u64) -> b
 /// Whether the lines of the timers have one policy, and the other places hold nothing.
 fn are_timer_lines(ticks: &[TickLine; 10], timers: u8) -> bool
     ensures { IsTrue result ↔ ((k : ℕ) → k < 8
-        → IsTimerLine (nat_lt k timers) (slice_index_or ticks.now 2 no_line).policy (slice_index_or ticks.now (k + 2) no_line)) }
+        → IsTimerLine (nat_lt k timers) (slice_index_or ticks.now 2 no_line).policy
+        (slice_index_or ticks.now (k + 2) no_line)) }
 {
     let policy = ticks[2].policy();
     for k in 0..8u8 {

@@ -1,7 +1,26 @@
 //! The devices over a stretch of nanoseconds in which nobody accesses them.
-ghost use Rattle.std.specs.Prelude.{◌≡◌, ℕ, ◌+◌, ◌-◌, ◌*◌, ◌/◌, ◌<◌, ◌≤◌, ◌^◌, ◌&&◌, ◌++◌, length, IsTrue};
+ghost use Rattle.std.specs.Prelude.{
+  ◌≡◌,
+  ℕ,
+  ◌+◌,
+  ◌-◌,
+  ◌*◌,
+  ◌/◌,
+  ◌<◌,
+  ◌≤◌,
+  ◌^◌,
+  ◌&&◌,
+  ◌++◌,
+  length,
+  IsTrue,
+  false,
+  Some,
+  None,
+  if◌then◌else◌,
+};
 ghost use Rattle.irq_edges.specs.declared.edges.TheConstants.{EDGE_PLACES};
 ghost use Rattle.irq_edges.specs.Lines.{line_numbers, level_of};
+ghost use Rattle.irq_edges.specs.Rises.{IsNextRise};
 ghost use Rattle.board_devices.specs.Rises.{one_if, lifts};
 ghost use Rattle.board_devices.specs.Places.{line_at};
 ghost use Rattle.board_devices.specs.Lines.{levels};
@@ -22,15 +41,15 @@ use pit_readback::PIT_HZ;
 use rtc_registers::{RTC_HZ, RtcEvents};
 
 impl Devices {
-    /// Runs from nanosecond `from` to `to`. Answers from when on each line is up, or None where
-    /// nothing came that could move one.
-    fn advance(&mut self, from: u64, to: u64) -> Option<[Option<u64>; 6]>
+    /// Runs from nanosecond `from` to `to`. Answers whether something came that could move a line,
+    /// and then puts into `times` from when on each line is up.
+    fn advance(&mut self, from: u64, to: u64, times: &mut [Option<u64>; 6]) -> bool
         requires order { from ≤ to }
         requires range { to < 2 ^ 59 }
         requires room { (k : ℕ) → k < 10 → (line_at k self.old).counts.due + (to - from) < 2 ^ 63 }
         ensures state { self.new ≡ (run from (to - from) self.old).state }
         ensures levels { (j : ℕ) → from + j ≤ to → levels (run from j self.old).state
-            ≡ told_levels (from + j) (levels self.old) result }
+            ≡ told_levels (from + j) (levels self.old) (if result then Some times.new else None) }
         ensures due { (k : ℕ) → k < 10 → (line_at k self.new).counts.due
             ≤ (line_at k self.old).counts.due + (to - from) }
     {
@@ -41,9 +60,11 @@ impl Devices {
         let point = next_point(from, self.slew_ns);
         let rises = self.pit.pulses(pulses_between(from, to, PIT_HZ));
         let events = self.rtc.pulses(pulses_between(from, to, RTC_HZ));
-        let matches = self.hpet.pulses(pulses_between(from, to, HPET_HZ));
+        let mut matches = [Matches::NONE; 8];
+        self.hpet
+            .pulses(pulses_between(from, to, HPET_HZ), &mut matches);
         if to < point && nothing_came(rises, &events, &matches) {
-            return None;
+            return false;
         }
         let span = Span { from, to, point };
         let counts = counts_rtc(shown.pie, legacy);
@@ -54,16 +75,9 @@ impl Devices {
         let flag = counts_rtc_up(counts, self.ticks[1].is_up());
         set_flag(&mut self.rtc, flag);
         let irq = irq_up(shown, rtc_up, &events, span);
-        let mut times = front_times(legacy, pit_up, irq);
-        run_timers(
-            &mut self.ticks,
-            &self.hpet,
-            status,
-            &matches,
-            span,
-            &mut times,
-        );
-        Some(times)
+        *times = front_times(legacy, pit_up, irq);
+        run_timers(&mut self.ticks, &self.hpet, status, &matches, span, times);
+        true
     }
 
     /// Runs from nanosecond `from` to `to`, and appends the edges on the way. Six places must be
@@ -86,9 +100,12 @@ impl Devices {
         if from == to {
             return;
         }
-        match self.advance(from, to) {
-            Some(times) => emit(&times, from, to, edges),
-            None => {}
+        let mut times = [None; 6];
+        if !self.advance(from, to, &mut times) {
+            return;
+        }
+        if goes_up(&times, from) {
+            emit(&times, from, to, edges);
         }
     }
 
@@ -100,10 +117,11 @@ impl Devices {
         ensures { IsNextEdge now self.now result }
     {
         let mut copy = *self;
-        match copy.advance(now, RANGE_NS - 1) {
-            Some(times) => next_rise(&times, now, RANGE_NS - 1),
-            None => None,
+        let mut times = [None; 6];
+        if !copy.advance(now, RANGE_NS - 1, &mut times) {
+            return None;
         }
+        next_rise(&times, now, RANGE_NS - 1)
     }
 }
 
@@ -130,6 +148,28 @@ fn nothing_matched(matches: &[Matches; 8]) -> bool
         }
     }
     true
+}
+
+/// Whether a line goes up behind `from`, by the times from which on the lines are up.
+fn goes_up(times: &[Option<u64>; 6], from: u64) -> bool
+    ensures { result ≡ false → (to : ℕ) → IsNextRise times.now from to None }
+{
+    for time in times {
+        if is_behind(*time, from) {
+            return true;
+        }
+    }
+    false
+}
+
+/// Whether a time, where there is one, lies behind `from`.
+fn is_behind(time: Option<u64>, from: u64) -> bool
+    ensures { result ≡ false → (t : ℕ) → time ≡ Some t → t ≤ from }
+{
+    match time {
+        Some(t) => from < t,
+        None => false,
+    }
 }
 
 /// Whether PF is to be set.

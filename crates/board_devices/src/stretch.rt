@@ -1,5 +1,19 @@
 //! The tick lines over a stretch of nanoseconds.
-ghost use Rattle.std.specs.Prelude.{◌≡◌, ◌≢◌, ℕ, ◌+◌, ◌-◌, ◌<◌, ◌≤◌, ◌^◌, true, not, IfSome, length, slice_index_or};
+ghost use Rattle.std.specs.Prelude.{
+  ◌≡◌,
+  ◌≢◌,
+  ℕ,
+  ◌+◌,
+  ◌-◌,
+  ◌<◌,
+  ◌≤◌,
+  ◌^◌,
+  true,
+  not,
+  IfSome,
+  length,
+  slice_index_or,
+};
 ghost use Rattle.clk_units.specs.Bits.{bit};
 ghost use Rattle.pit_readback.specs.declared.TheConstants.{PIT_HZ};
 ghost use Rattle.rtc_registers.specs.declared.TheConstants.{RTC_HZ};
@@ -8,7 +22,15 @@ ghost use Rattle.clk_units.specs.Pulses.{pulses_from};
 ghost use Rattle.clk_units.specs.Events.{first_at};
 ghost use Rattle.hpet_registers.specs.Stretch.{timer_matches};
 ghost use Rattle.board_devices.specs.Places.{no_line};
-ghost use Rattle.board_devices.specs.private.Stretch.{counted, timer_ticks, moves, end_of, up_of, output_up, slots_from};
+ghost use Rattle.board_devices.specs.private.Stretch.{
+  counted,
+  timer_ticks,
+  moves,
+  end_of,
+  up_of,
+  output_up,
+  slots_from,
+};
 
 use crate::levels::{add_rise, flag_from, slot_of};
 use clk_units::{bit, first_at};
@@ -86,17 +108,20 @@ pub(crate) fn rtc_ticks(b: bool, events: &RtcEvents, span: Span) -> Ticks
 }
 
 /// Whether a stretch may change a line: a tick is due, or its catch-up point finds one that waits.
+#[inline(always)]
 fn moves(line: &TickLine, ticks: Ticks, span: Span) -> bool
-    ensures { result ≡ moves span.point span.to ticks line.now }
+    ensures value { result ≡ moves span.point span.to ticks line.now }
+    ensures seen { result ≡ true → ticks.seen ≡ true }
 {
     ticks.seen
         && (ticks.count > 0
             || (ticks.first.is_some() || (span.point <= span.to && line.is_waiting())))
 }
 
-/// Takes the line at place `k` over a stretch. Answers from when on it is up.
-pub(crate) fn run_at(lines: &mut [TickLine; 10], k: usize, ticks: Ticks, span: Span) -> Option<u64>
+/// Takes the line at place `k` over a stretch that may change it. Answers from when on it is up.
+fn run_moved(lines: &mut [TickLine; 10], k: usize, ticks: Ticks, span: Span) -> Option<u64>
     requires place { k < 10 }
+    requires seen { ticks.seen ≡ true }
     requires room { (slice_index_or lines.old k no_line).counts.due + ticks.count < 2 ^ 63 }
     ensures places { length lines.new ≡ 10 }
     ensures here { slice_index_or lines.new k no_line
@@ -106,13 +131,6 @@ pub(crate) fn run_at(lines: &mut [TickLine; 10], k: usize, ticks: Ticks, span: S
     ensures up { result
         ≡ up_of span.from span.point span.to ticks (slice_index_or lines.old k no_line) }
 {
-    if !moves(&lines[k], ticks, span) {
-        return if lines[k].is_up() {
-            Some(span.from)
-        } else {
-            None
-        };
-    }
     let mut line = lines[k];
     let up = run_line(
         &mut line,
@@ -124,6 +142,29 @@ pub(crate) fn run_at(lines: &mut [TickLine; 10], k: usize, ticks: Ticks, span: S
     );
     lines[k] = line;
     up
+}
+
+/// Takes the line at place `k` over a stretch. Answers from when on it is up.
+// Most lines of a stretch are left alone: where this is inlined, that takes a few tests.
+#[inline(always)]
+pub(crate) fn run_at(lines: &mut [TickLine; 10], k: usize, ticks: Ticks, span: Span) -> Option<u64>
+    requires place { k < 10 }
+    requires room { (slice_index_or lines.old k no_line).counts.due + ticks.count < 2 ^ 63 }
+    ensures places { length lines.new ≡ 10 }
+    ensures here { slice_index_or lines.new k no_line
+        ≡ end_of span.point span.to ticks (slice_index_or lines.old k no_line) }
+    ensures others { (j : ℕ) → j ≢ k
+        → slice_index_or lines.new j no_line ≡ slice_index_or lines.old j no_line }
+    ensures up { result
+        ≡ up_of span.from span.point span.to ticks (slice_index_or lines.old k no_line) }
+{
+    if moves(&lines[k], ticks, span) {
+        run_moved(lines, k, ticks, span)
+    } else if lines[k].is_up() {
+        Some(span.from)
+    } else {
+        None
+    }
 }
 
 /// Takes the tick line of timer `k` of an HPET that has had its pulses over a stretch. Answers from

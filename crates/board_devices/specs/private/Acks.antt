@@ -1,5 +1,19 @@
 -- An acknowledgement of a line, by what its tick lines show; private contracts alone cite this.
-use Rattle.std.specs.Prelude.{ℕ, zero, suc, Bool, false, ◌&&◌, ◌||◌, ◌==◌, not, nat_lt, if◌then◌else◌, List, slice_index_or}
+use Rattle.std.specs.Prelude.{
+  ℕ,
+  zero,
+  suc,
+  Bool,
+  false,
+  ◌&&◌,
+  ◌||◌,
+  ◌==◌,
+  not,
+  nat_lt,
+  if◌then◌else◌,
+  List,
+  slice_index_or,
+}
 use Rattle.hpet_comparator.specs.Parts.{is_level, route_of}
 use Rattle.hpet_registers.specs.declared.parts.HpetParts.{HpetParts}
 use Rattle.hpet_registers.specs.Parts.{timer_at}

@@ -1,5 +1,27 @@
 -- The devices over a stretch of nanoseconds, each by itself; private contracts alone cite this.
-use Rattle.std.specs.Prelude.{ℕ, zero, suc, Bool, true, false, ◌&&◌, ◌||◌, ◌==◌, not, nat_le, nat_lt, if◌then◌else◌, Option, Some, None, List, [], ◌∷◌, slice_index_or, slice_set}
+use Rattle.std.specs.Prelude.{
+  ℕ,
+  zero,
+  suc,
+  Bool,
+  true,
+  false,
+  ◌&&◌,
+  ◌||◌,
+  ◌==◌,
+  not,
+  nat_le,
+  nat_lt,
+  if◌then◌else◌,
+  Option,
+  Some,
+  None,
+  List,
+  [],
+  ◌∷◌,
+  slice_index_or,
+  slice_set,
+}
 use Rattle.std.specs.Option.{is_some}
 use Rattle.pit_readback.specs.declared.TheConstants.{PIT_HZ}
 use Rattle.rtc_registers.specs.declared.TheConstants.{RTC_HZ}
@@ -113,7 +135,8 @@ output_from from k h matched line =
 abbrev pub output_up : Span → ℕ → HpetParts → Bool → Matches → TickParts → Option ℕ
 output_up span k h was_set m l =
     if is_level (timer_at k h)
-    then flag_from (is_enabled (timer_at k h)) was_set span.from (first_at HPET_HZ span.from m.first)
+    then flag_from (is_enabled (timer_at k h)) was_set span.from
+    (first_at HPET_HZ span.from m.first)
     else up_of span.from span.point span.to (timer_ticks span.from k h m) l
 
 -- from when on one of the first n timers drives the line and is up

@@ -37,7 +37,8 @@ level : (c : goal.After-ack_at-after) (ls : List TickParts) → (get_or ls 0 no_
 level c ls = ap (λ (b : Bool). cond b (get_or ls 0 no_line).up (shown_by (is_legacy c.args.h.now) c.args.line 8 c.args.h.now ls)) (sym (plain c))
 
 -- the first line behind the operation
-first : (c : goal.After-ack_at-after) (op : Bool → TickParts → TickParts) → (get_or (each (λ k l. op (acks c.args.line c.args.h.now k) l) 0 c.args.ticks.now) 0 no_line).up
+first : (c : goal.After-ack_at-after) (op : Bool → TickParts → TickParts)
+    → (get_or (each (λ k l. op (acks c.args.line c.args.h.now k) l) 0 c.args.ticks.now) 0 no_line).up
     ≡ (op true (get_or c.args.ticks.now 0 no_line)).up
 first c op = ap (λ (l : TickParts). l.up) (each-at (λ k l. op (acks c.args.line c.args.h.now k) l) 0 0 c.args.ticks.now no_line (omega (arith, c.told-ticks)))
     ∙ ap (λ (b : Bool). (op b (get_or c.args.ticks.now 0 no_line)).up) (plain c)

@@ -13,7 +13,8 @@ pub returns-clause-levels : goal.returns-clause-levels
 returns-clause-levels c =
     let l : TickParts = get_or c.args.ticks.now (c.args.k + 2) no_line in
     let was : c.is_up.result ≡ l.up =
-    c.is_up.ensures ∙ ap (λ (x : TickParts). x.up) (get_or_default c.args.ticks.now (c.args.k + 2) c.index-ticks-k.result no_line (omega (arith, c.told-ticks))) in
+    c.is_up.ensures
+    ∙ ap (λ (x : TickParts). x.up) (get_or_default c.args.ticks.now (c.args.k + 2) c.index-ticks-k.result no_line (omega (arith, c.told-ticks))) in
     let edge : is_level (timer_at c.args.k c.args.h.now) ≡ false =
     ap (λ (t : TimerParts). is_level t) (sym c.timer.ensures.value) ∙ sym c.is_level.ensures ∙ c.if-is_level.false in
     same_levels

@@ -9,7 +9,8 @@ use Rattle.board_devices.proofs.parts.with_eight_timers.Goals as goal
 -- the timers, as they are made
 made : (c : goal.In-None) → c.timer_or_new.result ∷ c.timer_or_new-2.result ∷ c.timer_or_new-3.result ∷ c.timer_or_new-4.result ∷ c.timer_or_new-5.result
     ∷ c.timer_or_new-6.result ∷ c.timer_or_new-7.result ∷ c.timer_or_new-8.result ∷ [] ≡ eight_timers c.parts-h.result
-made c = rw (c.timer_or_new.ensures, c.timer_or_new-2.ensures, c.timer_or_new-3.ensures, c.timer_or_new-4.ensures, c.timer_or_new-5.ensures, c.timer_or_new-6.ensures, c.timer_or_new-7.ensures, c.timer_or_new-8.ensures) refl
+made c = rw (c.timer_or_new.ensures, c.timer_or_new-2.ensures, c.timer_or_new-3.ensures, c.timer_or_new-4.ensures)
+    (rw (c.timer_or_new-5.ensures, c.timer_or_new-6.ensures, c.timer_or_new-7.ensures, c.timer_or_new-8.ensures) refl)
 
 pub unreachable-requires : goal.unreachable-requires
 unreachable-requires c = false≢true

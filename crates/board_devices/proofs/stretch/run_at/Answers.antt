@@ -12,7 +12,7 @@ returns-then-is_up-clause-here c =
     sym (end-still c.args.span.point c.args.span.to c.args.ticks l
     (ap (moves c.args.span.point c.args.span.to c.args.ticks)
     (sym (get_or_default c.args.lines.now c.args.k c.index-lines-k.result no_line (omega (arith, c.told-lines))))
-    ∙ sym c.moves.ensures ∙ c.if-not-moves.true))
+    ∙ sym c.moves.ensures.value ∙ c.if-moves.false))
 
 pub returns-else-is_up-clause-here : goal.returns-else-is_up-clause-here
 returns-else-is_up-clause-here c =
@@ -20,4 +20,4 @@ returns-else-is_up-clause-here c =
     sym (end-still c.args.span.point c.args.span.to c.args.ticks l
     (ap (moves c.args.span.point c.args.span.to c.args.ticks)
     (sym (get_or_default c.args.lines.now c.args.k c.index-lines-k.result no_line (omega (arith, c.told-lines))))
-    ∙ sym c.moves.ensures ∙ c.if-not-moves.true))
+    ∙ sym c.moves.ensures.value ∙ c.if-moves.false))

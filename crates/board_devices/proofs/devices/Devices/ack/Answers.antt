@@ -15,7 +15,8 @@ use Rattle.board_devices.proofs.Masks.{due-acked}
 use Rattle.board_devices.proofs.AckEdges.{edges-ack}
 use Rattle.board_devices.proofs.devices.Devices.ack.Goals as goal
 
-again : (c : goal.After-push_change-2) → c.ack_lines-levels.new.ticks ≡ each (λ k l. acked_where (acks c.args.line c.self.inside.hpet k) l) 0 c.self.inside.ticks
+again : (c : goal.After-push_change-2)
+    → c.ack_lines-levels.new.ticks ≡ each (λ k l. acked_where (acks c.args.line c.self.inside.hpet k) l) 0 c.self.inside.ticks
 again c = c.ack_lines-levels.ensures.state
 
 pub invariant_of-self : goal.invariant_of-self

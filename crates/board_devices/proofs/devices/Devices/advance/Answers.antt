@@ -1,4 +1,5 @@
-use Rattle.std.proofs.Common.{◌≡◌, ℕ, zero, suc, ◌+◌, ◌-◌, ◌*◌, ◌/◌, ◌<◌, ◌≤◌, ◌^◌, ◌&&◌, Bool, get_or, List, Option, Some, None, ap, sym, subst, refl, ◌∙◌, arith}
+use Rattle.std.proofs.Common.{◌≡◌, ℕ, zero, suc, ◌+◌, ◌-◌, ◌*◌, ◌/◌, ◌<◌, ◌≤◌, ◌^◌, ◌&&◌, Bool}
+use Rattle.std.proofs.Common.{get_or, List, Option, Some, None, ap, sym, subst, refl, ◌∙◌, arith}
 use Rattle.std.proofs.lemmas.List.{get_or_default}
 use Rattle.clk_units.specs.Bits.{bit}
 use Rattle.clk_units.specs.Pulses.{pulses_from}
@@ -45,7 +46,8 @@ run_at-rtc_up-requires-clause-room c =
 
 pub run_timers-requires-clause-inside : goal.run_timers-requires-clause-inside
 run_timers-requires-clause-inside c = λ k less.
-    by_first (matches_of k c.self.inside.hpet) _ (timer_matches c.pulses-matches.result k).first (rw c.pulses_between-3.ensures.value at (c.pulses-matches.ensures.first k))
+    by_first (matches_of k c.self.inside.hpet) _ (timer_matches c.pulses.new.matches k).first
+    (rw c.pulses_between-3.ensures.value at (c.pulses.ensures.first k))
   where
     by_first : (count : ℕ → ℕ) (n : ℕ) (first : Option ℕ) → IsFirst count n first → IfSome first (λ j. j ≤ n)
     by_first count n None h = tt
@@ -59,7 +61,7 @@ run_timers-requires-clause-room c = λ k less.
     let same : (get_or c.run_at-rtc_up.new.lines (k + 2) no_line).counts.due ≡ (line_at (k + 2) (parts_of c.self.inside)).counts.due =
     ap (λ (l : TickParts). l.counts.due) (c.run_at-rtc_up.ensures.others (k + 2) (λ e. absurd (omega (arith, e)))
     ∙ c.run_at-pit_up.ensures.others (k + 2) (λ e. absurd (omega (arith, e)))) in
-    omega (arith, room, same, c.pulses-matches.ensures.few k, c.pulses_between-3.ensures.few)
+    omega (arith, room, same, c.pulses.ensures.few k, c.pulses_between-3.ensures.few)
 
 -- the lines behind those of the 8254 and the MC146818
 behind : (c : goal.After-run_timers) → (k : ℕ) → k < 8 → get_or c.run_at-rtc_up.new.lines (k + 2) no_line ≡ line_at (suc (suc k)) (parts_of c.self.inside)
@@ -80,7 +82,7 @@ valid : (c : goal.After-run_timers) → IsHpet c.self.inside.hpet
 valid c = subst IsHpet c.parts-status.ensures.parts c.parts-status.ensures.valid
 
 brought : (c : goal.After-run_timers)
-    → Brought (parts_of c.self.inside) c.args.from (c.args.to - c.args.from) c.pulses-rises.result c.pulses-events.result c.pulses-matches.result
+    → Brought (parts_of c.self.inside) c.args.from (c.args.to - c.args.from) c.pulses-rises.result c.pulses-events.result c.pulses.new.matches
 brought c = record {
   pit_count = rw c.pulses_between.ensures.value at c.pulses-rises.ensures.count;
   pit_first = rw c.pulses_between.ensures.value at c.pulses-rises.ensures.first;
@@ -88,8 +90,8 @@ brought c = record {
   rtc_first = rw c.pulses_between-2.ensures.value at c.pulses-events.ensures.first_tick;
   update_first = rw c.pulses_between-2.ensures.value at c.pulses-events.ensures.first_update;
   alarm_first = rw c.pulses_between-2.ensures.value at c.pulses-events.ensures.first_alarm;
-  timer_count = rw c.pulses_between-3.ensures.value at c.pulses-matches.ensures.count;
-  timer_first = rw c.pulses_between-3.ensures.value at c.pulses-matches.ensures.first;
+  timer_count = rw c.pulses_between-3.ensures.value at c.pulses.ensures.count;
+  timer_first = rw c.pulses_between-3.ensures.value at c.pulses.ensures.first;
 }
 
 counts_is : (c : goal.After-run_timers) → c.counts_rtc-counts.result ≡ counts_rtc (parts_of c.self.inside)
@@ -101,7 +103,7 @@ ahead c = (c.args.from / c.self.inside.slew_ns + 1) * c.self.inside.slew_ns - c.
 
 known : (c : goal.After-run_timers)
     → Known (parts_of c.self.inside) c.args.from (c.args.to - c.args.from) (ahead c)
-    c.pulses-rises.result c.pulses-events.result c.pulses-matches.result c.pit_ticks-pit.result c.rtc_ticks-rtc.result
+    c.pulses-rises.result c.pulses-events.result c.pulses.new.matches c.pit_ticks-pit.result c.rtc_ticks-rtc.result
 unfolding ahead
 known c = record {
   sound = sound c;
@@ -118,8 +120,9 @@ point_is c = omega (arith, (known c).point.later, c.next_point-point.ensures)
 end_is : (c : goal.After-run_timers) → c.args.to ≡ c.args.from + (c.args.to - c.args.from)
 end_is c = omega (arith, c.requires.order)
 
-hpet_is : (c : goal.After-run_timers) → c.pulses-matches.new.self ≡ hpet_pulsed_times (pulses_from HPET_HZ c.args.from (c.args.to - c.args.from)) c.self.inside.hpet
-hpet_is c = rw c.pulses_between-3.ensures.value at c.pulses-matches.ensures.state
+hpet_is : (c : goal.After-run_timers)
+    → c.pulses.new.self ≡ hpet_pulsed_times (pulses_from HPET_HZ c.args.from (c.args.to - c.args.from)) c.self.inside.hpet
+hpet_is c = rw c.pulses_between-3.ensures.value at c.pulses.ensures.state
 
 -- the lines at the end
 first_line : (c : goal.After-run_timers) → get_or c.run_at-rtc_up.new.lines 1 no_line
@@ -130,15 +133,15 @@ first_line c =
 
 ends : (c : goal.After-run_timers) → (k : ℕ) → k < 10 → get_or c.run_timers.new.lines k no_line
     ≡ end_of c.next_point-point.result c.args.to
-    (ticks_at c.args.from c.self.inside.hpet c.pulses-matches.result c.pit_ticks-pit.result c.rtc_ticks-rtc.result k) (line_at k (parts_of c.self.inside))
+    (ticks_at c.args.from c.self.inside.hpet c.pulses.new.matches c.pit_ticks-pit.result c.rtc_ticks-rtc.result k) (line_at k (parts_of c.self.inside))
 ends c zero less = c.run_timers.ensures.front 0 (omega arith) ∙ c.run_at-rtc_up.ensures.others 0 (λ e. absurd (omega (arith, e))) ∙ c.run_at-pit_up.ensures.here
 ends c (suc zero) less = c.run_timers.ensures.front 1 (omega arith) ∙ first_line c
 ends c (suc (suc k)) less = ends-timers (known c) c.next_point-point.result c.args.to c.run_at-rtc_up.new.lines c.run_timers.new.lines (behind c)
     (λ j inside. subst (λ (h : HpetParts). get_or c.run_timers.new.lines (j + 2) no_line ≡ end_of c.next_point-point.result c.args.to
-    (timer_ticks c.args.from j h (timer_matches c.pulses-matches.result j)) (get_or c.run_at-rtc_up.new.lines (j + 2) no_line)) (hpet_is c)
+    (timer_ticks c.args.from j h (timer_matches c.pulses.new.matches j)) (get_or c.run_at-rtc_up.new.lines (j + 2) no_line)) (hpet_is c)
     (c.run_timers.ensures.done j (subst (λ (h : HpetParts). j < h.timers) (sym (hpet_is c)) inside)))
     (λ j past. c.run_timers.ensures.rest j (subst (λ (h : HpetParts). h.timers + 2 ≤ j) (sym (hpet_is c)) past))
-    c.pulses-matches.ensures.none k (omega arith)
+    c.pulses.ensures.none k (omega arith)
 
 -- PF follows its line
 rtc_is : (c : goal.After-run_timers) → c.set_flag.new.rtc
@@ -159,11 +162,11 @@ state : (c : goal.After-run_timers)
     → parts_of (record {
       pit = c.pulses-rises.new.self;
       rtc = c.set_flag.new.rtc;
-      hpet = c.pulses-matches.new.self;
+      hpet = c.pulses.new.self;
       ticks = c.run_timers.new.lines;
       slew_ns = c.self.inside.slew_ns;
     }) ≡ (run c.args.from (c.args.to - c.args.from) (parts_of c.self.inside)).state
-state c = ran-state (known c) c.next_point-point.result c.args.to c.run_timers.new.lines c.pulses-rises.new.self c.set_flag.new.rtc c.pulses-matches.new.self
+state c = ran-state (known c) c.next_point-point.result c.args.to c.run_timers.new.lines c.pulses-rises.new.self c.set_flag.new.rtc c.pulses.new.self
     (point_is c) (end_is c) c.run_timers.ensures.places (ends c)
     (rw c.pulses_between.ensures.value at c.pulses-rises.ensures.state) (rtc_is c) (hpet_is c)
 
@@ -200,18 +203,18 @@ times : (c : goal.After-run_timers) → c.run_timers.new.times ≡ lines_from (k
 times c =
     let status : ℕ = c.parts-status.result.status in
     let before : List TickParts = c.run_at-rtc_up.new.lines in
-    let ms : List Matches = c.pulses-matches.result in
+    let ms : List Matches = c.pulses.new.matches in
     let h : HpetParts = hpet_pulsed_times (pulses_from HPET_HZ c.args.from (c.args.to - c.args.from)) c.self.inside.hpet in
     let span : Span = record { from = c.args.from; to = c.args.to; point = c.next_point-point.result } in
     c.run_timers.ensures.times
     ∙ ap (λ (g : HpetParts). slots_from g.timers g
-    (λ k. output_up span k g (bit k status) (timer_matches ms k) (get_or before (k + 2) no_line)) c.front_times-times.result) (hpet_is c)
+    (λ k. output_up span k g (bit k status) (timer_matches ms k) (get_or before (k + 2) no_line)) c.front_times.result) (hpet_is c)
     ∙ ap (λ (i : ℕ). slots_from h.timers h (λ k. output_up (record { from = c.args.from; to = i; point = c.next_point-point.result }) k h (bit k status)
-    (timer_matches ms k) (get_or before (k + 2) no_line)) c.front_times-times.result) (end_is c)
+    (timer_matches ms k) (get_or before (k + 2) no_line)) c.front_times.result) (end_is c)
     ∙ ap (λ (i : ℕ). slots_from h.timers h (λ k. output_up (record { from = c.args.from; to = c.args.from + (c.args.to - c.args.from); point = i }) k h
-    (bit k status) (timer_matches ms k) (get_or before (k + 2) no_line)) c.front_times-times.result) (point_is c)
+    (bit k status) (timer_matches ms k) (get_or before (k + 2) no_line)) c.front_times.result) (point_is c)
     ∙ ap (slots_from h.timers h (λ k. output_up (record { from = c.args.from; to = c.args.from + (c.args.to - c.args.from); point = c.args.from + ahead c }) k h
-    (bit k status) (timer_matches ms k) (get_or before (k + 2) no_line))) c.front_times-times.ensures
+    (bit k status) (timer_matches ms k) (get_or before (k + 2) no_line))) c.front_times.ensures
     ∙ times-are (known c) status before c.run_at-pit_up.result c.irq_up-irq.result c.legacy-legacy.result (valid c)
     (ap (λ (g : HpetParts). g.status) c.parts-status.ensures.parts) (behind c) (pit_up c) (irq_up c) c.legacy-legacy.ensures
 
@@ -236,19 +239,25 @@ still c = record {
   rises = sym (rw c.pulses_between.ensures.value at c.pulses-rises.ensures.count) ∙ c.if-nothing_came.ensures.rises refl;
   ticks = sym (rw c.pulses_between-2.ensures.value at c.pulses-events.ensures.ticks) ∙ c.if-nothing_came.ensures.ticks refl;
   updates = sym (rw c.pulses_between-2.ensures.value at c.pulses-events.ensures.updates) ∙ c.if-nothing_came.ensures.updates refl;
-  matches = λ k less. sym (rw c.pulses_between-3.ensures.value at (c.pulses-matches.ensures.count k)) ∙ c.if-nothing_came.ensures.matches refl k less;
+  matches = λ k less. sym (rw c.pulses_between-3.ensures.value at (c.pulses.ensures.count k)) ∙ c.if-nothing_came.ensures.matches refl k less;
 }
 
 state_still : (c : goal.Then-nothing_came)
-    → parts_of (record { pit = c.pulses-rises.new.self; rtc = c.pulses-events.new.self; hpet = c.pulses-matches.new.self; ticks = c.self.inside.ticks; slew_ns = c.self.inside.slew_ns }) ≡ (run c.args.from (c.args.to - c.args.from) (parts_of c.self.inside)).state
-state_still c = run-still (still c) c.pulses-rises.new.self c.pulses-events.new.self c.pulses-matches.new.self
+    → parts_of (record {
+      pit = c.pulses-rises.new.self;
+      rtc = c.pulses-events.new.self;
+      hpet = c.pulses.new.self;
+      ticks = c.self.inside.ticks;
+      slew_ns = c.self.inside.slew_ns;
+    }) ≡ (run c.args.from (c.args.to - c.args.from) (parts_of c.self.inside)).state
+state_still c = run-still (still c) c.pulses-rises.new.self c.pulses-events.new.self c.pulses.new.self
     (rw c.pulses_between.ensures.value at c.pulses-rises.ensures.state) (rw c.pulses_between-2.ensures.value at c.pulses-events.ensures.state)
-    (rw c.pulses_between-3.ensures.value at c.pulses-matches.ensures.state)
+    (rw c.pulses_between-3.ensures.value at c.pulses.ensures.state)
 
 pub invariant_of-self : goal.invariant_of-self
-invariant_of-self c = IsDevices-still (still c) c.pulses-rises.new.self c.pulses-events.new.self c.pulses-matches.new.self
+invariant_of-self c = IsDevices-still (still c) c.pulses-rises.new.self c.pulses-events.new.self c.pulses.new.self
     (rw c.pulses_between.ensures.value at c.pulses-rises.ensures.state) (rw c.pulses_between-2.ensures.value at c.pulses-events.ensures.state)
-    (rw c.pulses_between-3.ensures.value at c.pulses-matches.ensures.state)
+    (rw c.pulses_between-3.ensures.value at c.pulses.ensures.state)
 
 pub returns-then-nothing_came-clause-state : goal.returns-then-nothing_came-clause-state
 returns-then-nothing_came-clause-state c = state_still c ∙ ap (λ (d : DeviceParts). (run c.args.from (c.args.to - c.args.from) d).state) c.self.view_is

@@ -15,7 +15,9 @@ returns-then-are_joined-clause-valid c = (
     rtc = c.in_ok-rtc.ensures.valid.0 refl;
     hpet = c.in_ok-hpet.ensures.valid.0 refl;
     lines = c.in_ok-ticks.ensures.valid.0 refl;
-    joined = subst IsDevices (same_parts c.args.parts c.in_ok-pit.ensures.value c.in_ok-rtc.ensures.value c.in_ok-hpet.ensures.value c.in_ok-ticks.ensures.value) ((c.are_joined.ensures c.in_ok-pit.pit).0 c.if-are_joined.true);
+    joined = subst IsDevices
+        (same_parts c.args.parts c.in_ok-pit.ensures.value c.in_ok-rtc.ensures.value c.in_ok-hpet.ensures.value c.in_ok-ticks.ensures.value)
+        ((c.are_joined.ensures c.in_ok-pit.pit).0 c.if-are_joined.true);
   },
   λ _. refl,
 )
@@ -25,5 +27,7 @@ returns-else-are_joined-clause-valid c = (
   λ e. absurd (false≢true e),
   λ (all : AreDevices c.args.parts). sym c.if-are_joined.false
       ∙ (c.are_joined.ensures c.in_ok-pit.pit).1
-      (subst IsDevices (sym (same_parts c.args.parts c.in_ok-pit.ensures.value c.in_ok-rtc.ensures.value c.in_ok-hpet.ensures.value c.in_ok-ticks.ensures.value)) all.joined),
+      (subst IsDevices
+      (sym (same_parts c.args.parts c.in_ok-pit.ensures.value c.in_ok-rtc.ensures.value c.in_ok-hpet.ensures.value c.in_ok-ticks.ensures.value))
+      all.joined),
 )

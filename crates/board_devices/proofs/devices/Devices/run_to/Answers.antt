@@ -1,26 +1,15 @@
-use Rattle.std.proofs.Common.{◌≡◌, ◌-◌, ◌++◌, ◌∙◌, Bool, ap, sym, List, append-nil, arith}
+use Rattle.std.proofs.Common.{◌≡◌, ℕ, ◌+◌, ◌-◌, ◌≤◌, ◌++◌, ◌∙◌, Bool, ap, sym, List, append-nil, arith}
 use Rattle.irq_edges.specs.declared.edges.Edge.{Edge}
 use Rattle.irq_edges.specs.Lines.{line_numbers, level_of}
+use Rattle.irq_edges.proofs.RisesOf.{rises_of-none}
 use Rattle.board_devices.specs.declared.parts.DeviceParts.{DeviceParts}
 use Rattle.board_devices.specs.Lines.{levels}
 use Rattle.board_devices.specs.Run.{run}
 use Rattle.board_devices.specs.Rises.{one_if, lifts}
 use Rattle.board_devices.proofs.Rises.{lifts-of_run, lifts-of_none}
 use Rattle.board_devices.proofs.Still.{edges-still}
-use Rattle.board_devices.proofs.Edges.{edges-run, run_none_edges}
+use Rattle.board_devices.proofs.Edges.{edges-run, run_none_edges, told-moved, told-still}
 use Rattle.board_devices.proofs.devices.Devices.run_to.Goals as goal
-
-pub returns-in-Some-clause-edges : goal.returns-in-Some-clause-edges
-returns-in-Some-clause-edges c =
-    c.emit.ensures.appended ∙ ap (λ (es : List Edge). c.args.edges.now ++ es)
-    (sym (edges-run c.args.self.now c.in-Some.times c.args.from c.args.to c.in-Some.ensures.levels (c.args.to - c.args.from)
-    (omega (arith, c.requires.order))))
-
-pub returns-in-None-clause-edges : goal.returns-in-None-clause-edges
-returns-in-None-clause-edges c =
-    sym (ap (λ (es : List Edge). c.args.edges.now ++ es)
-    (edges-still c.args.self.now c.args.from c.args.to c.in-None.ensures.levels (c.args.to - c.args.from) (omega (arith, c.requires.order)))
-    ∙ append-nil c.args.edges.now)
 
 pub returns-then-from-to-clause-edges : goal.returns-then-from-to-clause-edges
 returns-then-from-to-clause-edges c = sym
@@ -29,17 +18,53 @@ returns-then-from-to-clause-edges c = sym
 pub returns-then-from-to-clause-lifts : goal.returns-then-from-to-clause-lifts
 returns-then-from-to-clause-lifts c = λ n. lifts-of_none n c.args.from c.args.to c.args.self.now c.if-from-to.true
 
-pub returns-in-Some-clause-lifts : goal.returns-in-Some-clause-lifts
-returns-in-Some-clause-lifts c = λ n.
-    lifts-of_run n c.args.from c.args.to c.args.self.now c.in-Some.times c.requires.order (omega arith) c.in-Some.ensures.levels
-    ∙ ap (λ (d : DeviceParts). one_if (level_of line_numbers (levels d) n)) (sym c.advance.ensures.state)
+-- where nothing came
+still : (c : goal.Then-not-advance) (j : ℕ) → c.args.from + j ≤ c.args.to → levels (run c.args.from j c.args.self.now).state ≡ levels c.args.self.now
+still c = told-still c.args.self.now c.advance.new.times c.args.from c.args.to c.advance.result c.if-not-advance.true c.advance.ensures.levels
 
-pub returns-in-None-clause-lifts : goal.returns-in-None-clause-lifts
-returns-in-None-clause-lifts c = λ n.
+pub returns-then-not-advance-clause-edges : goal.returns-then-not-advance-clause-edges
+returns-then-not-advance-clause-edges c =
+    sym (ap (λ (es : List Edge). c.args.edges.now ++ es)
+    (edges-still c.args.self.now c.args.from c.args.to (still c) (c.args.to - c.args.from) (omega (arith, c.requires.order)))
+    ∙ append-nil c.args.edges.now)
+
+pub returns-then-not-advance-clause-lifts : goal.returns-then-not-advance-clause-lifts
+returns-then-not-advance-clause-lifts c = λ n.
     let none : lifts n (run c.args.from (c.args.to - c.args.from) c.args.self.now).edges
-    ≡ 0 = ap (lifts n) (edges-still c.args.self.now c.args.from c.args.to c.in-None.ensures.levels (c.args.to - c.args.from)
+    ≡ 0 = ap (lifts n) (edges-still c.args.self.now c.args.from c.args.to (still c) (c.args.to - c.args.from)
     (omega (arith, c.requires.order))) in
     let same : one_if (level_of line_numbers (levels c.args.self.now) n) ≡ one_if (level_of line_numbers (levels c.advance.new.self) n) =
-    ap (λ (bs : List Bool). one_if (level_of line_numbers bs n)) (sym (c.in-None.ensures.levels (c.args.to - c.args.from) (omega (arith, c.requires.order))))
+    ap (λ (bs : List Bool). one_if (level_of line_numbers bs n)) (sym (still c (c.args.to - c.args.from) (omega (arith, c.requires.order))))
     ∙ ap (λ (d : DeviceParts). one_if (level_of line_numbers (levels d) n)) (sym c.advance.ensures.state) in
     omega (arith, none, same)
+
+-- where something came
+pub returns-then-goes_up-clause-edges : goal.returns-then-goes_up-clause-edges
+returns-then-goes_up-clause-edges c =
+    c.emit.ensures.appended ∙ ap (λ (es : List Edge). c.args.edges.now ++ es)
+    (sym (edges-run c.args.self.now c.advance.new.times c.args.from c.args.to
+    (told-moved c.args.self.now c.advance.new.times c.args.from c.args.to c.advance.result c.if-not-advance.false c.advance.ensures.levels)
+    (c.args.to - c.args.from) (omega (arith, c.requires.order))))
+
+pub returns-then-goes_up-clause-lifts : goal.returns-then-goes_up-clause-lifts
+returns-then-goes_up-clause-lifts c = λ n.
+    lifts-of_run n c.args.from c.args.to c.args.self.now c.advance.new.times c.requires.order (omega arith)
+    (told-moved c.args.self.now c.advance.new.times c.args.from c.args.to c.advance.result c.if-not-advance.false c.advance.ensures.levels)
+    ∙ ap (λ (d : DeviceParts). one_if (level_of line_numbers (levels d) n)) (sym c.advance.ensures.state)
+
+-- .. and no line goes up
+pub returns-else-goes_up-clause-edges : goal.returns-else-goes_up-clause-edges
+returns-else-goes_up-clause-edges c =
+    sym (ap (λ (es : List Edge). c.args.edges.now ++ es)
+    (edges-run c.args.self.now c.advance.new.times c.args.from c.args.to
+    (told-moved c.args.self.now c.advance.new.times c.args.from c.args.to c.advance.result c.if-not-advance.false c.advance.ensures.levels)
+    (c.args.to - c.args.from) (omega (arith, c.requires.order))
+    ∙ rises_of-none line_numbers c.advance.new.times c.args.from c.args.to (c.args.to - c.args.from)
+    (c.goes_up.ensures c.if-goes_up.false c.args.to) (omega (arith, c.requires.order)))
+    ∙ append-nil c.args.edges.now)
+
+pub returns-else-goes_up-clause-lifts : goal.returns-else-goes_up-clause-lifts
+returns-else-goes_up-clause-lifts c = λ n.
+    lifts-of_run n c.args.from c.args.to c.args.self.now c.advance.new.times c.requires.order (omega arith)
+    (told-moved c.args.self.now c.advance.new.times c.args.from c.args.to c.advance.result c.if-not-advance.false c.advance.ensures.levels)
+    ∙ ap (λ (d : DeviceParts). one_if (level_of line_numbers (levels d) n)) (sym c.advance.ensures.state)

@@ -26,7 +26,13 @@ lines c =
     ∙ each-ten (line_upgraded (parts_of c.self.inside)) c.self.inside.ticks c.self.invariant.places
 
 state : (c : goal.After-lines_upgraded)
-    → parts_of (record { pit = c.self.inside.pit; rtc = c.self.inside.rtc; hpet = c.with_eight_timers.result; ticks = c.lines_upgraded.result; slew_ns = c.self.inside.slew_ns }) ≡ devices_upgraded (parts_of c.self.inside)
+    → parts_of (record {
+      pit = c.self.inside.pit;
+      rtc = c.self.inside.rtc;
+      hpet = c.with_eight_timers.result;
+      ticks = c.lines_upgraded.result;
+      slew_ns = c.self.inside.slew_ns;
+    }) ≡ devices_upgraded (parts_of c.self.inside)
 unfolding devices_upgraded
 state c =
     ap (λ (ls : List TickParts). record (parts_of c.self.inside) { hpet = c.with_eight_timers.result; ticks = ls }) (lines c)

@@ -24,7 +24,13 @@ unfolding moved
 lines c = c.set_clock_line.ensures ∙ ap (λ (up : Bool). each (rtc_set up) 0 c.self.inside.ticks) c.clock_up.ensures
 
 state : (c : goal.After-changes)
-    → parts_of (record { pit = c.self.inside.pit; rtc = c.self.inside.rtc; hpet = c.write-2.new.self; ticks = c.set_clock_line.new.ticks; slew_ns = c.self.inside.slew_ns }) ≡ acted (HpetWrite c.args.offset c.args.width c.args.v) (parts_of c.self.inside)
+    → parts_of (record {
+      pit = c.self.inside.pit;
+      rtc = c.self.inside.rtc;
+      hpet = c.write-2.new.self;
+      ticks = c.set_clock_line.new.ticks;
+      slew_ns = c.self.inside.slew_ns;
+    }) ≡ acted (HpetWrite c.args.offset c.args.width c.args.v) (parts_of c.self.inside)
 unfolding acted moved
 state c =
     ap (λ (ls : List TickParts). record (moved c) { ticks = ls }) (lines c)
