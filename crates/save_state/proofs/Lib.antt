@@ -2,6 +2,7 @@ pub mod Blocks
 pub mod Little
 pub mod Filled
 pub mod Walk
+pub mod Formats
 pub mod Agreeing
 pub mod Below
 pub mod Parts

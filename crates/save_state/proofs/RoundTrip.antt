@@ -19,7 +19,7 @@ use Rattle.board_types.specs.declared.parts.BoardParts.{BoardParts}
 use Rattle.board_types.specs.declared.parts.TheConstants.{MOST_ACCESSES}
 use Rattle.board_types.specs.declared.parts.ProcessorParts.{ProcessorParts}
 use Rattle.board_types.specs.Setup.{timers_of, processors_of}
-use Rattle.board_devices.specs.declared.parts.TheConstants.{SLEW_MAX_NS}
+use Rattle.board_types.specs.declared.setup.TheConstants.{SLEW_MAX_NS}
 use Rattle.board_devices.specs.Nanosecond.{counts_rtc}
 use Rattle.board_devices.specs.Lines.{levels}
 use Rattle.board_devices.specs.Rises.{one_if}
@@ -42,8 +42,10 @@ use Rattle.save_state.proofs.RoundTripPlaces.{Stands, byte-stands, number_at-sta
 use Rattle.save_state.proofs.RoundTripPieces.{counter_in-stands, timer_in-stands, line_in-stands, processor_in-stands, counter_flags-stand, line_flag-stands}
 use Rattle.save_state.proofs.RoundTripPieces.{shift_byte-stands}
 use Rattle.save_state.proofs.RoundTripLayout.{length-bytes_of, board-split}
-use Rattle.save_state.proofs.RoundTripRows.{AreValid, size_of, fault_in-none, or_else-none, fault_below-none}
-use Rattle.save_state.proofs.RoundTripBoard.{IsWritten, shape_of, format_is, cpus_are, policy_is, timers_few, timers_least}
+use Rattle.save_state.proofs.RoundTripRows.{size_of, fault_in-none, or_else-neither, fault_below-none}
+use Rattle.save_state.proofs.Walk.{AllHold}
+use Rattle.save_state.proofs.Formats.{timers_few, timers_least}
+use Rattle.save_state.proofs.RoundTripBoard.{IsWritten, shape_of, format_is, cpus_are, policy_is}
 use Rattle.save_state.proofs.RoundTripBoard.{processors_few, board_in-stands}
 use Rattle.save_state.proofs.RoundTripValid.{khz_valid-is, counter_rows-valid, index_valid-is, bytes_valid-is, divider_valid-is, cycle_valid-is}
 use Rattle.save_state.proofs.RoundTripValid.{timer_rows-valid, line_rows-valid, same-refl, processor_rows-valid}
@@ -83,7 +85,7 @@ base_is : (b : BoardParts) → IsBoard b → b.anchor.base_ns < RANGE_NS
 unfolding time_at
 base_is b board = let range = board.joined.time.range in omega arith
 
-head_is : (b : BoardParts) (bytes : List ℕ) → IsSpelled b bytes → AreValid (head_rows bytes)
+head_is : (b : BoardParts) (bytes : List ℕ) → IsSpelled b bytes → AllHold (head_rows bytes)
 unfolding head_rows board_in anchor_in policy_bytes
 head_is b bytes s =
     let e = s.read in
@@ -354,15 +356,15 @@ trailing_none b bytes s =
 spelled_none : (b : BoardParts) (bytes : List ℕ) → IsSpelled b bytes → fault_of bytes ≡ None
 unfolding fault_of
 spelled_none b bytes s =
-    or_else-none _ _ (fault_in-none bytes 0 (head_rows bytes) (head_is b bytes s) (head_room b bytes s))
-    (or_else-none _ _ (fault_below-none (counter_fault bytes) 3 (counter_none b bytes s))
-    (or_else-none _ _ (clock_none b bytes s)
-    (or_else-none _ _ (hpet_none b bytes s)
-    (or_else-none _ _ (fault_below-none (timer_fault bytes) (timers_of (format_in bytes)) (timer_none b bytes s))
-    (or_else-none _ _ (fault_below-none (line_fault bytes) (timers_of (format_in bytes) + 2) (line_none b bytes s))
-    (or_else-none _ _ (rises_none b bytes s)
-    (or_else-none _ _ (wall_none b bytes s)
-    (or_else-none _ _ (fault_below-none (processor_fault bytes) (cpus_in bytes) (processor_none b bytes s)) (trailing_none b bytes s)))))))))
+    or_else-neither _ _ (fault_in-none bytes 0 (head_rows bytes) (head_is b bytes s) (head_room b bytes s))
+    (or_else-neither _ _ (fault_below-none (counter_fault bytes) 3 (counter_none b bytes s))
+    (or_else-neither _ _ (clock_none b bytes s)
+    (or_else-neither _ _ (hpet_none b bytes s)
+    (or_else-neither _ _ (fault_below-none (timer_fault bytes) (timers_of (format_in bytes)) (timer_none b bytes s))
+    (or_else-neither _ _ (fault_below-none (line_fault bytes) (timers_of (format_in bytes) + 2) (line_none b bytes s))
+    (or_else-neither _ _ (rises_none b bytes s)
+    (or_else-neither _ _ (wall_none b bytes s)
+    (or_else-neither _ _ (fault_below-none (processor_fault bytes) (cpus_in bytes) (processor_none b bytes s)) (trailing_none b bytes s)))))))))
 
 -- the bytes of a board have no fault
 pub bytes_of-valid : (b : BoardParts) → IsBoard b → BoardFits b → fault_of (bytes_of b) ≡ None

@@ -39,12 +39,6 @@ pub record IsWritten (b : BoardParts) (bytes : List ℕ) : Type 0 where
   pub fits : BoardFits b
   pub stands : BoardStands b bytes
 
-pub timers_few : (format : ℕ) → timers_of format ≤ 8
-timers_few format = cond_both (leb format 1) 3 8 (λ (n : ℕ). n ≤ 8) (λ _. omega arith) (λ _. omega arith)
-
-pub timers_least : (format : ℕ) → 3 ≤ timers_of format
-timers_least format = cond_both (leb format 1) 3 8 (λ (n : ℕ). 3 ≤ n) (λ _. omega arith) (λ _. omega arith)
-
 pub processors_few : (format : ℕ) → processors_of format ≤ 64
 processors_few format = cond_both (leb format 1) 16 64 (λ (n : ℕ). n ≤ 64) (λ _. omega arith) (λ _. omega arith)
 

@@ -27,30 +27,23 @@ use Rattle.save_state.specs.Writing.{policy_bytes, bytes_of}
 use Rattle.save_state.proofs.RoundTripPlaces.{Stands, AreBytes, whole-stands, stands-byte, stands-before, stands-number_at, flag_byte-is}
 use Rattle.save_state.proofs.RoundTripPieces.{HasCounterFlags, stands-counter_in, stands-timer_in, stands-line_in, stands-processor_in}
 use Rattle.save_state.proofs.RoundTripLayout.{HasShape, FrontStands, DevicesStand, BackStands, BoardStands, length-bytes_of, board-join}
-use Rattle.save_state.proofs.RoundTripRows.{AreValid, fault_in-valid, fault_in-there, none-first, none-second, none-below}
-use Rattle.save_state.proofs.RoundTripBoard.{timers_few, timers_least, processors_few}
+use Rattle.save_state.proofs.RoundTripRows.{fault_in-there}
+use Rattle.save_state.proofs.Walk.{AllHold, rows-hold}
+use Rattle.save_state.proofs.Below.{or_else-both, fault_below-each}
+use Rattle.save_state.proofs.Filled.{length-places_below, places_below-at}
+use Rattle.save_state.proofs.Formats.{timers_few, timers_least}
+use Rattle.save_state.proofs.RoundTripBoard.{processors_few}
 
 -- an item of a list that is made place by place
-length-places_below : {A : Type 0} (f : ℕ → A) (k n : ℕ) → length (places_below f k n) ≡ n
-unfolding places_below
-length-places_below f k zero = refl
-length-places_below f k (suc n) = let ih = length-places_below f (suc k) n in omega (arith, ih)
-
-get_or-places_from : {A : Type 0} (f : ℕ → A) (d : A) (k n i : ℕ) → i < n → get_or (places_below f k n) i d ≡ f (k + i)
-unfolding places_below
-get_or-places_from f d k zero i less = absurd (omega arith)
-get_or-places_from f d k (suc n) zero less = ap f (omega arith)
-get_or-places_from f d k (suc n) (suc i) less = get_or-places_from f d (suc k) n i (omega arith) ∙ ap f (omega arith)
-
 get_or-places : {A : Type 0} (f : ℕ → A) (d : A) (n i : ℕ) → i < n → get_or (places_below f 0 n) i d ≡ f i
-get_or-places f d n i less = get_or-places_from f d 0 n i less ∙ ap f (omega arith)
+get_or-places f d n i less = places_below-at f d 0 n i less ∙ ap f (omega arith)
 
 -- bytes with no fault, block by block
 record IsSound (bytes : List ℕ) : Type 0 where
   small : AreBytes bytes
-  head : AreValid (head_rows bytes)
+  head : AllHold (head_rows bytes)
   counters : (k : ℕ) → k < 3 → counter_fault bytes k ≡ None
-  clock : AreValid (clock_rows bytes)
+  clock : AllHold (clock_rows bytes)
   lines : (k : ℕ) → k < timers_of (format_in bytes) + 2 → line_fault bytes k ≡ None
   processors : (k : ℕ) → k < cpus_in bytes → processor_fault bytes k ≡ None
   trailing : trailing_fault bytes ≡ None
@@ -83,24 +76,24 @@ from_counters bytes = or_else (fault_below (counter_fault bytes) 3) (from_clock 
 sound_from : (bytes : List ℕ) → AreBytes bytes → fault_of bytes ≡ None → IsSound bytes
 unfolding fault_of
 sound_from bytes small none =
-    let counters = none-second (fault_in bytes 0 (head_rows bytes)) (from_counters bytes) none in
-    let clock = none-second (fault_below (counter_fault bytes) 3) (from_clock bytes) counters in
-    let hpet = none-second (fault_in bytes 121 (clock_rows bytes)) (from_hpet bytes) clock in
-    let timers = none-second (fault_in bytes 254 (hpet_rows bytes)) (from_timers bytes) hpet in
-    let lines = none-second (fault_below (timer_fault bytes) (timers_of (format_in bytes))) (from_lines bytes) timers in
-    let rises = none-second (fault_below (line_fault bytes) (timers_of (format_in bytes) + 2)) (from_rises bytes) lines in
-    let wall = none-second (fault_in bytes (rises_place (format_in bytes)) (rises_rows bytes)) (from_wall bytes) rises in
-    let processors = none-second (fault_in bytes (wall_place (format_in bytes)) (wall_rows bytes)) (from_processors bytes) wall in
+    let counters = (or_else-both (fault_in bytes 0 (head_rows bytes)) (from_counters bytes) none).1 in
+    let clock = (or_else-both (fault_below (counter_fault bytes) 3) (from_clock bytes) counters).1 in
+    let hpet = (or_else-both (fault_in bytes 121 (clock_rows bytes)) (from_hpet bytes) clock).1 in
+    let timers = (or_else-both (fault_in bytes 254 (hpet_rows bytes)) (from_timers bytes) hpet).1 in
+    let lines = (or_else-both (fault_below (timer_fault bytes) (timers_of (format_in bytes))) (from_lines bytes) timers).1 in
+    let rises = (or_else-both (fault_below (line_fault bytes) (timers_of (format_in bytes) + 2)) (from_rises bytes) lines).1 in
+    let wall = (or_else-both (fault_in bytes (rises_place (format_in bytes)) (rises_rows bytes)) (from_wall bytes) rises).1 in
+    let processors = (or_else-both (fault_in bytes (wall_place (format_in bytes)) (wall_rows bytes)) (from_processors bytes) wall).1 in
     record {
       small = small;
-      head = fault_in-valid bytes 0 (head_rows bytes) (none-first (fault_in bytes 0 (head_rows bytes)) (from_counters bytes) none);
-      counters = none-below (counter_fault bytes) 3 (none-first (fault_below (counter_fault bytes) 3) (from_clock bytes) counters);
-      clock = fault_in-valid bytes 121 (clock_rows bytes) (none-first (fault_in bytes 121 (clock_rows bytes)) (from_hpet bytes) clock);
-      lines = none-below (line_fault bytes) (timers_of (format_in bytes) + 2)
-          (none-first (fault_below (line_fault bytes) (timers_of (format_in bytes) + 2)) (from_rises bytes) lines);
-      processors = none-below (processor_fault bytes) (cpus_in bytes)
-          (none-first (fault_below (processor_fault bytes) (cpus_in bytes)) (trailing_fault bytes) processors);
-      trailing = none-second (fault_below (processor_fault bytes) (cpus_in bytes)) (trailing_fault bytes) processors;
+      head = rows-hold bytes 0 (head_rows bytes) (or_else-both (fault_in bytes 0 (head_rows bytes)) (from_counters bytes) none).0;
+      counters = fault_below-each (counter_fault bytes) 3 (or_else-both (fault_below (counter_fault bytes) 3) (from_clock bytes) counters).0;
+      clock = rows-hold bytes 121 (clock_rows bytes) (or_else-both (fault_in bytes 121 (clock_rows bytes)) (from_hpet bytes) clock).0;
+      lines = fault_below-each (line_fault bytes) (timers_of (format_in bytes) + 2)
+          (or_else-both (fault_below (line_fault bytes) (timers_of (format_in bytes) + 2)) (from_rises bytes) lines).0;
+      processors = fault_below-each (processor_fault bytes) (cpus_in bytes)
+          (or_else-both (fault_below (processor_fault bytes) (cpus_in bytes)) (trailing_fault bytes) processors).0;
+      trailing = (or_else-both (fault_below (processor_fault bytes) (cpus_in bytes)) (trailing_fault bytes) processors).1;
     }
 
 -- what the head says
@@ -112,7 +105,7 @@ record HasHead (bytes : List ℕ) : Type 0 where
   rtc : byte_at 77 bytes ≤ 2
   hpet : byte_at 78 bytes ≤ 2
 
-head_from : (bytes : List ℕ) → AreValid (head_rows bytes) → HasHead bytes
+head_from : (bytes : List ℕ) → AllHold (head_rows bytes) → HasHead bytes
 unfolding head_rows
 head_from bytes valid =
     let cpus = and_parts (leb 1 (cpus_in bytes)) (leb (cpus_in bytes) (processors_of (format_in bytes))) valid.1.1.0 in
@@ -130,7 +123,7 @@ head_from bytes valid =
 counter_flags : (bytes : List ℕ) (k : ℕ) → counter_fault bytes k ≡ None → HasCounterFlags (counter_place k) bytes
 unfolding counter_fault
 counter_flags bytes k none =
-    let valid = fault_in-valid bytes (counter_place k) (counter_rows k (counter_place k) bytes) none in
+    let valid = rows-hold bytes (counter_place k) (counter_rows k (counter_place k) bytes) none in
     let behind = valid.1.1.1.1 in
     record {
       part_there = (and_parts _ _ behind.0).0;
@@ -143,7 +136,7 @@ line_flag : (bytes : List ℕ) (k : ℕ) → line_fault bytes k ≡ None → fla
 unfolding line_fault
 line_flag bytes k none =
     let place : ℕ = line_place (format_in bytes) k in
-    let valid = fault_in-valid bytes place
+    let valid = rows-hold bytes place
     (line_rows (up_allowed (board_in bytes) k) (now_of (board_in bytes) + number_at 8 52 bytes) (policy_in bytes k) place bytes) none in
     (and_parts _ _ valid.0).0
 
@@ -244,7 +237,7 @@ record HasClockFlags (bytes : List ℕ) : Type 0 where
   speaker : flag_valid 121 bytes ≡ true
   cycle : flag_valid 253 bytes ≡ true
 
-clock_flags : (bytes : List ℕ) → AreValid (clock_rows bytes) → HasClockFlags bytes
+clock_flags : (bytes : List ℕ) → AllHold (clock_rows bytes) → HasClockFlags bytes
 unfolding clock_rows
 clock_flags bytes valid = record { speaker = valid.0; cycle = (and_parts _ _ valid.1.1.1.1.0).0 }
 

@@ -30,7 +30,7 @@ use Rattle.save_state.specs.Ticks.{line_in, line_rows}
 use Rattle.save_state.specs.Processors.{processor_in, version_valid, page_valid, processor_rows}
 use Rattle.save_state.specs.Table.{khz_valid, same}
 use Rattle.save_state.proofs.RoundTripPieces.{HasCounterFlags}
-use Rattle.save_state.proofs.RoundTripRows.{AreValid}
+use Rattle.save_state.proofs.Walk.{AllHold}
 
 -- a rate in range
 pub khz_valid-is : (khz : ℕ) → IsKhz khz → khz_valid khz ≡ true
@@ -39,7 +39,7 @@ khz_valid-is khz is = and_from _ _ (le-leb _ khz is.slow) (le-leb khz _ is.fast)
 -- a counter's rows
 pub counter_rows-valid : (k p : ℕ) (bytes : List ℕ) (c : CounterParts) → counter_in p bytes ≡ c → IsCounter c → (c.gate || leb 2 k) ≡ true
     → HasCounterFlags p bytes
-    → AreValid (counter_rows k p bytes)
+    → AllHold (counter_rows k p bytes)
 counter_rows-valid k p bytes c e is gate flags = (
   ap bits_valid e ∙ is.bits,
   (
@@ -87,7 +87,7 @@ cycle_valid-is r is =
     ⊎_elim on off (cases_Bool r.cycle)
 
 -- a timer's rows
-pub timer_rows-valid : (p : ℕ) (bytes : List ℕ) (t : TimerParts) → timer_in p bytes ≡ t → IsTimer t → AreValid (timer_rows p bytes)
+pub timer_rows-valid : (p : ℕ) (bytes : List ℕ) (t : TimerParts) → timer_in p bytes ≡ t → IsTimer t → AllHold (timer_rows p bytes)
 timer_rows-valid p bytes t e is =
     let config : config_valid t ≡ true =
     and_from _ _ (eq-eqb _ t.config is.bits) (and_from _ _ (le-leb 20 (route_of t.config) is.low_route) (le-leb (route_of t.config) 23 is.high_route)) in
@@ -112,7 +112,7 @@ by_policy_lost Delay c follows = eq-eqb c.lost 0 follows
 by_policy_lost Slew c follows = eq-eqb c.lost 0 follows
 
 pub line_rows-valid : (allowed : Bool → Bool) (most p : ℕ) (policy : Policy) (bytes : List ℕ) (l : TickParts) → line_in policy p bytes ≡ l → IsTickLine l
-    → flag_valid p bytes ≡ true → allowed l.up ≡ true → l.counts.due ≤ most → AreValid (line_rows allowed most policy p bytes)
+    → flag_valid p bytes ≡ true → allowed l.up ≡ true → l.counts.due ≤ most → AllHold (line_rows allowed most policy p bytes)
 line_rows-valid allowed most p policy bytes l e is flag up due =
     let queue : queue_valid l ≡ true = by_policy_queue l.policy l.counts is.policy in
     let lost : lost_valid l ≡ true = and_from _ _ (eq-eqb l.counts.due _ is.sum) (by_policy_lost l.policy l.counts is.policy) in (
@@ -148,7 +148,7 @@ page_valid-is khz p value valid is none later =
 
 -- a processor's rows
 pub processor_rows-valid : (khz at : ℕ) (bytes : List ℕ) (p : ProcessorParts) → processor_in at bytes ≡ p → byte_at (at + 48) bytes ≡ cast_unsigned w8 p.shift
-    → IsProcessor khz p → AreValid (processor_rows khz at bytes)
+    → IsProcessor khz p → AllHold (processor_rows khz at bytes)
 processor_rows-valid khz at bytes p e shift is =
     let scale : ℕ = khz * 1000 in
     let tsc = page_valid-is khz p (λ (x : ProcessorParts). x.tsc_timestamp) (λ (x : ProcessorParts). true) is refl (λ _. refl) in

@@ -58,6 +58,7 @@ use Rattle.save_state.specs.Reading.{pit_in, rtc_in, timer_place_in, hpet_in, po
 use Rattle.save_state.specs.Table.{clock_rows, hpet_rows, counter_fault, timer_fault, line_fault, same, up_allowed}
 use Rattle.save_state.specs.private.Passing.{IsHead, devices_fault}
 use Rattle.save_state.proofs.Walk.{AllHold, rows-hold}
+use Rattle.save_state.proofs.Formats.{timers_few, timers_least}
 use Rattle.save_state.proofs.Below.{or_else-both, fault_below-each}
 use Rattle.save_state.proofs.Filled.{length-places_below, places_below-at, places_below-behind}
 
@@ -268,18 +269,12 @@ line-valid bytes k none =
       valid = tick_line-valid l h.1.1.1.0 h.1.1.1.1.0;
     }
 
-timers-most : (format : ℕ) → timers_of format ≤ 8
-timers-most format = elim (timers-few format) [ inl three ↦ omega (arith, three) | inr eight ↦ omega (arith, eight) ]
-
-timers-least : (format : ℕ) → 3 ≤ timers_of format
-timers-least format = elim (timers-few format) [ inl three ↦ omega (arith, three) | inr eight ↦ omega (arith, eight) ]
-
 -- the tick line at a place: one that is there, or nothing
 pub line-there : (bytes : List ℕ) (k : ℕ) → k < timers_of (format_in bytes) + 2
     → line_at k (devices_in (board_in bytes)) ≡ line_in (policy_in bytes k) (line_place (format_in bytes) k) bytes
 unfolding board_in lines_in
 line-there bytes k less =
-    let few : timers_of (format_in bytes) ≤ 8 = timers-most (format_in bytes) in
+    let few : timers_of (format_in bytes) ≤ 8 = timers_few (format_in bytes) in
     places_below-at (line_place_in bytes) no_line 0 10 k (omega (arith, few)) ∙ ap (line_place_in bytes) (omega arith)
     ∙ ap (λ (b : Bool). cond b (line_in (policy_in bytes k) (line_place (format_in bytes) k) bytes) no_line) (lt-ltb k (timers_of (format_in bytes) + 2) less)
 
@@ -336,7 +331,7 @@ line-policy bytes k more less = ap (λ (l : TickParts). l.policy) (line-there by
 pub timer_lines-valid : (bytes : List ℕ) (k : ℕ)
     → IsTimerLine (ltb k (timers_of (format_in bytes))) (line_at 2 (devices_in (board_in bytes))).policy (line_at (suc (suc k)) (devices_in (board_in bytes)))
 timer_lines-valid bytes k =
-    let least : 3 ≤ timers_of (format_in bytes) = timers-least (format_in bytes) in
+    let least : 3 ≤ timers_of (format_in bytes) = timers_least (format_in bytes) in
     timer_line-valid (ltb k (timers_of (format_in bytes))) _ _
     (λ (e : ltb k (timers_of (format_in bytes)) ≡ true).
     line-policy bytes (suc (suc k)) (omega arith) (omega (arith, ltb-true k (timers_of (format_in bytes)) e))

@@ -6,7 +6,7 @@ use Rattle.clk_units.specs.declared.ranges.TheConstants.{RANGE_NS, KHZ_MIN, KHZ_
 use Rattle.host_counter.specs.Time.{time_at}
 use Rattle.board_types.specs.Setup.{processors_of}
 use Rattle.board_types.specs.declared.parts.TheConstants.{MOST_ACCESSES}
-use Rattle.board_devices.specs.declared.parts.TheConstants.{SLEW_MAX_NS}
+use Rattle.board_types.specs.declared.setup.TheConstants.{SLEW_MAX_NS}
 use Rattle.board_core.specs.Time.{HasTime}
 use Rattle.save_state.specs.Fields.{number_at, fault_in}
 use Rattle.save_state.specs.Places.{format_in, cpus_in}

@@ -30,7 +30,7 @@ use Rattle.rtc_registers.specs.Parts.{index_valid, bytes_valid, divider_valid, c
 use Rattle.board_types.specs.declared.parts.BoardParts.{BoardParts}
 use Rattle.board_types.specs.declared.parts.TheConstants.{MOST_ACCESSES}
 use Rattle.board_types.specs.Setup.{timers_of, processors_of}
-use Rattle.board_devices.specs.declared.parts.TheConstants.{SLEW_MAX_NS}
+use Rattle.board_types.specs.declared.setup.TheConstants.{SLEW_MAX_NS}
 use Rattle.board_devices.specs.Nanosecond.{counts_rtc}
 use Rattle.board_devices.specs.Lines.{levels}
 use Rattle.board_devices.specs.Rises.{one_if}

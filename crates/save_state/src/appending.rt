@@ -5,7 +5,14 @@ ghost use Rattle.save_state.specs.Fields.{number_bytes, flag_byte};
 ghost use Rattle.save_state.specs.Pit.{counter_flags, counter_bytes};
 ghost use Rattle.save_state.specs.Hpet.{timer_bytes};
 ghost use Rattle.save_state.specs.Ticks.{line_bytes};
-ghost use Rattle.save_state.specs.private.Fits.{CounterFits, TimerFits, LineFits, TscFits, PageFits, ProcessorFits};
+ghost use Rattle.save_state.specs.private.Fits.{
+  CounterFits,
+  TimerFits,
+  LineFits,
+  TscFits,
+  PageFits,
+  ProcessorFits,
+};
 ghost use Rattle.save_state.specs.Processors.{tsc_bytes, page_bytes, processor_bytes};
 
 use board_core::ProcessorParts;

@@ -1,6 +1,5 @@
 //! The board of bytes, or the first field at fault.
 ghost use Rattle.std.specs.Prelude.{◌≡◌, ◌+◌, ◌≤◌, None, Some, IfErr, IfOk, OnOk};
-ghost use Rattle.board_devices.specs.Lines.{levels};
 ghost use Rattle.board_devices.specs.Parts.{AreDevices};
 ghost use Rattle.board_types.specs.Setup.{timers_of};
 ghost use Rattle.board_core.specs.Time.{devices_in};
@@ -22,8 +21,6 @@ use crate::lines::{clock_up, lines_fault, rises_fault};
 use crate::numbers::two_at;
 use crate::whole::board_in;
 use board_core::{BoardParts, BoardState, timers_of};
-use board_devices::{DeviceParts, Devices};
-use irq_edges::Lines;
 use pvclock_page::scale_of;
 
 /// The board that bytes are, or the first field at fault: in the order of the table, the first field that
@@ -44,31 +41,11 @@ pub fn decode(bytes: &[u8]) -> Result<BoardState, StateFault>
     if let Some(fault) = devices_fault(bytes, &parts) {
         return Err(fault);
     }
-    let lines = lines_of(&parts);
-    if let Some(fault) = rest_fault(bytes, &parts, &lines) {
+    if let Some(fault) = rest_fault(bytes, &parts) {
         return Err(fault);
     }
     match BoardState::of_parts(parts) {
         Some(state) => Ok(state),
-        None => unreachable!(),
-    }
-}
-
-/// The levels of the six lines.
-fn lines_of(b: &BoardParts) -> Lines
-    requires { AreDevices (devices_in b.now) }
-    ensures { result.levels ≡ levels (devices_in b.now) }
-{
-    let ticks = b.ticks;
-    let devices = Devices::of_parts(DeviceParts {
-        pit: b.pit,
-        rtc: b.rtc,
-        hpet: b.hpet,
-        ticks,
-        slew_ns: b.slew_ns,
-    });
-    match devices {
-        Some(devices) => devices.lines(),
         None => unreachable!(),
     }
 }
@@ -98,13 +75,13 @@ fn devices_fault(bytes: &[u8], b: &BoardParts) -> Option<StateFault>
 
 /// The first fault of what stands behind the tick lines.
 #[tactic(auto, unfolding(crate::specs::private::Passing::rest_fault))]
-fn rest_fault(bytes: &[u8], b: &BoardParts, lines: &Lines) -> Option<StateFault>
+fn rest_fault(bytes: &[u8], b: &BoardParts) -> Option<StateFault>
     requires head { IsHead bytes.now }
     requires board { b.now ≡ board_in bytes.now }
-    requires lines { lines.now.levels ≡ levels (devices_in b.now) }
+    requires devices { AreDevices (devices_in b.now) }
     ensures { result ≡ rest_fault bytes.now }
 {
-    if let Some(fault) = rises_fault(bytes, b, lines) {
+    if let Some(fault) = rises_fault(bytes, b) {
         return Some(fault);
     }
     if let Some(fault) = wall_fault(bytes, b.format) {

@@ -9,10 +9,31 @@ ghost use Rattle.board_types.specs.Setup.{timers_of};
 ghost use Rattle.board_devices.specs.Places.{line_at};
 ghost use Rattle.board_core.specs.Time.{devices_in};
 ghost use Rattle.board_core.specs.Tsc.{processor_at};
-ghost use Rattle.save_state.specs.private.Fits.{CountersFit, TimersFit, LinesFit, ProcessorsFit, BlocksFit};
+ghost use Rattle.save_state.specs.private.Fits.{
+  CountersFit,
+  TimersFit,
+  LinesFit,
+  ProcessorsFit,
+  BlocksFit,
+};
 ghost use Rattle.save_state.specs.Reading.{board_in};
 ghost use Rattle.save_state.specs.Table.{fault_of};
-ghost use Rattle.save_state.specs.Writing.{blocks_below, head_bytes, host_bytes, guest_bytes, policy_bytes, pit_bytes, clock_bytes, hpet_bytes, rises_bytes, wall_bytes, front_bytes, device_bytes, back_bytes, bytes_of};
+ghost use Rattle.save_state.specs.Writing.{
+  blocks_below,
+  head_bytes,
+  host_bytes,
+  guest_bytes,
+  policy_bytes,
+  pit_bytes,
+  clock_bytes,
+  hpet_bytes,
+  rises_bytes,
+  wall_bytes,
+  front_bytes,
+  device_bytes,
+  back_bytes,
+  bytes_of,
+};
 ghost use Rattle.save_state.specs.Ticks.{line_bytes};
 ghost use Rattle.save_state.specs.Processors.{processor_bytes};
 

@@ -5,8 +5,23 @@ ghost use Rattle.save_state.specs.Places.{format_in, cpus_in, wall_place};
 ghost use Rattle.pvclock_page.specs.Scale.{mul_for, shift_for};
 ghost use Rattle.save_state.specs.Processors.{version_valid, page_valid};
 ghost use Rattle.save_state.specs.Reading.{rtc_in};
-ghost use Rattle.save_state.specs.Table.{counter_fault, timer_fault, clock_rows, hpet_rows, wall_rows, processor_fault, trailing_fault};
-ghost use Rattle.save_state.specs.private.Failing.{counter_row, timer_row, clock_row, failing_counter_rows, failing_timer_rows, failing_clock_rows};
+ghost use Rattle.save_state.specs.Table.{
+  counter_fault,
+  timer_fault,
+  clock_rows,
+  hpet_rows,
+  wall_rows,
+  processor_fault,
+  trailing_fault,
+};
+ghost use Rattle.save_state.specs.private.Failing.{
+  counter_row,
+  timer_row,
+  clock_row,
+  failing_counter_rows,
+  failing_timer_rows,
+  failing_clock_rows,
+};
 
 use crate::fault::{StateFault, StateKind};
 use crate::numbers::{byte_at, eight_at, flag_valid, four_at};

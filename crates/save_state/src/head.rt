@@ -11,7 +11,7 @@ use crate::numbers::{byte_at, eight_at, two_at};
 use crate::table::{Row, both, fault_in, field};
 use crate::whole::anchor_in;
 use board_core::{MOST_ACCESSES, processors_of};
-use board_devices::SLEW_MAX_NS;
+use board_types::SLEW_MAX_NS;
 use clk_units::{KHZ_MAX, KHZ_MIN, RANGE_NS};
 use host_counter::Anchor;
 

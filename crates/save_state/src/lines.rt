@@ -1,10 +1,23 @@
 //! Faults of the tick lines, and of the counts of rises.
-ghost use Rattle.std.specs.Prelude.{◌≡◌, ℕ, ◌+◌, ◌<◌, ◌≤◌, ◌&&◌, nat_lt, nat_le, false, None, slice_index_or};
+ghost use Rattle.std.specs.Prelude.{
+  ◌≡◌,
+  ℕ,
+  ◌+◌,
+  ◌<◌,
+  ◌≤◌,
+  ◌&&◌,
+  nat_lt,
+  nat_le,
+  false,
+  None,
+  slice_index_or,
+};
 ghost use Rattle.rtc_registers.specs.Registers.{pf_of};
 ghost use Rattle.board_types.specs.Setup.{timers_of};
 ghost use Rattle.board_types.specs.declared.parts.TheConstants.{MOST_ACCESSES};
 ghost use Rattle.board_devices.specs.Nanosecond.{counts_rtc};
 ghost use Rattle.board_devices.specs.Lines.{levels};
+ghost use Rattle.board_devices.specs.Parts.{AreDevices};
 ghost use Rattle.board_core.specs.Time.{devices_in, now_of};
 ghost use Rattle.save_state.specs.Fields.{number_at, fault_in, fault_below};
 ghost use Rattle.save_state.specs.Places.{format_in, rises_place};
@@ -18,6 +31,7 @@ use crate::pieces::line_in;
 use crate::table::{Row, both, fault_in, field};
 use crate::whole::{line_place, policy_in};
 use board_core::{BoardParts, timers_of};
+use board_devices::{DeviceParts, Devices};
 use clk_units::bit;
 use irq_edges::Lines;
 use tick_policy::TickField;
@@ -104,13 +118,13 @@ fn line_rows(failing: u8, up: bool, due: bool) -> [Row; 5]
     ]
 }
 
-/// The first fault of the counts of rises, by the levels of the lines.
+/// The first fault of the counts of rises.
 #[tactic(auto, unfolding(crate::specs::Table::rises_rows, crate::specs::Fields::fault_in))]
-pub(crate) fn rises_fault(bytes: &[u8], b: &BoardParts, lines: &Lines) -> Option<StateFault>
+pub(crate) fn rises_fault(bytes: &[u8], b: &BoardParts) -> Option<StateFault>
     requires board { b.now ≡ board_in bytes.now }
     requires format { b.now.format ≤ 2 }
     requires accesses { b.now.accesses ≤ MOST_ACCESSES }
-    requires lines { lines.now.levels ≡ levels (devices_in b.now) }
+    requires devices { AreDevices (devices_in b.now) }
     ensures { result ≡ fault_in bytes.now (rises_place (format_in bytes.now)) (rises_rows bytes.now) }
 {
     if b.format < 2 {
@@ -118,26 +132,49 @@ pub(crate) fn rises_fault(bytes: &[u8], b: &BoardParts, lines: &Lines) -> Option
     }
     let place = line_place(b.format, timers_of(b.format) + 2);
     let valid = [
-        rise_valid(bytes, b, lines, 0),
-        rise_valid(bytes, b, lines, 1),
-        rise_valid(bytes, b, lines, 2),
-        rise_valid(bytes, b, lines, 3),
-        rise_valid(bytes, b, lines, 4),
-        rise_valid(bytes, b, lines, 5),
+        rise_valid(bytes, b, 0),
+        rise_valid(bytes, b, 1),
+        rise_valid(bytes, b, 2),
+        rise_valid(bytes, b, 3),
+        rise_valid(bytes, b, 4),
+        rise_valid(bytes, b, 5),
     ];
     fault_in(bytes, place, &[field(48, all_valid(&valid))])
 }
 
-/// Whether the count of rises of line `k` isn't too great.
+/// Whether the count of rises of line `k` isn't too great. The line's level is looked at only where there were more
+/// rises than accesses, since all devices are made of their parts for it.
 #[tactic(auto, unfolding(crate::specs::Reading::board_in, crate::specs::Reading::rises_in))]
-fn rise_valid(bytes: &[u8], b: &BoardParts, lines: &Lines, k: usize) -> bool
+fn rise_valid(bytes: &[u8], b: &BoardParts, k: usize) -> bool
     requires board { b.now ≡ board_in bytes.now }
     requires accesses { b.now.accesses ≤ MOST_ACCESSES }
-    requires lines { lines.now.levels ≡ levels (devices_in b.now) }
+    requires devices { AreDevices (devices_in b.now) }
     requires k { k < 6 }
     ensures { result ≡ rise_valid bytes.now k }
 {
-    b.rises[k] <= b.accesses + u64::from(lines.levels[k])
+    if b.rises[k] <= b.accesses {
+        return true;
+    }
+    b.rises[k] <= b.accesses + u64::from(lines_of(b).levels[k])
+}
+
+/// The levels of the six lines.
+fn lines_of(b: &BoardParts) -> Lines
+    requires { AreDevices (devices_in b.now) }
+    ensures { result.levels ≡ levels (devices_in b.now) }
+{
+    let ticks = b.ticks;
+    let devices = Devices::of_parts(DeviceParts {
+        pit: b.pit,
+        rtc: b.rtc,
+        hpet: b.hpet,
+        ticks,
+        slew_ns: b.slew_ns,
+    });
+    match devices {
+        Some(devices) => devices.lines(),
+        None => unreachable!(),
+    }
 }
 
 /// Whether all six are valid.

@@ -5,8 +5,29 @@ ghost use Rattle.board_devices.specs.Places.{no_line};
 ghost use Rattle.board_core.specs.Tsc.{no_processor};
 ghost use Rattle.board_types.specs.Setup.{timers_of};
 ghost use Rattle.save_state.specs.Fields.{byte_at, places_below};
-ghost use Rattle.save_state.specs.Places.{format_in, cpus_in, line_place, rises_place, wall_place, processor_place};
-ghost use Rattle.save_state.specs.Reading.{anchor_in, pit_in, rtc_in, timer_place_in, hpet_in, policy_in, line_place_in, lines_in, rise_in, rises_in, processor_place_in, processors_in, board_in};
+ghost use Rattle.save_state.specs.Places.{
+  format_in,
+  cpus_in,
+  line_place,
+  rises_place,
+  wall_place,
+  processor_place,
+};
+ghost use Rattle.save_state.specs.Reading.{
+  anchor_in,
+  pit_in,
+  rtc_in,
+  timer_place_in,
+  hpet_in,
+  policy_in,
+  line_place_in,
+  lines_in,
+  rise_in,
+  rises_in,
+  processor_place_in,
+  processors_in,
+  board_in,
+};
 
 use crate::numbers::{byte_at, eight_at, flag_at, four_at, two_at};
 use crate::pieces::{counter_in, line_in, processor_in, timer_in};

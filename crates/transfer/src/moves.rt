@@ -1,5 +1,22 @@
 //! A move of a board.
-ghost use Rattle.std.specs.Prelude.{◌≡◌, ℕ, ◌+◌, ◌*◌, ◌/◌, ◌%◌, ◌^◌, ◌<◌, ◌≤◌, None, Some, IfErr, IfOk, OnOk, IfSome, length};
+ghost use Rattle.std.specs.Prelude.{
+  ◌≡◌,
+  ℕ,
+  ◌+◌,
+  ◌*◌,
+  ◌/◌,
+  ◌%◌,
+  ◌^◌,
+  ◌<◌,
+  ◌≤◌,
+  None,
+  Some,
+  IfErr,
+  IfOk,
+  OnOk,
+  IfSome,
+  length,
+};
 ghost use Rattle.clk_units.specs.Ranges.{IsKhz};
 ghost use Rattle.board_devices.specs.Run.{run};
 ghost use Rattle.board_core.specs.Time.{devices_in, now_of};
@@ -7,7 +24,16 @@ ghost use Rattle.board_core.specs.Tsc.{processor_at, tsc_read};
 ghost use Rattle.board_core.specs.Conditions.{AreRates};
 ghost use Rattle.clk_units.specs.declared.ranges.TheConstants.{RANGE_NS};
 ghost use Rattle.board_core.specs.Reanchor.{reanchored};
-ghost use Rattle.transfer.specs.Move.{counts_in, offset_for, tsc_behind, tsc_moved, published_below, moved_to, spent_below, move_fault};
+ghost use Rattle.transfer.specs.Move.{
+  counts_in,
+  offset_for,
+  tsc_behind,
+  tsc_moved,
+  published_below,
+  moved_to,
+  spent_below,
+  move_fault,
+};
 
 use crate::outcome::{MoveFault, Moved};
 use board_core::{BoardParts, BoardState, LAST_VERSION};

@@ -41,8 +41,8 @@ pub returns-in-Some-devices_fault-clause-refused : goal.returns-in-Some-devices_
 returns-in-Some-devices_fault-clause-refused c =
     fault-devices c.args.bytes.now c.in-Some-devices_fault.fault (sym c.in_default.ensures) (sym c.in-Some-devices_fault.ensures)
 
-pub lines_of-lines-requires : goal.lines_of-lines-requires
-lines_of-lines-requires c =
+pub rest_fault-requires-clause-devices : goal.rest_fault-requires-clause-devices
+rest_fault-requires-clause-devices c =
     subst (λ (b : BoardParts). AreDevices (devices_in b)) (sym c.board_in-parts.ensures)
     (devices-valid c.args.bytes.now (head-valid c.args.bytes.now (sym c.in_default.ensures)) (sym c.in_default-devices_fault.ensures))
 

@@ -1,0 +1,10 @@
+-- How many timers a format has.
+use Rattle.std.proofs.Common.{ℕ, ◌≤◌, leb, arith}
+use Rattle.std.proofs.lemmas.Bool.{cond_both}
+use Rattle.board_types.specs.Setup.{timers_of}
+
+pub timers_few : (format : ℕ) → timers_of format ≤ 8
+timers_few format = cond_both (leb format 1) 3 8 (λ (n : ℕ). n ≤ 8) (λ _. omega arith) (λ _. omega arith)
+
+pub timers_least : (format : ℕ) → 3 ≤ timers_of format
+timers_least format = cond_both (leb format 1) 3 8 (λ (n : ℕ). 3 ≤ n) (λ _. omega arith) (λ _. omega arith)
