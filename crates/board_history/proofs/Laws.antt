@@ -1,0 +1,201 @@
+-- Laws of histories: what one entry, and what a list of them, does to the board.
+use Rattle.std.proofs.Common.{
+  ◌≡◌,
+  ◌≢◌,
+  ℕ,
+  ◌≤◌,
+  List,
+  [],
+  ◌∷◌,
+  ◌++◌,
+  refl,
+  sym,
+  ap,
+  ◌∙◌,
+  subst,
+  arith,
+  append_assoc,
+  append-nil,
+  Bool,
+  true,
+  false,
+  if◌then◌else◌,
+  Some,
+  eq-eqb,
+  ne_eqb,
+}
+use Rattle.std.proofs.lemmas.Bool.{eqb-true}
+use mathlib.Core.List.{IsPrefix}
+use Rattle.std.proofs.Common.{zero, suc, get_or, replicate}
+use Rattle.board_types.specs.declared.parts.BoardParts.{BoardParts}
+use Rattle.board_types.specs.declared.parts.ProcessorParts.{ProcessorParts}
+use Rattle.board_core.specs.Tsc.{no_processor}
+use Rattle.board_core.proofs.Laws.{after_access-kept_greatest}
+use Rattle.board_history.specs.Machine.{machine_of, page_at, no_board}
+use Rattle.board_history.specs.History.{
+  pass_of,
+  after_entry,
+  board_from,
+  board_after,
+  floor_after,
+  version_after,
+  is_of,
+  entries_of,
+  last_of,
+  May,
+  LegalFrom,
+  IsLegal,
+}
+use Rattle.board_history.specs.private.Steady.{IsSteady}
+use Rattle.board_history.specs.declared.entry.Entry.{Entry}
+use Rattle.board_history.specs.declared.entry.Entry.TheVariants.{Opened, Board, PageRead, Clamp}
+use Rattle.board_history.proofs.Pages.{machine_of-access, version-access, access-steady}
+
+pub board_from-++ : (b : BoardParts) (xs ys : List Entry) → board_from b (xs ++ ys) ≡ board_from (board_from b xs) ys
+board_from-++ b [] ys = refl
+board_from-++ b (e ∷ es) ys = board_from-++ (after_entry b e) es ys
+
+-- the board after one entry more
+pub board_after-snoc : (xs : List Entry) (e : Entry) → board_after (xs ++ e ∷ []) ≡ after_entry (board_after xs) e
+board_after-snoc xs e = board_from-++ no_board xs (e ∷ [])
+
+-- no page of the board after no entry was published
+get_or-replicate : (n c : ℕ) → get_or (replicate n no_processor) c no_processor ≡ no_processor
+get_or-replicate zero c = refl
+get_or-replicate (suc n) zero = refl
+get_or-replicate (suc n) (suc c) = get_or-replicate n c
+
+pub no_board-version : (c : ℕ) → version_after [] c ≡ 0
+unfolding no_board
+no_board-version c = ap (λ (p : ProcessorParts). p.version) (get_or-replicate 64 c)
+
+-- legality of one entry more, and of the rest behind a front
+pub LegalFrom-snoc : (before xs : List Entry) (e : Entry) → LegalFrom before xs → May (before ++ xs) e → LegalFrom before (xs ++ e ∷ [])
+LegalFrom-snoc before [] e l may = (subst (λ h. May h e) (append-nil before) may, tt)
+LegalFrom-snoc before (x ∷ xs) e l may =
+    (l.0, LegalFrom-snoc (before ++ x ∷ []) xs e l.1 (subst (λ h. May h e) (sym (append_assoc before (x ∷ []) xs)) may))
+
+pub LegalFrom-rest : (before xs ys : List Entry) → LegalFrom before (xs ++ ys) → LegalFrom (before ++ xs) ys
+LegalFrom-rest before [] ys l = subst (λ h. LegalFrom h ys) (sym (append-nil before)) l
+LegalFrom-rest before (x ∷ xs) ys l =
+    subst (λ h. LegalFrom h ys) (append_assoc before (x ∷ []) xs) (LegalFrom-rest (before ++ x ∷ []) xs ys l.1)
+
+pub LegalFrom-front : (before xs ys : List Entry) → LegalFrom before (xs ++ ys) → LegalFrom before xs
+LegalFrom-front before [] ys l = tt
+LegalFrom-front before (x ∷ xs) ys l = (l.0, LegalFrom-front (before ++ x ∷ []) xs ys l.1)
+
+-- what one entry does: versions and the greatest reading never fall, the board stays steady, the machine the same
+pub version-entry : (before : List Entry) (e : Entry) (c : ℕ) → May before e
+    → (page_at (board_after before) c).version ≤ (page_at (after_entry (board_after before) e) c).version
+version-entry before (Opened s) c may = absurd may
+version-entry before (Board pass cpu h access reply) c may = version-access (board_after before) cpu h c access
+version-entry before (PageRead pass cpu h page locked) c may = omega arith
+version-entry before (Clamp pass cpu reading clock) c may = omega arith
+
+pub greatest-entry : (before : List Entry) (e : Entry) → May before e → floor_after before ≤ (after_entry (board_after before) e).greatest
+greatest-entry before (Opened s) may = absurd may
+greatest-entry before (Board pass cpu h access reply) may =
+    let e = after_access-kept_greatest (board_after before) cpu h access in omega arith
+greatest-entry before (PageRead pass cpu h page locked) may = omega arith
+greatest-entry before (Clamp pass cpu reading clock) may = let e = may.1 in omega arith
+
+pub steady-entry : (before : List Entry) (e : Entry) → IsSteady (board_after before) → May before e → IsSteady (after_entry (board_after before) e)
+steady-entry before (Opened s) was may = absurd may
+steady-entry before (Board pass cpu h access reply) was may =
+    access-steady (board_after before) cpu h access was may.cpu_below may.legal may.taken
+steady-entry before (PageRead pass cpu h page locked) was may = was
+steady-entry before (Clamp pass cpu reading clock) was may =
+    record { places = was.places; rate = was.rate; pages = was.pages; count = was.count }
+
+pub machine-entry : (before : List Entry) (e : Entry) → May before e
+    → machine_of (after_entry (board_after before) e) ≡ machine_of (board_after before)
+machine-entry before (Opened s) may = absurd may
+machine-entry before (Board pass cpu h access reply) may = machine_of-access (board_after before) cpu h access
+machine-entry before (PageRead pass cpu h page locked) may = refl
+machine-entry before (Clamp pass cpu reading clock) may = refl
+
+-- and what a list of them does
+pub versions-grow : (before xs : List Entry) (c : ℕ) → LegalFrom before xs → version_after before c ≤ version_after (before ++ xs) c
+versions-grow before [] c l = subst (λ h. version_after before c ≤ version_after h c) (sym (append-nil before)) (omega arith)
+versions-grow before (x ∷ xs) c l =
+    let one : version_after before c ≤ version_after (before ++ x ∷ []) c =
+    subst (λ (b : BoardParts). version_after before c ≤ (page_at b c).version) (sym (board_after-snoc before x)) (version-entry before x c l.0) in
+    let more : version_after (before ++ x ∷ []) c ≤ version_after (before ++ x ∷ xs) c =
+    subst (λ h. version_after (before ++ x ∷ []) c ≤ version_after h c) (append_assoc before (x ∷ []) xs)
+    (versions-grow (before ++ x ∷ []) xs c l.1) in
+    omega arith
+
+pub floor-grows : (before xs : List Entry) → LegalFrom before xs → floor_after before ≤ floor_after (before ++ xs)
+floor-grows before [] l = subst (λ h. floor_after before ≤ floor_after h) (sym (append-nil before)) (omega arith)
+floor-grows before (x ∷ xs) l =
+    let one : floor_after before ≤ floor_after (before ++ x ∷ []) =
+    subst (λ (b : BoardParts). floor_after before ≤ b.greatest) (sym (board_after-snoc before x)) (greatest-entry before x l.0) in
+    let more : floor_after (before ++ x ∷ []) ≤ floor_after (before ++ x ∷ xs) =
+    subst (λ h. floor_after (before ++ x ∷ []) ≤ floor_after h) (append_assoc before (x ∷ []) xs) (floor-grows (before ++ x ∷ []) xs l.1) in
+    omega arith
+
+pub machine-stays : (before xs : List Entry) → LegalFrom before xs → machine_of (board_after (before ++ xs)) ≡ machine_of (board_after before)
+machine-stays before [] l = ap (λ h. machine_of (board_after h)) (append-nil before)
+machine-stays before (x ∷ xs) l =
+    sym (ap (λ h. machine_of (board_after h)) (append_assoc before (x ∷ []) xs))
+    ∙ (machine-stays (before ++ x ∷ []) xs l.1 ∙ (ap machine_of (board_after-snoc before x) ∙ machine-entry before x l.0))
+
+-- the rest of a legal history behind a front that isn't empty
+pub IsLegal-rest : (xs ys : List Entry) (x : Entry) → IsLegal (x ∷ xs ++ ys) → LegalFrom (x ∷ xs) ys
+IsLegal-rest xs ys (Opened s) l = LegalFrom-rest (Opened s ∷ []) xs ys l
+IsLegal-rest xs ys (Board pass cpu h access reply) l = absurd l
+IsLegal-rest xs ys (PageRead pass cpu h page locked) l = absurd l
+IsLegal-rest xs ys (Clamp pass cpu reading clock) l = absurd l
+
+-- what any front of a legal history tells: versions and the greatest reading never fall
+pub legal-version : (xs ys : List Entry) (c : ℕ) → IsPrefix xs ys → IsLegal ys → version_after xs c ≤ version_after ys c
+legal-version [] ys c p l = let none = no_board-version c in omega arith
+legal-version (x ∷ xs) ys c p l = subst (λ h. version_after (x ∷ xs) c ≤ version_after h c) p.1
+    (versions-grow (x ∷ xs) p.0 c (IsLegal-rest xs p.0 x (subst IsLegal (sym p.1) l)))
+
+pub no_board-floor : floor_after [] ≡ 0
+unfolding no_board
+no_board-floor = refl
+
+pub legal-floor : (xs ys : List Entry) → IsPrefix xs ys → IsLegal ys → floor_after xs ≤ floor_after ys
+legal-floor [] ys p l = omega (arith, no_board-floor)
+legal-floor (x ∷ xs) ys p l =
+    subst (λ h. floor_after (x ∷ xs) ≤ floor_after h) p.1 (floor-grows (x ∷ xs) p.0 (IsLegal-rest xs p.0 x (subst IsLegal (sym p.1) l)))
+
+-- an entry in a legal history is legal at its place
+pub legal-at : (xs ys : List Entry) (x e : Entry) → IsLegal (x ∷ xs ++ e ∷ ys) → May (x ∷ xs) e
+legal-at xs ys x e l = (IsLegal-rest xs (e ∷ ys) x l).0
+
+-- the entries of a number in two lists, one behind the other
+entries_step : (b : Bool) (x : Entry) (us bs cs : List Entry) → us ≡ bs ++ cs → (if b then (x ∷ us) else us) ≡ (if b then (x ∷ bs) else bs) ++ cs
+entries_step true x us bs cs e = ap (λ es. x ∷ es) e
+entries_step false x us bs cs e = e
+
+pub entries_of-++ : (n : ℕ) (xs ys : List Entry) → entries_of n (xs ++ ys) ≡ entries_of n xs ++ entries_of n ys
+entries_of-++ n [] ys = refl
+entries_of-++ n (x ∷ xs) ys =
+    entries_step (is_of n x) x (entries_of n (xs ++ ys)) (entries_of n xs) (entries_of n ys) (entries_of-++ n xs ys)
+
+-- one entry is of its own number, and of no other
+pub is_of-pass : (e : Entry) (p : ℕ) → pass_of e ≡ Some p → is_of p e ≡ true
+is_of-pass (Opened s) p is = absurd (cc is)
+is_of-pass (Board pass cpu h access reply) p is = let same : pass ≡ p = cc is in eq-eqb pass p same
+is_of-pass (PageRead pass cpu h page locked) p is = let same : pass ≡ p = cc is in eq-eqb pass p same
+is_of-pass (Clamp pass cpu reading clock) p is = let same : pass ≡ p = cc is in eq-eqb pass p same
+
+is_of-else : (e : Entry) (p n : ℕ) → is_of p e ≡ true → n ≢ p → is_of n e ≡ false
+is_of-else (Opened s) p n is ne = refl
+is_of-else (Board pass cpu h access reply) p n is ne = ne_eqb pass n (λ e. ne (sym e ∙ eqb-true pass p is))
+is_of-else (PageRead pass cpu h page locked) p n is ne = ne_eqb pass n (λ e. ne (sym e ∙ eqb-true pass p is))
+is_of-else (Clamp pass cpu reading clock) p n is ne = ne_eqb pass n (λ e. ne (sym e ∙ eqb-true pass p is))
+
+pub entries_of-own : (e : Entry) (p : ℕ) → is_of p e ≡ true → entries_of p (e ∷ []) ≡ e ∷ []
+entries_of-own e p is = ap (λ (b : Bool). if b then (e ∷ []) else []) is
+
+pub entries_of-else : (e : Entry) (p n : ℕ) → is_of p e ≡ true → n ≢ p → entries_of n (e ∷ []) ≡ []
+entries_of-else e p n is ne = ap (λ (b : Bool). if b then (e ∷ []) else []) (is_of-else e p n is ne)
+
+pub last_of-snoc : (xs : List Entry) (e : Entry) → last_of (xs ++ e ∷ []) ≡ Some e
+last_of-snoc [] e = refl
+last_of-snoc (x ∷ []) e = refl
+last_of-snoc (x ∷ y ∷ xs) e = last_of-snoc (y ∷ xs) e

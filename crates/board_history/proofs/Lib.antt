@@ -1,0 +1,4 @@
+pub mod Pages
+pub mod Laws
+pub mod Refusals
+mod Rows

@@ -1,0 +1,225 @@
+-- What an access does to the pages, and to what no access changes.
+use Rattle.std.proofs.Common.{
+  ◌≡◌,
+  ◌≢◌,
+  ℕ,
+  zero,
+  suc,
+  ◌+◌,
+  ◌*◌,
+  ◌%◌,
+  ◌^◌,
+  ◌<◌,
+  ◌≤◌,
+  List,
+  [],
+  ◌∷◌,
+  length,
+  get_or,
+  set,
+  refl,
+  sym,
+  ap,
+  ◌∙◌,
+  subst,
+  arith,
+  length-set,
+  Bool,
+  true,
+  false,
+  cond,
+  Option,
+  Some,
+  None,
+  IsTrue,
+  ne_eqb,
+  ℤ,
+  pos,
+  negsuc,
+  FitsSigned,
+  inl,
+  inr,
+}
+use Rattle.std.proofs.lemmas.Bool.{cases_lt, le-ltb, false≢true}
+use Rattle.std.specs.Int.{w8}
+use mathlib.Core.Logic.{dite}
+use native.Mathlib.Decide.{ℕ_discrete}
+use Rattle.clk_units.specs.Ranges.{IsKhz}
+use Rattle.host_counter.specs.declared.Anchor.{Anchor}
+use Rattle.pvclock_page.specs.Scale.{mul_for, shift_for}
+use Rattle.pvclock_page.proofs.Scales.{IsScale-mul_for}
+use Rattle.board_types.specs.Legal.{is_legal}
+use Rattle.board_types.specs.declared.access.Access.{Access}
+use Rattle.board_types.specs.declared.access.Access.TheVariants.{MsrWrite, Refresh}
+use Rattle.board_types.specs.declared.access.TheConstants.{MSR_KVM_WALL_CLOCK}
+use Rattle.board_types.specs.declared.parts.BoardParts.{BoardParts}
+use Rattle.board_types.specs.declared.parts.ProcessorParts.{ProcessorParts}
+use Rattle.board_types.specs.declared.parts.TheConstants.{LAST_VERSION}
+use Rattle.board_core.specs.Access.{after_access, after_act, after_run}
+use Rattle.board_core.specs.Pages.{page_in, page_of_msr, prepared, processors_after, published, published_at, published_by}
+use Rattle.board_core.specs.Refusals.{refusal_of}
+use Rattle.board_core.specs.Tsc.{no_processor, processor_at}
+use Rattle.board_core.specs.Wall.{publishes_wall}
+use Rattle.board_core.proofs.Laws.{
+  after_access-accesses,
+  after_access-anchor,
+  after_access-cpus,
+  after_access-format,
+  after_access-guest_khz,
+  processor_at-other,
+  processor_at-published,
+  processors-none,
+  taken_accesses,
+  taken_page,
+  version-published,
+}
+use Rattle.board_history.specs.Machine.{machine_of, page_at}
+use Rattle.board_history.specs.private.Steady.{IsSteady, IsSteadyPage}
+
+-- an access that publishes a page publishes no words of the wall clock
+pub publishes_wall-page : (cpu k : ℕ) (a : Access) → published_by cpu a ≡ Some k → publishes_wall a ≡ false
+publishes_wall-page cpu k (MsrWrite msr v) is = dite (ℕ_discrete msr MSR_KVM_WALL_CLOCK)
+    (λ e. let none : None ≡ Some k = ap (page_of_msr cpu) (sym e) ∙ is in absurd (cc none))
+    (λ ne. ne_eqb msr MSR_KVM_WALL_CLOCK ne)
+publishes_wall-page cpu k (Refresh page) is = refl
+publishes_wall-page cpu k _ is = absurd (cc is)
+
+-- the page that a legal access publishes is one of the board's
+pub published_by-legal : (cpus format cpu k : ℕ) (a : Access) → cpu < cpus → IsTrue (is_legal cpus format a)
+    → published_by cpu a ≡ Some k → k < cpus
+published_by-legal cpus format cpu k (Refresh page) inside legal is =
+    let same : page ≡ k = cc is in
+    elim (cases_lt page cpus) [
+      | inl less ↦ omega arith
+      | inr more ↦ absurd (false≢true (sym (le-ltb page cpus more) ∙ legal))
+    ]
+published_by-legal cpus format cpu k (MsrWrite msr v) inside legal is = by _ is
+  where
+    by : (b : Bool) → cond b (Some cpu) None ≡ Some k → k < cpus
+    by true e = let same : cpu ≡ k = cc e in omega arith
+    by false e = absurd (cc e)
+published_by-legal cpus format cpu k _ inside legal is = absurd (cc is)
+
+-- what no access changes
+pub machine_of-access : (b : BoardParts) (cpu h : ℕ) (a : Access) → machine_of (after_access b cpu h a) ≡ machine_of b
+machine_of-access b cpu h a = λ i. record {
+  format = after_access-format b cpu h a i;
+  cpus = after_access-cpus b cpu h a i;
+  anchor = after_access-anchor b cpu h a i;
+  guest_khz = after_access-guest_khz b cpu h a i;
+}
+
+-- the processors behind an access
+processors-are : (b : BoardParts) (cpu h : ℕ) (a : Access) → (after_access b cpu h a).processors
+    ≡ published_at (published_by cpu a) b.anchor b.guest_khz h a b.processors
+unfolding after_access after_act after_run processors_after
+processors-are b cpu h a = refl
+
+prepared-version : (anchor : Anchor) (guest_khz h : ℕ) (a : Access) (p : ProcessorParts) → (prepared anchor guest_khz h a p).version ≡ p.version
+prepared-version anchor guest_khz h (MsrWrite msr v) p = refl
+prepared-version anchor guest_khz h _ p = refl
+
+-- the page that an access publishes goes up by 2 ..
+pub version-here : (b : BoardParts) (cpu h k : ℕ) (a : Access) → published_by cpu a ≡ Some k → k < length b.processors
+    → (page_at (after_access b cpu h a) k).version ≡ (page_at b k).version + 2
+version-here b cpu h k a is inside = version-published b cpu h k a is inside
+
+-- .. each other page stays ..
+pub page_at-else : (b : BoardParts) (cpu h k j : ℕ) (a : Access) → published_by cpu a ≡ Some k → j ≢ k → page_at (after_access b cpu h a) j ≡ page_at b j
+page_at-else b cpu h k j a is other = ap page_in (processor_at-other b cpu h k j a is other)
+
+-- .. and so does each where none is published
+pub page_at-none : (b : BoardParts) (cpu h j : ℕ) (a : Access) → published_by cpu a ≡ None → page_at (after_access b cpu h a) j ≡ page_at b j
+page_at-none b cpu h j a none = ap (λ (ps : List ProcessorParts). page_in (get_or ps j no_processor)) (processors-none b cpu h a none)
+
+pub length-processors : (b : BoardParts) (cpu h : ℕ) (a : Access) → length (after_access b cpu h a).processors ≡ length b.processors
+length-processors b cpu h a = ap length (processors-are b cpu h a) ∙ by (published_by cpu a)
+  where
+    by : (p : Option ℕ) → length (published_at p b.anchor b.guest_khz h a b.processors) ≡ length b.processors
+    by None = refl
+    by (Some k) = length-set b.processors k _
+
+-- a place that is set to a later version is later at each place
+version-set : (ps : List ProcessorParts) (i k : ℕ) (p : ProcessorParts) → (get_or ps i no_processor).version ≤ p.version
+    → (get_or ps k no_processor).version ≤ (get_or (set ps i p) k no_processor).version
+version-set [] i k p h = omega arith
+version-set (x ∷ xs) zero zero p h = h
+version-set (x ∷ xs) zero (suc k) p h = omega arith
+version-set (x ∷ xs) (suc i) zero p h = omega arith
+version-set (x ∷ xs) (suc i) (suc k) p h = version-set xs i k p h
+
+-- no access lets a version fall
+pub version-access : (b : BoardParts) (cpu h k : ℕ) (a : Access) → (page_at b k).version ≤ (page_at (after_access b cpu h a) k).version
+unfolding published
+version-access b cpu h k a =
+    subst (λ (ps : List ProcessorParts). (get_or b.processors k no_processor).version ≤ (get_or ps k no_processor).version) (sym (processors-are b cpu h a))
+    (by (published_by cpu a))
+  where
+    by : (p : Option ℕ) → (get_or b.processors k no_processor).version
+        ≤ (get_or (published_at p b.anchor b.guest_khz h a b.processors) k no_processor).version
+    by None = omega arith
+    by (Some i) = version-set b.processors i k _
+        (let same = prepared-version b.anchor b.guest_khz h a (get_or b.processors i no_processor) in omega arith)
+
+-- the scale of a guest's rate fits the words
+fits-if : (b : Bool) (y z : ℤ) → FitsSigned w8 y → FitsSigned w8 z → FitsSigned w8 (cond b y z)
+fits-if true y z p q = p
+fits-if false y z p q = q
+
+fits-left : (n : ℕ) → n < 128 → FitsSigned w8 (pos n)
+fits-left n small = record { sfits = omega arith }
+
+fits-right : (n : ℕ) → n < 128 → FitsSigned w8 (negsuc n)
+fits-right n small = record { sfits = omega arith }
+
+pub shift_for-fits : (hz : ℕ) → FitsSigned w8 (shift_for hz)
+unfolding shift_for
+shift_for-fits hz =
+    fits-if _ _ _ (fits-left 4 (omega arith)) (fits-if _ _ _ (fits-left 3 (omega arith)) (fits-if _ _ _ (fits-left 2 (omega arith))
+    (fits-if _ _ _ (fits-left 1 (omega arith)) (fits-if _ _ _ (fits-left 0 (omega arith)) (fits-if _ _ _ (fits-right 0 (omega arith))
+    (fits-if _ _ _ (fits-right 1 (omega arith)) (fits-right 2 (omega arith))))))))
+
+pub mul_for-fits : (khz : ℕ) → IsKhz khz → mul_for (khz * 1000) < 2 ^ 32
+mul_for-fits khz rate = let s = rate.slow in let f = rate.fast in (IsScale-mul_for (khz * 1000) (omega arith) (omega arith)).most
+
+-- a page that is published is steady
+published-steady : (anchor : Anchor) (guest_khz h : ℕ) (p : ProcessorParts) → IsKhz guest_khz → p.version < LAST_VERSION → p.version % 2 ≡ 0
+    → IsSteadyPage (page_in (published anchor guest_khz h 1 p))
+unfolding published
+published-steady anchor guest_khz h p rate less even = record {
+  even = omega arith;
+  most = omega arith;
+  mul = mul_for-fits guest_khz rate;
+  shift = shift_for-fits (guest_khz * 1000);
+  flags = omega arith;
+}
+
+-- the board behind an access that is taken is as steady as the one before it
+pub access-steady : (b : BoardParts) (cpu h : ℕ) (a : Access) → IsSteady b → cpu < b.cpus → IsTrue (is_legal b.cpus b.format a)
+    → refusal_of b cpu h a ≡ None → IsSteady (after_access b cpu h a)
+access-steady b cpu h a s inside legal taken = record {
+  places = (let n = length-processors b cpu h a in let c = after_access-cpus b cpu h a in let m = s.places in omega arith);
+  rate = subst IsKhz (sym (after_access-guest_khz b cpu h a)) s.rate;
+  pages = λ j. by (published_by cpu a) refl j;
+  count = (let n = after_access-accesses b cpu h a in let m = taken_accesses b cpu h a taken in omega arith);
+}
+  where
+    by : (o : Option ℕ) → published_by cpu a ≡ o → (j : ℕ) → IsSteadyPage (page_at (after_access b cpu h a) j)
+    by None none j = subst IsSteadyPage (sym (page_at-none b cpu h j a none)) (s.pages j)
+    by (Some k) is j = dite (ℕ_discrete j k)
+        (λ e. subst (λ (i : ℕ). IsSteadyPage (page_at (after_access b cpu h a) i)) (sym e) here)
+        (λ ne. subst IsSteadyPage (sym (page_at-else b cpu h k j a is ne)) (s.pages j))
+      where
+        inside_list : k < length b.processors
+        inside_list = let l = published_by-legal b.cpus b.format cpu k a inside legal is in let m = s.places in omega arith
+
+        same : (prepared b.anchor b.guest_khz h a (processor_at b k)).version ≡ (processor_at b k).version
+        same = prepared-version b.anchor b.guest_khz h a (processor_at b k)
+
+        less : (processor_at b k).version < LAST_VERSION
+        less = taken_page b cpu h a taken k (publishes_wall-page cpu k a is) is
+
+        here : IsSteadyPage (page_at (after_access b cpu h a) k)
+        here = subst IsSteadyPage (sym (ap page_in (processor_at-published b cpu h k a is inside_list)))
+            (published-steady b.anchor b.guest_khz h (prepared b.anchor b.guest_khz h a (processor_at b k)) s.rate
+            (omega (arith, same, less)) (let even = (s.pages k).even in omega (arith, same)))

@@ -1,0 +1,87 @@
+-- Why an access is refused, and that boards of the same counts refuse alike.
+use Rattle.std.proofs.Common.{◌≡◌, ◌⊎◌, ℕ, ◌≤◌, ltb, leb, List, get_or, refl, sym, ap, ◌∙◌, arith, Bool, true, false, cond, Option, None, Some, inl, inr}
+use Rattle.std.proofs.lemmas.Bool.{ltb-true, leb-true}
+use Rattle.clk_units.specs.declared.ranges.TheConstants.{RANGE_NS}
+use Rattle.host_counter.specs.declared.Anchor.{Anchor}
+use Rattle.host_counter.specs.Time.{time_at}
+use Rattle.board_types.specs.declared.access.Access.{Access}
+use Rattle.board_types.specs.declared.parts.BoardParts.{BoardParts}
+use Rattle.board_types.specs.declared.parts.ProcessorParts.{ProcessorParts}
+use Rattle.board_types.specs.declared.parts.TheConstants.{LAST_VERSION, MOST_ACCESSES}
+use Rattle.board_types.specs.declared.reply.Refusal.{Refusal}
+use Rattle.board_types.specs.declared.reply.Refusal.TheVariants.{BeforeStart, OutOfRange, VersionsSpent, Spent}
+use Rattle.board_core.specs.Tsc.{no_processor}
+use Rattle.board_core.specs.Pages.{published_by}
+use Rattle.board_core.specs.Wall.{publishes_wall}
+use Rattle.board_core.specs.Refusals.{version_at, raised_version, spent_version, refusal_of}
+use Rattle.board_history.specs.Counts.{HasNoTime, IsAtLastVersion, SameCounts}
+
+-- one of two causes
+this_or_rest : (b : Bool) (x f : Refusal) (rest : Option Refusal) → cond b (Some x) rest ≡ Some f → (b ≡ true) ⊎ (rest ≡ Some f)
+this_or_rest true x f rest e = inl refl
+this_or_rest false x f rest e = inr e
+
+version_or_rest : (v : Option ℕ) (f : Refusal) (rest : Option Refusal) → spent_version v rest ≡ Some f
+    → ((n : ℕ) × (v ≡ Some n) × (LAST_VERSION ≤ n)) ⊎ (rest ≡ Some f)
+version_or_rest None f rest e = inr e
+version_or_rest (Some n) f rest e = elim (this_or_rest (leb LAST_VERSION n) (VersionsSpent n) f rest e) [
+  | inl is ↦ inl (n, refl, leb-true LAST_VERSION n is)
+  | inr more ↦ inr more
+]
+
+version_of : (o : Option ℕ) (ps : List ProcessorParts) (n : ℕ) → version_at o ps ≡ Some n
+    → (k : ℕ) × (o ≡ Some k) × ((get_or ps k no_processor).version ≡ n)
+version_of None ps n e = absurd (cc e)
+version_of (Some k) ps n e = (k, refl, cc e)
+
+raised_at : (b : BoardParts) (cpu n : ℕ) (a : Access) → raised_version b.processors b.wall_version cpu a ≡ Some n → LAST_VERSION ≤ n
+    → IsAtLastVersion b cpu a
+raised_at b cpu n a is last = by (publishes_wall a) refl is
+  where
+    by : (w : Bool) → publishes_wall a ≡ w → cond w (Some b.wall_version) (version_at (published_by cpu a) b.processors) ≡ Some n
+        → IsAtLastVersion b cpu a
+    by true w e = inl (w, (let same : b.wall_version ≡ n = cc e in omega arith))
+    by false w e = let t = version_of (published_by cpu a) b.processors n e in
+        inr (t.0, t.1, (let same = t.2 in omega arith))
+
+-- the causes of a refusal: the time, a version, the number of accesses
+pub refused_why : (b : BoardParts) (cpu h : ℕ) (a : Access) (f : Refusal) → refusal_of b cpu h a ≡ Some f
+    → HasNoTime b.anchor h ⊎ (IsAtLastVersion b cpu a ⊎ (MOST_ACCESSES ≤ b.accesses))
+unfolding refusal_of
+refused_why b cpu h a f is = elim (this_or_rest (ltb h b.anchor.start) (BeforeStart b.anchor.start) f _ is) [
+  | inl before ↦ inl (inl (ltb-true h b.anchor.start before))
+  | inr rest ↦ elim (this_or_rest (leb RANGE_NS (time_at b.anchor h)) (OutOfRange (time_at b.anchor h)) f _ rest) [
+    | inl past ↦ inl (inr (leb-true RANGE_NS (time_at b.anchor h) past))
+    | inr more ↦ elim (version_or_rest (raised_version b.processors b.wall_version cpu a) f _ more) [
+      | inl last ↦ inr (inl (raised_at b cpu last.0 a last.1 last.2))
+      | inr spent ↦ elim (this_or_rest (leb MOST_ACCESSES b.accesses) (Spent b.accesses) f None spent) [
+        | inl all ↦ inr (inr (leb-true MOST_ACCESSES b.accesses all))
+        | inr none ↦ absurd (cc none)
+      ]
+    ]
+  ]
+]
+
+-- a refusal, by the anchor, the version that would rise, and the number of accesses
+refusal_by : Anchor → ℕ → Option ℕ → ℕ → Option Refusal
+refusal_by anchor h v accesses =
+    cond (ltb h anchor.start) (Some (BeforeStart anchor.start))
+    (cond (leb RANGE_NS (time_at anchor h)) (Some (OutOfRange (time_at anchor h)))
+    (spent_version v (cond (leb MOST_ACCESSES accesses) (Some (Spent accesses)) None)))
+
+refusal_of-by : (b : BoardParts) (cpu h : ℕ) (a : Access)
+    → refusal_of b cpu h a ≡ refusal_by b.anchor h (raised_version b.processors b.wall_version cpu a) b.accesses
+unfolding refusal_of refusal_by
+refusal_of-by b cpu h a = refl
+
+same_version_at : (o : Option ℕ) (ps qs : List ProcessorParts) → ((k : ℕ) → (get_or ps k no_processor).version ≡ (get_or qs k no_processor).version)
+    → version_at o ps ≡ version_at o qs
+same_version_at None ps qs same = refl
+same_version_at (Some k) ps qs same = ap (λ (n : ℕ). Some n) (same k)
+
+pub same_refusal : (b c : BoardParts) (cpu h : ℕ) (a : Access) → SameCounts b c → refusal_of b cpu h a ≡ refusal_of c cpu h a
+same_refusal b c cpu h a same =
+    let raised : raised_version b.processors b.wall_version cpu a ≡ raised_version c.processors c.wall_version cpu a =
+    λ i. cond (publishes_wall a) (Some (same.wall i)) (same_version_at (published_by cpu a) b.processors c.processors same.pages i) in
+    refusal_of-by b cpu h a
+    ∙ ((λ i. refusal_by (same.machine i).anchor h (raised i) (same.accesses i)) ∙ sym (refusal_of-by c cpu h a))

@@ -1,0 +1,129 @@
+-- Histories of a board: what an entry leaves, and which lists of entries are legal.
+use Rattle.std.specs.Prelude.{
+  ◌≡◌,
+  ℕ,
+  ◌<◌,
+  max,
+  ◌==◌,
+  if◌then◌else◌,
+  Bool,
+  false,
+  IsTrue,
+  List,
+  [],
+  ◌∷◌,
+  ◌++◌,
+  Option,
+  Some,
+  None,
+}
+use Rattle.board_types.specs.declared.access.Access.{Access}
+use Rattle.board_types.specs.declared.parts.BoardParts.{BoardParts}
+use Rattle.board_types.specs.declared.reply.Reply.{Reply}
+use Rattle.board_types.specs.Legal.{is_legal}
+use Rattle.board_core.specs.Access.{after_access, reply_of}
+use Rattle.board_core.specs.Pages.{with_greatest}
+use Rattle.board_core.specs.Refusals.{refusal_of}
+use Rattle.board_history.specs.Machine.{
+  Machine,
+  machine_of,
+  page_at,
+  ratio_in,
+  reading_by,
+  no_board,
+}
+use Rattle.board_history.specs.declared.entry.Entry.{Entry}
+use Rattle.board_history.specs.declared.entry.Entry.TheVariants.{Opened, Board, PageRead, Clamp}
+
+-- the entry of a state that is handed over
+abbrev pub of_state : BoardParts → Entry
+of_state s = Opened s
+
+-- the number of the pass that made an entry
+abbrev pub pass_of : Entry → Option ℕ
+pass_of (Opened s) = None
+pass_of (Board pass cpu h access reply) = Some pass
+pass_of (PageRead pass cpu h page locked) = Some pass
+pass_of (Clamp pass cpu reading clock) = Some pass
+
+-- the board after an entry: a read of a page changes nothing, a clamp the greatest reading alone
+abbrev pub after_entry : BoardParts → Entry → BoardParts
+after_entry b (Opened s) = s
+after_entry b (Board pass cpu h access reply) = after_access b cpu h access
+after_entry b (PageRead pass cpu h page locked) = b
+after_entry b (Clamp pass cpu reading clock) = with_greatest b clock
+
+-- the board after a list of entries
+abbrev pub board_from : BoardParts → List Entry → BoardParts
+board_from b [] = b
+board_from b (e ∷ es) = board_from (after_entry b e) es
+
+abbrev pub board_after : List Entry → BoardParts
+board_after h = board_from no_board h
+
+-- the greatest reading that was told in a history
+abbrev pub floor_after : List Entry → ℕ
+floor_after h = (board_after h).greatest
+
+-- the version of a page after a history
+abbrev pub version_after : List Entry → ℕ → ℕ
+version_after h cpu = (page_at (board_after h) cpu).version
+
+-- whether the pass of this number made an entry, and its entries in order
+abbrev pub is_of : ℕ → Entry → Bool
+is_of n (Opened s) = false
+is_of n (Board pass cpu h access reply) = pass == n
+is_of n (PageRead pass cpu h page locked) = pass == n
+is_of n (Clamp pass cpu reading clock) = pass == n
+
+abbrev pub entries_of : ℕ → List Entry → List Entry
+entries_of n [] = []
+entries_of n (e ∷ es) = if is_of n e then (e ∷ entries_of n es) else entries_of n es
+
+abbrev pub last_of : List Entry → Option Entry
+last_of [] = None
+last_of (e ∷ []) = Some e
+last_of (e ∷ f ∷ es) = last_of (f ∷ es)
+
+-- the entry is a read of an enabled page of cpu, which gives this reading
+abbrev pub Reads : Machine → Option Entry → ℕ → ℕ → Type 0
+Reads m None cpu reading = ⊥
+Reads m (Some (Opened s)) cpu reading = ⊥
+Reads m (Some (Board pass c h access reply)) cpu reading = ⊥
+Reads m (Some (Clamp pass c r clock)) cpu reading = ⊥
+Reads m (Some (PageRead pass c h page locked)) cpu reading =
+    (c ≡ cpu) × IsTrue page.enabled × (reading_by (ratio_in m) page h ≡ reading)
+
+-- an access is one that the board takes, isn't refused, and is answered as one thread would be
+pub record IsAnswered (b : BoardParts) (cpu h : ℕ) (a : Access) (r : Reply) : Type 0 where
+  pub cpu_below : cpu < b.cpus
+  pub legal : IsTrue (is_legal b.cpus b.format a)
+  pub taken : refusal_of b cpu h a ≡ None
+  pub reply : reply_of b cpu h a ≡ r
+
+-- the entry may come behind these
+abbrev pub May : List Entry → Entry → Type 0
+May before (Opened s) = ⊥
+May before (Board pass cpu h access reply) = IsAnswered (board_after before) cpu h access reply
+May before (PageRead pass cpu h page locked) =
+    (cpu < (board_after before).cpus) × (page_at (board_after before) cpu ≡ page)
+May before (Clamp pass cpu reading clock) =
+    Reads (machine_of (board_after before)) (last_of (entries_of pass before)) cpu reading
+    × (clock ≡ max reading (floor_after before))
+
+-- each entry may come behind those before it
+abbrev pub LegalFrom : List Entry → List Entry → Type 0
+LegalFrom before [] = Unit {0}
+LegalFrom before (e ∷ es) = May before e × LegalFrom (before ++ e ∷ []) es
+
+-- a legal history begins with Opened, and has no other
+abbrev pub IsLegal : List Entry → Type 0
+IsLegal [] = ⊥
+IsLegal (Opened s ∷ es) = LegalFrom (Opened s ∷ []) es
+IsLegal (Board pass cpu h access reply ∷ es) = ⊥
+IsLegal (PageRead pass cpu h page locked ∷ es) = ⊥
+IsLegal (Clamp pass cpu reading clock ∷ es) = ⊥
+
+-- the history opens with this state
+abbrev pub Opens : BoardParts → List Entry → Type 0
+Opens opening h = (later : List Entry) × (h ≡ of_state opening ∷ later)

@@ -1,0 +1,4 @@
+pub mod Machine
+pub mod History
+pub mod Counts
+pub mod private

@@ -1,0 +1,22 @@
+//! What is told of a page that was read.
+ghost use Rattle.std.specs.Prelude.{◌≡◌};
+ghost use Rattle.board_history.specs.Machine.{answer_by};
+
+use pvclock_page::{Page, PageReply, reading};
+use tsc_scale::tsc_by;
+
+/// What a read of a page at count `h` of the host's counter answers: the page, and the time that it gives at the
+/// TSC there, by the page's own offset. `ratio` is that of the guest's TSC to the host's counter
+/// (`tsc_scale::ratio`).
+pub fn answer_by(ratio: u64, page: &Page, h: u64) -> PageReply
+    ensures { result ≡ answer_by ratio page.now h }
+{
+    if page.enabled {
+        PageReply::On {
+            page: *page,
+            reading: reading(page, tsc_by(page.offset, h, ratio)),
+        }
+    } else {
+        PageReply::Off
+    }
+}

@@ -1,0 +1,38 @@
+use Rattle.std.proofs.Common.{◌<◌, ◌≡◌, suc, ℕ, ap, sym, ◌∙◌, arith}
+use Rattle.clock_table.specs.Steps.{put_in}
+use Rattle.clock_table.specs.Words.{place}
+use Rattle.clock_table.proofs.WriteSteps.{Holds, puts}
+use Rattle.clock_table.proofs.table.ClockTable.put.Goals as goal
+
+pub store-requires : goal.store-requires
+store-requires g c = let t = c.args.self.now in
+    let o = c.requires.open in
+    let k = c.number.result in
+    let small : k < 4 = c.number.ensures.small in
+    let holds : Holds t.table.shared.key c.seat.inside.seat.id c.requires.pen.number.0 c.seat.inside.seat.me =
+    record {
+      pen = rw c.seat.view_is c.requires.pen.pen;
+      number = rw c.seat.view_is c.requires.pen.number.1;
+      meet =
+          rw c.seat.view_is c.requires.pen.meet;
+      live = c.seat.invariant.2;
+    } in
+    let at : c.place.result ≡ place o.0.cpu (suc k) = let p = c.place.ensures in let same = o.2 in omega arith in
+    let inside : o.0.cpu < t.table.shared.key.cpus = let same = o.2 in let l = c.requires.cpu in let b = ap (λ b. b.cpus) t.opened in omega arith in (
+      c.seat.invariant.0 ∙ sym t.named,
+      (let w = t.sized in let b = ap (λ b. b.cpus) t.opened in let p = c.place.ensures in let l = c.requires.cpu in omega arith),
+      rw at (puts t.table.shared.key _ k c.args.word _ c.requires.pen.number.0 c.seat.inside.seat.me o.0 inside small holds (rw c.seat.view_is o.1) o.3),
+    )
+
+pub invariant_of-seat : goal.invariant_of-seat
+invariant_of-seat g c = let e = c.store.ensures in let i = c.seat.invariant in
+    let at : c.place.result ≡ place c.args.cpu (suc c.number.result) = let p = c.place.ensures in omega arith in
+    let same = e.2.1 c.args.cpu c.number.result c.number.ensures.small at in
+    (e.0 ∙ i.0, e.2.0 ∙ i.1, ap (λ v. v.live) same ∙ i.2, ap (λ v. v.limit) same ∙ i.3)
+
+pub returns : goal.returns
+returns g c = let e = c.store.ensures in
+    let n = c.number.ensures.value in
+    let at : c.place.result ≡ place c.args.cpu (suc c.number.result) = let p = c.place.ensures in omega arith in
+    e.2.1 c.args.cpu c.number.result c.number.ensures.small at
+    ∙ (ap (λ v. put_in c.number.result c.args.word v) c.seat.view_is ∙ ap (λ (k : ℕ). put_in k c.args.word c.args.seat.now) n)

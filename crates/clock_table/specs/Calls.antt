@@ -1,0 +1,77 @@
+-- What the calls of a table ask.
+use Rattle.std.specs.Prelude.{◌≡◌, ℕ, ◌<◌, ◌^◌, length, slice_index_or, Some, None, true, List}
+use Rattle.pvclock_page.specs.declared.page.Page.{Page}
+use Rattle.board_core.specs.Pages.{published_by}
+use Rattle.board_history.specs.History.{May, pass_of}
+use Rattle.board_history.specs.declared.entry.Entry.{Entry}
+use Rattle.board_history.specs.declared.entry.Entry.TheVariants.{Opened, Board, PageRead, Clamp}
+use Rattle.board_types.specs.declared.reply.Reply.{Reply}
+use Rattle.clock_table.specs.declared.call.Call.{Call}
+use Rattle.clock_table.specs.declared.view.View.{View}
+use Rattle.clock_table.specs.declared.view.Read.{Read}
+use Rattle.clock_table.specs.declared.view.Hand.{Hand}
+use Rattle.clock_table.specs.declared.field.Field.{Field}
+use Rattle.clock_table.specs.declared.field.Field.TheVariants.{Stamp, System, Scale, Offset}
+use Rattle.clock_table.specs.Words.{field_at}
+use Rattle.clock_table.specs.Steps.{loud}
+
+abbrev pub field_number : Field → ℕ
+field_number Stamp = 0
+field_number System = 1
+field_number Scale = 2
+field_number Offset = 3
+
+-- the entry of an access that was answered
+abbrev pub entry_of : Call → Reply → Entry
+entry_of c r = Board c.pass c.cpu c.h c.access r
+
+-- the seat has a number, and no open meet
+pub record IsPass (v : View) : Type 0 where
+  pub number : (p : ℕ) × (v.number ≡ Some p)
+  pub meet : v.meet ≡ None
+
+-- the same, and it holds the pen
+pub record IsPen (v : View) : Type 0 where
+  pub number : (p : ℕ) × (v.number ≡ Some p)
+  pub meet : v.meet ≡ None
+  pub pen : v.pen ≡ true
+
+-- the entry has the seat's number, and may come behind what the seat has seen
+pub record IsNext (e : Entry) (v : View) : Type 0 where
+  pub number : pass_of e ≡ v.number
+  pub legal : May v.seen e
+
+-- the entry is an access that publishes the page c
+abbrev pub IsPublishing : ℕ → Entry → Type 0
+IsPublishing c (Opened s) = ⊥
+IsPublishing c (Board pass cpu h access reply) = published_by cpu access ≡ Some c
+IsPublishing c (PageRead pass cpu h page locked) = ⊥
+IsPublishing c (Clamp pass cpu reading clock) = ⊥
+
+-- the entry is an access that publishes no page, or a read under the lock, which needs a front word
+-- below 2^63
+abbrev pub IsBump : List Entry → Entry → Type 0
+IsBump seen (Opened s) = ⊥
+IsBump seen (Board pass cpu h access reply) = published_by cpu access ≡ None
+IsBump seen (PageRead pass cpu h page locked) = (locked ≡ true) × (loud seen < 2 ^ 63)
+IsBump seen (Clamp pass cpu reading clock) = ⊥
+
+-- the seat has the page open; the fields put are those of a page
+abbrev pub HasOpen : ℕ → View → Type 0
+HasOpen cpu v = (o : Hand) × (v.hand ≡ Some o) × (o.cpu ≡ cpu) × (length o.put ≡ 4)
+
+abbrev pub AllPut : Hand → Page → Type 0
+AllPut h p = (k : ℕ) → k < 4 → slice_index_or h.put k None ≡ Some (field_at p k)
+
+abbrev pub HasPut : ℕ → Page → View → Type 0
+HasPut cpu page v = (o : Hand) × (v.hand ≡ Some o) × (o.cpu ≡ cpu) × AllPut o page
+
+-- the seat reads the page; all its fields are noted
+abbrev pub IsReading : ℕ → View → Type 0
+IsReading cpu v = (r : Read) × (v.read ≡ Some r) × (r.cpu ≡ cpu)
+
+abbrev pub AllNoted : Read → Type 0
+AllNoted r = (k : ℕ) → k < 4 → (x : ℕ) × (slice_index_or r.noted k None ≡ Some x)
+
+abbrev pub HasNoted : ℕ → View → Type 0
+HasNoted cpu v = (r : Read) × (v.read ≡ Some r) × (r.cpu ≡ cpu) × AllNoted r

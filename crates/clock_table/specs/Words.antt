@@ -1,0 +1,28 @@
+-- The words of a table: a front word, a clamp word, and five words for each page.
+use Rattle.std.specs.Prelude.{ℕ, suc, ◌+◌, ◌*◌, List, [], slice_index}
+use Rattle.pvclock_page.specs.declared.page.Page.{Page}
+use Rattle.pvclock_page.specs.Words.{words_of}
+use Rattle.atomic_table.specs.Seated.{TableId}
+
+-- where the word k of the page c stands
+abbrev pub place : ℕ → ℕ → ℕ
+place c k = 2 + (5 * c + k)
+
+abbrev pub word_of : List ℕ → ℕ → ℕ → ℕ
+word_of words c k = slice_index words (place c k)
+
+-- the fields of a page by their number: the words of the page but its version
+abbrev pub field_at : Page → ℕ → ℕ
+field_at p k = slice_index (words_of p) (suc k)
+
+-- the name of no table
+abbrev pub no_table : TableId
+no_table = record {
+  words = 0;
+  slots = 0;
+  views_name = 0;
+  atom = 0;
+  block = 0;
+  offset = 0;
+  slot_names = [];
+}

@@ -1,0 +1,89 @@
+//! The words of a state, before a table has its name.
+ghost use Rattle.std.specs.Prelude.{◌≡◌, ◌≤◌, ◌+◌, ◌*◌, length, IfOk};
+ghost use Rattle.board_core.specs.Conditions.{IsJoined};
+ghost use Rattle.clock_table.specs.private.Laid.{IsLaidBelow};
+
+use crate::table::Words;
+use crate::view::View;
+use atomic_table::Seat;
+use board_core::{BoardParts, BoardState, ProcessorParts};
+use clk_units::NoMemory;
+use pvclock_page::page_words;
+use std::alloc::Global;
+use std::marker::Model;
+
+/// Words for the front word, the clamp word and 64 pages.
+const MOST_WORDS: usize = 2 + 5 * 64;
+
+/// The words of a table that has no name yet. Contracts see of it which table it is, and the state.
+#[derive(Drop)]
+pub struct Blank {
+    pub(crate) table: Words,
+    pub(crate) seat: Seat<(), View>,
+}
+
+impl Model for Blank {
+    ghost use Rattle.std.specs.Prelude.{◌≡◌, ◌+◌, ◌*◌, []};
+    ghost use Rattle.atomic_table.specs.Seated.{TableId};
+    ghost use Rattle.board_types.specs.declared.parts.BoardParts.{BoardParts};
+    ghost use Rattle.clock_table.specs.Steps.{first_view};
+
+    ghost Value = { TableId × BoardParts };
+
+    ghost view = { λ b. (b.table.shared.table_id, b.table.shared.key) };
+
+    ghost invariant = { λ b. (b.table.shared.table_id.words ≡ 2 + 5 * b.table.shared.key.cpus)
+        × (b.table.shared.table_id.slots ≡ 0) × (b.seat.table_id ≡ b.table.shared.table_id)
+        × (b.seat.me ≡ (first_view b.table.shared.key, [])) };
+}
+
+impl Blank {
+    /// Takes the memory of the words, and sets them to the pages and the greatest reading of a state, the front
+    /// word to 0.
+    pub fn new(alloc: Global, state: &BoardState) -> Result<Blank, NoMemory>
+        ensures state { IfOk result (λ b. b.1 ≡ state.now) }
+        ensures joined { IsJoined state.now }
+    {
+        let words = laid(state);
+        let count = word_count(&state.parts());
+        match Words::of_words(alloc, &words[..count], state) {
+            Ok((table, seat)) => Ok(Blank { table, seat }),
+            Err(_full) => Err(NoMemory),
+        }
+    }
+}
+
+/// How many words there are for the pages of a board.
+fn word_count(parts: &BoardParts) -> usize
+    ensures value { result ≡ 2 + 5 * parts.now.cpus }
+    ensures places { length parts.now.processors ≡ 64 }
+{
+    let _ = places(&parts.processors);
+    2 + 5 * parts.cpus as usize
+}
+
+/// A board has places for 64 processors.
+fn places(processors: &[ProcessorParts; 64]) -> usize
+    ensures { length processors.now ≡ 64 }
+{
+    processors.len()
+}
+
+/// The words of a state.
+fn laid(state: &BoardState) -> [u64; 322]
+    ensures { (length result ≡ 322) × IsLaidBelow state.now.cpus state.now result }
+{
+    let mut words = [0; MOST_WORDS];
+    words[1] = state.greatest();
+    let cpus = state.cpus();
+    for cpu in 0..cpus {
+        let [version, stamp, system, scale, offset] = page_words(&state.page(cpu));
+        let at = 2 + 5 * cpu as usize;
+        words[at] = version;
+        words[at + 1] = stamp;
+        words[at + 2] = system;
+        words[at + 3] = scale;
+        words[at + 4] = offset;
+    }
+    words
+}

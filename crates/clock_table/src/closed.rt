@@ -1,0 +1,101 @@
+//! The end of a table.
+ghost use Rattle.std.specs.Prelude.{◌≡◌, ◌<◌, ◌≤◌, ◌+◌, ◌*◌, ℕ, [], length, slice_index_or};
+ghost use Rattle.std.specs.Slots.{slots_items, slots_len, IsFull};
+ghost use Rattle.pvclock_page.specs.Words.{page_of};
+ghost use Rattle.board_history.specs.Machine.{page_at};
+ghost use Rattle.board_history.specs.History.{board_after, entries_of, IsLegal, Opens};
+ghost use Rattle.clock_table.specs.Steps.{loud};
+ghost use Rattle.clock_table.specs.Ends.{IsWhole, EndedTold, no_page};
+ghost use Rattle.clock_table.specs.private.Laid.{words_at};
+
+use crate::name::Name;
+use crate::table::{ClockSeat, ClockTable};
+use atomic_table::Closed as ClosedWords;
+use pvclock_page::{Page, words_page};
+use std::alloc::Global;
+
+/// What stands in the place of a page that isn't there.
+const NO_PAGE: Page = Page {
+    version: 0,
+    tsc_timestamp: 0,
+    system_time: 0,
+    mul: 0,
+    shift: 0,
+    flags: 0,
+    offset: 0,
+    enabled: false,
+};
+
+/// What a table held at its end: the front word, the greatest reading, and the pages; 0 in the places behind them.
+#[derive(Debug, Drop, PartialEq, Eq)]
+pub struct Closed {
+    pub front: u64,
+    pub greatest: u64,
+    pub pages: [Page; 64],
+}
+
+impl<N: Name> ClockTable<N> {
+    /// Takes the table apart, with the seat that all passes have joined. What this seat has seen is then the whole
+    /// history.
+    pub fn close(self, seat: ClockSeat<N>) -> Closed
+        requires { IsWhole N.passes seat }
+        ensures legal { IsLegal seat.seen × Opens N.state seat.seen }
+        ensures front { result.front ≡ loud seat.seen }
+        ensures greatest { result.greatest ≡ (board_after seat.seen).greatest }
+        ensures pages { (cpu : ℕ) → cpu < N.state.cpus → cpu < 64 →
+            slice_index_or result.pages cpu no_page ≡ page_at (board_after seat.seen) cpu }
+        ensures no_pages { (cpu : ℕ) → N.state.cpus ≤ cpu →
+            slice_index_or result.pages cpu no_page ≡ no_page }
+        ensures ended { EndedTold seat.seen seat.ended }
+        ensures numbers { (n : ℕ) → N.passes ≤ n → entries_of n seat.seen ≡ [] }
+    {
+        let ClockTable { table, of: _ } = self;
+        let ClockSeat { seat, of: _ } = seat;
+        let count = table.word_count();
+        let words = table.close_with(seat);
+        let front = words.word(0);
+        let greatest = words.word(1);
+        let pages = pages_of(&words, count);
+        words.free();
+        Closed {
+            front,
+            greatest,
+            pages,
+        }
+    }
+}
+
+/// The pages that stand in the words.
+fn pages_of(words: &ClosedWords<(), Global>, count: usize) -> [Page; 64]
+    requires full { IsFull words.now.words }
+    requires count { slots_len words.now.words ≡ count }
+    ensures pages { (cpu : ℕ) → 2 + 5 * cpu + 5 ≤ count → cpu < 64 →
+        slice_index_or result cpu no_page ≡ page_of (words_at (slots_items words.now.words) cpu) }
+    ensures no_pages { (cpu : ℕ) → count < 2 + 5 * cpu + 5 →
+        slice_index_or result cpu no_page ≡ no_page }
+{
+    let mut pages = [NO_PAGE; 64];
+    for cpu in 0..64 {
+        if 2 + 5 * cpu + 5 <= count {
+            pages[cpu] = page_at(words, cpu);
+        }
+    }
+    pages
+}
+
+/// The page of a processor.
+fn page_at(words: &ClosedWords<(), Global>, cpu: usize) -> Page
+    requires full { IsFull words.now.words }
+    requires there { 2 + 5 * cpu + 5 ≤ slots_len words.now.words }
+    requires few { cpu < 64 }
+    ensures { result ≡ page_of (words_at (slots_items words.now.words) cpu) }
+{
+    let at = 2 + 5 * cpu;
+    words_page(&[
+        words.word(at),
+        words.word(at + 1),
+        words.word(at + 2),
+        words.word(at + 3),
+        words.word(at + 4),
+    ])
+}

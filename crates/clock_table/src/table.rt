@@ -1,0 +1,430 @@
+//! A table and its seats.
+ghost use Rattle.std.specs.Prelude.{
+  ◌≡◌,
+  ◌<◌,
+  ◌≤◌,
+  ◌+◌,
+  ◌*◌,
+  ◌++◌,
+  ◌||◌,
+  ℕ,
+  [],
+  ◌∷◌,
+  true,
+  None,
+  Some,
+};
+ghost use Rattle.board_types.specs.declared.parts.TheConstants.{LAST_VERSION};
+ghost use Rattle.board_history.specs.Machine.{machine_of, page_at};
+ghost use Rattle.board_history.specs.History.{
+  board_after,
+  version_after,
+  Reads,
+  last_of,
+  entries_of,
+};
+ghost use Rattle.board_history.specs.declared.entry.Entry.TheVariants.{Clamp};
+ghost use Rattle.clock_table.specs.Words.{place as place_of};
+ghost use Rattle.clock_table.specs.Steps.{
+  first_view,
+  named,
+  begun,
+  put_in,
+  Extends,
+  Hears,
+  first_read,
+  noted_in,
+  ReadEnds,
+  number_in,
+  pass_left,
+  pass_right,
+  pen_left,
+  pen_right,
+  met,
+  parted,
+  MeetTold,
+};
+ghost use Rattle.clock_table.specs.Calls.{
+  HasOpen,
+  HasPut,
+  IsReading,
+  HasNoted,
+  IsPass,
+  IsPen,
+  IsNext,
+  IsPublishing,
+  IsBump,
+  entry_of,
+  field_number,
+};
+ghost use Rattle.clock_table.specs.declared.view.Read.{Read};
+
+use crate::blank::Blank;
+use crate::call::Call;
+use crate::field::Field;
+use crate::name::{Ask, Name, Tag};
+use crate::plays::{
+    Begins, ClockRule, Fields, Finishes, Firsts, Meets, Names, NewPass, Parts, Puts, Raises,
+    Seconds, ThePen,
+};
+use crate::view::View;
+use atomic_table::{Seat, Table};
+use board_core::{BoardState, Reply};
+use board_history::Entry;
+use std::alloc::Global;
+use std::marker::{Brand, Model, PhantomData};
+
+/// Words, no slots, and the opening state as the key of the rule.
+pub(crate) type Words = Table<(), View, BoardState, ClockRule, Global>;
+
+/// Where the front word and the clamp word stand.
+const FRONT: usize = 0;
+
+const CLAMP: usize = 1;
+
+/// The words that all threads share: a front word, a clamp word, and five words for each page. Each step on one of
+/// them is a single atomic one, sequentially consistent.
+#[derive(Drop)]
+pub struct ClockTable<N: Name> {
+    pub(crate) table: Words,
+    pub(crate) of: PhantomData<N>,
+    pub(crate) ghost named: { table.shared.table_id ≡ N.table },
+    pub(crate) ghost opened: { table.shared.key ≡ N.state },
+    pub(crate) ghost sized: { table.shared.table_id.words ≡ 2 + 5 * N.state.cpus },
+    pub(crate) ghost plain: { table.shared.table_id.slots ≡ 0 },
+}
+
+/// A seat at a table, with which one thread steps. It takes no bytes. Contracts see it as its view.
+#[derive(Drop)]
+pub struct ClockSeat<N: Name> {
+    pub(crate) seat: Seat<(), View>,
+    pub(crate) of: PhantomData<N>,
+}
+
+impl<N: Name> Model for ClockSeat<N> {
+    ghost use Rattle.std.specs.Prelude.{◌≡◌, [], true, Some};
+    ghost use Rattle.clock_table.specs.declared.view.View.{View};
+
+    ghost Value = { View };
+
+    ghost view = { λ s. s.seat.me.0 };
+
+    ghost invariant = { λ s. (s.seat.table_id ≡ N.table) × (s.seat.me.1 ≡ [])
+        × (s.seat.me.0.live ≡ true) × (s.seat.me.0.limit ≡ Some N.passes) };
+}
+
+impl<N: Name> ClockTable<N> {
+    /// The table of a blank, and the writer's seat, which holds the pen and has no number.
+    pub fn new(blank: Blank) -> (ClockTable<N>, ClockSeat<N>)
+        requires table { blank.0 ≡ N.table }
+        requires state { blank.1 ≡ N.state }
+        ensures { result.1 ≡ named N.passes (first_view N.state) }
+    {
+        let Blank { table, mut seat } = blank;
+        table.shared.load::<Names<N>>(&mut seat, FRONT);
+        (
+            ClockTable {
+                table,
+                of: PhantomData,
+            },
+            ClockSeat {
+                seat,
+                of: PhantomData,
+            },
+        )
+    }
+
+    /// The seat of the next pass. Numbers go from 0.
+    pub fn split_pass(&self, seat: &mut ClockSeat<N>) -> ClockSeat<N>
+        requires pen { seat.old.pen ≡ true }
+        requires meet { seat.old.meet ≡ None }
+        requires room { seat.old.made < N.passes }
+        ensures left { seat.new ≡ pass_left seat.old }
+        ensures right { result ≡ pass_right seat.old }
+    {
+        let made = self.table.shared.split_seat::<NewPass>(&mut seat.seat);
+        ClockSeat {
+            seat: made,
+            of: PhantomData,
+        }
+    }
+
+    /// A seat without a number that holds the pen, which this one then lacks.
+    pub fn split_pen(&self, seat: &mut ClockSeat<N>) -> ClockSeat<N>
+        requires pen { seat.old.pen ≡ true }
+        requires meet { seat.old.meet ≡ None }
+        requires shut { seat.old.hand ≡ None }
+        ensures left { seat.new ≡ pen_left seat.old }
+        ensures right { result ≡ pen_right seat.old }
+    {
+        let made = self.table.shared.split_seat::<ThePen>(&mut seat.seat);
+        ClockSeat {
+            seat: made,
+            of: PhantomData,
+        }
+    }
+
+    /// One seat takes in another, one of which holds the pen. A meet is then open, until [`ClockTable::front`]; a
+    /// number of the seat that went has ended.
+    pub fn join(&self, into: &mut ClockSeat<N>, gone: ClockSeat<N>)
+        requires pen { into.old.pen || gone.pen ≡ true }
+        requires shut { (into.old.hand ≡ None) × (gone.hand ≡ None) }
+        requires meet { (into.old.meet ≡ None) × (gone.meet ≡ None) }
+        ensures { into.new ≡ met into.old gone }
+    {
+        let ClockSeat { seat, of: _ } = gone;
+        self.table.shared.join_seat::<Meets>(&mut into.seat, seat);
+    }
+
+    /// Loads the front word, which ends a meet.
+    pub fn front(&self, seat: &mut ClockSeat<N>) -> u64
+        ensures view { seat.new ≡ parted seat.old }
+        ensures told { MeetTold seat.old result }
+    {
+        self.table.shared.load::<Parts>(&mut seat.seat, FRONT)
+    }
+
+    /// Adds 1 to the front word: an access that publishes no page, or a read under the lock.
+    pub fn bump(&self, seat: &mut ClockSeat<N>, entry: &Entry)
+        requires pen { IsPen seat.old }
+        requires shut { seat.old.hand ≡ None }
+        requires bump { IsBump seat.old.seen entry.now }
+        requires next { IsNext entry.now seat.old }
+        ensures { Extends entry.now seat.old seat.new }
+    {
+        bump_as::<N, Brand>(self, seat, entry);
+    }
+
+    /// The same for an access, told by its call and its reply: no entry is built, and the reply isn't moved.
+    pub fn bump_access(&self, seat: &mut ClockSeat<N>, call: &Call, reply: &Reply)
+        requires pen { IsPen seat.old }
+        requires shut { seat.old.hand ≡ None }
+        requires bump { IsBump seat.old.seen (entry_of call.now reply.now) }
+        requires next { IsNext (entry_of call.now reply.now) seat.old }
+        ensures { Extends (entry_of call.now reply.now) seat.old seat.new }
+    {
+        bump_access_as::<N, Brand>(self, seat, call, reply);
+    }
+
+    /// Opens a page: its version is odd from now on.
+    pub fn begin(&self, seat: &mut ClockSeat<N>, cpu: u8)
+        requires cpu { cpu < N.state.cpus }
+        requires pen { IsPen seat.old }
+        requires shut { seat.old.hand ≡ None }
+        requires room { version_after seat.old.seen cpu < LAST_VERSION }
+        ensures { seat.new ≡ begun cpu seat.old }
+    {
+        self.table
+            .shared
+            .fetch_add::<Begins>(&mut seat.seat, place(cpu, 0), 1);
+    }
+
+    /// Stores a field of the open page.
+    pub fn put(&self, seat: &mut ClockSeat<N>, cpu: u8, field: Field, word: u64)
+        requires cpu { cpu < N.state.cpus }
+        requires pen { IsPen seat.old }
+        requires open { HasOpen cpu seat.old }
+        ensures { seat.new ≡ put_in (field_number field) word seat.old }
+    {
+        self.table
+            .shared
+            .store::<Puts>(&mut seat.seat, place(cpu, field.number() + 1), word);
+    }
+
+    /// Closes the page, whose version is then even: an access that publishes it.
+    pub fn finish(&self, seat: &mut ClockSeat<N>, cpu: u8, entry: &Entry)
+        requires cpu { cpu < N.state.cpus }
+        requires pen { IsPen seat.old }
+        requires open { HasPut cpu (page_at (board_after (seat.old.seen ++ entry.now ∷ [])) cpu)
+            seat.old }
+        requires publishes { IsPublishing cpu entry.now }
+        requires next { IsNext entry.now seat.old }
+        ensures { Extends entry.now seat.old seat.new }
+    {
+        finish_as::<N, Brand>(self, seat, cpu, entry);
+    }
+
+    /// The same for an access that is told by its call and its reply.
+    pub fn finish_access(&self, seat: &mut ClockSeat<N>, cpu: u8, call: &Call, reply: &Reply)
+        requires cpu { cpu < N.state.cpus }
+        requires pen { IsPen seat.old }
+        requires open { HasPut cpu
+            (page_at (board_after (seat.old.seen ++ entry_of call.now reply.now ∷ [])) cpu) seat.old }
+        requires publishes { IsPublishing cpu (entry_of call.now reply.now) }
+        requires next { IsNext (entry_of call.now reply.now) seat.old }
+        ensures { Extends (entry_of call.now reply.now) seat.old seat.new }
+    {
+        finish_access_as::<N, Brand>(self, seat, cpu, call, reply);
+    }
+
+    /// Loads the version of a page. An even one begins a read; an odd one is a miss.
+    pub fn first(&self, seat: &mut ClockSeat<N>, cpu: u8) -> u64
+        requires cpu { cpu < N.state.cpus }
+        requires pass { IsPass seat.old }
+        ensures view { seat.new ≡ first_read cpu result seat.old }
+        ensures least { version_after seat.old.seen cpu ≤ result }
+    {
+        self.table
+            .shared
+            .load::<Firsts>(&mut seat.seat, place(cpu, 0))
+    }
+
+    /// Loads a field of the page that is read.
+    pub fn field(&self, seat: &mut ClockSeat<N>, cpu: u8, field: Field) -> u64
+        requires cpu { cpu < N.state.cpus }
+        requires pass { IsPass seat.old }
+        requires read { IsReading cpu seat.old }
+        ensures { seat.new ≡ noted_in (field_number field) result seat.old }
+    {
+        self.table
+            .shared
+            .load::<Fields>(&mut seat.seat, place(cpu, field.number() + 1))
+    }
+
+    /// Loads the version again. Where it is as before, the page was read, at count `h`; else it is a miss.
+    pub fn second(&self, seat: &mut ClockSeat<N>, cpu: u8, h: u64) -> u64
+        requires cpu { cpu < N.state.cpus }
+        requires pass { IsPass seat.old }
+        requires read { HasNoted cpu seat.old }
+        ensures { (r : Read) → seat.old.read ≡ Some r → ReadEnds h r result seat.old seat.new }
+    {
+        second_as::<N, Brand>(self, seat, cpu, h)
+    }
+
+    /// Raises the clamp word to a reading, and answers the greater of the two.
+    pub fn raise(&self, seat: &mut ClockSeat<N>, cpu: u8, x: u64) -> u64
+        requires pass { IsPass seat.old }
+        requires reads { Reads (machine_of N.state)
+            (last_of (entries_of (number_in seat.old) seat.old.seen)) cpu x }
+        ensures { Hears (Clamp (number_in seat.old) cpu x result) seat.old seat.new }
+    {
+        raise_as::<N, Brand>(self, seat, cpu, x)
+    }
+}
+
+// A step's kind has no parameter but its type, so the entry, or the number in it, is one of a type that the call
+// picks.
+
+fn bump_as<N: Name, E: Ask>(table: &ClockTable<N>, seat: &mut ClockSeat<N>, entry: &Entry)
+    requires entry { entry.now ≡ E.entry }
+    requires pen { IsPen seat.old }
+    requires shut { seat.old.hand ≡ None }
+    requires bump { IsBump seat.old.seen entry.now }
+    requires next { IsNext entry.now seat.old }
+    ensures { Extends entry.now seat.old seat.new }
+{
+    let _ = entry;
+    table
+        .table
+        .shared
+        .fetch_add::<Finishes<E>>(&mut seat.seat, FRONT, 1);
+}
+
+fn finish_as<N: Name, E: Ask>(
+    table: &ClockTable<N>,
+    seat: &mut ClockSeat<N>,
+    cpu: u8,
+    entry: &Entry,
+)
+    requires entry { entry.now ≡ E.entry }
+    requires cpu { cpu < N.state.cpus }
+    requires pen { IsPen seat.old }
+    requires open { HasPut cpu (page_at (board_after (seat.old.seen ++ entry.now ∷ [])) cpu)
+        seat.old }
+    requires publishes { IsPublishing cpu entry.now }
+    requires next { IsNext entry.now seat.old }
+    ensures { Extends entry.now seat.old seat.new }
+{
+    let _ = entry;
+    table
+        .table
+        .shared
+        .fetch_add::<Finishes<E>>(&mut seat.seat, place(cpu, 0), 1);
+}
+
+fn bump_access_as<N: Name, E: Ask>(
+    table: &ClockTable<N>,
+    seat: &mut ClockSeat<N>,
+    call: &Call,
+    reply: &Reply,
+)
+    requires entry { entry_of call.now reply.now ≡ E.entry }
+    requires pen { IsPen seat.old }
+    requires shut { seat.old.hand ≡ None }
+    requires bump { IsBump seat.old.seen (entry_of call.now reply.now) }
+    requires next { IsNext (entry_of call.now reply.now) seat.old }
+    ensures { Extends (entry_of call.now reply.now) seat.old seat.new }
+{
+    let _ = call;
+    let _ = reply;
+    table
+        .table
+        .shared
+        .fetch_add::<Finishes<E>>(&mut seat.seat, FRONT, 1);
+}
+
+fn finish_access_as<N: Name, E: Ask>(
+    table: &ClockTable<N>,
+    seat: &mut ClockSeat<N>,
+    cpu: u8,
+    call: &Call,
+    reply: &Reply,
+)
+    requires entry { entry_of call.now reply.now ≡ E.entry }
+    requires cpu { cpu < N.state.cpus }
+    requires pen { IsPen seat.old }
+    requires open { HasPut cpu
+        (page_at (board_after (seat.old.seen ++ entry_of call.now reply.now ∷ [])) cpu) seat.old }
+    requires publishes { IsPublishing cpu (entry_of call.now reply.now) }
+    requires next { IsNext (entry_of call.now reply.now) seat.old }
+    ensures { Extends (entry_of call.now reply.now) seat.old seat.new }
+{
+    let _ = call;
+    let _ = reply;
+    table
+        .table
+        .shared
+        .fetch_add::<Finishes<E>>(&mut seat.seat, place(cpu, 0), 1);
+}
+
+fn second_as<N: Name, E: Tag>(
+    table: &ClockTable<N>,
+    seat: &mut ClockSeat<N>,
+    cpu: u8,
+    h: u64,
+) -> u64
+    requires h { h ≡ E.tag }
+    requires cpu { cpu < N.state.cpus }
+    requires pass { IsPass seat.old }
+    requires read { HasNoted cpu seat.old }
+    ensures { (r : Read) → seat.old.read ≡ Some r → ReadEnds h r result seat.old seat.new }
+{
+    let _ = h;
+    table
+        .table
+        .shared
+        .load::<Seconds<E>>(&mut seat.seat, place(cpu, 0))
+}
+
+fn raise_as<N: Name, E: Tag>(table: &ClockTable<N>, seat: &mut ClockSeat<N>, cpu: u8, x: u64) -> u64
+    requires cpu { cpu ≡ E.tag }
+    requires pass { IsPass seat.old }
+    requires reads { Reads (machine_of N.state)
+        (last_of (entries_of (number_in seat.old) seat.old.seen)) cpu x }
+    ensures { Hears (Clamp (number_in seat.old) cpu x result) seat.old seat.new }
+{
+    let _ = cpu;
+    let found = table
+        .table
+        .shared
+        .fetch_max::<Raises<E>>(&mut seat.seat, CLAMP, x);
+    if found < x { x } else { found }
+}
+
+/// Where a word of a page stands.
+fn place(cpu: u8, k: usize) -> usize
+    requires { k < 5 }
+    ensures { result ≡ place_of cpu k }
+{
+    2 + (5 * cpu as usize + k)
+}

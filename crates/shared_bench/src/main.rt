@@ -1,0 +1,123 @@
+//! The program `shared_bench`: how many calls a second threads get from one shared board.
+//!
+//! With the word `time` it prints, for one, two and four threads, how many reads of a page a second they make together
+//! beside one more thread that publishes it all the while, and how many accesses. With the word of a row one thread
+//! makes those calls, for a program that counts instructions: `page` reads a page without the lock, `reading` does the
+//! arithmetic of such a read alone; `access` reads a port under the lock, `core` the same on a board that isn't shared.
+#![tactic(auto)]
+
+ghost use Rattle.std.specs.Prelude.{◌≡◌, IfOk};
+
+mod alone;
+mod crowd;
+
+use alone::{core_alone, on_shared, reading_alone};
+use board_core::{BoardState, Setup};
+use clock_table::Blank;
+use crowd::{Kind, crowded};
+use host_counter::Anchor;
+use rtc_calendar::TimeBytes;
+use std::alloc::{AllocError, Global};
+use std::marker::Brand;
+use std::rt::Clock;
+use std::sync::Wait;
+use std::thread::Threads;
+use std::{env, io};
+use tick_policy::Policy;
+
+/// How the program is called.
+const USAGE: &str = "usage: shared_bench time|page|reading|access|core";
+
+fn main(rt: HostRuntime) -> io::Result<()> {
+    let mut words = env::args(&rt)?.skip(1);
+    match words.next() {
+        Some(word) if word.as_bytes() == b"time".as_slice() => print_table(&rt, rt.alloc()),
+        Some(word) => run_alone(&rt, rt.alloc(), word.as_bytes()),
+        None => println!(rt; "{USAGE}"),
+    }
+}
+
+/// Prints a line for each number of threads.
+fn print_table<R: Threads + Wait + Clock + Print + Sync>(rt: &R, alloc: Global) -> io::Result<()> {
+    println!(rt; "threads    page reads a second    accesses a second")?;
+    for threads in [1, 2, 4] {
+        let reads = rate(rt, alloc, Kind::Reads, threads)?;
+        let accesses = rate(rt, alloc, Kind::Accesses, threads)?;
+        println!(rt; "{threads:>7}{reads:>23}{accesses:>21}")?;
+    }
+    Ok(())
+}
+
+/// How many calls of a kind so many threads make together in a second.
+fn rate<R: Threads + Wait + Clock + Sync>(
+    rt: &R,
+    alloc: Global,
+    kind: Kind,
+    threads: u8,
+) -> io::Result<u128> {
+    let state = board();
+    let blank = blank(alloc, &state)?;
+    let passes = match kind {
+        Kind::Reads => threads.saturating_add(1),
+        Kind::Accesses => threads,
+    };
+    crowded::<Brand, R>(rt, alloc, blank, state, passes, kind)
+}
+
+/// Makes the calls of the row of this word.
+fn run_alone<R: Wait + Print>(rt: &R, alloc: Global, word: &[u8]) -> io::Result<()> {
+    let sum = if word == b"reading".as_slice() {
+        reading_alone()
+    } else if word == b"core".as_slice() {
+        core_alone(board())
+    } else if word == b"page".as_slice() || word == b"access".as_slice() {
+        let state = board();
+        let blank = blank(alloc, &state)?;
+        on_shared::<Brand, R>(rt, alloc, blank, state, word == b"page".as_slice())?
+    } else {
+        return println!(rt; "{USAGE}");
+    };
+    // the sum is used, so that no call can be left out
+    println!(rt; "{sum}")
+}
+
+/// The words of a state, where there is memory.
+fn blank(alloc: Global, state: &BoardState) -> Result<Blank, AllocError>
+    ensures { IfOk result (λ b. b.1 ≡ state.now) }
+{
+    match Blank::new(alloc, state) {
+        Ok(blank) => Ok(blank),
+        Err(_no_memory) => Err(AllocError),
+    }
+}
+
+/// A host and a guest of 1 GHz, both from 0, and one processor.
+fn board() -> BoardState
+    ensures { result.cpus ≡ 1 }
+{
+    BoardState::power_on(&Setup {
+        format: 1,
+        anchor: Anchor {
+            khz: 1_000_000,
+            start: 0,
+            base_ns: 0,
+        },
+        guest_khz: 1_000_000,
+        cpus: 1,
+        pit: Policy::Delay,
+        rtc: Policy::Delay,
+        hpet: Policy::Delay,
+        slew_ns: 1_000_000,
+        wall_sec: 0,
+        wall_nsec: 0,
+        time: TimeBytes {
+            sec: 0,
+            min: 0,
+            hour: 0,
+            wday: 7,
+            date: 1,
+            month: 1,
+            year: 0,
+        },
+    })
+}

@@ -1,0 +1,350 @@
+-- Reads of pages and clocks, told of passes; and how many reads fill the front word.
+use Rattle.std.proofs.Common.{
+  append-nil,
+  true≢false,
+  ◌≡◌,
+  ◌⊎◌,
+  ℕ,
+  ◌+◌,
+  ◌≤◌,
+  ◌^◌,
+  List,
+  [],
+  ◌∷◌,
+  ◌++◌,
+  refl,
+  ap,
+  sym,
+  ◌∙◌,
+  subst,
+  arith,
+  Option,
+  Some,
+  None,
+  Bool,
+  true,
+  false,
+  if◌then◌else◌,
+  inl,
+  inr,
+  eq-eqb,
+  Result,
+  Ok,
+  Err,
+  IfOk,
+  IfErr,
+}
+use mathlib.Core.List.{IsPrefix}
+use Rattle.pvclock_page.specs.declared.page.Page.{Page}
+use Rattle.pvclock_page.specs.declared.page.PageReply.{PageReply}
+use Rattle.pvclock_page.specs.declared.page.PageReply.TheVariants.{Off, On}
+use Rattle.pvclock_page.specs.declared.page.ClockReply.{ClockReply}
+use Rattle.pvclock_page.specs.declared.page.ClockReply.TheVariants.{Off as ClockOff, On as ClockOn}
+use Rattle.host_counter.specs.declared.Anchor.{Anchor}
+use Rattle.board_types.specs.declared.parts.BoardParts.{BoardParts}
+use Rattle.board_types.specs.declared.parts.TheConstants.{MOST_ACCESSES}
+use Rattle.board_core.specs.Pages.{published_by}
+use Rattle.board_core.specs.Time.{HasTime}
+use Rattle.board_core.proofs.Laws.{after_access-accesses, taken_accesses}
+use Rattle.board_history.specs.Machine.{Machine, machine_of, page_at, ratio_in, reading_by, answer_by}
+use Rattle.board_history.specs.History.{board_after, floor_after, version_after, entries_of, last_of, LegalFrom, IsLegal, Reads}
+use Rattle.board_history.specs.declared.entry.Entry.{Entry}
+use Rattle.board_history.specs.declared.entry.Entry.TheVariants.{Opened, Board, PageRead, Clamp}
+use Rattle.board_history.proofs.Laws.{board_after-snoc, legal-at, legal-floor, legal-version}
+use Rattle.clock_table.specs.declared.view.View.{View}
+use Rattle.clock_table.specs.Steps.{or_else, number_in, none_weight, weight, loud, Hears}
+use Rattle.clock_table.proofs.Lists.{prefix_trans}
+use Rattle.shared_board.specs.declared.fault.PageFault.{PageFault}
+use Rattle.shared_board.specs.declared.fault.PageFault.TheVariants.{BeforeStart, OutOfRange, Again}
+use Rattle.shared_board.specs.declared.fault.LockedFault.{LockedFault}
+use Rattle.shared_board.specs.declared.fault.LockedFault.TheVariants.{BeforeStart as LockedBefore, OutOfRange as LockedPast, Spent}
+use Rattle.shared_board.specs.declared.known.PassKnown.{PassKnown}
+use Rattle.shared_board.specs.Passes.{Made, Answered, Missed}
+use Rattle.shared_board.specs.Pages.{HadRoom, PageWasRead, ClockWasRead, HasTriedPage, HasTriedClock, HasLockedPage, HasLockedClock, HasReadPage, HasReadClock}
+use Rattle.shared_board.specs.Faults.{page_reads, IsPageFault, IsLockedFault, IsReadFault}
+use Rattle.shared_board.specs.private.Seats.{known, IsAtRest, IsBelow, IsLastRead, HasClamped}
+use Rattle.shared_board.specs.private.Tries.{HasAnswer, IsTryFault}
+use Rattle.shared_board.proofs.Seats.{heard_rests, below_heard, below_same}
+use Rattle.shared_board.proofs.Made.{made_of, made_more, made_late, made_last, unmade_late, heard_made, missed_known, missed_rests, tried_on}
+
+-- how many accesses there are in a list
+abbrev pub boards : List Entry → ℕ
+boards [] = 0
+boards (Opened s ∷ es) = boards es
+boards (Board pass cpu h access reply ∷ es) = 1 + boards es
+boards (PageRead pass cpu h page locked ∷ es) = boards es
+boards (Clamp pass cpu reading clock ∷ es) = boards es
+
+none_weight-le : (o : Option ℕ) → none_weight o ≤ 1
+none_weight-le None = omega arith
+none_weight-le (Some k) = omega arith
+
+weight-le : (b : Bool) → weight b ≤ 1
+weight-le true = omega arith
+weight-le false = omega arith
+
+-- an entry that is counted is an access or a read
+loud-le : (es : List Entry) → loud es ≤ page_reads es + boards es
+loud-le [] = omega arith
+loud-le (Opened s ∷ es) = let r = loud-le es in omega arith
+loud-le (Board pass cpu h access reply ∷ es) = let r = loud-le es in let w = none_weight-le (published_by cpu access) in omega arith
+loud-le (PageRead pass cpu h page locked ∷ es) = let r = loud-le es in let w = weight-le locked in omega arith
+loud-le (Clamp pass cpu reading clock ∷ es) = let r = loud-le es in omega arith
+
+-- a legal list has no more accesses than a board takes
+boards-few : (before es : List Entry) → LegalFrom before es → (boards es ≡ 0) ⊎ ((board_after before).accesses + boards es ≤ MOST_ACCESSES)
+boards-few before [] l = inl refl
+boards-few before (Opened s ∷ es) l = absurd l.0
+boards-few before (Board pass cpu h access reply ∷ es) l =
+    let less = taken_accesses (board_after before) cpu h access l.0.taken in
+    let e : Entry = Board pass cpu h access reply in
+    let after : (board_after (before ++ e ∷ [])).accesses ≡ (board_after before).accesses + 1 =
+    ap (λ (b : BoardParts). b.accesses) (board_after-snoc before e) ∙ after_access-accesses (board_after before) cpu h access in
+    elim (boards-few (before ++ e ∷ []) es l.1) [
+      | inl none ↦ inr (omega arith)
+      | inr most ↦ inr (omega arith)
+    ]
+boards-few before (PageRead pass cpu h page locked ∷ es) l =
+    let e : Entry = PageRead pass cpu h page locked in
+    let after : (board_after (before ++ e ∷ [])).accesses ≡ (board_after before).accesses = ap (λ (b : BoardParts). b.accesses) (board_after-snoc before e) in
+    elim (boards-few (before ++ e ∷ []) es l.1) [
+      | inl none ↦ inl none
+      | inr most ↦ inr (omega arith)
+    ]
+boards-few before (Clamp pass cpu reading clock ∷ es) l =
+    let e : Entry = Clamp pass cpu reading clock in
+    let after : (board_after (before ++ e ∷ [])).accesses ≡ (board_after before).accesses = ap (λ (b : BoardParts). b.accesses) (board_after-snoc before e) in
+    elim (boards-few (before ++ e ∷ []) es l.1) [
+      | inl none ↦ inl none
+      | inr most ↦ inr (omega arith)
+    ]
+
+-- so a full front word tells of many reads
+pub reads-many : (seen : List Entry) → IsLegal seen → 2 ^ 63 ≤ loud seen → 2 ^ 62 ≤ page_reads seen
+reads-many [] l full = absurd l
+reads-many (Opened s ∷ es) l full =
+    let le = loud-le es in
+    elim (boards-few (Opened s ∷ []) es l) [
+      | inl none ↦ omega arith
+      | inr most ↦ omega arith
+    ]
+reads-many (Board pass cpu h access reply ∷ es) l full = absurd l
+reads-many (PageRead pass cpu h page locked ∷ es) l full = absurd l
+reads-many (Clamp pass cpu reading clock ∷ es) l full = absurd l
+
+-- what an answer tells of the page
+answer-on : (b : Bool) (p page : Page) (x y : ℕ) → On p x ≡ (if b then On page y else Off) → (b ≡ true) × (x ≡ y)
+answer-on true p page x y e = (refl, cc e)
+answer-on false p page x y e = absurd (cc e)
+
+answer-off : (b : Bool) (page : Page) (y : ℕ) → Off ≡ (if b then On page y else Off) → b ≡ false
+answer-off true page y e = absurd (cc e)
+answer-off false page y e = refl
+
+-- the entry that a read made is the last of its pass
+pub read_last : (s : BoardParts) (cpu h : ℕ) (locked : Bool) (reply : PageReply) (p q : PassKnown) → PageWasRead s cpu h locked reply p q
+    → IsLastRead (machine_of s) cpu reply q
+read_last s cpu h locked reply p q r = record {
+  h = h;
+  locked = locked;
+  page = r.page;
+  last = made_last p q (PageRead p.number cpu h r.page locked) r.made ∙ ap (λ (n : ℕ). Some (PageRead n cpu h r.page locked)) (sym r.made.number);
+  answer = r.answer;
+}
+
+-- so a clamp may come behind it
+pub last_reads : (m : Machine) (cpu x : ℕ) (page : Page) (p : PassKnown) → IsLastRead m cpu (On page x) p → Reads m (last_of (entries_of p.number p.seen)) cpu x
+last_reads m cpu x page p l =
+    let a = answer-on l.page.enabled page l.page x (reading_by (ratio_in m) l.page l.h) l.answer in
+    subst (λ (o : Option Entry). Reads m o cpu x) (sym l.last) (refl, a.0, sym a.1)
+
+-- the clamp
+pub clamp_known : (n cpu x clock : ℕ) (v w : View) → IsAtRest n v → Hears (Clamp (number_in v) cpu x clock) v w
+    → Made (known n v) (known n w) (Clamp n cpu x clock ∷ []) × (w.misses ≡ v.misses) × (floor_after v.seen ≤ clock)
+clamp_known n cpu x clock v w rest t =
+    let number : number_in v ≡ n = ap (λ (o : Option ℕ). or_else o 0) rest.number in
+    let e : Entry = Clamp n cpu x clock in
+    let t' : Hears e v w = subst (λ (k : ℕ). Hears (Clamp k cpu x clock) v w) number t in
+    let made = heard_made n v w e rest t' (eq-eqb n n refl) in
+    let seen : w.seen ≡ (v.seen ++ t'.0) ++ e ∷ [] = ap (λ u. u.seen) t'.1 in
+    let last : floor_after w.seen ≡ clock = ap floor_after seen ∙ ap (λ (b : BoardParts). b.greatest) (board_after-snoc (v.seen ++ t'.0) e) in
+    let up = legal-floor v.seen w.seen made.more made.legal in
+    (record { number = made.number; more = made.more; legal = made.legal; mine = made.mine }, ap (λ u. u.misses) t'.1, omega arith)
+
+-- a read without the lock
+pub try_known : (s : BoardParts) (ratio n cpu h : ℕ) (reply : PageReply) (v w : View) → ratio ≡ ratio_in (machine_of s) → IsAtRest n v
+    → HasAnswer ratio cpu h reply v w
+    → HasTriedPage s cpu h reply (known n v) (known n w)
+try_known s ratio n cpu h reply v w scaled rest a =
+    let number : number_in v ≡ n = ap (λ (o : Option ℕ). or_else o 0) rest.number in
+    let e : Entry = PageRead n cpu h a.page false in
+    let t : Hears e v w = subst (λ (k : ℕ). Hears (PageRead k cpu h a.page false) v w) number a.read.heard in
+    let made = heard_made n v w e rest t (eq-eqb n n refl) in
+    record {
+      read = record {
+        page = a.page;
+        answer = a.answer ∙ ap (λ (r : ℕ). answer_by r a.page h) scaled;
+        made = record { number = made.number; more = made.more; legal = made.legal; mine = made.mine };
+        least = a.read.least;
+      };
+      misses = ap (λ u. u.misses) t.1;
+    }
+
+pub try_answered : (res : Result PageReply PageFault) (s : BoardParts) (ratio n cpu h : ℕ) (v w : View) → ratio ≡ ratio_in (machine_of s) → IsAtRest n v
+    → IfOk res (λ r. HasAnswer ratio cpu h r v w) → IfOk res (λ r. HasTriedPage s cpu h r (known n v) (known n w))
+try_answered (Ok reply) s ratio n cpu h v w scaled rest ok = try_known s ratio n cpu h reply v w scaled rest ok
+try_answered (Err f) s ratio n cpu h v w scaled rest ok = tt
+
+pub try_faulted : (res : Result PageReply PageFault) (anchor : Anchor) (n cpu h : ℕ) (v w : View) → IsAtRest n v
+    → IfErr res (λ f. IsTryFault anchor cpu h f v w) → IfErr res (λ f. IsPageFault anchor cpu h f (known n v) (known n w))
+try_faulted (Ok reply) anchor n cpu h v w rest err = tt
+try_faulted (Err (BeforeStart start)) anchor n cpu h v w rest err = (err.0, ap (known n) err.1)
+try_faulted (Err (OutOfRange ns)) anchor n cpu h v w rest err = (err.0, ap (known n) err.1)
+try_faulted (Err (Again first second)) anchor n cpu h v w rest err = (err.0, missed_known n cpu first second v w rest err.1)
+
+pub try_rests : (res : Result PageReply PageFault) (anchor : Anchor) (ratio m n cpu h : ℕ) (v w : View) → IsAtRest n v → IsBelow m v
+    → IfOk res (λ r. HasAnswer ratio cpu h r v w) → IfErr res (λ f. IsTryFault anchor cpu h f v w) → IsAtRest n w × IsBelow m w
+try_rests (Ok reply) anchor ratio m n cpu h v w rest low ok err =
+    let e : Entry = PageRead (number_in v) cpu h ok.page false in
+    (heard_rests n v w e rest ok.read.heard, below_heard m v w e ok.read.heard low)
+try_rests (Err (BeforeStart start)) anchor ratio m n cpu h v w rest low ok err = (subst (IsAtRest n) (sym err.1) rest, below_same m v w err.1 low)
+try_rests (Err (OutOfRange ns)) anchor ratio m n cpu h v w rest low ok err = (subst (IsAtRest n) (sym err.1) rest, below_same m v w err.1 low)
+try_rests (Err (Again first second)) anchor ratio m n cpu h v w rest low ok err = (
+  missed_rests n cpu first second v w rest err.1.missed,
+  record {
+    limit = ap (λ u. u.limit) err.1.missed ∙ low.limit;
+    below = λ k l. ap (λ (u : View). entries_of k u.seen) err.1.missed ∙ low.below k l;
+  },
+)
+
+-- the page of a read that ends a legal history is that of the board before it
+page-told : (xs : List Entry) (n cpu h : ℕ) (page : Page) (locked : Bool) → IsLegal (xs ++ PageRead n cpu h page locked ∷ [])
+    → page_at (board_after xs) cpu ≡ page
+page-told [] n cpu h page locked l = absurd l
+page-told (x ∷ xs) n cpu h page locked l = (legal-at xs [] x (PageRead n cpu h page locked) l).1
+
+-- a read under the lock
+pub locked_known : (s : BoardParts) (ratio cpu h : ℕ) (page : Page) (p q : PassKnown) → ratio ≡ ratio_in (machine_of s)
+    → Answered p q (PageRead p.number cpu h page true) → PageWasRead s cpu h true (answer_by ratio page h) p q
+locked_known s ratio cpu h page p q scaled a =
+    let e : Entry = PageRead p.number cpu h page true in
+    let made : Made p q (e ∷ []) = made_of p q e a in
+    let front : List Entry = p.seen ++ a.seen.0 in
+    let up = legal-version p.seen q.seen cpu made.more a.legal in
+    let told : page_at (board_after front) cpu ≡ page = page-told front p.number cpu h page true (subst IsLegal a.seen.1 a.legal) in
+    let same : version_after q.seen cpu ≡ page.version =
+    ap (λ l. version_after l cpu) a.seen.1 ∙ (ap (λ (b : BoardParts). (page_at b cpu).version) (board_after-snoc front e)
+    ∙ ap (λ (r : Page). r.version) told) in
+    record { page = page; answer = ap (λ (r : ℕ). answer_by r page h) scaled; made = made; least = omega arith }
+
+pub locked_answered : (s : BoardParts) (ratio cpu h : ℕ) (page : Page) (p q : PassKnown) → ratio ≡ ratio_in (machine_of s)
+    → Answered p q (PageRead p.number cpu h page true) → HadRoom (PageRead p.number cpu h page true) q.seen
+    → HasLockedPage s cpu h (answer_by ratio page h) p q
+unfolding locked_known
+locked_answered s ratio cpu h page p q scaled a room =
+    record { read = locked_known s ratio cpu h page p q scaled a; misses = a.misses; room = room }
+
+-- a read under the lock behind a try that met an update
+pub read_late : (s : BoardParts) (cpu h : ℕ) (reply : PageReply) (first second : ℕ) (p q r : PassKnown) → Missed cpu first second p q
+    → HasLockedPage s cpu h reply q r → HasReadPage s cpu h reply p r
+read_late s cpu h reply first second p q r m a =
+    let number = m.unanswered.number in
+    let page : Page = a.read.page in
+    let made : Made q r (PageRead p.number cpu h page true ∷ []) =
+    subst (λ (n : ℕ). Made q r (PageRead n cpu h page true ∷ [])) number a.read.made in
+    let up = legal-version p.seen q.seen cpu m.unanswered.more m.unanswered.legal in
+    let least = a.read.least in
+    record {
+      locked = true;
+      read = record {
+        page = page;
+        answer = a.read.answer;
+        made = made_late p q r (PageRead p.number cpu h page true ∷ []) m.unanswered made;
+        least = omega arith;
+      };
+      tried = (first, second, a.misses ∙ m.misses);
+      room = λ _. subst (λ (n : ℕ). HadRoom (PageRead n cpu h page true) r.seen) number a.room;
+    }
+
+pub locked_late : (res : Result PageReply LockedFault) (s : BoardParts) (cpu h first second : ℕ) (p q r : PassKnown) → Missed cpu first second p q
+    → IfOk res (λ reply. HasLockedPage s cpu h reply q r) → IfOk res (λ reply. HasReadPage s cpu h reply p r)
+locked_late (Ok reply) s cpu h first second p q r m ok = read_late s cpu h reply first second p q r m ok
+locked_late (Err f) s cpu h first second p q r m ok = tt
+
+-- a clock is a read and its clamp
+pub clock_known : (s : BoardParts) (cpu h : ℕ) (locked : Bool) (read : PageReply) (reply : ClockReply) (p q r : PassKnown)
+    → PageWasRead s cpu h locked read p q → HasClamped cpu read reply q r → ClockWasRead s cpu h locked reply p r × (r.misses ≡ q.misses)
+clock_known s cpu h locked Off ClockOff p q r w c = (
+  record {
+    page = w.page;
+    answer = answer-off w.page.enabled w.page (reading_by (ratio_in (machine_of s)) w.page h) w.answer;
+    made = subst (λ (z : PassKnown). Made p z (PageRead p.number cpu h w.page locked ∷ [])) (sym c) w.made;
+    least = w.least;
+  },
+  ap (λ (z : PassKnown). z.misses) c,
+)
+clock_known s cpu h locked Off (ClockOn told clock) p q r w c = absurd c
+clock_known s cpu h locked (On pg x) ClockOff p q r w c = absurd c
+clock_known s cpu h locked (On pg x) (ClockOn told clock) p q r w c =
+    let a = answer-on w.page.enabled pg w.page x (reading_by (ratio_in (machine_of s)) w.page h) w.answer in
+    let clamp : Made q r (Clamp p.number cpu told clock ∷ []) =
+    subst (λ (z : ℕ × ℕ). Made q r (Clamp z.0 cpu z.1 clock ∷ [])) (λ i. (w.made.number i, sym c.0 i)) c.1 in
+    let up = legal-floor p.seen q.seen w.made.more w.made.legal in
+    let least = c.3 in (
+      record {
+        page = w.page;
+        answer = (a.0, c.0 ∙ a.1, omega arith);
+        made = made_more p q r (PageRead p.number cpu h w.page locked ∷ []) (Clamp p.number cpu told clock ∷ []) w.made clamp;
+        least = w.least;
+      },
+      c.2,
+    )
+
+pub tried_clock : (s : BoardParts) (cpu h : ℕ) (read : PageReply) (reply : ClockReply) (p q r : PassKnown) → HasTriedPage s cpu h read p q
+    → HasClamped cpu read reply q r → HasTriedClock s cpu h reply p r
+tried_clock s cpu h read reply p q r t c =
+    let k = clock_known s cpu h false read reply p q r t.read c in
+    record { read = k.0; misses = k.1 ∙ t.misses }
+
+-- what a pass sees later leaves the place of the entry
+room_later : (e : Entry) (xs ys : List Entry) → HadRoom e xs → IsPrefix xs ys → HadRoom e ys
+room_later e xs ys r p = (r.0, prefix_trans (r.0 ++ e ∷ []) xs ys r.1 p, r.2)
+
+clamp_more : (cpu : ℕ) (read : PageReply) (reply : ClockReply) (p q : PassKnown) → HasClamped cpu read reply p q → IsPrefix p.seen q.seen
+clamp_more cpu Off ClockOff p q c = ([], append-nil p.seen ∙ sym (ap (λ (z : PassKnown). z.seen) c))
+clamp_more cpu Off (ClockOn told clock) p q c = absurd c
+clamp_more cpu (On pg x) ClockOff p q c = absurd c
+clamp_more cpu (On pg x) (ClockOn told clock) p q c = c.1.more
+
+same_page : (s : BoardParts) (cpu h : ℕ) (locked : Bool) (read : PageReply) (reply : ClockReply) (p q r : PassKnown)
+    (w : PageWasRead s cpu h locked read p q) (c : HasClamped cpu read reply q r) → (clock_known s cpu h locked read reply p q r w c).0.page ≡ w.page
+unfolding clock_known
+same_page s cpu h locked Off ClockOff p q r w c = refl
+same_page s cpu h locked Off (ClockOn told clock) p q r w c = absurd c
+same_page s cpu h locked (On pg x) ClockOff p q r w c = absurd c
+same_page s cpu h locked (On pg x) (ClockOn told clock) p q r w c = refl
+
+pub locked_clock : (s : BoardParts) (cpu h : ℕ) (read : PageReply) (reply : ClockReply) (p q r : PassKnown) → HasLockedPage s cpu h read p q
+    → HasClamped cpu read reply q r → HasLockedClock s cpu h reply p r
+locked_clock s cpu h read reply p q r t c =
+    let k = clock_known s cpu h true read reply p q r t.read c in
+    let same = same_page s cpu h true read reply p q r t.read c in
+    record {
+      read = k.0;
+      misses = k.1 ∙ t.misses;
+      room = subst (λ (g : Page). HadRoom (PageRead p.number cpu h g true) r.seen) (sym same)
+          (room_later (PageRead p.number cpu h t.read.page true) q.seen r.seen t.room (clamp_more cpu read reply q r c));
+    }
+
+pub read_clock_known : (s : BoardParts) (cpu h : ℕ) (read : PageReply) (reply : ClockReply) (p q r : PassKnown) → HasReadPage s cpu h read p q
+    → HasClamped cpu read reply q r → HasReadClock s cpu h reply p r
+read_clock_known s cpu h read reply p q r t c =
+    let k = clock_known s cpu h t.locked read reply p q r t.read c in
+    let same = same_page s cpu h t.locked read reply p q r t.read c in
+    record {
+      locked = t.locked;
+      read = k.0;
+      tried = tried_on t.locked cpu p q r t.tried k.1;
+      room = λ is. subst (λ (g : Page). HadRoom (PageRead p.number cpu h g true) r.seen) (sym same)
+          (room_later (PageRead p.number cpu h t.read.page true) q.seen r.seen (t.room is) (clamp_more cpu read reply q r c));
+    }

@@ -1,0 +1,226 @@
+//! What lies under the lock: the board, and the writer's seat.
+ghost use Rattle.std.specs.Prelude.{
+  ◌≡◌,
+  ◌<◌,
+  ◌≤◌,
+  ◌^◌,
+  ◌+◌,
+  [],
+  true,
+  None,
+  Some,
+  IfOk,
+  IfErr,
+  OnOk,
+  IsTrue,
+};
+ghost use Rattle.board_types.specs.Legal.{is_legal};
+ghost use Rattle.board_history.specs.Machine.{machine_of};
+ghost use Rattle.board_history.specs.History.{board_after};
+ghost use Rattle.board_history.specs.declared.entry.Entry.TheVariants.{Board, PageRead};
+ghost use Rattle.clock_table.specs.Steps.{Extends, loud};
+ghost use Rattle.clock_table.specs.Calls.{entry_of};
+ghost use Rattle.shared_board.specs.Passes.{Answered, Refused, Unanswered};
+ghost use Rattle.shared_board.specs.Pages.{HadRoom};
+ghost use Rattle.shared_board.specs.Faults.{IsFull};
+ghost use Rattle.shared_board.specs.private.Seats.{
+  AreAlike,
+  IsApplied,
+  IsPenOf,
+  IsSpentAt,
+  HasActed,
+  HasRefused,
+};
+
+use crate::pass::Pass;
+use crate::pens::{move_pen, publish, published_by};
+use board_core::{Access, BoardState, Refusal, Reply, Value};
+use board_history::Entry;
+use clock_table::{Call, ClockSeat, ClockTable, Name};
+use irq_edges::EdgeList;
+use pvclock_page::Page;
+use std::marker::Model;
+
+/// A front word so great leaves no room for a read under the lock.
+const FULL: u64 = 1 << 63;
+
+/// What lies under the lock. The board is the one after all that the writer's seat has seen, but for its greatest
+/// reading, which stands in the clamp word.
+#[derive(Drop)]
+pub struct Held<N: Name> {
+    pub(crate) board: BoardState,
+    pub(crate) seat: ClockSeat<N>,
+}
+
+impl<N: Name> Model for Held<N> {
+    ghost use Rattle.std.specs.Prelude.{List, ◌≡◌};
+    ghost use Rattle.board_history.specs.Machine.{machine_of};
+    ghost use Rattle.board_history.specs.History.{board_after};
+    ghost use Rattle.board_history.specs.declared.entry.Entry.{Entry};
+    ghost use Rattle.shared_board.specs.private.Seats.{IsWriter, IsBelow, AreAlike};
+
+    ghost Value = { List Entry };
+
+    ghost view = { λ s. s.seat.seen };
+
+    ghost invariant = { λ s. IsWriter N.passes s.seat × AreAlike s.board (board_after s.seat.seen)
+        × (machine_of s.board ≡ machine_of N.state) × IsBelow N.passes s.seat };
+}
+
+impl<N: Name> Held<N> {
+    /// The access, whose entry the pass makes; its reply is put into `reply`, whose list is empty. The pen comes to the
+    /// pass, and goes back.
+    pub fn access(
+        &mut self,
+        table: &ClockTable<N>,
+        pass: &mut Pass<N>,
+        cpu: u8,
+        h: u64,
+        a: Access,
+        reply: &mut Reply,
+    ) -> Result<(), Refusal>
+        requires cpu { cpu < N.state.cpus }
+        requires legal { IsTrue (is_legal N.state.cpus N.state.format a) }
+        requires fresh { reply.old.edges ≡ [] }
+        ensures ok { OnOk result (Answered pass.old pass.new
+            (Board pass.old.number cpu h a reply.new)) }
+        ensures err { IfErr result (λ f. Refused cpu h a f pass.old pass.new) }
+    {
+        move_pen(table, &mut self.seat, &mut pass.seat);
+        let call = Call {
+            pass: pass.number,
+            cpu,
+            h,
+            access: a,
+        };
+        let result = act(table, &mut self.board, &mut pass.seat, call, reply);
+        move_pen(table, &mut pass.seat, &mut self.seat);
+        result
+    }
+
+    /// Reads the page of a processor, at count `h`; where the front word, which is then answered, leaves no room, no
+    /// page is read.
+    pub fn page(
+        &mut self,
+        table: &ClockTable<N>,
+        pass: &mut Pass<N>,
+        cpu: u8,
+        h: u64,
+    ) -> Result<Page, u64>
+        requires cpu { cpu < N.state.cpus }
+        ensures ok { IfOk result (λ page. Answered pass.old pass.new
+            (PageRead pass.old.number cpu h page true)) }
+        ensures room { IfOk result (λ page. HadRoom (PageRead pass.old.number cpu h page true)
+            pass.new.seen) }
+        ensures spent { IfErr result (λ front. Unanswered pass.old pass.new
+            × (pass.new.misses ≡ pass.old.misses) × IsFull front pass.new.seen) }
+    {
+        let front = move_pen(table, &mut self.seat, &mut pass.seat);
+        let result = read(
+            table,
+            &self.board,
+            &mut pass.seat,
+            pass.number,
+            cpu,
+            h,
+            front,
+        );
+        move_pen(table, &mut pass.seat, &mut self.seat);
+        result
+    }
+}
+
+/// A reply before its access, with an empty list.
+pub(crate) fn no_reply() -> Reply
+    ensures { result.edges ≡ [] }
+{
+    Reply {
+        number: 0,
+        value: Value::Nothing,
+        edges: EdgeList::new(),
+    }
+}
+
+/// A read of a page, whose entry the seat makes that holds the pen.
+fn read<N: Name>(
+    table: &ClockTable<N>,
+    board: &BoardState,
+    seat: &mut ClockSeat<N>,
+    pass: u64,
+    cpu: u8,
+    h: u64,
+    front: u64,
+) -> Result<Page, u64>
+    requires machine { machine_of board.now ≡ machine_of N.state }
+    requires cpu { cpu < N.state.cpus }
+    requires pen { IsPenOf pass seat.old }
+    requires alike { AreAlike board.now (board_after seat.old.seen) }
+    requires front { front ≡ loud seat.old.seen }
+    ensures ok { IfOk result (λ page. Extends (PageRead pass cpu h page true) seat.old seat.new) }
+    ensures room { OnOk result (loud seat.old.seen < 2 ^ 63) }
+    ensures spent { IfErr result (λ f. IsSpentAt f seat.old seat.new) }
+{
+    if front >= FULL {
+        return Err(front);
+    }
+    let page = board.page(cpu);
+    let entry = Entry::PageRead {
+        pass,
+        cpu,
+        h,
+        page,
+        locked: true,
+    };
+    table.bump(seat, &entry);
+    Ok(page)
+}
+
+/// The access on the board, whose entry the seat makes that holds the pen. The reply is written in its place, since
+/// each move of it would copy the whole list.
+pub(crate) fn act<N: Name>(
+    table: &ClockTable<N>,
+    board: &mut BoardState,
+    seat: &mut ClockSeat<N>,
+    call: Call,
+    reply: &mut Reply,
+) -> Result<(), Refusal>
+    requires machine { machine_of board.old ≡ machine_of N.state }
+    requires cpu { call.cpu < N.state.cpus }
+    requires legal { IsTrue (is_legal N.state.cpus N.state.format call.access) }
+    requires pen { IsPenOf call.pass seat.old }
+    requires alike { AreAlike board.old (board_after seat.old.seen) }
+    requires fresh { reply.old.edges ≡ [] }
+    ensures ok { OnOk result (HasActed call reply.new board.new seat.old seat.new) }
+    ensures err { IfErr result (λ f. HasRefused call f board.old board.new seat.old seat.new) }
+    ensures machine { machine_of board.new ≡ machine_of board.old }
+{
+    match board.answer(call.cpu, call.h, call.access, &mut reply.edges) {
+        Ok(value) => {
+            reply.number = board.accesses();
+            reply.value = value;
+            make(table, board, seat, call, reply);
+            Ok(())
+        }
+        Err(refusal) => Err(refusal),
+    }
+}
+
+/// Makes the entry of an access that the board has just taken.
+fn make<N: Name>(
+    table: &ClockTable<N>,
+    board: &BoardState,
+    seat: &mut ClockSeat<N>,
+    call: Call,
+    reply: &Reply,
+)
+    requires machine { machine_of board.now ≡ machine_of N.state }
+    requires cpu { call.cpu < N.state.cpus }
+    requires pen { IsPenOf call.pass seat.old }
+    requires applied { IsApplied board.now (board_after seat.old.seen) call reply.now }
+    ensures { Extends (entry_of call reply.now) seat.old seat.new }
+{
+    match published_by(call.cpu, call.access) {
+        None => table.bump_access(seat, &call, reply),
+        Some(page) => publish(table, seat, page, &board.page(page), &call, reply),
+    }
+}

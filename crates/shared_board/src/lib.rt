@@ -1,0 +1,34 @@
+//! A board that threads share: its registers behind one lock, its pages beside it, and one history of both.
+//!
+//! Each caller has a [`Pass`]. An access takes the lock; a page of the paravirtual clock, and the clock by it, are read
+//! without it, as a guest reads them (`clock_table`). What the callers were told stands in one legal history of one
+//! board (`board_history`): each call's entries in it are what the call was answered, behind all that its caller had
+//! seen. [`SharedBoard::stop`] gives the board after that history, once all passes are given back.
+//!
+//! ```text
+//! let blank = Blank::new(alloc, &state)?;
+//! run::<Brand, _>(rt, alloc, blank, state)                    // a function of the caller's own over N: Name
+//!
+//! let (board, passes) = SharedBoard::<N>::new(alloc, blank, state, 2)?;
+//! board.access(rt, &OpenGate, &mut pass, 0, 1_000, Access::Step)?   // by one thread
+//! board.read_clock(rt, &mut pass, 0, 1_000)?                        // by another, with its own pass
+//! ```
+#![tactic(auto)]
+
+mod fault;
+mod held;
+mod known;
+mod pass;
+mod pens;
+mod shared;
+mod stop;
+#[cfg(test)]
+mod tests;
+mod tries;
+
+pub use fault::{LockedFault, PageFault};
+pub use held::Held;
+pub use known::PassKnown;
+pub use pass::Pass;
+pub use shared::{PassesOut, SharedBoard, Stopped};
+pub use tries::try_page_on;

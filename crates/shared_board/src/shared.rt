@@ -1,0 +1,275 @@
+//! The board that threads share.
+ghost use Rattle.std.specs.Prelude.{◌≡◌, ◌<◌, ◌↔◌, IfOk, IfErr, OnOk, IsErr, IsTrue, vec_len};
+ghost use Rattle.clk_units.specs.Ranges.{IsKhz};
+ghost use Rattle.board_types.specs.Legal.{is_legal};
+ghost use Rattle.board_core.specs.Time.{HasTime};
+ghost use Rattle.board_history.specs.Machine.{machine_of, ratio_in};
+ghost use Rattle.board_history.specs.declared.entry.Entry.TheVariants.{Board};
+ghost use Rattle.shared_board.specs.Passes.{Answered, Refused};
+ghost use Rattle.shared_board.specs.Pages.{
+  HasTriedPage,
+  HasTriedClock,
+  HasLockedPage,
+  HasLockedClock,
+  HasReadPage,
+  HasReadClock,
+};
+ghost use Rattle.shared_board.specs.Faults.{IsPageFault, IsLockedFault, IsReadFault};
+ghost use Rattle.shared_board.specs.Stops.{StopTold, newcomers};
+ghost use Rattle.shared_board.specs.private.Seats.{IsLastRead, HasClamped};
+
+use crate::fault::{LockedFault, PageFault};
+use crate::held::{Held, no_reply};
+use crate::pass::Pass;
+use crate::stop::{join_all, new_passes};
+use crate::tries::try_page_on;
+use board_core::{Access, BoardState, Refusal, Reply};
+use board_history::answer_by;
+use board_io::Gate;
+use clk_units::NoMemory;
+use clock_table::{Blank, ClockTable, Name};
+use host_counter::{Anchor, TimeFault};
+use pvclock_page::{ClockReply, PageReply};
+use std::alloc::Global;
+use std::sync::{Mutex, Wait};
+use tsc_scale::ratio;
+
+/// A board that threads share: its registers behind one lock, its pages beside it.
+#[derive(Drop)]
+pub struct SharedBoard<N: Name> {
+    table: ClockTable<N>,
+    held: Mutex<Held<N>>,
+    passes: u8,
+    anchor: Anchor,
+    /// The ratio of the guest's TSC to the host's counter.
+    ratio: u64,
+    ghost counted: { passes ≡ N.passes },
+    ghost clock: { anchor ≡ N.state.anchor },
+    ghost scaled: { ratio ≡ ratio_in (machine_of N.state) },
+    ghost rate: { IsKhz anchor.khz },
+}
+
+/// What a board is at its end.
+#[derive(Drop)]
+pub struct Stopped {
+    /// The board after the whole history.
+    pub state: BoardState,
+}
+
+/// A board that wasn't stopped, since passes are out. All is handed back.
+#[derive(Drop)]
+pub struct PassesOut<N: Name> {
+    /// How many passes were given, and how many were made.
+    pub given: u64,
+    pub made: u64,
+    pub board: SharedBoard<N>,
+    pub passes: Vec<Pass<N>>,
+}
+
+impl<N: Name> SharedBoard<N> {
+    /// A board that opens with `state`, of which the blank was made, and its passes, numbered from 0. After `NoMemory`
+    /// the blank is given up.
+    pub fn new(
+        alloc: Global,
+        blank: Blank,
+        state: BoardState,
+        passes: u8,
+    ) -> Result<(SharedBoard<N>, Vec<Pass<N>>), NoMemory>
+        requires table { blank.0 ≡ N.table }
+        requires blank { blank.1 ≡ N.state }
+        requires state { state ≡ N.state }
+        requires passes { passes ≡ N.passes }
+        ensures { IfOk result (λ t. t.1.items ≡ newcomers N.state N.passes) }
+    {
+        let (table, mut seat) = ClockTable::<N>::new(blank);
+        let list = match new_passes(alloc, &table, &mut seat, passes) {
+            Ok(list) => list,
+            Err(_full) => return Err(NoMemory),
+        };
+        let parts = state.parts();
+        let anchor = parts.anchor;
+        let board = SharedBoard {
+            table,
+            held: Mutex::new(Held { board: state, seat }),
+            passes,
+            anchor,
+            ratio: ratio(parts.guest_khz, anchor.khz),
+        };
+        Ok((board, list))
+    }
+
+    /// An access by processor `cpu` at count `h`, under the lock. The gate is called once, when the lock is held.
+    pub fn access<R: Wait, G: Gate>(
+        &self,
+        rt: &R,
+        gate: &G,
+        pass: &mut Pass<N>,
+        cpu: u8,
+        h: u64,
+        a: Access,
+    ) -> Result<Reply, Refusal>
+        requires cpu { cpu < N.state.cpus }
+        requires legal { IsTrue (is_legal N.state.cpus N.state.format a) }
+        ensures ok { IfOk result (λ r. Answered pass.old pass.new
+            (Board pass.old.number cpu h a r)) }
+        ensures err { IfErr result (λ f. Refused cpu h a f pass.old pass.new) }
+    {
+        let mut reply = no_reply();
+        let mut held = self.held.lock(rt);
+        gate.inside(rt, cpu);
+        match held.access(&self.table, pass, cpu, h, a, &mut reply) {
+            Ok(()) => Ok(reply),
+            Err(refusal) => Err(refusal),
+        }
+    }
+
+    /// Reads the page of `cpu` at count `h`, without the lock.
+    pub fn try_page(&self, pass: &mut Pass<N>, cpu: u8, h: u64) -> Result<PageReply, PageFault>
+        requires cpu { cpu < N.state.cpus }
+        ensures time { OnOk result (HasTime N.state.anchor h) }
+        ensures ok { IfOk result (λ r. HasTriedPage N.state cpu h r pass.old pass.new) }
+        ensures err { IfErr result (λ f. IsPageFault N.state.anchor cpu h f pass.old pass.new) }
+    {
+        try_page_on(
+            &self.table,
+            &self.anchor,
+            self.ratio,
+            &mut pass.seat,
+            cpu,
+            h,
+        )
+    }
+
+    /// Reads the clock by the page of `cpu` at count `h`, without the lock.
+    pub fn try_clock(&self, pass: &mut Pass<N>, cpu: u8, h: u64) -> Result<ClockReply, PageFault>
+        requires cpu { cpu < N.state.cpus }
+        ensures time { OnOk result (HasTime N.state.anchor h) }
+        ensures ok { IfOk result (λ r. HasTriedClock N.state cpu h r pass.old pass.new) }
+        ensures err { IfErr result (λ f. IsPageFault N.state.anchor cpu h f pass.old pass.new) }
+    {
+        match self.try_page(pass, cpu, h) {
+            Ok(read) => Ok(self.clamp(pass, cpu, read)),
+            Err(fault) => Err(fault),
+        }
+    }
+
+    /// Reads the page of `cpu` at count `h`, under the lock.
+    pub fn page_locked<R: Wait>(
+        &self,
+        rt: &R,
+        pass: &mut Pass<N>,
+        cpu: u8,
+        h: u64,
+    ) -> Result<PageReply, LockedFault>
+        requires cpu { cpu < N.state.cpus }
+        ensures time { OnOk result (HasTime N.state.anchor h) }
+        ensures ok { IfOk result (λ r. HasLockedPage N.state cpu h r pass.old pass.new) }
+        ensures err { IfErr result (λ f. IsLockedFault N.state.anchor h f pass.old pass.new) }
+    {
+        match self.anchor.time(h) {
+            Err(TimeFault::BeforeStart { start }) => return Err(LockedFault::BeforeStart { start }),
+            Err(TimeFault::OutOfRange { ns }) => return Err(LockedFault::OutOfRange { ns }),
+            Ok(_ns) => {}
+        }
+        match self.held.lock(rt).page(&self.table, pass, cpu, h) {
+            Ok(page) => Ok(answer_by(self.ratio, &page, h)),
+            Err(front) => Err(LockedFault::Spent { front }),
+        }
+    }
+
+    /// Reads the clock by the page of `cpu` at count `h`, under the lock.
+    pub fn clock_locked<R: Wait>(
+        &self,
+        rt: &R,
+        pass: &mut Pass<N>,
+        cpu: u8,
+        h: u64,
+    ) -> Result<ClockReply, LockedFault>
+        requires cpu { cpu < N.state.cpus }
+        ensures time { OnOk result (HasTime N.state.anchor h) }
+        ensures ok { IfOk result (λ r. HasLockedClock N.state cpu h r pass.old pass.new) }
+        ensures err { IfErr result (λ f. IsLockedFault N.state.anchor h f pass.old pass.new) }
+    {
+        match self.page_locked(rt, pass, cpu, h) {
+            Ok(read) => Ok(self.clamp(pass, cpu, read)),
+            Err(fault) => Err(fault),
+        }
+    }
+
+    /// Reads the page of `cpu` at count `h`: once without the lock, and under it only where that met an update.
+    pub fn read_page<R: Wait>(
+        &self,
+        rt: &R,
+        pass: &mut Pass<N>,
+        cpu: u8,
+        h: u64,
+    ) -> Result<PageReply, LockedFault>
+        requires cpu { cpu < N.state.cpus }
+        ensures time { OnOk result (HasTime N.state.anchor h) }
+        ensures ok { IfOk result (λ r. HasReadPage N.state cpu h r pass.old pass.new) }
+        ensures err { IfErr result (λ f. IsReadFault N.state.anchor cpu h f pass.old pass.new) }
+    {
+        match self.try_page(pass, cpu, h) {
+            Ok(read) => Ok(read),
+            Err(PageFault::BeforeStart { start }) => Err(LockedFault::BeforeStart { start }),
+            Err(PageFault::OutOfRange { ns }) => Err(LockedFault::OutOfRange { ns }),
+            Err(PageFault::Again { .. }) => self.page_locked(rt, pass, cpu, h),
+        }
+    }
+
+    /// Reads the clock by the page of `cpu` at count `h` in the same way.
+    pub fn read_clock<R: Wait>(
+        &self,
+        rt: &R,
+        pass: &mut Pass<N>,
+        cpu: u8,
+        h: u64,
+    ) -> Result<ClockReply, LockedFault>
+        requires cpu { cpu < N.state.cpus }
+        ensures time { OnOk result (HasTime N.state.anchor h) }
+        ensures ok { IfOk result (λ r. HasReadClock N.state cpu h r pass.old pass.new) }
+        ensures err { IfErr result (λ f. IsReadFault N.state.anchor cpu h f pass.old pass.new) }
+    {
+        match self.read_page(rt, pass, cpu, h) {
+            Ok(read) => Ok(self.clamp(pass, cpu, read)),
+            Err(fault) => Err(fault),
+        }
+    }
+
+    /// The clamp behind a read of a page.
+    fn clamp(&self, pass: &mut Pass<N>, cpu: u8, read: PageReply) -> ClockReply
+        requires read { IsLastRead (machine_of N.state) cpu read pass.old }
+        ensures { HasClamped cpu read result pass.old pass.new }
+    {
+        match read {
+            PageReply::Off => ClockReply::Off,
+            PageReply::On { reading, .. } => ClockReply::On {
+                reading,
+                clock: self.table.raise(&mut pass.seat, cpu, reading),
+            },
+        }
+    }
+
+    /// Takes the board apart, where all its passes are given back.
+    pub fn stop(self, passes: Vec<Pass<N>>) -> Result<Stopped, PassesOut<N>>
+        ensures ok { IfOk result (λ s. StopTold N.state N.passes s.state passes.items) }
+        ensures given { IfErr result (λ out. (out.given ≡ vec_len passes) × (out.made ≡ N.passes)) }
+        ensures back { IfErr result (λ out. out.passes.items ≡ passes.items) }
+        ensures few { IsErr result ↔ (vec_len passes < N.passes) }
+    {
+        if passes.len() < self.passes as usize {
+            return Err(PassesOut {
+                given: passes.len() as u64,
+                made: u64::from(self.passes),
+                board: self,
+                passes,
+            });
+        }
+        let SharedBoard { table, held, .. } = self;
+        let Held { mut board, seat } = held.into_inner();
+        let seat = join_all(&table, seat, passes);
+        let closed = table.close(seat);
+        board.set_greatest(closed.greatest);
+        Ok(Stopped { state: board })
+    }
+}

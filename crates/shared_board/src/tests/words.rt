@@ -1,0 +1,88 @@
+//! A read of the words while a page is open.
+ghost use Rattle.std.specs.Prelude.{◌≡◌};
+ghost use Rattle.clk_units.specs.Ranges.{IsKhz};
+ghost use Rattle.board_history.specs.Machine.{page_at};
+
+use super::*;
+use crate::held::{act, no_reply};
+use clock_table::{Call, ClockTable, Field};
+
+#[test]
+fn a_try_meets_an_open_page(rt: HostRuntime) -> Result<(), Fail> {
+    let state = board();
+    let blank = blank(rt.alloc(), &state)?;
+    tried_while_open::<Brand, _>(&rt, blank, state)
+}
+
+fn tried_while_open<N: Name, R: Abort>(rt: &R, blank: Blank, state: BoardState) -> Result<(), Fail>
+    requires table { blank.0 ≡ N.table }
+    requires blank { blank.1 ≡ N.state }
+    requires cpus { N.state.cpus ≡ 2 }
+    requires fresh { (page_at N.state 0).version ≡ 0 }
+    requires rate { IsKhz state.anchor.khz }
+    requires passes { 2 ≡ N.passes }
+{
+    let anchor = state.anchor();
+    let (table, mut writer) = ClockTable::<N>::new(blank);
+    let mut one = table.split_pass(&mut writer);
+    let mut two = table.split_pass(&mut writer);
+    let pen = table.split_pen(&mut writer);
+    table.join(&mut one, pen);
+    table.front(&mut one);
+    table.begin(&mut one, 0);
+    let again = PageFault::Again {
+        first: 1,
+        second: 1,
+    };
+    assert_eq!(rt;
+        try_page_on(&table, &anchor, 1 << 49, &mut two, 0, 0),
+        Err(again)
+    );
+    Ok(())
+}
+
+#[test]
+fn a_read_that_spans_a_whole_update_is_none(rt: HostRuntime) -> Result<(), Fail> {
+    let state = board();
+    let blank = blank(rt.alloc(), &state)?;
+    read_round_an_update::<Brand, _>(&rt, blank, state)
+}
+
+fn read_round_an_update<N: Name, R: Abort>(
+    rt: &R,
+    blank: Blank,
+    mut state: BoardState,
+) -> Result<(), Fail>
+    requires table { blank.0 ≡ N.table }
+    requires blank { blank.1 ≡ N.state }
+    requires state { state ≡ N.state }
+    requires cpus { N.state.cpus ≡ 2 }
+    requires passes { 2 ≡ N.passes }
+{
+    let (table, mut writer) = ClockTable::<N>::new(blank);
+    let mut one = table.split_pass(&mut writer);
+    let mut two = table.split_pass(&mut writer);
+    let pen = table.split_pen(&mut writer);
+    table.join(&mut one, pen);
+    table.front(&mut one);
+    let first = table.first(&mut two, 0);
+    if first % 2 != 0 {
+        return Err("an odd version".into());
+    }
+    table.field(&mut two, 0, Field::Stamp);
+    table.field(&mut two, 0, Field::System);
+    table.field(&mut two, 0, Field::Scale);
+    table.field(&mut two, 0, Field::Offset);
+    let call = Call {
+        pass: 0,
+        cpu: 0,
+        h: 1_000,
+        access: Access::Refresh { page: 0 },
+    };
+    let mut reply = no_reply();
+    let taken = act(&table, &mut state, &mut one, call, &mut reply).is_ok();
+    let second = table.second(&mut two, 0, 900);
+    assert!(rt; taken);
+    assert_eq!(rt; (first, second), (0, 2));
+    Ok(())
+}
