@@ -1,5 +1,31 @@
 -- Lemmas on hexadecimal digits.
-use Rattle.std.proofs.Common.{◌≡◌, ℕ, zero, suc, ◌+◌, ◌*◌, ◌/◌, ◌%◌, ◌<◌, List, [], ◌∷◌, ◌++◌, length, take, get_or, refl, sym, ap, ◌∙◌, subst, arith, append_assoc, append-nil, length-append}
+use Rattle.std.proofs.Common.{
+  ◌≡◌,
+  ℕ,
+  zero,
+  suc,
+  ◌+◌,
+  ◌*◌,
+  ◌/◌,
+  ◌%◌,
+  ◌<◌,
+  List,
+  [],
+  ◌∷◌,
+  ◌++◌,
+  length,
+  take,
+  get_or,
+  refl,
+  sym,
+  ap,
+  ◌∙◌,
+  subst,
+  arith,
+  append_assoc,
+  append-nil,
+  length-append,
+}
 use Rattle.std.specs.Char.{digit_char}
 use Rattle.std.proofs.lemmas.List.{take_more}
 use Rattle.reply_text.specs.Words.{hex_text, hexes}
@@ -11,7 +37,9 @@ hex_text-more k j n e = subst (λ (m : ℕ). hex_text m n ≡ hex_text j (n / 16
 
 -- the step of a loop that writes them from the last to the first
 pub hex_step : (k j n : ℕ) (rest all : List ℕ) → k ≡ j + 1 → hex_text k n ++ rest ≡ all → hex_text j (n / 16) ++ digit_char (n % 16) ∷ rest ≡ all
-hex_step k j n rest all e h = sym (ap (λ (t : List ℕ). t ++ rest) (hex_text-more k j n e) ∙ append_assoc (hex_text j (n / 16)) (digit_char (n % 16) ∷ []) rest) ∙ h
+hex_step k j n rest all e h =
+    sym (ap (λ (t : List ℕ). t ++ rest) (hex_text-more k j n e) ∙ append_assoc (hex_text j (n / 16)) (digit_char (n % 16) ∷ []) rest)
+    ∙ h
 
 -- that many digits
 pub length-hex_text : (k n : ℕ) → length (hex_text k n) ≡ k
@@ -32,7 +60,8 @@ length-hexes [] = refl
 length-hexes (x ∷ xs) = omega (arith, length-hexes xs)
 
 -- the digits of one byte more
-pub hexes-take_more : (xs : List ℕ) (i : ℕ) → i < length xs → hexes (take (i + 1) xs) ≡ hexes (take i xs) ++ digit_char (get_or xs i 0 / 16) ∷ digit_char (get_or xs i 0 % 16) ∷ []
+pub hexes-take_more : (xs : List ℕ) (i : ℕ) → i < length xs
+    → hexes (take (i + 1) xs) ≡ hexes (take i xs) ++ digit_char (get_or xs i 0 / 16) ∷ digit_char (get_or xs i 0 % 16) ∷ []
 unfolding hexes
 hexes-take_more xs i h = ap hexes (take_more xs i 0 h) ∙ hexes-append (take i xs) (get_or xs i 0 ∷ [])
 

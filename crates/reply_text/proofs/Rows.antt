@@ -61,11 +61,31 @@ unfolding board_text digits
 no_next_edge = refl
 
 -- pages and clocks
-a_page : page_text 8 (PageOn (record { version = 2; tsc_timestamp = 0; system_time = 0; mul = 0x80000000; shift = pos 0; flags = 1; offset = 0; enabled = true }) 900) ≡ codes "8 page 2 0 0 80000000 0 01 900\n"
+a_page : page_text 8 (PageOn (record {
+  version = 2;
+  tsc_timestamp = 0;
+  system_time = 0;
+  mul = 0x80000000;
+  shift = pos 0;
+  flags = 1;
+  offset = 0;
+  enabled = true;
+}) 900)
+    ≡ codes "8 page 2 0 0 80000000 0 01 900\n"
 unfolding page_text hex_text digits
 a_page = refl
 
-a_page_shifted_to_the_right : page_text 8 (PageOn (record { version = 2; tsc_timestamp = 0; system_time = 0; mul = 0xab; shift = negsuc 0; flags = 3; offset = 0; enabled = true }) 7) ≡ codes "8 page 2 0 0 000000ab -1 03 7\n"
+a_page_shifted_to_the_right : page_text 8 (PageOn (record {
+  version = 2;
+  tsc_timestamp = 0;
+  system_time = 0;
+  mul = 0xab;
+  shift = negsuc 0;
+  flags = 3;
+  offset = 0;
+  enabled = true;
+}) 7)
+    ≡ codes "8 page 2 0 0 000000ab -1 03 7\n"
 unfolding page_text hex_text digits
 a_page_shifted_to_the_right = refl
 

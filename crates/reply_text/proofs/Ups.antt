@@ -45,6 +45,8 @@ pub put_step : (ns : List ℕ) (levels : List Bool) (k place : ℕ) (found : Boo
     → (new ≡ joined (up_numbers (drop k ns) (drop k levels)) ++ rest) × ((get_or levels k false || found) ≡ is_some_up (up_numbers (drop k ns) (drop k levels)))
 put_step ns levels k place found rest old new next a b is_old is_found is_new =
     let step = up_numbers-drop ns levels k a b in (
-      rw (is_new, is_old, is_found, ← next, step) (joined-with_line (get_or levels k false) (get_or ns k 0) (up_numbers (drop (k + 1) ns) (drop (k + 1) levels)) rest),
-      rw (is_found, ← next, step) (is_some_up-with_line (get_or levels k false) (get_or ns k 0) (up_numbers (drop (k + 1) ns) (drop (k + 1) levels))),
+      rw (is_new, is_old, is_found, ← next, step)
+          (joined-with_line (get_or levels k false) (get_or ns k 0) (up_numbers (drop (k + 1) ns) (drop (k + 1) levels)) rest),
+      rw (is_found, ← next, step)
+          (is_some_up-with_line (get_or levels k false) (get_or ns k 0) (up_numbers (drop (k + 1) ns) (drop (k + 1) levels))),
     )

@@ -1,9 +1,32 @@
 -- The printed lines, one row a line.
-use Rattle.std.specs.Prelude.{ℕ, ◌*◌, min, Bool, true, false, List, [], ◌∷◌, ◌++◌, Option, Some, None, codes, decimal}
+use Rattle.std.specs.Prelude.{
+  ℕ,
+  ◌*◌,
+  min,
+  Bool,
+  true,
+  false,
+  List,
+  [],
+  ◌∷◌,
+  ◌++◌,
+  Option,
+  Some,
+  None,
+  codes,
+  decimal,
+}
 use Rattle.std.specs.Fmt.{signed_decimal}
 use Rattle.board_types.specs.declared.reply.Reply.{Reply}
 use Rattle.board_types.specs.declared.reply.Value.{Value}
-use Rattle.board_types.specs.declared.reply.Value.TheVariants.{Nothing, Byte, Word, Counts, Wall, Next}
+use Rattle.board_types.specs.declared.reply.Value.TheVariants.{
+  Nothing,
+  Byte,
+  Word,
+  Counts,
+  Wall,
+  Next,
+}
 use Rattle.edge_hooks.specs.declared.deliveries.Delivery.{Delivery}
 use Rattle.irq_edges.specs.Lines.{line_numbers}
 use Rattle.irq_edges.specs.declared.edges.Edge.{Edge}
@@ -14,7 +37,20 @@ use Rattle.pvclock_page.specs.declared.page.ClockReply.{ClockReply}
 use Rattle.pvclock_page.specs.declared.page.ClockReply.TheVariants.{Off as ClockOff, On as ClockOn}
 use Rattle.reply_text.specs.Words.{hex_text, hexes, line_of}
 use Rattle.reply_text.specs.declared.ends.Refused.{Refused}
-use Rattle.reply_text.specs.declared.ends.Refused.TheVariants.{Form, Steal, Cpu, Fell, State, Long, Many, NoEnd, Range, Versions, Spent, NotBuilt}
+use Rattle.reply_text.specs.declared.ends.Refused.TheVariants.{
+  Form,
+  Steal,
+  Cpu,
+  Fell,
+  State,
+  Long,
+  Many,
+  NoEnd,
+  Range,
+  Versions,
+  Spent,
+  NotBuilt,
+}
 
 -- a direction
 abbrev pub direction : Bool → List ℕ

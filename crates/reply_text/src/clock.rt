@@ -1,5 +1,15 @@
 //! Pages and clock readings.
-ghost use Rattle.std.specs.Prelude.{◌≡◌, ◌+◌, ◌<◌, ◌++◌, length, OnOk, OnErr, vec_len, vec_capacity};
+ghost use Rattle.std.specs.Prelude.{
+  ◌≡◌,
+  ◌+◌,
+  ◌<◌,
+  ◌++◌,
+  length,
+  OnOk,
+  OnErr,
+  vec_len,
+  vec_capacity,
+};
 ghost use Rattle.reply_text.specs.Text.{page_text, clock_text};
 
 use crate::tail::Tail;

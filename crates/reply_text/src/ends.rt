@@ -1,9 +1,31 @@
 //! How a trace ended.
-ghost use Rattle.std.specs.Prelude.{◌≡◌, ◌+◌, ◌<◌, ◌≤◌, ◌++◌, [], ◌∷◌, length, ◌||◌, if◌then◌else◌, decimal, OnOk, OnErr, vec_len, vec_capacity};
+ghost use Rattle.std.specs.Prelude.{
+  ◌≡◌,
+  ◌+◌,
+  ◌<◌,
+  ◌≤◌,
+  ◌++◌,
+  [],
+  ◌∷◌,
+  length,
+  ◌||◌,
+  if◌then◌else◌,
+  decimal,
+  OnOk,
+  OnErr,
+  vec_len,
+  vec_capacity,
+};
 ghost use Rattle.irq_edges.specs.Lines.{line_numbers};
 ghost use Rattle.reply_text.specs.declared.tail.TheConstants.{LONGEST};
 ghost use Rattle.reply_text.specs.Words.{spaced};
-ghost use Rattle.reply_text.specs.Text.{final_text, refused_text, reason_words, up_word, up_numbers};
+ghost use Rattle.reply_text.specs.Text.{
+  final_text,
+  refused_text,
+  reason_words,
+  up_word,
+  up_numbers,
+};
 
 use crate::tail::Tail;
 use clk_units::NoMemory;

@@ -1,5 +1,20 @@
 //! Replies of the board, and edges of its lines.
-ghost use Rattle.std.specs.Prelude.{◌≡◌, ◌+◌, ◌<◌, ◌≤◌, ◌++◌, [], ◌∷◌, length, IsTrue, OnOk, OnErr, OnSome, vec_len, vec_capacity};
+ghost use Rattle.std.specs.Prelude.{
+  ◌≡◌,
+  ◌+◌,
+  ◌<◌,
+  ◌≤◌,
+  ◌++◌,
+  [],
+  ◌∷◌,
+  length,
+  IsTrue,
+  OnOk,
+  OnErr,
+  OnSome,
+  vec_len,
+  vec_capacity,
+};
 ghost use Rattle.reply_text.specs.Words.{spaced};
 ghost use Rattle.reply_text.specs.Text.{board_text, edge_text, value_words};
 

@@ -1,5 +1,20 @@
 //! Saved states and moves.
-ghost use Rattle.std.specs.Prelude.{◌≡◌, ◌+◌, ◌*◌, ◌<◌, ◌≤◌, ◌++◌, [], ◌∷◌, length, take, OnOk, OnErr, vec_len, vec_capacity};
+ghost use Rattle.std.specs.Prelude.{
+  ◌≡◌,
+  ◌+◌,
+  ◌*◌,
+  ◌<◌,
+  ◌≤◌,
+  ◌++◌,
+  [],
+  ◌∷◌,
+  length,
+  take,
+  OnOk,
+  OnErr,
+  vec_len,
+  vec_capacity,
+};
 ghost use Rattle.std.specs.Io.{StartsWith};
 ghost use Rattle.reply_text.specs.Words.{hexes};
 ghost use Rattle.reply_text.specs.Text.{save_text, move_text, state_text};

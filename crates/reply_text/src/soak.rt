@@ -1,5 +1,15 @@
 //! The sum of a soak.
-ghost use Rattle.std.specs.Prelude.{◌≡◌, ◌+◌, ◌<◌, ◌++◌, length, OnOk, OnErr, vec_len, vec_capacity};
+ghost use Rattle.std.specs.Prelude.{
+  ◌≡◌,
+  ◌+◌,
+  ◌<◌,
+  ◌++◌,
+  length,
+  OnOk,
+  OnErr,
+  vec_len,
+  vec_capacity,
+};
 ghost use Rattle.reply_text.specs.Soak.{soak_text};
 
 use crate::tail::Tail;

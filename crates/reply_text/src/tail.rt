@@ -1,5 +1,20 @@
 //! The end of a line, which is written from its last word to its first.
-ghost use Rattle.std.specs.Prelude.{◌≡◌, ◌+◌, ◌*◌, ◌<◌, ◌≤◌, ◌++◌, [], ◌∷◌, length, decimal, OnOk, OnErr, vec_len, vec_capacity};
+ghost use Rattle.std.specs.Prelude.{
+  ◌≡◌,
+  ◌+◌,
+  ◌*◌,
+  ◌<◌,
+  ◌≤◌,
+  ◌++◌,
+  [],
+  ◌∷◌,
+  length,
+  decimal,
+  OnOk,
+  OnErr,
+  vec_len,
+  vec_capacity,
+};
 ghost use Rattle.std.specs.Fmt.{signed_decimal};
 ghost use Rattle.reply_text.specs.Words.{hex_text, spaced};
 ghost use Rattle.reply_text.specs.declared.tail.TheConstants.{LONGEST};

@@ -1,5 +1,39 @@
 -- The first word of a line, by its bytes: what number it spells, and which word it is.
-use Rattle.std.proofs.Common.{◌≡◌, ◌≢◌, ℕ, ◌+◌, ◌-◌, ◌<◌, ◌≤◌, Bool, true, false, not, ◌&&◌, cond, eqb, ltb, length, drop, get_or, List, [], ◌∷◌, Option, Some, None, refl, sym, ◌∙◌, ap, IsTrue, arith, inl, inr, add-zero}
+use Rattle.std.proofs.Common.{
+  ◌≡◌,
+  ◌≢◌,
+  ℕ,
+  ◌+◌,
+  ◌-◌,
+  ◌<◌,
+  ◌≤◌,
+  Bool,
+  true,
+  false,
+  not,
+  ◌&&◌,
+  cond,
+  eqb,
+  ltb,
+  length,
+  drop,
+  get_or,
+  List,
+  [],
+  ◌∷◌,
+  Option,
+  Some,
+  None,
+  refl,
+  sym,
+  ◌∙◌,
+  ap,
+  IsTrue,
+  arith,
+  inl,
+  inr,
+  add-zero,
+}
 use Rattle.std.specs.List.{slice_split, onto_first, list_all}
 use Rattle.std.specs.Option.{option_map}
 use Rattle.std.specs.Str.{bytes_eq}

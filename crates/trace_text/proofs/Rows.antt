@@ -1,19 +1,38 @@
 -- Small rows that pin the definitions, one line of a trace each.
 use Rattle.std.proofs.Common.{◌≡◌, ℕ, [], ◌∷◌, List, Some, None, Ok, Err, refl}
 use Rattle.std.specs.Prelude.{Result, codes, replicate}
-use Rattle.board_types.specs.declared.access.Access.TheVariants.{PortIn, PortOut, HpetRead, HpetWrite, MsrRead, MsrWrite, Ack, Step, Refresh, Wall, CountsOf, Next, Rose}
+use Rattle.board_types.specs.declared.access.Access.TheVariants.{
+  PortIn,
+  PortOut,
+  HpetRead,
+  HpetWrite,
+  MsrRead,
+  MsrWrite,
+  Ack,
+  Step,
+  Refresh,
+  Wall,
+  CountsOf,
+  Next,
+  Rose,
+}
 use Rattle.board_types.specs.declared.access.TickSource.TheVariants.{Hpet}
 use Rattle.trace_text.specs.Tokens.{words_of, number_in, decimal_in, hex_in, dec, hex, byte, khz}
 use Rattle.trace_text.specs.Records.{record_of, job_of, body_behind}
 use Rattle.board_types.specs.declared.setup.Setup.{Setup}
 use Rattle.trace_text.specs.Header.{header_line, head_of, setup_by_default}
+use Rattle.trace_text.specs.State.{restored}
+use Rattle.board_types.specs.declared.parts.BoardParts.{BoardParts}
+use Rattle.hex.specs.Hex.{decode_pairs}
+use Rattle.save_state.specs.Table.{fault_of, head_rows}
+use Rattle.save_state.specs.Fields.{fault_in, number_at}
 use Rattle.trace_text.specs.Lines.{limit_of, stepped, item_in, taken, behind, at_start, end_fault}
 use Rattle.trace_text.specs.declared.faults.Reason.{Reason}
-use Rattle.trace_text.specs.declared.faults.Reason.TheVariants.{Form, Steal, Cpu, CounterFell, TooLong, NoEnd}
+use Rattle.trace_text.specs.declared.faults.Reason.TheVariants.{Form, Steal, Cpu, CounterFell, StateBytes, TooLong, NoEnd}
 use Rattle.trace_text.specs.declared.records.Body.{Body}
 use Rattle.trace_text.specs.declared.records.Job.TheVariants.{Board, Page, Clock, Save, Move}
 use Rattle.trace_text.specs.declared.header.Head.{Head}
-use Rattle.trace_text.specs.declared.header.Begin.TheVariants.{Fresh}
+use Rattle.trace_text.specs.declared.header.Begin.TheVariants.{Fresh, Saved}
 use Rattle.tick_policy.specs.declared.parts.Policy.TheVariants.{Discard, Delay, Slew}
 use Rattle.trace_text.specs.declared.reading.Item.TheVariants.{Skipped, Part, Begun, End}
 use Rattle.trace_text.specs.declared.reading.ReadingParts.{ReadingParts}
@@ -366,6 +385,51 @@ lines_out_of_order = refl
 a_line_twice : header_line (record head { row = 2 }) (words_of (codes "guest 2000000")) ≡ Err Form
 unfolding header_line words_of decimal_in number_in
 a_line_twice = refl
+
+-- `state`: two digits a byte, at least one byte, and nothing behind them
+state_without_a_word : header_line head (words_of (codes "state")) ≡ Err Form
+unfolding header_line words_of
+state_without_a_word = refl
+
+state_of_no_digits : header_line head (words_of (codes "state ")) ≡ Err Form
+unfolding header_line words_of
+state_of_no_digits = refl
+
+state_of_odd_digits : header_line head (words_of (codes "state 434")) ≡ Err Form
+unfolding header_line words_of
+state_of_odd_digits = refl
+
+state_of_another_character : header_line head (words_of (codes "state 4g")) ≡ Err Form
+unfolding header_line words_of decode_pairs
+state_of_another_character = refl
+
+no_comment_behind_state : header_line head (words_of (codes "state #")) ≡ Err Form
+unfolding header_line words_of
+no_comment_behind_state = refl
+
+no_comment_behind_a_state : header_line head (words_of (codes "state 43 #")) ≡ Err Form
+unfolding header_line words_of decode_pairs restored
+no_comment_behind_a_state = refl
+
+state_that_ends_early : header_line head (words_of (codes "state 434C4b")) ≡ Err (StateBytes 3)
+unfolding header_line words_of decode_pairs restored fault_of fault_in head_rows number_at
+state_that_ends_early = refl
+
+state_behind_another_line : header_line (record head { row = 1 }) (words_of (codes "state 43")) ≡ Err Form
+unfolding header_line words_of decode_pairs restored
+state_behind_another_line = refl
+
+state_behind_a_route : header_line (record head { row = 9 }) (words_of (codes "state 43")) ≡ Err Form
+unfolding header_line words_of decode_pairs restored
+state_behind_a_route = refl
+
+state_behind_a_state : (b : BoardParts) → header_line (record head { row = 8; begin = Saved b }) (words_of (codes "state 43")) ≡ Err Form
+unfolding header_line words_of
+state_behind_a_state b = refl
+
+host_behind_a_state : (b : BoardParts) → header_line (record head { row = 8; begin = Saved b }) (words_of (codes "host 2000000 0")) ≡ Err Form
+unfolding header_line words_of
+host_behind_a_state b = refl
 
 -- `begin` and `end` stand alone in their lines
 begin_line : item_in (stepped (Heading head) (codes "begin")) ≡ Ok (Begun (record { begin = Fresh setup; routes = head.routes }))

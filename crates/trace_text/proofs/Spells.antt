@@ -1,5 +1,33 @@
 -- Lemmas on a line that is read byte by byte.
-use Rattle.std.proofs.Common.{◌≡◌, ℕ, ◌+◌, ◌-◌, ◌*◌, ◌^◌, ◌<◌, ◌≤◌, Bool, true, false, cond, eqb, length, drop, get_or, List, [], ◌∷◌, Some, None, refl, ap, ◌∙◌, inl, inr, arith}
+use Rattle.std.proofs.Common.{
+  ◌≡◌,
+  ℕ,
+  ◌+◌,
+  ◌-◌,
+  ◌*◌,
+  ◌^◌,
+  ◌<◌,
+  ◌≤◌,
+  Bool,
+  true,
+  false,
+  cond,
+  eqb,
+  length,
+  drop,
+  get_or,
+  List,
+  [],
+  ◌∷◌,
+  Some,
+  None,
+  refl,
+  ap,
+  ◌∙◌,
+  inl,
+  inr,
+  arith,
+}
 use Rattle.std.specs.Char.{digit_value}
 use Rattle.std.proofs.lemmas.Bool.{cases_lt, lt-ltb, le-ltb, eq-eqb, ne_eqb, le-leb, lt-leb}
 use Rattle.std.proofs.lemmas.List.{at_drop_more, drop_more}
@@ -103,25 +131,15 @@ word-short (b ∷ bs) (c ∷ cs) h =
       | false ↦ refl
     ]
 
--- what a byte is as a digit, by what a reader of digits says
-pub large_digit : (base d v : ℕ) → base ≤ 16 → base ≤ d → (d < 16 → v ≡ d) → (16 ≤ d → 16 ≤ v) → base ≤ v
-large_digit base d v most large same none = elim (cases_lt d 16) [
-  | inl less ↦ omega (arith, same less)
-  | inr more ↦ omega (arith, none more)
-]
-
-pub small_digit : (base d v : ℕ) → base ≤ 16 → d < base → (d < 16 → v ≡ d) → v ≡ d
-small_digit base d v most small same = same (omega arith)
-
 -- a space is no digit
 pub not_space : (base b : ℕ) → base ≤ 16 → digit_value b < base → b ≡ 32 → ⊥
 not_space base b most small e =
     let value : digit_value b ≡ 36 = ap digit_value e in
     omega arith
 
--- a digit and a space
+-- a digit, and a space or the line's end
 pub one_digit : (base at digit : ℕ) (line : List ℕ) → base ≤ 16 → digit_value (get_or line at 0) ≡ digit → digit < base
-    → at + 1 < length line → get_or line (at + 1) 0 ≡ 32
+    → at < length line → (at + 1 < length line → get_or line (at + 1) 0 ≡ 32)
     → spelled base 0 0 (drop at line)
     ≡ Some (record { count = at + 1 - at; value = digit; left = words_from (at + 1 + 1) line })
 one_digit base at digit line most same small h space =
@@ -131,7 +149,13 @@ one_digit base at digit line most same small h space =
     let value : 0 * base + digit_value byte ≡ digit = omega arith in
     let count : at + 1 - at ≡ 0 + 1 = omega arith in
     let more = spelled-more base 0 0 at line (omega arith) (not_space base byte most less) less fits in
-    rw (count) (more ∙ rw value (spelled-space base (0 + 1) digit (at + 1) line h space))
+    let ended : spelled base (0 + 1) digit (drop (at + 1) line)
+    ≡ Some (record { count = 0 + 1; value = digit; left = words_from (at + 1 + 1) line }) =
+    elim (cases_lt (at + 1) (length line)) [
+      | inl inside ↦ spelled-space base (0 + 1) digit (at + 1) line inside (space inside)
+      | inr past ↦ spelled-end base (0 + 1) digit (at + 1) line past
+    ] in
+    rw (count) (more ∙ rw value ended)
 
 -- two digits, and a space or the line's end
 pub two_digits : (at high low : ℕ) (line : List ℕ)

@@ -1,5 +1,31 @@
 -- The header: what a trace is set up with.
-use Rattle.std.specs.Prelude.{ℕ, ◌+◌, ◌-◌, ◌==◌, nat_lt, nat_le, ◌&&◌, List, [], ◌∷◌, ◌++◌, Option, Some, None, Result, Ok, Err, if◌then◌else◌, codes, slice_set, replicate, ◌≡◌, ◌<◌, ◌≤◌, All}
+use Rattle.std.specs.Prelude.{
+  ℕ,
+  ◌+◌,
+  ◌-◌,
+  ◌==◌,
+  nat_lt,
+  nat_le,
+  ◌&&◌,
+  List,
+  [],
+  ◌∷◌,
+  ◌++◌,
+  Option,
+  Some,
+  None,
+  Result,
+  Ok,
+  Err,
+  if◌then◌else◌,
+  codes,
+  slice_set,
+  replicate,
+  ◌≡◌,
+  ◌<◌,
+  ◌≤◌,
+  All,
+}
 use Rattle.board_types.specs.Setup.{IsSetup, processors_of}
 use Rattle.board_types.specs.declared.setup.Setup.{Setup}
 use Rattle.edge_hooks.specs.declared.deliveries.Delivery.{Delivery}

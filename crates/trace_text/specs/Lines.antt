@@ -1,5 +1,27 @@
 -- The lines of a trace: what each of them is, behind those before it.
-use Rattle.std.specs.Prelude.{ℕ, ◌+◌, ◌==◌, ◌≤◌, nat_lt, Bool, true, List, [], ◌∷◌, length, take, Option, Some, None, unwrap_or, Result, Ok, Err, if◌then◌else◌, codes}
+use Rattle.std.specs.Prelude.{
+  ℕ,
+  ◌+◌,
+  ◌==◌,
+  ◌≤◌,
+  nat_lt,
+  Bool,
+  true,
+  List,
+  [],
+  ◌∷◌,
+  length,
+  take,
+  Option,
+  Some,
+  None,
+  unwrap_or,
+  Result,
+  Ok,
+  Err,
+  if◌then◌else◌,
+  codes,
+}
 use Rattle.std.specs.Str.{bytes_eq}
 use Rattle.trace_text.specs.Tokens.{words_of}
 use Rattle.trace_text.specs.Records.{record_of, body_behind, IsRecord}
@@ -11,9 +33,21 @@ use Rattle.trace_text.specs.declared.header.Head.{Head}
 use Rattle.trace_text.specs.declared.records.Record.{Record}
 use Rattle.trace_text.specs.declared.records.Body.{Body}
 use Rattle.trace_text.specs.declared.reading.Item.{Item}
-use Rattle.trace_text.specs.declared.reading.Item.TheVariants.{Skipped, Part, Begun, Next as NextItem, End}
+use Rattle.trace_text.specs.declared.reading.Item.TheVariants.{
+  Skipped,
+  Part,
+  Begun,
+  Next as NextItem,
+  End,
+}
 use Rattle.trace_text.specs.declared.reading.Stage.{Stage}
-use Rattle.trace_text.specs.declared.reading.Stage.TheVariants.{Opening, Heading, Running, Ended, Refused}
+use Rattle.trace_text.specs.declared.reading.Stage.TheVariants.{
+  Opening,
+  Heading,
+  Running,
+  Ended,
+  Refused,
+}
 use Rattle.trace_text.specs.declared.reading.ReadingParts.{ReadingParts}
 
 -- how long a line may be, its end not counted: a saved state's line is longer

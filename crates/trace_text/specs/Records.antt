@@ -1,8 +1,44 @@
 -- Records: `CPU H` and one of the rows below.
-use Rattle.std.specs.Prelude.{ℕ, ◌==◌, nat_lt, true, List, [], ◌∷◌, Option, Some, None, Result, Ok, Err, if◌then◌else◌, codes, slice_index, slice_set, replicate, ◌≡◌, ◌<◌, ◌≤◌}
+use Rattle.std.specs.Prelude.{
+  ℕ,
+  ◌==◌,
+  nat_lt,
+  true,
+  List,
+  [],
+  ◌∷◌,
+  Option,
+  Some,
+  None,
+  Result,
+  Ok,
+  Err,
+  if◌then◌else◌,
+  codes,
+  slice_index,
+  slice_set,
+  replicate,
+  ◌≡◌,
+  ◌<◌,
+  ◌≤◌,
+}
 use Rattle.board_types.specs.Legal.{is_legal}
 use Rattle.board_types.specs.declared.access.Access.{Access}
-use Rattle.board_types.specs.declared.access.Access.TheVariants.{PortIn, PortOut, HpetRead, HpetWrite, MsrRead, MsrWrite, Ack, Step, Refresh, Wall, CountsOf, Next, Rose}
+use Rattle.board_types.specs.declared.access.Access.TheVariants.{
+  PortIn,
+  PortOut,
+  HpetRead,
+  HpetWrite,
+  MsrRead,
+  MsrWrite,
+  Ack,
+  Step,
+  Refresh,
+  Wall,
+  CountsOf,
+  Next,
+  Rose,
+}
 use Rattle.board_types.specs.declared.access.TickSource.{TickSource}
 use Rattle.board_types.specs.declared.access.TickSource.TheVariants.{Pit, Rtc, Hpet}
 use Rattle.trace_text.specs.Tokens.{dec, hex, byte, khz, dec_of_bits, hex_of_bits, starts}

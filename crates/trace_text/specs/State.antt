@@ -53,7 +53,8 @@ place_in format bytes fault = if is_newer format bytes then min fault.place 8 el
 
 -- a board in the trace's format
 abbrev pub in_format : ℕ → BoardParts → Result BoardParts Reason
-in_format format b = if nat_lt format b.format then Err (StateBytes 8) else Ok (upgraded_to format b)
+in_format format b =
+    if nat_lt format b.format then Err (StateBytes 8) else Ok (upgraded_to format b)
 
 -- the board that bytes are, by their first fault, if they have one
 abbrev pub restored_by : ℕ → List ℕ → Option StateFault → Result BoardParts Reason

@@ -1,5 +1,27 @@
 //! A line byte by byte: the number that stands at a place, and whether a word stands there.
-ghost use Rattle.std.specs.Prelude.{◌≡◌, ℕ, ◌+◌, ◌-◌, ◌*◌, ◌<◌, ◌≤◌, ◌==◌, ◌&&◌, nat_lt, slice_index, not, List, drop, length, Option, Some, None, IsTrue, IfSome, MatchOption};
+ghost use Rattle.std.specs.Prelude.{
+  ◌≡◌,
+  ℕ,
+  ◌+◌,
+  ◌-◌,
+  ◌*◌,
+  ◌<◌,
+  ◌≤◌,
+  ◌==◌,
+  ◌&&◌,
+  nat_lt,
+  slice_index,
+  not,
+  List,
+  drop,
+  length,
+  Option,
+  Some,
+  None,
+  IsTrue,
+  IfSome,
+  MatchOption,
+};
 ghost use Rattle.std.specs.Bool.{OnTrue};
 ghost use Rattle.std.specs.Char.{digit_value};
 ghost use Rattle.std.specs.Option.{SomeIff};
@@ -25,7 +47,10 @@ impl Number {
     pub(crate) fn decimal(self) -> Option<u64>
         ensures { result ≡ decimal_of self }
     {
-        if self.digits == 0 || (self.zero && self.digits > 1) {
+        if self.digits == 1 {
+            return Some(self.value);
+        }
+        if self.digits == 0 || self.zero {
             return None;
         }
         Some(self.value)
@@ -53,17 +78,43 @@ pub(crate) struct Spelling {
 /// How many digits of a base of at most 16 spell a number below 2^64, whichever they are.
 const DIGITS_THAT_FIT: usize = 16;
 
+/// The value of a byte as a decimal digit; 10 or more where it is none.
+#[inline(always)]
+fn decimal_digit_of(byte: u8) -> u8
+    ensures digit { result < 10 → digit_value byte ≡ result }
+    ensures none { 10 ≤ result → 10 ≤ digit_value byte }
+{
+    byte.wrapping_sub(b'0')
+}
+
 /// The value of a byte as a digit, of either case; 16 or more where it is no digit of a base of at most 16.
 #[inline(always)]
 fn digit_of(byte: u8) -> u8
     ensures digit { result < 16 → digit_value byte ≡ result }
     ensures none { 16 ≤ result → 16 ≤ digit_value byte }
 {
+    let decimal = decimal_digit_of(byte);
+    if decimal < 10 {
+        return decimal;
+    }
     match byte {
-        b'0'..=b'9' => byte - b'0',
         b'a'..=b'f' => byte - b'a' + 10,
         b'A'..=b'F' => byte - b'A' + 10,
         _ => 36,
+    }
+}
+
+/// The value of a byte as a digit of a base, of either case; the base or more where it is none.
+#[inline(always)]
+fn digit_in(byte: u8, base: u8) -> u8
+    requires { base ≤ 16 }
+    ensures digit { result < base → digit_value byte ≡ result }
+    ensures none { base ≤ result → base ≤ digit_value byte }
+{
+    if base == 10 {
+        decimal_digit_of(byte)
+    } else {
+        digit_of(byte)
     }
 }
 
@@ -102,7 +153,7 @@ pub(crate) fn spelling_at(line: &[u8], at: usize, base: u8) -> Option<Spelling>
     let mut n = 0;
     for i in at..last {
         let byte = line[i];
-        let digit = digit_of(byte);
+        let digit = digit_in(byte, base);
         if digit >= base {
             return if byte == b' ' {
                 Some(Spelling { value: n, end: i })
@@ -138,30 +189,30 @@ pub(crate) fn spelling_apart(line: &[u8], at: usize, base: u8) -> Option<Spellin
     spelling_at(line, at, base)
 }
 
-/// The decimal digit that stands at a place of a line, if a space stands behind it.
-#[inline(always)]
-pub(crate) fn one_digit_at(line: &[u8], at: usize) -> Option<u8>
-    requires { at ≤ length line.now + 1 }
-    ensures { IfSome result (λ n. (at + 1 < length line.now) × (spelled 10 0 0 (drop at line.now)
-        ≡ Some (record {
-          count = at + 1 - at;
-          value = n;
-          left = words_from (at + 1 + 1) line.now;
-        }))) }
-{
-    if line.len() <= at + 1 || line[at + 1] != b' ' {
-        return None;
-    }
-    let digit = digit_of(line[at]);
-    if digit < 10 { Some(digit) } else { None }
-}
-
 /// Whether a word that reaches up to a place ends there.
 #[inline(always)]
 fn ends_at(line: &[u8], at: usize) -> bool
     ensures { OnTrue result (at < length line.now → slice_index line.now at ≡ 32) }
 {
     at >= line.len() || line[at] == b' '
+}
+
+/// The decimal digit that stands at a place of a line, if the line ends behind it, or a space stands there.
+#[inline(always)]
+pub(crate) fn one_digit_at(line: &[u8], at: usize) -> Option<u8>
+    requires { at ≤ length line.now + 1 }
+    ensures { IfSome result (λ n. (at + 1 ≤ length line.now) × (spelled 10 0 0 (drop at line.now)
+        ≡ Some (record {
+          count = at + 1 - at;
+          value = n;
+          left = words_from (at + 1 + 1) line.now;
+        }))) }
+{
+    if line.len() <= at || !ends_at(line, at + 1) {
+        return None;
+    }
+    let digit = decimal_digit_of(line[at]);
+    if digit < 10 { Some(digit) } else { None }
 }
 
 /// The byte of the two hexadecimal digits that stand at a place of a line, if the line ends behind them, or a space
@@ -212,7 +263,7 @@ fn longer_spelling(line: &[u8], at: usize, from: usize, base: u8, read: u64) -> 
         if byte == b' ' {
             return Some(Spelling { value: n, end: i });
         }
-        let digit = digit_of(byte);
+        let digit = digit_in(byte, base);
         if digit >= base {
             return None;
         }

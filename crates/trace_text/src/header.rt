@@ -1,10 +1,52 @@
 //! The header: what a trace is set up with.
-ghost use Rattle.std.specs.Prelude.{◌≡◌, ◌<◌, ◌≤◌, ◌++◌, ◌&&◌, nat_le, true, Ok, IfOk, OnSome, IfSome, MatchResult};
+ghost use Rattle.std.specs.Prelude.{
+  ◌≡◌,
+  ◌<◌,
+  ◌≤◌,
+  ◌++◌,
+  ◌&&◌,
+  nat_le,
+  true,
+  Ok,
+  IfOk,
+  OnSome,
+  IfSome,
+  MatchResult,
+};
 ghost use Rattle.board_types.specs.Setup.{IsSetup};
 ghost use Rattle.irq_edges.specs.Lines.{is_line};
 ghost use Rattle.trace_text.specs.Tokens.{rest, dec, byte, such_that};
 ghost use Rattle.trace_text.specs.Rows.{by_table};
-ghost use Rattle.trace_text.specs.Header.{setup_by_default, head_of, format_word, first_line, policy, in_order, host_row, guest_row, cpus_row, policy_row, slew_row, wall_row, rtc_row, in_front, state_row, place_of_line, routed, route_row, first_rows, later_rows, last_rows, header_line, format_of, cpus_of, start_of, header_of, body_of, IsHead};
+ghost use Rattle.trace_text.specs.Header.{
+  setup_by_default,
+  head_of,
+  format_word,
+  first_line,
+  policy,
+  in_order,
+  host_row,
+  guest_row,
+  cpus_row,
+  policy_row,
+  slew_row,
+  wall_row,
+  rtc_row,
+  in_front,
+  state_row,
+  place_of_line,
+  routed,
+  route_row,
+  first_rows,
+  later_rows,
+  last_rows,
+  header_line,
+  format_of,
+  cpus_of,
+  start_of,
+  header_of,
+  body_of,
+  IsHead,
+};
 
 use crate::faults::Reason;
 use crate::records::Body;

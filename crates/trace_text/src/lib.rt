@@ -17,6 +17,7 @@
 mod bytes;
 mod faults;
 mod header;
+mod jobs;
 mod reading;
 mod records;
 mod state;

@@ -1,8 +1,44 @@
 //! A trace that is read line by line.
-ghost use Rattle.std.specs.Prelude.{◌≡◌, ◌≢◌, ◌+◌, ◌^◌, ◌<◌, ◌≤◌, nat_lt, false, length, codes, None, Ok, OnOk, IfOk, OnSome, IfSome, IfNone};
+ghost use Rattle.std.specs.Prelude.{
+  ◌≡◌,
+  ◌≢◌,
+  ◌+◌,
+  ◌^◌,
+  ◌<◌,
+  ◌≤◌,
+  nat_lt,
+  false,
+  length,
+  codes,
+  None,
+  Ok,
+  OnOk,
+  IfOk,
+  OnSome,
+  IfSome,
+  IfNone,
+};
 ghost use Rattle.std.specs.Bool.{OnTrue};
 ghost use Rattle.std.specs.Str.{bytes_eq};
-ghost use Rattle.trace_text.specs.Lines.{at_start, IsOpen, IsEarly, IsStage, IsRecordAt, fault_of, taken, behind, end_fault, IsItem, stepped, step_of, item_in, stage_in, met, limit_of, is_skipped};
+ghost use Rattle.trace_text.specs.Lines.{
+  at_start,
+  IsOpen,
+  IsEarly,
+  IsStage,
+  IsRecordAt,
+  fault_of,
+  taken,
+  behind,
+  end_fault,
+  IsItem,
+  stepped,
+  step_of,
+  item_in,
+  stage_in,
+  met,
+  limit_of,
+  is_skipped,
+};
 
 use crate::faults::{Reason, RecordFault};
 use crate::header::{Head, Header, first_line};

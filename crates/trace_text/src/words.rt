@@ -1,8 +1,46 @@
 //! The words of a line, read one behind the other, and the numbers that they spell.
-ghost use Rattle.std.specs.Prelude.{◌≡◌, ℕ, ◌+◌, ◌-◌, ◌*◌, ◌^◌, ◌<◌, ◌≤◌, ◌==◌, not, true, List, [], ◌∷◌, drop, length, Option, Some, None, Ok, OnSome, IfSome, IfNone, IsTrue, MatchOption};
+ghost use Rattle.std.specs.Prelude.{
+  ◌≡◌,
+  ℕ,
+  ◌+◌,
+  ◌-◌,
+  ◌*◌,
+  ◌^◌,
+  ◌<◌,
+  ◌≤◌,
+  ◌==◌,
+  not,
+  true,
+  List,
+  [],
+  ◌∷◌,
+  drop,
+  length,
+  Option,
+  Some,
+  None,
+  Ok,
+  OnSome,
+  IfSome,
+  IfNone,
+  IsTrue,
+  MatchOption,
+};
 ghost use Rattle.std.specs.Bool.{OnTrue, OnFalse};
 ghost use Rattle.std.specs.List.{list_all};
-ghost use Rattle.trace_text.specs.Tokens.{words_of, first, rest, starts, dec, hex, byte, dec_within, dec_of_bits, hex_of_bits, khz};
+ghost use Rattle.trace_text.specs.Tokens.{
+  words_of,
+  first,
+  rest,
+  starts,
+  dec,
+  hex,
+  byte,
+  dec_within,
+  dec_of_bits,
+  hex_of_bits,
+  khz,
+};
 ghost use Rattle.trace_text.specs.Rows.{last};
 
 use crate::bytes::{
@@ -137,8 +175,7 @@ impl<'a> Words<'a> {
         })
     }
 
-    /// The next word as a decimal digit, behind which another stands; None where it is anything else, and then it
-    /// stays.
+    /// The next word as a decimal digit; None where it is anything else, and then it stays.
     #[inline(always)]
     fn one_digit(&mut self) -> Option<u8>
         ensures value { IfSome result (λ n. dec self.old ≡ Some n) }
@@ -158,17 +195,8 @@ impl<'a> Words<'a> {
     {
         match self.one_digit() {
             Some(digit) => Some(u64::from(digit)),
-            None => self.dec_apart(),
+            None => self.dec(),
         }
-    }
-
-    /// The next word as a DEC, apart from where it is called.
-    #[inline(always)]
-    fn dec_apart(&mut self) -> Option<u64>
-        ensures value { result ≡ dec self.old }
-        ensures past { OnSome result (self.new ≡ rest self.old) }
-    {
-        self.number_apart(10)?.decimal()
     }
 
     /// The next word as two hexadecimal digits; None where it is anything else, and then it stays.
@@ -264,7 +292,7 @@ impl<'a> Words<'a> {
         ensures value { result ≡ dec_of_bits 8 self.old }
         ensures past { OnSome result (self.new ≡ rest self.old) }
     {
-        let n = self.dec()?;
+        let n = self.short_dec()?;
         if n < 0x100 { Some(n as u8) } else { None }
     }
 

@@ -27,39 +27,52 @@ use Rattle.trace_text.specs.declared.records.Job.TheVariants.{Save}
 abbrev pub IsInitial : ℕ → List (List ℕ) → Type 0
 IsInitial b ws = (n : ℕ) (ns : List ℕ) → n ≢ b → starts (n ∷ ns) ws ≡ false
 
--- the rows of `i`, `o` and `h`
-abbrev pub port_rows : Body → List (Row Job)
-port_rows body =
-    row (codes "in") (in_row body)
-    ∷ row (codes "out") (out_row body)
-    ∷ row (codes "hr") (hr_row body)
+-- the rows whose names begin with each letter
+abbrev pub rows_of_i : Body → List (Row Job)
+rows_of_i body = row (codes "in") (in_row body) ∷ []
+
+abbrev pub rows_of_o : Body → List (Row Job)
+rows_of_o body = row (codes "out") (out_row body) ∷ []
+
+abbrev pub rows_of_h : Body → List (Row Job)
+rows_of_h body =
+    row (codes "hr") (hr_row body)
     ∷ row (codes "hw") (hw_row body)
     ∷ []
 
--- of `a` and `s`
-abbrev pub step_rows : Body → List (Row Job)
-step_rows body =
-    row (codes "ack") (ack_row body)
-    ∷ row (codes "step") (last (board body Step))
+abbrev pub rows_of_a : Body → List (Row Job)
+rows_of_a body = row (codes "ack") (ack_row body) ∷ []
+
+abbrev pub rows_of_s : Body → List (Row Job)
+rows_of_s body =
+    row (codes "step") (last (board body Step))
     ∷ row (codes "save") (last (Ok Save))
     ∷ []
 
--- of `r` and `w`
-abbrev pub msr_rows : Body → List (Row Job)
-msr_rows body =
+abbrev pub rows_of_r : Body → List (Row Job)
+rows_of_r body =
     row (codes "rdmsr") (rdmsr_row body)
-    ∷ row (codes "wrmsr") (wrmsr_row body)
     ∷ row (codes "refresh") (refresh_row body)
-    ∷ row (codes "wall") (last (board body Wall))
     ∷ row (codes "rose") (rose_row body)
     ∷ []
 
--- of `c`, `n`, `p` and `m`
-abbrev pub told_rows : Body → List (Row Job)
-told_rows body =
-    row (codes "counts") (counts_row body)
-    ∷ row (codes "next") (last (board body Next))
-    ∷ row (codes "page") (page_row body)
-    ∷ row (codes "clock") (clock_row body)
-    ∷ row (codes "move") (move_row body)
+abbrev pub rows_of_w : Body → List (Row Job)
+rows_of_w body =
+    row (codes "wrmsr") (wrmsr_row body)
+    ∷ row (codes "wall") (last (board body Wall))
     ∷ []
+
+abbrev pub rows_of_c : Body → List (Row Job)
+rows_of_c body =
+    row (codes "counts") (counts_row body)
+    ∷ row (codes "clock") (clock_row body)
+    ∷ []
+
+abbrev pub rows_of_n : Body → List (Row Job)
+rows_of_n body = row (codes "next") (last (board body Next)) ∷ []
+
+abbrev pub rows_of_p : Body → List (Row Job)
+rows_of_p body = row (codes "page") (page_row body) ∷ []
+
+abbrev pub rows_of_m : Body → List (Row Job)
+rows_of_m body = row (codes "move") (move_row body) ∷ []

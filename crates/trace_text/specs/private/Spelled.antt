@@ -1,5 +1,24 @@
 -- A line read byte by byte.
-use Rattle.std.specs.Prelude.{ℕ, ◌+◌, ◌*◌, ◌==◌, nat_lt, nat_le, ◌&&◌, ◌||◌, List, [], ◌∷◌, length, drop, slice_index, Option, Some, None, if◌then◌else◌}
+use Rattle.std.specs.Prelude.{
+  ℕ,
+  ◌+◌,
+  ◌*◌,
+  ◌==◌,
+  nat_lt,
+  nat_le,
+  ◌&&◌,
+  ◌||◌,
+  List,
+  [],
+  ◌∷◌,
+  length,
+  drop,
+  slice_index,
+  Option,
+  Some,
+  None,
+  if◌then◌else◌,
+}
 use Rattle.std.specs.Option.{option_map}
 use Rattle.std.specs.Char.{digit_value}
 use Rattle.trace_text.specs.Tokens.{words_of, number_in}

@@ -9,7 +9,12 @@ loop-byte-init c = (hexes-none c.args.out.now.items, omega arith, omega arith)
 pub loop-byte-preserved : goal.loop-byte-preserved
 loop-byte-preserved c = (
   c.in_ok-append_bytes.ensures.ok
-      ∙ rw (c.loop-byte.invariant.0, c.hex_digit.ensures, c.hex_digit-in-loop-byte.ensures, hexes-take_more c.args.bytes.now c.loop-byte.byte-index c.loop-byte-test.true)
+      ∙ rw (
+        c.loop-byte.invariant.0,
+        c.hex_digit.ensures,
+        c.hex_digit-in-loop-byte.ensures,
+        hexes-take_more c.args.bytes.now c.loop-byte.byte-index c.loop-byte-test.true,
+      )
       (append_assoc c.args.out.now.items (hexes (take c.loop-byte.byte-index c.args.bytes.now)) _),
   omega (arith, c.in_ok-append_bytes.ensures.len),
   omega arith,

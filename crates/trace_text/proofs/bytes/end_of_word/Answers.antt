@@ -2,7 +2,12 @@ use Rattle.std.proofs.Common.{◌≡◌, ℕ, ◌+◌, ◌≤◌, length, drop, 
 use Rattle.std.proofs.Math.ListN.{drop_of_length-le}
 use Rattle.trace_text.specs.private.Spelled.{behind_word}
 use Rattle.trace_text.proofs.Spells.{word-differs, word-same, word-at_end, word-at_space, word-longer, word-short}
-use Rattle.trace_text.proofs.bytes.end_of_word.Goals.{then-at-line-via-then-at-line, then-at-line-via-else-at-line+then-line-at, else-end-line-via-then-end-line+else-line-end-ne32, else-end-line-via-else-end-line}
+use Rattle.trace_text.proofs.bytes.end_of_word.Goals.{
+  then-at-line-via-then-at-line,
+  then-at-line-via-else-at-line+then-line-at,
+  else-end-line-via-then-end-line+else-line-end-ne32,
+  else-end-line-via-else-end-line,
+}
 use Rattle.trace_text.proofs.bytes.end_of_word.Goals as goal
 
 -- all bytes of a name were there

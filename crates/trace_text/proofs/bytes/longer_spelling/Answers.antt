@@ -1,7 +1,7 @@
 use Rattle.std.proofs.Common.{◌≡◌, ℕ, ◌+◌, ◌-◌, ◌*◌, ◌<◌, ◌≤◌, length, get_or, ◌∙◌, inl, inr, arith}
 use Rattle.std.proofs.lemmas.Bool.{cases_lt}
 use Rattle.std.specs.Char.{digit_value}
-use Rattle.trace_text.proofs.Spells.{spelled-space, spelled-end, spelled-no_digit, spelled-too_large, spelled-more, large_digit, small_digit}
+use Rattle.trace_text.proofs.Spells.{spelled-space, spelled-end, spelled-no_digit, spelled-too_large, spelled-more}
 use Rattle.trace_text.proofs.bytes.longer_spelling.Goals as goal
 
 pub returns-then-byte-eq32 : goal.returns-then-byte-eq32
@@ -14,8 +14,7 @@ returns-then-byte-eq32 c =
 pub returns-then-digit-base : goal.returns-then-digit-base
 returns-then-digit-base c =
     let i : ℕ = c.loop-i.i in
-    let e = c.digit_of-digit.ensures in
-    let large = large_digit c.args.base c.digit_of-digit.result (digit_value (get_or c.args.line.now i 0)) c.requires.most c.if-digit-base.true e.digit e.none in
+    let large = c.digit_in-digit.ensures.none c.if-digit-base.true in
     c.loop-i.invariant
     ∙ spelled-no_digit c.args.base (i - c.args.at) c.loop-i.n i c.args.line.now c.loop-i-test.true c.if-byte-eq32.false large
 
@@ -23,8 +22,7 @@ pub returns-in_err-n : goal.returns-in_err-n
 returns-in_err-n c =
     let i : ℕ = c.loop-i.i in
     let digit : ℕ = digit_value (get_or c.args.line.now i 0) in
-    let same : digit ≡ c.digit_of-digit.result =
-    small_digit c.args.base c.digit_of-digit.result digit c.requires.most c.if-digit-base.false c.digit_of-digit.ensures.digit in
+    let same : digit ≡ c.digit_in-digit.result = c.digit_in-digit.ensures.digit c.if-digit-base.false in
     let small : digit < c.args.base = omega arith in
     let total : ℕ = c.loop-i.n * c.args.base + digit in
     let large : 18446744073709551616 ≤ total = elim (cases_lt total 18446744073709551616) [
@@ -39,8 +37,7 @@ pub loop-i-preserved : goal.loop-i-preserved
 loop-i-preserved c =
     let i : ℕ = c.loop-i.i in
     let digit : ℕ = digit_value (get_or c.args.line.now i 0) in
-    let same : digit ≡ c.digit_of-digit.result =
-    small_digit c.args.base c.digit_of-digit.result digit c.requires.most c.if-digit-base.false c.digit_of-digit.ensures.digit in
+    let same : digit ≡ c.digit_in-digit.result = c.digit_in-digit.ensures.digit c.if-digit-base.false in
     let small : digit < c.args.base = omega arith in
     let total : ℕ = c.loop-i.n * c.args.base + digit in
     let value : c.in_ok-n.n ≡ total = omega (arith, c.in_ok-n.ensures.1) in

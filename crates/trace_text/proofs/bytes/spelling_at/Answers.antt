@@ -1,6 +1,6 @@
 use Rattle.std.proofs.Common.{◌≡◌, ℕ, ◌+◌, ◌-◌, ◌*◌, ◌^◌, ◌<◌, length, get_or, ◌∙◌, arith}
 use Rattle.std.specs.Char.{digit_value}
-use Rattle.trace_text.proofs.Spells.{spelled-space, spelled-end, spelled-no_digit, spelled-more, large_digit, small_digit, more_digits, digits_fit, not_space}
+use Rattle.trace_text.proofs.Spells.{spelled-space, spelled-end, spelled-no_digit, spelled-more, more_digits, digits_fit, not_space}
 use Rattle.trace_text.proofs.bytes.spelling_at.Goals as goal
 
 pub returns-then-byte-eq32 : goal.returns-then-byte-eq32
@@ -15,15 +15,14 @@ pub returns-else-byte-eq32 : goal.returns-else-byte-eq32
 returns-else-byte-eq32 c =
     let i : ℕ = c.loop-i.i in
     let inside : i < length c.args.line.now = omega arith in
-    let e = c.digit_of-digit.ensures in
-    let large = large_digit c.args.base c.digit_of-digit.result (digit_value (get_or c.args.line.now i 0)) c.requires.most c.if-digit-base.true e.digit e.none in
+    let large = c.digit_in-digit.ensures.none c.if-digit-base.true in
     c.loop-i.invariant.0
     ∙ spelled-no_digit c.args.base (i - c.args.at) c.loop-i.n i c.args.line.now inside c.if-byte-eq32.false large
 
 pub with_digit-n-requires : goal.with_digit-n-requires
 with_digit-n-requires c =
     let k : ℕ = c.loop-i.i - c.args.at in
-    let next = more_digits c.args.base c.loop-i.n k c.digit_of-digit.result c.requires.most c.if-digit-base.false c.loop-i.invariant.1 in
+    let next = more_digits c.args.base c.loop-i.n k c.digit_in-digit.result c.requires.most c.if-digit-base.false c.loop-i.invariant.1 in
     omega (arith, next, digits_fit (k + 1) (omega arith))
 
 pub loop-i-preserved : goal.loop-i-preserved
@@ -32,8 +31,7 @@ loop-i-preserved c =
     let k : ℕ = i - c.args.at in
     let byte : ℕ = get_or c.args.line.now i 0 in
     let inside : i < length c.args.line.now = omega arith in
-    let same : digit_value byte ≡ c.digit_of-digit.result =
-    small_digit c.args.base c.digit_of-digit.result (digit_value byte) c.requires.most c.if-digit-base.false c.digit_of-digit.ensures.digit in
+    let same : digit_value byte ≡ c.digit_in-digit.result = c.digit_in-digit.ensures.digit c.if-digit-base.false in
     let small : digit_value byte < c.args.base = omega arith in
     let total : ℕ = c.loop-i.n * c.args.base + digit_value byte in
     let value : c.with_digit-n.result ≡ total = omega (arith, c.with_digit-n.ensures) in

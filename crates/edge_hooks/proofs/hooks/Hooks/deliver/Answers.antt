@@ -10,7 +10,8 @@ loop-edge-preserved g c =
         fits = c.loop-edge.invariant.fits;
         delivered =
             rw (w.deliveries-is, w.push.ensures)
-            (Delivered-rise _ _ _ _ _ _ _ c.loop-edge.invariant.delivered c.loop-edge-test.true w.if-is_rise.true w.answer.ensures.answer w.answer.ensures.valid);
+            (Delivered-rise _ _ _ _ _ _ _ c.loop-edge.invariant.delivered c.loop-edge-test.true w.if-is_rise.true
+            w.answer.ensures.answer w.answer.ensures.valid);
       }
       | else-is_rise w ↦ record {
         edges = c.loop-edge.invariant.edges;

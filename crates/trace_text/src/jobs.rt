@@ -1,0 +1,488 @@
+//! What a record does, by the words behind its counter.
+ghost use Rattle.std.specs.Prelude.{◌≡◌, ◌<◌, Ok, IfOk, OnSome};
+ghost use Rattle.board_types.specs.Legal.{is_port};
+ghost use Rattle.irq_edges.specs.Lines.{is_line};
+ghost use Rattle.trace_text.specs.Tokens.{rest};
+ghost use Rattle.trace_text.specs.Rows.{by_table, last};
+ghost use Rattle.trace_text.specs.private.Groups.{
+  rows_of_i,
+  rows_of_o,
+  rows_of_h,
+  rows_of_a,
+  rows_of_s,
+  rows_of_r,
+  rows_of_w,
+  rows_of_c,
+  rows_of_n,
+  rows_of_p,
+  rows_of_m,
+};
+ghost use Rattle.trace_text.specs.Records.{
+  board,
+  to_msr,
+  source,
+  in_row,
+  out_row,
+  hr_row,
+  hw_row,
+  rdmsr_row,
+  wrmsr_row,
+  ack_row,
+  rose_row,
+  counts_row,
+  refresh_row,
+  page_row,
+  clock_row,
+  move_row,
+  page_at,
+  job_of,
+  IsJob,
+};
+
+use crate::faults::Reason;
+use crate::records::{Body, Job};
+use crate::words::Words;
+use board_types::{Access, TickSource};
+
+/// The MSR of steal time (Linux, "KVM-specific MSRs", MSR_KVM_STEAL_TIME), which isn't kept.
+const MSR_STEAL_TIME: u32 = 0x4b56_4d03;
+
+/// An access, if the board takes it.
+#[inline(always)]
+fn board(body: &Body, access: Access) -> Result<Job, Reason>
+    ensures job { result ≡ board body.now access }
+    ensures valid { IfOk result (IsJob body.now) }
+{
+    if access.legal(body.cpus, body.format) {
+        Ok(Job::Board(access))
+    } else {
+        Err(Reason::Form)
+    }
+}
+
+/// Whether the board has this port, as `Access::legal` asks of an access that lies in memory.
+#[inline(always)]
+fn is_port(port: u8) -> bool
+    ensures { result ≡ is_port port }
+{
+    matches!(port, 0x40..=0x43 | 0x61 | 0x70 | 0x71)
+}
+
+/// Whether this is one of the six lines, likewise.
+#[inline(always)]
+fn is_line(line: u8) -> bool
+    ensures { result ≡ is_line line }
+{
+    matches!(line, 0 | 8 | 20 | 21 | 22 | 23)
+}
+
+/// An access to this MSR.
+fn to_msr(body: &Body, msr: u32, access: Access) -> Result<Job, Reason>
+    ensures job { result ≡ to_msr body.now msr access }
+    ensures valid { IfOk result (IsJob body.now) }
+{
+    if msr == MSR_STEAL_TIME {
+        return Err(Reason::Steal);
+    }
+    board(body, access)
+}
+
+#[inline(always)]
+pub(crate) fn in_job(body: &Body, words: &mut Words<'_>) -> Result<Job, Reason>
+    ensures job { result ≡ in_row body.now words.old }
+    ensures valid { IfOk result (IsJob body.now) }
+{
+    let port = words.hex8().ok_or(Reason::Form)?;
+    words.end()?;
+    if is_port(port) {
+        Ok(Job::Board(Access::PortIn { port }))
+    } else {
+        Err(Reason::Form)
+    }
+}
+
+#[inline(always)]
+fn out_job(body: &Body, words: &mut Words<'_>) -> Result<Job, Reason>
+    ensures job { result ≡ out_row body.now words.old }
+    ensures valid { IfOk result (IsJob body.now) }
+{
+    let port = words.hex8().ok_or(Reason::Form)?;
+    let byte = words.byte().ok_or(Reason::Form)?;
+    words.end()?;
+    if is_port(port) {
+        Ok(Job::Board(Access::PortOut { port, byte }))
+    } else {
+        Err(Reason::Form)
+    }
+}
+
+#[inline(never)]
+fn hr_job(body: &Body, words: &mut Words<'_>) -> Result<Job, Reason>
+    ensures job { result ≡ hr_row body.now words.old }
+    ensures valid { IfOk result (IsJob body.now) }
+{
+    let offset = words.hex16().ok_or(Reason::Form)?;
+    let width = words.dec8().ok_or(Reason::Form)?;
+    words.end()?;
+    board(body, Access::HpetRead { offset, width })
+}
+
+#[inline(never)]
+fn hw_job(body: &Body, words: &mut Words<'_>) -> Result<Job, Reason>
+    ensures job { result ≡ hw_row body.now words.old }
+    ensures valid { IfOk result (IsJob body.now) }
+{
+    let offset = words.hex16().ok_or(Reason::Form)?;
+    let width = words.dec8().ok_or(Reason::Form)?;
+    let value = words.hex().ok_or(Reason::Form)?;
+    words.end()?;
+    board(
+        body,
+        Access::HpetWrite {
+            offset,
+            width,
+            value,
+        },
+    )
+}
+
+#[inline(never)]
+fn rdmsr_job(body: &Body, words: &mut Words<'_>) -> Result<Job, Reason>
+    ensures job { result ≡ rdmsr_row body.now words.old }
+    ensures valid { IfOk result (IsJob body.now) }
+{
+    let msr = words.hex32().ok_or(Reason::Form)?;
+    words.end()?;
+    to_msr(body, msr, Access::MsrRead { msr })
+}
+
+#[inline(never)]
+fn wrmsr_job(body: &Body, words: &mut Words<'_>) -> Result<Job, Reason>
+    ensures job { result ≡ wrmsr_row body.now words.old }
+    ensures valid { IfOk result (IsJob body.now) }
+{
+    let msr = words.hex32().ok_or(Reason::Form)?;
+    let value = words.hex().ok_or(Reason::Form)?;
+    words.end()?;
+    to_msr(body, msr, Access::MsrWrite { msr, value })
+}
+
+#[inline(always)]
+fn ack_job(body: &Body, words: &mut Words<'_>) -> Result<Job, Reason>
+    ensures job { result ≡ ack_row body.now words.old }
+    ensures valid { IfOk result (IsJob body.now) }
+{
+    let line = words.dec8().ok_or(Reason::Form)?;
+    words.end()?;
+    if is_line(line) {
+        Ok(Job::Board(Access::Ack { line }))
+    } else {
+        Err(Reason::Form)
+    }
+}
+
+#[inline(never)]
+fn rose_job(body: &Body, words: &mut Words<'_>) -> Result<Job, Reason>
+    ensures job { result ≡ rose_row body.now words.old }
+    ensures valid { IfOk result (IsJob body.now) }
+{
+    let line = words.dec8().ok_or(Reason::Form)?;
+    words.end()?;
+    board(body, Access::Rose { line })
+}
+
+#[inline(always)]
+fn step_job(body: &Body, words: &Words<'_>) -> Result<Job, Reason>
+    ensures job { result ≡ last (board body.now Access.Step) words.now }
+    ensures valid { IfOk result (IsJob body.now) }
+{
+    words.end()?;
+    Ok(Job::Board(Access::Step))
+}
+
+/// An access without words behind its name.
+fn plain_job(body: &Body, access: Access, words: &Words<'_>) -> Result<Job, Reason>
+    ensures job { result ≡ last (board body.now access) words.now }
+    ensures valid { IfOk result (IsJob body.now) }
+{
+    words.end()?;
+    board(body, access)
+}
+
+/// A source of ticks.
+fn source(words: &mut Words<'_>) -> Option<TickSource>
+    ensures value { result ≡ source words.old }
+    ensures past { OnSome result (words.new ≡ rest words.old) }
+{
+    if words.takes(b"pit") {
+        Some(TickSource::Pit)
+    } else if words.takes(b"rtc") {
+        Some(TickSource::Rtc)
+    } else if words.takes(b"hpet0") {
+        Some(TickSource::Hpet(0))
+    } else if words.takes(b"hpet1") {
+        Some(TickSource::Hpet(1))
+    } else if words.takes(b"hpet2") {
+        Some(TickSource::Hpet(2))
+    } else if words.takes(b"hpet3") {
+        Some(TickSource::Hpet(3))
+    } else if words.takes(b"hpet4") {
+        Some(TickSource::Hpet(4))
+    } else if words.takes(b"hpet5") {
+        Some(TickSource::Hpet(5))
+    } else if words.takes(b"hpet6") {
+        Some(TickSource::Hpet(6))
+    } else if words.takes(b"hpet7") {
+        Some(TickSource::Hpet(7))
+    } else {
+        None
+    }
+}
+
+#[inline(never)]
+fn counts_job(body: &Body, words: &mut Words<'_>) -> Result<Job, Reason>
+    ensures job { result ≡ counts_row body.now words.old }
+    ensures valid { IfOk result (IsJob body.now) }
+{
+    let from = source(words).ok_or(Reason::Form)?;
+    words.end()?;
+    board(body, Access::CountsOf { from })
+}
+
+/// The number of a page that stands last in its line.
+#[inline(always)]
+fn page_in(body: &Body, words: &mut Words<'_>) -> Result<u8, Reason>
+    ensures page { result ≡ page_at body.now words.old }
+    ensures valid { IfOk result (λ p. p < body.now.cpus) }
+{
+    let page = words.short_dec().ok_or(Reason::Form)?;
+    words.end()?;
+    if page < u64::from(body.cpus) {
+        Ok(page as u8)
+    } else {
+        Err(Reason::Cpu)
+    }
+}
+
+#[inline(always)]
+fn refresh_job(body: &Body, words: &mut Words<'_>) -> Result<Job, Reason>
+    ensures job { result ≡ refresh_row body.now words.old }
+    ensures valid { IfOk result (IsJob body.now) }
+{
+    let page = page_in(body, words)?;
+    Ok(Job::Board(Access::Refresh { page }))
+}
+
+fn page_job(body: &Body, words: &mut Words<'_>) -> Result<Job, Reason>
+    ensures job { result ≡ page_row body.now words.old }
+    ensures valid { IfOk result (IsJob body.now) }
+{
+    let page = page_in(body, words)?;
+    Ok(Job::Page { page })
+}
+
+#[inline(always)]
+fn clock_job(body: &Body, words: &mut Words<'_>) -> Result<Job, Reason>
+    ensures job { result ≡ clock_row body.now words.old }
+    ensures valid { IfOk result (IsJob body.now) }
+{
+    let page = page_in(body, words)?;
+    Ok(Job::Clock { page })
+}
+
+fn save_job(words: &Words<'_>) -> Result<Job, Reason>
+    ensures job { result ≡ last (Ok Job.Save) words.now }
+{
+    words.end()?;
+    Ok(Job::Save)
+}
+
+#[inline(never)]
+fn move_job(body: &Body, words: &mut Words<'_>) -> Result<Job, Reason>
+    ensures job { result ≡ move_row body.now words.old }
+    ensures valid { IfOk result (IsJob body.now) }
+{
+    let khz = words.khz().ok_or(Reason::Form)?;
+    let start = words.dec().ok_or(Reason::Form)?;
+    let gap = words.dec().ok_or(Reason::Form)?;
+    words.end()?;
+    Ok(Job::Move { khz, start, gap })
+}
+
+/// What a record does, by the words behind its counter: their first byte says which rows of the table it may be.
+#[inline(always)]
+#[tactic(auto, unfolding(crate::specs::Records::job_of))]
+pub(crate) fn job_in(body: &Body, words: &mut Words<'_>) -> Result<Job, Reason>
+    ensures job { result ≡ job_of body.now words.old }
+    ensures valid { IfOk result (IsJob body.now) }
+{
+    match words.initial() {
+        b'i' => job_of_i(body, words),
+        b'o' => job_of_o(body, words),
+        b'h' => job_of_h(body, words),
+        b'a' => job_of_a(body, words),
+        b's' => job_of_s(body, words),
+        b'r' => job_of_r(body, words),
+        b'w' => job_of_w(body, words),
+        b'c' => job_of_c(body, words),
+        b'n' => job_of_n(body, words),
+        b'p' => job_of_p(body, words),
+        b'm' => job_of_m(body, words),
+        _ => Err(Reason::Form),
+    }
+}
+
+/// The row `in`.
+#[inline(always)]
+fn job_of_i(body: &Body, words: &mut Words<'_>) -> Result<Job, Reason>
+    ensures job { result ≡ by_table (rows_of_i body.now) words.old }
+    ensures valid { IfOk result (IsJob body.now) }
+{
+    if words.takes(b"in") {
+        in_job(body, words)
+    } else {
+        Err(Reason::Form)
+    }
+}
+
+/// The row `out`.
+#[inline(always)]
+fn job_of_o(body: &Body, words: &mut Words<'_>) -> Result<Job, Reason>
+    ensures job { result ≡ by_table (rows_of_o body.now) words.old }
+    ensures valid { IfOk result (IsJob body.now) }
+{
+    if words.takes(b"out") {
+        out_job(body, words)
+    } else {
+        Err(Reason::Form)
+    }
+}
+
+/// The rows `hr` and `hw`.
+#[inline(always)]
+fn job_of_h(body: &Body, words: &mut Words<'_>) -> Result<Job, Reason>
+    ensures job { result ≡ by_table (rows_of_h body.now) words.old }
+    ensures valid { IfOk result (IsJob body.now) }
+{
+    if words.takes(b"hr") {
+        hr_job(body, words)
+    } else if words.takes(b"hw") {
+        hw_job(body, words)
+    } else {
+        Err(Reason::Form)
+    }
+}
+
+/// The row `ack`.
+#[inline(always)]
+fn job_of_a(body: &Body, words: &mut Words<'_>) -> Result<Job, Reason>
+    ensures job { result ≡ by_table (rows_of_a body.now) words.old }
+    ensures valid { IfOk result (IsJob body.now) }
+{
+    if words.takes(b"ack") {
+        ack_job(body, words)
+    } else {
+        Err(Reason::Form)
+    }
+}
+
+/// The rows `step` and `save`.
+#[inline(always)]
+fn job_of_s(body: &Body, words: &mut Words<'_>) -> Result<Job, Reason>
+    ensures job { result ≡ by_table (rows_of_s body.now) words.old }
+    ensures valid { IfOk result (IsJob body.now) }
+{
+    if words.takes(b"step") {
+        step_job(body, words)
+    } else if words.takes(b"save") {
+        save_job(words)
+    } else {
+        Err(Reason::Form)
+    }
+}
+
+/// The rows `rdmsr`, `refresh` and `rose`.
+#[inline(always)]
+fn job_of_r(body: &Body, words: &mut Words<'_>) -> Result<Job, Reason>
+    ensures job { result ≡ by_table (rows_of_r body.now) words.old }
+    ensures valid { IfOk result (IsJob body.now) }
+{
+    if words.takes(b"rdmsr") {
+        rdmsr_job(body, words)
+    } else if words.takes(b"refresh") {
+        refresh_job(body, words)
+    } else if words.takes(b"rose") {
+        rose_job(body, words)
+    } else {
+        Err(Reason::Form)
+    }
+}
+
+/// The rows `wrmsr` and `wall`.
+#[inline(always)]
+fn job_of_w(body: &Body, words: &mut Words<'_>) -> Result<Job, Reason>
+    ensures job { result ≡ by_table (rows_of_w body.now) words.old }
+    ensures valid { IfOk result (IsJob body.now) }
+{
+    if words.takes(b"wrmsr") {
+        wrmsr_job(body, words)
+    } else if words.takes(b"wall") {
+        plain_job(body, Access::Wall, words)
+    } else {
+        Err(Reason::Form)
+    }
+}
+
+/// The rows `counts` and `clock`.
+#[inline(always)]
+fn job_of_c(body: &Body, words: &mut Words<'_>) -> Result<Job, Reason>
+    ensures job { result ≡ by_table (rows_of_c body.now) words.old }
+    ensures valid { IfOk result (IsJob body.now) }
+{
+    if words.takes(b"counts") {
+        counts_job(body, words)
+    } else if words.takes(b"clock") {
+        clock_job(body, words)
+    } else {
+        Err(Reason::Form)
+    }
+}
+
+/// The row `next`.
+#[inline(always)]
+fn job_of_n(body: &Body, words: &mut Words<'_>) -> Result<Job, Reason>
+    ensures job { result ≡ by_table (rows_of_n body.now) words.old }
+    ensures valid { IfOk result (IsJob body.now) }
+{
+    if words.takes(b"next") {
+        plain_job(body, Access::Next, words)
+    } else {
+        Err(Reason::Form)
+    }
+}
+
+/// The row `page`.
+#[inline(always)]
+fn job_of_p(body: &Body, words: &mut Words<'_>) -> Result<Job, Reason>
+    ensures job { result ≡ by_table (rows_of_p body.now) words.old }
+    ensures valid { IfOk result (IsJob body.now) }
+{
+    if words.takes(b"page") {
+        page_job(body, words)
+    } else {
+        Err(Reason::Form)
+    }
+}
+
+/// The row `move`.
+#[inline(always)]
+fn job_of_m(body: &Body, words: &mut Words<'_>) -> Result<Job, Reason>
+    ensures job { result ≡ by_table (rows_of_m body.now) words.old }
+    ensures valid { IfOk result (IsJob body.now) }
+{
+    if words.takes(b"move") {
+        move_job(body, words)
+    } else {
+        Err(Reason::Form)
+    }
+}
