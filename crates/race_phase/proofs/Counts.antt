@@ -1,0 +1,321 @@
+-- Weights of entries and of records, and the numbers of a board that rise with them.
+use Rattle.std.proofs.Common.{
+  ◌≡◌,
+  ℕ,
+  zero,
+  suc,
+  ◌+◌,
+  ◌*◌,
+  ◌<◌,
+  ◌≤◌,
+  eqb,
+  List,
+  [],
+  ◌∷◌,
+  ◌++◌,
+  length,
+  refl,
+  sym,
+  ap,
+  ◌∙◌,
+  subst,
+  arith,
+  append_assoc,
+  append-nil,
+  Bool,
+  true,
+  false,
+  cond,
+  Option,
+  Some,
+  None,
+  IfSome,
+  eq-eqb,
+  ne_eqb,
+  if◌then◌else◌,
+}
+use Rattle.std.proofs.lemmas.Bool.{eqb-true}
+use native.Mathlib.Decide.{ℕ_discrete, dec_le}
+use Rattle.board_types.specs.declared.access.Access.{Access}
+use Rattle.board_types.specs.declared.parts.BoardParts.{BoardParts}
+use Rattle.board_types.specs.declared.parts.TheConstants.{LAST_VERSION, MOST_ACCESSES}
+use Rattle.board_core.specs.Access.{after_access}
+use Rattle.board_core.specs.Pages.{published_by, with_greatest}
+use Rattle.board_core.specs.Refusals.{refusal_of, raised_version, version_at}
+use Rattle.board_core.specs.Wall.{publishes_wall}
+use Rattle.board_core.proofs.Laws.{after_access-accesses, wall_version-after, taken_accesses, taken_version, taken_page}
+use Rattle.board_history.specs.Machine.{page_at}
+use Rattle.board_history.specs.History.{of_state, after_entry, board_after, May, LegalFrom, is_of, entries_of}
+use Rattle.board_history.specs.declared.entry.Entry.{Entry}
+use Rattle.board_history.specs.declared.entry.Entry.TheVariants.{Opened, Board, PageRead, Clamp}
+use Rattle.board_history.proofs.Laws.{board_after-snoc}
+use Rattle.board_history.proofs.Pages.{length-processors, version-here, page_at-else, page_at-none, publishes_wall-page}
+use Rattle.shared_board.specs.Faults.{page_reads}
+use Rattle.race_phase.specs.declared.records.Call.{Call}
+use Rattle.race_phase.specs.declared.records.Call.TheVariants.{Act, ReadPage, ReadClock}
+use Rattle.race_phase.specs.declared.records.Record.{Record}
+
+-- the weights of a list, added up
+abbrev pub weigh : {A : Type 0} → (A → ℕ) → List A → ℕ
+weigh w [] = 0
+weigh w (x ∷ xs) = w x + weigh w xs
+
+pub weigh-append : {A : Type 0} (w : A → ℕ) (xs ys : List A) → weigh w (xs ++ ys) ≡ weigh w xs + weigh w ys
+weigh-append w [] ys = omega arith
+weigh-append w (x ∷ xs) ys = let e = weigh-append w xs ys in omega arith
+
+pub weigh_one : {A : Type 0} (xs : List A) → weigh (λ (x : A). 1) xs ≡ length xs
+weigh_one [] = refl
+weigh_one (x ∷ xs) = let e = weigh_one xs in omega arith
+
+pub weigh_none : {A : Type 0} (xs : List A) → weigh (λ (x : A). 0) xs ≡ 0
+weigh_none [] = refl
+weigh_none (x ∷ xs) = let e = weigh_none xs in omega arith
+
+-- the weight of an entry, and of a record, by a weight of accesses
+abbrev pub of_entry : (ℕ → ℕ → Access → ℕ) → Entry → ℕ
+of_entry f (Opened s) = 0
+of_entry f (Board pass cpu h access reply) = f cpu h access
+of_entry f (PageRead pass cpu h page locked) = 0
+of_entry f (Clamp pass cpu reading clock) = 0
+
+abbrev pub of_call : (ℕ → ℕ → Access → ℕ) → ℕ → ℕ → Call → ℕ
+of_call f cpu h (Act a) = f cpu h a
+of_call f cpu h (ReadPage page) = 0
+of_call f cpu h (ReadClock page) = 0
+
+abbrev pub of_record : (ℕ → ℕ → Access → ℕ) → Record → ℕ
+of_record f r = of_call f r.cpu r.h r.call
+
+-- reads of pages
+abbrev pub reads : Entry → ℕ
+reads (Opened s) = 0
+reads (Board pass cpu h access reply) = 0
+reads (PageRead pass cpu h page locked) = 1
+reads (Clamp pass cpu reading clock) = 0
+
+pub reads_weigh : (es : List Entry) → page_reads es ≡ weigh reads es
+reads_weigh [] = refl
+reads_weigh (Opened s ∷ es) = let i = reads_weigh es in omega arith
+reads_weigh (Board pass cpu h access reply ∷ es) = let i = reads_weigh es in omega arith
+reads_weigh (PageRead pass cpu h page locked ∷ es) = let i = reads_weigh es in omega arith
+reads_weigh (Clamp pass cpu reading clock ∷ es) = let i = reads_weigh es in omega arith
+
+-- a number of a board with n processors that each access raises by k times its weight, and that no access which is taken
+-- raises past the most
+pub record Raises (n : ℕ) (q : BoardParts → ℕ) (f : ℕ → ℕ → Access → ℕ) (k most : ℕ) : Type 0 where
+  pub access : (b : BoardParts) (cpu h : ℕ) (a : Access) → n ≤ length b.processors → q (after_access b cpu h a) ≡ q b + k * f cpu h a
+  pub clamp : (b : BoardParts) (g : ℕ) → q (with_greatest b g) ≡ q b
+  pub room : (b : BoardParts) (cpu h : ℕ) (a : Access) → refusal_of b cpu h a ≡ None → q b ≤ most → q b + k * f cpu h a ≤ most
+
+-- the number of accesses
+abbrev pub any_access : ℕ → ℕ → Access → ℕ
+any_access cpu h a = 1
+
+pub raises_accesses : Raises 0 (λ b. b.accesses) any_access 1 MOST_ACCESSES
+raises_accesses = record {
+  access = λ b cpu h a l. after_access-accesses b cpu h a;
+  clamp = λ b g. refl;
+  room = λ b cpu h a taken l. (let few = taken_accesses b cpu h a taken in omega arith);
+}
+
+-- the version of a page
+abbrev pub is_page : ℕ → Option ℕ → ℕ
+is_page c None = 0
+is_page c (Some d) = if eqb d c then 1 else 0
+
+abbrev pub publishes : ℕ → ℕ → ℕ → Access → ℕ
+publishes c cpu h a = is_page c (published_by cpu a)
+
+version_is : (b : BoardParts) (cpu h c : ℕ) (a : Access) → suc c ≤ length b.processors
+    → (page_at (after_access b cpu h a) c).version ≡ (page_at b c).version + 2 * publishes c cpu h a
+version_is b cpu h c a l = by_page (published_by cpu a) refl
+  where
+    by_page : (o : Option ℕ) → published_by cpu a ≡ o → (page_at (after_access b cpu h a) c).version ≡ (page_at b c).version + 2 * is_page c o
+    by_page None e = let k = ap (λ p. p.version) (page_at-none b cpu h c a e) in omega arith
+    by_page (Some d) e = elim (ℕ_discrete d c) [
+      | yes same ↦
+          let one : is_page c (Some d) ≡ 1 = ap (λ (t : Bool). if t then 1 else 0) (eq-eqb d c same) in
+          let k = version-here b cpu h c a (e ∙ ap (λ (n : ℕ). Some n) same) (omega arith) in omega arith
+      | no apart ↦
+          let none : is_page c (Some d) ≡ 0 = ap (λ (t : Bool). if t then 1 else 0) (ne_eqb d c apart) in
+          let k = ap (λ p. p.version) (page_at-else b cpu h d c a e (λ x. apart (sym x))) in omega arith
+    ]
+
+version_room : (b : BoardParts) (cpu h c : ℕ) (a : Access) → refusal_of b cpu h a ≡ None → (page_at b c).version ≤ LAST_VERSION + 1
+    → (page_at b c).version + 2 * publishes c cpu h a ≤ LAST_VERSION + 1
+version_room b cpu h c a taken l = by_page (published_by cpu a) refl
+  where
+    by_page : (o : Option ℕ) → published_by cpu a ≡ o → (page_at b c).version + 2 * is_page c o ≤ LAST_VERSION + 1
+    by_page None e = omega arith
+    by_page (Some d) e = by_test (eqb d c) refl
+      where
+        by_test : (t : Bool) → eqb d c ≡ t → (page_at b c).version + 2 * (if t then 1 else 0) ≤ LAST_VERSION + 1
+        by_test true is =
+            let some : published_by cpu a ≡ Some c = e ∙ ap (λ (n : ℕ). Some n) (eqb-true d c is) in
+            let v = taken_page b cpu h a taken c (publishes_wall-page cpu c a some) some in omega arith
+        by_test false is = omega arith
+
+pub raises_page : (c : ℕ) → Raises (suc c) (λ b. (page_at b c).version) (publishes c) 2 (LAST_VERSION + 1)
+raises_page c = record {
+  access = λ b cpu h a l. version_is b cpu h c a l;
+  clamp = λ b g. refl;
+  room = λ b cpu h a taken l. version_room b cpu h c a taken l;
+}
+
+-- the version of the wall clock's words
+abbrev pub publishes_words : ℕ → ℕ → Access → ℕ
+publishes_words cpu h a = if publishes_wall a then 1 else 0
+
+wall_is : (t : Bool) (v : ℕ) → (if t then v + 2 else v) ≡ v + 2 * (if t then 1 else 0)
+wall_is true v = omega arith
+wall_is false v = omega arith
+
+wall_room : (b : BoardParts) (cpu h : ℕ) (a : Access) → refusal_of b cpu h a ≡ None → b.wall_version ≤ LAST_VERSION + 1
+    → b.wall_version + 2 * publishes_words cpu h a ≤ LAST_VERSION + 1
+wall_room b cpu h a taken l = by_test (publishes_wall a) refl
+  where
+    by_test : (t : Bool) → publishes_wall a ≡ t → b.wall_version + 2 * (if t then 1 else 0) ≤ LAST_VERSION + 1
+    by_test true is =
+        let raised : raised_version b.processors b.wall_version cpu a ≡ Some b.wall_version =
+        ap (λ (w : Bool). cond w (Some b.wall_version) (version_at (published_by cpu a) b.processors)) is in
+        let less : b.wall_version < LAST_VERSION =
+        subst (λ (v : Option ℕ). IfSome v (λ n. n < LAST_VERSION)) raised (taken_version b cpu h a taken) in omega arith
+    by_test false is = omega arith
+
+pub raises_wall : Raises 0 (λ b. b.wall_version) publishes_words 2 (LAST_VERSION + 1)
+raises_wall = record {
+  access = λ b cpu h a l. wall_version-after b cpu h a ∙ wall_is (publishes_wall a) b.wall_version;
+  clamp = λ b g. refl;
+  room = λ b cpu h a taken l. wall_room b cpu h a taken l;
+}
+
+-- a history raises the number by the weight of its entries
+places-entry : (before : List Entry) (e : Entry) → May before e
+    → length (after_entry (board_after before) e).processors ≡ length (board_after before).processors
+places-entry before (Opened s) may = absurd may
+places-entry before (Board pass cpu h access reply) may = length-processors (board_after before) cpu h access
+places-entry before (PageRead pass cpu h page locked) may = refl
+places-entry before (Clamp pass cpu reading clock) may = refl
+
+pub places-stay : (before xs : List Entry) → LegalFrom before xs → length (board_after (before ++ xs)).processors ≡ length (board_after before).processors
+places-stay before [] l = ap (λ h. length (board_after h).processors) (append-nil before)
+places-stay before (x ∷ xs) l =
+    sym (ap (λ h. length (board_after h).processors) (append_assoc before (x ∷ []) xs))
+    ∙ (places-stay (before ++ x ∷ []) xs l.1
+    ∙ (ap (λ (b : BoardParts). length b.processors) (board_after-snoc before x) ∙ places-entry before x l.0))
+
+module _ (n : ℕ) (q : BoardParts → ℕ) (f : ℕ → ℕ → Access → ℕ) (k most : ℕ) (r : Raises n q f k most) where
+  raised-entry : (before : List Entry) (e : Entry) → May before e → n ≤ length (board_after before).processors
+      → q (after_entry (board_after before) e) ≡ q (board_after before) + k * of_entry f e
+  raised-entry before (Opened s) may l = absurd may
+  raised-entry before (Board pass cpu h access reply) may l = r.access (board_after before) cpu h access l
+  raised-entry before (PageRead pass cpu h page locked) may l = omega arith
+  raised-entry before (Clamp pass cpu reading clock) may l = let c = r.clamp (board_after before) clock in omega arith
+
+  pub raised : (before xs : List Entry) → LegalFrom before xs → n ≤ length (board_after before).processors
+      → q (board_after (before ++ xs)) ≡ q (board_after before) + k * weigh (of_entry f) xs
+  raised before [] l small = ap (λ h. q (board_after h)) (append-nil before) ∙ omega arith
+  raised before (x ∷ xs) l small =
+      let one : q (board_after (before ++ x ∷ [])) ≡ q (board_after before) + k * of_entry f x =
+      ap q (board_after-snoc before x) ∙ raised-entry before x l.0 small in
+      let places : length (board_after (before ++ x ∷ [])).processors ≡ length (board_after before).processors =
+      ap (λ (b : BoardParts). length b.processors) (board_after-snoc before x) ∙ places-entry before x l.0 in
+      let more : q (board_after ((before ++ x ∷ []) ++ xs)) ≡ q (board_after (before ++ x ∷ [])) + k * weigh (of_entry f) xs =
+      raised (before ++ x ∷ []) xs l.1 (omega arith) in
+      let same : q (board_after ((before ++ x ∷ []) ++ xs)) ≡ q (board_after (before ++ x ∷ xs)) =
+      ap (λ h. q (board_after h)) (append_assoc before (x ∷ []) xs) in
+      omega arith
+
+-- the weight of the entries of k numbers from n on
+abbrev pub part : (Entry → ℕ) → List Entry → ℕ → ℕ → ℕ
+part w h n zero = 0
+part w h n (suc k) = weigh w (entries_of n h) + part w h (suc n) k
+
+-- the weight x, counted where q is one of k numbers from n on
+abbrev pub one : ℕ → ℕ → ℕ → ℕ → ℕ
+one q x n zero = 0
+one q x n (suc k) = (if eqb q n then x else 0) + one q x (suc n) k
+
+one_past : (q x n k : ℕ) → q < n → one q x n k ≡ 0
+one_past q x n zero l = refl
+one_past q x n (suc k) l =
+    let none : (if eqb q n then x else 0) ≡ 0 = ap (λ (t : Bool). if t then x else 0) (ne_eqb q n (λ e. omega arith)) in
+    let rest = one_past q x (suc n) k (omega arith) in omega arith
+
+pub one_there : (q x n k : ℕ) → n ≤ q → q < n + k → one q x n k ≡ x
+one_there q x n zero low high = absurd (omega arith)
+one_there q x n (suc k) low high = elim (ℕ_discrete q n) [
+  | yes e ↦
+      let here : (if eqb q n then x else 0) ≡ x = ap (λ (t : Bool). if t then x else 0) (eq-eqb q n e) in
+      let rest = one_past q x (suc n) k (omega arith) in omega arith
+  | no e ↦
+      let none : (if eqb q n then x else 0) ≡ 0 = ap (λ (t : Bool). if t then x else 0) (ne_eqb q n e) in
+      let rest = one_there q x (suc n) k (omega arith) (omega arith) in omega arith
+]
+
+weigh_if : (b : Bool) (w : Entry → ℕ) (e : Entry) (es : List Entry) → weigh w (if b then (e ∷ es) else es) ≡ (if b then w e else 0) + weigh w es
+weigh_if true w e es = refl
+weigh_if false w e es = omega arith
+
+-- one entry more, of the number q
+part-cons : (w : Entry → ℕ) (e : Entry) (q x : ℕ) (es : List Entry) (n k : ℕ) → ((m : ℕ) → (if is_of m e then w e else 0) ≡ (if eqb q m then x else 0))
+    → part w (e ∷ es) n k ≡ one q x n k + part w es n k
+part-cons w e q x es n zero same = refl
+part-cons w e q x es n (suc k) same =
+    let first = weigh_if (is_of n e) w e (entries_of n es) in
+    let is = same n in
+    let rest = part-cons w e q x es (suc n) k same in omega arith
+
+-- one entry more, of no number
+part-none : (w : Entry → ℕ) (e : Entry) (es : List Entry) (n k : ℕ) → ((m : ℕ) → is_of m e ≡ false) → part w (e ∷ es) n k ≡ part w es n k
+part-none w e es n zero none = refl
+part-none w e es n (suc k) none =
+    let first : weigh w (entries_of n (e ∷ es)) ≡ weigh w (entries_of n es) =
+    ap (λ (b : Bool). weigh w (if b then (e ∷ entries_of n es) else entries_of n es)) (none n) in
+    let rest = part-none w e es (suc n) k none in omega arith
+
+part-nil : (w : Entry → ℕ) (n k : ℕ) → part w [] n k ≡ 0
+part-nil w n zero = refl
+part-nil w n (suc k) = let e = part-nil w (suc n) k in omega arith
+
+-- no entry has a number from m on
+abbrev pub AllBelow : ℕ → List Entry → Type 0
+AllBelow m es = (n : ℕ) → m ≤ n → entries_of n es ≡ []
+
+if_nil : (b : Bool) (e : Entry) (es : List Entry) → (if b then (e ∷ es) else es) ≡ [] → es ≡ []
+if_nil true e es k = absurd (cc k)
+if_nil false e es k = k
+
+below_rest : (m : ℕ) (e : Entry) (es : List Entry) → AllBelow m (e ∷ es) → AllBelow m es
+below_rest m e es below n l = if_nil (is_of n e) e (entries_of n es) (below n l)
+
+below_first : (m q : ℕ) (e : Entry) (es : List Entry) → is_of q e ≡ true → AllBelow m (e ∷ es) → q < m
+below_first m q e es is below = elim (dec_le m q) [
+  | yes l ↦ (let k : e ∷ entries_of q es ≡ [] = sym (ap (λ (b : Bool). if b then (e ∷ entries_of q es) else entries_of q es) is) ∙ below q l in absurd (cc k))
+  | no l ↦ omega arith
+]
+
+numbered : (w : Entry → ℕ) (e : Entry) (q m : ℕ) (es : List Entry) → ((n : ℕ) → is_of n e ≡ eqb q n) → AllBelow m (e ∷ es)
+    → part w es 0 m ≡ weigh w es → part w (e ∷ es) 0 m ≡ w e + weigh w es
+numbered w e q m es is below rest =
+    let l : q < m = below_first m q e es (is q ∙ eq-eqb q q refl) below in
+    let one_is = one_there q (w e) 0 m (omega arith) (omega arith) in
+    let add = part-cons w e q (w e) es 0 m (λ n. ap (λ (b : Bool). if b then w e else 0) (is n)) in omega arith
+
+-- the parts of a history make up the whole
+pub part_whole : (w : Entry → ℕ) (m : ℕ) (h : List Entry) → ((s : BoardParts) → w (of_state s) ≡ 0) → AllBelow m h → part w h 0 m ≡ weigh w h
+part_whole w m [] zero_there below = part-nil w 0 m
+part_whole w m (Opened s ∷ es) zero_there below =
+    let rest = part_whole w m es zero_there (below_rest m (Opened s) es below) in
+    let none = part-none w (Opened s) es 0 m (λ n. refl) in
+    let z = zero_there s in omega arith
+part_whole w m (Board pass cpu h access reply ∷ es) zero_there below =
+    numbered w (Board pass cpu h access reply) pass m es (λ n. refl) below
+    (part_whole w m es zero_there (below_rest m (Board pass cpu h access reply) es below))
+part_whole w m (PageRead pass cpu h page locked ∷ es) zero_there below =
+    numbered w (PageRead pass cpu h page locked) pass m es (λ n. refl) below
+    (part_whole w m es zero_there (below_rest m (PageRead pass cpu h page locked) es below))
+part_whole w m (Clamp pass cpu reading clock ∷ es) zero_there below =
+    numbered w (Clamp pass cpu reading clock) pass m es (λ n. refl) below
+    (part_whole w m es zero_there (below_rest m (Clamp pass cpu reading clock) es below))

@@ -1,0 +1,66 @@
+-- A phase with what ends it.
+use Rattle.std.proofs.Common.{◌≡◌, ℕ, ◌<◌, List, [], ◌∷◌, ◌++◌, refl, sym, ap, ◌∙◌, subst, append-nil, Option, Some, None}
+use Rattle.edge_hooks.specs.declared.deliveries.Delivery.{Delivery}
+use Rattle.board_types.specs.declared.access.Access.TheVariants.{Step}
+use Rattle.board_types.specs.declared.parts.BoardParts.{BoardParts}
+use Rattle.board_core.specs.Access.{after_access}
+use Rattle.board_core.specs.Refusals.{refusal_of}
+use Rattle.board_history.specs.History.{of_state, board_after, May, LegalFrom, IsLegal, Opens}
+use Rattle.board_history.specs.declared.entry.Entry.{Entry}
+use Rattle.board_history.proofs.Laws.{LegalFrom-snoc}
+use Rattle.transfer.specs.Move.{move_fault}
+use Rattle.race_phase.specs.declared.faults.Cause.{Cause}
+use Rattle.race_phase.specs.declared.phases.End.{End}
+use Rattle.race_phase.specs.declared.phases.End.TheVariants.{Finish, Save, Move}
+use Rattle.race_phase.specs.declared.phases.Phase.{Phase}
+use Rattle.race_phase.specs.Calls.{PhaseTold}
+use Rattle.race_phase.specs.Order.{or_cause, by_access}
+use Rattle.race_phase.specs.Phases.{IsEnd, by_move, end_fault, step_entry, end_entries, end_text, next_board, PhaseEnded}
+use Rattle.race_phase.proofs.Taken.{line_none, access_none}
+
+pub cause_none : (o q : Option Cause) → or_cause o q ≡ None → (o ≡ None) × (q ≡ None)
+cause_none None q e = (refl, e)
+cause_none (Some c) q e = absurd (cc e)
+
+legal_more : (s : BoardParts) (h : List Entry) (e : Entry) → IsLegal h → Opens s h → May h e → IsLegal (h ++ e ∷ [])
+legal_more s h e legal opens may =
+    let later = opens.0 in
+    let l : LegalFrom (of_state s ∷ []) later = subst IsLegal opens.1 legal in
+    subst (λ (z : List Entry). IsLegal (z ++ e ∷ [])) (sym opens.1)
+    (LegalFrom-snoc (of_state s ∷ []) later e l (subst (λ (z : List Entry). May z e) opens.1 may))
+
+step_more : (s : BoardParts) (h : List Entry) (cpu hh : ℕ) → IsLegal h → Opens s h → cpu < (board_after h).cpus → refusal_of (board_after h) cpu hh Step ≡ None
+    → IsLegal (h ++ step_entry cpu hh (board_after h) ∷ [])
+step_more s h cpu hh legal opens inside taken =
+    legal_more s h (step_entry cpu hh (board_after h)) legal opens (record { cpu_below = inside; legal = refl; taken = taken; reply = refl })
+
+end_legal : (s : BoardParts) (h : List Entry) (e : End) → IsLegal h → Opens s h → IsEnd (board_after h).cpus e → end_fault (board_after h) e ≡ None
+    → IsLegal (h ++ end_entries e (board_after h))
+end_legal s h Finish legal opens fits free = subst IsLegal (sym (append-nil h)) legal
+end_legal s h (Save line cpu hh) legal opens fits free =
+    step_more s h cpu hh legal opens fits
+    (access_none (refusal_of (board_after h) cpu hh Step) (line_none line (by_access (refusal_of (board_after h) cpu hh Step)) free))
+end_legal s h (Move line cpu hh host) legal opens fits free =
+    let b = board_after h in
+    let both = cause_none (by_access (refusal_of b cpu hh Step)) (by_move (move_fault host.gap (after_access b cpu hh Step)))
+    (line_none line (or_cause (by_access (refusal_of b cpu hh Step)) (by_move (move_fault host.gap (after_access b cpu hh Step)))) free) in
+    step_more s h cpu hh legal opens fits.0 (access_none (refusal_of b cpu hh Step) both.0)
+
+-- the causes of an end that is not refused
+pub save_free : (b : BoardParts) (line cpu h : ℕ) → end_fault b (Save line cpu h) ≡ None → refusal_of b cpu h Step ≡ None
+save_free b line cpu h free = access_none (refusal_of b cpu h Step) (line_none line (by_access (refusal_of b cpu h Step)) free)
+
+pub phase_ended : (s : BoardParts) (ds : List (Option Delivery)) (v : Phase) (mid next : BoardParts) (block out : List ℕ)
+    → PhaseTold s ds v.records.items mid block
+    → IsEnd mid.cpus v.end → end_fault mid v.end ≡ None → next ≡ next_board v.end mid → out ≡ block ++ end_text ds v.end mid → PhaseEnded s ds v next out
+phase_ended s ds v mid next block out t fits free is says = record {
+  h = t.h;
+  block = block;
+  legal = end_legal s t.h v.end t.legal t.opens (subst (λ (b : BoardParts). IsEnd b.cpus v.end) t.leaves fits)
+      (subst (λ (b : BoardParts). end_fault b v.end ≡ None) t.leaves free);
+  opens = t.opens;
+  none_else = t.none_else;
+  shown = t.shown;
+  leaves = is ∙ ap (next_board v.end) t.leaves;
+  text = says ∙ ap (λ (b : BoardParts). block ++ end_text ds v.end b) t.leaves;
+}

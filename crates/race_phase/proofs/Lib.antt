@@ -1,0 +1,10 @@
+pub mod Alike
+pub mod Counting
+pub mod Counts
+pub mod Edges
+pub mod Ended
+pub mod Same
+pub mod Settle
+pub mod Taken
+pub mod Unread
+pub mod Workers

@@ -1,0 +1,51 @@
+use Rattle.std.proofs.Common.{◌≡◌, ap, sym, ◌∙◌, subst, refl, IfOk, length, get_or, ℕ, ◌<◌, arith}
+use Rattle.board_types.specs.declared.parts.BoardParts.{BoardParts}
+use Rattle.shared_board.specs.Stops.{StopTold}
+use Rattle.race_phase.specs.private.Workers.{HasWorked}
+use Rattle.race_phase.proofs.Alike.{phase_alike}
+use Rattle.race_phase.proofs.Taken.{IsSound, sound_of, phase_told}
+use Rattle.race_phase.proofs.Workers.{newcomer, newcomers_length}
+use Rattle.race_phase.proofs.phase.run_phase.Goals as goal
+
+pub map_vec-requires-after_bounds : goal.map_vec-requires-after_bounds
+map_vec-requires-after_bounds g c κs within i x l is =
+    let made = c.in_ok-board.ensures in
+    let len = ap length made ∙ newcomers_length g.N.Name.state g.N.Name.passes in
+    let small : i < g.N.Name.passes = omega arith in
+    let t = newcomer g.N.Name.state g.N.Name.passes i x x small (is ∙ ap (λ z. get_or z i x) made) in
+    ((let n = t.0 in let p = c.requires.passes in omega arith), t.1, c.requires.fitting)
+
+pub unreachable-requires : goal.unreachable-requires
+unreachable-requires g c =
+    let made = c.in_ok-board.ensures in
+    let len = ap length made ∙ newcomers_length g.N.Name.state g.N.Name.passes in
+    let few = c.in-Err.ensures.few.0 refl in
+    let a = c.in-Ok.ensures.len in
+    let b = c.in_ok-passes.ensures.len in absurd (omega arith)
+
+pub returns : goal.returns
+returns g c =
+    let st = g.N.Name.state in
+    let m = g.N.Name.passes in
+    let ds = c.args.deliveries.now in
+    let rs = c.args.records.now in
+    let mid = c.in-Ok-stop.stopped.state in
+    let text = c.in_ok-passes.text.items in
+    let made = c.in_ok-board.ensures in
+    let a = c.in-Ok.ensures.len in
+    let b = c.in_ok-passes.ensures.len in
+    let made_len = ap length made ∙ newcomers_length st m in
+    let p = c.requires.passes in
+    let len : length c.in_ok-passes.passes.items ≡ st.cpus = omega arith in
+    let stop : StopTold st st.cpus mid c.in_ok-passes.passes.items =
+    subst (λ (k : ℕ). StopTold st k mid c.in_ok-passes.passes.items) p c.in-Ok-stop.ensures.ok in
+    let long : length c.args.state.processors ≡ 64 = ap (λ (b : BoardParts). length b.processors) (sym c.parts.ensures.value) ∙ c.places-places.ensures in
+    let sound : IsSound st = subst IsSound c.requires.state (sound_of c.args.state c.cpus-cpus.ensures.joined long) in
+    let told = phase_told st mid ds rs c.in_ok-passes.passes.items text sound len c.requires.fitting c.requires.free c.requires.few stop
+    (c.in_ok-passes.ensures.all ds rs (λ i d l.
+    let there : i < length c.in_ok-board.passes.items = omega arith in
+    let small : i < m = omega arith in
+    let k = (c.in-Ok.ensures.each i d there).1 in
+    let num = (newcomer st m i k.job k.job small (k.job_read ∙ ap (λ z. get_or z i k.job) made)).0 in
+    subst (λ (n : ℕ). IfOk (get_or c.in-Ok.results.items i d) (λ w. HasWorked st ds rs n w.pass w.text.items)) num k.call.met)) in
+    record { told = told; alike = phase_alike st ds rs mid text sound c.requires.fitting told }

@@ -1,0 +1,64 @@
+use Rattle.std.proofs.Common.{◌≡◌, ◌≤◌, ◌^◌, ◌++◌, ℕ, List, ap, sym, ◌∙◌, subst, refl, All, append_assoc, length, None}
+use Rattle.board_types.specs.declared.parts.BoardParts.{BoardParts}
+use Rattle.race_phase.specs.declared.records.Record.{Record}
+use Rattle.race_phase.specs.Calls.{IsFitting, PhaseTold}
+use Rattle.race_phase.specs.Order.{AreAlike, after_records, records_fault}
+use Rattle.race_phase.specs.Phases.{after_phase, end_fault, end_text}
+use Rattle.race_phase.proofs.Ended.{phase_ended}
+use Rattle.race_phase.proofs.Same.{mid_fits, mid_free, mid_alike}
+use Rattle.race_phase.proofs.Taken.{or_none}
+use Rattle.race_phase.proofs.race.next.Goals as goal
+
+pub run_phase-requires-clause-fitting : goal.run_phase-requires-clause-fitting
+run_phase-requires-clause-fitting g c κs within =
+    subst (λ (z : BoardParts × List Record). All (IsFitting z.0.cpus z.0.format) z.1)
+    (λ i. (sym c.in_ok-blank.ensures.state i, sym c.deref.ensures.value i)) c.requires.fitting.records
+
+pub run_phase-requires-clause-free : goal.run_phase-requires-clause-free
+run_phase-requires-clause-free g c κs within =
+    let s = c.args.state in
+    let v = c.args.phase.now in
+    let rs = v.records.items in
+    subst (λ (z : BoardParts × List Record). records_fault z.0 z.1 ≡ None)
+    (λ i. (sym c.in_ok-blank.ensures.state i, sym c.deref.ensures.value i))
+    (or_none (records_fault s rs) (end_fault (after_records s rs) v.end) c.requires.free).0
+
+pub run_phase-requires-clause-few : goal.run_phase-requires-clause-few
+run_phase-requires-clause-few g c κs within =
+    subst (λ (rs : List Record). length rs ≤ 2 ^ 62) (sym c.deref.ensures.value) c.requires.fitting.few
+
+pub end_phase-requires-clause-end : goal.end_phase-requires-clause-end
+end_phase-requires-clause-end g c =
+    let mid = c.in_ok-board.board in
+    let alike = subst (λ (z : BoardParts × List Record). AreAlike (after_records z.0 z.1) mid)
+    (λ i. (c.in_ok-blank.ensures.state i, c.deref.ensures.value i)) c.in_ok-board.ensures.alike in
+    mid_fits c.args.state c.args.phase.now mid c.requires.fitting alike
+
+pub end_phase-requires-clause-free : goal.end_phase-requires-clause-free
+end_phase-requires-clause-free g c =
+    let mid = c.in_ok-board.board in
+    let alike = subst (λ (z : BoardParts × List Record). AreAlike (after_records z.0 z.1) mid)
+    (λ i. (c.in_ok-blank.ensures.state i, c.deref.ensures.value i)) c.in_ok-board.ensures.alike in
+    mid_free c.args.state c.args.phase.now mid c.requires.fitting alike c.requires.free
+
+pub returns : goal.returns
+returns g c =
+    let s = c.args.state in
+    let v = c.args.phase.now in
+    let ds = c.args.deliveries.now in
+    let mid = c.in_ok-board.board in
+    let lines = c.in_ok-board.lines.items in
+    let alike = subst (λ (z : BoardParts × List Record). AreAlike (after_records z.0 z.1) mid)
+    (λ i. (c.in_ok-blank.ensures.state i, c.deref.ensures.value i)) c.in_ok-board.ensures.alike in
+    let told = subst (λ (z : BoardParts × List Record). PhaseTold z.0 ds z.1 mid lines)
+    (λ i. (c.in_ok-blank.ensures.state i, c.deref.ensures.value i)) c.in_ok-board.ensures.told in
+    let last : List ℕ = end_text ds v.end mid in
+    let more = c.in-Ok.ensures.items ∙ ap (λ l. c.args.text.now.items ++ l) c.deref-2.ensures.value in
+    let text = c.in_ok-end_phase.ensures.text ∙ (ap (λ l. l ++ last) more ∙ append_assoc c.args.text.now.items lines last) in
+    let board = c.in_ok-end_phase.ensures.board in (
+      lines ++ last,
+      text,
+      phase_ended s ds v mid c.end_phase.new.board lines (lines ++ last) told (mid_fits s v mid c.requires.fitting alike)
+          (mid_free s v mid c.requires.fitting alike c.requires.free) board refl,
+      subst (AreAlike (after_phase s v)) (sym board) (mid_alike s v mid c.requires.fitting alike),
+    )

@@ -1,0 +1,100 @@
+-- What the records of a phase ask, which entries of a history answer them, and the text of these.
+use Rattle.std.specs.Prelude.{
+  ◌≡◌,
+  ℕ,
+  zero,
+  suc,
+  ◌<◌,
+  ◌≤◌,
+  ◌==◌,
+  if◌then◌else◌,
+  List,
+  [],
+  ◌∷◌,
+  ◌++◌,
+  Option,
+  Bool,
+  false,
+  IsTrue,
+}
+use Rattle.edge_hooks.specs.declared.deliveries.Delivery.{Delivery}
+use Rattle.pvclock_page.specs.declared.page.Page.{Page}
+use Rattle.pvclock_page.specs.declared.page.ClockReply.{ClockReply}
+use Rattle.pvclock_page.specs.declared.page.ClockReply.TheVariants.{Off, On}
+use Rattle.board_types.specs.Legal.{is_legal}
+use Rattle.board_types.specs.declared.parts.BoardParts.{BoardParts}
+use Rattle.board_history.specs.Machine.{machine_of, ratio_in, reading_by, answer_by}
+use Rattle.board_history.specs.History.{board_after, entries_of, IsLegal, Opens}
+use Rattle.board_history.specs.declared.entry.Entry.{Entry}
+use Rattle.board_history.specs.declared.entry.Entry.TheVariants.{Board, PageRead}
+use Rattle.shared_board.specs.Pages.{clock_entries}
+use Rattle.race_phase.specs.declared.records.Answer.{Answer}
+use Rattle.race_phase.specs.declared.records.Answer.TheVariants.{Acted, PageIs, ClockIs}
+use Rattle.race_phase.specs.declared.records.Call.{Call}
+use Rattle.race_phase.specs.declared.records.Call.TheVariants.{Act, ReadPage, ReadClock}
+use Rattle.race_phase.specs.declared.records.Record.{Record}
+use Rattle.race_phase.specs.Blocks.{block_of}
+
+-- a board of this many processors and this format takes the access, or has the page
+abbrev pub IsFittingCall : ℕ → ℕ → Call → Type 0
+IsFittingCall cpus format (Act a) = IsTrue (is_legal cpus format a)
+IsFittingCall cpus format (ReadPage page) = page < cpus
+IsFittingCall cpus format (ReadClock page) = page < cpus
+
+-- and the processor of the record
+abbrev pub IsFitting : ℕ → ℕ → Record → Type 0
+IsFitting cpus format r = (r.cpu < cpus) × IsFittingCall cpus format r.call
+
+-- the records of a processor, in order
+abbrev pub records_of : ℕ → List Record → List Record
+records_of n [] = []
+records_of n (r ∷ rs) = if r.cpu == n then (r ∷ records_of n rs) else records_of n rs
+
+-- the clock is off as the page is, or tells the reading that the page gives at count h
+abbrev pub Tells : BoardParts → ℕ → Page → ClockReply → Type 0
+Tells s h page Off = page.enabled ≡ false
+Tells s h page (On reading clock) =
+    IsTrue page.enabled × (reading ≡ reading_by (ratio_in (machine_of s)) page h)
+
+-- the entries that a call of the pass n makes on a board that opened with s, and its answer: one of
+-- an access; one of a page; of the clock that of the page, and the clamp where the page is enabled
+abbrev pub CallMade : BoardParts → ℕ → ℕ → ℕ → Call → Answer → List Entry → Type 0
+CallMade s n cpu h (Act a) (Acted reply) es = es ≡ Board n cpu h a reply ∷ []
+CallMade s n cpu h (ReadPage k) (PageIs reply) es =
+    (page : Page) × (locked : Bool) × (reply ≡ answer_by (ratio_in (machine_of s)) page h)
+    × (es ≡ PageRead n k h page locked ∷ [])
+CallMade s n cpu h (ReadClock k) (ClockIs reply) es =
+    (page : Page) × (locked : Bool) × Tells s h page reply
+    × (es ≡ clock_entries n k h page locked reply)
+CallMade s n cpu h _ _ es = ⊥
+
+abbrev pub MadeBy : BoardParts → ℕ → Record → Answer → List Entry → Type 0
+MadeBy s n r a es = CallMade s n r.cpu r.h r.call a es
+
+-- the entries of these records in order, and the text of their blocks
+abbrev pub AllMade :
+    BoardParts → List (Option Delivery) → ℕ → List Record → List ℕ → List Entry → Type 0
+AllMade s ds n [] out es = (out ≡ []) × (es ≡ [])
+AllMade s ds n (r ∷ rs) out es =
+    (a : Answer) × (more : List ℕ) × (first : List Entry) × (rest : List Entry)
+    × (out ≡ block_of ds r.line a ++ more) × (es ≡ first ++ rest)
+    × MadeBy s n r a first × AllMade s ds n rs more rest
+
+-- the text of k processors from n on, one behind another
+abbrev pub Shown :
+    BoardParts → List (Option Delivery) → List Record → List Entry → ℕ → ℕ → List ℕ → Type 0
+Shown s ds rs h n zero out = out ≡ []
+Shown s ds rs h n (suc k) out =
+    (first : List ℕ) × (rest : List ℕ) × (out ≡ first ++ rest)
+    × AllMade s ds n (records_of n rs) first (entries_of n h) × Shown s ds rs h (suc n) k rest
+
+-- there is one legal history, which opens with the opening state and leaves this one. It has the
+-- entries of the records and no others, those of a processor in their order, and this is their text
+pub record PhaseTold (opening : BoardParts) (ds : List (Option Delivery)) (rs : List Record)
+    (state : BoardParts) (out : List ℕ) : Type 0 where
+  pub h : List Entry
+  pub legal : IsLegal h
+  pub opens : Opens opening h
+  pub leaves : state ≡ board_after h
+  pub none_else : (n : ℕ) → opening.cpus ≤ n → entries_of n h ≡ []
+  pub shown : Shown opening ds rs h 0 opening.cpus out

@@ -1,0 +1,6 @@
+pub mod Blocks
+pub mod Calls
+pub mod Order
+pub mod Phases
+pub mod Race
+pub mod private

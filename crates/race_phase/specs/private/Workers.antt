@@ -1,0 +1,88 @@
+-- What a worker does, and that it may have stopped.
+use Rattle.std.specs.Prelude.{
+  ◌≡◌,
+  ◌⊎◌,
+  ℕ,
+  suc,
+  ◌<◌,
+  ◌≤◌,
+  ◌^◌,
+  List,
+  [],
+  ◌∷◌,
+  ◌++◌,
+  length,
+  Option,
+  Some,
+  Result,
+  IfOk,
+  slice_index_or,
+}
+use Rattle.edge_hooks.specs.declared.deliveries.Delivery.{Delivery}
+use Rattle.board_types.specs.declared.parts.BoardParts.{BoardParts}
+use Rattle.board_types.specs.declared.reply.Refusal.{Refusal}
+use Rattle.board_core.specs.Refusals.{refusal_of}
+use Rattle.board_history.specs.Counts.{HasNoTime}
+use Rattle.board_history.specs.History.{board_after, IsLegal}
+use Rattle.board_history.specs.declared.entry.Entry.{Entry}
+use Rattle.shared_board.specs.declared.known.PassKnown.{PassKnown}
+use Rattle.shared_board.specs.Passes.{mine, Made}
+use Rattle.shared_board.specs.Faults.{page_reads}
+use Rattle.race_phase.specs.declared.records.Answer.{Answer}
+use Rattle.race_phase.specs.declared.records.Call.{Call}
+use Rattle.race_phase.specs.declared.records.Call.TheVariants.{Act, ReadPage, ReadClock}
+use Rattle.race_phase.specs.declared.records.Record.{Record}
+use Rattle.race_phase.specs.Calls.{IsFitting, records_of, MadeBy, AllMade}
+
+-- a pass answered a record
+abbrev pub IsMade : BoardParts → Record → Answer → PassKnown → PassKnown → Type 0
+IsMade s r a p q = (es : List Entry) × MadeBy s p.number r a es × Made p q es
+
+-- why a record was not answered: the board refused the access; or the count of a read has no time,
+-- or so many pages were read that the front word leaves no room
+abbrev pub IsUnread : BoardParts → ℕ → List Entry → Type 0
+IsUnread s h seen = HasNoTime s.anchor h ⊎ (2 ^ 62 ≤ page_reads seen)
+
+abbrev pub CallTrouble : BoardParts → ℕ → ℕ → Call → List Entry → Type 0
+CallTrouble s cpu h (Act a) seen =
+    (f : Refusal) × (refusal_of (board_after seen) cpu h a ≡ Some f)
+CallTrouble s cpu h (ReadPage page) seen = IsUnread s h seen
+CallTrouble s cpu h (ReadClock page) seen = IsUnread s h seen
+
+abbrev pub IsTrouble : BoardParts → Record → PassKnown → Type 0
+IsTrouble s r p = CallTrouble s r.cpu r.h r.call p.seen
+
+-- the pass has made the entries of the first of these records, and met trouble at the next
+pub record HasStopped (s : BoardParts) (ds : List (Option Delivery)) (n : ℕ) (rs : List Record)
+    (p : PassKnown) : Type 0 where
+  pub done : List Record
+  pub next : Record
+  pub rest : List Record
+  pub text : List ℕ
+  pub whole : rs ≡ done ++ next ∷ rest
+  pub made : AllMade s ds n done text (mine p)
+  pub met : IsTrouble s next p
+  pub fits : IsFitting s.cpus s.format next
+  pub legal : IsLegal p.seen
+
+-- the pass n has answered all its records, or it has stopped
+abbrev pub HasWorked :
+    BoardParts → List (Option Delivery) → List Record → ℕ → PassKnown → List ℕ → Type 0
+HasWorked s ds rs n p out =
+    (p.number ≡ n)
+    × (AllMade s ds n (records_of n rs) out (mine p) ⊎ HasStopped s ds n (records_of n rs) p)
+
+-- each call that ended well has done the work of its place
+abbrev pub AllGiven : {A E : Type 0} → List (Result A E) → (A → PassKnown) → (A → List ℕ)
+    → BoardParts → List (Option Delivery) → List Record → Type 0
+AllGiven {A} {E} xs pass text s ds rs =
+    (i : ℕ) (d : Result A E) → i < length xs
+    → IfOk (slice_index_or xs i d) (λ w. HasWorked s ds rs i (pass w) (text w))
+
+-- the passes from n on, and what they answered, one behind another
+abbrev pub AllWorked : BoardParts → List (Option Delivery) → List Record → ℕ → List PassKnown
+    → List ℕ → Type 0
+AllWorked s ds rs n [] out = out ≡ []
+AllWorked s ds rs n (p ∷ ps) out =
+    (first : List ℕ) × (rest : List ℕ) × (out ≡ first ++ rest)
+    × HasWorked s ds rs n p first × AllWorked s ds rs (suc n) ps rest

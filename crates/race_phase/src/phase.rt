@@ -1,0 +1,96 @@
+//! The records of a phase, each processor's in a thread of its own.
+ghost use Rattle.std.specs.Prelude.{◌≡◌, ◌<◌, ◌≤◌, ◌^◌, List, [], All, IfOk, Option, None, length, vec_len};
+ghost use Rattle.edge_hooks.specs.declared.deliveries.Delivery.{Delivery};
+ghost use Rattle.shared_board.specs.Passes.{mine};
+ghost use Rattle.race_phase.specs.declared.records.Record.{Record};
+ghost use Rattle.race_phase.specs.Calls.{IsFitting, PhaseTold};
+ghost use Rattle.race_phase.specs.Order.{AreAlike, after_records, records_fault};
+ghost use Rattle.race_phase.specs.private.Workers.{HasWorked, AllGiven, AllWorked};
+
+use crate::deliveries::Deliveries;
+use crate::records::Record;
+use crate::work::{Worked, work};
+use board_core::{BoardState, ProcessorParts};
+use board_io::Gate;
+use clk_units::NoMemory;
+use clock_table::{Blank, Name};
+use shared_board::{Pass, SharedBoard};
+use std::alloc::Global;
+use std::sync::Wait;
+use std::thread::{Threads, map_vec};
+
+/// Runs the records of a phase on a board, of whose state the blank was made, each processor's in a thread of its own,
+/// and gives back the board behind them and their text: the blocks of processor 0, then those of 1, and so on.
+pub fn run_phase<N: Name + Send + Sync, R: Threads + Wait + Sync, G: Gate + Sync>(
+    rt: &R,
+    alloc: Global,
+    gate: &G,
+    blank: Blank,
+    state: BoardState,
+    deliveries: &Deliveries,
+    records: &[Record],
+) -> Result<(BoardState, Vec<u8>), NoMemory>
+    requires table { blank.0 ≡ N.table }
+    requires blank { blank.1 ≡ N.state }
+    requires state { state ≡ N.state }
+    requires passes { N.passes ≡ N.state.cpus }
+    requires fitting { All (IsFitting N.state.cpus N.state.format) records.now }
+    requires free { records_fault N.state records.now ≡ None }
+    requires few { length records.now ≤ 2 ^ 62 }
+    ensures told { IfOk result (λ t. PhaseTold N.state deliveries.now records.now t.0 t.1.items) }
+    ensures alike { IfOk result (λ t. AreAlike (after_records N.state records.now) t.0) }
+{
+    let _places = places(&state.parts().processors);
+    let cpus = state.cpus();
+    let (board, passes) = SharedBoard::<N>::new(alloc, blank, state, cpus)?;
+    let shared = &board;
+    let Ok(results) = map_vec(
+        rt,
+        passes,
+        &move |pass: Pass<N>| -> Result<Worked<N>, NoMemory>
+            requires { (pass.number < N.state.cpus) × (mine pass ≡ [])
+                × All (IsFitting N.state.cpus N.state.format) records.now }
+            ensures { IfOk result (λ w. HasWorked N.state deliveries.entry.now records.entry.now
+                pass.number w.pass w.text.items) }
+        { work(rt, alloc, gate, shared, deliveries, records, pass) },
+    ) else {
+        return Err(NoMemory);
+    };
+    let (passes, text) = gather(alloc, results)?;
+    let stopped = match board.stop(passes) {
+        Ok(stopped) => stopped,
+        Err(_out) => unreachable!(),
+    };
+    Ok((stopped.state, text))
+}
+
+/// A board has places for 64 processors.
+fn places(processors: &[ProcessorParts; 64]) -> usize
+    ensures { length processors.now ≡ 64 }
+{
+    processors.len()
+}
+
+/// The passes, and the text of one worker behind that of another.
+fn gather<N: Name>(
+    alloc: Global,
+    results: Vec<Result<Worked<N>, NoMemory>>,
+) -> Result<(Vec<Pass<N>>, Vec<u8>), NoMemory>
+    ensures len { IfOk result (λ t. vec_len t.0 ≡ vec_len results) }
+    ensures all { IfOk result (λ t. (ds : List (Option Delivery)) (rs : List Record)
+        → AllGiven results.items (λ w. w.pass) (λ w. w.text.items) N.state ds rs
+        → AllWorked N.state ds rs 0 t.0.items t.1.items) }
+{
+    let mut passes = Vec::new(alloc);
+    let mut text = Vec::new(alloc);
+    for result in results {
+        let worked = result?;
+        let Ok(()) = passes.push(worked.pass) else {
+            return Err(NoMemory);
+        };
+        let Ok(()) = text.extend_from_slice(&worked.text) else {
+            return Err(NoMemory);
+        };
+    }
+    Ok((passes, text))
+}

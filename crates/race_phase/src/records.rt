@@ -1,0 +1,38 @@
+//! The records of a trace, and what they are answered.
+use board_core::{Access, Reply};
+use pvclock_page::{ClockReply, PageReply};
+
+/// What a record asks.
+#[derive(Clone, Copy, Debug, PartialEq, Eq)]
+pub enum Call {
+    /// An access to the board.
+    Act { access: Access },
+    /// The page of this processor is read.
+    ReadPage { page: u8 },
+    /// The clock is read by the page of this processor.
+    ReadClock { page: u8 },
+}
+
+/// A record of a trace.
+#[derive(Clone, Copy, Debug, PartialEq, Eq)]
+pub struct Record {
+    /// Its line, counted from 1.
+    pub line: u64,
+    /// The processor.
+    pub cpu: u8,
+    /// The host's counter.
+    pub h: u64,
+    /// What is asked.
+    pub call: Call,
+}
+
+/// What a record is answered.
+#[derive(Drop)]
+pub enum Answer {
+    /// The reply of the board.
+    Acted { reply: Reply },
+    /// A page.
+    PageIs { reply: PageReply },
+    /// A reading of the clock.
+    ClockIs { reply: ClockReply },
+}

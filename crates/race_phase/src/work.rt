@@ -1,0 +1,107 @@
+//! One worker: it takes the records of one processor.
+ghost use Rattle.std.specs.Prelude.{◌≡◌, ◌<◌, [], All, IfOk, IfSome, IfNone};
+ghost use Rattle.board_history.specs.History.{IsLegal};
+ghost use Rattle.shared_board.specs.Passes.{mine, Unanswered};
+ghost use Rattle.race_phase.specs.Calls.{IsFitting};
+ghost use Rattle.race_phase.specs.private.Workers.{IsMade, IsTrouble, HasWorked};
+
+use crate::deliveries::Deliveries;
+use crate::records::{Answer, Call, Record};
+use crate::texts::append_block;
+use board_io::Gate;
+use clk_units::NoMemory;
+use clock_table::Name;
+use shared_board::{Pass, SharedBoard};
+use std::alloc::Global;
+use std::sync::Wait;
+
+/// What a worker gives back.
+#[derive(Drop)]
+pub(crate) struct Worked<N: Name> {
+    pub(crate) pass: Pass<N>,
+    pub(crate) text: Vec<u8>,
+}
+
+/// Takes the records of the pass's processor in order, and appends their blocks to a text of its own. It stops at the
+/// first that isn't answered.
+pub(crate) fn work<N: Name, R: Wait, G: Gate>(
+    rt: &R,
+    alloc: Global,
+    gate: &G,
+    board: &SharedBoard<N>,
+    deliveries: &Deliveries,
+    records: &[Record],
+    mut pass: Pass<N>,
+) -> Result<Worked<N>, NoMemory>
+    requires cpu { pass.number < N.state.cpus }
+    requires fresh { mine pass ≡ [] }
+    requires fitting { All (IsFitting N.state.cpus N.state.format) records.now }
+    ensures { IfOk result
+        (λ w. HasWorked N.state deliveries.now records.now pass.number w.pass w.text.items) }
+{
+    let cpu = pass.number();
+    let mut text = Vec::new(alloc);
+    let mut index = 0;
+    for record in records {
+        if u64::from(record.cpu) == cpu {
+            match held(rt, gate, board, &mut pass, record, index) {
+                Some(answer) => append_block(record.line, &answer, deliveries, &mut text)?,
+                None => return Ok(Worked { pass, text }),
+            }
+            index += 1;
+        }
+    }
+    Ok(Worked { pass, text })
+}
+
+/// Answers a record between two calls of the gate.
+fn held<N: Name, R: Wait, G: Gate>(
+    rt: &R,
+    gate: &G,
+    board: &SharedBoard<N>,
+    pass: &mut Pass<N>,
+    record: &Record,
+    index: u64,
+) -> Option<Answer>
+    requires fitting { IsFitting N.state.cpus N.state.format record.now }
+    requires legal { IsLegal pass.old.seen }
+    ensures some { IfSome result (λ a. IsMade N.state record.now a pass.old pass.new) }
+    ensures none { IfNone result
+        (Unanswered pass.old pass.new × IsTrouble N.state record.now pass.new) }
+{
+    gate.before(rt, record.cpu, index);
+    let result = answer(rt, gate, board, pass, record);
+    gate.after(rt, record.cpu, index);
+    result
+}
+
+/// Answers a record.
+fn answer<N: Name, R: Wait, G: Gate>(
+    rt: &R,
+    gate: &G,
+    board: &SharedBoard<N>,
+    pass: &mut Pass<N>,
+    record: &Record,
+) -> Option<Answer>
+    requires fitting { IsFitting N.state.cpus N.state.format record.now }
+    requires legal { IsLegal pass.old.seen }
+    ensures some { IfSome result (λ a. IsMade N.state record.now a pass.old pass.new) }
+    ensures none { IfNone result
+        (Unanswered pass.old pass.new × IsTrouble N.state record.now pass.new) }
+{
+    let h = record.h;
+    match record.call {
+        Call::Act { access } => match board.access(rt, gate, pass, record.cpu, h, access) {
+            Ok(reply) => Some(Answer::Acted { reply }),
+            Err(_refusal) => None,
+        },
+        Call::ReadPage { page } => match board.read_page(rt, pass, page, h) {
+            Ok(reply) => Some(Answer::PageIs { reply }),
+            Err(_fault) => None,
+        },
+        Call::ReadClock { page } => match board.read_clock(rt, pass, page, h) {
+            Ok(reply) => Some(Answer::ClockIs { reply }),
+            Err(_fault) => None,
+        },
+    }
+}
