@@ -1,3 +1,4 @@
 mod Single
 mod Numbers
 mod Parsed
+mod Sizes

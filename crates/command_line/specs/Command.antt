@@ -3,6 +3,11 @@ use Rattle.std.specs.Prelude.{
   ℕ,
   ◌^◌,
   ◌-◌,
+  ◌<◌,
+  ◌≤◌,
+  ◌&&◌,
+  nat_le,
+  nat_lt,
   Bool,
   true,
   false,
@@ -48,6 +53,7 @@ use Rattle.command_line.specs.declared.command.Command.TheVariants.{
   Unknown,
 }
 use Rattle.command_line.specs.declared.command.Size.{Size}
+use Rattle.trace_gen.specs.declared.generator.TheConstants.{RECORDS_MAX, CPUS_MAX}
 
 -- a positional of a number in a range
 abbrev pub number_rule : Text → ℕ → ℕ → Rule
@@ -67,11 +73,11 @@ bare =
       top = record (new_app (codes "clockboard")).top { no_binary_name = true; has_version = true };
     }
 
--- the command: a job, which is needed, a key, records up to 200,000, 1 to 16 processors, `--state`
+-- the command: a job, which is needed, a key, records and processors in their ranges, `--state`
 abbrev pub app : App
 app = with_rule (with_rule (with_rule (with_rule (with_rule bare job_rule)
-    (number_rule (codes "key") 0 (2 ^ 64 - 1))) (number_rule (codes "records") 0 200000))
-    (number_rule (codes "cpus") 1 16)) state_rule
+    (number_rule (codes "key") 0 (2 ^ 64 - 1))) (number_rule (codes "records") 0 RECORDS_MAX))
+    (number_rule (codes "cpus") 1 CPUS_MAX)) state_rule
 
 -- a number of 64 bits, maybe behind a plus
 abbrev pub number_of : Text → Option ℕ
@@ -91,10 +97,21 @@ abbrev pub trace_job : Command → Option ℕ → Option ℕ → Option ℕ → 
 trace_job command None None None = command
 trace_job command key records cpus = Unknown
 
+-- how large a trace may be that is generated
+pub record IsSize (size : Size) : Type 0 where
+  pub records : size.records ≤ RECORDS_MAX
+  pub some_cpu : 0 < size.cpus
+  pub cpus : size.cpus ≤ CPUS_MAX
+
+-- the same as a test
+abbrev pub in_range : ℕ → ℕ → Bool
+in_range records cpus = nat_le records RECORDS_MAX && (nat_lt 0 cpus && nat_le cpus CPUS_MAX)
+
 -- `gen` and `soak` take three, and no flag
 abbrev pub size_of : Option ℕ → Option ℕ → Option ℕ → Bool → Option Size
 size_of (Some key) (Some records) (Some cpus) false =
-    Some (record { key = key; records = records; cpus = cpus })
+    if in_range records cpus then Some (record { key = key; records = records; cpus = cpus })
+    else None
 size_of key records cpus shows_state = None
 
 abbrev pub sized_job : (Size → Command) → Option Size → Command
@@ -133,3 +150,9 @@ by_kinds (kind ∷ kinds) rows = refused_for kind
 -- what words ask for
 unfoldable pub command_of : List Text → Command
 command_of words = by_kinds (fault_of app words) (matches_of app words)
+
+-- a command with a size has one that may be
+abbrev pub HasSize : Command → Type 0
+HasSize (Gen size) = IsSize size
+HasSize (Soak size) = IsSize size
+HasSize command = Unit {0}

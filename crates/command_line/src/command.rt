@@ -4,9 +4,9 @@
 pub struct Size {
     /// What the random numbers come from.
     pub key: u64,
-    /// How many records there are, up to 200,000.
+    /// How many records there are, up to `RECORDS_MAX` of trace_gen where a command has the size.
     pub records: u64,
-    /// How many processors there are, 1 to 16.
+    /// How many processors there are, from 1 to `CPUS_MAX`.
     pub cpus: u64,
 }
 

@@ -24,7 +24,9 @@ ghost use Rattle.command_line.specs.Command.{
   refused_for,
   asked_for,
   trace_job,
+  in_range,
   size_of,
+  HasSize,
 };
 
 use crate::command::{Command, Named, Size};
@@ -33,12 +35,14 @@ use clap::error::ErrorKind;
 use clap::{Arg, ArgAction, ArgMatches};
 use clk_units::NoMemory;
 use std::alloc::{AllocError, Global};
+use trace_gen::{CPUS_MAX, RECORDS_MAX};
 
 /// What these words ask for, those behind the program's name. They are read as clap reads them; a list that it refuses
 /// asks for nothing that is known, but where the cause is `--help` or `--version`.
 #[tactic(auto, unfolding(crate::specs::Command::command_of))]
 pub fn command_of(alloc: Global, words: &[String]) -> Result<Command, NoMemory>
-    ensures { IfOk result (λ c. c ≡ command_of (map string_bytes words.now)) }
+    ensures command { IfOk result (λ c. c ≡ command_of (map string_bytes words.now)) }
+    ensures size { IfOk result (λ c. HasSize c) }
 {
     let command = match line(alloc) {
         Ok(command) => command,
@@ -59,8 +63,8 @@ fn line<'a>(alloc: Global) -> Result<clap::Command<'a>, AllocError>
         .version("")
         .arg(Arg::new(alloc, "job").required(true))?
         .arg(number_arg(alloc, "key", 0, u64::MAX))?
-        .arg(number_arg(alloc, "records", 0, 200_000))?
-        .arg(number_arg(alloc, "cpus", 1, 16))?
+        .arg(number_arg(alloc, "records", 0, RECORDS_MAX))?
+        .arg(number_arg(alloc, "cpus", 1, CPUS_MAX as u64))?
         .arg(
             Arg::new(alloc, "state")
                 .long("state")
@@ -170,9 +174,18 @@ fn size_of(named: &Named) -> Option<Size>
         ≡ size_of named.now.key named.now.records named.now.cpus named.now.shows_state }
 {
     match (named.key, named.records, named.cpus, named.shows_state) {
-        (Some(key), Some(records), Some(cpus), false) => Some(Size { key, records, cpus }),
+        (Some(key), Some(records), Some(cpus), false) if in_range(records, cpus) => {
+            Some(Size { key, records, cpus })
+        }
         _ => None,
     }
+}
+
+/// Whether a trace may have so many records and processors. Clap has refused other words by then.
+fn in_range(records: u64, cpus: u64) -> bool
+    ensures { result ≡ in_range records cpus }
+{
+    records <= RECORDS_MAX && 0 < cpus && cpus <= u64::from(CPUS_MAX)
 }
 
 /// What is asked for by words that clap refuses.

@@ -10,7 +10,8 @@ use Rattle.trace_gen.specs.declared.draws.Draws.{Draws}
 -- one page more, by a number that counts down
 pub enables_text-more : (k j cpu : ℕ) → k ≡ j + 1 → enables_text k cpu ≡ enable_text cpu ++ enables_text j (cpu + 1)
 unfolding enables_text
-enables_text-more k j cpu e = subst (λ (m : ℕ). enables_text m cpu ≡ enable_text cpu ++ enables_text j (cpu + 1)) (let next : suc j ≡ k = omega arith in next) refl
+enables_text-more k j cpu e = subst (λ (m : ℕ). enables_text m cpu ≡ enable_text cpu ++ enables_text j (cpu + 1))
+    (let next : suc j ≡ k = omega arith in next) refl
 
 -- none more
 pub enables_text-none : (k cpu : ℕ) (rest : List ℕ) → k ≡ 0 → enables_text k cpu ++ rest ≡ rest
@@ -20,7 +21,8 @@ enables_text-none k cpu rest e = rw e refl
 -- one record more
 pub records_text-more : (k j cpus : ℕ) (d : Draws) → k ≡ j + 1 → records_text k cpus d ≡ record_text cpus (drawn d) ++ records_text j cpus (drawn d)
 unfolding records_text
-records_text-more k j cpus d e = subst (λ (m : ℕ). records_text m cpus d ≡ record_text cpus (drawn d) ++ records_text j cpus (drawn d)) (let next : suc j ≡ k = omega arith in next) refl
+records_text-more k j cpus d e = subst (λ (m : ℕ). records_text m cpus d ≡ record_text cpus (drawn d) ++ records_text j cpus (drawn d))
+    (let next : suc j ≡ k = omega arith in next) refl
 
 -- none more
 pub records_text-none : (k cpus : ℕ) (d : Draws) (rest : List ℕ) → k ≡ 0 → records_text k cpus d ++ rest ≡ rest

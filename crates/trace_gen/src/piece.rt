@@ -1,5 +1,20 @@
 //! A line, which is written from its last byte to its first, and handed out from its first to its last.
-ghost use Rattle.std.specs.Prelude.{◌≡◌, ◌+◌, ◌<◌, ◌≤◌, ◌↔◌, ◌++◌, [], ◌∷◌, length, min, take, drop, decimal, IsTrue};
+ghost use Rattle.std.specs.Prelude.{
+  ◌≡◌,
+  ◌+◌,
+  ◌<◌,
+  ◌≤◌,
+  ◌↔◌,
+  ◌++◌,
+  [],
+  ◌∷◌,
+  length,
+  min,
+  take,
+  drop,
+  decimal,
+  IsTrue,
+};
 ghost use Rattle.std.specs.Char.{digit_char};
 ghost use Rattle.trace_gen.specs.Text.{two_digits};
 ghost use Rattle.trace_gen.specs.declared.piece.TheConstants.{LONGEST};

@@ -64,9 +64,14 @@ Outcome w SourceFault old new = (text : List ℕ) × IsSourceFault w text × App
 Outcome w NoMemory old new = (text : List ℕ) × IsMemoryFault w text × Appends old new text
 Outcome w SinkFault old new = (cut : List ℕ) × IsCutOff w cut × Appends old new cut
 
--- the whole text was written, and this is the end; or the sink failed, which showed, and took the text's beginning
+-- the whole text was written, and this is the answer; or the sink failed, which showed, and took the text's beginning
+abbrev pub SaidOr : {R : Type 0} → R → R → R → Option (List ℕ) → Option (List ℕ) → List ℕ → Type 0
+    → Type 0
+SaidOr fault end result old new text shown =
+    ((result ≡ end) × Appends old new text)
+    ⊎ ((result ≡ fault) × shown × ((cut : List ℕ) × Begins cut text × Appends old new cut))
+
+-- the same of the end of a run
 abbrev pub Said : {E : Type 0} → Ended E → Ended E → Option (List ℕ) → Option (List ℕ) → List ℕ
     → Type 0 → Type 0
-Said end result old new text shown =
-    ((result ≡ end) × Appends old new text)
-    ⊎ ((result ≡ SinkFault) × shown × ((cut : List ℕ) × Begins cut text × Appends old new cut))
+Said end result old new text shown = SaidOr SinkFault end result old new text shown

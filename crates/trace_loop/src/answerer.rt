@@ -40,6 +40,7 @@ pub trait Answerer<E> {
 
 /// Answers a line: appends its block, and answers how it ends the trace, if it does. After an `Err` the text is as it
 /// was.
+#[inline(always)]
 pub(crate) fn answer_line<E: Drop, T: Answerer<E>>(
     answerer: &mut T,
     line: u64,

@@ -14,5 +14,5 @@ mod program;
 pub use answerer::Answerer;
 pub use ended::Ended;
 pub use lines::limit_of;
-pub use output::put_all;
-pub use program::answer_lines;
+pub use output::{put_all, say};
+pub use program::{MEMORY_FAULT, answer_lines};

@@ -115,6 +115,7 @@ impl Lines {
     }
 
     /// The line that was handed out last.
+    #[inline(always)]
     pub(crate) fn line(&self) -> &[u8]
         ensures { result.now ≡ self.now.line }
     {
@@ -133,6 +134,7 @@ impl Lines {
     }
 
     /// Goes on to the next line, if one ends in what was taken, or is too long.
+    #[inline(always)]
     pub(crate) fn advance(&mut self) -> Result<bool, NoMemory>
         requires room { self.old.number < 2 ^ 63 }
         ensures line { IfOk result (λ found. found ≡ true → IsLine self.old self.new) }
@@ -158,6 +160,7 @@ impl Lines {
     }
 
     /// Where the present line stops in the bytes that are left.
+    #[inline(always)]
     fn find(&self) -> Found
         ensures { IsFound self.now.text self.now.left result }
     {
@@ -175,6 +178,7 @@ impl Lines {
     }
 
     /// Hands out the present line, of which so many bytes are left.
+    #[inline(always)]
     fn hand_out(&mut self, n: usize) -> Result<(), NoMemory>
         requires room { self.old.number < 2 ^ 63 }
         requires there { n ≤ length self.old.left }
@@ -192,6 +196,7 @@ impl Lines {
     }
 
     /// Hands out a line that stands in the piece.
+    #[inline(always)]
     fn hand_out_slice(&mut self, n: usize)
         requires room { self.old.number < 2 ^ 63 }
         requires there { n ≤ length self.old.left }
@@ -208,6 +213,7 @@ impl Lines {
     }
 
     /// Hands out a line of which earlier pieces had the front.
+    #[inline(never)]
     fn hand_out_joined(&mut self, n: usize) -> Result<(), NoMemory>
         requires room { self.old.number < 2 ^ 63 }
         requires there { n ≤ length self.old.left }
@@ -227,6 +233,7 @@ impl Lines {
     }
 
     /// Passes over the end of a line.
+    #[inline(always)]
     fn skip(&mut self)
         requires { 0 < length self.old.left }
         ensures line { self.new.line ≡ self.old.line }
@@ -238,6 +245,7 @@ impl Lines {
     }
 
     /// Keeps the bytes that are left, in which the present line doesn't end.
+    #[inline(never)]
     fn keep(&mut self) -> Result<(), NoMemory>
         requires in_line { HasNoEnd self.old.left }
         requires short { length self.old.text + length self.old.left
@@ -303,6 +311,7 @@ pub fn limit_of(text: &[u8]) -> usize
 }
 
 /// The same of a line of which an earlier piece had the front.
+#[inline(always)]
 fn limit_across(kept: &[u8], rest: &[u8]) -> usize
     ensures { result ≡ limit_of (kept.now ++ rest.now) }
 {

@@ -1,8 +1,8 @@
 //! Texts that are put into a sink, or behind one another.
-ghost use Rattle.std.specs.Prelude.{◌≡◌, ℕ, ◌<◌, ◌≤◌, List, ◌++◌, length, OnOk, OnErr};
+ghost use Rattle.std.specs.Prelude.{◌≡◌, ◌≢◌, ℕ, ◌<◌, ◌≤◌, List, ◌++◌, length, OnOk, OnErr};
 ghost use Rattle.std.specs.Io.KnownBytes.{Appends};
 ghost use Rattle.board_io.specs.Faults.{Rose};
-ghost use Rattle.trace_loop.specs.Outcome.{Begins};
+ghost use Rattle.trace_loop.specs.Outcome.{Begins, SaidOr};
 
 use board_io::{Failed, Sink};
 use clk_units::NoMemory;
@@ -22,6 +22,19 @@ pub fn put_all<K: Sink>(sink: &mut K, text: &[u8]) -> Result<(), Failed>
         put += sink.put(&text[put..])?;
     }
     Ok(())
+}
+
+/// Puts a whole text into a sink and answers `end`, or `fault` where the sink failed.
+pub fn say<R: Drop, K: Sink>(sink: &mut K, text: &[u8], end: R, fault: R) -> R
+    ensures said { SaidOr fault end result (K.contents sink.old) (K.contents sink.new) text.now
+        (Rose (K.faults sink.old) (K.faults sink.new)) }
+    ensures sink_well { result ≢ fault → K.faults sink.new ≡ K.faults sink.old }
+    ensures counted { K.faults sink.old ≤ K.faults sink.new }
+{
+    match put_all(sink, text) {
+        Ok(()) => end,
+        Err(Failed) => fault,
+    }
 }
 
 /// Appends bytes. After an `Err` the text is as it was.

@@ -28,7 +28,7 @@ ghost use Rattle.trace_loop.specs.Outcome.{run_of, Outcome, Said};
 use crate::answerer::{Answerer, answer_line};
 use crate::ended::Ended;
 use crate::lines::Lines;
-use crate::output::put_all;
+use crate::output::{put_all, say};
 use board_io::{Failed, Sink, Source};
 use clk_units::NoMemory;
 use std::alloc::Global;
@@ -37,7 +37,7 @@ use std::alloc::Global;
 const SOURCE_FAULT: &[u8] = b"fault source\n";
 
 /// What is printed where memory ran out.
-const MEMORY_FAULT: &[u8] = b"fault memory\n";
+pub const MEMORY_FAULT: &[u8] = b"fault memory\n";
 
 /// Has the lines that the source gives answered, and puts what they print. Each line whose end was given is answered,
 /// and its block is put, before more is taken.
@@ -71,7 +71,7 @@ pub fn answer_lines<E: Drop, T: Answerer<E>, S: Source, K: Sink>(
         match lines.advance() {
             Ok(true) => match answer_line(answerer, lines.number(), lines.line(), &mut out) {
                 Ok(None) => {}
-                Ok(Some(end)) => return say(sink, &out, Ended::By(end)),
+                Ok(Some(end)) => return say(sink, &out, Ended::By(end), Ended::SinkFault),
                 Err(NoMemory) => return want_memory(sink, &out),
             },
             Ok(false) => {
@@ -82,7 +82,12 @@ pub fn answer_lines<E: Drop, T: Answerer<E>, S: Source, K: Sink>(
                 match lines.refill(source) {
                     Ok(0) => return end_input(answerer, &lines, &mut out, sink),
                     Ok(_) => {}
-                    Err(Failed) => return say(sink, SOURCE_FAULT, Ended::SourceFault),
+                    Err(Failed) => return say(
+                        sink,
+                        SOURCE_FAULT,
+                        Ended::SourceFault,
+                        Ended::SinkFault,
+                    ),
                 }
             }
             Err(NoMemory) => return want_memory(sink, &out),
@@ -110,8 +115,8 @@ fn end_input<E: Drop, T: Answerer<E>, K: Sink>(
     ensures counted { K.faults sink.old ≤ K.faults sink.new }
 {
     match finish(answerer, lines.number() + 1, lines.text(), out) {
-        Ok(end) => say(sink, out, Ended::By(end)),
-        Err(NoMemory) => say(sink, MEMORY_FAULT, Ended::NoMemory),
+        Ok(end) => say(sink, out, Ended::By(end), Ended::SinkFault),
+        Err(NoMemory) => say(sink, MEMORY_FAULT, Ended::NoMemory, Ended::SinkFault),
     }
 }
 
@@ -149,18 +154,5 @@ fn want_memory<E: Drop, K: Sink>(sink: &mut K, out: &[u8]) -> Ended<E>
     if put_all(sink, out).is_err() {
         return Ended::SinkFault;
     }
-    say(sink, MEMORY_FAULT, Ended::NoMemory)
-}
-
-/// Writes a text and ends with a status, or with a fault of the sink.
-fn say<E: Drop, K: Sink>(sink: &mut K, text: &[u8], end: Ended<E>) -> Ended<E>
-    ensures said { Said end result (K.contents sink.old) (K.contents sink.new) text.now
-        (Rose (K.faults sink.old) (K.faults sink.new)) }
-    ensures sink_well { result ≢ Ended.SinkFault → K.faults sink.new ≡ K.faults sink.old }
-    ensures counted { K.faults sink.old ≤ K.faults sink.new }
-{
-    match put_all(sink, text) {
-        Ok(()) => end,
-        Err(Failed) => Ended::SinkFault,
-    }
+    say(sink, MEMORY_FAULT, Ended::NoMemory, Ended::SinkFault)
 }

@@ -1,9 +1,17 @@
+pub mod CheckQuiet
+pub mod CheckReady
+mod CheckRows
 pub mod Counts
 pub mod Edges
+pub mod FileOrder
+pub mod Greatest
 pub mod Pieces
+pub mod Races
+pub mod PhasesRead
 pub mod ReadyNext
 pub mod Rows
-pub mod Statuses
-mod SoakRows
 mod Sayings
+mod SoakRows
 pub mod Soaks
+pub mod Sounds
+pub mod Statuses

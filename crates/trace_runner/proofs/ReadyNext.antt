@@ -173,7 +173,7 @@ round_same Ended b b' cpus format round = round
 round_same (Stops fault) b b' cpus format round = round
 
 -- a record leaves such a board
-abbrev Same : BoardParts → Answer BoardParts Verdict → Type 0
+abbrev pub Same : BoardParts → Answer BoardParts Verdict → Type 0
 Same b (Goes text b') = (b'.cpus ≡ b.cpus) × (b'.format ≡ b.format)
 Same b (Ends closing) = Unit {0}
 
@@ -215,7 +215,7 @@ same_move None line cpu h khz start gap ds b =
     (after_access-cpus b cpu h Step) (after_access-format b cpu h Step)
 same_move (Some refusal) line cpu h khz start gap ds b = tt
 
-same_job : (line cpu h : ℕ) (job : Job) (ds : List (Option Delivery)) (b : BoardParts) → Same b (job_answer line cpu h job ds b)
+pub same_job : (line cpu h : ℕ) (job : Job) (ds : List (Option Delivery)) (b : BoardParts) → Same b (job_answer line cpu h job ds b)
 unfolding after_clock
 same_job line cpu h (Board a) ds b = same_access (refusal_of b cpu h a) line cpu h a ds b
 same_job line cpu h (Page page) ds b = same_read _ line _ b b refl refl

@@ -1,32 +1,17 @@
 -- Small rows that pin the definitions.
-use Rattle.std.proofs.Common.{◌≡◌, [], ◌∷◌, true, false, Some, None, codes, replicate, refl}
+use Rattle.std.proofs.Common.{◌≡◌, [], ◌∷◌, false, Some, None, replicate, refl}
 use Rattle.trace_text.specs.declared.faults.Reason.TheVariants.{CounterFell}
-use Rattle.command_line.specs.declared.command.Command.TheVariants.{Race, Gen, Soak}
 use Rattle.transfer.specs.declared.outcome.MoveFault.TheVariants.{VersionsSpent as PageSpent}
 use Rattle.reply_text.specs.declared.ends.Refused.TheVariants.{Versions}
-use Rattle.trace_runner.specs.Sayings.{saying_of, usage}
-use Rattle.trace_runner.specs.Text.{job_refused_text}
 use Rattle.trace_runner.specs.Deliveries.{deliveries_of, delivery_of}
 use Rattle.trace_runner.specs.Records.{refused_by, refused_move}
 use Rattle.trace_runner.specs.Status.{number_of, refused_status}
 use Rattle.trace_runner.specs.declared.status.Status.TheVariants.{
   BadRecord,
-  NotBuilt,
   OutOfRange,
   Spent,
   VersionsSpent,
 }
-
--- commands that read no trace
-race_waits : saying_of (Race true) ≡ Some (record { status = NotBuilt 0; text = codes "refused 0 notbuilt\n" })
-unfolding job_refused_text
-race_waits = refl
-
-too_many_records : saying_of (Gen (record { key = 1; records = 200001; cpus = 1 })) ≡ Some usage
-too_many_records = refl
-
-no_processor : saying_of (Soak (record { key = 1; records = 1; cpus = 0 })) ≡ Some usage
-no_processor = refl
 
 -- moves
 a_page_at_its_last_version : refused_move (PageSpent 1 4294967294) ≡ Versions 4294967294

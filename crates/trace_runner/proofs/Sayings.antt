@@ -3,7 +3,7 @@ use Rattle.std.proofs.Common.{◌≡◌, ℕ, List, Option, Some, Bool, subst, �
 use Rattle.clk_units.specs.declared.NoMemory.{NoMemory}
 use Rattle.command_line.specs.Command.{command_of}
 use Rattle.command_line.specs.declared.command.Command.{Command}
-use Rattle.command_line.specs.declared.command.Command.TheVariants.{Replay}
+use Rattle.command_line.specs.declared.command.Command.TheVariants.{Replay, Race}
 use Rattle.trace_runner.specs.Said.{Said, SaidAtMost}
 use Rattle.trace_runner.specs.Sayings.{Saying}
 use Rattle.trace_runner.specs.declared.status.Status.{Status}
@@ -31,3 +31,12 @@ pub asked-same : (r : Result Command NoMemory) (words : List (List ℕ)) (a b : 
 asked-same r words a b named is asked =
     let told : Replay b ≡ command_of words = subst (λ (x : Result Command NoMemory). IfOk x (λ c. c ≡ command_of words)) is named in
     replay-same b a (told ∙ asked)
+
+pub race-same : (a b : Bool) → Race a ≡ Race b → a ≡ b
+race-same a b is = cc
+
+pub raced-same : (r : Result Command NoMemory) (words : List (List ℕ)) (a b : Bool) → IfOk r (λ c. c ≡ command_of words) → r ≡ Ok (Race b)
+    → command_of words ≡ Race a → b ≡ a
+raced-same r words a b named is asked =
+    let told : Race b ≡ command_of words = subst (λ (x : Result Command NoMemory). IfOk x (λ c. c ≡ command_of words)) is named in
+    race-same b a (told ∙ asked)

@@ -1,10 +1,15 @@
+pub mod Check
+pub mod Checking
 pub mod Deliveries
+pub mod Free
+pub mod Race
 pub mod Ready
 pub mod Records
 pub mod Replay
 pub mod Said
 pub mod Sayings
-pub mod Size
 pub mod Soak
+pub mod Sound
 pub mod Status
 pub mod Text
+pub mod Trace

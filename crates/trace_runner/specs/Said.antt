@@ -1,16 +1,13 @@
 -- What a text that is put whole leaves.
-use Rattle.std.specs.Prelude.{◌≡◌, ℕ, List, Option, ◌⊎◌}
-use Rattle.std.specs.Io.KnownBytes.{Appends}
+use Rattle.std.specs.Prelude.{ℕ, List, Option, ◌⊎◌}
 use Rattle.trace_loop.specs.Text.{memory_fault_text}
-use Rattle.trace_loop.specs.Outcome.{Begins}
+use Rattle.trace_loop.specs.Outcome.{SaidOr}
 use Rattle.trace_runner.specs.declared.status.Status.{Status}
 use Rattle.trace_runner.specs.declared.status.Status.TheVariants.{NoMemory, SinkFault}
 
 -- the whole text was written, and this is the status; or the sink failed, which showed, and took the text's beginning
 abbrev pub Said : Status → Status → Option (List ℕ) → Option (List ℕ) → List ℕ → Type 0 → Type 0
-Said status result old new text shown =
-    ((result ≡ status) × Appends old new text)
-    ⊎ ((result ≡ SinkFault) × shown × ((cut : List ℕ) × Begins cut text × Appends old new cut))
+Said status result old new text shown = SaidOr SinkFault status result old new text shown
 
 -- the same, or memory ran out, and `fault memory` is the text
 abbrev pub SaidAtMost : Status → Status → Option (List ℕ) → Option (List ℕ) → List ℕ → Type 0

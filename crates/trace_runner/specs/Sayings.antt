@@ -1,5 +1,5 @@
 -- What commands say that read no trace.
-use Rattle.std.specs.Prelude.{ℕ, Bool, true, false, List, Option, Some, None, if◌then◌else◌}
+use Rattle.std.specs.Prelude.{ℕ, Bool, true, false, List, Option, Some, None}
 use Rattle.command_line.specs.declared.command.Command.{Command}
 use Rattle.command_line.specs.declared.command.Command.TheVariants.{
   Replay,
@@ -12,16 +12,16 @@ use Rattle.command_line.specs.declared.command.Command.TheVariants.{
 }
 use Rattle.command_line.specs.declared.command.Size.{Size}
 use Rattle.trace_gen.specs.Text.{gen_text}
-use Rattle.trace_runner.specs.Size.{is_size}
 use Rattle.trace_runner.specs.Soak.{soak_of}
-use Rattle.trace_runner.specs.Text.{job_refused_text, usage_text, version_text, help_text}
+use Rattle.trace_runner.specs.Text.{usage_text, version_text, help_text}
 use Rattle.trace_runner.specs.Status.{verdict_status}
 use Rattle.trace_runner.specs.declared.status.Status.{Status}
-use Rattle.trace_runner.specs.declared.status.Status.TheVariants.{Ok, Usage, NotBuilt}
+use Rattle.trace_runner.specs.declared.status.Status.TheVariants.{Ok, Usage}
 
 -- whether a command reads a trace from the source
 abbrev pub reads_trace : Command → Bool
 reads_trace (Replay shows_state) = true
+reads_trace (Race shows_state) = true
 reads_trace command = false
 
 -- how a command ends, and its text
@@ -40,19 +40,12 @@ abbrev pub summed : Size → Saying
 summed size =
     record { status = verdict_status (soak_of size).end; text = (soak_of size).text }
 
--- where the trace is no larger than one may be
-abbrev pub generated_or_usage : Size → Saying
-generated_or_usage size = if is_size size then generated size else usage
-
-abbrev pub summed_or_usage : Size → Saying
-summed_or_usage size = if is_size size then summed size else usage
-
 -- what a command says that reads no trace
 abbrev pub saying_of : Command → Option Saying
 saying_of (Replay shows_state) = None
-saying_of (Race shows_state) = Some (record { status = NotBuilt 0; text = job_refused_text })
-saying_of (Gen size) = Some (generated_or_usage size)
-saying_of (Soak size) = Some (summed_or_usage size)
+saying_of (Race shows_state) = None
+saying_of (Gen size) = Some (generated size)
+saying_of (Soak size) = Some (summed size)
 saying_of Help = Some (record { status = Ok; text = help_text })
 saying_of Version = Some (record { status = Ok; text = version_text })
 saying_of Unknown = Some usage

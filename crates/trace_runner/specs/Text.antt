@@ -1,10 +1,6 @@
 -- The texts that are the program's own.
 use Rattle.std.specs.Prelude.{ℕ, List, ◌++◌, codes}
 
--- a job that isn't built
-unfoldable pub job_refused_text : List ℕ
-job_refused_text = codes "refused 0 notbuilt\n"
-
 -- how the program is called
 unfoldable pub usage_text : List ℕ
 usage_text = codes "usage: clockboard replay|race [--state] | gen|soak KEY RECORDS CPUS\n"
@@ -22,7 +18,7 @@ help_text = codes "clockboard: the time hardware that a virtual machine monitor 
     ++ codes "\n"
     ++ codes "replay     answers a trace from standard input, record by record:\n"
     ++ codes "           replies, edges of the interrupt lines, and a final line\n"
-    ++ codes "race       the same, with each processor on a thread of its own (not built yet)\n"
+    ++ codes "race       the same, with each processor on a thread of its own\n"
     ++ codes "gen        prints a generated trace: KEY is any number of 64 bits,\n"
     ++ codes "           RECORDS is 0 to 200000, CPUS is 1 to 16\n"
     ++ codes "soak       answers that trace and prints: soak RECORDS EDGES TIME GREATEST\n"
@@ -40,7 +36,6 @@ help_text = codes "clockboard: the time hardware that a virtual machine monitor 
     ++ codes "  7   a time is 2^59 ns or more\n"
     ++ codes "  8   the board has answered 2^62 accesses\n"
     ++ codes "  9   a page, or the wall clock's words, had its last version\n"
-    ++ codes "  10  a job isn't built yet\n"
     ++ codes "  11  the words are no text\n"
     ++ codes "\n"
     ++ codes "docs/FORMATS.md has the trace, the printed lines and the saved state.\n"

@@ -38,15 +38,18 @@
 //! ```
 #![tactic(auto)]
 
+mod check;
 mod deliveries;
 mod generate;
 mod moves;
 mod program;
+mod race;
 mod records;
 mod replay;
 mod soak;
 mod status;
 mod texts;
+mod trace;
 
 pub use program::run;
 pub use status::Status;

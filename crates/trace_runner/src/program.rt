@@ -4,7 +4,6 @@ ghost use Rattle.std.specs.Prelude.{
   ◌≢◌,
   ℕ,
   Bool,
-  ◌≤◌,
   ◌-◌,
   List,
   ◌⊎◌,
@@ -16,31 +15,32 @@ ghost use Rattle.std.specs.Prelude.{
 };
 ghost use Rattle.std.specs.String.{string_bytes};
 ghost use Rattle.board_io.specs.Faults.{Rose};
-ghost use Rattle.command_line.specs.Command.{command_of};
-ghost use Rattle.command_line.specs.declared.command.Command.TheVariants.{Replay as ReplayOf};
+ghost use Rattle.command_line.specs.Command.{command_of, HasSize};
+ghost use Rattle.command_line.specs.declared.command.Command.TheVariants.{Replay as ReplayOf, Race as RaceOf};
 ghost use Rattle.trace_loop.specs.Text.{memory_fault_text};
 ghost use Rattle.trace_runner.specs.Said.{Said, SaidAtMost};
 ghost use Rattle.trace_runner.specs.Sayings.{
   Saying,
   reads_trace,
   saying_of,
-  generated_or_usage,
-  summed_or_usage,
 };
 ghost use Rattle.trace_runner.specs.Status.{Shown};
 ghost use Rattle.trace_runner.specs.Replay.{progress_behind, replay_run};
+ghost use Rattle.trace_runner.specs.Check.{check_behind};
+ghost use Rattle.trace_runner.specs.Race.{RaceLeaves, check_run};
 
-use crate::generate::{generate, is_size};
+use crate::generate::generate;
+use crate::race::race;
 use crate::replay::Replay;
 use crate::soak::run_soak;
 use crate::status::{Status, status_of};
-use crate::texts::{HELP, JOB_NOT_BUILT, MEMORY_FAULT, USAGE, VERSION};
-use board_io::{Failed, Gate, Sink, Source};
-use command_line::{Command, Size, command_of};
+use crate::texts::{HELP, USAGE, VERSION};
+use board_io::{Gate, Sink, Source};
+use command_line::{Command, command_of};
 use std::alloc::Global;
 use std::sync::Wait;
 use std::thread::Threads;
-use trace_loop::{answer_lines, put_all};
+use trace_loop::{MEMORY_FAULT, answer_lines, say};
 
 /// Runs the program on its words (those behind its name): the job `replay` reads a trace from `source`, and writes
 /// what it answers to `sink`, in pieces as large as the source's.
@@ -48,8 +48,9 @@ use trace_loop::{answer_lines, put_all};
 /// Each line whose end was taken is answered before more is taken. Nothing is taken behind the piece that ended the
 /// trace: by the line `end`, by a line that is refused, or by a line that is too long.
 ///
-/// `rt` and `gate` are for the processors' threads of the job `race`, which isn't built yet: no thread is started, and
-/// nobody waits.
+/// The job `race` reads and checks the whole trace first, and writes nothing but the line that is refused. Then each of
+/// its phases, which a save or a move ends, runs on one thread a processor, which `rt` starts; `gate` is called around
+/// each record. What a phase prints is put in the order of the processors.
 ///
 /// # Statuses
 ///
@@ -60,17 +61,16 @@ use trace_loop::{answer_lines, put_all};
 /// - `OutOfRange`: the time of that line's count, or that behind a move's gap, is 2^59 ns or more.
 /// - `VersionsSpent`: that line would publish a page, or the wall clock's words, behind the last version.
 /// - `Spent`: 2^62 accesses came before that line.
-/// - `NotBuilt`: with line 0, the job isn't built yet (`race`).
 /// - `SourceFault`, `SinkFault`: only where that end counted a fault in this call. What was written is then the blocks
 ///   of all whole lines given and `fault source`, or a beginning of what would be printed.
 /// - `NoMemory`: memory ran out; what was written is a beginning of what would be printed, and `fault memory`.
 pub fn run<R: Threads + Wait + Sync, S: Source, K: Sink, G: Gate + Sync>(
-    _rt: &R,
+    rt: &R,
     alloc: Global,
     words: &[String],
     source: &mut S,
     sink: &mut K,
-    _gate: &G,
+    gate: &G,
 ) -> Status
     // a trace that is replayed; or memory ran out as the words were read, and nothing was taken
     ensures replay { (shows_state : Bool)
@@ -90,6 +90,23 @@ pub fn run<R: Threads + Wait + Sync, S: Source, K: Sink, G: Gate + Sync>(
         ⊎ (source.new ≡ source.old) }
     ensures once { S.done source.old ≡ false → S.late source.old ≡ false
         → S.late source.new ≡ false }
+    // a trace whose processors run on threads of their own
+    ensures race { (shows_state : Bool)
+        → command_of (map string_bytes words.now) ≡ RaceOf shows_state
+        → (input : List ℕ) → S.remaining source.old ≡ Some input
+        → RaceLeaves (check_run shows_state input (S.before source.new - S.given source.old)
+        (S.given source.new - S.given source.old) (S.faults source.old) (S.faults source.new))
+        result (K.contents sink.old) (K.contents sink.new)
+        (Rose (K.faults sink.old) (K.faults sink.new))
+        ⊎ (Said Status.NoMemory result (K.contents sink.old) (K.contents sink.new)
+        memory_fault_text (Rose (K.faults sink.old) (K.faults sink.new))
+        × (source.new ≡ source.old)) }
+    ensures race_stopped { (shows_state : Bool)
+        → command_of (map string_bytes words.now) ≡ RaceOf shows_state
+        → (input : List ℕ) → S.remaining source.old ≡ Some input
+        → ((check_behind shows_state
+        (take (S.before source.new - S.given source.old) input)).end ≡ None)
+        ⊎ (source.new ≡ source.old) }
     // every other command
     ensures said { (saying : Saying)
         → saying_of (command_of (map string_bytes words.now)) ≡ Some saying
@@ -110,14 +127,16 @@ pub fn run<R: Threads + Wait + Sync, S: Source, K: Sink, G: Gate + Sync>(
         Ok(Command::Replay { shows_state }) => {
             status_of(answer_lines(alloc, &mut Replay::new(shows_state), source, sink))
         }
+        Ok(Command::Race { shows_state }) => race(rt, alloc, gate, shows_state, source, sink),
         Ok(command) => tell(alloc, command, sink),
-        Err(_) => say(sink, MEMORY_FAULT, Status::NoMemory),
+        Err(_) => say(sink, MEMORY_FAULT, Status::NoMemory, Status::SinkFault),
     }
 }
 
 /// Does a command that reads no trace.
 fn tell<K: Sink>(alloc: Global, command: Command, sink: &mut K) -> Status
-    requires { reads_trace command ≡ false }
+    requires trace { reads_trace command ≡ false }
+    requires size { HasSize command }
     ensures said { (saying : Saying) → saying_of command ≡ Some saying
         → SaidAtMost saying.status result (K.contents sink.old) (K.contents sink.new)
         saying.text (Rose (K.faults sink.old) (K.faults sink.new)) }
@@ -127,54 +146,15 @@ fn tell<K: Sink>(alloc: Global, command: Command, sink: &mut K) -> Status
     ensures sink_well { result ≢ Status.SinkFault → K.faults sink.new ≡ K.faults sink.old }
 {
     match command {
-        Command::Gen(size) => generate_sized(size, sink),
-        Command::Soak(size) => soak_sized(alloc, size, sink),
-        Command::Help => say(sink, HELP, Status::Ok),
-        Command::Version => say(sink, VERSION, Status::Ok),
-        Command::Race { .. } => say(sink, JOB_NOT_BUILT, Status::NotBuilt { line: 0 }),
-        Command::Unknown | Command::Replay { .. } => say(sink, USAGE, Status::Usage),
-    }
-}
-
-/// Writes the generated trace of this size, or the usage where there is none that large.
-#[tactic(auto, unfolding(crate::specs::Text::usage_text))]
-fn generate_sized<K: Sink>(size: Size, sink: &mut K) -> Status
-    ensures said { Said (generated_or_usage size).status result (K.contents sink.old)
-        (K.contents sink.new) (generated_or_usage size).text
-        (Rose (K.faults sink.old) (K.faults sink.new)) }
-    ensures sink_well { result ≢ Status.SinkFault → K.faults sink.new ≡ K.faults sink.old }
-{
-    if is_size(&size) {
-        generate(size, sink)
-    } else {
-        say(sink, USAGE, Status::Usage)
-    }
-}
-
-/// Writes the sum of a soak over that trace, or the usage.
-#[tactic(auto, unfolding(crate::specs::Text::usage_text))]
-fn soak_sized<K: Sink>(alloc: Global, size: Size, sink: &mut K) -> Status
-    ensures said { SaidAtMost (summed_or_usage size).status result (K.contents sink.old)
-        (K.contents sink.new) (summed_or_usage size).text
-        (Rose (K.faults sink.old) (K.faults sink.new)) }
-    ensures sink_well { result ≢ Status.SinkFault → K.faults sink.new ≡ K.faults sink.old }
-{
-    if is_size(&size) {
-        run_soak(alloc, size, sink)
-    } else {
-        say(sink, USAGE, Status::Usage)
-    }
-}
-
-/// Writes a text and ends with a status, or with a fault of the sink.
-pub(crate) fn say<K: Sink>(sink: &mut K, text: &[u8], status: Status) -> Status
-    ensures said { Said status result (K.contents sink.old) (K.contents sink.new) text.now
-        (Rose (K.faults sink.old) (K.faults sink.new)) }
-    ensures sink_well { result ≢ Status.SinkFault → K.faults sink.new ≡ K.faults sink.old }
-    ensures counted { K.faults sink.old ≤ K.faults sink.new }
-{
-    match put_all(sink, text) {
-        Ok(()) => status,
-        Err(Failed) => Status::SinkFault,
+        Command::Gen(size) => generate(size, sink),
+        Command::Soak(size) => run_soak(alloc, size, sink),
+        Command::Help => say(sink, HELP, Status::Ok, Status::SinkFault),
+        Command::Version => say(sink, VERSION, Status::Ok, Status::SinkFault),
+        Command::Unknown | Command::Replay { .. } | Command::Race { .. } => say(
+            sink,
+            USAGE,
+            Status::Usage,
+            Status::SinkFault,
+        ),
     }
 }

@@ -9,8 +9,9 @@ ghost use Rattle.trace_runner.specs.Ready.{JobSuits};
 use crate::deliveries::{Deliveries, edge_lines};
 use crate::moves::{NewHost, answer_move, answer_save};
 use crate::status::{Verdict, refuse, refused_access, refused_time};
-use board_core::{Access, BoardState};
+use board_core::{Access, BoardState, Reply, Value};
 use clk_units::NoMemory;
+use irq_edges::EdgeList;
 use reply_text::{board_line, clock_line, page_line};
 use trace_text::{Job, Record};
 
@@ -66,8 +67,16 @@ fn answer_access(
         ≡ state_behind (board_answer line cpu h access deliveries.now board.old) board.old) }
     ensures err { OnErr result (StartsWith out.new.items out.old.items) }
 {
-    match board.access(cpu, h, access) {
-        Ok(reply) => {
+    // The reply is made where it lies, since its list of edges is large.
+    let mut reply = Reply {
+        number: 0,
+        value: Value::Nothing,
+        edges: EdgeList::new(),
+    };
+    match board.answer(cpu, h, access, &mut reply.edges) {
+        Ok(value) => {
+            reply.number = board.accesses();
+            reply.value = value;
             edge_lines(reply.edges.as_slice(), deliveries, out)?;
             board_line(line, &reply, out)?;
             Ok(None)

@@ -35,7 +35,7 @@ pub(crate) struct Replay {
 }
 
 /// The board before `begin`.
-fn opening() -> Setup
+pub(crate) fn opening() -> Setup
     ensures { result ≡ opening }
 {
     Setup {
@@ -81,7 +81,7 @@ impl Replay {
     }
 
     /// The header is whole: the board is made.
-    fn begin(&mut self, header: &Header)
+    pub(crate) fn begin(&mut self, header: &Header)
         requires { Suits (Item.Begun header.now) self.old.board }
         ensures board { self.new.board ≡ board_of header.now.begin }
         ensures deliveries { self.new.deliveries ≡ deliveries_of header.now.routes }
@@ -127,7 +127,7 @@ impl Replay {
 
 impl Replay {
     /// Answers a record.
-    fn answer_record(
+    pub(crate) fn answer_record(
         &mut self,
         line: u64,
         record: &Record,
@@ -173,7 +173,7 @@ impl Replay {
 }
 
 /// Appends what ends a trace: its last line, and the state where it is shown.
-fn end(board: &BoardState, shows_state: bool, out: &mut Vec<u8>) -> Result<(), NoMemory>
+pub(crate) fn end(board: &BoardState, shows_state: bool, out: &mut Vec<u8>) -> Result<(), NoMemory>
     ensures printed { OnOk result
         (out.new.items ≡ out.old.items ++ (ended shows_state board.now).text) }
     ensures err { OnErr result (StartsWith out.new.items out.old.items) }

@@ -1,7 +1,7 @@
 //! A generated trace that is replayed, of which only a sum is printed.
 ghost use Rattle.std.specs.Prelude.{◌≡◌, ◌≢◌, ◌<◌, ◌≤◌, ◌++◌, take, drop, vec_len, OnOk, OnErr};
 ghost use Rattle.board_io.specs.Faults.{Rose};
-ghost use Rattle.trace_runner.specs.Size.{IsSize};
+ghost use Rattle.command_line.specs.Command.{IsSize};
 ghost use Rattle.trace_runner.specs.Soak.{soak_of, is_edge, edges_in, Soaked};
 
 use crate::replay::Replay;
@@ -143,9 +143,9 @@ impl Answerer<Verdict> for Soak {
 #[cfg(test)]
 mod tests {
     use super::*;
-    use crate::generate::is_size;
     use board_io::MemSink;
     use std::test::Fail;
+    use trace_gen::{CPUS_MAX, RECORDS_MAX};
 
     /// The sums are those of a plain board that steps nanosecond by nanosecond.
     #[test]
@@ -157,7 +157,7 @@ mod tests {
         ];
         for (key, records, cpus, text) in soaks {
             let size = Size { key, records, cpus };
-            assert!(rt; is_size(&size));
+            assert!(rt; records <= RECORDS_MAX && 0 < cpus && cpus <= CPUS_MAX as u64);
             let mut sink = MemSink::new(rt.alloc(), Vec::new(rt.alloc()), 4096);
             assert_eq!(rt; run_soak(rt.alloc(), size, &mut sink), Status::Ok);
             assert!(rt; sink.bytes() == text);

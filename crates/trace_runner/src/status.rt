@@ -2,7 +2,7 @@
 ghost use Rattle.std.specs.Prelude.{◌≡◌, ◌++◌, Some, IfOk, OnOk, OnErr};
 ghost use Rattle.reply_text.specs.Text.{refused_text};
 ghost use Rattle.trace_runner.specs.Records.{refused_by, refused_access, refused_fault};
-ghost use Rattle.trace_runner.specs.Status.{status_of, refused_status};
+ghost use Rattle.trace_runner.specs.Status.{status_of, refused_status, verdict_status};
 
 use board_core::Refusal;
 use clk_units::NoMemory;
@@ -88,13 +88,22 @@ fn refused_status(line: u64, why: Refused) -> Status
     Status::BadRecord { line, reason }
 }
 
+/// The status of how a trace ended.
+pub(crate) fn verdict_status(verdict: Verdict) -> Status
+    ensures { result ≡ verdict_status verdict }
+{
+    match verdict {
+        Verdict::Done => Status::Ok,
+        Verdict::Stopped { line, why } => refused_status(line, why),
+    }
+}
+
 /// The status of a run over a trace.
 pub(crate) fn status_of(ended: Ended<Verdict>) -> Status
     ensures { result ≡ status_of ended }
 {
     match ended {
-        Ended::By(Verdict::Done) => Status::Ok,
-        Ended::By(Verdict::Stopped { line, why }) => refused_status(line, why),
+        Ended::By(verdict) => verdict_status(verdict),
         Ended::SourceFault => Status::SourceFault,
         Ended::SinkFault => Status::SinkFault,
         Ended::NoMemory => Status::NoMemory,

@@ -6,6 +6,7 @@ ghost use Rattle.std.specs.Prelude.{◌<◌};
 use super::*;
 use crate::texts::HELP;
 use board_io::{MemSink, MemSource, OpenGate};
+use clk_units::RANGE_NS;
 use std::alloc::{AllocError, Global};
 use std::process::Abort;
 use std::sync::Wait;
@@ -207,7 +208,7 @@ fn the_first_line_outside_ends_a_trace(rt: HostRuntime) -> Result<(), Fail> {
             b"clockboard 1\nbegin\n0 576460752303423488 step\nend\n",
             Status::OutOfRange {
                 line: 3,
-                ns: 576_460_752_303_423_488,
+                ns: u128::from(RANGE_NS),
             },
             b"refused 3 range 576460752303423488\n",
         ),
@@ -216,7 +217,7 @@ fn the_first_line_outside_ends_a_trace(rt: HostRuntime) -> Result<(), Fail> {
             b"clockboard 1\nbegin\n0 0 out 43 10\n0 0 out 40 01\n0 2000 move 1000000 0 576460752303421488\nend\n",
             Status::OutOfRange {
                 line: 5,
-                ns: 576_460_752_303_423_488,
+                ns: u128::from(RANGE_NS),
             },
             b"3 1\n4 2\nrefused 5 range 576460752303423488\n",
         ),
@@ -243,15 +244,6 @@ fn words(rt: HostRuntime) -> Result<(), Fail> {
     for words in unknown {
         expect(&rt, words, FIRST_RISE, &WELL, Status::Usage, usage)?;
     }
-    let status = Status::NotBuilt { line: 0 };
-    expect(
-        &rt,
-        &["race"],
-        FIRST_RISE,
-        &WELL,
-        status,
-        b"refused 0 notbuilt\n",
-    )?;
     expect(
         &rt,
         &["--version"],
@@ -296,36 +288,187 @@ fn a_guest_that_is_moved(rt: HostRuntime) -> Result<(), Fail> {
     Ok(())
 }
 
+/// The lines of `FIRST_RISE`, each with what it prints.
+const FIRST_RISE_LINES: [(&[u8], &[u8]); 9] = [
+    (b"clockboard 1\n", b""),
+    (b"begin\n", b""),
+    (b"0 0 out 43 34\n", b"3 1\n"),
+    (b"0 0 out 40 04\n", b"4 2\n"),
+    (b"0 0 out 40 00\n", b"5 3\n"),
+    (b"0 5000 step\n", b"edge 4191 0 up\n6 4\n"),
+    (b"0 5000 in 40\n", b"7 5 04\n"),
+    (b"0 5000 in 40\n", b"8 6 00\n"),
+    (b"end\n", b"final 5000 6 0 0\n"),
+];
+
+/// The lines of `MOVED`, each with what it prints.
+const MOVED_LINES: [(&[u8], &[u8]); 12] = [
+    (b"clockboard 1\n", b""),
+    (b"guest 2000000\n", b""),
+    (b"begin\n", b""),
+    (b"0 0 out 43 34\n", b"4 1\n"),
+    (b"0 0 out 40 00\n", b"5 2\n"),
+    (b"0 0 out 40 00\n", b"6 3\n"),
+    (b"0 0 wrmsr 4b564d01 1\n", b"7 4\n"),
+    (b"0 1000 clock 0\n", b"8 clock 1000 1000\n"),
+    (
+        b"0 2000 move 3000000 500 1000000000\n",
+        b"edge 54926240 0 up\n9 5 moved 1000002000\n",
+    ),
+    (b"0 3500 clock 0\n", b"10 clock 1000003000 1000003000\n"),
+    (b"0 3500 counts pit\n", b"11 6 18 1 17 0\n"),
+    (b"end\n", b"final 1000003000 6 1000003000 0\n"),
+];
+
+/// What a source is to have printed that fails behind so many bytes of these lines: the blocks of the whole lines
+/// among them, and the word of the fault.
+fn cut_off(alloc: Global, lines: &[(&[u8], &[u8])], bytes: usize) -> Result<Vec<u8>, AllocError> {
+    let mut given = Vec::new(alloc);
+    let mut text = Vec::new(alloc);
+    for (line, block) in lines {
+        given.extend_from_slice(line)?;
+        if given.len() <= bytes {
+            text.extend_from_slice(block)?;
+        }
+    }
+    text.extend_from_slice(b"fault source\n")?;
+    Ok(text)
+}
+
 #[test]
-fn a_source_that_fails(rt: HostRuntime) -> Result<(), Fail> {
-    // The end of line 3 is byte 33, and the end of the last line byte 103.
-    let runs: [(&[u64], Status, &[u8]); 4] = [
-        (&[1], Status::SourceFault, b"fault source\n"),
-        (&[33], Status::SourceFault, b"fault source\n"),
-        (&[34], Status::SourceFault, b"3 1\nfault source\n"),
-        (&[104], Status::Ok, FIRST_RISE_TEXT),
+fn a_source_that_fails_at_each_call(rt: HostRuntime) -> Result<(), Fail> {
+    let traces: [(&[u8], &[(&[u8], &[u8])]); 2] = [
+        (FIRST_RISE, &FIRST_RISE_LINES),
+        (MOVED, &MOVED_LINES),
     ];
-    for (source_fails, status, text) in runs {
-        let ends = Ends {
-            source_fails,
-            source_piece: 1,
-            ..WELL
-        };
-        expect(&rt, &["replay"], FIRST_RISE, &ends, status, text)?;
+    for (trace, lines) in traces {
+        for bytes in 0..trace.len() {
+            let text = cut_off(rt.alloc(), lines, bytes)?;
+            let ends = Ends {
+                source_fails: &[bytes as u64 + 1],
+                source_piece: 1,
+                ..WELL
+            };
+            expect(&rt, &["replay"], trace, &ends, Status::SourceFault, &text)?;
+        }
     }
     Ok(())
 }
 
 #[test]
-fn a_sink_that_fails(rt: HostRuntime) -> Result<(), Fail> {
-    let runs: [(&[u64], &[u8]); 2] = [(&[1], b""), (&[5], b"3 1\n")];
-    for (sink_fails, text) in runs {
-        let ends = Ends {
-            sink_fails,
-            sink_piece: 1,
-            ..WELL
-        };
-        expect(&rt, &["replay"], FIRST_RISE, &ends, Status::SinkFault, text)?;
+fn a_sink_that_fails_at_each_call(rt: HostRuntime) -> Result<(), Fail> {
+    let runs: [(&[&str], &[u8], &[u8]); 3] = [
+        (&["replay"], FIRST_RISE, FIRST_RISE_TEXT),
+        (&["replay"], MOVED, MOVED_TEXT),
+        (&["gen", "1", "1", "1"], b"", GENERATED),
+    ];
+    for (words, trace, text) in runs {
+        for bytes in 0..text.len() {
+            let ends = Ends {
+                sink_fails: &[bytes as u64 + 1],
+                sink_piece: 1,
+                ..WELL
+            };
+            expect(&rt, words, trace, &ends, Status::SinkFault, &text[..bytes])?;
+        }
     }
+    Ok(())
+}
+
+#[test]
+fn a_fault_behind_the_last_call(rt: HostRuntime) -> Result<(), Fail> {
+    // The trace has 103 bytes, and its text 62.
+    let ends = Ends {
+        source_fails: &[104],
+        source_piece: 1,
+        sink_fails: &[63],
+        sink_piece: 1,
+    };
+    expect(
+        &rt,
+        &["replay"],
+        FIRST_RISE,
+        &ends,
+        Status::Ok,
+        FIRST_RISE_TEXT,
+    )?;
+    Ok(())
+}
+
+#[test]
+fn a_race_of_one_processor_is_its_replay(rt: HostRuntime) -> Result<(), Fail> {
+    let ends = Ends {
+        source_piece: 7,
+        sink_piece: 7,
+        ..WELL
+    };
+    expect(
+        &rt,
+        &["race"],
+        FIRST_RISE,
+        &ends,
+        Status::Ok,
+        FIRST_RISE_TEXT,
+    )?;
+    expect(&rt, &["race"], MOVED, &WELL, Status::Ok, MOVED_TEXT)?;
+    Ok(())
+}
+
+#[test]
+fn a_race_prints_a_refusal_alone(rt: HostRuntime) -> Result<(), Fail> {
+    let status = Status::BadRecord {
+        line: 4,
+        reason: Reason::CounterFell { before: 5 },
+    };
+    expect(
+        &rt,
+        &["race"],
+        b"clockboard 1\nbegin\n0 5 step\n0 4 step\nend\n",
+        &WELL,
+        status,
+        b"refused 4 fell 5\n",
+    )?;
+    let ends = Ends {
+        source_fails: &[2],
+        source_piece: 30,
+        ..WELL
+    };
+    expect(
+        &rt,
+        &["race"],
+        FIRST_RISE,
+        &ends,
+        Status::SourceFault,
+        b"fault source\n",
+    )?;
+    let ends = Ends {
+        sink_fails: &[2],
+        sink_piece: 3,
+        ..WELL
+    };
+    expect(&rt, &["race"], FIRST_RISE, &ends, Status::SinkFault, b"3 1")?;
+    Ok(())
+}
+
+/// Two processors: the numbers of their accesses are 1, 2 and 3 in some order, in which the second one's first comes
+/// before its second.
+#[test]
+fn a_race_of_two_processors(rt: HostRuntime) -> Result<(), Fail> {
+    let trace =
+        b"clockboard 1\nguest 2000000\ncpus 2\nbegin\n0 0 wrmsr 4b564d01 1\n1 0 step\n0 1000 clock 0\n1 900 step\nend\n";
+    let texts: [&[u8]; 3] = [
+        b"5 1\n7 clock 1000 1000\n6 2\n8 3\nfinal 900 3 1000 -\n",
+        b"5 2\n7 clock 1000 1000\n6 1\n8 3\nfinal 900 3 1000 -\n",
+        b"5 3\n7 clock 1000 1000\n6 1\n8 2\nfinal 900 3 1000 -\n",
+    ];
+    let alloc = rt.alloc();
+    let words = strings(alloc, &["race"])?;
+    let bytes = Vec::from_slice(alloc, trace)?;
+    let mut source = MemSource::new(bytes, Vec::new(alloc), 4096);
+    let mut sink = MemSink::new(alloc, Vec::new(alloc), 4096);
+    let got = run(&rt, alloc, &words, &mut source, &mut sink, &OpenGate);
+    assert_eq!(rt; got, Status::Ok);
+    let told = sink.bytes();
+    assert!(rt; told == texts[0] || told == texts[1] || told == texts[2]);
     Ok(())
 }

@@ -7,12 +7,6 @@ pub(crate) const USAGE: &[u8] =
 /// Its version.
 pub(crate) const VERSION: &[u8] = b"clockboard 0.1.0\n";
 
-/// The text of a job that isn't built yet.
-pub(crate) const JOB_NOT_BUILT: &[u8] = b"refused 0 notbuilt\n";
-
-/// What is printed where memory ran out before a line was taken.
-pub(crate) const MEMORY_FAULT: &[u8] = b"fault memory\n";
-
 /// What it is, its words, and how it ends.
 pub(crate) const HELP: &[u8] = b"\
 clockboard: the time hardware that a virtual machine monitor shows a PC guest\n\
@@ -22,7 +16,7 @@ usage: clockboard replay|race [--state] < TRACE\n\
 \n\
 replay     answers a trace from standard input, record by record:\n\
 \x20          replies, edges of the interrupt lines, and a final line\n\
-race       the same, with each processor on a thread of its own (not built yet)\n\
+race       the same, with each processor on a thread of its own\n\
 gen        prints a generated trace: KEY is any number of 64 bits,\n\
 \x20          RECORDS is 0 to 200000, CPUS is 1 to 16\n\
 soak       answers that trace and prints: soak RECORDS EDGES TIME GREATEST\n\
@@ -40,7 +34,6 @@ exit status:\n\
 \x20 7   a time is 2^59 ns or more\n\
 \x20 8   the board has answered 2^62 accesses\n\
 \x20 9   a page, or the wall clock's words, had its last version\n\
-\x20 10  a job isn't built yet\n\
 \x20 11  the words are no text\n\
 \n\
 docs/FORMATS.md has the trace, the printed lines and the saved state.\n\

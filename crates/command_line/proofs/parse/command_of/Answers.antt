@@ -14,12 +14,15 @@ use Rattle.clap.specs.Words.{
 }
 use Rattle.clap.specs.declared.error.kind.ErrorKind.{ErrorKind}
 use Rattle.clap.specs.declared.error.kind.ErrorKind.TheVariants.{OutOfMemory}
-use Rattle.command_line.specs.Command.{app, refused_for}
+use Rattle.std.proofs.lemmas.Result.{IfOk-weaker}
+use Rattle.command_line.specs.Command.{app, refused_for, HasSize}
+use Rattle.command_line.specs.declared.command.Command.{Command}
+use Rattle.command_line.proofs.Sizes.{HasSize-command}
 use Rattle.command_line.proofs.Parsed.{took, answered, named}
 use Rattle.command_line.proofs.parse.command_of.Goals as goal
 
-pub returns-in-Ok-try_get_matches_from : goal.returns-in-Ok-try_get_matches_from
-returns-in-Ok-try_get_matches_from c =
+pub returns-in-Ok-try_get_matches_from-clause-command : goal.returns-in-Ok-try_get_matches_from-clause-command
+returns-in-Ok-try_get_matches_from-clause-command c =
     let words : List Text = map (string_bytes {Z = _}) c.args.words.now in
     let m = c.in-Ok-try_get_matches_from.matches in
     let app_is : app_of c.in-Ok.command ≡ app = c.in-Ok.ensures in
@@ -34,8 +37,8 @@ returns-in-Ok-try_get_matches_from c =
     n.job n.key n.records n.cpus n.state
     ∙ took words m none rows
 
-pub returns-in-Err-try_get_matches_from : goal.returns-in-Err-try_get_matches_from
-returns-in-Err-try_get_matches_from c =
+pub returns-in-Err-try_get_matches_from-clause-command : goal.returns-in-Err-try_get_matches_from-clause-command
+returns-in-Err-try_get_matches_from-clause-command c =
     let app_is : app_of c.in-Ok.command ≡ app = c.in-Ok.ensures in
     let free : is_simple_and_free (app_of c.in-Ok.command) ≡ true = ap is_simple_and_free app_is ∙ refl in
     let words : List Text = map (string_bytes {Z = _}) c.args.words.now in
@@ -45,3 +48,14 @@ returns-in-Err-try_get_matches_from c =
     answered words e c.refused_for.result has
     (subst (λ (k : ErrorKind). IfOk c.refused_for.result (λ x. x ≡ refused_for k)) c.kind.ensures c.refused_for.ensures.command)
     (subst (λ (k : ErrorKind). OnOk c.refused_for.result (k ≢ OutOfMemory)) c.kind.ensures c.refused_for.ensures.memory)
+
+pub returns-in-Ok-try_get_matches_from-clause-size : goal.returns-in-Ok-try_get_matches_from-clause-size
+returns-in-Ok-try_get_matches_from-clause-size c =
+    let words : List Text = map (string_bytes {Z = _}) c.args.words.now in
+    let given = returns-in-Ok-try_get_matches_from-clause-command c in
+    subst HasSize (sym given) (HasSize-command words)
+
+pub returns-in-Err-try_get_matches_from-clause-size : goal.returns-in-Err-try_get_matches_from-clause-size
+returns-in-Err-try_get_matches_from-clause-size c =
+    IfOk-weaker c.refused_for.result _ _ (λ (x : Command) e. subst HasSize (sym e) (HasSize-command (map (string_bytes {Z = _}) c.args.words.now)))
+    (returns-in-Err-try_get_matches_from-clause-command c)

@@ -21,10 +21,13 @@ use Rattle.trace_loop.specs.Progress.{opened, behind}
 use Rattle.trace_loop.specs.Text.{memory_fault_text}
 use Rattle.trace_loop.specs.Outcome.{Outcome, run_of}
 use Rattle.trace_runner.specs.Replay.{answer_of, closing_of, progress_behind, replay, replay_run}
+use Rattle.trace_runner.specs.Check.{check_behind}
+use Rattle.trace_runner.specs.Race.{RaceLeaves, check_run}
+use Rattle.board_io.specs.Faults.{Rose}
 use Rattle.trace_runner.specs.declared.replay.Replay.{Replay}
 use Rattle.trace_runner.specs.Status.{Shown}
 use Rattle.trace_runner.specs.declared.status.Status.{Status}
-use Rattle.trace_runner.proofs.Sayings.{asked-same}
+use Rattle.trace_runner.proofs.Sayings.{asked-same, raced-same}
 use Rattle.trace_runner.proofs.Statuses.{shown_is}
 use Rattle.trace_runner.proofs.program.run.Goals as goal
 
@@ -36,7 +39,7 @@ returns-in-Ok-Replay-clause-replay g c = λ shows is input e.
     let faults : ℕ = g.S.Source.faults c.args.source.now in
     let faults_now : ℕ = g.S.Source.faults c.answer_lines.new.source in
     let same : c.in-Ok-Replay.shows_state ≡ shows =
-    asked-same c.command_of.result (map string_bytes c.args.words.now) shows c.in-Ok-Replay.shows_state c.command_of.ensures
+    asked-same c.command_of.result (map string_bytes c.args.words.now) shows c.in-Ok-Replay.shows_state c.command_of.ensures.command
     (c.in-Ok-Replay.is ∙ ap (λ (x : Command). Ok x) c.in-Ok-Replay.field-0-is) is in
     let outcome : Outcome (replay_run c.in-Ok-Replay.shows_state input before given faults faults_now) c.answer_lines.result
     (g.K.Sink.contents c.args.sink.now) (g.K.Sink.contents c.answer_lines.new.sink) =
@@ -53,7 +56,7 @@ pub returns-in-Ok-Replay-clause-stopped : goal.returns-in-Ok-Replay-clause-stopp
 unfolding progress_behind
 returns-in-Ok-Replay-clause-stopped g c = λ shows is input e.
     let same : c.in-Ok-Replay.shows_state ≡ shows =
-    asked-same c.command_of.result (map string_bytes c.args.words.now) shows c.in-Ok-Replay.shows_state c.command_of.ensures
+    asked-same c.command_of.result (map string_bytes c.args.words.now) shows c.in-Ok-Replay.shows_state c.command_of.ensures.command
     (c.in-Ok-Replay.is ∙ ap (λ (x : Command). Ok x) c.in-Ok-Replay.field-0-is) is in
     inl (subst (λ (b : Bool). (progress_behind b (take (g.S.Source.before c.answer_lines.new.source - g.S.Source.given c.args.source.now) input)).end ≡ None) same
     (subst (λ (r : Replay). (behind answer_of (take (g.S.Source.before c.answer_lines.new.source - g.S.Source.given c.args.source.now) input) (opened r)).end
@@ -66,3 +69,26 @@ returns-in-Err-clause-replay g c = λ shows is input e. inr (c.say.ensures.said,
 pub returns-in-Err-clause-said : goal.returns-in-Err-clause-said
 unfolding memory_fault_text
 returns-in-Err-clause-said g c = λ saying is. inr c.say.ensures.said
+
+pub returns-in-Ok-Race-clause-race : goal.returns-in-Ok-Race-clause-race
+returns-in-Ok-Race-clause-race g c = λ shows is input e.
+    let before : ℕ = g.S.Source.before c.race.new.source - g.S.Source.given c.args.source.now in
+    let given : ℕ = g.S.Source.given c.race.new.source - g.S.Source.given c.args.source.now in
+    let same : c.in-Ok-Race.shows_state ≡ shows =
+    raced-same c.command_of.result (map string_bytes c.args.words.now) shows c.in-Ok-Race.shows_state c.command_of.ensures.command
+    (c.in-Ok-Race.is ∙ ap (λ (x : Command). Ok x) c.in-Ok-Race.field-0-is) is in
+    inl (subst (λ (b : Bool). RaceLeaves (check_run b input before given (g.S.Source.faults c.args.source.now) (g.S.Source.faults c.race.new.source))
+    c.race.result (g.K.Sink.contents c.args.sink.now) (g.K.Sink.contents c.race.new.sink)
+    (Rose (g.K.Sink.faults c.args.sink.now) (g.K.Sink.faults c.race.new.sink))) same (c.race.ensures.leaves input e))
+
+pub returns-in-Ok-Race-clause-race_stopped : goal.returns-in-Ok-Race-clause-race_stopped
+returns-in-Ok-Race-clause-race_stopped g c = λ shows is input e.
+    let same : c.in-Ok-Race.shows_state ≡ shows =
+    raced-same c.command_of.result (map string_bytes c.args.words.now) shows c.in-Ok-Race.shows_state c.command_of.ensures.command
+    (c.in-Ok-Race.is ∙ ap (λ (x : Command). Ok x) c.in-Ok-Race.field-0-is) is in
+    inl (subst (λ (b : Bool). (check_behind b (take (g.S.Source.before c.race.new.source - g.S.Source.given c.args.source.now) input)).end ≡ None) same
+    (c.race.ensures.stopped input e))
+
+pub returns-in-Err-clause-race : goal.returns-in-Err-clause-race
+unfolding memory_fault_text
+returns-in-Err-clause-race g c = λ shows is input e. inr (c.say.ensures.said, refl)

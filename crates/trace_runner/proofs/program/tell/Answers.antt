@@ -1,7 +1,7 @@
 use Rattle.std.proofs.Common.{◌∙◌, ap, sym, inl, inr, true≢false}
-use Rattle.trace_runner.specs.Text.{help_text, version_text, usage_text, job_refused_text}
+use Rattle.trace_runner.specs.Text.{help_text, version_text, usage_text}
 use Rattle.trace_runner.specs.Sayings.{reads_trace, saying_of, usage}
-use Rattle.trace_runner.specs.declared.status.Status.TheVariants.{Ok, NotBuilt}
+use Rattle.trace_runner.specs.declared.status.Status.TheVariants.{Ok}
 use Rattle.trace_runner.proofs.Sayings.{said-whole}
 use Rattle.trace_runner.proofs.program.tell.Goals as goal
 
@@ -16,16 +16,13 @@ returns-in-Version-clause-said g c = λ saying is.
     said-whole (record { status = Ok; text = version_text }) saying c.say-in-Version.result _ _ _ (ap saying_of (sym c.in-Version.is) ∙ is)
     c.say-in-Version.ensures.said
 
-pub returns-in-Race-clause-said : goal.returns-in-Race-clause-said
-unfolding job_refused_text
-returns-in-Race-clause-said g c = λ saying is.
-    said-whole (record { status = NotBuilt 0; text = job_refused_text }) saying c.say-in-Race.result _ _ _ (ap saying_of (sym c.in-Race.is) ∙ is)
-    c.say-in-Race.ensures.said
-
 pub returns-in-Unknown-clause-said : goal.returns-in-Unknown-clause-said
 unfolding usage_text
 returns-in-Unknown-clause-said g c = λ saying is.
     elim c.in-Unknown.is [
       | inl unknown ↦ said-whole usage saying c.say-in-Unknown.result _ _ _ (ap saying_of (sym unknown) ∙ is) c.say-in-Unknown.ensures.said
-      | inr replay ↦ absurd (true≢false (sym (ap reads_trace replay.1) ∙ c.requires))
+      | inr trace ↦ elim trace [
+        | inl replay ↦ absurd (true≢false (sym (ap reads_trace replay.1) ∙ c.requires.trace))
+        | inr race ↦ absurd (true≢false (sym (ap reads_trace race.1) ∙ c.requires.trace))
+      ]
     ]

@@ -13,5 +13,6 @@ returns-then-self-eq0-clause-text c =
 pub returns-clause-text : goal.returns-clause-text
 returns-clause-text c =
     let more = records_text-more c.args.self.now.left (c.args.self.now.left - 1) c.args.self.now.cpus c.args.self.now.draws (omega arith) in
-    rw (c.requires.stage, c.record_line.ensures.value, c.draw.ensures.value, more) (append_assoc (record_text c.args.self.now.cpus (drawn c.args.self.now.draws))
+    rw (c.requires.stage, c.record_line.ensures.value, c.draw.ensures.value, more)
+    (append_assoc (record_text c.args.self.now.cpus (drawn c.args.self.now.draws))
     (records_text (c.args.self.now.left - 1) c.args.self.now.cpus (drawn c.args.self.now.draws)) end_text)

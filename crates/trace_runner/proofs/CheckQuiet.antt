@@ -1,0 +1,166 @@
+-- A check prints nothing but a refusal.
+use Rattle.std.proofs.Common.{
+  ◌≡◌,
+  ℕ,
+  ◌==◌,
+  ◌&&◌,
+  ltb,
+  leb,
+  Bool,
+  true,
+  false,
+  cond,
+  List,
+  [],
+  ◌∷◌,
+  ◌++◌,
+  length,
+  Option,
+  Some,
+  None,
+  Result,
+  Ok,
+  Err,
+  refl,
+  sym,
+  subst,
+}
+use Rattle.trace_text.specs.Lines.{taken}
+use Rattle.trace_text.specs.declared.faults.RecordFault.{RecordFault}
+use Rattle.trace_text.specs.declared.reading.Item.{Item}
+use Rattle.trace_text.specs.declared.reading.Item.TheVariants.{Skipped, Part, Begun, Next, End}
+use Rattle.trace_text.specs.declared.records.Record.{Record as Written}
+use Rattle.trace_loop.specs.Progress.{limit_of, Answer, Goes, Ends, Progress, opened, told, answered, checked, heard, heard_until, behind, closed, ran, finished_by}
+use Rattle.trace_runner.specs.Records.{stops, refused_by}
+use Rattle.trace_runner.specs.Replay.{record_answer}
+use Rattle.trace_runner.specs.Check.{
+  check_start,
+  has_form,
+  is_full,
+  too_many,
+  refusal,
+  checked_by,
+  record_checked,
+  item_checked,
+  fault_checked,
+  taken_checked,
+  read_on,
+  check_answer,
+  check_closing,
+  check_behind,
+  check,
+}
+use Rattle.trace_runner.specs.Checking.{Checking}
+use Rattle.trace_runner.specs.Trace.{TraceRead}
+use Rattle.trace_runner.specs.declared.check.Checked.{Checked}
+use Rattle.trace_runner.specs.declared.check.Checked.TheVariants.{Whole, Stopped}
+use Rattle.trace_runner.specs.declared.replay.Replay.{Replay}
+use Rattle.trace_runner.specs.declared.status.Verdict.{Verdict}
+
+-- nothing is printed before the end, nor with a whole trace
+abbrev Silent : Option Checked → List ℕ → Type 0
+Silent None text = text ≡ []
+Silent (Some (Whole trace)) text = text ≡ []
+Silent (Some (Stopped verdict)) text = Unit {0}
+
+abbrev SilentAnswer : Answer Checking Checked → Type 0
+SilentAnswer (Goes block s) = block ≡ []
+SilentAnswer (Ends closing) = Silent (Some closing.end) closing.text
+
+abbrev IsQuiet : Progress Checking Checked → Type 0
+IsQuiet p = Silent p.end p.printed
+
+-- by what a line is
+silent_by : (x : Answer Replay Verdict) (line : ℕ) (rec : Written) (s : Checking) → SilentAnswer (checked_by x line rec s)
+silent_by (Goes block r) line rec s = refl
+silent_by (Ends closing) line rec s = tt
+
+silent_record : (line : ℕ) (rec : Written) (s : Checking) → SilentAnswer (record_checked line rec s)
+silent_record line rec s = by_full (leb 200000 s.taken)
+  where
+    by_full : (t : Bool) → SilentAnswer (cond t (Ends (too_many line)) (checked_by (record_answer line rec s.replay) line rec s))
+    by_full true = tt
+    by_full false = silent_by (record_answer line rec s.replay) line rec s
+
+silent_fault : (line : ℕ) (fault : RecordFault) (s : Checking) → SilentAnswer (Ends (fault_checked line fault s))
+silent_fault line fault s = by_many (is_full s && has_form fault.reason)
+  where
+    by_many : (t : Bool) → SilentAnswer (Ends (cond t (too_many line) (refusal (stops fault.line (refused_by fault.reason)))))
+    by_many true = tt
+    by_many false = tt
+
+silent_item : (line : ℕ) (item : Item) (s : Checking) → SilentAnswer (item_checked line item s)
+silent_item line Skipped s = refl
+silent_item line Part s = refl
+silent_item line (Begun header) s = refl
+silent_item line (Next rec) s = silent_record line rec s
+silent_item line End s = refl
+
+silent_taken : (line : ℕ) (x : Result Item RecordFault) (s : Checking) → SilentAnswer (taken_checked line x s)
+silent_taken line (Ok item) s = silent_item line item s
+silent_taken line (Err fault) s = silent_fault line fault s
+
+silent_front : (e : Checked) (front text : List ℕ) → front ≡ [] → Silent (Some e) text → Silent (Some e) (front ++ text)
+silent_front (Whole trace) front text is silent = rw (is, silent) refl
+silent_front (Stopped verdict) front text is silent = tt
+
+-- by the bytes
+quiet-told : (a : Answer Checking Checked) (p : Progress Checking Checked) → SilentAnswer a → p.printed ≡ [] → IsQuiet (told a p)
+quiet-told (Goes block s) p silent is = rw (is, silent) refl
+quiet-told (Ends closing) p silent is = silent_front closing.end p.printed closing.text is silent
+
+quiet-answered : (p : Progress Checking Checked) → p.printed ≡ [] → IsQuiet (answered check_answer p)
+unfolding check_answer
+quiet-answered p is =
+    quiet-told (taken_checked p.line (taken p.state.replay.reading p.text) (read_on p.text p.state)) p
+    (silent_taken p.line (taken p.state.replay.reading p.text) (read_on p.text p.state)) is
+
+quiet-cond : (t : Bool) (a b : Progress Checking Checked) → IsQuiet a → IsQuiet b → IsQuiet (cond t a b)
+quiet-cond true a b x y = x
+quiet-cond false a b x y = y
+
+silent_none : (o : Option Checked) (text : List ℕ) → o ≡ None → text ≡ [] → Silent o text
+silent_none o text none is = subst (λ (e : Option Checked). Silent e text) (sym none) is
+
+quiet-heard : (b : ℕ) (p : Progress Checking Checked) → p.end ≡ None → p.printed ≡ [] → IsQuiet (heard check_answer b p)
+quiet-heard b p none is =
+    let longer : Progress Checking Checked = record p { text = p.text ++ b ∷ [] } in
+    quiet-cond (b == 10) (answered check_answer p) (checked check_answer longer) (quiet-answered p is)
+    (quiet-cond (ltb (limit_of longer.text) (length longer.text)) (answered check_answer longer) longer (quiet-answered longer is)
+    (silent_none p.end p.printed none is))
+
+quiet-until : (end : Option Checked) (b : ℕ) (p : Progress Checking Checked) → p.end ≡ end → IsQuiet p → IsQuiet (heard_until check_answer end b p)
+quiet-until None b p is quiet = quiet-heard b p is (subst (λ (e : Option Checked). Silent e p.printed) is quiet)
+quiet-until (Some e) b p is quiet = quiet
+
+quiet-behind : (bytes : List ℕ) (p : Progress Checking Checked) → IsQuiet p → IsQuiet (behind check_answer bytes p)
+quiet-behind [] p quiet = quiet
+quiet-behind (b ∷ bs) p quiet = quiet-behind bs (heard_until check_answer p.end b p) (quiet-until p.end b p refl quiet)
+
+quiet-closed : (text : List ℕ) (p : Progress Checking Checked) → p.end ≡ None → p.printed ≡ [] → IsQuiet (closed check_answer text p)
+quiet-closed [] p none is = silent_none p.end p.printed none is
+quiet-closed (b ∷ bs) p none is = quiet-answered p is
+
+silent_ran : (end : Option Checked) (p : Progress Checking Checked) → p.end ≡ end → IsQuiet p
+    → SilentAnswer (Ends (ran check_closing end p))
+silent_ran None p is quiet = tt
+silent_ran (Some e) p is quiet = subst (λ (x : Option Checked). Silent x p.printed) is quiet
+
+silent_finished : (end : Option Checked) (p : Progress Checking Checked) → p.end ≡ end → IsQuiet p
+    → SilentAnswer (Ends (finished_by check_answer check_closing end p))
+silent_finished None p is quiet =
+    let t : Progress Checking Checked = closed check_answer p.text p in
+    silent_ran t.end t refl (quiet-closed p.text p is (subst (λ (e : Option Checked). Silent e p.printed) is quiet))
+silent_finished (Some e) p is quiet = silent_ran (Some e) p is quiet
+
+silent_check : (shows_state : Bool) (bytes : List ℕ) → SilentAnswer (Ends (check shows_state bytes))
+unfolding check check_behind
+silent_check shows_state bytes =
+    let p : Progress Checking Checked = behind check_answer bytes (opened (check_start shows_state)) in
+    silent_finished p.end p refl (quiet-behind bytes (opened (check_start shows_state)) refl)
+
+-- a whole trace comes with no text
+pub silent_whole : (shows_state : Bool) (bytes : List ℕ) (trace : TraceRead) → (check shows_state bytes).end ≡ Whole trace
+    → (check shows_state bytes).text ≡ []
+silent_whole shows_state bytes trace is =
+    subst (λ (e : Checked). Silent (Some e) (check shows_state bytes).text) is (silent_check shows_state bytes)

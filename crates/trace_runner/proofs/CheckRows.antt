@@ -1,0 +1,58 @@
+-- Small rows that pin what a check does with a line.
+use Rattle.std.proofs.Common.{◌≡◌, [], ◌∷◌, refl}
+use Rattle.reply_text.specs.Text.{refused_text}
+use Rattle.reply_text.specs.declared.ends.Refused.TheVariants.{Form, Cpu, Many}
+use Rattle.trace_text.specs.declared.faults.Reason.TheVariants.{Form as OutOfForm, Cpu as NoSuchCpu}
+use Rattle.trace_text.specs.declared.records.Job.TheVariants.{Save, Move, Page}
+use Rattle.trace_text.specs.declared.records.Record.{Record as Written}
+use Rattle.trace_loop.specs.Progress.{Ends}
+use Rattle.trace_runner.specs.Check.{kept, record_checked, fault_checked, trace_of}
+use Rattle.trace_runner.specs.Checking.{Checking}
+use Rattle.trace_runner.specs.declared.check.Checked.TheVariants.{Stopped}
+use Rattle.race_phase.specs.declared.records.Call.TheVariants.{ReadPage}
+use Rattle.race_phase.specs.declared.phases.End.TheVariants.{
+  Finish,
+  Save as BySave,
+  Move as ByMove,
+}
+use Rattle.trace_runner.specs.declared.status.Verdict.TheVariants.{Stopped as StoppedAt}
+
+module _ (s : Checking) where
+  a_refusal_is_printed_alone : fault_checked 9 (record { line = 9; reason = OutOfForm }) (record s { taken = 4 })
+      ≡ record { text = refused_text 9 Form; end = Stopped (StoppedAt 9 Form) }
+  a_refusal_is_printed_alone = refl
+
+  -- behind 200,000 records
+  one_record_too_many : (rec : Written) → record_checked 200009 rec (record s { taken = 200000 })
+      ≡ Ends (record { text = refused_text 200009 Many; end = Stopped (StoppedAt 200009 Many) })
+  one_record_too_many rec = refl
+
+  it_comes_before_the_processor : fault_checked 200009 (record { line = 200009; reason = NoSuchCpu }) (record s { taken = 200000 })
+      ≡ record { text = refused_text 200009 Many; end = Stopped (StoppedAt 200009 Many) }
+  it_comes_before_the_processor = refl
+
+  a_line_out_of_form_is_no_record : fault_checked 200009 (record { line = 200009; reason = OutOfForm }) (record s { taken = 200000 })
+      ≡ record { text = refused_text 200009 Form; end = Stopped (StoppedAt 200009 Form) }
+  a_line_out_of_form_is_no_record = refl
+
+  the_last_record_may_have_any_reason : fault_checked 200008 (record { line = 200008; reason = NoSuchCpu }) (record s { taken = 199999 })
+      ≡ record { text = refused_text 200008 Cpu; end = Stopped (StoppedAt 200008 Cpu) }
+  the_last_record_may_have_any_reason = refl
+
+  -- phases: a page of processor 0 is read by 1, then the board is saved, and moved
+  abbrev first : Checking
+  first = kept 4 (record { cpu = 1; h = 700; job = Page 0 }) (record s { phases = []; last = []; taken = 0 })
+
+  abbrev saved : Checking
+  saved = kept 5 (record { cpu = 0; h = 900; job = Save }) first
+
+  abbrev moved : Checking
+  moved = kept 6 (record { cpu = 2; h = 950; job = Move 3000000 500 1000 }) saved
+
+  a_save_and_a_move_end_their_phases : (trace_of moved).phases
+      ≡ record { records = record { line = 4; cpu = 1; h = 700; call = ReadPage 0 } ∷ []; end = BySave 5 0 900 }
+      ∷ record { records = []; end = ByMove 6 2 950 (record { khz = 3000000; start = 500; gap = 1000 }) } ∷ record { records = []; end = Finish } ∷ []
+  a_save_and_a_move_end_their_phases = refl
+
+  all_three_are_records : moved.taken ≡ 3
+  all_three_are_records = refl

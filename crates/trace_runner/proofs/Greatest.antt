@@ -1,0 +1,40 @@
+-- A move goes past the greatest clock reading, and what it is refused doesn't depend on it.
+use Rattle.std.proofs.Common.{◌≡◌, ℕ, zero, suc, leb, cond, ◌+◌, Option, Some, refl, ap}
+use Rattle.clk_units.specs.declared.ranges.TheConstants.{RANGE_NS}
+use Rattle.board_types.specs.declared.parts.BoardParts.{BoardParts}
+use Rattle.board_core.specs.Pages.{published_at_host, with_greatest}
+use Rattle.board_core.specs.Reanchor.{reanchored}
+use Rattle.board_core.specs.Tsc.{processor_at}
+use Rattle.board_core.specs.Time.{now_of}
+use Rattle.transfer.specs.Move.{
+  published_below,
+  moved_to,
+  tsc_moved,
+  spent_below,
+  or_spent,
+  move_fault,
+}
+use Rattle.transfer.specs.declared.outcome.MoveFault.{MoveFault}
+use Rattle.transfer.specs.declared.outcome.MoveFault.TheVariants.{OutOfRange}
+
+published-greatest : (b : BoardParts) (khz start gap n : ℕ) (m : BoardParts) (g : ℕ)
+    → published_below (with_greatest b g) khz start gap n (with_greatest m g) ≡ with_greatest (published_below b khz start gap n m) g
+unfolding published_below published_at_host
+published-greatest b khz start gap zero m g = refl
+published-greatest b khz start gap (suc n) m g =
+    ap (λ (x : BoardParts). published_at_host n (tsc_moved b khz start gap n) 3 x) (published-greatest b khz start gap n m g)
+
+pub moved_to-greatest : (khz start gap : ℕ) (b : BoardParts) (g : ℕ)
+    → moved_to khz start gap (with_greatest b g) ≡ with_greatest (moved_to khz start gap b) g
+unfolding moved_to reanchored
+moved_to-greatest khz start gap b g = published-greatest b khz start gap b.cpus (reanchored khz start gap b) g
+
+spent-greatest : (b : BoardParts) (g n : ℕ) → spent_below (with_greatest b g) n ≡ spent_below b n
+unfolding spent_below
+spent-greatest b g zero = refl
+spent-greatest b g (suc n) = ap (λ (o : Option MoveFault). or_spent o n (processor_at b n).version) (spent-greatest b g n)
+
+pub move_fault-greatest : (gap : ℕ) (b : BoardParts) (g : ℕ) → move_fault gap (with_greatest b g) ≡ move_fault gap b
+unfolding move_fault
+move_fault-greatest gap b g =
+    ap (λ (o : Option MoveFault). cond (leb RANGE_NS (now_of b + gap)) (Some (OutOfRange (now_of b + gap))) o) (spent-greatest b g b.cpus)

@@ -1,0 +1,113 @@
+-- What a race leaves, by how its check ends.
+use Rattle.std.proofs.Common.{◌≡◌, ℕ, Bool, List, [], Option, None, inl, inr, sym, subst, ◌∙◌}
+use Rattle.std.specs.Io.KnownBytes.{Appends}
+use Rattle.std.proofs.KnownBytes.{Appends-trans}
+use Rattle.trace_loop.specs.Progress.{opened, behind}
+use Rattle.trace_loop.specs.Outcome.{Run, Outcome, run_of}
+use Rattle.trace_loop.specs.declared.ended.Ended.{Ended}
+use Rattle.trace_loop.specs.declared.ended.Ended.TheVariants.{By}
+use Rattle.reply_text.specs.declared.ends.Refused.TheVariants.{
+  Form,
+  Steal,
+  Cpu,
+  Fell,
+  State,
+  Long,
+  Many,
+  NoEnd,
+  Range,
+  Versions as LastVersion,
+  Spent as AllSpent,
+  NotBuilt as IsntBuilt,
+}
+use Rattle.trace_runner.specs.Checking.{Checking}
+use Rattle.trace_runner.specs.Check.{
+  check_start,
+  check_answer,
+  check_closing,
+  check_behind,
+  check,
+}
+use Rattle.trace_runner.specs.Race.{CheckedLeaves, RaceLeaves, check_run}
+use Rattle.trace_runner.specs.Said.{Said}
+use Rattle.trace_runner.specs.Status.{verdict_status}
+use Rattle.trace_runner.specs.Trace.{TraceRead}
+use Rattle.trace_runner.specs.declared.check.Checked.{Checked}
+use Rattle.trace_runner.specs.declared.check.Checked.TheVariants.{Whole, Stopped}
+use Rattle.trace_runner.specs.declared.status.Status.{Status}
+use Rattle.trace_runner.specs.declared.status.Status.TheVariants.{SourceFault, SinkFault}
+use Rattle.trace_runner.specs.declared.status.Verdict.{Verdict}
+use Rattle.trace_runner.specs.declared.status.Verdict.TheVariants.{Done, Stopped as StoppedAt}
+
+-- a text that is put behind nothing
+said_behind : (status result : Status) (old mid new : Option (List ℕ)) (text : List ℕ) (shown shown' : Type 0) → (shown → shown') → Appends old mid []
+    → Said status result mid new text shown → Said status result old new text shown'
+said_behind status result old mid new text shown shown' shows front said = elim said [
+  | inl all ↦ inl (all.0, Appends-trans old mid new [] text front all.1)
+  | inr cut ↦ inr (cut.0, shows cut.1, (cut.2.0, cut.2.1, Appends-trans old mid new [] cut.2.0 front cut.2.2))
+]
+
+-- the trace was read to its end, with no text
+pub whole_left : (w : Run Checking Checked) (t : TraceRead) (result : Status) (old mid new : Option (List ℕ)) (shown shown' : Type 0)
+    → (w.whole.end ≡ Whole t → w.whole.text ≡ []) → (shown → shown') → Outcome w (By (Whole t)) old mid
+    → CheckedLeaves (Whole t) [] result mid new shown → RaceLeaves w result old new shown'
+whole_left w t result old mid new shown shown' silent shows o left =
+    let front : Appends old mid [] = subst (λ (text : List ℕ). Appends old mid text) (o.1.1.0 ∙ silent (sym o.0)) o.1.2 in
+    let there : CheckedLeaves (Whole t) w.whole.text result old new shown' = elim left [
+      | inl done ↦ inl (done.0, done.1, said_behind _ result old mid new done.0 shown shown' shows front done.2)
+      | inr memory ↦ inr (said_behind _ result old mid new _ shown shown' shows front memory)
+    ] in
+    inl (o.1.1.1, subst (λ (x : Checked). CheckedLeaves x w.whole.text result old new shown') o.0 there)
+
+-- a line was refused
+pub stopped_left : (w : Run Checking Checked) (v : Verdict) (result : Status) (old new : Option (List ℕ)) (shown : Type 0) → result ≡ verdict_status v
+    → Outcome w (By (Stopped v)) old new → RaceLeaves w result old new shown
+stopped_left w v result old new shown is o =
+    inl (
+      o.1.1.1,
+      subst (λ (x : Checked). CheckedLeaves x w.whole.text result old new shown) o.0 (is, subst (λ (text : List ℕ). Appends old new text) o.1.1.0 o.1.2),
+    )
+
+-- no verdict is a fault
+pub verdict_no_source : (v : Verdict) → verdict_status v ≡ SourceFault → ⊥
+verdict_no_source Done is = cc
+verdict_no_source (StoppedAt line Form) is = cc
+verdict_no_source (StoppedAt line Steal) is = cc
+verdict_no_source (StoppedAt line Cpu) is = cc
+verdict_no_source (StoppedAt line (Fell before)) is = cc
+verdict_no_source (StoppedAt line (State at)) is = cc
+verdict_no_source (StoppedAt line Long) is = cc
+verdict_no_source (StoppedAt line Many) is = cc
+verdict_no_source (StoppedAt line NoEnd) is = cc
+verdict_no_source (StoppedAt line (Range ns)) is = cc
+verdict_no_source (StoppedAt line (LastVersion version)) is = cc
+verdict_no_source (StoppedAt line (AllSpent number)) is = cc
+verdict_no_source (StoppedAt line IsntBuilt) is = cc
+
+pub verdict_no_sink : (v : Verdict) → verdict_status v ≡ SinkFault → ⊥
+verdict_no_sink Done is = cc
+verdict_no_sink (StoppedAt line Form) is = cc
+verdict_no_sink (StoppedAt line Steal) is = cc
+verdict_no_sink (StoppedAt line Cpu) is = cc
+verdict_no_sink (StoppedAt line (Fell before)) is = cc
+verdict_no_sink (StoppedAt line (State at)) is = cc
+verdict_no_sink (StoppedAt line Long) is = cc
+verdict_no_sink (StoppedAt line Many) is = cc
+verdict_no_sink (StoppedAt line NoEnd) is = cc
+verdict_no_sink (StoppedAt line (Range ns)) is = cc
+verdict_no_sink (StoppedAt line (LastVersion version)) is = cc
+verdict_no_sink (StoppedAt line (AllSpent number)) is = cc
+verdict_no_sink (StoppedAt line IsntBuilt) is = cc
+
+-- a check that began before the first line
+pub checked_run : (shows_state : Bool) (input : List ℕ) (before given faults faults_now : ℕ) (s : Checking) (e : Ended Checked) (old new : Option (List ℕ))
+    → s ≡ check_start shows_state → Outcome (run_of check_answer check_closing s input before given faults faults_now) e old new
+    → Outcome (check_run shows_state input before given faults faults_now) e old new
+unfolding check check_behind
+checked_run shows_state input before given faults faults_now s e old new is o =
+    subst (λ (t : Checking). Outcome (run_of check_answer check_closing t input before given faults faults_now) e old new) is o
+
+pub checked_on : (shows_state : Bool) (bytes : List ℕ) (s : Checking) → s ≡ check_start shows_state → (behind check_answer bytes (opened s)).end ≡ None
+    → (check_behind shows_state bytes).end ≡ None
+unfolding check_behind
+checked_on shows_state bytes s is none = subst (λ (t : Checking). (behind check_answer bytes (opened t)).end ≡ None) is none

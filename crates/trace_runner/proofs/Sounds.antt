@@ -1,0 +1,301 @@
+-- A record that a check keeps leaves it without a fault.
+use Rattle.std.proofs.Common.{◌≡◌, ℕ, ◌<◌, ◌≤◌, ◌^◌, Bool, true, false, cond, ltb, leb, List, [], ◌∷◌, length, length-append, Option, Some, None, refl, sym, ap, subst, ◌∙◌, arith}
+use Rattle.std.proofs.lemmas.List.Elements.{All-nil, All-push}
+use Rattle.host_counter.specs.Time.{time_at}
+use Rattle.host_counter.specs.declared.TimeFault.{TimeFault}
+use Rattle.host_counter.specs.declared.TimeFault.TheVariants.{BeforeStart, OutOfRange}
+use Rattle.board_types.specs.Legal.{is_legal}
+use Rattle.board_types.specs.declared.access.Access.{Access}
+use Rattle.board_types.specs.declared.access.Access.TheVariants.{Step}
+use Rattle.board_types.specs.declared.parts.BoardParts.{BoardParts}
+use Rattle.board_types.specs.declared.reply.Refusal.{Refusal}
+use Rattle.board_types.specs.declared.reply.Reply.{Reply}
+use Rattle.board_core.specs.Access.{after_access, reply_of}
+use Rattle.board_core.specs.Pages.{page_reply, clock_reply, after_clock, with_greatest}
+use Rattle.board_core.specs.PowerOn.{board_at_power_on}
+use Rattle.board_core.specs.Refusals.{refusal_of}
+use Rattle.board_core.proofs.Laws.{after_access-greatest, refusal_of-greatest}
+use Rattle.edge_hooks.specs.declared.deliveries.Delivery.{Delivery}
+use Rattle.reply_text.specs.Text.{page_text, clock_text}
+use Rattle.reply_text.specs.declared.ends.Refused.{Refused}
+use Rattle.reply_text.specs.declared.ends.Refused.TheVariants.{Fell, Range}
+use Rattle.transfer.specs.Move.{move_fault, moved_to}
+use Rattle.transfer.specs.declared.outcome.MoveFault.{MoveFault}
+use Rattle.trace_text.specs.declared.header.Header.{Header}
+use Rattle.trace_text.specs.declared.records.Job.{Job}
+use Rattle.trace_text.specs.declared.records.Job.TheVariants.{Board, Page, Clock, Save, Move}
+use Rattle.trace_text.specs.declared.records.Record.{Record as Written}
+use Rattle.trace_loop.specs.Progress.{Answer, Goes, Ends}
+use Rattle.trace_runner.specs.Records.{
+  refused_count,
+  access_answer,
+  read_answer,
+  saved_answer,
+  gap_answer,
+  moved_answer,
+  board_answer,
+  page_answer,
+  clock_answer,
+  save_answer,
+  move_answer,
+  job_answer,
+}
+use Rattle.trace_runner.specs.Replay.{opening, board_of}
+use Rattle.trace_runner.specs.Ready.{JobSuits}
+use Rattle.race_phase.specs.Calls.{IsFitting, IsFittingCall}
+use Rattle.race_phase.specs.Order.{or_cause, at_line, by_access, by_count, time_fault, record_fault, after_record, after_records, records_fault}
+use Rattle.race_phase.specs.Phases.{IsEnd, by_move, next_board, end_fault}
+use Rattle.race_phase.specs.declared.faults.Fault.{Fault}
+use Rattle.trace_runner.specs.Check.{
+  check_start,
+  with_call,
+  with_end,
+  ended_by,
+  kept_job,
+  begun,
+  read_on,
+}
+use Rattle.trace_runner.specs.Checking.{Checking}
+use Rattle.trace_runner.specs.Free.{IsPhase, after_phases, IsFree}
+use Rattle.trace_runner.specs.Sound.{IsSound}
+use Rattle.trace_runner.specs.Trace.{PhaseRead}
+use Rattle.race_phase.specs.declared.records.Call.{Call}
+use Rattle.race_phase.specs.declared.records.Call.TheVariants.{Act, ReadPage, ReadClock}
+use Rattle.race_phase.specs.declared.phases.End.{End}
+use Rattle.race_phase.specs.declared.phases.End.TheVariants.{
+  Finish,
+  Save as BySave,
+  Move as ByMove,
+}
+use Rattle.race_phase.specs.declared.records.Record.{Record}
+use Rattle.trace_runner.specs.declared.status.Verdict.{Verdict}
+use Rattle.trace_runner.proofs.FileOrder.{
+  or_both,
+  after_records-snoc,
+  records_fault-snoc,
+  after_phases-snoc,
+  trace_fault-snoc,
+}
+use Rattle.trace_runner.proofs.Greatest.{moved_to-greatest, move_fault-greatest}
+use Rattle.trace_runner.proofs.ReadyNext.{Same, same_job}
+
+-- a count that isn't refused has a time
+timed : (b : BoardParts) (h : ℕ) → refused_count b h ≡ None → time_fault b.anchor h ≡ None
+unfolding refused_count
+timed b h is = by_tests (ltb h b.anchor.start) (leb (2 ^ 59) (time_at b.anchor h)) is
+  where
+    by_tests : (t u : Bool) → cond t (Some (Fell b.anchor.start)) (cond u (Some (Range (time_at b.anchor h))) None) ≡ None
+        → cond t (Some (BeforeStart b.anchor.start)) (cond u (Some (OutOfRange (time_at b.anchor h))) None) ≡ None
+    by_tests true u is = let no : ⊥ = cc in absurd no
+    by_tests false true is = let no : ⊥ = cc in absurd no
+    by_tests false false is = refl
+
+-- an answer that goes on has no fault in file order, and leaves that board but for the greatest reading
+abbrev Goes_on : Option Fault → BoardParts → Answer BoardParts Verdict → Type 0
+Goes_on fault next (Goes text b) = (fault ≡ None) × ((m : ℕ) × (b ≡ with_greatest next m))
+Goes_on fault next (Ends closing) = Unit {0}
+
+module _ (b : BoardParts) (g line cpu h : ℕ) (ds : List (Option Delivery)) where
+  free : (a : Access) → refusal_of (with_greatest b g) cpu h a ≡ None → refusal_of b cpu h a ≡ None
+  free a is = sym (refusal_of-greatest b cpu h g a) ∙ is
+
+  act_goes : (o : Option Refusal) (a : Access) → refusal_of (with_greatest b g) cpu h a ≡ o
+      → Goes_on (at_line line (by_access (refusal_of b cpu h a))) (after_access b cpu h a) (access_answer o line cpu h a ds (with_greatest b g))
+  act_goes None a is = (ap (λ (x : Option Refusal). at_line line (by_access x)) (free a is), (g, after_access-greatest b cpu h g a))
+  act_goes (Some refusal) a is = tt
+
+  read_goes : (o : Option Refused) (text : List ℕ) (m : ℕ) → refused_count (with_greatest b g) h ≡ o
+      → Goes_on (at_line line (by_count (time_fault b.anchor h))) b (read_answer o line text (with_greatest b m))
+  read_goes None text m is = (ap (λ (x : Option TimeFault). at_line line (by_count x)) (timed (with_greatest b g) h is), (m, refl))
+  read_goes (Some why) text m is = tt
+
+  clock_goes : (page : ℕ) → Goes_on (at_line line (by_count (time_fault b.anchor h))) b (clock_answer line page h (with_greatest b g))
+  unfolding after_clock
+  clock_goes page =
+      read_goes (refused_count (with_greatest b g) h) (clock_text line (clock_reply (with_greatest b g) page h))
+      (after_clock (with_greatest b g) page h).greatest refl
+
+  save_goes : (o : Option Refusal) → refusal_of (with_greatest b g) cpu h Step ≡ o
+      → Goes_on (end_fault b (BySave line cpu h)) (next_board (BySave line cpu h) b) (saved_answer o line cpu h ds (with_greatest b g))
+  save_goes None is = (ap (λ (x : Option Refusal). at_line line (by_access x)) (free Step is), (g, after_access-greatest b cpu h g Step))
+  save_goes (Some refusal) is = tt
+
+  module _ (khz start gap : ℕ) where
+    abbrev moves : End
+    moves = ByMove line cpu h (record { khz = khz; start = start; gap = gap })
+
+    gap_goes : (o : Option MoveFault) (reply : Reply) (c : BoardParts) → refusal_of b cpu h Step ≡ None → c ≡ with_greatest (after_access b cpu h Step) g
+        → move_fault gap c ≡ o → Goes_on (end_fault b moves) (next_board moves b) (gap_answer o line khz start gap ds reply c)
+    gap_goes None reply c none at is = (
+      ap (λ (x : Option Refusal). at_line line (or_cause (by_access x) (by_move (move_fault gap (after_access b cpu h Step))))) none
+          ∙ ap (λ (x : Option MoveFault). at_line line (by_move x))
+          (sym (move_fault-greatest gap (after_access b cpu h Step) g) ∙ sym (ap (λ (x : BoardParts). move_fault gap x) at) ∙ is),
+      (g, ap (λ (x : BoardParts). moved_to khz start gap x) at ∙ moved_to-greatest khz start gap (after_access b cpu h Step) g),
+    )
+    gap_goes (Some fault) reply c none at is = tt
+
+    move_goes : (o : Option Refusal) → refusal_of (with_greatest b g) cpu h Step ≡ o
+        → Goes_on (end_fault b moves) (next_board moves b) (moved_answer o line cpu h khz start gap ds (with_greatest b g))
+    move_goes None is =
+        gap_goes (move_fault gap (after_access (with_greatest b g) cpu h Step)) (reply_of (with_greatest b g) cpu h Step)
+        (after_access (with_greatest b g) cpu h Step) (free Step is) (after_access-greatest b cpu h g Step) refl
+    move_goes (Some refusal) is = tt
+
+-- the board of file order behind what was kept
+abbrev now : Checking → BoardParts
+now s = after_records (after_phases s.opening s.phases) s.last
+
+-- what is kept is sound
+abbrev pub Keeps : (Checking → Checking) → Checking → Answer BoardParts Verdict → Type 0
+Keeps keep s (Goes text b) = IsSound (keep (record s { replay = record s.replay { board = b } }))
+Keeps keep s (Ends closing) = Unit {0}
+
+-- a phase that ends without a fault
+pub ended_free : (end : End) (s : Checking) → IsSound s → s.taken ≤ 200000 → IsEnd s.opening.cpus end → end_fault (now s) end ≡ None
+    → IsFree s.opening (ended_by end s)
+ended_free end s sound few fits none =
+    let v : PhaseRead = record { records = s.last; end = end } in
+    let p : BoardParts = after_phases s.opening s.phases in
+    let short : length s.last ≤ 2 ^ 62 = omega (arith, sound.few) in
+    let fit : IsPhase s.opening.cpus s.opening.format v = record { records = sound.fit; few = short; end = fits } in
+    record {
+      fit = All-push (IsPhase s.opening.cpus s.opening.format) s.phases v sound.done.fit fit;
+      free = trace_fault-snoc s.opening s.phases v sound.done.free (or_both (records_fault p s.last) (end_fault (now s) end) sound.free none);
+    }
+
+call_kept : (line : ℕ) (rec : Written) (call : Call) (s : Checking) (x : Answer BoardParts Verdict) → IsSound s → rec.cpu < s.opening.cpus
+    → IsFittingCall s.opening.cpus s.opening.format call → Same s.replay.board x
+    → (let r : Record = record { line = line; cpu = rec.cpu; h = rec.h; call = call } in Goes_on (record_fault (now s) r) (after_record (now s) r) x
+    → Keeps (with_call line rec call) s x)
+call_kept line rec call s (Goes text b) sound there fits same = λ goes.
+    let r : Record = record { line = line; cpu = rec.cpu; h = rec.h; call = call } in
+    let p : BoardParts = after_phases s.opening s.phases in
+    record {
+      done = sound.done;
+      fit = All-push (IsFitting s.opening.cpus s.opening.format) s.last r sound.fit (there, fits);
+      free = records_fault-snoc p s.last r sound.free goes.0;
+      greatest = goes.1.0;
+      board = goes.1.1 ∙ ap (λ (c : BoardParts). with_greatest c goes.1.0) (sym (after_records-snoc p s.last r));
+      cpus = same.0 ∙ sound.cpus;
+      format = same.1 ∙ sound.format;
+      few = omega (arith, length-append s.last (r ∷ []), sound.few);
+    }
+call_kept line rec call s (Ends closing) sound there fits same = λ goes. tt
+
+end_kept : (end : End) (s : Checking) (x : Answer BoardParts Verdict) → IsSound s → s.taken ≤ 200000 → IsEnd s.opening.cpus end → Same s.replay.board x
+    → Goes_on (end_fault (now s) end) (next_board end (now s)) x → Keeps (with_end end) s x
+end_kept end s (Goes text b) sound few fits same goes =
+    let v : PhaseRead = record { records = s.last; end = end } in
+    record {
+      done = ended_free end s sound few fits goes.0;
+      fit = All-nil (IsFitting s.opening.cpus s.opening.format);
+      free = refl;
+      greatest = goes.1.0;
+      board = goes.1.1 ∙ ap (λ (c : BoardParts). with_greatest c goes.1.0) (sym (after_phases-snoc s.opening s.phases v));
+      cpus = same.0 ∙ sound.cpus;
+      format = same.1 ∙ sound.format;
+      few = omega arith;
+    }
+end_kept end s (Ends closing) sound few fits same goes = tt
+
+-- a record that suits the board, and is answered on it
+pub job_kept : (line : ℕ) (rec : Written) (job : Job) (s : Checking) → IsSound s → s.taken ≤ 200000 → rec.cpu < s.replay.board.cpus
+    → JobSuits job s.replay.board → Keeps (kept_job line rec job) s (job_answer line rec.cpu rec.h job s.replay.deliveries s.replay.board)
+job_kept line rec job s sound few there suits = by_job job suits
+  where
+    ds : List (Option Delivery)
+    ds = s.replay.deliveries
+
+    cpu : rec.cpu < s.opening.cpus
+    cpu = subst (λ (n : ℕ). rec.cpu < n) sound.cpus there
+
+    same : (j : Job) → Same s.replay.board (job_answer line rec.cpu rec.h j s.replay.deliveries s.replay.board)
+    same j = same_job line rec.cpu rec.h j s.replay.deliveries s.replay.board
+
+    by_job : (j : Job) → JobSuits j s.replay.board
+        → Keeps (kept_job line rec j) s (job_answer line rec.cpu rec.h j s.replay.deliveries s.replay.board)
+    by_job (Board a) legal =
+        call_kept line rec (Act a) s _ sound cpu
+        (subst (λ (n : ℕ). is_legal n s.opening.format a ≡ true) sound.cpus
+        (subst (λ (f : ℕ). is_legal s.replay.board.cpus f a ≡ true) sound.format legal)) (same (Board a))
+        (subst (λ (c : BoardParts). Goes_on (at_line line (by_access (refusal_of (now s) rec.cpu rec.h a))) (after_access (now s) rec.cpu rec.h a)
+        (board_answer line rec.cpu rec.h a s.replay.deliveries c)) (sym sound.board)
+        (act_goes (now s) sound.greatest line rec.cpu rec.h s.replay.deliveries
+        (refusal_of (with_greatest (now s) sound.greatest) rec.cpu rec.h a) a refl))
+    by_job (Page page) inside =
+        call_kept line rec (ReadPage page) s _ sound cpu (subst (λ (n : ℕ). page < n) sound.cpus inside) (same (Page page))
+        (subst (λ (c : BoardParts). Goes_on (at_line line (by_count (time_fault (now s).anchor rec.h))) (now s) (page_answer line page rec.h c))
+        (sym sound.board)
+        (read_goes (now s) sound.greatest line rec.cpu rec.h s.replay.deliveries (refused_count (with_greatest (now s) sound.greatest) rec.h)
+        (page_text line (page_reply (with_greatest (now s) sound.greatest) page rec.h)) sound.greatest refl))
+    by_job (Clock page) inside =
+        call_kept line rec (ReadClock page) s _ sound cpu (subst (λ (n : ℕ). page < n) sound.cpus inside) (same (Clock page))
+        (subst (λ (c : BoardParts). Goes_on (at_line line (by_count (time_fault (now s).anchor rec.h))) (now s) (clock_answer line page rec.h c))
+        (sym sound.board)
+        (clock_goes (now s) sound.greatest line rec.cpu rec.h s.replay.deliveries page))
+    by_job Save suited =
+        end_kept (BySave line rec.cpu rec.h) s _ sound few cpu (same Save)
+        (subst (λ (c : BoardParts). Goes_on (end_fault (now s) (BySave line rec.cpu rec.h)) (next_board (BySave line rec.cpu rec.h) (now s))
+        (save_answer line rec.cpu rec.h s.replay.deliveries c)) (sym sound.board)
+        (save_goes (now s) sound.greatest line rec.cpu rec.h s.replay.deliveries
+        (refusal_of (with_greatest (now s) sound.greatest) rec.cpu rec.h Step) refl))
+    by_job (Move khz start gap) rate =
+        let end : End = ByMove line rec.cpu rec.h (record { khz = khz; start = start; gap = gap }) in
+        end_kept end s _ sound few (cpu, rate) (same (Move khz start gap))
+        (subst (λ (c : BoardParts). Goes_on (end_fault (now s) end) (next_board end (now s))
+        (move_answer line rec.cpu rec.h khz start gap s.replay.deliveries c)) (sym sound.board)
+        (move_goes (now s) sound.greatest line rec.cpu rec.h s.replay.deliveries khz start gap
+        (refusal_of (with_greatest (now s) sound.greatest) rec.cpu rec.h Step) refl))
+
+-- the reader goes on; a header begins a trace
+pub read_sound : (text : List ℕ) (s : Checking) → IsSound s → IsSound (read_on text s)
+read_sound text s sound = record {
+  done = sound.done;
+  fit = sound.fit;
+  free = sound.free;
+  greatest = sound.greatest;
+  board = sound.board;
+  cpus = sound.cpus;
+  format = sound.format;
+  few = sound.few;
+}
+
+nothing_free : (b : BoardParts) → IsFree b []
+nothing_free b = record { fit = All-nil (IsPhase b.cpus b.format); free = refl }
+
+pub begun_sound : (header : Header) (s : Checking) → IsSound (begun header s)
+begun_sound header s =
+    let b : BoardParts = board_of header.begin in
+    record {
+      done = nothing_free b;
+      fit = All-nil (IsFitting b.cpus b.format);
+      free = refl;
+      greatest = b.greatest;
+      board = refl;
+      cpus = refl;
+      format = refl;
+      few = omega arith;
+    }
+
+pub start_sound : (shows_state : Bool) → IsSound (check_start shows_state)
+start_sound shows_state =
+    let b : BoardParts = board_at_power_on opening in
+    record {
+      done = nothing_free b;
+      fit = All-nil (IsFitting b.cpus b.format);
+      free = refl;
+      greatest = b.greatest;
+      board = refl;
+      cpus = refl;
+      format = refl;
+      few = omega arith;
+    }
+
+-- the trace at its end
+pub whole_free : (s t : Checking) (b : BoardParts) (vs : List PhaseRead) → IsSound s → s.taken ≤ 200000 → t ≡ with_end Finish s → b ≡ t.opening
+    → vs ≡ t.phases → IsFree b vs
+whole_free s t b vs sound few is at phases =
+    let b_is : b ≡ s.opening = at ∙ ap (λ (u : Checking). u.opening) is in
+    let vs_is : vs ≡ ended_by Finish s = phases ∙ ap (λ (u : Checking). u.phases) is in
+    subst (λ (c : BoardParts). IsFree c vs) (sym b_is)
+    (subst (λ (ws : List PhaseRead). IsFree s.opening ws) (sym vs_is) (ended_free Finish s sound few tt refl))

@@ -1,0 +1,15 @@
+use Rattle.std.proofs.Common.{sym, subst, ◌∙◌}
+use Rattle.trace_runner.specs.Checking.{Checking}
+use Rattle.trace_runner.specs.Sound.{IsSound}
+use Rattle.trace_runner.proofs.CheckReady.{check_next}
+use Rattle.trace_runner.proofs.Sounds.{read_sound}
+use Rattle.trace_runner.proofs.check.Check.answer_other.Goals as goal
+
+pub answer_item-requires-clause-sound : goal.answer_item-requires-clause-sound
+answer_item-requires-clause-sound c =
+    subst (λ (s : Checking). IsSound s) (sym c.read_line.ensures.state) (read_sound c.args.text.now c.args.self.now c.requires.may.sound)
+
+pub returns-in-Ok-clause-may : goal.returns-in-Ok-clause-may
+returns-in-Ok-clause-may c =
+    check_next c.answer_item.result c.args.line c.in-Ok.item c.args.self.now c.read_line.new.self c.answer_item.new.self c.args.text.now c.requires.may
+    (sym c.read_line.ensures.item ∙ c.in-Ok.is) c.in-Ok.ensures.valid c.read_line.ensures.state c.answer_item.ensures.ends c.answer_item.ensures.state

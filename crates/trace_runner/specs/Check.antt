@@ -1,0 +1,193 @@
+-- A trace is read whole and checked before its processors run: what each of its lines does, and what is known at its
+-- end. Nothing is printed but the line that is refused.
+use Rattle.std.specs.Prelude.{
+  ℕ,
+  ◌+◌,
+  ◌≤◌,
+  nat_le,
+  Bool,
+  true,
+  false,
+  ◌&&◌,
+  List,
+  [],
+  ◌∷◌,
+  ◌++◌,
+  Result,
+  Ok,
+  Err,
+  if◌then◌else◌,
+}
+use Rattle.board_core.specs.PowerOn.{board_at_power_on}
+use Rattle.reply_text.specs.declared.ends.Refused.TheVariants.{Many}
+use Rattle.trace_text.specs.Lines.{taken, behind}
+use Rattle.trace_text.specs.declared.faults.Reason.{Reason}
+use Rattle.trace_text.specs.declared.faults.Reason.TheVariants.{Steal, Cpu, CounterFell}
+use Rattle.trace_text.specs.declared.faults.RecordFault.{RecordFault}
+use Rattle.trace_text.specs.declared.header.Header.{Header}
+use Rattle.trace_text.specs.declared.reading.Item.{Item}
+use Rattle.trace_text.specs.declared.reading.Item.TheVariants.{Skipped, Part, Begun, Next, End}
+use Rattle.trace_text.specs.declared.records.Job.TheVariants.{Board, Page, Clock, Save, Move}
+use Rattle.trace_text.specs.declared.records.Job.{Job}
+use Rattle.trace_text.specs.declared.records.Record.{Record as Written}
+use Rattle.trace_loop.specs.Progress.{
+  Closing,
+  Answer,
+  Goes,
+  Ends,
+  Progress,
+  opened,
+  behind as heard_behind,
+  finished,
+}
+use Rattle.trace_runner.specs.Deliveries.{deliveries_of}
+use Rattle.trace_runner.specs.Ready.{IsReady}
+use Rattle.trace_runner.specs.Records.{refused_by, stops}
+use Rattle.trace_runner.specs.Replay.{at_start, opening, board_of, record_answer, closing_of}
+use Rattle.trace_runner.specs.Checking.{Checking}
+use Rattle.trace_runner.specs.Sound.{IsSound}
+use Rattle.trace_runner.specs.Trace.{PhaseRead, TraceRead}
+use Rattle.race_phase.specs.declared.records.Call.{Call}
+use Rattle.race_phase.specs.declared.records.Call.TheVariants.{Act, ReadPage, ReadClock}
+use Rattle.race_phase.specs.declared.phases.End.{End as PhaseEnd}
+use Rattle.race_phase.specs.declared.phases.End.TheVariants.{
+  Finish,
+  Save as BySave,
+  Move as ByMove,
+}
+use Rattle.trace_runner.specs.declared.check.Checked.{Checked}
+use Rattle.trace_runner.specs.declared.check.Checked.TheVariants.{Whole, Stopped}
+use Rattle.trace_runner.specs.declared.replay.Replay.{Replay}
+use Rattle.trace_runner.specs.declared.status.Verdict.{Verdict}
+
+-- before the first line
+abbrev pub check_start : Bool → Checking
+check_start shows_state = record {
+  replay = at_start shows_state;
+  opening = board_at_power_on opening;
+  phases = [];
+  last = [];
+  taken = 0;
+}
+
+-- one record more of the phase, and a phase that ends
+abbrev pub with_call : ℕ → Written → Call → Checking → Checking
+with_call line rec call s = record s {
+  last = s.last ++ record { line = line; cpu = rec.cpu; h = rec.h; call = call } ∷ [];
+  taken = s.taken + 1;
+}
+
+abbrev pub ended_by : PhaseEnd → Checking → List PhaseRead
+ended_by end s = s.phases ++ record { records = s.last; end = end } ∷ []
+
+abbrev pub with_end : PhaseEnd → Checking → Checking
+with_end end s = record s {
+  phases = ended_by end s;
+  last = [];
+  taken = s.taken + 1;
+}
+
+-- a record is kept: a save and a move end their phase
+abbrev pub kept_job : ℕ → Written → Job → Checking → Checking
+kept_job line rec (Board access) s = with_call line rec (Act access) s
+kept_job line rec (Page page) s = with_call line rec (ReadPage page) s
+kept_job line rec (Clock page) s = with_call line rec (ReadClock page) s
+kept_job line rec Save s = with_end (BySave line rec.cpu rec.h) s
+kept_job line rec (Move khz start gap) s =
+    with_end (ByMove line rec.cpu rec.h (record { khz = khz; start = start; gap = gap })) s
+
+abbrev pub kept : ℕ → Written → Checking → Checking
+kept line rec s = kept_job line rec rec.job s
+
+-- a refusal is printed alone
+abbrev pub refusal : Closing Verdict → Closing Checked
+refusal closing = record { text = closing.text; end = Stopped closing.end }
+
+-- no record is left: 200,000 were taken (own)
+abbrev pub is_full : Checking → Bool
+is_full s = nat_le 200000 s.taken
+
+abbrev pub too_many : ℕ → Closing Checked
+too_many line = refusal (stops line Many)
+
+-- a record is answered in file order, as a replay would, and kept
+abbrev pub checked_by : Answer Replay Verdict → ℕ → Written → Checking → Answer Checking Checked
+checked_by (Goes block r) line rec s = Goes [] (kept line rec (record s { replay = r }))
+checked_by (Ends closing) line rec s = Ends (refusal closing)
+
+abbrev pub record_checked : ℕ → Written → Checking → Answer Checking Checked
+record_checked line rec s =
+    if is_full s then Ends (too_many line)
+    else checked_by (record_answer line rec s.replay) line rec s
+
+-- a line has a record's form though it is refused, if its reason is one of these
+abbrev pub has_form : Reason → Bool
+has_form Steal = true
+has_form Cpu = true
+has_form (CounterFell before) = true
+has_form reason = false
+
+-- the trace, read to its end
+abbrev pub trace_of : Checking → TraceRead
+trace_of s = record {
+  opening = s.opening;
+  deliveries = s.replay.deliveries;
+  phases = ended_by Finish s;
+  shows_state = s.replay.shows_state;
+}
+
+-- the header is whole: the trace begins, and no record was kept
+abbrev pub begun : Header → Checking → Checking
+begun header s = record {
+  replay = record s.replay {
+    board = board_of header.begin;
+    deliveries = deliveries_of header.routes;
+  };
+  opening = board_of header.begin;
+  phases = [];
+  last = [];
+  taken = 0;
+}
+
+-- what a line does, by what it is: a line that has a record's form is refused as one too many first
+abbrev pub item_checked : ℕ → Item → Checking → Answer Checking Checked
+item_checked line Skipped s = Goes [] s
+item_checked line Part s = Goes [] s
+item_checked line (Begun header) s = Goes [] (begun header s)
+item_checked line (Next rec) s = record_checked line rec s
+item_checked line End s = Ends (record { text = []; end = Whole (trace_of s) })
+
+abbrev pub fault_checked : ℕ → RecordFault → Checking → Closing Checked
+fault_checked line fault s =
+    if is_full s && has_form fault.reason then too_many line
+    else refusal (stops fault.line (refused_by fault.reason))
+
+abbrev pub taken_checked : ℕ → Result Item RecordFault → Checking → Answer Checking Checked
+taken_checked line (Ok item) s = item_checked line item s
+taken_checked line (Err fault) s = Ends (fault_checked line fault s)
+
+-- the reader behind a line
+abbrev pub read_on : List ℕ → Checking → Checking
+read_on text s = record s { replay = record s.replay { reading = behind text s.replay.reading } }
+
+-- what the line of this number does
+unfoldable pub check_answer : ℕ → Checking → List ℕ → Answer Checking Checked
+check_answer line s text = taken_checked line (taken s.replay.reading text) (read_on text s)
+
+-- a trace that has not ended where its input ends is refused at the next line
+abbrev pub check_closing : ℕ → Checking → Closing Checked
+check_closing line s = refusal (closing_of line s.replay)
+
+-- all that a check knows behind some bytes of a trace
+unfoldable pub check_behind : Bool → List ℕ → Progress Checking Checked
+check_behind shows_state bytes = heard_behind check_answer bytes (opened (check_start shows_state))
+
+-- what the check of a trace prints, and what it ends with
+unfoldable pub check : Bool → List ℕ → Closing Checked
+check shows_state bytes = finished check_answer check_closing (check_behind shows_state bytes)
+
+-- what is true before each line
+pub record IsCheckReady (line : ℕ) (s : Checking) : Type 0 where
+  pub replay : IsReady line s.replay
+  pub few : s.taken ≤ 200000
+  pub sound : IsSound s

@@ -1,0 +1,72 @@
+-- What the job `race` prints for a trace, and what it leaves.
+use Rattle.std.specs.Prelude.{◌≡◌, ℕ, Bool, List, ◌++◌, take, Option, ◌⊎◌}
+use Rattle.std.specs.Io.KnownBytes.{Appends}
+use Rattle.board_types.specs.declared.parts.BoardParts.{BoardParts}
+use Rattle.trace_loop.specs.Text.{memory_fault_text}
+use Rattle.trace_loop.specs.Outcome.{Run, Outcome}
+use Rattle.trace_loop.specs.declared.ended.Ended.TheVariants.{
+  SourceFault as FailsSource,
+  SinkFault as FailsSink,
+  NoMemory as WantsMemory,
+}
+use Rattle.race_phase.specs.declared.phases.Phase.{Phase}
+use Rattle.race_phase.specs.Phases.{race_text}
+use Rattle.trace_runner.specs.Check.{check_behind, check}
+use Rattle.trace_runner.specs.Checking.{Checking}
+use Rattle.trace_runner.specs.Replay.{ended}
+use Rattle.trace_runner.specs.Said.{Said}
+use Rattle.trace_runner.specs.Status.{verdict_status}
+use Rattle.trace_runner.specs.Trace.{phases_read, TraceRead}
+use Rattle.trace_runner.specs.declared.check.Checked.{Checked}
+use Rattle.trace_runner.specs.declared.check.Checked.TheVariants.{Whole, Stopped}
+use Rattle.trace_runner.specs.declared.status.Status.{Status}
+use Rattle.trace_runner.specs.declared.status.Status.TheVariants.{
+  Ok,
+  SourceFault,
+  SinkFault,
+  NoMemory,
+}
+
+-- the run of a check over an input, of which so many bytes were given, and so many before the last call
+abbrev pub check_run : Bool → List ℕ → ℕ → ℕ → ℕ → ℕ → Run Checking Checked
+check_run shows_state input before given faults faults_now = record {
+  at = λ k. check_behind shows_state (take k input);
+  whole = check shows_state input;
+  before = before;
+  given = given;
+  faults = faults;
+  faults_now = faults_now;
+}
+
+-- a trace that was checked prints this: what its phases print, one behind another, and its last lines for the board
+-- that they leave
+abbrev pub RacePrints : TraceRead → List ℕ → Type 0
+RacePrints t text =
+    (phases : List Phase) × (state : BoardParts) × (block : List ℕ)
+    × (phases_read phases ≡ t.phases)
+    × race_text t.deliveries t.opening phases state block
+    × (text ≡ block ++ (ended t.shows_state state).text)
+
+-- what is left where the check came to its end: the line that was refused; or all that the trace prints, where memory
+-- did not run out
+abbrev pub CheckedLeaves : Checked → List ℕ → Status → Option (List ℕ) → Option (List ℕ) → Type 0
+    → Type 0
+CheckedLeaves (Stopped verdict) text status old new shown =
+    (status ≡ verdict_status verdict) × Appends old new text
+CheckedLeaves (Whole trace) text status old new shown =
+    ((out : List ℕ) × RacePrints trace out × Said Ok status old new out shown)
+    ⊎ Said NoMemory status old new memory_fault_text shown
+
+-- and where it did not: a fault of the source or the sink, or want of memory
+abbrev pub CheckFails : Run Checking Checked → Status → Option (List ℕ) → Option (List ℕ) → Type 0
+CheckFails w SourceFault old new = Outcome w FailsSource old new
+CheckFails w SinkFault old new = Outcome w FailsSink old new
+CheckFails w NoMemory old new = Outcome w WantsMemory old new
+CheckFails w status old new = ⊥
+
+-- what a race leaves
+abbrev pub RaceLeaves : Run Checking Checked → Status → Option (List ℕ) → Option (List ℕ) → Type 0
+    → Type 0
+RaceLeaves w status old new shown =
+    ((w.faults_now ≡ w.faults) × CheckedLeaves w.whole.end w.whole.text status old new shown)
+    ⊎ CheckFails w status old new

@@ -1,0 +1,343 @@
+//! The check of a trace: it is read whole, in file order, before its processors run.
+ghost use Rattle.std.specs.Prelude.{◌≡◌, ◌<◌, ◌≤◌, ◌+◌, ◌^◌, ◌++◌, None, Some, Ok, IfOk, OnOk, OnErr, IfSome, IfNone, OnSome};
+ghost use Rattle.std.specs.Io.{StartsWith};
+ghost use Rattle.trace_loop.specs.Progress.{printed, end_of, state_behind};
+ghost use Rattle.trace_text.specs.Lines.{taken, IsOpen, IsItem, IsRecordAt};
+ghost use Rattle.trace_runner.specs.Ready.{Suits};
+ghost use Rattle.trace_runner.specs.Sound.{IsSound};
+ghost use Rattle.trace_runner.specs.Check.{check_start, with_call, with_end, kept, is_full, too_many, record_checked, begun, item_checked, fault_checked, trace_of, read_on, check_answer, IsCheckReady, has_form};
+
+use crate::replay::{Replay, opening};
+use crate::status::{Verdict, refused_by, stop};
+use crate::trace::Trace;
+use board_core::BoardState;
+use clk_units::NoMemory;
+use race_phase::{Call, End, NewHost, Phase, Record};
+use reply_text::Refused;
+use std::alloc::Global;
+use std::marker::Model;
+use std::mem;
+use trace_loop::Answerer;
+use trace_text::{Header, Item, Job, Reason, Record as Written, RecordFault};
+
+/// How many records a trace may have whose processors run on threads of their own.
+const RECORDS_MAX: u64 = 200_000;
+
+/// What a check ends with.
+#[derive(Drop)]
+pub(crate) enum Checked {
+    /// The trace, read to its end.
+    Whole(Trace),
+    /// A line is refused.
+    Stopped(Verdict),
+}
+
+/// A trace that is checked: its records are answered one after the other, and kept for the processors' threads.
+/// Nothing is printed but a refusal.
+#[derive(Drop)]
+pub(crate) struct Check {
+    replay: Replay,
+    opening: BoardState,
+    phases: Vec<Phase>,
+    last: Vec<Record>,
+    taken: u64,
+}
+
+impl Model for Check {
+    ghost use Rattle.trace_runner.specs.Trace.{phases_read};
+    ghost use Rattle.trace_runner.specs.Checking.{Checking};
+
+    ghost Value = { Checking };
+
+    ghost view = { λ c. record {
+      replay = c.replay;
+      opening = c.opening;
+      phases = phases_read c.phases.items;
+      last = c.last.items;
+      taken = c.taken;
+    } };
+}
+
+/// Whether a line that is refused has a record's form.
+fn has_form(reason: Reason) -> bool
+    ensures { result ≡ has_form reason }
+{
+    matches!(
+        reason,
+        Reason::Steal | Reason::Cpu | Reason::CounterFell { .. }
+    )
+}
+
+impl Check {
+    /// Before the first line of a trace, at whose end the board's state is shown or not.
+    pub(crate) fn new(alloc: Global, shows_state: bool) -> Check
+        ensures { result ≡ check_start shows_state }
+    {
+        Check {
+            replay: Replay::new(shows_state),
+            opening: BoardState::power_on(&opening()),
+            phases: Vec::new(alloc),
+            last: Vec::new(alloc),
+            taken: 0,
+        }
+    }
+
+    /// Keeps a record of the phase.
+    fn push(&mut self, line: u64, record: &Written, call: Call) -> Result<(), NoMemory>
+        requires { self.old.taken < 200000 }
+        ensures { OnOk result (self.new ≡ with_call line record.now call self.old) }
+    {
+        let kept = Record {
+            line,
+            cpu: record.cpu,
+            h: record.h,
+            call,
+        };
+        self.last.push(kept).map_err(|_| NoMemory)?;
+        self.taken += 1;
+        Ok(())
+    }
+
+    /// Ends the phase.
+    #[inline(never)]
+    #[tactic(auto, using(crate::proofs::PhasesRead::phases_pushed))]
+    fn end_phase(&mut self, end: End) -> Result<(), NoMemory>
+        requires { self.old.taken ≤ 200000 }
+        ensures { OnOk result (self.new ≡ with_end end self.old) }
+    {
+        let alloc = *self.last.allocator();
+        let records = mem::replace(&mut self.last, Vec::new(alloc));
+        self.phases
+            .push(Phase { records, end })
+            .map_err(|_| NoMemory)?;
+        self.taken += 1;
+        Ok(())
+    }
+
+    /// Keeps a record: a save and a move end their phase.
+    fn keep(&mut self, line: u64, record: &Written) -> Result<(), NoMemory>
+        requires { self.old.taken < 200000 }
+        ensures { OnOk result (self.new ≡ kept line record.now self.old) }
+    {
+        let cpu = record.cpu;
+        let h = record.h;
+        match record.job {
+            Job::Board(access) => self.push(line, record, Call::Act { access }),
+            Job::Page { page } => self.push(line, record, Call::ReadPage { page }),
+            Job::Clock { page } => self.push(line, record, Call::ReadClock { page }),
+            Job::Save => self.end_phase(End::Save { line, cpu, h }),
+            Job::Move { khz, start, gap } => {
+                let host = NewHost { khz, start, gap };
+                self.end_phase(End::Move { line, cpu, h, host })
+            }
+        }
+    }
+
+    /// Whether there is no room for a record more.
+    fn is_full(&self) -> bool
+        ensures { result ≡ is_full self.now }
+    {
+        self.taken >= RECORDS_MAX
+    }
+
+    /// Answers a record as a replay would, and keeps it.
+    fn take(
+        &mut self,
+        line: u64,
+        record: &Written,
+        out: &mut Vec<u8>,
+    ) -> Result<Option<Checked>, NoMemory>
+        requires { Suits (Item.Next record.now) self.old.replay.board }
+        ensures printed { OnOk result
+            (out.new.items ≡ out.old.items ++ printed (record_checked line record.now self.old)) }
+        ensures ends { IfOk result (λ end. end ≡ end_of (record_checked line record.now self.old)) }
+        ensures state { IfOk result (λ end. end ≡ None
+            → self.new ≡ state_behind (record_checked line record.now self.old) self.old) }
+        ensures err { OnErr result (StartsWith out.new.items out.old.items) }
+    {
+        if self.is_full() {
+            return many(line, out);
+        }
+        let whole = out.len();
+        if let Some(verdict) = self.replay.answer_record(line, record, out)? {
+            return Ok(Some(Checked::Stopped(verdict)));
+        }
+        out.truncate(whole);
+        self.keep(line, record)?;
+        Ok(None)
+    }
+
+    /// The header is whole: the board is made.
+    fn begin(&mut self, header: &Header)
+        requires { Suits (Item.Begun header.now) self.old.replay.board }
+        ensures { self.new ≡ begun header.now self.old }
+    {
+        self.replay.begin(header);
+        self.opening = self.replay.board;
+        self.phases.clear();
+        self.last.clear();
+        self.taken = 0;
+    }
+
+    /// The trace, which was read to its end.
+    fn whole(&mut self) -> Result<Trace, NoMemory>
+        requires few { self.old.taken ≤ 200000 }
+        requires sound { IsSound self.old }
+        ensures { IfOk result (λ trace. trace ≡ trace_of self.old) }
+    {
+        self.end_phase(End::Finish)?;
+        let alloc = *self.last.allocator();
+        let Ok(opening) = Box::new(alloc, self.opening) else {
+            return Err(NoMemory);
+        };
+        let phases = mem::replace(&mut self.phases, Vec::new(alloc));
+        Ok(Trace {
+            opening,
+            deliveries: self.replay.deliveries,
+            phases,
+            shows_state: self.replay.shows_state,
+        })
+    }
+
+    /// Answers a line that was read.
+    fn answer_item(
+        &mut self,
+        line: u64,
+        item: &Item,
+        out: &mut Vec<u8>,
+    ) -> Result<Option<Checked>, NoMemory>
+        requires item { Suits item.now self.old.replay.board }
+        requires few { self.old.taken ≤ 200000 }
+        requires sound { IsSound self.old }
+        ensures printed { OnOk result
+            (out.new.items ≡ out.old.items ++ printed (item_checked line item.now self.old)) }
+        ensures ends { IfOk result (λ end. end ≡ end_of (item_checked line item.now self.old)) }
+        ensures state { IfOk result (λ end. end ≡ None
+            → self.new ≡ state_behind (item_checked line item.now self.old) self.old) }
+        ensures err { OnErr result (StartsWith out.new.items out.old.items) }
+    {
+        match item {
+            Item::Skipped | Item::Part => Ok(None),
+            Item::Begun(header) => {
+                self.begin(header);
+                Ok(None)
+            }
+            Item::Next(record) => self.take(line, record, out),
+            Item::End => {
+                let trace = self.whole()?;
+                Ok(Some(Checked::Whole(trace)))
+            }
+        }
+    }
+
+    /// Refuses a line: one that has a record's form is one too many first.
+    fn refuse(
+        &self,
+        line: u64,
+        fault: RecordFault,
+        out: &mut Vec<u8>,
+    ) -> Result<Option<Checked>, NoMemory>
+        ensures printed { OnOk result
+            (out.new.items ≡ out.old.items ++ (fault_checked line fault self.now).text) }
+        ensures ends { IfOk result (λ end. end ≡ Some (fault_checked line fault self.now).end) }
+        ensures err { OnErr result (out.new.items ≡ out.old.items) }
+    {
+        if self.is_full() && has_form(fault.reason) {
+            return many(line, out);
+        }
+        let verdict = stop(fault.line, refused_by(fault.reason), out)?;
+        Ok(Some(Checked::Stopped(verdict)))
+    }
+
+    /// Takes a line, which may be no record, or refused.
+    #[inline(never)]
+    fn read_line(&mut self, text: &[u8]) -> Result<Item, RecordFault>
+        requires open { IsOpen self.old.replay.reading.stage }
+        requires few { self.old.replay.reading.lines < 2 ^ 63 }
+        ensures item { result ≡ taken self.old.replay.reading text.now }
+        ensures state { self.new ≡ read_on text.now self.old }
+        ensures valid { IfOk result (IsItem self.old.replay.reading.stage) }
+    {
+        self.replay.reading.take_line(text)
+    }
+
+    /// Takes a line if it is a record that isn't refused by its words.
+    #[inline(always)]
+    fn read_record(&mut self, text: &[u8]) -> Option<Written>
+        requires { self.old.replay.reading.lines < 2 ^ 63 }
+        ensures item { IfSome result
+            (λ r. taken self.old.replay.reading text.now ≡ Ok (Item.Next r)) }
+        ensures state { OnSome result (self.new ≡ read_on text.now self.old) }
+        ensures valid { IfSome result (IsRecordAt self.old.replay.reading.stage) }
+        ensures none { IfNone result (self.new ≡ self.old) }
+    {
+        self.replay.reading.take_record(text)
+    }
+
+    /// Answers a line that is no record, or one that is refused. It stands apart, since its item has room for a board,
+    /// which a call clears as it begins.
+    #[cold]
+    #[inline(never)]
+    #[tactic(auto, unfolding(crate::specs::Check::check_answer))]
+    fn answer_other(
+        &mut self,
+        line: u64,
+        text: &[u8],
+        out: &mut Vec<u8>,
+    ) -> Result<Option<Checked>, NoMemory>
+        requires room { line < 2 ^ 63 }
+        requires may { IsCheckReady line self.old }
+        ensures printed { OnOk result
+            (out.new.items ≡ out.old.items ++ printed (check_answer line self.old text.now)) }
+        ensures ends { IfOk result (λ end. end ≡ end_of (check_answer line self.old text.now)) }
+        ensures state { IfOk result (λ end. end ≡ None
+            → self.new ≡ state_behind (check_answer line self.old text.now) self.old) }
+        ensures may { IfOk result (λ end. end ≡ None → IsCheckReady (line + 1) self.new) }
+        ensures err { OnErr result (StartsWith out.new.items out.old.items) }
+    {
+        match self.read_line(text) {
+            Ok(item) => self.answer_item(line, &item, out),
+            Err(fault) => self.refuse(line, fault, out),
+        }
+    }
+}
+
+/// Refuses a record that is one too many.
+#[cold]
+#[inline(never)]
+fn many(line: u64, out: &mut Vec<u8>) -> Result<Option<Checked>, NoMemory>
+    ensures printed { OnOk result (out.new.items ≡ out.old.items ++ (too_many line).text) }
+    ensures ends { IfOk result (λ end. end ≡ Some (too_many line).end) }
+    ensures err { OnErr result (out.new.items ≡ out.old.items) }
+{
+    let verdict = stop(line, Refused::Many, out)?;
+    Ok(Some(Checked::Stopped(verdict)))
+}
+
+impl Answerer<Checked> for Check {
+    ghost use Rattle.trace_runner.specs.Check.{check_answer, check_closing, IsCheckReady};
+
+    ghost answer = { check_answer };
+
+    ghost closing = { check_closing };
+
+    ghost may = { IsCheckReady };
+
+    #[tactic(auto, unfolding(crate::specs::Check::check_answer))]
+    fn answer(
+        &mut self,
+        line: u64,
+        text: &[u8],
+        out: &mut Vec<u8>,
+    ) -> Result<Option<Checked>, NoMemory> {
+        if let Some(record) = self.read_record(text) {
+            return self.take(line, &record, out);
+        }
+        self.answer_other(line, text, out)
+    }
+
+    fn close(&mut self, line: u64, out: &mut Vec<u8>) -> Result<Checked, NoMemory> {
+        let verdict = self.replay.close(line, out)?;
+        Ok(Checked::Stopped(verdict))
+    }
+}
