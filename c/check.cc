@@ -1,0 +1,13 @@
+// The header as C++17, and the sizes that it names against the library's.
+#include "clockboard.h"
+#include <cstdio>
+
+static_assert(sizeof(clockboard) == CLOCKBOARD_SIZE, "a board");
+static_assert(sizeof(clockboard_reply) == CLOCKBOARD_REPLY_SIZE, "a reply");
+
+int main() {
+    bool same = clockboard_abi() == CLOCKBOARD_ABI && clockboard_size() == CLOCKBOARD_SIZE
+        && clockboard_reply_size() == CLOCKBOARD_REPLY_SIZE;
+    std::printf("%s\n", same ? "header and library agree" : "header and library differ");
+    return same ? 0 : 1;
+}

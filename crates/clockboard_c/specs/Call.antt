@@ -1,0 +1,77 @@
+-- One access to a board that C holds: what it tells, and the board behind it.
+use Rattle.std.specs.Prelude.{
+  ℕ,
+  ◌-◌,
+  ◌==◌,
+  nat_lt,
+  if◌then◌else◌,
+  Option,
+  Some,
+  None,
+}
+use Rattle.board_types.specs.declared.access.Access.{Access}
+use Rattle.board_types.specs.declared.access.TickSource.{TickSource}
+use Rattle.board_types.specs.declared.access.TickSource.TheVariants.{Pit, Rtc, Hpet}
+use Rattle.board_types.specs.declared.parts.BoardParts.{BoardParts}
+use Rattle.board_types.specs.declared.reply.Refusal.{Refusal}
+use Rattle.board_types.specs.Legal.{is_legal}
+use Rattle.board_core.specs.Time.{now_of}
+use Rattle.board_core.specs.Access.{reply_of, after_access}
+use Rattle.board_core.specs.Refusals.{refusal_of}
+use Rattle.clockboard_c.specs.declared.board.Board.{Board}
+use Rattle.clockboard_c.specs.declared.board.TheConstants.{SEAL}
+use Rattle.clockboard_c.specs.declared.code.TheConstants.{NO_BOARD, NO_PROCESSOR, NOT_OURS}
+use Rattle.clockboard_c.specs.Codes.{code_of}
+use Rattle.clockboard_c.specs.Replies.{Told, refused, taken, value_words}
+
+-- a board that a call has made
+abbrev pub sealed : BoardParts → Board
+sealed state = record { seal = SEAL; state = state }
+
+-- why an access isn't handed to the board, the causes in this order: the memory isn't sealed; the
+-- board has no such processor; it takes no such access
+abbrev pub early_code : Board → ℕ → Access → Option ℕ
+early_code b cpu a =
+    if b.seal == SEAL then
+    (if nat_lt cpu b.state.cpus then
+    (if is_legal b.state.cpus b.state.format a then None else Some NOT_OURS)
+    else Some NO_PROCESSOR)
+    else Some NO_BOARD
+
+-- what the board tells of an access that it is handed, where that is why it refuses it
+abbrev pub told_unless : Option Refusal → BoardParts → ℕ → ℕ → Access → Told
+told_unless (Some refusal) s cpu h a = refused (code_of refusal)
+told_unless None s cpu h a =
+    taken (reply_of s cpu h a).number (now_of (after_access s cpu h a))
+    (value_words (reply_of s cpu h a).value) (reply_of s cpu h a).edges
+
+abbrev pub told_by : BoardParts → ℕ → ℕ → Access → Told
+told_by s cpu h a = told_unless (refusal_of s cpu h a) s cpu h a
+
+-- and what it is then
+abbrev pub state_unless : Option Refusal → BoardParts → ℕ → ℕ → Access → BoardParts
+state_unless (Some refusal) s cpu h a = s
+state_unless None s cpu h a = after_access s cpu h a
+
+abbrev pub state_behind : BoardParts → ℕ → ℕ → Access → BoardParts
+state_behind s cpu h a = state_unless (refusal_of s cpu h a) s cpu h a
+
+-- what a call of an access tells: a code, or what the board tells
+abbrev pub told_or : Option ℕ → BoardParts → ℕ → ℕ → Access → Told
+told_or (Some code) s cpu h a = refused code
+told_or None s cpu h a = told_by s cpu h a
+
+abbrev pub told : Board → ℕ → ℕ → Access → Told
+told b cpu h a = told_or (early_code b cpu a) b.state cpu h a
+
+-- the board behind it: as it was, or as the access leaves it
+abbrev pub behind_or : Option ℕ → Board → ℕ → ℕ → Access → Board
+behind_or (Some code) b cpu h a = b
+behind_or None b cpu h a = record b { state = state_behind b.state cpu h a }
+
+abbrev pub behind : Board → ℕ → ℕ → Access → Board
+behind b cpu h a = behind_or (early_code b cpu a) b cpu h a
+
+-- the source of ticks of a number: the 8254, the MC146818, and then the timers of the HPET
+abbrev pub source_of : ℕ → TickSource
+source_of n = if n == 0 then Pit else (if n == 1 then Rtc else Hpet (n - 2))

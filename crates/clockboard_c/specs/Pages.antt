@@ -1,0 +1,69 @@
+-- What C reads of a page, and of the clock.
+use Rattle.std.specs.Prelude.{ℕ, ◌-◌, ◌%◌, ◌==◌, nat_lt, nat_le, if◌then◌else◌, [], ◌∷◌}
+use Rattle.clk_units.specs.Bits.{bit}
+use Rattle.clk_units.specs.declared.ranges.TheConstants.{RANGE_NS}
+use Rattle.host_counter.specs.Time.{time_at}
+use Rattle.pvclock_page.specs.Guest.{guest_bytes}
+use Rattle.pvclock_page.specs.declared.page.ClockReply.{ClockReply}
+use Rattle.pvclock_page.specs.declared.page.ClockReply.TheVariants.{Off, On}
+use Rattle.board_types.specs.declared.parts.BoardParts.{BoardParts}
+use Rattle.board_core.specs.Time.{now_of}
+use Rattle.board_core.specs.Tsc.{processor_at}
+use Rattle.board_core.specs.Pages.{page_in, clock_reply, after_clock}
+use Rattle.clockboard_c.specs.declared.board.Board.{Board}
+use Rattle.clockboard_c.specs.declared.board.TheConstants.{SEAL}
+use Rattle.clockboard_c.specs.declared.code.TheConstants.{
+  OK,
+  NO_BOARD,
+  NO_PROCESSOR,
+  BEFORE_START,
+  OUT_OF_RANGE,
+  PAGE_OFF,
+}
+use Rattle.clockboard_c.specs.declared.pages.PageWords.{PageWords}
+use Rattle.clockboard_c.specs.Replies.{Told, refused, taken}
+
+-- a page: the guest's address is the number in MSR_KVM_SYSTEM_TIME_NEW without its bit 0, which
+-- enables the page (Linux, msr.rst)
+abbrev pub page_words : BoardParts → ℕ → PageWords
+page_words s cpu = record {
+  guest_address = (processor_at s cpu).number - (processor_at s cpu).number % 2;
+  enabled = if bit 0 (processor_at s cpu).number then 1 else 0;
+  version = (processor_at s cpu).version;
+  bytes = guest_bytes (page_in (processor_at s cpu));
+}
+
+-- the code of a question about a processor
+abbrev pub page_code : Board → ℕ → ℕ
+page_code b cpu =
+    if b.seal == SEAL then (if nat_lt cpu b.state.cpus then OK else NO_PROCESSOR) else NO_BOARD
+
+-- the page, or what the memory held before
+abbrev pub page_behind : Board → ℕ → PageWords → PageWords
+page_behind b cpu before = if page_code b cpu == OK then page_words b.state cpu else before
+
+-- what a clock tells: its reading, clamped, and that of the page
+abbrev pub clock_in : ClockReply → ℕ → Told
+clock_in Off now = refused PAGE_OFF
+clock_in (On reading clock) now = taken 0 now (clock ∷ reading ∷ 0 ∷ 0 ∷ []) []
+
+-- the same at count h, which must have a time
+abbrev pub clock_by : BoardParts → ℕ → ℕ → Told
+clock_by s cpu h =
+    if nat_lt h s.anchor.start then refused BEFORE_START
+    else (if nat_le RANGE_NS (time_at s.anchor h) then refused OUT_OF_RANGE
+    else clock_in (clock_reply s cpu h) (now_of s))
+
+abbrev pub state_behind_clock : BoardParts → ℕ → ℕ → BoardParts
+state_behind_clock s cpu h =
+    if nat_lt h s.anchor.start then s
+    else (if nat_le RANGE_NS (time_at s.anchor h) then s else after_clock s cpu h)
+
+-- what the call tells, and the board behind it
+abbrev pub clock_told : Board → ℕ → ℕ → Told
+clock_told b cpu h =
+    if page_code b cpu == OK then clock_by b.state cpu h else refused (page_code b cpu)
+
+abbrev pub behind_clock : Board → ℕ → ℕ → Board
+behind_clock b cpu h =
+    if page_code b cpu == OK then record b { state = state_behind_clock b.state cpu h } else b

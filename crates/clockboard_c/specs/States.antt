@@ -1,0 +1,125 @@
+-- What C is told of saved states, moves and later formats.
+use Rattle.std.specs.Prelude.{
+  ℕ,
+  ◌==◌,
+  ◌&&◌,
+  nat_le,
+  if◌then◌else◌,
+  List,
+  [],
+  ◌∷◌,
+  length,
+  Option,
+  Some,
+  None,
+}
+use Rattle.board_types.specs.declared.parts.BoardParts.{BoardParts}
+use Rattle.board_devices.specs.Run.{run}
+use Rattle.board_core.specs.Time.{devices_in, now_of}
+use Rattle.board_core.specs.Upgrade.{upgraded_to}
+use Rattle.save_state.specs.declared.fault.StateFault.{StateFault}
+use Rattle.save_state.specs.declared.fault.StateKind.{StateKind}
+use Rattle.save_state.specs.declared.fault.StateKind.TheVariants.{
+  Short,
+  Magic,
+  Version,
+  Field,
+  Trailing,
+}
+use Rattle.save_state.specs.Reading.{board_in}
+use Rattle.save_state.specs.Table.{fault_of}
+use Rattle.save_state.specs.Writing.{bytes_of}
+use Rattle.transfer.specs.declared.outcome.MoveFault.{MoveFault}
+use Rattle.transfer.specs.declared.outcome.MoveFault.TheVariants.{OutOfRange, VersionsSpent}
+use Rattle.transfer.specs.Move.{move_fault, moved_to}
+use Rattle.clockboard_c.specs.declared.board.Board.{Board}
+use Rattle.clockboard_c.specs.declared.board.TheConstants.{SEAL}
+use Rattle.clockboard_c.specs.declared.code.TheConstants.{
+  OK,
+  NO_BOARD,
+  NO_ROOM,
+  BAD_STATE,
+  BAD_RATE,
+  BAD_FORMAT,
+  OUT_OF_RANGE,
+  VERSIONS_SPENT,
+}
+use Rattle.clockboard_c.specs.Call.{sealed}
+use Rattle.clockboard_c.specs.Replies.{Told, refused, refused_at, taken, no_value}
+use Rattle.clockboard_c.specs.Setup.{is_rate}
+
+-- the code of a save into so many bytes
+abbrev pub save_code : Board → ℕ → ℕ
+save_code b room =
+    if b.seal == SEAL then (if nat_le (length (bytes_of b.state)) room then OK else NO_ROOM)
+    else NO_BOARD
+
+-- what is at fault in a saved state, by a number
+abbrev pub kind_number : StateKind → ℕ
+kind_number Short = 0
+kind_number Magic = 1
+kind_number Version = 2
+kind_number Field = 3
+kind_number Trailing = 4
+
+-- what a load tells, where that is the first fault of its bytes, and the board behind it
+abbrev pub load_told_unless : Option StateFault → List ℕ → Told
+load_told_unless (Some f) bytes = refused_at BAD_STATE (f.place ∷ kind_number f.kind ∷ 0 ∷ 0 ∷ [])
+load_told_unless None bytes =
+    taken (board_in bytes).accesses (now_of (board_in bytes)) no_value []
+
+abbrev pub load_told : List ℕ → Told
+load_told bytes = load_told_unless (fault_of bytes) bytes
+
+abbrev pub loaded_unless : Option StateFault → List ℕ → Board → Board
+loaded_unless (Some f) bytes b = b
+loaded_unless None bytes b = sealed (board_in bytes)
+
+abbrev pub loaded : List ℕ → Board → Board
+loaded bytes b = loaded_unless (fault_of bytes) bytes b
+
+-- why a move is refused
+abbrev pub fault_code : MoveFault → ℕ
+fault_code (OutOfRange ns) = OUT_OF_RANGE
+fault_code (VersionsSpent cpu version) = VERSIONS_SPENT
+
+-- what a move to a host with a rate in range tells, where that is its fault, and the state behind it
+abbrev pub moved_told_unless : Option MoveFault → BoardParts → ℕ → ℕ → ℕ → Told
+moved_told_unless (Some f) s khz start gap = refused (fault_code f)
+moved_told_unless None s khz start gap =
+    taken (moved_to khz start gap s).accesses (now_of (moved_to khz start gap s)) no_value
+    (run (now_of s) gap (devices_in s)).edges
+
+abbrev pub moved_told : BoardParts → ℕ → ℕ → ℕ → Told
+moved_told s khz start gap = moved_told_unless (move_fault gap s) s khz start gap
+
+abbrev pub state_moved_unless : Option MoveFault → BoardParts → ℕ → ℕ → ℕ → BoardParts
+state_moved_unless (Some f) s khz start gap = s
+state_moved_unless None s khz start gap = moved_to khz start gap s
+
+abbrev pub state_behind_move : BoardParts → ℕ → ℕ → ℕ → BoardParts
+state_behind_move s khz start gap = state_moved_unless (move_fault gap s) s khz start gap
+
+-- what the call tells, and the board behind it
+abbrev pub move_told : Board → ℕ → ℕ → ℕ → Told
+move_told b khz start gap =
+    if b.seal == SEAL then
+    (if is_rate khz then moved_told b.state khz start gap else refused BAD_RATE)
+    else refused NO_BOARD
+
+abbrev pub behind_move : Board → ℕ → ℕ → ℕ → Board
+behind_move b khz start gap =
+    if b.seal == SEAL && is_rate khz then
+    record b { state = state_behind_move b.state khz start gap }
+    else b
+
+-- the code of an upgrade, and the board behind it
+abbrev pub upgrade_code : Board → ℕ → ℕ
+upgrade_code b format =
+    if b.seal == SEAL then
+    (if nat_le b.state.format format && nat_le format 2 then OK else BAD_FORMAT)
+    else NO_BOARD
+
+abbrev pub behind_upgrade : Board → ℕ → Board
+behind_upgrade b format =
+    if upgrade_code b format == OK then record b { state = upgraded_to format b.state } else b

@@ -1,0 +1,61 @@
+-- What a monitor's one timer needs: when a line changes next, and the host's count of a time.
+use Rattle.std.specs.Prelude.{
+  ℕ,
+  ◌+◌,
+  ◌-◌,
+  ◌*◌,
+  ◌/◌,
+  ◌^◌,
+  ◌<◌,
+  ◌≤◌,
+  ◌==◌,
+  nat_lt,
+  if◌then◌else◌,
+  Option,
+  Some,
+  None,
+}
+use Rattle.host_counter.specs.declared.Anchor.{Anchor}
+use Rattle.host_counter.specs.Time.{time_at}
+use Rattle.board_core.specs.Time.{devices_in, now_of}
+use Rattle.board_core.specs.Next.{next_of}
+use Rattle.clockboard_c.specs.declared.board.Board.{Board}
+use Rattle.clockboard_c.specs.declared.board.TheConstants.{SEAL}
+use Rattle.clockboard_c.specs.declared.code.TheConstants.{OK, NO_BOARD, NO_EDGE}
+
+-- the number in some memory behind a call that has one to tell or not
+abbrev pub number_or_0 : Option ℕ → ℕ
+number_or_0 (Some n) = n
+number_or_0 None = 0
+
+abbrev pub code_or_none : Option ℕ → ℕ
+code_or_none (Some n) = OK
+code_or_none None = NO_EDGE
+
+-- a question to a board that is answered by a number, or by none
+abbrev pub answer_code : Board → Option ℕ → ℕ
+answer_code b told = if b.seal == SEAL then code_or_none told else NO_BOARD
+
+abbrev pub answer_number : Board → Option ℕ → ℕ
+answer_number b told = if b.seal == SEAL then number_or_0 told else 0
+
+-- when a line changes next, if no access comes
+abbrev pub next_in : Board → Option ℕ
+next_in b = next_of (now_of b.state) (devices_in b.state)
+
+-- the first count of the host's counter whose time is t or later
+unfoldable pub count_of : Anchor → ℕ → ℕ
+count_of anchor t = anchor.start + ((t - anchor.base_ns) * anchor.khz + 999999) / 1000000
+
+-- the same, where it is a number of 64 bits
+abbrev pub count_within : Anchor → ℕ → Option ℕ
+count_within anchor t = if nat_lt (count_of anchor t) (2 ^ 64) then Some (count_of anchor t) else None
+
+abbrev pub count_in : Board → ℕ → Option ℕ
+count_in b t = count_within b.state.anchor t
+
+-- a count has that time, and none before it has
+pub record IsFirstCount (anchor : Anchor) (t count : ℕ) : Type 0 where
+  pub started : anchor.start ≤ count
+  pub reached : t ≤ time_at anchor count
+  pub least : (h : ℕ) → anchor.start ≤ h → h < count → time_at anchor h < t

@@ -1,0 +1,48 @@
+//! The board for C: a static library of plain calls over `board_core`, `save_state` and `transfer`.
+//!
+//! A monitor in C, C++ or Rust keeps a board in memory of its own and hands each call one access with the count
+//! of the host's counter. `c/clockboard.h` declares the calls, and docs/C_LIBRARY.md tells how a monitor wires them
+//! to its one timer and to its interrupt controller.
+//!
+//! No call has a condition on its numbers: a processor, port, register, width, line, source, setup or state that
+//! no board has is answered by a code, and changes nothing. What a call answers is `told` or the like of specs/,
+//! over the definitions of the crates below.
+//!
+//! What can't be checked is left to the caller: pointers lead to memory of the type that they name, no two calls
+//! on one board overlap, and the bytes of a board are written by this library alone, or copied whole from a board.
+//! Its first word is a seal, which is looked at before anything else of it: memory that no call has filled is
+//! answered `NO_BOARD`.
+#![tactic(auto)]
+
+mod board;
+mod call;
+mod code;
+mod pages;
+mod ports;
+mod power_on;
+mod registers;
+mod reply;
+mod states;
+mod timer;
+
+pub use board::{
+    ABI, Board, clockboard_abi, clockboard_blank, clockboard_reply_size, clockboard_size,
+};
+pub use code::{
+    ACCESSES_SPENT, BAD_FORMAT, BAD_RATE, BAD_SETUP, BAD_STATE, BEFORE_START, NO_BOARD, NO_EDGE,
+    NO_MEMORY, NO_PROCESSOR, NO_ROOM, NOT_OURS, OK, OUT_OF_RANGE, PAGE_OFF, VERSIONS_SPENT,
+};
+pub use pages::{PageWords, clockboard_clock, clockboard_page};
+pub use ports::{clockboard_port_read, clockboard_port_write, clockboard_step};
+pub use power_on::{SetupWords, clockboard_power_on};
+pub use registers::{
+    clockboard_acknowledge, clockboard_counts, clockboard_hpet_read, clockboard_hpet_write,
+    clockboard_msr_read, clockboard_msr_write, clockboard_refresh, clockboard_rises,
+    clockboard_wall,
+};
+pub use reply::{EdgeWords, ReplyWords};
+pub use states::{clockboard_load, clockboard_move, clockboard_save, clockboard_upgrade};
+pub use timer::{clockboard_counter_of, clockboard_next_edge};
+
+#[cfg(test)]
+mod tests;

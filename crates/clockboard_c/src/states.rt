@@ -1,0 +1,165 @@
+//! Saved states, moves to another host, and later formats.
+ghost use Rattle.std.specs.Prelude.{◌≡◌, ◌≢◌, ◌≤◌, ◌++◌, ◌⊎◌, drop, length};
+ghost use Rattle.clk_units.specs.Ranges.{IsKhz};
+ghost use Rattle.save_state.specs.Writing.{bytes_of};
+ghost use Rattle.save_state.specs.declared.fault.StateKind.{StateKind};
+ghost use Rattle.clockboard_c.specs.Replies.{IsReply};
+ghost use Rattle.clockboard_c.specs.States.{
+  save_code,
+  kind_number,
+  load_told,
+  loaded,
+  move_told,
+  behind_move,
+  moved_told,
+  state_behind_move,
+  fault_code,
+  upgrade_code,
+  behind_upgrade,
+};
+
+use crate::board::{Board, SEAL, sealed};
+use crate::code::{
+    BAD_FORMAT, BAD_RATE, BAD_STATE, NO_BOARD, NO_MEMORY, NO_ROOM, OK, OUT_OF_RANGE, VERSIONS_SPENT,
+};
+use crate::reply::{NO_VALUE, ReplyWords};
+use board_core::BoardState;
+use clk_units::is_khz;
+use save_state::{StateKind, decode, encode};
+use std::alloc::Global;
+use transfer::{MoveFault, moved};
+
+/// Writes a board's saved state to the front of `bytes`, and how long it is to `written`; where the room is too small,
+/// only the length. It takes memory, and gives it back.
+#[unsafe(no_mangle)]
+pub extern "C" fn clockboard_save(
+    alloc: Global,
+    board: &Board,
+    bytes: &mut [u8],
+    written: &mut usize,
+) -> u32
+    // Only want of memory comes between.
+    ensures code { result ≡ NO_MEMORY ⊎ result ≡ save_code board.now (length bytes.old) }
+    ensures saved { result ≡ OK → bytes.new
+        ≡ bytes_of board.now.state ++ drop (length (bytes_of board.now.state)) bytes.old }
+    ensures kept { result ≢ OK → bytes.new ≡ bytes.old }
+    // The length that was written, or that is wanted.
+    ensures length { result ≡ OK ⊎ result ≡ NO_ROOM
+        → written.new ≡ length (bytes_of board.now.state) }
+    ensures none { result ≡ NO_BOARD ⊎ result ≡ NO_MEMORY → written.new ≡ 0 }
+{
+    *written = 0;
+    if board.seal != SEAL {
+        return NO_BOARD;
+    }
+    let Ok(saved) = encode(alloc, &board.state) else {
+        return NO_MEMORY;
+    };
+    *written = saved.len();
+    if saved.len() > bytes.len() {
+        return NO_ROOM;
+    }
+    bytes[..saved.len()].copy_from_slice(&saved);
+    OK
+}
+
+/// Makes the board of a saved state, in any memory. Bytes that are those of no board are refused: the reply's value has
+/// the place of the first field at fault, and what is at fault there; the memory stays as it is.
+#[unsafe(no_mangle)]
+pub extern "C" fn clockboard_load(board: &mut Board, bytes: &[u8], reply: &mut ReplyWords)
+    ensures reply { IsReply reply.new (load_told bytes.now) }
+    ensures board { board.new ≡ loaded bytes.now board.old }
+{
+    match decode(bytes) {
+        Ok(state) => {
+            *board = sealed(state);
+            reply.take(board.state.accesses(), board.state.now(), NO_VALUE, &[]);
+        }
+        Err(fault) => {
+            reply.refuse_at(BAD_STATE, [fault.place, kind_number(fault.kind), 0, 0]);
+        }
+    }
+}
+
+/// What is at fault, by a number.
+fn kind_number(kind: StateKind) -> u64
+    ensures { result ≡ kind_number kind }
+{
+    match kind {
+        StateKind::Short => 0,
+        StateKind::Magic => 1,
+        StateKind::Version => 2,
+        StateKind::Field => 3,
+        StateKind::Trailing => 4,
+    }
+}
+
+/// Moves a board to a host whose counter runs at `khz`, and counts `start` when the gap of `gap_ns` is over.
+#[unsafe(no_mangle)]
+pub extern "C" fn clockboard_move(
+    board: &mut Board,
+    khz: u64,
+    start: u64,
+    gap_ns: u64,
+    reply: &mut ReplyWords,
+)
+    ensures reply { IsReply reply.new (move_told board.old khz start gap_ns) }
+    ensures board { board.new ≡ behind_move board.old khz start gap_ns }
+{
+    if board.seal != SEAL {
+        reply.refuse(NO_BOARD);
+        return;
+    }
+    if !is_khz(khz) {
+        reply.refuse(BAD_RATE);
+        return;
+    }
+    move_on(&mut board.state, khz, start, gap_ns, reply);
+}
+
+/// Moves a board to a host with a rate in range.
+#[inline(never)]
+fn move_on(state: &mut BoardState, khz: u64, start: u64, gap_ns: u64, reply: &mut ReplyWords)
+    requires { IsKhz khz }
+    ensures reply { IsReply reply.new (moved_told state.old khz start gap_ns) }
+    ensures state { state.new ≡ state_behind_move state.old khz start gap_ns }
+{
+    match moved(state, khz, start, gap_ns) {
+        Ok(moved) => {
+            *state = moved.state;
+            reply.take(
+                state.accesses(),
+                state.now(),
+                NO_VALUE,
+                moved.edges.as_slice(),
+            );
+        }
+        Err(fault) => reply.refuse(fault_code(fault)),
+    }
+}
+
+/// The code of a move that is refused.
+fn fault_code(fault: MoveFault) -> u32
+    ensures { result ≡ fault_code fault }
+{
+    match fault {
+        MoveFault::OutOfRange { .. } => OUT_OF_RANGE,
+        MoveFault::VersionsSpent { .. } => VERSIONS_SPENT,
+    }
+}
+
+/// Takes a board to a later format, or leaves it in the same.
+#[unsafe(no_mangle)]
+pub extern "C" fn clockboard_upgrade(board: &mut Board, format: u8) -> u32
+    ensures code { result ≡ upgrade_code board.old format }
+    ensures board { board.new ≡ behind_upgrade board.old format }
+{
+    if board.seal != SEAL {
+        return NO_BOARD;
+    }
+    if format < board.state.format() || format > 2 {
+        return BAD_FORMAT;
+    }
+    board.state = board.state.upgraded(format);
+    OK
+}

@@ -1,0 +1,95 @@
+//! What a monitor's one timer needs: the next edge, and the host's count of a time.
+ghost use Rattle.std.specs.Prelude.{◌≡◌, ◌+◌, ◌-◌, ◌*◌, ◌/◌, ◌^◌, ◌<◌, ◌≤◌, Some, IfSome};
+ghost use Rattle.clk_units.specs.Ranges.{IsKhz};
+ghost use Rattle.clockboard_c.specs.Timer.{
+  code_or_none,
+  number_or_0,
+  answer_code,
+  answer_number,
+  next_in,
+  count_of,
+  count_in,
+  count_within,
+  IsFirstCount,
+};
+
+use crate::board::{Board, SEAL};
+use crate::code::{NO_BOARD, NO_EDGE, OK};
+use board_core::BoardState;
+use host_counter::Anchor;
+
+/// Nanoseconds in a millisecond, of which a counter of 1 kHz counts one.
+const MILLISECOND_NS: u128 = 1_000_000;
+
+/// The first nanosecond behind the board's time, and below 2^59, in which a line changes if no access comes; 0 behind a
+/// code other than `OK`.
+#[unsafe(no_mangle)]
+pub extern "C" fn clockboard_next_edge(board: &Board, at_ns: &mut u64) -> u32
+    ensures code { result ≡ answer_code board.now (next_in board.now) }
+    ensures number { at_ns.new ≡ answer_number board.now (next_in board.now) }
+{
+    if board.seal != SEAL {
+        *at_ns = 0;
+        return NO_BOARD;
+    }
+    tell(board.state.next_edge(), at_ns)
+}
+
+/// The first count of the host's counter whose time is `at_ns` or later; 0 behind a code other than `OK`.
+#[unsafe(no_mangle)]
+pub extern "C" fn clockboard_counter_of(board: &Board, at_ns: u64, host: &mut u64) -> u32
+    ensures code { result ≡ answer_code board.now (count_in board.now at_ns) }
+    ensures number { host.new ≡ answer_number board.now (count_in board.now at_ns) }
+    ensures first { result ≡ OK → IsFirstCount board.now.state.anchor at_ns host.new }
+{
+    if board.seal != SEAL {
+        *host = 0;
+        return NO_BOARD;
+    }
+    tell(count_within(&anchor_of(&board.state), at_ns), host)
+}
+
+/// The anchor of a board, with a rate in range.
+fn anchor_of(state: &BoardState) -> Anchor
+    ensures value { result ≡ state.now.anchor }
+    ensures rate { IsKhz result.khz }
+{
+    // A board tells with its processors what joins its parts.
+    let _ = state.cpus();
+    state.anchor()
+}
+
+/// Puts a number where there is one, and answers the code.
+fn tell(told: Option<u64>, number: &mut u64) -> u32
+    ensures code { result ≡ code_or_none told }
+    ensures number { number.new ≡ number_or_0 told }
+    ensures some { result ≡ OK → told ≡ Some number.new }
+{
+    match told {
+        Some(told) => {
+            *number = told;
+            OK
+        }
+        None => {
+            *number = 0;
+            NO_EDGE
+        }
+    }
+}
+
+/// The first count with a time or a later one, where 64 bits hold it.
+#[tactic(auto, using(crate::proofs::Counts::first_count), unfolding(crate::specs::Timer::count_of))]
+fn count_within(anchor: &Anchor, t: u64) -> Option<u64>
+    requires { IsKhz anchor.now.khz }
+    ensures value { result ≡ count_within anchor.now t }
+    ensures first { IfSome result (IsFirstCount anchor.now t) }
+{
+    let behind = u128::from(t.saturating_sub(anchor.base_ns));
+    let counts = (behind * u128::from(anchor.khz) + (MILLISECOND_NS - 1)) / MILLISECOND_NS;
+    let count = u128::from(anchor.start) + counts;
+    if count < 0x1_0000_0000_0000_0000 {
+        Some(count as u64)
+    } else {
+        None
+    }
+}

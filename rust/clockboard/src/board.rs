@@ -1,0 +1,176 @@
+//! The board.
+use crate::access::{Access, Setup};
+use crate::error::Error;
+use crate::ffi;
+use crate::reply::{Clock, Page, Reply};
+
+/// A board: the time hardware of one guest.
+#[derive(Clone)]
+pub struct Board(ffi::Board);
+
+impl Default for Board {
+    /// A board at power on with the setup by default.
+    fn default() -> Board {
+        // SAFETY: the call takes nothing, and gives a board by value.
+        Board(unsafe { ffi::clockboard_blank() })
+    }
+}
+
+impl Board {
+    /// A board at power on.
+    pub fn power_on(setup: &Setup) -> Result<Board, Error> {
+        let mut board = Board::default();
+        let words = setup.words();
+        board.call(|board, reply| {
+            // SAFETY: three references of their types, which don't overlap.
+            unsafe { ffi::clockboard_power_on(board, &words, reply) }
+        })?;
+        Ok(board)
+    }
+
+    /// Whether the archive has the interface that this crate was written for. A program that links another archive's
+    /// calls gets a build that fails, or this false.
+    pub fn fits_archive() -> bool {
+        // SAFETY: these calls take nothing.
+        let (abi, board, reply) = unsafe {
+            (
+                ffi::clockboard_abi(),
+                ffi::clockboard_size(),
+                ffi::clockboard_reply_size(),
+            )
+        };
+        abi == ffi::ABI
+            && board == core::mem::size_of::<ffi::Board>()
+            && reply == core::mem::size_of::<ffi::Reply>()
+    }
+
+    /// One access by processor `cpu` at count `host` of the host's counter.
+    pub fn access(&mut self, cpu: u8, host: u64, access: Access) -> Result<Reply, Error> {
+        use Access::*;
+        // SAFETY: the board and the reply are references of their types, which don't overlap; the calls check all else.
+        self.call(|board, reply| unsafe {
+            match access {
+                Step => ffi::clockboard_step(board, cpu, host, reply),
+                PortRead { port } => ffi::clockboard_port_read(board, cpu, host, port, reply),
+                PortWrite { port, byte } => {
+                    ffi::clockboard_port_write(board, cpu, host, port, byte, reply)
+                }
+                HpetRead { offset, width } => {
+                    ffi::clockboard_hpet_read(board, cpu, host, offset, width, reply)
+                }
+                HpetWrite {
+                    offset,
+                    width,
+                    value,
+                } => ffi::clockboard_hpet_write(board, cpu, host, offset, width, value, reply),
+                MsrRead { msr } => ffi::clockboard_msr_read(board, cpu, host, msr, reply),
+                MsrWrite { msr, value } => {
+                    ffi::clockboard_msr_write(board, cpu, host, msr, value, reply)
+                }
+                Acknowledge { line } => ffi::clockboard_acknowledge(board, cpu, host, line, reply),
+                Refresh { page } => ffi::clockboard_refresh(board, cpu, host, page, reply),
+                Wall => ffi::clockboard_wall(board, cpu, host, reply),
+                Counts(source) => ffi::clockboard_counts(board, cpu, host, source.number(), reply),
+                Rises { line } => ffi::clockboard_rises(board, cpu, host, line, reply),
+            }
+        })
+    }
+
+    /// The first nanosecond behind the board's time, and below 2^59, in which a line changes if no access comes.
+    pub fn next_edge(&self) -> Option<u64> {
+        let mut at = 0;
+        // SAFETY: two references of their types.
+        let code = unsafe { ffi::clockboard_next_edge(&self.0, &mut at) };
+        (code == 0).then_some(at)
+    }
+
+    /// The first count of the host's counter whose time is `at_ns` or later, where 64 bits hold it.
+    pub fn counter_of(&self, at_ns: u64) -> Option<u64> {
+        let mut host = 0;
+        // SAFETY: two references of their types.
+        let code = unsafe { ffi::clockboard_counter_of(&self.0, at_ns, &mut host) };
+        (code == 0).then_some(host)
+    }
+
+    /// The page of a processor, as it was published last.
+    pub fn page(&self, cpu: u8) -> Result<Page, Error> {
+        let mut page = ffi::Page {
+            guest_address: 0,
+            enabled: 0,
+            version: 0,
+            bytes: [0; 32],
+        };
+        // SAFETY: two references of their types.
+        match unsafe { ffi::clockboard_page(&self.0, cpu, &mut page) } {
+            0 => Ok(Page {
+                guest_address: page.guest_address,
+                enabled: page.enabled != 0,
+                version: page.version,
+                bytes: page.bytes,
+            }),
+            code => Err(Error::of_code(code, [0; 4])),
+        }
+    }
+
+    /// What the clock of a processor tells at count `host`, never less than it told before. It is no access.
+    pub fn clock(&mut self, cpu: u8, host: u64) -> Result<Clock, Error> {
+        let reply = self.call(|board, reply| {
+            // SAFETY: two references of their types, which don't overlap.
+            unsafe { ffi::clockboard_clock(board, cpu, host, reply) }
+        })?;
+        let [clock_ns, reading_ns, ..] = reply.values();
+        Ok(Clock {
+            clock_ns,
+            reading_ns,
+        })
+    }
+
+    /// Writes the saved state to the front of `bytes`, and answers its length. 4006 bytes are enough for each board.
+    pub fn save(&self, bytes: &mut [u8]) -> Result<usize, Error> {
+        let mut written = 0;
+        // SAFETY: references of their types, and a slice by its pointer, which isn't null, and its length.
+        let code =
+            unsafe { ffi::clockboard_save(&self.0, bytes.as_mut_ptr(), bytes.len(), &mut written) };
+        match code {
+            0 => Ok(written),
+            code => Err(Error::of_code(code, [written as u64, 0, 0, 0])),
+        }
+    }
+
+    /// The board of a saved state.
+    pub fn load(bytes: &[u8]) -> Result<Board, Error> {
+        let mut board = Board::default();
+        board.call(|board, reply| {
+            // SAFETY: references of their types, and a slice by its pointer, which isn't null, and its length.
+            unsafe { ffi::clockboard_load(board, bytes.as_ptr(), bytes.len(), reply) }
+        })?;
+        Ok(board)
+    }
+
+    /// Moves the board to a host whose counter runs at `khz` and counts `start` when the gap of `gap_ns` is over.
+    pub fn move_to(&mut self, khz: u64, start: u64, gap_ns: u64) -> Result<Reply, Error> {
+        self.call(|board, reply| {
+            // SAFETY: two references of their types, which don't overlap.
+            unsafe { ffi::clockboard_move(board, khz, start, gap_ns, reply) }
+        })
+    }
+
+    /// Takes the board to a later format, or leaves it in the same.
+    pub fn upgrade(&mut self, format: u8) -> Result<(), Error> {
+        // SAFETY: a reference of its type.
+        match unsafe { ffi::clockboard_upgrade(&mut self.0, format) } {
+            0 => Ok(()),
+            code => Err(Error::of_code(code, [0; 4])),
+        }
+    }
+
+    /// A call that fills a reply.
+    fn call(&mut self, f: impl FnOnce(&mut ffi::Board, &mut ffi::Reply)) -> Result<Reply, Error> {
+        let mut reply = ffi::Reply::empty();
+        f(&mut self.0, &mut reply);
+        match reply.answer {
+            0 => Ok(Reply(reply)),
+            code => Err(Error::of_code(code, reply.value)),
+        }
+    }
+}

@@ -1,0 +1,149 @@
+//! The calls of the archive, as `c/clockboard.h` declares them.
+
+/// `CLOCKBOARD_ABI` of the header.
+pub const ABI: u32 = 1;
+
+/// `CLOCKBOARD_SIZE` of the header.
+pub const SIZE: usize = 4_640;
+
+#[derive(Clone, Copy)]
+#[repr(C)]
+pub struct Board {
+    pub opaque: [u64; SIZE / 8],
+}
+
+#[repr(C)]
+pub struct Setup {
+    pub host_khz: u64,
+    pub host_start: u64,
+    pub base_ns: u64,
+    pub guest_khz: u64,
+    pub slew_ns: u64,
+    pub wall_sec: u32,
+    pub wall_nsec: u32,
+    pub format: u8,
+    pub cpus: u8,
+    pub pit_policy: u8,
+    pub rtc_policy: u8,
+    pub hpet_policy: u8,
+    pub time: [u8; 7],
+}
+
+#[derive(Clone, Copy)]
+#[repr(C)]
+pub struct Edge {
+    pub at_ns: u64,
+    pub line: u32,
+    pub up: u32,
+}
+
+#[repr(C)]
+pub struct Reply {
+    pub answer: u32,
+    pub edge_count: u32,
+    pub number: u64,
+    pub now_ns: u64,
+    pub value: [u64; 4],
+    pub edges: [Edge; 24],
+}
+
+impl Reply {
+    /// A reply to be filled.
+    pub fn empty() -> Reply {
+        let edge = Edge {
+            at_ns: 0,
+            line: 0,
+            up: 0,
+        };
+        Reply {
+            answer: 0,
+            edge_count: 0,
+            number: 0,
+            now_ns: 0,
+            value: [0; 4],
+            edges: [edge; 24],
+        }
+    }
+}
+
+#[repr(C)]
+pub struct Page {
+    pub guest_address: u64,
+    pub enabled: u32,
+    pub version: u32,
+    pub bytes: [u8; 32],
+}
+
+extern "C" {
+    pub fn clockboard_abi() -> u32;
+    pub fn clockboard_size() -> usize;
+    pub fn clockboard_reply_size() -> usize;
+    pub fn clockboard_blank() -> Board;
+    pub fn clockboard_power_on(board: *mut Board, setup: *const Setup, reply: *mut Reply);
+    pub fn clockboard_step(board: *mut Board, cpu: u8, host: u64, reply: *mut Reply);
+    pub fn clockboard_port_read(
+        board: *mut Board,
+        cpu: u8,
+        host: u64,
+        port: u16,
+        reply: *mut Reply,
+    );
+    pub fn clockboard_port_write(
+        board: *mut Board,
+        cpu: u8,
+        host: u64,
+        port: u16,
+        byte: u8,
+        reply: *mut Reply,
+    );
+    pub fn clockboard_hpet_read(
+        board: *mut Board,
+        cpu: u8,
+        host: u64,
+        offset: u16,
+        width: u8,
+        reply: *mut Reply,
+    );
+    pub fn clockboard_hpet_write(
+        board: *mut Board,
+        cpu: u8,
+        host: u64,
+        offset: u16,
+        width: u8,
+        value: u64,
+        reply: *mut Reply,
+    );
+    pub fn clockboard_msr_read(board: *mut Board, cpu: u8, host: u64, msr: u32, reply: *mut Reply);
+    pub fn clockboard_msr_write(
+        board: *mut Board,
+        cpu: u8,
+        host: u64,
+        msr: u32,
+        value: u64,
+        reply: *mut Reply,
+    );
+    pub fn clockboard_acknowledge(
+        board: *mut Board,
+        cpu: u8,
+        host: u64,
+        line: u8,
+        reply: *mut Reply,
+    );
+    pub fn clockboard_refresh(board: *mut Board, cpu: u8, host: u64, page: u8, reply: *mut Reply);
+    pub fn clockboard_wall(board: *mut Board, cpu: u8, host: u64, reply: *mut Reply);
+    pub fn clockboard_counts(board: *mut Board, cpu: u8, host: u64, source: u8, reply: *mut Reply);
+    pub fn clockboard_rises(board: *mut Board, cpu: u8, host: u64, line: u8, reply: *mut Reply);
+    pub fn clockboard_next_edge(board: *const Board, at_ns: *mut u64) -> u32;
+    pub fn clockboard_counter_of(board: *const Board, at_ns: u64, host: *mut u64) -> u32;
+    pub fn clockboard_page(board: *const Board, cpu: u8, page: *mut Page) -> u32;
+    pub fn clockboard_clock(board: *mut Board, cpu: u8, host: u64, reply: *mut Reply);
+    pub fn clockboard_save(
+        board: *const Board,
+        bytes: *mut u8,
+        room: usize,
+        length: *mut usize,
+    ) -> u32;
+    pub fn clockboard_load(board: *mut Board, bytes: *const u8, length: usize, reply: *mut Reply);
+    pub fn clockboard_move(board: *mut Board, khz: u64, start: u64, gap_ns: u64, reply: *mut Reply);
+    pub fn clockboard_upgrade(board: *mut Board, format: u8) -> u32;
+}

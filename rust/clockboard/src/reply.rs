@@ -1,0 +1,92 @@
+//! What a board answers.
+use crate::ffi;
+use core::fmt;
+
+/// A change of the level of an interrupt line: 0 of the 8254, 8 of the MC146818, 20 to 23 of the HPET.
+#[derive(Clone, Copy, Debug, PartialEq, Eq)]
+pub struct Edge {
+    /// The nanosecond of the change.
+    pub at_ns: u64,
+    /// The line.
+    pub line: u8,
+    /// Whether it went up.
+    pub up: bool,
+}
+
+/// What an access gave.
+pub struct Reply(pub(crate) ffi::Reply);
+
+impl Reply {
+    /// The number of the access, from 1 on; of a move that of the last one.
+    pub fn number(&self) -> u64 {
+        self.0.number
+    }
+
+    /// The board's time behind the access, in nanoseconds.
+    pub fn now_ns(&self) -> u64 {
+        self.0.now_ns
+    }
+
+    /// What was read; 0 where nothing was.
+    pub fn value(&self) -> u64 {
+        self.0.value[0]
+    }
+
+    /// All that was read: of `Access::Counts` the ticks that came due, that rose, that wait, and that are lost; of
+    /// `Access::Wall` version, seconds and nanoseconds.
+    pub fn values(&self) -> [u64; 4] {
+        self.0.value
+    }
+
+    /// The edges in the order of time, those on the way to the access before its own.
+    pub fn edges(&self) -> impl ExactSizeIterator<Item = Edge> + '_ {
+        let count = (self.0.edge_count as usize).min(self.0.edges.len());
+        self.0.edges[..count].iter().map(|edge| Edge {
+            at_ns: edge.at_ns,
+            line: edge.line as u8,
+            up: edge.up != 0,
+        })
+    }
+}
+
+impl fmt::Debug for Reply {
+    fn fmt(&self, f: &mut fmt::Formatter<'_>) -> fmt::Result {
+        f.debug_struct("Reply")
+            .field("number", &self.number())
+            .field("now_ns", &self.now_ns())
+            .field("values", &self.values())
+            .field("edges", &Edges(self))
+            .finish()
+    }
+}
+
+/// The edges of a reply, as a list.
+struct Edges<'a>(&'a Reply);
+
+impl fmt::Debug for Edges<'_> {
+    fn fmt(&self, f: &mut fmt::Formatter<'_>) -> fmt::Result {
+        f.debug_list().entries(self.0.edges()).finish()
+    }
+}
+
+/// What the clock of a processor tells, in nanoseconds.
+#[derive(Clone, Copy, Debug, PartialEq, Eq)]
+pub struct Clock {
+    /// The greater of the page's reading and of all that was told before.
+    pub clock_ns: u64,
+    /// What the page itself gives.
+    pub reading_ns: u64,
+}
+
+/// A page of the paravirtual clock, as it was published last.
+#[derive(Clone, Copy, Debug, PartialEq, Eq)]
+pub struct Page {
+    /// Where the guest wants it.
+    pub guest_address: u64,
+    /// Whether the guest has enabled it.
+    pub enabled: bool,
+    /// The version: even, and 0 before the first publishing.
+    pub version: u32,
+    /// The bytes as the guest sees them, `struct pvclock_vcpu_time_info` of Linux.
+    pub bytes: [u8; 32],
+}

@@ -1,0 +1,348 @@
+//! The crate over the archive: worked cases of the data sheets, refusals, and what a state survives.
+use clockboard::{Access, Board, Clock, Edge, Error, Policy, Setup, StateFault, TickSource};
+
+/// Programs counter 0 of the 8254 in mode 2 with count 4.
+fn programmed() -> Board {
+    let mut board = Board::default();
+    for (port, byte) in [(0x43, 0x34), (0x40, 4), (0x40, 0)] {
+        board
+            .access(0, 0, Access::PortWrite { port, byte })
+            .unwrap();
+    }
+    board
+}
+
+#[test]
+fn the_archive_fits() {
+    assert!(Board::fits_archive());
+}
+
+/// 5,000 ns are five pulses of the 8254: the first loads the count, and the fifth lifts the line.
+#[test]
+fn one_rise_in_mode_2() {
+    let mut board = programmed();
+    assert_eq!(board.next_edge(), Some(4_191));
+    let reply = board.access(0, 5_000, Access::Step).unwrap();
+    let edges: Vec<Edge> = reply.edges().collect();
+    assert_eq!(
+        edges,
+        [Edge {
+            at_ns: 4_191,
+            line: 0,
+            up: true
+        }]
+    );
+    assert_eq!((reply.number(), reply.now_ns()), (4, 5_000));
+    let low = board
+        .access(0, 5_000, Access::PortRead { port: 0x40 })
+        .unwrap();
+    let high = board
+        .access(0, 5_000, Access::PortRead { port: 0x40 })
+        .unwrap();
+    assert_eq!((low.value(), high.value()), (4, 0));
+    let counts = board
+        .access(0, 5_000, Access::Counts(TickSource::Pit))
+        .unwrap();
+    assert_eq!(counts.values(), [1, 1, 0, 0]);
+}
+
+#[test]
+fn what_no_board_takes_changes_nothing() {
+    let mut board = programmed();
+    let wide = Access::HpetWrite {
+        offset: 0x10,
+        width: 4,
+        value: 1 << 32,
+    };
+    let refused = [
+        (0, Access::PortRead { port: 0x140 }, Error::NotOurs),
+        (
+            0,
+            Access::HpetRead {
+                offset: 0x400,
+                width: 4,
+            },
+            Error::NotOurs,
+        ),
+        (
+            0,
+            Access::HpetRead {
+                offset: 0,
+                width: 3,
+            },
+            Error::NotOurs,
+        ),
+        (0, wide, Error::NotOurs),
+        (0, Access::MsrRead { msr: 0x11 }, Error::NotOurs),
+        (0, Access::Acknowledge { line: 1 }, Error::NotOurs),
+        (0, Access::Counts(TickSource::Hpet(255)), Error::NotOurs),
+        (0, Access::Rises { line: 0 }, Error::NotOurs),
+        (1, Access::Step, Error::NoProcessor),
+    ];
+    for (cpu, access, error) in refused {
+        assert_eq!(
+            board.access(cpu, 9_000, access).unwrap_err(),
+            error,
+            "{access:?}"
+        );
+    }
+    assert_eq!(
+        board.access(0, 1 << 59, Access::Step).unwrap_err(),
+        Error::OutOfRange
+    );
+    assert_eq!(board.access(0, 5_000, Access::Step).unwrap().number(), 4);
+}
+
+#[test]
+fn setups_out_of_range() {
+    let setup = Setup::default();
+    for bad in [
+        Setup {
+            cpus: 0,
+            ..setup.clone()
+        },
+        Setup {
+            cpus: 17,
+            ..setup.clone()
+        },
+        Setup {
+            format: 3,
+            ..setup.clone()
+        },
+        Setup {
+            host_khz: 99_999,
+            ..setup.clone()
+        },
+        Setup {
+            slew_ns: 0,
+            ..setup.clone()
+        },
+        Setup {
+            wall_nsec: 1_000_000_000,
+            ..setup.clone()
+        },
+    ] {
+        assert_eq!(
+            Board::power_on(&bad).err(),
+            Some(Error::BadSetup),
+            "{bad:?}"
+        );
+    }
+    let late = Setup {
+        host_start: 500,
+        ..setup
+    };
+    let mut board = Board::power_on(&late).unwrap();
+    assert_eq!(
+        board.access(0, 499, Access::Step).unwrap_err(),
+        Error::BeforeStart
+    );
+}
+
+/// At 3 GHz from count 500 on, count 3,500 is the first of the time 1,000 ns.
+#[test]
+fn the_count_of_a_time() {
+    let setup = Setup {
+        host_khz: 3_000_000,
+        host_start: 500,
+        ..Setup::default()
+    };
+    let board = Board::power_on(&setup).unwrap();
+    assert_eq!(board.counter_of(0), Some(500));
+    assert_eq!(board.counter_of(1_000), Some(3_500));
+    assert_eq!(board.counter_of(u64::MAX), None);
+}
+
+#[test]
+fn a_saved_board_goes_on_where_it_was() {
+    let mut board = programmed();
+    let mut bytes = [0; 4_006];
+    let length = board.save(&mut bytes).unwrap();
+    assert_eq!(length, 553);
+    assert_eq!(
+        board.save(&mut bytes[..552]),
+        Err(Error::NoRoom { wanted: 553 })
+    );
+    let mut loaded = Board::load(&bytes[..length]).unwrap();
+    let ahead = board.access(0, 10_000, Access::Step).unwrap();
+    let behind = loaded.access(0, 10_000, Access::Step).unwrap();
+    assert!(ahead.edges().eq(behind.edges()));
+    bytes[0] ^= 1;
+    let fault = Error::BadState {
+        place: 0,
+        kind: StateFault::Magic,
+    };
+    assert_eq!(Board::load(&bytes[..length]).err(), Some(fault));
+    assert_eq!(
+        Board::load(&[]).err(),
+        Some(Error::BadState {
+            place: 0,
+            kind: StateFault::Short
+        })
+    );
+}
+
+/// A guest of 2 GHz enables its page at 1,000 ns, and is moved at 2,000 ns over a gap of a second.
+#[test]
+fn a_clock_goes_on_behind_a_move() {
+    let setup = Setup {
+        guest_khz: 2_000_000,
+        ..Setup::default()
+    };
+    let mut board = Board::power_on(&setup).unwrap();
+    assert_eq!(board.clock(0, 0), Err(Error::PageOff));
+    let enable = Access::MsrWrite {
+        msr: 0x4b56_4d01,
+        value: 0x7001,
+    };
+    board.access(0, 0, enable).unwrap();
+    let page = board.page(0).unwrap();
+    assert_eq!(
+        (page.guest_address, page.enabled, page.version),
+        (0x7000, true, 2)
+    );
+    assert_eq!(
+        board.clock(0, 1_000),
+        Ok(Clock {
+            clock_ns: 1_000,
+            reading_ns: 1_000
+        })
+    );
+    board.access(0, 2_000, Access::Step).unwrap();
+    let moved = board.move_to(3_000_000, 500, 1_000_000_000).unwrap();
+    assert_eq!(moved.now_ns(), 1_000_002_000);
+    let told = Clock {
+        clock_ns: 1_000_003_000,
+        reading_ns: 1_000_003_000,
+    };
+    assert_eq!(board.clock(0, 3_500), Ok(told));
+    assert_eq!(board.move_to(1, 0, 0).unwrap_err(), Error::BadRate);
+    assert_eq!(board.page(1).err(), Some(Error::NoProcessor));
+}
+
+#[test]
+fn a_later_format_counts_rises() {
+    let mut board = programmed();
+    assert_eq!(board.upgrade(3), Err(Error::BadFormat));
+    board.upgrade(2).unwrap();
+    assert_eq!(board.upgrade(1), Err(Error::BadFormat));
+    let rises = board.access(0, 5_000, Access::Rises { line: 0 }).unwrap();
+    assert_eq!(rises.value(), 1);
+}
+
+/// The wall clock, the base time and the bytes of the MC146818 come from the setup.
+#[test]
+fn times_of_a_setup() {
+    let setup = Setup {
+        base_ns: 7_000,
+        wall_sec: 1_700_000_000,
+        wall_nsec: 5,
+        time: [0x59, 0x58, 0x23, 0x07, 0x30, 0x12, 0x99],
+        ..Setup::default()
+    };
+    let mut board = Board::power_on(&setup).unwrap();
+    assert_eq!(board.access(0, 0, Access::Step).unwrap().now_ns(), 7_000);
+    for (index, byte) in [0, 2, 4, 6, 7, 8, 9].into_iter().zip(setup.time) {
+        board
+            .access(
+                0,
+                0,
+                Access::PortWrite {
+                    port: 0x70,
+                    byte: index,
+                },
+            )
+            .unwrap();
+        let reply = board.access(0, 0, Access::PortRead { port: 0x71 }).unwrap();
+        assert_eq!(reply.value(), u64::from(byte), "index {index}");
+    }
+    let publish = Access::MsrWrite {
+        msr: 0x4b56_4d00,
+        value: 0x9000,
+    };
+    board.access(0, 0, publish).unwrap();
+    let words = board.access(0, 0, Access::Wall).unwrap().values();
+    assert_eq!(words, [2, 1_700_000_000, 5, 0]);
+    let number = board
+        .access(0, 0, Access::MsrRead { msr: 0x4b56_4d00 })
+        .unwrap();
+    assert_eq!(number.value(), 0x9000);
+}
+
+/// What became of ticks of a source: of the 8254 with count 4 behind an acknowledgement at 12,000 ns; of the MC146818 at rate 6
+/// behind 2 ms; of a periodic timer of the HPET with period 16 behind 450 ns.
+fn ticks(setup: &Setup, source: TickSource) -> [u64; 4] {
+    let mut board = Board::power_on(setup).unwrap();
+    let hpet = |offset, width, value| Access::HpetWrite {
+        offset,
+        width,
+        value,
+    };
+    let (script, host) = match source {
+        TickSource::Pit => (
+            [(0x43, 0x34), (0x40, 4), (0x40, 0)]
+                .map(|(port, byte)| Access::PortWrite { port, byte })
+                .to_vec(),
+            12_000,
+        ),
+        TickSource::Rtc => (
+            [(0x70, 0x0b), (0x71, 0x42)]
+                .map(|(port, byte)| Access::PortWrite { port, byte })
+                .to_vec(),
+            2_000_000,
+        ),
+        TickSource::Hpet(_) => (
+            vec![
+                hpet(0x100, 8, 0x294c),
+                hpet(0x108, 8, 0xffff_fff8),
+                hpet(0x108, 8, 0x10),
+                hpet(0xf0, 8, 0xffff_fff0),
+                hpet(0x10, 4, 1),
+            ],
+            450,
+        ),
+    };
+    for access in script {
+        board.access(0, 0, access).unwrap();
+    }
+    if source == TickSource::Pit {
+        board
+            .access(0, host, Access::Acknowledge { line: 0 })
+            .unwrap();
+    }
+    board
+        .access(0, host, Access::Counts(source))
+        .unwrap()
+        .values()
+}
+
+#[test]
+fn each_source_has_its_policy() {
+    let delay = Setup::default();
+    let discards = |pit, rtc, hpet| Setup {
+        pit,
+        rtc,
+        hpet,
+        ..delay.clone()
+    };
+    use Policy::{Delay, Discard, Slew};
+    assert_eq!(ticks(&delay, TickSource::Pit), [3, 2, 1, 0]);
+    assert_eq!(
+        ticks(&discards(Discard, Delay, Delay), TickSource::Pit),
+        [3, 1, 0, 2]
+    );
+    assert_eq!(
+        ticks(&discards(Slew, Delay, Delay), TickSource::Pit),
+        [3, 1, 2, 0]
+    );
+    assert_eq!(ticks(&delay, TickSource::Rtc), [2, 1, 1, 0]);
+    assert_eq!(
+        ticks(&discards(Delay, Discard, Delay), TickSource::Rtc),
+        [2, 1, 0, 1]
+    );
+    assert_eq!(ticks(&delay, TickSource::Hpet(0)), [3, 1, 2, 0]);
+    assert_eq!(
+        ticks(&discards(Delay, Delay, Discard), TickSource::Hpet(0)),
+        [3, 1, 0, 2]
+    );
+}
