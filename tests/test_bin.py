@@ -1,0 +1,127 @@
+"""bin/clockboard, in a small tree of its own: which program it runs, and what it says."""
+
+import hashlib
+import os
+import shutil
+import subprocess
+import tempfile
+import unittest
+from pathlib import Path
+
+import support
+
+PATH = "/usr/bin:/bin"
+"""A path without the kit's `rt`."""
+NAME = "clockboard-x86_64-linux"
+"""The released program."""
+RT = """#!/bin/sh
+mkdir -p out
+printf '#!/bin/sh\\necho built\\n' > out/clockboard
+chmod +x out/clockboard
+"""
+
+
+def put(path: Path, text: str) -> None:
+    path.parent.mkdir(parents=True, exist_ok=True)
+    path.write_text(text)
+    path.chmod(0o755)
+
+
+class Tree(unittest.TestCase):
+    def setUp(self) -> None:
+        folder = tempfile.TemporaryDirectory()
+        self.addCleanup(folder.cleanup)
+        self.top = Path(folder.name)
+        shutil.copytree(support.TOP / "bin", self.top / "bin")
+        (self.top / "crates.txt").write_text("clockboard:\n")
+        (self.top / "HANDLES").write_text("Handles allowed: none.\n")
+        self.edit("one")
+
+    def edit(self, text: str) -> None:
+        put(self.top / "crates/clockboard/src/main.rt", text)
+
+    def run_it(self, path: str = PATH, **env: str) -> tuple[int, str, str]:
+        done = subprocess.run([self.top / "bin/clockboard"], capture_output=True, text=True, check=False,
+                              stdin=subprocess.DEVNULL, env={**os.environ, "PATH": path, **env})
+        return done.returncode, done.stdout, done.stderr
+
+    def sum(self) -> str:
+        return subprocess.run([self.top / "bin/run-crate", "--sum", "clockboard"], capture_output=True, text=True,
+                              check=True).stdout
+
+    def build(self) -> None:
+        put(self.top / "crates/clockboard/out/clockboard", "#!/bin/sh\necho own\n")
+        (self.top / "crates/clockboard/out/clockboard.sources").write_text(self.sum())
+
+    def release(self) -> None:
+        text = "#!/bin/sh\necho released\n"
+        put(self.top / "release" / NAME, text)
+        digest = hashlib.sha256(text.encode()).hexdigest()
+        (self.top / f"release/{NAME}.sha256").write_text(f"{digest}  {NAME}\n")
+        (self.top / f"release/{NAME}.sources").write_text(self.sum())
+
+    def path_with_rt(self) -> str:
+        put(self.top / "kit/rt", RT)
+        return f"{self.top / 'kit'}:{PATH}"
+
+    def test_built(self) -> None:
+        self.build()
+        self.release()
+        self.assertEqual(self.run_it(), (0, "own\n", ""))
+
+    def test_released(self) -> None:
+        self.release()
+        self.assertEqual(self.run_it(self.path_with_rt()), (0, "released\n", ""))
+
+    def test_edited_is_built(self) -> None:
+        self.build()
+        self.release()
+        self.edit("two")
+        status, printed, said = self.run_it(self.path_with_rt())
+        self.assertEqual((status, printed), (0, "built\n"))
+        self.assertIn("building clockboard", said)
+        self.assertEqual(self.run_it(), (0, "built\n", ""))
+
+    def test_edited_without_rt(self) -> None:
+        self.build()
+        self.release()
+        self.edit("two")
+        status, printed, said = self.run_it()
+        self.assertEqual((status, printed), (0, "released\n"))
+        self.assertIn("the sources were edited since", said)
+
+    def test_released_on_demand(self) -> None:
+        self.build()
+        self.release()
+        self.edit("two")
+        status, printed, said = self.run_it(self.path_with_rt(), CLOCKBOARD_RELEASED="1")
+        self.assertEqual((status, printed), (0, "released\n"))
+        self.assertIn("the sources were edited since", said)
+
+    def test_making_a_release(self) -> None:
+        shutil.copytree(support.TOP / "tests", self.top / "tests", ignore=shutil.ignore_patterns("*.py", "logs"))
+        env = {**os.environ, "PATH": self.path_with_rt()}
+
+        def ends(script: str) -> tuple[int, str]:
+            done = subprocess.run([self.top / script], capture_output=True, text=True, check=False, env=env)
+            return done.returncode, done.stdout
+
+        self.assertEqual(ends("tests/release")[0], 1)
+        self.assertEqual(ends("bin/release")[0], 0)
+        shutil.rmtree(self.top / "crates/clockboard/out")
+        self.assertEqual(self.run_it(), (0, "built\n", ""))
+        status, printed = ends("tests/release")
+        self.assertEqual((status, printed.splitlines()[-1]), (0, "release: the same, byte by byte"))
+        self.edit("two")
+        self.assertEqual(ends("tests/release")[0], 1)
+
+    def test_wrong_checksum(self) -> None:
+        self.release()
+        put(self.top / "release" / NAME, "#!/bin/sh\necho other\n")
+        status, printed, said = self.run_it()
+        self.assertEqual((status, printed), (1, ""))
+        self.assertIn("no whole one in release/", said)
+
+
+if __name__ == "__main__":
+    unittest.main()

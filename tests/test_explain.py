@@ -1,0 +1,85 @@
+"""tools/explain, with a program that refuses as the test says."""
+
+import tempfile
+import unittest
+from pathlib import Path
+
+import support
+
+HEADER = b"clockboard 1\nbegin\n"
+
+
+class Explain(unittest.TestCase):
+    def explain(self, trace: bytes, said: str) -> list[str]:
+        with tempfile.TemporaryDirectory() as folder:
+            path = Path(folder) / "t"
+            path.write_bytes(trace)
+            done = support.run("explain", str(path), env=support.program_that_says(folder, said + "\n", 3))
+            self.assertEqual((done.returncode, done.stderr), (3, ""))
+            return done.stdout.splitlines()
+
+    def place(self, trace: bytes, said: str) -> str:
+        """What stands above the marks."""
+        rows = self.explain(trace, said)
+        marks = rows[2]
+        return rows[1][marks.index("^") : marks.rindex("^") + 1]
+
+    def mend(self, trace: bytes, said: str) -> str:
+        return next(row for row in self.explain(trace, said) if row.startswith("mend: "))
+
+    def test_prefix(self) -> None:
+        trace = HEADER + b"0 0 out 0x43 34\nend\n"
+        self.assertEqual(self.place(trace, "refused 3 form"), "0x43")
+        self.assertEqual(self.mend(trace, "refused 3 form"), "mend: numbers have no prefix: 43 in place of 0x43")
+        rows = self.explain(trace, "refused 3 form")
+        self.assertIn("  `out PORT BYTE` | a port is written, the same ports | none", rows)
+
+    def test_line_ends_and_mark(self) -> None:
+        self.assertIn("CR LF", self.mend(b"clockboard 1\r\nbegin\r\nend\r\n", "refused 1 form"))
+        self.assertIn("byte order mark", self.mend(b"\xef\xbb\xbfclockboard 1\nbegin\nend\n", "refused 1 form"))
+
+    def test_capitals(self) -> None:
+        trace = HEADER + b"0 0 IN 40\nend\n"
+        self.assertEqual(self.place(trace, "refused 3 form"), "IN")
+        self.assertIn("small letters: in in place of IN", self.mend(trace, "refused 3 form"))
+
+    def test_spaces(self) -> None:
+        for line in (b"0  0 step\n", b" 0 0 step\n", b"0 0 step \n"):
+            self.assertIn("one space", self.mend(HEADER + line, "refused 3 form"))
+        self.assertIn("tab", self.mend(HEADER + b"0\t0 step\n", "refused 3 form"))
+
+    def test_decimals(self) -> None:
+        self.assertIn(": 7 in place of 007", self.mend(HEADER + b"0 007 step\n", "refused 3 form"))
+        self.assertIn("it is 255", self.mend(HEADER + b"0 ff step\n", "refused 3 form"))
+
+    def test_order(self) -> None:
+        trace = b"clockboard 1\nguest 1000000\nhost 1000000 0\nbegin\n"
+        self.assertEqual(self.place(trace, "refused 3 form"), "host")
+        self.assertIn("order", self.mend(trace, "refused 3 form"))
+
+    def test_missing_word(self) -> None:
+        rows = self.explain(HEADER + b"0 0 in\nend\n", "refused 3 form")
+        self.assertEqual(rows[1:3], ["line 3: 0 0 in", "              ^"])
+        self.assertIn("expected: PORT", rows)
+
+    def test_other_reasons(self) -> None:
+        self.assertEqual(self.place(HEADER + b"0 9 step\n0 5 step\nend\n", "refused 4 fell 9"), "5")
+        self.assertEqual(self.place(HEADER + b"3 9 step\nend\n", "refused 3 cpu"), "3")
+        self.assertEqual(self.place(HEADER + b"0 9 rdmsr 4b564d03\nend\n", "refused 3 steal"), "4b564d03")
+
+    def test_state(self) -> None:
+        # Byte 8 of a saved state is its version's first; digits 16 and 17 spell it.
+        trace = b"clockboard 1\nstate 434c4b424f4152440300\nbegin\n"
+        self.assertEqual(self.place(trace, "refused 2 state 8"), "03")
+        rows = self.explain(trace, "refused 2 state 8")
+        self.assertEqual(rows[-1], "  byte 8 is in the field at 8: version; condition: 1 or 2")
+
+    def test_nothing_refused(self) -> None:
+        with tempfile.TemporaryDirectory() as folder:
+            env = support.program_that_says(folder, "final 0 0 0 -\n")
+            done = support.run("explain", "-", text="clockboard 1\nbegin\nend\n", env=env)
+        self.assertEqual((done.returncode, done.stdout), (0, "final 0 0 0 -\n"))
+
+
+if __name__ == "__main__":
+    unittest.main()

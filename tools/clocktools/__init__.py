@@ -1,0 +1,1 @@
+"""What the scripts in tools/ share: traces, printed text, importers, and the documents they quote."""

@@ -1,0 +1,106 @@
+"""The text of a trace and of what is printed for it, as far as the tools need them. docs/FORMATS.md has both whole."""
+
+from collections.abc import Iterator
+from dataclasses import dataclass
+
+DEFAULT_KHZ = 1_000_000
+"""The rate of the host's counter where a header has no `host` line: a count is a nanosecond."""
+
+STATE_ANCHOR = ((12, 8), (20, 8), (28, 8))
+"""Place and size of rate, count and time of the anchor in a saved state."""
+
+
+@dataclass(frozen=True)
+class Record:
+    """A record of a trace: its line from 1 on, the processor, the host's count, its words, and its nanosecond."""
+
+    line: int
+    cpu: int
+    count: int
+    words: tuple[str, ...]
+    time: int
+
+
+@dataclass
+class Anchor:
+    """A count of the host's counter and the nanosecond that belongs to it."""
+
+    khz: int = DEFAULT_KHZ
+    start: int = 0
+    base: int = 0
+
+    def time(self, count: int) -> int:
+        return self.base + (count - self.start) * 1_000_000 // self.khz
+
+
+@dataclass(frozen=True)
+class Edge:
+    """An edge of a line of interrupt: the nanosecond, the line's number, and whether it goes up."""
+
+    at: int
+    line: int
+    up: bool
+
+
+@dataclass(frozen=True)
+class Reply:
+    """The reply to a record: the record's line, and its value."""
+
+    line: int
+    value: tuple[str, ...]
+
+
+def anchor_of_state(digits: str) -> Anchor:
+    """The anchor that a saved state holds."""
+    data = bytes.fromhex(digits)
+    khz, start, base = (int.from_bytes(data[at : at + size], "little") for at, size in STATE_ANCHOR)
+    return Anchor(khz or DEFAULT_KHZ, start, base)
+
+
+def records(text: str) -> Iterator[Record]:
+    """The records of a trace that the program takes, each with its time, which no count moves back."""
+    anchor, now, in_body = Anchor(), 0, False
+    for number, line in enumerate(text.split("\n"), 1):
+        words = tuple(line.split(" "))
+        if not line or line.startswith("#"):
+            continue
+        if line == "end":
+            return
+        if not in_body:
+            in_body = line == "begin"
+            if words[0] == "host":
+                anchor = Anchor(int(words[1]), int(words[2]))
+            elif words[0] == "state":
+                anchor = anchor_of_state(words[1])
+                now = anchor.base
+            continue
+        count = int(words[1])
+        now = max(now, anchor.time(count))
+        yield Record(number, int(words[0]), count, words[2:], now)
+        if words[2] == "move":
+            now += int(words[5])
+            anchor = Anchor(int(words[3]), int(words[4]), now)
+
+
+def edges(lines: list[str]) -> Iterator[Edge]:
+    """The edges of a printed text, in order."""
+    for line in lines:
+        words = line.split(" ")
+        if words[0] == "edge":
+            yield Edge(int(words[1]), int(words[2]), words[3] == "up")
+
+
+def replies(lines: list[str]) -> Iterator[Reply]:
+    """The replies of a printed text. In those of pages and clocks their name stands in the number's place."""
+    for line in lines:
+        words = line.split(" ")
+        if words[0].isdecimal():
+            yield Reply(int(words[0]), tuple(words[2:]))
+
+
+def final_time(lines: list[str]) -> int | None:
+    """The time of the line `final`, if the text has one."""
+    for line in lines:
+        if line.startswith("final "):
+            return int(line.split(" ")[1])
+    return None
