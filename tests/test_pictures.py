@@ -1,5 +1,7 @@
 """tools/diagram and tools/wave."""
 
+import shutil
+import subprocess
 import tempfile
 import unittest
 from pathlib import Path
@@ -78,6 +80,28 @@ class Wave(unittest.TestCase):
         kinds = {row.split(" ")[1] for row in rows if row.startswith("$var")}
         self.assertEqual(kinds, {"wire"})
         self.assertFalse([row for row in rows if row.startswith("s")])
+
+    def test_first_rise(self) -> None:
+        # The whole file by IEEE 1364, 18.2: the declarations, the levels at first, and what changes when. OUT 0 rises at
+        # the fifth pulse, at 4191 ns, and the trace ends at 5000 ns with line 0 up.
+        printed = (support.TOP / "examples/first-rise.out").read_text()
+        lines = (0, 8, 20, 21, 22, 23)
+        wires = [f"$var wire 1 {mark} line{line} $end" for mark, line in zip("!\"#$%&", lines)]
+        events = [f"$var event 1 {mark} rise{line} $end" for mark, line in zip("'()*+,", lines)]
+        self.assertEqual(support.run("wave", text=printed).stdout.splitlines(), [
+            "$timescale 1 ns $end", "$scope module clockboard $end", *wires, *events, "$upscope $end",
+            "$enddefinitions $end", "#0", "$dumpvars", "0!", '0"', "0#", "0$", "0%", "0&", "$end",
+            "#4191", "1!", "1'", "#5000"])
+
+    @unittest.skipUnless(shutil.which("vcd2fst"), "no vcd2fst")
+    def test_read_by_gtkwave(self) -> None:
+        for words in ((), ("-p",)):
+            with tempfile.TemporaryDirectory() as folder:
+                vcd, fst = Path(folder) / "w.vcd", Path(folder) / "w.fst"
+                vcd.write_text("\n".join(self.wave(*words)) + "\n")
+                done = subprocess.run(["vcd2fst", vcd, fst], capture_output=True, check=False)
+                self.assertEqual(done.returncode, 0, done.stderr)
+                self.assertGreater(fst.stat().st_size, 0)
 
 
 if __name__ == "__main__":
