@@ -1,7 +1,8 @@
 //! The program `pulse_bench`: how long the devices take to let many pulses pass at once.
 //!
 //! With the word `time` it prints a line for each device: what a call takes for a short stretch of
-//! pulses and for a long one, and how many pulses a second that is.
+//! pulses and for a long one, and how many pulses a second that is. With the word of a row it makes
+//! the calls of that row alone, for a program that counts instructions; `rows` prints these words.
 #![tactic(auto)]
 
 mod device;
@@ -10,10 +11,13 @@ mod timing;
 use device::Device;
 use std::rt::Clock;
 use std::{env, io};
-use timing::time_stretch;
+use timing::{sum_of_answers, time_stretch};
 
 /// How the program is called.
-const USAGE: &str = "usage: pulse_bench time";
+const USAGE: &str = "usage: pulse_bench time|rows|ROW";
+
+/// How many calls a row makes alone.
+const CALLS: u32 = 100_000;
 
 /// The pulses of a short stretch.
 const FEW: u64 = 1 << 4;
@@ -25,8 +29,30 @@ fn main(rt: HostRuntime) -> io::Result<()> {
     let mut words = env::args(&rt)?.skip(1);
     match words.next() {
         Some(word) if word.as_bytes() == b"time".as_slice() => print_table(&rt),
-        _ => println!(rt; "{USAGE}"),
+        Some(word) if word.as_bytes() == b"rows".as_slice() => print_rows(&rt),
+        Some(word) => run_alone(&rt, word.as_bytes()),
+        None => println!(rt; "{USAGE}"),
     }
+}
+
+/// Prints the word of each row and how many calls it makes.
+fn print_rows(rt: &impl Print) -> io::Result<()> {
+    for (word, _, _) in device::rows() {
+        println!(rt; "{word} {CALLS}")?;
+    }
+    Ok(())
+}
+
+/// Makes the calls of the row of this word alone.
+fn run_alone(rt: &impl Print, word: &[u8]) -> io::Result<()> {
+    for (name, device, pulses) in device::rows() {
+        if name.as_bytes() == word {
+            let mut device = device;
+            let answers = sum_of_answers(&mut device, pulses, CALLS);
+            return println!(rt; "sum of all answers: {answers}");
+        }
+    }
+    println!(rt; "{USAGE}")
 }
 
 /// Times each device over both stretches.

@@ -1,6 +1,7 @@
 //! How long a call takes.
 
 use crate::device::Device;
+use hpet_comparator::Matches;
 use std::io;
 use std::rt::Clock;
 use std::time::Instant;
@@ -62,11 +63,8 @@ fn time_calls(
     pulses: u64,
     calls: u32,
 ) -> io::Result<Timing> {
-    let mut answers: u64 = 0;
     let start = Instant::now(clock)?;
-    for _ in 0..calls {
-        answers = answers.wrapping_add(device.pulses(pulses));
-    }
+    let answers = sum_of_answers(device, pulses, calls);
     let nanoseconds = start.elapsed(clock)?.as_nanos();
     Ok(Timing {
         pulses,
@@ -74,4 +72,15 @@ fn time_calls(
         nanoseconds,
         answers,
     })
+}
+
+/// Makes `calls` calls of `pulses` pulses each, with one array of matches for all. Returns the sum
+/// of their answers.
+pub fn sum_of_answers(device: &mut Device, pulses: u64, calls: u32) -> u64 {
+    let mut matches = [Matches::NONE; 8];
+    let mut answers: u64 = 0;
+    for _ in 0..calls {
+        answers = answers.wrapping_add(device.pulses(pulses, &mut matches));
+    }
+    answers
 }
