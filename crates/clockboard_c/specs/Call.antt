@@ -26,7 +26,7 @@ use Rattle.clockboard_c.specs.Replies.{Told, refused, taken, value_words}
 
 -- a board that a call has made
 abbrev pub sealed : BoardParts → Board
-sealed state = record { seal = SEAL; state = state }
+sealed state = record { seal = SEAL; state = state; scratch = tt }
 
 -- why an access isn't handed to the board, the causes in this order: the memory isn't sealed; the
 -- board has no such processor; it takes no such access
@@ -65,9 +65,12 @@ abbrev pub told : Board → ℕ → ℕ → Access → Told
 told b cpu h a = told_or (early_code b cpu a) b.state cpu h a
 
 -- the board behind it: as it was, or as the access leaves it
+abbrev pub answered : Board → ℕ → ℕ → Access → Board
+answered b cpu h a = record b { state = state_behind b.state cpu h a }
+
 abbrev pub behind_or : Option ℕ → Board → ℕ → ℕ → Access → Board
 behind_or (Some code) b cpu h a = b
-behind_or None b cpu h a = record b { state = state_behind b.state cpu h a }
+behind_or None b cpu h a = answered b cpu h a
 
 abbrev pub behind : Board → ℕ → ℕ → Access → Board
 behind b cpu h a = behind_or (early_code b cpu a) b cpu h a

@@ -5,6 +5,7 @@ ghost use Rattle.clockboard_c.specs.Setup.{default_setup};
 ghost use Rattle.clockboard_c.specs.Call.{sealed};
 
 use crate::reply::ReplyWords;
+use crate::scratch::Scratch;
 use board_core::BoardState;
 use board_types::Setup;
 use host_counter::Anchor;
@@ -13,27 +14,33 @@ use std::mem::size_of;
 use tick_policy::Policy;
 
 /// The number of this binary interface: it goes up where a struct or a call changes.
-pub const ABI: u32 = 1;
+pub const ABI: u32 = 2;
 
 /// What the first word of each board holds: 'CLKBRDC1', the lowest byte first.
 pub(crate) const SEAL: u64 = 0x3143_4452_424b_4c43;
 
 /// A board in the caller's memory, `struct clockboard` of the header. It holds no pointer, so it may be moved and
 /// copied whole.
-#[derive(Clone, Copy)]
+#[derive(Drop)]
 #[repr(C)]
 pub struct Board {
     /// `SEAL`, in each board that a call has made.
     pub(crate) seal: u64,
     /// The board.
     pub(crate) state: BoardState,
+    /// Places for the edges of a call.
+    pub(crate) scratch: Scratch,
 }
 
 /// A board of this state.
 pub(crate) fn sealed(state: BoardState) -> Board
     ensures { result ≡ sealed state }
 {
-    Board { seal: SEAL, state }
+    Board {
+        seal: SEAL,
+        state,
+        scratch: Scratch::new(),
+    }
 }
 
 /// The number of the binary interface, which a program compares with its header's.

@@ -2,14 +2,12 @@
 ghost use Rattle.std.specs.Prelude.{◌≡◌, ◌<◌, IsTrue};
 ghost use Rattle.board_types.specs.Legal.{is_legal};
 ghost use Rattle.clockboard_c.specs.Replies.{IsReply};
-ghost use Rattle.clockboard_c.specs.Call.{early_code, told, behind, told_by, state_behind};
+ghost use Rattle.clockboard_c.specs.Call.{early_code, told, behind, told_by, answered};
 
 use crate::board::{Board, SEAL};
 use crate::code::{NO_BOARD, NO_PROCESSOR, NOT_OURS, code_of};
 use crate::reply::{ReplyWords, value_words};
-use board_core::BoardState;
 use board_types::Access;
-use irq_edges::EdgeList;
 
 /// One access by processor `cpu` at count `host`: what of it C could have given that no board takes is answered by
 /// a code; else the board answers.
@@ -19,7 +17,7 @@ pub(crate) fn call(board: &mut Board, cpu: u8, host: u64, access: Access, reply:
 {
     match early_code(board, cpu, access) {
         Some(code) => reply.refuse(code),
-        None => answer(&mut board.state, cpu, host, access, reply),
+        None => answer(board, cpu, host, access, reply),
     }
 }
 
@@ -40,20 +38,23 @@ fn early_code(board: &Board, cpu: u8, access: Access) -> Option<u32>
 }
 
 /// The board's answer.
-fn answer(state: &mut BoardState, cpu: u8, host: u64, access: Access, reply: &mut ReplyWords)
-    requires cpu { cpu < state.old.cpus }
-    requires legal { IsTrue (is_legal state.old.cpus state.old.format access) }
-    ensures reply { IsReply reply.new (told_by state.old cpu host access) }
-    ensures state { state.new ≡ state_behind state.old cpu host access }
+fn answer(board: &mut Board, cpu: u8, host: u64, access: Access, reply: &mut ReplyWords)
+    requires cpu { cpu < board.old.state.cpus }
+    requires legal { IsTrue (is_legal board.old.state.cpus board.old.state.format access) }
+    ensures reply { IsReply reply.new (told_by board.old.state cpu host access) }
+    ensures board { board.new ≡ answered board.old cpu host access }
 {
-    let mut edges = EdgeList::new();
-    match state.answer(cpu, host, access, &mut edges) {
-        Ok(value) => reply.take(
-            state.accesses(),
-            state.now(),
-            value_words(value),
-            edges.as_slice(),
-        ),
+    let scratch = &mut board.scratch;
+    match board.state.answer(cpu, host, access, &mut scratch.edges) {
+        Ok(value) => {
+            reply.take(
+                board.state.accesses(),
+                board.state.now(),
+                value_words(value),
+                scratch.edges.as_slice(),
+            );
+            scratch.edges.clear();
+        }
         Err(refusal) => reply.refuse(code_of(refusal)),
     }
 }

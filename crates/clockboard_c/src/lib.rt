@@ -22,6 +22,7 @@ mod ports;
 mod power_on;
 mod registers;
 mod reply;
+mod scratch;
 mod states;
 mod timer;
 

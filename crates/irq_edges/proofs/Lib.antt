@@ -5,3 +5,4 @@ pub mod RisesOf
 mod Rows
 pub mod OfLines
 pub mod Rising
+pub mod Places

@@ -1,2 +1,3 @@
 -- What only proofs and private functions speak of.
 pub mod Rises
+pub mod Places

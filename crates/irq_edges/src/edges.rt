@@ -2,7 +2,6 @@
 ghost use Rattle.std.specs.Prelude.{◌≡◌, ◌<◌, ◌≤◌, ◌↔◌, IsTrue, [], ◌∷◌, ◌++◌, length};
 ghost use Rattle.irq_edges.specs.declared.edges.TheConstants.{EDGE_PLACES};
 
-use arrayvec::ArrayVec;
 use std::marker::Model;
 
 /// How many edges an `EdgeList` has places for.
@@ -20,25 +19,44 @@ pub struct Edge {
     pub up: bool,
 }
 
+/// What a place holds in which no edge stands.
+const NO_EDGE: Edge = Edge {
+    at: 0,
+    line: 0,
+    up: false,
+};
+
 /// A list of at most 24 edges, in the order in which they came. It lies where it is held and takes
-/// no memory.
+/// no memory. Its places stand in it as C would have them, so that a struct that C keeps may hold
+/// one.
 #[derive(Debug, Drop, PartialEq, Eq)]
+#[repr(C)]
 pub struct EdgeList {
-    edges: ArrayVec<Edge, EDGE_PLACES>,
+    /// The edges, and `NO_EDGE` in each place behind them.
+    places: [Edge; EDGE_PLACES],
+    len: usize,
 }
 
 impl Model for EdgeList {
-    ghost use Rattle.std.specs.Prelude.{◌≤◌, List, length};
+    ghost use Rattle.std.specs.Prelude.{List};
     ghost use Rattle.irq_edges.specs.declared.edges.Edge.{Edge};
-    ghost use Rattle.irq_edges.specs.declared.edges.TheConstants.{EDGE_PLACES};
 
     ghost Value = { List Edge };
 
-    ghost view = { λ l. l.edges.items };
+    ghost use Rattle.irq_edges.specs.private.Places.{
+      edges_of,
+      stored,
+      IsStored,
+      stored-edges_of,
+    };
 
-    ghost invariant = { λ l. length l.edges.items ≤ EDGE_PLACES };
+    ghost view = { edges_of };
 
-    ghost inverse = { λ es. record { edges = record { items = es } } };
+    ghost invariant = { IsStored };
+
+    ghost inverse = { stored };
+
+    ghost inverse_ok = { stored-edges_of };
 }
 
 impl EdgeList {
@@ -47,7 +65,18 @@ impl EdgeList {
         ensures { result ≡ [] }
     {
         EdgeList {
-            edges: ArrayVec::new(),
+            places: [NO_EDGE; EDGE_PLACES],
+            len: 0,
+        }
+    }
+
+    /// Takes all edges out. It costs only what there were, where `new` fills every place.
+    pub fn clear(&mut self)
+        ensures { self.new ≡ [] }
+    {
+        while self.len > 0 {
+            self.len -= 1;
+            self.places[self.len] = NO_EDGE;
         }
     }
 
@@ -56,7 +85,8 @@ impl EdgeList {
         requires { length self.old < EDGE_PLACES }
         ensures { self.new ≡ self.old ++ edge ∷ [] }
     {
-        self.edges.push(edge);
+        self.places[self.len] = edge;
+        self.len += 1;
     }
 
     /// The edges, in the order in which they came.
@@ -64,7 +94,7 @@ impl EdgeList {
         ensures value { result.now ≡ self.now }
         ensures fits { length result.now ≤ EDGE_PLACES }
     {
-        self.edges.as_slice()
+        &self.places[..self.len]
     }
 
     /// How many edges there are.
@@ -72,14 +102,14 @@ impl EdgeList {
         ensures value { result ≡ length self.now }
         ensures fits { result ≤ EDGE_PLACES }
     {
-        self.edges.len()
+        self.len
     }
 
     /// Whether there is no edge.
     pub fn is_empty(&self) -> bool
         ensures { IsTrue result ↔ (self.now ≡ []) }
     {
-        self.edges.is_empty()
+        self.len == 0
     }
 
     /// An equal list.

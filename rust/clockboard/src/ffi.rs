@@ -1,10 +1,10 @@
 //! The calls of the archive, as `c/clockboard.h` declares them.
 
 /// `CLOCKBOARD_ABI` of the header.
-pub const ABI: u32 = 1;
+pub const ABI: u32 = 2;
 
 /// `CLOCKBOARD_SIZE` of the header.
-pub const SIZE: usize = 4_640;
+pub const SIZE: usize = 5_032;
 
 #[derive(Clone, Copy)]
 #[repr(C)]

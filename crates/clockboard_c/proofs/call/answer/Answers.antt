@@ -13,11 +13,11 @@ returns-in-Ok-clause-reply c =
     says _ _ _
     (taken-same _ _ _ _ _ _ _ _
     (c.accesses.ensures ∙ ap (λ (b : BoardParts). b.accesses) c.in-Ok.ensures.state
-    ∙ after_access-accesses c.args.state.now c.args.cpu c.args.host c.args.access
-    ∙ sym (reply_of-number c.args.state.now c.args.cpu c.args.host c.args.access))
+    ∙ after_access-accesses c.args.board.now.state c.args.cpu c.args.host c.args.access
+    ∙ sym (reply_of-number c.args.board.now.state c.args.cpu c.args.host c.args.access))
     (c.now.ensures.value ∙ ap now_of c.in-Ok.ensures.state)
     (c.value_words.ensures ∙ ap value_words c.in-Ok.ensures.value)
     (c.as_slice.ensures.value ∙ c.in-Ok.ensures.edges
-    ∙ ap (λ (es : List Edge). es ++ (reply_of c.args.state.now c.args.cpu c.args.host c.args.access).edges) c.new-edges.ensures)
-    ∙ told_by-taken c.args.state.now c.args.cpu c.args.host c.args.access c.in-Ok.ensures.taken)
+    ∙ ap (λ (es : List Edge). es ++ (reply_of c.args.board.now.state c.args.cpu c.args.host c.args.access).edges) c.scratch.invariant)
+    ∙ told_by-taken c.args.board.now.state c.args.cpu c.args.host c.args.access c.in-Ok.ensures.taken)
     c.take.ensures

@@ -1,0 +1,110 @@
+/* How long a call takes, on the board of bench/board: format 1, all devices running. With the word `time` it prints a line for
+ * each kind of access; with the word of a row it makes those accesses alone, 200,000 of them, for a program that counts
+ * instructions. */
+#define _POSIX_C_SOURCE 199309L
+#include "clockboard.h"
+#include <inttypes.h>
+#include <stdio.h>
+#include <string.h>
+#include <time.h>
+
+enum { CALLS = 200000 };
+
+/* One access at a count of the host's counter. */
+typedef void access_call(struct clockboard *board, uint64_t host, struct clockboard_reply *reply);
+
+static void read_port(struct clockboard *board, uint64_t host, struct clockboard_reply *reply) {
+    clockboard_port_read(board, 0, host, 0x40, reply);
+}
+
+static void read_hpet(struct clockboard *board, uint64_t host, struct clockboard_reply *reply) {
+    clockboard_hpet_read(board, 0, host, 0xf0, 8, reply);
+}
+
+static void set_comparator(struct clockboard *board, uint64_t host, struct clockboard_reply *reply) {
+    clockboard_hpet_write(board, 0, host, 0x128, 8, 100, reply);
+}
+
+static void configure_timer(struct clockboard *board, uint64_t host, struct clockboard_reply *reply) {
+    clockboard_hpet_write(board, 0, host, 0x120, 8, 0x2a40, reply);
+}
+
+static void step(struct clockboard *board, uint64_t host, struct clockboard_reply *reply) {
+    clockboard_step(board, 0, host, reply);
+}
+
+static void acknowledge(struct clockboard *board, uint64_t host, struct clockboard_reply *reply) {
+    clockboard_acknowledge(board, 0, host, 0, reply);
+}
+
+static void read_tsc(struct clockboard *board, uint64_t host, struct clockboard_reply *reply) {
+    clockboard_msr_read(board, 0, host, 0x10, reply);
+}
+
+/* A kind of access, each a number of nanoseconds behind the last. */
+static const struct {
+    const char *word;
+    const char *name;
+    access_call *call;
+    uint64_t gap;
+} rows[] = {
+    {"read", "port 40h, no time", read_port, 0},
+    {"hpet", "HPET main counter, no time", read_hpet, 0},
+    {"set", "HPET comparator set, no time", set_comparator, 0},
+    {"config", "HPET timer configured, no time", configure_timer, 0},
+    {"still", "step of no time", step, 0},
+    {"step", "step of 700 ns", step, 700},
+    {"ack", "acknowledgement, ticks waiting", acknowledge, 0},
+    {"tsc", "TSC", read_tsc, 0},
+};
+
+/* A board with all devices running, as bench/board has it. */
+static void run_all(struct clockboard *board) {
+    static const uint8_t ports[][2] = {{0x43, 0x34}, {0x40, 4}, {0x40, 0}, {0x70, 0x0b}, {0x71, 0x42}};
+    static const uint16_t registers[][2] = {{0x100, 0x284c}, {0x108, 100}, {0x10, 1}};
+    struct clockboard_reply reply;
+    *board = clockboard_blank();
+    for (size_t k = 0; k < sizeof ports / sizeof ports[0]; k++)
+        clockboard_port_write(board, 0, 0, ports[k][0], ports[k][1], &reply);
+    for (size_t k = 0; k < sizeof registers / sizeof registers[0]; k++)
+        clockboard_hpet_write(board, 0, 0, registers[k][0], 8, registers[k][1], &reply);
+    clockboard_step(board, 0, 5000, &reply);
+}
+
+/* Makes many accesses of one kind from a count on. Returns the count behind them. */
+static uint64_t many(struct clockboard *board, access_call *call, uint64_t host, uint64_t gap, uint64_t *edges) {
+    struct clockboard_reply reply;
+    for (int k = 0; k < CALLS; k++) {
+        host += gap;
+        call(board, host, &reply);
+        *edges += reply.edge_count;
+    }
+    return host;
+}
+
+static uint64_t nanoseconds(void) {
+    struct timespec now;
+    clock_gettime(CLOCK_MONOTONIC, &now);
+    return (uint64_t)now.tv_sec * 1000000000 + (uint64_t)now.tv_nsec;
+}
+
+int main(int count, char **words) {
+    static struct clockboard board;
+    const char *word = count > 1 ? words[1] : "time";
+    int table = strcmp(word, "time") == 0;
+    uint64_t edges = 0, host = 5000;
+    run_all(&board);
+    if (table)
+        printf("a call                           nanoseconds    calls a second\n");
+    for (size_t k = 0; k < sizeof rows / sizeof rows[0]; k++) {
+        uint64_t start = nanoseconds(), taken;
+        if (!table && strcmp(word, rows[k].word) != 0)
+            continue;
+        host = many(&board, rows[k].call, host, rows[k].gap, &edges);
+        taken = nanoseconds() - start;
+        if (table)
+            printf("%-32s%12" PRIu64 "%18" PRIu64 "\n", rows[k].name, taken / CALLS, CALLS * UINT64_C(1000000000) / (taken + 1));
+    }
+    printf("edges: %" PRIu64 "\n", edges);
+    return 0;
+}

@@ -1,0 +1,9 @@
+use Rattle.std.proofs.Common.{◌≡◌, ◌+◌, ◌-◌, arith}
+use Rattle.irq_edges.proofs.Places.{popped}
+use Rattle.irq_edges.proofs.edges.EdgeList.clear.Goals as goal
+
+pub loop-self-preserved : goal.loop-self-preserved
+loop-self-preserved c =
+    let l = c.loop-self.self-inside in
+    let one : l.len ≡ (l.len - 1) + 1 = omega arith in
+    popped l (l.len - 1) c.loop-self.invariant one
