@@ -4,7 +4,7 @@ ghost use Rattle.std.specs.Bool.{OnTrue, OnFalse};
 ghost use Rattle.trace_text.specs.Records.{job_of, record_of, body_behind, IsJob, IsRecord};
 
 use crate::faults::Reason;
-use crate::jobs::{in_job, job_in};
+use crate::jobs::{in_job, job_in, out_job};
 use crate::words::Words;
 use board_types::Access;
 
@@ -55,7 +55,7 @@ impl Body {
     {
         let cpu = words.short_dec().ok_or(Reason::Form)?;
         let h = words.dec().ok_or(Reason::Form)?;
-        let job = job_in(self, &mut words)?;
+        let job = job_in(self, words)?;
         if cpu >= u64::from(self.cpus) {
             return Err(Reason::Cpu);
         }
@@ -85,7 +85,7 @@ impl Body {
         let Some(h) = words.dec() else {
             return false;
         };
-        if !read_job(self, &mut words, &mut into.job) {
+        if !read_job(self, words, &mut into.job) {
             return false;
         }
         if cpu >= u64::from(self.cpus) || h < self.before[cpu as usize] {
@@ -113,12 +113,15 @@ impl Body {
 /// Puts what a record does in its place; false where it does nothing that there is.
 #[inline(always)]
 #[tactic(auto, unfolding(crate::specs::Records::job_of))]
-fn read_job(body: &Body, words: &mut Words<'_>, into: &mut Job) -> bool
-    ensures job { OnTrue result (job_of body.now words.old ≡ Ok into.new) }
+fn read_job(body: &Body, mut words: Words<'_>, into: &mut Job) -> bool
+    ensures job { OnTrue result (job_of body.now words.entry ≡ Ok into.new) }
     ensures valid { OnTrue result (IsJob body.now into.new) }
 {
     if words.takes(b"in") {
-        return put_job(in_job(body, words), into);
+        return put_job(in_job(body, &mut words), into);
+    }
+    if words.takes(b"out") {
+        return put_job(out_job(body, &mut words), into);
     }
     put_job(job_in(body, words), into)
 }
