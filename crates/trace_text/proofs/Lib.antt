@@ -1,4 +1,5 @@
 pub mod Numbers
+pub mod HexValues
 pub mod Spells
 pub mod FirstWord
 pub mod Tokens

@@ -1,7 +1,7 @@
--- Words of one decimal digit, and of two hexadecimal ones.
-use Rattle.std.proofs.Common.{◌≡◌, ℕ, ◌+◌, ◌-◌, ◌≤◌, Bool, true, false, ◌&&◌, ltb, eqb, get_or, length, drop, List, Some, refl, ◌∙◌, ap, arith}
+-- Words of few digits.
+use Rattle.std.proofs.Common.{◌≡◌, ℕ, ◌+◌, ◌-◌, ◌<◌, ◌≤◌, Bool, true, false, ◌&&◌, ltb, eqb, get_or, length, drop, List, Some, refl, ◌∙◌, ap, arith}
 use Rattle.std.specs.Prelude.{option_and_then}
-use Rattle.std.proofs.lemmas.Bool.{le-ltb}
+use Rattle.std.proofs.lemmas.Bool.{lt-ltb, le-ltb, ne_eqb}
 use Rattle.trace_text.specs.Tokens.{first, rest, decimal_in, hex_in}
 use Rattle.trace_text.specs.private.Spelled.{spelled, words_from, decimal_of, hex_of}
 use Rattle.trace_text.proofs.FirstWord.{a_number}
@@ -40,5 +40,38 @@ two_digits_word most at n line m h e =
       hex-is most (words_from at line)
           ∙ ap (option_and_then (hex_of most)) there.0
           ∙ two_are_hexadecimal most n (at + 2 - at) (ltb at (at + 2) && eqb (get_or line at 0) 48) count m,
+      there.1,
+    )
+
+-- a number that has digits is decimal where the first is no zero
+no_zero_is_decimal : (n d : ℕ) (zero : Bool) → 0 < d → zero ≡ false → decimal_of (record { value = n; digits = d; zero = zero }) ≡ Some n
+no_zero_is_decimal n d zero h e = rw (e, ne_eqb d 0 (λ none. omega arith)) refl
+
+-- and hexadecimal where there are at most that many
+few_are_hexadecimal : (most n d : ℕ) (zero : Bool) → 0 < d → d ≤ most → hex_of most (record { value = n; digits = d; zero = zero }) ≡ Some n
+few_are_hexadecimal most n d zero h few = rw (ne_eqb d 0 (λ none. omega arith), le-ltb most d few) refl
+
+pub decimal_word : (at last n : ℕ) (line : List ℕ) → at < last → last ≤ length line → (get_or line at 0 ≡ 48 → ⊥)
+    → spelled 10 0 0 (drop at line)
+    ≡ Some (record { count = last - at; value = n; left = words_from (last + 1) line })
+    → (first decimal_in (words_from at line) ≡ Some n) × (words_from (last + 1) line ≡ rest (words_from at line))
+decimal_word at last n line less within other e =
+    let there = a_number 10 at last n line (omega arith) (omega arith) e in
+    let zero : ltb at last && eqb (get_or line at 0) 48 ≡ false = rw (lt-ltb at last less, ne_eqb (get_or line at 0) 48 other) refl in (
+      dec-is (words_from at line)
+          ∙ ap (option_and_then decimal_of) there.0
+          ∙ no_zero_is_decimal n (last - at) _ (omega arith) zero,
+      there.1,
+    )
+
+pub hexadecimal_word : (at last n : ℕ) (line : List ℕ) → at < last → last ≤ length line → last ≤ at + 16
+    → spelled 16 0 0 (drop at line)
+    ≡ Some (record { count = last - at; value = n; left = words_from (last + 1) line })
+    → (first (hex_in 16) (words_from at line) ≡ Some n) × (words_from (last + 1) line ≡ rest (words_from at line))
+hexadecimal_word at last n line less within few e =
+    let there = a_number 16 at last n line (omega arith) (omega arith) e in (
+      hex-is 16 (words_from at line)
+          ∙ ap (option_and_then (hex_of 16)) there.0
+          ∙ few_are_hexadecimal 16 n (last - at) (ltb at last && eqb (get_or line at 0) 48) (omega arith) (omega arith),
       there.1,
     )

@@ -1,10 +1,12 @@
 //! A line byte by byte: the number that stands at a place, and whether a word stands there.
 ghost use Rattle.std.specs.Prelude.{
   ◌≡◌,
+  ◌≢◌,
   ℕ,
   ◌+◌,
   ◌-◌,
   ◌*◌,
+  ◌^◌,
   ◌<◌,
   ◌≤◌,
   ◌==◌,
@@ -78,6 +80,21 @@ pub(crate) struct Spelling {
 /// How many digits of a base of at most 16 spell a number below 2^64, whichever they are.
 const DIGITS_THAT_FIT: usize = 16;
 
+/// The value of each byte as a hexadecimal digit, of either case; 16 where it is none.
+static HEX_VALUES: [u8; 256] = [
+    16, 16, 16, 16, 16, 16, 16, 16, 16, 16, 16, 16, 16, 16, 16, 16, 16, 16, 16, 16, 16, 16, 16, 16,
+    16, 16, 16, 16, 16, 16, 16, 16, 16, 16, 16, 16, 16, 16, 16, 16, 16, 16, 16, 16, 16, 16, 16, 16,
+    0, 1, 2, 3, 4, 5, 6, 7, 8, 9, 16, 16, 16, 16, 16, 16, 16, 10, 11, 12, 13, 14, 15, 16, 16, 16,
+    16, 16, 16, 16, 16, 16, 16, 16, 16, 16, 16, 16, 16, 16, 16, 16, 16, 16, 16, 16, 16, 16, 16, 10,
+    11, 12, 13, 14, 15, 16, 16, 16, 16, 16, 16, 16, 16, 16, 16, 16, 16, 16, 16, 16, 16, 16, 16, 16,
+    16, 16, 16, 16, 16, 16, 16, 16, 16, 16, 16, 16, 16, 16, 16, 16, 16, 16, 16, 16, 16, 16, 16, 16,
+    16, 16, 16, 16, 16, 16, 16, 16, 16, 16, 16, 16, 16, 16, 16, 16, 16, 16, 16, 16, 16, 16, 16, 16,
+    16, 16, 16, 16, 16, 16, 16, 16, 16, 16, 16, 16, 16, 16, 16, 16, 16, 16, 16, 16, 16, 16, 16, 16,
+    16, 16, 16, 16, 16, 16, 16, 16, 16, 16, 16, 16, 16, 16, 16, 16, 16, 16, 16, 16, 16, 16, 16, 16,
+    16, 16, 16, 16, 16, 16, 16, 16, 16, 16, 16, 16, 16, 16, 16, 16, 16, 16, 16, 16, 16, 16, 16, 16,
+    16, 16, 16, 16, 16, 16, 16, 16, 16, 16, 16, 16, 16, 16,
+];
+
 /// The value of a byte as a decimal digit; 10 or more where it is none.
 #[inline(always)]
 fn decimal_digit_of(byte: u8) -> u8
@@ -87,21 +104,13 @@ fn decimal_digit_of(byte: u8) -> u8
     byte.wrapping_sub(b'0')
 }
 
-/// The value of a byte as a digit, of either case; 16 or more where it is no digit of a base of at most 16.
+/// The value of a byte as a digit, of either case; 16 where it is no digit of a base of at most 16.
 #[inline(always)]
 fn digit_of(byte: u8) -> u8
     ensures digit { result < 16 → digit_value byte ≡ result }
     ensures none { 16 ≤ result → 16 ≤ digit_value byte }
 {
-    let decimal = decimal_digit_of(byte);
-    if decimal < 10 {
-        return decimal;
-    }
-    match byte {
-        b'a'..=b'f' => byte - b'a' + 10,
-        b'A'..=b'F' => byte - b'A' + 10,
-        _ => 36,
-    }
+    HEX_VALUES[byte as usize]
 }
 
 /// The value of a byte as a digit of a base, of either case; the base or more where it is none.
@@ -137,7 +146,7 @@ fn pushed(n: u64, base: u8, digit: u8) -> Option<u64>
 
 /// The number in a base that stands at a place of a line, up to the next space or the line's end.
 #[inline(always)]
-pub(crate) fn spelling_at(line: &[u8], at: usize, base: u8) -> Option<Spelling>
+fn spelling_at(line: &[u8], at: usize, base: u8) -> Option<Spelling>
     requires least { 2 ≤ base }
     requires most { base ≤ 16 }
     requires within { at ≤ length line.now }
@@ -170,6 +179,88 @@ pub(crate) fn spelling_at(line: &[u8], at: usize, base: u8) -> Option<Spelling>
         value: n,
         end: last,
     })
+}
+
+/// The same for a number of at most 16 digits, where those before `from` were read; None for any other.
+#[inline(always)]
+fn short_spelling(line: &[u8], at: usize, from: usize, base: u8, read: u64) -> Option<Spelling>
+    requires least { 2 ≤ base }
+    requires most { base ≤ 16 }
+    requires behind { at ≤ from }
+    requires few { from ≤ at + 16 }
+    requires within { from ≤ length line.now }
+    requires small { read < 16 ^ (from - at) }
+    ensures { IfSome result (λ s. (from ≤ s.end) × (s.end ≤ length line.now) × (s.end ≤ at + 16)
+        × (spelled base (from - at) read (drop from line.now) ≡ Some (record {
+          count = s.end - at;
+          value = s.value;
+          left = words_from (s.end + 1) line.now;
+        }))) }
+{
+    let last = line.len().min(at + DIGITS_THAT_FIT);
+    let mut n = read;
+    for i in from..last {
+        let byte = line[i];
+        let digit = digit_in(byte, base);
+        if digit >= base {
+            return if byte == b' ' {
+                Some(Spelling { value: n, end: i })
+            } else {
+                None
+            };
+        }
+        n = with_digit(n, base, digit);
+    }
+    if last < line.len() {
+        return None;
+    }
+    Some(Spelling {
+        value: n,
+        end: last,
+    })
+}
+
+/// The number that stands at a place of a line, if it is decimal, begins with another digit than zero, and has at most
+/// 16 digits.
+#[inline(always)]
+pub(crate) fn decimal_at(line: &[u8], at: usize) -> Option<Spelling>
+    ensures { IfSome result (λ s. (at < s.end) × (s.end ≤ length line.now)
+        × (slice_index line.now at ≢ 48) × (spelled 10 0 0 (drop at line.now) ≡ Some (record {
+          count = s.end - at;
+          value = s.value;
+          left = words_from (s.end + 1) line.now;
+        }))) }
+{
+    if at >= line.len() {
+        return None;
+    }
+    let first = decimal_digit_of(line[at]);
+    if first == 0 || first >= 10 {
+        return None;
+    }
+    let spelling = short_spelling(line, at, at + 1, 10, u64::from(first))?;
+    Some(spelling)
+}
+
+/// The number that stands at a place of a line, if it has 1 to 16 hexadecimal digits.
+#[inline(always)]
+pub(crate) fn hexadecimal_at(line: &[u8], at: usize) -> Option<Spelling>
+    ensures { IfSome result (λ s. (at < s.end) × (s.end ≤ length line.now) × (s.end ≤ at + 16)
+        × (spelled 16 0 0 (drop at line.now) ≡ Some (record {
+          count = s.end - at;
+          value = s.value;
+          left = words_from (s.end + 1) line.now;
+        }))) }
+{
+    if at >= line.len() {
+        return None;
+    }
+    let first = digit_of(line[at]);
+    if first >= 16 {
+        return None;
+    }
+    let spelling = short_spelling(line, at, at + 1, 16, u64::from(first))?;
+    Some(spelling)
 }
 
 /// The same, apart from where it is called: for words that are rarely read so.
@@ -293,7 +384,7 @@ pub(crate) fn end_of_word(line: &[u8], at: usize, name: &[u8]) -> Option<usize>
         (λ end. (at ≤ length line.now) × (end ≤ length line.now + 1)
         × (behind_word name.now (drop at line.now) ≡ Some (words_from end line.now))) }
 {
-    if at > line.len() || line.len() - at < name.len() {
+    if line.len() < at + name.len() {
         return None;
     }
     for i in 0..name.len() {

@@ -65,7 +65,10 @@ fn board(body: &Body, access: Access) -> Result<Job, Reason>
 fn is_port(port: u8) -> bool
     ensures { result ≡ is_port port }
 {
-    matches!(port, 0x40..=0x43 | 0x61 | 0x70 | 0x71)
+    match port {
+        0x40 | 0x41 | 0x42 | 0x43 | 0x61 | 0x70 | 0x71 => true,
+        _ => false,
+    }
 }
 
 /// Whether this is one of the six lines, likewise.
@@ -102,7 +105,7 @@ pub(crate) fn in_job(body: &Body, words: &mut Words<'_>) -> Result<Job, Reason>
 }
 
 #[inline(always)]
-fn out_job(body: &Body, words: &mut Words<'_>) -> Result<Job, Reason>
+pub(crate) fn out_job(body: &Body, words: &mut Words<'_>) -> Result<Job, Reason>
     ensures job { result ≡ out_row body.now words.old }
     ensures valid { IfOk result (IsJob body.now) }
 {
@@ -116,7 +119,7 @@ fn out_job(body: &Body, words: &mut Words<'_>) -> Result<Job, Reason>
     }
 }
 
-#[inline(never)]
+#[inline(always)]
 fn hr_job(body: &Body, words: &mut Words<'_>) -> Result<Job, Reason>
     ensures job { result ≡ hr_row body.now words.old }
     ensures valid { IfOk result (IsJob body.now) }
@@ -127,7 +130,7 @@ fn hr_job(body: &Body, words: &mut Words<'_>) -> Result<Job, Reason>
     board(body, Access::HpetRead { offset, width })
 }
 
-#[inline(never)]
+#[inline(always)]
 fn hw_job(body: &Body, words: &mut Words<'_>) -> Result<Job, Reason>
     ensures job { result ≡ hw_row body.now words.old }
     ensures valid { IfOk result (IsJob body.now) }
@@ -310,24 +313,24 @@ fn move_job(body: &Body, words: &mut Words<'_>) -> Result<Job, Reason>
 }
 
 /// What a record does, by the words behind its counter: their first byte says which rows of the table it may be.
-#[inline(always)]
+#[inline(never)]
 #[tactic(auto, unfolding(crate::specs::Records::job_of))]
-pub(crate) fn job_in(body: &Body, words: &mut Words<'_>) -> Result<Job, Reason>
-    ensures job { result ≡ job_of body.now words.old }
+pub(crate) fn job_in(body: &Body, mut words: Words<'_>) -> Result<Job, Reason>
+    ensures job { result ≡ job_of body.now words.entry }
     ensures valid { IfOk result (IsJob body.now) }
 {
     match words.initial() {
-        b'i' => job_of_i(body, words),
-        b'o' => job_of_o(body, words),
-        b'h' => job_of_h(body, words),
-        b'a' => job_of_a(body, words),
-        b's' => job_of_s(body, words),
-        b'r' => job_of_r(body, words),
-        b'w' => job_of_w(body, words),
-        b'c' => job_of_c(body, words),
-        b'n' => job_of_n(body, words),
-        b'p' => job_of_p(body, words),
-        b'm' => job_of_m(body, words),
+        b'i' => job_of_i(body, &mut words),
+        b'o' => job_of_o(body, &mut words),
+        b'h' => job_of_h(body, &mut words),
+        b'a' => job_of_a(body, &mut words),
+        b's' => job_of_s(body, &mut words),
+        b'r' => job_of_r(body, &mut words),
+        b'w' => job_of_w(body, &mut words),
+        b'c' => job_of_c(body, &mut words),
+        b'n' => job_of_n(body, &mut words),
+        b'p' => job_of_p(body, &mut words),
+        b'm' => job_of_m(body, &mut words),
         _ => Err(Reason::Form),
     }
 }

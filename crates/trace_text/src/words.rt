@@ -44,7 +44,8 @@ ghost use Rattle.trace_text.specs.Tokens.{
 ghost use Rattle.trace_text.specs.Rows.{last};
 
 use crate::bytes::{
-    Number, end_of_word, is_zero, one_digit_at, spelling_apart, spelling_at, two_digits_at,
+    Number, decimal_at, end_of_word, hexadecimal_at, is_zero, one_digit_at, spelling_apart,
+    two_digits_at,
 };
 use crate::faults::Reason;
 use memchr::memchr;
@@ -133,28 +134,7 @@ impl<'a> Words<'a> {
         }
     }
 
-    /// Goes past the next word, if it is a number in this base.
-    #[inline(always)]
-    fn number(&mut self, base: u8) -> Option<Number>
-        requires least { 2 ≤ base }
-        requires most { base ≤ 16 }
-        ensures value { result ≡ first (number_of base) self.old }
-        ensures past { OnSome result (self.new ≡ rest self.old) }
-    {
-        let at = self.at;
-        if at > self.line.len() {
-            return None;
-        }
-        let spelling = spelling_at(self.line, at, base)?;
-        self.at = spelling.end + 1;
-        Some(Number {
-            value: spelling.value,
-            digits: spelling.end - at,
-            zero: is_zero(self.line, at, spelling.end),
-        })
-    }
-
-    /// The same, apart from where it is called.
+    /// Goes past the next word, if it is a number in this base. It is read apart from where it is called.
     #[inline(always)]
     fn number_apart(&mut self, base: u8) -> Option<Number>
         requires least { 2 ≤ base }
@@ -212,13 +192,28 @@ impl<'a> Words<'a> {
         Some(n)
     }
 
-    /// The next word as a DEC.
+    /// The next word as a DEC, which most likely has at most 16 digits.
     #[inline(always)]
     pub(crate) fn dec(&mut self) -> Option<u64>
         ensures value { result ≡ dec self.old }
         ensures past { OnSome result (self.new ≡ rest self.old) }
     {
-        self.number(10)?.decimal()
+        match decimal_at(self.line, self.at) {
+            Some(spelling) => {
+                self.at = spelling.end + 1;
+                Some(spelling.value)
+            }
+            None => self.dec_apart(),
+        }
+    }
+
+    /// The same, apart from where it is called.
+    #[inline(always)]
+    fn dec_apart(&mut self) -> Option<u64>
+        ensures value { result ≡ dec self.old }
+        ensures past { OnSome result (self.new ≡ rest self.old) }
+    {
+        self.number_apart(10)?.decimal()
     }
 
     /// The next word as a HEX.
@@ -227,7 +222,13 @@ impl<'a> Words<'a> {
         ensures value { result ≡ hex self.old }
         ensures past { OnSome result (self.new ≡ rest self.old) }
     {
-        self.number(16)?.hexadecimal(16)
+        match hexadecimal_at(self.line, self.at) {
+            Some(spelling) => {
+                self.at = spelling.end + 1;
+                Some(spelling.value)
+            }
+            None => self.hex_apart(),
+        }
     }
 
     /// The same, apart from where it is called.

@@ -3,8 +3,6 @@ use Rattle.std.proofs.Math.ListN.{drop_of_length-le}
 use Rattle.trace_text.specs.private.Spelled.{behind_word}
 use Rattle.trace_text.proofs.Spells.{word-differs, word-same, word-at_end, word-at_space, word-longer, word-short}
 use Rattle.trace_text.proofs.bytes.end_of_word.Goals.{
-  then-at-line-via-then-at-line,
-  then-at-line-via-else-at-line+then-line-at,
   else-end-line-via-then-end-line+else-line-end-ne32,
   else-end-line-via-else-end-line,
 }
@@ -15,13 +13,10 @@ all_taken : (at i : ℕ) (name line : List ℕ) → length name ≤ i → i ≡ 
     → behind_word (drop i name) (drop (at + i) line) ≡ behind_word [] (drop (at + length name) line)
 all_taken at i name line h same = rw (drop_of_length-le name h, same) refl
 
-pub returns-then-at-line : goal.returns-then-at-line
-returns-then-at-line c = elim c.then-at-line.branch [
-  | then-at-line-via-then-at-line w ↦ λ within. absurd (omega arith)
-  | then-at-line-via-else-at-line+then-line-at w ↦ λ within.
-      let left = length-drop c.args.at c.args.line.now in
-      word-short c.args.name.now (drop c.args.at c.args.line.now) (omega arith)
-]
+pub returns-then-line-at : goal.returns-then-line-at
+returns-then-line-at c = λ within.
+    let left = length-drop c.args.at c.args.line.now in
+    word-short c.args.name.now (drop c.args.at c.args.line.now) (omega arith)
 
 pub returns-then-line-at-2 : goal.returns-then-line-at-2
 returns-then-line-at-2 c = λ within.
