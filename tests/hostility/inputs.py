@@ -19,7 +19,7 @@ NUMBERS = (b"0", b"1", b"00", b"+5", b"-1", b"255", b"256", b"7fffffff", b"42949
            b"576460752303423488", b"9223372036854775807", b"18446744073709551615", b"18446744073709551616", b"9" * 40, b"f" * 16)
 
 PRINTED = re.compile(
-    rb"(?:(?:\d+ (?:\d+|page|clock)(?: [^\n]*)?|edge \d+ \d+ (?:up|down)(?: \d+ [0-9a-f]+)?|final [^\n]*|message [^\n]*)\n)*"
+    rb"(?:(?:\d+ (?:\d+|page|clock)(?: [^\n]*)?|edge \d+ \d+ (?:up|down)(?: \d+ [0-9a-f]+)?|final [^\n]*)\n)*"
     rb"(?P<refused>refused \d+ (?P<why>[a-z]+)(?: \d+)?\n)?")
 """A text of whole lines, of which the last may be a refusal."""
 
@@ -65,6 +65,11 @@ def mutated_trace(program: Program, number: int) -> bytes:
     for _ in range(source.randrange(1, 5)):
         trace = source.choice(CHANGES)(source, program, trace)
     return trace
+
+
+def long_trace(program: Program, number: int) -> bytes:
+    """A generated trace of about as many records as a race takes."""
+    return program.run(("gen", str(number), "190000", "16"), b"").text
 
 
 def change_a_byte(source: random.Random, _program: Program, trace: bytes) -> bytes:
@@ -116,6 +121,7 @@ CHANGES: tuple[Callable[[random.Random, Program, bytes], bytes], ...] = (
 KINDS: list[tuple[str, Callable[[Program, int], bytes], int]] = [
     ("random byte strings", random_bytes, COUNT),
     ("mutated traces", mutated_trace, COUNT),
+    ("long traces", long_trace, 2),
 ]
 """What inputs are called, how the one of a number is made, and how many there are."""
 

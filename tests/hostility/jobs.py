@@ -65,7 +65,7 @@ class Job:
 
 
 def blocks_of(trace: bytes, text: bytes) -> list[tuple[int, bytes]]:
-    """Each line of a trace, by where it ends, and what it printed: the lines of edges and messages stand before its own."""
+    """Each line of a trace, by where it ends, and what it printed: the lines of edges stand before its own."""
     lines = trace.splitlines(keepends=True)
     blocks = [b""] * len(lines)
     block = b""
