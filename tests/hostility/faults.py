@@ -10,6 +10,9 @@ PIECE = 4096
 """How many bytes the program asks for at a time."""
 
 Check = Callable[[Job, int, Outcome], bool]
+"""Whether what a run left is allowed, where the call of this number failed."""
+Seen = Counter[tuple[str, int | None]]
+"""How many runs ended with a status behind a fault of a kind of call."""
 
 
 def outcome_is_good(job: Job, outcome: Outcome) -> bool:
@@ -88,7 +91,7 @@ def memory_and_sink(program: Program, job: Job) -> Iterator[tuple[str, bool]]:
         number += 1
 
 
-def in_turn(program: Program, job: Job, faults: str, check: Check, seen: Counter[tuple[str, int | None]]) -> Iterator[tuple[str, bool]]:
+def in_turn(program: Program, job: Job, faults: str, check: Check, seen: Seen) -> Iterator[tuple[str, bool]]:
     """A fault at each call in turn, until there is no such call."""
     number = 1
     while True:
@@ -102,7 +105,7 @@ def in_turn(program: Program, job: Job, faults: str, check: Check, seen: Counter
         number += 1
 
 
-def try_job(program: Program, job: Job, seen: Counter[tuple[str, int | None]]) -> Iterator[tuple[str, bool]]:
+def try_job(program: Program, job: Job, seen: Seen) -> Iterator[tuple[str, bool]]:
     """All faults of one job: each with whether the answer is one that is allowed."""
     yield "", outcome_is_good(job, program.run(job.words, job.trace))
     yield "reads=1,writes=1", outcome_is_good(job, program.run(job.words, job.trace, "reads=1,writes=1"))

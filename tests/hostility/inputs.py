@@ -12,7 +12,7 @@ COUNT = 10_000
 MEMORY = 16 << 20
 """All that a replay may map, in bytes."""
 
-WORDS = (b"clockboard begin end host guest cpus wall rtc pit hpet slew route state in out hr hw rdmsr wrmsr page clock wall counts "
+WORDS = (b"clockboard begin end host guest cpus wall rtc pit hpet slew route state in out hr hw rdmsr wrmsr page clock counts "
          b"next step ack refresh save move rose delay discard 0 1 2 7 40 43 61 70 71 100 108 ff 4b564d01 10 3b 1000000 "
          b"576460752303423487 576460752303423488 18446744073709551615 18446744073709551616 ffffffffffffffff #").split()
 NUMBERS = (b"0", b"1", b"00", b"+5", b"-1", b"255", b"256", b"7fffffff", b"4294967294", b"4294967296", b"576460752303423487",
@@ -127,8 +127,8 @@ KINDS: list[tuple[str, Callable[[Program, int], bytes], int]] = [
 
 
 def judge(program: Program, trace: bytes) -> tuple[str, str]:
-    """How a replay ended, and what is at fault with it, if anything: with its status and text, with the text in pieces of a byte,
-    or with what `race` makes of the same trace."""
+    """How a replay ended, and what is at fault, if anything: with its status and text, with the text in pieces of a byte, or
+    with what `race` makes of the same trace."""
     whole = program.run(REPLAY, trace, f"memory={MEMORY}")
     told = f"status {whole.status}"
     match = PRINTED.fullmatch(whole.text)

@@ -30,7 +30,8 @@ class Program:
         """Runs it on a trace with these faults, spelled as the shim wants them."""
         env = {"LD_PRELOAD": str(self.shim), "FAULTS": faults}
         try:
-            done = subprocess.run([self.path, *words], input=trace, capture_output=True, check=False, env=env, timeout=SECONDS)
+            done = subprocess.run([self.path, *words], input=trace, capture_output=True, check=False, env=env,
+                                  timeout=SECONDS)
         except subprocess.TimeoutExpired:
             return Outcome(None, b"", False)
         if done.stderr.strip(b"x"):
@@ -39,7 +40,7 @@ class Program:
 
 
 def program_in(folder: Path) -> Program:
-    """The program that CLOCKBOARD names, or the one built here, or the released one, with a shim that is compiled into a folder."""
+    """The program, with a shim that is compiled into a folder."""
     shim = folder / "faults.so"
     source = Path(__file__).with_name("faults.c")
     subprocess.run(["cc", "-O2", "-shared", "-fPIC", "-o", shim, source, "-ldl"], check=True)
@@ -47,7 +48,8 @@ def program_in(folder: Path) -> Program:
 
 
 def path_of_program() -> Path:
-    """The program, which isn't a script: the shim would stand under its shell too."""
+    """The program that CLOCKBOARD names, the one built here, or the released one: no script, as the shim would stand under its
+    shell too."""
     named = os.environ.get("CLOCKBOARD")
     if named:
         return Path(named)
