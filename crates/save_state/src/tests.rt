@@ -2,6 +2,8 @@
 ghost use Rattle.std.specs.Prelude.{◌≤◌};
 ghost use Rattle.board_types.specs.Setup.{IsSetup};
 
+mod odd_writes;
+
 use super::*;
 use board_core::{BoardState, Setup};
 use host_counter::Anchor;

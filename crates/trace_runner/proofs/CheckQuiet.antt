@@ -164,3 +164,10 @@ pub silent_whole : (shows_state : Bool) (bytes : List ℕ) (trace : TraceRead) �
     → (check shows_state bytes).text ≡ []
 silent_whole shows_state bytes trace is =
     subst (λ (e : Checked). Silent (Some e) (check shows_state bytes).text) is (silent_check shows_state bytes)
+
+-- a check that has not ended has printed nothing
+pub silent_going : (shows_state : Bool) (bytes : List ℕ) → (check_behind shows_state bytes).end ≡ None → (check_behind shows_state bytes).printed ≡ []
+unfolding check_behind
+silent_going shows_state bytes none =
+    let p : Progress Checking Checked = behind check_answer bytes (opened (check_start shows_state)) in
+    subst (λ (e : Option Checked). Silent e p.printed) none (quiet-behind bytes (opened (check_start shows_state)) refl)

@@ -15,3 +15,4 @@ mod SoakRows
 pub mod Soaks
 pub mod Sounds
 pub mod Statuses
+pub mod WholeLines

@@ -13,3 +13,4 @@ pub mod Sound
 pub mod Status
 pub mod Text
 pub mod Trace
+pub mod WholeLines

@@ -6,6 +6,7 @@ ghost use Rattle.std.specs.Prelude.{
   Bool,
   ◌-◌,
   List,
+  [],
   ◌⊎◌,
   Some,
   None,
@@ -28,6 +29,7 @@ ghost use Rattle.trace_runner.specs.Status.{Shown};
 ghost use Rattle.trace_runner.specs.Replay.{progress_behind, replay_run};
 ghost use Rattle.trace_runner.specs.Check.{check_behind};
 ghost use Rattle.trace_runner.specs.Race.{RaceLeaves, check_run};
+ghost use Rattle.trace_runner.specs.WholeLines.{IsWholeLines};
 
 use crate::generate::generate;
 use crate::race::race;
@@ -64,6 +66,13 @@ use trace_loop::{MEMORY_FAULT, answer_lines, say};
 /// - `SourceFault`, `SinkFault`: only where that end counted a fault in this call. What was written is then the blocks
 ///   of all whole lines given and `fault source`, or a beginning of what would be printed.
 /// - `NoMemory`: memory ran out; what was written is a beginning of what would be printed, and `fault memory`.
+#[tactic(
+    auto,
+    using(
+        crate::proofs::WholeLines::progress_whole,
+        crate::proofs::CheckQuiet::silent_going
+    )
+)]
 pub fn run<R: Threads + Wait + Sync, S: Source, K: Sink, G: Gate + Sync>(
     rt: &R,
     alloc: Global,
@@ -107,6 +116,12 @@ pub fn run<R: Threads + Wait + Sync, S: Source, K: Sink, G: Gate + Sync>(
         → ((check_behind shows_state
         (take (S.before source.new - S.given source.old) input)).end ≡ None)
         ⊎ (source.new ≡ source.old) }
+    // what stands before the word of a fault: whole lines in a replay, nothing in a race
+    ensures whole_lines { (shows_state : Bool) → (bytes : List ℕ)
+        → IsWholeLines (progress_behind shows_state bytes).printed }
+    ensures race_silent { (shows_state : Bool) → (bytes : List ℕ)
+        → (check_behind shows_state bytes).end ≡ None
+        → (check_behind shows_state bytes).printed ≡ [] }
     // every other command
     ensures said { (saying : Saying)
         → saying_of (command_of (map string_bytes words.now)) ≡ Some saying

@@ -3,8 +3,10 @@
 
 ghost use Rattle.std.specs.Prelude.{◌<◌};
 
+mod failures;
+
 use super::*;
-use crate::texts::HELP;
+use crate::texts::{HELP, USAGE};
 use board_io::{MemSink, MemSource, OpenGate};
 use clk_units::RANGE_NS;
 use std::alloc::{AllocError, Global};

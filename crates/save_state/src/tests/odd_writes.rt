@@ -1,0 +1,71 @@
+//! Odd bytes written to every port, and odd words to every place of the HPET, each on a board at power on: the write is
+//! answered, and the board behind it is written and read as itself.
+ghost use Rattle.std.specs.Prelude.{◌≤◌};
+
+use super::*;
+use board_core::Access;
+
+/// The ports of the 8254 and of the MC146818.
+const PORTS: [u8; 7] = [0x40, 0x41, 0x42, 0x43, 0x61, 0x70, 0x71];
+
+/// No bit, all but the highest, the highest alone, all.
+const BYTES_WRITTEN: [u8; 4] = [0, 0x7f, 0x80, 0xff];
+
+/// The bytes of the HPET's block.
+const BLOCK: u16 = 0x400;
+
+/// A write is answered by a board at power on, whose bytes are then read as a board of these bytes.
+fn write_and_read_back(
+    rt: &impl Abort,
+    alloc: Global,
+    format: u8,
+    write: Access,
+) -> Result<(), Fail>
+    requires low { 1 ≤ format }
+    requires high { format ≤ 2 }
+{
+    let mut board = board(format);
+    if board.cpus() == 0 || !write.legal(board.cpus(), board.format()) {
+        panic!(rt; "{write:?} isn't legal");
+    }
+    if let Err(refusal) = board.access(0, 5_000, write) {
+        panic!(rt; "{write:?}: {refusal:?}");
+    }
+    let bytes = encode(alloc, &board)?;
+    match decode(&bytes) {
+        Ok(read) => assert_eq!(rt; encode(alloc, &read)?, bytes),
+        Err(fault) => panic!(rt; "{write:?}: {fault:?}"),
+    }
+    Ok(())
+}
+
+#[test]
+fn each_port_takes_any_byte(rt: HostRuntime) -> Result<(), Fail> {
+    for format in [1, 2] {
+        for port in PORTS {
+            for byte in BYTES_WRITTEN {
+                let write = Access::PortOut { port, byte };
+                write_and_read_back(&rt, rt.alloc(), format, write)?;
+            }
+        }
+    }
+    Ok(())
+}
+
+#[test]
+fn each_place_of_the_hpet_takes_any_word(rt: HostRuntime) -> Result<(), Fail> {
+    let words = [(4, 0), (4, 0xffff_ffff), (8, 0), (8, u64::MAX)];
+    for format in [1, 2] {
+        for (width, value) in words {
+            for offset in (0..BLOCK).step_by(width as usize) {
+                let write = Access::HpetWrite {
+                    offset,
+                    width,
+                    value,
+                };
+                write_and_read_back(&rt, rt.alloc(), format, write)?;
+            }
+        }
+    }
+    Ok(())
+}

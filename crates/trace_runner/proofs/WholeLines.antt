@@ -1,0 +1,251 @@
+-- What a replay prints is whole lines: each block ends with the end of a line.
+use Rattle.std.proofs.Common.{
+  ◌≡◌,
+  ℕ,
+  ◌==◌,
+  ltb,
+  Bool,
+  true,
+  false,
+  cond,
+  codes,
+  decimal,
+  List,
+  [],
+  ◌∷◌,
+  ◌++◌,
+  length,
+  Option,
+  Some,
+  None,
+  Result,
+  Ok,
+  Err,
+  refl,
+  sym,
+  ap,
+  ◌∙◌,
+  subst,
+  inl,
+  inr,
+  append_assoc,
+  append-nil,
+}
+use Rattle.board_types.specs.declared.access.Access.{Access}
+use Rattle.board_types.specs.declared.access.Access.TheVariants.{Step}
+use Rattle.board_types.specs.declared.parts.BoardParts.{BoardParts}
+use Rattle.board_types.specs.declared.reply.Reply.{Reply}
+use Rattle.board_types.specs.declared.reply.Refusal.{Refusal}
+use Rattle.board_devices.specs.Run.{run}
+use Rattle.board_devices.specs.Lines.{levels}
+use Rattle.board_core.specs.Time.{devices_in, now_of}
+use Rattle.board_core.specs.Access.{after_access, reply_of}
+use Rattle.board_core.specs.Refusals.{refusal_of}
+use Rattle.board_core.specs.Pages.{page_reply, clock_reply, after_clock}
+use Rattle.edge_hooks.specs.declared.deliveries.Delivery.{Delivery}
+use Rattle.pvclock_page.specs.declared.page.PageReply.{PageReply}
+use Rattle.pvclock_page.specs.declared.page.PageReply.TheVariants.{Off as PageOff, On as PageOn}
+use Rattle.pvclock_page.specs.declared.page.ClockReply.{ClockReply}
+use Rattle.pvclock_page.specs.declared.page.ClockReply.TheVariants.{Off as ClockOff, On as ClockOn}
+use Rattle.transfer.specs.Move.{move_fault, moved_to}
+use Rattle.transfer.specs.declared.outcome.MoveFault.{MoveFault}
+use Rattle.save_state.specs.Writing.{bytes_of}
+use Rattle.reply_text.specs.Words.{line_of, spaced}
+use Rattle.reply_text.specs.Text.{
+  board_text,
+  page_text,
+  clock_text,
+  save_text,
+  move_text,
+  final_text,
+  state_text,
+  refused_text,
+  reason_words,
+}
+use Rattle.reply_text.specs.declared.ends.Refused.{Refused}
+use Rattle.trace_text.specs.Lines.{taken, behind as read_behind}
+use Rattle.trace_text.specs.declared.faults.RecordFault.{RecordFault}
+use Rattle.trace_text.specs.declared.reading.Item.{Item}
+use Rattle.trace_text.specs.declared.reading.Item.TheVariants.{Skipped, Part, Begun, Next, End}
+use Rattle.trace_text.specs.declared.records.Job.{Job}
+use Rattle.trace_text.specs.declared.records.Job.TheVariants.{Board, Page, Clock, Save, Move}
+use Rattle.trace_loop.specs.Progress.{limit_of, Answer, Goes, Ends, Progress, printed, opened, told, answered, checked, heard, heard_until, behind}
+use Rattle.trace_runner.specs.Deliveries.{edges_text}
+use Rattle.trace_runner.specs.Records.{
+  refused_by,
+  refused_access,
+  refused_move,
+  access_answer,
+  read_answer,
+  saved_answer,
+  gap_answer,
+  moved_answer,
+  job_answer,
+}
+use Rattle.trace_runner.specs.Records as records
+use Rattle.trace_runner.specs.Replay.{
+  at_start,
+  final_of,
+  ended,
+  with_board,
+  item_answer,
+  taken_answer,
+  answer_of,
+  progress_behind,
+}
+use Rattle.trace_runner.specs.WholeLines.{IsWholeLines}
+use Rattle.trace_runner.specs.declared.replay.Replay.{Replay}
+use Rattle.trace_runner.specs.declared.status.Verdict.{Verdict}
+
+-- the end of a line stands last
+abbrev EndsLine : List ℕ → Type 0
+EndsLine text = (front : List ℕ) × (text ≡ front ++ 10 ∷ [])
+
+ends_behind : (a b : List ℕ) → EndsLine b → EndsLine (a ++ b)
+ends_behind a b e = (a ++ e.0, ap (λ (t : List ℕ). a ++ t) e.1 ∙ sym (append_assoc a e.0 (10 ∷ [])))
+
+whole_behind : (a b : List ℕ) → IsWholeLines a → IsWholeLines b → IsWholeLines (a ++ b)
+whole_behind a b x (inl none) = subst IsWholeLines (sym (ap (λ (t : List ℕ). a ++ t) none ∙ append-nil a)) x
+whole_behind a b x (inr e) = inr (ends_behind a b e)
+
+-- each printed line
+spaced_ends : (ws : List (List ℕ)) → EndsLine (spaced ws)
+spaced_ends [] = ([], refl)
+spaced_ends (w ∷ ws) = ends_behind (32 ∷ w) (spaced ws) (spaced_ends ws)
+
+line_ends : (w : List ℕ) (ws : List (List ℕ)) → EndsLine (line_of w ws)
+line_ends w ws = ends_behind w (spaced ws) (spaced_ends ws)
+
+board_ends : (line : ℕ) (reply : Reply) → EndsLine (board_text line reply)
+unfolding board_text
+board_ends line reply = line_ends _ _
+
+page_ends : (line : ℕ) (reply : PageReply) → EndsLine (page_text line reply)
+unfolding page_text
+page_ends line PageOff = line_ends _ _
+page_ends line (PageOn page reading) = line_ends _ _
+
+clock_ends : (line : ℕ) (reply : ClockReply) → EndsLine (clock_text line reply)
+unfolding clock_text
+clock_ends line ClockOff = line_ends _ _
+clock_ends line (ClockOn reading clock) = line_ends _ _
+
+save_ends : (line number : ℕ) (bytes : List ℕ) → EndsLine (save_text line number bytes)
+unfolding save_text
+save_ends line number bytes = line_ends _ _
+
+move_ends : (line number time : ℕ) → EndsLine (move_text line number time)
+unfolding move_text
+move_ends line number time = line_ends _ _
+
+refused_ends : (line : ℕ) (why : Refused) → EndsLine (refused_text line why)
+unfolding refused_text
+refused_ends line why = line_ends _ _
+
+state_ends : (bytes : List ℕ) → EndsLine (state_text bytes)
+unfolding state_text
+state_ends bytes = line_ends _ _
+
+final_ends : (b : BoardParts) → EndsLine (final_of b)
+unfolding final_text
+final_ends b = line_ends _ _
+
+-- each answer
+access_whole : (o : Option Refusal) (line cpu h : ℕ) (a : Access) (ds : List (Option Delivery)) (b : BoardParts)
+    → IsWholeLines (printed (access_answer o line cpu h a ds b))
+access_whole (Some refusal) line cpu h a ds b = inr (refused_ends line (refused_access refusal))
+access_whole None line cpu h a ds b =
+    let reply : Reply = reply_of b cpu h a in
+    inr (ends_behind (edges_text ds reply.edges) (board_text line reply) (board_ends line reply))
+
+read_whole : (o : Option Refused) (line : ℕ) (text : List ℕ) (b : BoardParts) → EndsLine text → IsWholeLines (printed (read_answer o line text b))
+read_whole (Some why) line text b ends = inr (refused_ends line why)
+read_whole None line text b ends = inr ends
+
+saved_whole : (o : Option Refusal) (line cpu h : ℕ) (ds : List (Option Delivery)) (b : BoardParts)
+    → IsWholeLines (printed (saved_answer o line cpu h ds b))
+saved_whole (Some refusal) line cpu h ds b = inr (refused_ends line (refused_access refusal))
+saved_whole None line cpu h ds b =
+    let reply : Reply = reply_of b cpu h Step in
+    let bytes : List ℕ = bytes_of (after_access b cpu h Step) in
+    inr (ends_behind (edges_text ds reply.edges) (save_text line reply.number bytes) (save_ends line reply.number bytes))
+
+gap_whole : (o : Option MoveFault) (line khz start gap : ℕ) (ds : List (Option Delivery)) (reply : Reply) (b : BoardParts)
+    → IsWholeLines (printed (gap_answer o line khz start gap ds reply b))
+gap_whole (Some fault) line khz start gap ds reply b = inr (refused_ends line (refused_move fault))
+gap_whole None line khz start gap ds reply b =
+    let time : ℕ = now_of (moved_to khz start gap b) in
+    inr (ends_behind (edges_text ds reply.edges ++ edges_text ds (run (now_of b) gap (devices_in b)).edges) (move_text line reply.number time)
+    (move_ends line reply.number time))
+
+moved_whole : (o : Option Refusal) (line cpu h khz start gap : ℕ) (ds : List (Option Delivery)) (b : BoardParts)
+    → IsWholeLines (printed (moved_answer o line cpu h khz start gap ds b))
+moved_whole (Some refusal) line cpu h khz start gap ds b = inr (refused_ends line (refused_access refusal))
+moved_whole None line cpu h khz start gap ds b =
+    gap_whole (move_fault gap (after_access b cpu h Step)) line khz start gap ds (reply_of b cpu h Step) (after_access b cpu h Step)
+
+job_whole : (line cpu h : ℕ) (job : Job) (ds : List (Option Delivery)) (b : BoardParts) → IsWholeLines (printed (job_answer line cpu h job ds b))
+job_whole line cpu h (Board a) ds b = access_whole (refusal_of b cpu h a) line cpu h a ds b
+job_whole line cpu h (Page page) ds b =
+    read_whole (records.refused_count b h) line (page_text line (page_reply b page h)) b (page_ends line (page_reply b page h))
+job_whole line cpu h (Clock page) ds b =
+    read_whole (records.refused_count b h) line (clock_text line (clock_reply b page h)) (after_clock b page h)
+    (clock_ends line (clock_reply b page h))
+job_whole line cpu h Save ds b = saved_whole (refusal_of b cpu h Step) line cpu h ds b
+job_whole line cpu h (Move khz start gap) ds b = moved_whole (refusal_of b cpu h Step) line cpu h khz start gap ds b
+
+board_whole : (x : Answer BoardParts Verdict) (r : Replay) → IsWholeLines (printed x) → IsWholeLines (printed (with_board x r))
+board_whole (Goes text b) r whole = whole
+board_whole (Ends closing) r whole = whole
+
+ended_whole : (shows_state : Bool) (b : BoardParts) → IsWholeLines (ended shows_state b).text
+ended_whole true b = inr (ends_behind (final_of b) (state_text (bytes_of b)) (state_ends (bytes_of b)))
+ended_whole false b = inr (final_ends b)
+
+item_whole : (line : ℕ) (item : Item) (r : Replay) → IsWholeLines (printed (item_answer line item r))
+item_whole line Skipped r = inl refl
+item_whole line Part r = inl refl
+item_whole line (Begun header) r = inl refl
+item_whole line (Next rec) r =
+    board_whole (job_answer line rec.cpu rec.h rec.job r.deliveries r.board) r (job_whole line rec.cpu rec.h rec.job r.deliveries r.board)
+item_whole line End r = ended_whole r.shows_state r.board
+
+taken_whole : (line : ℕ) (x : Result Item RecordFault) (r : Replay) → IsWholeLines (printed (taken_answer line x r))
+taken_whole line (Ok item) r = item_whole line item r
+taken_whole line (Err fault) r = inr (refused_ends fault.line (refused_by fault.reason))
+
+-- by the bytes
+told_whole : (a : Answer Replay Verdict) (p : Progress Replay Verdict) → IsWholeLines (printed a) → IsWholeLines p.printed
+    → IsWholeLines (told a p).printed
+told_whole (Goes block r) p block_whole before = whole_behind p.printed block before block_whole
+told_whole (Ends closing) p text_whole before = whole_behind p.printed closing.text before text_whole
+
+answered_whole : (p : Progress Replay Verdict) → IsWholeLines p.printed → IsWholeLines (answered answer_of p).printed
+unfolding answer_of
+answered_whole p before =
+    let r : Replay = record p.state { reading = read_behind p.text p.state.reading } in
+    told_whole (taken_answer p.line (taken p.state.reading p.text) r) p (taken_whole p.line (taken p.state.reading p.text) r) before
+
+either_whole : (t : Bool) (a b : Progress Replay Verdict) → IsWholeLines a.printed → IsWholeLines b.printed → IsWholeLines (cond t a b).printed
+either_whole true a b x y = x
+either_whole false a b x y = y
+
+heard_whole : (b : ℕ) (p : Progress Replay Verdict) → IsWholeLines p.printed → IsWholeLines (heard answer_of b p).printed
+heard_whole b p before =
+    let longer : Progress Replay Verdict = record p { text = p.text ++ b ∷ [] } in
+    either_whole (b == 10) (answered answer_of p) (checked answer_of longer) (answered_whole p before)
+    (either_whole (ltb (limit_of longer.text) (length longer.text)) (answered answer_of longer) longer (answered_whole longer before) before)
+
+until_whole : (end : Option Verdict) (b : ℕ) (p : Progress Replay Verdict) → IsWholeLines p.printed
+    → IsWholeLines (heard_until answer_of end b p).printed
+until_whole None b p before = heard_whole b p before
+until_whole (Some end) b p before = before
+
+behind_whole : (bytes : List ℕ) (p : Progress Replay Verdict) → IsWholeLines p.printed → IsWholeLines (behind answer_of bytes p).printed
+behind_whole [] p before = before
+behind_whole (b ∷ bs) p before = behind_whole bs (heard_until answer_of p.end b p) (until_whole p.end b p before)
+
+-- what a replay has printed behind any bytes
+pub progress_whole : (shows_state : Bool) (bytes : List ℕ) → IsWholeLines (progress_behind shows_state bytes).printed
+unfolding progress_behind
+progress_whole shows_state bytes = behind_whole bytes (opened (at_start shows_state)) (inl refl)
