@@ -12,6 +12,7 @@ ghost use Rattle.std.specs.Prelude.{
   IfOk,
   IfErr,
   OnOk,
+  OnErr,
   IsTrue,
 };
 ghost use Rattle.board_types.specs.Legal.{is_legal};
@@ -85,6 +86,7 @@ impl<N: Name> Held<N> {
         ensures ok { OnOk result (Answered pass.old pass.new
             (Board pass.old.number cpu h a reply.new)) }
         ensures err { IfErr result (λ f. Refused cpu h a f pass.old pass.new) }
+        ensures unchanged { OnErr result (reply.new ≡ reply.old) }
     {
         move_pen(table, &mut self.seat, &mut pass.seat);
         let call = Call {
@@ -193,6 +195,7 @@ pub(crate) fn act<N: Name>(
     ensures ok { OnOk result (HasActed call reply.new board.new seat.old seat.new) }
     ensures err { IfErr result (λ f. HasRefused call f board.old board.new seat.old seat.new) }
     ensures machine { machine_of board.new ≡ machine_of board.old }
+    ensures unchanged { OnErr result (reply.new ≡ reply.old) }
 {
     match board.answer(call.cpu, call.h, call.access, &mut reply.edges) {
         Ok(value) => {

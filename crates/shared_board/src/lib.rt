@@ -17,6 +17,7 @@
 
 mod fault;
 mod held;
+mod host;
 mod known;
 mod pass;
 mod pens;

@@ -1,6 +1,5 @@
 //! The board that threads share.
-ghost use Rattle.std.specs.Prelude.{◌≡◌, ◌<◌, ◌↔◌, IfOk, IfErr, OnOk, IsErr, IsTrue, vec_len};
-ghost use Rattle.clk_units.specs.Ranges.{IsKhz};
+ghost use Rattle.std.specs.Prelude.{◌≡◌, ◌<◌, ◌↔◌, [], IfOk, IfErr, OnOk, OnErr, IsErr, IsTrue, vec_len};
 ghost use Rattle.board_types.specs.Legal.{is_legal};
 ghost use Rattle.board_core.specs.Time.{HasTime};
 ghost use Rattle.board_history.specs.Machine.{machine_of, ratio_in};
@@ -20,15 +19,16 @@ ghost use Rattle.shared_board.specs.private.Seats.{IsLastRead, HasClamped};
 
 use crate::fault::{LockedFault, PageFault};
 use crate::held::{Held, no_reply};
+use crate::host::HostClock;
 use crate::pass::Pass;
 use crate::stop::{join_all, new_passes};
-use crate::tries::try_page_on;
+use crate::tries::try_page_by;
 use board_core::{Access, BoardState, Refusal, Reply};
 use board_history::answer_by;
 use board_io::Gate;
 use clk_units::NoMemory;
 use clock_table::{Blank, ClockTable, Name};
-use host_counter::{Anchor, TimeFault};
+use host_counter::TimeFault;
 use pvclock_page::{ClockReply, PageReply};
 use std::alloc::Global;
 use std::sync::{Mutex, Wait};
@@ -40,13 +40,12 @@ pub struct SharedBoard<N: Name> {
     table: ClockTable<N>,
     held: Mutex<Held<N>>,
     passes: u8,
-    anchor: Anchor,
+    host: HostClock,
     /// The ratio of the guest's TSC to the host's counter.
     ratio: u64,
     ghost counted: { passes ≡ N.passes },
-    ghost clock: { anchor ≡ N.state.anchor },
+    ghost clock: { host.anchor ≡ N.state.anchor },
     ghost scaled: { ratio ≡ ratio_in (machine_of N.state) },
-    ghost rate: { IsKhz anchor.khz },
 }
 
 /// What a board is at its end.
@@ -92,13 +91,14 @@ impl<N: Name> SharedBoard<N> {
             table,
             held: Mutex::new(Held { board: state, seat }),
             passes,
-            anchor,
+            host: HostClock::new(anchor),
             ratio: ratio(parts.guest_khz, anchor.khz),
         };
         Ok((board, list))
     }
 
     /// An access by processor `cpu` at count `h`, under the lock. The gate is called once, when the lock is held.
+    #[inline(always)]
     pub fn access<R: Wait, G: Gate>(
         &self,
         rt: &R,
@@ -115,29 +115,47 @@ impl<N: Name> SharedBoard<N> {
         ensures err { IfErr result (λ f. Refused cpu h a f pass.old pass.new) }
     {
         let mut reply = no_reply();
-        let mut held = self.held.lock(rt);
-        gate.inside(rt, cpu);
-        match held.access(&self.table, pass, cpu, h, a, &mut reply) {
+        match self.answer(rt, gate, pass, cpu, h, a, &mut reply) {
             Ok(()) => Ok(reply),
             Err(refusal) => Err(refusal),
         }
     }
 
+    /// The same, for a caller that keeps the reply: it is put in its place, where the list of edges is empty. It moves
+    /// no list, so it is the faster of the two.
+    #[inline(never)]
+    pub fn answer<R: Wait, G: Gate>(
+        &self,
+        rt: &R,
+        gate: &G,
+        pass: &mut Pass<N>,
+        cpu: u8,
+        h: u64,
+        a: Access,
+        reply: &mut Reply,
+    ) -> Result<(), Refusal>
+        requires cpu { cpu < N.state.cpus }
+        requires legal { IsTrue (is_legal N.state.cpus N.state.format a) }
+        requires fresh { reply.old.edges ≡ [] }
+        ensures ok { OnOk result (Answered pass.old pass.new
+            (Board pass.old.number cpu h a reply.new)) }
+        ensures err { IfErr result (λ f. Refused cpu h a f pass.old pass.new) }
+        ensures unchanged { OnErr result (reply.new ≡ reply.old) }
+    {
+        let mut held = self.held.lock(rt);
+        gate.inside(rt, cpu);
+        held.access(&self.table, pass, cpu, h, a, reply)
+    }
+
     /// Reads the page of `cpu` at count `h`, without the lock.
+    #[inline]
     pub fn try_page(&self, pass: &mut Pass<N>, cpu: u8, h: u64) -> Result<PageReply, PageFault>
         requires cpu { cpu < N.state.cpus }
         ensures time { OnOk result (HasTime N.state.anchor h) }
         ensures ok { IfOk result (λ r. HasTriedPage N.state cpu h r pass.old pass.new) }
         ensures err { IfErr result (λ f. IsPageFault N.state.anchor cpu h f pass.old pass.new) }
     {
-        try_page_on(
-            &self.table,
-            &self.anchor,
-            self.ratio,
-            &mut pass.seat,
-            cpu,
-            h,
-        )
+        try_page_by(&self.table, &self.host, self.ratio, &mut pass.seat, cpu, h)
     }
 
     /// Reads the clock by the page of `cpu` at count `h`, without the lock.
@@ -166,10 +184,10 @@ impl<N: Name> SharedBoard<N> {
         ensures ok { IfOk result (λ r. HasLockedPage N.state cpu h r pass.old pass.new) }
         ensures err { IfErr result (λ f. IsLockedFault N.state.anchor h f pass.old pass.new) }
     {
-        match self.anchor.time(h) {
+        match self.host.check(h) {
             Err(TimeFault::BeforeStart { start }) => return Err(LockedFault::BeforeStart { start }),
             Err(TimeFault::OutOfRange { ns }) => return Err(LockedFault::OutOfRange { ns }),
-            Ok(_ns) => {}
+            Ok(()) => {}
         }
         match self.held.lock(rt).page(&self.table, pass, cpu, h) {
             Ok(page) => Ok(answer_by(self.ratio, &page, h)),

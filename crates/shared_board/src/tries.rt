@@ -6,6 +6,7 @@ ghost use Rattle.clock_table.specs.Calls.{IsPass};
 ghost use Rattle.shared_board.specs.private.Tries.{HasHeard, HasMissed, HasAnswer, IsTryFault};
 
 use crate::fault::PageFault;
+use crate::host::HostClock;
 use board_history::answer_by;
 use clock_table::{ClockSeat, ClockTable, Field, Name};
 use host_counter::{Anchor, TimeFault};
@@ -19,6 +20,7 @@ pub(crate) struct Update {
 }
 
 /// Reads a page of the table: the version, the fields, the version again. `h` is the count that the entry tells.
+#[inline]
 fn read_words<N: Name>(
     table: &ClockTable<N>,
     seat: &mut ClockSeat<N>,
@@ -64,10 +66,29 @@ pub fn try_page_on<N: Name>(
     ensures ok { IfOk result (λ reply. HasAnswer ratio cpu h reply seat.old seat.new) }
     ensures err { IfErr result (λ f. IsTryFault anchor.now cpu h f seat.old seat.new) }
 {
-    match anchor.time(h) {
+    try_page_by(table, &HostClock::new(*anchor), ratio, seat, cpu, h)
+}
+
+/// The same, for a caller that keeps the host's clock.
+#[inline]
+pub(crate) fn try_page_by<N: Name>(
+    table: &ClockTable<N>,
+    host: &HostClock,
+    ratio: u64,
+    seat: &mut ClockSeat<N>,
+    cpu: u8,
+    h: u64,
+) -> Result<PageReply, PageFault>
+    requires cpu { cpu < N.state.cpus }
+    requires pass { IsPass seat.old }
+    ensures time { OnOk result (HasTime host.now.anchor h) }
+    ensures ok { IfOk result (λ reply. HasAnswer ratio cpu h reply seat.old seat.new) }
+    ensures err { IfErr result (λ f. IsTryFault host.now.anchor cpu h f seat.old seat.new) }
+{
+    match host.check(h) {
         Err(TimeFault::BeforeStart { start }) => return Err(PageFault::BeforeStart { start }),
         Err(TimeFault::OutOfRange { ns }) => return Err(PageFault::OutOfRange { ns }),
-        Ok(_ns) => {}
+        Ok(()) => {}
     }
     match read_words(table, seat, cpu, h) {
         Ok(page) => Ok(answer_by(ratio, &page, h)),
