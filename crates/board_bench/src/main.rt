@@ -5,9 +5,7 @@
 //! of a row it makes those accesses alone, for a program that counts instructions.
 #![tactic(auto)]
 
-ghost use Rattle.std.specs.Prelude.{◌≡◌, []};
-
-use board_core::{Access, BoardState, Setup};
+use board_core::{Access, BoardState, Setup, Value};
 use host_counter::Anchor;
 use irq_edges::{EDGE_PLACES, EdgeList};
 use rtc_calendar::TimeBytes;
@@ -118,26 +116,26 @@ fn main(rt: HostRuntime) -> io::Result<()> {
 fn print_table(rt: &(impl Print + Clock)) -> io::Result<()> {
     let mut board = running();
     println!(rt; "an access                        nanoseconds    accesses a second")?;
-    let mut edges = 0u64;
+    let mut told = 0u64;
     for row in rows() {
-        edges = edges.wrapping_add(print_row(rt, row.name, &mut board, row.access, row.gap)?);
+        told = told.wrapping_add(print_row(rt, row.name, &mut board, row.access, row.gap)?);
     }
-    // the edges are used, so that no access can be left out
-    println!(rt; "edges: {edges}")
+    // what was told is used, so that nothing of an access can be left out
+    println!(rt; "told: {told}")
 }
 
 /// Makes the accesses of the row of this word alone, for a program that counts instructions.
 fn run_alone(rt: &impl Print, word: &[u8]) -> io::Result<()> {
     for row in rows() {
         if row.word.as_bytes() == word {
-            let edges = many(&mut running(), row.access, row.gap);
-            return println!(rt; "edges: {edges}");
+            let told = many(&mut running(), row.access, row.gap);
+            return println!(rt; "told: {told}");
         }
     }
     println!(rt; "{USAGE}")
 }
 
-/// Times one kind of access, each a number of nanoseconds behind the last. Returns how many edges there were.
+/// Times one kind of access, each a number of nanoseconds behind the last. Returns the sum of what was told.
 fn print_row(
     rt: &(impl Print + Clock),
     name: &str,
@@ -146,49 +144,53 @@ fn print_row(
     gap: u64,
 ) -> io::Result<u64> {
     let start = Instant::now(rt)?;
-    let edges = many(board, access, gap);
+    let told = many(board, access, gap);
     let nanoseconds = start.elapsed(rt)?.as_nanos();
     println!(rt;
         "{name:<32}{:>12}{:>21}",
         nanoseconds / u128::from(CALLS),
         u128::from(CALLS) * SECOND / nanoseconds.max(1)
     )?;
-    Ok(edges)
+    Ok(told)
 }
 
-/// Makes many accesses, with one list of edges for all. Returns how many edges there were.
+/// Makes many accesses, with one list of edges for all. Returns the sum of what was told.
 fn many(board: &mut BoardState, access: Access, gap: u64) -> u64 {
     let mut list = EdgeList::new();
-    let mut edges = 0u64;
+    let mut told = 0u64;
     let mut h = board.now();
     for _ in 0..CALLS {
         h = h.wrapping_add(gap);
-        edges = edges.wrapping_add(ask(board, h, access, &mut list));
+        told = told.wrapping_add(ask(board, h, access, &mut list));
     }
-    edges
+    told
 }
 
-/// One access of processor 0, where it is legal. Returns how many edges it brought.
+/// One access of processor 0, where it is legal. Returns what was read, and how many edges it brought, as one number.
 fn ask(board: &mut BoardState, h: u64, access: Access, list: &mut EdgeList) -> u64 {
     if board.cpus() == 0 || !access.legal(board.cpus(), board.format()) {
         return 0;
     }
     if list.len() > EDGE_PLACES - 18 {
-        empty(list);
+        list.clear();
     }
     let before = list.len();
     match board.answer(0, h, access, list) {
-        Ok(_) => list.len().saturating_sub(before) as u64,
+        Ok(value) => number_of(value).wrapping_add(list.len().saturating_sub(before) as u64),
         Err(_) => 0,
     }
 }
 
-/// Empties a list. It stands apart, so that an access that brings no edge needs no room for a list.
-#[inline(never)]
-fn empty(list: &mut EdgeList)
-    ensures { list.new ≡ [] }
-{
-    *list = EdgeList::new();
+/// A value as one number.
+fn number_of(value: Value) -> u64 {
+    match value {
+        Value::Byte(byte) => u64::from(byte),
+        Value::Word { value, .. } => value,
+        Value::Counts(counts) => counts.due,
+        Value::Wall { version, .. } => u64::from(version),
+        Value::Next(Some(at)) => at,
+        Value::Nothing | Value::Next(None) => 0,
+    }
 }
 
 /// A board with all devices running.

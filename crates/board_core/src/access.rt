@@ -50,7 +50,9 @@ impl BoardState {
     }
 
     /// The same, for a caller that keeps the list of edges: they are appended to it, and 18 places must be free. The
-    /// access's number is then `accesses`. It moves no list, so it is the faster of the two.
+    /// access's number is then `accesses`. It moves no list, so it is the faster of the two. Its code goes into each
+    /// caller, with that of what it calls: one that makes one kind of access alone asks for no kind.
+    #[inline(always)]
     pub fn answer(
         &mut self,
         cpu: u8,

@@ -35,6 +35,7 @@ use irq_edges::EdgeList;
 
 impl BoardState {
     /// The access itself, on a board that has run to its time. It goes to the devices, publishes, or only reads.
+    #[inline(always)]
     pub(crate) fn act(&mut self, cpu: u8, h: u64, a: Access, edges: &mut EdgeList) -> Value
         requires cpu { cpu < self.old.cpus }
         requires legal { IsTrue (is_legal self.old.cpus self.old.format a) }
@@ -60,6 +61,7 @@ impl BoardState {
     }
 
     /// An access to the devices, which is the same for each processor and count. Answers what they give.
+    #[inline(always)]
     fn touch(&mut self, a: &Access, edges: &mut EdgeList) -> u64
         requires touches { IsTrue (touches a.now) }
         requires legal { IsTrue (is_legal self.old.cpus self.old.format a.now) }
@@ -97,6 +99,7 @@ impl BoardState {
     }
 
     /// An access that only reads, and asks nothing of the devices.
+    #[inline(always)]
     fn tell(&mut self, cpu: u8, h: u64, a: Access) -> Value
         requires untouched { touches a ≡ false }
         requires quiet { publishes a ≡ false }
@@ -111,6 +114,7 @@ impl BoardState {
     }
 
     /// What an access reads that asks nothing of the devices.
+    #[inline(always)]
     fn told(&self, cpu: u8, h: u64, a: Access) -> Value
         requires cpu { cpu < self.now.cpus }
         requires legal { IsTrue (is_legal self.now.cpus self.now.format a) }

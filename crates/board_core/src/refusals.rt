@@ -33,6 +33,7 @@ use host_counter::TimeFault;
 impl BoardState {
     /// The time to which an access at count `h` runs, or why it is refused.
     #[tactic(auto, unfolding(crate::specs::Refusals::refusal_of))]
+    #[inline(always)]
     pub(crate) fn admit(&self, cpu: u8, h: u64, a: Access) -> Result<u64, Refusal>
         requires cpu { cpu < self.now.cpus }
         requires legal { IsTrue (is_legal self.now.cpus self.now.format a) }

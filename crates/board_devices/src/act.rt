@@ -80,6 +80,7 @@ impl Devices {
     /// Does at nanosecond `at` what an access asks, in its two parts, and appends its edges: twelve
     /// places must be free. Answers what it reads. It lifts a line as often as its level grows, and
     /// once more at most.
+    #[inline(always)]
     pub fn act(&mut self, a: Act, at: u64, edges: &mut EdgeList) -> u64
         requires legal { IsLegal a }
         requires room { (line_at 0 self.old).counts.due + 1 < 2 ^ 63 }
@@ -100,6 +101,7 @@ impl Devices {
     }
 
     /// Does what an access asks, in its two parts.
+    #[inline(always)]
     #[tactic(auto, using(crate::proofs::Masks::no_edges), unfolding(crate::specs::Act::acted, crate::specs::Act::first_part, crate::specs::Act::value_of))]
     fn act_parts(&mut self, a: Act, at: u64, edges: &mut EdgeList) -> u64
         requires legal { IsLegal a }

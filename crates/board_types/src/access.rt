@@ -63,6 +63,7 @@ pub enum Access {
 impl Access {
     /// Whether a board of this many processors and this format takes the access: whether its port, register,
     /// width, line, source or page is there, and a written value fits its width.
+    #[inline(always)]
     pub fn legal(&self, cpus: u8, format: u8) -> bool
         ensures { result ≡ is_legal cpus format self.now }
     {

@@ -10,7 +10,8 @@ use crate::reply::{ReplyWords, value_words};
 use board_types::Access;
 
 /// One access by processor `cpu` at count `host`: what of it C could have given that no board takes is answered by
-/// a code; else the board answers.
+/// a code; else the board answers. Each call of C's has its own copy of this code, in which its kind of access is known.
+#[inline(always)]
 pub(crate) fn call(board: &mut Board, cpu: u8, host: u64, access: Access, reply: &mut ReplyWords)
     ensures reply { IsReply reply.new (told board.old cpu host access) }
     ensures board { board.new ≡ behind board.old cpu host access }
@@ -22,6 +23,7 @@ pub(crate) fn call(board: &mut Board, cpu: u8, host: u64, access: Access, reply:
 }
 
 /// Why an access isn't handed to the board. The seal is looked at before anything else of it.
+#[inline(always)]
 fn early_code(board: &Board, cpu: u8, access: Access) -> Option<u32>
     ensures { result ≡ early_code board.now cpu access }
 {
@@ -38,6 +40,7 @@ fn early_code(board: &Board, cpu: u8, access: Access) -> Option<u32>
 }
 
 /// The board's answer.
+#[inline(always)]
 fn answer(board: &mut Board, cpu: u8, host: u64, access: Access, reply: &mut ReplyWords)
     requires cpu { cpu < board.old.state.cpus }
     requires legal { IsTrue (is_legal board.old.state.cpus board.old.state.format access) }
