@@ -21,6 +21,7 @@ use Rattle.std.proofs.Common.{
   ◌++◌,
   length,
   take,
+  drop,
   get_or,
   refl,
   sym,
@@ -37,7 +38,7 @@ use Rattle.std.proofs.Common.{
   length-append,
 }
 use Rattle.std.specs.Char.{digit_char}
-use Rattle.std.proofs.lemmas.List.{take_more}
+use Rattle.std.proofs.lemmas.List.{drop_more, take-append-drop}
 use lib.Ieee.Fits.{and_l, and_r}
 use Rattle.reply_text.specs.Words.{hex_text, hexes}
 use Rattle.reply_text.specs.declared.digits.TheConstants.{DIGITS}
@@ -88,11 +89,15 @@ unfolding hexes
 length-hexes [] = refl
 length-hexes (x ∷ xs) = omega (arith, length-hexes xs)
 
--- the digits of one byte more
-pub hexes-take_more : (xs : List ℕ) (i : ℕ) → i < length xs
-    → hexes (take (i + 1) xs) ≡ hexes (take i xs) ++ digit_char (get_or xs i 0 / 16) ∷ digit_char (get_or xs i 0 % 16) ∷ []
+-- the digits of one byte more, in front
+pub hexes-drop : (xs : List ℕ) (k i : ℕ) → k + 1 ≡ i → k < length xs
+    → hexes (drop k xs) ≡ digit_char (get_or xs k 0 / 16) ∷ digit_char (get_or xs k 0 % 16) ∷ hexes (drop i xs)
 unfolding hexes
-hexes-take_more xs i h = ap hexes (take_more xs i 0 h) ∙ hexes-append (take i xs) (get_or xs i 0 ∷ [])
+hexes-drop xs k i e h = rw (drop_more xs k 0 h, e) refl
+
+-- the digits of a front and of what is left
+pub hexes-take-drop : (n : ℕ) (xs : List ℕ) → hexes (take n xs) ++ hexes (drop n xs) ≡ hexes xs
+hexes-take-drop n xs = sym (hexes-append (take n xs) (drop n xs)) ∙ ap hexes (take-append-drop n xs)
 
 -- no digits
 pub hex_text-none : (k n : ℕ) (rest : List ℕ) → k ≡ 0 → rest ≡ hex_text k n ++ rest

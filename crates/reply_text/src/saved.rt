@@ -96,6 +96,9 @@ fn append_parts(front: &Tail, bytes: &[u8], out: &mut Vec<u8>) -> Result<(), NoM
     append_bytes(b"\n", out)
 }
 
+/// How many bytes of a saved state are written at once.
+const PIECE: usize = 64;
+
 /// Appends two digits a byte. What was appended stays behind an `Err`.
 fn append_hexes(bytes: &[u8], out: &mut Vec<u8>) -> Result<(), NoMemory>
     ensures ok { OnOk result (out.new.items ≡ out.old.items ++ hexes bytes.now) }
@@ -104,10 +107,31 @@ fn append_hexes(bytes: &[u8], out: &mut Vec<u8>) -> Result<(), NoMemory>
     ensures full { OnErr result (vec_capacity out.old < vec_len out.old + 2 * length bytes.now) }
     ensures grows { vec_capacity out.old ≤ vec_capacity out.new }
 {
-    for byte in bytes {
-        append_bytes(&[hex_digit(byte / 16), hex_digit(byte % 16)], out)?;
+    let mut left = bytes;
+    while left.len() > PIECE {
+        let (piece, more) = left.split_at(PIECE);
+        append_piece(piece, out)?;
+        left = more;
     }
-    Ok(())
+    append_piece(left, out)
+}
+
+/// The same for a few bytes, which changes nothing where it fails.
+fn append_piece(bytes: &[u8], out: &mut Vec<u8>) -> Result<(), NoMemory>
+    requires { length bytes.now ≤ PIECE }
+    ensures ok { OnOk result (out.new.items ≡ out.old.items ++ hexes bytes.now) }
+    ensures err { OnErr result (out.new.items ≡ out.old.items) }
+    ensures len { OnOk result (vec_len out.new ≡ vec_len out.old + 2 * length bytes.now) }
+    ensures full { OnErr result (vec_capacity out.old < vec_len out.old + 2 * length bytes.now) }
+    ensures grows { vec_capacity out.old ≤ vec_capacity out.new }
+{
+    let mut tail = Tail::empty();
+    for place in (0..bytes.len()).rev() {
+        let byte = bytes[place];
+        tail.byte(hex_digit(byte % 16));
+        tail.byte(hex_digit(byte / 16));
+    }
+    tail.append_to(out)
 }
 
 /// Appends bytes.

@@ -1,6 +1,6 @@
 //! What a record does, by the words behind its counter.
 ghost use Rattle.std.specs.Prelude.{◌≡◌, ◌<◌, Ok, IfOk, OnSome};
-ghost use Rattle.board_types.specs.Legal.{is_port};
+ghost use Rattle.board_types.specs.Legal.{is_port, is_hpet_place};
 ghost use Rattle.irq_edges.specs.Lines.{is_line};
 ghost use Rattle.trace_text.specs.Tokens.{rest};
 ghost use Rattle.trace_text.specs.Rows.{by_table, last};
@@ -79,6 +79,14 @@ fn is_line(line: u8) -> bool
     matches!(line, 0 | 8 | 20 | 21 | 22 | 23)
 }
 
+/// Whether an access to the HPET lies in its block and has a width that there is, likewise.
+#[inline(always)]
+fn is_hpet_place(offset: u16, width: u8) -> bool
+    ensures { result ≡ is_hpet_place offset width }
+{
+    offset <= 0x3ff && matches!(width, 1 | 2 | 4 | 8)
+}
+
 /// An access to this MSR.
 fn to_msr(body: &Body, msr: u32, access: Access) -> Result<Job, Reason>
     ensures job { result ≡ to_msr body.now msr access }
@@ -127,7 +135,11 @@ fn hr_job(body: &Body, words: &mut Words<'_>) -> Result<Job, Reason>
     let offset = words.hex16().ok_or(Reason::Form)?;
     let width = words.dec8().ok_or(Reason::Form)?;
     words.end()?;
-    board(body, Access::HpetRead { offset, width })
+    if is_hpet_place(offset, width) {
+        Ok(Job::Board(Access::HpetRead { offset, width }))
+    } else {
+        Err(Reason::Form)
+    }
 }
 
 #[inline(always)]
@@ -195,7 +207,7 @@ fn rose_job(body: &Body, words: &mut Words<'_>) -> Result<Job, Reason>
 }
 
 #[inline(always)]
-fn step_job(body: &Body, words: &Words<'_>) -> Result<Job, Reason>
+pub(crate) fn step_job(body: &Body, words: &Words<'_>) -> Result<Job, Reason>
     ensures job { result ≡ last (board body.now Access.Step) words.now }
     ensures valid { IfOk result (IsJob body.now) }
 {

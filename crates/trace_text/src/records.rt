@@ -4,7 +4,7 @@ ghost use Rattle.std.specs.Bool.{OnTrue, OnFalse};
 ghost use Rattle.trace_text.specs.Records.{job_of, record_of, body_behind, IsJob, IsRecord};
 
 use crate::faults::Reason;
-use crate::jobs::{in_job, job_in, out_job};
+use crate::jobs::{in_job, job_in, out_job, step_job};
 use crate::words::Words;
 use board_types::Access;
 
@@ -122,6 +122,9 @@ fn read_job(body: &Body, mut words: Words<'_>, into: &mut Job) -> bool
     }
     if words.takes(b"out") {
         return put_job(out_job(body, &mut words), into);
+    }
+    if words.takes(b"step") {
+        return put_job(step_job(body, &words), into);
     }
     put_job(job_in(body, words), into)
 }

@@ -1,9 +1,14 @@
-use Rattle.std.proofs.Common.{◌≡◌, ◌+◌, ◌*◌, ◌≤◌, ◌++◌, take, vec_len, vec_capacity}
+use Rattle.std.proofs.Common.{◌≡◌, ◌+◌, ◌*◌, ◌≤◌, ◌++◌, length, vec_len, vec_capacity}
+use Rattle.std.specs.Io.{StartsWith}
 use Rattle.reply_text.specs.Words.{hexes}
 use Rattle.reply_text.proofs.saved.append_hexes.Given as goal
 
-abbrev pub invariant-loop-byte : goal.invariant-loop-byte
-invariant-loop-byte l =
-    (l.out.items ≡ l.fn.out.items ++ hexes (take l.byte-index l.bytes))
-    × (vec_len l.out ≡ vec_len l.fn.out + 2 * l.byte-index)
+abbrev pub invariant-loop-left : goal.invariant-loop-left
+invariant-loop-left l =
+    (l.out.items ++ hexes l.left ≡ l.fn.out.items ++ hexes l.bytes)
+    × (vec_len l.out + 2 * length l.left ≡ vec_len l.fn.out + 2 * length l.bytes)
     × (vec_capacity l.fn.out ≤ vec_capacity l.out)
+    × (StartsWith l.out.items l.fn.out.items)
+
+abbrev pub decreases-loop-left : goal.decreases-loop-left
+decreases-loop-left l = length l.left
