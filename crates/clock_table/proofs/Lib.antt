@@ -5,3 +5,4 @@ pub mod ReadSteps
 pub mod WriteSteps
 pub mod SeatSteps
 pub mod EndSteps
+pub mod Entries

@@ -148,7 +148,7 @@ impl<N: Name> SharedBoard<N> {
     }
 
     /// Reads the page of `cpu` at count `h`, without the lock.
-    #[inline]
+    #[inline(always)]
     pub fn try_page(&self, pass: &mut Pass<N>, cpu: u8, h: u64) -> Result<PageReply, PageFault>
         requires cpu { cpu < N.state.cpus }
         ensures time { OnOk result (HasTime N.state.anchor h) }

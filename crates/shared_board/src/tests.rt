@@ -95,6 +95,14 @@ fn shared<N: Name>(
     }
 }
 
+/// The board of a stopped board, to which all its passes are given.
+fn stopped<N: Name>(board: SharedBoard<N>, passes: Vec<Pass<N>>) -> Result<BoardState, Fail> {
+    match board.stop(passes) {
+        Ok(Stopped { state }) => Ok(state),
+        Err(_out) => Err("all were given".into()),
+    }
+}
+
 /// The number of an access, 0 where it is refused.
 fn number<N: Name>(
     rt: &impl Wait,
@@ -212,11 +220,7 @@ fn stopped_twice<N: Name, R: Wait + Abort>(
     };
     assert_eq!(rt; (given, made), (1, 2));
     passes.push(pass)?;
-    match board.stop(passes) {
-        Ok(Stopped { state }) => {
-            assert_eq!(rt; (state.accesses(), state.greatest()), (1, 1_000));
-            Ok(())
-        }
-        Err(_out) => Err("all were given".into()),
-    }
+    let state = stopped(board, passes)?;
+    assert_eq!(rt; (state.accesses(), state.greatest()), (1, 1_000));
+    Ok(())
 }

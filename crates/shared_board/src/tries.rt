@@ -20,7 +20,7 @@ pub(crate) struct Update {
 }
 
 /// Reads a page of the table: the version, the fields, the version again. `h` is the count that the entry tells.
-#[inline]
+#[inline(always)]
 fn read_words<N: Name>(
     table: &ClockTable<N>,
     seat: &mut ClockSeat<N>,
@@ -70,7 +70,7 @@ pub fn try_page_on<N: Name>(
 }
 
 /// The same, for a caller that keeps the host's clock.
-#[inline]
+#[inline(always)]
 pub(crate) fn try_page_by<N: Name>(
     table: &ClockTable<N>,
     host: &HostClock,

@@ -51,13 +51,8 @@ fn steps_of_two<N: Name + Send + Sync, R: Threads + Wait + Abort + Sync>(
     }
     passes.push(one)?;
     passes.push(two)?;
-    match board.stop(passes) {
-        Ok(Stopped { state }) => {
-            assert_eq!(rt; state.accesses(), 200);
-            Ok(())
-        }
-        Err(_out) => Err("all were given".into()),
-    }
+    assert_eq!(rt; stopped(board, passes)?.accesses(), 200);
+    Ok(())
 }
 
 /// A hundred accesses, and their numbers.
@@ -113,13 +108,8 @@ fn reads_beside<N: Name + Send + Sync, R: Threads + Wait + Abort + Sync>(
     assert_eq!(rt; faults, 0);
     passes.push(one)?;
     passes.push(two)?;
-    match board.stop(passes) {
-        Ok(Stopped { state }) => {
-            assert_eq!(rt; state.accesses(), 10_001);
-            Ok(())
-        }
-        Err(_out) => Err("all were given".into()),
-    }
+    assert_eq!(rt; stopped(board, passes)?.accesses(), 10_001);
+    Ok(())
 }
 
 /// Publishes page 0 ten thousand times, each time a nanosecond later.

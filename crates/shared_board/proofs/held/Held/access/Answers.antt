@@ -60,8 +60,9 @@ returns-clause-ok g c =
     subst (λ (z : PassKnown). OnOk c.act-result.result (Answered z (known n c.move_pen-2.new.from)
     (Board z.number c.args.cpu c.args.h c.args.a c.act-result.new.reply)))
     c.pass.view_is
-    (act_answered c.act-result.result c.act-result.new.reply n c.args.cpu c.args.h call c.act-result.new.board c.pass.inside.seat c.self.inside.seat c.move_pen.new.to
-    c.act-result.new.seat c.move_pen-2.new.from refl c.pass.invariant.0 c.move_pen.ensures.moved c.move_pen-2.ensures.left c.act-result.ensures.ok)
+    (act_answered c.act-result.result c.act-result.new.reply n c.args.cpu c.args.h call c.act-result.new.board c.pass.inside.seat c.self.inside.seat
+    c.move_pen.new.to c.act-result.new.seat c.move_pen-2.new.from refl c.pass.invariant.0 c.move_pen.ensures.moved
+    c.move_pen-2.ensures.left c.act-result.ensures.ok)
 
 pub returns-clause-err : goal.returns-clause-err
 returns-clause-err g c =

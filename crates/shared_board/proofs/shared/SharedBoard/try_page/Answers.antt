@@ -9,8 +9,8 @@ use Rattle.shared_board.proofs.Clocks.{try_answered, try_faulted, try_rests}
 use Rattle.shared_board.proofs.shared.SharedBoard.try_page.Goals as goal
 
 pub invariant_of-pass : goal.invariant_of-pass
-invariant_of-pass g c = try_rests c.try_page_by.result c.args.self.now.host.anchor c.args.self.now.ratio g.N.Name.passes c.pass.inside.number c.args.cpu c.args.h
-    c.pass.inside.seat c.try_page_by.new.seat c.pass.invariant.0 c.pass.invariant.1 c.try_page_by.ensures.ok c.try_page_by.ensures.err
+invariant_of-pass g c = try_rests c.try_page_by.result c.args.self.now.host.anchor c.args.self.now.ratio g.N.Name.passes c.pass.inside.number
+    c.args.cpu c.args.h c.pass.inside.seat c.try_page_by.new.seat c.pass.invariant.0 c.pass.invariant.1 c.try_page_by.ensures.ok c.try_page_by.ensures.err
 
 pub returns-clause-time : goal.returns-clause-time
 returns-clause-time g c = subst (λ (a : Anchor). OnOk c.try_page_by.result (HasTime a c.args.h)) c.args.self.now.clock c.try_page_by.ensures.time

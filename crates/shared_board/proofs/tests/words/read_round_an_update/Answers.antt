@@ -28,50 +28,60 @@ pub field-requires-2-clause-pass : goal.field-requires-2-clause-pass
 field-requires-2-clause-pass g c =
     let even : c.first-first.result % 2 ≡ 0 = omega (arith, c.if-first-ne0.false) in
     reading_pass 0 c.first-first.result _ c.split_pass-two.result c.field.new.seat
-    (noted_1 0 c.first-first.result c.field.result c.split_pass-two.result c.first-first.new.seat c.field.new.seat even c.first-first.ensures.view c.field.ensures)
+    (noted_1 0 c.first-first.result c.field.result c.split_pass-two.result c.first-first.new.seat c.field.new.seat even c.first-first.ensures.view
+    c.field.ensures)
     (subst IsPass (sym c.split_pass-two.ensures.right) (record { number = (_, refl); meet = refl }))
 
 pub field-requires-2-clause-read : goal.field-requires-2-clause-read
 field-requires-2-clause-read g c =
     let even : c.first-first.result % 2 ≡ 0 = omega (arith, c.if-first-ne0.false) in
     is_reading 0 c.first-first.result _ c.split_pass-two.result c.field.new.seat
-    (noted_1 0 c.first-first.result c.field.result c.split_pass-two.result c.first-first.new.seat c.field.new.seat even c.first-first.ensures.view c.field.ensures)
+    (noted_1 0 c.first-first.result c.field.result c.split_pass-two.result c.first-first.new.seat c.field.new.seat even c.first-first.ensures.view
+    c.field.ensures)
 
 pub field-requires-3-clause-pass : goal.field-requires-3-clause-pass
 field-requires-3-clause-pass g c =
     let even : c.first-first.result % 2 ≡ 0 = omega (arith, c.if-first-ne0.false) in
     reading_pass 0 c.first-first.result _ c.split_pass-two.result c.field-2.new.seat
-    (noted_2 0 c.first-first.result c.field.result c.field-2.result c.split_pass-two.result c.first-first.new.seat c.field.new.seat c.field-2.new.seat even c.first-first.ensures.view c.field.ensures c.field-2.ensures)
+    (noted_2 0 c.first-first.result c.field.result c.field-2.result c.split_pass-two.result c.first-first.new.seat c.field.new.seat c.field-2.new.seat
+    even c.first-first.ensures.view c.field.ensures c.field-2.ensures)
     (subst IsPass (sym c.split_pass-two.ensures.right) (record { number = (_, refl); meet = refl }))
 
 pub field-requires-3-clause-read : goal.field-requires-3-clause-read
 field-requires-3-clause-read g c =
     let even : c.first-first.result % 2 ≡ 0 = omega (arith, c.if-first-ne0.false) in
     is_reading 0 c.first-first.result _ c.split_pass-two.result c.field-2.new.seat
-    (noted_2 0 c.first-first.result c.field.result c.field-2.result c.split_pass-two.result c.first-first.new.seat c.field.new.seat c.field-2.new.seat even c.first-first.ensures.view c.field.ensures c.field-2.ensures)
+    (noted_2 0 c.first-first.result c.field.result c.field-2.result c.split_pass-two.result c.first-first.new.seat c.field.new.seat c.field-2.new.seat
+    even c.first-first.ensures.view c.field.ensures c.field-2.ensures)
 
 pub field-requires-4-clause-pass : goal.field-requires-4-clause-pass
 field-requires-4-clause-pass g c =
     let even : c.first-first.result % 2 ≡ 0 = omega (arith, c.if-first-ne0.false) in
     reading_pass 0 c.first-first.result _ c.split_pass-two.result c.field-3.new.seat
-    (noted_3 0 c.first-first.result c.field.result c.field-2.result c.field-3.result c.split_pass-two.result c.first-first.new.seat c.field.new.seat c.field-2.new.seat c.field-3.new.seat even c.first-first.ensures.view c.field.ensures c.field-2.ensures c.field-3.ensures)
+    (noted_3 0 c.first-first.result c.field.result c.field-2.result c.field-3.result c.split_pass-two.result c.first-first.new.seat c.field.new.seat
+    c.field-2.new.seat c.field-3.new.seat even c.first-first.ensures.view c.field.ensures c.field-2.ensures c.field-3.ensures)
     (subst IsPass (sym c.split_pass-two.ensures.right) (record { number = (_, refl); meet = refl }))
 
 pub field-requires-4-clause-read : goal.field-requires-4-clause-read
 field-requires-4-clause-read g c =
     let even : c.first-first.result % 2 ≡ 0 = omega (arith, c.if-first-ne0.false) in
     is_reading 0 c.first-first.result _ c.split_pass-two.result c.field-3.new.seat
-    (noted_3 0 c.first-first.result c.field.result c.field-2.result c.field-3.result c.split_pass-two.result c.first-first.new.seat c.field.new.seat c.field-2.new.seat c.field-3.new.seat even c.first-first.ensures.view c.field.ensures c.field-2.ensures c.field-3.ensures)
+    (noted_3 0 c.first-first.result c.field.result c.field-2.result c.field-3.result c.split_pass-two.result c.first-first.new.seat c.field.new.seat
+    c.field-2.new.seat c.field-3.new.seat even c.first-first.ensures.view c.field.ensures c.field-2.ensures c.field-3.ensures)
 
 pub second-second-requires-clause-pass : goal.second-second-requires-clause-pass
 second-second-requires-clause-pass g c =
     let even : c.first-first.result % 2 ≡ 0 = omega (arith, c.if-first-ne0.false) in
     reading_pass 0 c.first-first.result _ c.split_pass-two.result c.field-4.new.seat
-    (noted_4 0 c.first-first.result c.field.result c.field-2.result c.field-3.result c.field-4.result c.split_pass-two.result c.first-first.new.seat c.field.new.seat c.field-2.new.seat c.field-3.new.seat c.field-4.new.seat even c.first-first.ensures.view c.field.ensures c.field-2.ensures c.field-3.ensures c.field-4.ensures)
+    (noted_4 0 c.first-first.result c.field.result c.field-2.result c.field-3.result c.field-4.result c.split_pass-two.result c.first-first.new.seat
+    c.field.new.seat c.field-2.new.seat c.field-3.new.seat c.field-4.new.seat even c.first-first.ensures.view c.field.ensures c.field-2.ensures
+    c.field-3.ensures c.field-4.ensures)
     (subst IsPass (sym c.split_pass-two.ensures.right) (record { number = (_, refl); meet = refl }))
 
 pub second-second-requires-clause-read : goal.second-second-requires-clause-read
 second-second-requires-clause-read g c =
     let even : c.first-first.result % 2 ≡ 0 = omega (arith, c.if-first-ne0.false) in
     has_noted 0 c.first-first.result c.field.result c.field-2.result c.field-3.result c.field-4.result c.split_pass-two.result c.field-4.new.seat
-    (noted_4 0 c.first-first.result c.field.result c.field-2.result c.field-3.result c.field-4.result c.split_pass-two.result c.first-first.new.seat c.field.new.seat c.field-2.new.seat c.field-3.new.seat c.field-4.new.seat even c.first-first.ensures.view c.field.ensures c.field-2.ensures c.field-3.ensures c.field-4.ensures)
+    (noted_4 0 c.first-first.result c.field.result c.field-2.result c.field-3.result c.field-4.result c.split_pass-two.result c.first-first.new.seat
+    c.field.new.seat c.field-2.new.seat c.field-3.new.seat c.field-4.new.seat even c.first-first.ensures.view c.field.ensures c.field-2.ensures
+    c.field-3.ensures c.field-4.ensures)
