@@ -13,6 +13,7 @@ ghost use Rattle.std.specs.Prelude.{
   ◌++◌,
   length,
   IsTrue,
+  true,
   false,
   Some,
   None,
@@ -24,6 +25,7 @@ ghost use Rattle.irq_edges.specs.Rises.{IsNextRise};
 ghost use Rattle.board_devices.specs.Rises.{one_if, lifts};
 ghost use Rattle.board_devices.specs.Places.{line_at};
 ghost use Rattle.board_devices.specs.Lines.{levels};
+ghost use Rattle.hpet_registers.specs.Parts.{is_running};
 ghost use Rattle.hpet_registers.specs.Stretch.{timer_matches};
 ghost use Rattle.board_devices.specs.Run.{run, IsNextEdge};
 ghost use Rattle.board_devices.specs.private.Stretch.{told_levels};
@@ -34,7 +36,7 @@ use crate::levels::{front_times, irq_up, shown_of};
 use crate::stretch::{Span, pit_ticks, rtc_ticks, run_at, run_timers};
 use clk_units::{RANGE_NS, pulses_between};
 use hpet_comparator::Matches;
-use hpet_registers::HPET_HZ;
+use hpet_registers::{HPET_HZ, Hpet};
 use irq_edges::{EdgeList, emit, next_rise};
 use pit_counter::Rises;
 use pit_readback::PIT_HZ;
@@ -57,13 +59,14 @@ impl Devices {
         let shown = shown_of(&self.rtc);
         let legacy = self.hpet.legacy();
         let status = self.hpet.parts().status;
+        let standing = is_standing(&self.hpet);
         let point = next_point(from, self.slew_ns);
         let rises = self.pit.pulses(pulses_between(from, to, PIT_HZ));
         let events = self.rtc.pulses(pulses_between(from, to, RTC_HZ));
         let mut matches = [Matches::NONE; 8];
         self.hpet
             .pulses(pulses_between(from, to, HPET_HZ), &mut matches);
-        if to < point && nothing_came(rises, &events, &matches) {
+        if to < point && nothing_came(rises, &events, standing, &matches) {
             return false;
         }
         let span = Span { from, to, point };
@@ -82,6 +85,8 @@ impl Devices {
 
     /// Runs from nanosecond `from` to `to`, and appends the edges on the way. Six places must be
     /// free.
+    // Most stretches bring nothing: a frame of its own would cost as much as what is done here.
+    #[inline(always)]
     #[tactic(auto, using(crate::proofs::Edges::run_none_state, crate::proofs::Edges::run_none_edges))]
     pub fn run_to(&mut self, from: u64, to: u64, edges: &mut EdgeList)
         requires order { from ≤ to }
@@ -125,8 +130,17 @@ impl Devices {
     }
 }
 
-/// Whether a stretch brought no tick, no update and no match.
-fn nothing_came(rises: Rises, events: &RtcEvents, matches: &[Matches; 8]) -> bool
+/// Whether the main counter stands, so that no timer matches.
+fn is_standing(h: &Hpet) -> bool
+    ensures { result ≡ true → is_running h.now ≡ false }
+{
+    h.config() % 2 == 0
+}
+
+/// Whether a stretch brought no tick, no update and no match. The matches of an HPET that stands
+/// aren't looked at.
+fn nothing_came(rises: Rises, events: &RtcEvents, standing: bool, matches: &[Matches; 8]) -> bool
+    requires none { standing ≡ true → (k : ℕ) → k < 8 → (timer_matches matches.now k).count ≡ 0 }
     ensures rises { IsTrue result → rises.count ≡ 0 }
     ensures ticks { IsTrue result → events.now.cycle.ticks ≡ 0 }
     ensures updates { IsTrue result → events.now.cycle.updates ≡ 0 }
@@ -135,7 +149,7 @@ fn nothing_came(rises: Rises, events: &RtcEvents, matches: &[Matches; 8]) -> boo
     rises.count == 0
         && events.cycle.ticks == 0
         && events.cycle.updates == 0
-        && nothing_matched(matches)
+        && (standing || nothing_matched(matches))
 }
 
 /// Whether no timer matched.

@@ -131,17 +131,14 @@ fn run_moved(lines: &mut [TickLine; 10], k: usize, ticks: Ticks, span: Span) -> 
     ensures up { result
         ≡ up_of span.from span.point span.to ticks (slice_index_or lines.old k no_line) }
 {
-    let mut line = lines[k];
-    let up = run_line(
-        &mut line,
+    run_line(
+        &mut lines[k],
         span.from,
         span.to,
         span.point,
         ticks.count,
         ticks.first,
-    );
-    lines[k] = line;
-    up
+    )
 }
 
 /// Takes the line at place `k` over a stretch. Answers from when on it is up.
