@@ -1,11 +1,43 @@
 //! The check of a trace: it is read whole, in file order, before its processors run.
-ghost use Rattle.std.specs.Prelude.{◌≡◌, ◌<◌, ◌≤◌, ◌+◌, ◌^◌, ◌++◌, None, Some, Ok, IfOk, OnOk, OnErr, IfSome, IfNone, OnSome};
+ghost use Rattle.std.specs.Prelude.{
+  ◌≡◌,
+  ◌<◌,
+  ◌≤◌,
+  ◌+◌,
+  ◌^◌,
+  ◌++◌,
+  None,
+  Some,
+  Ok,
+  IfOk,
+  OnOk,
+  OnErr,
+  IfSome,
+  IfNone,
+  OnSome,
+};
 ghost use Rattle.std.specs.Io.{StartsWith};
 ghost use Rattle.trace_loop.specs.Progress.{printed, end_of, state_behind};
 ghost use Rattle.trace_text.specs.Lines.{taken, IsOpen, IsItem, IsRecordAt};
 ghost use Rattle.trace_runner.specs.Ready.{Suits};
 ghost use Rattle.trace_runner.specs.Sound.{IsSound};
-ghost use Rattle.trace_runner.specs.Check.{check_start, with_call, with_end, kept, is_full, too_many, record_checked, begun, item_checked, fault_checked, trace_of, read_on, check_answer, IsCheckReady, has_form};
+ghost use Rattle.trace_runner.specs.Check.{
+  check_start,
+  with_call,
+  with_end,
+  kept,
+  is_full,
+  too_many,
+  record_checked,
+  begun,
+  item_checked,
+  fault_checked,
+  trace_of,
+  read_on,
+  check_answer,
+  IsCheckReady,
+  has_form,
+};
 
 use crate::replay::{Replay, opening};
 use crate::status::{Verdict, refused_by, stop};
