@@ -1,5 +1,5 @@
 -- An access is refused as the one that counts what it counts, and leaves a board that refuses alike.
-use Rattle.std.proofs.Common.{◌≡◌, ℕ, ◌+◌, ◌≤◌, length, refl, sym, ap, ◌∙◌, arith, Bool, None, IsTrue, if◌then◌else◌}
+use Rattle.std.proofs.Common.{◌≡◌, ℕ, ◌+◌, ◌≤◌, length, refl, sym, ap, ◌∙◌, arith, Bool, Option, Some, None, IsTrue, if◌then◌else◌}
 use Rattle.board_types.specs.Legal.{is_legal}
 use Rattle.board_types.specs.declared.access.Access.{Access}
 use Rattle.board_types.specs.declared.access.Access.TheVariants.{
@@ -25,7 +25,8 @@ use Rattle.board_core.specs.Wall.{publishes_wall}
 use Rattle.board_core.proofs.Laws.{after_access-accesses, wall_version-after}
 use Rattle.board_history.specs.Machine.{Machine, machine_of, page_at}
 use Rattle.board_history.proofs.Pages.{machine_of-access, length-processors, page_at-none}
-use Rattle.race_phase.specs.Order.{AreAlike}
+use Rattle.race_phase.specs.declared.faults.Cause.{Cause}
+use Rattle.race_phase.specs.Order.{AreAlike, at_line}
 use Rattle.race_phase.specs.private.Counted.{counted}
 use Rattle.race_phase.proofs.Alike.{host_after}
 
@@ -111,3 +112,8 @@ access-counted b cpu h a places =
       places = (let l = length-processors b cpu h a in let n = ap (λ (m : Machine). m.cpus) ma in omega arith);
       others = (let l = length-processors b cpu h (counted a) in let n = ap (λ (m : Machine). m.cpus) mc in omega arith);
     }
+
+-- a line without a fault has no cause
+pub at_line-none : (line : ℕ) (o : Option Cause) → at_line line o ≡ None → o ≡ None
+at_line-none line None none = refl
+at_line-none line (Some cause) none = cc

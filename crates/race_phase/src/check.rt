@@ -7,9 +7,29 @@ ghost use Rattle.board_core.specs.Access.{after_access};
 ghost use Rattle.board_core.specs.Refusals.{refusal_of};
 ghost use Rattle.transfer.specs.Move.{move_fault, moved_to};
 ghost use Rattle.race_phase.specs.Calls.{IsFitting};
-ghost use Rattle.race_phase.specs.Order.{AreAlike, at_line, or_cause, by_access, by_count, time_fault, after_record, after_records, record_fault, records_fault};
+ghost use Rattle.race_phase.specs.Order.{
+  AreAlike,
+  at_line,
+  or_cause,
+  by_access,
+  by_count,
+  time_fault,
+  after_record,
+  after_records,
+  record_fault,
+  records_fault,
+};
 ghost use Rattle.race_phase.specs.private.Counted.{counted};
-ghost use Rattle.race_phase.specs.Phases.{IsEnd, IsPhase, next_board, by_move, end_fault, after_phase, phase_fault, trace_fault};
+ghost use Rattle.race_phase.specs.Phases.{
+  IsEnd,
+  IsPhase,
+  next_board,
+  by_move,
+  end_fault,
+  after_phase,
+  phase_fault,
+  trace_fault,
+};
 
 use crate::faults::{Cause, Fault};
 use crate::phase::places;
