@@ -4,6 +4,7 @@
 ghost use Rattle.std.specs.Prelude.{◌<◌};
 
 mod failures;
+mod races;
 
 use super::*;
 use crate::texts::{HELP, USAGE};
@@ -15,8 +16,6 @@ use std::sync::Wait;
 use std::test::Fail;
 use std::thread::Threads;
 use trace_text::Reason;
-
-mod races;
 
 /// Counter 0 in mode 2 with count 4, and what is printed.
 const FIRST_RISE: &[u8] =
