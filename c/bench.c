@@ -103,7 +103,8 @@ int main(int count, char **words) {
         host = many(&board, rows[k].call, host, rows[k].gap, &told);
         taken = nanoseconds() - start;
         if (table)
-            printf("%-32s%12" PRIu64 "%18" PRIu64 "\n", rows[k].name, taken / CALLS, CALLS * UINT64_C(1000000000) / (taken + 1));
+            printf("%-32s%12" PRIu64 "%18" PRIu64 "\n", rows[k].name, taken / CALLS,
+                   CALLS * UINT64_C(1000000000) / (taken + 1));
     }
     printf("told: %" PRIu64 "\n", told);
     return 0;

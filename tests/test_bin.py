@@ -115,6 +115,20 @@ class Tree(unittest.TestCase):
         self.edit("two")
         self.assertEqual(ends("tests/release")[0], 1)
 
+    def test_sum_of_the_code(self) -> None:
+        env = {**os.environ, "PATH": self.path_with_rt()}
+
+        def code() -> str:
+            command = [self.top / "bin/run-crate", "--code", "clockboard"]
+            return subprocess.run(command, capture_output=True, text=True, check=True, env=env).stdout
+
+        first = code()
+        put(self.top / "crates/clockboard/proofs/Lib.antt", "mod Rows\n")
+        put(self.top / "crates/clockboard/src/tests.rt", "one\n")
+        self.assertEqual(code(), first)
+        self.edit("two")
+        self.assertNotEqual(code(), first)
+
     def test_wrong_checksum(self) -> None:
         self.release()
         put(self.top / "release" / NAME, "#!/bin/sh\necho other\n")

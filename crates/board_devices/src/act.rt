@@ -101,7 +101,6 @@ impl Devices {
     }
 
     /// Does what an access asks, in its two parts.
-    #[inline(always)]
     #[tactic(auto, using(crate::proofs::Masks::no_edges), unfolding(crate::specs::Act::acted, crate::specs::Act::first_part, crate::specs::Act::value_of))]
     fn act_parts(&mut self, a: Act, at: u64, edges: &mut EdgeList) -> u64
         requires legal { IsLegal a }
