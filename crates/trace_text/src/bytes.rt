@@ -181,7 +181,25 @@ fn spelling_at(line: &[u8], at: usize, base: u8) -> Option<Spelling>
     })
 }
 
-/// The same for a number of at most 16 digits, where those before `from` were read; None for any other.
+/// The same, apart from where it is called: for words that are rarely read so.
+#[inline(never)]
+pub(crate) fn spelling_apart(line: &[u8], at: usize, base: u8) -> Option<Spelling>
+    requires least { 2 ≤ base }
+    requires most { base ≤ 16 }
+    requires within { at ≤ length line.now }
+    ensures { MatchOption result (spelled base 0 0 (drop at line.now) ≡ None)
+        (λ s. (at ≤ s.end) × (s.end ≤ length line.now) × (spelled base 0 0 (drop at line.now)
+        ≡ Some (record {
+          count = s.end - at;
+          value = s.value;
+          left = words_from (s.end + 1) line.now;
+        }))) }
+{
+    spelling_at(line, at, base)
+}
+
+/// The number in a base that stands at a place of a line, if it has at most 16 digits, where those before `from` were
+/// read, and spelled `read`; None for any other word.
 #[inline(always)]
 fn short_spelling(line: &[u8], at: usize, from: usize, base: u8, read: u64) -> Option<Spelling>
     requires least { 2 ≤ base }
@@ -261,23 +279,6 @@ pub(crate) fn hexadecimal_at(line: &[u8], at: usize) -> Option<Spelling>
     }
     let spelling = short_spelling(line, at, at + 1, 16, u64::from(first))?;
     Some(spelling)
-}
-
-/// The same, apart from where it is called: for words that are rarely read so.
-#[inline(never)]
-pub(crate) fn spelling_apart(line: &[u8], at: usize, base: u8) -> Option<Spelling>
-    requires least { 2 ≤ base }
-    requires most { base ≤ 16 }
-    requires within { at ≤ length line.now }
-    ensures { MatchOption result (spelled base 0 0 (drop at line.now) ≡ None)
-        (λ s. (at ≤ s.end) × (s.end ≤ length line.now) × (spelled base 0 0 (drop at line.now)
-        ≡ Some (record {
-          count = s.end - at;
-          value = s.value;
-          left = words_from (s.end + 1) line.now;
-        }))) }
-{
-    spelling_at(line, at, base)
 }
 
 /// Whether a word that reaches up to a place ends there.
