@@ -144,9 +144,10 @@ fn pushed(n: u64, base: u8, digit: u8) -> Option<u64>
         .checked_add(u64::from(digit))
 }
 
-/// The number in a base that stands at a place of a line, up to the next space or the line's end.
-#[inline(always)]
-fn spelling_at(line: &[u8], at: usize, base: u8) -> Option<Spelling>
+/// The number in a base that stands at a place of a line, up to the next space or the line's end. It stands apart from
+/// where it is called: most words are read by the functions below.
+#[inline(never)]
+pub(crate) fn spelling_at(line: &[u8], at: usize, base: u8) -> Option<Spelling>
     requires least { 2 ≤ base }
     requires most { base ≤ 16 }
     requires within { at ≤ length line.now }
@@ -158,30 +159,26 @@ fn spelling_at(line: &[u8], at: usize, base: u8) -> Option<Spelling>
           left = words_from (s.end + 1) line.now;
         }))) }
 {
-    let last = line.len().min(at + DIGITS_THAT_FIT);
     let mut n = 0;
-    for i in at..last {
+    for i in at..line.len() {
         let byte = line[i];
+        if byte == b' ' {
+            return Some(Spelling { value: n, end: i });
+        }
         let digit = digit_in(byte, base);
         if digit >= base {
-            return if byte == b' ' {
-                Some(Spelling { value: n, end: i })
-            } else {
-                None
-            };
+            return None;
         }
-        n = with_digit(n, base, digit);
-    }
-    if last < line.len() {
-        return longer_spelling(line, at, last, base, n);
+        n = pushed(n, base, digit)?;
     }
     Some(Spelling {
         value: n,
-        end: last,
+        end: line.len(),
     })
 }
 
-/// The same for a number of at most 16 digits, where those before `from` were read; None for any other.
+/// The number in a base that stands at a place of a line, if it has at most 16 digits, where those before `from` were
+/// read, and spelled `read`; None for any other word.
 #[inline(always)]
 fn short_spelling(line: &[u8], at: usize, from: usize, base: u8, read: u64) -> Option<Spelling>
     requires least { 2 ≤ base }
@@ -263,23 +260,6 @@ pub(crate) fn hexadecimal_at(line: &[u8], at: usize) -> Option<Spelling>
     Some(spelling)
 }
 
-/// The same, apart from where it is called: for words that are rarely read so.
-#[inline(never)]
-pub(crate) fn spelling_apart(line: &[u8], at: usize, base: u8) -> Option<Spelling>
-    requires least { 2 ≤ base }
-    requires most { base ≤ 16 }
-    requires within { at ≤ length line.now }
-    ensures { MatchOption result (spelled base 0 0 (drop at line.now) ≡ None)
-        (λ s. (at ≤ s.end) × (s.end ≤ length line.now) × (spelled base 0 0 (drop at line.now)
-        ≡ Some (record {
-          count = s.end - at;
-          value = s.value;
-          left = words_from (s.end + 1) line.now;
-        }))) }
-{
-    spelling_at(line, at, base)
-}
-
 /// Whether a word that reaches up to a place ends there.
 #[inline(always)]
 fn ends_at(line: &[u8], at: usize) -> bool
@@ -331,39 +311,6 @@ pub(crate) fn two_digits_at(line: &[u8], at: usize) -> Option<u8>
     } else {
         None
     }
-}
-
-/// The same where the digits before `from` were read, and spelled a number.
-#[inline(never)]
-fn longer_spelling(line: &[u8], at: usize, from: usize, base: u8, read: u64) -> Option<Spelling>
-    requires least { 2 ≤ base }
-    requires most { base ≤ 16 }
-    requires behind { at ≤ from }
-    requires within { from ≤ length line.now }
-    ensures { MatchOption result (spelled base (from - at) read (drop from line.now) ≡ None)
-        (λ s. (at ≤ s.end) × (s.end ≤ length line.now)
-        × (spelled base (from - at) read (drop from line.now) ≡ Some (record {
-          count = s.end - at;
-          value = s.value;
-          left = words_from (s.end + 1) line.now;
-        }))) }
-{
-    let mut n = read;
-    for i in from..line.len() {
-        let byte = line[i];
-        if byte == b' ' {
-            return Some(Spelling { value: n, end: i });
-        }
-        let digit = digit_in(byte, base);
-        if digit >= base {
-            return None;
-        }
-        n = pushed(n, base, digit)?;
-    }
-    Some(Spelling {
-        value: n,
-        end: line.len(),
-    })
 }
 
 /// Whether a word that stands from a place on has bytes, and the first is a zero.

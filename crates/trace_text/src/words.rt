@@ -44,7 +44,7 @@ ghost use Rattle.trace_text.specs.Tokens.{
 ghost use Rattle.trace_text.specs.Rows.{last};
 
 use crate::bytes::{
-    Number, decimal_at, end_of_word, hexadecimal_at, is_zero, one_digit_at, spelling_apart,
+    Number, decimal_at, end_of_word, hexadecimal_at, is_zero, one_digit_at, spelling_at,
     two_digits_at,
 };
 use crate::faults::Reason;
@@ -146,7 +146,7 @@ impl<'a> Words<'a> {
         if at > self.line.len() {
             return None;
         }
-        let spelling = spelling_apart(self.line, at, base)?;
+        let spelling = spelling_at(self.line, at, base)?;
         self.at = spelling.end + 1;
         Some(Number {
             value: spelling.value,

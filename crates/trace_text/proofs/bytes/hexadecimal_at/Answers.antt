@@ -1,4 +1,4 @@
-use Rattle.std.proofs.Common.{◌≡◌, ℕ, ◌+◌, ◌-◌, ◌*◌, ◌<◌, length, get_or, ap, ◌∙◌, arith}
+use Rattle.std.proofs.Common.{◌≡◌, ℕ, ◌+◌, ◌-◌, ◌*◌, ◌<◌, length, get_or, ◌∙◌, arith}
 use Rattle.std.specs.Char.{digit_value}
 use Rattle.trace_text.proofs.Spells.{spelled-more, not_space}
 use Rattle.trace_text.proofs.bytes.hexadecimal_at.Goals as goal
