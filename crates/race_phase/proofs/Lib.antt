@@ -5,6 +5,7 @@ pub mod Edges
 pub mod Ended
 pub mod Same
 pub mod Settle
+pub mod Stepped
 pub mod Taken
 pub mod Unread
 pub mod Workers

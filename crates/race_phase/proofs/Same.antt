@@ -166,7 +166,7 @@ records_alike b c (r ∷ rs) s fit =
     records_alike (after_record b r) (after_record c r) rs (call_alike b c r.cpu r.h r.call s f.0 f.1)
     (fit_rest b (after_record b r) r rs (size_call b r.cpu r.h r.call) fit)
 
-same_records_fault : (b c : BoardParts) (rs : List Record) → AreAlike b c → All (IsFitting b.cpus b.format) rs → records_fault b rs ≡ records_fault c rs
+pub same_records_fault : (b c : BoardParts) (rs : List Record) → AreAlike b c → All (IsFitting b.cpus b.format) rs → records_fault b rs ≡ records_fault c rs
 same_records_fault b c [] s fit = refl
 same_records_fault b c (r ∷ rs) s fit =
     let f = fit 0 r (omega arith) in

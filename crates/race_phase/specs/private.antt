@@ -1,3 +1,4 @@
 -- What proofs and private contracts alone cite.
 pub mod Workers
 pub mod Ran
+pub mod Counted

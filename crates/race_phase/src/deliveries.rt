@@ -39,12 +39,14 @@ fn delivery_of(deliveries: &Deliveries, edge: &Edge) -> Option<Delivery>
 }
 
 /// Appends the lines of edges. After an `Err` the text begins as it was.
+#[inline(always)]
 pub fn edge_lines(
     edges: &[Edge],
     deliveries: &Deliveries,
     out: &mut Vec<u8>,
 ) -> Result<(), NoMemory>
-    ensures ok { OnOk result (out.new.items ≡ out.old.items ++ edges_text deliveries.now edges.now) }
+    ensures ok { OnOk result
+        (out.new.items ≡ out.old.items ++ edges_text deliveries.now edges.now) }
     ensures err { OnErr result (StartsWith out.new.items out.old.items) }
 {
     for edge in edges {

@@ -65,7 +65,7 @@ pub fn run_phase<N: Name + Send + Sync, R: Threads + Wait + Sync, G: Gate + Sync
 }
 
 /// A board has places for 64 processors.
-fn places(processors: &[ProcessorParts; 64]) -> usize
+pub(crate) fn places(processors: &[ProcessorParts; 64]) -> usize
     ensures { length processors.now ≡ 64 }
 {
     processors.len()

@@ -60,18 +60,18 @@ fn held<N: Name, R: Wait, G: Gate>(
     gate: &G,
     board: &SharedBoard<N>,
     pass: &mut Pass<N>,
-    record: &Record,
+    given: &Record,
     index: u64,
 ) -> Option<Answer>
-    requires fitting { IsFitting N.state.cpus N.state.format record.now }
+    requires fitting { IsFitting N.state.cpus N.state.format given.now }
     requires legal { IsLegal pass.old.seen }
-    ensures some { IfSome result (λ a. IsMade N.state record.now a pass.old pass.new) }
+    ensures some { IfSome result (λ a. IsMade N.state given.now a pass.old pass.new) }
     ensures none { IfNone result
-        (Unanswered pass.old pass.new × IsTrouble N.state record.now pass.new) }
+        (Unanswered pass.old pass.new × IsTrouble N.state given.now pass.new) }
 {
-    gate.before(rt, record.cpu, index);
-    let result = answer(rt, gate, board, pass, record);
-    gate.after(rt, record.cpu, index);
+    gate.before(rt, given.cpu, index);
+    let result = answer(rt, gate, board, pass, given);
+    gate.after(rt, given.cpu, index);
     result
 }
 
@@ -81,17 +81,17 @@ fn answer<N: Name, R: Wait, G: Gate>(
     gate: &G,
     board: &SharedBoard<N>,
     pass: &mut Pass<N>,
-    record: &Record,
+    given: &Record,
 ) -> Option<Answer>
-    requires fitting { IsFitting N.state.cpus N.state.format record.now }
+    requires fitting { IsFitting N.state.cpus N.state.format given.now }
     requires legal { IsLegal pass.old.seen }
-    ensures some { IfSome result (λ a. IsMade N.state record.now a pass.old pass.new) }
+    ensures some { IfSome result (λ a. IsMade N.state given.now a pass.old pass.new) }
     ensures none { IfNone result
-        (Unanswered pass.old pass.new × IsTrouble N.state record.now pass.new) }
+        (Unanswered pass.old pass.new × IsTrouble N.state given.now pass.new) }
 {
-    let h = record.h;
-    match record.call {
-        Call::Act { access } => match board.access(rt, gate, pass, record.cpu, h, access) {
+    let h = given.h;
+    match given.call {
+        Call::Act { access } => match board.access(rt, gate, pass, given.cpu, h, access) {
             Ok(reply) => Some(Answer::Acted { reply }),
             Err(_refusal) => None,
         },

@@ -8,7 +8,13 @@ use Rattle.std.proofs.Common.{
   ◌*◌,
   ◌/◌,
   ◌%◌,
+  ◌-◌,
   ◌<◌,
+  Bool,
+  true,
+  ◌&&◌,
+  T,
+  eqb,
   List,
   [],
   ◌∷◌,
@@ -21,14 +27,37 @@ use Rattle.std.proofs.Common.{
   ap,
   ◌∙◌,
   subst,
+  inl,
+  inr,
   arith,
+  eq-zero-or-pos,
+  eqb→eq,
   append_assoc,
   append-nil,
   length-append,
 }
 use Rattle.std.specs.Char.{digit_char}
 use Rattle.std.proofs.lemmas.List.{take_more}
+use lib.Ieee.Fits.{and_l, and_r}
 use Rattle.reply_text.specs.Words.{hex_text, hexes}
+use Rattle.reply_text.specs.declared.digits.TheConstants.{DIGITS}
+
+-- the first digits are the bytes of the table
+abbrev are_digits : ℕ → Bool
+are_digits zero = true
+are_digits (suc n) = eqb (get_or DIGITS n 0) (digit_char n) && are_digits n
+
+DIGITS_below : (n d : ℕ) → T (are_digits n) → d < n → get_or DIGITS d 0 ≡ digit_char d
+DIGITS_below zero d t h = absurd (omega arith)
+DIGITS_below (suc n) d t h =
+    elim (eq-zero-or-pos (n - d)) [
+      | inl z ↦ let e : d ≡ n = omega arith in rw e (eqb→eq _ _ (and_l _ (are_digits n) t))
+      | inr g ↦ DIGITS_below n d (and_r _ (are_digits n) t) (omega arith)
+    ]
+
+-- the table of digits
+pub DIGITS_at : (d : ℕ) → d < 16 → get_or DIGITS d 0 ≡ digit_char d
+DIGITS_at d h = DIGITS_below 16 d tt h
 
 -- one digit more, by a number that counts down
 pub hex_text-more : (k j n : ℕ) → k ≡ j + 1 → hex_text k n ≡ hex_text j (n / 16) ++ digit_char (n % 16) ∷ []

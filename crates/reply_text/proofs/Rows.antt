@@ -7,8 +7,8 @@ use Rattle.pvclock_page.specs.declared.page.PageReply.TheVariants.{Off as PageOf
 use Rattle.pvclock_page.specs.declared.page.ClockReply.TheVariants.{Off as ClockOff, On as ClockOn}
 use Rattle.reply_text.specs.Words.{hex_text, hexes}
 use Rattle.reply_text.specs.Soak.{soak_text}
-use Rattle.reply_text.specs.Text.{edge_text, board_text, page_text, clock_text, save_text, move_text, final_text, state_text, refused_text}
-use Rattle.reply_text.specs.declared.ends.Refused.TheVariants.{Form, Steal, Cpu, Fell, State, Long, Many, NoEnd, Range, Versions, Spent, NotBuilt}
+use Rattle.reply_text.specs.Text.{edge_text, board_text, value_text, page_text, clock_text, save_text, move_text, final_text, state_text, refused_text}
+use Rattle.reply_text.specs.declared.ends.Refused.TheVariants.{Form, Steal, Cpu, Fell, State, Long, Many, NoEnd, Range, Versions, Spent}
 
 -- edges: the time comes first, then the line's number
 a_rise : edge_text (record { at = 4191; line = 0; up = true }) None ≡ codes "edge 4191 0 up\n"
@@ -25,39 +25,39 @@ a_rise_that_is_delivered = refl
 
 -- replies, by their values
 no_value : board_text 3 (record { number = 1; value = Nothing; edges = [] }) ≡ codes "3 1\n"
-unfolding board_text digits
+unfolding value_text digits
 no_value = refl
 
 a_byte : board_text 7 (record { number = 5; value = Byte 4; edges = [] }) ≡ codes "7 5 04\n"
-unfolding board_text hex_text digits
+unfolding value_text hex_text digits
 a_byte = refl
 
 two_bytes_of_ones : board_text 5 (record { number = 3; value = Word 2 0xffff; edges = [] }) ≡ codes "5 3 ffff\n"
-unfolding board_text hex_text digits
+unfolding value_text hex_text digits
 two_bytes_of_ones = refl
 
 four_bytes : board_text 4 (record { number = 2; value = Word 4 0x989680; edges = [] }) ≡ codes "4 2 00989680\n"
-unfolding board_text hex_text digits
+unfolding value_text hex_text digits
 four_bytes = refl
 
 eight_bytes : board_text 3 (record { number = 1; value = Word 8 0x009896808086a201; edges = [] }) ≡ codes "3 1 009896808086a201\n"
-unfolding board_text hex_text digits
+unfolding value_text hex_text digits
 eight_bytes = refl
 
 counts_of_ticks : board_text 8 (record { number = 6; value = Counts (record { due = 3; rises = 1; queue = 2; lost = 0 }); edges = [] }) ≡ codes "8 6 3 1 2 0\n"
-unfolding board_text digits
+unfolding value_text digits
 counts_of_ticks = refl
 
 words_of_the_wall_clock : board_text 32 (record { number = 25; value = Wall 2 1700000000 0; edges = [] }) ≡ codes "32 25 2 1700000000 0\n"
-unfolding board_text digits
+unfolding value_text digits
 words_of_the_wall_clock = refl
 
 a_next_edge : board_text 6 (record { number = 4; value = Next (Some 54926240); edges = [] }) ≡ codes "6 4 54926240\n"
-unfolding board_text digits
+unfolding value_text digits
 a_next_edge = refl
 
 no_next_edge : board_text 6 (record { number = 4; value = Next None; edges = [] }) ≡ codes "6 4 none\n"
-unfolding board_text digits
+unfolding value_text digits
 no_next_edge = refl
 
 -- pages and clocks
@@ -170,10 +170,6 @@ refused_for_a_version = refl
 refused_for_its_number : refused_text 4 (Spent 4611686018427387904) ≡ codes "refused 4 spent 4611686018427387904\n"
 unfolding refused_text digits
 refused_for_its_number = refl
-
-refused_since_it_isnt_built : refused_text 0 NotBuilt ≡ codes "refused 0 notbuilt\n"
-unfolding refused_text digits
-refused_since_it_isnt_built = refl
 
 -- a soak: the records come first, then the edges
 a_soak : soak_text 1 0 34774 7 ≡ codes "soak 1 0 34774 7\n"

@@ -49,7 +49,6 @@ use Rattle.reply_text.specs.declared.ends.Refused.TheVariants.{
   Range,
   Versions,
   Spent,
-  NotBuilt,
 }
 
 -- a direction
@@ -76,8 +75,12 @@ value_words (Next None) = codes "none" ∷ []
 value_words (Next (Some t)) = decimal t ∷ []
 
 -- `LINE NUMBER`, and a space and the value where there is one
-unfoldable pub board_text : ℕ → Reply → List ℕ
-board_text line reply = line_of (decimal line) (decimal reply.number ∷ value_words reply.value)
+unfoldable pub value_text : ℕ → ℕ → Value → List ℕ
+value_text line number value = line_of (decimal line) (decimal number ∷ value_words value)
+
+-- the same of a board's reply, whose edges have lines of their own
+abbrev pub board_text : ℕ → Reply → List ℕ
+board_text line reply = value_text line reply.number reply.value
 
 -- `LINE page VERSION STAMP SYSTEM MUL SHIFT FLAGS READING`, or `LINE page off`
 unfoldable pub page_text : ℕ → PageReply → List ℕ
@@ -146,7 +149,6 @@ reason_words NoEnd = codes "noend" ∷ []
 reason_words (Range ns) = codes "range" ∷ decimal ns ∷ []
 reason_words (Versions version) = codes "versions" ∷ decimal version ∷ []
 reason_words (Spent number) = codes "spent" ∷ decimal number ∷ []
-reason_words NotBuilt = codes "notbuilt" ∷ []
 
 -- `refused LINE REASON`
 unfoldable pub refused_text : ℕ → Refused → List ℕ

@@ -3,13 +3,16 @@ ghost use Rattle.std.specs.Prelude.{◌≡◌, ◌+◌, ◌*◌, ◌<◌, ◌≤
 ghost use Rattle.std.specs.Char.{digit_char};
 ghost use Rattle.reply_text.specs.Words.{hex_text};
 
+/// The hexadecimal digits.
+static DIGITS: [u8; 16] = *b"0123456789abcdef";
+
 /// The lower case hexadecimal digit of a number below 16.
 #[inline(always)]
 pub(crate) fn hex_digit(n: u8) -> u8
     requires { n < 16 }
     ensures { result ≡ digit_char n }
 {
-    if n < 10 { b'0' + n } else { b'a' + (n - 10) }
+    DIGITS[n as usize]
 }
 
 /// Writes the last `count` hexadecimal digits of a number so that they end at `end`, and returns where they start.

@@ -56,8 +56,6 @@ pub enum Refused {
     Versions { version: u64 },
     /// There were 2^62 accesses, which is the number that is given.
     Spent { number: u64 },
-    /// It isn't built yet.
-    NotBuilt,
 }
 
 /// The line that ends a trace: the time, the number of accesses, the greatest clock reading, and which lines are up.
@@ -165,7 +163,6 @@ fn reason_tail(why: Refused) -> Tail
             tail.number(number);
             tail.word(b"spent");
         }
-        Refused::NotBuilt => tail.word(b"notbuilt"),
     }
     tail
 }

@@ -22,7 +22,7 @@ mod tail;
 
 pub use clock::{clock_line, page_line};
 pub use ends::{Refused, final_line, refused_line};
-pub use replies::{board_line, edge_line};
+pub use replies::{board_line, edge_line, value_line};
 pub use saved::{move_line, save_line, state_line};
 pub use soak::soak_line;
 

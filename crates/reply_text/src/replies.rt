@@ -16,7 +16,7 @@ ghost use Rattle.std.specs.Prelude.{
   vec_capacity,
 };
 ghost use Rattle.reply_text.specs.Words.{spaced};
-ghost use Rattle.reply_text.specs.Text.{board_text, edge_text, value_words};
+ghost use Rattle.reply_text.specs.Text.{board_text, edge_text, value_text, value_words};
 
 use crate::tail::Tail;
 use board_types::{Reply, Value};
@@ -25,26 +25,37 @@ use edge_hooks::Delivery;
 use irq_edges::Edge;
 
 /// The line of a board's reply: the line of the record, the number of the access, and its value where it has one.
-#[tactic(auto, unfolding(crate::specs::Text::board_text))]
 pub fn board_line(line: u64, reply: &Reply, out: &mut Vec<u8>) -> Result<(), NoMemory>
     ensures ok { OnOk result (out.new.items ≡ out.old.items ++ board_text line reply.now) }
     ensures err { OnErr result (out.new.items ≡ out.old.items) }
     ensures full { OnErr result (vec_capacity out.old
         < vec_len out.old + length (board_text line reply.now)) }
 {
-    let mut tail = value_tail(&reply.value);
-    tail.number(reply.number);
+    value_line(line, reply.number, &reply.value, out)
+}
+
+/// The same of a reply's parts, for a caller that has no reply whole.
+#[tactic(auto, unfolding(crate::specs::Text::value_text))]
+pub fn value_line(line: u64, number: u64, value: &Value, out: &mut Vec<u8>) -> Result<(), NoMemory>
+    ensures ok { OnOk result (out.new.items ≡ out.old.items ++ value_text line number value.now) }
+    ensures err { OnErr result (out.new.items ≡ out.old.items) }
+    ensures full { OnErr result (vec_capacity out.old
+        < vec_len out.old + length (value_text line number value.now)) }
+{
+    let mut tail = Tail::new();
+    put_value(value, &mut tail);
+    tail.number(number);
     tail.digits(line);
     tail.append_to(out)
 }
 
-/// The end of a reply's line, from its value on.
+/// Puts a value in front of a line's end.
 #[inline(always)]
-fn value_tail(value: &Value) -> Tail
-    ensures value { result ≡ spaced (value_words value.now) }
-    ensures short { length result ≤ 85 }
+fn put_value(value: &Value, tail: &mut Tail)
+    requires { tail.old ≡ 10 ∷ [] }
+    ensures value { tail.new ≡ spaced (value_words value.now) }
+    ensures short { length tail.new ≤ 85 }
 {
-    let mut tail = Tail::new();
     match *value {
         Value::Nothing => {}
         Value::Byte(byte) => tail.hex(u64::from(byte), 2),
@@ -63,7 +74,6 @@ fn value_tail(value: &Value) -> Tail
         Value::Next(None) => tail.word(b"none"),
         Value::Next(Some(t)) => tail.number(t),
     }
-    tail
 }
 
 /// The line of an edge: its nanosecond, its line and its direction; with a delivery also the processor and the

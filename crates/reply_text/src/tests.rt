@@ -43,6 +43,7 @@ fn lines_of_a_replay(rt: HostRuntime) -> Result<(), Fail> {
     edge_line(&edge, None, &mut out)?;
     edge_line(&edge, Some(to), &mut out)?;
     board_line(6, &reply, &mut out)?;
+    value_line(7, 5, &Value::Byte(4), &mut out)?;
     page_line(
         11,
         &PageReply::On {
@@ -57,7 +58,7 @@ fn lines_of_a_replay(rt: HostRuntime) -> Result<(), Fail> {
     state_line(b"\xfe\x0f", &mut out)?;
     final_line(5000, 6, 0, lines, &mut out)?;
     refused_line(4, Refused::Fell { before: 10 }, &mut out)?;
-    let wanted = b"edge 4191 0 up\nedge 4191 0 up 0 30\n6 4 009896808086a201\n\
+    let wanted = b"edge 4191 0 up\nedge 4191 0 up 0 30\n6 4 009896808086a201\n7 5 04\n\
 11 page 4 2000004000 1000002000 80000000 -1 03 1000003000\n12 clock off\n9 5 moved 1000002000\n\
 3 1 state 434c4b424f415244\nstate fe0f\nfinal 5000 6 0 0,21,23\nrefused 4 fell 10\n";
     assert_eq!(rt; out.as_slice(), wanted.as_slice());

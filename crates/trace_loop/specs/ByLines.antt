@@ -10,7 +10,8 @@ without_empty_last ([] ∷ []) = []
 without_empty_last ((b ∷ bs) ∷ []) = (b ∷ bs) ∷ []
 without_empty_last (part ∷ next ∷ parts) = part ∷ without_empty_last (next ∷ parts)
 
--- the lines of a trace: cut by the byte 0Ah; what stands behind the last one is a line too, unless it is empty
+-- the lines of a trace: cut by the byte 0Ah; what stands behind the last one is a line too, unless
+-- it is empty
 unfoldable pub lines_of : List ℕ → List (List ℕ)
 lines_of bytes = without_empty_last (slice_split (λ b. b == 10) bytes)
 

@@ -2,8 +2,8 @@
 use Rattle.std.specs.Prelude.{◌≡◌, ◌≢◌, ℕ, ◌+◌, ◌≤◌, List, [], ◌∷◌, ◌++◌, length, ◌⊎◌}
 use Rattle.trace_loop.specs.Progress.{limit_of}
 
--- what a reader holds: how many lines it handed out, the last of them, what came of the next, and the bytes that it
--- has not looked at
+-- what a reader holds: how many lines it handed out, the last of them, what came of the next, and
+-- the bytes that it has not looked at
 pub record Cut : Type 0 where
   pub number : ℕ
   pub line : List ℕ
@@ -28,7 +28,8 @@ pub record IsLine (old new : Cut) : Type 0 where
   pub line : new.line ≡ old.text ++ bytes
   pub text : new.text ≡ []
   pub number : new.number ≡ old.number + 1
-  pub end : ((length new.line ≤ limit_of new.line) × (old.left ≡ bytes ++ 10 ∷ new.left)) ⊎ ((length new.line ≡ limit_of new.line + 1) × (old.left ≡ bytes ++ new.left))
+  pub end : ((length new.line ≤ limit_of new.line) × (old.left ≡ bytes ++ 10 ∷ new.left))
+      ⊎ ((length new.line ≡ limit_of new.line + 1) × (old.left ≡ bytes ++ new.left))
 
 -- no line ends in the bytes: they all stand in the next one
 pub record IsWhole (old new : Cut) : Type 0 where

@@ -11,8 +11,9 @@ use Rattle.trace_loop.specs.declared.ended.Ended.TheVariants.{By, SourceFault, S
 abbrev pub Begins : List ℕ → List ℕ → Type 0
 Begins front text = (more : List ℕ) × (text ≡ front ++ more)
 
--- a run over an input: the progress behind its first bytes, by their number; what is printed for the whole of it; how
--- many bytes were given before the source was called last, and in all; the source's faults before the run and behind it
+-- a run over an input: the progress behind its first bytes, by their number; what is printed for
+-- the whole of it; how many bytes were given before the source was called last, and in all; the
+-- source's faults before the run and behind it
 pub record Run (A E : Type 0) : Type 0 where
   pub at : ℕ → Progress A E
   pub whole : Closing E
@@ -37,34 +38,40 @@ run_of answer closing a input before given faults faults_now = record {
 abbrev pub IsText : {A E : Type 0} → Run A E → List ℕ → Type 0
 IsText w text = (text ≡ w.whole.text) × (w.faults_now ≡ w.faults)
 
--- the source failed: the blocks of all that was given, behind which the trace has not ended, and the word of the fault
+-- the source failed: the blocks of all that was given, behind which the trace has not ended, and
+-- the word of the fault
 abbrev pub IsSourceFault : {A E : Type 0} → Run A E → List ℕ → Type 0
 IsSourceFault w text =
     (text ≡ (w.at w.given).printed ++ source_fault_text)
     × ((w.at w.given).end ≡ None)
     × Rose w.faults w.faults_now
 
--- memory ran out: the blocks of whole lines, at least of those that were given before the last call, and the word of it
+-- memory ran out: the blocks of whole lines, at least of those that were given before the last
+-- call, and the word of it
 abbrev pub IsMemoryFault : {A E : Type 0} → Run A E → List ℕ → Type 0
 IsMemoryFault w text =
     (k : ℕ) × (text ≡ (w.at k).printed ++ memory_fault_text) × (w.before ≤ k) × (k ≤ w.given)
     × ((w.at k).end ≡ None)
     × (w.faults_now ≡ w.faults)
 
--- the sink failed: it has all blocks of what was given before the last call, and a beginning of what was to come
+-- the sink failed: it has all blocks of what was given before the last call, and a beginning of
+-- what was to come
 abbrev pub IsCutOff : {A E : Type 0} → Run A E → List ℕ → Type 0
 IsCutOff w cut =
     Begins (w.at w.before).printed cut
-    × ((text : List ℕ) × (IsText w text ⊎ (IsSourceFault w text ⊎ IsMemoryFault w text)) × Begins cut text)
+    × ((text : List ℕ) × (IsText w text ⊎ (IsSourceFault w text ⊎ IsMemoryFault w text))
+    × Begins cut text)
 
 -- what a run that ended so has appended to the sink
 abbrev pub Outcome : {A E : Type 0} → Run A E → Ended E → Option (List ℕ) → Option (List ℕ) → Type 0
-Outcome w (By end) old new = (end ≡ w.whole.end) × ((text : List ℕ) × IsText w text × Appends old new text)
+Outcome w (By end) old new =
+    (end ≡ w.whole.end) × ((text : List ℕ) × IsText w text × Appends old new text)
 Outcome w SourceFault old new = (text : List ℕ) × IsSourceFault w text × Appends old new text
 Outcome w NoMemory old new = (text : List ℕ) × IsMemoryFault w text × Appends old new text
 Outcome w SinkFault old new = (cut : List ℕ) × IsCutOff w cut × Appends old new cut
 
--- the whole text was written, and this is the answer; or the sink failed, which showed, and took the text's beginning
+-- the whole text was written, and this is the answer; or the sink failed, which showed, and took
+-- the text's beginning
 abbrev pub SaidOr : {R : Type 0} → R → R → R → Option (List ℕ) → Option (List ℕ) → List ℕ → Type 0
     → Type 0
 SaidOr fault end result old new text shown =

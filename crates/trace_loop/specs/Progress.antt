@@ -1,5 +1,5 @@
--- What is known, and what was printed, behind some bytes of a trace, whatever answers its lines: A is what is kept
--- from line to line, and E how a trace may end.
+-- What is known, and what was printed, behind some bytes of a trace, whatever answers its lines: A
+-- is what is kept from line to line, and E how a trace may end.
 use Rattle.std.specs.Str.{bytes_eq}
 use Rattle.std.specs.Prelude.{
   ℕ,
@@ -28,13 +28,14 @@ pub record Closing (E : Type 0) : Type 0 where
   pub text : List ℕ
   pub end : E
 
--- what a line does: its block is printed, and the trace goes on from a new state; or it ends the trace
+-- what a line does: its block is printed, and the trace goes on from a new state; or it ends the
+-- trace
 pub data Answer (A E : Type 0) : Type 0 where
   Goes : List ℕ → A → Answer A E
   Ends : Closing E → Answer A E
 
--- behind some bytes: the number of the present line and what came of it, the state that will answer it, all that was
--- printed, and how the trace ended, if it did
+-- behind some bytes: the number of the present line and what came of it, the state that will answer
+-- it, all that was printed, and how the trace ended, if it did
 pub record Progress (A E : Type 0) : Type 0 where
   pub line : ℕ
   pub text : List ℕ

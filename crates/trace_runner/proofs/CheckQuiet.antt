@@ -30,7 +30,23 @@ use Rattle.trace_text.specs.declared.faults.RecordFault.{RecordFault}
 use Rattle.trace_text.specs.declared.reading.Item.{Item}
 use Rattle.trace_text.specs.declared.reading.Item.TheVariants.{Skipped, Part, Begun, Next, End}
 use Rattle.trace_text.specs.declared.records.Record.{Record as Written}
-use Rattle.trace_loop.specs.Progress.{limit_of, Answer, Goes, Ends, Progress, opened, told, answered, checked, heard, heard_until, behind, closed, ran, finished_by}
+use Rattle.trace_loop.specs.Progress.{
+  limit_of,
+  Answer,
+  Goes,
+  Ends,
+  Progress,
+  opened,
+  told,
+  answered,
+  checked,
+  heard,
+  heard_until,
+  behind,
+  closed,
+  ran,
+  finished_by,
+}
 use Rattle.trace_runner.specs.Records.{stops, refused_by}
 use Rattle.trace_runner.specs.Replay.{record_answer}
 use Rattle.trace_runner.specs.Check.{

@@ -2,7 +2,6 @@ pub mod CheckQuiet
 pub mod CheckReady
 mod CheckRows
 pub mod Counts
-pub mod Edges
 pub mod FileOrder
 pub mod Greatest
 pub mod Pieces

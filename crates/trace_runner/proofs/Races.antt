@@ -18,7 +18,6 @@ use Rattle.reply_text.specs.declared.ends.Refused.TheVariants.{
   Range,
   Versions as LastVersion,
   Spent as AllSpent,
-  NotBuilt as IsntBuilt,
 }
 use Rattle.trace_runner.specs.Checking.{Checking}
 use Rattle.trace_runner.specs.Check.{
@@ -82,7 +81,6 @@ verdict_no_source (StoppedAt line NoEnd) is = cc
 verdict_no_source (StoppedAt line (Range ns)) is = cc
 verdict_no_source (StoppedAt line (LastVersion version)) is = cc
 verdict_no_source (StoppedAt line (AllSpent number)) is = cc
-verdict_no_source (StoppedAt line IsntBuilt) is = cc
 
 pub verdict_no_sink : (v : Verdict) → verdict_status v ≡ SinkFault → ⊥
 verdict_no_sink Done is = cc
@@ -97,7 +95,6 @@ verdict_no_sink (StoppedAt line NoEnd) is = cc
 verdict_no_sink (StoppedAt line (Range ns)) is = cc
 verdict_no_sink (StoppedAt line (LastVersion version)) is = cc
 verdict_no_sink (StoppedAt line (AllSpent number)) is = cc
-verdict_no_sink (StoppedAt line IsntBuilt) is = cc
 
 -- a check that began before the first line
 pub checked_run : (shows_state : Bool) (input : List ℕ) (before given faults faults_now : ℕ) (s : Checking) (e : Ended Checked) (old new : Option (List ℕ))

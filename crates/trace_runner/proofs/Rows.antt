@@ -3,7 +3,8 @@ use Rattle.std.proofs.Common.{◌≡◌, [], ◌∷◌, false, Some, None, repli
 use Rattle.trace_text.specs.declared.faults.Reason.TheVariants.{CounterFell}
 use Rattle.transfer.specs.declared.outcome.MoveFault.TheVariants.{VersionsSpent as PageSpent}
 use Rattle.reply_text.specs.declared.ends.Refused.TheVariants.{Versions}
-use Rattle.trace_runner.specs.Deliveries.{deliveries_of, delivery_of}
+use Rattle.race_phase.specs.Blocks.{delivery_of}
+use Rattle.trace_runner.specs.Deliveries.{deliveries_of}
 use Rattle.trace_runner.specs.Records.{refused_by, refused_move}
 use Rattle.trace_runner.specs.Status.{number_of, refused_status}
 use Rattle.trace_runner.specs.declared.status.Status.TheVariants.{

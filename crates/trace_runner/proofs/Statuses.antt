@@ -20,7 +20,6 @@ use Rattle.reply_text.specs.declared.ends.Refused.TheVariants.{
   Range,
   Versions as LastVersion,
   Spent as AllSpent,
-  NotBuilt as IsntBuilt,
 }
 use Rattle.trace_runner.specs.declared.replay.Replay.{Replay}
 use Rattle.trace_runner.specs.declared.status.Verdict.{Verdict}
@@ -42,7 +41,6 @@ shown_is w (By (Stopped line NoEnd)) old new o = o
 shown_is w (By (Stopped line (Range ns))) old new o = o
 shown_is w (By (Stopped line (LastVersion version))) old new o = o
 shown_is w (By (Stopped line (AllSpent number))) old new o = o
-shown_is w (By (Stopped line IsntBuilt)) old new o = o
 shown_is w FailsSource old new o = o
 shown_is w FailsSink old new o = o
 shown_is w WantsMemory old new o = o
@@ -61,7 +59,6 @@ source_is (By (Stopped line NoEnd)) is = cc
 source_is (By (Stopped line (Range ns))) is = cc
 source_is (By (Stopped line (LastVersion version))) is = cc
 source_is (By (Stopped line (AllSpent number))) is = cc
-source_is (By (Stopped line IsntBuilt)) is = cc
 source_is FailsSource is = cc
 source_is FailsSink is = cc
 source_is WantsMemory is = cc
@@ -79,7 +76,6 @@ sink_is (By (Stopped line NoEnd)) is = cc
 sink_is (By (Stopped line (Range ns))) is = cc
 sink_is (By (Stopped line (LastVersion version))) is = cc
 sink_is (By (Stopped line (AllSpent number))) is = cc
-sink_is (By (Stopped line IsntBuilt)) is = cc
 sink_is FailsSource is = cc
 sink_is FailsSink is = cc
 sink_is WantsMemory is = cc

@@ -52,6 +52,7 @@ use Rattle.transfer.specs.declared.outcome.MoveFault.{MoveFault}
 use Rattle.save_state.specs.Writing.{bytes_of}
 use Rattle.reply_text.specs.Words.{line_of, spaced}
 use Rattle.reply_text.specs.Text.{
+  value_text,
   board_text,
   page_text,
   clock_text,
@@ -70,7 +71,7 @@ use Rattle.trace_text.specs.declared.reading.Item.TheVariants.{Skipped, Part, Be
 use Rattle.trace_text.specs.declared.records.Job.{Job}
 use Rattle.trace_text.specs.declared.records.Job.TheVariants.{Board, Page, Clock, Save, Move}
 use Rattle.trace_loop.specs.Progress.{limit_of, Answer, Goes, Ends, Progress, printed, opened, told, answered, checked, heard, heard_until, behind}
-use Rattle.trace_runner.specs.Deliveries.{edges_text}
+use Rattle.race_phase.specs.Blocks.{edges_text}
 use Rattle.trace_runner.specs.Records.{
   refused_by,
   refused_access,
@@ -117,7 +118,7 @@ line_ends : (w : List ℕ) (ws : List (List ℕ)) → EndsLine (line_of w ws)
 line_ends w ws = ends_behind w (spaced ws) (spaced_ends ws)
 
 board_ends : (line : ℕ) (reply : Reply) → EndsLine (board_text line reply)
-unfolding board_text
+unfolding value_text
 board_ends line reply = line_ends _ _
 
 page_ends : (line : ℕ) (reply : PageReply) → EndsLine (page_text line reply)

@@ -1,5 +1,5 @@
--- A trace is read whole and checked before its processors run: what each of its lines does, and what is known at its
--- end. Nothing is printed but the line that is refused.
+-- A trace is read whole and checked before its processors run: what each of its lines does, and
+-- what is known at its end. Nothing is printed but the line that is refused.
 use Rattle.std.specs.Prelude.{
   ℕ,
   ◌+◌,

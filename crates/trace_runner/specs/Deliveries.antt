@@ -1,14 +1,12 @@
--- Where the rises of lines go, and the lines that edges print.
+-- Where the rises of lines go, by the routes of a header.
 use Rattle.std.specs.Prelude.{
   ℕ,
   ◌+◌,
   Bool,
   ◌||◌,
-  ◌==◌,
   List,
   [],
   ◌∷◌,
-  ◌++◌,
   map,
   slice_index,
   slice_index_or,
@@ -20,9 +18,7 @@ use Rattle.std.specs.Prelude.{
   if◌then◌else◌,
 }
 use Rattle.irq_edges.specs.Lines.{line_numbers}
-use Rattle.irq_edges.specs.declared.edges.Edge.{Edge}
 use Rattle.edge_hooks.specs.declared.deliveries.Delivery.{Delivery}
-use Rattle.reply_text.specs.Text.{edge_text}
 
 -- whether the line at a place has a route, and whether any line has one
 abbrev pub there : ℕ → List (Option Delivery) → Bool
@@ -39,7 +35,8 @@ by_default line = record { cpu = 0; vector = 0x30 + line }
 abbrev pub filled : Bool → ℕ → List (Option Delivery) → Option Delivery
 filled any place routes =
     if any then
-    Some (unwrap_or (slice_index_or routes place None) (by_default (slice_index line_numbers place)))
+    Some
+    (unwrap_or (slice_index_or routes place None) (by_default (slice_index line_numbers place)))
     else None
 
 abbrev pub six : List ℕ
@@ -48,23 +45,3 @@ six = 0 ∷ 1 ∷ 2 ∷ 3 ∷ 4 ∷ 5 ∷ []
 -- who gets the rises of all lines, by the routes of a header
 unfoldable pub deliveries_of : List (Option Delivery) → List (Option Delivery)
 deliveries_of routes = map (λ place. filled (any_route routes) place routes) six
-
--- who gets a rise of the line of this number
-abbrev pub delivery_to : List (Option Delivery) → ℕ → Option Delivery
-delivery_to ds line =
-    if line == 0 then slice_index_or ds 0 None
-    else if line == 8 then slice_index_or ds 1 None
-    else if line == 20 then slice_index_or ds 2 None
-    else if line == 21 then slice_index_or ds 3 None
-    else if line == 22 then slice_index_or ds 4 None
-    else if line == 23 then slice_index_or ds 5 None
-    else None
-
--- a rise alone is delivered
-abbrev pub delivery_of : List (Option Delivery) → Edge → Option Delivery
-delivery_of ds e = if e.up then delivery_to ds e.line else None
-
--- the lines of edges, in order
-abbrev pub edges_text : List (Option Delivery) → List Edge → List ℕ
-edges_text ds [] = []
-edges_text ds (e ∷ es) = edge_text e (delivery_of ds e) ++ edges_text ds es

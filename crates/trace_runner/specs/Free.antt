@@ -1,4 +1,5 @@
--- Phases without a fault: each record fits the board that the trace begins with, and none is refused in file order.
+-- Phases without a fault: each record fits the board that the trace begins with, and none is
+-- refused in file order.
 use Rattle.std.specs.Prelude.{◌≡◌, ℕ, ◌≤◌, ◌^◌, List, [], ◌∷◌, length, All, Option, None}
 use Rattle.board_types.specs.declared.parts.BoardParts.{BoardParts}
 use Rattle.race_phase.specs.declared.faults.Fault.{Fault}

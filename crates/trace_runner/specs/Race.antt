@@ -27,7 +27,8 @@ use Rattle.trace_runner.specs.declared.status.Status.TheVariants.{
   NoMemory,
 }
 
--- the run of a check over an input, of which so many bytes were given, and so many before the last call
+-- the run of a check over an input, of which so many bytes were given, and so many before the last
+-- call
 abbrev pub check_run : Bool → List ℕ → ℕ → ℕ → ℕ → ℕ → Run Checking Checked
 check_run shows_state input before given faults faults_now = record {
   at = λ k. check_behind shows_state (take k input);
@@ -38,8 +39,8 @@ check_run shows_state input before given faults faults_now = record {
   faults_now = faults_now;
 }
 
--- a trace that was checked prints this: what its phases print, one behind another, and its last lines for the board
--- that they leave
+-- a trace that was checked prints this: what its phases print, one behind another, and its last
+-- lines for the board that they leave
 abbrev pub RacePrints : TraceRead → List ℕ → Type 0
 RacePrints t text =
     (phases : List Phase) × (state : BoardParts) × (block : List ℕ)
@@ -47,8 +48,8 @@ RacePrints t text =
     × race_text t.deliveries t.opening phases state block
     × (text ≡ block ++ (ended t.shows_state state).text)
 
--- what is left where the check came to its end: the line that was refused; or all that the trace prints, where memory
--- did not run out
+-- what is left where the check came to its end: the line that was refused; or all that the trace
+-- prints, where memory did not run out
 abbrev pub CheckedLeaves : Checked → List ℕ → Status → Option (List ℕ) → Option (List ℕ) → Type 0
     → Type 0
 CheckedLeaves (Stopped verdict) text status old new shown =

@@ -17,8 +17,6 @@ use Rattle.board_types.specs.declared.reply.Refusal.TheVariants.{
   VersionsSpent,
   Spent as AccessesSpent,
 }
-use Rattle.board_devices.specs.Run.{run}
-use Rattle.board_core.specs.Time.{devices_in, now_of}
 use Rattle.board_core.specs.Access.{after_access, reply_of}
 use Rattle.board_core.specs.Refusals.{refusal_of}
 use Rattle.board_core.specs.Pages.{page_reply, clock_reply, after_clock}
@@ -29,15 +27,7 @@ use Rattle.transfer.specs.declared.outcome.MoveFault.TheVariants.{
   OutOfRange as GapOutOfRange,
   VersionsSpent as PageSpent,
 }
-use Rattle.save_state.specs.Writing.{bytes_of}
-use Rattle.reply_text.specs.Text.{
-  board_text,
-  page_text,
-  clock_text,
-  save_text,
-  move_text,
-  refused_text,
-}
+use Rattle.reply_text.specs.Text.{board_text, page_text, clock_text, refused_text}
 use Rattle.reply_text.specs.declared.ends.Refused.{Refused}
 use Rattle.reply_text.specs.declared.ends.Refused.TheVariants.{
   Form,
@@ -66,7 +56,8 @@ use Rattle.trace_text.specs.declared.faults.Reason.TheVariants.{
 use Rattle.trace_text.specs.declared.records.Job.{Job}
 use Rattle.trace_text.specs.declared.records.Job.TheVariants.{Board, Page, Clock, Save, Move}
 use Rattle.trace_loop.specs.Progress.{Closing, Answer, Goes, Ends}
-use Rattle.trace_runner.specs.Deliveries.{edges_text}
+use Rattle.race_phase.specs.Blocks.{edges_text}
+use Rattle.race_phase.specs.Phases.{save_block, move_block}
 use Rattle.trace_runner.specs.declared.status.Verdict.{Verdict}
 use Rattle.trace_runner.specs.declared.status.Verdict.TheVariants.{Stopped}
 
@@ -135,14 +126,11 @@ clock_answer line page h b =
     (after_clock b page h)
 
 -- a save: time passes by an access, and the state behind it is printed
-abbrev pub save_block : ℕ → List (Option Delivery) → Reply → BoardParts → List ℕ
-save_block line ds reply b = edges_text ds reply.edges ++ save_text line reply.number (bytes_of b)
-
 abbrev pub saved_answer : Option Refusal → ℕ → ℕ → ℕ → List (Option Delivery) → BoardParts
     → Answer BoardParts Verdict
 saved_answer (Some refusal) line cpu h ds b = Ends (stops line (refused_access refusal))
 saved_answer None line cpu h ds b =
-    Goes (save_block line ds (reply_of b cpu h Step) (after_access b cpu h Step))
+    Goes (save_block ds line (reply_of b cpu h Step) (after_access b cpu h Step))
     (after_access b cpu h Step)
 
 abbrev pub save_answer : ℕ → ℕ → ℕ → List (Option Delivery) → BoardParts
@@ -154,19 +142,13 @@ abbrev pub refused_move : MoveFault → Refused
 refused_move (GapOutOfRange ns) = Range ns
 refused_move (PageSpent cpu version) = Versions version
 
--- a move: time passes by an access, which gave this reply; then the board runs over the gap and goes
--- on at the new host. The edges of the access are printed, those of the gap, and the time behind it
-abbrev pub move_block : ℕ → ℕ → List (Option Delivery) → Reply → BoardParts → BoardParts → List ℕ
-move_block line gap ds reply b moved =
-    edges_text ds reply.edges
-    ++ edges_text ds (run (now_of b) gap (devices_in b)).edges
-    ++ move_text line reply.number (now_of moved)
-
+-- a move: time passes by an access, which gave this reply; then the board runs over the gap and
+-- goes on at the new host
 abbrev pub gap_answer : Option MoveFault → ℕ → ℕ → ℕ → ℕ → List (Option Delivery) → Reply
     → BoardParts → Answer BoardParts Verdict
 gap_answer (Some fault) line khz start gap ds reply b = Ends (stops line (refused_move fault))
 gap_answer None line khz start gap ds reply b =
-    Goes (move_block line gap ds reply b (moved_to khz start gap b)) (moved_to khz start gap b)
+    Goes (move_block ds line gap reply b (moved_to khz start gap b)) (moved_to khz start gap b)
 
 abbrev pub moved_answer : Option Refusal → ℕ → ℕ → ℕ → ℕ → ℕ → ℕ → List (Option Delivery)
     → BoardParts → Answer BoardParts Verdict

@@ -74,7 +74,8 @@ at_start shows_state = record {
   deliveries = replicate 6 None;
 }
 
--- the line that ends a trace: the time, the accesses, the greatest clock reading, the lines that are up
+-- the line that ends a trace: the time, the accesses, the greatest clock reading, the lines that
+-- are up
 abbrev pub final_of : BoardParts → List ℕ
 final_of b = final_text (now_of b) b.accesses b.greatest (record { levels = levels (devices_in b) })
 
@@ -127,7 +128,8 @@ progress_behind shows_state bytes = heard_behind answer_of bytes (opened (at_sta
 unfoldable pub replay : Bool → List ℕ → Closing Verdict
 replay shows_state bytes = finished answer_of closing_of (progress_behind shows_state bytes)
 
--- the run of a replay over an input, of which so many bytes were given, and so many before the last call
+-- the run of a replay over an input, of which so many bytes were given, and so many before the last
+-- call
 abbrev pub replay_run : Bool → List ℕ → ℕ → ℕ → ℕ → ℕ → Run Replay Verdict
 replay_run shows_state input before given faults faults_now = record {
   at = λ k. progress_behind shows_state (take k input);

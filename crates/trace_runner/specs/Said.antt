@@ -5,7 +5,8 @@ use Rattle.trace_loop.specs.Outcome.{SaidOr}
 use Rattle.trace_runner.specs.declared.status.Status.{Status}
 use Rattle.trace_runner.specs.declared.status.Status.TheVariants.{NoMemory, SinkFault}
 
--- the whole text was written, and this is the status; or the sink failed, which showed, and took the text's beginning
+-- the whole text was written, and this is the status; or the sink failed, which showed, and took
+-- the text's beginning
 abbrev pub Said : Status → Status → Option (List ℕ) → Option (List ℕ) → List ℕ → Type 0 → Type 0
 Said status result old new text shown = SaidOr SinkFault status result old new text shown
 

@@ -48,14 +48,14 @@ sum_of s = record {
   greatest = s.replay.board.greatest;
 }
 
--- what the end of the trace prints, where its replay prints this: the sum where it was read to its end, and why it is
--- refused where it is
+-- what the end of the trace prints, where its replay prints this: the sum where it was read to its
+-- end, and why it is refused where it is
 abbrev pub sum_text : Verdict → List ℕ → Sum → List ℕ
 sum_text Done text sum = soak_text sum.records sum.edges sum.time sum.greatest
 sum_text (Stopped line why) text sum = text
 
--- a line does what it does to the replay; of its block the edges are counted (a count that stands still at its type's
--- end), and nothing is printed
+-- a line does what it does to the replay; of its block the edges are counted (a count that stands
+-- still at its type's end), and nothing is printed
 abbrev pub soaked : Answer Replay Verdict → Soak → Answer Soak Verdict
 soaked (Goes block r) s = Goes [] (record s {
   replay = r;

@@ -21,10 +21,9 @@ use Rattle.reply_text.specs.declared.ends.Refused.TheVariants.{
   Range,
   Versions as LastVersion,
   Spent as AllSpent,
-  NotBuilt as IsntBuilt,
 }
-use Rattle.trace_text.specs.declared.faults.Reason.{Reason}
 use Rattle.trace_text.specs.declared.faults.Reason.TheVariants as reasons
+use Rattle.trace_runner.specs.Records.{refused_by}
 use Rattle.trace_runner.specs.declared.replay.Replay.{Replay}
 use Rattle.trace_runner.specs.declared.status.Verdict.{Verdict}
 use Rattle.trace_runner.specs.declared.status.Verdict.TheVariants.{Done, Stopped}
@@ -39,7 +38,6 @@ use Rattle.trace_runner.specs.declared.status.Status.TheVariants.{
   OutOfRange,
   Spent,
   VersionsSpent,
-  NotBuilt,
 }
 
 -- the program's exit status
@@ -53,7 +51,6 @@ number_of NoMemory = 6
 number_of (OutOfRange line ns) = 7
 number_of (Spent line number) = 8
 number_of (VersionsSpent line version) = 9
-number_of (NotBuilt line) = 10
 
 -- a line that is refused, as a status
 abbrev pub refused_status : ℕ → Refused → Status
@@ -68,7 +65,6 @@ refused_status line NoEnd = BadRecord line reasons.NoEnd
 refused_status line (Range ns) = OutOfRange line ns
 refused_status line (LastVersion version) = VersionsSpent line version
 refused_status line (AllSpent number) = Spent line number
-refused_status line IsntBuilt = NotBuilt line
 
 -- how a trace ended, as a status
 abbrev pub verdict_status : Verdict → Status
@@ -82,26 +78,14 @@ status_of FailsSource = SourceFault
 status_of FailsSink = SinkFault
 status_of WantsMemory = NoMemory
 
--- a grammar's reason, as the line is refused
-abbrev pub refused_for : Reason → Refused
-refused_for reasons.Form = Form
-refused_for reasons.Steal = Steal
-refused_for reasons.Cpu = Cpu
-refused_for (reasons.CounterFell before) = Fell before
-refused_for (reasons.StateBytes at) = State at
-refused_for reasons.TooLong = Long
-refused_for reasons.TooMany = Many
-refused_for reasons.NoEnd = NoEnd
-
 -- what a replay that ended with a status has appended to the sink
 abbrev pub Shown : Run Replay Verdict → Status → Option (List ℕ) → Option (List ℕ) → Type 0
 Shown w Ok old new = Outcome w (By Done) old new
-Shown w (BadRecord line reason) old new = Outcome w (By (Stopped line (refused_for reason))) old new
+Shown w (BadRecord line reason) old new = Outcome w (By (Stopped line (refused_by reason))) old new
 Shown w (OutOfRange line ns) old new = Outcome w (By (Stopped line (Range ns))) old new
 Shown w (Spent line number) old new = Outcome w (By (Stopped line (AllSpent number))) old new
 Shown w (VersionsSpent line version) old new =
     Outcome w (By (Stopped line (LastVersion version))) old new
-Shown w (NotBuilt line) old new = Outcome w (By (Stopped line IsntBuilt)) old new
 Shown w SourceFault old new = Outcome w FailsSource old new
 Shown w SinkFault old new = Outcome w FailsSink old new
 Shown w NoMemory old new = Outcome w WantsMemory old new

@@ -18,8 +18,8 @@ phase_read v = record { records = v.records.items; end = v.end }
 abbrev pub phases_read : List Phase → List PhaseRead
 phases_read vs = map phase_read vs
 
--- the board that the trace begins with, who gets the rises of its lines, its phases, and whether the board's state is
--- shown at its end
+-- the board that the trace begins with, who gets the rises of its lines, its phases, and whether
+-- the board's state is shown at its end
 pub record TraceRead : Type 0 where
   pub opening : BoardParts
   pub deliveries : List (Option Delivery)

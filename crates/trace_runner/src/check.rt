@@ -1,11 +1,43 @@
 //! The check of a trace: it is read whole, in file order, before its processors run.
-ghost use Rattle.std.specs.Prelude.{◌≡◌, ◌<◌, ◌≤◌, ◌+◌, ◌^◌, ◌++◌, None, Some, Ok, IfOk, OnOk, OnErr, IfSome, IfNone, OnSome};
+ghost use Rattle.std.specs.Prelude.{
+  ◌≡◌,
+  ◌<◌,
+  ◌≤◌,
+  ◌+◌,
+  ◌^◌,
+  ◌++◌,
+  None,
+  Some,
+  Ok,
+  IfOk,
+  OnOk,
+  OnErr,
+  IfSome,
+  IfNone,
+  OnSome,
+};
 ghost use Rattle.std.specs.Io.{StartsWith};
 ghost use Rattle.trace_loop.specs.Progress.{printed, end_of, state_behind};
 ghost use Rattle.trace_text.specs.Lines.{taken, IsOpen, IsItem, IsRecordAt};
 ghost use Rattle.trace_runner.specs.Ready.{Suits};
 ghost use Rattle.trace_runner.specs.Sound.{IsSound};
-ghost use Rattle.trace_runner.specs.Check.{check_start, with_call, with_end, kept, is_full, too_many, record_checked, begun, item_checked, fault_checked, trace_of, read_on, check_answer, IsCheckReady, has_form};
+ghost use Rattle.trace_runner.specs.Check.{
+  check_start,
+  with_call,
+  with_end,
+  kept,
+  is_full,
+  too_many,
+  record_checked,
+  begun,
+  item_checked,
+  fault_checked,
+  trace_of,
+  read_on,
+  check_answer,
+  IsCheckReady,
+  has_form,
+};
 
 use crate::replay::{Replay, opening};
 use crate::status::{Verdict, refused_by, stop};
@@ -83,14 +115,14 @@ impl Check {
     }
 
     /// Keeps a record of the phase.
-    fn push(&mut self, line: u64, record: &Written, call: Call) -> Result<(), NoMemory>
+    fn push(&mut self, line: u64, given: &Written, call: Call) -> Result<(), NoMemory>
         requires { self.old.taken < 200000 }
-        ensures { OnOk result (self.new ≡ with_call line record.now call self.old) }
+        ensures { OnOk result (self.new ≡ with_call line given.now call self.old) }
     {
         let kept = Record {
             line,
-            cpu: record.cpu,
-            h: record.h,
+            cpu: given.cpu,
+            h: given.h,
             call,
         };
         self.last.push(kept).map_err(|_| NoMemory)?;
@@ -115,16 +147,16 @@ impl Check {
     }
 
     /// Keeps a record: a save and a move end their phase.
-    fn keep(&mut self, line: u64, record: &Written) -> Result<(), NoMemory>
+    fn keep(&mut self, line: u64, given: &Written) -> Result<(), NoMemory>
         requires { self.old.taken < 200000 }
-        ensures { OnOk result (self.new ≡ kept line record.now self.old) }
+        ensures { OnOk result (self.new ≡ kept line given.now self.old) }
     {
-        let cpu = record.cpu;
-        let h = record.h;
-        match record.job {
-            Job::Board(access) => self.push(line, record, Call::Act { access }),
-            Job::Page { page } => self.push(line, record, Call::ReadPage { page }),
-            Job::Clock { page } => self.push(line, record, Call::ReadClock { page }),
+        let cpu = given.cpu;
+        let h = given.h;
+        match given.job {
+            Job::Board(access) => self.push(line, given, Call::Act { access }),
+            Job::Page { page } => self.push(line, given, Call::ReadPage { page }),
+            Job::Clock { page } => self.push(line, given, Call::ReadClock { page }),
             Job::Save => self.end_phase(End::Save { line, cpu, h }),
             Job::Move { khz, start, gap } => {
                 let host = NewHost { khz, start, gap };
@@ -144,26 +176,26 @@ impl Check {
     fn take(
         &mut self,
         line: u64,
-        record: &Written,
+        given: &Written,
         out: &mut Vec<u8>,
     ) -> Result<Option<Checked>, NoMemory>
-        requires { Suits (Item.Next record.now) self.old.replay.board }
+        requires { Suits (Item.Next given.now) self.old.replay.board }
         ensures printed { OnOk result
-            (out.new.items ≡ out.old.items ++ printed (record_checked line record.now self.old)) }
-        ensures ends { IfOk result (λ end. end ≡ end_of (record_checked line record.now self.old)) }
+            (out.new.items ≡ out.old.items ++ printed (record_checked line given.now self.old)) }
+        ensures ends { IfOk result (λ end. end ≡ end_of (record_checked line given.now self.old)) }
         ensures state { IfOk result (λ end. end ≡ None
-            → self.new ≡ state_behind (record_checked line record.now self.old) self.old) }
+            → self.new ≡ state_behind (record_checked line given.now self.old) self.old) }
         ensures err { OnErr result (StartsWith out.new.items out.old.items) }
     {
         if self.is_full() {
             return many(line, out);
         }
         let whole = out.len();
-        if let Some(verdict) = self.replay.answer_record(line, record, out)? {
+        if let Some(verdict) = self.replay.answer_record(line, given, out)? {
             return Ok(Some(Checked::Stopped(verdict)));
         }
         out.truncate(whole);
-        self.keep(line, record)?;
+        self.keep(line, given)?;
         Ok(None)
     }
 
@@ -173,7 +205,7 @@ impl Check {
         ensures { self.new ≡ begun header.now self.old }
     {
         self.replay.begin(header);
-        self.opening = self.replay.board;
+        self.opening = *self.replay.board.state();
         self.phases.clear();
         self.last.clear();
         self.taken = 0;

@@ -41,6 +41,7 @@
 mod check;
 mod deliveries;
 mod generate;
+mod kept;
 mod moves;
 mod program;
 mod race;

@@ -6,24 +6,13 @@ ghost use Rattle.trace_loop.specs.Progress.{printed, end_of, state_behind};
 ghost use Rattle.transfer.specs.Move.{move_fault};
 ghost use Rattle.trace_runner.specs.Records.{save_answer, move_answer, gap_answer, refused_move};
 
-use crate::deliveries::{Deliveries, edge_lines};
 use crate::status::{Verdict, refuse, refused_access};
 use board_core::{Access, BoardState, Reply};
 use clk_units::NoMemory;
+use race_phase::{Deliveries, NewHost, edge_lines};
 use reply_text::{Refused, move_line, save_line};
 use save_state::encode;
 use transfer::{MoveFault, moved};
-
-/// Where a board moves.
-#[derive(Clone, Copy)]
-pub(crate) struct NewHost {
-    /// The rate of its counter in kHz.
-    pub(crate) khz: u64,
-    /// Its count when the gap is over.
-    pub(crate) start: u64,
-    /// The gap in nanoseconds.
-    pub(crate) gap: u64,
-}
 
 /// Answers a save: the board runs to the time of the record, and its state is printed.
 #[inline(never)]
@@ -94,11 +83,14 @@ fn cross_gap(
 ) -> Result<Option<Verdict>, NoMemory>
     requires { IsKhz host.khz }
     ensures printed { OnOk result (out.new.items ≡ out.old.items ++ printed
-        (gap_answer (move_fault host.gap board.old) line host.khz host.start host.gap deliveries.now reply.now board.old)) }
+        (gap_answer (move_fault host.gap board.old) line host.khz host.start host.gap
+        deliveries.now reply.now board.old)) }
     ensures ends { IfOk result (λ end. end ≡ end_of
-        (gap_answer (move_fault host.gap board.old) line host.khz host.start host.gap deliveries.now reply.now board.old)) }
+        (gap_answer (move_fault host.gap board.old) line host.khz host.start host.gap
+        deliveries.now reply.now board.old)) }
     ensures board { IfOk result (λ end. end ≡ None → board.new ≡ state_behind
-        (gap_answer (move_fault host.gap board.old) line host.khz host.start host.gap deliveries.now reply.now board.old) board.old) }
+        (gap_answer (move_fault host.gap board.old) line host.khz host.start host.gap
+        deliveries.now reply.now board.old) board.old) }
     ensures err { OnErr result (StartsWith out.new.items out.old.items) }
 {
     match moved(board, host.khz, host.start, host.gap) {

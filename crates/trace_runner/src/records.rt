@@ -6,54 +6,77 @@ ghost use Rattle.trace_loop.specs.Progress.{printed, end_of, state_behind};
 ghost use Rattle.trace_runner.specs.Records.{job_answer, board_answer, page_answer, clock_answer};
 ghost use Rattle.trace_runner.specs.Ready.{JobSuits};
 
-use crate::deliveries::{Deliveries, edge_lines};
-use crate::moves::{NewHost, answer_move, answer_save};
+use crate::kept::{KeptBoard, empty};
+use crate::moves::{answer_move, answer_save};
 use crate::status::{Verdict, refuse, refused_access, refused_time};
-use board_core::{Access, BoardState, Reply, Value};
+use board_core::{Access, BoardState};
 use clk_units::NoMemory;
 use irq_edges::EdgeList;
-use reply_text::{board_line, clock_line, page_line};
+use race_phase::{Deliveries, NewHost, edge_lines};
+use reply_text::{clock_line, page_line, value_line};
 use trace_text::{Job, Record};
 
-/// Answers a record: appends its block, or refuses it. After an `Err` the text begins as it was.
+/// Answers a record: appends its block, or refuses it. After an `Err` the text begins as it was. It is inlined, as are
+/// those of the common records, since an answer is too large for registers.
+#[inline(always)]
 pub(crate) fn answer(
     line: u64,
-    record: &Record,
-    board: &mut BoardState,
+    given: &Record,
+    board: &mut KeptBoard,
     deliveries: &Deliveries,
     out: &mut Vec<u8>,
 ) -> Result<Option<Verdict>, NoMemory>
-    requires cpu { record.now.cpu < board.old.cpus }
-    requires job { JobSuits record.now.job board.old }
-    ensures printed { OnOk result (out.new.items ≡ out.old.items
-        ++ printed (job_answer line record.now.cpu record.now.h record.now.job deliveries.now board.old)) }
+    requires cpu { given.now.cpu < board.old.cpus }
+    requires job { JobSuits given.now.job board.old }
+    ensures printed { OnOk result (out.new.items ≡ out.old.items ++ printed
+        (job_answer line given.now.cpu given.now.h given.now.job deliveries.now board.old)) }
     ensures ends { IfOk result (λ end. end
-        ≡ end_of (job_answer line record.now.cpu record.now.h record.now.job deliveries.now board.old)) }
+        ≡ end_of (job_answer line given.now.cpu given.now.h given.now.job deliveries.now board.old)) }
     ensures board { IfOk result (λ end. end ≡ None → board.new ≡ state_behind
-        (job_answer line record.now.cpu record.now.h record.now.job deliveries.now board.old) board.old) }
+        (job_answer line given.now.cpu given.now.h given.now.job deliveries.now board.old) board.old) }
     ensures err { OnErr result (StartsWith out.new.items out.old.items) }
 {
-    match record.job {
+    match given.job {
         Job::Board(access) => {
-            answer_access(line, record.cpu, record.h, access, board, deliveries, out)
+            let edges = &mut board.edges;
+            answer_access(
+                line,
+                given.cpu,
+                given.h,
+                access,
+                &mut board.state,
+                edges,
+                deliveries,
+                out,
+            )
         }
-        Job::Page { page } => answer_page(line, page, record.h, board, out),
-        Job::Clock { page } => answer_clock(line, page, record.h, board, out),
-        Job::Save => answer_save(line, record.cpu, record.h, board, deliveries, out),
+        Job::Page { page } => answer_page(line, page, given.h, &board.state, out),
+        Job::Clock { page } => answer_clock(line, page, given.h, &mut board.state, out),
+        Job::Save => answer_save(line, given.cpu, given.h, &mut board.state, deliveries, out),
         Job::Move { khz, start, gap } => {
             let host = NewHost { khz, start, gap };
-            answer_move(line, record.cpu, record.h, host, board, deliveries, out)
+            answer_move(
+                line,
+                given.cpu,
+                given.h,
+                host,
+                &mut board.state,
+                deliveries,
+                out,
+            )
         }
     }
 }
 
-/// Answers an access to the board.
+/// Answers an access to the board, whose edges are put into the list in the place of those that stand there.
+#[inline(always)]
 fn answer_access(
     line: u64,
     cpu: u8,
     h: u64,
     access: Access,
     board: &mut BoardState,
+    edges: &mut EdgeList,
     deliveries: &Deliveries,
     out: &mut Vec<u8>,
 ) -> Result<Option<Verdict>, NoMemory>
@@ -67,18 +90,11 @@ fn answer_access(
         ≡ state_behind (board_answer line cpu h access deliveries.now board.old) board.old) }
     ensures err { OnErr result (StartsWith out.new.items out.old.items) }
 {
-    // The reply is made where it lies, since its list of edges is large.
-    let mut reply = Reply {
-        number: 0,
-        value: Value::Nothing,
-        edges: EdgeList::new(),
-    };
-    match board.answer(cpu, h, access, &mut reply.edges) {
+    empty(edges);
+    match board.answer(cpu, h, access, edges) {
         Ok(value) => {
-            reply.number = board.accesses();
-            reply.value = value;
-            edge_lines(reply.edges.as_slice(), deliveries, out)?;
-            board_line(line, &reply, out)?;
+            edge_lines(edges.as_slice(), deliveries, out)?;
+            value_line(line, board.accesses(), &value, out)?;
             Ok(None)
         }
         Err(refusal) => refuse(line, refused_access(refusal), out),
@@ -86,6 +102,7 @@ fn answer_access(
 }
 
 /// Answers a read of a page.
+#[inline(always)]
 fn answer_page(
     line: u64,
     page: u8,
@@ -110,6 +127,7 @@ fn answer_page(
 }
 
 /// Answers a read of the clock.
+#[inline(always)]
 fn answer_clock(
     line: u64,
     page: u8,

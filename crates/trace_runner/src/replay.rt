@@ -8,12 +8,14 @@ ghost use Rattle.trace_runner.specs.Records.{stops};
 ghost use Rattle.trace_runner.specs.Replay.{answer_of, board_of, item_answer, record_answer, opening, ended};
 ghost use Rattle.trace_runner.specs.Ready.{IsReady, Suits};
 
-use crate::deliveries::{Deliveries, deliveries_of};
+use crate::deliveries::deliveries_of;
+use crate::kept::KeptBoard;
 use crate::records;
 use crate::status::{Verdict, refuse, refused_by, stop};
 use board_core::{BoardState, Setup};
 use clk_units::NoMemory;
 use host_counter::Anchor;
+use race_phase::Deliveries;
 use reply_text::{final_line, state_line};
 use rtc_calendar::TimeBytes;
 use save_state::encode;
@@ -29,7 +31,7 @@ pub(crate) struct Replay {
     /// Whether the board's state is shown at the end.
     pub(crate) shows_state: bool,
     /// The board; before `begin` one that no line asks.
-    pub(crate) board: BoardState,
+    pub(crate) board: KeptBoard,
     /// Where rises go, where the header has routes.
     pub(crate) deliveries: Deliveries,
 }
@@ -75,7 +77,7 @@ impl Replay {
         Replay {
             reading: Reading::new(),
             shows_state,
-            board: BoardState::power_on(&opening()),
+            board: KeptBoard::new(BoardState::power_on(&opening())),
             deliveries: [None; 6],
         }
     }
@@ -89,8 +91,8 @@ impl Replay {
         ensures shows_state { self.new.shows_state ≡ self.old.shows_state }
     {
         match header.begin {
-            Begin::Fresh(setup) => self.board = BoardState::power_on(&setup),
-            Begin::Saved(board) => self.board = board,
+            Begin::Fresh(setup) => self.board = KeptBoard::new(BoardState::power_on(&setup)),
+            Begin::Saved(board) => self.board = KeptBoard::new(board),
         }
         self.deliveries = deliveries_of(&header.routes);
     }
@@ -118,7 +120,7 @@ impl Replay {
             }
             Item::Next(record) => self.answer_record(line, record, out),
             Item::End => {
-                end(&self.board, self.shows_state, out)?;
+                end(self.board.state(), self.shows_state, out)?;
                 Ok(Some(Verdict::Done))
             }
         }
@@ -127,21 +129,22 @@ impl Replay {
 
 impl Replay {
     /// Answers a record.
+    #[inline(always)]
     pub(crate) fn answer_record(
         &mut self,
         line: u64,
-        record: &Record,
+        given: &Record,
         out: &mut Vec<u8>,
     ) -> Result<Option<Verdict>, NoMemory>
-        requires { Suits (Item.Next record.now) self.old.board }
+        requires { Suits (Item.Next given.now) self.old.board }
         ensures printed { OnOk result
-            (out.new.items ≡ out.old.items ++ printed (record_answer line record.now self.old)) }
-        ensures ends { IfOk result (λ end. end ≡ end_of (record_answer line record.now self.old)) }
+            (out.new.items ≡ out.old.items ++ printed (record_answer line given.now self.old)) }
+        ensures ends { IfOk result (λ end. end ≡ end_of (record_answer line given.now self.old)) }
         ensures state { IfOk result (λ end. end ≡ None
-            → self.new ≡ state_behind (record_answer line record.now self.old) self.old) }
+            → self.new ≡ state_behind (record_answer line given.now self.old) self.old) }
         ensures err { OnErr result (StartsWith out.new.items out.old.items) }
     {
-        records::answer(line, record, &mut self.board, &self.deliveries, out)
+        records::answer(line, given, &mut self.board, &self.deliveries, out)
     }
 
     /// Answers a line that is no record, or one that is refused. It stands apart, since its item has room for a board,
@@ -202,6 +205,7 @@ impl Answerer<Verdict> for Replay {
 
     ghost may = { IsReady };
 
+    #[inline(always)]
     #[tactic(auto, unfolding(crate::specs::Replay::answer_of))]
     fn answer(
         &mut self,

@@ -78,8 +78,8 @@ impl Soak {
         Sum {
             records: self.records,
             edges: self.edges,
-            time: self.replay.board.now(),
-            greatest: self.replay.board.greatest(),
+            time: self.replay.board.state().now(),
+            greatest: self.replay.board.state().greatest(),
         }
     }
 }

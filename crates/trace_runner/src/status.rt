@@ -41,8 +41,6 @@ pub enum Status {
     Spent { line: u64, number: u64 },
     /// That line would publish again a page, or the wall clock's words, whose version is the last one.
     VersionsSpent { line: u64, version: u64 },
-    /// That line, or with line 0 a job, isn't built yet.
-    NotBuilt { line: u64 },
 }
 
 impl Status {
@@ -62,7 +60,6 @@ impl Status {
             Status::OutOfRange { .. } => 7,
             Status::Spent { .. } => 8,
             Status::VersionsSpent { .. } => 9,
-            Status::NotBuilt { .. } => 10,
         }
     }
 }
@@ -75,7 +72,6 @@ fn refused_status(line: u64, why: Refused) -> Status
         Refused::Range { ns } => return Status::OutOfRange { line, ns },
         Refused::Versions { version } => return Status::VersionsSpent { line, version },
         Refused::Spent { number } => return Status::Spent { line, number },
-        Refused::NotBuilt => return Status::NotBuilt { line },
         Refused::Form => Reason::Form,
         Refused::Steal => Reason::Steal,
         Refused::Cpu => Reason::Cpu,
@@ -159,6 +155,8 @@ pub(crate) fn stop(line: u64, why: Refused, out: &mut Vec<u8>) -> Result<Verdict
 }
 
 /// The same as the answer to a line.
+#[cold]
+#[inline(never)]
 pub(crate) fn refuse(
     line: u64,
     why: Refused,

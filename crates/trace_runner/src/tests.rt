@@ -3,8 +3,6 @@
 
 ghost use Rattle.std.specs.Prelude.{◌<◌};
 
-mod failures;
-
 use super::*;
 use crate::texts::{HELP, USAGE};
 use board_io::{MemSink, MemSource, OpenGate};
@@ -15,6 +13,9 @@ use std::sync::Wait;
 use std::test::Fail;
 use std::thread::Threads;
 use trace_text::Reason;
+
+mod failures;
+mod races;
 
 /// Counter 0 in mode 2 with count 4, and what is printed.
 const FIRST_RISE: &[u8] =
@@ -49,6 +50,28 @@ fn strings(alloc: Global, words: &[&str]) -> Result<Vec<String>, AllocError> {
     Ok(strings)
 }
 
+/// Runs the program: how it ends, and what it prints.
+fn told<R: Threads + Wait + Sync + Alloc<A = Global>>(
+    rt: &R,
+    words: &[&str],
+    trace: &[u8],
+    ends: &Ends,
+) -> Result<(Status, Vec<u8>), AllocError>
+    requires source_piece { 0 < ends.now.source_piece }
+    requires sink_piece { 0 < ends.now.sink_piece }
+{
+    let alloc = rt.alloc();
+    let words = strings(alloc, words)?;
+    let bytes = Vec::from_slice(alloc, trace)?;
+    let source_fails = Vec::from_slice(alloc, ends.source_fails)?;
+    let sink_fails = Vec::from_slice(alloc, ends.sink_fails)?;
+    let mut source = MemSource::new(bytes, source_fails, ends.source_piece);
+    let mut sink = MemSink::new(alloc, sink_fails, ends.sink_piece);
+    let status = run(rt, alloc, &words, &mut source, &mut sink, &OpenGate);
+    let text = Vec::from_slice(alloc, sink.bytes())?;
+    Ok((status, text))
+}
+
 /// Runs the program, and compares how it ends and what it prints.
 fn expect<R: Threads + Wait + Sync + Abort + Alloc<A = Global>>(
     rt: &R,
@@ -61,16 +84,9 @@ fn expect<R: Threads + Wait + Sync + Abort + Alloc<A = Global>>(
     requires source_piece { 0 < ends.now.source_piece }
     requires sink_piece { 0 < ends.now.sink_piece }
 {
-    let alloc = rt.alloc();
-    let words = strings(alloc, words)?;
-    let bytes = Vec::from_slice(alloc, trace)?;
-    let source_fails = Vec::from_slice(alloc, ends.source_fails)?;
-    let sink_fails = Vec::from_slice(alloc, ends.sink_fails)?;
-    let mut source = MemSource::new(bytes, source_fails, ends.source_piece);
-    let mut sink = MemSink::new(alloc, sink_fails, ends.sink_piece);
-    let got = run(rt, alloc, &words, &mut source, &mut sink, &OpenGate);
+    let (got, printed) = told(rt, words, trace, ends)?;
     assert_eq!(rt; got, status);
-    assert!(rt; sink.bytes() == text);
+    assert!(rt; printed.as_slice() == text);
     Ok(())
 }
 
@@ -394,83 +410,5 @@ fn a_fault_behind_the_last_call(rt: HostRuntime) -> Result<(), Fail> {
         Status::Ok,
         FIRST_RISE_TEXT,
     )?;
-    Ok(())
-}
-
-#[test]
-fn a_race_of_one_processor_is_its_replay(rt: HostRuntime) -> Result<(), Fail> {
-    let ends = Ends {
-        source_piece: 7,
-        sink_piece: 7,
-        ..WELL
-    };
-    expect(
-        &rt,
-        &["race"],
-        FIRST_RISE,
-        &ends,
-        Status::Ok,
-        FIRST_RISE_TEXT,
-    )?;
-    expect(&rt, &["race"], MOVED, &WELL, Status::Ok, MOVED_TEXT)?;
-    Ok(())
-}
-
-#[test]
-fn a_race_prints_a_refusal_alone(rt: HostRuntime) -> Result<(), Fail> {
-    let status = Status::BadRecord {
-        line: 4,
-        reason: Reason::CounterFell { before: 5 },
-    };
-    expect(
-        &rt,
-        &["race"],
-        b"clockboard 1\nbegin\n0 5 step\n0 4 step\nend\n",
-        &WELL,
-        status,
-        b"refused 4 fell 5\n",
-    )?;
-    let ends = Ends {
-        source_fails: &[2],
-        source_piece: 30,
-        ..WELL
-    };
-    expect(
-        &rt,
-        &["race"],
-        FIRST_RISE,
-        &ends,
-        Status::SourceFault,
-        b"fault source\n",
-    )?;
-    let ends = Ends {
-        sink_fails: &[2],
-        sink_piece: 3,
-        ..WELL
-    };
-    expect(&rt, &["race"], FIRST_RISE, &ends, Status::SinkFault, b"3 1")?;
-    Ok(())
-}
-
-/// Two processors: the numbers of their accesses are 1, 2 and 3 in some order, in which the second one's first comes
-/// before its second.
-#[test]
-fn a_race_of_two_processors(rt: HostRuntime) -> Result<(), Fail> {
-    let trace =
-        b"clockboard 1\nguest 2000000\ncpus 2\nbegin\n0 0 wrmsr 4b564d01 1\n1 0 step\n0 1000 clock 0\n1 900 step\nend\n";
-    let texts: [&[u8]; 3] = [
-        b"5 1\n7 clock 1000 1000\n6 2\n8 3\nfinal 900 3 1000 -\n",
-        b"5 2\n7 clock 1000 1000\n6 1\n8 3\nfinal 900 3 1000 -\n",
-        b"5 3\n7 clock 1000 1000\n6 1\n8 2\nfinal 900 3 1000 -\n",
-    ];
-    let alloc = rt.alloc();
-    let words = strings(alloc, &["race"])?;
-    let bytes = Vec::from_slice(alloc, trace)?;
-    let mut source = MemSource::new(bytes, Vec::new(alloc), 4096);
-    let mut sink = MemSink::new(alloc, Vec::new(alloc), 4096);
-    let got = run(&rt, alloc, &words, &mut source, &mut sink, &OpenGate);
-    assert_eq!(rt; got, Status::Ok);
-    let told = sink.bytes();
-    assert!(rt; told == texts[0] || told == texts[1] || told == texts[2]);
     Ok(())
 }

@@ -1,7 +1,6 @@
 //! A trace that was read whole.
-use crate::deliveries::Deliveries;
 use board_core::BoardState;
-use race_phase::Phase;
+use race_phase::{Deliveries, Phase};
 use std::marker::Model;
 
 /// A trace that was read to its end. No record of it is refused in file order.

@@ -18,7 +18,7 @@ ghost use Rattle.std.specs.Prelude.{
   IfSome,
   IfNone,
 };
-ghost use Rattle.std.specs.Bool.{OnTrue};
+ghost use Rattle.std.specs.Bool.{OnTrue, OnFalse};
 ghost use Rattle.std.specs.Str.{bytes_eq};
 ghost use Rattle.trace_text.specs.Lines.{
   at_start,
@@ -42,7 +42,7 @@ ghost use Rattle.trace_text.specs.Lines.{
 
 use crate::faults::{Reason, RecordFault};
 use crate::header::{Head, Header, first_line};
-use crate::records::{Body, Record};
+use crate::records::{Body, Job, Record};
 use crate::words::Words;
 use std::marker::Model;
 
@@ -146,9 +146,34 @@ impl Reading {
         ensures open { OnSome result (IsOpen self.new.stage) }
         ensures none { IfNone result (self.new ≡ self.old) }
     {
-        let record = self.parts.stage.record(line)?;
+        let mut record = Record {
+            cpu: 0,
+            h: 0,
+            job: Job::Save,
+        };
+        if self.read_record(line, &mut record) {
+            Some(record)
+        } else {
+            None
+        }
+    }
+
+    /// The same into a record that is there, which costs the least: true where the line is a record. After false the
+    /// record there has no meaning.
+    #[inline(always)]
+    pub fn read_record(&mut self, line: &[u8], into: &mut Record) -> bool
+        requires { self.old.lines < 2 ^ 63 }
+        ensures record { OnTrue result (taken self.old line.now ≡ Ok (Item.Next into.new)) }
+        ensures state { OnTrue result (self.new ≡ behind line.now self.old) }
+        ensures valid { OnTrue result (IsRecordAt self.old.stage into.new) }
+        ensures open { OnTrue result (IsOpen self.new.stage) }
+        ensures none { OnFalse result (self.new ≡ self.old) }
+    {
+        if !self.parts.stage.read(line, into) {
+            return false;
+        }
         self.parts.lines += 1;
-        Some(record)
+        true
     }
 
     /// The same for every line.
@@ -208,22 +233,21 @@ impl Stage {
         }
     }
 
-    /// A record behind `begin`; None for any other line, and for one that is refused, which change nothing.
+    /// Reads a record behind `begin`; false for any other line, and for one that is refused, which change nothing.
     #[inline(always)]
     #[tactic(auto, unfolding(crate::specs::Lines::stepped))]
-    fn record(&mut self, line: &[u8]) -> Option<Record>
+    fn read(&mut self, line: &[u8], into: &mut Record) -> bool
         requires valid { IsStage self.old }
-        ensures record { IfSome result (λ r. stepped self.old line.now
-            ≡ Ok (met r self.new)) }
-        ensures valid { IfSome result (IsRecordAt self.old) }
-        ensures open { OnSome result (IsOpen self.new) }
+        ensures record { OnTrue result (stepped self.old line.now ≡ Ok (met into.new self.new)) }
+        ensures valid { OnTrue result (IsRecordAt self.old into.new) }
+        ensures open { OnTrue result (IsOpen self.new) }
         ensures kept { IsStage self.new }
-        ensures fresh { OnSome result (fault_of self.old ≡ None) }
-        ensures none { IfNone result (self.new ≡ self.old) }
+        ensures fresh { OnTrue result (fault_of self.old ≡ None) }
+        ensures none { OnFalse result (self.new ≡ self.old) }
     {
         match self {
-            Stage::Running(body) if may_be_record(line) => { body.record(Words::new(line)).ok() }
-            _ => None,
+            Stage::Running(body) if may_be_record(line) => body.read(Words::new(line), into),
+            _ => false,
         }
     }
 

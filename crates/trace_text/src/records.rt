@@ -1,14 +1,7 @@
 //! Records: what a processor does at a host counter.
-ghost use Rattle.std.specs.Prelude.{◌≡◌, ◌≤◌, IfOk, OnErr};
-ghost use Rattle.trace_text.specs.Records.{
-  job_of,
-  record_of,
-  in_turn,
-  judged,
-  body_behind,
-  IsJob,
-  IsRecord,
-};
+ghost use Rattle.std.specs.Prelude.{◌≡◌, ◌<◌, ◌≤◌, Ok, IfOk, OnErr};
+ghost use Rattle.std.specs.Bool.{OnTrue, OnFalse};
+ghost use Rattle.trace_text.specs.Records.{job_of, record_of, body_behind, IsJob, IsRecord};
 
 use crate::faults::Reason;
 use crate::jobs::{in_job, job_in};
@@ -50,9 +43,9 @@ pub struct Body {
 }
 
 impl Body {
-    /// The record of these words, which is remembered for its processor. What most records are stays out of memory.
-    #[inline(always)]
-    #[tactic(auto, unfolding(crate::specs::Records::record_of, crate::specs::Records::job_of))]
+    /// The record of these words, which is remembered for its processor.
+    #[inline(never)]
+    #[tactic(auto, unfolding(crate::specs::Records::record_of))]
     pub(crate) fn record(&mut self, mut words: Words<'_>) -> Result<Record, Reason>
         requires { self.old.cpus ≤ 64 }
         ensures record { result ≡ record_of self.old words.entry }
@@ -62,36 +55,7 @@ impl Body {
     {
         let cpu = words.short_dec().ok_or(Reason::Form)?;
         let h = words.dec().ok_or(Reason::Form)?;
-        if words.takes(b"in") {
-            let job = in_job(self, &mut words)?;
-            return self.in_turn(cpu, h, job);
-        }
-        self.other_record(cpu, h, words)
-    }
-
-    /// The record of a processor and a counter, by the words behind them.
-    #[inline(always)]
-    fn other_record(&mut self, cpu: u64, h: u64, mut words: Words<'_>) -> Result<Record, Reason>
-        requires { self.old.cpus ≤ 64 }
-        ensures record { result ≡ judged self.old cpu h (job_of self.old words.entry) }
-        ensures valid { IfOk result (IsRecord self.old) }
-        ensures behind { IfOk result (λ r. self.new ≡ body_behind self.old r) }
-        ensures still { OnErr result (self.new ≡ self.old) }
-    {
         let job = job_in(self, &mut words)?;
-        self.in_turn(cpu, h, job)
-    }
-
-    /// The record of a processor that is there, at a counter that didn't fall.
-    #[inline(always)]
-    fn in_turn(&mut self, cpu: u64, h: u64, job: Job) -> Result<Record, Reason>
-        requires few { self.old.cpus ≤ 64 }
-        requires job { IsJob self.old job }
-        ensures record { result ≡ in_turn self.old cpu h job }
-        ensures valid { IfOk result (IsRecord self.old) }
-        ensures behind { IfOk result (λ r. self.new ≡ body_behind self.old r) }
-        ensures still { OnErr result (self.new ≡ self.old) }
-    {
         if cpu >= u64::from(self.cpus) {
             return Err(Reason::Cpu);
         }
@@ -99,14 +63,76 @@ impl Body {
         if h < before {
             return Err(Reason::CounterFell { before });
         }
-        match job {
+        let cpu = cpu as u8;
+        self.remember(cpu, h, &job);
+        Ok(Record { cpu, h, job })
+    }
+
+    /// Reads the record of these words into one that is there, and remembers it for its processor; false where it is
+    /// refused. What most records are stays out of memory.
+    #[inline(always)]
+    #[tactic(auto, unfolding(crate::specs::Records::record_of))]
+    pub(crate) fn read(&mut self, mut words: Words<'_>, into: &mut Record) -> bool
+        requires { self.old.cpus ≤ 64 }
+        ensures record { OnTrue result (record_of self.old words.entry ≡ Ok into.new) }
+        ensures valid { OnTrue result (IsRecord self.old into.new) }
+        ensures behind { OnTrue result (self.new ≡ body_behind self.old into.new) }
+        ensures still { OnFalse result (self.new ≡ self.old) }
+    {
+        let Some(cpu) = words.short_dec() else {
+            return false;
+        };
+        let Some(h) = words.dec() else {
+            return false;
+        };
+        if !read_job(self, &mut words, &mut into.job) {
+            return false;
+        }
+        if cpu >= u64::from(self.cpus) || h < self.before[cpu as usize] {
+            return false;
+        }
+        into.cpu = cpu as u8;
+        into.h = h;
+        self.remember(into.cpu, h, &into.job);
+        true
+    }
+
+    /// Remembers the counter of a record for its processor, and that of the new host for all where the board moves.
+    #[inline(always)]
+    fn remember(&mut self, cpu: u8, h: u64, job: &Job)
+        requires { cpu < 64 }
+        ensures { self.new ≡ body_behind self.old (record { cpu = cpu; h = h; job = job.now }) }
+    {
+        match *job {
             Job::Move { start, .. } => self.before = [start; 64],
             _ => self.before[cpu as usize] = h,
         }
-        Ok(Record {
-            cpu: cpu as u8,
-            h,
-            job,
-        })
+    }
+}
+
+/// Puts what a record does in its place; false where it does nothing that there is.
+#[inline(always)]
+#[tactic(auto, unfolding(crate::specs::Records::job_of))]
+fn read_job(body: &Body, words: &mut Words<'_>, into: &mut Job) -> bool
+    ensures job { OnTrue result (job_of body.now words.old ≡ Ok into.new) }
+    ensures valid { OnTrue result (IsJob body.now into.new) }
+{
+    if words.takes(b"in") {
+        return put_job(in_job(body, words), into);
+    }
+    put_job(job_in(body, words), into)
+}
+
+/// Puts a job in its place, if there is one.
+#[inline(always)]
+fn put_job(job: Result<Job, Reason>, into: &mut Job) -> bool
+    ensures { OnTrue result (job ≡ Ok into.new) }
+{
+    match job {
+        Ok(job) => {
+            *into = job;
+            true
+        }
+        Err(_) => false,
     }
 }

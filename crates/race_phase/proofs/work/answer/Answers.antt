@@ -6,7 +6,7 @@ use Rattle.race_phase.proofs.work.answer.Goals as goal
 
 pub returns-in-Err-read_page-clause-none : goal.returns-in-Err-read_page-clause-none
 returns-in-Err-read_page-clause-none g c =
-    let r = c.args.record.now in
+    let r = c.args.given.now in
     let s = g.N.Name.state in
     let q = c.read_page.new.pass in
     let t = unread s c.in-ReadPage.page r.h c.in-Err-read_page._fault c.args.pass.now q c.requires.legal c.in-Err-read_page.ensures.err in
@@ -14,7 +14,7 @@ returns-in-Err-read_page-clause-none g c =
 
 pub returns-in-Err-read_clock-clause-none : goal.returns-in-Err-read_clock-clause-none
 returns-in-Err-read_clock-clause-none g c =
-    let r = c.args.record.now in
+    let r = c.args.given.now in
     let s = g.N.Name.state in
     let q = c.read_clock.new.pass in
     let t = unread s c.in-ReadClock.page r.h c.in-Err-read_clock._fault c.args.pass.now q c.requires.legal c.in-Err-read_clock.ensures.err in

@@ -72,8 +72,13 @@ lines-preserved-in-Ok-None g c =
             m.1,
             m.2,
             m.3,
-            subst (λ (n : ℕ). Stands g.row.T.Denot g.row.E.Denot g.T.Answerer.answer g.T.Answerer.closing c.args.answerer.now input new.left m.0 m.1 c.answer_line.new.out.items (g.S.Source.given c.lines.source - g.S.Source.given c.args.source.now) (g.S.Source.before c.lines.source - g.S.Source.given c.args.source.now) (standing (n + 1) new.text c.answer_line.new.answerer (m.1 ++ c.answer_line.new.out.items))) (sym l.number)
-                (stands_line g.row.T.Denot g.row.E.Denot g.T.Answerer.answer g.T.Answerer.closing c.args.answerer.now input m.0 m.1 c.lines.out.items c.answer_line.new.out.items _ _ (old.number + 1) c.lines.answerer c.answer_line.new.answerer old new m.4 l
+            subst (λ (n : ℕ). Stands g.row.T.Denot g.row.E.Denot g.T.Answerer.answer g.T.Answerer.closing c.args.answerer.now input new.left m.0 m.1
+                c.answer_line.new.out.items
+                (g.S.Source.given c.lines.source - g.S.Source.given c.args.source.now)
+                (g.S.Source.before c.lines.source - g.S.Source.given c.args.source.now)
+                (standing (n + 1) new.text c.answer_line.new.answerer (m.1 ++ c.answer_line.new.out.items))) (sym l.number)
+                (stands_line g.row.T.Denot g.row.E.Denot g.T.Answerer.answer g.T.Answerer.closing c.args.answerer.now input m.0 m.1 c.lines.out.items
+                c.answer_line.new.out.items _ _ (old.number + 1) c.lines.answerer c.answer_line.new.answerer old new m.4 l
                 (sym c.in-Ok-None.field-0-is ∙ c.in-Ok-None.ensures.ends ∙ ap end_of same)
                 (c.in-Ok-None.ensures.printed ∙ ap (λ (a : Answer g.row.T.Denot g.row.E.Denot). c.lines.out.items ++ printed a) same)
                 (c.in-Ok-None.ensures.state c.in-Ok-None.field-0-is ∙ ap (λ (a : Answer g.row.T.Denot g.row.E.Denot). state_behind a c.lines.answerer) same)),
@@ -99,9 +104,11 @@ returns-in-Ok-Some-clause-outcome g c = λ input e.
     let m = c.lines.invariant.told input e in
     let ends = c.in-Ok-Some.ensures.ends in
     let some : Some c.in-Ok-Some.end ≡ end_of (x (old.number + 1) new.line) = sym c.in-Ok-Some.field-0-is ∙ ends ∙ ap end_of same in
-    let h = ends_line g.row.T.Denot g.row.E.Denot g.T.Answerer.answer g.T.Answerer.closing c.args.answerer.now input m.0 m.1 c.lines.out.items c.answer_line.new.out.items _ _ (old.number + 1) c.lines.answerer c.in-Ok-Some.end old new m.4 l some
+    let h = ends_line g.row.T.Denot g.row.E.Denot g.T.Answerer.answer g.T.Answerer.closing c.args.answerer.now input m.0 m.1 c.lines.out.items
+    c.answer_line.new.out.items _ _ (old.number + 1) c.lines.answerer c.in-Ok-Some.end old new m.4 l some
     (c.in-Ok-Some.ensures.printed ∙ ap (λ (a : Answer g.row.T.Denot g.row.E.Denot). c.lines.out.items ++ printed a) same) in
-    out_ended g.row.T.Denot g.row.E.Denot g.T.Answerer.answer g.T.Answerer.closing c.args.answerer.now input _ _ _ _ c.in-Ok-Some.end c.say.result m.1 c.answer_line.new.out.items _
+    out_ended g.row.T.Denot g.row.E.Denot g.T.Answerer.answer g.T.Answerer.closing c.args.answerer.now input _ _ _ _ c.in-Ok-Some.end c.say.result m.1
+    c.answer_line.new.out.items _
     (g.K.Sink.contents c.args.sink.now) (g.K.Sink.contents c.lines.sink) (g.K.Sink.contents c.say.new.sink) _
     h.0 c.lines.invariant.source_faults (m.4.asked (omega (arith, h.1))) m.3
     (subst (λ (t : List ℕ). Said (statuses.By c.in-Ok-Some.end) c.say.result (g.K.Sink.contents c.lines.sink) (g.K.Sink.contents c.say.new.sink) t
@@ -138,7 +145,8 @@ returns-then-is_err-clause-outcome g c = λ input e.
     (sym c.if-is_err.ensures.value) c.put_all.ensures.cut in
     let some : 0 < length c.deref-in-Ok-false.result.now = on_err_from_is_err c.put_all.result (0 < length c.deref-in-Ok-false.result.now)
     (sym c.if-is_err.ensures.value) c.put_all.ensures.some in
-    let starts = stands_starts g.row.T.Denot g.row.E.Denot g.T.Answerer.answer g.T.Answerer.closing c.args.answerer.now input old.left m.0 m.1 c.lines.out.items _ _ (old.number + 1) old.text c.lines.answerer m.4 in
+    let starts = stands_starts g.row.T.Denot g.row.E.Denot g.T.Answerer.answer g.T.Answerer.closing c.args.answerer.now input old.left m.0 m.1
+    c.lines.out.items _ _ (old.number + 1) old.text c.lines.answerer m.4 in
     out_sink g.row.T.Denot g.row.E.Denot g.T.Answerer.answer g.T.Answerer.closing c.args.answerer.now input _ _ _ _ m.1 c.lines.out.items starts.0 _
     (g.K.Sink.contents c.args.sink.now) (g.K.Sink.contents c.lines.sink) (g.K.Sink.contents c.put_all.new.sink) starts.1 c.lines.invariant.source_faults
     (m.4.asked (omega (arith, some, ap length out))) m.3
@@ -176,9 +184,12 @@ returns-in-Ok-eq0-clause-outcome g c = λ input e.
     (old.number + 1) new.text c.lines.answerer s in
     let well : g.S.Source.faults c.refill.new.source ≡ g.S.Source.faults c.args.source.now = c.in-Ok-eq0.ensures.well ∙ c.lines.invariant.source_faults in
     elim c.end_input.ensures.said [
-      | inl said ↦ out_ended g.row.T.Denot g.row.E.Denot g.T.Answerer.answer g.T.Answerer.closing c.args.answerer.now input _ _ _ _ r.end c.end_input.result P r.text n (g.K.Sink.contents c.args.sink.now) (g.K.Sink.contents c.put_all.new.sink) (g.K.Sink.contents c.end_input.new.sink) _
-          is well (stands_asked g.row.T.Denot g.row.E.Denot g.T.Answerer.answer g.T.Answerer.closing c.args.answerer.now input m.0 m.1 c.lines.out.items _ _ _ (old.number + 1) new.text c.lines.answerer s asked) shown said
-      | inr front ↦ out_memory g.row.T.Denot g.row.E.Denot g.T.Answerer.answer g.T.Answerer.closing c.args.answerer.now input _ _ _ _ c.end_input.result P memory_fault_text [] n (g.K.Sink.contents c.args.sink.now) (g.K.Sink.contents c.put_all.new.sink) (g.K.Sink.contents c.end_input.new.sink) _
+      | inl said ↦ out_ended g.row.T.Denot g.row.E.Denot g.T.Answerer.answer g.T.Answerer.closing c.args.answerer.now input _ _ _ _ r.end c.end_input.result P
+          r.text n (g.K.Sink.contents c.args.sink.now) (g.K.Sink.contents c.put_all.new.sink) (g.K.Sink.contents c.end_input.new.sink) _
+          is well (stands_asked g.row.T.Denot g.row.E.Denot g.T.Answerer.answer g.T.Answerer.closing c.args.answerer.now input m.0 m.1 c.lines.out.items _ _ _
+          (old.number + 1) new.text c.lines.answerer s asked) shown said
+      | inr front ↦ out_memory g.row.T.Denot g.row.E.Denot g.T.Answerer.answer g.T.Answerer.closing c.args.answerer.now input _ _ _ _ c.end_input.result P
+          memory_fault_text [] n (g.K.Sink.contents c.args.sink.now) (g.K.Sink.contents c.put_all.new.sink) (g.K.Sink.contents c.end_input.new.sink) _
           (ap (λ (u : Progress g.row.T.Denot g.row.E.Denot). u.printed) put.2 ∙ sym (append-nil P))
           (ap (λ (u : Progress g.row.T.Denot g.row.E.Denot). u.end) put.2) (omega (arith, c.in-Ok-eq0.ensures.given)) refl well
           (stands_asked g.row.T.Denot g.row.E.Denot g.T.Answerer.answer g.T.Answerer.closing c.args.answerer.now input m.0 m.1 c.lines.out.items _ _ _
@@ -227,7 +238,9 @@ lines-preserved g c = record {
         P,
         k.1,
         shown,
-        stands_refill g.row.T.Denot g.row.E.Denot g.T.Answerer.answer g.T.Answerer.closing c.args.answerer.now input m.0 k.0 c.refill.new.self.left m.1 c.lines.out.items _ _ _ _ (old.number + 1) new.text c.lines.answerer (c.refill.new.self.number + 1) c.refill.new.self.text c.clear.new.self.items s k.2 asked
+        stands_refill g.row.T.Denot g.row.E.Denot g.T.Answerer.answer g.T.Answerer.closing c.args.answerer.now input m.0 k.0 c.refill.new.self.left m.1
+            c.lines.out.items _ _ _ _ (old.number + 1) new.text c.lines.answerer (c.refill.new.self.number + 1) c.refill.new.self.text c.clear.new.self.items
+            s k.2 asked
             (omega (arith, c.in-Ok.ensures.given, c.in-Ok.ensures.count, c.lines.invariant.more)) el et c.clear.ensures.items,
       );
   may =

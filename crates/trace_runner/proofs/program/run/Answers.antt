@@ -58,7 +58,8 @@ returns-in-Ok-Replay-clause-stopped g c = λ shows is input e.
     let same : c.in-Ok-Replay.shows_state ≡ shows =
     asked-same c.command_of.result (map string_bytes c.args.words.now) shows c.in-Ok-Replay.shows_state c.command_of.ensures.command
     (c.in-Ok-Replay.is ∙ ap (λ (x : Command). Ok x) c.in-Ok-Replay.field-0-is) is in
-    inl (subst (λ (b : Bool). (progress_behind b (take (g.S.Source.before c.answer_lines.new.source - g.S.Source.given c.args.source.now) input)).end ≡ None) same
+    inl (subst (λ (b : Bool). (progress_behind b (take (g.S.Source.before c.answer_lines.new.source - g.S.Source.given c.args.source.now) input)).end ≡ None)
+    same
     (subst (λ (r : Replay). (behind answer_of (take (g.S.Source.before c.answer_lines.new.source - g.S.Source.given c.args.source.now) input) (opened r)).end
     ≡ None) c.new.ensures (c.answer_lines.ensures.stopped input e)))
 

@@ -7,17 +7,14 @@ use Rattle.board_types.specs.declared.reply.Value.{Value}
 use Rattle.board_core.specs.Access.{reply_of}
 use Rattle.board_core.proofs.Laws.{after_access-accesses, reply_of-number}
 use Rattle.edge_hooks.specs.declared.deliveries.Delivery.{Delivery}
-use Rattle.reply_text.specs.Text.{board_text}
+use Rattle.race_phase.specs.Blocks.{edges_text}
+use Rattle.reply_text.specs.Text.{board_text, value_text}
 use Rattle.trace_loop.specs.Progress.{printed}
-use Rattle.trace_runner.specs.Deliveries.{edges_text}
 use Rattle.trace_runner.specs.Records.{access_answer}
 use Rattle.trace_runner.proofs.records.answer_access.Goals as goal
 
-abbrev reply : ℕ → Value → List Edge → Reply
-reply number value edges = record { number = number; value = value; edges = edges }
-
-pub returns-in_ok-board_line-in-Ok-clause-printed : goal.returns-in_ok-board_line-in-Ok-clause-printed
-returns-in_ok-board_line-in-Ok-clause-printed c =
+pub returns-in_ok-value_line-in-Ok-clause-printed : goal.returns-in_ok-value_line-in-Ok-clause-printed
+returns-in_ok-value_line-in-Ok-clause-printed c =
     let b : BoardParts = c.args.board.now in
     let ds : List (Option Delivery) = c.args.deliveries.now in
     let out : List ℕ = c.args.out.now.items in
@@ -25,14 +22,12 @@ returns-in_ok-board_line-in-Ok-clause-printed c =
     let number : c.accesses.result ≡ r.number =
     c.accesses.ensures ∙ ap (λ (x : BoardParts). x.accesses) c.in-Ok.ensures.state
     ∙ after_access-accesses b c.args.cpu c.args.h c.args.access ∙ sym (reply_of-number b c.args.cpu c.args.h c.args.access) in
-    let edges : c.answer.new.edges ≡ r.edges = c.in-Ok.ensures.edges ∙ ap (λ (es : List Edge). es ++ r.edges) c.new.ensures in
-    let whole : reply c.accesses.result c.in-Ok.value c.answer.new.edges ≡ r =
-    ap (λ (n : ℕ). reply n c.in-Ok.value c.answer.new.edges) number
-    ∙ ap (λ (v : Value). reply r.number v c.answer.new.edges) c.in-Ok.ensures.value
-    ∙ ap (λ (es : List Edge). reply r.number r.value es) edges in
-    c.in_ok-board_line-in-Ok.ensures.ok
-    ∙ ap (λ (l : List ℕ). l ++ board_text c.args.line (reply c.accesses.result c.in-Ok.value c.answer.new.edges))
+    let edges : c.answer.new.edges ≡ r.edges = c.in-Ok.ensures.edges ∙ ap (λ (es : List Edge). es ++ r.edges) c.empty.ensures in
+    let front : List ℕ = out ++ edges_text ds r.edges in
+    c.in_ok-value_line-in-Ok.ensures.ok
+    ∙ ap (λ (l : List ℕ). l ++ value_text c.args.line c.accesses.result c.in-Ok.value)
     (c.in_ok-edge_lines-in-Ok.ensures.ok ∙ ap (λ (es : List Edge). out ++ edges_text ds es) (c.as_slice.ensures.value ∙ edges))
-    ∙ ap (λ (x : Reply). (out ++ edges_text ds r.edges) ++ board_text c.args.line x) whole
+    ∙ ap (λ (n : ℕ). front ++ value_text c.args.line n c.in-Ok.value) number
+    ∙ ap (λ (v : Value). front ++ value_text c.args.line r.number v) c.in-Ok.ensures.value
     ∙ append_assoc out (edges_text ds r.edges) (board_text c.args.line r)
     ∙ ap (λ (o : Option Refusal). out ++ printed (access_answer o c.args.line c.args.cpu c.args.h c.args.access ds b)) (sym c.in-Ok.ensures.taken)

@@ -27,5 +27,6 @@ returns-clause-said g c =
     c.answer_lines.ensures.sink_fault (c.answer_lines.ensures.outcome text (ap (λ (f : Feed). Some f.left) c.new-source.ensures)) in
     subst (λ (s : Status). Soaked (soak_of c.args.size) s (g.K.Sink.contents c.args.sink.now) (g.K.Sink.contents c.answer_lines.new.sink) shown)
     (sym c.status_of.ensures)
-    (subst (λ (r : Replay). Soaked (soak_from r c.args.size.records text) (status_of c.answer_lines.result) (g.K.Sink.contents c.args.sink.now) (g.K.Sink.contents c.answer_lines.new.sink) shown)
+    (subst (λ (r : Replay). Soaked (soak_from r c.args.size.records text) (status_of c.answer_lines.result) (g.K.Sink.contents c.args.sink.now)
+    (g.K.Sink.contents c.answer_lines.new.sink) shown)
     c.new.ensures is)

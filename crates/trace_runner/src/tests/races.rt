@@ -1,0 +1,179 @@
+//! The job `race`: phases on threads, its refusals, and faults of both ends.
+
+ghost use Rattle.std.specs.Prelude.{◌<◌};
+
+use super::*;
+
+/// How many records a race takes.
+const MOST_RECORDS: usize = 200_000;
+
+/// Counter 0 in mode 2 with count 4, which is saved twice.
+const SAVED: &[u8] = b"\
+clockboard 1\nbegin\n0 0 out 43 34\n0 0 out 40 04\n0 0 out 40 00\n\
+0 5000 save\n0 5000 in 40\n0 9000 save\n0 9000 step\nend\n";
+
+/// Two processors before a save and behind it.
+const SAVED_BY_TWO: &[u8] = b"\
+clockboard 1\ncpus 2\nbegin\n0 10 step\n1 10 step\n1 20 save\n0 30 step\nend\n";
+
+#[test]
+fn a_race_of_one_processor_is_its_replay(rt: HostRuntime) -> Result<(), Fail> {
+    let ends = Ends {
+        source_piece: 7,
+        sink_piece: 7,
+        ..WELL
+    };
+    expect(
+        &rt,
+        &["race"],
+        FIRST_RISE,
+        &ends,
+        Status::Ok,
+        FIRST_RISE_TEXT,
+    )?;
+    expect(&rt, &["race"], MOVED, &WELL, Status::Ok, MOVED_TEXT)?;
+    Ok(())
+}
+
+#[test]
+fn a_race_prints_a_refusal_alone(rt: HostRuntime) -> Result<(), Fail> {
+    let status = Status::BadRecord {
+        line: 4,
+        reason: Reason::CounterFell { before: 5 },
+    };
+    expect(
+        &rt,
+        &["race"],
+        b"clockboard 1\nbegin\n0 5 step\n0 4 step\nend\n",
+        &WELL,
+        status,
+        b"refused 4 fell 5\n",
+    )?;
+    let ends = Ends {
+        source_fails: &[2],
+        source_piece: 30,
+        ..WELL
+    };
+    expect(
+        &rt,
+        &["race"],
+        FIRST_RISE,
+        &ends,
+        Status::SourceFault,
+        b"fault source\n",
+    )?;
+    let ends = Ends {
+        sink_fails: &[2],
+        sink_piece: 3,
+        ..WELL
+    };
+    expect(&rt, &["race"], FIRST_RISE, &ends, Status::SinkFault, b"3 1")?;
+    Ok(())
+}
+
+/// With one processor there is one order, so the numbers and the saved states are those of a replay.
+#[test]
+fn saves_and_the_last_state_in_a_race_of_one_processor(rt: HostRuntime) -> Result<(), Fail> {
+    let jobs: [(&[&str], &[&str]); 2] = [
+        (&["race"], &["replay"]),
+        (&["race", "--state"], &["replay", "--state"]),
+    ];
+    for trace in [FIRST_RISE, MOVED, SAVED] {
+        for (race, replay) in jobs {
+            let (status, text) = told(&rt, replay, trace, &WELL)?;
+            assert_eq!(rt; status, Status::Ok);
+            expect(&rt, race, trace, &WELL, Status::Ok, &text)?;
+        }
+    }
+    Ok(())
+}
+
+/// A save waits for both processors, so all from its line on is what a replay prints, whichever was first.
+#[test]
+fn a_save_ends_the_phase_of_both_processors(rt: HostRuntime) -> Result<(), Fail> {
+    let (_, replayed) = told(&rt, &["replay", "--state"], SAVED_BY_TWO, &WELL)?;
+    let (status, text) = told(&rt, &["race", "--state"], SAVED_BY_TWO, &WELL)?;
+    assert_eq!(rt; status, Status::Ok);
+    let rest = replayed.strip_prefix(b"4 1\n5 2\n".as_slice());
+    let first = text.strip_prefix(b"4 1\n5 2\n".as_slice());
+    let second = text.strip_prefix(b"4 2\n5 1\n".as_slice());
+    assert!(rt; rest.is_some() && (first == rest || second == rest));
+    Ok(())
+}
+
+#[test]
+fn a_race_takes_200000_records(rt: HostRuntime) -> Result<(), Fail> {
+    let mut trace = Vec::from_slice(rt.alloc(), b"clockboard 1\nbegin\n")?;
+    for _ in 0..=MOST_RECORDS {
+        trace.extend_from_slice(b"0 0 step\n")?;
+    }
+    let status = bad(200_003, Reason::TooMany);
+    expect(
+        &rt,
+        &["race"],
+        &trace,
+        &WELL,
+        status,
+        b"refused 200003 many\n",
+    )?;
+    Ok(())
+}
+
+/// A race that is cut off prints nothing of the trace.
+#[test]
+fn a_source_that_fails_at_each_call_of_a_race(rt: HostRuntime) -> Result<(), Fail> {
+    for call in 1..=MOVED.len() as u64 {
+        let ends = Ends {
+            source_fails: &[call],
+            source_piece: 1,
+            ..WELL
+        };
+        expect(
+            &rt,
+            &["race"],
+            MOVED,
+            &ends,
+            Status::SourceFault,
+            b"fault source\n",
+        )?;
+    }
+    Ok(())
+}
+
+#[test]
+fn a_sink_that_fails_at_each_call_of_a_race(rt: HostRuntime) -> Result<(), Fail> {
+    for bytes in 0..MOVED_TEXT.len() {
+        let ends = Ends {
+            sink_fails: &[bytes as u64 + 1],
+            sink_piece: 1,
+            ..WELL
+        };
+        expect(
+            &rt,
+            &["race"],
+            MOVED,
+            &ends,
+            Status::SinkFault,
+            &MOVED_TEXT[..bytes],
+        )?;
+    }
+    Ok(())
+}
+
+/// Two processors: the numbers of their accesses are 1, 2 and 3 in some order, in which the second one's first comes
+/// before its second.
+#[test]
+fn a_race_of_two_processors(rt: HostRuntime) -> Result<(), Fail> {
+    let trace =
+        b"clockboard 1\nguest 2000000\ncpus 2\nbegin\n0 0 wrmsr 4b564d01 1\n1 0 step\n0 1000 clock 0\n1 900 step\nend\n";
+    let texts: [&[u8]; 3] = [
+        b"5 1\n7 clock 1000 1000\n6 2\n8 3\nfinal 900 3 1000 -\n",
+        b"5 2\n7 clock 1000 1000\n6 1\n8 3\nfinal 900 3 1000 -\n",
+        b"5 3\n7 clock 1000 1000\n6 1\n8 2\nfinal 900 3 1000 -\n",
+    ];
+    let (status, text) = told(&rt, &["race"], trace, &WELL)?;
+    assert_eq!(rt; status, Status::Ok);
+    let told = text.as_slice();
+    assert!(rt; told == texts[0] || told == texts[1] || told == texts[2]);
+    Ok(())
+}
