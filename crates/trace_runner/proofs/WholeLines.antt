@@ -31,6 +31,7 @@ use Rattle.std.proofs.Common.{
   append_assoc,
   append-nil,
 }
+use Rattle.std.specs.Fmt.{signed_decimal}
 use Rattle.board_types.specs.declared.access.Access.{Access}
 use Rattle.board_types.specs.declared.access.Access.TheVariants.{Step}
 use Rattle.board_types.specs.declared.parts.BoardParts.{BoardParts}
@@ -42,6 +43,7 @@ use Rattle.board_core.specs.Time.{devices_in, now_of}
 use Rattle.board_core.specs.Access.{after_access, reply_of}
 use Rattle.board_core.specs.Refusals.{refusal_of}
 use Rattle.board_core.specs.Pages.{page_reply, clock_reply, after_clock}
+use Rattle.irq_edges.specs.Lines.{line_numbers}
 use Rattle.edge_hooks.specs.declared.deliveries.Delivery.{Delivery}
 use Rattle.pvclock_page.specs.declared.page.PageReply.{PageReply}
 use Rattle.pvclock_page.specs.declared.page.PageReply.TheVariants.{Off as PageOff, On as PageOn}
@@ -50,8 +52,9 @@ use Rattle.pvclock_page.specs.declared.page.ClockReply.TheVariants.{Off as Clock
 use Rattle.transfer.specs.Move.{move_fault, moved_to}
 use Rattle.transfer.specs.declared.outcome.MoveFault.{MoveFault}
 use Rattle.save_state.specs.Writing.{bytes_of}
-use Rattle.reply_text.specs.Words.{line_of, spaced}
+use Rattle.reply_text.specs.Words.{hex_text, hexes, line_of, spaced}
 use Rattle.reply_text.specs.Text.{
+  value_text,
   board_text,
   page_text,
   clock_text,
@@ -61,6 +64,9 @@ use Rattle.reply_text.specs.Text.{
   state_text,
   refused_text,
   reason_words,
+  value_words,
+  up_word,
+  up_numbers,
 }
 use Rattle.reply_text.specs.declared.ends.Refused.{Refused}
 use Rattle.trace_text.specs.Lines.{taken, behind as read_behind}
@@ -70,7 +76,7 @@ use Rattle.trace_text.specs.declared.reading.Item.TheVariants.{Skipped, Part, Be
 use Rattle.trace_text.specs.declared.records.Job.{Job}
 use Rattle.trace_text.specs.declared.records.Job.TheVariants.{Board, Page, Clock, Save, Move}
 use Rattle.trace_loop.specs.Progress.{limit_of, Answer, Goes, Ends, Progress, printed, opened, told, answered, checked, heard, heard_until, behind}
-use Rattle.trace_runner.specs.Deliveries.{edges_text}
+use Rattle.race_phase.specs.Blocks.{edges_text}
 use Rattle.trace_runner.specs.Records.{
   refused_by,
   refused_access,
@@ -117,38 +123,43 @@ line_ends : (w : List ℕ) (ws : List (List ℕ)) → EndsLine (line_of w ws)
 line_ends w ws = ends_behind w (spaced ws) (spaced_ends ws)
 
 board_ends : (line : ℕ) (reply : Reply) → EndsLine (board_text line reply)
-unfolding board_text
-board_ends line reply = line_ends _ _
+unfolding value_text
+board_ends line reply = line_ends (decimal line) (decimal reply.number ∷ value_words reply.value)
 
 page_ends : (line : ℕ) (reply : PageReply) → EndsLine (page_text line reply)
 unfolding page_text
-page_ends line PageOff = line_ends _ _
-page_ends line (PageOn page reading) = line_ends _ _
+page_ends line PageOff = line_ends (decimal line) (codes "page" ∷ codes "off" ∷ [])
+page_ends line (PageOn page reading) =
+    line_ends (decimal line)
+    (codes "page" ∷ decimal page.version ∷ decimal page.tsc_timestamp ∷ decimal page.system_time ∷ hex_text 8 page.mul ∷ signed_decimal page.shift
+    ∷ hex_text 2 page.flags ∷ decimal reading ∷ [])
 
 clock_ends : (line : ℕ) (reply : ClockReply) → EndsLine (clock_text line reply)
 unfolding clock_text
-clock_ends line ClockOff = line_ends _ _
-clock_ends line (ClockOn reading clock) = line_ends _ _
+clock_ends line ClockOff = line_ends (decimal line) (codes "clock" ∷ codes "off" ∷ [])
+clock_ends line (ClockOn reading clock) = line_ends (decimal line) (codes "clock" ∷ decimal reading ∷ decimal clock ∷ [])
 
 save_ends : (line number : ℕ) (bytes : List ℕ) → EndsLine (save_text line number bytes)
 unfolding save_text
-save_ends line number bytes = line_ends _ _
+save_ends line number bytes = line_ends (decimal line) (decimal number ∷ codes "state" ∷ hexes bytes ∷ [])
 
 move_ends : (line number time : ℕ) → EndsLine (move_text line number time)
 unfolding move_text
-move_ends line number time = line_ends _ _
+move_ends line number time = line_ends (decimal line) (decimal number ∷ codes "moved" ∷ decimal time ∷ [])
 
 refused_ends : (line : ℕ) (why : Refused) → EndsLine (refused_text line why)
 unfolding refused_text
-refused_ends line why = line_ends _ _
+refused_ends line why = line_ends (codes "refused") (decimal line ∷ reason_words why)
 
 state_ends : (bytes : List ℕ) → EndsLine (state_text bytes)
 unfolding state_text
-state_ends bytes = line_ends _ _
+state_ends bytes = line_ends (codes "state") (hexes bytes ∷ [])
 
 final_ends : (b : BoardParts) → EndsLine (final_of b)
 unfolding final_text
-final_ends b = line_ends _ _
+final_ends b =
+    line_ends (codes "final")
+    (decimal (now_of b) ∷ decimal b.accesses ∷ decimal b.greatest ∷ up_word (up_numbers line_numbers (levels (devices_in b))) ∷ [])
 
 -- each answer
 access_whole : (o : Option Refusal) (line cpu h : ℕ) (a : Access) (ds : List (Option Delivery)) (b : BoardParts)

@@ -3,9 +3,6 @@
 
 ghost use Rattle.std.specs.Prelude.{◌<◌};
 
-mod failures;
-mod races;
-
 use super::*;
 use crate::texts::{HELP, USAGE};
 use board_io::{MemSink, MemSource, OpenGate};
@@ -16,6 +13,9 @@ use std::sync::Wait;
 use std::test::Fail;
 use std::thread::Threads;
 use trace_text::Reason;
+
+mod failures;
+mod races;
 
 /// Counter 0 in mode 2 with count 4, and what is printed.
 const FIRST_RISE: &[u8] =

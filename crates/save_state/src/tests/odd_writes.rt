@@ -54,10 +54,21 @@ fn each_port_takes_any_byte(rt: HostRuntime) -> Result<(), Fail> {
 
 #[test]
 fn each_place_of_the_hpet_takes_any_word(rt: HostRuntime) -> Result<(), Fail> {
-    let words = [(4, 0), (4, 0xffff_ffff), (8, 0), (8, u64::MAX)];
     for format in [1, 2] {
-        for (width, value) in words {
-            for offset in (0..BLOCK).step_by(width as usize) {
+        for offset in (0..BLOCK).step_by(4) {
+            for value in [0, 0xffff_ffff] {
+                let width = 4;
+                let write = Access::HpetWrite {
+                    offset,
+                    width,
+                    value,
+                };
+                write_and_read_back(&rt, rt.alloc(), format, write)?;
+            }
+        }
+        for offset in (0..BLOCK).step_by(8) {
+            for value in [0, u64::MAX] {
+                let width = 8;
                 let write = Access::HpetWrite {
                     offset,
                     width,

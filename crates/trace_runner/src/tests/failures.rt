@@ -70,29 +70,8 @@ fn a_boot_cut_behind_each_line(rt: HostRuntime) -> Result<(), Fail> {
 }
 
 #[test]
-fn a_source_that_fails_at_each_call_of_a_race(rt: HostRuntime) -> Result<(), Fail> {
-    for bytes in 0..FIRST_RISE.len() {
-        let ends = Ends {
-            source_fails: &[bytes as u64 + 1],
-            source_piece: 1,
-            ..WELL
-        };
-        expect(
-            &rt,
-            &["race"],
-            FIRST_RISE,
-            &ends,
-            Status::SourceFault,
-            b"fault source\n",
-        )?;
-    }
-    Ok(())
-}
-
-#[test]
 fn a_sink_that_fails_at_each_call_of_each_command(rt: HostRuntime) -> Result<(), Fail> {
-    let runs: [(&[&str], &[u8], &[u8]); 6] = [
-        (&["race"], FIRST_RISE, FIRST_RISE_TEXT),
+    let runs: [(&[&str], &[u8], &[u8]); 5] = [
         (&["race"], b"clockboard 1\nbegin\n", b"refused 3 noend\n"),
         (&["soak", "1", "1", "1"], b"", b"soak 1 0 34774 0\n"),
         (&["Replay"], FIRST_RISE, USAGE),
