@@ -97,6 +97,7 @@ impl<N: Name> SharedBoard<N> {
         Ok((board, list))
     }
 
+    // It stands where it is called from, so that the list is moved once, to its place there.
     /// An access by processor `cpu` at count `h`, under the lock. The gate is called once, when the lock is held.
     #[inline(always)]
     pub fn access<R: Wait, G: Gate>(
@@ -147,6 +148,7 @@ impl<N: Name> SharedBoard<N> {
         held.access(&self.table, pass, cpu, h, a, reply)
     }
 
+    // It stands where it is called from, so that a caller who asks for the reading alone moves no page.
     /// Reads the page of `cpu` at count `h`, without the lock.
     #[inline(always)]
     pub fn try_page(&self, pass: &mut Pass<N>, cpu: u8, h: u64) -> Result<PageReply, PageFault>
