@@ -46,42 +46,11 @@ impl BoardState {
             Err(TimeFault::OutOfRange { ns }) => return Err(Refusal::OutOfRange { ns }),
             Ok(to) => to,
         };
-        match self.spent_by(cpu, a) {
+        let version = raised_version(&self.processors, self.wall_version, cpu, a);
+        match spent_version(version, self.spent()) {
             Some(refusal) => Err(refusal),
             None => Ok(to),
         }
-    }
-
-    /// Why an access is refused whose count has a time. Most accesses publish nothing and so raise no version, which is
-    /// seen at once.
-    #[tactic(auto, using(crate::proofs::Kept::raised_none))]
-    fn spent_by(&self, cpu: u8, a: Access) -> Option<Refusal>
-        requires cpu { cpu < self.now.cpus }
-        requires legal { IsTrue (is_legal self.now.cpus self.now.format a) }
-        ensures { result ≡ spent_version
-            (raised_version self.now.processors self.now.wall_version cpu a)
-            (if nat_le MOST_ACCESSES self.now.accesses then Some (Spent self.now.accesses)
-            else None) }
-    {
-        if publishes(a) {
-            self.spent_publishing(cpu, a)
-        } else {
-            self.spent()
-        }
-    }
-
-    /// The same of an access that may publish. It stands apart, so that the others need no room for a version.
-    #[inline(never)]
-    fn spent_publishing(&self, cpu: u8, a: Access) -> Option<Refusal>
-        requires cpu { cpu < self.now.cpus }
-        requires legal { IsTrue (is_legal self.now.cpus self.now.format a) }
-        ensures { result ≡ spent_version
-            (raised_version self.now.processors self.now.wall_version cpu a)
-            (if nat_le MOST_ACCESSES self.now.accesses then Some (Spent self.now.accesses)
-            else None) }
-    {
-        let version = raised_version(&self.processors, self.wall_version, cpu, a);
-        spent_version(version, self.spent())
     }
 
     /// The greater of the board's time and of that at count `h`. A count that isn't beyond the board's asks for no
@@ -136,7 +105,8 @@ fn version_at(page: Option<u8>, processors: &[ProcessorParts; 64]) -> Option<u32
     }
 }
 
-/// The version that an access would raise.
+/// The version that an access would raise. Most accesses publish nothing, which is seen at once.
+#[tactic(auto, using(crate::proofs::Kept::raised_none))]
 fn raised_version(
     processors: &[ProcessorParts; 64],
     wall_version: u32,
@@ -146,6 +116,9 @@ fn raised_version(
     requires { IfSome (published_by cpu a) (λ k. k < 64) }
     ensures { result ≡ raised_version processors.now wall_version cpu a }
 {
+    if !publishes(a) {
+        return None;
+    }
     if publishes_wall(a) {
         Some(wall_version)
     } else {
