@@ -158,8 +158,8 @@ impl Reading {
         }
     }
 
-    /// The same into a record that is there, which costs the least: true where the line is a record. After false the
-    /// record there has no meaning.
+    /// The same into a record that is there, for a caller that hands it on by reference: true where the line is a
+    /// record. After false the record there has no meaning.
     #[inline(always)]
     pub fn read_record(&mut self, line: &[u8], into: &mut Record) -> bool
         requires { self.old.lines < 2 ^ 63 }
