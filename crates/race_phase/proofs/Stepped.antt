@@ -23,7 +23,7 @@ use Rattle.board_core.specs.Pages.{published_by}
 use Rattle.board_core.specs.Refusals.{refusal_of}
 use Rattle.board_core.specs.Wall.{publishes_wall}
 use Rattle.board_core.proofs.Laws.{after_access-accesses, wall_version-after}
-use Rattle.board_history.specs.Machine.{Machine, machine_of, page_at}
+use Rattle.board_history.specs.Machine.{Machine, page_at}
 use Rattle.board_history.proofs.Pages.{machine_of-access, length-processors, page_at-none}
 use Rattle.race_phase.specs.declared.faults.Cause.{Cause}
 use Rattle.race_phase.specs.Order.{AreAlike, at_line}

@@ -1,4 +1,4 @@
-use Rattle.std.proofs.Common.{◌≡◌, ap, sym, subst, ◌∙◌, IsTrue}
+use Rattle.std.proofs.Common.{ap, sym, subst, ◌∙◌, IsTrue}
 use Rattle.board_types.specs.Legal.{is_legal}
 use Rattle.board_types.specs.declared.access.Access.{Access}
 use Rattle.board_core.specs.Access.{after_access}

@@ -1,4 +1,4 @@
-use Rattle.std.proofs.Common.{◌≡◌, sym, subst, ◌∙◌}
+use Rattle.std.proofs.Common.{sym, subst, ◌∙◌}
 use Rattle.race_phase.specs.declared.records.Call.{Call}
 use Rattle.race_phase.specs.Order.{AreAlike, after_call}
 use Rattle.race_phase.proofs.Stepped.{alike_self, at_line-none}
