@@ -1,5 +1,5 @@
 //! A board with the list to which its accesses append their edges.
-ghost use Rattle.std.specs.Prelude.{◌≡◌, []};
+ghost use Rattle.std.specs.Prelude.{◌≡◌};
 
 use board_core::BoardState;
 use irq_edges::EdgeList;
@@ -37,15 +37,5 @@ impl KeptBoard {
         ensures { result.now ≡ self.now }
     {
         &self.state
-    }
-}
-
-/// Empties a list of edges. One that is empty isn't written.
-#[inline(always)]
-pub(crate) fn empty(edges: &mut EdgeList)
-    ensures { edges.new ≡ [] }
-{
-    if !edges.is_empty() {
-        *edges = EdgeList::new();
     }
 }

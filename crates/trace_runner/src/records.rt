@@ -6,7 +6,7 @@ ghost use Rattle.trace_loop.specs.Progress.{printed, end_of, state_behind};
 ghost use Rattle.trace_runner.specs.Records.{job_answer, board_answer, page_answer, clock_answer};
 ghost use Rattle.trace_runner.specs.Ready.{JobSuits};
 
-use crate::kept::{KeptBoard, empty};
+use crate::kept::KeptBoard;
 use crate::moves::{answer_move, answer_save};
 use crate::status::{Verdict, refuse, refused_access, refused_time};
 use board_core::{Access, BoardState};
@@ -90,7 +90,7 @@ fn answer_access(
         ≡ state_behind (board_answer line cpu h access deliveries.now board.old) board.old) }
     ensures err { OnErr result (StartsWith out.new.items out.old.items) }
 {
-    empty(edges);
+    edges.clear();
     match board.answer(cpu, h, access, edges) {
         Ok(value) => {
             edge_lines(edges.as_slice(), deliveries, out)?;

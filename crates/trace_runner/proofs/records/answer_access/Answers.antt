@@ -22,7 +22,7 @@ returns-in_ok-value_line-in-Ok-clause-printed c =
     let number : c.accesses.result ≡ r.number =
     c.accesses.ensures ∙ ap (λ (x : BoardParts). x.accesses) c.in-Ok.ensures.state
     ∙ after_access-accesses b c.args.cpu c.args.h c.args.access ∙ sym (reply_of-number b c.args.cpu c.args.h c.args.access) in
-    let edges : c.answer.new.edges ≡ r.edges = c.in-Ok.ensures.edges ∙ ap (λ (es : List Edge). es ++ r.edges) c.empty.ensures in
+    let edges : c.answer.new.edges ≡ r.edges = c.in-Ok.ensures.edges ∙ ap (λ (es : List Edge). es ++ r.edges) c.clear.ensures in
     let front : List ℕ = out ++ edges_text ds r.edges in
     c.in_ok-value_line-in-Ok.ensures.ok
     ∙ ap (λ (l : List ℕ). l ++ value_text c.args.line c.accesses.result c.in-Ok.value)
