@@ -14,6 +14,9 @@ const BYTES_WRITTEN: [u8; 4] = [0, 0x7f, 0x80, 0xff];
 /// The bytes of the HPET's block.
 const BLOCK: u16 = 0x400;
 
+/// The widths of an access to it, each with all its bits set.
+const WIDTHS: [(u8, u64); 4] = [(1, 0xff), (2, 0xffff), (4, 0xffff_ffff), (8, u64::MAX)];
+
 /// A write is answered by a board at power on, whose bytes are then read as a board of these bytes.
 fn write_and_read_back(
     rt: &impl Abort,
@@ -52,29 +55,18 @@ fn each_port_takes_any_byte(rt: HostRuntime) -> Result<(), Fail> {
     Ok(())
 }
 
+/// Format 2's block, whose first three of eight timers are those of format 1.
 #[test]
 fn each_place_of_the_hpet_takes_any_word(rt: HostRuntime) -> Result<(), Fail> {
-    for format in [1, 2] {
-        for offset in (0..BLOCK).step_by(4) {
-            for value in [0, 0xffff_ffff] {
-                let width = 4;
+    for offset in 0..BLOCK {
+        for (width, ones) in WIDTHS {
+            for value in [0, ones] {
                 let write = Access::HpetWrite {
                     offset,
                     width,
                     value,
                 };
-                write_and_read_back(&rt, rt.alloc(), format, write)?;
-            }
-        }
-        for offset in (0..BLOCK).step_by(8) {
-            for value in [0, u64::MAX] {
-                let width = 8;
-                let write = Access::HpetWrite {
-                    offset,
-                    width,
-                    value,
-                };
-                write_and_read_back(&rt, rt.alloc(), format, write)?;
+                write_and_read_back(&rt, rt.alloc(), 2, write)?;
             }
         }
     }
