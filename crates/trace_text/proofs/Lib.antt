@@ -8,3 +8,4 @@ pub mod WordAt
 pub mod States
 mod Rows
 pub mod Limits
+pub mod NoRecord

@@ -136,6 +136,19 @@ answer_by None r line = answer_in (r.lines + 1) (stepped r.stage line)
 abbrev pub taken : ReadingParts → List ℕ → Result Item RecordFault
 taken r line = answer_by (fault_of r.stage) r line
 
+-- the record that an item is, if it is one
+abbrev pub record_of_item : Item → Option Record
+record_of_item Skipped = None
+record_of_item Part = None
+record_of_item (Begun header) = None
+record_of_item (NextItem r) = Some r
+record_of_item End = None
+
+-- the record that an answer gives: none for another item, and none for a refusal
+abbrev pub record_in : {E : Type 0} → Result Item E → Option Record
+record_in (Ok item) = record_of_item item
+record_in (Err e) = None
+
 -- and the reader behind it
 abbrev pub behind_by : Option RecordFault → List ℕ → ReadingParts → ReadingParts
 behind_by (Some fault) line r = r

@@ -1,3 +1,4 @@
 pub mod Spelled
 pub mod Groups
 pub mod State
+pub mod Lines

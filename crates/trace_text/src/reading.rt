@@ -20,6 +20,7 @@ ghost use Rattle.std.specs.Prelude.{
 };
 ghost use Rattle.std.specs.Bool.{OnTrue, OnFalse};
 ghost use Rattle.std.specs.Str.{bytes_eq};
+ghost use Rattle.trace_text.specs.private.Lines.{IsNoRecord};
 ghost use Rattle.trace_text.specs.Lines.{
   at_start,
   IsOpen,
@@ -28,6 +29,7 @@ ghost use Rattle.trace_text.specs.Lines.{
   IsRecordAt,
   fault_of,
   taken,
+  record_in,
   behind,
   end_fault,
   IsItem,
@@ -141,6 +143,7 @@ impl Reading {
     pub fn take_record(&mut self, line: &[u8]) -> Option<Record>
         requires { self.old.lines < 2 ^ 63 }
         ensures record { IfSome result (λ r. taken self.old line.now ≡ Ok (Item.Next r)) }
+        ensures cause { IfNone result (record_in (taken self.old line.now) ≡ None) }
         ensures state { OnSome result (self.new ≡ behind line.now self.old) }
         ensures valid { IfSome result (IsRecordAt self.old.stage) }
         ensures open { OnSome result (IsOpen self.new.stage) }
@@ -164,6 +167,7 @@ impl Reading {
     pub fn read_record(&mut self, line: &[u8], into: &mut Record) -> bool
         requires { self.old.lines < 2 ^ 63 }
         ensures record { OnTrue result (taken self.old line.now ≡ Ok (Item.Next into.new)) }
+        ensures cause { OnFalse result (record_in (taken self.old line.now) ≡ None) }
         ensures state { OnTrue result (self.new ≡ behind line.now self.old) }
         ensures valid { OnTrue result (IsRecordAt self.old.stage into.new) }
         ensures open { OnTrue result (IsOpen self.new.stage) }
@@ -239,6 +243,7 @@ impl Stage {
     fn read(&mut self, line: &[u8], into: &mut Record) -> bool
         requires valid { IsStage self.old }
         ensures record { OnTrue result (stepped self.old line.now ≡ Ok (met into.new self.new)) }
+        ensures cause { OnFalse result (record_in (item_in (stepped self.old line.now)) ≡ None) }
         ensures valid { OnTrue result (IsRecordAt self.old into.new) }
         ensures open { OnTrue result (IsOpen self.new) }
         ensures kept { IsStage self.new }
@@ -362,6 +367,7 @@ fn may_be_record(line: &[u8]) -> bool
     ensures short { OnTrue result (nat_lt (limit_of line.now) (length line.now) ≡ false) }
     ensures words { OnTrue result (is_skipped line.now ≡ false) }
     ensures record { OnTrue result (bytes_eq line.now (codes "end") ≡ false) }
+    ensures cause { OnFalse result (IsNoRecord line.now) }
 {
     match line {
         [b'0'..=b'9', ..] => line.len() <= 128,

@@ -1,5 +1,5 @@
 //! Records: what a processor does at a host counter.
-ghost use Rattle.std.specs.Prelude.{◌≡◌, ◌<◌, ◌≤◌, Ok, IfOk, OnErr};
+ghost use Rattle.std.specs.Prelude.{◌≡◌, ◌<◌, ◌≤◌, Ok, IfOk, OnErr, IsErr};
 ghost use Rattle.std.specs.Bool.{OnTrue, OnFalse};
 ghost use Rattle.trace_text.specs.Records.{job_of, record_of, body_behind, IsJob, IsRecord};
 
@@ -75,6 +75,7 @@ impl Body {
     pub(crate) fn read(&mut self, mut words: Words<'_>, into: &mut Record) -> bool
         requires { self.old.cpus ≤ 64 }
         ensures record { OnTrue result (record_of self.old words.entry ≡ Ok into.new) }
+        ensures cause { OnFalse result (IsErr (record_of self.old words.entry)) }
         ensures valid { OnTrue result (IsRecord self.old into.new) }
         ensures behind { OnTrue result (self.new ≡ body_behind self.old into.new) }
         ensures still { OnFalse result (self.new ≡ self.old) }
@@ -115,6 +116,7 @@ impl Body {
 #[tactic(auto, unfolding(crate::specs::Records::job_of))]
 fn read_job(body: &Body, mut words: Words<'_>, into: &mut Job) -> bool
     ensures job { OnTrue result (job_of body.now words.entry ≡ Ok into.new) }
+    ensures cause { OnFalse result (IsErr (job_of body.now words.entry)) }
     ensures valid { OnTrue result (IsJob body.now into.new) }
 {
     if words.takes(b"in") {
@@ -132,7 +134,8 @@ fn read_job(body: &Body, mut words: Words<'_>, into: &mut Job) -> bool
 /// Puts a job in its place, if there is one.
 #[inline(always)]
 fn put_job(job: Result<Job, Reason>, into: &mut Job) -> bool
-    ensures { OnTrue result (job ≡ Ok into.new) }
+    ensures job { OnTrue result (job ≡ Ok into.new) }
+    ensures cause { OnFalse result (IsErr job) }
 {
     match job {
         Ok(job) => {
