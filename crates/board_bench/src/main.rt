@@ -15,7 +15,7 @@ use std::{env, io};
 use tick_policy::Policy;
 
 /// How the program is called.
-const USAGE: &str = "usage: board_bench time|read|hpet|set|config|still|step|ack|tsc|next";
+const USAGE: &str = "usage: board_bench time|bare|read|hpet|set|config|still|step|ack|tsc|next";
 
 /// How many accesses are timed.
 const CALLS: u32 = 200_000;
@@ -41,7 +41,8 @@ struct Row {
     word: &'static str,
     /// What the table calls it.
     name: &'static str,
-    access: Access,
+    /// None where no access is made, but all else that is done for one.
+    access: Option<Access>,
     gap: u64,
 }
 
@@ -50,8 +51,18 @@ fn make_row(word: &'static str, name: &'static str, access: Access, gap: u64) ->
     Row {
         word,
         name,
-        access,
+        access: Some(access),
         gap,
+    }
+}
+
+/// The row in which nothing is asked: what of the others is not the board's.
+fn bare_row() -> Row {
+    Row {
+        word: "bare",
+        name: "nothing asked",
+        access: None,
+        gap: 0,
     }
 }
 
@@ -65,12 +76,13 @@ fn hpet_write(offset: u16, value: u64) -> Access {
 }
 
 /// All rows of the table.
-fn rows() -> [Row; 9] {
+fn rows() -> [Row; 10] {
     let counter = Access::HpetRead {
         offset: 0xf0,
         width: 8,
     };
     [
+        bare_row(),
         make_row(
             "read",
             "port 40h, no time",
@@ -140,7 +152,7 @@ fn print_row(
     rt: &(impl Print + Clock),
     name: &str,
     board: &mut BoardState,
-    access: Access,
+    access: Option<Access>,
     gap: u64,
 ) -> io::Result<u64> {
     let start = Instant::now(rt)?;
@@ -154,8 +166,16 @@ fn print_row(
     Ok(told)
 }
 
+/// Makes many accesses, or none, and all else as often. Returns the sum of what was told.
+fn many(board: &mut BoardState, access: Option<Access>, gap: u64) -> u64 {
+    match access {
+        Some(access) => many_asked(board, access, gap),
+        None => many_bare(board, Access::PortIn { port: 0x40 }),
+    }
+}
+
 /// Makes many accesses, with one list of edges for all. Returns the sum of what was told.
-fn many(board: &mut BoardState, access: Access, gap: u64) -> u64 {
+fn many_asked(board: &mut BoardState, access: Access, gap: u64) -> u64 {
     let mut list = EdgeList::new();
     let mut told = 0u64;
     let mut h = board.now();
@@ -179,6 +199,30 @@ fn ask(board: &mut BoardState, h: u64, access: Access, list: &mut EdgeList) -> u
         Ok(value) => number_of(value).wrapping_add(list.len().saturating_sub(before) as u64),
         Err(_) => 0,
     }
+}
+
+/// Does for many accesses all that is done but the access itself.
+fn many_bare(board: &mut BoardState, access: Access) -> u64 {
+    let mut list = EdgeList::new();
+    let mut told = 0u64;
+    for h in 0..u64::from(CALLS) {
+        told = told.wrapping_add(ask_nothing(board, h, access, &mut list));
+    }
+    told
+}
+
+/// What `ask` does but the access itself.
+#[inline(never)]
+fn ask_nothing(board: &mut BoardState, h: u64, access: Access, list: &mut EdgeList) -> u64 {
+    if board.cpus() == 0 || !access.legal(board.cpus(), board.format()) {
+        return 0;
+    }
+    if list.len() > EDGE_PLACES - 18 {
+        list.clear();
+    }
+    let before = list.len();
+    let value = Value::Word { width: 8, value: h };
+    number_of(value).wrapping_add(list.len().saturating_sub(before) as u64)
 }
 
 /// A value as one number.

@@ -1,4 +1,5 @@
 pub mod Times
+pub mod Rates
 pub mod Timers
 pub mod Nexts
 pub mod Joined

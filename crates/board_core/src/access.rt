@@ -74,6 +74,44 @@ impl BoardState {
         ensures few { OnOk result
             (length edges.new ≤ length edges.old + length (ran_to self.old h).edges + 12) }
     {
+        // Each kind that a guest makes often has code of its own, in which the kind is known.
+        match a {
+            Access::PortIn { port } => self.answer_alike(cpu, h, Access::PortIn { port }, edges),
+            Access::HpetRead { offset, width } => {
+                self.answer_alike(cpu, h, Access::HpetRead { offset, width }, edges)
+            }
+            Access::Ack { line } => self.answer_alike(cpu, h, Access::Ack { line }, edges),
+            Access::MsrRead { msr } => self.answer_alike(cpu, h, Access::MsrRead { msr }, edges),
+            Access::Step => self.answer_alike(cpu, h, Access::Step, edges),
+            _ => self.answer_alike(cpu, h, a, edges),
+        }
+    }
+}
+
+impl BoardState {
+    /// The same, for a caller that knows the kind of the access.
+    #[inline(always)]
+    fn answer_alike(
+        &mut self,
+        cpu: u8,
+        h: u64,
+        a: Access,
+        edges: &mut EdgeList,
+    ) -> Result<Value, Refusal>
+        requires cpu { cpu < self.old.cpus }
+        requires legal { IsTrue (is_legal self.old.cpus self.old.format a) }
+        requires places { length edges.old + 18 ≤ EDGE_PLACES }
+        ensures refused { IfErr result (λ e. refusal_of self.old cpu h a ≡ Some e) }
+        ensures unchanged { OnErr result (self.new ≡ self.old) }
+        ensures no_edges { OnErr result (edges.new ≡ edges.old) }
+        ensures taken { OnOk result (refusal_of self.old cpu h a ≡ None) }
+        ensures value { IfOk result (λ v. v ≡ (reply_of self.old cpu h a).value) }
+        ensures edges { OnOk result (edges.new ≡ edges.old ++ (reply_of self.old cpu h a).edges) }
+        ensures state { OnOk result (self.new ≡ after_access self.old cpu h a) }
+        ensures few_run { OnOk result (length (ran_to self.old h).edges ≤ 6) }
+        ensures few { OnOk result
+            (length edges.new ≤ length edges.old + length (ran_to self.old h).edges + 12) }
+    {
         let to = match self.admit(cpu, h, a) {
             Ok(to) => to,
             Err(refusal) => return Err(refusal),
@@ -95,6 +133,9 @@ impl BoardState {
         ensures few { length (ran_to self.old h).edges ≤ 6 }
         ensures room { length edges.new ≤ length edges.old + 6 }
     {
+        if h <= self.host {
+            return;
+        }
         if to == self.time_ns {
             self.host = self.host.max(h);
             return;

@@ -174,6 +174,7 @@ impl BoardState {
 }
 
 /// Whether an access asks something of the devices.
+#[inline(always)]
 fn touches(a: Access) -> bool
     ensures { result ≡ touches a }
 {
@@ -188,6 +189,7 @@ fn touches(a: Access) -> bool
 }
 
 /// Whether an access may publish.
+#[inline(always)]
 pub(crate) fn publishes(a: Access) -> bool
     ensures { result ≡ publishes a }
 {
@@ -198,6 +200,7 @@ pub(crate) fn publishes(a: Access) -> bool
 }
 
 /// What a read of a port asks of the devices.
+#[inline(always)]
 fn read_of_port(port: u8) -> Act
     ensures { result ≡ read_of_port port }
 {
@@ -220,6 +223,7 @@ fn write_of_port(port: u8, byte: u8) -> Act
 }
 
 /// What an access asks of the devices.
+#[inline(always)]
 fn act_of(a: Access) -> Act
     ensures { result ≡ act_of a }
 {
@@ -254,6 +258,7 @@ fn place_of_source(from: TickSource) -> u8
 }
 
 /// The value of an access: the word that the devices gave, or what the board told.
+#[inline(always)]
 fn value_with(a: Access, word: u64, told: Value) -> Value
     requires { IsTrue (reads_byte (act_of a)) → word < 256 }
     ensures { result ≡ value_with a word told }

@@ -13,7 +13,9 @@ ghost use Rattle.std.specs.Prelude.{
   if◌then◌else◌,
   IsTrue,
 };
-ghost use Rattle.host_counter.specs.Time.{IsFaultAt};
+ghost use Rattle.clk_units.specs.Ranges.{IsKhz};
+ghost use Rattle.clk_units.specs.declared.ranges.TheConstants.{RANGE_NS};
+ghost use Rattle.host_counter.specs.Time.{IsFaultAt, time_at};
 ghost use Rattle.board_types.specs.Legal.{is_legal};
 ghost use Rattle.board_types.specs.declared.parts.TheConstants.{MOST_ACCESSES};
 ghost use Rattle.board_types.specs.declared.reply.Refusal.TheVariants.{Spent};
@@ -28,7 +30,11 @@ use crate::processors::published_by;
 use board_types::{
     Access, LAST_VERSION, MOST_ACCESSES, MSR_KVM_WALL_CLOCK, ProcessorParts, Refusal,
 };
-use host_counter::TimeFault;
+use clk_units::RANGE_NS;
+use host_counter::{Anchor, TimeFault};
+
+/// The rate, in kHz, of a counter of nanoseconds.
+const NANOSECONDS_KHZ: u64 = 1_000_000;
 
 impl BoardState {
     /// The time to which an access at count `h` runs, or why it is refused.
@@ -55,6 +61,7 @@ impl BoardState {
 
     /// The greater of the board's time and of that at count `h`. A count that isn't beyond the board's asks for no
     /// division.
+    #[inline(always)]
     pub(crate) fn time_to(&self, h: u64) -> Result<u64, TimeFault>
         ensures ok { OnOk result (HasTime self.now.anchor h) }
         ensures time { IfOk result (λ to. to ≡ time_of_access self.now h) }
@@ -63,7 +70,7 @@ impl BoardState {
         if self.anchor.start <= h && h <= self.host {
             return Ok(self.time_ns);
         }
-        match self.anchor.time(h) {
+        match time_anew(self.anchor, h) {
             Ok(ns) => Ok(ns.max(self.time_ns)),
             Err(fault) => Err(fault),
         }
@@ -84,7 +91,42 @@ impl BoardState {
     }
 }
 
+/// The time at a count of the host's counter.
+#[inline(always)]
+fn time_anew(anchor: Anchor, h: u64) -> Result<u64, TimeFault>
+    requires { IsKhz anchor.khz }
+    ensures ok { OnOk result (HasTime anchor h) }
+    ensures time { IfOk result (λ ns. ns ≡ time_at anchor h) }
+    ensures fault { IfErr result (IsFaultAt anchor h) }
+{
+    match nanoseconds(anchor, h) {
+        Some(ns) => Ok(ns),
+        None => anchor.time(h),
+    }
+}
+
+/// The time at a count that is one of nanoseconds, where it is in range. A monitor's own clock counts
+/// so, and needs no division.
+#[inline(always)]
+#[tactic(auto, using(crate::proofs::Times::time_at_counts))]
+fn nanoseconds(anchor: Anchor, h: u64) -> Option<u64>
+    ensures started { IfSome result (λ ns. anchor.start ≤ h) }
+    ensures range { IfSome result (λ ns. ns < RANGE_NS) }
+    ensures time { IfSome result (λ ns. ns ≡ time_at anchor h) }
+{
+    if anchor.khz != NANOSECONDS_KHZ || (h < anchor.start || anchor.base_ns >= RANGE_NS) {
+        return None;
+    }
+    let counts = h - anchor.start;
+    if counts < RANGE_NS - anchor.base_ns {
+        Some(anchor.base_ns + counts)
+    } else {
+        None
+    }
+}
+
 /// Whether an access publishes the words of the wall clock.
+#[inline(always)]
 pub(crate) fn publishes_wall(a: Access) -> bool
     ensures { result ≡ publishes_wall a }
 {
@@ -107,6 +149,7 @@ fn version_at(page: Option<u8>, processors: &[ProcessorParts; 64]) -> Option<u32
 
 /// The version that an access would raise. Most accesses publish nothing, which is seen at once.
 #[tactic(auto, using(crate::proofs::Kept::raised_none))]
+#[inline(always)]
 fn raised_version(
     processors: &[ProcessorParts; 64],
     wall_version: u32,
@@ -127,6 +170,7 @@ fn raised_version(
 }
 
 /// The refusal where a version is the last one, else the next cause.
+#[inline(always)]
 fn spent_version(version: Option<u32>, next: Option<Refusal>) -> Option<Refusal>
     ensures { result ≡ spent_version version next }
 {

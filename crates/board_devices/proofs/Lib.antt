@@ -3,6 +3,7 @@ pub mod Rises
 pub mod Places
 pub mod Product
 pub mod Times
+pub mod Counts
 pub mod Advance
 pub mod Edges
 pub mod Masks

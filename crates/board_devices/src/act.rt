@@ -102,6 +102,7 @@ impl Devices {
 
     /// Does what an access asks, in its two parts.
     #[tactic(auto, using(crate::proofs::Masks::no_edges), unfolding(crate::specs::Act::acted, crate::specs::Act::first_part, crate::specs::Act::value_of))]
+    #[inline(always)]
     fn act_parts(&mut self, a: Act, at: u64, edges: &mut EdgeList) -> u64
         requires legal { IsLegal a }
         requires room { (line_at 0 self.old).counts.due + 1 < 2 ^ 63 }
@@ -151,6 +152,7 @@ impl Devices {
 impl Devices {
     /// A read of a port of the 8254.
     #[tactic(auto, unfolding(crate::specs::Act::acted))]
+    #[inline(always)]
     fn read_pit(&mut self, port: u8, at: u64) -> u8
         requires { IsTrue (is_pit_port port) }
         ensures state { self.new ≡ acted (PitRead port) self.old }

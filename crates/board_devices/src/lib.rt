@@ -18,9 +18,11 @@ mod acks;
 mod act;
 mod clock;
 mod devices;
+mod found_up;
 mod levels;
 mod lines;
 mod parts;
+mod pulse_counts;
 mod run;
 mod stretch;
 

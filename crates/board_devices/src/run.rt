@@ -19,6 +19,10 @@ ghost use Rattle.std.specs.Prelude.{
   None,
   if◌then◌else◌,
 };
+ghost use Rattle.clk_units.specs.Events.{IsFirst};
+ghost use Rattle.rtc_cycle.specs.Divider.{ticks_in, updates_in};
+ghost use Rattle.rtc_registers.specs.Pulses.{rtc_pulsed_times, alarms_in};
+ghost use Rattle.rtc_registers.specs.Registers.{divider_of};
 ghost use Rattle.irq_edges.specs.declared.edges.TheConstants.{EDGE_PLACES};
 ghost use Rattle.irq_edges.specs.Lines.{line_numbers, level_of};
 ghost use Rattle.irq_edges.specs.Rises.{IsNextRise};
@@ -32,19 +36,23 @@ ghost use Rattle.board_devices.specs.private.Stretch.{told_levels};
 
 use crate::clock::{counts_rtc, set_flag};
 use crate::devices::Devices;
+use crate::found_up::{finds_up, take_ticks};
 use crate::levels::{front_times, irq_up, shown_of};
+use crate::pulse_counts::pulse_counts;
 use crate::stretch::{Span, pit_ticks, rtc_ticks, run_at, run_timers};
-use clk_units::{RANGE_NS, pulses_between};
+use clk_units::RANGE_NS;
 use hpet_comparator::Matches;
-use hpet_registers::{HPET_HZ, Hpet};
+use hpet_registers::Hpet;
 use irq_edges::{EdgeList, emit, next_rise};
-use pit_counter::Rises;
-use pit_readback::PIT_HZ;
-use rtc_registers::{RTC_HZ, RtcEvents};
+use rtc_cycle::CycleEvents;
+use rtc_registers::{Rtc, RtcEvents};
 
 impl Devices {
     /// Runs from nanosecond `from` to `to`. Answers whether something came that could move a line,
-    /// and then puts into `times` from when on each line is up.
+    /// and then puts into `times` from when on each line is up. Ticks that find their lines up move
+    /// none: they are counted alone.
+    // Most stretches bring nothing: a frame of its own would cost as much as what is done here.
+    #[inline(always)]
     fn advance(&mut self, from: u64, to: u64, times: &mut [Option<u64>; 6]) -> bool
         requires order { from ≤ to }
         requires range { to < 2 ^ 59 }
@@ -56,19 +64,40 @@ impl Devices {
             ≤ (line_at k self.old).counts.due + (to - from) }
     {
         let _clock = self.rtc.parts();
-        let shown = shown_of(&self.rtc);
         let legacy = self.hpet.legacy();
         let status = self.hpet.parts().status;
         let standing = is_standing(&self.hpet);
         let point = next_point(from, self.slew_ns);
-        let rises = self.pit.pulses(pulses_between(from, to, PIT_HZ));
-        let events = self.rtc.pulses(pulses_between(from, to, RTC_HZ));
+        let pulses = pulse_counts(from, to);
+        let rises = self.pit.pulses(pulses.pit);
         let mut matches = [Matches::NONE; 8];
-        self.hpet
-            .pulses(pulses_between(from, to, HPET_HZ), &mut matches);
-        if to < point && nothing_came(rises, &events, standing, &matches) {
+        self.hpet.pulses(pulses.hpet, &mut matches);
+        let matched = has_matched(standing, &matches);
+        if to < point
+            && finds_up(
+                &self.ticks,
+                &self.hpet,
+                legacy,
+                pulses.rtc,
+                rises,
+                matched,
+                &matches,
+            )
+        {
+            // The crystal had no pulse: no instruction stands for this one.
+            let _none = clock_pulses(&mut self.rtc, pulses.rtc);
+            take_ticks(
+                &mut self.ticks,
+                &self.hpet,
+                legacy,
+                rises.count,
+                matched,
+                &matches,
+            );
             return false;
         }
+        let shown = shown_of(&self.rtc);
+        let events = clock_pulses(&mut self.rtc, pulses.rtc);
         let span = Span { from, to, point };
         let counts = counts_rtc(shown.pie, legacy);
         let pit = pit_ticks(legacy, rises, span);
@@ -81,6 +110,18 @@ impl Devices {
         *times = front_times(legacy, pit_up, irq);
         run_timers(&mut self.ticks, &self.hpet, status, &matches, span, times);
         true
+    }
+
+    /// The same, with a frame of its own.
+    #[inline(never)]
+    fn advance_apart(&mut self, from: u64, to: u64, times: &mut [Option<u64>; 6]) -> bool
+        requires order { from ≤ to }
+        requires range { to < 2 ^ 59 }
+        requires room { (k : ℕ) → k < 10 → (line_at k self.old).counts.due + (to - from) < 2 ^ 63 }
+        ensures levels { (j : ℕ) → from + j ≤ to → levels (run from j self.old).state
+            ≡ told_levels (from + j) (levels self.old) (if result then Some times.new else None) }
+    {
+        self.advance(from, to, times)
     }
 
     /// Runs from nanosecond `from` to `to`, and appends the edges on the way. Six places must be
@@ -123,11 +164,41 @@ impl Devices {
     {
         let mut copy = *self;
         let mut times = [None; 6];
-        if !copy.advance(now, RANGE_NS - 1, &mut times) {
+        if !copy.advance_apart(now, RANGE_NS - 1, &mut times) {
             return None;
         }
         next_rise(&times, now, RANGE_NS - 1)
     }
+}
+
+/// No event of the MC146818.
+const NO_EVENTS: RtcEvents = RtcEvents {
+    cycle: CycleEvents {
+        ticks: 0,
+        first_tick: None,
+        updates: 0,
+        first_update: None,
+    },
+    first_alarm: None,
+};
+
+/// Lets `n` pulses of the crystal pass. Most stretches are shorter than its 30,517 ns, and bring
+/// none.
+#[inline(always)]
+fn clock_pulses(rtc: &mut Rtc, n: u64) -> RtcEvents
+    ensures state { rtc.new ≡ rtc_pulsed_times n rtc.old }
+    ensures ticks { result.cycle.ticks ≡ ticks_in (divider_of rtc.old) n }
+    ensures few_ticks { result.cycle.ticks ≤ n }
+    ensures first_tick { IsFirst (ticks_in (divider_of rtc.old)) n result.cycle.first_tick }
+    ensures updates { result.cycle.updates ≡ updates_in (divider_of rtc.old) n }
+    ensures few_updates { result.cycle.updates ≤ n }
+    ensures first_update { IsFirst (updates_in (divider_of rtc.old)) n result.cycle.first_update }
+    ensures first_alarm { IsFirst (alarms_in rtc.old) n result.first_alarm }
+{
+    if n == 0 {
+        return NO_EVENTS;
+    }
+    rtc.pulses(n)
 }
 
 /// Whether the main counter stands, so that no timer matches.
@@ -137,19 +208,12 @@ fn is_standing(h: &Hpet) -> bool
     h.config() % 2 == 0
 }
 
-/// Whether a stretch brought no tick, no update and no match. The matches of an HPET that stands
-/// aren't looked at.
-fn nothing_came(rises: Rises, events: &RtcEvents, standing: bool, matches: &[Matches; 8]) -> bool
+/// Whether a timer matched. The matches of an HPET that stands aren't looked at.
+fn has_matched(standing: bool, matches: &[Matches; 8]) -> bool
     requires none { standing ≡ true → (k : ℕ) → k < 8 → (timer_matches matches.now k).count ≡ 0 }
-    ensures rises { IsTrue result → rises.count ≡ 0 }
-    ensures ticks { IsTrue result → events.now.cycle.ticks ≡ 0 }
-    ensures updates { IsTrue result → events.now.cycle.updates ≡ 0 }
-    ensures matches { IsTrue result → (k : ℕ) → k < 8 → (timer_matches matches.now k).count ≡ 0 }
+    ensures { result ≡ false → (k : ℕ) → k < 8 → (timer_matches matches.now k).count ≡ 0 }
 {
-    rises.count == 0
-        && events.cycle.ticks == 0
-        && events.cycle.updates == 0
-        && (standing || nothing_matched(matches))
+    !standing && !nothing_matched(matches)
 }
 
 /// Whether no timer matched.

@@ -209,6 +209,8 @@ fn is_set(status: u8, k: u8) -> bool
 
 /// Takes the tick lines of the timers of an HPET that has had its pulses over a stretch, and adds
 /// from when on the lines are up that they drive. `status` is the HPET's before.
+// It stands apart, since a stretch that moves no line doesn't come here.
+#[inline(never)]
 pub(crate) fn run_timers(
     lines: &mut [TickLine; 10],
     h: &Hpet,

@@ -73,7 +73,9 @@ impl TickLine {
         ensures { self.new ≡ ticked_times n self.old }
     {
         if n > 0 {
-            *self = TickLine::of(with_ticks(self.parts(), n));
+            let parts = with_ticks(self.parts(), n);
+            self.up = parts.up;
+            self.counts = parts.counts;
         }
     }
 

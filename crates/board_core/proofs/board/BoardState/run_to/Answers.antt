@@ -1,4 +1,4 @@
-use Rattle.std.proofs.Common.{◌≡◌, ℕ, ◌<◌, max, List, [], ◌++◌, length, append-nil, ap, sym, ◌∙◌, arith}
+use Rattle.std.proofs.Common.{◌≡◌, ℕ, ◌<◌, ◌≤◌, max, List, [], ◌++◌, length, append-nil, ap, sym, subst, ◌∙◌, arith}
 use Rattle.irq_edges.specs.declared.edges.Edge.{Edge}
 use Rattle.host_counter.specs.Time.{time_at}
 use Rattle.board_types.specs.declared.parts.BoardParts.{BoardParts}
@@ -9,7 +9,9 @@ use Rattle.board_core.specs.Access.{ran_to, after_run}
 use Rattle.board_core.specs.View.{board_parts_of}
 use Rattle.board_core.proofs.Times.{time_at_max}
 use Rattle.board_core.proofs.Counted.{rises_after-none}
-use Rattle.board_core.proofs.Joined.{IsJoined-same_time}
+use Rattle.board_core.proofs.Joined.{IsJoined-same_time, early}
+use Rattle.board_core.specs.Time.{HasTime}
+use Rattle.board_core.specs.Conditions.{IsJoined}
 use Rattle.board_core.proofs.Steps.{with_run-is}
 use Rattle.board_core.proofs.board.BoardState.run_to.Goals as goal
 
@@ -27,6 +29,32 @@ module _ (b : BoardParts) (h : ℕ) (stays : now_of b ≡ time_of_access b h) wh
   run-none : (host : ℕ) → host ≡ max b.host h → record b { host = host } ≡ after_run b h
   run-none host is = with_run-is b h host (devices_in b) b.rises is (sym state-none)
       (sym (ap (λ (es : List Edge). rises_after b.format es b.rises) edges-none ∙ rises_after-none b.format b.rises))
+
+-- a count that isn't beyond the board's
+stays_at : (b : BoardParts) (h : ℕ) → IsJoined b → HasTime b.anchor h → h ≤ b.host → now_of b ≡ time_of_access b h
+stays_at b h joined time le = (early b h (omega (arith, joined.rates.host.slow)) joined.time time.started le).1
+
+pub returns-then-h-self-clause-state : goal.returns-then-h-self-clause-state
+returns-then-h-self-clause-state c =
+    let b : BoardParts = board_parts_of c.self.inside in
+    let stays : now_of b ≡ time_of_access b c.args.h = stays_at b c.args.h c.self.invariant.joined
+    (subst (λ (x : BoardParts). HasTime x.anchor c.args.h) (sym c.self.view_is) c.requires.time) c.if-h-self.true in
+    sym c.self.view_is ∙ run-none b c.args.h stays b.host (omega (arith, c.if-h-self.true)) ∙ ap (λ (x : BoardParts). after_run x c.args.h) c.self.view_is
+
+pub returns-then-h-self-clause-edges : goal.returns-then-h-self-clause-edges
+returns-then-h-self-clause-edges c =
+    let b : BoardParts = board_parts_of c.self.inside in
+    let stays : now_of b ≡ time_of_access b c.args.h = stays_at b c.args.h c.self.invariant.joined
+    (subst (λ (x : BoardParts). HasTime x.anchor c.args.h) (sym c.self.view_is) c.requires.time) c.if-h-self.true in
+    sym (ap (λ (x : BoardParts). c.args.edges.now ++ (ran_to x c.args.h).edges) (sym c.self.view_is)
+    ∙ ap (λ (es : List Edge). c.args.edges.now ++ es) (edges-none b c.args.h stays) ∙ append-nil c.args.edges.now)
+
+pub returns-then-h-self-clause-few : goal.returns-then-h-self-clause-few
+returns-then-h-self-clause-few c =
+    let b : BoardParts = board_parts_of c.self.inside in
+    let stays : now_of b ≡ time_of_access b c.args.h = stays_at b c.args.h c.self.invariant.joined
+    (subst (λ (x : BoardParts). HasTime x.anchor c.args.h) (sym c.self.view_is) c.requires.time) c.if-h-self.true in
+    subst (λ (x : BoardParts). length (ran_to x c.args.h).edges ≤ 6) c.self.view_is (omega (arith, ap length (edges-none b c.args.h stays)))
 
 pub invariant_of-self : goal.invariant_of-self
 invariant_of-self c =

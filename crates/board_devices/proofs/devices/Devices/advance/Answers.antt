@@ -1,15 +1,28 @@
-use Rattle.std.proofs.Common.{◌≡◌, ℕ, zero, suc, ◌+◌, ◌-◌, ◌*◌, ◌/◌, ◌<◌, ◌≤◌, ◌^◌, ◌&&◌, Bool}
-use Rattle.std.proofs.Common.{get_or, List, Option, Some, None, ap, sym, subst, refl, ◌∙◌, arith}
+use Rattle.std.proofs.Common.{◌≡◌, ℕ, zero, suc, ◌+◌, ◌-◌, ◌*◌, ◌/◌, ◌<◌, ◌≤◌, ◌^◌, ◌&&◌, Bool, true, not, cond}
+use Rattle.std.proofs.Common.{get_or, List, Option, Some, None, ap, sym, subst, refl, ◌∙◌, inl, inr, false, arith}
 use Rattle.std.proofs.lemmas.List.{get_or_default}
+use Rattle.std.proofs.lemmas.Bool.{cases_lt, true≢false}
 use Rattle.clk_units.specs.Bits.{bit}
 use Rattle.clk_units.specs.Pulses.{pulses_from}
-use Rattle.clk_units.specs.Events.{IsFirst}
+use Rattle.clk_units.specs.Events.{IsFirst, first_at}
+use Rattle.pit_readback.specs.declared.TheConstants.{PIT_HZ}
+use Rattle.pit_counter.specs.Table.{rises_in}
+use Rattle.pit_readback.specs.Pit.{counter_of}
+use Rattle.rtc_cycle.specs.Divider.{ticks_in}
+use Rattle.hpet_comparator.specs.Parts.{is_level}
+use Rattle.hpet_registers.proofs.Product.{is_level-hpet_pulsed_times, timers-hpet_pulsed_times}
+use Rattle.rtc_registers.specs.Registers.{divider_of, pf_of}
+use Rattle.rtc_registers.proofs.Times.{pf_of-rtc_pulsed_times, IsRtc-rtc_pulsed_times}
+use Rattle.hpet_registers.specs.Parts.{is_legacy}
+use Rattle.hpet_registers.specs.Outputs.{has_ticks}
+use Rattle.tick_policy.specs.Line.{ticked_times}
+use Rattle.board_devices.specs.declared.stretch.Ticks.{Ticks}
 use Rattle.std.specs.Option.{IfSome}
 use Rattle.rtc_registers.specs.declared.TheConstants.{RTC_HZ}
 use Rattle.rtc_registers.specs.Pulses.{rtc_pulsed_times}
 use Rattle.hpet_registers.specs.declared.hpet.TheConstants.{HPET_HZ}
 use Rattle.hpet_registers.specs.declared.parts.HpetParts.{HpetParts}
-use Rattle.hpet_registers.specs.Parts.{IsHpet}
+use Rattle.hpet_registers.specs.Parts.{IsHpet, timer_at}
 use Rattle.hpet_registers.specs.Stretch.{hpet_pulsed_times, matches_of, timer_matches}
 use Rattle.tick_policy.specs.declared.parts.TickParts.{TickParts}
 use Rattle.tick_policy.proofs.Stretches.{next_point}
@@ -22,11 +35,12 @@ use Rattle.board_devices.specs.Parts.{IsDevices}
 use Rattle.board_devices.specs.Places.{line_at, no_line}
 use Rattle.board_devices.specs.Run.{run}
 use Rattle.board_devices.specs.View.{parts_of}
-use Rattle.board_devices.specs.private.Stretch.{timer_ticks, ticks_at, end_of, up_of, flagged_where, either_from, flag_from, output_up, slots_from}
+use Rattle.board_devices.specs.private.Stretch.{source, counted, timer_ticks, ticks_at, end_of, up_of, flagged_where, either_from, flag_from, output_up, slots_from}
 use Rattle.board_devices.proofs.Product.{Sound, run-parted}
 use Rattle.board_devices.proofs.Advance.{Brought, Known, ran-state, ran-levels, up-is, IsDevices-parted, due-few, up_at, irq_at, lines_from, outs}
-use Rattle.board_devices.proofs.Timers.{ends-timers, times-are}
-use Rattle.board_devices.proofs.Still.{Quiet, run-still, levels-still, IsDevices-still}
+use Rattle.board_devices.proofs.Timers.{ends-timers, times-are, has_ticks-pulsed}
+use Rattle.board_devices.proofs.Idle.{end-early, end-unseen}
+use Rattle.board_devices.proofs.Still.{Quiet, levels-still, flag-again}
 use Rattle.board_devices.proofs.devices.Devices.advance.Goals as goal
 
 -- there is room for the ticks
@@ -34,7 +48,7 @@ pub run_at-pit_up-requires-clause-room : goal.run_at-pit_up-requires-clause-room
 run_at-pit_up-requires-clause-room c =
     let room : (line_at 0 (parts_of c.self.inside)).counts.due + (c.args.to - c.args.from) < 2 ^ 63 =
     rw (← c.self.view_is) at (c.requires.room 0 (omega arith)) in
-    omega (arith, room, c.pit_ticks-pit.ensures.few, c.pulses-rises.ensures.few, c.pulses_between.ensures.few)
+    omega (arith, room, c.pit_ticks-pit.ensures.few, c.pulses-rises.ensures.few, c.pulse_counts-pulses.ensures.few_pit)
 
 pub run_at-rtc_up-requires-clause-room : goal.run_at-rtc_up-requires-clause-room
 run_at-rtc_up-requires-clause-room c =
@@ -42,12 +56,12 @@ run_at-rtc_up-requires-clause-room c =
     rw (← c.self.view_is) at (c.requires.room 1 (omega arith)) in
     let same : (get_or c.run_at-pit_up.new.lines 1 no_line).counts.due ≡ (line_at 1 (parts_of c.self.inside)).counts.due =
     ap (λ (l : TickParts). l.counts.due) (c.run_at-pit_up.ensures.others 1 (λ e. absurd (omega (arith, e)))) in
-    omega (arith, room, same, c.rtc_ticks-rtc.ensures.few, c.pulses-events.ensures.few_ticks, c.pulses_between-2.ensures.few)
+    omega (arith, room, same, c.rtc_ticks-rtc.ensures.few, c.clock_pulses-events.ensures.few_ticks, c.pulse_counts-pulses.ensures.few_rtc)
 
 pub run_timers-requires-clause-inside : goal.run_timers-requires-clause-inside
 run_timers-requires-clause-inside c = λ k less.
     by_first (matches_of k c.self.inside.hpet) _ (timer_matches c.pulses.new.matches k).first
-    (rw c.pulses_between-3.ensures.value at (c.pulses.ensures.first k))
+    (rw c.pulse_counts-pulses.ensures.hpet at (c.pulses.ensures.first k))
   where
     by_first : (count : ℕ → ℕ) (n : ℕ) (first : Option ℕ) → IsFirst count n first → IfSome first (λ j. j ≤ n)
     by_first count n None h = tt
@@ -61,7 +75,7 @@ run_timers-requires-clause-room c = λ k less.
     let same : (get_or c.run_at-rtc_up.new.lines (k + 2) no_line).counts.due ≡ (line_at (k + 2) (parts_of c.self.inside)).counts.due =
     ap (λ (l : TickParts). l.counts.due) (c.run_at-rtc_up.ensures.others (k + 2) (λ e. absurd (omega (arith, e)))
     ∙ c.run_at-pit_up.ensures.others (k + 2) (λ e. absurd (omega (arith, e)))) in
-    omega (arith, room, same, c.pulses.ensures.few k, c.pulses_between-3.ensures.few)
+    omega (arith, room, same, c.pulses.ensures.few k, c.pulse_counts-pulses.ensures.few_hpet)
 
 -- the lines behind those of the 8254 and the MC146818
 behind : (c : goal.After-run_timers) → (k : ℕ) → k < 8 → get_or c.run_at-rtc_up.new.lines (k + 2) no_line ≡ line_at (suc (suc k)) (parts_of c.self.inside)
@@ -82,16 +96,16 @@ valid : (c : goal.After-run_timers) → IsHpet c.self.inside.hpet
 valid c = subst IsHpet c.parts-status.ensures.parts c.parts-status.ensures.valid
 
 brought : (c : goal.After-run_timers)
-    → Brought (parts_of c.self.inside) c.args.from (c.args.to - c.args.from) c.pulses-rises.result c.pulses-events.result c.pulses.new.matches
+    → Brought (parts_of c.self.inside) c.args.from (c.args.to - c.args.from) c.pulses-rises.result c.clock_pulses-events.result c.pulses.new.matches
 brought c = record {
-  pit_count = rw c.pulses_between.ensures.value at c.pulses-rises.ensures.count;
-  pit_first = rw c.pulses_between.ensures.value at c.pulses-rises.ensures.first;
-  rtc_count = rw c.pulses_between-2.ensures.value at c.pulses-events.ensures.ticks;
-  rtc_first = rw c.pulses_between-2.ensures.value at c.pulses-events.ensures.first_tick;
-  update_first = rw c.pulses_between-2.ensures.value at c.pulses-events.ensures.first_update;
-  alarm_first = rw c.pulses_between-2.ensures.value at c.pulses-events.ensures.first_alarm;
-  timer_count = rw c.pulses_between-3.ensures.value at c.pulses.ensures.count;
-  timer_first = rw c.pulses_between-3.ensures.value at c.pulses.ensures.first;
+  pit_count = rw c.pulse_counts-pulses.ensures.pit at c.pulses-rises.ensures.count;
+  pit_first = rw c.pulse_counts-pulses.ensures.pit at c.pulses-rises.ensures.first;
+  rtc_count = rw c.pulse_counts-pulses.ensures.rtc at c.clock_pulses-events.ensures.ticks;
+  rtc_first = rw c.pulse_counts-pulses.ensures.rtc at c.clock_pulses-events.ensures.first_tick;
+  update_first = rw c.pulse_counts-pulses.ensures.rtc at c.clock_pulses-events.ensures.first_update;
+  alarm_first = rw c.pulse_counts-pulses.ensures.rtc at c.clock_pulses-events.ensures.first_alarm;
+  timer_count = rw c.pulse_counts-pulses.ensures.hpet at c.pulses.ensures.count;
+  timer_first = rw c.pulse_counts-pulses.ensures.hpet at c.pulses.ensures.first;
 }
 
 counts_is : (c : goal.After-run_timers) → c.counts_rtc-counts.result ≡ counts_rtc (parts_of c.self.inside)
@@ -103,7 +117,7 @@ ahead c = (c.args.from / c.self.inside.slew_ns + 1) * c.self.inside.slew_ns - c.
 
 known : (c : goal.After-run_timers)
     → Known (parts_of c.self.inside) c.args.from (c.args.to - c.args.from) (ahead c)
-    c.pulses-rises.result c.pulses-events.result c.pulses.new.matches c.pit_ticks-pit.result c.rtc_ticks-rtc.result
+    c.pulses-rises.result c.clock_pulses-events.result c.pulses.new.matches c.pit_ticks-pit.result c.rtc_ticks-rtc.result
 unfolding ahead
 known c = record {
   sound = sound c;
@@ -122,7 +136,7 @@ end_is c = omega (arith, c.requires.order)
 
 hpet_is : (c : goal.After-run_timers)
     → c.pulses.new.self ≡ hpet_pulsed_times (pulses_from HPET_HZ c.args.from (c.args.to - c.args.from)) c.self.inside.hpet
-hpet_is c = rw c.pulses_between-3.ensures.value at c.pulses.ensures.state
+hpet_is c = rw c.pulse_counts-pulses.ensures.hpet at c.pulses.ensures.state
 
 -- the lines at the end
 first_line : (c : goal.After-run_timers) → get_or c.run_at-rtc_up.new.lines 1 no_line
@@ -154,9 +168,9 @@ rtc_is c =
     c.counts_rtc_up-flag.ensures
     ∙ ap (λ (b : Bool). b && c.is_up.result) (counts_is c)
     ∙ ap (λ (b : Bool). counts_rtc (parts_of c.self.inside) && b) (c.is_up.ensures ∙ ap (λ (l : TickParts). l.up) one) in
-    c.set_flag.ensures ∙ ap (λ (b : Bool). flagged_where b c.pulses-events.new.self) flag
+    c.set_flag.ensures ∙ ap (λ (b : Bool). flagged_where b c.clock_pulses-events.new.rtc) flag
     ∙ ap (flagged_where (counts_rtc (parts_of c.self.inside) && (get_or c.run_timers.new.lines 1 no_line).up))
-    (rw c.pulses_between-2.ensures.value at c.pulses-events.ensures.state)
+    (rw c.pulse_counts-pulses.ensures.rtc at c.clock_pulses-events.ensures.state)
 
 state : (c : goal.After-run_timers)
     → parts_of (record {
@@ -168,7 +182,7 @@ state : (c : goal.After-run_timers)
     }) ≡ (run c.args.from (c.args.to - c.args.from) (parts_of c.self.inside)).state
 state c = ran-state (known c) c.next_point-point.result c.args.to c.run_timers.new.lines c.pulses-rises.new.self c.set_flag.new.rtc c.pulses.new.self
     (point_is c) (end_is c) c.run_timers.ensures.places (ends c)
-    (rw c.pulses_between.ensures.value at c.pulses-rises.ensures.state) (rtc_is c) (hpet_is c)
+    (rw c.pulse_counts-pulses.ensures.pit at c.pulses-rises.ensures.state) (rtc_is c) (hpet_is c)
 
 pub invariant_of-self-2 : goal.invariant_of-self-2
 invariant_of-self-2 c = subst IsDevices (sym (state c ∙ run-parted c.args.from (c.args.to - c.args.from) (parts_of c.self.inside) (sound c)))
@@ -223,46 +237,202 @@ returns-clause-levels c = λ j le.
     ap (λ (d : DeviceParts). levels (run c.args.from j d).state) (sym c.self.view_is)
     ∙ ran-levels (known c) c.run_timers.new.times (times c) j (omega (arith, le, end_is c))
 
--- where nothing came
-sound_still : (c : goal.Then-nothing_came) → Sound (parts_of c.self.inside)
-sound_still c = record {
+-- where no line moved: there is room for the ticks
+pub take_ticks-requires-clause-rooms : goal.take_ticks-requires-clause-rooms
+take_ticks-requires-clause-rooms c = λ k less.
+    let room : (line_at (k + 2) (parts_of c.self.inside)).counts.due + (c.args.to - c.args.from) < 2 ^ 63 =
+    rw (← c.self.view_is) at (c.requires.room (k + 2) (omega arith)) in
+    omega (arith, room, c.pulses.ensures.few k, c.pulse_counts-pulses.ensures.few_hpet)
+
+-- nothing came of the MC146818
+still_ticks : (c : goal.After-take_ticks) → c.clock_pulses-none.result.cycle.ticks ≡ 0
+still_ticks c = omega (arith, c.if-finds_up.ensures.crystal refl, c.clock_pulses-none.ensures.few_ticks)
+
+still_updates : (c : goal.After-take_ticks) → c.clock_pulses-none.result.cycle.updates ≡ 0
+still_updates c = omega (arith, c.if-finds_up.ensures.crystal refl, c.clock_pulses-none.ensures.few_updates)
+
+-- what is known
+still : (c : goal.After-take_ticks) → Sound (parts_of c.self.inside)
+still c = record {
   rtc = rw c.parts-clock.ensures.value at c.parts-clock.ensures.valid;
   joined = c.self.invariant;
 }
 
-still : (c : goal.Then-nothing_came)
-    → Quiet (parts_of c.self.inside) c.args.from (c.args.to - c.args.from) ((c.args.from / c.self.inside.slew_ns + 1) * c.self.inside.slew_ns - c.args.from)
-still c = record {
-  sound = sound_still c;
-  point = next_point c.self.inside.slew_ns c.args.from (omega (arith, c.self.invariant.slew_low));
-  early = omega (arith, c.if-to-point.true, c.next_point-point.ensures, c.requires.order);
-  rises = sym (rw c.pulses_between.ensures.value at c.pulses-rises.ensures.count) ∙ c.if-nothing_came.ensures.rises refl;
-  ticks = sym (rw c.pulses_between-2.ensures.value at c.pulses-events.ensures.ticks) ∙ c.if-nothing_came.ensures.ticks refl;
-  updates = sym (rw c.pulses_between-2.ensures.value at c.pulses-events.ensures.updates) ∙ c.if-nothing_came.ensures.updates refl;
-  matches = λ k less. sym (rw c.pulses_between-3.ensures.value at (c.pulses.ensures.count k)) ∙ c.if-nothing_came.ensures.matches refl k less;
+still_brought : (c : goal.After-take_ticks)
+    → Brought (parts_of c.self.inside) c.args.from (c.args.to - c.args.from) c.pulses-rises.result c.clock_pulses-none.result c.pulses.new.matches
+still_brought c = record {
+  pit_count = rw c.pulse_counts-pulses.ensures.pit at c.pulses-rises.ensures.count;
+  pit_first = rw c.pulse_counts-pulses.ensures.pit at c.pulses-rises.ensures.first;
+  rtc_count = rw c.pulse_counts-pulses.ensures.rtc at c.clock_pulses-none.ensures.ticks;
+  rtc_first = rw c.pulse_counts-pulses.ensures.rtc at c.clock_pulses-none.ensures.first_tick;
+  update_first = rw c.pulse_counts-pulses.ensures.rtc at c.clock_pulses-none.ensures.first_update;
+  alarm_first = rw c.pulse_counts-pulses.ensures.rtc at c.clock_pulses-none.ensures.first_alarm;
+  timer_count = rw c.pulse_counts-pulses.ensures.hpet at c.pulses.ensures.count;
+  timer_first = rw c.pulse_counts-pulses.ensures.hpet at c.pulses.ensures.first;
 }
 
-state_still : (c : goal.Then-nothing_came)
+-- the ticks of the 8254 and of the MC146818
+still_pit : (c : goal.After-take_ticks) → Ticks
+still_pit c = counted true (not (is_legacy c.self.inside.hpet)) c.pulses-rises.result.count (first_at PIT_HZ c.args.from c.pulses-rises.result.first)
+
+still_rtc : (c : goal.After-take_ticks) → Ticks
+still_rtc c = counted (counts_rtc (parts_of c.self.inside)) (counts_rtc (parts_of c.self.inside)) c.clock_pulses-none.result.cycle.ticks
+    (first_at RTC_HZ c.args.from c.clock_pulses-none.result.cycle.first_tick)
+
+still_ahead : (c : goal.After-take_ticks) → ℕ
+still_ahead c = (c.args.from / c.self.inside.slew_ns + 1) * c.self.inside.slew_ns - c.args.from
+
+still_known : (c : goal.After-take_ticks)
+    → Known (parts_of c.self.inside) c.args.from (c.args.to - c.args.from) (still_ahead c)
+    c.pulses-rises.result c.clock_pulses-none.result c.pulses.new.matches (still_pit c) (still_rtc c)
+unfolding still_ahead still_pit still_rtc
+still_known c = record {
+  sound = still c;
+  point = next_point c.self.inside.slew_ns c.args.from (omega (arith, c.self.invariant.slew_low));
+  brought = still_brought c;
+  pit_is = refl;
+  rtc_is = refl;
+}
+
+still_point : (c : goal.After-take_ticks) → c.next_point-point.result ≡ c.args.from + still_ahead c
+unfolding still_ahead
+still_point c = omega (arith, (still_known c).point.later, c.next_point-point.ensures)
+
+still_end : (c : goal.After-take_ticks) → c.args.to ≡ c.args.from + (c.args.to - c.args.from)
+still_end c = omega (arith, c.requires.order)
+
+still_hpet : (c : goal.After-take_ticks)
+    → c.pulses.new.self ≡ hpet_pulsed_times (pulses_from HPET_HZ c.args.from (c.args.to - c.args.from)) c.self.inside.hpet
+still_hpet c = rw c.pulse_counts-pulses.ensures.hpet at c.pulses.ensures.state
+
+-- the lines at the end: each has its ticks
+early : (c : goal.After-take_ticks) → c.args.to < c.next_point-point.result
+early c = c.if-to-point.true
+
+still_ends : (c : goal.After-take_ticks) → (k : ℕ) → k < 10 → get_or c.take_ticks.new.lines k no_line
+    ≡ end_of c.next_point-point.result c.args.to
+    (ticks_at c.args.from c.self.inside.hpet c.pulses.new.matches (still_pit c) (still_rtc c) k) (line_at k (parts_of c.self.inside))
+unfolding still_pit still_rtc
+still_ends c zero less =
+    c.take_ticks.ensures.pit
+    ∙ ap (λ (b : Bool). ticked_times (cond (not b) c.pulses-rises.result.count 0) (line_at 0 (parts_of c.self.inside))) c.legacy-legacy.ensures
+    ∙ sym (end-early c.next_point-point.result c.args.to c.pulses-rises.result.count (not (is_legacy c.self.inside.hpet))
+    (first_at PIT_HZ c.args.from c.pulses-rises.result.first) (line_at 0 (parts_of c.self.inside)) (early c))
+still_ends c (suc zero) less =
+    c.take_ticks.ensures.clock
+    ∙ sym (end-unseen c.next_point-point.result c.args.to c.clock_pulses-none.result.cycle.ticks (counts_rtc (parts_of c.self.inside))
+    (first_at RTC_HZ c.args.from c.clock_pulses-none.result.cycle.first_tick) (line_at 1 (parts_of c.self.inside)) (early c)
+    (still_ticks c))
+still_ends c (suc (suc k)) less = ends-timers (still_known c) c.next_point-point.result c.args.to c.self.inside.ticks c.take_ticks.new.lines
+    (λ j small. ap (λ (i : ℕ). get_or c.self.inside.ticks i no_line) (omega arith))
+    (λ j inside. c.take_ticks.ensures.done j (subst (λ (h : HpetParts). j < h.timers) (sym (still_hpet c)) inside)
+    ∙ ap (λ (h : HpetParts). ticked_times (cond (has_ticks j h) (timer_matches c.pulses.new.matches j).count 0)
+    (get_or c.self.inside.ticks (j + 2) no_line)) (still_hpet c)
+    ∙ sym (end-early c.next_point-point.result c.args.to (timer_matches c.pulses.new.matches j).count _ _ (get_or c.self.inside.ticks (j + 2) no_line)
+    (early c)))
+    (λ j past. c.take_ticks.ensures.rest j (subst (λ (h : HpetParts). h.timers + 2 ≤ j) (sym (still_hpet c)) past))
+    c.pulses.ensures.none k (omega arith)
+
+-- PF follows its line, which is as it was
+still_rtc_is : (c : goal.After-take_ticks) → c.clock_pulses-none.new.rtc
+    ≡ flagged_where (counts_rtc (parts_of c.self.inside) && (get_or c.take_ticks.new.lines 1 no_line).up)
+    (rtc_pulsed_times (pulses_from RTC_HZ c.args.from (c.args.to - c.args.from)) c.self.inside.rtc)
+still_rtc_is c =
+    let m : ℕ = pulses_from RTC_HZ c.args.from (c.args.to - c.args.from) in
+    let b : Bool = counts_rtc (parts_of c.self.inside) in
+    rw c.pulse_counts-pulses.ensures.rtc at c.clock_pulses-none.ensures.state
+    ∙ sym (flag-again b (pf_of c.self.inside.rtc) (ticks_in (divider_of c.self.inside.rtc) m) (rtc_pulsed_times m c.self.inside.rtc)
+    (IsRtc-rtc_pulsed_times m c.self.inside.rtc (still c).rtc) (pf_of-rtc_pulsed_times m c.self.inside.rtc (still c).rtc))
+    ∙ ap (λ (u : Bool). flagged_where (b && u) (rtc_pulsed_times m c.self.inside.rtc))
+    (sym (ap (λ (l : TickParts). l.up) c.take_ticks.ensures.clock ∙ c.self.invariant.flag))
+
+still_state : (c : goal.After-take_ticks)
     → parts_of (record {
       pit = c.pulses-rises.new.self;
-      rtc = c.pulses-events.new.self;
+      rtc = c.clock_pulses-none.new.rtc;
       hpet = c.pulses.new.self;
-      ticks = c.self.inside.ticks;
+      ticks = c.take_ticks.new.lines;
       slew_ns = c.self.inside.slew_ns;
     }) ≡ (run c.args.from (c.args.to - c.args.from) (parts_of c.self.inside)).state
-state_still c = run-still (still c) c.pulses-rises.new.self c.pulses-events.new.self c.pulses.new.self
-    (rw c.pulses_between.ensures.value at c.pulses-rises.ensures.state) (rw c.pulses_between-2.ensures.value at c.pulses-events.ensures.state)
-    (rw c.pulses_between-3.ensures.value at c.pulses.ensures.state)
+still_state c = ran-state (still_known c) c.next_point-point.result c.args.to c.take_ticks.new.lines c.pulses-rises.new.self c.clock_pulses-none.new.rtc
+    c.pulses.new.self (still_point c) (still_end c) c.take_ticks.ensures.places (still_ends c)
+    (rw c.pulse_counts-pulses.ensures.pit at c.pulses-rises.ensures.state) (still_rtc_is c) (still_hpet c)
 
 pub invariant_of-self : goal.invariant_of-self
-invariant_of-self c = IsDevices-still (still c) c.pulses-rises.new.self c.pulses-events.new.self c.pulses.new.self
-    (rw c.pulses_between.ensures.value at c.pulses-rises.ensures.state) (rw c.pulses_between-2.ensures.value at c.pulses-events.ensures.state)
-    (rw c.pulses_between-3.ensures.value at c.pulses.ensures.state)
+invariant_of-self c = subst IsDevices (sym (still_state c ∙ run-parted c.args.from (c.args.to - c.args.from) (parts_of c.self.inside) (still c)))
+    (IsDevices-parted (still_known c) (c.args.to - c.args.from))
 
-pub returns-then-nothing_came-clause-state : goal.returns-then-nothing_came-clause-state
-returns-then-nothing_came-clause-state c = state_still c ∙ ap (λ (d : DeviceParts). (run c.args.from (c.args.to - c.args.from) d).state) c.self.view_is
+pub returns-then-finds_up-clause-state : goal.returns-then-finds_up-clause-state
+returns-then-finds_up-clause-state c = still_state c ∙ ap (λ (d : DeviceParts). (run c.args.from (c.args.to - c.args.from) d).state) c.self.view_is
 
-pub returns-then-nothing_came-clause-levels : goal.returns-then-nothing_came-clause-levels
-returns-then-nothing_came-clause-levels c = λ j le.
-    ap (λ (d : DeviceParts). levels (run c.args.from j d).state) (sym c.self.view_is) ∙ levels-still (still c) j (omega (arith, le, c.requires.order))
+pub returns-then-finds_up-clause-due : goal.returns-then-finds_up-clause-due
+returns-then-finds_up-clause-due c = λ k less. rw (← c.self.view_is)
+    (due-few (still_known c) c.next_point-point.result c.args.to c.take_ticks.new.lines (still_ends c) k less)
+
+-- a timer that matches is there
+there : (c : goal.After-take_ticks) (k : ℕ) → 0 < (timer_matches c.pulses.new.matches k).count → k < c.pulses.new.self.timers
+there c k some = elim (cases_lt k c.self.inside.hpet.timers) [
+  | inl inside ↦
+      let same : c.pulses.new.self.timers ≡ c.self.inside.hpet.timers =
+      ap (λ (h : HpetParts). h.timers) (still_hpet c)
+      ∙ timers-hpet_pulsed_times (pulses_from HPET_HZ c.args.from (c.args.to - c.args.from)) c.self.inside.hpet in
+      omega (arith, inside, same)
+  | inr gone ↦ absurd (omega (arith, some, ap (λ (m : Matches). m.count) (c.pulses.ensures.none k gone)))
+]
+
+-- ticks that are due find their line up
+some_where : (b : Bool) (m : ℕ) → 0 < cond b m 0 → (b ≡ true) × (0 < m)
+some_where true m h = (refl, h)
+some_where false m h = absurd (omega (arith, h))
+
+not-true : (b : Bool) → not b ≡ true → b ≡ false
+not-true true e = sym e
+not-true false e = refl
+
+found : (c : goal.After-take_ticks) (k : ℕ) → k < 10 → 0 < source (parts_of c.self.inside) c.args.from k (c.args.to - c.args.from)
+    → (line_at k (parts_of c.self.inside)).up ≡ true
+found c zero less some =
+    let due : (not (is_legacy c.self.inside.hpet) ≡ true)
+    × (0 < rises_in (counter_of c.self.inside.pit 0) (pulses_from PIT_HZ c.args.from (c.args.to - c.args.from))) = some_where _ _ some in
+    c.if-finds_up.ensures.pit refl (omega (arith, due.1, (still_brought c).pit_count))
+    (c.legacy-legacy.ensures ∙ not-true (is_legacy c.self.inside.hpet) due.0)
+found c (suc zero) less some =
+    let due : (counts_rtc (parts_of c.self.inside) ≡ true)
+    × (0 < ticks_in (divider_of c.self.inside.rtc) (pulses_from RTC_HZ c.args.from (c.args.to - c.args.from))) = some_where _ _ some in
+    absurd (omega (arith, due.1, (still_brought c).rtc_count, still_ticks c))
+found c (suc (suc k)) less some =
+    let due : (has_ticks k c.self.inside.hpet ≡ true)
+    × (0 < matches_of k c.self.inside.hpet (pulses_from HPET_HZ c.args.from (c.args.to - c.args.from))) = some_where _ _ some in
+    let count : 0 < (timer_matches c.pulses.new.matches k).count = omega (arith, due.1, (still_brought c).timer_count k) in
+    let place : suc (suc k) ≡ k + 2 = omega arith in
+    ap (λ (i : ℕ). (get_or c.self.inside.ticks i no_line).up) place
+    ∙ c.if-finds_up.ensures.timers refl k (there c k count) count
+    (ap (has_ticks k) (still_hpet c) ∙ has_ticks-pulsed k (pulses_from HPET_HZ c.args.from (c.args.to - c.args.from)) c.self.inside.hpet ∙ due.0)
+
+-- no timer of level type matches
+level : (c : goal.After-take_ticks) (k : ℕ) → is_level (timer_at k c.self.inside.hpet) ≡ true
+    → matches_of k c.self.inside.hpet (pulses_from HPET_HZ c.args.from (c.args.to - c.args.from)) ≡ 0
+level c k is_on = elim (cases_lt 0 (timer_matches c.pulses.new.matches k).count) [
+  | inl some ↦ absurd (true≢false (sym is_on
+      ∙ sym (is_level-hpet_pulsed_times k (pulses_from HPET_HZ c.args.from (c.args.to - c.args.from)) c.self.inside.hpet)
+      ∙ sym (ap (λ (h : HpetParts). is_level (timer_at k h)) (still_hpet c)) ∙ c.if-finds_up.ensures.edge refl k (there c k some) some))
+  | inr none ↦ omega (arith, none, (still_brought c).timer_count k)
+]
+
+-- no level changes
+quiet : (c : goal.After-take_ticks) → Quiet (parts_of c.self.inside) c.args.from (c.args.to - c.args.from) (still_ahead c)
+unfolding still_ahead
+quiet c = record {
+  sound = still c;
+  point = (still_known c).point;
+  early = omega (arith, early c, c.next_point-point.ensures, c.requires.order);
+  ticks = sym (still_brought c).rtc_count ∙ still_ticks c;
+  updates = sym (rw c.pulse_counts-pulses.ensures.rtc at c.clock_pulses-none.ensures.updates) ∙ still_updates c;
+  found = found c;
+  level = λ k less. level c k;
+}
+
+pub returns-then-finds_up-clause-levels : goal.returns-then-finds_up-clause-levels
+returns-then-finds_up-clause-levels c = λ j le.
+    ap (λ (d : DeviceParts). levels (run c.args.from j d).state) (sym c.self.view_is) ∙ levels-still (quiet c) j (omega (arith, le, c.requires.order))
     ∙ ap levels c.self.view_is

@@ -1,0 +1,25 @@
+use Rattle.std.proofs.Common.{◌≡◌, ℕ, ◌+◌, cond, get_or, ap, subst, sym, ◌∙◌, inl, inr, arith}
+use Rattle.std.proofs.lemmas.Bool.{cases_eq}
+use Rattle.hpet_registers.specs.Outputs.{has_ticks}
+use Rattle.hpet_registers.specs.Stretch.{timer_matches}
+use Rattle.tick_policy.specs.Line.{ticked_times}
+use Rattle.board_devices.specs.Places.{no_line}
+use Rattle.board_devices.proofs.found_up.take_matches.Goals as goal
+
+pub loop-k-preserved : goal.loop-k-preserved
+loop-k-preserved c =
+    let k : ℕ = c.loop-k.k in
+    let here : get_or c.take_timer.new.lines (k + 2) no_line
+    ≡ ticked_times (cond (has_ticks k c.args.h.now) (timer_matches c.args.matches.now k).count 0) (get_or c.args.lines.now (k + 2) no_line) =
+    c.take_timer.ensures.here
+    ∙ ap (ticked_times (cond (has_ticks k c.args.h.now) (timer_matches c.args.matches.now k).count 0)) (c.loop-k.invariant.rest (k + 2) (omega arith)) in
+    record {
+      places = c.take_timer.ensures.places;
+      front = λ j less. c.take_timer.ensures.others j (λ same. absurd (omega (arith, same))) ∙ c.loop-k.invariant.front j less;
+      done = λ j less. elim (cases_eq j k) [
+        | inl same ↦ subst (λ (i : ℕ). get_or c.take_timer.new.lines (i + 2) no_line
+            ≡ ticked_times (cond (has_ticks i c.args.h.now) (timer_matches c.args.matches.now i).count 0) (get_or c.args.lines.now (i + 2) no_line)) (sym same) here
+        | inr other ↦ c.take_timer.ensures.others (j + 2) (λ same. other (omega (arith, same))) ∙ c.loop-k.invariant.done j (omega (arith, less, other))
+      ];
+      rest = λ j behind. c.take_timer.ensures.others j (λ same. absurd (omega (arith, same, behind))) ∙ c.loop-k.invariant.rest j (omega (arith, behind));
+    }

@@ -1,0 +1,169 @@
+//! Ticks that find their lines up, before the next catch-up point: they are counted, and move no line.
+ghost use Rattle.std.specs.Prelude.{
+  ◌≡◌,
+  ◌≢◌,
+  ℕ,
+  ◌+◌,
+  ◌<◌,
+  ◌≤◌,
+  ◌^◌,
+  true,
+  false,
+  not,
+  IsTrue,
+  length,
+  slice_index_or,
+  if◌then◌else◌,
+};
+ghost use Rattle.hpet_comparator.specs.Parts.{is_level};
+ghost use Rattle.hpet_registers.specs.Parts.{timer_at};
+ghost use Rattle.hpet_registers.specs.Outputs.{has_ticks};
+ghost use Rattle.hpet_registers.specs.Stretch.{timer_matches};
+ghost use Rattle.tick_policy.specs.Line.{ticked_times};
+ghost use Rattle.board_devices.specs.Places.{no_line};
+
+use hpet_comparator::Matches;
+use hpet_registers::Hpet;
+use pit_counter::Rises;
+use tick_policy::TickLine;
+
+/// Whether what came in a stretch moves no line: the crystal of the MC146818 had none of its
+/// `crystal` pulses, no timer of level type matched, and each tick found its line up. `matched`
+/// tells whether a timer matched.
+#[inline(always)]
+pub(crate) fn finds_up(
+    lines: &[TickLine; 10],
+    h: &Hpet,
+    legacy: bool,
+    crystal: u64,
+    rises: Rises,
+    matched: bool,
+    matches: &[Matches; 8],
+) -> bool
+    requires none { matched ≡ false → (k : ℕ) → k < 8 → (timer_matches matches.now k).count ≡ 0 }
+    ensures pit { IsTrue result → 0 < rises.count → legacy ≡ false
+        → (slice_index_or lines.now 0 no_line).up ≡ true }
+    ensures crystal { IsTrue result → crystal ≡ 0 }
+    ensures edge { IsTrue result → (k : ℕ) → k < h.now.timers
+        → 0 < (timer_matches matches.now k).count → is_level (timer_at k h.now) ≡ false }
+    ensures timers { IsTrue result → (k : ℕ) → k < h.now.timers
+        → 0 < (timer_matches matches.now k).count → has_ticks k h.now ≡ true
+        → (slice_index_or lines.now (k + 2) no_line).up ≡ true }
+{
+    crystal == 0
+        && (rises.count == 0 || legacy || lines[0].is_up())
+        && (!matched || timers_find_up(lines, h, matches))
+}
+
+/// The same of the timers.
+#[inline(always)]
+fn timers_find_up(lines: &[TickLine; 10], h: &Hpet, matches: &[Matches; 8]) -> bool
+    ensures edge { IsTrue result → (k : ℕ) → k < h.now.timers
+        → 0 < (timer_matches matches.now k).count → is_level (timer_at k h.now) ≡ false }
+    ensures timers { IsTrue result → (k : ℕ) → k < h.now.timers
+        → 0 < (timer_matches matches.now k).count → has_ticks k h.now ≡ true
+        → (slice_index_or lines.now (k + 2) no_line).up ≡ true }
+{
+    for k in 0..h.timers() {
+        if matches[k as usize].count > 0 && !timer_finds_up(lines, h, k) {
+            return false;
+        }
+    }
+    true
+}
+
+/// Whether a match of timer `k` moves no line.
+#[inline(always)]
+fn timer_finds_up(lines: &[TickLine; 10], h: &Hpet, k: u8) -> bool
+    requires { k < 8 }
+    ensures edge { IsTrue result → is_level (timer_at k h.now) ≡ false }
+    ensures up { IsTrue result → has_ticks k h.now ≡ true
+        → (slice_index_or lines.now (k + 2) no_line).up ≡ true }
+{
+    !h.timer(k).is_level() && (!h.has_ticks(k) || lines[k as usize + 2].is_up())
+}
+
+/// Counts ticks in a stretch that has no catch-up point: `rises` of the 8254, which legacy
+/// replacement leaves out, and the matches of the timers.
+#[inline(always)]
+pub(crate) fn take_ticks(
+    lines: &mut [TickLine; 10],
+    h: &Hpet,
+    legacy: bool,
+    rises: u64,
+    matched: bool,
+    matches: &[Matches; 8],
+)
+    requires none { matched ≡ false → (k : ℕ) → k < 8 → (timer_matches matches.now k).count ≡ 0 }
+    requires room { (slice_index_or lines.old 0 no_line).counts.due + rises < 2 ^ 63 }
+    requires rooms { (k : ℕ) → k < 8 → (slice_index_or lines.old (k + 2) no_line).counts.due
+        + (timer_matches matches.now k).count < 2 ^ 63 }
+    ensures places { length lines.new ≡ 10 }
+    ensures pit { slice_index_or lines.new 0 no_line
+        ≡ ticked_times (if not legacy then rises else 0) (slice_index_or lines.old 0 no_line) }
+    ensures clock { slice_index_or lines.new 1 no_line ≡ slice_index_or lines.old 1 no_line }
+    ensures done { (k : ℕ) → k < h.now.timers → slice_index_or lines.new (k + 2) no_line
+        ≡ ticked_times (if has_ticks k h.now then (timer_matches matches.now k).count else 0)
+        (slice_index_or lines.old (k + 2) no_line) }
+    ensures rest { (j : ℕ) → h.now.timers + 2 ≤ j
+        → slice_index_or lines.new j no_line ≡ slice_index_or lines.old j no_line }
+{
+    let _timers = h.timers();
+    take_rises(lines, legacy, rises);
+    if matched {
+        take_matches(lines, h, matches);
+    }
+}
+
+/// Counts ticks of the 8254, which legacy replacement leaves out.
+#[inline(always)]
+#[tactic(auto, using(crate::proofs::Idle::no_ticks))]
+fn take_rises(lines: &mut [TickLine; 10], legacy: bool, rises: u64)
+    requires room { (slice_index_or lines.old 0 no_line).counts.due + rises < 2 ^ 63 }
+    ensures places { length lines.new ≡ 10 }
+    ensures pit { slice_index_or lines.new 0 no_line
+        ≡ ticked_times (if not legacy then rises else 0) (slice_index_or lines.old 0 no_line) }
+    ensures others { (j : ℕ) → j ≢ 0
+        → slice_index_or lines.new j no_line ≡ slice_index_or lines.old j no_line }
+{
+    if !legacy {
+        lines[0].due(rises);
+    }
+}
+
+/// Counts ticks of the timers.
+#[inline(always)]
+fn take_matches(lines: &mut [TickLine; 10], h: &Hpet, matches: &[Matches; 8])
+    requires rooms { (k : ℕ) → k < 8 → (slice_index_or lines.old (k + 2) no_line).counts.due
+        + (timer_matches matches.now k).count < 2 ^ 63 }
+    ensures places { length lines.new ≡ 10 }
+    ensures front { (j : ℕ) → j < 2
+        → slice_index_or lines.new j no_line ≡ slice_index_or lines.old j no_line }
+    ensures done { (k : ℕ) → k < h.now.timers → slice_index_or lines.new (k + 2) no_line
+        ≡ ticked_times (if has_ticks k h.now then (timer_matches matches.now k).count else 0)
+        (slice_index_or lines.old (k + 2) no_line) }
+    ensures rest { (j : ℕ) → h.now.timers + 2 ≤ j
+        → slice_index_or lines.new j no_line ≡ slice_index_or lines.old j no_line }
+{
+    for k in 0..h.timers() {
+        take_timer(lines, h, k, matches[k as usize].count);
+    }
+}
+
+/// Counts `count` ticks of timer `k`.
+#[inline(always)]
+#[tactic(auto, using(crate::proofs::Idle::no_ticks))]
+fn take_timer(lines: &mut [TickLine; 10], h: &Hpet, k: u8, count: u64)
+    requires place { k < 8 }
+    requires room { (slice_index_or lines.old (k + 2) no_line).counts.due + count < 2 ^ 63 }
+    ensures places { length lines.new ≡ 10 }
+    ensures here { slice_index_or lines.new (k + 2) no_line
+        ≡ ticked_times (if has_ticks k h.now then count else 0)
+        (slice_index_or lines.old (k + 2) no_line) }
+    ensures others { (j : ℕ) → j ≢ k + 2
+        → slice_index_or lines.new j no_line ≡ slice_index_or lines.old j no_line }
+{
+    if count > 0 && h.has_ticks(k) {
+        lines[k as usize + 2].due(count);
+    }
+}
