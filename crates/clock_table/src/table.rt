@@ -184,26 +184,27 @@ impl<N: Name> ClockTable<N> {
         self.table.shared.load::<Parts>(&mut seat.seat, FRONT)
     }
 
-    /// Adds 1 to the front word: an access that publishes no page, or a read under the lock.
-    pub fn bump(&self, seat: &mut ClockSeat<N>, entry: &Entry)
+    /// Adds 1 to the front word: a read under the lock, which is told by its entry.
+    pub fn bump_read(&self, seat: &mut ClockSeat<N>, entry: &Entry)
         requires pen { IsPen seat.old }
         requires shut { seat.old.hand ≡ None }
         requires bump { IsBump seat.old.seen entry.now }
         requires next { IsNext entry.now seat.old }
         ensures { Extends entry.now seat.old seat.new }
     {
-        bump_as::<N, Brand>(self, seat, entry);
+        bump_read_as::<N, Brand>(self, seat, entry);
     }
 
-    /// The same for an access, told by its call and its reply: no entry is built, and the reply isn't moved.
-    pub fn bump_access(&self, seat: &mut ClockSeat<N>, call: &Call, reply: &Reply)
+    /// Adds 1 to the front word: an access that publishes no page. It is told by its call and its reply, so no entry is
+    /// built, and the reply isn't moved.
+    pub fn bump(&self, seat: &mut ClockSeat<N>, call: &Call, reply: &Reply)
         requires pen { IsPen seat.old }
         requires shut { seat.old.hand ≡ None }
         requires bump { IsBump seat.old.seen (entry_of call.now reply.now) }
         requires next { IsNext (entry_of call.now reply.now) seat.old }
         ensures { Extends (entry_of call.now reply.now) seat.old seat.new }
     {
-        bump_access_as::<N, Brand>(self, seat, call, reply);
+        bump_as::<N, Brand>(self, seat, call, reply);
     }
 
     /// Opens a page: its version is odd from now on.
@@ -232,20 +233,7 @@ impl<N: Name> ClockTable<N> {
     }
 
     /// Closes the page, whose version is then even: an access that publishes it.
-    pub fn finish(&self, seat: &mut ClockSeat<N>, cpu: u8, entry: &Entry)
-        requires cpu { cpu < N.state.cpus }
-        requires pen { IsPen seat.old }
-        requires open { HasPut cpu (page_at (board_after (seat.old.seen ++ entry.now ∷ [])) cpu)
-            seat.old }
-        requires publishes { IsPublishing cpu entry.now }
-        requires next { IsNext entry.now seat.old }
-        ensures { Extends entry.now seat.old seat.new }
-    {
-        finish_as::<N, Brand>(self, seat, cpu, entry);
-    }
-
-    /// The same for an access that is told by its call and its reply.
-    pub fn finish_access(&self, seat: &mut ClockSeat<N>, cpu: u8, call: &Call, reply: &Reply)
+    pub fn finish(&self, seat: &mut ClockSeat<N>, cpu: u8, call: &Call, reply: &Reply)
         requires cpu { cpu < N.state.cpus }
         requires pen { IsPen seat.old }
         requires open { HasPut cpu
@@ -254,7 +242,7 @@ impl<N: Name> ClockTable<N> {
         requires next { IsNext (entry_of call.now reply.now) seat.old }
         ensures { Extends (entry_of call.now reply.now) seat.old seat.new }
     {
-        finish_access_as::<N, Brand>(self, seat, cpu, call, reply);
+        finish_as::<N, Brand>(self, seat, cpu, call, reply);
     }
 
     /// Loads the version of a page. An even one begins a read; an odd one is a miss.
@@ -305,7 +293,7 @@ impl<N: Name> ClockTable<N> {
 // A step's kind has no parameter but its type, so the entry, or the number in it, is one of a type that the call
 // picks.
 
-fn bump_as<N: Name, E: Ask>(table: &ClockTable<N>, seat: &mut ClockSeat<N>, entry: &Entry)
+fn bump_read_as<N: Name, E: Ask>(table: &ClockTable<N>, seat: &mut ClockSeat<N>, entry: &Entry)
     requires entry { entry.now ≡ E.entry }
     requires pen { IsPen seat.old }
     requires shut { seat.old.hand ≡ None }
@@ -320,29 +308,7 @@ fn bump_as<N: Name, E: Ask>(table: &ClockTable<N>, seat: &mut ClockSeat<N>, entr
         .fetch_add::<Finishes<E>>(&mut seat.seat, FRONT, 1);
 }
 
-fn finish_as<N: Name, E: Ask>(
-    table: &ClockTable<N>,
-    seat: &mut ClockSeat<N>,
-    cpu: u8,
-    entry: &Entry,
-)
-    requires entry { entry.now ≡ E.entry }
-    requires cpu { cpu < N.state.cpus }
-    requires pen { IsPen seat.old }
-    requires open { HasPut cpu (page_at (board_after (seat.old.seen ++ entry.now ∷ [])) cpu)
-        seat.old }
-    requires publishes { IsPublishing cpu entry.now }
-    requires next { IsNext entry.now seat.old }
-    ensures { Extends entry.now seat.old seat.new }
-{
-    let _ = entry;
-    table
-        .table
-        .shared
-        .fetch_add::<Finishes<E>>(&mut seat.seat, place(cpu, 0), 1);
-}
-
-fn bump_access_as<N: Name, E: Ask>(
+fn bump_as<N: Name, E: Ask>(
     table: &ClockTable<N>,
     seat: &mut ClockSeat<N>,
     call: &Call,
@@ -363,7 +329,7 @@ fn bump_access_as<N: Name, E: Ask>(
         .fetch_add::<Finishes<E>>(&mut seat.seat, FRONT, 1);
 }
 
-fn finish_access_as<N: Name, E: Ask>(
+fn finish_as<N: Name, E: Ask>(
     table: &ClockTable<N>,
     seat: &mut ClockSeat<N>,
     cpu: u8,

@@ -1,10 +1,12 @@
 //! Rows that one thread makes, for a program that counts instructions.
-ghost use Rattle.std.specs.Prelude.{◌≡◌, ◌<◌};
+ghost use Rattle.std.specs.Prelude.{◌≡◌, ◌<◌, ℕ, [], IsTrue};
+ghost use Rattle.board_types.specs.Legal.{is_legal};
 
-use board_core::{Access, BoardState, MSR_KVM_SYSTEM_TIME};
+use board_core::{Access, BoardState, MSR_KVM_SYSTEM_TIME, Reply, Value};
 use board_io::OpenGate;
 use clk_units::NoMemory;
 use clock_table::{Blank, Name};
+use irq_edges::EdgeList;
 use pvclock_page::{Page, PageReply, reading};
 use shared_board::{Pass, SharedBoard};
 use std::alloc::{AllocError, Global};
@@ -47,43 +49,119 @@ fn reading_of(page: &Page, tsc: u64) -> u64 {
     reading(page, tsc)
 }
 
+/// What a row calls of a shared board.
+#[derive(Clone, Copy)]
+pub(crate) enum Row {
+    /// A read of a page without the lock.
+    Page,
+    /// An access that gives its reply.
+    Access,
+    /// An access that puts its reply in its place.
+    Answer,
+}
+
+/// The access of a row: a read of a port, or one that does nothing. The program's words decide it, so the calls have
+/// code for each kind of access.
+pub(crate) fn asked(nothing: bool) -> Access
+    ensures { (cpus format : ℕ) → IsTrue (is_legal cpus format result) }
+{
+    if nothing { Access::Step } else { READ }
+}
+
 /// Accesses of a board that isn't shared. Answers the sum of their numbers.
-pub(crate) fn core_alone(mut board: BoardState) -> u64 {
+pub(crate) fn core_alone(mut board: BoardState, a: Access) -> u64
+    requires { (cpus format : ℕ) → IsTrue (is_legal cpus format a) }
+{
     let mut sum = 0u64;
     for _ in 0..CALLS {
-        if board.cpus() == 0 {
-            return 0;
-        }
-        if let Ok(reply) = board.access(0, 0, READ) {
-            sum = sum.wrapping_add(reply.number);
-        }
+        sum = sum.wrapping_add(number_of(&mut board, a));
     }
     sum
 }
 
-/// Reads of a page of a shared board, or accesses to it, by one pass. Answers their sum.
+/// One access, which stands apart so that its kind isn't known. Answers its number.
+#[inline(never)]
+fn number_of(board: &mut BoardState, a: Access) -> u64
+    requires { (cpus format : ℕ) → IsTrue (is_legal cpus format a) }
+{
+    if board.cpus() == 0 {
+        return 0;
+    }
+    match board.access(0, 0, a) {
+        Ok(reply) => reply.number,
+        Err(_refusal) => 0,
+    }
+}
+
+/// The same accesses, whose replies are put in their place.
+pub(crate) fn core_kept(mut board: BoardState, a: Access) -> u64
+    requires { (cpus format : ℕ) → IsTrue (is_legal cpus format a) }
+{
+    let mut reply = no_reply();
+    let mut sum = 0u64;
+    for _ in 0..CALLS {
+        reply.edges.clear();
+        put_reply(&mut board, a, &mut reply);
+        sum = sum.wrapping_add(reply.number);
+    }
+    sum
+}
+
+/// One access, whose reply is put in its place.
+#[inline(never)]
+fn put_reply(board: &mut BoardState, a: Access, reply: &mut Reply)
+    requires legal { (cpus format : ℕ) → IsTrue (is_legal cpus format a) }
+    requires fresh { reply.old.edges ≡ [] }
+{
+    if board.cpus() == 0 {
+        return;
+    }
+    if let Ok(value) = board.answer(0, 0, a, &mut reply.edges) {
+        reply.number = board.accesses();
+        reply.value = value;
+    }
+}
+
+/// A reply before its access.
+fn no_reply() -> Reply
+    ensures { result.edges ≡ [] }
+{
+    Reply {
+        number: 0,
+        value: Value::Nothing,
+        edges: EdgeList::new(),
+    }
+}
+
+/// The calls of a row on a shared board, by one pass. Answers their sum.
 pub(crate) fn on_shared<N: Name, R: Wait>(
     rt: &R,
     alloc: Global,
     blank: Blank,
     state: BoardState,
-    by_page: bool,
+    row: Row,
+    a: Access,
 ) -> Result<u64, AllocError>
     requires table { blank.0 ≡ N.table }
     requires blank { blank.1 ≡ N.state }
     requires state { state ≡ N.state }
     requires cpus { N.state.cpus ≡ 1 }
     requires passes { 1 ≡ N.passes }
+    requires legal { (cpus format : ℕ) → IsTrue (is_legal cpus format a) }
 {
     let (board, mut passes) = match SharedBoard::<N>::new(alloc, blank, state, 1) {
         Ok(made) => made,
         Err(NoMemory) => return Err(AllocError),
     };
-    match passes.pop() {
-        Some(mut pass) if by_page => Ok(pages(rt, &board, &mut pass)),
-        Some(mut pass) => Ok(accesses(rt, &board, &mut pass)),
-        None => Ok(0),
-    }
+    let mut pass = match passes.pop() {
+        Some(pass) => pass,
+        None => return Ok(0),
+    };
+    Ok(match row {
+        Row::Page => pages(rt, &board, &mut pass),
+        Row::Access => accesses(rt, &board, &mut pass, a),
+        Row::Answer => answers(rt, &board, &mut pass, a),
+    })
 }
 
 /// Reads of the page of processor 0. Answers the sum of the readings.
@@ -101,14 +179,61 @@ fn pages<N: Name>(rt: &impl Wait, board: &SharedBoard<N>, pass: &mut Pass<N>) ->
 }
 
 /// Accesses under the lock. Answers the sum of their numbers.
-fn accesses<N: Name>(rt: &impl Wait, board: &SharedBoard<N>, pass: &mut Pass<N>) -> u64
-    requires { 0 < N.state.cpus }
+fn accesses<N: Name>(rt: &impl Wait, board: &SharedBoard<N>, pass: &mut Pass<N>, a: Access) -> u64
+    requires cpus { 0 < N.state.cpus }
+    requires legal { (cpus format : ℕ) → IsTrue (is_legal cpus format a) }
 {
     let mut sum = 0u64;
     for _ in 0..CALLS {
-        if let Ok(reply) = board.access(rt, &OpenGate, pass, 0, 0, READ) {
-            sum = sum.wrapping_add(reply.number);
-        }
+        sum = sum.wrapping_add(number_under_lock(rt, board, pass, a));
     }
     sum
+}
+
+/// One access under the lock. Answers its number.
+#[inline(never)]
+fn number_under_lock<N: Name>(
+    rt: &impl Wait,
+    board: &SharedBoard<N>,
+    pass: &mut Pass<N>,
+    a: Access,
+) -> u64
+    requires cpus { 0 < N.state.cpus }
+    requires legal { (cpus format : ℕ) → IsTrue (is_legal cpus format a) }
+{
+    match board.access(rt, &OpenGate, pass, 0, 0, a) {
+        Ok(reply) => reply.number,
+        Err(_refusal) => 0,
+    }
+}
+
+/// The same accesses, whose replies are put in their place.
+fn answers<N: Name>(rt: &impl Wait, board: &SharedBoard<N>, pass: &mut Pass<N>, a: Access) -> u64
+    requires cpus { 0 < N.state.cpus }
+    requires legal { (cpus format : ℕ) → IsTrue (is_legal cpus format a) }
+{
+    let mut reply = no_reply();
+    let mut sum = 0u64;
+    for _ in 0..CALLS {
+        reply.edges.clear();
+        put_reply_under_lock(rt, board, pass, a, &mut reply);
+        sum = sum.wrapping_add(reply.number);
+    }
+    sum
+}
+
+/// One access under the lock, whose reply is put in its place.
+#[inline(never)]
+fn put_reply_under_lock<N: Name>(
+    rt: &impl Wait,
+    board: &SharedBoard<N>,
+    pass: &mut Pass<N>,
+    a: Access,
+    reply: &mut Reply,
+)
+    requires cpus { 0 < N.state.cpus }
+    requires legal { (cpus format : ℕ) → IsTrue (is_legal cpus format a) }
+    requires fresh { reply.old.edges ≡ [] }
+{
+    let _ = board.answer(rt, &OpenGate, pass, 0, 0, a, reply);
 }

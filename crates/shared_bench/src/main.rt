@@ -3,16 +3,18 @@
 //! With the word `time` it prints, for one, two and four threads, how many reads of a page a second they make together
 //! beside one more thread that publishes it all the while, and how many accesses. With the word of a row one thread
 //! makes those calls, for a program that counts instructions: `page` reads a page without the lock, `reading` does the
-//! arithmetic of such a read alone; `access` reads a port under the lock, `core` the same on a board that isn't shared.
+//! arithmetic of such a read alone; `access` reads a port under the lock, `core` the same on a board that isn't shared;
+//! `answer` and `kept` likewise, with a reply that the caller keeps. With one more word the access does nothing.
 #![tactic(auto)]
 
-ghost use Rattle.std.specs.Prelude.{◌≡◌, IfOk};
+ghost use Rattle.std.specs.Prelude.{◌≡◌, ℕ, IfOk, IsTrue};
+ghost use Rattle.board_types.specs.Legal.{is_legal};
 
 mod alone;
 mod crowd;
 
-use alone::{core_alone, on_shared, reading_alone};
-use board_core::{BoardState, Setup};
+use alone::{Row, asked, core_alone, core_kept, on_shared, reading_alone};
+use board_core::{Access, BoardState, Setup};
 use clock_table::Blank;
 use crowd::{Kind, crowded};
 use host_counter::Anchor;
@@ -26,13 +28,16 @@ use std::{env, io};
 use tick_policy::Policy;
 
 /// How the program is called.
-const USAGE: &str = "usage: shared_bench time|page|reading|access|core";
+const USAGE: &str = "usage: shared_bench time|page|reading|access|core|answer|kept [nothing]";
 
 fn main(rt: HostRuntime) -> io::Result<()> {
     let mut words = env::args(&rt)?.skip(1);
     match words.next() {
         Some(word) if word.as_bytes() == b"time".as_slice() => print_table(&rt, rt.alloc()),
-        Some(word) => run_alone(&rt, rt.alloc(), word.as_bytes()),
+        Some(word) => {
+            let a = asked(words.next().is_some());
+            run_alone(&rt, rt.alloc(), word.as_bytes(), a)
+        }
         None => println!(rt; "{USAGE}"),
     }
 }
@@ -65,20 +70,37 @@ fn rate<R: Threads + Wait + Clock + Sync>(
 }
 
 /// Makes the calls of the row of this word.
-fn run_alone<R: Wait + Print>(rt: &R, alloc: Global, word: &[u8]) -> io::Result<()> {
+fn run_alone<R: Wait + Print>(rt: &R, alloc: Global, word: &[u8], a: Access) -> io::Result<()>
+    requires { (cpus format : ℕ) → IsTrue (is_legal cpus format a) }
+{
     let sum = if word == b"reading".as_slice() {
         reading_alone()
     } else if word == b"core".as_slice() {
-        core_alone(board())
-    } else if word == b"page".as_slice() || word == b"access".as_slice() {
+        core_alone(board(), a)
+    } else if word == b"kept".as_slice() {
+        core_kept(board(), a)
+    } else if let Some(row) = row_of(word) {
         let state = board();
         let blank = blank(alloc, &state)?;
-        on_shared::<Brand, R>(rt, alloc, blank, state, word == b"page".as_slice())?
+        on_shared::<Brand, R>(rt, alloc, blank, state, row, a)?
     } else {
         return println!(rt; "{USAGE}");
     };
     // the sum is used, so that no call can be left out
     println!(rt; "{sum}")
+}
+
+/// The row of a shared board that has this word.
+fn row_of(word: &[u8]) -> Option<Row> {
+    if word == b"page".as_slice() {
+        Some(Row::Page)
+    } else if word == b"access".as_slice() {
+        Some(Row::Access)
+    } else if word == b"answer".as_slice() {
+        Some(Row::Answer)
+    } else {
+        None
+    }
 }
 
 /// The words of a state, where there is memory.

@@ -1,39 +1,5 @@
 -- Reads of pages and clocks, told of passes; and how many reads fill the front word.
-use Rattle.std.proofs.Common.{
-  append-nil,
-  true≢false,
-  ◌≡◌,
-  ◌⊎◌,
-  ℕ,
-  ◌+◌,
-  ◌≤◌,
-  ◌^◌,
-  List,
-  [],
-  ◌∷◌,
-  ◌++◌,
-  refl,
-  ap,
-  sym,
-  ◌∙◌,
-  subst,
-  arith,
-  Option,
-  Some,
-  None,
-  Bool,
-  true,
-  false,
-  if◌then◌else◌,
-  inl,
-  inr,
-  eq-eqb,
-  Result,
-  Ok,
-  Err,
-  IfOk,
-  IfErr,
-}
+use Rattle.std.proofs.Common.{append-nil, ◌≡◌, ◌⊎◌, ℕ, ◌+◌, ◌≤◌, ◌^◌, List, [], ◌∷◌, ◌++◌, refl, ap, sym, ◌∙◌, subst, arith, Option, Some, None, Bool, true, false, if◌then◌else◌, inl, inr, eq-eqb, Result, Ok, Err, IfOk, IfErr}
 use mathlib.Core.List.{IsPrefix}
 use Rattle.pvclock_page.specs.declared.page.Page.{Page}
 use Rattle.pvclock_page.specs.declared.page.PageReply.{PageReply}
@@ -44,7 +10,6 @@ use Rattle.host_counter.specs.declared.Anchor.{Anchor}
 use Rattle.board_types.specs.declared.parts.BoardParts.{BoardParts}
 use Rattle.board_types.specs.declared.parts.TheConstants.{MOST_ACCESSES}
 use Rattle.board_core.specs.Pages.{published_by}
-use Rattle.board_core.specs.Time.{HasTime}
 use Rattle.board_core.proofs.Laws.{after_access-accesses, taken_accesses}
 use Rattle.board_history.specs.Machine.{Machine, machine_of, page_at, ratio_in, reading_by, answer_by}
 use Rattle.board_history.specs.History.{board_after, floor_after, version_after, entries_of, last_of, LegalFrom, IsLegal, Reads}
@@ -57,15 +22,14 @@ use Rattle.clock_table.proofs.Lists.{prefix_trans}
 use Rattle.shared_board.specs.declared.fault.PageFault.{PageFault}
 use Rattle.shared_board.specs.declared.fault.PageFault.TheVariants.{BeforeStart, OutOfRange, Again}
 use Rattle.shared_board.specs.declared.fault.LockedFault.{LockedFault}
-use Rattle.shared_board.specs.declared.fault.LockedFault.TheVariants.{BeforeStart as LockedBefore, OutOfRange as LockedPast, Spent}
 use Rattle.shared_board.specs.declared.known.PassKnown.{PassKnown}
 use Rattle.shared_board.specs.Passes.{Made, Answered, Missed}
 use Rattle.shared_board.specs.Pages.{HadRoom, PageWasRead, ClockWasRead, HasTriedPage, HasTriedClock, HasLockedPage, HasLockedClock, HasReadPage, HasReadClock}
-use Rattle.shared_board.specs.Faults.{page_reads, IsPageFault, IsLockedFault, IsReadFault}
+use Rattle.shared_board.specs.Faults.{page_reads, IsPageFault}
 use Rattle.shared_board.specs.private.Seats.{known, IsAtRest, IsBelow, IsLastRead, HasClamped}
 use Rattle.shared_board.specs.private.Tries.{HasAnswer, IsTryFault}
 use Rattle.shared_board.proofs.Seats.{heard_rests, below_heard, below_same}
-use Rattle.shared_board.proofs.Made.{made_of, made_more, made_late, made_last, unmade_late, heard_made, missed_known, missed_rests, tried_on}
+use Rattle.shared_board.proofs.Made.{made_of, made_more, made_late, made_last, heard_made, missed_known, missed_rests, tried_on}
 
 -- how many accesses there are in a list
 abbrev pub boards : List Entry → ℕ

@@ -71,6 +71,7 @@ impl<N: Name> Model for Held<N> {
 impl<N: Name> Held<N> {
     /// The access, whose entry the pass makes; its reply is put into `reply`, whose list is empty. The pen comes to the
     /// pass, and goes back.
+    #[inline(always)]
     pub fn access(
         &mut self,
         table: &ClockTable<N>,
@@ -173,12 +174,13 @@ fn read<N: Name>(
         page,
         locked: true,
     };
-    table.bump(seat, &entry);
+    table.bump_read(seat, &entry);
     Ok(page)
 }
 
 /// The access on the board, whose entry the seat makes that holds the pen. The reply is written in its place, since
 /// each move of it would copy the whole list.
+#[inline(always)]
 pub(crate) fn act<N: Name>(
     table: &ClockTable<N>,
     board: &mut BoardState,
@@ -209,6 +211,7 @@ pub(crate) fn act<N: Name>(
 }
 
 /// Makes the entry of an access that the board has just taken.
+#[inline(always)]
 fn make<N: Name>(
     table: &ClockTable<N>,
     board: &BoardState,
@@ -223,7 +226,7 @@ fn make<N: Name>(
     ensures { Extends (entry_of call reply.now) seat.old seat.new }
 {
     match published_by(call.cpu, call.access) {
-        None => table.bump_access(seat, &call, reply),
-        Some(page) => publish(table, seat, page, &board.page(page), &call, reply),
+        None => table.bump(seat, &call, reply),
+        Some(page) => publish(table, board, seat, page, &call, reply),
     }
 }

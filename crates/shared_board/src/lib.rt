@@ -32,4 +32,3 @@ pub use held::Held;
 pub use known::PassKnown;
 pub use pass::Pass;
 pub use shared::{PassesOut, SharedBoard, Stopped};
-pub use tries::try_page_on;

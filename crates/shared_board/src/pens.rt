@@ -8,9 +8,9 @@ ghost use Rattle.clock_table.specs.Steps.{pen_left, Extends, loud};
 ghost use Rattle.clock_table.specs.Calls.{IsPen, IsNext, IsPublishing, entry_of};
 ghost use Rattle.shared_board.specs.private.Seats.{PenMoved};
 
-use board_core::{Access, MSR_KVM_SYSTEM_TIME, MSR_TSC, MSR_TSC_ADJUST, Reply};
+use board_core::{Access, BoardState, MSR_KVM_SYSTEM_TIME, MSR_TSC, MSR_TSC_ADJUST, Reply};
 use clock_table::{Call, ClockSeat, ClockTable, Field, Name};
-use pvclock_page::{Page, page_words};
+use pvclock_page::page_words;
 
 /// Moves the pen from one seat to another, which has then seen all accesses and locked reads. It answers the front word.
 pub(crate) fn move_pen<N: Name>(
@@ -46,30 +46,33 @@ pub(crate) fn published_by(cpu: u8, a: Access) -> Option<u8>
     }
 }
 
-/// Publishes a page, and makes the entry of the access that does.
+/// Publishes the page of a processor, and makes the entry of the access that does. It stands apart, so that an access
+/// that publishes nothing needs no room for a page.
+#[inline(never)]
 pub(crate) fn publish<N: Name>(
     table: &ClockTable<N>,
+    board: &BoardState,
     seat: &mut ClockSeat<N>,
     cpu: u8,
-    page: &Page,
     call: &Call,
     reply: &Reply,
 )
+    requires there { cpu < board.now.cpus }
     requires cpu { cpu < N.state.cpus }
     requires pen { IsPen seat.old }
     requires shut { seat.old.hand ≡ None }
     requires room { version_after seat.old.seen cpu < LAST_VERSION }
     requires page { page_at (board_after (seat.old.seen ++ entry_of call.now reply.now ∷ [])) cpu
-        ≡ page.now }
+        ≡ page_at board.now cpu }
     requires publishes { IsPublishing cpu (entry_of call.now reply.now) }
     requires next { IsNext (entry_of call.now reply.now) seat.old }
     ensures { Extends (entry_of call.now reply.now) seat.old seat.new }
 {
-    let [_, stamp, system, scale, offset] = page_words(page);
+    let [_, stamp, system, scale, offset] = page_words(&board.page(cpu));
     table.begin(seat, cpu);
     table.put(seat, cpu, Field::Stamp, stamp);
     table.put(seat, cpu, Field::System, system);
     table.put(seat, cpu, Field::Scale, scale);
     table.put(seat, cpu, Field::Offset, offset);
-    table.finish_access(seat, cpu, call, reply);
+    table.finish(seat, cpu, call, reply);
 }

@@ -22,7 +22,7 @@ use crate::held::{Held, no_reply};
 use crate::host::HostClock;
 use crate::pass::Pass;
 use crate::stop::{join_all, new_passes};
-use crate::tries::try_page_by;
+use crate::tries::try_page_on;
 use board_core::{Access, BoardState, Refusal, Reply};
 use board_history::answer_by;
 use board_io::Gate;
@@ -31,7 +31,7 @@ use clock_table::{Blank, ClockTable, Name};
 use host_counter::TimeFault;
 use pvclock_page::{ClockReply, PageReply};
 use std::alloc::Global;
-use std::sync::{Mutex, Wait};
+use std::sync::{Mutex, MutexGuard, Wait};
 use tsc_scale::ratio;
 
 /// A board that threads share: its registers behind one lock, its pages beside it.
@@ -123,8 +123,9 @@ impl<N: Name> SharedBoard<N> {
     }
 
     /// The same, for a caller that keeps the reply: it is put in its place, where the list of edges is empty. It moves
-    /// no list, so it is the faster of the two.
-    #[inline(never)]
+    /// no list, so it is the faster of the two. Its code goes into each caller, with that of the board's own access: no
+    /// refusal goes through memory, and one that makes one kind of access alone asks for no kind.
+    #[inline(always)]
     pub fn answer<R: Wait, G: Gate>(
         &self,
         rt: &R,
@@ -143,9 +144,25 @@ impl<N: Name> SharedBoard<N> {
         ensures err { IfErr result (λ f. Refused cpu h a f pass.old pass.new) }
         ensures unchanged { OnErr result (reply.new ≡ reply.old) }
     {
-        let mut held = self.held.lock(rt);
+        let mut held = self.lock(rt);
         gate.inside(rt, cpu);
         held.access(&self.table, pass, cpu, h, a, reply)
+    }
+
+    /// Takes the lock.
+    #[inline(always)]
+    fn lock<R: Wait>(&self, rt: &R) -> MutexGuard<'_, Held<N>> {
+        match self.held.try_lock() {
+            Some(held) => held,
+            None => self.lock_behind(rt),
+        }
+    }
+
+    /// Takes the lock behind another thread. It stands apart, so that a lock that is free costs one exchange.
+    #[cold]
+    #[inline(never)]
+    fn lock_behind<R: Wait>(&self, rt: &R) -> MutexGuard<'_, Held<N>> {
+        self.held.lock(rt)
     }
 
     // It stands where it is called from, so that a caller who asks for the reading alone moves no page.
@@ -157,7 +174,7 @@ impl<N: Name> SharedBoard<N> {
         ensures ok { IfOk result (λ r. HasTriedPage N.state cpu h r pass.old pass.new) }
         ensures err { IfErr result (λ f. IsPageFault N.state.anchor cpu h f pass.old pass.new) }
     {
-        try_page_by(&self.table, &self.host, self.ratio, &mut pass.seat, cpu, h)
+        try_page_on(&self.table, &self.host, self.ratio, &mut pass.seat, cpu, h)
     }
 
     /// Reads the clock by the page of `cpu` at count `h`, without the lock.
@@ -191,7 +208,7 @@ impl<N: Name> SharedBoard<N> {
             Err(TimeFault::OutOfRange { ns }) => return Err(LockedFault::OutOfRange { ns }),
             Ok(()) => {}
         }
-        match self.held.lock(rt).page(&self.table, pass, cpu, h) {
+        match self.lock(rt).page(&self.table, pass, cpu, h) {
             Ok(page) => Ok(answer_by(self.ratio, &page, h)),
             Err(front) => Err(LockedFault::Spent { front }),
         }

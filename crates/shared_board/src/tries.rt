@@ -1,6 +1,5 @@
 //! Reads without the lock.
 ghost use Rattle.std.specs.Prelude.{◌≡◌, ◌<◌, IfOk, IfErr, OnOk};
-ghost use Rattle.clk_units.specs.Ranges.{IsKhz};
 ghost use Rattle.board_core.specs.Time.{HasTime};
 ghost use Rattle.clock_table.specs.Calls.{IsPass};
 ghost use Rattle.shared_board.specs.private.Tries.{HasHeard, HasMissed, HasAnswer, IsTryFault};
@@ -9,7 +8,7 @@ use crate::fault::PageFault;
 use crate::host::HostClock;
 use board_history::answer_by;
 use clock_table::{ClockSeat, ClockTable, Field, Name};
-use host_counter::{Anchor, TimeFault};
+use host_counter::TimeFault;
 use pvclock_page::{Page, PageReply, words_page};
 
 /// What the two loads of the version gave, where they met an update.
@@ -51,27 +50,8 @@ fn read_words<N: Name>(
 }
 
 /// Reads a page of a table at count `h`, without a lock. `ratio` is that of the guest's TSC to the host's counter.
-pub fn try_page_on<N: Name>(
-    table: &ClockTable<N>,
-    anchor: &Anchor,
-    ratio: u64,
-    seat: &mut ClockSeat<N>,
-    cpu: u8,
-    h: u64,
-) -> Result<PageReply, PageFault>
-    requires rate { IsKhz anchor.now.khz }
-    requires cpu { cpu < N.state.cpus }
-    requires pass { IsPass seat.old }
-    ensures time { OnOk result (HasTime anchor.now h) }
-    ensures ok { IfOk result (λ reply. HasAnswer ratio cpu h reply seat.old seat.new) }
-    ensures err { IfErr result (λ f. IsTryFault anchor.now cpu h f seat.old seat.new) }
-{
-    try_page_by(table, &HostClock::new(*anchor), ratio, seat, cpu, h)
-}
-
-/// The same, for a caller that keeps the host's clock.
 #[inline(always)]
-pub(crate) fn try_page_by<N: Name>(
+pub(crate) fn try_page_on<N: Name>(
     table: &ClockTable<N>,
     host: &HostClock,
     ratio: u64,

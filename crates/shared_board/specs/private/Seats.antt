@@ -1,22 +1,5 @@
 -- The seats between two calls, and the way of the pen from one to another.
-use Rattle.std.specs.Prelude.{
-  ◌≡◌,
-  ◌⊎◌,
-  ℕ,
-  ◌<◌,
-  ◌≤◌,
-  ◌^◌,
-  List,
-  [],
-  ◌∷◌,
-  map,
-  Option,
-  Some,
-  None,
-  Bool,
-  true,
-  false,
-}
+use Rattle.std.specs.Prelude.{◌≡◌, ◌⊎◌, ℕ, ◌<◌, ◌≤◌, ◌^◌, List, [], ◌∷◌, map, Some, None, Bool, true, false}
 use mathlib.Core.List.{IsPrefix}
 use Rattle.board_types.specs.declared.parts.BoardParts.{BoardParts}
 use Rattle.board_types.specs.declared.reply.Refusal.{Refusal}
@@ -27,7 +10,7 @@ use Rattle.board_core.specs.Pages.{with_greatest}
 use Rattle.board_history.specs.Machine.{Machine, ratio_in, answer_by}
 use Rattle.board_history.specs.History.{IsAnswered, IsLegal, board_after, entries_of, last_of}
 use Rattle.board_history.specs.declared.entry.Entry.{Entry}
-use Rattle.board_history.specs.declared.entry.Entry.TheVariants.{Board, PageRead, Clamp}
+use Rattle.board_history.specs.declared.entry.Entry.TheVariants.{PageRead, Clamp}
 use Rattle.pvclock_page.specs.declared.page.ClockReply.{ClockReply}
 use Rattle.pvclock_page.specs.declared.page.ClockReply.TheVariants.{
   Off as ClockOff,

@@ -5,6 +5,8 @@ ghost use Rattle.board_history.specs.Machine.{page_at};
 
 use super::*;
 use crate::held::{act, no_reply};
+use crate::host::HostClock;
+use crate::tries::try_page_on;
 use clock_table::{Call, ClockTable, Field};
 
 #[test]
@@ -22,7 +24,7 @@ fn tried_while_open<N: Name, R: Abort>(rt: &R, blank: Blank, state: BoardState) 
     requires rate { IsKhz state.anchor.khz }
     requires passes { 2 ≡ N.passes }
 {
-    let anchor = state.anchor();
+    let host = HostClock::new(state.anchor());
     let (table, mut writer) = ClockTable::<N>::new(blank);
     let mut one = table.split_pass(&mut writer);
     let mut two = table.split_pass(&mut writer);
@@ -35,7 +37,7 @@ fn tried_while_open<N: Name, R: Abort>(rt: &R, blank: Blank, state: BoardState) 
         second: 1,
     };
     assert_eq!(rt;
-        try_page_on(&table, &anchor, 1 << 49, &mut two, 0, 0),
+        try_page_on(&table, &host, 1 << 49, &mut two, 0, 0),
         Err(again)
     );
     Ok(())

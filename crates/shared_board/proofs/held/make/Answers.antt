@@ -11,8 +11,8 @@ use Rattle.clock_table.specs.Calls.{entry_of}
 use Rattle.shared_board.proofs.Seats.{alike_page, applied_place}
 use Rattle.shared_board.proofs.held.make.Goals as goal
 
-pub page-requires : goal.page-requires
-page-requires g c =
+pub publish-requires-clause-there : goal.publish-requires-clause-there
+publish-requires-clause-there g c =
     applied_place c.args.board.now (board_after c.args.seat.now.seen) c.args.call c.args.reply.now c.in-Some.page c.requires.applied
     (sym c.published_by.ensures ∙ c.in-Some.is)
 
@@ -35,4 +35,4 @@ publish-requires-clause-page g c =
     let call = c.args.call in
     let d : BoardParts = board_after c.args.seat.now.seen in
     ap (λ (b : BoardParts). page_at b c.in-Some.page) (board_after-snoc c.args.seat.now.seen (entry_of call c.args.reply.now))
-    ∙ (sym (alike_page c.args.board.now (after_access d call.cpu call.h call.access) c.in-Some.page c.requires.applied.after) ∙ sym c.page.ensures.value)
+    ∙ sym (alike_page c.args.board.now (after_access d call.cpu call.h call.access) c.in-Some.page c.requires.applied.after)

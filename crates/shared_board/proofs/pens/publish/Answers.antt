@@ -27,21 +27,21 @@ put-requires-4-clause-open g c =
     (sym (c.put-3.ensures ∙ ap (put_in 2 _) (c.put-2.ensures ∙ ap (put_in 1 _) (c.put.ensures ∙ ap (put_in 0 _) c.begin.ensures))))
     (open_4 c.args.cpu _ _ _ c.args.seat.now)
 
-pub finish_access-requires-clause-open : goal.finish_access-requires-clause-open
-finish_access-requires-clause-open g c =
-    let p = c.args.page.now in
+pub finish-requires-clause-open : goal.finish-requires-clause-open
+finish-requires-clause-open g c =
+    let p = c.page.result in
     let v = c.args.seat.now in
     subst (λ (u : View). HasPut c.args.cpu (page_at (board_after (u.seen ++ (entry_of c.args.call.now c.args.reply.now) ∷ [])) c.args.cpu) u)
-    (sym (put_four c.args.cpu c.page_words.result c.args.page.now c.args.seat.now c.begin.new.seat c.put.new.seat c.put-2.new.seat c.put-3.new.seat
+    (sym (put_four c.args.cpu c.page_words.result p c.args.seat.now c.begin.new.seat c.put.new.seat c.put-2.new.seat c.put-3.new.seat
     c.put-4.new.seat c.begin.ensures c.put.ensures c.put-2.ensures c.put-3.ensures c.put-4.ensures c.page_words.ensures.value))
-    (subst (λ (q : Page). HasPut c.args.cpu q (put_all c.args.cpu (field_at p 0) (field_at p 1) (field_at p 2) (field_at p 3) v)) (sym c.requires.page)
+    (subst (λ (q : Page). HasPut c.args.cpu q (put_all c.args.cpu (field_at p 0) (field_at p 1) (field_at p 2) (field_at p 3) v)) (c.page.ensures.value ∙ sym c.requires.page)
     (all_put c.args.cpu p v))
 
 pub returns : goal.returns
 returns g c =
-    let p = c.args.page.now in
+    let p = c.page.result in
     let v = c.args.seat.now in
-    extends_from c.args.cpu (field_at p 0) (field_at p 1) (field_at p 2) (field_at p 3) (entry_of c.args.call.now c.args.reply.now) v c.finish_access.new.seat
-    (subst (λ (u : View). Extends (entry_of c.args.call.now c.args.reply.now) u c.finish_access.new.seat)
-    (put_four c.args.cpu c.page_words.result c.args.page.now c.args.seat.now c.begin.new.seat c.put.new.seat c.put-2.new.seat c.put-3.new.seat
-    c.put-4.new.seat c.begin.ensures c.put.ensures c.put-2.ensures c.put-3.ensures c.put-4.ensures c.page_words.ensures.value) c.finish_access.ensures)
+    extends_from c.args.cpu (field_at p 0) (field_at p 1) (field_at p 2) (field_at p 3) (entry_of c.args.call.now c.args.reply.now) v c.finish.new.seat
+    (subst (λ (u : View). Extends (entry_of c.args.call.now c.args.reply.now) u c.finish.new.seat)
+    (put_four c.args.cpu c.page_words.result p c.args.seat.now c.begin.new.seat c.put.new.seat c.put-2.new.seat c.put-3.new.seat
+    c.put-4.new.seat c.begin.ensures c.put.ensures c.put-2.ensures c.put-3.ensures c.put-4.ensures c.page_words.ensures.value) c.finish.ensures)

@@ -1,6 +1,6 @@
 use Rattle.std.proofs.Common.{ap, sym, ◌∙◌, arith}
 use Rattle.clock_table.proofs.Entries.{bump_allowed}
-use Rattle.clock_table.proofs.table.bump_access_as.Goals as goal
+use Rattle.clock_table.proofs.table.bump_read_as.Goals as goal
 
 pub fetch_add-requires : goal.fetch_add-requires
 fetch_add-requires g c = let t = c.args.table.now in (
