@@ -59,6 +59,7 @@ use Rattle.trace_loop.specs.Progress.{
 }
 use Rattle.trace_loop.specs.Cut.{Cut, IsLine, IsWhole}
 use Rattle.trace_loop.specs.Outcome.{Begins, Run, run_of, IsText, IsSourceFault, IsMemoryFault, Outcome, Said}
+use Rattle.trace_loop.specs.Going.{IsAsked, Stands}
 use Rattle.trace_loop.specs.declared.ended.Ended.{Ended}
 use Rattle.trace_loop.specs.declared.ended.Ended.TheVariants as statuses
 use Rattle.trace_loop.proofs.Progresses.{behind-++, behind-bytes, behind-line, behind-excess, replay-starts, replay-ended, finished-behind}
@@ -91,23 +92,6 @@ said-behind status result c0 c1 c2 first second f0 f1 f2 more before (inr cut) =
     Appends-trans c0 c1 c2 first cut.2.0 before cut.2.2,
   ),
 )
-
--- what was put before the source was called last is what was printed behind the bytes that it had given
-pub record IsAsked (A E : Type 0) (answer : ℕ → A → List ℕ → Answer A E) (closing : ℕ → A → Closing E) (a : A) (input put : List ℕ)
-    (before place : ℕ) : Type 0 where
-  pub least : before ≤ place
-  pub printed_ : (behind answer (take before input) (opened a)).printed ≡ put
-  pub going : (behind answer (take before input) (opened a)).end ≡ None
-
--- where a run stands in an input: `heard` is answered or stands in the present line, `left` was given and is to be
--- heard, and `rest` is to be given; `put` was put, and `out` is to be
-pub record Stands (A E : Type 0) (answer : ℕ → A → List ℕ → Answer A E) (closing : ℕ → A → Closing E) (a : A) (input left rest put out : List ℕ)
-    (given before : ℕ) (s : Progress A E) : Type 0 where
-  pub bytes : List ℕ
-  pub whole : input ≡ (bytes ++ left) ++ rest
-  pub count : length bytes + length left ≡ given
-  pub there : behind answer bytes (opened a) ≡ s
-  pub asked : 0 < length left + length out → IsAsked A E answer closing a input put before (length bytes)
 
 -- what a source gave was at the front of what it had left
 pub consumed : (a b : Option (List ℕ)) (rest piece : List ℕ) → a ≡ Some rest → Consumes a b piece → (more : List ℕ) × (b ≡ Some more) × (rest ≡ piece ++ more)
@@ -168,7 +152,7 @@ module _ (A E : Type 0) (answer : ℕ → A → List ℕ → Answer A E) (closin
       )
 
   -- nothing was given yet
-  pub stands_start : (input : List ℕ) (before : ℕ) → Stands A E answer closing a input [] input [] [] 0 before (opened a)
+  pub stands_start : (input : List ℕ) (before : ℕ) → Stands A E answer a input [] input [] [] 0 before (opened a)
   stands_start input before = record { bytes = []; whole = refl; count = refl; there = refl; asked = λ some. absurd (omega arith) }
 
   told_goes : (x : Answer A E) (line : ℕ) (text : List ℕ) (state : A) (before : List ℕ) → None ≡ end_of x → told x (standing line text state before)
@@ -181,15 +165,15 @@ module _ (A E : Type 0) (answer : ℕ → A → List ℕ → Answer A E) (closin
   told_ends (Goes block b) line text state before status is = cc
   told_ends (Ends r) line text state before status is = (sym is, refl)
 
-  later : (input put : List ℕ) (before place more : ℕ) → place ≤ more → IsAsked A E answer closing a input put before place
-      → IsAsked A E answer closing a input put before more
+  later : (input put : List ℕ) (before place more : ℕ) → place ≤ more → IsAsked A E answer a input put before place
+      → IsAsked A E answer a input put before more
   later input put before place more on asked = record { least = omega (arith, asked.least); printed_ = asked.printed_; going = asked.going }
 
   -- a line is answered, and the trace goes on
   pub stands_line : (input rest put out grown : List ℕ) (given before line : ℕ) (state now : A) (old new : Cut)
-      → Stands A E answer closing a input old.left rest put out given before (standing line old.text state (put ++ out)) → IsLine old new
+      → Stands A E answer a input old.left rest put out given before (standing line old.text state (put ++ out)) → IsLine old new
       → None ≡ end_of (answer line state new.line) → grown ≡ out ++ printed (answer line state new.line) → now ≡ state_behind (answer line state new.line) state
-      → Stands A E answer closing a input new.left rest put grown given before (standing (line + 1) new.text now (put ++ grown))
+      → Stands A E answer a input new.left rest put grown given before (standing (line + 1) new.text now (put ++ grown))
   stands_line input rest put out grown given before line state now old new s l none shown is =
       let h = line_heard s.bytes line state (put ++ out) old new s.there l in
       let x : Answer A E = answer line state new.line in
@@ -203,12 +187,12 @@ module _ (A E : Type 0) (answer : ℕ → A → List ℕ → Answer A E) (closin
             ∙ ap (λ (b : A). standing (line + 1) new.text b ((put ++ out) ++ printed x)) (sym is)
             ∙ ap (λ (p : List ℕ). standing (line + 1) new.text now p) (append_assoc put out (printed x) ∙ ap (λ (p : List ℕ). put ++ p) (sym shown));
         asked = λ some. later input put before (length s.bytes) (length (s.bytes ++ h.0)) (omega (arith, length-append s.bytes h.0))
-            (s.asked (omega (arith, h.3)));
+            (s.asked (omega (arith, h.3, s.count)));
       }
 
   -- a line is answered, and ends the trace
   pub ends_line : (input rest put out grown : List ℕ) (given before line : ℕ) (state : A) (status : E) (old new : Cut)
-      → Stands A E answer closing a input old.left rest put out given before (standing line old.text state (put ++ out)) → IsLine old new
+      → Stands A E answer a input old.left rest put out given before (standing line old.text state (put ++ out)) → IsLine old new
       → Some status ≡ end_of (answer line state new.line) → grown ≡ out ++ printed (answer line state new.line)
       → (finished answer closing (behind answer input (opened a)) ≡ record { text = put ++ grown; end = status }) × (0 < length old.left)
   ends_line input rest put out grown given before line state status old new s l some shown =
@@ -229,8 +213,8 @@ module _ (A E : Type 0) (answer : ℕ → A → List ℕ → Answer A E) (closin
 
   -- the bytes that were left stand in the line
   pub stands_whole : (input rest put out : List ℕ) (given before line : ℕ) (state : A) (old new : Cut)
-      → Stands A E answer closing a input old.left rest put out given before (standing line old.text state (put ++ out)) → IsWhole old new
-      → Stands A E answer closing a input [] rest put out given before (standing line new.text state (put ++ out))
+      → Stands A E answer a input old.left rest put out given before (standing line old.text state (put ++ out)) → IsWhole old new
+      → Stands A E answer a input [] rest put out given before (standing line new.text state (put ++ out))
   stands_whole input rest put out given before line state old new s l =
       let len : length new.text ≡ length old.text + length old.left = ap length l.text ∙ length-append old.text old.left in
       record {
@@ -248,7 +232,7 @@ module _ (A E : Type 0) (answer : ℕ → A → List ℕ → Answer A E) (closin
 
   -- what is to be put is put, and then the source is called
   pub stands_put : (input rest put out : List ℕ) (given before line : ℕ) (text : List ℕ) (state : A)
-      → Stands A E answer closing a input [] rest put out given before (standing line text state (put ++ out))
+      → Stands A E answer a input [] rest put out given before (standing line text state (put ++ out))
       → (input ≡ take given input ++ rest) × (length (take given input) ≡ given) ×
       (behind answer (take given input) (opened a) ≡ standing line text state (put ++ out))
   stands_put input rest put out given before line text state s =
@@ -259,9 +243,9 @@ module _ (A E : Type 0) (answer : ℕ → A → List ℕ → Answer A E) (closin
 
   -- a piece more was given
   pub stands_piece : (input rest more piece put out : List ℕ) (given before asked now line : ℕ) (text : List ℕ) (state : A)
-      → Stands A E answer closing a input [] rest put out given before (standing line text state (put ++ out)) → rest ≡ piece ++ more → asked ≡ given → now
+      → Stands A E answer a input [] rest put out given before (standing line text state (put ++ out)) → rest ≡ piece ++ more → asked ≡ given → now
       ≡ given + length piece
-      → Stands A E answer closing a input piece more (put ++ out) [] now asked (standing line text state ((put ++ out) ++ []))
+      → Stands A E answer a input piece more (put ++ out) [] now asked (standing line text state ((put ++ out) ++ []))
   stands_piece input rest more piece put out given before asked now line text state s parts is count =
       let t = stands_put input rest put out given before line text state s in
       let same : behind answer (take asked input) (opened a)
@@ -323,13 +307,13 @@ module _ (A E : Type 0) (answer : ℕ → A → List ℕ → Answer A E) (closin
   run_here : Run A E
   run_here = run_of answer closing a input before given f f'
 
-  held : (put : List ℕ) (place : ℕ) → IsAsked A E answer closing a input put before place → Begins (behind answer (take before input) (opened a)).printed put
+  held : (put : List ℕ) (place : ℕ) → IsAsked A E answer a input put before place → Begins (behind answer (take before input) (opened a)).printed put
   held put place asked = ([], sym asked.printed_ ∙ sym (append-nil (behind answer (take before input) (opened a)).printed))
 
   -- a line ended the trace
   pub out_ended : (end : E) (result : Ended E) (put last : List ℕ) (place : ℕ) (c0 c1 c2 : Option (List ℕ)) (fault : Type 0)
       → finished answer closing (behind answer input (opened a)) ≡ record { text = put ++ last; end = end } → f' ≡ f
-      → IsAsked A E answer closing a input put before place → Appends c0 c1 put
+      → IsAsked A E answer a input put before place → Appends c0 c1 put
       → Said (statuses.By end) result c1 c2 last fault → Outcome (run_of answer closing a input before given f f') result c0 c2
   out_ended end result put last place c0 c1 c2 fault is well asked shown said =
       said_out A E (run_of answer closing a input before given f f') (statuses.By end) result put last c0 c1 c2 fault shown (held put place asked)
@@ -340,7 +324,7 @@ module _ (A E : Type 0) (answer : ℕ → A → List ℕ → Answer A E) (closin
   pub out_memory : (result : Ended E) (put last text : List ℕ) (place : ℕ) (c0 c1 c2 : Option (List ℕ)) (fault : Type 0)
       → (behind answer (take place input) (opened a)).printed ≡ put ++ text → (behind answer (take place input) (opened a)).end ≡ None → place ≤ given → last
       ≡ text ++ memory_fault_text → f' ≡ f
-      → IsAsked A E answer closing a input put before place → Appends c0 c1 put
+      → IsAsked A E answer a input put before place → Appends c0 c1 put
       → Said statuses.NoMemory result c1 c2 last fault → Outcome (run_of answer closing a input before given f f') result c0 c2
   out_memory result put last text place c0 c1 c2 fault is going within parts well asked shown said =
       let memory : IsMemoryFault (run_of answer closing a input before given f f') (put ++ last) = (
@@ -357,7 +341,7 @@ module _ (A E : Type 0) (answer : ℕ → A → List ℕ → Answer A E) (closin
   -- the source failed
   pub out_source : (result : Ended E) (put : List ℕ) (place : ℕ) (c0 c1 c2 : Option (List ℕ)) (fault : Type 0)
       → (behind answer (take given input) (opened a)).printed ≡ put → (behind answer (take given input) (opened a)).end ≡ None → Rose f f'
-      → IsAsked A E answer closing a input put before place → Appends c0 c1 put
+      → IsAsked A E answer a input put before place → Appends c0 c1 put
       → Said statuses.SourceFault result c1 c2 source_fault_text fault → Outcome (run_of answer closing a input before given f f') result c0 c2
   out_source result put place c0 c1 c2 fault is going rose asked shown said =
       let source : IsSourceFault (run_of answer closing a input before given f f') (put ++ source_fault_text) =
@@ -367,7 +351,7 @@ module _ (A E : Type 0) (answer : ℕ → A → List ℕ → Answer A E) (closin
 
   -- the sink failed
   pub out_sink : (put last more : List ℕ) (place : ℕ) (c0 c1 c2 : Option (List ℕ)) → (finished answer closing (behind answer input (opened a))).text
-      ≡ put ++ (last ++ more) → f' ≡ f → IsAsked A E answer closing a input put before place → Appends c0 c1 put
+      ≡ put ++ (last ++ more) → f' ≡ f → IsAsked A E answer a input put before place → Appends c0 c1 put
       → (cut : List ℕ) × Begins cut last × Appends c1 c2 cut → Outcome (run_of answer closing a input before given f f') statuses.SinkFault c0 c2
   out_sink put last more place c0 c1 c2 is well asked shown cut =
       cut_off A E (run_of answer closing a input before given f f') put last more
@@ -376,7 +360,7 @@ module _ (A E : Type 0) (answer : ℕ → A → List ℕ → Answer A E) (closin
 -- the place where a run stands, as a number of bytes
 pub stands_at : (A E : Type 0) (answer : ℕ → A → List ℕ → Answer A E) (closing : ℕ → A → Closing E) (a : A) (input left rest put out : List ℕ)
     (given before line : ℕ) (text : List ℕ) (state : A)
-    → (s : Stands A E answer closing a input left rest put out given before (standing line text state (put ++ out)))
+    → (s : Stands A E answer a input left rest put out given before (standing line text state (put ++ out)))
     → behind answer (take (length s.bytes) input) (opened a) ≡ standing line text state (put ++ out)
 stands_at A E answer closing a input left rest put out given before line text state s =
     ap (λ (l : List ℕ). behind answer l (opened a))
@@ -385,7 +369,7 @@ stands_at A E answer closing a input left rest put out given before line text st
 -- what is printed behind the bytes so far is at the front of what is printed for the whole
 pub stands_starts : (A E : Type 0) (answer : ℕ → A → List ℕ → Answer A E) (closing : ℕ → A → Closing E) (a : A) (input left rest put out : List ℕ)
     (given before line : ℕ) (text : List ℕ) (state : A)
-    → Stands A E answer closing a input left rest put out given before (standing line text state (put ++ out))
+    → Stands A E answer a input left rest put out given before (standing line text state (put ++ out))
     → (more : List ℕ) × ((finished answer closing (behind answer input (opened a))).text ≡ put ++ (out ++ more))
 stands_starts A E answer closing a input left rest put out given before line text state s =
     let parts : input ≡ s.bytes ++ (left ++ rest) = s.whole ∙ append_assoc s.bytes left rest in
@@ -427,8 +411,8 @@ line_shorter old new l = by_end l.end
 -- all was put before the source is called: what is printed behind the bytes given
 pub stands_asked : (A E : Type 0) (answer : ℕ → A → List ℕ → Answer A E) (closing : ℕ → A → Closing E) (a : A) (input rest put out : List ℕ)
     (given before asked line : ℕ) (text : List ℕ) (state : A)
-    → Stands A E answer closing a input [] rest put out given before (standing line text state (put ++ out)) → asked ≡ given
-    → IsAsked A E answer closing a input (put ++ out) asked given
+    → Stands A E answer a input [] rest put out given before (standing line text state (put ++ out)) → asked ≡ given
+    → IsAsked A E answer a input (put ++ out) asked given
 stands_asked A E answer closing a input rest put out given before asked line text state s is =
     let same : behind answer (take asked input) (opened a)
     ≡ standing line text state (put ++ out) = ap (λ (n : ℕ). behind answer (take n input) (opened a)) is
@@ -437,16 +421,16 @@ stands_asked A E answer closing a input rest put out given before asked line tex
 
 pub stands_refill : (A E : Type 0) (answer : ℕ → A → List ℕ → Answer A E) (closing : ℕ → A → Closing E) (a : A) (input rest more piece put out : List ℕ)
     (given before asked now line : ℕ) (text : List ℕ) (state : A) (line' : ℕ) (text' out' : List ℕ)
-    → Stands A E answer closing a input [] rest put out given before (standing line text state (put ++ out)) → rest ≡ piece ++ more → asked ≡ given → now
+    → Stands A E answer a input [] rest put out given before (standing line text state (put ++ out)) → rest ≡ piece ++ more → asked ≡ given → now
     ≡ given + length piece → line' ≡ line → text' ≡ text → out' ≡ []
-    → Stands A E answer closing a input piece more (put ++ out) out' now asked (standing line' text' state ((put ++ out) ++ out'))
+    → Stands A E answer a input piece more (put ++ out) out' now asked (standing line' text' state ((put ++ out) ++ out'))
 stands_refill A E answer closing a input rest more piece put out given before asked now line text state line' text' out' s parts is count el et eo =
     rw el (rw et (rw eo (stands_piece A E answer closing a input rest more piece put out given before asked now line text state s parts is count)))
 
 -- the input ended here
 pub stands_end : (A E : Type 0) (answer : ℕ → A → List ℕ → Answer A E) (closing : ℕ → A → Closing E) (a : A) (input rest put out : List ℕ)
     (given before line : ℕ) (text : List ℕ) (state : A) (line' : ℕ) (text' : List ℕ)
-    → Stands A E answer closing a input [] rest put out given before (standing line text state (put ++ out)) → rest ≡ [] → line' ≡ line → text' ≡ text
+    → Stands A E answer a input [] rest put out given before (standing line text state (put ++ out)) → rest ≡ [] → line' ≡ line → text' ≡ text
     → (let r = finished answer closing (standing line' text' state []) in finished answer closing (behind answer input (opened a))
     ≡ record { text = (put ++ out) ++ r.text; end = r.end })
 stands_end A E answer closing a input rest put out given before line text state line' text' s none el et =

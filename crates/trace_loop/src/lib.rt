@@ -7,12 +7,14 @@
 
 mod answerer;
 mod ended;
+mod feed;
 mod lines;
 mod output;
 mod program;
 
 pub use answerer::Answerer;
-pub use ended::Ended;
+pub use ended::{Ended, Turn};
+pub use feed::Feed;
 pub use lines::limit_of;
 pub use output::{put_all, say};
-pub use program::{MEMORY_FAULT, answer_lines};
+pub use program::{MEMORY_FAULT, answer_lines, go_on, run_out};

@@ -1,28 +1,16 @@
-use Rattle.std.proofs.Common.{◌≡◌, ℕ, ◌+◌, ◌-◌, ◌*◌, ◌≤◌, List, ◌++◌, Some, false, length}
-use Rattle.std.specs.Io.KnownBytes.{Appends}
-use Rattle.trace_loop.specs.Progress.{standing}
-use Rattle.trace_loop.proofs.Outcomes.{Stands}
+use Rattle.std.proofs.Common.{◌+◌, ◌-◌}
+use Rattle.trace_loop.specs.Going.{IsFed, IsGoing, ends_of}
 use Rattle.trace_loop.proofs.program.answer_lines.Given as goal
 
--- the progress is the one behind what was cut off or kept, and `out` is what it printed since the last put
-abbrev pub invariant-lines : goal.invariant-lines
-invariant-lines g l =
-    let given : ℕ = g.S.Source.given l.source - g.S.Source.given l.fn.source in
-    let before : ℕ = g.S.Source.before l.source - g.S.Source.given l.fn.source in
+abbrev pub invariant-loop-ended : goal.invariant-loop-ended
+invariant-loop-ended g l =
+    let ends = ends_of g.S.Source.remaining g.S.Source.given g.S.Source.before g.S.Source.faults g.S.Source.done g.S.Source.late
+    g.K.Sink.contents g.K.Sink.faults in
     record {
-      told : (input : List ℕ) → g.S.Source.remaining l.fn.source ≡ Some input
-          → (rest put : List ℕ) × (g.S.Source.remaining l.source ≡ Some rest) × Appends (g.K.Sink.contents l.fn.sink) (g.K.Sink.contents l.sink) put
-          × Stands g.row.T.Denot g.row.E.Denot g.T.Answerer.answer g.T.Answerer.closing l.fn.answerer input l.lines.left rest put l.out.items given before
-          (standing (l.lines.number + 1) l.lines.text l.answerer (put ++ l.out.items));
-      may : g.T.Answerer.may (l.lines.number + 1) l.answerer;
-      lines : l.lines.number + length l.lines.left ≤ given;
-      more : g.S.Source.given l.fn.source ≤ g.S.Source.given l.source;
-      most : g.S.Source.given l.source - g.S.Source.given l.fn.source ≤ 4611686018427387904;
-      quiet : g.S.Source.done l.fn.source ≡ false → g.S.Source.late l.fn.source ≡ false
-          → (g.S.Source.done l.source ≡ false) × (g.S.Source.late l.source ≡ false);
-      source_faults : g.S.Source.faults l.source ≡ g.S.Source.faults l.fn.source;
-      sink_faults : g.K.Sink.faults l.sink ≡ g.K.Sink.faults l.fn.sink;
+      may : g.T.Answerer.may (l.feed.lines.number + 1) l.answerer;
+      fed : IsFed l.feed (g.S.Source.given l.source);
+      going : IsGoing g.row.T.Denot g.row.E.Denot g.T.Answerer.answer l.fn.answerer (ends l.fn.source l.fn.sink) l.answerer l.feed (ends l.source l.sink);
     }
 
-abbrev pub decreases-lines : goal.decreases-lines
-decreases-lines g l = 2 * (4611686018427387904 - g.S.Source.given l.source) + length l.lines.left
+abbrev pub decreases-loop-ended : goal.decreases-loop-ended
+decreases-loop-ended g l = 4611686018427387904 - l.feed.lines.number
