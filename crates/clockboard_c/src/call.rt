@@ -10,7 +10,7 @@ use crate::reply::{ReplyWords, value_words};
 use board_types::Access;
 
 /// One access by processor `cpu` at count `host`: what of it C could have given that no board takes is answered by
-/// a code; else the board answers. Each call of C's has its own copy of this code, in which its kind of access is known.
+/// a code; else the board answers. Each call of C's has its own copy of these tests, in which its kind of access is known.
 #[inline(always)]
 pub(crate) fn call(board: &mut Board, cpu: u8, host: u64, access: Access, reply: &mut ReplyWords)
     ensures reply { IsReply reply.new (told board.old cpu host access) }
@@ -39,8 +39,8 @@ fn early_code(board: &Board, cpu: u8, access: Access) -> Option<u32>
     None
 }
 
-/// The board's answer.
-#[inline(always)]
+/// The board's answer, in one place for all calls: so the board's code for an access stands in it, and not behind a call.
+#[inline(never)]
 fn answer(board: &mut Board, cpu: u8, host: u64, access: Access, reply: &mut ReplyWords)
     requires cpu { cpu < board.old.state.cpus }
     requires legal { IsTrue (is_legal board.old.state.cpus board.old.state.format access) }

@@ -1,11 +1,10 @@
 pub mod Alike
-pub mod Counting
 pub mod Counts
 pub mod Edges
 pub mod Ended
 pub mod Same
 pub mod Settle
-pub mod Stepped
 pub mod Taken
+pub mod Tallies
 pub mod Unread
 pub mod Workers

@@ -212,19 +212,19 @@ unfolding published_below published_at_host
 published_host b khz start gap zero m = refl
 published_host b khz start gap (suc n) m = published_host b khz start gap n m
 
-published_places : (b : BoardParts) (khz start gap n : ℕ) (m : BoardParts) → length (published_below b khz start gap n m).processors ≡ length m.processors
+pub published_places : (b : BoardParts) (khz start gap n : ℕ) (m : BoardParts) → length (published_below b khz start gap n m).processors ≡ length m.processors
 unfolding published_below published_at_host
 published_places b khz start gap zero m = refl
 published_places b khz start gap (suc n) m =
     length-set (published_below b khz start gap n m).processors n _ ∙ published_places b khz start gap n m
 
 -- a page that is published at the host's count, and each other one
-published_here : (m : BoardParts) (n : ℕ) (tsc : Tsc) → n < length m.processors
+pub published_here : (m : BoardParts) (n : ℕ) (tsc : Tsc) → n < length m.processors
     → (processor_at (published_at_host n tsc 3 m) n).version ≡ (processor_at m n).version + 2
 unfolding published_at_host published
 published_here m n tsc l = ap (λ (p : ProcessorParts). p.version) (get_or-set_same m.processors n _ no_processor l)
 
-published_else : (m : BoardParts) (n k : ℕ) (tsc : Tsc) → (k ≡ n → ⊥) → (processor_at (published_at_host n tsc 3 m) k).version ≡ (processor_at m k).version
+pub published_else : (m : BoardParts) (n k : ℕ) (tsc : Tsc) → (k ≡ n → ⊥) → (processor_at (published_at_host n tsc 3 m) k).version ≡ (processor_at m k).version
 unfolding published_at_host
 published_else m n k tsc apart = ap (λ (p : ProcessorParts). p.version) (get_or-set_other m.processors n k _ no_processor apart)
 
@@ -270,7 +270,7 @@ reanchored_host : (khz start gap : ℕ) (b : BoardParts) → (reanchored khz sta
 unfolding reanchored
 reanchored_host khz start gap b = refl
 
-reanchored_processors : (khz start gap : ℕ) (b : BoardParts) → (reanchored khz start gap b).processors ≡ b.processors
+pub reanchored_processors : (khz start gap : ℕ) (b : BoardParts) → (reanchored khz start gap b).processors ≡ b.processors
 unfolding reanchored
 reanchored_processors khz start gap b = refl
 
@@ -279,25 +279,33 @@ module _ (khz start gap : ℕ) where
   unfolding moved_to
   moved_machine b = published_machine b khz start gap b.cpus (reanchored khz start gap b) ∙ reanchored_machine khz start gap b
 
-  moved_accesses : (b : BoardParts) → (moved_to khz start gap b).accesses ≡ b.accesses
+  pub moved_accesses : (b : BoardParts) → (moved_to khz start gap b).accesses ≡ b.accesses
   unfolding moved_to
   moved_accesses b = published_accesses b khz start gap b.cpus (reanchored khz start gap b) ∙ reanchored_accesses khz start gap b
 
-  moved_wall : (b : BoardParts) → (moved_to khz start gap b).wall_version ≡ b.wall_version
+  pub moved_wall : (b : BoardParts) → (moved_to khz start gap b).wall_version ≡ b.wall_version
   unfolding moved_to
   moved_wall b = published_wall b khz start gap b.cpus (reanchored khz start gap b) ∙ reanchored_wall khz start gap b
 
-  moved_host : (b : BoardParts) → (moved_to khz start gap b).host ≡ start
+  pub moved_host : (b : BoardParts) → (moved_to khz start gap b).host ≡ start
   unfolding moved_to
   moved_host b = published_host b khz start gap b.cpus (reanchored khz start gap b) ∙ reanchored_host khz start gap b
 
-  moved_places : (b : BoardParts) → length (moved_to khz start gap b).processors ≡ length b.processors
+  pub moved_places : (b : BoardParts) → length (moved_to khz start gap b).processors ≡ length b.processors
   unfolding moved_to
   moved_places b = published_places b khz start gap b.cpus (reanchored khz start gap b) ∙ ap length (reanchored_processors khz start gap b)
 
-  moved_cpus : (b : BoardParts) → (moved_to khz start gap b).cpus ≡ b.cpus
+  pub moved_cpus : (b : BoardParts) → (moved_to khz start gap b).cpus ≡ b.cpus
   unfolding anew
   moved_cpus b = ap (λ (m : Machine). m.cpus) (moved_machine b)
+
+  pub moved_format : (b : BoardParts) → (moved_to khz start gap b).format ≡ b.format
+  unfolding anew
+  moved_format b = ap (λ (m : Machine). m.format) (moved_machine b)
+
+  pub moved_anchor : (b : BoardParts) → (moved_to khz start gap b).anchor ≡ record { khz = khz; start = start; base_ns = now_of b + gap }
+  unfolding anew
+  moved_anchor b = ap (λ (m : Machine). m.anchor) (moved_machine b)
 
   moved_versions : (b c : BoardParts) → AreAlike b c → (k : ℕ)
       → (processor_at (moved_to khz start gap b) k).version ≡ (processor_at (moved_to khz start gap c) k).version

@@ -2,5 +2,5 @@ pub mod Blocks
 pub mod Calls
 pub mod Order
 pub mod Phases
-pub mod Race
+pub mod Tallies
 pub mod private

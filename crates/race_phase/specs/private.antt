@@ -1,4 +1,5 @@
 -- What proofs and private contracts alone cite.
 pub mod Workers
 pub mod Ran
-pub mod Counted
+pub mod Tallied
+pub mod Told

@@ -1,4 +1,4 @@
-//! Why a trace is refused.
+//! Why a trace is refused: the words of the definition `trace_fault`.
 use board_core::Refusal;
 use host_counter::TimeFault;
 use transfer::MoveFault;

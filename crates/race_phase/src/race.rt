@@ -1,13 +1,10 @@
 //! A trace of phases, run by one thread a processor.
 ghost use Rattle.std.specs.Prelude.{◌≡◌, All, IfOk, None};
-ghost use Rattle.race_phase.specs.Phases.{IsPhase, phase_fault};
-ghost use Rattle.race_phase.specs.Race.{IsOutcome};
+ghost use Rattle.race_phase.specs.Phases.{IsPhase, phase_fault, trace_fault, race_text};
 ghost use Rattle.race_phase.specs.private.Ran.{PhaseRan};
 
-use crate::check::fault_of;
 use crate::deliveries::Deliveries;
 use crate::ends::end_phase;
-use crate::faults::Fault;
 use crate::phase::run_phase;
 use crate::phases::Phase;
 use board_core::BoardState;
@@ -21,15 +18,16 @@ use std::thread::Threads;
 
 /// What a trace gave.
 #[derive(Drop)]
-pub enum Outcome {
-    /// A line is refused. Nothing was run.
-    Refused { fault: Fault },
-    /// The text of all phases, and the board behind the last.
-    Ran { state: BoardState, text: Vec<u8> },
+pub struct Ran {
+    /// The board behind the last phase.
+    pub state: BoardState,
+    /// The text of all phases.
+    pub text: Vec<u8>,
 }
 
-/// Runs a trace of phases. It is checked whole in file order first; then each phase runs on a board that its threads
-/// share, one thread a processor, and ends by its save or move on the board that they leave.
+/// Runs a trace of phases, of which no line is refused in file order: a caller checks that by a
+/// [`Tally`](crate::Tally). Each phase runs on a board that its threads share, one thread a processor, and ends by its
+/// save or move on the board that they leave.
 pub fn run_race<R: Threads + Wait + Sync, G: Gate + Sync>(
     rt: &R,
     alloc: Global,
@@ -37,13 +35,12 @@ pub fn run_race<R: Threads + Wait + Sync, G: Gate + Sync>(
     state: BoardState,
     deliveries: &Deliveries,
     phases: &[Phase],
-) -> Result<Outcome, NoMemory>
-    requires { All (IsPhase state.cpus state.format) phases.now }
-    ensures { IfOk result (λ o. IsOutcome deliveries.now state phases.now o) }
+) -> Result<Ran, NoMemory>
+    requires fitting { All (IsPhase state.cpus state.format) phases.now }
+    requires free { trace_fault state phases.now ≡ None }
+    ensures { IfOk result
+        (λ r. race_text deliveries.now state phases.now r.state r.text.items) }
 {
-    if let Some(fault) = fault_of(&state, phases) {
-        return Ok(Outcome::Refused { fault });
-    }
     let mut now = state;
     let mut text = Vec::new(alloc);
     let mut rest = phases;
@@ -51,7 +48,7 @@ pub fn run_race<R: Threads + Wait + Sync, G: Gate + Sync>(
         now = next(rt, alloc, gate, now, deliveries, phase, &mut text)?;
         rest = tail;
     }
-    Ok(Outcome::Ran { state: now, text })
+    Ok(Ran { state: now, text })
 }
 
 /// Runs one phase and ends it, and gives the board with which the next opens.

@@ -1,3 +1,4 @@
+pub mod Asked
 pub mod CheckQuiet
 pub mod CheckReady
 mod CheckRows
@@ -8,10 +9,12 @@ pub mod Pieces
 pub mod Races
 pub mod PhasesRead
 pub mod ReadyNext
+pub mod Replayed
 pub mod Rows
 mod Sayings
 mod SoakRows
 pub mod Soaks
 pub mod Sounds
+pub mod Started
 pub mod Statuses
 pub mod WholeLines

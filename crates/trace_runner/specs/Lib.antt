@@ -3,9 +3,11 @@ pub mod Checking
 pub mod Deliveries
 pub mod Free
 pub mod Race
+pub mod Opened
 pub mod Ready
 pub mod Records
 pub mod Replay
+pub mod Replayed
 pub mod Said
 pub mod Sayings
 pub mod Soak

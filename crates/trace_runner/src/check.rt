@@ -19,7 +19,17 @@ ghost use Rattle.std.specs.Prelude.{
 ghost use Rattle.std.specs.Io.{StartsWith};
 ghost use Rattle.trace_loop.specs.Progress.{printed, end_of, state_behind};
 ghost use Rattle.trace_text.specs.Lines.{taken, IsOpen, IsItem, IsRecordAt};
+ghost use Rattle.race_phase.specs.Calls.{IsFittingCall};
+ghost use Rattle.race_phase.specs.Phases.{IsEnd, next_board, end_fault};
+ghost use Rattle.reply_text.specs.Text.{refused_text};
 ghost use Rattle.trace_runner.specs.Ready.{Suits};
+ghost use Rattle.trace_runner.specs.Replayed.{
+  board_behind,
+  job_behind,
+  on_board,
+  TakesCall,
+  refused_job,
+};
 ghost use Rattle.trace_runner.specs.Sound.{IsSound};
 ghost use Rattle.trace_runner.specs.Check.{
   check_start,
@@ -39,18 +49,20 @@ ghost use Rattle.trace_runner.specs.Check.{
   has_form,
 };
 
-use crate::replay::{Replay, opening};
+use crate::counting::{count_call, count_end, refused_job};
+use crate::deliveries::deliveries_of;
+use crate::replay::opening;
 use crate::status::{Verdict, refused_by, stop};
 use crate::trace::Trace;
 use board_core::BoardState;
 use clk_units::NoMemory;
-use race_phase::{Call, End, NewHost, Phase, Record};
+use race_phase::{Call, Deliveries, End, NewHost, Phase, Record, Tally};
 use reply_text::Refused;
 use std::alloc::Global;
 use std::marker::Model;
 use std::mem;
 use trace_loop::Answerer;
-use trace_text::{Header, Item, Job, Reason, Record as Written, RecordFault};
+use trace_text::{Begin, Header, Item, Job, Reading, Reason, Record as Written, RecordFault};
 
 /// How many records a trace may have whose processors run on threads of their own.
 const RECORDS_MAX: u64 = 200_000;
@@ -64,11 +76,18 @@ pub(crate) enum Checked {
     Stopped(Verdict),
 }
 
-/// A trace that is checked: its records are answered one after the other, and kept for the processors' threads.
-/// Nothing is printed but a refusal.
+/// A trace that is checked: its records are counted one after the other, in file order, and kept for the processors'
+/// threads. Nothing is printed but a refusal.
+///
+/// Contracts see in it a replay of these records, with the board that they leave. That board isn't there: it is worked
+/// out from the records, and what it refuses is told by a tally of its counts.
 #[derive(Drop)]
 pub(crate) struct Check {
-    replay: Replay,
+    reading: Reading,
+    shows_state: bool,
+    deliveries: Deliveries,
+    /// The counts of the board behind the records.
+    tally: Tally,
     opening: BoardState,
     phases: Vec<Phase>,
     last: Vec<Record>,
@@ -78,16 +97,26 @@ pub(crate) struct Check {
 impl Model for Check {
     ghost use Rattle.trace_runner.specs.Trace.{phases_read};
     ghost use Rattle.trace_runner.specs.Checking.{Checking};
+    ghost use Rattle.trace_runner.specs.Replayed.{replayed};
+    ghost use Rattle.race_phase.specs.Tallies.{IsTally};
 
     ghost Value = { Checking };
 
     ghost view = { λ c. record {
-      replay = c.replay;
+      replay = record {
+        reading = c.reading;
+        shows_state = c.shows_state;
+        board = replayed c.opening (phases_read c.phases.items) c.last.items;
+        deliveries = c.deliveries;
+      };
       opening = c.opening;
       phases = phases_read c.phases.items;
       last = c.last.items;
       taken = c.taken;
     } };
+
+    ghost invariant = { λ c.
+        IsTally (replayed c.opening (phases_read c.phases.items) c.last.items) c.tally };
 }
 
 /// Whether a line that is refused has a record's form.
@@ -105,19 +134,27 @@ impl Check {
     pub(crate) fn new(alloc: Global, shows_state: bool) -> Check
         ensures { result ≡ check_start shows_state }
     {
+        let board = BoardState::power_on(&opening());
         Check {
-            replay: Replay::new(shows_state),
-            opening: BoardState::power_on(&opening()),
+            reading: Reading::new(),
+            shows_state,
+            deliveries: [None; 6],
+            tally: Tally::of_board(&board),
+            opening: board,
             phases: Vec::new(alloc),
             last: Vec::new(alloc),
             taken: 0,
         }
     }
 
-    /// Keeps a record of the phase.
+    /// Keeps a record of the phase, which is answered, and counts it.
     fn push(&mut self, line: u64, given: &Written, call: Call) -> Result<(), NoMemory>
-        requires { self.old.taken < 200000 }
-        ensures { OnOk result (self.new ≡ with_call line given.now call self.old) }
+        requires few { self.old.taken < 200000 }
+        requires cpu { given.now.cpu < self.old.replay.board.cpus }
+        requires fits { IsFittingCall self.old.replay.board.cpus self.old.replay.board.format call }
+        requires free { TakesCall self.old.replay.board given.now.cpu given.now.h call }
+        ensures { OnOk result (self.new ≡ with_call line given.now call
+            (on_board (board_behind self.old.replay.board given.now.cpu given.now.h call) self.old)) }
     {
         let kept = Record {
             line,
@@ -125,31 +162,43 @@ impl Check {
             h: given.h,
             call,
         };
-        self.last.push(kept).map_err(|_| NoMemory)?;
+        let Ok(()) = self.last.push(kept) else {
+            return Err(NoMemory);
+        };
+        count_call(&mut self.tally, given.cpu, given.h, call);
         self.taken += 1;
         Ok(())
     }
 
-    /// Ends the phase.
+    /// Ends the phase by what isn't refused, and counts it. Where memory runs out the phase goes on.
     #[inline(never)]
-    #[tactic(auto, using(crate::proofs::PhasesRead::phases_pushed))]
     fn end_phase(&mut self, end: End) -> Result<(), NoMemory>
-        requires { self.old.taken ≤ 200000 }
-        ensures { OnOk result (self.new ≡ with_end end self.old) }
+        requires few { self.old.taken ≤ 200000 }
+        requires fits { IsEnd self.old.replay.board.cpus end }
+        requires free { end_fault self.old.replay.board end ≡ None }
+        ensures { OnOk result (self.new
+            ≡ with_end end (on_board (next_board end self.old.replay.board) self.old)) }
     {
         let alloc = *self.last.allocator();
         let records = mem::replace(&mut self.last, Vec::new(alloc));
-        self.phases
-            .push(Phase { records, end })
-            .map_err(|_| NoMemory)?;
+        if let Err(failed) = self.phases.push(Phase { records, end }) {
+            self.last = failed.value.records;
+            return Err(NoMemory);
+        }
+        count_end(&mut self.tally, end);
         self.taken += 1;
         Ok(())
     }
 
-    /// Keeps a record: a save and a move end their phase.
+    /// Keeps a record that isn't refused: a save and a move end their phase.
     fn keep(&mut self, line: u64, given: &Written) -> Result<(), NoMemory>
-        requires { self.old.taken < 200000 }
-        ensures { OnOk result (self.new ≡ kept line given.now self.old) }
+        requires few { self.old.taken < 200000 }
+        requires suits { Suits (Item.Next given.now) self.old.replay.board }
+        requires free { refused_job given.now.cpu given.now.h given.now.job self.old.replay.board
+            ≡ None }
+        ensures { OnOk result (self.new ≡ kept line given.now
+            (on_board (job_behind given.now.cpu given.now.h given.now.job self.old.replay.board)
+            self.old)) }
     {
         let cpu = given.cpu;
         let h = given.h;
@@ -165,6 +214,16 @@ impl Check {
         }
     }
 
+    /// Why a record is refused.
+    #[inline(always)]
+    fn refusal(&self, given: &Written) -> Option<Refused>
+        requires { Suits (Item.Next given.now) self.now.replay.board }
+        ensures { result
+            ≡ refused_job given.now.cpu given.now.h given.now.job self.now.replay.board }
+    {
+        refused_job(&self.tally, given)
+    }
+
     /// Whether there is no room for a record more.
     fn is_full(&self) -> bool
         ensures { result ≡ is_full self.now }
@@ -172,7 +231,7 @@ impl Check {
         self.taken >= RECORDS_MAX
     }
 
-    /// Answers a record as a replay would, and keeps it.
+    /// Refuses a record where a replay would, or keeps it.
     fn take(
         &mut self,
         line: u64,
@@ -190,11 +249,9 @@ impl Check {
         if self.is_full() {
             return many(line, out);
         }
-        let whole = out.len();
-        if let Some(verdict) = self.replay.answer_record(line, given, out)? {
-            return Ok(Some(Checked::Stopped(verdict)));
+        if let Some(why) = self.refusal(given) {
+            return stopped(line, why, out);
         }
-        out.truncate(whole);
         self.keep(line, given)?;
         Ok(None)
     }
@@ -204,14 +261,18 @@ impl Check {
         requires { Suits (Item.Begun header.now) self.old.replay.board }
         ensures { self.new ≡ begun header.now self.old }
     {
-        self.replay.begin(header);
-        self.opening = *self.replay.board.state();
+        self.opening = match header.begin {
+            Begin::Fresh(setup) => BoardState::power_on(&setup),
+            Begin::Saved(board) => board,
+        };
+        self.deliveries = deliveries_of(&header.routes);
+        self.tally = Tally::of_board(&self.opening);
         self.phases.clear();
         self.last.clear();
         self.taken = 0;
     }
 
-    /// The trace, which was read to its end.
+    /// The trace, which was read to its end. The check is then as before its first record.
     fn whole(&mut self) -> Result<Trace, NoMemory>
         requires few { self.old.taken ≤ 200000 }
         requires sound { IsSound self.old }
@@ -223,11 +284,12 @@ impl Check {
             return Err(NoMemory);
         };
         let phases = mem::replace(&mut self.phases, Vec::new(alloc));
+        self.tally = Tally::of_board(&self.opening);
         Ok(Trace {
             opening,
-            deliveries: self.replay.deliveries,
+            deliveries: self.deliveries,
             phases,
-            shows_state: self.replay.shows_state,
+            shows_state: self.shows_state,
         })
     }
 
@@ -277,8 +339,7 @@ impl Check {
         if self.is_full() && has_form(fault.reason) {
             return many(line, out);
         }
-        let verdict = stop(fault.line, refused_by(fault.reason), out)?;
-        Ok(Some(Checked::Stopped(verdict)))
+        stopped(fault.line, refused_by(fault.reason), out)
     }
 
     /// Takes a line, which may be no record, or refused.
@@ -290,7 +351,7 @@ impl Check {
         ensures state { self.new ≡ read_on text.now self.old }
         ensures valid { IfOk result (IsItem self.old.replay.reading.stage) }
     {
-        self.replay.reading.take_line(text)
+        self.reading.take_line(text)
     }
 
     /// Takes a line if it is a record that isn't refused by its words.
@@ -303,7 +364,7 @@ impl Check {
         ensures valid { IfSome result (IsRecordAt self.old.replay.reading.stage) }
         ensures none { IfNone result (self.new ≡ self.old) }
     {
-        self.replay.reading.take_record(text)
+        self.reading.take_record(text)
     }
 
     /// Answers a line that is no record, or one that is refused. It stands apart, since its item has room for a board,
@@ -342,7 +403,16 @@ fn many(line: u64, out: &mut Vec<u8>) -> Result<Option<Checked>, NoMemory>
     ensures ends { IfOk result (λ end. end ≡ Some (too_many line).end) }
     ensures err { OnErr result (out.new.items ≡ out.old.items) }
 {
-    let verdict = stop(line, Refused::Many, out)?;
+    stopped(line, Refused::Many, out)
+}
+
+/// Appends the line of a refusal, which ends the check.
+fn stopped(line: u64, why: Refused, out: &mut Vec<u8>) -> Result<Option<Checked>, NoMemory>
+    ensures printed { OnOk result (out.new.items ≡ out.old.items ++ refused_text line why) }
+    ensures ends { IfOk result (λ end. end ≡ Some (Checked.Stopped (Verdict.Stopped line why))) }
+    ensures err { OnErr result (out.new.items ≡ out.old.items) }
+{
+    let verdict = stop(line, why, out)?;
     Ok(Some(Checked::Stopped(verdict)))
 }
 
@@ -368,8 +438,9 @@ impl Answerer<Checked> for Check {
         self.answer_other(line, text, out)
     }
 
-    fn close(&mut self, line: u64, out: &mut Vec<u8>) -> Result<Checked, NoMemory> {
-        let verdict = self.replay.close(line, out)?;
+    fn close(&mut self, _line: u64, out: &mut Vec<u8>) -> Result<Checked, NoMemory> {
+        let fault = self.reading.at_end();
+        let verdict = stop(fault.line, refused_by(fault.reason), out)?;
         Ok(Checked::Stopped(verdict))
     }
 }

@@ -1,16 +1,16 @@
-//! A board with the list to which its accesses append their edges.
+//! A board with the reply into which its accesses are answered.
 ghost use Rattle.std.specs.Prelude.{◌≡◌};
 
-use board_core::BoardState;
+use board_core::{BoardState, Reply, Value};
 use irq_edges::EdgeList;
 use std::marker::Model;
 
-/// A board, and a list for the edges of its accesses, which is kept from one to the next: a new list has all its places
+/// A board, and a reply for its accesses, which is kept from one to the next: a new list of edges has all its places
 /// cleared. What stands in it between two accesses means nothing.
 #[derive(Drop)]
 pub(crate) struct KeptBoard {
     pub(crate) state: BoardState,
-    pub(crate) edges: EdgeList,
+    pub(crate) reply: Reply,
 }
 
 impl Model for KeptBoard {
@@ -22,13 +22,17 @@ impl Model for KeptBoard {
 }
 
 impl KeptBoard {
-    /// A board with an empty list.
+    /// A board with an empty reply.
     pub(crate) fn new(state: BoardState) -> KeptBoard
         ensures { result ≡ state }
     {
         KeptBoard {
             state,
-            edges: EdgeList::new(),
+            reply: Reply {
+                number: 0,
+                value: Value::Nothing,
+                edges: EdgeList::new(),
+            },
         }
     }
 

@@ -38,11 +38,16 @@
 //! ```
 #![tactic(auto)]
 
+mod board;
 mod check;
+mod counting;
 mod deliveries;
 mod generate;
+mod heading;
+mod job;
 mod kept;
 mod moves;
+mod opened;
 mod program;
 mod race;
 mod records;

@@ -106,7 +106,7 @@ fn cross_gap(
 }
 
 /// A move that is refused, as it is printed.
-fn refused_move(fault: MoveFault) -> Refused
+pub(crate) fn refused_move(fault: MoveFault) -> Refused
     ensures { result ≡ refused_move fault }
 {
     match fault {

@@ -32,8 +32,8 @@ ghost use Rattle.trace_runner.specs.Race.{RaceLeaves, check_run};
 ghost use Rattle.trace_runner.specs.WholeLines.{IsWholeLines};
 
 use crate::generate::generate;
+use crate::job::replay_trace;
 use crate::race::race;
-use crate::replay::Replay;
 use crate::soak::run_soak;
 use crate::status::{Status, status_of};
 use crate::texts::{HELP, USAGE, VERSION};
@@ -42,7 +42,7 @@ use command_line::{Command, command_of};
 use std::alloc::Global;
 use std::sync::Wait;
 use std::thread::Threads;
-use trace_loop::{MEMORY_FAULT, answer_lines, say};
+use trace_loop::{MEMORY_FAULT, say};
 
 /// Runs the program on its words (those behind its name): the job `replay` reads a trace from `source`, and writes
 /// what it answers to `sink`, in pieces as large as the source's.
@@ -134,7 +134,7 @@ pub fn run<R: Threads + Wait + Sync, S: Source, K: Sink, G: Gate + Sync>(
 {
     match command_of(alloc, words) {
         Ok(Command::Replay { shows_state }) => {
-            status_of(answer_lines(alloc, &mut Replay::new(shows_state), source, sink))
+            status_of(replay_trace(rt, alloc, gate, shows_state, source, sink))
         }
         Ok(Command::Race { shows_state }) => race(rt, alloc, gate, shows_state, source, sink),
         Ok(command) => tell(alloc, command, sink),

@@ -12,7 +12,7 @@ use crate::status::{Status, verdict_status};
 use crate::trace::Trace;
 use board_io::{Gate, Sink, Source};
 use clk_units::NoMemory;
-use race_phase::{Outcome, run_race};
+use race_phase::run_race;
 use std::alloc::Global;
 use std::sync::Wait;
 use std::thread::Threads;
@@ -86,18 +86,15 @@ fn text_of<R: Threads + Wait + Sync, G: Gate + Sync>(
 ) -> Result<Vec<u8>, NoMemory>
     ensures { IfOk result (λ text. RacePrints trace.now text.items) }
 {
-    match run_race(
+    let ran = run_race(
         rt,
         alloc,
         gate,
         *trace.opening,
         &trace.deliveries,
         &trace.phases,
-    )? {
-        Outcome::Ran { state, mut text } => {
-            end(&state, trace.shows_state, &mut text)?;
-            Ok(text)
-        }
-        Outcome::Refused { .. } => unreachable!(),
-    }
+    )?;
+    let mut text = ran.text;
+    end(&ran.state, trace.shows_state, &mut text)?;
+    Ok(text)
 }

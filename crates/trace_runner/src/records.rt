@@ -1,17 +1,17 @@
 //! The answers to records.
-ghost use Rattle.std.specs.Prelude.{◌≡◌, ◌++◌, ◌<◌, true, None, IsTrue, IfOk, OnOk, OnErr};
+ghost use Rattle.std.specs.Prelude.{◌≡◌, ◌++◌, ◌+◌, ◌^◌, ◌<◌, ◌≤◌, true, None, IfOk, OnOk, OnErr};
 ghost use Rattle.std.specs.Io.{StartsWith};
 ghost use Rattle.board_types.specs.Legal.{is_legal};
 ghost use Rattle.trace_loop.specs.Progress.{printed, end_of, state_behind};
 ghost use Rattle.trace_runner.specs.Records.{job_answer, board_answer, page_answer, clock_answer};
 ghost use Rattle.trace_runner.specs.Ready.{JobSuits};
 
+use crate::board::RecordBoard;
 use crate::kept::KeptBoard;
 use crate::moves::{answer_move, answer_save};
 use crate::status::{Verdict, refuse, refused_access, refused_time};
-use board_core::{Access, BoardState};
+use board_core::{Access, Reply};
 use clk_units::NoMemory;
-use irq_edges::EdgeList;
 use race_phase::{Deliveries, NewHost, edge_lines};
 use reply_text::{clock_line, page_line, value_line};
 use trace_text::{Job, Record};
@@ -38,19 +38,19 @@ pub(crate) fn answer(
 {
     match given.job {
         Job::Board(access) => {
-            let edges = &mut board.edges;
+            let reply = &mut board.reply;
             answer_access(
                 line,
                 given.cpu,
                 given.h,
                 access,
                 &mut board.state,
-                edges,
+                reply,
                 deliveries,
                 out,
             )
         }
-        Job::Page { page } => answer_page(line, page, given.h, &board.state, out),
+        Job::Page { page } => answer_page(line, page, given.h, &mut board.state, out),
         Job::Clock { page } => answer_clock(line, page, given.h, &mut board.state, out),
         Job::Save => answer_save(line, given.cpu, given.h, &mut board.state, deliveries, out),
         Job::Move { khz, start, gap } => {
@@ -68,33 +68,34 @@ pub(crate) fn answer(
     }
 }
 
-/// Answers an access to the board, whose edges are put into the list in the place of those that stand there.
+/// Answers an access to the board, whose reply is put in the place of what stands there.
 #[inline(always)]
-fn answer_access(
+pub(crate) fn answer_access<B: RecordBoard>(
     line: u64,
     cpu: u8,
     h: u64,
     access: Access,
-    board: &mut BoardState,
-    edges: &mut EdgeList,
+    board: &mut B,
+    reply: &mut Reply,
     deliveries: &Deliveries,
     out: &mut Vec<u8>,
 ) -> Result<Option<Verdict>, NoMemory>
-    requires cpu { cpu < board.old.cpus }
-    requires legal { is_legal board.old.cpus board.old.format access ≡ true }
+    requires cpu { cpu < (B.parts board.old).cpus }
+    requires legal { is_legal (B.parts board.old).cpus (B.parts board.old).format access ≡ true }
     ensures printed { OnOk result (out.new.items ≡ out.old.items
-        ++ printed (board_answer line cpu h access deliveries.now board.old)) }
-    ensures ends { IfOk result
-        (λ end. end ≡ end_of (board_answer line cpu h access deliveries.now board.old)) }
-    ensures board { IfOk result (λ end. end ≡ None → board.new
-        ≡ state_behind (board_answer line cpu h access deliveries.now board.old) board.old) }
+        ++ printed (board_answer line cpu h access deliveries.now (B.parts board.old))) }
+    ensures ends { IfOk result (λ end. end
+        ≡ end_of (board_answer line cpu h access deliveries.now (B.parts board.old))) }
+    ensures board { IfOk result (λ end. end ≡ None → B.parts board.new ≡ state_behind
+        (board_answer line cpu h access deliveries.now (B.parts board.old)) (B.parts board.old)) }
+    ensures calls { B.calls board.new ≤ B.calls board.old + 1 }
     ensures err { OnErr result (StartsWith out.new.items out.old.items) }
 {
-    edges.clear();
-    match board.answer(cpu, h, access, edges) {
-        Ok(value) => {
-            edge_lines(edges.as_slice(), deliveries, out)?;
-            value_line(line, board.accesses(), &value, out)?;
+    reply.edges.clear();
+    match board.act(cpu, h, access, reply) {
+        Ok(()) => {
+            edge_lines(reply.edges.as_slice(), deliveries, out)?;
+            value_line(line, reply.number, &reply.value, out)?;
             Ok(None)
         }
         Err(refusal) => refuse(line, refused_access(refusal), out),
@@ -103,21 +104,24 @@ fn answer_access(
 
 /// Answers a read of a page.
 #[inline(always)]
-fn answer_page(
+pub(crate) fn answer_page<B: RecordBoard>(
     line: u64,
     page: u8,
     h: u64,
-    board: &BoardState,
+    board: &mut B,
     out: &mut Vec<u8>,
 ) -> Result<Option<Verdict>, NoMemory>
-    requires { page < board.now.cpus }
+    requires page { page < (B.parts board.old).cpus }
+    requires room { B.calls board.old < 2 ^ 63 }
     ensures printed { OnOk result
-        (out.new.items ≡ out.old.items ++ printed (page_answer line page h board.now)) }
-    ensures ends { IfOk result (λ end. end ≡ end_of (page_answer line page h board.now)) }
-    ensures board { state_behind (page_answer line page h board.now) board.now ≡ board.now }
+        (out.new.items ≡ out.old.items ++ printed (page_answer line page h (B.parts board.old))) }
+    ensures ends { IfOk result (λ end. end ≡ end_of (page_answer line page h (B.parts board.old))) }
+    ensures board { IfOk result (λ end. end ≡ None → B.parts board.new
+        ≡ state_behind (page_answer line page h (B.parts board.old)) (B.parts board.old)) }
+    ensures calls { B.calls board.new ≤ B.calls board.old + 1 }
     ensures err { OnErr result (StartsWith out.new.items out.old.items) }
 {
-    match board.page_of(page, h) {
+    match board.read_page(page, h) {
         Ok(reply) => {
             page_line(line, &reply, out)?;
             Ok(None)
@@ -128,22 +132,24 @@ fn answer_page(
 
 /// Answers a read of the clock.
 #[inline(always)]
-fn answer_clock(
+pub(crate) fn answer_clock<B: RecordBoard>(
     line: u64,
     page: u8,
     h: u64,
-    board: &mut BoardState,
+    board: &mut B,
     out: &mut Vec<u8>,
 ) -> Result<Option<Verdict>, NoMemory>
-    requires { page < board.old.cpus }
+    requires page { page < (B.parts board.old).cpus }
+    requires room { B.calls board.old < 2 ^ 63 }
     ensures printed { OnOk result
-        (out.new.items ≡ out.old.items ++ printed (clock_answer line page h board.old)) }
-    ensures ends { IfOk result (λ end. end ≡ end_of (clock_answer line page h board.old)) }
-    ensures board { IfOk result (λ end. end ≡ None
-        → board.new ≡ state_behind (clock_answer line page h board.old) board.old) }
+        (out.new.items ≡ out.old.items ++ printed (clock_answer line page h (B.parts board.old))) }
+    ensures ends { IfOk result (λ end. end ≡ end_of (clock_answer line page h (B.parts board.old))) }
+    ensures board { IfOk result (λ end. end ≡ None → B.parts board.new
+        ≡ state_behind (clock_answer line page h (B.parts board.old)) (B.parts board.old)) }
+    ensures calls { B.calls board.new ≤ B.calls board.old + 1 }
     ensures err { OnErr result (StartsWith out.new.items out.old.items) }
 {
-    match board.clock_of(page, h) {
+    match board.read_clock(page, h) {
         Ok(reply) => {
             clock_line(line, &reply, out)?;
             Ok(None)

@@ -98,7 +98,7 @@ impl Replay {
     }
 
     /// Answers a line that was read.
-    fn answer_item(
+    pub(crate) fn answer_item(
         &mut self,
         line: u64,
         item: &Item,

@@ -8,17 +8,17 @@ use Rattle.race_phase.proofs.race.run_race.Goals as goal
 pub next-requires-clause-fitting : goal.next-requires-clause-fitting
 next-requires-clause-fitting g c κs within =
     let now = c.loop-phase.now in
-    let split = c.in-Some-split_first.ensures.cases.0 in
+    let split = c.in-Some.ensures.cases.0 in
     let fits = subst (λ (l : List Phase). All (IsPhase now.cpus now.format) l) split c.loop-phase.invariant.fits in
-    fits 0 c.in-Some-split_first.phase.now (omega arith)
+    fits 0 c.in-Some.phase.now (omega arith)
 
 pub loop-phase-preserved : goal.loop-phase-preserved
 loop-phase-preserved g c =
     let inv = c.loop-phase.invariant in
-    let split = c.in-Some-split_first.ensures.cases.0 in
+    let split = c.in-Some.ensures.cases.0 in
     let now = c.loop-phase.now in
-    let v = c.in-Some-split_first.phase.now in
-    let vs = c.in-Some-split_first.tail.now in
+    let v = c.in-Some.phase.now in
+    let vs = c.in-Some.tail.now in
     let e = c.in_ok-now.ensures in
     let ds = c.args.deliveries.now in
     let free = subst (λ (l : List Phase). trace_fault now l ≡ None) split inv.free in
@@ -40,8 +40,6 @@ returns g c =
     let inv = c.loop-phase.invariant in
     let now = c.loop-phase.now in
     let ds = c.args.deliveries.now in
-    let none = none_left c.loop-phase.rest.now c.in_default-split_first.ensures.cases in (
-      sym c.fault_of.ensures ∙ c.in_default.is,
-      subst (race_text ds c.args.state c.args.phases.now now) (append-nil c.loop-phase.text.items)
-          (inv.told now [] (subst (λ (l : List Phase). race_text ds now l now []) (sym none) (refl, refl))),
-    )
+    let none = none_left c.loop-phase.rest.now c.in_default.ensures.cases in
+    subst (race_text ds c.args.state c.args.phases.now now) (append-nil c.loop-phase.text.items)
+    (inv.told now [] (subst (λ (l : List Phase). race_text ds now l now []) (sym none) (refl, refl)))

@@ -3,6 +3,7 @@ use Rattle.shared_board.specs.declared.known.PassKnown.{PassKnown}
 use Rattle.shared_board.specs.Passes.{mine}
 use Rattle.board_history.specs.History.{IsLegal}
 use Rattle.race_phase.specs.Calls.{AllMade, records_of}
+use Rattle.race_phase.specs.private.Told.{answer_with}
 use Rattle.race_phase.specs.private.Workers.{HasStopped}
 use Rattle.race_phase.proofs.Workers.{next_skipped, next_made, next_stopped}
 use Rattle.race_phase.proofs.work.work.Goals as goal
@@ -33,7 +34,7 @@ loop-record-preserved g c =
     elim c.if-from-cpu.branch [
       | then-from-cpu+in-Some+in_ok-append_block-in-Some w ↦
           let made = w.in-Some.ensures.some in
-          let t = next_made s ds n i rs _ w.in-Some.answer c.loop-record.text.items c.loop-record.pass w.held.new.pass
+          let t = next_made s ds n i rs _ (answer_with w.in-Some.told w.held.new.reply) c.loop-record.text.items c.loop-record.pass w.held.new.pass
           c.loop-record-test.true (sym c.from.ensures ∙ w.if-from-cpu.true) inv.number inv.made made in
           let e = ap (λ v. v.items) w.text-is ∙ w.in_ok-append_block-in-Some.ensures in
           record {

@@ -1,0 +1,57 @@
+-- The board of a replay, one record or one phase more, and the check that keeps it.
+use Rattle.std.proofs.Common.{◌≡◌, ℕ, ◌+◌, List, [], ◌∷◌, ◌++◌, refl}
+use Rattle.board_types.specs.declared.parts.BoardParts.{BoardParts}
+use Rattle.board_core.specs.Pages.{after_clock}
+use Rattle.trace_text.specs.declared.records.Record.{Record as Written}
+use Rattle.race_phase.specs.Phases.{next_board}
+use Rattle.race_phase.specs.Tallies.{TallyParts, IsTally}
+use Rattle.race_phase.specs.declared.phases.End.{End}
+use Rattle.race_phase.specs.declared.records.Call.{Call}
+use Rattle.race_phase.specs.declared.records.Record.{Record}
+use Rattle.trace_runner.specs.Check.{with_call, ended_by, with_end}
+use Rattle.trace_runner.specs.Checking.{Checking}
+use Rattle.trace_runner.specs.Replayed.{board_behind, records_behind, replayed, on_board}
+use Rattle.trace_runner.specs.Trace.{PhaseRead}
+
+-- one record more
+records_behind-snoc : (b : BoardParts) (rs : List Record) (r : Record) → records_behind b (rs ++ r ∷ []) ≡ board_behind (records_behind b rs) r.cpu r.h r.call
+records_behind-snoc b [] r = refl
+records_behind-snoc b (x ∷ xs) r = records_behind-snoc (board_behind b x.cpu x.h x.call) xs r
+
+pub replayed-record : (b : BoardParts) (vs : List PhaseRead) (rs : List Record) (r : Record)
+    → replayed b vs (rs ++ r ∷ []) ≡ board_behind (replayed b vs rs) r.cpu r.h r.call
+replayed-record b [] rs r = records_behind-snoc b rs r
+replayed-record b (v ∷ vs) rs r = replayed-record (next_board v.end (records_behind b v.records)) vs rs r
+
+-- a phase that ends
+pub replayed-end : (b : BoardParts) (vs : List PhaseRead) (v : PhaseRead) → replayed b (vs ++ v ∷ []) [] ≡ next_board v.end (replayed b vs v.records)
+replayed-end b [] v = refl
+replayed-end b (x ∷ xs) v = replayed-end (next_board x.end (records_behind b x.records)) xs v
+
+-- a check that keeps one record more
+pub pushed : (s : Checking) (line : ℕ) (rec : Written) (call : Call) (b : BoardParts) (rs : List Record) → b ≡ board_behind s.replay.board rec.cpu rec.h call
+    → rs ≡ s.last ++ record { line = line; cpu = rec.cpu; h = rec.h; call = call } ∷ []
+    → record s { replay = record s.replay { board = b }; last = rs; taken = s.taken + 1 }
+    ≡ with_call line rec call (on_board (board_behind s.replay.board rec.cpu rec.h call) s)
+pushed s line rec call b rs e f = λ i. record s { replay = record s.replay { board = e i }; last = f i; taken = s.taken + 1 }
+
+-- or ends its phase
+pub ended : (s : Checking) (end : End) (b : BoardParts) (vs : List PhaseRead) (rs : List Record) → b ≡ next_board end s.replay.board → vs ≡ ended_by end s → rs ≡ []
+    → record s { replay = record s.replay { board = b }; phases = vs; last = rs; taken = s.taken + 1 }
+    ≡ with_end end (on_board (next_board end s.replay.board) s)
+ended s end b vs rs e f g = λ i. record s { replay = record s.replay { board = e i }; phases = f i; last = g i; taken = s.taken + 1 }
+
+-- a tally goes past the greatest clock reading
+pub clock-tally : (b : BoardParts) (t : TallyParts) (page h : ℕ) → IsTally b t → IsTally (after_clock b page h) t
+unfolding after_clock
+clock-tally b t page h x = record {
+  format = x.format;
+  cpus = x.cpus;
+  anchor = x.anchor;
+  host = x.host;
+  accesses = x.accesses;
+  wall_version = x.wall_version;
+  versions = x.versions;
+  places = x.places;
+  own = x.own;
+}

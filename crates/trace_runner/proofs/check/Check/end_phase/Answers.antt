@@ -1,0 +1,52 @@
+use Rattle.std.proofs.Common.{◌≡◌, ◌∷◌, ◌++◌, [], List, ap, sym, subst, ◌∙◌}
+use Rattle.board_types.specs.declared.parts.BoardParts.{BoardParts}
+use Rattle.race_phase.specs.Phases.{next_board}
+use Rattle.race_phase.specs.Tallies.{IsTally}
+use Rattle.race_phase.specs.declared.phases.End.{End}
+use Rattle.race_phase.specs.declared.records.Record.{Record}
+use Rattle.trace_runner.specs.Check.{with_end}
+use Rattle.trace_runner.specs.Checking.{Checking}
+use Rattle.trace_runner.specs.Replayed.{replayed, on_board}
+use Rattle.trace_runner.specs.Trace.{PhaseRead, phases_read}
+use Rattle.trace_runner.proofs.PhasesRead.{phases_pushed}
+use Rattle.trace_runner.proofs.Replayed.{replayed-end, ended}
+use Rattle.trace_runner.proofs.check.Check.end_phase.Goals as goal
+
+-- the board behind the phases, and behind one more that was read
+ended_board : (b : BoardParts) (vs ws : List PhaseRead) (rs last : List Record) (end : End) → ws ≡ vs ++ record { records = last; end = end } ∷ [] → rs ≡ []
+    → replayed b ws rs ≡ next_board end (replayed b vs last)
+ended_board b vs ws rs last end f g =
+    ap (λ (us : List PhaseRead). replayed b us rs) f ∙ ap (replayed b (vs ++ record { records = last; end = end } ∷ [])) g
+    ∙ replayed-end b vs (record { records = last; end = end })
+
+pub invariant_of-self-2 : goal.invariant_of-self-2
+invariant_of-self-2 c =
+    let i = c.self.inside in
+    let vs : List PhaseRead = phases_read i.phases.items in
+    let f = ap phases_read c.in_default.ensures.items ∙ phases_pushed i.phases.items _
+    ∙ ap (λ (rs : List Record). vs ++ record { records = rs; end = c.args.end } ∷ []) (ap (λ v. v.items) c.replace-records.ensures.value) in
+    let g = ap (λ v. v.items) c.replace-records.ensures.after ∙ c.new.ensures.items in
+    subst (λ (b : BoardParts). IsTally b c.count_end.new.tally) (sym (ended_board i.opening vs _ _ i.last.items c.args.end f g))
+    (c.count_end.ensures (replayed i.opening vs i.last.items) c.self.invariant)
+
+pub returns : goal.returns
+returns c =
+    let i = c.self.inside in
+    let vs : List PhaseRead = phases_read i.phases.items in
+    let f = ap phases_read c.in_default.ensures.items ∙ phases_pushed i.phases.items _
+    ∙ ap (λ (rs : List Record). vs ++ record { records = rs; end = c.args.end } ∷ []) (ap (λ v. v.items) c.replace-records.ensures.value) in
+    let g = ap (λ v. v.items) c.replace-records.ensures.after ∙ c.new.ensures.items in
+    let s : Checking = record {
+      replay = record {
+        reading = i.reading;
+        shows_state = i.shows_state;
+        board = replayed i.opening vs i.last.items;
+        deliveries = i.deliveries;
+      };
+      opening = i.opening;
+      phases = vs;
+      last = i.last.items;
+      taken = i.taken;
+    } in
+    ended s c.args.end _ _ _ (ended_board i.opening vs _ _ i.last.items c.args.end f g) f g
+    ∙ ap (λ (t : Checking). with_end c.args.end (on_board (next_board c.args.end t.replay.board) t)) c.self.view_is

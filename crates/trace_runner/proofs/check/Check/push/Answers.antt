@@ -1,0 +1,41 @@
+use Rattle.std.proofs.Common.{List, ap, sym, subst, ◌∙◌}
+use Rattle.board_types.specs.declared.parts.BoardParts.{BoardParts}
+use Rattle.race_phase.specs.Tallies.{IsTally}
+use Rattle.race_phase.specs.declared.records.Record.{Record}
+use Rattle.trace_runner.specs.Check.{with_call}
+use Rattle.trace_runner.specs.Checking.{Checking}
+use Rattle.trace_runner.specs.Replayed.{board_behind, replayed, on_board}
+use Rattle.trace_runner.specs.Trace.{PhaseRead, phases_read}
+use Rattle.trace_runner.proofs.Replayed.{replayed-record, pushed}
+use Rattle.trace_runner.proofs.check.Check.push.Goals as goal
+
+pub invariant_of-self-2 : goal.invariant_of-self-2
+invariant_of-self-2 c =
+    let i = c.self.inside in
+    let vs : List PhaseRead = phases_read i.phases.items in
+    let r : Record = record { line = c.args.line; cpu = c.args.given.now.cpu; h = c.args.given.now.h; call = c.args.call } in
+    subst (λ (b : BoardParts). IsTally b c.count_call.new.tally)
+    (sym (ap (replayed i.opening vs) c.in-Ok.ensures.items ∙ replayed-record i.opening vs i.last.items r))
+    (c.count_call.ensures (replayed i.opening vs i.last.items) c.self.invariant)
+
+pub returns : goal.returns
+returns c =
+    let i = c.self.inside in
+    let vs : List PhaseRead = phases_read i.phases.items in
+    let rec = c.args.given.now in
+    let r : Record = record { line = c.args.line; cpu = rec.cpu; h = rec.h; call = c.args.call } in
+    let s : Checking = record {
+      replay = record {
+        reading = i.reading;
+        shows_state = i.shows_state;
+        board = replayed i.opening vs i.last.items;
+        deliveries = i.deliveries;
+      };
+      opening = i.opening;
+      phases = vs;
+      last = i.last.items;
+      taken = i.taken;
+    } in
+    pushed s c.args.line rec c.args.call _ _ (ap (replayed i.opening vs) c.in-Ok.ensures.items ∙ replayed-record i.opening vs i.last.items r)
+    c.in-Ok.ensures.items
+    ∙ ap (λ (t : Checking). with_call c.args.line rec c.args.call (on_board (board_behind t.replay.board rec.cpu rec.h c.args.call) t)) c.self.view_is

@@ -1,0 +1,79 @@
+-- The board of a replay, worked out from the records that a check has kept, and what it refuses.
+use Rattle.std.specs.Prelude.{◌≡◌, ℕ, List, [], ◌∷◌, Option, Some, None}
+use Rattle.board_types.specs.declared.access.Access.TheVariants.{Step}
+use Rattle.board_types.specs.declared.parts.BoardParts.{BoardParts}
+use Rattle.board_types.specs.declared.reply.Refusal.{Refusal}
+use Rattle.board_core.specs.Access.{after_access}
+use Rattle.board_core.specs.Pages.{after_clock}
+use Rattle.board_core.specs.Refusals.{refusal_of}
+use Rattle.transfer.specs.Move.{move_fault, moved_to}
+use Rattle.transfer.specs.declared.outcome.MoveFault.{MoveFault}
+use Rattle.reply_text.specs.declared.ends.Refused.{Refused}
+use Rattle.trace_text.specs.declared.records.Job.{Job}
+use Rattle.trace_text.specs.declared.records.Job.TheVariants.{Board, Page, Clock, Save, Move}
+use Rattle.race_phase.specs.Phases.{next_board}
+use Rattle.race_phase.specs.declared.records.Call.{Call}
+use Rattle.race_phase.specs.declared.records.Call.TheVariants.{Act, ReadPage, ReadClock}
+use Rattle.race_phase.specs.declared.records.Record.{Record}
+use Rattle.trace_runner.specs.Checking.{Checking}
+use Rattle.trace_runner.specs.Records.{refused_access, refused_count, refused_move}
+use Rattle.trace_runner.specs.Trace.{PhaseRead}
+
+-- the board behind a call that is answered
+abbrev pub board_behind : BoardParts → ℕ → ℕ → Call → BoardParts
+board_behind b cpu h (Act a) = after_access b cpu h a
+board_behind b cpu h (ReadPage page) = b
+board_behind b cpu h (ReadClock page) = after_clock b page h
+
+abbrev pub records_behind : BoardParts → List Record → BoardParts
+records_behind b [] = b
+records_behind b (r ∷ rs) = records_behind (board_behind b r.cpu r.h r.call) rs
+
+-- behind these phases, and the records that stand behind the last of them
+abbrev pub replayed : BoardParts → List PhaseRead → List Record → BoardParts
+replayed b [] rs = records_behind b rs
+replayed b (v ∷ vs) rs = replayed (next_board v.end (records_behind b v.records)) vs rs
+
+-- a check with another board
+abbrev pub on_board : BoardParts → Checking → Checking
+on_board b s = record s { replay = record s.replay { board = b } }
+
+-- the board behind a record that is answered
+abbrev pub job_behind : ℕ → ℕ → Job → BoardParts → BoardParts
+job_behind cpu h (Board a) b = after_access b cpu h a
+job_behind cpu h (Page page) b = b
+job_behind cpu h (Clock page) b = after_clock b page h
+job_behind cpu h Save b = after_access b cpu h Step
+job_behind cpu h (Move khz start gap) b = moved_to khz start gap (after_access b cpu h Step)
+
+-- an access of a call that the board takes
+abbrev pub TakesCall : BoardParts → ℕ → ℕ → Call → Type 0
+TakesCall b cpu h (Act a) = refusal_of b cpu h a ≡ None
+TakesCall b cpu h (ReadPage page) = Unit {0}
+TakesCall b cpu h (ReadClock page) = Unit {0}
+
+-- why a record is refused
+abbrev pub by_refusal : Option Refusal → Option Refused
+by_refusal None = None
+by_refusal (Some refusal) = Some (refused_access refusal)
+
+abbrev pub by_gap : Option MoveFault → Option Refused
+by_gap None = None
+by_gap (Some fault) = Some (refused_move fault)
+
+abbrev pub or_gap : Option Refused → Option Refused → Option Refused
+or_gap None o = o
+or_gap (Some why) o = Some why
+
+-- a move, by its access or behind it
+abbrev pub refused_gap : ℕ → ℕ → ℕ → BoardParts → Option Refused
+refused_gap cpu h gap b =
+    or_gap (by_refusal (refusal_of b cpu h Step))
+    (by_gap (move_fault gap (after_access b cpu h Step)))
+
+abbrev pub refused_job : ℕ → ℕ → Job → BoardParts → Option Refused
+refused_job cpu h (Board a) b = by_refusal (refusal_of b cpu h a)
+refused_job cpu h (Page page) b = refused_count b h
+refused_job cpu h (Clock page) b = refused_count b h
+refused_job cpu h Save b = by_refusal (refusal_of b cpu h Step)
+refused_job cpu h (Move khz start gap) b = refused_gap cpu h gap b

@@ -1,0 +1,113 @@
+//! What a check counts of the records that it keeps, and why it refuses one: by a tally of the board's counts.
+ghost use Rattle.std.specs.Prelude.{◌≡◌, ◌<◌, None};
+ghost use Rattle.board_types.specs.declared.parts.BoardParts.{BoardParts};
+ghost use Rattle.board_core.specs.Refusals.{refusal_of};
+ghost use Rattle.race_phase.specs.Calls.{IsFittingCall};
+ghost use Rattle.race_phase.specs.Phases.{IsEnd, next_board, end_fault};
+ghost use Rattle.race_phase.specs.Tallies.{IsTally};
+ghost use Rattle.trace_runner.specs.Ready.{Suits};
+ghost use Rattle.trace_text.specs.declared.reading.Item.TheVariants.{Next};
+ghost use Rattle.trace_runner.specs.Records.{refused_count};
+ghost use Rattle.trace_runner.specs.Replayed.{
+  board_behind,
+  TakesCall,
+  by_refusal,
+  refused_gap,
+  refused_job,
+};
+
+use crate::moves::refused_move;
+use crate::status::{refused_access, refused_time};
+use board_core::Access;
+use race_phase::{Call, End, Tally};
+use reply_text::Refused;
+use trace_text::{Job, Record};
+
+/// Why each board of these counts refuses a record, if it does.
+#[inline(always)]
+pub(crate) fn refused_job(tally: &Tally, given: &Record) -> Option<Refused>
+    requires { (b : BoardParts) × IsTally b tally.now × Suits (Next given.now) b }
+    ensures { (b : BoardParts) → IsTally b tally.now
+        → result ≡ refused_job given.now.cpu given.now.h given.now.job b }
+{
+    match given.job {
+        Job::Board(access) => refused_by_board(tally, given.cpu, given.h, access),
+        Job::Page { .. } => refused_count(tally, given.h),
+        Job::Clock { .. } => refused_count(tally, given.h),
+        Job::Save => refused_by_board(tally, given.cpu, given.h, Access::Step),
+        Job::Move { gap, .. } => refused_gap(tally, given.cpu, given.h, gap),
+    }
+}
+
+/// Why an access is refused.
+#[inline(always)]
+fn refused_by_board(tally: &Tally, cpu: u8, h: u64, access: Access) -> Option<Refused>
+    requires cpu { cpu < tally.now.cpus }
+    requires legal { IsFittingCall tally.now.cpus tally.now.format (Call.Act access) }
+    ensures { (b : BoardParts) → IsTally b tally.now
+        → result ≡ by_refusal (refusal_of b cpu h access) }
+{
+    match tally.admit(cpu, h, access) {
+        Ok(()) => None,
+        Err(refusal) => Some(refused_access(refusal)),
+    }
+}
+
+/// Why a read at a count of the host's counter is refused.
+fn refused_count(tally: &Tally, h: u64) -> Option<Refused>
+    ensures { (b : BoardParts) → IsTally b tally.now → result ≡ refused_count b h }
+{
+    match tally.check_count(h) {
+        Ok(()) => None,
+        Err(fault) => Some(refused_time(fault)),
+    }
+}
+
+/// Why a move is refused, by the access before it or by its gap.
+fn refused_gap(tally: &Tally, cpu: u8, h: u64, gap: u64) -> Option<Refused>
+    requires cpu { cpu < tally.now.cpus }
+    requires board { (b : BoardParts) × IsTally b tally.now }
+    ensures { (b : BoardParts) → IsTally b tally.now → result ≡ refused_gap cpu h gap b }
+{
+    let mut tally = *tally;
+    match tally.admit(cpu, h, Access::Step) {
+        Ok(()) => tally.count(cpu, h, Access::Step),
+        Err(refusal) => return Some(refused_access(refusal)),
+    }
+    match tally.admit_move(gap) {
+        Ok(()) => None,
+        Err(fault) => Some(refused_move(fault)),
+    }
+}
+
+/// Counts a call that is answered.
+#[inline(always)]
+pub(crate) fn count_call(tally: &mut Tally, cpu: u8, h: u64, call: Call)
+    requires cpu { cpu < tally.old.cpus }
+    requires fits { IsFittingCall tally.old.cpus tally.old.format call }
+    requires free { (b : BoardParts) × IsTally b tally.old × TakesCall b cpu h call }
+    ensures { (b : BoardParts) → IsTally b tally.old
+        → IsTally (board_behind b cpu h call) tally.new }
+{
+    match call {
+        Call::Act { access } => tally.count(cpu, h, access),
+        Call::ReadPage { .. } => {}
+        Call::ReadClock { .. } => {}
+    }
+}
+
+/// Counts what ends a phase.
+pub(crate) fn count_end(tally: &mut Tally, end: End)
+    requires fits { IsEnd tally.old.cpus end }
+    requires free { (b : BoardParts) × IsTally b tally.old × (end_fault b end ≡ None) }
+    ensures { (b : BoardParts) → IsTally b tally.old → IsTally (next_board end b) tally.new }
+{
+    match end {
+        End::Finish => {}
+        End::Save { cpu, h, .. } => tally.count(cpu, h, Access::Step),
+        End::Move { cpu, h, host, .. } => {
+            tally.count(cpu, h, Access::Step);
+            tally.count_move(host)
+        }
+    }
+}
