@@ -50,8 +50,8 @@ impl BoardState {
     }
 
     /// The same, for a caller that keeps the list of edges: they are appended to it, and 18 places must be free. The
-    /// access's number is then `accesses`. It moves no list, so it is the faster of the two. Its code goes into each
-    /// caller, with that of what it calls: one that makes one kind of access alone asks for no kind.
+    /// access's number is then `accesses`. It moves no list, so it is the faster of the two. It holds code for each
+    /// kind of access that guests make often: a small caller takes all of it in, and a large one calls it.
     #[inline(always)]
     pub fn answer(
         &mut self,
@@ -74,24 +74,26 @@ impl BoardState {
         ensures few { OnOk result
             (length edges.new ≤ length edges.old + length (ran_to self.old h).edges + 12) }
     {
-        // Each kind that a guest makes often has code of its own, in which the kind is known.
+        // In each of these arms the compiler knows the kind, and leaves out what the others need.
         match a {
-            Access::PortIn { port } => self.answer_alike(cpu, h, Access::PortIn { port }, edges),
+            Access::PortIn { port } => self.answer_known(cpu, h, Access::PortIn { port }, edges),
             Access::HpetRead { offset, width } => {
-                self.answer_alike(cpu, h, Access::HpetRead { offset, width }, edges)
+                self.answer_known(cpu, h, Access::HpetRead { offset, width }, edges)
             }
-            Access::Ack { line } => self.answer_alike(cpu, h, Access::Ack { line }, edges),
-            Access::MsrRead { msr } => self.answer_alike(cpu, h, Access::MsrRead { msr }, edges),
-            Access::Step => self.answer_alike(cpu, h, Access::Step, edges),
-            _ => self.answer_alike(cpu, h, a, edges),
+            Access::Ack { line } => self.answer_known(cpu, h, Access::Ack { line }, edges),
+            Access::MsrRead { msr } => self.answer_known(cpu, h, Access::MsrRead { msr }, edges),
+            Access::Step => self.answer_known(cpu, h, Access::Step, edges),
+            _ => self.answer_known(cpu, h, a, edges),
         }
     }
 }
 
 impl BoardState {
-    /// The same, for a caller that knows the kind of the access.
+    /// The same, for a caller that itself spells out the kind of the access, as `Access::Step` or
+    /// `Access::PortIn { port }`: its code goes into the caller, and holds what that kind needs alone. With an access
+    /// of any kind it would ask for the kind at each step: call `answer` there.
     #[inline(always)]
-    fn answer_alike(
+    pub fn answer_known(
         &mut self,
         cpu: u8,
         h: u64,

@@ -29,6 +29,7 @@ pub use board_types::{
     MSR_TSC, MSR_TSC_ADJUST, ProcessorParts, Ran, Refusal, Reply, SECOND_NS, SLEW_MAX_NS, Setup,
     TickSource, Value, processors_of, timers_of,
 };
+pub use processors::published_by;
 
 #[cfg(test)]
 mod tests;

@@ -175,8 +175,10 @@ fn number_after(number: u64, msr: u32, v: u64) -> u64
     }
 }
 
-/// The page that an access of a processor publishes.
-pub(crate) fn published_by(cpu: u8, a: Access) -> Option<u8>
+/// The processor whose page an access of processor `cpu` publishes: a refresh that of the page which it names, and a
+/// write to the TSC, to its adjustment or to MSR_KVM_SYSTEM_TIME that of `cpu`. None where it publishes no page, as a
+/// write to MSR_KVM_WALL_CLOCK, which publishes the words of the wall clock.
+pub fn published_by(cpu: u8, a: Access) -> Option<u8>
     ensures { result ≡ published_by cpu a }
 {
     match a {

@@ -1,8 +1,7 @@
 -- Pulses within a second, by what a device pulses in a nanosecond.
-use Rattle.std.proofs.Common.{◌≡◌, ℕ, ◌+◌, ◌-◌, ◌*◌, ◌/◌, ◌%◌, ◌<◌, ◌≤◌, sym, subst, ap, ◌∙◌, arith}
-use Rattle.std.proofs.lemmas.Nat.{div-add-mod'}
+use Rattle.std.proofs.Common.{◌≡◌, ℕ, ◌+◌, ◌-◌, ◌*◌, ◌/◌, ◌%◌, ◌<◌, ◌≤◌, subst, ap, arith}
 use Rattle.clk_units.specs.Pulses.{pulses_by, pulses_from}
-use Rattle.clk_units.proofs.Pulses.{pulses_by-split, pulses_by-mono}
+use Rattle.clk_units.proofs.Pulses.{pulses_by-split}
 use Rattle.pit_readback.specs.declared.TheConstants.{PIT_HZ}
 use Rattle.rtc_registers.specs.declared.TheConstants.{RTC_HZ}
 use Rattle.hpet_registers.specs.declared.hpet.TheConstants.{HPET_HZ}

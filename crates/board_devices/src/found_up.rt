@@ -28,8 +28,8 @@ use pit_counter::Rises;
 use tick_policy::TickLine;
 
 /// Whether what came in a stretch moves no line: the crystal of the MC146818 had none of its
-/// `crystal` pulses, no timer of level type matched, and each tick found its line up. `matched`
-/// tells whether a timer matched.
+/// `crystal` pulses, no timer of level type matched, and each tick found its line up. No timer from
+/// `reach` on matched.
 #[inline(always)]
 pub(crate) fn finds_up(
     lines: &[TickLine; 10],
@@ -37,10 +37,11 @@ pub(crate) fn finds_up(
     legacy: bool,
     crystal: u64,
     rises: Rises,
-    matched: bool,
+    reach: u8,
     matches: &[Matches; 8],
 ) -> bool
-    requires none { matched ≡ false → (k : ℕ) → k < 8 → (timer_matches matches.now k).count ≡ 0 }
+    requires places { reach ≤ 8 }
+    requires none { (k : ℕ) → reach ≤ k → (timer_matches matches.now k).count ≡ 0 }
     ensures pit { IsTrue result → 0 < rises.count → legacy ≡ false
         → (slice_index_or lines.now 0 no_line).up ≡ true }
     ensures crystal { IsTrue result → crystal ≡ 0 }
@@ -52,19 +53,21 @@ pub(crate) fn finds_up(
 {
     crystal == 0
         && (rises.count == 0 || legacy || lines[0].is_up())
-        && (!matched || timers_find_up(lines, h, matches))
+        && timers_find_up(lines, h, reach, matches)
 }
 
 /// The same of the timers.
 #[inline(always)]
-fn timers_find_up(lines: &[TickLine; 10], h: &Hpet, matches: &[Matches; 8]) -> bool
+fn timers_find_up(lines: &[TickLine; 10], h: &Hpet, reach: u8, matches: &[Matches; 8]) -> bool
+    requires places { reach ≤ 8 }
+    requires none { (k : ℕ) → reach ≤ k → (timer_matches matches.now k).count ≡ 0 }
     ensures edge { IsTrue result → (k : ℕ) → k < h.now.timers
         → 0 < (timer_matches matches.now k).count → is_level (timer_at k h.now) ≡ false }
     ensures timers { IsTrue result → (k : ℕ) → k < h.now.timers
         → 0 < (timer_matches matches.now k).count → has_ticks k h.now ≡ true
         → (slice_index_or lines.now (k + 2) no_line).up ≡ true }
 {
-    for k in 0..h.timers() {
+    for k in 0..reach {
         if matches[k as usize].count > 0 && !timer_finds_up(lines, h, k) {
             return false;
         }
@@ -84,17 +87,19 @@ fn timer_finds_up(lines: &[TickLine; 10], h: &Hpet, k: u8) -> bool
 }
 
 /// Counts ticks in a stretch that has no catch-up point: `rises` of the 8254, which legacy
-/// replacement leaves out, and the matches of the timers.
+/// replacement leaves out, and the matches of the timers, none of which matched from `reach` on.
 #[inline(always)]
 pub(crate) fn take_ticks(
     lines: &mut [TickLine; 10],
     h: &Hpet,
     legacy: bool,
     rises: u64,
-    matched: bool,
+    reach: u8,
     matches: &[Matches; 8],
 )
-    requires none { matched ≡ false → (k : ℕ) → k < 8 → (timer_matches matches.now k).count ≡ 0 }
+    requires inside { reach ≤ h.now.timers }
+    requires places { reach ≤ 8 }
+    requires none { (k : ℕ) → reach ≤ k → (timer_matches matches.now k).count ≡ 0 }
     requires room { (slice_index_or lines.old 0 no_line).counts.due + rises < 2 ^ 63 }
     requires rooms { (k : ℕ) → k < 8 → (slice_index_or lines.old (k + 2) no_line).counts.due
         + (timer_matches matches.now k).count < 2 ^ 63 }
@@ -108,11 +113,8 @@ pub(crate) fn take_ticks(
     ensures rest { (j : ℕ) → h.now.timers + 2 ≤ j
         → slice_index_or lines.new j no_line ≡ slice_index_or lines.old j no_line }
 {
-    let _timers = h.timers();
     take_rises(lines, legacy, rises);
-    if matched {
-        take_matches(lines, h, matches);
-    }
+    take_matches(lines, h, reach, matches);
 }
 
 /// Counts ticks of the 8254, which legacy replacement leaves out.
@@ -133,7 +135,10 @@ fn take_rises(lines: &mut [TickLine; 10], legacy: bool, rises: u64)
 
 /// Counts ticks of the timers.
 #[inline(always)]
-fn take_matches(lines: &mut [TickLine; 10], h: &Hpet, matches: &[Matches; 8])
+fn take_matches(lines: &mut [TickLine; 10], h: &Hpet, reach: u8, matches: &[Matches; 8])
+    requires inside { reach ≤ h.now.timers }
+    requires places { reach ≤ 8 }
+    requires none { (k : ℕ) → reach ≤ k → (timer_matches matches.now k).count ≡ 0 }
     requires rooms { (k : ℕ) → k < 8 → (slice_index_or lines.old (k + 2) no_line).counts.due
         + (timer_matches matches.now k).count < 2 ^ 63 }
     ensures places { length lines.new ≡ 10 }
@@ -145,7 +150,7 @@ fn take_matches(lines: &mut [TickLine; 10], h: &Hpet, matches: &[Matches; 8])
     ensures rest { (j : ℕ) → h.now.timers + 2 ≤ j
         → slice_index_or lines.new j no_line ≡ slice_index_or lines.old j no_line }
 {
-    for k in 0..h.timers() {
+    for k in 0..reach {
         take_timer(lines, h, k, matches[k as usize].count);
     }
 }

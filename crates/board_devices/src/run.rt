@@ -29,8 +29,6 @@ ghost use Rattle.irq_edges.specs.Rises.{IsNextRise};
 ghost use Rattle.board_devices.specs.Rises.{one_if, lifts};
 ghost use Rattle.board_devices.specs.Places.{line_at};
 ghost use Rattle.board_devices.specs.Lines.{levels};
-ghost use Rattle.hpet_registers.specs.Parts.{is_running};
-ghost use Rattle.hpet_registers.specs.Stretch.{timer_matches};
 ghost use Rattle.board_devices.specs.Run.{run, IsNextEdge};
 ghost use Rattle.board_devices.specs.private.Stretch.{told_levels};
 
@@ -42,7 +40,6 @@ use crate::pulse_counts::pulse_counts;
 use crate::stretch::{Span, pit_ticks, rtc_ticks, run_at, run_timers};
 use clk_units::RANGE_NS;
 use hpet_comparator::Matches;
-use hpet_registers::Hpet;
 use irq_edges::{EdgeList, emit, next_rise};
 use rtc_cycle::CycleEvents;
 use rtc_registers::{Rtc, RtcEvents};
@@ -66,13 +63,11 @@ impl Devices {
         let _clock = self.rtc.parts();
         let legacy = self.hpet.legacy();
         let status = self.hpet.parts().status;
-        let standing = is_standing(&self.hpet);
         let point = next_point(from, self.slew_ns);
         let pulses = pulse_counts(from, to);
-        let rises = self.pit.pulses(pulses.pit);
         let mut matches = [Matches::NONE; 8];
-        self.hpet.pulses(pulses.hpet, &mut matches);
-        let matched = has_matched(standing, &matches);
+        let reach = self.hpet.pulses(pulses.hpet, &mut matches);
+        let rises = self.pit.pulses(pulses.pit);
         if to < point
             && finds_up(
                 &self.ticks,
@@ -80,7 +75,7 @@ impl Devices {
                 legacy,
                 pulses.rtc,
                 rises,
-                matched,
+                reach,
                 &matches,
             )
         {
@@ -91,7 +86,7 @@ impl Devices {
                 &self.hpet,
                 legacy,
                 rises.count,
-                matched,
+                reach,
                 &matches,
             );
             return false;
@@ -199,33 +194,6 @@ fn clock_pulses(rtc: &mut Rtc, n: u64) -> RtcEvents
         return NO_EVENTS;
     }
     rtc.pulses(n)
-}
-
-/// Whether the main counter stands, so that no timer matches.
-fn is_standing(h: &Hpet) -> bool
-    ensures { result ≡ true → is_running h.now ≡ false }
-{
-    h.config() % 2 == 0
-}
-
-/// Whether a timer matched. The matches of an HPET that stands aren't looked at.
-fn has_matched(standing: bool, matches: &[Matches; 8]) -> bool
-    requires none { standing ≡ true → (k : ℕ) → k < 8 → (timer_matches matches.now k).count ≡ 0 }
-    ensures { result ≡ false → (k : ℕ) → k < 8 → (timer_matches matches.now k).count ≡ 0 }
-{
-    !standing && !nothing_matched(matches)
-}
-
-/// Whether no timer matched.
-fn nothing_matched(matches: &[Matches; 8]) -> bool
-    ensures { IsTrue result → (k : ℕ) → k < 8 → (timer_matches matches.now k).count ≡ 0 }
-{
-    for timer in matches {
-        if timer.count > 0 {
-            return false;
-        }
-    }
-    true
 }
 
 /// Whether a line goes up behind `from`, by the times from which on the lines are up.

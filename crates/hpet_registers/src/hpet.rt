@@ -147,10 +147,11 @@ impl Hpet {
     }
 
     /// Counts `n` pulses of 10 ns, and puts into each place of `matches` those of that timer, none
-    /// where there is no timer.
+    /// where there is no timer. Answers how many timers, from the first on, have all that matched:
+    /// a caller need look at no later one.
     // The caller holds the matches: to move all eight would cost as much as the pulses do.
     #[inline(always)]
-    pub fn pulses(&mut self, n: u64, matches: &mut [Matches; 8])
+    pub fn pulses(&mut self, n: u64, matches: &mut [Matches; 8]) -> u8
         ensures state { self.new ≡ hpet_pulsed_times n self.old }
         ensures count { (k : ℕ) → (timer_matches matches.new k).count ≡ matches_of k self.old n }
         ensures few { (k : ℕ) → (timer_matches matches.new k).count ≤ n }
@@ -185,8 +186,11 @@ impl Hpet {
               status = self.new.status;
               timer = self.new.timer;
             } }
+        ensures inside { result ≤ self.old.timers }
+        ensures places { result ≤ 8 }
+        ensures reach { (k : ℕ) → result ≤ k → (timer_matches matches.new k).count ≡ 0 }
     {
-        stretch::pulse(&mut self.parts, n, matches);
+        stretch::pulse(&mut self.parts, n, matches)
     }
 
     /// The configuration: bit 0 ENABLE, bit 1 legacy replacement.

@@ -1,7 +1,7 @@
 //! The pulses of all timers at once.
 
 ghost use Rattle.std.specs.Prelude.{◌≡◌, ℕ, suc, ◌<◌, ◌≤◌, ◌&&◌, ◌||◌, nat_lt, if◌then◌else◌};
-ghost use Rattle.std.specs.Prelude.{slice_set, bit_or, ◌^◌, map};
+ghost use Rattle.std.specs.Prelude.{slice_set, bit_or, ◌^◌, ◌+◌, map};
 ghost use Rattle.clk_units.specs.Events.{IsFirst};
 ghost use Rattle.clk_units.specs.Bits.{bit};
 ghost use Rattle.hpet_comparator.specs.Parts.{IsTimer, is_level};
@@ -58,10 +58,23 @@ fn pulse_timer(parts: &mut HpetParts, k: u8, n: u64) -> Matches
     matches
 }
 
+/// How many timers, from the first on, have all that matched: timer `k`, if `count` says that it
+/// matched, and else those of the timers before it.
+#[inline(always)]
+fn reach_with(reach: u8, k: u8, count: u64) -> u8
+    requires before { reach ≤ k }
+    requires place { k < 8 }
+    ensures inside { result ≤ k + 1 }
+    ensures more { reach ≤ result }
+    ensures here { result ≤ k → count ≡ 0 }
+{
+    if count > 0 { k + 1 } else { reach }
+}
+
 /// Counts `n` pulses of a counter that runs for each timer, and puts the matches of each into
-/// `matches`.
+/// `matches`. Answers how many timers, from the first on, have all that matched.
 #[inline]
-fn pulse_timers(parts: &mut HpetParts, n: u64, matches: &mut [Matches; 8])
+fn pulse_timers(parts: &mut HpetParts, n: u64, matches: &mut [Matches; 8]) -> u8
     requires { IsHpet parts.old }
     ensures state { parts.new
         ≡ record parts.old {
@@ -75,16 +88,24 @@ fn pulse_timers(parts: &mut HpetParts, n: u64, matches: &mut [Matches; 8])
     ensures matches { (k : ℕ) → k < parts.old.timers
         → AreMatches parts.old.counter n (timer_at k parts.old) (timer_matches matches.new k) }
     ensures none { (k : ℕ) → parts.old.timers ≤ k → timer_matches matches.new k ≡ no_matches }
+    ensures inside { result ≤ parts.old.timers }
+    ensures places { result ≤ 8 }
+    ensures reach { (k : ℕ) → result ≤ k → (timer_matches matches.new k).count ≡ 0 }
 {
     *matches = [Matches::NONE; 8];
+    let mut reach = 0;
     for k in 0..parts.timers {
-        matches[k as usize] = pulse_timer(parts, k, n);
+        let timer = pulse_timer(parts, k, n);
+        matches[k as usize] = timer;
+        reach = reach_with(reach, k, timer.count);
     }
+    reach
 }
 
-/// Counts `n` pulses, and puts the matches of each timer into `matches`.
+/// Counts `n` pulses, and puts the matches of each timer into `matches`. Answers how many timers,
+/// from the first on, have all that matched.
 #[inline(always)]
-pub(crate) fn pulse(parts: &mut HpetParts, n: u64, matches: &mut [Matches; 8])
+pub(crate) fn pulse(parts: &mut HpetParts, n: u64, matches: &mut [Matches; 8]) -> u8
     requires valid { IsHpet parts.old }
     requires fits { parts.old.counter < 2 ^ 64 }
     ensures state { parts.new ≡ hpet_pulsed_times n parts.old }
@@ -100,14 +121,18 @@ pub(crate) fn pulse(parts: &mut HpetParts, n: u64, matches: &mut [Matches; 8])
         (spacing_of (timer_at k parts.old))
         (suc i) }
     ensures none { (k : ℕ) → parts.old.timers ≤ k → timer_matches matches.new k ≡ no_matches }
+    ensures inside { result ≤ parts.old.timers }
+    ensures places { result ≤ 8 }
+    ensures reach { (k : ℕ) → result ≤ k → (timer_matches matches.new k).count ≡ 0 }
 {
     let from = parts.counter;
     if parts.config % 2 == 0 {
         *matches = [Matches::NONE; 8];
-        return;
+        return 0;
     }
-    pulse_timers(parts, n, matches);
+    let reach = pulse_timers(parts, n, matches);
     let mut counter = MainCounter { value: from };
     counter.pulses(n);
     parts.counter = counter.value;
+    reach
 }

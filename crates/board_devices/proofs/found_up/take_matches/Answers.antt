@@ -1,9 +1,10 @@
-use Rattle.std.proofs.Common.{◌≡◌, ℕ, ◌+◌, cond, get_or, ap, subst, sym, ◌∙◌, inl, inr, arith}
-use Rattle.std.proofs.lemmas.Bool.{cases_eq}
+use Rattle.std.proofs.Common.{◌≡◌, ℕ, ◌+◌, Bool, true, false, cond, get_or, refl, ap, subst, sym, ◌∙◌, inl, inr, arith}
+use Rattle.std.proofs.lemmas.Bool.{cases_eq, cases_lt}
 use Rattle.hpet_registers.specs.Outputs.{has_ticks}
 use Rattle.hpet_registers.specs.Stretch.{timer_matches}
 use Rattle.tick_policy.specs.Line.{ticked_times}
 use Rattle.board_devices.specs.Places.{no_line}
+use Rattle.board_devices.proofs.Idle.{no_ticks}
 use Rattle.board_devices.proofs.found_up.take_matches.Goals as goal
 
 pub loop-k-preserved : goal.loop-k-preserved
@@ -23,3 +24,19 @@ loop-k-preserved c =
       ];
       rest = λ j behind. c.take_timer.ensures.others j (λ same. absurd (omega (arith, same, behind))) ∙ c.loop-k.invariant.rest j (omega (arith, behind));
     }
+
+-- no timer behind those matched
+none_where : (b : Bool) (m : ℕ) → m ≡ 0 → cond b m 0 ≡ 0
+none_where true m e = e
+none_where false m e = refl
+
+pub returns-clause-done : goal.returns-clause-done
+returns-clause-done c = λ j inside. elim (cases_lt j c.loop-k.k) [
+  | inl less ↦ c.loop-k.invariant.done j less
+  | inr past ↦ c.loop-k.invariant.rest (j + 2) (omega (arith, past))
+      ∙ sym (no_ticks (cond (has_ticks j c.args.h.now) (timer_matches c.args.matches.now j).count 0) (get_or c.args.lines.now (j + 2) no_line)
+      (none_where (has_ticks j c.args.h.now) (timer_matches c.args.matches.now j).count (c.requires.none j (omega (arith, past)))))
+]
+
+pub returns-clause-rest : goal.returns-clause-rest
+returns-clause-rest c = λ j past. c.loop-k.invariant.rest j (omega (arith, past, c.requires.inside))

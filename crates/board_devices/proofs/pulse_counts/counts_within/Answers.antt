@@ -1,5 +1,4 @@
-use Rattle.std.proofs.Common.{◌≡◌, ◌+◌, ◌-◌, ◌≤◌, ◌∙◌, subst, sym, ℕ, arith}
-use Rattle.clk_units.specs.Pulses.{pulses_by, pulses_from}
+use Rattle.std.proofs.Common.{◌-◌, arith}
 use Rattle.clk_units.proofs.Pulses.{pulses_by-mono, pulses_from_le}
 use Rattle.pit_readback.specs.declared.TheConstants.{PIT_HZ}
 use Rattle.rtc_registers.specs.declared.TheConstants.{RTC_HZ}

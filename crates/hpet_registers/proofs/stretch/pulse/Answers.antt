@@ -32,6 +32,9 @@ returns-then-parts-eq0-clause-first c = λ k.
     subst (λ (m : Matches). IsFirst (matches_of k c.args.parts.now) c.args.n m.first) (sym (timer_matches-none k))
     (matches_of-standing k c.args.n c.args.parts.now (stands c.args.parts.now.config c.if-parts-eq0.true))
 
+pub returns-then-parts-eq0-clause-reach : goal.returns-then-parts-eq0-clause-reach
+returns-then-parts-eq0-clause-reach c = λ k past. ap (λ (m : Matches). m.count) (timer_matches-none k)
+
 pub returns-then-parts-eq0-clause-every : goal.returns-then-parts-eq0-clause-every
 returns-then-parts-eq0-clause-every c = λ k i inside.
     let still : is_running c.args.parts.now ≡ false = stands c.args.parts.now.config c.if-parts-eq0.true in
@@ -43,26 +46,26 @@ pub returns-clause-state : goal.returns-clause-state
 returns-clause-state c =
     let running : is_running c.args.parts.now ≡ true = runs c.args.parts.now.config c.if-parts-eq0.false in
     let counter : c.pulses.new.self.value ≡ counter_after c.args.parts.now.counter c.args.n = c.pulses.ensures.value in
-    ap (λ (x : ℕ). record c.pulse_timers.new.parts { counter = x }) counter
-    ∙ (ap (λ (h : HpetParts). record h { counter = counter_after c.args.parts.now.counter c.args.n }) c.pulse_timers.ensures.state
+    ap (λ (x : ℕ). record c.pulse_timers-reach.new.parts { counter = x }) counter
+    ∙ (ap (λ (h : HpetParts). record h { counter = counter_after c.args.parts.now.counter c.args.n }) c.pulse_timers-reach.ensures.state
     ∙ stretched c.args.n c.args.parts.now c.requires.valid running c.requires.fits)
 
 pub returns-clause-count : goal.returns-clause-count
 returns-clause-count c = λ k.
     let running : is_running c.args.parts.now ≡ true = runs c.args.parts.now.config c.if-parts-eq0.false in
     elim (cases_lt k c.args.parts.now.timers) [
-      | inl inside ↦ (c.pulse_timers.ensures.matches k inside).count
+      | inl inside ↦ (c.pulse_timers-reach.ensures.matches k inside).count
           ∙ sym (matches_of-running k c.args.n c.args.parts.now running c.requires.fits inside)
-      | inr past ↦ ap (λ (m : Matches). m.count) (c.pulse_timers.ensures.none k past) ∙ sym (matches_of-absent k c.args.n c.args.parts.now past)
+      | inr past ↦ ap (λ (m : Matches). m.count) (c.pulse_timers-reach.ensures.none k past) ∙ sym (matches_of-absent k c.args.n c.args.parts.now past)
     ]
 
 pub returns-clause-first : goal.returns-clause-first
 returns-clause-first c = λ k.
     let running : is_running c.args.parts.now ≡ true = runs c.args.parts.now.config c.if-parts-eq0.false in
     elim (cases_lt k c.args.parts.now.timers) [
-      | inl inside ↦ IsFirst-running k c.args.n c.args.parts.now (timer_matches c.pulse_timers.new.matches k).first running c.requires.fits inside
-          (c.pulse_timers.ensures.matches k inside).first
-      | inr past ↦ subst (λ (m : Matches). IsFirst (matches_of k c.args.parts.now) c.args.n m.first) (sym (c.pulse_timers.ensures.none k past))
+      | inl inside ↦ IsFirst-running k c.args.n c.args.parts.now (timer_matches c.pulse_timers-reach.new.matches k).first running c.requires.fits inside
+          (c.pulse_timers-reach.ensures.matches k inside).first
+      | inr past ↦ subst (λ (m : Matches). IsFirst (matches_of k c.args.parts.now) c.args.n m.first) (sym (c.pulse_timers-reach.ensures.none k past))
           (matches_of-absent k c.args.n c.args.parts.now past)
     ]
 
@@ -71,7 +74,7 @@ returns-clause-every c = λ k i less.
     let running : is_running c.args.parts.now ≡ true = runs c.args.parts.now.config c.if-parts-eq0.false in
     elim (cases_lt k c.args.parts.now.timers) [
       | inl inside ↦ matches_next-hpet_pulsed_times k i c.args.parts.now running c.requires.fits inside
-          ∙ (c.pulse_timers.ensures.matches k inside).every i less
+          ∙ (c.pulse_timers-reach.ensures.matches k inside).every i less
       | inr past ↦ matches_next-absent k i c.args.parts.now past
-          ∙ ap (λ (m : Matches). falls_on m.first m.count (spacing_of (timer_at k c.args.parts.now)) (suc i)) (sym (c.pulse_timers.ensures.none k past))
+          ∙ ap (λ (m : Matches). falls_on m.first m.count (spacing_of (timer_at k c.args.parts.now)) (suc i)) (sym (c.pulse_timers-reach.ensures.none k past))
     ]

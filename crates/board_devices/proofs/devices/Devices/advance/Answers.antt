@@ -60,8 +60,8 @@ run_at-rtc_up-requires-clause-room c =
 
 pub run_timers-requires-clause-inside : goal.run_timers-requires-clause-inside
 run_timers-requires-clause-inside c = λ k less.
-    by_first (matches_of k c.self.inside.hpet) _ (timer_matches c.pulses.new.matches k).first
-    (rw c.pulse_counts-pulses.ensures.hpet at (c.pulses.ensures.first k))
+    by_first (matches_of k c.self.inside.hpet) _ (timer_matches c.pulses-reach.new.matches k).first
+    (rw c.pulse_counts-pulses.ensures.hpet at (c.pulses-reach.ensures.first k))
   where
     by_first : (count : ℕ → ℕ) (n : ℕ) (first : Option ℕ) → IsFirst count n first → IfSome first (λ j. j ≤ n)
     by_first count n None h = tt
@@ -75,7 +75,7 @@ run_timers-requires-clause-room c = λ k less.
     let same : (get_or c.run_at-rtc_up.new.lines (k + 2) no_line).counts.due ≡ (line_at (k + 2) (parts_of c.self.inside)).counts.due =
     ap (λ (l : TickParts). l.counts.due) (c.run_at-rtc_up.ensures.others (k + 2) (λ e. absurd (omega (arith, e)))
     ∙ c.run_at-pit_up.ensures.others (k + 2) (λ e. absurd (omega (arith, e)))) in
-    omega (arith, room, same, c.pulses.ensures.few k, c.pulse_counts-pulses.ensures.few_hpet)
+    omega (arith, room, same, c.pulses-reach.ensures.few k, c.pulse_counts-pulses.ensures.few_hpet)
 
 -- the lines behind those of the 8254 and the MC146818
 behind : (c : goal.After-run_timers) → (k : ℕ) → k < 8 → get_or c.run_at-rtc_up.new.lines (k + 2) no_line ≡ line_at (suc (suc k)) (parts_of c.self.inside)
@@ -96,7 +96,7 @@ valid : (c : goal.After-run_timers) → IsHpet c.self.inside.hpet
 valid c = subst IsHpet c.parts-status.ensures.parts c.parts-status.ensures.valid
 
 brought : (c : goal.After-run_timers)
-    → Brought (parts_of c.self.inside) c.args.from (c.args.to - c.args.from) c.pulses-rises.result c.clock_pulses-events.result c.pulses.new.matches
+    → Brought (parts_of c.self.inside) c.args.from (c.args.to - c.args.from) c.pulses-rises.result c.clock_pulses-events.result c.pulses-reach.new.matches
 brought c = record {
   pit_count = rw c.pulse_counts-pulses.ensures.pit at c.pulses-rises.ensures.count;
   pit_first = rw c.pulse_counts-pulses.ensures.pit at c.pulses-rises.ensures.first;
@@ -104,8 +104,8 @@ brought c = record {
   rtc_first = rw c.pulse_counts-pulses.ensures.rtc at c.clock_pulses-events.ensures.first_tick;
   update_first = rw c.pulse_counts-pulses.ensures.rtc at c.clock_pulses-events.ensures.first_update;
   alarm_first = rw c.pulse_counts-pulses.ensures.rtc at c.clock_pulses-events.ensures.first_alarm;
-  timer_count = rw c.pulse_counts-pulses.ensures.hpet at c.pulses.ensures.count;
-  timer_first = rw c.pulse_counts-pulses.ensures.hpet at c.pulses.ensures.first;
+  timer_count = rw c.pulse_counts-pulses.ensures.hpet at c.pulses-reach.ensures.count;
+  timer_first = rw c.pulse_counts-pulses.ensures.hpet at c.pulses-reach.ensures.first;
 }
 
 counts_is : (c : goal.After-run_timers) → c.counts_rtc-counts.result ≡ counts_rtc (parts_of c.self.inside)
@@ -117,7 +117,7 @@ ahead c = (c.args.from / c.self.inside.slew_ns + 1) * c.self.inside.slew_ns - c.
 
 known : (c : goal.After-run_timers)
     → Known (parts_of c.self.inside) c.args.from (c.args.to - c.args.from) (ahead c)
-    c.pulses-rises.result c.clock_pulses-events.result c.pulses.new.matches c.pit_ticks-pit.result c.rtc_ticks-rtc.result
+    c.pulses-rises.result c.clock_pulses-events.result c.pulses-reach.new.matches c.pit_ticks-pit.result c.rtc_ticks-rtc.result
 unfolding ahead
 known c = record {
   sound = sound c;
@@ -135,8 +135,8 @@ end_is : (c : goal.After-run_timers) → c.args.to ≡ c.args.from + (c.args.to 
 end_is c = omega (arith, c.requires.order)
 
 hpet_is : (c : goal.After-run_timers)
-    → c.pulses.new.self ≡ hpet_pulsed_times (pulses_from HPET_HZ c.args.from (c.args.to - c.args.from)) c.self.inside.hpet
-hpet_is c = rw c.pulse_counts-pulses.ensures.hpet at c.pulses.ensures.state
+    → c.pulses-reach.new.self ≡ hpet_pulsed_times (pulses_from HPET_HZ c.args.from (c.args.to - c.args.from)) c.self.inside.hpet
+hpet_is c = rw c.pulse_counts-pulses.ensures.hpet at c.pulses-reach.ensures.state
 
 -- the lines at the end
 first_line : (c : goal.After-run_timers) → get_or c.run_at-rtc_up.new.lines 1 no_line
@@ -147,15 +147,15 @@ first_line c =
 
 ends : (c : goal.After-run_timers) → (k : ℕ) → k < 10 → get_or c.run_timers.new.lines k no_line
     ≡ end_of c.next_point-point.result c.args.to
-    (ticks_at c.args.from c.self.inside.hpet c.pulses.new.matches c.pit_ticks-pit.result c.rtc_ticks-rtc.result k) (line_at k (parts_of c.self.inside))
+    (ticks_at c.args.from c.self.inside.hpet c.pulses-reach.new.matches c.pit_ticks-pit.result c.rtc_ticks-rtc.result k) (line_at k (parts_of c.self.inside))
 ends c zero less = c.run_timers.ensures.front 0 (omega arith) ∙ c.run_at-rtc_up.ensures.others 0 (λ e. absurd (omega (arith, e))) ∙ c.run_at-pit_up.ensures.here
 ends c (suc zero) less = c.run_timers.ensures.front 1 (omega arith) ∙ first_line c
 ends c (suc (suc k)) less = ends-timers (known c) c.next_point-point.result c.args.to c.run_at-rtc_up.new.lines c.run_timers.new.lines (behind c)
     (λ j inside. subst (λ (h : HpetParts). get_or c.run_timers.new.lines (j + 2) no_line ≡ end_of c.next_point-point.result c.args.to
-    (timer_ticks c.args.from j h (timer_matches c.pulses.new.matches j)) (get_or c.run_at-rtc_up.new.lines (j + 2) no_line)) (hpet_is c)
+    (timer_ticks c.args.from j h (timer_matches c.pulses-reach.new.matches j)) (get_or c.run_at-rtc_up.new.lines (j + 2) no_line)) (hpet_is c)
     (c.run_timers.ensures.done j (subst (λ (h : HpetParts). j < h.timers) (sym (hpet_is c)) inside)))
     (λ j past. c.run_timers.ensures.rest j (subst (λ (h : HpetParts). h.timers + 2 ≤ j) (sym (hpet_is c)) past))
-    c.pulses.ensures.none k (omega arith)
+    c.pulses-reach.ensures.none k (omega arith)
 
 -- PF follows its line
 rtc_is : (c : goal.After-run_timers) → c.set_flag.new.rtc
@@ -176,11 +176,11 @@ state : (c : goal.After-run_timers)
     → parts_of (record {
       pit = c.pulses-rises.new.self;
       rtc = c.set_flag.new.rtc;
-      hpet = c.pulses.new.self;
+      hpet = c.pulses-reach.new.self;
       ticks = c.run_timers.new.lines;
       slew_ns = c.self.inside.slew_ns;
     }) ≡ (run c.args.from (c.args.to - c.args.from) (parts_of c.self.inside)).state
-state c = ran-state (known c) c.next_point-point.result c.args.to c.run_timers.new.lines c.pulses-rises.new.self c.set_flag.new.rtc c.pulses.new.self
+state c = ran-state (known c) c.next_point-point.result c.args.to c.run_timers.new.lines c.pulses-rises.new.self c.set_flag.new.rtc c.pulses-reach.new.self
     (point_is c) (end_is c) c.run_timers.ensures.places (ends c)
     (rw c.pulse_counts-pulses.ensures.pit at c.pulses-rises.ensures.state) (rtc_is c) (hpet_is c)
 
@@ -217,7 +217,7 @@ times : (c : goal.After-run_timers) → c.run_timers.new.times ≡ lines_from (k
 times c =
     let status : ℕ = c.parts-status.result.status in
     let before : List TickParts = c.run_at-rtc_up.new.lines in
-    let ms : List Matches = c.pulses.new.matches in
+    let ms : List Matches = c.pulses-reach.new.matches in
     let h : HpetParts = hpet_pulsed_times (pulses_from HPET_HZ c.args.from (c.args.to - c.args.from)) c.self.inside.hpet in
     let span : Span = record { from = c.args.from; to = c.args.to; point = c.next_point-point.result } in
     c.run_timers.ensures.times
@@ -242,7 +242,14 @@ pub take_ticks-requires-clause-rooms : goal.take_ticks-requires-clause-rooms
 take_ticks-requires-clause-rooms c = λ k less.
     let room : (line_at (k + 2) (parts_of c.self.inside)).counts.due + (c.args.to - c.args.from) < 2 ^ 63 =
     rw (← c.self.view_is) at (c.requires.room (k + 2) (omega arith)) in
-    omega (arith, room, c.pulses.ensures.few k, c.pulse_counts-pulses.ensures.few_hpet)
+    omega (arith, room, c.pulses-reach.ensures.few k, c.pulse_counts-pulses.ensures.few_hpet)
+
+-- .. and the timers that matched are there
+pub take_ticks-requires-clause-inside : goal.take_ticks-requires-clause-inside
+take_ticks-requires-clause-inside c =
+    let same : c.pulses-reach.new.self.timers ≡ c.self.inside.hpet.timers =
+    ap (λ (h : HpetParts). h.timers) c.pulses-reach.ensures.state ∙ timers-hpet_pulsed_times c.pulse_counts-pulses.result.hpet c.self.inside.hpet in
+    omega (arith, same, c.pulses-reach.ensures.inside)
 
 -- nothing came of the MC146818
 still_ticks : (c : goal.After-take_ticks) → c.clock_pulses-none.result.cycle.ticks ≡ 0
@@ -259,7 +266,7 @@ still c = record {
 }
 
 still_brought : (c : goal.After-take_ticks)
-    → Brought (parts_of c.self.inside) c.args.from (c.args.to - c.args.from) c.pulses-rises.result c.clock_pulses-none.result c.pulses.new.matches
+    → Brought (parts_of c.self.inside) c.args.from (c.args.to - c.args.from) c.pulses-rises.result c.clock_pulses-none.result c.pulses-reach.new.matches
 still_brought c = record {
   pit_count = rw c.pulse_counts-pulses.ensures.pit at c.pulses-rises.ensures.count;
   pit_first = rw c.pulse_counts-pulses.ensures.pit at c.pulses-rises.ensures.first;
@@ -267,8 +274,8 @@ still_brought c = record {
   rtc_first = rw c.pulse_counts-pulses.ensures.rtc at c.clock_pulses-none.ensures.first_tick;
   update_first = rw c.pulse_counts-pulses.ensures.rtc at c.clock_pulses-none.ensures.first_update;
   alarm_first = rw c.pulse_counts-pulses.ensures.rtc at c.clock_pulses-none.ensures.first_alarm;
-  timer_count = rw c.pulse_counts-pulses.ensures.hpet at c.pulses.ensures.count;
-  timer_first = rw c.pulse_counts-pulses.ensures.hpet at c.pulses.ensures.first;
+  timer_count = rw c.pulse_counts-pulses.ensures.hpet at c.pulses-reach.ensures.count;
+  timer_first = rw c.pulse_counts-pulses.ensures.hpet at c.pulses-reach.ensures.first;
 }
 
 -- the ticks of the 8254 and of the MC146818
@@ -284,7 +291,7 @@ still_ahead c = (c.args.from / c.self.inside.slew_ns + 1) * c.self.inside.slew_n
 
 still_known : (c : goal.After-take_ticks)
     → Known (parts_of c.self.inside) c.args.from (c.args.to - c.args.from) (still_ahead c)
-    c.pulses-rises.result c.clock_pulses-none.result c.pulses.new.matches (still_pit c) (still_rtc c)
+    c.pulses-rises.result c.clock_pulses-none.result c.pulses-reach.new.matches (still_pit c) (still_rtc c)
 unfolding still_ahead still_pit still_rtc
 still_known c = record {
   sound = still c;
@@ -302,8 +309,8 @@ still_end : (c : goal.After-take_ticks) → c.args.to ≡ c.args.from + (c.args.
 still_end c = omega (arith, c.requires.order)
 
 still_hpet : (c : goal.After-take_ticks)
-    → c.pulses.new.self ≡ hpet_pulsed_times (pulses_from HPET_HZ c.args.from (c.args.to - c.args.from)) c.self.inside.hpet
-still_hpet c = rw c.pulse_counts-pulses.ensures.hpet at c.pulses.ensures.state
+    → c.pulses-reach.new.self ≡ hpet_pulsed_times (pulses_from HPET_HZ c.args.from (c.args.to - c.args.from)) c.self.inside.hpet
+still_hpet c = rw c.pulse_counts-pulses.ensures.hpet at c.pulses-reach.ensures.state
 
 -- the lines at the end: each has its ticks
 early : (c : goal.After-take_ticks) → c.args.to < c.next_point-point.result
@@ -311,7 +318,7 @@ early c = c.if-to-point.true
 
 still_ends : (c : goal.After-take_ticks) → (k : ℕ) → k < 10 → get_or c.take_ticks.new.lines k no_line
     ≡ end_of c.next_point-point.result c.args.to
-    (ticks_at c.args.from c.self.inside.hpet c.pulses.new.matches (still_pit c) (still_rtc c) k) (line_at k (parts_of c.self.inside))
+    (ticks_at c.args.from c.self.inside.hpet c.pulses-reach.new.matches (still_pit c) (still_rtc c) k) (line_at k (parts_of c.self.inside))
 unfolding still_pit still_rtc
 still_ends c zero less =
     c.take_ticks.ensures.pit
@@ -326,12 +333,12 @@ still_ends c (suc zero) less =
 still_ends c (suc (suc k)) less = ends-timers (still_known c) c.next_point-point.result c.args.to c.self.inside.ticks c.take_ticks.new.lines
     (λ j small. ap (λ (i : ℕ). get_or c.self.inside.ticks i no_line) (omega arith))
     (λ j inside. c.take_ticks.ensures.done j (subst (λ (h : HpetParts). j < h.timers) (sym (still_hpet c)) inside)
-    ∙ ap (λ (h : HpetParts). ticked_times (cond (has_ticks j h) (timer_matches c.pulses.new.matches j).count 0)
+    ∙ ap (λ (h : HpetParts). ticked_times (cond (has_ticks j h) (timer_matches c.pulses-reach.new.matches j).count 0)
     (get_or c.self.inside.ticks (j + 2) no_line)) (still_hpet c)
-    ∙ sym (end-early c.next_point-point.result c.args.to (timer_matches c.pulses.new.matches j).count _ _ (get_or c.self.inside.ticks (j + 2) no_line)
+    ∙ sym (end-early c.next_point-point.result c.args.to (timer_matches c.pulses-reach.new.matches j).count _ _ (get_or c.self.inside.ticks (j + 2) no_line)
     (early c)))
     (λ j past. c.take_ticks.ensures.rest j (subst (λ (h : HpetParts). h.timers + 2 ≤ j) (sym (still_hpet c)) past))
-    c.pulses.ensures.none k (omega arith)
+    c.pulses-reach.ensures.none k (omega arith)
 
 -- PF follows its line, which is as it was
 still_rtc_is : (c : goal.After-take_ticks) → c.clock_pulses-none.new.rtc
@@ -350,12 +357,12 @@ still_state : (c : goal.After-take_ticks)
     → parts_of (record {
       pit = c.pulses-rises.new.self;
       rtc = c.clock_pulses-none.new.rtc;
-      hpet = c.pulses.new.self;
+      hpet = c.pulses-reach.new.self;
       ticks = c.take_ticks.new.lines;
       slew_ns = c.self.inside.slew_ns;
     }) ≡ (run c.args.from (c.args.to - c.args.from) (parts_of c.self.inside)).state
 still_state c = ran-state (still_known c) c.next_point-point.result c.args.to c.take_ticks.new.lines c.pulses-rises.new.self c.clock_pulses-none.new.rtc
-    c.pulses.new.self (still_point c) (still_end c) c.take_ticks.ensures.places (still_ends c)
+    c.pulses-reach.new.self (still_point c) (still_end c) c.take_ticks.ensures.places (still_ends c)
     (rw c.pulse_counts-pulses.ensures.pit at c.pulses-rises.ensures.state) (still_rtc_is c) (still_hpet c)
 
 pub invariant_of-self : goal.invariant_of-self
@@ -370,14 +377,14 @@ returns-then-finds_up-clause-due c = λ k less. rw (← c.self.view_is)
     (due-few (still_known c) c.next_point-point.result c.args.to c.take_ticks.new.lines (still_ends c) k less)
 
 -- a timer that matches is there
-there : (c : goal.After-take_ticks) (k : ℕ) → 0 < (timer_matches c.pulses.new.matches k).count → k < c.pulses.new.self.timers
+there : (c : goal.After-take_ticks) (k : ℕ) → 0 < (timer_matches c.pulses-reach.new.matches k).count → k < c.pulses-reach.new.self.timers
 there c k some = elim (cases_lt k c.self.inside.hpet.timers) [
   | inl inside ↦
-      let same : c.pulses.new.self.timers ≡ c.self.inside.hpet.timers =
+      let same : c.pulses-reach.new.self.timers ≡ c.self.inside.hpet.timers =
       ap (λ (h : HpetParts). h.timers) (still_hpet c)
       ∙ timers-hpet_pulsed_times (pulses_from HPET_HZ c.args.from (c.args.to - c.args.from)) c.self.inside.hpet in
       omega (arith, inside, same)
-  | inr gone ↦ absurd (omega (arith, some, ap (λ (m : Matches). m.count) (c.pulses.ensures.none k gone)))
+  | inr gone ↦ absurd (omega (arith, some, ap (λ (m : Matches). m.count) (c.pulses-reach.ensures.none k gone)))
 ]
 
 -- ticks that are due find their line up
@@ -403,7 +410,7 @@ found c (suc zero) less some =
 found c (suc (suc k)) less some =
     let due : (has_ticks k c.self.inside.hpet ≡ true)
     × (0 < matches_of k c.self.inside.hpet (pulses_from HPET_HZ c.args.from (c.args.to - c.args.from))) = some_where _ _ some in
-    let count : 0 < (timer_matches c.pulses.new.matches k).count = omega (arith, due.1, (still_brought c).timer_count k) in
+    let count : 0 < (timer_matches c.pulses-reach.new.matches k).count = omega (arith, due.1, (still_brought c).timer_count k) in
     let place : suc (suc k) ≡ k + 2 = omega arith in
     ap (λ (i : ℕ). (get_or c.self.inside.ticks i no_line).up) place
     ∙ c.if-finds_up.ensures.timers refl k (there c k count) count
@@ -412,7 +419,7 @@ found c (suc (suc k)) less some =
 -- no timer of level type matches
 level : (c : goal.After-take_ticks) (k : ℕ) → is_level (timer_at k c.self.inside.hpet) ≡ true
     → matches_of k c.self.inside.hpet (pulses_from HPET_HZ c.args.from (c.args.to - c.args.from)) ≡ 0
-level c k is_on = elim (cases_lt 0 (timer_matches c.pulses.new.matches k).count) [
+level c k is_on = elim (cases_lt 0 (timer_matches c.pulses-reach.new.matches k).count) [
   | inl some ↦ absurd (true≢false (sym is_on
       ∙ sym (is_level-hpet_pulsed_times k (pulses_from HPET_HZ c.args.from (c.args.to - c.args.from)) c.self.inside.hpet)
       ∙ sym (ap (λ (h : HpetParts). is_level (timer_at k h)) (still_hpet c)) ∙ c.if-finds_up.ensures.edge refl k (there c k some) some))

@@ -7,7 +7,7 @@ use Rattle.board_core.specs.Time.{HasTime}
 use Rattle.board_core.specs.Refusals.{raised_version}
 use Rattle.board_core.specs.Access.{ran_to, own_edges, after_run, after_act, value_at, edges_of, reply_of, after_access}
 use Rattle.board_core.proofs.Laws.{taken_time, taken_version, taken_accesses}
-use Rattle.board_core.proofs.board.BoardState.answer_alike.Goals as goal
+use Rattle.board_core.proofs.board.BoardState.answer_known.Goals as goal
 
 pub run_to-requires-clause-time : goal.run_to-requires-clause-time
 run_to-requires-clause-time c = taken_time c.args.self.now c.args.cpu c.args.h c.args.a c.in-Ok.ensures.taken
