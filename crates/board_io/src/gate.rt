@@ -1,7 +1,17 @@
 use std::sync::Wait;
 
+/// How many records of a processor an open gate lets through under one lock.
+const OPEN_TOGETHER: u8 = 64;
+
 /// Calls round the work of a processor's worker, by which a test can hold it. A gate may wait.
 pub trait Gate {
+    /// The most records of one processor that may be taken under one lock, 1 to 64; a number beside these is taken as
+    /// the nearest. A gate that answers more than 1 must not wait in `before` or `after`, since another processor may
+    /// then wait for the lock.
+    fn together(&self) -> u8 {
+        1
+    }
+
     /// Called before record `index` of processor `cpu`, counted from 0 within its phase.
     fn before<R: Wait>(&self, rt: &R, cpu: u8, index: u64);
 
@@ -18,6 +28,10 @@ pub trait Gate {
 pub struct OpenGate;
 
 impl Gate for OpenGate {
+    fn together(&self) -> u8 {
+        OPEN_TOGETHER
+    }
+
     fn before<R: Wait>(&self, _rt: &R, _cpu: u8, _index: u64) {}
 
     fn after<R: Wait>(&self, _rt: &R, _cpu: u8, _index: u64) {}

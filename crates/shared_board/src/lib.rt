@@ -17,6 +17,7 @@
 
 mod fault;
 mod held;
+mod holding;
 mod host;
 mod known;
 mod pass;
@@ -29,6 +30,7 @@ mod tries;
 
 pub use fault::{LockedFault, PageFault};
 pub use held::Held;
+pub use holding::Holding;
 pub use known::PassKnown;
 pub use pass::Pass;
 pub use shared::{PassesOut, SharedBoard, Stopped};

@@ -19,6 +19,7 @@ ghost use Rattle.shared_board.specs.private.Seats.{IsLastRead, HasClamped};
 
 use crate::fault::{LockedFault, PageFault};
 use crate::held::{Held, no_reply};
+use crate::holding::Holding;
 use crate::host::HostClock;
 use crate::pass::Pass;
 use crate::stop::{join_all, new_passes};
@@ -31,8 +32,15 @@ use clock_table::{Blank, ClockTable, Name};
 use host_counter::TimeFault;
 use pvclock_page::{ClockReply, PageReply};
 use std::alloc::Global;
+use std::hint::spin_loop;
 use std::sync::{Mutex, MutexGuard, Wait};
 use tsc_scale::ratio;
+
+/// How often a thread looks for a lock that another has, before it sleeps.
+const LOOKS: u32 = 200;
+
+/// How many pauses of the processor lie between two looks.
+const PAUSES: u32 = 100;
 
 /// A board that threads share: its registers behind one lock, its pages beside it.
 #[derive(Drop)]
@@ -144,9 +152,16 @@ impl<N: Name> SharedBoard<N> {
         ensures err { IfErr result (λ f. Refused cpu h a f pass.old pass.new) }
         ensures unchanged { OnErr result (reply.new ≡ reply.old) }
     {
-        let mut held = self.lock(rt);
-        gate.inside(rt, cpu);
-        held.access(&self.table, pass, cpu, h, a, reply)
+        self.hold(rt).answer(rt, gate, pass, cpu, h, a, reply)
+    }
+
+    /// Takes the lock for several accesses. It is given back where what is answered here is dropped.
+    #[inline(always)]
+    pub fn hold<R: Wait>(&self, rt: &R) -> Holding<'_, N> {
+        Holding {
+            table: &self.table,
+            held: self.lock(rt),
+        }
     }
 
     /// Takes the lock.
@@ -158,10 +173,21 @@ impl<N: Name> SharedBoard<N> {
         }
     }
 
-    /// Takes the lock behind another thread. It stands apart, so that a lock that is free costs one exchange.
+    // Whoever has the lock keeps it for some microseconds, and to wake a thread that sleeps takes longer. Each look takes
+    // the lock's memory from the thread that works beside it, so looks are rare.
+    /// Takes the lock behind another thread: looks for it a bounded number of times, and then sleeps. It stands apart,
+    /// so that a lock that is free costs one exchange.
     #[cold]
     #[inline(never)]
     fn lock_behind<R: Wait>(&self, rt: &R) -> MutexGuard<'_, Held<N>> {
+        for _ in 0..LOOKS {
+            for _ in 0..PAUSES {
+                spin_loop();
+            }
+            if let Some(held) = self.held.try_lock() {
+                return held;
+            }
+        }
         self.held.lock(rt)
     }
 

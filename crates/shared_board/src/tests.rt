@@ -8,6 +8,7 @@ mod many;
 mod words;
 
 use super::*;
+use crate::held::no_reply;
 use board_core::{Access, BoardState, MSR_KVM_SYSTEM_TIME, Setup};
 use board_io::OpenGate;
 use clock_table::{Blank, Name};
@@ -222,5 +223,38 @@ fn stopped_twice<N: Name, R: Wait + Abort>(
     passes.push(pass)?;
     let state = stopped(board, passes)?;
     assert_eq!(rt; (state.accesses(), state.greatest()), (1, 1_000));
+    Ok(())
+}
+
+#[test]
+fn two_accesses_under_one_lock(rt: HostRuntime) -> Result<(), Fail> {
+    let state = board();
+    let blank = blank(rt.alloc(), &state)?;
+    held_twice::<Brand, _>(&rt, rt.alloc(), blank, state)
+}
+
+fn held_twice<N: Name, R: Wait + Abort>(
+    rt: &R,
+    alloc: Global,
+    blank: Blank,
+    state: BoardState,
+) -> Result<(), Fail>
+    requires table { blank.0 ≡ N.table }
+    requires blank { blank.1 ≡ N.state }
+    requires state { state ≡ N.state }
+    requires cpus { N.state.cpus ≡ 2 }
+    requires passes { 1 ≡ N.passes }
+{
+    let (board, mut passes) = shared::<N>(alloc, blank, state, 1)?;
+    let mut pass = passes.pop().ok_or("a pass")?;
+    let mut one = no_reply();
+    let mut two = no_reply();
+    let mut holding = board.hold(rt);
+    let first = holding.answer(rt, &OpenGate, &mut pass, 0, 5, Access::Step, &mut one);
+    let second = holding.answer(rt, &OpenGate, &mut pass, 1, 5, ENABLE, &mut two);
+    drop(holding);
+    assert_eq!(rt; (first, second), (Ok(()), Ok(())));
+    assert_eq!(rt; (one.number, two.number), (1, 2));
+    assert_eq!(rt; number(rt, &board, &mut pass, 0, 5, Access::Step), 3);
     Ok(())
 }
