@@ -6,7 +6,7 @@ ghost use Rattle.trace_loop.specs.Progress.{Answer, Closing, printed, end_of, st
 use clk_units::NoMemory;
 
 /// What answers the lines of a trace, one after the other, and the end of the input; `E` says how a trace may end.
-pub trait Answerer<E> {
+pub trait Answerer<E: Drop> {
     // What a line does, by its number, what is known before it, and its bytes.
     ghost answer: { ℕ → Self → List ℕ → Answer Self E };
 
@@ -29,6 +29,30 @@ pub trait Answerer<E> {
         ensures may { IfOk result (λ end. end ≡ None → may (line + 1) self.new) }
         ensures err { OnErr result (StartsWith out.new.items out.old.items) };
 
+    /// The same, for a caller that keeps a place for the end, in which none stands: an answer that goes on moves no end.
+    #[inline(always)]
+    fn answer_into(
+        &mut self,
+        line: u64,
+        text: &[u8],
+        out: &mut Vec<u8>,
+        end: &mut Option<E>,
+    ) -> Result<(), NoMemory>
+        requires room { line < 2 ^ 63 }
+        requires may { may line self.old }
+        requires open { end.old ≡ None }
+        ensures printed { OnOk result
+            (out.new.items ≡ out.old.items ++ printed (answer line self.old text.now)) }
+        ensures ends { OnOk result (end.new ≡ end_of (answer line self.old text.now)) }
+        ensures state { OnOk result (end.new ≡ None
+            → self.new ≡ state_behind (answer line self.old text.now) self.old) }
+        ensures may { OnOk result (end.new ≡ None → may (line + 1) self.new) }
+        ensures err { OnErr result (StartsWith out.new.items out.old.items) }
+    {
+        *end = self.answer(line, text, out)?;
+        Ok(())
+    }
+
     /// Answers the end of the input, where the line of this number would come next.
     fn close(&mut self, line: u64, out: &mut Vec<u8>) -> Result<E, NoMemory>
         requires room { line < 2 ^ 63 }
@@ -44,27 +68,29 @@ pub trait Answerer<E> {
     }
 }
 
-/// Answers a line: appends its block, and answers how it ends the trace, if it does. After an `Err` the text is as it
-/// was.
+/// Answers a line: appends its block, and puts into `end` how it ends the trace, if it does. After an `Err` the text is
+/// as it was.
 #[inline(always)]
 pub(crate) fn answer_line<E: Drop, T: Answerer<E>>(
     answerer: &mut T,
     line: u64,
     text: &[u8],
     out: &mut Vec<u8>,
-) -> Result<Option<E>, NoMemory>
+    end: &mut Option<E>,
+) -> Result<(), NoMemory>
     requires room { line < 2 ^ 63 }
     requires may { T.may line answerer.old }
+    requires open { end.old ≡ None }
     ensures printed { OnOk result
         (out.new.items ≡ out.old.items ++ printed (T.answer line answerer.old text.now)) }
-    ensures ends { IfOk result (λ end. end ≡ end_of (T.answer line answerer.old text.now)) }
-    ensures state { IfOk result (λ end. end ≡ None
+    ensures ends { OnOk result (end.new ≡ end_of (T.answer line answerer.old text.now)) }
+    ensures state { OnOk result (end.new ≡ None
         → answerer.new ≡ state_behind (T.answer line answerer.old text.now) answerer.old) }
-    ensures may { IfOk result (λ end. end ≡ None → T.may (line + 1) answerer.new) }
+    ensures may { OnOk result (end.new ≡ None → T.may (line + 1) answerer.new) }
     ensures err { OnErr result (out.new.items ≡ out.old.items) }
 {
     let whole = out.len();
-    let result = answerer.answer(line, text, out);
+    let result = answerer.answer_into(line, text, out, end);
     if result.is_err() {
         out.truncate(whole);
     }

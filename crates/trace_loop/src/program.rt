@@ -104,15 +104,25 @@ pub fn go_on<E: Drop, T: Answerer<E>, S: Source, K: Sink>(
         match feed.lines.advance() {
             Ok(true) => {
                 let lines = &feed.lines;
-                match answer_line(answerer, lines.number(), lines.line(), &mut feed.out) {
-                    Ok(None) => {
-                        if answerer.pauses() {
-                            return Turn::Paused;
+                let mut end = None;
+                match answer_line(
+                    answerer,
+                    lines.number(),
+                    lines.line(),
+                    &mut feed.out,
+                    &mut end,
+                ) {
+                    Ok(()) => match end {
+                        None => {
+                            if answerer.pauses() {
+                                return Turn::Paused;
+                            }
                         }
-                    }
-                    Ok(Some(end)) => {
-                        return Turn::Ended(say(sink, &feed.out, Ended::By(end), Ended::SinkFault));
-                    }
+                        Some(end) => {
+                            let ended = Ended::By(end);
+                            return Turn::Ended(say(sink, &feed.out, ended, Ended::SinkFault));
+                        }
+                    },
                     Err(NoMemory) => return Turn::Ended(want_memory(sink, &feed.out)),
                 }
             }
@@ -201,7 +211,9 @@ fn finish<E: Drop, T: Answerer<E>>(
     if text.is_empty() {
         return answerer.close(line, out);
     }
-    match answer_line(answerer, line, text, out)? {
+    let mut end = None;
+    answer_line(answerer, line, text, out, &mut end)?;
+    match end {
         Some(end) => Ok(end),
         None => answerer.close(line + 1, out),
     }

@@ -22,9 +22,9 @@ returns-then-pauses-clause-going g c = λ a start h.
     ∙ ap (x (old.number + 1)) c.line.ensures in
     goes_line g.row.T.Denot g.row.E.Denot g.T.Answerer.answer g.T.Answerer.closing a start c.lines.answerer c.answer_line.new.answerer c.lines.feed
     (record { lines = c.advance.new.self; out = c.answer_line.new.out }) _ (c.lines.invariant.going a start h) l
-    (sym c.in-Ok-None.field-0-is ∙ c.in-Ok-None.ensures.ends ∙ ap end_of same)
-    (c.in-Ok-None.ensures.printed ∙ ap (λ (b : Answer g.row.T.Denot g.row.E.Denot). c.lines.feed.out.items ++ printed b) same)
-    (c.in-Ok-None.ensures.state c.in-Ok-None.field-0-is ∙ ap (λ (b : Answer g.row.T.Denot g.row.E.Denot). state_behind b c.lines.answerer) same)
+    (sym c.in-None.is ∙ c.in-Ok.ensures.ends ∙ ap end_of same)
+    (c.in-Ok.ensures.printed ∙ ap (λ (b : Answer g.row.T.Denot g.row.E.Denot). c.lines.feed.out.items ++ printed b) same)
+    (c.in-Ok.ensures.state c.in-None.is ∙ ap (λ (b : Answer g.row.T.Denot g.row.E.Denot). state_behind b c.lines.answerer) same)
 
 pub lines-preserved-else-pauses : goal.lines-preserved-else-pauses
 lines-preserved-else-pauses g c =
@@ -37,19 +37,19 @@ lines-preserved-else-pauses g c =
     ∙ ap (x (old.number + 1)) c.line.ensures in
     let fed = c.lines.invariant.fed in
     record {
-      may = subst (λ (n : ℕ). g.T.Answerer.may (n + 1) c.answer_line.new.answerer) c.number.ensures (c.in-Ok-None.ensures.may c.in-Ok-None.field-0-is);
+      may = subst (λ (n : ℕ). g.T.Answerer.may (n + 1) c.answer_line.new.answerer) c.number.ensures (c.in-Ok.ensures.may c.in-None.is);
       fed = (omega (arith, l.number, line_shorter old new l, fed.0), omega (arith, l.number, line_shorter old new l, fed.1));
       more = omega (arith, l.number, c.lines.invariant.more);
       going = λ a start h.
           goes_line g.row.T.Denot g.row.E.Denot g.T.Answerer.answer g.T.Answerer.closing a start c.lines.answerer c.answer_line.new.answerer c.lines.feed
           (record { lines = c.advance.new.self; out = c.answer_line.new.out }) _ (c.lines.invariant.going a start h) l
-          (sym c.in-Ok-None.field-0-is ∙ c.in-Ok-None.ensures.ends ∙ ap end_of same)
-          (c.in-Ok-None.ensures.printed ∙ ap (λ (b : Answer g.row.T.Denot g.row.E.Denot). c.lines.feed.out.items ++ printed b) same)
-          (c.in-Ok-None.ensures.state c.in-Ok-None.field-0-is ∙ ap (λ (b : Answer g.row.T.Denot g.row.E.Denot). state_behind b c.lines.answerer) same);
+          (sym c.in-None.is ∙ c.in-Ok.ensures.ends ∙ ap end_of same)
+          (c.in-Ok.ensures.printed ∙ ap (λ (b : Answer g.row.T.Denot g.row.E.Denot). c.lines.feed.out.items ++ printed b) same)
+          (c.in-Ok.ensures.state c.in-None.is ∙ ap (λ (b : Answer g.row.T.Denot g.row.E.Denot). state_behind b c.lines.answerer) same);
     }
 
-pub returns-in-Ok-Some-clause-over : goal.returns-in-Ok-Some-clause-over
-returns-in-Ok-Some-clause-over g c = λ a start h.
+pub returns-in-Some-clause-over : goal.returns-in-Some-clause-over
+returns-in-Some-clause-over g c = λ a start h.
     let old : Cut = c.lines.feed.lines in
     let new : Cut = c.advance.new.self in
     let l : IsLine old new = c.in-Ok-true.ensures.line c.in-Ok-true.field-0-test in
@@ -58,10 +58,10 @@ returns-in-Ok-Some-clause-over g c = λ a start h.
     let same : x c.number.result c.line.result.now ≡ x (old.number + 1) new.line = ap (λ (n : ℕ). x n c.line.result.now) num
     ∙ ap (x (old.number + 1)) c.line.ensures in
     over_line g.row.T.Denot g.row.E.Denot g.T.Answerer.answer g.T.Answerer.closing a start c.lines.answerer c.lines.feed _ new c.answer_line.new.out.items
-    c.in-Ok-Some.end c.say.result (g.K.Sink.contents c.say.new.sink) (g.K.Sink.faults c.say.new.sink) (c.lines.invariant.going a start h) l
-    (sym c.in-Ok-Some.field-0-is ∙ c.in-Ok-Some.ensures.ends ∙ ap end_of same)
-    (c.in-Ok-Some.ensures.printed ∙ ap (λ (b : Answer g.row.T.Denot g.row.E.Denot). c.lines.feed.out.items ++ printed b) same)
-    (subst (λ (t : List ℕ). Said (statuses.By c.in-Ok-Some.end) c.say.result (g.K.Sink.contents c.lines.sink) (g.K.Sink.contents c.say.new.sink) t
+    c.in-Some.end c.say.result (g.K.Sink.contents c.say.new.sink) (g.K.Sink.faults c.say.new.sink) (c.lines.invariant.going a start h) l
+    (sym c.in-Some.is ∙ c.in-Ok.ensures.ends ∙ ap end_of same)
+    (c.in-Ok.ensures.printed ∙ ap (λ (b : Answer g.row.T.Denot g.row.E.Denot). c.lines.feed.out.items ++ printed b) same)
+    (subst (λ (t : List ℕ). Said (statuses.By c.in-Some.end) c.say.result (g.K.Sink.contents c.lines.sink) (g.K.Sink.contents c.say.new.sink) t
     (Rose (g.K.Sink.faults c.lines.sink) (g.K.Sink.faults c.say.new.sink))) c.deref.ensures.value c.say.ensures.said) c.say.ensures.sink_well
 
 pub returns-in-Err-answer_line-clause-over : goal.returns-in-Err-answer_line-clause-over
@@ -129,21 +129,21 @@ lines-preserved g c =
     record {
       may = subst (λ (n : ℕ). g.T.Answerer.may (n + 1) c.lines.answerer) (sym (c.refill.ensures.number ∙ l.number)) c.lines.invariant.may;
       fed = (
-        omega (arith, c.refill.ensures.number, l.number, fed.0, c.in-Ok.ensures.given, c.in-Ok.ensures.count),
-        omega (arith, c.refill.ensures.number, l.number, fed.0, c.in-Ok.ensures.given, c.in-Ok.ensures.count, c.in-Ok.ensures.limit),
+        omega (arith, c.refill.ensures.number, l.number, fed.0, c.in-Ok-refill.ensures.given, c.in-Ok-refill.ensures.count),
+        omega (arith, c.refill.ensures.number, l.number, fed.0, c.in-Ok-refill.ensures.given, c.in-Ok-refill.ensures.count, c.in-Ok-refill.ensures.limit),
       );
       more = omega (arith, c.refill.ensures.number, l.number, c.lines.invariant.more);
       going = λ a start h.
           goes_refill g.row.T.Denot g.row.E.Denot g.T.Answerer.answer g.T.Answerer.closing a start c.lines.answerer c.lines.feed
-          (record { lines = c.refill.new.self; out = c.clear.new.self }) new _ _ (c.lines.invariant.going a start h) l all well c.in-Ok.ensures.well
-          c.refill.ensures.before (omega (arith, c.in-Ok.ensures.given, c.in-Ok.ensures.count)) c.refill.ensures.number c.refill.ensures.text
+          (record { lines = c.refill.new.self; out = c.clear.new.self }) new _ _ (c.lines.invariant.going a start h) l all well c.in-Ok-refill.ensures.well
+          c.refill.ensures.before (omega (arith, c.in-Ok-refill.ensures.given, c.in-Ok-refill.ensures.count)) c.refill.ensures.number c.refill.ensures.text
           c.clear.ensures.items
           (λ rest is. consumed (g.S.Source.remaining c.lines.source) (g.S.Source.remaining c.refill.new.source) rest c.refill.new.self.left is
-          c.in-Ok.ensures.bytes)
+          c.in-Ok-refill.ensures.bytes)
           (λ done late.
-          let some : eqb c.in-Ok.field-0 0 ≡ false = ne_eqb c.in-Ok.field-0 0 c.in-Ok.field-0-test.1 in (
-            c.in-Ok.ensures.done ∙ ap (λ (b : Bool). b || eqb c.in-Ok.field-0 0) done ∙ some,
-            c.in-Ok.ensures.late ∙ ap (λ (b : Bool). b || g.S.Source.done c.lines.source) late ∙ done,
+          let some : eqb c.in-Ok-refill.field-0 0 ≡ false = ne_eqb c.in-Ok-refill.field-0 0 c.in-Ok-refill.field-0-test.1 in (
+            c.in-Ok-refill.ensures.done ∙ ap (λ (b : Bool). b || eqb c.in-Ok-refill.field-0 0) done ∙ some,
+            c.in-Ok-refill.ensures.late ∙ ap (λ (b : Bool). b || g.S.Source.done c.lines.source) late ∙ done,
           ));
     }
 
