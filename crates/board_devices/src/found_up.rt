@@ -25,17 +25,18 @@ ghost use Rattle.board_devices.specs.Places.{no_line};
 use hpet_comparator::Matches;
 use hpet_registers::Hpet;
 use pit_counter::Rises;
+use rtc_registers::RtcEvents;
 use tick_policy::TickLine;
 
-/// Whether what came in a stretch moves no line: the crystal of the MC146818 had none of its
-/// `crystal` pulses, no timer of level type matched, and each tick found its line up. No timer from
+/// Whether what came in a stretch moves no line: the MC146818 had no tick and no update, and so no
+/// alarm either; no timer of level type matched, and each tick found its line up. No timer from
 /// `reach` on matched.
 #[inline(always)]
 pub(crate) fn finds_up(
     lines: &[TickLine; 10],
     h: &Hpet,
     legacy: bool,
-    crystal: u64,
+    events: &RtcEvents,
     rises: Rises,
     reach: u8,
     matches: &[Matches; 8],
@@ -44,14 +45,16 @@ pub(crate) fn finds_up(
     requires none { (k : ℕ) → reach ≤ k → (timer_matches matches.now k).count ≡ 0 }
     ensures pit { IsTrue result → 0 < rises.count → legacy ≡ false
         → (slice_index_or lines.now 0 no_line).up ≡ true }
-    ensures crystal { IsTrue result → crystal ≡ 0 }
+    ensures ticks { IsTrue result → events.now.cycle.ticks ≡ 0 }
+    ensures updates { IsTrue result → events.now.cycle.updates ≡ 0 }
     ensures edge { IsTrue result → (k : ℕ) → k < h.now.timers
         → 0 < (timer_matches matches.now k).count → is_level (timer_at k h.now) ≡ false }
     ensures timers { IsTrue result → (k : ℕ) → k < h.now.timers
         → 0 < (timer_matches matches.now k).count → has_ticks k h.now ≡ true
         → (slice_index_or lines.now (k + 2) no_line).up ≡ true }
 {
-    crystal == 0
+    events.cycle.ticks == 0
+        && events.cycle.updates == 0
         && (rises.count == 0 || legacy || lines[0].is_up())
         && timers_find_up(lines, h, reach, matches)
 }

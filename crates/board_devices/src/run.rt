@@ -68,19 +68,19 @@ impl Devices {
         let mut matches = [Matches::NONE; 8];
         let reach = self.hpet.pulses(pulses.hpet, &mut matches);
         let rises = self.pit.pulses(pulses.pit);
+        let shown = shown_of(&self.rtc);
+        let events = clock_pulses(&mut self.rtc, pulses.rtc);
         if to < point
             && finds_up(
                 &self.ticks,
                 &self.hpet,
                 legacy,
-                pulses.rtc,
+                &events,
                 rises,
                 reach,
                 &matches,
             )
         {
-            // The crystal had no pulse: no instruction stands for this one.
-            let _none = clock_pulses(&mut self.rtc, pulses.rtc);
             take_ticks(
                 &mut self.ticks,
                 &self.hpet,
@@ -91,8 +91,6 @@ impl Devices {
             );
             return false;
         }
-        let shown = shown_of(&self.rtc);
-        let events = clock_pulses(&mut self.rtc, pulses.rtc);
         let span = Span { from, to, point };
         let counts = counts_rtc(shown.pie, legacy);
         let pit = pit_ticks(legacy, rises, span);

@@ -252,11 +252,11 @@ take_ticks-requires-clause-inside c =
     omega (arith, same, c.pulses-reach.ensures.inside)
 
 -- nothing came of the MC146818
-still_ticks : (c : goal.After-take_ticks) → c.clock_pulses-none.result.cycle.ticks ≡ 0
-still_ticks c = omega (arith, c.if-finds_up.ensures.crystal refl, c.clock_pulses-none.ensures.few_ticks)
+still_ticks : (c : goal.After-take_ticks) → c.clock_pulses-events.result.cycle.ticks ≡ 0
+still_ticks c = c.if-finds_up.ensures.ticks refl
 
-still_updates : (c : goal.After-take_ticks) → c.clock_pulses-none.result.cycle.updates ≡ 0
-still_updates c = omega (arith, c.if-finds_up.ensures.crystal refl, c.clock_pulses-none.ensures.few_updates)
+still_updates : (c : goal.After-take_ticks) → c.clock_pulses-events.result.cycle.updates ≡ 0
+still_updates c = c.if-finds_up.ensures.updates refl
 
 -- what is known
 still : (c : goal.After-take_ticks) → Sound (parts_of c.self.inside)
@@ -266,14 +266,14 @@ still c = record {
 }
 
 still_brought : (c : goal.After-take_ticks)
-    → Brought (parts_of c.self.inside) c.args.from (c.args.to - c.args.from) c.pulses-rises.result c.clock_pulses-none.result c.pulses-reach.new.matches
+    → Brought (parts_of c.self.inside) c.args.from (c.args.to - c.args.from) c.pulses-rises.result c.clock_pulses-events.result c.pulses-reach.new.matches
 still_brought c = record {
   pit_count = rw c.pulse_counts-pulses.ensures.pit at c.pulses-rises.ensures.count;
   pit_first = rw c.pulse_counts-pulses.ensures.pit at c.pulses-rises.ensures.first;
-  rtc_count = rw c.pulse_counts-pulses.ensures.rtc at c.clock_pulses-none.ensures.ticks;
-  rtc_first = rw c.pulse_counts-pulses.ensures.rtc at c.clock_pulses-none.ensures.first_tick;
-  update_first = rw c.pulse_counts-pulses.ensures.rtc at c.clock_pulses-none.ensures.first_update;
-  alarm_first = rw c.pulse_counts-pulses.ensures.rtc at c.clock_pulses-none.ensures.first_alarm;
+  rtc_count = rw c.pulse_counts-pulses.ensures.rtc at c.clock_pulses-events.ensures.ticks;
+  rtc_first = rw c.pulse_counts-pulses.ensures.rtc at c.clock_pulses-events.ensures.first_tick;
+  update_first = rw c.pulse_counts-pulses.ensures.rtc at c.clock_pulses-events.ensures.first_update;
+  alarm_first = rw c.pulse_counts-pulses.ensures.rtc at c.clock_pulses-events.ensures.first_alarm;
   timer_count = rw c.pulse_counts-pulses.ensures.hpet at c.pulses-reach.ensures.count;
   timer_first = rw c.pulse_counts-pulses.ensures.hpet at c.pulses-reach.ensures.first;
 }
@@ -283,15 +283,15 @@ still_pit : (c : goal.After-take_ticks) → Ticks
 still_pit c = counted true (not (is_legacy c.self.inside.hpet)) c.pulses-rises.result.count (first_at PIT_HZ c.args.from c.pulses-rises.result.first)
 
 still_rtc : (c : goal.After-take_ticks) → Ticks
-still_rtc c = counted (counts_rtc (parts_of c.self.inside)) (counts_rtc (parts_of c.self.inside)) c.clock_pulses-none.result.cycle.ticks
-    (first_at RTC_HZ c.args.from c.clock_pulses-none.result.cycle.first_tick)
+still_rtc c = counted (counts_rtc (parts_of c.self.inside)) (counts_rtc (parts_of c.self.inside)) c.clock_pulses-events.result.cycle.ticks
+    (first_at RTC_HZ c.args.from c.clock_pulses-events.result.cycle.first_tick)
 
 still_ahead : (c : goal.After-take_ticks) → ℕ
 still_ahead c = (c.args.from / c.self.inside.slew_ns + 1) * c.self.inside.slew_ns - c.args.from
 
 still_known : (c : goal.After-take_ticks)
     → Known (parts_of c.self.inside) c.args.from (c.args.to - c.args.from) (still_ahead c)
-    c.pulses-rises.result c.clock_pulses-none.result c.pulses-reach.new.matches (still_pit c) (still_rtc c)
+    c.pulses-rises.result c.clock_pulses-events.result c.pulses-reach.new.matches (still_pit c) (still_rtc c)
 unfolding still_ahead still_pit still_rtc
 still_known c = record {
   sound = still c;
@@ -327,8 +327,8 @@ still_ends c zero less =
     (first_at PIT_HZ c.args.from c.pulses-rises.result.first) (line_at 0 (parts_of c.self.inside)) (early c))
 still_ends c (suc zero) less =
     c.take_ticks.ensures.clock
-    ∙ sym (end-unseen c.next_point-point.result c.args.to c.clock_pulses-none.result.cycle.ticks (counts_rtc (parts_of c.self.inside))
-    (first_at RTC_HZ c.args.from c.clock_pulses-none.result.cycle.first_tick) (line_at 1 (parts_of c.self.inside)) (early c)
+    ∙ sym (end-unseen c.next_point-point.result c.args.to c.clock_pulses-events.result.cycle.ticks (counts_rtc (parts_of c.self.inside))
+    (first_at RTC_HZ c.args.from c.clock_pulses-events.result.cycle.first_tick) (line_at 1 (parts_of c.self.inside)) (early c)
     (still_ticks c))
 still_ends c (suc (suc k)) less = ends-timers (still_known c) c.next_point-point.result c.args.to c.self.inside.ticks c.take_ticks.new.lines
     (λ j small. ap (λ (i : ℕ). get_or c.self.inside.ticks i no_line) (omega arith))
@@ -341,13 +341,13 @@ still_ends c (suc (suc k)) less = ends-timers (still_known c) c.next_point-point
     c.pulses-reach.ensures.none k (omega arith)
 
 -- PF follows its line, which is as it was
-still_rtc_is : (c : goal.After-take_ticks) → c.clock_pulses-none.new.rtc
+still_rtc_is : (c : goal.After-take_ticks) → c.clock_pulses-events.new.rtc
     ≡ flagged_where (counts_rtc (parts_of c.self.inside) && (get_or c.take_ticks.new.lines 1 no_line).up)
     (rtc_pulsed_times (pulses_from RTC_HZ c.args.from (c.args.to - c.args.from)) c.self.inside.rtc)
 still_rtc_is c =
     let m : ℕ = pulses_from RTC_HZ c.args.from (c.args.to - c.args.from) in
     let b : Bool = counts_rtc (parts_of c.self.inside) in
-    rw c.pulse_counts-pulses.ensures.rtc at c.clock_pulses-none.ensures.state
+    rw c.pulse_counts-pulses.ensures.rtc at c.clock_pulses-events.ensures.state
     ∙ sym (flag-again b (pf_of c.self.inside.rtc) (ticks_in (divider_of c.self.inside.rtc) m) (rtc_pulsed_times m c.self.inside.rtc)
     (IsRtc-rtc_pulsed_times m c.self.inside.rtc (still c).rtc) (pf_of-rtc_pulsed_times m c.self.inside.rtc (still c).rtc))
     ∙ ap (λ (u : Bool). flagged_where (b && u) (rtc_pulsed_times m c.self.inside.rtc))
@@ -356,12 +356,12 @@ still_rtc_is c =
 still_state : (c : goal.After-take_ticks)
     → parts_of (record {
       pit = c.pulses-rises.new.self;
-      rtc = c.clock_pulses-none.new.rtc;
+      rtc = c.clock_pulses-events.new.rtc;
       hpet = c.pulses-reach.new.self;
       ticks = c.take_ticks.new.lines;
       slew_ns = c.self.inside.slew_ns;
     }) ≡ (run c.args.from (c.args.to - c.args.from) (parts_of c.self.inside)).state
-still_state c = ran-state (still_known c) c.next_point-point.result c.args.to c.take_ticks.new.lines c.pulses-rises.new.self c.clock_pulses-none.new.rtc
+still_state c = ran-state (still_known c) c.next_point-point.result c.args.to c.take_ticks.new.lines c.pulses-rises.new.self c.clock_pulses-events.new.rtc
     c.pulses-reach.new.self (still_point c) (still_end c) c.take_ticks.ensures.places (still_ends c)
     (rw c.pulse_counts-pulses.ensures.pit at c.pulses-rises.ensures.state) (still_rtc_is c) (still_hpet c)
 
@@ -434,7 +434,7 @@ quiet c = record {
   point = (still_known c).point;
   early = omega (arith, early c, c.next_point-point.ensures, c.requires.order);
   ticks = sym (still_brought c).rtc_count ∙ still_ticks c;
-  updates = sym (rw c.pulse_counts-pulses.ensures.rtc at c.clock_pulses-none.ensures.updates) ∙ still_updates c;
+  updates = sym (rw c.pulse_counts-pulses.ensures.rtc at c.clock_pulses-events.ensures.updates) ∙ still_updates c;
   found = found c;
   level = λ k less. level c k;
 }
