@@ -203,8 +203,8 @@ pub(crate) fn append_blocks(
     ensures { OnOk result
         (out.new.items ≡ out.old.items ++ places_text deliveries.now places.now) }
 {
-    for place in places {
-        append_place(place, deliveries, out)?;
+    for k in 0..places.len() {
+        append_place(&places[k], deliveries, out)?;
     }
     Ok(())
 }
