@@ -17,6 +17,7 @@ use Rattle.std.proofs.Common.{
   take,
   drop,
   set,
+  ◌≤◌,
   refl,
   sym,
   ap,
@@ -39,7 +40,7 @@ use Rattle.std.proofs.Common.{
 }
 use Rattle.std.proofs.Math.ListN.{get_or-append}
 use Rattle.std.proofs.Math.Seq.{take-suc, drop-cons, get_or-append_seam}
-use Rattle.std.proofs.lemmas.List.{take-append-drop, take_more_set}
+use Rattle.std.proofs.lemmas.List.{take-append-drop, take_more_set, take_all, drop_all}
 use native.Mathlib.Decide.{ℕ_discrete}
 use Rattle.edge_hooks.specs.declared.deliveries.Delivery.{Delivery}
 use Rattle.board_types.specs.declared.parts.BoardParts.{BoardParts}
@@ -305,3 +306,8 @@ module _ (s : BoardParts) (ds : List (Option Delivery)) (n : ℕ) where
 -- the records of a processor, split at a place
 pub records_split : (n i : ℕ) (rs : List Record) → records_of n (take i rs) ++ records_of n (drop i rs) ≡ records_of n rs
 records_split n i rs = sym (records_of-append n (take i rs) (drop i rs)) ∙ ap (records_of n) (take-append-drop i rs)
+
+-- a list that is written back over one of its length
+pub put_back : (new old : List Place) (n : ℕ) → length new ≡ length old → length new ≤ n → take n (new ++ drop (length new) old) ≡ new
+put_back new old n same room =
+    ap (λ (l : List Place). take n (new ++ l)) (drop_all (length new) old (let e = same in omega arith)) ∙ ap (take n) (append-nil new) ∙ take_all n new room

@@ -204,7 +204,8 @@ pub(crate) fn append_blocks(
         (out.new.items ≡ out.old.items ++ places_text deliveries.now places.now) }
 {
     for k in 0..places.len() {
-        append_place(&places[k], deliveries, out)?;
+        let place = &places[k];
+        append_place(place, deliveries, out)?;
     }
     Ok(())
 }
