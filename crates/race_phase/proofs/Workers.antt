@@ -16,6 +16,8 @@ use Rattle.std.proofs.Common.{
   get_or,
   take,
   drop,
+  set,
+  ◌≤◌,
   refl,
   sym,
   ap,
@@ -38,7 +40,7 @@ use Rattle.std.proofs.Common.{
 }
 use Rattle.std.proofs.Math.ListN.{get_or-append}
 use Rattle.std.proofs.Math.Seq.{take-suc, drop-cons, get_or-append_seam}
-use Rattle.std.proofs.lemmas.List.{take-append-drop}
+use Rattle.std.proofs.lemmas.List.{take-append-drop, take_more_set, take_all, drop_all}
 use native.Mathlib.Decide.{ℕ_discrete}
 use Rattle.edge_hooks.specs.declared.deliveries.Delivery.{Delivery}
 use Rattle.board_types.specs.declared.parts.BoardParts.{BoardParts}
@@ -51,7 +53,21 @@ use Rattle.race_phase.specs.declared.records.Answer.{Answer}
 use Rattle.race_phase.specs.declared.records.Record.{Record}
 use Rattle.race_phase.specs.Blocks.{block_of}
 use Rattle.race_phase.specs.Calls.{IsFitting, records_of, MadeBy, AllMade}
-use Rattle.race_phase.specs.private.Workers.{IsMade, IsTrouble, HasStopped, HasWorked, AllGiven, AllWorked}
+use Rattle.race_phase.specs.declared.batch.Place.{Place}
+use Rattle.race_phase.specs.private.Told.{answer_with}
+use Rattle.race_phase.specs.private.Workers.{
+  IsMade,
+  IsTrouble,
+  HasStopped,
+  HasWorked,
+  AllGiven,
+  AllWorked,
+  place_text,
+  places_text,
+  AllAnswered,
+  HasHalted,
+  AllButLast,
+}
 
 -- the records of a processor in two lists, one behind the other
 records_step : (b : Bool) (x : Record) (us bs cs : List Record) → us ≡ bs ++ cs → (if b then (x ∷ us) else us) ≡ (if b then (x ∷ bs) else bs) ++ cs
@@ -137,48 +153,6 @@ module _ (s : BoardParts) (ds : List (Option Delivery)) where
         worked-snoc rs (suc n) ps all.1 p zs all.4 (subst (λ (k : ℕ). HasWorked s ds rs k p zs) at w),
       )
 
-  -- a record that another processor has
-  pub next_skipped : (n i : ℕ) (rs : List Record) (d : Record) (xs : List ℕ) (es : List Entry) → i < length rs → (get_or rs i d).cpu ≢ n
-      → AllMade s ds n (records_of n (take i rs)) xs es → AllMade s ds n (records_of n (take (i + 1) rs)) xs es
-  next_skipped n i rs d xs es l other all =
-      let same : records_of n (take (i + 1) rs) ≡ records_of n (take i rs) =
-      ap (records_of n) (take_next rs i d l) ∙ records_skip n (take i rs) (get_or rs i d) other in
-      subst (λ (ys : List Record). AllMade s ds n ys xs es) (sym same) all
-
-  -- a record that is answered
-  pub next_made : (n i : ℕ) (rs : List Record) (d : Record) (a : Answer) (xs : List ℕ) (p q : PassKnown) → i < length rs → (get_or rs i d).cpu ≡ n
-      → p.number ≡ n
-      → AllMade s ds n (records_of n (take i rs)) xs (mine p) → IsMade s (get_or rs i d) a p q
-      → (q.number ≡ n) × AllMade s ds n (records_of n (take (i + 1) rs)) (xs ++ block_of ds (get_or rs i d).line a) (mine q)
-  next_made n i rs d a xs p q l here is all m =
-      let r : Record = get_or rs i d in
-      let same : records_of n (take (i + 1) rs) ≡ records_of n (take i rs) ++ r ∷ [] =
-      ap (records_of n) (take_next rs i d l) ∙ records_take n (take i rs) [] r here in
-      let by : MadeBy s n r a m.0 = subst (λ (k : ℕ). MadeBy s k r a m.0) is m.1 in
-      let all_of : AllMade s ds n (records_of n (take i rs) ++ r ∷ []) (xs ++ block_of ds r.line a) (mine p ++ m.0) =
-      made-snoc n (records_of n (take i rs)) xs (mine p) r a m.0 all by in
-      let with_rs : AllMade s ds n (records_of n (take (i + 1) rs)) (xs ++ block_of ds r.line a) (mine p ++ m.0) =
-      subst (λ (ys : List Record). AllMade s ds n ys (xs ++ block_of ds r.line a) (mine p ++ m.0)) (sym same) all_of in
-      (m.2.number ∙ is, subst (λ (es : List Entry). AllMade s ds n (records_of n (take (i + 1) rs)) (xs ++ block_of ds r.line a) es) (sym m.2.mine) with_rs)
-
-  -- a record that is not answered
-  pub next_stopped : (n i : ℕ) (rs : List Record) (d : Record) (xs : List ℕ) (p q : PassKnown) → i < length rs → (get_or rs i d).cpu ≡ n
-      → All (IsFitting s.cpus s.format) rs
-      → AllMade s ds n (records_of n (take i rs)) xs (mine p) → Unanswered p q → IsTrouble s (get_or rs i d) q → HasStopped s ds n (records_of n rs) q
-  next_stopped n i rs d xs p q l here fit all u met =
-      let r : Record = get_or rs i d in
-      let split : rs ≡ take i rs ++ r ∷ drop (suc i) rs = sym (take-append-drop i rs) ∙ ap (λ ys. take i rs ++ ys) (drop-cons rs i d l) in record {
-        done = records_of n (take i rs);
-        next = r;
-        rest = records_of n (drop (suc i) rs);
-        text = xs;
-        whole = ap (records_of n) split ∙ records_take n (take i rs) (drop (suc i) rs) r here;
-        made = subst (AllMade s ds n (records_of n (take i rs)) xs) (sym u.mine) all;
-        met = met;
-        fits = fit i d l;
-        legal = u.legal;
-      }
-
   -- what is given by one call more
   pub given_front : {A E : Type 0} (xs : List (Result A E)) (x : Result A E) (pass : A → PassKnown) (answers : A → List ℕ) (rs : List Record)
       → AllGiven (xs ++ x ∷ []) pass answers s ds rs → AllGiven xs pass answers s ds rs
@@ -191,3 +165,149 @@ module _ (s : BoardParts) (ds : List (Option Delivery)) where
   given_last xs x pass answers rs all =
       let more : length xs < length (xs ++ x ∷ []) = let e = length-append xs (x ∷ []) in omega arith in
       subst (λ r. IfOk r (λ w. HasWorked s ds rs (length xs) (pass w) (answers w))) (get_or-append_seam xs x [] x) (all (length xs) x more)
+
+-- the blocks of places, one more at a time
+pub places_text-snoc : (ds : List (Option Delivery)) (ts : List Place) (t : Place) → places_text ds (ts ++ t ∷ [])
+    ≡ places_text ds ts ++ block_of ds t.line (answer_with t.told t.reply)
+places_text-snoc ds [] t = append-nil (block_of ds t.line (answer_with t.told t.reply))
+places_text-snoc ds (u ∷ ts) t =
+    ap (λ (l : List ℕ). block_of ds u.line (answer_with u.told u.reply) ++ l) (places_text-snoc ds ts t)
+    ∙ sym (append_assoc (block_of ds u.line (answer_with u.told u.reply)) (places_text ds ts) (block_of ds t.line (answer_with t.told t.reply)))
+
+pub places_text-take : (ds : List (Option Delivery)) (ts : List Place) (i : ℕ) (d : Place) → i < length ts → places_text ds (take (i + 1) ts)
+    ≡ places_text ds (take i ts) ++ place_text ds (get_or ts i d)
+places_text-take ds ts i d l =
+    let e : i + 1 ≡ suc i = omega arith in
+    ap (λ (k : ℕ). places_text ds (take k ts)) e ∙ ap (places_text ds) (take-suc ts i d l) ∙ places_text-snoc ds (take i ts) (get_or ts i d)
+
+pub blocks_more : (ds : List (Option Delivery)) (ts : List Place) (i : ℕ) (d : Place) (out xs ys : List ℕ) → i < length ts
+    → xs ≡ out ++ places_text ds (take i ts)
+    → ys ≡ xs ++ place_text ds (get_or ts i d)
+    → ys ≡ out ++ places_text ds (take (i + 1) ts)
+blocks_more ds ts i d out xs ys l before e =
+    let b : List ℕ = place_text ds (get_or ts i d) in
+    e ∙ ap (λ (z : List ℕ). z ++ b) before ∙ append_assoc out (places_text ds (take i ts)) b
+    ∙ ap (λ (z : List ℕ). out ++ z) (sym (places_text-take ds ts i d l))
+
+-- before the first record of a batch
+pub answered_none : (s : BoardParts) (p : PassKnown) → AllAnswered s [] [] p p
+answered_none s p = record {
+  number = refl;
+  made = λ ds done out all.
+      subst (λ (z : List Record × List ℕ). AllMade s ds p.number z.0 z.1 (mine p)) (λ i. (sym (append-nil done) i, sym (append-nil out) i)) all;
+}
+
+-- one record more in its place
+pub answered_more : (s : BoardParts) (rs : List Record) (ts : List Place) (r : Record) (t : Place) (p q z : PassKnown) → AllAnswered s rs ts p q
+    → IsMade s r (answer_with t.told t.reply) q z → t.line ≡ r.line → AllAnswered s (rs ++ r ∷ []) (ts ++ t ∷ []) p z
+answered_more s rs ts r t p q z all m same = record {
+  number = m.2.number ∙ all.number;
+  made = λ ds done out x.
+      let a : Answer = answer_with t.told t.reply in
+      let by : MadeBy s p.number r a m.0 = subst (λ (k : ℕ). MadeBy s k r a m.0) all.number m.1 in
+      let step = made-snoc s ds p.number (done ++ rs) (out ++ places_text ds ts) (mine q) r a m.0 (all.made ds done out x) by in
+      let text : (out ++ places_text ds ts) ++ block_of ds r.line a ≡ out ++ places_text ds (ts ++ t ∷ []) =
+      append_assoc out (places_text ds ts) (block_of ds r.line a)
+      ∙ ap (λ (l : List ℕ). out ++ l) (ap (λ (k : ℕ). places_text ds ts ++ block_of ds k a) (sym same) ∙ sym (places_text-snoc ds ts t)) in
+      let moved = subst (λ (y : List Record × List ℕ). AllMade s ds p.number y.0 y.1 (mine q ++ m.0)) (λ i. (append_assoc done rs (r ∷ []) i, text i)) step in
+      subst (λ (es : List Entry). AllMade s ds p.number (done ++ (rs ++ r ∷ [])) (out ++ places_text ds (ts ++ t ∷ [])) es) (sym m.2.mine) moved;
+}
+
+pub batch_step : (s : BoardParts) (rs : List Record) (ts us : List Place) (i : ℕ) (d : Record) (t : Place) (p q z : PassKnown) → i < length rs
+    → i < length ts
+    → us ≡ set ts i t → AllAnswered s (take i rs) (take i ts) p q → IsMade s (get_or rs i d) (answer_with t.told t.reply) q z
+    → t.line ≡ (get_or rs i d).line
+    → AllAnswered s (take (i + 1) rs) (take (i + 1) us) p z
+batch_step s rs ts us i d t p q z l m is all made same =
+    let e : take (i + 1) us ≡ take i ts ++ t ∷ [] = ap (take (i + 1)) is ∙ take_more_set ts i t m in
+    subst (λ (y : List Record × List Place). AllAnswered s y.0 y.1 p z) (λ k. (sym (take_next rs i d l) k, sym e k))
+    (answered_more s (take i rs) (take i ts) (get_or rs i d) t p q z all made same)
+
+-- a record of a batch that is not answered
+pub halted_at : (s : BoardParts) (rs : List Record) (i : ℕ) (d : Record) (ts : List Place) (p q z : PassKnown) → i < length rs
+    → All (IsFitting s.cpus s.format) rs
+    → AllAnswered s (take i rs) ts p q → Unanswered q z → IsTrouble s (get_or rs i d) z → HasHalted s rs p z
+halted_at s rs i d ts p q z l fit all u met =
+    let r : Record = get_or rs i d in
+    let split : rs ≡ take i rs ++ r ∷ drop (suc i) rs = sym (take-append-drop i rs) ∙ ap (λ ys. take i rs ++ ys) (drop-cons rs i d l) in record {
+      number = u.number ∙ all.number;
+      met = λ ds done out x. record {
+        done = done ++ take i rs;
+        next = r;
+        rest = drop (suc i) rs;
+        text = out ++ places_text ds ts;
+        whole = ap (λ ys. done ++ ys) split ∙ sym (append_assoc done (take i rs) (r ∷ drop (suc i) rs));
+        made = subst (AllMade s ds p.number (done ++ take i rs) (out ++ places_text ds ts)) (sym u.mine) (all.made ds done out x);
+        met = met;
+        fits = fit i d l;
+        legal = u.legal;
+      };
+    }
+
+module _ (s : BoardParts) (ds : List (Option Delivery)) (n : ℕ) where
+  -- a new pass
+  pub none_waits : (p : PassKnown) → mine p ≡ [] → AllButLast s ds n [] [] [] p
+  none_waits p fresh = record { done = []; whole = refl; made = (refl, fresh) }
+
+  -- a record that another processor has
+  pub next_skipped : (i : ℕ) (rs : List Record) (d : Record) (ws : List Record) (xs : List ℕ) (p : PassKnown) → i < length rs → (get_or rs i d).cpu ≢ n
+      → AllButLast s ds n (records_of n (take i rs)) ws xs p → AllButLast s ds n (records_of n (take (i + 1) rs)) ws xs p
+  next_skipped i rs d ws xs p l other all =
+      let same : records_of n (take (i + 1) rs) ≡ records_of n (take i rs) =
+      ap (records_of n) (take_next rs i d l) ∙ records_skip n (take i rs) (get_or rs i d) other in
+      subst (λ (ys : List Record). AllButLast s ds n ys ws xs p) (sym same) all
+
+  -- a record that waits
+  pub next_waits : (i : ℕ) (rs : List Record) (d : Record) (ws : List Record) (xs : List ℕ) (p : PassKnown) → i < length rs → (get_or rs i d).cpu ≡ n
+      → AllButLast s ds n (records_of n (take i rs)) ws xs p
+      → AllButLast s ds n (records_of n (take (i + 1) rs)) (ws ++ get_or rs i d ∷ []) xs p
+  next_waits i rs d ws xs p l here all =
+      let r : Record = get_or rs i d in
+      let same : records_of n (take (i + 1) rs) ≡ records_of n (take i rs) ++ r ∷ [] =
+      ap (records_of n) (take_next rs i d l) ∙ records_take n (take i rs) [] r here in record {
+        done = all.done;
+        whole = same ∙ ap (λ ys. ys ++ r ∷ []) all.whole ∙ append_assoc all.done ws (r ∷ []);
+        made = all.made;
+      }
+
+  -- those that wait are answered
+  pub waits_made : (rs ws : List Record) (xs : List ℕ) (ts : List Place) (p q : PassKnown) → p.number ≡ n → AllButLast s ds n rs ws xs p
+      → AllAnswered s ws ts p q → AllMade s ds n rs (xs ++ places_text ds ts) (mine q)
+  waits_made rs ws xs ts p q is all a =
+      let from = subst (λ (k : ℕ). AllMade s ds k all.done xs (mine p)) (sym is) all.made in
+      let made = subst (λ (k : ℕ). AllMade s ds k (all.done ++ ws) (xs ++ places_text ds ts) (mine q)) is (a.made ds all.done xs from) in
+      subst (λ (ys : List Record). AllMade s ds n ys (xs ++ places_text ds ts) (mine q)) (sym all.whole) made
+
+  pub waits_answered : (rs ws : List Record) (xs : List ℕ) (ts : List Place) (p q : PassKnown) → p.number ≡ n → AllButLast s ds n rs ws xs p
+      → AllAnswered s ws ts p q → AllButLast s ds n rs [] (xs ++ places_text ds ts) q
+  waits_answered rs ws xs ts p q is all a = record {
+    done = rs;
+    whole = sym (append-nil rs);
+    made = waits_made rs ws xs ts p q is all a;
+  }
+
+  -- one of those that wait is not answered
+  pub waits_stopped : (rs ws more : List Record) (xs : List ℕ) (p q : PassKnown) → p.number ≡ n → AllButLast s ds n rs ws xs p → HasHalted s ws p q
+      → HasStopped s ds n (rs ++ more) q
+  waits_stopped rs ws more xs p q is all h =
+      let from = subst (λ (k : ℕ). AllMade s ds k all.done xs (mine p)) (sym is) all.made in
+      let t = subst (λ (z : ℕ × List Record). HasStopped s ds z.0 z.1 q) (λ i. (is i, sym all.whole i)) (h.met ds all.done xs from) in record {
+        done = t.done;
+        next = t.next;
+        rest = t.rest ++ more;
+        text = t.text;
+        whole = ap (λ ys. ys ++ more) t.whole ∙ append_assoc t.done (t.next ∷ t.rest) more;
+        made = t.made;
+        met = t.met;
+        fits = t.fits;
+        legal = t.legal;
+      }
+
+-- the records of a processor, split at a place
+pub records_split : (n i : ℕ) (rs : List Record) → records_of n (take i rs) ++ records_of n (drop i rs) ≡ records_of n rs
+records_split n i rs = sym (records_of-append n (take i rs) (drop i rs)) ∙ ap (records_of n) (take-append-drop i rs)
+
+-- a list that is written back over one of its length
+pub put_back : (new old : List Place) (n : ℕ) → length new ≡ length old → length new ≤ n → take n (new ++ drop (length new) old) ≡ new
+put_back new old n same room =
+    ap (λ (l : List Place). take n (new ++ l)) (drop_all (length new) old (let e = same in omega arith)) ∙ ap (take n) (append-nil new) ∙ take_all n new room

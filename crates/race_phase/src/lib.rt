@@ -20,6 +20,7 @@
 //! ```
 #![tactic(auto)]
 
+mod batch;
 mod deliveries;
 mod ends;
 mod faults;

@@ -1,23 +1,21 @@
 //! One worker: it takes the records of one processor.
-ghost use Rattle.std.specs.Prelude.{◌≡◌, ◌<◌, [], All, IfOk, IfSome, IfNone};
-ghost use Rattle.board_history.specs.History.{IsLegal};
-ghost use Rattle.shared_board.specs.Passes.{mine, Unanswered};
+ghost use Rattle.std.specs.Prelude.{◌≡◌, ◌<◌, ◌≤◌, [], All, IfOk};
+ghost use Rattle.shared_board.specs.Passes.{mine};
 ghost use Rattle.race_phase.specs.Calls.{IsFitting};
-ghost use Rattle.race_phase.specs.private.Told.{answer_with};
-ghost use Rattle.race_phase.specs.private.Workers.{IsMade, IsTrouble, HasWorked};
+ghost use Rattle.race_phase.specs.private.Workers.{HasWorked};
 
+use crate::batch::{answer_all, append_blocks, new_places};
 use crate::deliveries::Deliveries;
-use crate::records::{Call, Record};
-use crate::texts::append_block;
-use crate::told::Told;
-use board_core::{Reply, Value};
+use crate::records::Record;
 use board_io::Gate;
 use clk_units::NoMemory;
 use clock_table::Name;
-use irq_edges::EdgeList;
 use shared_board::{Pass, SharedBoard};
 use std::alloc::Global;
 use std::sync::Wait;
+
+/// The most records that are answered together.
+const MOST_TOGETHER: u8 = 64;
 
 /// What a worker gives back.
 #[derive(Drop)]
@@ -26,8 +24,8 @@ pub(crate) struct Worked<N: Name> {
     pub(crate) text: Vec<u8>,
 }
 
-/// Takes the records of the pass's processor in order, and appends their blocks to a text of its own. It stops at the
-/// first that isn't answered. One reply is kept for all accesses, so that no list of edges is moved.
+/// Takes the records of the pass's processor in order, as many together as the gate lets through, and appends their
+/// blocks to a text of its own when it has given the lock back. It stops at the first that isn't answered.
 pub(crate) fn work<N: Name, R: Wait, G: Gate>(
     rt: &R,
     alloc: Global,
@@ -44,80 +42,37 @@ pub(crate) fn work<N: Name, R: Wait, G: Gate>(
         (λ w. HasWorked N.state deliveries.now records.now pass.number w.pass w.text.items) }
 {
     let cpu = pass.number();
+    let most = most_together(gate);
+    let mut places = new_places(alloc, most)?;
     let mut text = Vec::new(alloc);
-    let mut reply = Reply {
-        number: 0,
-        value: Value::Nothing,
-        edges: EdgeList::new(),
-    };
+    let mut batch = Vec::new(alloc);
     let mut index = 0;
     for record in records {
         if u64::from(record.cpu) == cpu {
-            match held(rt, gate, board, &mut pass, record, index, &mut reply) {
-                Some(told) => append_block(record.line, &told, &reply, deliveries, &mut text)?,
-                None => return Ok(Worked { pass, text }),
+            let Ok(()) = batch.push(*record) else {
+                return Err(NoMemory);
+            };
+            if batch.len() >= most {
+                let Ok(()) = answer_all(rt, gate, board, &mut pass, &batch, index, &mut places)
+                else {
+                    return Ok(Worked { pass, text });
+                };
+                append_blocks(&places[..batch.len()], deliveries, &mut text)?;
+                index += batch.len() as u64;
+                batch.clear();
             }
-            index += 1;
         }
     }
+    let Ok(()) = answer_all(rt, gate, board, &mut pass, &batch, index, &mut places) else {
+        return Ok(Worked { pass, text });
+    };
+    append_blocks(&places[..batch.len()], deliveries, &mut text)?;
     Ok(Worked { pass, text })
 }
 
-/// Answers a record between two calls of the gate. The reply of an access is put in the place of the one before.
-fn held<N: Name, R: Wait, G: Gate>(
-    rt: &R,
-    gate: &G,
-    board: &SharedBoard<N>,
-    pass: &mut Pass<N>,
-    given: &Record,
-    index: u64,
-    reply: &mut Reply,
-) -> Option<Told>
-    requires fitting { IsFitting N.state.cpus N.state.format given.now }
-    requires legal { IsLegal pass.old.seen }
-    ensures some { IfSome result
-        (λ t. IsMade N.state given.now (answer_with t reply.new) pass.old pass.new) }
-    ensures none { IfNone result
-        (Unanswered pass.old pass.new × IsTrouble N.state given.now pass.new) }
+/// How many records are answered together.
+fn most_together<G: Gate>(gate: &G) -> usize
+    ensures least { 1 ≤ result }
 {
-    gate.before(rt, given.cpu, index);
-    let result = answer(rt, gate, board, pass, given, reply);
-    gate.after(rt, given.cpu, index);
-    result
-}
-
-/// Answers a record.
-fn answer<N: Name, R: Wait, G: Gate>(
-    rt: &R,
-    gate: &G,
-    board: &SharedBoard<N>,
-    pass: &mut Pass<N>,
-    given: &Record,
-    reply: &mut Reply,
-) -> Option<Told>
-    requires fitting { IsFitting N.state.cpus N.state.format given.now }
-    requires legal { IsLegal pass.old.seen }
-    ensures some { IfSome result
-        (λ t. IsMade N.state given.now (answer_with t reply.new) pass.old pass.new) }
-    ensures none { IfNone result
-        (Unanswered pass.old pass.new × IsTrouble N.state given.now pass.new) }
-{
-    let h = given.h;
-    match given.call {
-        Call::Act { access } => {
-            reply.edges.clear();
-            match board.answer(rt, gate, pass, given.cpu, h, access, reply) {
-                Ok(()) => Some(Told::Acted),
-                Err(_refusal) => None,
-            }
-        }
-        Call::ReadPage { page } => match board.read_page(rt, pass, page, h) {
-            Ok(reply) => Some(Told::PageIs { reply }),
-            Err(_fault) => None,
-        },
-        Call::ReadClock { page } => match board.read_clock(rt, pass, page, h) {
-            Ok(reply) => Some(Told::ClockIs { reply }),
-            Err(_fault) => None,
-        },
-    }
+    usize::from(gate.together().max(1).min(MOST_TOGETHER))
 }

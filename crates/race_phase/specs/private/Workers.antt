@@ -32,7 +32,10 @@ use Rattle.race_phase.specs.declared.records.Answer.{Answer}
 use Rattle.race_phase.specs.declared.records.Call.{Call}
 use Rattle.race_phase.specs.declared.records.Call.TheVariants.{Act, ReadPage, ReadClock}
 use Rattle.race_phase.specs.declared.records.Record.{Record}
+use Rattle.race_phase.specs.declared.batch.Place.{Place}
+use Rattle.race_phase.specs.Blocks.{block_of}
 use Rattle.race_phase.specs.Calls.{IsFitting, records_of, MadeBy, AllMade}
+use Rattle.race_phase.specs.private.Told.{answer_with}
 
 -- a pass answered a record
 abbrev pub IsMade : BoardParts → Record → Answer → PassKnown → PassKnown → Type 0
@@ -71,6 +74,36 @@ abbrev pub HasWorked :
 HasWorked s ds rs n p out =
     (p.number ≡ n)
     × (AllMade s ds n (records_of n rs) out (mine p) ⊎ HasStopped s ds n (records_of n rs) p)
+
+-- the block of a place
+abbrev pub place_text : List (Option Delivery) → Place → List ℕ
+place_text ds t = block_of ds t.line (answer_with t.told t.reply)
+
+-- the blocks of places, in order
+abbrev pub places_text : List (Option Delivery) → List Place → List ℕ
+places_text ds [] = []
+places_text ds (t ∷ ts) = place_text ds t ++ places_text ds ts
+
+-- a pass has answered these records behind what it had made before, as the places tell
+pub record AllAnswered (s : BoardParts) (rs : List Record) (ts : List Place) (p q : PassKnown) :
+    Type 0 where
+  pub number : q.number ≡ p.number
+  pub made : (ds : List (Option Delivery)) (done : List Record) (out : List ℕ)
+      → AllMade s ds p.number done out (mine p)
+      → AllMade s ds p.number (done ++ rs) (out ++ places_text ds ts) (mine q)
+
+-- a pass has stopped at one of these records
+pub record HasHalted (s : BoardParts) (rs : List Record) (p q : PassKnown) : Type 0 where
+  pub number : q.number ≡ p.number
+  pub met : (ds : List (Option Delivery)) (done : List Record) (out : List ℕ)
+      → AllMade s ds p.number done out (mine p) → HasStopped s ds p.number (done ++ rs) q
+
+-- of these records the pass has answered all but the last ones, which wait; the text is of the others
+pub record AllButLast (s : BoardParts) (ds : List (Option Delivery)) (n : ℕ) (rs : List Record)
+    (waiting : List Record) (text : List ℕ) (p : PassKnown) : Type 0 where
+  pub done : List Record
+  pub whole : rs ≡ done ++ waiting
+  pub made : AllMade s ds n done text (mine p)
 
 -- each call that ended well has done the work of its place
 abbrev pub AllGiven : {A E : Type 0} → List (Result A E) → (A → PassKnown) → (A → List ℕ)

@@ -1,13 +1,16 @@
-use Rattle.std.proofs.Common.{◌≡◌, ◌≤◌, take}
+use Rattle.std.proofs.Common.{◌≡◌, ◌≤◌, ◌<◌, ◌+◌, All, length, take}
 use Rattle.board_history.specs.History.{IsLegal}
-use Rattle.shared_board.specs.Passes.{mine}
-use Rattle.race_phase.specs.Calls.{AllMade, records_of}
+use Rattle.race_phase.specs.Calls.{IsFitting, records_of}
+use Rattle.race_phase.specs.private.Workers.{AllButLast}
 use Rattle.race_phase.proofs.work.work.Given as goal
 
 abbrev pub invariant-loop-record : goal.invariant-loop-record
 invariant-loop-record g l = record {
-  index : l.index ≤ l.record-index;
   number : l.pass.number ≡ l.cpu;
   legal : IsLegal l.pass.seen;
-  made : AllMade g.N.Name.state l.deliveries l.cpu (records_of l.cpu (take l.record-index l.records)) l.text.items (mine l.pass);
+  places : length l.places.items ≡ l.most;
+  few : length l.batch.items < l.most;
+  index : l.index + length l.batch.items ≤ l.record-index;
+  fitting : All (IsFitting g.N.Name.state.cpus g.N.Name.state.format) l.batch.items;
+  made : AllButLast g.N.Name.state l.deliveries l.cpu (records_of l.cpu (take l.record-index l.records)) l.batch.items l.text.items l.pass;
 }

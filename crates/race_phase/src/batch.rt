@@ -1,0 +1,220 @@
+//! Records of one processor that are answered together: accesses that stand beside each other under one lock.
+ghost use Rattle.std.specs.Prelude.{◌≡◌, ◌<◌, ◌≤◌, ◌+◌, ◌^◌, ◌++◌, All, IfOk, OnOk, OnErr, length, take, vec_len};
+ghost use Rattle.board_history.specs.History.{IsLegal};
+ghost use Rattle.shared_board.specs.Passes.{Unanswered};
+ghost use Rattle.race_phase.specs.Calls.{IsFitting};
+ghost use Rattle.race_phase.specs.private.Told.{answer_with};
+ghost use Rattle.race_phase.specs.private.Workers.{
+  IsMade,
+  IsTrouble,
+  place_text,
+  places_text,
+  AllAnswered,
+  HasHalted,
+};
+
+use crate::deliveries::Deliveries;
+use crate::records::{Call, Record};
+use crate::texts::append_block;
+use crate::told::Told;
+use board_core::{Reply, Value};
+use board_io::Gate;
+use clk_units::NoMemory;
+use clock_table::Name;
+use irq_edges::EdgeList;
+use shared_board::{Holding, Pass, SharedBoard};
+use std::alloc::Global;
+use std::sync::Wait;
+
+/// What a record was told, until it is printed. Its reply is put where it stays, so that no list of edges is moved.
+#[derive(Drop)]
+pub(crate) struct Place {
+    pub(crate) line: u64,
+    pub(crate) told: Told,
+    pub(crate) reply: Reply,
+}
+
+/// A record wasn't answered.
+#[derive(Drop)]
+pub(crate) struct Halted;
+
+/// So many places.
+pub(crate) fn new_places(alloc: Global, count: usize) -> Result<Vec<Place>, NoMemory>
+    ensures { IfOk result (λ v. vec_len v ≡ count) }
+{
+    let mut places = Vec::new(alloc);
+    let mut made = 0;
+    while made < count {
+        let Ok(()) = places.push(Place {
+            line: 0,
+            told: Told::Acted,
+            reply: Reply {
+                number: 0,
+                value: Value::Nothing,
+                edges: EdgeList::new(),
+            },
+        }) else {
+            return Err(NoMemory);
+        };
+        made += 1;
+    }
+    Ok(places)
+}
+
+/// Answers records in order, each between two calls of the gate, and puts what each was told into its place. The lock is
+/// kept from one access to the next, and given back before a page is read and before the gate's last call. It stops at
+/// the first record that isn't answered. `index` is that of the first for the gate.
+pub(crate) fn answer_all<N: Name, R: Wait, G: Gate>(
+    rt: &R,
+    gate: &G,
+    board: &SharedBoard<N>,
+    pass: &mut Pass<N>,
+    records: &[Record],
+    index: u64,
+    places: &mut [Place],
+) -> Result<(), Halted>
+    requires places { length records.now ≤ length places.old }
+    requires small { index + length records.now < 2 ^ 64 }
+    requires fitting { All (IsFitting N.state.cpus N.state.format) records.now }
+    requires legal { IsLegal pass.old.seen }
+    ensures ok { OnOk result (AllAnswered N.state records.now
+        (take (length records.now) places.new) pass.old pass.new) }
+    ensures legal { OnOk result (IsLegal pass.new.seen) }
+    ensures err { OnErr result (HasHalted N.state records.now pass.old pass.new) }
+{
+    let mut lock = None;
+    for done in 0..records.len() {
+        let record = &records[done];
+        let is_last = done + 1 == records.len();
+        let at = index + done as u64;
+        match held(
+            rt,
+            gate,
+            board,
+            &mut lock,
+            is_last,
+            pass,
+            record,
+            at,
+            &mut places[done],
+        ) {
+            Ok(()) => {}
+            Err(Halted) => return Err(Halted),
+        }
+    }
+    Ok(())
+}
+
+/// Answers a record between two calls of the gate. Behind the last of a batch the lock is given back before the second.
+#[inline(always)]
+fn held<'b, N: Name, R: Wait, G: Gate>(
+    rt: &R,
+    gate: &G,
+    board: &'b SharedBoard<N>,
+    lock: &mut Option<Holding<'b, N>>,
+    is_last: bool,
+    pass: &mut Pass<N>,
+    given: &Record,
+    index: u64,
+    place: &mut Place,
+) -> Result<(), Halted>
+    requires fitting { IsFitting N.state.cpus N.state.format given.now }
+    requires legal { IsLegal pass.old.seen }
+    ensures ok { OnOk result (IsMade N.state given.now
+        (answer_with place.new.told place.new.reply) pass.old pass.new) }
+    ensures line { OnOk result (place.new.line ≡ given.now.line) }
+    ensures err { OnErr result
+        (Unanswered pass.old pass.new × IsTrouble N.state given.now pass.new) }
+{
+    gate.before(rt, given.cpu, index);
+    let result = answer(rt, gate, board, lock, pass, given, place);
+    if is_last {
+        *lock = None;
+    }
+    gate.after(rt, given.cpu, index);
+    result
+}
+
+/// Answers a record. An access keeps the lock that it makes or finds in `lock`, and a read of a page gives it back.
+fn answer<'b, N: Name, R: Wait, G: Gate>(
+    rt: &R,
+    gate: &G,
+    board: &'b SharedBoard<N>,
+    lock: &mut Option<Holding<'b, N>>,
+    pass: &mut Pass<N>,
+    given: &Record,
+    place: &mut Place,
+) -> Result<(), Halted>
+    requires fitting { IsFitting N.state.cpus N.state.format given.now }
+    requires legal { IsLegal pass.old.seen }
+    ensures ok { OnOk result (IsMade N.state given.now
+        (answer_with place.new.told place.new.reply) pass.old pass.new) }
+    ensures line { OnOk result (place.new.line ≡ given.now.line) }
+    ensures err { OnErr result
+        (Unanswered pass.old pass.new × IsTrouble N.state given.now pass.new) }
+{
+    let h = given.h;
+    place.line = given.line;
+    match given.call {
+        Call::Act { access } => {
+            let mut holding = match lock.take() {
+                Some(holding) => holding,
+                None => board.hold(rt),
+            };
+            place.told = Told::Acted;
+            place.reply.edges.clear();
+            match holding.answer(rt, gate, pass, given.cpu, h, access, &mut place.reply) {
+                Ok(()) => {
+                    *lock = Some(holding);
+                    Ok(())
+                }
+                Err(_refusal) => Err(Halted),
+            }
+        }
+        Call::ReadPage { page } => {
+            *lock = None;
+            match board.read_page(rt, pass, page, h) {
+                Ok(reply) => {
+                    place.told = Told::PageIs { reply };
+                    Ok(())
+                }
+                Err(_fault) => Err(Halted),
+            }
+        }
+        Call::ReadClock { page } => {
+            *lock = None;
+            match board.read_clock(rt, pass, page, h) {
+                Ok(reply) => {
+                    place.told = Told::ClockIs { reply };
+                    Ok(())
+                }
+                Err(_fault) => Err(Halted),
+            }
+        }
+    }
+}
+
+/// Appends the blocks of places, in order.
+pub(crate) fn append_blocks(
+    places: &[Place],
+    deliveries: &Deliveries,
+    out: &mut Vec<u8>,
+) -> Result<(), NoMemory>
+    ensures { OnOk result
+        (out.new.items ≡ out.old.items ++ places_text deliveries.now places.now) }
+{
+    for k in 0..places.len() {
+        let place = &places[k];
+        append_place(place, deliveries, out)?;
+    }
+    Ok(())
+}
+
+/// Appends the block of a place.
+#[inline(always)]
+fn append_place(place: &Place, deliveries: &Deliveries, out: &mut Vec<u8>) -> Result<(), NoMemory>
+    ensures { OnOk result
+        (out.new.items ≡ out.old.items ++ place_text deliveries.now place.now) }
+{
+    append_block(place.line, &place.told, &place.reply, deliveries, out)
+}
