@@ -1,5 +1,5 @@
 -- Where there is no edge, no count of rises grows.
-use Rattle.std.proofs.Common.{◌≡◌, ℕ, Bool, true, false, cond, leb, List, [], ◌∷◌, length, refl, ap, subst, sym, ◌∙◌, add-zero}
+use Rattle.std.proofs.Common.{◌≡◌, ℕ, Bool, true, false, cond, leb, List, [], ◌∷◌, length, drop, refl, ap, subst, sym, ◌∙◌, add-zero}
 use Rattle.std.proofs.lemmas.List.{nil_from_length}
 use Rattle.irq_edges.specs.declared.edges.Edge.{Edge}
 use Rattle.irq_edges.specs.Lines.{line_numbers}
@@ -21,3 +21,14 @@ rises_after-none format rises = by (leb 2 format)
     by : (b : Bool) → cond b (rises_with [] line_numbers rises) rises ≡ rises
     by true = rises_with-none line_numbers rises
     by false = refl
+
+-- behind the last edge there is none
+drop-length : (es : List Edge) → drop (length es) es ≡ []
+drop-length [] = refl
+drop-length (e ∷ es) = drop-length es
+
+pub none_behind : (format from : ℕ) (es : List Edge) (rises : List ℕ) → from ≡ length es → rises_after format (drop from es) rises ≡ rises
+none_behind format from es rises end =
+    ap (λ (n : ℕ). rises_after format (drop n es) rises) end
+    ∙ ap (λ (xs : List Edge). rises_after format xs rises) (drop-length es)
+    ∙ rises_after-none format rises

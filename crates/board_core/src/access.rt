@@ -21,7 +21,7 @@ ghost use Rattle.board_core.specs.Access.{ran_to, after_run, reply_of, after_acc
 ghost use Rattle.board_core.specs.Refusals.{refusal_of};
 
 use crate::board::BoardState;
-use crate::rises::count_rises;
+use crate::rises::count_rises_where;
 use board_types::{Access, Refusal, Reply, Value};
 use irq_edges::EdgeList;
 
@@ -139,7 +139,7 @@ impl BoardState {
             return;
         }
         if to == self.time_ns {
-            self.host = self.host.max(h);
+            self.host = h;
             return;
         }
         self.run_on(h, to, edges);
@@ -149,6 +149,7 @@ impl BoardState {
     /// for a run.
     #[inline(never)]
     fn run_on(&mut self, h: u64, to: u64, edges: &mut EdgeList)
+        requires later { self.old.host < h }
         requires time { HasTime self.old.anchor h }
         requires to { to ≡ time_of_access self.old h }
         requires places { length edges.old + 6 ≤ EDGE_PLACES }
@@ -158,9 +159,10 @@ impl BoardState {
         ensures room { length edges.new ≤ length edges.old + 6 }
     {
         let before = edges.len();
-        self.devices.run_to(self.time_ns, to, edges);
-        self.host = self.host.max(h);
+        let from = self.time_ns;
+        self.host = h;
         self.time_ns = to;
-        count_rises(&mut self.rises, self.format, edges, before);
+        let came = self.devices.run_to(from, to, edges);
+        count_rises_where(came, &mut self.rises, self.format, edges, before);
     }
 }

@@ -12,6 +12,7 @@ ghost use Rattle.std.specs.Prelude.{
   slice_index_or,
   if◌then◌else◌,
   IsTrue,
+  false,
 };
 ghost use Rattle.irq_edges.specs.declared.edges.TheConstants.{EDGE_PLACES};
 ghost use Rattle.irq_edges.specs.Lines.{line_numbers, is_line};
@@ -45,6 +46,25 @@ pub(crate) fn count_rises(rises: &mut [u64; 6], format: u8, edges: &EdgeList, fr
 {
     if format >= 2 {
         add_rises(rises, behind(edges, from));
+    }
+}
+
+/// The same where some came behind place `from`; where none did, no edge stands there.
+#[inline(always)]
+pub(crate) fn count_rises_where(
+    came: bool,
+    rises: &mut [u64; 6],
+    format: u8,
+    edges: &EdgeList,
+    from: usize,
+)
+    requires inside { from ≤ length edges.now }
+    requires none { came ≡ false → from ≡ length edges.now }
+    requires room { (k : ℕ) → k < 6 → slice_index_or rises.old k 0 + EDGE_PLACES < 2 ^ 64 }
+    ensures { rises.new ≡ rises_after format (drop from edges.now) rises.old }
+{
+    if came {
+        count_rises(rises, format, edges, from);
     }
 }
 

@@ -24,7 +24,7 @@ use Rattle.tick_policy.specs.declared.parts.TickParts.{TickParts}
 use Rattle.board_devices.specs.declared.parts.DeviceParts.{DeviceParts}
 use Rattle.board_devices.specs.Places.{each, line_at, no_line}
 use Rattle.board_devices.specs.Run.{run}
-use Rattle.board_devices.proofs.Edges.{edges-run, run_none_edges}
+use Rattle.board_devices.proofs.Edges.{edges-run}
 use Rattle.board_devices.specs.Lines.{output_of, drives, routed, levels}
 use Rattle.board_devices.specs.Rises.{one_if, lifts, rises_with}
 
@@ -335,10 +335,6 @@ lifts-of_run n t to d us order six levels_are =
     ≡ one_if (level_of line_numbers (levels_at (t + (to - t)) us) n) = ap (λ (bs : List Bool). one_if (level_of line_numbers bs n))
     (levels_are (to - t) (omega arith)) in
     omega (arith, edges, start, end, lifts-run n us t (to - t) six)
-
-pub lifts-of_none : (n t to : ℕ) (d : DeviceParts) → t ≡ to → lifts n (run t (to - t) d).edges + one_if (level_of line_numbers (levels d) n)
-    ≡ one_if (level_of line_numbers (levels d) n)
-lifts-of_none n t to d e = let none : lifts n (run t (to - t) d).edges ≡ 0 = ap (lifts n) (run_none_edges t to d e) in omega (arith, none)
 
 pub one_if-le : (b : Bool) → one_if b ≤ 1
 one_if-le true = omega arith

@@ -20,6 +20,10 @@ ghost use Rattle.std.specs.Prelude.{
   if◌then◌else◌,
 };
 ghost use Rattle.clk_units.specs.Events.{IsFirst};
+ghost use Rattle.clk_units.specs.Pulses.{pulses_from};
+ghost use Rattle.pit_readback.specs.declared.TheConstants.{PIT_HZ};
+ghost use Rattle.rtc_registers.specs.declared.TheConstants.{RTC_HZ};
+ghost use Rattle.hpet_registers.specs.declared.hpet.TheConstants.{HPET_HZ};
 ghost use Rattle.rtc_cycle.specs.Divider.{ticks_in, updates_in};
 ghost use Rattle.rtc_registers.specs.Pulses.{rtc_pulsed_times, alarms_in};
 ghost use Rattle.rtc_registers.specs.Registers.{divider_of};
@@ -36,8 +40,8 @@ use crate::clock::{counts_rtc, set_flag};
 use crate::devices::Devices;
 use crate::found_up::{finds_up, take_ticks};
 use crate::levels::{front_times, irq_up, shown_of};
-use crate::pulse_counts::pulse_counts;
-use crate::stretch::{Span, pit_ticks, rtc_ticks, run_at, run_timers};
+use crate::pulse_counts::{PulseCounts, pulse_counts};
+use crate::stretch::{Span, run_clock, run_pit, run_timers};
 use clk_units::RANGE_NS;
 use hpet_comparator::Matches;
 use irq_edges::{EdgeList, emit, next_rise};
@@ -46,9 +50,9 @@ use rtc_registers::{Rtc, RtcEvents};
 
 impl Devices {
     /// Runs from nanosecond `from` to `to`. Answers whether something came that could move a line,
-    /// and then puts into `times` from when on each line is up. Ticks that find their lines up move
-    /// none: they are counted alone.
+    /// and then puts into `times` from when on each line is up.
     // Most stretches bring nothing: a frame of its own would cost as much as what is done here.
+    // Those in which the MC146818's crystal pulses are few, and have one.
     #[inline(always)]
     fn advance(&mut self, from: u64, to: u64, times: &mut [Option<u64>; 6]) -> bool
         requires order { from ≤ to }
@@ -60,11 +64,42 @@ impl Devices {
         ensures due { (k : ℕ) → k < 10 → (line_at k self.new).counts.due
             ≤ (line_at k self.old).counts.due + (to - from) }
     {
+        let pulses = pulse_counts(from, to);
+        if pulses.rtc > 0 {
+            return self.advance_apart(from, to, pulses, times);
+        }
+        self.advance_by(from, to, PulseCounts { rtc: 0, ..pulses }, times)
+    }
+
+    /// The same by the pulses of the stretch. Ticks that find their lines up move none: they are
+    /// counted alone.
+    #[inline(always)]
+    fn advance_by(
+        &mut self,
+        from: u64,
+        to: u64,
+        pulses: PulseCounts,
+        times: &mut [Option<u64>; 6],
+    ) -> bool
+        requires order { from ≤ to }
+        requires range { to < 2 ^ 59 }
+        requires pit { pulses.pit ≡ pulses_from PIT_HZ from (to - from) }
+        requires few_pit { pulses.pit ≤ to - from }
+        requires rtc { pulses.rtc ≡ pulses_from RTC_HZ from (to - from) }
+        requires few_rtc { pulses.rtc ≤ to - from }
+        requires hpet { pulses.hpet ≡ pulses_from HPET_HZ from (to - from) }
+        requires few_hpet { pulses.hpet ≤ to - from }
+        requires room { (k : ℕ) → k < 10 → (line_at k self.old).counts.due + (to - from) < 2 ^ 63 }
+        ensures state { self.new ≡ (run from (to - from) self.old).state }
+        ensures levels { (j : ℕ) → from + j ≤ to → levels (run from j self.old).state
+            ≡ told_levels (from + j) (levels self.old) (if result then Some times.new else None) }
+        ensures due { (k : ℕ) → k < 10 → (line_at k self.new).counts.due
+            ≤ (line_at k self.old).counts.due + (to - from) }
+    {
         let _clock = self.rtc.parts();
         let legacy = self.hpet.legacy();
         let status = self.hpet.parts().status;
         let point = next_point(from, self.slew_ns);
-        let pulses = pulse_counts(from, to);
         let mut matches = [Matches::NONE; 8];
         let reach = self.hpet.pulses(pulses.hpet, &mut matches);
         let rises = self.pit.pulses(pulses.pit);
@@ -93,10 +128,8 @@ impl Devices {
         }
         let span = Span { from, to, point };
         let counts = counts_rtc(shown.pie, legacy);
-        let pit = pit_ticks(legacy, rises, span);
-        let rtc = rtc_ticks(counts, &events, span);
-        let pit_up = run_at(&mut self.ticks, 0, pit, span);
-        let rtc_up = run_at(&mut self.ticks, 1, rtc, span);
+        let pit_up = run_pit(&mut self.ticks, legacy, rises, span);
+        let rtc_up = run_clock(&mut self.ticks, counts, &events, span);
         let flag = counts_rtc_up(counts, self.ticks[1].is_up());
         set_flag(&mut self.rtc, flag);
         let irq = irq_up(shown, rtc_up, &events, span);
@@ -107,28 +140,43 @@ impl Devices {
 
     /// The same, with a frame of its own.
     #[inline(never)]
-    fn advance_apart(&mut self, from: u64, to: u64, times: &mut [Option<u64>; 6]) -> bool
+    fn advance_apart(
+        &mut self,
+        from: u64,
+        to: u64,
+        pulses: PulseCounts,
+        times: &mut [Option<u64>; 6],
+    ) -> bool
         requires order { from ≤ to }
         requires range { to < 2 ^ 59 }
+        requires pit { pulses.pit ≡ pulses_from PIT_HZ from (to - from) }
+        requires few_pit { pulses.pit ≤ to - from }
+        requires rtc { pulses.rtc ≡ pulses_from RTC_HZ from (to - from) }
+        requires few_rtc { pulses.rtc ≤ to - from }
+        requires hpet { pulses.hpet ≡ pulses_from HPET_HZ from (to - from) }
+        requires few_hpet { pulses.hpet ≤ to - from }
         requires room { (k : ℕ) → k < 10 → (line_at k self.old).counts.due + (to - from) < 2 ^ 63 }
+        ensures state { self.new ≡ (run from (to - from) self.old).state }
         ensures levels { (j : ℕ) → from + j ≤ to → levels (run from j self.old).state
             ≡ told_levels (from + j) (levels self.old) (if result then Some times.new else None) }
+        ensures due { (k : ℕ) → k < 10 → (line_at k self.new).counts.due
+            ≤ (line_at k self.old).counts.due + (to - from) }
     {
-        self.advance(from, to, times)
+        self.advance_by(from, to, pulses, times)
     }
 
     /// Runs from nanosecond `from` to `to`, and appends the edges on the way. Six places must be
-    /// free.
+    /// free. Answers false where there was none.
     // Most stretches bring nothing: a frame of its own would cost as much as what is done here.
     #[inline(always)]
-    #[tactic(auto, using(crate::proofs::Edges::run_none_state, crate::proofs::Edges::run_none_edges))]
-    pub fn run_to(&mut self, from: u64, to: u64, edges: &mut EdgeList)
+    pub fn run_to(&mut self, from: u64, to: u64, edges: &mut EdgeList) -> bool
         requires order { from ≤ to }
         requires range { to < 2 ^ 59 }
         requires room { (k : ℕ) → k < 10 → (line_at k self.old).counts.due + (to - from) < 2 ^ 63 }
         requires places { length edges.old + 6 ≤ EDGE_PLACES }
         ensures state { self.new ≡ (run from (to - from) self.old).state }
         ensures edges { edges.new ≡ edges.old ++ (run from (to - from) self.old).edges }
+        ensures still { result ≡ false → edges.new ≡ edges.old }
         ensures few { length edges.new ≤ length edges.old + 6 }
         ensures due { (k : ℕ) → k < 10 → (line_at k self.new).counts.due
             ≤ (line_at k self.old).counts.due + (to - from) }
@@ -136,16 +184,15 @@ impl Devices {
             + one_if (level_of line_numbers (levels self.old) n)
             ≡ one_if (level_of line_numbers (levels self.new) n) }
     {
-        if from == to {
-            return;
-        }
         let mut times = [None; 6];
         if !self.advance(from, to, &mut times) {
-            return;
+            return false;
         }
-        if goes_up(&times, from) {
-            emit(&times, from, to, edges);
+        if !goes_up(&times, from) {
+            return false;
         }
+        emit(&times, from, to, edges);
+        true
     }
 
     /// The first nanosecond after `now` at which a line changes if no access comes, below 2^59.
@@ -157,7 +204,8 @@ impl Devices {
     {
         let mut copy = *self;
         let mut times = [None; 6];
-        if !copy.advance_apart(now, RANGE_NS - 1, &mut times) {
+        let pulses = pulse_counts(now, RANGE_NS - 1);
+        if !copy.advance_apart(now, RANGE_NS - 1, pulses, &mut times) {
             return None;
         }
         next_rise(&times, now, RANGE_NS - 1)

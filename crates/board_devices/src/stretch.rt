@@ -8,11 +8,16 @@ ghost use Rattle.std.specs.Prelude.{
   ◌<◌,
   ◌≤◌,
   ◌^◌,
+  ◌&&◌,
   true,
+  false,
   not,
+  nat_le,
+  None,
   IfSome,
   length,
   slice_index_or,
+  if◌then◌else◌,
 };
 ghost use Rattle.clk_units.specs.Bits.{bit};
 ghost use Rattle.pit_readback.specs.declared.TheConstants.{PIT_HZ};
@@ -21,6 +26,7 @@ ghost use Rattle.hpet_registers.specs.declared.hpet.TheConstants.{HPET_HZ};
 ghost use Rattle.clk_units.specs.Pulses.{pulses_from};
 ghost use Rattle.clk_units.specs.Events.{first_at};
 ghost use Rattle.hpet_registers.specs.Stretch.{timer_matches};
+ghost use Rattle.tick_policy.specs.Line.{is_waiting, ticked_times};
 ghost use Rattle.board_devices.specs.Places.{no_line};
 ghost use Rattle.board_devices.specs.private.Stretch.{
   counted,
@@ -64,7 +70,7 @@ pub(crate) struct Ticks {
 }
 
 /// Ticks that are counted where `b` holds.
-pub(crate) fn counted(seen: bool, b: bool, count: u64, first: Option<u64>) -> Ticks
+fn counted(seen: bool, b: bool, count: u64, first: Option<u64>) -> Ticks
     ensures value { result ≡ counted seen b count first }
     ensures few { result.count ≤ count }
 {
@@ -79,32 +85,92 @@ pub(crate) fn counted(seen: bool, b: bool, count: u64, first: Option<u64>) -> Ti
     }
 }
 
-/// The ticks of the 8254, by the rises of OUT 0; legacy replacement leaves them out.
-pub(crate) fn pit_ticks(legacy: bool, rises: Rises, span: Span) -> Ticks
+/// Takes the tick line of the 8254 over a stretch, by the rises of OUT 0; legacy replacement leaves
+/// them out. Answers from when on the line is up.
+// When the first rise comes is asked for where it tells anything.
+pub(crate) fn run_pit(
+    lines: &mut [TickLine; 10],
+    legacy: bool,
+    rises: Rises,
+    span: Span,
+) -> Option<u64>
     requires order { span.from ≤ span.to }
     requires range { span.to < 2 ^ 59 }
     requires inside { IfSome rises.first (λ j. j
         ≤ pulses_from PIT_HZ span.from (span.to - span.from)) }
-    ensures value { result
-        ≡ counted true (not legacy) rises.count (first_at PIT_HZ span.from rises.first) }
-    ensures few { result.count ≤ rises.count }
+    requires room { (slice_index_or lines.old 0 no_line).counts.due + rises.count < 2 ^ 63 }
+    ensures places { length lines.new ≡ 10 }
+    ensures here { slice_index_or lines.new 0 no_line ≡ end_of span.point span.to
+        (counted true (not legacy) rises.count (first_at PIT_HZ span.from rises.first))
+        (slice_index_or lines.old 0 no_line) }
+    ensures others { (j : ℕ) → j ≢ 0
+        → slice_index_or lines.new j no_line ≡ slice_index_or lines.old j no_line }
+    ensures up { result ≡ up_of span.from span.point span.to
+        (counted true (not legacy) rises.count (first_at PIT_HZ span.from rises.first))
+        (slice_index_or lines.old 0 no_line) }
 {
+    if lines[0].is_up() {
+        run_up(lines, 0, !legacy, rises.count);
+        return Some(span.from);
+    }
     let first = first_at(rises.first, PIT_HZ, span.from, span.to);
-    counted(true, !legacy, rises.count, first)
+    let ticks = counted(true, !legacy, rises.count, first);
+    run_at(lines, 0, ticks, span)
 }
 
-/// The ticks of the MC146818, which are counted where `b` holds.
-pub(crate) fn rtc_ticks(b: bool, events: &RtcEvents, span: Span) -> Ticks
+/// Takes the tick line of the MC146818 over a stretch, whose ticks are counted where `b` holds.
+/// Answers from when on the line is up.
+pub(crate) fn run_clock(
+    lines: &mut [TickLine; 10],
+    b: bool,
+    events: &RtcEvents,
+    span: Span,
+) -> Option<u64>
     requires order { span.from ≤ span.to }
     requires range { span.to < 2 ^ 59 }
     requires inside { IfSome events.now.cycle.first_tick (λ j. j
         ≤ pulses_from RTC_HZ span.from (span.to - span.from)) }
-    ensures value { result ≡ counted b b events.now.cycle.ticks
-        (first_at RTC_HZ span.from events.now.cycle.first_tick) }
-    ensures few { result.count ≤ events.now.cycle.ticks }
+    requires room { (slice_index_or lines.old 1 no_line).counts.due + events.now.cycle.ticks < 2 ^ 63 }
+    ensures places { length lines.new ≡ 10 }
+    ensures here { slice_index_or lines.new 1 no_line ≡ end_of span.point span.to
+        (counted b b events.now.cycle.ticks
+        (first_at RTC_HZ span.from events.now.cycle.first_tick))
+        (slice_index_or lines.old 1 no_line) }
+    ensures others { (j : ℕ) → j ≢ 1
+        → slice_index_or lines.new j no_line ≡ slice_index_or lines.old j no_line }
+    ensures up { result ≡ up_of span.from span.point span.to
+        (counted b b events.now.cycle.ticks
+        (first_at RTC_HZ span.from events.now.cycle.first_tick))
+        (slice_index_or lines.old 1 no_line) }
 {
+    if lines[1].is_up() {
+        run_up(lines, 1, b, events.cycle.ticks);
+        return Some(span.from);
+    }
+    if !b {
+        return None;
+    }
     let first = first_at(events.cycle.first_tick, RTC_HZ, span.from, span.to);
-    counted(b, b, events.cycle.ticks, first)
+    let ticks = counted(true, true, events.cycle.ticks, first);
+    run_at(lines, 1, ticks, span)
+}
+
+/// Takes the line at place `k`, which is up, over a stretch: its ticks are counted where `b` holds,
+/// and it stays up.
+#[inline(always)]
+#[tactic(auto, using(crate::proofs::Idle::no_ticks))]
+fn run_up(lines: &mut [TickLine; 10], k: usize, b: bool, count: u64)
+    requires place { k < 10 }
+    requires room { (slice_index_or lines.old k no_line).counts.due + count < 2 ^ 63 }
+    ensures places { length lines.new ≡ 10 }
+    ensures here { slice_index_or lines.new k no_line
+        ≡ ticked_times (if b then count else 0) (slice_index_or lines.old k no_line) }
+    ensures others { (j : ℕ) → j ≢ k
+        → slice_index_or lines.new j no_line ≡ slice_index_or lines.old j no_line }
+{
+    if b && count > 0 {
+        lines[k].due(count);
+    }
 }
 
 /// Whether a stretch may change a line: a tick is due, or its catch-up point finds one that waits.
@@ -144,7 +210,7 @@ fn run_moved(lines: &mut [TickLine; 10], k: usize, ticks: Ticks, span: Span) -> 
 /// Takes the line at place `k` over a stretch. Answers from when on it is up.
 // Most lines of a stretch are left alone: where this is inlined, that takes a few tests.
 #[inline(always)]
-pub(crate) fn run_at(lines: &mut [TickLine; 10], k: usize, ticks: Ticks, span: Span) -> Option<u64>
+fn run_at(lines: &mut [TickLine; 10], k: usize, ticks: Ticks, span: Span) -> Option<u64>
     requires place { k < 10 }
     requires room { (slice_index_or lines.old k no_line).counts.due + ticks.count < 2 ^ 63 }
     ensures places { length lines.new ≡ 10 }
@@ -162,6 +228,23 @@ pub(crate) fn run_at(lines: &mut [TickLine; 10], k: usize, ticks: Ticks, span: S
     } else {
         None
     }
+}
+
+/// Whether a timer rests in a stretch: it has no match, its line is down, its status bit clear, and
+/// no catch-up point finds a tick that waits. Then its output is down, of whichever type it is.
+#[inline(always)]
+fn rests(line: &TickLine, was_set: bool, matches: Matches, span: Span) -> bool
+    ensures count { result ≡ true → matches.count ≡ 0 }
+    ensures first { result ≡ true → matches.first ≡ None }
+    ensures down { result ≡ true → line.now.up ≡ false }
+    ensures clear { result ≡ true → was_set ≡ false }
+    ensures still { result ≡ true → (nat_le span.point span.to && is_waiting line.now) ≡ false }
+{
+    matches.count == 0
+        && matches.first.is_none()
+        && !line.is_up()
+        && !was_set
+        && !(span.point <= span.to && line.is_waiting())
 }
 
 /// Takes the tick line of timer `k` of an HPET that has had its pulses over a stretch. Answers from
@@ -189,7 +272,14 @@ fn run_timer(
     ensures output { result
         ≡ output_up span k h.now was_set matches (slice_index_or lines.old (k + 2) no_line) }
 {
+    if rests(&lines[k as usize + 2], was_set, matches, span) {
+        return None;
+    }
     let timer = h.timer(k);
+    if lines[k as usize + 2].is_up() && !timer.is_level() {
+        run_up(lines, k as usize + 2, h.has_ticks(k), matches.count);
+        return Some(span.from);
+    }
     let first = first_at(matches.first, HPET_HZ, span.from, span.to);
     let ticks = counted(true, h.has_ticks(k), matches.count, first);
     let up = run_at(lines, k as usize + 2, ticks, span);

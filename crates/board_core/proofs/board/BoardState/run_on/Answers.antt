@@ -21,36 +21,39 @@ use Rattle.board_core.proofs.Steps.{with_run-is}
 use Rattle.board_core.proofs.board.BoardState.run_on.Goals as goal
 
 -- the board that the run finds
-abbrev seen : goal.After-count_rises → BoardParts
+abbrev seen : goal.After-count_rises_where → BoardParts
 seen c = board_parts_of c.self.inside
 
-to_is : (c : goal.After-count_rises) → c.args.to ≡ time_of_access (seen c) c.args.h
+to_is : (c : goal.After-count_rises_where) → c.args.to ≡ time_of_access (seen c) c.args.h
 to_is c = c.requires.to ∙ ap (λ (b : BoardParts). time_of_access b c.args.h) (sym c.self.view_is)
 
-time_in : (c : goal.After-count_rises) → HasTime c.self.inside.anchor c.args.h
+time_in : (c : goal.After-count_rises_where) → HasTime c.self.inside.anchor c.args.h
 time_in c = subst (λ (b : BoardParts). HasTime b.anchor c.args.h) (sym c.self.view_is) c.requires.time
 
-host_is : (c : goal.After-count_rises) → c.max-self-inside.result ≡ max c.self.inside.host c.args.h
-host_is c = omega (arith, c.max-self-inside.ensures)
+later : (c : goal.After-count_rises_where) → c.self.inside.host < c.args.h
+later c = subst (λ (b : BoardParts). b.host < c.args.h) (sym c.self.view_is) c.requires.later
 
-now_is : (c : goal.After-count_rises) → c.args.to ≡ time_at c.self.inside.anchor c.max-self-inside.result
+host_is : (c : goal.After-count_rises_where) → c.args.h ≡ max c.self.inside.host c.args.h
+host_is c = omega (arith, later c)
+
+now_is : (c : goal.After-count_rises_where) → c.args.to ≡ time_at c.self.inside.anchor c.args.h
 now_is c =
     to_is c
     ∙ sym (time_at_max c.self.inside.anchor c.self.inside.host c.args.h (omega (arith, c.self.invariant.joined.rates.host.slow)))
     ∙ sym (ap (time_at c.self.inside.anchor) (host_is c))
 
 -- the run of the devices is that of the definition
-ran_is : (c : goal.After-count_rises) → run c.self.inside.time_ns (c.args.to - c.self.inside.time_ns) c.self.inside.devices ≡ ran_to (seen c) c.args.h
+ran_is : (c : goal.After-count_rises_where) → run c.self.inside.time_ns (c.args.to - c.self.inside.time_ns) c.self.inside.devices ≡ ran_to (seen c) c.args.h
 ran_is c =
     ap (λ (n : ℕ). run c.self.inside.time_ns (n - c.self.inside.time_ns) c.self.inside.devices) (to_is c)
     ∙ ap (λ (t : ℕ). run t (time_of_access (seen c) c.args.h - t) c.self.inside.devices) c.self.invariant.time
 
-edges_are : (c : goal.After-count_rises) → c.run_to.new.edges ≡ c.args.edges.now ++ (ran_to (seen c) c.args.h).edges
-edges_are c = c.run_to.ensures.edges ∙ ap (λ (r : Ran). c.args.edges.now ++ r.edges) (ran_is c)
+edges_are : (c : goal.After-count_rises_where) → c.run_to-came.new.edges ≡ c.args.edges.now ++ (ran_to (seen c) c.args.h).edges
+edges_are c = c.run_to-came.ensures.edges ∙ ap (λ (r : Ran). c.args.edges.now ++ r.edges) (ran_is c)
 
-rises_are : (c : goal.After-count_rises) → c.count_rises.new.rises ≡ rises_after c.self.inside.format (ran_to (seen c) c.args.h).edges c.self.inside.rises
+rises_are : (c : goal.After-count_rises_where) → c.count_rises_where.new.rises ≡ rises_after c.self.inside.format (ran_to (seen c) c.args.h).edges c.self.inside.rises
 rises_are c =
-    c.count_rises.ensures
+    c.count_rises_where.ensures
     ∙ ap (λ (es : List Edge). rises_after c.self.inside.format es c.self.inside.rises)
     (ap (drop c.len-before.result) (edges_are c)
     ∙ ap (λ (n : ℕ). drop n (c.args.edges.now ++ (ran_to (seen c) c.args.h).edges)) c.len-before.ensures.value
@@ -64,32 +67,32 @@ invariant_of-self c =
       time = now_is c;
       joined = record {
         format = subst (λ (n : ℕ). IsFormat c.self.inside.format c.self.inside.cpus n)
-            (sym (ap (λ (d : DeviceParts). d.hpet.timers) c.run_to.ensures.state
+            (sym (ap (λ (d : DeviceParts). d.hpet.timers) c.run_to-came.ensures.state
             ∙ timers-run c.self.inside.time_ns (c.args.to - c.self.inside.time_ns) c.self.inside.devices))
             c.self.invariant.joined.format;
         rates = c.self.invariant.joined.rates;
         time = record {
-          started = omega (arith, c.self.invariant.joined.time.started, c.max-self-inside.ensures);
-          range = let r : time_at c.self.inside.anchor c.max-self-inside.result < RANGE_NS = omega
+          started = omega (arith, c.self.invariant.joined.time.started, later c);
+          range = let r : time_at c.self.inside.anchor c.args.h < RANGE_NS = omega
               (arith, now_is c, to_is c, low, c.self.invariant.joined.time.range) in r;
         };
         accesses = c.self.invariant.joined.accesses;
         due = λ k less.
-            let r : (line_at k c.run_to.new.self).counts.due ≤ time_at c.self.inside.anchor c.max-self-inside.result + c.self.inside.accesses =
-            omega (arith, c.run_to.ensures.due k less, c.self.invariant.joined.due k less, from, now_is c, to_is c) in r;
+            let r : (line_at k c.run_to-came.new.self).counts.due ≤ time_at c.self.inside.anchor c.args.h + c.self.inside.accesses =
+            omega (arith, c.run_to-came.ensures.due k less, c.self.invariant.joined.due k less, from, now_is c, to_is c) in r;
         wall = c.self.invariant.joined.wall;
         processors = c.self.invariant.joined.processors;
-        rises = subst (λ (rs : List ℕ). AreRises c.self.inside.format c.self.inside.accesses (levels c.run_to.new.self) rs) (sym (rises_are c))
-            (AreRises-after c.self.inside.format c.self.inside.accesses c.self.inside.accesses 0 (levels c.self.inside.devices) (levels c.run_to.new.self)
+        rises = subst (λ (rs : List ℕ). AreRises c.self.inside.format c.self.inside.accesses (levels c.run_to-came.new.self) rs) (sym (rises_are c))
+            (AreRises-after c.self.inside.format c.self.inside.accesses c.self.inside.accesses 0 (levels c.self.inside.devices) (levels c.run_to-came.new.self)
             (ran_to (seen c) c.args.h).edges c.self.inside.rises (omega arith) (omega arith) c.self.invariant.joined.rises
-            (λ line. omega (arith, ap (λ (r : Ran). lifts line r.edges) (ran_is c), c.run_to.ensures.lifts line)));
+            (λ line. omega (arith, ap (λ (r : Ran). lifts line r.edges) (ran_is c), c.run_to-came.ensures.lifts line)));
       };
     }
 
 pub returns-clause-state : goal.returns-clause-state
 returns-clause-state c =
-    with_run-is (seen c) c.args.h c.max-self-inside.result c.run_to.new.self c.count_rises.new.rises (host_is c)
-    (c.run_to.ensures.state ∙ ap (λ (r : Ran). r.state) (ran_is c)) (rises_are c)
+    with_run-is (seen c) c.args.h c.args.h c.run_to-came.new.self c.count_rises_where.new.rises (host_is c)
+    (c.run_to-came.ensures.state ∙ ap (λ (r : Ran). r.state) (ran_is c)) (rises_are c)
     ∙ ap (λ (b : BoardParts). after_run b c.args.h) c.self.view_is
 
 pub returns-clause-edges : goal.returns-clause-edges
@@ -98,4 +101,4 @@ returns-clause-edges c = edges_are c ∙ ap (λ (b : BoardParts). c.args.edges.n
 pub returns-clause-few : goal.returns-clause-few
 returns-clause-few c =
     subst (λ (b : BoardParts). length (ran_to b c.args.h).edges ≤ 6) c.self.view_is
-    (omega (arith, c.run_to.ensures.few, ap length (edges_are c), length-append c.args.edges.now (ran_to (seen c) c.args.h).edges))
+    (omega (arith, c.run_to-came.ensures.few, ap length (edges_are c), length-append c.args.edges.now (ran_to (seen c) c.args.h).edges))

@@ -59,21 +59,23 @@ returns-then-h-self-clause-few c =
 pub invariant_of-self : goal.invariant_of-self
 invariant_of-self c =
     let b : BoardParts = board_parts_of c.self.inside in
+    let later : b.host < c.args.h = omega (arith, c.if-h-self.false) in
     let stays : now_of b ≡ time_of_access b c.args.h =
     sym c.self.invariant.time ∙ sym c.if-to-self.true ∙ c.requires.to ∙ ap (λ (x : BoardParts). time_of_access x c.args.h) (sym c.self.view_is) in
-    let same : time_at b.anchor c.max-self-inside.result ≡ now_of b =
-    same_time b c.args.h stays c.max-self-inside.result (omega (arith, c.self.invariant.joined.rates.host.slow)) c.max-self-inside.ensures in
+    let same : time_at b.anchor c.args.h ≡ now_of b =
+    same_time b c.args.h stays c.args.h (omega (arith, c.self.invariant.joined.rates.host.slow)) (omega (arith, later)) in
     record {
       time = c.self.invariant.time ∙ sym same;
-      joined = IsJoined-same_time b c.max-self-inside.result c.self.invariant.joined (omega (arith, c.max-self-inside.ensures)) same;
+      joined = IsJoined-same_time b c.args.h c.self.invariant.joined (omega (arith, later)) same;
     }
 
 pub returns-then-to-self-clause-state : goal.returns-then-to-self-clause-state
 returns-then-to-self-clause-state c =
     let b : BoardParts = board_parts_of c.self.inside in
+    let later : b.host < c.args.h = omega (arith, c.if-h-self.false) in
     let stays : now_of b ≡ time_of_access b c.args.h =
     sym c.self.invariant.time ∙ sym c.if-to-self.true ∙ c.requires.to ∙ ap (λ (x : BoardParts). time_of_access x c.args.h) (sym c.self.view_is) in
-    run-none b c.args.h stays c.max-self-inside.result c.max-self-inside.ensures ∙ ap (λ (x : BoardParts). after_run x c.args.h) c.self.view_is
+    run-none b c.args.h stays c.args.h (omega (arith, later)) ∙ ap (λ (x : BoardParts). after_run x c.args.h) c.self.view_is
 
 pub returns-then-to-self-clause-edges : goal.returns-then-to-self-clause-edges
 returns-then-to-self-clause-edges c =

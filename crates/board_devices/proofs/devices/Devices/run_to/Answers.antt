@@ -6,17 +6,10 @@ use Rattle.board_devices.specs.declared.parts.DeviceParts.{DeviceParts}
 use Rattle.board_devices.specs.Lines.{levels}
 use Rattle.board_devices.specs.Run.{run}
 use Rattle.board_devices.specs.Rises.{one_if, lifts}
-use Rattle.board_devices.proofs.Rises.{lifts-of_run, lifts-of_none}
+use Rattle.board_devices.proofs.Rises.{lifts-of_run}
 use Rattle.board_devices.proofs.Still.{edges-still}
-use Rattle.board_devices.proofs.Edges.{edges-run, run_none_edges, told-moved, told-still}
+use Rattle.board_devices.proofs.Edges.{edges-run, told-moved, told-still}
 use Rattle.board_devices.proofs.devices.Devices.run_to.Goals as goal
-
-pub returns-then-from-to-clause-edges : goal.returns-then-from-to-clause-edges
-returns-then-from-to-clause-edges c = sym
-    (ap (λ (es : List Edge). c.args.edges.now ++ es) (run_none_edges c.args.from c.args.to c.args.self.now c.if-from-to.true) ∙ append-nil c.args.edges.now)
-
-pub returns-then-from-to-clause-lifts : goal.returns-then-from-to-clause-lifts
-returns-then-from-to-clause-lifts c = λ n. lifts-of_none n c.args.from c.args.to c.args.self.now c.if-from-to.true
 
 -- where nothing came
 still : (c : goal.Then-not-advance) (j : ℕ) → c.args.from + j ≤ c.args.to → levels (run c.args.from j c.args.self.now).state ≡ levels c.args.self.now
@@ -39,32 +32,32 @@ returns-then-not-advance-clause-lifts c = λ n.
     omega (arith, none, same)
 
 -- where something came
-pub returns-then-goes_up-clause-edges : goal.returns-then-goes_up-clause-edges
-returns-then-goes_up-clause-edges c =
+pub returns-clause-edges : goal.returns-clause-edges
+returns-clause-edges c =
     c.emit.ensures.appended ∙ ap (λ (es : List Edge). c.args.edges.now ++ es)
     (sym (edges-run c.args.self.now c.advance.new.times c.args.from c.args.to
     (told-moved c.args.self.now c.advance.new.times c.args.from c.args.to c.advance.result c.if-not-advance.false c.advance.ensures.levels)
     (c.args.to - c.args.from) (omega (arith, c.requires.order))))
 
-pub returns-then-goes_up-clause-lifts : goal.returns-then-goes_up-clause-lifts
-returns-then-goes_up-clause-lifts c = λ n.
+pub returns-clause-lifts : goal.returns-clause-lifts
+returns-clause-lifts c = λ n.
     lifts-of_run n c.args.from c.args.to c.args.self.now c.advance.new.times c.requires.order (omega arith)
     (told-moved c.args.self.now c.advance.new.times c.args.from c.args.to c.advance.result c.if-not-advance.false c.advance.ensures.levels)
     ∙ ap (λ (d : DeviceParts). one_if (level_of line_numbers (levels d) n)) (sym c.advance.ensures.state)
 
 -- .. and no line goes up
-pub returns-else-goes_up-clause-edges : goal.returns-else-goes_up-clause-edges
-returns-else-goes_up-clause-edges c =
+pub returns-then-not-goes_up-clause-edges : goal.returns-then-not-goes_up-clause-edges
+returns-then-not-goes_up-clause-edges c =
     sym (ap (λ (es : List Edge). c.args.edges.now ++ es)
     (edges-run c.args.self.now c.advance.new.times c.args.from c.args.to
     (told-moved c.args.self.now c.advance.new.times c.args.from c.args.to c.advance.result c.if-not-advance.false c.advance.ensures.levels)
     (c.args.to - c.args.from) (omega (arith, c.requires.order))
     ∙ rises_of-none line_numbers c.advance.new.times c.args.from c.args.to (c.args.to - c.args.from)
-    (c.goes_up.ensures c.if-goes_up.false c.args.to) (omega (arith, c.requires.order)))
+    (c.goes_up.ensures c.if-not-goes_up.true c.args.to) (omega (arith, c.requires.order)))
     ∙ append-nil c.args.edges.now)
 
-pub returns-else-goes_up-clause-lifts : goal.returns-else-goes_up-clause-lifts
-returns-else-goes_up-clause-lifts c = λ n.
+pub returns-then-not-goes_up-clause-lifts : goal.returns-then-not-goes_up-clause-lifts
+returns-then-not-goes_up-clause-lifts c = λ n.
     lifts-of_run n c.args.from c.args.to c.args.self.now c.advance.new.times c.requires.order (omega arith)
     (told-moved c.args.self.now c.advance.new.times c.args.from c.args.to c.advance.result c.if-not-advance.false c.advance.ensures.levels)
     ∙ ap (λ (d : DeviceParts). one_if (level_of line_numbers (levels d) n)) (sym c.advance.ensures.state)

@@ -41,27 +41,27 @@ use Rattle.board_devices.proofs.Advance.{Brought, Known, ran-state, ran-levels, 
 use Rattle.board_devices.proofs.Timers.{ends-timers, times-are, has_ticks-pulsed}
 use Rattle.board_devices.proofs.Idle.{end-early, end-unseen}
 use Rattle.board_devices.proofs.Still.{Quiet, levels-still, flag-again}
-use Rattle.board_devices.proofs.devices.Devices.advance.Goals as goal
+use Rattle.board_devices.proofs.devices.Devices.advance_by.Goals as goal
 
 -- there is room for the ticks
-pub run_at-pit_up-requires-clause-room : goal.run_at-pit_up-requires-clause-room
-run_at-pit_up-requires-clause-room c =
+pub run_pit-pit_up-requires-clause-room : goal.run_pit-pit_up-requires-clause-room
+run_pit-pit_up-requires-clause-room c =
     let room : (line_at 0 (parts_of c.self.inside)).counts.due + (c.args.to - c.args.from) < 2 ^ 63 =
     rw (← c.self.view_is) at (c.requires.room 0 (omega arith)) in
-    omega (arith, room, c.pit_ticks-pit.ensures.few, c.pulses-rises.ensures.few, c.pulse_counts-pulses.ensures.few_pit)
+    omega (arith, room, c.pulses-rises.ensures.few, c.requires.few_pit)
 
-pub run_at-rtc_up-requires-clause-room : goal.run_at-rtc_up-requires-clause-room
-run_at-rtc_up-requires-clause-room c =
+pub run_clock-rtc_up-requires-clause-room : goal.run_clock-rtc_up-requires-clause-room
+run_clock-rtc_up-requires-clause-room c =
     let room : (line_at 1 (parts_of c.self.inside)).counts.due + (c.args.to - c.args.from) < 2 ^ 63 =
     rw (← c.self.view_is) at (c.requires.room 1 (omega arith)) in
-    let same : (get_or c.run_at-pit_up.new.lines 1 no_line).counts.due ≡ (line_at 1 (parts_of c.self.inside)).counts.due =
-    ap (λ (l : TickParts). l.counts.due) (c.run_at-pit_up.ensures.others 1 (λ e. absurd (omega (arith, e)))) in
-    omega (arith, room, same, c.rtc_ticks-rtc.ensures.few, c.clock_pulses-events.ensures.few_ticks, c.pulse_counts-pulses.ensures.few_rtc)
+    let same : (get_or c.run_pit-pit_up.new.lines 1 no_line).counts.due ≡ (line_at 1 (parts_of c.self.inside)).counts.due =
+    ap (λ (l : TickParts). l.counts.due) (c.run_pit-pit_up.ensures.others 1 (λ e. absurd (omega (arith, e)))) in
+    omega (arith, room, same, c.clock_pulses-events.ensures.few_ticks, c.requires.few_rtc)
 
 pub run_timers-requires-clause-inside : goal.run_timers-requires-clause-inside
 run_timers-requires-clause-inside c = λ k less.
     by_first (matches_of k c.self.inside.hpet) _ (timer_matches c.pulses-reach.new.matches k).first
-    (rw c.pulse_counts-pulses.ensures.hpet at (c.pulses-reach.ensures.first k))
+    (rw c.requires.hpet at (c.pulses-reach.ensures.first k))
   where
     by_first : (count : ℕ → ℕ) (n : ℕ) (first : Option ℕ) → IsFirst count n first → IfSome first (λ j. j ≤ n)
     by_first count n None h = tt
@@ -72,17 +72,17 @@ run_timers-requires-clause-room c = λ k less.
     let place : k + 2 ≡ suc (suc k) = omega arith in
     let room : (line_at (k + 2) (parts_of c.self.inside)).counts.due + (c.args.to - c.args.from) < 2 ^ 63 =
     rw (← c.self.view_is) at (c.requires.room (k + 2) (omega arith)) in
-    let same : (get_or c.run_at-rtc_up.new.lines (k + 2) no_line).counts.due ≡ (line_at (k + 2) (parts_of c.self.inside)).counts.due =
-    ap (λ (l : TickParts). l.counts.due) (c.run_at-rtc_up.ensures.others (k + 2) (λ e. absurd (omega (arith, e)))
-    ∙ c.run_at-pit_up.ensures.others (k + 2) (λ e. absurd (omega (arith, e)))) in
-    omega (arith, room, same, c.pulses-reach.ensures.few k, c.pulse_counts-pulses.ensures.few_hpet)
+    let same : (get_or c.run_clock-rtc_up.new.lines (k + 2) no_line).counts.due ≡ (line_at (k + 2) (parts_of c.self.inside)).counts.due =
+    ap (λ (l : TickParts). l.counts.due) (c.run_clock-rtc_up.ensures.others (k + 2) (λ e. absurd (omega (arith, e)))
+    ∙ c.run_pit-pit_up.ensures.others (k + 2) (λ e. absurd (omega (arith, e)))) in
+    omega (arith, room, same, c.pulses-reach.ensures.few k, c.requires.few_hpet)
 
 -- the lines behind those of the 8254 and the MC146818
-behind : (c : goal.After-run_timers) → (k : ℕ) → k < 8 → get_or c.run_at-rtc_up.new.lines (k + 2) no_line ≡ line_at (suc (suc k)) (parts_of c.self.inside)
+behind : (c : goal.After-run_timers) → (k : ℕ) → k < 8 → get_or c.run_clock-rtc_up.new.lines (k + 2) no_line ≡ line_at (suc (suc k)) (parts_of c.self.inside)
 behind c k less =
     let place : k + 2 ≡ suc (suc k) = omega arith in
-    c.run_at-rtc_up.ensures.others (k + 2) (λ e. absurd (omega (arith, e)))
-    ∙ c.run_at-pit_up.ensures.others (k + 2) (λ e. absurd (omega (arith, e)))
+    c.run_clock-rtc_up.ensures.others (k + 2) (λ e. absurd (omega (arith, e)))
+    ∙ c.run_pit-pit_up.ensures.others (k + 2) (λ e. absurd (omega (arith, e)))
     ∙ ap (λ (i : ℕ). get_or c.self.inside.ticks i no_line) place
 
 -- what is known
@@ -98,18 +98,26 @@ valid c = subst IsHpet c.parts-status.ensures.parts c.parts-status.ensures.valid
 brought : (c : goal.After-run_timers)
     → Brought (parts_of c.self.inside) c.args.from (c.args.to - c.args.from) c.pulses-rises.result c.clock_pulses-events.result c.pulses-reach.new.matches
 brought c = record {
-  pit_count = rw c.pulse_counts-pulses.ensures.pit at c.pulses-rises.ensures.count;
-  pit_first = rw c.pulse_counts-pulses.ensures.pit at c.pulses-rises.ensures.first;
-  rtc_count = rw c.pulse_counts-pulses.ensures.rtc at c.clock_pulses-events.ensures.ticks;
-  rtc_first = rw c.pulse_counts-pulses.ensures.rtc at c.clock_pulses-events.ensures.first_tick;
-  update_first = rw c.pulse_counts-pulses.ensures.rtc at c.clock_pulses-events.ensures.first_update;
-  alarm_first = rw c.pulse_counts-pulses.ensures.rtc at c.clock_pulses-events.ensures.first_alarm;
-  timer_count = rw c.pulse_counts-pulses.ensures.hpet at c.pulses-reach.ensures.count;
-  timer_first = rw c.pulse_counts-pulses.ensures.hpet at c.pulses-reach.ensures.first;
+  pit_count = rw c.requires.pit at c.pulses-rises.ensures.count;
+  pit_first = rw c.requires.pit at c.pulses-rises.ensures.first;
+  rtc_count = rw c.requires.rtc at c.clock_pulses-events.ensures.ticks;
+  rtc_first = rw c.requires.rtc at c.clock_pulses-events.ensures.first_tick;
+  update_first = rw c.requires.rtc at c.clock_pulses-events.ensures.first_update;
+  alarm_first = rw c.requires.rtc at c.clock_pulses-events.ensures.first_alarm;
+  timer_count = rw c.requires.hpet at c.pulses-reach.ensures.count;
+  timer_first = rw c.requires.hpet at c.pulses-reach.ensures.first;
 }
 
 counts_is : (c : goal.After-run_timers) → c.counts_rtc-counts.result ≡ counts_rtc (parts_of c.self.inside)
 counts_is c = rw (c.counts_rtc-counts.ensures, c.legacy-legacy.ensures, c.shown_of-shown.ensures.pie) refl
+
+-- the ticks of the 8254 and of the MC146818
+abbrev pit_of : (c : goal.After-run_timers) → Ticks
+pit_of c = counted true (not c.legacy-legacy.result) c.pulses-rises.result.count (first_at PIT_HZ c.args.from c.pulses-rises.result.first)
+
+abbrev rtc_of : (c : goal.After-run_timers) → Ticks
+rtc_of c = counted c.counts_rtc-counts.result c.counts_rtc-counts.result c.clock_pulses-events.result.cycle.ticks
+    (first_at RTC_HZ c.args.from c.clock_pulses-events.result.cycle.first_tick)
 
 -- the first catch-up point
 ahead : (c : goal.After-run_timers) → ℕ
@@ -117,14 +125,14 @@ ahead c = (c.args.from / c.self.inside.slew_ns + 1) * c.self.inside.slew_ns - c.
 
 known : (c : goal.After-run_timers)
     → Known (parts_of c.self.inside) c.args.from (c.args.to - c.args.from) (ahead c)
-    c.pulses-rises.result c.clock_pulses-events.result c.pulses-reach.new.matches c.pit_ticks-pit.result c.rtc_ticks-rtc.result
+    c.pulses-rises.result c.clock_pulses-events.result c.pulses-reach.new.matches (pit_of c) (rtc_of c)
 unfolding ahead
 known c = record {
   sound = sound c;
   point = next_point c.self.inside.slew_ns c.args.from (omega (arith, c.self.invariant.slew_low));
   brought = brought c;
-  pit_is = rw (c.pit_ticks-pit.ensures.value, c.legacy-legacy.ensures) refl;
-  rtc_is = rw (c.rtc_ticks-rtc.ensures.value, c.counts_rtc-counts.ensures, c.legacy-legacy.ensures, c.shown_of-shown.ensures.pie) refl;
+  pit_is = rw c.legacy-legacy.ensures refl;
+  rtc_is = rw (c.counts_rtc-counts.ensures, c.legacy-legacy.ensures, c.shown_of-shown.ensures.pie) refl;
 }
 
 point_is : (c : goal.After-run_timers) → c.next_point-point.result ≡ c.args.from + ahead c
@@ -136,23 +144,23 @@ end_is c = omega (arith, c.requires.order)
 
 hpet_is : (c : goal.After-run_timers)
     → c.pulses-reach.new.self ≡ hpet_pulsed_times (pulses_from HPET_HZ c.args.from (c.args.to - c.args.from)) c.self.inside.hpet
-hpet_is c = rw c.pulse_counts-pulses.ensures.hpet at c.pulses-reach.ensures.state
+hpet_is c = rw c.requires.hpet at c.pulses-reach.ensures.state
 
 -- the lines at the end
-first_line : (c : goal.After-run_timers) → get_or c.run_at-rtc_up.new.lines 1 no_line
-    ≡ end_of c.next_point-point.result c.args.to c.rtc_ticks-rtc.result (line_at 1 (parts_of c.self.inside))
+first_line : (c : goal.After-run_timers) → get_or c.run_clock-rtc_up.new.lines 1 no_line
+    ≡ end_of c.next_point-point.result c.args.to (rtc_of c) (line_at 1 (parts_of c.self.inside))
 first_line c =
-    c.run_at-rtc_up.ensures.here
-    ∙ ap (end_of c.next_point-point.result c.args.to c.rtc_ticks-rtc.result) (c.run_at-pit_up.ensures.others 1 (λ e. absurd (omega (arith, e))))
+    c.run_clock-rtc_up.ensures.here
+    ∙ ap (end_of c.next_point-point.result c.args.to (rtc_of c)) (c.run_pit-pit_up.ensures.others 1 (λ e. absurd (omega (arith, e))))
 
 ends : (c : goal.After-run_timers) → (k : ℕ) → k < 10 → get_or c.run_timers.new.lines k no_line
     ≡ end_of c.next_point-point.result c.args.to
-    (ticks_at c.args.from c.self.inside.hpet c.pulses-reach.new.matches c.pit_ticks-pit.result c.rtc_ticks-rtc.result k) (line_at k (parts_of c.self.inside))
-ends c zero less = c.run_timers.ensures.front 0 (omega arith) ∙ c.run_at-rtc_up.ensures.others 0 (λ e. absurd (omega (arith, e))) ∙ c.run_at-pit_up.ensures.here
+    (ticks_at c.args.from c.self.inside.hpet c.pulses-reach.new.matches (pit_of c) (rtc_of c) k) (line_at k (parts_of c.self.inside))
+ends c zero less = c.run_timers.ensures.front 0 (omega arith) ∙ c.run_clock-rtc_up.ensures.others 0 (λ e. absurd (omega (arith, e))) ∙ c.run_pit-pit_up.ensures.here
 ends c (suc zero) less = c.run_timers.ensures.front 1 (omega arith) ∙ first_line c
-ends c (suc (suc k)) less = ends-timers (known c) c.next_point-point.result c.args.to c.run_at-rtc_up.new.lines c.run_timers.new.lines (behind c)
+ends c (suc (suc k)) less = ends-timers (known c) c.next_point-point.result c.args.to c.run_clock-rtc_up.new.lines c.run_timers.new.lines (behind c)
     (λ j inside. subst (λ (h : HpetParts). get_or c.run_timers.new.lines (j + 2) no_line ≡ end_of c.next_point-point.result c.args.to
-    (timer_ticks c.args.from j h (timer_matches c.pulses-reach.new.matches j)) (get_or c.run_at-rtc_up.new.lines (j + 2) no_line)) (hpet_is c)
+    (timer_ticks c.args.from j h (timer_matches c.pulses-reach.new.matches j)) (get_or c.run_clock-rtc_up.new.lines (j + 2) no_line)) (hpet_is c)
     (c.run_timers.ensures.done j (subst (λ (h : HpetParts). j < h.timers) (sym (hpet_is c)) inside)))
     (λ j past. c.run_timers.ensures.rest j (subst (λ (h : HpetParts). h.timers + 2 ≤ j) (sym (hpet_is c)) past))
     c.pulses-reach.ensures.none k (omega arith)
@@ -162,15 +170,15 @@ rtc_is : (c : goal.After-run_timers) → c.set_flag.new.rtc
     ≡ flagged_where (counts_rtc (parts_of c.self.inside) && (get_or c.run_timers.new.lines 1 no_line).up)
     (rtc_pulsed_times (pulses_from RTC_HZ c.args.from (c.args.to - c.args.from)) c.self.inside.rtc)
 rtc_is c =
-    let one : get_or c.run_at-rtc_up.new.lines 1 c.index-self-1.result ≡ get_or c.run_timers.new.lines 1 no_line =
-    get_or_default c.run_at-rtc_up.new.lines 1 c.index-self-1.result no_line (omega arith) ∙ sym (c.run_timers.ensures.front 1 (omega arith)) in
+    let one : get_or c.run_clock-rtc_up.new.lines 1 c.index-self-1.result ≡ get_or c.run_timers.new.lines 1 no_line =
+    get_or_default c.run_clock-rtc_up.new.lines 1 c.index-self-1.result no_line (omega arith) ∙ sym (c.run_timers.ensures.front 1 (omega arith)) in
     let flag : c.counts_rtc_up-flag.result ≡ (counts_rtc (parts_of c.self.inside) && (get_or c.run_timers.new.lines 1 no_line).up) =
     c.counts_rtc_up-flag.ensures
     ∙ ap (λ (b : Bool). b && c.is_up.result) (counts_is c)
     ∙ ap (λ (b : Bool). counts_rtc (parts_of c.self.inside) && b) (c.is_up.ensures ∙ ap (λ (l : TickParts). l.up) one) in
     c.set_flag.ensures ∙ ap (λ (b : Bool). flagged_where b c.clock_pulses-events.new.rtc) flag
     ∙ ap (flagged_where (counts_rtc (parts_of c.self.inside) && (get_or c.run_timers.new.lines 1 no_line).up))
-    (rw c.pulse_counts-pulses.ensures.rtc at c.clock_pulses-events.ensures.state)
+    (rw c.requires.rtc at c.clock_pulses-events.ensures.state)
 
 state : (c : goal.After-run_timers)
     → parts_of (record {
@@ -182,7 +190,7 @@ state : (c : goal.After-run_timers)
     }) ≡ (run c.args.from (c.args.to - c.args.from) (parts_of c.self.inside)).state
 state c = ran-state (known c) c.next_point-point.result c.args.to c.run_timers.new.lines c.pulses-rises.new.self c.set_flag.new.rtc c.pulses-reach.new.self
     (point_is c) (end_is c) c.run_timers.ensures.places (ends c)
-    (rw c.pulse_counts-pulses.ensures.pit at c.pulses-rises.ensures.state) (rtc_is c) (hpet_is c)
+    (rw c.requires.pit at c.pulses-rises.ensures.state) (rtc_is c) (hpet_is c)
 
 pub invariant_of-self-2 : goal.invariant_of-self-2
 invariant_of-self-2 c = subst IsDevices (sym (state c ∙ run-parted c.args.from (c.args.to - c.args.from) (parts_of c.self.inside) (sound c)))
@@ -195,14 +203,14 @@ pub returns-clause-due : goal.returns-clause-due
 returns-clause-due c = λ k less. rw (← c.self.view_is) (due-few (known c) c.next_point-point.result c.args.to c.run_timers.new.lines (ends c) k less)
 
 -- from when on the lines of the 8254 and of the MC146818 are up
-pit_up : (c : goal.After-run_timers) → c.run_at-pit_up.result ≡ up_at (known c) 0
-pit_up c = c.run_at-pit_up.ensures.up ∙ up-is (known c) c.next_point-point.result c.args.to 0 (point_is c) (end_is c)
+pit_up : (c : goal.After-run_timers) → c.run_pit-pit_up.result ≡ up_at (known c) 0
+pit_up c = c.run_pit-pit_up.ensures.up ∙ up-is (known c) c.next_point-point.result c.args.to 0 (point_is c) (end_is c)
 
 irq_up : (c : goal.After-run_timers) → c.irq_up-irq.result ≡ irq_at (known c)
 irq_up c =
-    let line : c.run_at-rtc_up.result ≡ up_at (known c) 1 =
-    c.run_at-rtc_up.ensures.up
-    ∙ ap (up_of c.args.from c.next_point-point.result c.args.to c.rtc_ticks-rtc.result) (c.run_at-pit_up.ensures.others 1 (λ e. absurd (omega (arith, e))))
+    let line : c.run_clock-rtc_up.result ≡ up_at (known c) 1 =
+    c.run_clock-rtc_up.ensures.up
+    ∙ ap (up_of c.args.from c.next_point-point.result c.args.to (rtc_of c)) (c.run_pit-pit_up.ensures.others 1 (λ e. absurd (omega (arith, e))))
     ∙ up-is (known c) c.next_point-point.result c.args.to 1 (point_is c) (end_is c) in
     c.irq_up-irq.ensures
     ∙ by_parts c.args.from _ _ line c.shown_of-shown.ensures.aie c.shown_of-shown.ensures.af c.shown_of-shown.ensures.uie c.shown_of-shown.ensures.uf
@@ -216,7 +224,7 @@ irq_up c =
 times : (c : goal.After-run_timers) → c.run_timers.new.times ≡ lines_from (known c) (outs (known c))
 times c =
     let status : ℕ = c.parts-status.result.status in
-    let before : List TickParts = c.run_at-rtc_up.new.lines in
+    let before : List TickParts = c.run_clock-rtc_up.new.lines in
     let ms : List Matches = c.pulses-reach.new.matches in
     let h : HpetParts = hpet_pulsed_times (pulses_from HPET_HZ c.args.from (c.args.to - c.args.from)) c.self.inside.hpet in
     let span : Span = record { from = c.args.from; to = c.args.to; point = c.next_point-point.result } in
@@ -229,7 +237,7 @@ times c =
     (bit k status) (timer_matches ms k) (get_or before (k + 2) no_line)) c.front_times.result) (point_is c)
     ∙ ap (slots_from h.timers h (λ k. output_up (record { from = c.args.from; to = c.args.from + (c.args.to - c.args.from); point = c.args.from + ahead c }) k h
     (bit k status) (timer_matches ms k) (get_or before (k + 2) no_line))) c.front_times.ensures
-    ∙ times-are (known c) status before c.run_at-pit_up.result c.irq_up-irq.result c.legacy-legacy.result (valid c)
+    ∙ times-are (known c) status before c.run_pit-pit_up.result c.irq_up-irq.result c.legacy-legacy.result (valid c)
     (ap (λ (g : HpetParts). g.status) c.parts-status.ensures.parts) (behind c) (pit_up c) (irq_up c) c.legacy-legacy.ensures
 
 pub returns-clause-levels : goal.returns-clause-levels
@@ -242,13 +250,13 @@ pub take_ticks-requires-clause-rooms : goal.take_ticks-requires-clause-rooms
 take_ticks-requires-clause-rooms c = λ k less.
     let room : (line_at (k + 2) (parts_of c.self.inside)).counts.due + (c.args.to - c.args.from) < 2 ^ 63 =
     rw (← c.self.view_is) at (c.requires.room (k + 2) (omega arith)) in
-    omega (arith, room, c.pulses-reach.ensures.few k, c.pulse_counts-pulses.ensures.few_hpet)
+    omega (arith, room, c.pulses-reach.ensures.few k, c.requires.few_hpet)
 
 -- .. and the timers that matched are there
 pub take_ticks-requires-clause-inside : goal.take_ticks-requires-clause-inside
 take_ticks-requires-clause-inside c =
     let same : c.pulses-reach.new.self.timers ≡ c.self.inside.hpet.timers =
-    ap (λ (h : HpetParts). h.timers) c.pulses-reach.ensures.state ∙ timers-hpet_pulsed_times c.pulse_counts-pulses.result.hpet c.self.inside.hpet in
+    ap (λ (h : HpetParts). h.timers) c.pulses-reach.ensures.state ∙ timers-hpet_pulsed_times c.args.pulses.hpet c.self.inside.hpet in
     omega (arith, same, c.pulses-reach.ensures.inside)
 
 -- nothing came of the MC146818
@@ -268,14 +276,14 @@ still c = record {
 still_brought : (c : goal.After-take_ticks)
     → Brought (parts_of c.self.inside) c.args.from (c.args.to - c.args.from) c.pulses-rises.result c.clock_pulses-events.result c.pulses-reach.new.matches
 still_brought c = record {
-  pit_count = rw c.pulse_counts-pulses.ensures.pit at c.pulses-rises.ensures.count;
-  pit_first = rw c.pulse_counts-pulses.ensures.pit at c.pulses-rises.ensures.first;
-  rtc_count = rw c.pulse_counts-pulses.ensures.rtc at c.clock_pulses-events.ensures.ticks;
-  rtc_first = rw c.pulse_counts-pulses.ensures.rtc at c.clock_pulses-events.ensures.first_tick;
-  update_first = rw c.pulse_counts-pulses.ensures.rtc at c.clock_pulses-events.ensures.first_update;
-  alarm_first = rw c.pulse_counts-pulses.ensures.rtc at c.clock_pulses-events.ensures.first_alarm;
-  timer_count = rw c.pulse_counts-pulses.ensures.hpet at c.pulses-reach.ensures.count;
-  timer_first = rw c.pulse_counts-pulses.ensures.hpet at c.pulses-reach.ensures.first;
+  pit_count = rw c.requires.pit at c.pulses-rises.ensures.count;
+  pit_first = rw c.requires.pit at c.pulses-rises.ensures.first;
+  rtc_count = rw c.requires.rtc at c.clock_pulses-events.ensures.ticks;
+  rtc_first = rw c.requires.rtc at c.clock_pulses-events.ensures.first_tick;
+  update_first = rw c.requires.rtc at c.clock_pulses-events.ensures.first_update;
+  alarm_first = rw c.requires.rtc at c.clock_pulses-events.ensures.first_alarm;
+  timer_count = rw c.requires.hpet at c.pulses-reach.ensures.count;
+  timer_first = rw c.requires.hpet at c.pulses-reach.ensures.first;
 }
 
 -- the ticks of the 8254 and of the MC146818
@@ -310,7 +318,7 @@ still_end c = omega (arith, c.requires.order)
 
 still_hpet : (c : goal.After-take_ticks)
     → c.pulses-reach.new.self ≡ hpet_pulsed_times (pulses_from HPET_HZ c.args.from (c.args.to - c.args.from)) c.self.inside.hpet
-still_hpet c = rw c.pulse_counts-pulses.ensures.hpet at c.pulses-reach.ensures.state
+still_hpet c = rw c.requires.hpet at c.pulses-reach.ensures.state
 
 -- the lines at the end: each has its ticks
 early : (c : goal.After-take_ticks) → c.args.to < c.next_point-point.result
@@ -347,7 +355,7 @@ still_rtc_is : (c : goal.After-take_ticks) → c.clock_pulses-events.new.rtc
 still_rtc_is c =
     let m : ℕ = pulses_from RTC_HZ c.args.from (c.args.to - c.args.from) in
     let b : Bool = counts_rtc (parts_of c.self.inside) in
-    rw c.pulse_counts-pulses.ensures.rtc at c.clock_pulses-events.ensures.state
+    rw c.requires.rtc at c.clock_pulses-events.ensures.state
     ∙ sym (flag-again b (pf_of c.self.inside.rtc) (ticks_in (divider_of c.self.inside.rtc) m) (rtc_pulsed_times m c.self.inside.rtc)
     (IsRtc-rtc_pulsed_times m c.self.inside.rtc (still c).rtc) (pf_of-rtc_pulsed_times m c.self.inside.rtc (still c).rtc))
     ∙ ap (λ (u : Bool). flagged_where (b && u) (rtc_pulsed_times m c.self.inside.rtc))
@@ -363,7 +371,7 @@ still_state : (c : goal.After-take_ticks)
     }) ≡ (run c.args.from (c.args.to - c.args.from) (parts_of c.self.inside)).state
 still_state c = ran-state (still_known c) c.next_point-point.result c.args.to c.take_ticks.new.lines c.pulses-rises.new.self c.clock_pulses-events.new.rtc
     c.pulses-reach.new.self (still_point c) (still_end c) c.take_ticks.ensures.places (still_ends c)
-    (rw c.pulse_counts-pulses.ensures.pit at c.pulses-rises.ensures.state) (still_rtc_is c) (still_hpet c)
+    (rw c.requires.pit at c.pulses-rises.ensures.state) (still_rtc_is c) (still_hpet c)
 
 pub invariant_of-self : goal.invariant_of-self
 invariant_of-self c = subst IsDevices (sym (still_state c ∙ run-parted c.args.from (c.args.to - c.args.from) (parts_of c.self.inside) (still c)))
@@ -434,7 +442,7 @@ quiet c = record {
   point = (still_known c).point;
   early = omega (arith, early c, c.next_point-point.ensures, c.requires.order);
   ticks = sym (still_brought c).rtc_count ∙ still_ticks c;
-  updates = sym (rw c.pulse_counts-pulses.ensures.rtc at c.clock_pulses-events.ensures.updates) ∙ still_updates c;
+  updates = sym (rw c.requires.rtc at c.clock_pulses-events.ensures.updates) ∙ still_updates c;
   found = found c;
   level = λ k less. level c k;
 }
