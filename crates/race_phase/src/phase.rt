@@ -9,6 +9,7 @@ ghost use Rattle.race_phase.specs.private.Workers.{HasWorked, AllGiven, AllWorke
 
 use crate::deliveries::Deliveries;
 use crate::records::Record;
+use crate::texts::join;
 use crate::work::{Worked, work};
 use board_core::{BoardState, ProcessorParts};
 use board_io::Gate;
@@ -88,9 +89,7 @@ fn gather<N: Name>(
         let Ok(()) = passes.push(worked.pass) else {
             return Err(NoMemory);
         };
-        let Ok(()) = text.extend_from_slice(&worked.text) else {
-            return Err(NoMemory);
-        };
+        join(&mut text, worked.text)?;
     }
     Ok((passes, text))
 }

@@ -7,6 +7,7 @@ use crate::deliveries::Deliveries;
 use crate::ends::end_phase;
 use crate::phase::run_phase;
 use crate::phases::Phase;
+use crate::texts::join;
 use board_core::BoardState;
 use board_io::Gate;
 use clk_units::NoMemory;
@@ -76,9 +77,7 @@ fn next<R: Threads + Wait + Sync, G: Gate + Sync>(
         deliveries,
         &phase.records,
     )?;
-    let Ok(()) = text.extend_from_slice(&lines) else {
-        return Err(NoMemory);
-    };
+    join(text, lines)?;
     end_phase(&phase.end, &mut board, deliveries, text)?;
     Ok(board)
 }

@@ -1,4 +1,4 @@
-use Rattle.std.proofs.Common.{◌≡◌, ◌+◌, ℕ, ap, sym, ◌∙◌, subst, IfOk, List, ◌∷◌, [], ◌++◌, length, arith, length-append}
+use Rattle.std.proofs.Common.{◌≡◌, ◌+◌, ℕ, ap, sym, subst, IfOk, List, ◌∷◌, [], length, arith, length-append}
 use Rattle.shared_board.specs.declared.known.PassKnown.{PassKnown}
 use Rattle.race_phase.specs.private.Workers.{AllWorked, HasWorked}
 use Rattle.race_phase.proofs.Workers.{worked-snoc, given_front, given_last}
@@ -11,7 +11,7 @@ loop-result-preserved g c =
     let st = g.N.Name.state in
     let w = c.in_ok-worked.worked in
     let pushed = c.in-Ok.ensures.items in
-    let more = c.in-Ok-extend_from_slice.ensures.items ∙ ap (λ l. c.loop-result.text.items ++ l) c.deref.ensures.value in
+    let more = c.in_ok-join.ensures in
     let same : length ys ≡ 0 + length c.loop-result.passes.items = let k = inv.count in omega arith in record {
       count =
           let a = length-append ys (c.in-Some.result ∷ []) in

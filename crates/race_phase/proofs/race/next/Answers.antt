@@ -53,7 +53,7 @@ returns g c =
     let told = subst (λ (z : BoardParts × List Record). PhaseTold z.0 ds z.1 mid lines)
     (λ i. (c.in_ok-blank.ensures.state i, c.deref.ensures.value i)) c.in_ok-board.ensures.told in
     let last : List ℕ = end_text ds v.end mid in
-    let more = c.in-Ok.ensures.items ∙ ap (λ l. c.args.text.now.items ++ l) c.deref-2.ensures.value in
+    let more = c.in_ok-join.ensures in
     let text = c.in_ok-end_phase.ensures.text ∙ (ap (λ l. l ++ last) more ∙ append_assoc c.args.text.now.items lines last) in
     let board = c.in_ok-end_phase.ensures.board in (
       lines ++ last,
