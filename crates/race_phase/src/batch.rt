@@ -14,6 +14,7 @@ ghost use Rattle.race_phase.specs.private.Workers.{
 };
 
 use crate::deliveries::Deliveries;
+use crate::reads::{read_clock, read_page};
 use crate::records::{Call, Record};
 use crate::texts::append_block;
 use crate::told::Told;
@@ -62,8 +63,9 @@ pub(crate) fn new_places(alloc: Global, count: usize) -> Result<Vec<Place>, NoMe
 }
 
 /// Answers records in order, each between two calls of the gate, and puts what each was told into its place. The lock is
-/// kept from one access to the next, and given back before a page is read and before the gate's last call. It stops at
-/// the first record that isn't answered. `index` is that of the first for the gate.
+/// kept from one access to the next, also where pages are read between them, and given back only where a page must be
+/// read under it, and before the gate's last call. It stops at the first record that isn't answered. `index` is that of
+/// the first for the gate.
 pub(crate) fn answer_all<N: Name, R: Wait, G: Gate>(
     rt: &R,
     gate: &G,
@@ -135,7 +137,8 @@ fn held<'b, N: Name, R: Wait, G: Gate>(
     result
 }
 
-/// Answers a record. An access keeps the lock that it makes or finds in `lock`, and a read of a page gives it back.
+/// Answers a record. An access puts the lock that it takes, or finds in `lock`, back there. A read needs none, and
+/// leaves it there but where a page must be read under it.
 fn answer<'b, N: Name, R: Wait, G: Gate>(
     rt: &R,
     gate: &G,
@@ -171,26 +174,20 @@ fn answer<'b, N: Name, R: Wait, G: Gate>(
                 Err(_refusal) => Err(Halted),
             }
         }
-        Call::ReadPage { page } => {
-            *lock = None;
-            match board.read_page(rt, pass, page, h) {
-                Ok(reply) => {
-                    place.told = Told::PageIs { reply };
-                    Ok(())
-                }
-                Err(_fault) => Err(Halted),
+        Call::ReadPage { page } => match read_page(rt, board, lock, pass, page, h) {
+            Ok(reply) => {
+                place.told = Told::PageIs { reply };
+                Ok(())
             }
-        }
-        Call::ReadClock { page } => {
-            *lock = None;
-            match board.read_clock(rt, pass, page, h) {
-                Ok(reply) => {
-                    place.told = Told::ClockIs { reply };
-                    Ok(())
-                }
-                Err(_fault) => Err(Halted),
+            Err(_fault) => Err(Halted),
+        },
+        Call::ReadClock { page } => match read_clock(rt, board, lock, pass, page, h) {
+            Ok(reply) => {
+                place.told = Told::ClockIs { reply };
+                Ok(())
             }
-        }
+            Err(_fault) => Err(Halted),
+        },
     }
 }
 

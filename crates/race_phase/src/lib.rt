@@ -27,6 +27,7 @@ mod faults;
 mod phase;
 mod phases;
 mod race;
+mod reads;
 mod records;
 mod tally;
 mod texts;
