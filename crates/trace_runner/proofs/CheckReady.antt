@@ -1,5 +1,5 @@
 -- What is true of a check before each line stays true behind it.
-use Rattle.std.proofs.Common.{◌≡◌, ℕ, ◌+◌, ◌<◌, ◌≤◌, Bool, true, false, cond, leb, List, Option, None, Result, Ok, Err, IfOk, refl, sym, subst, ◌∙◌, arith}
+use Rattle.std.proofs.Common.{◌≡◌, ℕ, ◌+◌, ◌<◌, ◌≤◌, Bool, true, false, cond, leb, List, Option, None, Result, Ok, Err, OnOk, refl, sym, subst, ◌∙◌, arith}
 use Rattle.std.proofs.lemmas.Bool.{leb-false}
 use Rattle.clk_units.specs.declared.NoMemory.{NoMemory}
 use Rattle.board_types.specs.Legal.{is_legal}
@@ -108,12 +108,12 @@ item_ready line (Next rec) s few sound suits next none = record_ready line rec s
 item_ready line End s few sound suits next none = let no : ⊥ = cc in absurd no
 
 -- behind a line that was read, as a fact of the next line
-pub check_next : (res : Result (Option Checked) NoMemory) (line : ℕ) (item : Item) (s t new : Checking) (text : List ℕ) → IsCheckReady line s
+pub check_next : {A : Type 0} (res : Result A NoMemory) (end : Option Checked) (line : ℕ) (item : Item) (s t new : Checking) (text : List ℕ) → IsCheckReady line s
     → taken s.replay.reading text ≡ Ok item → IsItem s.replay.reading.stage item
-    → t ≡ read_on text s → IfOk res (λ end. end ≡ end_of (item_checked line item t))
-    → IfOk res (λ end. end ≡ None → new ≡ state_behind (item_checked line item t) t) → IfOk res (λ end. end ≡ None → IsCheckReady (line + 1) new)
-check_next (Err e) line item s t new text ready took valid is ends state = tt
-check_next (Ok end) line item s t new text ready took valid is ends state = λ none.
+    → t ≡ read_on text s → OnOk res (end ≡ end_of (item_checked line item t))
+    → OnOk res (end ≡ None → new ≡ state_behind (item_checked line item t) t) → OnOk res (end ≡ None → IsCheckReady (line + 1) new)
+check_next (Err e) end line item s t new text ready took valid is ends state = tt
+check_next (Ok done) end line item s t new text ready took valid is ends state = λ none.
     let next : end_of (item_checked line item t) ≡ None → IsCheckReady (line + 1) (state_behind (item_checked line item t) t) =
     subst (λ (u : Checking). end_of (item_checked line item u) ≡ None → IsCheckReady (line + 1) (state_behind (item_checked line item u) u)) (sym is)
     (item_ready line item (read_on text s) ready.few (read_sound text s ready.sound)

@@ -12,10 +12,8 @@ ghost use Rattle.std.specs.Prelude.{
   IfOk,
   OnOk,
   OnErr,
-  IfSome,
-  IfNone,
-  OnSome,
 };
+ghost use Rattle.std.specs.Bool.{OnTrue, OnFalse};
 ghost use Rattle.std.specs.Io.{StartsWith};
 ghost use Rattle.trace_loop.specs.Progress.{printed, end_of, state_behind};
 ghost use Rattle.trace_text.specs.Lines.{taken, IsOpen, IsItem, IsRecordAt};
@@ -45,6 +43,7 @@ ghost use Rattle.trace_runner.specs.Check.{
   trace_of,
   read_on,
   check_answer,
+  check_closing,
   IsCheckReady,
   has_form,
 };
@@ -61,7 +60,6 @@ use reply_text::Refused;
 use std::alloc::Global;
 use std::marker::Model;
 use std::mem;
-use trace_loop::Answerer;
 use trace_text::{Begin, Header, Item, Job, Reading, Reason, Record as Written, RecordFault};
 
 /// How many records a trace may have whose processors run on threads of their own.
@@ -232,28 +230,30 @@ impl Check {
     }
 
     /// Refuses a record where a replay would, or keeps it.
-    fn take(
+    #[inline(always)]
+    pub(crate) fn take(
         &mut self,
         line: u64,
         given: &Written,
         out: &mut Vec<u8>,
-    ) -> Result<Option<Checked>, NoMemory>
-        requires { Suits (Item.Next given.now) self.old.replay.board }
+        end: &mut Option<Checked>,
+    ) -> Result<(), NoMemory>
+        requires suits { Suits (Item.Next given.now) self.old.replay.board }
+        requires open { end.old ≡ None }
         ensures printed { OnOk result
             (out.new.items ≡ out.old.items ++ printed (record_checked line given.now self.old)) }
-        ensures ends { IfOk result (λ end. end ≡ end_of (record_checked line given.now self.old)) }
-        ensures state { IfOk result (λ end. end ≡ None
+        ensures ends { OnOk result (end.new ≡ end_of (record_checked line given.now self.old)) }
+        ensures state { OnOk result (end.new ≡ None
             → self.new ≡ state_behind (record_checked line given.now self.old) self.old) }
         ensures err { OnErr result (StartsWith out.new.items out.old.items) }
     {
         if self.is_full() {
-            return many(line, out);
+            return many(line, out, end);
         }
         if let Some(why) = self.refusal(given) {
-            return stopped(line, why, out);
+            return stopped(line, why, out, end);
         }
-        self.keep(line, given)?;
-        Ok(None)
+        self.keep(line, given)
     }
 
     /// The header is whole: the board is made.
@@ -299,27 +299,30 @@ impl Check {
         line: u64,
         item: &Item,
         out: &mut Vec<u8>,
-    ) -> Result<Option<Checked>, NoMemory>
+        end: &mut Option<Checked>,
+    ) -> Result<(), NoMemory>
         requires item { Suits item.now self.old.replay.board }
         requires few { self.old.taken ≤ 200000 }
         requires sound { IsSound self.old }
+        requires open { end.old ≡ None }
         ensures printed { OnOk result
             (out.new.items ≡ out.old.items ++ printed (item_checked line item.now self.old)) }
-        ensures ends { IfOk result (λ end. end ≡ end_of (item_checked line item.now self.old)) }
-        ensures state { IfOk result (λ end. end ≡ None
+        ensures ends { OnOk result (end.new ≡ end_of (item_checked line item.now self.old)) }
+        ensures state { OnOk result (end.new ≡ None
             → self.new ≡ state_behind (item_checked line item.now self.old) self.old) }
         ensures err { OnErr result (StartsWith out.new.items out.old.items) }
     {
         match item {
-            Item::Skipped | Item::Part => Ok(None),
+            Item::Skipped | Item::Part => Ok(()),
             Item::Begun(header) => {
                 self.begin(header);
-                Ok(None)
+                Ok(())
             }
-            Item::Next(record) => self.take(line, record, out),
+            Item::Next(record) => self.take(line, record, out, end),
             Item::End => {
                 let trace = self.whole()?;
-                Ok(Some(Checked::Whole(trace)))
+                *end = Some(Checked::Whole(trace));
+                Ok(())
             }
         }
     }
@@ -330,16 +333,17 @@ impl Check {
         line: u64,
         fault: RecordFault,
         out: &mut Vec<u8>,
-    ) -> Result<Option<Checked>, NoMemory>
+        end: &mut Option<Checked>,
+    ) -> Result<(), NoMemory>
         ensures printed { OnOk result
             (out.new.items ≡ out.old.items ++ (fault_checked line fault self.now).text) }
-        ensures ends { IfOk result (λ end. end ≡ Some (fault_checked line fault self.now).end) }
+        ensures ends { OnOk result (end.new ≡ Some (fault_checked line fault self.now).end) }
         ensures err { OnErr result (out.new.items ≡ out.old.items) }
     {
         if self.is_full() && has_form(fault.reason) {
-            return many(line, out);
+            return many(line, out, end);
         }
-        stopped(fault.line, refused_by(fault.reason), out)
+        stopped(fault.line, refused_by(fault.reason), out, end)
     }
 
     /// Takes a line, which may be no record, or refused.
@@ -354,17 +358,18 @@ impl Check {
         self.reading.take_line(text)
     }
 
-    /// Takes a line if it is a record that isn't refused by its words.
+    /// Takes a line into a record that is there, if it is one that isn't refused by its words. After false the record
+    /// has no meaning.
     #[inline(always)]
-    fn read_record(&mut self, text: &[u8]) -> Option<Written>
+    pub(crate) fn read_record(&mut self, text: &[u8], given: &mut Written) -> bool
         requires { self.old.replay.reading.lines < 2 ^ 63 }
-        ensures item { IfSome result
-            (λ r. taken self.old.replay.reading text.now ≡ Ok (Item.Next r)) }
-        ensures state { OnSome result (self.new ≡ read_on text.now self.old) }
-        ensures valid { IfSome result (IsRecordAt self.old.replay.reading.stage) }
-        ensures none { IfNone result (self.new ≡ self.old) }
+        ensures item { OnTrue result
+            (taken self.old.replay.reading text.now ≡ Ok (Item.Next given.new)) }
+        ensures state { OnTrue result (self.new ≡ read_on text.now self.old) }
+        ensures valid { OnTrue result (IsRecordAt self.old.replay.reading.stage given.new) }
+        ensures none { OnFalse result (self.new ≡ self.old) }
     {
-        self.reading.take_record(text)
+        self.reading.read_record(text, given)
     }
 
     /// Answers a line that is no record, or one that is refused. It stands apart, since its item has room for a board,
@@ -372,75 +377,69 @@ impl Check {
     #[cold]
     #[inline(never)]
     #[tactic(auto, unfolding(crate::specs::Check::check_answer))]
-    fn answer_other(
+    pub(crate) fn answer_other(
         &mut self,
         line: u64,
         text: &[u8],
         out: &mut Vec<u8>,
-    ) -> Result<Option<Checked>, NoMemory>
+        end: &mut Option<Checked>,
+    ) -> Result<(), NoMemory>
         requires room { line < 2 ^ 63 }
         requires may { IsCheckReady line self.old }
+        requires open { end.old ≡ None }
         ensures printed { OnOk result
             (out.new.items ≡ out.old.items ++ printed (check_answer line self.old text.now)) }
-        ensures ends { IfOk result (λ end. end ≡ end_of (check_answer line self.old text.now)) }
-        ensures state { IfOk result (λ end. end ≡ None
+        ensures ends { OnOk result (end.new ≡ end_of (check_answer line self.old text.now)) }
+        ensures state { OnOk result (end.new ≡ None
             → self.new ≡ state_behind (check_answer line self.old text.now) self.old) }
-        ensures may { IfOk result (λ end. end ≡ None → IsCheckReady (line + 1) self.new) }
+        ensures may { OnOk result (end.new ≡ None → IsCheckReady (line + 1) self.new) }
         ensures err { OnErr result (StartsWith out.new.items out.old.items) }
     {
         match self.read_line(text) {
-            Ok(item) => self.answer_item(line, &item, out),
-            Err(fault) => self.refuse(line, fault, out),
+            Ok(item) => self.answer_item(line, &item, out, end),
+            Err(fault) => self.refuse(line, fault, out, end),
         }
+    }
+
+    /// Refuses the end of the input, where the trace has not ended.
+    pub(crate) fn close(&self, line: u64, out: &mut Vec<u8>) -> Result<Checked, NoMemory>
+        requires room { line < 2 ^ 63 }
+        requires may { IsCheckReady line self.now }
+        ensures printed { OnOk result
+            (out.new.items ≡ out.old.items ++ (check_closing line self.now).text) }
+        ensures ends { IfOk result (λ end. end ≡ (check_closing line self.now).end) }
+    {
+        let fault = self.reading.at_end();
+        let verdict = stop(fault.line, refused_by(fault.reason), out)?;
+        Ok(Checked::Stopped(verdict))
     }
 }
 
 /// Refuses a record that is one too many.
 #[cold]
 #[inline(never)]
-fn many(line: u64, out: &mut Vec<u8>) -> Result<Option<Checked>, NoMemory>
+fn many(line: u64, out: &mut Vec<u8>, end: &mut Option<Checked>) -> Result<(), NoMemory>
     ensures printed { OnOk result (out.new.items ≡ out.old.items ++ (too_many line).text) }
-    ensures ends { IfOk result (λ end. end ≡ Some (too_many line).end) }
+    ensures ends { OnOk result (end.new ≡ Some (too_many line).end) }
     ensures err { OnErr result (out.new.items ≡ out.old.items) }
 {
-    stopped(line, Refused::Many, out)
+    stopped(line, Refused::Many, out, end)
 }
 
 /// Appends the line of a refusal, which ends the check.
-fn stopped(line: u64, why: Refused, out: &mut Vec<u8>) -> Result<Option<Checked>, NoMemory>
+#[cold]
+#[inline(never)]
+fn stopped(
+    line: u64,
+    why: Refused,
+    out: &mut Vec<u8>,
+    end: &mut Option<Checked>,
+) -> Result<(), NoMemory>
     ensures printed { OnOk result (out.new.items ≡ out.old.items ++ refused_text line why) }
-    ensures ends { IfOk result (λ end. end ≡ Some (Checked.Stopped (Verdict.Stopped line why))) }
+    ensures ends { OnOk result (end.new ≡ Some (Checked.Stopped (Verdict.Stopped line why))) }
     ensures err { OnErr result (out.new.items ≡ out.old.items) }
 {
     let verdict = stop(line, why, out)?;
-    Ok(Some(Checked::Stopped(verdict)))
-}
-
-impl Answerer<Checked> for Check {
-    ghost use Rattle.trace_runner.specs.Check.{check_answer, check_closing, IsCheckReady};
-
-    ghost answer = { check_answer };
-
-    ghost closing = { check_closing };
-
-    ghost may = { IsCheckReady };
-
-    #[tactic(auto, unfolding(crate::specs::Check::check_answer))]
-    fn answer(
-        &mut self,
-        line: u64,
-        text: &[u8],
-        out: &mut Vec<u8>,
-    ) -> Result<Option<Checked>, NoMemory> {
-        if let Some(record) = self.read_record(text) {
-            return self.take(line, &record, out);
-        }
-        self.answer_other(line, text, out)
-    }
-
-    fn close(&mut self, _line: u64, out: &mut Vec<u8>) -> Result<Checked, NoMemory> {
-        let fault = self.reading.at_end();
-        let verdict = stop(fault.line, refused_by(fault.reason), out)?;
-        Ok(Checked::Stopped(verdict))
-    }
+    *end = Some(Checked::Stopped(verdict));
+    Ok(())
 }

@@ -40,6 +40,7 @@
 
 mod board;
 mod check;
+mod checker;
 mod counting;
 mod deliveries;
 mod generate;

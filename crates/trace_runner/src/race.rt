@@ -6,7 +6,8 @@ ghost use Rattle.trace_runner.specs.Check.{check_behind};
 ghost use Rattle.trace_runner.specs.Race.{RacePrints, CheckedLeaves, RaceLeaves, check_run};
 ghost use Rattle.trace_runner.specs.Status.{verdict_status};
 
-use crate::check::{Check, Checked};
+use crate::check::Checked;
+use crate::checker::Checker;
 use crate::replay::end;
 use crate::status::{Status, verdict_status};
 use crate::trace::Trace;
@@ -46,7 +47,7 @@ pub(crate) fn race<R: Threads + Wait + Sync, S: Source, K: Sink, G: Gate + Sync>
         → Rose (K.faults sink.old) (K.faults sink.new) }
     ensures sink_well { result ≢ Status.SinkFault → K.faults sink.new ≡ K.faults sink.old }
 {
-    let mut check = Check::new(alloc, shows_state);
+    let mut check = Checker::new(alloc, shows_state);
     match answer_lines(alloc, &mut check, source, sink) {
         Ended::By(Checked::Whole(trace)) => write(rt, alloc, gate, &trace, sink),
         Ended::By(Checked::Stopped(verdict)) => verdict_status(verdict),
