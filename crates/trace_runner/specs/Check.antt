@@ -87,6 +87,12 @@ with_end end s = record s {
   taken = s.taken + 1;
 }
 
+-- what a record ends its phase by: a move, or else a save
+abbrev pub end_by : ℕ → Written → Job → PhaseEnd
+end_by line rec (Move khz start gap) =
+    ByMove line rec.cpu rec.h (record { khz = khz; start = start; gap = gap })
+end_by line rec job = BySave line rec.cpu rec.h
+
 -- a record is kept: a save and a move end their phase
 abbrev pub kept_job : ℕ → Written → Job → Checking → Checking
 kept_job line rec (Board access) s = with_call line rec (Act access) s

@@ -33,6 +33,7 @@ ghost use Rattle.trace_runner.specs.Check.{
   check_start,
   with_call,
   with_end,
+  end_by,
   kept,
   is_full,
   too_many,
@@ -48,7 +49,7 @@ ghost use Rattle.trace_runner.specs.Check.{
   has_form,
 };
 
-use crate::counting::{count_call, count_end, refused_job};
+use crate::counting::{admits, count_call, count_end, refused_job};
 use crate::deliveries::deliveries_of;
 use crate::replay::opening;
 use crate::status::{Verdict, refused_by, stop};
@@ -146,6 +147,7 @@ impl Check {
     }
 
     /// Keeps a record of the phase, which is answered, and counts it.
+    #[inline(always)]
     fn push(&mut self, line: u64, given: &Written, call: Call) -> Result<(), NoMemory>
         requires few { self.old.taken < 200000 }
         requires cpu { given.now.cpu < self.old.replay.board.cpus }
@@ -163,7 +165,7 @@ impl Check {
         let Ok(()) = self.last.push(kept) else {
             return Err(NoMemory);
         };
-        count_call(&mut self.tally, given.cpu, given.h, call);
+        count_call(&mut self.tally, given.cpu, given.h, &call);
         self.taken += 1;
         Ok(())
     }
@@ -189,6 +191,7 @@ impl Check {
     }
 
     /// Keeps a record that isn't refused: a save and a move end their phase.
+    #[inline(always)]
     fn keep(&mut self, line: u64, given: &Written) -> Result<(), NoMemory>
         requires few { self.old.taken < 200000 }
         requires suits { Suits (Item.Next given.now) self.old.replay.board }
@@ -198,22 +201,40 @@ impl Check {
             (on_board (job_behind given.now.cpu given.now.h given.now.job self.old.replay.board)
             self.old)) }
     {
-        let cpu = given.cpu;
-        let h = given.h;
         match given.job {
             Job::Board(access) => self.push(line, given, Call::Act { access }),
             Job::Page { page } => self.push(line, given, Call::ReadPage { page }),
             Job::Clock { page } => self.push(line, given, Call::ReadClock { page }),
-            Job::Save => self.end_phase(End::Save { line, cpu, h }),
-            Job::Move { khz, start, gap } => {
-                let host = NewHost { khz, start, gap };
-                self.end_phase(End::Move { line, cpu, h, host })
-            }
+            Job::Save => self.keep_end(line, given),
+            Job::Move { .. } => self.keep_end(line, given),
         }
     }
 
-    /// Why a record is refused.
+    /// Ends the phase by a record that isn't refused.
+    #[cold]
+    #[inline(never)]
+    fn keep_end(&mut self, line: u64, given: &Written) -> Result<(), NoMemory>
+        requires few { self.old.taken ≤ 200000 }
+        requires fits { IsEnd self.old.replay.board.cpus (end_by line given.now given.now.job) }
+        requires free { end_fault self.old.replay.board (end_by line given.now given.now.job)
+            ≡ None }
+        ensures { let end = end_by line given.now given.now.job in OnOk result (self.new
+            ≡ with_end end (on_board (next_board end self.old.replay.board) self.old)) }
+    {
+        self.end_phase(end_by(line, given))
+    }
+
+    /// Whether a record that ends no phase isn't refused.
     #[inline(always)]
+    fn admits(&self, given: &Written) -> bool
+        requires { Suits (Item.Next given.now) self.now.replay.board }
+        ensures { OnTrue result
+            (refused_job given.now.cpu given.now.h given.now.job self.now.replay.board ≡ None) }
+    {
+        admits(&self.tally, given)
+    }
+
+    /// Why a record is refused.
     fn refusal(&self, given: &Written) -> Option<Refused>
         requires { Suits (Item.Next given.now) self.now.replay.board }
         ensures { result
@@ -229,9 +250,35 @@ impl Check {
         self.taken >= RECORDS_MAX
     }
 
-    /// Refuses a record where a replay would, or keeps it.
+    /// Refuses a record where a replay would, or keeps it. A common one is kept here; what ends a phase, or is refused,
+    /// stands apart, since ends and causes have places that a call clears as it begins.
     #[inline(always)]
     pub(crate) fn take(
+        &mut self,
+        line: u64,
+        given: &Written,
+        out: &mut Vec<u8>,
+        end: &mut Option<Checked>,
+    ) -> Result<(), NoMemory>
+        requires suits { Suits (Item.Next given.now) self.old.replay.board }
+        requires open { end.old ≡ None }
+        ensures printed { OnOk result
+            (out.new.items ≡ out.old.items ++ printed (record_checked line given.now self.old)) }
+        ensures ends { OnOk result (end.new ≡ end_of (record_checked line given.now self.old)) }
+        ensures state { OnOk result (end.new ≡ None
+            → self.new ≡ state_behind (record_checked line given.now self.old) self.old) }
+        ensures err { OnErr result (StartsWith out.new.items out.old.items) }
+    {
+        if !self.is_full() && self.admits(given) {
+            return self.keep(line, given);
+        }
+        self.take_slowly(line, given, out, end)
+    }
+
+    /// The same for every record.
+    #[cold]
+    #[inline(never)]
+    fn take_slowly(
         &mut self,
         line: u64,
         given: &Written,
@@ -412,6 +459,23 @@ impl Check {
         let fault = self.reading.at_end();
         let verdict = stop(fault.line, refused_by(fault.reason), out)?;
         Ok(Checked::Stopped(verdict))
+    }
+}
+
+/// What ends a phase by a record: a move, or else a save.
+fn end_by(line: u64, given: &Written) -> End
+    ensures { result ≡ end_by line given.now given.now.job }
+{
+    let cpu = given.cpu;
+    let h = given.h;
+    match given.job {
+        Job::Move { khz, start, gap } => End::Move {
+            line,
+            cpu,
+            h,
+            host: NewHost { khz, start, gap },
+        },
+        _ => End::Save { line, cpu, h },
     }
 }
 

@@ -1,5 +1,6 @@
 //! What a check counts of the records that it keeps, and why it refuses one: by a tally of the board's counts.
 ghost use Rattle.std.specs.Prelude.{◌≡◌, ◌<◌, None};
+ghost use Rattle.std.specs.Bool.{OnTrue};
 ghost use Rattle.board_types.specs.declared.parts.BoardParts.{BoardParts};
 ghost use Rattle.board_core.specs.Refusals.{refusal_of};
 ghost use Rattle.race_phase.specs.Calls.{IsFittingCall};
@@ -23,8 +24,48 @@ use race_phase::{Call, End, Tally};
 use reply_text::Refused;
 use trace_text::{Job, Record};
 
-/// Why each board of these counts refuses a record, if it does.
+/// Whether each board of these counts takes a record that ends no phase. No cause of a refusal is made.
 #[inline(always)]
+pub(crate) fn admits(tally: &Tally, given: &Record) -> bool
+    requires { (b : BoardParts) × IsTally b tally.now × Suits (Next given.now) b }
+    ensures { OnTrue result ((b : BoardParts) → IsTally b tally.now
+        → refused_job given.now.cpu given.now.h given.now.job b ≡ None) }
+{
+    match given.job {
+        Job::Board(access) => admits_access(tally, given.cpu, given.h, access),
+        Job::Page { .. } => admits_count(tally, given.h),
+        Job::Clock { .. } => admits_count(tally, given.h),
+        Job::Save => false,
+        Job::Move { .. } => false,
+    }
+}
+
+/// Whether an access isn't refused.
+#[inline(always)]
+fn admits_access(tally: &Tally, cpu: u8, h: u64, access: Access) -> bool
+    requires cpu { cpu < tally.now.cpus }
+    requires legal { IsFittingCall tally.now.cpus tally.now.format (Call.Act access) }
+    ensures { OnTrue result ((b : BoardParts) → IsTally b tally.now
+        → by_refusal (refusal_of b cpu h access) ≡ None) }
+{
+    match tally.admit(cpu, h, access) {
+        Ok(()) => true,
+        Err(_) => false,
+    }
+}
+
+/// Whether a read at a count of the host's counter isn't refused.
+#[inline(always)]
+fn admits_count(tally: &Tally, h: u64) -> bool
+    ensures { OnTrue result ((b : BoardParts) → IsTally b tally.now → refused_count b h ≡ None) }
+{
+    match tally.check_count(h) {
+        Ok(()) => true,
+        Err(_) => false,
+    }
+}
+
+/// Why each board of these counts refuses a record, if it does.
 pub(crate) fn refused_job(tally: &Tally, given: &Record) -> Option<Refused>
     requires { (b : BoardParts) × IsTally b tally.now × Suits (Next given.now) b }
     ensures { (b : BoardParts) → IsTally b tally.now
@@ -40,7 +81,6 @@ pub(crate) fn refused_job(tally: &Tally, given: &Record) -> Option<Refused>
 }
 
 /// Why an access is refused.
-#[inline(always)]
 fn refused_by_board(tally: &Tally, cpu: u8, h: u64, access: Access) -> Option<Refused>
     requires cpu { cpu < tally.now.cpus }
     requires legal { IsFittingCall tally.now.cpus tally.now.format (Call.Act access) }
@@ -82,14 +122,14 @@ fn refused_gap(tally: &Tally, cpu: u8, h: u64, gap: u64) -> Option<Refused>
 
 /// Counts a call that is answered.
 #[inline(always)]
-pub(crate) fn count_call(tally: &mut Tally, cpu: u8, h: u64, call: Call)
+pub(crate) fn count_call(tally: &mut Tally, cpu: u8, h: u64, call: &Call)
     requires cpu { cpu < tally.old.cpus }
-    requires fits { IsFittingCall tally.old.cpus tally.old.format call }
-    requires free { (b : BoardParts) × IsTally b tally.old × TakesCall b cpu h call }
+    requires fits { IsFittingCall tally.old.cpus tally.old.format call.now }
+    requires free { (b : BoardParts) × IsTally b tally.old × TakesCall b cpu h call.now }
     ensures { (b : BoardParts) → IsTally b tally.old
-        → IsTally (board_behind b cpu h call) tally.new }
+        → IsTally (board_behind b cpu h call.now) tally.new }
 {
-    match call {
+    match *call {
         Call::Act { access } => tally.count(cpu, h, access),
         Call::ReadPage { .. } => {}
         Call::ReadClock { .. } => {}
