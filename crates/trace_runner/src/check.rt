@@ -224,7 +224,7 @@ impl Check {
         self.end_phase(end_by(line, given))
     }
 
-    /// Whether a record that ends no phase isn't refused.
+    /// Whether a record is one that ends no phase, and isn't refused.
     #[inline(always)]
     fn admits(&self, given: &Written) -> bool
         requires { Suits (Item.Next given.now) self.now.replay.board }

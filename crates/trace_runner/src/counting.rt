@@ -24,7 +24,7 @@ use race_phase::{Call, End, Tally};
 use reply_text::Refused;
 use trace_text::{Job, Record};
 
-/// Whether each board of these counts takes a record that ends no phase. No cause of a refusal is made.
+/// Whether a record is one that ends no phase, and each board of these counts takes it. No cause of a refusal is made.
 #[inline(always)]
 pub(crate) fn admits(tally: &Tally, given: &Record) -> bool
     requires { (b : BoardParts) × IsTally b tally.now × Suits (Next given.now) b }
