@@ -17,7 +17,7 @@ use Rattle.std.proofs.Common.{
   Result,
   Ok,
   Err,
-  IfOk,
+  OnOk,
   length,
   codes,
   refl,
@@ -273,9 +273,9 @@ ready_next line r text item ready took =
     → IsReady (line + 1) (state_behind (item_answer line item r') r'))) (sym reading_)
     (step_ready line n x item r ready.count (fits text r.board r.reading.stage ready.round) answer_)
 
--- an answer that was given, as a fact of the next line
-pub next_if : (res : Result (Option Verdict) NoMemory) (n : ℕ) (a : Answer Replay Verdict) (old new : Replay) → IfOk res (λ end. end ≡ end_of a)
-    → IfOk res (λ end. end ≡ None → new ≡ state_behind a old)
-    → (end_of a ≡ None → IsReady n (state_behind a old)) → IfOk res (λ end. end ≡ None → IsReady n new)
-next_if (Ok end) n a old new ends state ready = λ none. subst (IsReady n) (sym (state none)) (ready (sym ends ∙ none))
-next_if (Err e) n a old new ends state ready = tt
+-- an answer that was given, with its end in its place, as a fact of the next line
+pub next_if : (res : Result (Unit {0}) NoMemory) (n : ℕ) (a : Answer Replay Verdict) (old new : Replay) (end : Option Verdict)
+    → OnOk res (end ≡ end_of a) → OnOk res (end ≡ None → new ≡ state_behind a old) → (end_of a ≡ None → IsReady n (state_behind a old))
+    → OnOk res (end ≡ None → IsReady n new)
+next_if (Ok u) n a old new end ends state ready = λ none. subst (IsReady n) (sym (state none)) (ready (sym ends ∙ none))
+next_if (Err e) n a old new end ends state ready = tt

@@ -58,19 +58,31 @@ impl Answerer<Verdict> for Heading {
 
     ghost may = { IsReady };
 
-    #[tactic(auto, unfolding(crate::specs::Replay::answer_of))]
     fn answer(
         &mut self,
         line: u64,
         text: &[u8],
         out: &mut Vec<u8>,
     ) -> Result<Option<Verdict>, NoMemory> {
+        let mut end = None;
+        self.answer_into(line, text, out, &mut end)?;
+        Ok(end)
+    }
+
+    #[tactic(auto, unfolding(crate::specs::Replay::answer_of))]
+    fn answer_into(
+        &mut self,
+        line: u64,
+        text: &[u8],
+        out: &mut Vec<u8>,
+        end: &mut Option<Verdict>,
+    ) -> Result<(), NoMemory> {
         match self.replay.reading.take_line(text) {
             Ok(item) => {
                 self.is_begun = is_begun(&item);
-                self.replay.answer_item(line, &item, out)
+                self.replay.answer_item(line, &item, out, end)
             }
-            Err(fault) => refuse(fault.line, refused_by(fault.reason), out),
+            Err(fault) => refuse(fault.line, refused_by(fault.reason), out, end),
         }
     }
 

@@ -1,5 +1,5 @@
 //! The answers to saves and moves. Each begins with an access that lets time pass.
-ghost use Rattle.std.specs.Prelude.{◌≡◌, ◌++◌, ◌<◌, None, IfOk, OnOk, OnErr};
+ghost use Rattle.std.specs.Prelude.{◌≡◌, ◌++◌, ◌<◌, None, OnOk, OnErr};
 ghost use Rattle.std.specs.Io.{StartsWith};
 ghost use Rattle.clk_units.specs.Ranges.{IsKhz};
 ghost use Rattle.trace_loop.specs.Progress.{printed, end_of, state_behind};
@@ -23,13 +23,15 @@ pub(crate) fn answer_save(
     board: &mut BoardState,
     deliveries: &Deliveries,
     out: &mut Vec<u8>,
-) -> Result<Option<Verdict>, NoMemory>
-    requires { cpu < board.old.cpus }
+    end: &mut Option<Verdict>,
+) -> Result<(), NoMemory>
+    requires cpu { cpu < board.old.cpus }
+    requires open { end.old ≡ None }
     ensures printed { OnOk result (out.new.items ≡ out.old.items
         ++ printed (save_answer line cpu h deliveries.now board.old)) }
-    ensures ends { IfOk result
-        (λ end. end ≡ end_of (save_answer line cpu h deliveries.now board.old)) }
-    ensures board { IfOk result (λ end. end ≡ None → board.new
+    ensures ends { OnOk result
+        (end.new ≡ end_of (save_answer line cpu h deliveries.now board.old)) }
+    ensures board { OnOk result (end.new ≡ None → board.new
         ≡ state_behind (save_answer line cpu h deliveries.now board.old) board.old) }
     ensures err { OnErr result (StartsWith out.new.items out.old.items) }
 {
@@ -38,9 +40,9 @@ pub(crate) fn answer_save(
             edge_lines(reply.edges.as_slice(), deliveries, out)?;
             let bytes = encode(*out.allocator(), board)?;
             save_line(line, reply.number, &bytes, out)?;
-            Ok(None)
+            Ok(())
         }
-        Err(refusal) => refuse(line, refused_access(refusal), out),
+        Err(refusal) => refuse(line, refused_access(refusal), out, end),
     }
 }
 
@@ -55,20 +57,22 @@ pub(crate) fn answer_move(
     board: &mut BoardState,
     deliveries: &Deliveries,
     out: &mut Vec<u8>,
-) -> Result<Option<Verdict>, NoMemory>
+    end: &mut Option<Verdict>,
+) -> Result<(), NoMemory>
     requires cpu { cpu < board.old.cpus }
     requires rate { IsKhz host.khz }
+    requires open { end.old ≡ None }
     ensures printed { OnOk result (out.new.items ≡ out.old.items
         ++ printed (move_answer line cpu h host.khz host.start host.gap deliveries.now board.old)) }
-    ensures ends { IfOk result (λ end. end
-        ≡ end_of (move_answer line cpu h host.khz host.start host.gap deliveries.now board.old)) }
-    ensures board { IfOk result (λ end. end ≡ None → board.new ≡ state_behind
+    ensures ends { OnOk result (end.new ≡ end_of
+        (move_answer line cpu h host.khz host.start host.gap deliveries.now board.old)) }
+    ensures board { OnOk result (end.new ≡ None → board.new ≡ state_behind
         (move_answer line cpu h host.khz host.start host.gap deliveries.now board.old) board.old) }
     ensures err { OnErr result (StartsWith out.new.items out.old.items) }
 {
     match board.access(cpu, h, Access::Step) {
-        Ok(reply) => cross_gap(line, &reply, host, board, deliveries, out),
-        Err(refusal) => refuse(line, refused_access(refusal), out),
+        Ok(reply) => cross_gap(line, &reply, host, board, deliveries, out, end),
+        Err(refusal) => refuse(line, refused_access(refusal), out, end),
     }
 }
 
@@ -80,15 +84,17 @@ fn cross_gap(
     board: &mut BoardState,
     deliveries: &Deliveries,
     out: &mut Vec<u8>,
-) -> Result<Option<Verdict>, NoMemory>
-    requires { IsKhz host.khz }
+    end: &mut Option<Verdict>,
+) -> Result<(), NoMemory>
+    requires rate { IsKhz host.khz }
+    requires open { end.old ≡ None }
     ensures printed { OnOk result (out.new.items ≡ out.old.items ++ printed
         (gap_answer (move_fault host.gap board.old) line host.khz host.start host.gap
         deliveries.now reply.now board.old)) }
-    ensures ends { IfOk result (λ end. end ≡ end_of
+    ensures ends { OnOk result (end.new ≡ end_of
         (gap_answer (move_fault host.gap board.old) line host.khz host.start host.gap
         deliveries.now reply.now board.old)) }
-    ensures board { IfOk result (λ end. end ≡ None → board.new ≡ state_behind
+    ensures board { OnOk result (end.new ≡ None → board.new ≡ state_behind
         (gap_answer (move_fault host.gap board.old) line host.khz host.start host.gap
         deliveries.now reply.now board.old) board.old) }
     ensures err { OnErr result (StartsWith out.new.items out.old.items) }
@@ -99,9 +105,9 @@ fn cross_gap(
             edge_lines(moved.edges.as_slice(), deliveries, out)?;
             *board = moved.state;
             move_line(line, reply.number, board.now(), out)?;
-            Ok(None)
+            Ok(())
         }
-        Err(fault) => refuse(line, refused_move(fault), out),
+        Err(fault) => refuse(line, refused_move(fault), out, end),
     }
 }
 

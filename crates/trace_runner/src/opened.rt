@@ -1,5 +1,5 @@
 //! A replay whose board is open: a shared board with one pass, whose pages and clocks are read as guests read them.
-ghost use Rattle.std.specs.Prelude.{◌≡◌, ◌<◌, ◌+◌, ◌^◌, ◌++◌, Some, None, IfOk, OnOk, OnErr};
+ghost use Rattle.std.specs.Prelude.{◌≡◌, ◌<◌, ◌+◌, ◌^◌, ◌++◌, Some, None, OnOk, OnErr};
 ghost use Rattle.std.specs.Io.{StartsWith};
 ghost use Rattle.trace_loop.specs.Progress.{printed, end_of, state_behind};
 ghost use Rattle.trace_text.specs.declared.reading.Item.TheVariants.{Next};
@@ -134,22 +134,24 @@ impl<'a, N: Name, R: Wait, G: Gate> Opened<'a, N, R, G> {
         line: u64,
         text: &[u8],
         out: &mut Vec<u8>,
-    ) -> Result<Option<Verdict>, NoMemory>
+        end: &mut Option<Verdict>,
+    ) -> Result<(), NoMemory>
         requires room { line < 2 ^ 63 }
         requires may { IsReady line self.old }
+        requires open { end.old ≡ None }
         ensures printed { OnOk result
             (out.new.items ≡ out.old.items ++ printed (answer_of line self.old text.now)) }
-        ensures ends { IfOk result (λ end. end ≡ end_of (answer_of line self.old text.now)) }
-        ensures state { IfOk result (λ end. end ≡ None
+        ensures ends { OnOk result (end.new ≡ end_of (answer_of line self.old text.now)) }
+        ensures state { OnOk result (end.new ≡ None
             → self.new ≡ state_behind (answer_of line self.old text.now) self.old) }
-        ensures may { IfOk result (λ end. end ≡ None → IsReady (line + 1) self.new) }
+        ensures may { OnOk result (end.new ≡ None → IsReady (line + 1) self.new) }
         ensures err { OnErr result (StartsWith out.new.items out.old.items) }
     {
         match self.replay.reading.take_line(text) {
-            Ok(Item::Skipped) => Ok(None),
-            Ok(Item::Part) => Ok(None),
-            Ok(item) => answer_item(line, &item, &mut self.sole, &mut self.replay, out),
-            Err(fault) => refuse(fault.line, refused_by(fault.reason), out),
+            Ok(Item::Skipped) => Ok(()),
+            Ok(Item::Part) => Ok(()),
+            Ok(item) => answer_item(line, &item, &mut self.sole, &mut self.replay, out, end),
+            Err(fault) => refuse(fault.line, refused_by(fault.reason), out, end),
         }
     }
 }
@@ -162,14 +164,16 @@ fn answer_record<'a, N: Name, R: Wait, G: Gate>(
     sole: &mut Option<OpenBoard<'a, N, R, G>>,
     replay: &mut Replay,
     out: &mut Vec<u8>,
-) -> Result<Option<Verdict>, NoMemory>
+    end: &mut Option<Verdict>,
+) -> Result<(), NoMemory>
     requires suits { Suits (Next given.now) (opened_at replay.old sole.old).board }
     requires room { HasSpare replay.old.reading.lines sole.old }
+    requires open { end.old ≡ None }
     ensures printed { OnOk result (out.new.items ≡ out.old.items
         ++ printed (record_answer line given.now (opened_at replay.old sole.old))) }
-    ensures ends { IfOk result
-        (λ end. end ≡ end_of (record_answer line given.now (opened_at replay.old sole.old))) }
-    ensures state { IfOk result (λ end. end ≡ None → opened_at replay.new sole.new ≡ state_behind
+    ensures ends { OnOk result
+        (end.new ≡ end_of (record_answer line given.now (opened_at replay.old sole.old))) }
+    ensures state { OnOk result (end.new ≡ None → opened_at replay.new sole.new ≡ state_behind
         (record_answer line given.now (opened_at replay.old sole.old))
         (opened_at replay.old sole.old)) }
     ensures room { HasRoom replay.new.reading.lines sole.new }
@@ -181,21 +185,21 @@ fn answer_record<'a, N: Name, R: Wait, G: Gate>(
                 let reply = &mut replay.board.reply;
                 let deliveries = &replay.deliveries;
                 answer_access(
-                    line, given.cpu, given.h, access, board, reply, deliveries, out,
+                    line, given.cpu, given.h, access, board, reply, deliveries, out, end,
                 )
             }
-            None => answer_at_rest(line, given, sole, replay, out),
+            None => answer_at_rest(line, given, sole, replay, out, end),
         },
         Job::Page { page } => match sole {
-            Some(board) => answer_page(line, page, given.h, board, out),
-            None => answer_at_rest(line, given, sole, replay, out),
+            Some(board) => answer_page(line, page, given.h, board, out, end),
+            None => answer_at_rest(line, given, sole, replay, out, end),
         },
         Job::Clock { page } => match sole {
-            Some(board) => answer_clock(line, page, given.h, board, out),
-            None => answer_at_rest(line, given, sole, replay, out),
+            Some(board) => answer_clock(line, page, given.h, board, out, end),
+            None => answer_at_rest(line, given, sole, replay, out, end),
         },
-        Job::Save => answer_at_rest(line, given, sole, replay, out),
-        Job::Move { .. } => answer_at_rest(line, given, sole, replay, out),
+        Job::Save => answer_at_rest(line, given, sole, replay, out, end),
+        Job::Move { .. } => answer_at_rest(line, given, sole, replay, out, end),
     }
 }
 
@@ -208,20 +212,22 @@ fn answer_at_rest<'a, N: Name, R: Wait, G: Gate>(
     sole: &mut Option<OpenBoard<'a, N, R, G>>,
     replay: &mut Replay,
     out: &mut Vec<u8>,
-) -> Result<Option<Verdict>, NoMemory>
+    end: &mut Option<Verdict>,
+) -> Result<(), NoMemory>
     requires suits { Suits (Next given.now) (opened_at replay.old sole.old).board }
+    requires open { end.old ≡ None }
     ensures printed { OnOk result (out.new.items ≡ out.old.items
         ++ printed (record_answer line given.now (opened_at replay.old sole.old))) }
-    ensures ends { IfOk result
-        (λ end. end ≡ end_of (record_answer line given.now (opened_at replay.old sole.old))) }
-    ensures state { IfOk result (λ end. end ≡ None → replay.new ≡ state_behind
+    ensures ends { OnOk result
+        (end.new ≡ end_of (record_answer line given.now (opened_at replay.old sole.old))) }
+    ensures state { OnOk result (end.new ≡ None → replay.new ≡ state_behind
         (record_answer line given.now (opened_at replay.old sole.old))
         (opened_at replay.old sole.old)) }
     ensures stopped { sole.new ≡ None }
     ensures err { OnErr result (StartsWith out.new.items out.old.items) }
 {
     stop_board(sole, replay);
-    replay.answer_record(line, given, out)
+    replay.answer_record(line, given, out, end)
 }
 
 /// Answers a line that was read by the plain board. The open one is stopped.
@@ -231,20 +237,22 @@ fn answer_item<'a, N: Name, R: Wait, G: Gate>(
     sole: &mut Option<OpenBoard<'a, N, R, G>>,
     replay: &mut Replay,
     out: &mut Vec<u8>,
-) -> Result<Option<Verdict>, NoMemory>
+    end: &mut Option<Verdict>,
+) -> Result<(), NoMemory>
     requires suits { Suits item.now (opened_at replay.old sole.old).board }
+    requires open { end.old ≡ None }
     ensures printed { OnOk result (out.new.items ≡ out.old.items
         ++ printed (item_answer line item.now (opened_at replay.old sole.old))) }
-    ensures ends { IfOk result
-        (λ end. end ≡ end_of (item_answer line item.now (opened_at replay.old sole.old))) }
-    ensures state { IfOk result (λ end. end ≡ None → replay.new ≡ state_behind
+    ensures ends { OnOk result
+        (end.new ≡ end_of (item_answer line item.now (opened_at replay.old sole.old))) }
+    ensures state { OnOk result (end.new ≡ None → replay.new ≡ state_behind
         (item_answer line item.now (opened_at replay.old sole.old))
         (opened_at replay.old sole.old)) }
     ensures stopped { sole.new ≡ None }
     ensures err { OnErr result (StartsWith out.new.items out.old.items) }
 {
     stop_board(sole, replay);
-    replay.answer_item(line, item, out)
+    replay.answer_item(line, item, out, end)
 }
 
 /// Stops the board that is open, if one is: the replay has it.
@@ -270,18 +278,31 @@ impl<'a, N: Name, R: Wait, G: Gate> Answerer<Verdict> for Opened<'a, N, R, G> {
 
     ghost may = { IsReady };
 
-    #[inline(always)]
-    #[tactic(auto, unfolding(crate::specs::Replay::answer_of))]
     fn answer(
         &mut self,
         line: u64,
         text: &[u8],
         out: &mut Vec<u8>,
     ) -> Result<Option<Verdict>, NoMemory> {
+        let mut end = None;
+        self.answer_into(line, text, out, &mut end)?;
+        Ok(end)
+    }
+
+    #[inline(always)]
+    #[tactic(auto, unfolding(crate::specs::Replay::answer_of))]
+    fn answer_into(
+        &mut self,
+        line: u64,
+        text: &[u8],
+        out: &mut Vec<u8>,
+        end: &mut Option<Verdict>,
+    ) -> Result<(), NoMemory> {
         if self.replay.reading.read_record(text, &mut self.given) {
-            return answer_record(line, &self.given, &mut self.sole, &mut self.replay, out);
+            let given = &self.given;
+            return answer_record(line, given, &mut self.sole, &mut self.replay, out, end);
         }
-        self.answer_other(line, text, out)
+        self.answer_other(line, text, out, end)
     }
 
     fn close(&mut self, _line: u64, out: &mut Vec<u8>) -> Result<Verdict, NoMemory> {

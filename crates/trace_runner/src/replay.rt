@@ -1,5 +1,5 @@
 //! What answers the lines of a trace: a reader, and the board that its records act on.
-ghost use Rattle.std.specs.Prelude.{◌≡◌, ◌<◌, ◌+◌, ◌^◌, ◌++◌, Ok, None, Some, IfOk, OnOk, OnErr};
+ghost use Rattle.std.specs.Prelude.{◌≡◌, ◌<◌, ◌+◌, ◌^◌, ◌++◌, Ok, None, Some, OnOk, OnErr};
 ghost use Rattle.std.specs.Io.{StartsWith};
 ghost use Rattle.trace_loop.specs.Progress.{printed, end_of, state_behind};
 ghost use Rattle.trace_text.specs.Lines.{at_start as reading_at_start};
@@ -103,25 +103,28 @@ impl Replay {
         line: u64,
         item: &Item,
         out: &mut Vec<u8>,
-    ) -> Result<Option<Verdict>, NoMemory>
-        requires { Suits item.now self.old.board }
+        end: &mut Option<Verdict>,
+    ) -> Result<(), NoMemory>
+        requires suits { Suits item.now self.old.board }
+        requires open { end.old ≡ None }
         ensures printed { OnOk result
             (out.new.items ≡ out.old.items ++ printed (item_answer line item.now self.old)) }
-        ensures ends { IfOk result (λ end. end ≡ end_of (item_answer line item.now self.old)) }
-        ensures state { IfOk result (λ end. end ≡ None
+        ensures ends { OnOk result (end.new ≡ end_of (item_answer line item.now self.old)) }
+        ensures state { OnOk result (end.new ≡ None
             → self.new ≡ state_behind (item_answer line item.now self.old) self.old) }
         ensures err { OnErr result (StartsWith out.new.items out.old.items) }
     {
         match item {
-            Item::Skipped | Item::Part => Ok(None),
+            Item::Skipped | Item::Part => Ok(()),
             Item::Begun(header) => {
                 self.begin(header);
-                Ok(None)
+                Ok(())
             }
-            Item::Next(record) => self.answer_record(line, record, out),
+            Item::Next(record) => self.answer_record(line, record, out, end),
             Item::End => {
-                end(self.board.state(), self.shows_state, out)?;
-                Ok(Some(Verdict::Done))
+                self::end(self.board.state(), self.shows_state, out)?;
+                *end = Some(Verdict::Done);
+                Ok(())
             }
         }
     }
@@ -135,16 +138,18 @@ impl Replay {
         line: u64,
         given: &Record,
         out: &mut Vec<u8>,
-    ) -> Result<Option<Verdict>, NoMemory>
-        requires { Suits (Item.Next given.now) self.old.board }
+        end: &mut Option<Verdict>,
+    ) -> Result<(), NoMemory>
+        requires suits { Suits (Item.Next given.now) self.old.board }
+        requires open { end.old ≡ None }
         ensures printed { OnOk result
             (out.new.items ≡ out.old.items ++ printed (record_answer line given.now self.old)) }
-        ensures ends { IfOk result (λ end. end ≡ end_of (record_answer line given.now self.old)) }
-        ensures state { IfOk result (λ end. end ≡ None
+        ensures ends { OnOk result (end.new ≡ end_of (record_answer line given.now self.old)) }
+        ensures state { OnOk result (end.new ≡ None
             → self.new ≡ state_behind (record_answer line given.now self.old) self.old) }
         ensures err { OnErr result (StartsWith out.new.items out.old.items) }
     {
-        records::answer(line, given, &mut self.board, &self.deliveries, out)
+        records::answer(line, given, &mut self.board, &self.deliveries, out, end)
     }
 
     /// Answers a line that is no record, or one that is refused. It stands apart, since its item has room for a board,
@@ -157,20 +162,22 @@ impl Replay {
         line: u64,
         text: &[u8],
         out: &mut Vec<u8>,
-    ) -> Result<Option<Verdict>, NoMemory>
+        end: &mut Option<Verdict>,
+    ) -> Result<(), NoMemory>
         requires room { line < 2 ^ 63 }
         requires may { IsReady line self.old }
+        requires open { end.old ≡ None }
         ensures printed { OnOk result
             (out.new.items ≡ out.old.items ++ printed (answer_of line self.old text.now)) }
-        ensures ends { IfOk result (λ end. end ≡ end_of (answer_of line self.old text.now)) }
-        ensures state { IfOk result (λ end. end ≡ None
+        ensures ends { OnOk result (end.new ≡ end_of (answer_of line self.old text.now)) }
+        ensures state { OnOk result (end.new ≡ None
             → self.new ≡ state_behind (answer_of line self.old text.now) self.old) }
-        ensures may { IfOk result (λ end. end ≡ None → IsReady (line + 1) self.new) }
+        ensures may { OnOk result (end.new ≡ None → IsReady (line + 1) self.new) }
         ensures err { OnErr result (StartsWith out.new.items out.old.items) }
     {
         match self.reading.take_line(text) {
-            Ok(item) => self.answer_item(line, &item, out),
-            Err(fault) => refuse(fault.line, refused_by(fault.reason), out),
+            Ok(item) => self.answer_item(line, &item, out, end),
+            Err(fault) => refuse(fault.line, refused_by(fault.reason), out, end),
         }
     }
 }
@@ -205,18 +212,30 @@ impl Answerer<Verdict> for Replay {
 
     ghost may = { IsReady };
 
-    #[inline(always)]
-    #[tactic(auto, unfolding(crate::specs::Replay::answer_of))]
     fn answer(
         &mut self,
         line: u64,
         text: &[u8],
         out: &mut Vec<u8>,
     ) -> Result<Option<Verdict>, NoMemory> {
+        let mut end = None;
+        self.answer_into(line, text, out, &mut end)?;
+        Ok(end)
+    }
+
+    #[inline(always)]
+    #[tactic(auto, unfolding(crate::specs::Replay::answer_of))]
+    fn answer_into(
+        &mut self,
+        line: u64,
+        text: &[u8],
+        out: &mut Vec<u8>,
+        end: &mut Option<Verdict>,
+    ) -> Result<(), NoMemory> {
         if let Some(record) = self.reading.take_record(text) {
-            return self.answer_record(line, &record, out);
+            return self.answer_record(line, &record, out, end);
         }
-        self.answer_other(line, text, out)
+        self.answer_other(line, text, out, end)
     }
 
     fn close(&mut self, _line: u64, out: &mut Vec<u8>) -> Result<Verdict, NoMemory> {

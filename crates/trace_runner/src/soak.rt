@@ -113,24 +113,37 @@ impl Answerer<Verdict> for Soak {
 
     ghost may = { IsSoakReady };
 
-    #[tactic(auto, unfolding(crate::specs::Soak::soak_answer))]
     fn answer(
         &mut self,
         line: u64,
         text: &[u8],
         out: &mut Vec<u8>,
     ) -> Result<Option<Verdict>, NoMemory> {
+        let mut end = None;
+        self.answer_into(line, text, out, &mut end)?;
+        Ok(end)
+    }
+
+    #[tactic(auto, unfolding(crate::specs::Soak::soak_answer))]
+    fn answer_into(
+        &mut self,
+        line: u64,
+        text: &[u8],
+        out: &mut Vec<u8>,
+        end: &mut Option<Verdict>,
+    ) -> Result<(), NoMemory> {
         let whole = out.len();
         let sum = self.sum();
-        match self.replay.answer(line, text, out)? {
+        self.replay.answer_into(line, text, out, end)?;
+        match *end {
             None => {
                 self.edges = self.edges.saturating_add(edges_in(&out[whole..]));
                 out.truncate(whole);
-                Ok(None)
+                Ok(())
             }
             Some(verdict) => {
                 sum.put(verdict, whole, out)?;
-                Ok(Some(verdict))
+                Ok(())
             }
         }
     }

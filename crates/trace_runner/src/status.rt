@@ -154,18 +154,19 @@ pub(crate) fn stop(line: u64, why: Refused, out: &mut Vec<u8>) -> Result<Verdict
     Ok(Verdict::Stopped { line, why })
 }
 
-/// The same as the answer to a line.
+/// The same as the answer to a line, which puts the end into the place that the caller keeps for it.
 #[cold]
 #[inline(never)]
 pub(crate) fn refuse(
     line: u64,
     why: Refused,
     out: &mut Vec<u8>,
-) -> Result<Option<Verdict>, NoMemory>
+    end: &mut Option<Verdict>,
+) -> Result<(), NoMemory>
     ensures printed { OnOk result (out.new.items ≡ out.old.items ++ refused_text line why) }
-    ensures ends { IfOk result (λ end. end ≡ Some (Verdict.Stopped line why)) }
+    ensures ends { OnOk result (end.new ≡ Some (Verdict.Stopped line why)) }
     ensures err { OnErr result (out.new.items ≡ out.old.items) }
 {
-    let verdict = stop(line, why, out)?;
-    Ok(Some(verdict))
+    *end = Some(stop(line, why, out)?);
+    Ok(())
 }

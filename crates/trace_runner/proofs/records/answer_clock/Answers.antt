@@ -1,4 +1,4 @@
-use Rattle.std.proofs.Common.{◌≡◌, ◌++◌, OnOk, IfOk, Some, sym, ap, subst, ◌∙◌}
+use Rattle.std.proofs.Common.{◌≡◌, ◌++◌, OnOk, Some, sym, ap, subst, ◌∙◌}
 use Rattle.board_types.specs.declared.parts.BoardParts.{BoardParts}
 use Rattle.pvclock_page.specs.declared.page.ClockReply.{ClockReply}
 use Rattle.reply_text.specs.Text.{clock_text, refused_text}
@@ -17,7 +17,7 @@ returns-in_ok-clock_line-in-Ok-clause-printed g c =
     (sym (clock-read c.args.line c.args.page c.args.h (g.B.RecordBoard.parts c.args.board.now) c.in-Ok.ensures.ok))
 
 pub returns-in_ok-clock_line-in-Ok-clause-ends : goal.returns-in_ok-clock_line-in-Ok-clause-ends
-returns-in_ok-clock_line-in-Ok-clause-ends g c = ap end_of (sym (clock-read c.args.line c.args.page c.args.h (g.B.RecordBoard.parts c.args.board.now) c.in-Ok.ensures.ok))
+returns-in_ok-clock_line-in-Ok-clause-ends g c = c.requires.open ∙ ap end_of (sym (clock-read c.args.line c.args.page c.args.h (g.B.RecordBoard.parts c.args.board.now) c.in-Ok.ensures.ok))
 
 pub returns-in_ok-clock_line-in-Ok-clause-board : goal.returns-in_ok-clock_line-in-Ok-clause-board
 returns-in_ok-clock_line-in-Ok-clause-board g c = λ none.
@@ -34,6 +34,6 @@ returns-in-Err-clause-printed g c =
 
 pub returns-in-Err-clause-ends : goal.returns-in-Err-clause-ends
 returns-in-Err-clause-ends g c =
-    subst (λ (a : Answer BoardParts Verdict). IfOk c.refuse.result (λ end. end ≡ end_of a))
+    subst (λ (a : Answer BoardParts Verdict). OnOk c.refuse.result (c.refuse.new.end ≡ end_of a))
     (sym (clock-refused c.args.line c.args.page c.args.h (g.B.RecordBoard.parts c.args.board.now) c.in-Err.fault c.in-Err.ensures.fault))
-    (subst (λ (w : Refused). IfOk c.refuse.result (λ end. end ≡ Some (Stopped c.args.line w))) c.refused_time.ensures c.refuse.ensures.ends)
+    (subst (λ (w : Refused). OnOk c.refuse.result (c.refuse.new.end ≡ Some (Stopped c.args.line w))) c.refused_time.ensures c.refuse.ensures.ends)

@@ -1,4 +1,4 @@
-use Rattle.std.proofs.Common.{◌≡◌, ℕ, ◌+◌, Option, None, Ok, IfOk, refl, sym, ap, subst, ◌∙◌}
+use Rattle.std.proofs.Common.{◌≡◌, ℕ, ◌+◌, Option, None, Ok, OnOk, refl, sym, ap, subst, ◌∙◌}
 use Rattle.sole_board.specs.Sole.{Sole}
 use Rattle.trace_text.specs.declared.reading.ReadingParts.{ReadingParts}
 use Rattle.trace_text.specs.declared.reading.Item.{Item}
@@ -8,7 +8,6 @@ use Rattle.trace_runner.specs.Replay.{item_answer}
 use Rattle.trace_runner.specs.Ready.{IsReady}
 use Rattle.trace_runner.specs.Opened.{opened_at}
 use Rattle.trace_runner.specs.declared.replay.Replay.{Replay}
-use Rattle.trace_runner.specs.declared.status.Verdict.{Verdict}
 use Rattle.trace_runner.proofs.ReadyNext.{ready_next, next_if}
 use Rattle.trace_runner.proofs.opened.Opened.answer_other.Goals as goal
 
@@ -37,9 +36,9 @@ returns-in-Ok-clause-may g c =
     let r : Replay = opened_at c.self.inside.replay c.self.inside.sole in
     let may : IsReady line r = subst (IsReady line) (sym c.self.view_is) c.requires.may in
     let now : Replay = record r { reading = c.take_line.new.self } in
-    subst (λ (o : Option Sole). IfOk c.answer_item.result
-    (λ (end : Option Verdict). end ≡ None → IsReady (line + 1) (opened_at c.answer_item.new.replay o))) (sym c.answer_item.ensures.stopped)
-    (next_if c.answer_item.result (line + 1) (item_answer line item now) now c.answer_item.new.replay
+    subst (λ (o : Option Sole). OnOk c.answer_item.result
+    (c.answer_item.new.end ≡ None → IsReady (line + 1) (opened_at c.answer_item.new.replay o))) (sym c.answer_item.ensures.stopped)
+    (next_if c.answer_item.result (line + 1) (item_answer line item now) now c.answer_item.new.replay c.answer_item.new.end
     c.answer_item.ensures.ends c.answer_item.ensures.state
     (subst (λ (p : ReadingParts).
     (let r' : Replay = record r { reading = p } in end_of (item_answer line item r') ≡ None

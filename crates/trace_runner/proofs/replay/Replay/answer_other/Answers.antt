@@ -12,7 +12,7 @@ returns-in-Ok-clause-may c =
     let line : ℕ = c.args.line in
     let r : Replay = c.args.self.now in
     next_if c.answer_item.result (line + 1) (item_answer line c.in-Ok.item (record r { reading = c.take_line.new.self }))
-    (record r { reading = c.take_line.new.self }) c.answer_item.new.self
+    (record r { reading = c.take_line.new.self }) c.answer_item.new.self c.answer_item.new.end
     c.answer_item.ensures.ends c.answer_item.ensures.state
     (subst (λ (p : ReadingParts).
     (let r' : Replay = record r { reading = p } in end_of (item_answer line c.in-Ok.item r') ≡ None

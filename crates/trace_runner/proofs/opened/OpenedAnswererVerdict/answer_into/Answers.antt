@@ -8,7 +8,7 @@ use Rattle.trace_runner.specs.Ready.{IsReady}
 use Rattle.trace_runner.specs.Opened.{opened_at}
 use Rattle.trace_runner.specs.declared.replay.Replay.{Replay}
 use Rattle.trace_runner.proofs.ReadyNext.{ready_next, next_if}
-use Rattle.trace_runner.proofs.opened.OpenedAnswererVerdict.answer.Goals as goal
+use Rattle.trace_runner.proofs.opened.OpenedAnswererVerdict.answer_into.Goals as goal
 
 pub returns-then-read_record-clause-may : goal.returns-then-read_record-clause-may
 returns-then-read_record-clause-may g c =
@@ -18,7 +18,7 @@ returns-then-read_record-clause-may g c =
     let may : IsReady line r = subst (IsReady line) (sym c.self.view_is) c.requires.may in
     let now : Replay = record r { reading = c.read_record.new.self } in
     next_if c.answer_record.result (line + 1) (record_answer line rec now) now
-    (opened_at c.answer_record.new.replay c.answer_record.new.sole) c.answer_record.ensures.ends c.answer_record.ensures.state
+    (opened_at c.answer_record.new.replay c.answer_record.new.sole) c.answer_record.new.end c.answer_record.ensures.ends c.answer_record.ensures.state
     (subst (λ (p : ReadingParts).
     (let r' : Replay = record r { reading = p } in end_of (record_answer line rec r') ≡ None
     → IsReady (line + 1) (state_behind (record_answer line rec r') r'))) (sym c.if-read_record.ensures.state)

@@ -6,14 +6,14 @@ use Rattle.trace_runner.specs.Replay.{record_answer}
 use Rattle.trace_runner.specs.Ready.{IsReady}
 use Rattle.trace_runner.specs.declared.replay.Replay.{Replay}
 use Rattle.trace_runner.proofs.ReadyNext.{ready_next, next_if}
-use Rattle.trace_runner.proofs.replay.ReplayAnswererVerdict.answer.Goals as goal
+use Rattle.trace_runner.proofs.replay.ReplayAnswererVerdict.answer_into.Goals as goal
 
 pub returns-in-Some-clause-may : goal.returns-in-Some-clause-may
 returns-in-Some-clause-may c =
     let line : ℕ = c.args.line in
     let r : Replay = c.args.self.now in
     next_if c.answer_record.result (line + 1) (record_answer line c.in-Some.record (record r { reading = c.take_record.new.self }))
-    (record r { reading = c.take_record.new.self }) c.answer_record.new.self
+    (record r { reading = c.take_record.new.self }) c.answer_record.new.self c.answer_record.new.end
     c.answer_record.ensures.ends c.answer_record.ensures.state
     (subst (λ (p : ReadingParts).
     (let r' : Replay = record r { reading = p } in end_of (record_answer line c.in-Some.record r') ≡ None

@@ -5,7 +5,7 @@ use Rattle.trace_runner.specs.Replay.{item_answer}
 use Rattle.trace_runner.specs.Ready.{IsReady}
 use Rattle.trace_runner.specs.declared.replay.Replay.{Replay}
 use Rattle.trace_runner.proofs.ReadyNext.{ready_next, next_if}
-use Rattle.trace_runner.proofs.heading.HeadingAnswererVerdict.answer.Goals as goal
+use Rattle.trace_runner.proofs.heading.HeadingAnswererVerdict.answer_into.Goals as goal
 
 pub returns-in-Ok-clause-may : goal.returns-in-Ok-clause-may
 returns-in-Ok-clause-may c =
@@ -13,7 +13,7 @@ returns-in-Ok-clause-may c =
     let r : Replay = c.self.inside.replay in
     let may : IsReady line r = subst (IsReady line) (sym c.self.view_is) c.requires.may in
     let now : Replay = record r { reading = c.take_line.new.self } in
-    next_if c.answer_item.result (line + 1) (item_answer line c.in-Ok.item now) now c.answer_item.new.self
+    next_if c.answer_item.result (line + 1) (item_answer line c.in-Ok.item now) now c.answer_item.new.self c.answer_item.new.end
     c.answer_item.ensures.ends c.answer_item.ensures.state
     (subst (λ (p : ReadingParts).
     (let r' : Replay = record r { reading = p } in end_of (item_answer line c.in-Ok.item r') ≡ None
