@@ -1,12 +1,11 @@
 -- A replay whose board is open.
-use Rattle.std.specs.Prelude.{◌≡◌, ℕ, ◌≤◌, ◌<◌, ◌+◌, Option, Some, None}
+use Rattle.std.specs.Prelude.{ℕ, ◌≤◌, ◌<◌, ◌+◌, Option, Some, None}
 use Rattle.board_types.specs.declared.parts.BoardParts.{BoardParts}
 use Rattle.sole_board.specs.Sole.{Sole}
-use Rattle.trace_loop.specs.Going.{BothEnds, IsGoing, IsOver, IsFed}
+use Rattle.trace_loop.specs.Going.{BothEnds, IsGoing, IsOver}
 use Rattle.trace_loop.specs.declared.ended.Ended.{Ended}
 use Rattle.trace_loop.specs.declared.feed.Feed.{Feed}
 use Rattle.trace_runner.specs.Replay.{answer_of, closing_of}
-use Rattle.trace_runner.specs.Ready.{IsReady}
 use Rattle.trace_runner.specs.declared.job.Stretch.{Stretch}
 use Rattle.trace_runner.specs.declared.job.Stretch.TheVariants as stretches
 use Rattle.trace_runner.specs.declared.replay.Replay.{Replay}

@@ -1,5 +1,5 @@
-use Rattle.std.proofs.Common.{◌≡◌, sym, subst}
-use Rattle.trace_loop.specs.Going.{BothEnds, IsGoing, ends_of}
+use Rattle.std.proofs.Common.{sym, subst}
+use Rattle.trace_loop.specs.Going.{IsGoing, ends_of}
 use Rattle.trace_runner.specs.Replay.{answer_of}
 use Rattle.trace_runner.specs.declared.replay.Replay.{Replay}
 use Rattle.trace_runner.specs.declared.status.Verdict.{Verdict}

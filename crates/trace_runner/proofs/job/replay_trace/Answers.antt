@@ -1,5 +1,5 @@
-use Rattle.std.proofs.Common.{◌≡◌, ℕ, ◌+◌, arith, sym, subst}
-use Rattle.trace_loop.specs.Going.{BothEnds, ends_of}
+use Rattle.std.proofs.Common.{◌+◌, arith, sym, subst}
+use Rattle.trace_loop.specs.Going.{ends_of}
 use Rattle.trace_runner.specs.Replay.{at_start}
 use Rattle.trace_runner.specs.Ready.{IsReady}
 use Rattle.trace_runner.specs.declared.replay.Replay.{Replay}

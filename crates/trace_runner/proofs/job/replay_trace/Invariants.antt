@@ -1,4 +1,4 @@
-use Rattle.std.proofs.Common.{◌≡◌, ◌<◌, ◌+◌, ◌-◌, ℕ}
+use Rattle.std.proofs.Common.{◌<◌, ◌+◌, ◌-◌}
 use Rattle.trace_loop.specs.Going.{IsFed, IsGoing, ends_of}
 use Rattle.trace_runner.specs.Replay.{answer_of, at_start}
 use Rattle.trace_runner.specs.Ready.{IsReady}
