@@ -45,7 +45,7 @@ ReplayEnds r feed now now' ended =
 -- how a stretch between two boards ends
 abbrev pub IfPaused : Stretch → (Replay → Type 0) → Type 0
 IfPaused (stretches.Over ended) P = Unit {0}
-IfPaused (stretches.Paused r) P = P r
+IfPaused (stretches.Paused r) P = P r.value
 
 abbrev pub IfOver : Stretch → (Ended Verdict → Type 0) → Type 0
 IfOver (stretches.Over ended) P = P ended

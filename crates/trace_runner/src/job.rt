@@ -28,7 +28,7 @@ pub(crate) enum Stretch {
     /// The run is over.
     Over(Ended<Verdict>),
     /// The board was stopped.
-    Paused(Replay),
+    Paused(Box<Replay>),
 }
 
 /// Answers a trace, whose state is shown at its end or not.
@@ -63,7 +63,10 @@ pub(crate) fn replay_trace<R: Wait, S: Source, K: Sink, G: Gate>(
         Turn::Ended(ended) => return ended,
         Turn::Paused => {}
     }
-    let mut replay = heading.replay();
+    let mut replay = match Box::new(alloc, heading.replay()) {
+        Ok(replay) => replay,
+        Err(failed) => return run_out(&feed, &failed.value, source, sink),
+    };
     loop {
         match open_next(rt, alloc, gate, replay, &mut feed, source, sink) {
             Stretch::Over(ended) => return ended,
@@ -77,24 +80,24 @@ fn open_next<R: Wait, S: Source, K: Sink, G: Gate>(
     rt: &R,
     alloc: Global,
     gate: &G,
-    replay: Replay,
+    replay: Box<Replay>,
     feed: &mut Feed,
     source: &mut S,
     sink: &mut K,
 ) -> Stretch
-    requires may { IsReady (feed.old.lines.number + 1) replay }
+    requires may { IsReady (feed.old.lines.number + 1) replay.value }
     requires fed { IsFed feed.old (S.given source.old) }
     requires some { 0 < feed.old.lines.number }
     ensures may { IfPaused result (λ r. IsReady (feed.new.lines.number + 1) r) }
     ensures fed { IfPaused result (λ r. IsFed feed.new (S.given source.new)) }
     ensures more { IfPaused result (λ r. feed.old.lines.number < feed.new.lines.number) }
     ensures going { IfPaused result (λ r. ReplayGoes
-        replay feed.old (ends_of S.remaining S.given S.before S.faults S.done S.late
+        replay.value feed.old (ends_of S.remaining S.given S.before S.faults S.done S.late
         K.contents K.faults source.old sink.old)
         r feed.new (ends_of S.remaining S.given S.before S.faults S.done S.late
         K.contents K.faults source.new sink.new)) }
     ensures over { IfOver result (ReplayEnds
-        replay feed.old (ends_of S.remaining S.given S.before S.faults S.done S.late
+        replay.value feed.old (ends_of S.remaining S.given S.before S.faults S.done S.late
         K.contents K.faults source.old sink.old)
         (ends_of S.remaining S.given S.before S.faults S.done S.late
         K.contents K.faults source.new sink.new)) }
@@ -103,7 +106,7 @@ fn open_next<R: Wait, S: Source, K: Sink, G: Gate>(
         Ok(blank) => go_on_with::<Brand, R, S, K, G>(
             rt, alloc, gate, blank, replay, feed, source, sink,
         ),
-        Err(NoMemory) => Stretch::Over(run_out(feed, &replay, source, sink)),
+        Err(NoMemory) => Stretch::Over(run_out(feed, &*replay, source, sink)),
     }
 }
 
@@ -113,35 +116,35 @@ fn go_on_with<N: Name, R: Wait, S: Source, K: Sink, G: Gate>(
     alloc: Global,
     gate: &G,
     blank: Blank,
-    replay: Replay,
+    replay: Box<Replay>,
     feed: &mut Feed,
     source: &mut S,
     sink: &mut K,
 ) -> Stretch
     requires table { blank.0 ≡ N.table }
     requires blank { blank.1 ≡ N.state }
-    requires state { replay.board ≡ N.state }
+    requires state { replay.value.board ≡ N.state }
     requires passes { N.passes ≡ 1 }
-    requires may { IsReady (feed.old.lines.number + 1) replay }
+    requires may { IsReady (feed.old.lines.number + 1) replay.value }
     requires fed { IsFed feed.old (S.given source.old) }
     requires some { 0 < feed.old.lines.number }
     ensures may { IfPaused result (λ r. IsReady (feed.new.lines.number + 1) r) }
     ensures fed { IfPaused result (λ r. IsFed feed.new (S.given source.new)) }
     ensures more { IfPaused result (λ r. feed.old.lines.number < feed.new.lines.number) }
     ensures going { IfPaused result (λ r. ReplayGoes
-        replay feed.old (ends_of S.remaining S.given S.before S.faults S.done S.late
+        replay.value feed.old (ends_of S.remaining S.given S.before S.faults S.done S.late
         K.contents K.faults source.old sink.old)
         r feed.new (ends_of S.remaining S.given S.before S.faults S.done S.late
         K.contents K.faults source.new sink.new)) }
     ensures over { IfOver result (ReplayEnds
-        replay feed.old (ends_of S.remaining S.given S.before S.faults S.done S.late
+        replay.value feed.old (ends_of S.remaining S.given S.before S.faults S.done S.late
         K.contents K.faults source.old sink.old)
         (ends_of S.remaining S.given S.before S.faults S.done S.late
         K.contents K.faults source.new sink.new)) }
 {
     let board = match SoleBoard::<N>::new(alloc, blank, *replay.board.state()) {
         Ok(board) => OpenBoard { board, rt, gate },
-        Err(NoMemory) => return Stretch::Over(run_out(feed, &replay, source, sink)),
+        Err(NoMemory) => return Stretch::Over(run_out(feed, &*replay, source, sink)),
     };
     let mut opened = Opened::new(replay, board);
     match go_on(feed, &mut opened, source, sink) {

@@ -8,7 +8,6 @@ ghost use Rattle.trace_runner.specs.Ready.{IsReady, Suits};
 ghost use Rattle.trace_runner.specs.Opened.{opened_at, HasRoom, HasSpare};
 
 use crate::board::RecordBoard;
-use crate::kept::KeptBoard;
 use crate::records::{answer_access, answer_clock, answer_page};
 use crate::replay::Replay;
 use crate::status::{Verdict, refuse, refused_by, stop};
@@ -74,8 +73,9 @@ impl<'a, N: Name, R: Wait, G: Gate> RecordBoard for OpenBoard<'a, N, R, G> {
 /// trace. Then the replay pauses, so that the next board is opened.
 #[derive(Drop)]
 pub(crate) struct Opened<'a, N: Name, R: Wait, G: Gate> {
-    /// The replay at rest. Its board is out of date where another is open.
-    replay: Replay,
+    /// The replay at rest, which stays where it is from one board to the next. Its board is out of date where another
+    /// is open.
+    replay: Box<Replay>,
     /// The board that is open.
     sole: Option<OpenBoard<'a, N, R, G>>,
     /// The record that is answered; between two lines it means nothing.
@@ -88,17 +88,17 @@ impl<'a, N: Name, R: Wait, G: Gate> Model for Opened<'a, N, R, G> {
 
     ghost Value = { Replay };
 
-    ghost view = { λ o. opened_at o.replay o.sole };
+    ghost view = { λ o. opened_at o.replay.value o.sole };
 
-    ghost invariant = { λ o. HasRoom o.replay.reading.lines o.sole };
+    ghost invariant = { λ o. HasRoom o.replay.value.reading.lines o.sole };
 }
 
 impl<'a, N: Name, R: Wait, G: Gate> Opened<'a, N, R, G> {
     /// A replay whose board was opened, and was asked nothing yet.
-    pub(crate) fn new(replay: Replay, board: OpenBoard<'a, N, R, G>) -> Opened<'a, N, R, G>
-        requires same { board.parts ≡ replay.board }
+    pub(crate) fn new(replay: Box<Replay>, board: OpenBoard<'a, N, R, G>) -> Opened<'a, N, R, G>
+        requires same { board.parts ≡ replay.value.board }
         requires fresh { board.calls ≡ 0 }
-        ensures { result ≡ replay }
+        ensures { result ≡ replay.value }
     {
         Opened {
             replay,
@@ -112,8 +112,8 @@ impl<'a, N: Name, R: Wait, G: Gate> Opened<'a, N, R, G> {
     }
 
     /// The replay at rest: its board is stopped, if it is open.
-    pub(crate) fn at_rest(self) -> Replay
-        ensures { result ≡ self.entry }
+    pub(crate) fn at_rest(self) -> Box<Replay>
+        ensures { result.value ≡ self.entry }
     {
         let Opened {
             mut replay,
@@ -123,36 +123,76 @@ impl<'a, N: Name, R: Wait, G: Gate> Opened<'a, N, R, G> {
         stop_board(&mut sole, &mut replay);
         replay
     }
+}
 
-    /// Answers a line that is no record, or one that is refused. It stands apart, since its item has room for a board,
-    /// which a call clears as it begins.
-    #[cold]
-    #[inline(never)]
-    #[tactic(auto, unfolding(crate::specs::Replay::answer_of))]
-    fn answer_other(
-        &mut self,
-        line: u64,
-        text: &[u8],
-        out: &mut Vec<u8>,
-        end: &mut Option<Verdict>,
-    ) -> Result<(), NoMemory>
-        requires room { line < 2 ^ 63 }
-        requires may { IsReady line self.old }
-        requires open { end.old ≡ None }
-        ensures printed { OnOk result
-            (out.new.items ≡ out.old.items ++ printed (answer_of line self.old text.now)) }
-        ensures ends { OnOk result (end.new ≡ end_of (answer_of line self.old text.now)) }
-        ensures state { OnOk result (end.new ≡ None
-            → self.new ≡ state_behind (answer_of line self.old text.now) self.old) }
-        ensures may { OnOk result (end.new ≡ None → IsReady (line + 1) self.new) }
-        ensures err { OnErr result (StartsWith out.new.items out.old.items) }
-    {
-        match self.replay.reading.take_line(text) {
-            Ok(Item::Skipped) => Ok(()),
-            Ok(Item::Part) => Ok(()),
-            Ok(item) => answer_item(line, &item, &mut self.sole, &mut self.replay, out, end),
-            Err(fault) => refuse(fault.line, refused_by(fault.reason), out, end),
-        }
+/// Answers a line. Its record is read into `given`.
+#[inline(always)]
+#[tactic(auto, unfolding(crate::specs::Replay::answer_of))]
+fn answer_line<'a, N: Name, R: Wait, G: Gate>(
+    line: u64,
+    text: &[u8],
+    given: &mut Record,
+    sole: &mut Option<OpenBoard<'a, N, R, G>>,
+    replay: &mut Replay,
+    out: &mut Vec<u8>,
+    end: &mut Option<Verdict>,
+) -> Result<(), NoMemory>
+    requires room { line < 2 ^ 63 }
+    requires may { IsReady line (opened_at replay.old sole.old) }
+    requires calls { HasRoom replay.old.reading.lines sole.old }
+    requires open { end.old ≡ None }
+    ensures printed { OnOk result (out.new.items
+        ≡ out.old.items ++ printed (answer_of line (opened_at replay.old sole.old) text.now)) }
+    ensures ends { OnOk result
+        (end.new ≡ end_of (answer_of line (opened_at replay.old sole.old) text.now)) }
+    ensures state { OnOk result (end.new ≡ None → opened_at replay.new sole.new ≡ state_behind
+        (answer_of line (opened_at replay.old sole.old) text.now)
+        (opened_at replay.old sole.old)) }
+    ensures may { OnOk result
+        (end.new ≡ None → IsReady (line + 1) (opened_at replay.new sole.new)) }
+    ensures calls { HasRoom replay.new.reading.lines sole.new }
+    ensures err { OnErr result (StartsWith out.new.items out.old.items) }
+{
+    if replay.reading.read_record(text, given) {
+        return answer_record(line, given, sole, replay, out, end);
+    }
+    answer_other(line, text, sole, replay, out, end)
+}
+
+/// Answers a line that is no record, or one that is refused. It stands apart, since its item has room for a board,
+/// which a call clears as it begins.
+#[cold]
+#[inline(never)]
+#[tactic(auto, unfolding(crate::specs::Replay::answer_of))]
+fn answer_other<'a, N: Name, R: Wait, G: Gate>(
+    line: u64,
+    text: &[u8],
+    sole: &mut Option<OpenBoard<'a, N, R, G>>,
+    replay: &mut Replay,
+    out: &mut Vec<u8>,
+    end: &mut Option<Verdict>,
+) -> Result<(), NoMemory>
+    requires room { line < 2 ^ 63 }
+    requires may { IsReady line (opened_at replay.old sole.old) }
+    requires calls { HasRoom replay.old.reading.lines sole.old }
+    requires open { end.old ≡ None }
+    ensures printed { OnOk result (out.new.items
+        ≡ out.old.items ++ printed (answer_of line (opened_at replay.old sole.old) text.now)) }
+    ensures ends { OnOk result
+        (end.new ≡ end_of (answer_of line (opened_at replay.old sole.old) text.now)) }
+    ensures state { OnOk result (end.new ≡ None → opened_at replay.new sole.new ≡ state_behind
+        (answer_of line (opened_at replay.old sole.old) text.now)
+        (opened_at replay.old sole.old)) }
+    ensures may { OnOk result
+        (end.new ≡ None → IsReady (line + 1) (opened_at replay.new sole.new)) }
+    ensures calls { HasRoom replay.new.reading.lines sole.new }
+    ensures err { OnErr result (StartsWith out.new.items out.old.items) }
+{
+    match replay.reading.take_line(text) {
+        Ok(Item::Skipped) => Ok(()),
+        Ok(Item::Part) => Ok(()),
+        Ok(item) => answer_item(line, &item, sole, replay, out, end),
+        Err(fault) => refuse(fault.line, refused_by(fault.reason), out, end),
     }
 }
 
@@ -264,7 +304,7 @@ fn stop_board<'a, N: Name, R: Wait, G: Gate>(
     ensures sole { sole.new ≡ None }
 {
     if let Some(board) = sole.take() {
-        replay.board = KeptBoard::new(board.stop());
+        replay.board.state = board.stop();
     }
 }
 
@@ -290,7 +330,6 @@ impl<'a, N: Name, R: Wait, G: Gate> Answerer<Verdict> for Opened<'a, N, R, G> {
     }
 
     #[inline(always)]
-    #[tactic(auto, unfolding(crate::specs::Replay::answer_of))]
     fn answer_into(
         &mut self,
         line: u64,
@@ -298,11 +337,16 @@ impl<'a, N: Name, R: Wait, G: Gate> Answerer<Verdict> for Opened<'a, N, R, G> {
         out: &mut Vec<u8>,
         end: &mut Option<Verdict>,
     ) -> Result<(), NoMemory> {
-        if self.replay.reading.read_record(text, &mut self.given) {
-            let given = &self.given;
-            return answer_record(line, given, &mut self.sole, &mut self.replay, out, end);
-        }
-        self.answer_other(line, text, out, end)
+        let replay = &mut *self.replay;
+        answer_line(
+            line,
+            text,
+            &mut self.given,
+            &mut self.sole,
+            replay,
+            out,
+            end,
+        )
     }
 
     fn close(&mut self, _line: u64, out: &mut Vec<u8>) -> Result<Verdict, NoMemory> {

@@ -11,10 +11,10 @@ invariant-loop-ended g l =
     let ends = ends_of g.S.Source.remaining g.S.Source.given g.S.Source.before g.S.Source.faults g.S.Source.done g.S.Source.late
     g.K.Sink.contents g.K.Sink.faults in
     record {
-      may : IsReady (l.feed.lines.number + 1) l.replay;
+      may : IsReady (l.feed.lines.number + 1) l.replay.value;
       fed : IsFed l.feed (g.S.Source.given l.source);
       some : 0 < l.feed.lines.number;
-      going : IsGoing Replay Verdict answer_of (at_start l.fn.shows_state) (ends l.fn.source l.fn.sink) l.replay l.feed (ends l.source l.sink);
+      going : IsGoing Replay Verdict answer_of (at_start l.fn.shows_state) (ends l.fn.source l.fn.sink) l.replay.value l.feed (ends l.source l.sink);
     }
 
 abbrev pub decreases-loop-ended : goal.decreases-loop-ended
