@@ -1,13 +1,9 @@
 use std::sync::Wait;
 
-/// How many records of a processor an open gate lets through under one lock.
-const OPEN_TOGETHER: u8 = 64;
-
 /// Calls round the work of a processor's worker, by which a test can hold it. A gate may wait.
 pub trait Gate {
-    /// The most records of one processor that may be taken under one lock, 1 to 64; a number beside these is taken as
-    /// the nearest. A gate that answers more than 1 must not wait in `before` or `after`, since another processor may
-    /// then wait for the lock.
+    /// The most records of one processor that may be taken under one lock; 0 is taken as 1. A gate that answers more
+    /// than 1 must not wait in `before` or `after`, since another processor may then wait for the lock.
     fn together(&self) -> u8 {
         1
     }
@@ -29,7 +25,7 @@ pub struct OpenGate;
 
 impl Gate for OpenGate {
     fn together(&self) -> u8 {
-        OPEN_TOGETHER
+        u8::MAX
     }
 
     fn before<R: Wait>(&self, _rt: &R, _cpu: u8, _index: u64) {}

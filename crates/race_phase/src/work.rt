@@ -14,9 +14,6 @@ use shared_board::{Pass, SharedBoard};
 use std::alloc::Global;
 use std::sync::Wait;
 
-/// The most records that are answered together.
-const MOST_TOGETHER: u8 = 64;
-
 /// What a worker gives back.
 #[derive(Drop)]
 pub(crate) struct Worked<N: Name> {
@@ -74,5 +71,5 @@ pub(crate) fn work<N: Name, R: Wait, G: Gate>(
 fn most_together<G: Gate>(gate: &G) -> usize
     ensures least { 1 ≤ result }
 {
-    usize::from(gate.together().max(1).min(MOST_TOGETHER))
+    usize::from(gate.together().max(1))
 }
