@@ -5,6 +5,8 @@ use Rattle.std.proofs.Common.{
   zero,
   suc,
   ◌+◌,
+  ◌-◌,
+  ◌*◌,
   ◌<◌,
   ◌≤◌,
   ltb,
@@ -37,15 +39,15 @@ use Rattle.std.proofs.Common.{
   length-set,
   add-one,
 }
+use Rattle.std.proofs.Math.Nat.{div-le_of_le-mul}
 use Rattle.std.proofs.lemmas.Bool.{cases_lt, le-leb, lt-leb}
 use Rattle.std.proofs.lemmas.Grind.{get_or-set_at}
 use Rattle.std.proofs.lemmas.List.{get_or-set_other}
 use native.Mathlib.Decide.{ℕ_discrete}
-use Rattle.clk_units.specs.Ranges.{IsKhz}
 use Rattle.clk_units.specs.declared.ranges.TheConstants.{RANGE_NS}
 use Rattle.host_counter.specs.declared.Anchor.{Anchor}
 use Rattle.host_counter.specs.Time.{time_at}
-use Rattle.host_counter.proofs.Times.{time_at-mono, time_at-start}
+use Rattle.host_counter.proofs.Times.{time_at-start}
 use Rattle.tsc_scale.specs.declared.Tsc.{Tsc}
 use Rattle.board_types.specs.Legal.{is_legal}
 use Rattle.board_types.specs.declared.access.Access.{Access}
@@ -283,12 +285,12 @@ module _ (b : BoardParts) (t : TallyParts) (gap : ℕ) (x : IsTally b t) (none :
   room_pages =
       sym (spent_below-tally b t b.cpus x ∙ ap (spent_in t.versions) (sym x.cpus)) ∙ (move_fault-none gap b none).1
 
--- a count that isn't beyond the greatest has a time
-pub early_time : (anchor : Anchor) (host h : ℕ) → IsKhz anchor.khz → HasTime anchor host → anchor.start ≤ h → h ≤ host → HasTime anchor h
-early_time anchor host h rate time started le =
-    let slow = rate.slow in
-    let before = time_at-mono anchor h host (omega arith) le in
-    record { started = started; range = (let range = time.range in omega arith) }
+-- a count whose product isn't beyond that of the range has a time
+pub product_time : (anchor : Anchor) (h : ℕ) → anchor.start ≤ h → anchor.base_ns < 576460752303423488
+    → (h - anchor.start) * 1000000 ≤ anchor.khz * (576460752303423487 - anchor.base_ns) → HasTime anchor h
+unfolding time_at
+product_time anchor h started base few =
+    record { started = started; range = omega (arith, base, div-le_of_le-mul anchor.khz few) }
 
 -- the first page at its last version, page by page
 or_spent-last : (cpu v : ℕ) → LAST_VERSION ≤ v → or_spent None cpu v ≡ Some (VersionsSpent cpu v)

@@ -117,14 +117,13 @@ impl Tally {
         }
     }
 
-    /// Whether a count of the host's counter has a time, or why it has none. A count that isn't beyond the greatest of
-    /// all accesses asks for no division.
+    /// Whether a count of the host's counter has a time, or why it has none. Next to no count asks for a division.
     #[inline(always)]
     pub fn check_count(&self, h: u64) -> Result<(), TimeFault>
         ensures time { OnOk result (HasTime self.now.anchor h) }
         ensures fault { IfErr result (IsFaultAt self.now.anchor h) }
     {
-        if self.anchor.start <= h && h <= self.host {
+        if is_timed(&self.anchor, h) {
             return Ok(());
         }
         match self.anchor.time(h) {
@@ -271,6 +270,18 @@ impl Tally {
             base_ns,
         };
     }
+}
+
+/// Whether products alone show that a count has a time, as they do but in the last nanosecond of the range.
+#[inline(always)]
+#[tactic(auto, using(crate::proofs::Tallies::product_time))]
+fn is_timed(anchor: &Anchor, h: u64) -> bool
+    ensures { result ≡ true → HasTime anchor.now h }
+{
+    anchor.start <= h
+        && anchor.base_ns < RANGE_NS
+        && u128::from(h - anchor.start) * 1_000_000
+            <= u128::from(anchor.khz) * u128::from(RANGE_NS - 1 - anchor.base_ns)
 }
 
 /// The version of the wall clock's words behind an access.

@@ -1,4 +1,4 @@
-use Rattle.std.proofs.Common.{arith, ◌≡◌, ◌∙◌, ◌+◌, ◌++◌, ◌∷◌, [], ℕ, ap, sym, subst, inr, inl, List, take, drop, refl}
+use Rattle.std.proofs.Common.{arith, ◌≡◌, ◌∙◌, ◌+◌, ◌++◌, ◌∷◌, [], ℕ, ap, sym, subst, inr, inl, List, take, drop}
 use Rattle.race_phase.specs.declared.records.Record.{Record}
 use Rattle.race_phase.specs.Calls.{IsFitting, AllMade, records_of}
 use Rattle.race_phase.specs.declared.batch.Place.{Place}
