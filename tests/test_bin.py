@@ -15,6 +15,7 @@ PATH = "/usr/bin:/bin"
 NAME = "clockboard-x86_64-linux"
 """The released program."""
 RT = """#!/bin/sh
+[ "$1" = version ] && echo kit && exit
 mkdir -p out
 printf '#!/bin/sh\\necho built\\n' > out/clockboard
 chmod +x out/clockboard
@@ -112,6 +113,11 @@ class Tree(unittest.TestCase):
         self.assertEqual(self.run_it(), (0, "built\n", ""))
         status, printed = ends("tests/release")
         self.assertEqual((status, printed.splitlines()[-1]), (0, "release: the same, byte by byte"))
+        kit = self.top / "release" / f"{NAME}.kit"
+        self.assertEqual(kit.read_text(), "kit\n")
+        kit.write_text("another kit\n")
+        self.assertEqual(ends("tests/release")[0], 1)
+        kit.write_text("kit\n")
         self.edit("two")
         self.assertEqual(ends("tests/release")[0], 1)
 
