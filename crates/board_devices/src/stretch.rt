@@ -12,6 +12,7 @@ ghost use Rattle.std.specs.Prelude.{
   true,
   false,
   not,
+  IsTrue,
   nat_le,
   None,
   IfSome,
@@ -297,11 +298,72 @@ fn is_set(status: u8, k: u8) -> bool
     bit(u32::from(k), u64::from(status))
 }
 
+/// Whether every timer rests in a stretch, `status` being the HPET's before.
+// A guest that leaves the HPET alone has all of them rest, in each stretch.
+#[inline(always)]
+fn timers_rest(
+    lines: &[TickLine; 10],
+    h: &Hpet,
+    status: u8,
+    matches: &[Matches; 8],
+    span: Span,
+) -> bool
+    ensures still { IsTrue result → (k : ℕ) → k < h.now.timers → end_of span.point span.to
+        (timer_ticks span.from k h.now (timer_matches matches.now k))
+        (slice_index_or lines.now (k + 2) no_line) ≡ slice_index_or lines.now (k + 2) no_line }
+    ensures down { IsTrue result → (k : ℕ) → k < h.now.timers → output_up span k h.now
+        (bit k status) (timer_matches matches.now k) (slice_index_or lines.now (k + 2) no_line)
+        ≡ None }
+{
+    if status != 0 {
+        return false;
+    }
+    for k in 0..h.timers() {
+        if !rests(&lines[k as usize + 2], false, matches[k as usize], span) {
+            return false;
+        }
+    }
+    true
+}
+
 /// Takes the tick lines of the timers of an HPET that has had its pulses over a stretch, and adds
 /// from when on the lines are up that they drive. `status` is the HPET's before.
-// It stands apart, since a stretch that moves no line doesn't come here.
-#[inline(never)]
+// Where all timers rest, as in most stretches, that takes a few tests.
+#[inline(always)]
 pub(crate) fn run_timers(
+    lines: &mut [TickLine; 10],
+    h: &Hpet,
+    status: u8,
+    matches: &[Matches; 8],
+    span: Span,
+    times: &mut [Option<u64>; 6],
+)
+    requires order { span.from ≤ span.to }
+    requires range { span.to < 2 ^ 59 }
+    requires inside { (k : ℕ) → k < 8 → IfSome (timer_matches matches.now k).first (λ j. j
+        ≤ pulses_from HPET_HZ span.from (span.to - span.from)) }
+    requires room { (k : ℕ) → k < 8 → (slice_index_or lines.old (k + 2) no_line).counts.due
+        + (timer_matches matches.now k).count < 2 ^ 63 }
+    ensures places { length lines.new ≡ 10 }
+    ensures front { (j : ℕ) → j < 2
+        → slice_index_or lines.new j no_line ≡ slice_index_or lines.old j no_line }
+    ensures done { (k : ℕ) → k < h.now.timers → slice_index_or lines.new (k + 2) no_line
+        ≡ end_of span.point span.to (timer_ticks span.from k h.now (timer_matches matches.now k))
+        (slice_index_or lines.old (k + 2) no_line) }
+    ensures rest { (j : ℕ) → h.now.timers + 2 ≤ j
+        → slice_index_or lines.new j no_line ≡ slice_index_or lines.old j no_line }
+    ensures times { times.new
+        ≡ slots_from h.now.timers h.now (λ k. output_up span k h.now (bit k status)
+        (timer_matches matches.now k) (slice_index_or lines.old (k + 2) no_line)) times.old }
+{
+    if !timers_rest(lines, h, status, matches, span) {
+        run_timers_apart(lines, h, status, matches, span, times);
+    }
+}
+
+/// The same, with a frame of its own.
+#[inline(never)]
+fn run_timers_apart(
     lines: &mut [TickLine; 10],
     h: &Hpet,
     status: u8,
