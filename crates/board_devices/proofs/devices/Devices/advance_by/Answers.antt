@@ -48,7 +48,7 @@ pub run_pit-pit_up-requires-clause-room : goal.run_pit-pit_up-requires-clause-ro
 run_pit-pit_up-requires-clause-room c =
     let room : (line_at 0 (parts_of c.self.inside)).counts.due + (c.args.to - c.args.from) < 2 ^ 63 =
     rw (← c.self.view_is) at (c.requires.room 0 (omega arith)) in
-    omega (arith, room, c.pulses-rises.ensures.few, c.requires.few_pit)
+    omega (arith, room, c.pulses-rises.ensures.few, c.requires.pulses.few_pit)
 
 pub run_clock-rtc_up-requires-clause-room : goal.run_clock-rtc_up-requires-clause-room
 run_clock-rtc_up-requires-clause-room c =
@@ -56,12 +56,12 @@ run_clock-rtc_up-requires-clause-room c =
     rw (← c.self.view_is) at (c.requires.room 1 (omega arith)) in
     let same : (get_or c.run_pit-pit_up.new.lines 1 no_line).counts.due ≡ (line_at 1 (parts_of c.self.inside)).counts.due =
     ap (λ (l : TickParts). l.counts.due) (c.run_pit-pit_up.ensures.others 1 (λ e. absurd (omega (arith, e)))) in
-    omega (arith, room, same, c.clock_pulses-events.ensures.few_ticks, c.requires.few_rtc)
+    omega (arith, room, same, c.clock_pulses-events.ensures.few_ticks, c.requires.pulses.few_rtc)
 
 pub run_timers-requires-clause-inside : goal.run_timers-requires-clause-inside
 run_timers-requires-clause-inside c = λ k less.
     by_first (matches_of k c.self.inside.hpet) _ (timer_matches c.pulses-reach.new.matches k).first
-    (rw c.requires.hpet at (c.pulses-reach.ensures.first k))
+    (rw c.requires.pulses.hpet at (c.pulses-reach.ensures.first k))
   where
     by_first : (count : ℕ → ℕ) (n : ℕ) (first : Option ℕ) → IsFirst count n first → IfSome first (λ j. j ≤ n)
     by_first count n None h = tt
@@ -75,7 +75,7 @@ run_timers-requires-clause-room c = λ k less.
     let same : (get_or c.run_clock-rtc_up.new.lines (k + 2) no_line).counts.due ≡ (line_at (k + 2) (parts_of c.self.inside)).counts.due =
     ap (λ (l : TickParts). l.counts.due) (c.run_clock-rtc_up.ensures.others (k + 2) (λ e. absurd (omega (arith, e)))
     ∙ c.run_pit-pit_up.ensures.others (k + 2) (λ e. absurd (omega (arith, e)))) in
-    omega (arith, room, same, c.pulses-reach.ensures.few k, c.requires.few_hpet)
+    omega (arith, room, same, c.pulses-reach.ensures.few k, c.requires.pulses.few_hpet)
 
 -- the lines behind those of the 8254 and the MC146818
 behind : (c : goal.After-run_timers) → (k : ℕ) → k < 8 → get_or c.run_clock-rtc_up.new.lines (k + 2) no_line ≡ line_at (suc (suc k)) (parts_of c.self.inside)
@@ -98,14 +98,14 @@ valid c = subst IsHpet c.parts-status.ensures.parts c.parts-status.ensures.valid
 brought : (c : goal.After-run_timers)
     → Brought (parts_of c.self.inside) c.args.from (c.args.to - c.args.from) c.pulses-rises.result c.clock_pulses-events.result c.pulses-reach.new.matches
 brought c = record {
-  pit_count = rw c.requires.pit at c.pulses-rises.ensures.count;
-  pit_first = rw c.requires.pit at c.pulses-rises.ensures.first;
-  rtc_count = rw c.requires.rtc at c.clock_pulses-events.ensures.ticks;
-  rtc_first = rw c.requires.rtc at c.clock_pulses-events.ensures.first_tick;
-  update_first = rw c.requires.rtc at c.clock_pulses-events.ensures.first_update;
-  alarm_first = rw c.requires.rtc at c.clock_pulses-events.ensures.first_alarm;
-  timer_count = rw c.requires.hpet at c.pulses-reach.ensures.count;
-  timer_first = rw c.requires.hpet at c.pulses-reach.ensures.first;
+  pit_count = rw c.requires.pulses.pit at c.pulses-rises.ensures.count;
+  pit_first = rw c.requires.pulses.pit at c.pulses-rises.ensures.first;
+  rtc_count = rw c.requires.pulses.rtc at c.clock_pulses-events.ensures.ticks;
+  rtc_first = rw c.requires.pulses.rtc at c.clock_pulses-events.ensures.first_tick;
+  update_first = rw c.requires.pulses.rtc at c.clock_pulses-events.ensures.first_update;
+  alarm_first = rw c.requires.pulses.rtc at c.clock_pulses-events.ensures.first_alarm;
+  timer_count = rw c.requires.pulses.hpet at c.pulses-reach.ensures.count;
+  timer_first = rw c.requires.pulses.hpet at c.pulses-reach.ensures.first;
 }
 
 counts_is : (c : goal.After-run_timers) → c.counts_rtc-counts.result ≡ counts_rtc (parts_of c.self.inside)
@@ -144,7 +144,7 @@ end_is c = omega (arith, c.requires.order)
 
 hpet_is : (c : goal.After-run_timers)
     → c.pulses-reach.new.self ≡ hpet_pulsed_times (pulses_from HPET_HZ c.args.from (c.args.to - c.args.from)) c.self.inside.hpet
-hpet_is c = rw c.requires.hpet at c.pulses-reach.ensures.state
+hpet_is c = rw c.requires.pulses.hpet at c.pulses-reach.ensures.state
 
 -- the lines at the end
 first_line : (c : goal.After-run_timers) → get_or c.run_clock-rtc_up.new.lines 1 no_line
@@ -178,7 +178,7 @@ rtc_is c =
     ∙ ap (λ (b : Bool). counts_rtc (parts_of c.self.inside) && b) (c.is_up.ensures ∙ ap (λ (l : TickParts). l.up) one) in
     c.set_flag.ensures ∙ ap (λ (b : Bool). flagged_where b c.clock_pulses-events.new.rtc) flag
     ∙ ap (flagged_where (counts_rtc (parts_of c.self.inside) && (get_or c.run_timers.new.lines 1 no_line).up))
-    (rw c.requires.rtc at c.clock_pulses-events.ensures.state)
+    (rw c.requires.pulses.rtc at c.clock_pulses-events.ensures.state)
 
 state : (c : goal.After-run_timers)
     → parts_of (record {
@@ -190,7 +190,7 @@ state : (c : goal.After-run_timers)
     }) ≡ (run c.args.from (c.args.to - c.args.from) (parts_of c.self.inside)).state
 state c = ran-state (known c) c.next_point-point.result c.args.to c.run_timers.new.lines c.pulses-rises.new.self c.set_flag.new.rtc c.pulses-reach.new.self
     (point_is c) (end_is c) c.run_timers.ensures.places (ends c)
-    (rw c.requires.pit at c.pulses-rises.ensures.state) (rtc_is c) (hpet_is c)
+    (rw c.requires.pulses.pit at c.pulses-rises.ensures.state) (rtc_is c) (hpet_is c)
 
 pub invariant_of-self-2 : goal.invariant_of-self-2
 invariant_of-self-2 c = subst IsDevices (sym (state c ∙ run-parted c.args.from (c.args.to - c.args.from) (parts_of c.self.inside) (sound c)))
@@ -250,7 +250,7 @@ pub take_ticks-requires-clause-rooms : goal.take_ticks-requires-clause-rooms
 take_ticks-requires-clause-rooms c = λ k less.
     let room : (line_at (k + 2) (parts_of c.self.inside)).counts.due + (c.args.to - c.args.from) < 2 ^ 63 =
     rw (← c.self.view_is) at (c.requires.room (k + 2) (omega arith)) in
-    omega (arith, room, c.pulses-reach.ensures.few k, c.requires.few_hpet)
+    omega (arith, room, c.pulses-reach.ensures.few k, c.requires.pulses.few_hpet)
 
 -- .. and the timers that matched are there
 pub take_ticks-requires-clause-inside : goal.take_ticks-requires-clause-inside
@@ -276,14 +276,14 @@ still c = record {
 still_brought : (c : goal.After-take_ticks)
     → Brought (parts_of c.self.inside) c.args.from (c.args.to - c.args.from) c.pulses-rises.result c.clock_pulses-events.result c.pulses-reach.new.matches
 still_brought c = record {
-  pit_count = rw c.requires.pit at c.pulses-rises.ensures.count;
-  pit_first = rw c.requires.pit at c.pulses-rises.ensures.first;
-  rtc_count = rw c.requires.rtc at c.clock_pulses-events.ensures.ticks;
-  rtc_first = rw c.requires.rtc at c.clock_pulses-events.ensures.first_tick;
-  update_first = rw c.requires.rtc at c.clock_pulses-events.ensures.first_update;
-  alarm_first = rw c.requires.rtc at c.clock_pulses-events.ensures.first_alarm;
-  timer_count = rw c.requires.hpet at c.pulses-reach.ensures.count;
-  timer_first = rw c.requires.hpet at c.pulses-reach.ensures.first;
+  pit_count = rw c.requires.pulses.pit at c.pulses-rises.ensures.count;
+  pit_first = rw c.requires.pulses.pit at c.pulses-rises.ensures.first;
+  rtc_count = rw c.requires.pulses.rtc at c.clock_pulses-events.ensures.ticks;
+  rtc_first = rw c.requires.pulses.rtc at c.clock_pulses-events.ensures.first_tick;
+  update_first = rw c.requires.pulses.rtc at c.clock_pulses-events.ensures.first_update;
+  alarm_first = rw c.requires.pulses.rtc at c.clock_pulses-events.ensures.first_alarm;
+  timer_count = rw c.requires.pulses.hpet at c.pulses-reach.ensures.count;
+  timer_first = rw c.requires.pulses.hpet at c.pulses-reach.ensures.first;
 }
 
 -- the ticks of the 8254 and of the MC146818
@@ -318,7 +318,7 @@ still_end c = omega (arith, c.requires.order)
 
 still_hpet : (c : goal.After-take_ticks)
     → c.pulses-reach.new.self ≡ hpet_pulsed_times (pulses_from HPET_HZ c.args.from (c.args.to - c.args.from)) c.self.inside.hpet
-still_hpet c = rw c.requires.hpet at c.pulses-reach.ensures.state
+still_hpet c = rw c.requires.pulses.hpet at c.pulses-reach.ensures.state
 
 -- the lines at the end: each has its ticks
 early : (c : goal.After-take_ticks) → c.args.to < c.next_point-point.result
@@ -355,7 +355,7 @@ still_rtc_is : (c : goal.After-take_ticks) → c.clock_pulses-events.new.rtc
 still_rtc_is c =
     let m : ℕ = pulses_from RTC_HZ c.args.from (c.args.to - c.args.from) in
     let b : Bool = counts_rtc (parts_of c.self.inside) in
-    rw c.requires.rtc at c.clock_pulses-events.ensures.state
+    rw c.requires.pulses.rtc at c.clock_pulses-events.ensures.state
     ∙ sym (flag-again b (pf_of c.self.inside.rtc) (ticks_in (divider_of c.self.inside.rtc) m) (rtc_pulsed_times m c.self.inside.rtc)
     (IsRtc-rtc_pulsed_times m c.self.inside.rtc (still c).rtc) (pf_of-rtc_pulsed_times m c.self.inside.rtc (still c).rtc))
     ∙ ap (λ (u : Bool). flagged_where (b && u) (rtc_pulsed_times m c.self.inside.rtc))
@@ -371,7 +371,7 @@ still_state : (c : goal.After-take_ticks)
     }) ≡ (run c.args.from (c.args.to - c.args.from) (parts_of c.self.inside)).state
 still_state c = ran-state (still_known c) c.next_point-point.result c.args.to c.take_ticks.new.lines c.pulses-rises.new.self c.clock_pulses-events.new.rtc
     c.pulses-reach.new.self (still_point c) (still_end c) c.take_ticks.ensures.places (still_ends c)
-    (rw c.requires.pit at c.pulses-rises.ensures.state) (still_rtc_is c) (still_hpet c)
+    (rw c.requires.pulses.pit at c.pulses-rises.ensures.state) (still_rtc_is c) (still_hpet c)
 
 pub invariant_of-self : goal.invariant_of-self
 invariant_of-self c = subst IsDevices (sym (still_state c ∙ run-parted c.args.from (c.args.to - c.args.from) (parts_of c.self.inside) (still c)))
@@ -442,7 +442,7 @@ quiet c = record {
   point = (still_known c).point;
   early = omega (arith, early c, c.next_point-point.ensures, c.requires.order);
   ticks = sym (still_brought c).rtc_count ∙ still_ticks c;
-  updates = sym (rw c.requires.rtc at c.clock_pulses-events.ensures.updates) ∙ still_updates c;
+  updates = sym (rw c.requires.pulses.rtc at c.clock_pulses-events.ensures.updates) ∙ still_updates c;
   found = found c;
   level = λ k less. level c k;
 }
