@@ -111,7 +111,7 @@ pub(crate) fn run_pit(
         (slice_index_or lines.old 0 no_line) }
 {
     if lines[0].is_up() {
-        run_up(lines, 0, !legacy, rises.count);
+        count_ticks(lines, 0, !legacy, rises.count);
         return Some(span.from);
     }
     let first = first_at(rises.first, PIT_HZ, span.from, span.to);
@@ -145,7 +145,7 @@ pub(crate) fn run_clock(
         (slice_index_or lines.old 1 no_line) }
 {
     if lines[1].is_up() {
-        run_up(lines, 1, b, events.cycle.ticks);
+        count_ticks(lines, 1, b, events.cycle.ticks);
         return Some(span.from);
     }
     if !b {
@@ -156,11 +156,11 @@ pub(crate) fn run_clock(
     run_at(lines, 1, ticks, span)
 }
 
-/// Takes the line at place `k`, which is up, over a stretch: its ticks are counted where `b` holds,
-/// and it stays up.
+/// Counts `count` ticks of the line at place `k` where `b` holds, whenever they come: that is all
+/// that they do to a line that is up.
 #[inline(always)]
 #[tactic(auto, using(crate::proofs::Idle::no_ticks))]
-fn run_up(lines: &mut [TickLine; 10], k: usize, b: bool, count: u64)
+pub(crate) fn count_ticks(lines: &mut [TickLine; 10], k: usize, b: bool, count: u64)
     requires place { k < 10 }
     requires room { (slice_index_or lines.old k no_line).counts.due + count < 2 ^ 63 }
     ensures places { length lines.new ≡ 10 }
@@ -278,7 +278,7 @@ fn run_timer(
     }
     let timer = h.timer(k);
     if lines[k as usize + 2].is_up() && !timer.is_level() {
-        run_up(lines, k as usize + 2, h.has_ticks(k), matches.count);
+        count_ticks(lines, k as usize + 2, h.has_ticks(k), matches.count);
         return Some(span.from);
     }
     let first = first_at(matches.first, HPET_HZ, span.from, span.to);
