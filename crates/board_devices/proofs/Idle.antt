@@ -1,7 +1,10 @@
 -- A line that no tick and no catch-up point moves.
 use Rattle.std.specs.Option.{is_some}
-use Rattle.std.proofs.Common.{◌≡◌, ℕ, Bool, true, false, cond, leb, ltb, ◌&&◌, ◌||◌, ◌<◌, Option, Some, None, refl, ap, sym, ◌∙◌, inl, inr, arith}
+use Rattle.std.proofs.Common.{◌≡◌, ℕ, zero, suc, ◌%◌, ◌^◌, ◌<◌, Bool, true, false, cond, eqb, leb, ltb, ◌&&◌, ◌||◌}
+use Rattle.std.proofs.Common.{List, Option, Some, None, refl, ap, sym, ◌∙◌, inl, inr, arith}
 use Rattle.std.proofs.lemmas.Bool.{cases_lt, lt-ltb, lt-leb, true≢false}
+use Rattle.std.proofs.Math.Nat.{zero-div}
+use Rattle.clk_units.specs.Bits.{bit}
 use Rattle.clk_units.specs.Events.{first_at}
 use Rattle.hpet_comparator.specs.declared.stretch.Matches.{Matches}
 use Rattle.hpet_comparator.specs.Parts.{is_level, is_enabled}
@@ -15,7 +18,7 @@ use Rattle.tick_policy.specs.Stretch.{caught_up_where, line_end, is_caught, up_f
 use Rattle.tick_policy.proofs.Ticks.{ticked_times-zero, caught_up-still, is_waiting-up}
 use Rattle.board_devices.specs.declared.stretch.Ticks.{Ticks}
 use Rattle.board_devices.specs.declared.stretch.Span.{Span}
-use Rattle.board_devices.specs.private.Stretch.{counted, moves, end_of, flag_from, output_up}
+use Rattle.board_devices.specs.private.Stretch.{counted, moves, end_of, flag_from, output_up, slot_of, with_rise, slots_from}
 
 -- without a tick, and with a catch-up point that finds nothing
 still : (point to count : ℕ) (first : Option ℕ) (l : TickParts) → (ltb 0 count || (is_some first || (leb point to && is_waiting l))) ≡ false
@@ -118,3 +121,14 @@ rest-output span k h set m l never down clear idle =
     by_type true false ticks = refl
     by_type false enabled true = by_line l.up (leb span.point span.to && is_waiting l) down idle
     by_type false enabled false = by_line l.up (leb span.point span.to && is_waiting l) down idle
+
+-- .. where no status bit is set
+pub no_bit : (k status : ℕ) → status ≡ 0 → bit k status ≡ false
+no_bit k status none = ap (bit k) none ∙ ap (λ (n : ℕ). eqb (n % 2) 1) (zero-div (2 ^ k))
+
+-- outputs that are down add no time
+pub slots-down : (n : ℕ) (h : HpetParts) (us : ℕ → Option ℕ) (times : List (Option ℕ)) → ((k : ℕ) → k < n → us k ≡ None) → slots_from n h us times ≡ times
+slots-down zero h us times down = refl
+slots-down (suc n) h us times down =
+    ap (λ (u : Option ℕ). with_rise u (slot_of n h) (slots_from n h us times)) (down n (omega arith))
+    ∙ slots-down n h us times (λ k less. down k (omega (arith, less)))

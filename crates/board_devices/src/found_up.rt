@@ -7,9 +7,11 @@ ghost use Rattle.std.specs.Prelude.{
   ◌<◌,
   ◌≤◌,
   ◌^◌,
+  ◌&&◌,
   true,
   false,
   not,
+  nat_lt,
   IsTrue,
   length,
   slice_index_or,
@@ -22,6 +24,7 @@ ghost use Rattle.hpet_registers.specs.Stretch.{timer_matches};
 ghost use Rattle.tick_policy.specs.Line.{ticked_times};
 ghost use Rattle.board_devices.specs.Places.{no_line};
 
+use crate::stretch::count_ticks;
 use hpet_comparator::Matches;
 use hpet_registers::Hpet;
 use pit_counter::Rises;
@@ -116,24 +119,8 @@ pub(crate) fn take_ticks(
     ensures rest { (j : ℕ) → h.now.timers + 2 ≤ j
         → slice_index_or lines.new j no_line ≡ slice_index_or lines.old j no_line }
 {
-    take_rises(lines, legacy, rises);
+    count_ticks(lines, 0, !legacy, rises);
     take_matches(lines, h, reach, matches);
-}
-
-/// Counts ticks of the 8254, which legacy replacement leaves out.
-#[inline(always)]
-#[tactic(auto, using(crate::proofs::Idle::no_ticks))]
-fn take_rises(lines: &mut [TickLine; 10], legacy: bool, rises: u64)
-    requires room { (slice_index_or lines.old 0 no_line).counts.due + rises < 2 ^ 63 }
-    ensures places { length lines.new ≡ 10 }
-    ensures pit { slice_index_or lines.new 0 no_line
-        ≡ ticked_times (if not legacy then rises else 0) (slice_index_or lines.old 0 no_line) }
-    ensures others { (j : ℕ) → j ≢ 0
-        → slice_index_or lines.new j no_line ≡ slice_index_or lines.old j no_line }
-{
-    if !legacy {
-        lines[0].due(rises);
-    }
 }
 
 /// Counts ticks of the timers.
@@ -154,24 +141,16 @@ fn take_matches(lines: &mut [TickLine; 10], h: &Hpet, reach: u8, matches: &[Matc
         → slice_index_or lines.new j no_line ≡ slice_index_or lines.old j no_line }
 {
     for k in 0..reach {
-        take_timer(lines, h, k, matches[k as usize].count);
+        let count = matches[k as usize].count;
+        count_ticks(lines, k as usize + 2, has_due(h, k, count), count);
     }
 }
 
-/// Counts `count` ticks of timer `k`.
+/// Whether timer `k`, which matched `count` times, has ticks that are due.
 #[inline(always)]
-#[tactic(auto, using(crate::proofs::Idle::no_ticks))]
-fn take_timer(lines: &mut [TickLine; 10], h: &Hpet, k: u8, count: u64)
-    requires place { k < 8 }
-    requires room { (slice_index_or lines.old (k + 2) no_line).counts.due + count < 2 ^ 63 }
-    ensures places { length lines.new ≡ 10 }
-    ensures here { slice_index_or lines.new (k + 2) no_line
-        ≡ ticked_times (if has_ticks k h.now then count else 0)
-        (slice_index_or lines.old (k + 2) no_line) }
-    ensures others { (j : ℕ) → j ≢ k + 2
-        → slice_index_or lines.new j no_line ≡ slice_index_or lines.old j no_line }
+fn has_due(h: &Hpet, k: u8, count: u64) -> bool
+    requires { k < 8 }
+    ensures { result ≡ (nat_lt 0 count && has_ticks k h.now) }
 {
-    if count > 0 && h.has_ticks(k) {
-        lines[k as usize + 2].due(count);
-    }
+    count > 0 && h.has_ticks(k)
 }

@@ -3,7 +3,8 @@ ghost use Rattle.std.specs.Prelude.{◌≡◌, ◌-◌, ◌+◌, ◌%◌, ◌<�
 ghost use Rattle.pit_readback.specs.declared.TheConstants.{PIT_HZ};
 ghost use Rattle.rtc_registers.specs.declared.TheConstants.{RTC_HZ};
 ghost use Rattle.hpet_registers.specs.declared.hpet.TheConstants.{HPET_HZ};
-ghost use Rattle.clk_units.specs.Pulses.{pulses_by, pulses_from};
+ghost use Rattle.clk_units.specs.Pulses.{pulses_by};
+ghost use Rattle.board_devices.specs.private.Pulses.{ArePulses};
 
 use clk_units::pulses_between;
 use hpet_registers::HPET_HZ;
@@ -40,12 +41,7 @@ pub(crate) struct PulseCounts {
 pub(crate) fn pulse_counts(from: u64, to: u64) -> PulseCounts
     requires order { from ≤ to }
     requires range { to < 2 ^ 59 }
-    ensures pit { result.pit ≡ pulses_from PIT_HZ from (to - from) }
-    ensures few_pit { result.pit ≤ to - from }
-    ensures rtc { result.rtc ≡ pulses_from RTC_HZ from (to - from) }
-    ensures few_rtc { result.rtc ≤ to - from }
-    ensures hpet { result.hpet ≡ pulses_from HPET_HZ from (to - from) }
-    ensures few_hpet { result.hpet ≤ to - from }
+    ensures { ArePulses from to result }
 {
     let start = from % SECOND_NS;
     let end = start + (to - from);
@@ -64,12 +60,7 @@ fn counts_within(from: u64, to: u64, start: u64, end: u64) -> PulseCounts
     requires start { start ≡ from % 1000000000 }
     requires end { end ≡ start + (to - from) }
     requires one_second { end < 1000000000 }
-    ensures pit { result.pit ≡ pulses_from PIT_HZ from (to - from) }
-    ensures few_pit { result.pit ≤ to - from }
-    ensures rtc { result.rtc ≡ pulses_from RTC_HZ from (to - from) }
-    ensures few_rtc { result.rtc ≤ to - from }
-    ensures hpet { result.hpet ≡ pulses_from HPET_HZ from (to - from) }
-    ensures few_hpet { result.hpet ≤ to - from }
+    ensures { ArePulses from to result }
 {
     PulseCounts {
         pit: pit_pulses(end) - pit_pulses(start),
@@ -83,12 +74,7 @@ fn counts_within(from: u64, to: u64, start: u64, end: u64) -> PulseCounts
 fn counts_across(from: u64, to: u64) -> PulseCounts
     requires order { from ≤ to }
     requires range { to < 2 ^ 59 }
-    ensures pit { result.pit ≡ pulses_from PIT_HZ from (to - from) }
-    ensures few_pit { result.pit ≤ to - from }
-    ensures rtc { result.rtc ≡ pulses_from RTC_HZ from (to - from) }
-    ensures few_rtc { result.rtc ≤ to - from }
-    ensures hpet { result.hpet ≡ pulses_from HPET_HZ from (to - from) }
-    ensures few_hpet { result.hpet ≤ to - from }
+    ensures { ArePulses from to result }
 {
     PulseCounts {
         pit: pulses_between(from, to, PIT_HZ),

@@ -20,10 +20,6 @@ ghost use Rattle.std.specs.Prelude.{
   if◌then◌else◌,
 };
 ghost use Rattle.clk_units.specs.Events.{IsFirst};
-ghost use Rattle.clk_units.specs.Pulses.{pulses_from};
-ghost use Rattle.pit_readback.specs.declared.TheConstants.{PIT_HZ};
-ghost use Rattle.rtc_registers.specs.declared.TheConstants.{RTC_HZ};
-ghost use Rattle.hpet_registers.specs.declared.hpet.TheConstants.{HPET_HZ};
 ghost use Rattle.rtc_cycle.specs.Divider.{ticks_in, updates_in};
 ghost use Rattle.rtc_registers.specs.Pulses.{rtc_pulsed_times, alarms_in};
 ghost use Rattle.rtc_registers.specs.Registers.{divider_of};
@@ -34,6 +30,7 @@ ghost use Rattle.board_devices.specs.Rises.{one_if, lifts};
 ghost use Rattle.board_devices.specs.Places.{line_at};
 ghost use Rattle.board_devices.specs.Lines.{levels};
 ghost use Rattle.board_devices.specs.Run.{run, IsNextEdge};
+ghost use Rattle.board_devices.specs.private.Pulses.{ArePulses};
 ghost use Rattle.board_devices.specs.private.Stretch.{told_levels};
 
 use crate::clock::{counts_rtc, set_flag};
@@ -83,12 +80,7 @@ impl Devices {
     ) -> bool
         requires order { from ≤ to }
         requires range { to < 2 ^ 59 }
-        requires pit { pulses.pit ≡ pulses_from PIT_HZ from (to - from) }
-        requires few_pit { pulses.pit ≤ to - from }
-        requires rtc { pulses.rtc ≡ pulses_from RTC_HZ from (to - from) }
-        requires few_rtc { pulses.rtc ≤ to - from }
-        requires hpet { pulses.hpet ≡ pulses_from HPET_HZ from (to - from) }
-        requires few_hpet { pulses.hpet ≤ to - from }
+        requires pulses { ArePulses from to pulses }
         requires room { (k : ℕ) → k < 10 → (line_at k self.old).counts.due + (to - from) < 2 ^ 63 }
         ensures state { self.new ≡ (run from (to - from) self.old).state }
         ensures levels { (j : ℕ) → from + j ≤ to → levels (run from j self.old).state
@@ -149,12 +141,7 @@ impl Devices {
     ) -> bool
         requires order { from ≤ to }
         requires range { to < 2 ^ 59 }
-        requires pit { pulses.pit ≡ pulses_from PIT_HZ from (to - from) }
-        requires few_pit { pulses.pit ≤ to - from }
-        requires rtc { pulses.rtc ≡ pulses_from RTC_HZ from (to - from) }
-        requires few_rtc { pulses.rtc ≤ to - from }
-        requires hpet { pulses.hpet ≡ pulses_from HPET_HZ from (to - from) }
-        requires few_hpet { pulses.hpet ≤ to - from }
+        requires pulses { ArePulses from to pulses }
         requires room { (k : ℕ) → k < 10 → (line_at k self.old).counts.due + (to - from) < 2 ^ 63 }
         ensures state { self.new ≡ (run from (to - from) self.old).state }
         ensures levels { (j : ℕ) → from + j ≤ to → levels (run from j self.old).state

@@ -12,6 +12,7 @@ ghost use Rattle.std.specs.Prelude.{
   true,
   false,
   not,
+  IsTrue,
   nat_le,
   None,
   IfSome,
@@ -110,7 +111,7 @@ pub(crate) fn run_pit(
         (slice_index_or lines.old 0 no_line) }
 {
     if lines[0].is_up() {
-        run_up(lines, 0, !legacy, rises.count);
+        count_ticks(lines, 0, !legacy, rises.count);
         return Some(span.from);
     }
     let first = first_at(rises.first, PIT_HZ, span.from, span.to);
@@ -144,7 +145,7 @@ pub(crate) fn run_clock(
         (slice_index_or lines.old 1 no_line) }
 {
     if lines[1].is_up() {
-        run_up(lines, 1, b, events.cycle.ticks);
+        count_ticks(lines, 1, b, events.cycle.ticks);
         return Some(span.from);
     }
     if !b {
@@ -155,11 +156,11 @@ pub(crate) fn run_clock(
     run_at(lines, 1, ticks, span)
 }
 
-/// Takes the line at place `k`, which is up, over a stretch: its ticks are counted where `b` holds,
-/// and it stays up.
+/// Counts `count` ticks of the line at place `k` where `b` holds, whenever they come: that is all
+/// that they do to a line that is up.
 #[inline(always)]
 #[tactic(auto, using(crate::proofs::Idle::no_ticks))]
-fn run_up(lines: &mut [TickLine; 10], k: usize, b: bool, count: u64)
+pub(crate) fn count_ticks(lines: &mut [TickLine; 10], k: usize, b: bool, count: u64)
     requires place { k < 10 }
     requires room { (slice_index_or lines.old k no_line).counts.due + count < 2 ^ 63 }
     ensures places { length lines.new ≡ 10 }
@@ -277,7 +278,7 @@ fn run_timer(
     }
     let timer = h.timer(k);
     if lines[k as usize + 2].is_up() && !timer.is_level() {
-        run_up(lines, k as usize + 2, h.has_ticks(k), matches.count);
+        count_ticks(lines, k as usize + 2, h.has_ticks(k), matches.count);
         return Some(span.from);
     }
     let first = first_at(matches.first, HPET_HZ, span.from, span.to);
@@ -297,11 +298,72 @@ fn is_set(status: u8, k: u8) -> bool
     bit(u32::from(k), u64::from(status))
 }
 
+/// Whether every timer rests in a stretch, `status` being the HPET's before.
+// A guest that leaves the HPET alone has all of them rest, in each stretch.
+#[inline(always)]
+fn timers_rest(
+    lines: &[TickLine; 10],
+    h: &Hpet,
+    status: u8,
+    matches: &[Matches; 8],
+    span: Span,
+) -> bool
+    ensures still { IsTrue result → (k : ℕ) → k < h.now.timers → end_of span.point span.to
+        (timer_ticks span.from k h.now (timer_matches matches.now k))
+        (slice_index_or lines.now (k + 2) no_line) ≡ slice_index_or lines.now (k + 2) no_line }
+    ensures down { IsTrue result → (k : ℕ) → k < h.now.timers → output_up span k h.now
+        (bit k status) (timer_matches matches.now k) (slice_index_or lines.now (k + 2) no_line)
+        ≡ None }
+{
+    if status != 0 {
+        return false;
+    }
+    for k in 0..h.timers() {
+        if !rests(&lines[k as usize + 2], false, matches[k as usize], span) {
+            return false;
+        }
+    }
+    true
+}
+
 /// Takes the tick lines of the timers of an HPET that has had its pulses over a stretch, and adds
 /// from when on the lines are up that they drive. `status` is the HPET's before.
-// It stands apart, since a stretch that moves no line doesn't come here.
-#[inline(never)]
+// Where all timers rest, as in most stretches, that takes a few tests.
+#[inline(always)]
 pub(crate) fn run_timers(
+    lines: &mut [TickLine; 10],
+    h: &Hpet,
+    status: u8,
+    matches: &[Matches; 8],
+    span: Span,
+    times: &mut [Option<u64>; 6],
+)
+    requires order { span.from ≤ span.to }
+    requires range { span.to < 2 ^ 59 }
+    requires inside { (k : ℕ) → k < 8 → IfSome (timer_matches matches.now k).first (λ j. j
+        ≤ pulses_from HPET_HZ span.from (span.to - span.from)) }
+    requires room { (k : ℕ) → k < 8 → (slice_index_or lines.old (k + 2) no_line).counts.due
+        + (timer_matches matches.now k).count < 2 ^ 63 }
+    ensures places { length lines.new ≡ 10 }
+    ensures front { (j : ℕ) → j < 2
+        → slice_index_or lines.new j no_line ≡ slice_index_or lines.old j no_line }
+    ensures done { (k : ℕ) → k < h.now.timers → slice_index_or lines.new (k + 2) no_line
+        ≡ end_of span.point span.to (timer_ticks span.from k h.now (timer_matches matches.now k))
+        (slice_index_or lines.old (k + 2) no_line) }
+    ensures rest { (j : ℕ) → h.now.timers + 2 ≤ j
+        → slice_index_or lines.new j no_line ≡ slice_index_or lines.old j no_line }
+    ensures times { times.new
+        ≡ slots_from h.now.timers h.now (λ k. output_up span k h.now (bit k status)
+        (timer_matches matches.now k) (slice_index_or lines.old (k + 2) no_line)) times.old }
+{
+    if !timers_rest(lines, h, status, matches, span) {
+        run_timers_apart(lines, h, status, matches, span, times);
+    }
+}
+
+/// The same, with a frame of its own.
+#[inline(never)]
+fn run_timers_apart(
     lines: &mut [TickLine; 10],
     h: &Hpet,
     status: u8,

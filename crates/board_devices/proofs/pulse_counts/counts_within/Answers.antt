@@ -1,4 +1,5 @@
-use Rattle.std.proofs.Common.{◌-◌, arith}
+use Rattle.std.proofs.Common.{◌≡◌, ℕ, ◌-◌, ◌≤◌, arith}
+use Rattle.clk_units.specs.Pulses.{pulses_by, pulses_from}
 use Rattle.clk_units.proofs.Pulses.{pulses_by-mono, pulses_from_le}
 use Rattle.pit_readback.specs.declared.TheConstants.{PIT_HZ}
 use Rattle.rtc_registers.specs.declared.TheConstants.{RTC_HZ}
@@ -16,36 +17,32 @@ overflow_sub-result-2 c = omega (arith, pulses_by-mono RTC_HZ c.args.start c.arg
 pub overflow_sub-result-3 : goal.overflow_sub-result-3
 overflow_sub-result-3 c = omega (arith, pulses_by-mono HPET_HZ c.args.start c.args.end (omega (arith, c.requires.end)), c.hpet_pulses.ensures, c.hpet_pulses-2.ensures)
 
--- what is between
-pub returns-clause-pit : goal.returns-clause-pit
-returns-clause-pit c = omega (
+-- what is between, and no more than the nanoseconds
+count : (hz end start : ℕ) (c : goal.After-hpet_pulses-2) → end ≡ pulses_by hz c.args.end → start ≡ pulses_by hz c.args.start
+    → end - start ≡ pulses_from hz c.args.from (c.args.to - c.args.from)
+count hz end start c end_is start_is = omega (
   arith,
-  within_second PIT_HZ c.args.from c.args.to c.args.start c.args.end c.requires.order c.requires.start c.requires.end c.requires.one_second,
-  c.pit_pulses.ensures,
-  c.pit_pulses-2.ensures,
+  end_is,
+  start_is,
+  within_second hz c.args.from c.args.to c.args.start c.args.end c.requires.order c.requires.start c.requires.end c.requires.one_second,
 )
 
-pub returns-clause-few_pit : goal.returns-clause-few_pit
-returns-clause-few_pit c = omega (arith, returns-clause-pit c, pulses_from_le PIT_HZ c.args.from (c.args.to - c.args.from) (omega arith))
+few : (hz n : ℕ) (c : goal.After-hpet_pulses-2) → n ≡ pulses_from hz c.args.from (c.args.to - c.args.from) → hz ≤ 1000000000 → n ≤ c.args.to - c.args.from
+few hz n c is slow = omega (arith, is, pulses_from_le hz c.args.from (c.args.to - c.args.from) slow)
 
-pub returns-clause-rtc : goal.returns-clause-rtc
-returns-clause-rtc c = omega (
-  arith,
-  within_second RTC_HZ c.args.from c.args.to c.args.start c.args.end c.requires.order c.requires.start c.requires.end c.requires.one_second,
-  c.rtc_pulses.ensures,
-  c.rtc_pulses-2.ensures,
-)
-
-pub returns-clause-few_rtc : goal.returns-clause-few_rtc
-returns-clause-few_rtc c = omega (arith, returns-clause-rtc c, pulses_from_le RTC_HZ c.args.from (c.args.to - c.args.from) (omega arith))
-
-pub returns-clause-hpet : goal.returns-clause-hpet
-returns-clause-hpet c = omega (
-  arith,
-  within_second HPET_HZ c.args.from c.args.to c.args.start c.args.end c.requires.order c.requires.start c.requires.end c.requires.one_second,
-  c.hpet_pulses.ensures,
-  c.hpet_pulses-2.ensures,
-)
-
-pub returns-clause-few_hpet : goal.returns-clause-few_hpet
-returns-clause-few_hpet c = omega (arith, returns-clause-hpet c, pulses_from_le HPET_HZ c.args.from (c.args.to - c.args.from) (omega arith))
+pub returns : goal.returns
+returns c =
+    let pit : c.pit_pulses.result - c.pit_pulses-2.result ≡ pulses_from PIT_HZ c.args.from (c.args.to - c.args.from) =
+    count PIT_HZ _ _ c c.pit_pulses.ensures c.pit_pulses-2.ensures in
+    let rtc : c.rtc_pulses.result - c.rtc_pulses-2.result ≡ pulses_from RTC_HZ c.args.from (c.args.to - c.args.from) =
+    count RTC_HZ _ _ c c.rtc_pulses.ensures c.rtc_pulses-2.ensures in
+    let hpet : c.hpet_pulses.result - c.hpet_pulses-2.result ≡ pulses_from HPET_HZ c.args.from (c.args.to - c.args.from) =
+    count HPET_HZ _ _ c c.hpet_pulses.ensures c.hpet_pulses-2.ensures in
+    record {
+      pit = pit;
+      few_pit = few PIT_HZ _ c pit (omega arith);
+      rtc = rtc;
+      few_rtc = few RTC_HZ _ c rtc (omega arith);
+      hpet = hpet;
+      few_hpet = few HPET_HZ _ c hpet (omega arith);
+    }

@@ -42,13 +42,14 @@ use Rattle.board_devices.proofs.Timers.{ends-timers, times-are, has_ticks-pulsed
 use Rattle.board_devices.proofs.Idle.{end-early, end-unseen}
 use Rattle.board_devices.proofs.Still.{Quiet, levels-still, flag-again}
 use Rattle.board_devices.proofs.devices.Devices.advance_by.Goals as goal
+use Rattle.board_devices.proofs.devices.Devices.advance_by.Goals.{After-clock_pulses-events}
 
 -- there is room for the ticks
 pub run_pit-pit_up-requires-clause-room : goal.run_pit-pit_up-requires-clause-room
 run_pit-pit_up-requires-clause-room c =
     let room : (line_at 0 (parts_of c.self.inside)).counts.due + (c.args.to - c.args.from) < 2 ^ 63 =
     rw (← c.self.view_is) at (c.requires.room 0 (omega arith)) in
-    omega (arith, room, c.pulses-rises.ensures.few, c.requires.few_pit)
+    omega (arith, room, c.pulses-rises.ensures.few, c.requires.pulses.few_pit)
 
 pub run_clock-rtc_up-requires-clause-room : goal.run_clock-rtc_up-requires-clause-room
 run_clock-rtc_up-requires-clause-room c =
@@ -56,12 +57,12 @@ run_clock-rtc_up-requires-clause-room c =
     rw (← c.self.view_is) at (c.requires.room 1 (omega arith)) in
     let same : (get_or c.run_pit-pit_up.new.lines 1 no_line).counts.due ≡ (line_at 1 (parts_of c.self.inside)).counts.due =
     ap (λ (l : TickParts). l.counts.due) (c.run_pit-pit_up.ensures.others 1 (λ e. absurd (omega (arith, e)))) in
-    omega (arith, room, same, c.clock_pulses-events.ensures.few_ticks, c.requires.few_rtc)
+    omega (arith, room, same, c.clock_pulses-events.ensures.few_ticks, c.requires.pulses.few_rtc)
 
 pub run_timers-requires-clause-inside : goal.run_timers-requires-clause-inside
 run_timers-requires-clause-inside c = λ k less.
     by_first (matches_of k c.self.inside.hpet) _ (timer_matches c.pulses-reach.new.matches k).first
-    (rw c.requires.hpet at (c.pulses-reach.ensures.first k))
+    (rw c.requires.pulses.hpet at (c.pulses-reach.ensures.first k))
   where
     by_first : (count : ℕ → ℕ) (n : ℕ) (first : Option ℕ) → IsFirst count n first → IfSome first (λ j. j ≤ n)
     by_first count n None h = tt
@@ -75,7 +76,72 @@ run_timers-requires-clause-room c = λ k less.
     let same : (get_or c.run_clock-rtc_up.new.lines (k + 2) no_line).counts.due ≡ (line_at (k + 2) (parts_of c.self.inside)).counts.due =
     ap (λ (l : TickParts). l.counts.due) (c.run_clock-rtc_up.ensures.others (k + 2) (λ e. absurd (omega (arith, e)))
     ∙ c.run_pit-pit_up.ensures.others (k + 2) (λ e. absurd (omega (arith, e)))) in
-    omega (arith, room, same, c.pulses-reach.ensures.few k, c.requires.few_hpet)
+    omega (arith, room, same, c.pulses-reach.ensures.few k, c.requires.pulses.few_hpet)
+
+-- what is known where the devices have had their pulses
+sound : (c : After-clock_pulses-events) → Sound (parts_of c.self.inside)
+sound c = record {
+  rtc = rw c.parts-clock.ensures.value at c.parts-clock.ensures.valid;
+  joined = c.self.invariant;
+}
+
+valid : (c : After-clock_pulses-events) → IsHpet c.self.inside.hpet
+valid c = subst IsHpet c.parts-status.ensures.parts c.parts-status.ensures.valid
+
+brought : (c : After-clock_pulses-events)
+    → Brought (parts_of c.self.inside) c.args.from (c.args.to - c.args.from) c.pulses-rises.result c.clock_pulses-events.result c.pulses-reach.new.matches
+brought c = record {
+  pit_count = rw c.requires.pulses.pit at c.pulses-rises.ensures.count;
+  pit_first = rw c.requires.pulses.pit at c.pulses-rises.ensures.first;
+  rtc_count = rw c.requires.pulses.rtc at c.clock_pulses-events.ensures.ticks;
+  rtc_first = rw c.requires.pulses.rtc at c.clock_pulses-events.ensures.first_tick;
+  update_first = rw c.requires.pulses.rtc at c.clock_pulses-events.ensures.first_update;
+  alarm_first = rw c.requires.pulses.rtc at c.clock_pulses-events.ensures.first_alarm;
+  timer_count = rw c.requires.pulses.hpet at c.pulses-reach.ensures.count;
+  timer_first = rw c.requires.pulses.hpet at c.pulses-reach.ensures.first;
+}
+
+-- the ticks of the 8254 and of the MC146818
+abbrev pit_of : (c : After-clock_pulses-events) → Ticks
+pit_of c = counted true (not c.legacy-legacy.result) c.pulses-rises.result.count (first_at PIT_HZ c.args.from c.pulses-rises.result.first)
+
+abbrev rtc_of : (c : After-clock_pulses-events) → Ticks
+rtc_of c = counted (counts_rtc (parts_of c.self.inside)) (counts_rtc (parts_of c.self.inside)) c.clock_pulses-events.result.cycle.ticks
+    (first_at RTC_HZ c.args.from c.clock_pulses-events.result.cycle.first_tick)
+
+-- the first catch-up point
+ahead : (c : After-clock_pulses-events) → ℕ
+ahead c = (c.args.from / c.self.inside.slew_ns + 1) * c.self.inside.slew_ns - c.args.from
+
+known : (c : After-clock_pulses-events)
+    → Known (parts_of c.self.inside) c.args.from (c.args.to - c.args.from) (ahead c)
+    c.pulses-rises.result c.clock_pulses-events.result c.pulses-reach.new.matches (pit_of c) (rtc_of c)
+unfolding ahead
+known c = record {
+  sound = sound c;
+  point = next_point c.self.inside.slew_ns c.args.from (omega (arith, c.self.invariant.slew_low));
+  brought = brought c;
+  pit_is = rw c.legacy-legacy.ensures refl;
+  rtc_is = refl;
+}
+
+point_is : (c : After-clock_pulses-events) → c.next_point-point.result ≡ c.args.from + ahead c
+unfolding ahead
+point_is c = omega (arith, (known c).point.later, c.next_point-point.ensures)
+
+end_is : (c : After-clock_pulses-events) → c.args.to ≡ c.args.from + (c.args.to - c.args.from)
+end_is c = omega (arith, c.requires.order)
+
+hpet_is : (c : After-clock_pulses-events)
+    → c.pulses-reach.new.self ≡ hpet_pulsed_times (pulses_from HPET_HZ c.args.from (c.args.to - c.args.from)) c.self.inside.hpet
+hpet_is c = rw c.requires.pulses.hpet at c.pulses-reach.ensures.state
+
+-- where the lines were taken over the stretch
+abbrev pulsed : (c : goal.After-run_timers) → After-clock_pulses-events
+pulsed c = (goal.at.returns-clause-state c).After-clock_pulses-events
+
+counts_is : (c : goal.After-run_timers) → c.counts_rtc-counts.result ≡ counts_rtc (parts_of c.self.inside)
+counts_is c = rw (c.counts_rtc-counts.ensures, c.legacy-legacy.ensures, c.shown_of-shown.ensures.pie) refl
 
 -- the lines behind those of the 8254 and the MC146818
 behind : (c : goal.After-run_timers) → (k : ℕ) → k < 8 → get_or c.run_clock-rtc_up.new.lines (k + 2) no_line ≡ line_at (suc (suc k)) (parts_of c.self.inside)
@@ -85,84 +151,25 @@ behind c k less =
     ∙ c.run_pit-pit_up.ensures.others (k + 2) (λ e. absurd (omega (arith, e)))
     ∙ ap (λ (i : ℕ). get_or c.self.inside.ticks i no_line) place
 
--- what is known
-sound : (c : goal.After-run_timers) → Sound (parts_of c.self.inside)
-sound c = record {
-  rtc = rw c.parts-clock.ensures.value at c.parts-clock.ensures.valid;
-  joined = c.self.invariant;
-}
-
-valid : (c : goal.After-run_timers) → IsHpet c.self.inside.hpet
-valid c = subst IsHpet c.parts-status.ensures.parts c.parts-status.ensures.valid
-
-brought : (c : goal.After-run_timers)
-    → Brought (parts_of c.self.inside) c.args.from (c.args.to - c.args.from) c.pulses-rises.result c.clock_pulses-events.result c.pulses-reach.new.matches
-brought c = record {
-  pit_count = rw c.requires.pit at c.pulses-rises.ensures.count;
-  pit_first = rw c.requires.pit at c.pulses-rises.ensures.first;
-  rtc_count = rw c.requires.rtc at c.clock_pulses-events.ensures.ticks;
-  rtc_first = rw c.requires.rtc at c.clock_pulses-events.ensures.first_tick;
-  update_first = rw c.requires.rtc at c.clock_pulses-events.ensures.first_update;
-  alarm_first = rw c.requires.rtc at c.clock_pulses-events.ensures.first_alarm;
-  timer_count = rw c.requires.hpet at c.pulses-reach.ensures.count;
-  timer_first = rw c.requires.hpet at c.pulses-reach.ensures.first;
-}
-
-counts_is : (c : goal.After-run_timers) → c.counts_rtc-counts.result ≡ counts_rtc (parts_of c.self.inside)
-counts_is c = rw (c.counts_rtc-counts.ensures, c.legacy-legacy.ensures, c.shown_of-shown.ensures.pie) refl
-
--- the ticks of the 8254 and of the MC146818
-abbrev pit_of : (c : goal.After-run_timers) → Ticks
-pit_of c = counted true (not c.legacy-legacy.result) c.pulses-rises.result.count (first_at PIT_HZ c.args.from c.pulses-rises.result.first)
-
-abbrev rtc_of : (c : goal.After-run_timers) → Ticks
-rtc_of c = counted c.counts_rtc-counts.result c.counts_rtc-counts.result c.clock_pulses-events.result.cycle.ticks
-    (first_at RTC_HZ c.args.from c.clock_pulses-events.result.cycle.first_tick)
-
--- the first catch-up point
-ahead : (c : goal.After-run_timers) → ℕ
-ahead c = (c.args.from / c.self.inside.slew_ns + 1) * c.self.inside.slew_ns - c.args.from
-
-known : (c : goal.After-run_timers)
-    → Known (parts_of c.self.inside) c.args.from (c.args.to - c.args.from) (ahead c)
-    c.pulses-rises.result c.clock_pulses-events.result c.pulses-reach.new.matches (pit_of c) (rtc_of c)
-unfolding ahead
-known c = record {
-  sound = sound c;
-  point = next_point c.self.inside.slew_ns c.args.from (omega (arith, c.self.invariant.slew_low));
-  brought = brought c;
-  pit_is = rw c.legacy-legacy.ensures refl;
-  rtc_is = rw (c.counts_rtc-counts.ensures, c.legacy-legacy.ensures, c.shown_of-shown.ensures.pie) refl;
-}
-
-point_is : (c : goal.After-run_timers) → c.next_point-point.result ≡ c.args.from + ahead c
-unfolding ahead
-point_is c = omega (arith, (known c).point.later, c.next_point-point.ensures)
-
-end_is : (c : goal.After-run_timers) → c.args.to ≡ c.args.from + (c.args.to - c.args.from)
-end_is c = omega (arith, c.requires.order)
-
-hpet_is : (c : goal.After-run_timers)
-    → c.pulses-reach.new.self ≡ hpet_pulsed_times (pulses_from HPET_HZ c.args.from (c.args.to - c.args.from)) c.self.inside.hpet
-hpet_is c = rw c.requires.hpet at c.pulses-reach.ensures.state
-
 -- the lines at the end
 first_line : (c : goal.After-run_timers) → get_or c.run_clock-rtc_up.new.lines 1 no_line
-    ≡ end_of c.next_point-point.result c.args.to (rtc_of c) (line_at 1 (parts_of c.self.inside))
+    ≡ end_of c.next_point-point.result c.args.to (rtc_of (pulsed c)) (line_at 1 (parts_of c.self.inside))
 first_line c =
     c.run_clock-rtc_up.ensures.here
-    ∙ ap (end_of c.next_point-point.result c.args.to (rtc_of c)) (c.run_pit-pit_up.ensures.others 1 (λ e. absurd (omega (arith, e))))
+    ∙ ap (λ (b : Bool). end_of c.next_point-point.result c.args.to (counted b b c.clock_pulses-events.result.cycle.ticks
+    (first_at RTC_HZ c.args.from c.clock_pulses-events.result.cycle.first_tick)) (get_or c.run_pit-pit_up.new.lines 1 no_line)) (counts_is c)
+    ∙ ap (end_of c.next_point-point.result c.args.to (rtc_of (pulsed c))) (c.run_pit-pit_up.ensures.others 1 (λ e. absurd (omega (arith, e))))
 
 ends : (c : goal.After-run_timers) → (k : ℕ) → k < 10 → get_or c.run_timers.new.lines k no_line
     ≡ end_of c.next_point-point.result c.args.to
-    (ticks_at c.args.from c.self.inside.hpet c.pulses-reach.new.matches (pit_of c) (rtc_of c) k) (line_at k (parts_of c.self.inside))
+    (ticks_at c.args.from c.self.inside.hpet c.pulses-reach.new.matches (pit_of (pulsed c)) (rtc_of (pulsed c)) k) (line_at k (parts_of c.self.inside))
 ends c zero less = c.run_timers.ensures.front 0 (omega arith) ∙ c.run_clock-rtc_up.ensures.others 0 (λ e. absurd (omega (arith, e))) ∙ c.run_pit-pit_up.ensures.here
 ends c (suc zero) less = c.run_timers.ensures.front 1 (omega arith) ∙ first_line c
-ends c (suc (suc k)) less = ends-timers (known c) c.next_point-point.result c.args.to c.run_clock-rtc_up.new.lines c.run_timers.new.lines (behind c)
+ends c (suc (suc k)) less = ends-timers (known (pulsed c)) c.next_point-point.result c.args.to c.run_clock-rtc_up.new.lines c.run_timers.new.lines (behind c)
     (λ j inside. subst (λ (h : HpetParts). get_or c.run_timers.new.lines (j + 2) no_line ≡ end_of c.next_point-point.result c.args.to
-    (timer_ticks c.args.from j h (timer_matches c.pulses-reach.new.matches j)) (get_or c.run_clock-rtc_up.new.lines (j + 2) no_line)) (hpet_is c)
-    (c.run_timers.ensures.done j (subst (λ (h : HpetParts). j < h.timers) (sym (hpet_is c)) inside)))
-    (λ j past. c.run_timers.ensures.rest j (subst (λ (h : HpetParts). h.timers + 2 ≤ j) (sym (hpet_is c)) past))
+    (timer_ticks c.args.from j h (timer_matches c.pulses-reach.new.matches j)) (get_or c.run_clock-rtc_up.new.lines (j + 2) no_line)) (hpet_is (pulsed c))
+    (c.run_timers.ensures.done j (subst (λ (h : HpetParts). j < h.timers) (sym (hpet_is (pulsed c))) inside)))
+    (λ j past. c.run_timers.ensures.rest j (subst (λ (h : HpetParts). h.timers + 2 ≤ j) (sym (hpet_is (pulsed c))) past))
     c.pulses-reach.ensures.none k (omega arith)
 
 -- PF follows its line
@@ -178,7 +185,7 @@ rtc_is c =
     ∙ ap (λ (b : Bool). counts_rtc (parts_of c.self.inside) && b) (c.is_up.ensures ∙ ap (λ (l : TickParts). l.up) one) in
     c.set_flag.ensures ∙ ap (λ (b : Bool). flagged_where b c.clock_pulses-events.new.rtc) flag
     ∙ ap (flagged_where (counts_rtc (parts_of c.self.inside) && (get_or c.run_timers.new.lines 1 no_line).up))
-    (rw c.requires.rtc at c.clock_pulses-events.ensures.state)
+    (rw c.requires.pulses.rtc at c.clock_pulses-events.ensures.state)
 
 state : (c : goal.After-run_timers)
     → parts_of (record {
@@ -188,30 +195,32 @@ state : (c : goal.After-run_timers)
       ticks = c.run_timers.new.lines;
       slew_ns = c.self.inside.slew_ns;
     }) ≡ (run c.args.from (c.args.to - c.args.from) (parts_of c.self.inside)).state
-state c = ran-state (known c) c.next_point-point.result c.args.to c.run_timers.new.lines c.pulses-rises.new.self c.set_flag.new.rtc c.pulses-reach.new.self
-    (point_is c) (end_is c) c.run_timers.ensures.places (ends c)
-    (rw c.requires.pit at c.pulses-rises.ensures.state) (rtc_is c) (hpet_is c)
+state c = ran-state (known (pulsed c)) c.next_point-point.result c.args.to c.run_timers.new.lines c.pulses-rises.new.self c.set_flag.new.rtc
+    c.pulses-reach.new.self (point_is (pulsed c)) (end_is (pulsed c)) c.run_timers.ensures.places (ends c)
+    (rw c.requires.pulses.pit at c.pulses-rises.ensures.state) (rtc_is c) (hpet_is (pulsed c))
 
 pub invariant_of-self-2 : goal.invariant_of-self-2
-invariant_of-self-2 c = subst IsDevices (sym (state c ∙ run-parted c.args.from (c.args.to - c.args.from) (parts_of c.self.inside) (sound c)))
-    (IsDevices-parted (known c) (c.args.to - c.args.from))
+invariant_of-self-2 c = subst IsDevices (sym (state c ∙ run-parted c.args.from (c.args.to - c.args.from) (parts_of c.self.inside) (sound (pulsed c))))
+    (IsDevices-parted (known (pulsed c)) (c.args.to - c.args.from))
 
 pub returns-clause-state : goal.returns-clause-state
 returns-clause-state c = state c ∙ ap (λ (d : DeviceParts). (run c.args.from (c.args.to - c.args.from) d).state) c.self.view_is
 
 pub returns-clause-due : goal.returns-clause-due
-returns-clause-due c = λ k less. rw (← c.self.view_is) (due-few (known c) c.next_point-point.result c.args.to c.run_timers.new.lines (ends c) k less)
+returns-clause-due c = λ k less. rw (← c.self.view_is) (due-few (known (pulsed c)) c.next_point-point.result c.args.to c.run_timers.new.lines (ends c) k less)
 
 -- from when on the lines of the 8254 and of the MC146818 are up
-pit_up : (c : goal.After-run_timers) → c.run_pit-pit_up.result ≡ up_at (known c) 0
-pit_up c = c.run_pit-pit_up.ensures.up ∙ up-is (known c) c.next_point-point.result c.args.to 0 (point_is c) (end_is c)
+pit_up : (c : goal.After-run_timers) → c.run_pit-pit_up.result ≡ up_at (known (pulsed c)) 0
+pit_up c = c.run_pit-pit_up.ensures.up ∙ up-is (known (pulsed c)) c.next_point-point.result c.args.to 0 (point_is (pulsed c)) (end_is (pulsed c))
 
-irq_up : (c : goal.After-run_timers) → c.irq_up-irq.result ≡ irq_at (known c)
+irq_up : (c : goal.After-run_timers) → c.irq_up-irq.result ≡ irq_at (known (pulsed c))
 irq_up c =
-    let line : c.run_clock-rtc_up.result ≡ up_at (known c) 1 =
+    let line : c.run_clock-rtc_up.result ≡ up_at (known (pulsed c)) 1 =
     c.run_clock-rtc_up.ensures.up
-    ∙ ap (up_of c.args.from c.next_point-point.result c.args.to (rtc_of c)) (c.run_pit-pit_up.ensures.others 1 (λ e. absurd (omega (arith, e))))
-    ∙ up-is (known c) c.next_point-point.result c.args.to 1 (point_is c) (end_is c) in
+    ∙ ap (λ (b : Bool). up_of c.args.from c.next_point-point.result c.args.to (counted b b c.clock_pulses-events.result.cycle.ticks
+    (first_at RTC_HZ c.args.from c.clock_pulses-events.result.cycle.first_tick)) (get_or c.run_pit-pit_up.new.lines 1 no_line)) (counts_is c)
+    ∙ ap (up_of c.args.from c.next_point-point.result c.args.to (rtc_of (pulsed c))) (c.run_pit-pit_up.ensures.others 1 (λ e. absurd (omega (arith, e))))
+    ∙ up-is (known (pulsed c)) c.next_point-point.result c.args.to 1 (point_is (pulsed c)) (end_is (pulsed c)) in
     c.irq_up-irq.ensures
     ∙ by_parts c.args.from _ _ line c.shown_of-shown.ensures.aie c.shown_of-shown.ensures.af c.shown_of-shown.ensures.uie c.shown_of-shown.ensures.uf
   where
@@ -221,7 +230,7 @@ irq_up c =
     by_parts from alarm update x y z v w = rw (x, y, z, v, w) refl
 
 -- from when on all lines are up
-times : (c : goal.After-run_timers) → c.run_timers.new.times ≡ lines_from (known c) (outs (known c))
+times : (c : goal.After-run_timers) → c.run_timers.new.times ≡ lines_from (known (pulsed c)) (outs (known (pulsed c)))
 times c =
     let status : ℕ = c.parts-status.result.status in
     let before : List TickParts = c.run_clock-rtc_up.new.lines in
@@ -230,27 +239,34 @@ times c =
     let span : Span = record { from = c.args.from; to = c.args.to; point = c.next_point-point.result } in
     c.run_timers.ensures.times
     ∙ ap (λ (g : HpetParts). slots_from g.timers g
-    (λ k. output_up span k g (bit k status) (timer_matches ms k) (get_or before (k + 2) no_line)) c.front_times.result) (hpet_is c)
+    (λ k. output_up span k g (bit k status) (timer_matches ms k) (get_or before (k + 2) no_line)) c.front_times.result) (hpet_is (pulsed c))
     ∙ ap (λ (i : ℕ). slots_from h.timers h (λ k. output_up (record { from = c.args.from; to = i; point = c.next_point-point.result }) k h (bit k status)
-    (timer_matches ms k) (get_or before (k + 2) no_line)) c.front_times.result) (end_is c)
+    (timer_matches ms k) (get_or before (k + 2) no_line)) c.front_times.result) (end_is (pulsed c))
     ∙ ap (λ (i : ℕ). slots_from h.timers h (λ k. output_up (record { from = c.args.from; to = c.args.from + (c.args.to - c.args.from); point = i }) k h
-    (bit k status) (timer_matches ms k) (get_or before (k + 2) no_line)) c.front_times.result) (point_is c)
-    ∙ ap (slots_from h.timers h (λ k. output_up (record { from = c.args.from; to = c.args.from + (c.args.to - c.args.from); point = c.args.from + ahead c }) k h
-    (bit k status) (timer_matches ms k) (get_or before (k + 2) no_line))) c.front_times.ensures
-    ∙ times-are (known c) status before c.run_pit-pit_up.result c.irq_up-irq.result c.legacy-legacy.result (valid c)
+    (bit k status) (timer_matches ms k) (get_or before (k + 2) no_line)) c.front_times.result) (point_is (pulsed c))
+    ∙ ap (slots_from h.timers h (λ k. output_up (record {
+      from = c.args.from;
+      to = c.args.from + (c.args.to - c.args.from);
+      point = c.args.from + ahead (pulsed c);
+    }) k h (bit k status) (timer_matches ms k) (get_or before (k + 2) no_line))) c.front_times.ensures
+    ∙ times-are (known (pulsed c)) status before c.run_pit-pit_up.result c.irq_up-irq.result c.legacy-legacy.result (valid (pulsed c))
     (ap (λ (g : HpetParts). g.status) c.parts-status.ensures.parts) (behind c) (pit_up c) (irq_up c) c.legacy-legacy.ensures
 
 pub returns-clause-levels : goal.returns-clause-levels
 returns-clause-levels c = λ j le.
     ap (λ (d : DeviceParts). levels (run c.args.from j d).state) (sym c.self.view_is)
-    ∙ ran-levels (known c) c.run_timers.new.times (times c) j (omega (arith, le, end_is c))
+    ∙ ran-levels (known (pulsed c)) c.run_timers.new.times (times c) j (omega (arith, le, end_is (pulsed c)))
+
+-- where their ticks alone were counted
+abbrev still_pulsed : (c : goal.After-take_ticks) → After-clock_pulses-events
+still_pulsed c = (goal.at.returns-then-finds_up-clause-state c).After-clock_pulses-events
 
 -- where no line moved: there is room for the ticks
 pub take_ticks-requires-clause-rooms : goal.take_ticks-requires-clause-rooms
 take_ticks-requires-clause-rooms c = λ k less.
     let room : (line_at (k + 2) (parts_of c.self.inside)).counts.due + (c.args.to - c.args.from) < 2 ^ 63 =
     rw (← c.self.view_is) at (c.requires.room (k + 2) (omega arith)) in
-    omega (arith, room, c.pulses-reach.ensures.few k, c.requires.few_hpet)
+    omega (arith, room, c.pulses-reach.ensures.few k, c.requires.pulses.few_hpet)
 
 -- .. and the timers that matched are there
 pub take_ticks-requires-clause-inside : goal.take_ticks-requires-clause-inside
@@ -266,86 +282,31 @@ still_ticks c = c.if-finds_up.ensures.ticks refl
 still_updates : (c : goal.After-take_ticks) → c.clock_pulses-events.result.cycle.updates ≡ 0
 still_updates c = c.if-finds_up.ensures.updates refl
 
--- what is known
-still : (c : goal.After-take_ticks) → Sound (parts_of c.self.inside)
-still c = record {
-  rtc = rw c.parts-clock.ensures.value at c.parts-clock.ensures.valid;
-  joined = c.self.invariant;
-}
-
-still_brought : (c : goal.After-take_ticks)
-    → Brought (parts_of c.self.inside) c.args.from (c.args.to - c.args.from) c.pulses-rises.result c.clock_pulses-events.result c.pulses-reach.new.matches
-still_brought c = record {
-  pit_count = rw c.requires.pit at c.pulses-rises.ensures.count;
-  pit_first = rw c.requires.pit at c.pulses-rises.ensures.first;
-  rtc_count = rw c.requires.rtc at c.clock_pulses-events.ensures.ticks;
-  rtc_first = rw c.requires.rtc at c.clock_pulses-events.ensures.first_tick;
-  update_first = rw c.requires.rtc at c.clock_pulses-events.ensures.first_update;
-  alarm_first = rw c.requires.rtc at c.clock_pulses-events.ensures.first_alarm;
-  timer_count = rw c.requires.hpet at c.pulses-reach.ensures.count;
-  timer_first = rw c.requires.hpet at c.pulses-reach.ensures.first;
-}
-
--- the ticks of the 8254 and of the MC146818
-still_pit : (c : goal.After-take_ticks) → Ticks
-still_pit c = counted true (not (is_legacy c.self.inside.hpet)) c.pulses-rises.result.count (first_at PIT_HZ c.args.from c.pulses-rises.result.first)
-
-still_rtc : (c : goal.After-take_ticks) → Ticks
-still_rtc c = counted (counts_rtc (parts_of c.self.inside)) (counts_rtc (parts_of c.self.inside)) c.clock_pulses-events.result.cycle.ticks
-    (first_at RTC_HZ c.args.from c.clock_pulses-events.result.cycle.first_tick)
-
-still_ahead : (c : goal.After-take_ticks) → ℕ
-still_ahead c = (c.args.from / c.self.inside.slew_ns + 1) * c.self.inside.slew_ns - c.args.from
-
-still_known : (c : goal.After-take_ticks)
-    → Known (parts_of c.self.inside) c.args.from (c.args.to - c.args.from) (still_ahead c)
-    c.pulses-rises.result c.clock_pulses-events.result c.pulses-reach.new.matches (still_pit c) (still_rtc c)
-unfolding still_ahead still_pit still_rtc
-still_known c = record {
-  sound = still c;
-  point = next_point c.self.inside.slew_ns c.args.from (omega (arith, c.self.invariant.slew_low));
-  brought = still_brought c;
-  pit_is = refl;
-  rtc_is = refl;
-}
-
-still_point : (c : goal.After-take_ticks) → c.next_point-point.result ≡ c.args.from + still_ahead c
-unfolding still_ahead
-still_point c = omega (arith, (still_known c).point.later, c.next_point-point.ensures)
-
-still_end : (c : goal.After-take_ticks) → c.args.to ≡ c.args.from + (c.args.to - c.args.from)
-still_end c = omega (arith, c.requires.order)
-
-still_hpet : (c : goal.After-take_ticks)
-    → c.pulses-reach.new.self ≡ hpet_pulsed_times (pulses_from HPET_HZ c.args.from (c.args.to - c.args.from)) c.self.inside.hpet
-still_hpet c = rw c.requires.hpet at c.pulses-reach.ensures.state
-
 -- the lines at the end: each has its ticks
 early : (c : goal.After-take_ticks) → c.args.to < c.next_point-point.result
 early c = c.if-to-point.true
 
 still_ends : (c : goal.After-take_ticks) → (k : ℕ) → k < 10 → get_or c.take_ticks.new.lines k no_line
     ≡ end_of c.next_point-point.result c.args.to
-    (ticks_at c.args.from c.self.inside.hpet c.pulses-reach.new.matches (still_pit c) (still_rtc c) k) (line_at k (parts_of c.self.inside))
-unfolding still_pit still_rtc
+    (ticks_at c.args.from c.self.inside.hpet c.pulses-reach.new.matches (pit_of (still_pulsed c)) (rtc_of (still_pulsed c)) k)
+    (line_at k (parts_of c.self.inside))
 still_ends c zero less =
     c.take_ticks.ensures.pit
-    ∙ ap (λ (b : Bool). ticked_times (cond (not b) c.pulses-rises.result.count 0) (line_at 0 (parts_of c.self.inside))) c.legacy-legacy.ensures
-    ∙ sym (end-early c.next_point-point.result c.args.to c.pulses-rises.result.count (not (is_legacy c.self.inside.hpet))
+    ∙ sym (end-early c.next_point-point.result c.args.to c.pulses-rises.result.count (not c.legacy-legacy.result)
     (first_at PIT_HZ c.args.from c.pulses-rises.result.first) (line_at 0 (parts_of c.self.inside)) (early c))
 still_ends c (suc zero) less =
     c.take_ticks.ensures.clock
     ∙ sym (end-unseen c.next_point-point.result c.args.to c.clock_pulses-events.result.cycle.ticks (counts_rtc (parts_of c.self.inside))
     (first_at RTC_HZ c.args.from c.clock_pulses-events.result.cycle.first_tick) (line_at 1 (parts_of c.self.inside)) (early c)
     (still_ticks c))
-still_ends c (suc (suc k)) less = ends-timers (still_known c) c.next_point-point.result c.args.to c.self.inside.ticks c.take_ticks.new.lines
+still_ends c (suc (suc k)) less = ends-timers (known (still_pulsed c)) c.next_point-point.result c.args.to c.self.inside.ticks c.take_ticks.new.lines
     (λ j small. ap (λ (i : ℕ). get_or c.self.inside.ticks i no_line) (omega arith))
-    (λ j inside. c.take_ticks.ensures.done j (subst (λ (h : HpetParts). j < h.timers) (sym (still_hpet c)) inside)
+    (λ j inside. c.take_ticks.ensures.done j (subst (λ (h : HpetParts). j < h.timers) (sym (hpet_is (still_pulsed c))) inside)
     ∙ ap (λ (h : HpetParts). ticked_times (cond (has_ticks j h) (timer_matches c.pulses-reach.new.matches j).count 0)
-    (get_or c.self.inside.ticks (j + 2) no_line)) (still_hpet c)
+    (get_or c.self.inside.ticks (j + 2) no_line)) (hpet_is (still_pulsed c))
     ∙ sym (end-early c.next_point-point.result c.args.to (timer_matches c.pulses-reach.new.matches j).count _ _ (get_or c.self.inside.ticks (j + 2) no_line)
     (early c)))
-    (λ j past. c.take_ticks.ensures.rest j (subst (λ (h : HpetParts). h.timers + 2 ≤ j) (sym (still_hpet c)) past))
+    (λ j past. c.take_ticks.ensures.rest j (subst (λ (h : HpetParts). h.timers + 2 ≤ j) (sym (hpet_is (still_pulsed c))) past))
     c.pulses-reach.ensures.none k (omega arith)
 
 -- PF follows its line, which is as it was
@@ -355,9 +316,9 @@ still_rtc_is : (c : goal.After-take_ticks) → c.clock_pulses-events.new.rtc
 still_rtc_is c =
     let m : ℕ = pulses_from RTC_HZ c.args.from (c.args.to - c.args.from) in
     let b : Bool = counts_rtc (parts_of c.self.inside) in
-    rw c.requires.rtc at c.clock_pulses-events.ensures.state
+    rw c.requires.pulses.rtc at c.clock_pulses-events.ensures.state
     ∙ sym (flag-again b (pf_of c.self.inside.rtc) (ticks_in (divider_of c.self.inside.rtc) m) (rtc_pulsed_times m c.self.inside.rtc)
-    (IsRtc-rtc_pulsed_times m c.self.inside.rtc (still c).rtc) (pf_of-rtc_pulsed_times m c.self.inside.rtc (still c).rtc))
+    (IsRtc-rtc_pulsed_times m c.self.inside.rtc (sound (still_pulsed c)).rtc) (pf_of-rtc_pulsed_times m c.self.inside.rtc (sound (still_pulsed c)).rtc))
     ∙ ap (λ (u : Bool). flagged_where (b && u) (rtc_pulsed_times m c.self.inside.rtc))
     (sym (ap (λ (l : TickParts). l.up) c.take_ticks.ensures.clock ∙ c.self.invariant.flag))
 
@@ -369,27 +330,27 @@ still_state : (c : goal.After-take_ticks)
       ticks = c.take_ticks.new.lines;
       slew_ns = c.self.inside.slew_ns;
     }) ≡ (run c.args.from (c.args.to - c.args.from) (parts_of c.self.inside)).state
-still_state c = ran-state (still_known c) c.next_point-point.result c.args.to c.take_ticks.new.lines c.pulses-rises.new.self c.clock_pulses-events.new.rtc
-    c.pulses-reach.new.self (still_point c) (still_end c) c.take_ticks.ensures.places (still_ends c)
-    (rw c.requires.pit at c.pulses-rises.ensures.state) (still_rtc_is c) (still_hpet c)
+still_state c = ran-state (known (still_pulsed c)) c.next_point-point.result c.args.to c.take_ticks.new.lines c.pulses-rises.new.self
+    c.clock_pulses-events.new.rtc c.pulses-reach.new.self (point_is (still_pulsed c)) (end_is (still_pulsed c)) c.take_ticks.ensures.places (still_ends c)
+    (rw c.requires.pulses.pit at c.pulses-rises.ensures.state) (still_rtc_is c) (hpet_is (still_pulsed c))
 
 pub invariant_of-self : goal.invariant_of-self
-invariant_of-self c = subst IsDevices (sym (still_state c ∙ run-parted c.args.from (c.args.to - c.args.from) (parts_of c.self.inside) (still c)))
-    (IsDevices-parted (still_known c) (c.args.to - c.args.from))
+invariant_of-self c = subst IsDevices (sym (still_state c ∙ run-parted c.args.from (c.args.to - c.args.from) (parts_of c.self.inside) (sound (still_pulsed c))))
+    (IsDevices-parted (known (still_pulsed c)) (c.args.to - c.args.from))
 
 pub returns-then-finds_up-clause-state : goal.returns-then-finds_up-clause-state
 returns-then-finds_up-clause-state c = still_state c ∙ ap (λ (d : DeviceParts). (run c.args.from (c.args.to - c.args.from) d).state) c.self.view_is
 
 pub returns-then-finds_up-clause-due : goal.returns-then-finds_up-clause-due
 returns-then-finds_up-clause-due c = λ k less. rw (← c.self.view_is)
-    (due-few (still_known c) c.next_point-point.result c.args.to c.take_ticks.new.lines (still_ends c) k less)
+    (due-few (known (still_pulsed c)) c.next_point-point.result c.args.to c.take_ticks.new.lines (still_ends c) k less)
 
 -- a timer that matches is there
 there : (c : goal.After-take_ticks) (k : ℕ) → 0 < (timer_matches c.pulses-reach.new.matches k).count → k < c.pulses-reach.new.self.timers
 there c k some = elim (cases_lt k c.self.inside.hpet.timers) [
   | inl inside ↦
       let same : c.pulses-reach.new.self.timers ≡ c.self.inside.hpet.timers =
-      ap (λ (h : HpetParts). h.timers) (still_hpet c)
+      ap (λ (h : HpetParts). h.timers) (hpet_is (still_pulsed c))
       ∙ timers-hpet_pulsed_times (pulses_from HPET_HZ c.args.from (c.args.to - c.args.from)) c.self.inside.hpet in
       omega (arith, inside, same)
   | inr gone ↦ absurd (omega (arith, some, ap (λ (m : Matches). m.count) (c.pulses-reach.ensures.none k gone)))
@@ -409,20 +370,20 @@ found : (c : goal.After-take_ticks) (k : ℕ) → k < 10 → 0 < source (parts_o
 found c zero less some =
     let due : (not (is_legacy c.self.inside.hpet) ≡ true)
     × (0 < rises_in (counter_of c.self.inside.pit 0) (pulses_from PIT_HZ c.args.from (c.args.to - c.args.from))) = some_where _ _ some in
-    c.if-finds_up.ensures.pit refl (omega (arith, due.1, (still_brought c).pit_count))
+    c.if-finds_up.ensures.pit refl (omega (arith, due.1, (brought (still_pulsed c)).pit_count))
     (c.legacy-legacy.ensures ∙ not-true (is_legacy c.self.inside.hpet) due.0)
 found c (suc zero) less some =
     let due : (counts_rtc (parts_of c.self.inside) ≡ true)
     × (0 < ticks_in (divider_of c.self.inside.rtc) (pulses_from RTC_HZ c.args.from (c.args.to - c.args.from))) = some_where _ _ some in
-    absurd (omega (arith, due.1, (still_brought c).rtc_count, still_ticks c))
+    absurd (omega (arith, due.1, (brought (still_pulsed c)).rtc_count, still_ticks c))
 found c (suc (suc k)) less some =
     let due : (has_ticks k c.self.inside.hpet ≡ true)
     × (0 < matches_of k c.self.inside.hpet (pulses_from HPET_HZ c.args.from (c.args.to - c.args.from))) = some_where _ _ some in
-    let count : 0 < (timer_matches c.pulses-reach.new.matches k).count = omega (arith, due.1, (still_brought c).timer_count k) in
+    let count : 0 < (timer_matches c.pulses-reach.new.matches k).count = omega (arith, due.1, (brought (still_pulsed c)).timer_count k) in
     let place : suc (suc k) ≡ k + 2 = omega arith in
     ap (λ (i : ℕ). (get_or c.self.inside.ticks i no_line).up) place
     ∙ c.if-finds_up.ensures.timers refl k (there c k count) count
-    (ap (has_ticks k) (still_hpet c) ∙ has_ticks-pulsed k (pulses_from HPET_HZ c.args.from (c.args.to - c.args.from)) c.self.inside.hpet ∙ due.0)
+    (ap (has_ticks k) (hpet_is (still_pulsed c)) ∙ has_ticks-pulsed k (pulses_from HPET_HZ c.args.from (c.args.to - c.args.from)) c.self.inside.hpet ∙ due.0)
 
 -- no timer of level type matches
 level : (c : goal.After-take_ticks) (k : ℕ) → is_level (timer_at k c.self.inside.hpet) ≡ true
@@ -430,19 +391,19 @@ level : (c : goal.After-take_ticks) (k : ℕ) → is_level (timer_at k c.self.in
 level c k is_on = elim (cases_lt 0 (timer_matches c.pulses-reach.new.matches k).count) [
   | inl some ↦ absurd (true≢false (sym is_on
       ∙ sym (is_level-hpet_pulsed_times k (pulses_from HPET_HZ c.args.from (c.args.to - c.args.from)) c.self.inside.hpet)
-      ∙ sym (ap (λ (h : HpetParts). is_level (timer_at k h)) (still_hpet c)) ∙ c.if-finds_up.ensures.edge refl k (there c k some) some))
-  | inr none ↦ omega (arith, none, (still_brought c).timer_count k)
+      ∙ sym (ap (λ (h : HpetParts). is_level (timer_at k h)) (hpet_is (still_pulsed c))) ∙ c.if-finds_up.ensures.edge refl k (there c k some) some))
+  | inr none ↦ omega (arith, none, (brought (still_pulsed c)).timer_count k)
 ]
 
 -- no level changes
-quiet : (c : goal.After-take_ticks) → Quiet (parts_of c.self.inside) c.args.from (c.args.to - c.args.from) (still_ahead c)
-unfolding still_ahead
+quiet : (c : goal.After-take_ticks) → Quiet (parts_of c.self.inside) c.args.from (c.args.to - c.args.from) (ahead (still_pulsed c))
+unfolding ahead
 quiet c = record {
-  sound = still c;
-  point = (still_known c).point;
+  sound = sound (still_pulsed c);
+  point = (known (still_pulsed c)).point;
   early = omega (arith, early c, c.next_point-point.ensures, c.requires.order);
-  ticks = sym (still_brought c).rtc_count ∙ still_ticks c;
-  updates = sym (rw c.requires.rtc at c.clock_pulses-events.ensures.updates) ∙ still_updates c;
+  ticks = sym (brought (still_pulsed c)).rtc_count ∙ still_ticks c;
+  updates = sym (rw c.requires.pulses.rtc at c.clock_pulses-events.ensures.updates) ∙ still_updates c;
   found = found c;
   level = λ k less. level c k;
 }

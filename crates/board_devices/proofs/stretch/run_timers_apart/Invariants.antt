@@ -3,7 +3,7 @@ use Rattle.clk_units.specs.Bits.{bit}
 use Rattle.hpet_registers.specs.Stretch.{timer_matches}
 use Rattle.board_devices.specs.Places.{no_line}
 use Rattle.board_devices.specs.private.Stretch.{timer_ticks, end_of, output_up, slots_from}
-use Rattle.board_devices.proofs.stretch.run_timers.Given as goal
+use Rattle.board_devices.proofs.stretch.run_timers_apart.Given as goal
 
 abbrev pub invariant-loop-k : goal.invariant-loop-k
 invariant-loop-k l = record {
