@@ -2,7 +2,6 @@ pub mod Alike
 pub mod Counts
 pub mod Edges
 pub mod Ended
-pub mod Late
 pub mod Same
 pub mod Settle
 pub mod Taken

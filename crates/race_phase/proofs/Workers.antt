@@ -26,7 +26,13 @@ use Rattle.std.proofs.Common.{
   arith,
   All,
   Result,
+  Ok,
+  Err,
   IfOk,
+  OnOk,
+  OnErr,
+  inl,
+  inr,
   length-append,
   append_assoc,
   append-nil,
@@ -66,6 +72,7 @@ use Rattle.race_phase.specs.private.Workers.{
   places_text,
   AllAnswered,
   HasHalted,
+  HasPrinted,
   AllButLast,
 }
 
@@ -286,6 +293,10 @@ module _ (s : BoardParts) (ds : List (Option Delivery)) (n : ℕ) where
     made = waits_made rs ws xs ts p q is all a;
   }
 
+  pub waits_printed : (rs ws : List Record) (xs ys : List ℕ) (p q : PassKnown) → p.number ≡ n → AllButLast s ds n rs ws xs p
+      → HasPrinted s ds ws xs ys p q → AllButLast s ds n rs [] ys q
+  waits_printed rs ws xs ys p q is all a = subst (λ (zs : List ℕ). AllButLast s ds n rs [] zs q) (sym a.1) (waits_answered rs ws xs a.0 p q is all a.2)
+
   -- one of those that wait is not answered
   pub waits_stopped : (rs ws more : List Record) (xs : List ℕ) (p q : PassKnown) → p.number ≡ n → AllButLast s ds n rs ws xs p → HasHalted s ws p q
       → HasStopped s ds n (rs ++ more) q
@@ -311,3 +322,27 @@ records_split n i rs = sym (records_of-append n (take i rs) (drop i rs)) ∙ ap 
 pub put_back : (new old : List Place) (n : ℕ) → length new ≡ length old → length new ≤ n → take n (new ++ drop (length new) old) ≡ new
 put_back new old n same room =
     ap (λ (l : List Place). take n (new ++ l)) (drop_all (length new) old (let e = same in omega arith)) ∙ ap (take n) (append-nil new) ∙ take_all n new room
+
+-- what is told of an error, where a result is none but that
+pub not_ok : {A E P : Type 0} (told : Result A E) → ((x : A) → told ≡ Ok x → ⊥) → OnErr told P → P
+not_ok (Ok x) none err = absurd (none x refl)
+not_ok (Err e) none err = err
+
+-- a worker that has stopped at a batch, and one that has come to the last
+module _ (s : BoardParts) (ds : List (Option Delivery)) (n : ℕ) (i : ℕ) (rs ws : List Record) (xs : List ℕ) (p q : PassKnown) (is : p.number ≡ n)
+    (all : AllButLast s ds n (records_of n (take i rs)) ws xs p) where
+  pub batch_halted : (ys : List ℕ) → HasHalted s ws p q → HasWorked s ds rs n q ys
+  batch_halted ys halted = (
+    halted.number ∙ is,
+    inr (subst (λ (us : List Record). HasStopped s ds n us q) (records_split n i rs)
+        (waits_stopped s ds n (records_of n (take i rs)) ws (records_of n (drop i rs)) xs p q is all halted)),
+  )
+
+  pub batch_last : {A E : Type 0} (told : Result A E) (ys : List ℕ) → length rs ≤ i → OnOk told (HasPrinted s ds ws xs ys p q)
+      → OnErr told (HasHalted s ws p q) → HasWorked s ds rs n q ys
+  batch_last (Ok x) ys end printed halted = (
+    printed.2.number ∙ is,
+    inl (subst (λ (z : List Record × List ℕ). AllMade s ds n (records_of n z.0) z.1 (mine q)) (λ k. (take_all i rs end k, sym printed.1 k))
+        (waits_made s ds n (records_of n (take i rs)) ws xs printed.0 p q is all printed.2)),
+  )
+  batch_last (Err e) ys end printed halted = batch_halted ys halted

@@ -11,10 +11,10 @@ ghost use Rattle.race_phase.specs.private.Workers.{
   places_text,
   AllAnswered,
   HasHalted,
+  HasPrinted,
 };
 
 use crate::deliveries::Deliveries;
-use crate::reads::{read_clock, read_page};
 use crate::records::{Call, Record};
 use crate::texts::append_block;
 use crate::told::Told;
@@ -62,11 +62,41 @@ pub(crate) fn new_places(alloc: Global, count: usize) -> Result<Vec<Place>, NoMe
     Ok(places)
 }
 
+/// Answers records in order, and appends their blocks when the lock is given back. It stops at the first record that
+/// isn't answered, and then appends none. `index` is that of the first for the gate.
+pub(crate) fn print_all<N: Name, R: Wait, G: Gate>(
+    rt: &R,
+    gate: &G,
+    board: &SharedBoard<N>,
+    deliveries: &Deliveries,
+    pass: &mut Pass<N>,
+    records: &[Record],
+    index: u64,
+    places: &mut [Place],
+    out: &mut Vec<u8>,
+) -> Result<Result<(), Halted>, NoMemory>
+    requires places { length records.now ≤ length places.old }
+    requires small { index + length records.now < 2 ^ 64 }
+    requires fitting { All (IsFitting N.state.cpus N.state.format) records.now }
+    requires legal { IsLegal pass.old.seen }
+    ensures ok { IfOk result (λ told. OnOk told (HasPrinted N.state deliveries.now records.now
+        out.old.items out.new.items pass.old pass.new)) }
+    ensures legal { IfOk result (λ told. OnOk told (IsLegal pass.new.seen)) }
+    ensures err { IfOk result
+        (λ told. OnErr told (HasHalted N.state records.now pass.old pass.new)) }
+{
+    let Ok(()) = answer_all(rt, gate, board, pass, records, index, places) else {
+        return Ok(Err(Halted));
+    };
+    append_blocks(&places[..records.len()], deliveries, out)?;
+    Ok(Ok(()))
+}
+
 /// Answers records in order, each between two calls of the gate, and puts what each was told into its place. The lock is
 /// kept from one access to the next, also where pages are read between them, and given back only where a page must be
 /// read under it, and before the gate's last call. It stops at the first record that isn't answered. `index` is that of
 /// the first for the gate.
-pub(crate) fn answer_all<N: Name, R: Wait, G: Gate>(
+fn answer_all<N: Name, R: Wait, G: Gate>(
     rt: &R,
     gate: &G,
     board: &SharedBoard<N>,
@@ -174,14 +204,14 @@ fn answer<'b, N: Name, R: Wait, G: Gate>(
                 Err(_refusal) => Err(Halted),
             }
         }
-        Call::ReadPage { page } => match read_page(rt, board, lock, pass, page, h) {
+        Call::ReadPage { page } => match board.read_page_with(rt, lock, pass, page, h) {
             Ok(reply) => {
                 place.told = Told::PageIs { reply };
                 Ok(())
             }
             Err(_fault) => Err(Halted),
         },
-        Call::ReadClock { page } => match read_clock(rt, board, lock, pass, page, h) {
+        Call::ReadClock { page } => match board.read_clock_with(rt, lock, pass, page, h) {
             Ok(reply) => {
                 place.told = Told::ClockIs { reply };
                 Ok(())
@@ -192,7 +222,7 @@ fn answer<'b, N: Name, R: Wait, G: Gate>(
 }
 
 /// Appends the blocks of places, in order.
-pub(crate) fn append_blocks(
+fn append_blocks(
     places: &[Place],
     deliveries: &Deliveries,
     out: &mut Vec<u8>,

@@ -27,7 +27,6 @@ mod faults;
 mod phase;
 mod phases;
 mod race;
-mod reads;
 mod records;
 mod tally;
 mod texts;

@@ -25,7 +25,7 @@ ghost use Rattle.board_types.specs.declared.parts.BoardParts.{BoardParts};
 ghost use Rattle.board_types.specs.declared.parts.TheConstants.{LAST_VERSION, MOST_ACCESSES};
 ghost use Rattle.board_types.specs.declared.reply.Refusal.TheVariants.{Spent};
 ghost use Rattle.board_core.specs.Access.{after_access};
-ghost use Rattle.board_core.specs.Pages.{published_by, page_of_msr};
+ghost use Rattle.board_core.specs.Pages.{published_by};
 ghost use Rattle.board_core.specs.Refusals.{refusal_of, spent_version};
 ghost use Rattle.board_core.specs.Time.{HasTime};
 ghost use Rattle.board_core.specs.Tsc.{no_processor};
@@ -48,8 +48,8 @@ ghost use Rattle.race_phase.specs.private.Tallied.{
 use crate::phase::places;
 use crate::phases::NewHost;
 use board_core::{
-    Access, BoardState, LAST_VERSION, MOST_ACCESSES, MSR_KVM_SYSTEM_TIME, MSR_KVM_WALL_CLOCK,
-    MSR_TSC, MSR_TSC_ADJUST, ProcessorParts, Refusal,
+    Access, BoardState, LAST_VERSION, MOST_ACCESSES, MSR_KVM_WALL_CLOCK, ProcessorParts, Refusal,
+    published_by,
 };
 use clk_units::RANGE_NS;
 use host_counter::{Anchor, TimeFault};
@@ -132,7 +132,9 @@ impl Tally {
         }
     }
 
+    // It stands where it is called from, so that a caller who asks for no cause makes none.
     /// Whether each board of these counts takes an access by processor `cpu` at count `h`, or why each refuses it.
+    #[inline(always)]
     pub fn admit(&self, cpu: u8, h: u64, a: Access) -> Result<(), Refusal>
         requires cpu { cpu < self.now.cpus }
         requires legal { IsTrue (is_legal self.now.cpus self.now.format a) }
@@ -166,6 +168,7 @@ impl Tally {
     }
 
     /// The version that an access would raise.
+    #[inline(always)]
     fn raised(&self, cpu: u8, a: Access) -> Option<u32>
         requires { IfSome (published_by cpu a) (λ k. k < 64) }
         ensures { result ≡ raised_in self.now cpu a }
@@ -178,6 +181,7 @@ impl Tally {
     }
 
     /// Whether the accesses are spent.
+    #[inline(always)]
     fn spent(&self) -> Option<Refusal>
         ensures { result ≡ (if nat_le MOST_ACCESSES self.now.accesses
             then Some (Spent self.now.accesses) else None) }
@@ -192,6 +196,7 @@ impl Tally {
     }
 
     /// Counts an access that a board of these counts takes.
+    #[inline(always)]
     pub fn count(&mut self, cpu: u8, h: u64, a: Access)
         requires cpu { cpu < self.old.cpus }
         requires legal { IsTrue (is_legal self.old.cpus self.old.format a) }
@@ -285,6 +290,7 @@ fn is_timed(anchor: &Anchor, h: u64) -> bool
 }
 
 /// The version of the wall clock's words behind an access.
+#[inline(always)]
 fn wall_version_after(a: Access, version: u32) -> u32
     requires { publishes_wall a ≡ true → version < LAST_VERSION }
     ensures { result ≡ wall_version_after a version }
@@ -297,6 +303,7 @@ fn wall_version_after(a: Access, version: u32) -> u32
 }
 
 /// Raises the version of a page, if there is one.
+#[inline(always)]
 fn raise_page(versions: &mut [u32; 64], page: Option<u8>)
     requires { IfSome page (λ k. (k < 64) × (slice_index_or versions.old k 0 < LAST_VERSION)) }
     ensures { versions.new ≡ raised_at page versions.old }
@@ -319,6 +326,7 @@ fn versions_of(processors: &[ProcessorParts; 64]) -> [u32; 64]
 }
 
 /// Whether an access publishes the words of the wall clock.
+#[inline(always)]
 fn publishes_wall(a: Access) -> bool
     ensures { result ≡ publishes_wall a }
 {
@@ -328,29 +336,8 @@ fn publishes_wall(a: Access) -> bool
     }
 }
 
-/// The page that an access of a processor publishes.
-fn published_by(cpu: u8, a: Access) -> Option<u8>
-    ensures { result ≡ published_by cpu a }
-{
-    match a {
-        Access::Refresh { page } => Some(page),
-        Access::MsrWrite { msr, .. } => page_of_msr(cpu, msr),
-        _ => None,
-    }
-}
-
-/// The page that a write to an MSR publishes.
-fn page_of_msr(cpu: u8, msr: u32) -> Option<u8>
-    ensures { result ≡ page_of_msr cpu msr }
-{
-    if msr == MSR_TSC || msr == MSR_TSC_ADJUST || msr == MSR_KVM_SYSTEM_TIME {
-        Some(cpu)
-    } else {
-        None
-    }
-}
-
 /// The version of a page.
+#[inline(always)]
 fn version_at(page: Option<u8>, versions: &[u32; 64]) -> Option<u32>
     requires { IfSome page (λ k. k < 64) }
     ensures { result ≡ version_in page versions.now }
@@ -362,6 +349,7 @@ fn version_at(page: Option<u8>, versions: &[u32; 64]) -> Option<u32>
 }
 
 /// The refusal where a version is the last one, else the next cause.
+#[inline(always)]
 fn spent_version(version: Option<u32>, next: Option<Refusal>) -> Option<Refusal>
     ensures { result ≡ spent_version version next }
 {

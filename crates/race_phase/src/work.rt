@@ -4,7 +4,7 @@ ghost use Rattle.shared_board.specs.Passes.{mine};
 ghost use Rattle.race_phase.specs.Calls.{IsFitting};
 ghost use Rattle.race_phase.specs.private.Workers.{HasWorked};
 
-use crate::batch::{answer_all, append_blocks, new_places};
+use crate::batch::{new_places, print_all};
 use crate::deliveries::Deliveries;
 use crate::records::Record;
 use board_io::Gate;
@@ -39,7 +39,7 @@ pub(crate) fn work<N: Name, R: Wait, G: Gate>(
         (λ w. HasWorked N.state deliveries.now records.now pass.number w.pass w.text.items) }
 {
     let cpu = pass.number();
-    let most = most_together(gate);
+    let most = most_together(gate, records.len());
     let mut places = new_places(alloc, most)?;
     let mut text = Vec::new(alloc);
     let mut batch = Vec::new(alloc);
@@ -50,26 +50,42 @@ pub(crate) fn work<N: Name, R: Wait, G: Gate>(
                 return Err(NoMemory);
             };
             if batch.len() >= most {
-                let Ok(()) = answer_all(rt, gate, board, &mut pass, &batch, index, &mut places)
+                let Ok(()) = print_all(
+                    rt,
+                    gate,
+                    board,
+                    deliveries,
+                    &mut pass,
+                    &batch,
+                    index,
+                    &mut places,
+                    &mut text,
+                )?
                 else {
                     return Ok(Worked { pass, text });
                 };
-                append_blocks(&places[..batch.len()], deliveries, &mut text)?;
                 index += batch.len() as u64;
                 batch.clear();
             }
         }
     }
-    let Ok(()) = answer_all(rt, gate, board, &mut pass, &batch, index, &mut places) else {
-        return Ok(Worked { pass, text });
-    };
-    append_blocks(&places[..batch.len()], deliveries, &mut text)?;
+    let _halted = print_all(
+        rt,
+        gate,
+        board,
+        deliveries,
+        &mut pass,
+        &batch,
+        index,
+        &mut places,
+        &mut text,
+    )?;
     Ok(Worked { pass, text })
 }
 
-/// How many records are answered together.
-fn most_together<G: Gate>(gate: &G) -> usize
+/// How many records are answered together: at most as many as there are.
+fn most_together<G: Gate>(gate: &G, count: usize) -> usize
     ensures least { 1 ≤ result }
 {
-    usize::from(gate.together().max(1))
+    usize::from(gate.together()).min(count).max(1)
 }

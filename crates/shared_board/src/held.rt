@@ -34,8 +34,8 @@ ghost use Rattle.shared_board.specs.private.Seats.{
 };
 
 use crate::pass::Pass;
-use crate::pens::{move_pen, publish, published_by};
-use board_core::{Access, BoardState, Refusal, Reply, Value};
+use crate::pens::{move_pen, publish};
+use board_core::{Access, BoardState, Refusal, Reply, Value, published_by};
 use board_history::Entry;
 use clock_table::{Call, ClockSeat, ClockTable, Name};
 use irq_edges::EdgeList;

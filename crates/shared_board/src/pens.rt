@@ -1,14 +1,13 @@
 //! The pen: how it comes from one seat to another, and what its holder does with it.
 ghost use Rattle.std.specs.Prelude.{◌≡◌, ◌<◌, ◌++◌, [], ◌∷◌, true, false, None};
 ghost use Rattle.board_types.specs.declared.parts.TheConstants.{LAST_VERSION};
-ghost use Rattle.board_core.specs.Pages.{published_by};
 ghost use Rattle.board_history.specs.Machine.{page_at};
 ghost use Rattle.board_history.specs.History.{board_after, version_after};
 ghost use Rattle.clock_table.specs.Steps.{pen_left, Extends, loud};
 ghost use Rattle.clock_table.specs.Calls.{IsPen, IsNext, IsPublishing, entry_of};
 ghost use Rattle.shared_board.specs.private.Seats.{PenMoved};
 
-use board_core::{Access, BoardState, MSR_KVM_SYSTEM_TIME, MSR_TSC, MSR_TSC_ADJUST, Reply};
+use board_core::{BoardState, Reply};
 use clock_table::{Call, ClockSeat, ClockTable, Field, Name};
 use pvclock_page::page_words;
 
@@ -27,23 +26,6 @@ pub(crate) fn move_pen<N: Name>(
     let gone = table.split_pen(from);
     table.join(to, gone);
     table.front(to)
-}
-
-/// The page that an access of a processor publishes, if any.
-pub(crate) fn published_by(cpu: u8, a: Access) -> Option<u8>
-    ensures { result ≡ published_by cpu a }
-{
-    match a {
-        Access::Refresh { page } => Some(page),
-        Access::MsrWrite { msr, .. } => {
-            if msr == MSR_TSC || msr == MSR_TSC_ADJUST || msr == MSR_KVM_SYSTEM_TIME {
-                Some(cpu)
-            } else {
-                None
-            }
-        }
-        _ => None,
-    }
 }
 
 /// Publishes the page of a processor, and makes the entry of the access that does. It stands apart, so that an access

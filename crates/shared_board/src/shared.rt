@@ -272,11 +272,34 @@ impl<N: Name> SharedBoard<N> {
         ensures ok { IfOk result (λ r. HasReadPage N.state cpu h r pass.old pass.new) }
         ensures err { IfErr result (λ f. IsReadFault N.state.anchor cpu h f pass.old pass.new) }
     {
+        let mut lock = None;
+        self.read_page_with(rt, &mut lock, pass, cpu, h)
+    }
+
+    /// The same for a caller that may have the lock, in `lock`. It is kept there, so that others need not wait anew for
+    /// what stands behind the read, but where the page is read under it: it is given back then, and taken for that.
+    #[inline(always)]
+    pub fn read_page_with<'b, R: Wait>(
+        &'b self,
+        rt: &R,
+        lock: &mut Option<Holding<'b, N>>,
+        pass: &mut Pass<N>,
+        cpu: u8,
+        h: u64,
+    ) -> Result<PageReply, LockedFault>
+        requires cpu { cpu < N.state.cpus }
+        ensures time { OnOk result (HasTime N.state.anchor h) }
+        ensures ok { IfOk result (λ r. HasReadPage N.state cpu h r pass.old pass.new) }
+        ensures err { IfErr result (λ f. IsReadFault N.state.anchor cpu h f pass.old pass.new) }
+    {
         match self.try_page(pass, cpu, h) {
             Ok(read) => Ok(read),
             Err(PageFault::BeforeStart { start }) => Err(LockedFault::BeforeStart { start }),
             Err(PageFault::OutOfRange { ns }) => Err(LockedFault::OutOfRange { ns }),
-            Err(PageFault::Again { .. }) => self.page_locked(rt, pass, cpu, h),
+            Err(PageFault::Again { .. }) => {
+                *lock = None;
+                self.page_locked(rt, pass, cpu, h)
+            }
         }
     }
 
@@ -293,7 +316,26 @@ impl<N: Name> SharedBoard<N> {
         ensures ok { IfOk result (λ r. HasReadClock N.state cpu h r pass.old pass.new) }
         ensures err { IfErr result (λ f. IsReadFault N.state.anchor cpu h f pass.old pass.new) }
     {
-        match self.read_page(rt, pass, cpu, h) {
+        let mut lock = None;
+        self.read_clock_with(rt, &mut lock, pass, cpu, h)
+    }
+
+    /// The same for a caller that may have the lock, which is kept as [`SharedBoard::read_page_with`] keeps it.
+    #[inline(always)]
+    pub fn read_clock_with<'b, R: Wait>(
+        &'b self,
+        rt: &R,
+        lock: &mut Option<Holding<'b, N>>,
+        pass: &mut Pass<N>,
+        cpu: u8,
+        h: u64,
+    ) -> Result<ClockReply, LockedFault>
+        requires cpu { cpu < N.state.cpus }
+        ensures time { OnOk result (HasTime N.state.anchor h) }
+        ensures ok { IfOk result (λ r. HasReadClock N.state cpu h r pass.old pass.new) }
+        ensures err { IfErr result (λ f. IsReadFault N.state.anchor cpu h f pass.old pass.new) }
+    {
+        match self.read_page_with(rt, lock, pass, cpu, h) {
             Ok(read) => Ok(self.clamp(pass, cpu, read)),
             Err(fault) => Err(fault),
         }

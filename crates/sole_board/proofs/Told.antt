@@ -71,7 +71,7 @@ use Rattle.shared_board.specs.Faults.{IsReadFault}
 use Rattle.shared_board.specs.Pages.{HasReadPage, HasReadClock}
 use Rattle.sole_board.specs.Sole.{Sole}
 use Rattle.sole_board.specs.private.Seen.{sole_after, sole_of, HasMadeAll, IsAlone}
-use Rattle.sole_board.specs.private.Calls.{AnswerIs, PageIs, ClockIs}
+use Rattle.sole_board.specs.private.Calls.{AnswerIs, PageIs, ClockIs, IsOfTime, IsSameFault}
 use Rattle.sole_board.proofs.Alone.{NoneElse, made_all, made_more, made_none}
 
 -- the machine is that of the opening state
@@ -250,13 +250,19 @@ fault_made s cpu h (BeforeStart start) p q was e legal none = subst (HasMadeAll 
 fault_made s cpu h (OutOfRange ns) p q was e legal none = subst (HasMadeAll s) (sym e.1) was
 fault_made s cpu h (Spent front) p q was e legal none = made_all s p q was e.1.number e.1.more legal none
 
-pub never_spent : (s : BoardParts) (cpu h front : ℕ) (p q : PassKnown) → HasMadeAll s p → IsReadFault s.anchor cpu h (Spent front) p q
+never_spent : (s : BoardParts) (cpu h front : ℕ) (p q : PassKnown) → HasMadeAll s p → IsReadFault s.anchor cpu h (Spent front) p q
     → IsLegal q.seen → NoneElse q.seen → loud p.seen < 2 ^ 63 → ⊥
 never_spent s cpu h front p q was e legal none room =
     let now : HasMadeAll s q = fault_made s cpu h (Spent front) p q was e legal none in
     let same : loud q.seen ≡ loud p.seen = ap loud (made_none s p q was now e.1.mine) in
     let value = e.3.value in
     let full = e.3.full in absurd (omega arith)
+
+pub fault_of-time : (s : BoardParts) (cpu h : ℕ) (f : LockedFault) (p q : PassKnown) → HasMadeAll s p → IsReadFault s.anchor cpu h f p q
+    → IsLegal q.seen → NoneElse q.seen → loud p.seen < 2 ^ 63 → IsOfTime f
+fault_of-time s cpu h (BeforeStart start) p q was e legal none room = tt
+fault_of-time s cpu h (OutOfRange ns) p q was e legal none room = tt
+fault_of-time s cpu h (Spent front) p q was e legal none room = never_spent s cpu h front p q was e legal none room
 
 -- the time of a count is that of the opening state's counter
 anchor_after : (s : BoardParts) (p : PassKnown) → HasMadeAll s p → (board_after p.seen).anchor ≡ s.anchor
@@ -281,7 +287,7 @@ page_ok s cpu h r p q was now time x =
       calls = t.calls;
     }
 
-pub page_fault : (s : BoardParts) (cpu h : ℕ) (f : TimeFault) (p q : PassKnown) → HasMadeAll s p → IsFaultAt s.anchor h f → q ≡ p
+page_fault : (s : BoardParts) (cpu h : ℕ) (f : TimeFault) (p q : PassKnown) → HasMadeAll s p → IsFaultAt s.anchor h f → q ≡ p
     → PageIs cpu h (Err f) (sole_after p.seen) (sole_after q.seen)
 page_fault s cpu h f p q was fault same =
     let seen : q.seen ≡ p.seen = ap (λ (x : PassKnown). x.seen) same in
@@ -293,6 +299,12 @@ page_fault s cpu h f p q was fault same =
       state = ap board_after seen;
       calls = (let e = ap loud seen in omega arith);
     }
+
+pub page_unread : (s : BoardParts) (cpu h : ℕ) (f : LockedFault) (t : TimeFault) (p q : PassKnown) → HasMadeAll s p → IsReadFault s.anchor cpu h f p q
+    → IsSameFault f t → PageIs cpu h (Err t) (sole_after p.seen) (sole_after q.seen)
+page_unread s cpu h (BeforeStart start) t p q was e same = page_fault s cpu h t p q was (subst (IsFaultAt s.anchor h) (sym same) e.0) e.1
+page_unread s cpu h (OutOfRange ns) t p q was e same = page_fault s cpu h t p q was (subst (IsFaultAt s.anchor h) (sym same) e.0) e.1
+page_unread s cpu h (Spent front) t p q was e same = absurd same
 
 -- a read of the clock
 pub clock_made : (s : BoardParts) (cpu h : ℕ) (res : Result ClockReply LockedFault) (p q : PassKnown) → HasMadeAll s p
@@ -313,7 +325,7 @@ clock_ok s cpu h r p q was now time x =
       calls = t.calls;
     }
 
-pub clock_fault : (s : BoardParts) (cpu h : ℕ) (f : TimeFault) (p q : PassKnown) → HasMadeAll s p → IsFaultAt s.anchor h f → q ≡ p
+clock_fault : (s : BoardParts) (cpu h : ℕ) (f : TimeFault) (p q : PassKnown) → HasMadeAll s p → IsFaultAt s.anchor h f → q ≡ p
     → ClockIs cpu h (Err f) (sole_after p.seen) (sole_after q.seen)
 clock_fault s cpu h f p q was fault same =
     let seen : q.seen ≡ p.seen = ap (λ (x : PassKnown). x.seen) same in
@@ -325,3 +337,9 @@ clock_fault s cpu h f p q was fault same =
       unchanged = ap sole_after seen;
       calls = (let e = ap loud seen in omega arith);
     }
+
+pub clock_unread : (s : BoardParts) (cpu h : ℕ) (f : LockedFault) (t : TimeFault) (p q : PassKnown) → HasMadeAll s p → IsReadFault s.anchor cpu h f p q
+    → IsSameFault f t → ClockIs cpu h (Err t) (sole_after p.seen) (sole_after q.seen)
+clock_unread s cpu h (BeforeStart start) t p q was e same = clock_fault s cpu h t p q was (subst (IsFaultAt s.anchor h) (sym same) e.0) e.1
+clock_unread s cpu h (OutOfRange ns) t p q was e same = clock_fault s cpu h t p q was (subst (IsFaultAt s.anchor h) (sym same) e.0) e.1
+clock_unread s cpu h (Spent front) t p q was e same = absurd same

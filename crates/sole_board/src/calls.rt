@@ -4,7 +4,7 @@ ghost use Rattle.std.specs.Prelude.{◌≡◌, ◌<◌, ◌^◌, [], OnErr, IsTr
 ghost use Rattle.board_types.specs.Legal.{is_legal};
 ghost use Rattle.clock_table.specs.Steps.{loud};
 ghost use Rattle.sole_board.specs.private.Seen.{sole_after, HasMadeAll};
-ghost use Rattle.sole_board.specs.private.Calls.{AnswerIs, PageIs, ClockIs};
+ghost use Rattle.sole_board.specs.private.Calls.{AnswerIs, PageIs, ClockIs, IsOfTime, IsSameFault};
 
 use board_core::{Access, Refusal, Reply};
 use board_io::Gate;
@@ -61,9 +61,7 @@ pub(crate) fn page_by<N: Name, R: Wait>(
     let _number = pass.number();
     match result {
         Ok(reply) => Ok(reply),
-        Err(LockedFault::BeforeStart { start }) => Err(TimeFault::BeforeStart { start }),
-        Err(LockedFault::OutOfRange { ns }) => Err(TimeFault::OutOfRange { ns }),
-        Err(LockedFault::Spent { .. }) => unreachable!(),
+        Err(fault) => Err(time_fault(fault)),
     }
 }
 
@@ -87,8 +85,19 @@ pub(crate) fn clock_by<N: Name, R: Wait>(
     let _number = pass.number();
     match result {
         Ok(reply) => Ok(reply),
-        Err(LockedFault::BeforeStart { start }) => Err(TimeFault::BeforeStart { start }),
-        Err(LockedFault::OutOfRange { ns }) => Err(TimeFault::OutOfRange { ns }),
-        Err(LockedFault::Spent { .. }) => unreachable!(),
+        Err(fault) => Err(time_fault(fault)),
+    }
+}
+
+/// Why a count has no time, by the fault of a read that had room.
+#[inline(always)]
+fn time_fault(fault: LockedFault) -> TimeFault
+    requires fault { IsOfTime fault }
+    ensures { IsSameFault fault result }
+{
+    match fault {
+        LockedFault::BeforeStart { start } => TimeFault::BeforeStart { start },
+        LockedFault::OutOfRange { ns } => TimeFault::OutOfRange { ns },
+        LockedFault::Spent { .. } => unreachable!(),
     }
 }

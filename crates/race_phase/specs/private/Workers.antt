@@ -92,6 +92,12 @@ pub record AllAnswered (s : BoardParts) (rs : List Record) (ts : List Place) (p 
       → AllMade s ds p.number done out (mine p)
       → AllMade s ds p.number (done ++ rs) (out ++ places_text ds ts) (mine q)
 
+-- a pass has answered these records, and their blocks were put behind a text
+abbrev pub HasPrinted : BoardParts → List (Option Delivery) → List Record → List ℕ → List ℕ
+    → PassKnown → PassKnown → Type 0
+HasPrinted s ds rs old new p q =
+    (ts : List Place) × (new ≡ old ++ places_text ds ts) × AllAnswered s rs ts p q
+
 -- a pass has stopped at one of these records
 pub record HasHalted (s : BoardParts) (rs : List Record) (p q : PassKnown) : Type 0 where
   pub number : q.number ≡ p.number

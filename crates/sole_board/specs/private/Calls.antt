@@ -13,6 +13,10 @@ use Rattle.std.specs.Prelude.{
   OnErr,
 }
 use Rattle.host_counter.specs.declared.TimeFault.{TimeFault}
+use Rattle.host_counter.specs.declared.TimeFault.TheVariants.{
+  BeforeStart as IsBeforeStart,
+  OutOfRange as IsOutOfRange,
+}
 use Rattle.host_counter.specs.Time.{IsFaultAt}
 use Rattle.pvclock_page.specs.declared.page.PageReply.{PageReply}
 use Rattle.pvclock_page.specs.declared.page.ClockReply.{ClockReply}
@@ -23,6 +27,8 @@ use Rattle.board_core.specs.Time.{HasTime}
 use Rattle.board_core.specs.Access.{reply_of, after_access}
 use Rattle.board_core.specs.Refusals.{refusal_of}
 use Rattle.board_core.specs.Pages.{page_reply, clock_reply, after_clock}
+use Rattle.shared_board.specs.declared.fault.LockedFault.{LockedFault}
+use Rattle.shared_board.specs.declared.fault.LockedFault.TheVariants.{BeforeStart, OutOfRange, Spent}
 use Rattle.sole_board.specs.Sole.{Sole}
 
 -- an access
@@ -52,3 +58,15 @@ pub record ClockIs (cpu h : ℕ) (res : Result ClockReply TimeFault) (v w : Sole
   pub fault : IfErr res (IsFaultAt v.parts.anchor h)
   pub unchanged : OnErr res (w ≡ v)
   pub calls : w.calls ≤ v.calls + 1
+
+-- a read that had room
+abbrev pub IsOfTime : LockedFault → Type 0
+IsOfTime (BeforeStart start) = Unit {0}
+IsOfTime (OutOfRange ns) = Unit {0}
+IsOfTime (Spent front) = ⊥
+
+-- a fault of a read, as that of its count
+abbrev pub IsSameFault : LockedFault → TimeFault → Type 0
+IsSameFault (BeforeStart start) f = f ≡ IsBeforeStart start
+IsSameFault (OutOfRange ns) f = f ≡ IsOutOfRange ns
+IsSameFault (Spent front) f = ⊥

@@ -1,23 +1,16 @@
-use Rattle.std.proofs.Common.{arith, ◌≡◌}
-use Rattle.host_counter.specs.declared.TimeFault.TheVariants.{BeforeStart, OutOfRange}
-use Rattle.shared_board.specs.declared.fault.LockedFault.TheVariants.{
-  BeforeStart as LockedBeforeStart,
-  OutOfRange as LockedOutOfRange,
-  Spent,
-}
-use Rattle.sole_board.proofs.Told.{never_spent, clock_made, clock_ok, clock_fault}
+use Rattle.std.proofs.Common.{arith}
+use Rattle.sole_board.proofs.Told.{fault_of-time, clock_made, clock_ok, clock_unread}
 use Rattle.sole_board.proofs.calls.clock_by.Goals as goal
 
-pub unreachable-requires : goal.unreachable-requires
-unreachable-requires g c =
+pub time_fault-requires : goal.time_fault-requires
+time_fault-requires g c =
     let s = g.N.Name.state in
-    let q = c.read_clock-result.new.pass in
     let one = c.requires.one in
-    let e = rw c.in-Err-Spent.is at c.read_clock-result.ensures.err in
-    let is : c.in-Err-Spent.field-0 ≡ Spent c.in-Err-Spent.field-0-0 = cc c.in-Err-Spent.field-0-is in
-    let f = rw is at e in
-    never_spent s c.args.cpu c.args.h c.in-Err-Spent.field-0-0 c.args.pass.now q c.requires.made f c.number-number.ensures.legal
-    (λ k more. c.number-number.ensures.below k (omega arith)) c.requires.room
+    let e = rw c.in-Err.is at c.read_clock-result.ensures.err in
+    record {
+      fault = fault_of-time s c.args.cpu c.args.h c.in-Err.fault c.args.pass.now c.read_clock-result.new.pass c.requires.made e
+          c.number-number.ensures.legal (λ k more. c.number-number.ensures.below k (omega arith)) c.requires.room;
+    }
 
 pub returns-in-Ok-clause-made : goal.returns-in-Ok-clause-made
 returns-in-Ok-clause-made g c =
@@ -40,22 +33,8 @@ returns-in-Ok-clause-told g c =
     let t = rw c.in-Ok.is at c.read_clock-result.ensures.time in
     clock_ok s c.args.cpu c.args.h c.in-Ok.reply c.args.pass.now q c.requires.made now t e
 
-pub returns-in-Err-BeforeStart-clause-told : goal.returns-in-Err-BeforeStart-clause-told
-returns-in-Err-BeforeStart-clause-told g c =
+pub returns-in-Err-clause-told : goal.returns-in-Err-clause-told
+returns-in-Err-clause-told g c =
     let s = g.N.Name.state in
-    let q = c.read_clock-result.new.pass in
-    let one = c.requires.one in
-    let e = rw c.in-Err-BeforeStart.is at c.read_clock-result.ensures.err in
-    let is : c.in-Err-BeforeStart.field-0 ≡ LockedBeforeStart c.in-Err-BeforeStart.start = cc c.in-Err-BeforeStart.field-0-is in
-    let f = rw is at e in
-    clock_fault s c.args.cpu c.args.h (BeforeStart c.in-Err-BeforeStart.start) c.args.pass.now q c.requires.made f.0 f.1
-
-pub returns-in-Err-OutOfRange-clause-told : goal.returns-in-Err-OutOfRange-clause-told
-returns-in-Err-OutOfRange-clause-told g c =
-    let s = g.N.Name.state in
-    let q = c.read_clock-result.new.pass in
-    let one = c.requires.one in
-    let e = rw c.in-Err-OutOfRange.is at c.read_clock-result.ensures.err in
-    let is : c.in-Err-OutOfRange.field-0 ≡ LockedOutOfRange c.in-Err-OutOfRange.ns = cc c.in-Err-OutOfRange.field-0-is in
-    let f = rw is at e in
-    clock_fault s c.args.cpu c.args.h (OutOfRange c.in-Err-OutOfRange.ns) c.args.pass.now q c.requires.made f.0 f.1
+    let e = rw c.in-Err.is at c.read_clock-result.ensures.err in
+    clock_unread s c.args.cpu c.args.h c.in-Err.fault c.time_fault.result c.args.pass.now c.read_clock-result.new.pass c.requires.made e c.time_fault.ensures

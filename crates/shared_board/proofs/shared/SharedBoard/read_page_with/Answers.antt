@@ -1,5 +1,5 @@
 use Rattle.shared_board.proofs.Clocks.{locked_late}
-use Rattle.shared_board.proofs.shared.SharedBoard.read_page.Goals as goal
+use Rattle.shared_board.proofs.shared.SharedBoard.read_page_with.Goals as goal
 
 pub returns-in-Err-Again-clause-ok : goal.returns-in-Err-Again-clause-ok
 returns-in-Err-Again-clause-ok g c =
