@@ -17,7 +17,6 @@ use Rattle.std.proofs.Common.{
   ◌++◌,
   length,
   get_or,
-  take,
   refl,
   ap,
   sym,
@@ -25,8 +24,6 @@ use Rattle.std.proofs.Common.{
   subst,
   arith,
   append-nil,
-  length-take,
-  get_or-take,
   Bool,
   true,
   false,
@@ -68,7 +65,7 @@ use Rattle.clock_table.specs.declared.view.View.{View}
 use Rattle.clock_table.specs.declared.view.Hand.{Hand}
 use Rattle.clock_table.specs.declared.view.Miss.{Miss}
 use Rattle.clock_table.specs.declared.view.Ended.{Ended}
-use Rattle.clock_table.specs.Words.{place, word_of, field_at}
+use Rattle.clock_table.specs.Words.{word_of, field_at}
 use Rattle.clock_table.specs.Steps.{first_view, weight, loud, number_is, ended_with}
 use Rattle.std.proofs.Common.{replicate}
 use Rattle.clock_table.specs.Ends.{no_page, IsWhole, MissesTold, EndedTold}
@@ -329,21 +326,21 @@ steady_of b joined long = record {
           )
     ]
 
--- the words as far as they are used
-pub laid_of : (s : BoardParts) (words : List ℕ) → length words ≡ 322 → s.cpus ≤ 64 → IsLaidBelow s.cpus s words → IsLaid s (take (2 + 5 * s.cpus) words)
-laid_of s words long few l = record {
-  wide = simp length-take (omega arith);
-  front = get_or-take (2 + 5 * s.cpus) words 0 0 (omega arith) ∙ l.front;
-  clamp = get_or-take (2 + 5 * s.cpus) words 1 0 (omega arith) ∙ l.clamp;
-  version = λ c h. get_or-take (2 + 5 * s.cpus) words (place c 0) 0 (omega arith) ∙ l.version c h;
+-- the words of all pages
+pub laid_of : (s : BoardParts) (words : List ℕ) → length words ≡ 2 + 5 * s.cpus → IsLaidBelow s.cpus s words → IsLaid s words
+laid_of s words long l = record {
+  wide = long;
+  front = l.front;
+  clamp = l.clamp;
+  version = l.version;
   field = fields;
 }
   where
-    fields : (c k : ℕ) → c < s.cpus → k < 4 → word_of (take (2 + 5 * s.cpus) words) c (suc k) ≡ field_at (page_at s c) k
-    fields c zero h small = get_or-take (2 + 5 * s.cpus) words (place c 1) 0 (omega arith) ∙ l.stamp c h
-    fields c (suc zero) h small = get_or-take (2 + 5 * s.cpus) words (place c 2) 0 (omega arith) ∙ l.system c h
-    fields c (suc (suc zero)) h small = get_or-take (2 + 5 * s.cpus) words (place c 3) 0 (omega arith) ∙ l.scale c h
-    fields c (suc (suc (suc zero))) h small = get_or-take (2 + 5 * s.cpus) words (place c 4) 0 (omega arith) ∙ l.offset c h
+    fields : (c k : ℕ) → c < s.cpus → k < 4 → word_of words c (suc k) ≡ field_at (page_at s c) k
+    fields c zero h small = l.stamp c h
+    fields c (suc zero) h small = l.system c h
+    fields c (suc (suc zero)) h small = l.scale c h
+    fields c (suc (suc (suc zero))) h small = l.offset c h
     fields c (suc (suc (suc (suc k)))) h small = absurd (omega arith)
 
 pub at_word : (ws : List ℕ) (i j x : ℕ) → i ≡ j → get_elem? ws i ≡ some x → x ≡ get_or ws j 0

@@ -65,8 +65,8 @@ at_place : (ws : List ℕ) (c k i : ℕ) → place c k ≡ i → word_of ws c k 
 at_place ws c k i e = ap (λ (j : ℕ). get_or ws j 0) e
 
 -- one page more is laid
-pub laid-more : (n : ℕ) (s : BoardParts) (ws p : List ℕ) → length ws ≡ 322 → n < 64 → p ≡ words_of (page_at s n) → IsLaidBelow n s ws
-    → IsLaidBelow (n + 1) s (laid_after ws n p)
+pub laid-more : (n : ℕ) (s : BoardParts) (ws p : List ℕ) → length ws ≡ 2 + 5 * s.cpus → n < s.cpus → p ≡ words_of (page_at s n)
+    → IsLaidBelow n s ws → IsLaidBelow (n + 1) s (laid_after ws n p)
 laid-more n s ws p long few is l = record {
   front = five-other ws (2 + 5 * n) _ _ _ _ _ 0 (λ k h e. omega arith) ∙ l.front;
   clamp = five-other ws (2 + 5 * n) _ _ _ _ _ 1 (λ k h e. omega arith) ∙ l.clamp;

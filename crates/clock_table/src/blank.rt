@@ -12,9 +12,6 @@ use pvclock_page::page_words;
 use std::alloc::Global;
 use std::marker::Model;
 
-/// Words for the front word, the clamp word and 64 pages.
-const MOST_WORDS: usize = 2 + 5 * 64;
-
 /// The words of a table that has no name yet. Contracts see of it which table it is, and the state.
 #[derive(Drop)]
 pub struct Blank {
@@ -44,22 +41,13 @@ impl Blank {
         ensures state { IfOk result (λ b. b.1 ≡ state.now) }
         ensures joined { IsJoined state.now }
     {
-        let words = laid(state);
-        let count = word_count(&state.parts());
-        match Words::of_words(alloc, &words[..count], state) {
+        let _places = places(&state.parts().processors);
+        let words = laid(alloc, state)?;
+        match Words::of_words(alloc, &words, state) {
             Ok((table, seat)) => Ok(Blank { table, seat }),
             Err(_full) => Err(NoMemory),
         }
     }
-}
-
-/// How many words there are for the pages of a board.
-fn word_count(parts: &BoardParts) -> usize
-    ensures value { result ≡ 2 + 5 * parts.now.cpus }
-    ensures places { length parts.now.processors ≡ 64 }
-{
-    let _ = places(&parts.processors);
-    2 + 5 * parts.cpus as usize
 }
 
 /// A board has places for 64 processors.
@@ -69,13 +57,16 @@ fn places(processors: &[ProcessorParts; 64]) -> usize
     processors.len()
 }
 
-/// The words of a state.
-fn laid(state: &BoardState) -> [u64; 322]
-    ensures { (length result ≡ 322) × IsLaidBelow state.now.cpus state.now result }
+/// The words of a state: the front word, the clamp word, and those of each page.
+fn laid(alloc: Global, state: &BoardState) -> Result<Vec<u64>, NoMemory>
+    ensures long { IfOk result (λ ws. length ws.items ≡ 2 + 5 * state.now.cpus) }
+    ensures laid { IfOk result (λ ws. IsLaidBelow state.now.cpus state.now ws.items) }
 {
-    let mut words = [0; MOST_WORDS];
-    words[1] = state.greatest();
     let cpus = state.cpus();
+    let Ok(mut words) = vec![in alloc; 0; 2 + 5 * cpus as usize] else {
+        return Err(NoMemory);
+    };
+    words[1] = state.greatest();
     for cpu in 0..cpus {
         let [version, stamp, system, scale, offset] = page_words(&state.page(cpu));
         let at = 2 + 5 * cpu as usize;
@@ -85,5 +76,5 @@ fn laid(state: &BoardState) -> [u64; 322]
         words[at + 3] = scale;
         words[at + 4] = offset;
     }
-    words
+    Ok(words)
 }

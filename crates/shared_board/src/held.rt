@@ -37,19 +37,21 @@ use crate::pass::Pass;
 use crate::pens::{move_pen, publish};
 use board_core::{Access, BoardState, Refusal, Reply, Value, published_by};
 use board_history::Entry;
+use clk_units::NoMemory;
 use clock_table::{Call, ClockSeat, ClockTable, Name};
 use irq_edges::EdgeList;
 use pvclock_page::Page;
+use std::alloc::Global;
 use std::marker::Model;
 
 /// A front word so great leaves no room for a read under the lock.
 const FULL: u64 = 1 << 63;
 
 /// What lies under the lock. The board is the one after all that the writer's seat has seen, but for its greatest
-/// reading, which stands in the clamp word.
+/// reading, which stands in the clamp word. It lies in a box, so that no move of what is shared moves it.
 #[derive(Drop)]
 pub struct Held<N: Name> {
-    pub(crate) board: BoardState,
+    pub(crate) board: Box<BoardState>,
     pub(crate) seat: ClockSeat<N>,
 }
 
@@ -64,8 +66,9 @@ impl<N: Name> Model for Held<N> {
 
     ghost view = { λ s. s.seat.seen };
 
-    ghost invariant = { λ s. IsWriter N.passes s.seat × AreAlike s.board (board_after s.seat.seen)
-        × (machine_of s.board ≡ machine_of N.state) × IsBelow N.passes s.seat };
+    ghost invariant = { λ s. IsWriter N.passes s.seat
+        × AreAlike s.board.value (board_after s.seat.seen)
+        × (machine_of s.board.value ≡ machine_of N.state) × IsBelow N.passes s.seat };
 }
 
 impl<N: Name> Held<N> {
@@ -96,7 +99,7 @@ impl<N: Name> Held<N> {
             h,
             access: a,
         };
-        let result = act(table, &mut self.board, &mut pass.seat, call, reply);
+        let result = act(table, &mut *self.board, &mut pass.seat, call, reply);
         move_pen(table, &mut pass.seat, &mut self.seat);
         result
     }
@@ -121,7 +124,7 @@ impl<N: Name> Held<N> {
         let front = move_pen(table, &mut self.seat, &mut pass.seat);
         let result = read(
             table,
-            &self.board,
+            &*self.board,
             &mut pass.seat,
             pass.number,
             cpu,
@@ -130,6 +133,17 @@ impl<N: Name> Held<N> {
         );
         move_pen(table, &mut pass.seat, &mut self.seat);
         result
+    }
+}
+
+/// A copy of a board, in a box of its own.
+#[inline(never)]
+pub(crate) fn boxed(alloc: Global, state: &BoardState) -> Result<Box<BoardState>, NoMemory>
+    ensures { IfOk result (λ b. b.value ≡ state.now) }
+{
+    match Box::new(alloc, *state) {
+        Ok(board) => Ok(board),
+        Err(_full) => Err(NoMemory),
     }
 }
 

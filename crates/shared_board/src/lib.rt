@@ -7,7 +7,7 @@
 //!
 //! ```text
 //! let blank = Blank::new(alloc, &state)?;
-//! run::<Brand, _>(rt, alloc, blank, state)                    // a function of the caller's own over N: Name
+//! run::<Brand, _>(rt, alloc, blank, &state)                   // a function of the caller's own over N: Name
 //!
 //! let (board, passes) = SharedBoard::<N>::new(alloc, blank, state, 2)?;
 //! board.access(rt, &OpenGate, &mut pass, 0, 1_000, Access::Step)?   // by one thread

@@ -18,7 +18,7 @@ ghost use Rattle.shared_board.specs.Stops.{StopTold, newcomers};
 ghost use Rattle.shared_board.specs.private.Seats.{IsLastRead, HasClamped};
 
 use crate::fault::{LockedFault, PageFault};
-use crate::held::{Held, no_reply};
+use crate::held::{Held, boxed, no_reply};
 use crate::holding::Holding;
 use crate::host::HostClock;
 use crate::pass::Pass;
@@ -60,7 +60,7 @@ pub struct SharedBoard<N: Name> {
 #[derive(Drop)]
 pub struct Stopped {
     /// The board after the whole history.
-    pub state: BoardState,
+    pub state: Box<BoardState>,
 }
 
 /// A board that wasn't stopped, since passes are out. All is handed back.
@@ -79,12 +79,12 @@ impl<N: Name> SharedBoard<N> {
     pub fn new(
         alloc: Global,
         blank: Blank,
-        state: BoardState,
+        state: &BoardState,
         passes: u8,
     ) -> Result<(SharedBoard<N>, Vec<Pass<N>>), NoMemory>
         requires table { blank.0 ≡ N.table }
         requires blank { blank.1 ≡ N.state }
-        requires state { state ≡ N.state }
+        requires state { state.now ≡ N.state }
         requires passes { passes ≡ N.passes }
         ensures { IfOk result (λ t. t.1.items ≡ newcomers N.state N.passes) }
     {
@@ -93,11 +93,12 @@ impl<N: Name> SharedBoard<N> {
             Ok(list) => list,
             Err(_full) => return Err(NoMemory),
         };
+        let held = boxed(alloc, state)?;
         let parts = state.parts();
         let anchor = parts.anchor;
         let board = SharedBoard {
             table,
-            held: Mutex::new(Held { board: state, seat }),
+            held: Mutex::new(Held { board: held, seat }),
             passes,
             host: HostClock::new(anchor),
             ratio: ratio(parts.guest_khz, anchor.khz),
@@ -357,7 +358,7 @@ impl<N: Name> SharedBoard<N> {
 
     /// Takes the board apart, where all its passes are given back.
     pub fn stop(self, passes: Vec<Pass<N>>) -> Result<Stopped, PassesOut<N>>
-        ensures ok { IfOk result (λ s. StopTold N.state N.passes s.state passes.items) }
+        ensures ok { IfOk result (λ s. StopTold N.state N.passes s.state.value passes.items) }
         ensures given { IfErr result (λ out. (out.given ≡ vec_len passes) × (out.made ≡ N.passes)) }
         ensures back { IfErr result (λ out. out.passes.items ≡ passes.items) }
         ensures few { IsErr result ↔ (vec_len passes < N.passes) }

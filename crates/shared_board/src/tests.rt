@@ -82,12 +82,12 @@ fn blank(alloc: Global, state: &BoardState) -> Result<Blank, Fail>
 fn shared<N: Name>(
     alloc: Global,
     blank: Blank,
-    state: BoardState,
+    state: &BoardState,
     passes: u8,
 ) -> Result<(SharedBoard<N>, Vec<Pass<N>>), Fail>
     requires table { blank.0 ≡ N.table }
     requires blank { blank.1 ≡ N.state }
-    requires state { state ≡ N.state }
+    requires state { state.now ≡ N.state }
     requires passes { passes ≡ N.passes }
 {
     match SharedBoard::<N>::new(alloc, blank, state, passes) {
@@ -97,7 +97,7 @@ fn shared<N: Name>(
 }
 
 /// The board of a stopped board, to which all its passes are given.
-fn stopped<N: Name>(board: SharedBoard<N>, passes: Vec<Pass<N>>) -> Result<BoardState, Fail> {
+fn stopped<N: Name>(board: SharedBoard<N>, passes: Vec<Pass<N>>) -> Result<Box<BoardState>, Fail> {
     match board.stop(passes) {
         Ok(Stopped { state }) => Ok(state),
         Err(_out) => Err("all were given".into()),
@@ -147,7 +147,7 @@ fn read_by_one<N: Name, R: Wait + Abort>(
     requires cpus { N.state.cpus ≡ 2 }
     requires passes { 1 ≡ N.passes }
 {
-    let (board, mut passes) = shared::<N>(alloc, blank, state, 1)?;
+    let (board, mut passes) = shared::<N>(alloc, blank, &state, 1)?;
     let mut pass = passes.pop().ok_or("a pass")?;
     assert_eq!(rt; number(rt, &board, &mut pass, 0, 0, ENABLE), 1);
     assert_eq!(rt; number(rt, &board, &mut pass, 1, 0, ENABLE), 2);
@@ -201,7 +201,7 @@ fn stopped_twice<N: Name, R: Wait + Abort>(
     requires cpus { N.state.cpus ≡ 2 }
     requires passes { 2 ≡ N.passes }
 {
-    let (board, mut passes) = shared::<N>(alloc, blank, state, 2)?;
+    let (board, mut passes) = shared::<N>(alloc, blank, &state, 2)?;
     let mut pass = passes.pop().ok_or("a pass")?;
     assert_eq!(rt; pass.number(), 1);
     assert_eq!(rt; number(rt, &board, &mut pass, 0, 5, ENABLE), 1);
@@ -245,7 +245,7 @@ fn held_twice<N: Name, R: Wait + Abort>(
     requires cpus { N.state.cpus ≡ 2 }
     requires passes { 1 ≡ N.passes }
 {
-    let (board, mut passes) = shared::<N>(alloc, blank, state, 1)?;
+    let (board, mut passes) = shared::<N>(alloc, blank, &state, 1)?;
     let mut pass = passes.pop().ok_or("a pass")?;
     let mut one = no_reply();
     let mut two = no_reply();

@@ -6,7 +6,7 @@
 //!
 //! ```text
 //! let blank = Blank::new(alloc, &state)?;
-//! run::<Brand, _>(rt, alloc, blank, state)                    // a function of the caller's own over N: Name
+//! run::<Brand, _>(rt, alloc, blank, &state)                   // a function of the caller's own over N: Name
 //!
 //! let mut board = SoleBoard::<N>::new(alloc, blank, state)?;
 //! board.answer(rt, &OpenGate, 0, 1_000, Access::Step, &mut reply)?

@@ -56,10 +56,10 @@ impl<N: Name> Model for SoleBoard<N> {
 
 impl<N: Name> SoleBoard<N> {
     /// A board that opens with `state`, of which the blank was made. After `NoMemory` the blank is given up.
-    pub fn new(alloc: Global, blank: Blank, state: BoardState) -> Result<SoleBoard<N>, NoMemory>
+    pub fn new(alloc: Global, blank: Blank, state: &BoardState) -> Result<SoleBoard<N>, NoMemory>
         requires table { blank.0 ≡ N.table }
         requires blank { blank.1 ≡ N.state }
-        requires state { state ≡ N.state }
+        requires state { state.now ≡ N.state }
         requires passes { N.passes ≡ 1 }
         ensures { IfOk result (λ s. s ≡ opening N.state) }
     {
@@ -130,8 +130,8 @@ impl<N: Name> SoleBoard<N> {
     }
 
     /// The plain board, as all calls have left it.
-    pub fn stop(self) -> BoardState
-        ensures { result ≡ self.parts }
+    pub fn stop(self) -> Box<BoardState>
+        ensures { result.value ≡ self.parts }
     {
         let SoleBoard { board, passes } = self;
         match board.stop(passes) {

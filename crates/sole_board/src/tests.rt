@@ -203,7 +203,7 @@ fn play<N: Name, R: Wait + Abort>(
     requires passes { N.passes ≡ 1 }
 {
     let mut plain = state;
-    let mut sole = match SoleBoard::<N>::new(alloc, blank, state) {
+    let mut sole = match SoleBoard::<N>::new(alloc, blank, &state) {
         Ok(sole) => sole,
         Err(_no_memory) => return Err("no memory".into()),
     };

@@ -26,7 +26,7 @@ fn steps_of_two<N: Name + Send + Sync, R: Threads + Wait + Abort + Sync>(
     requires cpus { N.state.cpus ≡ 2 }
     requires passes { 2 ≡ N.passes }
 {
-    let (board, mut passes) = shared::<N>(alloc, blank, state, 2)?;
+    let (board, mut passes) = shared::<N>(alloc, blank, &state, 2)?;
     let one = passes.pop().ok_or("a pass")?;
     let two = passes.pop().ok_or("a pass")?;
     let shared = &board;
@@ -91,7 +91,7 @@ fn reads_beside<N: Name + Send + Sync, R: Threads + Wait + Abort + Sync>(
     requires cpus { N.state.cpus ≡ 2 }
     requires passes { 2 ≡ N.passes }
 {
-    let (board, mut passes) = shared::<N>(alloc, blank, state, 2)?;
+    let (board, mut passes) = shared::<N>(alloc, blank, &state, 2)?;
     let mut one = passes.pop().ok_or("a pass")?;
     let two = passes.pop().ok_or("a pass")?;
     assert_eq!(rt; number(rt, &board, &mut one, 0, 0, ENABLE), 1);
@@ -191,7 +191,7 @@ fn met_inside<N: Name + Send + Sync, R: Threads + Wait + Abort + Sync>(
     requires cpus { N.state.cpus ≡ 2 }
     requires passes { 2 ≡ N.passes }
 {
-    let (board, mut passes) = shared::<N>(alloc, blank, state, 2)?;
+    let (board, mut passes) = shared::<N>(alloc, blank, &state, 2)?;
     let one = passes.pop().ok_or("a pass")?;
     let two = passes.pop().ok_or("a pass")?;
     let gate = Meeting {

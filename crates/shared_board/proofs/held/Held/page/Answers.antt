@@ -1,4 +1,6 @@
-use Rattle.std.proofs.Common.{refl, ◌∙◌, ◌≡◌, subst, IfOk, IfErr, true}
+use Rattle.std.proofs.Common.{refl, sym, ◌∙◌, ◌≡◌, subst, IfOk, IfErr, true}
+use Rattle.board_types.specs.declared.parts.BoardParts.{BoardParts}
+use Rattle.board_history.specs.History.{board_after}
 use Rattle.clock_table.specs.declared.view.View.{View}
 use Rattle.clock_table.specs.Steps.{pen_left}
 use Rattle.board_history.specs.declared.entry.Entry.TheVariants.{PageRead}
@@ -6,14 +8,15 @@ use Rattle.shared_board.specs.declared.known.PassKnown.{PassKnown}
 use Rattle.shared_board.specs.Passes.{Answered, Unanswered}
 use Rattle.shared_board.specs.Pages.{HadRoom}
 use Rattle.shared_board.specs.Faults.{IsFull}
-use Rattle.shared_board.specs.private.Seats.{PenMoved, known}
+use Rattle.shared_board.specs.private.Seats.{AreAlike, PenMoved, known}
 use Rattle.shared_board.proofs.Seats.{alike_quiet, legal_either, writer_again, below_moved, below_left, pen_of}
 use Rattle.shared_board.proofs.Turns.{read_turned, read_answered, read_room, read_spent}
 use Rattle.shared_board.proofs.held.Held.page.Goals as goal
 
 pub read-result-requires-clause-alike : goal.read-result-requires-clause-alike
 read-result-requires-clause-alike g c =
-    alike_quiet c.self.inside.board c.self.inside.seat.seen c.move_pen-front.new.to.seen c.self.invariant.1 c.move_pen-front.ensures.moved.quiet
+    subst (λ (b : BoardParts). AreAlike b (board_after c.move_pen-front.new.to.seen)) (sym c.deref.ensures)
+    (alike_quiet c.self.inside.board.value c.self.inside.seat.seen c.move_pen-front.new.to.seen c.self.invariant.1 c.move_pen-front.ensures.moved.quiet)
 
 pub read-result-requires-clause-pen : goal.read-result-requires-clause-pen
 read-result-requires-clause-pen g c =
@@ -27,15 +30,15 @@ invariant_of-self g c =
     let x = c.move_pen-front.new.to in
     let y = c.read-result.new.seat in
     let moved = c.move_pen-front.ensures.moved in
-    let alike = alike_quiet c.self.inside.board c.self.inside.seat.seen x.seen i.1 moved.quiet in
+    let alike = alike_quiet c.self.inside.board.value c.self.inside.seat.seen x.seen i.1 moved.quiet in
     let legal = legal_either c.pass.inside.seat c.self.inside.seat x c.pass.invariant.0.legal i.0.legal moved.either in
-    let t = read_turned c.read-result.result m n c.args.cpu c.args.h c.self.inside.board x y
+    let t = read_turned c.read-result.result m n c.args.cpu c.args.h c.self.inside.board.value x y
     (pen_of n c.pass.inside.seat c.self.inside.seat x c.pass.invariant.0 moved)
     (moved.ended ∙ c.pass.invariant.0.ended) (below_moved m c.self.inside.seat c.pass.inside.seat x i.3 c.pass.invariant.1 moved) alike legal
     c.read-result.ensures.ok c.read-result.ensures.spent in
     let back = subst (λ (u : View). PenMoved y u c.move_pen.new.to) c.move_pen-front.ensures.left c.move_pen.ensures.moved in (
       writer_again m y c.self.inside.seat c.move_pen.new.to i.0 (t.made ∙ (moved.made ∙ i.0.made)) t.legal back,
-      alike_quiet c.self.inside.board y.seen c.move_pen.new.to.seen t.alike back.quiet,
+      alike_quiet c.self.inside.board.value y.seen c.move_pen.new.to.seen t.alike back.quiet,
       i.2,
       below_moved m y (pen_left c.self.inside.seat) c.move_pen.new.to t.below (below_left m c.self.inside.seat (pen_left c.self.inside.seat) refl i.3) back,
     )
@@ -48,9 +51,9 @@ invariant_of-pass g c =
     let x = c.move_pen-front.new.to in
     let y = c.read-result.new.seat in
     let moved = c.move_pen-front.ensures.moved in
-    let alike = alike_quiet c.self.inside.board c.self.inside.seat.seen x.seen i.1 moved.quiet in
+    let alike = alike_quiet c.self.inside.board.value c.self.inside.seat.seen x.seen i.1 moved.quiet in
     let legal = legal_either c.pass.inside.seat c.self.inside.seat x c.pass.invariant.0.legal i.0.legal moved.either in
-    let t = read_turned c.read-result.result m n c.args.cpu c.args.h c.self.inside.board x y
+    let t = read_turned c.read-result.result m n c.args.cpu c.args.h c.self.inside.board.value x y
     (pen_of n c.pass.inside.seat c.self.inside.seat x c.pass.invariant.0 moved)
     (moved.ended ∙ c.pass.invariant.0.ended) (below_moved m c.self.inside.seat c.pass.inside.seat x i.3 c.pass.invariant.1 moved) alike legal
     c.read-result.ensures.ok c.read-result.ensures.spent in

@@ -1,4 +1,6 @@
-use Rattle.std.proofs.Common.{◌∙◌, subst, arith}
+use Rattle.std.proofs.Common.{◌∙◌, ap, subst, arith}
+use Rattle.board_types.specs.declared.parts.BoardParts.{BoardParts}
+use Rattle.board_core.specs.Pages.{with_greatest}
 use Rattle.clock_table.specs.Ends.{EndedTold}
 use Rattle.shared_board.proofs.Seats.{alike_quiet}
 use Rattle.shared_board.proofs.Ends.{joined_whole, passes_told, state_told}
@@ -12,11 +14,13 @@ pub returns-clause-ok : goal.returns-clause-ok
 returns-clause-ok g c =
     let h = c.join_all-seat.result.seen in
     let k = c.close-closed.ensures in
-    let alike = alike_quiet c.board.inside.board c.board.inside.seat.seen h c.board.invariant.1 c.join_all-seat.ensures.quiet in (
+    let alike = alike_quiet c.board.inside.board.value c.board.inside.seat.seen h c.board.invariant.1 c.join_all-seat.ensures.quiet in (
       h,
       k.legal.0,
       k.legal.1,
-      c.set_greatest.ensures ∙ state_told c.board.inside.board h c.close-closed.result.greatest alike k.greatest,
+      c.set_greatest.ensures
+          ∙ ap (λ (b : BoardParts). with_greatest b c.close-closed.result.greatest) c.deref_mut.ensures.value
+          ∙ state_told c.board.inside.board.value h c.close-closed.result.greatest alike k.greatest,
       passes_told h c.args.passes.items (subst (EndedTold h) c.join_all-seat.ensures.ended k.ended),
       k.numbers,
     )
