@@ -51,21 +51,10 @@ impl Answerer<Checked> for Checker {
 
     ghost may = { IsCheckReady };
 
-    fn answer(
-        &mut self,
-        line: u64,
-        text: &[u8],
-        out: &mut Vec<u8>,
-    ) -> Result<Option<Checked>, NoMemory> {
-        let mut end = None;
-        self.answer_into(line, text, out, &mut end)?;
-        Ok(end)
-    }
-
     /// No end is made where the trace goes on.
     #[inline(always)]
     #[tactic(auto, unfolding(crate::specs::Check::check_answer))]
-    fn answer_into(
+    fn answer(
         &mut self,
         line: u64,
         text: &[u8],

@@ -318,19 +318,8 @@ impl<'a, N: Name, R: Wait, G: Gate> Answerer<Verdict> for Opened<'a, N, R, G> {
 
     ghost may = { IsReady };
 
-    fn answer(
-        &mut self,
-        line: u64,
-        text: &[u8],
-        out: &mut Vec<u8>,
-    ) -> Result<Option<Verdict>, NoMemory> {
-        let mut end = None;
-        self.answer_into(line, text, out, &mut end)?;
-        Ok(end)
-    }
-
     #[inline(always)]
-    fn answer_into(
+    fn answer(
         &mut self,
         line: u64,
         text: &[u8],
