@@ -16,22 +16,10 @@ pub trait Answerer<E: Drop> {
     // It may answer the line of this number.
     ghost may: { ℕ → Self → Type 0 };
 
-    /// Answers a line: appends its block, and answers how it ends the trace, if it does. A line that is too long comes
-    /// with one byte more than it may have. After an `Err` the text begins as it was.
-    fn answer(&mut self, line: u64, text: &[u8], out: &mut Vec<u8>) -> Result<Option<E>, NoMemory>
-        requires room { line < 2 ^ 63 }
-        requires may { may line self.old }
-        ensures printed { OnOk result
-            (out.new.items ≡ out.old.items ++ printed (answer line self.old text.now)) }
-        ensures ends { IfOk result (λ end. end ≡ end_of (answer line self.old text.now)) }
-        ensures state { IfOk result (λ end. end ≡ None
-            → self.new ≡ state_behind (answer line self.old text.now) self.old) }
-        ensures may { IfOk result (λ end. end ≡ None → may (line + 1) self.new) }
-        ensures err { OnErr result (StartsWith out.new.items out.old.items) };
-
-    /// The same, for a caller that keeps a place for the end, in which none stands: an answer that goes on moves no end.
-    #[inline(always)]
-    fn answer_into(
+    /// Answers a line: appends its block, and puts into `end`, in which none stands, how it ends the trace, if it does.
+    /// An answer that goes on moves no end. A line that is too long comes with one byte more than it may have. After an
+    /// `Err` the text begins as it was.
+    fn answer(
         &mut self,
         line: u64,
         text: &[u8],
@@ -47,11 +35,7 @@ pub trait Answerer<E: Drop> {
         ensures state { OnOk result (end.new ≡ None
             → self.new ≡ state_behind (answer line self.old text.now) self.old) }
         ensures may { OnOk result (end.new ≡ None → may (line + 1) self.new) }
-        ensures err { OnErr result (StartsWith out.new.items out.old.items) }
-    {
-        *end = self.answer(line, text, out)?;
-        Ok(())
-    }
+        ensures err { OnErr result (StartsWith out.new.items out.old.items) };
 
     /// Answers the end of the input, where the line of this number would come next.
     fn close(&mut self, line: u64, out: &mut Vec<u8>) -> Result<E, NoMemory>
@@ -90,7 +74,7 @@ pub(crate) fn answer_line<E: Drop, T: Answerer<E>>(
     ensures err { OnErr result (out.new.items ≡ out.old.items) }
 {
     let whole = out.len();
-    let result = answerer.answer_into(line, text, out, end);
+    let result = answerer.answer(line, text, out, end);
     if result.is_err() {
         out.truncate(whole);
     }

@@ -5,21 +5,15 @@ ghost use Rattle.std.specs.Prelude.{
   ◌≤◌,
   ◌+◌,
   ◌^◌,
-  ◌++◌,
   None,
-  Some,
   Ok,
   IfOk,
   OnOk,
-  OnErr,
 };
 ghost use Rattle.std.specs.Bool.{OnTrue, OnFalse};
-ghost use Rattle.std.specs.Io.{StartsWith};
-ghost use Rattle.trace_loop.specs.Progress.{printed, end_of, state_behind};
-ghost use Rattle.trace_text.specs.Lines.{taken, IsOpen, IsItem, IsRecordAt};
+ghost use Rattle.trace_text.specs.Lines.{taken, IsOpen, IsItem, IsRecordAt, end_fault as at_end};
 ghost use Rattle.race_phase.specs.Calls.{IsFittingCall};
 ghost use Rattle.race_phase.specs.Phases.{IsEnd, next_board, end_fault};
-ghost use Rattle.reply_text.specs.Text.{refused_text};
 ghost use Rattle.trace_runner.specs.Ready.{Suits};
 ghost use Rattle.trace_runner.specs.Replayed.{
   board_behind,
@@ -36,23 +30,15 @@ ghost use Rattle.trace_runner.specs.Check.{
   end_by,
   kept,
   is_full,
-  too_many,
-  record_checked,
   begun,
-  item_checked,
-  fault_checked,
   trace_of,
   read_on,
-  check_answer,
-  check_closing,
-  IsCheckReady,
-  has_form,
 };
 
 use crate::counting::{admits, count_call, count_end, refused_job};
 use crate::deliveries::deliveries_of;
 use crate::replay::opening;
-use crate::status::{Verdict, refused_by, stop};
+use crate::status::Verdict;
 use crate::trace::Trace;
 use board_core::BoardState;
 use clk_units::NoMemory;
@@ -61,7 +47,7 @@ use reply_text::Refused;
 use std::alloc::Global;
 use std::marker::Model;
 use std::mem;
-use trace_text::{Begin, Header, Item, Job, Reading, Reason, Record as Written, RecordFault};
+use trace_text::{Begin, Header, Item, Job, Reading, Record as Written, RecordFault};
 
 /// How many records a trace may have whose processors run on threads of their own.
 const RECORDS_MAX: u64 = 200_000;
@@ -116,16 +102,6 @@ impl Model for Check {
 
     ghost invariant = { λ c.
         IsTally (replayed c.opening (phases_read c.phases.items) c.last.items) c.tally };
-}
-
-/// Whether a line that is refused has a record's form.
-fn has_form(reason: Reason) -> bool
-    ensures { result ≡ has_form reason }
-{
-    matches!(
-        reason,
-        Reason::Steal | Reason::Cpu | Reason::CounterFell { .. }
-    )
 }
 
 impl Check {
@@ -192,7 +168,7 @@ impl Check {
 
     /// Keeps a record that isn't refused: a save and a move end their phase.
     #[inline(always)]
-    fn keep(&mut self, line: u64, given: &Written) -> Result<(), NoMemory>
+    pub(crate) fn keep(&mut self, line: u64, given: &Written) -> Result<(), NoMemory>
         requires few { self.old.taken < 200000 }
         requires suits { Suits (Item.Next given.now) self.old.replay.board }
         requires free { refused_job given.now.cpu given.now.h given.now.job self.old.replay.board
@@ -226,7 +202,7 @@ impl Check {
 
     /// Whether a record is one that ends no phase, and isn't refused.
     #[inline(always)]
-    fn admits(&self, given: &Written) -> bool
+    pub(crate) fn admits(&self, given: &Written) -> bool
         requires { Suits (Item.Next given.now) self.now.replay.board }
         ensures { OnTrue result
             (refused_job given.now.cpu given.now.h given.now.job self.now.replay.board ≡ None) }
@@ -235,7 +211,7 @@ impl Check {
     }
 
     /// Why a record is refused.
-    fn refusal(&self, given: &Written) -> Option<Refused>
+    pub(crate) fn refusal(&self, given: &Written) -> Option<Refused>
         requires { Suits (Item.Next given.now) self.now.replay.board }
         ensures { result
             ≡ refused_job given.now.cpu given.now.h given.now.job self.now.replay.board }
@@ -244,67 +220,14 @@ impl Check {
     }
 
     /// Whether there is no room for a record more.
-    fn is_full(&self) -> bool
+    pub(crate) fn is_full(&self) -> bool
         ensures { result ≡ is_full self.now }
     {
         self.taken >= RECORDS_MAX
     }
 
-    /// Refuses a record where a replay would, or keeps it. A common one is kept here; what ends a phase, or is refused,
-    /// stands apart, since ends and causes have places that a call clears as it begins.
-    #[inline(always)]
-    pub(crate) fn take(
-        &mut self,
-        line: u64,
-        given: &Written,
-        out: &mut Vec<u8>,
-        end: &mut Option<Checked>,
-    ) -> Result<(), NoMemory>
-        requires suits { Suits (Item.Next given.now) self.old.replay.board }
-        requires open { end.old ≡ None }
-        ensures printed { OnOk result
-            (out.new.items ≡ out.old.items ++ printed (record_checked line given.now self.old)) }
-        ensures ends { OnOk result (end.new ≡ end_of (record_checked line given.now self.old)) }
-        ensures state { OnOk result (end.new ≡ None
-            → self.new ≡ state_behind (record_checked line given.now self.old) self.old) }
-        ensures err { OnErr result (StartsWith out.new.items out.old.items) }
-    {
-        if !self.is_full() && self.admits(given) {
-            return self.keep(line, given);
-        }
-        self.take_slowly(line, given, out, end)
-    }
-
-    /// The same for every record.
-    #[cold]
-    #[inline(never)]
-    fn take_slowly(
-        &mut self,
-        line: u64,
-        given: &Written,
-        out: &mut Vec<u8>,
-        end: &mut Option<Checked>,
-    ) -> Result<(), NoMemory>
-        requires suits { Suits (Item.Next given.now) self.old.replay.board }
-        requires open { end.old ≡ None }
-        ensures printed { OnOk result
-            (out.new.items ≡ out.old.items ++ printed (record_checked line given.now self.old)) }
-        ensures ends { OnOk result (end.new ≡ end_of (record_checked line given.now self.old)) }
-        ensures state { OnOk result (end.new ≡ None
-            → self.new ≡ state_behind (record_checked line given.now self.old) self.old) }
-        ensures err { OnErr result (StartsWith out.new.items out.old.items) }
-    {
-        if self.is_full() {
-            return many(line, out, end);
-        }
-        if let Some(why) = self.refusal(given) {
-            return stopped(line, why, out, end);
-        }
-        self.keep(line, given)
-    }
-
     /// The header is whole: the board is made.
-    fn begin(&mut self, header: &Header)
+    pub(crate) fn begin(&mut self, header: &Header)
         requires { Suits (Item.Begun header.now) self.old.replay.board }
         ensures { self.new ≡ begun header.now self.old }
     {
@@ -320,7 +243,7 @@ impl Check {
     }
 
     /// The trace, which was read to its end. The check is then as before its first record.
-    fn whole(&mut self) -> Result<Trace, NoMemory>
+    pub(crate) fn whole(&mut self) -> Result<Trace, NoMemory>
         requires few { self.old.taken ≤ 200000 }
         requires sound { IsSound self.old }
         ensures { IfOk result (λ trace. trace ≡ trace_of self.old) }
@@ -340,62 +263,9 @@ impl Check {
         })
     }
 
-    /// Answers a line that was read.
-    fn answer_item(
-        &mut self,
-        line: u64,
-        item: &Item,
-        out: &mut Vec<u8>,
-        end: &mut Option<Checked>,
-    ) -> Result<(), NoMemory>
-        requires item { Suits item.now self.old.replay.board }
-        requires few { self.old.taken ≤ 200000 }
-        requires sound { IsSound self.old }
-        requires open { end.old ≡ None }
-        ensures printed { OnOk result
-            (out.new.items ≡ out.old.items ++ printed (item_checked line item.now self.old)) }
-        ensures ends { OnOk result (end.new ≡ end_of (item_checked line item.now self.old)) }
-        ensures state { OnOk result (end.new ≡ None
-            → self.new ≡ state_behind (item_checked line item.now self.old) self.old) }
-        ensures err { OnErr result (StartsWith out.new.items out.old.items) }
-    {
-        match item {
-            Item::Skipped | Item::Part => Ok(()),
-            Item::Begun(header) => {
-                self.begin(header);
-                Ok(())
-            }
-            Item::Next(record) => self.take(line, record, out, end),
-            Item::End => {
-                let trace = self.whole()?;
-                *end = Some(Checked::Whole(trace));
-                Ok(())
-            }
-        }
-    }
-
-    /// Refuses a line: one that has a record's form is one too many first.
-    fn refuse(
-        &self,
-        line: u64,
-        fault: RecordFault,
-        out: &mut Vec<u8>,
-        end: &mut Option<Checked>,
-    ) -> Result<(), NoMemory>
-        ensures printed { OnOk result
-            (out.new.items ≡ out.old.items ++ (fault_checked line fault self.now).text) }
-        ensures ends { OnOk result (end.new ≡ Some (fault_checked line fault self.now).end) }
-        ensures err { OnErr result (out.new.items ≡ out.old.items) }
-    {
-        if self.is_full() && has_form(fault.reason) {
-            return many(line, out, end);
-        }
-        stopped(fault.line, refused_by(fault.reason), out, end)
-    }
-
     /// Takes a line, which may be no record, or refused.
     #[inline(never)]
-    fn read_line(&mut self, text: &[u8]) -> Result<Item, RecordFault>
+    pub(crate) fn read_line(&mut self, text: &[u8]) -> Result<Item, RecordFault>
         requires open { IsOpen self.old.replay.reading.stage }
         requires few { self.old.replay.reading.lines < 2 ^ 63 }
         ensures item { result ≡ taken self.old.replay.reading text.now }
@@ -419,46 +289,13 @@ impl Check {
         self.reading.read_record(text, given)
     }
 
-    /// Answers a line that is no record, or one that is refused. It stands apart, since its item has room for a board,
-    /// which a call clears as it begins.
-    #[cold]
-    #[inline(never)]
-    #[tactic(auto, unfolding(crate::specs::Check::check_answer))]
-    pub(crate) fn answer_other(
-        &mut self,
-        line: u64,
-        text: &[u8],
-        out: &mut Vec<u8>,
-        end: &mut Option<Checked>,
-    ) -> Result<(), NoMemory>
-        requires room { line < 2 ^ 63 }
-        requires may { IsCheckReady line self.old }
-        requires open { end.old ≡ None }
-        ensures printed { OnOk result
-            (out.new.items ≡ out.old.items ++ printed (check_answer line self.old text.now)) }
-        ensures ends { OnOk result (end.new ≡ end_of (check_answer line self.old text.now)) }
-        ensures state { OnOk result (end.new ≡ None
-            → self.new ≡ state_behind (check_answer line self.old text.now) self.old) }
-        ensures may { OnOk result (end.new ≡ None → IsCheckReady (line + 1) self.new) }
-        ensures err { OnErr result (StartsWith out.new.items out.old.items) }
+    /// Why the end of the input is refused, where the trace has not ended.
+    pub(crate) fn at_end(&self) -> RecordFault
+        requires open { IsOpen self.now.replay.reading.stage }
+        requires few { self.now.replay.reading.lines < 2 ^ 63 }
+        ensures { result ≡ at_end self.now.replay.reading }
     {
-        match self.read_line(text) {
-            Ok(item) => self.answer_item(line, &item, out, end),
-            Err(fault) => self.refuse(line, fault, out, end),
-        }
-    }
-
-    /// Refuses the end of the input, where the trace has not ended.
-    pub(crate) fn close(&self, line: u64, out: &mut Vec<u8>) -> Result<Checked, NoMemory>
-        requires room { line < 2 ^ 63 }
-        requires may { IsCheckReady line self.now }
-        ensures printed { OnOk result
-            (out.new.items ≡ out.old.items ++ (check_closing line self.now).text) }
-        ensures ends { IfOk result (λ end. end ≡ (check_closing line self.now).end) }
-    {
-        let fault = self.reading.at_end();
-        let verdict = stop(fault.line, refused_by(fault.reason), out)?;
-        Ok(Checked::Stopped(verdict))
+        self.reading.at_end()
     }
 }
 
@@ -477,33 +314,4 @@ fn end_by(line: u64, given: &Written) -> End
         },
         _ => End::Save { line, cpu, h },
     }
-}
-
-/// Refuses a record that is one too many.
-#[cold]
-#[inline(never)]
-fn many(line: u64, out: &mut Vec<u8>, end: &mut Option<Checked>) -> Result<(), NoMemory>
-    ensures printed { OnOk result (out.new.items ≡ out.old.items ++ (too_many line).text) }
-    ensures ends { OnOk result (end.new ≡ Some (too_many line).end) }
-    ensures err { OnErr result (out.new.items ≡ out.old.items) }
-{
-    stopped(line, Refused::Many, out, end)
-}
-
-/// Appends the line of a refusal, which ends the check.
-#[cold]
-#[inline(never)]
-fn stopped(
-    line: u64,
-    why: Refused,
-    out: &mut Vec<u8>,
-    end: &mut Option<Checked>,
-) -> Result<(), NoMemory>
-    ensures printed { OnOk result (out.new.items ≡ out.old.items ++ refused_text line why) }
-    ensures ends { OnOk result (end.new ≡ Some (Checked.Stopped (Verdict.Stopped line why))) }
-    ensures err { OnErr result (out.new.items ≡ out.old.items) }
-{
-    let verdict = stop(line, why, out)?;
-    *end = Some(Checked::Stopped(verdict));
-    Ok(())
 }

@@ -1,13 +1,30 @@
 //! What answers the lines of a trace that is checked.
-ghost use Rattle.std.specs.Prelude.{◌≡◌};
-ghost use Rattle.trace_runner.specs.Check.{check_start};
+ghost use Rattle.std.specs.Prelude.{◌≡◌, ◌<◌, ◌≤◌, ◌+◌, ◌^◌, ◌++◌, None, Some, IfOk, OnOk, OnErr};
+ghost use Rattle.std.specs.Io.{StartsWith};
+ghost use Rattle.trace_loop.specs.Progress.{printed, end_of, state_behind};
+ghost use Rattle.reply_text.specs.Text.{refused_text};
+ghost use Rattle.trace_runner.specs.Ready.{Suits};
+ghost use Rattle.trace_runner.specs.Sound.{IsSound};
+ghost use Rattle.trace_runner.specs.Check.{
+  check_start,
+  too_many,
+  record_checked,
+  item_checked,
+  fault_checked,
+  check_answer,
+  check_closing,
+  IsCheckReady,
+  has_form,
+};
 
 use crate::check::{Check, Checked};
+use crate::status::{Verdict, refused_by, stop};
 use clk_units::NoMemory;
+use reply_text::Refused;
 use std::alloc::Global;
 use std::marker::Model;
 use trace_loop::Answerer;
-use trace_text::{Job, Record as Written};
+use trace_text::{Item, Job, Reason, Record as Written, RecordFault};
 
 /// A check, with a place for the record that a line is: it is read into that place and handed on by reference, so that
 /// none is moved.
@@ -51,21 +68,10 @@ impl Answerer<Checked> for Checker {
 
     ghost may = { IsCheckReady };
 
-    fn answer(
-        &mut self,
-        line: u64,
-        text: &[u8],
-        out: &mut Vec<u8>,
-    ) -> Result<Option<Checked>, NoMemory> {
-        let mut end = None;
-        self.answer_into(line, text, out, &mut end)?;
-        Ok(end)
-    }
-
     /// No end is made where the trace goes on.
     #[inline(always)]
     #[tactic(auto, unfolding(crate::specs::Check::check_answer))]
-    fn answer_into(
+    fn answer(
         &mut self,
         line: u64,
         text: &[u8],
@@ -81,4 +87,193 @@ impl Answerer<Checked> for Checker {
     fn close(&mut self, line: u64, out: &mut Vec<u8>) -> Result<Checked, NoMemory> {
         self.check.close(line, out)
     }
+}
+
+impl Check {
+    /// Refuses a record where a replay would, or keeps it. A common one is kept here; what ends a phase, or is refused,
+    /// stands apart, since ends and causes have places that a call clears as it begins.
+    #[inline(always)]
+    fn take(
+        &mut self,
+        line: u64,
+        given: &Written,
+        out: &mut Vec<u8>,
+        end: &mut Option<Checked>,
+    ) -> Result<(), NoMemory>
+        requires suits { Suits (Item.Next given.now) self.old.replay.board }
+        requires open { end.old ≡ None }
+        ensures printed { OnOk result
+            (out.new.items ≡ out.old.items ++ printed (record_checked line given.now self.old)) }
+        ensures ends { OnOk result (end.new ≡ end_of (record_checked line given.now self.old)) }
+        ensures state { OnOk result (end.new ≡ None
+            → self.new ≡ state_behind (record_checked line given.now self.old) self.old) }
+        ensures err { OnErr result (StartsWith out.new.items out.old.items) }
+    {
+        if !self.is_full() && self.admits(given) {
+            return self.keep(line, given);
+        }
+        self.take_slowly(line, given, out, end)
+    }
+
+    /// The same for every record.
+    #[cold]
+    #[inline(never)]
+    fn take_slowly(
+        &mut self,
+        line: u64,
+        given: &Written,
+        out: &mut Vec<u8>,
+        end: &mut Option<Checked>,
+    ) -> Result<(), NoMemory>
+        requires suits { Suits (Item.Next given.now) self.old.replay.board }
+        requires open { end.old ≡ None }
+        ensures printed { OnOk result
+            (out.new.items ≡ out.old.items ++ printed (record_checked line given.now self.old)) }
+        ensures ends { OnOk result (end.new ≡ end_of (record_checked line given.now self.old)) }
+        ensures state { OnOk result (end.new ≡ None
+            → self.new ≡ state_behind (record_checked line given.now self.old) self.old) }
+        ensures err { OnErr result (StartsWith out.new.items out.old.items) }
+    {
+        if self.is_full() {
+            return many(line, out, end);
+        }
+        if let Some(why) = self.refusal(given) {
+            return stopped(line, why, out, end);
+        }
+        self.keep(line, given)
+    }
+
+    /// Answers a line that was read.
+    fn answer_item(
+        &mut self,
+        line: u64,
+        item: &Item,
+        out: &mut Vec<u8>,
+        end: &mut Option<Checked>,
+    ) -> Result<(), NoMemory>
+        requires item { Suits item.now self.old.replay.board }
+        requires few { self.old.taken ≤ 200000 }
+        requires sound { IsSound self.old }
+        requires open { end.old ≡ None }
+        ensures printed { OnOk result
+            (out.new.items ≡ out.old.items ++ printed (item_checked line item.now self.old)) }
+        ensures ends { OnOk result (end.new ≡ end_of (item_checked line item.now self.old)) }
+        ensures state { OnOk result (end.new ≡ None
+            → self.new ≡ state_behind (item_checked line item.now self.old) self.old) }
+        ensures err { OnErr result (StartsWith out.new.items out.old.items) }
+    {
+        match item {
+            Item::Skipped | Item::Part => Ok(()),
+            Item::Begun(header) => {
+                self.begin(header);
+                Ok(())
+            }
+            Item::Next(record) => self.take(line, record, out, end),
+            Item::End => {
+                let trace = self.whole()?;
+                *end = Some(Checked::Whole(trace));
+                Ok(())
+            }
+        }
+    }
+
+    /// Refuses a line: one that has a record's form is one too many first.
+    fn refuse(
+        &self,
+        line: u64,
+        fault: RecordFault,
+        out: &mut Vec<u8>,
+        end: &mut Option<Checked>,
+    ) -> Result<(), NoMemory>
+        ensures printed { OnOk result
+            (out.new.items ≡ out.old.items ++ (fault_checked line fault self.now).text) }
+        ensures ends { OnOk result (end.new ≡ Some (fault_checked line fault self.now).end) }
+        ensures err { OnErr result (out.new.items ≡ out.old.items) }
+    {
+        if self.is_full() && has_form(fault.reason) {
+            return many(line, out, end);
+        }
+        stopped(fault.line, refused_by(fault.reason), out, end)
+    }
+
+    /// Answers a line that is no record, or one that is refused. It stands apart, since its item has room for a board,
+    /// which a call clears as it begins.
+    #[cold]
+    #[inline(never)]
+    #[tactic(auto, unfolding(crate::specs::Check::check_answer))]
+    fn answer_other(
+        &mut self,
+        line: u64,
+        text: &[u8],
+        out: &mut Vec<u8>,
+        end: &mut Option<Checked>,
+    ) -> Result<(), NoMemory>
+        requires room { line < 2 ^ 63 }
+        requires may { IsCheckReady line self.old }
+        requires open { end.old ≡ None }
+        ensures printed { OnOk result
+            (out.new.items ≡ out.old.items ++ printed (check_answer line self.old text.now)) }
+        ensures ends { OnOk result (end.new ≡ end_of (check_answer line self.old text.now)) }
+        ensures state { OnOk result (end.new ≡ None
+            → self.new ≡ state_behind (check_answer line self.old text.now) self.old) }
+        ensures may { OnOk result (end.new ≡ None → IsCheckReady (line + 1) self.new) }
+        ensures err { OnErr result (StartsWith out.new.items out.old.items) }
+    {
+        match self.read_line(text) {
+            Ok(item) => self.answer_item(line, &item, out, end),
+            Err(fault) => self.refuse(line, fault, out, end),
+        }
+    }
+
+    /// Refuses the end of the input, where the trace has not ended.
+    fn close(&self, line: u64, out: &mut Vec<u8>) -> Result<Checked, NoMemory>
+        requires room { line < 2 ^ 63 }
+        requires may { IsCheckReady line self.now }
+        ensures printed { OnOk result
+            (out.new.items ≡ out.old.items ++ (check_closing line self.now).text) }
+        ensures ends { IfOk result (λ end. end ≡ (check_closing line self.now).end) }
+    {
+        let fault = self.at_end();
+        let verdict = stop(fault.line, refused_by(fault.reason), out)?;
+        Ok(Checked::Stopped(verdict))
+    }
+}
+
+/// Whether a line that is refused has a record's form.
+fn has_form(reason: Reason) -> bool
+    ensures { result ≡ has_form reason }
+{
+    matches!(
+        reason,
+        Reason::Steal | Reason::Cpu | Reason::CounterFell { .. }
+    )
+}
+
+/// Refuses a record that is one too many.
+#[cold]
+#[inline(never)]
+fn many(line: u64, out: &mut Vec<u8>, end: &mut Option<Checked>) -> Result<(), NoMemory>
+    ensures printed { OnOk result (out.new.items ≡ out.old.items ++ (too_many line).text) }
+    ensures ends { OnOk result (end.new ≡ Some (too_many line).end) }
+    ensures err { OnErr result (out.new.items ≡ out.old.items) }
+{
+    stopped(line, Refused::Many, out, end)
+}
+
+/// Appends the line of a refusal, which ends the check.
+#[cold]
+#[inline(never)]
+fn stopped(
+    line: u64,
+    why: Refused,
+    out: &mut Vec<u8>,
+    end: &mut Option<Checked>,
+) -> Result<(), NoMemory>
+    ensures printed { OnOk result (out.new.items ≡ out.old.items ++ refused_text line why) }
+    ensures ends { OnOk result (end.new ≡ Some (Checked.Stopped (Verdict.Stopped line why))) }
+    ensures err { OnErr result (out.new.items ≡ out.old.items) }
+{
+    let verdict = stop(line, why, out)?;
+    *end = Some(Checked::Stopped(verdict));
+    Ok(())
 }

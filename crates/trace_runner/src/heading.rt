@@ -58,19 +58,8 @@ impl Answerer<Verdict> for Heading {
 
     ghost may = { IsReady };
 
-    fn answer(
-        &mut self,
-        line: u64,
-        text: &[u8],
-        out: &mut Vec<u8>,
-    ) -> Result<Option<Verdict>, NoMemory> {
-        let mut end = None;
-        self.answer_into(line, text, out, &mut end)?;
-        Ok(end)
-    }
-
     #[tactic(auto, unfolding(crate::specs::Replay::answer_of))]
-    fn answer_into(
+    fn answer(
         &mut self,
         line: u64,
         text: &[u8],

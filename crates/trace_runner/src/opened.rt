@@ -10,7 +10,7 @@ ghost use Rattle.trace_runner.specs.Opened.{opened_at, HasRoom, HasSpare};
 use crate::board::RecordBoard;
 use crate::records::{answer_access, answer_clock, answer_page};
 use crate::replay::Replay;
-use crate::status::{Verdict, refuse, refused_by, stop};
+use crate::status::{Verdict, refuse, refused_by};
 use board_core::{Access, BoardState, Refusal, Reply};
 use board_io::Gate;
 use clk_units::NoMemory;
@@ -318,19 +318,8 @@ impl<'a, N: Name, R: Wait, G: Gate> Answerer<Verdict> for Opened<'a, N, R, G> {
 
     ghost may = { IsReady };
 
-    fn answer(
-        &mut self,
-        line: u64,
-        text: &[u8],
-        out: &mut Vec<u8>,
-    ) -> Result<Option<Verdict>, NoMemory> {
-        let mut end = None;
-        self.answer_into(line, text, out, &mut end)?;
-        Ok(end)
-    }
-
     #[inline(always)]
-    fn answer_into(
+    fn answer(
         &mut self,
         line: u64,
         text: &[u8],
@@ -349,9 +338,9 @@ impl<'a, N: Name, R: Wait, G: Gate> Answerer<Verdict> for Opened<'a, N, R, G> {
         )
     }
 
-    fn close(&mut self, _line: u64, out: &mut Vec<u8>) -> Result<Verdict, NoMemory> {
-        let fault = self.replay.reading.at_end();
-        stop(fault.line, refused_by(fault.reason), out)
+    fn close(&mut self, line: u64, out: &mut Vec<u8>) -> Result<Verdict, NoMemory> {
+        stop_board(&mut self.sole, &mut self.replay);
+        self.replay.close(line, out)
     }
 
     #[inline(always)]

@@ -212,20 +212,9 @@ impl Answerer<Verdict> for Replay {
 
     ghost may = { IsReady };
 
-    fn answer(
-        &mut self,
-        line: u64,
-        text: &[u8],
-        out: &mut Vec<u8>,
-    ) -> Result<Option<Verdict>, NoMemory> {
-        let mut end = None;
-        self.answer_into(line, text, out, &mut end)?;
-        Ok(end)
-    }
-
     #[inline(always)]
     #[tactic(auto, unfolding(crate::specs::Replay::answer_of))]
-    fn answer_into(
+    fn answer(
         &mut self,
         line: u64,
         text: &[u8],

@@ -113,19 +113,8 @@ impl Answerer<Verdict> for Soak {
 
     ghost may = { IsSoakReady };
 
-    fn answer(
-        &mut self,
-        line: u64,
-        text: &[u8],
-        out: &mut Vec<u8>,
-    ) -> Result<Option<Verdict>, NoMemory> {
-        let mut end = None;
-        self.answer_into(line, text, out, &mut end)?;
-        Ok(end)
-    }
-
     #[tactic(auto, unfolding(crate::specs::Soak::soak_answer))]
-    fn answer_into(
+    fn answer(
         &mut self,
         line: u64,
         text: &[u8],
@@ -134,7 +123,7 @@ impl Answerer<Verdict> for Soak {
     ) -> Result<(), NoMemory> {
         let whole = out.len();
         let sum = self.sum();
-        self.replay.answer_into(line, text, out, end)?;
+        self.replay.answer(line, text, out, end)?;
         match *end {
             None => {
                 self.edges = self.edges.saturating_add(edges_in(&out[whole..]));

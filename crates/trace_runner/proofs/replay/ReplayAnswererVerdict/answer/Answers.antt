@@ -6,7 +6,7 @@ use Rattle.trace_runner.specs.Replay.{record_answer}
 use Rattle.trace_runner.specs.Ready.{IsReady}
 use Rattle.trace_runner.specs.declared.replay.Replay.{Replay}
 use Rattle.trace_runner.proofs.ReadyNext.{ready_next, next_if}
-use Rattle.trace_runner.proofs.replay.ReplayAnswererVerdict.answer_into.Goals as goal
+use Rattle.trace_runner.proofs.replay.ReplayAnswererVerdict.answer.Goals as goal
 
 pub returns-in-Some-clause-may : goal.returns-in-Some-clause-may
 returns-in-Some-clause-may c =

@@ -5,7 +5,7 @@ use Rattle.trace_runner.specs.Replay.{item_answer}
 use Rattle.trace_runner.specs.Ready.{IsReady}
 use Rattle.trace_runner.specs.declared.replay.Replay.{Replay}
 use Rattle.trace_runner.proofs.ReadyNext.{ready_next, next_if}
-use Rattle.trace_runner.proofs.heading.HeadingAnswererVerdict.answer_into.Goals as goal
+use Rattle.trace_runner.proofs.heading.HeadingAnswererVerdict.answer.Goals as goal
 
 pub returns-in-Ok-clause-may : goal.returns-in-Ok-clause-may
 returns-in-Ok-clause-may c =

@@ -2,7 +2,7 @@ use Rattle.std.proofs.Common.{sym, subst}
 use Rattle.trace_text.specs.declared.reading.Item.TheVariants.{Next}
 use Rattle.trace_runner.specs.Check.{IsCheckReady}
 use Rattle.trace_runner.proofs.CheckReady.{check_next}
-use Rattle.trace_runner.proofs.checker.CheckerAnswererChecked.answer_into.Goals as goal
+use Rattle.trace_runner.proofs.checker.CheckerAnswererChecked.answer.Goals as goal
 
 pub returns-then-read_record-clause-may : goal.returns-then-read_record-clause-may
 returns-then-read_record-clause-may c =
