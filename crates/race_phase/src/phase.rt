@@ -27,19 +27,20 @@ pub fn run_phase<N: Name + Send + Sync, R: Threads + Wait + Sync, G: Gate + Sync
     alloc: Global,
     gate: &G,
     blank: Blank,
-    state: BoardState,
+    state: &BoardState,
     deliveries: &Deliveries,
     records: &[Record],
-) -> Result<(BoardState, Vec<u8>), NoMemory>
+) -> Result<(Box<BoardState>, Vec<u8>), NoMemory>
     requires table { blank.0 ≡ N.table }
     requires blank { blank.1 ≡ N.state }
-    requires state { state ≡ N.state }
+    requires state { state.now ≡ N.state }
     requires passes { N.passes ≡ N.state.cpus }
     requires fitting { All (IsFitting N.state.cpus N.state.format) records.now }
     requires free { records_fault N.state records.now ≡ None }
     requires few { length records.now ≤ 2 ^ 62 }
-    ensures told { IfOk result (λ t. PhaseTold N.state deliveries.now records.now t.0 t.1.items) }
-    ensures alike { IfOk result (λ t. AreAlike (after_records N.state records.now) t.0) }
+    ensures told { IfOk result (λ t. PhaseTold N.state deliveries.now records.now
+        t.0.value t.1.items) }
+    ensures alike { IfOk result (λ t. AreAlike (after_records N.state records.now) t.0.value) }
 {
     let _places = places(&state.parts().processors);
     let cpus = state.cpus();

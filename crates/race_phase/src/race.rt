@@ -21,7 +21,7 @@ use std::thread::Threads;
 #[derive(Drop)]
 pub struct Ran {
     /// The board behind the last phase.
-    pub state: BoardState,
+    pub state: Box<BoardState>,
     /// The text of all phases.
     pub text: Vec<u8>,
 }
@@ -40,13 +40,15 @@ pub fn run_race<R: Threads + Wait + Sync, G: Gate + Sync>(
     requires fitting { All (IsPhase state.cpus state.format) phases.now }
     requires free { trace_fault state phases.now ≡ None }
     ensures { IfOk result
-        (λ r. race_text deliveries.now state phases.now r.state r.text.items) }
+        (λ r. race_text deliveries.now state phases.now r.state.value r.text.items) }
 {
-    let mut now = state;
+    let Ok(mut now) = Box::new(alloc, state) else {
+        return Err(NoMemory);
+    };
     let mut text = Vec::new(alloc);
     let mut rest = phases;
     while let Some((phase, tail)) = rest.split_first() {
-        now = next(rt, alloc, gate, now, deliveries, phase, &mut text)?;
+        now = next(rt, alloc, gate, &*now, deliveries, phase, &mut text)?;
         rest = tail;
     }
     Ok(Ran { state: now, text })
@@ -57,17 +59,17 @@ fn next<R: Threads + Wait + Sync, G: Gate + Sync>(
     rt: &R,
     alloc: Global,
     gate: &G,
-    state: BoardState,
+    state: &BoardState,
     deliveries: &Deliveries,
     phase: &Phase,
     text: &mut Vec<u8>,
-) -> Result<BoardState, NoMemory>
-    requires fitting { IsPhase state.cpus state.format phase.now }
-    requires free { phase_fault state phase.now ≡ None }
-    ensures { IfOk result (λ after. PhaseRan deliveries.now state phase.now after
+) -> Result<Box<BoardState>, NoMemory>
+    requires fitting { IsPhase state.now.cpus state.now.format phase.now }
+    requires free { phase_fault state.now phase.now ≡ None }
+    ensures { IfOk result (λ after. PhaseRan deliveries.now state.now phase.now after.value
         text.old.items text.new.items) }
 {
-    let blank = Blank::new(alloc, &state)?;
+    let blank = Blank::new(alloc, state)?;
     let (mut board, lines) = run_phase::<Brand, R, G>(
         rt,
         alloc,
@@ -78,6 +80,6 @@ fn next<R: Threads + Wait + Sync, G: Gate + Sync>(
         &phase.records,
     )?;
     join(text, lines)?;
-    end_phase(&phase.end, &mut board, deliveries, text)?;
+    end_phase(&phase.end, &mut *board, deliveries, text)?;
     Ok(board)
 }

@@ -16,7 +16,7 @@ run_phase-requires-clause-fitting g c κs within =
 
 pub run_phase-requires-clause-free : goal.run_phase-requires-clause-free
 run_phase-requires-clause-free g c κs within =
-    let s = c.args.state in
+    let s = c.args.state.now in
     let v = c.args.phase.now in
     let rs = v.records.items in
     subst (λ (z : BoardParts × List Record). records_fault z.0 z.1 ≡ None)
@@ -29,29 +29,38 @@ run_phase-requires-clause-few g c κs within =
 
 pub end_phase-requires-clause-end : goal.end_phase-requires-clause-end
 end_phase-requires-clause-end g c =
-    let mid = c.in_ok-board.board in
-    let alike = subst (λ (z : BoardParts × List Record). AreAlike (after_records z.0 z.1) mid)
-    (λ i. (c.in_ok-blank.ensures.state i, c.deref.ensures.value i)) c.in_ok-board.ensures.alike in
-    mid_fits c.args.state c.args.phase.now mid c.requires.fitting alike
+    let mid = c.deref_mut.result.now in
+    let s = c.args.state.now in
+    let rs = c.args.phase.now.records.items in
+    let alike = subst (λ (b : BoardParts). AreAlike (after_records s rs) b) (sym c.deref_mut.ensures.value)
+    (subst (λ (z : BoardParts × List Record). AreAlike (after_records z.0 z.1) c.in_ok-board.board.value)
+    (λ i. (c.in_ok-blank.ensures.state i, c.deref.ensures.value i)) c.in_ok-board.ensures.alike) in
+    mid_fits c.args.state.now c.args.phase.now mid c.requires.fitting alike
 
 pub end_phase-requires-clause-free : goal.end_phase-requires-clause-free
 end_phase-requires-clause-free g c =
-    let mid = c.in_ok-board.board in
-    let alike = subst (λ (z : BoardParts × List Record). AreAlike (after_records z.0 z.1) mid)
-    (λ i. (c.in_ok-blank.ensures.state i, c.deref.ensures.value i)) c.in_ok-board.ensures.alike in
-    mid_free c.args.state c.args.phase.now mid c.requires.fitting alike c.requires.free
+    let mid = c.deref_mut.result.now in
+    let s = c.args.state.now in
+    let rs = c.args.phase.now.records.items in
+    let alike = subst (λ (b : BoardParts). AreAlike (after_records s rs) b) (sym c.deref_mut.ensures.value)
+    (subst (λ (z : BoardParts × List Record). AreAlike (after_records z.0 z.1) c.in_ok-board.board.value)
+    (λ i. (c.in_ok-blank.ensures.state i, c.deref.ensures.value i)) c.in_ok-board.ensures.alike) in
+    mid_free c.args.state.now c.args.phase.now mid c.requires.fitting alike c.requires.free
 
 pub returns : goal.returns
 returns g c =
-    let s = c.args.state in
+    let s = c.args.state.now in
     let v = c.args.phase.now in
     let ds = c.args.deliveries.now in
-    let mid = c.in_ok-board.board in
+    let rs = v.records.items in
+    let mid = c.deref_mut.result.now in
     let lines = c.in_ok-board.lines.items in
-    let alike = subst (λ (z : BoardParts × List Record). AreAlike (after_records z.0 z.1) mid)
-    (λ i. (c.in_ok-blank.ensures.state i, c.deref.ensures.value i)) c.in_ok-board.ensures.alike in
-    let told = subst (λ (z : BoardParts × List Record). PhaseTold z.0 ds z.1 mid lines)
-    (λ i. (c.in_ok-blank.ensures.state i, c.deref.ensures.value i)) c.in_ok-board.ensures.told in
+    let alike = subst (λ (b : BoardParts). AreAlike (after_records s rs) b) (sym c.deref_mut.ensures.value)
+    (subst (λ (z : BoardParts × List Record). AreAlike (after_records z.0 z.1) c.in_ok-board.board.value)
+    (λ i. (c.in_ok-blank.ensures.state i, c.deref.ensures.value i)) c.in_ok-board.ensures.alike) in
+    let told = subst (λ (b : BoardParts). PhaseTold s ds rs b lines) (sym c.deref_mut.ensures.value)
+    (subst (λ (z : BoardParts × List Record). PhaseTold z.0 ds z.1 c.in_ok-board.board.value lines)
+    (λ i. (c.in_ok-blank.ensures.state i, c.deref.ensures.value i)) c.in_ok-board.ensures.told) in
     let last : List ℕ = end_text ds v.end mid in
     let more = c.in_ok-join.ensures in
     let text = c.in_ok-end_phase.ensures.text ∙ (ap (λ l. l ++ last) more ∙ append_assoc c.args.text.now.items lines last) in

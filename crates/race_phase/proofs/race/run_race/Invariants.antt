@@ -5,9 +5,9 @@ use Rattle.race_phase.proofs.race.run_race.Given as goal
 
 abbrev pub invariant-loop-phase : goal.invariant-loop-phase
 invariant-loop-phase g l = record {
-  fits : All (IsPhase l.now.cpus l.now.format) l.rest;
-  free : trace_fault l.now l.rest ≡ None;
-  told : (st : BoardParts) (out : List ℕ) → race_text l.deliveries l.now l.rest st out
+  fits : All (IsPhase l.now.value.cpus l.now.value.format) l.rest;
+  free : trace_fault l.now.value l.rest ≡ None;
+  told : (st : BoardParts) (out : List ℕ) → race_text l.deliveries l.now.value l.rest st out
       → race_text l.deliveries l.fn.state l.fn.phases st (l.text.items ++ out);
 }
 
