@@ -10,7 +10,7 @@ ghost use Rattle.board_core.specs.Reanchor.{reanchored};
 ghost use Rattle.board_core.specs.Upgrade.{gets_timers, upgraded_to};
 
 use crate::board::BoardState;
-use crate::rises::count_rises;
+use crate::rises::count_rises_where;
 use board_devices::Devices;
 use board_types::Ran;
 use host_counter::Anchor;
@@ -29,7 +29,7 @@ impl BoardState {
     {
         let from = self.time_ns;
         let mut edges = EdgeList::new();
-        self.devices.run_to(from, from + gap, &mut edges);
+        let came = self.devices.run_to(from, from + gap, &mut edges);
         self.anchor = Anchor {
             khz,
             start,
@@ -37,7 +37,7 @@ impl BoardState {
         };
         self.host = start;
         self.time_ns = from + gap;
-        count_rises(&mut self.rises, self.format, &edges, 0);
+        count_rises_where(came, &mut self.rises, self.format, &edges, 0);
         Ran { edges }
     }
 

@@ -26,12 +26,12 @@ invariant_of-self c =
     let small : now_of (board_parts_of c.self.inside) + c.args.gap < RANGE_NS = subst (λ (b : BoardParts). now_of b + c.args.gap < RANGE_NS)
     (sym c.self.view_is) c.requires.range in
     let ran : List Edge = (run c.self.inside.time_ns (to - c.self.inside.time_ns) c.self.inside.devices).edges in
-    let es : c.run_to.new.edges ≡ ran = c.run_to.ensures.edges ∙ ap (λ (es : List Edge). es ++ ran) c.new-edges.ensures in
+    let es : c.run_to-came.new.edges ≡ ran = c.run_to-came.ensures.edges ∙ ap (λ (es : List Edge). es ++ ran) c.new-edges.ensures in
     record {
       time = sym now_is;
       joined = record {
         format = subst (λ (n : ℕ). IsFormat c.self.inside.format c.self.inside.cpus n)
-            (sym (ap (λ (d : DeviceParts). d.hpet.timers) c.run_to.ensures.state
+            (sym (ap (λ (d : DeviceParts). d.hpet.timers) c.run_to-came.ensures.state
             ∙ timers-run c.self.inside.time_ns (to - c.self.inside.time_ns) c.self.inside.devices))
             c.self.invariant.joined.format;
         rates = record { host = c.requires.rate; guest = c.self.invariant.joined.rates.guest };
@@ -41,13 +41,13 @@ invariant_of-self c =
         };
         accesses = c.self.invariant.joined.accesses;
         due = λ k less.
-            let r : (line_at k c.run_to.new.self).counts.due ≤ time_at anchor c.args.start + c.self.inside.accesses =
-            omega (arith, c.run_to.ensures.due k less, c.self.invariant.joined.due k less, from, now_is) in r;
+            let r : (line_at k c.run_to-came.new.self).counts.due ≤ time_at anchor c.args.start + c.self.inside.accesses =
+            omega (arith, c.run_to-came.ensures.due k less, c.self.invariant.joined.due k less, from, now_is) in r;
         wall = c.self.invariant.joined.wall;
         processors = c.self.invariant.joined.processors;
-        rises = subst (λ (rs : List ℕ). AreRises c.self.inside.format c.self.inside.accesses (levels c.run_to.new.self) rs) (sym c.count_rises.ensures)
-            (AreRises-after c.self.inside.format c.self.inside.accesses c.self.inside.accesses 0 (levels c.self.inside.devices) (levels c.run_to.new.self)
-            c.run_to.new.edges c.self.inside.rises (omega arith) (omega arith) c.self.invariant.joined.rises
-            (λ line. omega (arith, ap (lifts line) es, c.run_to.ensures.lifts line)));
+        rises = subst (λ (rs : List ℕ). AreRises c.self.inside.format c.self.inside.accesses (levels c.run_to-came.new.self) rs) (sym c.count_rises_where.ensures)
+            (AreRises-after c.self.inside.format c.self.inside.accesses c.self.inside.accesses 0 (levels c.self.inside.devices) (levels c.run_to-came.new.self)
+            c.run_to-came.new.edges c.self.inside.rises (omega arith) (omega arith) c.self.invariant.joined.rises
+            (λ line. omega (arith, ap (lifts line) es, c.run_to-came.ensures.lifts line)));
       };
     }
