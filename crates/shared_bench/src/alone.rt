@@ -138,13 +138,13 @@ pub(crate) fn on_shared<N: Name, R: Wait>(
     rt: &R,
     alloc: Global,
     blank: Blank,
-    state: BoardState,
+    state: &BoardState,
     row: Row,
     a: Access,
 ) -> Result<u64, AllocError>
     requires table { blank.0 ≡ N.table }
     requires blank { blank.1 ≡ N.state }
-    requires state { state ≡ N.state }
+    requires state { state.now ≡ N.state }
     requires cpus { N.state.cpus ≡ 1 }
     requires passes { 1 ≡ N.passes }
     requires legal { (cpus format : ℕ) → IsTrue (is_legal cpus format a) }

@@ -39,13 +39,13 @@ pub(crate) fn crowded<N: Name + Send + Sync, R: Threads + Wait + Clock + Sync>(
     rt: &R,
     alloc: Global,
     blank: Blank,
-    state: BoardState,
+    state: &BoardState,
     passes: u8,
     kind: Kind,
 ) -> io::Result<u128>
     requires table { blank.0 ≡ N.table }
     requires blank { blank.1 ≡ N.state }
-    requires state { state ≡ N.state }
+    requires state { state.now ≡ N.state }
     requires cpus { N.state.cpus ≡ 1 }
     requires passes { passes ≡ N.passes }
 {

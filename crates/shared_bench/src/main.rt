@@ -66,7 +66,7 @@ fn rate<R: Threads + Wait + Clock + Sync>(
         Kind::Reads => threads.saturating_add(1),
         Kind::Accesses => threads,
     };
-    crowded::<Brand, R>(rt, alloc, blank, state, passes, kind)
+    crowded::<Brand, R>(rt, alloc, blank, &state, passes, kind)
 }
 
 /// Makes the calls of the row of this word.
@@ -82,7 +82,7 @@ fn run_alone<R: Wait + Print>(rt: &R, alloc: Global, word: &[u8], a: Access) -> 
     } else if let Some(row) = row_of(word) {
         let state = board();
         let blank = blank(alloc, &state)?;
-        on_shared::<Brand, R>(rt, alloc, blank, state, row, a)?
+        on_shared::<Brand, R>(rt, alloc, blank, &state, row, a)?
     } else {
         return println!(rt; "{USAGE}");
     };
