@@ -142,7 +142,7 @@ fn go_on_with<N: Name, R: Wait, S: Source, K: Sink, G: Gate>(
         (ends_of S.remaining S.given S.before S.faults S.done S.late
         K.contents K.faults source.new sink.new)) }
 {
-    let board = match SoleBoard::<N>::new(alloc, blank, *replay.board.state()) {
+    let board = match SoleBoard::<N>::new(alloc, blank, replay.board.state()) {
         Ok(board) => OpenBoard { board, rt, gate },
         Err(NoMemory) => return Stretch::Over(run_out(feed, &*replay, source, sink)),
     };

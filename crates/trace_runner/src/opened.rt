@@ -41,8 +41,8 @@ impl<'a, N: Name, R: Wait, G: Gate> Model for OpenBoard<'a, N, R, G> {
 
 impl<'a, N: Name, R: Wait, G: Gate> OpenBoard<'a, N, R, G> {
     /// The plain board, as all calls have left it.
-    fn stop(self) -> BoardState
-        ensures { result ≡ self.entry.parts }
+    fn stop(self) -> Box<BoardState>
+        ensures { result.value ≡ self.entry.parts }
     {
         self.board.stop()
     }
@@ -303,8 +303,24 @@ fn stop_board<'a, N: Name, R: Wait, G: Gate>(
     ensures replay { replay.new ≡ opened_at replay.old sole.old }
     ensures sole { sole.new ≡ None }
 {
+    match sole {
+        Some(_) => stop_open(sole, replay),
+        None => {}
+    }
+}
+
+/// Stops the board that is open. It stands apart, so that a replay at rest takes no room for one.
+#[inline(never)]
+fn stop_open<'a, N: Name, R: Wait, G: Gate>(
+    sole: &mut Option<OpenBoard<'a, N, R, G>>,
+    replay: &mut Replay,
+)
+    ensures replay { replay.new ≡ opened_at replay.old sole.old }
+    ensures sole { sole.new ≡ None }
+{
     if let Some(board) = sole.take() {
-        replay.board.state = board.stop();
+        let stopped = board.stop();
+        replay.board.state = *stopped;
     }
 }
 

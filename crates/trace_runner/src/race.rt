@@ -13,7 +13,7 @@ use crate::status::{Status, verdict_status};
 use crate::trace::Trace;
 use board_io::{Gate, Sink, Source};
 use clk_units::NoMemory;
-use race_phase::run_race;
+use race_phase::{Ran, run_race};
 use std::alloc::Global;
 use std::sync::Wait;
 use std::thread::Threads;
@@ -87,7 +87,7 @@ fn text_of<R: Threads + Wait + Sync, G: Gate + Sync>(
 ) -> Result<Vec<u8>, NoMemory>
     ensures { IfOk result (λ text. RacePrints trace.now text.items) }
 {
-    let ran = run_race(
+    let Ran { state, mut text } = run_race(
         rt,
         alloc,
         gate,
@@ -95,7 +95,6 @@ fn text_of<R: Threads + Wait + Sync, G: Gate + Sync>(
         &trace.deliveries,
         &trace.phases,
     )?;
-    let mut text = ran.text;
-    end(&ran.state, trace.shows_state, &mut text)?;
+    end(&*state, trace.shows_state, &mut text)?;
     Ok(text)
 }
