@@ -194,7 +194,7 @@ fn answer<'b, N: Name, R: Wait, G: Gate>(
                 Some(holding) => holding,
                 None => board.hold(rt),
             };
-            place.told = Told::Acted;
+            place.told.note_act();
             place.reply.edges.clear();
             match holding.answer(rt, gate, pass, given.cpu, h, access, &mut place.reply) {
                 Ok(()) => {

@@ -1,4 +1,7 @@
 //! What a worker was told.
+ghost use Rattle.std.specs.Prelude.{◌≡◌};
+ghost use Rattle.race_phase.specs.declared.told.Told.TheVariants.{Acted};
+
 use pvclock_page::{ClockReply, PageReply};
 
 /// What a record was answered. The reply of an access stands apart, where the worker keeps it.
@@ -10,4 +13,17 @@ pub(crate) enum Told {
     PageIs { reply: PageReply },
     /// A reading of the clock.
     ClockIs { reply: ClockReply },
+}
+
+impl Told {
+    // A value is written whole, with the room of its largest case, and most records are accesses.
+    /// Tells of an access. Where it does so already, nothing is written.
+    #[inline(always)]
+    pub(crate) fn note_act(&mut self)
+        ensures { self.new ≡ Acted }
+    {
+        if !matches!(self, Told::Acted) {
+            *self = Told::Acted;
+        }
+    }
 }

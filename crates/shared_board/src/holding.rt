@@ -9,6 +9,7 @@ use crate::pass::Pass;
 use board_core::{Access, Refusal, Reply};
 use board_io::Gate;
 use clock_table::{ClockTable, Name};
+use crossbeam_utils::CachePadded;
 use std::sync::{MutexGuard, Wait};
 
 /// The lock of a shared board, which is given back where this is dropped. Other threads' accesses wait meanwhile; reads
@@ -16,7 +17,7 @@ use std::sync::{MutexGuard, Wait};
 #[derive(Drop)]
 pub struct Holding<'b, N: Name> {
     pub(crate) table: &'b ClockTable<N>,
-    pub(crate) held: MutexGuard<'b, Held<N>>,
+    pub(crate) held: MutexGuard<'b, CachePadded<Held<N>>>,
 }
 
 impl<'b, N: Name> Holding<'b, N> {

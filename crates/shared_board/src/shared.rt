@@ -29,6 +29,7 @@ use board_history::answer_by;
 use board_io::Gate;
 use clk_units::NoMemory;
 use clock_table::{Blank, ClockTable, Name};
+use crossbeam_utils::CachePadded;
 use host_counter::TimeFault;
 use pvclock_page::{ClockReply, PageReply};
 use std::alloc::Global;
@@ -42,11 +43,13 @@ const LOOKS: u32 = 200;
 /// How many pauses of the processor lie between two looks.
 const PAUSES: u32 = 100;
 
+// Threads that look for the lock take its cache line from each other. So what is read beside it, and what whoever has it
+// works on, lie on lines of their own.
 /// A board that threads share: its registers behind one lock, its pages beside it.
 #[derive(Drop)]
 pub struct SharedBoard<N: Name> {
     table: ClockTable<N>,
-    held: Mutex<Held<N>>,
+    held: CachePadded<Mutex<CachePadded<Held<N>>>>,
     passes: u8,
     host: HostClock,
     /// The ratio of the guest's TSC to the host's counter.
@@ -98,7 +101,7 @@ impl<N: Name> SharedBoard<N> {
         let anchor = parts.anchor;
         let board = SharedBoard {
             table,
-            held: Mutex::new(Held { board: held, seat }),
+            held: CachePadded::new(Mutex::new(CachePadded::new(Held { board: held, seat }))),
             passes,
             host: HostClock::new(anchor),
             ratio: ratio(parts.guest_khz, anchor.khz),
@@ -167,7 +170,7 @@ impl<N: Name> SharedBoard<N> {
 
     /// Takes the lock.
     #[inline(always)]
-    fn lock<R: Wait>(&self, rt: &R) -> MutexGuard<'_, Held<N>> {
+    fn lock<R: Wait>(&self, rt: &R) -> MutexGuard<'_, CachePadded<Held<N>>> {
         match self.held.try_lock() {
             Some(held) => held,
             None => self.lock_behind(rt),
@@ -180,7 +183,7 @@ impl<N: Name> SharedBoard<N> {
     /// so that a lock that is free costs one exchange.
     #[cold]
     #[inline(never)]
-    fn lock_behind<R: Wait>(&self, rt: &R) -> MutexGuard<'_, Held<N>> {
+    fn lock_behind<R: Wait>(&self, rt: &R) -> MutexGuard<'_, CachePadded<Held<N>>> {
         for _ in 0..LOOKS {
             for _ in 0..PAUSES {
                 spin_loop();
@@ -372,7 +375,7 @@ impl<N: Name> SharedBoard<N> {
             });
         }
         let SharedBoard { table, held, .. } = self;
-        let Held { mut board, seat } = held.into_inner();
+        let Held { mut board, seat } = held.into_inner().into_inner().into_inner();
         let seat = join_all(&table, seat, passes);
         let closed = table.close(seat);
         board.set_greatest(closed.greatest);
