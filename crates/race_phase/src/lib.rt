@@ -29,6 +29,7 @@ mod phases;
 mod race;
 mod records;
 mod tally;
+mod text;
 mod texts;
 mod told;
 mod work;
@@ -40,6 +41,7 @@ pub use phases::{End, NewHost, Phase};
 pub use race::{Ran, run_race};
 pub use records::{Answer, Call, Record};
 pub use tally::Tally;
+pub use text::Text;
 
 #[cfg(test)]
 mod tests;

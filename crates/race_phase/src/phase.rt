@@ -9,7 +9,7 @@ ghost use Rattle.race_phase.specs.private.Workers.{HasWorked, AllGiven, AllWorke
 
 use crate::deliveries::Deliveries;
 use crate::records::Record;
-use crate::texts::join;
+use crate::text::Text;
 use crate::work::{Worked, work};
 use board_core::{BoardState, ProcessorParts};
 use board_io::Gate;
@@ -30,7 +30,7 @@ pub fn run_phase<N: Name + Send + Sync, R: Threads + Wait + Sync, G: Gate + Sync
     state: &BoardState,
     deliveries: &Deliveries,
     records: &[Record],
-) -> Result<(Box<BoardState>, Vec<u8>), NoMemory>
+) -> Result<(Box<BoardState>, Text), NoMemory>
     requires table { blank.0 ≡ N.table }
     requires blank { blank.1 ≡ N.state }
     requires state { state.now ≡ N.state }
@@ -39,7 +39,7 @@ pub fn run_phase<N: Name + Send + Sync, R: Threads + Wait + Sync, G: Gate + Sync
     requires free { records_fault N.state records.now ≡ None }
     requires few { length records.now ≤ 2 ^ 62 }
     ensures told { IfOk result (λ t. PhaseTold N.state deliveries.now records.now
-        t.0.value t.1.items) }
+        t.0.value t.1) }
     ensures alike { IfOk result (λ t. AreAlike (after_records N.state records.now) t.0.value) }
 {
     let _places = places(&state.parts().processors);
@@ -77,20 +77,20 @@ pub(crate) fn places(processors: &[ProcessorParts; 64]) -> usize
 fn gather<N: Name>(
     alloc: Global,
     results: Vec<Result<Worked<N>, NoMemory>>,
-) -> Result<(Vec<Pass<N>>, Vec<u8>), NoMemory>
+) -> Result<(Vec<Pass<N>>, Text), NoMemory>
     ensures len { IfOk result (λ t. vec_len t.0 ≡ vec_len results) }
     ensures all { IfOk result (λ t. (ds : List (Option Delivery)) (rs : List Record)
         → AllGiven results.items (λ w. w.pass) (λ w. w.text.items) N.state ds rs
-        → AllWorked N.state ds rs 0 t.0.items t.1.items) }
+        → AllWorked N.state ds rs 0 t.0.items t.1) }
 {
     let mut passes = Vec::new(alloc);
-    let mut text = Vec::new(alloc);
+    let mut text = Text::new(alloc);
     for result in results {
         let worked = result?;
         let Ok(()) = passes.push(worked.pass) else {
             return Err(NoMemory);
         };
-        join(&mut text, worked.text)?;
+        text.append(worked.text)?;
     }
     Ok((passes, text))
 }

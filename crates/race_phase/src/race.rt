@@ -7,7 +7,7 @@ use crate::deliveries::Deliveries;
 use crate::ends::end_phase;
 use crate::phase::run_phase;
 use crate::phases::Phase;
-use crate::texts::join;
+use crate::text::Text;
 use board_core::BoardState;
 use board_io::Gate;
 use clk_units::NoMemory;
@@ -23,7 +23,7 @@ pub struct Ran {
     /// The board behind the last phase.
     pub state: Box<BoardState>,
     /// The text of all phases.
-    pub text: Vec<u8>,
+    pub text: Text,
 }
 
 /// Runs a trace of phases, of which no line is refused in file order: a caller checks that by a
@@ -40,12 +40,12 @@ pub fn run_race<R: Threads + Wait + Sync, G: Gate + Sync>(
     requires fitting { All (IsPhase state.cpus state.format) phases.now }
     requires free { trace_fault state phases.now ≡ None }
     ensures { IfOk result
-        (λ r. race_text deliveries.now state phases.now r.state.value r.text.items) }
+        (λ r. race_text deliveries.now state phases.now r.state.value r.text) }
 {
     let Ok(mut now) = Box::new(alloc, state) else {
         return Err(NoMemory);
     };
-    let mut text = Vec::new(alloc);
+    let mut text = Text::new(alloc);
     let mut rest = phases;
     while let Some((phase, tail)) = rest.split_first() {
         now = next(rt, alloc, gate, &*now, deliveries, phase, &mut text)?;
@@ -62,12 +62,12 @@ fn next<R: Threads + Wait + Sync, G: Gate + Sync>(
     state: &BoardState,
     deliveries: &Deliveries,
     phase: &Phase,
-    text: &mut Vec<u8>,
+    text: &mut Text,
 ) -> Result<Box<BoardState>, NoMemory>
     requires fitting { IsPhase state.now.cpus state.now.format phase.now }
     requires free { phase_fault state.now phase.now ≡ None }
     ensures { IfOk result (λ after. PhaseRan deliveries.now state.now phase.now after.value
-        text.old.items text.new.items) }
+        text.old text.new) }
 {
     let blank = Blank::new(alloc, state)?;
     let (mut board, lines) = run_phase::<Brand, R, G>(
@@ -79,7 +79,9 @@ fn next<R: Threads + Wait + Sync, G: Gate + Sync>(
         deliveries,
         &phase.records,
     )?;
-    join(text, lines)?;
-    end_phase(&phase.end, &mut *board, deliveries, text)?;
+    text.join(lines)?;
+    let mut block = Vec::new(alloc);
+    end_phase(&phase.end, &mut *board, deliveries, &mut block)?;
+    text.append(block)?;
     Ok(board)
 }

@@ -1,4 +1,4 @@
-//! The block of a record, and texts joined.
+//! The block of a record.
 ghost use Rattle.std.specs.Prelude.{◌≡◌, ◌++◌, OnOk};
 ghost use Rattle.race_phase.specs.Blocks.{block_of};
 ghost use Rattle.race_phase.specs.private.Told.{answer_with};
@@ -29,15 +29,4 @@ pub(crate) fn append_block(
         Told::PageIs { reply } => page_line(line, reply, out),
         Told::ClockIs { reply } => clock_line(line, reply, out),
     }
-}
-
-/// Appends a text to another. Where that is empty the text is moved into its place, so that none of it is copied.
-pub(crate) fn join(text: &mut Vec<u8>, more: Vec<u8>) -> Result<(), NoMemory>
-    ensures { OnOk result (text.new.items ≡ text.old.items ++ more.items) }
-{
-    if text.is_empty() {
-        *text = more;
-        return Ok(());
-    }
-    text.extend_from_slice(&more).map_err(|_| NoMemory)
 }

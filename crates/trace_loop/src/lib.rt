@@ -16,5 +16,5 @@ pub use answerer::Answerer;
 pub use ended::{Ended, Turn};
 pub use feed::Feed;
 pub use lines::limit_of;
-pub use output::{put_all, say};
+pub use output::{put_all, say, say_each};
 pub use program::{MEMORY_FAULT, answer_lines, go_on, run_out};

@@ -1,5 +1,7 @@
 //! Texts that are put into a sink, or behind one another.
 ghost use Rattle.std.specs.Prelude.{◌≡◌, ◌≢◌, ℕ, ◌<◌, ◌≤◌, List, ◌++◌, length, OnOk, OnErr};
+ghost use Rattle.std.specs.List.{flat_map};
+ghost use Rattle.std.specs.Vec.{vec_items};
 ghost use Rattle.std.specs.Io.KnownBytes.{Appends};
 ghost use Rattle.board_io.specs.Faults.{Rose};
 ghost use Rattle.trace_loop.specs.Outcome.{Begins, SaidOr};
@@ -32,6 +34,35 @@ pub fn say<R: Drop, K: Sink>(sink: &mut K, text: &[u8], end: R, fault: R) -> R
     ensures counted { K.faults sink.old ≤ K.faults sink.new }
 {
     match put_all(sink, text) {
+        Ok(()) => end,
+        Err(Failed) => fault,
+    }
+}
+
+/// Puts whole texts one behind another. After an `Err` the sink has taken a beginning of them all.
+fn put_each<K: Sink>(sink: &mut K, texts: &[Vec<u8>]) -> Result<(), Failed>
+    ensures all { OnOk result (Appends (K.contents sink.old) (K.contents sink.new)
+        (flat_map vec_items texts.now)) }
+    ensures cut { OnErr result ((cut : List ℕ) × Begins cut (flat_map vec_items texts.now)
+        × Appends (K.contents sink.old) (K.contents sink.new) cut) }
+    ensures well { OnOk result (K.faults sink.new ≡ K.faults sink.old) }
+    ensures counted { K.faults sink.old ≤ K.faults sink.new }
+    ensures failed { OnErr result (Rose (K.faults sink.old) (K.faults sink.new)) }
+{
+    for text in texts {
+        put_all(sink, text)?;
+    }
+    Ok(())
+}
+
+/// Puts whole texts into a sink, one behind another, and answers `end`, or `fault` where the sink failed.
+pub fn say_each<R: Drop, K: Sink>(sink: &mut K, texts: &[Vec<u8>], end: R, fault: R) -> R
+    ensures said { SaidOr fault end result (K.contents sink.old) (K.contents sink.new)
+        (flat_map vec_items texts.now) (Rose (K.faults sink.old) (K.faults sink.new)) }
+    ensures sink_well { result ≢ fault → K.faults sink.new ≡ K.faults sink.old }
+    ensures counted { K.faults sink.old ≤ K.faults sink.new }
+{
+    match put_each(sink, texts) {
         Ok(()) => end,
         Err(Failed) => fault,
     }

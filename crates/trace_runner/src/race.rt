@@ -13,11 +13,11 @@ use crate::status::{Status, verdict_status};
 use crate::trace::Trace;
 use board_io::{Gate, Sink, Source};
 use clk_units::NoMemory;
-use race_phase::{Ran, run_race};
+use race_phase::{Ran, Text, run_race};
 use std::alloc::Global;
 use std::sync::Wait;
 use std::thread::Threads;
-use trace_loop::{Ended, MEMORY_FAULT, answer_lines, say};
+use trace_loop::{Ended, MEMORY_FAULT, answer_lines, say, say_each};
 
 /// Reads a trace whole and checks it in file order, then runs each of its phases by one thread a processor, and writes
 /// what they answer. A line that is refused is written alone.
@@ -73,7 +73,7 @@ fn write<R: Threads + Wait + Sync, K: Sink, G: Gate + Sync>(
     ensures sink_well { result ≢ Status.SinkFault → K.faults sink.new ≡ K.faults sink.old }
 {
     match text_of(rt, alloc, gate, trace) {
-        Ok(text) => say(sink, &text, Status::Ok, Status::SinkFault),
+        Ok(text) => say_each(sink, text.pieces(), Status::Ok, Status::SinkFault),
         Err(NoMemory) => say(sink, MEMORY_FAULT, Status::NoMemory, Status::SinkFault),
     }
 }
@@ -84,8 +84,8 @@ fn text_of<R: Threads + Wait + Sync, G: Gate + Sync>(
     alloc: Global,
     gate: &G,
     trace: &Trace,
-) -> Result<Vec<u8>, NoMemory>
-    ensures { IfOk result (λ text. RacePrints trace.now text.items) }
+) -> Result<Text, NoMemory>
+    ensures { IfOk result (λ text. RacePrints trace.now text) }
 {
     let Ran { state, mut text } = run_race(
         rt,
@@ -95,6 +95,8 @@ fn text_of<R: Threads + Wait + Sync, G: Gate + Sync>(
         &trace.deliveries,
         &trace.phases,
     )?;
-    end(&*state, trace.shows_state, &mut text)?;
+    let mut last = Vec::new(alloc);
+    end(&*state, trace.shows_state, &mut last)?;
+    text.append(last)?;
     Ok(text)
 }

@@ -11,7 +11,7 @@ loop-result-preserved g c =
     let st = g.N.Name.state in
     let w = c.in_ok-worked.worked in
     let pushed = c.in-Ok.ensures.items in
-    let more = c.in_ok-join.ensures in
+    let more = c.in_ok-append.ensures.ok in
     let same : length ys ≡ 0 + length c.loop-result.passes.items = let k = inv.count in omega arith in record {
       count =
           let a = length-append ys (c.in-Some.result ∷ []) in
@@ -25,5 +25,5 @@ loop-result-preserved g c =
           let here : HasWorked st ds rs (0 + length c.loop-result.passes.items) w.pass w.text.items =
           subst (λ (k : ℕ). HasWorked st ds rs k w.pass w.text.items) same last in
           subst (λ (z : List PassKnown × List ℕ). AllWorked st ds rs 0 z.0 z.1) (λ k. (sym pushed k, sym more k))
-          (worked-snoc st ds rs 0 c.loop-result.passes.items c.loop-result.text.items w.pass w.text.items (inv.all ds rs front) here);
+          (worked-snoc st ds rs 0 c.loop-result.passes.items c.loop-result.text w.pass w.text.items (inv.all ds rs front) here);
     }

@@ -8,5 +8,5 @@ abbrev pub invariant-loop-result : goal.invariant-loop-result
 invariant-loop-result g l = record {
   count : length l.passes.items ≡ length l.yielded;
   all : (ds : List (Option Delivery)) (rs : List Record) → AllGiven l.yielded (λ w. w.pass) (λ w. w.text.items) g.N.Name.state ds rs
-      → AllWorked g.N.Name.state ds rs 0 l.passes.items l.text.items;
+      → AllWorked g.N.Name.state ds rs 0 l.passes.items l.text;
 }

@@ -54,7 +54,7 @@ returns g c =
     let ds = c.args.deliveries.now in
     let rs = v.records.items in
     let mid = c.deref_mut.result.now in
-    let lines = c.in_ok-board.lines.items in
+    let lines = c.in_ok-board.lines in
     let alike = subst (λ (b : BoardParts). AreAlike (after_records s rs) b) (sym c.deref_mut.ensures.value)
     (subst (λ (z : BoardParts × List Record). AreAlike (after_records z.0 z.1) c.in_ok-board.board.value)
     (λ i. (c.in_ok-blank.ensures.state i, c.deref.ensures.value i)) c.in_ok-board.ensures.alike) in
@@ -63,7 +63,8 @@ returns g c =
     (λ i. (c.in_ok-blank.ensures.state i, c.deref.ensures.value i)) c.in_ok-board.ensures.told) in
     let last : List ℕ = end_text ds v.end mid in
     let more = c.in_ok-join.ensures in
-    let text = c.in_ok-end_phase.ensures.text ∙ (ap (λ l. l ++ last) more ∙ append_assoc c.args.text.now.items lines last) in
+    let block = c.in_ok-end_phase.ensures.text ∙ ap (λ l. l ++ last) c.new-block.ensures.items in
+    let text = c.in_ok-append.ensures.ok ∙ (ap (λ l. c.join.new.self ++ l) block ∙ (ap (λ l. l ++ last) more ∙ append_assoc c.args.text.now lines last)) in
     let board = c.in_ok-end_phase.ensures.board in (
       lines ++ last,
       text,

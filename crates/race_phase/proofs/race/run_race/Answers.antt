@@ -31,7 +31,7 @@ loop-phase-preserved g c =
       free = sym (same_trace_fault (after_phase now v) c.in_ok-now.now.value vs alike (phases_rest now (after_phase now v) v vs (size_phase now v) fits))
           ∙ (or_none (phase_fault now v) (trace_fault (after_phase now v) vs) free).1;
       told = λ st out x.
-          subst (race_text ds c.args.state c.args.phases.now st) (sym (append_assoc c.loop-phase.text.items e.0 out) ∙ ap (λ l. l ++ out) (sym e.1))
+          subst (race_text ds c.args.state c.args.phases.now st) (sym (append_assoc c.loop-phase.text e.0 out) ∙ ap (λ l. l ++ out) (sym e.1))
           (inv.told st (e.0 ++ out) (subst (λ (l : List Phase). race_text ds now l st (e.0 ++ out)) (sym split) (c.in_ok-now.now.value, e.0, out, refl, ended, x)));
     }
 
@@ -45,5 +45,5 @@ returns g c =
     let now = c.loop-phase.now.value in
     let ds = c.args.deliveries.now in
     let none = none_left c.loop-phase.rest.now c.in_default-split_first.ensures.cases in
-    subst (race_text ds c.args.state c.args.phases.now now) (append-nil c.loop-phase.text.items)
+    subst (race_text ds c.args.state c.args.phases.now now) (append-nil c.loop-phase.text)
     (inv.told now [] (subst (λ (l : List Phase). race_text ds now l now []) (sym none) (refl, refl)))

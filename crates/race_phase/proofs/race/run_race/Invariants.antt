@@ -8,7 +8,7 @@ invariant-loop-phase g l = record {
   fits : All (IsPhase l.now.value.cpus l.now.value.format) l.rest;
   free : trace_fault l.now.value l.rest ≡ None;
   told : (st : BoardParts) (out : List ℕ) → race_text l.deliveries l.now.value l.rest st out
-      → race_text l.deliveries l.fn.state l.fn.phases st (l.text.items ++ out);
+      → race_text l.deliveries l.fn.state l.fn.phases st (l.text ++ out);
 }
 
 abbrev pub decreases-loop-phase : goal.decreases-loop-phase

@@ -1,0 +1,23 @@
+use Rattle.std.proofs.Common.{ℕ, List, ◌++◌, ap, ◌∙◌, take}
+use Rattle.std.proofs.KnownBytes.{Appends-trans}
+use Rattle.std.specs.Io.KnownBytes.{Appends}
+use Rattle.std.specs.List.{flat_map}
+use Rattle.std.specs.Vec.{vec_items}
+use Rattle.trace_loop.specs.Outcome.{Begins}
+use Rattle.trace_loop.proofs.Written.{on_err_from, begins_each}
+use Rattle.trace_loop.proofs.output.put_each.Goals as goal
+
+pub returns-in_err-put_all-clause-cut : goal.returns-in_err-put_all-clause-cut
+returns-in_err-put_all-clause-cut g c =
+    let contents = g.K.Sink.contents in
+    let texts = c.args.texts.now in
+    let i = c.loop-text.text-index in
+    let front : List ℕ = flat_map vec_items (take i texts) in
+    let cut = c.in_err-put_all.ensures.cut in
+    on_err_from c.from_residual.result
+    ((cut : List ℕ) × Begins cut (flat_map vec_items texts) × Appends (contents c.args.sink.now) (contents c.put_all.new.sink) cut) (
+      front ++ cut.0,
+      begins_each vec_items texts i c.text-item.result cut.0 c.deref.result.now c.loop-text-test.true
+          (c.deref.ensures.value ∙ ap vec_items c.text-item.is) cut.1,
+      Appends-trans (contents c.args.sink.now) (contents c.loop-text.sink) (contents c.put_all.new.sink) front cut.0 c.loop-text.invariant.front cut.2,
+    )
