@@ -4,4 +4,4 @@ use Rattle.trace_runner.proofs.race.write.Goals as goal
 
 pub returns-in-Err-clause-said : goal.returns-in-Err-clause-said
 unfolding memory_fault_text
-returns-in-Err-clause-said g c = inr c.say-in-Err.ensures.said
+returns-in-Err-clause-said g c = inr c.say.ensures.said

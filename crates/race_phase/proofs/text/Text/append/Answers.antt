@@ -16,7 +16,8 @@ returns-in-Some-clause-ok c =
     on_ok_weaker c.map_err.result
     (λ e. flat_map-last vec_items v.items v.len new last more v.ok.0 (c.in-Some.ensures.variant.0 refl)
     (e ∙ ap (λ l. last.items ++ l) c.deref.ensures.value ∙ ap (λ z. vec_items z ++ more) c.in-Some.ensures.value) ∙ ap (λ l. l ++ more) c.self.view_is)
-    (grown c.extend_from_slice.result c.map_err.result last.items new.items (last.items ++ c.deref.result.now) c.map_err.ensures.variant c.extend_from_slice.ensures.items)
+    (grown c.extend_from_slice.result c.map_err.result last.items new.items (last.items ++ c.deref.result.now)
+    c.map_err.ensures.variant c.extend_from_slice.ensures.items)
 
 pub returns-in-Some-clause-err : goal.returns-in-Some-clause-err
 returns-in-Some-clause-err c =
@@ -25,7 +26,8 @@ returns-in-Some-clause-err c =
     let new = c.extend_from_slice.new.self in
     on_err_weaker c.map_err.result
     (λ e. flat_map-same vec_items v.items v.len new last v.ok.0 (c.in-Some.ensures.variant.0 refl) (e ∙ ap vec_items c.in-Some.ensures.value) ∙ c.self.view_is)
-    (kept c.extend_from_slice.result c.map_err.result last.items new.items (last.items ++ c.deref.result.now) c.map_err.ensures.variant c.extend_from_slice.ensures.items)
+    (kept c.extend_from_slice.result c.map_err.result last.items new.items (last.items ++ c.deref.result.now)
+    c.map_err.ensures.variant c.extend_from_slice.ensures.items)
 
 -- the last piece, if there is one, is as it was
 same : (c : In_default) → flat_map vec_items c.in_default.self-inside.pieces.items ≡ c.args.self.now
