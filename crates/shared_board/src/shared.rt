@@ -38,10 +38,10 @@ use std::sync::{Mutex, MutexGuard, Wait};
 use tsc_scale::ratio;
 
 /// How often a thread looks for a lock that another has, before it sleeps.
-const LOOKS: u32 = 200;
+const LOOKS: u32 = 1_000;
 
 /// How many pauses of the processor lie between two looks.
-const PAUSES: u32 = 100;
+const PAUSES: u32 = 20;
 
 // Threads that look for the lock take its cache line from each other. So what is read beside it, and what whoever has it
 // works on, lie on lines of their own.
