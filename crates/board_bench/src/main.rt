@@ -195,8 +195,9 @@ fn ask(board: &mut BoardState, h: u64, access: Access, list: &mut EdgeList) -> u
         list.clear();
     }
     let before = list.len();
-    match board.answer(0, h, access, list) {
-        Ok(value) => number_of(value).wrapping_add(list.len().saturating_sub(before) as u64),
+    let mut value = Value::Nothing;
+    match board.answer(0, h, access, &mut value, list) {
+        Ok(()) => number_of(value).wrapping_add(list.len().saturating_sub(before) as u64),
         Err(_) => 0,
     }
 }

@@ -40,8 +40,9 @@ impl BoardState {
         ensures few_run { OnOk result (length (ran_to self.old h).edges ≤ 6) }
         ensures few { IfOk result (λ r. length r.edges ≤ length (ran_to self.old h).edges + 12) }
     {
+        let mut value = Value::Nothing;
         let mut edges = EdgeList::new();
-        let value = self.answer(cpu, h, a, &mut edges)?;
+        self.answer(cpu, h, a, &mut value, &mut edges)?;
         Ok(Reply {
             number: self.accesses,
             value,
@@ -49,25 +50,27 @@ impl BoardState {
         })
     }
 
-    /// The same, for a caller that keeps the list of edges: they are appended to it, and 18 places must be free. The
-    /// access's number is then `accesses`. It moves no list, so it is the faster of the two. It holds code for each
-    /// kind of access that guests make often: a small caller takes all of it in, and a large one calls it.
+    /// The same, for a caller that keeps the value and the list of edges: these are appended to it, and 18 places must be
+    /// free. The access's number is then `accesses`. It moves neither, so it is the faster of the two. It holds code for
+    /// each kind of access that guests make often: a small caller takes all of it in, and a large one calls it.
     #[inline(always)]
     pub fn answer(
         &mut self,
         cpu: u8,
         h: u64,
         a: Access,
+        value: &mut Value,
         edges: &mut EdgeList,
-    ) -> Result<Value, Refusal>
+    ) -> Result<(), Refusal>
         requires cpu { cpu < self.old.cpus }
         requires legal { IsTrue (is_legal self.old.cpus self.old.format a) }
         requires places { length edges.old + 18 ≤ EDGE_PLACES }
         ensures refused { IfErr result (λ e. refusal_of self.old cpu h a ≡ Some e) }
         ensures unchanged { OnErr result (self.new ≡ self.old) }
+        ensures no_value { OnErr result (value.new ≡ value.old) }
         ensures no_edges { OnErr result (edges.new ≡ edges.old) }
         ensures taken { OnOk result (refusal_of self.old cpu h a ≡ None) }
-        ensures value { IfOk result (λ v. v ≡ (reply_of self.old cpu h a).value) }
+        ensures value { OnOk result (value.new ≡ (reply_of self.old cpu h a).value) }
         ensures edges { OnOk result (edges.new ≡ edges.old ++ (reply_of self.old cpu h a).edges) }
         ensures state { OnOk result (self.new ≡ after_access self.old cpu h a) }
         ensures few_run { OnOk result (length (ran_to self.old h).edges ≤ 6) }
@@ -76,14 +79,18 @@ impl BoardState {
     {
         // In each of these arms the compiler knows the kind, and leaves out what the others need.
         match a {
-            Access::PortIn { port } => self.answer_known(cpu, h, Access::PortIn { port }, edges),
-            Access::HpetRead { offset, width } => {
-                self.answer_known(cpu, h, Access::HpetRead { offset, width }, edges)
+            Access::PortIn { port } => {
+                self.answer_known(cpu, h, Access::PortIn { port }, value, edges)
             }
-            Access::Ack { line } => self.answer_known(cpu, h, Access::Ack { line }, edges),
-            Access::MsrRead { msr } => self.answer_known(cpu, h, Access::MsrRead { msr }, edges),
-            Access::Step => self.answer_known(cpu, h, Access::Step, edges),
-            _ => self.answer_known(cpu, h, a, edges),
+            Access::HpetRead { offset, width } => {
+                self.answer_known(cpu, h, Access::HpetRead { offset, width }, value, edges)
+            }
+            Access::Ack { line } => self.answer_known(cpu, h, Access::Ack { line }, value, edges),
+            Access::MsrRead { msr } => {
+                self.answer_known(cpu, h, Access::MsrRead { msr }, value, edges)
+            }
+            Access::Step => self.answer_known(cpu, h, Access::Step, value, edges),
+            _ => self.answer_known(cpu, h, a, value, edges),
         }
     }
 }
@@ -98,16 +105,18 @@ impl BoardState {
         cpu: u8,
         h: u64,
         a: Access,
+        value: &mut Value,
         edges: &mut EdgeList,
-    ) -> Result<Value, Refusal>
+    ) -> Result<(), Refusal>
         requires cpu { cpu < self.old.cpus }
         requires legal { IsTrue (is_legal self.old.cpus self.old.format a) }
         requires places { length edges.old + 18 ≤ EDGE_PLACES }
         ensures refused { IfErr result (λ e. refusal_of self.old cpu h a ≡ Some e) }
         ensures unchanged { OnErr result (self.new ≡ self.old) }
+        ensures no_value { OnErr result (value.new ≡ value.old) }
         ensures no_edges { OnErr result (edges.new ≡ edges.old) }
         ensures taken { OnOk result (refusal_of self.old cpu h a ≡ None) }
-        ensures value { IfOk result (λ v. v ≡ (reply_of self.old cpu h a).value) }
+        ensures value { OnOk result (value.new ≡ (reply_of self.old cpu h a).value) }
         ensures edges { OnOk result (edges.new ≡ edges.old ++ (reply_of self.old cpu h a).edges) }
         ensures state { OnOk result (self.new ≡ after_access self.old cpu h a) }
         ensures few_run { OnOk result (length (ran_to self.old h).edges ≤ 6) }
@@ -119,8 +128,8 @@ impl BoardState {
             Err(refusal) => return Err(refusal),
         };
         self.run_to(h, to, edges);
-        let value = self.act(cpu, h, a, edges);
-        Ok(value)
+        *value = self.act(cpu, h, a, edges);
+        Ok(())
     }
 }
 

@@ -21,7 +21,7 @@ pub trait Gate {
 
 /// How many records an open gate lets through under one lock. Whoever takes the lock behind another thread fetches the board
 /// from that one's cache first, so that few records under each lock would cost more than they do by themselves.
-const OPEN_TOGETHER: u16 = 1000;
+const OPEN_TOGETHER: u16 = 1_000;
 
 /// A gate that holds nobody.
 #[derive(Clone, Copy, Debug, PartialEq, Eq)]

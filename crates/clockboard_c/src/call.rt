@@ -7,7 +7,7 @@ ghost use Rattle.clockboard_c.specs.Call.{early_code, told, behind, told_by, ans
 use crate::board::{Board, SEAL};
 use crate::code::{NO_BOARD, NO_PROCESSOR, NOT_OURS, code_of};
 use crate::reply::{ReplyWords, value_words};
-use board_types::Access;
+use board_types::{Access, Value};
 
 /// One access by processor `cpu` at count `host`: what of it C could have given that no board takes is answered by
 /// a code; else the board answers. Each call of C's has its own copy of these tests, in which its kind of access is known.
@@ -48,8 +48,12 @@ fn answer(board: &mut Board, cpu: u8, host: u64, access: Access, reply: &mut Rep
     ensures board { board.new ≡ answered board.old cpu host access }
 {
     let scratch = &mut board.scratch;
-    match board.state.answer(cpu, host, access, &mut scratch.edges) {
-        Ok(value) => {
+    let mut value = Value::Nothing;
+    match board
+        .state
+        .answer(cpu, host, access, &mut value, &mut scratch.edges)
+    {
+        Ok(()) => {
             reply.take(
                 board.state.accesses(),
                 board.state.now(),

@@ -107,6 +107,7 @@ impl Counter {
     }
 
     /// Takes `n` CLK pulses. Answers how often OUT rose, and at which of them first.
+    #[inline(always)]
     pub fn pulses(&mut self, n: u64) -> Rises
         ensures state { self.new ≡ pulsed_times n self.old }
         ensures count { result.count ≡ rises_in self.old n }

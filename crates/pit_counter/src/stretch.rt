@@ -342,6 +342,7 @@ fn take_loud_pulses(p: &mut CounterParts, n: u64) -> Rises
 }
 
 /// Takes `n` pulses.
+#[inline(always)]
 pub fn take_pulses(p: &mut CounterParts, n: u64) -> Rises
     requires { IsCounter p.old }
     ensures state { p.new ≡ pulsed_times n p.old }

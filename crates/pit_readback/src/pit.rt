@@ -173,6 +173,7 @@ impl Pit {
 
     /// Reads one of the ports at nanosecond `now`: 40h, 41h or 42h gives a latched status first,
     /// then a latched count, else the present count; 43h reads FFh (own); 61h as `read_61` tells.
+    #[inline(always)]
     #[tactic(auto, unfolding(crate::specs::Ports::port_read, crate::specs::Ports::after_port_read))]
     pub fn read(&mut self, port: u8, now: u64) -> u8
         requires { IsTrue (is_pit_port port) }
@@ -219,6 +220,7 @@ impl Pit {
 
     /// Takes `n` CLK pulses in each counter. Answers how often OUT of counter 0 rose, and at which
     /// of them first.
+    #[inline(always)]
     pub fn pulses(&mut self, n: u64) -> Rises
         ensures state { self.new ≡ pit_pulsed_times n self.old }
         ensures three { length self.new.counters ≡ 3 }
@@ -262,6 +264,7 @@ impl Pit {
 }
 
 /// Takes `n` CLK pulses in each of three counters. Answers the rises of OUT of the first.
+#[inline(always)]
 fn pulse_each(counters: &mut [Counter; 3], n: u64) -> Rises
     ensures state { counters.new ≡ map (pulsed_times n) counters.old }
     ensures count { result.count

@@ -286,8 +286,8 @@ module _ (b : BoardParts) (t : TallyParts) (gap : ℕ) (x : IsTally b t) (none :
       sym (spent_below-tally b t b.cpus x ∙ ap (spent_in t.versions) (sym x.cpus)) ∙ (move_fault-none gap b none).1
 
 -- a count whose product isn't beyond that of the range has a time
-pub product_time : (anchor : Anchor) (h : ℕ) → anchor.start ≤ h → anchor.base_ns < 576460752303423488
-    → (h - anchor.start) * 1000000 ≤ anchor.khz * (576460752303423487 - anchor.base_ns) → HasTime anchor h
+pub product_time : (anchor : Anchor) (h : ℕ) → anchor.start ≤ h → anchor.base_ns < RANGE_NS
+    → (h - anchor.start) * 1000000 ≤ anchor.khz * (RANGE_NS - 1 - anchor.base_ns) → HasTime anchor h
 unfolding time_at
 product_time anchor h started base few =
     record { started = started; range = omega (arith, base, div-le_of_le-mul anchor.khz few) }

@@ -27,12 +27,13 @@ use shared_board::{Holding, Pass, SharedBoard};
 use std::alloc::Global;
 use std::sync::Wait;
 
+// The count of the reply's edges stands last in it, so the fields behind it are those that each record asks for.
 /// What a record was told, until it is printed. Its reply is put where it stays, so that no list of edges is moved.
 #[derive(Drop)]
 pub(crate) struct Place {
+    pub(crate) reply: Reply,
     pub(crate) line: u64,
     pub(crate) told: Told,
-    pub(crate) reply: Reply,
 }
 
 /// A record wasn't answered.
@@ -43,17 +44,19 @@ pub(crate) struct Halted;
 pub(crate) fn new_places(alloc: Global, count: usize) -> Result<Vec<Place>, NoMemory>
     ensures { IfOk result (λ v. vec_len v ≡ count) }
 {
-    let mut places = Vec::new(alloc);
+    let Ok(mut places) = Vec::with_capacity(alloc, count) else {
+        return Err(NoMemory);
+    };
     let mut made = 0;
     while made < count {
         let Ok(()) = places.push(Place {
-            line: 0,
-            told: Told::Acted,
             reply: Reply {
                 number: 0,
                 value: Value::Nothing,
                 edges: EdgeList::new(),
             },
+            line: 0,
+            told: Told::Acted,
         }) else {
             return Err(NoMemory);
         };

@@ -116,9 +116,11 @@ fn put_reply(board: &mut BoardState, a: Access, reply: &mut Reply)
     if board.cpus() == 0 {
         return;
     }
-    if let Ok(value) = board.answer(0, 0, a, &mut reply.edges) {
+    if board
+        .answer(0, 0, a, &mut reply.value, &mut reply.edges)
+        .is_ok()
+    {
         reply.number = board.accesses();
-        reply.value = value;
     }
 }
 

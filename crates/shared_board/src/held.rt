@@ -213,10 +213,16 @@ pub(crate) fn act<N: Name>(
     ensures machine { machine_of board.new ≡ machine_of board.old }
     ensures unchanged { OnErr result (reply.new ≡ reply.old) }
 {
-    match board.answer(call.cpu, call.h, call.access, &mut reply.edges) {
-        Ok(value) => {
+    let told = board.answer(
+        call.cpu,
+        call.h,
+        call.access,
+        &mut reply.value,
+        &mut reply.edges,
+    );
+    match told {
+        Ok(()) => {
             reply.number = board.accesses();
-            reply.value = value;
             make(table, board, seat, call, reply);
             Ok(())
         }

@@ -1,22 +1,7 @@
 -- Counts with a time and without, as answers to reads.
-use Rattle.std.proofs.Common.{
-  ◌≡◌,
-  ℕ,
-  ◌^◌,
-  Bool,
-  true,
-  false,
-  cond,
-  ltb,
-  leb,
-  Option,
-  Some,
-  None,
-  sym,
-  ap,
-  ◌∙◌,
-}
+use Rattle.std.proofs.Common.{◌≡◌, ℕ, ◌≤◌, Option, Some, None, refl, sym, ap, subst}
 use Rattle.std.proofs.lemmas.Bool.{lt-ltb, le-ltb, le-leb, lt-leb}
+use Rattle.clk_units.specs.declared.ranges.TheConstants.{RANGE_NS}
 use Rattle.host_counter.specs.Time.{time_at, IsFaultAt}
 use Rattle.host_counter.specs.declared.TimeFault.{TimeFault}
 use Rattle.host_counter.specs.declared.TimeFault.TheVariants.{BeforeStart, OutOfRange}
@@ -39,25 +24,15 @@ use Rattle.trace_runner.specs.Records.{
 -- a count with a time isn't refused
 pub counted : (b : BoardParts) (h : ℕ) → HasTime b.anchor h → refused_count b h ≡ None
 unfolding refused_count
-counted b h t =
-    let started : ltb h b.anchor.start ≡ false = le-ltb h b.anchor.start t.started in
-    let range : leb (2 ^ 59) (time_at b.anchor h) ≡ false = lt-leb (2 ^ 59) (time_at b.anchor h) t.range in
-    ap (λ (c : Bool). cond c (Some (Fell b.anchor.start)) (cond (leb (2 ^ 59) (time_at b.anchor h)) (Some (Range (time_at b.anchor h))) None)) started
-    ∙ ap (λ (c : Bool). cond c (Some (Range (time_at b.anchor h))) None) range
+counted b h t = rw (le-ltb h b.anchor.start t.started, lt-leb RANGE_NS (time_at b.anchor h) t.range) refl
 
 -- one without is, by its fault
 pub faulted : (b : BoardParts) (h : ℕ) (fault : TimeFault) → IsFaultAt b.anchor h fault → refused_count b h ≡ Some (refused_fault fault)
 unfolding refused_count
-faulted b h (BeforeStart start) is =
-    let early : ltb h b.anchor.start ≡ true = lt-ltb h b.anchor.start is.0 in
-    ap (λ (c : Bool). cond c (Some (Fell b.anchor.start)) (cond (leb (2 ^ 59) (time_at b.anchor h)) (Some (Range (time_at b.anchor h))) None)) early
-    ∙ ap (λ (s : ℕ). Some (Fell s)) (sym is.1)
+faulted b h (BeforeStart start) is = rw (lt-ltb h b.anchor.start is.0) (ap (λ (s : ℕ). Some (Fell s)) (sym is.1))
 faulted b h (OutOfRange ns) is =
-    let started : ltb h b.anchor.start ≡ false = le-ltb h b.anchor.start is.0 in
-    let late : leb (2 ^ 59) ns ≡ true = le-leb (2 ^ 59) ns is.1 in
-    ap (λ (c : Bool). cond c (Some (Fell b.anchor.start)) (cond (leb (2 ^ 59) (time_at b.anchor h)) (Some (Range (time_at b.anchor h))) None)) started
-    ∙ ap (λ (n : ℕ). cond (leb (2 ^ 59) n) (Some (Range n)) None) (sym is.2)
-    ∙ ap (λ (c : Bool). cond c (Some (Range ns)) None) late
+    let late : RANGE_NS ≤ time_at b.anchor h = subst (λ (n : ℕ). RANGE_NS ≤ n) is.2 is.1 in
+    rw (le-ltb h b.anchor.start is.0, le-leb RANGE_NS (time_at b.anchor h) late) (ap (λ (n : ℕ). Some (Range n)) (sym is.2))
 
 -- reads of pages and of clocks
 pub page-read : (line page h : ℕ) (b : BoardParts) → HasTime b.anchor h → page_answer line page h b ≡ Goes (page_text line (page_reply b page h)) b

@@ -7,10 +7,6 @@ use Rattle.std.proofs.Common.{
   ◌^◌,
   Bool,
   true,
-  false,
-  cond,
-  ltb,
-  leb,
   List,
   [],
   ◌∷◌,
@@ -27,9 +23,7 @@ use Rattle.std.proofs.Common.{
   arith,
 }
 use Rattle.std.proofs.lemmas.List.Elements.{All-nil, All-push}
-use Rattle.host_counter.specs.Time.{time_at}
 use Rattle.host_counter.specs.declared.TimeFault.{TimeFault}
-use Rattle.host_counter.specs.declared.TimeFault.TheVariants.{BeforeStart, OutOfRange}
 use Rattle.board_types.specs.Legal.{is_legal}
 use Rattle.board_types.specs.declared.access.Access.{Access}
 use Rattle.board_types.specs.declared.access.Access.TheVariants.{Step}
@@ -44,7 +38,6 @@ use Rattle.board_core.proofs.Laws.{after_access-greatest, refusal_of-greatest}
 use Rattle.edge_hooks.specs.declared.deliveries.Delivery.{Delivery}
 use Rattle.reply_text.specs.Text.{page_text, clock_text}
 use Rattle.reply_text.specs.declared.ends.Refused.{Refused}
-use Rattle.reply_text.specs.declared.ends.Refused.TheVariants.{Fell, Range}
 use Rattle.transfer.specs.Move.{move_fault, moved_to}
 use Rattle.transfer.specs.declared.outcome.MoveFault.{MoveFault}
 use Rattle.trace_text.specs.declared.header.Header.{Header}
@@ -53,6 +46,7 @@ use Rattle.trace_text.specs.declared.records.Job.TheVariants.{Board, Page, Clock
 use Rattle.trace_text.specs.declared.records.Record.{Record as Written}
 use Rattle.trace_loop.specs.Progress.{Answer, Goes, Ends}
 use Rattle.trace_runner.specs.Records.{
+  by_fault,
   refused_count,
   access_answer,
   read_answer,
@@ -108,13 +102,11 @@ use Rattle.trace_runner.proofs.ReadyNext.{Same, same_job}
 -- a count that isn't refused has a time
 timed : (b : BoardParts) (h : ℕ) → refused_count b h ≡ None → time_fault b.anchor h ≡ None
 unfolding refused_count
-timed b h is = by_tests (ltb h b.anchor.start) (leb (2 ^ 59) (time_at b.anchor h)) is
+timed b h = no_fault (time_fault b.anchor h)
   where
-    by_tests : (t u : Bool) → cond t (Some (Fell b.anchor.start)) (cond u (Some (Range (time_at b.anchor h))) None) ≡ None
-        → cond t (Some (BeforeStart b.anchor.start)) (cond u (Some (OutOfRange (time_at b.anchor h))) None) ≡ None
-    by_tests true u is = let no : ⊥ = cc in absurd no
-    by_tests false true is = let no : ⊥ = cc in absurd no
-    by_tests false false is = refl
+    no_fault : (fault : Option TimeFault) → by_fault fault ≡ None → fault ≡ None
+    no_fault None is = refl
+    no_fault (Some fault) is = cc
 
 -- an answer that goes on has no fault in file order, and leaves that board but for the greatest reading
 abbrev Goes_on : Option Fault → BoardParts → Answer BoardParts Verdict → Type 0

@@ -1,6 +1,5 @@
 -- What records do to the board, and what they print.
-use Rattle.std.specs.Prelude.{ℕ, ◌^◌, nat_lt, nat_le, List, ◌++◌, Option, Some, None, if◌then◌else◌}
-use Rattle.host_counter.specs.Time.{time_at}
+use Rattle.std.specs.Prelude.{ℕ, List, ◌++◌, Option, Some, None}
 use Rattle.host_counter.specs.declared.TimeFault.{TimeFault}
 use Rattle.host_counter.specs.declared.TimeFault.TheVariants.{
   BeforeStart as FaultBeforeStart,
@@ -21,6 +20,7 @@ use Rattle.board_core.specs.Access.{after_access, reply_of}
 use Rattle.board_core.specs.Refusals.{refusal_of}
 use Rattle.board_core.specs.Pages.{page_reply, clock_reply, after_clock}
 use Rattle.edge_hooks.specs.declared.deliveries.Delivery.{Delivery}
+use Rattle.race_phase.specs.Order.{time_fault}
 use Rattle.transfer.specs.Move.{move_fault, moved_to}
 use Rattle.transfer.specs.declared.outcome.MoveFault.{MoveFault}
 use Rattle.transfer.specs.declared.outcome.MoveFault.TheVariants.{
@@ -84,12 +84,13 @@ abbrev pub refused_fault : TimeFault → Refused
 refused_fault (FaultBeforeStart start) = Fell start
 refused_fault (FaultOutOfRange ns) = Range ns
 
+abbrev pub by_fault : Option TimeFault → Option Refused
+by_fault None = None
+by_fault (Some fault) = Some (refused_fault fault)
+
 -- why a count of the host's counter has no time, if it has none
 unfoldable pub refused_count : BoardParts → ℕ → Option Refused
-refused_count b h =
-    if nat_lt h b.anchor.start then Some (Fell b.anchor.start)
-    else if nat_le (2 ^ 59) (time_at b.anchor h) then Some (Range (time_at b.anchor h))
-    else None
+refused_count b h = by_fault (time_fault b.anchor h)
 
 -- a line that is refused ends the trace
 abbrev pub stops : ℕ → Refused → Closing Verdict

@@ -63,7 +63,7 @@ impl RecordBoard for BoardState {
 
     #[inline(always)]
     fn act(&mut self, cpu: u8, h: u64, access: Access, reply: &mut Reply) -> Result<(), Refusal> {
-        reply.value = self.answer(cpu, h, access, &mut reply.edges)?;
+        self.answer(cpu, h, access, &mut reply.value, &mut reply.edges)?;
         reply.number = self.accesses();
         Ok(())
     }

@@ -59,6 +59,15 @@ pub spelled-end : (base count n i : ℕ) (xs : List ℕ) → length xs ≤ i
 unfolding spelled
 spelled-end base count n i xs h = rw (drop_of_length-le xs h, words_from-behind (i + 1) xs (omega arith)) refl
 
+-- where no other byte than a space stands, it ends
+pub spelled-ended : (base count n i : ℕ) (xs : List ℕ) → (i < length xs → get_or xs i 0 ≡ 32)
+    → spelled base count n (drop i xs) ≡ Some (record { count = count; value = n; left = words_from (i + 1) xs })
+spelled-ended base count n i xs space =
+    elim (cases_lt i (length xs)) [
+      | inl inside ↦ spelled-space base count n i xs inside (space inside)
+      | inr past ↦ spelled-end base count n i xs past
+    ]
+
 -- what is no digit spells nothing
 pub spelled-no_digit : (base count n i : ℕ) (xs : List ℕ) → i < length xs → (get_or xs i 0 ≡ 32 → ⊥) → base ≤ digit_value (get_or xs i 0)
     → spelled base count n (drop i xs) ≡ None
@@ -149,13 +158,7 @@ one_digit base at digit line most same small h space =
     let value : 0 * base + digit_value byte ≡ digit = omega arith in
     let count : at + 1 - at ≡ 0 + 1 = omega arith in
     let more = spelled-more base 0 0 at line (omega arith) (not_space base byte most less) less fits in
-    let ended : spelled base (0 + 1) digit (drop (at + 1) line)
-    ≡ Some (record { count = 0 + 1; value = digit; left = words_from (at + 1 + 1) line }) =
-    elim (cases_lt (at + 1) (length line)) [
-      | inl inside ↦ spelled-space base (0 + 1) digit (at + 1) line inside (space inside)
-      | inr past ↦ spelled-end base (0 + 1) digit (at + 1) line past
-    ] in
-    rw (count) (more ∙ rw value ended)
+    rw (count) (more ∙ rw value (spelled-ended base (0 + 1) digit (at + 1) line space))
 
 -- two digits, and a space or the line's end
 pub two_digits : (at high low : ℕ) (line : List ℕ)
@@ -175,13 +178,7 @@ two_digits at high low line h high_digit l low_digit inside space =
     let one = spelled-more 16 0 0 at line (omega arith) (not_space 16 (get_or line at 0) (omega arith) a) a (omega arith) in
     let two =
     spelled-more 16 (0 + 1) n (at + 1) line (omega arith) (not_space 16 (get_or line (at + 1) 0) (omega arith) b) b (omega arith) in
-    let ended : spelled 16 (0 + 1 + 1) (16 * high + low) (drop (at + 2) line)
-    ≡ Some (record { count = 0 + 1 + 1; value = 16 * high + low; left = words_from (at + 2 + 1) line }) =
-    elim (cases_lt (at + 2) (length line)) [
-      | inl less ↦ spelled-space 16 (0 + 1 + 1) (16 * high + low) (at + 2) line less (space less)
-      | inr more ↦ spelled-end 16 (0 + 1 + 1) (16 * high + low) (at + 2) line more
-    ] in
-    rw count (one ∙ two ∙ rw (value, next) ended)
+    rw count (one ∙ two ∙ rw (value, next) (spelled-ended 16 (0 + 1 + 1) (16 * high + low) (at + 2) line space))
 
 -- one digit more stays below the next power of 16
 pub more_digits : (base n k digit : ℕ) → base ≤ 16 → digit < base → n < 16 ^ k → n * base + digit < 16 ^ (k + 1)

@@ -208,7 +208,7 @@ fn short_spelling(line: &[u8], at: usize, from: usize, base: u8, read: u64) -> O
         }
         n = with_digit(n, base, digit);
     }
-    if last < line.len() {
+    if !ends_at(line, last) {
         return None;
     }
     Some(Spelling {

@@ -31,10 +31,10 @@ make-requires-clause-applied g c =
     let number : c.accesses-reply.result ≡ r.number =
     c.accesses-reply.ensures ∙ (ap (λ (x : BoardParts). x.accesses) c.in-Ok.ensures.state ∙ (after_access-accesses b call.cpu call.h call.access
     ∙ sym (reply_of-number b call.cpu call.h call.access))) in
-    let edges : c.answer.new.edges ≡ r.edges = c.in-Ok.ensures.edges ∙ ap (λ (es : List Edge). es ++ r.edges) c.requires.fresh in
-    let is : reply c.accesses-reply.result c.in-Ok.value c.answer.new.edges ≡ r =
-    ap (λ (n : ℕ). reply n c.in-Ok.value c.answer.new.edges) number
-    ∙ (ap (λ (v : Value). reply r.number v c.answer.new.edges) c.in-Ok.ensures.value ∙ ap (reply r.number r.value) edges) in
+    let edges : c.answer-told.new.edges ≡ r.edges = c.in-Ok.ensures.edges ∙ ap (λ (es : List Edge). es ++ r.edges) c.requires.fresh in
+    let is : reply c.accesses-reply.result c.answer-told.new.value c.answer-told.new.edges ≡ r =
+    ap (λ (n : ℕ). reply n c.answer-told.new.value c.answer-told.new.edges) number
+    ∙ (ap (λ (v : Value). reply r.number v c.answer-told.new.edges) c.in-Ok.ensures.value ∙ ap (reply r.number r.value) edges) in
     record {
       answered = record {
         cpu_below = (let e = ap (λ (m : Machine). m.cpus) same in let l = c.requires.cpu in omega arith);
@@ -50,12 +50,12 @@ returns-in-Ok-clause-ok g c =
     let b = c.args.board.now in
     let d : BoardParts = board_after c.args.seat.now.seen in
     let call = c.args.call in
-    let r = reply c.accesses-reply.result c.in-Ok.value c.answer.new.edges in
-    let after : AreAlike c.answer.new.self (after_access d call.cpu call.h call.access) =
+    let r = reply c.accesses-reply.result c.answer-told.new.value c.answer-told.new.edges in
+    let after : AreAlike c.answer-told.new.self (after_access d call.cpu call.h call.access) =
     ap (λ x. with_greatest x 0) c.in-Ok.ensures.state ∙ alike_after b d call.cpu call.h call.access c.requires.alike in
     record {
       told = c.make.ensures;
-      alike = alike_told call r c.answer.new.self c.args.seat.now c.make.new.seat after c.make.ensures;
+      alike = alike_told call r c.answer-told.new.self c.args.seat.now c.make.new.seat after c.make.ensures;
     }
 
 pub returns-in-Ok-clause-machine : goal.returns-in-Ok-clause-machine

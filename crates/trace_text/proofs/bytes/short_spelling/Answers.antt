@@ -1,6 +1,6 @@
 use Rattle.std.proofs.Common.{◌≡◌, ℕ, ◌+◌, ◌-◌, ◌*◌, ◌^◌, ◌<◌, length, get_or, ◌∙◌, arith}
 use Rattle.std.specs.Char.{digit_value}
-use Rattle.trace_text.proofs.Spells.{spelled-space, spelled-end, spelled-more, more_digits, digits_fit, not_space}
+use Rattle.trace_text.proofs.Spells.{spelled-space, spelled-ended, spelled-more, more_digits, digits_fit, not_space}
 use Rattle.trace_text.proofs.bytes.short_spelling.Goals as goal
 
 pub returns-then-byte-eq32 : goal.returns-then-byte-eq32
@@ -38,6 +38,6 @@ loop-i-preserved c =
 pub returns : goal.returns
 returns c =
     let i : c.loop-i.i ≡ c.min-last.result = omega arith in
-    let ended =
-    spelled-end c.args.base (c.loop-i.i - c.args.at) c.loop-i.n c.loop-i.i c.args.line.now (omega arith) in
+    let space : c.loop-i.i < length c.args.line.now → get_or c.args.line.now c.loop-i.i 0 ≡ 32 = rw i c.if-not-ends_at.ensures in
+    let ended = spelled-ended c.args.base (c.loop-i.i - c.args.at) c.loop-i.n c.loop-i.i c.args.line.now space in
     (omega arith, omega arith, omega arith, rw i at (c.loop-i.invariant.0 ∙ ended))
