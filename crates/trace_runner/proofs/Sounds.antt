@@ -22,6 +22,7 @@ use Rattle.std.proofs.Common.{
   ◌∙◌,
   arith,
 }
+use Rattle.std.specs.Option.{option_map}
 use Rattle.std.proofs.lemmas.List.Elements.{All-nil, All-push}
 use Rattle.host_counter.specs.declared.TimeFault.{TimeFault}
 use Rattle.board_types.specs.Legal.{is_legal}
@@ -46,8 +47,8 @@ use Rattle.trace_text.specs.declared.records.Job.TheVariants.{Board, Page, Clock
 use Rattle.trace_text.specs.declared.records.Record.{Record as Written}
 use Rattle.trace_loop.specs.Progress.{Answer, Goes, Ends}
 use Rattle.trace_runner.specs.Records.{
-  by_fault,
   refused_count,
+  refused_fault,
   access_answer,
   read_answer,
   saved_answer,
@@ -104,7 +105,7 @@ timed : (b : BoardParts) (h : ℕ) → refused_count b h ≡ None → time_fault
 unfolding refused_count
 timed b h = no_fault (time_fault b.anchor h)
   where
-    no_fault : (fault : Option TimeFault) → by_fault fault ≡ None → fault ≡ None
+    no_fault : (fault : Option TimeFault) → option_map refused_fault fault ≡ None → fault ≡ None
     no_fault None is = refl
     no_fault (Some fault) is = cc
 

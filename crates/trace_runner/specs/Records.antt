@@ -1,5 +1,6 @@
 -- What records do to the board, and what they print.
 use Rattle.std.specs.Prelude.{ℕ, List, ◌++◌, Option, Some, None}
+use Rattle.std.specs.Option.{option_map}
 use Rattle.host_counter.specs.declared.TimeFault.{TimeFault}
 use Rattle.host_counter.specs.declared.TimeFault.TheVariants.{
   BeforeStart as FaultBeforeStart,
@@ -84,13 +85,9 @@ abbrev pub refused_fault : TimeFault → Refused
 refused_fault (FaultBeforeStart start) = Fell start
 refused_fault (FaultOutOfRange ns) = Range ns
 
-abbrev pub by_fault : Option TimeFault → Option Refused
-by_fault None = None
-by_fault (Some fault) = Some (refused_fault fault)
-
 -- why a count of the host's counter has no time, if it has none
 unfoldable pub refused_count : BoardParts → ℕ → Option Refused
-refused_count b h = by_fault (time_fault b.anchor h)
+refused_count b h = option_map refused_fault (time_fault b.anchor h)
 
 -- a line that is refused ends the trace
 abbrev pub stops : ℕ → Refused → Closing Verdict

@@ -1,5 +1,6 @@
 -- The board of a replay, worked out from the records that a check has kept, and what it refuses.
 use Rattle.std.specs.Prelude.{◌≡◌, ℕ, List, [], ◌∷◌, Option, Some, None}
+use Rattle.std.specs.Option.{option_map}
 use Rattle.board_types.specs.declared.access.Access.TheVariants.{Step}
 use Rattle.board_types.specs.declared.parts.BoardParts.{BoardParts}
 use Rattle.board_types.specs.declared.reply.Refusal.{Refusal}
@@ -54,12 +55,10 @@ TakesCall b cpu h (ReadClock page) = Unit {0}
 
 -- why a record is refused
 abbrev pub by_refusal : Option Refusal → Option Refused
-by_refusal None = None
-by_refusal (Some refusal) = Some (refused_access refusal)
+by_refusal = option_map refused_access
 
 abbrev pub by_gap : Option MoveFault → Option Refused
-by_gap None = None
-by_gap (Some fault) = Some (refused_move fault)
+by_gap = option_map refused_move
 
 abbrev pub or_gap : Option Refused → Option Refused → Option Refused
 or_gap None o = o
