@@ -2,6 +2,7 @@ pub mod Alike
 pub mod Counts
 pub mod Edges
 pub mod Ended
+pub mod Kept
 pub mod Pieces
 pub mod Same
 pub mod Settle

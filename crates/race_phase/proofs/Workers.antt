@@ -37,6 +37,7 @@ use Rattle.std.proofs.Common.{
   append_assoc,
   append-nil,
   Option,
+  Some,
   Bool,
   true,
   false,
@@ -44,9 +45,11 @@ use Rattle.std.proofs.Common.{
   eq-eqb,
   ne_eqb,
 }
+use Rattle.std.specs.Prelude.{slice_get, IfSome}
 use Rattle.std.proofs.Math.ListN.{get_or-append}
 use Rattle.std.proofs.Math.Seq.{take-suc, drop-cons, get_or-append_seam}
-use Rattle.std.proofs.lemmas.List.{take-append-drop, take_more_set, take_all, drop_all}
+use Rattle.std.proofs.lemmas.List.{length-take-le, take-append-drop, take_more_set, take_all, drop_all}
+use Rattle.std.proofs.lemmas.Option.{slice_get-get_or, get_or_from_slice_get, slice_get_within}
 use native.Mathlib.Decide.{ℕ_discrete}
 use Rattle.edge_hooks.specs.declared.deliveries.Delivery.{Delivery}
 use Rattle.board_types.specs.declared.parts.BoardParts.{BoardParts}
@@ -173,62 +176,78 @@ module _ (s : BoardParts) (ds : List (Option Delivery)) where
       let more : length xs < length (xs ++ x ∷ []) = let e = length-append xs (x ∷ []) in omega arith in
       subst (λ r. IfOk r (λ w. HasWorked s ds rs (length xs) (pass w) (answers w))) (get_or-append_seam xs x [] x) (all (length xs) x more)
 
--- the blocks of places, one more at a time
-pub places_text-snoc : (ds : List (Option Delivery)) (ts : List Place) (t : Place) → places_text ds (ts ++ t ∷ [])
-    ≡ places_text ds ts ++ block_of ds t.line (answer_with t.told t.reply)
-places_text-snoc ds [] t = append-nil (block_of ds t.line (answer_with t.told t.reply))
-places_text-snoc ds (u ∷ ts) t =
-    ap (λ (l : List ℕ). block_of ds u.line (answer_with u.told u.reply) ++ l) (places_text-snoc ds ts t)
-    ∙ sym (append_assoc (block_of ds u.line (answer_with u.told u.reply)) (places_text ds ts) (block_of ds t.line (answer_with t.told t.reply)))
+-- the blocks of records, one more at a time
+pub places_text-snoc : (ds : List (Option Delivery)) (rs : List Record) (ts : List Place) (r : Record) (t : Place) → length ts ≡ length rs
+    → places_text ds (rs ++ r ∷ []) (ts ++ t ∷ []) ≡ places_text ds rs ts ++ place_text ds r t
+places_text-snoc ds [] [] r t same = append-nil (place_text ds r t)
+places_text-snoc ds [] (u ∷ ts) r t same = absurd (omega arith)
+places_text-snoc ds (x ∷ rs) [] r t same = absurd (omega arith)
+places_text-snoc ds (x ∷ rs) (u ∷ ts) r t same =
+    let long : length ts ≡ length rs = omega arith in
+    ap (λ (l : List ℕ). place_text ds x u ++ l) (places_text-snoc ds rs ts r t long)
+    ∙ sym (append_assoc (place_text ds x u) (places_text ds rs ts) (place_text ds r t))
 
-pub places_text-take : (ds : List (Option Delivery)) (ts : List Place) (i : ℕ) (d : Place) → i < length ts → places_text ds (take (i + 1) ts)
-    ≡ places_text ds (take i ts) ++ place_text ds (get_or ts i d)
-places_text-take ds ts i d l =
-    let e : i + 1 ≡ suc i = omega arith in
-    ap (λ (k : ℕ). places_text ds (take k ts)) e ∙ ap (places_text ds) (take-suc ts i d l) ∙ places_text-snoc ds (take i ts) (get_or ts i d)
+pub places_text-take : (ds : List (Option Delivery)) (rs : List Record) (ts : List Place) (i : ℕ) (d : Record) (e : Place) → i < length rs → i < length ts
+    → places_text ds (take (i + 1) rs) (take (i + 1) ts) ≡ places_text ds (take i rs) (take i ts) ++ place_text ds (get_or rs i d) (get_or ts i e)
+places_text-take ds rs ts i d e l m =
+    let next : i + 1 ≡ suc i = omega arith in
+    let a : length (take i rs) ≡ i = length-take-le i rs (omega arith) in
+    let b : length (take i ts) ≡ i = length-take-le i ts (omega arith) in
+    let more : places_text ds (take (suc i) rs) (take (suc i) ts)
+    ≡ places_text ds (take i rs ++ get_or rs i d ∷ []) (take i ts ++ get_or ts i e ∷ []) =
+    λ k. places_text ds (take-suc rs i d l k) (take-suc ts i e m k) in
+    ap (λ (k : ℕ). places_text ds (take k rs) (take k ts)) next
+    ∙ (more ∙ places_text-snoc ds (take i rs) (take i ts) (get_or rs i d) (get_or ts i e) (b ∙ sym a))
 
-pub blocks_more : (ds : List (Option Delivery)) (ts : List Place) (i : ℕ) (d : Place) (out xs ys : List ℕ) → i < length ts
-    → xs ≡ out ++ places_text ds (take i ts)
-    → ys ≡ xs ++ place_text ds (get_or ts i d)
-    → ys ≡ out ++ places_text ds (take (i + 1) ts)
-blocks_more ds ts i d out xs ys l before e =
-    let b : List ℕ = place_text ds (get_or ts i d) in
-    e ∙ ap (λ (z : List ℕ). z ++ b) before ∙ append_assoc out (places_text ds (take i ts)) b
-    ∙ ap (λ (z : List ℕ). out ++ z) (sym (places_text-take ds ts i d l))
+pub blocks_more : (ds : List (Option Delivery)) (rs : List Record) (ts : List Place) (i : ℕ) (d : Record) (e : Place) (out xs ys : List ℕ) → i < length rs → i < length ts
+    → xs ≡ out ++ places_text ds (take i rs) (take i ts)
+    → ys ≡ xs ++ place_text ds (get_or rs i d) (get_or ts i e)
+    → ys ≡ out ++ places_text ds (take (i + 1) rs) (take (i + 1) ts)
+blocks_more ds rs ts i d e out xs ys l m before is =
+    let b : List ℕ = place_text ds (get_or rs i d) (get_or ts i e) in
+    is ∙ ap (λ (z : List ℕ). z ++ b) before ∙ append_assoc out (places_text ds (take i rs) (take i ts)) b
+    ∙ ap (λ (z : List ℕ). out ++ z) (sym (places_text-take ds rs ts i d e l m))
 
 -- before the first record of a batch
 pub answered_none : (s : BoardParts) (p : PassKnown) → AllAnswered s [] [] p p
 answered_none s p = record {
   number = refl;
+  long = refl;
   made = λ ds done out all.
       subst (λ (z : List Record × List ℕ). AllMade s ds p.number z.0 z.1 (mine p)) (λ i. (sym (append-nil done) i, sym (append-nil out) i)) all;
 }
 
 -- one record more in its place
 pub answered_more : (s : BoardParts) (rs : List Record) (ts : List Place) (r : Record) (t : Place) (p q z : PassKnown) → AllAnswered s rs ts p q
-    → IsMade s r (answer_with t.told t.reply) q z → t.line ≡ r.line → AllAnswered s (rs ++ r ∷ []) (ts ++ t ∷ []) p z
-answered_more s rs ts r t p q z all m same = record {
+    → IsMade s r (answer_with t.told t.reply) q z → AllAnswered s (rs ++ r ∷ []) (ts ++ t ∷ []) p z
+answered_more s rs ts r t p q z all m = record {
   number = m.2.number ∙ all.number;
+  long = let a = length-append rs (r ∷ []) in let b = length-append ts (t ∷ []) in let e = all.long in omega arith;
   made = λ ds done out x.
       let a : Answer = answer_with t.told t.reply in
       let by : MadeBy s p.number r a m.0 = subst (λ (k : ℕ). MadeBy s k r a m.0) all.number m.1 in
-      let step = made-snoc s ds p.number (done ++ rs) (out ++ places_text ds ts) (mine q) r a m.0 (all.made ds done out x) by in
-      let text : (out ++ places_text ds ts) ++ block_of ds r.line a ≡ out ++ places_text ds (ts ++ t ∷ []) =
-      append_assoc out (places_text ds ts) (block_of ds r.line a)
-      ∙ ap (λ (l : List ℕ). out ++ l) (ap (λ (k : ℕ). places_text ds ts ++ block_of ds k a) (sym same) ∙ sym (places_text-snoc ds ts t)) in
+      let step = made-snoc s ds p.number (done ++ rs) (out ++ places_text ds rs ts) (mine q) r a m.0 (all.made ds done out x) by in
+      let text : (out ++ places_text ds rs ts) ++ block_of ds r.line a ≡ out ++ places_text ds (rs ++ r ∷ []) (ts ++ t ∷ []) =
+      append_assoc out (places_text ds rs ts) (block_of ds r.line a)
+      ∙ ap (λ (l : List ℕ). out ++ l) (sym (places_text-snoc ds rs ts r t all.long)) in
       let moved = subst (λ (y : List Record × List ℕ). AllMade s ds p.number y.0 y.1 (mine q ++ m.0)) (λ i. (append_assoc done rs (r ∷ []) i, text i)) step in
-      subst (λ (es : List Entry). AllMade s ds p.number (done ++ (rs ++ r ∷ [])) (out ++ places_text ds (ts ++ t ∷ [])) es) (sym m.2.mine) moved;
+      subst (λ (es : List Entry). AllMade s ds p.number (done ++ (rs ++ r ∷ [])) (out ++ places_text ds (rs ++ r ∷ []) (ts ++ t ∷ [])) es) (sym m.2.mine) moved;
 }
 
 pub batch_step : (s : BoardParts) (rs : List Record) (ts us : List Place) (i : ℕ) (d : Record) (t : Place) (p q z : PassKnown) → i < length rs
     → i < length ts
     → us ≡ set ts i t → AllAnswered s (take i rs) (take i ts) p q → IsMade s (get_or rs i d) (answer_with t.told t.reply) q z
-    → t.line ≡ (get_or rs i d).line
     → AllAnswered s (take (i + 1) rs) (take (i + 1) us) p z
-batch_step s rs ts us i d t p q z l m is all made same =
+batch_step s rs ts us i d t p q z l m is all made =
     let e : take (i + 1) us ≡ take i ts ++ t ∷ [] = ap (take (i + 1)) is ∙ take_more_set ts i t m in
     subst (λ (y : List Record × List Place). AllAnswered s y.0 y.1 p z) (λ k. (sym (take_next rs i d l) k, sym e k))
-    (answered_more s (take i rs) (take i ts) (get_or rs i d) t p q z all made same)
+    (answered_more s (take i rs) (take i ts) (get_or rs i d) t p q z all made)
+
+-- the same of other names
+pub answered_as : (s : BoardParts) (rs : List Record) (d e : ℕ) (ts us : List Place) (p q z : PassKnown) → e ≡ d → us ≡ ts → z ≡ q
+    → AllAnswered s (take d rs) (take d ts) p q → AllAnswered s (take e rs) (take e us) p z
+answered_as s rs d e ts us p q z here places pass all =
+    subst (λ (x : ℕ × List Place × PassKnown). AllAnswered s (take x.0 rs) (take x.0 x.1) p x.2) (λ k. (sym here k, sym places k, sym pass k)) all
 
 -- a record of a batch that is not answered
 pub halted_at : (s : BoardParts) (rs : List Record) (i : ℕ) (d : Record) (ts : List Place) (p q z : PassKnown) → i < length rs
@@ -242,14 +261,28 @@ halted_at s rs i d ts p q z l fit all u met =
         done = done ++ take i rs;
         next = r;
         rest = drop (suc i) rs;
-        text = out ++ places_text ds ts;
+        text = out ++ places_text ds (take i rs) ts;
         whole = ap (λ ys. done ++ ys) split ∙ sym (append_assoc done (take i rs) (r ∷ drop (suc i) rs));
-        made = subst (AllMade s ds p.number (done ++ take i rs) (out ++ places_text ds ts)) (sym u.mine) (all.made ds done out x);
+        made = subst (AllMade s ds p.number (done ++ take i rs) (out ++ places_text ds (take i rs) ts)) (sym u.mine) (all.made ds done out x);
         met = met;
         fits = fit i d l;
         legal = u.legal;
       };
     }
+
+-- the processor of a record
+pub cpu_there : (rs : List Record) (i k : ℕ) (d : Record) → i < length rs → IfSome (slice_get rs i) (λ r. k ≡ r.cpu) → k ≡ (get_or rs i d).cpu
+cpu_there rs i k d l is = subst (λ (o : Option Record). IfSome o (λ r. k ≡ r.cpu)) (slice_get-get_or rs i d l) is
+
+-- and of one that was read, by a number that it was compared with
+pub record_cpu : (rs : List Record) (i k n m : ℕ) (r : Record) → slice_get rs i ≡ Some r → IfSome (slice_get rs i) (λ x. k ≡ x.cpu) → m ≡ k → m ≡ n → r.cpu ≡ n
+record_cpu rs i k n m r is cpu same here =
+    sym (subst (λ (o : Option Record). IfSome o (λ x. k ≡ x.cpu)) is cpu) ∙ sym same ∙ here
+
+-- a record that was read fits
+pub read_fits : (cpus format : ℕ) (rs : List Record) (i : ℕ) (r : Record) → slice_get rs i ≡ Some r → All (IsFitting cpus format) rs → IsFitting cpus format r
+read_fits cpus format rs i r is fit =
+    subst (IsFitting cpus format) (get_or_from_slice_get rs i r r is) (fit i r (slice_get_within rs i r is))
 
 module _ (s : BoardParts) (ds : List (Option Delivery)) (n : ℕ) where
   -- a new pass
@@ -277,16 +310,25 @@ module _ (s : BoardParts) (ds : List (Option Delivery)) (n : ℕ) where
         made = all.made;
       }
 
+  -- the same of a record that was read
+  pub next_read : (i : ℕ) (rs : List Record) (r : Record) (ws : List Record) (xs : List ℕ) (p : PassKnown) → slice_get rs i ≡ Some r → r.cpu ≡ n
+      → AllButLast s ds n (records_of n (take i rs)) ws xs p
+      → AllButLast s ds n (records_of n (take (i + 1) rs)) (ws ++ r ∷ []) xs p
+  next_read i rs r ws xs p is here all =
+      let e : get_or rs i r ≡ r = get_or_from_slice_get rs i r r is in
+      subst (λ (x : Record). AllButLast s ds n (records_of n (take (i + 1) rs)) (ws ++ x ∷ []) xs p) e
+      (next_waits i rs r ws xs p (slice_get_within rs i r is) (ap (λ (x : Record). x.cpu) e ∙ here) all)
+
   -- those that wait are answered
   pub waits_made : (rs ws : List Record) (xs : List ℕ) (ts : List Place) (p q : PassKnown) → p.number ≡ n → AllButLast s ds n rs ws xs p
-      → AllAnswered s ws ts p q → AllMade s ds n rs (xs ++ places_text ds ts) (mine q)
+      → AllAnswered s ws ts p q → AllMade s ds n rs (xs ++ places_text ds ws ts) (mine q)
   waits_made rs ws xs ts p q is all a =
       let from = subst (λ (k : ℕ). AllMade s ds k all.done xs (mine p)) (sym is) all.made in
-      let made = subst (λ (k : ℕ). AllMade s ds k (all.done ++ ws) (xs ++ places_text ds ts) (mine q)) is (a.made ds all.done xs from) in
-      subst (λ (ys : List Record). AllMade s ds n ys (xs ++ places_text ds ts) (mine q)) (sym all.whole) made
+      let made = subst (λ (k : ℕ). AllMade s ds k (all.done ++ ws) (xs ++ places_text ds ws ts) (mine q)) is (a.made ds all.done xs from) in
+      subst (λ (ys : List Record). AllMade s ds n ys (xs ++ places_text ds ws ts) (mine q)) (sym all.whole) made
 
   pub waits_answered : (rs ws : List Record) (xs : List ℕ) (ts : List Place) (p q : PassKnown) → p.number ≡ n → AllButLast s ds n rs ws xs p
-      → AllAnswered s ws ts p q → AllButLast s ds n rs [] (xs ++ places_text ds ts) q
+      → AllAnswered s ws ts p q → AllButLast s ds n rs [] (xs ++ places_text ds ws ts) q
   waits_answered rs ws xs ts p q is all a = record {
     done = rs;
     whole = sym (append-nil rs);

@@ -55,8 +55,8 @@ IsEnd cpus (Save line cpu h) = cpu < cpus
 IsEnd cpus (Move line cpu h host) = (cpu < cpus) × IsKhz host.khz
 
 pub record IsPhase (cpus format : ℕ) (v : Phase) : Type 0 where
-  pub records : All (IsFitting cpus format) v.records.items
-  pub few : length v.records.items ≤ 2 ^ 62
+  pub records : All (IsFitting cpus format) v.lines.records
+  pub few : length v.lines.records ≤ 2 ^ 62
   pub end : IsEnd cpus v.end
 
 -- the board with which the next phase opens: that behind a save's access, or the moved one
@@ -81,12 +81,12 @@ end_fault b (Move line cpu h host) =
 
 -- the first fault of a trace in file order
 abbrev pub after_phase : BoardParts → Phase → BoardParts
-after_phase b v = next_board v.end (after_records b v.records.items)
+after_phase b v = next_board v.end (after_records b v.lines.records)
 
 abbrev pub phase_fault : BoardParts → Phase → Option Fault
 phase_fault b v =
-    or_fault (records_fault b v.records.items)
-    (end_fault (after_records b v.records.items) v.end)
+    or_fault (records_fault b v.lines.records)
+    (end_fault (after_records b v.lines.records) v.end)
 
 abbrev pub trace_fault : BoardParts → List Phase → Option Fault
 trace_fault b [] = None
@@ -131,7 +131,7 @@ pub record PhaseEnded (opening : BoardParts) (ds : List (Option Delivery)) (v : 
   pub legal : IsLegal (h ++ end_entries v.end (board_after h))
   pub opens : Opens opening h
   pub none_else : (n : ℕ) → opening.cpus ≤ n → entries_of n h ≡ []
-  pub shown : Shown opening ds v.records.items h 0 opening.cpus block
+  pub shown : Shown opening ds v.lines.records h 0 opening.cpus block
   pub leaves : next ≡ next_board v.end (board_after h)
   pub text : out ≡ block ++ end_text ds v.end (board_after h)
 

@@ -3,3 +3,4 @@ pub mod Workers
 pub mod Ran
 pub mod Tallied
 pub mod Told
+pub mod Kept

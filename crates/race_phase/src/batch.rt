@@ -1,6 +1,9 @@
 //! Records of one processor that are answered together: accesses that stand beside each other under one lock.
 ghost use Rattle.std.specs.Prelude.{◌≡◌, ◌<◌, ◌≤◌, ◌+◌, ◌^◌, ◌++◌, All, IfOk, OnOk, OnErr, length, take, vec_len};
+ghost use Rattle.std.specs.Bool.{OnTrue};
 ghost use Rattle.board_history.specs.History.{IsLegal};
+ghost use Rattle.shared_board.specs.declared.known.PassKnown.{PassKnown};
+ghost use Rattle.board_types.specs.declared.reply.Reply.{Reply};
 ghost use Rattle.shared_board.specs.Passes.{Unanswered};
 ghost use Rattle.race_phase.specs.Calls.{IsFitting};
 ghost use Rattle.race_phase.specs.private.Told.{answer_with};
@@ -18,7 +21,7 @@ use crate::deliveries::Deliveries;
 use crate::records::{Call, Record};
 use crate::texts::append_block;
 use crate::told::Told;
-use board_core::{Reply, Value};
+use board_core::{Access, Reply, Value};
 use board_io::Gate;
 use clk_units::NoMemory;
 use clock_table::Name;
@@ -32,7 +35,6 @@ use std::sync::Wait;
 #[derive(Drop)]
 pub(crate) struct Place {
     pub(crate) reply: Reply,
-    pub(crate) line: u64,
     pub(crate) told: Told,
 }
 
@@ -55,7 +57,6 @@ pub(crate) fn new_places(alloc: Global, count: usize) -> Result<Vec<Place>, NoMe
                 value: Value::Nothing,
                 edges: EdgeList::new(),
             },
-            line: 0,
             told: Told::Acted,
         }) else {
             return Err(NoMemory);
@@ -91,7 +92,7 @@ pub(crate) fn print_all<N: Name, R: Wait, G: Gate>(
     let Ok(()) = answer_all(rt, gate, board, pass, records, index, places) else {
         return Ok(Err(Halted));
     };
-    append_blocks(&places[..records.len()], deliveries, out)?;
+    append_blocks(records, &places[..records.len()], deliveries, out)?;
     Ok(Ok(()))
 }
 
@@ -118,7 +119,16 @@ fn answer_all<N: Name, R: Wait, G: Gate>(
     ensures err { OnErr result (HasHalted N.state records.now pass.old pass.new) }
 {
     let mut lock = None;
-    for done in 0..records.len() {
+    let mut done = 0;
+    while done < records.len() {
+        if begins_run(records, done) {
+            let mut holding = taken(rt, board, &mut lock);
+            match answer_run(rt, gate, &mut holding, pass, records, index, places, done) {
+                Ok(behind) => done = behind,
+                Err(Halted) => return Err(Halted),
+            }
+            lock = Some(holding);
+        }
         let record = &records[done];
         let is_last = done + 1 == records.len();
         let at = index + done as u64;
@@ -136,8 +146,103 @@ fn answer_all<N: Name, R: Wait, G: Gate>(
             Ok(()) => {}
             Err(Halted) => return Err(Halted),
         }
+        done += 1;
     }
     Ok(())
+}
+
+/// Whether an access stands at a place that isn't the last.
+fn begins_run(records: &[Record], done: usize) -> bool
+    requires { done < length records.now }
+    ensures { OnTrue result (done + 1 < length records.now) }
+{
+    done + 1 < records.len() && matches!(records[done].call, Call::Act { .. })
+}
+
+/// The lock: where it was left, or taken now.
+#[inline(always)]
+fn taken<'b, N: Name, R: Wait>(
+    rt: &R,
+    board: &'b SharedBoard<N>,
+    lock: &mut Option<Holding<'b, N>>,
+) -> Holding<'b, N> {
+    match lock.take() {
+        Some(holding) => holding,
+        None => board.hold(rt),
+    }
+}
+
+/// Answers accesses that stand one behind another, from a place on, under the lock, but for the last record. It tells
+/// at which place it stops, whose record isn't answered; or that one of the accesses was not.
+fn answer_run<N: Name, R: Wait, G: Gate>(
+    rt: &R,
+    gate: &G,
+    holding: &mut Holding<'_, N>,
+    pass: &mut Pass<N>,
+    records: &[Record],
+    index: u64,
+    places: &mut [Place],
+    from: usize,
+) -> Result<usize, Halted>
+    requires places { length records.now ≤ length places.old }
+    requires small { index + length records.now < 2 ^ 64 }
+    requires fitting { All (IsFitting N.state.cpus N.state.format) records.now }
+    requires legal { IsLegal pass.old.seen }
+    requires from { from + 1 < length records.now }
+    ensures behind { IfOk result (λ k. (from ≤ k) × (k < length records.now)) }
+    ensures places { length places.new ≡ length places.old }
+    ensures ok { IfOk result (λ k. (p : PassKnown)
+        → AllAnswered N.state (take from records.now) (take from places.old) p pass.old
+        → AllAnswered N.state (take k records.now) (take k places.new) p pass.new) }
+    ensures legal { OnOk result (IsLegal pass.new.seen) }
+    ensures err { OnErr result ((p : PassKnown)
+        → AllAnswered N.state (take from records.now) (take from places.old) p pass.old
+        → HasHalted N.state records.now p pass.new) }
+{
+    let mut done = from;
+    while done + 1 < records.len() {
+        let record = &records[done];
+        let Call::Act { access } = record.call else {
+            break;
+        };
+        let at = index + done as u64;
+        gate.before(rt, record.cpu, at);
+        let result = answer_access(rt, gate, holding, pass, record, access, &mut places[done]);
+        gate.after(rt, record.cpu, at);
+        match result {
+            Ok(()) => {}
+            Err(Halted) => return Err(Halted),
+        }
+        done += 1;
+    }
+    Ok(done)
+}
+
+/// Answers a record that is an access, under the lock.
+#[inline(always)]
+fn answer_access<N: Name, R: Wait, G: Gate>(
+    rt: &R,
+    gate: &G,
+    holding: &mut Holding<'_, N>,
+    pass: &mut Pass<N>,
+    given: &Record,
+    access: Access,
+    place: &mut Place,
+) -> Result<(), Halted>
+    requires call { given.now.call ≡ Call.Act access }
+    requires fitting { IsFitting N.state.cpus N.state.format given.now }
+    requires legal { IsLegal pass.old.seen }
+    ensures ok { OnOk result (IsMade N.state given.now
+        (answer_with place.new.told place.new.reply) pass.old pass.new) }
+    ensures err { OnErr result
+        (Unanswered pass.old pass.new × IsTrouble N.state given.now pass.new) }
+{
+    place.told.note_act();
+    place.reply.edges.clear();
+    match holding.answer(rt, gate, pass, given.cpu, given.h, access, &mut place.reply) {
+        Ok(()) => Ok(()),
+        Err(_refusal) => Err(Halted),
+    }
 }
 
 /// Answers a record between two calls of the gate. Behind the last of a batch the lock is given back before the second.
@@ -157,7 +262,6 @@ fn held<'b, N: Name, R: Wait, G: Gate>(
     requires legal { IsLegal pass.old.seen }
     ensures ok { OnOk result (IsMade N.state given.now
         (answer_with place.new.told place.new.reply) pass.old pass.new) }
-    ensures line { OnOk result (place.new.line ≡ given.now.line) }
     ensures err { OnErr result
         (Unanswered pass.old pass.new × IsTrouble N.state given.now pass.new) }
 {
@@ -185,66 +289,97 @@ fn answer<'b, N: Name, R: Wait, G: Gate>(
     requires legal { IsLegal pass.old.seen }
     ensures ok { OnOk result (IsMade N.state given.now
         (answer_with place.new.told place.new.reply) pass.old pass.new) }
-    ensures line { OnOk result (place.new.line ≡ given.now.line) }
     ensures err { OnErr result
         (Unanswered pass.old pass.new × IsTrouble N.state given.now pass.new) }
 {
-    let h = given.h;
-    place.line = given.line;
     match given.call {
         Call::Act { access } => {
-            let mut holding = match lock.take() {
-                Some(holding) => holding,
-                None => board.hold(rt),
-            };
-            place.told.note_act();
-            place.reply.edges.clear();
-            match holding.answer(rt, gate, pass, given.cpu, h, access, &mut place.reply) {
-                Ok(()) => {
-                    *lock = Some(holding);
-                    Ok(())
-                }
-                Err(_refusal) => Err(Halted),
-            }
+            let mut holding = taken(rt, board, lock);
+            answer_access(rt, gate, &mut holding, pass, given, access, place)?;
+            *lock = Some(holding);
+            Ok(())
         }
-        Call::ReadPage { page } => match board.read_page_with(rt, lock, pass, page, h) {
-            Ok(reply) => {
-                place.told = Told::PageIs { reply };
-                Ok(())
-            }
-            Err(_fault) => Err(Halted),
-        },
-        Call::ReadClock { page } => match board.read_clock_with(rt, lock, pass, page, h) {
-            Ok(reply) => {
-                place.told = Told::ClockIs { reply };
-                Ok(())
-            }
-            Err(_fault) => Err(Halted),
-        },
+        Call::ReadPage { page } => {
+            read_page(rt, board, lock, pass, given, page, &mut place.told)
+        }
+        Call::ReadClock { page } => {
+            read_clock(rt, board, lock, pass, given, page, &mut place.told)
+        }
     }
 }
 
-/// Appends the blocks of places, in order.
+// A read's reply has a place that is cleared first. So reads stand apart, and an access clears none.
+/// Answers a record that reads a page.
+#[inline(never)]
+fn read_page<'b, N: Name, R: Wait>(
+    rt: &R,
+    board: &'b SharedBoard<N>,
+    lock: &mut Option<Holding<'b, N>>,
+    pass: &mut Pass<N>,
+    given: &Record,
+    page: u8,
+    told: &mut Told,
+) -> Result<(), Halted>
+    requires call { given.now.call ≡ Call.ReadPage page }
+    requires fitting { IsFitting N.state.cpus N.state.format given.now }
+    requires legal { IsLegal pass.old.seen }
+    ensures ok { OnOk result ((reply : Reply) → IsMade N.state given.now
+        (answer_with told.new reply) pass.old pass.new) }
+    ensures err { OnErr result
+        (Unanswered pass.old pass.new × IsTrouble N.state given.now pass.new) }
+{
+    match board.read_page_with(rt, lock, pass, page, given.h) {
+        Ok(reply) => {
+            *told = Told::PageIs { reply };
+            Ok(())
+        }
+        Err(_fault) => Err(Halted),
+    }
+}
+
+/// Answers a record that reads the clock.
+#[inline(never)]
+fn read_clock<'b, N: Name, R: Wait>(
+    rt: &R,
+    board: &'b SharedBoard<N>,
+    lock: &mut Option<Holding<'b, N>>,
+    pass: &mut Pass<N>,
+    given: &Record,
+    page: u8,
+    told: &mut Told,
+) -> Result<(), Halted>
+    requires call { given.now.call ≡ Call.ReadClock page }
+    requires fitting { IsFitting N.state.cpus N.state.format given.now }
+    requires legal { IsLegal pass.old.seen }
+    ensures ok { OnOk result ((reply : Reply) → IsMade N.state given.now
+        (answer_with told.new reply) pass.old pass.new) }
+    ensures err { OnErr result
+        (Unanswered pass.old pass.new × IsTrouble N.state given.now pass.new) }
+{
+    match board.read_clock_with(rt, lock, pass, page, given.h) {
+        Ok(reply) => {
+            *told = Told::ClockIs { reply };
+            Ok(())
+        }
+        Err(_fault) => Err(Halted),
+    }
+}
+
+/// Appends the blocks of records, in order, each by its place.
 fn append_blocks(
+    records: &[Record],
     places: &[Place],
     deliveries: &Deliveries,
     out: &mut Vec<u8>,
 ) -> Result<(), NoMemory>
+    requires { length places.now ≡ length records.now }
     ensures { OnOk result
-        (out.new.items ≡ out.old.items ++ places_text deliveries.now places.now) }
+        (out.new.items ≡ out.old.items ++ places_text deliveries.now records.now places.now) }
 {
-    for k in 0..places.len() {
+    for k in 0..records.len() {
+        let record = &records[k];
         let place = &places[k];
-        append_place(place, deliveries, out)?;
+        append_block(record.line, &place.told, &place.reply, deliveries, out)?;
     }
     Ok(())
-}
-
-/// Appends the block of a place.
-#[inline(always)]
-fn append_place(place: &Place, deliveries: &Deliveries, out: &mut Vec<u8>) -> Result<(), NoMemory>
-    ensures { OnOk result
-        (out.new.items ≡ out.old.items ++ place_text deliveries.now place.now) }
-{
-    append_block(place.line, &place.told, &place.reply, deliveries, out)
 }

@@ -12,10 +12,12 @@
 //! (`board_history`) that has the entries of its records and no others.
 //!
 //! ```text
-//! let record = Record { line: 3, cpu: 0, h: 1_000, call: Call::Act { access: Access::Step } };
-//! let phase = Phase { records, end: End::Finish };
+//! let mut lines = RecordLines::new(alloc, 1, 4); // of format 1, with four processors
 //! let mut tally = Tally::of_board(&state);
-//! tally.access(0, 1_000, Access::Step)?;         // refused as the board would
+//! tally.admit(0, 1_000, Access::Step)?;          // refused as the board would
+//! tally.count(0, 1_000, Access::Step);
+//! lines.push(3, &record, b"0 1000 step")?;       // the line that was read as this record
+//! let phase = Phase { lines, end: End::Finish };
 //! let ran = run_race(rt, alloc, &OpenGate, state, &deliveries, &[phase])?;
 //! ```
 #![tactic(auto)]
@@ -24,6 +26,7 @@ mod batch;
 mod deliveries;
 mod ends;
 mod faults;
+mod lines;
 mod phase;
 mod phases;
 mod race;
@@ -36,6 +39,7 @@ mod work;
 
 pub use deliveries::{Deliveries, edge_lines};
 pub use faults::{Cause, Fault};
+pub use lines::RecordLines;
 pub use phase::run_phase;
 pub use phases::{End, NewHost, Phase};
 pub use race::{Ran, run_race};

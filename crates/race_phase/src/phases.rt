@@ -1,5 +1,5 @@
 //! A trace by its phases.
-use crate::records::Record;
+use crate::lines::RecordLines;
 
 /// Where a board moves.
 #[derive(Clone, Copy, Debug, PartialEq, Eq)]
@@ -36,6 +36,6 @@ pub enum End {
 /// Records in file order, and what ends them.
 #[derive(Drop)]
 pub struct Phase {
-    pub records: Vec<Record>,
+    pub lines: RecordLines,
     pub end: End,
 }

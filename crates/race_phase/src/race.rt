@@ -77,7 +77,7 @@ fn next<R: Threads + Wait + Sync, G: Gate + Sync>(
         blank,
         state,
         deliveries,
-        &phase.records,
+        &phase.lines,
     )?;
     text.join(lines)?;
     let mut block = Vec::new(alloc);

@@ -6,7 +6,7 @@ ghost use Rattle.race_phase.specs.private.Workers.{HasWorked};
 
 use crate::batch::{new_places, print_all};
 use crate::deliveries::Deliveries;
-use crate::records::Record;
+use crate::lines::RecordLines;
 use board_io::Gate;
 use clk_units::NoMemory;
 use clock_table::Name;
@@ -21,32 +21,34 @@ pub(crate) struct Worked<N: Name> {
     pub(crate) text: Vec<u8>,
 }
 
-/// Takes the records of the pass's processor in order, as many together as the gate lets through, and appends their
-/// blocks to a text of its own when it has given the lock back. It stops at the first that isn't answered.
+/// Takes the records of the pass's processor in order, as many together as the gate lets through: reads their lines
+/// before it asks for the lock, and appends their blocks to a text of its own when it has given the lock back. It stops
+/// at the first that isn't answered.
 pub(crate) fn work<N: Name, R: Wait, G: Gate>(
     rt: &R,
     alloc: Global,
     gate: &G,
     board: &SharedBoard<N>,
     deliveries: &Deliveries,
-    records: &[Record],
+    lines: &RecordLines,
     mut pass: Pass<N>,
 ) -> Result<Worked<N>, NoMemory>
     requires cpu { pass.number < N.state.cpus }
     requires fresh { mine pass ≡ [] }
-    requires fitting { All (IsFitting N.state.cpus N.state.format) records.now }
+    requires fitting { All (IsFitting N.state.cpus N.state.format) lines.now.records }
     ensures { IfOk result
-        (λ w. HasWorked N.state deliveries.now records.now pass.number w.pass w.text.items) }
+        (λ w. HasWorked N.state deliveries.now lines.now.records pass.number w.pass w.text.items) }
 {
     let cpu = pass.number();
-    let most = most_together(gate, records.len());
+    let most = most_together(gate, lines.len());
+    let body = lines.body();
     let mut places = new_places(alloc, most)?;
     let mut text = Vec::new(alloc);
     let mut batch = Vec::new(alloc);
     let mut index = 0;
-    for record in records {
-        if u64::from(record.cpu) == cpu {
-            let Ok(()) = batch.push(*record) else {
+    for place in 0..lines.len() {
+        if u64::from(lines.cpu(place)) == cpu {
+            let Ok(()) = batch.push(lines.record(place, &body)) else {
                 return Err(NoMemory);
             };
             if batch.len() >= most {

@@ -1,5 +1,6 @@
 pub mod Check
 pub mod Checking
+pub mod Counted
 pub mod Deliveries
 pub mod Free
 pub mod Race

@@ -13,7 +13,7 @@ pub record PhaseRead : Type 0 where
 
 -- phases as they were read, wherever their records lie
 abbrev pub phase_read : Phase → PhaseRead
-phase_read v = record { records = v.records.items; end = v.end }
+phase_read v = record { records = v.lines.records; end = v.end }
 
 abbrev pub phases_read : List Phase → List PhaseRead
 phases_read vs = map phase_read vs

@@ -11,7 +11,16 @@ ghost use Rattle.std.specs.Prelude.{
   OnOk,
 };
 ghost use Rattle.std.specs.Bool.{OnTrue, OnFalse};
-ghost use Rattle.trace_text.specs.Lines.{taken, IsOpen, IsItem, IsRecordAt, end_fault as at_end};
+ghost use Rattle.trace_text.specs.Lines.{
+  taken,
+  record_in,
+  IsOpen,
+  IsItem,
+  IsRecordAt,
+  IsAlone,
+  end_fault as at_end,
+};
+ghost use Rattle.race_phase.specs.Lines.{call_of, no_lines};
 ghost use Rattle.race_phase.specs.Calls.{IsFittingCall};
 ghost use Rattle.race_phase.specs.Phases.{IsEnd, next_board, end_fault};
 ghost use Rattle.trace_runner.specs.Ready.{Suits};
@@ -23,6 +32,7 @@ ghost use Rattle.trace_runner.specs.Replayed.{
   refused_job,
 };
 ghost use Rattle.trace_runner.specs.Sound.{IsSound};
+ghost use Rattle.trace_runner.specs.Checking.{IsLine};
 ghost use Rattle.trace_runner.specs.Check.{
   check_start,
   with_call,
@@ -42,7 +52,7 @@ use crate::status::Verdict;
 use crate::trace::Trace;
 use board_core::BoardState;
 use clk_units::NoMemory;
-use race_phase::{Call, Deliveries, End, NewHost, Phase, Record, Tally};
+use race_phase::{Call, Deliveries, End, NewHost, Phase, RecordLines, Tally};
 use reply_text::Refused;
 use std::alloc::Global;
 use std::marker::Model;
@@ -61,8 +71,8 @@ pub(crate) enum Checked {
     Stopped(Verdict),
 }
 
-/// A trace that is checked: its records are counted one after the other, in file order, and kept for the processors'
-/// threads. Nothing is printed but a refusal.
+/// A trace that is checked: its records are counted one after the other, in file order, and their lines are kept for the
+/// processors' threads. Nothing is printed but a refusal.
 ///
 /// Contracts see in it a replay of these records, with the board that they leave. That board isn't there: it is worked
 /// out from the records, and what it refuses is told by a tally of its counts.
@@ -75,7 +85,7 @@ pub(crate) struct Check {
     tally: Tally,
     opening: BoardState,
     phases: Vec<Phase>,
-    last: Vec<Record>,
+    last: RecordLines,
     taken: u64,
 }
 
@@ -83,7 +93,7 @@ impl Model for Check {
     ghost use Rattle.trace_runner.specs.Trace.{phases_read};
     ghost use Rattle.trace_runner.specs.Checking.{Checking};
     ghost use Rattle.trace_runner.specs.Replayed.{replayed};
-    ghost use Rattle.race_phase.specs.Tallies.{IsTally};
+    ghost use Rattle.trace_runner.specs.Counted.{IsCounted};
 
     ghost Value = { Checking };
 
@@ -91,17 +101,16 @@ impl Model for Check {
       replay = record {
         reading = c.reading;
         shows_state = c.shows_state;
-        board = replayed c.opening (phases_read c.phases.items) c.last.items;
+        board = replayed c.opening (phases_read c.phases.items) c.last.records;
         deliveries = c.deliveries;
       };
       opening = c.opening;
       phases = phases_read c.phases.items;
-      last = c.last.items;
+      last = c.last.records;
       taken = c.taken;
     } };
 
-    ghost invariant = { λ c.
-        IsTally (replayed c.opening (phases_read c.phases.items) c.last.items) c.tally };
+    ghost invariant = { λ c. IsCounted c.opening (phases_read c.phases.items) c.last c.taken c.tally };
 }
 
 impl Check {
@@ -117,30 +126,24 @@ impl Check {
             tally: Tally::of_board(&board),
             opening: board,
             phases: Vec::new(alloc),
-            last: Vec::new(alloc),
+            last: no_lines(alloc, &board),
             taken: 0,
         }
     }
 
     /// Keeps a record of the phase, which is answered, and counts it.
     #[inline(always)]
-    fn push(&mut self, line: u64, given: &Written, call: Call) -> Result<(), NoMemory>
+    fn push(&mut self, line: u64, given: &Written, text: &[u8], call: Call) -> Result<(), NoMemory>
         requires few { self.old.taken < 200000 }
+        requires text { IsLine text.now given.now self.old.opening }
+        requires call { call_of given.now.job ≡ call }
         requires cpu { given.now.cpu < self.old.replay.board.cpus }
         requires fits { IsFittingCall self.old.replay.board.cpus self.old.replay.board.format call }
         requires free { TakesCall self.old.replay.board given.now.cpu given.now.h call }
         ensures { OnOk result (self.new ≡ with_call line given.now call
             (on_board (board_behind self.old.replay.board given.now.cpu given.now.h call) self.old)) }
     {
-        let kept = Record {
-            line,
-            cpu: given.cpu,
-            h: given.h,
-            call,
-        };
-        let Ok(()) = self.last.push(kept) else {
-            return Err(NoMemory);
-        };
+        self.last.push(line, given, text)?;
         count_call(&mut self.tally, given.cpu, given.h, &call);
         self.taken += 1;
         Ok(())
@@ -155,10 +158,10 @@ impl Check {
         ensures { OnOk result (self.new
             ≡ with_end end (on_board (next_board end self.old.replay.board) self.old)) }
     {
-        let alloc = *self.last.allocator();
-        let records = mem::replace(&mut self.last, Vec::new(alloc));
-        if let Err(failed) = self.phases.push(Phase { records, end }) {
-            self.last = failed.value.records;
+        let none = no_lines(*self.phases.allocator(), &self.opening);
+        let lines = mem::replace(&mut self.last, none);
+        if let Err(failed) = self.phases.push(Phase { lines, end }) {
+            self.last = failed.value.lines;
             return Err(NoMemory);
         }
         count_end(&mut self.tally, end);
@@ -168,8 +171,9 @@ impl Check {
 
     /// Keeps a record that isn't refused: a save and a move end their phase.
     #[inline(always)]
-    pub(crate) fn keep(&mut self, line: u64, given: &Written) -> Result<(), NoMemory>
+    pub(crate) fn keep(&mut self, line: u64, given: &Written, text: &[u8]) -> Result<(), NoMemory>
         requires few { self.old.taken < 200000 }
+        requires text { IsLine text.now given.now self.old.opening }
         requires suits { Suits (Item.Next given.now) self.old.replay.board }
         requires free { refused_job given.now.cpu given.now.h given.now.job self.old.replay.board
             ≡ None }
@@ -178,9 +182,9 @@ impl Check {
             self.old)) }
     {
         match given.job {
-            Job::Board(access) => self.push(line, given, Call::Act { access }),
-            Job::Page { page } => self.push(line, given, Call::ReadPage { page }),
-            Job::Clock { page } => self.push(line, given, Call::ReadClock { page }),
+            Job::Board(access) => self.push(line, given, text, Call::Act { access }),
+            Job::Page { page } => self.push(line, given, text, Call::ReadPage { page }),
+            Job::Clock { page } => self.push(line, given, text, Call::ReadClock { page }),
             Job::Save => self.keep_end(line, given),
             Job::Move { .. } => self.keep_end(line, given),
         }
@@ -238,7 +242,7 @@ impl Check {
         self.deliveries = deliveries_of(&header.routes);
         self.tally = Tally::of_board(&self.opening);
         self.phases.clear();
-        self.last.clear();
+        self.last = no_lines(*self.phases.allocator(), &self.opening);
         self.taken = 0;
     }
 
@@ -249,7 +253,7 @@ impl Check {
         ensures { IfOk result (λ trace. trace ≡ trace_of self.old) }
     {
         self.end_phase(End::Finish)?;
-        let alloc = *self.last.allocator();
+        let alloc = *self.phases.allocator();
         let Ok(opening) = Box::new(alloc, self.opening) else {
             return Err(NoMemory);
         };
@@ -284,6 +288,8 @@ impl Check {
             (taken self.old.replay.reading text.now ≡ Ok (Item.Next given.new)) }
         ensures state { OnTrue result (self.new ≡ read_on text.now self.old) }
         ensures valid { OnTrue result (IsRecordAt self.old.replay.reading.stage given.new) }
+        ensures alone { OnTrue result (IsAlone self.old.replay.reading.stage text.now given.new) }
+        ensures cause { OnFalse result (record_in (taken self.old.replay.reading text.now) ≡ None) }
         ensures none { OnFalse result (self.new ≡ self.old) }
     {
         self.reading.read_record(text, given)
@@ -297,6 +303,13 @@ impl Check {
     {
         self.reading.at_end()
     }
+}
+
+/// No records of a trace that begins with this board.
+fn no_lines(alloc: Global, board: &BoardState) -> RecordLines
+    ensures { result ≡ no_lines board.now.format board.now.cpus }
+{
+    RecordLines::new(alloc, board.format(), board.cpus())
 }
 
 /// What ends a phase by a record: a move, or else a save.

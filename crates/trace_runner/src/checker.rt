@@ -2,9 +2,11 @@
 ghost use Rattle.std.specs.Prelude.{◌≡◌, ◌<◌, ◌≤◌, ◌+◌, ◌^◌, ◌++◌, None, Some, IfOk, OnOk, OnErr};
 ghost use Rattle.std.specs.Io.{StartsWith};
 ghost use Rattle.trace_loop.specs.Progress.{printed, end_of, state_behind};
+ghost use Rattle.trace_text.specs.Lines.{taken, record_in, record_of_item};
 ghost use Rattle.reply_text.specs.Text.{refused_text};
 ghost use Rattle.trace_runner.specs.Ready.{Suits};
 ghost use Rattle.trace_runner.specs.Sound.{IsSound};
+ghost use Rattle.trace_runner.specs.Checking.{IsLine};
 ghost use Rattle.trace_runner.specs.Check.{
   check_start,
   too_many,
@@ -79,7 +81,7 @@ impl Answerer<Checked> for Checker {
         end: &mut Option<Checked>,
     ) -> Result<(), NoMemory> {
         if self.check.read_record(text, &mut self.given) {
-            return self.check.take(line, &self.given, out, end);
+            return self.check.take(line, &self.given, text, out, end);
         }
         self.check.answer_other(line, text, out, end)
     }
@@ -97,10 +99,12 @@ impl Check {
         &mut self,
         line: u64,
         given: &Written,
+        text: &[u8],
         out: &mut Vec<u8>,
         end: &mut Option<Checked>,
     ) -> Result<(), NoMemory>
         requires suits { Suits (Item.Next given.now) self.old.replay.board }
+        requires text { IsLine text.now given.now self.old.opening }
         requires open { end.old ≡ None }
         ensures printed { OnOk result
             (out.new.items ≡ out.old.items ++ printed (record_checked line given.now self.old)) }
@@ -110,9 +114,9 @@ impl Check {
         ensures err { OnErr result (StartsWith out.new.items out.old.items) }
     {
         if !self.is_full() && self.admits(given) {
-            return self.keep(line, given);
+            return self.keep(line, given, text);
         }
-        self.take_slowly(line, given, out, end)
+        self.take_slowly(line, given, text, out, end)
     }
 
     /// The same for every record.
@@ -122,10 +126,12 @@ impl Check {
         &mut self,
         line: u64,
         given: &Written,
+        text: &[u8],
         out: &mut Vec<u8>,
         end: &mut Option<Checked>,
     ) -> Result<(), NoMemory>
         requires suits { Suits (Item.Next given.now) self.old.replay.board }
+        requires text { IsLine text.now given.now self.old.opening }
         requires open { end.old ≡ None }
         ensures printed { OnOk result
             (out.new.items ≡ out.old.items ++ printed (record_checked line given.now self.old)) }
@@ -140,10 +146,10 @@ impl Check {
         if let Some(why) = self.refusal(given) {
             return stopped(line, why, out, end);
         }
-        self.keep(line, given)
+        self.keep(line, given, text)
     }
 
-    /// Answers a line that was read.
+    /// Answers a line that was read, and is no record.
     fn answer_item(
         &mut self,
         line: u64,
@@ -152,6 +158,7 @@ impl Check {
         end: &mut Option<Checked>,
     ) -> Result<(), NoMemory>
         requires item { Suits item.now self.old.replay.board }
+        requires other { record_of_item item.now ≡ None }
         requires few { self.old.taken ≤ 200000 }
         requires sound { IsSound self.old }
         requires open { end.old ≡ None }
@@ -168,7 +175,7 @@ impl Check {
                 self.begin(header);
                 Ok(())
             }
-            Item::Next(record) => self.take(line, record, out, end),
+            Item::Next(_record) => unreachable!(),
             Item::End => {
                 let trace = self.whole()?;
                 *end = Some(Checked::Whole(trace));
@@ -210,6 +217,7 @@ impl Check {
     ) -> Result<(), NoMemory>
         requires room { line < 2 ^ 63 }
         requires may { IsCheckReady line self.old }
+        requires other { record_in (taken self.old.replay.reading text.now) ≡ None }
         requires open { end.old ≡ None }
         ensures printed { OnOk result
             (out.new.items ≡ out.old.items ++ printed (check_answer line self.old text.now)) }

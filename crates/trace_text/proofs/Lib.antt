@@ -9,3 +9,4 @@ pub mod States
 mod Rows
 pub mod Limits
 pub mod NoRecord
+pub mod Alone

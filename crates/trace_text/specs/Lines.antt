@@ -1,5 +1,6 @@
 -- The lines of a trace: what each of them is, behind those before it.
 use Rattle.std.specs.Prelude.{
+  ◌≡◌,
   ℕ,
   ◌+◌,
   ◌==◌,
@@ -24,7 +25,7 @@ use Rattle.std.specs.Prelude.{
 }
 use Rattle.std.specs.Str.{bytes_eq}
 use Rattle.trace_text.specs.Tokens.{words_of}
-use Rattle.trace_text.specs.Records.{record_of, body_behind, IsRecord}
+use Rattle.trace_text.specs.Records.{record_of, read_alone, body_behind, IsRecord}
 use Rattle.trace_text.specs.Header.{first_line, header_line, header_of, body_of, IsHead, IsBegin}
 use Rattle.trace_text.specs.declared.faults.Reason.{Reason}
 use Rattle.trace_text.specs.declared.faults.Reason.TheVariants.{Form, TooLong, NoEnd}
@@ -196,6 +197,15 @@ IsRecordAt (Heading head) r = ⊥
 IsRecordAt (Running body) r = IsRecord body r
 IsRecordAt Ended r = ⊥
 IsRecordAt (Refused fault) r = ⊥
+
+-- a line of at most 128 bytes that is read alone as the same record
+abbrev pub IsAlone : Stage → List ℕ → Record → Type 0
+IsAlone Opening line r = ⊥
+IsAlone (Heading head) line r = ⊥
+IsAlone (Running body) line r =
+    (length line ≤ 128) × (read_alone body.format body.cpus line ≡ Ok r)
+IsAlone Ended line r = ⊥
+IsAlone (Refused fault) line r = ⊥
 
 -- and of an item: setup and routes are in range, a record's access is one that the board takes
 abbrev pub IsItem : Stage → Item → Type 0

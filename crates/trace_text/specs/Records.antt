@@ -41,7 +41,7 @@ use Rattle.board_types.specs.declared.access.Access.TheVariants.{
 }
 use Rattle.board_types.specs.declared.access.TickSource.{TickSource}
 use Rattle.board_types.specs.declared.access.TickSource.TheVariants.{Pit, Rtc, Hpet}
-use Rattle.trace_text.specs.Tokens.{dec, hex, byte, khz, dec_of_bits, hex_of_bits, starts}
+use Rattle.trace_text.specs.Tokens.{words_of, dec, hex, byte, khz, dec_of_bits, hex_of_bits, starts}
 use Rattle.trace_text.specs.Rows.{place, last, Row, row, by_table}
 use Rattle.trace_text.specs.declared.faults.Reason.{Reason}
 use Rattle.trace_text.specs.declared.faults.Reason.TheVariants.{Form, Steal, Cpu, CounterFell}
@@ -173,6 +173,14 @@ judged body cpu h (Ok job) = in_turn body cpu h job
 -- `CPU H` and a row of the table
 unfoldable pub record_of : Body → List (List ℕ) → Result Record Reason
 record_of body = place dec (λ cpu. place dec (λ h ws. judged body cpu h (job_of body ws)))
+
+-- before the first record of a trace of this format, with so many processors
+abbrev pub body_at : ℕ → ℕ → Body
+body_at format cpus = record { format = format; cpus = cpus; before = replicate 64 0 }
+
+-- a line that is read alone, whatever the counters were
+abbrev pub read_alone : ℕ → ℕ → List ℕ → Result Record Reason
+read_alone format cpus line = record_of (body_at format cpus) (words_of line)
 
 -- the counters before, behind a record: a move begins with its own start, for every processor
 abbrev pub before_behind : List ℕ → Record → Job → List ℕ

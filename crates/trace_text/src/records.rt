@@ -1,7 +1,15 @@
 //! Records: what a processor does at a host counter.
 ghost use Rattle.std.specs.Prelude.{◌≡◌, ◌<◌, ◌≤◌, Ok, IfOk, OnErr, IsErr};
 ghost use Rattle.std.specs.Bool.{OnTrue, OnFalse};
-ghost use Rattle.trace_text.specs.Records.{job_of, record_of, body_behind, IsJob, IsRecord};
+ghost use Rattle.trace_text.specs.Tokens.{words_of};
+ghost use Rattle.trace_text.specs.Records.{
+  job_of,
+  record_of,
+  body_at,
+  body_behind,
+  IsJob,
+  IsRecord,
+};
 
 use crate::faults::Reason;
 use crate::jobs::{in_job, job_in, out_job, step_job};
@@ -43,6 +51,29 @@ pub struct Body {
 }
 
 impl Body {
+    /// Before the first record of a trace of this format, with so many processors, whose counters were at 0.
+    pub fn new(format: u8, cpus: u8) -> Body
+        ensures { result ≡ body_at format cpus }
+    {
+        Body {
+            format,
+            cpus,
+            before: [0; 64],
+        }
+    }
+
+    /// Reads the record of a line into one that is there, and remembers nothing; false where the line is none, or one
+    /// that is refused, and then the record there has no meaning. So a line that was read as a record behind others is
+    /// read again, alone.
+    #[inline(always)]
+    pub fn look(&self, line: &[u8], into: &mut Record) -> bool
+        requires { self.now.cpus ≤ 64 }
+        ensures record { OnTrue result (record_of self.now (words_of line.now) ≡ Ok into.new) }
+        ensures cause { OnFalse result (IsErr (record_of self.now (words_of line.now))) }
+    {
+        self.look_at(Words::new(line), into)
+    }
+
     /// The record of these words, which is remembered for its processor.
     #[inline(never)]
     #[tactic(auto, unfolding(crate::specs::Records::record_of))]
@@ -69,16 +100,31 @@ impl Body {
     }
 
     /// Reads the record of these words into one that is there, and remembers it for its processor; false where it is
-    /// refused. What most records are stays out of memory.
+    /// refused.
     #[inline(always)]
-    #[tactic(auto, unfolding(crate::specs::Records::record_of))]
-    pub(crate) fn read(&mut self, mut words: Words<'_>, into: &mut Record) -> bool
+    pub(crate) fn read(&mut self, words: Words<'_>, into: &mut Record) -> bool
         requires { self.old.cpus ≤ 64 }
         ensures record { OnTrue result (record_of self.old words.entry ≡ Ok into.new) }
         ensures cause { OnFalse result (IsErr (record_of self.old words.entry)) }
         ensures valid { OnTrue result (IsRecord self.old into.new) }
         ensures behind { OnTrue result (self.new ≡ body_behind self.old into.new) }
         ensures still { OnFalse result (self.new ≡ self.old) }
+    {
+        if !self.look_at(words, into) {
+            return false;
+        }
+        self.remember(into.cpu, into.h, &into.job);
+        true
+    }
+
+    /// The same, and remembers nothing. What most records are stays out of memory.
+    #[inline(always)]
+    #[tactic(auto, unfolding(crate::specs::Records::record_of))]
+    fn look_at(&self, mut words: Words<'_>, into: &mut Record) -> bool
+        requires { self.now.cpus ≤ 64 }
+        ensures record { OnTrue result (record_of self.now words.entry ≡ Ok into.new) }
+        ensures cause { OnFalse result (IsErr (record_of self.now words.entry)) }
+        ensures valid { OnTrue result (IsRecord self.now into.new) }
     {
         let Some(cpu) = words.short_dec() else {
             return false;
@@ -94,7 +140,6 @@ impl Body {
         }
         into.cpu = cpu as u8;
         into.h = h;
-        self.remember(into.cpu, h, &into.job);
         true
     }
 

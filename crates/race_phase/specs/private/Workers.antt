@@ -75,28 +75,30 @@ HasWorked s ds rs n p out =
     (p.number ≡ n)
     × (AllMade s ds n (records_of n rs) out (mine p) ⊎ HasStopped s ds n (records_of n rs) p)
 
--- the block of a place
-abbrev pub place_text : List (Option Delivery) → Place → List ℕ
-place_text ds t = block_of ds t.line (answer_with t.told t.reply)
+-- the block of a record, by its place
+abbrev pub place_text : List (Option Delivery) → Record → Place → List ℕ
+place_text ds r t = block_of ds r.line (answer_with t.told t.reply)
 
--- the blocks of places, in order
-abbrev pub places_text : List (Option Delivery) → List Place → List ℕ
-places_text ds [] = []
-places_text ds (t ∷ ts) = place_text ds t ++ places_text ds ts
+-- the blocks of records, in order
+abbrev pub places_text : List (Option Delivery) → List Record → List Place → List ℕ
+places_text ds [] ts = []
+places_text ds (r ∷ rs) [] = []
+places_text ds (r ∷ rs) (t ∷ ts) = place_text ds r t ++ places_text ds rs ts
 
 -- a pass has answered these records behind what it had made before, as the places tell
 pub record AllAnswered (s : BoardParts) (rs : List Record) (ts : List Place) (p q : PassKnown) :
     Type 0 where
   pub number : q.number ≡ p.number
+  pub long : length ts ≡ length rs
   pub made : (ds : List (Option Delivery)) (done : List Record) (out : List ℕ)
       → AllMade s ds p.number done out (mine p)
-      → AllMade s ds p.number (done ++ rs) (out ++ places_text ds ts) (mine q)
+      → AllMade s ds p.number (done ++ rs) (out ++ places_text ds rs ts) (mine q)
 
 -- a pass has answered these records, and their blocks were put behind a text
 abbrev pub HasPrinted : BoardParts → List (Option Delivery) → List Record → List ℕ → List ℕ
     → PassKnown → PassKnown → Type 0
 HasPrinted s ds rs old new p q =
-    (ts : List Place) × (new ≡ old ++ places_text ds ts) × AllAnswered s rs ts p q
+    (ts : List Place) × (new ≡ old ++ places_text ds rs ts) × AllAnswered s rs ts p q
 
 -- a pass has stopped at one of these records
 pub record HasHalted (s : BoardParts) (rs : List Record) (p q : PassKnown) : Type 0 where

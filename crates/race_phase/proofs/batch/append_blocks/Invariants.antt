@@ -4,4 +4,4 @@ use Rattle.race_phase.proofs.batch.append_blocks.Given as goal
 
 -- the blocks of the places so far stand behind the text
 abbrev pub invariant-loop-k : goal.invariant-loop-k
-invariant-loop-k l = l.out.items ≡ l.fn.out.items ++ places_text l.deliveries (take l.k l.places)
+invariant-loop-k l = l.out.items ≡ l.fn.out.items ++ places_text l.deliveries (take l.k l.records) (take l.k l.places)

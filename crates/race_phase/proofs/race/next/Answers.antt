@@ -1,6 +1,5 @@
-use Rattle.std.proofs.Common.{◌≡◌, ◌≤◌, ◌^◌, ◌++◌, ℕ, List, ap, sym, ◌∙◌, subst, refl, All, append_assoc, length, None}
+use Rattle.std.proofs.Common.{◌≡◌, ◌++◌, ℕ, List, ap, sym, ◌∙◌, subst, refl, All, append_assoc, None}
 use Rattle.board_types.specs.declared.parts.BoardParts.{BoardParts}
-use Rattle.race_phase.specs.declared.records.Record.{Record}
 use Rattle.race_phase.specs.Calls.{IsFitting, PhaseTold}
 use Rattle.race_phase.specs.Order.{AreAlike, after_records, records_fault}
 use Rattle.race_phase.specs.Phases.{after_phase, end_fault, end_text}
@@ -11,40 +10,32 @@ use Rattle.race_phase.proofs.race.next.Goals as goal
 
 pub run_phase-requires-clause-fitting : goal.run_phase-requires-clause-fitting
 run_phase-requires-clause-fitting g c κs within =
-    subst (λ (z : BoardParts × List Record). All (IsFitting z.0.cpus z.0.format) z.1)
-    (λ i. (sym c.in_ok-blank.ensures.state i, sym c.deref.ensures.value i)) c.requires.fitting.records
+    subst (λ (b : BoardParts). All (IsFitting b.cpus b.format) c.args.phase.now.lines.records) (sym c.in_ok-blank.ensures.state) c.requires.fitting.records
 
 pub run_phase-requires-clause-free : goal.run_phase-requires-clause-free
 run_phase-requires-clause-free g c κs within =
     let s = c.args.state.now in
     let v = c.args.phase.now in
-    let rs = v.records.items in
-    subst (λ (z : BoardParts × List Record). records_fault z.0 z.1 ≡ None)
-    (λ i. (sym c.in_ok-blank.ensures.state i, sym c.deref.ensures.value i))
+    let rs = v.lines.records in
+    subst (λ (b : BoardParts). records_fault b rs ≡ None) (sym c.in_ok-blank.ensures.state)
     (or_none (records_fault s rs) (end_fault (after_records s rs) v.end) c.requires.free).0
-
-pub run_phase-requires-clause-few : goal.run_phase-requires-clause-few
-run_phase-requires-clause-few g c κs within =
-    subst (λ (rs : List Record). length rs ≤ 2 ^ 62) (sym c.deref.ensures.value) c.requires.fitting.few
 
 pub end_phase-requires-clause-end : goal.end_phase-requires-clause-end
 end_phase-requires-clause-end g c =
     let mid = c.deref_mut.result.now in
     let s = c.args.state.now in
-    let rs = c.args.phase.now.records.items in
+    let rs = c.args.phase.now.lines.records in
     let alike = subst (λ (b : BoardParts). AreAlike (after_records s rs) b) (sym c.deref_mut.ensures.value)
-    (subst (λ (z : BoardParts × List Record). AreAlike (after_records z.0 z.1) c.in_ok-board.board.value)
-    (λ i. (c.in_ok-blank.ensures.state i, c.deref.ensures.value i)) c.in_ok-board.ensures.alike) in
+    (subst (λ (b : BoardParts). AreAlike (after_records b rs) c.in_ok-board.board.value) c.in_ok-blank.ensures.state c.in_ok-board.ensures.alike) in
     mid_fits c.args.state.now c.args.phase.now mid c.requires.fitting alike
 
 pub end_phase-requires-clause-free : goal.end_phase-requires-clause-free
 end_phase-requires-clause-free g c =
     let mid = c.deref_mut.result.now in
     let s = c.args.state.now in
-    let rs = c.args.phase.now.records.items in
+    let rs = c.args.phase.now.lines.records in
     let alike = subst (λ (b : BoardParts). AreAlike (after_records s rs) b) (sym c.deref_mut.ensures.value)
-    (subst (λ (z : BoardParts × List Record). AreAlike (after_records z.0 z.1) c.in_ok-board.board.value)
-    (λ i. (c.in_ok-blank.ensures.state i, c.deref.ensures.value i)) c.in_ok-board.ensures.alike) in
+    (subst (λ (b : BoardParts). AreAlike (after_records b rs) c.in_ok-board.board.value) c.in_ok-blank.ensures.state c.in_ok-board.ensures.alike) in
     mid_free c.args.state.now c.args.phase.now mid c.requires.fitting alike c.requires.free
 
 pub returns : goal.returns
@@ -52,15 +43,13 @@ returns g c =
     let s = c.args.state.now in
     let v = c.args.phase.now in
     let ds = c.args.deliveries.now in
-    let rs = v.records.items in
+    let rs = v.lines.records in
     let mid = c.deref_mut.result.now in
     let lines = c.in_ok-board.lines in
     let alike = subst (λ (b : BoardParts). AreAlike (after_records s rs) b) (sym c.deref_mut.ensures.value)
-    (subst (λ (z : BoardParts × List Record). AreAlike (after_records z.0 z.1) c.in_ok-board.board.value)
-    (λ i. (c.in_ok-blank.ensures.state i, c.deref.ensures.value i)) c.in_ok-board.ensures.alike) in
+    (subst (λ (b : BoardParts). AreAlike (after_records b rs) c.in_ok-board.board.value) c.in_ok-blank.ensures.state c.in_ok-board.ensures.alike) in
     let told = subst (λ (b : BoardParts). PhaseTold s ds rs b lines) (sym c.deref_mut.ensures.value)
-    (subst (λ (z : BoardParts × List Record). PhaseTold z.0 ds z.1 c.in_ok-board.board.value lines)
-    (λ i. (c.in_ok-blank.ensures.state i, c.deref.ensures.value i)) c.in_ok-board.ensures.told) in
+    (subst (λ (b : BoardParts). PhaseTold b ds rs c.in_ok-board.board.value lines) c.in_ok-blank.ensures.state c.in_ok-board.ensures.told) in
     let last : List ℕ = end_text ds v.end mid in
     let more = c.in_ok-join.ensures in
     let block = c.in_ok-end_phase.ensures.text ∙ ap (λ l. l ++ last) c.new-block.ensures.items in

@@ -4,13 +4,13 @@ use Rattle.race_phase.specs.Calls.{IsFitting, records_of}
 use Rattle.race_phase.specs.private.Workers.{AllButLast}
 use Rattle.race_phase.proofs.work.work.Given as goal
 
-abbrev pub invariant-loop-record : goal.invariant-loop-record
-invariant-loop-record g l = record {
+abbrev pub invariant-loop-place : goal.invariant-loop-place
+invariant-loop-place g l = record {
   number : l.pass.number ≡ l.cpu;
   legal : IsLegal l.pass.seen;
   places : length l.places.items ≡ l.most;
   few : length l.batch.items < l.most;
-  index : l.index + length l.batch.items ≤ l.record-index;
+  index : l.index + length l.batch.items ≤ l.place;
   fitting : All (IsFitting g.N.Name.state.cpus g.N.Name.state.format) l.batch.items;
-  made : AllButLast g.N.Name.state l.deliveries l.cpu (records_of l.cpu (take l.record-index l.records)) l.batch.items l.text.items l.pass;
+  made : AllButLast g.N.Name.state l.deliveries l.cpu (records_of l.cpu (take l.place l.lines.records)) l.batch.items l.text.items l.pass;
 }

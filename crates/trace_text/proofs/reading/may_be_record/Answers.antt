@@ -3,8 +3,8 @@ use Rattle.trace_text.proofs.Limits.{within_limit}
 use Rattle.trace_text.proofs.NoRecord.{IsNoRecord-empty, IsNoRecord-first, IsNoRecord-long}
 use Rattle.trace_text.proofs.reading.may_be_record.Goals as goal
 
-pub returns-in-48-to-57-clause-short : goal.returns-in-48-to-57-clause-short
-returns-in-48-to-57-clause-short c = within_limit c.args.line.now
+pub returns-in-48-to-57-clause-within : goal.returns-in-48-to-57-clause-within
+returns-in-48-to-57-clause-within c = within_limit c.args.line.now
 
 pub returns-in-48-to-57-clause-cause : goal.returns-in-48-to-57-clause-cause
 returns-in-48-to-57-clause-cause c = IsNoRecord-long c.args.line.now (omega arith) (omega arith)

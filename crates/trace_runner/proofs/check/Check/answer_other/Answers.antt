@@ -1,4 +1,7 @@
-use Rattle.std.proofs.Common.{sym, subst, ◌∙◌}
+use Rattle.std.proofs.Common.{Result, ap, sym, subst, ◌∙◌}
+use Rattle.trace_text.specs.Lines.{record_in}
+use Rattle.trace_text.specs.declared.faults.RecordFault.{RecordFault}
+use Rattle.trace_text.specs.declared.reading.Item.{Item}
 use Rattle.trace_runner.specs.Checking.{Checking}
 use Rattle.trace_runner.specs.Sound.{IsSound}
 use Rattle.trace_runner.proofs.CheckReady.{check_next}
@@ -8,6 +11,10 @@ use Rattle.trace_runner.proofs.check.Check.answer_other.Goals as goal
 pub answer_item-requires-clause-sound : goal.answer_item-requires-clause-sound
 answer_item-requires-clause-sound c =
     subst (λ (s : Checking). IsSound s) (sym c.read_line.ensures.state) (read_sound c.args.text.now c.args.self.now c.requires.may.sound)
+
+pub answer_item-requires-clause-other : goal.answer_item-requires-clause-other
+answer_item-requires-clause-other c =
+    ap (λ (r : Result Item RecordFault). record_in r) (sym c.in-Ok.is ∙ c.read_line.ensures.item) ∙ c.requires.other
 
 pub returns-in-Ok-clause-may : goal.returns-in-Ok-clause-may
 returns-in-Ok-clause-may c =

@@ -1,5 +1,6 @@
-use Rattle.std.proofs.Common.{◌≡◌, ◌∷◌, ◌++◌, [], List, ap, sym, subst, ◌∙◌}
+use Rattle.std.proofs.Common.{◌≡◌, ◌∷◌, ◌++◌, [], List, length, ap, sym, subst, ◌∙◌, arith}
 use Rattle.board_types.specs.declared.parts.BoardParts.{BoardParts}
+use Rattle.race_phase.specs.Lines.{LinesRead}
 use Rattle.race_phase.specs.Phases.{next_board}
 use Rattle.race_phase.specs.Tallies.{IsTally}
 use Rattle.race_phase.specs.declared.phases.End.{End}
@@ -24,29 +25,36 @@ invariant_of-self-2 c =
     let i = c.self.inside in
     let vs : List PhaseRead = phases_read i.phases.items in
     let f = ap phases_read c.in_default.ensures.items ∙ phases_pushed i.phases.items _
-    ∙ ap (λ (rs : List Record). vs ++ record { records = rs; end = c.args.end } ∷ []) (ap (λ v. v.items) c.replace-records.ensures.value) in
-    let g = ap (λ v. v.items) c.replace-records.ensures.after ∙ c.new.ensures.items in
-    subst (λ (b : BoardParts). IsTally b c.count_end.new.tally) (sym (ended_board i.opening vs _ _ i.last.items c.args.end f g))
-    (c.count_end.ensures (replayed i.opening vs i.last.items) c.self.invariant)
+    ∙ ap (λ (rs : List Record). vs ++ record { records = rs; end = c.args.end } ∷ []) (ap (λ (l : LinesRead). l.records) c.replace-lines.ensures.value) in
+    let none = c.replace-lines.ensures.after ∙ c.no_lines-none.ensures in
+    let g = ap (λ (l : LinesRead). l.records) none in
+    record {
+      counts = subst (λ (b : BoardParts). IsTally b c.count_end.new.tally) (sym (ended_board i.opening vs _ _ i.last.records c.args.end f g))
+          (c.count_end.ensures (replayed i.opening vs i.last.records) c.self.invariant.counts);
+      format = ap (λ (l : LinesRead). l.format) none;
+      cpus = ap (λ (l : LinesRead). l.cpus) none;
+      few = let e = ap (λ (l : List Record). length l) g in omega arith;
+    }
 
 pub returns : goal.returns
 returns c =
     let i = c.self.inside in
     let vs : List PhaseRead = phases_read i.phases.items in
     let f = ap phases_read c.in_default.ensures.items ∙ phases_pushed i.phases.items _
-    ∙ ap (λ (rs : List Record). vs ++ record { records = rs; end = c.args.end } ∷ []) (ap (λ v. v.items) c.replace-records.ensures.value) in
-    let g = ap (λ v. v.items) c.replace-records.ensures.after ∙ c.new.ensures.items in
+    ∙ ap (λ (rs : List Record). vs ++ record { records = rs; end = c.args.end } ∷ []) (ap (λ (l : LinesRead). l.records) c.replace-lines.ensures.value) in
+    let none = c.replace-lines.ensures.after ∙ c.no_lines-none.ensures in
+    let g = ap (λ (l : LinesRead). l.records) none in
     let s : Checking = record {
       replay = record {
         reading = i.reading;
         shows_state = i.shows_state;
-        board = replayed i.opening vs i.last.items;
+        board = replayed i.opening vs i.last.records;
         deliveries = i.deliveries;
       };
       opening = i.opening;
       phases = vs;
-      last = i.last.items;
+      last = i.last.records;
       taken = i.taken;
     } in
-    ended s c.args.end _ _ _ (ended_board i.opening vs _ _ i.last.items c.args.end f g) f g
+    ended s c.args.end _ _ _ (ended_board i.opening vs _ _ i.last.records c.args.end f g) f g
     ∙ ap (λ (t : Checking). with_end c.args.end (on_board (next_board c.args.end t.replay.board) t)) c.self.view_is
