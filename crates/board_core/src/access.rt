@@ -50,8 +50,8 @@ impl BoardState {
         })
     }
 
-    /// The same, for a caller that keeps the value and the list of edges: these are appended to it, and 18 places must be
-    /// free. The access's number is then `accesses`. It moves neither, so it is the faster of the two. It holds code for
+    /// The same, for a caller that keeps the value and the list of edges: the edges are appended to it, and 18 places must
+    /// be free. The access's number is then `accesses`. It moves neither, so it is the faster of the two. It holds code for
     /// each kind of access that guests make often: a small caller takes all of it in, and a large one calls it.
     #[inline(always)]
     pub fn answer(
@@ -84,6 +84,9 @@ impl BoardState {
             }
             Access::HpetRead { offset, width } => {
                 self.answer_known(cpu, h, Access::HpetRead { offset, width }, value, edges)
+            }
+            Access::PortOut { port, byte } => {
+                self.answer_known(cpu, h, Access::PortOut { port, byte }, value, edges)
             }
             Access::Ack { line } => self.answer_known(cpu, h, Access::Ack { line }, value, edges),
             Access::MsrRead { msr } => {

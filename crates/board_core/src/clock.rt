@@ -15,7 +15,7 @@ ghost use Rattle.board_core.specs.Pages.{
 };
 
 use crate::board::BoardState;
-use crate::processors::{page_in, published, tsc_read};
+use crate::processors::{page_in, published, scale_by, tsc_read};
 use board_types::ProcessorParts;
 use host_counter::TimeFault;
 use pvclock_page::{ClockReply, PageReply, reading};
@@ -78,8 +78,17 @@ impl BoardState {
         requires version { (processor_at self.old cpu).version < LAST_VERSION }
         ensures { self.new ≡ published_at_host cpu tsc flags self.old }
     {
-        let p = with_tsc(self.processors[cpu as usize], tsc);
-        self.processors[cpu as usize] = published(p, self.anchor, self.guest_khz, self.host, flags);
+        let before = self.processors[cpu as usize];
+        let scale = scale_by(&before, self.guest_khz);
+        let p = with_tsc(before, tsc);
+        self.processors[cpu as usize] = published(
+            p,
+            self.anchor,
+            self.guest_khz,
+            self.host,
+            flags,
+            scale,
+        );
     }
 }
 

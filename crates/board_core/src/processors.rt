@@ -1,6 +1,8 @@
 //! What accesses do to the processors: their TSCs, their numbers, and the publishing of their pages.
 ghost use Rattle.std.specs.Prelude.{
   ◌≡◌,
+  ℕ,
+  ◌*◌,
   ◌<◌,
   ◌≤◌,
   ◌^◌,
@@ -31,8 +33,10 @@ ghost use Rattle.board_core.specs.Pages.{
   processors_after,
 };
 ghost use Rattle.board_core.specs.Time.{HasTime};
-ghost use Rattle.board_core.specs.Conditions.{AreRates};
+ghost use Rattle.board_core.specs.Conditions.{AreRates, IsProcessor};
+ghost use Rattle.pvclock_page.specs.Scale.{mul_for, shift_for};
 
+use crate::refusals::time_anew;
 use board_types::{Access, MSR_KVM_SYSTEM_TIME, MSR_TSC, MSR_TSC_ADJUST, ProcessorParts};
 use clk_units::bit;
 use host_counter::Anchor;
@@ -90,13 +94,27 @@ fn time_of(anchor: Anchor, h: u64) -> u64
     requires time { HasTime anchor h }
     ensures { result ≡ time_at anchor h }
 {
-    match anchor.time(h) {
+    match time_anew(anchor, h) {
         Ok(ns) => ns,
         Err(_) => unreachable!(),
     }
 }
 
-/// A processor whose page is published at count `h`.
+/// The scale of the guest's rate, by a processor: a page that was published has it, and then it asks for no division.
+pub(crate) fn scale_by(p: &ProcessorParts, guest_khz: u64) -> (u32, i8)
+    requires rate { IsKhz guest_khz }
+    requires valid { IsProcessor guest_khz p.now }
+    ensures mul { result.0 ≡ mul_for (guest_khz * 1000) }
+    ensures shift { result.1 ≡ shift_for (guest_khz * 1000) }
+{
+    if p.version == 0 {
+        scale_of(guest_khz * 1000)
+    } else {
+        (p.mul, p.shift)
+    }
+}
+
+/// A processor whose page is published at count `h`, by the scale of the guest's rate.
 #[tactic(auto, unfolding(crate::specs::Pages::published))]
 pub(crate) fn published(
     p: ProcessorParts,
@@ -104,13 +122,16 @@ pub(crate) fn published(
     guest_khz: u64,
     h: u64,
     flags: u8,
+    scale: (u32, i8),
 ) -> ProcessorParts
     requires rates { AreRates anchor guest_khz }
     requires time { HasTime anchor h }
     requires version { p.version < LAST_VERSION }
+    requires mul { scale.0 ≡ mul_for (guest_khz * 1000) }
+    requires shift { scale.1 ≡ shift_for (guest_khz * 1000) }
     ensures { result ≡ published anchor guest_khz h flags p }
 {
-    let (mul, shift) = scale_of(guest_khz * 1000);
+    let (mul, shift) = scale;
     ProcessorParts {
         version: p.version + 2,
         tsc_timestamp: tsc_read(&p, anchor, guest_khz, h),
@@ -224,11 +245,14 @@ fn publish_at(
     requires place { IfSome place (λ k. k < 64) }
     requires version { IfSome place (λ k.
         (slice_index_or processors.old k no_processor).version < LAST_VERSION) }
+    requires valid { (k : ℕ) → IsProcessor guest_khz (slice_index_or processors.old k no_processor) }
     ensures { processors.new ≡ published_at place anchor guest_khz h a processors.old }
 {
     if let Some(place) = place {
-        let p = prepared(processors[place as usize], anchor, guest_khz, h, a);
-        processors[place as usize] = published(p, anchor, guest_khz, h, TSC_STABLE);
+        let before = processors[place as usize];
+        let scale = scale_by(&before, guest_khz);
+        let p = prepared(before, anchor, guest_khz, h, a);
+        processors[place as usize] = published(p, anchor, guest_khz, h, TSC_STABLE, scale);
     }
 }
 
@@ -247,6 +271,7 @@ pub(crate) fn publish_by(
     requires place { IfSome (published_by cpu a) (λ k. k < 64) }
     requires version { IfSome (published_by cpu a) (λ k.
         (slice_index_or processors.old k no_processor).version < LAST_VERSION) }
+    requires valid { (k : ℕ) → IsProcessor guest_khz (slice_index_or processors.old k no_processor) }
     ensures { processors.new ≡ processors_after anchor guest_khz cpu h a processors.old }
 {
     publish_at(processors, published_by(cpu, a), anchor, guest_khz, h, a);

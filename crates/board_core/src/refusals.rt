@@ -93,7 +93,7 @@ impl BoardState {
 
 /// The time at a count of the host's counter.
 #[inline(always)]
-fn time_anew(anchor: Anchor, h: u64) -> Result<u64, TimeFault>
+pub(crate) fn time_anew(anchor: Anchor, h: u64) -> Result<u64, TimeFault>
     requires { IsKhz anchor.khz }
     ensures ok { OnOk result (HasTime anchor h) }
     ensures time { IfOk result (λ ns. ns ≡ time_at anchor h) }

@@ -280,7 +280,7 @@ module _ (opening : BoardParts) where
         legal = subst IsLegal (sym same) r.legal;
         opened = (r.g.later, same);
         front = ap (λ l. get_or l 0 0) (sym words) ∙ (r.front.front ∙ ap loud (sym same));
-        greatest = ap (λ l. get_or l 1 0) (sym words) ∙ (r.front.clamp ∙ ap (λ l. (board_after l).greatest) (sym same));
+        greatest = ap (λ l. get_or l 16 0) (sym words) ∙ (r.front.clamp ∙ ap (λ l. (board_after l).greatest) (sym same));
         page = λ c l. page_ends s r ws c l same words shut;
         ended = told_ended s r v.seen v.ended (sym same) shut (r.each id v at).ended;
         numbers = λ n l.
@@ -327,7 +327,7 @@ steady_of b joined long = record {
     ]
 
 -- the words of all pages
-pub laid_of : (s : BoardParts) (words : List ℕ) → length words ≡ 2 + 5 * s.cpus → IsLaidBelow s.cpus s words → IsLaid s words
+pub laid_of : (s : BoardParts) (words : List ℕ) → length words ≡ 32 + 16 * s.cpus → IsLaidBelow s.cpus s words → IsLaid s words
 laid_of s words long l = record {
   wide = long;
   front = l.front;

@@ -8,17 +8,24 @@ use Rattle.board_history.specs.Machine.{page_at}
 use Rattle.board_history.specs.History.{board_after}
 use Rattle.board_history.proofs.Laws.{is_of-pass}
 use Rattle.clock_table.specs.Words.{place}
-use Rattle.clock_table.specs.Calls.{IsPen, IsNext, IsBump, IsPublishing, HasPut, AllPut}
+use Rattle.clock_table.specs.Calls.{IsPen, IsNext, PublishesNone, IsBump, IsPublishing, HasPut, AllPut}
 use Rattle.clock_table.specs.private.Rule.{Kept}
 use Rattle.clock_table.specs.private.Plays.{Finished}
 use Rattle.clock_table.proofs.Keeps.{M}
-use Rattle.clock_table.proofs.WriteSteps.{Holds, bumps, finishes}
+use Rattle.clock_table.proofs.WriteSteps.{Holds, enters, bumps, finishes}
 
 module _ (opening : BoardParts) where
   holds : (id : ℕ) (me : M) (pen : IsPen me.0) → me.0.live ≡ true → Holds opening id pen.number.0 me
   holds id me pen live = record { pen = pen.pen; number = pen.number.1; meet = pen.meet; live = live }
 
-  -- an entry that publishes no page
+  -- an access that publishes no page
+  pub enter_allowed : (slots id : ℕ) (me : M) (e : Entry) → IsPen me.0 → me.0.live ≡ true → me.0.hand ≡ None → PublishesNone e → IsNext e me.0
+      → Allows (Kept opening) slots id me 0 (λ n. n) (Finished e (step slots 0 0 0 none) me)
+  enter_allowed slots id me e pen live shut quiet next =
+      let p = pen.number.0 in
+      enters opening slots id p me e (holds id me pen live) shut (is_of-pass e p (next.number ∙ pen.number.1)) quiet next.legal
+
+  -- a read under the lock
   pub bump_allowed : (slots id : ℕ) (me : M) (e : Entry) → IsPen me.0 → me.0.live ≡ true → me.0.hand ≡ None → IsBump me.0.seen e → IsNext e me.0
       → Allows (Kept opening) slots id me 0 (λ n. (n + 1) % 2 ^ 64) (Finished e (step slots 0 1 0 none) me)
   bump_allowed slots id me e pen live shut is next =

@@ -381,13 +381,10 @@ module _ (opening : BoardParts) where
 
   -- where quiet entries other than a clamp come, the front words stay
   pub front_same : (s : St) (r : Rule s) (words' : List ℕ) (es : List Entry) → IsQuiet es → get_or words' 0 0 ≡ get_or s.words 0 0
-      → get_or words' 1 0 ≡ (board_after (log_of s r ++ es)).greatest → FrontKept words' (log_of s r ++ es)
+      → get_or words' 16 0 ≡ (board_after (log_of s r ++ es)).greatest → FrontKept words' (log_of s r ++ es)
   front_same s r words' es calm zero' one' =
       let f = r.front in
       let count : loud (log_of s r ++ es) ≡ loud (log_of s r) = loud-append (log_of s r) es ∙ (let z = loud_quiet es calm in omega arith) in
-      let beside = quiet_beside (board_after (log_of s r)) es calm in
-      let accesses : (board_after (log_of s r ++ es)).accesses ≡ (board_after (log_of s r)).accesses =
-      ap (λ (b : BoardParts). b.accesses) (board_from-++ no_board (log_of s r) es ∙ beside.1) in
       record { front = zero' ∙ (f.front ∙ sym count); low = let low = f.low in omega arith; clamp = one' }
 
   -- what the history tells to the seat id, which has seen v.seen and then what stands between

@@ -59,36 +59,36 @@ five-0 ws at a b c d e room =
     ∙ (get_or-set_other (set ws at a) (at + 1) at b 0 (λ z. omega arith) ∙ get_or-set_same ws at a 0 (omega arith))))
 
 abbrev pub laid_after : List ℕ → ℕ → List ℕ → List ℕ
-laid_after ws n p = five ws (2 + 5 * n) (get_or p 0 0) (get_or p 1 0) (get_or p 2 0) (get_or p 3 0) (get_or p 4 0)
+laid_after ws n p = five ws (32 + 16 * n) (get_or p 0 0) (get_or p 1 0) (get_or p 2 0) (get_or p 3 0) (get_or p 4 0)
 
 at_place : (ws : List ℕ) (c k i : ℕ) → place c k ≡ i → word_of ws c k ≡ get_or ws i 0
 at_place ws c k i e = ap (λ (j : ℕ). get_or ws j 0) e
 
 -- one page more is laid
-pub laid-more : (n : ℕ) (s : BoardParts) (ws p : List ℕ) → length ws ≡ 2 + 5 * s.cpus → n < s.cpus → p ≡ words_of (page_at s n)
+pub laid-more : (n : ℕ) (s : BoardParts) (ws p : List ℕ) → length ws ≡ 32 + 16 * s.cpus → n < s.cpus → p ≡ words_of (page_at s n)
     → IsLaidBelow n s ws → IsLaidBelow (n + 1) s (laid_after ws n p)
 laid-more n s ws p long few is l = record {
-  front = five-other ws (2 + 5 * n) _ _ _ _ _ 0 (λ k h e. omega arith) ∙ l.front;
-  clamp = five-other ws (2 + 5 * n) _ _ _ _ _ 1 (λ k h e. omega arith) ∙ l.clamp;
+  front = five-other ws (32 + 16 * n) _ _ _ _ _ 0 (λ k h e. omega arith) ∙ l.front;
+  clamp = five-other ws (32 + 16 * n) _ _ _ _ _ 16 (λ k h e. omega arith) ∙ l.clamp;
   version = λ c h. dite (ℕ_discrete c n)
       (λ e. subst (λ (i : ℕ). word_of (laid_after ws n p) i 0 ≡ (page_at s i).version) (sym e)
-      (at_place (laid_after ws n p) n 0 (2 + 5 * n) (omega arith) ∙ (five-0 ws (2 + 5 * n) _ _ _ _ _ (omega arith) ∙ value 0)))
+      (at_place (laid_after ws n p) n 0 (32 + 16 * n) (omega arith) ∙ (five-0 ws (32 + 16 * n) _ _ _ _ _ (omega arith) ∙ value 0)))
       (λ ne. before c 0 (omega arith) ne h ∙ l.version c (omega arith));
   stamp = λ c h. dite (ℕ_discrete c n)
       (λ e. subst (λ (i : ℕ). word_of (laid_after ws n p) i 1 ≡ field_at (page_at s i) 0) (sym e)
-      (at_place (laid_after ws n p) n 1 (2 + 5 * n + 1) (omega arith) ∙ (five-1 ws (2 + 5 * n) _ _ _ _ _ (omega arith) ∙ value 1)))
+      (at_place (laid_after ws n p) n 1 (32 + 16 * n + 1) (omega arith) ∙ (five-1 ws (32 + 16 * n) _ _ _ _ _ (omega arith) ∙ value 1)))
       (λ ne. before c 1 (omega arith) ne h ∙ l.stamp c (omega arith));
   system = λ c h. dite (ℕ_discrete c n)
       (λ e. subst (λ (i : ℕ). word_of (laid_after ws n p) i 2 ≡ field_at (page_at s i) 1) (sym e)
-      (at_place (laid_after ws n p) n 2 (2 + 5 * n + 2) (omega arith) ∙ (five-2 ws (2 + 5 * n) _ _ _ _ _ (omega arith) ∙ value 2)))
+      (at_place (laid_after ws n p) n 2 (32 + 16 * n + 2) (omega arith) ∙ (five-2 ws (32 + 16 * n) _ _ _ _ _ (omega arith) ∙ value 2)))
       (λ ne. before c 2 (omega arith) ne h ∙ l.system c (omega arith));
   scale = λ c h. dite (ℕ_discrete c n)
       (λ e. subst (λ (i : ℕ). word_of (laid_after ws n p) i 3 ≡ field_at (page_at s i) 2) (sym e)
-      (at_place (laid_after ws n p) n 3 (2 + 5 * n + 3) (omega arith) ∙ (five-3 ws (2 + 5 * n) _ _ _ _ _ (omega arith) ∙ value 3)))
+      (at_place (laid_after ws n p) n 3 (32 + 16 * n + 3) (omega arith) ∙ (five-3 ws (32 + 16 * n) _ _ _ _ _ (omega arith) ∙ value 3)))
       (λ ne. before c 3 (omega arith) ne h ∙ l.scale c (omega arith));
   offset = λ c h. dite (ℕ_discrete c n)
       (λ e. subst (λ (i : ℕ). word_of (laid_after ws n p) i 4 ≡ field_at (page_at s i) 3) (sym e)
-      (at_place (laid_after ws n p) n 4 (2 + 5 * n + 4) (omega arith) ∙ (five-4 ws (2 + 5 * n) _ _ _ _ _ (omega arith) ∙ value 4)))
+      (at_place (laid_after ws n p) n 4 (32 + 16 * n + 4) (omega arith) ∙ (five-4 ws (32 + 16 * n) _ _ _ _ _ (omega arith) ∙ value 4)))
       (λ ne. before c 4 (omega arith) ne h ∙ l.offset c (omega arith));
 }
   where
@@ -96,4 +96,4 @@ laid-more n s ws p long few is l = record {
     value k = ap (λ (l : List ℕ). get_or l k 0) is
 
     before : (c k : ℕ) → k < 5 → c ≢ n → c < n + 1 → word_of (laid_after ws n p) c k ≡ word_of ws c k
-    before c k small ne h = five-other ws (2 + 5 * n) _ _ _ _ _ (place c k) (λ j g e. ne (omega arith))
+    before c k small ne h = five-other ws (32 + 16 * n) _ _ _ _ _ (place c k) (λ j g e. ne (omega arith))

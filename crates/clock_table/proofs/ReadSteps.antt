@@ -141,7 +141,7 @@ module _ (opening : BoardParts) where
       → me.0.meet ≡ None → me.0.live ≡ true
       → is_of p x ≡ true → IsQuietEntry x → May (log_of opening s r) x → length words' ≡ length s.words → ((c k : ℕ) → word_of words' c k ≡ word_of s.words c k)
       → get_or words' 0 0 ≡ get_or s.words 0 0
-      → get_or words' 1 0 ≡ (board_after (log_of opening s r ++ x ∷ [])).greatest
+      → get_or words' 16 0 ≡ (board_after (log_of opening s r ++ x ∷ [])).greatest
       → Rule opening record { words = words'; homes = s.homes; views = set s.views id (heard me.0 (r.each id me.0 at).begins.0 x) }
       × Hears x me.0 (heard me.0 (r.each id me.0 at).begins.0 x)
   hears s r words' id p me x at num no_meet lives is calm may as_wide same zero' one' =
@@ -299,10 +299,10 @@ module _ (opening : BoardParts) where
   -- the clamp word is raised
   pub raises : (slots id cpu k p : ℕ) (me : M) → me.0.number ≡ Some p → me.0.meet ≡ None → me.0.live ≡ true
       → Reads (machine_of opening) (last_of (entries_of p me.0.seen)) cpu k
-      → Allows (Kept opening) slots id me 1 (λ n. max n k) (Raised cpu (step slots 1 k 0 none) me)
+      → Allows (Kept opening) slots id me 16 (λ n. max n k) (Raised cpu (step slots 16 k 0 none) me)
   raises slots id cpu k p me num no_meet lives reads s r _ at _ =
       let f = r.each id me.0 at in
-      let n : ℕ = get_or s.words 1 0 in
+      let n : ℕ = get_or s.words 16 0 in
       let number : number_in me.0 ≡ p = ap (λ (o : Option ℕ). or_else o 0) num in
       let e : Entry = Clamp (number_in me.0) cpu k (max k n) in
       let log : List Entry = log_of opening s r in
@@ -314,10 +314,10 @@ module _ (opening : BoardParts) where
       ) in
       let greatest : max n k ≡ (board_after (log ++ e ∷ [])).greatest = sym (ap (λ (b : BoardParts). b.greatest) (board_after-snoc log e) ∙ omega arith) in
       let wide = r.wide in
-      let words' : List ℕ = set s.words 1 (max n k) in
-      let t = hears s r words' id p me e at num no_meet lives (eq-eqb (number_in me.0) p number) tt may (length-set s.words 1 (max n k))
-      (λ c j. get_or-set_other s.words 1 (place c j) (max n k) 0 (λ z. omega arith))
-      (get_or-set_other s.words 1 0 (max n k) 0 (λ z. omega arith)) (get_or-set_same s.words 1 (max n k) 0 (omega arith) ∙ greatest) in (
+      let words' : List ℕ = set s.words 16 (max n k) in
+      let t = hears s r words' id p me e at num no_meet lives (eq-eqb (number_in me.0) p number) tt may (length-set s.words 16 (max n k))
+      (λ c j. get_or-set_other s.words 16 (place c j) (max n k) 0 (λ z. omega arith))
+      (get_or-set_other s.words 16 0 (max n k) 0 (λ z. omega arith)) (get_or-set_same s.words 16 (max n k) 0 (omega arith) ∙ greatest) in (
         heard me.0 f.begins.0 e,
         keeps,
         tt,

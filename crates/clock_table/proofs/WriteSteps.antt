@@ -56,7 +56,7 @@ use Rattle.board_types.specs.declared.parts.BoardParts.{BoardParts}
 use Rattle.board_types.specs.declared.parts.TheConstants.{LAST_VERSION}
 use Rattle.board_core.specs.Access.{after_access}
 use Rattle.board_core.specs.Pages.{with_greatest}
-use Rattle.board_core.proofs.Laws.{after_access-greatest, refusal_of-greatest, reply_of-greatest, after_access-accesses, after_access-kept_greatest}
+use Rattle.board_core.proofs.Laws.{after_access-greatest, refusal_of-greatest, reply_of-greatest, after_access-kept_greatest}
 use Rattle.board_history.specs.Machine.{Machine, page_at, no_board}
 use Rattle.board_history.specs.History.{board_after, version_after, IsAnswered, May, entries_of, is_of}
 use Rattle.board_history.specs.declared.entry.Entry.{Entry}
@@ -72,10 +72,10 @@ use Rattle.clock_table.specs.Steps.{
   IsQuiet,
   GoesOnQuietly,
   weight,
-  none_weight,
   loudness,
   loud,
   told,
+  Extends,
   no_fields,
   begun,
   with_put,
@@ -83,7 +83,7 @@ use Rattle.clock_table.specs.Steps.{
   here_of,
   penned_of,
 }
-use Rattle.clock_table.specs.Calls.{IsPublishing, IsBump, AllPut}
+use Rattle.clock_table.specs.Calls.{IsPublishing, PublishesNone, IsBump, AllPut}
 use Rattle.clock_table.specs.private.Rule.{is_open, stored, PageKept, MissesKept, FrontKept, Kept}
 use Rattle.clock_table.specs.private.Plays.{Begun, PutIn, Finished}
 use Rattle.clock_table.proofs.Lists.{prefix_self, prefix_on, cancel}
@@ -114,7 +114,7 @@ apart_place : (c d j k : ℕ) → j < 5 → k < 5 → (d ≢ c) ⊎ (j ≢ k) �
 apart_place c d j k a b (inl x) e = x (omega arith)
 apart_place c d j k a b (inr x) e = x (omega arith)
 
-later_version : (cpus : ℕ) (ws : List ℕ) (c x : ℕ) → length ws ≡ 2 + 5 * cpus → c < cpus → word_of ws c 0 < x → Later cpus ws (set ws (place c 0) x)
+later_version : (cpus : ℕ) (ws : List ℕ) (c x : ℕ) → length ws ≡ 32 + 16 * cpus → c < cpus → word_of ws c 0 < x → Later cpus ws (set ws (place c 0) x)
 later_version cpus ws c x wide l more = record { up = up; still = still }
   where
     here : word_of (set ws (place c 0) x) c 0 ≡ x
@@ -144,8 +144,8 @@ later_field cpus ws c k x small odd = record {
     version d = get_or-set_other ws (place c (suc k)) (place d 0) x 0 (apart_place c d 0 (suc k) (omega arith) (omega arith) (inr (λ z. omega arith)))
 
 -- a word of a page is not a front word
-in_page : (ws : List ℕ) (c k x : ℕ) → (get_or (set ws (place c k) x) 0 0 ≡ get_or ws 0 0) × (get_or (set ws (place c k) x) 1 0 ≡ get_or ws 1 0)
-in_page ws c k x = (get_or-set_other ws (place c k) 0 x 0 (λ z. omega arith), get_or-set_other ws (place c k) 1 x 0 (λ z. omega arith))
+in_page : (ws : List ℕ) (c k x : ℕ) → (get_or (set ws (place c k) x) 0 0 ≡ get_or ws 0 0) × (get_or (set ws (place c k) x) 16 0 ≡ get_or ws 16 0)
+in_page ws c k x = (get_or-set_other ws (place c k) 0 x 0 (λ z. omega arith), get_or-set_other ws (place c k) 16 x 0 (λ z. omega arith))
 
 module _ (opening : BoardParts) where
   -- what a step of the pen's holder has before it
@@ -376,110 +376,140 @@ module _ (opening : BoardParts) where
   page_else seen (Board pass cpu h access reply) c d is ne = ap (λ (x : BoardParts). page_at x d) (board_after-snoc seen (Board pass cpu h access reply))
       ∙ page_at-else (board_after seen) cpu h c d access is ne
 
-  -- an entry that the front word counts is legal behind all, where it is so behind what the pen's holder has seen
+  -- an entry that publishes no page is legal behind all, where it is so behind what the pen's holder has seen
+  may_enter : (seen between : List Entry) (e : Entry) → IsQuiet between → PublishesNone e → May seen e → May (seen ++ between) e
+  may_enter seen between (Opened s) q is may = may
+  may_enter seen between (PageRead pass cpu h page locked) q is may = absurd is
+  may_enter seen between (Clamp pass cpu reading clock) q is may = absurd is
+  may_enter seen between (Board pass cpu h access reply) q is may = answered_here seen between cpu h access reply q may
+
   may_bump : (seen between : List Entry) (e : Entry) → IsQuiet between → IsBump seen e → May seen e → May (seen ++ between) e
   may_bump seen between (Opened s) q is may = may
+  may_bump seen between (Board pass cpu h access reply) q is may = absurd is
   may_bump seen between (Clamp pass cpu reading clock) q is may = absurd is
   may_bump seen between (PageRead pass cpu h page locked) q is may =
       let beside = quiet_beside (board_after seen) between q in
       let now : board_after (seen ++ between) ≡ with_greatest (board_after seen) beside.0 = board_from-++ no_board seen between ∙ beside.1 in
       subst (λ (x : BoardParts). (cpu < x.cpus) × (page_at x cpu ≡ page)) (sym now) (may.0, may.1)
-  may_bump seen between (Board pass cpu h access reply) q is may = answered_here seen between cpu h access reply q may
+
+  -- it leaves the pages and the greatest reading
+  enter_page : (log : List Entry) (e : Entry) (d : ℕ) → PublishesNone e → page_at (board_after (log ++ e ∷ [])) d ≡ page_at (board_after log) d
+  enter_page log (Opened s) d is = absurd is
+  enter_page log (PageRead pass cpu h page locked) d is = absurd is
+  enter_page log (Clamp pass cpu reading clock) d is = absurd is
+  enter_page log (Board pass cpu h access reply) d is = ap (λ (x : BoardParts). page_at x d) (board_after-snoc log (Board pass cpu h access reply))
+      ∙ page_at-none (board_after log) cpu h d access is
 
   bump_page : (log seen : List Entry) (e : Entry) (d : ℕ) → IsBump seen e → page_at (board_after (log ++ e ∷ [])) d ≡ page_at (board_after log) d
   bump_page log seen (Opened s) d is = absurd is
+  bump_page log seen (Board pass cpu h access reply) d is = absurd is
   bump_page log seen (Clamp pass cpu reading clock) d is = absurd is
   bump_page log seen (PageRead pass cpu h page locked) d is = ap (λ (x : BoardParts). page_at x d) (board_after-snoc log (PageRead pass cpu h page locked))
-  bump_page log seen (Board pass cpu h access reply) d is = ap (λ (x : BoardParts). page_at x d) (board_after-snoc log (Board pass cpu h access reply))
-      ∙ page_at-none (board_after log) cpu h d access is
+
+  enter_count : (log : List Entry) (e : Entry) → PublishesNone e → (loud (log ++ e ∷ []) ≡ loud log)
+      × ((board_after (log ++ e ∷ [])).greatest ≡ (board_after log).greatest)
+  enter_count log (Opened s) is = absurd is
+  enter_count log (PageRead pass cpu h page locked) is = absurd is
+  enter_count log (Clamp pass cpu reading clock) is = absurd is
+  enter_count log (Board pass cpu h access reply) is =
+      let e : Entry = Board pass cpu h access reply in
+      let count = loud-append log (e ∷ []) in
+      (omega arith, ap (λ (b : BoardParts). b.greatest) (board_after-snoc log e) ∙ after_access-kept_greatest (board_after log) cpu h access)
 
   -- one more is counted, and the bound stays
-  bump_count : (log seen : List Entry) (e : Entry) → loud log ≡ loud seen → loud log < 2 ^ 63 + 1 + (board_after log).accesses → IsBump seen e
-      → (loud (log ++ e ∷ []) ≡ loud log + 1) × (loud log + 1 < 2 ^ 63 + 1 + (board_after (log ++ e ∷ [])).accesses)
-      × ((board_after (log ++ e ∷ [])).greatest ≡ (board_after log).greatest)
-  bump_count log seen (Opened s) same low is = absurd is
-  bump_count log seen (Clamp pass cpu reading clock) same low is = absurd is
-  bump_count log seen (PageRead pass cpu h page locked) same low is =
+  bump_count : (log seen : List Entry) (e : Entry) → loud log ≡ loud seen → IsBump seen e → (loud (log ++ e ∷ []) ≡ loud log + 1)
+      × (loud log + 1 < 2 ^ 63 + 1) × ((board_after (log ++ e ∷ [])).greatest ≡ (board_after log).greatest)
+  bump_count log seen (Opened s) same is = absurd is
+  bump_count log seen (Board pass cpu h access reply) same is = absurd is
+  bump_count log seen (Clamp pass cpu reading clock) same is = absurd is
+  bump_count log seen (PageRead pass cpu h page locked) same is =
       let e : Entry = PageRead pass cpu h page locked in
       let one : loudness e ≡ 1 = ap weight is.0 in
-      let after = board_after-snoc log e in
       let few = is.1 in
       let count = loud-append log (e ∷ []) in
-      (omega arith, omega arith, ap (λ (b : BoardParts). b.greatest) after)
-  bump_count log seen (Board pass cpu h access reply) same low is =
-      let e : Entry = Board pass cpu h access reply in
-      let one : loudness e ≡ 1 = ap none_weight is in
-      let after = board_after-snoc log e in
-      let more : (board_after (log ++ e ∷ [])).accesses ≡ (board_after log).accesses + 1 = ap (λ (b : BoardParts). b.accesses) after
-      ∙ after_access-accesses (board_after log) cpu h access in
-      let count = loud-append log (e ∷ []) in
-      (omega arith, omega arith, ap (λ (b : BoardParts). b.greatest) after ∙ after_access-kept_greatest (board_after log) cpu h access)
+      (omega arith, omega arith, ap (λ (b : BoardParts). b.greatest) (board_after-snoc log e))
 
-  -- the front word is raised
-  pub bumps : (slots id p : ℕ) (me : M) (e : Entry) → Holds id p me → me.0.hand ≡ None → is_of p e ≡ true → IsBump me.0.seen e → May me.0.seen e
-      → Allows (Kept opening) slots id me 0 (λ n. (n + 1) % 2 ^ 64) (Finished e (step slots 0 1 0 none) me)
-  bumps slots id p me e has shut mine is may s r _ at small =
+  -- a step on the front word that makes an entry which leaves the pages
+  on_front : (s : St) (r : Rule opening s) (x id p : ℕ) (me : M) (e : Entry) (at : get_elem? s.views id ≡ some me.0) → Holds id p me → me.0.hand ≡ None
+      → is_of p e ≡ true → May (log_of opening s r) e → FrontKept (set s.words 0 x) (log_of opening s r ++ e ∷ [])
+      → ((d : ℕ) → page_at (board_after (log_of opening s r ++ e ∷ [])) d ≡ page_at (board_after (log_of opening s r)) d)
+      → Rule opening (stepped s 0 x id me.1 (told me.0 (r.each id me.0 at).begins.0 e) keeps) × Extends e me.0 (told me.0 (r.each id me.0 at).begins.0 e)
+  on_front s r x id p me e at has shut mine legal front same_page =
       let t = pens s r id p me at has in
       let q = t.0 in
       let log : List Entry = log_of opening s r in
-      let n : ℕ = get_or s.words 0 0 in
       let hand_is : r.pen.hand ≡ None = ap (λ (u : View). u.hand) t.1 ∙ shut in
-      let same_loud : loud log ≡ loud me.0.seen = ap loud (sym q.1) ∙ (loud-append me.0.seen q.0 ∙ (let z = loud_quiet q.0 q.2 in omega arith)) in
-      let count = bump_count log me.0.seen e same_loud r.front.low is in
-      let front = r.front.front in
-      let low = r.front.low in
-      let few = r.steady.count in
-      let wide = r.wide in
-      let no_wrap : n + 1 ≡ (n + 1) % 2 ^ 64 = wraps n (omega arith) in
-      let legal : May log e = subst (λ h. May h e) q.1 (may_bump me.0.seen q.0 e q.2 is may) in
       let f = r.each id me.0 at in
       let whole : (me.0.seen ++ f.begins.0) ++ e ∷ [] ≡ log ++ e ∷ [] = ap (λ h. h ++ e ∷ []) f.begins.1 in
       let comes = comes_one opening s r id p me.0 e at has.number mine legal in
       let same_rest : q.0 ≡ f.begins.0 = cancel me.0.seen q.0 f.begins.0 (q.1 ∙ sym f.begins.1) in
       let w = told me.0 f.begins.0 e in
-      let ws : List ℕ = set s.words 0 (n + 1) in
-      let same : (c k : ℕ) → word_of ws c k ≡ word_of s.words c k = λ c k. get_or-set_other s.words 0 (place c k) (n + 1) 0 (λ z. omega arith) in (
-        w,
-        keeps,
-        tt,
-        subst (λ (x : ℕ). Rule opening (stepped s 0 x id me.1 w keeps)) no_wrap
-            (write_step s r 0 (n + 1) id p me w (e ∷ []) at has refl refl refl refl refl refl refl refl refl (prefix_on me.0.seen f.begins.0 (e ∷ [])) comes
-            (λ k ne. entries_of-else e p k mine ne) (later_same opening.cpus s.words ws same)
-            (record {
-              front = get_or-set_same s.words 0 (n + 1) 0 (omega arith) ∙ (let c = count.0 in omega arith);
-              low =
-                  (let c = count.0 in let d = count.1 in omega arith);
-              clamp = get_or-set_other s.words 0 1 (n + 1) 0 (λ z. omega arith)
-                  ∙ (r.front.clamp ∙ sym count.2);
-            })
-            ([], append-nil _ ∙ whole, tt) (ap (entries_of p) (sym whole))
-            (λ d m. let k = r.pages d m in let pg = bump_page log me.0.seen e d is in
-            subst (λ (z : Option Hand × Page). PageKept ws z.0 z.1 d) (λ i. ((hand_is ∙ refl) i, sym pg i)) (record {
+      let ws : List ℕ = set s.words 0 x in
+      let same : (c k : ℕ) → word_of ws c k ≡ word_of s.words c k = λ c k. get_or-set_other s.words 0 (place c k) x 0 (λ z. omega arith) in (
+        write_step s r 0 x id p me w (e ∷ []) at has refl refl refl refl refl refl refl refl refl (prefix_on me.0.seen f.begins.0 (e ∷ [])) comes
+            (λ k ne. entries_of-else e p k mine ne) (later_same opening.cpus s.words ws same) front ([], append-nil _ ∙ whole, tt)
+            (ap (entries_of p) (sym whole))
+            (λ d m. let k = r.pages d m in subst (λ (z : Option Hand × Page). PageKept ws z.0 z.1 d) (λ i. ((hand_is ∙ refl) i, sym (same_page d) i)) (record {
               version = same d 0 ∙ k.version;
               field =
                   λ j js. same d (suc j) ∙ k.field j js;
-            }))),
-        (refl, (f.begins.0, refl, subst IsQuiet same_rest q.2, learnt opening s r id p me.0 e at has.number has.meet has.live comes)),
+            })),
+        (f.begins.0, refl, subst IsQuiet same_rest q.2, learnt opening s r id p me.0 e at has.number has.meet has.live comes),
       )
+
+  -- the front word is loaded
+  pub enters : (slots id p : ℕ) (me : M) (e : Entry) → Holds id p me → me.0.hand ≡ None → is_of p e ≡ true → PublishesNone e → May me.0.seen e
+      → Allows (Kept opening) slots id me 0 (λ n. n) (Finished e (step slots 0 0 0 none) me)
+  enters slots id p me e has shut mine is may s r _ at small =
+      let q = (pens s r id p me at has).0 in
+      let log : List Entry = log_of opening s r in
+      let n : ℕ = get_or s.words 0 0 in
+      let count = enter_count log e is in
+      let wide = r.wide in
+      let legal : May log e = subst (λ h. May h e) q.1 (may_enter me.0.seen q.0 e q.2 is may) in
+      let front : FrontKept (set s.words 0 n) (log ++ e ∷ []) = record {
+        front = get_or-set_same s.words 0 n 0 (omega arith) ∙ (r.front.front ∙ sym count.0);
+        low = (let low = r.front.low in let c = count.0 in omega arith);
+        clamp = get_or-set_other s.words 0 16 n 0 (λ z. omega arith) ∙ (r.front.clamp ∙ sym count.1);
+      } in
+      let t = on_front s r n id p me e at has shut mine legal front (λ d. enter_page log e d is) in
+      (told me.0 (r.each id me.0 at).begins.0 e, keeps, tt, t.0, (refl, t.1))
+
+  -- the front word is raised
+  pub bumps : (slots id p : ℕ) (me : M) (e : Entry) → Holds id p me → me.0.hand ≡ None → is_of p e ≡ true → IsBump me.0.seen e → May me.0.seen e
+      → Allows (Kept opening) slots id me 0 (λ n. (n + 1) % 2 ^ 64) (Finished e (step slots 0 1 0 none) me)
+  bumps slots id p me e has shut mine is may s r _ at small =
+      let q = (pens s r id p me at has).0 in
+      let log : List Entry = log_of opening s r in
+      let n : ℕ = get_or s.words 0 0 in
+      let same_loud : loud log ≡ loud me.0.seen = ap loud (sym q.1) ∙ (loud-append me.0.seen q.0 ∙ (let z = loud_quiet q.0 q.2 in omega arith)) in
+      let count = bump_count log me.0.seen e same_loud is in
+      let counted = r.front.front in
+      let low = r.front.low in
+      let wide = r.wide in
+      let no_wrap : n + 1 ≡ (n + 1) % 2 ^ 64 = wraps n (omega arith) in
+      let legal : May log e = subst (λ h. May h e) q.1 (may_bump me.0.seen q.0 e q.2 is may) in
+      let front : FrontKept (set s.words 0 (n + 1)) (log ++ e ∷ []) = record {
+        front = get_or-set_same s.words 0 (n + 1) 0 (omega arith) ∙ (let c = count.0 in omega arith);
+        low = (let c = count.0 in let d = count.1 in omega arith);
+        clamp = get_or-set_other s.words 0 16 (n + 1) 0 (λ z. omega arith) ∙ (r.front.clamp ∙ sym count.2);
+      } in
+      let t = on_front s r (n + 1) id p me e at has shut mine legal front (λ d. bump_page log me.0.seen e d is) in
+      let w = told me.0 (r.each id me.0 at).begins.0 e in
+      (w, keeps, tt, subst (λ (x : ℕ). Rule opening (stepped s 0 x id me.1 w keeps)) no_wrap t.0, (refl, t.1))
     where
       wraps : (n : ℕ) → n < 18446744073709551615 → n + 1 ≡ (n + 1) % 2 ^ 64
       wraps n h = omega arith
 
   publishing_front : (log : List Entry) (e : Entry) (c : ℕ) → IsPublishing c e → (loud (log ++ e ∷ []) ≡ loud log)
-      × ((board_after (log ++ e ∷ [])).accesses ≡ (board_after log).accesses + 1) × ((board_after (log ++ e ∷ [])).greatest ≡ (board_after log).greatest)
+      × ((board_after (log ++ e ∷ [])).greatest ≡ (board_after log).greatest)
   publishing_front log (Opened s) c is = absurd is
   publishing_front log (PageRead pass cpu h page locked) c is = absurd is
   publishing_front log (Clamp pass cpu reading clock) c is = absurd is
   publishing_front log (Board pass cpu h access reply) c is =
       let e : Entry = Board pass cpu h access reply in
-      let none_of : loudness e ≡ 0 = ap none_weight is in
       let count = loud-append log (e ∷ []) in
-      let after = board_after-snoc log e in (
-        omega arith,
-        ap (λ (b : BoardParts). b.accesses) after ∙ after_access-accesses (board_after log) cpu h access,
-        ap (λ (b : BoardParts). b.greatest) after
-            ∙ after_access-kept_greatest (board_after log) cpu h access,
-      )
+      (omega arith, ap (λ (b : BoardParts). b.greatest) (board_after-snoc log e) ∙ after_access-kept_greatest (board_after log) cpu h access)
 
   -- the page is closed
   pub finishes : (slots id p : ℕ) (me : M) (o : Hand) (e : Entry) → o.cpu < opening.cpus → Holds id p me → is_of p e ≡ true → me.0.hand ≡ Some o
@@ -518,9 +548,9 @@ module _ (opening : BoardParts) where
             comes (λ k ne. entries_of-else e p k mine ne) (later_version opening.cpus s.words c (n + 1) r.wide l (omega arith))
             (record {
               front = out.0 ∙ (r.front.front ∙ sym pf.0);
-              low = (let low = r.front.low in let a = pf.0 in let b = pf.1 in omega arith);
+              low = (let low = r.front.low in let a = pf.0 in omega arith);
               clamp = out.1
-                  ∙ (r.front.clamp ∙ sym pf.2);
+                  ∙ (r.front.clamp ∙ sym pf.1);
             })
             ([], append-nil _ ∙ whole, tt) (ap (entries_of p) (sym whole))
             (λ d m. dite (ℕ_discrete d c)

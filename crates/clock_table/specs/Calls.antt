@@ -48,11 +48,17 @@ IsPublishing c (Board pass cpu h access reply) = published_by cpu access ≡ Som
 IsPublishing c (PageRead pass cpu h page locked) = ⊥
 IsPublishing c (Clamp pass cpu reading clock) = ⊥
 
--- the entry is an access that publishes no page, or a read under the lock, which needs a front word
--- below 2^63
+-- the entry is an access that publishes no page
+abbrev pub PublishesNone : Entry → Type 0
+PublishesNone (Opened s) = ⊥
+PublishesNone (Board pass cpu h access reply) = published_by cpu access ≡ None
+PublishesNone (PageRead pass cpu h page locked) = ⊥
+PublishesNone (Clamp pass cpu reading clock) = ⊥
+
+-- the entry is a read under the lock, which needs a front word below 2^63
 abbrev pub IsBump : List Entry → Entry → Type 0
 IsBump seen (Opened s) = ⊥
-IsBump seen (Board pass cpu h access reply) = published_by cpu access ≡ None
+IsBump seen (Board pass cpu h access reply) = ⊥
 IsBump seen (PageRead pass cpu h page locked) = (locked ≡ true) × (loud seen < 2 ^ 63)
 IsBump seen (Clamp pass cpu reading clock) = ⊥
 

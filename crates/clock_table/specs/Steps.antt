@@ -29,7 +29,6 @@ use mathlib.Core.List.{IsPrefix}
 use Rattle.pvclock_page.specs.declared.page.Page.{Page}
 use Rattle.pvclock_page.specs.Words.{page_of}
 use Rattle.board_types.specs.declared.parts.BoardParts.{BoardParts}
-use Rattle.board_core.specs.Pages.{published_by}
 use Rattle.board_history.specs.History.{of_state, IsLegal, entries_of}
 use Rattle.board_history.specs.declared.entry.Entry.{Entry}
 use Rattle.board_history.specs.declared.entry.Entry.TheVariants.{Opened, Board, PageRead, Clamp}
@@ -82,18 +81,14 @@ IsQuiet (e ∷ es) = IsQuietEntry e × IsQuiet es
 abbrev pub GoesOnQuietly : List Entry → List Entry → Type 0
 GoesOnQuietly xs ys = (between : List Entry) × (xs ++ between ≡ ys) × IsQuiet between
 
--- the entries that the front word counts: accesses that publish no page, and reads under the lock
+-- the entries that the front word counts: reads under the lock
 abbrev pub weight : Bool → ℕ
 weight true = 1
 weight false = 0
 
-abbrev pub none_weight : Option ℕ → ℕ
-none_weight None = 1
-none_weight (Some c) = 0
-
 abbrev pub loudness : Entry → ℕ
 loudness (Opened s) = 0
-loudness (Board pass cpu h access reply) = none_weight (published_by cpu access)
+loudness (Board pass cpu h access reply) = 0
 loudness (PageRead pass cpu h page locked) = weight locked
 loudness (Clamp pass cpu reading clock) = 0
 

@@ -1,4 +1,5 @@
--- The words of a table: a front word, a clamp word, and five words for each page.
+-- The words of a table: a front word, a clamp word, and five words for each page. They begin at places
+-- 16 apart, so that no two of them are in one line of a cache.
 use Rattle.std.specs.Prelude.{ℕ, suc, ◌+◌, ◌*◌, List, [], slice_index}
 use Rattle.pvclock_page.specs.declared.page.Page.{Page}
 use Rattle.pvclock_page.specs.Words.{words_of}
@@ -6,7 +7,7 @@ use Rattle.atomic_table.specs.Seated.{TableId}
 
 -- where the word k of the page c stands
 abbrev pub place : ℕ → ℕ → ℕ
-place c k = 2 + (5 * c + k)
+place c k = 32 + (16 * c + k)
 
 abbrev pub word_of : List ℕ → ℕ → ℕ → ℕ
 word_of words c k = slice_index words (place c k)

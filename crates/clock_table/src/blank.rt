@@ -3,7 +3,7 @@ ghost use Rattle.std.specs.Prelude.{◌≡◌, ◌≤◌, ◌+◌, ◌*◌, leng
 ghost use Rattle.board_core.specs.Conditions.{IsJoined};
 ghost use Rattle.clock_table.specs.private.Laid.{IsLaidBelow};
 
-use crate::table::Words;
+use crate::table::{APART, CLAMP, PAGES, Words};
 use crate::view::View;
 use atomic_table::Seat;
 use board_core::{BoardParts, BoardState, ProcessorParts};
@@ -29,7 +29,7 @@ impl Model for Blank {
 
     ghost view = { λ b. (b.table.shared.table_id, b.table.shared.key) };
 
-    ghost invariant = { λ b. (b.table.shared.table_id.words ≡ 2 + 5 * b.table.shared.key.cpus)
+    ghost invariant = { λ b. (b.table.shared.table_id.words ≡ 32 + 16 * b.table.shared.key.cpus)
         × (b.table.shared.table_id.slots ≡ 0) × (b.seat.table_id ≡ b.table.shared.table_id)
         × (b.seat.me ≡ (first_view b.table.shared.key, [])) };
 }
@@ -59,17 +59,17 @@ fn places(processors: &[ProcessorParts; 64]) -> usize
 
 /// The words of a state: the front word, the clamp word, and those of each page.
 fn laid(alloc: Global, state: &BoardState) -> Result<Vec<u64>, NoMemory>
-    ensures long { IfOk result (λ ws. length ws.items ≡ 2 + 5 * state.now.cpus) }
+    ensures long { IfOk result (λ ws. length ws.items ≡ 32 + 16 * state.now.cpus) }
     ensures laid { IfOk result (λ ws. IsLaidBelow state.now.cpus state.now ws.items) }
 {
     let cpus = state.cpus();
-    let Ok(mut words) = vec![in alloc; 0; 2 + 5 * cpus as usize] else {
+    let Ok(mut words) = vec![in alloc; 0; PAGES + APART * cpus as usize] else {
         return Err(NoMemory);
     };
-    words[1] = state.greatest();
+    words[CLAMP] = state.greatest();
     for cpu in 0..cpus {
         let [version, stamp, system, scale, offset] = page_words(&state.page(cpu));
-        let at = 2 + 5 * cpu as usize;
+        let at = PAGES + APART * cpu as usize;
         words[at] = version;
         words[at + 1] = stamp;
         words[at + 2] = system;

@@ -9,7 +9,7 @@ ghost use Rattle.clock_table.specs.Ends.{IsWhole, EndedTold, no_page};
 ghost use Rattle.clock_table.specs.private.Laid.{words_at};
 
 use crate::name::Name;
-use crate::table::{ClockSeat, ClockTable};
+use crate::table::{APART, CLAMP, ClockSeat, ClockTable, PAGES};
 use atomic_table::Closed as ClosedWords;
 use pvclock_page::{Page, words_page};
 use std::alloc::Global;
@@ -54,7 +54,7 @@ impl<N: Name> ClockTable<N> {
         let count = table.word_count();
         let words = table.close_with(seat);
         let front = words.word(0);
-        let greatest = words.word(1);
+        let greatest = words.word(CLAMP);
         let pages = pages_of(&words, count);
         words.free();
         Closed {
@@ -69,14 +69,14 @@ impl<N: Name> ClockTable<N> {
 fn pages_of(words: &ClosedWords<(), Global>, count: usize) -> [Page; 64]
     requires full { IsFull words.now.words }
     requires count { slots_len words.now.words ≡ count }
-    ensures pages { (cpu : ℕ) → 2 + 5 * cpu + 5 ≤ count → cpu < 64 →
+    ensures pages { (cpu : ℕ) → 32 + 16 * cpu + 16 ≤ count → cpu < 64 →
         slice_index_or result cpu no_page ≡ page_of (words_at (slots_items words.now.words) cpu) }
-    ensures no_pages { (cpu : ℕ) → count < 2 + 5 * cpu + 5 →
+    ensures no_pages { (cpu : ℕ) → count < 32 + 16 * cpu + 16 →
         slice_index_or result cpu no_page ≡ no_page }
 {
     let mut pages = [NO_PAGE; 64];
     for cpu in 0..64 {
-        if 2 + 5 * cpu + 5 <= count {
+        if PAGES + APART * cpu + APART <= count {
             pages[cpu] = page_at(words, cpu);
         }
     }
@@ -86,11 +86,11 @@ fn pages_of(words: &ClosedWords<(), Global>, count: usize) -> [Page; 64]
 /// The page of a processor.
 fn page_at(words: &ClosedWords<(), Global>, cpu: usize) -> Page
     requires full { IsFull words.now.words }
-    requires there { 2 + 5 * cpu + 5 ≤ slots_len words.now.words }
+    requires there { 32 + 16 * cpu + 16 ≤ slots_len words.now.words }
     requires few { cpu < 64 }
     ensures { result ≡ page_of (words_at (slots_items words.now.words) cpu) }
 {
-    let at = 2 + 5 * cpu;
+    let at = PAGES + APART * cpu;
     words_page(&[
         words.word(at),
         words.word(at + 1),

@@ -4,7 +4,7 @@
 //! makes the version even again; a reader loads the version, the fields, and the version once more, and takes the
 //! page where both versions are the same even number. This is the sequence lock of Linux (`Documentation/locking/
 //! seqlock.rst`) and of pvclock (`arch/x86/include/asm/pvclock-abi.h`). A clamp word holds the greatest clock that was told,
-//! and a front word counts the entries that publish no page.
+//! and a front word counts the reads under the lock.
 //!
 //! Each thread steps with a seat, which takes no bytes. What a seat has seen of the board's history
 //! (`board_history`) is known to the proofs alone. One seat holds the pen: only it opens pages and adds to the front

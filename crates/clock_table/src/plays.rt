@@ -35,7 +35,7 @@ impl Play<(), View> for Puts {
     ghost then = { PutIn };
 }
 
-/// It adds 1 to the odd version, or to the front word, and so makes an entry.
+/// It adds 1 to the odd version or to the front word, or loads the front word, and so makes an entry.
 pub struct Finishes<E> {
     of: PhantomData<E>,
 }

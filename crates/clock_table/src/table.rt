@@ -53,6 +53,7 @@ ghost use Rattle.clock_table.specs.Calls.{
   IsPen,
   IsNext,
   IsPublishing,
+  PublishesNone,
   IsBump,
   entry_of,
   field_number,
@@ -77,10 +78,16 @@ use std::marker::{Brand, Model, PhantomData};
 /// Words, no slots, and the opening state as the key of the rule.
 pub(crate) type Words = Table<(), View, BoardState, ClockRule, Global>;
 
-/// Where the front word and the clamp word stand.
+/// How far words that different threads write stand apart: no two of them are in one line of a cache of 64 bytes, nor in two
+/// that are fetched together.
+pub(crate) const APART: usize = 16;
+
+/// Where the front word and the clamp word stand, and the first page.
 const FRONT: usize = 0;
 
-const CLAMP: usize = 1;
+pub(crate) const CLAMP: usize = APART;
+
+pub(crate) const PAGES: usize = 2 * APART;
 
 /// The words that all threads share: a front word, a clamp word, and five words for each page. Each step on one of
 /// them is a single atomic one, sequentially consistent.
@@ -90,7 +97,7 @@ pub struct ClockTable<N: Name> {
     pub(crate) of: PhantomData<N>,
     pub(crate) ghost named: { table.shared.table_id ≡ N.table },
     pub(crate) ghost opened: { table.shared.key ≡ N.state },
-    pub(crate) ghost sized: { table.shared.table_id.words ≡ 2 + 5 * N.state.cpus },
+    pub(crate) ghost sized: { table.shared.table_id.words ≡ 32 + 16 * N.state.cpus },
     pub(crate) ghost plain: { table.shared.table_id.slots ≡ 0 },
 }
 
@@ -195,16 +202,18 @@ impl<N: Name> ClockTable<N> {
         bump_read_as::<N, Brand>(self, seat, entry);
     }
 
-    /// Adds 1 to the front word: an access that publishes no page. It is told by its call and its reply, so no entry is
-    /// built, and the reply isn't moved.
-    pub fn bump(&self, seat: &mut ClockSeat<N>, call: &Call, reply: &Reply)
+    // No thread asks how many such accesses there were, so no word counts them: a store would take the line of the words
+    // from the threads that read the pages.
+    /// Enters an access that publishes no page, by a load of the front word. It is told by its call and its reply, so no
+    /// entry is built, and the reply isn't moved.
+    pub fn enter(&self, seat: &mut ClockSeat<N>, call: &Call, reply: &Reply)
         requires pen { IsPen seat.old }
         requires shut { seat.old.hand ≡ None }
-        requires bump { IsBump seat.old.seen (entry_of call.now reply.now) }
+        requires none { PublishesNone (entry_of call.now reply.now) }
         requires next { IsNext (entry_of call.now reply.now) seat.old }
         ensures { Extends (entry_of call.now reply.now) seat.old seat.new }
     {
-        bump_as::<N, Brand>(self, seat, call, reply);
+        enter_as::<N, Brand>(self, seat, call, reply);
     }
 
     /// Opens a page: its version is odd from now on.
@@ -308,7 +317,7 @@ fn bump_read_as<N: Name, E: Ask>(table: &ClockTable<N>, seat: &mut ClockSeat<N>,
         .fetch_add::<Finishes<E>>(&mut seat.seat, FRONT, 1);
 }
 
-fn bump_as<N: Name, E: Ask>(
+fn enter_as<N: Name, E: Ask>(
     table: &ClockTable<N>,
     seat: &mut ClockSeat<N>,
     call: &Call,
@@ -317,7 +326,7 @@ fn bump_as<N: Name, E: Ask>(
     requires entry { entry_of call.now reply.now ≡ E.entry }
     requires pen { IsPen seat.old }
     requires shut { seat.old.hand ≡ None }
-    requires bump { IsBump seat.old.seen (entry_of call.now reply.now) }
+    requires none { PublishesNone (entry_of call.now reply.now) }
     requires next { IsNext (entry_of call.now reply.now) seat.old }
     ensures { Extends (entry_of call.now reply.now) seat.old seat.new }
 {
@@ -326,7 +335,7 @@ fn bump_as<N: Name, E: Ask>(
     table
         .table
         .shared
-        .fetch_add::<Finishes<E>>(&mut seat.seat, FRONT, 1);
+        .load::<Finishes<E>>(&mut seat.seat, FRONT);
 }
 
 fn finish_as<N: Name, E: Ask>(
@@ -392,5 +401,5 @@ fn place(cpu: u8, k: usize) -> usize
     requires { k < 5 }
     ensures { result ≡ place_of cpu k }
 {
-    2 + (5 * cpu as usize + k)
+    PAGES + (APART * cpu as usize + k)
 }

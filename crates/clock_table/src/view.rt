@@ -44,7 +44,7 @@ pub struct View {
     pub seen: LinkedList<Entry>,
     /// The number of its pass.
     pub number: Option<u64>,
-    /// Whether it holds the pen. Its holder alone opens pages and adds to the front word.
+    /// Whether it holds the pen. Its holder alone enters accesses, opens pages and adds to the front word.
     pub pen: bool,
     /// The pen's holder: how many passes were made.
     pub made: u64,

@@ -9,23 +9,7 @@ use Rattle.clap.specs.declared.error.kind.ErrorKind.TheVariants.{DisplayHelp, Di
 use Rattle.command_line.specs.declared.command.Command.{Command}
 use Rattle.command_line.specs.declared.command.Command.TheVariants.{Replay, Race, Gen, Soak, Unknown}
 use Rattle.command_line.specs.declared.command.Size.{Size}
-use Rattle.command_line.specs.Command.{
-  IsSize,
-  HasSize,
-  in_range,
-  app,
-  number_in,
-  is_used,
-  trace_job,
-  size_of,
-  sized_job,
-  job_named,
-  asked_for,
-  by_rows,
-  refused_for,
-  by_kinds,
-  command_of,
-}
+use Rattle.command_line.specs.Command.{IsSize, HasSize, in_range, app, number_in, is_used, trace_job, size_of, sized_job, job_named, asked_for, refused_for, by_kinds, command_of}
 
 IsSize-in_range : (key records cpus : ℕ) → in_range records cpus ≡ true → IsSize (record { key = key; records = records; cpus = cpus })
 IsSize-in_range key records cpus t =

@@ -281,7 +281,7 @@ module _ (s : BoardParts) (rs : List Record) (h : List Entry) (sound : IsSound s
       let b = all_timed s.anchor s rs refl free in
       let c = untimed_one s.anchor k.next n in absurd (omega arith)
 
-  unread : HasNoTime s.anchor k.next.h ⊎ (2 ^ 62 ≤ page_reads k.pass.seen) → ⊥
+  unread : HasNoTime s.anchor k.next.h ⊎ (2 ^ 63 ≤ page_reads k.pass.seen) → ⊥
   unread (inl n) = timed n
   unread (inr full) =
       let a = less reads (λ r. 1) (λ z. refl) (reads_cover s) in

@@ -3,7 +3,6 @@ ghost use Rattle.std.specs.Prelude.{◌≡◌, ◌<◌, ◌≤◌, ◌+◌, ◌^
 ghost use Rattle.std.specs.Bool.{OnTrue};
 ghost use Rattle.board_history.specs.History.{IsLegal};
 ghost use Rattle.shared_board.specs.declared.known.PassKnown.{PassKnown};
-ghost use Rattle.board_types.specs.declared.reply.Reply.{Reply};
 ghost use Rattle.shared_board.specs.Passes.{Unanswered};
 ghost use Rattle.race_phase.specs.Calls.{IsFitting};
 ghost use Rattle.race_phase.specs.private.Told.{answer_with};
@@ -30,7 +29,7 @@ use shared_board::{Holding, Pass, SharedBoard};
 use std::alloc::Global;
 use std::sync::Wait;
 
-// The count of the reply's edges stands last in it, so the fields behind it are those that each record asks for.
+// The count of the reply's edges stands last in it, beside what each record asks for.
 /// What a record was told, until it is printed. Its reply is put where it stays, so that no list of edges is moved.
 #[derive(Drop)]
 pub(crate) struct Place {
@@ -299,69 +298,20 @@ fn answer<'b, N: Name, R: Wait, G: Gate>(
             *lock = Some(holding);
             Ok(())
         }
-        Call::ReadPage { page } => {
-            read_page(rt, board, lock, pass, given, page, &mut place.told)
-        }
-        Call::ReadClock { page } => {
-            read_clock(rt, board, lock, pass, given, page, &mut place.told)
-        }
-    }
-}
-
-// A read's reply has a place that is cleared first. So reads stand apart, and an access clears none.
-/// Answers a record that reads a page.
-#[inline(never)]
-fn read_page<'b, N: Name, R: Wait>(
-    rt: &R,
-    board: &'b SharedBoard<N>,
-    lock: &mut Option<Holding<'b, N>>,
-    pass: &mut Pass<N>,
-    given: &Record,
-    page: u8,
-    told: &mut Told,
-) -> Result<(), Halted>
-    requires call { given.now.call ≡ Call.ReadPage page }
-    requires fitting { IsFitting N.state.cpus N.state.format given.now }
-    requires legal { IsLegal pass.old.seen }
-    ensures ok { OnOk result ((reply : Reply) → IsMade N.state given.now
-        (answer_with told.new reply) pass.old pass.new) }
-    ensures err { OnErr result
-        (Unanswered pass.old pass.new × IsTrouble N.state given.now pass.new) }
-{
-    match board.read_page_with(rt, lock, pass, page, given.h) {
-        Ok(reply) => {
-            *told = Told::PageIs { reply };
-            Ok(())
-        }
-        Err(_fault) => Err(Halted),
-    }
-}
-
-/// Answers a record that reads the clock.
-#[inline(never)]
-fn read_clock<'b, N: Name, R: Wait>(
-    rt: &R,
-    board: &'b SharedBoard<N>,
-    lock: &mut Option<Holding<'b, N>>,
-    pass: &mut Pass<N>,
-    given: &Record,
-    page: u8,
-    told: &mut Told,
-) -> Result<(), Halted>
-    requires call { given.now.call ≡ Call.ReadClock page }
-    requires fitting { IsFitting N.state.cpus N.state.format given.now }
-    requires legal { IsLegal pass.old.seen }
-    ensures ok { OnOk result ((reply : Reply) → IsMade N.state given.now
-        (answer_with told.new reply) pass.old pass.new) }
-    ensures err { OnErr result
-        (Unanswered pass.old pass.new × IsTrouble N.state given.now pass.new) }
-{
-    match board.read_clock_with(rt, lock, pass, page, given.h) {
-        Ok(reply) => {
-            *told = Told::ClockIs { reply };
-            Ok(())
-        }
-        Err(_fault) => Err(Halted),
+        Call::ReadPage { page } => match board.read_page_with(rt, lock, pass, page, given.h) {
+            Ok(reply) => {
+                place.told = Told::PageIs { reply };
+                Ok(())
+            }
+            Err(_fault) => Err(Halted),
+        },
+        Call::ReadClock { page } => match board.read_clock_with(rt, lock, pass, page, given.h) {
+            Ok(reply) => {
+                place.told = Told::ClockIs { reply };
+                Ok(())
+            }
+            Err(_fault) => Err(Halted),
+        },
     }
 }
 

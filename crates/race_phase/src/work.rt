@@ -14,6 +14,12 @@ use shared_board::{Pass, SharedBoard};
 use std::alloc::Global;
 use std::sync::Wait;
 
+/// Where few records are left, this part of them is answered together, but no fewer than `END_LEAST`: whoever takes the lock
+/// behind another thread fetches the board from that one's cache first.
+const END_SHARE: usize = 50;
+
+const END_LEAST: usize = 100;
+
 /// What a worker gives back.
 #[derive(Drop)]
 pub(crate) struct Worked<N: Name> {
@@ -51,7 +57,7 @@ pub(crate) fn work<N: Name, R: Wait, G: Gate>(
             let Ok(()) = batch.push(lines.record(place, &body)) else {
                 return Err(NoMemory);
             };
-            if batch.len() >= most {
+            if batch.len() >= at_once(most, lines.len() - place) {
                 let Ok(()) = print_all(
                     rt,
                     gate,
@@ -85,9 +91,18 @@ pub(crate) fn work<N: Name, R: Wait, G: Gate>(
     Ok(Worked { pass, text })
 }
 
-/// How many records are answered together: at most as many as there are.
+/// How many records are answered together at most: as many as the gate lets through, and as there are.
 fn most_together<G: Gate>(gate: &G, count: usize) -> usize
     ensures least { 1 ≤ result }
 {
     usize::from(gate.together()).min(count).max(1)
+}
+
+/// How many of the processor's records are answered together where `left` records of all processors are left: at most
+/// `most`, and fewer towards the end. So a worker that is behind the others takes more under one lock than they do, and
+/// all end at about the same time.
+fn at_once(most: usize, left: usize) -> usize
+    ensures { result ≤ most }
+{
+    (left / END_SHARE).max(END_LEAST).min(most)
 }

@@ -1,5 +1,5 @@
--- Reads of pages and clocks, told of passes; and how many reads fill the front word.
-use Rattle.std.proofs.Common.{append-nil, ◌≡◌, ◌⊎◌, ℕ, ◌+◌, ◌≤◌, ◌^◌, List, [], ◌∷◌, ◌++◌, refl, ap, sym, ◌∙◌, subst, arith, Option, Some, None, Bool, true, false, if◌then◌else◌, inl, inr, eq-eqb, Result, Ok, Err, IfOk, IfErr}
+-- Reads of pages and clocks, told of passes; and that as many reads as it counts fill the front word.
+use Rattle.std.proofs.Common.{append-nil, ◌≡◌, ℕ, ◌≤◌, List, [], ◌∷◌, ◌++◌, refl, ap, sym, ◌∙◌, subst, arith, Option, Some, Bool, true, false, if◌then◌else◌, eq-eqb, Result, Ok, Err, IfOk, IfErr}
 use mathlib.Core.List.{IsPrefix}
 use Rattle.pvclock_page.specs.declared.page.Page.{Page}
 use Rattle.pvclock_page.specs.declared.page.PageReply.{PageReply}
@@ -8,16 +8,13 @@ use Rattle.pvclock_page.specs.declared.page.ClockReply.{ClockReply}
 use Rattle.pvclock_page.specs.declared.page.ClockReply.TheVariants.{Off as ClockOff, On as ClockOn}
 use Rattle.host_counter.specs.declared.Anchor.{Anchor}
 use Rattle.board_types.specs.declared.parts.BoardParts.{BoardParts}
-use Rattle.board_types.specs.declared.parts.TheConstants.{MOST_ACCESSES}
-use Rattle.board_core.specs.Pages.{published_by}
-use Rattle.board_core.proofs.Laws.{after_access-accesses, taken_accesses}
 use Rattle.board_history.specs.Machine.{Machine, machine_of, page_at, ratio_in, reading_by, answer_by}
-use Rattle.board_history.specs.History.{board_after, floor_after, version_after, entries_of, last_of, LegalFrom, IsLegal, Reads}
+use Rattle.board_history.specs.History.{board_after, floor_after, version_after, entries_of, last_of, IsLegal, Reads}
 use Rattle.board_history.specs.declared.entry.Entry.{Entry}
 use Rattle.board_history.specs.declared.entry.Entry.TheVariants.{Opened, Board, PageRead, Clamp}
 use Rattle.board_history.proofs.Laws.{board_after-snoc, legal-at, legal-floor, legal-version}
 use Rattle.clock_table.specs.declared.view.View.{View}
-use Rattle.clock_table.specs.Steps.{or_else, number_in, none_weight, weight, loud, Hears}
+use Rattle.clock_table.specs.Steps.{or_else, number_in, weight, loud, Hears}
 use Rattle.clock_table.proofs.Lists.{prefix_trans}
 use Rattle.shared_board.specs.declared.fault.PageFault.{PageFault}
 use Rattle.shared_board.specs.declared.fault.PageFault.TheVariants.{BeforeStart, OutOfRange, Again}
@@ -31,70 +28,17 @@ use Rattle.shared_board.specs.private.Tries.{HasAnswer, IsTryFault}
 use Rattle.shared_board.proofs.Seats.{heard_rests, below_heard, below_same}
 use Rattle.shared_board.proofs.Made.{made_of, made_more, made_late, made_last, heard_made, missed_known, missed_rests, tried_on}
 
--- how many accesses there are in a list
-abbrev pub boards : List Entry → ℕ
-boards [] = 0
-boards (Opened s ∷ es) = boards es
-boards (Board pass cpu h access reply ∷ es) = 1 + boards es
-boards (PageRead pass cpu h page locked ∷ es) = boards es
-boards (Clamp pass cpu reading clock ∷ es) = boards es
-
-none_weight-le : (o : Option ℕ) → none_weight o ≤ 1
-none_weight-le None = omega arith
-none_weight-le (Some k) = omega arith
-
 weight-le : (b : Bool) → weight b ≤ 1
 weight-le true = omega arith
 weight-le false = omega arith
 
--- an entry that is counted is an access or a read
-loud-le : (es : List Entry) → loud es ≤ page_reads es + boards es
+-- an entry that is counted is a read of a page, so a full front word tells of many reads
+pub loud-le : (es : List Entry) → loud es ≤ page_reads es
 loud-le [] = omega arith
 loud-le (Opened s ∷ es) = let r = loud-le es in omega arith
-loud-le (Board pass cpu h access reply ∷ es) = let r = loud-le es in let w = none_weight-le (published_by cpu access) in omega arith
+loud-le (Board pass cpu h access reply ∷ es) = let r = loud-le es in omega arith
 loud-le (PageRead pass cpu h page locked ∷ es) = let r = loud-le es in let w = weight-le locked in omega arith
 loud-le (Clamp pass cpu reading clock ∷ es) = let r = loud-le es in omega arith
-
--- a legal list has no more accesses than a board takes
-boards-few : (before es : List Entry) → LegalFrom before es → (boards es ≡ 0) ⊎ ((board_after before).accesses + boards es ≤ MOST_ACCESSES)
-boards-few before [] l = inl refl
-boards-few before (Opened s ∷ es) l = absurd l.0
-boards-few before (Board pass cpu h access reply ∷ es) l =
-    let less = taken_accesses (board_after before) cpu h access l.0.taken in
-    let e : Entry = Board pass cpu h access reply in
-    let after : (board_after (before ++ e ∷ [])).accesses ≡ (board_after before).accesses + 1 =
-    ap (λ (b : BoardParts). b.accesses) (board_after-snoc before e) ∙ after_access-accesses (board_after before) cpu h access in
-    elim (boards-few (before ++ e ∷ []) es l.1) [
-      | inl none ↦ inr (omega arith)
-      | inr most ↦ inr (omega arith)
-    ]
-boards-few before (PageRead pass cpu h page locked ∷ es) l =
-    let e : Entry = PageRead pass cpu h page locked in
-    let after : (board_after (before ++ e ∷ [])).accesses ≡ (board_after before).accesses = ap (λ (b : BoardParts). b.accesses) (board_after-snoc before e) in
-    elim (boards-few (before ++ e ∷ []) es l.1) [
-      | inl none ↦ inl none
-      | inr most ↦ inr (omega arith)
-    ]
-boards-few before (Clamp pass cpu reading clock ∷ es) l =
-    let e : Entry = Clamp pass cpu reading clock in
-    let after : (board_after (before ++ e ∷ [])).accesses ≡ (board_after before).accesses = ap (λ (b : BoardParts). b.accesses) (board_after-snoc before e) in
-    elim (boards-few (before ++ e ∷ []) es l.1) [
-      | inl none ↦ inl none
-      | inr most ↦ inr (omega arith)
-    ]
-
--- so a full front word tells of many reads
-pub reads-many : (seen : List Entry) → IsLegal seen → 2 ^ 63 ≤ loud seen → 2 ^ 62 ≤ page_reads seen
-reads-many [] l full = absurd l
-reads-many (Opened s ∷ es) l full =
-    let le = loud-le es in
-    elim (boards-few (Opened s ∷ []) es l) [
-      | inl none ↦ omega arith
-      | inr most ↦ omega arith
-    ]
-reads-many (Board pass cpu h access reply ∷ es) l full = absurd l
-reads-many (PageRead pass cpu h page locked ∷ es) l full = absurd l
-reads-many (Clamp pass cpu reading clock ∷ es) l full = absurd l
 
 -- what an answer tells of the page
 answer-on : (b : Bool) (p page : Page) (x y : ℕ) → On p x ≡ (if b then On page y else Off) → (b ≡ true) × (x ≡ y)

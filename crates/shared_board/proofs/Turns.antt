@@ -22,7 +22,7 @@ use Rattle.shared_board.specs.private.Seats.{known, IsAtRest, IsBelow, AreAlike,
 use Rattle.clock_table.specs.Calls.{entry_of}
 use Rattle.shared_board.proofs.Seats.{alike_quiet, below_same, below_told, told_rests, same_rests}
 use Rattle.shared_board.proofs.Made.{told_answered, moved_unanswered}
-use Rattle.shared_board.proofs.Clocks.{reads-many}
+use Rattle.shared_board.proofs.Clocks.{loud-le}
 
 -- what is so of the seat after a turn, before the pen goes back
 pub record HasTurned (m n : ℕ) (b : BoardParts) (x y : View) : Type 0 where
@@ -128,5 +128,5 @@ read_spent (Err f) n v w x y z rest moved legal left err =
     let full = err.full in (
       moved_unanswered n v w x y z rest moved legal err.seat (ap (λ u. u.seen) left),
       ap (λ u. u.misses) left ∙ (ap (λ u. u.misses) err.seat ∙ moved.misses),
-      subst (IsFull f) seen (record { value = err.value; full = err.full; reads = reads-many x.seen legal (omega arith) }),
+      subst (IsFull f) seen (record { value = err.value; full = err.full; reads = (let le = loud-le x.seen in omega arith) }),
     )

@@ -37,11 +37,11 @@ IsPageFault anchor cpu h (OutOfRange ns) p q = IsFaultAt anchor h (IsOutOfRange 
 IsPageFault anchor cpu h (Again first second) p q =
     HasTime anchor h × Missed cpu first second p q
 
--- the front word is 2^63 or more, which takes 2^62 reads of pages
+-- the front word is 2^63 or more, which takes as many reads of pages
 pub record IsFull (front : ℕ) (seen : List Entry) : Type 0 where
   pub value : front ≡ loud seen
   pub full : 2 ^ 63 ≤ front
-  pub reads : 2 ^ 62 ≤ page_reads seen
+  pub reads : 2 ^ 63 ≤ page_reads seen
 
 -- a read under the lock
 abbrev pub IsLockedFault : Anchor → ℕ → LockedFault → PassKnown → PassKnown → Type 0

@@ -19,6 +19,6 @@ pub enum LockedFault {
     BeforeStart { start: u64 },
     /// The time, which is given in nanoseconds, is 2^59 or more.
     OutOfRange { ns: u128 },
-    /// The front word, which is given, is 2^63 or more: there were at least 2^62 reads of pages.
+    /// The front word, which is given, is 2^63 or more: so many reads of pages were under the lock.
     Spent { front: u64 },
 }

@@ -246,7 +246,7 @@ fn make<N: Name>(
     ensures { Extends (entry_of call reply.now) seat.old seat.new }
 {
     match published_by(call.cpu, call.access) {
-        None => table.bump(seat, &call, reply),
+        None => table.enter(seat, &call, reply),
         Some(page) => publish(table, board, seat, page, &call, reply),
     }
 }

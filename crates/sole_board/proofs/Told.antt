@@ -1,37 +1,5 @@
 -- What a call of the one pass tells, as the plain board tells it.
-use Rattle.std.proofs.Common.{
-  ◌≡◌,
-  ℕ,
-  ◌+◌,
-  ◌<◌,
-  ◌≤◌,
-  max,
-  List,
-  [],
-  ◌∷◌,
-  ◌++◌,
-  refl,
-  sym,
-  ap,
-  ◌∙◌,
-  subst,
-  arith,
-  append_assoc,
-  Bool,
-  true,
-  false,
-  if◌then◌else◌,
-  Option,
-  Some,
-  None,
-  Result,
-  Ok,
-  Err,
-  IfOk,
-  IfErr,
-  OnOk,
-  ◌^◌,
-}
+use Rattle.std.proofs.Common.{◌≡◌, ℕ, ◌+◌, ◌<◌, ◌≤◌, max, List, [], ◌∷◌, ◌++◌, refl, sym, ap, ◌∙◌, subst, arith, append_assoc, Bool, true, false, if◌then◌else◌, Some, None, Result, Ok, Err, IfOk, IfErr, OnOk, ◌^◌}
 use Rattle.host_counter.specs.declared.Anchor.{Anchor}
 use Rattle.host_counter.specs.declared.TimeFault.{TimeFault}
 use Rattle.host_counter.specs.Time.{IsFaultAt}
@@ -47,21 +15,13 @@ use Rattle.pvclock_page.specs.declared.page.ClockReply.TheVariants.{Off, On}
 use Rattle.board_core.specs.Access.{reply_of, after_access}
 use Rattle.board_core.specs.Refusals.{refusal_of}
 use Rattle.board_core.specs.Time.{HasTime}
-use Rattle.board_core.specs.Pages.{
-  published_by,
-  page_reply,
-  clamped,
-  greatest_with,
-  clock_reply,
-  after_clock,
-  with_greatest,
-}
+use Rattle.board_core.specs.Pages.{page_reply, clamped, greatest_with, clock_reply, after_clock, with_greatest}
 use Rattle.board_history.specs.Machine.{Machine, machine_of, page_at, ratio_in, reading_by, answer_by}
 use Rattle.board_history.specs.History.{of_state, board_after, May, LegalFrom, IsLegal}
 use Rattle.board_history.specs.declared.entry.Entry.{Entry}
 use Rattle.board_history.specs.declared.entry.Entry.TheVariants.{Opened, Board, PageRead, Clamp}
 use Rattle.board_history.proofs.Laws.{board_after-snoc, machine-stays, legal-at}
-use Rattle.clock_table.specs.Steps.{weight, none_weight, loudness, loud}
+use Rattle.clock_table.specs.Steps.{weight, loudness, loud}
 use Rattle.clock_table.proofs.Keeps.{loud-append}
 use Rattle.shared_board.specs.declared.known.PassKnown.{PassKnown}
 use Rattle.shared_board.specs.Passes.{mine, Answered, Refused}
@@ -104,10 +64,6 @@ may_next s p q e was legal seen = may_first s p q [] e was legal seen
 after_one : (p q : PassKnown) (e : Entry) → q.seen ≡ p.seen ++ e ∷ [] → (loud q.seen ≡ loud p.seen + loudness e)
 after_one p q e seen = let a = loud-append p.seen (e ∷ []) in let b = ap loud seen in omega arith
 
-none_weight_le : (o : Option ℕ) → none_weight o ≤ 1
-none_weight_le None = omega arith
-none_weight_le (Some c) = omega arith
-
 weight_le : (b : Bool) → weight b ≤ 1
 weight_le true = omega arith
 weight_le false = omega arith
@@ -128,7 +84,7 @@ accessed s cpu h a r p q was now made =
       taken = may.taken;
       reply = sym may.reply;
       state = ap board_after seen ∙ board_after-snoc p.seen e;
-      calls = (let n = after_one p q e seen in let w = none_weight_le (published_by cpu a) in omega arith);
+      calls = (let n = after_one p q e seen in omega arith);
     }
 
 -- a page that was read

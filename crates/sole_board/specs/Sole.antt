@@ -2,8 +2,8 @@
 use Rattle.std.specs.Prelude.{ℕ}
 use Rattle.board_types.specs.declared.parts.BoardParts.{BoardParts}
 
--- the board after all that it was asked, and how many of its calls the front word counts: accesses
--- that publish no page, and reads that met an update
+-- the board after all that it was asked, and how many of its calls the front word counts: reads that
+-- met an update
 pub record Sole : Type 0 where
   pub parts : BoardParts
   pub calls : ℕ

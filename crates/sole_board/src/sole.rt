@@ -35,7 +35,7 @@ use std::marker::Model;
 use std::sync::Wait;
 
 /// A shared board with one pass, by which all its calls come. Contracts see of it the parts of the board after all
-/// that it was asked, and a count that each call raises by at most 1: the calls for which it needed its lock.
+/// that it was asked, and a count that each call raises by at most 1: the reads for which it needed its lock.
 #[derive(Drop)]
 pub struct SoleBoard<N: Name> {
     board: SharedBoard<N>,

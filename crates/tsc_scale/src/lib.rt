@@ -29,11 +29,16 @@ const FRACTION_BITS: u32 = 48;
 
 /// The ratio of a guest's rate to its host's, rounded down, with 48 bits behind the point. Each rate is
 /// `clk_units::KHZ_MIN` to `clk_units::KHZ_MAX`, in kHz.
+// A host that counts nanoseconds has guests of whole GHz, whose ratio asks for no division of 128 bits.
+#[tactic(auto, using(crate::proofs::Ratios::ratio_whole))]
 pub fn ratio(guest_khz: u64, host_khz: u64) -> u64
     requires guest { IsKhz guest_khz }
     requires host { IsKhz host_khz }
     ensures { result ≡ ratio_of guest_khz host_khz }
 {
+    if guest_khz % host_khz == 0 {
+        return (guest_khz / host_khz) << FRACTION_BITS;
+    }
     ((u128::from(guest_khz) << FRACTION_BITS) / u128::from(host_khz)) as u64
 }
 

@@ -18,7 +18,7 @@ words_at words c =
 -- the words of a state as far as its first n pages
 pub record IsLaidBelow (n : ℕ) (s : BoardParts) (words : List ℕ) : Type 0 where
   pub front : slice_index words 0 ≡ 0
-  pub clamp : slice_index words 1 ≡ s.greatest
+  pub clamp : slice_index words 16 ≡ s.greatest
   pub version : (c : ℕ) → c < n → word_of words c 0 ≡ (page_at s c).version
   pub stamp : (c : ℕ) → c < n → word_of words c 1 ≡ field_at (page_at s c) 0
   pub system : (c : ℕ) → c < n → word_of words c 2 ≡ field_at (page_at s c) 1
@@ -27,9 +27,9 @@ pub record IsLaidBelow (n : ℕ) (s : BoardParts) (words : List ℕ) : Type 0 wh
 
 -- all words of a state
 pub record IsLaid (s : BoardParts) (words : List ℕ) : Type 0 where
-  pub wide : length words ≡ 2 + 5 * s.cpus
+  pub wide : length words ≡ 32 + 16 * s.cpus
   pub front : slice_index words 0 ≡ 0
-  pub clamp : slice_index words 1 ≡ s.greatest
+  pub clamp : slice_index words 16 ≡ s.greatest
   pub version : (c : ℕ) → c < s.cpus → word_of words c 0 ≡ (page_at s c).version
   pub field : (c k : ℕ) → c < s.cpus → k < 4
       → word_of words c (suc k) ≡ field_at (page_at s c) k
@@ -39,7 +39,7 @@ pub record Closing (opening : BoardParts) (v : View) (words : List ℕ) : Type 0
   pub legal : IsLegal v.seen
   pub opened : Opens opening v.seen
   pub front : slice_index words 0 ≡ loud v.seen
-  pub greatest : slice_index words 1 ≡ (board_after v.seen).greatest
+  pub greatest : slice_index words 16 ≡ (board_after v.seen).greatest
   pub page : (c : ℕ) → c < opening.cpus
       → page_of (words_at words c) ≡ page_at (board_after v.seen) c
   pub ended : EndedTold v.seen v.ended

@@ -124,8 +124,8 @@ pub record Fits (opening : BoardParts) (words : List ℕ) (g : Ghost) (by : ℕ)
 -- the front word counts the loud entries, and the clamp word is the greatest reading
 pub record FrontKept (words : List ℕ) (log : List Entry) : Type 0 where
   pub front : slice_index words 0 ≡ loud log
-  pub low : loud log < 2 ^ 63 + 1 + (board_after log).accesses
-  pub clamp : slice_index words 1 ≡ (board_after log).greatest
+  pub low : loud log < 2 ^ 63 + 1
+  pub clamp : slice_index words 16 ≡ (board_after log).greatest
 
 pub record Kept (opening : BoardParts) (s : State (Unit {0}) View) : Type 0 where
   pub g : Ghost
@@ -139,7 +139,7 @@ pub record Kept (opening : BoardParts) (s : State (Unit {0}) View) : Type 0 wher
   pub has_pen : pen.pen ≡ true
   pub made : pen.made ≡ g.made
   pub quiet : GoesOnQuietly (penned_of pen.meet pen.seen) (log_in opening g)
-  pub wide : length s.words ≡ 2 + 5 * opening.cpus
+  pub wide : length s.words ≡ 32 + 16 * opening.cpus
   pub front : FrontKept s.words (log_in opening g)
   pub pages : (c : ℕ) → c < opening.cpus
       → PageKept s.words pen.hand (page_at (board_after (log_in opening g)) c) c

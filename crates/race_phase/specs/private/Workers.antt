@@ -44,7 +44,7 @@ IsMade s r a p q = (es : List Entry) × MadeBy s p.number r a es × Made p q es
 -- why a record was not answered: the board refused the access; or the count of a read has no time,
 -- or so many pages were read that the front word leaves no room
 abbrev pub IsUnread : BoardParts → ℕ → List Entry → Type 0
-IsUnread s h seen = HasNoTime s.anchor h ⊎ (2 ^ 62 ≤ page_reads seen)
+IsUnread s h seen = HasNoTime s.anchor h ⊎ (2 ^ 63 ≤ page_reads seen)
 
 abbrev pub CallTrouble : BoardParts → ℕ → ℕ → Call → List Entry → Type 0
 CallTrouble s cpu h (Act a) seen =

@@ -13,7 +13,7 @@ loop-cpu-preserved c =
     let same = c.loop-cpu.invariant.cpus in
     let less = c.loop-cpu-test.true in
     record {
-      long = five-length ws (2 + 5 * n) (get_or p 0 0) (get_or p 1 0) (get_or p 2 0) (get_or p 3 0) (get_or p 4 0) ∙ c.loop-cpu.invariant.long;
+      long = five-length ws (32 + 16 * n) (get_or p 0 0) (get_or p 1 0) (get_or p 2 0) (get_or p 3 0) (get_or p 4 0) ∙ c.loop-cpu.invariant.long;
       cpus = c.loop-cpu.invariant.cpus;
       laid = laid-more n s ws p c.loop-cpu.invariant.long (omega arith)
           (c.page_words.ensures.value ∙ ap (λ (q : Page). words_of q) c.page.ensures.value) c.loop-cpu.invariant.laid;

@@ -4,7 +4,7 @@ use Rattle.clock_table.proofs.blank.laid.Given as goal
 
 abbrev pub invariant-loop-cpu : goal.invariant-loop-cpu
 invariant-loop-cpu l = record {
-  long : length l.words.items ≡ 2 + 5 * l.state.cpus;
+  long : length l.words.items ≡ 32 + 16 * l.state.cpus;
   cpus : l.cpus ≡ l.state.cpus;
   laid : IsLaidBelow l.cpu l.state l.words.items;
 }

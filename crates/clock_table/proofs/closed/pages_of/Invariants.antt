@@ -8,6 +8,6 @@ use Rattle.clock_table.proofs.closed.pages_of.Given as goal
 abbrev pub invariant-loop-cpu : goal.invariant-loop-cpu
 invariant-loop-cpu l = record {
   long : length l.pages ≡ 64;
-  done : (k : ℕ) → 2 + 5 * k + 5 ≤ l.count → k < l.cpu → get_or l.pages k no_page ≡ page_of (words_at (slots_items l.words.words) k);
-  rest : (k : ℕ) → l.count < 2 + 5 * k + 5 → get_or l.pages k no_page ≡ no_page;
+  done : (k : ℕ) → 32 + 16 * k + 16 ≤ l.count → k < l.cpu → get_or l.pages k no_page ≡ page_of (words_at (slots_items l.words.words) k);
+  rest : (k : ℕ) → l.count < 32 + 16 * k + 16 → get_or l.pages k no_page ≡ no_page;
 }

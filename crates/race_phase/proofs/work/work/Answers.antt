@@ -10,8 +10,8 @@ use Rattle.race_phase.specs.private.Workers.{AllButLast, HasHalted, HasPrinted, 
 use Rattle.race_phase.proofs.Workers.{cpu_there, record_cpu, read_fits, next_skipped, next_read, put_back, waits_printed, not_ok, batch_halted, batch_last}
 use Rattle.race_phase.proofs.work.work.Goals as goal
 use Rattle.race_phase.proofs.work.work.Goals.{
-  then-from-cpu+in-Ok+then-len-most+in_ok-print_all+in-Ok-2,
-  then-from-cpu+in-Ok+else-len-most,
+  then-from-cpu+in-Ok+then-len-at_once+in_ok-print_all+in-Ok-2,
+  then-from-cpu+in-Ok+else-len-at_once,
   else-from-cpu,
 }
 
@@ -43,7 +43,7 @@ loop-place-preserved g c =
     let p = c.loop-place.pass in
     let below = subst (λ (k : ℕ). i < k) c.len-place-end.ensures c.loop-place-test.true in
     elim c.if-from-cpu.branch [
-      | then-from-cpu+in-Ok+then-len-most+in_ok-print_all+in-Ok-2 w ↦
+      | then-from-cpu+in-Ok+then-len-at_once+in_ok-print_all+in-Ok-2 w ↦
           let q = w.print_all.new.pass in
           let text = c.loop-place.text.items in
           let here = record_cpu rs i _ n _ _ w.record.ensures c.cpu.ensures c.from.ensures w.if-from-cpu.true in
@@ -65,9 +65,9 @@ loop-place-preserved g c =
             places = ap (λ v. length v.items) w.places-is ∙ (ap (λ (l : List Place). length l) back ∙ (same ∙ inv.places));
             few = subst (λ (v : List Record). length v < c.most_together-most.result) (sym clear) c.most_together-most.ensures.least;
             index =
-                (let e : c.if-from-cpu.index ≡ c.loop-place.index + w.len-then-len-most.result = w.index-is in
+                (let e : c.if-from-cpu.index ≡ c.loop-place.index + w.len-then-len-at_once.result = w.index-is in
                 let b : length c.if-from-cpu.batch.items ≡ 0 = ap (λ (v : List Record). length v) clear in
-                let z : w.len-then-len-most.result ≡ length w.push.new.self.items = w.len-then-len-most.ensures ∙ w.push.new.self.ok.0 in
+                let z : w.len-then-len-at_once.result ≡ length w.push.new.self.items = w.len-then-len-at_once.ensures ∙ w.push.new.self.ok.0 in
                 let y : length w.push.new.self.items ≡ length c.loop-place.batch.items + 1 =
                 ap (λ (v : List Record). length v) items ∙ length-append c.loop-place.batch.items (_ ∷ []) in
                 let k : c.loop-place.index + length c.loop-place.batch.items ≤ i = inv.index in
@@ -76,7 +76,7 @@ loop-place-preserved g c =
             made = subst (λ (z : PassKnown × List ℕ × List Record). AllButLast s ds n (records_of n (take (i + 1) rs)) z.2 z.1 z.0)
                 (λ k. (sym w.pass-is k, sym (ap (λ v. v.items) w.text-is) k, sym clear k)) made;
           }
-      | then-from-cpu+in-Ok+else-len-most w ↦
+      | then-from-cpu+in-Ok+else-len-at_once w ↦
           let here = record_cpu rs i _ n _ _ w.record.ensures c.cpu.ensures c.from.ensures w.if-from-cpu.true in
           let waits = next_read s ds n i rs w.record.result c.loop-place.batch.items c.loop-place.text.items p w.record.ensures here inv.made in
           let items = ap (λ v. v.items) w.batch-is ∙ w.in-Ok.ensures.items in
@@ -85,7 +85,11 @@ loop-place-preserved g c =
             number = ap (λ z. z.number) w.pass-is ∙ inv.number;
             legal = subst (λ (z : PassKnown). IsLegal z.seen) (sym w.pass-is) inv.legal;
             places = ap (λ v. length v.items) w.places-is ∙ inv.places;
-            few = subst (λ (k : ℕ). k < c.most_together-most.result) (w.len-then-from-cpu.ensures ∙ (w.push.new.self.ok.0 ∙ sym (ap (λ v. length v.items) w.batch-is))) w.if-len-most.false;
+            few =
+                (let same = w.len-then-from-cpu.ensures ∙ (w.push.new.self.ok.0 ∙ sym (ap (λ v. length v.items) w.batch-is)) in
+                let less : length c.if-from-cpu.batch.items < w.at_once.result = subst (λ (k : ℕ). k < w.at_once.result) same w.if-len-at_once.false in
+                let most : w.at_once.result ≤ c.most_together-most.result = w.at_once.ensures in
+                omega (arith, less, most));
             index =
                 (let e : c.if-from-cpu.index ≡ c.loop-place.index = w.index-is in
                 let y : length c.if-from-cpu.batch.items ≡ length c.loop-place.batch.items + 1 =

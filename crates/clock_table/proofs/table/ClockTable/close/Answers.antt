@@ -24,7 +24,7 @@ returns-clause-front g c = let k = ended g c in
 
 pub returns-clause-greatest : goal.returns-clause-greatest
 returns-clause-greatest g c = let k = ended g c in
-    at_word (slots_items c.close_with-words.result.words) 1 1 c.word-greatest.result refl c.word-greatest.ensures ∙ k.greatest
+    at_word (slots_items c.close_with-words.result.words) 16 16 c.word-greatest.result refl c.word-greatest.ensures ∙ k.greatest
 
 pub returns-clause-pages : goal.returns-clause-pages
 returns-clause-pages g c cpu l small = let k = ended g c in
