@@ -5,14 +5,20 @@ use Rattle.std.proofs.Common.{
   zero,
   suc,
   ◌+◌,
+  ◌*◌,
+  ◌/◌,
+  ◌^◌,
   ◌<◌,
   ◌≤◌,
   ◌⊎◌,
   Bool,
   true,
   false,
+  ◌&&◌,
   cond,
+  if◌then◌else◌,
   leb,
+  ltb,
   eqb,
   List,
   length,
@@ -49,7 +55,7 @@ use Rattle.board_types.specs.declared.parts.TheConstants.{LAST_VERSION, MOST_ACC
 use Rattle.board_types.specs.Setup.{processors_of}
 use Rattle.board_devices.specs.Act.{acted}
 use Rattle.board_devices.specs.Lines.{levels}
-use Rattle.board_devices.specs.Places.{line_at}
+use Rattle.board_devices.specs.Places.{line_at, no_line}
 use Rattle.board_devices.specs.Rises.{lifts, one_if, rises_with}
 use Rattle.board_devices.proofs.Rises.{at-counted}
 use Rattle.board_core.specs.Time.{HasTime, devices_in, now_of, time_of_access}
@@ -60,6 +66,20 @@ use Rattle.board_core.specs.Rises.{rises_after}
 use Rattle.board_core.specs.Access.{act_of, own_edges, after_act}
 use Rattle.board_core.specs.Conditions.{IsFormat, IsVersion, IsWall, flags_valid, IsProcessor, AreProcessors, AreRises, IsJoined}
 use Rattle.board_core.specs.Upgrade.{gets_timers}
+use Rattle.board_core.specs.Conditions.{IsHv, AreApics}
+use Rattle.board_core.specs.Apics.{no_apic}
+use Rattle.board_core.specs.Hv.{no_hv, hv_in, with_page, hv_published, hv_written, publishes_hv, hv_after}
+use Rattle.board_core.specs.Tsc.{tsc_read}
+use Rattle.board_types.specs.Legal.{is_legal, is_msr}
+use Rattle.board_types.specs.declared.parts.HvParts.{HvParts}
+use Rattle.board_types.specs.declared.setup.TheConstants.{LAST_FORMAT, HV_FORMAT}
+use Rattle.board_types.specs.declared.access.TheConstants.{MSR_HV_REFERENCE_TSC}
+use Rattle.clk_units.specs.Bits.{bit}
+use Rattle.clk_units.specs.Ranges.{IsKhz}
+use Rattle.hv_page.specs.Scale.{tsc_scale}
+use Rattle.hv_page.specs.Page.{published as page_published, withdrawn}
+use Rattle.std.proofs.lemmas.Bool.{eqb-true, leb-true, false≢true, and_from, and_left, and_right, lt-ltb, le-ltb, le-leb, lt-leb}
+use Rattle.std.proofs.lemmas.Nat.{le-div}
 use Rattle.board_core.proofs.Timers.{timers-acted}
 
 -- a count up to the board's has a time, and moves none
@@ -181,6 +201,91 @@ IsWall-after (MsrWrite msr v) number version nsec fresh valid = elim (eqb msr MS
     ] fresh
 IsWall-after _ number version nsec fresh valid = valid
 
+-- the reference page at power on, and behind a publishing
+pub IsHv-none : (format guest_khz cpus : ℕ) → 1 ≤ cpus → IsHv format guest_khz cpus no_hv
+IsHv-none format guest_khz cpus some = record {
+  version = record { most = omega arith; even = omega arith };
+  none = λ before. refl;
+  unpublished = λ e. refl;
+  processor = omega arith;
+  scale = refl;
+  offset = λ e. refl;
+  tsc_offset = λ e. refl;
+}
+
+-- a page before a later format, in it
+pub IsHv-later : (format to guest_khz cpus : ℕ) (p : HvParts) → IsHv format guest_khz cpus p → format ≤ to → 1 ≤ cpus → IsHv to guest_khz cpus p
+IsHv-later format to guest_khz cpus p valid later some = elim (cases_lt format HV_FORMAT) [
+  | inl before ↦ subst (λ (q : HvParts). IsHv to guest_khz cpus q) (sym (valid.none before)) (IsHv-none to guest_khz cpus some)
+  | inr there ↦ record {
+    version = valid.version;
+    none = λ before. absurd (omega arith);
+    unpublished = valid.unpublished;
+    processor = valid.processor;
+    scale = valid.scale;
+    offset = valid.offset;
+    tsc_offset = valid.tsc_offset;
+  }
+]
+
+some_scale : (khz : ℕ) → IsKhz khz → 0 < tsc_scale khz
+unfolding tsc_scale
+some_scale khz rate =
+    let slow = rate.slow in let fast = rate.fast in
+    le-div 1 (10000 * 2 ^ 64) khz (omega arith) (omega arith)
+
+pub IsHv-published : (anchor : Anchor) (format guest_khz cpus h : ℕ) (writer : ProcessorParts) (p : HvParts) → IsKhz guest_khz → HV_FORMAT ≤ format
+    → IsVersion p.version → p.version < LAST_VERSION → p.cpu < cpus → IsHv format guest_khz cpus (hv_published anchor guest_khz h writer p)
+unfolding hv_published
+IsHv-published anchor format guest_khz cpus h writer p rate there valid less inside = by (bit 0 p.number) refl
+  where
+    page : Bool → HvParts
+    page b = with_page p (if b then page_published (hv_in p) guest_khz writer.offset (tsc_read anchor guest_khz h writer) (time_at anchor h) else withdrawn (hv_in p))
+
+    by : (b : Bool) → bit 0 p.number ≡ b → IsHv format guest_khz cpus (page b)
+    by true on =
+        let some = some_scale guest_khz rate in record {
+          version = IsVersion-raised p.version valid less;
+          none = λ before. absurd (omega arith);
+          unpublished = λ e. absurd (omega (arith, e));
+          processor = inside;
+          scale = sym (ap (λ (b : Bool). if b then tsc_scale guest_khz else 0) on);
+          offset = λ e. absurd (omega (arith, e, some));
+          tsc_offset = λ e. absurd (omega (arith, e, some));
+        }
+    by false off = record {
+      version = IsVersion-raised p.version valid less;
+      none = λ before. absurd (omega arith);
+      unpublished = λ e. absurd (omega (arith, e));
+      processor = inside;
+      scale = sym (ap (λ (b : Bool). if b then tsc_scale guest_khz else 0) off);
+      offset = λ e. refl;
+      tsc_offset = λ e. refl;
+    }
+
+-- a legal write to its MSR comes in a format that has it
+hv_msr : (cpus format msr v : ℕ) → IsTrue (is_legal cpus format (MsrWrite msr v)) → eqb msr MSR_HV_REFERENCE_TSC ≡ true → HV_FORMAT ≤ format
+hv_msr cpus format msr v legal is =
+    at (leb HV_FORMAT format) refl (subst (λ (m : ℕ). IsTrue (is_msr format m)) (eqb-true msr MSR_HV_REFERENCE_TSC is) legal)
+  where
+    at : (b : Bool) → leb HV_FORMAT format ≡ b → IsTrue b → HV_FORMAT ≤ format
+    at true e t = leb-true HV_FORMAT format e
+    at false e t = absurd (false≢true t)
+
+-- the reference page behind an access
+pub IsHv-after : (anchor : Anchor) (format guest_khz cpus cpu h : ℕ) (a : Access) (ps : List ProcessorParts) (p : HvParts) → IsKhz guest_khz
+    → cpu < cpus → IsTrue (is_legal cpus format a) → (publishes_hv a ≡ true → p.version < LAST_VERSION) → IsHv format guest_khz cpus p
+    → IsHv format guest_khz cpus (hv_after anchor guest_khz cpu h a ps p)
+unfolding hv_after
+IsHv-after anchor format guest_khz cpus cpu h (MsrWrite msr v) ps p rate inside legal fresh valid = by (eqb msr MSR_HV_REFERENCE_TSC) refl fresh
+  where
+    by : (b : Bool) → eqb msr MSR_HV_REFERENCE_TSC ≡ b → (b ≡ true → p.version < LAST_VERSION)
+        → IsHv format guest_khz cpus (if b then hv_published anchor guest_khz h (get_or ps cpu no_processor) (hv_written cpu v p) else p)
+    by true is less = IsHv-published anchor format guest_khz cpus h (get_or ps cpu no_processor) (hv_written cpu v p) rate (hv_msr cpus format msr v legal is)
+        valid.version (less refl) inside
+    by false is less = valid
+IsHv-after anchor format guest_khz cpus cpu h _ ps p rate inside legal fresh valid = valid
+
 -- no format has more than 64 processors
 processors_of-most : (format : ℕ) → processors_of format ≤ 64
 processors_of-most format = by (leb format 1)
@@ -192,39 +297,40 @@ processors_of-most format = by (leb format 1)
 pub most-cpus : (format cpus timers : ℕ) → IsFormat format cpus timers → cpus ≤ 64
 most-cpus format cpus timers valid = omega (arith, valid.most_cpus, processors_of-most format)
 
--- a later format
-pub IsFormat-later : (format to cpus timers more : ℕ) → IsFormat format cpus timers → format ≤ to → to ≤ 2
+-- a later format: all from 2 on have as many processors and timers as it
+pub IsFormat-later : (format to cpus timers more : ℕ) → IsFormat format cpus timers → format ≤ to → to ≤ LAST_FORMAT
     → more ≡ cond (gets_timers format to) 8 timers → IsFormat to cpus more
 IsFormat-later format to cpus timers more valid later built e = elim (cases_lt format 2) [
-  | inl old ↦
-      let first : 1 ≡ format = omega (arith, valid.least) in
-      from first (elim (cases_lt to 2) [
-        | inl stays ↦ let same : 1 ≡ to = omega (arith, valid.least) in inl same
-        | inr grows ↦ let second : 2 ≡ to = omega arith in inr second
-      ])
+  | inl old ↦ elim (cases_lt to 2) [
+    | inl stays ↦
+        let same : format ≡ to = omega (arith, valid.least) in
+        let timers_are : more ≡ timers = by false (and_right (ltb format 2) (leb 2 to) (lt-leb 2 to stays)) in
+        subst (λ (f : ℕ). IsFormat f cpus more) same (subst (λ (n : ℕ). IsFormat format cpus n) (sym timers_are) valid)
+    | inr grows ↦
+        in_new grows (by true (and_from (ltb format 2) (leb 2 to) (lt-ltb format 2 old) (le-leb 2 to grows)))
+  ]
   | inr new ↦
-      let second : 2 ≡ format = omega (arith, valid.last) in
-      let same : 2 ≡ to = omega (arith, valid.last) in
-      let timers_are : more ≡ timers = subst (λ (f : ℕ). more ≡ cond (gets_timers f to) 8 timers) (sym second) e in
-      subst (λ (f : ℕ). IsFormat f cpus more) (sym second ∙ same) (subst (λ (n : ℕ). IsFormat format cpus n) (sym timers_are) valid)
+      let timers_are : more ≡ timers = by false (and_left (ltb format 2) (leb 2 to) (le-ltb format 2 new)) in
+      let eight : timers ≡ 8 = subst (λ (b : Bool). timers ≡ cond b 3 8) (lt-leb format 1 new) valid.has_timers in
+      in_new (omega arith) (timers_are ∙ eight)
 ]
   where
-    from : 1 ≡ format → (1 ≡ to) ⊎ (2 ≡ to) → IsFormat to cpus more
-    from first (inl same) =
-        let timers_are : more ≡ timers = subst (λ (t : ℕ). more ≡ cond (gets_timers 1 t) 8 timers) (sym same)
-        (subst (λ (f : ℕ). more ≡ cond (gets_timers f to) 8 timers) (sym first) e) in
-        subst (λ (f : ℕ). IsFormat f cpus more) (sym first ∙ same) (subst (λ (n : ℕ). IsFormat format cpus n) (sym timers_are) valid)
-    from first (inr second) =
-        let eight : more ≡ 8 = subst (λ (t : ℕ). more ≡ cond (gets_timers 1 t) 8 timers) (sym second)
-        (subst (λ (f : ℕ). more ≡ cond (gets_timers f to) 8 timers) (sym first) e) in
-        let old : IsFormat 1 cpus timers = subst (λ (f : ℕ). IsFormat f cpus timers) (sym first) valid in
-        subst (λ (f : ℕ). IsFormat f cpus more) second (record {
+    by : (b : Bool) → gets_timers format to ≡ b → more ≡ cond b 8 timers
+    by b is = subst (λ (x : Bool). more ≡ cond x 8 timers) is e
+
+    in_new : 2 ≤ to → more ≡ 8 → IsFormat to cpus more
+    in_new new eight =
+        let later_one : leb to 1 ≡ false = lt-leb to 1 new in record {
           least = omega arith;
-          last = omega arith;
+          last = built;
           least_cpus = valid.least_cpus;
-          most_cpus = omega (arith, old.most_cpus);
-          has_timers = eight;
-        })
+          most_cpus = subst (λ (b : Bool). cpus ≤ cond b 16 64) (sym later_one) (most-cpus format cpus timers valid);
+          has_timers = subst (λ (b : Bool). more ≡ cond b 3 8) (sym later_one) eight;
+        }
+
+-- the timers of local APICs, of which a board has none
+pub AreApics-none : (format : ℕ) → AreApics format (replicate 64 no_apic) (replicate 64 no_line)
+AreApics-none format = record { no_timers = λ before. refl; no_lines = λ before. refl }
 
 pub AreRises-later : (format to accesses : ℕ) (lines more : List Bool) (rises : List ℕ) → AreRises format accesses lines rises → format ≤ to
     → lines ≡ more → AreRises to accesses more rises
@@ -246,18 +352,21 @@ IsJoined-same_time b host valid more same = record {
   wall = valid.wall;
   processors = valid.processors;
   rises = valid.rises;
+  apics = valid.apics;
+  hv = valid.hv;
 }
 
 -- a board behind an access, by what is known of its devices, wall clock and processors
 pub IsJoined-acted : (b : BoardParts) (cpu h : ℕ) (a : Access) → IsJoined b → b.accesses < MOST_ACCESSES → length b.rises ≡ 6
     → IsWall (wall_number_after a b.wall_number) (wall_version_after a b.wall_version) b.wall_nsec
     → AreProcessors b.guest_khz b.cpus (processors_after b.anchor b.guest_khz cpu h a b.processors)
+    → IsHv b.format b.guest_khz b.cpus (hv_after b.anchor b.guest_khz cpu h a b.processors b.hv)
     → ((k : ℕ) → k < 10 → (line_at k (acted (act_of a) (devices_in b))).counts.due ≤ (line_at k (devices_in b)).counts.due + 1)
     → ((n : ℕ) → lifts n (own_edges b a) + one_if (level_of line_numbers (levels (devices_in b)) n)
     ≤ 1 + one_if (level_of line_numbers (levels (acted (act_of a) (devices_in b))) n))
     → IsJoined (after_act b cpu h a)
 unfolding after_act
-IsJoined-acted b cpu h a valid few six wall processors due lifted = record {
+IsJoined-acted b cpu h a valid few six wall processors hv due lifted = record {
   format = subst (λ (n : ℕ). IsFormat b.format b.cpus n) (sym (timers-acted (act_of a) (devices_in b))) valid.format;
   rates = valid.rates;
   time = valid.time;
@@ -269,6 +378,8 @@ IsJoined-acted b cpu h a valid few six wall processors due lifted = record {
   processors = processors;
   rises = AreRises-after b.format b.accesses (b.accesses + 1) 1 (levels (devices_in b)) (levels (acted (act_of a) (devices_in b))) (own_edges b a) b.rises
       six refl valid.rises lifted;
+  apics = valid.apics;
+  hv = hv;
 }
 
 -- a board behind an access that only reads
@@ -282,4 +393,6 @@ IsJoined-counted b valid few = record {
   wall = valid.wall;
   processors = valid.processors;
   rises = record { most = λ k less. omega (arith, valid.rises.most k less); none = valid.rises.none };
+  apics = valid.apics;
+  hv = valid.hv;
 }

@@ -20,9 +20,12 @@ use Rattle.board_types.specs.declared.access.Access.TheVariants.{
   CountsOf,
   Next,
   Rose,
+  Eoi,
 }
 use Rattle.board_types.specs.declared.parts.BoardParts.{BoardParts}
 use Rattle.board_types.specs.declared.parts.ProcessorParts.{ProcessorParts}
+use Rattle.board_types.specs.declared.parts.HvParts.{HvParts}
+use Rattle.board_core.specs.Hv.{hv_after}
 use Rattle.board_types.specs.declared.reply.Value.TheVariants.{Nothing}
 use Rattle.board_devices.specs.declared.act.Act.TheVariants.{Nothing as NoAct}
 use Rattle.board_devices.specs.declared.parts.DeviceParts.{DeviceParts}
@@ -55,6 +58,7 @@ touches-quiet Wall e = refl
 touches-quiet (CountsOf from) e = refl
 touches-quiet Next e = refl
 touches-quiet (Rose line) e = refl
+touches-quiet Eoi e = refl
 
 pub publishes-untouched : (a : Access) → publishes a ≡ true → touches a ≡ false
 publishes-untouched (PortIn port) e = absurd (false≢true e)
@@ -70,6 +74,7 @@ publishes-untouched Wall e = refl
 publishes-untouched (CountsOf from) e = refl
 publishes-untouched Next e = refl
 publishes-untouched (Rose line) e = refl
+publishes-untouched Eoi e = refl
 
 -- what touches no device
 none-asked : (a : Access) → touches a ≡ false → act_of a ≡ NoAct
@@ -86,6 +91,7 @@ none-asked Wall e = refl
 none-asked (CountsOf from) e = refl
 none-asked Next e = refl
 none-asked (Rose line) e = refl
+none-asked Eoi e = refl
 
 acted-none : (d : DeviceParts) → acted NoAct d ≡ d
 unfolding acted
@@ -132,6 +138,12 @@ processors-kept anchor guest_khz cpu h (MsrWrite msr v) ps e = absurd (false≢t
 processors-kept anchor guest_khz cpu h (Refresh page) ps e = absurd (false≢true (sym e))
 processors-kept anchor guest_khz cpu h _ ps e = refl
 
+pub hv-kept : (anchor : Anchor) (guest_khz cpu h : ℕ) (a : Access) (ps : List ProcessorParts) (p : HvParts) → publishes a ≡ false
+    → hv_after anchor guest_khz cpu h a ps p ≡ p
+unfolding hv_after
+hv-kept anchor guest_khz cpu h (MsrWrite msr v) ps p e = absurd (false≢true (sym e))
+hv-kept anchor guest_khz cpu h _ ps p e = refl
+
 -- the values
 pub value-touched : (b : BoardParts) (cpu h : ℕ) (a : Access) → touches a ≡ true
     → value_with a (value_of (now_of b) (act_of a) (devices_in b)) Nothing ≡ value_at b cpu h a
@@ -149,6 +161,7 @@ value-touched b cpu h Wall e = absurd (false≢true e)
 value-touched b cpu h (CountsOf from) e = absurd (false≢true e)
 value-touched b cpu h Next e = absurd (false≢true e)
 value-touched b cpu h (Rose line) e = absurd (false≢true e)
+value-touched b cpu h Eoi e = absurd (false≢true e)
 
 pub value-published : (b : BoardParts) (cpu h : ℕ) (a : Access) → publishes a ≡ true → Nothing ≡ value_at b cpu h a
 unfolding value_at
@@ -165,6 +178,7 @@ value-published b cpu h Wall e = absurd (false≢true e)
 value-published b cpu h (CountsOf from) e = absurd (false≢true e)
 value-published b cpu h Next e = absurd (false≢true e)
 value-published b cpu h (Rose line) e = absurd (false≢true e)
+value-published b cpu h Eoi e = absurd (false≢true e)
 
 pub value-told : (b : BoardParts) (n cpu h : ℕ) (a : Access) → touches a ≡ false → told (record b { accesses = n }) cpu h a ≡ value_at b cpu h a
 unfolding value_at
@@ -181,8 +195,9 @@ value-told b n cpu h Wall e = refl
 value-told b n cpu h (CountsOf from) e = refl
 value-told b n cpu h Next e = refl
 value-told b n cpu h (Rose line) e = refl
+value-told b n cpu h Eoi e = refl
 
-pub raised_none : (ps : List ProcessorParts) (wall cpu : ℕ) (a : Access) → publishes a ≡ false → raised_version ps wall cpu a ≡ None
-raised_none ps wall cpu (MsrWrite msr v) e = absurd (false≢true (sym e))
-raised_none ps wall cpu (Refresh page) e = absurd (false≢true (sym e))
-raised_none ps wall cpu _ e = refl
+pub raised_none : (ps : List ProcessorParts) (wall hv cpu : ℕ) (a : Access) → publishes a ≡ false → raised_version ps wall hv cpu a ≡ None
+raised_none ps wall hv cpu (MsrWrite msr v) e = absurd (false≢true (sym e))
+raised_none ps wall hv cpu (Refresh page) e = absurd (false≢true (sym e))
+raised_none ps wall hv cpu _ e = refl

@@ -10,3 +10,4 @@ pub mod Counted
 pub mod Kept
 pub mod Laws
 mod Rows
+mod RowsHv

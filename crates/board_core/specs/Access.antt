@@ -7,7 +7,9 @@ use Rattle.std.specs.Prelude.{
   max,
   if◌then◌else◌,
   List,
+  [],
   ◌++◌,
+  slice_index_or,
 }
 use Rattle.irq_edges.specs.declared.edges.Edge.{Edge}
 use Rattle.irq_edges.specs.Lines.{line_numbers}
@@ -26,9 +28,12 @@ use Rattle.board_types.specs.declared.access.Access.TheVariants.{
   CountsOf,
   Next,
   Rose,
+  Eoi,
 }
 use Rattle.board_types.specs.declared.access.TickSource.{TickSource}
-use Rattle.board_types.specs.declared.access.TickSource.TheVariants.{Pit, Rtc, Hpet}
+use Rattle.board_types.specs.declared.access.TickSource.TheVariants.{Pit, Rtc, Hpet, Apic}
+use Rattle.tick_policy.specs.declared.parts.Counts.{Counts as TickCounts}
+use Rattle.tick_policy.specs.declared.parts.TickParts.{TickParts}
 use Rattle.board_types.specs.declared.parts.BoardParts.{BoardParts}
 use Rattle.board_types.specs.declared.reply.Reply.{Reply}
 use Rattle.board_types.specs.declared.reply.Value.{Value}
@@ -53,13 +58,14 @@ use Rattle.board_devices.specs.declared.act.Act.TheVariants.{
   Ack as AckLine,
   Nothing as NoAct,
 }
-use Rattle.board_devices.specs.Places.{line_at}
+use Rattle.board_devices.specs.Places.{no_line}
 use Rattle.board_devices.specs.Run.{Ran, run}
 use Rattle.board_devices.specs.Act.{acted, act_edges, value_of}
 use Rattle.board_core.specs.Time.{devices_in, now_of, time_of_access}
 use Rattle.board_core.specs.Tsc.{msr_read}
 use Rattle.board_core.specs.Pages.{processors_after}
 use Rattle.board_core.specs.Wall.{wall_number_after, wall_version_after, wall_words}
+use Rattle.board_core.specs.Hv.{hv_after}
 use Rattle.board_core.specs.Next.{next_of}
 use Rattle.board_core.specs.Rises.{rises_after, count_at}
 
@@ -89,6 +95,7 @@ act_of Wall = NoAct
 act_of (CountsOf from) = NoAct
 act_of Next = NoAct
 act_of (Rose line) = NoAct
+act_of Eoi = NoAct
 
 -- the run up to the time of an access at count h: what it leaves, and its edges
 abbrev pub ran_to : BoardParts → ℕ → Ran
@@ -106,11 +113,12 @@ after_run b h = record b {
   rises = rises_after b.format (ran_to b h).edges b.rises;
 }
 
--- the place of a source's tick line
-abbrev pub place_of_source : TickSource → ℕ
-place_of_source Pit = 0
-place_of_source Rtc = 1
-place_of_source (Hpet timer) = timer + 2
+-- the counts of a source's tick line, among the lines of the devices and those of local APICs
+abbrev pub counts_of : List TickParts → List TickParts → TickSource → TickCounts
+counts_of ticks apic_ticks Pit = (slice_index_or ticks 0 no_line).counts
+counts_of ticks apic_ticks Rtc = (slice_index_or ticks 1 no_line).counts
+counts_of ticks apic_ticks (Hpet timer) = (slice_index_or ticks (timer + 2) no_line).counts
+counts_of ticks apic_ticks (Apic cpu) = (slice_index_or apic_ticks cpu no_line).counts
 
 -- what an access at count h reads of a board that has run to its time: a port gives a byte, the
 -- HPET a word of the width, an MSR and a count of rises a word of 8 bytes
@@ -126,15 +134,17 @@ value_at b cpu h (Ack line) = Nothing
 value_at b cpu h Step = Nothing
 value_at b cpu h (Refresh page) = Nothing
 value_at b cpu h Wall = wall_words b
-value_at b cpu h (CountsOf from) = Counts (line_at (place_of_source from) (devices_in b)).counts
+value_at b cpu h (CountsOf from) = Counts (counts_of b.ticks b.apic_ticks from)
 value_at b cpu h Next = NextEdge (next_of (now_of b) (devices_in b))
 value_at b cpu h (Rose line) = Word 8 (count_at line_numbers b.rises line)
+value_at b cpu h Eoi = Nothing
 
 -- the edges of the access itself, part after part
 abbrev pub own_edges : BoardParts → Access → List Edge
 own_edges b a = act_edges (now_of b) (act_of a) (devices_in b)
 
--- such a board behind the access: what isn't named here stays
+-- such a board behind the access: what isn't named here stays. No format that is built has timers
+-- of local APICs, so an `Eoi` and a write to their MSRs act on nothing yet
 unfoldable pub after_act : BoardParts → ℕ → ℕ → Access → BoardParts
 after_act b cpu h a =
     let d : DeviceParts = acted (act_of a) (devices_in b) in
@@ -149,18 +159,21 @@ after_act b cpu h a =
       wall_version = wall_version_after a b.wall_version;
       processors = processors_after b.anchor b.guest_khz cpu h a b.processors;
       rises = rises_after b.format (own_edges b a) b.rises;
+      hv = hv_after b.anchor b.guest_khz cpu h a b.processors b.hv;
     }
 
 -- the edges of an access: those of the run, and then its own
 unfoldable pub edges_of : BoardParts → ℕ → Access → List Edge
 edges_of b h a = (ran_to b h).edges ++ own_edges (after_run b h) a
 
--- what an access is answered: the number that follows, its value, its edges
+-- what an access is answered: the number that follows, its value, its edges. No format that is built
+-- has messages
 unfoldable pub reply_of : BoardParts → ℕ → ℕ → Access → Reply
 reply_of b cpu h a = record {
   number = b.accesses + 1;
   value = value_at (after_run b h) cpu h a;
   edges = edges_of b h a;
+  bursts = [];
 }
 
 -- the board after an access

@@ -11,30 +11,44 @@ use Rattle.std.specs.Prelude.{
   ◌||◌,
   ◌==◌,
   IsTrue,
+  if◌then◌else◌,
   List,
+  replicate,
   slice_index_or,
 }
+use Rattle.clk_units.specs.Bits.{bit}
 use Rattle.clk_units.specs.Ranges.{IsKhz}
 use Rattle.clk_units.specs.declared.ranges.TheConstants.{RANGE_NS}
 use Rattle.host_counter.specs.declared.Anchor.{Anchor}
 use Rattle.irq_edges.specs.Lines.{line_numbers, level_of}
+use Rattle.hv_page.specs.Scale.{tsc_scale}
+use Rattle.lapic_timer.specs.declared.parts.ApicParts.{ApicParts}
 use Rattle.pvclock_page.specs.Scale.{mul_for, shift_for}
+use Rattle.tick_policy.specs.declared.parts.TickParts.{TickParts}
 use Rattle.board_types.specs.declared.parts.BoardParts.{BoardParts}
+use Rattle.board_types.specs.declared.parts.HvParts.{HvParts}
 use Rattle.board_types.specs.declared.parts.ProcessorParts.{ProcessorParts}
 use Rattle.board_types.specs.declared.parts.TheConstants.{LAST_VERSION, MOST_ACCESSES}
-use Rattle.board_types.specs.declared.setup.TheConstants.{SECOND_NS}
+use Rattle.board_types.specs.declared.setup.TheConstants.{
+  SECOND_NS,
+  LAST_FORMAT,
+  APIC_FORMAT,
+  HV_FORMAT,
+}
 use Rattle.board_types.specs.Setup.{timers_of, processors_of}
-use Rattle.board_devices.specs.Places.{line_at}
+use Rattle.board_devices.specs.Places.{line_at, no_line}
 use Rattle.board_devices.specs.Lines.{levels}
 use Rattle.board_devices.specs.Parts.{AreDevices}
 use Rattle.board_devices.specs.Rises.{one_if}
 use Rattle.board_core.specs.Time.{HasTime, devices_in, now_of}
 use Rattle.board_core.specs.Tsc.{no_processor}
+use Rattle.board_core.specs.Apics.{no_apic}
+use Rattle.board_core.specs.Hv.{no_hv}
 
 -- the format is one that is built, with as many processors as it allows and the timers that it has
 pub record IsFormat (format cpus timers : ℕ) : Type 0 where
   pub least : 1 ≤ format
-  pub last : format ≤ 2
+  pub last : format ≤ LAST_FORMAT
   pub least_cpus : 1 ≤ cpus
   pub most_cpus : cpus ≤ processors_of format
   pub has_timers : timers ≡ timers_of format
@@ -73,6 +87,22 @@ pub record AreProcessors (guest_khz cpus : ℕ) (ps : List ProcessorParts) : Typ
   pub each : (k : ℕ) → IsProcessor guest_khz (slice_index_or ps k no_processor)
   pub absent : (k : ℕ) → cpus ≤ k → slice_index_or ps k no_processor ≡ no_processor
 
+-- the timers of local APICs and their tick lines: none before format 3
+pub record AreApics (format : ℕ) (timers : List ApicParts) (lines : List TickParts) : Type 0 where
+  pub no_timers : format < APIC_FORMAT → timers ≡ replicate 64 no_apic
+  pub no_lines : format < APIC_FORMAT → lines ≡ replicate 64 no_line
+
+-- the reference page: none before format 4; all is 0 before it is published first; then its scale is
+-- that of the guest's rate where it is enabled
+pub record IsHv (format guest_khz cpus : ℕ) (p : HvParts) : Type 0 where
+  pub version : IsVersion p.version
+  pub none : format < HV_FORMAT → p ≡ no_hv
+  pub unpublished : p.version ≡ 0 → p ≡ no_hv
+  pub processor : p.cpu < cpus
+  pub scale : p.scale ≡ (if bit 0 p.number then tsc_scale guest_khz else 0)
+  pub offset : p.scale ≡ 0 → p.offset ≡ 0
+  pub tsc_offset : p.scale ≡ 0 → p.tsc_offset ≡ 0
+
 -- the counts of rises: only an access lets a line fall, and once at most; format 1 counts none
 pub record AreRises (format accesses : ℕ) (lines : List Bool) (rises : List ℕ) : Type 0 where
   pub most : (k : ℕ) → k < 6 → slice_index_or rises k 0
@@ -89,6 +119,8 @@ pub record IsJoined (b : BoardParts) : Type 0 where
   pub wall : IsWall b.wall_number b.wall_version b.wall_nsec
   pub processors : AreProcessors b.guest_khz b.cpus b.processors
   pub rises : AreRises b.format b.accesses (levels (devices_in b)) b.rises
+  pub apics : AreApics b.format b.apic b.apic_ticks
+  pub hv : IsHv b.format b.guest_khz b.cpus b.hv
 
 -- all conditions
 pub record IsBoard (b : BoardParts) : Type 0 where

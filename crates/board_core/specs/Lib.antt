@@ -1,6 +1,8 @@
 pub mod Time
 pub mod Tsc
 pub mod Pages
+pub mod Apics
+pub mod Hv
 pub mod Wall
 pub mod Next
 pub mod Rises

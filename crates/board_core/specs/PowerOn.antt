@@ -4,8 +4,11 @@ use Rattle.board_types.specs.declared.setup.Setup.{Setup}
 use Rattle.board_types.specs.declared.parts.BoardParts.{BoardParts}
 use Rattle.board_types.specs.Setup.{timers_of}
 use Rattle.board_devices.specs.declared.parts.DeviceParts.{DeviceParts}
+use Rattle.board_devices.specs.Places.{no_line}
 use Rattle.board_devices.specs.Parts.{devices_at_power_on}
 use Rattle.board_core.specs.Tsc.{no_processor}
+use Rattle.board_core.specs.Apics.{no_apic}
+use Rattle.board_core.specs.Hv.{no_hv}
 
 -- the devices of a setup, at power on
 abbrev pub devices_of_setup : Setup → DeviceParts
@@ -32,4 +35,7 @@ board_at_power_on s = record {
   wall_nsec = s.wall_nsec;
   processors = replicate 64 no_processor;
   rises = replicate 6 0;
+  apic = replicate 64 no_apic;
+  apic_ticks = replicate 64 no_line;
+  hv = no_hv;
 }

@@ -25,6 +25,7 @@ use Rattle.board_types.specs.declared.reply.Refusal.TheVariants.{
 }
 use Rattle.board_core.specs.Tsc.{no_processor}
 use Rattle.board_core.specs.Pages.{published_by}
+use Rattle.board_core.specs.Hv.{publishes_hv}
 use Rattle.board_core.specs.Wall.{publishes_wall}
 
 -- the version of a page, if there is one
@@ -32,10 +33,12 @@ abbrev pub version_at : Option ℕ → List ProcessorParts → Option ℕ
 version_at None ps = None
 version_at (Some k) ps = Some (slice_index_or ps k no_processor).version
 
--- the version that an access would raise: that of the wall clock's words, or of a page
-abbrev pub raised_version : List ProcessorParts → ℕ → ℕ → Access → Option ℕ
-raised_version ps wall_version cpu a =
-    if publishes_wall a then Some wall_version else version_at (published_by cpu a) ps
+-- the version that an access would raise: that of the wall clock's words, of the reference page, or
+-- of a page
+abbrev pub raised_version : List ProcessorParts → ℕ → ℕ → ℕ → Access → Option ℕ
+raised_version ps wall_version hv_version cpu a =
+    if publishes_wall a then Some wall_version
+    else (if publishes_hv a then Some hv_version else version_at (published_by cpu a) ps)
 
 -- versions are spent where that is the last one; else the next cause counts
 abbrev pub spent_version : Option ℕ → Option Refusal → Option Refusal
@@ -49,5 +52,5 @@ unfoldable pub refusal_of : BoardParts → ℕ → ℕ → Access → Option Ref
 refusal_of b cpu h a =
     if nat_lt h b.anchor.start then Some (BeforeStart b.anchor.start)
     else (if nat_le RANGE_NS (time_at b.anchor h) then Some (OutOfRange (time_at b.anchor h))
-    else spent_version (raised_version b.processors b.wall_version cpu a)
+    else spent_version (raised_version b.processors b.wall_version b.hv.version cpu a)
     (if nat_le MOST_ACCESSES b.accesses then Some (Spent b.accesses) else None))

@@ -4,6 +4,7 @@ use Rattle.std.specs.Prelude.{
   pos,
   ◌==◌,
   if◌then◌else◌,
+  ◌/◌,
   slice_index_or,
 }
 use Rattle.host_counter.specs.declared.Anchor.{Anchor}
@@ -15,7 +16,10 @@ use Rattle.board_types.specs.declared.access.TheConstants.{
   MSR_TSC_ADJUST,
   MSR_KVM_WALL_CLOCK,
   MSR_KVM_SYSTEM_TIME,
+  MSR_HV_TIME_REF_COUNT,
+  MSR_HV_REFERENCE_TSC,
 }
+use Rattle.board_core.specs.Time.{now_of}
 use Rattle.board_types.specs.declared.parts.BoardParts.{BoardParts}
 use Rattle.board_types.specs.declared.parts.ProcessorParts.{ProcessorParts}
 
@@ -54,7 +58,9 @@ abbrev pub msr_read : BoardParts → ℕ → ℕ → ℕ → ℕ
 msr_read b cpu h msr =
     if msr == MSR_TSC then tsc_read b.anchor b.guest_khz h (processor_at b cpu)
     else (if msr == MSR_TSC_ADJUST then (processor_at b cpu).adjust
-    else (if msr == MSR_KVM_WALL_CLOCK then b.wall_number else (processor_at b cpu).number))
+    else (if msr == MSR_KVM_WALL_CLOCK then b.wall_number
+    else (if msr == MSR_HV_TIME_REF_COUNT then now_of b / 100
+    else (if msr == MSR_HV_REFERENCE_TSC then b.hv.number else (processor_at b cpu).number))))
 
 -- the TSC behind a write of v to an MSR at count h: IA32_TIME_STAMP_COUNTER is set to v and
 -- TSC_ADJUST moves with it, or the other way round (Intel SDM, volume 3, "Time-Stamp Counter

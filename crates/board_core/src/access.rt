@@ -23,7 +23,7 @@ ghost use Rattle.board_core.specs.Refusals.{refusal_of};
 use crate::board::BoardState;
 use crate::rises::count_rises_where;
 use board_types::{Access, Refusal, Reply, Value};
-use irq_edges::EdgeList;
+use irq_edges::{BurstList, EdgeList};
 
 impl BoardState {
     /// One access by processor `cpu` at count `h` of the host's counter: the devices run to the greater of the
@@ -42,11 +42,13 @@ impl BoardState {
     {
         let mut value = Value::Nothing;
         let mut edges = EdgeList::new();
+        let bursts = BurstList::new();
         self.answer(cpu, h, a, &mut value, &mut edges)?;
         Ok(Reply {
             number: self.accesses,
             value,
             edges,
+            bursts,
         })
     }
 

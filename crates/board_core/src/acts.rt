@@ -19,19 +19,28 @@ ghost use Rattle.board_core.specs.Access.{
   value_at,
   own_edges,
   after_act,
-  place_of_source,
+  counts_of,
 };
 ghost use Rattle.board_core.specs.Refusals.{raised_version};
 ghost use Rattle.board_core.specs.private.Kinds.{touches, publishes};
 ghost use Rattle.board_core.specs.private.Values.{told, value_with};
 
+use crate::apics::NO_LINE;
 use crate::board::BoardState;
+use crate::hv::hv_after;
 use crate::processors::{publish_by, tsc_read};
 use crate::refusals::publishes_wall;
 use crate::rises::{count_at, count_rises};
 use board_devices::Act;
-use board_types::{Access, MSR_KVM_WALL_CLOCK, MSR_TSC, MSR_TSC_ADJUST, TickSource, Value};
+use board_types::{
+    Access, MSR_HV_REFERENCE_TSC, MSR_HV_TIME_REF_COUNT, MSR_KVM_WALL_CLOCK, MSR_TSC,
+    MSR_TSC_ADJUST, TickSource, Value,
+};
 use irq_edges::EdgeList;
+use tick_policy::Counts;
+
+/// Nanoseconds in a unit of reference time.
+const UNIT_NS: u64 = 100;
 
 impl BoardState {
     /// The access itself, on a board that has run to its time. It goes to the devices, publishes, or only reads.
@@ -41,7 +50,8 @@ impl BoardState {
         requires legal { IsTrue (is_legal self.old.cpus self.old.format a) }
         requires time { HasTime self.old.anchor h }
         requires accesses { self.old.accesses < MOST_ACCESSES }
-        requires version { IfSome (raised_version self.old.processors self.old.wall_version cpu a)
+        requires version { IfSome (raised_version self.old.processors self.old.wall_version
+            self.old.hv.version cpu a)
             (λ version. version < LAST_VERSION) }
         requires places { length edges.old + 12 ≤ EDGE_PLACES }
         ensures state { self.new ≡ after_act self.old cpu h a }
@@ -88,13 +98,23 @@ impl BoardState {
         requires legal { IsTrue (is_legal self.old.cpus self.old.format a) }
         requires time { HasTime self.old.anchor h }
         requires accesses { self.old.accesses < MOST_ACCESSES }
-        requires version { IfSome (raised_version self.old.processors self.old.wall_version cpu a)
+        requires version { IfSome (raised_version self.old.processors self.old.wall_version
+            self.old.hv.version cpu a)
             (λ version. version < LAST_VERSION) }
         ensures { self.new ≡ after_act self.old cpu h a }
     {
         self.accesses += 1;
         self.wall_number = wall_number_after(a, self.wall_number);
         self.wall_version = wall_version_after(a, self.wall_version);
+        self.hv = hv_after(
+            self.hv,
+            self.anchor,
+            self.guest_khz,
+            cpu,
+            h,
+            a,
+            &self.processors,
+        );
         publish_by(&mut self.processors, self.anchor, self.guest_khz, cpu, h, a);
     }
 
@@ -126,13 +146,27 @@ impl BoardState {
                 value: self.msr_read(cpu, h, msr),
             },
             Access::Wall => self.wall_words(),
-            Access::CountsOf { from } => Value::Counts(self.devices.counts(place_of_source(from))),
+            Access::CountsOf { from } => Value::Counts(self.counts_of(from)),
             Access::Next => Value::Next(self.next_edge()),
             Access::Rose { line } => Value::Word {
                 width: 8,
                 value: count_at(&self.rises, line),
             },
             _ => Value::Nothing,
+        }
+    }
+
+    /// The counts of a source's tick line.
+    fn counts_of(&self, from: TickSource) -> Counts
+        requires { IsTrue (is_source self.now.cpus self.now.format from) }
+        ensures { result ≡ counts_of self.now.ticks self.now.apic_ticks from }
+    {
+        match from {
+            TickSource::Pit => self.devices.counts(0),
+            TickSource::Rtc => self.devices.counts(1),
+            TickSource::Hpet(timer) => self.devices.counts(timer + 2),
+            // No format that is built has this source.
+            TickSource::Apic(_) => NO_LINE.counts,
         }
     }
 
@@ -150,6 +184,12 @@ impl BoardState {
         }
         if msr == MSR_KVM_WALL_CLOCK {
             return self.wall_number;
+        }
+        if msr == MSR_HV_TIME_REF_COUNT {
+            return self.time_ns / UNIT_NS;
+        }
+        if msr == MSR_HV_REFERENCE_TSC {
+            return self.hv.number;
         }
         p.number
     }
@@ -242,18 +282,6 @@ fn act_of(a: Access) -> Act
         },
         Access::Ack { line } => Act::Ack { line },
         _ => Act::Nothing,
-    }
-}
-
-/// The place of a source's tick line.
-fn place_of_source(from: TickSource) -> u8
-    requires { IsTrue (is_source 2 from) }
-    ensures { result ≡ place_of_source from }
-{
-    match from {
-        TickSource::Pit => 0,
-        TickSource::Rtc => 1,
-        TickSource::Hpet(timer) => timer + 2,
     }
 }
 

@@ -10,9 +10,10 @@ ghost use Rattle.board_core.specs.Conditions.{IsVersion, IsJoined};
 ghost use Rattle.board_core.specs.Next.{next_of};
 ghost use Rattle.board_core.specs.PowerOn.{board_at_power_on, devices_of_setup};
 
+use crate::hv::NO_HV;
 use crate::processors::{NO_PROCESSOR, page_in};
 use board_devices::Devices;
-use board_types::{ProcessorParts, Setup, timers_of};
+use board_types::{HvParts, ProcessorParts, Setup, timers_of};
 use host_counter::Anchor;
 use irq_edges::Lines;
 use pvclock_page::Page;
@@ -39,6 +40,7 @@ pub struct BoardState {
     pub(crate) wall_nsec: u32,
     pub(crate) processors: [ProcessorParts; 64],
     pub(crate) rises: [u64; 6],
+    pub(crate) hv: HvParts,
 }
 
 impl Model for BoardState {
@@ -80,10 +82,11 @@ impl BoardState {
             wall_nsec: setup.wall_nsec,
             processors: [NO_PROCESSOR; 64],
             rises: [0; 6],
+            hv: NO_HV,
         }
     }
 
-    /// The format: 1 or 2.
+    /// The format, 1 to `LAST_FORMAT`.
     pub fn format(&self) -> u8
         ensures { result ≡ self.now.format }
     {

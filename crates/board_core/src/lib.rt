@@ -15,20 +15,26 @@
 
 mod access;
 mod acts;
+mod apics;
 mod board;
 mod clock;
+mod hv;
 mod moves;
 mod parts;
 mod processors;
 mod refusals;
 mod rises;
 
+pub use apics::NO_APIC;
 pub use board::BoardState;
 pub use board_types::{
-    Access, BoardParts, LAST_VERSION, MOST_ACCESSES, MSR_KVM_SYSTEM_TIME, MSR_KVM_WALL_CLOCK,
-    MSR_TSC, MSR_TSC_ADJUST, ProcessorParts, Ran, Refusal, Reply, SECOND_NS, SLEW_MAX_NS, Setup,
-    TickSource, Value, processors_of, timers_of,
+    APIC_FORMAT, Access, BoardParts, HV_FORMAT, HvParts, LAST_FORMAT, LAST_VERSION, MESSAGE_FORMAT,
+    MOST_ACCESSES, MSR_APIC_CURRENT, MSR_APIC_DIVIDE, MSR_APIC_INITIAL, MSR_APIC_LVT,
+    MSR_HV_REFERENCE_TSC, MSR_HV_TIME_REF_COUNT, MSR_KVM_SYSTEM_TIME, MSR_KVM_WALL_CLOCK, MSR_TSC,
+    MSR_TSC_ADJUST, MSR_TSC_DEADLINE, ProcessorParts, Ran, Refusal, Reply, SECOND_NS, SLEW_MAX_NS,
+    Setup, TickSource, Value, processors_of, timers_of,
 };
+pub use hv::{NO_HV, publishes_hv};
 pub use processors::published_by;
 
 #[cfg(test)]

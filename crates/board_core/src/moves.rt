@@ -1,7 +1,8 @@
 //! A new anchor, and a later format.
-ghost use Rattle.std.specs.Prelude.{◌≡◌, if◌then◌else◌, ◌+◌, ◌<◌, ◌≤◌, length};
+ghost use Rattle.std.specs.Prelude.{◌≡◌, if◌then◌else◌, ◌+◌, ◌<◌, ◌≤◌, [], length};
 ghost use Rattle.clk_units.specs.Ranges.{IsKhz};
 ghost use Rattle.clk_units.specs.declared.ranges.TheConstants.{RANGE_NS};
+ghost use Rattle.board_types.specs.declared.setup.TheConstants.{LAST_FORMAT};
 ghost use Rattle.board_devices.specs.Run.{run};
 ghost use Rattle.board_devices.specs.Lines.{levels};
 ghost use Rattle.board_devices.specs.Parts.{devices_upgraded};
@@ -14,7 +15,7 @@ use crate::rises::count_rises_where;
 use board_devices::Devices;
 use board_types::Ran;
 use host_counter::Anchor;
-use irq_edges::EdgeList;
+use irq_edges::{BurstList, EdgeList};
 
 impl BoardState {
     /// Runs `gap` nanoseconds, and then gives the new time to count `start` of a host's counter of `khz`, 100,000 to
@@ -25,6 +26,7 @@ impl BoardState {
         requires range { now_of self.old + gap < RANGE_NS }
         ensures state { self.new ≡ reanchored khz start gap self.old }
         ensures edges { result.edges ≡ (run (now_of self.old) gap (devices_in self.old)).edges }
+        ensures bursts { result.bursts ≡ [] }
         ensures few { length result.edges ≤ 6 }
     {
         let from = self.time_ns;
@@ -38,7 +40,10 @@ impl BoardState {
         self.host = start;
         self.time_ns = from + gap;
         count_rises_where(came, &mut self.rises, self.format, &edges, 0);
-        Ran { edges }
+        Ran {
+            edges,
+            bursts: BurstList::new(),
+        }
     }
 
     /// The board in a later format, or the same. From format 1 to 2 it gets five timers, which are as at power on,
@@ -46,7 +51,7 @@ impl BoardState {
     #[tactic(auto, unfolding(crate::specs::Upgrade::upgraded_to))]
     pub fn upgraded(&self, to: u8) -> BoardState
         requires later { self.now.format ≤ to }
-        requires built { to ≤ 2 }
+        requires built { to ≤ LAST_FORMAT }
         ensures state { result ≡ upgraded_to to self.now }
         ensures lines { levels (devices_in result) ≡ levels (devices_in self.now) }
     {

@@ -10,6 +10,7 @@ ghost use Rattle.std.specs.Prelude.{
   IsTrue,
   IsSome,
   IfSome,
+  replicate,
   slice_index_or,
 };
 ghost use Rattle.std.specs.Option.{SomeIff};
@@ -21,6 +22,7 @@ ghost use Rattle.board_devices.specs.Lines.{levels};
 ghost use Rattle.board_devices.specs.Places.{no_line};
 ghost use Rattle.board_core.specs.Time.{HasTime, devices_in};
 ghost use Rattle.board_core.specs.Tsc.{no_processor};
+ghost use Rattle.board_core.specs.Apics.{no_apic};
 ghost use Rattle.board_core.specs.Conditions.{
   IsFormat,
   AreRates,
@@ -33,10 +35,14 @@ ghost use Rattle.board_core.specs.Conditions.{
 };
 ghost use Rattle.board_core.specs.private.Places.{IsPlace, IsCount};
 
+use crate::apics::{NO_APIC, NO_LINE, are_apics};
 use crate::board::BoardState;
+use crate::hv::is_hv;
 use crate::processors::NO_PROCESSOR;
 use board_devices::{DeviceParts, Devices};
-use board_types::{BoardParts, MOST_ACCESSES, ProcessorParts, SECOND_NS, processors_of, timers_of};
+use board_types::{
+    BoardParts, LAST_FORMAT, MOST_ACCESSES, ProcessorParts, SECOND_NS, processors_of, timers_of,
+};
 use clk_units::{KHZ_MAX, KHZ_MIN, RANGE_NS};
 use host_counter::Anchor;
 use irq_edges::Lines;
@@ -72,6 +78,9 @@ impl BoardState {
             wall_nsec: self.wall_nsec,
             processors,
             rises,
+            apic: [NO_APIC; 64],
+            apic_ticks: [NO_LINE; 64],
+            hv: self.hv,
         }
     }
 
@@ -101,6 +110,7 @@ impl BoardState {
                 wall_nsec: parts.wall_nsec,
                 processors,
                 rises,
+                hv: parts.hv,
             })
         } else {
             None
@@ -158,7 +168,7 @@ fn is_format(format: u8, cpus: u8, timers: u8) -> bool
     ensures { IsTrue result ↔ IsFormat format cpus timers }
 {
     1 <= format
-        && format <= 2
+        && format <= LAST_FORMAT
         && 1 <= cpus
         && cpus <= processors_of(format)
         && timers == timers_of(format)
@@ -253,7 +263,9 @@ fn are_joined(parts: &BoardParts, time_ns: u64, lines: &Lines) -> bool
     requires time { HasTime parts.now.anchor parts.now.host }
     requires time_ns { time_ns ≡ time_at parts.now.anchor parts.now.host }
     requires lines { lines.now.levels ≡ levels (devices_in parts.now) }
-    ensures { IsTrue result ↔ IsJoined parts.now }
+    ensures valid { IsTrue result ↔ IsJoined parts.now }
+    ensures timers { IsTrue result → parts.now.apic ≡ replicate 64 no_apic }
+    ensures lines { IsTrue result → parts.now.apic_ticks ≡ replicate 64 no_line }
 {
     parts.accesses <= MOST_ACCESSES
         && is_format(parts.format, parts.cpus, parts.hpet.timers)
@@ -261,4 +273,6 @@ fn are_joined(parts: &BoardParts, time_ns: u64, lines: &Lines) -> bool
         && is_wall(parts.wall_number, parts.wall_version, parts.wall_nsec)
         && are_processors(&parts.processors, parts.cpus, parts.guest_khz)
         && are_rises(parts.format, parts.accesses, lines, &parts.rises)
+        && are_apics(parts.format, &parts.apic, &parts.apic_ticks)
+        && is_hv(&parts.hv, parts.format, parts.guest_khz, parts.cpus)
 }

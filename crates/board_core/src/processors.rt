@@ -89,7 +89,7 @@ pub(crate) fn tsc_read(p: &ProcessorParts, anchor: Anchor, guest_khz: u64, h: u6
 }
 
 /// The time at a count that has one.
-fn time_of(anchor: Anchor, h: u64) -> u64
+pub(crate) fn time_of(anchor: Anchor, h: u64) -> u64
     requires rate { IsKhz anchor.khz }
     requires time { HasTime anchor h }
     ensures { result ≡ time_at anchor h }

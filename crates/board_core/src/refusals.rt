@@ -26,6 +26,7 @@ ghost use Rattle.board_core.specs.Refusals.{version_at, raised_version, spent_ve
 
 use crate::acts::publishes;
 use crate::board::BoardState;
+use crate::hv::publishes_hv;
 use crate::processors::published_by;
 use board_types::{
     Access, LAST_VERSION, MOST_ACCESSES, MSR_KVM_WALL_CLOCK, ProcessorParts, Refusal,
@@ -52,7 +53,7 @@ impl BoardState {
             Err(TimeFault::OutOfRange { ns }) => return Err(Refusal::OutOfRange { ns }),
             Ok(to) => to,
         };
-        let version = raised_version(&self.processors, self.wall_version, cpu, a);
+        let version = raised_version(&self.processors, self.wall_version, self.hv.version, cpu, a);
         match spent_version(version, self.spent()) {
             Some(refusal) => Err(refusal),
             None => Ok(to),
@@ -153,17 +154,20 @@ fn version_at(page: Option<u8>, processors: &[ProcessorParts; 64]) -> Option<u32
 fn raised_version(
     processors: &[ProcessorParts; 64],
     wall_version: u32,
+    hv_version: u32,
     cpu: u8,
     a: Access,
 ) -> Option<u32>
     requires { IfSome (published_by cpu a) (λ k. k < 64) }
-    ensures { result ≡ raised_version processors.now wall_version cpu a }
+    ensures { result ≡ raised_version processors.now wall_version hv_version cpu a }
 {
     if !publishes(a) {
         return None;
     }
     if publishes_wall(a) {
         Some(wall_version)
+    } else if publishes_hv(a) {
+        Some(hv_version)
     } else {
         version_at(published_by(cpu, a), processors)
     }

@@ -1,5 +1,5 @@
 -- Rows on the definitions: each rule of a nanosecond, of the lines and of an access, at one state shortly before it.
-use Rattle.std.proofs.Common.{◌≡◌, ℕ, true, false, refl, [], ◌∷◌, List}
+use Rattle.std.proofs.Common.{◌≡◌, ℕ, ◌+◌, ◌*◌, true, false, refl, [], ◌∷◌, List}
 use Rattle.std.specs.Prelude.{replicate}
 use Rattle.clk_units.specs.Pulses.{falls_at, pulses_by}
 use Rattle.pit_counter.specs.declared.parts.CounterParts.{CounterParts}
@@ -9,6 +9,7 @@ use Rattle.pit_counter.specs.Table.{effect_in, pulsed, rises_next}
 use Rattle.pit_counter.specs.Programming.{programmed, counter_at_power_on}
 use Rattle.pit_readback.specs.declared.parts.PitParts.{PitParts}
 use Rattle.pit_readback.specs.Pit.{pit_pulsed}
+use Rattle.pit_readback.specs.Ports.{port_written, written_43, commanded}
 use Rattle.rtc_cycle.specs.Divider.{ticks_next, updates_next, pulsed as divider_pulsed}
 use Rattle.rtc_calendar.specs.declared.TimeBytes.{TimeBytes}
 use Rattle.rtc_registers.specs.declared.parts.RtcParts.{RtcParts}
@@ -16,6 +17,7 @@ use Rattle.rtc_registers.specs.Registers.{with_time, pf_of}
 use Rattle.rtc_registers.specs.Parts.{rtc_at_power_on}
 use Rattle.rtc_registers.specs.Access.{after_rtc_read, flagged}
 use Rattle.rtc_registers.specs.Pulses.{alarms_next, moved, rtc_pulsed}
+use Rattle.hpet_comparator.specs.declared.parts.TimerParts.{TimerParts}
 use Rattle.hpet_comparator.specs.Stretch.{matches_at, pulsed as timer_pulsed}
 use Rattle.hpet_registers.specs.declared.parts.HpetParts.{HpetParts}
 use Rattle.hpet_registers.specs.Parts.{no_timer, no_bits, no_words}
@@ -24,12 +26,12 @@ use Rattle.tick_policy.specs.declared.parts.TickParts.{TickParts}
 use Rattle.tick_policy.specs.declared.parts.Policy.{Policy}
 use Rattle.tick_policy.specs.declared.parts.Policy.TheVariants.{Discard, Delay, Slew}
 use Rattle.board_devices.specs.declared.parts.DeviceParts.{DeviceParts}
-use Rattle.board_devices.specs.declared.act.Act.TheVariants.{Ack, ClockRead}
+use Rattle.board_devices.specs.declared.act.Act.TheVariants.{Ack, ClockRead, IndexRead, PitWrite}
 use Rattle.board_devices.specs.Places.{line_at, no_line}
 use Rattle.board_devices.specs.Nanosecond.{pit_pulse, rtc_pulse, hpet_pulse, catch_up_point, at_nanosecond}
 use Rattle.board_devices.specs.Lines.{levels}
 use Rattle.board_devices.specs.Run.{onward, run}
-use Rattle.board_devices.specs.Act.{acted, first_part, act_edges}
+use Rattle.board_devices.specs.Act.{acted, first_part, act_edges, value_of}
 use Rattle.board_devices.specs.Parts.{devices_at_power_on, devices_upgraded}
 
 -- a line with q ticks that wait, and one that is up with them
@@ -206,3 +208,155 @@ power_on_levels pit rtc hpet slew time = refl
 upgraded_line : line_at 5 (devices_upgraded start) ≡ line Delay 0
 unfolding start line rtc hpet lines pit counter devices_upgraded
 upgraded_line = refl
+
+-- Legacy replacement, acknowledgements of other lines, timers that drive a line, and lines that a catch-up point shows.
+
+-- a line of which one tick waited and is shown
+caught_up : TickParts
+caught_up = record { policy = Slew; up = true; counts = record { due = 1; rises = 1; queue = 0; lost = 0 } }
+
+-- a line that had one tick, which is shown
+ticked : TickParts
+ticked = record { policy = Delay; up = true; counts = record { due = 1; rises = 1; queue = 0; lost = 0 } }
+
+-- a timer of edge type with its interrupt enabled, and one of level type, on an input
+edge_timer : ℕ → TimerParts
+edge_timer route = record { config = 512 * route + 4; comparator = 0; period = 0 }
+
+level_timer : ℕ → TimerParts
+level_timer route = record { config = 512 * route + 6; comparator = 0; period = 0 }
+
+-- an HPET with this configuration and these first timers and last timer
+timers : ℕ → TimerParts → TimerParts → TimerParts → HpetParts
+timers config t0 t1 t7 = record {
+  config = config;
+  status = 0;
+  counter = 9;
+  timer = t0 ∷ t1 ∷ no_timer ∷ no_timer ∷ no_timer ∷ no_timer ∷ no_timer ∷ t7 ∷ [];
+  timers = 8;
+  messages = false;
+  message_bit = no_bits;
+  message_word = no_words;
+}
+
+-- the devices with timers 0 and 1 of edge type on lines 20 and 21, their lines up, and this configuration
+edges : ℕ → DeviceParts
+edges config = record start {
+  hpet = timers config (edge_timer 20) (edge_timer 21) no_timer;
+  ticks = line Delay 0 ∷ line Delay 0 ∷ shown Delay 0 ∷ shown Delay 0 ∷ no_line ∷ no_line ∷ no_line ∷ no_line ∷ no_line ∷ no_line ∷ [];
+}
+
+-- a periodic event of the MC146818 under legacy replacement sets PF, and is no tick
+legacy_rtc_tick : line_at 1 (at_nanosecond 30518 (record start { hpet = hpet 3 0 9 })) ≡ line Slew 1
+unfolding start line rtc hpet lines pit counter at_nanosecond pit_pulse rtc_pulse hpet_pulse catch_up_point falls_at pulses_by rtc_pulsed ticks_next
+    updates_next divider_pulsed alarms_next moved with_time flagged
+legacy_rtc_tick = refl
+
+legacy_rtc_flag : pf_of (at_nanosecond 30518 (record start { hpet = hpet 3 0 9 })).rtc ≡ true
+unfolding start line rtc hpet lines pit counter at_nanosecond pit_pulse rtc_pulse hpet_pulse catch_up_point falls_at pulses_by rtc_pulsed ticks_next
+    updates_next divider_pulsed alarms_next moved with_time flagged
+legacy_rtc_flag = refl
+
+-- a write that makes OUT 0 rise is a tick of the 8254, but not under legacy replacement
+write_tick : line_at 0 (acted (PitWrite 0x43 0x34) (record start { pit = pit (record counter { out = false }) })) ≡ ticked
+unfolding start line ticked rtc hpet lines pit counter acted port_written written_43 commanded programmed mode_of is_bcd
+write_tick = refl
+
+legacy_write_tick : line_at 0 (acted (PitWrite 0x43 0x34) (record start { pit = pit (record counter { out = false }); hpet = hpet 3 0 9 })) ≡ line Delay 0
+unfolding start line rtc hpet lines pit counter acted port_written written_43 commanded programmed mode_of is_bcd
+legacy_write_tick = refl
+
+-- a catch-up point shows a waiting tick of an HPET timer, and one of the 8254, under legacy replacement too
+hpet_caught_up : line_at 2 (at_nanosecond 35 (record start { ticks = lines (line Delay 0) (line Slew 0) (line Slew 1) })) ≡ caught_up
+unfolding start line caught_up rtc hpet lines pit counter at_nanosecond pit_pulse rtc_pulse hpet_pulse catch_up_point falls_at pulses_by flagged
+hpet_caught_up = refl
+
+legacy_pit_caught_up : line_at 0 (at_nanosecond 35 (record start { hpet = hpet 3 0 9; ticks = lines (line Slew 1) (line Slew 0) (line Delay 0) })) ≡ caught_up
+unfolding start line caught_up rtc hpet lines pit counter at_nanosecond pit_pulse rtc_pulse hpet_pulse catch_up_point falls_at pulses_by flagged
+legacy_pit_caught_up = refl
+
+-- .. but none of the MC146818, whose ticks aren't counted then
+legacy_rtc_not_caught_up : line_at 1 (at_nanosecond 35 (record start { hpet = hpet 3 0 9 })) ≡ line Slew 1
+unfolding start line rtc hpet lines pit counter at_nanosecond pit_pulse rtc_pulse hpet_pulse catch_up_point falls_at pulses_by flagged
+legacy_rtc_not_caught_up = refl
+
+-- under legacy replacement an acknowledgement of line 8 reaches timer 1, and one of its own input doesn't
+legacy_ack_8 : line_at 3 (acted (Ack 8) (edges 3)) ≡ line Delay 0
+unfolding start line shown edges timers edge_timer rtc pit counter acted
+legacy_ack_8 = refl
+
+legacy_ack_0 : line_at 2 (acted (Ack 0) (edges 3)) ≡ line Delay 0
+unfolding start line shown edges timers edge_timer rtc pit counter acted
+legacy_ack_0 = refl
+
+legacy_ack_21 : line_at 3 (acted (Ack 21) (edges 3)) ≡ shown Delay 0
+unfolding start line shown edges timers edge_timer rtc pit counter acted
+legacy_ack_21 = refl
+
+-- without it, it is the other way round; and a timer on another input stays up
+plain_ack_8 : line_at 3 (acted (Ack 8) (edges 1)) ≡ shown Delay 0
+unfolding start line shown edges timers edge_timer rtc pit counter acted
+plain_ack_8 = refl
+
+plain_ack_21 : line_at 3 (acted (Ack 21) (edges 1)) ≡ line Delay 0
+unfolding start line shown edges timers edge_timer rtc pit counter acted
+plain_ack_21 = refl
+
+ack_of_another_line : line_at 2 (acted (Ack 21) (edges 1)) ≡ shown Delay 0
+unfolding start line shown edges timers edge_timer rtc pit counter acted
+ack_of_another_line = refl
+
+-- .. nor is a timer reached that isn't there
+ack_of_no_timer : line_at 5 (acted (Ack 0) (record start { ticks = line Delay 0 ∷ line Delay 0 ∷ line Delay 0 ∷ line Delay 0 ∷ line Delay 0 ∷ shown Delay 0 ∷ [] }))
+    ≡ shown Delay 0
+unfolding start line shown hpet rtc pit counter acted
+ack_of_no_timer = refl
+
+-- a read of register C acknowledges the line of the MC146818 alone
+read_c_leaves_the_8254 : line_at 0 (acted ClockRead (record start { rtc = rtc 66 64; ticks = lines (shown Delay 0) (shown Delay 0) (shown Delay 0) }))
+    ≡ shown Delay 0
+unfolding start line shown hpet lines rtc pit counter acted after_rtc_read flagged
+read_c_leaves_the_8254 = refl
+
+read_c_leaves_the_hpet : line_at 2 (acted ClockRead (record start { rtc = rtc 66 64; ticks = lines (shown Delay 0) (shown Delay 0) (shown Delay 0) }))
+    ≡ shown Delay 0
+unfolding start line shown hpet lines rtc pit counter acted after_rtc_read flagged
+read_c_leaves_the_hpet = refl
+
+-- timer 2 drives its own input under legacy replacement too, and is acknowledged there
+timer_2 : DeviceParts
+timer_2 = record start {
+  hpet = record (hpet 3 0 9) { timer = no_timer ∷ no_timer ∷ edge_timer 20 ∷ no_timer ∷ no_timer ∷ no_timer ∷ no_timer ∷ no_timer ∷ [] };
+  ticks = line Delay 0 ∷ line Delay 0 ∷ line Delay 0 ∷ line Delay 0 ∷ shown Delay 0 ∷ no_line ∷ no_line ∷ no_line ∷ no_line ∷ no_line ∷ [];
+}
+
+legacy_timer_2 : levels timer_2 ≡ false ∷ false ∷ true ∷ false ∷ false ∷ false ∷ []
+unfolding timer_2 edge_timer start line shown hpet rtc pit counter levels
+legacy_timer_2 = refl
+
+legacy_ack_20 : line_at 4 (acted (Ack 20) timer_2) ≡ line Delay 0
+unfolding timer_2 edge_timer start line shown hpet rtc pit counter acted
+legacy_ack_20 = refl
+
+-- timer 7 drives the line to which it is routed
+timer_7_drives : levels (record start {
+  hpet = timers 1 no_timer no_timer (edge_timer 23);
+  ticks = line Delay 0 ∷ line Delay 0 ∷ no_line ∷ no_line ∷ no_line ∷ no_line ∷ no_line ∷ no_line ∷ no_line ∷ shown Delay 0 ∷ [];
+})
+    ≡ false ∷ false ∷ false ∷ false ∷ false ∷ true ∷ []
+unfolding start line shown timers edge_timer rtc pit counter levels
+timer_7_drives = refl
+
+-- the output of a level timer is its status bit: a tick line that is still up since it was of edge type shows nothing
+level_timer_with_a_tick : levels (record start {
+  hpet = timers 1 (level_timer 20) no_timer no_timer;
+  ticks = line Delay 0 ∷ line Delay 0 ∷ shown Delay 0 ∷ no_line ∷ no_line ∷ no_line ∷ no_line ∷ no_line ∷ no_line ∷ no_line ∷ [];
+})
+    ≡ false ∷ false ∷ false ∷ false ∷ false ∷ false ∷ []
+unfolding start line shown timers level_timer rtc pit counter levels
+level_timer_with_a_tick = refl
+
+-- port 70h reads FFh, whatever index was written
+index_reads_ff : value_of 5 IndexRead start ≡ 0xff
+unfolding value_of
+index_reads_ff = refl

@@ -23,7 +23,12 @@ use Rattle.std.proofs.Common.{
   Some,
   eq-eqb,
   ne_eqb,
+  ◌<◌,
+  true≢false,
+  eqb,
 }
+use Rattle.pvclock_page.specs.declared.page.Page.{Page}
+use Rattle.hv_page.specs.Words.{of_page}
 use Rattle.std.proofs.lemmas.Bool.{eqb-true}
 use mathlib.Core.List.{IsPrefix}
 use Rattle.std.proofs.Common.{zero, suc, get_or, replicate}
@@ -31,7 +36,7 @@ use Rattle.board_types.specs.declared.parts.BoardParts.{BoardParts}
 use Rattle.board_types.specs.declared.parts.ProcessorParts.{ProcessorParts}
 use Rattle.board_core.specs.Tsc.{no_processor}
 use Rattle.board_core.proofs.Laws.{after_access-kept_greatest}
-use Rattle.board_history.specs.Machine.{machine_of, page_at, no_board}
+use Rattle.board_history.specs.Machine.{machine_of, page_at, page_if, no_board}
 use Rattle.board_history.specs.History.{
   pass_of,
   after_entry,
@@ -42,13 +47,15 @@ use Rattle.board_history.specs.History.{
   is_of,
   entries_of,
   last_of,
+  read_if,
+  read_of,
   May,
   LegalFrom,
   IsLegal,
 }
 use Rattle.board_history.specs.private.Steady.{IsSteady}
 use Rattle.board_history.specs.declared.entry.Entry.{Entry}
-use Rattle.board_history.specs.declared.entry.Entry.TheVariants.{Opened, Board, PageRead, Clamp}
+use Rattle.board_history.specs.declared.entry.Entry.TheVariants.{Opened, Board, PageRead, HvRead, Clamp}
 use Rattle.board_history.proofs.Pages.{machine_of-access, version-access, access-steady}
 
 pub board_from-++ : (b : BoardParts) (xs ys : List Entry) → board_from b (xs ++ ys) ≡ board_from (board_from b xs) ys
@@ -67,7 +74,11 @@ get_or-replicate (suc n) (suc c) = get_or-replicate n c
 
 pub no_board-version : (c : ℕ) → version_after [] c ≡ 0
 unfolding no_board
-no_board-version c = ap (λ (p : ProcessorParts). p.version) (get_or-replicate 64 c)
+no_board-version c = by (eqb c 0)
+  where
+    by : (t : Bool) → (page_if t no_board c).version ≡ 0
+    by true = refl
+    by false = ap (λ (p : ProcessorParts). p.version) (get_or-replicate 64 c)
 
 -- legality of one entry more, and of the rest behind a front
 pub LegalFrom-snoc : (before xs : List Entry) (e : Entry) → LegalFrom before xs → May (before ++ xs) e → LegalFrom before (xs ++ e ∷ [])
@@ -90,6 +101,7 @@ pub version-entry : (before : List Entry) (e : Entry) (c : ℕ) → May before e
 version-entry before (Opened s) c may = absurd may
 version-entry before (Board pass cpu h access reply) c may = version-access (board_after before) cpu h c access
 version-entry before (PageRead pass cpu h page locked) c may = omega arith
+version-entry before (HvRead pass h page locked) c may = omega arith
 version-entry before (Clamp pass cpu reading clock) c may = omega arith
 
 pub greatest-entry : (before : List Entry) (e : Entry) → May before e → floor_after before ≤ (after_entry (board_after before) e).greatest
@@ -97,6 +109,7 @@ greatest-entry before (Opened s) may = absurd may
 greatest-entry before (Board pass cpu h access reply) may =
     let e = after_access-kept_greatest (board_after before) cpu h access in omega arith
 greatest-entry before (PageRead pass cpu h page locked) may = omega arith
+greatest-entry before (HvRead pass h page locked) may = omega arith
 greatest-entry before (Clamp pass cpu reading clock) may = let e = may.1 in omega arith
 
 pub steady-entry : (before : List Entry) (e : Entry) → IsSteady (board_after before) → May before e → IsSteady (after_entry (board_after before) e)
@@ -104,6 +117,7 @@ steady-entry before (Opened s) was may = absurd may
 steady-entry before (Board pass cpu h access reply) was may =
     access-steady (board_after before) cpu h access was may.cpu_below may.legal may.taken
 steady-entry before (PageRead pass cpu h page locked) was may = was
+steady-entry before (HvRead pass h page locked) was may = was
 steady-entry before (Clamp pass cpu reading clock) was may =
     record { places = was.places; rate = was.rate; pages = was.pages; count = was.count }
 
@@ -112,6 +126,7 @@ pub machine-entry : (before : List Entry) (e : Entry) → May before e
 machine-entry before (Opened s) may = absurd may
 machine-entry before (Board pass cpu h access reply) may = machine_of-access (board_after before) cpu h access
 machine-entry before (PageRead pass cpu h page locked) may = refl
+machine-entry before (HvRead pass h page locked) may = refl
 machine-entry before (Clamp pass cpu reading clock) may = refl
 
 -- and what a list of them does
@@ -145,6 +160,7 @@ pub IsLegal-rest : (xs ys : List Entry) (x : Entry) → IsLegal (x ∷ xs ++ ys)
 IsLegal-rest xs ys (Opened s) l = LegalFrom-rest (Opened s ∷ []) xs ys l
 IsLegal-rest xs ys (Board pass cpu h access reply) l = absurd l
 IsLegal-rest xs ys (PageRead pass cpu h page locked) l = absurd l
+IsLegal-rest xs ys (HvRead pass h page locked) l = absurd l
 IsLegal-rest xs ys (Clamp pass cpu reading clock) l = absurd l
 
 -- what any front of a legal history tells: versions and the greatest reading never fall
@@ -181,12 +197,14 @@ pub is_of-pass : (e : Entry) (p : ℕ) → pass_of e ≡ Some p → is_of p e �
 is_of-pass (Opened s) p is = absurd (cc is)
 is_of-pass (Board pass cpu h access reply) p is = let same : pass ≡ p = cc is in eq-eqb pass p same
 is_of-pass (PageRead pass cpu h page locked) p is = let same : pass ≡ p = cc is in eq-eqb pass p same
+is_of-pass (HvRead pass h page locked) p is = let same : pass ≡ p = cc is in eq-eqb pass p same
 is_of-pass (Clamp pass cpu reading clock) p is = let same : pass ≡ p = cc is in eq-eqb pass p same
 
 is_of-else : (e : Entry) (p n : ℕ) → is_of p e ≡ true → n ≢ p → is_of n e ≡ false
 is_of-else (Opened s) p n is ne = refl
 is_of-else (Board pass cpu h access reply) p n is ne = ne_eqb pass n (λ e. ne (sym e ∙ eqb-true pass p is))
 is_of-else (PageRead pass cpu h page locked) p n is ne = ne_eqb pass n (λ e. ne (sym e ∙ eqb-true pass p is))
+is_of-else (HvRead pass h page locked) p n is ne = ne_eqb pass n (λ e. ne (sym e ∙ eqb-true pass p is))
 is_of-else (Clamp pass cpu reading clock) p n is ne = ne_eqb pass n (λ e. ne (sym e ∙ eqb-true pass p is))
 
 pub entries_of-own : (e : Entry) (p : ℕ) → is_of p e ≡ true → entries_of p (e ∷ []) ≡ e ∷ []
@@ -194,6 +212,36 @@ entries_of-own e p is = ap (λ (b : Bool). if b then (e ∷ []) else []) is
 
 pub entries_of-else : (e : Entry) (p n : ℕ) → is_of p e ≡ true → n ≢ p → entries_of n (e ∷ []) ≡ []
 entries_of-else e p n is ne = ap (λ (b : Bool). if b then (e ∷ []) else []) (is_of-else e p n is ne)
+
+-- the entry of a read of a page: its number, what it leaves, and where it may come
+pub read_of-number : (cpus pass c h n : ℕ) (page : Page) (locked : Bool) → is_of n (read_of cpus pass c h page locked) ≡ (eqb pass n)
+read_of-number cpus pass c h n page locked = by (eqb c cpus)
+  where
+    by : (b : Bool) → is_of n (read_if b pass c h page locked) ≡ eqb pass n
+    by true = refl
+    by false = refl
+
+pub read_of-leaves : (b : BoardParts) (cpus pass c h : ℕ) (page : Page) (locked : Bool) → after_entry b (read_of cpus pass c h page locked) ≡ b
+read_of-leaves b cpus pass c h page locked = by (eqb c cpus)
+  where
+    by : (t : Bool) → after_entry b (read_if t pass c h page locked) ≡ b
+    by true = refl
+    by false = refl
+
+pub read_of-may : (before : List Entry) (cpus pass c h : ℕ) (page : Page) (locked : Bool) → (board_after before).cpus ≡ cpus → c ≤ cpus
+    → page_at (board_after before) c ≡ page → May before (read_of cpus pass c h page locked)
+read_of-may before cpus pass c h page locked same small is = by (eqb c cpus) refl
+  where
+    by : (t : Bool) → eqb c cpus ≡ t → May before (read_if t pass c h page locked)
+    by true e = ap of_page (sym (ap (λ (u : Bool). page_if u (board_after before) c) (eq-eqb c (board_after before).cpus (eqb-true c cpus e ∙ sym same))) ∙ is)
+    by false e = ((let ne : c ≢ cpus = λ z. true≢false (sym (eq-eqb c cpus z) ∙ e) in omega (arith, ne)), is)
+
+-- the page of a processor is not the reference page
+pub read_of-page : (cpus pass c h : ℕ) (page : Page) (locked : Bool) → c < cpus → read_of cpus pass c h page locked ≡ PageRead pass c h page locked
+read_of-page cpus pass c h page locked small = ap (λ (t : Bool). read_if t pass c h page locked) (ne_eqb c cpus (λ e. omega arith))
+
+pub read_of-hv : (cpus pass h : ℕ) (page : Page) (locked : Bool) → read_of cpus pass cpus h page locked ≡ HvRead pass h (of_page page) locked
+read_of-hv cpus pass h page locked = ap (λ (t : Bool). read_if t pass cpus h page locked) (eq-eqb cpus cpus refl)
 
 pub last_of-snoc : (xs : List Entry) (e : Entry) → last_of (xs ++ e ∷ []) ≡ Some e
 last_of-snoc [] e = refl

@@ -13,6 +13,7 @@ use Rattle.board_types.specs.declared.reply.Refusal.TheVariants.{BeforeStart, Ou
 use Rattle.board_core.specs.Tsc.{no_processor}
 use Rattle.board_core.specs.Pages.{published_by}
 use Rattle.board_core.specs.Wall.{publishes_wall}
+use Rattle.board_core.specs.Hv.{publishes_hv}
 use Rattle.board_core.specs.Refusals.{version_at, raised_version, spent_version, refusal_of}
 use Rattle.board_history.specs.Counts.{HasNoTime, IsAtLastVersion, SameCounts}
 
@@ -34,15 +35,21 @@ version_of : (o : Option ℕ) (ps : List ProcessorParts) (n : ℕ) → version_a
 version_of None ps n e = absurd (cc e)
 version_of (Some k) ps n e = (k, refl, cc e)
 
-raised_at : (b : BoardParts) (cpu n : ℕ) (a : Access) → raised_version b.processors b.wall_version cpu a ≡ Some n → LAST_VERSION ≤ n
+raised_at : (b : BoardParts) (cpu n : ℕ) (a : Access) → raised_version b.processors b.wall_version b.hv.version cpu a ≡ Some n → LAST_VERSION ≤ n
     → IsAtLastVersion b cpu a
 raised_at b cpu n a is last = by (publishes_wall a) refl is
   where
-    by : (w : Bool) → publishes_wall a ≡ w → cond w (Some b.wall_version) (version_at (published_by cpu a) b.processors) ≡ Some n
+    by_hv : (v : Bool) → publishes_hv a ≡ v → cond v (Some b.hv.version) (version_at (published_by cpu a) b.processors) ≡ Some n
+        → IsAtLastVersion b cpu a
+    by_hv true v e = inr (inr (v, (let same : b.hv.version ≡ n = cc e in omega arith)))
+    by_hv false v e = let t = version_of (published_by cpu a) b.processors n e in
+        inr (inl (t.0, t.1, (let same = t.2 in omega arith)))
+
+    by : (w : Bool) → publishes_wall a ≡ w
+        → cond w (Some b.wall_version) (cond (publishes_hv a) (Some b.hv.version) (version_at (published_by cpu a) b.processors)) ≡ Some n
         → IsAtLastVersion b cpu a
     by true w e = inl (w, (let same : b.wall_version ≡ n = cc e in omega arith))
-    by false w e = let t = version_of (published_by cpu a) b.processors n e in
-        inr (t.0, t.1, (let same = t.2 in omega arith))
+    by false w e = by_hv (publishes_hv a) refl e
 
 -- the causes of a refusal: the time, a version, the number of accesses
 pub refused_why : (b : BoardParts) (cpu h : ℕ) (a : Access) (f : Refusal) → refusal_of b cpu h a ≡ Some f
@@ -52,7 +59,7 @@ refused_why b cpu h a f is = elim (this_or_rest (ltb h b.anchor.start) (BeforeSt
   | inl before ↦ inl (inl (ltb-true h b.anchor.start before))
   | inr rest ↦ elim (this_or_rest (leb RANGE_NS (time_at b.anchor h)) (OutOfRange (time_at b.anchor h)) f _ rest) [
     | inl past ↦ inl (inr (leb-true RANGE_NS (time_at b.anchor h) past))
-    | inr more ↦ elim (version_or_rest (raised_version b.processors b.wall_version cpu a) f _ more) [
+    | inr more ↦ elim (version_or_rest (raised_version b.processors b.wall_version b.hv.version cpu a) f _ more) [
       | inl last ↦ inr (inl (raised_at b cpu last.0 a last.1 last.2))
       | inr spent ↦ elim (this_or_rest (leb MOST_ACCESSES b.accesses) (Spent b.accesses) f None spent) [
         | inl all ↦ inr (inr (leb-true MOST_ACCESSES b.accesses all))
@@ -70,7 +77,7 @@ refusal_by anchor h v accesses =
     (spent_version v (cond (leb MOST_ACCESSES accesses) (Some (Spent accesses)) None)))
 
 refusal_of-by : (b : BoardParts) (cpu h : ℕ) (a : Access)
-    → refusal_of b cpu h a ≡ refusal_by b.anchor h (raised_version b.processors b.wall_version cpu a) b.accesses
+    → refusal_of b cpu h a ≡ refusal_by b.anchor h (raised_version b.processors b.wall_version b.hv.version cpu a) b.accesses
 unfolding refusal_of refusal_by
 refusal_of-by b cpu h a = refl
 
@@ -81,7 +88,8 @@ same_version_at (Some k) ps qs same = ap (λ (n : ℕ). Some n) (same k)
 
 pub same_refusal : (b c : BoardParts) (cpu h : ℕ) (a : Access) → SameCounts b c → refusal_of b cpu h a ≡ refusal_of c cpu h a
 same_refusal b c cpu h a same =
-    let raised : raised_version b.processors b.wall_version cpu a ≡ raised_version c.processors c.wall_version cpu a =
-    λ i. cond (publishes_wall a) (Some (same.wall i)) (same_version_at (published_by cpu a) b.processors c.processors same.pages i) in
+    let raised : raised_version b.processors b.wall_version b.hv.version cpu a ≡ raised_version c.processors c.wall_version c.hv.version cpu a =
+    λ i. cond (publishes_wall a) (Some (same.wall i))
+    (cond (publishes_hv a) (Some (same.hv i)) (same_version_at (published_by cpu a) b.processors c.processors same.pages i)) in
     refusal_of-by b cpu h a
     ∙ ((λ i. refusal_by (same.machine i).anchor h (raised i) (same.accesses i)) ∙ sym (refusal_of-by c cpu h a))

@@ -1,14 +1,19 @@
 -- Rows of the definitions, each by computation.
-use Rattle.std.proofs.Common.{◌≡◌, [], ◌∷◌, true, false, Some, pos, refl}
+use Rattle.std.proofs.Common.{◌≡◌, [], ◌∷◌, true, false, Some, None, pos, refl}
 use Rattle.tsc_scale.specs.Offset.{tsc_by}
 use Rattle.pvclock_page.specs.Reading.{reading_of}
 use Rattle.pvclock_page.specs.declared.page.Page.{Page}
 use Rattle.pvclock_page.specs.declared.page.PageReply.TheVariants.{Off, On}
 use Rattle.board_types.specs.declared.parts.BoardParts.{BoardParts}
 use Rattle.board_core.specs.Pages.{with_greatest}
-use Rattle.board_history.specs.Machine.{answer_by}
-use Rattle.board_history.specs.History.{after_entry, entries_of, last_of, IsLegal}
-use Rattle.board_history.specs.declared.entry.Entry.TheVariants.{Opened, PageRead, Clamp}
+use Rattle.hv_page.specs.declared.page.HvPage.{HvPage}
+use Rattle.hv_page.specs.declared.page.HvReply.TheVariants.{Off as HvOff, On as HvOn}
+use Rattle.hv_page.specs.Time.{units_of, reference_time}
+use Rattle.hv_page.specs.Words.{of_page}
+use Rattle.board_types.specs.declared.access.Access.TheVariants.{MsrWrite, Refresh, Step}
+use Rattle.board_history.specs.Machine.{answer_by, hv_answer_by, page_published}
+use Rattle.board_history.specs.History.{after_entry, entries_of, last_of, read_of, IsLegal}
+use Rattle.board_history.specs.declared.entry.Entry.TheVariants.{Opened, PageRead, HvRead, Clamp}
 
 -- the page of a guest of 2 GHz that was published at time 0, on a host of 1 GHz: ratio 2 * 2^48
 page : Page
@@ -59,3 +64,37 @@ legal_none = refl
 -- and has no other
 opened_twice : (s t : BoardParts) → IsLegal (Opened s ∷ Opened t ∷ []) ≡ (⊥ × Unit {0})
 opened_twice s t = refl
+
+-- the reference page by a scale of 2^63, with its own offset of the TSC: (1800 + 100) / 2 + 7
+hv_page_of_one : HvPage
+hv_page_of_one = record { version = 2; scale = 9223372036854775808; offset = 7; tsc_offset = 100 }
+
+hv_answer_900 : hv_answer_by 562949953421312 hv_page_of_one 900 ≡ HvOn hv_page_of_one 957
+unfolding hv_page_of_one tsc_by units_of reference_time
+hv_answer_900 = refl
+
+hv_answer_off : hv_answer_by 562949953421312 (record hv_page_of_one { scale = 0 }) 900 ≡ HvOff
+unfolding hv_page_of_one
+hv_answer_off = refl
+
+-- of two processors the reference page has place 2: by its MSR alone it is published
+published_by_the_msr : page_published 2 1 (MsrWrite 0x4000_0021 1) ≡ Some 2
+published_by_the_msr = refl
+
+published_by_the_tsc : page_published 2 1 (MsrWrite 0x10 1) ≡ Some 1
+published_by_the_tsc = refl
+
+published_by_a_refresh : page_published 2 1 (Refresh 0) ≡ Some 0
+published_by_a_refresh = refl
+
+published_by_a_step : page_published 2 1 Step ≡ None
+published_by_a_step = refl
+
+read_of_place_2 : read_of 2 5 2 900 page true ≡ HvRead 5 900 (of_page page) true
+read_of_place_2 = refl
+
+read_of_place_1 : read_of 2 5 1 900 page true ≡ PageRead 5 1 900 page true
+read_of_place_1 = refl
+
+after_hv_read : (b : BoardParts) → after_entry b (HvRead 1 900 hv_page_of_one false) ≡ b
+after_hv_read b = refl

@@ -8,22 +8,27 @@ use Rattle.board_types.specs.declared.parts.BoardParts.{BoardParts}
 use Rattle.board_types.specs.declared.parts.TheConstants.{LAST_VERSION}
 use Rattle.board_core.specs.Pages.{published_by}
 use Rattle.board_core.specs.Wall.{publishes_wall}
-use Rattle.board_history.specs.Machine.{machine_of, page_at}
+use Rattle.board_core.specs.Hv.{publishes_hv}
+use Rattle.board_core.specs.Tsc.{processor_at}
+use Rattle.board_history.specs.Machine.{machine_of}
 
 -- a count of the host's counter has no time: it lies before the anchor's, or its time is past the
 -- range
 abbrev pub HasNoTime : Anchor → ℕ → Type 0
 HasNoTime anchor h = (h < anchor.start) ⊎ (RANGE_NS ≤ time_at anchor h)
 
--- an access would publish the words of the wall clock, or a page, whose version is the last one
+-- an access would publish the words of the wall clock, a page, or the reference page, whose version
+-- is the last one
 abbrev pub IsAtLastVersion : BoardParts → ℕ → Access → Type 0
 IsAtLastVersion b cpu a =
     ((publishes_wall a ≡ true) × (LAST_VERSION ≤ b.wall_version))
-    ⊎ ((k : ℕ) × (published_by cpu a ≡ Some k) × (LAST_VERSION ≤ (page_at b k).version))
+    ⊎ (((k : ℕ) × (published_by cpu a ≡ Some k) × (LAST_VERSION ≤ (processor_at b k).version))
+    ⊎ ((publishes_hv a ≡ true) × (LAST_VERSION ≤ b.hv.version)))
 
 -- two boards that refuse alike
 pub record SameCounts (b c : BoardParts) : Type 0 where
   pub machine : machine_of b ≡ machine_of c
   pub accesses : b.accesses ≡ c.accesses
   pub wall : b.wall_version ≡ c.wall_version
-  pub pages : (k : ℕ) → (page_at b k).version ≡ (page_at c k).version
+  pub hv : b.hv.version ≡ c.hv.version
+  pub pages : (k : ℕ) → (processor_at b k).version ≡ (processor_at c k).version

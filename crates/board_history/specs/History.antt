@@ -7,6 +7,7 @@ use Rattle.std.specs.Prelude.{
   ◌==◌,
   if◌then◌else◌,
   Bool,
+  true,
   false,
   IsTrue,
   List,
@@ -24,16 +25,19 @@ use Rattle.board_types.specs.Legal.{is_legal}
 use Rattle.board_core.specs.Access.{after_access, reply_of}
 use Rattle.board_core.specs.Pages.{with_greatest}
 use Rattle.board_core.specs.Refusals.{refusal_of}
+use Rattle.pvclock_page.specs.declared.page.Page.{Page}
+use Rattle.hv_page.specs.Words.{of_page}
 use Rattle.board_history.specs.Machine.{
   Machine,
   machine_of,
   page_at,
+  hv_at,
   ratio_in,
   reading_by,
   no_board,
 }
 use Rattle.board_history.specs.declared.entry.Entry.{Entry}
-use Rattle.board_history.specs.declared.entry.Entry.TheVariants.{Opened, Board, PageRead, Clamp}
+use Rattle.board_history.specs.declared.entry.Entry.TheVariants.{Opened, Board, PageRead, HvRead, Clamp}
 
 -- the entry of a state that is handed over
 abbrev pub of_state : BoardParts → Entry
@@ -44,6 +48,7 @@ abbrev pub pass_of : Entry → Option ℕ
 pass_of (Opened s) = None
 pass_of (Board pass cpu h access reply) = Some pass
 pass_of (PageRead pass cpu h page locked) = Some pass
+pass_of (HvRead pass h page locked) = Some pass
 pass_of (Clamp pass cpu reading clock) = Some pass
 
 -- the board after an entry: a read of a page changes nothing, a clamp the greatest reading alone
@@ -51,6 +56,7 @@ abbrev pub after_entry : BoardParts → Entry → BoardParts
 after_entry b (Opened s) = s
 after_entry b (Board pass cpu h access reply) = after_access b cpu h access
 after_entry b (PageRead pass cpu h page locked) = b
+after_entry b (HvRead pass h page locked) = b
 after_entry b (Clamp pass cpu reading clock) = with_greatest b clock
 
 -- the board after a list of entries
@@ -69,11 +75,21 @@ floor_after h = (board_after h).greatest
 abbrev pub version_after : List Entry → ℕ → ℕ
 version_after h cpu = (page_at (board_after h) cpu).version
 
+-- the entry of a read of the page c of a table: behind the pages of the processors stands the
+-- reference page
+abbrev pub read_if : Bool → ℕ → ℕ → ℕ → Page → Bool → Entry
+read_if true pass c h page locked = HvRead pass h (of_page page) locked
+read_if false pass c h page locked = PageRead pass c h page locked
+
+abbrev pub read_of : ℕ → ℕ → ℕ → ℕ → Page → Bool → Entry
+read_of cpus pass c h page locked = read_if (c == cpus) pass c h page locked
+
 -- whether the pass of this number made an entry, and its entries in order
 abbrev pub is_of : ℕ → Entry → Bool
 is_of n (Opened s) = false
 is_of n (Board pass cpu h access reply) = pass == n
 is_of n (PageRead pass cpu h page locked) = pass == n
+is_of n (HvRead pass h page locked) = pass == n
 is_of n (Clamp pass cpu reading clock) = pass == n
 
 abbrev pub entries_of : ℕ → List Entry → List Entry
@@ -90,6 +106,7 @@ abbrev pub Reads : Machine → Option Entry → ℕ → ℕ → Type 0
 Reads m None cpu reading = ⊥
 Reads m (Some (Opened s)) cpu reading = ⊥
 Reads m (Some (Board pass c h access reply)) cpu reading = ⊥
+Reads m (Some (HvRead pass h page locked)) cpu reading = ⊥
 Reads m (Some (Clamp pass c r clock)) cpu reading = ⊥
 Reads m (Some (PageRead pass c h page locked)) cpu reading =
     (c ≡ cpu) × IsTrue page.enabled × (reading_by (ratio_in m) page h ≡ reading)
@@ -107,6 +124,7 @@ May before (Opened s) = ⊥
 May before (Board pass cpu h access reply) = IsAnswered (board_after before) cpu h access reply
 May before (PageRead pass cpu h page locked) =
     (cpu < (board_after before).cpus) × (page_at (board_after before) cpu ≡ page)
+May before (HvRead pass h page locked) = hv_at (board_after before) ≡ page
 May before (Clamp pass cpu reading clock) =
     Reads (machine_of (board_after before)) (last_of (entries_of pass before)) cpu reading
     × (clock ≡ max reading (floor_after before))
@@ -122,6 +140,7 @@ IsLegal [] = ⊥
 IsLegal (Opened s ∷ es) = LegalFrom (Opened s ∷ []) es
 IsLegal (Board pass cpu h access reply ∷ es) = ⊥
 IsLegal (PageRead pass cpu h page locked ∷ es) = ⊥
+IsLegal (HvRead pass h page locked ∷ es) = ⊥
 IsLegal (Clamp pass cpu reading clock ∷ es) = ⊥
 
 -- the history opens with this state

@@ -1,7 +1,8 @@
 //! What is told of a page that was read.
 ghost use Rattle.std.specs.Prelude.{◌≡◌};
-ghost use Rattle.board_history.specs.Machine.{answer_by};
+ghost use Rattle.board_history.specs.Machine.{answer_by, hv_answer_by};
 
+use hv_page::{HvPage, HvReply, reply};
 use pvclock_page::{Page, PageReply, reading};
 use tsc_scale::tsc_by;
 
@@ -19,4 +20,11 @@ pub fn answer_by(ratio: u64, page: &Page, h: u64) -> PageReply
     } else {
         PageReply::Off
     }
+}
+
+/// What a read of the reference page of Hyper-V at count `h` answers, in the same way.
+pub fn hv_answer_by(ratio: u64, page: &HvPage, h: u64) -> HvReply
+    ensures { result ≡ hv_answer_by ratio page.now h }
+{
+    reply(page, tsc_by(page.tsc_offset, h, ratio))
 }

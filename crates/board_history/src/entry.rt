@@ -3,6 +3,7 @@ ghost use Rattle.std.specs.Prelude.{◌≡◌};
 ghost use Rattle.board_history.specs.History.{of_state, pass_of};
 
 use board_core::{Access, BoardState, Reply};
+use hv_page::HvPage;
 use pvclock_page::Page;
 
 /// One point of a history. `pass` is the number of the caller's pass.
@@ -29,6 +30,14 @@ pub enum Entry {
         page: Page,
         locked: bool,
     },
+    /// A read of the reference page of Hyper-V at count `h`: the page as it was then, and whether it was read under
+    /// the lock.
+    HvRead {
+        pass: u64,
+        h: u64,
+        page: HvPage,
+        locked: bool,
+    },
     /// The clamp behind a read of an enabled page of processor `cpu`: what the page gave, and the clock that was
     /// told, the greater of it and of all that were told before.
     Clamp {
@@ -46,8 +55,10 @@ impl Entry {
     {
         match *self {
             Entry::Opened { .. } => None,
-            Entry::Board { pass, .. } | Entry::PageRead { pass, .. } | Entry::Clamp { pass, .. } =>
-                Some(pass),
+            Entry::Board { pass, .. }
+            | Entry::PageRead { pass, .. }
+            | Entry::HvRead { pass, .. }
+            | Entry::Clamp { pass, .. } => Some(pass),
         }
     }
 }

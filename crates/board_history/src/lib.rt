@@ -10,13 +10,16 @@
 //! Board { pass: 0, cpu: 0, h: 1_000, access: Step, reply }    an access, with its number and its edges
 //! PageRead { pass: 1, cpu: 0, h: 2_000, page, locked: false } a page as it was read without the lock
 //! Clamp { pass: 1, cpu: 0, reading: 900, clock: 1_000 }       the clock that was told for that reading
+//! HvRead { pass: 1, h: 2_000, page, locked: true }            the reference page as it was read under the lock
 //! ```
 #![tactic(auto)]
 
 mod answer;
 mod entry;
+mod table;
 #[cfg(test)]
 mod tests;
 
-pub use answer::answer_by;
+pub use answer::{answer_by, hv_answer_by};
 pub use entry::{Entry, opened};
+pub use table::{page_published, read_entry, table_page};

@@ -1,13 +1,9 @@
 use std::sync::Wait;
 
-/// Calls round the work of a processor's worker, by which a test can hold it. A gate may wait.
+/// Calls round the work of a processor's worker, by which a test can hold it. A gate may wait. In `before` and `after`
+/// of an access a worker may have the board's lock, unless fewer than 1,000 records of its processor are left; it never
+/// has it in those of a page or a clock.
 pub trait Gate {
-    /// The most records of one processor that may be taken under one lock; 0 is taken as 1. A gate that answers more
-    /// than 1 must not wait in `before` or `after`, since another processor may then wait for the lock.
-    fn together(&self) -> u16 {
-        1
-    }
-
     /// Called before record `index` of processor `cpu`, counted from 0 within its phase.
     fn before<R: Wait>(&self, rt: &R, cpu: u8, index: u64);
 
@@ -19,19 +15,11 @@ pub trait Gate {
     fn inside<R: Wait>(&self, rt: &R, cpu: u8);
 }
 
-/// How many records an open gate lets through under one lock. Whoever takes the lock behind another thread fetches the board
-/// from that one's cache first, so that few records under each lock would cost more than they do by themselves.
-const OPEN_TOGETHER: u16 = 1_000;
-
 /// A gate that holds nobody.
 #[derive(Clone, Copy, Debug, PartialEq, Eq)]
 pub struct OpenGate;
 
 impl Gate for OpenGate {
-    fn together(&self) -> u16 {
-        OPEN_TOGETHER
-    }
-
     fn before<R: Wait>(&self, _rt: &R, _cpu: u8, _index: u64) {}
 
     fn after<R: Wait>(&self, _rt: &R, _cpu: u8, _index: u64) {}

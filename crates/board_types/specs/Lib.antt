@@ -1,2 +1,3 @@
 pub mod Setup
 pub mod Legal
+pub mod Reply

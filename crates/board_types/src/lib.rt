@@ -17,11 +17,16 @@ mod reply;
 mod setup;
 
 pub use access::{
-    Access, MSR_KVM_SYSTEM_TIME, MSR_KVM_WALL_CLOCK, MSR_TSC, MSR_TSC_ADJUST, TickSource,
+    Access, MSR_APIC_CURRENT, MSR_APIC_DIVIDE, MSR_APIC_INITIAL, MSR_APIC_LVT,
+    MSR_HV_REFERENCE_TSC, MSR_HV_TIME_REF_COUNT, MSR_KVM_SYSTEM_TIME, MSR_KVM_WALL_CLOCK, MSR_TSC,
+    MSR_TSC_ADJUST, MSR_TSC_DEADLINE, TickSource,
 };
-pub use parts::{BoardParts, LAST_VERSION, MOST_ACCESSES, ProcessorParts};
+pub use parts::{BoardParts, HvParts, LAST_VERSION, MOST_ACCESSES, ProcessorParts};
 pub use reply::{Ran, Refusal, Reply, Value};
-pub use setup::{SECOND_NS, SLEW_MAX_NS, Setup, processors_of, timers_of};
+pub use setup::{
+    APIC_FORMAT, HV_FORMAT, LAST_FORMAT, MESSAGE_FORMAT, SECOND_NS, SLEW_MAX_NS, Setup,
+    processors_of, timers_of,
+};
 
 #[cfg(test)]
 mod tests;

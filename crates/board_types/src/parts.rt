@@ -1,6 +1,7 @@
 //! All that a board holds, as a saved state keeps it.
 use host_counter::Anchor;
 use hpet_registers::HpetParts;
+use lapic_timer::ApicParts;
 use pit_readback::PitParts;
 use rtc_registers::RtcParts;
 use tick_policy::TickParts;
@@ -34,11 +35,29 @@ pub struct ProcessorParts {
     pub flags: u8,
 }
 
+/// What a board holds of the reference TSC page of Hyper-V, one page for all processors.
+#[derive(Clone, Copy, Debug, PartialEq, Eq)]
+#[repr(C)]
+pub struct HvParts {
+    /// The number written to MSR_HV_REFERENCE_TSC; bit 0 enables the page.
+    pub number: u64,
+    /// Even, and 0 before the first publishing. A guest sees the half of it.
+    pub version: u32,
+    /// The processor that wrote the number last.
+    pub cpu: u8,
+    /// Units of 100 ns for 2^64 ticks of the TSC; 0 where the page isn't enabled.
+    pub scale: u64,
+    /// What is added to the scaled TSC, in units of 100 ns modulo 2^64.
+    pub offset: u64,
+    /// The offset of that processor's TSC when the page was published.
+    pub tsc_offset: u64,
+}
+
 /// All that a board holds.
 #[derive(Clone, Copy)]
 #[repr(C)]
 pub struct BoardParts {
-    /// The format: 1 or 2.
+    /// The format, 1 to `LAST_FORMAT`.
     pub format: u8,
     /// How many processors there are.
     pub cpus: u8,
@@ -73,4 +92,10 @@ pub struct BoardParts {
     pub processors: [ProcessorParts; 64],
     /// How often each line went up, in order of line numbers; 0 in format 1.
     pub rises: [u64; 6],
+    /// The local APICs' timers, by processor; places from `cpus` on hold 0, and before format 3 all do.
+    pub apic: [ApicParts; 64],
+    /// Their tick lines; places from `cpus` on are as at power on under `Discard`, and before format 3 all are.
+    pub apic_ticks: [TickParts; 64],
+    /// The reference page of Hyper-V; 0 before format 4.
+    pub hv: HvParts,
 }

@@ -1,5 +1,8 @@
 //! What a board answers, and why it refuses.
-use irq_edges::EdgeList;
+ghost use Rattle.std.specs.Prelude.{◌≡◌};
+ghost use Rattle.board_types.specs.Reply.{empty_reply, IsFresh};
+
+use irq_edges::{BurstList, EdgeList};
 use tick_policy::Counts;
 
 /// What an access gives.
@@ -28,6 +31,34 @@ pub struct Reply {
     pub value: Value,
     /// The changes of lines: those up to its time, then its own.
     pub edges: EdgeList,
+    /// The messages of the HPET's timers up to its time; from format 5 on.
+    pub bursts: BurstList,
+}
+
+impl Reply {
+    /// A reply before its access, for a caller that keeps one.
+    pub fn empty() -> Reply
+        ensures value { result ≡ empty_reply }
+        ensures fresh { IsFresh result }
+    {
+        Reply {
+            number: 0,
+            value: Value::Nothing,
+            edges: EdgeList::new(),
+            bursts: BurstList::new(),
+        }
+    }
+
+    /// Takes the edges and the messages out, for another access.
+    #[inline(always)]
+    pub fn clear(&mut self)
+        ensures number { self.new.number ≡ self.old.number }
+        ensures value { self.new.value ≡ self.old.value }
+        ensures fresh { IsFresh self.new }
+    {
+        self.edges.clear();
+        self.bursts.clear();
+    }
 }
 
 /// What a run of the board brought.
@@ -35,6 +66,8 @@ pub struct Reply {
 pub struct Ran {
     /// The changes of lines.
     pub edges: EdgeList,
+    /// The messages of the HPET's timers; from format 5 on.
+    pub bursts: BurstList,
 }
 
 /// Why an access is refused. The causes are tested in this order, and a board that refuses stays as it is.

@@ -14,49 +14,56 @@ fn ports_of_the_board_alone(rt: HostRuntime) -> Result<(), Fail> {
     Ok(())
 }
 
-/// What a board of format 1 lacks: MSR_KVM_STEAL_TIME in each format, counts of rises and five timers before format 2.
+/// The first format that has an access, on a board of one processor; 6 where none has it, as MSR_KVM_STEAL_TIME.
 #[test]
 fn accesses_of_a_later_format(rt: HostRuntime) -> Result<(), Fail> {
+    let counts = |from| Access::CountsOf { from };
+    let read = |msr| Access::MsrRead { msr };
     let rows = [
-        (Access::MsrRead { msr: 0x4b56_4d03 }, false, false),
-        (Access::Rose { line: 23 }, false, true),
-        (Access::Rose { line: 1 }, false, false),
-        (
-            Access::CountsOf {
-                from: TickSource::Hpet(2),
-            },
-            true,
-            true,
-        ),
-        (
-            Access::CountsOf {
-                from: TickSource::Hpet(7),
-            },
-            false,
-            true,
-        ),
-        (
-            Access::CountsOf {
-                from: TickSource::Hpet(8),
-            },
-            false,
-            false,
-        ),
+        (read(0x4b56_4d01), 1),
+        (read(0x4b56_4d03), 6),
+        (read(0x832), APIC_FORMAT),
+        (read(0x838), APIC_FORMAT),
+        (read(0x839), APIC_FORMAT),
+        (read(0x83e), APIC_FORMAT),
+        (read(0x6e0), APIC_FORMAT),
+        (read(0x80b), 6),
+        (read(0x4000_0020), HV_FORMAT),
+        (read(0x4000_0021), HV_FORMAT),
+        (read(0x4000_0000), 6),
+        (Access::Rose { line: 23 }, 2),
+        (Access::Rose { line: 1 }, 6),
+        (Access::Eoi, APIC_FORMAT),
+        (counts(TickSource::Hpet(2)), 1),
+        (counts(TickSource::Hpet(7)), 2),
+        (counts(TickSource::Hpet(8)), 6),
+        (counts(TickSource::Apic(0)), APIC_FORMAT),
+        (counts(TickSource::Apic(1)), 6),
         (
             Access::HpetRead {
                 offset: 0x400,
                 width: 1,
             },
-            false,
-            false,
+            6,
         ),
     ];
-    for (access, first, second) in rows {
-        assert_eq!(rt;
-            (access.legal(1, 1), access.legal(1, 2)),
-            (first, second),
-            "{access:?}"
-        );
+    for (access, first) in rows {
+        for format in 1..6u8 {
+            assert_eq!(rt; access.legal(1, format), first <= format, "{access:?}");
+        }
     }
     Ok(())
+}
+
+/// What a caller that says nothing gets, and a reply before its access.
+#[test]
+fn defaults(rt: HostRuntime) {
+    let setup = Setup::by_default(LAST_FORMAT);
+    assert_eq!(rt;
+        (setup.format, setup.cpus, setup.anchor.khz),
+        (LAST_FORMAT, 1, 1_000_000)
+    );
+    let reply = Reply::empty();
+    assert_eq!(rt; (reply.number, reply.value), (0, Value::Nothing));
+    assert!(rt; reply.edges.is_empty() && reply.bursts.is_empty());
 }

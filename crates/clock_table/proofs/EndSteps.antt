@@ -48,11 +48,12 @@ use Rattle.pvclock_page.specs.Words.{page_of}
 use Rattle.board_types.specs.declared.parts.BoardParts.{BoardParts}
 use Rattle.board_types.specs.declared.parts.ProcessorParts.{ProcessorParts}
 use Rattle.board_core.specs.Tsc.{processor_at, no_processor}
-use Rattle.board_history.specs.Machine.{page_at}
+use Rattle.board_history.specs.Machine.{page_at, page_if}
+use Rattle.board_history.proofs.Pages.{hv-steady}
 use Rattle.board_history.specs.History.{of_state, board_after, version_after, LegalFrom, IsLegal, entries_of}
 use Rattle.board_history.specs.private.Steady.{IsSteady, IsSteadyPage}
 use Rattle.board_history.specs.declared.entry.Entry.{Entry}
-use Rattle.board_history.specs.declared.entry.Entry.TheVariants.{Opened, Board, PageRead, Clamp}
+use Rattle.board_history.specs.declared.entry.Entry.TheVariants.{Opened, Board, PageRead, HvRead, Clamp}
 use Rattle.board_history.proofs.Laws.{LegalFrom-rest, entries_of-++}
 use Rattle.std.proofs.Common.{FitsSigned, IsTrue}
 use Rattle.std.proofs.lemmas.Bool.{false≢true}
@@ -65,7 +66,7 @@ use Rattle.clock_table.specs.declared.view.View.{View}
 use Rattle.clock_table.specs.declared.view.Hand.{Hand}
 use Rattle.clock_table.specs.declared.view.Miss.{Miss}
 use Rattle.clock_table.specs.declared.view.Ended.{Ended}
-use Rattle.clock_table.specs.Words.{word_of, field_at}
+use Rattle.clock_table.specs.Words.{word_of, field_at, pages_for}
 use Rattle.clock_table.specs.Steps.{first_view, weight, loud, number_is, ended_with}
 use Rattle.std.proofs.Common.{replicate}
 use Rattle.clock_table.specs.Ends.{no_page, IsWhole, MissesTold, EndedTold}
@@ -196,6 +197,8 @@ no_entry_left before (Board pass cpu h access reply ∷ es) l none_of =
     absurd (filled (eqb pass pass) (Board pass cpu h access reply) (entries_of pass es) (eq-eqb pass pass refl) (none_of pass))
 no_entry_left before (PageRead pass cpu h page locked ∷ es) l none_of =
     absurd (filled (eqb pass pass) (PageRead pass cpu h page locked) (entries_of pass es) (eq-eqb pass pass refl) (none_of pass))
+no_entry_left before (HvRead pass h page locked ∷ es) l none_of =
+    absurd (filled (eqb pass pass) (HvRead pass h page locked) (entries_of pass es) (eq-eqb pass pass refl) (none_of pass))
 no_entry_left before (Clamp pass cpu reading clock ∷ es) l none_of =
     absurd (filled (eqb pass pass) (Clamp pass cpu reading clock) (entries_of pass es) (eq-eqb pass pass refl) (none_of pass))
 
@@ -213,7 +216,7 @@ module _ (opening : BoardParts) where
       let all : (n : ℕ) → 0 < ended_with n v.ended → n < m = λ n c. let b = (f.claimed n (omega arith)).1 in omega arith in
       let same : (n : ℕ) → entries_of n v.seen ≡ entries_of n log = λ n. elim (dec_le m n) [
         | yes h ↦ (let e = r.numbers n (omega arith) in entries_between [] v.seen log n (v.seen, refl) f.begins e ∙ sym e)
-        | no h ↦ ended_seen s.words opening.cpus log v.seen v.ended n f.ended f.begins (everyone m n v.ended once all w.all (omega arith))
+        | no h ↦ ended_seen s.words (pages_for opening.cpus) log v.seen v.ended n f.ended f.begins (everyone m n v.ended once all w.all (omega arith))
       ] in
       let rest_none : (n : ℕ) → entries_of n rest ≡ [] = λ n. no_more (entries_of n v.seen) (entries_of n rest) (sym (entries_of-++ n v.seen rest)
       ∙ (ap (entries_of n) f.begins.1 ∙ sym (same n))) in
@@ -233,7 +236,7 @@ module _ (opening : BoardParts) where
           empty
 
   told_misses : (s : St) (r : Rule opening s) (seen : List Entry) (xs : List Miss) → log_of opening s r ≡ seen → r.pen.hand ≡ None
-      → MissesKept s.words opening.cpus xs → MissesTold seen xs
+      → MissesKept s.words (pages_for opening.cpus) xs → MissesTold seen xs
   told_misses s r seen [] e shut k = tt
   told_misses s r seen (x ∷ xs) e shut k =
       let p = (r.pages x.page k.0).version in
@@ -243,7 +246,7 @@ module _ (opening : BoardParts) where
       (omega arith, told_misses s r seen xs e shut k.2)
 
   told_ended : (s : St) (r : Rule opening s) (seen : List Entry) (xs : List Ended) → log_of opening s r ≡ seen → r.pen.hand ≡ None
-      → EndedKept s.words opening.cpus (log_of opening s r) seen xs → EndedTold seen xs
+      → EndedKept s.words (pages_for opening.cpus) (log_of opening s r) seen xs → EndedTold seen xs
   told_ended s r seen [] e shut k = tt
   told_ended s r seen (x ∷ xs) e shut k = (
     k.0,
@@ -253,7 +256,7 @@ module _ (opening : BoardParts) where
   )
 
   -- each page of the board after the history stands in the words
-  page_ends : (s : St) (r : Rule opening s) (ws : List ℕ) (c : ℕ) {seen : List Entry} → c < opening.cpus → seen ≡ log_of opening s r → s.words ≡ ws
+  page_ends : (s : St) (r : Rule opening s) (ws : List ℕ) (c : ℕ) {seen : List Entry} → c < pages_for opening.cpus → seen ≡ log_of opening s r → s.words ≡ ws
       → r.pen.hand ≡ None → page_of (words_at ws c) ≡ page_at (board_after seen) c
   page_ends s r ws c {seen} l same words shut =
       let page : Page = page_at (board_after (log_of opening s r)) c in
@@ -293,7 +296,7 @@ pub steady_of : (b : BoardParts) → IsJoined b → length b.processors ≡ 64 �
 steady_of b joined long = record {
   places = most_cpus;
   rate = joined.rates.guest;
-  pages = λ c. page (processor_at b c) (joined.processors.each c);
+  pages = λ c. at c (eqb c b.cpus);
   count = joined.accesses;
 }
   where
@@ -326,8 +329,12 @@ steady_of b joined long = record {
           )
     ]
 
+    at : (c : ℕ) (t : Bool) → IsSteadyPage (page_if t b c)
+    at c true = hv-steady b.hv joined.hv.version.most joined.hv.version.even
+    at c false = page (processor_at b c) (joined.processors.each c)
+
 -- the words of all pages
-pub laid_of : (s : BoardParts) (words : List ℕ) → length words ≡ 32 + 16 * s.cpus → IsLaidBelow s.cpus s words → IsLaid s words
+pub laid_of : (s : BoardParts) (words : List ℕ) → length words ≡ 32 + 16 * pages_for s.cpus → IsLaidBelow (pages_for s.cpus) s words → IsLaid s words
 laid_of s words long l = record {
   wide = long;
   front = l.front;
@@ -336,7 +343,7 @@ laid_of s words long l = record {
   field = fields;
 }
   where
-    fields : (c k : ℕ) → c < s.cpus → k < 4 → word_of words c (suc k) ≡ field_at (page_at s c) k
+    fields : (c k : ℕ) → c < pages_for s.cpus → k < 4 → word_of words c (suc k) ≡ field_at (page_at s c) k
     fields c zero h small = l.stamp c h
     fields c (suc zero) h small = l.system c h
     fields c (suc (suc zero)) h small = l.scale c h

@@ -42,14 +42,12 @@ use Rattle.pvclock_page.specs.declared.page.Page.{Page}
 use Rattle.pvclock_page.specs.Words.{page_of}
 use Rattle.pvclock_page.proofs.Fields.{page_of-words_of}
 use Rattle.board_types.specs.declared.parts.BoardParts.{BoardParts}
-use Rattle.board_types.specs.declared.parts.ProcessorParts.{ProcessorParts}
-use Rattle.board_core.specs.Pages.{page_in, with_greatest}
-use Rattle.board_core.specs.Tsc.{no_processor}
+use Rattle.board_core.specs.Pages.{with_greatest}
 use Rattle.board_history.specs.Machine.{machine_of, page_at, no_board}
 use Rattle.board_history.specs.History.{of_state, board_from, board_after, version_after, May, LegalFrom, IsLegal, entries_of, is_of}
 use Rattle.board_history.specs.private.Steady.{IsSteady, IsSteadyPage}
 use Rattle.board_history.specs.declared.entry.Entry.{Entry}
-use Rattle.board_history.specs.declared.entry.Entry.TheVariants.{Opened, Board, PageRead, Clamp}
+use Rattle.board_history.specs.declared.entry.Entry.TheVariants.{Opened, Board, PageRead, HvRead, Clamp}
 use Rattle.board_history.proofs.Laws.{
   no_board-version,
   board_from-++,
@@ -68,7 +66,7 @@ use Rattle.clock_table.specs.declared.view.Hand.{Hand}
 use Rattle.clock_table.specs.declared.view.Miss.{Miss}
 use Rattle.clock_table.specs.declared.view.Meet.{Meet}
 use Rattle.clock_table.specs.declared.view.Ended.{Ended}
-use Rattle.clock_table.specs.Words.{word_of, field_at}
+use Rattle.clock_table.specs.Words.{word_of, field_at, pages_for}
 use Rattle.clock_table.specs.Steps.{IsQuiet, GoesOnQuietly, weight, loud, Learnt, here_of, penned_of, MeetKept, number_is, ended_with, claims}
 use Rattle.clock_table.specs.private.Rule.{PageKept, ReadKept, MissesKept, EndedKept, Ghost, log_in, Fits, FrontKept, Kept}
 use Rattle.clock_table.proofs.Lists.{prefix_self, prefix_trans, prefix_length, prefix_more, set_at, each_set}
@@ -145,6 +143,7 @@ quiet_board b [] q = refl
 quiet_board b (Opened s ∷ es) q = absurd q.0
 quiet_board b (Board pass cpu h access reply ∷ es) q = absurd q.0
 quiet_board b (PageRead pass cpu h page locked ∷ es) q = quiet_board b es q.1
+quiet_board b (HvRead pass h page locked ∷ es) q = quiet_board b es q.1
 quiet_board b (Clamp pass cpu reading clock ∷ es) q = quiet_board (with_greatest b clock) es q.1
 
 -- quiet entries change nothing of the board but `greatest`
@@ -153,13 +152,14 @@ quiet_beside b [] q = (b.greatest, refl)
 quiet_beside b (Opened s ∷ es) q = absurd q.0
 quiet_beside b (Board pass cpu h access reply ∷ es) q = absurd q.0
 quiet_beside b (PageRead pass cpu h page locked ∷ es) q = quiet_beside b es q.1
+quiet_beside b (HvRead pass h page locked ∷ es) q = quiet_beside b es q.1
 quiet_beside b (Clamp pass cpu reading clock ∷ es) q = let r = quiet_beside (with_greatest b clock) es q.1 in (r.0, r.1)
 
 -- quiet entries leave each page
 pub quiet_page : (xs es : List Entry) (c : ℕ) → IsQuiet es → page_at (board_after (xs ++ es)) c ≡ page_at (board_after xs) c
 quiet_page xs es c q =
     ap (λ (b : BoardParts). page_at b c) (board_from-++ no_board xs es)
-    ∙ ap (λ (ps : List ProcessorParts). page_in (get_or ps c no_processor)) (quiet_board (board_after xs) es q)
+    ∙ ap (λ (b : BoardParts). page_at b c) (quiet_beside (board_after xs) es q).1
 
 pub loud-append : (xs ys : List Entry) → loud (xs ++ ys) ≡ loud xs + loud ys
 loud-append [] ys = omega arith
@@ -170,6 +170,7 @@ loud_quiet [] q = refl
 loud_quiet (Opened s ∷ es) q = absurd q.0
 loud_quiet (Board pass cpu h access reply ∷ es) q = absurd q.0
 loud_quiet (PageRead pass cpu h page locked ∷ es) q = let r = loud_quiet es q.1 in let z : weight locked ≡ 0 = ap weight q.0 in omega arith
+loud_quiet (HvRead pass h page locked ∷ es) q = let r = loud_quiet es q.1 in let z : weight locked ≡ 0 = ap weight q.0 in omega arith
 loud_quiet (Clamp pass cpu reading clock ∷ es) q = let r = loud_quiet es q.1 in omega arith
 
 -- what was seen has no later version than the history
@@ -238,31 +239,33 @@ module _ (opening : BoardParts) where
       }
 
   -- the other seats
-  pub fits_later : (s : St) (r : Rule s) (words' : List ℕ) (id j : ℕ) (es : List Entry) (u : View) → Comes s r id es → Later opening.cpus s.words words'
+  pub fits_later : (s : St) (r : Rule s) (words' : List ℕ) (id j : ℕ) (es : List Entry) (u : View) → Comes s r id es
+      → Later (pages_for opening.cpus) s.words words'
       → j ≢ id → Fits opening s.words r.g j u → Fits opening words' (grown r.g es) j u
   fits_later s r words' id j es u comes l apart f =
       let other : (n : ℕ) → 0 < claims n u → entries_of n es ≡ [] = λ n c. comes.own n (λ (q : r.g.owner n ≡ id). apart (sym (f.claimed n c).0 ∙ q)) in
       record {
         begins = prefix_more u.seen (log_of s r) es f.begins;
         pen = f.pen;
-        read = λ x is. read_later opening.cpus s.words words' u.seen x l (f.read x is);
+        read = λ x is. read_later (pages_for opening.cpus) s.words words' u.seen x l (f.read x is);
         claimed = f.claimed;
         once = f.once;
         mine = λ n is. number_stays (log_of s r) es (here_of u.meet u.seen) n (f.mine n is) (other n (number_claimed u n is));
-        misses = misses_later opening.cpus s.words words' u.misses l f.misses;
+        misses = misses_later (pages_for opening.cpus) s.words words' u.misses l f.misses;
         meet = f.meet;
-        ended = ended_later opening.cpus s.words words' (log_of s r) es u.seen u.seen u.ended l (prefix_self u.seen) (λ n c. other n (omega arith)) f.ended;
+        ended = ended_later (pages_for opening.cpus) s.words words' (log_of s r) es u.seen u.seen u.ended l (prefix_self u.seen)
+            (λ n c. other n (omega arith)) f.ended;
         opened = f.opened;
         limit = f.limit;
       }
 
   -- the seat that steps, which has no open meet afterwards
   pub fits_mine : (s : St) (r : Rule s) (words' : List ℕ) (id p : ℕ) (es : List Entry) (v w : View) → get_elem? s.views id ≡ some v → Comes s r id es
-      → Later opening.cpus s.words words'
+      → Later (pages_for opening.cpus) s.words words'
       → v.number ≡ Some p → ((n : ℕ) → n ≢ p → entries_of n es ≡ [])
       → w.number ≡ v.number → w.ended ≡ v.ended → w.meet ≡ None → w.live ≡ v.live → w.limit ≡ v.limit → w.pen ≡ v.pen
       → IsPrefix v.seen w.seen → IsPrefix w.seen (log_of s r ++ es) → entries_of p (log_of s r ++ es) ≡ entries_of p w.seen
-      → ((x : Read) → w.read ≡ Some x → ReadKept words' opening.cpus w.seen x) → MissesKept words' opening.cpus w.misses
+      → ((x : Read) → w.read ≡ Some x → ReadKept words' (pages_for opening.cpus) w.seen x) → MissesKept words' (pages_for opening.cpus) w.misses
       → Fits opening words' (grown r.g es) id w
   fits_mine s r words' id p es v w at comes l num only same_number same_ended no_meet same_live same_limit same_pen goes begins mine read misses =
       let f = r.each id v at in
@@ -281,8 +284,8 @@ module _ (opening : BoardParts) where
         misses = misses;
         meet = subst (λ m. MeetKept m w.seen) (sym no_meet) tt;
         opened = λ lives. let was = f.opened (sym same_live ∙ lives) in let le = prefix_length v.seen w.seen goes in omega arith;
-        ended = subst (EndedKept words' opening.cpus (log_of s r ++ es) w.seen) (sym same_ended)
-            (ended_later opening.cpus s.words words' (log_of s r) es v.seen w.seen v.ended l goes
+        ended = subst (EndedKept words' (pages_for opening.cpus) (log_of s r ++ es) w.seen) (sym same_ended)
+            (ended_later (pages_for opening.cpus) s.words words' (log_of s r) es v.seen w.seen v.ended l goes
             (λ n c. only n (λ (q : n ≡ p). let one = f.once n in let here : number_is n v.number ≡ 1 = ap (number_is n) num
             ∙ (ap (λ (m : ℕ). weight (eqb m n)) (sym q) ∙ ap weight (eq-eqb n n refl)) in omega arith))
             f.ended);
@@ -292,9 +295,9 @@ module _ (opening : BoardParts) where
   -- the state after a step by the seat id that leaves the pen where it is
   pub kept_next : (s : St) (r : Rule s) (words' : List ℕ) (id : ℕ) (v w : View) (es : List Entry) → get_elem? s.views id ≡ some v → w.pen ≡ v.pen
       → w.made ≡ v.made → w.live ≡ v.live
-      → length words' ≡ length s.words → Comes s r id es → Later opening.cpus s.words words' → FrontKept words' (log_of s r ++ es)
+      → length words' ≡ length s.words → Comes s r id es → Later (pages_for opening.cpus) s.words words' → FrontKept words' (log_of s r ++ es)
       → (v.pen ≡ true → GoesOnQuietly (penned_of w.meet w.seen) (log_of s r ++ es)) → (v.pen ≡ false → IsQuiet es)
-      → ((hand : Option Hand) → (v.pen ≡ true → hand ≡ w.hand) → (v.pen ≡ false → hand ≡ r.pen.hand) → (c : ℕ) → c < opening.cpus
+      → ((hand : Option Hand) → (v.pen ≡ true → hand ≡ w.hand) → (v.pen ≡ false → hand ≡ r.pen.hand) → (c : ℕ) → c < pages_for opening.cpus
       → PageKept words' hand (page_at (board_after (log_of s r ++ es)) c) c)
       → Fits opening words' (grown r.g es) id w
       → (b : Bool) → v.pen ≡ b → Rule record { words = words'; homes = s.homes; views = set s.views id w }
@@ -360,7 +363,7 @@ module _ (opening : BoardParts) where
       → Fits opening words' (grown r.g es) id w
       → Rule record { words = words'; homes = s.homes; views = set s.views id w }
   look s r words' id v w es at same_pen same_made same_live same_hand as_wide same front comes calm goes mine =
-      kept_next s r words' id v w es at same_pen same_made same_live as_wide comes (later_same opening.cpus s.words words' same) front
+      kept_next s r words' id v w es at same_pen same_made same_live as_wide comes (later_same (pages_for opening.cpus) s.words words' same) front
       (λ is. let pen = pen_same s r id v at is in
       let q = subst (λ (u : View). GoesOnQuietly (penned_of u.meet u.seen) (log_of s r)) pen r.quiet in
       goes (q.0 ++ es, sym (append_assoc (penned_of v.meet v.seen) q.0 es) ∙ ap (λ h. h ++ es) q.1, quiet_more q.0 es q.2 calm))

@@ -5,7 +5,7 @@ use native.Mathlib.Decide.{ℕ_discrete}
 use Rattle.pvclock_page.specs.Words.{words_of}
 use Rattle.board_types.specs.declared.parts.BoardParts.{BoardParts}
 use Rattle.board_history.specs.Machine.{page_at}
-use Rattle.clock_table.specs.Words.{place, word_of, field_at}
+use Rattle.clock_table.specs.Words.{place, word_of, field_at, pages_for}
 use Rattle.clock_table.specs.private.Laid.{IsLaidBelow}
 
 -- five writes at places that follow one another
@@ -65,7 +65,7 @@ at_place : (ws : List ℕ) (c k i : ℕ) → place c k ≡ i → word_of ws c k 
 at_place ws c k i e = ap (λ (j : ℕ). get_or ws j 0) e
 
 -- one page more is laid
-pub laid-more : (n : ℕ) (s : BoardParts) (ws p : List ℕ) → length ws ≡ 32 + 16 * s.cpus → n < s.cpus → p ≡ words_of (page_at s n)
+pub laid-more : (n : ℕ) (s : BoardParts) (ws p : List ℕ) → length ws ≡ 32 + 16 * pages_for s.cpus → n < pages_for s.cpus → p ≡ words_of (page_at s n)
     → IsLaidBelow n s ws → IsLaidBelow (n + 1) s (laid_after ws n p)
 laid-more n s ws p long few is l = record {
   front = five-other ws (32 + 16 * n) _ _ _ _ _ 0 (λ k h e. omega arith) ∙ l.front;

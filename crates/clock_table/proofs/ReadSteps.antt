@@ -48,15 +48,15 @@ use Rattle.atomic_table.specs.Table.{step, keeps, stepped, Allows}
 use Rattle.pvclock_page.specs.declared.page.Page.{Page}
 use Rattle.board_types.specs.declared.parts.BoardParts.{BoardParts}
 use Rattle.board_history.specs.Machine.{Machine, machine_of, page_at}
-use Rattle.board_history.specs.History.{board_after, version_after, May, entries_of, is_of, last_of, Reads}
+use Rattle.board_history.specs.History.{board_after, version_after, May, entries_of, is_of, last_of, Reads, read_if, read_of}
 use Rattle.board_history.specs.private.Steady.{IsSteadyPage}
 use Rattle.board_history.specs.declared.entry.Entry.{Entry}
-use Rattle.board_history.specs.declared.entry.Entry.TheVariants.{PageRead, Clamp}
-use Rattle.board_history.proofs.Laws.{board_after-snoc, entries_of-else}
+use Rattle.board_history.specs.declared.entry.Entry.TheVariants.{Clamp}
+use Rattle.board_history.proofs.Laws.{board_after-snoc, entries_of-else, read_of-number, read_of-leaves, read_of-may}
 use Rattle.clock_table.specs.declared.view.View.{View}
 use Rattle.clock_table.specs.declared.view.Read.{Read}
 use Rattle.clock_table.specs.declared.view.Meet.{Meet}
-use Rattle.clock_table.specs.Words.{place, word_of, field_at}
+use Rattle.clock_table.specs.Words.{place, word_of, field_at, pages_for}
 use Rattle.clock_table.specs.Steps.{
   or_else,
   number_in,
@@ -104,6 +104,14 @@ use Rattle.clock_table.proofs.Keeps.{
 same_place : (c d j k : ℕ) → j < 4 → k < 4 → place c (suc j) ≡ place d (suc k) → (c ≡ d) × (j ≡ k)
 same_place c d j k a b e = (omega arith, omega arith)
 
+-- a read without the lock is quiet
+read_quiet : (cpus pass c h : ℕ) (page : Page) → IsQuietEntry (read_of cpus pass c h page false)
+read_quiet cpus pass c h page = by (eqb c cpus)
+  where
+    by : (b : Bool) → IsQuietEntry (read_if b pass c h page false)
+    by true = refl
+    by false = refl
+
 -- an even word belongs to no open page
 not_open : (b : Bool) (v first : ℕ) → first ≡ v + weight b → first % 2 ≡ 0 → v % 2 ≡ 0 → b ≡ false
 not_open true v first e even steady = absurd (omega arith)
@@ -111,7 +119,7 @@ not_open false v first e even steady = refl
 
 module _ (opening : BoardParts) where
   -- the word of a version is at least what was seen of it
-  least : (s : St) (r : Rule opening s) (seen : List Entry) (c : ℕ) → c < opening.cpus → IsPrefix seen (log_of opening s r)
+  least : (s : St) (r : Rule opening s) (seen : List Entry) (c : ℕ) → c < pages_for opening.cpus → IsPrefix seen (log_of opening s r)
       → version_after seen c ≤ word_of s.words c 0
   least s r seen c l p = let a = seen_least opening r.g.later seen c r.legal p in let b = (r.pages c l).version in omega arith
 
@@ -119,7 +127,7 @@ module _ (opening : BoardParts) where
   glance : (s : St) (r : Rule opening s) (i id p : ℕ) (me : M) (w : View) → get_elem? s.views id ≡ some me.0 → me.0.number ≡ Some p → me.0.meet ≡ None
       → w.seen ≡ me.0.seen → w.number ≡ me.0.number → w.ended ≡ me.0.ended → w.meet ≡ me.0.meet → w.live ≡ me.0.live → w.limit ≡ me.0.limit → w.pen ≡ me.0.pen
       → w.made ≡ me.0.made → w.hand ≡ me.0.hand
-      → ((x : Read) → w.read ≡ Some x → ReadKept s.words opening.cpus w.seen x) → MissesKept s.words opening.cpus w.misses
+      → ((x : Read) → w.read ≡ Some x → ReadKept s.words (pages_for opening.cpus) w.seen x) → MissesKept s.words (pages_for opening.cpus) w.misses
       → Rule opening (stepped s i (get_or s.words i 0) id me.1 w keeps)
   glance s r i id p me w at num no_meet a b c d e f g h j read misses =
       let v = me.0 in
@@ -131,7 +139,7 @@ module _ (opening : BoardParts) where
       (front_same opening s r s.words [] tt refl (r.front.clamp ∙ ap (λ l. (board_after l).greatest) (sym (append-nil (log_of opening s r))))) none tt
       (subst (λ (z : Option Meet × List Entry). GoesOnQuietly (penned_of v.meet v.seen) (log_of opening s r ++ [])
       → GoesOnQuietly (penned_of z.0 z.1) (log_of opening s r ++ [])) (λ k. (sym d k, sym a k)) (λ q. q))
-      (fits_mine opening s r s.words id p [] v w at none (later_self opening.cpus s.words) num (λ n ne. refl) b c (d ∙ no_meet) e f g
+      (fits_mine opening s r s.words id p [] v w at none (later_self (pages_for opening.cpus) s.words) num (λ n ne. refl) b c (d ∙ no_meet) e f g
       (subst (λ l. IsPrefix v.seen l) (sym a) (prefix_self v.seen))
       (subst (λ l. IsPrefix l (log_of opening s r ++ [])) (sym a) (prefix_more v.seen (log_of opening s r) [] old.begins))
       (number_stays (log_of opening s r) [] v.seen p mine refl ∙ ap (entries_of p) (sym a)) read misses))
@@ -150,7 +158,7 @@ module _ (opening : BoardParts) where
       let w = heard v f.begins.0 x in
       let whole : (v.seen ++ f.begins.0) ++ x ∷ [] ≡ log_of opening s r ++ x ∷ [] = ap (λ l. l ++ x ∷ []) f.begins.1 in
       let comes = comes_one opening s r id p v x at num is may in
-      let late = later_same opening.cpus s.words words' same in (
+      let late = later_same (pages_for opening.cpus) s.words words' same in (
         look opening s r words' id v w (x ∷ []) at refl refl refl refl as_wide same (front_same opening s r words' (x ∷ []) (calm, tt) zero' one') comes (
           calm,
           tt,
@@ -159,11 +167,11 @@ module _ (opening : BoardParts) where
             (fits_mine opening s r words' id p (x ∷ []) v w at comes late num (λ n ne. entries_of-else x p n is ne) refl refl no_meet refl refl refl
             (prefix_on v.seen f.begins.0 (x ∷ []))
             ([], append-nil _ ∙ whole) (ap (entries_of p) (sym whole)) (λ z n. absurd (cc n))
-            (misses_later opening.cpus s.words words' v.misses late f.misses)),
+            (misses_later (pages_for opening.cpus) s.words words' v.misses late f.misses)),
         (f.begins.0, refl, learnt opening s r id p v x at num no_meet lives comes),
       )
 
-  first_kept : (s : St) (r : Rule opening s) (c id p : ℕ) (me : M) → c < opening.cpus → get_elem? s.views id ≡ some me.0 → me.0.number ≡ Some p
+  first_kept : (s : St) (r : Rule opening s) (c id p : ℕ) (me : M) → c < pages_for opening.cpus → get_elem? s.views id ≡ some me.0 → me.0.number ≡ Some p
       → me.0.meet ≡ None
       → (b : Bool) → eqb (word_of s.words c 0 % 2) 0 ≡ b → Rule opening
       (stepped s (place c 0) (word_of s.words c 0) id me.1 (first_if b c (word_of s.words c 0) me.0) keeps)
@@ -171,7 +179,8 @@ module _ (opening : BoardParts) where
       let f = r.each id me.0 at in
       let n : ℕ = word_of s.words c 0 in
       glance s r (place c 0) id p me (first_if true c n me.0) at num no_meet refl refl refl refl refl refl refl refl refl
-      (λ x e. let is_x : record { cpu = c; first = n; noted = no_fields } ≡ x = cc e in subst (ReadKept s.words opening.cpus me.0.seen) is_x (record {
+      (λ x e. let is_x : record { cpu = c; first = n; noted = no_fields } ≡ x = cc e in subst (ReadKept s.words (pages_for opening.cpus) me.0.seen) is_x
+      (record {
         there = l;
         even = grind (arith, nat_tests);
         least = least s r me.0.seen c l f.begins;
@@ -182,10 +191,10 @@ module _ (opening : BoardParts) where
       let f = r.each id me.0 at in
       let n : ℕ = word_of s.words c 0 in
       glance s r (place c 0) id p me (first_if false c n me.0) at num no_meet refl refl refl refl refl refl refl refl refl
-      (λ x e. absurd (cc e)) (misses_snoc s.words opening.cpus me.0.misses (record { page = c; first = n; second = n }) f.misses l (omega arith))
+      (λ x e. absurd (cc e)) (misses_snoc s.words (pages_for opening.cpus) me.0.misses (record { page = c; first = n; second = n }) f.misses l (omega arith))
 
   -- a version is loaded
-  pub firsts : (slots c id p : ℕ) (me : M) → c < opening.cpus → me.0.number ≡ Some p → me.0.meet ≡ None
+  pub firsts : (slots c id p : ℕ) (me : M) → c < pages_for opening.cpus → me.0.number ≡ Some p → me.0.meet ≡ None
       → Allows (Kept opening) slots id me (place c 0) (λ n. n) (FirstRead (step slots (place c 0) 0 0 none) me)
   firsts slots c id p me l num no_meet s r _ at _ =
       let n : ℕ = word_of s.words c 0 in (
@@ -216,7 +225,7 @@ module _ (opening : BoardParts) where
         keeps,
         tt,
         glance s r (place x.cpu (suc k)) id p me w at num no_meet refl refl refl refl refl refl refl refl refl
-            (λ z e. let is_z : y ≡ z = cc (ap (with_note k n) is, e) in subst (ReadKept s.words opening.cpus me.0.seen) is_z (record {
+            (λ z e. let is_z : y ≡ z = cc (ap (with_note k n) is, e) in subst (ReadKept s.words (pages_for opening.cpus) me.0.seen) is_z (record {
               there = old.there;
               even = old.even;
               least = old.least;
@@ -228,7 +237,7 @@ module _ (opening : BoardParts) where
       )
 
   -- where the version is the one noted first, the noted page is the board's
-  page_is : (s : St) (r : Rule opening s) (seen : List Entry) (x : Read) → ReadKept s.words opening.cpus seen x → AllNoted x
+  page_is : (s : St) (r : Rule opening s) (seen : List Entry) (x : Read) → ReadKept s.words (pages_for opening.cpus) seen x → AllNoted x
       → word_of s.words x.cpu 0 ≡ x.first → page_at (board_after (log_of opening s r)) x.cpu ≡ noted_page x
   page_is s r seen x old all same =
       let page : Page = page_at (board_after (log_of opening s r)) x.cpu in
@@ -247,19 +256,23 @@ module _ (opening : BoardParts) where
   second_kept : (s : St) (r : Rule opening s) (h p id : ℕ) (me : M) (x : Read) → me.0.number ≡ Some p → me.0.meet ≡ None → me.0.live ≡ true
       → me.0.read ≡ Some x → AllNoted x → get_elem? s.views id ≡ some me.0 → (b : Bool) → eqb (word_of s.words x.cpu 0) x.first ≡ b
       → (w : View) × Rule opening (stepped s (place x.cpu 0) (word_of s.words x.cpu 0) id me.1 w keeps)
-      × MatchBool b (Hears (PageRead (number_in me.0) x.cpu h (noted_page x) false) me.0 w)
+      × MatchBool b (Hears (read_of opening.cpus (number_in me.0) x.cpu h (noted_page x) false) me.0 w)
       ((w ≡ missed x.cpu x.first (word_of s.words x.cpu 0) me.0) × (x.first < word_of s.words x.cpu 0))
   second_kept s r h p id me x num no_meet lives is all at true same =
       let f = r.each id me.0 at in
       let old = f.read x is in
       let now : word_of s.words x.cpu 0 ≡ x.first = eqb-true (word_of s.words x.cpu 0) x.first same in
       let number : number_in me.0 ≡ p = ap (λ (o : Option ℕ). or_else o 0) num in
-      let e : Entry = PageRead (number_in me.0) x.cpu h (noted_page x) false in
+      let e : Entry = read_of opening.cpus (number_in me.0) x.cpu h (noted_page x) false in
       let may : May (log_of opening s r) e =
-      (subst (λ (m : Machine). x.cpu < m.cpus) (sym r.machine) old.there, page_is s r me.0.seen x old all now) in
+      read_of-may (log_of opening s r) opening.cpus (number_in me.0) x.cpu h (noted_page x) false
+      (ap (λ (m : Machine). m.cpus) r.machine) (let there = old.there in omega arith) (page_is s r me.0.seen x old all now) in
+      let own : is_of p e ≡ true = read_of-number opening.cpus (number_in me.0) x.cpu h p (noted_page x) false ∙ eq-eqb (number_in me.0) p number in
+      let calm : IsQuietEntry e = read_quiet opening.cpus (number_in me.0) x.cpu h (noted_page x) in
       let same_greatest : (board_after (log_of opening s r)).greatest ≡ (board_after (log_of opening s r ++ e ∷ [])).greatest =
-      sym (ap (λ (b : BoardParts). b.greatest) (board_after-snoc (log_of opening s r) e)) in
-      let t = hears s r s.words id p me e at num no_meet lives (eq-eqb (number_in me.0) p number) refl may refl (λ c k. refl) refl (r.front.clamp
+      sym (ap (λ (b : BoardParts). b.greatest) (board_after-snoc (log_of opening s r) e
+      ∙ read_of-leaves (board_after (log_of opening s r)) opening.cpus (number_in me.0) x.cpu h (noted_page x) false)) in
+      let t = hears s r s.words id p me e at num no_meet lives own calm may refl (λ c k. refl) refl (r.front.clamp
       ∙ same_greatest) in (
         heard me.0 f.begins.0 e,
         subst (λ ws. Rule opening record { words = ws; homes = s.homes; views = set s.views id (heard me.0 f.begins.0 e) })
@@ -275,14 +288,15 @@ module _ (opening : BoardParts) where
         missed x.cpu x.first n me.0,
         glance s r (place x.cpu 0) id p me (missed x.cpu x.first n me.0) at num no_meet refl refl refl refl refl refl refl refl refl
             (λ z e. absurd (cc e))
-            (misses_snoc s.words opening.cpus me.0.misses (record { page = x.cpu; first = x.first; second = n }) f.misses old.there (omega arith)),
+            (misses_snoc s.words (pages_for opening.cpus) me.0.misses (record { page = x.cpu; first = x.first; second = n }) f.misses old.there (omega arith)),
         (refl, omega arith),
       )
 
   -- the version is loaded again
-  pub seconds : (slots h p id : ℕ) (me : M) (x : Read) → me.0.number ≡ Some p → me.0.meet ≡ None → me.0.live ≡ true → me.0.read ≡ Some x → AllNoted x
-      → Allows (Kept opening) slots id me (place x.cpu 0) (λ n. n) (SecondRead h (step slots (place x.cpu 0) 0 0 none) me)
-  seconds slots h p id me x num no_meet lives is all s r _ at _ =
+  pub seconds : (slots h p id cpus : ℕ) → opening.cpus ≡ cpus → (me : M) (x : Read) → me.0.number ≡ Some p → me.0.meet ≡ None → me.0.live ≡ true
+      → me.0.read ≡ Some x → AllNoted x
+      → Allows (Kept opening) slots id me (place x.cpu 0) (λ n. n) (SecondRead cpus h (step slots (place x.cpu 0) 0 0 none) me)
+  seconds slots h p id cpus same me x num no_meet lives is all s r _ at _ =
       let t = second_kept s r h p id me x num no_meet lives is all at (eqb (word_of s.words x.cpu 0) x.first) refl in (
         t.0,
         keeps,
@@ -292,7 +306,7 @@ module _ (opening : BoardParts) where
           refl,
           λ y yis.
               let same_y : x ≡ y = cc (is, yis) in
-              subst (λ (z : Read). ReadEnds h z (word_of s.words x.cpu 0) me.0 t.0) same_y t.2,
+              subst (λ (z : ℕ × Read). ReadEnds z.0 h z.1 (word_of s.words x.cpu 0) me.0 t.0) (λ i. (same i, same_y i)) t.2,
         ),
       )
 

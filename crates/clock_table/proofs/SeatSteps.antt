@@ -54,6 +54,7 @@ use Rattle.board_history.specs.Machine.{page_at}
 use Rattle.board_history.specs.History.{board_after, entries_of}
 use Rattle.board_history.specs.declared.entry.Entry.{Entry}
 use Rattle.board_history.proofs.Laws.{entries_of-++}
+use Rattle.clock_table.specs.Words.{pages_for}
 use Rattle.clock_table.specs.declared.view.View.{View}
 use Rattle.clock_table.specs.declared.view.Hand.{Hand}
 use Rattle.clock_table.specs.declared.view.Meet.{Meet}
@@ -393,7 +394,7 @@ module _ (opening : BoardParts) where
               mine = λ n is. ap (entries_of n) (sym end) ∙ (f.mine n is ∙ sym (same_mine n is));
               misses = f.misses;
               meet = tt;
-              ended = subst (λ l. EndedKept s.words opening.cpus l v.seen v.ended) end f.ended;
+              ended = subst (λ l. EndedKept s.words (pages_for opening.cpus) l v.seen v.ended) end f.ended;
               opened = f.opened;
               limit = f.limit;
             })),
@@ -525,10 +526,10 @@ module _ (opening : BoardParts) where
               mine = λ k is. f.mine k is ∙ ap (λ m. entries_of k (here_of m v.seen)) v_alone;
               misses = f.misses;
               meet = (here_longer, there_longer, penned_longer);
-              ended = ended_append s.words opening.cpus log u.seen v.ended (w.ended ++ ended_of w.number w)
-                  (ended_wider s.words opening.cpus log v.seen u.seen v.ended here_longer f.ended)
-                  (ended_append s.words opening.cpus log u.seen w.ended (ended_of w.number w)
-                  (ended_wider s.words opening.cpus log w.seen u.seen w.ended there_longer h.ended)
+              ended = ended_append s.words (pages_for opening.cpus) log u.seen v.ended (w.ended ++ ended_of w.number w)
+                  (ended_wider s.words (pages_for opening.cpus) log v.seen u.seen v.ended here_longer f.ended)
+                  (ended_append s.words (pages_for opening.cpus) log u.seen w.ended (ended_of w.number w)
+                  (ended_wider s.words (pages_for opening.cpus) log w.seen u.seen w.ended there_longer h.ended)
                   (ended_new s.words log w u.seen w.number (λ k is. h.mine k is ∙ ap (λ m. entries_of k (here_of m w.seen)) w_alone) there_longer h.misses));
               opened = λ _. let le = prefix_length v.seen u.seen here_longer in let one = f.opened v_lives in omega arith;
               limit = λ lives. f.limit lives;
@@ -571,7 +572,7 @@ module _ (opening : BoardParts) where
           count_of n w.number w in omega arith
 
       ended_new : (ws : List ℕ) (log : List Entry) (w : View) (seen : List Entry) (o : Option ℕ)
-          → ((k : ℕ) → o ≡ Some k → entries_of k log ≡ entries_of k w.seen) → IsPrefix w.seen seen → MissesKept ws opening.cpus w.misses
-          → EndedKept ws opening.cpus log seen (ended_of o w)
+          → ((k : ℕ) → o ≡ Some k → entries_of k log ≡ entries_of k w.seen) → IsPrefix w.seen seen → MissesKept ws (pages_for opening.cpus) w.misses
+          → EndedKept ws (pages_for opening.cpus) log seen (ended_of o w)
       ended_new ws log w seen None mine p m = tt
       ended_new ws log w seen (Some k) mine p m = (p, mine k refl, m, tt)

@@ -1,10 +1,10 @@
 -- What the calls of a table ask.
 use Rattle.std.specs.Prelude.{◌≡◌, ℕ, ◌<◌, ◌^◌, length, slice_index_or, Some, None, true, List}
 use Rattle.pvclock_page.specs.declared.page.Page.{Page}
-use Rattle.board_core.specs.Pages.{published_by}
+use Rattle.board_history.specs.Machine.{page_published}
 use Rattle.board_history.specs.History.{May, pass_of}
 use Rattle.board_history.specs.declared.entry.Entry.{Entry}
-use Rattle.board_history.specs.declared.entry.Entry.TheVariants.{Opened, Board, PageRead, Clamp}
+use Rattle.board_history.specs.declared.entry.Entry.TheVariants.{Opened, Board, PageRead, HvRead, Clamp}
 use Rattle.board_types.specs.declared.reply.Reply.{Reply}
 use Rattle.clock_table.specs.declared.call.Call.{Call}
 use Rattle.clock_table.specs.declared.view.View.{View}
@@ -41,25 +41,28 @@ pub record IsNext (e : Entry) (v : View) : Type 0 where
   pub number : pass_of e ≡ v.number
   pub legal : May v.seen e
 
--- the entry is an access that publishes the page c
-abbrev pub IsPublishing : ℕ → Entry → Type 0
-IsPublishing c (Opened s) = ⊥
-IsPublishing c (Board pass cpu h access reply) = published_by cpu access ≡ Some c
-IsPublishing c (PageRead pass cpu h page locked) = ⊥
-IsPublishing c (Clamp pass cpu reading clock) = ⊥
+-- the entry is an access that publishes the page c of a table of n processors
+abbrev pub IsPublishing : ℕ → ℕ → Entry → Type 0
+IsPublishing n c (Opened s) = ⊥
+IsPublishing n c (Board pass cpu h access reply) = page_published n cpu access ≡ Some c
+IsPublishing n c (PageRead pass cpu h page locked) = ⊥
+IsPublishing n c (HvRead pass h page locked) = ⊥
+IsPublishing n c (Clamp pass cpu reading clock) = ⊥
 
 -- the entry is an access that publishes no page
-abbrev pub PublishesNone : Entry → Type 0
-PublishesNone (Opened s) = ⊥
-PublishesNone (Board pass cpu h access reply) = published_by cpu access ≡ None
-PublishesNone (PageRead pass cpu h page locked) = ⊥
-PublishesNone (Clamp pass cpu reading clock) = ⊥
+abbrev pub PublishesNone : ℕ → Entry → Type 0
+PublishesNone n (Opened s) = ⊥
+PublishesNone n (Board pass cpu h access reply) = page_published n cpu access ≡ None
+PublishesNone n (PageRead pass cpu h page locked) = ⊥
+PublishesNone n (HvRead pass h page locked) = ⊥
+PublishesNone n (Clamp pass cpu reading clock) = ⊥
 
 -- the entry is a read under the lock, which needs a front word below 2^63
 abbrev pub IsBump : List Entry → Entry → Type 0
 IsBump seen (Opened s) = ⊥
 IsBump seen (Board pass cpu h access reply) = ⊥
 IsBump seen (PageRead pass cpu h page locked) = (locked ≡ true) × (loud seen < 2 ^ 63)
+IsBump seen (HvRead pass h page locked) = (locked ≡ true) × (loud seen < 2 ^ 63)
 IsBump seen (Clamp pass cpu reading clock) = ⊥
 
 -- the seat has the page open; the fields put are those of a page

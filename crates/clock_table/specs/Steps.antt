@@ -29,9 +29,9 @@ use mathlib.Core.List.{IsPrefix}
 use Rattle.pvclock_page.specs.declared.page.Page.{Page}
 use Rattle.pvclock_page.specs.Words.{page_of}
 use Rattle.board_types.specs.declared.parts.BoardParts.{BoardParts}
-use Rattle.board_history.specs.History.{of_state, IsLegal, entries_of}
+use Rattle.board_history.specs.History.{of_state, IsLegal, entries_of, read_of}
 use Rattle.board_history.specs.declared.entry.Entry.{Entry}
-use Rattle.board_history.specs.declared.entry.Entry.TheVariants.{Opened, Board, PageRead, Clamp}
+use Rattle.board_history.specs.declared.entry.Entry.TheVariants.{Opened, Board, PageRead, HvRead, Clamp}
 use Rattle.clock_table.specs.declared.view.View.{View}
 use Rattle.clock_table.specs.declared.view.Read.{Read}
 use Rattle.clock_table.specs.declared.view.Hand.{Hand}
@@ -71,6 +71,7 @@ abbrev pub IsQuietEntry : Entry → Type 0
 IsQuietEntry (Opened s) = ⊥
 IsQuietEntry (Board pass cpu h access reply) = ⊥
 IsQuietEntry (PageRead pass cpu h page locked) = locked ≡ false
+IsQuietEntry (HvRead pass h page locked) = locked ≡ false
 IsQuietEntry (Clamp pass cpu reading clock) = Unit {0}
 
 abbrev pub IsQuiet : List Entry → Type 0
@@ -90,6 +91,7 @@ abbrev pub loudness : Entry → ℕ
 loudness (Opened s) = 0
 loudness (Board pass cpu h access reply) = 0
 loudness (PageRead pass cpu h page locked) = weight locked
+loudness (HvRead pass h page locked) = weight locked
 loudness (Clamp pass cpu reading clock) = 0
 
 abbrev pub loud : List Entry → ℕ
@@ -171,10 +173,10 @@ noted_page r =
     page_of (r.first ∷ note_at r 0 ∷ note_at r 1 ∷ note_at r 2 ∷ note_at r 3 ∷ [])
 
 -- the second load of a read found this version: the entry, or a miss
-abbrev pub ReadEnds : ℕ → Read → ℕ → View → View → Type 0
-ReadEnds h r found v w =
+abbrev pub ReadEnds : ℕ → ℕ → Read → ℕ → View → View → Type 0
+ReadEnds cpus h r found v w =
     MatchBool (found == r.first)
-    (Hears (PageRead (number_in v) r.cpu h (noted_page r) false) v w)
+    (Hears (read_of cpus (number_in v) r.cpu h (noted_page r) false) v w)
     ((w ≡ missed r.cpu r.first found v) × (r.first < found))
 
 -- a pass is split off

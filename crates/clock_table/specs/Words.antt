@@ -9,6 +9,10 @@ use Rattle.atomic_table.specs.Seated.{TableId}
 abbrev pub place : ℕ → ℕ → ℕ
 place c k = 32 + (16 * c + k)
 
+-- how many pages a table has for so many processors: behind theirs stands the reference page
+abbrev pub pages_for : ℕ → ℕ
+pages_for cpus = cpus + 1
+
 abbrev pub word_of : List ℕ → ℕ → ℕ → ℕ
 word_of words c k = slice_index words (place c k)
 

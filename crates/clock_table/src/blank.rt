@@ -1,12 +1,14 @@
 //! The words of a state, before a table has its name.
 ghost use Rattle.std.specs.Prelude.{◌≡◌, ◌≤◌, ◌+◌, ◌*◌, length, IfOk};
 ghost use Rattle.board_core.specs.Conditions.{IsJoined};
+ghost use Rattle.clock_table.specs.Words.{pages_for};
 ghost use Rattle.clock_table.specs.private.Laid.{IsLaidBelow};
 
 use crate::table::{APART, CLAMP, PAGES, Words};
 use crate::view::View;
 use atomic_table::Seat;
 use board_core::{BoardParts, BoardState, ProcessorParts};
+use board_history::table_page;
 use clk_units::NoMemory;
 use pvclock_page::page_words;
 use std::alloc::Global;
@@ -24,12 +26,14 @@ impl Model for Blank {
     ghost use Rattle.atomic_table.specs.Seated.{TableId};
     ghost use Rattle.board_types.specs.declared.parts.BoardParts.{BoardParts};
     ghost use Rattle.clock_table.specs.Steps.{first_view};
+    ghost use Rattle.clock_table.specs.Words.{pages_for};
 
     ghost Value = { TableId × BoardParts };
 
     ghost view = { λ b. (b.table.shared.table_id, b.table.shared.key) };
 
-    ghost invariant = { λ b. (b.table.shared.table_id.words ≡ 32 + 16 * b.table.shared.key.cpus)
+    ghost invariant = { λ b. (b.table.shared.table_id.words
+        ≡ 32 + 16 * pages_for b.table.shared.key.cpus)
         × (b.table.shared.table_id.slots ≡ 0) × (b.seat.table_id ≡ b.table.shared.table_id)
         × (b.seat.me ≡ (first_view b.table.shared.key, [])) };
 }
@@ -59,17 +63,17 @@ fn places(processors: &[ProcessorParts; 64]) -> usize
 
 /// The words of a state: the front word, the clamp word, and those of each page.
 fn laid(alloc: Global, state: &BoardState) -> Result<Vec<u64>, NoMemory>
-    ensures long { IfOk result (λ ws. length ws.items ≡ 32 + 16 * state.now.cpus) }
-    ensures laid { IfOk result (λ ws. IsLaidBelow state.now.cpus state.now ws.items) }
+    ensures long { IfOk result (λ ws. length ws.items ≡ 32 + 16 * pages_for state.now.cpus) }
+    ensures laid { IfOk result (λ ws. IsLaidBelow (pages_for state.now.cpus) state.now ws.items) }
 {
-    let cpus = state.cpus();
-    let Ok(mut words) = vec![in alloc; 0; PAGES + APART * cpus as usize] else {
+    let pages = state.cpus() as usize + 1;
+    let Ok(mut words) = vec![in alloc; 0; PAGES + APART * pages] else {
         return Err(NoMemory);
     };
     words[CLAMP] = state.greatest();
-    for cpu in 0..cpus {
-        let [version, stamp, system, scale, offset] = page_words(&state.page(cpu));
-        let at = PAGES + APART * cpu as usize;
+    for page in 0..pages {
+        let [version, stamp, system, scale, offset] = page_words(&table_page(state, page as u8));
+        let at = PAGES + APART * page;
         words[at] = version;
         words[at + 1] = stamp;
         words[at + 2] = system;

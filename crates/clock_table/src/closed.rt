@@ -14,6 +14,9 @@ use atomic_table::Closed as ClosedWords;
 use pvclock_page::{Page, words_page};
 use std::alloc::Global;
 
+/// How many pages a table has at most: those of 64 processors, and the reference page.
+pub const MOST_PAGES: usize = 65;
+
 /// What stands in the place of a page that isn't there.
 const NO_PAGE: Page = Page {
     version: 0,
@@ -31,7 +34,8 @@ const NO_PAGE: Page = Page {
 pub struct Closed {
     pub front: u64,
     pub greatest: u64,
-    pub pages: [Page; 64],
+    /// Those of the processors, and behind them the reference page.
+    pub pages: [Page; MOST_PAGES],
 }
 
 impl<N: Name> ClockTable<N> {
@@ -42,10 +46,10 @@ impl<N: Name> ClockTable<N> {
         ensures legal { IsLegal seat.seen × Opens N.state seat.seen }
         ensures front { result.front ≡ loud seat.seen }
         ensures greatest { result.greatest ≡ (board_after seat.seen).greatest }
-        ensures pages { (cpu : ℕ) → cpu < N.state.cpus → cpu < 64 →
-            slice_index_or result.pages cpu no_page ≡ page_at (board_after seat.seen) cpu }
-        ensures no_pages { (cpu : ℕ) → N.state.cpus ≤ cpu →
-            slice_index_or result.pages cpu no_page ≡ no_page }
+        ensures pages { (page : ℕ) → page ≤ N.state.cpus → page < MOST_PAGES →
+            slice_index_or result.pages page no_page ≡ page_at (board_after seat.seen) page }
+        ensures no_pages { (page : ℕ) → N.state.cpus < page →
+            slice_index_or result.pages page no_page ≡ no_page }
         ensures ended { EndedTold seat.seen seat.ended }
         ensures numbers { (n : ℕ) → N.passes ≤ n → entries_of n seat.seen ≡ [] }
     {
@@ -66,31 +70,31 @@ impl<N: Name> ClockTable<N> {
 }
 
 /// The pages that stand in the words.
-fn pages_of(words: &ClosedWords<(), Global>, count: usize) -> [Page; 64]
+fn pages_of(words: &ClosedWords<(), Global>, count: usize) -> [Page; MOST_PAGES]
     requires full { IsFull words.now.words }
     requires count { slots_len words.now.words ≡ count }
-    ensures pages { (cpu : ℕ) → 32 + 16 * cpu + 16 ≤ count → cpu < 64 →
-        slice_index_or result cpu no_page ≡ page_of (words_at (slots_items words.now.words) cpu) }
-    ensures no_pages { (cpu : ℕ) → count < 32 + 16 * cpu + 16 →
-        slice_index_or result cpu no_page ≡ no_page }
+    ensures pages { (page : ℕ) → 32 + 16 * page + 16 ≤ count → page < MOST_PAGES →
+        slice_index_or result page no_page ≡ page_of (words_at (slots_items words.now.words) page) }
+    ensures no_pages { (page : ℕ) → count < 32 + 16 * page + 16 →
+        slice_index_or result page no_page ≡ no_page }
 {
-    let mut pages = [NO_PAGE; 64];
-    for cpu in 0..64 {
-        if PAGES + APART * cpu + APART <= count {
-            pages[cpu] = page_at(words, cpu);
+    let mut pages = [NO_PAGE; MOST_PAGES];
+    for page in 0..MOST_PAGES {
+        if PAGES + APART * page + APART <= count {
+            pages[page] = page_at(words, page);
         }
     }
     pages
 }
 
-/// The page of a processor.
-fn page_at(words: &ClosedWords<(), Global>, cpu: usize) -> Page
+/// The page at this place.
+fn page_at(words: &ClosedWords<(), Global>, page: usize) -> Page
     requires full { IsFull words.now.words }
-    requires there { 32 + 16 * cpu + 16 ≤ slots_len words.now.words }
-    requires few { cpu < 64 }
-    ensures { result ≡ page_of (words_at (slots_items words.now.words) cpu) }
+    requires there { 32 + 16 * page + 16 ≤ slots_len words.now.words }
+    requires few { page < MOST_PAGES }
+    ensures { result ≡ page_of (words_at (slots_items words.now.words) page) }
 {
-    let at = PAGES + APART * cpu;
+    let at = PAGES + APART * page;
     words_page(&[
         words.word(at),
         words.word(at + 1),

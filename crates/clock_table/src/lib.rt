@@ -23,7 +23,7 @@ mod view;
 
 pub use blank::Blank;
 pub use call::Call;
-pub use closed::Closed;
+pub use closed::{Closed, MOST_PAGES};
 pub use field::Field;
 pub use name::Name;
 pub use table::{ClockSeat, ClockTable};

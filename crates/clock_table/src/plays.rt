@@ -65,14 +65,14 @@ impl Play<(), View> for Fields {
 }
 
 /// A load of the version again: the entry of a read, or a miss.
-pub struct Seconds<E> {
-    of: PhantomData<E>,
+pub struct Seconds<N, E> {
+    of: PhantomData<(N, E)>,
 }
 
-impl<E: Tag> Play<(), View> for Seconds<E> {
+impl<N: Name, E: Tag> Play<(), View> for Seconds<N, E> {
     ghost use Rattle.clock_table.specs.private.Plays.{SecondRead};
 
-    ghost then = { SecondRead E.tag };
+    ghost then = { SecondRead N.state.cpus E.tag };
 }
 
 /// A new pass is split off.

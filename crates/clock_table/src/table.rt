@@ -24,7 +24,7 @@ ghost use Rattle.board_history.specs.History.{
   entries_of,
 };
 ghost use Rattle.board_history.specs.declared.entry.Entry.TheVariants.{Clamp};
-ghost use Rattle.clock_table.specs.Words.{place as place_of};
+ghost use Rattle.clock_table.specs.Words.{place as place_of, pages_for};
 ghost use Rattle.clock_table.specs.Steps.{
   first_view,
   named,
@@ -97,7 +97,7 @@ pub struct ClockTable<N: Name> {
     pub(crate) of: PhantomData<N>,
     pub(crate) ghost named: { table.shared.table_id ≡ N.table },
     pub(crate) ghost opened: { table.shared.key ≡ N.state },
-    pub(crate) ghost sized: { table.shared.table_id.words ≡ 32 + 16 * N.state.cpus },
+    pub(crate) ghost sized: { table.shared.table_id.words ≡ 32 + 16 * pages_for N.state.cpus },
     pub(crate) ghost plain: { table.shared.table_id.slots ≡ 0 },
 }
 
@@ -209,7 +209,7 @@ impl<N: Name> ClockTable<N> {
     pub fn enter(&self, seat: &mut ClockSeat<N>, call: &Call, reply: &Reply)
         requires pen { IsPen seat.old }
         requires shut { seat.old.hand ≡ None }
-        requires none { PublishesNone (entry_of call.now reply.now) }
+        requires none { PublishesNone N.state.cpus (entry_of call.now reply.now) }
         requires next { IsNext (entry_of call.now reply.now) seat.old }
         ensures { Extends (entry_of call.now reply.now) seat.old seat.new }
     {
@@ -217,75 +217,75 @@ impl<N: Name> ClockTable<N> {
     }
 
     /// Opens a page: its version is odd from now on.
-    pub fn begin(&self, seat: &mut ClockSeat<N>, cpu: u8)
-        requires cpu { cpu < N.state.cpus }
+    pub fn begin(&self, seat: &mut ClockSeat<N>, page: u8)
+        requires page { page ≤ N.state.cpus }
         requires pen { IsPen seat.old }
         requires shut { seat.old.hand ≡ None }
-        requires room { version_after seat.old.seen cpu < LAST_VERSION }
-        ensures { seat.new ≡ begun cpu seat.old }
+        requires room { version_after seat.old.seen page < LAST_VERSION }
+        ensures { seat.new ≡ begun page seat.old }
     {
         self.table
             .shared
-            .fetch_add::<Begins>(&mut seat.seat, place(cpu, 0), 1);
+            .fetch_add::<Begins>(&mut seat.seat, place(page, 0), 1);
     }
 
     /// Stores a field of the open page.
-    pub fn put(&self, seat: &mut ClockSeat<N>, cpu: u8, field: Field, word: u64)
-        requires cpu { cpu < N.state.cpus }
+    pub fn put(&self, seat: &mut ClockSeat<N>, page: u8, field: Field, word: u64)
+        requires page { page ≤ N.state.cpus }
         requires pen { IsPen seat.old }
-        requires open { HasOpen cpu seat.old }
+        requires open { HasOpen page seat.old }
         ensures { seat.new ≡ put_in (field_number field) word seat.old }
     {
         self.table
             .shared
-            .store::<Puts>(&mut seat.seat, place(cpu, field.number() + 1), word);
+            .store::<Puts>(&mut seat.seat, place(page, field.number() + 1), word);
     }
 
     /// Closes the page, whose version is then even: an access that publishes it.
-    pub fn finish(&self, seat: &mut ClockSeat<N>, cpu: u8, call: &Call, reply: &Reply)
-        requires cpu { cpu < N.state.cpus }
+    pub fn finish(&self, seat: &mut ClockSeat<N>, page: u8, call: &Call, reply: &Reply)
+        requires page { page ≤ N.state.cpus }
         requires pen { IsPen seat.old }
-        requires open { HasPut cpu
-            (page_at (board_after (seat.old.seen ++ entry_of call.now reply.now ∷ [])) cpu) seat.old }
-        requires publishes { IsPublishing cpu (entry_of call.now reply.now) }
+        requires open { HasPut page
+            (page_at (board_after (seat.old.seen ++ entry_of call.now reply.now ∷ [])) page) seat.old }
+        requires publishes { IsPublishing N.state.cpus page (entry_of call.now reply.now) }
         requires next { IsNext (entry_of call.now reply.now) seat.old }
         ensures { Extends (entry_of call.now reply.now) seat.old seat.new }
     {
-        finish_as::<N, Brand>(self, seat, cpu, call, reply);
+        finish_as::<N, Brand>(self, seat, page, call, reply);
     }
 
     /// Loads the version of a page. An even one begins a read; an odd one is a miss.
-    pub fn first(&self, seat: &mut ClockSeat<N>, cpu: u8) -> u64
-        requires cpu { cpu < N.state.cpus }
+    pub fn first(&self, seat: &mut ClockSeat<N>, page: u8) -> u64
+        requires page { page ≤ N.state.cpus }
         requires pass { IsPass seat.old }
-        ensures view { seat.new ≡ first_read cpu result seat.old }
-        ensures least { version_after seat.old.seen cpu ≤ result }
+        ensures view { seat.new ≡ first_read page result seat.old }
+        ensures least { version_after seat.old.seen page ≤ result }
     {
         self.table
             .shared
-            .load::<Firsts>(&mut seat.seat, place(cpu, 0))
+            .load::<Firsts>(&mut seat.seat, place(page, 0))
     }
 
     /// Loads a field of the page that is read.
-    pub fn field(&self, seat: &mut ClockSeat<N>, cpu: u8, field: Field) -> u64
-        requires cpu { cpu < N.state.cpus }
+    pub fn field(&self, seat: &mut ClockSeat<N>, page: u8, field: Field) -> u64
+        requires page { page ≤ N.state.cpus }
         requires pass { IsPass seat.old }
-        requires read { IsReading cpu seat.old }
+        requires read { IsReading page seat.old }
         ensures { seat.new ≡ noted_in (field_number field) result seat.old }
     {
         self.table
             .shared
-            .load::<Fields>(&mut seat.seat, place(cpu, field.number() + 1))
+            .load::<Fields>(&mut seat.seat, place(page, field.number() + 1))
     }
 
     /// Loads the version again. Where it is as before, the page was read, at count `h`; else it is a miss.
-    pub fn second(&self, seat: &mut ClockSeat<N>, cpu: u8, h: u64) -> u64
-        requires cpu { cpu < N.state.cpus }
+    pub fn second(&self, seat: &mut ClockSeat<N>, page: u8, h: u64) -> u64
+        requires page { page ≤ N.state.cpus }
         requires pass { IsPass seat.old }
-        requires read { HasNoted cpu seat.old }
-        ensures { (r : Read) → seat.old.read ≡ Some r → ReadEnds h r result seat.old seat.new }
+        requires read { HasNoted page seat.old }
+        ensures { (r : Read) → seat.old.read ≡ Some r → ReadEnds N.state.cpus h r result seat.old seat.new }
     {
-        second_as::<N, Brand>(self, seat, cpu, h)
+        second_as::<N, Brand>(self, seat, page, h)
     }
 
     /// Raises the clamp word to a reading, and answers the greater of the two.
@@ -326,7 +326,7 @@ fn enter_as<N: Name, E: Ask>(
     requires entry { entry_of call.now reply.now ≡ E.entry }
     requires pen { IsPen seat.old }
     requires shut { seat.old.hand ≡ None }
-    requires none { PublishesNone (entry_of call.now reply.now) }
+    requires none { PublishesNone N.state.cpus (entry_of call.now reply.now) }
     requires next { IsNext (entry_of call.now reply.now) seat.old }
     ensures { Extends (entry_of call.now reply.now) seat.old seat.new }
 {
@@ -341,16 +341,16 @@ fn enter_as<N: Name, E: Ask>(
 fn finish_as<N: Name, E: Ask>(
     table: &ClockTable<N>,
     seat: &mut ClockSeat<N>,
-    cpu: u8,
+    page: u8,
     call: &Call,
     reply: &Reply,
 )
     requires entry { entry_of call.now reply.now ≡ E.entry }
-    requires cpu { cpu < N.state.cpus }
+    requires page { page ≤ N.state.cpus }
     requires pen { IsPen seat.old }
-    requires open { HasPut cpu
-        (page_at (board_after (seat.old.seen ++ entry_of call.now reply.now ∷ [])) cpu) seat.old }
-    requires publishes { IsPublishing cpu (entry_of call.now reply.now) }
+    requires open { HasPut page
+        (page_at (board_after (seat.old.seen ++ entry_of call.now reply.now ∷ [])) page) seat.old }
+    requires publishes { IsPublishing N.state.cpus page (entry_of call.now reply.now) }
     requires next { IsNext (entry_of call.now reply.now) seat.old }
     ensures { Extends (entry_of call.now reply.now) seat.old seat.new }
 {
@@ -359,26 +359,26 @@ fn finish_as<N: Name, E: Ask>(
     table
         .table
         .shared
-        .fetch_add::<Finishes<E>>(&mut seat.seat, place(cpu, 0), 1);
+        .fetch_add::<Finishes<E>>(&mut seat.seat, place(page, 0), 1);
 }
 
 fn second_as<N: Name, E: Tag>(
     table: &ClockTable<N>,
     seat: &mut ClockSeat<N>,
-    cpu: u8,
+    page: u8,
     h: u64,
 ) -> u64
     requires h { h ≡ E.tag }
-    requires cpu { cpu < N.state.cpus }
+    requires page { page ≤ N.state.cpus }
     requires pass { IsPass seat.old }
-    requires read { HasNoted cpu seat.old }
-    ensures { (r : Read) → seat.old.read ≡ Some r → ReadEnds h r result seat.old seat.new }
+    requires read { HasNoted page seat.old }
+    ensures { (r : Read) → seat.old.read ≡ Some r → ReadEnds N.state.cpus h r result seat.old seat.new }
 {
     let _ = h;
     table
         .table
         .shared
-        .load::<Seconds<E>>(&mut seat.seat, place(cpu, 0))
+        .load::<Seconds<N, E>>(&mut seat.seat, place(page, 0))
 }
 
 fn raise_as<N: Name, E: Tag>(table: &ClockTable<N>, seat: &mut ClockSeat<N>, cpu: u8, x: u64) -> u64
@@ -396,10 +396,10 @@ fn raise_as<N: Name, E: Tag>(table: &ClockTable<N>, seat: &mut ClockSeat<N>, cpu
     if found < x { x } else { found }
 }
 
-/// Where a word of a page stands.
-fn place(cpu: u8, k: usize) -> usize
+/// Where a word of a page stands. The pages are those of the processors, and behind them the reference page.
+fn place(page: u8, k: usize) -> usize
     requires { k < 5 }
-    ensures { result ≡ place_of cpu k }
+    ensures { result ≡ place_of page k }
 {
-    PAGES + (APART * cpu as usize + k)
+    PAGES + (APART * page as usize + k)
 }

@@ -21,8 +21,8 @@ taken-same n m now time v w es fs number when value edges =
     ∙ ap (λ (x : List ℕ). taken m time x es) value
     ∙ ap (λ (x : List Edge). taken m time w x) edges
 
-pub says : (r : ReplyWords) (t u : Told) → t ≡ u → IsReply r t → IsReply r u
-says r t u same is = subst (λ (x : Told). IsReply r x) same is
+pub says : (old r : ReplyWords) (t u : Told) → t ≡ u → IsReply old r t → IsReply old r u
+says old r t u same is = subst (λ (x : Told). IsReply old r x) same is
 
 -- what the board tells where it doesn't refuse
 pub told_by-taken :

@@ -3,6 +3,7 @@ use Rattle.std.specs.Prelude.{
   ◌≡◌,
   ℕ,
   ◌<◌,
+  ◌≤◌,
   false,
   if◌then◌else◌,
   List,
@@ -80,11 +81,18 @@ EdgesAre places es =
     (k : ℕ) → k < length es
     → slice_index_or places k (edge_words no_edge) ≡ edge_words (slice_index_or es k no_edge)
 
--- a reply says what a call tells
-pub record IsReply (r : ReplyWords) (t : Told) : Type 0 where
+-- the places from one on hold what they held
+abbrev pub AreKept : ℕ → List EdgeWords → List EdgeWords → Type 0
+AreKept from old new =
+    (k : ℕ) → from ≤ k
+    → slice_index_or new k (edge_words no_edge) ≡ slice_index_or old k (edge_words no_edge)
+
+-- a reply says what a call tells, and its places behind the edges are as they were
+pub record IsReply (old r : ReplyWords) (t : Told) : Type 0 where
   pub answer : r.answer ≡ t.code
   pub number : r.number ≡ t.number
   pub now : r.now_ns ≡ t.now
   pub value : r.value ≡ t.value
   pub count : r.edge_count ≡ length t.edges
   pub edges : EdgesAre r.edges t.edges
+  pub rest : AreKept (length t.edges) old.edges r.edges

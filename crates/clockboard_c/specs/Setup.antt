@@ -9,10 +9,9 @@ use Rattle.std.specs.Prelude.{
   [],
 }
 use Rattle.clk_units.specs.declared.ranges.TheConstants.{RANGE_NS, KHZ_MIN, KHZ_MAX}
-use Rattle.tick_policy.specs.declared.parts.Policy.TheVariants.{Delay}
 use Rattle.tick_policy.specs.Parts.{policy_of}
 use Rattle.board_types.specs.declared.setup.Setup.{Setup}
-use Rattle.board_types.specs.declared.setup.TheConstants.{SLEW_MAX_NS, SECOND_NS}
+use Rattle.board_types.specs.declared.setup.TheConstants.{SLEW_MAX_NS, SECOND_NS, LAST_FORMAT}
 use Rattle.board_types.specs.Setup.{processors_of}
 use Rattle.board_core.specs.Time.{now_of}
 use Rattle.board_core.specs.PowerOn.{board_at_power_on}
@@ -22,22 +21,6 @@ use Rattle.clockboard_c.specs.declared.power_on.SetupWords.{SetupWords}
 use Rattle.clockboard_c.specs.Call.{sealed}
 use Rattle.clockboard_c.specs.Replies.{Told, refused, taken, no_value}
 
--- the setup of a blank board: 1 GHz, one processor, Delay for all, midnight of the first day (own)
-abbrev pub default_setup : Setup
-default_setup = record {
-  format = 1;
-  anchor = record { khz = 1000000; start = 0; base_ns = 0 };
-  guest_khz = 1000000;
-  cpus = 1;
-  pit = Delay;
-  rtc = Delay;
-  hpet = Delay;
-  slew_ns = 1000000;
-  wall_sec = 0;
-  wall_nsec = 0;
-  time = record { sec = 0; min = 0; hour = 0; wday = 1; date = 1; month = 1; year = 0 };
-}
-
 -- whether a rate in kHz is in range
 abbrev pub is_rate : ℕ → Bool
 is_rate khz = nat_le KHZ_MIN khz && nat_le khz KHZ_MAX
@@ -45,7 +28,7 @@ is_rate khz = nat_le KHZ_MIN khz && nat_le khz KHZ_MAX
 -- whether each number is in its range
 abbrev pub setup_valid : SetupWords → Bool
 setup_valid s =
-    nat_le 1 s.format && nat_le s.format 2 && is_rate s.host_khz && nat_lt s.base_ns RANGE_NS
+    nat_le 1 s.format && nat_le s.format LAST_FORMAT && is_rate s.host_khz && nat_lt s.base_ns RANGE_NS
     && is_rate s.guest_khz && nat_le 1 s.cpus && nat_le s.cpus (processors_of s.format)
     && nat_le 1 s.slew_ns && nat_le s.slew_ns SLEW_MAX_NS && nat_lt s.wall_nsec SECOND_NS
     && nat_le s.pit_policy 2 && nat_le s.rtc_policy 2 && nat_le s.hpet_policy 2

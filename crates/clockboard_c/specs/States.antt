@@ -14,6 +14,7 @@ use Rattle.std.specs.Prelude.{
   None,
 }
 use Rattle.board_types.specs.declared.parts.BoardParts.{BoardParts}
+use Rattle.board_types.specs.declared.setup.TheConstants.{LAST_FORMAT}
 use Rattle.board_devices.specs.Run.{run}
 use Rattle.board_core.specs.Time.{devices_in, now_of}
 use Rattle.board_core.specs.Upgrade.{upgraded_to}
@@ -117,7 +118,7 @@ behind_move b khz start gap =
 abbrev pub upgrade_code : Board → ℕ → ℕ
 upgrade_code b format =
     if b.seal == SEAL then
-    (if nat_le b.state.format format && nat_le format 2 then OK else BAD_FORMAT)
+    (if nat_le b.state.format format && nat_le format LAST_FORMAT then OK else BAD_FORMAT)
     else NO_BOARD
 
 abbrev pub behind_upgrade : Board → ℕ → Board

@@ -1,20 +1,17 @@
 //! The board as C keeps it.
 ghost use Rattle.std.specs.Prelude.{◌≡◌};
+ghost use Rattle.board_types.specs.Setup.{setup_by_default};
 ghost use Rattle.board_core.specs.PowerOn.{board_at_power_on};
-ghost use Rattle.clockboard_c.specs.Setup.{default_setup};
 ghost use Rattle.clockboard_c.specs.Call.{sealed};
 
 use crate::reply::ReplyWords;
 use crate::scratch::Scratch;
 use board_core::BoardState;
 use board_types::Setup;
-use host_counter::Anchor;
-use rtc_calendar::TimeBytes;
 use std::mem::size_of;
-use tick_policy::Policy;
 
 /// The number of this binary interface: it goes up where a struct or a call changes.
-pub const ABI: u32 = 2;
+pub const ABI: u32 = 3;
 
 /// What the first word of each board holds: 'CLKBRDC1', the lowest byte first.
 pub(crate) const SEAL: u64 = 0x3143_4452_424b_4c43;
@@ -66,31 +63,7 @@ pub extern "C" fn clockboard_reply_size() -> usize {
 /// A board at power on, with the setup by default. It is how a caller makes a first one.
 #[unsafe(no_mangle)]
 pub extern "C" fn clockboard_blank() -> Board
-    ensures { result ≡ sealed (board_at_power_on default_setup) }
+    ensures { result ≡ sealed (board_at_power_on (setup_by_default 1)) }
 {
-    sealed(BoardState::power_on(&Setup {
-        format: 1,
-        anchor: Anchor {
-            khz: 1_000_000,
-            start: 0,
-            base_ns: 0,
-        },
-        guest_khz: 1_000_000,
-        cpus: 1,
-        pit: Policy::Delay,
-        rtc: Policy::Delay,
-        hpet: Policy::Delay,
-        slew_ns: 1_000_000,
-        wall_sec: 0,
-        wall_nsec: 0,
-        time: TimeBytes {
-            sec: 0,
-            min: 0,
-            hour: 0,
-            wday: 1,
-            date: 1,
-            month: 1,
-            year: 0,
-        },
-    }))
+    sealed(BoardState::power_on(&Setup::by_default(1)))
 }

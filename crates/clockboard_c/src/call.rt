@@ -13,7 +13,7 @@ use board_types::{Access, Value};
 /// a code; else the board answers. Each call of C's has its own copy of these tests, in which its kind of access is known.
 #[inline(always)]
 pub(crate) fn call(board: &mut Board, cpu: u8, host: u64, access: Access, reply: &mut ReplyWords)
-    ensures reply { IsReply reply.new (told board.old cpu host access) }
+    ensures reply { IsReply reply.old reply.new (told board.old cpu host access) }
     ensures board { board.new ≡ behind board.old cpu host access }
 {
     match early_code(board, cpu, access) {
@@ -44,7 +44,7 @@ fn early_code(board: &Board, cpu: u8, access: Access) -> Option<u32>
 fn answer(board: &mut Board, cpu: u8, host: u64, access: Access, reply: &mut ReplyWords)
     requires cpu { cpu < board.old.state.cpus }
     requires legal { IsTrue (is_legal board.old.state.cpus board.old.state.format access) }
-    ensures reply { IsReply reply.new (told_by board.old.state cpu host access) }
+    ensures reply { IsReply reply.old reply.new (told_by board.old.state cpu host access) }
     ensures board { board.new ≡ answered board.old cpu host access }
 {
     let scratch = &mut board.scratch;

@@ -68,7 +68,7 @@ fn page_words(state: &BoardState, cpu: u8) -> PageWords
 /// It moves no time and takes no number. The reply's value has the clock and the page's own reading, in nanoseconds.
 #[unsafe(no_mangle)]
 pub extern "C" fn clockboard_clock(board: &mut Board, cpu: u8, host: u64, reply: &mut ReplyWords)
-    ensures reply { IsReply reply.new (clock_told board.old cpu host) }
+    ensures reply { IsReply reply.old reply.new (clock_told board.old cpu host) }
     ensures board { board.new ≡ behind_clock board.old cpu host }
 {
     if board.seal != SEAL {
@@ -86,7 +86,7 @@ pub extern "C" fn clockboard_clock(board: &mut Board, cpu: u8, host: u64, reply:
 #[tactic(auto, unfolding(board_core::specs::Pages::after_clock))]
 fn tell_clock(state: &mut BoardState, cpu: u8, host: u64, reply: &mut ReplyWords)
     requires { cpu < state.old.cpus }
-    ensures reply { IsReply reply.new (clock_by state.old cpu host) }
+    ensures reply { IsReply reply.old reply.new (clock_by state.old cpu host) }
     ensures state { state.new ≡ state_behind_clock state.old cpu host }
 {
     match state.clock_of(cpu, host) {

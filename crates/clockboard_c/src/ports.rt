@@ -13,7 +13,7 @@ use board_types::Access;
 /// Nothing but the time up to count `host`.
 #[unsafe(no_mangle)]
 pub extern "C" fn clockboard_step(board: &mut Board, cpu: u8, host: u64, reply: &mut ReplyWords)
-    ensures reply { IsReply reply.new (told board.old cpu host Step) }
+    ensures reply { IsReply reply.old reply.new (told board.old cpu host Step) }
     ensures board { board.new ≡ behind board.old cpu host Step }
 {
     call(board, cpu, host, Access::Step, reply);
@@ -28,7 +28,7 @@ pub extern "C" fn clockboard_port_read(
     port: u16,
     reply: &mut ReplyWords,
 )
-    ensures reply { IsReply reply.new (told board.old cpu host (PortIn port)) }
+    ensures reply { IsReply reply.old reply.new (told board.old cpu host (PortIn port)) }
     ensures board { board.new ≡ behind board.old cpu host (PortIn port) }
 {
     let port = narrowed(port);
@@ -45,7 +45,7 @@ pub extern "C" fn clockboard_port_write(
     byte: u8,
     reply: &mut ReplyWords,
 )
-    ensures reply { IsReply reply.new (told board.old cpu host (PortOut port byte)) }
+    ensures reply { IsReply reply.old reply.new (told board.old cpu host (PortOut port byte)) }
     ensures board { board.new ≡ behind board.old cpu host (PortOut port byte) }
 {
     let port = narrowed(port);

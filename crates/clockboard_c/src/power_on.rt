@@ -9,7 +9,7 @@ use crate::board::{Board, sealed};
 use crate::code::BAD_SETUP;
 use crate::reply::{NO_VALUE, ReplyWords};
 use board_core::BoardState;
-use board_types::{SECOND_NS, SLEW_MAX_NS, Setup, processors_of};
+use board_types::{LAST_FORMAT, SECOND_NS, SLEW_MAX_NS, Setup, processors_of};
 use clk_units::{RANGE_NS, is_khz};
 use host_counter::Anchor;
 use rtc_calendar::TimeBytes;
@@ -53,7 +53,7 @@ pub struct SetupWords {
 /// Makes a board at power on, in any memory. Where the setup is out of range the memory stays as it is.
 #[unsafe(no_mangle)]
 pub extern "C" fn clockboard_power_on(board: &mut Board, setup: &SetupWords, reply: &mut ReplyWords)
-    ensures reply { IsReply reply.new (power_on_told setup.now) }
+    ensures reply { IsReply reply.old reply.new (power_on_told setup.now) }
     ensures board { board.new ≡ powered_on setup.now board.old }
 {
     if !is_valid(setup) {
@@ -70,7 +70,7 @@ fn is_valid(s: &SetupWords) -> bool
     ensures valid { IsTrue result → IsSetup (setup_of s.now) }
 {
     1 <= s.format
-        && s.format <= 2
+        && s.format <= LAST_FORMAT
         && is_khz(s.host_khz)
         && s.base_ns < RANGE_NS
         && is_khz(s.guest_khz)

@@ -29,7 +29,7 @@ pub extern "C" fn clockboard_hpet_read(
     width: u8,
     reply: &mut ReplyWords,
 )
-    ensures reply { IsReply reply.new (told board.old cpu host (HpetRead offset width)) }
+    ensures reply { IsReply reply.old reply.new (told board.old cpu host (HpetRead offset width)) }
     ensures board { board.new ≡ behind board.old cpu host (HpetRead offset width) }
 {
     call(board, cpu, host, Access::HpetRead { offset, width }, reply);
@@ -46,7 +46,7 @@ pub extern "C" fn clockboard_hpet_write(
     value: u64,
     reply: &mut ReplyWords,
 )
-    ensures reply { IsReply reply.new (told board.old cpu host (HpetWrite offset width value)) }
+    ensures reply { IsReply reply.old reply.new (told board.old cpu host (HpetWrite offset width value)) }
     ensures board { board.new ≡ behind board.old cpu host (HpetWrite offset width value) }
 {
     let access = Access::HpetWrite {
@@ -66,7 +66,7 @@ pub extern "C" fn clockboard_msr_read(
     msr: u32,
     reply: &mut ReplyWords,
 )
-    ensures reply { IsReply reply.new (told board.old cpu host (MsrRead msr)) }
+    ensures reply { IsReply reply.old reply.new (told board.old cpu host (MsrRead msr)) }
     ensures board { board.new ≡ behind board.old cpu host (MsrRead msr) }
 {
     call(board, cpu, host, Access::MsrRead { msr }, reply);
@@ -82,7 +82,7 @@ pub extern "C" fn clockboard_msr_write(
     value: u64,
     reply: &mut ReplyWords,
 )
-    ensures reply { IsReply reply.new (told board.old cpu host (MsrWrite msr value)) }
+    ensures reply { IsReply reply.old reply.new (told board.old cpu host (MsrWrite msr value)) }
     ensures board { board.new ≡ behind board.old cpu host (MsrWrite msr value) }
 {
     call(board, cpu, host, Access::MsrWrite { msr, value }, reply);
@@ -97,7 +97,7 @@ pub extern "C" fn clockboard_acknowledge(
     line: u8,
     reply: &mut ReplyWords,
 )
-    ensures reply { IsReply reply.new (told board.old cpu host (Ack line)) }
+    ensures reply { IsReply reply.old reply.new (told board.old cpu host (Ack line)) }
     ensures board { board.new ≡ behind board.old cpu host (Ack line) }
 {
     call(board, cpu, host, Access::Ack { line }, reply);
@@ -112,7 +112,7 @@ pub extern "C" fn clockboard_refresh(
     page: u8,
     reply: &mut ReplyWords,
 )
-    ensures reply { IsReply reply.new (told board.old cpu host (Refresh page)) }
+    ensures reply { IsReply reply.old reply.new (told board.old cpu host (Refresh page)) }
     ensures board { board.new ≡ behind board.old cpu host (Refresh page) }
 {
     call(board, cpu, host, Access::Refresh { page }, reply);
@@ -121,7 +121,7 @@ pub extern "C" fn clockboard_refresh(
 /// The wall clock's words: version, seconds, nanoseconds.
 #[unsafe(no_mangle)]
 pub extern "C" fn clockboard_wall(board: &mut Board, cpu: u8, host: u64, reply: &mut ReplyWords)
-    ensures reply { IsReply reply.new (told board.old cpu host Wall) }
+    ensures reply { IsReply reply.old reply.new (told board.old cpu host Wall) }
     ensures board { board.new ≡ behind board.old cpu host Wall }
 {
     call(board, cpu, host, Access::Wall, reply);
@@ -137,7 +137,7 @@ pub extern "C" fn clockboard_counts(
     source: u8,
     reply: &mut ReplyWords,
 )
-    ensures reply { IsReply reply.new (told board.old cpu host (CountsOf (source_of source))) }
+    ensures reply { IsReply reply.old reply.new (told board.old cpu host (CountsOf (source_of source))) }
     ensures board { board.new ≡ behind board.old cpu host (CountsOf (source_of source)) }
 {
     let from = source_of(source);
@@ -153,7 +153,7 @@ pub extern "C" fn clockboard_rises(
     line: u8,
     reply: &mut ReplyWords,
 )
-    ensures reply { IsReply reply.new (told board.old cpu host (Rose line)) }
+    ensures reply { IsReply reply.old reply.new (told board.old cpu host (Rose line)) }
     ensures board { board.new ≡ behind board.old cpu host (Rose line) }
 {
     call(board, cpu, host, Access::Rose { line }, reply);

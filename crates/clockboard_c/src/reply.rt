@@ -14,6 +14,7 @@ ghost use Rattle.irq_edges.specs.declared.edges.TheConstants.{EDGE_PLACES};
 ghost use Rattle.clockboard_c.specs.Replies.{
   edge_words,
   value_words,
+  AreKept,
   IsReply,
   refused,
   refused_at,
@@ -61,14 +62,14 @@ pub(crate) const NO_VALUE: [u64; 4] = [0; 4];
 impl ReplyWords {
     /// A refusal with this code.
     pub(crate) fn refuse(&mut self, code: u32)
-        ensures { IsReply self.new (refused code) }
+        ensures { IsReply self.old self.new (refused code) }
     {
         self.refuse_at(code, NO_VALUE);
     }
 
     /// A refusal with this code and four numbers.
     pub(crate) fn refuse_at(&mut self, code: u32, value: [u64; 4])
-        ensures { IsReply self.new (refused_at code value) }
+        ensures { IsReply self.old self.new (refused_at code value) }
     {
         self.answer = code;
         self.edge_count = 0;
@@ -80,7 +81,7 @@ impl ReplyWords {
     /// The reply to a call that was taken.
     pub(crate) fn take(&mut self, number: u64, now_ns: u64, value: [u64; 4], edges: &[Edge])
         requires { length edges.now ≤ EDGE_PLACES }
-        ensures { IsReply self.new (taken number now_ns value edges.now) }
+        ensures { IsReply self.old self.new (taken number now_ns value edges.now) }
     {
         self.answer = crate::code::OK;
         self.edge_count = edges.len() as u32;
@@ -94,7 +95,8 @@ impl ReplyWords {
 /// Puts the edges at the front of the places.
 fn put_edges(places: &mut [EdgeWords; EDGE_PLACES], edges: &[Edge])
     requires { length edges.now ≤ EDGE_PLACES }
-    ensures { EdgesAre places.new edges.now }
+    ensures front { EdgesAre places.new edges.now }
+    ensures rest { AreKept (length edges.now) places.old places.new }
 {
     for k in 0..edges.len() {
         places[k] = edge_words(edges[k]);

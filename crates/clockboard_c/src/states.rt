@@ -24,6 +24,7 @@ use crate::code::{
 };
 use crate::reply::{NO_VALUE, ReplyWords};
 use board_core::BoardState;
+use board_types::LAST_FORMAT;
 use clk_units::is_khz;
 use save_state::{StateKind, decode, encode};
 use std::alloc::Global;
@@ -67,7 +68,7 @@ pub extern "C" fn clockboard_save(
 /// the place of the first field at fault, and what is at fault there; the memory stays as it is.
 #[unsafe(no_mangle)]
 pub extern "C" fn clockboard_load(board: &mut Board, bytes: &[u8], reply: &mut ReplyWords)
-    ensures reply { IsReply reply.new (load_told bytes.now) }
+    ensures reply { IsReply reply.old reply.new (load_told bytes.now) }
     ensures board { board.new ≡ loaded bytes.now board.old }
 {
     match decode(bytes) {
@@ -103,7 +104,7 @@ pub extern "C" fn clockboard_move(
     gap_ns: u64,
     reply: &mut ReplyWords,
 )
-    ensures reply { IsReply reply.new (move_told board.old khz start gap_ns) }
+    ensures reply { IsReply reply.old reply.new (move_told board.old khz start gap_ns) }
     ensures board { board.new ≡ behind_move board.old khz start gap_ns }
 {
     if board.seal != SEAL {
@@ -121,7 +122,7 @@ pub extern "C" fn clockboard_move(
 #[inline(never)]
 fn move_on(state: &mut BoardState, khz: u64, start: u64, gap_ns: u64, reply: &mut ReplyWords)
     requires { IsKhz khz }
-    ensures reply { IsReply reply.new (moved_told state.old khz start gap_ns) }
+    ensures reply { IsReply reply.old reply.new (moved_told state.old khz start gap_ns) }
     ensures state { state.new ≡ state_behind_move state.old khz start gap_ns }
 {
     match moved(state, khz, start, gap_ns) {
@@ -157,7 +158,7 @@ pub extern "C" fn clockboard_upgrade(board: &mut Board, format: u8) -> u32
     if board.seal != SEAL {
         return NO_BOARD;
     }
-    if format < board.state.format() || format > 2 {
+    if format < board.state.format() || format > LAST_FORMAT {
         return BAD_FORMAT;
     }
     board.state = board.state.upgraded(format);

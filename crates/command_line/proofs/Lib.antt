@@ -2,3 +2,4 @@ mod Single
 mod Numbers
 mod Parsed
 mod Sizes
+mod Rows

@@ -52,16 +52,16 @@ use Rattle.command_line.proofs.Single.{fault_of-single, by_kinds-among}
 pub took : (words : List Text) (m : ArgMatches) → fault_of app words ≡ [] → rows_of (found_of m) ≡ matches_of app words
     → by_rows (rows_of (found_of m)) ≡ command_of words
 unfolding command_of
-took words m none rows = ap by_rows rows ∙ sym (ap (λ (kinds : Kinds). by_kinds kinds (matches_of app words)) none)
+took words m none rows = ap by_rows rows ∙ sym (ap (λ (kinds : Kinds). by_kinds words kinds (matches_of app words)) none)
 
 -- one that refused them, where memory didn't run out
-pub refused : (words : List Text) (e : Error) → kind_of e ≢ OutOfMemory → HasKind (fault_of app words) e → refused_for (kind_of e) ≡ command_of words
+pub refused : (words : List Text) (e : Error) → kind_of e ≢ OutOfMemory → HasKind (fault_of app words) e → refused_for words (kind_of e) ≡ command_of words
 unfolding command_of
 refused words e memory (inl same) = absurd (memory same)
-refused words e memory (inr among) = by_kinds-among (fault_of app words) (matches_of app words) (kind_of e) (fault_of-single words) among
+refused words e memory (inr among) = by_kinds-among words (fault_of app words) (matches_of app words) (kind_of e) (fault_of-single words) among
 
 -- the same as an answer
-pub answered : (words : List Text) (e : Error) (r : Result Command NoMemory) → HasKind (fault_of app words) e → IfOk r (λ c. c ≡ refused_for (kind_of e))
+pub answered : (words : List Text) (e : Error) (r : Result Command NoMemory) → HasKind (fault_of app words) e → IfOk r (λ c. c ≡ refused_for words (kind_of e))
     → OnOk r (kind_of e ≢ OutOfMemory) → IfOk r (λ c. c ≡ command_of words)
 answered words e (Ok c) has is memory = is ∙ refused words e memory has
 answered words e (Err x) has is memory = tt

@@ -300,8 +300,9 @@ fault_of-single words =
     (level (built app).top refl nothing_held words)
 
 -- so the cause that an error tells is that one
-pub by_kinds-among : (kinds : Kinds) (rows : List Row) (k : ErrorKind) → length kinds ≤ 1 → IsAmong k kinds → refused_for k ≡ by_kinds kinds rows
-by_kinds-among [] rows k few among = absurd among
-by_kinds-among (x ∷ []) rows k few (inl same) = ap refused_for same
-by_kinds-among (x ∷ []) rows k few (inr among) = absurd among
-by_kinds-among (x ∷ y ∷ kinds) rows k few among = absurd (omega arith)
+pub by_kinds-among : (words : List Text) (kinds : Kinds) (rows : List Row) (k : ErrorKind) → length kinds ≤ 1 → IsAmong k kinds
+    → refused_for words k ≡ by_kinds words kinds rows
+by_kinds-among words [] rows k few among = absurd among
+by_kinds-among words (x ∷ []) rows k few (inl same) = ap (refused_for words) same
+by_kinds-among words (x ∷ []) rows k few (inr among) = absurd among
+by_kinds-among words (x ∷ y ∷ kinds) rows k few among = absurd (omega arith)

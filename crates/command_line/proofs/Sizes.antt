@@ -59,16 +59,16 @@ HasSize-asked : (name : Option Text) (key records cpus : Option ℕ) (shows_stat
 HasSize-asked None key records cpus shows_state = search
 HasSize-asked (Some name) key records cpus shows_state = HasSize-named name key records cpus shows_state
 
-pub HasSize-refused : (kind : ErrorKind) → HasSize (refused_for kind)
-HasSize-refused DisplayHelp = search
-HasSize-refused DisplayVersion = search
-HasSize-refused kind = search
+pub HasSize-refused : (words : List Text) (kind : ErrorKind) → HasSize (refused_for words kind)
+HasSize-refused words DisplayHelp = search
+HasSize-refused words DisplayVersion = search
+HasSize-refused words kind = search
 
-HasSize-kinds : (kinds : Kinds) (rows : List Row) → HasSize (by_kinds kinds rows)
-HasSize-kinds [] rows = HasSize-asked (first_of (codes "job") rows) (number_in (codes "key") rows) (number_in (codes "records") rows)
+HasSize-kinds : (words : List Text) (kinds : Kinds) (rows : List Row) → HasSize (by_kinds words kinds rows)
+HasSize-kinds words [] rows = HasSize-asked (first_of (codes "job") rows) (number_in (codes "key") rows) (number_in (codes "records") rows)
     (number_in (codes "cpus") rows) (is_used (codes "state") rows)
-HasSize-kinds (kind ∷ kinds) rows = HasSize-refused kind
+HasSize-kinds words (kind ∷ kinds) rows = HasSize-refused words kind
 
 pub HasSize-command : (words : List Text) → HasSize (command_of words)
 unfolding command_of
-HasSize-command words = HasSize-kinds (fault_of app words) (matches_of app words)
+HasSize-command words = HasSize-kinds words (fault_of app words) (matches_of app words)

@@ -52,6 +52,14 @@ use Rattle.command_line.specs.declared.command.Command.TheVariants.{
   Version,
   Unknown,
 }
+use Rattle.command_line.specs.declared.command.Page.{Page}
+use Rattle.command_line.specs.declared.command.Page.TheVariants.{
+  Overview,
+  OfReplay,
+  OfRace,
+  OfGen,
+  OfSoak,
+}
 use Rattle.command_line.specs.declared.command.Size.{Size}
 use Rattle.trace_gen.specs.declared.generator.TheConstants.{RECORDS_MAX, CPUS_MAX}
 
@@ -137,19 +145,33 @@ by_rows rows = asked_for (first_of (codes "job") rows) (number_in (codes "key") 
     (number_in (codes "records") rows) (number_in (codes "cpus") rows)
     (is_used (codes "state") rows)
 
--- what words ask for that clap refuses for this cause
-abbrev pub refused_for : ErrorKind → Command
-refused_for DisplayHelp = Help
-refused_for DisplayVersion = Version
-refused_for kind = Unknown
+-- a page of the help has the name of its job
+abbrev pub page_named : Text → Page
+page_named name =
+    if bytes_eq name (codes "replay") then OfReplay
+    else if bytes_eq name (codes "race") then OfRace
+    else if bytes_eq name (codes "gen") then OfGen
+    else if bytes_eq name (codes "soak") then OfSoak
+    else Overview
 
-abbrev pub by_kinds : Kinds → List Row → Command
-by_kinds [] rows = by_rows rows
-by_kinds (kind ∷ kinds) rows = refused_for kind
+-- the page that words ask for: that of the first word
+abbrev pub page_of : List Text → Page
+page_of [] = Overview
+page_of (word ∷ words) = page_named word
+
+-- what words ask for that clap refuses for this cause
+abbrev pub refused_for : List Text → ErrorKind → Command
+refused_for words DisplayHelp = Help (page_of words)
+refused_for words DisplayVersion = Version
+refused_for words kind = Unknown
+
+abbrev pub by_kinds : List Text → Kinds → List Row → Command
+by_kinds words [] rows = by_rows rows
+by_kinds words (kind ∷ kinds) rows = refused_for words kind
 
 -- what words ask for
 unfoldable pub command_of : List Text → Command
-command_of words = by_kinds (fault_of app words) (matches_of app words)
+command_of words = by_kinds words (fault_of app words) (matches_of app words)
 
 -- a command with a size has one that may be
 abbrev pub HasSize : Command → Type 0

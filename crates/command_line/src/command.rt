@@ -10,6 +10,21 @@ pub struct Size {
     pub cpus: u64,
 }
 
+/// A page of the help.
+#[derive(Clone, Copy, Debug, PartialEq, Eq)]
+pub enum Page {
+    /// What the program is, its jobs and how it ends.
+    Overview,
+    /// The job `replay`.
+    OfReplay,
+    /// The job `race`.
+    OfRace,
+    /// The job `gen`.
+    OfGen,
+    /// The job `soak`.
+    OfSoak,
+}
+
 /// What a list of words asks for.
 #[derive(Clone, Copy, Debug, PartialEq, Eq)]
 pub enum Command {
@@ -22,7 +37,7 @@ pub enum Command {
     /// `soak`: the same trace is generated and answered, and a summary is printed.
     Soak(Size),
     /// `--help`, or `-h`.
-    Help,
+    Help(Page),
     /// `--version`, or `-V`.
     Version,
     /// No command.

@@ -7,14 +7,15 @@
 //! replay --state       Command::Replay { shows_state: true }
 //! gen 7 200000 16      Command::Gen(Size { key: 7, records: 200_000, cpus: 16 })
 //! replay 7             Command::Unknown: `replay` takes no number
-//! --help               Command::Help
+//! --help               Command::Help(Page::Overview)
+//! gen --help           Command::Help(Page::OfGen)
 //! ```
 #![tactic(auto)]
 
 mod command;
 mod parse;
 
-pub use command::{Command, Size};
+pub use command::{Command, Page, Size};
 pub use parse::command_of;
 
 #[cfg(test)]

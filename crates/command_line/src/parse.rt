@@ -7,6 +7,7 @@ ghost use Rattle.std.specs.Prelude.{
   codes,
   IfOk,
   OnOk,
+  OnErr,
   option_map,
   option_and_then,
 };
@@ -27,9 +28,11 @@ ghost use Rattle.command_line.specs.Command.{
   in_range,
   size_of,
   HasSize,
+  page_named,
+  page_of,
 };
 
-use crate::command::{Command, Named, Size};
+use crate::command::{Command, Named, Page, Size};
 use clap::builder::ValueParser;
 use clap::error::ErrorKind;
 use clap::{Arg, ArgAction, ArgMatches};
@@ -50,7 +53,7 @@ pub fn command_of(alloc: Global, words: &[String]) -> Result<Command, NoMemory>
     };
     match command.try_get_matches_from(words) {
         Ok(matches) => Ok(asked_for(named(&matches))),
-        Err(error) => refused_for(error.kind()),
+        Err(error) => refused_for(words, error.kind()),
     }
 }
 
@@ -189,14 +192,38 @@ fn in_range(records: u64, cpus: u64) -> bool
 }
 
 /// What is asked for by words that clap refuses.
-fn refused_for(kind: ErrorKind) -> Result<Command, NoMemory>
-    ensures command { IfOk result (λ c. c ≡ refused_for kind) }
+fn refused_for(words: &[String], kind: ErrorKind) -> Result<Command, NoMemory>
+    ensures command { IfOk result (λ c. c ≡ refused_for (map string_bytes words.now) kind) }
     ensures memory { OnOk result (kind ≢ ErrorKind.OutOfMemory) }
+    ensures want { OnErr result (kind ≡ ErrorKind.OutOfMemory) }
 {
     match kind {
         ErrorKind::OutOfMemory => Err(NoMemory),
-        ErrorKind::DisplayHelp => Ok(Command::Help),
+        ErrorKind::DisplayHelp => Ok(Command::Help(page_of(words))),
         ErrorKind::DisplayVersion => Ok(Command::Version),
         _ => Ok(Command::Unknown),
+    }
+}
+
+/// The page of the help that words ask for.
+fn page_of(words: &[String]) -> Page
+    ensures { result ≡ page_of (map string_bytes words.now) }
+{
+    match words.first() {
+        Some(name) => page_named(name.as_str()),
+        None => Page::Overview,
+    }
+}
+
+/// The page of a job.
+fn page_named(name: &str) -> Page
+    ensures { result ≡ page_named name.now }
+{
+    match name {
+        "replay" => Page::OfReplay,
+        "race" => Page::OfRace,
+        "gen" => Page::OfGen,
+        "soak" => Page::OfSoak,
+        _ => Page::Overview,
     }
 }

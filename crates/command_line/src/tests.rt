@@ -20,7 +20,7 @@ fn lists_of_words(rt: HostRuntime) -> Result<(), Fail> {
         records: 200_000,
         cpus: 16,
     };
-    let cases: [(&[&str], Command); 22] = [
+    let cases: [(&[&str], Command); 32] = [
         (&[], Command::Unknown),
         (&["replay"], Command::Replay { shows_state: false }),
         (
@@ -47,7 +47,17 @@ fn lists_of_words(rt: HostRuntime) -> Result<(), Fail> {
         (&["gen", "7", "200000", "16", "1"], Command::Unknown),
         (&["gen", "18446744073709551616", "1", "1"], Command::Unknown),
         (&["walk"], Command::Unknown),
-        (&["--help"], Command::Help),
+        (&["--hepl"], Command::Unknown),
+        (&["replay", "-x"], Command::Unknown),
+        (&["replay", "--state=yes"], Command::Unknown),
+        (&["gen", "seven"], Command::Unknown),
+        (&["--help"], Command::Help(Page::Overview)),
+        (&["-h"], Command::Help(Page::Overview)),
+        (&["replay", "--help"], Command::Help(Page::OfReplay)),
+        (&["race", "-h"], Command::Help(Page::OfRace)),
+        (&["gen", "7", "--help"], Command::Help(Page::OfGen)),
+        (&["soak", "--help"], Command::Help(Page::OfSoak)),
+        (&["walk", "--help"], Command::Help(Page::Overview)),
         (&["--version"], Command::Version),
     ];
     for (words, command) in cases {

@@ -16,7 +16,7 @@ mod parts;
 mod stretch;
 mod timer;
 
-pub use parts::{TimerField, TimerParts};
+pub use parts::{TimerField, TimerParts, is_comparator_valid, is_config_valid, is_period_valid};
 pub use stretch::Matches;
 pub use timer::Timer;
 

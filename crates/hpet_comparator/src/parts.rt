@@ -108,9 +108,9 @@ impl TimerParts {
     {
         if !is_config_valid(self) {
             Some(TimerField::Config)
-        } else if within(self, self.comparator) != self.comparator {
+        } else if !is_comparator_valid(self) {
             Some(TimerField::Comparator)
-        } else if within(self, self.period) != self.period {
+        } else if !is_period_valid(self) {
             Some(TimerField::Period)
         } else {
             None
@@ -127,9 +127,23 @@ pub(crate) fn within(parts: &TimerParts, x: u64) -> u64
 }
 
 /// Whether the configuration has writable bits alone and a route of 20 to 23.
-fn is_config_valid(parts: &TimerParts) -> bool
+pub fn is_config_valid(parts: &TimerParts) -> bool
     ensures { result ≡ config_valid parts.now }
 {
     let route = parts.route();
     parts.config & WRITABLE == parts.config && route >= 20 && route <= 23
+}
+
+/// Whether the comparator is in the timer's width.
+pub fn is_comparator_valid(parts: &TimerParts) -> bool
+    ensures { result ≡ comparator_valid parts.now }
+{
+    within(parts, parts.comparator) == parts.comparator
+}
+
+/// Whether the period is in the timer's width.
+pub fn is_period_valid(parts: &TimerParts) -> bool
+    ensures { result ≡ period_valid parts.now }
+{
+    within(parts, parts.period) == parts.period
 }

@@ -1,2 +1,3 @@
 pub mod Times
+mod Guests
 mod Rows

@@ -1,11 +1,12 @@
 -- Small rows that pin the definitions.
-use Rattle.std.proofs.Common.{◌≡◌, ◌+◌, ◌*◌, ◌<◌, true, false, pos, refl, lit<}
+use Rattle.std.proofs.Common.{◌≡◌, ◌+◌, ◌*◌, ◌<◌, true, false, pos, [], ◌∷◌, Some, None, refl, lit<}
 use Rattle.hv_page.specs.declared.page.HvPage.{HvPage}
 use Rattle.hv_page.specs.declared.page.HvReply.TheVariants.{Off, On}
 use Rattle.hv_page.specs.Scale.{tsc_scale}
 use Rattle.hv_page.specs.Time.{units_of, reference_time, reply}
 use Rattle.hv_page.specs.Page.{tsc_sequence, published, withdrawn}
 use Rattle.hv_page.specs.Words.{as_page}
+use Rattle.hv_page.specs.Guest.{guest_bytes, guest_time}
 
 two_ghz : tsc_scale 2000000 ≡ 92233720368547758
 unfolding tsc_scale
@@ -69,3 +70,23 @@ kept_in_a_pvclock_page = refl
 
 off_is_kept_off : (as_page (record { version = 6; scale = 0; offset = 0; tsc_offset = 0 })).enabled ≡ false
 off_is_kept_off = refl
+
+bytes_of_a_page : guest_bytes (record { version = 6; scale = 92233720368547758; offset = 500; tsc_offset = 3 })
+    ≡ 3 ∷ 0 ∷ 0 ∷ 0 ∷ 0 ∷ 0 ∷ 0 ∷ 0 ∷ 174 ∷ 71 ∷ 225 ∷ 122 ∷ 20 ∷ 174 ∷ 71 ∷ 1 ∷ 244 ∷ 1 ∷ 0 ∷ 0 ∷ 0 ∷ 0 ∷ 0 ∷ 0 ∷ []
+bytes_of_a_page = refl
+
+-- the third publishing withdrew the page: the sequence is 0, and not 3
+bytes_of_a_withdrawn_page : guest_bytes (withdrawn (record { version = 4; scale = 1; offset = 2; tsc_offset = 3 }))
+    ≡ 0 ∷ 0 ∷ 0 ∷ 0 ∷ 0 ∷ 0 ∷ 0 ∷ 0 ∷ 0 ∷ 0 ∷ 0 ∷ 0 ∷ 0 ∷ 0 ∷ 0 ∷ 0 ∷ 0 ∷ 0 ∷ 0 ∷ 0 ∷ 0 ∷ 0 ∷ 0 ∷ 0 ∷ []
+bytes_of_a_withdrawn_page = refl
+
+-- at 2^63 ticks a scale of 2^63 adds 2^62 units to the offset 1
+guest_reads_the_bytes : guest_time
+    (1 ∷ 0 ∷ 0 ∷ 0 ∷ 0 ∷ 0 ∷ 0 ∷ 0 ∷ 0 ∷ 0 ∷ 0 ∷ 0 ∷ 0 ∷ 0 ∷ 0 ∷ 128 ∷ 1 ∷ 0 ∷ 0 ∷ 0 ∷ 0 ∷ 0 ∷ 0 ∷ 0 ∷ []) 9223372036854775808
+    ≡ Some 4611686018427387905
+unfolding units_of
+guest_reads_the_bytes = refl
+
+sequence_0_is_not_valid : guest_time
+    (0 ∷ 0 ∷ 0 ∷ 0 ∷ 0 ∷ 0 ∷ 0 ∷ 0 ∷ 0 ∷ 0 ∷ 0 ∷ 0 ∷ 0 ∷ 0 ∷ 0 ∷ 128 ∷ 1 ∷ 0 ∷ 0 ∷ 0 ∷ 0 ∷ 0 ∷ 0 ∷ 0 ∷ []) 5 ≡ None
+sequence_0_is_not_valid = refl

@@ -11,15 +11,18 @@
 //! let page = published(&off, 2_000_000, 0, 2_000, 1_000);   // a TSC of 2 GHz, at 1000 ns
 //! reading(&page, 2_000) == 10
 //! reading(&page, 42_000) == 210
+//! page_bytes(&page)[..4] == [1, 0, 0, 0]      // `TscSequence`, as the guest sees it
 //! of_page(&as_page(&page)) == page
 //! ```
 #![tactic(auto)]
 
+mod guest;
 mod page;
 mod scale;
 mod time;
 mod words;
 
+pub use guest::{guest_sequence, page_bytes};
 pub use page::{HvPage, HvReply, published, withdrawn};
 pub use scale::scale_of;
 pub use time::{reading, reply};

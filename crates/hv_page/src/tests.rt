@@ -63,3 +63,23 @@ fn is_kept_in_the_words_of_a_pvclock_page(rt: HostRuntime) {
     assert_eq!(rt; of_page(&kept), page);
     assert_eq!(rt; pvclock_page::page_words(&as_page(&OFF)), [0; 5]);
 }
+
+/// The bytes of a page whose fields differ in each byte; and those of a page that was withdrawn at
+/// its second publishing have the sequence 0, though its version is 4.
+#[test]
+fn the_guest_sees_24_bytes(rt: HostRuntime) {
+    let page = HvPage {
+        version: 0x0204_0608,
+        scale: 0x1112_1314_1516_1718,
+        offset: 0x2122_2324_2526_2728,
+        tsc_offset: 9,
+    };
+    let bytes = [
+        0x04, 0x03, 0x02, 0x01, 0, 0, 0, 0, 0x18, 0x17, 0x16, 0x15, 0x14, 0x13, 0x12, 0x11, 0x28,
+        0x27, 0x26, 0x25, 0x24, 0x23, 0x22, 0x21,
+    ];
+    assert_eq!(rt; page_bytes(&page), bytes);
+    let off = withdrawn(&published(&OFF, 2_000_000, 0, 0, 500));
+    assert_eq!(rt; (off.sequence(), guest_sequence(&off)), (2, 0));
+    assert_eq!(rt; page_bytes(&off), [0; 24]);
+}

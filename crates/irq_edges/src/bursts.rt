@@ -2,7 +2,6 @@
 ghost use Rattle.std.specs.Prelude.{◌≡◌, ◌<◌, ◌≤◌, ◌↔◌, IsTrue, [], ◌∷◌, ◌++◌, length};
 ghost use Rattle.irq_edges.specs.declared.bursts.TheConstants.{BURST_PLACES};
 
-use arrayvec::ArrayVec;
 use std::marker::Model;
 
 /// How many bursts a `BurstList` has places for: one for each timer of an HPET of eight.
@@ -28,25 +27,45 @@ pub struct Burst {
     pub data: u32,
 }
 
+/// What a place holds in which no burst stands.
+const NO_BURST: Burst = Burst {
+    timer: 0,
+    first: 0,
+    count: 0,
+    every: 0,
+    address: 0,
+    data: 0,
+};
+
 /// A list of at most eight bursts, in the order in which they came. It lies where it is held and
-/// takes no memory.
+/// takes no memory. Its places stand in it as C would have them, as those of an `EdgeList` do.
 #[derive(Debug, Drop, PartialEq, Eq)]
+#[repr(C)]
 pub struct BurstList {
-    bursts: ArrayVec<Burst, BURST_PLACES>,
+    /// The bursts, and `NO_BURST` in each place behind them.
+    places: [Burst; BURST_PLACES],
+    len: usize,
 }
 
 impl Model for BurstList {
-    ghost use Rattle.std.specs.Prelude.{◌≤◌, List, length};
+    ghost use Rattle.std.specs.Prelude.{ℕ, List, length, take};
     ghost use Rattle.irq_edges.specs.declared.bursts.Burst.{Burst};
-    ghost use Rattle.irq_edges.specs.declared.bursts.TheConstants.{BURST_PLACES};
 
     ghost Value = { List Burst };
 
-    ghost view = { λ l. l.bursts.items };
+    ghost use Rattle.irq_edges.specs.declared.bursts.TheConstants.{BURST_PLACES};
+    ghost use Rattle.irq_edges.specs.declared.bursts.BurstList.TheInside.{Inside};
+    ghost use Rattle.irq_edges.specs.private.Places.{no_burst, padded, IsPadded, stored-shown};
 
-    ghost invariant = { λ l. length l.bursts.items ≤ BURST_PLACES };
+    ghost view = { λ l. take l.len l.places };
 
-    ghost inverse = { λ bs. record { bursts = record { items = bs } } };
+    ghost invariant = { λ l. IsPadded BURST_PLACES no_burst l.places l.len };
+
+    ghost inverse = { λ bs. record { places = padded BURST_PLACES no_burst bs; len = length bs } };
+
+    ghost inverse_ok = { λ l is. stored-shown {X = Burst} {Y = Inside}
+        (λ (places : List Burst) (len : ℕ). record { places = places; len = len })
+        BURST_PLACES no_burst l.places l.len is };
 }
 
 impl BurstList {
@@ -55,7 +74,18 @@ impl BurstList {
         ensures { result ≡ [] }
     {
         BurstList {
-            bursts: ArrayVec::new(),
+            places: [NO_BURST; BURST_PLACES],
+            len: 0,
+        }
+    }
+
+    /// Takes all bursts out. It costs only what there were, where `new` fills every place.
+    pub fn clear(&mut self)
+        ensures { self.new ≡ [] }
+    {
+        while self.len > 0 {
+            self.len -= 1;
+            self.places[self.len] = NO_BURST;
         }
     }
 
@@ -64,7 +94,8 @@ impl BurstList {
         requires { length self.old < BURST_PLACES }
         ensures { self.new ≡ self.old ++ burst ∷ [] }
     {
-        self.bursts.push(burst);
+        self.places[self.len] = burst;
+        self.len += 1;
     }
 
     /// The bursts, in the order in which they came.
@@ -72,7 +103,7 @@ impl BurstList {
         ensures value { result.now ≡ self.now }
         ensures fits { length result.now ≤ BURST_PLACES }
     {
-        self.bursts.as_slice()
+        &self.places[..self.len]
     }
 
     /// How many bursts there are.
@@ -80,14 +111,14 @@ impl BurstList {
         ensures value { result ≡ length self.now }
         ensures fits { result ≤ BURST_PLACES }
     {
-        self.bursts.len()
+        self.len
     }
 
     /// Whether there is no burst.
     pub fn is_empty(&self) -> bool
         ensures { IsTrue result ↔ (self.now ≡ []) }
     {
-        self.bursts.is_empty()
+        self.len == 0
     }
 
     /// An equal list.

@@ -43,20 +43,20 @@ impl Model for EdgeList {
 
     ghost Value = { List Edge };
 
-    ghost use Rattle.irq_edges.specs.private.Places.{
-      edges_of,
-      stored,
-      IsStored,
-      stored-edges_of,
-    };
+    ghost use Rattle.std.specs.Prelude.{ℕ, length, take};
+    ghost use Rattle.irq_edges.specs.declared.edges.TheConstants.{EDGE_PLACES};
+    ghost use Rattle.irq_edges.specs.declared.edges.EdgeList.TheInside.{Inside};
+    ghost use Rattle.irq_edges.specs.private.Places.{no_edge, padded, IsPadded, stored-shown};
 
-    ghost view = { edges_of };
+    ghost view = { λ l. take l.len l.places };
 
-    ghost invariant = { IsStored };
+    ghost invariant = { λ l. IsPadded EDGE_PLACES no_edge l.places l.len };
 
-    ghost inverse = { stored };
+    ghost inverse = { λ es. record { places = padded EDGE_PLACES no_edge es; len = length es } };
 
-    ghost inverse_ok = { stored-edges_of };
+    ghost inverse_ok = { λ l is. stored-shown {X = Edge} {Y = Inside}
+        (λ (places : List Edge) (len : ℕ). record { places = places; len = len })
+        EDGE_PLACES no_edge l.places l.len is };
 }
 
 impl EdgeList {

@@ -82,4 +82,6 @@ fn bursts_in_the_order_in_which_they_came(rt: HostRuntime) {
     assert_eq!(rt; bursts.as_slice(), [one, other].as_slice());
     assert_eq!(rt; bursts.len(), 2);
     assert_eq!(rt; bursts.copy(), bursts);
+    bursts.clear();
+    assert_eq!(rt; bursts, BurstList::new());
 }

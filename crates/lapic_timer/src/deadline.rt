@@ -3,7 +3,7 @@
 ghost use Rattle.std.specs.Prelude.{◌≡◌, ◌+◌, ◌*◌, ◌/◌, ◌%◌, ◌^◌, ◌<◌, ◌≤◌};
 ghost use Rattle.clk_units.specs.Ranges.{IsKhz};
 ghost use Rattle.tsc_scale.specs.Ratio.{ratio_of};
-ghost use Rattle.lapic_timer.specs.Deadline.{is_reached, count_at, is_reached_at, IsFirstAt};
+ghost use Rattle.lapic_timer.specs.Deadline.{is_reached, count_at, guest_count_at, is_reached_at, IsFirstAt};
 ghost use Rattle.lapic_timer.specs.private.Wait.{scaled_at, wait_of, count_for, time_for};
 
 use clk_units::RANGE_NS;
@@ -104,4 +104,18 @@ pub fn first_reach(
     } else {
         None
     }
+}
+
+/// The TSC at nanosecond `at` of a processor whose offset is 0. That of another processor is its offset
+/// away, modulo 2^64.
+#[tactic(auto, unfolding(crate::specs::private::Wait::scaled_at, tsc_scale::specs::Offset::tsc_by))]
+pub fn guest_count_at(anchor: Anchor, guest_khz: u64, at: u64) -> u64
+    requires host { IsKhz anchor.khz }
+    requires guest { IsKhz guest_khz }
+    requires anchored { anchor.base_ns ≤ at }
+    requires in_range { at < RANGE_NS }
+    ensures { result ≡ guest_count_at anchor (ratio_of guest_khz anchor.khz) at }
+{
+    let ratio = ratio(guest_khz, anchor.khz);
+    (scaled_at(&anchor, ratio, at) % MODULUS) as u64
 }

@@ -20,8 +20,9 @@ mod registers;
 mod stretch;
 mod timer;
 
-pub use deadline::first_reach;
+pub use deadline::{first_reach, guest_count_at};
 pub use parts::{ApicField, ApicParts};
+pub use registers::ApicRegister;
 pub use stretch::Fires;
 pub use timer::ApicTimer;
 

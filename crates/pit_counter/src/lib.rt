@@ -27,7 +27,10 @@ mod stretch;
 mod table;
 
 pub use counter::Counter;
-pub use parts::{CounterField, CounterParts};
+pub use parts::{
+    CounterField, CounterParts, bits_valid, ce_valid, cr_valid, flags_valid, latched_count_valid,
+    latched_status_valid, part_valid, read_order_valid,
+};
 pub use rises::Rises;
 
 #[cfg(test)]

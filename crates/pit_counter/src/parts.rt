@@ -134,7 +134,7 @@ fn only_where(a: bool, b: bool) -> bool
 
 /// The programmed bits are those of a control word.
 #[tactic(auto, unfolding(crate::specs::Parts::bits_valid))]
-fn bits_valid(p: &CounterParts) -> bool
+pub fn bits_valid(p: &CounterParts) -> bool
     ensures { result ≡ bits_valid p.now }
 {
     16 <= p.bits && p.bits < 64
@@ -177,7 +177,7 @@ fn out_valid(mode: Mode, p: &CounterParts) -> bool
 
 /// The flags.
 #[tactic(auto, unfolding(crate::specs::Parts::flags_valid))]
-fn flags_valid(p: &CounterParts) -> bool
+pub fn flags_valid(p: &CounterParts) -> bool
     ensures { result ≡ flags_valid p.now }
 {
     let mode = mode_of(p.bits);
@@ -186,7 +186,7 @@ fn flags_valid(p: &CounterParts) -> bool
 
 /// The count register is 0 where no count was written.
 #[tactic(auto, unfolding(crate::specs::Parts::cr_valid))]
-fn cr_valid(p: &CounterParts) -> bool
+pub fn cr_valid(p: &CounterParts) -> bool
     ensures { result ≡ cr_valid p.now }
 {
     p.full || p.cr == 0
@@ -195,7 +195,7 @@ fn cr_valid(p: &CounterParts) -> bool
 /// The counting element is in its range, 0 before the first load, even in mode 3, and 1 where OUT
 /// is low in mode 2.
 #[tactic(auto, unfolding(crate::specs::Parts::ce_valid))]
-fn ce_valid(p: &CounterParts) -> bool
+pub fn ce_valid(p: &CounterParts) -> bool
     ensures { result ≡ ce_valid p.now }
 {
     let mode = mode_of(p.bits);
@@ -207,7 +207,7 @@ fn ce_valid(p: &CounterParts) -> bool
 
 /// A first byte waits only where two are taken, in mode 0 with OUT low; without one the byte is 0.
 #[tactic(auto, unfolding(crate::specs::Parts::part_valid))]
-fn part_valid(p: &CounterParts) -> bool
+pub fn part_valid(p: &CounterParts) -> bool
     ensures { result ≡ part_valid p.now }
 {
     only_where(p.part_there, access_of(p.bits).takes_two())
@@ -217,7 +217,7 @@ fn part_valid(p: &CounterParts) -> bool
 
 /// The high byte is next only where both are read.
 #[tactic(auto, unfolding(crate::specs::Parts::read_order_valid))]
-fn read_order_valid(p: &CounterParts) -> bool
+pub fn read_order_valid(p: &CounterParts) -> bool
     ensures { result ≡ read_order_valid p.now }
 {
     only_where(p.high_next, access_of(p.bits).takes_two())
@@ -225,7 +225,7 @@ fn read_order_valid(p: &CounterParts) -> bool
 
 /// A latched count is 0 where none is latched.
 #[tactic(auto, unfolding(crate::specs::Parts::latched_count_valid))]
-fn latched_count_valid(p: &CounterParts) -> bool
+pub fn latched_count_valid(p: &CounterParts) -> bool
     ensures { result ≡ latched_count_valid p.now }
 {
     p.count_latched || p.latched_count == 0
@@ -233,7 +233,7 @@ fn latched_count_valid(p: &CounterParts) -> bool
 
 /// A latched status is 0 where none is latched.
 #[tactic(auto, unfolding(crate::specs::Parts::latched_status_valid))]
-fn latched_status_valid(p: &CounterParts) -> bool
+pub fn latched_status_valid(p: &CounterParts) -> bool
     ensures { result ≡ latched_status_valid p.now }
 {
     p.status_latched || p.latched_status == 0

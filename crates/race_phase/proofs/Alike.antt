@@ -38,10 +38,10 @@ use Rattle.board_types.specs.declared.parts.BoardParts.{BoardParts}
 use Rattle.board_types.specs.declared.parts.ProcessorParts.{ProcessorParts}
 use Rattle.board_core.specs.Access.{after_access, after_run, after_act}
 use Rattle.board_core.specs.Tsc.{no_processor, processor_at}
-use Rattle.board_history.specs.Machine.{Machine, machine_of, page_at}
+use Rattle.board_history.specs.Machine.{Machine, machine_of}
 use Rattle.board_history.specs.History.{of_state, after_entry, board_after, May, LegalFrom, IsLegal, entries_of}
 use Rattle.board_history.specs.declared.entry.Entry.{Entry}
-use Rattle.board_history.specs.declared.entry.Entry.TheVariants.{Opened, Board, PageRead, Clamp}
+use Rattle.board_history.specs.declared.entry.Entry.TheVariants.{Opened, Board, PageRead, HvRead, Clamp}
 use Rattle.board_history.proofs.Laws.{board_after-snoc, machine-stays}
 use Rattle.board_history.proofs.Pages.{machine_of-access, length-processors}
 use Rattle.race_phase.specs.declared.records.Call.{Call}
@@ -60,7 +60,9 @@ use Rattle.race_phase.proofs.Counts.{
   publishes,
   raises_page,
   publishes_words,
+  publishes_reference,
   raises_wall,
+  raises_hv,
   raised,
   places-stay,
   part,
@@ -76,7 +78,7 @@ shown_exact : (s : BoardParts) (ds : List (Option Delivery)) (w : Entry → ℕ)
 shown_exact s ds w v rs h n zero out e shown = refl
 shown_exact s ds w v rs h n (suc k) out e shown =
     let first = exact_all s ds w v n (records_of n rs) shown.0 (entries_of n h) e shown.3 in
-    let rest = shown_exact s ds w v rs h (suc n) k shown.1 e shown.4 in omega arith
+    let rest = shown_exact s ds w v rs h (suc n) k shown.1 e shown.5 in omega arith
 
 -- the greatest count of accesses
 pub host_after : (b : BoardParts) (cpu h : ℕ) (a : Access) → (after_access b cpu h a).host ≡ max b.host h
@@ -129,6 +131,7 @@ reaches_entry : (x : ℕ) (before : List Entry) (e : Entry) → May before e
 reaches_entry x before (Opened s) may = absurd may
 reaches_entry x before (Board pass cpu h access reply) may = reaches_access x (board_after before) cpu h access
 reaches_entry x before (PageRead pass cpu h page locked) may = reaches_none x (board_after before)
+reaches_entry x before (HvRead pass h page locked) may = reaches_none x (board_after before)
 reaches_entry x before (Clamp pass cpu reading clock) may = record { low = λ l. (l, refl); high = λ l z. l }
 
 reaches_entries : (x : ℕ) (before xs : List Entry) → LegalFrom before xs
@@ -196,9 +199,9 @@ module _ (s : BoardParts) (ds : List (Option Delivery)) (rs : List Record) (mid 
   places_mid : length mid.processors ≡ length s.processors
   places_mid = ap (λ (b : BoardParts). length b.processors) now ∙ places-stay (of_state s ∷ []) t.opens.0 legal
 
-  same_page : (k : ℕ) → (page_at (after_records s rs) k).version ≡ (page_at mid k).version
+  same_page : (k : ℕ) → (processor_at (after_records s rs) k).version ≡ (processor_at mid k).version
   same_page k = elim (dec_le (suc k) (length s.processors)) [
-    | yes there ↦ same_number (suc k) (λ b. (page_at b k).version) (publishes k) 2 _ (raises_page k) there
+    | yes there ↦ same_number (suc k) (λ b. (processor_at b k).version) (publishes k) 2 _ (raises_page k) there
     | no gone ↦
         let a : processor_at (after_records s rs) k ≡ no_processor =
         get_or_past (after_records s rs).processors k no_processor (let p = places_records s rs in omega arith) in
@@ -231,6 +234,7 @@ module _ (s : BoardParts) (ds : List (Option Delivery)) (rs : List Record) (mid 
       machine = machine_records s rs ∙ sym machine_mid;
       accesses = same_number 0 (λ b. b.accesses) any_access 1 _ raises_accesses (omega arith);
       wall = same_number 0 (λ b. b.wall_version) publishes_words 2 _ raises_wall (omega arith);
+      hv = same_number 0 (λ b. b.hv.version) publishes_reference 2 _ raises_hv (omega arith);
       pages = same_page;
     };
     host = (let l = host_le in let g = host_ge in omega arith);

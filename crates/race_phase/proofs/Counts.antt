@@ -43,13 +43,14 @@ use Rattle.board_core.specs.Access.{after_access}
 use Rattle.board_core.specs.Pages.{published_by, with_greatest}
 use Rattle.board_core.specs.Refusals.{refusal_of, raised_version, version_at}
 use Rattle.board_core.specs.Wall.{publishes_wall}
-use Rattle.board_core.proofs.Laws.{after_access-accesses, wall_version-after, taken_accesses, taken_version, taken_page}
-use Rattle.board_history.specs.Machine.{page_at}
+use Rattle.board_core.specs.Hv.{publishes_hv}
+use Rattle.board_core.proofs.Laws.{after_access-accesses, version-published, processor_at-other, wall_version-after, hv_version-after, taken_accesses, taken_version, taken_page, taken_hv}
+use Rattle.board_core.specs.Tsc.{processor_at}
 use Rattle.board_history.specs.History.{of_state, after_entry, board_after, May, LegalFrom, is_of, entries_of}
 use Rattle.board_history.specs.declared.entry.Entry.{Entry}
-use Rattle.board_history.specs.declared.entry.Entry.TheVariants.{Opened, Board, PageRead, Clamp}
+use Rattle.board_history.specs.declared.entry.Entry.TheVariants.{Opened, Board, PageRead, HvRead, Clamp}
 use Rattle.board_history.proofs.Laws.{board_after-snoc}
-use Rattle.board_history.proofs.Pages.{length-processors, version-here, page_at-else, page_at-none, publishes_wall-page}
+use Rattle.board_history.proofs.Pages.{length-processors, processor_at-none, publishes_wall-page}
 use Rattle.shared_board.specs.Faults.{page_reads}
 use Rattle.race_phase.specs.declared.records.Call.{Call}
 use Rattle.race_phase.specs.declared.records.Call.TheVariants.{Act, ReadPage, ReadClock}
@@ -77,6 +78,7 @@ abbrev pub of_entry : (ℕ → ℕ → Access → ℕ) → Entry → ℕ
 of_entry f (Opened s) = 0
 of_entry f (Board pass cpu h access reply) = f cpu h access
 of_entry f (PageRead pass cpu h page locked) = 0
+of_entry f (HvRead pass h page locked) = 0
 of_entry f (Clamp pass cpu reading clock) = 0
 
 abbrev pub of_call : (ℕ → ℕ → Access → ℕ) → ℕ → ℕ → Call → ℕ
@@ -92,6 +94,7 @@ abbrev pub reads : Entry → ℕ
 reads (Opened s) = 0
 reads (Board pass cpu h access reply) = 0
 reads (PageRead pass cpu h page locked) = 1
+reads (HvRead pass h page locked) = 1
 reads (Clamp pass cpu reading clock) = 0
 
 pub reads_weigh : (es : List Entry) → page_reads es ≡ weigh reads es
@@ -99,6 +102,7 @@ reads_weigh [] = refl
 reads_weigh (Opened s ∷ es) = let i = reads_weigh es in omega arith
 reads_weigh (Board pass cpu h access reply ∷ es) = let i = reads_weigh es in omega arith
 reads_weigh (PageRead pass cpu h page locked ∷ es) = let i = reads_weigh es in omega arith
+reads_weigh (HvRead pass h page locked ∷ es) = let i = reads_weigh es in omega arith
 reads_weigh (Clamp pass cpu reading clock ∷ es) = let i = reads_weigh es in omega arith
 
 -- a number of a board with n processors that each access raises by k times its weight, and that no access which is taken
@@ -128,35 +132,35 @@ abbrev pub publishes : ℕ → ℕ → ℕ → Access → ℕ
 publishes c cpu h a = is_page c (published_by cpu a)
 
 version_is : (b : BoardParts) (cpu h c : ℕ) (a : Access) → suc c ≤ length b.processors
-    → (page_at (after_access b cpu h a) c).version ≡ (page_at b c).version + 2 * publishes c cpu h a
+    → (processor_at (after_access b cpu h a) c).version ≡ (processor_at b c).version + 2 * publishes c cpu h a
 version_is b cpu h c a l = by_page (published_by cpu a) refl
   where
-    by_page : (o : Option ℕ) → published_by cpu a ≡ o → (page_at (after_access b cpu h a) c).version ≡ (page_at b c).version + 2 * is_page c o
-    by_page None e = let k = ap (λ p. p.version) (page_at-none b cpu h c a e) in omega arith
+    by_page : (o : Option ℕ) → published_by cpu a ≡ o → (processor_at (after_access b cpu h a) c).version ≡ (processor_at b c).version + 2 * is_page c o
+    by_page None e = let k = ap (λ p. p.version) (processor_at-none b cpu h c a e) in omega arith
     by_page (Some d) e = elim (ℕ_discrete d c) [
       | yes same ↦
           let one : is_page c (Some d) ≡ 1 = ap (λ (t : Bool). if t then 1 else 0) (eq-eqb d c same) in
-          let k = version-here b cpu h c a (e ∙ ap (λ (n : ℕ). Some n) same) (omega arith) in omega arith
+          let k = version-published b cpu h c a (e ∙ ap (λ (n : ℕ). Some n) same) (omega arith) in omega arith
       | no apart ↦
           let none : is_page c (Some d) ≡ 0 = ap (λ (t : Bool). if t then 1 else 0) (ne_eqb d c apart) in
-          let k = ap (λ p. p.version) (page_at-else b cpu h d c a e (λ x. apart (sym x))) in omega arith
+          let k = ap (λ p. p.version) (processor_at-other b cpu h d c a e (λ x. apart (sym x))) in omega arith
     ]
 
-version_room : (b : BoardParts) (cpu h c : ℕ) (a : Access) → refusal_of b cpu h a ≡ None → (page_at b c).version ≤ LAST_VERSION + 1
-    → (page_at b c).version + 2 * publishes c cpu h a ≤ LAST_VERSION + 1
+version_room : (b : BoardParts) (cpu h c : ℕ) (a : Access) → refusal_of b cpu h a ≡ None → (processor_at b c).version ≤ LAST_VERSION + 1
+    → (processor_at b c).version + 2 * publishes c cpu h a ≤ LAST_VERSION + 1
 version_room b cpu h c a taken l = by_page (published_by cpu a) refl
   where
-    by_page : (o : Option ℕ) → published_by cpu a ≡ o → (page_at b c).version + 2 * is_page c o ≤ LAST_VERSION + 1
+    by_page : (o : Option ℕ) → published_by cpu a ≡ o → (processor_at b c).version + 2 * is_page c o ≤ LAST_VERSION + 1
     by_page None e = omega arith
     by_page (Some d) e = by_test (eqb d c) refl
       where
-        by_test : (t : Bool) → eqb d c ≡ t → (page_at b c).version + 2 * (if t then 1 else 0) ≤ LAST_VERSION + 1
+        by_test : (t : Bool) → eqb d c ≡ t → (processor_at b c).version + 2 * (if t then 1 else 0) ≤ LAST_VERSION + 1
         by_test true is =
             let some : published_by cpu a ≡ Some c = e ∙ ap (λ (n : ℕ). Some n) (eqb-true d c is) in
             let v = taken_page b cpu h a taken c (publishes_wall-page cpu c a some) some in omega arith
         by_test false is = omega arith
 
-pub raises_page : (c : ℕ) → Raises (suc c) (λ b. (page_at b c).version) (publishes c) 2 (LAST_VERSION + 1)
+pub raises_page : (c : ℕ) → Raises (suc c) (λ b. (processor_at b c).version) (publishes c) 2 (LAST_VERSION + 1)
 raises_page c = record {
   access = λ b cpu h a l. version_is b cpu h c a l;
   clamp = λ b g. refl;
@@ -167,9 +171,9 @@ raises_page c = record {
 abbrev pub publishes_words : ℕ → ℕ → Access → ℕ
 publishes_words cpu h a = if publishes_wall a then 1 else 0
 
-wall_is : (t : Bool) (v : ℕ) → (if t then v + 2 else v) ≡ v + 2 * (if t then 1 else 0)
-wall_is true v = omega arith
-wall_is false v = omega arith
+raised_is : (t : Bool) (v : ℕ) → (if t then v + 2 else v) ≡ v + 2 * (if t then 1 else 0)
+raised_is true v = omega arith
+raised_is false v = omega arith
 
 wall_room : (b : BoardParts) (cpu h : ℕ) (a : Access) → refusal_of b cpu h a ≡ None → b.wall_version ≤ LAST_VERSION + 1
     → b.wall_version + 2 * publishes_words cpu h a ≤ LAST_VERSION + 1
@@ -177,17 +181,36 @@ wall_room b cpu h a taken l = by_test (publishes_wall a) refl
   where
     by_test : (t : Bool) → publishes_wall a ≡ t → b.wall_version + 2 * (if t then 1 else 0) ≤ LAST_VERSION + 1
     by_test true is =
-        let raised : raised_version b.processors b.wall_version cpu a ≡ Some b.wall_version =
-        ap (λ (w : Bool). cond w (Some b.wall_version) (version_at (published_by cpu a) b.processors)) is in
+        let raised : raised_version b.processors b.wall_version b.hv.version cpu a ≡ Some b.wall_version =
+        ap (λ (w : Bool). cond w (Some b.wall_version) (cond (publishes_hv a) (Some b.hv.version) (version_at (published_by cpu a) b.processors))) is in
         let less : b.wall_version < LAST_VERSION =
         subst (λ (v : Option ℕ). IfSome v (λ n. n < LAST_VERSION)) raised (taken_version b cpu h a taken) in omega arith
     by_test false is = omega arith
 
 pub raises_wall : Raises 0 (λ b. b.wall_version) publishes_words 2 (LAST_VERSION + 1)
 raises_wall = record {
-  access = λ b cpu h a l. wall_version-after b cpu h a ∙ wall_is (publishes_wall a) b.wall_version;
+  access = λ b cpu h a l. wall_version-after b cpu h a ∙ raised_is (publishes_wall a) b.wall_version;
   clamp = λ b g. refl;
   room = λ b cpu h a taken l. wall_room b cpu h a taken l;
+}
+
+-- the version of the reference page
+abbrev pub publishes_reference : ℕ → ℕ → Access → ℕ
+publishes_reference cpu h a = if publishes_hv a then 1 else 0
+
+hv_room : (b : BoardParts) (cpu h : ℕ) (a : Access) → refusal_of b cpu h a ≡ None → b.hv.version ≤ LAST_VERSION + 1
+    → b.hv.version + 2 * publishes_reference cpu h a ≤ LAST_VERSION + 1
+hv_room b cpu h a taken l = by_test (publishes_hv a) refl
+  where
+    by_test : (t : Bool) → publishes_hv a ≡ t → b.hv.version + 2 * (if t then 1 else 0) ≤ LAST_VERSION + 1
+    by_test true is = let less = taken_hv b cpu h a taken is in omega arith
+    by_test false is = omega arith
+
+pub raises_hv : Raises 0 (λ b. b.hv.version) publishes_reference 2 (LAST_VERSION + 1)
+raises_hv = record {
+  access = λ b cpu h a l. hv_version-after b cpu h a ∙ raised_is (publishes_hv a) b.hv.version;
+  clamp = λ b g. refl;
+  room = λ b cpu h a taken l. hv_room b cpu h a taken l;
 }
 
 -- a history raises the number by the weight of its entries
@@ -196,6 +219,7 @@ places-entry : (before : List Entry) (e : Entry) → May before e
 places-entry before (Opened s) may = absurd may
 places-entry before (Board pass cpu h access reply) may = length-processors (board_after before) cpu h access
 places-entry before (PageRead pass cpu h page locked) may = refl
+places-entry before (HvRead pass h page locked) may = refl
 places-entry before (Clamp pass cpu reading clock) may = refl
 
 pub places-stay : (before xs : List Entry) → LegalFrom before xs → length (board_after (before ++ xs)).processors ≡ length (board_after before).processors
@@ -211,6 +235,7 @@ module _ (n : ℕ) (q : BoardParts → ℕ) (f : ℕ → ℕ → Access → ℕ)
   raised-entry before (Opened s) may l = absurd may
   raised-entry before (Board pass cpu h access reply) may l = r.access (board_after before) cpu h access l
   raised-entry before (PageRead pass cpu h page locked) may l = omega arith
+  raised-entry before (HvRead pass h page locked) may l = omega arith
   raised-entry before (Clamp pass cpu reading clock) may l = let c = r.clamp (board_after before) clock in omega arith
 
   pub raised : (before xs : List Entry) → LegalFrom before xs → n ≤ length (board_after before).processors
@@ -316,6 +341,9 @@ part_whole w m (Board pass cpu h access reply ∷ es) zero_there below =
 part_whole w m (PageRead pass cpu h page locked ∷ es) zero_there below =
     numbered w (PageRead pass cpu h page locked) pass m es (λ n. refl) below
     (part_whole w m es zero_there (below_rest m (PageRead pass cpu h page locked) es below))
+part_whole w m (HvRead pass h page locked ∷ es) zero_there below =
+    numbered w (HvRead pass h page locked) pass m es (λ n. refl) below
+    (part_whole w m es zero_there (below_rest m (HvRead pass h page locked) es below))
 part_whole w m (Clamp pass cpu reading clock ∷ es) zero_there below =
     numbered w (Clamp pass cpu reading clock) pass m es (λ n. refl) below
     (part_whole w m es zero_there (below_rest m (Clamp pass cpu reading clock) es below))

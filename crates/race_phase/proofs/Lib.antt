@@ -1,4 +1,5 @@
 pub mod Alike
+pub mod Answered
 pub mod Counts
 pub mod Edges
 pub mod Ended

@@ -37,6 +37,7 @@ use Rattle.board_types.specs.Legal.{is_legal}
 use Rattle.board_types.specs.declared.access.Access.{Access}
 use Rattle.board_types.specs.declared.access.Access.TheVariants.{Step}
 use Rattle.board_types.specs.declared.parts.BoardParts.{BoardParts}
+use Rattle.board_types.specs.declared.parts.HvParts.{HvParts}
 use Rattle.board_types.specs.declared.parts.ProcessorParts.{ProcessorParts}
 use Rattle.board_types.specs.declared.reply.Refusal.{Refusal}
 use Rattle.board_core.specs.Access.{after_access}
@@ -44,9 +45,9 @@ use Rattle.board_core.specs.Pages.{published, published_at_host, published_by}
 use Rattle.board_core.specs.Reanchor.{reanchored}
 use Rattle.board_core.specs.Time.{now_of}
 use Rattle.board_core.specs.Tsc.{no_processor, processor_at}
-use Rattle.board_core.proofs.Laws.{after_access-accesses}
-use Rattle.board_history.specs.Machine.{Machine, machine_of, page_at}
-use Rattle.board_history.proofs.Pages.{machine_of-access, length-processors, version-here, page_at-else, page_at-none, published_by-legal}
+use Rattle.board_core.proofs.Laws.{after_access-accesses, version-published, processor_at-other}
+use Rattle.board_history.specs.Machine.{Machine, machine_of}
+use Rattle.board_history.proofs.Pages.{machine_of-access, length-processors, processor_at-none, published_by-legal}
 use Rattle.board_history.proofs.Refusals.{same_refusal}
 use Rattle.transfer.specs.Move.{or_spent, spent_below, move_fault, published_below, moved_to, tsc_moved}
 use Rattle.transfer.specs.declared.outcome.MoveFault.TheVariants.{OutOfRange}
@@ -74,29 +75,29 @@ use Rattle.race_phase.specs.Order.{
 }
 use Rattle.race_phase.specs.Phases.{IsEnd, IsPhase, next_board, by_move, end_fault, after_phase, phase_fault, trace_fault}
 use Rattle.race_phase.proofs.Alike.{host_after}
-use Rattle.race_phase.proofs.Counts.{raises_wall}
+use Rattle.race_phase.proofs.Counts.{raises_wall, raises_hv}
 use Rattle.race_phase.proofs.Taken.{or_none}
 
 -- one access more
 same_pages : (b c : BoardParts) (cpu h k : ℕ) (a : Access) → AreAlike b c → b.cpus ≡ c.cpus → cpu < b.cpus → IsTrue (is_legal b.cpus b.format a)
-    → (page_at (after_access b cpu h a) k).version ≡ (page_at (after_access c cpu h a) k).version
+    → (processor_at (after_access b cpu h a) k).version ≡ (processor_at (after_access c cpu h a) k).version
 same_pages b c cpu h k a s size inside legal = by_page (published_by cpu a) refl
   where
-    by_page : (o : Option ℕ) → published_by cpu a ≡ o → (page_at (after_access b cpu h a) k).version ≡ (page_at (after_access c cpu h a) k).version
+    by_page : (o : Option ℕ) → published_by cpu a ≡ o → (processor_at (after_access b cpu h a) k).version ≡ (processor_at (after_access c cpu h a) k).version
     by_page None e =
-        let x = ap (λ p. p.version) (page_at-none b cpu h k a e) in
-        let y = ap (λ p. p.version) (page_at-none c cpu h k a e) in
+        let x = ap (λ p. p.version) (processor_at-none b cpu h k a e) in
+        let y = ap (λ p. p.version) (processor_at-none c cpu h k a e) in
         let z = s.counts.pages k in omega arith
     by_page (Some d) e = elim (ℕ_discrete k d) [
       | yes same ↦
           let here : published_by cpu a ≡ Some k = e ∙ ap (λ (n : ℕ). Some n) (sym same) in
           let small : k < b.cpus = published_by-legal b.cpus b.format cpu k a inside legal here in
-          let x = version-here b cpu h k a here (let p = s.places in omega arith) in
-          let y = version-here c cpu h k a here (let p = s.others in omega arith) in
+          let x = version-published b cpu h k a here (let p = s.places in omega arith) in
+          let y = version-published c cpu h k a here (let p = s.others in omega arith) in
           let z = s.counts.pages k in omega arith
       | no apart ↦
-          let x = ap (λ p. p.version) (page_at-else b cpu h d k a e apart) in
-          let y = ap (λ p. p.version) (page_at-else c cpu h d k a e apart) in
+          let x = ap (λ p. p.version) (processor_at-other b cpu h d k a e apart) in
+          let y = ap (λ p. p.version) (processor_at-other c cpu h d k a e apart) in
           let z = s.counts.pages k in omega arith
     ]
 
@@ -117,6 +118,10 @@ access_alike b c cpu h a s inside legal =
             let x = raises_wall.access b cpu h a (omega arith) in
             let y = raises_wall.access c cpu h a (omega arith) in
             let z = s.counts.wall in omega arith);
+        hv = (
+            let x = raises_hv.access b cpu h a (omega arith) in
+            let y = raises_hv.access c cpu h a (omega arith) in
+            let z = s.counts.hv in omega arith);
         pages = λ k. same_pages b c cpu h k a s (ap (λ (m : Machine). m.cpus) s.counts.machine) inside legal;
       };
       host = host_after b cpu h a ∙ (ap (λ (n : ℕ). max n h) s.host ∙ sym (host_after c cpu h a));
@@ -207,6 +212,11 @@ unfolding published_below published_at_host
 published_wall b khz start gap zero m = refl
 published_wall b khz start gap (suc n) m = published_wall b khz start gap n m
 
+published_hv : (b : BoardParts) (khz start gap n : ℕ) (m : BoardParts) → (published_below b khz start gap n m).hv ≡ m.hv
+unfolding published_below published_at_host
+published_hv b khz start gap zero m = refl
+published_hv b khz start gap (suc n) m = published_hv b khz start gap n m
+
 published_host : (b : BoardParts) (khz start gap n : ℕ) (m : BoardParts) → (published_below b khz start gap n m).host ≡ m.host
 unfolding published_below published_at_host
 published_host b khz start gap zero m = refl
@@ -266,6 +276,10 @@ reanchored_wall : (khz start gap : ℕ) (b : BoardParts) → (reanchored khz sta
 unfolding reanchored
 reanchored_wall khz start gap b = refl
 
+reanchored_hv : (khz start gap : ℕ) (b : BoardParts) → (reanchored khz start gap b).hv ≡ b.hv
+unfolding reanchored
+reanchored_hv khz start gap b = refl
+
 reanchored_host : (khz start gap : ℕ) (b : BoardParts) → (reanchored khz start gap b).host ≡ start
 unfolding reanchored
 reanchored_host khz start gap b = refl
@@ -286,6 +300,10 @@ module _ (khz start gap : ℕ) where
   pub moved_wall : (b : BoardParts) → (moved_to khz start gap b).wall_version ≡ b.wall_version
   unfolding moved_to
   moved_wall b = published_wall b khz start gap b.cpus (reanchored khz start gap b) ∙ reanchored_wall khz start gap b
+
+  pub moved_hv : (b : BoardParts) → (moved_to khz start gap b).hv ≡ b.hv
+  unfolding moved_to
+  moved_hv b = published_hv b khz start gap b.cpus (reanchored khz start gap b) ∙ reanchored_hv khz start gap b
 
   pub moved_host : (b : BoardParts) → (moved_to khz start gap b).host ≡ start
   unfolding moved_to
@@ -330,6 +348,7 @@ module _ (khz start gap : ℕ) where
       machine = moved_machine b ∙ ((λ i. anew khz start gap (same_now b c s i) (s.counts.machine i)) ∙ sym (moved_machine c));
       accesses = moved_accesses b ∙ (s.counts.accesses ∙ sym (moved_accesses c));
       wall = moved_wall b ∙ (s.counts.wall ∙ sym (moved_wall c));
+      hv = ap (λ (p : HvParts). p.version) (moved_hv b) ∙ (s.counts.hv ∙ sym (ap (λ (p : HvParts). p.version) (moved_hv c)));
       pages = moved_versions b c s;
     };
     host = moved_host b ∙ sym (moved_host c);

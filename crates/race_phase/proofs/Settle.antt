@@ -44,7 +44,7 @@ use Rattle.race_phase.specs.declared.records.Answer.TheVariants.{Acted, PageIs, 
 use Rattle.race_phase.specs.declared.records.Call.{Call}
 use Rattle.race_phase.specs.declared.records.Call.TheVariants.{Act, ReadPage, ReadClock}
 use Rattle.race_phase.specs.declared.records.Record.{Record}
-use Rattle.race_phase.specs.Calls.{IsFitting, records_of, CallMade, MadeBy, AllMade, Shown}
+use Rattle.race_phase.specs.Calls.{IsFitting, records_of, CallMade, MadeBy, AllMade, AllTried, Shown}
 use Rattle.race_phase.specs.private.Workers.{IsTrouble, HasStopped, HasWorked, AllWorked}
 use Rattle.race_phase.proofs.Counts.{weigh, weigh-append, of_entry, of_call, of_record, reads, part, one, one_there}
 
@@ -141,7 +141,7 @@ module _ (s : BoardParts) where
     worked_below : (rs : List Record) (n : ℕ) (p : PassKnown) (zs : List ℕ) (w : Entry → ℕ) (v : Record → ℕ) → Covers w v → HasWorked s ds rs n p zs
         → weigh w (mine p) ≤ weigh v (records_of n rs)
     worked_below rs n p zs w v k x = ⊎_elim
-        (λ (all : AllMade s ds n (records_of n rs) zs (mine p)). covers_all w v n (records_of n rs) zs (mine p) k all)
+        (λ (all : AllMade s ds n (records_of n rs) zs (mine p) × AllTried s.cpus (mine p) p.misses). covers_all w v n (records_of n rs) zs (mine p) k all.0)
         (λ (y : HasStopped s ds n (records_of n rs) p). let l = stopped_below n (records_of n rs) p y w v k in omega arith)
         x.1
 
@@ -205,11 +205,19 @@ module _ (s : BoardParts) (ds : List (Option Delivery)) (rs : List Record) (h : 
             let rest = x.below w v k in omega arith;
       }
 
-      by_first : Shown s ds rs h (suc n) (length ps) all.1 → AllMade s ds n (records_of n rs) all.0 (mine p) ⊎ HasStopped s ds n (records_of n rs) p
+      by_first : Shown s ds rs h (suc n) (length ps) all.1
+          → (AllMade s ds n (records_of n rs) all.0 (mine p) × AllTried s.cpus (mine p) p.misses) ⊎ HasStopped s ds n (records_of n rs) p
           → Shown s ds rs h n (suc (length ps)) out ⊎ Stuck s rs h n (suc (length ps))
       by_first shown x = ⊎_elim
-          (λ (made : AllMade s ds n (records_of n rs) all.0 (mine p)).
-          inl (all.0, all.1, all.2, subst (AllMade s ds n (records_of n rs) all.0) (sym mine_told) made, shown))
+          (λ (made : AllMade s ds n (records_of n rs) all.0 (mine p) × AllTried s.cpus (mine p) p.misses).
+          inl (
+            all.0,
+            all.1,
+            all.2,
+            subst (AllMade s ds n (records_of n rs) all.0) (sym mine_told) made.0,
+            (p.misses, subst (λ (es : List Entry). AllTried s.cpus es p.misses) (sym mine_told) made.1, told.2),
+            shown,
+          ))
           (λ (y : HasStopped s ds n (records_of n rs) p). inr (here y)) x
 
       by_rest : Shown s ds rs h (suc n) (length ps) all.1 ⊎ Stuck s rs h (suc n) (length ps)

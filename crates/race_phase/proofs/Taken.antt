@@ -54,14 +54,16 @@ use Rattle.board_core.specs.Pages.{published_by}
 use Rattle.board_core.specs.Refusals.{refusal_of}
 use Rattle.board_core.specs.Time.{HasTime}
 use Rattle.board_core.specs.Wall.{publishes_wall}
+use Rattle.board_core.specs.Hv.{publishes_hv}
 use Rattle.board_core.specs.Conditions.{IsJoined}
 use Rattle.board_core.proofs.Laws.{after_access-anchor, taken_time}
 use Rattle.board_core.proofs.Joined.{most-cpus}
-use Rattle.board_history.specs.Machine.{Machine, page_at}
+use Rattle.board_core.specs.Tsc.{processor_at}
+use Rattle.board_history.specs.Machine.{Machine}
 use Rattle.board_history.specs.Counts.{HasNoTime, IsAtLastVersion}
 use Rattle.board_history.specs.History.{of_state, board_after, LegalFrom, IsLegal, Opens}
 use Rattle.board_history.specs.declared.entry.Entry.{Entry}
-use Rattle.board_history.specs.declared.entry.Entry.TheVariants.{Opened, Board, PageRead, Clamp}
+use Rattle.board_history.specs.declared.entry.Entry.TheVariants.{Opened, Board, PageRead, HvRead, Clamp}
 use Rattle.board_history.proofs.Laws.{machine-stays}
 use Rattle.board_history.proofs.Pages.{length-processors, published_by-legal}
 use Rattle.board_history.proofs.Refusals.{refused_why}
@@ -105,7 +107,9 @@ use Rattle.race_phase.proofs.Counts.{
   publishes,
   raises_page,
   publishes_words,
+  publishes_reference,
   raises_wall,
+  raises_hv,
   raised,
   AllBelow,
   part_whole,
@@ -242,14 +246,16 @@ seen_part s (Opened z ∷ es) later l p =
     }
 seen_part s (Board pass cpu h access reply ∷ es) later l p = absurd l
 seen_part s (PageRead pass cpu h page locked ∷ es) later l p = absurd l
+seen_part s (HvRead pass h page locked ∷ es) later l p = absurd l
 seen_part s (Clamp pass cpu reading clock ∷ es) later l p = absurd l
 
 -- what is true of each board
 pub record IsSound (b : BoardParts) : Type 0 where
   pub places : b.cpus ≤ length b.processors
   pub count : b.accesses ≤ MOST_ACCESSES
-  pub pages : (c : ℕ) → (page_at b c).version ≤ LAST_VERSION
+  pub pages : (c : ℕ) → (processor_at b c).version ≤ LAST_VERSION
   pub wall : b.wall_version ≤ LAST_VERSION
+  pub hv : b.hv.version ≤ LAST_VERSION
 
 pub sound_of : (b : BoardParts) → IsJoined b → length b.processors ≡ 64 → IsSound b
 sound_of b joined long = record {
@@ -257,6 +263,7 @@ sound_of b joined long = record {
   count = joined.accesses;
   pages = λ c. (joined.processors.each c).version.most;
   wall = joined.wall.words.most;
+  hv = joined.hv.version.most;
 }
 
 module _ (s : BoardParts) (rs : List Record) (h : List Entry) (sound : IsSound s) (legal : IsLegal h) (opens : Opens s h) (below : AllBelow s.cpus h)
@@ -315,12 +322,19 @@ module _ (s : BoardParts) (rs : List Record) (h : List Entry) (sound : IsSound s
       let one : of_record publishes_words k.next ≡ 1 =
       ap (of_call publishes_words k.next.cpu k.next.h) is ∙ ap (λ (t : Bool). if t then 1 else 0) wall in absurd (omega arith)
 
+  hv_left : (a : Access) → k.next.call ≡ Act a → publishes_hv a ≡ true → LAST_VERSION ≤ (board_after k.pass.seen).hv.version → ⊥
+  hv_left a is page full =
+      let w = sound.hv in
+      let l = not_full 0 (λ b. b.hv.version) publishes_reference 2 (LAST_VERSION + 1) raises_hv (omega arith) (omega arith) in
+      let one : of_record publishes_reference k.next ≡ 1 =
+      ap (of_call publishes_reference k.next.cpu k.next.h) is ∙ ap (λ (t : Bool). if t then 1 else 0) page in absurd (omega arith)
+
   page_left : (a : Access) (c : ℕ) → k.next.call ≡ Act a → c < s.cpus → published_by k.next.cpu a ≡ Some c
-      → LAST_VERSION ≤ (page_at (board_after k.pass.seen) c).version → ⊥
+      → LAST_VERSION ≤ (processor_at (board_after k.pass.seen) c).version → ⊥
   page_left a c is small by full =
       let p = sound.pages c in
       let places = sound.places in
-      let l = not_full (suc c) (λ b. (page_at b c).version) (publishes c) 2 (LAST_VERSION + 1) (raises_page c) (omega arith) (omega arith) in
+      let l = not_full (suc c) (λ b. (processor_at b c).version) (publishes c) 2 (LAST_VERSION + 1) (raises_page c) (omega arith) (omega arith) in
       let one : of_record (publishes c) k.next ≡ 1 =
       ap (of_call (publishes c) k.next.cpu k.next.h) is ∙ (ap (is_page c) by ∙ ap (λ (t : Bool). if t then 1 else 0) (eq-eqb c c refl)) in absurd (omega arith)
 
@@ -332,7 +346,8 @@ module _ (s : BoardParts) (rs : List Record) (h : List Entry) (sound : IsSound s
           ⊎ (IsAtLastVersion (board_after k.pass.seen) k.next.cpu a ⊎ (MOST_ACCESSES ≤ (board_after k.pass.seen).accesses)) → ⊥
       by_cause (inl n) = timed (subst (λ (x : Anchor). HasNoTime x k.next.h) anchor_is n)
       by_cause (inr (inl (inl w))) = wall_left a is w.0 w.1
-      by_cause (inr (inl (inr p))) = page_left a p.0 is (published_by-legal s.cpus s.format k.next.cpu p.0 a k.fits.0 takes p.1) p.1 p.2
+      by_cause (inr (inl (inr (inr v)))) = hv_left a is v.0 v.1
+      by_cause (inr (inl (inr (inl p)))) = page_left a p.0 is (published_by-legal s.cpus s.format k.next.cpu p.0 a k.fits.0 takes p.1) p.1 p.2
       by_cause (inr (inr full)) = accesses_left a is full
 
   -- no worker has stopped

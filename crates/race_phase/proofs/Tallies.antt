@@ -52,6 +52,7 @@ use Rattle.tsc_scale.specs.declared.Tsc.{Tsc}
 use Rattle.board_types.specs.Legal.{is_legal}
 use Rattle.board_types.specs.declared.access.Access.{Access}
 use Rattle.board_types.specs.declared.parts.BoardParts.{BoardParts}
+use Rattle.board_types.specs.declared.parts.HvParts.{HvParts}
 use Rattle.board_types.specs.declared.parts.ProcessorParts.{ProcessorParts}
 use Rattle.board_types.specs.declared.parts.TheConstants.{LAST_VERSION, MOST_ACCESSES}
 use Rattle.board_types.specs.declared.reply.Refusal.{Refusal}
@@ -62,6 +63,7 @@ use Rattle.board_core.specs.Reanchor.{reanchored}
 use Rattle.board_core.specs.Refusals.{version_at, raised_version, spent_version, refusal_of}
 use Rattle.board_core.specs.Time.{HasTime, now_of}
 use Rattle.board_core.specs.Tsc.{no_processor, processor_at}
+use Rattle.board_core.specs.Hv.{publishes_hv}
 use Rattle.board_core.specs.Wall.{publishes_wall, wall_version_after}
 use Rattle.board_core.proofs.Laws.{
   after_access-format,
@@ -75,7 +77,9 @@ use Rattle.board_core.proofs.Laws.{
   taken_version,
   taken_accesses,
   taken_page,
+  taken_hv,
   wall_version-after,
+  hv_version-after,
 }
 use Rattle.board_history.proofs.Pages.{length-processors, published_by-legal, publishes_wall-page}
 use Rattle.transfer.specs.Move.{or_spent, spent_below, move_fault, published_below, moved_to, tsc_moved}
@@ -88,6 +92,7 @@ use Rattle.race_phase.specs.private.Tallied.{
   raised_in,
   refusal_in,
   raised_at,
+  hv_version_after,
   counted,
   spent_in,
   move_fault_in,
@@ -103,6 +108,7 @@ use Rattle.race_phase.proofs.Same.{
   reanchored_processors,
   moved_accesses,
   moved_wall,
+  moved_hv,
   moved_host,
   moved_places,
   moved_cpus,
@@ -118,8 +124,8 @@ same_version (Some k) b t x = ap (λ (n : ℕ). Some n) (sym (x.versions k))
 pub refusal_of-tally : (b : BoardParts) (t : TallyParts) (cpu h : ℕ) (a : Access) → IsTally b t → refusal_of b cpu h a ≡ refusal_in t cpu h a
 unfolding refusal_of refusal_in
 refusal_of-tally b t cpu h a x =
-    let raised : raised_version b.processors b.wall_version cpu a ≡ raised_in t cpu a =
-    λ i. cond (publishes_wall a) (Some (sym x.wall_version i)) (same_version (published_by cpu a) b t x i) in
+    let raised : raised_version b.processors b.wall_version b.hv.version cpu a ≡ raised_in t cpu a =
+    λ i. cond (publishes_wall a) (Some (sym x.wall_version i)) (cond (publishes_hv a) (Some (sym x.hv_version i)) (same_version (published_by cpu a) b t x i)) in
     let anchor : b.anchor ≡ t.anchor = sym x.anchor in
     let accesses : b.accesses ≡ t.accesses = sym x.accesses in
     λ i. cond (ltb h (anchor i).start) (Some (BeforeStart (anchor i).start))
@@ -167,6 +173,7 @@ module _ (b : BoardParts) (t : TallyParts) (cpu h : ℕ) (a : Access) (x : IsTal
     host = ap (λ (n : ℕ). max n h) x.host ∙ sym (host_after b cpu h a);
     accesses = ap (λ (n : ℕ). n + 1) x.accesses ∙ sym (after_access-accesses b cpu h a);
     wall_version = ap (wall_version_after a) x.wall_version ∙ sym (wall_version-after b cpu h a);
+    hv_version = ap (hv_version_after a) x.hv_version ∙ sym (hv_version-after b cpu h a);
     versions = λ k. versions-at k (published_by cpu a) refl;
     places = (let l = length-processors b cpu h a in let n = after_access-cpus b cpu h a in let p = x.places in omega arith);
     own = (let l = length-at (published_by cpu a) in let p = x.own in omega arith);
@@ -235,6 +242,7 @@ module _ (khz start gap : ℕ) (b : BoardParts) (t : TallyParts) (x : IsTally b 
     host = sym (moved_host khz start gap b);
     accesses = x.accesses ∙ sym (moved_accesses khz start gap b);
     wall_version = x.wall_version ∙ sym (moved_wall khz start gap b);
+    hv_version = x.hv_version ∙ sym (ap (λ (p : HvParts). p.version) (moved_hv khz start gap b));
     versions = versions-moved;
     places = (let m = moved_cpus khz start gap b in let l = moved_places khz start gap b in let p = x.places in omega arith);
     own = (let l = length-below t.cpus t.versions in let p = x.own in omega arith);
@@ -247,11 +255,14 @@ module _ (b : BoardParts) (t : TallyParts) (cpu h : ℕ) (a : Access) (x : IsTal
 
   pub room_wall : publishes_wall a ≡ true → t.wall_version < LAST_VERSION
   room_wall words =
-      let version : raised_version b.processors b.wall_version cpu a ≡ Some b.wall_version =
-      ap (λ (w : Bool). cond w (Some b.wall_version) (version_at (published_by cpu a) b.processors)) words in
+      let version : raised_version b.processors b.wall_version b.hv.version cpu a ≡ Some b.wall_version =
+      ap (λ (w : Bool). cond w (Some b.wall_version) (cond (publishes_hv a) (Some b.hv.version) (version_at (published_by cpu a) b.processors))) words in
       let less : b.wall_version < LAST_VERSION =
       subst (λ (v : Option ℕ). IfSome v (λ n. n < LAST_VERSION)) version (taken_version b cpu h a none) in
       let e = x.wall_version in omega arith
+
+  pub room_hv : publishes_hv a ≡ true → t.hv_version < LAST_VERSION
+  room_hv page = let less = taken_hv b cpu h a none page in let e = x.hv_version in omega arith
 
   pub room_page : cpu < t.cpus → IsTrue (is_legal t.cpus t.format a) → t.cpus ≤ 64
       → IfSome (published_by cpu a) (λ k. (k < 64) × (get_or t.versions k 0 < LAST_VERSION))

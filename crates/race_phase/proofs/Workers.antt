@@ -54,6 +54,8 @@ use native.Mathlib.Decide.{ℕ_discrete}
 use Rattle.edge_hooks.specs.declared.deliveries.Delivery.{Delivery}
 use Rattle.board_types.specs.declared.parts.BoardParts.{BoardParts}
 use Rattle.board_history.specs.declared.entry.Entry.{Entry}
+use Rattle.board_history.specs.declared.entry.Entry.TheVariants.{Opened, Board, PageRead, HvRead, Clamp}
+use Rattle.clock_table.specs.declared.view.Miss.{Miss}
 use Rattle.board_history.specs.History.{of_state}
 use Rattle.shared_board.specs.declared.known.PassKnown.{PassKnown}
 use Rattle.shared_board.specs.Passes.{mine, Unanswered}
@@ -61,7 +63,7 @@ use Rattle.shared_board.specs.Stops.{newcomers}
 use Rattle.race_phase.specs.declared.records.Answer.{Answer}
 use Rattle.race_phase.specs.declared.records.Record.{Record}
 use Rattle.race_phase.specs.Blocks.{block_of}
-use Rattle.race_phase.specs.Calls.{IsFitting, records_of, MadeBy, AllMade}
+use Rattle.race_phase.specs.Calls.{IsFitting, records_of, MadeBy, AllMade, AllTried}
 use Rattle.race_phase.specs.declared.batch.Place.{Place}
 use Rattle.race_phase.specs.private.Told.{answer_with}
 use Rattle.race_phase.specs.private.Workers.{
@@ -99,6 +101,26 @@ records_skip n xs x e = records_of-append n xs (x ∷ [])
 pub take_next : (rs : List Record) (i : ℕ) (d : Record) → i < length rs → take (i + 1) rs ≡ take i rs ++ get_or rs i d ∷ []
 take_next rs i d l = let e : i + 1 ≡ suc i = omega arith in ap (λ (k : ℕ). take k rs) e ∙ take-suc rs i d l
 
+-- the misses of calls one behind another
+pub tried-++ : (c : ℕ) (es fs : List Entry) (ms ns : List Miss) → AllTried c es ms → AllTried c fs ns → AllTried c (es ++ fs) (ms ++ ns)
+tried-++ c [] fs ms ns a b = subst (λ (l : List Miss). AllTried c fs (l ++ ns)) (sym a) b
+tried-++ c (PageRead n k h page true ∷ es) fs ms ns a b =
+    (a.0, a.1, a.2 ++ ns, ap (λ (l : List Miss). l ++ ns) a.3, a.4, tried-++ c es fs a.2 ns a.5 b)
+tried-++ c (HvRead n h page true ∷ es) fs ms ns a b =
+    (a.0, a.1, a.2 ++ ns, ap (λ (l : List Miss). l ++ ns) a.3, a.4, tried-++ c es fs a.2 ns a.5 b)
+tried-++ c (PageRead n k h page false ∷ es) fs ms ns a b = tried-++ c es fs ms ns a b
+tried-++ c (HvRead n h page false ∷ es) fs ms ns a b = tried-++ c es fs ms ns a b
+tried-++ c (Opened s ∷ es) fs ms ns a b = tried-++ c es fs ms ns a b
+tried-++ c (Board n cpu h x reply ∷ es) fs ms ns a b = tried-++ c es fs ms ns a b
+tried-++ c (Clamp n k reading clock ∷ es) fs ms ns a b = tried-++ c es fs ms ns a b
+
+-- a record that was answered
+pub tried_made : (s : BoardParts) (r : Record) (a : Answer) (p q : PassKnown) → IsMade s r a p q → AllTried s.cpus (mine p) p.misses
+    → AllTried s.cpus (mine q) q.misses
+tried_made s r a p q m t =
+    subst (λ (z : List Entry × List Miss). AllTried s.cpus z.0 z.1) (λ i. (sym m.2.mine i, sym m.5 i))
+    (tried-++ s.cpus (mine p) m.0 p.misses m.3 t m.4)
+
 -- the passes of a new board
 pub newcomers_length : (s : BoardParts) (n : ℕ) → length (newcomers s n) ≡ n
 newcomers_length s zero = refl
@@ -106,7 +128,8 @@ newcomers_length s (suc n) =
     let e = length-append (newcomers s n) (record { number = n; seen = of_state s ∷ []; misses = [] } ∷ []) in
     let k = newcomers_length s n in omega arith
 
-pub newcomer : (s : BoardParts) (n i : ℕ) (d x : PassKnown) → i < n → x ≡ get_or (newcomers s n) i d → (x.number ≡ i) × (mine x ≡ [])
+pub newcomer : (s : BoardParts) (n i : ℕ) (d x : PassKnown) → i < n → x ≡ get_or (newcomers s n) i d
+    → (x.number ≡ i) × (mine x ≡ []) × (x.misses ≡ [])
 newcomer s zero i d x l is = absurd (omega arith)
 newcomer s (suc n) i d x l is =
     let new : PassKnown = record { number = n; seen = of_state s ∷ []; misses = [] } in
@@ -116,7 +139,7 @@ newcomer s (suc n) i d x l is =
           let at : get_or (newcomers s (suc n)) i d ≡ new =
           ap (λ (k : ℕ). get_or (newcomers s (suc n)) k d) (same ∙ sym len) ∙ get_or-append_seam (newcomers s n) new [] d in
           let e : x ≡ new = is ∙ at in
-          (ap (λ p. p.number) e ∙ sym same, ap mine e)
+          (ap (λ p. p.number) e ∙ sym same, ap mine e, ap (λ p. p.misses) e)
       | no apart ↦
           let before : i < n = omega arith in
           let inside : i < length (newcomers s n) = omega arith in
@@ -215,6 +238,7 @@ answered_none s p = record {
   long = refl;
   made = λ ds done out all.
       subst (λ (z : List Record × List ℕ). AllMade s ds p.number z.0 z.1 (mine p)) (λ i. (sym (append-nil done) i, sym (append-nil out) i)) all;
+  tried = λ t. t;
 }
 
 -- one record more in its place
@@ -232,6 +256,7 @@ answered_more s rs ts r t p q z all m = record {
       ∙ ap (λ (l : List ℕ). out ++ l) (sym (places_text-snoc ds rs ts r t all.long)) in
       let moved = subst (λ (y : List Record × List ℕ). AllMade s ds p.number y.0 y.1 (mine q ++ m.0)) (λ i. (append_assoc done rs (r ∷ []) i, text i)) step in
       subst (λ (es : List Entry). AllMade s ds p.number (done ++ (rs ++ r ∷ [])) (out ++ places_text ds (rs ++ r ∷ []) (ts ++ t ∷ [])) es) (sym m.2.mine) moved;
+  tried = λ x. tried_made s r (answer_with t.told t.reply) q z m (all.tried x);
 }
 
 pub batch_step : (s : BoardParts) (rs : List Record) (ts us : List Place) (i : ℕ) (d : Record) (t : Place) (p q z : PassKnown) → i < length rs
@@ -286,8 +311,13 @@ read_fits cpus format rs i r is fit =
 
 module _ (s : BoardParts) (ds : List (Option Delivery)) (n : ℕ) where
   -- a new pass
-  pub none_waits : (p : PassKnown) → mine p ≡ [] → AllButLast s ds n [] [] [] p
-  none_waits p fresh = record { done = []; whole = refl; made = (refl, fresh) }
+  pub none_waits : (p : PassKnown) → mine p ≡ [] → p.misses ≡ [] → AllButLast s ds n [] [] [] p
+  none_waits p fresh none = record {
+    done = [];
+    whole = refl;
+    made = (refl, fresh);
+    tried = subst (λ (z : List Entry × List Miss). AllTried s.cpus z.0 z.1) (λ i. (sym fresh i, sym none i)) refl;
+  }
 
   -- a record that another processor has
   pub next_skipped : (i : ℕ) (rs : List Record) (d : Record) (ws : List Record) (xs : List ℕ) (p : PassKnown) → i < length rs → (get_or rs i d).cpu ≢ n
@@ -308,6 +338,7 @@ module _ (s : BoardParts) (ds : List (Option Delivery)) (n : ℕ) where
         done = all.done;
         whole = same ∙ ap (λ ys. ys ++ r ∷ []) all.whole ∙ append_assoc all.done ws (r ∷ []);
         made = all.made;
+        tried = all.tried;
       }
 
   -- the same of a record that was read
@@ -333,6 +364,7 @@ module _ (s : BoardParts) (ds : List (Option Delivery)) (n : ℕ) where
     done = rs;
     whole = sym (append-nil rs);
     made = waits_made rs ws xs ts p q is all a;
+    tried = a.tried all.tried;
   }
 
   pub waits_printed : (rs ws : List Record) (xs ys : List ℕ) (p q : PassKnown) → p.number ≡ n → AllButLast s ds n rs ws xs p
@@ -384,7 +416,10 @@ module _ (s : BoardParts) (ds : List (Option Delivery)) (n : ℕ) (i : ℕ) (rs 
       → OnErr told (HasHalted s ws p q) → HasWorked s ds rs n q ys
   batch_last (Ok x) ys end printed halted = (
     printed.2.number ∙ is,
-    inl (subst (λ (z : List Record × List ℕ). AllMade s ds n (records_of n z.0) z.1 (mine q)) (λ k. (take_all i rs end k, sym printed.1 k))
-        (waits_made s ds n (records_of n (take i rs)) ws xs printed.0 p q is all printed.2)),
+    inl (
+      subst (λ (z : List Record × List ℕ). AllMade s ds n (records_of n z.0) z.1 (mine q)) (λ k. (take_all i rs end k, sym printed.1 k))
+          (waits_made s ds n (records_of n (take i rs)) ws xs printed.0 p q is all printed.2),
+      printed.2.tried all.tried,
+    ),
   )
   batch_last (Err e) ys end printed halted = batch_halted ys halted

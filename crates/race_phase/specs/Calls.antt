@@ -14,6 +14,7 @@ use Rattle.std.specs.Prelude.{
   ◌++◌,
   Option,
   Bool,
+  true,
   false,
   IsTrue,
 }
@@ -26,8 +27,17 @@ use Rattle.board_types.specs.declared.parts.BoardParts.{BoardParts}
 use Rattle.board_history.specs.Machine.{machine_of, ratio_in, reading_by, answer_by}
 use Rattle.board_history.specs.History.{board_after, entries_of, IsLegal, Opens}
 use Rattle.board_history.specs.declared.entry.Entry.{Entry}
-use Rattle.board_history.specs.declared.entry.Entry.TheVariants.{Board, PageRead}
+use Rattle.board_history.specs.declared.entry.Entry.TheVariants.{
+  Opened,
+  Board,
+  PageRead,
+  HvRead,
+  Clamp,
+}
+use Rattle.clock_table.specs.declared.view.Miss.{Miss}
+use Rattle.clock_table.specs.Ends.{MissesTold}
 use Rattle.shared_board.specs.Pages.{clock_entries}
+use Rattle.shared_board.specs.Passes.{miss, IsUpdate}
 use Rattle.race_phase.specs.declared.records.Answer.{Answer}
 use Rattle.race_phase.specs.declared.records.Answer.TheVariants.{Acted, PageIs, ClockIs}
 use Rattle.race_phase.specs.declared.records.Call.{Call}
@@ -80,13 +90,35 @@ AllMade s ds n (r ∷ rs) out es =
     × (out ≡ block_of ds r.line a ++ more) × (es ≡ first ++ rest)
     × MadeBy s n r a first × AllMade s ds n rs more rest
 
+-- each read under the lock among these entries of a pass comes behind a try without it that met an
+-- update of the same page, which has the place cpus where it is the reference page: these are the
+-- pass's misses, in order, and there are no others
+abbrev pub AllTried : ℕ → List Entry → List Miss → Type 0
+AllTried cpus [] ms = ms ≡ []
+AllTried cpus (PageRead n k h page true ∷ es) ms =
+    (first : ℕ) × (second : ℕ) × (rest : List Miss) × (ms ≡ miss k first second ∷ rest)
+    × IsUpdate first second × AllTried cpus es rest
+AllTried cpus (HvRead n h page true ∷ es) ms =
+    (first : ℕ) × (second : ℕ) × (rest : List Miss) × (ms ≡ miss cpus first second ∷ rest)
+    × IsUpdate first second × AllTried cpus es rest
+AllTried cpus (PageRead n k h page false ∷ es) ms = AllTried cpus es ms
+AllTried cpus (HvRead n h page false ∷ es) ms = AllTried cpus es ms
+AllTried cpus (Opened s ∷ es) ms = AllTried cpus es ms
+AllTried cpus (Board n cpu h a reply ∷ es) ms = AllTried cpus es ms
+AllTried cpus (Clamp n k reading clock ∷ es) ms = AllTried cpus es ms
+
+-- so the pass n has taken the lock for a read, and the version that each of its misses met came
+abbrev pub IsTried : ℕ → List Entry → ℕ → Type 0
+IsTried cpus h n = (ms : List Miss) × AllTried cpus (entries_of n h) ms × MissesTold h ms
+
 -- the text of k processors from n on, one behind another
 abbrev pub Shown :
     BoardParts → List (Option Delivery) → List Record → List Entry → ℕ → ℕ → List ℕ → Type 0
 Shown s ds rs h n zero out = out ≡ []
 Shown s ds rs h n (suc k) out =
     (first : List ℕ) × (rest : List ℕ) × (out ≡ first ++ rest)
-    × AllMade s ds n (records_of n rs) first (entries_of n h) × Shown s ds rs h (suc n) k rest
+    × AllMade s ds n (records_of n rs) first (entries_of n h) × IsTried s.cpus h n
+    × Shown s ds rs h (suc n) k rest
 
 -- there is one legal history, which opens with the opening state and leaves this one. It has the
 -- entries of the records and no others, those of a processor in their order, and this is their text

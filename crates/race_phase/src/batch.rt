@@ -1,5 +1,6 @@
-//! Records of one processor that are answered together: accesses that stand beside each other under one lock.
-ghost use Rattle.std.specs.Prelude.{◌≡◌, ◌<◌, ◌≤◌, ◌+◌, ◌^◌, ◌++◌, All, IfOk, OnOk, OnErr, length, take, vec_len};
+//! Records of one processor that are answered together: accesses that stand one behind another under one lock, reads of pages
+//! and clocks without it.
+ghost use Rattle.std.specs.Prelude.{◌≡◌, ◌<◌, ◌≤◌, ◌+◌, ◌^◌, ◌++◌, ◌⊎◌, All, IfOk, OnOk, OnErr, length, take, vec_len};
 ghost use Rattle.std.specs.Bool.{OnTrue};
 ghost use Rattle.board_history.specs.History.{IsLegal};
 ghost use Rattle.shared_board.specs.declared.known.PassKnown.{PassKnown};
@@ -20,11 +21,10 @@ use crate::deliveries::Deliveries;
 use crate::records::{Call, Record};
 use crate::texts::append_block;
 use crate::told::Told;
-use board_core::{Access, Reply, Value};
+use board_core::{Access, Reply};
 use board_io::Gate;
 use clk_units::NoMemory;
 use clock_table::Name;
-use irq_edges::EdgeList;
 use shared_board::{Holding, Pass, SharedBoard};
 use std::alloc::Global;
 use std::sync::Wait;
@@ -51,11 +51,7 @@ pub(crate) fn new_places(alloc: Global, count: usize) -> Result<Vec<Place>, NoMe
     let mut made = 0;
     while made < count {
         let Ok(()) = places.push(Place {
-            reply: Reply {
-                number: 0,
-                value: Value::Nothing,
-                edges: EdgeList::new(),
-            },
+            reply: Reply::empty(),
             told: Told::Acted,
         }) else {
             return Err(NoMemory);
@@ -65,8 +61,8 @@ pub(crate) fn new_places(alloc: Global, count: usize) -> Result<Vec<Place>, NoMe
     Ok(places)
 }
 
-/// Answers records in order, and appends their blocks when the lock is given back. It stops at the first record that
-/// isn't answered, and then appends none. `index` is that of the first for the gate.
+/// Answers records in order, and then appends their blocks. It stops at the first record that isn't answered, and then
+/// appends none. `index` is that of the first for the gate.
 pub(crate) fn print_all<N: Name, R: Wait, G: Gate>(
     rt: &R,
     gate: &G,
@@ -95,10 +91,8 @@ pub(crate) fn print_all<N: Name, R: Wait, G: Gate>(
     Ok(Ok(()))
 }
 
-/// Answers records in order, each between two calls of the gate, and puts what each was told into its place. The lock is
-/// kept from one access to the next, also where pages are read between them, and given back only where a page must be
-/// read under it, and before the gate's last call. It stops at the first record that isn't answered. `index` is that of
-/// the first for the gate.
+/// Answers records in order, each between two calls of the gate, and puts what each was told into its place. It stops at
+/// the first record that isn't answered. `index` is that of the first for the gate.
 fn answer_all<N: Name, R: Wait, G: Gate>(
     rt: &R,
     gate: &G,
@@ -117,66 +111,37 @@ fn answer_all<N: Name, R: Wait, G: Gate>(
     ensures legal { OnOk result (IsLegal pass.new.seen) }
     ensures err { OnErr result (HasHalted N.state records.now pass.old pass.new) }
 {
-    let mut lock = None;
     let mut done = 0;
     while done < records.len() {
-        if begins_run(records, done) {
-            let mut holding = taken(rt, board, &mut lock);
-            match answer_run(rt, gate, &mut holding, pass, records, index, places, done) {
-                Ok(behind) => done = behind,
-                Err(Halted) => return Err(Halted),
-            }
-            lock = Some(holding);
-        }
-        let record = &records[done];
-        let is_last = done + 1 == records.len();
-        let at = index + done as u64;
-        match held(
-            rt,
-            gate,
-            board,
-            &mut lock,
-            is_last,
-            pass,
-            record,
-            at,
-            &mut places[done],
-        ) {
-            Ok(()) => {}
+        let run = match answer_run(rt, gate, board, pass, records, index, places, done) {
+            Ok(behind) => behind,
+            Err(Halted) => return Err(Halted),
+        };
+        match answer_next(rt, gate, board, pass, records, index, places, run) {
+            Ok(behind) => done = behind,
             Err(Halted) => return Err(Halted),
         }
-        done += 1;
     }
     Ok(())
 }
 
-/// Whether an access stands at a place that isn't the last.
+/// Whether an access stands at a place, and another behind it.
 fn begins_run(records: &[Record], done: usize) -> bool
     requires { done < length records.now }
     ensures { OnTrue result (done + 1 < length records.now) }
 {
-    done + 1 < records.len() && matches!(records[done].call, Call::Act { .. })
+    done + 1 < records.len()
+        && matches!(records[done].call, Call::Act { .. })
+        && matches!(records[done + 1].call, Call::Act { .. })
 }
 
-/// The lock: where it was left, or taken now.
-#[inline(always)]
-fn taken<'b, N: Name, R: Wait>(
-    rt: &R,
-    board: &'b SharedBoard<N>,
-    lock: &mut Option<Holding<'b, N>>,
-) -> Holding<'b, N> {
-    match lock.take() {
-        Some(holding) => holding,
-        None => board.hold(rt),
-    }
-}
-
-/// Answers accesses that stand one behind another, from a place on, under the lock, but for the last record. It tells
-/// at which place it stops, whose record isn't answered; or that one of the accesses was not.
+/// Answers accesses that stand one behind another, two at least, from a place on, under one lock, which it gives back. It
+/// tells at which place it stops, where there is no access, or no record; or that one of the accesses wasn't answered. The
+/// gate's first and last calls are outside of the lock.
 fn answer_run<N: Name, R: Wait, G: Gate>(
     rt: &R,
     gate: &G,
-    holding: &mut Holding<'_, N>,
+    board: &SharedBoard<N>,
     pass: &mut Pass<N>,
     records: &[Record],
     index: u64,
@@ -187,8 +152,8 @@ fn answer_run<N: Name, R: Wait, G: Gate>(
     requires small { index + length records.now < 2 ^ 64 }
     requires fitting { All (IsFitting N.state.cpus N.state.format) records.now }
     requires legal { IsLegal pass.old.seen }
-    requires from { from + 1 < length records.now }
-    ensures behind { IfOk result (λ k. (from ≤ k) × (k < length records.now)) }
+    requires from { from < length records.now }
+    ensures behind { IfOk result (λ k. (from ≤ k) × (k ≤ length records.now)) }
     ensures places { length places.new ≡ length places.old }
     ensures ok { IfOk result (λ k. (p : PassKnown)
         → AllAnswered N.state (take from records.now) (take from places.old) p pass.old
@@ -198,23 +163,80 @@ fn answer_run<N: Name, R: Wait, G: Gate>(
         → AllAnswered N.state (take from records.now) (take from places.old) p pass.old
         → HasHalted N.state records.now p pass.new) }
 {
+    if !begins_run(records, from) {
+        return Ok(from);
+    }
+    let cpu = records[from].cpu;
+    let mut last = index + from as u64;
+    gate.before(rt, cpu, last);
+    let mut holding = board.hold(rt);
     let mut done = from;
-    while done + 1 < records.len() {
+    while done < records.len() {
         let record = &records[done];
         let Call::Act { access } = record.call else {
             break;
         };
         let at = index + done as u64;
-        gate.before(rt, record.cpu, at);
-        let result = answer_access(rt, gate, holding, pass, record, access, &mut places[done]);
-        gate.after(rt, record.cpu, at);
-        match result {
+        if at > last {
+            gate.after(rt, cpu, last);
+            gate.before(rt, cpu, at);
+            last = at;
+        }
+        match answer_access(
+            rt,
+            gate,
+            &mut holding,
+            pass,
+            record,
+            access,
+            &mut places[done],
+        ) {
             Ok(()) => {}
             Err(Halted) => return Err(Halted),
         }
         done += 1;
     }
+    drop(holding);
+    gate.after(rt, cpu, last);
     Ok(done)
+}
+
+/// Answers the record at a place, where there is one. It tells at which place it stops, or that the record wasn't answered.
+fn answer_next<N: Name, R: Wait, G: Gate>(
+    rt: &R,
+    gate: &G,
+    board: &SharedBoard<N>,
+    pass: &mut Pass<N>,
+    records: &[Record],
+    index: u64,
+    places: &mut [Place],
+    from: usize,
+) -> Result<usize, Halted>
+    requires places { length records.now ≤ length places.old }
+    requires small { index + length records.now < 2 ^ 64 }
+    requires fitting { All (IsFitting N.state.cpus N.state.format) records.now }
+    requires legal { IsLegal pass.old.seen }
+    requires from { from ≤ length records.now }
+    ensures behind { IfOk result (λ k. (k ≡ from) × (k ≡ length records.now)
+        ⊎ (k ≡ from + 1) × (k ≤ length records.now)) }
+    ensures places { length places.new ≡ length places.old }
+    ensures ok { IfOk result (λ k. (p : PassKnown)
+        → AllAnswered N.state (take from records.now) (take from places.old) p pass.old
+        → AllAnswered N.state (take k records.now) (take k places.new) p pass.new) }
+    ensures legal { OnOk result (IsLegal pass.new.seen) }
+    ensures err { OnErr result ((p : PassKnown)
+        → AllAnswered N.state (take from records.now) (take from places.old) p pass.old
+        → HasHalted N.state records.now p pass.new) }
+{
+    if from == records.len() {
+        return Ok(from);
+    }
+    let record = &records[from];
+    let at = index + from as u64;
+    match held(rt, gate, board, pass, record, at, &mut places[from]) {
+        Ok(()) => Ok(from + 1),
+        Err(Halted) => Err(Halted),
+    }
 }
 
 /// Answers a record that is an access, under the lock.
@@ -237,21 +259,19 @@ fn answer_access<N: Name, R: Wait, G: Gate>(
         (Unanswered pass.old pass.new × IsTrouble N.state given.now pass.new) }
 {
     place.told.note_act();
-    place.reply.edges.clear();
+    place.reply.clear();
     match holding.answer(rt, gate, pass, given.cpu, given.h, access, &mut place.reply) {
         Ok(()) => Ok(()),
         Err(_refusal) => Err(Halted),
     }
 }
 
-/// Answers a record between two calls of the gate. Behind the last of a batch the lock is given back before the second.
+/// Answers a record between two calls of the gate, which are outside of the lock.
 #[inline(always)]
-fn held<'b, N: Name, R: Wait, G: Gate>(
+fn held<N: Name, R: Wait, G: Gate>(
     rt: &R,
     gate: &G,
-    board: &'b SharedBoard<N>,
-    lock: &mut Option<Holding<'b, N>>,
-    is_last: bool,
+    board: &SharedBoard<N>,
     pass: &mut Pass<N>,
     given: &Record,
     index: u64,
@@ -265,21 +285,16 @@ fn held<'b, N: Name, R: Wait, G: Gate>(
         (Unanswered pass.old pass.new × IsTrouble N.state given.now pass.new) }
 {
     gate.before(rt, given.cpu, index);
-    let result = answer(rt, gate, board, lock, pass, given, place);
-    if is_last {
-        *lock = None;
-    }
+    let result = answer(rt, gate, board, pass, given, place);
     gate.after(rt, given.cpu, index);
     result
 }
 
-/// Answers a record. An access puts the lock that it takes, or finds in `lock`, back there. A read needs none, and
-/// leaves it there but where a page must be read under it.
-fn answer<'b, N: Name, R: Wait, G: Gate>(
+/// Answers a record: an access under a lock of its own, a read of a page or of the clock without one.
+fn answer<N: Name, R: Wait, G: Gate>(
     rt: &R,
     gate: &G,
-    board: &'b SharedBoard<N>,
-    lock: &mut Option<Holding<'b, N>>,
+    board: &SharedBoard<N>,
     pass: &mut Pass<N>,
     given: &Record,
     place: &mut Place,
@@ -293,19 +308,17 @@ fn answer<'b, N: Name, R: Wait, G: Gate>(
 {
     match given.call {
         Call::Act { access } => {
-            let mut holding = taken(rt, board, lock);
-            answer_access(rt, gate, &mut holding, pass, given, access, place)?;
-            *lock = Some(holding);
-            Ok(())
+            let mut holding = board.hold(rt);
+            answer_access(rt, gate, &mut holding, pass, given, access, place)
         }
-        Call::ReadPage { page } => match board.read_page_with(rt, lock, pass, page, given.h) {
+        Call::ReadPage { page } => match board.read_page(rt, pass, page, given.h) {
             Ok(reply) => {
                 place.told = Told::PageIs { reply };
                 Ok(())
             }
             Err(_fault) => Err(Halted),
         },
-        Call::ReadClock { page } => match board.read_clock_with(rt, lock, pass, page, given.h) {
+        Call::ReadClock { page } => match board.read_clock(rt, pass, page, given.h) {
             Ok(reply) => {
                 place.told = Told::ClockIs { reply };
                 Ok(())

@@ -97,6 +97,17 @@ impl RecordLines {
         self.lines.len()
     }
 
+    /// How many records a processor has.
+    pub(crate) fn count_of(&self, cpu: u64) -> u64 {
+        let mut count = 0u64;
+        for line in &self.lines {
+            if u64::from(line.cpu) == cpu {
+                count = count.saturating_add(1);
+            }
+        }
+        count
+    }
+
     /// The processor of a record.
     #[inline(always)]
     pub(crate) fn cpu(&self, index: usize) -> u8

@@ -29,6 +29,7 @@ ghost use Rattle.board_core.specs.Pages.{published_by};
 ghost use Rattle.board_core.specs.Refusals.{refusal_of, spent_version};
 ghost use Rattle.board_core.specs.Time.{HasTime};
 ghost use Rattle.board_core.specs.Tsc.{no_processor};
+ghost use Rattle.board_core.specs.Hv.{publishes_hv};
 ghost use Rattle.board_core.specs.Wall.{publishes_wall, wall_version_after};
 ghost use Rattle.transfer.specs.Move.{move_fault, moved_to};
 ghost use Rattle.race_phase.specs.Tallies.{IsTally};
@@ -37,6 +38,7 @@ ghost use Rattle.race_phase.specs.private.Tallied.{
   raised_in,
   refusal_in,
   raised_at,
+  hv_version_after,
   counted,
   spent_in,
   move_fault_in,
@@ -49,7 +51,7 @@ use crate::phase::places;
 use crate::phases::NewHost;
 use board_core::{
     Access, BoardState, LAST_VERSION, MOST_ACCESSES, MSR_KVM_WALL_CLOCK, ProcessorParts, Refusal,
-    published_by,
+    published_by, publishes_hv,
 };
 use clk_units::RANGE_NS;
 use host_counter::{Anchor, TimeFault};
@@ -67,6 +69,7 @@ pub struct Tally {
     host: u64,
     accesses: u64,
     wall_version: u32,
+    hv_version: u32,
     versions: [u32; 64],
 }
 
@@ -83,6 +86,7 @@ impl Model for Tally {
       host = t.host;
       accesses = t.accesses;
       wall_version = t.wall_version;
+      hv_version = t.hv_version;
       versions = t.versions;
     } };
 
@@ -95,6 +99,7 @@ impl Model for Tally {
       host = p.host;
       accesses = p.accesses;
       wall_version = p.wall_version;
+      hv_version = p.hv_version;
       versions = p.versions;
     } };
 }
@@ -113,6 +118,7 @@ impl Tally {
             host: parts.host,
             accesses: parts.accesses,
             wall_version: parts.wall_version,
+            hv_version: parts.hv.version,
             versions: versions_of(&parts.processors),
         }
     }
@@ -175,6 +181,8 @@ impl Tally {
     {
         if publishes_wall(a) {
             Some(self.wall_version)
+        } else if publishes_hv(a) {
+            Some(self.hv_version)
         } else {
             version_at(published_by(cpu, a), &self.versions)
         }
@@ -213,6 +221,7 @@ impl Tally {
         requires time { HasTime self.old.anchor (max self.old.host h) }
         requires accesses { self.old.accesses < MOST_ACCESSES }
         requires words { publishes_wall a ≡ true → self.old.wall_version < LAST_VERSION }
+        requires reference { publishes_hv a ≡ true → self.old.hv_version < LAST_VERSION }
         requires page { IfSome (published_by cpu a)
             (λ k. (k < 64) × (slice_index_or self.old.versions k 0 < LAST_VERSION)) }
         ensures { self.new ≡ counted cpu h a self.old }
@@ -220,6 +229,7 @@ impl Tally {
         self.host = self.host.max(h);
         self.accesses += 1;
         self.wall_version = wall_version_after(a, self.wall_version);
+        self.hv_version = hv_version_after(a, self.hv_version);
         raise_page(&mut self.versions, published_by(cpu, a));
     }
 
@@ -296,6 +306,19 @@ fn wall_version_after(a: Access, version: u32) -> u32
     ensures { result ≡ wall_version_after a version }
 {
     if publishes_wall(a) {
+        version + 2
+    } else {
+        version
+    }
+}
+
+/// The version of the reference page behind an access.
+#[inline(always)]
+fn hv_version_after(a: Access, version: u32) -> u32
+    requires { publishes_hv a ≡ true → version < LAST_VERSION }
+    ensures { result ≡ hv_version_after a version }
+{
+    if publishes_hv(a) {
         version + 2
     } else {
         version

@@ -24,39 +24,39 @@ unfolding edge_text hex_text digits
 a_rise_that_is_delivered = refl
 
 -- replies, by their values
-no_value : board_text 3 (record { number = 1; value = Nothing; edges = [] }) ≡ codes "3 1\n"
+no_value : board_text 3 (record { number = 1; value = Nothing; edges = []; bursts = [] }) ≡ codes "3 1\n"
 unfolding value_text digits
 no_value = refl
 
-a_byte : board_text 7 (record { number = 5; value = Byte 4; edges = [] }) ≡ codes "7 5 04\n"
+a_byte : board_text 7 (record { number = 5; value = Byte 4; edges = []; bursts = [] }) ≡ codes "7 5 04\n"
 unfolding value_text hex_text digits
 a_byte = refl
 
-two_bytes_of_ones : board_text 5 (record { number = 3; value = Word 2 0xffff; edges = [] }) ≡ codes "5 3 ffff\n"
+two_bytes_of_ones : board_text 5 (record { number = 3; value = Word 2 0xffff; edges = []; bursts = [] }) ≡ codes "5 3 ffff\n"
 unfolding value_text hex_text digits
 two_bytes_of_ones = refl
 
-four_bytes : board_text 4 (record { number = 2; value = Word 4 0x989680; edges = [] }) ≡ codes "4 2 00989680\n"
+four_bytes : board_text 4 (record { number = 2; value = Word 4 0x989680; edges = []; bursts = [] }) ≡ codes "4 2 00989680\n"
 unfolding value_text hex_text digits
 four_bytes = refl
 
-eight_bytes : board_text 3 (record { number = 1; value = Word 8 0x009896808086a201; edges = [] }) ≡ codes "3 1 009896808086a201\n"
+eight_bytes : board_text 3 (record { number = 1; value = Word 8 0x009896808086a201; edges = []; bursts = [] }) ≡ codes "3 1 009896808086a201\n"
 unfolding value_text hex_text digits
 eight_bytes = refl
 
-counts_of_ticks : board_text 8 (record { number = 6; value = Counts (record { due = 3; rises = 1; queue = 2; lost = 0 }); edges = [] }) ≡ codes "8 6 3 1 2 0\n"
+counts_of_ticks : board_text 8 (record { number = 6; value = Counts (record { due = 3; rises = 1; queue = 2; lost = 0 }); edges = []; bursts = [] }) ≡ codes "8 6 3 1 2 0\n"
 unfolding value_text digits
 counts_of_ticks = refl
 
-words_of_the_wall_clock : board_text 32 (record { number = 25; value = Wall 2 1700000000 0; edges = [] }) ≡ codes "32 25 2 1700000000 0\n"
+words_of_the_wall_clock : board_text 32 (record { number = 25; value = Wall 2 1700000000 0; edges = []; bursts = [] }) ≡ codes "32 25 2 1700000000 0\n"
 unfolding value_text digits
 words_of_the_wall_clock = refl
 
-a_next_edge : board_text 6 (record { number = 4; value = Next (Some 54926240); edges = [] }) ≡ codes "6 4 54926240\n"
+a_next_edge : board_text 6 (record { number = 4; value = Next (Some 54926240); edges = []; bursts = [] }) ≡ codes "6 4 54926240\n"
 unfolding value_text digits
 a_next_edge = refl
 
-no_next_edge : board_text 6 (record { number = 4; value = Next None; edges = [] }) ≡ codes "6 4 none\n"
+no_next_edge : board_text 6 (record { number = 4; value = Next None; edges = []; bursts = [] }) ≡ codes "6 4 none\n"
 unfolding value_text digits
 no_next_edge = refl
 

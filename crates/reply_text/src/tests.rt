@@ -2,7 +2,7 @@
 use super::*;
 use board_types::{Reply, Value};
 use edge_hooks::Delivery;
-use irq_edges::{Edge, EdgeList, Lines};
+use irq_edges::{BurstList, Edge, EdgeList, Lines};
 use pvclock_page::{ClockReply, Page, PageReply};
 use std::test::Fail;
 
@@ -26,6 +26,7 @@ fn lines_of_a_replay(rt: HostRuntime) -> Result<(), Fail> {
             value: 0x0098_9680_8086_a201,
         },
         edges: EdgeList::new(),
+        bursts: BurstList::new(),
     };
     let page = Page {
         version: 4,

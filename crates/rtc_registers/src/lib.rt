@@ -24,7 +24,7 @@ mod rtc;
 mod stretch;
 
 pub use events::RtcEvents;
-pub use parts::{RtcField, RtcParts};
+pub use parts::{RtcField, RtcParts, bytes_valid, cycle_valid, divider_valid, index_valid};
 pub use rtc::Rtc;
 
 /// Pulses of the crystal in a second.

@@ -38,14 +38,14 @@ pub enum RtcField {
 }
 
 /// Whether the index is that of a byte.
-fn index_valid(r: &RtcParts) -> bool
+pub fn index_valid(r: &RtcParts) -> bool
     ensures { result ≡ index_valid r.now }
 {
     r.index <= 0x7f
 }
 
 /// Whether registers A, C and D hold what they can.
-fn bytes_valid(r: &RtcParts) -> bool
+pub fn bytes_valid(r: &RtcParts) -> bool
     ensures { result ≡ bytes_valid r.now }
 {
     r.bytes[REGISTER_A as usize] <= 0x7f
@@ -53,14 +53,14 @@ fn bytes_valid(r: &RtcParts) -> bool
 }
 
 /// Whether the divider stands where it may.
-fn divider_valid(r: &RtcParts) -> bool
+pub fn divider_valid(r: &RtcParts) -> bool
     ensures { result ≡ divider_valid r.now }
 {
     r.d < 32_768 && (registers::divider_of(r).dv == 2 || r.d == 16_384)
 }
 
 /// Whether an update cycle may be in progress, if one is.
-fn cycle_valid(r: &RtcParts) -> bool
+pub fn cycle_valid(r: &RtcParts) -> bool
     ensures { result ≡ cycle_valid r.now }
 {
     !r.cycle || is_cycle_place(registers::divider_of(r))

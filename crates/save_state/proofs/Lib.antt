@@ -1,23 +1,14 @@
-pub mod Blocks
-pub mod Little
-pub mod Filled
-pub mod Walk
 pub mod Formats
-pub mod Agreeing
-pub mod Below
+pub mod Sizes
+pub mod Walk
+pub mod RowLaws
+pub mod BlockRows
+pub mod Blocks
+pub mod Spelled
+pub mod Here
+pub mod RoundTrip
+pub mod Read
+pub mod Valid
 pub mod Parts
-pub mod ValidHead
-pub mod ValidDevices
-pub mod ValidRest
-pub mod BoardHas
 mod Rows
 mod RowsSecond
-pub mod RoundTripPlaces
-pub mod RoundTripBits
-pub mod RoundTripPieces
-pub mod RoundTripLayout
-pub mod RoundTripBoard
-pub mod RoundTripRows
-pub mod RoundTripSpelling
-pub mod RoundTripValid
-pub mod RoundTrip

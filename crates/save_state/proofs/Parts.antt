@@ -1,29 +1,192 @@
--- The first fault of bytes by three parts: the head, the devices, and the rest.
-use Rattle.std.proofs.Common.{◌≡◌, ℕ, ◌+◌, List, Option, None, Some, ap, sym, ◌∙◌}
+-- The first fault of bytes is that of the head, of the devices, or of the rest.
+use Rattle.std.proofs.Common.{◌≡◌, ℕ, ◌+◌, ◌*◌, ◌≤◌, ◌++◌, List, length, Option, None, Some, refl, ap, sym, subst, ◌∙◌, arith}
+use Rattle.board_types.specs.declared.parts.BoardParts.{BoardParts}
 use Rattle.board_types.specs.Setup.{timers_of}
+use Rattle.board_devices.specs.Parts.{AreDevices}
+use Rattle.board_core.specs.Conditions.{IsBoard}
+use Rattle.board_core.specs.Time.{devices_in}
+use Rattle.byte_table.specs.Fold.{size_of, or_else, fault_in}
+use Rattle.byte_table.specs.Kinds.{plain, row, blocks}
+use Rattle.byte_table.proofs.FoldLaws.{AreBytes, hold, rewritten, or_else-none, or_else-both, or_else-assoc, fault_in-append, size_of-append}
+use Rattle.byte_table.proofs.Loops.{size-below}
 use Rattle.save_state.specs.declared.fault.StateFault.{StateFault}
-use Rattle.save_state.specs.Fields.{fault_in, or_else, fault_below}
-use Rattle.save_state.specs.Places.{format_in}
-use Rattle.save_state.specs.Table.{head_rows, clock_rows, hpet_rows, counter_fault, timer_fault, line_fault, fault_of}
-use Rattle.save_state.specs.private.Passing.{devices_fault, rest_fault}
-use Rattle.save_state.proofs.Below.{or_else-none, or_else-five}
+use Rattle.save_state.specs.Fields.{head, host, guest, policies, front, counter, counters, clock, registers, timer, timers, line, lines, counts_of, rises, wall, processor}
+use Rattle.save_state.specs.Fields.{processors, devices, back, fields_of}
+use Rattle.save_state.specs.Places.{format_in, cpus_in}
+use Rattle.save_state.specs.Reading.{board_in}
+use Rattle.save_state.specs.Table.{trailing, fault_of}
+use Rattle.save_state.specs.private.Parts.{devices_fault, rest_fault}
+use Rattle.save_state.specs.private.Places.{line_place, rises_place, wall_place, processor_place}
+use Rattle.save_state.proofs.Sizes.{timer-size, line-size, processor-size}
+use Rattle.save_state.proofs.Spelled.{front-spelled, devices-spelled, back-spelled}
+use Rattle.save_state.proofs.Read.{IsRead, board-read}
+use Rattle.save_state.proofs.Valid.{IsHead, head-valid, devices-valid, board-valid}
 
-pub three-parts : (bytes : List ℕ) → fault_of bytes ≡ or_else (fault_in bytes 0 (head_rows bytes)) (or_else (devices_fault bytes) (rest_fault bytes))
-unfolding fault_of devices_fault rest_fault
+-- sizes
+front-size : size_of front ≡ 79
+unfolding head host guest policies plain
+front-size = refl
+
+counters-size : size_of counters ≡ 42
+unfolding counters counter plain blocks
+counters-size = refl
+
+clock-size : size_of clock ≡ 133
+unfolding clock plain row
+clock-size = refl
+
+registers-size : size_of registers ≡ 10
+unfolding registers plain
+registers-size = refl
+
+timers-size : (n : ℕ) → size_of (timers n) ≡ 18 * n
+unfolding timers blocks
+timers-size n = let s = size-below timer 18 timer-size 0 n in omega (arith, s)
+
+lines-size : (n : ℕ) → size_of (lines n) ≡ 33 * (n + 2)
+unfolding lines blocks
+lines-size n = let s = size-below line 33 line-size 0 (n + 2) in omega (arith, s)
+
+rises-size : (n : ℕ) → size_of (rises n) ≡ 8 * n
+unfolding rises row
+rises-size n = omega arith
+
+wall-size : size_of wall ≡ 20
+unfolding wall plain
+wall-size = refl
+
+processors-size : (n : ℕ) → size_of (processors n) ≡ 50 * n
+unfolding processors blocks
+processors-size n = let s = size-below processor 50 processor-size 0 n in omega (arith, s)
+
+registers-end : size_of (counters ++ clock ++ registers) ≡ 185
+registers-end =
+    let one = size_of-append (counters ++ clock) registers in
+    let two = size_of-append counters clock in
+    omega (arith, one, two, counters-size, clock-size, registers-size)
+
+timers-end : (n : ℕ) → size_of (counters ++ clock ++ registers ++ timers n) ≡ 185 + 18 * n
+timers-end n = let one = size_of-append (counters ++ clock ++ registers) (timers n) in omega (arith, one, registers-end, timers-size n)
+
+devices-end : (f : ℕ) → 0 + size_of (front ++ devices f) ≡ rises_place f
+devices-end f =
+    let n : ℕ = timers_of f in
+    let one = size_of-append front (devices f) in
+    let two = size_of-append (counters ++ clock ++ registers ++ timers n) (lines n) in
+    omega (arith, one, two, front-size, timers-end n, lines-size n)
+
+fields-end : (f c : ℕ) → size_of (fields_of f c) ≡ processor_place f c
+fields-end f c =
+    let counts : ℕ = counts_of f in
+    let one = size_of-append (front ++ devices f) (back f c) in
+    let two = size_of-append (rises counts ++ wall) (processors c) in
+    let three = size_of-append (rises counts) wall in
+    omega (arith, one, two, three, devices-end f, rises-size counts, wall-size, processors-size c)
+
+-- the devices, and the rest, part by part
+pub devices-are : (b : BoardParts) (bytes : List ℕ) → fault_in (devices b.format) b b 79 bytes ≡ devices_fault b bytes
+unfolding devices_fault
+devices-are b bytes =
+    let n : ℕ = timers_of b.format in
+    let later : Option StateFault → Option StateFault = λ o. or_else o (fault_in (lines n) b b (79 + size_of (counters ++ clock ++ registers ++ timers n)) bytes) in
+    let f1 = fault_in counters b b 79 bytes in
+    let f2 = fault_in clock b b (79 + size_of counters) bytes in
+    let f3 = fault_in registers b b (79 + size_of (counters ++ clock)) bytes in
+    let f4 = fault_in (timers n) b b (79 + size_of (counters ++ clock ++ registers)) bytes in
+    let f5 = fault_in (lines n) b b (79 + size_of (counters ++ clock ++ registers ++ timers n)) bytes in
+    let two = size_of-append counters clock in
+    let p2 : 79 + size_of counters ≡ 121 = omega (arith, counters-size) in
+    let p3 : 79 + size_of (counters ++ clock) ≡ 254 = omega (arith, two, counters-size, clock-size) in
+    let p4 : 79 + size_of (counters ++ clock ++ registers) ≡ 264 = omega (arith, registers-end) in
+    let p5 : 79 + size_of (counters ++ clock ++ registers ++ timers n) ≡ line_place b.format 0 = omega (arith, timers-end n) in
+    fault_in-append (counters ++ clock ++ registers ++ timers n) (lines n) b b 79 bytes
+    ∙ ap later (fault_in-append (counters ++ clock ++ registers) (timers n) b b 79 bytes
+    ∙ ap (λ (o : Option StateFault). or_else o f4) (fault_in-append (counters ++ clock) registers b b 79 bytes
+    ∙ ap (λ (o : Option StateFault). or_else o f3) (fault_in-append counters clock b b 79 bytes)))
+    ∙ or_else-assoc (or_else (or_else f1 f2) f3) f4 f5 ∙ or_else-assoc (or_else f1 f2) f3 (or_else f4 f5) ∙ or_else-assoc f1 f2 (or_else f3 (or_else f4 f5))
+    ∙ (λ i. or_else f1 (or_else (fault_in clock b b (p2 i) bytes) (or_else (fault_in registers b b (p3 i) bytes) (or_else (fault_in (timers n) b b (p4 i) bytes)
+    (fault_in (lines n) b b (p5 i) bytes)))))
+
+pub rest-is : (b : BoardParts) (bytes : List ℕ)
+    → or_else (fault_in (back b.format b.cpus) b b (rises_place b.format) bytes) (trailing (processor_place b.format b.cpus) bytes) ≡ rest_fault b bytes
+unfolding rest_fault
+rest-is b bytes =
+    let at : ℕ = rises_place b.format in
+    let counts : ℕ = counts_of b.format in
+    let last : Option StateFault = trailing (processor_place b.format b.cpus) bytes in
+    let f1 = fault_in (rises counts) b b at bytes in
+    let f2 = fault_in wall b b (at + size_of (rises counts)) bytes in
+    let f3 = fault_in (processors b.cpus) b b (at + size_of (rises counts ++ wall)) bytes in
+    let two = size_of-append (rises counts) wall in
+    let p2 : at + size_of (rises counts) ≡ wall_place b.format = omega (arith, rises-size counts) in
+    let p3 : at + size_of (rises counts ++ wall) ≡ processor_place b.format 0 = omega (arith, two, rises-size counts, wall-size) in
+    ap (λ (o : Option StateFault). or_else o last) (fault_in-append (rises counts ++ wall) (processors b.cpus) b b at bytes
+    ∙ ap (λ (o : Option StateFault). or_else o f3) (fault_in-append (rises counts) wall b b at bytes))
+    ∙ or_else-assoc (or_else f1 f2) f3 last ∙ or_else-assoc f1 f2 (or_else f3 last)
+    ∙ (λ i. or_else f1 (or_else (fault_in wall b b (p2 i) bytes) (or_else (fault_in (processors b.cpus) b b (p3 i) bytes) last)))
+
+-- the format and the number of processors of the board
+pub board-format : (bytes : List ℕ) → ((board_in bytes).format ≡ format_in bytes) × ((board_in bytes).cpus ≡ cpus_in bytes)
+unfolding board_in head host guest policies counters counter clock registers timers lines rises wall processors plain row blocks
+board-format bytes = (refl, refl)
+
+pub three-parts : (bytes : List ℕ) → let b : BoardParts = board_in bytes in fault_of bytes
+    ≡ or_else (fault_in front b b 0 bytes) (or_else (devices_fault b bytes) (rest_fault b bytes))
+unfolding fault_of
 three-parts bytes =
-    ap (λ (later : Option StateFault). or_else (fault_in bytes 0 (head_rows bytes)) later)
-    (sym (or_else-five (fault_below (counter_fault bytes) 3) (fault_in bytes 121 (clock_rows bytes)) (fault_in bytes 254 (hpet_rows bytes))
-    (fault_below (timer_fault bytes) (timers_of (format_in bytes))) (fault_below (line_fault bytes) (timers_of (format_in bytes) + 2)) _))
+    let b : BoardParts = board_in bytes in
+    let f = (board-format bytes).0 in
+    let c = (board-format bytes).1 in
+    let end : size_of (fields_of b.format b.cpus) ≡ processor_place b.format b.cpus = fields-end b.format b.cpus in
+    let f1 = fault_in front b b 0 bytes in
+    let p1 : 0 + size_of front ≡ 79 = omega (arith, front-size) in
+    (λ i. or_else (fault_in (fields_of (sym f i) (sym c i)) b b 0 bytes) (trailing (size_of (fields_of (sym f i) (sym c i))) bytes))
+    ∙ (λ i. or_else (fault_in (fields_of b.format b.cpus) b b 0 bytes) (trailing (end i) bytes))
+    ∙ ap (λ (o : Option StateFault). or_else o (trailing (processor_place b.format b.cpus) bytes))
+    (fault_in-append (front ++ devices b.format) (back b.format b.cpus) b b 0 bytes
+    ∙ (λ i. or_else (fault_in-append front (devices b.format) b b 0 bytes i) (fault_in (back b.format b.cpus) b b (devices-end b.format i) bytes))
+    ∙ (λ i. or_else (or_else f1 (fault_in (devices b.format) b b (p1 i) bytes)) (fault_in (back b.format b.cpus) b b (rises_place b.format) bytes)))
+    ∙ or_else-assoc (or_else f1 (fault_in (devices b.format) b b 79 bytes)) _ _ ∙ or_else-assoc f1 (fault_in (devices b.format) b b 79 bytes) _
+    ∙ (λ i. or_else f1 (or_else (devices-are b bytes i) (rest-is b bytes i)))
 
-pub fault-head : (bytes : List ℕ) (fault : StateFault) → fault_in bytes 0 (head_rows bytes) ≡ Some fault → fault_of bytes ≡ Some fault
-fault-head bytes fault is = three-parts bytes ∙ ap (λ (first : Option StateFault). or_else first (or_else (devices_fault bytes) (rest_fault bytes))) is
+pub fault-head : (bytes : List ℕ) (fault : StateFault) → fault_in front (board_in bytes) (board_in bytes) 0 bytes ≡ Some fault → fault_of bytes ≡ Some fault
+fault-head bytes fault is =
+    three-parts bytes ∙ ap (λ (first : Option StateFault). or_else first (or_else (devices_fault (board_in bytes) bytes) (rest_fault (board_in bytes) bytes))) is
 
-pub behind-head : (bytes : List ℕ) → fault_in bytes 0 (head_rows bytes) ≡ None → fault_of bytes ≡ or_else (devices_fault bytes) (rest_fault bytes)
-behind-head bytes none = three-parts bytes ∙ or_else-none (fault_in bytes 0 (head_rows bytes)) (or_else (devices_fault bytes) (rest_fault bytes)) none
+-- a board that was read, with no fault before the 8254
+pub record IsRight (bytes : List ℕ) (b : BoardParts) : Type 0 where
+  pub small : AreBytes bytes
+  pub none : fault_in front (board_in bytes) (board_in bytes) 0 bytes ≡ None
+  pub read : b ≡ board_in bytes
 
-pub fault-devices : (bytes : List ℕ) (fault : StateFault) → fault_in bytes 0 (head_rows bytes) ≡ None → devices_fault bytes ≡ Some fault
-    → fault_of bytes ≡ Some fault
-fault-devices bytes fault none is = behind-head bytes none ∙ ap (λ (first : Option StateFault). or_else first (rest_fault bytes)) is
+pub right-head : (bytes : List ℕ) (b : BoardParts) → IsRight bytes b → IsHead b
+right-head bytes b is =
+    subst IsHead (sym is.read) (head-valid (board_in bytes) (hold front front-spelled (board_in bytes) (board_in bytes) 0 bytes is.small (omega arith) is.none))
 
-pub behind-devices : (bytes : List ℕ) → fault_in bytes 0 (head_rows bytes) ≡ None → devices_fault bytes ≡ None → fault_of bytes ≡ rest_fault bytes
-behind-devices bytes none none' = behind-head bytes none ∙ or_else-none (devices_fault bytes) (rest_fault bytes) none'
+pub after-head : (bytes : List ℕ) (b : BoardParts) → IsRight bytes b → fault_of bytes ≡ or_else (devices_fault b bytes) (rest_fault b bytes)
+after-head bytes b is =
+    three-parts bytes ∙ or_else-none _ (or_else (devices_fault (board_in bytes) bytes) (rest_fault (board_in bytes) bytes)) is.none
+    ∙ (λ i. or_else (devices_fault (sym is.read i) bytes) (rest_fault (sym is.read i) bytes))
+
+pub after-devices : (bytes : List ℕ) (b : BoardParts) → IsRight bytes b → devices_fault b bytes ≡ None → fault_of bytes ≡ rest_fault b bytes
+after-devices bytes b is none = after-head bytes b is ∙ or_else-none (devices_fault b bytes) (rest_fault b bytes) none
+
+-- 79 bytes are there where the first fields have no fault
+room-at : (bytes : List ℕ) (b : BoardParts) → IsRight bytes b → 79 ≤ length bytes
+room-at bytes b is =
+    let end = (rewritten front front-spelled (board_in bytes) (board_in bytes) 0 bytes is.small (omega arith) is.none).0 in omega (arith, end, front-size)
+
+pub right-devices : (bytes : List ℕ) (b : BoardParts) → IsRight bytes b → devices_fault b bytes ≡ None → AreDevices (devices_in b)
+right-devices bytes b is none =
+    devices-valid b (subst IsRead (sym is.read) (board-read bytes is.small)) (right-head bytes b is)
+    (hold (devices b.format) (devices-spelled b.format) b b 79 bytes is.small (room-at bytes b is) (devices-are b bytes ∙ none))
+
+pub right-board : (bytes : List ℕ) (b : BoardParts) → IsRight bytes b → devices_fault b bytes ≡ None → rest_fault b bytes ≡ None → IsBoard b
+right-board bytes b is none none' =
+    let end = (rewritten (devices b.format) (devices-spelled b.format) b b 79 bytes is.small (room-at bytes b is) (devices-are b bytes ∙ none)).0 in
+    let all = devices-end b.format in
+    let one = size_of-append front (devices b.format) in
+    let parts = or_else-both (fault_in (back b.format b.cpus) b b (rises_place b.format) bytes) _ (rest-is b bytes ∙ none') in
+    board-valid b (subst IsRead (sym is.read) (board-read bytes is.small)) (right-head bytes b is)
+    (hold (devices b.format) (devices-spelled b.format) b b 79 bytes is.small (room-at bytes b is) (devices-are b bytes ∙ none))
+    (hold (back b.format b.cpus) (back-spelled b.format b.cpus) b b (rises_place b.format) bytes is.small (omega (arith, end, all, one, front-size)) parts.0)

@@ -7,16 +7,12 @@ use Rattle.board_types.specs.declared.setup.Setup.{Setup}
 use Rattle.board_core.specs.PowerOn.{board_at_power_on}
 use Rattle.save_state.specs.declared.fault.StateFault.{StateFault}
 use Rattle.save_state.specs.declared.fault.StateKind.TheVariants.{Short, Magic, Version, Field, Trailing}
-use Rattle.save_state.specs.Fields.{number_at, number_bytes, fault_in, fault_below, places_below}
-use Rattle.save_state.specs.Pit.{counter_in, counter_bytes}
-use Rattle.save_state.specs.Hpet.{timer_in, timer_bytes}
-use Rattle.save_state.specs.Ticks.{line_in, line_bytes}
-use Rattle.save_state.specs.Processors.{processor_in, tsc_bytes, page_bytes, processor_bytes}
-use Rattle.save_state.specs.Reading.{anchor_in, pit_in, rtc_in, hpet_in, lines_in, rises_in, processors_in, board_in}
-use Rattle.save_state.specs.Table.{head_rows, clock_rows, hpet_rows, line_fault, rises_rows, wall_rows, counter_fault, timer_fault, processor_fault}
-use Rattle.save_state.specs.Table.{trailing_fault, fault_of}
-use Rattle.save_state.specs.Writing.{blocks_below, head_bytes, host_bytes, guest_bytes, policy_bytes, pit_bytes, clock_bytes, hpet_bytes, rises_bytes}
-use Rattle.save_state.specs.Writing.{wall_bytes, front_bytes, device_bytes, back_bytes, bytes_of}
+use Rattle.byte_table.specs.Codes.{number_at, number_bytes, row_bytes, row_value, row_spelled}
+use Rattle.byte_table.specs.Kinds.{plain, row, blocks, elsewhere}
+use Rattle.save_state.specs.Fields.{head, host, guest, policies, counter, counters, clock, registers, timer, timers, line, lines, rises, wall, tsc, page, processors}
+use Rattle.save_state.specs.Reading.{board_in}
+use Rattle.save_state.specs.Table.{fault_of}
+use Rattle.save_state.specs.Writing.{bytes_of}
 use Rattle.pit_counter.specs.Count.{modulus}
 use Rattle.pit_counter.specs.Mode.{mode_of, access_of, is_bcd}
 use Rattle.pit_counter.specs.Programming.{programmed}
@@ -41,13 +37,12 @@ setup = record {
   time = record { sec = 0; min = 0; hour = 0; wday = 1; date = 1; month = 1; year = 0 };
 }
 
--- a board at power on, behind one access that did nothing
+-- a board at power on, after one access that did nothing
 abbrev pub board : BoardParts
 board = record (board_at_power_on setup) { accesses = 1 }
 
 unfoldable pub example : List ℕ
-unfolding number_bytes counter_bytes timer_bytes line_bytes processor_bytes head_bytes host_bytes guest_bytes policy_bytes pit_bytes clock_bytes
-    hpet_bytes rises_bytes wall_bytes tsc_bytes page_bytes front_bytes device_bytes back_bytes blocks_below bytes_of with_time rtc_at_power_on
+unfolding number_bytes row_bytes bytes_of with_time rtc_at_power_on head host guest policies counter counters clock registers timer timers line lines rises wall tsc page processors plain row blocks elsewhere
 example = bytes_of board
 
 example-length : length example ≡ 553
@@ -67,17 +62,15 @@ example-processor = refl
 
 -- the fault and the board of bytes, computed
 unfoldable pub fault : List ℕ → Option StateFault
-unfolding example number_at fault_in fault_below places_below counter_in timer_in line_in processor_in anchor_in pit_in rtc_in hpet_in lines_in
-    rises_in processors_in board_in head_rows clock_rows hpet_rows line_fault rises_rows wall_rows counter_fault timer_fault processor_fault
-    trailing_fault fault_of bits_valid flags_valid cr_valid ce_valid part_valid read_order_valid latched_count_valid latched_status_valid programmed
-    modulus mode_of access_of is_bcd levels time_at mul_for shift_for rtc_at_power_on with_time
+unfolding example number_at row_value row_spelled board_in fault_of bits_valid flags_valid cr_valid ce_valid part_valid read_order_valid
+    latched_count_valid latched_status_valid programmed modulus mode_of access_of is_bcd levels time_at mul_for shift_for rtc_at_power_on with_time
+    head host guest policies counter counters clock registers timer timers line lines rises wall tsc page processors plain row blocks elsewhere
 fault bytes = fault_of bytes
 
 unfoldable pub read : List ℕ → BoardParts
-unfolding example number_at fault_in fault_below places_below counter_in timer_in line_in processor_in anchor_in pit_in rtc_in hpet_in lines_in
-    rises_in processors_in board_in head_rows clock_rows hpet_rows line_fault rises_rows wall_rows counter_fault timer_fault processor_fault
-    trailing_fault fault_of bits_valid flags_valid cr_valid ce_valid part_valid read_order_valid latched_count_valid latched_status_valid programmed
-    modulus mode_of access_of is_bcd levels time_at mul_for shift_for rtc_at_power_on with_time
+unfolding example number_at row_value row_spelled board_in fault_of bits_valid flags_valid cr_valid ce_valid part_valid read_order_valid
+    latched_count_valid latched_status_valid programmed modulus mode_of access_of is_bcd levels time_at mul_for shift_for rtc_at_power_on with_time
+    head host guest policies counter counters clock registers timer timers line lines rises wall tsc page processors plain row blocks elsewhere
 read bytes = board_in bytes
 
 example-is_one : fault example ≡ None

@@ -1,4 +1,4 @@
--- Rows of version 2: its example, where each block stands, the fault of fields that version 1 doesn't have or has elsewhere, and an upgrade.
+-- Rows of version 2: its example, where each block is, the fault of fields that version 1 doesn't have or has elsewhere, and an upgrade.
 use Rattle.std.proofs.Common.{◌≡◌, ℕ, List, [], ◌∷◌, ◌++◌, true, length, take, drop, replicate, set, None, Some, refl}
 use Rattle.tick_policy.specs.declared.parts.Policy.TheVariants.{Delay}
 use Rattle.board_types.specs.declared.parts.BoardParts.{BoardParts}
@@ -8,13 +8,10 @@ use Rattle.board_devices.specs.Parts.{devices_upgraded}
 use Rattle.rtc_registers.specs.Registers.{with_time}
 use Rattle.rtc_registers.specs.Parts.{rtc_at_power_on}
 use Rattle.save_state.specs.declared.fault.StateKind.TheVariants.{Short, Field, Trailing}
-use Rattle.save_state.specs.Fields.{number_bytes}
-use Rattle.save_state.specs.Pit.{counter_bytes}
-use Rattle.save_state.specs.Hpet.{timer_bytes}
-use Rattle.save_state.specs.Ticks.{line_bytes}
-use Rattle.save_state.specs.Processors.{tsc_bytes, page_bytes, processor_bytes}
-use Rattle.save_state.specs.Writing.{blocks_below, head_bytes, host_bytes, guest_bytes, policy_bytes, pit_bytes, clock_bytes, hpet_bytes}
-use Rattle.save_state.specs.Writing.{rises_bytes, wall_bytes, front_bytes, device_bytes, back_bytes, bytes_of}
+use Rattle.byte_table.specs.Codes.{number_bytes, row_bytes}
+use Rattle.byte_table.specs.Kinds.{plain, row, blocks, elsewhere}
+use Rattle.save_state.specs.Fields.{head, host, guest, policies, counter, counters, clock, registers, timer, timers, line, lines, rises, wall, tsc, page, processors}
+use Rattle.save_state.specs.Writing.{bytes_of}
 use Rattle.save_state.proofs.Rows.{setup, board, example, fault, read}
 
 -- the same board of format 2
@@ -23,9 +20,7 @@ second_board = record (board_at_power_on (record setup { format = 2 })) { access
 
 -- the bytes of a board, computed
 unfoldable spelled : BoardParts → List ℕ
-unfolding number_bytes counter_bytes timer_bytes line_bytes processor_bytes head_bytes host_bytes guest_bytes policy_bytes pit_bytes clock_bytes
-    hpet_bytes rises_bytes wall_bytes tsc_bytes page_bytes front_bytes device_bytes back_bytes blocks_below bytes_of with_time rtc_at_power_on
-    upgraded_to devices_upgraded
+unfolding number_bytes row_bytes bytes_of with_time rtc_at_power_on upgraded_to devices_upgraded head host guest policies counter counters clock registers timer timers line lines rises wall tsc page processors plain row blocks elsewhere
 spelled b = bytes_of b
 
 unfoldable second : List ℕ
@@ -46,10 +41,10 @@ unfolding second
 second-version = refl
 
 -- a timer, and eight; then ten lines, six counts of rises, the wall clock and a processor, all 0
-abbrev timer : List ℕ
-timer = 0 ∷ 40 ∷ replicate 16 0
+abbrev timer_bytes : List ℕ
+timer_bytes = 0 ∷ 40 ∷ replicate 16 0
 
-second-timers : take 144 (drop 264 second) ≡ timer ++ timer ++ timer ++ timer ++ timer ++ timer ++ timer ++ timer
+second-timers : take 144 (drop 264 second) ≡ timer_bytes ++ timer_bytes ++ timer_bytes ++ timer_bytes ++ timer_bytes ++ timer_bytes ++ timer_bytes ++ timer_bytes
 unfolding second
 second-timers = refl
 
@@ -191,7 +186,7 @@ upgraded-is : spelled (upgraded_to 2 board) ≡ second
 unfolding spelled second
 upgraded-is = refl
 
--- one with its line of the 8254 up, and its wall clock published: what was there is kept, and stands behind what is new
+-- one with its line of the 8254 up, and its wall clock published: what was there is kept, after what is new
 abbrev busy : BoardParts
 busy = record board {
   ticks = record { policy = Delay; up = true; counts = record { due = 1; rises = 1; queue = 0; lost = 0 } } ∷ drop 1 board.ticks;
@@ -208,7 +203,7 @@ upgraded-length : length upgraded ≡ 856
 unfolding upgraded
 upgraded-length = refl
 
-upgraded-timers : take 144 (drop 264 upgraded) ≡ timer ++ timer ++ timer ++ timer ++ timer ++ timer ++ timer ++ timer
+upgraded-timers : take 144 (drop 264 upgraded) ≡ timer_bytes ++ timer_bytes ++ timer_bytes ++ timer_bytes ++ timer_bytes ++ timer_bytes ++ timer_bytes ++ timer_bytes
 unfolding upgraded
 upgraded-timers = refl
 

@@ -1,78 +1,373 @@
--- The fields of a saved state (own): numbers of bytes, the lowest first, one after the other.
-use Rattle.std.specs.Prelude.{
-  ℕ,
-  zero,
-  suc,
-  ◌+◌,
-  ◌==◌,
-  nat_lt,
-  Bool,
-  if◌then◌else◌,
-  List,
-  [],
-  ◌∷◌,
-  length,
-  drop,
-  slice_index,
-  Option,
-  Some,
-  None,
+-- The fields of a saved state, in the order of their bytes (own): each with its spelling, where its
+-- value is in the board, and its condition. A condition over several fields is one on the first of
+-- them at which it is certain that it fails.
+use Rattle.std.specs.Prelude.{ℕ, ◌+◌, ◌*◌, ◌%◌, ◌==◌, nat_lt, nat_le, Bool, true, false, ◌&&◌, ◌||◌, not, if◌then◌else◌, List, [], ◌∷◌, ◌++◌, slice_index_or}
+use Rattle.std.specs.Int.{w8, cast_unsigned}
+use Rattle.clk_units.specs.declared.ranges.TheConstants.{RANGE_NS, KHZ_MIN, KHZ_MAX}
+use Rattle.host_counter.specs.Time.{time_at}
+use Rattle.pit_counter.specs.declared.parts.CounterParts.{CounterParts}
+use Rattle.pit_counter.specs.Programming.{counter_at_power_on}
+use Rattle.pit_counter.specs.Parts.{
+  bits_valid,
+  flags_valid,
+  cr_valid,
+  ce_valid,
+  part_valid,
+  read_order_valid,
+  latched_count_valid,
+  latched_status_valid,
 }
-use Rattle.clk_units.specs.Bits.{bit_value}
-use Rattle.byteorder.specs.Endian.{little_number, little_bytes}
-use Rattle.save_state.specs.declared.table.Row.{Row}
+use Rattle.rtc_registers.specs.Registers.{pf_of}
+use Rattle.rtc_registers.specs.Parts.{index_valid, bytes_valid, divider_valid, cycle_valid}
+use Rattle.hpet_comparator.specs.declared.parts.TimerParts.{TimerParts}
+use Rattle.hpet_comparator.specs.Parts.{config_valid, comparator_valid, period_valid}
+use Rattle.hpet_registers.specs.Parts.{no_timer}
+use Rattle.tick_policy.specs.declared.parts.TickParts.{TickParts}
+use Rattle.tick_policy.specs.declared.parts.Policy.{Policy}
+use Rattle.tick_policy.specs.Parts.{policy_byte, policy_of, queue_valid, lost_valid}
+use Rattle.pvclock_page.specs.Scale.{mul_for, shift_for}
+use Rattle.board_types.specs.declared.parts.BoardParts.{BoardParts}
+use Rattle.board_types.specs.declared.parts.ProcessorParts.{ProcessorParts}
+use Rattle.board_types.specs.declared.parts.TheConstants.{MOST_ACCESSES}
+use Rattle.board_types.specs.Setup.{timers_of, processors_of}
+use Rattle.board_types.specs.declared.setup.TheConstants.{LAST_FORMAT, SLEW_MAX_NS}
+use Rattle.board_devices.specs.Places.{no_line, line_at}
+use Rattle.board_devices.specs.Nanosecond.{counts_rtc}
+use Rattle.board_devices.specs.Lines.{levels}
+use Rattle.board_devices.specs.Rises.{one_if}
+use Rattle.board_core.specs.Time.{devices_in, now_of}
+use Rattle.board_core.specs.Tsc.{no_processor}
+use Rattle.board_core.specs.Conditions.{flags_valid as page_flags_valid}
+use Rattle.byte_table.specs.Codes.{
+  Code,
+  number,
+  byte,
+  signed_byte,
+  word,
+  choice,
+  flag,
+  Flags,
+  flags,
+  both,
+}
+use Rattle.byte_table.specs.Fold.{Field}
+use Rattle.byte_table.specs.Kinds.{Faults, plain, row, blocks, elsewhere}
 use Rattle.save_state.specs.declared.fault.StateFault.{StateFault}
-use Rattle.save_state.specs.declared.fault.StateKind.TheVariants.{Short, Field}
+use Rattle.save_state.specs.declared.fault.StateKind.{StateKind}
+use Rattle.save_state.specs.declared.fault.StateKind.TheVariants.{
+  Short,
+  Magic,
+  Version,
+  Field as Invalid,
+}
 
--- the byte at a place; one behind the end counts as 0
-abbrev pub byte_at : ℕ → List ℕ → ℕ
-byte_at place bytes = slice_index bytes place
+-- the faults of a field whose condition is of a kind
+abbrev pub faults_of : StateKind → Faults StateFault
+faults_of kind = record {
+  short = λ place. record { place = place; kind = Short };
+  invalid = λ place. record { place = place; kind = kind };
+}
 
--- the number in `size` bytes from a place
-unfoldable pub number_at : ℕ → ℕ → List ℕ → ℕ
-number_at size place bytes = little_number size (drop place bytes)
+-- fields of a part P of the board
+abbrev pub Fields : Type 0 → Type 0
+Fields P = List (Field StateFault BoardParts P)
 
--- the bytes of a number of `size` bytes
-unfoldable pub number_bytes : ℕ → ℕ → List ℕ
-number_bytes size x = little_bytes size x
+-- a field as most are
+abbrev pub field : {P A : Type 0} → Code A → (P → A) → (A → P → P) → (BoardParts → P → Bool)
+    → Field StateFault BoardParts P
+field c get put valid = plain (faults_of Invalid) c get put valid
 
--- a flag: the byte 01
-abbrev pub flag_at : ℕ → List ℕ → Bool
-flag_at place bytes = byte_at place bytes == 1
+-- a condition that always holds
+abbrev pub any : {P : Type 0} → BoardParts → P → Bool
+any b p = true
 
--- a flag's byte is 00 or 01
-abbrev pub flag_valid : ℕ → List ℕ → Bool
-flag_valid place bytes = nat_lt (byte_at place bytes) 2
+-- 'CLKBOARD', as a number
+abbrev pub magic : ℕ
+magic = 0x4452414f424b4c43
 
--- the byte of a flag
-abbrev pub flag_byte : Bool → ℕ
-flag_byte b = bit_value b 0
+-- a rate in kHz is in range
+abbrev pub khz_valid : ℕ → Bool
+khz_valid khz = nat_le KHZ_MIN khz && nat_le khz KHZ_MAX
 
--- a row as most are
-abbrev pub field : ℕ → Bool → Row
-field size valid = record { size = size; valid = valid; kind = Field }
+-- the greatest count isn't before the anchor's, and its time is in range
+abbrev pub host_valid : BoardParts → Bool
+host_valid b = nat_le b.anchor.start b.host && nat_lt (time_at b.anchor b.host) RANGE_NS
 
--- the first fault of the rows from a place on: a field that isn't wholly there, with the length of
--- the input as its place, or one whose condition fails
-unfoldable pub fault_in : List ℕ → ℕ → List Row → Option StateFault
-fault_in bytes place [] = None
-fault_in bytes place (r ∷ rows) =
-    if nat_lt (length bytes) (place + r.size) then
-    Some (record { place = length bytes; kind = Short })
-    else if r.valid then fault_in bytes (place + r.size) rows
-    else Some (record { place = place; kind = r.kind })
+-- a policy of the tick lines, and where those of line k is: at 76 that of the 8254, at 77 that of
+-- the MC146818, at 78 that of the HPET's timers
+abbrev pub policy : Code Policy
+policy = choice 3 policy_byte policy_of
 
--- an earlier fault, or else a later one
-abbrev pub or_else : Option StateFault → Option StateFault → Option StateFault
-or_else (Some fault) later = Some fault
-or_else None later = later
+abbrev pub policy_place : ℕ → ℕ
+policy_place k = 76 + (if nat_le 2 k then 2 else k)
 
--- the first fault of the first n of blocks
-unfoldable pub fault_below : (ℕ → Option StateFault) → ℕ → Option StateFault
-fault_below fault zero = None
-fault_below fault (suc n) = or_else (fault_below fault n) (fault n)
+abbrev pub policy_field : ℕ → Field StateFault BoardParts BoardParts
+policy_field k = field policy (λ b. (line_at k (devices_in b)).policy) (λ x b. b) any
 
--- the values at the places below n
-unfoldable pub places_below : {A : Type 0} → (ℕ → A) → ℕ → ℕ → List A
-places_below value k zero = []
-places_below value k (suc n) = value k ∷ places_below value (suc k) n
+-- the version is the format, which tells how many timers the HPET has
+abbrev pub with_format : ℕ → BoardParts → BoardParts
+with_format x b = record b { format = x; hpet = record b.hpet { timers = timers_of x } }
+
+-- magic, version, number of processors
+unfoldable pub head : Fields BoardParts
+head =
+    plain (faults_of Magic) (word 8 magic) (λ b. tt) (λ x b. b) any
+    ∷ plain (faults_of Version) (number 2) (λ b. b.format) with_format
+    (λ b p. nat_le 1 p.format && nat_le p.format LAST_FORMAT)
+    ∷ field (number 2) (λ b. b.cpus) (λ x b. record b { cpus = x })
+    (λ b p. nat_le 1 p.cpus && nat_le p.cpus (processors_of p.format))
+    ∷ []
+
+-- the anchor's rate, count and time, and the greatest count
+unfoldable pub host : Fields BoardParts
+host =
+    field (number 8) (λ b. b.anchor.khz) (λ x b. record b { anchor = record b.anchor { khz = x } })
+    (λ b p. khz_valid p.anchor.khz)
+    ∷ field (number 8) (λ b. b.anchor.start)
+    (λ x b. record b { anchor = record b.anchor { start = x } })
+    any
+    ∷ field (number 8) (λ b. b.anchor.base_ns)
+    (λ x b. record b { anchor = record b.anchor { base_ns = x } })
+    (λ b p. nat_lt p.anchor.base_ns RANGE_NS)
+    ∷ field (number 8) (λ b. b.host) (λ x b. record b { host = x }) (λ b p. host_valid p)
+    ∷ []
+
+-- the guest's rate, the number of accesses, the greatest reading, the nanoseconds between catch-up
+-- points
+unfoldable pub guest : Fields BoardParts
+guest =
+    field (number 8) (λ b. b.guest_khz) (λ x b. record b { guest_khz = x })
+    (λ b p. khz_valid p.guest_khz)
+    ∷ field (number 8) (λ b. b.accesses) (λ x b. record b { accesses = x })
+    (λ b p. nat_le p.accesses MOST_ACCESSES)
+    ∷ field (number 8) (λ b. b.greatest) (λ x b. record b { greatest = x }) any
+    ∷ field (number 8) (λ b. b.slew_ns) (λ x b. record b { slew_ns = x })
+    (λ b p. nat_le 1 p.slew_ns && nat_le p.slew_ns SLEW_MAX_NS)
+    ∷ []
+
+unfoldable pub policies : Fields BoardParts
+policies = policy_field 0 ∷ policy_field 1 ∷ policy_field 2 ∷ []
+
+-- the flags of a counter
+abbrev pub flags_from : CounterParts → Flags
+flags_from c = record {
+  bit_0 = c.null;
+  bit_1 = c.out;
+  bit_2 = c.gate;
+  bit_3 = c.full;
+  bit_4 = c.live;
+  bit_5 = c.armed;
+  bit_6 = c.trig;
+  bit_7 = c.odd;
+}
+
+abbrev pub with_flags : Flags → CounterParts → CounterParts
+with_flags x c = record c {
+  null = x.bit_0;
+  out = x.bit_1;
+  gate = x.bit_2;
+  full = x.bit_3;
+  live = x.bit_4;
+  armed = x.bit_5;
+  trig = x.bit_6;
+  odd = x.bit_7;
+}
+
+-- counter k of the 8254: programmed bits, flags, count register, counting element, first byte, read
+-- order, latched count, latched status. GATE of counters 0 and 1 is high
+unfoldable pub counter : ℕ → Fields CounterParts
+counter k =
+    field byte (λ c. c.bits) (λ x c. record c { bits = x }) (λ b c. bits_valid c)
+    ∷ field flags flags_from with_flags (λ b c. flags_valid c && (c.gate || nat_le 2 k))
+    ∷ field (number 2) (λ c. c.cr) (λ x c. record c { cr = x }) (λ b c. cr_valid c)
+    ∷ field (number 2) (λ c. c.ce) (λ x c. record c { ce = x }) (λ b c. ce_valid c)
+    ∷ field (both flag byte) (λ c. record { first = c.part_there; second = c.part })
+    (λ x c. record c { part_there = x.first; part = x.second })
+    (λ b c. part_valid c)
+    ∷ field flag (λ c. c.high_next) (λ x c. record c { high_next = x })
+    (λ b c. read_order_valid c)
+    ∷ field (both flag (number 2))
+    (λ c. record { first = c.count_latched; second = c.latched_count })
+    (λ x c. record c { count_latched = x.first; latched_count = x.second })
+    (λ b c. latched_count_valid c)
+    ∷ field (both flag byte) (λ c. record { first = c.status_latched; second = c.latched_status })
+    (λ x c. record c { status_latched = x.first; latched_status = x.second })
+    (λ b c. latched_status_valid c)
+    ∷ []
+
+-- the counters of the 8254
+abbrev pub no_counter : CounterParts
+no_counter = counter_at_power_on true
+
+unfoldable pub counters : Fields BoardParts
+counters =
+    blocks 3 3 counter no_counter (λ b. b.pit.counters)
+    (λ x b. record b { pit = record b.pit { counters = x } })
+    ∷ []
+
+-- speaker data, and the MC146818: index, bytes, divider, cycle
+unfoldable pub clock : Fields BoardParts
+clock =
+    field flag (λ b. b.pit.speaker) (λ x b. record b { pit = record b.pit { speaker = x } }) any
+    ∷ field byte (λ b. b.rtc.index) (λ x b. record b { rtc = record b.rtc { index = x } })
+    (λ b p. index_valid p.rtc)
+    ∷ row (faults_of Invalid) 128 128 byte 0 (λ b. b.rtc.bytes)
+    (λ x b. record b { rtc = record b.rtc { bytes = x } })
+    (λ b p. bytes_valid p.rtc)
+    ∷ field (number 2) (λ b. b.rtc.d) (λ x b. record b { rtc = record b.rtc { d = x } })
+    (λ b p. divider_valid p.rtc)
+    ∷ field flag (λ b. b.rtc.cycle) (λ x b. record b { rtc = record b.rtc { cycle = x } })
+    (λ b p. cycle_valid p.rtc)
+    ∷ []
+
+-- a timer of the HPET: configuration, comparator, period
+unfoldable pub timer : ℕ → Fields TimerParts
+timer k =
+    field (number 2) (λ t. t.config) (λ x t. record t { config = x }) (λ b t. config_valid t)
+    ∷ field (number 8) (λ t. t.comparator) (λ x t. record t { comparator = x })
+    (λ b t. comparator_valid t)
+    ∷ field (number 8) (λ t. t.period) (λ x t. record t { period = x }) (λ b t. period_valid t)
+    ∷ []
+
+-- the HPET: configuration, status, of which format 1 has three bits, main counter
+unfoldable pub registers : Fields BoardParts
+registers =
+    field byte (λ b. b.hpet.config) (λ x b. record b { hpet = record b.hpet { config = x } })
+    (λ b p. nat_le p.hpet.config 3)
+    ∷ field byte (λ b. b.hpet.status) (λ x b. record b { hpet = record b.hpet { status = x } })
+    (λ b p. nat_le 2 p.format || nat_le p.hpet.status 7)
+    ∷ field (number 8) (λ b. b.hpet.counter)
+    (λ x b. record b { hpet = record b.hpet { counter = x } })
+    any
+    ∷ []
+
+-- its timers
+unfoldable pub timers : ℕ → Fields BoardParts
+timers n =
+    blocks n 8 timer no_timer (λ b. b.hpet.timer)
+    (λ x b. record b { hpet = record b.hpet { timer = x } })
+    ∷ []
+
+-- whether both are true or both false
+abbrev pub same : Bool → Bool → Bool
+same true b = b
+same false b = not b
+
+-- whether tick line k may be up, or down: that of the MC146818 is PF while its ticks are counted
+abbrev pub up_allowed : BoardParts → ℕ → Bool → Bool
+up_allowed b k up =
+    if k == 1 then same up (counts_rtc (devices_in b) && pf_of b.rtc) else true
+
+-- tick line k: whether it is up, and its ticks: due, of which there are, at most, as many as there
+-- were nanoseconds and accesses; rises; queue; lost, with the sum. Its policy is before the 8254
+unfoldable pub line : ℕ → Fields TickParts
+line k =
+    field flag (λ l. l.up) (λ x l. record l { up = x }) (λ b l. up_allowed b k l.up)
+    ∷ field (number 8) (λ l. l.counts.due)
+    (λ x l. record l { counts = record l.counts { due = x } })
+    (λ b l. nat_le l.counts.due (now_of b + b.accesses))
+    ∷ field (number 8) (λ l. l.counts.rises)
+    (λ x l. record l { counts = record l.counts { rises = x } })
+    any
+    ∷ field (number 8) (λ l. l.counts.queue)
+    (λ x l. record l { counts = record l.counts { queue = x } })
+    (λ b l. queue_valid l)
+    ∷ field (number 8) (λ l. l.counts.lost)
+    (λ x l. record l { counts = record l.counts { lost = x } })
+    (λ b l. lost_valid l)
+    ∷ elsewhere (policy_place k) policy (λ l. l.policy) (λ x l. record l { policy = x })
+    ∷ []
+
+-- the tick lines: two, and one for each timer
+unfoldable pub lines : ℕ → Fields BoardParts
+lines n =
+    blocks (n + 2) 10 line no_line (λ b. b.ticks) (λ x b. record b { ticks = x }) ∷ []
+
+-- the counts of rises: none in format 1. A line has at most one rise an access, and one more while
+-- it is up
+abbrev pub counts_of : ℕ → ℕ
+counts_of format = if nat_le 2 format then 6 else 0
+
+abbrev pub rise_valid : BoardParts → ℕ → Bool
+rise_valid b k =
+    nat_le (slice_index_or b.rises k 0)
+    (b.accesses + one_if (slice_index_or (levels (devices_in b)) k false))
+
+unfoldable pub rises : ℕ → Fields BoardParts
+rises counts =
+    row (faults_of Invalid) counts 6 (number 8) 0 (λ b. b.rises) (λ x b. record b { rises = x })
+    (λ b p. rise_valid p 0 && rise_valid p 1 && rise_valid p 2 && rise_valid p 3 && rise_valid p 4
+    && rise_valid p 5)
+    ∷ []
+
+-- the wall clock: the number of its words, which is 0 before they are published first; their
+-- version, which is even; its seconds and nanoseconds at power on
+unfoldable pub wall : Fields BoardParts
+wall =
+    field (number 8) (λ b. b.wall_number) (λ x b. record b { wall_number = x }) any
+    ∷ field (number 4) (λ b. b.wall_version) (λ x b. record b { wall_version = x })
+    (λ b p. (p.wall_version % 2 == 0) && (nat_lt 0 p.wall_version || (p.wall_number == 0)))
+    ∷ field (number 4) (λ b. b.wall_sec) (λ x b. record b { wall_sec = x }) any
+    ∷ field (number 4) (λ b. b.wall_nsec) (λ x b. record b { wall_nsec = x })
+    (λ b p. nat_lt p.wall_nsec 1000000000)
+    ∷ []
+
+-- the version is even; before the first publishing it is 0, with what is before it
+abbrev pub version_valid : ProcessorParts → Bool
+version_valid p =
+    (p.version % 2 == 0)
+    && (nat_lt 0 p.version || ((p.offset == 0) && (p.adjust == 0) && (p.number == 0)))
+
+-- a field after the version: before the first publishing it is 0, and then it has this condition
+abbrev pub page_valid : ProcessorParts → ℕ → Bool → Bool
+page_valid p value valid = if p.version == 0 then value == 0 else valid
+
+-- the TSC of a processor: offset, adjust; the number of its page, and the version
+unfoldable pub tsc : Fields ProcessorParts
+tsc =
+    field (number 8) (λ p. p.offset) (λ x p. record p { offset = x }) any
+    ∷ field (number 8) (λ p. p.adjust) (λ x p. record p { adjust = x }) any
+    ∷ field (number 8) (λ p. p.number) (λ x p. record p { number = x }) any
+    ∷ field (number 4) (λ p. p.version) (λ x p. record p { version = x })
+    (λ b p. version_valid p)
+    ∷ []
+
+-- the page: TSC and time, their scale by the guest's rate, flags
+unfoldable pub page : Fields ProcessorParts
+page =
+    field (number 8) (λ p. p.tsc_timestamp) (λ x p. record p { tsc_timestamp = x })
+    (λ b p. page_valid p p.tsc_timestamp true)
+    ∷ field (number 8) (λ p. p.system_time) (λ x p. record p { system_time = x })
+    (λ b p. page_valid p p.system_time (nat_lt p.system_time RANGE_NS))
+    ∷ field (number 4) (λ p. p.mul) (λ x p. record p { mul = x })
+    (λ b p. page_valid p p.mul (p.mul == mul_for (b.guest_khz * 1000)))
+    ∷ field signed_byte (λ p. p.shift) (λ x p. record p { shift = x })
+    (λ b p. page_valid p (cast_unsigned w8 p.shift)
+    (cast_unsigned w8 p.shift == cast_unsigned w8 (shift_for (b.guest_khz * 1000))))
+    ∷ field byte (λ p. p.flags) (λ x p. record p { flags = x })
+    (λ b p. page_valid p p.flags (page_flags_valid p.flags))
+    ∷ []
+
+abbrev pub processor : ℕ → Fields ProcessorParts
+processor k = tsc ++ page
+
+unfoldable pub processors : ℕ → Fields BoardParts
+processors cpus =
+    blocks cpus 64 processor no_processor (λ b. b.processors)
+    (λ x b. record b { processors = x })
+    ∷ []
+
+-- all before the 8254, the devices with their tick lines, and what follows these
+abbrev pub front : Fields BoardParts
+front = head ++ host ++ guest ++ policies
+
+abbrev pub devices : ℕ → Fields BoardParts
+devices format =
+    counters ++ clock ++ registers ++ timers (timers_of format) ++ lines (timers_of format)
+
+abbrev pub back : ℕ → ℕ → Fields BoardParts
+back format cpus = rises (counts_of format) ++ wall ++ processors cpus
+
+-- the fields of a board of a format
+abbrev pub fields_of : ℕ → ℕ → Fields BoardParts
+fields_of format cpus = front ++ devices format ++ back format cpus

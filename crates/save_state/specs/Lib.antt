@@ -1,10 +1,6 @@
 pub mod Fields
-pub mod Pit
-pub mod Hpet
-pub mod Ticks
-pub mod Processors
 pub mod Places
 pub mod Reading
-pub mod Table
 pub mod Writing
+pub mod Table
 pub mod private

@@ -1,3 +1,4 @@
-pub mod Failing
-pub mod Passing
+pub mod Rows
+pub mod Places
+pub mod Parts
 pub mod Fits

@@ -1,10 +1,9 @@
-//! Numbers, and the blocks of a saved state, appended to bytes. Each block's clause `fits` tells what the types of its
-//! fields say, that each number fits its bytes: so the bytes are read as the block.
-ghost use Rattle.std.specs.Prelude.{◌≡◌, ◌+◌, ◌≤◌, ◌∷◌, [], ◌++◌, OnOk, if◌then◌else◌};
-ghost use Rattle.save_state.specs.Fields.{number_bytes, flag_byte};
-ghost use Rattle.save_state.specs.Pit.{counter_flags, counter_bytes};
-ghost use Rattle.save_state.specs.Hpet.{timer_bytes};
-ghost use Rattle.save_state.specs.Ticks.{line_bytes};
+//! The blocks of a saved state, appended to bytes. Each block's clause `fits` tells what the types of its fields
+//! say, that each number fits its bytes: so the bytes are read as the block.
+ghost use Rattle.std.specs.Prelude.{◌≡◌, ℕ, ◌++◌, OnOk};
+ghost use Rattle.byte_table.specs.Codes.{flags_byte};
+ghost use Rattle.byte_table.specs.Fold.{write};
+ghost use Rattle.save_state.specs.Fields.{flags_from, counter, timer, line, tsc, page, processor};
 ghost use Rattle.save_state.specs.private.Fits.{
   CounterFits,
   TimerFits,
@@ -13,79 +12,27 @@ ghost use Rattle.save_state.specs.private.Fits.{
   PageFits,
   ProcessorFits,
 };
-ghost use Rattle.save_state.specs.Processors.{tsc_bytes, page_bytes, processor_bytes};
 
 use board_core::ProcessorParts;
+use byte_table::{flag_byte, flags_byte, put, put_2, put_4, put_8};
 use clk_units::NoMemory;
 use hpet_comparator::TimerParts;
 use pit_counter::CounterParts;
 use tick_policy::TickParts;
 
-/// Appends bytes.
-pub(crate) fn put(out: &mut Vec<u8>, bytes: &[u8]) -> Result<(), NoMemory>
-    ensures { OnOk result (out.new.items ≡ out.old.items ++ bytes.now) }
-{
-    out.extend_from_slice(bytes).map_err(|_| NoMemory)
-}
-
-/// Appends a number of 2 bytes.
-#[tactic(auto, unfolding(crate::specs::Fields::number_bytes))]
-pub(crate) fn put_2(out: &mut Vec<u8>, x: u16) -> Result<(), NoMemory>
-    ensures { OnOk result (out.new.items ≡ out.old.items ++ number_bytes 2 x) }
-{
-    put(out, &x.to_le_bytes())
-}
-
-/// Appends a number of 4 bytes.
-#[tactic(auto, unfolding(crate::specs::Fields::number_bytes))]
-pub(crate) fn put_4(out: &mut Vec<u8>, x: u32) -> Result<(), NoMemory>
-    ensures { OnOk result (out.new.items ≡ out.old.items ++ number_bytes 4 x) }
-{
-    put(out, &x.to_le_bytes())
-}
-
-/// Appends a number of 8 bytes.
-#[tactic(auto, unfolding(crate::specs::Fields::number_bytes))]
-pub(crate) fn put_8(out: &mut Vec<u8>, x: u64) -> Result<(), NoMemory>
-    ensures { OnOk result (out.new.items ≡ out.old.items ++ number_bytes 8 x) }
-{
-    put(out, &x.to_le_bytes())
-}
-
-/// The byte of a flag.
-pub(crate) fn flag_byte(flag: bool) -> u8
-    ensures value { result ≡ flag_byte flag }
-    ensures small { result ≤ 1 }
-{
-    u8::from(flag)
-}
-
-/// The value of a flag in its byte.
-fn value_if(flag: bool, value: u8) -> u8
-    ensures value { result ≡ (if flag then value else 0) }
-    ensures small { result ≤ value }
-{
-    if flag { value } else { 0 }
-}
-
 /// The flags of a counter, as a byte.
 fn counter_flags(c: &CounterParts) -> u8
-    ensures { result ≡ counter_flags c.now }
+    ensures { result ≡ flags_byte (flags_from c.now) }
 {
-    value_if(c.null, 1)
-        + value_if(c.out, 2)
-        + value_if(c.gate, 4)
-        + value_if(c.full, 8)
-        + value_if(c.live, 16)
-        + value_if(c.armed, 32)
-        + value_if(c.trig, 64)
-        + value_if(c.odd, 128)
+    flags_byte(&[
+        c.null, c.out, c.gate, c.full, c.live, c.armed, c.trig, c.odd,
+    ])
 }
 
-/// Appends a counter.
-#[tactic(auto, unfolding(crate::specs::Pit::counter_bytes))]
+/// Appends counter `k`, whichever it is.
+#[tactic(auto, unfolding(crate::specs::Fields::counter, byte_table::specs::Kinds::plain))]
 pub(crate) fn put_counter(out: &mut Vec<u8>, c: &CounterParts) -> Result<(), NoMemory>
-    ensures bytes { OnOk result (out.new.items ≡ out.old.items ++ counter_bytes c.now) }
+    ensures bytes { (k : ℕ) → OnOk result (out.new.items ≡ out.old.items ++ write (counter k) c.now) }
     ensures fits { OnOk result (CounterFits c.now) }
 {
     put(out, &[c.bits, counter_flags(c)])?;
@@ -104,10 +51,10 @@ pub(crate) fn put_counter(out: &mut Vec<u8>, c: &CounterParts) -> Result<(), NoM
     put(out, &[flag_byte(c.status_latched), c.latched_status])
 }
 
-/// Appends a timer.
-#[tactic(auto, unfolding(crate::specs::Hpet::timer_bytes))]
+/// Appends timer `k`, whichever it is.
+#[tactic(auto, unfolding(crate::specs::Fields::timer, byte_table::specs::Kinds::plain))]
 pub(crate) fn put_timer(out: &mut Vec<u8>, t: &TimerParts) -> Result<(), NoMemory>
-    ensures bytes { OnOk result (out.new.items ≡ out.old.items ++ timer_bytes t.now) }
+    ensures bytes { (k : ℕ) → OnOk result (out.new.items ≡ out.old.items ++ write (timer k) t.now) }
     ensures fits { OnOk result (TimerFits t.now) }
 {
     put_2(out, t.config)?;
@@ -115,33 +62,32 @@ pub(crate) fn put_timer(out: &mut Vec<u8>, t: &TimerParts) -> Result<(), NoMemor
     put_8(out, t.period)
 }
 
-/// Appends a tick line.
-#[tactic(auto, unfolding(crate::specs::Ticks::line_bytes))]
-pub(crate) fn put_line(out: &mut Vec<u8>, line: &TickParts) -> Result<(), NoMemory>
-    ensures bytes { OnOk result (out.new.items ≡ out.old.items ++ line_bytes line.now) }
-    ensures fits { OnOk result (LineFits line.now) }
+/// Appends tick line `k`, whichever it is.
+#[tactic(auto, unfolding(crate::specs::Fields::line, byte_table::specs::Kinds::plain, byte_table::specs::Kinds::elsewhere))]
+pub(crate) fn put_line(out: &mut Vec<u8>, l: &TickParts) -> Result<(), NoMemory>
+    ensures bytes { (k : ℕ) → OnOk result (out.new.items ≡ out.old.items ++ write (line k) l.now) }
+    ensures fits { OnOk result (LineFits l.now) }
 {
-    put(out, &[flag_byte(line.up)])?;
-    put_8(out, line.counts.due)?;
-    put_8(out, line.counts.rises)?;
-    put_8(out, line.counts.queue)?;
-    put_8(out, line.counts.lost)
+    put(out, &[flag_byte(l.up)])?;
+    put_8(out, l.counts.due)?;
+    put_8(out, l.counts.rises)?;
+    put_8(out, l.counts.queue)?;
+    put_8(out, l.counts.lost)
 }
 
-/// Appends a processor.
-#[tactic(auto, unfolding(crate::specs::Processors::processor_bytes))]
+/// Appends processor `k`, whichever it is.
 pub(crate) fn put_processor(out: &mut Vec<u8>, p: &ProcessorParts) -> Result<(), NoMemory>
-    ensures bytes { OnOk result (out.new.items ≡ out.old.items ++ processor_bytes p.now) }
+    ensures bytes { (k : ℕ) → OnOk result (out.new.items ≡ out.old.items ++ write (processor k) p.now) }
     ensures fits { OnOk result (ProcessorFits p.now) }
 {
     put_tsc(out, p)?;
     put_page(out, p)
 }
 
-/// Appends the TSC of a processor, and the version of its page.
-#[tactic(auto, unfolding(crate::specs::Processors::tsc_bytes))]
+/// Appends the TSC of a processor, and the number and version of its page.
+#[tactic(auto, unfolding(crate::specs::Fields::tsc, byte_table::specs::Kinds::plain))]
 fn put_tsc(out: &mut Vec<u8>, p: &ProcessorParts) -> Result<(), NoMemory>
-    ensures bytes { OnOk result (out.new.items ≡ out.old.items ++ tsc_bytes p.now) }
+    ensures bytes { OnOk result (out.new.items ≡ out.old.items ++ write tsc p.now) }
     ensures fits { OnOk result (TscFits p.now) }
 {
     put_8(out, p.offset)?;
@@ -151,9 +97,9 @@ fn put_tsc(out: &mut Vec<u8>, p: &ProcessorParts) -> Result<(), NoMemory>
 }
 
 /// Appends the page of a processor.
-#[tactic(auto, unfolding(crate::specs::Processors::page_bytes))]
+#[tactic(auto, unfolding(crate::specs::Fields::page, byte_table::specs::Kinds::plain))]
 fn put_page(out: &mut Vec<u8>, p: &ProcessorParts) -> Result<(), NoMemory>
-    ensures bytes { OnOk result (out.new.items ≡ out.old.items ++ page_bytes p.now) }
+    ensures bytes { OnOk result (out.new.items ≡ out.old.items ++ write page p.now) }
     ensures fits { OnOk result (PageFits p.now) }
 {
     put_8(out, p.tsc_timestamp)?;

@@ -1,14 +1,25 @@
 //! The bytes of a board.
-ghost use Rattle.std.specs.Prelude.{◌≡◌, ◌+◌, ◌≤◌, ◌∷◌, [], ◌++◌, None, OnOk, IfOk, slice_index};
-ghost use Rattle.save_state.specs.Fields.{number_bytes};
-ghost use Rattle.save_state.specs.Pit.{counter_bytes};
-ghost use Rattle.save_state.specs.Hpet.{timer_bytes};
-ghost use Rattle.pit_readback.specs.Pit.{counter_of};
-ghost use Rattle.hpet_registers.specs.Parts.{timer_at};
+ghost use Rattle.std.specs.Prelude.{◌≡◌, ◌+◌, ◌≤◌, ◌++◌, None, OnOk, IfOk};
 ghost use Rattle.board_types.specs.Setup.{timers_of};
-ghost use Rattle.board_devices.specs.Places.{line_at};
-ghost use Rattle.board_core.specs.Time.{devices_in};
-ghost use Rattle.board_core.specs.Tsc.{processor_at};
+ghost use Rattle.byte_table.specs.Fold.{write};
+ghost use Rattle.save_state.specs.Fields.{
+  head,
+  host,
+  guest,
+  policies,
+  counters,
+  clock,
+  registers,
+  timers,
+  lines,
+  counts_of,
+  rises,
+  wall,
+  processors,
+  front,
+  devices,
+  back,
+};
 ghost use Rattle.save_state.specs.private.Fits.{
   CountersFit,
   TimersFit,
@@ -18,33 +29,13 @@ ghost use Rattle.save_state.specs.private.Fits.{
 };
 ghost use Rattle.save_state.specs.Reading.{board_in};
 ghost use Rattle.save_state.specs.Table.{fault_of};
-ghost use Rattle.save_state.specs.Writing.{
-  blocks_below,
-  head_bytes,
-  host_bytes,
-  guest_bytes,
-  policy_bytes,
-  pit_bytes,
-  clock_bytes,
-  hpet_bytes,
-  rises_bytes,
-  wall_bytes,
-  front_bytes,
-  device_bytes,
-  back_bytes,
-  bytes_of,
-};
-ghost use Rattle.save_state.specs.Ticks.{line_bytes};
-ghost use Rattle.save_state.specs.Processors.{processor_bytes};
+ghost use Rattle.save_state.specs.Writing.{bytes_of};
 
-use crate::appending::{
-    flag_byte, put, put_2, put_4, put_8, put_counter, put_line, put_processor, put_timer,
-};
+use crate::appending::{put_counter, put_line, put_processor, put_timer};
+use crate::whole::counts_of;
 use board_core::{BoardParts, BoardState, timers_of};
+use byte_table::{flag_byte, put, put_2, put_4, put_8};
 use clk_units::NoMemory;
-use hpet_registers::HpetParts;
-use pit_readback::PitParts;
-use rtc_registers::RtcParts;
 use std::alloc::Global;
 
 /// 'CLKBOARD', as a number of 8 bytes, the lowest first.
@@ -73,10 +64,16 @@ pub fn encode(alloc: Global, state: &BoardState) -> Result<Vec<u8>, NoMemory>
     }
 }
 
+/// How many bytes a board has.
+fn length_of(format: u8, cpus: u8) -> usize {
+    let first = if format <= 1 { FIRST_LEN } else { SECOND_LEN };
+    first + PROCESSOR_LEN * usize::from(cpus)
+}
+
 /// Appends a board.
 #[tactic(auto, unfolding(crate::specs::Writing::bytes_of))]
 fn put_board(out: &mut Vec<u8>, b: &BoardParts) -> Result<(), NoMemory>
-    requires timers { b.now.hpet.timers ≤ 8 }
+    requires timers { b.now.hpet.timers ≡ timers_of b.now.format }
     requires cpus { b.now.cpus ≤ 64 }
     ensures bytes { OnOk result (out.new.items ≡ out.old.items ++ bytes_of b.now) }
     ensures fit { OnOk result (BlocksFit b.now) }
@@ -86,26 +83,36 @@ fn put_board(out: &mut Vec<u8>, b: &BoardParts) -> Result<(), NoMemory>
     put_back(out, b)
 }
 
+/// Appends all before the 8254.
+fn put_front(out: &mut Vec<u8>, b: &BoardParts) -> Result<(), NoMemory>
+    ensures { OnOk result (out.new.items ≡ out.old.items ++ write front b.now) }
+{
+    put_head(out, b)?;
+    put_host(out, b)?;
+    put_guest(out, b)?;
+    put_policies(out, b)
+}
+
 /// Appends the devices and their tick lines.
-#[tactic(auto, unfolding(crate::specs::Writing::device_bytes))]
 fn put_devices(out: &mut Vec<u8>, b: &BoardParts) -> Result<(), NoMemory>
-    requires { b.now.hpet.timers ≤ 8 }
-    ensures bytes { OnOk result (out.new.items ≡ out.old.items ++ device_bytes b.now) }
+    requires { b.now.hpet.timers ≡ timers_of b.now.format }
+    ensures bytes { OnOk result (out.new.items ≡ out.old.items ++ write (devices b.now.format) b.now) }
     ensures counters { OnOk result (CountersFit b.now.pit) }
     ensures timers { OnOk result (TimersFit b.now.hpet) }
     ensures lines { OnOk result (LinesFit b.now) }
 {
-    put_pit(out, &b.pit)?;
-    put_clock(out, &b.rtc)?;
-    put_hpet(out, &b.hpet)?;
+    put_counters(out, b)?;
+    put_clock(out, b)?;
+    put_registers(out, b)?;
+    put_timers(out, b)?;
     put_lines(out, b)
 }
 
-/// Appends what stands behind the tick lines.
-#[tactic(auto, unfolding(crate::specs::Writing::back_bytes))]
+/// Appends what follows the tick lines.
 fn put_back(out: &mut Vec<u8>, b: &BoardParts) -> Result<(), NoMemory>
     requires { b.now.cpus ≤ 64 }
-    ensures bytes { OnOk result (out.new.items ≡ out.old.items ++ back_bytes b.now) }
+    ensures bytes { OnOk result (out.new.items
+        ≡ out.old.items ++ write (back b.now.format b.now.cpus) b.now) }
     ensures fit { OnOk result (ProcessorsFit b.now) }
 {
     put_rises(out, b)?;
@@ -113,16 +120,10 @@ fn put_back(out: &mut Vec<u8>, b: &BoardParts) -> Result<(), NoMemory>
     put_processors(out, b)
 }
 
-/// How many bytes a board has.
-fn length_of(format: u8, cpus: u8) -> usize {
-    let first = if format <= 1 { FIRST_LEN } else { SECOND_LEN };
-    first + PROCESSOR_LEN * usize::from(cpus)
-}
-
 /// Appends the magic word, the version and the number of processors.
-#[tactic(auto, unfolding(crate::specs::Writing::head_bytes))]
+#[tactic(auto, unfolding(crate::specs::Fields::head, byte_table::specs::Kinds::plain))]
 fn put_head(out: &mut Vec<u8>, b: &BoardParts) -> Result<(), NoMemory>
-    ensures { OnOk result (out.new.items ≡ out.old.items ++ head_bytes b.now) }
+    ensures { OnOk result (out.new.items ≡ out.old.items ++ write head b.now) }
 {
     put_8(out, MAGIC)?;
     put_2(out, u16::from(b.format))?;
@@ -130,9 +131,9 @@ fn put_head(out: &mut Vec<u8>, b: &BoardParts) -> Result<(), NoMemory>
 }
 
 /// Appends the anchor and the greatest count.
-#[tactic(auto, unfolding(crate::specs::Writing::host_bytes))]
+#[tactic(auto, unfolding(crate::specs::Fields::host, byte_table::specs::Kinds::plain))]
 fn put_host(out: &mut Vec<u8>, b: &BoardParts) -> Result<(), NoMemory>
-    ensures { OnOk result (out.new.items ≡ out.old.items ++ host_bytes b.now) }
+    ensures { OnOk result (out.new.items ≡ out.old.items ++ write host b.now) }
 {
     put_8(out, b.anchor.khz)?;
     put_8(out, b.anchor.start)?;
@@ -141,9 +142,9 @@ fn put_host(out: &mut Vec<u8>, b: &BoardParts) -> Result<(), NoMemory>
 }
 
 /// Appends the guest's rate, the number of accesses, the greatest reading and the time between catch-up points.
-#[tactic(auto, unfolding(crate::specs::Writing::guest_bytes))]
+#[tactic(auto, unfolding(crate::specs::Fields::guest, byte_table::specs::Kinds::plain))]
 fn put_guest(out: &mut Vec<u8>, b: &BoardParts) -> Result<(), NoMemory>
-    ensures { OnOk result (out.new.items ≡ out.old.items ++ guest_bytes b.now) }
+    ensures { OnOk result (out.new.items ≡ out.old.items ++ write guest b.now) }
 {
     put_8(out, b.guest_khz)?;
     put_8(out, b.accesses)?;
@@ -152,9 +153,9 @@ fn put_guest(out: &mut Vec<u8>, b: &BoardParts) -> Result<(), NoMemory>
 }
 
 /// Appends the policies.
-#[tactic(auto, unfolding(crate::specs::Writing::policy_bytes))]
+#[tactic(auto, unfolding(crate::specs::Fields::policies, byte_table::specs::Kinds::plain))]
 fn put_policies(out: &mut Vec<u8>, b: &BoardParts) -> Result<(), NoMemory>
-    ensures { OnOk result (out.new.items ≡ out.old.items ++ policy_bytes b.now) }
+    ensures { OnOk result (out.new.items ≡ out.old.items ++ write policies b.now) }
 {
     let pit = b.ticks[0].policy.byte();
     let rtc = b.ticks[1].policy.byte();
@@ -162,79 +163,56 @@ fn put_policies(out: &mut Vec<u8>, b: &BoardParts) -> Result<(), NoMemory>
     put(out, &[pit, rtc, hpet])
 }
 
-/// Appends all before the 8254.
-#[tactic(auto, unfolding(crate::specs::Writing::front_bytes))]
-fn put_front(out: &mut Vec<u8>, b: &BoardParts) -> Result<(), NoMemory>
-    ensures { OnOk result (out.new.items ≡ out.old.items ++ front_bytes b.now) }
-{
-    put_head(out, b)?;
-    put_host(out, b)?;
-    put_guest(out, b)?;
-    put_policies(out, b)
-}
-
-/// Appends the 8254.
-#[tactic(auto, unfolding(crate::specs::Writing::pit_bytes))]
-fn put_pit(out: &mut Vec<u8>, p: &PitParts) -> Result<(), NoMemory>
-    ensures bytes { OnOk result (out.new.items ≡ out.old.items ++ pit_bytes p.now) }
-    ensures fit { OnOk result (CountersFit p.now) }
-{
-    put_counters(out, p)?;
-    put(out, &[flag_byte(p.speaker)])
-}
-
 /// Appends the counters of the 8254.
-fn put_counters(out: &mut Vec<u8>, p: &PitParts) -> Result<(), NoMemory>
-    ensures bytes { OnOk result (out.new.items
-        ≡ out.old.items ++ blocks_below (λ k. counter_bytes (counter_of p.now k)) 3) }
-    ensures fit { OnOk result (CountersFit p.now) }
+#[tactic(auto, unfolding(crate::specs::Fields::counters, byte_table::specs::Kinds::blocks))]
+fn put_counters(out: &mut Vec<u8>, b: &BoardParts) -> Result<(), NoMemory>
+    ensures bytes { OnOk result (out.new.items ≡ out.old.items ++ write counters b.now) }
+    ensures fit { OnOk result (CountersFit b.now.pit) }
 {
     for k in 0..3 {
-        put_counter(out, &p.counter(k))?;
+        put_counter(out, &b.pit.counter(k))?;
     }
     Ok(())
 }
 
-/// Appends the MC146818.
-#[tactic(auto, unfolding(crate::specs::Writing::clock_bytes))]
-fn put_clock(out: &mut Vec<u8>, r: &RtcParts) -> Result<(), NoMemory>
-    ensures { OnOk result (out.new.items ≡ out.old.items ++ clock_bytes r.now) }
+/// Appends speaker data and the MC146818.
+fn put_clock(out: &mut Vec<u8>, b: &BoardParts) -> Result<(), NoMemory>
+    ensures { OnOk result (out.new.items ≡ out.old.items ++ write clock b.now) }
 {
-    put(out, &[r.index])?;
-    put(out, &r.bytes)?;
-    put_2(out, r.d)?;
-    put(out, &[flag_byte(r.cycle)])
+    put(out, &[flag_byte(b.pit.speaker), b.rtc.index])?;
+    put(out, &b.rtc.bytes)?;
+    put_2(out, b.rtc.d)?;
+    put(out, &[flag_byte(b.rtc.cycle)])
 }
 
-/// Appends the HPET.
-#[tactic(auto, unfolding(crate::specs::Writing::hpet_bytes))]
-fn put_hpet(out: &mut Vec<u8>, h: &HpetParts) -> Result<(), NoMemory>
-    requires { h.now.timers ≤ 8 }
-    ensures bytes { OnOk result (out.new.items ≡ out.old.items ++ hpet_bytes h.now) }
-    ensures fit { OnOk result (TimersFit h.now) }
+/// Appends the registers of the HPET.
+#[tactic(auto, unfolding(crate::specs::Fields::registers, byte_table::specs::Kinds::plain))]
+fn put_registers(out: &mut Vec<u8>, b: &BoardParts) -> Result<(), NoMemory>
+    ensures { OnOk result (out.new.items ≡ out.old.items ++ write registers b.now) }
 {
-    put(out, &[h.config, h.status])?;
-    put_8(out, h.counter)?;
-    put_timers(out, h)
+    put(out, &[b.hpet.config, b.hpet.status])?;
+    put_8(out, b.hpet.counter)
 }
 
 /// Appends the timers of the HPET.
-fn put_timers(out: &mut Vec<u8>, h: &HpetParts) -> Result<(), NoMemory>
-    requires { h.now.timers ≤ 8 }
+#[tactic(auto, unfolding(crate::specs::Fields::timers, byte_table::specs::Kinds::blocks))]
+fn put_timers(out: &mut Vec<u8>, b: &BoardParts) -> Result<(), NoMemory>
+    requires { b.now.hpet.timers ≡ timers_of b.now.format }
     ensures bytes { OnOk result (out.new.items
-        ≡ out.old.items ++ blocks_below (λ k. timer_bytes (timer_at k h.now)) h.now.timers) }
-    ensures fit { OnOk result (TimersFit h.now) }
+        ≡ out.old.items ++ write (timers (timers_of b.now.format)) b.now) }
+    ensures fit { OnOk result (TimersFit b.now.hpet) }
 {
-    for k in 0..h.timers {
-        put_timer(out, &h.timer[k as usize])?;
+    for k in 0..timers_of(b.format) {
+        put_timer(out, &b.hpet.timer[k as usize])?;
     }
     Ok(())
 }
 
 /// Appends the tick lines.
+#[tactic(auto, unfolding(crate::specs::Fields::lines, byte_table::specs::Kinds::blocks))]
 fn put_lines(out: &mut Vec<u8>, b: &BoardParts) -> Result<(), NoMemory>
-    ensures bytes { OnOk result (out.new.items ≡ out.old.items
-        ++ blocks_below (λ k. line_bytes (line_at k (devices_in b.now))) (timers_of b.now.format + 2)) }
+    ensures bytes { OnOk result (out.new.items
+        ≡ out.old.items ++ write (lines (timers_of b.now.format)) b.now) }
     ensures fit { OnOk result (LinesFit b.now) }
 {
     for k in 0..timers_of(b.format) + 2 {
@@ -244,31 +222,20 @@ fn put_lines(out: &mut Vec<u8>, b: &BoardParts) -> Result<(), NoMemory>
 }
 
 /// Appends the counts of rises, which format 1 doesn't have.
-#[tactic(auto, unfolding(crate::specs::Writing::rises_bytes))]
 fn put_rises(out: &mut Vec<u8>, b: &BoardParts) -> Result<(), NoMemory>
-    ensures { OnOk result (out.new.items ≡ out.old.items ++ rises_bytes b.now) }
+    ensures { OnOk result (out.new.items
+        ≡ out.old.items ++ write (rises (counts_of b.now.format)) b.now) }
 {
-    if b.format >= 2 {
-        return put_counts(out, &b.rises);
-    }
-    Ok(())
-}
-
-/// Appends six counts of rises.
-fn put_counts(out: &mut Vec<u8>, rises: &[u64; 6]) -> Result<(), NoMemory>
-    ensures { OnOk result (out.new.items ≡ out.old.items
-        ++ blocks_below (λ k. number_bytes 8 (slice_index rises.now k)) 6) }
-{
-    for k in 0..6 {
-        put_8(out, rises[k])?;
+    for k in 0..counts_of(b.format) {
+        put_8(out, b.rises[k as usize])?;
     }
     Ok(())
 }
 
 /// Appends the wall clock.
-#[tactic(auto, unfolding(crate::specs::Writing::wall_bytes))]
+#[tactic(auto, unfolding(crate::specs::Fields::wall, byte_table::specs::Kinds::plain))]
 fn put_wall(out: &mut Vec<u8>, b: &BoardParts) -> Result<(), NoMemory>
-    ensures { OnOk result (out.new.items ≡ out.old.items ++ wall_bytes b.now) }
+    ensures { OnOk result (out.new.items ≡ out.old.items ++ write wall b.now) }
 {
     put_8(out, b.wall_number)?;
     put_4(out, b.wall_version)?;
@@ -277,10 +244,10 @@ fn put_wall(out: &mut Vec<u8>, b: &BoardParts) -> Result<(), NoMemory>
 }
 
 /// Appends the processors.
+#[tactic(auto, unfolding(crate::specs::Fields::processors, byte_table::specs::Kinds::blocks))]
 fn put_processors(out: &mut Vec<u8>, b: &BoardParts) -> Result<(), NoMemory>
     requires { b.now.cpus ≤ 64 }
-    ensures bytes { OnOk result (out.new.items
-        ≡ out.old.items ++ blocks_below (λ k. processor_bytes (processor_at b.now k)) b.now.cpus) }
+    ensures bytes { OnOk result (out.new.items ≡ out.old.items ++ write (processors b.now.cpus) b.now) }
     ensures fit { OnOk result (ProcessorsFit b.now) }
 {
     for k in 0..b.cpus {

@@ -21,6 +21,6 @@ pub enum StateKind {
     Version,
     /// The condition on a field fails.
     Field,
-    /// Bytes stand behind the last field.
+    /// Bytes follow the last field.
     Trailing,
 }

@@ -1,59 +1,67 @@
-//! The first fault of each block.
-ghost use Rattle.std.specs.Prelude.{◌≡◌, ◌<◌, ◌*◌, ◌≤◌, ◌&&◌, ◌||◌, nat_le};
-ghost use Rattle.save_state.specs.Fields.{number_at, fault_in};
-ghost use Rattle.save_state.specs.Places.{format_in, cpus_in, wall_place};
-ghost use Rattle.pvclock_page.specs.Scale.{mul_for, shift_for};
-ghost use Rattle.save_state.specs.Processors.{version_valid, page_valid};
-ghost use Rattle.save_state.specs.Reading.{rtc_in};
-ghost use Rattle.save_state.specs.Table.{
-  counter_fault,
-  timer_fault,
-  clock_rows,
-  hpet_rows,
-  wall_rows,
-  processor_fault,
-  trailing_fault,
-};
-ghost use Rattle.save_state.specs.private.Failing.{
-  counter_row,
-  timer_row,
-  clock_row,
-  failing_counter_rows,
-  failing_timer_rows,
-  failing_clock_rows,
+//! The first fault of the devices of a board that was read from bytes.
+ghost use Rattle.std.specs.Prelude.{◌≡◌, ◌<◌, ◌+◌, ◌*◌, ◌||◌, nat_le, slice_index_or};
+ghost use Rattle.hpet_registers.specs.Parts.{no_timer};
+ghost use Rattle.board_types.specs.Setup.{timers_of};
+ghost use Rattle.byte_table.specs.Fold.{fault_in};
+ghost use Rattle.save_state.specs.Fields.{
+  counter,
+  no_counter,
+  counters,
+  clock,
+  registers,
+  timer,
+  timers,
 };
 
-use crate::fault::{StateFault, StateKind};
-use crate::numbers::{byte_at, eight_at, flag_valid, four_at};
-use crate::pieces::{counter_in, processor_in, timer_in};
-use crate::table::{Row, both, either, fault_in, field};
-use crate::whole::{processor_place, wall_place};
-use board_core::ProcessorParts;
-use clk_units::RANGE_NS;
-use hpet_comparator::TimerField;
-use pit_counter::CounterField;
-use rtc_registers::{Rtc, RtcField, RtcParts};
+use crate::fault::StateFault;
+use crate::table::{both, either, fault_in, field};
+use board_core::{BoardParts, timers_of};
+use byte_table::flag_valid;
+use hpet_comparator::{is_comparator_valid, is_config_valid, is_period_valid};
+use pit_counter::{
+    bits_valid, ce_valid, cr_valid, flags_valid, latched_count_valid, latched_status_valid,
+    part_valid, read_order_valid,
+};
+use rtc_registers::{bytes_valid, cycle_valid, divider_valid, index_valid};
+
+/// The first fault of the counters of the 8254.
+#[tactic(auto, unfolding(crate::specs::Fields::counters, byte_table::specs::Kinds::blocks))]
+pub(crate) fn counters_fault(bytes: &[u8], b: &BoardParts) -> Option<StateFault>
+    ensures { result ≡ fault_in counters b.now b.now 79 bytes.now }
+{
+    for k in 0..3 {
+        if let Some(fault) = counter_fault(bytes, b, k) {
+            return Some(fault);
+        }
+    }
+    None
+}
 
 /// The first fault of counter `k`.
-#[tactic(auto, unfolding(crate::specs::Table::counter_fault))]
-pub(crate) fn counter_fault(bytes: &[u8], k: u8) -> Option<StateFault>
+fn counter_fault(bytes: &[u8], b: &BoardParts, k: u8) -> Option<StateFault>
     requires { k < 3 }
-    ensures { result ≡ counter_fault bytes.now k }
+    ensures { result ≡ fault_in (counter k) b.now (slice_index_or b.now.pit.counters k no_counter)
+        (79 + 14 * k) bytes.now }
 {
     let place = 79 + 14 * k as usize;
-    let c = counter_in(bytes, place);
-    let flags = [
-        is_wired(c.gate, k),
-        flag_valid(bytes, place + 6),
-        flag_valid(bytes, place + 8),
-        flag_valid(bytes, place + 9),
-        flag_valid(bytes, place + 12),
+    let c = b.pit.counter(k);
+    let rows = [
+        field(1, bits_valid(&c)),
+        field(1, both(flags_valid(&c), is_wired(c.gate, k))),
+        field(2, cr_valid(&c)),
+        field(2, ce_valid(&c)),
+        field(2, both(flag_valid(bytes, place + 6), part_valid(&c))),
+        field(1, both(flag_valid(bytes, place + 8), read_order_valid(&c))),
+        field(
+            3,
+            both(flag_valid(bytes, place + 9), latched_count_valid(&c)),
+        ),
+        field(
+            2,
+            both(flag_valid(bytes, place + 12), latched_status_valid(&c)),
+        ),
     ];
-    fault_in(
-        bytes,
-        place,
-        &counter_rows(counter_row(c.first_fault()), flags),
-    )
+    fault_in(bytes, place, &rows)
 }
 
 /// Whether GATE of counter `k` is as it is wired: high at counters 0 and 1.
@@ -63,223 +71,56 @@ fn is_wired(gate: bool, k: u8) -> bool
     gate || k >= 2
 }
 
-/// Which row of a counter fails first, 8 where none does.
-fn counter_row(fault: Option<CounterField>) -> u8
-    ensures { result ≡ counter_row fault }
-{
-    match fault {
-        Some(CounterField::ProgrammedBits) => 0,
-        Some(CounterField::Flags) => 1,
-        Some(CounterField::CountRegister) => 2,
-        Some(CounterField::CountingElement) => 3,
-        Some(CounterField::FirstByte) => 4,
-        Some(CounterField::ReadOrder) => 5,
-        Some(CounterField::LatchedCount) => 6,
-        Some(CounterField::LatchedStatus) => 7,
-        None => 8,
-    }
-}
-
-/// The rows of a counter, by the first that fails, and by what the bytes tell.
-fn counter_rows(failing: u8, flags: [bool; 5]) -> [Row; 8]
-    ensures { result ≡ failing_counter_rows failing flags }
-{
-    [
-        field(1, 0 < failing),
-        field(1, both(1 < failing, flags[0])),
-        field(2, 2 < failing),
-        field(2, 3 < failing),
-        field(2, both(flags[1], 4 < failing)),
-        field(1, both(flags[2], 5 < failing)),
-        field(3, both(flags[3], 6 < failing)),
-        field(2, both(flags[4], 7 < failing)),
-    ]
-}
-
-/// The first fault of timer `k`.
-#[tactic(auto, unfolding(crate::specs::Table::timer_fault))]
-pub(crate) fn timer_fault(bytes: &[u8], k: u8) -> Option<StateFault>
-    requires { k < 8 }
-    ensures { result ≡ timer_fault bytes.now k }
-{
-    let place = 264 + 18 * k as usize;
-    let t = timer_in(bytes, place);
-    let failing = timer_row(t.first_fault());
-    fault_in(bytes, place, &timer_rows(failing))
-}
-
-/// Which row of a timer fails first, 3 where none does.
-fn timer_row(fault: Option<TimerField>) -> u8
-    ensures { result ≡ timer_row fault }
-{
-    match fault {
-        Some(TimerField::Config) => 0,
-        Some(TimerField::Comparator) => 1,
-        Some(TimerField::Period) => 2,
-        None => 3,
-    }
-}
-
-/// The rows of a timer, by the first that fails.
-fn timer_rows(failing: u8) -> [Row; 3]
-    ensures { result ≡ failing_timer_rows failing }
-{
-    [
-        field(2, 0 < failing),
-        field(8, 1 < failing),
-        field(8, 2 < failing),
-    ]
-}
-
-/// The first fault of the HPET's configuration, status and main counter.
-#[tactic(auto, unfolding(crate::specs::Table::hpet_rows))]
-pub(crate) fn hpet_fault(bytes: &[u8], format: u8) -> Option<StateFault>
-    requires { format ≡ format_in bytes.now }
-    ensures { result ≡ fault_in bytes.now 254 (hpet_rows bytes.now) }
-{
-    let config = byte_at(bytes, 254) <= 3;
-    let status = either(format >= 2, byte_at(bytes, 255) <= 7);
-    fault_in(
-        bytes,
-        254,
-        &[field(1, config), field(1, status), field(8, true)],
-    )
-}
-
-/// Bytes behind the last field.
-#[tactic(auto, unfolding(crate::specs::Table::trailing_fault))]
-pub(crate) fn trailing_fault(bytes: &[u8], format: u8, cpus: u8) -> Option<StateFault>
-    requires format { format ≡ format_in bytes.now }
-    requires built { format ≤ 2 }
-    requires cpus { cpus ≡ cpus_in bytes.now }
-    requires most { cpus ≤ 64 }
-    ensures { result ≡ trailing_fault bytes.now }
-{
-    let wanted = processor_place(format, cpus);
-    if wanted < bytes.len() {
-        Some(StateFault {
-            place: wanted as u64,
-            kind: StateKind::Trailing,
-        })
-    } else {
-        None
-    }
-}
-
 /// The first fault of speaker data and of the MC146818.
-#[tactic(auto, unfolding(crate::specs::Table::clock_rows))]
-pub(crate) fn clock_fault(bytes: &[u8], r: &RtcParts) -> Option<StateFault>
-    requires { r.now ≡ rtc_in bytes.now }
-    ensures { result ≡ fault_in bytes.now 121 (clock_rows bytes.now) }
+pub(crate) fn clock_fault(bytes: &[u8], b: &BoardParts) -> Option<StateFault>
+    ensures { result ≡ fault_in clock b.now b.now 121 bytes.now }
 {
-    let failing = clock_row(Rtc::first_fault(r));
-    let rows = clock_rows(failing, flag_valid(bytes, 121), flag_valid(bytes, 253));
+    let rows = [
+        field(1, flag_valid(bytes, 121)),
+        field(1, index_valid(&b.rtc)),
+        field(128, bytes_valid(&b.rtc)),
+        field(2, divider_valid(&b.rtc)),
+        field(1, both(flag_valid(bytes, 253), cycle_valid(&b.rtc))),
+    ];
     fault_in(bytes, 121, &rows)
 }
 
-/// Which row of the MC146818 fails first, 4 where none does.
-fn clock_row(fault: Option<RtcField>) -> u8
-    ensures { result ≡ clock_row fault }
+/// The first fault of the registers of the HPET.
+pub(crate) fn registers_fault(bytes: &[u8], b: &BoardParts) -> Option<StateFault>
+    ensures { result ≡ fault_in registers b.now b.now 254 bytes.now }
 {
-    match fault {
-        Some(RtcField::Index) => 0,
-        Some(RtcField::Bytes) => 1,
-        Some(RtcField::Divider) => 2,
-        Some(RtcField::Cycle) => 3,
-        None => 4,
-    }
-}
-
-/// The rows of speaker data and of the MC146818, by the first that fails, and by the bytes of two flags.
-fn clock_rows(failing: u8, speaker: bool, cycle: bool) -> [Row; 5]
-    ensures { result ≡ failing_clock_rows failing speaker cycle }
-{
-    [
-        field(1, speaker),
-        field(1, 0 < failing),
-        field(128, 1 < failing),
-        field(2, 2 < failing),
-        field(1, both(cycle, 3 < failing)),
-    ]
-}
-
-/// The first fault of the wall clock.
-#[tactic(auto, unfolding(crate::specs::Table::wall_rows, crate::specs::Reading::board_in))]
-pub(crate) fn wall_fault(bytes: &[u8], format: u8) -> Option<StateFault>
-    requires format { format ≡ format_in bytes.now }
-    requires built { format ≤ 2 }
-    ensures { result ≡ fault_in bytes.now (wall_place (format_in bytes.now)) (wall_rows bytes.now) }
-{
-    let place = wall_place(format);
-    let version = four_at(bytes, place + 8);
-    let known = either(0 < version, eight_at(bytes, place) == 0);
-    let even = both(version % 2 == 0, known);
-    let nsec = four_at(bytes, place + 16) < 1_000_000_000;
-    fault_in(
-        bytes,
-        place,
-        &[
-            field(8, true),
-            field(4, even),
-            field(4, true),
-            field(4, nsec),
-        ],
-    )
-}
-
-/// The first fault of processor `k`, by the scale of the guest's rate.
-#[tactic(auto, unfolding(crate::specs::Table::processor_fault))]
-pub(crate) fn processor_fault(
-    bytes: &[u8],
-    format: u8,
-    k: u8,
-    mul: u32,
-    shift: i8,
-) -> Option<StateFault>
-    requires format { format ≡ format_in bytes.now }
-    requires built { format ≤ 2 }
-    requires k { k < 64 }
-    requires mul { mul ≡ mul_for (number_at 8 44 bytes.now * 1000) }
-    requires shift { shift ≡ shift_for (number_at 8 44 bytes.now * 1000) }
-    ensures { result ≡ processor_fault bytes.now k }
-{
-    let place = processor_place(format, k);
-    let p = processor_in(bytes, place);
-    let shift_byte = byte_at(bytes, place + 48);
     let rows = [
+        field(1, b.hpet.config <= 3),
+        field(1, either(b.format >= 2, b.hpet.status <= 7)),
         field(8, true),
-        field(8, true),
-        field(8, true),
-        field(4, version_valid(&p)),
-        field(8, page_valid(&p, p.tsc_timestamp, true)),
-        field(8, page_valid(&p, p.system_time, p.system_time < RANGE_NS)),
-        field(4, page_valid(&p, u64::from(p.mul), p.mul == mul)),
-        field(
-            1,
-            page_valid(
-                &p,
-                u64::from(shift_byte),
-                shift_byte == shift.cast_unsigned(),
-            ),
-        ),
-        field(
-            1,
-            page_valid(&p, u64::from(p.flags), either(p.flags == 1, p.flags == 3)),
-        ),
     ];
-    fault_in(bytes, place, &rows)
+    fault_in(bytes, 254, &rows)
 }
 
-/// Whether the version is even, and before the first publishing 0 with what stands before it.
-fn version_valid(p: &ProcessorParts) -> bool
-    ensures { result ≡ version_valid p.now }
+/// The first fault of the timers of the HPET.
+#[tactic(auto, unfolding(crate::specs::Fields::timers, byte_table::specs::Kinds::blocks))]
+pub(crate) fn timers_fault(bytes: &[u8], b: &BoardParts) -> Option<StateFault>
+    ensures { result ≡ fault_in (timers (timers_of b.now.format)) b.now b.now 264 bytes.now }
 {
-    p.version % 2 == 0 && (0 < p.version || (p.offset == 0 && p.adjust == 0 && p.number == 0))
+    for k in 0..timers_of(b.format) {
+        if let Some(fault) = timer_fault(bytes, b, k) {
+            return Some(fault);
+        }
+    }
+    None
 }
 
-/// Whether a field behind the version is 0 before the first publishing, and then as it has to be.
-fn page_valid(p: &ProcessorParts, value: u64, valid: bool) -> bool
-    ensures { result ≡ page_valid p.now value valid }
+/// The first fault of timer `k`.
+fn timer_fault(bytes: &[u8], b: &BoardParts, k: u8) -> Option<StateFault>
+    requires { k < 8 }
+    ensures { result ≡ fault_in (timer k) b.now (slice_index_or b.now.hpet.timer k no_timer)
+        (264 + 18 * k) bytes.now }
 {
-    if p.version == 0 { value == 0 } else { valid }
+    let t = &b.hpet.timer[k as usize];
+    let rows = [
+        field(2, is_config_valid(t)),
+        field(8, is_comparator_valid(t)),
+        field(8, is_period_valid(t)),
+    ];
+    fault_in(bytes, 264 + 18 * k as usize, &rows)
 }

@@ -1,26 +1,32 @@
-//! The first fields: what the bytes are, rates, counts and policies.
+//! The first fault of the fields before the 8254: what the bytes are, rates, counts and policies.
 ghost use Rattle.std.specs.Prelude.{◌≡◌, ◌&&◌, nat_lt, nat_le};
 ghost use Rattle.host_counter.specs.Time.{time_at};
+ghost use Rattle.host_counter.specs.declared.Anchor.{Anchor};
+ghost use Rattle.clk_units.specs.declared.ranges.TheConstants.{RANGE_NS};
 ghost use Rattle.board_types.specs.Setup.{processors_of};
-ghost use Rattle.save_state.specs.Fields.{byte_at, number_at, fault_in};
-ghost use Rattle.save_state.specs.Table.{khz_valid, host_valid, head_rows};
+ghost use Rattle.byte_table.specs.Fold.{fault_in};
+ghost use Rattle.save_state.specs.Fields.{khz_valid, front};
+ghost use Rattle.save_state.specs.Reading.{board_in};
 
 use crate::encoding::MAGIC;
 use crate::fault::{StateFault, StateKind};
-use crate::numbers::{byte_at, eight_at, two_at};
 use crate::table::{Row, both, fault_in, field};
-use crate::whole::anchor_in;
 use board_core::{MOST_ACCESSES, processors_of};
-use board_types::SLEW_MAX_NS;
+use board_types::{LAST_FORMAT, SLEW_MAX_NS};
+use byte_table::{byte_at, eight_at, two_at};
 use clk_units::{KHZ_MAX, KHZ_MIN, RANGE_NS};
 use host_counter::Anchor;
 
 /// The first fault of the fields before the 8254.
-#[tactic(auto, unfolding(crate::specs::Table::head_rows))]
 pub(crate) fn head_fault(bytes: &[u8]) -> Option<StateFault>
-    ensures { result ≡ fault_in bytes.now 0 (head_rows bytes.now) }
+    ensures { result ≡ fault_in front (board_in bytes.now) (board_in bytes.now) 0 bytes.now }
 {
     let format = two_at(bytes, 8);
+    let anchor = Anchor {
+        khz: eight_at(bytes, 12),
+        start: eight_at(bytes, 20),
+        base_ns: eight_at(bytes, 28),
+    };
     let rows = [
         Row {
             size: 8,
@@ -29,21 +35,21 @@ pub(crate) fn head_fault(bytes: &[u8]) -> Option<StateFault>
         },
         Row {
             size: 2,
-            valid: both(1 <= format, format <= 2),
+            valid: both(1 <= format, format <= u16::from(LAST_FORMAT)),
             kind: StateKind::Version,
         },
         field(2, cpus_valid(format, two_at(bytes, 10))),
-        field(8, khz_valid(eight_at(bytes, 12))),
+        field(8, khz_valid(anchor.khz)),
         field(8, true),
-        field(8, eight_at(bytes, 28) < RANGE_NS),
-        field(8, host_valid(bytes)),
+        field(8, anchor.base_ns < RANGE_NS),
+        field(8, host_valid(&anchor, eight_at(bytes, 36))),
         field(8, khz_valid(eight_at(bytes, 44))),
         field(8, eight_at(bytes, 52) <= MOST_ACCESSES),
         field(8, true),
         field(8, slew_valid(eight_at(bytes, 68))),
-        field(1, byte_at(bytes, 76) <= 2),
-        field(1, byte_at(bytes, 77) <= 2),
-        field(1, byte_at(bytes, 78) <= 2),
+        field(1, byte_at(bytes, 76) < 3),
+        field(1, byte_at(bytes, 77) < 3),
+        field(1, byte_at(bytes, 78) < 3),
     ];
     fault_in(bytes, 0, &rows)
 }
@@ -71,13 +77,10 @@ fn slew_valid(slew_ns: u64) -> bool
 }
 
 /// Whether the greatest count isn't before the anchor's, and its time is in range.
-#[tactic(auto, unfolding(crate::specs::Reading::anchor_in))]
-fn host_valid(bytes: &[u8]) -> bool
-    ensures { result ≡ host_valid bytes.now }
+fn host_valid(anchor: &Anchor, host: u64) -> bool
+    ensures { result ≡ (nat_le anchor.now.start host && nat_lt (time_at anchor.now host) RANGE_NS) }
 {
-    let anchor = anchor_in(bytes);
-    let host = eight_at(bytes, 36);
-    let time = time_at(&anchor, host);
+    let time = time_at(anchor, host);
     both(anchor.start <= host, time < u128::from(RANGE_NS))
 }
 

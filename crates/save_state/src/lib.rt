@@ -2,7 +2,7 @@
 //!
 //! A saved state has a magic word, its version, which is the board's format, and then all fields of the
 //! board, numbers with their lowest byte first. One board has one spelling: bytes are those of a board
-//! exactly where each field has its condition and nothing stands behind the last; else the first field
+//! exactly where each field has its condition and nothing follows the last; else the first field
 //! at fault is told by its place. The format is this project's own.
 //!
 //! ```text
@@ -19,8 +19,8 @@ mod fault;
 mod faults;
 mod head;
 mod lines;
-mod numbers;
 mod pieces;
+mod rest;
 mod table;
 mod whole;
 

@@ -1,22 +1,32 @@
 //! The blocks of a saved state, read whether or not their conditions hold.
-ghost use Rattle.std.specs.Prelude.{◌≡◌, ◌<◌};
-ghost use Rattle.save_state.specs.Pit.{counter_in};
-ghost use Rattle.save_state.specs.Hpet.{timer_in};
-ghost use Rattle.save_state.specs.Ticks.{line_in};
-ghost use Rattle.save_state.specs.Processors.{processor_in};
+ghost use Rattle.std.specs.Prelude.{◌≡◌, ℕ, ◌<◌};
+ghost use Rattle.hpet_registers.specs.Parts.{no_timer};
+ghost use Rattle.board_devices.specs.Places.{no_line};
+ghost use Rattle.board_core.specs.Tsc.{no_processor};
+ghost use Rattle.tick_policy.specs.Parts.{policy_of};
+ghost use Rattle.byte_table.specs.Codes.{byte_at};
+ghost use Rattle.byte_table.specs.Fold.{read};
+ghost use Rattle.save_state.specs.Fields.{
+  counter,
+  no_counter,
+  timer,
+  line,
+  policy_place,
+  processor,
+};
 
-use crate::numbers::{byte_at, eight_at, flag_at, four_at, two_at};
 use board_core::ProcessorParts;
+use byte_table::{byte_at, eight_at, flag_at, four_at, two_at};
 use clk_units::bit;
 use hpet_comparator::TimerParts;
 use pit_counter::CounterParts;
 use tick_policy::{Counts, Policy, TickParts};
 
-/// A counter.
-#[tactic(auto, unfolding(crate::specs::Pit::counter_in))]
+/// Counter `k`, whichever it is.
+#[tactic(auto, unfolding(crate::specs::Fields::counter, byte_table::specs::Kinds::plain))]
 pub(crate) fn counter_in(bytes: &[u8], place: usize) -> CounterParts
     requires { place < 8000 }
-    ensures { result ≡ counter_in place bytes.now }
+    ensures { (k : ℕ) → result ≡ read (counter k) place bytes.now no_counter }
 {
     let flags = u64::from(byte_at(bytes, place + 1));
     CounterParts {
@@ -41,11 +51,11 @@ pub(crate) fn counter_in(bytes: &[u8], place: usize) -> CounterParts
     }
 }
 
-/// A timer.
-#[tactic(auto, unfolding(crate::specs::Hpet::timer_in))]
+/// Timer `k`, whichever it is.
+#[tactic(auto, unfolding(crate::specs::Fields::timer, byte_table::specs::Kinds::plain))]
 pub(crate) fn timer_in(bytes: &[u8], place: usize) -> TimerParts
     requires { place < 8000 }
-    ensures { result ≡ timer_in place bytes.now }
+    ensures { (k : ℕ) → result ≡ read (timer k) place bytes.now no_timer }
 {
     TimerParts {
         config: two_at(bytes, place),
@@ -54,14 +64,25 @@ pub(crate) fn timer_in(bytes: &[u8], place: usize) -> TimerParts
     }
 }
 
-/// A tick line with a policy.
-#[tactic(auto, unfolding(crate::specs::Ticks::line_in))]
-pub(crate) fn line_in(bytes: &[u8], policy: Policy, place: usize) -> TickParts
+/// The policy of tick line `k`.
+fn policy_in(bytes: &[u8], k: u8) -> Policy
+    ensures { result ≡ policy_of (byte_at (policy_place k) bytes.now) }
+{
+    match byte_at(bytes, 76 + usize::from(k.min(2))) {
+        0 => Policy::Discard,
+        1 => Policy::Delay,
+        _ => Policy::Slew,
+    }
+}
+
+/// Tick line `k`.
+#[tactic(auto, unfolding(crate::specs::Fields::line, byte_table::specs::Kinds::plain, byte_table::specs::Kinds::elsewhere))]
+pub(crate) fn line_in(bytes: &[u8], k: u8, place: usize) -> TickParts
     requires { place < 8000 }
-    ensures { result ≡ line_in policy place bytes.now }
+    ensures { result ≡ read (line k) place bytes.now no_line }
 {
     TickParts {
-        policy,
+        policy: policy_in(bytes, k),
         up: flag_at(bytes, place),
         counts: Counts {
             due: eight_at(bytes, place + 1),
@@ -72,11 +93,11 @@ pub(crate) fn line_in(bytes: &[u8], policy: Policy, place: usize) -> TickParts
     }
 }
 
-/// A processor.
-#[tactic(auto, unfolding(crate::specs::Processors::processor_in))]
+/// Processor `k`, whichever it is.
+#[tactic(auto, unfolding(crate::specs::Fields::tsc, crate::specs::Fields::page, byte_table::specs::Kinds::plain))]
 pub(crate) fn processor_in(bytes: &[u8], place: usize) -> ProcessorParts
     requires { place < 8000 }
-    ensures { result ≡ processor_in place bytes.now }
+    ensures { (k : ℕ) → result ≡ read (processor k) place bytes.now no_processor }
 {
     ProcessorParts {
         offset: eight_at(bytes, place),

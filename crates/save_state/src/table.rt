@@ -1,6 +1,6 @@
 //! Rows of the table of a saved state, and the first at fault.
 ghost use Rattle.std.specs.Prelude.{◌≡◌, ◌<◌, ◌≤◌, ◌+◌, ◌&&◌, ◌||◌, length};
-ghost use Rattle.save_state.specs.Fields.{field, fault_in, or_else};
+ghost use Rattle.save_state.specs.private.Rows.{field, row_fault};
 
 use crate::fault::{StateFault, StateKind};
 
@@ -44,7 +44,7 @@ pub(crate) fn either(a: bool, b: bool) -> bool
 pub(crate) fn fault_in(bytes: &[u8], place: usize, rows: &[Row]) -> Option<StateFault>
     requires place { place < 8192 }
     requires few { length rows.now ≤ 16 }
-    ensures { result ≡ fault_in bytes.now place rows.now }
+    ensures { result ≡ row_fault bytes.now place rows.now }
 {
     let mut at = place;
     for r in rows {

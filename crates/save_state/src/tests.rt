@@ -1,5 +1,6 @@
 //! Bytes of boards, worked out by hand from the table, and the fault of bytes that are none.
 ghost use Rattle.std.specs.Prelude.{◌≤◌};
+ghost use Rattle.board_types.specs.declared.setup.TheConstants.{LAST_FORMAT};
 ghost use Rattle.board_types.specs.Setup.{IsSetup};
 
 mod odd_writes;
@@ -23,7 +24,7 @@ const FRONT: [u8; 79] = [
 /// A board at power on.
 fn board(format: u8) -> BoardState
     requires low { 1 ≤ format }
-    requires high { format ≤ 2 }
+    requires high { format ≤ LAST_FORMAT }
 {
     BoardState::power_on(&Setup {
         format,

@@ -1,12 +1,12 @@
 //! Rows that one thread makes, for a program that counts instructions.
 ghost use Rattle.std.specs.Prelude.{◌≡◌, ◌<◌, ℕ, [], IsTrue};
 ghost use Rattle.board_types.specs.Legal.{is_legal};
+ghost use Rattle.board_types.specs.Reply.{IsFresh};
 
-use board_core::{Access, BoardState, MSR_KVM_SYSTEM_TIME, Reply, Value};
+use board_core::{Access, BoardState, MSR_KVM_SYSTEM_TIME, Reply};
 use board_io::OpenGate;
 use clk_units::NoMemory;
 use clock_table::{Blank, Name};
-use irq_edges::EdgeList;
 use pvclock_page::{Page, PageReply, reading};
 use shared_board::{Pass, SharedBoard};
 use std::alloc::{AllocError, Global};
@@ -97,10 +97,10 @@ fn number_of(board: &mut BoardState, a: Access) -> u64
 pub(crate) fn core_kept(mut board: BoardState, a: Access) -> u64
     requires { (cpus format : ℕ) → IsTrue (is_legal cpus format a) }
 {
-    let mut reply = no_reply();
+    let mut reply = Reply::empty();
     let mut sum = 0u64;
     for _ in 0..CALLS {
-        reply.edges.clear();
+        reply.clear();
         put_reply(&mut board, a, &mut reply);
         sum = sum.wrapping_add(reply.number);
     }
@@ -111,7 +111,7 @@ pub(crate) fn core_kept(mut board: BoardState, a: Access) -> u64
 #[inline(never)]
 fn put_reply(board: &mut BoardState, a: Access, reply: &mut Reply)
     requires legal { (cpus format : ℕ) → IsTrue (is_legal cpus format a) }
-    requires fresh { reply.old.edges ≡ [] }
+    requires fresh { IsFresh reply.old }
 {
     if board.cpus() == 0 {
         return;
@@ -121,17 +121,6 @@ fn put_reply(board: &mut BoardState, a: Access, reply: &mut Reply)
         .is_ok()
     {
         reply.number = board.accesses();
-    }
-}
-
-/// A reply before its access.
-fn no_reply() -> Reply
-    ensures { result.edges ≡ [] }
-{
-    Reply {
-        number: 0,
-        value: Value::Nothing,
-        edges: EdgeList::new(),
     }
 }
 
@@ -214,10 +203,10 @@ fn answers<N: Name>(rt: &impl Wait, board: &SharedBoard<N>, pass: &mut Pass<N>, 
     requires cpus { 0 < N.state.cpus }
     requires legal { (cpus format : ℕ) → IsTrue (is_legal cpus format a) }
 {
-    let mut reply = no_reply();
+    let mut reply = Reply::empty();
     let mut sum = 0u64;
     for _ in 0..CALLS {
-        reply.edges.clear();
+        reply.clear();
         put_reply_under_lock(rt, board, pass, a, &mut reply);
         sum = sum.wrapping_add(reply.number);
     }
@@ -235,7 +224,7 @@ fn put_reply_under_lock<N: Name>(
 )
     requires cpus { 0 < N.state.cpus }
     requires legal { (cpus format : ℕ) → IsTrue (is_legal cpus format a) }
-    requires fresh { reply.old.edges ≡ [] }
+    requires fresh { IsFresh reply.old }
 {
     let _ = board.answer(rt, &OpenGate, pass, 0, 0, a, reply);
 }

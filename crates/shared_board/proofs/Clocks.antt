@@ -1,5 +1,5 @@
 -- Reads of pages and clocks, told of passes; and that as many reads as it counts fill the front word.
-use Rattle.std.proofs.Common.{append-nil, ◌≡◌, ℕ, ◌≤◌, List, [], ◌∷◌, ◌++◌, refl, ap, sym, ◌∙◌, subst, arith, Option, Some, Bool, true, false, if◌then◌else◌, eq-eqb, Result, Ok, Err, IfOk, IfErr}
+use Rattle.std.proofs.Common.{append-nil, ◌≡◌, ℕ, ◌≤◌, List, [], ◌∷◌, ◌++◌, refl, ap, sym, ◌∙◌, subst, arith, Option, Some, Bool, true, false, if◌then◌else◌, eq-eqb, Result, Ok, Err, IfErr}
 use mathlib.Core.List.{IsPrefix}
 use Rattle.pvclock_page.specs.declared.page.Page.{Page}
 use Rattle.pvclock_page.specs.declared.page.PageReply.{PageReply}
@@ -8,25 +8,23 @@ use Rattle.pvclock_page.specs.declared.page.ClockReply.{ClockReply}
 use Rattle.pvclock_page.specs.declared.page.ClockReply.TheVariants.{Off as ClockOff, On as ClockOn}
 use Rattle.host_counter.specs.declared.Anchor.{Anchor}
 use Rattle.board_types.specs.declared.parts.BoardParts.{BoardParts}
-use Rattle.board_history.specs.Machine.{Machine, machine_of, page_at, ratio_in, reading_by, answer_by}
-use Rattle.board_history.specs.History.{board_after, floor_after, version_after, entries_of, last_of, IsLegal, Reads}
+use Rattle.board_history.specs.Machine.{Machine, machine_of, ratio_in, reading_by}
+use Rattle.board_history.specs.History.{floor_after, entries_of, last_of, Reads}
 use Rattle.board_history.specs.declared.entry.Entry.{Entry}
-use Rattle.board_history.specs.declared.entry.Entry.TheVariants.{Opened, Board, PageRead, Clamp}
-use Rattle.board_history.proofs.Laws.{board_after-snoc, legal-at, legal-floor, legal-version}
+use Rattle.board_history.specs.declared.entry.Entry.TheVariants.{Opened, Board, PageRead, HvRead, Clamp}
+use Rattle.board_history.proofs.Laws.{board_after-snoc, legal-floor}
 use Rattle.clock_table.specs.declared.view.View.{View}
 use Rattle.clock_table.specs.Steps.{or_else, number_in, weight, loud, Hears}
 use Rattle.clock_table.proofs.Lists.{prefix_trans}
 use Rattle.shared_board.specs.declared.fault.PageFault.{PageFault}
 use Rattle.shared_board.specs.declared.fault.PageFault.TheVariants.{BeforeStart, OutOfRange, Again}
-use Rattle.shared_board.specs.declared.fault.LockedFault.{LockedFault}
 use Rattle.shared_board.specs.declared.known.PassKnown.{PassKnown}
-use Rattle.shared_board.specs.Passes.{Made, Answered, Missed}
+use Rattle.shared_board.specs.Passes.{Made}
 use Rattle.shared_board.specs.Pages.{HadRoom, PageWasRead, ClockWasRead, HasTriedPage, HasTriedClock, HasLockedPage, HasLockedClock, HasReadPage, HasReadClock}
 use Rattle.shared_board.specs.Faults.{page_reads, IsPageFault}
-use Rattle.shared_board.specs.private.Seats.{known, IsAtRest, IsBelow, IsLastRead, HasClamped}
-use Rattle.shared_board.specs.private.Tries.{HasAnswer, IsTryFault}
-use Rattle.shared_board.proofs.Seats.{heard_rests, below_heard, below_same}
-use Rattle.shared_board.proofs.Made.{made_of, made_more, made_late, made_last, heard_made, missed_known, missed_rests, tried_on}
+use Rattle.shared_board.specs.private.Seats.{known, IsAtRest, IsLastRead, HasClamped}
+use Rattle.shared_board.specs.private.Tries.{IsTryFault}
+use Rattle.shared_board.proofs.Made.{made_more, made_last, heard_made, missed_known, tried_on}
 
 weight-le : (b : Bool) → weight b ≤ 1
 weight-le true = omega arith
@@ -38,6 +36,7 @@ loud-le [] = omega arith
 loud-le (Opened s ∷ es) = let r = loud-le es in omega arith
 loud-le (Board pass cpu h access reply ∷ es) = let r = loud-le es in omega arith
 loud-le (PageRead pass cpu h page locked ∷ es) = let r = loud-le es in let w = weight-le locked in omega arith
+loud-le (HvRead pass h page locked ∷ es) = let r = loud-le es in let w = weight-le locked in omega arith
 loud-le (Clamp pass cpu reading clock ∷ es) = let r = loud-le es in omega arith
 
 -- what an answer tells of the page
@@ -79,105 +78,12 @@ clamp_known n cpu x clock v w rest t =
     let up = legal-floor v.seen w.seen made.more made.legal in
     (record { number = made.number; more = made.more; legal = made.legal; mine = made.mine }, ap (λ u. u.misses) t'.1, omega arith)
 
--- a read without the lock
-pub try_known : (s : BoardParts) (ratio n cpu h : ℕ) (reply : PageReply) (v w : View) → ratio ≡ ratio_in (machine_of s) → IsAtRest n v
-    → HasAnswer ratio cpu h reply v w
-    → HasTriedPage s cpu h reply (known n v) (known n w)
-try_known s ratio n cpu h reply v w scaled rest a =
-    let number : number_in v ≡ n = ap (λ (o : Option ℕ). or_else o 0) rest.number in
-    let e : Entry = PageRead n cpu h a.page false in
-    let t : Hears e v w = subst (λ (k : ℕ). Hears (PageRead k cpu h a.page false) v w) number a.read.heard in
-    let made = heard_made n v w e rest t (eq-eqb n n refl) in
-    record {
-      read = record {
-        page = a.page;
-        answer = a.answer ∙ ap (λ (r : ℕ). answer_by r a.page h) scaled;
-        made = record { number = made.number; more = made.more; legal = made.legal; mine = made.mine };
-        least = a.read.least;
-      };
-      misses = ap (λ u. u.misses) t.1;
-    }
-
-pub try_answered : (res : Result PageReply PageFault) (s : BoardParts) (ratio n cpu h : ℕ) (v w : View) → ratio ≡ ratio_in (machine_of s) → IsAtRest n v
-    → IfOk res (λ r. HasAnswer ratio cpu h r v w) → IfOk res (λ r. HasTriedPage s cpu h r (known n v) (known n w))
-try_answered (Ok reply) s ratio n cpu h v w scaled rest ok = try_known s ratio n cpu h reply v w scaled rest ok
-try_answered (Err f) s ratio n cpu h v w scaled rest ok = tt
-
-pub try_faulted : (res : Result PageReply PageFault) (anchor : Anchor) (n cpu h : ℕ) (v w : View) → IsAtRest n v
+pub try_faulted : (res : Result Page PageFault) (anchor : Anchor) (n cpu h : ℕ) (v w : View) → IsAtRest n v
     → IfErr res (λ f. IsTryFault anchor cpu h f v w) → IfErr res (λ f. IsPageFault anchor cpu h f (known n v) (known n w))
 try_faulted (Ok reply) anchor n cpu h v w rest err = tt
 try_faulted (Err (BeforeStart start)) anchor n cpu h v w rest err = (err.0, ap (known n) err.1)
 try_faulted (Err (OutOfRange ns)) anchor n cpu h v w rest err = (err.0, ap (known n) err.1)
 try_faulted (Err (Again first second)) anchor n cpu h v w rest err = (err.0, missed_known n cpu first second v w rest err.1)
-
-pub try_rests : (res : Result PageReply PageFault) (anchor : Anchor) (ratio m n cpu h : ℕ) (v w : View) → IsAtRest n v → IsBelow m v
-    → IfOk res (λ r. HasAnswer ratio cpu h r v w) → IfErr res (λ f. IsTryFault anchor cpu h f v w) → IsAtRest n w × IsBelow m w
-try_rests (Ok reply) anchor ratio m n cpu h v w rest low ok err =
-    let e : Entry = PageRead (number_in v) cpu h ok.page false in
-    (heard_rests n v w e rest ok.read.heard, below_heard m v w e ok.read.heard low)
-try_rests (Err (BeforeStart start)) anchor ratio m n cpu h v w rest low ok err = (subst (IsAtRest n) (sym err.1) rest, below_same m v w err.1 low)
-try_rests (Err (OutOfRange ns)) anchor ratio m n cpu h v w rest low ok err = (subst (IsAtRest n) (sym err.1) rest, below_same m v w err.1 low)
-try_rests (Err (Again first second)) anchor ratio m n cpu h v w rest low ok err = (
-  missed_rests n cpu first second v w rest err.1.missed,
-  record {
-    limit = ap (λ u. u.limit) err.1.missed ∙ low.limit;
-    below = λ k l. ap (λ (u : View). entries_of k u.seen) err.1.missed ∙ low.below k l;
-  },
-)
-
--- the page of a read that ends a legal history is that of the board before it
-page-told : (xs : List Entry) (n cpu h : ℕ) (page : Page) (locked : Bool) → IsLegal (xs ++ PageRead n cpu h page locked ∷ [])
-    → page_at (board_after xs) cpu ≡ page
-page-told [] n cpu h page locked l = absurd l
-page-told (x ∷ xs) n cpu h page locked l = (legal-at xs [] x (PageRead n cpu h page locked) l).1
-
--- a read under the lock
-pub locked_known : (s : BoardParts) (ratio cpu h : ℕ) (page : Page) (p q : PassKnown) → ratio ≡ ratio_in (machine_of s)
-    → Answered p q (PageRead p.number cpu h page true) → PageWasRead s cpu h true (answer_by ratio page h) p q
-locked_known s ratio cpu h page p q scaled a =
-    let e : Entry = PageRead p.number cpu h page true in
-    let made : Made p q (e ∷ []) = made_of p q e a in
-    let front : List Entry = p.seen ++ a.seen.0 in
-    let up = legal-version p.seen q.seen cpu made.more a.legal in
-    let told : page_at (board_after front) cpu ≡ page = page-told front p.number cpu h page true (subst IsLegal a.seen.1 a.legal) in
-    let same : version_after q.seen cpu ≡ page.version =
-    ap (λ l. version_after l cpu) a.seen.1 ∙ (ap (λ (b : BoardParts). (page_at b cpu).version) (board_after-snoc front e)
-    ∙ ap (λ (r : Page). r.version) told) in
-    record { page = page; answer = ap (λ (r : ℕ). answer_by r page h) scaled; made = made; least = omega arith }
-
-pub locked_answered : (s : BoardParts) (ratio cpu h : ℕ) (page : Page) (p q : PassKnown) → ratio ≡ ratio_in (machine_of s)
-    → Answered p q (PageRead p.number cpu h page true) → HadRoom (PageRead p.number cpu h page true) q.seen
-    → HasLockedPage s cpu h (answer_by ratio page h) p q
-unfolding locked_known
-locked_answered s ratio cpu h page p q scaled a room =
-    record { read = locked_known s ratio cpu h page p q scaled a; misses = a.misses; room = room }
-
--- a read under the lock behind a try that met an update
-pub read_late : (s : BoardParts) (cpu h : ℕ) (reply : PageReply) (first second : ℕ) (p q r : PassKnown) → Missed cpu first second p q
-    → HasLockedPage s cpu h reply q r → HasReadPage s cpu h reply p r
-read_late s cpu h reply first second p q r m a =
-    let number = m.unanswered.number in
-    let page : Page = a.read.page in
-    let made : Made q r (PageRead p.number cpu h page true ∷ []) =
-    subst (λ (n : ℕ). Made q r (PageRead n cpu h page true ∷ [])) number a.read.made in
-    let up = legal-version p.seen q.seen cpu m.unanswered.more m.unanswered.legal in
-    let least = a.read.least in
-    record {
-      locked = true;
-      read = record {
-        page = page;
-        answer = a.read.answer;
-        made = made_late p q r (PageRead p.number cpu h page true ∷ []) m.unanswered made;
-        least = omega arith;
-      };
-      tried = (first, second, a.misses ∙ m.misses);
-      room = λ _. subst (λ (n : ℕ). HadRoom (PageRead n cpu h page true) r.seen) number a.room;
-    }
-
-pub locked_late : (res : Result PageReply LockedFault) (s : BoardParts) (cpu h first second : ℕ) (p q r : PassKnown) → Missed cpu first second p q
-    → IfOk res (λ reply. HasLockedPage s cpu h reply q r) → IfOk res (λ reply. HasReadPage s cpu h reply p r)
-locked_late (Ok reply) s cpu h first second p q r m ok = read_late s cpu h reply first second p q r m ok
-locked_late (Err f) s cpu h first second p q r m ok = tt
 
 -- a clock is a read and its clamp
 pub clock_known : (s : BoardParts) (cpu h : ℕ) (locked : Bool) (read : PageReply) (reply : ClockReply) (p q r : PassKnown)

@@ -29,7 +29,7 @@ use Rattle.std.proofs.Common.{
 use Rattle.pvclock_page.specs.declared.page.Page.{Page}
 use Rattle.pvclock_page.specs.Words.{page_of, words_of}
 use Rattle.board_history.specs.declared.entry.Entry.{Entry}
-use Rattle.board_history.specs.declared.entry.Entry.TheVariants.{PageRead}
+use Rattle.board_history.specs.History.{read_of}
 use Rattle.clock_table.specs.declared.view.View.{View}
 use Rattle.clock_table.specs.declared.view.Read.{Read}
 use Rattle.clock_table.specs.Words.{field_at}
@@ -104,17 +104,17 @@ has_noted c n x y z w v u is = (record { cpu = c; first = n; noted = all_four x 
     each (suc (suc (suc (suc k)))) h = absurd (omega arith)
 
 -- how a read ends, told of the view before it
-abbrev pub Ends : Bool → ℕ → ℕ → ℕ → ℕ → Page → View → View → Type 0
-Ends b c h n m page v u = MatchBool b (Hears (PageRead (number_in v) c h page false) v u) ((u ≡ missed c n m v) × (n < m))
+abbrev pub Ends : ℕ → Bool → ℕ → ℕ → ℕ → ℕ → Page → View → View → Type 0
+Ends cpus b c h n m page v u = MatchBool b (Hears (read_of cpus (number_in v) c h page false) v u) ((u ≡ missed c n m v) × (n < m))
 
-pub read_ends : (c h n x y z w m : ℕ) (v t u : View) → t ≡ noted c n (all_four x y z w) v
-    → ((r : Read) → t.read ≡ Some r → ReadEnds h r m t u) → Ends (eqb m n) c h n m (page_of (n ∷ x ∷ y ∷ z ∷ w ∷ [])) v u
-read_ends c h n x y z w m v t u is told =
+pub read_ends : (cpus c h n x y z w m : ℕ) (v t u : View) → t ≡ noted c n (all_four x y z w) v
+    → ((r : Read) → t.read ≡ Some r → ReadEnds cpus h r m t u) → Ends cpus (eqb m n) c h n m (page_of (n ∷ x ∷ y ∷ z ∷ w ∷ [])) v u
+read_ends cpus c h n x y z w m v t u is told =
     let r : Read = record { cpu = c; first = n; noted = all_four x y z w } in
-    cases (eqb m n) (subst (λ (s : View). ReadEnds h r m s u) is (told r (ap (λ s. s.read) is)))
+    cases (eqb m n) (subst (λ (s : View). ReadEnds cpus h r m s u) is (told r (ap (λ s. s.read) is)))
   where
-    cases : (b : Bool) → Ends b c h n m (page_of (n ∷ x ∷ y ∷ z ∷ w ∷ [])) (noted c n (all_four x y z w) v) u
-        → Ends b c h n m (page_of (n ∷ x ∷ y ∷ z ∷ w ∷ [])) v u
+    cases : (b : Bool) → Ends cpus b c h n m (page_of (n ∷ x ∷ y ∷ z ∷ w ∷ [])) (noted c n (all_four x y z w) v) u
+        → Ends cpus b c h n m (page_of (n ∷ x ∷ y ∷ z ∷ w ∷ [])) v u
     cases true e = (e.0, e.1, record { legal = e.2.legal; own = e.2.own; below = e.2.below })
     cases false e = e
 

@@ -3,4 +3,5 @@ pub mod Fields
 pub mod Made
 pub mod Turns
 pub mod Clocks
+mod Tables
 pub mod Ends

@@ -120,5 +120,5 @@ missed_rests n cpu first second v w rest e = record {
 }
 
 pub tried_on : (locked : Bool) (cpu : ℕ) (p q r : PassKnown) → Tried cpu locked p q → r.misses ≡ q.misses → Tried cpu locked p r
-tried_on true cpu p q r t e = (t.0, t.1, e ∙ t.2)
+tried_on true cpu p q r t e = (t.0, t.1, e ∙ t.2, t.3, t.4)
 tried_on false cpu p q r t e = e ∙ t

@@ -1,22 +1,21 @@
 -- Boards that are alike, and seats that have had the pen.
-use Rattle.std.proofs.Common.{◌≡◌, ◌⊎◌, ⊎_elim, ℕ, ◌<◌, List, [], ◌∷◌, ◌++◌, refl, ap, sym, ◌∙◌, subst, arith, Some, None}
+use Rattle.std.proofs.Common.{◌≡◌, ◌⊎◌, ⊎_elim, ℕ, List, [], ◌∷◌, ◌++◌, refl, ap, sym, ◌∙◌, subst, None}
 use Rattle.board_types.specs.declared.access.Access.{Access}
 use Rattle.board_types.specs.declared.parts.BoardParts.{BoardParts}
 use Rattle.board_types.specs.declared.reply.Reply.{Reply}
 use Rattle.board_core.specs.Access.{after_access, reply_of}
-use Rattle.board_core.specs.Pages.{published_by, with_greatest}
+use Rattle.board_core.specs.Pages.{with_greatest}
 use Rattle.board_core.specs.Refusals.{refusal_of}
 use Rattle.board_core.proofs.Laws.{after_access-greatest, refusal_of-greatest, reply_of-greatest}
-use Rattle.board_history.specs.Machine.{Machine, machine_of, page_at, no_board}
+use Rattle.board_history.specs.Machine.{machine_of, page_at, no_board}
 use Rattle.board_history.specs.History.{board_after, entries_of, IsLegal}
 use Rattle.board_history.specs.declared.entry.Entry.{Entry}
-use Rattle.board_history.proofs.Pages.{machine_of-access, published_by-legal}
 use Rattle.board_history.proofs.Laws.{board_from-++, board_after-snoc}
 use Rattle.clock_table.specs.declared.view.View.{View}
 use Rattle.clock_table.specs.Steps.{GoesOnQuietly, Extends, Hears, pen_left}
 use Rattle.clock_table.proofs.Keeps.{quiet_beside}
 use Rattle.clock_table.specs.declared.call.Call.{Call}
-use Rattle.shared_board.specs.private.Seats.{IsAtRest, IsWriter, IsBelow, AreAlike, PenMoved, IsPenOf, IsApplied}
+use Rattle.shared_board.specs.private.Seats.{IsAtRest, IsWriter, IsBelow, AreAlike, PenMoved, IsPenOf}
 use Rattle.clock_table.specs.Calls.{entry_of}
 
 -- boards that are alike have the same pages, refuse alike, answer alike, and are alike after an access
@@ -52,13 +51,6 @@ alike_told c r b v w e x =
     let quiet : AreAlike (board_after v.seen) (board_after (v.seen ++ x.0)) = alike_quiet (board_after v.seen) v.seen (v.seen ++ x.0) refl (x.0, refl, x.2) in
     e ∙ (alike_after (board_after v.seen) (board_after (v.seen ++ x.0)) c.cpu c.h c.access quiet
     ∙ sym (ap (λ l. with_greatest (board_after l) 0) seen ∙ ap (λ (y : BoardParts). with_greatest y 0) (board_after-snoc (v.seen ++ x.0) (entry_of c r))))
-
--- the page that a taken access publishes is one of the board's
-pub applied_place : (b d : BoardParts) (c : Call) (r : Reply) (k : ℕ) → IsApplied b d c r → published_by c.cpu c.access ≡ Some k → k < b.cpus
-applied_place b d c r k applied is =
-    let low = published_by-legal d.cpus d.format c.cpu k c.access applied.answered.cpu_below applied.answered.legal is in
-    let same = ap (λ (m : Machine). m.cpus) (alike_machine b (after_access d c.cpu c.h c.access) applied.after ∙ machine_of-access d c.cpu c.h c.access) in
-    omega arith
 
 -- the seat that had the pen last has it again
 pub writer_again : (m : ℕ) (v w w' : View) → IsWriter m w → v.made ≡ m → IsLegal v.seen → PenMoved v (pen_left w) w' → IsWriter m w'

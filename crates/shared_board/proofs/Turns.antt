@@ -7,8 +7,9 @@ use Rattle.board_core.specs.Pages.{with_greatest}
 use Rattle.board_core.specs.Refusals.{refusal_of}
 use Rattle.board_history.specs.History.{board_after, IsLegal}
 use Rattle.board_history.specs.declared.entry.Entry.{Entry}
-use Rattle.board_history.specs.declared.entry.Entry.TheVariants.{Board, PageRead}
-use Rattle.board_history.proofs.Laws.{board_after-snoc}
+use Rattle.board_history.specs.declared.entry.Entry.TheVariants.{Board}
+use Rattle.board_history.specs.History.{read_of}
+use Rattle.board_history.proofs.Laws.{board_after-snoc, read_of-leaves, read_of-number}
 use Rattle.pvclock_page.specs.declared.page.Page.{Page}
 use Rattle.clock_table.specs.declared.view.View.{View}
 use Rattle.clock_table.specs.Steps.{Extends, pen_left, loud}
@@ -76,21 +77,22 @@ act_refused (Err f) n c b b' v w x y z rest moved legal left err =
     }
 
 -- a read under the lock
-pub read_turned : (res : Result Page ℕ) (m n cpu h : ℕ) (b : BoardParts) (x y : View) → IsPenOf n x → x.ended ≡ [] → IsBelow m x
-    → AreAlike b (board_after x.seen) → IsLegal x.seen → IfOk res (λ page. Extends (PageRead n cpu h page true) x y) → IfErr res (λ f. IsSpentAt f x y)
+pub read_turned : (res : Result Page ℕ) (c m n cpu h : ℕ) (b : BoardParts) (x y : View) → IsPenOf n x → x.ended ≡ [] → IsBelow m x
+    → AreAlike b (board_after x.seen) → IsLegal x.seen → IfOk res (λ page. Extends (read_of c n cpu h page true) x y) → IfErr res (λ f. IsSpentAt f x y)
     → HasTurned m n b x y
-read_turned (Ok page) m n cpu h b x y has none low alike legal ok err =
-    let e : Entry = PageRead n cpu h page true in
+read_turned (Ok page) c m n cpu h b x y has none low alike legal ok err =
+    let e : Entry = read_of c n cpu h page true in
     let seen : y.seen ≡ (x.seen ++ ok.0) ++ e ∷ [] = ap (λ u. u.seen) ok.1 in
     record {
       alike = alike_quiet b x.seen (x.seen ++ ok.0) alike (ok.0, refl, ok.2)
-          ∙ sym (ap (λ l. with_greatest (board_after l) 0) seen ∙ ap (λ (z : BoardParts). with_greatest z 0) (board_after-snoc (x.seen ++ ok.0) e));
+          ∙ sym (ap (λ l. with_greatest (board_after l) 0) seen ∙ ap (λ (z : BoardParts). with_greatest z 0) (board_after-snoc (x.seen ++ ok.0) e
+          ∙ read_of-leaves (board_after (x.seen ++ ok.0)) c n cpu h page true));
       legal = ok.3.legal;
       made = ap (λ u. u.made) ok.1;
       below = below_told m x y e ok low;
       rests = λ z left. told_rests n e x y z has none ok left;
     }
-read_turned (Err f) m n cpu h b x y has none low alike legal ok err = record {
+read_turned (Err f) c m n cpu h b x y has none low alike legal ok err = record {
   alike = subst (λ (z : View). AreAlike b (board_after z.seen)) (sym err.seat) alike;
   legal = subst (λ (z : View). IsLegal z.seen) (sym err.seat) legal;
   made = ap (λ u. u.made) err.seat;
@@ -98,25 +100,25 @@ read_turned (Err f) m n cpu h b x y has none low alike legal ok err = record {
   rests = λ z left. same_rests n x y z has none legal err.seat left;
 }
 
-pub read_answered : (res : Result Page ℕ) (n cpu h : ℕ) (v w x y z : View) → IsAtRest n v → PenMoved w v x → z ≡ pen_left y
-    → IfOk res (λ page. Extends (PageRead n cpu h page true) x y) → IfOk res (λ page. Answered (known n v) (known n z) (PageRead n cpu h page true))
-read_answered (Ok page) n cpu h v w x y z rest moved left ok =
-    let e : Entry = PageRead n cpu h page true in
-    let t = told_answered n v w x y e rest moved ok (eq-eqb n n refl) in
+pub read_answered : (res : Result Page ℕ) (c n cpu h : ℕ) (v w x y z : View) → IsAtRest n v → PenMoved w v x → z ≡ pen_left y
+    → IfOk res (λ page. Extends (read_of c n cpu h page true) x y) → IfOk res (λ page. Answered (known n v) (known n z) (read_of c n cpu h page true))
+read_answered (Ok page) c n cpu h v w x y z rest moved left ok =
+    let e : Entry = read_of c n cpu h page true in
+    let t = told_answered n v w x y e rest moved ok (read_of-number c n cpu h n page true ∙ eq-eqb n n refl) in
     subst (λ (u : View). Answered (known n v) (known n u) e) (sym left)
     (record { number = t.number; misses = t.misses; seen = t.seen; legal = t.legal; mine = t.mine })
-read_answered (Err f) n cpu h v w x y z rest moved left ok = tt
+read_answered (Err f) c n cpu h v w x y z rest moved left ok = tt
 
 -- the front word counts the entries before the read
-pub read_room : (res : Result Page ℕ) (n cpu h : ℕ) (x y z : View) → z ≡ pen_left y → IfOk res (λ page. Extends (PageRead n cpu h page true) x y)
-    → OnOk res (loud x.seen < 2 ^ 63) → IfOk res (λ page. HadRoom (PageRead n cpu h page true) z.seen)
-read_room (Ok page) n cpu h x y z left ok room =
-    let e : Entry = PageRead n cpu h page true in
+pub read_room : (res : Result Page ℕ) (c n cpu h : ℕ) (x y z : View) → z ≡ pen_left y → IfOk res (λ page. Extends (read_of c n cpu h page true) x y)
+    → OnOk res (loud x.seen < 2 ^ 63) → IfOk res (λ page. HadRoom (read_of c n cpu h page true) z.seen)
+read_room (Ok page) c n cpu h x y z left ok room =
+    let e : Entry = read_of c n cpu h page true in
     let seen : z.seen ≡ (x.seen ++ ok.0) ++ e ∷ [] = ap (λ u. u.seen) left ∙ ap (λ u. u.seen) ok.1 in
     let b = loud-append x.seen ok.0 in
     let c = loud_quiet ok.0 ok.2 in
     (x.seen ++ ok.0, ([], append-nil _ ∙ sym seen), omega arith)
-read_room (Err f) n cpu h x y z left ok room = tt
+read_room (Err f) c n cpu h x y z left ok room = tt
 
 pub read_spent : (res : Result Page ℕ) (n : ℕ) (v w x y z : View) → IsAtRest n v → PenMoved w v x → IsLegal x.seen → z ≡ pen_left y
     → IfErr res (λ f. IsSpentAt f x y)

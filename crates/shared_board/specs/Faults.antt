@@ -8,7 +8,7 @@ use Rattle.host_counter.specs.declared.TimeFault.TheVariants.{
 use Rattle.host_counter.specs.Time.{IsFaultAt}
 use Rattle.board_core.specs.Time.{HasTime}
 use Rattle.board_history.specs.declared.entry.Entry.{Entry}
-use Rattle.board_history.specs.declared.entry.Entry.TheVariants.{Opened, Board, PageRead, Clamp}
+use Rattle.board_history.specs.declared.entry.Entry.TheVariants.{Opened, Board, PageRead, HvRead, Clamp}
 use Rattle.clock_table.specs.Steps.{loud}
 use Rattle.shared_board.specs.declared.fault.LockedFault.{LockedFault}
 use Rattle.shared_board.specs.declared.fault.LockedFault.TheVariants.{
@@ -27,6 +27,7 @@ page_reads [] = 0
 page_reads (Opened s ∷ es) = page_reads es
 page_reads (Board pass cpu h access reply ∷ es) = page_reads es
 page_reads (PageRead pass cpu h page locked ∷ es) = 1 + page_reads es
+page_reads (HvRead pass h page locked ∷ es) = 1 + page_reads es
 page_reads (Clamp pass cpu reading clock ∷ es) = page_reads es
 
 -- a try: the count has no time, and the pass is as it was; or it met an update

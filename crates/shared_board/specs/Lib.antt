@@ -1,5 +1,6 @@
 pub mod Passes
 pub mod Pages
+pub mod Hv
 pub mod Faults
 pub mod Stops
 pub mod private

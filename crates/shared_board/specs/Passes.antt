@@ -70,16 +70,21 @@ pub record Refused (cpu h : ℕ) (a : Access) (f : Refusal) (p q : PassKnown) : 
 abbrev pub miss : ℕ → ℕ → ℕ → Miss
 miss cpu first second = record { page = cpu; first = first; second = second }
 
--- an odd first version is given twice; else the second one is later. The first is no older than
--- what the pass had seen
+-- the two loads met an update: an odd first version is given twice; else the second one is later
+abbrev pub IsUpdate : ℕ → ℕ → Type 0
+IsUpdate first second = ((first % 2 ≡ 1) × (second ≡ first)) ⊎ (first < second)
+
+-- a read met an update, whose first version is no older than what the pass had seen
 pub record Missed (cpu first second : ℕ) (p q : PassKnown) : Type 0 where
   pub unanswered : Unanswered p q
   pub misses : q.misses ≡ p.misses ++ miss cpu first second ∷ []
   pub least : version_after p.seen cpu ≤ first
-  pub update : ((first % 2 ≡ 1) × (second ≡ first)) ⊎ (first < second)
+  pub update : IsUpdate first second
 
--- whether the call had a miss: exactly where it then took the lock
+-- a call that tries once: it takes the lock exactly where the try met an update, which is its one
+-- miss
 abbrev pub Tried : ℕ → Bool → PassKnown → PassKnown → Type 0
 Tried cpu false p q = q.misses ≡ p.misses
 Tried cpu true p q =
     (first : ℕ) × (second : ℕ) × (q.misses ≡ p.misses ++ miss cpu first second ∷ [])
+    × (version_after p.seen cpu ≤ first) × IsUpdate first second

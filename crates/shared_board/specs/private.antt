@@ -1,3 +1,4 @@
 -- What proofs and private contracts alone cite.
 pub mod Seats
 pub mod Tries
+pub mod Tables

@@ -16,9 +16,10 @@ ghost use Rattle.std.specs.Prelude.{
   IsTrue,
 };
 ghost use Rattle.board_types.specs.Legal.{is_legal};
-ghost use Rattle.board_history.specs.Machine.{machine_of};
-ghost use Rattle.board_history.specs.History.{board_after};
-ghost use Rattle.board_history.specs.declared.entry.Entry.TheVariants.{Board, PageRead};
+ghost use Rattle.board_types.specs.Reply.{IsFresh};
+ghost use Rattle.board_history.specs.Machine.{machine_of, page_at};
+ghost use Rattle.board_history.specs.History.{board_after, version_after, read_of};
+ghost use Rattle.board_history.specs.declared.entry.Entry.TheVariants.{Board};
 ghost use Rattle.clock_table.specs.Steps.{Extends, loud};
 ghost use Rattle.clock_table.specs.Calls.{entry_of};
 ghost use Rattle.shared_board.specs.Passes.{Answered, Refused, Unanswered};
@@ -35,11 +36,10 @@ ghost use Rattle.shared_board.specs.private.Seats.{
 
 use crate::pass::Pass;
 use crate::pens::{move_pen, publish};
-use board_core::{Access, BoardState, Refusal, Reply, Value, published_by};
-use board_history::Entry;
+use board_core::{Access, BoardState, Refusal, Reply};
+use board_history::{page_published, read_entry, table_page};
 use clk_units::NoMemory;
 use clock_table::{Call, ClockSeat, ClockTable, Name};
-use irq_edges::EdgeList;
 use pvclock_page::Page;
 use std::alloc::Global;
 use std::marker::Model;
@@ -86,7 +86,7 @@ impl<N: Name> Held<N> {
     ) -> Result<(), Refusal>
         requires cpu { cpu < N.state.cpus }
         requires legal { IsTrue (is_legal N.state.cpus N.state.format a) }
-        requires fresh { reply.old.edges ≡ [] }
+        requires fresh { IsFresh reply.old }
         ensures ok { OnOk result (Answered pass.old pass.new
             (Board pass.old.number cpu h a reply.new)) }
         ensures err { IfErr result (λ f. Refused cpu h a f pass.old pass.new) }
@@ -104,20 +104,21 @@ impl<N: Name> Held<N> {
         result
     }
 
-    /// Reads the page of a processor, at count `h`; where the front word, which is then answered, leaves no room, no
-    /// page is read.
+    /// Reads a page of the table, at count `h`; where the front word, which is then answered, leaves no room, no page
+    /// is read.
     pub fn page(
         &mut self,
         table: &ClockTable<N>,
         pass: &mut Pass<N>,
-        cpu: u8,
+        index: u8,
         h: u64,
     ) -> Result<Page, u64>
-        requires cpu { cpu < N.state.cpus }
+        requires index { index ≤ N.state.cpus }
         ensures ok { IfOk result (λ page. Answered pass.old pass.new
-            (PageRead pass.old.number cpu h page true)) }
-        ensures room { IfOk result (λ page. HadRoom (PageRead pass.old.number cpu h page true)
-            pass.new.seen) }
+            (read_of N.state.cpus pass.old.number index h page true)) }
+        ensures least { IfOk result (λ page. version_after pass.old.seen index ≤ page.version) }
+        ensures room { IfOk result (λ page. HadRoom
+            (read_of N.state.cpus pass.old.number index h page true) pass.new.seen) }
         ensures spent { IfErr result (λ front. Unanswered pass.old pass.new
             × (pass.new.misses ≡ pass.old.misses) × IsFull front pass.new.seen) }
     {
@@ -127,7 +128,7 @@ impl<N: Name> Held<N> {
             &*self.board,
             &mut pass.seat,
             pass.number,
-            cpu,
+            index,
             h,
             front,
         );
@@ -147,47 +148,32 @@ pub(crate) fn boxed(alloc: Global, state: &BoardState) -> Result<Box<BoardState>
     }
 }
 
-/// A reply before its access, with an empty list.
-pub(crate) fn no_reply() -> Reply
-    ensures { result.edges ≡ [] }
-{
-    Reply {
-        number: 0,
-        value: Value::Nothing,
-        edges: EdgeList::new(),
-    }
-}
-
 /// A read of a page, whose entry the seat makes that holds the pen.
 fn read<N: Name>(
     table: &ClockTable<N>,
     board: &BoardState,
     seat: &mut ClockSeat<N>,
     pass: u64,
-    cpu: u8,
+    index: u8,
     h: u64,
     front: u64,
 ) -> Result<Page, u64>
     requires machine { machine_of board.now ≡ machine_of N.state }
-    requires cpu { cpu < N.state.cpus }
+    requires index { index ≤ N.state.cpus }
     requires pen { IsPenOf pass seat.old }
     requires alike { AreAlike board.now (board_after seat.old.seen) }
     requires front { front ≡ loud seat.old.seen }
-    ensures ok { IfOk result (λ page. Extends (PageRead pass cpu h page true) seat.old seat.new) }
+    ensures ok { IfOk result (λ page. Extends (read_of N.state.cpus pass index h page true)
+        seat.old seat.new) }
+    ensures page { IfOk result (λ page. page_at (board_after seat.old.seen) index ≡ page) }
     ensures room { OnOk result (loud seat.old.seen < 2 ^ 63) }
     ensures spent { IfErr result (λ f. IsSpentAt f seat.old seat.new) }
 {
     if front >= FULL {
         return Err(front);
     }
-    let page = board.page(cpu);
-    let entry = Entry::PageRead {
-        pass,
-        cpu,
-        h,
-        page,
-        locked: true,
-    };
+    let page = table_page(board, index);
+    let entry = read_entry(board.cpus(), pass, index, h, &page, true);
     table.bump_read(seat, &entry);
     Ok(page)
 }
@@ -207,7 +193,7 @@ pub(crate) fn act<N: Name>(
     requires legal { IsTrue (is_legal N.state.cpus N.state.format call.access) }
     requires pen { IsPenOf call.pass seat.old }
     requires alike { AreAlike board.old (board_after seat.old.seen) }
-    requires fresh { reply.old.edges ≡ [] }
+    requires fresh { IsFresh reply.old }
     ensures ok { OnOk result (HasActed call reply.new board.new seat.old seat.new) }
     ensures err { IfErr result (λ f. HasRefused call f board.old board.new seat.old seat.new) }
     ensures machine { machine_of board.new ≡ machine_of board.old }
@@ -245,8 +231,8 @@ fn make<N: Name>(
     requires applied { IsApplied board.now (board_after seat.old.seen) call reply.now }
     ensures { Extends (entry_of call reply.now) seat.old seat.new }
 {
-    match published_by(call.cpu, call.access) {
+    match page_published(board.cpus(), call.cpu, call.access) {
         None => table.enter(seat, &call, reply),
-        Some(page) => publish(table, board, seat, page, &call, reply),
+        Some(index) => publish(table, board, seat, index, &call, reply),
     }
 }

@@ -1,6 +1,7 @@
 //! The lock of a shared board, held for several accesses.
 ghost use Rattle.std.specs.Prelude.{◌≡◌, ◌<◌, [], IfErr, OnOk, OnErr, IsTrue};
 ghost use Rattle.board_types.specs.Legal.{is_legal};
+ghost use Rattle.board_types.specs.Reply.{IsFresh};
 ghost use Rattle.board_history.specs.declared.entry.Entry.TheVariants.{Board};
 ghost use Rattle.shared_board.specs.Passes.{Answered, Refused};
 
@@ -36,7 +37,7 @@ impl<'b, N: Name> Holding<'b, N> {
     ) -> Result<(), Refusal>
         requires cpu { cpu < N.state.cpus }
         requires legal { IsTrue (is_legal N.state.cpus N.state.format a) }
-        requires fresh { reply.old.edges ≡ [] }
+        requires fresh { IsFresh reply.old }
         ensures ok { OnOk result (Answered pass.old pass.new
             (Board pass.old.number cpu h a reply.new)) }
         ensures err { IfErr result (λ f. Refused cpu h a f pass.old pass.new) }

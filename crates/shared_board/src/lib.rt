@@ -27,6 +27,7 @@ mod stop;
 #[cfg(test)]
 mod tests;
 mod tries;
+mod waiters;
 
 pub use fault::{LockedFault, PageFault};
 pub use held::Held;

@@ -1,5 +1,5 @@
 //! The pen: how it comes from one seat to another, and what its holder does with it.
-ghost use Rattle.std.specs.Prelude.{◌≡◌, ◌<◌, ◌++◌, [], ◌∷◌, true, false, None};
+ghost use Rattle.std.specs.Prelude.{◌≡◌, ◌<◌, ◌≤◌, ◌++◌, [], ◌∷◌, true, false, None};
 ghost use Rattle.board_types.specs.declared.parts.TheConstants.{LAST_VERSION};
 ghost use Rattle.board_history.specs.Machine.{page_at};
 ghost use Rattle.board_history.specs.History.{board_after, version_after};
@@ -8,6 +8,7 @@ ghost use Rattle.clock_table.specs.Calls.{IsPen, IsNext, IsPublishing, entry_of}
 ghost use Rattle.shared_board.specs.private.Seats.{PenMoved};
 
 use board_core::{BoardState, Reply};
+use board_history::table_page;
 use clock_table::{Call, ClockSeat, ClockTable, Field, Name};
 use pvclock_page::page_words;
 
@@ -28,33 +29,33 @@ pub(crate) fn move_pen<N: Name>(
     table.front(to)
 }
 
-/// Publishes the page of a processor, and makes the entry of the access that does. It stands apart, so that an access
+/// Publishes a page of the table, and makes the entry of the access that does. It stands apart, so that an access
 /// that publishes nothing needs no room for a page.
 #[inline(never)]
 pub(crate) fn publish<N: Name>(
     table: &ClockTable<N>,
     board: &BoardState,
     seat: &mut ClockSeat<N>,
-    cpu: u8,
+    index: u8,
     call: &Call,
     reply: &Reply,
 )
-    requires there { cpu < board.now.cpus }
-    requires cpu { cpu < N.state.cpus }
+    requires there { index ≤ board.now.cpus }
+    requires index { index ≤ N.state.cpus }
     requires pen { IsPen seat.old }
     requires shut { seat.old.hand ≡ None }
-    requires room { version_after seat.old.seen cpu < LAST_VERSION }
-    requires page { page_at (board_after (seat.old.seen ++ entry_of call.now reply.now ∷ [])) cpu
-        ≡ page_at board.now cpu }
-    requires publishes { IsPublishing cpu (entry_of call.now reply.now) }
+    requires room { version_after seat.old.seen index < LAST_VERSION }
+    requires page { page_at (board_after (seat.old.seen ++ entry_of call.now reply.now ∷ [])) index
+        ≡ page_at board.now index }
+    requires publishes { IsPublishing N.state.cpus index (entry_of call.now reply.now) }
     requires next { IsNext (entry_of call.now reply.now) seat.old }
     ensures { Extends (entry_of call.now reply.now) seat.old seat.new }
 {
-    let [_, stamp, system, scale, offset] = page_words(&board.page(cpu));
-    table.begin(seat, cpu);
-    table.put(seat, cpu, Field::Stamp, stamp);
-    table.put(seat, cpu, Field::System, system);
-    table.put(seat, cpu, Field::Scale, scale);
-    table.put(seat, cpu, Field::Offset, offset);
-    table.finish(seat, cpu, call, reply);
+    let [_, stamp, system, scale, offset] = page_words(&table_page(board, index));
+    table.begin(seat, index);
+    table.put(seat, index, Field::Stamp, stamp);
+    table.put(seat, index, Field::System, system);
+    table.put(seat, index, Field::Scale, scale);
+    table.put(seat, index, Field::Offset, offset);
+    table.finish(seat, index, call, reply);
 }

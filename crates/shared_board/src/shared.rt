@@ -1,6 +1,8 @@
 //! The board that threads share.
-ghost use Rattle.std.specs.Prelude.{◌≡◌, ◌<◌, ◌↔◌, [], IfOk, IfErr, OnOk, OnErr, IsErr, IsTrue, vec_len};
+ghost use Rattle.std.specs.Prelude.{◌≡◌, ◌<◌, ◌≤◌, ◌↔◌, [], IfOk, IfErr, OnOk, OnErr, IsErr, IsTrue, vec_len};
 ghost use Rattle.board_types.specs.Legal.{is_legal};
+ghost use Rattle.board_types.specs.Reply.{IsFresh};
+ghost use Rattle.board_types.specs.declared.setup.TheConstants.{HV_FORMAT};
 ghost use Rattle.board_core.specs.Time.{HasTime};
 ghost use Rattle.board_history.specs.Machine.{machine_of, ratio_in};
 ghost use Rattle.board_history.specs.declared.entry.Entry.TheVariants.{Board};
@@ -13,35 +15,39 @@ ghost use Rattle.shared_board.specs.Pages.{
   HasReadPage,
   HasReadClock,
 };
+ghost use Rattle.shared_board.specs.Hv.{HasTriedHv, HasLockedHv, HasReadHv};
 ghost use Rattle.shared_board.specs.Faults.{IsPageFault, IsLockedFault, IsReadFault};
 ghost use Rattle.shared_board.specs.Stops.{StopTold, newcomers};
 ghost use Rattle.shared_board.specs.private.Seats.{IsLastRead, HasClamped};
+ghost use Rattle.shared_board.specs.private.Tables.{HasTriedTable, HasLockedTable, HasReadTable};
 
 use crate::fault::{LockedFault, PageFault};
-use crate::held::{Held, boxed, no_reply};
+use crate::held::{Held, boxed};
 use crate::holding::Holding;
 use crate::host::HostClock;
 use crate::pass::Pass;
 use crate::stop::{join_all, new_passes};
-use crate::tries::try_page_on;
+use crate::tries::try_table_on;
+use crate::waiters::Waiters;
 use board_core::{Access, BoardState, Refusal, Reply};
-use board_history::answer_by;
+use board_history::{answer_by, hv_answer_by};
 use board_io::Gate;
 use clk_units::NoMemory;
 use clock_table::{Blank, ClockTable, Name};
 use crossbeam_utils::CachePadded;
 use host_counter::TimeFault;
-use pvclock_page::{ClockReply, PageReply};
+use hv_page::{HvReply, of_page};
+use pvclock_page::{ClockReply, Page, PageReply};
 use std::alloc::Global;
 use std::hint::spin_loop;
 use std::sync::{Mutex, MutexGuard, Wait};
 use tsc_scale::ratio;
 
 /// How often a thread looks for a lock that another has, before it sleeps.
-const LOOKS: u32 = 1_000;
+const LOOKS: u32 = 5_000;
 
 /// How many pauses of the processor lie between two looks.
-const PAUSES: u32 = 20;
+const PAUSES: u32 = 4;
 
 // Threads that look for the lock take its cache line from each other. So what is read beside it, and what whoever has it
 // works on, lie on lines of their own.
@@ -50,11 +56,15 @@ const PAUSES: u32 = 20;
 pub struct SharedBoard<N: Name> {
     table: ClockTable<N>,
     held: CachePadded<Mutex<CachePadded<Held<N>>>>,
+    waiters: CachePadded<Waiters>,
     passes: u8,
+    /// How many processors the board has: the place of the reference page in the table.
+    cpus: u8,
     host: HostClock,
     /// The ratio of the guest's TSC to the host's counter.
     ratio: u64,
     ghost counted: { passes ≡ N.passes },
+    ghost placed: { cpus ≡ N.state.cpus },
     ghost clock: { host.anchor ≡ N.state.anchor },
     ghost scaled: { ratio ≡ ratio_in (machine_of N.state) },
 }
@@ -102,7 +112,9 @@ impl<N: Name> SharedBoard<N> {
         let board = SharedBoard {
             table,
             held: CachePadded::new(Mutex::new(CachePadded::new(Held { board: held, seat }))),
+            waiters: CachePadded::new(Waiters::new()),
             passes,
+            cpus: parts.cpus,
             host: HostClock::new(anchor),
             ratio: ratio(parts.guest_khz, anchor.khz),
         };
@@ -127,7 +139,7 @@ impl<N: Name> SharedBoard<N> {
             (Board pass.old.number cpu h a r)) }
         ensures err { IfErr result (λ f. Refused cpu h a f pass.old pass.new) }
     {
-        let mut reply = no_reply();
+        let mut reply = Reply::empty();
         match self.answer(rt, gate, pass, cpu, h, a, &mut reply) {
             Ok(()) => Ok(reply),
             Err(refusal) => Err(refusal),
@@ -150,7 +162,7 @@ impl<N: Name> SharedBoard<N> {
     ) -> Result<(), Refusal>
         requires cpu { cpu < N.state.cpus }
         requires legal { IsTrue (is_legal N.state.cpus N.state.format a) }
-        requires fresh { reply.old.edges ≡ [] }
+        requires fresh { IsFresh reply.old }
         ensures ok { OnOk result (Answered pass.old pass.new
             (Board pass.old.number cpu h a reply.new)) }
         ensures err { IfErr result (λ f. Refused cpu h a f pass.old pass.new) }
@@ -166,6 +178,13 @@ impl<N: Name> SharedBoard<N> {
             table: &self.table,
             held: self.lock(rt),
         }
+    }
+
+    /// Lets a thread that looks for the lock have it first, for a caller that has just given it back and will ask for it
+    /// again: waits until one has got it, but no longer than a look for it takes.
+    #[inline]
+    pub fn give_way(&self) {
+        self.waiters.let_one_in();
     }
 
     /// Takes the lock.
@@ -184,15 +203,75 @@ impl<N: Name> SharedBoard<N> {
     #[cold]
     #[inline(never)]
     fn lock_behind<R: Wait>(&self, rt: &R) -> MutexGuard<'_, CachePadded<Held<N>>> {
+        self.waiters.come();
         for _ in 0..LOOKS {
             for _ in 0..PAUSES {
                 spin_loop();
             }
             if let Some(held) = self.held.try_lock() {
+                self.waiters.leave();
                 return held;
             }
         }
+        self.waiters.leave();
         self.held.lock(rt)
+    }
+
+    /// Reads a page of the table at count `h`, without the lock.
+    #[inline(always)]
+    fn try_table(&self, pass: &mut Pass<N>, index: u8, h: u64) -> Result<Page, PageFault>
+        requires index { index ≤ N.state.cpus }
+        ensures time { OnOk result (HasTime N.state.anchor h) }
+        ensures ok { IfOk result (λ page. HasTriedTable N.state index h page pass.old pass.new) }
+        ensures err { IfErr result (λ f. IsPageFault N.state.anchor index h f pass.old pass.new) }
+    {
+        try_table_on(&self.table, &self.host, &mut pass.seat, index, h)
+    }
+
+    /// Reads a page of the table at count `h`, under the lock.
+    fn table_locked<R: Wait>(
+        &self,
+        rt: &R,
+        pass: &mut Pass<N>,
+        index: u8,
+        h: u64,
+    ) -> Result<Page, LockedFault>
+        requires index { index ≤ N.state.cpus }
+        ensures time { OnOk result (HasTime N.state.anchor h) }
+        ensures ok { IfOk result (λ page. HasLockedTable N.state index h page pass.old pass.new) }
+        ensures err { IfErr result (λ f. IsLockedFault N.state.anchor h f pass.old pass.new) }
+    {
+        match self.host.check(h) {
+            Err(TimeFault::BeforeStart { start }) => return Err(LockedFault::BeforeStart { start }),
+            Err(TimeFault::OutOfRange { ns }) => return Err(LockedFault::OutOfRange { ns }),
+            Ok(()) => {}
+        }
+        match self.lock(rt).page(&self.table, pass, index, h) {
+            Ok(page) => Ok(page),
+            Err(front) => Err(LockedFault::Spent { front }),
+        }
+    }
+
+    /// Reads a page of the table at count `h`: once without the lock, and under it only where that met an update.
+    #[inline(always)]
+    fn read_table<R: Wait>(
+        &self,
+        rt: &R,
+        pass: &mut Pass<N>,
+        index: u8,
+        h: u64,
+    ) -> Result<Page, LockedFault>
+        requires index { index ≤ N.state.cpus }
+        ensures time { OnOk result (HasTime N.state.anchor h) }
+        ensures ok { IfOk result (λ page. HasReadTable N.state index h page pass.old pass.new) }
+        ensures err { IfErr result (λ f. IsReadFault N.state.anchor index h f pass.old pass.new) }
+    {
+        match self.try_table(pass, index, h) {
+            Ok(page) => Ok(page),
+            Err(PageFault::BeforeStart { start }) => Err(LockedFault::BeforeStart { start }),
+            Err(PageFault::OutOfRange { ns }) => Err(LockedFault::OutOfRange { ns }),
+            Err(PageFault::Again { .. }) => self.table_locked(rt, pass, index, h),
+        }
     }
 
     // It stands where it is called from, so that a caller who asks for the reading alone moves no page.
@@ -204,7 +283,10 @@ impl<N: Name> SharedBoard<N> {
         ensures ok { IfOk result (λ r. HasTriedPage N.state cpu h r pass.old pass.new) }
         ensures err { IfErr result (λ f. IsPageFault N.state.anchor cpu h f pass.old pass.new) }
     {
-        try_page_on(&self.table, &self.host, self.ratio, &mut pass.seat, cpu, h)
+        match self.try_table(pass, cpu, h) {
+            Ok(page) => Ok(answer_by(self.ratio, &page, h)),
+            Err(fault) => Err(fault),
+        }
     }
 
     /// Reads the clock by the page of `cpu` at count `h`, without the lock.
@@ -233,14 +315,9 @@ impl<N: Name> SharedBoard<N> {
         ensures ok { IfOk result (λ r. HasLockedPage N.state cpu h r pass.old pass.new) }
         ensures err { IfErr result (λ f. IsLockedFault N.state.anchor h f pass.old pass.new) }
     {
-        match self.host.check(h) {
-            Err(TimeFault::BeforeStart { start }) => return Err(LockedFault::BeforeStart { start }),
-            Err(TimeFault::OutOfRange { ns }) => return Err(LockedFault::OutOfRange { ns }),
-            Ok(()) => {}
-        }
-        match self.lock(rt).page(&self.table, pass, cpu, h) {
+        match self.table_locked(rt, pass, cpu, h) {
             Ok(page) => Ok(answer_by(self.ratio, &page, h)),
-            Err(front) => Err(LockedFault::Spent { front }),
+            Err(fault) => Err(fault),
         }
     }
 
@@ -264,6 +341,7 @@ impl<N: Name> SharedBoard<N> {
     }
 
     /// Reads the page of `cpu` at count `h`: once without the lock, and under it only where that met an update.
+    #[inline(always)]
     pub fn read_page<R: Wait>(
         &self,
         rt: &R,
@@ -276,38 +354,14 @@ impl<N: Name> SharedBoard<N> {
         ensures ok { IfOk result (λ r. HasReadPage N.state cpu h r pass.old pass.new) }
         ensures err { IfErr result (λ f. IsReadFault N.state.anchor cpu h f pass.old pass.new) }
     {
-        let mut lock = None;
-        self.read_page_with(rt, &mut lock, pass, cpu, h)
-    }
-
-    /// The same for a caller that may have the lock, in `lock`. It is kept there, so that others need not wait anew for
-    /// what stands behind the read, but where the page is read under it: it is given back then, and taken for that.
-    #[inline(always)]
-    pub fn read_page_with<'b, R: Wait>(
-        &'b self,
-        rt: &R,
-        lock: &mut Option<Holding<'b, N>>,
-        pass: &mut Pass<N>,
-        cpu: u8,
-        h: u64,
-    ) -> Result<PageReply, LockedFault>
-        requires cpu { cpu < N.state.cpus }
-        ensures time { OnOk result (HasTime N.state.anchor h) }
-        ensures ok { IfOk result (λ r. HasReadPage N.state cpu h r pass.old pass.new) }
-        ensures err { IfErr result (λ f. IsReadFault N.state.anchor cpu h f pass.old pass.new) }
-    {
-        match self.try_page(pass, cpu, h) {
-            Ok(read) => Ok(read),
-            Err(PageFault::BeforeStart { start }) => Err(LockedFault::BeforeStart { start }),
-            Err(PageFault::OutOfRange { ns }) => Err(LockedFault::OutOfRange { ns }),
-            Err(PageFault::Again { .. }) => {
-                *lock = None;
-                self.page_locked(rt, pass, cpu, h)
-            }
+        match self.read_table(rt, pass, cpu, h) {
+            Ok(page) => Ok(answer_by(self.ratio, &page, h)),
+            Err(fault) => Err(fault),
         }
     }
 
     /// Reads the clock by the page of `cpu` at count `h` in the same way.
+    #[inline(always)]
     pub fn read_clock<R: Wait>(
         &self,
         rt: &R,
@@ -320,27 +374,61 @@ impl<N: Name> SharedBoard<N> {
         ensures ok { IfOk result (λ r. HasReadClock N.state cpu h r pass.old pass.new) }
         ensures err { IfErr result (λ f. IsReadFault N.state.anchor cpu h f pass.old pass.new) }
     {
-        let mut lock = None;
-        self.read_clock_with(rt, &mut lock, pass, cpu, h)
+        match self.read_page(rt, pass, cpu, h) {
+            Ok(read) => Ok(self.clamp(pass, cpu, read)),
+            Err(fault) => Err(fault),
+        }
     }
 
-    /// The same for a caller that may have the lock, which is kept as [`SharedBoard::read_page_with`] keeps it.
+    /// Reads the reference page of Hyper-V at count `h`, without the lock.
     #[inline(always)]
-    pub fn read_clock_with<'b, R: Wait>(
-        &'b self,
-        rt: &R,
-        lock: &mut Option<Holding<'b, N>>,
-        pass: &mut Pass<N>,
-        cpu: u8,
-        h: u64,
-    ) -> Result<ClockReply, LockedFault>
-        requires cpu { cpu < N.state.cpus }
+    pub fn try_hv(&self, pass: &mut Pass<N>, h: u64) -> Result<HvReply, PageFault>
+        requires format { HV_FORMAT ≤ N.state.format }
         ensures time { OnOk result (HasTime N.state.anchor h) }
-        ensures ok { IfOk result (λ r. HasReadClock N.state cpu h r pass.old pass.new) }
-        ensures err { IfErr result (λ f. IsReadFault N.state.anchor cpu h f pass.old pass.new) }
+        ensures ok { IfOk result (λ r. HasTriedHv N.state h r pass.old pass.new) }
+        ensures err { IfErr result
+            (λ f. IsPageFault N.state.anchor N.state.cpus h f pass.old pass.new) }
     {
-        match self.read_page_with(rt, lock, pass, cpu, h) {
-            Ok(read) => Ok(self.clamp(pass, cpu, read)),
+        match self.try_table(pass, self.cpus, h) {
+            Ok(page) => Ok(hv_answer_by(self.ratio, &of_page(&page), h)),
+            Err(fault) => Err(fault),
+        }
+    }
+
+    /// Reads the reference page at count `h`, under the lock.
+    pub fn hv_locked<R: Wait>(
+        &self,
+        rt: &R,
+        pass: &mut Pass<N>,
+        h: u64,
+    ) -> Result<HvReply, LockedFault>
+        requires format { HV_FORMAT ≤ N.state.format }
+        ensures time { OnOk result (HasTime N.state.anchor h) }
+        ensures ok { IfOk result (λ r. HasLockedHv N.state h r pass.old pass.new) }
+        ensures err { IfErr result (λ f. IsLockedFault N.state.anchor h f pass.old pass.new) }
+    {
+        match self.table_locked(rt, pass, self.cpus, h) {
+            Ok(page) => Ok(hv_answer_by(self.ratio, &of_page(&page), h)),
+            Err(fault) => Err(fault),
+        }
+    }
+
+    /// Reads the reference page at count `h`: once without the lock, and under it only where that met an update.
+    #[inline(always)]
+    pub fn read_hv<R: Wait>(
+        &self,
+        rt: &R,
+        pass: &mut Pass<N>,
+        h: u64,
+    ) -> Result<HvReply, LockedFault>
+        requires format { HV_FORMAT ≤ N.state.format }
+        ensures time { OnOk result (HasTime N.state.anchor h) }
+        ensures ok { IfOk result (λ r. HasReadHv N.state h r pass.old pass.new) }
+        ensures err { IfErr result
+            (λ f. IsReadFault N.state.anchor N.state.cpus h f pass.old pass.new) }
+    {
+        match self.read_table(rt, pass, self.cpus, h) {
+            Ok(page) => Ok(hv_answer_by(self.ratio, &of_page(&page), h)),
             Err(fault) => Err(fault),
         }
     }

@@ -8,8 +8,7 @@ mod many;
 mod words;
 
 use super::*;
-use crate::held::no_reply;
-use board_core::{Access, BoardState, MSR_KVM_SYSTEM_TIME, Setup};
+use board_core::{Access, BoardState, MSR_KVM_SYSTEM_TIME, Reply, Setup};
 use board_io::OpenGate;
 use clock_table::{Blank, Name};
 use host_counter::Anchor;
@@ -247,8 +246,8 @@ fn held_twice<N: Name, R: Wait + Abort>(
 {
     let (board, mut passes) = shared::<N>(alloc, blank, &state, 1)?;
     let mut pass = passes.pop().ok_or("a pass")?;
-    let mut one = no_reply();
-    let mut two = no_reply();
+    let mut one = Reply::empty();
+    let mut two = Reply::empty();
     let mut holding = board.hold(rt);
     let first = holding.answer(rt, &OpenGate, &mut pass, 0, 5, Access::Step, &mut one);
     let second = holding.answer(rt, &OpenGate, &mut pass, 1, 5, ENABLE, &mut two);

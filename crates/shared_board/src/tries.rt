@@ -1,15 +1,14 @@
 //! Reads without the lock.
-ghost use Rattle.std.specs.Prelude.{◌≡◌, ◌<◌, IfOk, IfErr, OnOk};
+ghost use Rattle.std.specs.Prelude.{◌≡◌, ◌<◌, ◌≤◌, IfOk, IfErr, OnOk};
 ghost use Rattle.board_core.specs.Time.{HasTime};
 ghost use Rattle.clock_table.specs.Calls.{IsPass};
-ghost use Rattle.shared_board.specs.private.Tries.{HasHeard, HasMissed, HasAnswer, IsTryFault};
+ghost use Rattle.shared_board.specs.private.Tries.{HasHeard, HasMissed, IsTryFault};
 
 use crate::fault::PageFault;
 use crate::host::HostClock;
-use board_history::answer_by;
 use clock_table::{ClockSeat, ClockTable, Field, Name};
 use host_counter::TimeFault;
-use pvclock_page::{Page, PageReply, words_page};
+use pvclock_page::{Page, words_page};
 
 /// What the two loads of the version gave, where they met an update.
 #[derive(Clone, Copy)]
@@ -23,55 +22,54 @@ pub(crate) struct Update {
 fn read_words<N: Name>(
     table: &ClockTable<N>,
     seat: &mut ClockSeat<N>,
-    cpu: u8,
+    index: u8,
     h: u64,
 ) -> Result<Page, Update>
-    requires cpu { cpu < N.state.cpus }
+    requires index { index ≤ N.state.cpus }
     requires pass { IsPass seat.old }
-    ensures ok { IfOk result (λ page. HasHeard cpu h page seat.old seat.new) }
-    ensures err { IfErr result (λ u. HasMissed cpu u.first u.second seat.old seat.new) }
+    ensures ok { IfOk result (λ page. HasHeard N.state.cpus index h page seat.old seat.new) }
+    ensures err { IfErr result (λ u. HasMissed index u.first u.second seat.old seat.new) }
 {
-    let first = table.first(seat, cpu);
+    let first = table.first(seat, index);
     if first % 2 != 0 {
         return Err(Update {
             first,
             second: first,
         });
     }
-    let stamp = table.field(seat, cpu, Field::Stamp);
-    let system = table.field(seat, cpu, Field::System);
-    let scale = table.field(seat, cpu, Field::Scale);
-    let offset = table.field(seat, cpu, Field::Offset);
-    let second = table.second(seat, cpu, h);
+    let stamp = table.field(seat, index, Field::Stamp);
+    let system = table.field(seat, index, Field::System);
+    let scale = table.field(seat, index, Field::Scale);
+    let offset = table.field(seat, index, Field::Offset);
+    let second = table.second(seat, index, h);
     if second != first {
         return Err(Update { first, second });
     }
     Ok(words_page(&[first, stamp, system, scale, offset]))
 }
 
-/// Reads a page of a table at count `h`, without a lock. `ratio` is that of the guest's TSC to the host's counter.
+/// Reads a page of a table at count `h`, without a lock.
 #[inline(always)]
-pub(crate) fn try_page_on<N: Name>(
+pub(crate) fn try_table_on<N: Name>(
     table: &ClockTable<N>,
     host: &HostClock,
-    ratio: u64,
     seat: &mut ClockSeat<N>,
-    cpu: u8,
+    index: u8,
     h: u64,
-) -> Result<PageReply, PageFault>
-    requires cpu { cpu < N.state.cpus }
+) -> Result<Page, PageFault>
+    requires index { index ≤ N.state.cpus }
     requires pass { IsPass seat.old }
     ensures time { OnOk result (HasTime host.now.anchor h) }
-    ensures ok { IfOk result (λ reply. HasAnswer ratio cpu h reply seat.old seat.new) }
-    ensures err { IfErr result (λ f. IsTryFault host.now.anchor cpu h f seat.old seat.new) }
+    ensures ok { IfOk result (λ page. HasHeard N.state.cpus index h page seat.old seat.new) }
+    ensures err { IfErr result (λ f. IsTryFault host.now.anchor index h f seat.old seat.new) }
 {
     match host.check(h) {
         Err(TimeFault::BeforeStart { start }) => return Err(PageFault::BeforeStart { start }),
         Err(TimeFault::OutOfRange { ns }) => return Err(PageFault::OutOfRange { ns }),
         Ok(()) => {}
     }
-    match read_words(table, seat, cpu, h) {
-        Ok(page) => Ok(answer_by(ratio, &page, h)),
+    match read_words(table, seat, index, h) {
+        Ok(page) => Ok(page),
         Err(Update { first, second }) => Err(PageFault::Again { first, second }),
     }
 }

@@ -25,5 +25,5 @@ mod tests;
 
 pub use history::Event;
 pub use line::{Acked, TickLine};
-pub use parts::{Counts, Policy, TickField, TickParts};
+pub use parts::{Counts, Policy, TickField, TickParts, lost_valid, queue_valid};
 pub use stretch::run_line;

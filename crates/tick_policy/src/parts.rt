@@ -100,14 +100,14 @@ fn is_kept(policy: Policy) -> bool
 }
 
 /// Whether no tick waits under `Discard`.
-fn queue_valid(line: &TickParts) -> bool
+pub fn queue_valid(line: &TickParts) -> bool
     ensures { result ≡ queue_valid line.now }
 {
     is_kept(line.policy) || line.counts.queue == 0
 }
 
 /// Whether each due tick was shown, waits or is lost, and none is lost under `Delay` and `Slew`.
-fn lost_valid(line: &TickParts) -> bool
+pub fn lost_valid(line: &TickParts) -> bool
     ensures { result ≡ lost_valid line.now }
 {
     let Counts {

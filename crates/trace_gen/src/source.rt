@@ -1,5 +1,8 @@
 //! Generated traces as sources.
-ghost use Rattle.std.specs.Prelude.{◌≡◌, ◌<◌, ◌≤◌, Some, false};
+ghost use Rattle.std.specs.Prelude.{◌≡◌, ◌<◌, ◌≤◌, ◌||◌, Some, false, length, min};
+ghost use Rattle.std.specs.Prelude.{IfOk, OnOk, IsOk, IsErr};
+ghost use Rattle.std.specs.Io.KnownBytes.{ReadConsumes};
+ghost use Rattle.board_io.specs.Faults.{AddsGiven, gave_nothing, most_given};
 ghost use Rattle.trace_gen.specs.Text.{gen_text};
 ghost use Rattle.trace_gen.specs.declared.generator.TheConstants.{RECORDS_MAX, CPUS_MAX};
 
@@ -72,7 +75,19 @@ impl Source for GenSource {
     ghost faults = { λ _. 0 };
 
     /// Puts the next bytes at the front of `into`, as many as there are places, and answers how many. It never fails.
-    fn take(&mut self, into: &mut [u8]) -> Result<usize, Failed> {
+    fn take(&mut self, into: &mut [u8]) -> Result<usize, Failed>
+        requires { 0 < length into.old }
+        ensures bound { IfOk result (λ n. n ≤ length into.new) }
+        ensures bytes { ReadConsumes (Some self.old.left) (Some self.new.left) result into.new }
+        ensures given { AddsGiven self.old.given self.new.given result }
+        ensures before { self.new.before ≡ self.old.given }
+        ensures done { self.new.done ≡ (self.old.done || gave_nothing result) }
+        ensures late { self.new.late ≡ (self.old.late || self.old.done) }
+        ensures limit { OnOk result (self.new.given ≤ most_given) }
+        ensures spent { self.old.given ≡ most_given → IsErr result }
+        ensures piece { IfOk result (λ n. n ≡ min (length into.old) (length self.old.left)) }
+        ensures never { IsOk result }
+    {
         self.before = self.given;
         self.late = self.late || self.done;
         let n = self.generator.fill(into);

@@ -7,7 +7,7 @@ use Rattle.trace_loop.specs.Text.{source_fault_text, memory_fault_text}
 use Rattle.trace_loop.specs.Progress.{Closing, Answer, Progress, printed, end_of, state_behind, standing, opened, behind, finished}
 use Rattle.trace_loop.specs.Cut.{Cut, IsLine, IsWhole}
 use Rattle.trace_loop.specs.Outcome.{Begins, run_of, Outcome, Said}
-use Rattle.trace_loop.specs.Going.{BothEnds, IsAsked, Stands, IsGoing, IsOver}
+use Rattle.trace_loop.specs.private.Going.{BothEnds, IsAsked, Stands, IsGoing, IsOver}
 use Rattle.trace_loop.specs.declared.ended.Ended.{Ended}
 use Rattle.trace_loop.specs.declared.ended.Ended.TheVariants as statuses
 use Rattle.trace_loop.specs.declared.feed.Feed.{Feed}

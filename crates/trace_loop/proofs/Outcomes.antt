@@ -59,7 +59,7 @@ use Rattle.trace_loop.specs.Progress.{
 }
 use Rattle.trace_loop.specs.Cut.{Cut, IsLine, IsWhole}
 use Rattle.trace_loop.specs.Outcome.{Begins, Run, run_of, IsText, IsSourceFault, IsMemoryFault, Outcome, Said}
-use Rattle.trace_loop.specs.Going.{IsAsked, Stands}
+use Rattle.trace_loop.specs.private.Going.{IsAsked, Stands}
 use Rattle.trace_loop.specs.declared.ended.Ended.{Ended}
 use Rattle.trace_loop.specs.declared.ended.Ended.TheVariants as statuses
 use Rattle.trace_loop.proofs.Progresses.{behind-++, behind-bytes, behind-line, behind-excess, replay-starts, replay-ended, finished-behind}

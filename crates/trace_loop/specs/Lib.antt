@@ -4,4 +4,4 @@ pub mod ByLines
 pub mod Outcome
 pub mod Cut
 pub mod Found
-pub mod Going
+pub mod private

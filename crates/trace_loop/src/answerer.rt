@@ -44,12 +44,6 @@ pub trait Answerer<E: Drop> {
         ensures printed { OnOk result
             (out.new.items ≡ out.old.items ++ (closing line self.old).text) }
         ensures ends { IfOk result (λ end. end ≡ (closing line self.old).end) };
-
-    /// Whether the run is to pause behind the line that was answered last, so that another may answer the next.
-    #[inline(always)]
-    fn pauses(&self) -> bool {
-        false
-    }
 }
 
 /// Answers a line: appends its block, and puts into `end` how it ends the trace, if it does. After an `Err` the text is

@@ -10,12 +10,3 @@ pub enum Ended<E> {
     /// Memory ran out.
     NoMemory,
 }
-
-/// How a stretch of a run over lines ends.
-#[derive(Debug, Drop, PartialEq, Eq)]
-pub enum Turn<E> {
-    /// The run is over.
-    Ended(Ended<E>),
-    /// What answers the lines asked for a pause behind the line that it answered last.
-    Paused,
-}

@@ -13,8 +13,7 @@ mod output;
 mod program;
 
 pub use answerer::Answerer;
-pub use ended::{Ended, Turn};
-pub use feed::Feed;
+pub use ended::Ended;
 pub use lines::limit_of;
 pub use output::{put_all, say, say_each};
-pub use program::{MEMORY_FAULT, answer_lines, go_on, run_out};
+pub use program::{MEMORY_FAULT, answer_lines};

@@ -24,10 +24,10 @@ ghost use Rattle.board_io.specs.Faults.{Rose};
 ghost use Rattle.trace_loop.specs.Text.{memory_fault_text};
 ghost use Rattle.trace_loop.specs.Progress.{opened, standing, behind, finished};
 ghost use Rattle.trace_loop.specs.Outcome.{run_of, Outcome, Said};
-ghost use Rattle.trace_loop.specs.Going.{IsFed, OnPaused, IfEnded, StillGoes, RunEnds, ends_of};
+ghost use Rattle.trace_loop.specs.private.Going.{RunEnds, ends_of};
 
 use crate::answerer::{Answerer, answer_line};
-use crate::ended::{Ended, Turn};
+use crate::ended::Ended;
 use crate::feed::Feed;
 use crate::lines::Lines;
 use crate::output::{put_all, say};
@@ -68,37 +68,24 @@ pub fn answer_lines<E: Drop, T: Answerer<E>, S: Source, K: Sink>(
     ensures sink_well { result ≢ Ended.SinkFault → K.faults sink.new ≡ K.faults sink.old }
 {
     let mut feed = Feed::new(alloc);
-    loop {
-        match go_on(&mut feed, answerer, source, sink) {
-            Turn::Ended(ended) => return ended,
-            Turn::Paused => {}
-        }
-    }
+    answer_fed(&mut feed, answerer, source, sink)
 }
 
-/// Goes on with a run over lines up to its end, or to the next pause that the answerer asks for; then another answerer
-/// may go on where this one stopped. The run may have begun with any answerer whose lines do the same.
-pub fn go_on<E: Drop, T: Answerer<E>, S: Source, K: Sink>(
+/// The same, with a feed that holds nothing yet.
+fn answer_fed<E: Drop, T: Answerer<E>, S: Source, K: Sink>(
     feed: &mut Feed,
     answerer: &mut T,
     source: &mut S,
     sink: &mut K,
-) -> Turn<E>
-    requires may { T.may (feed.old.lines.number + 1) answerer.old }
-    requires fed { IsFed feed.old (S.given source.old) }
-    ensures may { OnPaused result (T.may (feed.new.lines.number + 1) answerer.new) }
-    ensures fed { OnPaused result (IsFed feed.new (S.given source.new)) }
-    ensures more { OnPaused result (feed.old.lines.number < feed.new.lines.number) }
-    ensures going { OnPaused result (StillGoes T.answer
-        answerer.old feed.old (ends_of S.remaining S.given S.before S.faults S.done S.late
-        K.contents K.faults source.old sink.old)
-        answerer.new feed.new (ends_of S.remaining S.given S.before S.faults S.done S.late
-        K.contents K.faults source.new sink.new)) }
-    ensures over { IfEnded result (RunEnds T.answer T.closing
-        answerer.old feed.old (ends_of S.remaining S.given S.before S.faults S.done S.late
+) -> Ended<E>
+    requires may { T.may 1 answerer.old }
+    requires lines { feed.old.lines ≡ record { number = 0; line = []; text = []; left = [] } }
+    requires out { feed.old.out.items ≡ [] }
+    ensures { RunEnds T.answer T.closing answerer.old
+        (ends_of S.remaining S.given S.before S.faults S.done S.late
         K.contents K.faults source.old sink.old)
         (ends_of S.remaining S.given S.before S.faults S.done S.late
-        K.contents K.faults source.new sink.new)) }
+        K.contents K.faults source.new sink.new) result }
 {
     'lines: loop {
         match feed.lines.advance() {
@@ -113,60 +100,30 @@ pub fn go_on<E: Drop, T: Answerer<E>, S: Source, K: Sink>(
                     &mut end,
                 ) {
                     Ok(()) => match end {
-                        None => {
-                            if answerer.pauses() {
-                                return Turn::Paused;
-                            }
-                        }
+                        None => {}
                         Some(end) => {
-                            let ended = Ended::By(end);
-                            return Turn::Ended(say(sink, &feed.out, ended, Ended::SinkFault));
+                            return say(sink, &feed.out, Ended::By(end), Ended::SinkFault);
                         }
                     },
-                    Err(NoMemory) => return Turn::Ended(want_memory(sink, &feed.out)),
+                    Err(NoMemory) => return want_memory(sink, &feed.out),
                 }
             }
             Ok(false) => {
                 if put_all(sink, &feed.out).is_err() {
-                    return Turn::Ended(Ended::SinkFault);
+                    return Ended::SinkFault;
                 }
                 feed.out.clear();
                 match feed.lines.refill(source) {
-                    Ok(0) => {
-                        return Turn::Ended(end_input(answerer, &feed.lines, &mut feed.out, sink));
-                    }
+                    Ok(0) => return end_input(answerer, &feed.lines, &mut feed.out, sink),
                     Ok(_) => {}
                     Err(Failed) => {
-                        return Turn::Ended(say(
-                            sink,
-                            SOURCE_FAULT,
-                            Ended::SourceFault,
-                            Ended::SinkFault,
-                        ));
+                        return say(sink, SOURCE_FAULT, Ended::SourceFault, Ended::SinkFault);
                     }
                 }
             }
-            Err(NoMemory) => return Turn::Ended(want_memory(sink, &feed.out)),
+            Err(NoMemory) => return want_memory(sink, &feed.out),
         }
     }
-}
-
-/// Ends a run that memory runs out for at a pause: writes what was answered, and then says so. The answerer and the
-/// source are those of the run, and stay as they are.
-pub fn run_out<E: Drop, T: Answerer<E>, S: Source, K: Sink>(
-    feed: &Feed,
-    _answerer: &T,
-    _source: &S,
-    sink: &mut K,
-) -> Ended<E>
-    requires { 0 < feed.now.lines.number }
-    ensures { RunEnds T.answer T.closing
-        _answerer.now feed.now (ends_of S.remaining S.given S.before S.faults S.done S.late
-        K.contents K.faults _source.now sink.old)
-        (ends_of S.remaining S.given S.before S.faults S.done S.late
-        K.contents K.faults _source.now sink.new) result }
-{
-    want_memory(sink, &feed.out)
 }
 
 /// Answers the end of the input.

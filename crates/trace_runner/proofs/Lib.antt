@@ -1,4 +1,4 @@
-pub mod Asked
+pub mod Alone
 pub mod CheckQuiet
 pub mod CheckReady
 mod CheckRows
@@ -16,6 +16,6 @@ mod Sayings
 mod SoakRows
 pub mod Soaks
 pub mod Sounds
-pub mod Started
 pub mod Statuses
+pub mod Together
 pub mod WholeLines

@@ -1,5 +1,5 @@
 -- What a race leaves, by how its check ends.
-use Rattle.std.proofs.Common.{◌≡◌, ℕ, Bool, List, [], Option, None, inl, inr, sym, subst, ◌∙◌}
+use Rattle.std.proofs.Common.{◌≡◌, ℕ, Bool, List, [], Option, None, inl, inr, sym, ap, subst, ◌∙◌}
 use Rattle.std.specs.Io.KnownBytes.{Appends}
 use Rattle.std.proofs.KnownBytes.{Appends-trans}
 use Rattle.trace_loop.specs.Progress.{opened, behind}
@@ -27,16 +27,19 @@ use Rattle.trace_runner.specs.Check.{
   check_behind,
   check,
 }
-use Rattle.trace_runner.specs.Race.{CheckedLeaves, RaceLeaves, check_run}
-use Rattle.trace_runner.specs.Said.{Said}
+use Rattle.trace_runner.specs.FileText.{file_text}
+use Rattle.trace_runner.specs.Race.{CheckedLeaves, RaceLeaves, CheckFails, AloneLeaves, check_run}
+use Rattle.trace_runner.specs.Replay.{replay}
+use Rattle.trace_runner.specs.Said.{Said, SaidAtMost}
 use Rattle.trace_runner.specs.Status.{verdict_status}
 use Rattle.trace_runner.specs.Trace.{TraceRead}
 use Rattle.trace_runner.specs.declared.check.Checked.{Checked}
 use Rattle.trace_runner.specs.declared.check.Checked.TheVariants.{Whole, Stopped}
 use Rattle.trace_runner.specs.declared.status.Status.{Status}
-use Rattle.trace_runner.specs.declared.status.Status.TheVariants.{SourceFault, SinkFault}
+use Rattle.trace_runner.specs.declared.status.Status.TheVariants.{Ok, SourceFault, SinkFault, NoMemory}
 use Rattle.trace_runner.specs.declared.status.Verdict.{Verdict}
 use Rattle.trace_runner.specs.declared.status.Verdict.TheVariants.{Done, Stopped as StoppedAt}
+use Rattle.trace_runner.proofs.Together.{replay_whole}
 
 -- a text that is put behind nothing
 said_behind : (status result : Status) (old mid new : Option (List ℕ)) (text : List ℕ) (shown shown' : Type 0) → (shown → shown') → Appends old mid []
@@ -57,6 +60,38 @@ whole_left w t result old mid new shown shown' silent shows o left =
       | inr memory ↦ inr (said_behind _ result old mid new _ shown shown' shows front memory)
     ] in
     inl (o.1.1.1, subst (λ (x : Checked). CheckedLeaves x w.whole.text result old new shown') o.0 there)
+
+-- .. and prints what its replay prints, where the text of file order was written
+pub alone_left : (w : Run Checking Checked) (shows_state : Bool) (input : List ℕ) (t u : TraceRead) (result : Status) (old mid new : Option (List ℕ))
+    (shown shown' : Type 0) → (w.whole.end ≡ Whole t → w.whole.text ≡ []) → w.whole.end ≡ (check shows_state input).end → (shown → shown')
+    → Outcome w (By (Whole t)) old mid → (check shows_state input).end ≡ Whole u → u.opening.cpus ≡ 1
+    → (t.opening.cpus ≡ 1 → SaidAtMost Ok result mid new (file_text t) shown) → AloneLeaves w (replay shows_state input) result old new shown'
+alone_left w shows_state input t u result old mid new shown shown' silent same shows o is one said =
+    let front : Appends old mid [] = subst (λ (text : List ℕ). Appends old mid text) (o.1.1.0 ∙ silent (sym o.0)) o.1.2 in
+    let trace : t ≡ u = whole_same t u (o.0 ∙ same ∙ is) in
+    let prints = replay_whole shows_state input u is in
+    let there : SaidAtMost Ok result mid new (file_text t) shown = said (subst (λ (x : TraceRead). x.opening.cpus ≡ 1) (sym trace) one) in
+    let text : file_text t ≡ (replay shows_state input).text = ap file_text trace ∙ sym prints.1 in
+    inl (
+      o.1.1.1,
+      elim there [
+        | inl all ↦ inl (subst (λ (v : Verdict). Said (verdict_status v) result old new (replay shows_state input).text shown') (sym prints.0)
+            (subst (λ (x : List ℕ). Said Ok result old new x shown') text (said_behind Ok result old mid new (file_text t) shown shown' shows front all)))
+        | inr memory ↦ inr (said_behind NoMemory result old mid new _ shown shown' shows front memory)
+      ],
+    )
+  where
+    whole_same : (x y : TraceRead) → (let a : Checked = Whole x in let b : Checked = Whole y in a ≡ b) → x ≡ y
+    whole_same x y e = cc
+
+-- a check that stopped came to no whole trace
+pub stopped_alone : (w : Run Checking Checked) (shows_state : Bool) (input : List ℕ) (v : Verdict) (u : TraceRead) (result : Status)
+    (old mid new : Option (List ℕ)) (shown : Type 0) → w.whole.end ≡ (check shows_state input).end → Outcome w (By (Stopped v)) old mid
+    → (check shows_state input).end ≡ Whole u → AloneLeaves w (replay shows_state input) result old new shown
+stopped_alone w shows_state input v u result old mid new shown same o is = absurd (no_whole (o.0 ∙ same ∙ is))
+  where
+    no_whole : (let a : Checked = Stopped v in let b : Checked = Whole u in a ≡ b) → ⊥
+    no_whole e = cc
 
 -- a line was refused
 pub stopped_left : (w : Run Checking Checked) (v : Verdict) (result : Status) (old new : Option (List ℕ)) (shown : Type 0) → result ≡ verdict_status v

@@ -195,7 +195,7 @@ unfolding published_below published_at_host
 published-format b khz start gap zero m = refl
 published-format b khz start gap (suc n) m = published-format b khz start gap n m
 
-moved-cpus : (khz start gap : ℕ) (b : BoardParts) → (moved_to khz start gap b).cpus ≡ b.cpus
+pub moved-cpus : (khz start gap : ℕ) (b : BoardParts) → (moved_to khz start gap b).cpus ≡ b.cpus
 unfolding moved_to reanchored
 moved-cpus khz start gap b = published_below-cpus b khz start gap b.cpus (reanchored khz start gap b)
 

@@ -51,6 +51,7 @@ clock-tally b t page h x = record {
   host = x.host;
   accesses = x.accesses;
   wall_version = x.wall_version;
+  hv_version = x.hv_version;
   versions = x.versions;
   places = x.places;
   own = x.own;

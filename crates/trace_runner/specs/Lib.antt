@@ -2,9 +2,9 @@ pub mod Check
 pub mod Checking
 pub mod Counted
 pub mod Deliveries
+pub mod FileText
 pub mod Free
 pub mod Race
-pub mod Opened
 pub mod Ready
 pub mod Records
 pub mod Replay

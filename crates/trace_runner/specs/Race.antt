@@ -3,6 +3,7 @@ use Rattle.std.specs.Prelude.{◌≡◌, ℕ, Bool, List, ◌++◌, take, Option
 use Rattle.std.specs.Io.KnownBytes.{Appends}
 use Rattle.board_types.specs.declared.parts.BoardParts.{BoardParts}
 use Rattle.trace_loop.specs.Text.{memory_fault_text}
+use Rattle.trace_loop.specs.Progress.{Closing}
 use Rattle.trace_loop.specs.Outcome.{Run, Outcome}
 use Rattle.trace_loop.specs.declared.ended.Ended.TheVariants.{
   SourceFault as FailsSource,
@@ -14,7 +15,7 @@ use Rattle.race_phase.specs.Phases.{race_text}
 use Rattle.trace_runner.specs.Check.{check_behind, check}
 use Rattle.trace_runner.specs.Checking.{Checking}
 use Rattle.trace_runner.specs.Replay.{ended}
-use Rattle.trace_runner.specs.Said.{Said}
+use Rattle.trace_runner.specs.Said.{Said, SaidAtMost}
 use Rattle.trace_runner.specs.Status.{verdict_status}
 use Rattle.trace_runner.specs.Trace.{phases_read, TraceRead}
 use Rattle.trace_runner.specs.declared.check.Checked.{Checked}
@@ -26,6 +27,7 @@ use Rattle.trace_runner.specs.declared.status.Status.TheVariants.{
   SinkFault,
   NoMemory,
 }
+use Rattle.trace_runner.specs.declared.status.Verdict.{Verdict}
 
 -- the run of a check over an input, of which so many bytes were given, and so many before the last
 -- call
@@ -70,4 +72,13 @@ abbrev pub RaceLeaves : Run Checking Checked → Status → Option (List ℕ) �
     → Type 0
 RaceLeaves w status old new shown =
     ((w.faults_now ≡ w.faults) × CheckedLeaves w.whole.end w.whole.text status old new shown)
+    ⊎ CheckFails w status old new
+
+-- and where the check came to its end so, and the trace has one processor: what a replay that ends
+-- so prints
+abbrev pub AloneLeaves : Run Checking Checked → Closing Verdict → Status → Option (List ℕ)
+    → Option (List ℕ) → Type 0 → Type 0
+AloneLeaves w closing status old new shown =
+    ((w.faults_now ≡ w.faults)
+    × SaidAtMost (verdict_status closing.end) status old new closing.text shown)
     ⊎ CheckFails w status old new

@@ -14,13 +14,13 @@ use Rattle.std.specs.Prelude.{
   if◌then◌else◌,
 }
 use Rattle.board_types.specs.declared.setup.Setup.{Setup}
+use Rattle.board_types.specs.Setup.{setup_by_default}
 use Rattle.board_types.specs.declared.parts.BoardParts.{BoardParts}
 use Rattle.board_devices.specs.Lines.{levels}
 use Rattle.board_core.specs.Time.{devices_in, now_of}
 use Rattle.board_core.specs.PowerOn.{board_at_power_on}
 use Rattle.save_state.specs.Writing.{bytes_of}
 use Rattle.reply_text.specs.Text.{final_text, state_text}
-use Rattle.tick_policy.specs.declared.parts.Policy.TheVariants.{Delay}
 use Rattle.trace_text.specs.Lines.{at_start as reading_at_start, taken, behind, end_fault}
 use Rattle.trace_text.specs.declared.faults.RecordFault.{RecordFault}
 use Rattle.trace_text.specs.declared.header.Begin.{Begin}
@@ -52,19 +52,7 @@ board_of (Saved board) = board
 
 -- before the first line; the board is one that no line asks
 abbrev pub opening : Setup
-opening = record {
-  format = 1;
-  anchor = record { khz = 1000000; start = 0; base_ns = 0 };
-  guest_khz = 1000000;
-  cpus = 1;
-  pit = Delay;
-  rtc = Delay;
-  hpet = Delay;
-  slew_ns = 1000000;
-  wall_sec = 0;
-  wall_nsec = 0;
-  time = record { sec = 0; min = 0; hour = 0; wday = 1; date = 1; month = 1; year = 0 };
-}
+opening = setup_by_default 1
 
 abbrev pub at_start : Bool → Replay
 at_start shows_state = record {

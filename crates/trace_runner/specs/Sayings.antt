@@ -46,6 +46,6 @@ saying_of (Replay shows_state) = None
 saying_of (Race shows_state) = None
 saying_of (Gen size) = Some (generated size)
 saying_of (Soak size) = Some (summed size)
-saying_of Help = Some (record { status = Ok; text = help_text })
+saying_of (Help page) = Some (record { status = Ok; text = help_text page })
 saying_of Version = Some (record { status = Ok; text = version_text })
 saying_of Unknown = Some usage

@@ -1,16 +1,17 @@
-//! A board with the reply into which its accesses are answered.
+//! A board with the places into which its accesses are answered.
 ghost use Rattle.std.specs.Prelude.{◌≡◌};
 
-use board_core::{BoardState, Reply, Value};
+use board_core::{BoardState, Value};
 use irq_edges::EdgeList;
 use std::marker::Model;
 
-/// A board, and a reply for its accesses, which is kept from one to the next: a new list of edges has all its places
-/// cleared. What stands in it between two accesses means nothing.
+/// A board, and places for the value and the edges of its accesses, which are kept from one to the next: a new list of
+/// edges has all its places cleared. What stands in them between two accesses means nothing.
 #[derive(Drop)]
 pub(crate) struct KeptBoard {
     pub(crate) state: BoardState,
-    pub(crate) reply: Reply,
+    pub(crate) value: Value,
+    pub(crate) edges: EdgeList,
 }
 
 impl Model for KeptBoard {
@@ -22,17 +23,14 @@ impl Model for KeptBoard {
 }
 
 impl KeptBoard {
-    /// A board with an empty reply.
+    /// A board that was asked nothing yet.
     pub(crate) fn new(state: BoardState) -> KeptBoard
         ensures { result ≡ state }
     {
         KeptBoard {
             state,
-            reply: Reply {
-                number: 0,
-                value: Value::Nothing,
-                edges: EdgeList::new(),
-            },
+            value: Value::Nothing,
+            edges: EdgeList::new(),
         }
     }
 

@@ -38,17 +38,13 @@
 //! ```
 #![tactic(auto)]
 
-mod board;
 mod check;
 mod checker;
 mod counting;
 mod deliveries;
 mod generate;
-mod heading;
-mod job;
 mod kept;
 mod moves;
-mod opened;
 mod program;
 mod race;
 mod records;

@@ -26,23 +26,25 @@ ghost use Rattle.trace_runner.specs.Sayings.{
   saying_of,
 };
 ghost use Rattle.trace_runner.specs.Status.{Shown};
-ghost use Rattle.trace_runner.specs.Replay.{progress_behind, replay_run};
-ghost use Rattle.trace_runner.specs.Check.{check_behind};
-ghost use Rattle.trace_runner.specs.Race.{RaceLeaves, check_run};
+ghost use Rattle.trace_runner.specs.Replay.{progress_behind, replay, replay_run};
+ghost use Rattle.trace_runner.specs.Check.{check_behind, check};
+ghost use Rattle.trace_runner.specs.Race.{RaceLeaves, AloneLeaves, check_run};
+ghost use Rattle.trace_runner.specs.Trace.{TraceRead};
+ghost use Rattle.trace_runner.specs.declared.check.Checked.TheVariants.{Whole};
 ghost use Rattle.trace_runner.specs.WholeLines.{IsWholeLines};
 
 use crate::generate::generate;
-use crate::job::replay_trace;
 use crate::race::race;
+use crate::replay::Replay;
 use crate::soak::run_soak;
 use crate::status::{Status, status_of};
-use crate::texts::{HELP, USAGE, VERSION};
+use crate::texts::{USAGE, VERSION, help};
 use board_io::{Gate, Sink, Source};
 use command_line::{Command, command_of};
 use std::alloc::Global;
 use std::sync::Wait;
 use std::thread::Threads;
-use trace_loop::{MEMORY_FAULT, say};
+use trace_loop::{MEMORY_FAULT, answer_lines, say};
 
 /// Runs the program on its words (those behind its name): the job `replay` reads a trace from `source`, and writes
 /// what it answers to `sink`, in pieces as large as the source's.
@@ -52,7 +54,8 @@ use trace_loop::{MEMORY_FAULT, say};
 ///
 /// The job `race` reads and checks the whole trace first, and writes nothing but the line that is refused. Then each of
 /// its phases, which a save or a move ends, runs on one thread a processor, which `rt` starts; `gate` is called around
-/// each record. What a phase prints is put in the order of the processors.
+/// each record. What a phase prints is put in the order of the processors: with one processor that is what the job
+/// `replay` prints.
 ///
 /// # Statuses
 ///
@@ -110,6 +113,19 @@ pub fn run<R: Threads + Wait + Sync, S: Source, K: Sink, G: Gate + Sync>(
         → ((check_behind shows_state
         (take (S.before source.new - S.given source.old) input)).end ≡ None)
         ⊎ (source.new ≡ source.old) }
+    // .. which prints what its replay prints where it has one processor, and no line is refused
+    ensures race_alone { (shows_state : Bool)
+        → command_of (map string_bytes words.now) ≡ RaceOf shows_state
+        → (input : List ℕ) → S.remaining source.old ≡ Some input
+        → (trace : TraceRead) → (check shows_state input).end ≡ Whole trace
+        → trace.opening.cpus ≡ 1
+        → AloneLeaves (check_run shows_state input (S.before source.new - S.given source.old)
+        (S.given source.new - S.given source.old) (S.faults source.old) (S.faults source.new))
+        (replay shows_state input) result (K.contents sink.old) (K.contents sink.new)
+        (Rose (K.faults sink.old) (K.faults sink.new))
+        ⊎ (Said Status.NoMemory result (K.contents sink.old) (K.contents sink.new)
+        memory_fault_text (Rose (K.faults sink.old) (K.faults sink.new))
+        × (source.new ≡ source.old)) }
     // what stands before the word of a fault: whole lines in a replay, nothing in a race
     ensures whole_lines { (shows_state : Bool) → (bytes : List ℕ)
         → IsWholeLines (progress_behind shows_state bytes).printed }
@@ -134,7 +150,8 @@ pub fn run<R: Threads + Wait + Sync, S: Source, K: Sink, G: Gate + Sync>(
 {
     match command_of(alloc, words) {
         Ok(Command::Replay { shows_state }) => {
-            status_of(replay_trace(rt, alloc, gate, shows_state, source, sink))
+            let mut replay = Replay::new(shows_state);
+            status_of(answer_lines(alloc, &mut replay, source, sink))
         }
         Ok(Command::Race { shows_state }) => race(rt, alloc, gate, shows_state, source, sink),
         Ok(command) => tell(alloc, command, sink),
@@ -157,7 +174,7 @@ fn tell<K: Sink>(alloc: Global, command: Command, sink: &mut K) -> Status
     match command {
         Command::Gen(size) => generate(size, sink),
         Command::Soak(size) => run_soak(alloc, size, sink),
-        Command::Help => say(sink, HELP, Status::Ok, Status::SinkFault),
+        Command::Help(page) => say(sink, help(page), Status::Ok, Status::SinkFault),
         Command::Version => say(sink, VERSION, Status::Ok, Status::SinkFault),
         Command::Unknown | Command::Replay { .. } | Command::Race { .. } => say(
             sink,

@@ -2,8 +2,18 @@
 ghost use Rattle.std.specs.Prelude.{◌≡◌, ◌≢◌, ℕ, ◌-◌, List, Some, None, false, take, [], IfOk};
 ghost use Rattle.board_io.specs.Faults.{Rose};
 ghost use Rattle.trace_loop.specs.Text.{memory_fault_text};
-ghost use Rattle.trace_runner.specs.Check.{check_behind};
-ghost use Rattle.trace_runner.specs.Race.{RacePrints, CheckedLeaves, RaceLeaves, check_run};
+ghost use Rattle.trace_runner.specs.Check.{check_behind, check};
+ghost use Rattle.trace_runner.specs.FileText.{file_text};
+ghost use Rattle.trace_runner.specs.Race.{
+  RacePrints,
+  CheckedLeaves,
+  RaceLeaves,
+  AloneLeaves,
+  check_run,
+};
+ghost use Rattle.trace_runner.specs.Replay.{replay};
+ghost use Rattle.trace_runner.specs.Said.{SaidAtMost};
+ghost use Rattle.trace_runner.specs.Trace.{TraceRead};
 ghost use Rattle.trace_runner.specs.Status.{verdict_status};
 
 use crate::check::Checked;
@@ -20,7 +30,8 @@ use std::thread::Threads;
 use trace_loop::{Ended, MEMORY_FAULT, answer_lines, say, say_each};
 
 /// Reads a trace whole and checks it in file order, then runs each of its phases by one thread a processor, and writes
-/// what they answer. A line that is refused is written alone.
+/// what they answer. A line that is refused is written alone. A trace of one processor, of which no line is refused, prints
+/// what its replay prints.
 pub(crate) fn race<R: Threads + Wait + Sync, S: Source, K: Sink, G: Gate + Sync>(
     rt: &R,
     alloc: Global,
@@ -33,6 +44,13 @@ pub(crate) fn race<R: Threads + Wait + Sync, S: Source, K: Sink, G: Gate + Sync>
         → RaceLeaves (check_run shows_state input (S.before source.new - S.given source.old)
         (S.given source.new - S.given source.old) (S.faults source.old) (S.faults source.new))
         result (K.contents sink.old) (K.contents sink.new)
+        (Rose (K.faults sink.old) (K.faults sink.new)) }
+    ensures alone { (input : List ℕ) → S.remaining source.old ≡ Some input
+        → (trace : TraceRead) → (check shows_state input).end ≡ Checked.Whole trace
+        → trace.opening.cpus ≡ 1
+        → AloneLeaves (check_run shows_state input (S.before source.new - S.given source.old)
+        (S.given source.new - S.given source.old) (S.faults source.old) (S.faults source.new))
+        (replay shows_state input) result (K.contents sink.old) (K.contents sink.new)
         (Rose (K.faults sink.old) (K.faults sink.new)) }
     ensures stopped { (input : List ℕ) → S.remaining source.old ≡ Some input
         → (check_behind shows_state
@@ -67,11 +85,15 @@ fn write<R: Threads + Wait + Sync, K: Sink, G: Gate + Sync>(
 ) -> Status
     ensures said { CheckedLeaves (Checked.Whole trace.now) [] result (K.contents sink.old)
         (K.contents sink.new) (Rose (K.faults sink.old) (K.faults sink.new)) }
+    ensures alone { trace.now.opening.cpus ≡ 1 → SaidAtMost Status.Ok result
+        (K.contents sink.old) (K.contents sink.new) (file_text trace.now)
+        (Rose (K.faults sink.old) (K.faults sink.new)) }
     ensures source { result ≢ Status.SourceFault }
     ensures sink_fault { result ≡ Status.SinkFault
         → Rose (K.faults sink.old) (K.faults sink.new) }
     ensures sink_well { result ≢ Status.SinkFault → K.faults sink.new ≡ K.faults sink.old }
 {
+    let _ = &trace.phases;
     match text_of(rt, alloc, gate, trace) {
         Ok(text) => say_each(sink, text.pieces(), Status::Ok, Status::SinkFault),
         Err(NoMemory) => say(sink, MEMORY_FAULT, Status::NoMemory, Status::SinkFault),

@@ -4,24 +4,19 @@ ghost use Rattle.std.specs.Io.{StartsWith};
 ghost use Rattle.trace_loop.specs.Progress.{printed, end_of, state_behind};
 ghost use Rattle.trace_text.specs.Lines.{at_start as reading_at_start};
 ghost use Rattle.trace_runner.specs.Deliveries.{deliveries_of};
-ghost use Rattle.trace_runner.specs.Records.{stops};
-ghost use Rattle.trace_runner.specs.Replay.{answer_of, board_of, item_answer, record_answer, opening, ended};
+ghost use Rattle.trace_runner.specs.Replay.{answer_of, board_of, item_answer, opening, ended};
 ghost use Rattle.trace_runner.specs.Ready.{IsReady, Suits};
 
 use crate::deliveries::deliveries_of;
 use crate::kept::KeptBoard;
-use crate::records;
 use crate::status::{Verdict, refuse, refused_by, stop};
 use board_core::{BoardState, Setup};
 use clk_units::NoMemory;
-use host_counter::Anchor;
 use race_phase::Deliveries;
 use reply_text::{final_line, state_line};
-use rtc_calendar::TimeBytes;
 use save_state::encode;
-use tick_policy::Policy;
 use trace_loop::Answerer;
-use trace_text::{Begin, Header, Item, Reading, Record};
+use trace_text::{Begin, Header, Item, Job, Reading, Record};
 
 /// A trace that is replayed: its records are answered one after the other.
 #[derive(Drop)]
@@ -40,31 +35,7 @@ pub(crate) struct Replay {
 pub(crate) fn opening() -> Setup
     ensures { result ≡ opening }
 {
-    Setup {
-        format: 1,
-        anchor: Anchor {
-            khz: 1_000_000,
-            start: 0,
-            base_ns: 0,
-        },
-        guest_khz: 1_000_000,
-        cpus: 1,
-        pit: Policy::Delay,
-        rtc: Policy::Delay,
-        hpet: Policy::Delay,
-        slew_ns: 1_000_000,
-        wall_sec: 0,
-        wall_nsec: 0,
-        time: TimeBytes {
-            sec: 0,
-            min: 0,
-            hour: 0,
-            wday: 1,
-            date: 1,
-            month: 1,
-            year: 0,
-        },
-    }
+    Setup::by_default(1)
 }
 
 impl Replay {
@@ -131,27 +102,6 @@ impl Replay {
 }
 
 impl Replay {
-    /// Answers a record.
-    #[inline(always)]
-    pub(crate) fn answer_record(
-        &mut self,
-        line: u64,
-        given: &Record,
-        out: &mut Vec<u8>,
-        end: &mut Option<Verdict>,
-    ) -> Result<(), NoMemory>
-        requires suits { Suits (Item.Next given.now) self.old.board }
-        requires open { end.old ≡ None }
-        ensures printed { OnOk result
-            (out.new.items ≡ out.old.items ++ printed (record_answer line given.now self.old)) }
-        ensures ends { OnOk result (end.new ≡ end_of (record_answer line given.now self.old)) }
-        ensures state { OnOk result (end.new ≡ None
-            → self.new ≡ state_behind (record_answer line given.now self.old) self.old) }
-        ensures err { OnErr result (StartsWith out.new.items out.old.items) }
-    {
-        records::answer(line, given, &mut self.board, &self.deliveries, out, end)
-    }
-
     /// Answers a line that is no record, or one that is refused. It stands apart, since its item has room for a board,
     /// which a call clears as it begins.
     #[cold]
@@ -221,8 +171,13 @@ impl Answerer<Verdict> for Replay {
         out: &mut Vec<u8>,
         end: &mut Option<Verdict>,
     ) -> Result<(), NoMemory> {
-        if let Some(record) = self.reading.take_record(text) {
-            return self.answer_record(line, &record, out, end);
+        let mut given = Record {
+            cpu: 0,
+            h: 0,
+            job: Job::Save,
+        };
+        if self.reading.read_record(text, &mut given) {
+            return self.answer_record(line, &given, out, end);
         }
         self.answer_other(line, text, out, end)
     }

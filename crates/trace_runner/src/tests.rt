@@ -4,9 +4,10 @@
 ghost use Rattle.std.specs.Prelude.{◌<◌};
 
 use super::*;
-use crate::texts::{HELP, USAGE};
+use crate::texts::{USAGE, help};
 use board_io::{MemSink, MemSource, OpenGate};
 use clk_units::RANGE_NS;
+use command_line::Page;
 use std::alloc::{AllocError, Global};
 use std::process::Abort;
 use std::sync::Wait;
@@ -15,6 +16,7 @@ use std::thread::Threads;
 use trace_text::Reason;
 
 mod failures;
+mod gates;
 mod races;
 
 /// Counter 0 in mode 2 with count 4, and what is printed.
@@ -270,7 +272,22 @@ fn words(rt: HostRuntime) -> Result<(), Fail> {
         Status::Ok,
         b"clockboard 0.1.0\n",
     )?;
-    expect(&rt, &["--help"], b"", &WELL, Status::Ok, HELP)?;
+    expect(
+        &rt,
+        &["--help"],
+        b"",
+        &WELL,
+        Status::Ok,
+        help(Page::Overview),
+    )?;
+    expect(
+        &rt,
+        &["gen", "--help"],
+        b"",
+        &WELL,
+        Status::Ok,
+        help(Page::OfGen),
+    )?;
     Ok(())
 }
 

@@ -20,12 +20,14 @@ use Rattle.board_types.specs.declared.access.TickSource.TheVariants.{Hpet}
 use Rattle.trace_text.specs.Tokens.{words_of, number_in, decimal_in, hex_in, dec, hex, byte, khz}
 use Rattle.trace_text.specs.Records.{record_of, job_of, body_behind}
 use Rattle.board_types.specs.declared.setup.Setup.{Setup}
-use Rattle.trace_text.specs.Header.{header_line, head_of, setup_by_default}
+use Rattle.trace_text.specs.Header.{header_line, head_of}
+use Rattle.board_types.specs.Setup.{setup_by_default}
 use Rattle.trace_text.specs.State.{restored}
 use Rattle.board_types.specs.declared.parts.BoardParts.{BoardParts}
 use Rattle.hex.specs.Hex.{decode_pairs}
-use Rattle.save_state.specs.Table.{fault_of, head_rows}
-use Rattle.save_state.specs.Fields.{fault_in, number_at}
+use Rattle.byte_table.specs.Kinds.{plain}
+use Rattle.save_state.specs.Fields.{head as first_fields}
+use Rattle.save_state.specs.Table.{fault_of}
 use Rattle.trace_text.specs.Lines.{limit_of, stepped, item_in, taken, behind, at_start, end_fault}
 use Rattle.trace_text.specs.declared.faults.Reason.{Reason}
 use Rattle.trace_text.specs.declared.faults.Reason.TheVariants.{Form, Steal, Cpu, CounterFell, StateBytes, TooLong, NoEnd}
@@ -412,7 +414,7 @@ unfolding header_line words_of decode_pairs restored
 no_comment_behind_a_state = refl
 
 state_that_ends_early : header_line head (words_of (codes "state 434C4b")) ≡ Err (StateBytes 3)
-unfolding header_line words_of decode_pairs restored fault_of fault_in head_rows number_at
+unfolding header_line words_of decode_pairs restored fault_of first_fields plain
 state_that_ends_early = refl
 
 state_behind_another_line : header_line (record head { row = 1 }) (words_of (codes "state 43")) ≡ Err Form

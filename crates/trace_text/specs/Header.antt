@@ -26,7 +26,7 @@ use Rattle.std.specs.Prelude.{
   ◌≤◌,
   All,
 }
-use Rattle.board_types.specs.Setup.{IsSetup, processors_of}
+use Rattle.board_types.specs.Setup.{IsSetup, processors_of, setup_by_default}
 use Rattle.board_types.specs.declared.setup.Setup.{Setup}
 use Rattle.edge_hooks.specs.declared.deliveries.Delivery.{Delivery}
 use Rattle.irq_edges.specs.Lines.{is_line}
@@ -43,22 +43,6 @@ use Rattle.trace_text.specs.declared.header.Header.{Header}
 use Rattle.trace_text.specs.declared.header.Begin.{Begin}
 use Rattle.trace_text.specs.declared.header.Begin.TheVariants.{Fresh, Saved}
 use Rattle.trace_text.specs.declared.records.Body.{Body}
-
--- what stands where no line says otherwise
-abbrev pub setup_by_default : ℕ → Setup
-setup_by_default format = record {
-  format = format;
-  anchor = record { khz = 1000000; start = 0; base_ns = 0 };
-  guest_khz = 1000000;
-  cpus = 1;
-  pit = Delay;
-  rtc = Delay;
-  hpet = Delay;
-  slew_ns = 1000000;
-  wall_sec = 0;
-  wall_nsec = 0;
-  time = record { sec = 0; min = 0; hour = 0; wday = 1; date = 1; month = 1; year = 0 };
-}
 
 -- behind the first line
 abbrev pub head_of : ℕ → Head

@@ -14,11 +14,11 @@ ghost use Rattle.std.specs.Prelude.{
   MatchResult,
 };
 ghost use Rattle.board_types.specs.Setup.{IsSetup};
+ghost use Rattle.board_types.specs.declared.setup.TheConstants.{LAST_FORMAT};
 ghost use Rattle.irq_edges.specs.Lines.{is_line};
 ghost use Rattle.trace_text.specs.Tokens.{rest, dec, byte, such_that};
 ghost use Rattle.trace_text.specs.Rows.{by_table};
 ghost use Rattle.trace_text.specs.Header.{
-  setup_by_default,
   head_of,
   format_word,
   first_line,
@@ -123,7 +123,7 @@ impl Begin {
 fn format_word(words: &mut Words<'_>) -> Option<u8>
     ensures value { result ≡ format_word words.old }
     ensures past { OnSome result (words.new ≡ rest words.old) }
-    ensures within { IfSome result (λ f. (1 ≤ f) × (f ≤ 2)) }
+    ensures within { IfSome result (λ f. (1 ≤ f) × (f ≤ LAST_FORMAT)) }
 {
     if words.takes(b"1") {
         Some(1)
@@ -166,39 +166,13 @@ pub(crate) fn first_line(words: &mut Words<'_>) -> Result<Head, Reason>
 impl Head {
     /// What stands where no line says otherwise.
     fn of_format(format: u8) -> Head
-        requires { (1 ≤ format) × (format ≤ 2) }
+        requires { (1 ≤ format) × (format ≤ LAST_FORMAT) }
         ensures head { result ≡ head_of format }
         ensures valid { IsHead result }
     {
-        let time = TimeBytes {
-            sec: 0,
-            min: 0,
-            hour: 0,
-            wday: 1,
-            date: 1,
-            month: 1,
-            year: 0,
-        };
-        let setup = Setup {
-            format,
-            anchor: Anchor {
-                khz: 1_000_000,
-                start: 0,
-                base_ns: 0,
-            },
-            guest_khz: 1_000_000,
-            cpus: 1,
-            pit: Policy::Delay,
-            rtc: Policy::Delay,
-            hpet: Policy::Delay,
-            slew_ns: 1_000_000,
-            wall_sec: 0,
-            wall_nsec: 0,
-            time,
-        };
         Head {
             row: 0,
-            begin: Begin::Fresh(setup),
+            begin: Begin::Fresh(Setup::by_default(format)),
             next_line: 0,
             routes: [None; 6],
         }

@@ -1,6 +1,7 @@
 //! The header line `state`: a saved board.
 ghost use Rattle.std.specs.Prelude.{◌≡◌, ◌/◌, ◌≤◌, length, Some, None, IfOk};
 ghost use Rattle.std.specs.Bool.{OnTrue, OnFalse};
+ghost use Rattle.board_types.specs.declared.setup.TheConstants.{LAST_FORMAT};
 ghost use Rattle.hex.specs.Hex.{decode_of};
 ghost use Rattle.save_state.specs.Places.{format_in};
 ghost use Rattle.trace_text.specs.State.{decoded, is_newer, place_in, in_format, restored};
@@ -20,7 +21,7 @@ const VERSION: u64 = 8;
 #[inline(never)]
 #[cold]
 pub(crate) fn board_of(digits: &[u8], format: u8) -> Result<BoardState, Reason>
-    requires { format ≤ 2 }
+    requires { format ≤ LAST_FORMAT }
     ensures board { result ≡ restored_digits format digits.now }
     ensures few { IfOk result (λ b. b.cpus ≤ 64) }
 {
@@ -51,7 +52,7 @@ fn decode_digits(digits: &[u8], bytes: &mut [u8]) -> bool
 /// The board that bytes are, in this format.
 #[tactic(auto, unfolding(crate::specs::State::restored))]
 fn restored(bytes: &[u8], format: u8) -> Result<BoardState, Reason>
-    requires { format ≤ 2 }
+    requires { format ≤ LAST_FORMAT }
     ensures board { result ≡ restored format bytes.now }
     ensures few { IfOk result (λ b. b.cpus ≤ 64) }
 {
@@ -65,7 +66,7 @@ fn restored(bytes: &[u8], format: u8) -> Result<BoardState, Reason>
 
 /// A board in this format, or in a later one than its own.
 fn in_format(board: &BoardState, format: u8) -> Result<BoardState, Reason>
-    requires { format ≤ 2 }
+    requires { format ≤ LAST_FORMAT }
     ensures board { result ≡ in_format format board.now }
     ensures few { IfOk result (λ b. b.cpus ≤ 64) }
 {
@@ -97,7 +98,7 @@ fn is_newer(bytes: &[u8], format: u8) -> bool
 }
 
 /// The version of a saved state, its lower byte first.
-#[tactic(auto, unfolding(save_state::specs::Fields::number_at))]
+#[tactic(auto, unfolding(byte_table::specs::Codes::number_at))]
 fn version_of(bytes: &[u8]) -> u16
     requires { 10 ≤ length bytes.now }
     ensures { result ≡ format_in bytes.now }

@@ -20,19 +20,18 @@ use Rattle.board_types.specs.declared.reply.Value.TheVariants.{
   Counts,
   Next as NextEdge,
 }
-use Rattle.board_devices.specs.Places.{line_at}
 use Rattle.board_core.specs.Time.{devices_in, now_of}
 use Rattle.board_core.specs.Tsc.{msr_read}
 use Rattle.board_core.specs.Wall.{wall_words}
 use Rattle.board_core.specs.Next.{next_of}
 use Rattle.board_core.specs.Rises.{count_at}
-use Rattle.board_core.specs.Access.{place_of_source}
+use Rattle.board_core.specs.Access.{counts_of}
 
 -- what an access reads that asks nothing of the devices
 abbrev pub told : BoardParts → ℕ → ℕ → Access → Value
 told b cpu h (MsrRead msr) = Word 8 (msr_read b cpu h msr)
 told b cpu h Wall = wall_words b
-told b cpu h (CountsOf from) = Counts (line_at (place_of_source from) (devices_in b)).counts
+told b cpu h (CountsOf from) = Counts (counts_of b.ticks b.apic_ticks from)
 told b cpu h Next = NextEdge (next_of (now_of b) (devices_in b))
 told b cpu h (Rose line) = Word 8 (count_at line_numbers b.rises line)
 told b cpu h _ = Nothing

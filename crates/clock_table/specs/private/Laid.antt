@@ -5,7 +5,7 @@ use Rattle.board_types.specs.declared.parts.BoardParts.{BoardParts}
 use Rattle.board_history.specs.Machine.{page_at}
 use Rattle.board_history.specs.History.{Opens, board_after, IsLegal, entries_of}
 use Rattle.clock_table.specs.declared.view.View.{View}
-use Rattle.clock_table.specs.Words.{word_of, field_at}
+use Rattle.clock_table.specs.Words.{word_of, field_at, pages_for}
 use Rattle.clock_table.specs.Steps.{loud}
 use Rattle.clock_table.specs.Ends.{EndedTold}
 
@@ -27,11 +27,11 @@ pub record IsLaidBelow (n : ℕ) (s : BoardParts) (words : List ℕ) : Type 0 wh
 
 -- all words of a state
 pub record IsLaid (s : BoardParts) (words : List ℕ) : Type 0 where
-  pub wide : length words ≡ 32 + 16 * s.cpus
+  pub wide : length words ≡ 32 + 16 * pages_for s.cpus
   pub front : slice_index words 0 ≡ 0
   pub clamp : slice_index words 16 ≡ s.greatest
-  pub version : (c : ℕ) → c < s.cpus → word_of words c 0 ≡ (page_at s c).version
-  pub field : (c k : ℕ) → c < s.cpus → k < 4
+  pub version : (c : ℕ) → c < pages_for s.cpus → word_of words c 0 ≡ (page_at s c).version
+  pub field : (c k : ℕ) → c < pages_for s.cpus → k < 4
       → word_of words c (suc k) ≡ field_at (page_at s c) k
 
 -- the seat has seen the whole history, and the words are those of the board after it
@@ -40,7 +40,7 @@ pub record Closing (opening : BoardParts) (v : View) (words : List ℕ) : Type 0
   pub opened : Opens opening v.seen
   pub front : slice_index words 0 ≡ loud v.seen
   pub greatest : slice_index words 16 ≡ (board_after v.seen).greatest
-  pub page : (c : ℕ) → c < opening.cpus
+  pub page : (c : ℕ) → c < pages_for opening.cpus
       → page_of (words_at words c) ≡ page_at (board_after v.seen) c
   pub ended : EndedTold v.seen v.ended
   pub numbers : (n : ℕ) → v.made ≤ n → entries_of n v.seen ≡ []

@@ -60,9 +60,9 @@ FieldRead st m n m' =
     (m'.1 ≡ m.1)
     × ((c k : ℕ) → k < 4 → st.word ≡ place c (suc k) → m'.0 ≡ noted_in k n m.0)
 
-abbrev pub SecondRead : ℕ → At → Sat → ℕ → Sat → Type 0
-SecondRead h st m n m' =
-    (m'.1 ≡ m.1) × ((r : Read) → m.0.read ≡ Some r → ReadEnds h r n m.0 m'.0)
+abbrev pub SecondRead : ℕ → ℕ → At → Sat → ℕ → Sat → Type 0
+SecondRead cpus h st m n m' =
+    (m'.1 ≡ m.1) × ((r : Read) → m.0.read ≡ Some r → ReadEnds cpus h r n m.0 m'.0)
 
 -- the clamp word is raised
 abbrev pub Raised : ℕ → At → Sat → ℕ → Sat → Type 0

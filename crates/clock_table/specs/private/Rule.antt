@@ -39,7 +39,7 @@ use Rattle.clock_table.specs.declared.view.Read.{Read}
 use Rattle.clock_table.specs.declared.view.Hand.{Hand}
 use Rattle.clock_table.specs.declared.view.Miss.{Miss}
 use Rattle.clock_table.specs.declared.view.Ended.{Ended}
-use Rattle.clock_table.specs.Words.{word_of, field_at}
+use Rattle.clock_table.specs.Words.{word_of, field_at, pages_for}
 use Rattle.clock_table.specs.Steps.{
   or_else,
   weight,
@@ -71,8 +71,8 @@ pub record PageKept (words : List ℕ) (hand : Option Hand) (p : Page) (c : ℕ)
 
 -- a read that goes on: its first version is no older than what its seat had seen, the word hasn't
 -- fallen since, and while it is the same the noted fields are those in the words
-pub record ReadKept (words : List ℕ) (cpus : ℕ) (seen : List Entry) (r : Read) : Type 0 where
-  pub there : r.cpu < cpus
+pub record ReadKept (words : List ℕ) (pages : ℕ) (seen : List Entry) (r : Read) : Type 0 where
+  pub there : r.cpu < pages
   pub even : r.first % 2 ≡ 0
   pub least : version_after seen r.cpu ≤ r.first
   pub grown : r.first ≤ word_of words r.cpu 0
@@ -110,14 +110,14 @@ pub record Fits (opening : BoardParts) (words : List ℕ) (g : Ghost) (by : ℕ)
     Type 0 where
   pub begins : IsPrefix v.seen (log_in opening g)
   pub pen : v.pen ≡ true → by ≡ g.holder
-  pub read : (r : Read) → v.read ≡ Some r → ReadKept words opening.cpus v.seen r
+  pub read : (r : Read) → v.read ≡ Some r → ReadKept words (pages_for opening.cpus) v.seen r
   pub claimed : (n : ℕ) → 0 < claims n v → (g.owner n ≡ by) × (n < g.made)
   pub once : (n : ℕ) → claims n v ≤ 1
   pub mine : (n : ℕ) → v.number ≡ Some n
       → entries_of n (log_in opening g) ≡ entries_of n (here_of v.meet v.seen)
-  pub misses : MissesKept words opening.cpus v.misses
+  pub misses : MissesKept words (pages_for opening.cpus) v.misses
   pub meet : MeetKept v.meet v.seen
-  pub ended : EndedKept words opening.cpus (log_in opening g) v.seen v.ended
+  pub ended : EndedKept words (pages_for opening.cpus) (log_in opening g) v.seen v.ended
   pub opened : v.live ≡ true → 0 < length v.seen
   pub limit : v.live ≡ true → v.limit ≡ g.limit
 
@@ -139,9 +139,9 @@ pub record Kept (opening : BoardParts) (s : State (Unit {0}) View) : Type 0 wher
   pub has_pen : pen.pen ≡ true
   pub made : pen.made ≡ g.made
   pub quiet : GoesOnQuietly (penned_of pen.meet pen.seen) (log_in opening g)
-  pub wide : length s.words ≡ 32 + 16 * opening.cpus
+  pub wide : length s.words ≡ 32 + 16 * pages_for opening.cpus
   pub front : FrontKept s.words (log_in opening g)
-  pub pages : (c : ℕ) → c < opening.cpus
+  pub pages : (c : ℕ) → c < pages_for opening.cpus
       → PageKept s.words pen.hand (page_at (board_after (log_in opening g)) c) c
   pub each : (by : ℕ) (v : View) → get_elem? s.views by ≡ some v → Fits opening s.words g by v
   pub alone : g.limit ≡ None → (by : ℕ) (v : View) → get_elem? s.views by ≡ some v

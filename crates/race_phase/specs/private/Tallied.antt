@@ -11,6 +11,7 @@ use Rattle.board_types.specs.declared.reply.Refusal.TheVariants.{BeforeStart, Ou
 use Rattle.board_core.specs.Pages.{published_by}
 use Rattle.board_core.specs.Refusals.{spent_version}
 use Rattle.board_core.specs.Time.{HasTime}
+use Rattle.board_core.specs.Hv.{publishes_hv}
 use Rattle.board_core.specs.Wall.{publishes_wall, wall_version_after}
 use Rattle.transfer.specs.Move.{or_spent}
 use Rattle.transfer.specs.declared.outcome.MoveFault.{MoveFault}
@@ -30,7 +31,8 @@ version_in (Some k) vs = Some (slice_index_or vs k 0)
 
 abbrev pub raised_in : TallyParts → ℕ → Access → Option ℕ
 raised_in t cpu a =
-    if publishes_wall a then Some t.wall_version else version_in (published_by cpu a) t.versions
+    if publishes_wall a then Some t.wall_version
+    else (if publishes_hv a then Some t.hv_version else version_in (published_by cpu a) t.versions)
 
 -- why an access is refused
 unfoldable pub refusal_in : TallyParts → ℕ → ℕ → Access → Option Refusal
@@ -45,12 +47,17 @@ abbrev pub raised_at : Option ℕ → List ℕ → List ℕ
 raised_at None vs = vs
 raised_at (Some k) vs = slice_set vs k (slice_index_or vs k 0 + 2)
 
+-- the version of the reference page behind an access
+abbrev pub hv_version_after : Access → ℕ → ℕ
+hv_version_after a version = if publishes_hv a then version + 2 else version
+
 -- an access more
 abbrev pub counted : ℕ → ℕ → Access → TallyParts → TallyParts
 counted cpu h a t = record t {
   host = max t.host h;
   accesses = t.accesses + 1;
   wall_version = wall_version_after a t.wall_version;
+  hv_version = hv_version_after a t.hv_version;
   versions = raised_at (published_by cpu a) t.versions;
 }
 

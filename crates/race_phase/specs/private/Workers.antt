@@ -25,6 +25,7 @@ use Rattle.board_core.specs.Refusals.{refusal_of}
 use Rattle.board_history.specs.Counts.{HasNoTime}
 use Rattle.board_history.specs.History.{board_after, IsLegal}
 use Rattle.board_history.specs.declared.entry.Entry.{Entry}
+use Rattle.clock_table.specs.declared.view.Miss.{Miss}
 use Rattle.shared_board.specs.declared.known.PassKnown.{PassKnown}
 use Rattle.shared_board.specs.Passes.{mine, Made}
 use Rattle.shared_board.specs.Faults.{page_reads}
@@ -34,12 +35,14 @@ use Rattle.race_phase.specs.declared.records.Call.TheVariants.{Act, ReadPage, Re
 use Rattle.race_phase.specs.declared.records.Record.{Record}
 use Rattle.race_phase.specs.declared.batch.Place.{Place}
 use Rattle.race_phase.specs.Blocks.{block_of}
-use Rattle.race_phase.specs.Calls.{IsFitting, records_of, MadeBy, AllMade}
+use Rattle.race_phase.specs.Calls.{IsFitting, records_of, MadeBy, AllMade, AllTried}
 use Rattle.race_phase.specs.private.Told.{answer_with}
 
 -- a pass answered a record
 abbrev pub IsMade : BoardParts → Record → Answer → PassKnown → PassKnown → Type 0
-IsMade s r a p q = (es : List Entry) × MadeBy s p.number r a es × Made p q es
+IsMade s r a p q =
+    (es : List Entry) × MadeBy s p.number r a es × Made p q es
+    × (ms : List Miss) × AllTried s.cpus es ms × (q.misses ≡ p.misses ++ ms)
 
 -- why a record was not answered: the board refused the access; or the count of a read has no time,
 -- or so many pages were read that the front word leaves no room
@@ -73,7 +76,8 @@ abbrev pub HasWorked :
     BoardParts → List (Option Delivery) → List Record → ℕ → PassKnown → List ℕ → Type 0
 HasWorked s ds rs n p out =
     (p.number ≡ n)
-    × (AllMade s ds n (records_of n rs) out (mine p) ⊎ HasStopped s ds n (records_of n rs) p)
+    × ((AllMade s ds n (records_of n rs) out (mine p) × AllTried s.cpus (mine p) p.misses)
+    ⊎ HasStopped s ds n (records_of n rs) p)
 
 -- the block of a record, by its place
 abbrev pub place_text : List (Option Delivery) → Record → Place → List ℕ
@@ -93,6 +97,7 @@ pub record AllAnswered (s : BoardParts) (rs : List Record) (ts : List Place) (p 
   pub made : (ds : List (Option Delivery)) (done : List Record) (out : List ℕ)
       → AllMade s ds p.number done out (mine p)
       → AllMade s ds p.number (done ++ rs) (out ++ places_text ds rs ts) (mine q)
+  pub tried : AllTried s.cpus (mine p) p.misses → AllTried s.cpus (mine q) q.misses
 
 -- a pass has answered these records, and their blocks were put behind a text
 abbrev pub HasPrinted : BoardParts → List (Option Delivery) → List Record → List ℕ → List ℕ
@@ -112,6 +117,7 @@ pub record AllButLast (s : BoardParts) (ds : List (Option Delivery)) (n : ℕ) (
   pub done : List Record
   pub whole : rs ≡ done ++ waiting
   pub made : AllMade s ds n done text (mine p)
+  pub tried : AllTried s.cpus (mine p) p.misses
 
 -- each call that ended well has done the work of its place
 abbrev pub AllGiven : {A E : Type 0} → List (Result A E) → (A → PassKnown) → (A → List ℕ)

@@ -1,6 +1,7 @@
 //! Odd bytes written to every port, and odd words to every place of the HPET, each on a board at power on: the write is
 //! answered, and the board behind it is written and read as itself.
 ghost use Rattle.std.specs.Prelude.{◌≤◌};
+ghost use Rattle.board_types.specs.declared.setup.TheConstants.{LAST_FORMAT};
 
 use super::*;
 use board_core::Access;
@@ -25,7 +26,7 @@ fn write_and_read_back(
     write: Access,
 ) -> Result<(), Fail>
     requires low { 1 ≤ format }
-    requires high { format ≤ 2 }
+    requires high { format ≤ LAST_FORMAT }
 {
     let mut board = board(format);
     if board.cpus() == 0 || !write.legal(board.cpus(), board.format()) {

@@ -4,9 +4,9 @@ ghost use Rattle.clk_units.specs.Ranges.{IsKhz};
 ghost use Rattle.board_history.specs.Machine.{page_at};
 
 use super::*;
-use crate::held::{act, no_reply};
+use crate::held::act;
 use crate::host::HostClock;
-use crate::tries::try_page_on;
+use crate::tries::try_table_on;
 use clock_table::{Call, ClockTable, Field};
 
 #[test]
@@ -36,10 +36,7 @@ fn tried_while_open<N: Name, R: Abort>(rt: &R, blank: Blank, state: BoardState) 
         first: 1,
         second: 1,
     };
-    assert_eq!(rt;
-        try_page_on(&table, &host, 1 << 49, &mut two, 0, 0),
-        Err(again)
-    );
+    assert_eq!(rt; try_table_on(&table, &host, &mut two, 0, 0), Err(again));
     Ok(())
 }
 
@@ -81,7 +78,7 @@ fn read_round_an_update<N: Name, R: Abort>(
         h: 1_000,
         access: Access::Refresh { page: 0 },
     };
-    let mut reply = no_reply();
+    let mut reply = Reply::empty();
     let taken = act(&table, &mut state, &mut one, call, &mut reply).is_ok();
     let second = table.second(&mut two, 0, 900);
     assert!(rt; taken);

@@ -76,7 +76,7 @@ fn a_sink_that_fails_at_each_call_of_each_command(rt: HostRuntime) -> Result<(),
         (&["soak", "1", "1", "1"], b"", b"soak 1 0 34774 0\n"),
         (&["Replay"], FIRST_RISE, USAGE),
         (&["--version"], b"", b"clockboard 0.1.0\n"),
-        (&["--help"], b"", HELP),
+        (&["--help"], b"", help(Page::Overview)),
     ];
     for (words, trace, text) in runs {
         for bytes in 0..text.len() {

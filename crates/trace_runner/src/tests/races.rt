@@ -3,8 +3,6 @@
 ghost use Rattle.std.specs.Prelude.{◌<◌};
 
 use super::*;
-use board_io::Gate;
-use std::sync::atomic::{AtomicU64, Ordering};
 
 /// How many records a race takes.
 const MOST_RECORDS: usize = 200_000;
@@ -177,83 +175,5 @@ fn a_race_of_two_processors(rt: HostRuntime) -> Result<(), Fail> {
     assert_eq!(rt; status, Status::Ok);
     let told = text.as_slice();
     assert!(rt; told == texts[0] || told == texts[1] || told == texts[2]);
-    Ok(())
-}
-
-/// What a test's gate counts. It holds processor 1 until processor 0 has the lock for the second time, and that one until
-/// processor 1 has its answer.
-#[derive(Drop)]
-struct Turns {
-    insides: AtomicU64,
-    befores: AtomicU64,
-    afters: AtomicU64,
-    late_afters: AtomicU64,
-    missed: AtomicU64,
-}
-
-impl Turns {
-    fn new() -> Turns {
-        Turns {
-            insides: AtomicU64::new(0),
-            befores: AtomicU64::new(0),
-            afters: AtomicU64::new(0),
-            late_afters: AtomicU64::new(0),
-            missed: AtomicU64::new(0),
-        }
-    }
-
-    /// Waits until a count is there, a thousand million turns at most.
-    fn wait(&self, word: &AtomicU64, least: u64) {
-        for _ in 0..1_000_000_000u64 {
-            if word.load(Ordering::SeqCst) >= least {
-                return;
-            }
-        }
-        self.missed.fetch_add(1, Ordering::SeqCst);
-    }
-}
-
-impl Gate for Turns {
-    fn before<R: Wait>(&self, _rt: &R, cpu: u8, _index: u64) {
-        if cpu == 1 {
-            self.wait(&self.insides, 2);
-        }
-        self.befores.fetch_add(1, Ordering::SeqCst);
-    }
-
-    fn after<R: Wait>(&self, _rt: &R, cpu: u8, _index: u64) {
-        if cpu == 1 {
-            self.late_afters.fetch_add(1, Ordering::SeqCst);
-        } else {
-            self.afters.fetch_add(1, Ordering::SeqCst);
-        }
-    }
-
-    fn inside<R: Wait>(&self, _rt: &R, _cpu: u8) {
-        if self.insides.fetch_add(1, Ordering::SeqCst) == 1 {
-            self.wait(&self.late_afters, 1);
-        }
-    }
-}
-
-/// Processor 0 enables its page and steps; processor 1 reads the clock by that page, while the step has the lock.
-#[test]
-fn a_clock_is_read_while_another_has_the_lock(rt: HostRuntime) -> Result<(), Fail> {
-    let alloc = rt.alloc();
-    let gate = Turns::new();
-    let trace =
-        b"clockboard 1\nguest 2000000\ncpus 2\nbegin\n0 0 wrmsr 4b564d01 1\n0 0 step\n1 1000 clock 0\nend\n";
-    let words = strings(alloc, &["race"])?;
-    let mut source = MemSource::new(Vec::from_slice(alloc, trace)?, Vec::new(alloc), 4096);
-    let mut sink = MemSink::new(alloc, Vec::new(alloc), 4096);
-    let status = run(&rt, alloc, &words, &mut source, &mut sink, &gate);
-    assert_eq!(rt; status, Status::Ok);
-    let wanted: &[u8] = b"5 1\n6 2\n7 clock 1000 1000\nfinal 0 2 1000 -\n";
-    assert!(rt; sink.bytes() == wanted);
-    assert_eq!(rt; gate.missed.load(Ordering::SeqCst), 0);
-    assert_eq!(rt; gate.befores.load(Ordering::SeqCst), 3);
-    assert_eq!(rt; gate.afters.load(Ordering::SeqCst), 2);
-    assert_eq!(rt; gate.late_afters.load(Ordering::SeqCst), 1);
-    assert_eq!(rt; gate.insides.load(Ordering::SeqCst), 2);
     Ok(())
 }

@@ -5,9 +5,9 @@ use Rattle.clock_table.specs.Ends.{no_page}
 use Rattle.clock_table.specs.private.Laid.{words_at}
 use Rattle.clock_table.proofs.closed.pages_of.Given as goal
 
-abbrev pub invariant-loop-cpu : goal.invariant-loop-cpu
-invariant-loop-cpu l = record {
-  long : length l.pages ≡ 64;
-  done : (k : ℕ) → 32 + 16 * k + 16 ≤ l.count → k < l.cpu → get_or l.pages k no_page ≡ page_of (words_at (slots_items l.words.words) k);
+abbrev pub invariant-loop-page : goal.invariant-loop-page
+invariant-loop-page l = record {
+  long : length l.pages ≡ 65;
+  done : (k : ℕ) → 32 + 16 * k + 16 ≤ l.count → k < l.page → get_or l.pages k no_page ≡ page_of (words_at (slots_items l.words.words) k);
   rest : (k : ℕ) → l.count < 32 + 16 * k + 16 → get_or l.pages k no_page ≡ no_page;
 }

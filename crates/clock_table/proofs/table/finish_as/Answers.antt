@@ -11,14 +11,14 @@ use Rattle.clock_table.proofs.table.finish_as.Goals as goal
 pub fetch_add-requires : goal.fetch_add-requires
 fetch_add-requires g c = let t = c.args.table.now in
     let cpus = ap (λ b. b.cpus) t.opened in
-    let put = subst (λ (z : View × Entry). HasPut c.args.cpu (page_at (board_after (z.0.seen ++ z.1 ∷ [])) c.args.cpu) z.0)
+    let put = subst (λ (z : View × Entry). HasPut c.args.page (page_at (board_after (z.0.seen ++ z.1 ∷ [])) c.args.page) z.0)
     (λ i. (sym c.seat.view_is i, c.requires.entry i)) c.requires.open in
-    let at : c.place.result ≡ place c.args.cpu 0 = c.place.ensures in (
+    let at : c.place.result ≡ place c.args.page 0 = c.place.ensures in (
       c.seat.invariant.0 ∙ sym t.named,
-      (let w = t.sized in let l = c.requires.cpu in omega arith),
-      rw at (finish_allowed t.table.shared.key _ _ c.args.cpu c.seat.inside.seat.me g.E.Ask.entry (let l = c.requires.cpu in omega arith)
+      (let w = t.sized in let l = c.requires.page in omega arith),
+      rw at (finish_allowed t.table.shared.key _ _ c.args.page c.seat.inside.seat.me g.E.Ask.entry (let l = c.requires.page in omega arith)
           (rw c.seat.view_is c.requires.pen) c.seat.invariant.2 put
-          (rw (← c.requires.entry) c.requires.publishes) (rw (c.seat.view_is, ← c.requires.entry) c.requires.next)),
+          (rw (cpus, ← c.requires.entry) c.requires.publishes) (rw (c.seat.view_is, ← c.requires.entry) c.requires.next)),
     )
 
 pub invariant_of-seat : goal.invariant_of-seat

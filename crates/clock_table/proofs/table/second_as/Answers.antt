@@ -11,8 +11,9 @@ load-requires g c = let t = c.args.table.now in
     let r = c.requires.read in
     let at : c.place.result ≡ place r.0.cpu 0 = let p = c.place.ensures in let same = r.2 in omega arith in (
       c.seat.invariant.0 ∙ sym t.named,
-      (let w = t.sized in let b = ap (λ b. b.cpus) t.opened in let p = c.place.ensures in let l = c.requires.cpu in omega arith),
-      rw at (seconds t.table.shared.key _ g.E.Tag.tag c.requires.pass.number.0 _ c.seat.inside.seat.me r.0 (rw c.seat.view_is c.requires.pass.number.1)
+      (let w = t.sized in let b = ap (λ b. b.cpus) t.opened in let p = c.place.ensures in let l = c.requires.page in omega arith),
+      rw at (seconds t.table.shared.key _ g.E.Tag.tag c.requires.pass.number.0 _ _ (ap (λ b. b.cpus) t.opened) c.seat.inside.seat.me r.0
+          (rw c.seat.view_is c.requires.pass.number.1)
           (rw c.seat.view_is c.requires.pass.meet) c.seat.invariant.2 (rw c.seat.view_is r.1) r.3),
     )
 

@@ -10,7 +10,7 @@ use Rattle.clockboard_c.proofs.call.answer.Goals as goal
 
 pub returns-in-Ok-clause-reply : goal.returns-in-Ok-clause-reply
 returns-in-Ok-clause-reply c =
-    says _ _ _
+    says _ _ _ _
     (taken-same _ _ _ _ _ _ _ _
     (c.accesses.ensures ∙ ap (λ (b : BoardParts). b.accesses) c.in-Ok.ensures.state
     ∙ after_access-accesses c.args.board.now.state c.args.cpu c.args.host c.args.access

@@ -8,4 +8,5 @@ loop-k-preserved c =
       below_more _ _
           (λ j h. let ne : j ≢ c.loop-k.k = omega arith in rw get_or-set_other (c.loop-k.invariant.1 j h))
           (rw get_or-set_same c.edge_words.ensures),
+      λ j h. let ne : j ≢ c.loop-k.k = omega arith in rw get_or-set_other (c.loop-k.invariant.2 j (omega arith)),
     )

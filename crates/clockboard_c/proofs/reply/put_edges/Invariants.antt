@@ -1,6 +1,6 @@
 use Rattle.std.proofs.Common.{◌≡◌, ℕ, ◌<◌, length, slice_index_or}
 use Rattle.irq_edges.specs.declared.edges.TheConstants.{EDGE_PLACES}
-use Rattle.clockboard_c.specs.Replies.{edge_words, no_edge}
+use Rattle.clockboard_c.specs.Replies.{edge_words, no_edge, AreKept}
 use Rattle.clockboard_c.proofs.reply.put_edges.Given as goal
 
 -- the edges up to here stand in their places
@@ -8,3 +8,4 @@ abbrev pub invariant-loop-k : goal.invariant-loop-k
 invariant-loop-k l =
     (length l.places ≡ EDGE_PLACES)
     × ((j : ℕ) → j < l.k → slice_index_or l.places j (edge_words no_edge) ≡ edge_words (slice_index_or l.edges j no_edge))
+    × AreKept l.k l.fn.places l.places

@@ -46,7 +46,7 @@ returns-in-Err-try_get_matches_from-clause-command c =
     let has : HasKind (fault_of app words) e =
     subst (λ (a : App). HasKind (fault_of a words) e) app_is (c.in-Err-try_get_matches_from.ensures.kinds free) in
     answered words e c.refused_for.result has
-    (subst (λ (k : ErrorKind). IfOk c.refused_for.result (λ x. x ≡ refused_for k)) c.kind.ensures c.refused_for.ensures.command)
+    (subst (λ (k : ErrorKind). IfOk c.refused_for.result (λ x. x ≡ refused_for words k)) c.kind.ensures c.refused_for.ensures.command)
     (subst (λ (k : ErrorKind). OnOk c.refused_for.result (k ≢ OutOfMemory)) c.kind.ensures c.refused_for.ensures.memory)
 
 pub returns-in-Ok-try_get_matches_from-clause-size : goal.returns-in-Ok-try_get_matches_from-clause-size

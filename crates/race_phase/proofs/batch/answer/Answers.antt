@@ -2,20 +2,30 @@ use Rattle.std.proofs.Common.{sym, subst}
 use Rattle.race_phase.specs.declared.records.Call.{Call}
 use Rattle.race_phase.specs.private.Workers.{CallTrouble}
 use Rattle.race_phase.proofs.Unread.{unread}
+use Rattle.race_phase.proofs.Answered.{page_made, clock_made}
 use Rattle.race_phase.proofs.batch.answer.Goals as goal
+
+pub returns-in-Ok-clause-ok : goal.returns-in-Ok-clause-ok
+returns-in-Ok-clause-ok g c =
+    page_made g.N.Name.state c.args.given.now c.args.pass.now c.read_page.new.pass c.in-ReadPage.page c.in-Ok.reply c.in-ReadPage.is c.in-Ok.ensures.ok
+
+pub returns-in-Ok-read_clock-clause-ok : goal.returns-in-Ok-read_clock-clause-ok
+returns-in-Ok-read_clock-clause-ok g c =
+    clock_made g.N.Name.state c.args.given.now c.args.pass.now c.read_clock.new.pass c.in-ReadClock.page c.in-Ok-read_clock.reply c.in-ReadClock.is
+    c.in-Ok-read_clock.ensures.ok
 
 pub returns-in-Err-clause-err : goal.returns-in-Err-clause-err
 returns-in-Err-clause-err g c =
     let r = c.args.given.now in
     let s = g.N.Name.state in
-    let q = c.read_page_with.new.pass in
+    let q = c.read_page.new.pass in
     let t = unread s c.in-ReadPage.page r.h c.in-Err._fault c.args.pass.now q c.requires.legal c.in-Err.ensures.err in
     (t.0, subst (λ (call : Call). CallTrouble s r.cpu r.h call q.seen) (sym c.in-ReadPage.is) t.1)
 
-pub returns-in-Err-read_clock_with-clause-err : goal.returns-in-Err-read_clock_with-clause-err
-returns-in-Err-read_clock_with-clause-err g c =
+pub returns-in-Err-read_clock-clause-err : goal.returns-in-Err-read_clock-clause-err
+returns-in-Err-read_clock-clause-err g c =
     let r = c.args.given.now in
     let s = g.N.Name.state in
-    let q = c.read_clock_with.new.pass in
-    let t = unread s c.in-ReadClock.page r.h c.in-Err-read_clock_with._fault c.args.pass.now q c.requires.legal c.in-Err-read_clock_with.ensures.err in
+    let q = c.read_clock.new.pass in
+    let t = unread s c.in-ReadClock.page r.h c.in-Err-read_clock._fault c.args.pass.now q c.requires.legal c.in-Err-read_clock.ensures.err in
     (t.0, subst (λ (call : Call). CallTrouble s r.cpu r.h call q.seen) (sym c.in-ReadClock.is) t.1)

@@ -5,7 +5,7 @@ use Rattle.race_phase.proofs.batch.answer_run.Goals as goal
 pub returns-in-Err-clause-err : goal.returns-in-Err-clause-err
 returns-in-Err-clause-err g c = λ p x.
     let e = c.in-Err.ensures.err in
-    halted_at g.N.Name.state c.args.records.now c.loop-done.done _ _ p c.loop-done.pass c.answer_access-result.new.pass c.loop-done.invariant.behind
+    halted_at g.N.Name.state c.args.records.now c.loop-done.done _ _ p c.loop-done.pass c.answer_access.new.pass c.loop-done-test.true
     c.requires.fitting (c.loop-done.invariant.all p x) e.0 e.1
 
 pub loop-done-preserved : goal.loop-done-preserved
@@ -13,12 +13,12 @@ loop-done-preserved g c =
     let made = c.in-Ok.ensures.ok in
     let k = c.loop-done.auto.places in
     let few = c.requires.places in
-    let below = c.loop-done.invariant.behind in
+    let below = c.loop-done-test.true in
     let room : c.loop-done.done < length c.loop-done.places = omega arith in record {
       from = let f = c.loop-done.invariant.from in omega arith;
-      behind = c.loop-done-test.true;
+      behind = omega arith;
       legal = made.2.legal;
       all = λ p x.
-          batch_step g.N.Name.state c.args.records.now c.loop-done.places _ c.loop-done.done _ c.answer_access-result.new.place p c.loop-done.pass
-          c.answer_access-result.new.pass below room refl (c.loop-done.invariant.all p x) made;
+          batch_step g.N.Name.state c.args.records.now c.loop-done.places _ c.loop-done.done _ c.answer_access.new.place p c.loop-done.pass
+          c.answer_access.new.pass below room refl (c.loop-done.invariant.all p x) made;
     }

@@ -13,7 +13,7 @@ map_vec-requires-after_bounds g c κs within i x l is =
     let len = ap length made ∙ newcomers_length g.N.Name.state g.N.Name.passes in
     let small : i < g.N.Name.passes = omega arith in
     let t = newcomer g.N.Name.state g.N.Name.passes i x x small (is ∙ ap (λ z. get_or z i x) made) in
-    ((let n = t.0 in let p = c.requires.passes in omega arith), t.1, c.requires.fitting)
+    ((let n = t.0 in let p = c.requires.passes in omega arith), (t.1, t.2), c.requires.fitting)
 
 pub unreachable-requires : goal.unreachable-requires
 unreachable-requires g c =

@@ -8,8 +8,9 @@ abbrev pub invariant-loop-place : goal.invariant-loop-place
 invariant-loop-place g l = record {
   number : l.pass.number ≡ l.cpu;
   legal : IsLegal l.pass.seen;
-  places : length l.places.items ≡ l.most;
-  few : length l.batch.items < l.most;
+  places : length l.places.items ≡ 16;
+  few : length l.batch.items < 16;
+  most : l.at_once ≤ 16;
   index : l.index + length l.batch.items ≤ l.place;
   fitting : All (IsFitting g.N.Name.state.cpus g.N.Name.state.format) l.batch.items;
   made : AllButLast g.N.Name.state l.deliveries l.cpu (records_of l.cpu (take l.place l.lines.records)) l.batch.items l.text.items l.pass;

@@ -1,6 +1,12 @@
 use Rattle.std.proofs.lemmas.Result.{on_ok_weaker}
+use Rattle.byte_table.proofs.FoldLaws.{written-then}
+use Rattle.save_state.specs.Fields.{tsc, page}
 use Rattle.save_state.specs.private.Fits.{TscFits, PageFits}
 use Rattle.save_state.proofs.appending.put_processor.Goals as goal
+
+pub returns-clause-bytes : goal.returns-clause-bytes
+returns-clause-bytes c k =
+    on_ok_weaker c.put_page.result (λ e. written-then tsc page c.args.p.now _ _ _ c.in_ok-put_tsc.ensures.bytes e) c.put_page.ensures.bytes
 
 pub returns-clause-fits : goal.returns-clause-fits
 returns-clause-fits c =

@@ -1,71 +1,101 @@
-use Rattle.std.proofs.Common.{◌≡◌, ℕ, ◌<◌, get_or, None, ap, sym, subst, ◌∙◌, arith}
+use Rattle.std.proofs.Common.{◌≡◌, ℕ, ◌<◌, List, get_or, Option, None, refl, ap, sym, ◌∙◌, arith}
 use Rattle.std.proofs.lemmas.Bool.{false≢true}
 use Rattle.board_types.specs.declared.parts.BoardParts.{BoardParts}
-use Rattle.board_devices.specs.Parts.{AreDevices}
-use Rattle.board_core.specs.Time.{devices_in}
-use Rattle.board_core.specs.Conditions.{IsBoard}
+use Rattle.byte_table.specs.Fold.{or_else, fault_in}
+use Rattle.save_state.specs.declared.fault.StateFault.{StateFault}
+use Rattle.save_state.specs.Fields.{front}
 use Rattle.save_state.specs.Reading.{board_in}
 use Rattle.save_state.specs.Table.{fault_of}
 use Rattle.save_state.specs.Writing.{bytes_of}
-use Rattle.save_state.proofs.RoundTripPlaces.{AreBytes}
-use Rattle.save_state.proofs.RoundTripSpelling.{bytes_of-board_in}
-use Rattle.save_state.proofs.Parts.{fault-head, fault-devices, behind-devices}
-use Rattle.save_state.proofs.ValidHead.{head-valid}
-use Rattle.save_state.proofs.ValidDevices.{devices-valid}
-use Rattle.save_state.proofs.ValidRest.{board-valid, processors-few}
+use Rattle.save_state.specs.private.Parts.{rest_fault}
+use Rattle.save_state.proofs.Formats.{processors_few}
+use Rattle.save_state.proofs.RoundTrip.{bytes_of-board_in}
+use Rattle.save_state.proofs.Parts.{IsRight, board-format, fault-head, right-head, after-head, after-devices, right-devices, right-board}
 use Rattle.save_state.proofs.decoding.decode.Goals as goal
-
--- no field is at fault
-unfaulted : (c : goal.In-Some-of_parts) → fault_of c.args.bytes.now ≡ None
-unfaulted c =
-    behind-devices c.args.bytes.now (sym c.in_default.ensures) (sym c.in_default-devices_fault.ensures) ∙ sym c.in_default-rest_fault.ensures
 
 pub returns-in-Some-clause-refused : goal.returns-in-Some-clause-refused
 returns-in-Some-clause-refused c = fault-head c.args.bytes.now c.in-Some.fault (sym c.in-Some.ensures)
 
+-- no field before the 8254 is at fault
+right : (bytes : List ℕ) (b : BoardParts) → ((k : ℕ) → get_or bytes k 0 < 256) → None ≡ fault_in front (board_in bytes) (board_in bytes) 0 bytes
+    → b ≡ board_in bytes → IsRight bytes b
+right bytes b small none read = record { small = small; none = sym none; read = read }
+
 pub overflow_cast-format : goal.overflow_cast-format
-overflow_cast-format c = let head = head-valid c.args.bytes.now (sym c.in_default.ensures) in omega (arith, head.built, c.two_at-format.ensures)
+overflow_cast-format c =
+    let bytes = c.args.bytes.now in
+    let head = right-head bytes (board_in bytes) (right bytes (board_in bytes) (λ k. omega (arith, c.type_inv.bytes k)) c.in_default.ensures refl) in
+    omega (arith, head.built, (board-format bytes).0, c.two_at-format.ensures)
 
 pub overflow_cast-cpus : goal.overflow_cast-cpus
 overflow_cast-cpus c =
-    let head = head-valid c.args.bytes.now (sym c.in_default.ensures) in
-    omega (arith, processors-few _ _ head.most_cpus, c.two_at-cpus.ensures)
+    let bytes = c.args.bytes.now in
+    let head = right-head bytes (board_in bytes) (right bytes (board_in bytes) (λ k. omega (arith, c.type_inv.bytes k)) c.in_default.ensures refl) in
+    omega (arith, head.most_cpus, processors_few (board_in bytes).format, (board-format bytes).1, c.two_at-cpus.ensures)
 
-pub board_in-parts-requires-clause-built : goal.board_in-parts-requires-clause-built
-board_in-parts-requires-clause-built c = let head = head-valid c.args.bytes.now (sym c.in_default.ensures) in omega (arith, head.built, c.two_at-format.ensures)
+pub board_in-parts-requires-clause-few : goal.board_in-parts-requires-clause-few
+board_in-parts-requires-clause-few c =
+    let bytes = c.args.bytes.now in
+    let head = right-head bytes (board_in bytes) (right bytes (board_in bytes) (λ k. omega (arith, c.type_inv.bytes k)) c.in_default.ensures refl) in
+    omega (arith, head.most_cpus, processors_few (board_in bytes).format, (board-format bytes).1, c.two_at-cpus.ensures)
 
-pub devices_fault-requires-clause-head : goal.devices_fault-requires-clause-head
-devices_fault-requires-clause-head c = head-valid c.args.bytes.now (sym c.in_default.ensures)
+pub devices_fault-requires-clause-rate : goal.devices_fault-requires-clause-rate
+devices_fault-requires-clause-rate c =
+    (right-head _ _ (right _ _ (λ k. omega (arith, c.type_inv.bytes k)) c.in_default.ensures c.board_in-parts.ensures)).host
+
+pub devices_fault-requires-clause-time : goal.devices_fault-requires-clause-time
+devices_fault-requires-clause-time c =
+    (right-head _ _ (right _ _ (λ k. omega (arith, c.type_inv.bytes k)) c.in_default.ensures c.board_in-parts.ensures)).time
+
+pub devices_fault-requires-clause-accesses : goal.devices_fault-requires-clause-accesses
+devices_fault-requires-clause-accesses c =
+    (right-head _ _ (right _ _ (λ k. omega (arith, c.type_inv.bytes k)) c.in_default.ensures c.board_in-parts.ensures)).accesses
 
 pub returns-in-Some-devices_fault-clause-refused : goal.returns-in-Some-devices_fault-clause-refused
 returns-in-Some-devices_fault-clause-refused c =
-    fault-devices c.args.bytes.now c.in-Some-devices_fault.fault (sym c.in_default.ensures) (sym c.in-Some-devices_fault.ensures)
+    let bytes = c.args.bytes.now in
+    let b : BoardParts = c.board_in-parts.result in
+    after-head bytes b (right bytes b (λ k. omega (arith, c.type_inv.bytes k)) c.in_default.ensures c.board_in-parts.ensures)
+    ∙ ap (λ (o : Option StateFault). or_else o (rest_fault b bytes)) (sym c.in-Some-devices_fault.ensures)
+
+pub rest_fault-requires-clause-few : goal.rest_fault-requires-clause-few
+rest_fault-requires-clause-few c =
+    let b : BoardParts = c.board_in-parts.result in
+    let head = right-head _ b (right _ _ (λ k. omega (arith, c.type_inv.bytes k)) c.in_default.ensures c.board_in-parts.ensures) in
+    omega (arith, head.most_cpus, processors_few b.format)
+
+pub rest_fault-requires-clause-guest : goal.rest_fault-requires-clause-guest
+rest_fault-requires-clause-guest c =
+    (right-head _ _ (right _ _ (λ k. omega (arith, c.type_inv.bytes k)) c.in_default.ensures c.board_in-parts.ensures)).guest
+
+pub rest_fault-requires-clause-accesses : goal.rest_fault-requires-clause-accesses
+rest_fault-requires-clause-accesses c =
+    (right-head _ _ (right _ _ (λ k. omega (arith, c.type_inv.bytes k)) c.in_default.ensures c.board_in-parts.ensures)).accesses
 
 pub rest_fault-requires-clause-devices : goal.rest_fault-requires-clause-devices
 rest_fault-requires-clause-devices c =
-    subst (λ (b : BoardParts). AreDevices (devices_in b)) (sym c.board_in-parts.ensures)
-    (devices-valid c.args.bytes.now (head-valid c.args.bytes.now (sym c.in_default.ensures)) (sym c.in_default-devices_fault.ensures))
-
-pub rest_fault-requires-clause-head : goal.rest_fault-requires-clause-head
-rest_fault-requires-clause-head c = head-valid c.args.bytes.now (sym c.in_default.ensures)
+    right-devices _ _ (right _ _ (λ k. omega (arith, c.type_inv.bytes k)) c.in_default.ensures c.board_in-parts.ensures) (sym c.in_default-devices_fault.ensures)
 
 pub returns-in-Some-rest_fault-clause-refused : goal.returns-in-Some-rest_fault-clause-refused
 returns-in-Some-rest_fault-clause-refused c =
-    behind-devices c.args.bytes.now (sym c.in_default.ensures) (sym c.in_default-devices_fault.ensures) ∙ sym c.in-Some-rest_fault.ensures
+    after-devices _ _ (right _ _ (λ k. omega (arith, c.type_inv.bytes k)) c.in_default.ensures c.board_in-parts.ensures) (sym c.in_default-devices_fault.ensures)
+    ∙ sym c.in-Some-rest_fault.ensures
 
 pub unreachable-requires : goal.unreachable-requires
 unreachable-requires c =
-    let bytes = c.args.bytes.now in
-    let small : (k : ℕ) → get_or bytes k 0 < 256 = λ (k : ℕ). omega (arith, c.type_inv.bytes k) in
-    let valid : IsBoard (board_in bytes) =
-    board-valid bytes small (head-valid bytes (sym c.in_default.ensures)) (sym c.in_default-devices_fault.ensures) (sym c.in_default-rest_fault.ensures) in
-    false≢true (c.in-None.ensures.valid.1 (subst (λ (b : BoardParts). IsBoard b) (sym c.board_in-parts.ensures) valid))
+    false≢true (c.in-None.ensures.valid.1 (right-board _ _ (right _ _ (λ k. omega (arith, c.type_inv.bytes k)) c.in_default.ensures c.board_in-parts.ensures)
+    (sym c.in_default-devices_fault.ensures) (sym c.in_default-rest_fault.ensures)))
+
+-- no field is at fault
+unfaulted : (c : goal.In-Some-of_parts) → fault_of c.args.bytes.now ≡ None
+unfaulted c =
+    after-devices _ _ (right _ _ (λ k. omega (arith, c.type_inv.bytes k)) c.in_default.ensures c.board_in-parts.ensures) (sym c.in_default-devices_fault.ensures)
+    ∙ sym c.in_default-rest_fault.ensures
 
 pub returns-clause-taken : goal.returns-clause-taken
 returns-clause-taken c = unfaulted c
 
 pub returns-clause-spelling : goal.returns-clause-spelling
 returns-clause-spelling c =
-    let bytes = c.args.bytes.now in
-    let small : AreBytes bytes = record { each = λ (k : ℕ). omega (arith, c.type_inv.bytes k) } in
-    ap bytes_of (c.in-Some-of_parts.ensures.value ∙ c.board_in-parts.ensures) ∙ bytes_of-board_in bytes small (unfaulted c)
+    ap bytes_of (c.in-Some-of_parts.ensures.value ∙ c.board_in-parts.ensures)
+    ∙ bytes_of-board_in c.args.bytes.now (λ k. omega (arith, c.type_inv.bytes k)) (unfaulted c)

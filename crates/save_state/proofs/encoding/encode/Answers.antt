@@ -3,8 +3,7 @@ use Rattle.save_state.specs.private.Fits.{BoardFits}
 use Rattle.save_state.specs.Reading.{board_in}
 use Rattle.save_state.specs.Table.{fault_of}
 use Rattle.save_state.specs.Writing.{bytes_of}
-use Rattle.save_state.proofs.RoundTripBoard.{board_in-bytes_of}
-use Rattle.save_state.proofs.RoundTrip.{bytes_of-valid}
+use Rattle.save_state.proofs.RoundTrip.{board_in-bytes_of, fault_of-bytes_of}
 use Rattle.save_state.proofs.encoding.encode.Goals as goal
 use Rattle.save_state.proofs.encoding.encode.Goals.{In_ok-put_board-in-Ok}
 
@@ -40,7 +39,7 @@ board_fits c = record {
 
 pub returns-in_ok-put_board-in-Ok-clause-valid : goal.returns-in_ok-put_board-in-Ok-clause-valid
 returns-in_ok-put_board-in-Ok-clause-valid c =
-    ap fault_of (bytes_are c) ∙ bytes_of-valid c.parts-b.result c.parts-b.ensures.valid (board_fits c)
+    ap fault_of (bytes_are c) ∙ fault_of-bytes_of c.parts-b.result c.parts-b.ensures.valid (board_fits c)
 
 pub returns-in_ok-put_board-in-Ok-clause-reads_back : goal.returns-in_ok-put_board-in-Ok-clause-reads_back
 returns-in_ok-put_board-in-Ok-clause-reads_back c =

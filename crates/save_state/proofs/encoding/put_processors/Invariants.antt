@@ -1,12 +1,8 @@
-use Rattle.std.proofs.Common.{◌≡◌, ◌++◌, ℕ, ◌<◌}
-use Rattle.board_core.specs.Tsc.{processor_at}
-use Rattle.save_state.specs.Processors.{processor_bytes}
+use Rattle.board_core.specs.Tsc.{no_processor}
+use Rattle.byte_table.proofs.Loops.{AreWritten}
+use Rattle.save_state.specs.Fields.{processor}
 use Rattle.save_state.specs.private.Fits.{ProcessorFits}
-use Rattle.save_state.specs.Writing.{blocks_below}
 use Rattle.save_state.proofs.encoding.put_processors.Given as goal
 
 abbrev pub invariant-loop-k : goal.invariant-loop-k
-invariant-loop-k l = record {
-  written : l.out.items ≡ l.initial.out.items ++ blocks_below (λ (j : ℕ). processor_bytes (processor_at l.b j)) l.k;
-  fit : (j : ℕ) → j < l.k → ProcessorFits (processor_at l.b j);
-}
+invariant-loop-k l = AreWritten processor no_processor ProcessorFits l.b.processors l.initial.out.items l.out.items l.k

@@ -1,7 +1,9 @@
-use Rattle.save_state.proofs.Agreeing.{timer_fault-is}
+use Rattle.std.proofs.Common.{◌+◌, ◌*◌, get_or}
+use Rattle.hpet_registers.specs.Parts.{no_timer}
+use Rattle.save_state.proofs.BlockRows.{timer-rows}
 use Rattle.save_state.proofs.faults.timer_fault.Goals as goal
 
 pub returns : goal.returns
 returns c =
-    timer_fault-is c.args.bytes.now c.args.k c.timer_row-failing.result c.timer_in-t.result c.first_fault.result c.timer_rows.result c.fault_in.result
-    c.timer_in-t.ensures c.first_fault.ensures.value c.timer_row-failing.ensures c.timer_rows.ensures c.fault_in.ensures
+    let is = timer-rows c.args.k c.args.b.now (get_or c.args.b.now.hpet.timer c.args.k no_timer) (264 + 18 * c.args.k) c.args.bytes.now in
+    cc

@@ -1,18 +1,23 @@
-use Rattle.std.proofs.Common.{◌≡◌, ◌+◌, ap, sym, ◌∙◌, arith}
+use Rattle.std.proofs.Common.{◌+◌, arith}
 use Rattle.board_types.specs.Setup.{timers_of}
-use Rattle.save_state.specs.Places.{format_in}
-use Rattle.save_state.specs.Table.{line_fault}
-use Rattle.save_state.proofs.Below.{fault_below-zero, fault_below-more, fault_below-is}
+use Rattle.board_devices.specs.Places.{no_line}
+use Rattle.byte_table.specs.Kinds.{blocks}
+use Rattle.byte_table.proofs.Loops.{faults-begin, faults-some, faults-none, faults-end}
+use Rattle.save_state.specs.Fields.{line, lines}
+use Rattle.save_state.specs.private.Places.{line_place}
+use Rattle.save_state.proofs.Sizes.{line-size}
 use Rattle.save_state.proofs.lines.lines_fault.Goals as goal
 
 pub loop-k-init : goal.loop-k-init
-loop-k-init c = fault_below-zero (line_fault c.args.bytes.now)
+loop-k-init c = faults-begin line no_line 33 c.args.b.now c.args.b.now.ticks (timers_of c.args.b.now.format + 2) (line_place c.args.b.now.format 0) c.args.bytes.now
 
 pub returns-in-Some : goal.returns-in-Some
-returns-in-Some c =
-    let timers : c.timers_of-k-end.result ≡ timers_of (format_in c.args.bytes.now) = c.timers_of-k-end.ensures ∙ ap timers_of c.requires.format in
-    fault_below-is (line_fault c.args.bytes.now) c.loop-k.k (timers_of (format_in c.args.bytes.now) + 2) c.in-Some.fault c.loop-k.invariant
-    (omega arith) (sym c.in-Some.ensures)
+unfolding lines blocks
+returns-in-Some c = faults-some line-size c.loop-k.invariant (omega (arith, c.loop-k-test.true, c.loop-k.auto.k-end)) (line_place c.args.b.now.format c.loop-k.k) (omega arith) c.in-Some.fault c.in-Some.ensures
 
 pub loop-k-preserved : goal.loop-k-preserved
-loop-k-preserved c = fault_below-more (line_fault c.args.bytes.now) c.loop-k.k c.loop-k.invariant (sym c.in_default.ensures)
+loop-k-preserved c = faults-none line-size c.loop-k.invariant (omega (arith, c.loop-k-test.true, c.loop-k.auto.k-end)) (line_place c.args.b.now.format c.loop-k.k) (omega arith) c.in_default.ensures
+
+pub returns : goal.returns
+unfolding lines blocks
+returns c = faults-end c.loop-k.invariant (omega (arith, c.loop-k-test.false, c.loop-k.auto.k-end))

@@ -1,7 +1,7 @@
 use Rattle.std.proofs.Common.{ℕ, ◌+◌, false, get_or, drop, ap, sym, ◌∙◌, arith}
 use Rattle.save_state.specs.declared.fault.StateKind.TheVariants.{Short}
 use Rattle.save_state.specs.declared.table.Row.{Row}
-use Rattle.save_state.specs.Fields.{fault_in}
+use Rattle.save_state.specs.private.Rows.{row_fault}
 use Rattle.save_state.proofs.Walk.{rest-is, walk-short, walk-invalid, walk-valid, walk-end}
 use Rattle.save_state.proofs.table.fault_in.Goals as goal
 
@@ -27,7 +27,7 @@ loop-r-preserved c =
       near = omega (arith, c.loop-r.invariant.near, c.from.ensures);
       same = c.loop-r.invariant.same ∙ rest-is c.args.bytes.now c.loop-r.at c.loop-r.r-index c.args.rows.now none c.loop-r-test.true
           ∙ walk-valid c.args.bytes.now c.loop-r.at r _ (omega (arith, c.from.ensures)) c.if-not-r.false
-          ∙ ap (λ (n : ℕ). fault_in c.args.bytes.now (c.loop-r.at + n) (drop (c.loop-r.r-index + 1) c.args.rows.now)) (sym c.from.ensures);
+          ∙ ap (λ (n : ℕ). row_fault c.args.bytes.now (c.loop-r.at + n) (drop (c.loop-r.r-index + 1) c.args.rows.now)) (sym c.from.ensures);
     }
 
 pub returns : goal.returns

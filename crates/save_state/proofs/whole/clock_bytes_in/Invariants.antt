@@ -1,9 +1,7 @@
-use Rattle.std.proofs.Common.{◌≡◌, ℕ, ◌+◌, ◌<◌, get_or, length}
-use Rattle.save_state.specs.Fields.{byte_at}
+use Rattle.std.proofs.Common.{ℕ, ◌+◌, ◌*◌}
+use Rattle.byte_table.specs.Codes.{byte}
+use Rattle.byte_table.proofs.Loops.{IsFilled}
 use Rattle.save_state.proofs.whole.clock_bytes_in.Given as goal
 
 abbrev pub invariant-loop-k : goal.invariant-loop-k
-invariant-loop-k l = record {
-  len : length l.all ≡ 128;
-  each : (j : ℕ) → j < l.k → get_or l.all j 0 ≡ byte_at (123 + j) l.bytes;
-}
+invariant-loop-k l = IsFilled (λ (j : ℕ). (byte).value (123 + 1 * j) l.bytes) 0 l.all l.k 128

@@ -1,25 +1,23 @@
-use Rattle.std.proofs.Common.{ℕ, ◌<◌, ap, ◌∙◌, arith}
-use Rattle.std.proofs.lemmas.List.{length-replicate, length-set}
+use Rattle.std.proofs.Common.{ℕ, ◌+◌, ap, ◌∙◌, arith}
 use Rattle.board_devices.specs.Places.{no_line}
-use Rattle.save_state.specs.Reading.{line_place_in, lines_in}
-use Rattle.save_state.proofs.Filled.{places_are, filled_more}
+use Rattle.board_types.specs.Setup.{timers_of}
+use Rattle.byte_table.specs.Fold.{read}
+use Rattle.byte_table.proofs.Loops.{filled-none, filled-more, read-filled}
+use Rattle.save_state.specs.Fields.{line}
+use Rattle.save_state.specs.private.Places.{line_place}
+use Rattle.save_state.proofs.Formats.{timers_few}
+use Rattle.save_state.proofs.Sizes.{line-size}
 use Rattle.save_state.proofs.whole.lines_in.Goals as goal
 
 pub loop-k-init : goal.loop-k-init
-loop-k-init c = record { len = length-replicate 10 no_line; each = λ (j : ℕ) (h : j < 0). absurd (omega arith) }
+loop-k-init c = filled-none _ no_line 10
 
 pub loop-k-preserved : goal.loop-k-preserved
 loop-k-preserved c =
-    let F = line_place_in c.args.bytes.now in
-    record {
-      len = length-set c.loop-k.all c.loop-k.k c.line_place_in.result ∙ c.loop-k.invariant.len;
-      each = filled_more F no_line c.line_place_in.result c.loop-k.all c.loop-k.k 10 c.loop-k.invariant.len c.loop-k.invariant.each c.loop-k-test.true
-          c.line_place_in.ensures;
-    }
+    filled-more _ no_line _ c.loop-k.all c.loop-k.k 10 c.loop-k.invariant (omega (arith, c.loop-k-test.true, c.loop-k.auto.k-end, timers_few c.args.format))
+    (c.line_in.ensures ∙ ap (λ (p : ℕ). read (line c.loop-k.k) p c.args.bytes.now no_line) (c.line_place.ensures.value ∙ omega arith))
 
 pub returns : goal.returns
-unfolding lines_in
 returns c =
-    let F = line_place_in c.args.bytes.now in
-    places_are F no_line c.loop-k.all 0 10 c.loop-k.invariant.len
-    (λ (i : ℕ) (h : i < 10). c.loop-k.invariant.each i (omega arith) ∙ ap F (omega arith))
+    read-filled line no_line 33 line-size (timers_of c.args.format + 2) 10 (line_place c.args.format 0) c.args.bytes.now c.loop-k.all c.loop-k.k
+    (omega (arith, c.loop-k-test.false, c.loop-k.auto.k-end)) (omega (arith, timers_few c.args.format)) c.loop-k.invariant

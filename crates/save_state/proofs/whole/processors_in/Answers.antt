@@ -1,25 +1,22 @@
-use Rattle.std.proofs.Common.{ℕ, ◌<◌, ap, ◌∙◌, arith}
-use Rattle.std.proofs.lemmas.List.{length-replicate, length-set}
+use Rattle.std.proofs.Common.{ℕ, ap, ◌∙◌, arith}
 use Rattle.board_core.specs.Tsc.{no_processor}
-use Rattle.save_state.specs.Reading.{processor_place_in, processors_in}
-use Rattle.save_state.proofs.Filled.{places_are, filled_more}
+use Rattle.byte_table.specs.Fold.{read}
+use Rattle.byte_table.proofs.Loops.{filled-none, filled-more, read-filled}
+use Rattle.save_state.specs.Fields.{processor}
+use Rattle.save_state.specs.private.Places.{processor_place}
+use Rattle.save_state.proofs.Formats.{timers_few}
+use Rattle.save_state.proofs.Sizes.{processor-size}
 use Rattle.save_state.proofs.whole.processors_in.Goals as goal
 
 pub loop-k-init : goal.loop-k-init
-loop-k-init c = record { len = length-replicate 64 no_processor; each = λ (j : ℕ) (h : j < 0). absurd (omega arith) }
+loop-k-init c = filled-none _ no_processor 64
 
 pub loop-k-preserved : goal.loop-k-preserved
 loop-k-preserved c =
-    let F = processor_place_in c.args.bytes.now in
-    record {
-      len = length-set c.loop-k.all c.loop-k.k c.processor_place_in.result ∙ c.loop-k.invariant.len;
-      each = filled_more F no_processor c.processor_place_in.result c.loop-k.all c.loop-k.k 64 c.loop-k.invariant.len c.loop-k.invariant.each
-          c.loop-k-test.true c.processor_place_in.ensures;
-    }
+    filled-more _ no_processor _ c.loop-k.all c.loop-k.k 64 c.loop-k.invariant (omega (arith, c.loop-k-test.true, c.loop-k.auto.k-end, timers_few c.args.format))
+    (c.processor_in.ensures c.loop-k.k ∙ ap (λ (p : ℕ). read (processor c.loop-k.k) p c.args.bytes.now no_processor) (c.processor_place.ensures.value ∙ omega arith))
 
 pub returns : goal.returns
-unfolding processors_in
 returns c =
-    let F = processor_place_in c.args.bytes.now in
-    places_are F no_processor c.loop-k.all 0 64 c.loop-k.invariant.len
-    (λ (i : ℕ) (h : i < 64). c.loop-k.invariant.each i (omega arith) ∙ ap F (omega arith))
+    read-filled processor no_processor 50 processor-size (c.args.cpus) 64 (processor_place c.args.format 0) c.args.bytes.now c.loop-k.all c.loop-k.k
+    (omega (arith, c.loop-k-test.false, c.loop-k.auto.k-end)) (omega (arith, timers_few c.args.format)) c.loop-k.invariant

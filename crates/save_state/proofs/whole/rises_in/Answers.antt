@@ -1,23 +1,18 @@
-use Rattle.std.proofs.Common.{ℕ, ◌<◌, ap, ◌∙◌, arith}
-use Rattle.std.proofs.lemmas.List.{length-replicate, length-set}
-use Rattle.save_state.specs.Reading.{rise_in, rises_in}
-use Rattle.save_state.proofs.Filled.{places_are, filled_more}
+use Rattle.std.proofs.Common.{ℕ, ap, ◌∙◌, arith}
+use Rattle.byte_table.specs.Codes.{number}
+use Rattle.save_state.specs.Fields.{counts_of}
+use Rattle.save_state.specs.private.Places.{rises_place}
+use Rattle.byte_table.specs.Codes.{number_at}
+use Rattle.byte_table.proofs.Loops.{filled-none, filled-more, row-filled}
+use Rattle.save_state.proofs.Formats.{counts_few}
 use Rattle.save_state.proofs.whole.rises_in.Goals as goal
 
 pub loop-k-init : goal.loop-k-init
-loop-k-init c = record { len = length-replicate {A = ℕ} 6 0; each = λ (j : ℕ) (h : j < 0). absurd (omega arith) }
+loop-k-init c = filled-none _ 0 6
 
 pub loop-k-preserved : goal.loop-k-preserved
-loop-k-preserved c =
-    let F = rise_in c.args.bytes.now in
-    record {
-      len = length-set c.loop-k.all c.loop-k.k c.rise_in.result ∙ c.loop-k.invariant.len;
-      each = filled_more F 0 c.rise_in.result c.loop-k.all c.loop-k.k 6 c.loop-k.invariant.len c.loop-k.invariant.each c.loop-k-test.true c.rise_in.ensures;
-    }
+loop-k-preserved c = filled-more _ 0 _ c.loop-k.all c.loop-k.k 6 c.loop-k.invariant (omega (arith, c.loop-k-test.true, c.loop-k.auto.k-end, counts_few c.args.format))
+    (c.eight_at.ensures ∙ ap (λ (p : ℕ). number_at 8 p c.args.bytes.now) (omega (arith, c.rises_place.ensures.value)))
 
 pub returns : goal.returns
-unfolding rises_in
-returns c =
-    let F = rise_in c.args.bytes.now in
-    places_are F 0 c.loop-k.all 0 6 c.loop-k.invariant.len
-    (λ (i : ℕ) (h : i < 6). c.loop-k.invariant.each i (omega arith) ∙ ap F (omega arith))
+returns c = row-filled (number 8) 0 (counts_of c.args.format) 6 (rises_place c.args.format) c.args.bytes.now c.loop-k.all c.loop-k.k (omega (arith, c.loop-k-test.false, c.loop-k.auto.k-end)) (counts_few c.args.format) c.loop-k.invariant

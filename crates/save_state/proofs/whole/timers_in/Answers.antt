@@ -1,24 +1,21 @@
-use Rattle.std.proofs.Common.{ℕ, ◌<◌, ap, ◌∙◌, arith}
-use Rattle.std.proofs.lemmas.List.{length-replicate, length-set}
+use Rattle.std.proofs.Common.{arith}
 use Rattle.hpet_registers.specs.Parts.{no_timer}
-use Rattle.save_state.specs.Reading.{timer_place_in}
-use Rattle.save_state.proofs.Filled.{places_are, filled_more}
+use Rattle.board_types.specs.Setup.{timers_of}
+use Rattle.byte_table.proofs.Loops.{filled-none, filled-more, read-filled}
+use Rattle.save_state.specs.Fields.{timer}
+use Rattle.save_state.proofs.Formats.{timers_few}
+use Rattle.save_state.proofs.Sizes.{timer-size}
 use Rattle.save_state.proofs.whole.timers_in.Goals as goal
 
 pub loop-k-init : goal.loop-k-init
-loop-k-init c = record { len = length-replicate 8 no_timer; each = λ (j : ℕ) (h : j < 0). absurd (omega arith) }
+loop-k-init c = filled-none _ no_timer 8
 
 pub loop-k-preserved : goal.loop-k-preserved
 loop-k-preserved c =
-    let F = timer_place_in c.args.bytes.now in
-    record {
-      len = length-set c.loop-k.all c.loop-k.k c.timer_place_in.result ∙ c.loop-k.invariant.len;
-      each = filled_more F no_timer c.timer_place_in.result c.loop-k.all c.loop-k.k 8 c.loop-k.invariant.len c.loop-k.invariant.each
-          c.loop-k-test.true c.timer_place_in.ensures;
-    }
+    filled-more _ no_timer _ c.loop-k.all c.loop-k.k 8 c.loop-k.invariant (omega (arith, c.loop-k-test.true, c.loop-k.auto.k-end, timers_few c.args.format))
+    (c.timer_in.ensures c.loop-k.k)
 
 pub returns : goal.returns
 returns c =
-    let F = timer_place_in c.args.bytes.now in
-    places_are F no_timer c.loop-k.all 0 8 c.loop-k.invariant.len
-    (λ (i : ℕ) (h : i < 8). c.loop-k.invariant.each i (omega arith) ∙ ap F (omega arith))
+    read-filled timer no_timer 18 timer-size (timers_of c.args.format) 8 (264) c.args.bytes.now c.loop-k.all c.loop-k.k
+    (omega (arith, c.loop-k-test.false, c.loop-k.auto.k-end)) (omega (arith, timers_few c.args.format)) c.loop-k.invariant

@@ -1,12 +1,13 @@
 use Rattle.std.proofs.Common.{◌≡◌, ℕ, List, ◌++◌, IsTrue, refl, ap, sym, ◌∙◌, subst, arith}
 use Rattle.irq_edges.specs.declared.edges.Edge.{Edge}
+use Rattle.irq_edges.specs.declared.bursts.Burst.{Burst}
 use Rattle.board_types.specs.Legal.{is_legal}
 use Rattle.board_types.specs.declared.parts.BoardParts.{BoardParts}
 use Rattle.board_types.specs.declared.reply.Reply.{Reply}
 use Rattle.board_types.specs.declared.reply.Value.{Value}
 use Rattle.board_core.specs.Access.{after_access, reply_of}
 use Rattle.board_core.specs.Pages.{with_greatest}
-use Rattle.board_core.proofs.Laws.{after_access-accesses, reply_of-number}
+use Rattle.board_core.proofs.Laws.{after_access-accesses, reply_of-number, reply_of-bursts}
 use Rattle.board_history.specs.Machine.{Machine, machine_of}
 use Rattle.board_history.specs.History.{board_after}
 use Rattle.board_history.proofs.Pages.{machine_of-access}
@@ -14,8 +15,8 @@ use Rattle.shared_board.specs.private.Seats.{AreAlike}
 use Rattle.shared_board.proofs.Seats.{alike_machine, alike_reply, alike_after, alike_told, alike_refusal}
 use Rattle.shared_board.proofs.held.act.Goals as goal
 
-abbrev reply : ℕ → Value → List Edge → Reply
-reply number value edges = record { number = number; value = value; edges = edges }
+abbrev reply : List Burst → ℕ → Value → List Edge → Reply
+reply bursts number value edges = record { number = number; value = value; edges = edges; bursts = bursts }
 
 pub make-requires-clause-machine : goal.make-requires-clause-machine
 make-requires-clause-machine g c =
@@ -31,10 +32,12 @@ make-requires-clause-applied g c =
     let number : c.accesses-reply.result ≡ r.number =
     c.accesses-reply.ensures ∙ (ap (λ (x : BoardParts). x.accesses) c.in-Ok.ensures.state ∙ (after_access-accesses b call.cpu call.h call.access
     ∙ sym (reply_of-number b call.cpu call.h call.access))) in
-    let edges : c.answer-told.new.edges ≡ r.edges = c.in-Ok.ensures.edges ∙ ap (λ (es : List Edge). es ++ r.edges) c.requires.fresh in
-    let is : reply c.accesses-reply.result c.answer-told.new.value c.answer-told.new.edges ≡ r =
-    ap (λ (n : ℕ). reply n c.answer-told.new.value c.answer-told.new.edges) number
-    ∙ (ap (λ (v : Value). reply r.number v c.answer-told.new.edges) c.in-Ok.ensures.value ∙ ap (reply r.number r.value) edges) in
+    let edges : c.answer-told.new.edges ≡ r.edges = c.in-Ok.ensures.edges ∙ ap (λ (es : List Edge). es ++ r.edges) c.requires.fresh.edges in
+    let bursts : c.args.reply.now.bursts ≡ r.bursts = c.requires.fresh.bursts ∙ sym (reply_of-bursts b call.cpu call.h call.access) in
+    let is : reply c.args.reply.now.bursts c.accesses-reply.result c.answer-told.new.value c.answer-told.new.edges ≡ r =
+    ap (λ (bs : List Burst). reply bs c.accesses-reply.result c.answer-told.new.value c.answer-told.new.edges) bursts
+    ∙ (ap (λ (n : ℕ). reply r.bursts n c.answer-told.new.value c.answer-told.new.edges) number
+    ∙ (ap (λ (v : Value). reply r.bursts r.number v c.answer-told.new.edges) c.in-Ok.ensures.value ∙ ap (reply r.bursts r.number r.value) edges)) in
     record {
       answered = record {
         cpu_below = (let e = ap (λ (m : Machine). m.cpus) same in let l = c.requires.cpu in omega arith);
@@ -50,7 +53,7 @@ returns-in-Ok-clause-ok g c =
     let b = c.args.board.now in
     let d : BoardParts = board_after c.args.seat.now.seen in
     let call = c.args.call in
-    let r = reply c.accesses-reply.result c.answer-told.new.value c.answer-told.new.edges in
+    let r = reply c.args.reply.now.bursts c.accesses-reply.result c.answer-told.new.value c.answer-told.new.edges in
     let after : AreAlike c.answer-told.new.self (after_access d call.cpu call.h call.access) =
     ap (λ x. with_greatest x 0) c.in-Ok.ensures.state ∙ alike_after b d call.cpu call.h call.access c.requires.alike in
     record {

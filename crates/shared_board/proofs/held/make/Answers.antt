@@ -1,38 +1,48 @@
-use Rattle.std.proofs.Common.{◌≡◌, ap, sym, ◌∙◌, arith, Some}
+use Rattle.std.proofs.Common.{◌≡◌, ℕ, refl, ap, sym, ◌∙◌, subst, arith, Some}
 use Rattle.board_types.specs.declared.parts.BoardParts.{BoardParts}
 use Rattle.board_core.specs.Access.{after_access}
-use Rattle.board_core.specs.Pages.{published_by}
-use Rattle.board_core.proofs.Laws.{taken_page}
-use Rattle.board_history.specs.Machine.{Machine, page_at}
+use Rattle.board_history.specs.Machine.{Machine, page_at, page_published}
 use Rattle.board_history.specs.History.{board_after}
-use Rattle.board_history.proofs.Pages.{publishes_wall-page}
 use Rattle.board_history.proofs.Laws.{board_after-snoc}
+use Rattle.board_history.proofs.Pages.{machine_of-access}
 use Rattle.clock_table.specs.Calls.{entry_of}
-use Rattle.shared_board.proofs.Seats.{alike_page, applied_place}
+use Rattle.shared_board.proofs.Seats.{alike_machine, alike_page}
+use Rattle.board_history.proofs.Pages.{taken_table}
+use Rattle.shared_board.proofs.Tables.{applied_place}
 use Rattle.shared_board.proofs.held.make.Goals as goal
 
 pub publish-requires-clause-there : goal.publish-requires-clause-there
 publish-requires-clause-there g c =
-    applied_place c.args.board.now (board_after c.args.seat.now.seen) c.args.call c.args.reply.now c.in-Some.page c.requires.applied
-    (sym c.published_by.ensures ∙ c.in-Some.is)
+    let published : page_published c.args.board.now.cpus c.args.call.cpu c.args.call.access ≡ Some c.in-Some.index =
+    ap (λ (n : ℕ). page_published n c.args.call.cpu c.args.call.access) (sym c.cpus.ensures.value) ∙ (sym c.page_published.ensures ∙ c.in-Some.is) in
+    applied_place c.args.board.now.cpus c.args.board.now (board_after c.args.seat.now.seen) c.args.call c.args.reply.now c.in-Some.index refl
+    c.requires.applied published
 
-pub publish-requires-clause-cpu : goal.publish-requires-clause-cpu
-publish-requires-clause-cpu g c =
-    let low = applied_place c.args.board.now (board_after c.args.seat.now.seen) c.args.call c.args.reply.now c.in-Some.page c.requires.applied
-    (sym c.published_by.ensures ∙ c.in-Some.is) in
+pub publish-requires-clause-index : goal.publish-requires-clause-index
+publish-requires-clause-index g c =
+    let published : page_published c.args.board.now.cpus c.args.call.cpu c.args.call.access ≡ Some c.in-Some.index =
+    ap (λ (n : ℕ). page_published n c.args.call.cpu c.args.call.access) (sym c.cpus.ensures.value) ∙ (sym c.page_published.ensures ∙ c.in-Some.is) in
+    let low = applied_place c.args.board.now.cpus c.args.board.now (board_after c.args.seat.now.seen) c.args.call c.args.reply.now c.in-Some.index refl
+    c.requires.applied published in
     let same = ap (λ (m : Machine). m.cpus) c.requires.machine in
     omega arith
 
 pub publish-requires-clause-room : goal.publish-requires-clause-room
 publish-requires-clause-room g c =
+    let published : page_published c.args.board.now.cpus c.args.call.cpu c.args.call.access ≡ Some c.in-Some.index =
+    ap (λ (n : ℕ). page_published n c.args.call.cpu c.args.call.access) (sym c.cpus.ensures.value) ∙ (sym c.page_published.ensures ∙ c.in-Some.is) in
     let call = c.args.call in
-    let is : published_by call.cpu call.access ≡ Some c.in-Some.page = sym c.published_by.ensures ∙ c.in-Some.is in
-    taken_page (board_after c.args.seat.now.seen) call.cpu call.h call.access c.requires.applied.answered.taken c.in-Some.page
-    (publishes_wall-page call.cpu c.in-Some.page call.access is) is
+    let d : BoardParts = board_after c.args.seat.now.seen in
+    let same : c.args.board.now.cpus ≡ d.cpus =
+    ap (λ (m : Machine). m.cpus) (alike_machine c.args.board.now (after_access d call.cpu call.h call.access) c.requires.applied.after
+    ∙ machine_of-access d call.cpu call.h call.access) in
+    let a = c.requires.applied.answered in
+    taken_table d call.cpu call.h c.in-Some.index call.access a.cpu_below a.legal a.taken
+    (subst (λ (n : ℕ). page_published n call.cpu call.access ≡ Some c.in-Some.index) same published)
 
 pub publish-requires-clause-page : goal.publish-requires-clause-page
 publish-requires-clause-page g c =
     let call = c.args.call in
     let d : BoardParts = board_after c.args.seat.now.seen in
-    ap (λ (b : BoardParts). page_at b c.in-Some.page) (board_after-snoc c.args.seat.now.seen (entry_of call c.args.reply.now))
-    ∙ sym (alike_page c.args.board.now (after_access d call.cpu call.h call.access) c.in-Some.page c.requires.applied.after)
+    ap (λ (b : BoardParts). page_at b c.in-Some.index) (board_after-snoc c.args.seat.now.seen (entry_of call c.args.reply.now))
+    ∙ sym (alike_page c.args.board.now (after_access d call.cpu call.h call.access) c.in-Some.index c.requires.applied.after)

@@ -10,38 +10,39 @@ use Rattle.shared_board.proofs.Fields.{put_all, put_four, open_1, open_2, open_3
 use Rattle.shared_board.proofs.pens.publish.Goals as goal
 
 pub put-requires-clause-open : goal.put-requires-clause-open
-put-requires-clause-open g c = subst (HasOpen c.args.cpu) (sym c.begin.ensures) (open_1 c.args.cpu c.args.seat.now)
+put-requires-clause-open g c = subst (HasOpen c.args.index) (sym c.begin.ensures) (open_1 c.args.index c.args.seat.now)
 
 pub put-requires-2-clause-open : goal.put-requires-2-clause-open
 put-requires-2-clause-open g c =
-    subst (HasOpen c.args.cpu) (sym (c.put.ensures ∙ ap (put_in 0 _) c.begin.ensures)) (open_2 c.args.cpu _ c.args.seat.now)
+    subst (HasOpen c.args.index) (sym (c.put.ensures ∙ ap (put_in 0 _) c.begin.ensures)) (open_2 c.args.index _ c.args.seat.now)
 
 pub put-requires-3-clause-open : goal.put-requires-3-clause-open
 put-requires-3-clause-open g c =
-    subst (HasOpen c.args.cpu) (sym (c.put-2.ensures ∙ ap (put_in 1 _) (c.put.ensures ∙ ap (put_in 0 _) c.begin.ensures)))
-    (open_3 c.args.cpu _ _ c.args.seat.now)
+    subst (HasOpen c.args.index) (sym (c.put-2.ensures ∙ ap (put_in 1 _) (c.put.ensures ∙ ap (put_in 0 _) c.begin.ensures)))
+    (open_3 c.args.index _ _ c.args.seat.now)
 
 pub put-requires-4-clause-open : goal.put-requires-4-clause-open
 put-requires-4-clause-open g c =
-    subst (HasOpen c.args.cpu)
+    subst (HasOpen c.args.index)
     (sym (c.put-3.ensures ∙ ap (put_in 2 _) (c.put-2.ensures ∙ ap (put_in 1 _) (c.put.ensures ∙ ap (put_in 0 _) c.begin.ensures))))
-    (open_4 c.args.cpu _ _ _ c.args.seat.now)
+    (open_4 c.args.index _ _ _ c.args.seat.now)
 
 pub finish-requires-clause-open : goal.finish-requires-clause-open
 finish-requires-clause-open g c =
-    let p = c.page.result in
+    let p = c.table_page.result in
     let v = c.args.seat.now in
-    subst (λ (u : View). HasPut c.args.cpu (page_at (board_after (u.seen ++ (entry_of c.args.call.now c.args.reply.now) ∷ [])) c.args.cpu) u)
-    (sym (put_four c.args.cpu c.page_words.result p c.args.seat.now c.begin.new.seat c.put.new.seat c.put-2.new.seat c.put-3.new.seat
+    subst (λ (u : View). HasPut c.args.index (page_at (board_after (u.seen ++ (entry_of c.args.call.now c.args.reply.now) ∷ [])) c.args.index) u)
+    (sym (put_four c.args.index c.page_words.result p c.args.seat.now c.begin.new.seat c.put.new.seat c.put-2.new.seat c.put-3.new.seat
     c.put-4.new.seat c.begin.ensures c.put.ensures c.put-2.ensures c.put-3.ensures c.put-4.ensures c.page_words.ensures.value))
-    (subst (λ (q : Page). HasPut c.args.cpu q (put_all c.args.cpu (field_at p 0) (field_at p 1) (field_at p 2) (field_at p 3) v)) (c.page.ensures.value ∙ sym c.requires.page)
-    (all_put c.args.cpu p v))
+    (subst (λ (q : Page). HasPut c.args.index q (put_all c.args.index (field_at p 0) (field_at p 1) (field_at p 2) (field_at p 3) v)) (c.table_page.ensures
+    ∙ sym c.requires.page)
+    (all_put c.args.index p v))
 
 pub returns : goal.returns
 returns g c =
-    let p = c.page.result in
+    let p = c.table_page.result in
     let v = c.args.seat.now in
-    extends_from c.args.cpu (field_at p 0) (field_at p 1) (field_at p 2) (field_at p 3) (entry_of c.args.call.now c.args.reply.now) v c.finish.new.seat
+    extends_from c.args.index (field_at p 0) (field_at p 1) (field_at p 2) (field_at p 3) (entry_of c.args.call.now c.args.reply.now) v c.finish.new.seat
     (subst (λ (u : View). Extends (entry_of c.args.call.now c.args.reply.now) u c.finish.new.seat)
-    (put_four c.args.cpu c.page_words.result p c.args.seat.now c.begin.new.seat c.put.new.seat c.put-2.new.seat c.put-3.new.seat
+    (put_four c.args.index c.page_words.result p c.args.seat.now c.begin.new.seat c.put.new.seat c.put-2.new.seat c.put-3.new.seat
     c.put-4.new.seat c.begin.ensures c.put.ensures c.put-2.ensures c.put-3.ensures c.put-4.ensures c.page_words.ensures.value) c.finish.ensures)

@@ -3,6 +3,7 @@ use Rattle.std.proofs.Common.{
   ℕ,
   ◌-◌,
   Bool,
+  List,
   None,
   map,
   take,
@@ -18,12 +19,16 @@ use Rattle.std.proofs.Common.{
 use Rattle.std.specs.String.{string_bytes}
 use Rattle.command_line.specs.declared.command.Command.{Command}
 use Rattle.trace_loop.specs.Text.{memory_fault_text}
-use Rattle.trace_loop.specs.Outcome.{Outcome}
-use Rattle.trace_runner.specs.Replay.{progress_behind, replay, replay_run}
-use Rattle.trace_runner.specs.Check.{check_behind}
-use Rattle.trace_runner.specs.Race.{RaceLeaves, check_run}
+use Rattle.trace_loop.specs.Progress.{opened, behind}
+use Rattle.trace_loop.specs.Outcome.{Outcome, run_of}
+use Rattle.trace_runner.specs.Replay.{answer_of, closing_of, progress_behind, replay, replay_run}
+use Rattle.trace_runner.specs.Check.{check_behind, check}
+use Rattle.trace_runner.specs.Race.{RaceLeaves, AloneLeaves, check_run}
 use Rattle.board_io.specs.Faults.{Rose}
 use Rattle.trace_runner.specs.Status.{Shown}
+use Rattle.trace_runner.specs.Trace.{TraceRead}
+use Rattle.trace_runner.specs.declared.check.Checked.TheVariants.{Whole}
+use Rattle.trace_runner.specs.declared.replay.Replay.{Replay}
 use Rattle.trace_runner.specs.declared.status.Status.{Status}
 use Rattle.trace_runner.proofs.Sayings.{asked-same, raced-same}
 use Rattle.trace_runner.proofs.Statuses.{shown_is}
@@ -32,22 +37,23 @@ use Rattle.trace_runner.proofs.program.run.Goals as goal
 pub returns-in-Ok-Replay-clause-replay : goal.returns-in-Ok-Replay-clause-replay
 unfolding progress_behind replay
 returns-in-Ok-Replay-clause-replay g c = λ shows is input e.
-    let before : ℕ = g.S.Source.before c.replay_trace.new.source - g.S.Source.given c.args.source.now in
-    let given : ℕ = g.S.Source.given c.replay_trace.new.source - g.S.Source.given c.args.source.now in
+    let before : ℕ = g.S.Source.before c.answer_lines.new.source - g.S.Source.given c.args.source.now in
+    let given : ℕ = g.S.Source.given c.answer_lines.new.source - g.S.Source.given c.args.source.now in
     let faults : ℕ = g.S.Source.faults c.args.source.now in
-    let faults_now : ℕ = g.S.Source.faults c.replay_trace.new.source in
+    let faults_now : ℕ = g.S.Source.faults c.answer_lines.new.source in
     let same : c.in-Ok-Replay.shows_state ≡ shows =
     asked-same c.command_of.result (map string_bytes c.args.words.now) shows c.in-Ok-Replay.shows_state c.command_of.ensures.command
     (c.in-Ok-Replay.is ∙ ap (λ (x : Command). Ok x) c.in-Ok-Replay.field-0-is) is in
-    let outcome : Outcome (replay_run c.in-Ok-Replay.shows_state input before given faults faults_now) c.replay_trace.result
-    (g.K.Sink.contents c.args.sink.now) (g.K.Sink.contents c.replay_trace.new.sink) =
-    c.replay_trace.ensures.outcome input e in
+    let outcome : Outcome (replay_run c.in-Ok-Replay.shows_state input before given faults faults_now) c.answer_lines.result
+    (g.K.Sink.contents c.args.sink.now) (g.K.Sink.contents c.answer_lines.new.sink) =
+    subst (λ (r : Replay). Outcome (run_of answer_of closing_of r input before given faults faults_now) c.answer_lines.result
+    (g.K.Sink.contents c.args.sink.now) (g.K.Sink.contents c.answer_lines.new.sink)) c.new-replay.ensures (c.answer_lines.ensures.outcome input e) in
     inl (subst (λ (b : Bool). Shown (replay_run b input before given faults faults_now) c.status_of.result (g.K.Sink.contents c.args.sink.now)
-    (g.K.Sink.contents c.replay_trace.new.sink)) same
+    (g.K.Sink.contents c.answer_lines.new.sink)) same
     (subst (λ (s : Status). Shown (replay_run c.in-Ok-Replay.shows_state input before given faults faults_now) s (g.K.Sink.contents c.args.sink.now)
-    (g.K.Sink.contents c.replay_trace.new.sink)) (sym c.status_of.ensures)
-    (shown_is (replay_run c.in-Ok-Replay.shows_state input before given faults faults_now) c.replay_trace.result (g.K.Sink.contents c.args.sink.now)
-    (g.K.Sink.contents c.replay_trace.new.sink) outcome)))
+    (g.K.Sink.contents c.answer_lines.new.sink)) (sym c.status_of.ensures)
+    (shown_is (replay_run c.in-Ok-Replay.shows_state input before given faults faults_now) c.answer_lines.result (g.K.Sink.contents c.args.sink.now)
+    (g.K.Sink.contents c.answer_lines.new.sink) outcome)))
 
 pub returns-in-Ok-Replay-clause-stopped : goal.returns-in-Ok-Replay-clause-stopped
 unfolding progress_behind
@@ -55,8 +61,9 @@ returns-in-Ok-Replay-clause-stopped g c = λ shows is input e.
     let same : c.in-Ok-Replay.shows_state ≡ shows =
     asked-same c.command_of.result (map string_bytes c.args.words.now) shows c.in-Ok-Replay.shows_state c.command_of.ensures.command
     (c.in-Ok-Replay.is ∙ ap (λ (x : Command). Ok x) c.in-Ok-Replay.field-0-is) is in
-    inl (subst (λ (b : Bool). (progress_behind b (take (g.S.Source.before c.replay_trace.new.source - g.S.Source.given c.args.source.now) input)).end ≡ None)
-    same (c.replay_trace.ensures.stopped input e))
+    let bytes : List ℕ = take (g.S.Source.before c.answer_lines.new.source - g.S.Source.given c.args.source.now) input in
+    inl (subst (λ (b : Bool). (progress_behind b bytes).end ≡ None) same
+    (subst (λ (r : Replay). (behind answer_of bytes (opened r)).end ≡ None) c.new-replay.ensures (c.answer_lines.ensures.stopped input e)))
 
 pub returns-in-Err-clause-replay : goal.returns-in-Err-clause-replay
 unfolding memory_fault_text
@@ -88,3 +95,20 @@ returns-in-Ok-Race-clause-race_stopped g c = λ shows is input e.
 pub returns-in-Err-clause-race : goal.returns-in-Err-clause-race
 unfolding memory_fault_text
 returns-in-Err-clause-race g c = λ shows is input e. inr (c.say.ensures.said, refl)
+
+pub returns-in-Ok-Race-clause-race_alone : goal.returns-in-Ok-Race-clause-race_alone
+returns-in-Ok-Race-clause-race_alone g c = λ shows is input e.
+    let before : ℕ = g.S.Source.before c.race.new.source - g.S.Source.given c.args.source.now in
+    let given : ℕ = g.S.Source.given c.race.new.source - g.S.Source.given c.args.source.now in
+    let same : c.in-Ok-Race.shows_state ≡ shows =
+    raced-same c.command_of.result (map string_bytes c.args.words.now) shows c.in-Ok-Race.shows_state c.command_of.ensures.command
+    (c.in-Ok-Race.is ∙ ap (λ (x : Command). Ok x) c.in-Ok-Race.field-0-is) is in
+    λ trace whole one.
+    inl (subst (λ (b : Bool). (t : TraceRead) → (check b input).end ≡ Whole t → t.opening.cpus ≡ 1
+    → AloneLeaves (check_run b input before given (g.S.Source.faults c.args.source.now) (g.S.Source.faults c.race.new.source)) (replay b input)
+    c.race.result (g.K.Sink.contents c.args.sink.now) (g.K.Sink.contents c.race.new.sink)
+    (Rose (g.K.Sink.faults c.args.sink.now) (g.K.Sink.faults c.race.new.sink))) same (c.race.ensures.alone input e) trace whole one)
+
+pub returns-in-Err-clause-race_alone : goal.returns-in-Err-clause-race_alone
+unfolding memory_fault_text
+returns-in-Err-clause-race_alone g c = λ shows is input e trace whole one. inr (c.say.ensures.said, refl)

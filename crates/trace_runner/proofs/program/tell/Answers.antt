@@ -1,14 +1,17 @@
-use Rattle.std.proofs.Common.{◌∙◌, ap, sym, inl, inr, true≢false}
-use Rattle.trace_runner.specs.Text.{help_text, version_text, usage_text}
-use Rattle.trace_runner.specs.Sayings.{reads_trace, saying_of, usage}
+use Rattle.std.proofs.Common.{◌∙◌, ℕ, List, Some, ap, sym, inl, inr, true≢false}
+use Rattle.trace_runner.specs.Text.{version_text, usage_text}
+use Rattle.trace_runner.specs.Sayings.{Saying, reads_trace, saying_of, usage}
 use Rattle.trace_runner.specs.declared.status.Status.TheVariants.{Ok}
 use Rattle.trace_runner.proofs.Sayings.{said-whole}
 use Rattle.trace_runner.proofs.program.tell.Goals as goal
 
+abbrev done_by : List ℕ → Saying
+done_by text = record { status = Ok; text = text }
+
 pub returns-in-Help-clause-said : goal.returns-in-Help-clause-said
-unfolding help_text
 returns-in-Help-clause-said g c = λ saying is.
-    said-whole (record { status = Ok; text = help_text }) saying c.say.result _ _ _ (ap saying_of (sym c.in-Help.is) ∙ is) c.say.ensures.said
+    said-whole (done_by c.help.result.now) saying c.say.result _ _ _
+    (ap (λ (text : List ℕ). Some (done_by text)) c.help.ensures ∙ (ap saying_of (sym c.in-Help.is) ∙ is)) c.say.ensures.said
 
 pub returns-in-Version-clause-said : goal.returns-in-Version-clause-said
 unfolding version_text

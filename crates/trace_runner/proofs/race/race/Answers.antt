@@ -1,4 +1,4 @@
-use Rattle.std.proofs.Common.{◌≡◌, ◌-◌, ℕ, take, inr, ap, subst, ◌∙◌}
+use Rattle.std.proofs.Common.{◌≡◌, ◌-◌, ℕ, take, inr, refl, ap, subst, ◌∙◌}
 use Rattle.board_io.specs.Faults.{Rose}
 use Rattle.trace_loop.specs.Outcome.{Outcome}
 use Rattle.trace_loop.specs.declared.ended.Ended.{Ended}
@@ -6,7 +6,7 @@ use Rattle.trace_loop.specs.declared.ended.Ended.TheVariants.{By}
 use Rattle.trace_runner.specs.Race.{check_run}
 use Rattle.trace_runner.specs.declared.check.Checked.{Checked}
 use Rattle.trace_runner.proofs.CheckQuiet.{silent_whole}
-use Rattle.trace_runner.proofs.Races.{whole_left, stopped_left, checked_run, checked_on}
+use Rattle.trace_runner.proofs.Races.{whole_left, stopped_left, alone_left, stopped_alone, checked_run, checked_on}
 use Rattle.trace_runner.proofs.race.race.Goals as goal
 
 pub returns-in-By-Whole-clause-leaves : goal.returns-in-By-Whole-clause-leaves
@@ -102,3 +102,74 @@ pub returns-clause-stopped : goal.returns-clause-stopped
 returns-clause-stopped g c = λ input e.
     checked_on c.args.shows_state (take (g.S.Source.before c.answer_lines.new.source - g.S.Source.given c.args.source.now) input) c.new-check.result
     c.new-check.ensures (c.answer_lines.ensures.stopped input e)
+
+pub returns-in-By-Whole-clause-alone : goal.returns-in-By-Whole-clause-alone
+returns-in-By-Whole-clause-alone g c = λ input e trace is one.
+    let before : ℕ = g.S.Source.before c.answer_lines.new.source - g.S.Source.given c.args.source.now in
+    let given : ℕ = g.S.Source.given c.answer_lines.new.source - g.S.Source.given c.args.source.now in
+    let faults : ℕ = g.S.Source.faults c.args.source.now in
+    let now : ℕ = g.S.Source.faults c.answer_lines.new.source in
+    let w = check_run c.args.shows_state input before given faults now in
+    let old = g.K.Sink.contents c.args.sink.now in
+    let mid = g.K.Sink.contents c.answer_lines.new.sink in
+    let o = checked_run c.args.shows_state input before given faults now c.new-check.result c.answer_lines.result old mid c.new-check.ensures
+    (c.answer_lines.ensures.outcome input e) in
+    let same : g.K.Sink.faults c.answer_lines.new.sink ≡ g.K.Sink.faults c.args.sink.now = c.answer_lines.ensures.sink_well (λ no. cc) in
+    alone_left w c.args.shows_state input c.in-By-Whole.trace trace c.write.result old mid (g.K.Sink.contents c.write.new.sink) _ _
+    (silent_whole c.args.shows_state input c.in-By-Whole.trace) refl
+    (λ rose. subst (λ (n : ℕ). Rose n (g.K.Sink.faults c.write.new.sink)) same rose)
+    (subst (λ (x : Ended Checked). Outcome w x old mid) (c.in-By-Whole.is ∙ ap (λ (x : Checked). By x) c.in-By-Whole.field-0-is) o) is one
+    c.write.ensures.alone
+
+pub returns-in-By-Stopped-clause-alone : goal.returns-in-By-Stopped-clause-alone
+returns-in-By-Stopped-clause-alone g c = λ input e trace is one.
+    let before : ℕ = g.S.Source.before c.answer_lines.new.source - g.S.Source.given c.args.source.now in
+    let given : ℕ = g.S.Source.given c.answer_lines.new.source - g.S.Source.given c.args.source.now in
+    let faults : ℕ = g.S.Source.faults c.args.source.now in
+    let now : ℕ = g.S.Source.faults c.answer_lines.new.source in
+    let w = check_run c.args.shows_state input before given faults now in
+    let old = g.K.Sink.contents c.args.sink.now in
+    let mid = g.K.Sink.contents c.answer_lines.new.sink in
+    let o = checked_run c.args.shows_state input before given faults now c.new-check.result c.answer_lines.result old mid c.new-check.ensures
+    (c.answer_lines.ensures.outcome input e) in
+    stopped_alone w c.args.shows_state input c.in-By-Stopped.verdict trace c.verdict_status.result old mid _ _ refl
+    (subst (λ (x : Ended Checked). Outcome w x old mid) (c.in-By-Stopped.is ∙ ap (λ (x : Checked). By x) c.in-By-Stopped.field-0-is) o) is
+
+pub returns-in-SourceFault-clause-alone : goal.returns-in-SourceFault-clause-alone
+returns-in-SourceFault-clause-alone g c = λ input e trace is one.
+    let before : ℕ = g.S.Source.before c.answer_lines.new.source - g.S.Source.given c.args.source.now in
+    let given : ℕ = g.S.Source.given c.answer_lines.new.source - g.S.Source.given c.args.source.now in
+    let faults : ℕ = g.S.Source.faults c.args.source.now in
+    let now : ℕ = g.S.Source.faults c.answer_lines.new.source in
+    let w = check_run c.args.shows_state input before given faults now in
+    let old = g.K.Sink.contents c.args.sink.now in
+    let mid = g.K.Sink.contents c.answer_lines.new.sink in
+    let o = checked_run c.args.shows_state input before given faults now c.new-check.result c.answer_lines.result old mid c.new-check.ensures
+    (c.answer_lines.ensures.outcome input e) in
+    inr (subst (λ (x : Ended Checked). Outcome w x old mid) c.in-SourceFault.is o)
+
+pub returns-in-SinkFault-clause-alone : goal.returns-in-SinkFault-clause-alone
+returns-in-SinkFault-clause-alone g c = λ input e trace is one.
+    let before : ℕ = g.S.Source.before c.answer_lines.new.source - g.S.Source.given c.args.source.now in
+    let given : ℕ = g.S.Source.given c.answer_lines.new.source - g.S.Source.given c.args.source.now in
+    let faults : ℕ = g.S.Source.faults c.args.source.now in
+    let now : ℕ = g.S.Source.faults c.answer_lines.new.source in
+    let w = check_run c.args.shows_state input before given faults now in
+    let old = g.K.Sink.contents c.args.sink.now in
+    let mid = g.K.Sink.contents c.answer_lines.new.sink in
+    let o = checked_run c.args.shows_state input before given faults now c.new-check.result c.answer_lines.result old mid c.new-check.ensures
+    (c.answer_lines.ensures.outcome input e) in
+    inr (subst (λ (x : Ended Checked). Outcome w x old mid) c.in-SinkFault.is o)
+
+pub returns-clause-alone : goal.returns-clause-alone
+returns-clause-alone g c = λ input e trace is one.
+    let before : ℕ = g.S.Source.before c.answer_lines.new.source - g.S.Source.given c.args.source.now in
+    let given : ℕ = g.S.Source.given c.answer_lines.new.source - g.S.Source.given c.args.source.now in
+    let faults : ℕ = g.S.Source.faults c.args.source.now in
+    let now : ℕ = g.S.Source.faults c.answer_lines.new.source in
+    let w = check_run c.args.shows_state input before given faults now in
+    let old = g.K.Sink.contents c.args.sink.now in
+    let mid = g.K.Sink.contents c.answer_lines.new.sink in
+    let o = checked_run c.args.shows_state input before given faults now c.new-check.result c.answer_lines.result old mid c.new-check.ensures
+    (c.answer_lines.ensures.outcome input e) in
+    inr (subst (λ (x : Ended Checked). Outcome w x old mid) c.in-NoMemory.is o)

@@ -35,7 +35,7 @@ act-requires-clause-accesses c =
 pub act-requires-clause-version : goal.act-requires-clause-version
 unfolding after_run
 act-requires-clause-version c =
-    subst (λ (b : BoardParts). IfSome (raised_version b.processors b.wall_version c.args.cpu c.args.a) (λ v. v < LAST_VERSION)) (sym c.run_to.ensures.state)
+    subst (λ (b : BoardParts). IfSome (raised_version b.processors b.wall_version b.hv.version c.args.cpu c.args.a) (λ v. v < LAST_VERSION)) (sym c.run_to.ensures.state)
     (taken_version c.args.self.now c.args.cpu c.args.h c.args.a c.in-Ok.ensures.taken)
 
 -- the board that the access finds, and the edges on the way to it

@@ -1,3 +1,4 @@
+use Rattle.board_core.proofs.Joined.{IsHv-none, AreApics-none}
 use Rattle.std.proofs.Common.{◌≡◌, ℕ, ap, sym, refl, ◌∙◌, arith}
 use Rattle.host_counter.proofs.Times.{time_at-start}
 use Rattle.board_devices.specs.declared.parts.DeviceParts.{DeviceParts}
@@ -29,6 +30,8 @@ invariant_of-result c = record {
     wall = record { words = record { most = omega arith; even = omega arith }; unpublished = λ e. refl; below_second = c.requires.wall_nsec };
     processors = AreProcessors-none c.args.setup.now.guest_khz c.args.setup.now.cpus 64;
     rises = AreRises-none c.args.setup.now.format 0 6 _;
+    apics = AreApics-none c.args.setup.now.format;
+    hv = IsHv-none c.args.setup.now.format c.args.setup.now.guest_khz c.args.setup.now.cpus c.requires.least_cpus;
   };
 }
   where

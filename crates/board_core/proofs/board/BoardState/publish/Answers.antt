@@ -34,5 +34,7 @@ invariant_of-self c =
             (omega arith) inside (most-cpus c.self.inside.format c.self.inside.cpus c.self.inside.devices.hpet.timers c.self.invariant.joined.format)
             c.self.invariant.joined.processors new;
         rises = c.self.invariant.joined.rises;
+        apics = c.self.invariant.joined.apics;
+        hv = c.self.invariant.joined.hv;
       };
     }

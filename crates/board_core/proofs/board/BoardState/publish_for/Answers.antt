@@ -1,3 +1,7 @@
+use Rattle.std.proofs.Common.{IsTrue}
+use Rattle.board_types.specs.Legal.{is_legal}
+use Rattle.board_core.proofs.Legals.{raised-hv}
+use Rattle.board_core.proofs.Joined.{IsHv-after}
 use Rattle.std.proofs.Common.{false, ◌≡◌, ◌<◌, IfSome, ap, sym, subst, ◌∙◌, arith}
 use Rattle.board_types.specs.declared.parts.BoardParts.{BoardParts}
 use Rattle.board_types.specs.declared.parts.TheConstants.{LAST_VERSION, MOST_ACCESSES}
@@ -21,9 +25,9 @@ seen c = board_parts_of c.self.inside
 untouched : (c : goal.After-publish_by) → touches c.args.a ≡ false
 untouched c = publishes-untouched c.args.a c.requires.publishes
 
-version_is : (c : goal.After-publish_by) → IfSome (raised_version c.self.inside.processors c.self.inside.wall_version c.args.cpu c.args.a)
+version_is : (c : goal.After-publish_by) → IfSome (raised_version c.self.inside.processors c.self.inside.wall_version c.self.inside.hv.version c.args.cpu c.args.a)
     (λ v. v < LAST_VERSION)
-version_is c = subst (λ (b : BoardParts). IfSome (raised_version b.processors b.wall_version c.args.cpu c.args.a) (λ v. v < LAST_VERSION))
+version_is c = subst (λ (b : BoardParts). IfSome (raised_version b.processors b.wall_version b.hv.version c.args.cpu c.args.a) (λ v. v < LAST_VERSION))
     (sym c.self.view_is) c.requires.version
 
 place_is : (c : goal.After-publish_by) → IfSome (published_by c.args.cpu c.args.a) (λ k. k < c.self.inside.cpus)
@@ -31,27 +35,36 @@ place_is c = subst (λ (b : BoardParts). IfSome (published_by c.args.cpu c.args.
     (legal-page c.args.self.now.cpus c.args.self.now.format c.args.cpu c.args.a c.requires.cpu c.requires.legal)
 
 state_is : (c : goal.After-publish_by) → with_parts (seen c) (devices_in (seen c)) c.wall_number_after-self-inside.result
-    c.wall_version_after-self-inside.result c.publish_by.new.processors (seen c).rises ≡ after_act (seen c) c.args.cpu c.args.h c.args.a
+    c.wall_version_after-self-inside.result c.publish_by.new.processors (seen c).rises c.hv_after-self-inside.result ≡ after_act (seen c) c.args.cpu c.args.h c.args.a
 state_is c =
     with_parts-is (seen c) c.args.cpu c.args.h c.args.a (devices_in (seen c)) c.wall_number_after-self-inside.result c.wall_version_after-self-inside.result
-    c.publish_by.new.processors (seen c).rises (sym (devices-kept c.args.a (devices_in (seen c)) (untouched c))) c.wall_number_after-self-inside.ensures
-    c.wall_version_after-self-inside.ensures c.publish_by.ensures (sym (rises-kept (seen c) c.args.a (untouched c)))
+    c.publish_by.new.processors (seen c).rises c.hv_after-self-inside.result (sym (devices-kept c.args.a (devices_in (seen c)) (untouched c))) c.wall_number_after-self-inside.ensures
+    c.wall_version_after-self-inside.ensures c.publish_by.ensures (sym (rises-kept (seen c) c.args.a (untouched c))) c.hv_after-self-inside.ensures
 
 pub invariant_of-self : goal.invariant_of-self
 invariant_of-self c = record {
   time = c.self.invariant.time;
   joined = subst IsJoined (sym (state_is c)) (IsJoined-acted (seen c) c.args.cpu c.args.h c.args.a c.self.invariant.joined few (omega arith)
       (IsWall-after c.args.a c.self.inside.wall_number c.self.inside.wall_version c.self.inside.wall_nsec
-      (raised-wall c.self.inside.processors c.self.inside.wall_version c.args.cpu c.args.a (version_is c)) c.self.invariant.joined.wall)
+      (raised-wall c.self.inside.processors c.self.inside.wall_version c.self.inside.hv.version c.args.cpu c.args.a (version_is c)) c.self.invariant.joined.wall)
       (AreProcessors-after c.self.inside.anchor c.self.inside.guest_khz c.self.inside.cpus c.args.h c.args.a c.self.inside.processors (omega arith)
       (most-cpus c.self.inside.format c.self.inside.cpus c.self.inside.devices.hpet.timers c.self.invariant.joined.format)
       c.self.invariant.joined.processors time c.args.cpu (place_is c)
-      (raised-page c.self.inside.processors c.self.inside.wall_version c.args.cpu c.args.a (version_is c)))
+      (raised-page c.self.inside.processors c.self.inside.wall_version c.self.inside.hv.version c.args.cpu c.args.a (version_is c)))
+      (IsHv-after c.self.inside.anchor c.self.inside.format c.self.inside.guest_khz c.self.inside.cpus c.args.cpu c.args.h c.args.a c.self.inside.processors
+      c.self.inside.hv c.self.invariant.joined.rates.guest inside legal
+      (raised-hv c.self.inside.processors c.self.inside.wall_version c.self.inside.hv.version c.args.cpu c.args.a (version_is c)) c.self.invariant.joined.hv)
       (due-kept c.args.a (devices_in (seen c)) (untouched c)) (lifts-kept (seen c) c.args.a (untouched c)));
 }
   where
     few : c.self.inside.accesses < MOST_ACCESSES
     few = subst (λ (b : BoardParts). b.accesses < MOST_ACCESSES) (sym c.self.view_is) c.requires.accesses
+
+    inside : c.args.cpu < c.self.inside.cpus
+    inside = subst (λ (b : BoardParts). c.args.cpu < b.cpus) (sym c.self.view_is) c.requires.cpu
+
+    legal : IsTrue (is_legal c.self.inside.cpus c.self.inside.format c.args.a)
+    legal = subst (λ (b : BoardParts). IsTrue (is_legal b.cpus b.format c.args.a)) (sym c.self.view_is) c.requires.legal
 
     time : HasTime c.self.inside.anchor c.args.h
     time = subst (λ (b : BoardParts). HasTime b.anchor c.args.h) (sym c.self.view_is) c.requires.time

@@ -82,6 +82,8 @@ invariant_of-self c =
             omega (arith, c.run_to-came.ensures.due k less, c.self.invariant.joined.due k less, from, now_is c, to_is c) in r;
         wall = c.self.invariant.joined.wall;
         processors = c.self.invariant.joined.processors;
+        apics = c.self.invariant.joined.apics;
+        hv = c.self.invariant.joined.hv;
         rises = subst (λ (rs : List ℕ). AreRises c.self.inside.format c.self.inside.accesses (levels c.run_to-came.new.self) rs) (sym (rises_are c))
             (AreRises-after c.self.inside.format c.self.inside.accesses c.self.inside.accesses 0 (levels c.self.inside.devices) (levels c.run_to-came.new.self)
             (ran_to (seen c) c.args.h).edges c.self.inside.rises (omega arith) (omega arith) c.self.invariant.joined.rises

@@ -1,3 +1,4 @@
+use Rattle.board_core.proofs.Kept.{hv-kept}
 use Rattle.std.proofs.Common.{◌≡◌, ℕ, ◌+◌, ◌<◌, false, ap, sym, subst, ◌∙◌}
 use Rattle.board_types.specs.declared.access.Access.{Access}
 use Rattle.board_types.specs.declared.parts.BoardParts.{BoardParts}
@@ -14,9 +15,10 @@ use Rattle.board_core.proofs.board.BoardState.tell.Goals as goal
 counted : (b : BoardParts) (cpu h : ℕ) (a : Access) → touches a ≡ false → publishes a ≡ false
     → record b { accesses = b.accesses + 1 } ≡ after_act b cpu h a
 counted b cpu h a untouched quiet =
-    with_parts-is b cpu h a (devices_in b) b.wall_number b.wall_version b.processors b.rises (sym (devices-kept a (devices_in b) untouched))
+    with_parts-is b cpu h a (devices_in b) b.wall_number b.wall_version b.processors b.rises b.hv (sym (devices-kept a (devices_in b) untouched))
     (sym (number-kept a b.wall_number quiet)) (sym (version-kept a b.wall_version quiet))
     (sym (processors-kept b.anchor b.guest_khz cpu h a b.processors quiet)) (sym (rises-kept b a untouched))
+    (sym (hv-kept b.anchor b.guest_khz cpu h a b.processors b.hv quiet))
 
 pub invariant_of-self : goal.invariant_of-self
 invariant_of-self c =

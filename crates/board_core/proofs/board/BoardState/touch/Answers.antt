@@ -1,3 +1,7 @@
+use Rattle.board_types.specs.declared.parts.HvParts.{HvParts}
+use Rattle.board_core.specs.Conditions.{IsHv}
+use Rattle.board_core.specs.Hv.{hv_after}
+use Rattle.board_core.proofs.Kept.{hv-kept}
 use Rattle.std.proofs.Common.{false, ◌≡◌, ℕ, ◌+◌, ◌<◌, ◌≤◌, List, ◌++◌, drop, ap, sym, subst, ◌∙◌, arith}
 use Rattle.std.proofs.Math.Seq.{drop-append_seam}
 use Rattle.irq_edges.specs.declared.edges.Edge.{Edge}
@@ -72,16 +76,17 @@ quiet : (c : goal.After-count_rises) → publishes c.args.a.now ≡ false
 quiet c = touches-quiet c.args.a.now c.requires.touches
 
 state_is : (c : goal.After-count_rises) (cpu h : ℕ) → with_parts (seen c) c.act-word.new.self (seen c).wall_number (seen c).wall_version
-    (seen c).processors c.count_rises.new.rises ≡ after_act (seen c) cpu h c.args.a.now
+    (seen c).processors c.count_rises.new.rises (seen c).hv ≡ after_act (seen c) cpu h c.args.a.now
 state_is c cpu h =
-    with_parts-is (seen c) cpu h c.args.a.now c.act-word.new.self (seen c).wall_number (seen c).wall_version (seen c).processors c.count_rises.new.rises
+    with_parts-is (seen c) cpu h c.args.a.now c.act-word.new.self (seen c).wall_number (seen c).wall_version (seen c).processors c.count_rises.new.rises (seen c).hv
     (acted_is c) (sym (number-kept c.args.a.now (seen c).wall_number (quiet c))) (sym (version-kept c.args.a.now (seen c).wall_version (quiet c)))
     (sym (processors-kept (seen c).anchor (seen c).guest_khz cpu h c.args.a.now (seen c).processors (quiet c))) (rises_are c)
+    (sym (hv-kept (seen c).anchor (seen c).guest_khz cpu h c.args.a.now (seen c).processors (seen c).hv (quiet c)))
 
 pub invariant_of-self : goal.invariant_of-self
 invariant_of-self c = record {
   time = c.self.invariant.time;
-  joined = subst IsJoined (sym (state_is c 0 0)) (IsJoined-acted (seen c) 0 0 c.args.a.now c.self.invariant.joined few (omega arith) wall processors
+  joined = subst IsJoined (sym (state_is c 0 0)) (IsJoined-acted (seen c) 0 0 c.args.a.now c.self.invariant.joined few (omega arith) wall processors hv
       (due_is c) (lifts_are c));
 }
   where
@@ -99,6 +104,11 @@ invariant_of-self c = record {
     processors =
         subst (λ (ps : List ProcessorParts). AreProcessors (seen c).guest_khz (seen c).cpus ps)
         (sym (processors-kept (seen c).anchor (seen c).guest_khz 0 0 c.args.a.now (seen c).processors (quiet c))) c.self.invariant.joined.processors
+
+    hv : IsHv (seen c).format (seen c).guest_khz (seen c).cpus (hv_after (seen c).anchor (seen c).guest_khz 0 0 c.args.a.now (seen c).processors (seen c).hv)
+    hv =
+        subst (λ (p : HvParts). IsHv (seen c).format (seen c).guest_khz (seen c).cpus p)
+        (sym (hv-kept (seen c).anchor (seen c).guest_khz 0 0 c.args.a.now (seen c).processors (seen c).hv (quiet c))) c.self.invariant.joined.hv
 
 pub returns-clause-state : goal.returns-clause-state
 returns-clause-state c = λ cpu h. state_is c cpu h ∙ ap (λ (b : BoardParts). after_act b cpu h c.args.a.now) c.self.view_is

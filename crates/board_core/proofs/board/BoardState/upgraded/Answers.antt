@@ -1,3 +1,4 @@
+use Rattle.board_core.proofs.Joined.{IsHv-later, AreApics-none}
 use Rattle.std.proofs.Common.{◌≡◌, ℕ, ◌≤◌, ◌+◌, Bool, cond, List, get_or, ap, sym, subst, ◌∙◌, arith}
 use Rattle.host_counter.specs.Time.{time_at}
 use Rattle.hpet_registers.specs.declared.parts.HpetParts.{HpetParts}
@@ -34,6 +35,9 @@ invariant_of-board c =
             omega (arith, fewer, c.self.invariant.joined.due k less) in r;
         wall = c.self.invariant.joined.wall;
         processors = c.self.invariant.joined.processors;
+        apics = AreApics-none c.args.to;
+        hv = IsHv-later c.self.inside.format c.args.to c.self.inside.guest_khz c.self.inside.cpus c.self.inside.hv c.self.invariant.joined.hv later
+            c.self.invariant.joined.format.least_cpus;
         rises = AreRises-later c.self.inside.format c.args.to c.self.inside.accesses (levels d) (levels c.devices_upgraded-devices.result) c.self.inside.rises
             c.self.invariant.joined.rises later (sym c.devices_upgraded-devices.ensures.levels);
       };

@@ -1,11 +1,11 @@
-use Rattle.std.proofs.Common.{◌<◌, ap, sym, ◌∙◌, arith}
+use Rattle.std.proofs.Common.{◌<◌, ◌+◌, ap, sym, ◌∙◌, arith}
 use Rattle.clock_table.specs.Steps.{begun}
 use Rattle.clock_table.proofs.WriteSteps.{Holds, begins}
 use Rattle.clock_table.proofs.table.ClockTable.begin.Goals as goal
 
 pub fetch_add-requires : goal.fetch_add-requires
 fetch_add-requires g c = let t = c.args.self.now in
-    let inside : c.args.cpu < t.table.shared.key.cpus = let l = c.requires.cpu in let b = ap (λ b. b.cpus) t.opened in omega arith in
+    let inside : c.args.page < t.table.shared.key.cpus + 1 = let l = c.requires.page in let b = ap (λ b. b.cpus) t.opened in omega arith in
     let holds : Holds t.table.shared.key c.seat.inside.seat.id c.requires.pen.number.0 c.seat.inside.seat.me =
     record {
       pen = rw c.seat.view_is c.requires.pen.pen;
@@ -15,15 +15,15 @@ fetch_add-requires g c = let t = c.args.self.now in
       live = c.seat.invariant.2;
     } in (
       c.seat.invariant.0 ∙ sym t.named,
-      (let w = t.sized in let b = ap (λ b. b.cpus) t.opened in let p = c.place.ensures in let l = c.requires.cpu in omega arith),
-      rw c.place.ensures (begins t.table.shared.key _ c.args.cpu _ c.requires.pen.number.0 c.seat.inside.seat.me inside holds
+      (let w = t.sized in let b = ap (λ b. b.cpus) t.opened in let p = c.place.ensures in let l = c.requires.page in omega arith),
+      rw c.place.ensures (begins t.table.shared.key _ c.args.page _ c.requires.pen.number.0 c.seat.inside.seat.me inside holds
           (rw c.seat.view_is c.requires.shut) (rw c.seat.view_is c.requires.room)),
     )
 
 pub invariant_of-seat : goal.invariant_of-seat
 invariant_of-seat g c = let e = c.fetch_add.ensures in let i = c.seat.invariant in
-    let same = e.2.1 c.args.cpu c.place.ensures in
+    let same = e.2.1 c.args.page c.place.ensures in
     (e.0 ∙ i.0, e.2.0 ∙ i.1, ap (λ v. v.live) same ∙ i.2, ap (λ v. v.limit) same ∙ i.3)
 
 pub returns : goal.returns
-returns g c = c.fetch_add.ensures.2.1 c.args.cpu c.place.ensures ∙ ap (λ v. begun c.args.cpu v) c.seat.view_is
+returns g c = c.fetch_add.ensures.2.1 c.args.page c.place.ensures ∙ ap (λ v. begun c.args.page v) c.seat.view_is

@@ -28,7 +28,7 @@ returns-clause-greatest g c = let k = ended g c in
 
 pub returns-clause-pages : goal.returns-clause-pages
 returns-clause-pages g c cpu l small = let k = ended g c in
-    c.pages_of-pages.ensures.pages cpu (let w = c.args.self.sized in let n = c.word_count-count.ensures in omega arith) small ∙ k.page cpu l
+    c.pages_of-pages.ensures.pages cpu (let w = c.args.self.sized in let n = c.word_count-count.ensures in omega arith) small ∙ k.page cpu (omega arith)
 
 pub returns-clause-no_pages : goal.returns-clause-no_pages
 returns-clause-no_pages g c cpu l =

@@ -10,7 +10,7 @@ load-requires g c = let t = c.args.self.now in
     let k = c.number.result in
     let at : c.place.result ≡ place r.0.cpu (suc k) = let p = c.place.ensures in let same = r.2 in omega arith in (
       c.seat.invariant.0 ∙ sym t.named,
-      (let w = t.sized in let b = ap (λ b. b.cpus) t.opened in let p = c.place.ensures in let l = c.requires.cpu in let small = c.number.ensures.small in
+      (let w = t.sized in let b = ap (λ b. b.cpus) t.opened in let p = c.place.ensures in let l = c.requires.page in let small = c.number.ensures.small in
           omega arith),
       rw at (fields t.table.shared.key _ k _ c.requires.pass.number.0 c.seat.inside.seat.me r.0 c.number.ensures.small
           (rw c.seat.view_is c.requires.pass.number.1) (rw c.seat.view_is c.requires.pass.meet) (rw c.seat.view_is r.1)),
@@ -18,12 +18,12 @@ load-requires g c = let t = c.args.self.now in
 
 pub invariant_of-seat : goal.invariant_of-seat
 invariant_of-seat g c = let e = c.load.ensures in let i = c.seat.invariant in
-    let at : c.place.result ≡ place c.args.cpu (suc c.number.result) = let p = c.place.ensures in omega arith in
-    let same = e.2.1 c.args.cpu c.number.result c.number.ensures.small at in
+    let at : c.place.result ≡ place c.args.page (suc c.number.result) = let p = c.place.ensures in omega arith in
+    let same = e.2.1 c.args.page c.number.result c.number.ensures.small at in
     (e.0 ∙ i.0, e.2.0 ∙ i.1, ap (λ v. v.live) same ∙ i.2, ap (λ v. v.limit) same ∙ i.3)
 
 pub returns : goal.returns
 returns g c =
-    let at : c.place.result ≡ place c.args.cpu (suc c.number.result) = let p = c.place.ensures in omega arith in
-    c.load.ensures.2.1 c.args.cpu c.number.result c.number.ensures.small at
+    let at : c.place.result ≡ place c.args.page (suc c.number.result) = let p = c.place.ensures in omega arith in
+    c.load.ensures.2.1 c.args.page c.number.result c.number.ensures.small at
     ∙ (ap (λ v. noted_in c.number.result c.load.result v) c.seat.view_is ∙ ap (λ (k : ℕ). noted_in k c.load.result c.args.seat.now) c.number.ensures.value)

@@ -1,4 +1,4 @@
-use Rattle.std.proofs.Common.{◌<◌, ◌≡◌, suc, ℕ, ap, sym, ◌∙◌, arith}
+use Rattle.std.proofs.Common.{◌<◌, ◌+◌, ◌≡◌, suc, ℕ, ap, sym, ◌∙◌, arith}
 use Rattle.clock_table.specs.Steps.{put_in}
 use Rattle.clock_table.specs.Words.{place}
 use Rattle.clock_table.proofs.WriteSteps.{Holds, puts}
@@ -18,21 +18,21 @@ store-requires g c = let t = c.args.self.now in
       live = c.seat.invariant.2;
     } in
     let at : c.place.result ≡ place o.0.cpu (suc k) = let p = c.place.ensures in let same = o.2 in omega arith in
-    let inside : o.0.cpu < t.table.shared.key.cpus = let same = o.2 in let l = c.requires.cpu in let b = ap (λ b. b.cpus) t.opened in omega arith in (
+    let inside : o.0.cpu < t.table.shared.key.cpus + 1 = let same = o.2 in let l = c.requires.page in let b = ap (λ b. b.cpus) t.opened in omega arith in (
       c.seat.invariant.0 ∙ sym t.named,
-      (let w = t.sized in let b = ap (λ b. b.cpus) t.opened in let p = c.place.ensures in let l = c.requires.cpu in omega arith),
+      (let w = t.sized in let b = ap (λ b. b.cpus) t.opened in let p = c.place.ensures in let l = c.requires.page in omega arith),
       rw at (puts t.table.shared.key _ k c.args.word _ c.requires.pen.number.0 c.seat.inside.seat.me o.0 inside small holds (rw c.seat.view_is o.1) o.3),
     )
 
 pub invariant_of-seat : goal.invariant_of-seat
 invariant_of-seat g c = let e = c.store.ensures in let i = c.seat.invariant in
-    let at : c.place.result ≡ place c.args.cpu (suc c.number.result) = let p = c.place.ensures in omega arith in
-    let same = e.2.1 c.args.cpu c.number.result c.number.ensures.small at in
+    let at : c.place.result ≡ place c.args.page (suc c.number.result) = let p = c.place.ensures in omega arith in
+    let same = e.2.1 c.args.page c.number.result c.number.ensures.small at in
     (e.0 ∙ i.0, e.2.0 ∙ i.1, ap (λ v. v.live) same ∙ i.2, ap (λ v. v.limit) same ∙ i.3)
 
 pub returns : goal.returns
 returns g c = let e = c.store.ensures in
     let n = c.number.ensures.value in
-    let at : c.place.result ≡ place c.args.cpu (suc c.number.result) = let p = c.place.ensures in omega arith in
-    e.2.1 c.args.cpu c.number.result c.number.ensures.small at
+    let at : c.place.result ≡ place c.args.page (suc c.number.result) = let p = c.place.ensures in omega arith in
+    e.2.1 c.args.page c.number.result c.number.ensures.small at
     ∙ (ap (λ v. put_in c.number.result c.args.word v) c.seat.view_is ∙ ap (λ (k : ℕ). put_in k c.args.word c.args.seat.now) n)

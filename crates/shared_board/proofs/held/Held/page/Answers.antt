@@ -3,7 +3,7 @@ use Rattle.board_types.specs.declared.parts.BoardParts.{BoardParts}
 use Rattle.board_history.specs.History.{board_after}
 use Rattle.clock_table.specs.declared.view.View.{View}
 use Rattle.clock_table.specs.Steps.{pen_left}
-use Rattle.board_history.specs.declared.entry.Entry.TheVariants.{PageRead}
+use Rattle.board_history.specs.History.{read_of}
 use Rattle.shared_board.specs.declared.known.PassKnown.{PassKnown}
 use Rattle.shared_board.specs.Passes.{Answered, Unanswered}
 use Rattle.shared_board.specs.Pages.{HadRoom}
@@ -11,6 +11,9 @@ use Rattle.shared_board.specs.Faults.{IsFull}
 use Rattle.shared_board.specs.private.Seats.{AreAlike, PenMoved, known}
 use Rattle.shared_board.proofs.Seats.{alike_quiet, legal_either, writer_again, below_moved, below_left, pen_of}
 use Rattle.shared_board.proofs.Turns.{read_turned, read_answered, read_room, read_spent}
+use Rattle.std.proofs.Common.{◌≤◌}
+use Rattle.board_history.specs.History.{version_after}
+use Rattle.shared_board.proofs.Tables.{read_least}
 use Rattle.shared_board.proofs.held.Held.page.Goals as goal
 
 pub read-result-requires-clause-alike : goal.read-result-requires-clause-alike
@@ -32,7 +35,7 @@ invariant_of-self g c =
     let moved = c.move_pen-front.ensures.moved in
     let alike = alike_quiet c.self.inside.board.value c.self.inside.seat.seen x.seen i.1 moved.quiet in
     let legal = legal_either c.pass.inside.seat c.self.inside.seat x c.pass.invariant.0.legal i.0.legal moved.either in
-    let t = read_turned c.read-result.result m n c.args.cpu c.args.h c.self.inside.board.value x y
+    let t = read_turned c.read-result.result g.N.Name.state.cpus m n c.args.index c.args.h c.self.inside.board.value x y
     (pen_of n c.pass.inside.seat c.self.inside.seat x c.pass.invariant.0 moved)
     (moved.ended ∙ c.pass.invariant.0.ended) (below_moved m c.self.inside.seat c.pass.inside.seat x i.3 c.pass.invariant.1 moved) alike legal
     c.read-result.ensures.ok c.read-result.ensures.spent in
@@ -53,7 +56,7 @@ invariant_of-pass g c =
     let moved = c.move_pen-front.ensures.moved in
     let alike = alike_quiet c.self.inside.board.value c.self.inside.seat.seen x.seen i.1 moved.quiet in
     let legal = legal_either c.pass.inside.seat c.self.inside.seat x c.pass.invariant.0.legal i.0.legal moved.either in
-    let t = read_turned c.read-result.result m n c.args.cpu c.args.h c.self.inside.board.value x y
+    let t = read_turned c.read-result.result g.N.Name.state.cpus m n c.args.index c.args.h c.self.inside.board.value x y
     (pen_of n c.pass.inside.seat c.self.inside.seat x c.pass.invariant.0 moved)
     (moved.ended ∙ c.pass.invariant.0.ended) (below_moved m c.self.inside.seat c.pass.inside.seat x i.3 c.pass.invariant.1 moved) alike legal
     c.read-result.ensures.ok c.read-result.ensures.spent in
@@ -62,17 +65,21 @@ invariant_of-pass g c =
 pub returns-clause-ok : goal.returns-clause-ok
 returns-clause-ok g c =
     let n = c.pass.inside.number in
-    subst (λ (z : PassKnown). IfOk c.read-result.result (λ page. Answered z (known n c.move_pen.new.from) (PageRead z.number c.args.cpu c.args.h page true)))
+    subst (λ (z : PassKnown). IfOk c.read-result.result (λ page. Answered z (known n c.move_pen.new.from)
+    (read_of g.N.Name.state.cpus z.number c.args.index c.args.h page true)))
     c.pass.view_is
-    (read_answered c.read-result.result n c.args.cpu c.args.h c.pass.inside.seat c.self.inside.seat c.move_pen-front.new.to c.read-result.new.seat
+    (read_answered c.read-result.result g.N.Name.state.cpus n c.args.index c.args.h c.pass.inside.seat
+    c.self.inside.seat c.move_pen-front.new.to c.read-result.new.seat
     c.move_pen.new.from c.pass.invariant.0 c.move_pen-front.ensures.moved c.move_pen.ensures.left c.read-result.ensures.ok)
 
 pub returns-clause-room : goal.returns-clause-room
 returns-clause-room g c =
     let n = c.pass.inside.number in
-    subst (λ (z : PassKnown). IfOk c.read-result.result (λ page. HadRoom (PageRead z.number c.args.cpu c.args.h page true) c.move_pen.new.from.seen))
+    subst (λ (z : PassKnown). IfOk c.read-result.result (λ page. HadRoom
+    (read_of g.N.Name.state.cpus z.number c.args.index c.args.h page true) c.move_pen.new.from.seen))
     c.pass.view_is
-    (read_room c.read-result.result n c.args.cpu c.args.h c.move_pen-front.new.to c.read-result.new.seat c.move_pen.new.from c.move_pen.ensures.left
+    (read_room c.read-result.result g.N.Name.state.cpus n c.args.index c.args.h c.move_pen-front.new.to
+    c.read-result.new.seat c.move_pen.new.from c.move_pen.ensures.left
     c.read-result.ensures.ok c.read-result.ensures.room)
 
 pub returns-clause-spent : goal.returns-clause-spent
@@ -86,3 +93,11 @@ returns-clause-spent g c =
     × (c.move_pen.new.from.misses ≡ z.misses) × IsFull f c.move_pen.new.from.seen)) c.pass.view_is
     (read_spent c.read-result.result n c.pass.inside.seat c.self.inside.seat x c.read-result.new.seat c.move_pen.new.from c.pass.invariant.0 moved legal
     c.move_pen.ensures.left c.read-result.ensures.spent)
+
+pub returns-clause-least : goal.returns-clause-least
+returns-clause-least g c =
+    let x = c.move_pen-front.new.to in
+    let moved = c.move_pen-front.ensures.moved in
+    let legal = legal_either c.pass.inside.seat c.self.inside.seat x c.pass.invariant.0.legal c.self.invariant.0.legal moved.either in
+    subst (λ (z : PassKnown). IfOk c.read-result.result (λ page. version_after z.seen c.args.index ≤ page.version)) c.pass.view_is
+    (read_least c.read-result.result c.args.index c.pass.inside.seat.seen x.seen moved.more legal c.read-result.ensures.page)

@@ -1,32 +1,11 @@
-use Rattle.std.proofs.Common.{subst, IfOk, IfErr, OnOk}
-use Rattle.host_counter.specs.declared.Anchor.{Anchor}
-use Rattle.board_core.specs.Time.{HasTime}
-use Rattle.shared_board.specs.declared.known.PassKnown.{PassKnown}
+use Rattle.std.proofs.Common.{sym, subst}
+use Rattle.pvclock_page.specs.declared.page.PageReply.{PageReply}
 use Rattle.shared_board.specs.Pages.{HasTriedPage}
-use Rattle.shared_board.specs.Faults.{IsPageFault}
-use Rattle.shared_board.specs.private.Seats.{known}
-use Rattle.shared_board.proofs.Clocks.{try_answered, try_faulted, try_rests}
+use Rattle.shared_board.proofs.Tables.{tried_page}
 use Rattle.shared_board.proofs.shared.SharedBoard.try_page.Goals as goal
 
-pub invariant_of-pass : goal.invariant_of-pass
-invariant_of-pass g c = try_rests c.try_page_on.result c.args.self.now.host.anchor c.args.self.now.ratio g.N.Name.passes c.pass.inside.number
-    c.args.cpu c.args.h c.pass.inside.seat c.try_page_on.new.seat c.pass.invariant.0 c.pass.invariant.1 c.try_page_on.ensures.ok c.try_page_on.ensures.err
-
-pub returns-clause-time : goal.returns-clause-time
-returns-clause-time g c = subst (λ (a : Anchor). OnOk c.try_page_on.result (HasTime a c.args.h)) c.args.self.now.clock c.try_page_on.ensures.time
-
-pub returns-clause-ok : goal.returns-clause-ok
-returns-clause-ok g c =
-    let n = c.pass.inside.number in
-    subst (λ (z : PassKnown). IfOk c.try_page_on.result (λ r. HasTriedPage g.N.Name.state c.args.cpu c.args.h r z (known n c.try_page_on.new.seat)))
-    c.pass.view_is
-    (try_answered c.try_page_on.result g.N.Name.state c.args.self.now.ratio n c.args.cpu c.args.h c.pass.inside.seat c.try_page_on.new.seat
-    c.args.self.now.scaled c.pass.invariant.0 c.try_page_on.ensures.ok)
-
-pub returns-clause-err : goal.returns-clause-err
-returns-clause-err g c =
-    let n = c.pass.inside.number in
-    subst (λ (z : PassKnown × Anchor). IfErr c.try_page_on.result (λ f. IsPageFault z.1 c.args.cpu c.args.h f z.0 (known n c.try_page_on.new.seat)))
-    (λ i. (c.pass.view_is i, c.args.self.now.clock i))
-    (try_faulted c.try_page_on.result c.args.self.now.host.anchor n c.args.cpu c.args.h c.pass.inside.seat c.try_page_on.new.seat c.pass.invariant.0
-    c.try_page_on.ensures.err)
+pub returns-in-Ok-clause-ok : goal.returns-in-Ok-clause-ok
+returns-in-Ok-clause-ok g c =
+    subst (λ (r : PageReply). HasTriedPage g.N.Name.state c.args.cpu c.args.h r c.args.pass.now c.try_table.new.pass) (sym c.answer_by.ensures)
+    (tried_page g.N.Name.state c.args.self.now.ratio c.args.cpu c.args.h c.in-Ok.page c.args.pass.now c.try_table.new.pass c.args.self.now.scaled
+    c.requires.cpu c.in-Ok.ensures.ok)

@@ -8,14 +8,15 @@ use Rattle.trace_runner.specs.declared.replay.Replay.{Replay}
 use Rattle.trace_runner.proofs.ReadyNext.{ready_next, next_if}
 use Rattle.trace_runner.proofs.replay.ReplayAnswererVerdict.answer.Goals as goal
 
-pub returns-in-Some-clause-may : goal.returns-in-Some-clause-may
-returns-in-Some-clause-may c =
+pub returns-then-read_record-clause-may : goal.returns-then-read_record-clause-may
+returns-then-read_record-clause-may c =
     let line : ℕ = c.args.line in
     let r : Replay = c.args.self.now in
-    next_if c.answer_record.result (line + 1) (record_answer line c.in-Some.record (record r { reading = c.take_record.new.self }))
-    (record r { reading = c.take_record.new.self }) c.answer_record.new.self c.answer_record.new.end
+    let rec = c.read_record.new.into in
+    next_if c.answer_record.result (line + 1) (record_answer line rec (record r { reading = c.read_record.new.self }))
+    (record r { reading = c.read_record.new.self }) c.answer_record.new.self c.answer_record.new.end
     c.answer_record.ensures.ends c.answer_record.ensures.state
     (subst (λ (p : ReadingParts).
-    (let r' : Replay = record r { reading = p } in end_of (record_answer line c.in-Some.record r') ≡ None
-    → IsReady (line + 1) (state_behind (record_answer line c.in-Some.record r') r'))) (sym c.in-Some.ensures.state)
-    (ready_next line r c.args.text.now (Next c.in-Some.record) c.requires.may c.in-Some.ensures.record))
+    (let r' : Replay = record r { reading = p } in end_of (record_answer line rec r') ≡ None
+    → IsReady (line + 1) (state_behind (record_answer line rec r') r'))) (sym c.if-read_record.ensures.state)
+    (ready_next line r c.args.text.now (Next rec) c.requires.may c.if-read_record.ensures.record))

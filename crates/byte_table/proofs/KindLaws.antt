@@ -1,0 +1,227 @@
+-- The laws of each kind of field.
+use Rattle.std.proofs.Common.{◌≡◌, ℕ, zero, suc, ◌+◌, ◌-◌, ◌*◌, ◌<◌, ◌≤◌, ⊎_elim, Bool, true, false, cond, ◌&&◌, List, [], ◌∷◌, ◌++◌, length, take, drop, get_or, replicate, Some, None, refl, ap, sym, subst, ◌∙◌, arith}
+use Rattle.std.proofs.lemmas.Bool.{lt-ltb, le-ltb, and_from, and_parts, cases_lt}
+use Rattle.std.proofs.lemmas.List.{length-append, get_or-drop, drop_more, drop-drop}
+use Rattle.byte_table.specs.Fold.{Field, size_of, write, read, rewrite_in, moved, fault_in, size_below, write_below, read_below, fault_below, all_hold, hold_below}
+use Rattle.byte_table.specs.Codes.{Code, row_bytes, row_value, row_spelled}
+use Rattle.byte_table.specs.Kinds.{Faults, one_fault, plain, row, blocks, elsewhere}
+use Rattle.byte_table.proofs.FoldLaws.{AreBytes, first-fault, next, split, room, take-more, IsHere, AllHere, IsSpelled, AllSpelled, or_else-none, or_else-both, length-write}
+use Rattle.byte_table.proofs.FoldLaws.{read-write, fault-write, rewritten, AllHold, hold}
+use Rattle.byte_table.proofs.CodeLaws.{IsWritten, IsCode, AllWritten, row-is, row-same}
+
+-- the fault of one field: short, invalid, or none
+pub one_fault-short : {F : Type 0} (faults : Faults F) (size : ℕ) (valid : Bool) (place : ℕ) (bytes : List ℕ) → length bytes < place + size
+    → one_fault faults size valid place bytes ≡ Some (faults.short (length bytes))
+one_fault-short faults size valid place bytes less =
+    ap (λ (t : Bool). cond t (Some (faults.short (length bytes))) (cond valid None (Some (faults.invalid place)))) (lt-ltb (length bytes) (place + size) less)
+
+pub one_fault-is : {F : Type 0} (faults : Faults F) (size : ℕ) (valid : Bool) (place : ℕ) (bytes : List ℕ) → place + size ≤ length bytes → (v : Bool) → valid ≡ v
+    → one_fault faults size valid place bytes ≡ cond v None (Some (faults.invalid place))
+one_fault-is faults size valid place bytes le v is =
+    ap (λ (t : Bool). cond t (Some (faults.short (length bytes))) (cond valid None (Some (faults.invalid place)))) (le-ltb (length bytes) (place + size) le)
+    ∙ ap (λ (t : Bool). cond t None (Some (faults.invalid place))) is
+
+some_none : {F : Type 0} {s : F} {R : Type 0} → Some s ≡ None → R
+some_none e = cc
+
+pub one_fault-none : {F : Type 0} (faults : Faults F) (size : ℕ) (valid : Bool) (place : ℕ) (bytes : List ℕ) → one_fault faults size valid place bytes ≡ None
+    → (place + size ≤ length bytes) × (valid ≡ true)
+one_fault-none {F = F} faults size valid place bytes e =
+    ⊎_elim (λ (less : length bytes < place + size). some_none (sym (one_fault-short faults size valid place bytes less) ∙ e))
+    (λ (le : place + size ≤ length bytes). (le, passes (faults.invalid place) valid (sym (one_fault-is faults size valid place bytes le valid refl) ∙ e)))
+    (cases_lt (length bytes) (place + size))
+  where
+    passes : (s : F) (v : Bool) → cond v None (Some s) ≡ None → v ≡ true
+    passes s true e = refl
+    passes s false e = some_none e
+
+-- a value
+pub plain-here : {F B P A : Type 0} (faults : Faults F) (c : Code A) (get : P → A) (put : A → P → P) (valid : B → P → Bool) (b : B) (p : P) (bytes : List ℕ)
+    → IsWritten c (get p) → valid b p ≡ true → IsHere (plain faults c get put valid) b p bytes
+unfolding plain
+plain-here {A = A} faults c get put valid b p bytes w is = record {
+  size_is = w.length;
+  back = λ place rest q e. ap (λ (x : A). put x q) (w.back place bytes rest e);
+  none = λ place rest le e.
+      one_fault-is faults c.size (c.spelled place bytes && valid b p) place bytes (room place c.size bytes (c.bytes (get p)) rest w.length le e) true
+      (and_from _ _ (w.spelled place bytes rest e) is);
+}
+
+pub plain-spelled : {F B P A : Type 0} (faults : Faults F) (c : Code A) (get : P → A) (put : A → P → P) (valid : B → P → Bool) → IsCode c
+    → IsSpelled (plain faults c get put valid)
+unfolding plain
+plain-spelled faults c get put valid law = record {
+  spelled = λ b p place bytes small there none.
+      let parts = one_fault-none faults c.size (c.spelled place bytes && valid b p) place bytes none in
+      let is = and_parts (c.spelled place bytes) (valid b p) parts.1 in
+      (parts.0, law.same place bytes small parts.0 is.0, is.1);
+}
+
+-- a row of values
+pub row-here : {F B P A : Type 0} (faults : Faults F) (n all : ℕ) (c : Code A) (blank : A) (get : P → List A) (put : List A → P → P) (valid : B → P → Bool)
+    (b : B) (p : P) (bytes : List ℕ) → AllWritten c n (get p) → drop n (get p) ≡ replicate (all - n) blank → valid b p ≡ true
+    → IsHere (row faults n all c blank get put valid) b p bytes
+unfolding row
+row-here {A = A} faults n all c blank get put valid b p bytes w others is =
+    let r = row-is c n (get p) w in
+    record {
+      size_is = r.length;
+      back = λ place rest q e.
+          (λ i. put (row_value c n place bytes ++ sym others i) q) ∙ ap (λ (xs : List A). put xs q) (r.back place bytes rest e);
+      none = λ place rest le e.
+          one_fault-is faults (c.size * n) (row_spelled c n place bytes && valid b p) place bytes
+          (room place (c.size * n) bytes (row_bytes c n (get p)) rest r.length le e) true
+          (and_from _ _ (r.spelled place bytes rest e) is);
+    }
+
+pub row-spelled : {F B P A : Type 0} (faults : Faults F) (n all : ℕ) (c : Code A) (blank : A) (get : P → List A) (put : List A → P → P) (valid : B → P → Bool)
+    → IsCode c → IsSpelled (row faults n all c blank get put valid)
+unfolding row
+row-spelled faults n all c blank get put valid law = record {
+  spelled = λ b p place bytes small there none.
+      let parts = one_fault-none faults (c.size * n) (row_spelled c n place bytes && valid b p) place bytes none in
+      let is = and_parts (row_spelled c n place bytes) (valid b p) parts.1 in
+      (parts.0, row-same c law n place bytes (replicate (all - n) blank) small parts.0 is.0, is.1);
+}
+
+-- a value that another field holds, at a place of its own
+pub elsewhere-here : {F B P A : Type 0} (at : ℕ) (c : Code A) (get : P → A) (put : A → P → P) (b : B) (p : P) (bytes : List ℕ) → c.value at bytes ≡ get p
+    → IsHere (elsewhere {F = F} {B = B} at c get put) b p bytes
+unfolding elsewhere
+elsewhere-here {A = A} at c get put b p bytes is = record {
+  size_is = refl;
+  back = λ place rest q e. ap (λ (x : A). put x q) is;
+  none = λ place rest le e. refl;
+}
+
+pub elsewhere-spelled : {F B P A : Type 0} (at : ℕ) (c : Code A) (get : P → A) (put : A → P → P) → IsSpelled (elsewhere {F = F} {B = B} at c get put)
+unfolding elsewhere
+elsewhere-spelled at c get put = record { spelled = λ b p place bytes small there none. (omega (arith, there), refl, refl) }
+
+-- all conditions, as one
+hold-all : {F B P : Type 0} (fs : List (Field F B P)) (b : B) (p : P) → AllHold fs b p → all_hold fs b p ≡ true
+hold-all [] b p h = refl
+hold-all (f ∷ fs) b p h = and_from (f.holds b p) (all_hold fs b p) h.0 (hold-all fs b p h.1)
+
+all-hold : {F B P : Type 0} (fs : List (Field F B P)) (b : B) (p : P) → all_hold fs b p ≡ true → AllHold fs b p
+all-hold [] b p h = tt
+all-hold (f ∷ fs) b p h = let parts = and_parts (f.holds b p) (all_hold fs b p) h in (parts.0, all-hold fs b p parts.1)
+
+-- blocks that are written: each is, and the list of its fields covers it
+abbrev pub AllBlocks : {F B T : Type 0} → (ℕ → List (Field F B T)) → T → B → List T → List ℕ → ℕ → ℕ → Type 0
+AllBlocks fields blank b ts bytes k n = (j : ℕ) → k ≤ j → j < k + n → AllHere (fields j) b (get_or ts j blank) bytes
+
+below-length : {F B T : Type 0} (fields : ℕ → List (Field F B T)) (blank : T) (b : B) (ts : List T) (bytes : List ℕ) (k n : ℕ)
+    → AllBlocks fields blank b ts bytes k n → length (write_below fields blank ts k n) ≡ size_below fields k n
+below-length fields blank b ts bytes k zero all = refl
+below-length {T = T} fields blank b ts bytes k (suc n) all =
+    let t : T = get_or ts k blank in
+    length-append (write (fields k) t) (write_below fields blank ts (suc k) n)
+    ∙ (λ i. length-write (fields k) b t bytes (all k (omega arith) (omega arith)) i
+    + below-length fields blank b ts bytes (suc k) n (λ j low high. all j (omega arith) (omega arith)) i)
+
+below-back : {F B T : Type 0} (fields : ℕ → List (Field F B T)) (blank : T) → ((k : ℕ) (t : T) → moved (fields k) t blank ≡ t) → (b : B) (ts : List T) (bytes : List ℕ) (k n : ℕ)
+    → k + n ≤ length ts → AllBlocks fields blank b ts bytes k n → (place : ℕ) (rest : List ℕ) → drop place bytes ≡ write_below fields blank ts k n ++ rest
+    → (read_below fields blank k n place bytes ++ drop (k + n) ts ≡ drop k ts) × (place ≤ length bytes → fault_below fields blank b ts k n place bytes ≡ None)
+below-back fields blank covers b ts bytes k zero le all place rest e = let at : k + 0 ≡ k = omega arith in (ap (λ (m : ℕ). drop m ts) at, λ there. refl)
+below-back {T = T} fields blank covers b ts bytes k (suc n) le all place rest e =
+    let t : T = get_or ts k blank in
+    let s : ℕ = size_of (fields k) in
+    let here = all k (omega arith) (omega arith) in
+    let tail : List ℕ = write_below fields blank ts (suc k) n ++ rest in
+    let len = length-write (fields k) b t bytes here in
+    let first = split (drop place bytes) (write (fields k) t) (write_below fields blank ts (suc k) n) rest e in
+    let later = below-back fields blank covers b ts bytes (suc k) n (omega arith) (λ j low high. all j (omega arith) (omega arith)) (place + s) rest
+    (next place s bytes (write (fields k) t) tail len first) in
+    let at : k + suc n ≡ suc k + n = omega arith in
+    let one : suc k ≡ k + 1 = omega arith in (
+      (λ i. (read-write (fields k) b t blank bytes here place tail first ∙ covers k t) i
+          ∷ (read_below fields blank (suc k) n (place + s) bytes ++ drop (at i) ts))
+          ∙ ap (λ (us : List T). t ∷ us) (later.0 ∙ ap (λ (m : ℕ). drop m ts) one) ∙ sym (drop_more ts k blank (omega arith)),
+      λ there.
+          or_else-none (fault_in (fields k) b t place bytes) (fault_below fields blank b ts (suc k) n (place + s) bytes)
+          (fault-write (fields k) b t bytes here place tail there first) ∙ later.1 (room place s bytes (write (fields k) t) tail len there first),
+    )
+
+pub blocks-here : {F B P T : Type 0} (n all : ℕ) (fields : ℕ → List (Field F B T)) (blank : T) (get : P → List T) (put : List T → P → P) (b : B) (p : P) (bytes : List ℕ)
+    → ((k : ℕ) (t : T) → moved (fields k) t blank ≡ t) → n ≤ length (get p) → AllBlocks fields blank b (get p) bytes 0 n
+    → drop n (get p) ≡ replicate (all - n) blank → IsHere (blocks n all fields blank get put) b p bytes
+unfolding blocks
+blocks-here n all fields blank get put b p bytes covers le each others =
+    let room : 0 + n ≤ length (get p) = omega (arith, le) in
+    let at : n ≡ 0 + n = omega arith in
+    record {
+      size_is = below-length fields blank b (get p) bytes 0 n each;
+      back = λ place rest q e.
+          (λ i. put (read_below fields blank 0 n place bytes ++ (sym others ∙ ap (λ (m : ℕ). drop m (get p)) at) i) q)
+          ∙ (λ i. put ((below-back fields blank covers b (get p) bytes 0 n room each place rest e).0 i) q);
+      none = λ place rest there e. (below-back fields blank covers b (get p) bytes 0 n room each place rest e).1 there;
+    }
+
+-- what is read of a block is written as its bytes are
+pub record AreBlocks {F B T : Type 0} (fields : ℕ → List (Field F B T)) (blank : T) : Type 0 where
+  pub keeps : (k place : ℕ) (bytes : List ℕ) → write (fields k) (read (fields k) place bytes blank) ≡ rewrite_in (fields k) place bytes
+  pub spelled : (k : ℕ) → AllSpelled (fields k)
+
+below-spelled : {F B T : Type 0} (fields : ℕ → List (Field F B T)) (blank : T) → AreBlocks fields blank → (b : B) (ts : List T) (k n place : ℕ) (bytes : List ℕ)
+    → AreBytes bytes → place ≤ length bytes → fault_below fields blank b ts k n place bytes ≡ None
+    → (place + size_below fields k n ≤ length bytes) × (hold_below fields blank b ts k n ≡ true)
+    × ((us others : List T) → drop k us ≡ read_below fields blank k n place bytes ++ others
+    → write_below fields blank us k n ≡ take (size_below fields k n) (drop place bytes))
+below-spelled fields blank laws b ts k zero place bytes small there none = (omega (arith, there), refl, λ us others e. refl)
+below-spelled {T = T} fields blank laws b ts k (suc n) place bytes small there none =
+    let s : ℕ = size_of (fields k) in
+    let parts = or_else-both (fault_in (fields k) b (get_or ts k blank) place bytes) (fault_below fields blank b ts (suc k) n (place + s) bytes) none in
+    let first = rewritten (fields k) (laws.spelled k) b (get_or ts k blank) place bytes small there parts.0 in
+    let holds = hold-all (fields k) b (get_or ts k blank) (hold (fields k) (laws.spelled k) b (get_or ts k blank) place bytes small there parts.0) in
+    let later = below-spelled fields blank laws b ts (suc k) n (place + s) bytes small first.0 parts.1 in (
+      (let end = later.0 in omega (arith, end)),
+      and_from _ _ holds later.1,
+      λ us others e.
+          let at : k ≡ k + 0 = omega arith in
+          let one : suc k ≡ k + 1 = omega arith in
+          let item : get_or us k blank ≡ read (fields k) place bytes blank =
+          ap (λ (m : ℕ). get_or us m blank) at ∙ sym (get_or-drop k us 0 blank) ∙ ap (λ (xs : List T). get_or xs 0 blank) e in
+          let rest : drop (suc k) us ≡ read_below fields blank (suc k) n (place + s) bytes ++ others =
+          ap (λ (m : ℕ). drop m us) one ∙ sym (drop-drop 1 k us) ∙ ap (λ (xs : List T). drop 1 xs) e in
+          (λ i. write (fields k) (item i) ++ later.2 us others rest i)
+          ∙ (λ i. (laws.keeps k place bytes ∙ first.1) i ++ take (size_below fields (suc k) n) (drop (place + s) bytes))
+          ∙ take-more place s (size_below fields (suc k) n) bytes,
+    )
+
+pub blocks-spelled : {F B P T : Type 0} (n all : ℕ) (fields : ℕ → List (Field F B T)) (blank : T) (get : P → List T) (put : List T → P → P)
+    → AreBlocks fields blank → IsSpelled (blocks n all fields blank get put)
+unfolding blocks
+blocks-spelled n all fields blank get put laws = record {
+  spelled = λ b p place bytes small there none.
+      let is = below-spelled fields blank laws b (get p) 0 n place bytes small there none in
+      (is.0, is.2 (read_below fields blank 0 n place bytes ++ replicate (all - n) blank) (replicate (all - n) blank) refl, is.1);
+}
+
+-- what holds of all blocks holds of each
+pub hold-each : {F B T : Type 0} (fields : ℕ → List (Field F B T)) (blank : T) (b : B) (ts : List T) (k n : ℕ) → hold_below fields blank b ts k n ≡ true
+    → (j : ℕ) → k ≤ j → j < k + n → AllHold (fields j) b (get_or ts j blank)
+hold-each fields blank b ts k zero h j low high = absurd (omega arith)
+hold-each fields blank b ts k (suc n) h j low high =
+    let parts = and_parts (all_hold (fields k) b (get_or ts k blank)) (hold_below fields blank b ts (suc k) n) h in
+    ⊎_elim (λ (less : k < j). hold-each fields blank b ts (suc k) n parts.1 j (omega arith) (omega arith))
+    (λ (le : j ≤ k).
+    let is : k ≡ j = omega arith in
+    subst (λ (m : ℕ). AllHold (fields m) b (get_or ts m blank)) is (all-hold (fields k) b (get_or ts k blank) parts.0)) (cases_lt k j)
+
+-- the first field at fault, by place and kind: short, or invalid
+pub short-at : {F B P A : Type 0} (xs ys : List (Field F B P)) (faults : Faults F) (c : Code A) (get : P → A) (put : A → P → P) (valid : B → P → Bool) (b : B) (p : P)
+    (bytes : List ℕ) → fault_in xs b p 0 bytes ≡ None → length bytes < 0 + size_of xs + c.size
+    → fault_in (xs ++ (plain faults c get put valid ∷ ys)) b p 0 bytes ≡ Some (faults.short (length bytes))
+unfolding plain
+short-at xs ys faults c get put valid b p bytes none less =
+    first-fault xs ys (plain faults c get put valid) b p 0 bytes (faults.short (length bytes)) none
+    (one_fault-short faults c.size (c.spelled (0 + size_of xs) bytes && valid b p) (0 + size_of xs) bytes less)
+
+pub invalid-at : {F B P A : Type 0} (xs ys : List (Field F B P)) (faults : Faults F) (c : Code A) (get : P → A) (put : A → P → P) (valid : B → P → Bool) (b : B) (p : P)
+    (bytes : List ℕ) → fault_in xs b p 0 bytes ≡ None → 0 + size_of xs + c.size ≤ length bytes → (c.spelled (0 + size_of xs) bytes && valid b p) ≡ false
+    → fault_in (xs ++ (plain faults c get put valid ∷ ys)) b p 0 bytes ≡ Some (faults.invalid (0 + size_of xs))
+unfolding plain
+invalid-at xs ys faults c get put valid b p bytes none there is =
+    first-fault xs ys (plain faults c get put valid) b p 0 bytes (faults.invalid (0 + size_of xs)) none
+    (one_fault-is faults c.size (c.spelled (0 + size_of xs) bytes && valid b p) (0 + size_of xs) bytes there false is)

@@ -1,0 +1,99 @@
+-- The kinds of fields (own).
+use Rattle.std.specs.Prelude.{
+  ℕ,
+  ◌+◌,
+  ◌-◌,
+  ◌*◌,
+  nat_lt,
+  Bool,
+  true,
+  ◌&&◌,
+  if◌then◌else◌,
+  List,
+  [],
+  ◌++◌,
+  length,
+  replicate,
+  Option,
+  Some,
+  None,
+}
+use Rattle.byte_table.specs.Codes.{Code, row_bytes, row_value, row_spelled}
+use Rattle.byte_table.specs.Fold.{
+  Field,
+  size_below,
+  write_below,
+  read_below,
+  hold_below,
+  fault_below,
+}
+
+-- the two faults of a field, by their place: the input ends before it does; its condition fails
+pub record Faults (F : Type 0) : Type 0 where
+  pub short : ℕ → F
+  pub invalid : ℕ → F
+
+-- the fault of a field at a place: it isn't wholly there, which is told by the length of the input,
+-- or its condition fails
+abbrev pub one_fault : {F : Type 0} → Faults F → ℕ → Bool → ℕ → List ℕ → Option F
+one_fault faults size valid place bytes =
+    if nat_lt (length bytes) (place + size) then Some (faults.short (length bytes))
+    else if valid then None
+    else Some (faults.invalid place)
+
+-- a value of a code: where it is in a P, and its condition
+unfoldable pub plain : {F B P A : Type 0} → Faults F → Code A → (P → A) → (A → P → P)
+    → (B → P → Bool) → Field F B P
+plain faults c get put valid = record {
+  size = c.size;
+  get = λ p. c.bytes (get p);
+  put = λ place bytes p. put (c.value place bytes) p;
+  again = λ place bytes. c.bytes (c.value place bytes);
+  move = λ p q. put (get p) q;
+  holds = valid;
+  fault = λ b p place bytes.
+      one_fault faults c.size (c.spelled place bytes && valid b p) place bytes;
+}
+
+-- the first n values of a list of `all`, as one field; the others are blank
+unfoldable pub row : {F B P A : Type 0} → Faults F → ℕ → ℕ → Code A → A → (P → List A)
+    → (List A → P → P) → (B → P → Bool) → Field F B P
+row faults n all c blank get put valid = record {
+  size = c.size * n;
+  get = λ p. row_bytes c n (get p);
+  put = λ place bytes p. put (row_value c n place bytes ++ replicate (all - n) blank) p;
+  again = λ place bytes. row_bytes c n (row_value c n place bytes ++ replicate (all - n) blank);
+  move = λ p q. put (get p) q;
+  holds = valid;
+  fault = λ b p place bytes.
+      one_fault faults (c.size * n) (row_spelled c n place bytes && valid b p) place bytes;
+}
+
+-- the first n items of a list of `all`, item k by the fields of k; the others are blank
+unfoldable pub blocks : {F B P T : Type 0} → ℕ → ℕ → (ℕ → List (Field F B T)) → T → (P → List T)
+    → (List T → P → P) → Field F B P
+blocks n all fields blank get put = record {
+  size = size_below fields 0 n;
+  get = λ p. write_below fields blank (get p) 0 n;
+  put = λ place bytes p.
+      put (read_below fields blank 0 n place bytes ++ replicate (all - n) blank) p;
+  again = λ place bytes.
+      write_below fields blank
+      (read_below fields blank 0 n place bytes ++ replicate (all - n) blank)
+      0 n;
+  move = λ p q. put (get p) q;
+  holds = λ b p. hold_below fields blank b (get p) 0 n;
+  fault = λ b p place bytes. fault_below fields blank b (get p) 0 n place bytes;
+}
+
+-- a value that is written by another field, at a place of its own: here it takes no bytes
+unfoldable pub elsewhere : {F B P A : Type 0} → ℕ → Code A → (P → A) → (A → P → P) → Field F B P
+elsewhere at c get put = record {
+  size = 0;
+  get = λ p. [];
+  put = λ place bytes p. put (c.value at bytes) p;
+  again = λ place bytes. [];
+  move = λ p q. put (get p) q;
+  holds = λ b p. true;
+  fault = λ b p place bytes. None;
+}

@@ -1,0 +1,75 @@
+//! Bytes and numbers, appended to bytes.
+ghost use Rattle.std.specs.Prelude.{◌≡◌, ◌≤◌, ◌∷◌, [], ◌++◌, OnOk, if◌then◌else◌, slice_index_or, false};
+ghost use Rattle.byte_table.specs.Codes.{number_bytes, flag_byte, flags_byte};
+
+use clk_units::NoMemory;
+
+/// Appends bytes.
+pub fn put(out: &mut Vec<u8>, bytes: &[u8]) -> Result<(), NoMemory>
+    ensures { OnOk result (out.new.items ≡ out.old.items ++ bytes.now) }
+{
+    out.extend_from_slice(bytes).map_err(|_| NoMemory)
+}
+
+/// Appends a number of 2 bytes.
+#[tactic(auto, unfolding(crate::specs::Codes::number_bytes))]
+pub fn put_2(out: &mut Vec<u8>, x: u16) -> Result<(), NoMemory>
+    ensures { OnOk result (out.new.items ≡ out.old.items ++ number_bytes 2 x) }
+{
+    put(out, &x.to_le_bytes())
+}
+
+/// Appends a number of 4 bytes.
+#[tactic(auto, unfolding(crate::specs::Codes::number_bytes))]
+pub fn put_4(out: &mut Vec<u8>, x: u32) -> Result<(), NoMemory>
+    ensures { OnOk result (out.new.items ≡ out.old.items ++ number_bytes 4 x) }
+{
+    put(out, &x.to_le_bytes())
+}
+
+/// Appends a number of 8 bytes.
+#[tactic(auto, unfolding(crate::specs::Codes::number_bytes))]
+pub fn put_8(out: &mut Vec<u8>, x: u64) -> Result<(), NoMemory>
+    ensures { OnOk result (out.new.items ≡ out.old.items ++ number_bytes 8 x) }
+{
+    put(out, &x.to_le_bytes())
+}
+
+/// The byte of a flag.
+pub fn flag_byte(flag: bool) -> u8
+    ensures value { result ≡ flag_byte flag }
+    ensures small { result ≤ 1 }
+{
+    u8::from(flag)
+}
+
+/// The value of a flag in its byte.
+fn value_if(flag: bool, value: u8) -> u8
+    ensures value { result ≡ (if flag then value else 0) }
+    ensures small { result ≤ value }
+{
+    if flag { value } else { 0 }
+}
+
+/// The byte of eight flags, the first its lowest bit.
+pub fn flags_byte(flags: &[bool; 8]) -> u8
+    ensures { result ≡ flags_byte (record {
+      bit_0 = slice_index_or flags.now 0 false;
+      bit_1 = slice_index_or flags.now 1 false;
+      bit_2 = slice_index_or flags.now 2 false;
+      bit_3 = slice_index_or flags.now 3 false;
+      bit_4 = slice_index_or flags.now 4 false;
+      bit_5 = slice_index_or flags.now 5 false;
+      bit_6 = slice_index_or flags.now 6 false;
+      bit_7 = slice_index_or flags.now 7 false;
+    }) }
+{
+    value_if(flags[0], 1)
+        + value_if(flags[1], 2)
+        + value_if(flags[2], 4)
+        + value_if(flags[3], 8)
+        + value_if(flags[4], 16)
+        + value_if(flags[5], 32)
+        + value_if(flags[6], 64)
+        + value_if(flags[7], 128)
+}

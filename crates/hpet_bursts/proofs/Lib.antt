@@ -1,0 +1,5 @@
+mod Falls
+mod Times
+mod Evenly
+pub mod Runs
+mod Rows

@@ -1,0 +1,84 @@
+-- Small rows that pin the definitions.
+use Rattle.std.proofs.Common.{◌≡◌, ℕ, true, [], ◌∷◌, Some, map, refl}
+use Rattle.clk_units.specs.Pulses.{falls_at, pulses_from, pulses_by}
+use Rattle.hpet_comparator.specs.declared.parts.TimerParts.{TimerParts}
+use Rattle.hpet_comparator.specs.Parts.{timer_at_power_on}
+use Rattle.hpet_comparator.specs.Stretch.{matches_at, pulsed}
+use Rattle.hpet_registers.specs.declared.parts.HpetParts.{HpetParts}
+use Rattle.hpet_registers.specs.Parts.{hpet_at_power_on}
+use Rattle.hpet_registers.specs.Stretch.{matches_next, hpet_pulsed}
+use Rattle.hpet_bursts.specs.Messages.{message_times}
+use Rattle.hpet_bursts.specs.Bursts.{distance_of, burst_in, bursts_below, bursts_of, evenly}
+
+-- a timer of edge type with its interrupt enabled, periodic with this period and comparator
+abbrev periodic : ℕ → TimerParts
+periodic n = record { config = 0x280c; comparator = n; period = n }
+
+-- a running block of eight timers with messages, of which the first three are these, with bit 14
+-- each, and with these messages
+abbrev block : ℕ → TimerParts → TimerParts → TimerParts → HpetParts
+block config a b c = record (hpet_at_power_on 8 true) {
+  config = config;
+  timer = a ∷ b ∷ c ∷ timer_at_power_on ∷ timer_at_power_on ∷ timer_at_power_on ∷ timer_at_power_on ∷ timer_at_power_on ∷ [];
+  message_bit = true ∷ true ∷ true ∷ true ∷ true ∷ true ∷ true ∷ true ∷ [];
+  message_word = 0xfee0000000000030 ∷ 0xfee0000000000031 ∷ 0xfee0100000004032 ∷ 0 ∷ 0 ∷ 0 ∷ 0 ∷ 0 ∷ [];
+}
+
+-- a match each 20 ns
+each_match : message_times 2 0 65 (block 1 timer_at_power_on timer_at_power_on (periodic 2)) ≡ 20 ∷ 40 ∷ 60 ∷ []
+unfolding matches_next hpet_pulsed matches_at pulsed falls_at pulses_from pulses_by
+each_match = refl
+
+as_one_burst : burst_in 2 0 65 (block 1 timer_at_power_on timer_at_power_on (periodic 2))
+    ≡ Some (record { timer = 2; first = 20; count = 3; every = 20; address = 0xfee01000; «data» = 0x4032 })
+unfolding matches_next hpet_pulsed matches_at pulsed falls_at pulses_from pulses_by
+as_one_burst = refl
+
+-- behind nanosecond 15 the first pulse falls at 20, and two more are the second match
+behind_15 : burst_in 2 15 25 (block 1 timer_at_power_on timer_at_power_on (periodic 2))
+    ≡ Some (record { timer = 2; first = 30; count = 1; every = 0; address = 0xfee01000; «data» = 0x4032 })
+unfolding matches_next hpet_pulsed matches_at pulsed falls_at pulses_from pulses_by
+behind_15 = refl
+
+-- at its very nanosecond, and a nanosecond before
+at_its_nanosecond : map (λ n. message_times 2 0 n (block 1 timer_at_power_on timer_at_power_on (periodic 2))) (19 ∷ 20 ∷ []) ≡ [] ∷ (20 ∷ []) ∷ []
+unfolding matches_next hpet_pulsed matches_at pulsed falls_at pulses_from pulses_by
+at_its_nanosecond = refl
+
+-- a one-shot timer sends once
+one_shot_sends_once : message_times 0 0 40 (block 1 (record (periodic 2) { config = 0x2804 }) timer_at_power_on timer_at_power_on) ≡ 20 ∷ []
+unfolding matches_next hpet_pulsed matches_at pulsed falls_at pulses_from pulses_by
+one_shot_sends_once = refl
+
+-- none of level type, with the interrupt off, or while the counter stands
+level_sends_none : message_times 0 0 40 (block 1 (record (periodic 2) { config = 0x280e }) timer_at_power_on timer_at_power_on) ≡ []
+unfolding matches_next hpet_pulsed matches_at pulsed falls_at pulses_from pulses_by
+level_sends_none = refl
+
+disabled_sends_none : message_times 0 0 40 (block 1 (record (periodic 2) { config = 0x2808 }) timer_at_power_on timer_at_power_on) ≡ []
+unfolding matches_next hpet_pulsed matches_at pulsed falls_at pulses_from pulses_by
+disabled_sends_none = refl
+
+standing_sends_none : message_times 0 0 40 (block 0 (periodic 2) timer_at_power_on timer_at_power_on) ≡ []
+unfolding matches_next hpet_pulsed matches_at pulsed falls_at pulses_from pulses_by
+standing_sends_none = refl
+
+-- in order of timers, not of times
+in_order_of_timers : bursts_of 0 40 (block 1 (periodic 3) (periodic 2) timer_at_power_on)
+    ≡ record { timer = 0; first = 30; count = 1; every = 0; address = 0xfee00000; «data» = 0x30 }
+    ∷ record { timer = 1; first = 20; count = 2; every = 20; address = 0xfee00000; «data» = 0x31 } ∷ []
+unfolding bursts_below matches_next hpet_pulsed matches_at pulsed falls_at pulses_from pulses_by
+in_order_of_timers = refl
+
+-- under legacy replacement timers 0 and 1 send none, and timer 2 does
+legacy_sends_none_of_two : bursts_of 0 20 (block 3 (periodic 2) (periodic 2) (periodic 2))
+    ≡ record { timer = 2; first = 20; count = 1; every = 0; address = 0xfee01000; «data» = 0x4032 } ∷ []
+unfolding bursts_below matches_next hpet_pulsed matches_at pulsed falls_at pulses_from pulses_by
+legacy_sends_none_of_two = refl
+
+-- what a burst tells
+distances : map distance_of ([] ∷ (7 ∷ []) ∷ (7 ∷ 17 ∷ []) ∷ (7 ∷ 17 ∷ 27 ∷ []) ∷ []) ≡ 0 ∷ 0 ∷ 10 ∷ 10 ∷ []
+distances = refl
+
+three_from_7 : evenly 7 10 3 ≡ 7 ∷ 17 ∷ 27 ∷ []
+three_from_7 = refl

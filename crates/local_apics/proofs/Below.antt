@@ -1,0 +1,99 @@
+-- Runs and looks, one processor after the other.
+use Rattle.std.proofs.Common.{◌≡◌, ℕ, ◌+◌, ◌-◌, ◌<◌, ◌≤◌, Bool, true, false, not, ◌&&◌, List, get_or, refl, sym, ap, ◌∙◌, arith}
+use Rattle.tsc_scale.specs.declared.Tsc.{Tsc}
+use Rattle.tick_policy.specs.Line.{ticked_times}
+use Rattle.tick_policy.specs.Stretch.{ticked_where}
+use Rattle.tick_policy.proofs.Ticks.{ticked_times-zero}
+use Rattle.lapic_timer.specs.declared.parts.ApicParts.{ApicParts}
+use Rattle.lapic_timer.specs.Stretch.{nanoseconds}
+use Rattle.lapic_timer.specs.Deadline.{is_reached, looked}
+use Rattle.lapic_timer.specs.Parts.{is_masked}
+use Rattle.local_apics.specs.declared.parts.ApicsParts.{ApicsParts}
+use Rattle.local_apics.specs.declared.span.Span.{Span}
+use Rattle.local_apics.specs.declared.span.TscClock.{TscClock}
+use Rattle.local_apics.specs.Parts.{AreApics, is_idle}
+use Rattle.local_apics.specs.Places.{timer_at, line_at, no_tsc}
+use Rattle.local_apics.specs.Nanosecond.{run, looked_all, looks_due, tsc_by_time, tsc_in}
+use Rattle.local_apics.specs.private.Span.{length_of}
+use Rattle.local_apics.specs.private.Stretch.{IsRunBelow, IsLookedBelow, ticks_in}
+use Rattle.local_apics.proofs.Done.{done-none, done-more, done-all}
+use Rattle.local_apics.proofs.Product.{runs}
+use Rattle.local_apics.proofs.Joins.{looks-parts}
+use Rattle.local_apics.proofs.Ticks.{idle_parts, nanoseconds-idle, ticks_in-idle, looked-quiet}
+
+-- a run
+pub run-none : (tsc : ℕ → ℕ → ℕ) (from n : ℕ) (a : ApicsParts) → AreApics a → IsRunBelow 0 tsc from n a a
+run-none tsc from n a are = done-none _ _ a are
+
+pub run-more : (k : ℕ) (tsc : ℕ → ℕ → ℕ) (from n : ℕ) (a b c : ApicsParts) → IsRunBelow k tsc from n a b → AreApics c
+    → timer_at k c ≡ nanoseconds (tsc k) from n (timer_at k b)
+    → line_at k c ≡ ticked_times (ticks_in (tsc k) from (timer_at k b) n) (line_at k b)
+    → ((j : ℕ) → (j ≡ k → ⊥) → timer_at j c ≡ timer_at j b) → ((j : ℕ) → (j ≡ k → ⊥) → line_at j c ≡ line_at j b)
+    → IsRunBelow (k + 1) tsc from n a c
+run-more k tsc from n a b c done are timer line timers lines =
+    let same : timer_at k b ≡ timer_at k a = done.other_timers k (omega arith) in
+    done-more k _ _ a b c done are
+    (timer ∙ ap (nanoseconds (tsc k) from n) same)
+    (line ∙ ap (λ (p : ApicParts). ticked_times (ticks_in (tsc k) from p n) (line_at k b)) same
+    ∙ ap (ticked_times (ticks_in (tsc k) from (timer_at k a) n)) (done.other_lines k (omega arith)))
+    timers lines
+
+-- where the other timers are idle it is whole
+pub run-end : (k : ℕ) (tsc : ℕ → ℕ → ℕ) (from n : ℕ) (a b : ApicsParts) → IsRunBelow k tsc from n a b
+    → ((j : ℕ) → k ≤ j → j < 64 → is_idle (timer_at j b) ≡ true) → b ≡ run tsc from n a
+run-end k tsc from n a b done idle =
+    let all = done-all k _ _ a b done
+    (λ j after less. nanoseconds-idle (tsc j) from n (timer_at j a) (parts j after less).0 (parts j after less).1)
+    (λ j after less. ap (λ (m : ℕ). ticked_times m (line_at j a)) (ticks_in-idle (tsc j) from n (timer_at j a) (parts j after less).0 (parts j after less).1)
+    ∙ ticked_times-zero (line_at j a)) in
+    all ∙ runs tsc from n a _ _ refl refl
+  where
+    parts : (j : ℕ) → k ≤ j → j < 64 → ((timer_at j a).current ≡ 0) × ((timer_at j a).deadline ≡ 0)
+    parts j after less = idle_parts (timer_at j a) (ap is_idle (sym (done.other_timers j after)) ∙ idle j after less)
+
+-- the run of a span
+pub span-run : (span : Span) (clock : TscClock) (tscs : List Tsc) (from to : ℕ) (a : ApicsParts) → span.clock ≡ clock → span.from ≡ from → span.to ≡ to
+    → run (λ k. tsc_in span.clock (get_or tscs k no_tsc)) span.from (length_of span) a
+    ≡ run (tsc_by_time clock tscs) from (to - from) a
+span-run span clock tscs from to a e f g =
+    ap (λ (c : TscClock). run (λ k. tsc_in c (get_or tscs k no_tsc)) span.from (span.to - span.from) a) e
+    ∙ ap (λ (x : ℕ). run (λ k. tsc_in clock (get_or tscs k no_tsc)) x (span.to - x) a) f
+    ∙ ap (λ (x : ℕ). run (λ k. tsc_in clock (get_or tscs k no_tsc)) from (x - from) a) g
+
+-- a look
+pub looked-start : (tsc : ℕ → ℕ) (a : ApicsParts) → AreApics a → IsLookedBelow 0 tsc a a
+looked-start tsc a are = done-none _ _ a are
+
+pub looked-more : (k : ℕ) (tsc : ℕ → ℕ) (a b c : ApicsParts) → IsLookedBelow k tsc a b → AreApics c
+    → timer_at k c ≡ looked (tsc k) (timer_at k b) → line_at k c ≡ ticked_where (looks_due (tsc k) (timer_at k b)) (line_at k b)
+    → ((j : ℕ) → (j ≡ k → ⊥) → timer_at j c ≡ timer_at j b) → ((j : ℕ) → (j ≡ k → ⊥) → line_at j c ≡ line_at j b)
+    → IsLookedBelow (k + 1) tsc a c
+looked-more k tsc a b c done are timer line timers lines =
+    let same : timer_at k b ≡ timer_at k a = done.other_timers k (omega arith) in
+    done-more k _ _ a b c done are
+    (timer ∙ ap (looked (tsc k)) same)
+    (line ∙ ap (λ (p : ApicParts). ticked_where (looks_due (tsc k) p) (line_at k b)) same
+    ∙ ap (ticked_where (looks_due (tsc k) (timer_at k a))) (done.other_lines k (omega arith)))
+    timers lines
+
+-- a look at an idle timer
+pub idle-unreached : (x : ℕ) (p : ApicParts) → is_idle p ≡ true → is_reached p.deadline x ≡ false
+idle-unreached x p idle = ap (λ (d : ℕ). is_reached d x) (idle_parts p idle).1
+
+pub never-due : (x : ℕ) (p : ApicParts) → is_reached p.deadline x ≡ false → looks_due x p ≡ false
+never-due x p none = ap (λ (b : Bool). not (is_masked p) && b) none ∙ by (not (is_masked p))
+  where
+    by : (m : Bool) → (m && false) ≡ false
+    by true = refl
+    by false = refl
+
+pub looked-end : (k : ℕ) (tsc : ℕ → ℕ) (a b : ApicsParts) → IsLookedBelow k tsc a b
+    → ((j : ℕ) → k ≤ j → j < 64 → is_idle (timer_at j b) ≡ true) → b ≡ looked_all tsc a
+looked-end k tsc a b done idle =
+    let all = done-all k _ _ a b done
+    (λ j after less. looked-quiet (tsc j) (timer_at j a) (quiet j after less))
+    (λ j after less. ap (λ (d : Bool). ticked_where d (line_at j a)) (never-due (tsc j) (timer_at j a) (quiet j after less))) in
+    all ∙ looks-parts tsc a
+  where
+    quiet : (j : ℕ) → k ≤ j → j < 64 → is_reached (timer_at j a).deadline (tsc j) ≡ false
+    quiet j after less = idle-unreached (tsc j) (timer_at j a) (ap is_idle (sym (done.other_timers j after)) ∙ idle j after less)

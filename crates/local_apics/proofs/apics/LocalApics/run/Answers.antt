@@ -1,0 +1,55 @@
+use Rattle.std.proofs.Common.{◌≡◌, ℕ, ◌+◌, ◌-◌, get_or, ap, ◌∙◌, arith, inl, inr}
+use Rattle.tsc_scale.specs.declared.Tsc.{Tsc}
+use Rattle.tick_policy.specs.Line.{ticked_times}
+use Rattle.lapic_timer.specs.Stretch.{nanoseconds}
+use Rattle.local_apics.specs.Places.{no_tsc, timer_at, line_at}
+use Rattle.local_apics.specs.Nanosecond.{run, tsc_by_time, tsc_in}
+use Rattle.local_apics.specs.private.Span.{length_of}
+use Rattle.local_apics.specs.private.Stretch.{IsRunBelow, ticks_in}
+use Rattle.local_apics.proofs.Below.{run-none, run-more, run-end, span-run}
+use Rattle.local_apics.proofs.apics.LocalApics.run.Goals as goal
+
+pub returns-then-not-is_armed : goal.returns-then-not-is_armed
+returns-then-not-is_armed c =
+    let tsc : ℕ → ℕ → ℕ = tsc_by_time c.args.clock.now c.args.tscs.now in
+    elim c.then-not-is_armed.either [
+      | inl idle ↦ run-end 0 tsc c.args.from (c.args.to - c.args.from) c.args.self.now c.args.self.now
+          (run-none tsc c.args.from (c.args.to - c.args.from) c.args.self.now c.is_armed.ensures.joined) (λ k after less. c.is_armed.ensures.idle.0 idle k less)
+      | inr none ↦
+          let e : 0 ≡ c.args.to - c.args.from = omega (arith, none.1) in
+          ap (λ (n : ℕ). run tsc c.args.from n c.args.self.now) e
+    ]
+
+pub loop-cpu-init : goal.loop-cpu-init
+loop-cpu-init c =
+    let none : IsRunBelow 0 (λ k. tsc_in c.new-span.result.clock (get_or c.args.tscs.now k no_tsc)) c.new-span.result.from
+    (length_of c.new-span.result) c.args.self.now c.args.self.now =
+    run-none (λ k. tsc_in c.new-span.result.clock (get_or c.args.tscs.now k no_tsc)) c.new-span.result.from (length_of c.new-span.result) c.args.self.now c.is_armed.ensures.joined in
+    none
+
+pub returns-then-is_idle_from : goal.returns-then-is_idle_from
+returns-then-is_idle_from c =
+    run-end c.loop-cpu.cpu (λ k. tsc_in c.new-span.result.clock (get_or c.args.tscs.now k no_tsc)) c.new-span.result.from (length_of c.new-span.result)
+    c.args.self.now c.loop-cpu.self c.loop-cpu.invariant (c.is_idle_from.ensures c.if-is_idle_from.true)
+    ∙ span-run c.new-span.result c.args.clock.now c.args.tscs.now c.args.from c.args.to c.args.self.now c.new-span.ensures.clock c.new-span.ensures.from
+    c.new-span.ensures.to
+
+pub loop-cpu-preserved : goal.loop-cpu-preserved
+loop-cpu-preserved c =
+    let tsc : ℕ → ℕ → ℕ = λ k. tsc_in c.new-span.result.clock (get_or c.args.tscs.now k no_tsc) in
+    let more : IsRunBelow (c.loop-cpu.cpu + 1) tsc c.new-span.result.from (length_of c.new-span.result) c.args.self.now c.run_at.new.self =
+    run-more c.loop-cpu.cpu tsc c.new-span.result.from (length_of c.new-span.result) c.args.self.now c.loop-cpu.self c.run_at.new.self
+    c.loop-cpu.invariant c.run_at.ensures.joined
+    (c.run_at.ensures.timer ∙ ap (λ (t : Tsc). nanoseconds (tsc_in c.new-span.result.clock t) c.new-span.result.from (length_of c.new-span.result)
+    (timer_at c.loop-cpu.cpu c.loop-cpu.self)) c.tsc_of-tsc.ensures)
+    (c.run_at.ensures.line ∙ ap (λ (t : Tsc). ticked_times (ticks_in (tsc_in c.new-span.result.clock t) c.new-span.result.from
+    (timer_at c.loop-cpu.cpu c.loop-cpu.self) (length_of c.new-span.result)) (line_at c.loop-cpu.cpu c.loop-cpu.self)) c.tsc_of-tsc.ensures)
+    c.run_at.ensures.other_timers c.run_at.ensures.other_lines in
+    more
+
+pub returns : goal.returns
+returns c =
+    run-end c.loop-cpu.cpu (λ k. tsc_in c.new-span.result.clock (get_or c.args.tscs.now k no_tsc)) c.new-span.result.from (length_of c.new-span.result)
+    c.args.self.now c.loop-cpu.self c.loop-cpu.invariant (λ k after less. absurd (omega (arith, after, less, c.loop-cpu-test.false)))
+    ∙ span-run c.new-span.result c.args.clock.now c.args.tscs.now c.args.from c.args.to c.args.self.now c.new-span.ensures.clock c.new-span.ensures.from
+    c.new-span.ensures.to

@@ -1,0 +1,203 @@
+//! The place of one processor, and the mask of the timers that aren't idle.
+ghost use Rattle.std.specs.Prelude.{
+  ◌≡◌,
+  ◌≢◌,
+  ℕ,
+  true,
+  ◌+◌,
+  ◌^◌,
+  ◌<◌,
+  ◌≤◌,
+  ◌↔◌,
+  IsTrue,
+  slice_index_or,
+  slice_set,
+  if◌then◌else◌,
+};
+ghost use Rattle.tsc_scale.specs.Tsc.{tsc_at};
+ghost use Rattle.tick_policy.specs.Line.{ticked_times, acked};
+ghost use Rattle.tick_policy.specs.Stretch.{ticked_where};
+ghost use Rattle.lapic_timer.specs.Deadline.{guest_count_at, looked};
+ghost use Rattle.lapic_timer.specs.Stretch.{nanoseconds};
+ghost use Rattle.local_apics.specs.Nanosecond.{looks_due, tsc_in};
+ghost use Rattle.local_apics.specs.Parts.{AreApics, IsPlaceOf, is_idle};
+ghost use Rattle.local_apics.specs.Places.{timer_at, line_at, no_tsc};
+ghost use Rattle.local_apics.specs.private.Span.{IsSpan, length_of};
+ghost use Rattle.local_apics.specs.private.Stretch.{ticks_in};
+
+use crate::LocalApics;
+use crate::parts::{is_no_line, is_no_timer};
+use crate::span::{Span, run_timer};
+use clk_units::bit;
+use lapic_timer::{ApicParts, ApicTimer};
+use tick_policy::{Policy, TickLine, TickParts};
+use tsc_scale::Tsc;
+
+impl LocalApics {
+    /// Whether the timers from processor `cpu` on are idle.
+    pub(crate) fn is_idle_from(&self, cpu: u8) -> bool
+        requires { cpu < 64 }
+        ensures { result ≡ true →
+            (k : ℕ) → cpu ≤ k → k < 64 → is_idle (timer_at k self.now) ≡ true }
+    {
+        self.armed >> cpu == 0
+    }
+
+    /// Whether the timer of a processor is idle, by its bit of the mask.
+    fn is_idle(&self, cpu: u8) -> bool
+        requires { cpu < 64 }
+        ensures { result ≡ true → is_idle (timer_at cpu self.now) ≡ true }
+    {
+        !bit(u32::from(cpu), self.armed)
+    }
+
+    /// The timer of a processor.
+    pub(crate) fn timer(&self, cpu: u8) -> ApicTimer
+        requires { cpu < 64 }
+        ensures value { result ≡ timer_at cpu self.now }
+        ensures joined { AreApics self.now }
+    {
+        self.timers[cpu as usize]
+    }
+
+    /// The tick line of a processor.
+    pub(crate) fn line(&self, cpu: u8) -> TickLine
+        requires { cpu < 64 }
+        ensures value { result ≡ line_at cpu self.now }
+        ensures joined { AreApics self.now }
+    {
+        self.lines[cpu as usize]
+    }
+
+    /// Puts a timer in the place of a processor's.
+    pub(crate) fn put(&mut self, cpu: u8, timer: ApicTimer)
+        requires { cpu < 64 }
+        ensures { self.new ≡ record self.old { timers = slice_set self.old.timers cpu timer } }
+    {
+        let k = cpu as usize;
+        let before = bit_of(k, is_idle(&self.timers[k]));
+        let after = bit_of(k, is_idle(&timer));
+        self.timers[k] = timer;
+        self.armed = self.armed - before + after;
+    }
+
+    /// Puts a tick line in the place of a processor's.
+    pub(crate) fn put_line(&mut self, cpu: u8, line: TickLine)
+        requires place { cpu < 64 }
+        requires policy { line.policy ≡ Policy.Discard }
+        ensures state { self.new ≡ record self.old { lines = slice_set self.old.lines cpu line } }
+        ensures joined { AreApics self.new }
+    {
+        self.lines[cpu as usize] = line;
+    }
+
+    /// Puts the fields of a processor there, where they may be; answers whether they may.
+    pub(crate) fn restore(
+        &mut self,
+        cpu: u8,
+        is_there: bool,
+        timer: ApicParts,
+        line: TickParts,
+    ) -> bool
+        requires { cpu < 64 }
+        ensures valid { IsTrue result ↔ IsPlaceOf is_there timer line }
+        ensures state { result ≡ true → self.new ≡ record {
+          timers = slice_set self.old.timers cpu timer;
+          lines = slice_set self.old.lines cpu line;
+        } }
+    {
+        if !is_there && !(is_no_timer(&timer) && is_no_line(&line)) {
+            return false;
+        }
+        if line.policy.byte() != 0 {
+            return false;
+        }
+        match (ApicTimer::of_parts(timer), TickLine::of_parts(line)) {
+            (Some(timer), Some(line)) => {
+                self.put(cpu, timer);
+                self.put_line(cpu, line);
+                true
+            }
+            _ => false,
+        }
+    }
+
+    /// Runs the timer of one processor, whose TSC is `tsc`.
+    pub(crate) fn run_at(&mut self, cpu: u8, span: &Span, tsc: Tsc)
+        requires place { cpu < 64 }
+        requires span { IsSpan span.now }
+        requires room { (line_at cpu self.old).counts.due + length_of span.now < 2 ^ 63 }
+        ensures timer { timer_at cpu self.new ≡ nanoseconds (tsc_in span.now.clock tsc)
+            span.now.from (length_of span.now) (timer_at cpu self.old) }
+        ensures line { line_at cpu self.new ≡ ticked_times (ticks_in (tsc_in span.now.clock tsc)
+            span.now.from (timer_at cpu self.old) (length_of span.now)) (line_at cpu self.old) }
+        ensures other_timers { (k : ℕ) → k ≢ cpu → timer_at k self.new ≡ timer_at k self.old }
+        ensures other_lines { (k : ℕ) → k ≢ cpu → line_at k self.new ≡ line_at k self.old }
+        ensures joined { AreApics self.new }
+    {
+        let mut timer = self.timer(cpu);
+        if self.is_idle(cpu) {
+            return;
+        }
+        let ticks = run_timer(&mut timer, span, tsc);
+        self.put(cpu, timer);
+        self.tick(cpu, ticks);
+    }
+
+    /// Looks at the deadline of one processor, whose TSC is `tsc`.
+    pub(crate) fn look_at(&mut self, cpu: u8, tsc: u64)
+        requires place { cpu < 64 }
+        requires room { (line_at cpu self.old).counts.due + 1 < 2 ^ 63 }
+        ensures timer { timer_at cpu self.new ≡ looked tsc (timer_at cpu self.old) }
+        ensures line { line_at cpu self.new
+            ≡ ticked_where (looks_due tsc (timer_at cpu self.old)) (line_at cpu self.old) }
+        ensures other_timers { (k : ℕ) → k ≢ cpu → timer_at k self.new ≡ timer_at k self.old }
+        ensures other_lines { (k : ℕ) → k ≢ cpu → line_at k self.new ≡ line_at k self.old }
+        ensures joined { AreApics self.new }
+    {
+        let mut timer = self.timer(cpu);
+        if !timer.reach(tsc) {
+            return;
+        }
+        self.put(cpu, timer);
+        let ticks = timer.ticks(1);
+        self.tick(cpu, ticks);
+    }
+
+    /// So many ticks of a processor's line.
+    fn tick(&mut self, cpu: u8, ticks: u64)
+        requires place { cpu < 64 }
+        requires room { (line_at cpu self.old).counts.due + ticks < 2 ^ 63 }
+        ensures state { self.new ≡ record self.old {
+          lines = slice_set self.old.lines cpu (ticked_times ticks (line_at cpu self.old));
+        } }
+        ensures joined { AreApics self.new }
+    {
+        let mut line = self.line(cpu);
+        line.due(ticks);
+        self.put_line(cpu, line);
+    }
+}
+
+/// The numbers of the TSC of processor `k`.
+pub(crate) fn tsc_of(tscs: &[Tsc; 64], k: u8) -> Tsc
+    requires { k < 64 }
+    ensures { result ≡ slice_index_or tscs.now k no_tsc }
+{
+    tscs[k as usize]
+}
+
+/// The bit of processor `k`, where its timer isn't idle.
+fn bit_of(k: usize, idle: bool) -> u64
+    requires { k < 64 }
+    ensures { result ≡ (if idle then 0 else 2 ^ k) }
+{
+    if idle { 0 } else { 1 << k }
+}
+
+/// Whether a timer is idle.
+fn is_idle(timer: &ApicTimer) -> bool
+    ensures { result ≡ is_idle timer.now }
+{
+    timer.current() == 0 && timer.deadline() == 0
+}

@@ -1,0 +1,79 @@
+-- What a record was answered, by what its call on the board tells.
+use Rattle.std.proofs.Common.{◌≡◌, ◌∙◌, ℕ, List, [], ◌∷◌, ◌++◌, refl, sym, subst, append-nil, Bool, true, false}
+use Rattle.board_types.specs.declared.access.Access.{Access}
+use Rattle.board_types.specs.declared.parts.BoardParts.{BoardParts}
+use Rattle.board_types.specs.declared.reply.Reply.{Reply}
+use Rattle.board_history.specs.Machine.{machine_of, ratio_in, reading_by}
+use Rattle.board_history.specs.declared.entry.Entry.{Entry}
+use Rattle.board_history.specs.declared.entry.Entry.TheVariants.{Board, PageRead, Clamp}
+use Rattle.clock_table.specs.declared.view.Miss.{Miss}
+use Rattle.pvclock_page.specs.declared.page.Page.{Page}
+use Rattle.pvclock_page.specs.declared.page.PageReply.{PageReply}
+use Rattle.pvclock_page.specs.declared.page.ClockReply.{ClockReply}
+use Rattle.pvclock_page.specs.declared.page.ClockReply.TheVariants.{Off, On}
+use Rattle.shared_board.specs.declared.known.PassKnown.{PassKnown}
+use Rattle.shared_board.specs.Passes.{miss, Answered, Tried}
+use Rattle.shared_board.specs.Pages.{clock_entries, IsClockOf, HasReadPage, HasReadClock}
+use Rattle.shared_board.proofs.Made.{made_of}
+use Rattle.race_phase.specs.declared.records.Answer.{Answer}
+use Rattle.race_phase.specs.declared.records.Answer.TheVariants.{Acted, PageIs, ClockIs}
+use Rattle.race_phase.specs.declared.records.Call.{Call}
+use Rattle.race_phase.specs.declared.records.Call.TheVariants.{Act, ReadPage, ReadClock}
+use Rattle.race_phase.specs.declared.records.Record.{Record}
+use Rattle.race_phase.specs.Calls.{AllTried, CallMade, Tells}
+use Rattle.race_phase.specs.private.Workers.{IsMade}
+
+-- a read that was tried once has one miss, and is under the lock, or none
+abbrev HasMisses : ℕ → List Entry → PassKnown → PassKnown → Type 0
+HasMisses c es p q = (ms : List Miss) × AllTried c es ms × (q.misses ≡ p.misses ++ ms)
+
+read_tried : (c n k h : ℕ) (page : Page) (locked : Bool) (es : List Entry) (p q : PassKnown) → Tried k locked p q → AllTried c es []
+    → HasMisses c (PageRead n k h page locked ∷ es) p q
+read_tried c n k h page true es p q t none = (miss k t.0 t.1 ∷ [], (t.0, t.1, [], refl, t.4, none), t.2)
+read_tried c n k h page false es p q t none = ([], none, t ∙ sym (append-nil p.misses))
+
+clock_tried : (c n k h : ℕ) (page : Page) (locked : Bool) (reply : ClockReply) (p q : PassKnown) → Tried k locked p q
+    → HasMisses c (clock_entries n k h page locked reply) p q
+clock_tried c n k h page locked Off p q t = read_tried c n k h page locked [] p q t refl
+clock_tried c n k h page locked (On reading clock) p q t = read_tried c n k h page locked (Clamp n k reading clock ∷ []) p q t refl
+
+clock_tells : (s : BoardParts) (h : ℕ) (page : Page) (reply : ClockReply) (p : PassKnown) → IsClockOf s h page reply p → Tells s h page reply
+clock_tells s h page Off p a = a
+clock_tells s h page (On reading clock) p a = (a.0, a.1)
+
+module _ (s : BoardParts) (r : Record) (p q : PassKnown) where
+  pub access_made : (x : Access) (reply : Reply) → r.call ≡ Act x → Answered p q (Board p.number r.cpu r.h x reply) → IsMade s r (Acted reply) p q
+  access_made x reply is a =
+      let e : Entry = Board p.number r.cpu r.h x reply in (
+        e ∷ [],
+        subst (λ (call : Call). CallMade s p.number r.cpu r.h call (Acted reply) (e ∷ [])) (sym is) refl,
+        made_of p q e a,
+        [],
+        refl,
+        a.misses ∙ sym (append-nil p.misses),
+      )
+
+  pub page_made : (k : ℕ) (reply : PageReply) → r.call ≡ ReadPage k → HasReadPage s k r.h reply p q → IsMade s r (PageIs reply) p q
+  page_made k reply is a =
+      let es : List Entry = PageRead p.number k r.h a.read.page a.locked ∷ [] in
+      let m = read_tried s.cpus p.number k r.h a.read.page a.locked [] p q a.tried refl in (
+        es,
+        subst (λ (call : Call). CallMade s p.number r.cpu r.h call (PageIs reply) es) (sym is) (a.read.page, a.locked, a.read.answer, refl),
+        a.read.made,
+        m.0,
+        m.1,
+        m.2,
+      )
+
+  pub clock_made : (k : ℕ) (reply : ClockReply) → r.call ≡ ReadClock k → HasReadClock s k r.h reply p q → IsMade s r (ClockIs reply) p q
+  clock_made k reply is a =
+      let es : List Entry = clock_entries p.number k r.h a.read.page a.locked reply in
+      let m = clock_tried s.cpus p.number k r.h a.read.page a.locked reply p q a.tried in (
+        es,
+        subst (λ (call : Call). CallMade s p.number r.cpu r.h call (ClockIs reply) es) (sym is)
+            (a.read.page, a.locked, clock_tells s r.h a.read.page reply p a.read.answer, refl),
+        a.read.made,
+        m.0,
+        m.1,
+        m.2,
+      )

@@ -1,0 +1,15 @@
+use Rattle.std.proofs.Common.{ℕ, ◌++◌}
+use Rattle.std.proofs.lemmas.Result.{on_ok_weaker}
+use Rattle.board_types.specs.Setup.{timers_of}
+use Rattle.byte_table.proofs.FoldLaws.{written-then}
+use Rattle.save_state.specs.Fields.{counters, clock, registers, timers, lines}
+use Rattle.save_state.proofs.encoding.put_devices.Goals as goal
+
+pub returns-clause-bytes : goal.returns-clause-bytes
+returns-clause-bytes c =
+    let b = c.args.b.now in
+    let n : ℕ = timers_of b.format in
+    let first = written-then counters clock b _ _ _ c.in_ok-put_counters.ensures.bytes c.in_ok-put_clock.ensures in
+    let second = written-then (counters ++ clock) registers b _ _ _ first c.in_ok-put_registers.ensures in
+    let third = written-then (counters ++ clock ++ registers) (timers n) b _ _ _ second c.in_ok-put_timers.ensures.bytes in
+    on_ok_weaker c.put_lines.result (λ e. written-then (counters ++ clock ++ registers ++ timers n) (lines n) b _ _ _ third e) c.put_lines.ensures.bytes

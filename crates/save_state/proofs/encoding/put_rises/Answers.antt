@@ -1,0 +1,28 @@
+use Rattle.std.proofs.Common.{◌≡◌, ℕ, List, ◌++◌, get_or, ap, sym, ◌∙◌, rules, arith}
+use Rattle.std.proofs.lemmas.List.{append-nil, append_assoc}
+use Rattle.byte_table.specs.Codes.{number, number_bytes, row_bytes}
+use Rattle.byte_table.specs.Kinds.{row}
+use Rattle.byte_table.proofs.Loops.{row-more}
+use Rattle.save_state.specs.Fields.{rises, counts_of}
+use Rattle.save_state.proofs.encoding.put_rises.Goals as goal
+
+pub loop-k-init : goal.loop-k-init
+unfolding row_bytes
+loop-k-init c = sym (append-nil _)
+
+pub loop-k-preserved : goal.loop-k-preserved
+loop-k-preserved c =
+    let k : ℕ = c.loop-k.k in
+    let xs : List ℕ = c.args.b.now.rises in
+    let x : List ℕ = number_bytes 8 (get_or xs k 0) in
+    let old : List ℕ = c.args.out.now.items in
+    c.in_ok-put_8.ensures ∙ ap (λ (ys : List ℕ). ys ++ x) c.loop-k.invariant ∙ append_assoc old (row_bytes (number 8) k xs) x
+    ∙ ap (λ (ys : List ℕ). old ++ ys) (sym (row-more (number 8) 0 k xs (search rules)))
+
+pub returns : goal.returns
+unfolding rises row
+returns c =
+    let xs : List ℕ = c.args.b.now.rises in
+    let end : c.loop-k.k ≡ counts_of c.args.b.now.format = omega (arith, c.loop-k-test.false, c.loop-k.auto.k-end, c.counts_of-k-end.ensures) in
+    c.loop-k.invariant ∙ ap (λ (m : ℕ). c.args.out.now.items ++ row_bytes (number 8) m xs) end
+    ∙ ap (λ (ys : List ℕ). c.args.out.now.items ++ ys) (sym (append-nil (row_bytes (number 8) (counts_of c.args.b.now.format) xs)))

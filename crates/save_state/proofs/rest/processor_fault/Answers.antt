@@ -1,0 +1,13 @@
+use Rattle.std.proofs.Common.{get_or}
+use Rattle.board_core.specs.Tsc.{no_processor}
+use Rattle.save_state.specs.private.Places.{processor_place}
+use Rattle.save_state.proofs.BlockRows.{processor-rows}
+use Rattle.save_state.proofs.rest.processor_fault.Goals as goal
+
+pub returns : goal.returns
+returns c =
+    let is = processor-rows c.args.k c.args.b.now (get_or c.args.b.now.processors c.args.k no_processor) (processor_place c.args.b.now.format c.args.k)
+    c.args.bytes.now in
+    let mul = c.requires.mul in
+    let shift = c.requires.shift in
+    cc

@@ -1,0 +1,8 @@
+use Rattle.shared_board.proofs.Tables.{locked_late}
+use Rattle.shared_board.proofs.shared.SharedBoard.read_table.Goals as goal
+
+pub returns-in-Err-Again-clause-ok : goal.returns-in-Err-Again-clause-ok
+returns-in-Err-Again-clause-ok g c =
+    let again = rw c.in-Err-Again.field-0-is at c.in-Err-Again.ensures.err in
+    locked_late c.table_locked.result g.N.Name.state c.args.index c.args.h c.in-Err-Again.field-0-0 c.in-Err-Again.field-0-1 c.args.pass.now
+    c.try_table.new.pass c.table_locked.new.pass again.1 c.table_locked.ensures.ok

@@ -1,3 +1,0 @@
--- What proofs and private contracts alone cite.
-pub mod Seen
-pub mod Calls

@@ -1,0 +1,112 @@
+-- Where a run over lines stands that was begun with these ends and goes on.
+use Rattle.std.specs.Prelude.{
+  ◌≡◌,
+  ◌≢◌,
+  ℕ,
+  Bool,
+  false,
+  ◌+◌,
+  ◌-◌,
+  ◌^◌,
+  ◌<◌,
+  ◌≤◌,
+  List,
+  ◌++◌,
+  length,
+  take,
+  Option,
+  Some,
+  None,
+}
+use Rattle.std.specs.Io.KnownBytes.{Appends}
+use Rattle.board_io.specs.Faults.{Rose}
+use Rattle.trace_loop.specs.Progress.{Closing, Answer, Progress, opened, standing, behind}
+use Rattle.trace_loop.specs.Outcome.{run_of, Outcome}
+use Rattle.trace_loop.specs.declared.ended.Ended.{Ended}
+use Rattle.trace_loop.specs.declared.ended.Ended.TheVariants.{SourceFault, SinkFault}
+use Rattle.trace_loop.specs.declared.feed.Feed.{Feed}
+
+-- what a source and a sink tell of themselves
+pub record BothEnds : Type 0 where
+  pub remaining : Option (List ℕ)
+  pub given : ℕ
+  pub before : ℕ
+  pub faults : ℕ
+  pub done : Bool
+  pub late : Bool
+  pub contents : Option (List ℕ)
+  pub sink_faults : ℕ
+
+-- what was put before the source was called last is what was printed behind the bytes that it had
+-- given
+pub record IsAsked (A E : Type 0) (answer : ℕ → A → List ℕ → Answer A E) (a : A)
+    (input put : List ℕ) (before place : ℕ) : Type 0 where
+  pub least : before ≤ place
+  pub printed_ : (behind answer (take before input) (opened a)).printed ≡ put
+  pub going : (behind answer (take before input) (opened a)).end ≡ None
+
+-- where a run stands in an input: `bytes` are answered or stand in the present line, `left` was
+-- given and is to be heard, and `rest` is to be given; `put` was put, and `out` is to be
+pub record Stands (A E : Type 0) (answer : ℕ → A → List ℕ → Answer A E) (a : A)
+    (input left rest put out : List ℕ) (given before : ℕ) (s : Progress A E) : Type 0 where
+  pub bytes : List ℕ
+  pub whole : input ≡ (bytes ++ left) ++ rest
+  pub count : length bytes + length left ≡ given
+  pub there : behind answer bytes (opened a) ≡ s
+  pub asked : 0 < given + length out → IsAsked A E answer a input put before (length bytes)
+
+-- a run that began in state `a` with the ends `start` goes on, and stands here now
+pub record IsGoing (A E : Type 0) (answer : ℕ → A → List ℕ → Answer A E) (a : A) (start : BothEnds)
+    (state : A) (feed : Feed) (now : BothEnds) : Type 0 where
+  pub told : (input : List ℕ) → start.remaining ≡ Some input
+      → (rest put : List ℕ) × (now.remaining ≡ Some rest)
+      × Appends start.contents now.contents put
+      × Stands A E answer a input feed.lines.left rest put feed.out.items
+      (now.given - start.given) (now.before - start.given)
+      (standing (feed.lines.number + 1) feed.lines.text state (put ++ feed.out.items))
+  pub lines : feed.lines.number + length feed.lines.left ≤ now.given - start.given
+  pub more : start.given ≤ now.given
+  pub quiet : start.done ≡ false → start.late ≡ false
+      → (now.done ≡ false) × (now.late ≡ false)
+  pub source_faults : now.faults ≡ start.faults
+  pub sink_faults : now.sink_faults ≡ start.sink_faults
+
+-- a run that began so is over
+pub record IsOver (A E : Type 0) (answer : ℕ → A → List ℕ → Answer A E)
+    (closing : ℕ → A → Closing E) (a : A) (start now : BothEnds) (ended : Ended E) : Type 0 where
+  pub outcome : (input : List ℕ) → start.remaining ≡ Some input
+      → Outcome (run_of answer closing a input (now.before - start.given)
+      (now.given - start.given) start.faults now.faults) ended start.contents now.contents
+  pub stopped : (input : List ℕ) → start.remaining ≡ Some input
+      → (behind answer (take (now.before - start.given) input) (opened a)).end ≡ None
+  pub once : start.done ≡ false → start.late ≡ false → now.late ≡ false
+  pub well : ended ≢ SourceFault → ended ≢ SinkFault → now.faults ≡ start.faults
+  pub source_fault : ended ≡ SourceFault → Rose start.faults now.faults
+  pub sink_fault : ended ≡ SinkFault → Rose start.sink_faults now.sink_faults
+  pub sink_well : ended ≢ SinkFault → now.sink_faults ≡ start.sink_faults
+
+-- what both ends tell, by what their traits have of them
+abbrev pub ends_of : {S K : Type 0} → (S → Option (List ℕ)) → (S → ℕ) → (S → ℕ) → (S → ℕ)
+    → (S → Bool) → (S → Bool) → (K → Option (List ℕ)) → (K → ℕ) → S → K → BothEnds
+ends_of remaining given before faults done late contents sink_faults source sink = record {
+  remaining = remaining source;
+  given = given source;
+  before = before source;
+  faults = faults source;
+  done = done source;
+  late = late source;
+  contents = contents sink;
+  sink_faults = sink_faults sink;
+}
+
+-- a run that began with this state is over
+abbrev pub RunEnds : {A E : Type 0} → (ℕ → A → List ℕ → Answer A E) → (ℕ → A → Closing E) → A
+    → BothEnds → BothEnds → Ended E → Type 0
+RunEnds {A} {E} answer closing a start now ended = IsOver A E answer closing a start now ended
+
+-- the lines that were handed out, and the bytes that are left, were given, and there is room for
+-- their numbers
+abbrev pub IsFed : Feed → ℕ → Type 0
+IsFed feed given =
+    (feed.lines.number + length feed.lines.left ≤ given)
+    × (feed.lines.number + length feed.lines.left ≤ 2 ^ 62)

@@ -1,0 +1,550 @@
+-- A replay and the check of a race go together: what the replay has printed is the text of what the check has kept.
+use Rattle.std.proofs.Common.{
+  ◌≡◌,
+  ℕ,
+  ◌+◌,
+  ◌==◌,
+  ◌&&◌,
+  ltb,
+  leb,
+  Bool,
+  true,
+  false,
+  cond,
+  codes,
+  List,
+  [],
+  ◌∷◌,
+  ◌++◌,
+  length,
+  Option,
+  Some,
+  None,
+  Result,
+  Ok,
+  Err,
+  refl,
+  sym,
+  ap,
+  subst,
+  ◌∙◌,
+  append_assoc,
+  append-nil,
+}
+use Rattle.std.specs.Str.{bytes_eq}
+use Rattle.board_types.specs.declared.access.Access.TheVariants.{Step}
+use Rattle.board_types.specs.declared.access.Access.{Access}
+use Rattle.board_types.specs.declared.parts.BoardParts.{BoardParts}
+use Rattle.board_types.specs.declared.reply.Refusal.{Refusal}
+use Rattle.board_core.specs.Access.{after_access, reply_of}
+use Rattle.board_core.specs.Pages.{page_reply, clock_reply, after_clock}
+use Rattle.board_core.specs.Refusals.{refusal_of}
+use Rattle.edge_hooks.specs.declared.deliveries.Delivery.{Delivery}
+use Rattle.transfer.specs.Move.{move_fault}
+use Rattle.transfer.specs.declared.outcome.MoveFault.{MoveFault}
+use Rattle.reply_text.specs.Text.{page_text, clock_text}
+use Rattle.reply_text.specs.declared.ends.Refused.{Refused}
+use Rattle.trace_text.specs.Header.{first_line, header_line}
+use Rattle.trace_text.specs.Lines.{
+  limit_of as line_limit,
+  is_skipped,
+  Step as Stepped,
+  step_of,
+  stepped,
+  part,
+  begun as begins,
+  next,
+  fault_of,
+  answer_in,
+  stage_behind,
+  answer_by,
+  behind_by,
+  taken,
+  behind as read_behind,
+}
+use Rattle.trace_text.specs.Records.{record_of}
+use Rattle.trace_text.specs.Tokens.{words_of}
+use Rattle.trace_text.specs.declared.faults.Reason.{Reason}
+use Rattle.trace_text.specs.declared.faults.Reason.TheVariants.{TooLong}
+use Rattle.trace_text.specs.declared.faults.RecordFault.{RecordFault}
+use Rattle.trace_text.specs.declared.header.Head.{Head}
+use Rattle.trace_text.specs.declared.header.Header.{Header}
+use Rattle.trace_text.specs.declared.reading.Item.{Item}
+use Rattle.trace_text.specs.declared.reading.Item.TheVariants.{Skipped, Part, Begun, Next, End}
+use Rattle.trace_text.specs.declared.reading.ReadingParts.{ReadingParts}
+use Rattle.trace_text.specs.declared.reading.Stage.{Stage}
+use Rattle.trace_text.specs.declared.reading.Stage.TheVariants.{
+  Opening,
+  Heading,
+  Running,
+  Ended,
+  Refused as Stops,
+}
+use Rattle.trace_text.specs.declared.records.Body.{Body}
+use Rattle.trace_text.specs.declared.records.Job.{Job}
+use Rattle.trace_text.specs.declared.records.Job.TheVariants.{Board, Page, Clock, Save, Move}
+use Rattle.trace_text.specs.declared.records.Record.{Record as Written}
+use Rattle.trace_loop.specs.Progress.{
+  limit_of,
+  Closing,
+  Answer,
+  Goes,
+  Ends,
+  Progress,
+  opened,
+  told,
+  answered,
+  checked,
+  heard,
+  heard_until,
+  behind,
+  closed,
+  ran,
+  finished_by,
+}
+use Rattle.race_phase.specs.Blocks.{block_of}
+use Rattle.race_phase.specs.Phases.{next_board, end_text}
+use Rattle.race_phase.specs.declared.phases.End.{End as PhaseEnd}
+use Rattle.race_phase.specs.declared.phases.End.TheVariants.{
+  Finish,
+  Save as BySave,
+  Move as ByMove,
+}
+use Rattle.race_phase.specs.declared.records.Call.{Call}
+use Rattle.race_phase.specs.declared.records.Call.TheVariants.{Act, ReadPage, ReadClock}
+use Rattle.race_phase.specs.declared.records.Record.{Record}
+use Rattle.trace_runner.specs.Check.{
+  check_start,
+  with_call,
+  with_end,
+  ended_by,
+  kept_job,
+  kept,
+  has_form,
+  is_full,
+  too_many,
+  refusal,
+  trace_of,
+  checked_by,
+  record_checked,
+  begun,
+  item_checked,
+  fault_checked,
+  taken_checked,
+  read_on,
+  check_answer,
+  check_closing,
+  check_behind,
+  check,
+}
+use Rattle.trace_runner.specs.Checking.{Checking}
+use Rattle.trace_runner.specs.FileText.{answer_on, records_text, phase_text, phases_text, file_text}
+use Rattle.trace_runner.specs.Records.{
+  refused_by,
+  refused_count,
+  stops,
+  access_answer,
+  read_answer,
+  saved_answer,
+  gap_answer,
+  moved_answer,
+  job_answer,
+}
+use Rattle.trace_runner.specs.Replay.{
+  at_start,
+  ended,
+  with_board,
+  record_answer,
+  item_answer,
+  taken_answer,
+  answer_of,
+  closing_of,
+  progress_behind,
+  replay,
+}
+use Rattle.trace_runner.specs.Replayed.{board_behind, records_behind, replayed}
+use Rattle.trace_runner.specs.Trace.{PhaseRead, TraceRead}
+use Rattle.trace_runner.specs.declared.check.Checked.{Checked}
+use Rattle.trace_runner.specs.declared.check.Checked.TheVariants.{Whole, Stopped}
+use Rattle.trace_runner.specs.declared.replay.Replay.{Replay}
+use Rattle.trace_runner.specs.declared.status.Verdict.{Verdict}
+use Rattle.trace_runner.specs.declared.status.Verdict.TheVariants.{Done}
+use Rattle.trace_runner.proofs.Replayed.{replayed-record, replayed-end}
+
+-- one record more, and one phase more
+records_text-snoc : (ds : List (Option Delivery)) (b : BoardParts) (rs : List Record) (r : Record)
+    → records_text ds b (rs ++ r ∷ []) ≡ records_text ds b rs ++ block_of ds r.line (answer_on (records_behind b rs) r.cpu r.h r.call)
+records_text-snoc ds b [] r = append-nil _
+records_text-snoc ds b (x ∷ xs) r =
+    let front : List ℕ = block_of ds x.line (answer_on b x.cpu x.h x.call) in
+    let c : BoardParts = board_behind b x.cpu x.h x.call in
+    ap (λ (l : List ℕ). front ++ l) (records_text-snoc ds c xs r) ∙ sym (append_assoc front (records_text ds c xs) _)
+
+phases_text-snoc : (ds : List (Option Delivery)) (b : BoardParts) (vs : List PhaseRead) (v : PhaseRead)
+    → phases_text ds b (vs ++ v ∷ []) ≡ phases_text ds b vs ++ phase_text ds (replayed b vs []) v
+phases_text-snoc ds b [] v = append-nil _
+phases_text-snoc ds b (x ∷ xs) v =
+    let c : BoardParts = next_board x.end (records_behind b x.records) in
+    ap (λ (l : List ℕ). phase_text ds b x ++ l) (phases_text-snoc ds c xs v) ∙ sym (append_assoc (phase_text ds b x) (phases_text ds c xs) _)
+
+replayed-last : (b : BoardParts) (vs : List PhaseRead) (rs : List Record) → replayed b vs rs ≡ records_behind (replayed b vs []) rs
+replayed-last b [] rs = refl
+replayed-last b (v ∷ vs) rs = replayed-last (next_board v.end (records_behind b v.records)) vs rs
+
+-- what was kept prints this, and leaves this board
+abbrev text_of : List (Option Delivery) → BoardParts → List PhaseRead → List Record → List ℕ
+text_of ds b vs rs = phases_text ds b vs ++ records_text ds (replayed b vs []) rs
+
+abbrev said : Checking → List ℕ
+said s = text_of s.replay.deliveries s.opening s.phases s.last
+
+text_of-record : (ds : List (Option Delivery)) (b : BoardParts) (vs : List PhaseRead) (rs : List Record) (r : Record)
+    → text_of ds b vs rs ++ block_of ds r.line (answer_on (replayed b vs rs) r.cpu r.h r.call) ≡ text_of ds b vs (rs ++ r ∷ [])
+text_of-record ds b vs rs r =
+    let c : BoardParts = replayed b vs [] in
+    append_assoc (phases_text ds b vs) (records_text ds c rs) _
+    ∙ ap (λ (x : BoardParts). phases_text ds b vs ++ (records_text ds c rs ++ block_of ds r.line (answer_on x r.cpu r.h r.call))) (replayed-last b vs rs)
+    ∙ ap (λ (l : List ℕ). phases_text ds b vs ++ l) (sym (records_text-snoc ds c rs r))
+
+text_of-end : (ds : List (Option Delivery)) (b : BoardParts) (vs : List PhaseRead) (rs : List Record) (end : PhaseEnd)
+    → text_of ds b vs rs ++ end_text ds end (replayed b vs rs) ≡ phases_text ds b (vs ++ record { records = rs; end = end } ∷ [])
+text_of-end ds b vs rs end =
+    let c : BoardParts = replayed b vs [] in
+    append_assoc (phases_text ds b vs) (records_text ds c rs) _
+    ∙ ap (λ (x : BoardParts). phases_text ds b vs ++ (records_text ds c rs ++ end_text ds end x)) (replayed-last b vs rs)
+    ∙ sym (phases_text-snoc ds b vs (record { records = rs; end = end }))
+
+-- before `begin` nothing was kept
+abbrev Fresh : List ℕ → Stage → Type 0
+Fresh text Opening = text ≡ []
+Fresh text (Heading head) = text ≡ []
+Fresh text (Running body) = Unit {0}
+Fresh text Ended = Unit {0}
+Fresh text (Stops fault) = Unit {0}
+
+abbrev IsRunning : Stage → Type 0
+IsRunning Opening = ⊥
+IsRunning (Heading head) = ⊥
+IsRunning (Running body) = Unit {0}
+IsRunning Ended = ⊥
+IsRunning (Stops fault) = ⊥
+
+abbrev FreshItem : List ℕ → Item → Stage → Type 0
+FreshItem text Skipped t = Fresh text t
+FreshItem text Part t = Fresh text t
+FreshItem text (Begun header) t = text ≡ []
+FreshItem text (Next rec) t = IsRunning t
+FreshItem text End t = Unit {0}
+
+abbrev FreshStep : List ℕ → Result Stepped Reason → Type 0
+FreshStep text (Ok step) = FreshItem text step.item step.stage
+FreshStep text (Err reason) = Unit {0}
+
+fresh_running : (text : List ℕ) (t : Stage) → IsRunning t → Fresh text t
+fresh_running text Opening is = absurd is
+fresh_running text (Heading head) is = absurd is
+fresh_running text (Running body) is = tt
+fresh_running text Ended is = absurd is
+fresh_running text (Stops fault) is = absurd is
+
+fresh_none : (t : Stage) → Fresh [] t
+fresh_none Opening = refl
+fresh_none (Heading head) = refl
+fresh_none (Running body) = tt
+fresh_none Ended = tt
+fresh_none (Stops fault) = tt
+
+module _ (text line : List ℕ) where
+  part_fresh : (x : Result Head Reason) → text ≡ [] → FreshStep text (part x)
+  part_fresh (Ok head) none = none
+  part_fresh (Err reason) none = tt
+
+  next_fresh : (body : Body) (x : Result Written Reason) → FreshStep text (next body x)
+  next_fresh body (Ok r) = tt
+  next_fresh body (Err reason) = tt
+
+  stage_fresh : (s : Stage) → Fresh text s → FreshStep text (step_of s line)
+  stage_fresh Opening none = part_fresh (first_line (words_of line)) none
+  stage_fresh (Heading head) none = by_begin (bytes_eq line (codes "begin"))
+    where
+      by_begin : (t : Bool) → FreshStep text (cond t (Ok (begins head)) (part (header_line head (words_of line))))
+      by_begin true = none
+      by_begin false = part_fresh (header_line head (words_of line)) none
+  stage_fresh (Running body) none = by_end (bytes_eq line (codes "end"))
+    where
+      by_end : (t : Bool) → FreshStep text (cond t (Ok (record { item = End; stage = Ended })) (next body (record_of body (words_of line))))
+      by_end true = tt
+      by_end false = next_fresh body (record_of body (words_of line))
+  stage_fresh Ended none = tt
+  stage_fresh (Stops fault) none = tt
+
+  step_fresh : (s : Stage) → Fresh text s → FreshStep text (stepped s line)
+  unfolding stepped
+  step_fresh s none = by_long (ltb (line_limit line) (length line))
+    where
+      by_skip : (t : Bool) → FreshStep text (cond t (Ok (record { item = Skipped; stage = s })) (step_of s line))
+      by_skip true = none
+      by_skip false = stage_fresh s none
+
+      by_long : (t : Bool)
+          → FreshStep text (cond t (Err TooLong) (cond (is_skipped line) (Ok (record { item = Skipped; stage = s })) (step_of s line)))
+      by_long true = tt
+      by_long false = by_skip (is_skipped line)
+
+  taken_fresh : (n : ℕ) (x : Result Stepped Reason) (item : Item) → FreshStep text x → answer_in n x ≡ Ok item → FreshItem text item (stage_behind n x)
+  taken_fresh n (Ok step) item fresh took =
+      let same : step.item ≡ item = cc in subst (λ (i : Item). FreshItem text i step.stage) same fresh
+  taken_fresh n (Err reason) item fresh took = cc
+
+  fresh_by : (o : Option RecordFault) (r : ReadingParts) (item : Item) → Fresh text r.stage → answer_by o r line ≡ Ok item
+      → FreshItem text item (behind_by o line r).stage
+  fresh_by None r item fresh took = taken_fresh (r.lines + 1) (stepped r.stage line) item (step_fresh r.stage fresh) took
+  fresh_by (Some fault) r item fresh took = cc
+
+  item_fresh : (r : ReadingParts) (item : Item) → Fresh text r.stage → taken r line ≡ Ok item → FreshItem text item (read_behind line r).stage
+  item_fresh r item fresh took = fresh_by (fault_of r.stage) r item fresh took
+
+-- the replay's board is that of what was kept
+record IsKept (s : Checking) : Type 0 where
+  board : s.replay.board ≡ replayed s.opening s.phases s.last
+  fresh : Fresh (said s) s.replay.reading.stage
+
+-- what a line does to both, where the replay has printed this
+abbrev GoesSo : Answer Replay Verdict → Checking → List ℕ → Type 0
+GoesSo (Goes block r) s front = (r ≡ s.replay) × (front ++ block ≡ said s) × IsKept s
+GoesSo (Ends closing) s front = ⊥
+
+abbrev EndsSo : Checked → Answer Replay Verdict → List ℕ → Type 0
+EndsSo (Whole t) (Goes block r) front = ⊥
+EndsSo (Whole t) (Ends closing) front = (closing.end ≡ Done) × (front ++ closing.text ≡ file_text t)
+EndsSo (Stopped verdict) y front = Unit {0}
+
+abbrev Together : Answer Replay Verdict → Answer Checking Checked → List ℕ → Type 0
+Together y (Goes none s) front = GoesSo y s front
+Together y (Ends closing) front = EndsSo closing.end y front
+
+-- a record that is answered and kept
+module _ (line cpu h : ℕ) (s : Checking) (board : s.replay.board ≡ replayed s.opening s.phases s.last) (runs : IsRunning s.replay.reading.stage) where
+  abbrev b : BoardParts
+  b = s.replay.board
+
+  abbrev ds : List (Option Delivery)
+  ds = s.replay.deliveries
+
+  abbrev on : BoardParts → Checking
+  on c = record s { replay = record s.replay { board = c } }
+
+  abbrev So : Job → Answer BoardParts Verdict → Type 0
+  So job x =
+      let rec : Written = record { cpu = cpu; h = h; job = job } in
+      Together (with_board x s.replay) (checked_by (with_board x s.replay) line rec s) (said s)
+
+  goes_call : (job : Job) (call : Call) (block : List ℕ) (c : BoardParts) → block ≡ block_of ds line (answer_on b cpu h call) → c ≡ board_behind b cpu h call
+      → GoesSo (Goes block (record s.replay { board = c })) (with_call line (record { cpu = cpu; h = h; job = job }) call (on c)) (said s)
+  goes_call job call block c is next =
+      let r : Record = record { line = line; cpu = cpu; h = h; call = call } in (
+        refl,
+        ap (λ (l : List ℕ). said s ++ l) is
+            ∙ ap (λ (x : BoardParts). said s ++ block_of ds line (answer_on x cpu h call)) board
+            ∙ text_of-record ds s.opening s.phases s.last r,
+        record {
+          board = next ∙ ap (λ (x : BoardParts). board_behind x cpu h call) board ∙ sym (replayed-record s.opening s.phases s.last r);
+          fresh = fresh_running _ s.replay.reading.stage runs;
+        },
+      )
+
+  goes_end : (end : PhaseEnd) (block : List ℕ) (c : BoardParts) → block ≡ end_text ds end b → c ≡ next_board end b
+      → GoesSo (Goes block (record s.replay { board = c })) (with_end end (on c)) (said s)
+  goes_end end block c is next =
+      let v : PhaseRead = record { records = s.last; end = end } in (
+        refl,
+        ap (λ (l : List ℕ). said s ++ l) is
+            ∙ ap (λ (x : BoardParts). said s ++ end_text ds end x) board
+            ∙ text_of-end ds s.opening s.phases s.last end
+            ∙ sym (append-nil (phases_text ds s.opening (s.phases ++ v ∷ []))),
+        record {
+          board = next ∙ ap (λ (x : BoardParts). next_board end x) board ∙ sym (replayed-end s.opening s.phases v);
+          fresh = fresh_running _ s.replay.reading.stage runs;
+        },
+      )
+
+  access_so : (a : Access) (o : Option Refusal) → So (Board a) (access_answer o line cpu h a ds b)
+  unfolding block_of
+  access_so a None = goes_call (Board a) (Act a) _ (after_access b cpu h a) refl refl
+  access_so a (Some refusal) = tt
+
+  page_so : (page : ℕ) (o : Option Refused) → So (Page page) (read_answer o line (page_text line (page_reply b page h)) b)
+  unfolding block_of
+  page_so page None = goes_call (Page page) (ReadPage page) _ b refl refl
+  page_so page (Some why) = tt
+
+  clock_so : (page : ℕ) (o : Option Refused) → So (Clock page) (read_answer o line (clock_text line (clock_reply b page h)) (after_clock b page h))
+  unfolding block_of
+  clock_so page None = goes_call (Clock page) (ReadClock page) _ (after_clock b page h) refl refl
+  clock_so page (Some why) = tt
+
+  save_so : (o : Option Refusal) → So Save (saved_answer o line cpu h ds b)
+  save_so None = goes_end (BySave line cpu h) _ (after_access b cpu h Step) refl refl
+  save_so (Some refusal) = tt
+
+  gap_so : (khz start gap : ℕ) (o : Option MoveFault)
+      → So (Move khz start gap) (gap_answer o line khz start gap ds (reply_of b cpu h Step) (after_access b cpu h Step))
+  gap_so khz start gap None = goes_end (ByMove line cpu h (record { khz = khz; start = start; gap = gap })) _ _ refl refl
+  gap_so khz start gap (Some fault) = tt
+
+  move_so : (khz start gap : ℕ) (o : Option Refusal) → So (Move khz start gap) (moved_answer o line cpu h khz start gap ds b)
+  move_so khz start gap None = gap_so khz start gap (move_fault gap (after_access b cpu h Step))
+  move_so khz start gap (Some refusal) = tt
+
+  job_so : (job : Job) → So job (job_answer line cpu h job ds b)
+  job_so (Board a) = access_so a (refusal_of b cpu h a)
+  job_so (Page page) = page_so page (refused_count b h)
+  job_so (Clock page) = clock_so page (refused_count b h)
+  job_so Save = save_so (refusal_of b cpu h Step)
+  job_so (Move khz start gap) = move_so khz start gap (refusal_of b cpu h Step)
+
+record_so : (line : ℕ) (rec : Written) (s : Checking) → s.replay.board ≡ replayed s.opening s.phases s.last → IsRunning s.replay.reading.stage
+    → Together (record_answer line rec s.replay) (record_checked line rec s) (said s)
+record_so line rec s board runs = by_full (leb 200000 s.taken)
+  where
+    by_full : (t : Bool)
+        → Together (record_answer line rec s.replay) (cond t (Ends (too_many line)) (checked_by (record_answer line rec s.replay) line rec s)) (said s)
+    by_full true = tt
+    by_full false = job_so line rec.cpu rec.h s board runs rec.job
+
+-- by what a line is
+item_so : (line : ℕ) (item : Item) (s : Checking) → s.replay.board ≡ replayed s.opening s.phases s.last
+    → FreshItem (said s) item s.replay.reading.stage → Together (item_answer line item s.replay) (item_checked line item s) (said s)
+item_so line Skipped s board fresh = (refl, append-nil (said s), record { board = board; fresh = fresh })
+item_so line Part s board fresh = (refl, append-nil (said s), record { board = board; fresh = fresh })
+item_so line (Begun header) s board none =
+    (refl, append-nil (said s) ∙ none, record { board = refl; fresh = fresh_none s.replay.reading.stage })
+item_so line (Next rec) s board runs = record_so line rec s board runs
+item_so line End s board fresh =
+    let v : PhaseRead = record { records = s.last; end = Finish } in
+    let text : said s ≡ phases_text s.replay.deliveries s.opening (s.phases ++ v ∷ []) =
+    sym (append-nil (said s)) ∙ text_of-end s.replay.deliveries s.opening s.phases s.last Finish in
+    let last : s.replay.board ≡ replayed s.opening (s.phases ++ v ∷ []) [] = board ∙ sym (replayed-end s.opening s.phases v) in
+    (refl, λ i. text i ++ (ended s.replay.shows_state (last i)).text)
+
+fault_so : (line : ℕ) (fault : RecordFault) (s : Checking) (y : Answer Replay Verdict) (front : List ℕ)
+    → EndsSo (fault_checked line fault s).end y front
+fault_so line fault s y front = by_many (is_full s && has_form fault.reason)
+  where
+    by_many : (t : Bool) → EndsSo (cond t (too_many line) (refusal (stops fault.line (refused_by fault.reason)))).end y front
+    by_many true = tt
+    by_many false = tt
+
+answer_so : (line : ℕ) (s : Checking) (text : List ℕ) → IsKept s → Together (answer_of line s.replay text) (check_answer line s text) (said s)
+unfolding answer_of check_answer
+answer_so line s text kept_ = by_taken (taken s.replay.reading text) refl
+  where
+    by_taken : (x : Result Item RecordFault) → taken s.replay.reading text ≡ x
+        → Together (taken_answer line x (record s.replay { reading = read_behind text s.replay.reading })) (taken_checked line x (read_on text s)) (said s)
+    by_taken (Ok item) is = item_so line item (read_on text s) kept_.board (item_fresh (said s) text s.replay.reading item kept_.fresh is)
+    by_taken (Err fault) is = fault_so line fault (read_on text s) _ (said s)
+
+-- by the bytes: the progress of the replay, by that of the check
+abbrev twin : Progress Checking Checked → Progress Replay Verdict
+twin c = record { line = c.line; text = c.text; state = c.state.replay; printed = said c.state; end = None }
+
+abbrev Twins : Option Checked → Progress Replay Verdict → Progress Checking Checked → Type 0
+Twins None p c = (p ≡ twin c) × IsKept c.state
+Twins (Some (Whole t)) p c = (p.end ≡ Some Done) × (p.printed ≡ file_text t)
+Twins (Some (Stopped verdict)) p c = Unit {0}
+
+twins-ends : (e : Checked) (y : Answer Replay Verdict) (c d : Progress Checking Checked) → EndsSo e y (said c.state) → Twins (Some e) (told y (twin c)) d
+twins-ends (Whole t) (Goes block r) c d so = absurd so
+twins-ends (Whole t) (Ends closing) c d so = (ap (λ (v : Verdict). Some v) so.0, so.1)
+twins-ends (Stopped verdict) y c d so = tt
+
+twins-goes : (y : Answer Replay Verdict) (none : List ℕ) (s : Checking) (c : Progress Checking Checked) → GoesSo y s (said c.state)
+    → Twins None (told y (twin c)) (told (Goes none s) c)
+twins-goes (Goes block r) none s c so =
+    (λ i. record { line = c.line + 1; text = []; state = so.0 i; printed = so.1 i; end = None }, so.2)
+twins-goes (Ends closing) none s c so = absurd so
+
+twins-told : (y : Answer Replay Verdict) (x : Answer Checking Checked) (c : Progress Checking Checked) → Together y x (said c.state)
+    → Twins (told x c).end (told y (twin c)) (told x c)
+twins-told y (Goes none s) c so = twins-goes y none s c so
+twins-told y (Ends closing) c so = twins-ends closing.end y c (told (Ends closing) c) so
+
+twins-answered : (c : Progress Checking Checked) → IsKept c.state
+    → Twins (answered check_answer c).end (answered answer_of (twin c)) (answered check_answer c)
+twins-answered c kept_ =
+    twins-told (answer_of c.line c.state.replay c.text) (check_answer c.line c.state c.text) c (answer_so c.line c.state c.text kept_)
+
+twins-cond : (t : Bool) (p q : Progress Replay Verdict) (c d : Progress Checking Checked) → Twins c.end p c → Twins d.end q d
+    → Twins (cond t c d).end (cond t p q) (cond t c d)
+twins-cond true p q c d x y = x
+twins-cond false p q c d x y = y
+
+twins-none : (c : Progress Checking Checked) → c.end ≡ None → IsKept c.state → Twins c.end (twin c) c
+twins-none c none kept_ = subst (λ (e : Option Checked). Twins e (twin c) c) (sym none) (refl, kept_)
+
+twins-heard : (b : ℕ) (c : Progress Checking Checked) → c.end ≡ None → IsKept c.state
+    → Twins (heard check_answer b c).end (heard answer_of b (twin c)) (heard check_answer b c)
+twins-heard b c none kept_ =
+    let longer : Progress Checking Checked = record c { text = c.text ++ b ∷ [] } in
+    twins-cond (b == 10) (answered answer_of (twin c)) (checked answer_of (twin longer)) (answered check_answer c) (checked check_answer longer)
+    (twins-answered c kept_)
+    (twins-cond (ltb (limit_of longer.text) (length longer.text)) (answered answer_of (twin longer)) (twin longer) (answered check_answer longer) longer
+    (twins-answered longer kept_) (twins-none longer none kept_))
+
+twins-until : (end : Option Checked) (b : ℕ) (p : Progress Replay Verdict) (c : Progress Checking Checked) → c.end ≡ end → Twins end p c
+    → Twins (heard_until check_answer end b c).end (heard_until answer_of p.end b p) (heard_until check_answer end b c)
+twins-until None b p c is same =
+    subst (λ (q : Progress Replay Verdict). Twins (heard check_answer b c).end (heard_until answer_of q.end b q) (heard check_answer b c)) (sym same.0)
+    (twins-heard b c is same.1)
+twins-until (Some (Whole t)) b p c is same =
+    subst (λ (e : Option Checked). Twins e (heard_until answer_of p.end b p) c) (sym is)
+    (subst (λ (e : Option Verdict). (let q = heard_until answer_of e b p in (q.end ≡ Some Done) × (q.printed ≡ file_text t))) (sym same.0) same)
+twins-until (Some (Stopped verdict)) b p c is same =
+    subst (λ (e : Option Checked). Twins e (heard_until answer_of p.end b p) c) (sym is) tt
+
+twins-behind : (bytes : List ℕ) (p : Progress Replay Verdict) (c : Progress Checking Checked) → Twins c.end p c
+    → Twins (behind check_answer bytes c).end (behind answer_of bytes p) (behind check_answer bytes c)
+twins-behind [] p c same = same
+twins-behind (b ∷ bs) p c same =
+    twins-behind bs (heard_until answer_of p.end b p) (heard_until check_answer c.end b c) (twins-until c.end b p c refl same)
+
+twins-closed : (text : List ℕ) (c : Progress Checking Checked) → c.end ≡ None → IsKept c.state
+    → Twins (closed check_answer text c).end (closed answer_of text (twin c)) (closed check_answer text c)
+twins-closed [] c none kept_ = twins-none c none kept_
+twins-closed (b ∷ bs) c none kept_ = twins-answered c kept_
+
+-- a check that came to a whole trace: the replay came to its end, and printed the trace's text
+abbrev EndsWith : Checked → Closing Verdict → Type 0
+EndsWith (Whole t) closing = (closing.end ≡ Done) × (closing.text ≡ file_text t)
+EndsWith (Stopped verdict) closing = Unit {0}
+
+twins-ran : (end : Option Checked) (p : Progress Replay Verdict) (c : Progress Checking Checked) → c.end ≡ end → Twins end p c
+    → EndsWith (ran check_closing end c).end (ran closing_of p.end p)
+twins-ran None p c is same = tt
+twins-ran (Some (Whole t)) p c is same =
+    subst (λ (e : Option Verdict). (let r = ran closing_of e p in (r.end ≡ Done) × (r.text ≡ file_text t))) (sym same.0) (refl, same.1)
+twins-ran (Some (Stopped verdict)) p c is same = tt
+
+twins-finished : (end : Option Checked) (p : Progress Replay Verdict) (c : Progress Checking Checked) → c.end ≡ end → Twins end p c
+    → EndsWith (finished_by check_answer check_closing end c).end (finished_by answer_of closing_of p.end p)
+twins-finished None p c is same =
+    let d : Progress Checking Checked = closed check_answer c.text c in
+    let q : Progress Replay Verdict = closed answer_of c.text (twin c) in
+    subst (λ (x : Progress Replay Verdict). EndsWith (ran check_closing d.end d).end (finished_by answer_of closing_of x.end x)) (sym same.0)
+    (twins-ran d.end q d refl (twins-closed c.text c is same.1))
+twins-finished (Some (Whole t)) p c is same =
+    subst (λ (e : Option Verdict). (let r = finished_by answer_of closing_of e p in (r.end ≡ Done) × (r.text ≡ file_text t))) (sym same.0) (refl, same.1)
+twins-finished (Some (Stopped verdict)) p c is same = tt
+
+replay_so : (shows_state : Bool) (bytes : List ℕ) → EndsWith (check shows_state bytes).end (replay shows_state bytes)
+unfolding check check_behind replay progress_behind
+replay_so shows_state bytes =
+    let c : Progress Checking Checked = opened (check_start shows_state) in
+    let start : IsKept (check_start shows_state) = record { board = refl; fresh = refl } in
+    let d : Progress Checking Checked = behind check_answer bytes c in
+    twins-finished d.end (behind answer_of bytes (opened (at_start shows_state))) d refl
+    (twins-behind bytes (opened (at_start shows_state)) c (refl, start))
+
+pub replay_whole : (shows_state : Bool) (bytes : List ℕ) (t : TraceRead) → (check shows_state bytes).end ≡ Whole t
+    → ((replay shows_state bytes).end ≡ Done) × ((replay shows_state bytes).text ≡ file_text t)
+replay_whole shows_state bytes t is = subst (λ (e : Checked). EndsWith e (replay shows_state bytes)) is (replay_so shows_state bytes)
