@@ -1,10 +1,17 @@
+# SPDX-License-Identifier: Apache-2.0 OR MIT
 """tools/explain, with a program that refuses as the test says."""
 
+import importlib.machinery
+import importlib.util
 import tempfile
 import unittest
 from pathlib import Path
+from types import ModuleType
 
+import mistakes
 import support
+
+from clocktools.program import replay
 
 HEADER = b"clockboard 1\nbegin\n"
 
@@ -79,6 +86,53 @@ class Explain(unittest.TestCase):
             env = support.program_that_says(folder, "final 0 0 0 -\n")
             done = support.run("explain", "-", text="clockboard 1\nbegin\nend\n", env=env)
         self.assertEqual((done.returncode, done.stdout), (0, "final 0 0 0 -\n"))
+
+    def test_page_is_marked(self) -> None:
+        trace = b"clockboard 1\ncpus 2\nbegin\n1 0 page 2\nend\n"
+        rows = self.explain(trace, "refused 4 cpu")
+        self.assertEqual(rows[1:3], ["line 4: 1 0 page 2", "                 ^"])
+
+    def test_gap_is_marked(self) -> None:
+        trace = HEADER + b"0 0 move 1000000 0 576460752303423488\nend\n"
+        self.assertEqual(self.place(trace, "refused 3 range 576460752303423488"), "576460752303423488")
+
+    def test_row_of_a_line_out_of_form(self) -> None:
+        # The row of `form` is long, and tells nothing where the place is marked.
+        self.assertFalse([row for row in self.explain(HEADER + b"0 0 walk\nend\n", "refused 3 form") if "`form`" in row])
+
+
+class Mistakes(unittest.TestCase):
+    """What people write by mistake, with the program's own reasons."""
+
+    @classmethod
+    def setUpClass(cls) -> None:
+        cls.tool = loaded(support.TOOLS / "explain")
+
+    def test_each_has_its_mend(self) -> None:
+        for name, (trace, mend) in mistakes.table().items():
+            with self.subTest(name):
+                last = replay(trace).lines[-1]
+                self.assertTrue(last.startswith("refused "), last)
+                rows = self.tool.explanation(trace, last)
+                self.assertTrue(any(row.startswith("mend: ") and mend in row for row in rows), rows)
+
+    def test_no_mend_is_of_another_mistake(self) -> None:
+        """What is refused for a port has nothing to do with marks, spaces or comments."""
+        rows = self.tool.explanation(HEADER + b"0 0 in 3f8\nend\n", "refused 3 form")
+        self.assertEqual([row for row in rows if row.startswith("mend: ")],
+                         ["mend: the ports are 40, 41, 42, 43, 61, 70, 71; an access to another one is left out"])
+
+    def test_missing_trace(self) -> None:
+        done = support.run("explain", "/nowhere/t")
+        self.assertEqual((done.returncode, done.stderr), (1, "explain: /nowhere/t: No such file or directory\n"))
+
+
+def loaded(path: Path) -> ModuleType:
+    """A tool as a module."""
+    loader = importlib.machinery.SourceFileLoader(path.name, str(path))
+    module = importlib.util.module_from_spec(importlib.util.spec_from_loader(path.name, loader))
+    loader.exec_module(module)
+    return module
 
 
 if __name__ == "__main__":

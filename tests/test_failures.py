@@ -1,3 +1,4 @@
+# SPDX-License-Identifier: Apache-2.0 OR MIT
 """What a user sees where standard input or standard output fails: docs/FAILURES.md, 'What a user sees'."""
 
 import os

@@ -1,3 +1,4 @@
+# SPDX-License-Identifier: Apache-2.0 OR MIT
 """tools/kvm-record, with a folder in the place of an ftrace instance.
 
 That the kernel takes what is put isn't tested here.

@@ -1,5 +1,7 @@
-"""tools/diagram and tools/wave."""
+# SPDX-License-Identifier: Apache-2.0 OR MIT
+"""tools/diagram and tools/wave: what they draw of a printed text, and what they say of another."""
 
+import re
 import shutil
 import subprocess
 import tempfile
@@ -44,14 +46,58 @@ class Diagram(unittest.TestCase):
         self.assertEqual(done.stdout.splitlines(), [
             "ns         4191   12000",
             "line 0   __/‾‾‾‾‾‾|‾‾‾‾",
-            "line 8   __________/‾‾‾"])
+            "line 8   __________/‾‾‾",
+            "a character is 1000 ns"])
 
-    def test_too_wide(self) -> None:
-        done = support.run("diagram", "--scale", "1", text=PRINTED)
+    def test_scale_of_its_own(self) -> None:
+        # Twenty edges of 9 columns are wider than 100 characters. 19,000 ns have 85 of them: 224 ns each, so 500.
+        rows = [f"edge {10000 + 1000 * k} 0 {'down' if k % 2 else 'up'}" for k in range(20)]
+        done = support.run("diagram", "--width", "100", text="\n".join([*rows, "final 29000 20 0 -", ""]))
+        lines = done.stdout.splitlines()
+        self.assertEqual(lines[1], "line 0   __" + "/‾\\_" * 9 + "/‾\\___")
+        self.assertEqual(lines[2], "a character is 500 ns")
+        self.assertLessEqual(max(map(len, lines)), 100)
+
+    def test_window(self) -> None:
+        # Line 0 is up since 4191, and line 8 rises only behind the window.
+        done = support.run("diagram", "--from", "5000", "--to", "12400", text=PRINTED)
+        self.assertEqual(done.stdout.splitlines(), [
+            "ns         12000", "line 0   ‾‾|‾‾‾‾‾‾‾", "line 8   __________"])
+        done = support.run("diagram", "--to", "4000", text=PRINTED)
+        self.assertEqual(done.stdout, "no line changes in that time; lines change from 4191 to 12500 ns\n")
+
+    def test_advice_on_width(self) -> None:
+        done = support.run("diagram", "--scale", "1", "--width", "60", text=PRINTED)
         self.assertEqual((done.returncode, done.stdout), (1, ""))
+        scale = re.search(r"--scale (\d+) fits", done.stderr)
+        self.assertIsNotNone(scale, done.stderr)
+        advised = support.run("diagram", "--scale", scale[1], "--width", "60", text=PRINTED)
+        self.assertEqual(advised.returncode, 0)
+        self.assertLessEqual(max(map(len, advised.stdout.splitlines())), 60)
 
     def test_nothing(self) -> None:
         self.assertEqual(support.run("diagram", text="3 1\nfinal 0 1 0 -\n").stdout, "no line changes\n")
+
+
+class OtherInput(unittest.TestCase):
+    """What isn't a printed text is told in one line, by each picture."""
+
+    def test_told(self) -> None:
+        for text, told in ((TRACE, "this is a trace"), ("", "standard input is empty"), ("<html>\n", "begins with: <html>"),
+                           ("usage: clockboard replay\n", "printed its usage")):
+            for tool in ("diagram", "wave"):
+                with self.subTest(tool, text=text):
+                    done = support.run(tool, text=text)
+                    self.assertEqual((done.returncode, done.stdout), (1, ""))
+                    self.assertIn(told, done.stderr)
+                    self.assertEqual(done.stderr.count("\n"), 1)
+
+    def test_reader_that_leaves(self) -> None:
+        text = "".join(f"edge {k} 0 {'down' if k % 2 else 'up'}\n" for k in range(100_000))
+        command = f"{support.TOOLS / 'wave'} | head -1; exit ${{PIPESTATUS[0]}}"
+        done = subprocess.run(["bash", "-c", command], input=text, capture_output=True, text=True, check=False)
+        self.assertEqual((done.returncode, done.stdout), (2, "$timescale 1 ns $end\n"))
+        self.assertEqual(done.stderr, "wave: nobody reads its standard output any more\n")
 
 
 class Wave(unittest.TestCase):
@@ -67,12 +113,12 @@ class Wave(unittest.TestCase):
         rows = self.wave()
         self.assertEqual(rows[rows.index("$enddefinitions $end") + 1 :], [
             "#0", "$dumpvars", "0!", '0"', "0#", "0$", "0%", "0&", "$end",
-            "sout_70_0a -",
-            "#4191", "1!", "1'", "sstep -",
-            "#12000", "0!", "1!", "1'", "sack_0 -",
+            "sout_70_0a )",
+            "#4191", "1!", "1'", "sstep )",
+            "#12000", "0!", "1!", "1'", "sack_0 )",
             "#12500", '1"', "1(",
-            "#13000", "sin_71 -", "s26 ."])
-        self.assertIn("$var string 1 - access0 $end", rows)
+            "#13000", "sin_71 )", "s26 *"])
+        self.assertIn("$var string 1 ) access0 $end", rows)
         self.assertIn("$var event 1 ' rise0 $end", rows)
 
     def test_plain(self) -> None:
@@ -87,9 +133,9 @@ class Wave(unittest.TestCase):
         printed = (support.TOP / "examples/first-rise.out").read_text()
         lines = (0, 8, 20, 21, 22, 23)
         wires = [f"$var wire 1 {mark} line{line} $end" for mark, line in zip("!\"#$%&", lines)]
-        events = [f"$var event 1 {mark} rise{line} $end" for mark, line in zip("'()*+,", lines)]
         self.assertEqual(support.run("wave", text=printed).stdout.splitlines(), [
-            "$timescale 1 ns $end", "$scope module clockboard $end", *wires, *events, "$upscope $end",
+            "$timescale 1 ns $end", "$scope module clockboard $end", *wires, "$var event 1 ' rise0 $end",
+            "$upscope $end",
             "$enddefinitions $end", "#0", "$dumpvars", "0!", '0"', "0#", "0$", "0%", "0&", "$end",
             "#4191", "1!", "1'", "#5000"])
 

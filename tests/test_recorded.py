@@ -1,3 +1,4 @@
+# SPDX-License-Identifier: Apache-2.0 OR MIT
 """tools/import on recorded logs: SeaBIOS under QEMU's TCG, and Linux 6.1 under KVM, of each the lines of the board's
 ports, registers and interrupts. What must come is read off the logs here by another rule than the importer's: the
 accesses to the ports, in the order of the log, and what the guest read."""
@@ -40,7 +41,8 @@ class Recorded(unittest.TestCase):
         trace, peer, _said = imported(kind, name + ".log")
         self.assertEqual("\n".join(trace), (support.LOGS / f"{name}.trace").read_text().rstrip("\n"))
         self.assertGreater(len(wanted), 100)
-        answers = dict(line.split(" ", 1) for line in peer if line[0].isdigit())
+        answers = {words[0]: words[1] for line in peer if len(words := line.split(" ")) > 1 and line[0].isdigit()
+                   and not words[1].startswith("+")}
         body = trace.index("begin") + 1
         got = []
         last = 0

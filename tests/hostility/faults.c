@@ -1,4 +1,6 @@
-/* Faults of the C library for a program under LD_PRELOAD, as the environment's FAULTS asks: words parted by commas,
+/* SPDX-License-Identifier: Apache-2.0 OR MIT
+ *
+ * Faults of the C library for a program under LD_PRELOAD, as the environment's FAULTS asks: words parted by commas,
  *
  *     alloc=N       the Nth malloc or realloc fails        alloc+=N     and so does each behind it
  *     read=N        the Nth read fails                     write=N      the Nth write fails

@@ -1,3 +1,4 @@
+# SPDX-License-Identifier: Apache-2.0 OR MIT
 """Each allocation, read, write and thread fails in turn, and the answer is one that docs/FAILURES.md names."""
 
 from collections import Counter

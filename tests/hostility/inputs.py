@@ -1,3 +1,4 @@
+# SPDX-License-Identifier: Apache-2.0 OR MIT
 """Random bytes and mutated traces from fixed seeds, and whether the program's answers to one are as documented."""
 
 import random

@@ -1,3 +1,4 @@
+# SPDX-License-Identifier: Apache-2.0 OR MIT
 """What a job may print where an end fails or memory runs out, worked out from what it prints with none of that."""
 
 import re

@@ -1,3 +1,4 @@
+# SPDX-License-Identifier: Apache-2.0 OR MIT
 """Runs the program with faults of the C library, by the shim faults.c."""
 
 import os
@@ -48,10 +49,11 @@ def program_in(folder: Path) -> Program:
 
 
 def path_of_program() -> Path:
-    """The program that CLOCKBOARD names, the one built here, or the released one: no script, as the shim would stand under its
-    shell too."""
+    """The program that CLOCKBOARD names, or the one built here: no script, as the shim would stand under its shell too, and
+    not the released one, which asks no C library for memory that a shim could take the place of."""
     named = os.environ.get("CLOCKBOARD")
     if named:
         return Path(named)
-    is_fresh = subprocess.run([TOP / "bin/run-crate", "--fresh", "clockboard"], check=False).returncode == 0
-    return TOP / ("crates/clockboard/out/clockboard" if is_fresh else "release/clockboard-x86_64-linux")
+    if subprocess.run([TOP / "bin/run-crate", "--fresh", "clockboard"], check=False).returncode:
+        raise SystemExit("hostile: no program of these sources is built here: bin/build builds it")
+    return TOP / "crates/clockboard/out/clockboard"

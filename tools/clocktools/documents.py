@@ -1,3 +1,4 @@
+# SPDX-License-Identifier: Apache-2.0 OR MIT
 """What docs/DEFINITIONS.md and docs/FORMATS.md say, so that a tool quotes it and tells nothing a second time."""
 
 import re
@@ -8,6 +9,7 @@ from .program import TOP
 
 DEFINITIONS = TOP / "docs" / "DEFINITIONS.md"
 FORMATS = TOP / "docs" / "FORMATS.md"
+COMING = TOP / "docs" / "COMING_FROM_QEMU_AND_KVM.md"
 
 
 @dataclass(frozen=True)
@@ -18,6 +20,16 @@ class Definition:
     name: str
     words: str
     standard: str
+
+
+@dataclass(frozen=True)
+class Difference:
+    """A row of docs/COMING_FROM_QEMU_AND_KVM.md: its name, its section, what is here and what is there."""
+
+    name: str
+    section: str
+    here: str
+    there: str
 
 
 def cells(line: str) -> list[str]:
@@ -53,4 +65,20 @@ def table(heading: str) -> dict[str, tuple[str, ...]]:
             row = cells(line)
             for written in re.findall(r"`([^`]+)`", row[0]) or [row[0]]:
                 found.setdefault(written.split(" ")[0], tuple(row))
+    return found
+
+
+@cache
+def differences() -> dict[str, Difference]:
+    """The rows of docs/COMING_FROM_QEMU_AND_KVM.md that have a name."""
+    found: dict[str, Difference] = {}
+    section = ""
+    for line in COMING.read_text().splitlines():
+        if line.startswith("##"):
+            section = line.lstrip("# ")
+        elif line.startswith("| `"):
+            row = cells(line)
+            if len(row) == 3 and re.fullmatch(r"`[a-z0-9-]+`", row[0]):
+                name = row[0].strip("`")
+                found[name] = Difference(name, section, row[1], row[2])
     return found

@@ -1,3 +1,4 @@
+# SPDX-License-Identifier: Apache-2.0 OR MIT
 """At which word of a refused line its form ends. docs/FORMATS.md tells the forms; the program alone decides."""
 
 import re
@@ -7,6 +8,8 @@ from dataclasses import dataclass
 HEADER = ("clockboard", "host", "guest", "cpus", "policy", "slew", "wall", "rtc", "state", "route", "begin")
 """The names of the header's lines, in their order."""
 BEHIND_STATE = ("route", "begin")
+FORMATS = ("1", "2")
+CPUS_MAX = {1: 16, 2: 64}
 LINES = ("0", "8", "20", "21", "22", "23")
 PORTS = (0x40, 0x41, 0x42, 0x43, 0x61, 0x70, 0x71)
 MSRS = (0x10, 0x3B, 0x4B564D00, 0x4B564D01)
@@ -67,10 +70,10 @@ POLICY = [one_of(name, "discard", "delay", "slew") for name in "PQR"]
 
 def header_forms(version: int) -> dict[str, list[Place]]:
     return {
-        "clockboard": [one_of("the format", "1", "2")],
+        "clockboard": [one_of("the format", *FORMATS)],
         "host": [KHZ, dec("START")],
         "guest": [KHZ],
-        "cpus": [dec("N", 1, 64 if version == 2 else 16)],
+        "cpus": [dec("N", 1, CPUS_MAX[version])],
         "policy": POLICY,
         "slew": [dec("NS", 1, 10**9)],
         "wall": [dec("SEC", 0, 2**32 - 1), dec("NSEC", 0, 10**9 - 1)],
@@ -107,10 +110,13 @@ def record_forms(version: int) -> dict[str, list[Place]]:
 
 @dataclass
 class Before:
-    """What stands before a line: the format, the header's names so far, and whether the header has ended."""
+    """What stands before a line: the format, the header's names so far, the processors and the host's first count, and
+    whether the header has ended."""
 
     version: int = 1
     names: tuple[str, ...] = ()
+    cpus: int = 1
+    start: int = 0
     in_body: bool = False
 
     def next_names(self) -> tuple[str, ...]:
@@ -135,6 +141,12 @@ def before(lines: list[str], number: int) -> Before:
         found.names += (words[0],)
         if words[0] == "clockboard":
             found.version = int(words[1])
+        elif words[0] == "cpus":
+            found.cpus = int(words[1])
+        elif words[0] == "host":
+            found.start = int(words[2])
+        elif words[0] == "state":
+            found.cpus = int.from_bytes(bytes.fromhex(words[1][20:24]), "little")
     return found
 
 

@@ -1,9 +1,17 @@
+# SPDX-License-Identifier: Apache-2.0 OR MIT
 """What both importers share: what was seen of a peer, and how it is written as a trace and a file of its answers."""
 
+import hashlib
+import tempfile
 from collections import Counter
+from collections.abc import Iterator
 from dataclasses import dataclass, field
-from datetime import datetime, timezone
-from typing import TextIO
+from itertools import chain
+from pathlib import Path
+from shutil import copyfileobj
+from typing import IO, NamedTuple
+
+from .power_on import ClockBytes, rtc_line, wall_line
 
 PORTS = {0x40, 0x41, 0x42, 0x43, 0x61, 0x70, 0x71}
 HPET_BASE = 0xFED00000
@@ -13,16 +21,21 @@ FORMAT_1_CPUS = 16
 FORMAT_2_CPUS = 64
 FORMAT_2_TIMERS = 0x160
 """From this offset on the HPET's registers belong to timers that format 1 hasn't."""
+LATE_NS = 3000
+"""A line of a log comes so much after the access at most, beyond the time since its processor's line before."""
 
 
-@dataclass(frozen=True)
-class Seen:
-    """Something that a processor did: its count, its words of a record, and what the peer answered, if anything."""
+class Access(NamedTuple):
+    """An access of a processor: at which count, to how many bytes from an address on, and the value; and to how many
+    nanoseconds its time is exact."""
 
     cpu: int
     count: int
-    words: str
-    answer: str | None = None
+    address: int
+    size: int
+    value: int
+    is_write: bool
+    within: int
 
 
 @dataclass
@@ -32,105 +45,123 @@ class Header:
     host: tuple[int, int]
     guest: int
     policy: tuple[str, str, str]
-    started: int | None = None
-    """When the peer was turned on, in nanoseconds since 1970, if the log tells."""
+    wall: int | None = None
+    """The wall clock at time 0, in nanoseconds since 1970, if it is known."""
+    rtc: int | None = None
+    """The time that the MC146818 shows at time 0, in seconds since 1970, if it is known."""
+
+    def lines(self, version: int, processors: int, source: str) -> list[str]:
+        return [
+            f"clockboard {version}",
+            f"# {source}",
+            f"host {self.host[0]} {self.host[1]}",
+            f"guest {self.guest}",
+            f"cpus {processors}",
+            "policy " + " ".join(self.policy),
+            *([] if self.wall is None else [wall_line(self.wall)]),
+            *([] if self.rtc is None else [rtc_line(self.rtc)]),
+            "begin",
+        ]
 
 
 @dataclass
 class Import:
-    """All that was seen of a peer, in order, and what was dropped, by its cause."""
+    """What is seen of a peer, in order of its counts, on its way into two files; and what was dropped, by its cause.
+
+    The records are written as they come into a file without a name, since the header is only known at the end.
+    """
 
     source: str
-    seen: list[Seen] = field(default_factory=list)
+    folder: Path
+    """Where the files without names are."""
+    first_line: int
+    """The line of the trace that has the first record."""
+    stamp_ns: int = 1
+    """How exact the peer's times are at best."""
     dropped: Counter[str] = field(default_factory=Counter)
     rises: dict[int, int] = field(default_factory=dict)
-    stamp_ns: int = 1
-    """How exact the peer's times are."""
+    clock: ClockBytes = field(default_factory=ClockBytes)
+    records: int = 0
+    processors: int = 1
+    version: int = 1
+
+    def __post_init__(self) -> None:
+        self.body: IO[bytes] = tempfile.TemporaryFile(dir=self.folder)
+        self.answers: IO[bytes] = tempfile.TemporaryFile(dir=self.folder)
 
     def drop(self, cause: str) -> None:
         self.dropped[cause] += 1
 
-    def port(self, cpu: int, count: int, port: int, size: int, value: int, is_write: bool) -> None:
+    def see(self, cpu: int, count: int, words: str, answer: str = "", within: int | None = None) -> None:
+        """A record: its processor, its count, its words, what the peer answered, and to how many nanoseconds
+        its time is exact."""
+        if cpu >= FORMAT_2_CPUS:
+            self.drop(f"a processor from {FORMAT_2_CPUS} on")
+            return
+        self.body.write(f"{cpu} {count} {words}\n".encode())
+        told = [word for word in (answer, "" if within is None else f"+{within}") if word]
+        if told:
+            self.answers.write(f"{self.first_line + self.records} {' '.join(told)}\n".encode())
+        self.records += 1
+        if cpu >= self.processors:
+            self.processors = cpu + 1
+        if cpu >= FORMAT_1_CPUS:
+            self.version = 2
+
+    def port(self, access: Access) -> None:
         """An access to a port of the 8254 or the MC146818."""
+        cpu, count, port, size, value, is_write, within = access
+        byte = value & 0xFF
         if port not in PORTS:
             self.drop(f"port {port:x}h, which no record has")
         elif size != 1:
             self.drop(f"an access of {size} bytes to a port")
         elif is_write:
-            self.seen.append(Seen(cpu, count, f"out {port:x} {value & 0xFF:02x}"))
+            self.clock.write(port, byte)
+            self.see(cpu, count, f"out {port:x} {byte:02x}", within=within)
         else:
-            self.seen.append(Seen(cpu, count, f"in {port:x}", f"{value & 0xFF:02x}"))
+            self.clock.read(port, byte, count)
+            self.see(cpu, count, f"in {port:x}", f"{byte:02x}", within)
 
-    def hpet(self, cpu: int, count: int, offset: int, size: int, value: int, is_write: bool) -> None:
+    def hpet(self, access: Access) -> None:
         """An access to the HPET."""
+        cpu, count, address, size, value, is_write, within = access
+        offset = address - HPET_BASE
         if not 0 <= offset < HPET_SIZE:
             self.drop("an access to the HPET above 3ffh")
-        elif size not in HPET_WIDTHS:
+            return
+        if size not in HPET_WIDTHS:
             self.drop(f"an access of {size} bytes to the HPET")
-        elif is_write:
-            self.seen.append(Seen(cpu, count, f"hw {offset:x} {size} {value & (1 << 8 * size) - 1:x}"))
+            return
+        value &= (1 << 8 * size) - 1
+        if is_write:
+            self.see(cpu, count, f"hw {offset:x} {size} {value:x}", within=within)
         else:
-            digits = f"{value & (1 << 8 * size) - 1:0{2 * size}x}"
-            self.seen.append(Seen(cpu, count, f"hr {offset:x} {size}", digits))
+            self.see(cpu, count, f"hr {offset:x} {size}", f"{value:0{2 * size}x}", within)
+        if offset >= FORMAT_2_TIMERS:
+            self.version = 2
 
-    def ordered(self) -> list[Seen]:
-        """In order of counts; those of one count stay in the log's order."""
-        limit = FORMAT_2_CPUS
-        for seen in self.seen:
-            if seen.cpu >= limit:
-                self.drop(f"a processor from {limit} on")
-        return sorted((seen for seen in self.seen if seen.cpu < limit), key=lambda seen: seen.count)
-
-    def format(self, processors: int) -> int:
-        """The least format that has these processors and the timers that were reached."""
-        def is_high(words: list[str]) -> bool:
-            return words[0] in ("hr", "hw") and int(words[1], 16) >= FORMAT_2_TIMERS
-
-        high = any(is_high(seen.words.split(" ")) for seen in self.seen)
-        return 2 if processors > FORMAT_1_CPUS or high else 1
-
-
-def bcd(number: int) -> str:
-    return f"{number // 10}{number % 10}"
-
-
-def clock_lines(started: int | None) -> list[str]:
-    """The lines `wall` and `rtc` of a moment, in nanoseconds since 1970."""
-    if started is None:
-        return []
-    seconds, nanoseconds = divmod(started, 1_000_000_000)
-    moment = datetime.fromtimestamp(seconds, timezone.utc)
-    numbers = (moment.second, moment.minute, moment.hour, moment.isoweekday() % 7 + 1,
-               moment.day, moment.month, moment.year % 100)
-    return [f"wall {seconds} {nanoseconds}", "rtc " + " ".join(map(bcd, numbers))]
+    def write(self, header: Header, trace: Path, peer: Path) -> None:
+        """Writes the trace, and the file of the peer's answers."""
+        lines = header.lines(self.version, self.processors, self.source)
+        if len(lines) + 1 != self.first_line:
+            raise AssertionError("the header has other lines than were counted on")
+        sum_of = hashlib.sha256()
+        with trace.open("wb") as out:
+            for piece in chain([("\n".join(lines) + "\n").encode()], pieces(self.body), [b"end\n"]):
+                sum_of.update(piece)
+                out.write(piece)
+        with peer.open("wb") as out:
+            head = [f"# What the peer answered, by the lines of the trace: {self.source}",
+                    f"trace {sum_of.hexdigest()}", f"stamp {self.stamp_ns}",
+                    *(f"rises {line} {count}" for line, count in sorted(self.rises.items()))]
+            out.write(("\n".join(head) + "\n").encode())
+            self.answers.seek(0)
+            copyfileobj(self.answers, out)
 
 
-def header_lines(header: Header, version: int, processors: int, source: str) -> list[str]:
-    return [
-        f"clockboard {version}",
-        f"# {source}",
-        f"host {header.host[0]} {header.host[1]}",
-        f"guest {header.guest}",
-        f"cpus {processors}",
-        "policy " + " ".join(header.policy),
-        *clock_lines(header.started),
-        "begin",
-    ]
-
-
-def write(found: Import, header: Header, trace: TextIO, peer: TextIO) -> int:
-    """Writes the trace and the peer's answers. The answer is the number of records."""
-    ordered = found.ordered()
-    processors = max((seen.cpu for seen in ordered), default=0) + 1
-    lines = header_lines(header, found.format(processors), processors, found.source)
-    trace.write("\n".join(lines) + "\n")
-    peer.write(f"# What the peer answered, by the lines of the trace: {found.source}\n")
-    peer.write(f"stamp {found.stamp_ns}\n")
-    for line, count in sorted(found.rises.items()):
-        peer.write(f"rises {line} {count}\n")
-    for number, seen in enumerate(ordered, len(lines) + 1):
-        trace.write(f"{seen.cpu} {seen.count} {seen.words}\n")
-        if seen.answer is not None:
-            peer.write(f"{number} {seen.answer}\n")
-    trace.write("end\n")
-    return len(ordered)
+def pieces(file: IO[bytes]) -> Iterator[bytes]:
+    """What a file holds, piece by piece."""
+    file.seek(0)
+    while piece := file.read(1 << 16):
+        yield piece

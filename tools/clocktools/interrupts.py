@@ -1,9 +1,11 @@
+# SPDX-License-Identifier: Apache-2.0 OR MIT
 """Which line an end of interrupt acknowledges, from the programming of the two 8259s, the IO-APIC and the local APICs.
 
 The lines' numbers are those of a trace: 0 the 8254, 8 the MC146818, 20 to 23 the HPET. On a PC line 0 is input 0 of the
 first 8259 and input 2 of the IO-APIC; line 8 is input 0 of the second 8259 and input 8 of the IO-APIC.
 """
 
+from collections import Counter
 from dataclasses import dataclass, field
 
 IOAPIC_LINES = {2: 0, 8: 8, 20: 20, 21: 21, 22: 22, 23: 23}
@@ -14,7 +16,7 @@ PIC_LINES = {0: 0, 8: 8}
 
 COMMAND_BITS, END_COMMAND = 0x38, 0x20
 """The bits of an 8259's command by which it is an end of interrupt, whatever it rotates."""
-MASKED = 1 << 16
+MASKED, LOGICAL = 1 << 16, 1 << 11
 FIXED_MODE = 0x700
 """The delivery mode of an LVT; all 0 is fixed delivery."""
 
@@ -83,21 +85,38 @@ class Pic:
 
 @dataclass
 class IoApic:
-    """The IO-APIC: the register that is selected, and the low halves of its table."""
+    """The IO-APIC: the register that is selected, and both halves of its table."""
 
     selected: int = 0
     low: list[int] = field(default_factory=lambda: [MASKED] * 24)
+    high: list[int] = field(default_factory=lambda: [0] * 24)
 
     def write(self, offset: int, value: int) -> None:
         if offset == 0:
             self.selected = value & 0xFF
-        elif offset == 0x10 and 0x10 <= self.selected < 0x40 and not self.selected & 1:
-            self.low[(self.selected - 0x10) // 2] = value
+        elif offset == 0x10 and 0x10 <= self.selected < 0x40:
+            half = self.high if self.selected & 1 else self.low
+            half[(self.selected - 0x10) // 2] = value
 
-    def line_of(self, vector: int) -> int | None:
-        """The line whose entry has this vector; one that isn't masked comes first."""
-        entries = [(bool(low & MASKED), pin) for pin, low in enumerate(self.low) if low & 0xFF == vector]
-        return IOAPIC_LINES.get(min(entries)[1]) if entries else None
+    def pins_of(self, vector: int) -> list[int]:
+        """The inputs whose entries have this vector: those that aren't masked, or where there are none the others."""
+        pins = [pin for pin, low in enumerate(self.low) if low & 0xFF == vector]
+        return [pin for pin in pins if not self.low[pin] & MASKED] or pins
+
+    def pins_for(self, vector: int, number: int, is_logical: bool) -> list[int]:
+        """Those of them that send it to this destination."""
+        destination = (number, is_logical)
+        return [pin for pin in self.pins_of(vector)
+                if (self.high[pin] >> 24, bool(self.low[pin] & LOGICAL)) == destination]
+
+
+@dataclass(frozen=True)
+class Message:
+    """A vector on its way to a processor, or to one of several, and the line of a trace that sent it, if one did."""
+
+    vector: int
+    cpu: int | None
+    line: int | None
 
 
 class Interrupts:
@@ -108,11 +127,13 @@ class Interrupts:
         self.ioapic = IoApic()
         self.logical: dict[int, int] = {}
         self.wired: dict[int, int] = {}
-        self.sent: dict[int, list[int | None]] = {}
-        self.in_service: dict[int, list[int]] = {}
-        self.floating: list[int] = []
+        self.sent: dict[int, list[Message]] = {}
+        self.in_service: dict[int, list[Message]] = {}
+        self.floating: list[Message] = []
         self.processors = 1
+        self.local_vectors = 0
         self.unknown_ends = 0
+        self.unclear: Counter[str] = Counter()
         self.taken_by_line: dict[int, int] = {}
 
     def write_pic(self, port: int, value: int) -> int | None:
@@ -128,11 +149,25 @@ class Interrupts:
         return PIC_LINES.get(ended)
 
     def message(self, address: int, value: int) -> None:
-        """A message to the local APICs, as the IO-APIC sends it."""
-        waiting = self.sent.setdefault(value & 0xFF, [])
+        """A message to the local APICs, as the IO-APIC or a device sends it. One that waits already is sent once."""
+        vector = value & 0xFF
+        waiting = self.sent.setdefault(vector, [])
         cpu = self.destination(address)
-        if cpu not in waiting:
-            waiting.append(cpu)
+        if all(message.cpu != cpu for message in waiting):
+            waiting.append(Message(vector, cpu, self.source(vector, address)))
+
+    def source(self, vector: int, address: int) -> int | None:
+        """The line that sends a message: that of the one input whose entry has its vector and its destination. With one
+        processor the vector is enough."""
+        number, is_logical = address >> 12 & 0xFF, bool(address >> 2 & 1)
+        pins = self.ioapic.pins_for(vector, number, is_logical)
+        if self.processors == 1:
+            pins = (pins or self.ioapic.pins_of(vector))[:1]
+        if len(pins) > 1:
+            names = " and ".join(str(pin) for pin in pins)
+            self.unclear[f"a vector that inputs {names} of the IO-APIC send to one processor"] += 1
+            return None
+        return IOAPIC_LINES.get(pins[0]) if pins else None
 
     def destination(self, address: int) -> int | None:
         """The one processor that a message's address names, if it names one."""
@@ -148,34 +183,29 @@ class Interrupts:
         if not value & MASKED and not value & FIXED_MODE:
             self.wired[cpu] = value & 0xFF
 
-    def line_of(self, vector: int) -> int | None:
-        """The line behind a vector of a local APIC."""
-        if vector in self.wired.values() and not self.pics[0].mask & 1:
-            return 0
-        return self.ioapic.line_of(vector)
-
     def taken(self, vector: int) -> int | None:
         """A processor takes a vector. The answer is the line of a trace that it came from, acknowledged by itself where
         the 8259 ends interrupts by itself."""
         if self.sent.get(vector):
-            cpu = self.sent[vector].pop(0)
-            if cpu is None and self.processors > 1:
-                self.floating.append(vector)
+            message = self.sent[vector].pop(0)
+            if message.cpu is None and self.processors > 1:
+                self.floating.append(message)
             else:
-                self.in_service.setdefault(cpu or 0, []).append(vector)
-            self.count(self.line_of(vector))
+                self.in_service.setdefault(message.cpu or 0, []).append(message)
+            self.count(message.line)
             return None
         wired = next((cpu for cpu, own in self.wired.items() if own == vector), None)
-        if wired is not None and self.line_of(vector) is not None:
-            self.in_service.setdefault(wired, []).append(vector)
-            self.count(self.line_of(vector))
+        if wired is not None and not self.pics[0].mask & 1:
+            self.in_service.setdefault(wired, []).append(Message(vector, wired, 0))
+            self.count(0)
             return None
         for pic in self.pics:
             number = pic.input_of(vector)
             if number is not None:
                 return self.taken_from(pic, number)
+        self.local_vectors += 1
         if self.processors == 1:
-            self.in_service.setdefault(0, []).append(vector)
+            self.in_service.setdefault(0, []).append(Message(vector, 0, None))
         return None
 
     def taken_from(self, pic: Pic, number: int) -> int | None:
@@ -202,8 +232,15 @@ class Interrupts:
         """
         own = self.in_service.get(cpu) or self.floating
         if not own:
-            self.unknown_ends += self.processors == 1
+            self.unknown_ends += 1
             return None
-        vector = max(own)
-        own.remove(vector)
-        return self.line_of(vector)
+        message = max(own, key=lambda message: message.vector)
+        own.remove(message)
+        return message.line
+
+    def lost(self) -> Counter[str]:
+        """What the log doesn't show, by its cause. Of several processors as many ends are those of local sources as
+        vectors of these were taken."""
+        local = self.local_vectors if self.processors > 1 else 0
+        ends = Counter({"an end of interrupt with no vector in service": max(0, self.unknown_ends - local)})
+        return +(self.unclear + ends)

@@ -1,16 +1,21 @@
+# SPDX-License-Identifier: Apache-2.0 OR MIT
 """KVM's tracepoints, as an ftrace instance with the clock `x86-tsc` prints them. The host's counter is the TSC itself.
 
 Read are kvm_pio, kvm_mmio, kvm_msr, kvm_ack_irq, kvm_pvclock_update, kvm_write_tsc_offset, and the marks that
-tools/kvm-record puts at the beginning and the end, from which the TSC's rate is known.
+tools/kvm-record puts at the beginning and the end, from which the TSC's rate is known. A log is read twice: first for
+what no one line has, as the rates and which thread is which processor, and then for the records.
 """
 
+import heapq
 import re
 from collections.abc import Iterable, Iterator
-from dataclasses import dataclass
+from dataclasses import dataclass, field
 from fractions import Fraction
+from pathlib import Path
 
-from .importing import HPET_BASE, HPET_SIZE, PORTS, Import, Seen
+from .importing import HPET_BASE, HPET_SIZE, LATE_NS, PORTS, Access, Import
 from .interrupts import IOAPIC_LINES, PIC_LINES
+from .logs import Unusable
 
 EVENT = re.compile(r"^\s*(.+?)-(\d+)\s+(?:\([^)]*\)\s+)?\[\d+\]\s+(?:\S+\s+)?(\d+)(\.\d+)?: (\w+): (.*)$")
 MARK = re.compile(r"clockboard real (\d+) raw (\d+)")
@@ -28,10 +33,12 @@ TSC, TSC_ADJUST, STEAL = 0x10, 0x3B, 0x4B564D03
 MSRS = {0x10: 0x10, 0x3B: 0x3B, 0x11: 0x4B564D00, 0x12: 0x4B564D01, 0x4B564D00: 0x4B564D00, 0x4B564D01: 0x4B564D01}
 """The MSRs of a trace, and the two old numbers of kvmclock, which mean the same as the new ones."""
 VCPU_EVENTS = ("kvm_pio", "kvm_mmio", "kvm_msr", "kvm_pvclock_update")
+READ_EVENTS = (*VCPU_EVENTS, "kvm_ack_irq", "kvm_write_tsc_offset")
 
 
-class WrongClock(Exception):
-    """The trace's times aren't counts of the TSC."""
+WINDOW = 1 << 14
+"""Within so many events those of the host's processors are put into the order of their counts."""
+SOURCE = "imported from tracepoints of KVM"
 
 
 @dataclass(frozen=True)
@@ -45,28 +52,27 @@ class Event:
     text: str
 
 
-def events(lines: Iterable[str]) -> Iterator[Event]:
+def events(lines: Iterable[bytes]) -> Iterator[Event]:
+    """The events of a log, in its order."""
     for line in lines:
-        match = EVENT.match(line)
-        if match and not line.startswith("#"):
+        if b"kvm_" not in line and b"tracing_mark" not in line or line.startswith(b"#"):
+            continue
+        match = EVENT.match(line.decode("utf-8", "replace").rstrip("\n"))
+        if match:
             if match[4]:
-                raise WrongClock
+                raise Unusable("its times are seconds: the instance's trace_clock must be x86-tsc")
             yield Event(match[1], int(match[2]), int(match[3]), match[5], match[6])
 
 
-def processors_of(found: list[Event]) -> dict[int, int]:
-    """The processor of each thread: as QEMU names it, or as kvm_pvclock_update does in it, or else in order."""
-    known: dict[int, int] = {}
-    for event in found:
-        named = THREAD.search(event.name) or (
-            event.kind == "kvm_pvclock_update" and PVCLOCK.match(event.text))
-        if named:
-            known.setdefault(event.thread, int(named[1]))
-    for event in found:
-        if event.kind in VCPU_EVENTS and event.thread not in known:
-            free = next(number for number in range(len(known) + 1) if number not in known.values())
-            known[event.thread] = free
-    return known
+def in_order(found: Iterable[Event]) -> Iterator[Event]:
+    """Events by their counts; those of one count stay in the log's order."""
+    waiting: list[tuple[int, int, Event]] = []
+    for number, event in enumerate(found):
+        heapq.heappush(waiting, (event.count, number, event))
+        if len(waiting) > WINDOW:
+            yield heapq.heappop(waiting)[2]
+    while waiting:
+        yield heapq.heappop(waiting)[2]
 
 
 @dataclass(frozen=True)
@@ -78,56 +84,109 @@ class Mark:
     raw: int
 
 
-def marks_of(found: list[Event]) -> list[Mark]:
-    """The marks of tools/kvm-record."""
-    pairs = ((event, MARK.search(event.text)) for event in found if event.kind == "tracing_mark_write")
-    return [Mark(event.count, int(match[1]), int(match[2])) for event, match in pairs if match]
-
-
 def khz_between(first: Mark, last: Mark) -> int:
     """The TSC's rate between two marks, to the nearest kHz."""
     return round((last.count - first.count) * 1_000_000 / (last.raw - first.raw))
 
 
-def khz_of_pages(found: list[Event]) -> int | None:
+@dataclass
+class Survey:
+    """What a log shows as a whole."""
+
+    threads: dict[int, int] = field(default_factory=dict)
+    """The processor of each thread: as QEMU names it, or as kvm_pvclock_update does in it, or else in order."""
+    marks: list[Mark] = field(default_factory=list)
+    page_khz: int | None = None
     """The guest's rate by the first page that was published: a tick takes mul * 2^(shift - 32) nanoseconds."""
-    for event in found:
-        match = event.kind == "kvm_pvclock_update" and PVCLOCK.match(event.text)
-        if match:
-            return round(Fraction(1_000_000 * 2**32, int(match[5], 16)) / Fraction(2) ** int(match[6]))
-    return None
+    told_offsets: set[tuple[int, int]] = field(default_factory=set)
+    """By thread and count the offsets that a write of the TSC or of TSC_ADJUST explains, which follows in the thread."""
+    kinds: int = 0
+    """How many events were of a kind that is read."""
+
+    def read(self, found: Iterable[Event]) -> "Survey":
+        unnamed: dict[int, None] = {}
+        offsets: dict[int, Event] = {}
+        for event in found:
+            self.kinds += event.kind in READ_EVENTS
+            self.name(event, unnamed)
+            self.mark(event)
+            before = offsets.pop(event.thread, None)
+            if before and is_write_of_tsc(event):
+                self.told_offsets.add((before.thread, before.count))
+            if event.kind == "kvm_write_tsc_offset":
+                offsets[event.thread] = event
+        for thread in unnamed:
+            if thread not in self.threads:
+                taken = set(self.threads.values())
+                self.threads[thread] = next(number for number in range(len(taken) + 1) if number not in taken)
+        return self
+
+    def name(self, event: Event, unnamed: dict[int, None]) -> None:
+        named = THREAD.search(event.name) or (event.kind == "kvm_pvclock_update" and PVCLOCK.match(event.text))
+        if named:
+            self.threads.setdefault(event.thread, int(named[1]))
+        elif event.kind in VCPU_EVENTS:
+            unnamed.setdefault(event.thread)
+
+    def mark(self, event: Event) -> None:
+        """Marks, and the first page."""
+        if event.kind == "tracing_mark_write":
+            match = MARK.search(event.text)
+            if match:
+                self.marks.append(Mark(event.count, int(match[1]), int(match[2])))
+        elif event.kind == "kvm_pvclock_update" and self.page_khz is None:
+            match = PVCLOCK.match(event.text)
+            if match:
+                self.page_khz = round(Fraction(1_000_000 * 2**32, int(match[5], 16)) / Fraction(2) ** int(match[6]))
+    def khz(self) -> int | None:
+        """The rate of the host's TSC: as KVM scales its pages, or else by the marks."""
+        if self.page_khz is None and len(self.marks) > 1:
+            return khz_between(self.marks[0], self.marks[-1])
+        return self.page_khz
+
+
+def is_write_of_tsc(event: Event) -> bool:
+    match = event.kind == "kvm_msr" and MSR.match(event.text)
+    return bool(match and match[1] == "write" and int(match[2], 16) in (TSC, TSC_ADJUST))
 
 
 class Reader:
-    """Reads a trace, whose rates are known, into records."""
+    """Reads a trace, whose survey and rates are known, into records."""
 
-    def __init__(self, found: list[Event], host_khz: int, guest_khz: int) -> None:
-        self.events = sorted(found, key=lambda event: event.count)
-        self.processors = processors_of(found)
+    def __init__(self, survey: Survey, host_khz: int, guest_khz: int, folder: Path, first_line: int) -> None:
+        self.survey = survey
+        self.host_khz = host_khz
         self.ratio = guest_khz * 2**48 // host_khz
-        self.found = Import("imported from tracepoints of KVM")
-        self.offsets: dict[int, Event] = {}
+        self.found = Import(SOURCE, folder, first_line)
+        self.before: dict[int, int] = {}
+        """The count of the line before of each thread."""
+        self.start: int | None = None
+        self.within = 0
 
-    def read(self) -> Import:
-        for event in self.events:
+    def read(self, found: Iterable[Event]) -> Import:
+        first: int | None = None
+        for event in in_order(found):
+            first = event.count if first is None else first
+            since = event.count - self.before.get(event.thread, first)
+            self.within = since * 1_000_000 // self.host_khz + LATE_NS
+            self.before[event.thread] = event.count
             self.event(event)
-        for thread in list(self.offsets):
-            self.settle(thread)
         return self.found
 
     def event(self, event: Event) -> None:
-        if event.kind != "kvm_msr":
-            self.settle(event.thread)
+        records = self.found.records
         if event.kind == "kvm_write_tsc_offset":
-            self.offsets[event.thread] = event
+            self.offset(event)
         elif event.kind == "kvm_pvclock_update":
             self.pvclock(event)
-        elif event.kind in ("kvm_pio", "kvm_mmio", "kvm_msr", "kvm_ack_irq"):
-            cpu = self.processors.get(event.thread)
+        elif event.kind in READ_EVENTS:
+            cpu = self.survey.threads.get(event.thread)
             if cpu is None:
                 self.found.drop(f"{event.kind} by no processor")
             else:
                 getattr(self, event.kind.removeprefix("kvm_"))(cpu, event)
+        if self.start is None and self.found.records > records:
+            self.start = event.count
 
     def pio(self, cpu: int, event: Event) -> None:
         match = PIO.match(event.text)
@@ -137,8 +196,8 @@ class Reader:
             if match[4] != "1":
                 self.found.drop("a string access to a port")
             else:
-                self.found.port(cpu, event.count, int(match[2], 16), int(match[3]), int(match[5], 16),
-                                match[1] == "write")
+                self.found.port(Access(cpu, event.count, int(match[2], 16), int(match[3]), int(match[5], 16),
+                                       match[1] == "write", self.within))
 
     def mmio(self, cpu: int, event: Event) -> None:
         """A read is told twice: as it begins, and with its value as it ends. The second is taken."""
@@ -146,15 +205,12 @@ class Reader:
         if not match:
             self.found.drop("a line of kvm_mmio in another form")
         elif match[1] != "unsatisfied-read" and 0 <= int(match[3], 16) - HPET_BASE < HPET_SIZE:
-            self.found.hpet(cpu, event.count, int(match[3], 16) - HPET_BASE, int(match[2]), int(match[4], 16),
-                            match[1] == "write")
+            self.found.hpet(Access(cpu, event.count, int(match[3], 16), int(match[2]), int(match[4], 16),
+                                   match[1] == "write", self.within))
 
     def msr(self, cpu: int, event: Event) -> None:
         match = MSR.match(event.text)
         number = int(match[2], 16) if match else 0
-        if match and match[1] == "write" and number in (TSC, TSC_ADJUST):
-            self.offsets.pop(event.thread, None)
-        self.settle(event.thread)
         if not match:
             self.found.drop("a line of kvm_msr in another form")
         elif number == STEAL:
@@ -187,18 +243,17 @@ class Reader:
         self.see(cpu, event, f"refresh {cpu}")
         self.see(cpu, event, f"page {cpu}", f"{match[2]} {stamp} {system} {mul:08x} {match[6]} {flags:02x}")
 
-    def settle(self, thread: int) -> None:
+    def offset(self, event: Event) -> None:
         """An offset that no write of the TSC or of TSC_ADJUST explains was set by the host: the guest's TSC is written
         to what it is by the new offset."""
-        event = self.offsets.pop(thread, None)
-        if event is None:
-            return
         match = OFFSET.match(event.text)
+        if (event.thread, event.count) in self.survey.told_offsets:
+            return
         if not match:
             self.found.drop("a line of kvm_write_tsc_offset in another form")
         else:
             value = ((event.count * self.ratio >> 48) + int(match[3])) % 2**64
             self.see(int(match[1]), event, f"wrmsr 10 {value:x}")
 
-    def see(self, cpu: int, event: Event, words: str, answer: str | None = None) -> None:
-        self.found.seen.append(Seen(cpu, event.count, words, answer))
+    def see(self, cpu: int, event: Event, words: str, answer: str = "") -> None:
+        self.found.see(cpu, event.count, words, answer, self.within if answer else None)

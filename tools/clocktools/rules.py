@@ -1,10 +1,12 @@
+# SPDX-License-Identifier: Apache-2.0 OR MIT
 """Which register a record reads, and which definition decides what it answers."""
 
 from dataclasses import dataclass, field
 
 from .documents import Definition, definitions
 
-TIMES = (0x0, 0x2, 0x4, 0x6, 0x7, 0x8, 0x9)
+TIMES = {0x0: "seconds", 0x2: "minutes", 0x4: "hours", 0x6: "day of the week", 0x7: "date", 0x8: "month", 0x9: "year"}
+ALARMS = {0x1: "seconds", 0x3: "minutes", 0x5: "hours"}
 RTC_RULES = {
     0xA: ("register A", "rtc_cycle", "uip_of"),
     0xB: ("register B", "rtc_registers", "b_stored"),
@@ -71,7 +73,8 @@ class Follower:
             return hpet_rule(offset, int(words[2]), offset & ~7 in self.hpet_written)
         elif kind == "rdmsr":
             number = int(words[1], 16)
-            return Rule(*MSR_RULES[number], self.guest_khz / 1e6 if number == 0x10 else 0.0)
+            row = MSR_RULES.get(number, (f"MSR {number:X}h", "board_core", "msr_read"))
+            return Rule(*row, self.guest_khz / 1e6 if number == 0x10 else 0.0)
         elif kind == "page":
             return Rule("pvclock page", "board_core", "published")
         return None
@@ -109,8 +112,8 @@ def rtc_rule(index: int, is_written: bool) -> Rule:
         name, crate, definition = RTC_RULES[index]
         return Rule(f"MC146818 {name}", crate, definition)
     if index in TIMES:
-        return Rule("MC146818 time", "rtc_calendar", "updated")
-    name = "MC146818 alarm" if index < 6 else "MC146818 memory"
+        return Rule(f"MC146818 {TIMES[index]}", "rtc_calendar", "updated")
+    name = f"MC146818 alarm {ALARMS[index]}" if index in ALARMS else f"MC146818 byte {index:02X}h"
     return Rule(name, "rtc_registers", "rtc_written" if is_written else "rtc_at_power_on")
 
 

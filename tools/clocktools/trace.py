@@ -1,7 +1,9 @@
+# SPDX-License-Identifier: Apache-2.0 OR MIT
 """The text of a trace and of what is printed for it, as far as the tools need them. docs/FORMATS.md has both whole."""
 
-from collections.abc import Iterator
+from collections.abc import Iterable, Iterator
 from dataclasses import dataclass
+from typing import TypeGuard
 
 DEFAULT_KHZ = 1_000_000
 """The rate of the host's counter where a header has no `host` line: a count is a nanosecond."""
@@ -57,10 +59,41 @@ def anchor_of_state(digits: str) -> Anchor:
     return Anchor(khz or DEFAULT_KHZ, start, base)
 
 
+@dataclass
+class Head:
+    """What the tools need of a trace's header."""
+
+    guest_khz: int = DEFAULT_KHZ
+    policies: tuple[str, ...] = ("delay", "delay", "delay")
+    begins_saved: bool = False
+
+
+def head_of(lines: Iterable[str]) -> Head:
+    """The header of a trace that the program takes."""
+    head = Head()
+    for line in lines:
+        words = line.rstrip("\n").split(" ")
+        if words[0] == "guest":
+            head.guest_khz = int(words[1])
+        elif words[0] == "policy":
+            head.policies = tuple(words[1:])
+        elif words[0] == "state":
+            head.begins_saved = True
+        elif words[0] == "begin":
+            break
+    return head
+
+
 def records(text: str) -> Iterator[Record]:
     """The records of a trace that the program takes, each with its time, which no count moves back."""
+    return records_of(text.split("\n"))
+
+
+def records_of(lines: Iterable[str]) -> Iterator[Record]:
+    """The same of a trace's lines."""
     anchor, now, in_body = Anchor(), 0, False
-    for number, line in enumerate(text.split("\n"), 1):
+    for number, told in enumerate(lines, 1):
+        line = told.rstrip("\n")
         words = tuple(line.split(" "))
         if not line or line.startswith("#"):
             continue
@@ -80,6 +113,20 @@ def records(text: str) -> Iterator[Record]:
         if words[2] == "move":
             now += int(words[5])
             anchor = Anchor(int(words[3]), int(words[4]), now)
+
+
+def is_edge(event: Reply | Edge) -> TypeGuard[Edge]:
+    return isinstance(event, Edge)
+
+
+def printed(lines: Iterable[str]) -> Iterator[Reply | Edge]:
+    """The edges and the replies of a printed text, in order."""
+    for line in lines:
+        words = line.rstrip("\n").split(" ")
+        if words[0] == "edge":
+            yield Edge(int(words[1]), int(words[2]), words[3] == "up")
+        elif words[0].isdecimal():
+            yield Reply(int(words[0]), tuple(words[2:]))
 
 
 def edges(lines: list[str]) -> Iterator[Edge]:

@@ -1,0 +1,147 @@
+# SPDX-License-Identifier: Apache-2.0 OR MIT
+"""The man page, the completions for bash, and bin/install."""
+
+import os
+import re
+import shutil
+import subprocess
+import tempfile
+import unittest
+from pathlib import Path
+
+import support
+
+from clocktools.documents import table
+from clocktools.program import program
+
+HEADER = support.TOP / "c/clockboard.h"
+MAN = support.TOP / "share/man/man1/clockboard.1"
+CALLS = support.TOP / "share/man/man3/clockboard.3"
+COMPLETIONS = support.TOP / "share/bash-completion/completions/clockboard"
+RELEASED = support.TOP / "release/clockboard-x86_64-linux"
+
+
+def help_of(*words: str) -> str:
+    return subprocess.run([program(), *words, "--help"], capture_output=True, text=True, check=True).stdout
+
+
+def statuses_of(text: str) -> dict[str, str]:
+    """The exit statuses of the help, each with its words."""
+    rows = re.split(r"\n  (?=[0-9])", text[text.index("exit status:\n") :].split("\n\n")[0])[1:]
+    return {row.split(" ")[0]: " ".join(row.split()[1:]).replace("'end'", "end") for row in rows}
+
+
+class Manual(unittest.TestCase):
+    def test_statuses(self) -> None:
+        """The man page and the help have those of docs/FORMATS.md, and the same words for each."""
+        found = re.findall(r"\.TP\n\.B ([0-9]+)\n(.*?)(?=\n\.TP|\n\.PP)", MAN.read_text(), re.DOTALL)
+        told = {number: " ".join(text.replace(".B ", "").split()) for number, text in found}
+        self.assertEqual(told, statuses_of(help_of()))
+        self.assertEqual(set(told), {name for name in table("How a run ends") if name.isdecimal()})
+
+    def test_layout(self) -> None:
+        if not shutil.which("groff"):
+            self.skipTest("no groff")
+        for page in (MAN, CALLS):
+            done = subprocess.run(["groff", "-man", "-Tascii", "-ww", "-z", page], capture_output=True, text=True, check=False)
+            self.assertEqual((done.returncode, done.stderr), (0, ""), page.name)
+
+
+class Help(unittest.TestCase):
+    def test_page_of_each_job(self) -> None:
+        pages = {job: help_of(job) for job in ("replay", "race", "gen", "soak")}
+        for job, page in pages.items():
+            self.assertIn(f"usage: clockboard {job} ", page)
+            self.assertTrue(page.startswith(f"clockboard {job}: "))
+        for job in ("replay", "race"):
+            self.assertIn("tools/explain TRACE", pages[job])
+        self.assertIn("tools/explain TRACE", help_of())
+        self.assertEqual(help_of("walk"), help_of())
+
+    def test_example_of_replay(self) -> None:
+        """The trace on the page of replay is one that the program answers."""
+        lines = [line[2:] for line in help_of("replay").splitlines() if line.startswith("  ")]
+        trace = "\n".join(lines[: lines.index("end") + 1]) + "\n"
+        done = subprocess.run([program(), "replay"], input=trace, capture_output=True, text=True, check=False)
+        self.assertEqual((done.returncode, done.stdout.splitlines()[-1]), (0, "final 5000 4 0 0"))
+
+
+class Completions(unittest.TestCase):
+    def complete(self, *words: str) -> list[str]:
+        script = '. "$1"; shift; COMP_WORDS=("$@"); COMP_CWORD=$(($# - 1)); _clockboard; printf "%s\\n" "${COMPREPLY[@]}"'
+        done = subprocess.run(["bash", "-c", script, "bash", COMPLETIONS, "clockboard", *words], capture_output=True,
+                              text=True, check=True)
+        return done.stdout.split()
+
+    def test_words(self) -> None:
+        self.assertEqual(self.complete(""), ["replay", "race", "gen", "soak", "--help", "--version"])
+        self.assertEqual(self.complete("r"), ["replay", "race"])
+        self.assertEqual(self.complete("replay", "--"), ["--state", "--help"])
+        self.assertEqual(self.complete("gen", "--"), ["--help"])
+        self.assertEqual(self.complete("replay", "<", "t"), [])
+
+    def test_each_is_a_word_of_the_program(self) -> None:
+        for word in self.complete(""):
+            done = subprocess.run([program(), word, *([] if word.startswith("--") else ["--help"])], capture_output=True,
+                                  check=False)
+            self.assertEqual(done.returncode, 0, word)
+
+
+class Licence(unittest.TestCase):
+    def test_each_script_and_source_names_it(self) -> None:
+        """Each script, and each source of the library for C and Rust, has the line by which tools find the licence."""
+        line = "SPDX-License-Identifier: Apache-2.0 OR MIT"
+        sources = [path for folder in ("bin", "tools", "tests", "bench", "c", "rust") for path in (support.TOP / folder).rglob("*")
+                   if path.is_file() and "target" not in path.parts and "__pycache__" not in path.parts]
+        named = [path for path in sources
+                 if path.suffix in (".py", ".c", ".h", ".cc", ".rs", ".sh") or path.read_bytes().startswith(b"#!")]
+        self.assertGreater(len(named), 60)
+        for path in [*named, support.TOP / "README.md", support.TOP / "rust/clockboard/Cargo.toml"]:
+            text = path.read_text()
+            self.assertTrue(line in text or 'license = "Apache-2.0 OR MIT"' in text, path)
+        for name in ("LICENSE-APACHE", "LICENSE-MIT"):
+            self.assertTrue((support.TOP / name).is_file())
+
+
+class Install(unittest.TestCase):
+    def test_installed(self) -> None:
+        with tempfile.TemporaryDirectory() as folder:
+            done = subprocess.run([support.TOP / "bin/install", "/opt/clock"], capture_output=True, text=True, check=False,
+                                  env={**os.environ, "DESTDIR": folder})
+            self.assertEqual((done.returncode, done.stderr), (0, ""))
+            top = Path(folder) / "opt/clock"
+            files = sorted(str(path.relative_to(top)) for path in top.rglob("*") if path.is_file())
+            abi = re.search(r"^#define CLOCKBOARD_ABI (\d+)$", HEADER.read_text(), re.MULTILINE).group(1)
+            shared = ["lib/libclockboard.so", f"lib/libclockboard.so.{abi}"] if shutil.which("cc") else []
+            monitor = [f"share/doc/clockboard/examples/monitor/{path.name}" for path in (HEADER.parent / "monitor").iterdir()]
+            self.assertEqual(files, sorted([
+                "bin/clockboard", "include/clockboard/clockboard.h", "include/clockboard/put_page.h",
+                "include/clockboard/record.h", "lib/cmake/clockboard/clockboard-config-version.cmake",
+                "lib/cmake/clockboard/clockboard-config.cmake", "lib/libclockboard.a", *shared,
+                "lib/pkgconfig/clockboard.pc", "share/bash-completion/completions/clockboard",
+                "share/doc/clockboard/LICENSE-APACHE", "share/doc/clockboard/LICENSE-MIT",
+                "share/doc/clockboard/examples/demo.c", *monitor, "share/man/man1/clockboard.1",
+                "share/man/man3/clockboard.3"]))
+            version = subprocess.run([top / "bin/clockboard", "--version"], capture_output=True, text=True, check=True)
+            self.assertTrue(version.stdout.startswith("clockboard "))
+            self.assertIn(version.stdout.strip(), MAN.read_text())
+            self.assertIn(f'#define CLOCKBOARD_VERSION "{version.stdout.split()[1]}"', HEADER.read_text())
+            self.assertIn(version.stdout.strip(), CALLS.read_text())
+
+    def test_calls_of_the_man_page(self) -> None:
+        """The man page of the library has each call of the header, and no other."""
+        declared = re.findall(r"^(?:void|uint32_t) (clockboard_\w+)\((?:const )?struct", HEADER.read_text(), re.MULTILINE)
+        self.assertEqual(set(re.findall(r"^\.B (clockboard_\w+)\(", CALLS.read_text(), re.MULTILINE)), set(declared))
+
+    def test_released_program_asks_for_no_loader(self) -> None:
+        """ELF: of its program headers none is PT_INTERP (3)."""
+        data = RELEASED.read_bytes()
+        begin, size = int.from_bytes(data[32:40], "little"), int.from_bytes(data[54:56], "little")
+        kinds = [int.from_bytes(data[at : at + 4], "little")
+                 for at in range(begin, begin + size * int.from_bytes(data[56:58], "little"), size)]
+        self.assertNotIn(3, kinds)
+        self.assertIn(1, kinds)
+
+
+if __name__ == "__main__":
+    unittest.main()

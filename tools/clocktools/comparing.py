@@ -1,0 +1,165 @@
+# SPDX-License-Identifier: Apache-2.0 OR MIT
+"""Compares a trace's answers with those of a peer, record by record, and holds no more of either than it needs."""
+
+from collections import Counter
+from collections.abc import Iterable, Iterator
+from dataclasses import dataclass, field
+
+from .judge_hpet import HpetJudge
+from .judge_page import PageJudge, msr
+from .judge_pit import PitJudge, Probe, out_2
+from .judge_rtc import NO_PHASE, RtcJudge
+from .judging import Part, Read, by_bits
+from .peer import NO_ANSWER, Answer, Peer
+from .probing import answered
+from .rules import Follower, Rule
+from .trace import Edge, Head, Record, Reply, is_edge
+
+SHOWN = 3
+"""So many samples of a kind of difference are kept."""
+PROBED_AT_ONCE = 500
+SAME, NEAR, KNOWN, UNEXPLAINED = "same", "near", "known", "unexplained"
+
+
+@dataclass(frozen=True)
+class Outcome:
+    """How the answers to one read compare. Of one that waits for a probe, the parts without that."""
+
+    record: Record
+    rule: Rule
+    own: tuple[str, ...]
+    peer: tuple[str, ...]
+    parts: list[Part]
+    probe: Probe | None = None
+
+    @property
+    def verdict(self) -> str:
+        if not self.parts:
+            return SAME
+        if all(part.is_near for part in self.parts):
+            return NEAR
+        return KNOWN if all(part.is_near or part.row for part in self.parts) else UNEXPLAINED
+
+
+class Judge:
+    """Follows a trace's records, and compares the answers to those that read."""
+
+    def __init__(self, head: Head, near: int | None) -> None:
+        self.near = near
+        self.follower = Follower(head.guest_khz)
+        self.pit, self.rtc, self.hpet, self.pages = PitJudge(), RtcJudge(), HpetJudge(), PageJudge()
+        if head.begins_saved:
+            self.pit.begin_saved()
+            self.rtc.phase = NO_PHASE
+
+    def record(self, record: Record, own: tuple[str, ...], answer: Answer) -> Outcome | None:
+        """The outcome of a record that the peer answered. Others are followed."""
+        rule = self.follower.rule(record.words)
+        self.rtc.index = self.follower.index
+        if rule is None:
+            self.write(record, answer.within if self.near is None else 0)
+            return None
+        within = answer.within if self.near is None else self.near
+        told = answer.value or own
+        if record.words[0] == "page":
+            parts, probe = self.pages.read(rule, record, own, told, within) if answer.value else [], None
+        elif not own:
+            return None
+        else:
+            read = Read(record.time, within, int(own[0], 16), int(told[0], 16))
+            parts, probe = self.read(record.words, rule, read)
+        return Outcome(record, rule, own, answer.value, parts, probe) if answer.value else None
+
+    def write(self, record: Record, within: int) -> None:
+        kind, *words = record.words
+        if kind == "hw":
+            self.hpet.write(int(words[0], 16), int(words[1]), int(words[2], 16), within)
+        elif kind == "out":
+            port, byte = int(words[0], 16), int(words[1], 16)
+            if port == 0x71:
+                self.rtc.write(byte, record.time)
+            elif port != 0x70:
+                self.pit.write(port, byte, record.time, within)
+
+    def read(self, words: tuple[str, ...], rule: Rule, read: Read) -> tuple[list[Part], Probe | None]:
+        place = int(words[1], 16)
+        if words[0] == "rdmsr":
+            return msr(rule, read) if read.mask else [], None
+        if words[0] == "hr":
+            return self.hpet.read(rule, place, int(words[2]), read) if read.mask else [], None
+        if place == 0x71:
+            return self.rtc.read(rule, read, self.rtc.index in self.follower.rtc_written), None
+        if place == 0x61:
+            return self.pit.port_61_read(rule, read) if read.mask else ([], None)
+        if not 0x40 <= place <= 0x42:
+            return by_bits(rule, read.mask, []), None
+        is_status = rule.name == "status_of"
+        return (self.pit.status if is_status else self.pit.count)(place - 0x40, rule, read), None
+
+
+@dataclass
+class Kind:
+    """A kind of difference: how many records have it, and the first of them."""
+
+    count: int = 0
+    samples: list[Outcome] = field(default_factory=list)
+
+
+@dataclass
+class Tally:
+    """What was found: how the reads of each register compare, and each kind of difference."""
+
+    shown: float = SHOWN
+    registers: dict[str, Counter[str]] = field(default_factory=dict)
+    kinds: dict[Part, Kind] = field(default_factory=dict)
+    risen: Counter[int] = field(default_factory=Counter)
+    waiting: list[Outcome] = field(default_factory=list)
+
+    def take(self, outcome: Outcome) -> None:
+        if outcome.probe:
+            self.waiting.append(outcome)
+            if len(self.waiting) >= PROBED_AT_ONCE:
+                self.settle()
+            return
+        self.registers.setdefault(outcome.rule.register, Counter())[outcome.verdict] += 1
+        for part in outcome.parts:
+            if not part.is_near:
+                kind = self.kinds.setdefault(part, Kind())
+                kind.count += 1
+                if len(kind.samples) < self.shown:
+                    kind.samples.append(outcome)
+
+    def settle(self) -> None:
+        """Asks the board for the probes that wait."""
+        waiting, self.waiting = self.waiting, []
+        probes = [outcome.probe for outcome in waiting if outcome.probe]
+        for outcome, is_near in zip(waiting, answered(probes), strict=True):
+            parts = [*outcome.parts, out_2(outcome.rule, is_near)]
+            self.take(Outcome(outcome.record, outcome.rule, outcome.own, outcome.peer, parts))
+
+    @property
+    def differs(self) -> bool:
+        return any(not part.row for part in self.kinds)
+
+
+def outcomes(head: Head, found: Iterable[Record], said: Iterable[Reply | Edge], peer: Peer, near: int | None,
+             tally: Tally) -> Iterator[Outcome]:
+    """The outcome of each read that the peer answered, in the trace's order; rises are counted on the way."""
+    judge, answers, printed = Judge(head, near), peer.answers(), iter(said)
+    answer = next(answers, NO_ANSWER)
+    for record in found:
+        while answer is not NO_ANSWER and answer.line < record.line:
+            answer = next(answers, NO_ANSWER)
+        own = None
+        for event in printed:
+            if is_edge(event):
+                tally.risen[event.line] += event.up
+            elif event.line == record.line:
+                own = event.value
+                break
+        if own is None:
+            return
+        silent = Answer(record.line, (), peer.stamp_ns)
+        outcome = judge.record(record, own, answer if answer.line == record.line else silent)
+        if outcome:
+            yield outcome
