@@ -1,4 +1,6 @@
-/* How long a call takes, on the board of bench/board: format 1, all devices running. With the word `time` it prints a line for
+/* SPDX-License-Identifier: Apache-2.0 OR MIT
+ *
+ * How long a call takes, on the board of bench/board: format 1, all devices running. With the word `time` it prints a line for
  * each kind of access; with the word of a row it makes those accesses alone, 200,000 of them, for a program that counts
  * instructions. */
 #define _POSIX_C_SOURCE 199309L

@@ -1,3 +1,4 @@
+// SPDX-License-Identifier: Apache-2.0 OR MIT
 // The header as C++17, and the sizes that it names against the library's.
 #include "clockboard.h"
 #include <cstdio>

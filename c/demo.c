@@ -1,4 +1,6 @@
-/* A board by hand: counter 0 of the 8254 in mode 2 with count 4, a step of 5,000 ns, and a read of the counter. Its fifth
+/* SPDX-License-Identifier: Apache-2.0 OR MIT
+ *
+ * A board by hand: counter 0 of the 8254 in mode 2 with count 4, a step of 5,000 ns, and a read of the counter. Its fifth
  * pulse lifts line 0. It also shows what is refused. Prints what it sees, and ends with 1 where that isn't so. */
 #include "clockboard.h"
 #include <inttypes.h>
@@ -27,6 +29,28 @@ static void same_interface(void) {
     expect(clockboard_abi() == CLOCKBOARD_ABI, "abi");
     expect(clockboard_size() == sizeof(struct clockboard), "size of a board");
     expect(clockboard_reply_size() == sizeof(struct clockboard_reply), "size of a reply");
+}
+
+/* The setup to begin with is that of a blank board; an answer has a text. */
+static void names(const struct clockboard *blank) {
+    static uint8_t bytes[CLOCKBOARD_STATE_MAX], again[CLOCKBOARD_STATE_MAX];
+    struct clockboard_setup setup = CLOCKBOARD_SETUP_INIT;
+    struct clockboard_reply reply;
+    struct clockboard board;
+    size_t length = 0, length_again = 0;
+    clockboard_power_on(&board, &setup, &reply);
+    expect(clockboard_save(blank, bytes, sizeof bytes, &length) == CLOCKBOARD_OK, "save of a blank board");
+    expect(clockboard_save(&board, again, sizeof again, &length_again) == CLOCKBOARD_OK, "save of one by a setup");
+    expect(length == length_again && memcmp(bytes, again, length) == 0, "CLOCKBOARD_SETUP_INIT");
+    setup.format = 2;
+    setup.cpus = 64;
+    clockboard_power_on(&board, &setup, &reply);
+    expect(clockboard_save(&board, bytes, sizeof bytes, &length) == CLOCKBOARD_OK && length == CLOCKBOARD_STATE_MAX,
+           "CLOCKBOARD_STATE_MAX");
+    expect(strcmp(clockboard_answer_text(CLOCKBOARD_BAD_STATE), "no board has these bytes") == 0
+               && strcmp(clockboard_answer_text(CLOCKBOARD_NO_EDGE), "no line changes") == 0
+               && strcmp(clockboard_answer_text(16), "an unknown answer") == 0,
+           "texts of answers");
 }
 
 static void one_rise(struct clockboard *board) {
@@ -85,7 +109,7 @@ static void no_board(void) {
 
 /* A saved state gives the board back; one with a byte changed is refused, and its place told. */
 static void saved(const struct clockboard *board) {
-    static uint8_t bytes[4006], again[4006];
+    static uint8_t bytes[CLOCKBOARD_STATE_MAX], again[CLOCKBOARD_STATE_MAX];
     struct clockboard_reply reply;
     struct clockboard loaded;
     size_t length = 0, length_again = 0;
@@ -104,6 +128,7 @@ static void saved(const struct clockboard *board) {
 int main(void) {
     struct clockboard board = clockboard_blank();
     same_interface();
+    names(&board);
     one_rise(&board);
     refused(&board);
     no_board();

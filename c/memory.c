@@ -1,4 +1,6 @@
-/* Which calls take memory: clockboard_save alone, by one malloc of the state's length, which it gives back. Linked with
+/* SPDX-License-Identifier: Apache-2.0 OR MIT
+ *
+ * Which calls take memory: clockboard_save alone, by one malloc of the state's length, which it gives back. Linked with
  * --wrap=malloc,--wrap=realloc,--wrap=free, so that each such call of the library comes here. Ends with 1 where that isn't so. */
 #include "clockboard.h"
 #include <stdio.h>
@@ -53,7 +55,7 @@ static int untouched(void) {
 
 /* A save of a board whose state has this length. */
 static void saved(const struct clockboard *board, size_t wanted) {
-    static uint8_t bytes[4006];
+    static uint8_t bytes[CLOCKBOARD_STATE_MAX];
     size_t length = 0;
     memset(&memory, 0, sizeof memory);
     expect(clockboard_save(board, bytes, sizeof bytes, &length) == CLOCKBOARD_OK && length == wanted, "a save");
@@ -68,22 +70,22 @@ static void saved(const struct clockboard *board, size_t wanted) {
 
 /* The other calls, a load and a move among them. */
 static void others(struct clockboard *board) {
-    static uint8_t bytes[4006];
+    static uint8_t bytes[CLOCKBOARD_STATE_MAX];
     struct clockboard_reply reply;
     struct clockboard_page page;
     uint64_t at = 0, host = 0;
     size_t length = 0;
-    clockboard_save(board, bytes, sizeof bytes, &length);
+    expect(clockboard_save(board, bytes, sizeof bytes, &length) == CLOCKBOARD_OK, "a save");
     memset(&memory, 0, sizeof memory);
     none = 1;
     clockboard_load(board, bytes, length, &reply);
     expect(reply.answer == CLOCKBOARD_OK, "a load");
     clockboard_port_write(board, 0, 0, 0x43, 0x34, &reply);
     clockboard_step(board, 0, 5000, &reply);
-    clockboard_msr_write(board, 0, 5000, 0x4b564d01, 0x1001, &reply);
+    clockboard_msr_write(board, 0, 5000, CLOCKBOARD_MSR_SYSTEM_TIME, 0x1001, &reply);
     expect(reply.answer == CLOCKBOARD_OK && clockboard_page(board, 0, &page) == CLOCKBOARD_OK, "a page");
-    clockboard_next_edge(board, &at);
-    clockboard_counter_of(board, at, &host);
+    expect(clockboard_next_edge(board, &at) <= CLOCKBOARD_NO_EDGE, "the next edge");
+    expect(clockboard_counter_of(board, at, &host) <= CLOCKBOARD_NO_EDGE, "the count of a time");
     clockboard_clock(board, 0, 5000, &reply);
     clockboard_move(board, 2000000, 0, 1000, &reply);
     expect(reply.answer == CLOCKBOARD_OK && untouched(), "the other calls take no memory");

@@ -1,3 +1,4 @@
+// SPDX-License-Identifier: Apache-2.0 OR MIT
 //! How a monitor uses a board: exits of a guest, here a list, go to the board at the time at which they come, and one timer
 //! stands at the next edge.
 use clockboard::{Access, Board, Error, Reply};

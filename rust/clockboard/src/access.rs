@@ -1,8 +1,10 @@
+// SPDX-License-Identifier: Apache-2.0 OR MIT
 //! What is said to a board.
 use crate::ffi;
 
 /// What becomes of a tick that comes due while its line is up.
 #[derive(Clone, Copy, Debug, PartialEq, Eq)]
+#[non_exhaustive]
 pub enum Policy {
     /// It is lost.
     Discard = 0,
@@ -87,6 +89,7 @@ impl Setup {
 
 /// A source of ticks, whose late and lost ones are counted.
 #[derive(Clone, Copy, Debug, PartialEq, Eq)]
+#[non_exhaustive]
 pub enum TickSource {
     /// Counter 0 of the 8254.
     Pit,
@@ -109,6 +112,7 @@ impl TickSource {
 
 /// What a processor, or its monitor, asks of a board. What no board takes is answered by [`crate::Error::NotOurs`].
 #[derive(Clone, Copy, Debug, PartialEq, Eq)]
+#[non_exhaustive]
 pub enum Access {
     /// Nothing but the time that has gone by.
     Step,
@@ -162,9 +166,9 @@ pub enum Access {
         /// The processor.
         page: u8,
     },
-    /// The wall clock's words.
+    /// The wall clock's words: [`Reply::wall`](crate::Reply::wall).
     Wall,
-    /// The ticks of a source.
+    /// The ticks of a source: [`Reply::counts`](crate::Reply::counts).
     Counts(TickSource),
     /// How often a line went up, in format 2.
     Rises {

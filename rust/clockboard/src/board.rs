@@ -1,12 +1,21 @@
+// SPDX-License-Identifier: Apache-2.0 OR MIT
 //! The board.
 use crate::access::{Access, Setup};
 use crate::error::Error;
 use crate::ffi;
 use crate::reply::{Clock, Page, Reply};
+use core::fmt;
 
 /// A board: the time hardware of one guest.
 #[derive(Clone)]
 pub struct Board(ffi::Board);
+
+impl fmt::Debug for Board {
+    /// A board's bytes are the library's; its saved state has its fields.
+    fn fmt(&self, f: &mut fmt::Formatter<'_>) -> fmt::Result {
+        f.debug_struct("Board").finish_non_exhaustive()
+    }
+}
 
 impl Default for Board {
     /// A board at power on with the setup by default.
@@ -125,7 +134,11 @@ impl Board {
         })
     }
 
-    /// Writes the saved state to the front of `bytes`, and answers its length. 4006 bytes are enough for each board.
+    /// The bytes of the longest saved state: format 2, 64 processors.
+    pub const STATE_MAX: usize = 4_006;
+
+    /// Writes the saved state to the front of `bytes`, and answers its length. [`Board::STATE_MAX`] bytes are enough for each
+    /// board. Two boards with the same saved state answer each access alike.
     pub fn save(&self, bytes: &mut [u8]) -> Result<usize, Error> {
         let mut written = 0;
         // SAFETY: references of their types, and a slice by its pointer, which isn't null, and its length.

@@ -1,3 +1,4 @@
+// SPDX-License-Identifier: Apache-2.0 OR MIT
 //! Why a call is refused.
 use core::fmt;
 
@@ -45,6 +46,7 @@ pub enum Error {
 
 /// What is at fault in a saved state.
 #[derive(Clone, Copy, Debug, PartialEq, Eq)]
+#[non_exhaustive]
 pub enum StateFault {
     /// The bytes end before the field does.
     Short,
@@ -96,6 +98,8 @@ impl StateFault {
         }
     }
 }
+
+impl core::error::Error for Error {}
 
 impl fmt::Display for Error {
     fn fmt(&self, f: &mut fmt::Formatter<'_>) -> fmt::Result {

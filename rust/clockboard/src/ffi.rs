@@ -1,10 +1,11 @@
+// SPDX-License-Identifier: Apache-2.0 OR MIT
 //! The calls of the archive, as `c/clockboard.h` declares them.
 
 /// `CLOCKBOARD_ABI` of the header.
-pub const ABI: u32 = 2;
+pub const ABI: u32 = 3;
 
 /// `CLOCKBOARD_SIZE` of the header.
-pub const SIZE: usize = 5_032;
+pub const SIZE: usize = 5_072;
 
 #[derive(Clone, Copy)]
 #[repr(C)]
@@ -37,6 +38,7 @@ pub struct Edge {
     pub up: u32,
 }
 
+#[derive(Clone)]
 #[repr(C)]
 pub struct Reply {
     pub answer: u32,

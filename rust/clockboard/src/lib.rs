@@ -1,3 +1,4 @@
+// SPDX-License-Identifier: Apache-2.0 OR MIT
 //! The time hardware of a PC guest for a virtual machine monitor: Intel 8254, MC146818, HPET, the guest's TSC, and pvclock
 //! pages, over the library `clockboard_c`, whose calls are proved to do what the data sheets say.
 //!
@@ -28,4 +29,4 @@ mod reply;
 pub use access::{Access, Policy, Setup, TickSource};
 pub use board::Board;
 pub use error::{Error, StateFault};
-pub use reply::{Clock, Edge, Page, Reply};
+pub use reply::{Clock, Counts, Edge, Page, Reply, Wall};

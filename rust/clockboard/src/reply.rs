@@ -1,3 +1,4 @@
+// SPDX-License-Identifier: Apache-2.0 OR MIT
 //! What a board answers.
 use crate::ffi;
 use core::fmt;
@@ -14,6 +15,7 @@ pub struct Edge {
 }
 
 /// What an access gave.
+#[derive(Clone)]
 pub struct Reply(pub(crate) ffi::Reply);
 
 impl Reply {
@@ -38,6 +40,27 @@ impl Reply {
         self.0.value
     }
 
+    /// What was read, as ticks of a source: of an `Access::Counts`.
+    pub fn counts(&self) -> Counts {
+        let [due, rose, waiting, lost] = self.0.value;
+        Counts {
+            due,
+            rose,
+            waiting,
+            lost,
+        }
+    }
+
+    /// What was read, as the wall clock's words: of an `Access::Wall`.
+    pub fn wall(&self) -> Wall {
+        let [version, sec, nsec, _] = self.0.value;
+        Wall {
+            version: version as u32,
+            sec: sec as u32,
+            nsec: nsec as u32,
+        }
+    }
+
     /// The edges in the order of time, those on the way to the access before its own.
     pub fn edges(&self) -> impl ExactSizeIterator<Item = Edge> + '_ {
         let count = (self.0.edge_count as usize).min(self.0.edges.len());
@@ -48,6 +71,40 @@ impl Reply {
         })
     }
 }
+
+/// Ticks of a source since power on.
+#[derive(Clone, Copy, Debug, PartialEq, Eq)]
+pub struct Counts {
+    /// Those that came due: the sum of the other three.
+    pub due: u64,
+    /// Those at which the line went up.
+    pub rose: u64,
+    /// Those that wait.
+    pub waiting: u64,
+    /// Those that are lost.
+    pub lost: u64,
+}
+
+/// The wall clock's words as published.
+#[derive(Clone, Copy, Debug, PartialEq, Eq)]
+pub struct Wall {
+    /// The version: even, and 0 before the first publishing.
+    pub version: u32,
+    /// The seconds.
+    pub sec: u32,
+    /// And nanoseconds.
+    pub nsec: u32,
+}
+
+impl PartialEq for Reply {
+    fn eq(&self, other: &Reply) -> bool {
+        (self.number(), self.now_ns(), self.values())
+            == (other.number(), other.now_ns(), other.values())
+            && self.edges().eq(other.edges())
+    }
+}
+
+impl Eq for Reply {}
 
 impl fmt::Debug for Reply {
     fn fmt(&self, f: &mut fmt::Formatter<'_>) -> fmt::Result {

@@ -1,5 +1,8 @@
+// SPDX-License-Identifier: Apache-2.0 OR MIT
 //! The crate over the archive: worked cases of the data sheets, refusals, and what a state survives.
-use clockboard::{Access, Board, Clock, Edge, Error, Policy, Setup, StateFault, TickSource};
+use clockboard::{
+    Access, Board, Clock, Counts, Edge, Error, Policy, Setup, StateFault, TickSource,
+};
 
 /// Programs counter 0 of the 8254 in mode 2 with count 4.
 fn programmed() -> Board {
@@ -301,6 +304,7 @@ fn ticks(setup: &Setup, source: TickSource) -> [u64; 4] {
             ],
             450,
         ),
+        other => panic!("no script for {other:?}"),
     };
     for access in script {
         board.access(0, 0, access).unwrap();
@@ -344,5 +348,56 @@ fn each_source_has_its_policy() {
     assert_eq!(
         ticks(&discards(Delay, Delay, Discard), TickSource::Hpet(0)),
         [3, 1, 0, 2]
+    );
+}
+
+#[test]
+fn typed_counts_and_wall() {
+    let mut board = programmed();
+    let counts = board
+        .access(0, 5_000, Access::Counts(TickSource::Pit))
+        .unwrap();
+    assert_eq!(
+        counts.counts(),
+        Counts {
+            due: 1,
+            rose: 1,
+            waiting: 0,
+            lost: 0
+        }
+    );
+    let msr = 0x4b56_4d00;
+    board
+        .access(0, 5_000, Access::MsrWrite { msr, value: 0x1000 })
+        .unwrap();
+    let wall = board.access(0, 5_000, Access::Wall).unwrap().wall();
+    assert_eq!((wall.version, wall.sec), (2, 0));
+}
+
+/// Replies are equal where all that they give is; an error is a `core::error::Error`; a board can stand in a struct that
+/// derives Debug.
+#[test]
+fn what_types_can_do() {
+    let (mut first, mut second) = (programmed(), programmed());
+    let reply = first.access(0, 5_000, Access::Step).unwrap();
+    assert_eq!(reply, second.access(0, 5_000, Access::Step).unwrap());
+    assert_eq!(reply.clone(), reply);
+    assert_ne!(reply, first.access(0, 5_000, Access::Step).unwrap());
+    let error: Box<dyn std::error::Error> = first.access(1, 0, Access::Step).unwrap_err().into();
+    assert_eq!(error.to_string(), "the board has no such processor");
+    assert_eq!(format!("{first:?}"), "Board { .. }");
+}
+
+#[test]
+fn the_longest_state() {
+    let setup = Setup {
+        format: 2,
+        cpus: 64,
+        ..Setup::default()
+    };
+    let mut bytes = [0; Board::STATE_MAX];
+    assert_eq!(
+        Board::power_on(&setup).unwrap().save(&mut bytes),
+        Ok(Board::STATE_MAX)
     );
 }

@@ -1,0 +1,76 @@
+/* SPDX-License-Identifier: Apache-2.0 OR MIT
+ * The guest, in 64-bit mode: processor 0 sets a tick of 10 ms by the 8254; both read the clock by their pages until the fifth
+ * tick, look that it never falls, and leave what they read last. Its code is copied into the guest's memory, so it calls nothing outside and has no data;
+ * built with -mgeneral-regs-only -mno-red-zone -fno-stack-protector -fcf-protection=none. */
+#include "machine.h"
+
+#define GUEST __attribute__((section("guest")))
+#define ticks ((volatile uint32_t *)WORDS)
+
+/* struct pvclock_vcpu_time_info of Linux. */
+struct guest_page {
+    volatile uint32_t version, pad0;
+    volatile uint64_t tsc_timestamp, system_time;
+    volatile uint32_t mul;
+    volatile int8_t shift;
+    volatile uint8_t flags, pad[2];
+};
+
+GUEST static inline __attribute__((always_inline)) void out(uint16_t port, uint8_t byte) {
+    __asm__ volatile("outb %0, %1" : : "a"(byte), "Nd"(port));
+}
+
+/* The tick's handler. */
+GUEST __attribute__((interrupt)) void guest_tick(void *frame) {
+    (void)frame;
+    ++*ticks;
+    out(0x20, 0x20); /* the end of the interrupt */
+}
+
+/* The clock by a page, as Linux reads it. */
+GUEST static uint64_t clock_by(const struct guest_page *page) {
+    uint64_t delta, time;
+    uint32_t version;
+    do {
+        version = page->version & ~1u;
+        __asm__ volatile("lfence" ::: "memory");
+        delta = __rdtsc() - page->tsc_timestamp;
+        delta = page->shift >= 0 ? delta << page->shift : delta >> -page->shift;
+        time = page->system_time + (uint64_t)(((unsigned __int128)delta * page->mul) >> 32);
+        __asm__ volatile("" ::: "memory");
+    } while (page->version != version);
+    return time;
+}
+
+/* The 8259s: line 0 alone, at TICK_VECTOR; the HPET counts; counter 0 of the 8254 in mode 2 with count 11,932. */
+GUEST static void set_up(void) {
+    out(0x20, 0x11), out(0x21, TICK_VECTOR), out(0x21, 4), out(0x21, 1), out(0x21, 0xfe);
+    out(0xa0, 0x11), out(0xa1, TICK_VECTOR + 8), out(0xa1, 2), out(0xa1, 1), out(0xa1, 0xff);
+    *(volatile uint32_t *)(HPET + 0x10) = 1;
+    out(0x43, 0x34), out(0x40, 11932 & 0xff), out(0x40, 11932 >> 8);
+    __asm__ volatile("sti" ::: "memory");
+}
+
+GUEST void guest_main(uint64_t processor, uint64_t halts) {
+    const struct guest_page *page = (const struct guest_page *)(PAGES + 64 * processor);
+    uint64_t address = (uint64_t)page | 1, clock = 0, count = 0;
+    uint8_t fell = 0;
+    __asm__ volatile("wrmsr" : : "c"(CLOCKBOARD_MSR_SYSTEM_TIME), "a"((uint32_t)address), "d"(0) : "memory");
+    if (processor == 0) {
+        set_up();
+    }
+    while (*ticks < TICKS) {
+        uint64_t now = clock_by(page), hpet = *(volatile uint64_t *)(HPET + 0xf0);
+        fell |= now < clock || hpet < count;
+        clock = now;
+        count = hpet;
+        if (halts && processor == 0) {
+            __asm__ volatile("hlt" ::: "memory");
+        }
+    }
+    ((volatile uint64_t *)WORDS)[1 + processor] = clock;
+    out(RESULT_PORT, fell);
+    for (;;) {
+        __asm__ volatile("cli; hlt");
+    }
+}

@@ -1,0 +1,84 @@
+/* SPDX-License-Identifier: Apache-2.0 OR MIT
+ * The lines: a rise is written to the eventfd of the line's GSI, and KVM's end of the interrupt comes back by the resample
+ * eventfd, at which KVM has taken the input down. */
+#include "machine.h"
+#include <poll.h>
+#include <sys/timerfd.h>
+#include <unistd.h>
+
+const uint8_t lines[LINES] = {0, 8, 20, 21, 22, 23};
+
+static void raise_line(struct machine *m, uint32_t line) {
+    uint64_t one = 1;
+    for (int k = 0; k < LINES; k++) {
+        m->rises += lines[k] == line && write(m->rise[k], &one, sizeof one) == sizeof one;
+    }
+}
+
+/* The timer goes off at the next edge. Nobody is woken: the thread of `watch` waits for the timer anyway. */
+static void set_timer(struct machine *m) {
+    struct itimerspec when = {0};
+    uint64_t at = 0, alarm = 0, now = counter();
+    if (clockboard_next_edge(&m->board, &at) == CLOCKBOARD_OK
+        && clockboard_counter_of(&m->board, at, &alarm) == CLOCKBOARD_OK) {
+        unsigned __int128 ns = alarm > now ? (unsigned __int128)(alarm - now) * 1000000 / m->khz + 1 : 1;
+        when.it_value = (struct timespec){(time_t)(ns / 1000000000), (long)(ns % 1000000000)};
+    }
+    if (alarm != m->alarm) {
+        m->alarm = alarm;
+        timerfd_settime(m->timer, 0, &when, NULL);
+    }
+}
+
+/* KVM takes an input down by itself, at the end of the interrupt. Answers which lines rose, a bit each. */
+uint32_t settle(struct machine *m, const struct clockboard_reply *reply) {
+    uint32_t rose = 0;
+    for (uint32_t k = 0; k < reply->edge_count; k++) {
+        uint32_t line = UINT32_C(1) << reply->edges[k].line;
+        m->up = reply->edges[k].up ? m->up | line : m->up & ~line;
+        if (reply->edges[k].up) {
+            rose |= line;
+            raise_line(m, reply->edges[k].line);
+        }
+    }
+    set_timer(m);
+    return rose;
+}
+
+/* The end of an interrupt. A line that is up and didn't rise just now is raised again: one of level type whose status the guest
+ * hasn't cleared, or the MC146818's, which rose again before the end. */
+static void end_of_interrupt(struct machine *m, uint8_t line) {
+    struct clockboard_reply reply;
+    clockboard_acknowledge(&m->board, 0, counter(), line, &reply);
+    m->ends++;
+    if (~settle(m, &reply) & m->up & UINT32_C(1) << line) {
+        raise_line(m, line);
+    }
+}
+
+/* The timer is set again, also where it went off early. */
+static void timer_went_off(struct machine *m) {
+    struct clockboard_reply reply;
+    m->alarm = 0;
+    clockboard_step(&m->board, 0, counter(), &reply);
+    settle(m, &reply);
+}
+
+void *watch(void *machine) {
+    struct machine *m = machine;
+    struct pollfd all[LINES + 1];
+    uint64_t events;
+    for (int k = 0; k <= LINES; k++) {
+        all[k] = (struct pollfd){.fd = k < LINES ? m->end[k] : m->timer, .events = POLLIN};
+    }
+    while (!m->over && poll(all, LINES + 1, 100) >= 0) {
+        pthread_mutex_lock(&m->lock);
+        for (int k = 0; k <= LINES; k++) {
+            if (read(all[k].fd, &events, sizeof events) > 0) {
+                k < LINES ? end_of_interrupt(m, lines[k]) : timer_went_off(m);
+            }
+        }
+        pthread_mutex_unlock(&m->lock);
+    }
+    return NULL;
+}
