@@ -7,6 +7,8 @@ take from the toolchain's library are the few in LIBRARY, in plain Python.
 """
 
 import functools
+import sys
+import threading
 from collections.abc import Callable
 from pathlib import Path
 
@@ -20,6 +22,18 @@ SIGNS = {"&&": "({} and {})", "||": "({} or {})", "==": "({} == {})", "≡": "({
 
 class Gap(Exception):
     """The definitions' language goes beyond what this reads."""
+
+
+def deeply(main: Callable[[], int]) -> int:
+    """Runs a program on a stack that is deep enough: definitions recur once a byte, and once a nanosecond. What it returns
+    is the status, 2 where it ended by an error."""
+    sys.setrecursionlimit(10**7)
+    threading.stack_size(2**30)
+    status: list[int] = []
+    thread = threading.Thread(target=lambda: status.append(main()))
+    thread.start()
+    thread.join()
+    return status[0] if status else 2
 
 
 class Fields(dict):

@@ -44,18 +44,25 @@ class Reach:
         found = (self.resolved(module, it) for it in words)
         return [it for it in dict.fromkeys(found) if it and it != place]
 
-    def clauses(self, path: Path, function: str) -> dict[str, list[Place]]:
-        """The definitions that each clause of a public function cites, by the clause's name."""
-        text = path.read_text(encoding="utf-8")
-        cited = {}
+    def imported(self, text: str) -> dict[str, Place]:
+        """The definitions that a file of code takes for its clauses, by the names that it gives them."""
+        found = {}
         for where, names in GHOST.findall(text):
             for item in filter(None, (it.strip() for it in names.replace("\n", " ").split(","))):
                 name, _, other = item.partition(" as ")
-                cited[(other or name).strip()] = self.declared(where, name.strip())
+                place = self.declared(where, name.strip())
+                if place and self.of(place):
+                    found[(other or name).strip()] = place
+        return found
+
+    def clauses(self, path: Path, function: str) -> dict[str, list[Place]]:
+        """The definitions that each clause of a public function cites, by the clause's name."""
+        text = path.read_text(encoding="utf-8")
+        cited = self.imported(text)
         head = re.search(rf"pub fn {function}\b.*?\n\s*\{{\n", text, re.DOTALL).group(0)
         found = {}
         for name, body in re.findall(r"ensures (\w*) ?\{(.*?)\}\n", head, re.DOTALL):
-            found[name] = [cited[it] for it in dict.fromkeys(NAME.findall(body)) if cited.get(it)]
+            found[name] = [cited[it] for it in dict.fromkeys(NAME.findall(body)) if it in cited]
         return found
 
     def all(self, roots: list[Place]) -> list[Place]:
