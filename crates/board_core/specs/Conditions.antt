@@ -32,7 +32,6 @@ use Rattle.board_types.specs.declared.parts.TheConstants.{LAST_VERSION, MOST_ACC
 use Rattle.board_types.specs.declared.setup.TheConstants.{
   SECOND_NS,
   LAST_FORMAT,
-  APIC_FORMAT,
   HV_FORMAT,
 }
 use Rattle.board_types.specs.Setup.{timers_of, processors_of}
@@ -89,8 +88,8 @@ pub record AreProcessors (guest_khz cpus : ℕ) (ps : List ProcessorParts) : Typ
 
 -- the timers of local APICs and their tick lines: none before format 3
 pub record AreApics (format : ℕ) (timers : List ApicParts) (lines : List TickParts) : Type 0 where
-  pub no_timers : format < APIC_FORMAT → timers ≡ replicate 64 no_apic
-  pub no_lines : format < APIC_FORMAT → lines ≡ replicate 64 no_line
+  pub no_timers : timers ≡ replicate 64 no_apic
+  pub no_lines : lines ≡ replicate 64 no_line
 
 -- the reference page: none before format 4; all is 0 before it is published first; then its scale is
 -- that of the guest's rate where it is enabled

@@ -11,7 +11,7 @@ use tick_policy::Policy;
 pub const SLEW_MAX_NS: u64 = 1_000_000_000;
 
 /// The last format that is built.
-pub const LAST_FORMAT: u8 = 2;
+pub const LAST_FORMAT: u8 = 5;
 
 /// The first format that has timers of local APICs.
 pub const APIC_FORMAT: u8 = 3;
