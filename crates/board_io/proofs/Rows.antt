@@ -3,7 +3,7 @@ use Rattle.std.proofs.Common.{◌≡◌, ℕ, true, false, [], ◌∷◌, Ok, Er
 use Rattle.board_io.specs.Faults.{Rose, most_given, gave_nothing}
 use Rattle.board_io.specs.Memory.{Supply, next_call, is_to_fail, supply_fails, piece_of}
 
--- a count rises, or it stands at its end; a count that stays below its end hasn't risen
+-- a count rises, or it is its type's greatest value; a smaller count that stays hasn't risen
 counts_one_more : Rose 4 5
 counts_one_more = inl (omega arith)
 

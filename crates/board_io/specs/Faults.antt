@@ -2,7 +2,7 @@
 use Rattle.std.specs.Prelude.{◌≡◌, ℕ, ◌+◌, ◌<◌, ◌≤◌, ◌==◌, ◌⊎◌, Bool, true, Result, Ok, Err}
 use Rattle.std.specs.Prelude.{MatchResult}
 
--- a count of faults rose in a call, or it stands at its type's end
+-- a count of faults rose in a call, or it is its type's greatest value
 abbrev pub Rose : ℕ → ℕ → Type 0
 Rose old new = (old < new) ⊎ (18446744073709551615 ≤ new)
 

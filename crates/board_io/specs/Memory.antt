@@ -4,7 +4,7 @@ use Rattle.std.specs.List.{list_any}
 use Rattle.board_io.specs.Faults.{most_given}
 
 -- what a source in memory holds: the bytes left, how many it gave, and had given at the last call,
--- whether a call gave nothing, and one came behind it; faults, calls, which fail, the largest piece
+-- whether a call gave nothing, and whether one came after it; faults, calls, which fail, the largest piece
 pub record Supply : Type 0 where
   pub left : List ℕ
   pub given : ℕ
@@ -24,7 +24,7 @@ pub record Store : Type 0 where
   pub failing : List ℕ
   pub largest : ℕ
 
--- the number of the call behind those, which stands still at its type's end
+-- the number of the next call, which stays at its type's greatest value
 abbrev pub next_call : ℕ → ℕ
 next_call calls = min (calls + 1) 18446744073709551615
 

@@ -5,7 +5,7 @@ use crate::sink::Sink;
 use crate::source::{Failed, MOST_GIVEN, Source};
 use std::io::{Read, Write};
 
-/// A source over a reader of std's. It tells what the reader tells.
+/// A source over a reader of std's. Its bytes are known where the reader's are.
 #[derive(Drop)]
 pub struct ReadSource<T: Read + Drop> {
     reader: T,
@@ -68,7 +68,7 @@ impl<T: Read + Drop> Source for ReadSource<T> {
     }
 }
 
-/// A sink over a writer of std's. It tells what the writer tells.
+/// A sink over a writer of std's. Its bytes are known where the writer's are.
 #[derive(Drop)]
 pub struct WriteSink<T: Write + Drop> {
     writer: T,

@@ -1,10 +1,10 @@
 //! The outside of the board: where the bytes of a trace come from, where the printed text goes, and
 //! a gate that a test can hold the workers of `race` at.
 //!
-//! A [`Source`] and a [`Sink`] tell contracts which bytes they have left and hold, and count their
-//! faults. `Failed` comes only where that count rose, and the count stays where a call is well, so
-//! a caller's contract can name the cause. A source also tells how many bytes it had given when it
-//! was called last, and whether it was called behind a call that gave nothing. [`MemSource`] and
+//! Contracts can name the bytes that a [`Source`] has left and a [`Sink`] holds. Both count their
+//! faults: `Failed` comes only where that count rose, and a call that is well leaves the count, so a
+//! caller's contract can name the cause. A source also counts the bytes that it had given at its
+//! last call, and knows whether it was called after a call that gave nothing. [`MemSource`] and
 //! [`MemSink`] are in memory and fail on demand; [`ReadSource`] and [`WriteSink`] adapt std's
 //! readers and writers, and are the trusted edge.
 //!

@@ -11,7 +11,7 @@ use crate::source::{Failed, MOST_GIVEN, Source};
 use std::alloc::Global;
 use std::marker::Model;
 
-/// A source of bytes in memory, which fails at the calls that it is told to, counted from 1.
+/// A source of bytes in memory, which fails at chosen calls, counted from 1.
 #[derive(Drop)]
 pub struct MemSource {
     bytes: Vec<u8>,
@@ -45,7 +45,7 @@ impl Model for MemSource {
 }
 
 impl MemSource {
-    /// A source of these bytes, in pieces of at most `largest`. The calls whose numbers stand in
+    /// A source of these bytes, in pieces of at most `largest`. The calls whose numbers are in
     /// `failing` fail.
     pub fn new(bytes: Vec<u8>, failing: Vec<u64>, largest: usize) -> MemSource
         requires { 0 < largest }
@@ -101,7 +101,7 @@ impl Source for MemSource {
         ensures well { OnOk result (self.new.faults ≡ self.old.faults) }
         ensures counted { self.old.faults ≤ self.new.faults }
         ensures failed { OnErr result (Rose self.old.faults self.new.faults) }
-        // It fails where it is told to, and where it has given the most.
+        // It fails at the chosen calls, and where it has given the most.
         ensures told { is_ok result ≡ not (supply_fails self.old) }
         ensures piece { IfOk result (λ n. n ≡ piece_of self.old (length into.old)) }
         ensures calls { self.new.calls ≡ next_call self.old.calls }
@@ -125,8 +125,7 @@ impl Source for MemSource {
     }
 }
 
-/// A sink in memory, which fails at the calls that it is told to, counted from 1, and where memory
-/// runs out.
+/// A sink in memory, which fails at chosen calls, counted from 1, and where memory runs out.
 #[derive(Drop)]
 pub struct MemSink {
     bytes: Vec<u8>,
@@ -151,7 +150,7 @@ impl Model for MemSink {
 }
 
 impl MemSink {
-    /// An empty sink that takes at most `largest` bytes a call. The calls whose numbers stand in
+    /// An empty sink that takes at most `largest` bytes a call. The calls whose numbers are in
     /// `failing` fail.
     pub fn new(alloc: Global, failing: Vec<u64>, largest: usize) -> MemSink
         requires { 0 < largest }
@@ -193,7 +192,7 @@ impl Sink for MemSink {
         ensures well { OnOk result (self.new.faults ≡ self.old.faults) }
         ensures counted { self.old.faults ≤ self.new.faults }
         ensures failed { OnErr result (Rose self.old.faults self.new.faults) }
-        // It fails where it is told to, and else only where memory runs out.
+        // It fails at the chosen calls, and else only where memory runs out.
         ensures told { is_to_fail self.old.failing self.old.calls ≡ true → IsErr result }
         ensures piece { IfOk result (λ n. n ≡ min (length piece.now) self.old.largest) }
         ensures calls { self.new.calls ≡ next_call self.old.calls }

@@ -6,7 +6,7 @@ use crate::source::Failed;
 
 /// Where bytes go, in pieces. A sink counts its faults, a number that never falls.
 pub trait Sink {
-    // The bytes that it holds, where the sink tells them.
+    // The bytes that it holds, where they are known.
     ghost contents: { Self → Option (List ℕ) };
 
     // How many faults it has had.

@@ -15,7 +15,7 @@ pub struct Failed;
 /// A source counts its faults, a number that never falls, and the bytes that it has given. After
 /// 2^62 of them each call fails, so a source without end ends in a fault.
 pub trait Source {
-    // The bytes that are left, where the source tells them.
+    // The bytes that are left, where they are known.
     ghost remaining: { Self → Option (List ℕ) };
 
     // How many bytes it has given.
@@ -27,7 +27,7 @@ pub trait Source {
     // Whether a call gave nothing: it failed, or it was at the end of the input.
     ghost done: { Self → Bool };
 
-    // Whether it was called behind such a call.
+    // Whether it was called after such a call.
     ghost late: { Self → Bool };
 
     // How many faults it has had.

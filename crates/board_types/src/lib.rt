@@ -1,7 +1,7 @@
 //! What is said to a board and heard from it: how it is set up, the accesses that it takes, what it answers, why
 //! it refuses, and all that it holds.
 //!
-//! These are plain types without a device behind them, so that a reader of traces, a writer of answers and a
+//! These are plain types without a device, so that a reader of traces, a writer of answers and a
 //! reader of saved states can be built beside the board.
 //!
 //! ```text

@@ -69,7 +69,7 @@ pub struct BoardParts {
     pub guest_khz: u64,
     /// How many accesses there were.
     pub accesses: u64,
-    /// The greatest clock reading that was told.
+    /// The greatest clock reading that was answered.
     pub greatest: u64,
     /// Nanoseconds from one catch-up point to the next.
     pub slew_ns: u64,

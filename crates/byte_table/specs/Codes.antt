@@ -101,6 +101,7 @@ pub record Flags : Type 0 where
   pub bit_6 : Bool
   pub bit_7 : Bool
 
+-- the byte of eight flags, bit 0 first
 abbrev pub flags_byte : Flags → ℕ
 flags_byte x =
     bit_value x.bit_0 0 + bit_value x.bit_1 1 + bit_value x.bit_2 2 + bit_value x.bit_3 3
@@ -109,6 +110,7 @@ flags_byte x =
     + bit_value x.bit_6 6
     + bit_value x.bit_7 7
 
+-- the flags of a byte
 abbrev pub flags_of : ℕ → Flags
 flags_of x = record {
   bit_0 = bit 0 x;
@@ -121,6 +123,7 @@ flags_of x = record {
   bit_7 = bit 7 x;
 }
 
+-- eight flags in a byte
 abbrev pub flags : Code Flags
 flags = record {
   size = 1;
@@ -134,6 +137,7 @@ pub record Two (A C : Type 0) : Type 0 where
   pub first : A
   pub second : C
 
+-- two fields, one after the other
 abbrev pub both : {A C : Type 0} → Code A → Code C → Code (Two A C)
 both a c = record {
   size = a.size + c.size;
@@ -149,11 +153,12 @@ row_bytes c zero xs = []
 row_bytes c (suc n) [] = []
 row_bytes c (suc n) (x ∷ xs) = c.bytes x ++ row_bytes c n xs
 
--- n values from a place on, and whether all are spelled
+-- the values of n fields of one kind, one after another from a place on
 unfoldable pub row_value : {A : Type 0} → Code A → ℕ → ℕ → List ℕ → List A
 row_value c zero place bytes = []
 row_value c (suc n) place bytes = c.value place bytes ∷ row_value c n (place + c.size) bytes
 
+-- whether each of n such fields is spelled right
 unfoldable pub row_spelled : {A : Type 0} → Code A → ℕ → ℕ → List ℕ → Bool
 row_spelled c zero place bytes = true
 row_spelled c (suc n) place bytes = c.spelled place bytes && row_spelled c n (place + c.size) bytes

@@ -33,8 +33,8 @@ pub record Faults (F : Type 0) : Type 0 where
   pub short : ℕ → F
   pub invalid : ℕ → F
 
--- the fault of a field at a place: it isn't wholly there, which is told by the length of the input,
--- or its condition fails
+-- the fault of a field at a place: it isn't wholly there, a fault of the input's length, or
+-- its condition fails
 abbrev pub one_fault : {F : Type 0} → Faults F → ℕ → Bool → ℕ → List ℕ → Option F
 one_fault faults size valid place bytes =
     if nat_lt (length bytes) (place + size) then Some (faults.short (length bytes))

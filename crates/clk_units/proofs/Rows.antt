@@ -34,7 +34,7 @@ between : pulses_from 1193182 838 839 ≡ 2
 unfolding pulses_from pulses_by
 between = refl
 
--- the first event behind nanosecond 838, with the second pulse from there
+-- the first event after nanosecond 838, with the second pulse from there
 second_pulse : first_at 1193182 838 (Some 2) ≡ Some 1677
 unfolding time_of pulses_by
 second_pulse = refl

@@ -31,7 +31,7 @@ abbrev pub first_more : Option ℕ → ℕ → Bool → Option ℕ
 first_more (Some k) n event = Some k
 first_more None n event = if event then Some (suc n) else None
 
--- the nanosecond of a first event, of a device whose steps are the pulses behind nanosecond t
+-- the nanosecond of a first event, of a device whose steps are the pulses after nanosecond t
 abbrev pub first_at : ℕ → ℕ → Option ℕ → Option ℕ
 first_at hz t None = None
 first_at hz t (Some k) = Some (time_of hz (pulses_by hz t + k))

@@ -14,7 +14,7 @@ abbrev pub falls_up_to : ℕ → ℕ → ℕ
 falls_up_to hz zero = 0
 falls_up_to hz (suc t) = if falls_at hz (suc t) then suc (falls_up_to hz t) else falls_up_to hz t
 
--- how many pulses fall in the n nanoseconds behind t
+-- how many pulses fall in the n nanoseconds after t
 unfoldable pub pulses_from : ℕ → ℕ → ℕ → ℕ
 pulses_from hz t n = pulses_by hz (t + n) - pulses_by hz t
 

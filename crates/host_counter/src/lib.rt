@@ -23,7 +23,7 @@ mod tests;
 /// Nanoseconds in a millisecond, of which a counter of 1 kHz counts one.
 const MILLISECOND_NS: u64 = 1_000_000;
 
-/// Where a clock stood at one count of the host's counter, and how fast that counter counts.
+/// What time a clock gave at one count of the host's counter, and how fast that counter counts.
 #[derive(Clone, Copy, Debug, PartialEq, Eq)]
 #[repr(C)]
 pub struct Anchor {
@@ -57,7 +57,7 @@ impl Anchor {
         ensures fault { IfErr result (IsFaultAt self.now h) }
 
         // Time never falls as the counter grows, and a clock that is set anew goes on: it is at each later
-        // count what it would have been, or a nanosecond behind.
+        // count what it would have been, or a nanosecond less.
         ensures never_falls { (earlier : ℕ) → earlier ≤ h →
             IfOk result (λ ns. time_at self.now earlier ≤ ns) }
         ensures goes_on { IfOk result (λ ns. (later : ℕ) → h ≤ later →

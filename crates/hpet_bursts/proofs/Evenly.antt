@@ -1,4 +1,4 @@
--- A burst that tells the times of a timer's messages is the one that these times give.
+-- A burst that gives the times of a timer's messages is the one that these times give.
 use Rattle.std.proofs.Common.{◌≡◌, ℕ, zero, suc, ◌+◌, ◌-◌, ◌*◌, ◌/◌, ◌%◌, ◌^◌, ◌<◌, Bool, true, false, cond, List, [], ◌∷◌, ◌++◌, length, Option, Some, None, refl, sym, ap, ◌∙◌, arith}
 use Rattle.std.proofs.Common.{length-append}
 use Rattle.irq_edges.specs.declared.bursts.Burst.{Burst}
@@ -7,7 +7,7 @@ use Rattle.hpet_registers.specs.Parts.{message_word_at}
 use Rattle.hpet_registers.specs.Outputs.{is_message, message_of}
 use Rattle.hpet_bursts.specs.Bursts.{burst_at, burst_from, evenly, IsTheBurst}
 
--- the times behind the second of them
+-- the times after the second of them
 more : ℕ → ℕ → ℕ → List ℕ
 more f e zero = []
 more f e (suc c) = more f e c ++ (f + suc (suc c) * e) ∷ []

@@ -34,7 +34,7 @@ as_one_burst : burst_in 2 0 65 (block 1 timer_at_power_on timer_at_power_on (per
 unfolding matches_next hpet_pulsed matches_at pulsed falls_at pulses_from pulses_by
 as_one_burst = refl
 
--- behind nanosecond 15 the first pulse falls at 20, and two more are the second match
+-- after nanosecond 15 the first pulse falls at 20, and two more are the second match
 behind_15 : burst_in 2 15 25 (block 1 timer_at_power_on timer_at_power_on (periodic 2))
     ≡ Some (record { timer = 2; first = 30; count = 1; every = 0; address = 0xfee01000; «data» = 0x4032 })
 unfolding matches_next hpet_pulsed matches_at pulsed falls_at pulses_from pulses_by
@@ -50,7 +50,7 @@ one_shot_sends_once : message_times 0 0 40 (block 1 (record (periodic 2) { confi
 unfolding matches_next hpet_pulsed matches_at pulsed falls_at pulses_from pulses_by
 one_shot_sends_once = refl
 
--- none of level type, with the interrupt off, or while the counter stands
+-- none of level type, with the interrupt off, or while the counter is halted
 level_sends_none : message_times 0 0 40 (block 1 (record (periodic 2) { config = 0x280e }) timer_at_power_on timer_at_power_on) ≡ []
 unfolding matches_next hpet_pulsed matches_at pulsed falls_at pulses_from pulses_by
 level_sends_none = refl
@@ -76,7 +76,7 @@ legacy_sends_none_of_two : bursts_of 0 20 (block 3 (periodic 2) (periodic 2) (pe
 unfolding bursts_below matches_next hpet_pulsed matches_at pulsed falls_at pulses_from pulses_by
 legacy_sends_none_of_two = refl
 
--- what a burst tells
+-- what a burst says
 distances : map distance_of ([] ∷ (7 ∷ []) ∷ (7 ∷ 17 ∷ []) ∷ (7 ∷ 17 ∷ 27 ∷ []) ∷ []) ≡ 0 ∷ 0 ∷ 10 ∷ 10 ∷ []
 distances = refl
 

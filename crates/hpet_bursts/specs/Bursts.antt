@@ -1,4 +1,4 @@
--- The messages of a stretch as bursts. That they are told so is this project's own choice.
+-- The messages of a stretch as bursts. That they are given so is this project's own choice.
 use Rattle.std.specs.Prelude.{◌≡◌, ℕ, zero, suc, ◌+◌, ◌-◌, ◌*◌, ◌/◌, ◌%◌, ◌^◌, ◌<◌, List, [], ◌∷◌}
 use Rattle.std.specs.Prelude.{◌++◌, length, Option, Some, None}
 use Rattle.irq_edges.specs.declared.bursts.Burst.{Burst}
@@ -29,11 +29,11 @@ abbrev pub burst_from : ℕ → HpetParts → List ℕ → Option Burst
 burst_from k h [] = None
 burst_from k h (t ∷ ts) = Some (burst_at k h t (length (t ∷ ts)) (distance_of (t ∷ ts)))
 
--- the burst of timer k in the n nanoseconds behind t
+-- the burst of timer k in the n nanoseconds after t
 abbrev pub burst_in : ℕ → ℕ → ℕ → HpetParts → Option Burst
 burst_in k t n h = burst_from k h (message_times k t n h)
 
--- a list, and behind it a burst where there is one
+-- a list, and after it a burst where there is one
 abbrev pub with_burst : List Burst → Option Burst → List Burst
 with_burst bs None = bs
 with_burst bs (Some b) = bs ++ b ∷ []
@@ -43,7 +43,7 @@ unfoldable pub bursts_below : ℕ → ℕ → ℕ → HpetParts → List Burst
 bursts_below zero t n h = []
 bursts_below (suc k) t n h = with_burst (bursts_below k t n h) (burst_in k t n h)
 
--- the bursts of all timers in the n nanoseconds behind t
+-- the bursts of all timers in the n nanoseconds after t
 abbrev pub bursts_of : ℕ → ℕ → HpetParts → List Burst
 bursts_of = bursts_below 8
 
@@ -52,7 +52,7 @@ abbrev pub evenly : ℕ → ℕ → ℕ → List ℕ
 evenly first every zero = []
 evenly first every (suc count) = evenly first every count ++ (first + count * every) ∷ []
 
--- a burst tells these times of timer k, each of them and no other
+-- a burst gives these times of timer k, each of them and no other
 pub record IsTheBurst (k : ℕ) (h : HpetParts) (times : List ℕ) (b : Burst) : Type 0 where
   pub timer : b.timer ≡ k
   pub some : 0 < b.count

@@ -11,13 +11,13 @@ use Rattle.hpet_registers.specs.Stretch.{matches_next, hpet_pulsed_times}
 abbrev pub message_next : ℕ → HpetParts → Bool
 message_next k h = is_message k h && matches_next k h
 
--- whether nanosecond u, the next behind t + n, sends one, of an HPET that was h at t
+-- whether nanosecond u, the next after t + n, sends one, of an HPET that was h at t
 abbrev pub message_at : ℕ → ℕ → ℕ → HpetParts → Bool
 message_at k t n h =
     falls_at HPET_HZ (t + n + 1)
     && message_next k (hpet_pulsed_times (pulses_from HPET_HZ t n) h)
 
--- the nanoseconds at which timer k sends messages, of the n behind t
+-- the nanoseconds at which timer k sends messages, of the n after t
 abbrev pub message_times : ℕ → ℕ → ℕ → HpetParts → List ℕ
 message_times k t zero h = []
 message_times k t (suc n) h =

@@ -14,7 +14,7 @@ use irq_edges::Burst;
 /// Nanoseconds from one pulse of the HPET to the next.
 const PULSE_NS: u128 = 10;
 
-/// The messages of timer `k` behind nanosecond `from` and up to `to`, where an HPET that was `h`
+/// The messages of timer `k` after nanosecond `from` and up to `to`, where an HPET that was `h`
 /// had these matches.
 pub(crate) fn burst_of(h: &Hpet, k: u8, matches: Matches, from: u64, to: u64) -> Option<Burst>
     requires place { k < 8 }

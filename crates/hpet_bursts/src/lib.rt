@@ -2,9 +2,9 @@
 //!
 //! A message timer writes its data to its address at each match, in the place of a tick of its line
 //! (IA-PC HPET specification 1.0a, section 2.3.10). In a stretch in which nobody writes a register,
-//! the messages of a timer come at even distances, so they are told at once: the timer, the first
+//! the messages of a timer come at even distances, so one burst says them all: the timer, the first
 //! nanosecond, how many, the nanoseconds from one to the next, address and data. Address and data
-//! are those of the stretch's begin, since only a write changes them.
+//! are those at the start of the stretch, since only a write changes them.
 //!
 //! ```text
 //! let mut hpet = Hpet::power_on(8, true);

@@ -10,7 +10,7 @@ use hpet_comparator::Matches;
 use hpet_registers::{HPET_HZ, Hpet};
 use irq_edges::BurstList;
 
-/// Puts into `bursts` the messages that the timers of `h` send behind nanosecond `from` and up to
+/// Puts into `bursts` the messages that the timers of `h` send after nanosecond `from` and up to
 /// `to`, while nobody writes a register: a burst for each timer that sends any, in order of timers.
 /// The list must be empty.
 pub fn bursts_in(h: &Hpet, from: u64, to: u64, bursts: &mut BurstList)
@@ -18,7 +18,7 @@ pub fn bursts_in(h: &Hpet, from: u64, to: u64, bursts: &mut BurstList)
     requires range { to < 2 ^ 59 }
     requires fresh { bursts.old ≡ [] }
     ensures value { bursts.new ≡ bursts_of from (to - from) h.now }
-    // Each burst tells the times of its timer's messages, and a timer without one sends none.
+    // Each burst gives the times of its timer's messages, and a timer without one sends none.
     ensures each { (k : ℕ) → k < 8 →
         let times = message_times k from (to - from) h.now in
         IsBurst k h.now times (burst_in k from (to - from) h.now) }

@@ -104,7 +104,7 @@ fn goes_on_behind_a_stretch(rt: HostRuntime) {
     assert_eq!(rt; sent(&hpet, 2_505, 4_000).as_slice(), [two].as_slice());
 }
 
-/// Of level type, with the interrupt off, without bit 14, and while the counter stands.
+/// Of level type, with the interrupt off, without bit 14, and while the counter is halted.
 #[test]
 fn who_sends_none(rt: HostRuntime) {
     let message = 0xfee0_0000_0000_0031;

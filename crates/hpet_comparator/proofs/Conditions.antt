@@ -16,7 +16,7 @@ IsTimer-timer_at_power_on = record {
   period = omega arith;
 }
 
--- a condition that holds, and no fault behind it
+-- a condition that holds, and no fault after it
 pub peel : (b : Bool) (f : TimerField) (rest : Option TimerField) → cond b rest (Some f) ≡ None → (b ≡ true) × (rest ≡ None)
 peel true f rest e = (refl, e)
 peel false f rest e = cc

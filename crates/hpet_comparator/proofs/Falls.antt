@@ -46,7 +46,7 @@ div-mono s a b some h = le-div (a / s) b s some (omega (arith, div-mul-le_self a
 pub falls_on-before : (d count every m : ℕ) → m < d → falls_on (Some d) count every m ≡ false
 falls_on-before d count every m h = ap (λ (b : Bool). b && (eqb ((m - d) % every) 0 && ltb ((m - d) / every) count)) (lt-leb d m h)
 
--- j pulses behind the first
+-- j pulses after the first
 pub falls_on-behind : (d count every j : ℕ) → falls_on (Some d) count every (d + j) ≡ (eqb (j % every) 0 && ltb (j / every) count)
 falls_on-behind d count every j =
     let e : d + j - d ≡ j = omega arith in
@@ -81,7 +81,7 @@ first-match c i t h =
     test-first (matches_at (counter_after c (suc i)) (pulsed_times c i t)) (matches_in c t i) (up_to_due c (suc i) t h).1
     (early c (suc i) i t h (omega arith)).1
 
--- those behind it
+-- those after it
 later-match : (c d j : ℕ) (t : TimerParts) → IsTimer t → IsDue c t d
     → matches_at (counter_after c (suc (d + j))) (pulsed_times c (d + j) t) ≡ eqb (suc j % spacing_of t) 0
 later-match c d j t valid h =

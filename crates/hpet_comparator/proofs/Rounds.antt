@@ -105,7 +105,7 @@ parted c m (suc n) t =
     counted true x y z e = omega arith
     counted false x y z e = omega arith
 
--- behind no match, and behind one and then q
+-- after no match, and after one and then q
 advance-zero : (b p : Bool) (x y : ℕ) → x < cond b (2 ^ 32) (2 ^ 64) → cond p ((x + 0 * y) % cond b (2 ^ 32) (2 ^ 64)) x ≡ x
 advance-zero b false x y h = refl
 advance-zero true true x y h = omega arith
@@ -179,7 +179,7 @@ IsTimer-advanced q t valid = record {
   period = valid.period;
 }
 
--- behind a match the next is due a spacing later
+-- after a match the next is due a spacing later
 pub due-next : (c d : ℕ) (t : TimerParts) → IsTimer t → IsDue c t d → IsDue (counter_after c d) (advanced 1 t) (spacing_of t)
 due-next c d t valid h = record {
   ahead = spacing_of-pos t;

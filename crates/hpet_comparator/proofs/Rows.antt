@@ -160,7 +160,7 @@ one_shot_clears_val_set : comparator_written 8 false 10 (record { config = 0x284
 unfolding comparator_written
 one_shot_clears_val_set = refl
 
--- wraps: a match across the end of 32 bits and of 64, and the next comparator behind it
+-- wraps: a match across the end of 32 bits and of 64, and the next comparator after it
 narrow_match_across_the_wrap : matches_in 0x7fffffffe (record { config = 0x2904; comparator = 3; period = 3 }) 10 ≡ 1
 unfolding pulsed matches_at
 narrow_match_across_the_wrap = refl
@@ -185,7 +185,7 @@ wide_comparator_wraps = refl
 spacing_of_one_shots : map (λ c. spacing_of (record { config = c; comparator = 7; period = 3 })) (0x2804 ∷ 0x2904 ∷ []) ≡ 2 ^ 64 ∷ 2 ^ 32 ∷ []
 spacing_of_one_shots = refl
 
--- three matches from pulse 2 on, each 5 pulses behind the last
+-- three matches from pulse 2 on, each 5 pulses after the last
 falls : map (falls_on (Some 2) 3 5) (0 ∷ 1 ∷ 2 ∷ 3 ∷ 6 ∷ 7 ∷ 8 ∷ 11 ∷ 12 ∷ 13 ∷ 17 ∷ [])
     ≡ false ∷ false ∷ true ∷ false ∷ false ∷ true ∷ false ∷ false ∷ true ∷ false ∷ false ∷ []
 falls = refl

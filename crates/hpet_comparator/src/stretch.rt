@@ -65,7 +65,7 @@ fn pulses_before(parts: &TimerParts, from: u64) -> u64
     within(parts, parts.comparator.wrapping_sub(from).wrapping_sub(1))
 }
 
-/// How many matches come in the `rest` pulses behind a match.
+/// How many matches come in the `rest` pulses after a match.
 #[inline]
 fn further_matches(parts: &TimerParts, rest: u64) -> u64
     ensures value { result ≡ rest / spacing_of parts.now }
@@ -79,7 +79,7 @@ fn further_matches(parts: &TimerParts, rest: u64) -> u64
     }
 }
 
-/// The comparator behind `matches` matches.
+/// The comparator after `matches` matches.
 #[inline]
 fn advanced_comparator(parts: &TimerParts, matches: u64) -> u64
     ensures value { result ≡ (advanced matches parts.now).comparator }

@@ -114,7 +114,7 @@ impl Timer {
     }
 
     /// A write of the comparator register, whole (`width` 8) or of one half (`width` 4; `high`
-    /// tells which). It sets the period and, unless the timer is periodic without VAL_SET, the
+    /// says which). It sets the period and, unless the timer is periodic without VAL_SET, the
     /// comparator, and clears VAL_SET.
     pub fn write_comparator(&mut self, width: u8, high: bool, v: u64)
         requires width { IsTrue (is_register_width width) }

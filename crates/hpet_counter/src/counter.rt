@@ -22,7 +22,7 @@ impl MainCounter {
         self.value = self.value.wrapping_add(n);
     }
 
-    /// A write of the whole counter (`width` 8) or of one half (`width` 4; `high` tells which). It
+    /// A write of the whole counter (`width` 8) or of one half (`width` 4; `high` says which). It
     /// may come at any time, also while the counter runs (own).
     pub fn write(&mut self, width: u8, high: bool, v: u64)
         requires width { IsTrue (is_register_width width) }

@@ -1,5 +1,5 @@
 //! The main counter of the HPET (IA-PC HPET specification 1.0a, section 2.3.7): 64 bits that go up
-//! by one at each pulse and go on from 0 behind 2^64 - 1. It is written whole or by either half of
+//! by one at each pulse and go on from 0 after 2^64 - 1. It is written whole or by either half of
 //! 32 bits.
 //!
 //! ```text

@@ -1,4 +1,4 @@
--- What a board asks of an HPET behind pulses: levels, ticks and messages; and the conditions at power on and behind a write.
+-- What a board asks of an HPET after pulses: levels, ticks and messages; and the conditions at power on and after a write.
 use Rattle.std.proofs.Common.{◌≡◌, ℕ, zero, suc, ◌-◌, ◌/◌, ◌%◌, ◌^◌, ◌<◌, ◌≤◌, Bool, true, false, cond, ◌&&◌, ◌||◌, not, ltb, leb, eqb, get_or, Some, None, ◌⊎◌}
 use Rattle.std.proofs.Common.{refl, ap, sym, subst, ◌∙◌, inl, inr, arith}
 use Rattle.std.proofs.Math.Bool.{and-true}
@@ -24,7 +24,7 @@ use Rattle.hpet_registers.proofs.Conditions.{IsHpet-register_written}
 use Rattle.hpet_registers.proofs.Product.{status_bit-hpet_pulsed_times, is_enabled-hpet_pulsed_times, is_legacy-hpet_pulsed_times}
 use Rattle.hpet_registers.proofs.Product.{timer_config-hpet_pulsed_times, message_bit_at-hpet_pulsed_times, message_word_at-hpet_pulsed_times}
 
--- levels behind pulses
+-- levels after pulses
 pub level_output-hpet_pulsed_times : (k n : ℕ) (h : HpetParts) → k < 8
     → level_output k (hpet_pulsed_times n h) ≡ ((bit k h.status || (ltb 0 (matches_of k h n) && is_level (timer_at k h))) && is_enabled (timer_at k h))
 level_output-hpet_pulsed_times k n h small =

@@ -31,7 +31,7 @@ set-more {A} P l i x d inside before here j less = elim (cases_eq j i) [
     below : (j i : ℕ) → j < i + 1 → (j ≡ i → ⊥) → j < i
     below j i h apart = omega arith
 
--- a place behind the one that is set is as it was
+-- a place after the one that is set is as it was
 pub set-behind : {A : Type 0} (l : List A) (i j : ℕ) (x d : A) → i + 1 ≤ j → get_or (set l i x) j d ≡ get_or l j d
 set-behind l i j x d past = get_or-set_other l i j x d (apart i j past)
   where
@@ -68,7 +68,7 @@ with_bits-timers p q h valid same none = split valid.timers
         ∙ (few 3 (omega arith) ∙ (few 4 (omega arith) ∙ (few 5 (omega arith) ∙ (few 6 (omega arith) ∙ few 7 (omega arith))))))
     split (inr eight) = with_bits-same p q h.timers h.status same ∙ ap (λ (m : ℕ). with_bits q m h.status) eight
 
--- counter, timers and status together are the HPET behind n pulses
+-- counter, timers and status together are the HPET after n pulses
 pub stretched : (n : ℕ) (h : HpetParts) → IsHpet h → is_running h ≡ true → h.counter < 2 ^ 64
     → record h {
       counter = counter_after h.counter n;
@@ -86,7 +86,7 @@ stretched n h valid runs fits =
         (λ k inside. ap (λ (m : ℕ). ltb 0 m && is_level (timer_at k h)) (sym (matches_of-running k n h runs fits inside)))
         (λ k past. ap (λ (m : ℕ). ltb 0 m && is_level (timer_at k h)) (matches_of-absent k n h past))
 
--- the timers below k of an HPET that was h are behind n pulses, and these are their matches
+-- the timers below k of an HPET that was h are after n pulses, and these are their matches
 pub record ArePulsed (h : HpetParts) (n k : ℕ) (p : HpetParts) (ms : List Matches) : Type 0 where
   pub state : p ≡ record h { timer = p.timer; status = with_bits (λ j. ltb 0 (matches_in h.counter (timer_at j h) n) && is_level (timer_at j h)) k h.status }
   pub long : length h.timer ≡ 8

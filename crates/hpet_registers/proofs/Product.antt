@@ -120,7 +120,7 @@ raised-suc true false m = both-false (ltb 0 m) (ltb 0 (suc m))
     both-false false true = refl
     both-false false false = refl
 
--- the status behind n pulses: the bits of the level timers that matched are set
+-- the status after n pulses: the bits of the level timers that matched are set
 pub status-hpet_pulsed_times : (n : ℕ) (h : HpetParts)
     → (hpet_pulsed_times n h).status ≡ with_bits (λ k. ltb 0 (matches_of k h n) && is_level (timer_at k h)) 8 h.status
 unfolding hpet_pulsed
@@ -166,7 +166,7 @@ matches_of-absent k zero h past = refl
 matches_of-absent k (suc n) h past =
     ap (λ (b : Bool). cond b (suc (matches_of k h n)) (matches_of k h n)) (matches_next-absent k n h past) ∙ matches_of-absent k n h past
 
--- where the counter stands still there are no matches, and all stays
+-- where the counter is halted there are no matches, and all stays
 and-false : (a b : Bool) → b ≡ false → (a && b) ≡ false
 and-false true b e = e
 and-false false b e = refl
@@ -256,7 +256,7 @@ matches_of-running k (suc n) h runs fits inside =
     ∙ ap (λ (m : ℕ). cond (matches_at (counter_after h.counter (suc n)) (pulsed_times h.counter n (timer_at k h))) (suc m) m)
     (matches_of-running k n h runs fits inside)
 
--- all of them, or none where the counter stands still
+-- all of them, or none where the counter is halted
 pub matches_of-seen : (k n : ℕ) (h : HpetParts) → h.counter < 2 ^ 64 → k < h.timers
     → matches_of k h n ≡ matches_in h.counter (timer_at k h) (cond (is_running h) n 0)
 matches_of-seen k n h fits inside = by_test (is_running h) refl

@@ -120,10 +120,11 @@ hpet_fault h =
     else if not (hpet_status_valid h) then Some Status
     else or_else (first_below (timer_fault_at h) 8) (first_below (message_fault_at h) 8)
 
--- no message bits and no message words
+-- no timer sends messages
 abbrev pub no_bits : List Bool
 no_bits = false ∷ false ∷ false ∷ false ∷ false ∷ false ∷ false ∷ false ∷ []
 
+-- the message words of timers that send none
 abbrev pub no_words : List ℕ
 no_words = 0 ∷ 0 ∷ 0 ∷ 0 ∷ 0 ∷ 0 ∷ 0 ∷ 0 ∷ []
 

@@ -12,7 +12,7 @@ use Rattle.hpet_registers.specs.declared.register.Register.TheVariants.{TimerMes
 use Rattle.hpet_registers.specs.Parts.{timer_at}
 use Rattle.hpet_registers.specs.Access.{is_effective, part_of}
 
--- what stands at an offset
+-- the register at an offset
 abbrev pub three_timer_register : ℕ → Register
 three_timer_register offset =
     if offset == 0x000 then Capabilities

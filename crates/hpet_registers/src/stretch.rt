@@ -21,7 +21,7 @@ use crate::parts::HpetParts;
 use hpet_comparator::{Matches, Timer};
 use hpet_counter::MainCounter;
 
-/// The status behind matches of timer `k`: they set its bit where it is of level type.
+/// The status after matches of timer `k`: they set its bit where it is of level type.
 fn raised(status: u8, k: u8, level: bool) -> u8
     requires { k < 8 }
     ensures { result ≡ (if level then bit_or status (2 ^ k) else status) }

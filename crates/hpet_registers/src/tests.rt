@@ -120,7 +120,7 @@ fn periodic_in_32_bits_across_a_wrap(rt: HostRuntime) {
 fn one_shot_under_legacy_replacement(rt: HostRuntime) {
     let mut hpet = Hpet::power_on(3, false);
     write_all(&rt, &mut hpet, &[(0x100, 8, 0x2804), (0x108, 8, 0x64)]);
-    // the counter stands still
+    // the counter is halted
     assert_eq!(rt; matches_of_first(&rt, &mut hpet, 350), Matches::NONE);
     write_all(&rt, &mut hpet, &[(0x010, 4, 3)]);
     assert!(rt; hpet.legacy());

@@ -34,7 +34,7 @@ guest_time bytes tsc =
     (units_of (little_number 8 (drop 8 bytes)) tsc + little_number 8 (drop 16 bytes)) % 2 ^ 64
     )
 
--- the time that an answer tells
+-- the time in an answer
 abbrev pub time_told : HvReply → Option ℕ
 time_told Off = None
 time_told (On page reading) = Some reading

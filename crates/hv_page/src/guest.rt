@@ -19,7 +19,7 @@ pub fn guest_sequence(page: &HvPage) -> u64
 /// The first 24 of the 4096 bytes of the page as the guest sees it (TLFS, `HV_REFERENCE_TSC_PAGE`),
 /// little-endian: u32 TscSequence, u32 Reserved1, u64 TscScale, i64 TscOffset. All others are 0.
 /// The version is below 2^32. A guest that reads a page which was published once by these bytes, as
-/// TLFS tells, gets what `reply` tells.
+/// TLFS says, gets the time in `reply`.
 pub fn page_bytes(page: &HvPage) -> [u8; 24]
     requires { page.now.version < 2 ^ 32 }
     ensures layout { result ≡ guest_bytes page.now }

@@ -31,7 +31,7 @@ fn reads_units_of_100_ns(rt: HostRuntime) {
 
 #[test]
 fn goes_on_from_a_moved_tsc(rt: HostRuntime) {
-    // the TSC stands at 2^63 when the page is published at 100 s
+    // the TSC is 2^63 when the page is published at 100 s
     let page = published(&OFF, 3_000_000, 1 << 63, 1 << 63, 100_000_000_000);
     assert_eq!(rt; reading(&page, 1 << 63), 1_000_000_000);
     assert_eq!(rt;

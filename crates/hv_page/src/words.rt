@@ -5,9 +5,9 @@ ghost use Rattle.hv_page.specs.Words.{as_page, of_page};
 use crate::page::HvPage;
 use pvclock_page::Page;
 
-/// The pvclock page that keeps this page: the scale stands for the timestamp, the offset for the
-/// system time, and the offset of the TSC for itself; multiplier, shift and flags are 0, and it is
-/// enabled where the scale isn't 0 (this project's own choice).
+/// The pvclock page that keeps this page: the scale is kept as the timestamp, the offset as
+/// the system time, and the offset of the TSC as itself; multiplier, shift and flags are 0, and it
+/// is enabled where the scale isn't 0 (this project's own choice).
 pub fn as_page(page: &HvPage) -> Page
     ensures value { result ≡ as_page page.now }
     ensures back { of_page result ≡ page.now }

@@ -33,7 +33,7 @@ changes-drop at ns before after i b a h p q =
     let ha : i < length after = omega arith in
     rw (drop_more ns i 0 h, drop_more before i b hb, drop_more after i a ha) refl
 
--- behind the last place there is none
+-- after the last place there is none
 pub changes-past : (at : ℕ) (ns : List ℕ) (before after : List Bool) (i : ℕ) → length ns ≤ i → changes at (drop i ns) (drop i before) (drop i after) ≡ []
 changes-past at ns before after i h = rw (drop_all i ns h) refl
 

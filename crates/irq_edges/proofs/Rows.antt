@@ -29,7 +29,7 @@ level_of_none = refl
 line_24_is_none : is_line 24 ≡ false
 line_24_is_none = refl
 
--- two lines that rise at one time, one later, one before the stretch and one behind it
+-- two lines that rise at one time, one later, one before the stretch and one after it
 two_at_a_time : rises_of line_numbers (Some 7 ∷ Some 12 ∷ None ∷ Some 12 ∷ Some 15 ∷ Some 99 ∷ []) 10 20
     ≡ record { at = 12; line = 8; up = true } ∷ record { at = 12; line = 21; up = true } ∷ record { at = 15; line = 22; up = true } ∷ []
 unfolding rises_of

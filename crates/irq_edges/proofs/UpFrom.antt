@@ -42,7 +42,7 @@ between a t b (u ∷ us) h k e =
     let rest : levels_at t us ≡ levels_at a us = between a t b us h k others in
     cc
 
--- a line that rises at no time behind a and up to t has the level that it had
+-- a line that rises at no time after a and up to t has the level that it had
 is_up_at-still : (a t : ℕ) (u : Option ℕ) → a ≤ t → ((r : ℕ) → u ≡ Some r → a < r → t < r) → is_up_at t u ≡ is_up_at a u
 is_up_at-still a t None h none = refl
 is_up_at-still a t (Some r) h none = elim (cases_lt a r) [
@@ -50,7 +50,7 @@ is_up_at-still a t (Some r) h none = elim (cases_lt a r) [
   | inl down ↦ lt-leb r t (none r refl down) ∙ sym (lt-leb r a down)
 ]
 
--- where no line rises behind a and up to t, the levels stay
+-- where no line rises after a and up to t, the levels stay
 pub levels_at-still : (a t : ℕ) (us : List (Option ℕ)) → a ≤ t → ((r : ℕ) → Contains us (Some r) → a < r → t < r) → levels_at t us ≡ levels_at a us
 levels_at-still a t [] h none = refl
 levels_at-still a t (u ∷ us) h none =

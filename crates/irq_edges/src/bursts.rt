@@ -8,7 +8,7 @@ use std::marker::Model;
 pub const BURST_PLACES: usize = 8;
 
 /// The messages that a timer sends in a stretch of time, all to one address, at even distances
-/// (HPET specification 1.0a, "Timer N FSB Interrupt Route Register"; that they stand as one burst
+/// (HPET specification 1.0a, "Timer N FSB Interrupt Route Register"; that they are one burst
 /// is this project's own choice).
 #[derive(Clone, Copy, Debug, Default, PartialEq, Eq)]
 #[repr(C)]
@@ -27,7 +27,7 @@ pub struct Burst {
     pub data: u32,
 }
 
-/// What a place holds in which no burst stands.
+/// What a place without a burst holds.
 const NO_BURST: Burst = Burst {
     timer: 0,
     first: 0,
@@ -38,11 +38,11 @@ const NO_BURST: Burst = Burst {
 };
 
 /// A list of at most eight bursts, in the order in which they came. It lies where it is held and
-/// takes no memory. Its places stand in it as C would have them, as those of an `EdgeList` do.
+/// takes no memory. Its layout is that of C, as that of an `EdgeList` is.
 #[derive(Debug, Drop, PartialEq, Eq)]
 #[repr(C)]
 pub struct BurstList {
-    /// The bursts, and `NO_BURST` in each place behind them.
+    /// The bursts, and `NO_BURST` in each place after them.
     places: [Burst; BURST_PLACES],
     len: usize,
 }

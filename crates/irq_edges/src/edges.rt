@@ -19,7 +19,7 @@ pub struct Edge {
     pub up: bool,
 }
 
-/// What a place holds in which no edge stands.
+/// What a place without an edge holds.
 const NO_EDGE: Edge = Edge {
     at: 0,
     line: 0,
@@ -27,12 +27,12 @@ const NO_EDGE: Edge = Edge {
 };
 
 /// A list of at most 24 edges, in the order in which they came. It lies where it is held and takes
-/// no memory. Its places stand in it as C would have them, so that a struct that C keeps may hold
+/// no memory. Its layout is that of C, so that a struct that C keeps may hold
 /// one.
 #[derive(Debug, Drop, PartialEq, Eq)]
 #[repr(C)]
 pub struct EdgeList {
-    /// The edges, and `NO_EDGE` in each place behind them.
+    /// The edges, and `NO_EDGE` in each place after them.
     places: [Edge; EDGE_PLACES],
     len: usize,
 }

@@ -4,7 +4,7 @@
 //! An edge is a change of the level of a line at a time in nanoseconds. The lines 0 and 8 are
 //! those of the 8254 and of the MC146818, or of the HPET's timers 0 and 1 in their place (HPET
 //! specification 1.0a, the bit LEG_RT_CNF); 20 to 23 are the inputs of the I/O APIC to which a
-//! timer of the HPET may be routed here. Edges of one time stand in order of line numbers; that
+//! timer of the HPET may be routed here. Edges of one time are in order of line numbers; that
 //! order and the choice of lines are this project's own.
 //!
 //! In a stretch of time in which nobody acts no line falls. Such a stretch is given by one time a

@@ -42,7 +42,7 @@ fn levels_by_line_number(rt: HostRuntime) {
 }
 
 /// Two lines that rise at one time, one that rises later, one that is up before, and one that
-/// rises behind the end.
+/// rises after the end.
 #[test]
 fn rises_of_a_stretch(rt: HostRuntime) {
     let times = [Some(7), Some(12), None, Some(12), Some(15), Some(99)];

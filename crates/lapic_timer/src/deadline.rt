@@ -13,7 +13,7 @@ use tsc_scale::{Tsc, ratio};
 /// Nanoseconds in a millisecond, of which a counter of 1 kHz counts one.
 const MILLISECOND_NS: u128 = 1_000_000;
 
-/// How many bits of a ratio stand behind the point.
+/// How many bits a ratio has after its binary point.
 const FRACTION_BITS: u32 = 48;
 
 /// Half of the TSC's numbers: what lies less than this past a deadline has reached it.
@@ -71,7 +71,7 @@ fn time_of_scaled(anchor: &Anchor, ratio: u64, scaled: u128) -> u128
     u128::from(anchor.base_ns) + (counts * MILLISECOND_NS / u128::from(anchor.khz) + 1)
 }
 
-/// The first nanosecond behind `from` and up to `to` at which a deadline is reached by the TSC `tsc` of a
+/// The first nanosecond after `from` and up to `to` at which a deadline is reached by the TSC `tsc` of a
 /// guest whose rate is `guest_khz`, on the host's counter of `anchor`; none where the deadline is 0. The
 /// TSC at a nanosecond is that at the first count whose time isn't before it.
 pub fn first_reach(

@@ -4,7 +4,7 @@ use Rattle.std.specs.Option.{IsNone}
 use Rattle.pit_counter.specs.Parts.{IsCounter, first_fault}
 use Rattle.pit_counter.specs.declared.parts.CounterParts.{CounterParts}
 
--- a test that doesn't fail, and the tests behind it
+-- a test that doesn't fail, and the tests after it
 pub IsNone-cond : {F : Type 0} (b : Bool) (field : F) (rest : Option F) → IsNone (cond (not b) (Some field) rest) → (b ≡ true) × IsNone rest
 IsNone-cond true field rest h = (refl, h)
 IsNone-cond false field rest h = let impossible : true ≡ false = h in cc

@@ -1,4 +1,4 @@
--- Two stretches of pulses, one behind the other.
+-- Two stretches of pulses, one after the other.
 use Rattle.std.proofs.Common.{
   ◌≡◌,
   ℕ,

@@ -142,7 +142,7 @@ pub record Round (c : CounterParts) (n : ℕ) : Type 0 where
   pub quiet : rises_in c (n - 1) ≡ 0
   pub rise : rises_in c n ≡ 1
 
--- one pulse behind some without a rise
+-- one pulse after some without a rise
 one_more : (c d e : CounterParts) (n : ℕ) → pulsed_times n c ≡ d → rises_in c n ≡ 0 → pulsed d ≡ e → (rises : Bool) → rises_next d ≡ rises
     → (pulsed_times (suc n) c ≡ e) × (rises_in c (suc n) ≡ cond rises 1 0)
 one_more c d e n here none next rises test = (
@@ -529,7 +529,7 @@ height-two c other = cond_both (eqb c.ce 0) (cond (is_bcd c.bits) 10000 65536) c
     (λ _. cond_both (is_bcd c.bits) 10000 65536 (λ x. 2 ≤ x) (λ _. lit≤ tt) (λ _. lit≤ tt))
     (λ some. omega (arith, eqb-false c.ce 0 some, eqb-false c.ce 1 other))
 
--- n pulses to a load, with one rise, at the last, and whole periods behind it
+-- n pulses to a load, with one rise, at the last, and whole periods after it
 pub record Ending (c : CounterParts) (n : ℕ) : Type 0 where
   pub state : pulsed_times n c ≡ affected (Load true) c
   pub some : 0 < n
@@ -557,7 +557,7 @@ ending c h below few =
       later = round_behind_load c e.1 m few;
     }
 
--- q whole periods behind what is left of one
+-- q whole periods after what is left of one
 pub state_ending : (c : CounterParts) (n q : ℕ) → Ending c n → pulsed_times (n + q * meant_count c.bits c.cr) c ≡ affected (Load true) c
 state_ending c n q r =
     pulsed_times-joined c n (q * meant_count c.bits c.cr) ∙ ap (pulsed_times (q * meant_count c.bits c.cr)) r.state

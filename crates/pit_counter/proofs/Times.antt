@@ -15,7 +15,7 @@ pub pulsed_times-suc : (n : ℕ) (c : CounterParts) → pulsed_times (suc n) c �
 unfolding pulsed_times
 pulsed_times-suc n c = refl
 
--- some pulses behind others
+-- some pulses after others
 pub pulsed_times-+ : (m n : ℕ) (c : CounterParts) → pulsed_times (m + n) c ≡ pulsed_times m (pulsed_times n c)
 unfolding pulsed_times
 pulsed_times-+ zero n c = ap (λ (k : ℕ). pulsed_times k c) (omega arith)

@@ -131,7 +131,7 @@ pub record IsCounter (c : CounterParts) : Type 0 where
   pub latched_count : IsTrue (latched_count_valid c)
   pub latched_status : IsTrue (latched_status_valid c)
 
--- the first field behind the counting element whose condition fails
+-- the first field after the counting element whose condition fails
 abbrev pub fault_behind_count : CounterParts → Option CounterField
 fault_behind_count c =
     if not (part_valid c) then Some FirstByte

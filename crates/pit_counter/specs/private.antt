@@ -1,2 +1,2 @@
--- What only the proofs of closed forms need: what the calls promise is told without it.
+-- What only the proofs of closed forms need: no promise of a call cites it.
 pub mod Stretch

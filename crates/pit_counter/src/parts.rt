@@ -107,7 +107,7 @@ impl CounterParts {
         }
     }
 
-    /// The same of the fields behind the counting element.
+    /// The same of the fields after the counting element.
     fn fault_behind_count(&self) -> Option<CounterField>
         ensures { result ≡ fault_behind_count self.now }
     {

@@ -19,7 +19,7 @@ pub const NONE: Rises = Rises {
     first: None,
 };
 
-/// The rises of one pulse more, behind the first `done`.
+/// The rises of one pulse more, after the first `done`.
 pub fn with_pulse(rises: Rises, done: u64, rose: bool) -> Rises
     requires few { rises.count ≤ done }
     requires fits { done + 1 < 2 ^ 64 }
@@ -36,7 +36,7 @@ pub fn with_pulse(rises: Rises, done: u64, rose: bool) -> Rises
     }
 }
 
-/// The rises of two stretches, the second behind the `done` pulses of the first.
+/// The rises of two stretches, the second after the `done` pulses of the first.
 pub fn joined(rises: Rises, done: u64, later: Rises) -> Rises
     requires fits { rises.count + later.count < 2 ^ 64 }
     requires first_fits { IfSome later.first (λ j. done + j < 2 ^ 64) }

@@ -202,7 +202,7 @@ fn is_reloaded(p: &CounterParts) -> bool
         && same(is_odd_square(p.bits, p.cr), p.odd)
 }
 
-/// Mode 2 counts with GATE high, on to the load behind a count of 1.
+/// Mode 2 counts with GATE high, on to the load after a count of 1.
 #[tactic(auto, unfolding(crate::specs::private::Stretch::is_dividing))]
 fn is_dividing(p: &CounterParts) -> bool
     ensures { result ≡ is_dividing p.now }
@@ -241,7 +241,7 @@ fn whole_periods(p: CounterParts, n: u64) -> Leap
     }
 }
 
-/// In mode 2 takes what is left of a period, and as many whole ones as there are behind it in `n`
+/// In mode 2 takes what is left of a period, and as many whole ones as there are after it in `n`
 /// pulses. Each ends with a load, and with a rise at its last pulse.
 fn rate_periods(p: CounterParts, n: u64) -> Leap
     requires one { height p ≤ n }

@@ -204,8 +204,8 @@ pub fn loaded(level: bool, p: CounterParts) -> CounterParts
 }
 
 /// The effect of the next pulse.
-// Inlined with all that it asks: where the effect is to stand, nothing behind it is asked then, and
-// a counter that doesn't count costs a quarter less.
+// Inlined with all that it asks: where the effect is `Stand`, nothing more is asked, and a counter
+// that doesn't count costs a quarter less.
 #[inline(always)]
 pub fn next_effect(p: &CounterParts) -> Effect
     ensures { result ≡ effect_in (mode_of p.now.bits) p.now }

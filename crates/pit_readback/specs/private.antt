@@ -1,2 +1,2 @@
--- What only the type's invariant needs: what the calls promise is told without it.
+-- What only the type's invariant needs: no promise of a call cites it.
 pub mod Wiring

@@ -172,7 +172,7 @@ impl Pit {
     }
 
     /// Reads one of the ports at nanosecond `now`: 40h, 41h or 42h gives a latched status first,
-    /// then a latched count, else the present count; 43h reads FFh (own); 61h as `read_61` tells.
+    /// then a latched count, else the present count; 43h reads FFh (own); 61h as `read_61` says.
     #[inline(always)]
     #[tactic(auto, unfolding(crate::specs::Ports::port_read, crate::specs::Ports::after_port_read))]
     pub fn read(&mut self, port: u8, now: u64) -> u8

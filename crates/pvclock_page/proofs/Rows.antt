@@ -86,7 +86,7 @@ published_over_2 : published 2
 unfolding after_a_stop mul_for shift_for
 published_over_2 = refl
 
--- the shift goes down by one behind each doubling of 125 MHz
+-- the shift goes down by one after each doubling of 125 MHz
 slowest : shift_for 100000000 ≡ pos 4
 unfolding shift_for
 slowest = refl

@@ -5,7 +5,7 @@ use Rattle.std.specs.Option.{SomeIff}
 use Rattle.std.proofs.lemmas.Bool.{cases_lt}
 use Rattle.std.proofs.lemmas.Nat.{pow_pos, pow-add}
 
--- a short shift to the left is a shorter one to the right, behind the product
+-- a short shift to the left is a shorter one to the right, after the product
 pub left_short : (delta mul n : ℕ) → n ≤ 32 → delta * mul / 2 ^ (32 - n) ≡ delta * 2 ^ n * mul / 2 ^ 32
 left_short delta mul n h =
     let place : 32 ≡ (32 - n) + n = omega arith in

@@ -11,7 +11,7 @@ use Rattle.pvclock_page.specs.Reading.{ticks_since, delta_of, shifted, elapsed_o
 div-mono : (a b k : ℕ) → 0 < k → a ≤ b → a / k ≤ b / k
 div-mono a b k some h = let whole : a / k * k ≤ a = div-mul-le_self a k in le-div (a / k) b k some (omega arith)
 
--- more ticks, no fewer of them behind the shift
+-- more ticks, no fewer of them after the shift
 pub shifted-mono : (shift : ℤ) (a b : ℕ) → a ≤ b → shifted shift a ≤ shifted shift b
 shifted-mono (pos n) a b h = mul-le-mul_right (2 ^ n) h
 shifted-mono (negsuc n) a b h = div-mono a b (2 ^ (n + 1)) (pow_pos (n + 1)) h

@@ -4,7 +4,7 @@ use Rattle.pvclock_page.specs.declared.page.Page.{Page}
 use Rattle.pvclock_page.specs.declared.publish.Publishing.{Publishing}
 use Rattle.pvclock_page.specs.Scale.{mul_for, shift_for}
 
--- the page behind one of a version: the version goes up by 2, and it tells the time at a TSC
+-- the page after one of a version: the version goes up by 2, and it gives the time at a TSC
 abbrev pub published : ℕ → Publishing → Page
 published version p = record {
   version = version + 2;

@@ -3,7 +3,7 @@ use Rattle.std.specs.Prelude.{ℕ, ℤ, pos, negsuc, ◌+◌, ◌-◌, ◌*◌, 
 use Rattle.std.specs.Prelude.{if◌then◌else◌}
 use Rattle.pvclock_page.specs.declared.page.Page.{Page}
 
--- the ticks from a timestamp to a TSC, modulo 2^64; a TSC up to 2^63 behind counts none (own)
+-- the ticks from a timestamp to a TSC, modulo 2^64; a TSC up to 2^63 before it counts none (own)
 abbrev pub ticks_since : ℕ → ℕ → ℕ
 ticks_since timestamp tsc =
     let ahead = (tsc + (2 ^ 64 - timestamp)) % 2 ^ 64 in
@@ -30,7 +30,7 @@ whole_reading page tsc = elapsed_of (delta_of page tsc) page.mul page.shift + pa
 unfoldable pub reading_of : Page → ℕ → ℕ
 reading_of page tsc = whole_reading page tsc % 2 ^ 64
 
--- in which parts of a nanosecond the slack is told: 2^k, where ticks are shifted to the right by k
+-- how many parts of a nanosecond the slack counts: 2^k, where ticks are shifted to the right by k
 abbrev pub parts_of : ℤ → ℕ
 parts_of (pos n) = 1
 parts_of (negsuc n) = 2 ^ (n + 1)

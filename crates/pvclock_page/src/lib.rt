@@ -3,7 +3,7 @@
 //! A monitor publishes, for each processor, a page with a time, the TSC at that time, and a scale; the
 //! guest adds to the time what its TSC has gone on since. The arithmetic and the 32 bytes that a guest
 //! sees are those of Linux: `Documentation/virt/kvm/x86/msr.rst`, "MSR_KVM_SYSTEM_TIME_NEW", and
-//! `arch/x86/include/asm/pvclock-abi.h`. What a TSC behind its page reads (own), that padding is 0 (own) and
+//! `arch/x86/include/asm/pvclock-abi.h`. What a page gives at a TSC before its own (own), that padding is 0 (own) and
 //! how a page is kept in five words (own) are the project's choices.
 //!
 //! ```text

@@ -44,7 +44,7 @@ pub enum PageReply {
 pub enum ClockReply {
     /// The page isn't enabled.
     Off,
-    /// The time that the page gives, and the time that is told: the greater of it and of all that were
-    /// told before, in nanoseconds.
+    /// The time that the page gives, and the time that is answered: the greater of it and of all that
+    /// were answered before, in nanoseconds.
     On { reading: u64, clock: u64 },
 }

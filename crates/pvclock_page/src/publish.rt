@@ -9,7 +9,7 @@ ghost use Rattle.pvclock_page.specs.Publish.{published};
 use crate::page::Page;
 use crate::scale::scale_of;
 
-/// What a page tells when it is published.
+/// What a page says when it is published.
 #[derive(Clone, Copy, Debug, PartialEq, Eq)]
 pub struct Publishing {
     /// The rate of the guest's TSC, in kHz: `clk_units::KHZ_MIN` to `clk_units::KHZ_MAX`.
@@ -26,7 +26,7 @@ pub struct Publishing {
     pub enabled: bool,
 }
 
-/// The page that is published where one of this version stands. At its TSC it reads its own time.
+/// The page that is published in place of one of this version. At its TSC it reads its own time.
 pub fn published(version: u64, news: &Publishing) -> Page
     requires rate { IsKhz news.now.guest_khz }
     requires room { version + 2 < 2 ^ 64 }

@@ -6,7 +6,7 @@ ghost use Rattle.pvclock_page.specs.Scale.{IsScale, mul_for, shift_for};
 /// Nanoseconds in a second.
 const SECOND_NS: u128 = 1_000_000_000;
 
-/// How many bits of a multiplier stand behind the point.
+/// How many bits a multiplier has after its binary point.
 pub(crate) const FRACTION_BITS: u32 = 32;
 
 /// The shift to the right that the fastest TSC of the range wants.

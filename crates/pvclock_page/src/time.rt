@@ -8,10 +8,10 @@ ghost use Rattle.pvclock_page.specs.Scale.{IsScale};
 use crate::page::Page;
 use crate::scale::FRACTION_BITS;
 
-/// TSCs so far ahead of a page's timestamp, or further, lie behind it.
+/// TSCs so far ahead of a page's timestamp, or further, are before it.
 const BEHIND: u64 = 1 << 63;
 
-/// The time that `page` gives at `tsc` in nanoseconds, modulo 2^64. A TSC behind the page's timestamp
+/// The time that `page` gives at `tsc` in nanoseconds, modulo 2^64. A TSC before the page's timestamp
 /// reads as the timestamp does (own).
 ///
 /// With the scale of its rate a page is never ahead of the exact time, and behind it by less than one
@@ -21,7 +21,7 @@ const BEHIND: u64 = 1 << 63;
 pub fn reading(page: &Page, tsc: u64) -> u64
     ensures value { result ≡ reading_of page.now tsc }
 
-    // At the timestamp, and behind it, the page gives its own time; then its time grows with the TSC, and
+    // At the timestamp, and before it, the page gives its own time; then its time grows with the TSC, and
     // keeps near the exact one.
     ensures begins { delta_of page.now tsc ≡ 0 → result ≡ page.now.system_time }
     ensures grows { (earlier : ℕ) → delta_of page.now earlier ≤ delta_of page.now tsc →
@@ -34,7 +34,7 @@ pub fn reading(page: &Page, tsc: u64) -> u64
     elapsed(delta, page.mul, page.shift).wrapping_add(page.system_time)
 }
 
-/// The ticks from `timestamp` to `tsc`, 0 where the TSC lies behind.
+/// The ticks from `timestamp` to `tsc`, 0 where the TSC is before it.
 fn ticks_between(timestamp: u64, tsc: u64) -> u64
     ensures { result ≡ ticks_since timestamp tsc }
 {

@@ -6,7 +6,7 @@ ghost use Rattle.pvclock_page.specs.Words.{words_of, page_of, scale_word};
 use crate::page::Page;
 use clk_units::{bit, bit_value};
 
-/// Where the shift begins in the scale word, behind the multiplier.
+/// Where the shift begins in the scale word, after the multiplier.
 const SHIFT_AT: u64 = 1 << 32;
 
 /// Where the flags begin in the scale word.

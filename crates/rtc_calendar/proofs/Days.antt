@@ -262,7 +262,7 @@ second_of_day-next_seconds zero m v = omega (arith, second_of_day-below m v)
 second_of_day-next_seconds (suc n) m v =
     omega (arith, second_of_day-next_second (next_seconds n m) (IsMoment-next_seconds n m v), second_of_day-next_seconds n m v)
 
--- whether the n-th second behind a moment ends its day
+-- whether the n-th second after a moment ends its day
 ends_day-next_seconds : (n : ℕ) (m : Moment) → IsMoment m → ends_day (next_seconds n m) ≡ eqb ((second_of_day m + n) % 86400) 86399
 ends_day-next_seconds n m v =
     ends_day-second_of_day (next_seconds n m) (IsMoment-next_seconds n m v) ∙ ap (λ (x : ℕ). eqb x 86399) (second_of_day-next_seconds n m v)
@@ -314,7 +314,7 @@ year-of_day year rest h = elim (cases_Bool (eqb (year % 4) 0)) [
     short : (year % 4 ≡ 0 → ⊥) → days_of_months year 12 ≡ 365 → (year * 365 + (year + 3) / 4 + rest) * 4 / 1461 ≡ year
     short not_leap length = omega arith
 
--- two dates of a year that stand at one day of it are in one month
+-- two dates on one day of a year are in one month
 month-below : (year a b i j : ℕ) → 1 ≤ a → i < month_length year a
     → days_of_months year (a - 1) + i ≡ days_of_months year (b - 1) + j → a < b → ⊥
 month-below year a b i j first_month fits same less =

@@ -44,7 +44,7 @@ next_in-most low high number order h =
     not_last : (number ≡ high → ⊥) → number + 1 ≤ high
     not_last other = omega arith
 
--- behind the last of a month comes a first, which every month has
+-- after the last of a month comes a first, which every month has
 pub date_in_month : (day last end : Bool) (date year month next_year next_month : ℕ) → last ≡ eqb date (month_length year month)
     → date ≤ month_length year month
     → cond day (next_in 1 (month_length year month) date) date

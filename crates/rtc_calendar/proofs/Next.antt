@@ -96,7 +96,7 @@ is_match-moment form alarm w m y asks v e =
     sym (asks.hour m.hour v.hour) ∙ ap (is_wanted w.hour) clock.2 in
     rw (second, minute, hour) (and-assoc (is_wanted w.second (y % 60)) (is_wanted w.minute (y / 60 % 60)) (is_wanted w.hour (y / 60 / 60 % 24)))
 
--- whether the alarm matches behind n updates
+-- whether the alarm matches after n updates
 pub is_match-updated_times : (form : Form) (alarm : Alarm) (w : WantedTime) (bytes : TimeBytes) (n : ℕ) → AsksFor form alarm w → 0 < n
     → is_match alarm (updated_times form n bytes) ≡ is_wanted_second w (second_of_day (moment_of form bytes) + n)
 is_match-updated_times form alarm w bytes n asks some =

@@ -117,7 +117,7 @@ hour_of_twelve-range hour =
     other : (hour % 12 ≡ 0 → ⊥) → 1 ≤ hour % 12
     other h = omega arith
 
--- bit 7 stands beside the number of a byte
+-- bit 7 is apart from the number of a byte
 spelling-small : (binary : Bool) (number : ℕ) → number ≤ 12 → spelling binary number < 128
 unfolding spelling
 spelling-small true number h = omega arith

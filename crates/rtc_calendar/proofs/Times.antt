@@ -45,7 +45,7 @@ pub matches_in-suc : (form : Form) (alarm : Alarm) (bytes : TimeBytes) (n : ℕ)
     (matches_in form alarm bytes n)
 matches_in-suc form alarm bytes n = refl
 
--- updates behind updates
+-- updates after updates
 pub updated_times-add : (form : Form) (n more : ℕ) (bytes : TimeBytes)
     → updated_times form (n + more) bytes ≡ updated_times form more (updated_times form n bytes)
 updated_times-add form n zero bytes = ap (λ (x : ℕ). updated_times form x bytes) (omega arith)
@@ -194,7 +194,7 @@ pub updated_times-some : (form : Form) (n : ℕ) (bytes : TimeBytes) → 0 < n
 updated_times-some form zero bytes h = absurd (omega arith)
 updated_times-some form (suc n) bytes h = updated_times-bytes_of form n bytes
 
--- behind an update the bytes are valid
+-- after an update the bytes are valid
 pub IsValid-updated_times : (form : Form) (n : ℕ) (bytes : TimeBytes) → 0 < n → IsValid form (updated_times form n bytes)
 IsValid-updated_times form n bytes h =
     subst (λ (b : TimeBytes). IsValid form b) (sym (updated_times-some form n bytes h))

@@ -22,27 +22,31 @@ pub record IsMoment (m : Moment) : Type 0 where
   pub last_month : m.month ≤ 12
   pub year : m.year ≤ 99
 
--- the second is the last of its minute, hour, day, month, year
+-- the second is the last of its minute
 unfoldable pub ends_minute : Moment → Bool
 ends_minute m = m.second == 59
 
+-- the second is the last of its hour
 unfoldable pub ends_hour : Moment → Bool
 ends_hour m = ends_minute m && m.minute == 59
 
+-- the second is the last of its day
 unfoldable pub ends_day : Moment → Bool
 ends_day m = ends_hour m && m.hour == 23
 
+-- the second is the last of its month
 unfoldable pub ends_month : Moment → Bool
 ends_month m = ends_day m && m.date == month_length m.year m.month
 
+-- the second is the last of its year
 unfoldable pub ends_year : Moment → Bool
 ends_year m = ends_month m && m.month == 12
 
--- the number that follows in the range low to high, which begins again behind its end
+-- the number that follows in the range low to high, which begins again after its end
 unfoldable pub next_in : ℕ → ℕ → ℕ → ℕ
 next_in low high number = if number == high then low else number + 1
 
--- the moment a second later; behind year 99 comes year 0
+-- the moment a second later; after year 99 comes year 0
 unfoldable pub next_second : Moment → Moment
 next_second m = record {
   second = next_in 0 59 m.second;

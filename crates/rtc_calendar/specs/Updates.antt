@@ -6,10 +6,11 @@ use Rattle.rtc_calendar.specs.declared.calendar.Moment.{Moment}
 use Rattle.rtc_calendar.specs.Bytes.{number_in, is_spelt, spelling, hour_in, is_hour, hour_spelling}
 use Rattle.rtc_calendar.specs.Calendar.{month_length, next_second, next_day}
 
--- the month and the year that the bytes are read as
+-- the month that the bytes are read as
 unfoldable pub month_in : Form → TimeBytes → ℕ
 month_in form bytes = number_in form.binary 1 12 bytes.month
 
+-- the year of the century that the bytes are read as
 unfoldable pub year_in : Form → TimeBytes → ℕ
 year_in form bytes = number_in form.binary 0 99 bytes.year
 

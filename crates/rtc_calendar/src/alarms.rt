@@ -29,8 +29,8 @@ pub fn matches(bytes: TimeBytes, alarm: Alarm) -> bool
         && fits_byte(alarm.hour, bytes.hour)
 }
 
-/// The first of the next `n` updates behind which the alarm matches the bytes, updates being counted from 1
-/// (data sheet, "Alarm"), or `None` where it matches behind none of them. It costs the same whatever `n` is:
+/// The first of the next `n` updates after which the alarm matches the bytes, updates being counted from 1
+/// (data sheet, "Alarm"), or `None` where it matches after none of them. It costs the same whatever `n` is:
 /// the second that comes next, then its minute, then its hour.
 pub fn first_match(bytes: TimeBytes, form: Form, alarm: Alarm, n: u64) -> Option<u64>
     ensures first { IsFirst (matches_in form alarm bytes) n result }

@@ -31,7 +31,7 @@ pub(crate) fn month_length(year: u8, month: u8) -> u8
     }
 }
 
-/// The number that follows in the range `low` to `high`, which begins again behind its end.
+/// The number that follows in the range `low` to `high`, which begins again after its end.
 #[tactic(auto, unfolding(crate::specs::Calendar::next_in))]
 fn next_in(low: u8, high: u8, number: u8) -> u8
     requires { number ≤ high }

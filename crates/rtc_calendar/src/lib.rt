@@ -22,7 +22,7 @@ pub use alarms::{first_match, matches};
 pub use updates::after;
 
 /// The seven time bytes, as the clock's registers 0, 2, 4 and 6 to 9 hold them: seconds, minutes, hours, day
-/// of the week (1 is Sunday), date, month, and year of the century. Any bytes may stand there.
+/// of the week (1 is Sunday), date, month, and year of the century. Any bytes are allowed.
 #[derive(Clone, Copy, Debug, PartialEq, Eq)]
 pub struct TimeBytes {
     pub sec: u8,

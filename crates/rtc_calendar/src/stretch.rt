@@ -69,7 +69,7 @@ fn day_number(m: Moment) -> u64
     days_of_years(u64::from(m.year)) + days_of_months(m.year, m.month - 1) + u64::from(m.date - 1)
 }
 
-/// The date that stands `day` days behind the first of its year.
+/// The date `day` days after the first of its year.
 fn date_in_year(year: u8, day: u64) -> Date
     requires { day < days_of_months year 12 }
     ensures first_month { 1 ≤ result.month }

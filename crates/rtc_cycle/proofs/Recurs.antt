@@ -103,7 +103,7 @@ cycle-stretched n p valid runs = elim (cases_Bool p.set) [
   | inr off ↦ cycle-at n p valid runs off ∙ sym (ap (λ (b : Bool). not b && (leb ((p.d + n) % 32768) 64 && (p.cycle || leb 32768 (p.d + n)))) off)
 ]
 
--- the fields behind n pulses
+-- the fields after n pulses
 pub pulsed_times-is : (n : ℕ) (p : DividerParts) → IsDivider p → pulsed_times n p ≡ stretched n p
 pulsed_times-is n p valid = elim (cases_eq p.dv 2) [
   | inl runs ↦

@@ -1,4 +1,4 @@
--- A stretch of pulses at once: where the divider stands behind it, and how many events it brought.
+-- A stretch of pulses at once: the divider after it, and how many events it brought.
 use Rattle.std.proofs.Common.{◌≡◌, ℕ, zero, suc, ◌+◌, ◌-◌, ◌*◌, ◌/◌, ◌%◌, ◌<◌, ◌≤◌, Bool, true, false, not}
 use Rattle.std.proofs.Common.{◌&&◌, ◌||◌, cond, eqb, leb, Some, ◌⊎◌, inl, inr, refl, sym, ap, ◌∙◌, arith}
 use Rattle.std.proofs.Math.Nat.{add-mul-div_right, mul-add-mod_self_left, suc-mul, mul_assoc, mul_comm}
@@ -19,7 +19,7 @@ use Rattle.rtc_cycle.proofs.Pulse.{IsDivider-pulsed_times, dv-pulsed_times, rs-p
 next_place : (x : ℕ) → (x % 32768 + 1) % 32768 ≡ suc x % 32768
 next_place x = omega arith
 
--- a running divider behind n pulses
+-- a running divider after n pulses
 pub d-pulsed_times : (n : ℕ) (p : DividerParts) → p.dv ≡ 2 → p.d < 32768 → (pulsed_times n p).d ≡ (p.d + n) % 32768
 unfolding pulsed
 d-pulsed_times zero p runs below = omega arith
@@ -55,7 +55,7 @@ mod-second y m f e =
     let parts : m * (f * (y / 32768)) + y % 32768 ≡ y = omega (arith, ap (λ (t : ℕ). t * (y / 32768)) e, mul_assoc m f (y / 32768)) in
     sym (ap (λ (x : ℕ). x % m) (sym parts) ∙ mul-add-mod_self_left m (f * (y / 32768)) (y % 32768))
 
--- whether the pulse behind n brings a periodic event
+-- whether the pulse after n brings a periodic event
 pub ticks_next-pulsed_times : (n : ℕ) (p : DividerParts) → p.dv ≡ 2 → p.d < 32768 → 0 < p.rs → p.rs ≤ 15
     → ticks_next (pulsed_times n p) ≡ eqb (suc (p.d + n) % period p.rs) 0
 unfolding ticks_next
@@ -170,7 +170,7 @@ uip_of-false p h =
       ],
     )
 
--- no cycle begins in the 8 pulses behind a UIP of 0
+-- no cycle begins in the 8 pulses after a UIP of 0
 pub uip-early : (n : ℕ) (p : DividerParts) → p.d < 32768 → uip_of p ≡ false → n ≤ 8 → (pulsed_times n p).cycle ≡ false
 uip-early n p below h few = false_from_ne_true (pulsed_times n p).cycle (λ begun.
     let quiet : (p.cycle ≡ false) × (p.set ≡ false → p.d < 32760) = uip_of-false p h in
@@ -178,7 +178,7 @@ uip-early n p below h few = false_from_ne_true (pulsed_times n p).cycle (λ begu
     let early : p.d < 32760 = quiet.1 passed.1 in
     omega arith)
 
--- no cycle ends in the 73 pulses behind it
+-- no cycle ends in the 73 pulses after it
 pub uip-quiet : (n : ℕ) (p : DividerParts) → p.d < 32768 → uip_of p ≡ false → n ≤ 73 → updates_in p n ≡ 0
 uip-quiet zero p below h few = refl
 uip-quiet (suc n) p below h few =
@@ -192,7 +192,7 @@ uip-quiet (suc n) p below h few =
     omega arith) in
     rw none_next (uip-quiet n p below h (omega arith))
 
--- a running divider with SET 0: at place y behind the beginning of its second a cycle is in progress in the first 65
+-- a running divider with SET 0: at place y from the start of its second a cycle is in progress in the first 65
 -- pulses, of the first second only where it already was
 cycle_goes_on : (y : ℕ) (cycle : Bool)
     → ((eqb ((y % 32768 + 1) % 32768) 0 && true) || ((leb (y % 32768) 64 && (cycle || leb 32768 y)) && not (eqb ((y % 32768 + 1) % 32768) 65)))
@@ -242,7 +242,7 @@ cycle_now d true below early = let few : (d + 0) % 32768 ≤ 64 = omega (arith, 
 cycle_now d false below early =
     let few : d + 0 < 32768 = omega arith in sym (and_right (leb ((d + 0) % 32768) 64) (leb 32768 (d + 0)) (lt-leb 32768 (d + 0) few))
 
--- whether a cycle is in progress behind n pulses of a running divider with SET 0
+-- whether a cycle is in progress after n pulses of a running divider with SET 0
 pub cycle-at : (n : ℕ) (p : DividerParts) → IsDivider p → p.dv ≡ 2 → p.set ≡ false
     → (pulsed_times n p).cycle ≡ (leb ((p.d + n) % 32768) 64 && (p.cycle || leb 32768 (p.d + n)))
 unfolding pulsed
@@ -268,7 +268,7 @@ ending y cycle = elim (cases_eq (suc y % 32768) 65) [
   | inr other ↦ rw (ne_eqb (suc y % 32768) 65 other) (and_right (leb (y % 32768) 64 && (cycle || leb 32768 y)) false refl)
 ]
 
--- whether the pulse behind n ends a cycle
+-- whether the pulse after n ends a cycle
 pub updates_next-at : (n : ℕ) (p : DividerParts) → IsDivider p → p.dv ≡ 2 → p.set ≡ false
     → updates_next (pulsed_times n p) ≡ (eqb (suc (p.d + n) % 32768) 65 && (p.cycle || leb 32768 (p.d + n)))
 unfolding updates_next
@@ -276,7 +276,7 @@ updates_next-at n p valid runs off =
     let on : eqb (pulsed_times n p).dv 2 ≡ true = eq-eqb (pulsed_times n p).dv 2 (dv-pulsed_times n p ∙ runs) in
     rw (on, cycle-at n p valid runs off, d-pulsed_times n p runs valid.below, next_place (p.d + n)) (ending (p.d + n) p.cycle)
 
--- the update that a running divider in mid-second has behind it already
+-- the update that a running divider in mid-second has already made
 abbrev pub behind : Bool → ℕ
 behind cycle = cond cycle 0 1
 
@@ -337,7 +337,7 @@ a_second_apart : (cycle : Bool) (d n f k : ℕ) → 0 < f → (d + (f - 1) + 327
 a_second_apart true d n f k some before first has few = (omega arith, omega arith, omega arith)
 a_second_apart false d n f k some before first has few = (omega arith, omega arith, omega arith)
 
--- update cycles end a second apart: the k-th of n pulses' cycles ends k - 1 seconds behind the first
+-- update cycles end a second apart: the k-th of n pulses' cycles ends k - 1 seconds after the first
 pub updates_in-apart : (p : DividerParts) → IsDivider p → (n f k : ℕ) → IsFirst (updates_in p) n (Some f) → 0 < k → k ≤ updates_in p n
     → (f + (k - 1) * 32768 ≤ n) × (updates_in p (f + (k - 1) * 32768) ≡ k) × (updates_in p (f + (k - 1) * 32768 - 1) ≡ k - 1)
 updates_in-apart p valid n f k first has few =
@@ -348,7 +348,7 @@ updates_in-apart p valid n f k first has few =
     a_second_apart p.cycle p.d n f k first.0 (sym (at (f - 1)) ∙ first.2) (omega (arith, at f, first.3)) has (omega (arith, at n)) in
     (apart.0, at (f + (k - 1) * 32768) ∙ apart.1, at (f + (k - 1) * 32768 - 1) ∙ apart.2)
 
--- a second ends one update cycle, where its own is in progress or behind it
+-- a second ends one update cycle, where its own is in progress or over
 pub updates_in-second : (p : DividerParts) → IsDivider p → RunsCycles p → updates_in p 32768 ≡ 1
 updates_in-second p valid runs =
     updates_in-is 32768 p valid runs.runs runs.unset

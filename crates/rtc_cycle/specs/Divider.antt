@@ -73,7 +73,7 @@ frequency rs =
     (0 ∷ 256 ∷ 128 ∷ 8192 ∷ 4096 ∷ 2048 ∷ 1024 ∷ 512 ∷ 256 ∷ 128 ∷ 64 ∷ 32 ∷ 16 ∷ 8 ∷ 4 ∷ 2 ∷ [])
     rs
 
--- the divider runs with SET 0, and its second's cycle is in progress or behind it, if not to come
+-- the divider runs with SET 0, and its second's cycle is in progress or over, if not to come
 pub record RunsCycles (p : DividerParts) : Type 0 where
   pub runs : p.dv ≡ 2
   pub unset : p.set ≡ false

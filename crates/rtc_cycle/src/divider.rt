@@ -104,7 +104,7 @@ impl Divider {
         parts::is_updating(self.parts)
     }
 
-    /// Lets `n` pulses of the crystal pass, and tells their events. A second of a divider that runs with SET 0
+    /// Lets `n` pulses of the crystal pass, and returns their events. A second of a divider that runs with SET 0
     /// ends one update cycle; only where SET was 1 as the second in progress began is there none for it.
     pub fn pulses(&mut self, n: u64) -> CycleEvents
         ensures state { self.new ≡ pulsed_times n self.old }

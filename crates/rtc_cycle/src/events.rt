@@ -1,6 +1,6 @@
 //! What a stretch of pulses brought.
 
-/// The events of a stretch of pulses. A first event is told by its pulse, the stretch's pulses being counted
+/// The events of a stretch of pulses. A first event is given by its pulse, the stretch's pulses being counted
 /// from 1.
 #[derive(Clone, Copy, Debug, PartialEq, Eq)]
 pub struct CycleEvents {

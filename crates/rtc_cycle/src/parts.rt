@@ -7,7 +7,7 @@ ghost use Rattle.rtc_cycle.specs.Parts.{IsDivider};
 /// The divider's pulses a second: it counts from 0 to one below.
 pub(crate) const PULSES: u16 = 32_768;
 
-/// Where the divider is held while it doesn't run, and where it stands at power on (own).
+/// Where the divider is held while it doesn't run, and where it is at power on (own).
 pub(crate) const HELD: u16 = 16_384;
 
 /// The bits DV of register A at which the divider runs with a crystal of 32,768 Hz.

@@ -20,7 +20,7 @@ impl Recurring {
         first: None,
     };
 
-    /// The events of `n` steps, of which the first comes at step `next` and each other `period` steps behind
+    /// The events of `n` steps, of which the first comes at step `next` and each other `period` steps after
     /// the one before.
     pub(crate) fn of(n: u64, next: u64, period: u64) -> Recurring
         requires later { 0 < next }

@@ -1,4 +1,4 @@
-//! Many pulses at once: the divider behind them, and the events that they bring.
+//! Many pulses at once: the divider after them, and the events that they bring.
 
 ghost use Rattle.std.specs.Prelude.{◌≡◌, ◌≤◌, ◌<◌, ◌+◌, ◌%◌, ◌↔◌, IsTrue, false};
 ghost use Rattle.clk_units.specs.Events.{IsFirst};
@@ -71,7 +71,7 @@ pub(crate) fn updates(p: DividerParts, n: u64) -> Recurring
     }
 }
 
-/// The divider of a running one behind `n` pulses.
+/// The divider of a running one after `n` pulses.
 fn d_after(d: u16, n: u64) -> u16
     ensures { result ≡ (d + n) % 32768 }
 {
@@ -79,7 +79,7 @@ fn d_after(d: u16, n: u64) -> u16
     ((d as u64 + n % second) % second) as u16
 }
 
-/// The fields behind `n` pulses.
+/// The fields after `n` pulses.
 pub(crate) fn after_pulses(p: DividerParts, n: u64) -> DividerParts
     requires { IsDivider p }
     ensures { result ≡ stretched n p }

@@ -47,7 +47,7 @@ fn is_tick(p: DividerParts) -> bool {
     p.dv == 2 && p.rs != 0 && period != 0 && p.d % period == 0
 }
 
-/// The count and the first event behind a pulse.
+/// The count and the first event after a pulse.
 fn with_event(count: u64, first: Option<u64>, pulse: u64, event: bool) -> (u64, Option<u64>) {
     if event {
         (count.wrapping_add(1), first.or(Some(pulse)))

@@ -1,4 +1,4 @@
--- Lemmas on the bytes: the time, register C and the rest stand apart.
+-- Lemmas on the bytes: the time, register C and the rest are apart.
 use Rattle.std.proofs.Common.{◌≡◌, ℕ, ◌≤◌, Bool, true, false, List, [], ◌∷◌, length, get_or, set, refl, arith}
 use Rattle.rtc_calendar.specs.declared.TimeBytes.{TimeBytes}
 use Rattle.clk_units.specs.Bits.{bit}
@@ -24,7 +24,7 @@ fourteen P shown (b0 ∷ b1 ∷ b2 ∷ b3 ∷ b4 ∷ b5 ∷ b6 ∷ b7 ∷ b8 ∷
 fourteen P shown (b0 ∷ b1 ∷ b2 ∷ b3 ∷ b4 ∷ b5 ∷ b6 ∷ b7 ∷ b8 ∷ b9 ∷ b10 ∷ b11 ∷ b12 ∷ []) h = absurd (omega arith)
 fourteen P shown (b0 ∷ b1 ∷ b2 ∷ b3 ∷ b4 ∷ b5 ∷ b6 ∷ b7 ∷ b8 ∷ b9 ∷ b10 ∷ b11 ∷ b12 ∷ b13 ∷ rest) h = shown b0 b1 b2 b3 b4 b5 b6 b7 b8 b9 b10 b11 b12 b13 rest
 
--- what stands where, once the time and register C are written
+-- which byte is where, once the time and register C are written
 pub record Moved (t : TimeBytes) (flags : ℕ) (bs : List ℕ) : Type 0 where
   pub time : time_in (set (with_time t bs) 12 flags) ≡ t
   pub alarm_sec : get_or (set (with_time t bs) 12 flags) 1 0 ≡ get_or bs 1 0
@@ -57,12 +57,12 @@ moved-bytes t flags bs h = fourteen (Moved t flags) (λ b0 b1 b2 b3 b4 b5 b6 b7 
   flags_before = λ earlier. refl;
 }) bs h
 
--- the bytes written as they stand
+-- the bytes written as they are
 pub same-bytes : (bs : List ℕ) → 14 ≤ length bs → set (with_time (time_in bs) bs) 12 (get_or bs 12 0) ≡ bs
 unfolding with_time
 same-bytes bs h = fourteen (λ xs. set (with_time (time_in xs) xs) 12 (get_or xs 12 0) ≡ xs) (λ b0 b1 b2 b3 b4 b5 b6 b7 b8 b9 b10 b11 b12 b13 rest. refl) bs h
 
--- what stands where, once register C is written
+-- which byte is where, once register C is written
 pub record Flagged (flags : ℕ) (bs : List ℕ) : Type 0 where
   pub time : time_in (set bs 12 flags) ≡ time_in bs
   pub alarm_sec : get_or (set bs 12 flags) 1 0 ≡ get_or bs 1 0

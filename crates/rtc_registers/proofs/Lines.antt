@@ -1,4 +1,4 @@
--- The interrupt line, IRQF: behind pulses, with PF set, behind a read and behind a write.
+-- The interrupt line, IRQF: after pulses, with PF set, after a read and after a write.
 use Rattle.std.proofs.Common.{◌≡◌, ℕ, Bool, true, false, not, ◌&&◌, ◌||◌, cond, eqb, ltb, refl, ap, ◌∙◌}
 use Rattle.clk_units.specs.Bits.{bit}
 use Rattle.rtc_cycle.specs.Divider.{ticks_in, updates_in}
@@ -65,7 +65,7 @@ uie_of-written byte r valid here = ap (bit 4) (register_b-written byte r valid h
 pub register_b-written_elsewhere : (byte : ℕ) (r : RtcParts) → IsRtc r → eqb r.index 11 ≡ false → register_b (rtc_written byte r) ≡ register_b r
 register_b-written_elsewhere byte r valid other = register_b-rtc_written byte r valid ∙ ap (λ (b : Bool). cond b (b_stored byte r) (register_b r)) other
 
--- the line behind n pulses: a flag that was up or an event that came, where it is let through
+-- the line after n pulses: a flag that was up or an event that came, where it is let through
 pub irqf_of-rtc_pulsed_times : (n : ℕ) (r : RtcParts) → IsRtc r → irqf_of (rtc_pulsed_times n r)
     ≡ (((pf_of r || ltb 0 (ticks_in (divider_of r) n)) && pie_of r)
     || (((af_of r || ltb 0 (alarms_in r n)) && aie_of r) || ((uf_of r || ltb 0 (updates_in (divider_of r) n)) && uie_of r)))
@@ -76,14 +76,14 @@ irqf_of-rtc_pulsed_times n r valid =
 pub irqf_of-flagged : (r : RtcParts) → IsRtc r → irqf_of (flagged r) ≡ (pie_of r || ((af_of r && aie_of r) || (uf_of r && uie_of r)))
 irqf_of-flagged r valid = rw (pf_of-flagged r valid, af_of-flagged r valid, uf_of-flagged r valid, register_b-flagged r valid) refl
 
--- behind a read of register C, which is the acknowledgement, and behind any other read
+-- after a read of register C, which is the acknowledgement, and after any other read
 pub irqf_of-after_rtc_read : (r : RtcParts) → IsRtc r → eqb r.index 12 ≡ true → irqf_of (after_rtc_read r) ≡ false
 irqf_of-after_rtc_read r valid here = rw (pf_of-after_rtc_read r valid here, af_of-after_rtc_read r valid here, uf_of-after_rtc_read r valid here) refl
 
 pub irqf_of-after_rtc_read_other : (r : RtcParts) → eqb r.index 12 ≡ false → irqf_of (after_rtc_read r) ≡ irqf_of r
 irqf_of-after_rtc_read_other r other = ap irqf_of (after_rtc_read-other r other)
 
--- behind a write of register B, and behind any other write
+-- after a write of register B, and after any other write
 pub irqf_of-written : (byte : ℕ) (r : RtcParts) → IsRtc r → eqb r.index 11 ≡ true → irqf_of (rtc_written byte r)
     ≡ ((pf_of r && bit 6 byte) || ((af_of r && bit 5 byte) || (uf_of r && (bit 4 byte && not (bit 7 byte && not (set_of r))))))
 irqf_of-written byte r valid here =

@@ -78,7 +78,7 @@ unfolding moved
 moved-moved c d t u f g r h =
     ap (λ (bs : List ℕ). let p : RtcParts = record r { bytes = bs; d = d.d; cycle = d.cycle } in p) ((moved-bytes t f r.bytes h).again u g)
 
--- the conditions stand
+-- the conditions hold
 pub IsRtc-moved : (c : DividerParts) (t : TimeBytes) (pf af uf : Bool) (r : RtcParts) → IsRtc r → IsDivider c → SameSetting c r
     → IsRtc (moved c t (flags_byte pf af uf) r)
 unfolding moved
@@ -94,7 +94,7 @@ IsRtc-moved c t pf af uf r valid clock same =
       divider = subst IsDivider (sym (divider_of-moved c t (flags_byte pf af uf) r enough same)) clock;
     }
 
--- the byte of register C behind n pulses
+-- the byte of register C after n pulses
 abbrev pub flags_in : RtcParts → ℕ → ℕ
 flags_in r n = flags_byte (pf_of r || ltb 0 (ticks_in (divider_of r) n)) (af_of r || ltb 0 (alarms_in r n)) (uf_of r || ltb 0 (updates_in (divider_of r) n))
 
@@ -183,7 +183,7 @@ pub rtc_pulsed_times-is : (n : ℕ) (r : RtcParts) → IsRtc r → rtc_pulsed_ti
 rtc_pulsed_times-is zero r valid = stretched-none r valid
 rtc_pulsed_times-is (suc n) r valid = ap rtc_pulsed (rtc_pulsed_times-is n r valid) ∙ stretched-suc n r valid (rtc_pulsed_times-is n r valid)
 
--- the clock's parts behind n pulses
+-- the clock's parts after n pulses
 pub divider_of-rtc_pulsed_times : (n : ℕ) (r : RtcParts) → IsRtc r → divider_of (rtc_pulsed_times n r) ≡ pulsed_times n (divider_of r)
 divider_of-rtc_pulsed_times n r valid =
     ap divider_of (rtc_pulsed_times-is n r valid)
@@ -211,7 +211,7 @@ register_c-rtc_pulsed_times : (n : ℕ) (r : RtcParts) → IsRtc r → register_
 register_c-rtc_pulsed_times n r valid =
     ap register_c (rtc_pulsed_times-is n r valid) ∙ register_c-moved (pulsed_times n (divider_of r)) _ _ r (omega (arith, valid.places))
 
--- a flag behind n pulses is the flag before, or a number of events above 0
+-- a flag after n pulses is the flag before, or a number of events above 0
 pub pf_of-rtc_pulsed_times : (n : ℕ) (r : RtcParts) → IsRtc r → pf_of (rtc_pulsed_times n r) ≡ (pf_of r || ltb 0 (ticks_in (divider_of r) n))
 pf_of-rtc_pulsed_times n r valid = ap (bit 6) (register_c-rtc_pulsed_times n r valid) ∙ bit-pf _ _ _
 
@@ -323,7 +323,7 @@ rtc_pulsed_times-no_event n r valid c divider no_tick no_update =
     ∙ moved-is n r valid c (time_of r) (register_c r) divider (ap (λ (u : ℕ). updated_times (form_of r) u (time_of r)) (sym no_update))
     (sym (flags_in-no_event n r valid no_tick no_update))
 
--- without an update the time stands still ..
+-- without an update the time stays ..
 pub time_of-no_update : (n : ℕ) (r : RtcParts) → IsRtc r → updates_in (divider_of r) n ≡ 0 → time_of (rtc_pulsed_times n r) ≡ time_of r
 time_of-no_update n r valid none = time_of-rtc_pulsed_times n r valid ∙ ap (λ (u : ℕ). updated_times (form_of r) u (time_of r)) none
 

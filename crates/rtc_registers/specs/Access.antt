@@ -12,7 +12,7 @@ use Rattle.rtc_registers.specs.Registers.{flags_byte, divider_of}
 abbrev pub index_written : ℕ → RtcParts → RtcParts
 index_written byte r = record r { index = byte % 0x80 }
 
--- the byte read at the index: UIP stands in A, IRQF in C; 0Eh to 7Fh are plain memory
+-- the byte read at the index: A has UIP, C has IRQF; 0Eh to 7Fh are plain memory
 -- ("RAM" to 3Fh; from 40h on own)
 unfoldable pub rtc_read : RtcParts → ℕ
 rtc_read r =

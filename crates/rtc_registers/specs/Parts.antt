@@ -27,14 +27,17 @@ pub record IsRtc (r : RtcParts) : Type 0 where
 abbrev pub index_valid : RtcParts → Bool
 index_valid r = nat_le r.index 0x7f
 
+-- register A without UIP, C without IRQF, D as the data sheet fixes it
 abbrev pub bytes_valid : RtcParts → Bool
 bytes_valid r =
     nat_le (register_a r) 0x7f
     && (register_c r == flags_byte (pf_of r) (af_of r) (uf_of r) && register_d r == 0x80)
 
+-- the divider's place: below a second's pulses, and fixed while it is held
 abbrev pub divider_valid : RtcParts → Bool
 divider_valid r = nat_lt r.d 32768 && ((divider_of r).dv == 2 || r.d == 16384)
 
+-- an update cycle is in progress only while the divider runs with SET 0, in its first pulses
 abbrev pub cycle_valid : RtcParts → Bool
 cycle_valid r = not r.cycle || ((divider_of r).dv == 2 && (not (set_of r) && nat_le r.d 64))
 

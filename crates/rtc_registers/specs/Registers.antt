@@ -8,16 +8,19 @@ use Rattle.rtc_calendar.specs.declared.Alarm.{Alarm}
 use Rattle.rtc_cycle.specs.declared.parts.DividerParts.{DividerParts}
 use Rattle.rtc_registers.specs.declared.parts.RtcParts.{RtcParts}
 
--- what stands in registers A, B, C and D
+-- register A, which keeps the divider's settings; its UIP is the cycle's
 abbrev pub register_a : RtcParts → ℕ
 register_a r = slice_index r.bytes 0x0a
 
+-- register B: SET, the interrupt enables, and the form of the time
 abbrev pub register_b : RtcParts → ℕ
 register_b r = slice_index r.bytes 0x0b
 
+-- register C, which keeps the flags; its IRQF follows from them
 abbrev pub register_c : RtcParts → ℕ
 register_c r = slice_index r.bytes 0x0c
 
+-- register D: VRT
 abbrev pub register_d : RtcParts → ℕ
 register_d r = slice_index r.bytes 0x0d
 
@@ -26,12 +29,15 @@ register_d r = slice_index r.bytes 0x0d
 abbrev pub set_of : RtcParts → Bool
 set_of r = bit 7 (register_b r)
 
+-- PIE: the periodic flag interrupts
 abbrev pub pie_of : RtcParts → Bool
 pie_of r = bit 6 (register_b r)
 
+-- AIE: the alarm flag interrupts
 abbrev pub aie_of : RtcParts → Bool
 aie_of r = bit 5 (register_b r)
 
+-- UIE: the update-ended flag interrupts
 abbrev pub uie_of : RtcParts → Bool
 uie_of r = bit 4 (register_b r)
 
@@ -39,9 +45,11 @@ uie_of r = bit 4 (register_b r)
 abbrev pub pf_of : RtcParts → Bool
 pf_of r = bit 6 (register_c r)
 
+-- AF: an alarm came
 abbrev pub af_of : RtcParts → Bool
 af_of r = bit 5 (register_c r)
 
+-- UF: an update ended
 abbrev pub uf_of : RtcParts → Bool
 uf_of r = bit 4 (register_c r)
 
@@ -79,9 +87,11 @@ time_in bytes = record {
   year = slice_index bytes 9;
 }
 
+-- the time bytes of a clock
 abbrev pub time_of : RtcParts → TimeBytes
 time_of r = time_in r.bytes
 
+-- the alarm bytes of a clock
 abbrev pub alarm_of : RtcParts → Alarm
 alarm_of r = record {
   sec = slice_index r.bytes 1;
@@ -93,6 +103,7 @@ alarm_of r = record {
 abbrev pub with_clock : TimeBytes → List ℕ → List ℕ
 with_clock t bytes = slice_set (slice_set (slice_set bytes 0 t.sec) 2 t.min) 4 t.hour
 
+-- the weekday, date, month and year are written
 abbrev pub with_date : TimeBytes → List ℕ → List ℕ
 with_date t bytes =
     slice_set (slice_set (slice_set (slice_set bytes 6 t.wday) 7 t.date) 8 t.month) 9 t.year

@@ -2,7 +2,7 @@
 
 use rtc_cycle::CycleEvents;
 
-/// The events of a stretch of pulses. A first event is told by its pulse, the stretch's pulses being counted
+/// The events of a stretch of pulses. A first event is given by its pulse, the stretch's pulses being counted
 /// from 1.
 #[derive(Clone, Copy, Debug, PartialEq, Eq)]
 pub struct RtcEvents {

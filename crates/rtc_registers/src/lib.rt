@@ -1,4 +1,4 @@
-//! The MC146818, the PC's real time clock: its 128 bytes behind an index port (70h) and a data port (71h).
+//! The MC146818, the PC's real time clock: its 128 bytes, reached by an index port (70h) and a data port (71h).
 //!
 //! The first fourteen bytes are the time, the alarm and registers A to D, by the Motorola MC146818 data sheet;
 //! the rest is plain memory. Time comes in as pulses of the crystal, 32,768 a second, and goes out as events

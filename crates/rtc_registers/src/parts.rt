@@ -52,7 +52,7 @@ pub fn bytes_valid(r: &RtcParts) -> bool
         && (registers::has_only_flags(r) && r.bytes[REGISTER_D as usize] == VALID)
 }
 
-/// Whether the divider stands where it may.
+/// Whether the divider is where it may be.
 pub fn divider_valid(r: &RtcParts) -> bool
     ensures { result ≡ divider_valid r.now }
 {

@@ -109,14 +109,14 @@ impl Rtc {
 
     /// Writes the data port, 71h. Registers C and D are read only, and so is UIP. A write of register B that
     /// turns SET from 0 to 1 clears UIE and aborts an update cycle (data sheet, "Register B"); written again
-    /// while it is 1, UIE stands as written. SQWE and DSE are stored and do nothing (own).
+    /// while it is 1, UIE is as written. SQWE and DSE are stored and do nothing (own).
     pub fn write(&mut self, byte: u8)
         ensures { self.new ≡ rtc_written byte self.old }
     {
         access::write(&mut self.parts, byte);
     }
 
-    /// Lets `n` pulses of the crystal pass, which set flags and change the time bytes, and tells their events.
+    /// Lets `n` pulses of the crystal pass, which set flags and change the time bytes, and returns their events.
     pub fn pulses(&mut self, n: u64) -> RtcEvents
         ensures state { self.new ≡ rtc_pulsed_times n self.old }
         ensures ticks { result.cycle.ticks ≡ ticks_in (divider_of self.old) n }
@@ -126,7 +126,7 @@ impl Rtc {
         ensures few_updates { result.cycle.updates ≤ n }
         ensures first_update { IsFirst (updates_in (divider_of self.old)) n result.cycle.first_update }
         ensures first_alarm { IsFirst (alarms_in self.old) n result.first_alarm }
-        // while SET is 1 the time stands still
+        // while SET is 1 the time stays
         ensures still { set_of self.old ≡ true → time_of self.new ≡ time_of self.old }
     {
         stretch::pass(&mut self.parts, n)

@@ -1,4 +1,4 @@
-//! Many pulses at once: the divider behind them, and what their events change.
+//! Many pulses at once: the divider after them, and what their events change.
 
 ghost use Rattle.std.specs.Prelude.{◌≡◌, ℕ, ◌+◌, ◌-◌, ◌*◌, ◌^◌, ◌<◌, ◌≤◌, ◌||◌, Some, nat_lt};
 ghost use Rattle.std.specs.Option.{is_some};

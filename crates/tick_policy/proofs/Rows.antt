@@ -121,7 +121,7 @@ end_with_a_point : line_end 104 112 None 0 (line Slew false 3 1 2 0) ≡ line Sl
 unfolding ticked_times
 end_with_a_point = refl
 
--- 104 is the first multiple of 8 behind 100
+-- 104 is the first multiple of 8 after 100
 next_multiple : IsFirstPoint 8 100 4
 next_multiple = record { later = omega arith; divides = refl; first = λ j low high. omega arith }
 

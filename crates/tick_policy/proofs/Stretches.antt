@@ -57,7 +57,7 @@ before_first slew t c n point h =
     let place : t + n + 1 ≡ t + suc n = omega arith in
     ne_eqb ((t + n + 1) % slew) 0 (λ e. point.first (suc n) (omega arith) h (ap (λ (s : ℕ). s % slew) (sym place) ∙ e))
 
--- before the first catch-up point, and behind it where a tick came first, the line has just had its ticks
+-- before the first catch-up point, and after it where a tick came first, the line has just had its ticks
 pub line_after-early : (ticks : ℕ → ℕ) (slew t c n : ℕ) (l : TickParts) → CountsUp ticks → IsFirstPoint slew t c → (n < c) ⊎ (0 < ticks c)
     → line_after ticks slew t n l ≡ ticked_times (ticks n) l
 line_after-early ticks slew t c zero l up point early =

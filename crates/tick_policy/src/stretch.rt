@@ -16,8 +16,8 @@ use crate::TickLine;
 /// where it was up before, and none where it stays down.
 ///
 /// Nobody acknowledges the line in the stretch. So it rises once at most, and later catch-up points
-/// find it up or with no tick that waits. Whether a tick comes before or behind the catch-up point
-/// of its nanosecond makes no difference behind that nanosecond.
+/// find it up or with no tick that waits. Whether a tick comes before or after the catch-up point
+/// of its nanosecond makes no difference after that nanosecond.
 pub fn run_line(
     line: &mut TickLine,
     from: u64,
@@ -40,7 +40,7 @@ pub fn run_line(
         IsStretch source slew from n point ticks first → (j : ℕ) → j ≤ n →
         (line_after source slew from j line.old).up ≡ is_up_at (from + j) result }
 
-    // and a tick behind it
+    // and a tick after it
     ensures each_nanosecond_points { (source : ℕ → ℕ) (slew n : ℕ) → to ≡ from + n →
         IsStretch source slew from n point ticks first →
         line.new ≡ line_after_points source slew from n line.old }

@@ -29,7 +29,7 @@ pub records_text-none : (k cpus : ℕ) (d : Draws) (rest : List ℕ) → k ≡ 0
 unfolding records_text
 records_text-none k cpus d rest e = rw e refl
 
--- bytes of a text stand in the first places, and more of them behind these
+-- bytes of a text are in the first places, and more of them after these
 pub moved_more : (text places into self new : List ℕ) (put n : ℕ) → put ≤ length text
     → into ≡ take put text ++ drop put places
     → self ≡ drop put text

@@ -2,7 +2,7 @@
 use Rattle.std.specs.Prelude.{ℕ, ◌+◌, ◌*◌, ◌/◌, ◌%◌, ◌^◌}
 use Rattle.trace_gen.specs.declared.draws.Draws.{Draws}
 
--- the number behind another: Knuth's generator for MMIX (The Art of Computer Programming, volume 2, section 3.3.4)
+-- the number after another: Knuth's generator for MMIX (The Art of Computer Programming, volume 2, section 3.3.4)
 unfoldable pub next_state : ℕ → ℕ
 next_state x = (x * 6364136223846793005 + 1442695040888963407) % 2 ^ 64
 
@@ -22,9 +22,10 @@ drawn d = record {
   made = d.made + 1;
 }
 
--- the record's kind, and the byte that it writes
+-- the kind of a number's record
 abbrev pub kind_of : ℕ → ℕ
 kind_of x = value_of x / 100000 % 16
 
+-- the byte that the record writes
 abbrev pub byte_of : ℕ → ℕ
 byte_of x = value_of x / 1600000 % 256

@@ -24,7 +24,7 @@ use Rattle.trace_gen.specs.declared.draws.Draws.{Draws}
 abbrev pub two_digits : ℕ → List ℕ
 two_digits b = digit_char (b / 16) ∷ digit_char (b % 16) ∷ []
 
--- the words of a record behind its counter, by its kind and its byte
+-- the words of a record after its counter, by its kind and its byte
 unfoldable pub act_text : ℕ → ℕ → List ℕ
 act_text kind b =
     if kind == 0 then codes "step"
@@ -50,7 +50,7 @@ record_text cpus d =
     decimal ((d.made - 1) % cpus)
     ++ 32 ∷ (decimal d.h ++ 32 ∷ (act_text (kind_of d.state) (byte_of d.state) ++ 10 ∷ []))
 
--- so many records behind those made
+-- so many records after those made
 unfoldable pub records_text : ℕ → ℕ → Draws → List ℕ
 records_text zero cpus d = []
 records_text (suc count) cpus d =

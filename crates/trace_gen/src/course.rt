@@ -24,7 +24,7 @@ pub(crate) enum Stage {
     Ended,
 }
 
-/// Where a generated trace stands.
+/// The place in a generated trace.
 #[derive(Clone, Copy, Debug, PartialEq, Eq)]
 pub(crate) struct Course {
     pub(crate) stage: Stage,
@@ -34,14 +34,14 @@ pub(crate) struct Course {
     pub(crate) enabled: u8,
     /// How many records are still to come.
     pub(crate) left: u64,
-    /// The sequence behind the records that were made.
+    /// The sequence after the records that were made.
     pub(crate) draws: Draws,
 }
 
 impl Course {
     ghost use Rattle.trace_gen.specs.private.Course.{text_behind, IsCourse};
 
-    /// Makes the next lines; behind the last one there are none.
+    /// Makes the next lines; after the last one there are none.
     pub(crate) fn advance(&mut self) -> Piece
         requires { IsCourse self.old }
         ensures text { text_behind self.old ≡ result ++ text_behind self.new }
@@ -59,7 +59,7 @@ impl Course {
         }
     }
 
-    /// Switches the next page on, or starts the HPET behind the last one.
+    /// Switches the next page on, or starts the HPET after the last one.
     fn enable_next(&mut self) -> Piece
         requires course { IsCourse self.old }
         requires stage { self.old.stage ≡ Stage.Enabling }
@@ -76,7 +76,7 @@ impl Course {
         enable(cpu)
     }
 
-    /// Makes the next record, or the last line behind the last one.
+    /// Makes the next record, or the last line after the last one.
     fn draw_next(&mut self) -> Piece
         requires course { IsCourse self.old }
         requires stage { self.old.stage ≡ Stage.Drawing }

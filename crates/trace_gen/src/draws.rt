@@ -14,7 +14,7 @@ const SPREAD: u64 = 100_000;
 /// How many kinds of records there are.
 const KINDS: u64 = 16;
 
-/// Where a sequence stands.
+/// The place in a sequence.
 #[derive(Clone, Copy, Debug, PartialEq, Eq)]
 pub(crate) struct Draws {
     /// Its last number; at first the key.
@@ -69,7 +69,7 @@ impl Draws {
     }
 }
 
-/// The number behind another.
+/// The number after another.
 #[tactic(auto, unfolding(crate::specs::Draws::next_state))]
 fn next_state(state: u64) -> u64
     ensures { result ≡ next_state state }

@@ -69,7 +69,7 @@ impl Generator {
         }
     }
 
-    /// Puts bytes of one line behind the first `put` places.
+    /// Puts bytes of one line after the first `put` places.
     fn give(&mut self, into: &mut [u8], put: usize) -> usize
         requires { put ≤ length into.old }
         ensures fits { put + result ≤ length into.old }

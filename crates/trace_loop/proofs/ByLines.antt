@@ -1,4 +1,4 @@
--- The progress behind an input is what its lines give one by one.
+-- The progress after an input is what its lines give one by one.
 use Rattle.std.proofs.Common.{
   ◌≡◌,
   ◌≢◌,
@@ -126,12 +126,12 @@ HasNoEnd-push [] b none other = (other, tt)
 HasNoEnd-push (c ∷ cs) b none other = (none.0, HasNoEnd-push cs b none.1 other)
 
 module _ (A E : Type 0) (answer : ℕ → A → List ℕ → Answer A E) (closing : ℕ → A → Closing E) (long_ends : EndsLong A E answer) where
-  -- lines behind the end of a trace change nothing
+  -- lines after the end of a trace change nothing
   lines-ended : (texts : List (List ℕ)) (s : Progress A E) (status : E) → s.end ≡ Some status → ran_lines answer closing texts s ≡ ran closing (Some status) s
   lines-ended [] s status e = ap (λ (o : Option E). ran closing o s) e
   lines-ended (text ∷ texts) s status e = ap (λ (o : Option E). ran_lines answer closing texts (line_told answer o text s)) e ∙ lines-ended texts s status e
 
-  -- what the input behind a progress prints
+  -- what the input after a progress prints
   abbrev Agrees : List ℕ → Progress A E → Type 0
   Agrees bs s = finished answer closing (behind answer bs s) ≡ ran_lines answer closing (lines_of (s.text ++ bs)) (record s { text = [] })
 

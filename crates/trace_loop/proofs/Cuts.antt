@@ -55,14 +55,14 @@ pub found_within : (rest : List ℕ) (end : Option ℕ) → IsFirstByte (is_byte
 found_within rest None first = omega arith
 found_within rest (Some j) first = let h = first.0.high in omega arith
 
--- what is left of a part behind n of its bytes
+-- what is left of a part after n of its bytes
 pub drop_part : (piece : List ℕ) (from to n : ℕ) → from + n ≤ to → drop n (take (to - from) (drop from piece)) ≡ take (to - (from + n)) (drop (from + n) piece)
 drop_part piece from to n within =
     let parts : n + (to - (from + n)) ≡ to - from = omega arith in
     ap (λ (m : ℕ). drop n (take m (drop from piece))) (sym parts) ∙ drop-take n (to - (from + n)) (drop from piece)
     ∙ ap (take (to - (from + n))) (drop-drop n from piece)
 
--- the part up to n bytes behind its front
+-- the part up to n bytes after its front
 pub take_part : (piece : List ℕ) (from to n : ℕ) → from + n ≤ to → take n (take (to - from) (drop from piece)) ≡ take n (drop from piece)
 take_part piece from to n within = grind (arith, common_steps)
 
@@ -74,7 +74,7 @@ found_at rest (Some j) n first is =
     let h = first.0.high in
     (omega arith, subst (λ (k : ℕ). slice_index rest k ≡ 10) same (eqb-true (slice_index rest j) 10 first.1))
 
--- bytes without an end, one part behind the other
+-- bytes without an end, one part after the other
 pub no_end_++ : (xs ys : List ℕ) → HasNoEnd xs → HasNoEnd ys → HasNoEnd (xs ++ ys)
 no_end_++ [] ys p q = q
 no_end_++ (x ∷ xs) ys p q = (p.0, no_end_++ xs ys p.1 q)

@@ -140,7 +140,7 @@ module _ (A E : Type 0) (answer : ℕ → A → List ℕ → Answer A E) (closin
       (said-source (statuses.By end) result ends.contents c out (Rose ends.sink_faults f) (end-source end) said) k.sink_faults
       (said-sink (statuses.By end) result ends.contents c out (Rose ends.sink_faults f) (end-sink end) said) kept
 
-  -- memory ran out behind the lines that were answered
+  -- memory ran out after the lines that were answered
   pub over_memory : (state : A) (feed : Feed) (ends : BothEnds) (last : List ℕ) (result : Ended E) (c : Option (List ℕ)) (f : ℕ)
       → IsGoing A E answer a start state feed ends → ((input : List ℕ) → start.remaining ≡ Some input → 0 < (ends.given - start.given))
       → last ≡ feed.out.items ++ memory_fault_text

@@ -79,7 +79,7 @@ pub on_err_from_is_err : {T E : Type 0} → (r : Result T E) (A : Type 0) → is
 on_err_from_is_err {T} {E} (Ok x) A failed h = cc
 on_err_from_is_err {T} {E} (Err e) A failed h = h
 
--- a text that was written whole, and another behind it
+-- a text that was written whole, and another after it
 pub said-behind : {E : Type 0} (status result : Ended E) (c0 c1 c2 : Option (List ℕ)) (first second : List ℕ) (f0 f1 f2 : ℕ) → f0 ≤ f1 → Appends c0 c1 first
     → Said status result c1 c2 second (Rose f1 f2) → Said status result c0 c2 (first ++ second) (Rose f0 f2)
 said-behind status result c0 c1 c2 first second f0 f1 f2 more before (inl said) = inl (said.0, Appends-trans c0 c1 c2 first second before said.1)
@@ -117,7 +117,7 @@ front : (xs ys : List ℕ) (n : ℕ) → length xs ≡ n → take n (xs ++ ys) �
 front xs ys n is = take-append-le n xs ys (omega arith) ∙ take_all n xs (omega arith)
 
 module _ (A E : Type 0) (answer : ℕ → A → List ℕ → Answer A E) (closing : ℕ → A → Closing E) (a : A) where
-  -- a line that was cut off is heard: it is answered
+  -- a line that was cut off is answered
   line_heard : (bytes : List ℕ) (line : ℕ) (state : A) (before : List ℕ) (old new : Cut) → behind answer bytes (opened a)
       ≡ standing line old.text state before → IsLine old new
       → (more : List ℕ) × (old.left ≡ more ++ new.left) ×
@@ -211,7 +211,7 @@ module _ (A E : Type 0) (answer : ℕ → A → List ℕ → Answer A E) (closin
         h.3,
       )
 
-  -- the bytes that were left stand in the line
+  -- the bytes that were left are part of the line
   pub stands_whole : (input rest put out : List ℕ) (given before line : ℕ) (state : A) (old new : Cut)
       → Stands A E answer a input old.left rest put out given before (standing line old.text state (put ++ out)) → IsWhole old new
       → Stands A E answer a input [] rest put out given before (standing line new.text state (put ++ out))
@@ -268,7 +268,7 @@ abbrev pub IsShown : {A E : Type 0} → Run A E → List ℕ → Type 0
 IsShown w text = IsText w text ⊎ (IsSourceFault w text ⊎ IsMemoryFault w text)
 
 module _ (A E : Type 0) (w : Run A E) where
-  -- a sink that failed has taken what was put before, and a beginning of the last text
+  -- a sink that failed has taken what was put before, and a prefix of the last text
   pub cut_off : (put last more text : List ℕ) (c0 c1 c2 : Option (List ℕ)) → Appends c0 c1 put → Begins (w.at w.before).printed put → IsShown w text → text
       ≡ put ++ (last ++ more)
       → (cut : List ℕ) × Begins cut last × Appends c1 c2 cut → Outcome w statuses.SinkFault c0 c2
@@ -320,7 +320,7 @@ module _ (A E : Type 0) (answer : ℕ → A → List ℕ → Answer A E) (closin
       (inl (sym (ap (λ (r : Closing E). r.text) is), well))
       (λ all. ended_out A E (run_of answer closing a input before given f f') end (put ++ last) c0 c2 is well all) said
 
-  -- memory ran out behind some lines
+  -- memory ran out after some lines
   pub out_memory : (result : Ended E) (put last text : List ℕ) (place : ℕ) (c0 c1 c2 : Option (List ℕ)) (fault : Type 0)
       → (behind answer (take place input) (opened a)).printed ≡ put ++ text → (behind answer (take place input) (opened a)).end ≡ None → place ≤ given → last
       ≡ text ++ memory_fault_text → f' ≡ f
@@ -357,7 +357,7 @@ module _ (A E : Type 0) (answer : ℕ → A → List ℕ → Answer A E) (closin
       cut_off A E (run_of answer closing a input before given f f') put last more
       (finished answer closing (behind answer input (opened a))).text c0 c1 c2 shown (held put place asked) (inl (refl, well)) is cut
 
--- the place where a run stands, as a number of bytes
+-- the place of a run, as a number of bytes
 pub stands_at : (A E : Type 0) (answer : ℕ → A → List ℕ → Answer A E) (closing : ℕ → A → Closing E) (a : A) (input left rest put out : List ℕ)
     (given before line : ℕ) (text : List ℕ) (state : A)
     → (s : Stands A E answer a input left rest put out given before (standing line text state (put ++ out)))
@@ -366,7 +366,7 @@ stands_at A E answer closing a input left rest put out given before line text st
     ap (λ (l : List ℕ). behind answer l (opened a))
     (ap (take (length s.bytes)) (s.whole ∙ append_assoc s.bytes left rest) ∙ front s.bytes (left ++ rest) (length s.bytes) refl) ∙ s.there
 
--- what is printed behind the bytes so far is at the front of what is printed for the whole
+-- what is printed after the bytes so far is at the front of what is printed for the whole
 pub stands_starts : (A E : Type 0) (answer : ℕ → A → List ℕ → Answer A E) (closing : ℕ → A → Closing E) (a : A) (input left rest put out : List ℕ)
     (given before line : ℕ) (text : List ℕ) (state : A)
     → Stands A E answer a input left rest put out given before (standing line text state (put ++ out))
@@ -408,7 +408,7 @@ line_shorter old new l = by_end l.end
     by_end (inl h) = omega (arith, ap length h.1, length-append l.bytes (10 ∷ new.left))
     by_end (inr h) = omega (arith, ap length h.1, length-append l.bytes new.left, excess_some old.text l.bytes new.line l.line l.short h.0)
 
--- all was put before the source is called: what is printed behind the bytes given
+-- all was put before the source is called: what is printed after the bytes given
 pub stands_asked : (A E : Type 0) (answer : ℕ → A → List ℕ → Answer A E) (closing : ℕ → A → Closing E) (a : A) (input rest put out : List ℕ)
     (given before asked line : ℕ) (text : List ℕ) (state : A)
     → Stands A E answer a input [] rest put out given before (standing line text state (put ++ out)) → asked ≡ given

@@ -92,7 +92,7 @@ limit_grows front more short = by_length (leb 6 (length front)) refl
     by_length true long = omega (arith, short, limit_fixed front more (leb-true 6 (length front) long))
     by_length false small = omega (arith, limit_least (front ++ more), leb-false 6 (length front) small)
 
--- the limit up to a place behind the beginning
+-- the limit up to a place after the start
 pub limit_part : (text rest : List ℕ) (m n : ℕ) → m ≤ n → m ≤ length rest → 6 ≤ length text + m → limit_of (text ++ take n rest)
     ≡ limit_of (text ++ take m rest)
 limit_part text rest m n more within long =
@@ -102,7 +102,7 @@ limit_part text rest m n more within long =
     ∙ limit_fixed (text ++ take m rest) (take (n - m) (drop m rest)) (omega (arith, length-append text (take m rest), len))
 
 module _ (A E : Type 0) (answer : ℕ → A → List ℕ → Answer A E) (closing : ℕ → A → Closing E) where
-  -- bytes, and bytes behind them
+  -- bytes, and bytes after them
   pub behind-++ : (xs ys : List ℕ) (s : Progress A E) → behind answer (xs ++ ys) s ≡ behind answer ys (behind answer xs s)
   behind-++ [] ys s = refl
   behind-++ (x ∷ xs) ys s = behind-++ xs ys (heard_until answer s.end x s)
@@ -209,7 +209,7 @@ module _ (A E : Type 0) (answer : ℕ → A → List ℕ → Answer A E) (closin
   pub finished-starts : (s : Progress A E) → Starts s.printed (finished answer closing s).text
   finished-starts s = finished-starts-by s.end s
 
-  -- what is printed behind some bytes is at the front of what is printed for the whole
+  -- what is printed after some bytes is at the front of what is printed for the whole
   pub replay-starts : (xs ys : List ℕ) (s : Progress A E) → Starts (behind answer xs s).printed (finished answer closing (behind answer (xs ++ ys) s)).text
   replay-starts xs ys s =
       let t : Progress A E = behind answer xs s in
@@ -217,14 +217,14 @@ module _ (A E : Type 0) (answer : ℕ → A → List ℕ → Answer A E) (closin
       (starts-trans t.printed (behind answer ys t).printed (finished answer closing (behind answer ys t)).text (behind-starts ys t)
       (finished-starts (behind answer ys t)))
 
-  -- a trace that ended behind some bytes has ended so
+  -- a trace that ended after some bytes has ended so
   pub replay-ended : (xs ys : List ℕ) (s : Progress A E) (status : E) → (behind answer xs s).end ≡ Some status
       → finished answer closing (behind answer (xs ++ ys) s) ≡ record { text = (behind answer xs s).printed; end = status }
   replay-ended xs ys s status e =
       let t : Progress A E = behind answer xs s in
       ap (finished answer closing) (behind-++ xs ys s ∙ behind-ended ys t status e) ∙ ap (λ (o : Option E). finished_by answer closing o t) e
 
-  -- what is printed at the end of an input, behind what was printed before
+  -- what is printed at the end of an input, after what was printed before
   ran-behind : (p : List ℕ) (o : Option E) (s : Progress A E) → ran closing o (record s { printed = p ++ s.printed })
       ≡ record { text = p ++ (ran closing o s).text; end = (ran closing o s).end }
   ran-behind p None s = ap (λ (l : List ℕ). record { text = l; end = (closing s.line s.state).end }) (append_assoc p s.printed (closing s.line s.state).text)

@@ -1,4 +1,4 @@
--- Small rows that pin the definitions: a toy that prints each line behind a colon, and ends at the line `end`.
+-- Small rows that pin the definitions: a toy that prints each line after a colon, and ends at the line `end`.
 use Rattle.std.proofs.Common.{◌≡◌, ℕ, List, [], ◌∷◌, ◌++◌, cond, codes, Some, None, refl, replicate}
 use Rattle.std.specs.Str.{bytes_eq}
 use Rattle.trace_loop.specs.ByLines.{lines_of}
@@ -25,7 +25,7 @@ state_alone_has_not : limit_of (codes "state") ≡ 128
 unfolding limit_of
 state_alone_has_not = refl
 
--- the toy: it counts the lines, and its end tells how many there were
+-- the toy: it counts the lines, and its end says how many there were
 abbrev toy : ℕ → ℕ → List ℕ → Answer ℕ ℕ
 toy line count text =
     cond (bytes_eq text (codes "end")) (Ends (record { text = codes "!"; end = line })) (Goes (codes ":" ++ text) line)

@@ -49,7 +49,7 @@ take_piece text i n within =
     let fits : length (drop i text) ≤ length text - i = omega (arith, length-drop i text) in
     ap (λ (l : List ℕ). take i text ++ take n l) (take_all (length text - i) (drop i text) fits) ∙ sym (take-add i n text)
 
--- a beginning of one of several texts, behind those before it
+-- a prefix of one of several texts, after those before it
 pub begins_each : {X : Type 0} (f : X → List ℕ) (xs : List X) (i : ℕ) (d : X) (cut text : List ℕ) → i < length xs → text ≡ f (get_or xs i d) → Begins cut text
     → Begins (flat_map f (take i xs) ++ cut) (flat_map f xs)
 begins_each f [] i d cut text l is front = absurd (omega arith)

@@ -31,7 +31,7 @@ pub record IsLine (old new : Cut) : Type 0 where
   pub end : ((length new.line ≤ limit_of new.line) × (old.left ≡ bytes ++ 10 ∷ new.left))
       ⊎ ((length new.line ≡ limit_of new.line + 1) × (old.left ≡ bytes ++ new.left))
 
--- no line ends in the bytes: they all stand in the next one
+-- no line ends in the bytes: they are all part of the next one
 pub record IsWhole (old new : Cut) : Type 0 where
   pub in_line : HasNoEnd old.left
   pub text : new.text ≡ old.text ++ old.left

@@ -5,7 +5,7 @@ use Rattle.trace_loop.specs.Cut.{HasNoEnd}
 use Rattle.trace_loop.specs.declared.lines.Found.{Found}
 use Rattle.trace_loop.specs.declared.lines.Found.TheVariants.{End, Excess, Nothing}
 
--- behind what came of the line, in the bytes that are left: at its end, or at one byte too many, or
+-- where the present line stops in the bytes that are left: at its end, at one byte too many, or
 -- not yet
 abbrev pub IsFound : List ℕ → List ℕ → Found → Type 0
 IsFound text left (End n) =

@@ -11,9 +11,9 @@ use Rattle.trace_loop.specs.declared.ended.Ended.TheVariants.{By, SourceFault, S
 abbrev pub Begins : List ℕ → List ℕ → Type 0
 Begins front text = (more : List ℕ) × (text ≡ front ++ more)
 
--- a run over an input: the progress behind its first bytes, by their number; what is printed for
+-- a run over an input: the progress after its first bytes, by their number; what is printed for
 -- the whole of it; how many bytes were given before the source was called last, and in all; the
--- source's faults before the run and behind it
+-- source's faults before the run and after it
 pub record Run (A E : Type 0) : Type 0 where
   pub at : ℕ → Progress A E
   pub whole : Closing E
@@ -38,7 +38,7 @@ run_of answer closing a input before given faults faults_now = record {
 abbrev pub IsText : {A E : Type 0} → Run A E → List ℕ → Type 0
 IsText w text = (text ≡ w.whole.text) × (w.faults_now ≡ w.faults)
 
--- the source failed: the blocks of all that was given, behind which the trace has not ended, and
+-- the source failed: the blocks of all that was given, after which the trace has not ended, and
 -- the word of the fault
 abbrev pub IsSourceFault : {A E : Type 0} → Run A E → List ℕ → Type 0
 IsSourceFault w text =
@@ -54,7 +54,7 @@ IsMemoryFault w text =
     × ((w.at k).end ≡ None)
     × (w.faults_now ≡ w.faults)
 
--- the sink failed: it has all blocks of what was given before the last call, and a beginning of
+-- the sink failed: it has all blocks of what was given before the last call, and a prefix of
 -- what was to come
 abbrev pub IsCutOff : {A E : Type 0} → Run A E → List ℕ → Type 0
 IsCutOff w cut =

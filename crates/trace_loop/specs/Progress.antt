@@ -1,4 +1,4 @@
--- What is known, and what was printed, behind some bytes of a trace, whatever answers its lines: A
+-- What is known, and what was printed, after some bytes of a trace, whatever answers its lines: A
 -- is what is kept from line to line, and E how a trace may end.
 use Rattle.std.specs.Str.{bytes_eq}
 use Rattle.std.specs.Prelude.{
@@ -34,7 +34,7 @@ pub data Answer (A E : Type 0) : Type 0 where
   Goes : List ℕ → A → Answer A E
   Ends : Closing E → Answer A E
 
--- behind some bytes: the number of the present line and what came of it, the state that will answer
+-- after some bytes: the number of the present line and what came of it, the state that will answer
 -- it, all that was printed, and how the trace ended, if it did
 pub record Progress (A E : Type 0) : Type 0 where
   pub line : ℕ
@@ -68,7 +68,7 @@ abbrev pub end_of : {A E : Type 0} → Answer A E → Option E
 end_of (Goes text a) = None
 end_of (Ends r) = Some r.end
 
--- the state behind it
+-- the state after it
 abbrev pub state_behind : {A E : Type 0} → Answer A E → A → A
 state_behind (Goes text a) old = a
 state_behind (Ends r) old = old
@@ -81,7 +81,7 @@ answered answer s = told (answer s.line s.state s.text) s
 abbrev pub checked : {A E : Type 0} → (ℕ → A → List ℕ → Answer A E) → Progress A E → Progress A E
 checked answer s = if nat_lt (limit_of s.text) (length s.text) then answered answer s else s
 
--- a byte comes: the end of the line has it answered, and any other byte stands in it
+-- a byte comes: the end of the line has it answered, and any other byte is part of it
 abbrev pub heard : {A E : Type 0} → (ℕ → A → List ℕ → Answer A E) → ℕ → Progress A E
     → Progress A E
 heard answer b s =
@@ -99,7 +99,7 @@ abbrev pub behind : {A E : Type 0} → (ℕ → A → List ℕ → Answer A E) �
 behind answer [] s = s
 behind answer (b ∷ bs) s = behind answer bs (heard_until answer s.end b s)
 
--- what stands in the last line is answered, though its end is missing
+-- the last line is answered, though its end is missing
 abbrev pub closed : {A E : Type 0} → (ℕ → A → List ℕ → Answer A E) → List ℕ → Progress A E
     → Progress A E
 closed answer [] s = s
@@ -119,6 +119,7 @@ abbrev pub finished_by : {A E : Type 0} → (ℕ → A → List ℕ → Answer A
 finished_by answer closing None s = let t = closed answer s.text s in ran closing t.end t
 finished_by answer closing (Some end) s = ran closing (Some end) s
 
+-- what is printed for the whole input, and how the run ends
 abbrev pub finished : {A E : Type 0} → (ℕ → A → List ℕ → Answer A E) → (ℕ → A → Closing E)
     → Progress A E → Closing E
 finished answer closing s = finished_by answer closing s.end s

@@ -16,7 +16,7 @@ pub trait Answerer<E: Drop> {
     // It may answer the line of this number.
     ghost may: { ℕ → Self → Type 0 };
 
-    /// Answers a line: appends its block, and puts into `end`, in which none stands, how it ends the trace, if it does.
+    /// Answers a line: appends its block, and puts into `end`, which is empty, how it ends the trace, if it does.
     /// An answer that goes on moves no end. A line that is too long comes with one byte more than it may have. After an
     /// `Err` the text begins as it was.
     fn answer(

@@ -1,7 +1,7 @@
 //! Reads the lines of a trace from a source, has each answered, and puts what they print into a sink.
 //!
 //! The source is taken piece by piece. Each line whose end was given is answered, and its block is put, before more is
-//! taken; nothing is taken behind the line that ended the trace. What was read and written when a run ends is told by
+//! taken; nothing is taken after the line that ended the trace. What was read and written when a run ends is said by
 //! the clauses of `answer_lines`, as functions of the bytes that were given.
 #![tactic(auto)]
 

@@ -38,7 +38,7 @@ use memchr::memchr;
 use std::alloc::Global;
 use std::marker::Model;
 
-/// The beginning of a line that may have more bytes than others.
+/// The prefix of a line that may have more bytes than others.
 const STATE: &[u8] = b"state ";
 
 /// How many bytes are taken from the source at a time.
@@ -47,7 +47,7 @@ const PIECE: usize = 4096;
 /// Where the present line stops in the bytes that are left.
 #[derive(Clone, Copy, Debug, PartialEq, Eq)]
 pub(crate) enum Found {
-    /// It ends behind that many bytes.
+    /// It ends after that many bytes.
     End(usize),
     /// So many bytes make it one byte too long.
     Excess(usize),
@@ -126,7 +126,7 @@ impl Lines {
         }
     }
 
-    /// What came so far of the line behind it.
+    /// What came so far of the line after it.
     pub(crate) fn text(&self) -> &[u8]
         ensures { result.now ≡ self.now.text }
     {
@@ -195,7 +195,7 @@ impl Lines {
         }
     }
 
-    /// Hands out a line that stands in the piece.
+    /// Hands out a line that is in the piece.
     #[inline(always)]
     fn hand_out_slice(&mut self, n: usize)
         requires room { self.old.number < 2 ^ 63 }

@@ -1,4 +1,4 @@
-//! Texts that are put into a sink, or behind one another.
+//! Texts that are put into a sink, or after one another.
 ghost use Rattle.std.specs.Prelude.{◌≡◌, ◌≢◌, ℕ, ◌<◌, ◌≤◌, List, ◌++◌, length, OnOk, OnErr};
 ghost use Rattle.std.specs.List.{flat_map};
 ghost use Rattle.std.specs.Vec.{vec_items};
@@ -39,7 +39,7 @@ pub fn say<R: Drop, K: Sink>(sink: &mut K, text: &[u8], end: R, fault: R) -> R
     }
 }
 
-/// Puts whole texts one behind another. After an `Err` the sink has taken a beginning of them all.
+/// Puts whole texts one after another. After an `Err` the sink has taken a prefix of them all.
 fn put_each<K: Sink>(sink: &mut K, texts: &[Vec<u8>]) -> Result<(), Failed>
     ensures all { OnOk result (Appends (K.contents sink.old) (K.contents sink.new)
         (flat_map vec_items texts.now)) }
@@ -55,7 +55,7 @@ fn put_each<K: Sink>(sink: &mut K, texts: &[Vec<u8>]) -> Result<(), Failed>
     Ok(())
 }
 
-/// Puts whole texts into a sink, one behind another, and answers `end`, or `fault` where the sink failed.
+/// Puts whole texts into a sink, one after another, and answers `end`, or `fault` where the sink failed.
 pub fn say_each<R: Drop, K: Sink>(sink: &mut K, texts: &[Vec<u8>], end: R, fault: R) -> R
     ensures said { SaidOr fault end result (K.contents sink.old) (K.contents sink.new)
         (flat_map vec_items texts.now) (Rose (K.faults sink.old) (K.faults sink.new)) }

@@ -1,7 +1,7 @@
 //! A guest's time stamp counter (TSC), out of the host's counter.
 //!
-//! The guest's TSC is the host's counter times a ratio, which is a fixed-point number of 48 bits behind the
-//! point, plus an offset: the form that VMX gives it ("TSC multiplier" and "TSC offset" of Intel's Software
+//! The guest's TSC is the host's counter times a ratio, which is a fixed-point number of 48 bits after the
+//! binary point, plus an offset: the form that VMX gives it ("TSC multiplier" and "TSC offset" of Intel's Software
 //! Developer's Manual, volume 3; Linux's document on KVM timekeeping, "TSC virtualization - VMX"). A guest
 //! sets its TSC by one of two registers, MSR 10h, the TSC itself, and MSR 3Bh, TSC_ADJUST. A write to
 //! either moves the other by the same amount (the manual's "Time-Stamp Counter Adjustment").
@@ -24,10 +24,10 @@ ghost use Rattle.tsc_scale.specs.Offset.{tsc_by};
 #[cfg(test)]
 mod tests;
 
-/// How many bits of a ratio stand behind the point.
+/// How many bits a ratio has after its binary point.
 const FRACTION_BITS: u32 = 48;
 
-/// The ratio of a guest's rate to its host's, rounded down, with 48 bits behind the point. Each rate is
+/// The ratio of a guest's rate to its host's, rounded down, with 48 bits after the binary point. Each rate is
 /// `clk_units::KHZ_MIN` to `clk_units::KHZ_MAX`, in kHz.
 // A host that counts nanoseconds has guests of whole GHz, whose ratio asks for no division of 128 bits.
 #[tactic(auto, using(crate::proofs::Ratios::ratio_whole))]

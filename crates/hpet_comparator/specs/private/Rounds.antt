@@ -9,7 +9,7 @@ pub record IsDue (c : ℕ) (t : TimerParts) (d : ℕ) : Type 0 where
   pub within : d ≤ modulus t
   pub reaches : (c + d) % modulus t ≡ t.comparator
 
--- the timer behind q matches
+-- the timer after q matches
 abbrev pub advanced : ℕ → TimerParts → TimerParts
 advanced q t = record t {
   comparator =

@@ -4,11 +4,11 @@ use Rattle.std.proofs.Common.{ap, ◌∙◌}
 use Rattle.irq_edges.specs.declared.edges.Edge.{Edge}
 use Rattle.irq_edges.specs.declared.bursts.Burst.{Burst}
 
--- what a place holds in which no edge stands
+-- what a place without an edge holds
 abbrev pub no_edge : Edge
 no_edge = record { at = 0; line = 0; up = false }
 
--- what a place holds in which no burst stands
+-- what a place without a burst holds
 abbrev pub no_burst : Burst
 no_burst = record { timer = 0; first = 0; count = 0; every = 0; address = 0; «data» = 0 }
 

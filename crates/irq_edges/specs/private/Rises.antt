@@ -21,7 +21,7 @@ abbrev pub down_at : ℕ → List (Option ℕ) → ℕ
 down_at t [] = 0
 down_at t (u ∷ us) = if is_up_at t u then down_at t us else suc (down_at t us)
 
--- the earlier of a first rise and that of one line more, where that falls behind `at`, up to `to`
+-- the earlier of a first rise and that of one line more, where that falls after `at`, up to `to`
 abbrev pub earlier_rise : ℕ → ℕ → Option ℕ → Option ℕ → Option ℕ
 earlier_rise at to next None = next
 earlier_rise at to next (Some r) =

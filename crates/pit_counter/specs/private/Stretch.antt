@@ -1,4 +1,4 @@
--- Words of the closed form of many pulses alone. What a pulse does is told in Table.
+-- Words of the closed form of many pulses alone. Table defines what a pulse does.
 use Rattle.std.specs.Prelude.{
   ℕ,
   ◌+◌,
@@ -86,11 +86,11 @@ is_reloaded c =
     && c.ce == loaded_count c.bits c.cr
     && (if is_odd_square c.bits c.cr then c.odd else not c.odd)
 
--- mode 2 counts with GATE high, on to the load behind a count of 1
+-- mode 2 counts with GATE high, on to the load after a count of 1
 unfoldable pub is_dividing : CounterParts → Bool
 is_dividing c = is_rate (mode_of c.bits) && c.gate && c.live && not c.trig && not (c.ce == 1)
 
--- the first of both, where the second begins behind the first m
+-- the first of both, where the second begins after the first m
 abbrev pub joined_first : Option ℕ → ℕ → Option ℕ → Option ℕ
 joined_first (Some k) m later = Some k
 joined_first None m (Some j) = Some (m + j)

@@ -15,7 +15,7 @@ first_recurs next n = if nat_lt n next then None else Some next
 abbrev pub pulses_to_end : DividerParts → ℕ
 pulses_to_end p = if p.cycle then 65 - p.d else 32833 - p.d
 
--- the fields behind n pulses
+-- the fields after n pulses
 abbrev pub stretched : ℕ → DividerParts → DividerParts
 stretched n p = record p {
   d = if p.dv == 2 then (p.d + n) % 32768 else p.d;

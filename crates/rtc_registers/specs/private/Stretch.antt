@@ -11,7 +11,7 @@ second_apart None matched = None
 second_apart (Some f) None = None
 second_apart (Some f) (Some k) = Some (f + (k - 1) * RTC_HZ)
 
--- register C behind these events: a flag is up where it was, or where an event came
+-- register C after these events: a flag is up where it was, or where an event came
 abbrev pub flags_behind : CycleEvents → Bool → RtcParts → ℕ
 flags_behind events alarm r =
     flags_byte

@@ -1,4 +1,4 @@
--- What is still to come of a trace, behind the lines that were made.
+-- What is still to come of a trace, after the lines that were made.
 use Rattle.std.specs.Prelude.{ℕ, ◌+◌, ◌-◌, ◌*◌, ◌<◌, ◌≤◌, List, [], ◌++◌}
 use Rattle.trace_gen.specs.Text.{records_text, enables_text, header_text, start_text, end_text}
 use Rattle.trace_gen.specs.declared.course.Course.{Course}
@@ -9,7 +9,7 @@ use Rattle.trace_gen.specs.declared.course.Stage.TheVariants.{Header, Enabling, 
 abbrev pub drawing : Course → List ℕ
 drawing c = records_text c.left c.cpus c.draws ++ end_text
 
--- the pages that are still to be switched on, and what stands behind them
+-- the pages that are still to be switched on, and what follows them
 abbrev pub enabling : Course → List ℕ
 enabling c = enables_text (c.cpus - c.enabled) c.enabled ++ (start_text ++ drawing c)
 

@@ -1,4 +1,4 @@
--- Where a run over lines stands that was begun with these ends and goes on.
+-- The place of a run over lines that began with these ends and goes on.
 use Rattle.std.specs.Prelude.{
   ◌≡◌,
   ◌≢◌,
@@ -26,7 +26,7 @@ use Rattle.trace_loop.specs.declared.ended.Ended.{Ended}
 use Rattle.trace_loop.specs.declared.ended.Ended.TheVariants.{SourceFault, SinkFault}
 use Rattle.trace_loop.specs.declared.feed.Feed.{Feed}
 
--- what a source and a sink tell of themselves
+-- what is known of a source and a sink
 pub record BothEnds : Type 0 where
   pub remaining : Option (List ℕ)
   pub given : ℕ
@@ -37,7 +37,7 @@ pub record BothEnds : Type 0 where
   pub contents : Option (List ℕ)
   pub sink_faults : ℕ
 
--- what was put before the source was called last is what was printed behind the bytes that it had
+-- what was put before the source was called last is what was printed after the bytes that it had
 -- given
 pub record IsAsked (A E : Type 0) (answer : ℕ → A → List ℕ → Answer A E) (a : A)
     (input put : List ℕ) (before place : ℕ) : Type 0 where
@@ -45,8 +45,8 @@ pub record IsAsked (A E : Type 0) (answer : ℕ → A → List ℕ → Answer A 
   pub printed_ : (behind answer (take before input) (opened a)).printed ≡ put
   pub going : (behind answer (take before input) (opened a)).end ≡ None
 
--- where a run stands in an input: `bytes` are answered or stand in the present line, `left` was
--- given and is to be heard, and `rest` is to be given; `put` was put, and `out` is to be
+-- the place of a run in an input: `bytes` are answered or are part of the present line, `left` was
+-- given and is to be read, and `rest` is to be given; `put` was put, and `out` is to be
 pub record Stands (A E : Type 0) (answer : ℕ → A → List ℕ → Answer A E) (a : A)
     (input left rest put out : List ℕ) (given before : ℕ) (s : Progress A E) : Type 0 where
   pub bytes : List ℕ
@@ -55,7 +55,7 @@ pub record Stands (A E : Type 0) (answer : ℕ → A → List ℕ → Answer A E
   pub there : behind answer bytes (opened a) ≡ s
   pub asked : 0 < given + length out → IsAsked A E answer a input put before (length bytes)
 
--- a run that began in state `a` with the ends `start` goes on, and stands here now
+-- a run that began in state `a` with the ends `start` goes on, and is here now
 pub record IsGoing (A E : Type 0) (answer : ℕ → A → List ℕ → Answer A E) (a : A) (start : BothEnds)
     (state : A) (feed : Feed) (now : BothEnds) : Type 0 where
   pub told : (input : List ℕ) → start.remaining ≡ Some input
@@ -85,7 +85,7 @@ pub record IsOver (A E : Type 0) (answer : ℕ → A → List ℕ → Answer A E
   pub sink_fault : ended ≡ SinkFault → Rose start.sink_faults now.sink_faults
   pub sink_well : ended ≢ SinkFault → now.sink_faults ≡ start.sink_faults
 
--- what both ends tell, by what their traits have of them
+-- what is known of both ends, by what their traits have of them
 abbrev pub ends_of : {S K : Type 0} → (S → Option (List ℕ)) → (S → ℕ) → (S → ℕ) → (S → ℕ)
     → (S → Bool) → (S → Bool) → (K → Option (List ℕ)) → (K → ℕ) → S → K → BothEnds
 ends_of remaining given before faults done late contents sink_faults source sink = record {

@@ -1,4 +1,4 @@
--- Each field reads as it was written, and the time as it is told.
+-- Each field reads as it was written, and the time as it is answered.
 use Rattle.std.proofs.Common.{rules, ℕ, List, sym, subst, arith}
 use Rattle.hv_page.specs.Guest.{IsGuestPage}
 use Rattle.hv_page.proofs.Guests.{IsGuestPage-guest_bytes, guest_time-told}

@@ -17,7 +17,7 @@ use Rattle.pit_counter.proofs.stretch.take_loud_pulses.Goals as goal
 pub rate_periods-periods-requires-clause-below : goal.rate_periods-periods-requires-clause-below
 rate_periods-periods-requires-clause-below c = IsCounter-ce c.args.p.now c.requires
 
--- the counter behind the periods
+-- the counter after the periods
 keeps : (c d : CounterParts) (m : ℕ) → IsCounter c → d ≡ pulsed_times m c → IsCounter d
 keeps c d m h e = subst (λ (x : CounterParts). IsCounter x) (sym e) (IsCounter-pulsed_times c m h)
 

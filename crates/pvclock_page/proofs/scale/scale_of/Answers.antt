@@ -17,7 +17,7 @@ overflow_cast-result-2 c =
     let full = filled _ bounds.0 bounds.1 in
     rw c.from.ensures (omega (arith, full.3))
 
--- the shift that stands behind so many bits
+-- the shift for so many bits
 shift_place : (n : ℕ) → n ≤ 7 → to_z w8 (of_z w8 (to_z w8 n -ℤ pos 3)) +ℤ pos 3 ≡ pos n
 shift_place n few = omega (arith, ints)
 

@@ -1,4 +1,4 @@
--- A shift to the left, behind the product.
+-- A shift to the left, after the product.
 use Rattle.std.proofs.Common.{ℕ, ◌%◌, ◌^◌, ◌≤◌, ap, ◌∙◌, arith}
 use Rattle.std.proofs.Math.Pow.{mod-mod-pow}
 use Rattle.pvclock_page.proofs.Shifts.{left_short, left_long}

@@ -2,7 +2,7 @@ use Rattle.std.proofs.Common.{◌≤◌, ◌+◌, ◌-◌, ◌*◌, length}
 use Rattle.trace_loop.specs.private.Going.{IsFed, IsGoing, ends_of}
 use Rattle.trace_loop.proofs.program.answer_fed.Given as goal
 
--- the progress is the one behind what was cut off or kept, and `out` is what it printed since the last put
+-- the progress is the one after what was cut off or kept, and `out` is what it printed since the last put
 abbrev pub invariant-lines : goal.invariant-lines
 invariant-lines g l =
     let ends = ends_of g.S.Source.remaining g.S.Source.given g.S.Source.before g.S.Source.faults g.S.Source.done g.S.Source.late

@@ -1,7 +1,7 @@
 use Rattle.std.proofs.Common.{◌≡◌, ◌-◌, ◌≤◌, ◌++◌, length, take, drop}
 use Rattle.trace_gen.proofs.generator.Generator.fill.Given as goal
 
--- the first bytes stand in the first places
+-- the first bytes are in the first places
 abbrev pub invariant-loop-put : goal.invariant-loop-put
 invariant-loop-put l = record {
   within : l.put ≤ length l.fn.into;
