@@ -5,9 +5,10 @@ use Rattle.std.specs.Fmt.{digits}
 use Rattle.board_types.specs.declared.reply.Value.TheVariants.{Nothing, Byte, Word, Counts, Wall, Next}
 use Rattle.pvclock_page.specs.declared.page.PageReply.TheVariants.{Off as PageOff, On as PageOn}
 use Rattle.pvclock_page.specs.declared.page.ClockReply.TheVariants.{Off as ClockOff, On as ClockOn}
+use Rattle.hv_page.specs.declared.page.HvReply.TheVariants.{Off as HvOff, On as HvOn}
 use Rattle.reply_text.specs.Words.{hex_text, hexes}
 use Rattle.reply_text.specs.Soak.{soak_text}
-use Rattle.reply_text.specs.Text.{edge_text, board_text, value_text, page_text, clock_text, save_text, move_text, final_text, state_text, refused_text}
+use Rattle.reply_text.specs.Text.{edge_text, msg_text, board_text, value_text, page_text, clock_text, hv_text, save_text, move_text, final_text, state_text, refused_text}
 use Rattle.reply_text.specs.declared.ends.Refused.TheVariants.{Form, Steal, Cpu, Fell, State, Long, Many, NoEnd, Range, Versions, Spent}
 
 -- edges: the time comes first, then the line's number
@@ -22,6 +23,15 @@ a_fall = refl
 a_rise_that_is_delivered : edge_text (record { at = 4191; line = 0; up = true }) (Some (record { cpu = 1; vector = 0xef })) ≡ codes "edge 4191 0 up 1 ef\n"
 unfolding edge_text hex_text digits
 a_rise_that_is_delivered = refl
+
+-- messages: the first one's time, the timer, and who gets them; then how many and how far apart
+messages_of_a_timer : msg_text (record {
+  burst = record { timer = 2; first = 1000; count = 3; every = 500; address = 0xfee01000; «data» = 0x41 };
+  to = record { cpu = 1; vector = 0xef };
+})
+    ≡ codes "msg 1000 2 1 ef 3 500\n"
+unfolding msg_text hex_text digits
+messages_of_a_timer = refl
 
 -- replies, by their values
 no_value : board_text 3 (record { number = 1; value = Nothing; edges = []; bursts = [] }) ≡ codes "3 1\n"
@@ -100,6 +110,16 @@ a_clock = refl
 a_clock_that_is_off : clock_text 9 ClockOff ≡ codes "9 clock off\n"
 unfolding clock_text digits
 a_clock_that_is_off = refl
+
+-- the reference page: a guest sees the half of its version
+a_reference_page : hv_text 6 (HvOn (record { version = 4; scale = 92233720368547758; offset = 18446744073709551615; tsc_offset = 5 }) 210)
+    ≡ codes "6 hv 2 92233720368547758 18446744073709551615 210\n"
+unfolding hv_text digits
+a_reference_page = refl
+
+a_reference_page_that_is_off : hv_text 3 HvOff ≡ codes "3 hv off\n"
+unfolding hv_text digits
+a_reference_page_that_is_off = refl
 
 -- states and moves
 a_saved_state : save_text 3 1 (0x43 ∷ 0x4c ∷ 0x0b ∷ []) ≡ codes "3 1 state 434c0b\n"

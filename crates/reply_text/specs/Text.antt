@@ -28,6 +28,10 @@ use Rattle.board_types.specs.declared.reply.Value.TheVariants.{
   Next,
 }
 use Rattle.edge_hooks.specs.declared.deliveries.Delivery.{Delivery}
+use Rattle.edge_hooks.specs.declared.sent.Sent.{Sent}
+use Rattle.hv_page.specs.Page.{tsc_sequence}
+use Rattle.hv_page.specs.declared.page.HvReply.{HvReply}
+use Rattle.hv_page.specs.declared.page.HvReply.TheVariants.{Off as HvOff, On as HvOn}
 use Rattle.irq_edges.specs.Lines.{line_numbers}
 use Rattle.irq_edges.specs.declared.edges.Edge.{Edge}
 use Rattle.irq_edges.specs.declared.lines.Lines.{Lines}
@@ -64,6 +68,13 @@ edge_text e (Some to) =
     line_of (codes "edge")
     (decimal e.at ∷ decimal e.line ∷ direction e.up ∷ decimal to.cpu ∷ hex_text 2 to.vector ∷ [])
 
+-- `msg FIRST TIMER CPU VV COUNT EVERY`: the messages of a timer, and who gets each of them
+unfoldable pub msg_text : Sent → List ℕ
+msg_text sent =
+    line_of (codes "msg")
+    (decimal sent.burst.first ∷ decimal sent.burst.timer ∷ decimal sent.to.cpu
+    ∷ hex_text 2 sent.to.vector ∷ decimal sent.burst.count ∷ decimal sent.burst.every ∷ [])
+
 -- the value of a reply: two digits a byte, at most the 16 of 64 bits (own); or decimal numbers
 abbrev pub value_words : Value → List (List ℕ)
 value_words Nothing = []
@@ -96,6 +107,14 @@ unfoldable pub clock_text : ℕ → ClockReply → List ℕ
 clock_text line ClockOff = line_of (decimal line) (codes "clock" ∷ codes "off" ∷ [])
 clock_text line (ClockOn reading clock) =
     line_of (decimal line) (codes "clock" ∷ decimal reading ∷ decimal clock ∷ [])
+
+-- `LINE hv SEQUENCE SCALE OFFSET READING`, or `LINE hv off`
+unfoldable pub hv_text : ℕ → HvReply → List ℕ
+hv_text line HvOff = line_of (decimal line) (codes "hv" ∷ codes "off" ∷ [])
+hv_text line (HvOn page reading) =
+    line_of (decimal line)
+    (codes "hv" ∷ decimal (tsc_sequence page) ∷ decimal page.scale ∷ decimal page.offset
+    ∷ decimal reading ∷ [])
 
 -- `LINE NUMBER state HEXES`, two digits a byte
 unfoldable pub save_text : ℕ → ℕ → List ℕ → List ℕ

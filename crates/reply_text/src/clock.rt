@@ -1,4 +1,4 @@
-//! Pages and clock readings.
+//! Pages, clock readings, and the reference page.
 ghost use Rattle.std.specs.Prelude.{
   ◌≡◌,
   ◌+◌,
@@ -10,10 +10,11 @@ ghost use Rattle.std.specs.Prelude.{
   vec_len,
   vec_capacity,
 };
-ghost use Rattle.reply_text.specs.Text.{page_text, clock_text};
+ghost use Rattle.reply_text.specs.Text.{page_text, clock_text, hv_text};
 
 use crate::tail::Tail;
 use clk_units::NoMemory;
+use hv_page::HvReply;
 use pvclock_page::{ClockReply, PageReply};
 
 /// The line of a page that was read, with the reading at its time; or that it is off.
@@ -59,6 +60,30 @@ pub fn clock_line(line: u64, reply: &ClockReply, out: &mut Vec<u8>) -> Result<()
         }
     }
     tail.word(b"clock");
+    tail.digits(line);
+    tail.append_to(out)
+}
+
+/// The line of the reference page that was read: the sequence, scale and offset that a guest sees, and the time that
+/// they give, in units of 100 ns; or that the page is off.
+#[tactic(auto, unfolding(crate::specs::Text::hv_text))]
+pub fn hv_line(line: u64, reply: &HvReply, out: &mut Vec<u8>) -> Result<(), NoMemory>
+    ensures ok { OnOk result (out.new.items ≡ out.old.items ++ hv_text line reply.now) }
+    ensures err { OnErr result (out.new.items ≡ out.old.items) }
+    ensures full { OnErr result (vec_capacity out.old
+        < vec_len out.old + length (hv_text line reply.now)) }
+{
+    let mut tail = Tail::new();
+    match reply {
+        HvReply::Off => tail.word(b"off"),
+        HvReply::On { page, reading } => {
+            tail.number(*reading);
+            tail.number(page.offset);
+            tail.number(page.scale);
+            tail.number(page.sequence());
+        }
+    }
+    tail.word(b"hv");
     tail.digits(line);
     tail.append_to(out)
 }

@@ -1,4 +1,4 @@
-//! The lines that a replay prints: replies, edges, pages, clock readings, saved states, and how it ended.
+//! The lines that a replay prints: replies, edges, messages, pages, clock readings, saved states, and how it ended.
 //!
 //! Each call appends exactly one line with its end, the byte 0Ah, to a text. A line's words are parted by single
 //! spaces; numbers are decimal without leading zeros, hexadecimal digits are lower case. A call takes no memory
@@ -20,9 +20,9 @@ mod saved;
 mod soak;
 mod tail;
 
-pub use clock::{clock_line, page_line};
+pub use clock::{clock_line, hv_line, page_line};
 pub use ends::{Refused, final_line, refused_line};
-pub use replies::{board_line, edge_line, value_line};
+pub use replies::{board_line, edge_line, msg_line, value_line};
 pub use saved::{move_line, save_line, state_line};
 pub use soak::soak_line;
 

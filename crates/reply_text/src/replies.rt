@@ -1,4 +1,4 @@
-//! Replies of the board, and edges of its lines.
+//! Replies of the board, edges of its lines, and messages of its timers.
 ghost use Rattle.std.specs.Prelude.{
   ◌≡◌,
   ◌+◌,
@@ -16,12 +16,18 @@ ghost use Rattle.std.specs.Prelude.{
   vec_capacity,
 };
 ghost use Rattle.reply_text.specs.Words.{spaced};
-ghost use Rattle.reply_text.specs.Text.{board_text, edge_text, value_text, value_words};
+ghost use Rattle.reply_text.specs.Text.{
+  board_text,
+  edge_text,
+  msg_text,
+  value_text,
+  value_words,
+};
 
 use crate::tail::Tail;
 use board_types::{Reply, Value};
 use clk_units::NoMemory;
-use edge_hooks::Delivery;
+use edge_hooks::{Delivery, Sent};
 use irq_edges::Edge;
 
 /// The line of a board's reply: the line of the record, the number of the access, and its value where it has one.
@@ -95,5 +101,26 @@ pub fn edge_line(edge: &Edge, to: Option<Delivery>, out: &mut Vec<u8>) -> Result
     tail.number(u64::from(edge.line));
     tail.number(edge.at);
     tail.text(b"edge");
+    tail.append_to(out)
+}
+
+/// The line of a timer's messages: the nanosecond of the first, the timer, the processor and the vector that each goes
+/// to, how many they are, and the nanoseconds from one to the next.
+#[tactic(auto, unfolding(crate::specs::Text::msg_text))]
+pub fn msg_line(sent: &Sent, out: &mut Vec<u8>) -> Result<(), NoMemory>
+    ensures ok { OnOk result (out.new.items ≡ out.old.items ++ msg_text sent.now) }
+    ensures err { OnErr result (out.new.items ≡ out.old.items) }
+    ensures full { OnErr result (vec_capacity out.old
+        < vec_len out.old + length (msg_text sent.now)) }
+{
+    let Sent { burst, to } = *sent;
+    let mut tail = Tail::new();
+    tail.number(burst.every);
+    tail.number(burst.count);
+    tail.hex(u64::from(to.vector), 2);
+    tail.number(u64::from(to.cpu));
+    tail.number(u64::from(burst.timer));
+    tail.number(burst.first);
+    tail.text(b"msg");
     tail.append_to(out)
 }

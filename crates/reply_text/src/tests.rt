@@ -1,8 +1,9 @@
 //! What no clause says: with ample memory each call answers Ok, and lines stand one behind the other.
 use super::*;
 use board_types::{Reply, Value};
-use edge_hooks::Delivery;
-use irq_edges::{BurstList, Edge, EdgeList, Lines};
+use edge_hooks::{Delivery, Sent};
+use hv_page::HvReply;
+use irq_edges::{Burst, BurstList, Edge, EdgeList, Lines};
 use pvclock_page::{ClockReply, Page, PageReply};
 use std::test::Fail;
 
@@ -18,6 +19,14 @@ fn lines_of_a_replay(rt: HostRuntime) -> Result<(), Fail> {
     let to = Delivery {
         cpu: 0,
         vector: 0x30,
+    };
+    let burst = Burst {
+        timer: 7,
+        first: 5000,
+        count: 1,
+        every: 0,
+        address: 0xfee0_0000,
+        data: 0x30,
     };
     let reply = Reply {
         number: 4,
@@ -43,6 +52,7 @@ fn lines_of_a_replay(rt: HostRuntime) -> Result<(), Fail> {
     };
     edge_line(&edge, None, &mut out)?;
     edge_line(&edge, Some(to), &mut out)?;
+    msg_line(&Sent { burst, to }, &mut out)?;
     board_line(6, &reply, &mut out)?;
     value_line(7, 5, &Value::Byte(4), &mut out)?;
     page_line(
@@ -54,14 +64,16 @@ fn lines_of_a_replay(rt: HostRuntime) -> Result<(), Fail> {
         &mut out,
     )?;
     clock_line(12, &ClockReply::Off, &mut out)?;
+    hv_line(13, &HvReply::Off, &mut out)?;
     move_line(9, 5, 1_000_002_000, &mut out)?;
     save_line(3, 1, b"CLKBOARD", &mut out)?;
     state_line(b"\xfe\x0f", &mut out)?;
     final_line(5000, 6, 0, lines, &mut out)?;
     refused_line(4, Refused::Fell { before: 10 }, &mut out)?;
-    let wanted = b"edge 4191 0 up\nedge 4191 0 up 0 30\n6 4 009896808086a201\n7 5 04\n\
-11 page 4 2000004000 1000002000 80000000 -1 03 1000003000\n12 clock off\n9 5 moved 1000002000\n\
-3 1 state 434c4b424f415244\nstate fe0f\nfinal 5000 6 0 0,21,23\nrefused 4 fell 10\n";
+    let wanted =
+        b"edge 4191 0 up\nedge 4191 0 up 0 30\nmsg 5000 7 0 30 1 0\n6 4 009896808086a201\n7 5 04\n\
+11 page 4 2000004000 1000002000 80000000 -1 03 1000003000\n12 clock off\n13 hv off\n\
+9 5 moved 1000002000\n3 1 state 434c4b424f415244\nstate fe0f\nfinal 5000 6 0 0,21,23\nrefused 4 fell 10\n";
     assert_eq!(rt; out.as_slice(), wanted.as_slice());
     Ok(())
 }
