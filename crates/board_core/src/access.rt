@@ -16,14 +16,15 @@ ghost use Rattle.std.specs.Prelude.{
 };
 ghost use Rattle.irq_edges.specs.declared.edges.TheConstants.{EDGE_PLACES};
 ghost use Rattle.board_types.specs.Legal.{is_legal};
+ghost use Rattle.board_types.specs.Reply.{IsFresh};
 ghost use Rattle.board_core.specs.Time.{time_of_access, HasTime};
 ghost use Rattle.board_core.specs.Access.{ran_to, after_run, reply_of, after_access};
 ghost use Rattle.board_core.specs.Refusals.{refusal_of};
 
 use crate::board::BoardState;
 use crate::rises::count_rises_where;
-use board_types::{Access, Refusal, Reply, Value};
-use irq_edges::{BurstList, EdgeList};
+use board_types::{Access, Refusal, Reply};
+use irq_edges::EdgeList;
 
 impl BoardState {
     /// One access by processor `cpu` at count `h` of the host's counter: the devices run to the greater of the
@@ -40,62 +41,42 @@ impl BoardState {
         ensures few_run { OnOk result (length (ran_to self.old h).edges ≤ 6) }
         ensures few { IfOk result (λ r. length r.edges ≤ length (ran_to self.old h).edges + 12) }
     {
-        let mut value = Value::Nothing;
-        let mut edges = EdgeList::new();
-        let bursts = BurstList::new();
-        self.answer(cpu, h, a, &mut value, &mut edges)?;
-        Ok(Reply {
-            number: self.accesses,
-            value,
-            edges,
-            bursts,
-        })
+        let mut reply = Reply::empty();
+        self.answer(cpu, h, a, &mut reply)?;
+        Ok(reply)
     }
 
-    /// The same, for a caller that keeps the value and the list of edges: the edges are appended to it, and 18 places must
-    /// be free. The access's number is then `accesses`. It moves neither, so it is the faster of the two. It holds code for
-    /// each kind of access that guests make often: a small caller takes all of it in, and a large one calls it.
+    /// The same into a reply that its caller keeps, without edges and messages in it (`Reply::clear`). It copies no reply,
+    /// so it is the faster of the two. It holds code for each kind of access that guests make often: a small caller takes
+    /// all of it in, and a large one calls it.
     #[inline(always)]
-    pub fn answer(
-        &mut self,
-        cpu: u8,
-        h: u64,
-        a: Access,
-        value: &mut Value,
-        edges: &mut EdgeList,
-    ) -> Result<(), Refusal>
+    pub fn answer(&mut self, cpu: u8, h: u64, a: Access, reply: &mut Reply) -> Result<(), Refusal>
         requires cpu { cpu < self.old.cpus }
         requires legal { IsTrue (is_legal self.old.cpus self.old.format a) }
-        requires places { length edges.old + 18 ≤ EDGE_PLACES }
+        requires fresh { IsFresh reply.old }
         ensures refused { IfErr result (λ e. refusal_of self.old cpu h a ≡ Some e) }
         ensures unchanged { OnErr result (self.new ≡ self.old) }
-        ensures no_value { OnErr result (value.new ≡ value.old) }
-        ensures no_edges { OnErr result (edges.new ≡ edges.old) }
+        ensures untouched { OnErr result (reply.new ≡ reply.old) }
         ensures taken { OnOk result (refusal_of self.old cpu h a ≡ None) }
-        ensures value { OnOk result (value.new ≡ (reply_of self.old cpu h a).value) }
-        ensures edges { OnOk result (edges.new ≡ edges.old ++ (reply_of self.old cpu h a).edges) }
+        ensures reply { OnOk result (reply.new ≡ reply_of self.old cpu h a) }
         ensures state { OnOk result (self.new ≡ after_access self.old cpu h a) }
         ensures few_run { OnOk result (length (ran_to self.old h).edges ≤ 6) }
         ensures few { OnOk result
-            (length edges.new ≤ length edges.old + length (ran_to self.old h).edges + 12) }
+            (length reply.new.edges ≤ length (ran_to self.old h).edges + 12) }
     {
         // In each of these arms the compiler knows the kind, and leaves out what the others need.
         match a {
-            Access::PortIn { port } => {
-                self.answer_known(cpu, h, Access::PortIn { port }, value, edges)
-            }
+            Access::PortIn { port } => self.answer_known(cpu, h, Access::PortIn { port }, reply),
             Access::HpetRead { offset, width } => {
-                self.answer_known(cpu, h, Access::HpetRead { offset, width }, value, edges)
+                self.answer_known(cpu, h, Access::HpetRead { offset, width }, reply)
             }
             Access::PortOut { port, byte } => {
-                self.answer_known(cpu, h, Access::PortOut { port, byte }, value, edges)
+                self.answer_known(cpu, h, Access::PortOut { port, byte }, reply)
             }
-            Access::Ack { line } => self.answer_known(cpu, h, Access::Ack { line }, value, edges),
-            Access::MsrRead { msr } => {
-                self.answer_known(cpu, h, Access::MsrRead { msr }, value, edges)
-            }
-            Access::Step => self.answer_known(cpu, h, Access::Step, value, edges),
-            _ => self.answer_known(cpu, h, a, value, edges),
+            Access::Ack { line } => self.answer_known(cpu, h, Access::Ack { line }, reply),
+            Access::MsrRead { msr } => self.answer_known(cpu, h, Access::MsrRead { msr }, reply),
+            Access::Step => self.answer_known(cpu, h, Access::Step, reply),
+            _ => self.answer_known(cpu, h, a, reply),
         }
     }
 }
@@ -110,30 +91,28 @@ impl BoardState {
         cpu: u8,
         h: u64,
         a: Access,
-        value: &mut Value,
-        edges: &mut EdgeList,
+        reply: &mut Reply,
     ) -> Result<(), Refusal>
         requires cpu { cpu < self.old.cpus }
         requires legal { IsTrue (is_legal self.old.cpus self.old.format a) }
-        requires places { length edges.old + 18 ≤ EDGE_PLACES }
+        requires fresh { IsFresh reply.old }
         ensures refused { IfErr result (λ e. refusal_of self.old cpu h a ≡ Some e) }
         ensures unchanged { OnErr result (self.new ≡ self.old) }
-        ensures no_value { OnErr result (value.new ≡ value.old) }
-        ensures no_edges { OnErr result (edges.new ≡ edges.old) }
+        ensures untouched { OnErr result (reply.new ≡ reply.old) }
         ensures taken { OnOk result (refusal_of self.old cpu h a ≡ None) }
-        ensures value { OnOk result (value.new ≡ (reply_of self.old cpu h a).value) }
-        ensures edges { OnOk result (edges.new ≡ edges.old ++ (reply_of self.old cpu h a).edges) }
+        ensures reply { OnOk result (reply.new ≡ reply_of self.old cpu h a) }
         ensures state { OnOk result (self.new ≡ after_access self.old cpu h a) }
         ensures few_run { OnOk result (length (ran_to self.old h).edges ≤ 6) }
         ensures few { OnOk result
-            (length edges.new ≤ length edges.old + length (ran_to self.old h).edges + 12) }
+            (length reply.new.edges ≤ length (ran_to self.old h).edges + 12) }
     {
         let to = match self.admit(cpu, h, a) {
             Ok(to) => to,
             Err(refusal) => return Err(refusal),
         };
-        self.run_to(h, to, edges);
-        *value = self.act(cpu, h, a, edges);
+        self.run_to(h, to, &mut reply.edges);
+        reply.value = self.act(cpu, h, a, &mut reply.edges);
+        reply.number = self.accesses;
         Ok(())
     }
 }

@@ -1,63 +1,85 @@
-use Rattle.std.proofs.Common.{◌<◌, List, ◌++◌, length, length-append, append_assoc, IfSome, IsTrue, ap, sym, subst, ◌∙◌, arith}
+use Rattle.std.proofs.Common.{◌≡◌, ℕ, ◌<◌, List, [], ◌++◌, length, length-append, IfSome, IsTrue, ap, sym, subst, ◌∙◌, arith}
 use Rattle.irq_edges.specs.declared.edges.Edge.{Edge}
+use Rattle.irq_edges.specs.declared.bursts.Burst.{Burst}
+use Rattle.board_types.specs.declared.reply.Reply.{Reply}
+use Rattle.board_types.specs.declared.reply.Value.{Value}
 use Rattle.board_types.specs.Legal.{is_legal}
 use Rattle.board_types.specs.declared.parts.BoardParts.{BoardParts}
 use Rattle.board_types.specs.declared.parts.TheConstants.{LAST_VERSION, MOST_ACCESSES}
 use Rattle.board_core.specs.Time.{HasTime}
 use Rattle.board_core.specs.Refusals.{raised_version}
 use Rattle.board_core.specs.Access.{ran_to, own_edges, after_run, after_act, value_at, edges_of, reply_of, after_access}
-use Rattle.board_core.proofs.Laws.{taken_time, taken_version, taken_accesses}
+use Rattle.board_core.proofs.Laws.{taken_time, taken_version, taken_accesses, after_access-accesses}
 use Rattle.board_core.proofs.board.BoardState.answer_known.Goals as goal
+
+abbrev reply : List Burst → ℕ → Value → List Edge → Reply
+reply bursts number value edges = record { number = number; value = value; edges = edges; bursts = bursts }
 
 pub run_to-requires-clause-time : goal.run_to-requires-clause-time
 run_to-requires-clause-time c = taken_time c.args.self.now c.args.cpu c.args.h c.args.a c.in-Ok.ensures.taken
 
-pub act-requires-clause-cpu : goal.act-requires-clause-cpu
+pub act-reply-requires-clause-cpu : goal.act-reply-requires-clause-cpu
 unfolding after_run
-act-requires-clause-cpu c = subst (λ (b : BoardParts). c.args.cpu < b.cpus) (sym c.run_to.ensures.state) c.requires.cpu
+act-reply-requires-clause-cpu c = subst (λ (b : BoardParts). c.args.cpu < b.cpus) (sym c.run_to.ensures.state) c.requires.cpu
 
-pub act-requires-clause-legal : goal.act-requires-clause-legal
+pub act-reply-requires-clause-legal : goal.act-reply-requires-clause-legal
 unfolding after_run
-act-requires-clause-legal c = subst (λ (b : BoardParts). IsTrue (is_legal b.cpus b.format c.args.a)) (sym c.run_to.ensures.state) c.requires.legal
+act-reply-requires-clause-legal c = subst (λ (b : BoardParts). IsTrue (is_legal b.cpus b.format c.args.a)) (sym c.run_to.ensures.state) c.requires.legal
 
-pub act-requires-clause-time : goal.act-requires-clause-time
+pub act-reply-requires-clause-time : goal.act-reply-requires-clause-time
 unfolding after_run
-act-requires-clause-time c =
+act-reply-requires-clause-time c =
     subst (λ (b : BoardParts). HasTime b.anchor c.args.h) (sym c.run_to.ensures.state)
     (taken_time c.args.self.now c.args.cpu c.args.h c.args.a c.in-Ok.ensures.taken)
 
-pub act-requires-clause-accesses : goal.act-requires-clause-accesses
+pub act-reply-requires-clause-accesses : goal.act-reply-requires-clause-accesses
 unfolding after_run
-act-requires-clause-accesses c =
+act-reply-requires-clause-accesses c =
     subst (λ (b : BoardParts). b.accesses < MOST_ACCESSES) (sym c.run_to.ensures.state)
     (taken_accesses c.args.self.now c.args.cpu c.args.h c.args.a c.in-Ok.ensures.taken)
 
-pub act-requires-clause-version : goal.act-requires-clause-version
+pub act-reply-requires-clause-version : goal.act-reply-requires-clause-version
 unfolding after_run
-act-requires-clause-version c =
+act-reply-requires-clause-version c =
     subst (λ (b : BoardParts). IfSome (raised_version b.processors b.wall_version b.hv.version c.args.cpu c.args.a) (λ v. v < LAST_VERSION)) (sym c.run_to.ensures.state)
     (taken_version c.args.self.now c.args.cpu c.args.h c.args.a c.in-Ok.ensures.taken)
 
--- the board that the access finds, and the edges on the way to it
-abbrev found : goal.After-act → BoardParts
-found c = c.args.self.now
+-- the board after the access, and the edges by their parts
+state_is : (c : goal.After-reply-2-1) → c.act-reply.new.self ≡ after_access c.args.self.now c.args.cpu c.args.h c.args.a
+unfolding after_access
+state_is c = c.act-reply.ensures.state ∙ ap (λ (b : BoardParts). after_act b c.args.cpu c.args.h c.args.a) c.run_to.ensures.state
 
-pub returns-clause-value : goal.returns-clause-value
+edges_are : (c : goal.After-reply-2-1) → c.act-reply.new.edges ≡ edges_of c.args.self.now c.args.h c.args.a
+unfolding edges_of
+edges_are c =
+    c.act-reply.ensures.edges
+    ∙ ap (λ (es : List Edge). es ++ own_edges c.run_to.new.self c.args.a) (c.run_to.ensures.edges
+    ∙ ap (λ (es : List Edge). es ++ (ran_to c.args.self.now c.args.h).edges) c.requires.fresh.edges)
+    ∙ ap (λ (b : BoardParts). (ran_to c.args.self.now c.args.h).edges ++ own_edges b c.args.a) c.run_to.ensures.state
+
+pub returns-clause-reply : goal.returns-clause-reply
 unfolding reply_of
-returns-clause-value c = c.act.ensures.value ∙ ap (λ (x : BoardParts). value_at x c.args.cpu c.args.h c.args.a) c.run_to.ensures.state
-
-pub returns-clause-edges : goal.returns-clause-edges
-unfolding reply_of edges_of
-returns-clause-edges c =
-    c.act.ensures.edges
-    ∙ ap (λ (es : List Edge). es ++ own_edges c.run_to.new.self c.args.a) c.run_to.ensures.edges
-    ∙ ap (λ (x : BoardParts). (c.args.edges.now ++ (ran_to (found c) c.args.h).edges) ++ own_edges x c.args.a) c.run_to.ensures.state
-    ∙ append_assoc c.args.edges.now (ran_to (found c) c.args.h).edges (own_edges (after_run (found c) c.args.h) c.args.a)
+returns-clause-reply c =
+    let b : BoardParts = c.args.self.now in
+    let r : Reply = reply_of b c.args.cpu c.args.h c.args.a in
+    let number : c.self.inside.accesses ≡ r.number =
+    ap (λ (x : BoardParts). x.accesses) (c.self.view_is ∙ state_is c) ∙ after_access-accesses b c.args.cpu c.args.h c.args.a in
+    let value : c.act-reply.result ≡ r.value =
+    c.act-reply.ensures.value ∙ ap (λ (x : BoardParts). value_at x c.args.cpu c.args.h c.args.a) c.run_to.ensures.state in
+    ap (λ (bs : List Burst). reply bs c.self.inside.accesses c.act-reply.result c.act-reply.new.edges) c.requires.fresh.bursts
+    ∙ ap (λ (n : ℕ). reply [] n c.act-reply.result c.act-reply.new.edges) number
+    ∙ ap (λ (v : Value). reply [] r.number v c.act-reply.new.edges) value
+    ∙ ap (reply [] r.number r.value) (edges_are c)
 
 pub returns-clause-state : goal.returns-clause-state
-unfolding after_access
-returns-clause-state c = c.act.ensures.state ∙ ap (λ (b : BoardParts). after_act b c.args.cpu c.args.h c.args.a) c.run_to.ensures.state
+returns-clause-state c = state_is c
 
 pub returns-clause-few : goal.returns-clause-few
 returns-clause-few c =
-    omega (arith, c.act.ensures.few, ap length c.run_to.ensures.edges, length-append c.args.edges.now (ran_to (found c) c.args.h).edges)
+    omega (
+      arith,
+      c.act-reply.ensures.few,
+      ap length c.run_to.ensures.edges,
+      length-append c.args.reply.now.edges (ran_to c.args.self.now c.args.h).edges,
+      ap length c.requires.fresh.edges,
+    )
