@@ -1,46 +1,8 @@
 -- The conditions on the parts of a board are kept.
-use Rattle.std.proofs.Common.{
-  ◌≡◌,
-  ℕ,
-  zero,
-  suc,
-  ◌+◌,
-  ◌*◌,
-  ◌/◌,
-  ◌^◌,
-  ◌<◌,
-  ◌≤◌,
-  ◌⊎◌,
-  Bool,
-  true,
-  false,
-  ◌&&◌,
-  cond,
-  if◌then◌else◌,
-  leb,
-  ltb,
-  eqb,
-  List,
-  length,
-  get_or,
-  set,
-  replicate,
-  Option,
-  Some,
-  None,
-  IfSome,
-  IsTrue,
-  refl,
-  sym,
-  ap,
-  subst,
-  ◌∙◌,
-  arith,
-  inl,
-  inr,
-}
+use Rattle.std.proofs.Common.{◌≡◌, ℕ, zero, suc, ◌+◌, ◌*◌, ◌^◌, ◌<◌, ◌≤◌, Bool, true, false, cond, if◌then◌else◌, leb, ltb, eqb, List, length, get_or, set, replicate, Option, Some, None, IfSome, IsTrue, refl, sym, ap, subst, ◌∙◌, arith, inl, inr}
 use Rattle.std.proofs.lemmas.Bool.{cases_lt, cases_eq}
-use Rattle.std.proofs.lemmas.List.{get_or-set_same, get_or-set_other}
+use Rattle.std.proofs.lemmas.List.{get_or-set_same, get_or-set_other, get_or-replicate}
+use Rattle.tick_policy.specs.declared.parts.TickParts.{TickParts}
 use Rattle.irq_edges.specs.declared.edges.Edge.{Edge}
 use Rattle.irq_edges.specs.Lines.{line_numbers, level_of}
 use Rattle.host_counter.specs.declared.Anchor.{Anchor}
@@ -65,14 +27,17 @@ use Rattle.board_core.specs.Wall.{wall_number_after, wall_version_after, publish
 use Rattle.board_core.specs.Rises.{rises_after}
 use Rattle.board_core.specs.Access.{act_of, own_edges, after_act}
 use Rattle.board_core.specs.Conditions.{IsFormat, IsVersion, IsWall, flags_valid, IsProcessor, AreProcessors, AreRises, IsJoined}
-use Rattle.board_core.specs.Upgrade.{gets_timers}
+use Rattle.board_core.specs.Upgrade.{gets_timers, gets_apics, apics_upgraded}
+use Rattle.local_apics.specs.declared.parts.ApicsParts.{ApicsParts}
+use Rattle.local_apics.specs.Parts.{AreApicsOf, apics_at_power_on}
+use Rattle.local_apics.proofs.Keeps.{AreApicsOf-apics_at_power_on}
 use Rattle.board_core.specs.Conditions.{IsHv, AreApics}
-use Rattle.board_core.specs.Apics.{no_apic}
+use Rattle.board_core.specs.Apics.{apics_of, apics_in}
 use Rattle.board_core.specs.Hv.{no_hv, hv_in, with_page, hv_published, hv_written, publishes_hv, hv_after}
 use Rattle.board_core.specs.Tsc.{tsc_read}
 use Rattle.board_types.specs.Legal.{is_legal, is_msr}
 use Rattle.board_types.specs.declared.parts.HvParts.{HvParts}
-use Rattle.board_types.specs.declared.setup.TheConstants.{LAST_FORMAT, HV_FORMAT}
+use Rattle.board_types.specs.declared.setup.TheConstants.{LAST_FORMAT, APIC_FORMAT, HV_FORMAT}
 use Rattle.board_types.specs.declared.access.TheConstants.{MSR_HV_REFERENCE_TSC}
 use Rattle.clk_units.specs.Bits.{bit}
 use Rattle.clk_units.specs.Ranges.{IsKhz}
@@ -287,7 +252,7 @@ IsHv-after anchor format guest_khz cpus cpu h (MsrWrite msr v) ps p rate inside 
 IsHv-after anchor format guest_khz cpus cpu h _ ps p rate inside legal fresh valid = valid
 
 -- no format has more than 64 processors
-processors_of-most : (format : ℕ) → processors_of format ≤ 64
+pub processors_of-most : (format : ℕ) → processors_of format ≤ 64
 processors_of-most format = by (leb format 1)
   where
     by : (b : Bool) → cond b 16 64 ≤ 64
@@ -328,9 +293,42 @@ IsFormat-later format to cpus timers more valid later built e = elim (cases_lt f
           has_timers = subst (λ (b : Bool). more ≡ cond b 3 8) (sym later_one) eight;
         }
 
--- the timers of local APICs, of which a board has none
-pub AreApics-none : (format : ℕ) → AreApics format (replicate 64 no_apic) (replicate 64 no_line)
-AreApics-none format = record { no_timers = λ before. refl; no_lines = λ before. refl }
+-- the timers of local APICs: more ticks may be due later
+pub AreApics-more : (format cpus n m : ℕ) (a : ApicsParts) → AreApics format cpus n a → n ≤ m → AreApics format cpus m a
+AreApics-more format cpus n m a valid more = record { places = valid.places; due = λ k less. omega (arith, valid.due k less) }
+
+-- those at power on
+pub AreApics-power_on : (format cpus most : ℕ) → cpus ≤ 64 → AreApics format cpus most (apics_at_power_on (apics_of format cpus))
+AreApics-power_on format cpus most few = record {
+  places = AreApicsOf-apics_at_power_on (apics_of format cpus) (within (leb APIC_FORMAT format));
+  due = λ k less. omega (arith, ap (λ (l : TickParts). l.counts.due) (get_or-replicate 64 k no_line no_line less));
+}
+  where
+    within : (b : Bool) → cond b cpus 0 ≤ 64
+    within true = few
+    within false = omega arith
+
+-- those of a later format
+pub AreApics-later : (format to cpus most : ℕ) (a : ApicsParts) → cpus ≤ 64 → format ≤ to → AreApics format cpus most a
+    → AreApics to cpus most (apics_upgraded cpus (gets_apics format to) a)
+AreApics-later format to cpus most a few later valid = elim (cases_lt format APIC_FORMAT) [
+  | inl before ↦ elim (cases_lt to APIC_FORMAT) [
+    | inl still ↦ kept (ap (λ (b : Bool). cond b cpus 0) (lt-leb APIC_FORMAT format before ∙ sym (lt-leb APIC_FORMAT to still)))
+        (and_right (ltb format APIC_FORMAT) (leb APIC_FORMAT to) (lt-leb APIC_FORMAT to still))
+    | inr gets ↦ got (le-leb APIC_FORMAT to gets) (and_from (ltb format APIC_FORMAT) (leb APIC_FORMAT to) (lt-ltb format APIC_FORMAT before)
+        (le-leb APIC_FORMAT to gets))
+  ]
+  | inr has ↦ kept (ap (λ (b : Bool). cond b cpus 0) (le-leb APIC_FORMAT format has ∙ sym (le-leb APIC_FORMAT to (omega (arith, has, later)))))
+      (and_left (ltb format APIC_FORMAT) (leb APIC_FORMAT to) (le-ltb format APIC_FORMAT has))
+]
+  where
+    kept : apics_of format cpus ≡ apics_of to cpus → gets_apics format to ≡ false → AreApics to cpus most (apics_upgraded cpus (gets_apics format to) a)
+    kept same none = subst (λ (b : Bool). AreApics to cpus most (apics_upgraded cpus b a)) (sym none)
+        (record { places = subst (λ (n : ℕ). AreApicsOf n a) same valid.places; due = valid.due })
+
+    got : leb APIC_FORMAT to ≡ true → gets_apics format to ≡ true → AreApics to cpus most (apics_upgraded cpus (gets_apics format to) a)
+    got there more = subst (λ (b : Bool). AreApics to cpus most (apics_upgraded cpus b a)) (sym more)
+        (subst (λ (b : Bool). AreApics to cpus most (apics_at_power_on (cond b cpus 0))) there (AreApics-power_on to cpus most few))
 
 pub AreRises-later : (format to accesses : ℕ) (lines more : List Bool) (rises : List ℕ) → AreRises format accesses lines rises → format ≤ to
     → lines ≡ more → AreRises to accesses more rises
@@ -352,7 +350,7 @@ IsJoined-same_time b host valid more same = record {
   wall = valid.wall;
   processors = valid.processors;
   rises = valid.rises;
-  apics = valid.apics;
+  apics = AreApics-more b.format b.cpus (now_of b + b.accesses) (time_at b.anchor host + b.accesses) (apics_in b) valid.apics (omega (arith, same));
   hv = valid.hv;
 }
 
@@ -378,7 +376,7 @@ IsJoined-acted b cpu h a valid few six wall processors hv due lifted = record {
   processors = processors;
   rises = AreRises-after b.format b.accesses (b.accesses + 1) 1 (levels (devices_in b)) (levels (acted (act_of a) (devices_in b))) (own_edges b a) b.rises
       six refl valid.rises lifted;
-  apics = valid.apics;
+  apics = AreApics-more b.format b.cpus (now_of b + b.accesses) (now_of b + (b.accesses + 1)) (apics_in b) valid.apics (omega arith);
   hv = hv;
 }
 
@@ -393,6 +391,6 @@ IsJoined-counted b valid few = record {
   wall = valid.wall;
   processors = valid.processors;
   rises = record { most = λ k less. omega (arith, valid.rises.most k less); none = valid.rises.none };
-  apics = valid.apics;
+  apics = AreApics-more b.format b.cpus (now_of b + b.accesses) (now_of b + (b.accesses + 1)) (apics_in b) valid.apics (omega arith);
   hv = valid.hv;
 }

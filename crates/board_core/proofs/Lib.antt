@@ -10,4 +10,5 @@ pub mod Counted
 pub mod Kept
 pub mod Laws
 mod Rows
+mod RowsApics
 mod RowsHv

@@ -1,16 +1,15 @@
 -- Rows on the reference page of Hyper-V and on what a board without later formats holds.
-use Rattle.std.proofs.Common.{◌≡◌, ℕ, ◌^◌, true, false, [], ◌∷◌, Some, None, refl}
+use Rattle.std.proofs.Common.{◌≡◌, true, false, [], ◌∷◌, Some, None, refl}
 use Rattle.host_counter.specs.declared.Anchor.{Anchor}
 use Rattle.host_counter.specs.Time.{time_at}
 use Rattle.tsc_scale.specs.Offset.{tsc_by}
 use Rattle.hv_page.specs.declared.page.HvReply.TheVariants.{Off, On}
 use Rattle.hv_page.specs.Scale.{tsc_scale}
 use Rattle.hv_page.specs.Time.{units_of, reference_time}
-use Rattle.board_types.specs.declared.access.Access.TheVariants.{MsrWrite, MsrRead, Refresh}
+use Rattle.board_types.specs.declared.access.Access.TheVariants.{MsrWrite, MsrRead}
 use Rattle.board_types.specs.declared.parts.BoardParts.{BoardParts}
 use Rattle.board_types.specs.declared.parts.HvParts.{HvParts}
 use Rattle.board_types.specs.Setup.{setup_by_default}
-use Rattle.board_core.specs.Time.{now_of}
 use Rattle.board_core.specs.Tsc.{no_processor, msr_read}
 use Rattle.board_core.specs.Hv.{no_hv, hv_in, hv_published, hv_written, publishes_hv, hv_after, hv_published_at_host, hv_reply}
 use Rattle.board_core.specs.Refusals.{raised_version}

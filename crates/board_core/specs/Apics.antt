@@ -1,6 +1,13 @@
--- The timers of local APICs: what their places hold on a board that has none.
-use Rattle.lapic_timer.specs.declared.parts.ApicParts.{ApicParts}
+-- The timers of the local APICs of a board, which format 3 brings.
+use Rattle.std.specs.Prelude.{ℕ, nat_le, if◌then◌else◌}
+use Rattle.local_apics.specs.declared.parts.ApicsParts.{ApicsParts}
+use Rattle.board_types.specs.declared.parts.BoardParts.{BoardParts}
+use Rattle.board_types.specs.declared.setup.TheConstants.{APIC_FORMAT}
 
--- what the place of a timer that isn't there holds
-abbrev pub no_apic : ApicParts
-no_apic = record { lvt = 0; divide = 0; initial = 0; current = 0; phase = 0; deadline = 0 }
+-- how many there are: one for each processor, and none before format 3
+abbrev pub apics_of : ℕ → ℕ → ℕ
+apics_of format cpus = if nat_le APIC_FORMAT format then cpus else 0
+
+-- the timers of a board, with their tick lines
+abbrev pub apics_in : BoardParts → ApicsParts
+apics_in b = record { timers = b.apic; lines = b.apic_ticks }

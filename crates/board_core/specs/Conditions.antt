@@ -13,7 +13,6 @@ use Rattle.std.specs.Prelude.{
   IsTrue,
   if◌then◌else◌,
   List,
-  replicate,
   slice_index_or,
 }
 use Rattle.clk_units.specs.Bits.{bit}
@@ -22,9 +21,7 @@ use Rattle.clk_units.specs.declared.ranges.TheConstants.{RANGE_NS}
 use Rattle.host_counter.specs.declared.Anchor.{Anchor}
 use Rattle.irq_edges.specs.Lines.{line_numbers, level_of}
 use Rattle.hv_page.specs.Scale.{tsc_scale}
-use Rattle.lapic_timer.specs.declared.parts.ApicParts.{ApicParts}
 use Rattle.pvclock_page.specs.Scale.{mul_for, shift_for}
-use Rattle.tick_policy.specs.declared.parts.TickParts.{TickParts}
 use Rattle.board_types.specs.declared.parts.BoardParts.{BoardParts}
 use Rattle.board_types.specs.declared.parts.HvParts.{HvParts}
 use Rattle.board_types.specs.declared.parts.ProcessorParts.{ProcessorParts}
@@ -35,13 +32,16 @@ use Rattle.board_types.specs.declared.setup.TheConstants.{
   HV_FORMAT,
 }
 use Rattle.board_types.specs.Setup.{timers_of, processors_of}
-use Rattle.board_devices.specs.Places.{line_at, no_line}
+use Rattle.local_apics.specs.declared.parts.ApicsParts.{ApicsParts}
+use Rattle.local_apics.specs.Parts.{AreApicsOf}
+use Rattle.local_apics.specs.Places.{line_at as apic_line_at}
+use Rattle.board_devices.specs.Places.{line_at}
 use Rattle.board_devices.specs.Lines.{levels}
 use Rattle.board_devices.specs.Parts.{AreDevices}
 use Rattle.board_devices.specs.Rises.{one_if}
 use Rattle.board_core.specs.Time.{HasTime, devices_in, now_of}
 use Rattle.board_core.specs.Tsc.{no_processor}
-use Rattle.board_core.specs.Apics.{no_apic}
+use Rattle.board_core.specs.Apics.{apics_of, apics_in}
 use Rattle.board_core.specs.Hv.{no_hv}
 
 -- the format is one that is built, with as many processors as it allows and the timers that it has
@@ -86,10 +86,11 @@ pub record AreProcessors (guest_khz cpus : ℕ) (ps : List ProcessorParts) : Typ
   pub each : (k : ℕ) → IsProcessor guest_khz (slice_index_or ps k no_processor)
   pub absent : (k : ℕ) → cpus ≤ k → slice_index_or ps k no_processor ≡ no_processor
 
--- the timers of local APICs and their tick lines: none before format 3
-pub record AreApics (format : ℕ) (timers : List ApicParts) (lines : List TickParts) : Type 0 where
-  pub no_timers : timers ≡ replicate 64 no_apic
-  pub no_lines : lines ≡ replicate 64 no_line
+-- the timers of local APICs and their tick lines, with so many due ticks at most; the places of a
+-- board that has none are empty
+pub record AreApics (format cpus most : ℕ) (a : ApicsParts) : Type 0 where
+  pub places : AreApicsOf (apics_of format cpus) a
+  pub due : (k : ℕ) → k < 64 → (apic_line_at k a).counts.due ≤ most
 
 -- the reference page: none before format 4; all is 0 before it is published first; then its scale is
 -- that of the guest's rate where it is enabled
@@ -118,7 +119,7 @@ pub record IsJoined (b : BoardParts) : Type 0 where
   pub wall : IsWall b.wall_number b.wall_version b.wall_nsec
   pub processors : AreProcessors b.guest_khz b.cpus b.processors
   pub rises : AreRises b.format b.accesses (levels (devices_in b)) b.rises
-  pub apics : AreApics b.format b.apic b.apic_ticks
+  pub apics : AreApics b.format b.cpus (now_of b + b.accesses) (apics_in b)
   pub hv : IsHv b.format b.guest_khz b.cpus b.hv
 
 -- all conditions

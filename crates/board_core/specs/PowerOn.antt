@@ -1,18 +1,23 @@
 -- A board at power on.
 use Rattle.std.specs.Prelude.{replicate}
+use Rattle.local_apics.specs.declared.parts.ApicsParts.{ApicsParts}
+use Rattle.local_apics.specs.Parts.{apics_at_power_on}
 use Rattle.board_types.specs.declared.setup.Setup.{Setup}
 use Rattle.board_types.specs.declared.parts.BoardParts.{BoardParts}
 use Rattle.board_types.specs.Setup.{timers_of}
 use Rattle.board_devices.specs.declared.parts.DeviceParts.{DeviceParts}
-use Rattle.board_devices.specs.Places.{no_line}
 use Rattle.board_devices.specs.Parts.{devices_at_power_on}
 use Rattle.board_core.specs.Tsc.{no_processor}
-use Rattle.board_core.specs.Apics.{no_apic}
+use Rattle.board_core.specs.Apics.{apics_of}
 use Rattle.board_core.specs.Hv.{no_hv}
 
 -- the devices of a setup, at power on
 abbrev pub devices_of_setup : Setup → DeviceParts
 devices_of_setup s = devices_at_power_on (timers_of s.format) s.pit s.rtc s.hpet s.slew_ns s.time
+
+-- the timers of its local APICs, at power on
+abbrev pub apics_of_setup : Setup → ApicsParts
+apics_of_setup s = apics_at_power_on (apics_of s.format s.cpus)
 
 -- no access yet, the time of the anchor's first count, no page published, no number written
 abbrev pub board_at_power_on : Setup → BoardParts
@@ -35,7 +40,7 @@ board_at_power_on s = record {
   wall_nsec = s.wall_nsec;
   processors = replicate 64 no_processor;
   rises = replicate 6 0;
-  apic = replicate 64 no_apic;
-  apic_ticks = replicate 64 no_line;
+  apic = (apics_of_setup s).timers;
+  apic_ticks = (apics_of_setup s).lines;
   hv = no_hv;
 }

@@ -1,14 +1,11 @@
 -- How the fields of a board are seen.
-use Rattle.std.specs.Prelude.{◌≡◌, replicate}
+use Rattle.std.specs.Prelude.{◌≡◌}
 use Rattle.host_counter.specs.Time.{time_at}
 use Rattle.board_types.specs.declared.parts.BoardParts.{BoardParts}
 use Rattle.board_core.specs.declared.board.BoardState.TheInside.{Inside}
-use Rattle.board_devices.specs.Places.{no_line}
-use Rattle.board_core.specs.Apics.{no_apic}
 use Rattle.board_core.specs.Time.{now_of}
 use Rattle.board_core.specs.Conditions.{IsJoined}
 
--- no format that is built has timers of local APICs, so nothing is stored for them
 abbrev pub board_parts_of : Inside → BoardParts
 board_parts_of b = record {
   format = b.format;
@@ -29,8 +26,8 @@ board_parts_of b = record {
   wall_nsec = b.wall_nsec;
   processors = b.processors;
   rises = b.rises;
-  apic = replicate 64 no_apic;
-  apic_ticks = replicate 64 no_line;
+  apic = b.apics.timers;
+  apic_ticks = b.apics.lines;
   hv = b.hv;
 }
 
@@ -60,6 +57,7 @@ board_of p = record {
   wall_version = p.wall_version;
   wall_sec = p.wall_sec;
   wall_nsec = p.wall_nsec;
+  apics = record { timers = p.apic; lines = p.apic_ticks };
   processors = p.processors;
   rises = p.rises;
   hv = p.hv;

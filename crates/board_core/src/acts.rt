@@ -25,7 +25,6 @@ ghost use Rattle.board_core.specs.Refusals.{raised_version};
 ghost use Rattle.board_core.specs.private.Kinds.{touches, publishes};
 ghost use Rattle.board_core.specs.private.Values.{told, value_with};
 
-use crate::apics::NO_LINE;
 use crate::board::BoardState;
 use crate::hv::hv_after;
 use crate::processors::{publish_by, tsc_read};
@@ -165,8 +164,7 @@ impl BoardState {
             TickSource::Pit => self.devices.counts(0),
             TickSource::Rtc => self.devices.counts(1),
             TickSource::Hpet(timer) => self.devices.counts(timer + 2),
-            // No format that is built has this source.
-            TickSource::Apic(_) => NO_LINE.counts,
+            TickSource::Apic(cpu) => self.apics.counts(cpu),
         }
     }
 

@@ -8,14 +8,16 @@ ghost use Rattle.board_core.specs.Tsc.{processor_at, tsc_of};
 ghost use Rattle.board_core.specs.Pages.{page_in, with_greatest};
 ghost use Rattle.board_core.specs.Conditions.{IsVersion, IsJoined};
 ghost use Rattle.board_core.specs.Next.{next_of};
-ghost use Rattle.board_core.specs.PowerOn.{board_at_power_on, devices_of_setup};
+ghost use Rattle.board_core.specs.PowerOn.{board_at_power_on, devices_of_setup, apics_of_setup};
 
+use crate::apics::apics_of;
 use crate::hv::NO_HV;
 use crate::processors::{NO_PROCESSOR, page_in};
 use board_devices::Devices;
 use board_types::{HvParts, ProcessorParts, Setup, timers_of};
 use host_counter::Anchor;
 use irq_edges::Lines;
+use local_apics::LocalApics;
 use pvclock_page::Page;
 use std::marker::Model;
 use tsc_scale::Tsc;
@@ -38,6 +40,7 @@ pub struct BoardState {
     pub(crate) wall_version: u32,
     pub(crate) wall_sec: u32,
     pub(crate) wall_nsec: u32,
+    pub(crate) apics: LocalApics,
     pub(crate) processors: [ProcessorParts; 64],
     pub(crate) rises: [u64; 6],
     pub(crate) hv: HvParts,
@@ -80,6 +83,7 @@ impl BoardState {
             wall_version: 0,
             wall_sec: setup.wall_sec,
             wall_nsec: setup.wall_nsec,
+            apics: apics_of_setup(setup),
             processors: [NO_PROCESSOR; 64],
             rises: [0; 6],
             hv: NO_HV,
@@ -187,4 +191,12 @@ fn devices_of_setup(setup: &Setup) -> Devices
         setup.slew_ns,
         setup.time,
     )
+}
+
+/// The timers of its local APICs, at power on.
+fn apics_of_setup(setup: &Setup) -> LocalApics
+    requires { IsSetup setup.now }
+    ensures { result ≡ apics_of_setup setup.now }
+{
+    LocalApics::power_on(apics_of(setup.format, setup.cpus))
 }

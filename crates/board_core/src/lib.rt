@@ -25,7 +25,6 @@ mod processors;
 mod refusals;
 mod rises;
 
-pub use apics::NO_APIC;
 pub use board::BoardState;
 pub use board_types::{
     APIC_FORMAT, Access, BoardParts, HV_FORMAT, HvParts, LAST_FORMAT, LAST_VERSION, MESSAGE_FORMAT,

@@ -8,14 +8,15 @@ ghost use Rattle.board_devices.specs.Lines.{levels};
 ghost use Rattle.board_devices.specs.Parts.{devices_upgraded};
 ghost use Rattle.board_core.specs.Time.{devices_in, now_of};
 ghost use Rattle.board_core.specs.Reanchor.{reanchored};
-ghost use Rattle.board_core.specs.Upgrade.{gets_timers, upgraded_to};
+ghost use Rattle.board_core.specs.Upgrade.{gets_timers, gets_apics, apics_upgraded, upgraded_to};
 
 use crate::board::BoardState;
 use crate::rises::count_rises_where;
 use board_devices::Devices;
-use board_types::Ran;
+use board_types::{APIC_FORMAT, Ran};
 use host_counter::Anchor;
 use irq_edges::{BurstList, EdgeList};
+use local_apics::LocalApics;
 
 impl BoardState {
     /// Runs `gap` nanoseconds, and then gives the new time to count `start` of a host's counter of `khz`, 100,000 to
@@ -46,8 +47,9 @@ impl BoardState {
         }
     }
 
-    /// The board in a later format, or the same. From format 1 to 2 it gets five timers, which are as at power on,
-    /// and counts of rises, which are 0; all else is kept, the levels of its lines too.
+    /// The board in a later format, or the same. Format 2 brings five timers of the HPET and counts of rises, which are
+    /// 0, and format 3 the timers of local APICs; what it gets is as at power on. All else is kept, the levels of its
+    /// lines too.
     #[tactic(auto, unfolding(crate::specs::Upgrade::upgraded_to))]
     pub fn upgraded(&self, to: u8) -> BoardState
         requires later { self.now.format ≤ to }
@@ -58,6 +60,7 @@ impl BoardState {
         let devices = devices_upgraded(&self.devices, gets_timers(self.format, to));
         let mut board = *self;
         board.devices = devices;
+        board.apics = apics_upgraded(&self.apics, self.cpus, gets_apics(self.format, to));
         board.format = to;
         board
     }
@@ -68,6 +71,25 @@ fn gets_timers(format: u8, to: u8) -> bool
     ensures { result ≡ gets_timers format to }
 {
     format < 2 && 2 <= to
+}
+
+/// Whether it gets the timers of local APICs, which format 3 brings.
+fn gets_apics(format: u8, to: u8) -> bool
+    ensures { result ≡ gets_apics format to }
+{
+    format < APIC_FORMAT && APIC_FORMAT <= to
+}
+
+/// The timers of local APICs of so many processors: those at power on where `more` holds.
+fn apics_upgraded(apics: &LocalApics, cpus: u8, more: bool) -> LocalApics
+    requires { cpus ≤ 64 }
+    ensures { result ≡ apics_upgraded cpus more apics.now }
+{
+    if more {
+        LocalApics::power_on(cpus)
+    } else {
+        *apics
+    }
 }
 
 /// The devices, with five timers more where `more` holds.

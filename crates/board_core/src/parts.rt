@@ -10,7 +10,7 @@ ghost use Rattle.std.specs.Prelude.{
   IsTrue,
   IsSome,
   IfSome,
-  replicate,
+  length,
   slice_index_or,
 };
 ghost use Rattle.std.specs.Option.{SomeIff};
@@ -18,11 +18,12 @@ ghost use Rattle.clk_units.specs.Ranges.{IsKhz};
 ghost use Rattle.host_counter.specs.Time.{time_at};
 ghost use Rattle.pvclock_page.specs.Scale.{mul_for, shift_for};
 ghost use Rattle.board_types.specs.declared.parts.TheConstants.{MOST_ACCESSES};
+ghost use Rattle.local_apics.specs.Parts.{AreApicsOf};
 ghost use Rattle.board_devices.specs.Lines.{levels};
 ghost use Rattle.board_devices.specs.Places.{no_line};
 ghost use Rattle.board_core.specs.Time.{HasTime, devices_in};
 ghost use Rattle.board_core.specs.Tsc.{no_processor};
-ghost use Rattle.board_core.specs.Apics.{no_apic};
+ghost use Rattle.board_core.specs.Apics.{apics_of, apics_in};
 ghost use Rattle.board_core.specs.Conditions.{
   IsFormat,
   AreRates,
@@ -35,7 +36,7 @@ ghost use Rattle.board_core.specs.Conditions.{
 };
 ghost use Rattle.board_core.specs.private.Places.{IsPlace, IsCount};
 
-use crate::apics::{NO_APIC, NO_LINE, are_apics};
+use crate::apics::{apics_in, apics_of};
 use crate::board::BoardState;
 use crate::hv::is_hv;
 use crate::processors::NO_PROCESSOR;
@@ -46,6 +47,7 @@ use board_types::{
 use clk_units::{KHZ_MAX, KHZ_MIN, RANGE_NS};
 use host_counter::Anchor;
 use irq_edges::Lines;
+use local_apics::LocalApics;
 use pvclock_page::scale_of;
 use tick_policy::TickParts;
 
@@ -57,6 +59,9 @@ impl BoardState {
     {
         let devices = self.devices.parts();
         let ticks = devices.ticks;
+        let apics = self.apics.parts();
+        let apic = apics.timers;
+        let apic_ticks = apics.lines;
         let processors = self.processors;
         let rises = self.rises;
         BoardParts {
@@ -78,8 +83,8 @@ impl BoardState {
             wall_nsec: self.wall_nsec,
             processors,
             rises,
-            apic: [NO_APIC; 64],
-            apic_ticks: [NO_LINE; 64],
+            apic,
+            apic_ticks,
             hv: self.hv,
         }
     }
@@ -90,6 +95,7 @@ impl BoardState {
         ensures value { IfSome result (λ b. b ≡ parts) }
     {
         let devices = Devices::of_parts(devices_in(&parts))?;
+        let apics = LocalApics::of_parts(apics_of(parts.format, parts.cpus), &apics_in(&parts))?;
         let time_ns = time_of_parts(&parts)?;
         let processors = parts.processors;
         let rises = parts.rises;
@@ -108,6 +114,7 @@ impl BoardState {
                 wall_version: parts.wall_version,
                 wall_sec: parts.wall_sec,
                 wall_nsec: parts.wall_nsec,
+                apics,
                 processors,
                 rises,
                 hv: parts.hv,
@@ -224,11 +231,11 @@ fn are_processors(ps: &[ProcessorParts; 64], cpus: u8, guest_khz: u64) -> bool
 }
 
 /// Whether no tick line has more due ticks than this.
-fn are_due(ticks: &[TickParts; 10], most: u64) -> bool
+fn are_due(ticks: &[TickParts], most: u64) -> bool
     ensures { IsTrue result ↔
-        ((k : ℕ) → k < 10 → (slice_index_or ticks.now k no_line).counts.due ≤ most) }
+        ((k : ℕ) → k < length ticks.now → (slice_index_or ticks.now k no_line).counts.due ≤ most) }
 {
-    for k in 0..10 {
+    for k in 0..ticks.len() {
         if ticks[k].counts.due > most {
             return false;
         }
@@ -263,9 +270,8 @@ fn are_joined(parts: &BoardParts, time_ns: u64, lines: &Lines) -> bool
     requires time { HasTime parts.now.anchor parts.now.host }
     requires time_ns { time_ns ≡ time_at parts.now.anchor parts.now.host }
     requires lines { lines.now.levels ≡ levels (devices_in parts.now) }
-    ensures valid { IsTrue result ↔ IsJoined parts.now }
-    ensures timers { IsTrue result → parts.now.apic ≡ replicate 64 no_apic }
-    ensures lines { IsTrue result → parts.now.apic_ticks ≡ replicate 64 no_line }
+    requires apics { AreApicsOf (apics_of parts.now.format parts.now.cpus) (apics_in parts.now) }
+    ensures { IsTrue result ↔ IsJoined parts.now }
 {
     parts.accesses <= MOST_ACCESSES
         && is_format(parts.format, parts.cpus, parts.hpet.timers)
@@ -273,6 +279,6 @@ fn are_joined(parts: &BoardParts, time_ns: u64, lines: &Lines) -> bool
         && is_wall(parts.wall_number, parts.wall_version, parts.wall_nsec)
         && are_processors(&parts.processors, parts.cpus, parts.guest_khz)
         && are_rises(parts.format, parts.accesses, lines, &parts.rises)
-        && are_apics(parts.format, &parts.apic, &parts.apic_ticks)
+        && are_due(&parts.apic_ticks, time_ns + parts.accesses)
         && is_hv(&parts.hv, parts.format, parts.guest_khz, parts.cpus)
 }

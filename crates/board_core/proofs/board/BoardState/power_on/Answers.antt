@@ -1,11 +1,14 @@
-use Rattle.board_core.proofs.Joined.{IsHv-none, AreApics-none}
-use Rattle.std.proofs.Common.{◌≡◌, ℕ, ap, sym, refl, ◌∙◌, arith}
+use Rattle.board_core.proofs.Joined.{IsHv-none, AreApics-power_on, processors_of-most}
+use Rattle.board_core.specs.Conditions.{AreApics}
+use Rattle.local_apics.specs.declared.parts.ApicsParts.{ApicsParts}
+use Rattle.std.proofs.Common.{◌≡◌, ℕ, ◌+◌, ap, sym, subst, refl, ◌∙◌, arith}
 use Rattle.host_counter.proofs.Times.{time_at-start}
 use Rattle.board_devices.specs.declared.parts.DeviceParts.{DeviceParts}
 use Rattle.board_devices.specs.Places.{line_at}
 use Rattle.board_devices.proofs.PowerOn.{due_at_power_on}
 use Rattle.board_types.specs.Setup.{timers_of}
-use Rattle.board_core.specs.PowerOn.{devices_of_setup}
+use Rattle.board_core.specs.Time.{now_of}
+use Rattle.board_core.specs.PowerOn.{board_at_power_on, devices_of_setup}
 use Rattle.board_core.proofs.Joined.{AreProcessors-none, AreRises-none}
 use Rattle.board_core.proofs.board.BoardState.power_on.Goals as goal
 
@@ -30,7 +33,7 @@ invariant_of-result c = record {
     wall = record { words = record { most = omega arith; even = omega arith }; unpublished = λ e. refl; below_second = c.requires.wall_nsec };
     processors = AreProcessors-none c.args.setup.now.guest_khz c.args.setup.now.cpus 64;
     rises = AreRises-none c.args.setup.now.format 0 6 _;
-    apics = AreApics-none c.args.setup.now.format;
+    apics = apics;
     hv = IsHv-none c.args.setup.now.format c.args.setup.now.guest_khz c.args.setup.now.cpus c.requires.least_cpus;
   };
 }
@@ -38,3 +41,8 @@ invariant_of-result c = record {
     none : (k : ℕ) → (line_at k (devices_of_setup c.args.setup.now)).counts.due ≡ 0
     none k = due_at_power_on (timers_of c.args.setup.now.format) c.args.setup.now.pit c.args.setup.now.rtc c.args.setup.now.hpet
         c.args.setup.now.slew_ns c.args.setup.now.time k
+
+    apics : AreApics c.args.setup.now.format c.args.setup.now.cpus (now_of (board_at_power_on c.args.setup.now) + 0) c.apics_of_setup.result
+    apics = subst (λ (a : ApicsParts). AreApics c.args.setup.now.format c.args.setup.now.cpus (now_of (board_at_power_on c.args.setup.now) + 0) a)
+        (sym c.apics_of_setup.ensures) (AreApics-power_on c.args.setup.now.format c.args.setup.now.cpus (now_of (board_at_power_on c.args.setup.now) + 0)
+        (omega (arith, c.requires.most_cpus, processors_of-most c.args.setup.now.format)))

@@ -1,12 +1,10 @@
-use Rattle.std.proofs.Common.{arith, ◌≡◌, ◌<◌, ◌≤◌, IsTrue, true, sym, subst, ◌∙◌}
-use Rattle.board_types.specs.Legal.{is_legal}
+use Rattle.std.proofs.Common.{arith, ◌<◌, ◌≤◌, sym, subst}
 use Rattle.board_types.specs.declared.parts.BoardParts.{BoardParts}
 use Rattle.board_types.specs.declared.parts.HvParts.{HvParts}
 use Rattle.board_types.specs.declared.parts.TheConstants.{LAST_VERSION}
 use Rattle.board_types.specs.declared.setup.TheConstants.{HV_FORMAT}
 use Rattle.board_core.specs.Conditions.{IsHv}
-use Rattle.board_core.specs.Hv.{publishes_hv}
-use Rattle.board_core.proofs.Joined.{IsHv-published, IsHv-after}
+use Rattle.board_core.proofs.Joined.{IsHv-published}
 use Rattle.board_core.proofs.board.BoardState.publish_hv.Goals as goal
 
 pub invariant_of-self : goal.invariant_of-self

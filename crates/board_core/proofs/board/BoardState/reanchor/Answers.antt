@@ -14,7 +14,7 @@ use Rattle.board_core.specs.Time.{now_of}
 use Rattle.board_core.specs.Conditions.{IsFormat, AreRises}
 use Rattle.board_core.specs.View.{board_parts_of}
 use Rattle.board_core.proofs.Timers.{timers-run}
-use Rattle.board_core.proofs.Joined.{AreRises-after}
+use Rattle.board_core.proofs.Joined.{AreRises-after, AreApics-more}
 use Rattle.board_core.proofs.board.BoardState.reanchor.Goals as goal
 
 pub invariant_of-self : goal.invariant_of-self
@@ -45,7 +45,7 @@ invariant_of-self c =
             omega (arith, c.run_to-came.ensures.due k less, c.self.invariant.joined.due k less, from, now_is) in r;
         wall = c.self.invariant.joined.wall;
         processors = c.self.invariant.joined.processors;
-        apics = c.self.invariant.joined.apics;
+        apics = AreApics-more c.self.inside.format c.self.inside.cpus _ _ c.self.inside.apics c.self.invariant.joined.apics (omega (arith, from, now_is));
         hv = c.self.invariant.joined.hv;
         rises = subst (λ (rs : List ℕ). AreRises c.self.inside.format c.self.inside.accesses (levels c.run_to-came.new.self) rs) (sym c.count_rises_where.ensures)
             (AreRises-after c.self.inside.format c.self.inside.accesses c.self.inside.accesses 0 (levels c.self.inside.devices) (levels c.run_to-came.new.self)

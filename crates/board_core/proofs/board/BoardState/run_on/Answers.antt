@@ -16,7 +16,7 @@ use Rattle.board_core.proofs.Times.{time_at_max}
 use Rattle.board_core.proofs.Timers.{timers-run}
 use Rattle.board_core.specs.Access.{ran_to, after_run}
 use Rattle.board_core.specs.Rises.{rises_after}
-use Rattle.board_core.proofs.Joined.{AreRises-after}
+use Rattle.board_core.proofs.Joined.{AreRises-after, AreApics-more}
 use Rattle.board_core.proofs.Steps.{with_run-is}
 use Rattle.board_core.proofs.board.BoardState.run_on.Goals as goal
 
@@ -82,7 +82,7 @@ invariant_of-self c =
             omega (arith, c.run_to-came.ensures.due k less, c.self.invariant.joined.due k less, from, now_is c, to_is c) in r;
         wall = c.self.invariant.joined.wall;
         processors = c.self.invariant.joined.processors;
-        apics = c.self.invariant.joined.apics;
+        apics = AreApics-more c.self.inside.format c.self.inside.cpus _ _ c.self.inside.apics c.self.invariant.joined.apics (omega (arith, from, now_is c, to_is c));
         hv = c.self.invariant.joined.hv;
         rises = subst (λ (rs : List ℕ). AreRises c.self.inside.format c.self.inside.accesses (levels c.run_to-came.new.self) rs) (sym (rises_are c))
             (AreRises-after c.self.inside.format c.self.inside.accesses c.self.inside.accesses 0 (levels c.self.inside.devices) (levels c.run_to-came.new.self)

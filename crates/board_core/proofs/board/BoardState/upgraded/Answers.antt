@@ -1,4 +1,6 @@
-use Rattle.board_core.proofs.Joined.{IsHv-later, AreApics-none}
+use Rattle.local_apics.specs.declared.parts.ApicsParts.{ApicsParts}
+use Rattle.board_core.specs.Conditions.{AreApics}
+use Rattle.board_core.proofs.Joined.{IsHv-later, AreApics-later, most-cpus}
 use Rattle.std.proofs.Common.{◌≡◌, ℕ, ◌≤◌, ◌+◌, Bool, cond, List, get_or, ap, sym, subst, ◌∙◌, arith}
 use Rattle.host_counter.specs.Time.{time_at}
 use Rattle.hpet_registers.specs.declared.parts.HpetParts.{HpetParts}
@@ -7,7 +9,7 @@ use Rattle.board_types.specs.declared.parts.BoardParts.{BoardParts}
 use Rattle.board_devices.specs.declared.parts.DeviceParts.{DeviceParts}
 use Rattle.board_devices.specs.Places.{no_line, line_at}
 use Rattle.board_devices.specs.Lines.{levels}
-use Rattle.board_core.specs.Upgrade.{gets_timers}
+use Rattle.board_core.specs.Upgrade.{gets_timers, apics_upgraded}
 use Rattle.board_core.proofs.Upgrades.{timers-later, due-later}
 use Rattle.board_core.proofs.Joined.{IsFormat-later, AreRises-later}
 use Rattle.board_core.proofs.board.BoardState.upgraded.Goals as goal
@@ -16,6 +18,8 @@ pub invariant_of-board : goal.invariant_of-board
 invariant_of-board c =
     let d : DeviceParts = c.self.inside.devices in
     let later : c.self.inside.format ≤ c.args.to = subst (λ (b : BoardParts). b.format ≤ c.args.to) (sym c.self.view_is) c.requires.later in
+    let most : ℕ = time_at c.self.inside.anchor c.self.inside.host + c.self.inside.accesses in
+    let few : c.self.inside.cpus ≤ 64 = most-cpus c.self.inside.format c.self.inside.cpus d.hpet.timers c.self.invariant.joined.format in
     let timers : c.devices_upgraded-devices.result.hpet.timers ≡ cond (gets_timers c.self.inside.format c.args.to) 8 d.hpet.timers =
     ap (λ (h : HpetParts). h.timers) c.devices_upgraded-devices.ensures.hpet ∙ timers-later c.gets_timers.result d
     ∙ ap (λ (b : Bool). let n : ℕ = cond b 8 d.hpet.timers in n) c.gets_timers.ensures in
@@ -35,7 +39,9 @@ invariant_of-board c =
             omega (arith, fewer, c.self.invariant.joined.due k less) in r;
         wall = c.self.invariant.joined.wall;
         processors = c.self.invariant.joined.processors;
-        apics = AreApics-none c.args.to;
+        apics = subst (λ (a : ApicsParts). AreApics c.args.to c.self.inside.cpus most a)
+            (sym (c.apics_upgraded-board-inside.ensures ∙ ap (λ (m : Bool). apics_upgraded c.self.inside.cpus m c.self.inside.apics) c.gets_apics.ensures))
+            (AreApics-later c.self.inside.format c.args.to c.self.inside.cpus most c.self.inside.apics few later c.self.invariant.joined.apics);
         hv = IsHv-later c.self.inside.format c.args.to c.self.inside.guest_khz c.self.inside.cpus c.self.inside.hv c.self.invariant.joined.hv later
             c.self.invariant.joined.format.least_cpus;
         rises = AreRises-later c.self.inside.format c.args.to c.self.inside.accesses (levels d) (levels c.devices_upgraded-devices.result) c.self.inside.rises
