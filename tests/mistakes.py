@@ -4,15 +4,15 @@
 import gzip
 
 IN_THE_HEADER = {
-    "no format": ("host 1000000 0\nbegin\nend\n", "the first line tells the format"),
+    "no format": ("host 1000000 0\nbegin\nend\n", "the first line says the format"),
     "a capital format": ("Clockboard 1\nbegin\nend\n", "clockboard in place of Clockboard"),
     "the format in one word": ("clockboard1\nbegin\nend\n", "the first line is two words"),
     "a version": ("clockboard v1\nbegin\nend\n", "1 in place of v1"),
     "a version with a point": ("clockboard 2.0\nbegin\nend\n", "2 in place of 2.0"),
-    "a format that isn't there": ("clockboard 77\nbegin\nend\n", "the formats are 1 and 2"),
+    "a format that isn't there": ("clockboard 77\nbegin\nend\n", "the formats are 1 to 5"),
     "no number of the format": ("clockboard\nbegin\nend\n", "clockboard 1"),
     "another order": ("clockboard 1\nguest 1000000\nhost 1000000 0\nbegin\nend\n", "have this order"),
-    "a line twice": ("clockboard 1\ncpus 2\ncpus 2\nbegin\nend\n", "the line `cpus` stands once"),
+    "a line twice": ("clockboard 1\ncpus 2\ncpus 2\nbegin\nend\n", "the line `cpus` comes once"),
     "no start": ("clockboard 1\nhost 1000000\nbegin\nend\n", "START is missing"),
     "a unit of the rate": ("clockboard 1\nhost 2.4GHz 0\nbegin\nend\n", "2400000 in place of 2.4GHz"),
     "a rate in hertz": ("clockboard 1\nhost 1000000000 0\nbegin\nend\n", "1000000 in place of 1000000000"),
@@ -20,7 +20,7 @@ IN_THE_HEADER = {
     "a rate with a point": ("clockboard 1\nguest 2399999.5\nbegin\nend\n", "2400000 in place of 2399999.5"),
     "no processors": ("clockboard 1\ncpus 0\nbegin\nend\n", "1 to 16 processors in format 1"),
     "17 processors": ("clockboard 1\ncpus 17\nbegin\nend\n", "format 2 has up to 64 processors: clockboard 2"),
-    "65 processors": ("clockboard 2\ncpus 65\nbegin\nend\n", "1 to 64 processors in format 2"),
+    "65 processors": ("clockboard 2\ncpus 65\nbegin\nend\n", "1 to 64 from format 2 on"),
     "processors in words": ("clockboard 1\ncpus two\nbegin\nend\n", "a number of processors is digits"),
     "one policy": ("clockboard 1\npolicy delay\nbegin\nend\n", "policy delay delay delay"),
     "another policy": ("clockboard 1\npolicy delay delay catchup\nbegin\nend\n", "discard, delay or slew"),
@@ -40,10 +40,11 @@ IN_THE_HEADER = {
     "an equals sign": ("clockboard 1\ncpus=2\nbegin\nend\n", "without = , or :"),
     "no begin": ("clockboard 1\n0 0 step\nend\n", "the header ends with the line begin"),
     "a capital begin": ("clockboard 1\nBegin\nend\n", "begin in place of Begin"),
-    "a space behind begin": ("clockboard 1\nbegin \nend\n", "none at either end"),
-    "a state behind a line": ("clockboard 1\ncpus 1\nstate 43\nbegin\nend\n", "in place of host, guest"),
+    "a space after begin": ("clockboard 1\nbegin \nend\n", "none at either end"),
+    "a state after a line": ("clockboard 1\ncpus 1\nstate 43\nbegin\nend\n", "in place of host, guest"),
     "half a byte of a state": ("clockboard 1\nstate 434\nbegin\nend\n", "two hexadecimal digits a byte"),
     "a state of version 2": ("clockboard 1\nstate 434c4b424f4152440200\nbegin\nend\n", "is taken in format 2"),
+    "a state of version 5": ("clockboard 2\nstate 434c4b424f4152440500\nbegin\nend\n", "is taken in format 5"),
 }
 """By name: the trace, and a part of the mend."""
 
@@ -72,9 +73,15 @@ IN_A_RECORD = {
     "another MSR": ("0 0 rdmsr c0000080", "an access to another one is left out"),
     "steal time": ("0 0 rdmsr 4b564d03", "steal time is no part of the board"),
     "another line": ("0 0 ack 2", "the lines are 0, 8, 20"),
-    "a word too many": ("0 0 step 100", "nothing more stands here"),
+    "a word too many": ("0 0 step 100", "nothing more comes here"),
     "a timer of format 2": ("0 0 counts hpet3", "clockboard 2 in the first line"),
     "a record of format 2": ("0 0 rose 0", "format 2 has `rose`"),
+    "an end of interrupt": ("0 0 eoi", "format 3 has `eoi`: clockboard 3 in the first line"),
+    "an MSR of a local APIC": ("0 0 wrmsr 832 20030", "format 3 has this MSR: clockboard 3 in the first line"),
+    "a timer of a local APIC": ("0 0 counts apic0", "format 3 has timers of local APICs: clockboard 3"),
+    "a local APIC without its processor": ("0 0 counts lapic", "as in apic0"),
+    "an MSR of Hyper-V": ("0 0 wrmsr 40000021 1", "format 4 has this MSR: clockboard 4 in the first line"),
+    "the reference page": ("0 0 hv", "format 4 has `hv`: clockboard 4 in the first line"),
     "no page": ("0 0 page", "P is missing"),
     "another page": ("0 0 page 1", "processors 0 to 0"),
     "another processor": ("3 0 step", "the line `cpus N`"),
@@ -94,7 +101,7 @@ IN_A_RECORD = {
     "a tab": ("0\t0 step", "a tab is no space"),
     "two spaces": ("0  0 step", "by one space"),
     "a space before": (" 0 0 step", "none at either end"),
-    "a comment behind": ("0 0 step # waits", "a comment has a line of its own"),
+    "a comment after a record": ("0 0 step # waits", "a comment has a line of its own"),
     "a comment by ;": ("; waits", "a comment is a line that begins with #"),
     "a comment by //": ("// waits", "a comment is a line that begins with #"),
     "a capital end": ("End", "end in place of End"),
@@ -105,7 +112,7 @@ IN_A_RECORD = {
     "a time of 18 years": ("0 576460752303423488 step", "2^59 ns are 18 years"),
     "a long comment": ("# " + "-" * 127, "at most 128 bytes"),
 }
-"""By name: a line behind `begin`, or two, and a part of the mend."""
+"""By name: a line after `begin`, or two, and a part of the mend."""
 
 WHOLE = {
     "CR LF": (b"clockboard 1\r\nbegin\r\nend\r\n", "CR LF"),

@@ -76,8 +76,8 @@ class Explain(unittest.TestCase):
 
     def test_state(self) -> None:
         # Byte 8 of a saved state is its version's first; digits 16 and 17 spell it.
-        trace = b"clockboard 1\nstate 434c4b424f4152440300\nbegin\n"
-        self.assertEqual(self.place(trace, "refused 2 state 8"), "03")
+        trace = b"clockboard 1\nstate 434c4b424f4152440600\nbegin\n"
+        self.assertEqual(self.place(trace, "refused 2 state 8"), "06")
         rows = self.explain(trace, "refused 2 state 8")
         self.assertEqual(rows[-1], "  byte 8 is in the field at 8: version; condition: 1 or 2")
 

@@ -81,6 +81,15 @@ class InABrowser(unittest.TestCase):
                 [edge.dataset.at, edge.dataset.up, edge.textContent]);""")
         self.assertEqual(found, [["4191", "1", "line 0 up at 4191 ns"]])
 
+    def test_messages(self) -> None:
+        with tempfile.TemporaryDirectory() as folder:
+            printed = Path(folder) / "printed"
+            printed.write_text("3 1\nmsg 1000 2 0 41 3 1000\n4 2\n5 3\n6 4\n7 5\n8 6\nfinal 5000 6 0 -\n")
+            page = written(Page.FIRST_RISE, "--printed", str(printed))
+        found = seen(page, """
+            return [...document.querySelectorAll('#waves .message')].map((it) => it.textContent)""")
+        self.assertEqual(found, [f"message of timer 2 at {at} ns to processor 0, vector 41" for at in (1000, 2000, 3000)])
+
     def test_zoom(self) -> None:
         found = seen(written(Page.FIRST_RISE), """
             const waves = document.getElementById('waves'), span = () => [waves.dataset.from, waves.dataset.to].map(Number);

@@ -31,6 +31,15 @@ end
 """
 
 
+MESSAGES = """3 1
+msg 1000 2 0 41 3 1000
+edge 3200 8 up
+4 2
+final 3500 2 0 8
+"""
+"""Messages of timer 2 at 1000, 2000 and 3000 ns."""
+
+
 class Diagram(unittest.TestCase):
     def test_columns(self) -> None:
         done = support.run("diagram", text=PRINTED)
@@ -74,6 +83,18 @@ class Diagram(unittest.TestCase):
         advised = support.run("diagram", "--scale", scale[1], "--width", "60", text=PRINTED)
         self.assertEqual(advised.returncode, 0)
         self.assertLessEqual(max(map(len, advised.stdout.splitlines())), 60)
+
+    def test_messages(self) -> None:
+        self.assertEqual(support.run("diagram", text=MESSAGES).stdout.splitlines(), [
+            "ns         1000 2000 3000 3200",
+            "line 8   _________________/‾‾‾‾‾‾‾",
+            "timer 2  __|____|____|____________"])
+
+    def test_many_messages(self) -> None:
+        # A million messages, 10 ns apart: each of the characters from the first to the last has some.
+        text = MESSAGES.replace("3 1000", "1000000 10").replace("3500", "20000000")
+        row = support.run("diagram", "--scale", "1000000", text=text).stdout.splitlines()[2]
+        self.assertEqual(row, "timer 2  __" + "|" * 10 + "_" * 10)
 
     def test_nothing(self) -> None:
         self.assertEqual(support.run("diagram", text="3 1\nfinal 0 1 0 -\n").stdout, "no line changes\n")
@@ -120,6 +141,13 @@ class Wave(unittest.TestCase):
             "#13000", "sin_71 )", "s26 *"])
         self.assertIn("$var string 1 ) access0 $end", rows)
         self.assertIn("$var event 1 ' rise0 $end", rows)
+
+    def test_messages(self) -> None:
+        rows = support.run("wave", text=MESSAGES).stdout.splitlines()
+        self.assertIn("$var event 1 ( message2 $end", rows)
+        self.assertEqual(rows[rows.index("#1000") :], [
+            "#1000", "1(", "#2000", "1(", "#3000", "1(", "#3200", '1"', "1'", "#3500"])
+        self.assertNotIn("message2", support.run("wave", "-p", text=MESSAGES).stdout)
 
     def test_plain(self) -> None:
         rows = self.wave("-p")

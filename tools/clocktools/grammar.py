@@ -1,5 +1,5 @@
 # SPDX-License-Identifier: Apache-2.0 OR MIT
-"""At which word of a refused line its form ends. docs/FORMATS.md tells the forms; the program alone decides."""
+"""At which word of a refused line its form ends. docs/FORMATS.md has the forms; the program alone decides."""
 
 import re
 from collections.abc import Callable
@@ -7,12 +7,20 @@ from dataclasses import dataclass
 
 HEADER = ("clockboard", "host", "guest", "cpus", "policy", "slew", "wall", "rtc", "state", "route", "begin")
 """The names of the header's lines, in their order."""
-BEHIND_STATE = ("route", "begin")
-FORMATS = ("1", "2")
+AFTER_STATE = ("route", "begin")
+FORMATS = ("1", "2", "3", "4", "5")
 CPUS_MAX = {1: 16, 2: 64}
+"""The most processors, by the first format that has so many."""
 LINES = ("0", "8", "20", "21", "22", "23")
 PORTS = (0x40, 0x41, 0x42, 0x43, 0x61, 0x70, 0x71)
-MSRS = (0x10, 0x3B, 0x4B564D00, 0x4B564D01)
+MSRS = {
+    0x10: 1, 0x3B: 1, 0x4B564D00: 1, 0x4B564D01: 1,
+    0x832: 3, 0x838: 3, 0x839: 3, 0x83E: 3, 0x6E0: 3,
+    0x40000020: 4, 0x40000021: 4,
+}
+"""The first format that has each MSR."""
+RECORDS_SINCE = {"rose": 2, "eoi": 3, "hv": 4}
+"""The first format that has a record, of those that format 1 lacks."""
 Check = Callable[[str], bool]
 
 
@@ -62,10 +70,25 @@ def byte(name: str) -> Place:
 
 KHZ = Place("KHZ", "KHZ", lambda word: is_dec(word, 100_000, 10_000_000))
 PORT = hexes("PORT", *PORTS)
-MSR = hexes("M", *MSRS)
 OFFSET = hexes("OFFSET", high=0x3FF)
 WIDTH = one_of("W", "1", "2", "4", "8")
 POLICY = [one_of(name, "discard", "delay", "slew") for name in "PQR"]
+
+
+def cpus_most(version: int) -> int:
+    return max(most for first, most in CPUS_MAX.items() if first <= version)
+
+
+def msrs(version: int) -> tuple[int, ...]:
+    """The MSRs that a format has."""
+    return tuple(msr for msr, first in MSRS.items() if first <= version)
+
+
+def is_source(word: str, version: int) -> bool:
+    """Whether ticks are counted of it: the 8254, the MC146818, a timer of the HPET or, from format 3 on, of a local APIC."""
+    timers = [f"hpet{k}" for k in range(3 if version == 1 else 8)]
+    is_apic = version >= 3 and word.startswith("apic") and is_dec(word.removeprefix("apic"))
+    return word in ("pit", "rtc", *timers) or is_apic
 
 
 def header_forms(version: int) -> dict[str, list[Place]]:
@@ -73,7 +96,7 @@ def header_forms(version: int) -> dict[str, list[Place]]:
         "clockboard": [one_of("the format", *FORMATS)],
         "host": [KHZ, dec("START")],
         "guest": [KHZ],
-        "cpus": [dec("N", 1, CPUS_MAX[version])],
+        "cpus": [dec("N", 1, cpus_most(version))],
         "policy": POLICY,
         "slew": [dec("NS", 1, 10**9)],
         "wall": [dec("SEC", 0, 2**32 - 1), dec("NSEC", 0, 10**9 - 1)],
@@ -86,31 +109,35 @@ def header_forms(version: int) -> dict[str, list[Place]]:
 
 
 def record_forms(version: int) -> dict[str, list[Place]]:
-    timers = [f"hpet{k}" for k in range(8 if version == 2 else 3)]
+    msr = hexes("M", *msrs(version))
+    line = one_of("LINE", *LINES)
     forms = {
         "in": [PORT],
         "out": [PORT, byte("BYTE")],
         "hr": [OFFSET, WIDTH],
         "hw": [OFFSET, WIDTH, hexes("HEX")],
-        "rdmsr": [MSR],
-        "wrmsr": [MSR, hexes("HEX")],
-        "ack": [one_of("LINE", *LINES)],
+        "rdmsr": [msr],
+        "wrmsr": [msr, hexes("HEX")],
+        "ack": [line],
         "step": [],
         "refresh": [dec("P")],
         "wall": [],
-        "counts": [one_of("WHO", "pit", "rtc", *timers)],
+        "counts": [Place("WHO", "", lambda word: is_source(word, version))],
         "next": [],
         "page": [dec("P")],
         "clock": [dec("P")],
         "save": [],
         "move": [KHZ, dec("START"), dec("GAP")],
+        "rose": [line],
+        "eoi": [],
+        "hv": [],
     }
-    return forms | ({"rose": [one_of("LINE", *LINES)]} if version == 2 else {})
+    return {name: places for name, places in forms.items() if RECORDS_SINCE.get(name, 1) <= version}
 
 
 @dataclass
 class Before:
-    """What stands before a line: the format, the header's names so far, the processors and the host's first count, and
+    """What comes before a line: the format, the header's names so far, the processors and the host's first count, and
     whether the header has ended."""
 
     version: int = 1
@@ -125,13 +152,13 @@ class Before:
             return HEADER[:1]
         last = self.names[-1]
         if last == "state":
-            return BEHIND_STATE
+            return AFTER_STATE
         names = HEADER[HEADER.index(last) + (last != "route") :]
         return tuple(name for name in names if name != "state" or len(self.names) == 1)
 
 
 def before(lines: list[str], number: int) -> Before:
-    """What stands before line `number`, where all lines there are in form."""
+    """What comes before line `number`, where all lines there are in form."""
     found = Before()
     for line in lines[: number - 1]:
         words = line.split(" ")

@@ -7,7 +7,7 @@ from collections.abc import Callable, Iterator
 from dataclasses import dataclass
 from datetime import datetime, timezone
 
-from .grammar import CPUS_MAX, FORMATS, HEADER, LINES, MSRS, PORTS, Before, Fault, record_forms
+from .grammar import CPUS_MAX, FORMATS, HEADER, LINES, MSRS, PORTS, Before, Fault, msrs, record_forms
 
 BOM = "\ufeff"
 EXAMPLES = {
@@ -18,12 +18,13 @@ EXAMPLES = {
     "rdmsr": "0 5000 rdmsr 10", "wrmsr": "0 0 wrmsr 4b564d01 1", "ack": "0 5000 ack 0", "step": "0 5000 step",
     "refresh": "0 5000 refresh 0", "counts": "0 5000 counts pit", "next": "0 5000 next", "page": "0 5000 page 0",
     "clock": "0 5000 clock 0", "save": "0 5000 save", "move": "0 5000 move 3000000 500 1000000", "rose": "0 5000 rose 0",
+    "eoi": "0 5000 eoi", "hv": "0 5000 hv",
 }
 """A line of each name."""
 OTHER_NAMES = {
     "inb": "in", "inw": "in", "inl": "in", "pio_read": "in", "outb": "out", "outw": "out", "outl": "out",
     "pio_write": "out", "read": "in", "write": "out", "mmio_read": "hr", "mmio_write": "hw", "readl": "hr", "readq": "hr",
-    "writel": "hw", "writeq": "hw", "hpet": "hr", "rdtsc": "rdmsr", "msr": "rdmsr", "eoi": "ack", "irq": "ack",
+    "writel": "hw", "writeq": "hw", "hpet": "hr", "rdtsc": "rdmsr", "msr": "rdmsr", "eoi": "ack", "irq": "ack", "hyperv": "hv",
     "tick": "step", "wait": "step", "sleep": "step", "advance": "step", "pvclock": "page", "snapshot": "save",
     "migrate": "move", "time": "clock", "irqs": "counts",
 }
@@ -39,7 +40,7 @@ HPET_SIZE = 0x400
 
 @dataclass(frozen=True)
 class Case:
-    """A line that is refused: its number and the lines of the trace, what stands before it, and where it leaves its form."""
+    """A line that is refused: its number and the lines of the trace, what comes before it, and where it leaves its form."""
 
     number: int
     lines: list[str]
@@ -81,7 +82,7 @@ def file_mend(data: bytes) -> str:
         return "this is a log of QEMU's: tools/import qemu LOG TRACE makes a trace of it"
     if re.search(rb": kvm_\w+: ", data[:4096]):
         return "this is a log of KVM's tracepoints: tools/import kvm LOG TRACE makes a trace of it"
-    if re.match(rb"edge \d+ \d+ (up|down)|\d+ \d+( \w+)?\n", data):
+    if re.match(rb"edge \d+ \d+ (up|down)|msg \d+ |\d+ \d+( \w+)?\n", data):
         return "this is what is printed for a trace; the trace begins with the line clockboard 1"
     return ""
 
@@ -114,16 +115,16 @@ def header_mends(case: Case) -> Iterator[str]:
         if re.fullmatch(r"(?i)clockboard.+", word):
             yield "the first line is two words: clockboard 1"
         elif word.lower() != "clockboard":
-            yield "the first line tells the format: clockboard 1"
+            yield "the first line says the format: clockboard 1"
     elif word.isdecimal():
-        yield "the header ends with the line begin, and records stand after it"
+        yield "the header ends with the line begin, and records come after it"
     elif word in HEADER:
         if "state" in case.known.names or word == "state":
-            yield "a saved state stands in place of host, guest, cpus, policy, slew, wall and rtc: leave these out"
+            yield "a saved state comes in place of host, guest, cpus, policy, slew, wall and rtc: leave these out"
         elif word in case.known.names:
-            yield f"the line `{word}` stands once"
+            yield f"the line `{word}` comes once"
         else:
-            yield f"the header's lines have this order, and only `route` stands twice: {', '.join(HEADER)}"
+            yield f"the header's lines have this order, and only `route` comes twice: {', '.join(HEADER)}"
     elif word.lower() in record_forms(case.known.version):
         yield "the header ends with the line begin; a record after it has its processor and its count first: 0 5000 step"
     elif word.lower() not in HEADER and re.match(r"\w", word):
@@ -156,11 +157,11 @@ def name_mends(case: Case, names: dict[str, list]) -> Iterator[str]:
     later = next((int(k) for k in FORMATS if int(k) > case.known.version and word in record_forms(int(k))), None)
     if later and word not in names:
         yield f"format {later} has `{word}`: clockboard {later} in the first line"
-    elif word in ENDINGS:
+    if word in ENDINGS:
         yield "the last line is `end` alone, without a processor and a count"
     elif word in HEADER:
         yield f"`{word}` is a line of the header, before begin"
-    elif word in OTHER_NAMES:
+    elif word in OTHER_NAMES and word not in names:
         yield f"its name is `{OTHER_NAMES[word]}` here: {EXAMPLES[OTHER_NAMES[word]]}"
     elif word not in names:
         near = difflib.get_close_matches(word, names, 1)
@@ -175,7 +176,7 @@ def length_mends(case: Case) -> Iterator[str]:
     if not case.word and case.place != "the end of the line" and case.fault.begin >= len(case.line.rstrip("\r")):
         yield f"{case.place} is missing; a line of this name: {EXAMPLES[case.name]}"
     elif case.place == "the end of the line" and not re.search("#|;|//|  ", case.line):
-        yield f"nothing more stands here; a line of this name: {EXAMPLES[case.name]}"
+        yield f"nothing more comes here; a line of this name: {EXAMPLES[case.name]}"
 
 
 def value_mends(case: Case) -> Iterator[str]:
@@ -190,7 +191,7 @@ def of_format(case: Case) -> Iterator[str]:
     if re.fullmatch(r"v?[0-9][0-9.]*", case.word) and case.word.strip("v").split(".")[0] in FORMATS:
         yield f"the format is a number alone: {case.word.strip('v').split('.')[0]} in place of {case.word}"
     else:
-        yield f"the formats are {' and '.join(FORMATS)}"
+        yield f"the formats are {FORMATS[0]} to {FORMATS[-1]}"
 
 
 def of_khz(case: Case) -> Iterator[str]:
@@ -213,7 +214,7 @@ def of_cpus(case: Case) -> Iterator[str]:
     if int(case.word) and later:
         yield f"format {later} has up to {CPUS_MAX[later]} processors: clockboard {later} in the first line"
     else:
-        yield "there are " + ", ".join(f"1 to {most} processors in format {k}" for k, most in CPUS_MAX.items())
+        yield f"there are 1 to {CPUS_MAX[1]} processors in format 1, and 1 to {CPUS_MAX[2]} from format 2 on"
 
 
 def of_policy(case: Case) -> Iterator[str]:
@@ -280,9 +281,12 @@ def of_msr(case: Case) -> Iterator[str]:
     number = int(case.word, 16)
     if number in OLD_MSRS:
         yield f"the clock's MSRs have KVM's new numbers: {OLD_MSRS[number]:x} in place of {case.word}"
-    if case.word.isdecimal() and int(case.word) in MSRS:
+    if MSRS.get(number, 0) > case.known.version:
+        yield f"format {MSRS[number]} has this MSR: clockboard {MSRS[number]} in the first line"
+    elif case.word.isdecimal() and int(case.word) in MSRS:
         yield f"an MSR is hexadecimal: {int(case.word):x} in place of {case.word}, if that is decimal"
-    yield f"the MSRs are {', '.join(f'{msr:x}' for msr in MSRS)}; an access to another one is left out"
+    here = ", ".join(f"{msr:x}" for msr in msrs(case.known.version))
+    yield f"the MSRs are {here}; an access to another one is left out"
 
 
 def of_offset(case: Case) -> Iterator[str]:
@@ -299,15 +303,19 @@ def of_width(case: Case) -> Iterator[str]:
     if case.word in ("16", "32", "64"):
         yield f"a width is in bytes: {int(case.word) // 8} in place of {case.word}"
     else:
-        yield "a width is 1, 2, 4 or 8 bytes, and stands between the offset and the value"
+        yield "a width is 1, 2, 4 or 8 bytes, and comes between the offset and the value"
 
 
 def of_who(case: Case) -> Iterator[str]:
-    timer = re.fullmatch(r"hpet([0-7])", case.word)
-    if timer and case.known.version == 1:
+    if re.fullmatch(r"hpet[0-7]", case.word) and case.known.version == 1:
         yield "format 2 has eight timers of the HPET: clockboard 2 in the first line"
+    elif re.fullmatch(r"apic[0-9]+", case.word) and case.known.version < 3:
+        yield "format 3 has timers of local APICs: clockboard 3 in the first line"
+    elif re.fullmatch(r"l?apic", case.word):
+        yield "the timer of a local APIC has its processor's number, as in apic0"
     else:
-        yield "ticks are counted of pit, rtc, hpet0, hpet1 and hpet2, in format 2 to hpet7"
+        yield ("ticks are counted of pit, rtc, hpet0, hpet1 and hpet2, from format 2 on to hpet7, and from format 3 on of "
+               "apic0, apic1 and so on")
 
 
 def of_size(case: Case) -> Iterator[str]:
@@ -381,7 +389,7 @@ def reason_mends(case: Case, reason: list[str]) -> list[str]:
                 "of their counts"]
     if reason[0] == "cpu":
         swapped = cpu.isdecimal() and int(words[1]) < known.cpus and int(cpu) >= max(CPUS_MAX.values())
-        said = [f"the processor stands first, and then the count: {words[1]} {cpu} {' '.join(words[2:])}"] if swapped else []
+        said = [f"the processor comes first, and then the count: {words[1]} {cpu} {' '.join(words[2:])}"] if swapped else []
         return said + [f"there are processors 0 to {known.cpus - 1}; the line `cpus N` of the header says how many"]
     if reason[0] == "steal":
         return ["steal time is no part of the board: leave the record out"]
@@ -389,8 +397,10 @@ def reason_mends(case: Case, reason: list[str]) -> list[str]:
         return ["2^59 ns are 18 years: START of `host` is the counter at power on, and KHZ its rate"]
     if reason[0] == "long":
         return ["a line has at most 128 bytes, a comment too; `state` lines have 200000"]
-    if reason[0] == "state" and reason[1] == "8" and known.version == 1 and words[-1][16:20] == "0200":
-        return ["a state of version 2 is taken in format 2: clockboard 2 in the first line"]
+    if reason[0] == "state" and reason[1] == "8":
+        version = int.from_bytes(bytes.fromhex(words[-1][16:20]), "little")
+        if known.version < version <= len(FORMATS):
+            return [f"a state of version {version} is taken in format {version}: clockboard {version} in the first line"]
     return []
 
 

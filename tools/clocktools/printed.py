@@ -6,7 +6,7 @@ import sys
 
 from .command import Refused
 
-PRINTED = re.compile(r"edge \d+ \d+ (up|down)|\d+ \S|final |refused |fault |state |soak |usage: ")
+PRINTED = re.compile(r"edge \d+ \d+ (up|down)|msg \d+ |\d+ \S|final |refused |fault |state |soak |usage: ")
 """How a printed line begins."""
 
 

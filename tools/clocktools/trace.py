@@ -45,6 +45,17 @@ class Edge:
 
 
 @dataclass(frozen=True)
+class Burst:
+    """Messages of a timer of the HPET, at even distances: the timer's number, the processor and the vector that they are
+    delivered to, and their nanoseconds."""
+
+    timer: int
+    cpu: int
+    vector: str
+    times: range
+
+
+@dataclass(frozen=True)
 class Reply:
     """The reply to a record: the record's line, and its value."""
 
@@ -120,7 +131,7 @@ def is_edge(event: Reply | Edge) -> TypeGuard[Edge]:
 
 
 def printed(lines: Iterable[str]) -> Iterator[Reply | Edge]:
-    """The edges and the replies of a printed text, in order."""
+    """The edges and the replies of a printed text, in order; messages are left out."""
     for line in lines:
         words = line.rstrip("\n").split(" ")
         if words[0] == "edge":
@@ -137,8 +148,17 @@ def edges(lines: list[str]) -> Iterator[Edge]:
             yield Edge(int(words[1]), int(words[2]), words[3] == "up")
 
 
+def bursts(lines: list[str]) -> Iterator[Burst]:
+    """The bursts of messages of a printed text, in order."""
+    for line in lines:
+        words = line.split(" ")
+        if words[0] == "msg":
+            first, timer, cpu, count, every = (int(words[k]) for k in (1, 2, 3, 5, 6))
+            yield Burst(timer, cpu, words[4], range(first, first + max(every, 1) * count, max(every, 1)))
+
+
 def replies(lines: list[str]) -> Iterator[Reply]:
-    """The replies of a printed text. In those of pages and clocks their name stands in the number's place."""
+    """The replies of a printed text. Those of pages and clocks have their name in the number's place."""
     for line in lines:
         words = line.split(" ")
         if words[0].isdecimal():
