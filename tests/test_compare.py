@@ -438,7 +438,9 @@ class Rules(unittest.TestCase):
                   for value in vars(module).values() if isinstance(value, Cause)]
         self.assertEqual([cause for cause in causes if (cause.crate, cause.name) not in definitions()], [])
         named = {cause.row for cause in causes} | {report.LOST_TICKS, report.MASKED_RISES}
-        self.assertEqual(named | {"wrap", "late-comparator"}, set(differences()))
+        # Of the devices of formats 3 to 5 no answer of a peer is judged by a row.
+        judged = {name for name in differences() if not name.startswith(("apic-", "hv-", "message-"))}
+        self.assertEqual(named | {"wrap", "late-comparator"}, judged)
 
     def test_each_rule_has_its_definition(self) -> None:
         from clocktools.rules import HPET_RULES, Follower, Rule, hpet_rule, rtc_rule

@@ -246,7 +246,7 @@ class Kvm(unittest.TestCase):
 
     def test_records(self) -> None:
         # The first offset is 2^64 - 1002000000, so the guest's TSC is 0 at that count. The second is told by the write
-        # of the TSC behind it. MSR 12h is the old number of 4B564D01h.
+        # of the TSC after it. MSR 12h is the old number of 4B564D01h.
         body = self.trace[self.trace.index("begin") + 1 :]
         self.assertEqual(body, [
             "0 1002000000 wrmsr 10 0", "0 1004000000 out 43 34", "0 1004002000 in 40", "1 1004005000 hr f0 4",
@@ -258,6 +258,20 @@ class Kvm(unittest.TestCase):
         values = [line.split(" ", 1)[1] for line in self.peer if line[0].isdigit()]
         self.assertEqual(values, ["+2003000", "7f +4000", "00000012 +3500", "2 3921616 2000000 80000000 0 01 +3500",
                                   "0000000000000005 +3450"])
+
+    def test_local_apic_and_hyper_v(self) -> None:
+        # Vector ECh of the LVT is 236; the end of another interrupt has no record. The last MSR is one of format 4.
+        events = ("kvm_msr: msr_write 832 = 0x400ec", "kvm_msr: msr_write 6e0 = 0x1000", "kvm_eoi: apicid 0 vector 236",
+                  "kvm_eoi: apicid 0 vector 48", "kvm_msr: msr_read 839 = 0x0", "kvm_msr: msr_write 40000021 = 0x5001")
+        lines = "".join(f"       CPU 0/KVM-101     [001] .....  {1004015000 + k}: {event}\n" for k, event in enumerate(events))
+        text = (support.LOGS / "kvm.log").read_text()
+        at = text.rindex("       kvm-record-90")
+        trace, peer = imported_text(text[:at] + lines + text[at:], kind="kvm")
+        self.assertEqual(trace[0], "clockboard 4")
+        self.assertEqual(trace[-6:], [
+            "0 1004015000 wrmsr 832 400ec", "0 1004015001 wrmsr 6e0 1000", "0 1004015002 eoi", "0 1004015004 rdmsr 839",
+            "0 1004015005 wrmsr 40000021 5001", "end"])
+        self.assertTrue(peer[-1].split(" ", 1)[1].startswith("0000000000000000 +"))
 
     def test_events_out_of_order(self) -> None:
         # The buffers of the host's processors are printed one after the other: 1 before 2, then the marks.

@@ -106,7 +106,11 @@ class Import:
         if cpu >= self.processors:
             self.processors = cpu + 1
         if cpu >= FORMAT_1_CPUS:
-            self.version = 2
+            self.needs(2)
+
+    def needs(self, version: int) -> None:
+        """The trace has something that no format before this one has."""
+        self.version = max(self.version, version)
 
     def port(self, access: Access) -> None:
         """An access to a port of the 8254 or the MC146818."""
@@ -139,7 +143,7 @@ class Import:
         else:
             self.see(cpu, count, f"hr {offset:x} {size}", f"{value:0{2 * size}x}", within)
         if offset >= FORMAT_2_TIMERS:
-            self.version = 2
+            self.needs(2)
 
     def write(self, header: Header, trace: Path, peer: Path) -> None:
         """Writes the trace, and the file of the peer's answers."""

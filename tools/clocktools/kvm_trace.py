@@ -1,7 +1,7 @@
 # SPDX-License-Identifier: Apache-2.0 OR MIT
 """KVM's tracepoints, as an ftrace instance with the clock `x86-tsc` prints them. The host's counter is the TSC itself.
 
-Read are kvm_pio, kvm_mmio, kvm_msr, kvm_ack_irq, kvm_pvclock_update, kvm_write_tsc_offset, and the marks that
+Read are kvm_pio, kvm_mmio, kvm_msr, kvm_ack_irq, kvm_eoi, kvm_pvclock_update, kvm_write_tsc_offset, and the marks that
 tools/kvm-record puts at the beginning and the end, from which the TSC's rate is known. A log is read twice: first for
 what no one line has, as the rates and which thread is which processor, and then for the records.
 """
@@ -13,6 +13,7 @@ from dataclasses import dataclass, field
 from fractions import Fraction
 from pathlib import Path
 
+from .grammar import MSRS as FIRST_FORMATS
 from .importing import HPET_BASE, HPET_SIZE, LATE_NS, PORTS, Access, Import
 from .interrupts import IOAPIC_LINES, PIC_LINES
 from .logs import Unusable
@@ -23,19 +24,18 @@ PIO = re.compile(r"pio_(read|write) at 0x([0-9a-f]+) size (\d+) count (\d+) val 
 MMIO = re.compile(r"mmio (read|write|unsatisfied-read) len (\d+) gpa 0x([0-9a-f]+) val 0x([0-9a-f]+)")
 MSR = re.compile(r"msr_(read|write) ([0-9a-f]+) = 0x([0-9a-f]+)( \(#GP\))?")
 ACK = re.compile(r"irqchip (IOAPIC|PIC master|PIC slave) pin (\d+)")
+EOI = re.compile(r"apicid ([0-9a-f]+) vector (\d+)")
 PVCLOCK = re.compile(
     r"vcpu_id (\d+), pvclock \{ version (\d+), tsc_timestamp 0x([0-9a-f]+), system_time 0x([0-9a-f]+), "
     r"tsc_to_system_mul 0x([0-9a-f]+), tsc_shift (-?\d+), flags 0x([0-9a-f]+) \}"
 )
 OFFSET = re.compile(r"vcpu=(\d+) prev=(\d+) next=(\d+)")
 THREAD = re.compile(r"CPU (\d+)/KVM")
-TSC, TSC_ADJUST, STEAL = 0x10, 0x3B, 0x4B564D03
-MSRS = {0x10: 0x10, 0x3B: 0x3B, 0x11: 0x4B564D00, 0x12: 0x4B564D01, 0x4B564D00: 0x4B564D00, 0x4B564D01: 0x4B564D01}
+TSC, TSC_ADJUST, STEAL, LVT_TIMER = 0x10, 0x3B, 0x4B564D03, 0x832
+MSRS = {0x11: 0x4B564D00, 0x12: 0x4B564D01, **{msr: msr for msr in FIRST_FORMATS}}
 """The MSRs of a trace, and the two old numbers of kvmclock, which mean the same as the new ones."""
 VCPU_EVENTS = ("kvm_pio", "kvm_mmio", "kvm_msr", "kvm_pvclock_update")
-READ_EVENTS = (*VCPU_EVENTS, "kvm_ack_irq", "kvm_write_tsc_offset")
-
-
+READ_EVENTS = (*VCPU_EVENTS, "kvm_ack_irq", "kvm_eoi", "kvm_write_tsc_offset")
 WINDOW = 1 << 14
 """Within so many events those of the host's processors are put into the order of their counts."""
 SOURCE = "imported from tracepoints of KVM"
@@ -160,6 +160,8 @@ class Reader:
         self.found = Import(SOURCE, folder, first_line)
         self.before: dict[int, int] = {}
         """The count of the line before of each thread."""
+        self.timer_vectors: dict[int, int] = {}
+        """The vector of each local APIC's timer, by the last write of its LVT entry."""
         self.start: int | None = None
         self.within = 0
 
@@ -200,7 +202,7 @@ class Reader:
                                        match[1] == "write", self.within))
 
     def mmio(self, cpu: int, event: Event) -> None:
-        """A read is told twice: as it begins, and with its value as it ends. The second is taken."""
+        """A read has two lines: as it begins, and with its value as it ends. The second is taken."""
         match = MMIO.match(event.text)
         if not match:
             self.found.drop("a line of kvm_mmio in another form")
@@ -217,10 +219,15 @@ class Reader:
             self.found.drop("an MSR of steal time")
         elif number in MSRS and match[4]:
             self.found.drop("an access to an MSR that faulted")
-        elif number in MSRS and match[1] == "write":
-            self.see(cpu, event, f"wrmsr {MSRS[number]:x} {int(match[3], 16):x}")
         elif number in MSRS:
-            self.see(cpu, event, f"rdmsr {MSRS[number]:x}", f"{int(match[3], 16):016x}")
+            value = int(match[3], 16)
+            if (number, match[1]) == (LVT_TIMER, "write"):
+                self.timer_vectors[cpu] = value & 0xFF
+            self.found.needs(FIRST_FORMATS[MSRS[number]])
+            if match[1] == "write":
+                self.see(cpu, event, f"wrmsr {MSRS[number]:x} {value:x}")
+            else:
+                self.see(cpu, event, f"rdmsr {MSRS[number]:x}", f"{value:016x}")
 
     def ack_irq(self, cpu: int, event: Event) -> None:
         match = ACK.match(event.text)
@@ -231,6 +238,14 @@ class Reader:
         line = IOAPIC_LINES.get(pin) if match[1] == "IOAPIC" else PIC_LINES.get(pin + 8 * (match[1] == "PIC slave"))
         if line is not None:
             self.see(cpu, event, f"ack {line}")
+
+    def eoi(self, cpu: int, event: Event) -> None:
+        """The end of an interrupt, where it is that of the local APIC's timer."""
+        match = EOI.match(event.text)
+        if not match:
+            self.found.drop("a line of kvm_eoi in another form")
+        elif int(match[2]) == self.timer_vectors.get(cpu):
+            self.see(cpu, event, "eoi")
 
     def pvclock(self, event: Event) -> None:
         """A page is published; what the peer published is kept as its answer to a read of the page."""

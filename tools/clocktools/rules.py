@@ -30,9 +30,18 @@ MSR_RULES = {
     0x3B: ("TSC_ADJUST", "tsc_scale", "moved_by"),
     0x4B564D00: ("MSR 4B564D00h", "board_core", "msr_read"),
     0x4B564D01: ("MSR 4B564D01h", "board_core", "msr_read"),
+    0x832: ("local APIC timer, LVT", "lapic_timer", "register_read"),
+    0x838: ("local APIC timer, initial count", "lapic_timer", "register_read"),
+    0x839: ("local APIC timer, current count", "lapic_timer", "register_read"),
+    0x83E: ("local APIC timer, divide configuration", "lapic_timer", "register_read"),
+    0x6E0: ("local APIC timer, deadline", "lapic_timer", "register_read"),
+    0x40000020: ("reference counter", "board_core", "msr_read"),
+    0x40000021: ("MSR 40000021h", "board_core", "msr_read"),
 }
 PIT_HZ = 1_193_182
 HPET_NS = 10
+REFERENCE_NS = 100
+"""The unit of Hyper-V's reference counter."""
 
 
 @dataclass(frozen=True)
@@ -74,10 +83,14 @@ class Follower:
         elif kind == "rdmsr":
             number = int(words[1], 16)
             row = MSR_RULES.get(number, (f"MSR {number:X}h", "board_core", "msr_read"))
-            return Rule(*row, self.guest_khz / 1e6 if number == 0x10 else 0.0)
+            return Rule(*row, self.msr_counts().get(number, 0.0))
         elif kind == "page":
             return Rule("pvclock page", "board_core", "published")
         return None
+
+    def msr_counts(self) -> dict[int, float]:
+        """How many counts a nanosecond has, by the MSR; a local APIC's timer has one at most."""
+        return {0x10: self.guest_khz / 1e6, 0x839: 1.0, 0x40000020: 1 / REFERENCE_NS}
 
     def write(self, port: int, value: int) -> None:
         if port == 0x70:
