@@ -4,6 +4,7 @@ pub mod Spells
 pub mod FirstWord
 pub mod Tokens
 pub mod ShortWords
+pub mod Letters
 pub mod WordAt
 pub mod States
 mod Rows

@@ -15,12 +15,13 @@ use Rattle.board_types.specs.declared.access.Access.TheVariants.{
   CountsOf,
   Next,
   Rose,
+  Eoi,
 }
-use Rattle.board_types.specs.declared.access.TickSource.TheVariants.{Hpet}
-use Rattle.trace_text.specs.Tokens.{words_of, number_in, decimal_in, hex_in, dec, hex, byte, khz}
+use Rattle.board_types.specs.declared.access.TickSource.TheVariants.{Hpet, Apic}
+use Rattle.trace_text.specs.Tokens.{words_of, number_in, decimal_in, decimal_past, hex_in, dec, hex, byte, khz}
 use Rattle.trace_text.specs.Records.{record_of, job_of, body_behind}
 use Rattle.board_types.specs.declared.setup.Setup.{Setup}
-use Rattle.trace_text.specs.Header.{header_line, head_of}
+use Rattle.trace_text.specs.Header.{first_line, header_line, head_of}
 use Rattle.board_types.specs.Setup.{setup_by_default}
 use Rattle.trace_text.specs.State.{restored}
 use Rattle.board_types.specs.declared.parts.BoardParts.{BoardParts}
@@ -32,7 +33,7 @@ use Rattle.trace_text.specs.Lines.{limit_of, stepped, item_in, taken, behind, at
 use Rattle.trace_text.specs.declared.faults.Reason.{Reason}
 use Rattle.trace_text.specs.declared.faults.Reason.TheVariants.{Form, Steal, Cpu, CounterFell, StateBytes, TooLong, NoEnd}
 use Rattle.trace_text.specs.declared.records.Body.{Body}
-use Rattle.trace_text.specs.declared.records.Job.TheVariants.{Board, Page, Clock, Save, Move}
+use Rattle.trace_text.specs.declared.records.Job.TheVariants.{Board, Page, Clock, Hv, Save, Move}
 use Rattle.trace_text.specs.declared.header.Head.{Head}
 use Rattle.trace_text.specs.declared.header.Begin.TheVariants.{Fresh, Saved}
 use Rattle.tick_policy.specs.declared.parts.Policy.TheVariants.{Discard, Delay, Slew}
@@ -99,6 +100,12 @@ body = record { format = 1; cpus = 2; before = 5 ∷ 7 ∷ [] }
 
 abbrev body2 : Body
 body2 = record { format = 2; cpus = 2; before = 5 ∷ 7 ∷ [] }
+
+abbrev body3 : Body
+body3 = record { format = 3; cpus = 2; before = 5 ∷ 7 ∷ [] }
+
+abbrev body4 : Body
+body4 = record { format = 4; cpus = 2; before = 5 ∷ 7 ∷ [] }
 
 row_in : record_of body (words_of (codes "0 700 in 40")) ≡ Ok (record { cpu = 0; h = 700; job = Board (PortIn 0x40) })
 unfolding record_of job_of words_of decimal_in hex_in number_in
@@ -224,6 +231,84 @@ row_rose : record_of body2 (words_of (codes "0 5 rose 0")) ≡ Ok (record { cpu 
 unfolding record_of job_of words_of decimal_in hex_in number_in
 row_rose = refl
 
+-- local APICs: from format 3 on
+eoi_in_format_2 : record_of body2 (words_of (codes "0 5 eoi")) ≡ Err Form
+unfolding record_of job_of words_of decimal_in decimal_past hex_in number_in
+eoi_in_format_2 = refl
+
+row_eoi : record_of body3 (words_of (codes "1 7 eoi")) ≡ Ok (record { cpu = 1; h = 7; job = Board Eoi })
+unfolding record_of job_of words_of decimal_in decimal_past hex_in number_in
+row_eoi = refl
+
+eoi_of_another_processor : record_of body3 (words_of (codes "1 7 eoi 0")) ≡ Err Form
+unfolding record_of job_of words_of decimal_in decimal_past hex_in number_in
+eoi_of_another_processor = refl
+
+apic_in_format_2 : record_of body2 (words_of (codes "0 5 counts apic1")) ≡ Err Form
+unfolding record_of job_of words_of decimal_in decimal_past hex_in number_in
+apic_in_format_2 = refl
+
+row_counts_of_an_apic : record_of body3 (words_of (codes "0 5 counts apic1")) ≡ Ok (record { cpu = 0; h = 5; job = Board (CountsOf (Apic 1)) })
+unfolding record_of job_of words_of decimal_in decimal_past hex_in number_in
+row_counts_of_an_apic = refl
+
+apic_that_isnt_there : record_of body3 (words_of (codes "0 5 counts apic2")) ≡ Err Cpu
+unfolding record_of job_of words_of decimal_in decimal_past hex_in number_in
+apic_that_isnt_there = refl
+
+form_before_an_apic_that_isnt_there : record_of body2 (words_of (codes "0 5 counts apic2")) ≡ Err Form
+unfolding record_of job_of words_of decimal_in decimal_past hex_in number_in
+form_before_an_apic_that_isnt_there = refl
+
+apic_beyond_a_byte : record_of body3 (words_of (codes "0 5 counts apic256")) ≡ Err Cpu
+unfolding record_of job_of words_of decimal_in decimal_past hex_in number_in
+apic_beyond_a_byte = refl
+
+apic_with_a_leading_zero : record_of body3 (words_of (codes "0 5 counts apic01")) ≡ Err Form
+unfolding record_of job_of words_of decimal_in decimal_past hex_in number_in
+apic_with_a_leading_zero = refl
+
+apic_without_a_number : record_of body3 (words_of (codes "0 5 counts apic")) ≡ Err Form
+unfolding record_of job_of words_of decimal_in decimal_past hex_in number_in
+apic_without_a_number = refl
+
+apic_and_its_number_in_two_words : record_of body3 (words_of (codes "0 5 counts apic 1")) ≡ Err Form
+unfolding record_of job_of words_of decimal_in decimal_past hex_in number_in
+apic_and_its_number_in_two_words = refl
+
+msr_of_an_apic_in_format_2 : record_of body2 (words_of (codes "0 5 rdmsr 838")) ≡ Err Form
+unfolding record_of job_of words_of decimal_in decimal_past hex_in number_in
+msr_of_an_apic_in_format_2 = refl
+
+msr_of_an_apic : record_of body3 (words_of (codes "0 5 wrmsr 6e0 7d1")) ≡ Ok (record { cpu = 0; h = 5; job = Board (MsrWrite 0x6e0 0x7d1) })
+unfolding record_of job_of words_of decimal_in decimal_past hex_in number_in
+msr_of_an_apic = refl
+
+-- the reference page: from format 4 on
+hv_in_format_3 : record_of body3 (words_of (codes "0 5 hv")) ≡ Err Form
+unfolding record_of job_of words_of decimal_in decimal_past hex_in number_in
+hv_in_format_3 = refl
+
+row_hv : record_of body4 (words_of (codes "0 5 hv")) ≡ Ok (record { cpu = 0; h = 5; job = Hv })
+unfolding record_of job_of words_of decimal_in decimal_past hex_in number_in
+row_hv = refl
+
+hv_of_a_processor : record_of body4 (words_of (codes "0 5 hv 0")) ≡ Err Form
+unfolding record_of job_of words_of decimal_in decimal_past hex_in number_in
+hv_of_a_processor = refl
+
+hv_of_a_counter_that_fell : record_of body4 (words_of (codes "1 6 hv")) ≡ Err (CounterFell 7)
+unfolding record_of job_of words_of decimal_in decimal_past hex_in number_in
+hv_of_a_counter_that_fell = refl
+
+msr_of_hyper_v_in_format_3 : record_of body3 (words_of (codes "0 5 rdmsr 40000020")) ≡ Err Form
+unfolding record_of job_of words_of decimal_in decimal_past hex_in number_in
+msr_of_hyper_v_in_format_3 = refl
+
+msr_of_hyper_v : record_of body4 (words_of (codes "0 5 wrmsr 40000021 1")) ≡ Ok (record { cpu = 0; h = 5; job = Board (MsrWrite 0x40000021 1) })
+unfolding record_of job_of words_of decimal_in decimal_past hex_in number_in
+msr_of_hyper_v = refl
+
 no_such_word : record_of body (words_of (codes "0 5 jump")) ≡ Err Form
 unfolding record_of job_of words_of decimal_in hex_in number_in
 no_such_word = refl
@@ -257,6 +342,9 @@ counter_of_another_processor = refl
 before_behind_a_save : (body_behind body (record { cpu = 1; h = 9; job = Save })).before ≡ 5 ∷ 9 ∷ []
 before_behind_a_save = refl
 
+before_behind_a_reference_page : (body_behind body (record { cpu = 1; h = 9; job = Hv })).before ≡ 5 ∷ 9 ∷ []
+before_behind_a_reference_page = refl
+
 before_behind_a_move : (body_behind body (record { cpu = 1; h = 9; job = Move 3000000 500 0 })).before ≡ replicate 64 500
 before_behind_a_move = refl
 
@@ -266,11 +354,19 @@ read [] r = r
 read (line ∷ lines) r = read lines (behind line r)
 
 begins_with_its_format : taken at_start (codes "clockboard 1") ≡ Ok Part
-unfolding stepped limit_of words_of
+unfolding stepped limit_of words_of decimal_in number_in
 begins_with_its_format = refl
 
-format_that_isnt_built : taken at_start (codes "clockboard 3") ≡ Err (record { line = 1; reason = Form })
-unfolding stepped limit_of words_of
+no_format_0 : taken at_start (codes "clockboard 0") ≡ Err (record { line = 1; reason = Form })
+unfolding stepped limit_of words_of decimal_in number_in
+no_format_0 = refl
+
+last_format : first_line (words_of (codes "clockboard 5")) ≡ Ok (head_of 5)
+unfolding words_of decimal_in number_in
+last_format = refl
+
+format_that_isnt_built : taken at_start (codes "clockboard 6") ≡ Err (record { line = 1; reason = Form })
+unfolding stepped limit_of words_of decimal_in number_in
 format_that_isnt_built = refl
 
 empty_line_is_skipped : taken at_start [] ≡ Ok Skipped
@@ -301,7 +397,7 @@ no_end : end_fault (record { lines = 2; stage = Opening }) ≡ record { line = 3
 no_end = refl
 
 a_fault_stays : taken (behind (codes "clockboard 9") at_start) (codes "clockboard 1") ≡ Err (record { line = 1; reason = Form })
-unfolding stepped limit_of words_of
+unfolding stepped limit_of words_of decimal_in number_in
 a_fault_stays = refl
 
 -- header lines, in their order

@@ -28,6 +28,7 @@ use Rattle.std.specs.Prelude.{
 }
 use Rattle.board_types.specs.Setup.{IsSetup, processors_of, setup_by_default}
 use Rattle.board_types.specs.declared.setup.Setup.{Setup}
+use Rattle.board_types.specs.declared.setup.TheConstants.{LAST_FORMAT}
 use Rattle.edge_hooks.specs.declared.deliveries.Delivery.{Delivery}
 use Rattle.irq_edges.specs.Lines.{is_line}
 use Rattle.tick_policy.specs.declared.parts.Policy.{Policy}
@@ -38,6 +39,18 @@ use Rattle.board_types.specs.declared.parts.BoardParts.{BoardParts}
 use Rattle.trace_text.specs.Rows.{place, last, Row, row, by_table}
 use Rattle.trace_text.specs.declared.faults.Reason.{Reason}
 use Rattle.trace_text.specs.declared.faults.Reason.TheVariants.{Form, Cpu}
+use Rattle.trace_text.specs.declared.header.TheConstants.{
+  FORMAT_ROW,
+  HOST_ROW,
+  GUEST_ROW,
+  CPUS_ROW,
+  POLICY_ROW,
+  SLEW_ROW,
+  WALL_ROW,
+  RTC_ROW,
+  STATE_ROW,
+  ROUTE_ROW,
+}
 use Rattle.trace_text.specs.declared.header.Head.{Head}
 use Rattle.trace_text.specs.declared.header.Header.{Header}
 use Rattle.trace_text.specs.declared.header.Begin.{Begin}
@@ -47,22 +60,17 @@ use Rattle.trace_text.specs.declared.records.Body.{Body}
 -- behind the first line
 abbrev pub head_of : ℕ → Head
 head_of format = record {
-  row = 0;
+  row = FORMAT_ROW;
   begin = Fresh (setup_by_default format);
   next_line = 0;
   routes = replicate 6 None;
 }
 
--- `1`, `2`: the format
-abbrev pub format_word : List (List ℕ) → Option ℕ
-format_word ws =
-    if starts (codes "1") ws then Some 1 else if starts (codes "2") ws then Some 2 else None
-
--- `clockboard 1`, `clockboard 2`
+-- `clockboard FORMAT`
 abbrev pub first_line : List (List ℕ) → Result Head Reason
 first_line =
     by_table (row (codes "clockboard")
-    (place format_word (λ format. last (Ok (head_of format)))) ∷ [])
+    (place (dec_within 1 LAST_FORMAT) (λ format. last (Ok (head_of format)))) ∷ [])
 
 -- `discard`, `delay`, `slew`
 abbrev pub policy : List (List ℕ) → Option Policy
@@ -84,44 +92,44 @@ sets number head s = Ok (record head { row = number; begin = Fresh s })
 abbrev pub host_row : Head → Setup → List (List ℕ) → Result Head Reason
 host_row head s =
     place khz (λ k. place dec (λ start.
-    last (sets 1 head (record s {
+    last (sets HOST_ROW head (record s {
       anchor = record { khz = k; start = start; base_ns = 0 };
     }))))
 
 -- `guest KHZ`
 abbrev pub guest_row : Head → Setup → List (List ℕ) → Result Head Reason
-guest_row head s = place khz (λ k. last (sets 2 head (record s { guest_khz = k })))
+guest_row head s = place khz (λ k. last (sets GUEST_ROW head (record s { guest_khz = k })))
 
 -- `cpus N`
 abbrev pub cpus_row : Head → Setup → List (List ℕ) → Result Head Reason
 cpus_row head s =
     place (dec_within 1 (processors_of s.format)) (λ n.
-    last (sets 3 head (record s { cpus = n })))
+    last (sets CPUS_ROW head (record s { cpus = n })))
 
 -- `policy P Q R`: of the 8254, the RTC, the HPET
 abbrev pub policy_row : Head → Setup → List (List ℕ) → Result Head Reason
 policy_row head s =
     place policy (λ p. place policy (λ q. place policy (λ r.
-    last (sets 4 head (record s { pit = p; rtc = q; hpet = r })))))
+    last (sets POLICY_ROW head (record s { pit = p; rtc = q; hpet = r })))))
 
 -- `slew NS`
 abbrev pub slew_row : Head → Setup → List (List ℕ) → Result Head Reason
 slew_row head s =
     place (dec_within 1 1000000000) (λ ns.
-    last (sets 5 head (record s { slew_ns = ns })))
+    last (sets SLEW_ROW head (record s { slew_ns = ns })))
 
 -- `wall SEC NSEC`
 abbrev pub wall_row : Head → Setup → List (List ℕ) → Result Head Reason
 wall_row head s =
     place (dec_within 0 4294967295) (λ sec. place (dec_within 0 999999999) (λ nsec.
-    last (sets 6 head (record s { wall_sec = sec; wall_nsec = nsec }))))
+    last (sets WALL_ROW head (record s { wall_sec = sec; wall_nsec = nsec }))))
 
 -- `rtc S M H W D O Y`
 abbrev pub rtc_row : Head → Setup → List (List ℕ) → Result Head Reason
 rtc_row head s =
     place byte (λ sec. place byte (λ m. place byte (λ h. place byte (λ w.
     place byte (λ d. place byte (λ o. place byte (λ y.
-    last (sets 7 head (record s {
+    last (sets RTC_ROW head (record s {
       time = record { sec = sec; min = m; hour = h; wday = w; date = d; month = o; year = y };
     })))))))))
 
@@ -140,11 +148,11 @@ start_of (Saved b) = b.anchor.start
 
 -- a line stands in front of all others
 abbrev pub in_front : Head → Result Head Reason → Result Head Reason
-in_front head answer = if head.row == 0 then answer else Err Form
+in_front head answer = if head.row == FORMAT_ROW then answer else Err Form
 
 -- `state HEXES`: a saved board in place of a setup
 abbrev pub resumes : Head → Result BoardParts Reason → Result Head Reason
-resumes head (Ok b) = Ok (record head { row = 8; begin = Saved b })
+resumes head (Ok b) = Ok (record head { row = STATE_ROW; begin = Saved b })
 resumes head (Err reason) = Err reason
 
 abbrev pub state_row : Head → Setup → List (List ℕ) → Result Head Reason
@@ -159,7 +167,7 @@ abbrev pub routed : Head → ℕ → ℕ → ℕ → Result Head Reason
 routed head line cpu vector =
     if nat_lt cpu (cpus_of head.begin) then
     Ok (record head {
-      row = 9;
+      row = ROUTE_ROW;
       next_line = line + 1;
       routes =
           slice_set head.routes (place_of_line line) (Some (record { cpu = cpu; vector = vector }));
@@ -180,17 +188,17 @@ last_rows head = row (codes "route") (route_row head) ∷ []
 
 abbrev pub first_rows : Head → Setup → List (Row Head)
 first_rows head s =
-    row (codes "host") (λ ws. in_order 1 head (host_row head s ws))
-    ∷ row (codes "guest") (λ ws. in_order 2 head (guest_row head s ws))
-    ∷ row (codes "cpus") (λ ws. in_order 3 head (cpus_row head s ws))
-    ∷ row (codes "policy") (λ ws. in_order 4 head (policy_row head s ws))
+    row (codes "host") (λ ws. in_order HOST_ROW head (host_row head s ws))
+    ∷ row (codes "guest") (λ ws. in_order GUEST_ROW head (guest_row head s ws))
+    ∷ row (codes "cpus") (λ ws. in_order CPUS_ROW head (cpus_row head s ws))
+    ∷ row (codes "policy") (λ ws. in_order POLICY_ROW head (policy_row head s ws))
     ∷ []
 
 abbrev pub later_rows : Head → Setup → List (Row Head)
 later_rows head s =
-    row (codes "slew") (λ ws. in_order 5 head (slew_row head s ws))
-    ∷ row (codes "wall") (λ ws. in_order 6 head (wall_row head s ws))
-    ∷ row (codes "rtc") (λ ws. in_order 7 head (rtc_row head s ws))
+    row (codes "slew") (λ ws. in_order SLEW_ROW head (slew_row head s ws))
+    ∷ row (codes "wall") (λ ws. in_order WALL_ROW head (wall_row head s ws))
+    ∷ row (codes "rtc") (λ ws. in_order RTC_ROW head (rtc_row head s ws))
     ∷ row (codes "state") (λ ws. in_front head (state_row head s ws))
     ∷ last_rows head
 
@@ -232,4 +240,4 @@ pub record IsBegin (b : Begin) (to : List (Option Delivery)) : Type 0 where
 -- and before `begin`: no line is routed before the first route
 pub record IsHead (h : Head) : Type 0 where
   pub begin : IsBegin h.begin h.routes
-  pub quiet : h.row < 9 → h.routes ≡ replicate 6 None
+  pub quiet : h.row < ROUTE_ROW → h.routes ≡ replicate 6 None

@@ -3,6 +3,7 @@ use Rattle.std.specs.Prelude.{
   ℕ,
   ◌==◌,
   nat_lt,
+  nat_le,
   true,
   List,
   [],
@@ -38,15 +39,29 @@ use Rattle.board_types.specs.declared.access.Access.TheVariants.{
   CountsOf,
   Next,
   Rose,
+  Eoi,
 }
 use Rattle.board_types.specs.declared.access.TickSource.{TickSource}
-use Rattle.board_types.specs.declared.access.TickSource.TheVariants.{Pit, Rtc, Hpet}
-use Rattle.trace_text.specs.Tokens.{words_of, dec, hex, byte, khz, dec_of_bits, hex_of_bits, starts}
+use Rattle.board_types.specs.declared.access.TickSource.TheVariants.{Pit, Rtc, Hpet, Apic}
+use Rattle.board_types.specs.declared.setup.TheConstants.{APIC_FORMAT, HV_FORMAT}
+use Rattle.trace_text.specs.Tokens.{
+  words_of,
+  first,
+  rest,
+  decimal_past,
+  dec,
+  hex,
+  byte,
+  khz,
+  dec_of_bits,
+  hex_of_bits,
+  starts,
+}
 use Rattle.trace_text.specs.Rows.{place, last, Row, row, by_table}
 use Rattle.trace_text.specs.declared.faults.Reason.{Reason}
 use Rattle.trace_text.specs.declared.faults.Reason.TheVariants.{Form, Steal, Cpu, CounterFell}
 use Rattle.trace_text.specs.declared.records.Job.{Job}
-use Rattle.trace_text.specs.declared.records.Job.TheVariants.{Board, Page, Clock, Save, Move}
+use Rattle.trace_text.specs.declared.records.Job.TheVariants.{Board, Page, Clock, Hv, Save, Move}
 use Rattle.trace_text.specs.declared.records.Record.{Record}
 use Rattle.trace_text.specs.declared.records.Body.{Body}
 
@@ -58,9 +73,13 @@ board body a = if is_legal body.cpus body.format a then Ok (Board a) else Err Fo
 abbrev pub to_msr : Body → ℕ → Access → Result Job Reason
 to_msr body m a = if m == 0x4b564d03 then Err Steal else board body a
 
--- a job on the page of a processor, which has to be there
-abbrev pub on_page : Body → ℕ → Job → Result Job Reason
-on_page body p job = if nat_lt p body.cpus then Ok job else Err Cpu
+-- a job on what a processor has, which has to be there
+abbrev pub on_cpu : Body → ℕ → Job → Result Job Reason
+on_cpu body p job = if nat_lt p body.cpus then Ok job else Err Cpu
+
+-- a job that formats have from this one on
+abbrev pub from_format : ℕ → Body → Result Job Reason → Result Job Reason
+from_format least body job = if nat_le least body.format then job else Err Form
 
 -- `pit`, `rtc`, `hpet0`, `hpet1`, ..
 abbrev pub source : List (List ℕ) → Option TickSource
@@ -76,6 +95,10 @@ source ws =
     else if starts (codes "hpet6") ws then Some (Hpet 6)
     else if starts (codes "hpet7") ws then Some (Hpet 7)
     else None
+
+-- `apicP`: the local APIC of processor P
+abbrev pub apic : List (List ℕ) → Option ℕ
+apic = first (decimal_past (codes "apic"))
 
 -- `in PORT`, `out PORT BYTE`
 abbrev pub in_row : Body → List (List ℕ) → Result Job Reason
@@ -109,9 +132,17 @@ ack_row body = place (dec_of_bits 8) (λ line. last (board body (Ack line)))
 abbrev pub rose_row : Body → List (List ℕ) → Result Job Reason
 rose_row body = place (dec_of_bits 8) (λ line. last (board body (Rose line)))
 
--- `counts WHO`
+-- the ticks of the timer of a local APIC
+abbrev pub apic_counts : Body → ℕ → Result Job Reason
+apic_counts body p = from_format APIC_FORMAT body (on_cpu body p (Board (CountsOf (Apic p))))
+
+-- `counts WHO`, by the source that its first word names, if it names one
+abbrev pub counts_of : Body → List (List ℕ) → Option TickSource → Result Job Reason
+counts_of body ws (Some who) = last (board body (CountsOf who)) (rest ws)
+counts_of body ws None = place apic (λ p. last (apic_counts body p)) ws
+
 abbrev pub counts_row : Body → List (List ℕ) → Result Job Reason
-counts_row body = place source (λ who. last (board body (CountsOf who)))
+counts_row body ws = counts_of body ws (source ws)
 
 -- `P`, last in its line
 abbrev pub page_at : Body → List (List ℕ) → Result ℕ Reason
@@ -119,29 +150,31 @@ page_at body = place dec (λ p. last (if nat_lt p body.cpus then Ok p else Err C
 
 -- `refresh P`, `page P`, `clock P`
 abbrev pub refresh_row : Body → List (List ℕ) → Result Job Reason
-refresh_row body = place dec (λ p. last (on_page body p (Board (Refresh p))))
+refresh_row body = place dec (λ p. last (on_cpu body p (Board (Refresh p))))
 
 abbrev pub page_row : Body → List (List ℕ) → Result Job Reason
-page_row body = place dec (λ p. last (on_page body p (Page p)))
+page_row body = place dec (λ p. last (on_cpu body p (Page p)))
 
 abbrev pub clock_row : Body → List (List ℕ) → Result Job Reason
-clock_row body = place dec (λ p. last (on_page body p (Clock p)))
+clock_row body = place dec (λ p. last (on_cpu body p (Clock p)))
 
 -- `move KHZ START GAP`
 abbrev pub move_row : Body → List (List ℕ) → Result Job Reason
 move_row body =
     place khz (λ k. place dec (λ start. place dec (λ gap. last (Ok (Move k start gap)))))
 
--- the table of records; `rose` is a word of format 2: the board takes it from there on
+-- the table of records; which formats have an access, the board says
 abbrev pub rows : Body → List (Row Job)
 rows body =
     row (codes "in") (in_row body)
     ∷ row (codes "out") (out_row body)
     ∷ row (codes "hr") (hr_row body)
     ∷ row (codes "hw") (hw_row body)
+    ∷ row (codes "hv") (last (from_format HV_FORMAT body (Ok Hv)))
     ∷ row (codes "rdmsr") (rdmsr_row body)
     ∷ row (codes "wrmsr") (wrmsr_row body)
     ∷ row (codes "ack") (ack_row body)
+    ∷ row (codes "eoi") (last (board body Eoi))
     ∷ row (codes "step") (last (board body Step))
     ∷ row (codes "refresh") (refresh_row body)
     ∷ row (codes "wall") (last (board body Wall))
@@ -188,16 +221,19 @@ before_behind before r (Move k start gap) = replicate 64 start
 before_behind before r (Board a) = slice_set before r.cpu r.h
 before_behind before r (Page p) = slice_set before r.cpu r.h
 before_behind before r (Clock p) = slice_set before r.cpu r.h
+before_behind before r Hv = slice_set before r.cpu r.h
 before_behind before r Save = slice_set before r.cpu r.h
 
 abbrev pub body_behind : Body → Record → Body
 body_behind body r = record body { before = before_behind body.before r r.job }
 
--- what is known of a job: the board takes the access, the page is there, the rate is in range
+-- what is known of a job: the board takes the access, the page is there, the format has the
+-- reference page, the rate is in range
 abbrev pub IsJob : Body → Job → Type 0
 IsJob body (Board a) = is_legal body.cpus body.format a ≡ true
 IsJob body (Page p) = p < body.cpus
 IsJob body (Clock p) = p < body.cpus
+IsJob body Hv = HV_FORMAT ≤ body.format
 IsJob body Save = Unit {0}
 IsJob body (Move k start gap) = (100000 ≤ k) × (k ≤ 10000000)
 

@@ -3,6 +3,7 @@ use Rattle.std.specs.Prelude.{
   ℕ,
   ◌^◌,
   ◌==◌,
+  nat_eq,
   nat_lt,
   nat_le,
   ◌&&◌,
@@ -13,12 +14,13 @@ use Rattle.std.specs.Prelude.{
   [],
   ◌∷◌,
   length,
+  drop,
   Option,
   Some,
   None,
   if◌then◌else◌,
 }
-use Rattle.std.specs.List.{slice_split, list_all}
+use Rattle.std.specs.List.{slice_split, list_all, starts_with}
 use Rattle.std.specs.Char.{digit_value}
 use Rattle.std.specs.Str.{bytes_eq}
 use Rattle.std.specs.Str.Parse.{digits_value}
@@ -62,6 +64,11 @@ unfoldable pub decimal_in : List ℕ → Option ℕ
 decimal_in [] = None
 decimal_in (c ∷ []) = number_in 10 (c ∷ [])
 decimal_in (c ∷ d ∷ ds) = if c == 48 then None else number_in 10 (c ∷ d ∷ ds)
+
+-- a DEC in one word with these letters in front of it
+unfoldable pub decimal_past : List ℕ → List ℕ → Option ℕ
+decimal_past letters word =
+    if starts_with nat_eq word letters then decimal_in (drop (length letters) word) else None
 
 -- a hexadecimal number of 1 to that many digits of either case
 unfoldable pub hex_in : ℕ → List ℕ → Option ℕ

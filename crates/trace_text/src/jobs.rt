@@ -1,25 +1,14 @@
 //! What a record does, by the words behind its counter.
-ghost use Rattle.std.specs.Prelude.{◌≡◌, ◌<◌, Ok, IfOk, OnSome};
+ghost use Rattle.std.specs.Prelude.{◌≡◌, ◌<◌, Ok, IfOk, OnSome, IfNone};
 ghost use Rattle.board_types.specs.Legal.{is_port, is_hpet_place};
 ghost use Rattle.irq_edges.specs.Lines.{is_line};
 ghost use Rattle.trace_text.specs.Tokens.{rest};
-ghost use Rattle.trace_text.specs.Rows.{by_table, last};
-ghost use Rattle.trace_text.specs.private.Groups.{
-  rows_of_i,
-  rows_of_o,
-  rows_of_h,
-  rows_of_a,
-  rows_of_s,
-  rows_of_r,
-  rows_of_w,
-  rows_of_c,
-  rows_of_n,
-  rows_of_p,
-  rows_of_m,
-};
+ghost use Rattle.trace_text.specs.Rows.{last};
+ghost use Rattle.board_types.specs.declared.setup.TheConstants.{HV_FORMAT};
 ghost use Rattle.trace_text.specs.Records.{
   board,
   to_msr,
+  from_format,
   source,
   in_row,
   out_row,
@@ -29,20 +18,20 @@ ghost use Rattle.trace_text.specs.Records.{
   wrmsr_row,
   ack_row,
   rose_row,
+  apic_counts,
   counts_row,
   refresh_row,
   page_row,
   clock_row,
   move_row,
   page_at,
-  job_of,
   IsJob,
 };
 
 use crate::faults::Reason;
 use crate::records::{Body, Job};
 use crate::words::Words;
-use board_types::{Access, TickSource};
+use board_types::{APIC_FORMAT, Access, HV_FORMAT, TickSource};
 
 /// The MSR of steal time (Linux, "KVM-specific MSRs", MSR_KVM_STEAL_TIME), which isn't kept.
 const MSR_STEAL_TIME: u32 = 0x4b56_4d03;
@@ -128,7 +117,7 @@ pub(crate) fn out_job(body: &Body, words: &mut Words<'_>) -> Result<Job, Reason>
 }
 
 #[inline(always)]
-fn hr_job(body: &Body, words: &mut Words<'_>) -> Result<Job, Reason>
+pub(crate) fn hr_job(body: &Body, words: &mut Words<'_>) -> Result<Job, Reason>
     ensures job { result ≡ hr_row body.now words.old }
     ensures valid { IfOk result (IsJob body.now) }
 {
@@ -143,7 +132,7 @@ fn hr_job(body: &Body, words: &mut Words<'_>) -> Result<Job, Reason>
 }
 
 #[inline(always)]
-fn hw_job(body: &Body, words: &mut Words<'_>) -> Result<Job, Reason>
+pub(crate) fn hw_job(body: &Body, words: &mut Words<'_>) -> Result<Job, Reason>
     ensures job { result ≡ hw_row body.now words.old }
     ensures valid { IfOk result (IsJob body.now) }
 {
@@ -162,7 +151,7 @@ fn hw_job(body: &Body, words: &mut Words<'_>) -> Result<Job, Reason>
 }
 
 #[inline(never)]
-fn rdmsr_job(body: &Body, words: &mut Words<'_>) -> Result<Job, Reason>
+pub(crate) fn rdmsr_job(body: &Body, words: &mut Words<'_>) -> Result<Job, Reason>
     ensures job { result ≡ rdmsr_row body.now words.old }
     ensures valid { IfOk result (IsJob body.now) }
 {
@@ -172,7 +161,7 @@ fn rdmsr_job(body: &Body, words: &mut Words<'_>) -> Result<Job, Reason>
 }
 
 #[inline(never)]
-fn wrmsr_job(body: &Body, words: &mut Words<'_>) -> Result<Job, Reason>
+pub(crate) fn wrmsr_job(body: &Body, words: &mut Words<'_>) -> Result<Job, Reason>
     ensures job { result ≡ wrmsr_row body.now words.old }
     ensures valid { IfOk result (IsJob body.now) }
 {
@@ -183,7 +172,7 @@ fn wrmsr_job(body: &Body, words: &mut Words<'_>) -> Result<Job, Reason>
 }
 
 #[inline(always)]
-fn ack_job(body: &Body, words: &mut Words<'_>) -> Result<Job, Reason>
+pub(crate) fn ack_job(body: &Body, words: &mut Words<'_>) -> Result<Job, Reason>
     ensures job { result ≡ ack_row body.now words.old }
     ensures valid { IfOk result (IsJob body.now) }
 {
@@ -197,7 +186,7 @@ fn ack_job(body: &Body, words: &mut Words<'_>) -> Result<Job, Reason>
 }
 
 #[inline(never)]
-fn rose_job(body: &Body, words: &mut Words<'_>) -> Result<Job, Reason>
+pub(crate) fn rose_job(body: &Body, words: &mut Words<'_>) -> Result<Job, Reason>
     ensures job { result ≡ rose_row body.now words.old }
     ensures valid { IfOk result (IsJob body.now) }
 {
@@ -216,7 +205,7 @@ pub(crate) fn step_job(body: &Body, words: &Words<'_>) -> Result<Job, Reason>
 }
 
 /// An access without words behind its name.
-fn plain_job(body: &Body, access: Access, words: &Words<'_>) -> Result<Job, Reason>
+pub(crate) fn plain_job(body: &Body, access: Access, words: &Words<'_>) -> Result<Job, Reason>
     ensures job { result ≡ last (board body.now access) words.now }
     ensures valid { IfOk result (IsJob body.now) }
 {
@@ -224,10 +213,11 @@ fn plain_job(body: &Body, access: Access, words: &Words<'_>) -> Result<Job, Reas
     board(body, access)
 }
 
-/// A source of ticks.
+/// A source of ticks that each board has.
 fn source(words: &mut Words<'_>) -> Option<TickSource>
     ensures value { result ≡ source words.old }
     ensures past { OnSome result (words.new ≡ rest words.old) }
+    ensures still { IfNone result (words.new ≡ words.old) }
 {
     if words.takes(b"pit") {
         Some(TickSource::Pit)
@@ -255,13 +245,32 @@ fn source(words: &mut Words<'_>) -> Option<TickSource>
 }
 
 #[inline(never)]
-fn counts_job(body: &Body, words: &mut Words<'_>) -> Result<Job, Reason>
+pub(crate) fn counts_job(body: &Body, words: &mut Words<'_>) -> Result<Job, Reason>
     ensures job { result ≡ counts_row body.now words.old }
     ensures valid { IfOk result (IsJob body.now) }
 {
-    let from = source(words).ok_or(Reason::Form)?;
+    if let Some(from) = source(words) {
+        words.end()?;
+        return board(body, Access::CountsOf { from });
+    }
+    let cpu = words.dec_past(b"apic").ok_or(Reason::Form)?;
     words.end()?;
-    board(body, Access::CountsOf { from })
+    apic_counts(body, cpu)
+}
+
+/// The ticks of the timer of this processor's local APIC.
+fn apic_counts(body: &Body, cpu: u64) -> Result<Job, Reason>
+    ensures job { result ≡ apic_counts body.now cpu }
+    ensures valid { IfOk result (IsJob body.now) }
+{
+    if body.format < APIC_FORMAT {
+        return Err(Reason::Form);
+    }
+    if cpu >= u64::from(body.cpus) {
+        return Err(Reason::Cpu);
+    }
+    let from = TickSource::Apic(cpu as u8);
+    Ok(Job::Board(Access::CountsOf { from }))
 }
 
 /// The number of a page that stands last in its line.
@@ -280,7 +289,7 @@ fn page_in(body: &Body, words: &mut Words<'_>) -> Result<u8, Reason>
 }
 
 #[inline(always)]
-fn refresh_job(body: &Body, words: &mut Words<'_>) -> Result<Job, Reason>
+pub(crate) fn refresh_job(body: &Body, words: &mut Words<'_>) -> Result<Job, Reason>
     ensures job { result ≡ refresh_row body.now words.old }
     ensures valid { IfOk result (IsJob body.now) }
 {
@@ -288,7 +297,7 @@ fn refresh_job(body: &Body, words: &mut Words<'_>) -> Result<Job, Reason>
     Ok(Job::Board(Access::Refresh { page }))
 }
 
-fn page_job(body: &Body, words: &mut Words<'_>) -> Result<Job, Reason>
+pub(crate) fn page_job(body: &Body, words: &mut Words<'_>) -> Result<Job, Reason>
     ensures job { result ≡ page_row body.now words.old }
     ensures valid { IfOk result (IsJob body.now) }
 {
@@ -297,7 +306,7 @@ fn page_job(body: &Body, words: &mut Words<'_>) -> Result<Job, Reason>
 }
 
 #[inline(always)]
-fn clock_job(body: &Body, words: &mut Words<'_>) -> Result<Job, Reason>
+pub(crate) fn clock_job(body: &Body, words: &mut Words<'_>) -> Result<Job, Reason>
     ensures job { result ≡ clock_row body.now words.old }
     ensures valid { IfOk result (IsJob body.now) }
 {
@@ -305,7 +314,18 @@ fn clock_job(body: &Body, words: &mut Words<'_>) -> Result<Job, Reason>
     Ok(Job::Clock { page })
 }
 
-fn save_job(words: &Words<'_>) -> Result<Job, Reason>
+pub(crate) fn hv_job(body: &Body, words: &Words<'_>) -> Result<Job, Reason>
+    ensures job { result ≡ last (from_format HV_FORMAT body.now (Ok Job.Hv)) words.now }
+    ensures valid { IfOk result (IsJob body.now) }
+{
+    words.end()?;
+    if body.format < HV_FORMAT {
+        return Err(Reason::Form);
+    }
+    Ok(Job::Hv)
+}
+
+pub(crate) fn save_job(words: &Words<'_>) -> Result<Job, Reason>
     ensures job { result ≡ last (Ok Job.Save) words.now }
 {
     words.end()?;
@@ -313,7 +333,7 @@ fn save_job(words: &Words<'_>) -> Result<Job, Reason>
 }
 
 #[inline(never)]
-fn move_job(body: &Body, words: &mut Words<'_>) -> Result<Job, Reason>
+pub(crate) fn move_job(body: &Body, words: &mut Words<'_>) -> Result<Job, Reason>
     ensures job { result ≡ move_row body.now words.old }
     ensures valid { IfOk result (IsJob body.now) }
 {
@@ -322,182 +342,4 @@ fn move_job(body: &Body, words: &mut Words<'_>) -> Result<Job, Reason>
     let gap = words.dec().ok_or(Reason::Form)?;
     words.end()?;
     Ok(Job::Move { khz, start, gap })
-}
-
-/// What a record does, by the words behind its counter: their first byte says which rows of the table it may be.
-#[inline(never)]
-#[tactic(auto, unfolding(crate::specs::Records::job_of))]
-pub(crate) fn job_in(body: &Body, mut words: Words<'_>) -> Result<Job, Reason>
-    ensures job { result ≡ job_of body.now words.entry }
-    ensures valid { IfOk result (IsJob body.now) }
-{
-    match words.initial() {
-        b'i' => job_of_i(body, &mut words),
-        b'o' => job_of_o(body, &mut words),
-        b'h' => job_of_h(body, &mut words),
-        b'a' => job_of_a(body, &mut words),
-        b's' => job_of_s(body, &mut words),
-        b'r' => job_of_r(body, &mut words),
-        b'w' => job_of_w(body, &mut words),
-        b'c' => job_of_c(body, &mut words),
-        b'n' => job_of_n(body, &mut words),
-        b'p' => job_of_p(body, &mut words),
-        b'm' => job_of_m(body, &mut words),
-        _ => Err(Reason::Form),
-    }
-}
-
-/// The row `in`.
-#[inline(always)]
-fn job_of_i(body: &Body, words: &mut Words<'_>) -> Result<Job, Reason>
-    ensures job { result ≡ by_table (rows_of_i body.now) words.old }
-    ensures valid { IfOk result (IsJob body.now) }
-{
-    if words.takes(b"in") {
-        in_job(body, words)
-    } else {
-        Err(Reason::Form)
-    }
-}
-
-/// The row `out`.
-#[inline(always)]
-fn job_of_o(body: &Body, words: &mut Words<'_>) -> Result<Job, Reason>
-    ensures job { result ≡ by_table (rows_of_o body.now) words.old }
-    ensures valid { IfOk result (IsJob body.now) }
-{
-    if words.takes(b"out") {
-        out_job(body, words)
-    } else {
-        Err(Reason::Form)
-    }
-}
-
-/// The rows `hr` and `hw`.
-#[inline(always)]
-fn job_of_h(body: &Body, words: &mut Words<'_>) -> Result<Job, Reason>
-    ensures job { result ≡ by_table (rows_of_h body.now) words.old }
-    ensures valid { IfOk result (IsJob body.now) }
-{
-    if words.takes(b"hr") {
-        hr_job(body, words)
-    } else if words.takes(b"hw") {
-        hw_job(body, words)
-    } else {
-        Err(Reason::Form)
-    }
-}
-
-/// The row `ack`.
-#[inline(always)]
-fn job_of_a(body: &Body, words: &mut Words<'_>) -> Result<Job, Reason>
-    ensures job { result ≡ by_table (rows_of_a body.now) words.old }
-    ensures valid { IfOk result (IsJob body.now) }
-{
-    if words.takes(b"ack") {
-        ack_job(body, words)
-    } else {
-        Err(Reason::Form)
-    }
-}
-
-/// The rows `step` and `save`.
-#[inline(always)]
-fn job_of_s(body: &Body, words: &mut Words<'_>) -> Result<Job, Reason>
-    ensures job { result ≡ by_table (rows_of_s body.now) words.old }
-    ensures valid { IfOk result (IsJob body.now) }
-{
-    if words.takes(b"step") {
-        step_job(body, words)
-    } else if words.takes(b"save") {
-        save_job(words)
-    } else {
-        Err(Reason::Form)
-    }
-}
-
-/// The rows `rdmsr`, `refresh` and `rose`.
-#[inline(always)]
-fn job_of_r(body: &Body, words: &mut Words<'_>) -> Result<Job, Reason>
-    ensures job { result ≡ by_table (rows_of_r body.now) words.old }
-    ensures valid { IfOk result (IsJob body.now) }
-{
-    if words.takes(b"rdmsr") {
-        rdmsr_job(body, words)
-    } else if words.takes(b"refresh") {
-        refresh_job(body, words)
-    } else if words.takes(b"rose") {
-        rose_job(body, words)
-    } else {
-        Err(Reason::Form)
-    }
-}
-
-/// The rows `wrmsr` and `wall`.
-#[inline(always)]
-fn job_of_w(body: &Body, words: &mut Words<'_>) -> Result<Job, Reason>
-    ensures job { result ≡ by_table (rows_of_w body.now) words.old }
-    ensures valid { IfOk result (IsJob body.now) }
-{
-    if words.takes(b"wrmsr") {
-        wrmsr_job(body, words)
-    } else if words.takes(b"wall") {
-        plain_job(body, Access::Wall, words)
-    } else {
-        Err(Reason::Form)
-    }
-}
-
-/// The rows `counts` and `clock`.
-#[inline(always)]
-fn job_of_c(body: &Body, words: &mut Words<'_>) -> Result<Job, Reason>
-    ensures job { result ≡ by_table (rows_of_c body.now) words.old }
-    ensures valid { IfOk result (IsJob body.now) }
-{
-    if words.takes(b"counts") {
-        counts_job(body, words)
-    } else if words.takes(b"clock") {
-        clock_job(body, words)
-    } else {
-        Err(Reason::Form)
-    }
-}
-
-/// The row `next`.
-#[inline(always)]
-fn job_of_n(body: &Body, words: &mut Words<'_>) -> Result<Job, Reason>
-    ensures job { result ≡ by_table (rows_of_n body.now) words.old }
-    ensures valid { IfOk result (IsJob body.now) }
-{
-    if words.takes(b"next") {
-        plain_job(body, Access::Next, words)
-    } else {
-        Err(Reason::Form)
-    }
-}
-
-/// The row `page`.
-#[inline(always)]
-fn job_of_p(body: &Body, words: &mut Words<'_>) -> Result<Job, Reason>
-    ensures job { result ≡ by_table (rows_of_p body.now) words.old }
-    ensures valid { IfOk result (IsJob body.now) }
-{
-    if words.takes(b"page") {
-        page_job(body, words)
-    } else {
-        Err(Reason::Form)
-    }
-}
-
-/// The row `move`.
-#[inline(always)]
-fn job_of_m(body: &Body, words: &mut Words<'_>) -> Result<Job, Reason>
-    ensures job { result ≡ by_table (rows_of_m body.now) words.old }
-    ensures valid { IfOk result (IsJob body.now) }
-{
-    if words.takes(b"move") {
-        move_job(body, words)
-    } else {
-        Err(Reason::Form)
-    }
 }

@@ -16,7 +16,9 @@
 
 mod bytes;
 mod faults;
+mod groups;
 mod header;
+mod header_lines;
 mod jobs;
 mod reading;
 mod records;

@@ -12,7 +12,8 @@ ghost use Rattle.trace_text.specs.Records.{
 };
 
 use crate::faults::Reason;
-use crate::jobs::{in_job, job_in, out_job, step_job};
+use crate::groups::job_in;
+use crate::jobs::{in_job, out_job, step_job};
 use crate::words::Words;
 use board_types::Access;
 
@@ -25,6 +26,8 @@ pub enum Job {
     Page { page: u8 },
     /// The clock is read by the page of this processor.
     Clock { page: u8 },
+    /// The reference page is read; from format 4 on.
+    Hv,
     /// The board is saved.
     Save,
     /// The board moves to a host of this rate in kHz, whose counter is at `start`, behind a gap in nanoseconds.

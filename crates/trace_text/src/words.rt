@@ -33,6 +33,7 @@ ghost use Rattle.trace_text.specs.Tokens.{
   first,
   rest,
   starts,
+  decimal_past,
   dec,
   hex,
   byte,
@@ -70,7 +71,7 @@ impl<'a> Model for Words<'a> {
 }
 
 impl<'a> Words<'a> {
-    ghost use Rattle.trace_text.specs.private.Spelled.{number_of};
+    ghost use Rattle.trace_text.specs.private.Spelled.{number_of, begins, shortened};
     ghost use Rattle.trace_text.specs.private.Groups.{IsInitial};
 
     /// All words of a line.
@@ -214,6 +215,34 @@ impl<'a> Words<'a> {
         ensures past { OnSome result (self.new ≡ rest self.old) }
     {
         self.number_apart(10)?.decimal()
+    }
+
+    /// The next word as a DEC behind these letters, which have no space.
+    pub(crate) fn dec_past(&mut self, letters: &[u8]) -> Option<u64>
+        requires { IsTrue (list_all (λ b. not (b == 32)) letters.now) }
+        ensures value { result ≡ first (decimal_past letters.now) self.old }
+        ensures past { OnSome result (self.new ≡ rest self.old) }
+    {
+        if !self.skips(letters) {
+            return None;
+        }
+        self.dec()
+    }
+
+    /// Goes past letters that the next word begins with, if it does.
+    fn skips(&mut self, letters: &[u8]) -> bool
+        requires { IsTrue (list_all (λ b. not (b == 32)) letters.now) }
+        ensures found { result ≡ begins letters.now self.old }
+        ensures past { OnTrue result (self.new ≡ shortened (length letters.now) self.old) }
+    {
+        if self.at > self.line.len() {
+            return false;
+        }
+        if !self.line[self.at..].starts_with(letters) {
+            return false;
+        }
+        self.at += letters.len();
+        true
     }
 
     /// The next word as a HEX.

@@ -1,10 +1,12 @@
 -- The table of records by the first byte of a row's name.
 use Rattle.std.specs.Prelude.{ℕ, ◌≡◌, ◌≢◌, false, List, [], ◌∷◌, codes, Ok}
-use Rattle.board_types.specs.declared.access.Access.TheVariants.{Step, Wall, Next}
+use Rattle.board_types.specs.declared.access.Access.TheVariants.{Step, Wall, Next, Eoi}
+use Rattle.board_types.specs.declared.setup.TheConstants.{HV_FORMAT}
 use Rattle.trace_text.specs.Tokens.{starts}
 use Rattle.trace_text.specs.Rows.{last, Row, row}
 use Rattle.trace_text.specs.Records.{
   board,
+  from_format,
   in_row,
   out_row,
   hr_row,
@@ -21,7 +23,7 @@ use Rattle.trace_text.specs.Records.{
 }
 use Rattle.trace_text.specs.declared.records.Body.{Body}
 use Rattle.trace_text.specs.declared.records.Job.{Job}
-use Rattle.trace_text.specs.declared.records.Job.TheVariants.{Save}
+use Rattle.trace_text.specs.declared.records.Job.TheVariants.{Hv, Save}
 
 -- no word that begins with another byte stands first
 abbrev pub IsInitial : ℕ → List (List ℕ) → Type 0
@@ -38,10 +40,14 @@ abbrev pub rows_of_h : Body → List (Row Job)
 rows_of_h body =
     row (codes "hr") (hr_row body)
     ∷ row (codes "hw") (hw_row body)
+    ∷ row (codes "hv") (last (from_format HV_FORMAT body (Ok Hv)))
     ∷ []
 
 abbrev pub rows_of_a : Body → List (Row Job)
 rows_of_a body = row (codes "ack") (ack_row body) ∷ []
+
+abbrev pub rows_of_e : Body → List (Row Job)
+rows_of_e body = row (codes "eoi") (last (board body Eoi)) ∷ []
 
 abbrev pub rows_of_s : Body → List (Row Job)
 rows_of_s body =

@@ -4,10 +4,13 @@ use Rattle.std.specs.Prelude.{
   ◌+◌,
   ◌*◌,
   ◌==◌,
+  nat_eq,
   nat_lt,
   nat_le,
   ◌&&◌,
   ◌||◌,
+  Bool,
+  false,
   List,
   [],
   ◌∷◌,
@@ -21,6 +24,7 @@ use Rattle.std.specs.Prelude.{
 }
 use Rattle.std.specs.Option.{option_map}
 use Rattle.std.specs.Char.{digit_value}
+use Rattle.std.specs.List.{starts_with}
 use Rattle.trace_text.specs.Tokens.{words_of, number_in}
 use Rattle.trace_text.specs.declared.bytes.Number.{Number}
 
@@ -45,6 +49,15 @@ behind_word [] [] = Some []
 behind_word [] (c ∷ cs) = if c == 32 then Some (words_of cs) else None
 behind_word (b ∷ bs) [] = None
 behind_word (b ∷ bs) (c ∷ cs) = if c == b then behind_word bs cs else None
+
+-- whether the first word begins with these letters, and the words without its first bytes
+abbrev pub begins : List ℕ → List (List ℕ) → Bool
+begins letters [] = false
+begins letters (w ∷ ws) = starts_with nat_eq w letters
+
+abbrev pub shortened : ℕ → List (List ℕ) → List (List ℕ)
+shortened count [] = []
+shortened count (w ∷ ws) = drop count w ∷ ws
 
 -- the words of a line from a place on: none behind its end
 unfoldable pub words_from : ℕ → List ℕ → List (List ℕ)
