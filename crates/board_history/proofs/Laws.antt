@@ -80,7 +80,7 @@ no_board-version c = by (eqb c 0)
     by true = refl
     by false = ap (λ (p : ProcessorParts). p.version) (get_or-replicate 64 c)
 
--- legality of one entry more, and of the rest behind a front
+-- legality of one entry more, and of the rest after a prefix
 pub LegalFrom-snoc : (before xs : List Entry) (e : Entry) → LegalFrom before xs → May (before ++ xs) e → LegalFrom before (xs ++ e ∷ [])
 LegalFrom-snoc before [] e l may = (subst (λ h. May h e) (append-nil before) may, tt)
 LegalFrom-snoc before (x ∷ xs) e l may =
@@ -155,7 +155,7 @@ machine-stays before (x ∷ xs) l =
     sym (ap (λ h. machine_of (board_after h)) (append_assoc before (x ∷ []) xs))
     ∙ (machine-stays (before ++ x ∷ []) xs l.1 ∙ (ap machine_of (board_after-snoc before x) ∙ machine-entry before x l.0))
 
--- the rest of a legal history behind a front that isn't empty
+-- the rest of a legal history after a prefix that isn't empty
 pub IsLegal-rest : (xs ys : List Entry) (x : Entry) → IsLegal (x ∷ xs ++ ys) → LegalFrom (x ∷ xs) ys
 IsLegal-rest xs ys (Opened s) l = LegalFrom-rest (Opened s ∷ []) xs ys l
 IsLegal-rest xs ys (Board pass cpu h access reply) l = absurd l
@@ -163,7 +163,7 @@ IsLegal-rest xs ys (PageRead pass cpu h page locked) l = absurd l
 IsLegal-rest xs ys (HvRead pass h page locked) l = absurd l
 IsLegal-rest xs ys (Clamp pass cpu reading clock) l = absurd l
 
--- what any front of a legal history tells: versions and the greatest reading never fall
+-- what holds of any prefix of a legal history: versions and the greatest reading never fall
 pub legal-version : (xs ys : List Entry) (c : ℕ) → IsPrefix xs ys → IsLegal ys → version_after xs c ≤ version_after ys c
 legal-version [] ys c p l = let none = no_board-version c in omega arith
 legal-version (x ∷ xs) ys c p l = subst (λ h. version_after (x ∷ xs) c ≤ version_after h c) p.1
@@ -182,7 +182,7 @@ legal-floor (x ∷ xs) ys p l =
 pub legal-at : (xs ys : List Entry) (x e : Entry) → IsLegal (x ∷ xs ++ e ∷ ys) → May (x ∷ xs) e
 legal-at xs ys x e l = (IsLegal-rest xs (e ∷ ys) x l).0
 
--- the entries of a number in two lists, one behind the other
+-- the entries of a number in two lists, one after the other
 entries_step : (b : Bool) (x : Entry) (us bs cs : List Entry) → us ≡ bs ++ cs → (if b then (x ∷ us) else us) ≡ (if b then (x ∷ bs) else bs) ++ cs
 entries_step true x us bs cs e = ap (λ es. x ∷ es) e
 entries_step false x us bs cs e = e

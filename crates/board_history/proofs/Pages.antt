@@ -118,7 +118,7 @@ machine_of-access b cpu h a = λ i. record {
   guest_khz = after_access-guest_khz b cpu h a i;
 }
 
--- the processors behind an access
+-- the processors after an access
 processors-are : (b : BoardParts) (cpu h : ℕ) (a : Access) → (after_access b cpu h a).processors
     ≡ published_at (published_by cpu a) b.anchor b.guest_khz h a b.processors
 unfolding after_access after_act after_run processors_after
@@ -154,7 +154,7 @@ none-hv cpus cpu a none = by (publishes_hv a) none
 none-page : (cpus cpu : ℕ) (a : Access) → page_published cpus cpu a ≡ None → published_by cpu a ≡ None
 none-page cpus cpu a none = sym (ap (λ (t : Bool). cond t (Some cpus) (published_by cpu a)) (none-hv cpus cpu a none)) ∙ none
 
--- a page of the table by its kind, of a board and of the board behind an access
+-- a page of the table by its kind, of a board and of the board after an access
 pub at-hv : (b : BoardParts) (j : ℕ) → j ≡ b.cpus → page_at b j ≡ as_page (hv_in b.hv)
 at-hv b j e = ap (λ (t : Bool). page_if t b j) (eq-eqb j b.cpus e)
 
@@ -292,7 +292,7 @@ published-steady anchor guest_khz h p rate less even = record {
 pub hv-steady : (p : HvParts) → p.version ≤ LAST_VERSION → p.version % 2 ≡ 0 → IsSteadyPage (as_page (hv_in p))
 hv-steady p most even = record { even = even; most = most; mul = omega arith; shift = record { sfits = omega arith }; flags = omega arith }
 
--- the board behind an access that is taken is as steady as the one before it
+-- the board after an access that is taken is as steady as the one before it
 pub access-steady : (b : BoardParts) (cpu h : ℕ) (a : Access) → IsSteady b → cpu < b.cpus → IsTrue (is_legal b.cpus b.format a)
     → refusal_of b cpu h a ≡ None → IsSteady (after_access b cpu h a)
 access-steady b cpu h a s inside legal taken = record {

@@ -67,7 +67,7 @@ board_from b (e ∷ es) = board_from (after_entry b e) es
 abbrev pub board_after : List Entry → BoardParts
 board_after h = board_from no_board h
 
--- the greatest reading that was told in a history
+-- the greatest reading that was answered in a history
 abbrev pub floor_after : List Entry → ℕ
 floor_after h = (board_after h).greatest
 
@@ -75,7 +75,7 @@ floor_after h = (board_after h).greatest
 abbrev pub version_after : List Entry → ℕ → ℕ
 version_after h cpu = (page_at (board_after h) cpu).version
 
--- the entry of a read of the page c of a table: behind the pages of the processors stands the
+-- the entry of a read of the page c of a table: after the pages of the processors comes the
 -- reference page
 abbrev pub read_if : Bool → ℕ → ℕ → ℕ → Page → Bool → Entry
 read_if true pass c h page locked = HvRead pass h (of_page page) locked
@@ -118,7 +118,7 @@ pub record IsAnswered (b : BoardParts) (cpu h : ℕ) (a : Access) (r : Reply) : 
   pub taken : refusal_of b cpu h a ≡ None
   pub reply : reply_of b cpu h a ≡ r
 
--- the entry may come behind these
+-- the entry may come after these
 abbrev pub May : List Entry → Entry → Type 0
 May before (Opened s) = ⊥
 May before (Board pass cpu h access reply) = IsAnswered (board_after before) cpu h access reply
@@ -129,7 +129,7 @@ May before (Clamp pass cpu reading clock) =
     Reads (machine_of (board_after before)) (last_of (entries_of pass before)) cpu reading
     × (clock ≡ max reading (floor_after before))
 
--- each entry may come behind those before it
+-- each entry may come after those before it
 abbrev pub LegalFrom : List Entry → List Entry → Type 0
 LegalFrom before [] = Unit {0}
 LegalFrom before (e ∷ es) = May before e × LegalFrom (before ++ e ∷ []) es

@@ -20,7 +20,7 @@ use Rattle.board_core.specs.PowerOn.{board_at_power_on}
 use Rattle.board_core.specs.Tsc.{processor_at}
 use Rattle.board_core.specs.Pages.{page_in}
 
--- the page k of a board's table: those of the processors, and behind the last the reference page
+-- the page k of a board's table: those of the processors, and after the last the reference page
 -- of Hyper-V, which is all 0 where the format has none (own)
 abbrev pub page_if : Bool → BoardParts → ℕ → Page
 page_if t b k = if t then as_page (hv_in b.hv) else page_in (processor_at b k)

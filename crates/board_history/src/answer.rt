@@ -1,4 +1,4 @@
-//! What is told of a page that was read.
+//! What a read of a page answers.
 ghost use Rattle.std.specs.Prelude.{◌≡◌};
 ghost use Rattle.board_history.specs.Machine.{answer_by, hv_answer_by};
 

@@ -38,8 +38,8 @@ pub enum Entry {
         page: HvPage,
         locked: bool,
     },
-    /// The clamp behind a read of an enabled page of processor `cpu`: what the page gave, and the clock that was
-    /// told, the greater of it and of all that were told before.
+    /// The clamp after a read of an enabled page of processor `cpu`: what the page gave, and the clock that was
+    /// answered, the greater of it and of all that were answered before.
     Clamp {
         pass: u64,
         cpu: u8,

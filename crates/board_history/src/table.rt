@@ -1,4 +1,4 @@
-//! The pages of a board in the order of a table: one for each processor, and behind the last the reference page of
+//! The pages of a board in the order of a table: one for each processor, and after the last the reference page of
 //! Hyper-V.
 ghost use Rattle.std.specs.Prelude.{◌≡◌, ◌≤◌};
 ghost use Rattle.board_history.specs.Machine.{page_at, page_published};

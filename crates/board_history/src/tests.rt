@@ -18,7 +18,7 @@ fn page() -> Page {
     }
 }
 
-/// The ratio of 2 GHz to 1 GHz, with 48 bits behind the point.
+/// The ratio of 2 GHz to 1 GHz, with 48 bits after the binary point.
 const TWICE: u64 = 1 << 49;
 
 #[test]
@@ -65,7 +65,7 @@ fn a_reference_page_that_is_read_tells_its_time(rt: HostRuntime) {
     assert_eq!(rt; hv_answer_by(TWICE, &off, 900), HvReply::Off);
 }
 
-/// Of two processors, processor 1 writes: its own page is published, or the reference page behind both.
+/// Of two processors, processor 1 writes: its own page is published, or the reference page after both.
 #[test]
 fn a_write_publishes_one_page_of_the_table(rt: HostRuntime) {
     let write = |msr| page_published(2, 1, Access::MsrWrite { msr, value: 1 });

@@ -1,4 +1,4 @@
--- The opening meets the rule, and the end tells the whole history.
+-- The opening meets the rule, and the end gives the whole history.
 use Rattle.std.proofs.Common.{
   ◌≡◌,
   ℕ,
@@ -255,7 +255,7 @@ module _ (opening : BoardParts) where
     told_ended s r seen xs e shut k.3,
   )
 
-  -- each page of the board after the history stands in the words
+  -- each page of the board after the history is in the words
   page_ends : (s : St) (r : Rule opening s) (ws : List ℕ) (c : ℕ) {seen : List Entry} → c < pages_for opening.cpus → seen ≡ log_of opening s r → s.words ≡ ws
       → r.pen.hand ≡ None → page_of (words_at ws c) ≡ page_at (board_after seen) c
   page_ends s r ws c {seen} l same words shut =
@@ -269,7 +269,7 @@ module _ (opening : BoardParts) where
       version (field 0 (omega arith)) (field 1 (omega arith)) (field 2 (omega arith)) (field 3 (omega arith)) in
       sym (ap (λ h. page_at (board_after h) c) same ∙ (here ∙ ap (λ w. page_of (words_at w c)) words))
 
-  -- what the words tell at the end
+  -- what the words hold at the end
   pub closes : (id m : ℕ) (v : View) (ws : List ℕ) (xs : List (Unit {0})) → IsWhole m v → v.live ≡ true → v.limit ≡ Some m
       → Final (Seen (Kept opening) id v) ws xs → Closing opening v ws
   closes id m v ws xs w lives lim final =
@@ -358,7 +358,7 @@ at_word ws i j x same e = subst (λ (k : ℕ). x ≡ get_or ws k 0) same (found 
     found (y ∷ ys) zero x e = sym (some-injective y x e)
     found (y ∷ ys) (suc i) x e = found ys i x e
 
--- no page stands in a place that wasn't written
+-- no page is in a place that wasn't written
 pub no_page-everywhere : (n k : ℕ) → get_or (replicate n no_page) k no_page ≡ no_page
 no_page-everywhere zero k = refl
 no_page-everywhere (suc n) zero = refl

@@ -390,7 +390,7 @@ module _ (opening : BoardParts) where
       let count : loud (log_of s r ++ es) ≡ loud (log_of s r) = loud-append (log_of s r) es ∙ (let z = loud_quiet es calm in omega arith) in
       record { front = zero' ∙ (f.front ∙ sym count); low = let low = f.low in omega arith; clamp = one' }
 
-  -- what the history tells to the seat id, which has seen v.seen and then what stands between
+  -- what the history shows the seat id, which has seen v.seen and then what lies between
   pub learnt : (s : St) (r : Rule s) (id p : ℕ) (v : View) (e : Entry) (at : get_elem? s.views id ≡ some v) → v.number ≡ Some p → v.meet ≡ None → v.live ≡ true
       → Comes s r id (e ∷ [])
       → Learnt v (r.each id v at).begins.0 ((v.seen ++ (r.each id v at).begins.0) ++ e ∷ [])

@@ -59,7 +59,7 @@ module _ {A : Type 0} where
   pub prefix_length : (xs ys : List A) → IsPrefix xs ys → length xs ≤ length ys
   prefix_length xs ys p = omega (arith, sym (ap length p.1) ∙ length-append xs p.0)
 
-  -- a list begins what goes on behind it
+  -- a list is a prefix of what goes on after it
   pub prefix_on : (xs ys zs : List A) → IsPrefix xs ((xs ++ ys) ++ zs)
   prefix_on xs ys zs = (ys ++ zs, sym (append_assoc xs ys zs))
 

@@ -144,7 +144,7 @@ module _ (opening : BoardParts) where
       (subst (λ l. IsPrefix l (log_of opening s r ++ [])) (sym a) (prefix_more v.seen (log_of opening s r) [] old.begins))
       (number_stays (log_of opening s r) [] v.seen p mine refl ∙ ap (entries_of p) (sym a)) read misses))
 
-  -- a step on a word that is in no page, or a load, after which the seat has heard an entry
+  -- a step on a word that is in no page, or a load, after which the seat has seen an entry
   hears : (s : St) (r : Rule opening s) (words' : List ℕ) (id p : ℕ) (me : M) (x : Entry) (at : get_elem? s.views id ≡ some me.0) → me.0.number ≡ Some p
       → me.0.meet ≡ None → me.0.live ≡ true
       → is_of p x ≡ true → IsQuietEntry x → May (log_of opening s r) x → length words' ≡ length s.words → ((c k : ℕ) → word_of words' c k ≡ word_of s.words c k)

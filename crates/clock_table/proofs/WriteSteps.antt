@@ -325,7 +325,7 @@ module _ (opening : BoardParts) where
                 ∙ sym (ap (λ (b : Bool). if b then or_else (get_or (set o.put k (Some x)) j None) (field_at q j) else field_at q j) shut))));
           }
 
-  -- an access that is answered behind what the pen's holder has seen is so behind all
+  -- an access that is answered after what the pen's holder has seen is so after the whole history
   answered_here : (seen between : List Entry) (cpu h : ℕ) (a : Access) (reply : Reply) → IsQuiet between
       → IsAnswered (board_after seen) cpu h a reply → IsAnswered (board_after (seen ++ between)) cpu h a reply
   answered_here seen between cpu h a reply q may =
@@ -347,7 +347,7 @@ module _ (opening : BoardParts) where
   may_here n seen between (Clamp pass cpu reading clock) c q is may = absurd is
   may_here n seen between (Board pass cpu h access reply) c q is may = answered_here seen between cpu h access reply q may
 
-  -- what the entry publishes, behind all
+  -- what the entry publishes, after the whole history
   page_new : (n : ℕ) (seen between : List Entry) (e : Entry) (c d : ℕ) → IsQuiet between → IsPublishing n c e
       → page_at (board_after ((seen ++ between) ++ e ∷ [])) d ≡ page_at (board_after (seen ++ e ∷ [])) d
   page_new n seen between (Opened s) c d q is = absurd is
@@ -382,7 +382,7 @@ module _ (opening : BoardParts) where
   page_else seen (Board pass cpu h access reply) c d is ne = ap (λ (x : BoardParts). page_at x d) (board_after-snoc seen (Board pass cpu h access reply))
       ∙ page_at-else (board_after seen) cpu h c d access is ne
 
-  -- an entry that publishes no page is legal behind all, where it is so behind what the pen's holder has seen
+  -- an entry that publishes no page is legal after the whole history, where it is so after what the pen's holder has seen
   may_enter : (n : ℕ) (seen between : List Entry) (e : Entry) → IsQuiet between → PublishesNone n e → May seen e → May (seen ++ between) e
   may_enter n seen between (Opened s) q is may = may
   may_enter n seen between (PageRead pass cpu h page locked) q is may = absurd is

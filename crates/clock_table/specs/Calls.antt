@@ -36,7 +36,7 @@ pub record IsPen (v : View) : Type 0 where
   pub meet : v.meet ≡ None
   pub pen : v.pen ≡ true
 
--- the entry has the seat's number, and may come behind what the seat has seen
+-- the entry has the seat's number, and may come after what the seat has seen
 pub record IsNext (e : Entry) (v : View) : Type 0 where
   pub number : pass_of e ≡ v.number
   pub legal : May v.seen e

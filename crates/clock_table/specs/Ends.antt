@@ -1,4 +1,4 @@
--- What the end of a table tells.
+-- What the end of a table gives.
 use Rattle.std.specs.Prelude.{◌≡◌, ℕ, ◌≤◌, List, [], ◌∷◌, length, None, true}
 use mathlib.Core.List.{IsPrefix}
 use Rattle.board_core.specs.Tsc.{no_processor}
@@ -10,7 +10,7 @@ use Rattle.clock_table.specs.declared.view.View.{View}
 use Rattle.clock_table.specs.declared.view.Miss.{Miss}
 use Rattle.clock_table.specs.declared.view.Ended.{Ended}
 
--- what stands in the place of a page that isn't there
+-- what the place of a page that isn't there holds
 abbrev pub no_page : Page
 no_page = page_in no_processor
 
@@ -28,7 +28,7 @@ abbrev pub MissesTold : List Entry → List Miss → Type 0
 MissesTold h [] = Unit {0}
 MissesTold h (x ∷ xs) = (x.second ≤ version_after h x.page) × MissesTold h xs
 
--- each pass had seen a beginning of the history, with all entries of its number
+-- each pass had seen a prefix of the history, with all entries of its number
 abbrev pub EndedTold : List Entry → List Ended → Type 0
 EndedTold h [] = Unit {0}
 EndedTold h (x ∷ xs) =

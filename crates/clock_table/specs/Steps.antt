@@ -98,7 +98,7 @@ abbrev pub loud : List Entry → ℕ
 loud [] = 0
 loud (e ∷ es) = loudness e + loud es
 
--- what the history tells a seat that has seen v.seen, then what stands between, and then an entry
+-- what the history shows a seat that has seen v.seen, then what lies between, and then an entry
 pub record Learnt (v : View) (between seen : List Entry) : Type 0 where
   pub legal : IsLegal seen
   pub own : (p : ℕ) → v.number ≡ Some p → entries_of p between ≡ []
@@ -111,7 +111,7 @@ heard v between e = record v { seen = (v.seen ++ between) ++ e ∷ []; read = No
 abbrev pub Hears : Entry → View → View → Type 0
 Hears e v w = (between : List Entry) × (w ≡ heard v between e) × Learnt v between w.seen
 
--- the same by the seat that holds the pen: what stands between is quiet, and no page is open
+-- the same by the seat that holds the pen: what lies between is quiet, and no page is open
 abbrev pub told : View → List Entry → Entry → View
 told v between e = record v {
   seen = (v.seen ++ between) ++ e ∷ [];
@@ -244,7 +244,7 @@ met v w = record {
   ended = v.ended ++ (w.ended ++ ended_of w.number w);
 }
 
--- a meet is over, and what its end tells
+-- a meet is over, and what its end gives
 abbrev pub parted : View → View
 parted v = record v { meet = None; read = None }
 

@@ -5,11 +5,11 @@ use Rattle.pvclock_page.specs.declared.page.Page.{Page}
 use Rattle.pvclock_page.specs.Words.{words_of}
 use Rattle.atomic_table.specs.Seated.{TableId}
 
--- where the word k of the page c stands
+-- where the word k of the page c is
 abbrev pub place : ℕ → ℕ → ℕ
 place c k = 32 + (16 * c + k)
 
--- how many pages a table has for so many processors: behind theirs stands the reference page
+-- how many pages a table has for so many processors: after theirs comes the reference page
 abbrev pub pages_for : ℕ → ℕ
 pages_for cpus = cpus + 1
 

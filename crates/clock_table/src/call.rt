@@ -1,7 +1,7 @@
 //! An access as it is asked.
 use board_core::Access;
 
-/// An access that a pass asks for: all that its entry tells but the reply.
+/// An access that a pass asks for: all that its entry has but the reply.
 #[derive(Clone, Copy, Debug, PartialEq, Eq)]
 pub struct Call {
     /// The number of the pass.

@@ -17,7 +17,7 @@ use std::alloc::Global;
 /// How many pages a table has at most: those of 64 processors, and the reference page.
 pub const MOST_PAGES: usize = 65;
 
-/// What stands in the place of a page that isn't there.
+/// What the place of a page that isn't there holds.
 const NO_PAGE: Page = Page {
     version: 0,
     tsc_timestamp: 0,
@@ -29,12 +29,12 @@ const NO_PAGE: Page = Page {
     enabled: false,
 };
 
-/// What a table held at its end: the front word, the greatest reading, and the pages; 0 in the places behind them.
+/// What a table held at its end: the front word, the greatest reading, and the pages; 0 in the places after them.
 #[derive(Debug, Drop, PartialEq, Eq)]
 pub struct Closed {
     pub front: u64,
     pub greatest: u64,
-    /// Those of the processors, and behind them the reference page.
+    /// Those of the processors, and after them the reference page.
     pub pages: [Page; MOST_PAGES],
 }
 
@@ -69,7 +69,7 @@ impl<N: Name> ClockTable<N> {
     }
 }
 
-/// The pages that stand in the words.
+/// The pages that are in the words.
 fn pages_of(words: &ClosedWords<(), Global>, count: usize) -> [Page; MOST_PAGES]
     requires full { IsFull words.now.words }
     requires count { slots_len words.now.words ≡ count }

@@ -1,8 +1,8 @@
-//! What tells contracts which table, and which entry, a value or a step belongs to.
+//! What shows contracts which table, and which entry, a value or a step belongs to.
 use std::marker::Brand;
 
 /// Which table, which opening state and which number of passes. It has no method that runs. All tables, seats,
-/// passes and boards of one `N: Name` agree on the three, also where a lock stands between them. A program makes a
+/// passes and boards of one `N: Name` agree on the three, also where a lock is between them. A program makes a
 /// `Blank`, and passes it to a function of its own over `N: Name`, which it calls at the marker type
 /// `std::marker::Brand`; the call picks the three.
 pub trait Name {

@@ -78,11 +78,11 @@ use std::marker::{Brand, Model, PhantomData};
 /// Words, no slots, and the opening state as the key of the rule.
 pub(crate) type Words = Table<(), View, BoardState, ClockRule, Global>;
 
-/// How far words that different threads write stand apart: no two of them are in one line of a cache of 64 bytes, nor in two
+/// How far words that different threads write are apart: no two of them are in one line of a cache of 64 bytes, nor in two
 /// that are fetched together.
 pub(crate) const APART: usize = 16;
 
-/// Where the front word and the clamp word stand, and the first page.
+/// Where the front word, the clamp word and the first page are.
 const FRONT: usize = 0;
 
 pub(crate) const CLAMP: usize = APART;
@@ -191,7 +191,7 @@ impl<N: Name> ClockTable<N> {
         self.table.shared.load::<Parts>(&mut seat.seat, FRONT)
     }
 
-    /// Adds 1 to the front word: a read under the lock, which is told by its entry.
+    /// Adds 1 to the front word: a read under the lock, which its entry describes.
     pub fn bump_read(&self, seat: &mut ClockSeat<N>, entry: &Entry)
         requires pen { IsPen seat.old }
         requires shut { seat.old.hand ≡ None }
@@ -204,7 +204,7 @@ impl<N: Name> ClockTable<N> {
 
     // No thread asks how many such accesses there were, so no word counts them: a store would take the line of the words
     // from the threads that read the pages.
-    /// Enters an access that publishes no page, by a load of the front word. It is told by its call and its reply, so no
+    /// Enters an access that publishes no page, by a load of the front word. Its call and its reply describe it, so no
     /// entry is built, and the reply isn't moved.
     pub fn enter(&self, seat: &mut ClockSeat<N>, call: &Call, reply: &Reply)
         requires pen { IsPen seat.old }
@@ -396,7 +396,7 @@ fn raise_as<N: Name, E: Tag>(table: &ClockTable<N>, seat: &mut ClockSeat<N>, cpu
     if found < x { x } else { found }
 }
 
-/// Where a word of a page stands. The pages are those of the processors, and behind them the reference page.
+/// Where a word of a page is. The pages are those of the processors, and after them the reference page.
 fn place(page: u8, k: usize) -> usize
     requires { k < 5 }
     ensures { result ≡ place_of page k }

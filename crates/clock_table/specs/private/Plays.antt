@@ -1,4 +1,4 @@
--- What each kind of step tells its seat, by the word that it steps on.
+-- What each kind of step shows its seat, by the word that it steps on.
 use Rattle.std.specs.Prelude.{◌≡◌, ℕ, suc, ◌<◌, ◌≤◌, max, [], Some, None, false}
 use Rattle.atomic_table.specs.Table.{Me, Step}
 use Rattle.board_history.specs.History.{version_after}

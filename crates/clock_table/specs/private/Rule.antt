@@ -93,7 +93,7 @@ EndedKept words cpus log seen (x ∷ xs) =
     IsPrefix x.seen seen × (entries_of x.number log ≡ entries_of x.number x.seen)
     × MissesKept words cpus x.misses × EndedKept words cpus log seen xs
 
--- what the rule alone knows: the entries behind Opened, the seat that holds the pen, the seat of
+-- what the rule alone knows: the entries after Opened, the seat that holds the pen, the seat of
 -- each number, how many numbers were given, and how many may be
 pub record Ghost : Type 0 where
   pub later : List Entry
