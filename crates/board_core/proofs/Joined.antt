@@ -1,8 +1,7 @@
 -- The conditions on the parts of a board are kept.
 use Rattle.std.proofs.Common.{◌≡◌, ℕ, zero, suc, ◌+◌, ◌*◌, ◌^◌, ◌<◌, ◌≤◌, Bool, true, false, cond, if◌then◌else◌, leb, ltb, eqb, List, length, get_or, set, replicate, Option, Some, None, IfSome, IsTrue, refl, sym, ap, subst, ◌∙◌, arith, inl, inr}
 use Rattle.std.proofs.lemmas.Bool.{cases_lt, cases_eq}
-use Rattle.std.proofs.lemmas.List.{get_or-set_same, get_or-set_other, get_or-replicate}
-use Rattle.tick_policy.specs.declared.parts.TickParts.{TickParts}
+use Rattle.std.proofs.lemmas.List.{get_or-set_same, get_or-set_other}
 use Rattle.irq_edges.specs.declared.edges.Edge.{Edge}
 use Rattle.irq_edges.specs.Lines.{line_numbers, level_of}
 use Rattle.host_counter.specs.declared.Anchor.{Anchor}
@@ -17,7 +16,7 @@ use Rattle.board_types.specs.declared.parts.TheConstants.{LAST_VERSION, MOST_ACC
 use Rattle.board_types.specs.Setup.{processors_of}
 use Rattle.board_devices.specs.Act.{acted}
 use Rattle.board_devices.specs.Lines.{levels}
-use Rattle.board_devices.specs.Places.{line_at, no_line}
+use Rattle.board_devices.specs.Places.{line_at}
 use Rattle.board_devices.specs.Rises.{lifts, one_if, rises_with}
 use Rattle.board_devices.proofs.Rises.{at-counted}
 use Rattle.board_core.specs.Time.{HasTime, devices_in, now_of, time_of_access}
@@ -25,19 +24,17 @@ use Rattle.board_core.specs.Tsc.{no_processor}
 use Rattle.board_core.specs.Pages.{published, prepared, published_at, published_by, processors_after}
 use Rattle.board_core.specs.Wall.{wall_number_after, wall_version_after, publishes_wall}
 use Rattle.board_core.specs.Rises.{rises_after}
-use Rattle.board_core.specs.Access.{act_of, own_edges, after_act}
+use Rattle.board_core.specs.Access.{act_of, own_edges, before_look}
 use Rattle.board_core.specs.Conditions.{IsFormat, IsVersion, IsWall, flags_valid, IsProcessor, AreProcessors, AreRises, IsJoined}
-use Rattle.board_core.specs.Upgrade.{gets_timers, gets_apics, apics_upgraded}
-use Rattle.local_apics.specs.declared.parts.ApicsParts.{ApicsParts}
-use Rattle.local_apics.specs.Parts.{AreApicsOf, apics_at_power_on}
-use Rattle.local_apics.proofs.Keeps.{AreApicsOf-apics_at_power_on}
+use Rattle.board_core.specs.Upgrade.{gets_timers}
+use Rattle.board_core.proofs.ApicTimers.{AreApics-more}
 use Rattle.board_core.specs.Conditions.{IsHv, AreApics}
-use Rattle.board_core.specs.Apics.{apics_of, apics_in}
+use Rattle.board_core.specs.Apics.{apics_in, apics_acted}
 use Rattle.board_core.specs.Hv.{no_hv, hv_in, with_page, hv_published, hv_written, publishes_hv, hv_after}
 use Rattle.board_core.specs.Tsc.{tsc_read}
 use Rattle.board_types.specs.Legal.{is_legal, is_msr}
 use Rattle.board_types.specs.declared.parts.HvParts.{HvParts}
-use Rattle.board_types.specs.declared.setup.TheConstants.{LAST_FORMAT, APIC_FORMAT, HV_FORMAT}
+use Rattle.board_types.specs.declared.setup.TheConstants.{LAST_FORMAT, HV_FORMAT}
 use Rattle.board_types.specs.declared.access.TheConstants.{MSR_HV_REFERENCE_TSC}
 use Rattle.clk_units.specs.Bits.{bit}
 use Rattle.clk_units.specs.Ranges.{IsKhz}
@@ -293,43 +290,6 @@ IsFormat-later format to cpus timers more valid later built e = elim (cases_lt f
           has_timers = subst (λ (b : Bool). more ≡ cond b 3 8) (sym later_one) eight;
         }
 
--- the timers of local APICs: more ticks may be due later
-pub AreApics-more : (format cpus n m : ℕ) (a : ApicsParts) → AreApics format cpus n a → n ≤ m → AreApics format cpus m a
-AreApics-more format cpus n m a valid more = record { places = valid.places; due = λ k less. omega (arith, valid.due k less) }
-
--- those at power on
-pub AreApics-power_on : (format cpus most : ℕ) → cpus ≤ 64 → AreApics format cpus most (apics_at_power_on (apics_of format cpus))
-AreApics-power_on format cpus most few = record {
-  places = AreApicsOf-apics_at_power_on (apics_of format cpus) (within (leb APIC_FORMAT format));
-  due = λ k less. omega (arith, ap (λ (l : TickParts). l.counts.due) (get_or-replicate 64 k no_line no_line less));
-}
-  where
-    within : (b : Bool) → cond b cpus 0 ≤ 64
-    within true = few
-    within false = omega arith
-
--- those of a later format
-pub AreApics-later : (format to cpus most : ℕ) (a : ApicsParts) → cpus ≤ 64 → format ≤ to → AreApics format cpus most a
-    → AreApics to cpus most (apics_upgraded cpus (gets_apics format to) a)
-AreApics-later format to cpus most a few later valid = elim (cases_lt format APIC_FORMAT) [
-  | inl before ↦ elim (cases_lt to APIC_FORMAT) [
-    | inl still ↦ kept (ap (λ (b : Bool). cond b cpus 0) (lt-leb APIC_FORMAT format before ∙ sym (lt-leb APIC_FORMAT to still)))
-        (and_right (ltb format APIC_FORMAT) (leb APIC_FORMAT to) (lt-leb APIC_FORMAT to still))
-    | inr gets ↦ got (le-leb APIC_FORMAT to gets) (and_from (ltb format APIC_FORMAT) (leb APIC_FORMAT to) (lt-ltb format APIC_FORMAT before)
-        (le-leb APIC_FORMAT to gets))
-  ]
-  | inr has ↦ kept (ap (λ (b : Bool). cond b cpus 0) (le-leb APIC_FORMAT format has ∙ sym (le-leb APIC_FORMAT to (omega (arith, has, later)))))
-      (and_left (ltb format APIC_FORMAT) (leb APIC_FORMAT to) (le-ltb format APIC_FORMAT has))
-]
-  where
-    kept : apics_of format cpus ≡ apics_of to cpus → gets_apics format to ≡ false → AreApics to cpus most (apics_upgraded cpus (gets_apics format to) a)
-    kept same none = subst (λ (b : Bool). AreApics to cpus most (apics_upgraded cpus b a)) (sym none)
-        (record { places = subst (λ (n : ℕ). AreApicsOf n a) same valid.places; due = valid.due })
-
-    got : leb APIC_FORMAT to ≡ true → gets_apics format to ≡ true → AreApics to cpus most (apics_upgraded cpus (gets_apics format to) a)
-    got there more = subst (λ (b : Bool). AreApics to cpus most (apics_upgraded cpus b a)) (sym more)
-        (subst (λ (b : Bool). AreApics to cpus most (apics_at_power_on (cond b cpus 0))) there (AreApics-power_on to cpus most few))
-
 pub AreRises-later : (format to accesses : ℕ) (lines more : List Bool) (rises : List ℕ) → AreRises format accesses lines rises → format ≤ to
     → lines ≡ more → AreRises to accesses more rises
 AreRises-later format to accesses lines more rises valid later same = record {
@@ -354,17 +314,18 @@ IsJoined-same_time b host valid more same = record {
   hv = valid.hv;
 }
 
--- a board behind an access, by what is known of its devices, wall clock and processors
+-- a board behind what an access does, by what is known of its devices, wall clock, processors and timers
 pub IsJoined-acted : (b : BoardParts) (cpu h : ℕ) (a : Access) → IsJoined b → b.accesses < MOST_ACCESSES → length b.rises ≡ 6
     → IsWall (wall_number_after a b.wall_number) (wall_version_after a b.wall_version) b.wall_nsec
     → AreProcessors b.guest_khz b.cpus (processors_after b.anchor b.guest_khz cpu h a b.processors)
     → IsHv b.format b.guest_khz b.cpus (hv_after b.anchor b.guest_khz cpu h a b.processors b.hv)
+    → AreApics b.format b.cpus (now_of b + b.accesses) (apics_acted cpu a (apics_in b))
     → ((k : ℕ) → k < 10 → (line_at k (acted (act_of a) (devices_in b))).counts.due ≤ (line_at k (devices_in b)).counts.due + 1)
     → ((n : ℕ) → lifts n (own_edges b a) + one_if (level_of line_numbers (levels (devices_in b)) n)
     ≤ 1 + one_if (level_of line_numbers (levels (acted (act_of a) (devices_in b))) n))
-    → IsJoined (after_act b cpu h a)
-unfolding after_act
-IsJoined-acted b cpu h a valid few six wall processors hv due lifted = record {
+    → IsJoined (before_look b cpu h a)
+unfolding before_look
+IsJoined-acted b cpu h a valid few six wall processors hv apics due lifted = record {
   format = subst (λ (n : ℕ). IsFormat b.format b.cpus n) (sym (timers-acted (act_of a) (devices_in b))) valid.format;
   rates = valid.rates;
   time = valid.time;
@@ -376,7 +337,7 @@ IsJoined-acted b cpu h a valid few six wall processors hv due lifted = record {
   processors = processors;
   rises = AreRises-after b.format b.accesses (b.accesses + 1) 1 (levels (devices_in b)) (levels (acted (act_of a) (devices_in b))) (own_edges b a) b.rises
       six refl valid.rises lifted;
-  apics = AreApics-more b.format b.cpus (now_of b + b.accesses) (now_of b + (b.accesses + 1)) (apics_in b) valid.apics (omega arith);
+  apics = AreApics-more b.format b.cpus (now_of b + b.accesses) (now_of b + (b.accesses + 1)) (apics_acted cpu a (apics_in b)) apics (omega arith);
   hv = hv;
 }
 

@@ -26,6 +26,8 @@ use Rattle.board_types.specs.declared.parts.BoardParts.{BoardParts}
 use Rattle.board_types.specs.declared.parts.ProcessorParts.{ProcessorParts}
 use Rattle.board_types.specs.declared.parts.HvParts.{HvParts}
 use Rattle.board_core.specs.Hv.{hv_after}
+use Rattle.local_apics.specs.declared.parts.ApicsParts.{ApicsParts}
+use Rattle.board_core.specs.Apics.{apics_acted}
 use Rattle.board_types.specs.declared.reply.Value.TheVariants.{Nothing}
 use Rattle.board_devices.specs.declared.act.Act.TheVariants.{Nothing as NoAct}
 use Rattle.board_devices.specs.declared.parts.DeviceParts.{DeviceParts}
@@ -39,12 +41,12 @@ use Rattle.board_core.specs.Wall.{wall_number_after, wall_version_after}
 use Rattle.board_core.specs.Rises.{rises_after}
 use Rattle.board_core.specs.Access.{act_of, own_edges, value_at}
 use Rattle.board_core.specs.Refusals.{raised_version}
-use Rattle.board_core.specs.private.Kinds.{touches, publishes}
+use Rattle.board_core.specs.private.Kinds.{touches, writes}
 use Rattle.board_core.specs.private.Values.{told, value_with}
 use Rattle.board_core.proofs.Counted.{rises_after-none}
 
 -- no access is of two kinds
-pub touches-quiet : (a : Access) → touches a ≡ true → publishes a ≡ false
+pub touches-quiet : (a : Access) → touches a ≡ true → writes a ≡ false
 touches-quiet (PortIn port) e = refl
 touches-quiet (PortOut port byte) e = refl
 touches-quiet (HpetRead offset width) e = refl
@@ -58,23 +60,23 @@ touches-quiet Wall e = refl
 touches-quiet (CountsOf from) e = refl
 touches-quiet Next e = refl
 touches-quiet (Rose line) e = refl
-touches-quiet Eoi e = refl
+touches-quiet Eoi e = absurd (false≢true e)
 
-pub publishes-untouched : (a : Access) → publishes a ≡ true → touches a ≡ false
-publishes-untouched (PortIn port) e = absurd (false≢true e)
-publishes-untouched (PortOut port byte) e = absurd (false≢true e)
-publishes-untouched (HpetRead offset width) e = absurd (false≢true e)
-publishes-untouched (HpetWrite offset width v) e = absurd (false≢true e)
-publishes-untouched (MsrRead msr) e = refl
-publishes-untouched (MsrWrite msr v) e = refl
-publishes-untouched (Ack line) e = absurd (false≢true e)
-publishes-untouched Step e = refl
-publishes-untouched (Refresh page) e = refl
-publishes-untouched Wall e = refl
-publishes-untouched (CountsOf from) e = refl
-publishes-untouched Next e = refl
-publishes-untouched (Rose line) e = refl
-publishes-untouched Eoi e = refl
+pub writes-untouched : (a : Access) → writes a ≡ true → touches a ≡ false
+writes-untouched (PortIn port) e = absurd (false≢true e)
+writes-untouched (PortOut port byte) e = absurd (false≢true e)
+writes-untouched (HpetRead offset width) e = absurd (false≢true e)
+writes-untouched (HpetWrite offset width v) e = absurd (false≢true e)
+writes-untouched (MsrRead msr) e = refl
+writes-untouched (MsrWrite msr v) e = refl
+writes-untouched (Ack line) e = absurd (false≢true e)
+writes-untouched Step e = refl
+writes-untouched (Refresh page) e = refl
+writes-untouched Wall e = refl
+writes-untouched (CountsOf from) e = refl
+writes-untouched Next e = refl
+writes-untouched (Rose line) e = refl
+writes-untouched Eoi e = refl
 
 -- what touches no device
 none-asked : (a : Access) → touches a ≡ false → act_of a ≡ NoAct
@@ -122,27 +124,32 @@ lifts-kept b a e n =
     ≤ 1 + one_if (level_of line_numbers (levels x) n)) (sym (devices-kept a (devices_in b) e))
     (omega (arith, ap (lifts n) (own-none b a e)))
 
--- what doesn't publish
-pub number-kept : (a : Access) (n : ℕ) → publishes a ≡ false → wall_number_after a n ≡ n
+-- what writes nothing elsewhere
+pub number-kept : (a : Access) (n : ℕ) → writes a ≡ false → wall_number_after a n ≡ n
 number-kept (MsrWrite msr v) n e = absurd (false≢true (sym e))
 number-kept _ n e = refl
 
-pub version-kept : (a : Access) (n : ℕ) → publishes a ≡ false → wall_version_after a n ≡ n
+pub version-kept : (a : Access) (n : ℕ) → writes a ≡ false → wall_version_after a n ≡ n
 version-kept (MsrWrite msr v) n e = absurd (false≢true (sym e))
 version-kept _ n e = refl
 
-pub processors-kept : (anchor : Anchor) (guest_khz cpu h : ℕ) (a : Access) (ps : List ProcessorParts) → publishes a ≡ false
+pub processors-kept : (anchor : Anchor) (guest_khz cpu h : ℕ) (a : Access) (ps : List ProcessorParts) → writes a ≡ false
     → processors_after anchor guest_khz cpu h a ps ≡ ps
 unfolding processors_after
 processors-kept anchor guest_khz cpu h (MsrWrite msr v) ps e = absurd (false≢true (sym e))
 processors-kept anchor guest_khz cpu h (Refresh page) ps e = absurd (false≢true (sym e))
 processors-kept anchor guest_khz cpu h _ ps e = refl
 
-pub hv-kept : (anchor : Anchor) (guest_khz cpu h : ℕ) (a : Access) (ps : List ProcessorParts) (p : HvParts) → publishes a ≡ false
+pub hv-kept : (anchor : Anchor) (guest_khz cpu h : ℕ) (a : Access) (ps : List ProcessorParts) (p : HvParts) → writes a ≡ false
     → hv_after anchor guest_khz cpu h a ps p ≡ p
 unfolding hv_after
 hv-kept anchor guest_khz cpu h (MsrWrite msr v) ps p e = absurd (false≢true (sym e))
 hv-kept anchor guest_khz cpu h _ ps p e = refl
+
+pub apics-kept : (cpu : ℕ) (a : Access) (apics : ApicsParts) → writes a ≡ false → apics_acted cpu a apics ≡ apics
+apics-kept cpu (MsrWrite msr v) apics e = absurd (false≢true (sym e))
+apics-kept cpu Eoi apics e = absurd (false≢true (sym e))
+apics-kept cpu _ apics e = refl
 
 -- the values
 pub value-touched : (b : BoardParts) (cpu h : ℕ) (a : Access) → touches a ≡ true
@@ -163,22 +170,22 @@ value-touched b cpu h Next e = absurd (false≢true e)
 value-touched b cpu h (Rose line) e = absurd (false≢true e)
 value-touched b cpu h Eoi e = absurd (false≢true e)
 
-pub value-published : (b : BoardParts) (cpu h : ℕ) (a : Access) → publishes a ≡ true → Nothing ≡ value_at b cpu h a
+pub value-written : (b : BoardParts) (cpu h : ℕ) (a : Access) → writes a ≡ true → Nothing ≡ value_at b cpu h a
 unfolding value_at
-value-published b cpu h (PortIn port) e = absurd (false≢true e)
-value-published b cpu h (PortOut port byte) e = absurd (false≢true e)
-value-published b cpu h (HpetRead offset width) e = absurd (false≢true e)
-value-published b cpu h (HpetWrite offset width v) e = absurd (false≢true e)
-value-published b cpu h (MsrRead msr) e = absurd (false≢true e)
-value-published b cpu h (MsrWrite msr v) e = refl
-value-published b cpu h (Ack line) e = absurd (false≢true e)
-value-published b cpu h Step e = absurd (false≢true e)
-value-published b cpu h (Refresh page) e = refl
-value-published b cpu h Wall e = absurd (false≢true e)
-value-published b cpu h (CountsOf from) e = absurd (false≢true e)
-value-published b cpu h Next e = absurd (false≢true e)
-value-published b cpu h (Rose line) e = absurd (false≢true e)
-value-published b cpu h Eoi e = absurd (false≢true e)
+value-written b cpu h (PortIn port) e = absurd (false≢true e)
+value-written b cpu h (PortOut port byte) e = absurd (false≢true e)
+value-written b cpu h (HpetRead offset width) e = absurd (false≢true e)
+value-written b cpu h (HpetWrite offset width v) e = absurd (false≢true e)
+value-written b cpu h (MsrRead msr) e = absurd (false≢true e)
+value-written b cpu h (MsrWrite msr v) e = refl
+value-written b cpu h (Ack line) e = absurd (false≢true e)
+value-written b cpu h Step e = absurd (false≢true e)
+value-written b cpu h (Refresh page) e = refl
+value-written b cpu h Wall e = absurd (false≢true e)
+value-written b cpu h (CountsOf from) e = absurd (false≢true e)
+value-written b cpu h Next e = absurd (false≢true e)
+value-written b cpu h (Rose line) e = absurd (false≢true e)
+value-written b cpu h Eoi e = refl
 
 pub value-told : (b : BoardParts) (n cpu h : ℕ) (a : Access) → touches a ≡ false → told (record b { accesses = n }) cpu h a ≡ value_at b cpu h a
 unfolding value_at
@@ -197,7 +204,7 @@ value-told b n cpu h Next e = refl
 value-told b n cpu h (Rose line) e = refl
 value-told b n cpu h Eoi e = refl
 
-pub raised_none : (ps : List ProcessorParts) (wall hv cpu : ℕ) (a : Access) → publishes a ≡ false → raised_version ps wall hv cpu a ≡ None
+pub raised_none : (ps : List ProcessorParts) (wall hv cpu : ℕ) (a : Access) → writes a ≡ false → raised_version ps wall hv cpu a ≡ None
 raised_none ps wall hv cpu (MsrWrite msr v) e = absurd (false≢true (sym e))
 raised_none ps wall hv cpu (Refresh page) e = absurd (false≢true (sym e))
 raised_none ps wall hv cpu _ e = refl

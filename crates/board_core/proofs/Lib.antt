@@ -2,6 +2,7 @@ pub mod Times
 pub mod Rates
 pub mod Timers
 pub mod Nexts
+pub mod ApicTimers
 pub mod Joined
 pub mod Steps
 pub mod Legals
@@ -9,6 +10,7 @@ pub mod Upgrades
 pub mod Counted
 pub mod Kept
 pub mod Laws
+pub mod Nanoseconds
 mod Rows
 mod RowsApics
 mod RowsHv

@@ -25,3 +25,8 @@ unfolding time_at
 time_at_counts anchor h rate =
     ap (λ (khz : ℕ). anchor.base_ns + (h - anchor.start) * 1000000 / khz) rate
     ∙ ap (λ (n : ℕ). anchor.base_ns + n) (mul-div_cancel (h - anchor.start) (omega arith))
+
+-- no count's time is before the anchor's
+pub base-first : (anchor : Anchor) (h : ℕ) → anchor.base_ns ≤ time_at anchor h
+unfolding time_at
+base-first anchor h = omega arith

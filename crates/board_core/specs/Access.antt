@@ -44,6 +44,8 @@ use Rattle.board_types.specs.declared.reply.Value.TheVariants.{
   Counts,
   Next as NextEdge,
 }
+use Rattle.local_apics.specs.declared.parts.ApicsParts.{ApicsParts}
+use Rattle.local_apics.specs.Nanosecond.{run as run_apics}
 use Rattle.board_devices.specs.declared.parts.DeviceParts.{DeviceParts}
 use Rattle.board_devices.specs.declared.act.Act.{Act}
 use Rattle.board_devices.specs.declared.act.Act.TheVariants.{
@@ -66,6 +68,7 @@ use Rattle.board_core.specs.Tsc.{msr_read}
 use Rattle.board_core.specs.Pages.{processors_after}
 use Rattle.board_core.specs.Wall.{wall_number_after, wall_version_after, wall_words}
 use Rattle.board_core.specs.Hv.{hv_after}
+use Rattle.board_core.specs.Apics.{apics_in, tscs_by_time, apics_acted, after_look}
 use Rattle.board_core.specs.Next.{next_of}
 use Rattle.board_core.specs.Rises.{rises_after, count_at}
 
@@ -101,6 +104,11 @@ act_of Eoi = NoAct
 abbrev pub ran_to : BoardParts → ℕ → Ran
 ran_to b h = run (now_of b) (time_of_access b h - now_of b) (devices_in b)
 
+-- the timers of local APICs after it
+abbrev pub apics_ran_to : BoardParts → ℕ → ApicsParts
+apics_ran_to b h =
+    run_apics (tscs_by_time b) (now_of b) (time_of_access b h - now_of b) (apics_in b)
+
 -- the board at that time, with the access still to come
 unfoldable pub after_run : BoardParts → ℕ → BoardParts
 after_run b h = record b {
@@ -111,6 +119,8 @@ after_run b h = record b {
   ticks = (ran_to b h).state.ticks;
   slew_ns = (ran_to b h).state.slew_ns;
   rises = rises_after b.format (ran_to b h).edges b.rises;
+  apic = (apics_ran_to b h).timers;
+  apic_ticks = (apics_ran_to b h).lines;
 }
 
 -- the counts of a source's tick line, among the lines of the devices and those of local APICs
@@ -143,10 +153,10 @@ value_at b cpu h Eoi = Nothing
 abbrev pub own_edges : BoardParts → Access → List Edge
 own_edges b a = act_edges (now_of b) (act_of a) (devices_in b)
 
--- such a board behind the access: what isn't named here stays. No format that is built has timers
--- of local APICs, so an `Eoi` and a write to their MSRs act on nothing yet
-unfoldable pub after_act : BoardParts → ℕ → ℕ → Access → BoardParts
-after_act b cpu h a =
+-- such a board after what the access does, and before the look at the deadlines: what isn't named
+-- here stays
+unfoldable pub before_look : BoardParts → ℕ → ℕ → Access → BoardParts
+before_look b cpu h a =
     let d : DeviceParts = acted (act_of a) (devices_in b) in
     record b {
       accesses = b.accesses + 1;
@@ -160,7 +170,13 @@ after_act b cpu h a =
       processors = processors_after b.anchor b.guest_khz cpu h a b.processors;
       rises = rises_after b.format (own_edges b a) b.rises;
       hv = hv_after b.anchor b.guest_khz cpu h a b.processors b.hv;
+      apic = (apics_acted cpu a (apics_in b)).timers;
+      apic_ticks = (apics_acted cpu a (apics_in b)).lines;
     }
+
+-- .. and after the look, which takes the TSCs that the access leaves, at the board's time
+unfoldable pub after_act : BoardParts → ℕ → ℕ → Access → BoardParts
+after_act b cpu h a = after_look (before_look b cpu h a)
 
 -- the edges of an access: those of the run, and then its own
 unfoldable pub edges_of : BoardParts → ℕ → Access → List Edge

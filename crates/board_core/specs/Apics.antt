@@ -1,8 +1,19 @@
 -- The timers of the local APICs of a board, which format 3 brings.
-use Rattle.std.specs.Prelude.{ℕ, nat_le, if◌then◌else◌}
+use Rattle.std.specs.Prelude.{ℕ, nat_le, if◌then◌else◌, List, map, Option, Some, None}
+use Rattle.tsc_scale.specs.declared.Tsc.{Tsc}
+use Rattle.lapic_timer.specs.declared.registers.ApicRegister.{ApicRegister}
+use Rattle.lapic_timer.specs.Registers.{register_of}
 use Rattle.local_apics.specs.declared.parts.ApicsParts.{ApicsParts}
+use Rattle.local_apics.specs.declared.span.TscClock.{TscClock}
+use Rattle.local_apics.specs.Nanosecond.{tsc_by_time, looked_all}
+use Rattle.local_apics.specs.Registers.{written_at, eoi_at}
+use Rattle.board_types.specs.declared.access.Access.{Access}
+use Rattle.board_types.specs.declared.access.Access.TheVariants.{MsrWrite, Eoi}
 use Rattle.board_types.specs.declared.parts.BoardParts.{BoardParts}
+use Rattle.board_types.specs.declared.parts.ProcessorParts.{ProcessorParts}
 use Rattle.board_types.specs.declared.setup.TheConstants.{APIC_FORMAT}
+use Rattle.board_core.specs.Time.{now_of}
+use Rattle.board_core.specs.Tsc.{tsc_of}
 
 -- how many there are: one for each processor, and none before format 3
 abbrev pub apics_of : ℕ → ℕ → ℕ
@@ -11,3 +22,32 @@ apics_of format cpus = if nat_le APIC_FORMAT format then cpus else 0
 -- the timers of a board, with their tick lines
 abbrev pub apics_in : BoardParts → ApicsParts
 apics_in b = record { timers = b.apic; lines = b.apic_ticks }
+
+-- the board with other ones
+abbrev pub with_apics : ApicsParts → BoardParts → BoardParts
+with_apics a b = record b { apic = a.timers; apic_ticks = a.lines }
+
+-- what gives the TSC of a processor at a nanosecond: what all have in common, and their own numbers
+abbrev pub clock_in : BoardParts → TscClock
+clock_in b = record { anchor = b.anchor; guest_khz = b.guest_khz }
+
+abbrev pub tscs_of : List ProcessorParts → List Tsc
+tscs_of ps = map tsc_of ps
+
+-- the TSC of processor k of a board at nanosecond t
+abbrev pub tscs_by_time : BoardParts → ℕ → ℕ → ℕ
+tscs_by_time b = tsc_by_time (clock_in b) (tscs_of b.processors)
+
+-- what an access of a processor does to its timer: it writes a register, or it ends an interrupt
+abbrev pub apic_written : ℕ → Option ApicRegister → ℕ → ApicsParts → ApicsParts
+apic_written cpu None v a = a
+apic_written cpu (Some register) v a = written_at cpu register v a
+
+abbrev pub apics_acted : ℕ → Access → ApicsParts → ApicsParts
+apics_acted cpu (MsrWrite msr v) a = apic_written cpu (register_of msr) v a
+apics_acted cpu Eoi a = eoi_at cpu a
+apics_acted cpu _ a = a
+
+-- a look at the deadlines of all processors, by their TSCs at the board's time
+unfoldable pub after_look : BoardParts → BoardParts
+after_look b = with_apics (looked_all (λ k. tscs_by_time b k (now_of b)) (apics_in b)) b

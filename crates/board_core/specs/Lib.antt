@@ -4,6 +4,7 @@ pub mod Pages
 pub mod Apics
 pub mod Hv
 pub mod Wall
+pub mod Nanosecond
 pub mod Next
 pub mod Rises
 pub mod Access

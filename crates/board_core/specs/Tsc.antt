@@ -6,11 +6,18 @@ use Rattle.std.specs.Prelude.{
   if◌then◌else◌,
   ◌/◌,
   slice_index_or,
+  Option,
+  Some,
+  None,
 }
 use Rattle.host_counter.specs.declared.Anchor.{Anchor}
 use Rattle.tsc_scale.specs.declared.Tsc.{Tsc}
 use Rattle.tsc_scale.specs.Ratio.{ratio_of}
 use Rattle.tsc_scale.specs.Tsc.{tsc_at, moved_by, difference}
+use Rattle.lapic_timer.specs.declared.parts.ApicParts.{ApicParts}
+use Rattle.lapic_timer.specs.declared.registers.ApicRegister.{ApicRegister}
+use Rattle.lapic_timer.specs.Registers.{register_of, register_read}
+use Rattle.local_apics.specs.Places.{no_timer}
 use Rattle.board_types.specs.declared.access.TheConstants.{
   MSR_TSC,
   MSR_TSC_ADJUST,
@@ -53,6 +60,11 @@ with_tsc tsc p = record p { offset = tsc.offset; adjust = tsc.adjust }
 abbrev pub tsc_read : Anchor → ℕ → ℕ → ProcessorParts → ℕ
 tsc_read anchor guest_khz h p = tsc_at (tsc_of p) h (ratio_of guest_khz anchor.khz)
 
+-- a register of its local APIC's timer, where the MSR is one of them, and else another number
+abbrev pub register_or : Option ApicRegister → ApicParts → ℕ → ℕ
+register_or None p other = other
+register_or (Some register) p other = register_read register p
+
 -- what a processor reads of an MSR at count h
 abbrev pub msr_read : BoardParts → ℕ → ℕ → ℕ → ℕ
 msr_read b cpu h msr =
@@ -60,7 +72,9 @@ msr_read b cpu h msr =
     else (if msr == MSR_TSC_ADJUST then (processor_at b cpu).adjust
     else (if msr == MSR_KVM_WALL_CLOCK then b.wall_number
     else (if msr == MSR_HV_TIME_REF_COUNT then now_of b / 100
-    else (if msr == MSR_HV_REFERENCE_TSC then b.hv.number else (processor_at b cpu).number))))
+    else (if msr == MSR_HV_REFERENCE_TSC then b.hv.number
+    else register_or (register_of msr) (slice_index_or b.apic cpu no_timer)
+    (processor_at b cpu).number))))
 
 -- the TSC behind a write of v to an MSR at count h: IA32_TIME_STAMP_COUNTER is set to v and
 -- TSC_ADJUST moves with it, or the other way round (Intel SDM, volume 3, "Time-Stamp Counter

@@ -2,3 +2,4 @@
 pub mod Kinds
 pub mod Values
 pub mod Places
+pub mod Room

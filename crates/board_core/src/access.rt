@@ -21,6 +21,7 @@ ghost use Rattle.board_core.specs.Time.{time_of_access, HasTime};
 ghost use Rattle.board_core.specs.Access.{ran_to, after_run, reply_of, after_access};
 ghost use Rattle.board_core.specs.Refusals.{refusal_of};
 
+use crate::apics::run_apics;
 use crate::board::BoardState;
 use crate::rises::count_rises_where;
 use board_types::{Access, Refusal, Reply};
@@ -155,6 +156,14 @@ impl BoardState {
         let from = self.time_ns;
         self.host = h;
         self.time_ns = to;
+        run_apics(
+            &mut self.apics,
+            self.anchor,
+            self.guest_khz,
+            &self.processors,
+            from,
+            to,
+        );
         let came = self.devices.run_to(from, to, edges);
         count_rises_where(came, &mut self.rises, self.format, edges, before);
     }

@@ -18,13 +18,16 @@ ghost use Rattle.board_core.specs.Access.{
   act_of,
   value_at,
   own_edges,
+  before_look,
   after_act,
   counts_of,
 };
 ghost use Rattle.board_core.specs.Refusals.{raised_version};
-ghost use Rattle.board_core.specs.private.Kinds.{touches, publishes};
+ghost use Rattle.board_core.specs.private.Kinds.{touches, writes};
+ghost use Rattle.board_core.specs.private.Room.{HasRoom};
 ghost use Rattle.board_core.specs.private.Values.{told, value_with};
 
+use crate::apics::act_on_apics;
 use crate::board::BoardState;
 use crate::hv::hv_after;
 use crate::processors::{publish_by, tsc_read};
@@ -36,13 +39,14 @@ use board_types::{
     MSR_TSC_ADJUST, TickSource, Value,
 };
 use irq_edges::EdgeList;
+use lapic_timer::ApicRegister;
 use tick_policy::Counts;
 
 /// Nanoseconds in a unit of reference time.
 const UNIT_NS: u64 = 100;
 
 impl BoardState {
-    /// The access itself, on a board that has run to its time. It goes to the devices, publishes, or only reads.
+    /// The access itself, on a board that has run to its time, and then the look at the deadlines.
     #[inline(always)]
     pub(crate) fn act(&mut self, cpu: u8, h: u64, a: Access, edges: &mut EdgeList) -> Value
         requires cpu { cpu < self.old.cpus }
@@ -58,12 +62,34 @@ impl BoardState {
         ensures edges { edges.new ≡ edges.old ++ own_edges self.old a }
         ensures few { length edges.new ≤ length edges.old + 12 }
     {
+        let value = self.perform(cpu, h, a, edges);
+        self.look();
+        value
+    }
+
+    /// What the access does, before the look. It goes to the devices, writes elsewhere, or only reads.
+    #[inline(always)]
+    fn perform(&mut self, cpu: u8, h: u64, a: Access, edges: &mut EdgeList) -> Value
+        requires cpu { cpu < self.old.cpus }
+        requires legal { IsTrue (is_legal self.old.cpus self.old.format a) }
+        requires time { HasTime self.old.anchor h }
+        requires accesses { self.old.accesses < MOST_ACCESSES }
+        requires version { IfSome (raised_version self.old.processors self.old.wall_version
+            self.old.hv.version cpu a)
+            (λ version. version < LAST_VERSION) }
+        requires places { length edges.old + 12 ≤ EDGE_PLACES }
+        ensures state { self.new ≡ before_look self.old cpu h a }
+        ensures room { HasRoom self.new }
+        ensures value { result ≡ value_at self.old cpu h a }
+        ensures edges { edges.new ≡ edges.old ++ own_edges self.old a }
+        ensures few { length edges.new ≤ length edges.old + 12 }
+    {
         if touches(a) {
             let word = self.touch(&a, edges);
             return value_with(a, word, Value::Nothing);
         }
-        if publishes(a) {
-            self.publish_for(cpu, h, a);
+        if writes(a) {
+            self.write_for(cpu, h, a);
             return Value::Nothing;
         }
         self.tell(cpu, h, a)
@@ -76,7 +102,8 @@ impl BoardState {
         requires legal { IsTrue (is_legal self.old.cpus self.old.format a.now) }
         requires accesses { self.old.accesses < MOST_ACCESSES }
         requires places { length edges.old + 12 ≤ EDGE_PLACES }
-        ensures state { (cpu h : ℕ) → self.new ≡ after_act self.old cpu h a.now }
+        ensures state { (cpu h : ℕ) → self.new ≡ before_look self.old cpu h a.now }
+        ensures room { HasRoom self.new }
         ensures word { result ≡ value_of (now_of self.old) (act_of a.now) (devices_in self.old) }
         ensures byte { IsTrue (reads_byte (act_of a.now)) → result < 256 }
         ensures edges { edges.new ≡ edges.old ++ own_edges self.old a.now }
@@ -89,10 +116,10 @@ impl BoardState {
         word
     }
 
-    /// An access that publishes a page, or the words of the wall clock.
+    /// An access that writes to what isn't a device: it may publish, or act on the processor's local APIC.
     #[inline(never)]
-    fn publish_for(&mut self, cpu: u8, h: u64, a: Access)
-        requires publishes { IsTrue (publishes a) }
+    fn write_for(&mut self, cpu: u8, h: u64, a: Access)
+        requires writes { IsTrue (writes a) }
         requires cpu { cpu < self.old.cpus }
         requires legal { IsTrue (is_legal self.old.cpus self.old.format a) }
         requires time { HasTime self.old.anchor h }
@@ -100,7 +127,8 @@ impl BoardState {
         requires version { IfSome (raised_version self.old.processors self.old.wall_version
             self.old.hv.version cpu a)
             (λ version. version < LAST_VERSION) }
-        ensures { self.new ≡ after_act self.old cpu h a }
+        ensures state { self.new ≡ before_look self.old cpu h a }
+        ensures room { HasRoom self.new }
     {
         self.accesses += 1;
         self.wall_number = wall_number_after(a, self.wall_number);
@@ -115,17 +143,19 @@ impl BoardState {
             &self.processors,
         );
         publish_by(&mut self.processors, self.anchor, self.guest_khz, cpu, h, a);
+        act_on_apics(&mut self.apics, cpu, a);
     }
 
     /// An access that only reads, and asks nothing of the devices.
     #[inline(always)]
     fn tell(&mut self, cpu: u8, h: u64, a: Access) -> Value
         requires untouched { touches a ≡ false }
-        requires quiet { publishes a ≡ false }
+        requires quiet { writes a ≡ false }
         requires cpu { cpu < self.old.cpus }
         requires legal { IsTrue (is_legal self.old.cpus self.old.format a) }
         requires accesses { self.old.accesses < MOST_ACCESSES }
-        ensures state { self.new ≡ after_act self.old cpu h a }
+        ensures state { self.new ≡ before_look self.old cpu h a }
+        ensures room { HasRoom self.new }
         ensures value { result ≡ value_at self.old cpu h a }
     {
         self.accesses += 1;
@@ -189,7 +219,10 @@ impl BoardState {
         if msr == MSR_HV_REFERENCE_TSC {
             return self.hv.number;
         }
-        p.number
+        match ApicRegister::of_msr(msr) {
+            Some(register) => self.apics.read(cpu, register),
+            None => p.number,
+        }
     }
 
     /// The words of the wall clock.
@@ -226,13 +259,13 @@ fn touches(a: Access) -> bool
     }
 }
 
-/// Whether an access may publish.
+/// Whether an access writes to what isn't a device.
 #[inline(always)]
-pub(crate) fn publishes(a: Access) -> bool
-    ensures { result ≡ publishes a }
+pub(crate) fn writes(a: Access) -> bool
+    ensures { result ≡ writes a }
 {
     match a {
-        Access::MsrWrite { .. } | Access::Refresh { .. } => true,
+        Access::MsrWrite { .. } | Access::Refresh { .. } | Access::Eoi => true,
         _ => false,
     }
 }

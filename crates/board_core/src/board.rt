@@ -12,7 +12,7 @@ ghost use Rattle.board_core.specs.PowerOn.{board_at_power_on, devices_of_setup, 
 
 use crate::apics::apics_of;
 use crate::hv::NO_HV;
-use crate::processors::{NO_PROCESSOR, page_in};
+use crate::processors::{NO_PROCESSOR, page_in, tsc_of};
 use board_devices::Devices;
 use board_types::{HvParts, ProcessorParts, Setup, timers_of};
 use host_counter::Anchor;
@@ -162,11 +162,7 @@ impl BoardState {
         requires { cpu < self.now.cpus }
         ensures { result ≡ tsc_of (processor_at self.now cpu) }
     {
-        let p = &self.processors[cpu as usize];
-        Tsc {
-            offset: p.offset,
-            adjust: p.adjust,
-        }
+        tsc_of(&self.processors[cpu as usize])
     }
 
     /// The first nanosecond behind the board's time, and below 2^59, in which a line changes if no access comes.

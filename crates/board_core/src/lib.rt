@@ -1,15 +1,16 @@
 //! The board: the time hardware that a PC guest sees, as one value.
 //!
-//! A board has an 8254, an MC146818 and an HPET with their six interrupt lines, a TSC and a page of the
-//! paravirtual clock for each processor, and the words of KVM's wall clock. A monitor hands it one access at a
-//! time, with the count of the host's counter, and is handed the value, the changes of the lines, and the number
-//! of the access. Between accesses nothing runs: the board goes to the time of an access by division.
+//! A board has an 8254, an MC146818 and an HPET with their six interrupt lines, a TSC, a local APIC's timer and a
+//! page of the paravirtual clock for each processor, and the words of KVM's wall clock. A monitor hands it one
+//! access at a time, with the count of the host's counter, and is handed the value, the changes of the lines, and
+//! the number of the access. Between accesses nothing runs: the board goes to the time of an access by division.
 //!
 //! ```text
 //! let mut board = BoardState::power_on(&setup);
 //! let reply = board.access(0, 1_000, Access::PortIn { port: 0x40 })?;
 //! // reply.number, reply.value, reply.edges
-//! board.next_edge()
+//! board.next_edge();  // when a line changes next
+//! board.next_tick(0)   // when the timer of processor 0 ticks next
 //! ```
 #![tactic(auto)]
 

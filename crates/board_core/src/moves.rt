@@ -10,6 +10,7 @@ ghost use Rattle.board_core.specs.Time.{devices_in, now_of};
 ghost use Rattle.board_core.specs.Reanchor.{reanchored};
 ghost use Rattle.board_core.specs.Upgrade.{gets_timers, gets_apics, apics_upgraded, upgraded_to};
 
+use crate::apics::run_apics;
 use crate::board::BoardState;
 use crate::rises::count_rises_where;
 use board_devices::Devices;
@@ -19,7 +20,7 @@ use irq_edges::{BurstList, EdgeList};
 use local_apics::LocalApics;
 
 impl BoardState {
-    /// Runs `gap` nanoseconds, and then gives the new time to count `start` of a host's counter of `khz`, 100,000 to
+    /// Runs `gap` nanoseconds by the old anchor, and then gives the new time to count `start` of a host's counter of `khz`, 100,000 to
     /// 10,000,000. TSC offsets, pages and the number of accesses stay. Answers the edges of the gap, at most six.
     #[tactic(auto, unfolding(crate::specs::Reanchor::reanchored))]
     pub fn reanchor(&mut self, khz: u64, start: u64, gap: u64) -> Ran
@@ -31,6 +32,14 @@ impl BoardState {
         ensures few { length result.edges ≤ 6 }
     {
         let from = self.time_ns;
+        run_apics(
+            &mut self.apics,
+            self.anchor,
+            self.guest_khz,
+            &self.processors,
+            from,
+            from + gap,
+        );
         let mut edges = EdgeList::new();
         let came = self.devices.run_to(from, from + gap, &mut edges);
         self.anchor = Anchor {

@@ -72,6 +72,16 @@ pub(crate) fn page_in(p: &ProcessorParts) -> Page
     }
 }
 
+/// The two numbers of a processor's TSC.
+pub(crate) fn tsc_of(p: &ProcessorParts) -> Tsc
+    ensures { result ≡ tsc_of p.now }
+{
+    Tsc {
+        offset: p.offset,
+        adjust: p.adjust,
+    }
+}
+
 /// The TSC of a processor at count `h`. Where guest and host count alike, as most do, it asks for no division.
 #[tactic(auto, using(crate::proofs::Rates::tsc_alike))]
 pub(crate) fn tsc_read(p: &ProcessorParts, anchor: Anchor, guest_khz: u64, h: u64) -> u64
@@ -81,11 +91,7 @@ pub(crate) fn tsc_read(p: &ProcessorParts, anchor: Anchor, guest_khz: u64, h: u6
     if guest_khz == anchor.khz {
         return h.wrapping_add(p.offset);
     }
-    let tsc = Tsc {
-        offset: p.offset,
-        adjust: p.adjust,
-    };
-    tsc.read(h, ratio(guest_khz, anchor.khz))
+    tsc_of(p).read(h, ratio(guest_khz, anchor.khz))
 }
 
 /// The time at a count that has one.
@@ -172,11 +178,7 @@ fn msr_written(
     requires { AreRates anchor guest_khz }
     ensures { result ≡ msr_written anchor guest_khz h msr v p }
 {
-    let tsc = Tsc {
-        offset: p.offset,
-        adjust: p.adjust,
-    };
-    let moved = tsc_after(tsc, anchor, guest_khz, h, msr, v);
+    let moved = tsc_after(tsc_of(&p), anchor, guest_khz, h, msr, v);
     ProcessorParts {
         offset: moved.offset,
         adjust: moved.adjust,

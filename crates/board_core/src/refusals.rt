@@ -24,7 +24,7 @@ ghost use Rattle.board_core.specs.Pages.{published_by};
 ghost use Rattle.board_core.specs.Wall.{publishes_wall};
 ghost use Rattle.board_core.specs.Refusals.{version_at, raised_version, spent_version, refusal_of};
 
-use crate::acts::publishes;
+use crate::acts::writes;
 use crate::board::BoardState;
 use crate::hv::publishes_hv;
 use crate::processors::published_by;
@@ -161,7 +161,7 @@ fn raised_version(
     requires { IfSome (published_by cpu a) (λ k. k < 64) }
     ensures { result ≡ raised_version processors.now wall_version hv_version cpu a }
 {
-    if !publishes(a) {
+    if !writes(a) {
         return None;
     }
     if publishes_wall(a) {

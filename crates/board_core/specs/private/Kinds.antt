@@ -9,6 +9,7 @@ use Rattle.board_types.specs.declared.access.Access.TheVariants.{
   MsrWrite,
   Ack,
   Refresh,
+  Eoi,
 }
 
 -- whether it asks something of the devices
@@ -20,8 +21,9 @@ touches (HpetWrite offset width value) = true
 touches (Ack line) = true
 touches _ = false
 
--- whether it may publish a page, or the words of the wall clock
-abbrev pub publishes : Access → Bool
-publishes (MsrWrite msr value) = true
-publishes (Refresh page) = true
-publishes _ = false
+-- whether it writes to what isn't a device: an MSR, a page or a local APIC
+abbrev pub writes : Access → Bool
+writes (MsrWrite msr value) = true
+writes (Refresh page) = true
+writes Eoi = true
+writes _ = false

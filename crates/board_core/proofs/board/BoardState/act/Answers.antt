@@ -1,26 +1,8 @@
-use Rattle.std.proofs.Common.{ℕ, List, ◌++◌, append-nil, ap, sym, ◌∙◌}
-use Rattle.irq_edges.specs.declared.edges.Edge.{Edge}
-use Rattle.board_types.specs.declared.reply.Value.TheVariants.{Nothing}
-use Rattle.board_core.specs.private.Values.{value_with}
-use Rattle.board_core.proofs.Kept.{own-none, value-published, value-touched}
+use Rattle.std.proofs.Common.{ap, ◌∙◌}
+use Rattle.board_core.specs.Apics.{after_look}
+use Rattle.board_core.specs.Access.{after_act}
 use Rattle.board_core.proofs.board.BoardState.act.Goals as goal
 
-pub returns-then-touches-clause-value : goal.returns-then-touches-clause-value
-returns-then-touches-clause-value c =
-    c.value_with.ensures
-    ∙ ap (λ (n : ℕ). value_with c.args.a n Nothing) c.touch-word.ensures.word
-    ∙ value-touched c.args.self.now c.args.cpu c.args.h c.args.a (sym c.touches.ensures ∙ c.if-touches.true)
-
-pub returns-then-publishes-clause-value : goal.returns-then-publishes-clause-value
-returns-then-publishes-clause-value c =
-    value-published c.args.self.now c.args.cpu c.args.h c.args.a (sym c.publishes.ensures ∙ c.if-publishes.true)
-
-pub returns-then-publishes-clause-edges : goal.returns-then-publishes-clause-edges
-returns-then-publishes-clause-edges c = sym
-    (ap (λ (es : List Edge). c.args.edges.now ++ es) (own-none c.args.self.now c.args.a (sym c.touches.ensures ∙ c.if-touches.false))
-    ∙ append-nil c.args.edges.now)
-
-pub returns-clause-edges : goal.returns-clause-edges
-returns-clause-edges c = sym
-    (ap (λ (es : List Edge). c.args.edges.now ++ es) (own-none c.args.self.now c.args.a (sym c.touches.ensures ∙ c.if-touches.false))
-    ∙ append-nil c.args.edges.now)
+pub returns-clause-state : goal.returns-clause-state
+unfolding after_act
+returns-clause-state c = c.look.ensures ∙ ap after_look c.perform-value.ensures.state

@@ -1,4 +1,5 @@
-use Rattle.board_core.proofs.Joined.{IsHv-none, AreApics-power_on, processors_of-most}
+use Rattle.board_core.proofs.Joined.{IsHv-none, processors_of-most}
+use Rattle.board_core.proofs.ApicTimers.{AreApics-power_on}
 use Rattle.board_core.specs.Conditions.{AreApics}
 use Rattle.local_apics.specs.declared.parts.ApicsParts.{ApicsParts}
 use Rattle.std.proofs.Common.{◌≡◌, ℕ, ◌+◌, ap, sym, subst, refl, ◌∙◌, arith}

@@ -11,14 +11,22 @@ use Rattle.board_devices.specs.Lines.{levels}
 use Rattle.board_devices.specs.Rises.{lifts}
 use Rattle.board_devices.specs.Run.{run}
 use Rattle.board_core.specs.Time.{now_of}
-use Rattle.board_core.specs.Conditions.{IsFormat, AreRises}
+use Rattle.local_apics.specs.declared.parts.ApicsParts.{ApicsParts}
+use Rattle.board_core.specs.Apics.{apics_in, tscs_by_time}
+use Rattle.board_core.specs.Conditions.{IsFormat, AreRises, AreApics}
 use Rattle.board_core.specs.View.{board_parts_of}
+use Rattle.board_core.proofs.Times.{base-first}
 use Rattle.board_core.proofs.Timers.{timers-run}
-use Rattle.board_core.proofs.Joined.{AreRises-after, AreApics-more}
+use Rattle.board_core.proofs.ApicTimers.{AreApics-ran, AreApics-more}
+use Rattle.board_core.proofs.Joined.{AreRises-after}
 use Rattle.board_core.proofs.board.BoardState.reanchor.Goals as goal
+
+pub run_apics-requires-clause-anchored : goal.run_apics-requires-clause-anchored
+run_apics-requires-clause-anchored c = omega (arith, c.self.invariant.time, base-first c.self.inside.anchor c.self.inside.host)
 
 pub invariant_of-self : goal.invariant_of-self
 invariant_of-self c =
+    let b : BoardParts = board_parts_of c.self.inside in
     let to : ℕ = c.self.inside.time_ns + c.args.gap in
     let anchor : Anchor = record { khz = c.args.khz; start = c.args.start; base_ns = to } in
     let now_is : time_at anchor c.args.start ≡ to = time_at-start anchor in
@@ -45,7 +53,10 @@ invariant_of-self c =
             omega (arith, c.run_to-came.ensures.due k less, c.self.invariant.joined.due k less, from, now_is) in r;
         wall = c.self.invariant.joined.wall;
         processors = c.self.invariant.joined.processors;
-        apics = AreApics-more c.self.inside.format c.self.inside.cpus _ _ c.self.inside.apics c.self.invariant.joined.apics (omega (arith, from, now_is));
+        apics = AreApics-more b.format b.cpus _ (time_at anchor c.args.start + b.accesses) c.run_apics.new.apics
+            (subst (λ (a : ApicsParts). AreApics b.format b.cpus (now_of b + b.accesses + (to - c.self.inside.time_ns)) a) (sym c.run_apics.ensures)
+            (AreApics-ran b.format b.cpus (now_of b + b.accesses) (tscs_by_time b) c.self.inside.time_ns (to - c.self.inside.time_ns) (apics_in b)
+            c.self.invariant.joined.apics)) (omega (arith, from, now_is));
         hv = c.self.invariant.joined.hv;
         rises = subst (λ (rs : List ℕ). AreRises c.self.inside.format c.self.inside.accesses (levels c.run_to-came.new.self) rs) (sym c.count_rises_where.ensures)
             (AreRises-after c.self.inside.format c.self.inside.accesses c.self.inside.accesses 0 (levels c.self.inside.devices) (levels c.run_to-came.new.self)

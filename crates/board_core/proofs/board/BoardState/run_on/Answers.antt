@@ -10,15 +10,22 @@ use Rattle.board_devices.specs.Lines.{levels}
 use Rattle.board_devices.specs.Rises.{lifts}
 use Rattle.board_devices.specs.Run.{Ran, run}
 use Rattle.board_core.specs.Time.{HasTime, now_of, time_of_access}
-use Rattle.board_core.specs.Conditions.{IsFormat, AreRises}
+use Rattle.board_core.specs.Conditions.{IsFormat, AreRises, AreApics}
 use Rattle.board_core.specs.View.{board_parts_of}
-use Rattle.board_core.proofs.Times.{time_at_max}
+use Rattle.board_core.proofs.Times.{time_at_max, base-first}
 use Rattle.board_core.proofs.Timers.{timers-run}
-use Rattle.board_core.specs.Access.{ran_to, after_run}
+use Rattle.local_apics.specs.declared.parts.ApicsParts.{ApicsParts}
+use Rattle.local_apics.specs.Nanosecond.{run as run_apics}
+use Rattle.board_core.specs.Apics.{apics_in, tscs_by_time}
+use Rattle.board_core.specs.Access.{ran_to, apics_ran_to, after_run}
 use Rattle.board_core.specs.Rises.{rises_after}
-use Rattle.board_core.proofs.Joined.{AreRises-after, AreApics-more}
+use Rattle.board_core.proofs.ApicTimers.{AreApics-ran, AreApics-more}
+use Rattle.board_core.proofs.Joined.{AreRises-after}
 use Rattle.board_core.proofs.Steps.{with_run-is}
 use Rattle.board_core.proofs.board.BoardState.run_on.Goals as goal
+
+pub run_apics-requires-clause-anchored : goal.run_apics-requires-clause-anchored
+run_apics-requires-clause-anchored c = omega (arith, c.self.invariant.time, base-first c.self.inside.anchor c.self.inside.host)
 
 -- the board that the run finds
 abbrev seen : goal.After-count_rises_where → BoardParts
@@ -59,8 +66,16 @@ rises_are c =
     ∙ ap (λ (n : ℕ). drop n (c.args.edges.now ++ (ran_to (seen c) c.args.h).edges)) c.len-before.ensures.value
     ∙ drop-append_seam c.args.edges.now (ran_to (seen c) c.args.h).edges)
 
+-- the timers that it leaves are those of the definition
+apics_are : (c : goal.After-count_rises_where) → c.run_apics.new.apics ≡ apics_ran_to (seen c) c.args.h
+apics_are c =
+    c.run_apics.ensures
+    ∙ ap (λ (n : ℕ). run_apics (tscs_by_time (seen c)) c.self.inside.time_ns (n - c.self.inside.time_ns) (apics_in (seen c))) (to_is c)
+    ∙ ap (λ (t : ℕ). run_apics (tscs_by_time (seen c)) t (time_of_access (seen c) c.args.h - t) (apics_in (seen c))) c.self.invariant.time
+
 pub invariant_of-self : goal.invariant_of-self
 invariant_of-self c =
+    let b : BoardParts = seen c in
     let from : c.self.inside.time_ns ≡ now_of (board_parts_of c.self.inside) = c.self.invariant.time in
     let low : time_at c.self.inside.anchor c.args.h < RANGE_NS = (time_in c).range in
     record {
@@ -82,7 +97,10 @@ invariant_of-self c =
             omega (arith, c.run_to-came.ensures.due k less, c.self.invariant.joined.due k less, from, now_is c, to_is c) in r;
         wall = c.self.invariant.joined.wall;
         processors = c.self.invariant.joined.processors;
-        apics = AreApics-more c.self.inside.format c.self.inside.cpus _ _ c.self.inside.apics c.self.invariant.joined.apics (omega (arith, from, now_is c, to_is c));
+        apics = AreApics-more b.format b.cpus _ (time_at b.anchor c.args.h + b.accesses) c.run_apics.new.apics
+            (subst (λ (a : ApicsParts). AreApics b.format b.cpus (now_of b + b.accesses + (c.args.to - c.self.inside.time_ns)) a) (sym c.run_apics.ensures)
+            (AreApics-ran b.format b.cpus (now_of b + b.accesses) (tscs_by_time b) c.self.inside.time_ns (c.args.to - c.self.inside.time_ns) (apics_in b)
+            c.self.invariant.joined.apics)) (omega (arith, from, now_is c, to_is c));
         hv = c.self.invariant.joined.hv;
         rises = subst (λ (rs : List ℕ). AreRises c.self.inside.format c.self.inside.accesses (levels c.run_to-came.new.self) rs) (sym (rises_are c))
             (AreRises-after c.self.inside.format c.self.inside.accesses c.self.inside.accesses 0 (levels c.self.inside.devices) (levels c.run_to-came.new.self)
@@ -93,8 +111,8 @@ invariant_of-self c =
 
 pub returns-clause-state : goal.returns-clause-state
 returns-clause-state c =
-    with_run-is (seen c) c.args.h c.args.h c.run_to-came.new.self c.count_rises_where.new.rises (host_is c)
-    (c.run_to-came.ensures.state ∙ ap (λ (r : Ran). r.state) (ran_is c)) (rises_are c)
+    with_run-is (seen c) c.args.h c.args.h c.run_to-came.new.self c.count_rises_where.new.rises c.run_apics.new.apics (host_is c)
+    (c.run_to-came.ensures.state ∙ ap (λ (r : Ran). r.state) (ran_is c)) (rises_are c) (apics_are c)
     ∙ ap (λ (b : BoardParts). after_run b c.args.h) c.self.view_is
 
 pub returns-clause-edges : goal.returns-clause-edges

@@ -1,11 +1,13 @@
-use Rattle.std.proofs.Common.{◌≡◌, ℕ, ◌<◌, ◌≤◌, max, List, [], ◌++◌, length, append-nil, ap, sym, subst, ◌∙◌, arith}
+use Rattle.std.proofs.Common.{◌≡◌, ℕ, ◌-◌, ◌<◌, ◌≤◌, max, List, [], ◌++◌, length, append-nil, ap, sym, subst, ◌∙◌, arith}
 use Rattle.irq_edges.specs.declared.edges.Edge.{Edge}
 use Rattle.host_counter.specs.Time.{time_at}
 use Rattle.board_types.specs.declared.parts.BoardParts.{BoardParts}
 use Rattle.board_devices.proofs.Edges.{run_none_state, run_none_edges}
 use Rattle.board_core.specs.Time.{devices_in, now_of, time_of_access}
 use Rattle.board_core.specs.Rises.{rises_after}
-use Rattle.board_core.specs.Access.{ran_to, after_run}
+use Rattle.local_apics.specs.Nanosecond.{run as run_apics}
+use Rattle.board_core.specs.Apics.{apics_in, tscs_by_time}
+use Rattle.board_core.specs.Access.{ran_to, apics_ran_to, after_run}
 use Rattle.board_core.specs.View.{board_parts_of}
 use Rattle.board_core.proofs.Times.{time_at_max}
 use Rattle.board_core.proofs.Counted.{rises_after-none}
@@ -26,9 +28,14 @@ module _ (b : BoardParts) (h : ℕ) (stays : now_of b ≡ time_of_access b h) wh
   same_time : (host : ℕ) → 0 < b.anchor.khz → host ≡ max b.host h → time_at b.anchor host ≡ now_of b
   same_time host runs is = ap (time_at b.anchor) is ∙ time_at_max b.anchor b.host h runs ∙ sym stays
 
+  apics-none : apics_in b ≡ apics_ran_to b h
+  apics-none =
+      let none : time_of_access b h - now_of b ≡ 0 = omega (arith, stays) in
+      sym (ap (λ (n : ℕ). run_apics (tscs_by_time b) (now_of b) n (apics_in b)) none)
+
   run-none : (host : ℕ) → host ≡ max b.host h → record b { host = host } ≡ after_run b h
-  run-none host is = with_run-is b h host (devices_in b) b.rises is (sym state-none)
-      (sym (ap (λ (es : List Edge). rises_after b.format es b.rises) edges-none ∙ rises_after-none b.format b.rises))
+  run-none host is = with_run-is b h host (devices_in b) b.rises (apics_in b) is (sym state-none)
+      (sym (ap (λ (es : List Edge). rises_after b.format es b.rises) edges-none ∙ rises_after-none b.format b.rises)) apics-none
 
 -- a count that isn't beyond the board's
 stays_at : (b : BoardParts) (h : ℕ) → IsJoined b → HasTime b.anchor h → h ≤ b.host → now_of b ≡ time_of_access b h

@@ -1,7 +1,9 @@
 use Rattle.board_types.specs.declared.parts.HvParts.{HvParts}
-use Rattle.board_core.specs.Conditions.{IsHv}
+use Rattle.board_core.specs.Conditions.{IsHv, AreApics}
 use Rattle.board_core.specs.Hv.{hv_after}
-use Rattle.board_core.proofs.Kept.{hv-kept}
+use Rattle.local_apics.specs.declared.parts.ApicsParts.{ApicsParts}
+use Rattle.board_core.specs.Apics.{apics_in, apics_acted}
+use Rattle.board_core.proofs.Kept.{hv-kept, apics-kept}
 use Rattle.std.proofs.Common.{false, ◌≡◌, ℕ, ◌+◌, ◌<◌, ◌≤◌, List, ◌++◌, drop, ap, sym, subst, ◌∙◌, arith}
 use Rattle.std.proofs.Math.Seq.{drop-append_seam}
 use Rattle.irq_edges.specs.declared.edges.Edge.{Edge}
@@ -17,14 +19,14 @@ use Rattle.board_devices.specs.Rises.{lifts, one_if}
 use Rattle.board_core.specs.Time.{devices_in, now_of}
 use Rattle.board_core.specs.Wall.{wall_number_after}
 use Rattle.board_core.specs.Rises.{rises_after}
-use Rattle.board_core.specs.Access.{act_of, own_edges, after_act}
+use Rattle.board_core.specs.Access.{act_of, own_edges, before_look}
 use Rattle.board_core.specs.Conditions.{IsWall, AreProcessors, IsJoined}
 use Rattle.board_core.specs.View.{board_parts_of}
 use Rattle.board_core.proofs.Steps.{with_parts, with_parts-is}
 use Rattle.irq_edges.specs.Lines.{line_numbers, level_of}
 use Rattle.board_core.specs.Wall.{wall_version_after}
 use Rattle.board_core.specs.Pages.{processors_after}
-use Rattle.board_core.specs.private.Kinds.{publishes}
+use Rattle.board_core.specs.private.Kinds.{writes}
 use Rattle.board_core.proofs.Kept.{touches-quiet, number-kept, version-kept, processors-kept}
 use Rattle.board_core.proofs.Joined.{IsJoined-acted}
 use Rattle.board_core.proofs.board.BoardState.touch.Goals as goal
@@ -72,22 +74,23 @@ lifts_are c n =
         ∙ ap (λ (t : ℕ). act_edges t (act_of c.args.a.now) c.self.inside.devices) c.self.invariant.time
 
 -- it publishes nothing
-quiet : (c : goal.After-count_rises) → publishes c.args.a.now ≡ false
+quiet : (c : goal.After-count_rises) → writes c.args.a.now ≡ false
 quiet c = touches-quiet c.args.a.now c.requires.touches
 
 state_is : (c : goal.After-count_rises) (cpu h : ℕ) → with_parts (seen c) c.act-word.new.self (seen c).wall_number (seen c).wall_version
-    (seen c).processors c.count_rises.new.rises (seen c).hv ≡ after_act (seen c) cpu h c.args.a.now
+    (seen c).processors c.count_rises.new.rises (seen c).hv (apics_in (seen c)) ≡ before_look (seen c) cpu h c.args.a.now
 state_is c cpu h =
     with_parts-is (seen c) cpu h c.args.a.now c.act-word.new.self (seen c).wall_number (seen c).wall_version (seen c).processors c.count_rises.new.rises (seen c).hv
-    (acted_is c) (sym (number-kept c.args.a.now (seen c).wall_number (quiet c))) (sym (version-kept c.args.a.now (seen c).wall_version (quiet c)))
+    (apics_in (seen c)) (acted_is c) (sym (number-kept c.args.a.now (seen c).wall_number (quiet c))) (sym (version-kept c.args.a.now (seen c).wall_version (quiet c)))
     (sym (processors-kept (seen c).anchor (seen c).guest_khz cpu h c.args.a.now (seen c).processors (quiet c))) (rises_are c)
     (sym (hv-kept (seen c).anchor (seen c).guest_khz cpu h c.args.a.now (seen c).processors (seen c).hv (quiet c)))
+    (sym (apics-kept cpu c.args.a.now (apics_in (seen c)) (quiet c)))
 
 pub invariant_of-self : goal.invariant_of-self
 invariant_of-self c = record {
   time = c.self.invariant.time;
   joined = subst IsJoined (sym (state_is c 0 0)) (IsJoined-acted (seen c) 0 0 c.args.a.now c.self.invariant.joined few (omega arith) wall processors hv
-      (due_is c) (lifts_are c));
+      apics (due_is c) (lifts_are c));
 }
   where
     few : c.self.inside.accesses < MOST_ACCESSES
@@ -110,8 +113,16 @@ invariant_of-self c = record {
         subst (λ (p : HvParts). IsHv (seen c).format (seen c).guest_khz (seen c).cpus p)
         (sym (hv-kept (seen c).anchor (seen c).guest_khz 0 0 c.args.a.now (seen c).processors (seen c).hv (quiet c))) c.self.invariant.joined.hv
 
+    apics : AreApics (seen c).format (seen c).cpus (now_of (seen c) + (seen c).accesses) (apics_acted 0 c.args.a.now (apics_in (seen c)))
+    apics =
+        subst (λ (x : ApicsParts). AreApics (seen c).format (seen c).cpus (now_of (seen c) + (seen c).accesses) x)
+        (sym (apics-kept 0 c.args.a.now (apics_in (seen c)) (quiet c))) c.self.invariant.joined.apics
+
+pub returns-clause-room : goal.returns-clause-room
+returns-clause-room c = λ k less. omega (arith, c.self.invariant.joined.apics.due k less)
+
 pub returns-clause-state : goal.returns-clause-state
-returns-clause-state c = λ cpu h. state_is c cpu h ∙ ap (λ (b : BoardParts). after_act b cpu h c.args.a.now) c.self.view_is
+returns-clause-state c = λ cpu h. state_is c cpu h ∙ ap (λ (b : BoardParts). before_look b cpu h c.args.a.now) c.self.view_is
 
 pub returns-clause-word : goal.returns-clause-word
 returns-clause-word c =

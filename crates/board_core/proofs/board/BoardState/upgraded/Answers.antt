@@ -1,6 +1,7 @@
 use Rattle.local_apics.specs.declared.parts.ApicsParts.{ApicsParts}
 use Rattle.board_core.specs.Conditions.{AreApics}
-use Rattle.board_core.proofs.Joined.{IsHv-later, AreApics-later, most-cpus}
+use Rattle.board_core.proofs.Joined.{IsHv-later, most-cpus}
+use Rattle.board_core.proofs.ApicTimers.{AreApics-later}
 use Rattle.std.proofs.Common.{◌≡◌, ℕ, ◌≤◌, ◌+◌, Bool, cond, List, get_or, ap, sym, subst, ◌∙◌, arith}
 use Rattle.host_counter.specs.Time.{time_at}
 use Rattle.hpet_registers.specs.declared.parts.HpetParts.{HpetParts}
