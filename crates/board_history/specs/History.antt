@@ -64,6 +64,7 @@ abbrev pub board_from : BoardParts → List Entry → BoardParts
 board_from b [] = b
 board_from b (e ∷ es) = board_from (after_entry b e) es
 
+-- the board after a history
 abbrev pub board_after : List Entry → BoardParts
 board_after h = board_from no_board h
 
@@ -92,10 +93,12 @@ is_of n (PageRead pass cpu h page locked) = pass == n
 is_of n (HvRead pass h page locked) = pass == n
 is_of n (Clamp pass cpu reading clock) = pass == n
 
+-- the entries of a pass
 abbrev pub entries_of : ℕ → List Entry → List Entry
 entries_of n [] = []
 entries_of n (e ∷ es) = if is_of n e then (e ∷ entries_of n es) else entries_of n es
 
+-- the last entry, if there is one
 abbrev pub last_of : List Entry → Option Entry
 last_of [] = None
 last_of (e ∷ []) = Some e

@@ -20,11 +20,12 @@ use Rattle.board_core.specs.PowerOn.{board_at_power_on}
 use Rattle.board_core.specs.Tsc.{processor_at}
 use Rattle.board_core.specs.Pages.{page_in}
 
--- the page k of a board's table: those of the processors, and after the last the reference page
--- of Hyper-V, which is all 0 where the format has none (own)
+-- the reference page of Hyper-V, or the page of processor k
 abbrev pub page_if : Bool → BoardParts → ℕ → Page
 page_if t b k = if t then as_page (hv_in b.hv) else page_in (processor_at b k)
 
+-- the page k of a board's table: those of the processors, and after the last the reference page
+-- of Hyper-V, which is all 0 where the format has none (own)
 abbrev pub page_at : BoardParts → ℕ → Page
 page_at b k = page_if (k == b.cpus) b k
 
@@ -43,6 +44,7 @@ pub record Machine : Type 0 where
   pub anchor : Anchor
   pub guest_khz : ℕ
 
+-- the machine of a board
 abbrev pub machine_of : BoardParts → Machine
 machine_of b = record {
   format = b.format;

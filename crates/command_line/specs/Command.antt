@@ -67,9 +67,11 @@ use Rattle.trace_gen.specs.declared.generator.TheConstants.{RECORDS_MAX, CPUS_MA
 abbrev pub number_rule : Text → ℕ → ℕ → Rule
 number_rule id least most = record (new_rule id) { parser = Some (Unsigned least most) }
 
+-- the positional of the job's name, which is needed
 abbrev pub job_rule : Rule
 job_rule = record (new_rule (codes "job")) { required = true }
 
+-- the flag `--state`
 abbrev pub state_rule : Rule
 state_rule =
     record (new_rule (codes "state")) { long = Some (codes "state"); action = Some SetTrue }
@@ -93,6 +95,7 @@ number_of text =
     if is_unsigned_in 0 (2 ^ 64 - 1) text then Some (digits_value 10 (without_leading_plus text))
     else None
 
+-- the number that was given for a positional
 abbrev pub number_in : Text → List Row → Option ℕ
 number_in id rows = option_and_then number_of (first_of id rows)
 
@@ -122,6 +125,7 @@ size_of (Some key) (Some records) (Some cpus) false =
     else None
 size_of key records cpus shows_state = None
 
+-- a job that needs the size of a generated trace
 abbrev pub sized_job : (Size → Command) → Option Size → Command
 sized_job job None = Unknown
 sized_job job (Some size) = job size
@@ -135,6 +139,7 @@ job_named name key records cpus shows_state =
     else if bytes_eq name (codes "soak") then sized_job Soak (size_of key records cpus shows_state)
     else Unknown
 
+-- the job of these words, if one is named
 abbrev pub asked_for : Option Text → Option ℕ → Option ℕ → Option ℕ → Bool → Command
 asked_for None key records cpus shows_state = Unknown
 asked_for (Some name) key records cpus shows_state = job_named name key records cpus shows_state
@@ -165,6 +170,7 @@ refused_for words DisplayHelp = Help (page_of words)
 refused_for words DisplayVersion = Version
 refused_for words kind = Unknown
 
+-- what words ask for, by the errors that clap finds in them and its matches
 abbrev pub by_kinds : List Text → Kinds → List Row → Command
 by_kinds words [] rows = by_rows rows
 by_kinds words (kind ∷ kinds) rows = refused_for words kind
