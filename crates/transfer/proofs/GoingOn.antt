@@ -10,6 +10,7 @@ use Rattle.board_types.specs.declared.parts.BoardParts.{BoardParts}
 use Rattle.board_types.specs.declared.parts.ProcessorParts.{ProcessorParts}
 use Rattle.board_core.specs.Tsc.{no_processor, processor_at, tsc_of, with_tsc, tsc_read}
 use Rattle.board_core.specs.Pages.{published, published_at_host}
+use Rattle.board_core.specs.Hv.{hv_published_at_host}
 use Rattle.board_core.specs.Reanchor.{reanchored}
 use Rattle.transfer.specs.Move.{tsc_behind, offset_for, tsc_moved, published_below, moved_to}
 
@@ -64,6 +65,13 @@ tsc_of-published_below b khz start gap (suc n) m k few less =
           subst (λ (j : ℕ). tsc_of (processor_at (published_at_host n tsc 3 before) j) ≡ tsc_moved b khz start gap j) same here
     ]
 
+-- the reference page leaves the clocks of the processors
+hv-tsc : (b : BoardParts) (h k : ℕ)
+    → tsc_read (hv_published_at_host b).anchor (hv_published_at_host b).guest_khz h (processor_at (hv_published_at_host b) k)
+    ≡ tsc_read b.anchor b.guest_khz h (processor_at b k)
+unfolding hv_published_at_host
+hv-tsc b h k = refl
+
 -- a TSC that is read at count `start` of the new host goes on from its value at the greatest count of the old one
 pub tsc_read-moved_to : (b : BoardParts) (khz start gap k : ℕ) → b.cpus ≤ length b.processors → k < b.cpus
     → tsc_read (moved_to khz start gap b).anchor (moved_to khz start gap b).guest_khz start (processor_at (moved_to khz start gap b) k) ≡ tsc_behind b gap k
@@ -72,7 +80,8 @@ tsc_read-moved_to b khz start gap k few less =
     let m : BoardParts = reanchored khz start gap b in
     let moved : BoardParts = published_below b khz start gap b.cpus m in
     let tsc = tsc_of-published_below b khz start gap b.cpus m k few less in
-    ap (λ (a : Anchor). tsc_read a moved.guest_khz start (processor_at moved k)) (published_below-anchor b khz start gap b.cpus m)
+    hv-tsc moved start k
+    ∙ ap (λ (a : Anchor). tsc_read a moved.guest_khz start (processor_at moved k)) (published_below-anchor b khz start gap b.cpus m)
     ∙ ap (λ (g : ℕ). tsc_read m.anchor g start (processor_at moved k)) (published_below-guest_khz b khz start gap b.cpus m)
     ∙ ap (λ (t : Tsc). tsc_by t.offset start (ratio_of b.guest_khz khz)) tsc
     ∙ tsc_by-offset_for (tsc_behind b gap k) start (ratio_of b.guest_khz khz) (omega arith)

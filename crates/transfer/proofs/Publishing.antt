@@ -1,18 +1,23 @@
 -- What a refusal rules out, and what stays while page after page is published.
-use Rattle.std.proofs.Common.{◌≡◌, ℕ, zero, suc, ◌+◌, ◌<◌, ◌≤◌, Bool, true, cond, add-one, Option, None, Some, refl, ap, sym, subst, ◌∙◌, arith, inl, inr, leb}
+use Rattle.std.proofs.Common.{◌≡◌, ℕ, zero, suc, ◌+◌, ◌<◌, ◌≤◌, Bool, true, false, cond, add-one, Option, None, Some, refl, ap, sym, subst, ◌∙◌, arith, inl, inr, leb, if◌then◌else◌}
 use Rattle.std.proofs.lemmas.Bool.{cases_lt, le-leb, lt-leb}
 use Rattle.std.proofs.lemmas.List.{get_or-set_other}
 use Rattle.board_types.specs.declared.parts.BoardParts.{BoardParts}
 use Rattle.board_types.specs.declared.parts.ProcessorParts.{ProcessorParts}
 use Rattle.board_types.specs.declared.parts.TheConstants.{LAST_VERSION}
+use Rattle.board_types.specs.declared.setup.TheConstants.{HV_FORMAT}
+use Rattle.clk_units.specs.Bits.{bit}
 use Rattle.clk_units.specs.declared.ranges.TheConstants.{RANGE_NS}
+use Rattle.host_counter.specs.Time.{time_at}
+use Rattle.hv_page.specs.Page.{published, withdrawn}
 use Rattle.tsc_scale.specs.declared.Tsc.{Tsc}
 use Rattle.board_core.specs.Time.{now_of}
-use Rattle.board_core.specs.Tsc.{no_processor, processor_at}
+use Rattle.board_core.specs.Tsc.{no_processor, processor_at, tsc_read}
+use Rattle.board_core.specs.Hv.{hv_in, with_page, hv_published, hv_published_at_host}
 use Rattle.board_core.specs.Pages.{published_at_host}
 use Rattle.board_core.specs.Reanchor.{reanchored}
 use Rattle.transfer.specs.declared.outcome.MoveFault.{MoveFault}
-use Rattle.transfer.specs.declared.outcome.MoveFault.TheVariants.{OutOfRange, VersionsSpent}
+use Rattle.transfer.specs.declared.outcome.MoveFault.TheVariants.{OutOfRange}
 use Rattle.transfer.specs.Move.{or_spent, spent_below, published_below, tsc_moved, move_fault}
 
 or_spent-none : (f : Option MoveFault) (cpu v : ℕ) → or_spent f cpu v ≡ None → (f ≡ None) × (v < LAST_VERSION)
@@ -33,32 +38,22 @@ spent_below-none b (suc n) e k less =
       | inr above ↦ let same : n ≡ k = omega arith in subst (λ (j : ℕ). (processor_at b j).version < LAST_VERSION) same parts.1
     ]
 
-or_spent-last : (cpu v : ℕ) → LAST_VERSION ≤ v → or_spent None cpu v ≡ Some (VersionsSpent cpu v)
-or_spent-last cpu v last = ap (λ (t : Bool). cond t (Some (VersionsSpent cpu v)) None) (le-leb LAST_VERSION v last)
-
-or_spent-fresh : (cpu v : ℕ) → v < LAST_VERSION → or_spent None cpu v ≡ None
-or_spent-fresh cpu v less = ap (λ (t : Bool). cond t (Some (VersionsSpent cpu v)) None) (lt-leb LAST_VERSION v less)
-
 -- one more page that isn't at its last version
-pub spent_below-more : (b : BoardParts) (n : ℕ) → spent_below b n ≡ None → (processor_at b n).version < LAST_VERSION → spent_below b (n + 1) ≡ None
+pub spent_below-more : (b : BoardParts) (n : ℕ) → spent_below b n ≡ None → or_spent None n (processor_at b n).version ≡ None → spent_below b (n + 1) ≡ None
 unfolding spent_below
-spent_below-more b n none less =
-    rw add-one (ap (λ (f : Option MoveFault). or_spent f n (processor_at b n).version) none ∙ or_spent-fresh n (processor_at b n).version less)
+spent_below-more b n none fresh = rw add-one (ap (λ (f : Option MoveFault). or_spent f n (processor_at b n).version) none ∙ fresh)
 
 -- the first page at its last version is told, however many there are
-pub spent_below-is : (b : BoardParts) (n m v : ℕ) → spent_below b n ≡ None → n < m → LAST_VERSION ≤ (processor_at b n).version → v ≡ (processor_at b n).version
-    → Some (VersionsSpent n v) ≡ spent_below b m
+pub spent_below-is : (b : BoardParts) (n m : ℕ) (fault : MoveFault) → spent_below b n ≡ None → n < m → or_spent None n (processor_at b n).version ≡ Some fault
+    → spent_below b m ≡ Some fault
 unfolding spent_below
-spent_below-is b n zero v none less last is = absurd (omega arith)
-spent_below-is b n (suc j) v none less last is = elim (cases_lt n j) [
-  | inl below ↦ ap (λ (f : Option MoveFault). or_spent f j (processor_at b j).version) (spent_below-is b n j v none below last is)
+spent_below-is b n zero fault none less here = absurd (omega arith)
+spent_below-is b n (suc j) fault none less here = elim (cases_lt n j) [
+  | inl below ↦ ap (λ (f : Option MoveFault). or_spent f j (processor_at b j).version) (spent_below-is b n j fault none below here)
   | inr above ↦
       let same : n ≡ j = omega arith in
-      let here : or_spent (spent_below b n) n (processor_at b n).version ≡ Some (VersionsSpent n v) =
-      ap (λ (f : Option MoveFault). or_spent f n (processor_at b n).version) none
-      ∙ or_spent-last n (processor_at b n).version last
-      ∙ ap (λ (w : ℕ). Some (VersionsSpent n w)) (sym is) in
-      subst (λ (i : ℕ). Some (VersionsSpent n v) ≡ or_spent (spent_below b i) i (processor_at b i).version) same (sym here)
+      let first : spent_below b (suc n) ≡ Some fault = ap (λ (f : Option MoveFault). or_spent f n (processor_at b n).version) none ∙ here in
+      subst (λ (i : ℕ). spent_below b (suc i) ≡ Some fault) same first
 ]
 
 -- publishing keeps how many processors there are
@@ -86,15 +81,43 @@ pub reanchored-processor : (khz start gap : ℕ) (b : BoardParts) (k : ℕ) → 
 unfolding reanchored
 reanchored-processor khz start gap b k = refl
 
+-- a new anchor and the pages of the processors leave the reference page
+pub published_below-hv : (b : BoardParts) (khz start gap n : ℕ) (m : BoardParts) → (published_below b khz start gap n m).hv ≡ m.hv
+unfolding published_below published_at_host
+published_below-hv b khz start gap zero m = refl
+published_below-hv b khz start gap (suc n) m = published_below-hv b khz start gap n m
+
+pub reanchored-hv : (khz start gap : ℕ) (b : BoardParts) → (reanchored khz start gap b).hv ≡ b.hv
+unfolding reanchored
+reanchored-hv khz start gap b = refl
+
+-- and the reference page, written or not, gets its next version where the format has one
+pub hv-version : (b : BoardParts) → (hv_published_at_host b).hv.version ≡ (if leb HV_FORMAT b.format then b.hv.version + 2 else b.hv.version)
+unfolding hv_published_at_host hv_published
+hv-version b = by (leb HV_FORMAT b.format) (bit 0 b.hv.number)
+  where
+    writer : ProcessorParts
+    writer = processor_at b b.hv.cpu
+
+    by : (t u : Bool) → (cond t (with_page b.hv (cond u (published (hv_in b.hv) b.guest_khz writer.offset (tsc_read b.anchor b.guest_khz b.host writer)
+        (time_at b.anchor b.host)) (withdrawn (hv_in b.hv)))) b.hv).version ≡ cond t (b.hv.version + 2) b.hv.version
+    by true true = refl
+    by true false = refl
+    by false u = refl
+
 -- what no refusal means
-pub move_fault-none : (gap : ℕ) (b : BoardParts) → move_fault gap b ≡ None → (now_of b + gap < RANGE_NS) × (spent_below b b.cpus ≡ None)
+pub move_fault-none : (gap : ℕ) (b : BoardParts) → move_fault gap b ≡ None
+    → (now_of b + gap < RANGE_NS) × (spent_below b b.cpus ≡ None) × (b.hv.version < LAST_VERSION)
 unfolding move_fault
-move_fault-none gap b e = elim (cases_lt (now_of b + gap) RANGE_NS) [
-  | inl less ↦ (less, sym (ap (λ (t : Bool). cond t (Some (OutOfRange (now_of b + gap))) (spent_below b b.cpus)) (lt-leb RANGE_NS (now_of b + gap) less)) ∙ e)
-  | inr more ↦ let t : leb RANGE_NS (now_of b + gap) ≡ true = le-leb RANGE_NS (now_of b + gap) more in
-      let some : Some (OutOfRange (now_of b + gap)) ≡ None =
-      sym (ap (λ (t : Bool). cond t (Some (OutOfRange (now_of b + gap))) (spent_below b b.cpus)) t) ∙ e in cc
-]
+move_fault-none gap b e =
+    let pages : Option MoveFault = or_spent (spent_below b b.cpus) b.cpus b.hv.version in
+    elim (cases_lt (now_of b + gap) RANGE_NS) [
+      | inl less ↦
+          let none : pages ≡ None = sym (ap (λ (t : Bool). cond t (Some (OutOfRange (now_of b + gap))) pages) (lt-leb RANGE_NS (now_of b + gap) less)) ∙ e in
+          let both = or_spent-none (spent_below b b.cpus) b.cpus b.hv.version none in (less, both.0, both.1)
+      | inr more ↦ let t : leb RANGE_NS (now_of b + gap) ≡ true = le-leb RANGE_NS (now_of b + gap) more in
+          let some : Some (OutOfRange (now_of b + gap)) ≡ None = sym (ap (λ (t : Bool). cond t (Some (OutOfRange (now_of b + gap))) pages) t) ∙ e in cc
+    ]
 
 -- while pages below n are published, the processors that are left have pages that can be
 module _ (b : BoardParts) (khz start gap : ℕ) (m board : BoardParts) (n : ℕ) (at_first : m ≡ reanchored khz start gap b)

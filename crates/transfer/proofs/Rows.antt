@@ -9,9 +9,13 @@ use Rattle.board_types.specs.declared.parts.ProcessorParts.{ProcessorParts}
 use Rattle.board_types.specs.declared.setup.Setup.{Setup}
 use Rattle.board_core.specs.Tsc.{no_processor}
 use Rattle.board_core.specs.Pages.{published, published_at_host}
+use Rattle.hv_page.specs.Scale.{tsc_scale}
+use Rattle.hv_page.specs.Time.{units_of}
+use Rattle.board_core.specs.Hv.{hv_published, hv_published_at_host, no_hv}
 use Rattle.board_core.specs.PowerOn.{board_at_power_on}
+use Rattle.board_core.specs.Reanchor.{reanchored}
 use Rattle.transfer.specs.declared.outcome.MoveFault.TheVariants.{OutOfRange, VersionsSpent}
-use Rattle.transfer.specs.Move.{counts_in, tsc_behind, tsc_moved, published_below, or_spent, spent_below, move_fault}
+use Rattle.transfer.specs.Move.{counts_in, tsc_behind, tsc_moved, published_below, moved_to, or_spent, spent_below, move_fault}
 
 abbrev setup : Setup
 setup = record {
@@ -127,3 +131,27 @@ move_fault-range = refl
 move_fault-versions : move_fault (2 ^ 59 - 2001) spent ≡ Some (VersionsSpent 1 0xfffffffe)
 unfolding move_fault spent_below time_at
 move_fault-versions = refl
+
+-- the reference page comes after those of the processors
+move_fault-reference : move_fault 0 (record board { hv = record no_hv { version = 0xfffffffe } }) ≡ Some (VersionsSpent 2 0xfffffffe)
+unfolding move_fault spent_below time_at
+move_fault-reference = refl
+
+move_fault-processor_first : move_fault 0 (record spent { hv = record no_hv { version = 0xfffffffe } }) ≡ Some (VersionsSpent 1 0xfffffffe)
+unfolding move_fault spent_below time_at
+move_fault-processor_first = refl
+
+-- the reference page is published by the new TSC of its processor, 2000004005 at 1000002000 ns
+moved_to-reference : (moved_to 3000000 500 1000000000 (record board { format = 4; hv = record no_hv { number = 1; version = 2 } })).hv
+    ≡ record { number = 1; version = 4; cpu = 0; scale = tsc_scale 2000000; offset = 0; tsc_offset = 2000003672 }
+unfolding moved_to reanchored published_below published_at_host published hv_published_at_host hv_published tsc_scale units_of tsc_by time_at
+moved_to-reference = refl
+
+-- it is published though it was never written; before format 4 there is none
+moved_to-never_written : (moved_to 3000000 500 1000000000 (record board { format = 4 })).hv ≡ record no_hv { version = 2 }
+unfolding moved_to reanchored published_below published_at_host hv_published_at_host hv_published
+moved_to-never_written = refl
+
+moved_to-no_reference : (moved_to 3000000 500 1000000000 (record board { format = 3 })).hv ≡ no_hv
+unfolding moved_to reanchored published_below published_at_host hv_published_at_host
+moved_to-no_reference = refl

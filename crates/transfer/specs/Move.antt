@@ -10,11 +10,14 @@ use Rattle.std.specs.Prelude.{
   ◌^◌,
   nat_le,
   if◌then◌else◌,
+  List,
+  [],
   Option,
   Some,
   None,
 }
 use Rattle.clk_units.specs.declared.ranges.TheConstants.{RANGE_NS}
+use Rattle.irq_edges.specs.declared.bursts.Burst.{Burst}
 use Rattle.tsc_scale.specs.declared.Tsc.{Tsc}
 use Rattle.tsc_scale.specs.Ratio.{ratio_of}
 use Rattle.tsc_scale.specs.Offset.{tsc_by}
@@ -24,6 +27,7 @@ use Rattle.board_types.specs.declared.parts.TheConstants.{LAST_VERSION}
 use Rattle.board_core.specs.Time.{now_of}
 use Rattle.board_core.specs.Tsc.{processor_at, tsc_read}
 use Rattle.board_core.specs.Pages.{published_at_host}
+use Rattle.board_core.specs.Hv.{hv_published_at_host}
 use Rattle.board_core.specs.Reanchor.{reanchored}
 use Rattle.transfer.specs.declared.outcome.MoveFault.{MoveFault}
 use Rattle.transfer.specs.declared.outcome.MoveFault.TheVariants.{OutOfRange, VersionsSpent}
@@ -57,10 +61,15 @@ published_below b khz start gap (suc n) moved =
     (published_below b khz start gap n moved)
 
 -- the board moved: it runs gap nanoseconds, count `start` of the new host's counter has the new
--- time, and each processor goes on. All else is kept, the greatest reading and TSC_ADJUST among it
+-- time, and each processor goes on; then the reference page, written or not, is published by the new
+-- TSC of its processor. All else is kept, the greatest reading and TSC_ADJUST among it
 unfoldable pub moved_to : ℕ → ℕ → ℕ → BoardParts → BoardParts
 moved_to khz start gap b =
-    published_below b khz start gap b.cpus (reanchored khz start gap b)
+    hv_published_at_host (published_below b khz start gap b.cpus (reanchored khz start gap b))
+
+-- the messages of the gap: a board sends none
+abbrev pub gap_bursts : ℕ → BoardParts → List Burst
+gap_bursts gap b = []
 
 -- an earlier fault, or else that of a page whose version is the last one
 abbrev pub or_spent : Option MoveFault → ℕ → ℕ → Option MoveFault
@@ -74,8 +83,8 @@ spent_below b zero = None
 spent_below b (suc n) = or_spent (spent_below b n) n (processor_at b n).version
 
 -- why a move is refused, the causes in this order: the new time is `RANGE_NS` or more; a page's
--- version is the last one
+-- version is the last one. The reference page comes after those of the processors, as page `cpus`
 unfoldable pub move_fault : ℕ → BoardParts → Option MoveFault
 move_fault gap b =
     if nat_le RANGE_NS (now_of b + gap) then Some (OutOfRange (now_of b + gap))
-    else spent_below b b.cpus
+    else or_spent (spent_below b b.cpus) b.cpus b.hv.version

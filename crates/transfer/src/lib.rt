@@ -15,7 +15,7 @@
 mod moves;
 mod outcome;
 
-pub use moves::moved;
+pub use moves::{moved, spent_page};
 pub use outcome::{MoveFault, Moved};
 
 #[cfg(test)]

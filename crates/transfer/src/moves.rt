@@ -21,6 +21,7 @@ ghost use Rattle.clk_units.specs.Ranges.{IsKhz};
 ghost use Rattle.board_devices.specs.Run.{run};
 ghost use Rattle.board_core.specs.Time.{devices_in, now_of};
 ghost use Rattle.board_core.specs.Tsc.{processor_at, tsc_read};
+ghost use Rattle.board_core.specs.Hv.{hv_published_at_host};
 ghost use Rattle.board_core.specs.Conditions.{AreRates};
 ghost use Rattle.clk_units.specs.declared.ranges.TheConstants.{RANGE_NS};
 ghost use Rattle.board_core.specs.Reanchor.{reanchored};
@@ -31,6 +32,8 @@ ghost use Rattle.transfer.specs.Move.{
   tsc_moved,
   published_below,
   moved_to,
+  gap_bursts,
+  or_spent,
   spent_below,
   move_fault,
 };
@@ -46,7 +49,8 @@ const MOVED_FLAGS: u8 = TSC_STABLE | GUEST_STOPPED;
 
 /// The board on a host whose counter runs at `khz`, 100,000 to 10,000,000, and counts `start` when the gap, in
 /// nanoseconds, is over. Each TSC goes on by the gap's counts, rounded down, and each page, enabled or not, is
-/// published at `start`. All else is kept, TSC_ADJUST and the greatest reading among it, and `state` stays as it is.
+/// published at `start`, from format 4 on the reference page after those of the processors. All else is kept,
+/// TSC_ADJUST and the greatest reading among it, and `state` stays as it is.
 #[tactic(auto, unfolding(crate::specs::Move::moved_to))]
 pub fn moved(state: &BoardState, khz: u64, start: u64, gap: u64) -> Result<Moved, MoveFault>
     requires { IsKhz khz }
@@ -56,6 +60,7 @@ pub fn moved(state: &BoardState, khz: u64, start: u64, gap: u64) -> Result<Moved
     ensures edges { IfOk result (λ m. m.edges
         ≡ (run (now_of state.now) gap (devices_in state.now)).edges) }
     ensures few { IfOk result (λ m. length m.edges ≤ 6) }
+    ensures bursts { IfOk result (λ m. m.bursts ≡ gap_bursts gap state.now) }
     // A TSC that is read at count `start` has gone on from its value at the greatest count.
     ensures tscs { IfOk result (λ m. (k : ℕ) → k < state.now.cpus
         → tsc_read m.state.anchor m.state.guest_khz start (processor_at m.state k)
@@ -68,9 +73,11 @@ pub fn moved(state: &BoardState, khz: u64, start: u64, gap: u64) -> Result<Moved
     let mut board = *state;
     let ran = board.reanchor(khz, start, gap);
     publish_all(&mut board, &from, khz, start, gap);
+    board.publish_hv();
     Ok(Moved {
         state: board,
         edges: ran.edges,
+        bursts: ran.bursts,
     })
 }
 
@@ -101,7 +108,10 @@ fn move_fault(gap: u64, now: u64, from: &BoardParts) -> Option<MoveFault>
     if ns >= u128::from(RANGE_NS) {
         return Some(MoveFault::OutOfRange { ns });
     }
-    spent(from)
+    match spent(from) {
+        Some(fault) => Some(fault),
+        None => spent_page(from.cpus, from.hv.version),
+    }
 }
 
 /// The first processor whose page has the last version.
@@ -111,14 +121,25 @@ fn spent(from: &BoardParts) -> Option<MoveFault>
 {
     for cpu in 0..from.cpus {
         let version = from.processors[cpu as usize].version;
-        if version >= LAST_VERSION {
-            return Some(MoveFault::VersionsSpent {
-                cpu,
-                version: u64::from(version),
-            });
+        if let Some(fault) = spent_page(cpu, version) {
+            return Some(fault);
         }
     }
     None
+}
+
+/// The fault of page `cpu`, where its version is the last one.
+pub fn spent_page(cpu: u8, version: u32) -> Option<MoveFault>
+    ensures { result ≡ or_spent None cpu version }
+{
+    if version >= LAST_VERSION {
+        Some(MoveFault::VersionsSpent {
+            cpu,
+            version: u64::from(version),
+        })
+    } else {
+        None
+    }
 }
 
 /// The TSC of a processor behind the gap, at count `start` of the new host.

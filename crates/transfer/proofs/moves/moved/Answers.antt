@@ -5,7 +5,7 @@ use Rattle.board_core.specs.Time.{now_of}
 use Rattle.board_core.specs.Tsc.{processor_at, tsc_read}
 use Rattle.transfer.specs.Move.{tsc_behind, moved_to, move_fault}
 use Rattle.transfer.proofs.GoingOn.{tsc_read-moved_to}
-use Rattle.transfer.proofs.Publishing.{move_fault-none}
+use Rattle.transfer.proofs.Publishing.{move_fault-none, published_below-hv, reanchored-hv}
 use Rattle.transfer.proofs.moves.moved.Goals as goal
 
 pub reanchor-ran-requires-clause-range : goal.reanchor-ran-requires-clause-range
@@ -21,16 +21,27 @@ publish_all-requires-clause-gap c =
 pub publish_all-requires-clause-fresh : goal.publish_all-requires-clause-fresh
 publish_all-requires-clause-fresh c = (move_fault-none c.args.gap c.parts-from.result (sym c.in_default.ensures)).1
 
+pub publish_hv-requires : goal.publish_hv-requires
+publish_hv-requires c =
+    let from : BoardParts = c.parts-from.result in
+    let left = published_below-hv from c.args.khz c.args.start c.args.gap from.cpus c.reanchor-ran.new.self in
+    let was = reanchored-hv c.args.khz c.args.start c.args.gap c.args.state.now in
+    let free = (move_fault-none c.args.gap from (sym c.in_default.ensures)).2 in
+    search rules
+
+fits : (n m : ℕ) → m ≡ 64 → n ≤ 64 → n ≤ m
+fits n m places few = omega arith
+
 pub returns-clause-tscs : goal.returns-clause-tscs
 unfolding moved_to
 returns-clause-tscs c =
     let from : BoardParts = c.parts-from.result in
-    let moved : BoardParts = c.publish_all.new.board in
+    let moved : BoardParts = c.publish_hv.new.self in
     let places : length from.processors ≡ 64 = search rules in
     let few : from.cpus ≤ 64 = search rules in
     let is : moved ≡ moved_to c.args.khz c.args.start c.args.gap from = search rules in
     λ (k : ℕ) (less : k < c.args.state.now.cpus).
     let there : k < from.cpus = subst (λ (b : BoardParts). k < b.cpus) (sym c.parts-from.ensures.value) less in
     ap (λ (b : BoardParts). tsc_read b.anchor b.guest_khz c.args.start (processor_at b k)) is
-    ∙ tsc_read-moved_to from c.args.khz c.args.start c.args.gap k (omega (arith, places, few)) there
+    ∙ tsc_read-moved_to from c.args.khz c.args.start c.args.gap k (fits from.cpus (length from.processors) places few) there
     ∙ ap (λ (b : BoardParts). tsc_behind b c.args.gap k) c.parts-from.ensures.value

@@ -1,4 +1,4 @@
-use Rattle.std.proofs.Common.{refl}
+use Rattle.std.proofs.Common.{refl, sym, ◌∙◌}
 use Rattle.transfer.specs.Move.{spent_below}
 use Rattle.transfer.proofs.Publishing.{spent_below-more, spent_below-is}
 use Rattle.transfer.proofs.moves.spent.Goals as goal
@@ -7,10 +7,10 @@ pub loop-cpu-init : goal.loop-cpu-init
 unfolding spent_below
 loop-cpu-init c = refl
 
-pub returns-then-version-ge-LAST_VERSION : goal.returns-then-version-ge-LAST_VERSION
-returns-then-version-ge-LAST_VERSION c =
-    spent_below-is c.args.from.now c.loop-cpu.cpu c.args.from.now.cpus c.from.result c.loop-cpu.invariant c.loop-cpu-test.true
-    c.if-version-ge-LAST_VERSION.true c.from.ensures
+pub returns-in-Some : goal.returns-in-Some
+returns-in-Some c =
+    sym (spent_below-is c.args.from.now c.loop-cpu.cpu c.args.from.now.cpus c.in-Some.fault c.loop-cpu.invariant c.loop-cpu-test.true
+    (sym c.spent_page.ensures ∙ c.in-Some.is))
 
 pub loop-cpu-preserved : goal.loop-cpu-preserved
-loop-cpu-preserved c = spent_below-more c.args.from.now c.loop-cpu.cpu c.loop-cpu.invariant c.if-version-ge-LAST_VERSION.false
+loop-cpu-preserved c = spent_below-more c.args.from.now c.loop-cpu.cpu c.loop-cpu.invariant (sym c.spent_page.ensures ∙ c.in_default.is)
