@@ -116,12 +116,7 @@ fn put_reply(board: &mut BoardState, a: Access, reply: &mut Reply)
     if board.cpus() == 0 {
         return;
     }
-    if board
-        .answer(0, 0, a, &mut reply.value, &mut reply.edges)
-        .is_ok()
-    {
-        reply.number = board.accesses();
-    }
+    let _told = board.answer(0, 0, a, reply);
 }
 
 /// The calls of a row on a shared board, by one pass. Answers their sum.

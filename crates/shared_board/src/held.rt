@@ -199,16 +199,8 @@ pub(crate) fn act<N: Name>(
     ensures machine { machine_of board.new ≡ machine_of board.old }
     ensures unchanged { OnErr result (reply.new ≡ reply.old) }
 {
-    let told = board.answer(
-        call.cpu,
-        call.h,
-        call.access,
-        &mut reply.value,
-        &mut reply.edges,
-    );
-    match told {
+    match board.answer(call.cpu, call.h, call.access, reply) {
         Ok(()) => {
-            reply.number = board.accesses();
             make(table, board, seat, call, reply);
             Ok(())
         }

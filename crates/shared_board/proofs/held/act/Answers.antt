@@ -1,22 +1,14 @@
-use Rattle.std.proofs.Common.{◌≡◌, ℕ, List, ◌++◌, IsTrue, refl, ap, sym, ◌∙◌, subst, arith}
-use Rattle.irq_edges.specs.declared.edges.Edge.{Edge}
-use Rattle.irq_edges.specs.declared.bursts.Burst.{Burst}
+use Rattle.std.proofs.Common.{◌≡◌, IsTrue, refl, ap, sym, ◌∙◌, subst, arith}
 use Rattle.board_types.specs.Legal.{is_legal}
 use Rattle.board_types.specs.declared.parts.BoardParts.{BoardParts}
-use Rattle.board_types.specs.declared.reply.Reply.{Reply}
-use Rattle.board_types.specs.declared.reply.Value.{Value}
-use Rattle.board_core.specs.Access.{after_access, reply_of}
+use Rattle.board_core.specs.Access.{after_access}
 use Rattle.board_core.specs.Pages.{with_greatest}
-use Rattle.board_core.proofs.Laws.{after_access-accesses, reply_of-number, reply_of-bursts}
 use Rattle.board_history.specs.Machine.{Machine, machine_of}
 use Rattle.board_history.specs.History.{board_after}
 use Rattle.board_history.proofs.Pages.{machine_of-access}
 use Rattle.shared_board.specs.private.Seats.{AreAlike}
 use Rattle.shared_board.proofs.Seats.{alike_machine, alike_reply, alike_after, alike_told, alike_refusal}
 use Rattle.shared_board.proofs.held.act.Goals as goal
-
-abbrev reply : List Burst → ℕ → Value → List Edge → Reply
-reply bursts number value edges = record { number = number; value = value; edges = edges; bursts = bursts }
 
 pub make-requires-clause-machine : goal.make-requires-clause-machine
 make-requires-clause-machine g c =
@@ -28,22 +20,12 @@ make-requires-clause-applied g c =
     let d : BoardParts = board_after c.args.seat.now.seen in
     let call = c.args.call in
     let same : machine_of d ≡ machine_of g.N.Name.state = sym (alike_machine b d c.requires.alike) ∙ c.requires.machine in
-    let r : Reply = reply_of b call.cpu call.h call.access in
-    let number : c.accesses-reply.result ≡ r.number =
-    c.accesses-reply.ensures ∙ (ap (λ (x : BoardParts). x.accesses) c.in-Ok.ensures.state ∙ (after_access-accesses b call.cpu call.h call.access
-    ∙ sym (reply_of-number b call.cpu call.h call.access))) in
-    let edges : c.answer-told.new.edges ≡ r.edges = c.in-Ok.ensures.edges ∙ ap (λ (es : List Edge). es ++ r.edges) c.requires.fresh.edges in
-    let bursts : c.args.reply.now.bursts ≡ r.bursts = c.requires.fresh.bursts ∙ sym (reply_of-bursts b call.cpu call.h call.access) in
-    let is : reply c.args.reply.now.bursts c.accesses-reply.result c.answer-told.new.value c.answer-told.new.edges ≡ r =
-    ap (λ (bs : List Burst). reply bs c.accesses-reply.result c.answer-told.new.value c.answer-told.new.edges) bursts
-    ∙ (ap (λ (n : ℕ). reply r.bursts n c.answer-told.new.value c.answer-told.new.edges) number
-    ∙ (ap (λ (v : Value). reply r.bursts r.number v c.answer-told.new.edges) c.in-Ok.ensures.value ∙ ap (reply r.bursts r.number r.value) edges)) in
     record {
       answered = record {
         cpu_below = (let e = ap (λ (m : Machine). m.cpus) same in let l = c.requires.cpu in omega arith);
         legal = subst (λ (m : Machine). IsTrue (is_legal m.cpus m.format call.access)) (sym same) c.requires.legal;
         taken = sym (alike_refusal b d call.cpu call.h call.access c.requires.alike) ∙ c.in-Ok.ensures.taken;
-        reply = sym (alike_reply b d call.cpu call.h call.access c.requires.alike) ∙ sym is;
+        reply = sym (alike_reply b d call.cpu call.h call.access c.requires.alike) ∙ sym c.in-Ok.ensures.reply;
       };
       after = ap (λ x. with_greatest x 0) c.in-Ok.ensures.state ∙ alike_after b d call.cpu call.h call.access c.requires.alike;
     }
@@ -53,12 +35,11 @@ returns-in-Ok-clause-ok g c =
     let b = c.args.board.now in
     let d : BoardParts = board_after c.args.seat.now.seen in
     let call = c.args.call in
-    let r = reply c.args.reply.now.bursts c.accesses-reply.result c.answer-told.new.value c.answer-told.new.edges in
-    let after : AreAlike c.answer-told.new.self (after_access d call.cpu call.h call.access) =
+    let after : AreAlike c.answer.new.self (after_access d call.cpu call.h call.access) =
     ap (λ x. with_greatest x 0) c.in-Ok.ensures.state ∙ alike_after b d call.cpu call.h call.access c.requires.alike in
     record {
       told = c.make.ensures;
-      alike = alike_told call r c.answer-told.new.self c.args.seat.now c.make.new.seat after c.make.ensures;
+      alike = alike_told call c.answer.new.reply c.answer.new.self c.args.seat.now c.make.new.seat after c.make.ensures;
     }
 
 pub returns-in-Ok-clause-machine : goal.returns-in-Ok-clause-machine
