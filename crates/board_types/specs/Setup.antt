@@ -1,14 +1,18 @@
 -- What a board is at power on, and the ranges of it.
-use Rattle.std.specs.Prelude.{ℕ, ◌≤◌, ◌<◌, nat_le, if◌then◌else◌}
+use Rattle.std.specs.Prelude.{ℕ, ◌≤◌, ◌<◌, Bool, nat_le, if◌then◌else◌}
 use Rattle.clk_units.specs.Ranges.{IsKhz}
 use Rattle.clk_units.specs.declared.ranges.TheConstants.{RANGE_NS}
 use Rattle.board_types.specs.declared.setup.Setup.{Setup}
-use Rattle.board_types.specs.declared.setup.TheConstants.{SLEW_MAX_NS, SECOND_NS, LAST_FORMAT}
+use Rattle.board_types.specs.declared.setup.TheConstants.{SLEW_MAX_NS, SECOND_NS, LAST_FORMAT, MESSAGE_FORMAT}
 use Rattle.tick_policy.specs.declared.parts.Policy.TheVariants.{Delay}
 
 -- how many timers the HPET has in a format
 abbrev pub timers_of : ℕ → ℕ
 timers_of format = if nat_le format 1 then 3 else 8
+
+-- whether the HPET's timers have message registers in a format
+abbrev pub has_messages : ℕ → Bool
+has_messages format = nat_le MESSAGE_FORMAT format
 
 -- how many processors a board of a format may have
 abbrev pub processors_of : ℕ → ℕ

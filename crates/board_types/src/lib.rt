@@ -25,7 +25,7 @@ pub use parts::{BoardParts, HvParts, LAST_VERSION, MOST_ACCESSES, ProcessorParts
 pub use reply::{Ran, Refusal, Reply, Value};
 pub use setup::{
     APIC_FORMAT, HV_FORMAT, LAST_FORMAT, MESSAGE_FORMAT, SECOND_NS, SLEW_MAX_NS, Setup,
-    processors_of, timers_of,
+    has_messages, processors_of, timers_of,
 };
 
 #[cfg(test)]

@@ -1,6 +1,6 @@
 //! How a board is set up.
 ghost use Rattle.std.specs.Prelude.{◌≡◌, ◌≤◌};
-ghost use Rattle.board_types.specs.Setup.{timers_of, processors_of, setup_by_default, IsSetup};
+ghost use Rattle.board_types.specs.Setup.{timers_of, has_messages, processors_of, setup_by_default, IsSetup};
 ghost use Rattle.board_types.specs.declared.setup.TheConstants.{LAST_FORMAT};
 
 use host_counter::Anchor;
@@ -91,6 +91,13 @@ pub fn timers_of(format: u8) -> u8
     ensures { result ≡ timers_of format }
 {
     if format <= 1 { 3 } else { 8 }
+}
+
+/// Whether the HPET's timers have message registers in a format.
+pub fn has_messages(format: u8) -> bool
+    ensures { result ≡ has_messages format }
+{
+    MESSAGE_FORMAT <= format
 }
 
 /// How many processors a board of a format may have.

@@ -1,6 +1,6 @@
 -- What the HPET's outputs are made of (IA-PC HPET specification 1.0a, sections 2.3.6, 2.3.8 and
 -- 2.3.10).
-use Rattle.std.specs.Prelude.{ℕ, ◌/◌, ◌%◌, ◌^◌, Bool, ◌&&◌, not, nat_lt, if◌then◌else◌, Option}
+use Rattle.std.specs.Prelude.{ℕ, zero, suc, ◌/◌, ◌%◌, ◌^◌, Bool, false, ◌&&◌, ◌||◌, not, nat_lt, if◌then◌else◌, Option}
 use Rattle.std.specs.Prelude.{Some, None}
 use Rattle.clk_units.specs.Bits.{bit}
 use Rattle.hpet_comparator.specs.Parts.{is_level, is_enabled}
@@ -20,6 +20,11 @@ has_edge_ticks k h = is_enabled (timer_at k h) && not (is_level (timer_at k h))
 -- legacy replacement (own)
 abbrev pub is_message : ℕ → HpetParts → Bool
 is_message k h = message_bit_at k h && (has_edge_ticks k h && not (is_legacy h && nat_lt k 2))
+
+-- whether one of the timers below k is one
+unfoldable pub has_message_below : ℕ → HpetParts → Bool
+has_message_below zero h = false
+has_message_below (suc k) h = has_message_below k h || is_message k h
 
 -- a timer whose matches are ticks of its line: of edge type, enabled, and no message timer
 abbrev pub has_ticks : ℕ → HpetParts → Bool

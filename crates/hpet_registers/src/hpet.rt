@@ -18,6 +18,7 @@ ghost use Rattle.hpet_registers.specs.Outputs.{
   level_output,
   has_edge_ticks,
   is_message,
+  has_message_below,
   has_ticks,
   message_of,
 };
@@ -249,6 +250,31 @@ impl Hpet {
         self.has_edge_ticks(timer) && !self.is_message(timer)
     }
 
+    /// Whether a timer's matches are messages.
+    // A block without message registers pays one test.
+    #[inline(always)]
+    pub fn sends_messages(&self) -> bool
+        ensures { result ≡ has_message_below 8 self.now }
+    {
+        if !self.parts.messages {
+            return false;
+        }
+        self.has_message()
+    }
+
+    /// The same, timer by timer.
+    #[inline(never)]
+    fn has_message(&self) -> bool
+        ensures { result ≡ has_message_below 8 self.now }
+    {
+        for k in 0..8u8 {
+            if self.is_message(k) {
+                return true;
+            }
+        }
+        false
+    }
+
     /// Address and data of a timer's messages, where its matches are messages: with bit 14,
     /// interrupt enabled, of edge type, and not timer 0 or 1 under legacy replacement (own).
     pub fn message(&self, timer: u8) -> Option<(u32, u32)>
@@ -281,8 +307,8 @@ impl Hpet {
         parts.is_enabled() && !parts.is_level()
     }
 
-    /// Whether a timer's matches are messages.
-    fn is_message(&self, timer: u8) -> bool
+    /// Whether the matches of this timer are messages.
+    pub fn is_message(&self, timer: u8) -> bool
         requires { timer < 8 }
         ensures { result ≡ is_message timer self.now }
     {
