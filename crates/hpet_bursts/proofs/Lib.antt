@@ -2,4 +2,5 @@ mod Falls
 mod Times
 mod Evenly
 pub mod Runs
+mod Nexts
 mod Rows

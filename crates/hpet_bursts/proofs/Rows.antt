@@ -1,5 +1,5 @@
 -- Small rows that pin the definitions.
-use Rattle.std.proofs.Common.{◌≡◌, ℕ, true, [], ◌∷◌, Some, map, refl}
+use Rattle.std.proofs.Common.{◌≡◌, ℕ, true, [], ◌∷◌, Some, None, map, refl}
 use Rattle.clk_units.specs.Pulses.{falls_at, pulses_from, pulses_by}
 use Rattle.hpet_comparator.specs.declared.parts.TimerParts.{TimerParts}
 use Rattle.hpet_comparator.specs.Parts.{timer_at_power_on}
@@ -8,6 +8,7 @@ use Rattle.hpet_registers.specs.declared.parts.HpetParts.{HpetParts}
 use Rattle.hpet_registers.specs.Parts.{hpet_at_power_on}
 use Rattle.hpet_registers.specs.Stretch.{matches_next, hpet_pulsed}
 use Rattle.hpet_bursts.specs.Messages.{message_times}
+use Rattle.hpet_bursts.specs.Next.{first_where, sends_below, next_message}
 use Rattle.hpet_bursts.specs.Bursts.{distance_of, burst_in, bursts_below, bursts_of, evenly}
 
 -- a timer of edge type with its interrupt enabled, periodic with this period and comparator
@@ -82,3 +83,8 @@ distances = refl
 
 three_from_7 : evenly 7 10 3 ≡ 7 ∷ 17 ∷ 27 ∷ []
 three_from_7 = refl
+
+-- the next message is the earliest of any timer's: timer 1 at 20, before timer 0 at 30
+earliest_of_two : map (λ n. next_message 0 n (block 1 (periodic 3) (periodic 2) timer_at_power_on)) (19 ∷ 20 ∷ 40 ∷ []) ≡ None ∷ Some 20 ∷ Some 20 ∷ []
+unfolding first_where sends_below matches_next hpet_pulsed matches_at pulsed falls_at pulses_from pulses_by
+earliest_of_two = refl

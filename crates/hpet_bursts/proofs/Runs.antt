@@ -32,3 +32,9 @@ bursts_below-none zero t n h silent = refl
 bursts_below-none (suc k) t n h silent =
     ap (λ (times : List ℕ). with_burst (bursts_below k t n h) (burst_from k h times)) (times-none k t n h (silent k (omega arith)))
     ∙ bursts_below-none k t n h (λ j less. silent j (omega arith))
+
+-- .. nor where no nanosecond goes by
+pub bursts_below-still : (k t : ℕ) (h : HpetParts) → bursts_below k t 0 h ≡ []
+unfolding bursts_below
+bursts_below-still zero t h = refl
+bursts_below-still (suc k) t h = bursts_below-still k t h

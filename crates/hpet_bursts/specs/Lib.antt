@@ -1,3 +1,4 @@
 pub mod Messages
 pub mod Bursts
+pub mod Next
 pub mod private

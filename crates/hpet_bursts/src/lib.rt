@@ -19,8 +19,10 @@
 #![tactic(auto)]
 
 mod burst;
+mod next;
 mod run;
 
+pub use next::next_message;
 pub use run::bursts_in;
 
 #[cfg(test)]
