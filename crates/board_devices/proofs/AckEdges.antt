@@ -5,7 +5,7 @@ use Rattle.std.proofs.lemmas.Bool.{cases_eq, cases_Bool, ne_eqb, eqb-true, true�
 use Rattle.irq_edges.specs.declared.edges.Edge.{Edge}
 use Rattle.irq_edges.specs.Lines.{change, changes, line_numbers}
 use Rattle.rtc_registers.specs.Registers.{irqf_of}
-use Rattle.hpet_comparator.specs.Parts.{is_level, route_of}
+use Rattle.hpet_comparator.specs.Parts.{route_of}
 use Rattle.hpet_registers.specs.declared.parts.HpetParts.{HpetParts}
 use Rattle.hpet_registers.specs.Parts.{timer_at, is_legacy}
 use Rattle.tick_policy.specs.declared.parts.TickParts.{TickParts}
@@ -13,7 +13,7 @@ use Rattle.board_devices.specs.declared.parts.DeviceParts.{DeviceParts}
 use Rattle.board_devices.specs.declared.act.Act.TheVariants.{Ack}
 use Rattle.board_devices.specs.Places.{each, no_line}
 use Rattle.board_devices.specs.Lines.{drives, routed, levels}
-use Rattle.board_devices.specs.Act.{drives_now, acks, acked_where, down_where, acted, first_part, act_edges}
+use Rattle.board_devices.specs.Act.{drives_now, shows_ticks, acks, acked_where, down_where, acted, first_part, act_edges}
 use Rattle.board_devices.specs.private.Acks.{is_io_line, shows, output_with, shown_by, level_by}
 use Rattle.board_devices.proofs.Places.{each-at}
 use Rattle.board_devices.proofs.Fronts.{change-same}
@@ -35,8 +35,8 @@ module _ (d : DeviceParts) (line : ℕ) (ls ms : List TickParts) (same : SameEls
   output-same : (k : ℕ) → k < 8 → drives_now line k d.hpet ≡ false → output_with k d.hpet (get_or ls (suc (suc k)) no_line)
       ≡ output_with k d.hpet (get_or ms (suc (suc k)) no_line)
   output-same k small none = ap (output_with k d.hpet) (same (suc (suc k)) (omega arith)
-      (ap (λ (b : Bool). ltb k d.hpet.timers && (not (is_level (timer_at k d.hpet)) && b)) none
-      ∙ ap (λ (b : Bool). ltb k d.hpet.timers && b) (and-false (not (is_level (timer_at k d.hpet)))) ∙ and-false (ltb k d.hpet.timers)))
+      (ap (λ (b : Bool). ltb k d.hpet.timers && (shows_ticks k d.hpet && b)) none
+      ∙ ap (λ (b : Bool). ltb k d.hpet.timers && b) (and-false (shows_ticks k d.hpet)) ∙ and-false (ltb k d.hpet.timers)))
 
   -- a timer that drives another line doesn't drive this one
   elsewhere : (n k : ℕ) → n ≢ line → drives n k d.hpet ≡ true → drives_now line k d.hpet ≡ false

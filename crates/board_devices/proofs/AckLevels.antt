@@ -6,12 +6,12 @@ use Rattle.hpet_comparator.specs.declared.parts.TimerParts.{TimerParts}
 use Rattle.hpet_comparator.specs.Parts.{is_level, route_of}
 use Rattle.hpet_registers.specs.declared.parts.HpetParts.{HpetParts}
 use Rattle.hpet_registers.specs.Parts.{IsHpet, IsPlace, no_timer, timer_at, is_legacy}
-use Rattle.hpet_registers.specs.Outputs.{level_output}
+use Rattle.hpet_registers.specs.Outputs.{level_output, is_message}
 use Rattle.tick_policy.specs.declared.parts.TickParts.{TickParts}
 use Rattle.tick_policy.specs.Line.{acked}
 use Rattle.board_devices.specs.declared.acks.Levels.{Levels}
 use Rattle.board_devices.specs.Places.{each, no_line}
-use Rattle.board_devices.specs.Act.{drives_now, acks, acked_where, down_where}
+use Rattle.board_devices.specs.Act.{drives_now, shows_ticks, acks, acked_where, down_where}
 use Rattle.board_devices.specs.private.Acks.{is_io_line, shows, timer_acks, output_with, timer_levels, shown_by}
 use Rattle.board_devices.proofs.Places.{each-at, length-each, same_places}
 
@@ -39,23 +39,25 @@ levels-silent line k h l e = same_levels (none _) (none _) (none _)
     none x = sym (ap (λ (b : Bool). b && x) (shows-driven line k h e))
 
 -- one of edge type that drives it is acknowledged
-pub levels-edge : (line k : ℕ) (h : HpetParts) (l : TickParts) → k < h.timers → is_level (timer_at k h) ≡ false → drives_now line k h ≡ true
+pub levels-edge : (line k : ℕ) (h : HpetParts) (l : TickParts) → k < h.timers → is_level (timer_at k h) ≡ false → is_message k h ≡ false
+    → drives_now line k h ≡ true
     → timer_levels (is_legacy h) line k h l
     ≡ record { before = shows (is_legacy h) line k h && l.up; between = false; after = shows (is_legacy h) line k h && (acked l).up }
-levels-edge line k h l there edge drives =
+levels-edge line k h l there edge plain drives =
     same_levels
-    (ap (λ (b : Bool). s && cond b (level_output k h) l.up) edge)
-    (ap (λ (b : Bool). s && cond b (level_output k h) (down_where (timer_acks line h k) l).up) edge
-    ∙ ap (λ (b : Bool). s && (down_where b l).up) reached ∙ and-false s)
-    (ap (λ (b : Bool). s && cond b (level_output k h) (acked_where (timer_acks line h k) l).up) edge
-    ∙ ap (λ (b : Bool). s && (acked_where b l).up) reached)
+    (ap (λ (b : Bool). s && b) (line_output l.up))
+    (ap (λ (b : Bool). s && b) (line_output (down_where (timer_acks line h k) l).up) ∙ ap (λ (b : Bool). s && (down_where b l).up) reached ∙ and-false s)
+    (ap (λ (b : Bool). s && b) (line_output (acked_where (timer_acks line h k) l).up) ∙ ap (λ (b : Bool). s && (acked_where b l).up) reached)
   where
     s : Bool
     s = shows (is_legacy h) line k h
 
+    line_output : (up : Bool) → cond (is_level (timer_at k h)) (level_output k h) (not (is_message k h) && up) ≡ up
+    line_output up = ap (λ (b : Bool). cond b (level_output k h) (not (is_message k h) && up)) edge ∙ ap (λ (b : Bool). not b && up) plain
+
     reached : timer_acks line h k ≡ true
-    reached = ap (λ (b : Bool). b && (not (is_level (timer_at k h)) && drives_now line k h)) (lt-ltb k h.timers there)
-        ∙ ap (λ (b : Bool). not b && drives_now line k h) edge ∙ drives
+    reached = ap (λ (b : Bool). b && (shows_ticks k h && drives_now line k h)) (lt-ltb k h.timers there)
+        ∙ ap (λ (b : Bool). (not b && not (is_message k h)) && drives_now line k h) edge ∙ ap (λ (b : Bool). not b && drives_now line k h) plain ∙ drives
 
 -- one of level type is left alone
 pub levels-level : (line k : ℕ) (h : HpetParts) (l : TickParts) → is_level (timer_at k h) ≡ true
@@ -65,9 +67,11 @@ pub levels-level : (line k : ℕ) (h : HpetParts) (l : TickParts) → is_level (
       after = shows (is_legacy h) line k h && level_output k h;
     }
 levels-level line k h l level = same_levels
-    (ap (λ (b : Bool). shows (is_legacy h) line k h && cond b (level_output k h) l.up) level)
-    (ap (λ (b : Bool). shows (is_legacy h) line k h && cond b (level_output k h) (down_where (timer_acks line h k) l).up) level)
-    (ap (λ (b : Bool). shows (is_legacy h) line k h && cond b (level_output k h) (acked_where (timer_acks line h k) l).up) level)
+    (same l.up) (same (down_where (timer_acks line h k) l).up) (same (acked_where (timer_acks line h k) l).up)
+  where
+    same : (up : Bool) → (shows (is_legacy h) line k h && cond (is_level (timer_at k h)) (level_output k h) (not (is_message k h) && up))
+        ≡ (shows (is_legacy h) line k h && level_output k h)
+    same up = ap (λ (b : Bool). shows (is_legacy h) line k h && cond b (level_output k h) (not (is_message k h) && up)) level
 
 -- a timer that isn't there shows on no line
 pub shown-absent : (legacy : Bool) (line k : ℕ) (h : HpetParts) (ls : List TickParts) → IsHpet h → h.timers ≤ k → k < 8

@@ -29,10 +29,11 @@ use Rattle.hpet_comparator.specs.declared.stretch.Matches.{Matches}
 use Rattle.hpet_comparator.specs.Parts.{is_level, is_enabled, route_of}
 use Rattle.hpet_registers.specs.declared.parts.HpetParts.{HpetParts}
 use Rattle.hpet_registers.specs.Parts.{timer_at, is_legacy}
-use Rattle.hpet_registers.specs.Outputs.{has_ticks}
+use Rattle.hpet_registers.specs.Outputs.{has_ticks, is_message}
 use Rattle.hpet_registers.specs.Stretch.{hpet_pulsed_times, matches_of, timer_matches}
 use Rattle.hpet_registers.proofs.Product.{timer_config-hpet_pulsed_times, status_bit-hpet_pulsed_times, is_legacy-hpet_pulsed_times}
-use Rattle.hpet_registers.proofs.Product.{timers-hpet_pulsed_times, messages-hpet_pulsed_times, CountsUp-matches_of}
+use Rattle.hpet_registers.proofs.Product.{timers-hpet_pulsed_times, CountsUp-matches_of}
+use Rattle.hpet_registers.proofs.Behind.{is_message-hpet_pulsed_times}
 use Rattle.tick_policy.specs.declared.parts.TickParts.{TickParts}
 use Rattle.tick_policy.specs.Stretch.{line_after, line_end, up_from, IsFirstPoint, IsFirstTick}
 use Rattle.tick_policy.proofs.Kept.{due-line_end}
@@ -236,16 +237,30 @@ module _ {d : DeviceParts} {t n c : ℕ} {rises : Rises} {events : RtcEvents} {m
   unfolding parted
   status-now j k small = status_bit-hpet_pulsed_times k (pulses_from HPET_HZ t j) d.hpet small
 
+  message-now : (j k : ℕ) → is_message k (parted t j d).hpet ≡ is_message k d.hpet
+  unfolding parted
+  message-now j k = is_message-hpet_pulsed_times k (pulses_from HPET_HZ t j) d.hpet
+
+  -- nothing is shown of a line whose timer sends messages
+  hidden-up : (m up : Bool) (s : ℕ) (u : Option ℕ) → up ≡ is_up_at s u → (not m && up) ≡ is_up_at s (cond m None u)
+  hidden-up true up s u e = refl
+  hidden-up false up s u e = e
+
   pub output-up : (j k : ℕ) → j ≤ n → k < 8 → output_of k (parted t j d) ≡ is_up_at (t + j) (out_at k)
   output-up j k le small =
-      ap (λ (g : ℕ). cond (bit 1 g) (bit k (parted t j d).hpet.status && bit 2 g) (line_at (suc (suc k)) (parted t j d)).up) (config-now j k)
-      ∙ ap (λ (b : Bool). cond (is_level (timer_at k d.hpet)) (b && is_enabled (timer_at k d.hpet)) (line_at (suc (suc k)) (parted t j d)).up)
-      (status-now j k small)
+      ap (λ (g : ℕ). cond (bit 1 g) (bit k (parted t j d).hpet.status && bit 2 g)
+      (not (is_message k (parted t j d).hpet) && (line_at (suc (suc k)) (parted t j d)).up)) (config-now j k)
+      ∙ ap (λ (b : Bool). cond (is_level (timer_at k d.hpet)) (b && is_enabled (timer_at k d.hpet))
+      (not (is_message k (parted t j d).hpet) && (line_at (suc (suc k)) (parted t j d)).up)) (status-now j k small)
+      ∙ ap (λ (m : Bool). cond (is_level (timer_at k d.hpet))
+      ((bit k d.hpet.status || (ltb 0 (matches_of k d.hpet (pulses_from HPET_HZ t j)) && is_level (timer_at k d.hpet))) && is_enabled (timer_at k d.hpet))
+      (not m && (line_at (suc (suc k)) (parted t j d)).up)) (message-now j k)
       ∙ by_level (is_level (timer_at k d.hpet)) (bit k d.hpet.status) (ltb 0 (matches_of k d.hpet (pulses_from HPET_HZ t j))) (is_enabled (timer_at k d.hpet))
-      (line_at (suc (suc k)) (parted t j d)).up j (first_at HPET_HZ t (timer_matches ms k).first) (up_at (suc (suc k)))
+      (not (is_message k d.hpet) && (line_at (suc (suc k)) (parted t j d)).up) j (first_at HPET_HZ t (timer_matches ms k).first)
+      (cond (is_message k d.hpet) None (up_at (suc (suc k))))
       (λ _. event-up (matches_of k d.hpet) HPET_HZ t n (timer_matches ms k).first (omega arith) (CountsUp-matches_of k d.hpet)
       (know.brought.timer_first k) j le)
-      (line-up j (suc (suc k)) le (omega arith))
+      (hidden-up (is_message k d.hpet) (line_at (suc (suc k)) (parted t j d)).up (t + j) (up_at (suc (suc k))) (line-up j (suc (suc k)) le (omega arith)))
 
   -- the timers routed to a line
   pub routed-up : (us : List (Option ℕ)) → ((k : ℕ) → k < 8 → get_or us k None ≡ out_at k) → (line m j : ℕ) → j ≤ n → m ≤ 8 → routed line m (parted t j d)
@@ -397,7 +412,6 @@ module _ {d : DeviceParts} {t n c : ℕ} {rises : Rises} {events : RtcEvents} {m
       IsDevices-each d (pit_pulsed_times (pulses_from PIT_HZ t j) d.pit) (flagged_where (flag_at j) (rtc_alone j))
       (hpet_pulsed_times (pulses_from HPET_HZ t j) d.hpet) (each (line_run d t j) 0 d.ticks) (line_run d t j)
       know.sound.joined refl (KeepsLines-line_run d t j) (timers-hpet_pulsed_times (pulses_from HPET_HZ t j) d.hpet)
-      (messages-hpet_pulsed_times (pulses_from HPET_HZ t j) d.hpet)
       (flag-now j ∙ ap (λ (b : Bool). b && pf_of (flagged_where (flag_at j) (rtc_alone j))) (sym (counts-now j)))
 
   -- the state at the end, as the code leaves it

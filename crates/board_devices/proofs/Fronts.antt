@@ -8,7 +8,7 @@ use Rattle.rtc_registers.specs.declared.parts.RtcParts.{RtcParts}
 use Rattle.rtc_registers.specs.Registers.{irqf_of}
 use Rattle.hpet_comparator.specs.Parts.{is_level}
 use Rattle.hpet_registers.specs.Parts.{timer_at, is_legacy}
-use Rattle.hpet_registers.specs.Outputs.{level_output}
+use Rattle.hpet_registers.specs.Outputs.{level_output, is_message}
 use Rattle.tick_policy.specs.declared.parts.TickParts.{TickParts}
 use Rattle.board_devices.specs.declared.parts.DeviceParts.{DeviceParts}
 use Rattle.board_devices.specs.Places.{line_at, no_line}
@@ -20,7 +20,7 @@ SameTimers ls d = (k : ℕ) → get_or ls (suc (suc k)) no_line ≡ line_at (suc
 
 output-same : (k : ℕ) (d : DeviceParts) (p : PitParts) (r : RtcParts) (ls : List TickParts) → SameTimers ls d
     → output_of k (record d { pit = p; rtc = r; ticks = ls }) ≡ output_of k d
-output-same k d p r ls same = ap (λ (l : TickParts). cond (is_level (timer_at k d.hpet)) (level_output k d.hpet) l.up) (same k)
+output-same k d p r ls same = ap (λ (l : TickParts). cond (is_level (timer_at k d.hpet)) (level_output k d.hpet) (not (is_message k d.hpet) && l.up)) (same k)
 
 routed-same : (line k : ℕ) (d : DeviceParts) (p : PitParts) (r : RtcParts) (ls : List TickParts) → SameTimers ls d
     → routed line k (record d { pit = p; rtc = r; ticks = ls }) ≡ routed line k d

@@ -11,7 +11,7 @@ use Rattle.hpet_comparator.specs.Parts.{is_level, is_enabled}
 use Rattle.hpet_registers.specs.declared.hpet.TheConstants.{HPET_HZ}
 use Rattle.hpet_registers.specs.declared.parts.HpetParts.{HpetParts}
 use Rattle.hpet_registers.specs.Parts.{timer_at}
-use Rattle.hpet_registers.specs.Outputs.{has_ticks}
+use Rattle.hpet_registers.specs.Outputs.{has_ticks, is_message}
 use Rattle.tick_policy.specs.declared.parts.TickParts.{TickParts}
 use Rattle.tick_policy.specs.Line.{is_waiting, ticked_times}
 use Rattle.tick_policy.specs.Stretch.{caught_up_where, line_end, is_caught, up_from}
@@ -102,25 +102,26 @@ pub rest-output : (span : Span) (k : ℕ) (h : HpetParts) (set : Bool) (m : Matc
 rest-output span k h set m l never down clear idle =
     ap (λ (b : Bool). output_up span k h b m l) clear
     ∙ ap (λ (f : Option ℕ). with_first f) never
-    ∙ by_type (is_level (timer_at k h)) (is_enabled (timer_at k h)) (has_ticks k h)
+    ∙ by_type (is_level (timer_at k h)) (is_enabled (timer_at k h)) (is_message k h) (has_ticks k h)
   where
     with_first : Option ℕ → Option ℕ
     with_first f =
         cond (is_level (timer_at k h))
         (flag_from (is_enabled (timer_at k h)) false span.from (first_at HPET_HZ span.from f))
-        (up_from span.from span.point span.to (cond (has_ticks k h) (first_at HPET_HZ span.from f) None) l)
+        (cond (is_message k h) None (up_from span.from span.point span.to (cond (has_ticks k h) (first_at HPET_HZ span.from f) None) l))
 
     by_line : (up waits : Bool) → up ≡ false → waits ≡ false → cond up (Some span.from) (cond waits (Some span.point) None) ≡ None
     by_line true waits e f = absurd (true≢false e)
     by_line false true e f = absurd (true≢false f)
     by_line false false e f = refl
 
-    by_type : (level enabled ticks : Bool)
-        → cond level (flag_from enabled false span.from None) (up_from span.from span.point span.to (cond ticks None None) l) ≡ None
-    by_type true true ticks = refl
-    by_type true false ticks = refl
-    by_type false enabled true = by_line l.up (leb span.point span.to && is_waiting l) down idle
-    by_type false enabled false = by_line l.up (leb span.point span.to && is_waiting l) down idle
+    by_type : (level enabled sends ticks : Bool)
+        → cond level (flag_from enabled false span.from None) (cond sends None (up_from span.from span.point span.to (cond ticks None None) l)) ≡ None
+    by_type true true sends ticks = refl
+    by_type true false sends ticks = refl
+    by_type false enabled true ticks = refl
+    by_type false enabled false true = by_line l.up (leb span.point span.to && is_waiting l) down idle
+    by_type false enabled false false = by_line l.up (leb span.point span.to && is_waiting l) down idle
 
 -- .. where no status bit is set
 pub no_bit : (k status : ℕ) → status ≡ 0 → bit k status ≡ false

@@ -35,16 +35,15 @@ pub record KeepsLines (f : ℕ → TickParts → TickParts) (timers : ℕ) : Typ
 
 pub IsDevices-each : (d : DeviceParts) (p : PitParts) (r : RtcParts) (h : HpetParts) (ls : List TickParts) (f : ℕ → TickParts → TickParts) → IsDevices d → ls
     ≡ each f 0 d.ticks → KeepsLines f d.hpet.timers
-    → h.timers ≡ d.hpet.timers → h.messages ≡ d.hpet.messages → (get_or ls 1 no_line).up ≡ ((pie_of r && not (is_legacy h)) && pf_of r)
+    → h.timers ≡ d.hpet.timers → (get_or ls 1 no_line).up ≡ ((pie_of r && not (is_legacy h)) && pf_of r)
     → IsDevices (record d { pit = p; rtc = r; hpet = h; ticks = ls })
-IsDevices-each d p r h ls f valid ls_is keeps timers messages flag = record {
+IsDevices-each d p r h ls f valid ls_is keeps timers flag = record {
   places = ap (λ (xs : List TickParts). length xs) ls_is ∙ length-each f 0 d.ticks ∙ valid.places;
   slew_low = valid.slew_low;
   slew_high = valid.slew_high;
   flag = flag;
   timer_lines = λ k small. subst (λ (n : ℕ). IsTimerLine (ltb k n) (get_or ls 2 no_line).policy (get_or ls (suc (suc k)) no_line)) (sym timers)
       (timer_line k small);
-  messages = messages ∙ valid.messages;
 }
   where
     at : (k : ℕ) → k < 10 → get_or ls k no_line ≡ f k (line_at k d)
@@ -96,7 +95,7 @@ KeepsLines-pit_ticked b timers = record { policy = λ k l. policy (pit_ticked b 
     policy true l = refl
     policy false l = refl
 
--- a write to the HPET keeps its number of timers, and sends no messages
+-- a write to the HPET keeps its number of timers and its message registers
 timers-register_written : (register : Register) (width : ℕ) (high : Bool) (v : ℕ) (h : HpetParts) → (register_written register width high v h).timers ≡ h.timers
 timers-register_written Capabilities width high v h = refl
 timers-register_written Configuration width high v h = refl

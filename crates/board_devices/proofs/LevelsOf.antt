@@ -25,7 +25,7 @@ module _ (d : DeviceParts) where
   outs = map out eight
 
   routed-once : (line n : ℕ) → n ≤ 8 → is_up_at 0 (routed_from line n d.hpet outs) ≡ routed line n d
-  unfolding out
+  unfolding out output_by
   routed-once line zero few = refl
   routed-once line (suc k) few =
       up-either_from 0 (routed_from line k d.hpet outs) (cond (drives line k d.hpet) (get_or outs k None) None)
@@ -41,7 +41,7 @@ module _ (d : DeviceParts) where
   pub levels-of : IsHpet d.hpet → levels_at 0 (slots_from d.hpet.timers d.hpet (λ k. cond (output_by k d.hpet d.ticks) (Some 0) None)
       (cond (is_legacy d.hpet) None (cond (line_at 0 d).up (Some 0) None) ∷ cond (is_legacy d.hpet) None (cond (irqf_of d.rtc) (Some 0) None)
       ∷ None ∷ None ∷ None ∷ None ∷ [])) ≡ levels d
-  unfolding levels out
+  unfolding levels out output_by
   levels-of valid =
       let pit : Option ℕ = cond (line_at 0 d).up (Some 0) None in
       let irq : Option ℕ = cond (irqf_of d.rtc) (Some 0) None in

@@ -1,6 +1,8 @@
 -- Power on.
-use Rattle.std.proofs.Common.{◌≡◌, ℕ, zero, suc, ◌<◌, ◌≤◌, ◌⊎◌, ltb, ◌&&◌, get_or, refl, subst, sym, inl, inr, arith}
-use Rattle.rtc_calendar.specs.declared.TimeBytes.{TimeBytes}
+use Rattle.std.proofs.Common.{◌≡◌, ℕ, zero, suc, ◌<◌, ◌≤◌, ◌⊎◌, Bool, true, false, cond, leb, ltb, ◌&&◌, get_or, refl, ap, subst, sym, inl, inr, arith}
+use Rattle.std.proofs.lemmas.Bool.{lt-leb, leb-true}
+use Rattle.board_types.specs.declared.setup.Setup.{Setup}
+use Rattle.board_types.specs.Setup.{IsSetup, timers_of, has_messages}
 use Rattle.rtc_registers.specs.Registers.{with_time, pf_of}
 use Rattle.rtc_registers.specs.Parts.{rtc_at_power_on}
 use Rattle.tick_policy.specs.declared.parts.Policy.{Policy}
@@ -8,10 +10,21 @@ use Rattle.board_devices.specs.Parts.{IsDevices, IsTimerLine, devices_at_power_o
 use Rattle.board_devices.specs.Places.{line_at, no_line}
 use Rattle.board_devices.specs.Nanosecond.{counts_rtc}
 
-flag_at_power_on : (timers : ℕ) (pit rtc hpet : Policy) (slew : ℕ) (time : TimeBytes) → (line_at 1 (devices_at_power_on timers pit rtc hpet slew time)).up
-    ≡ (counts_rtc (devices_at_power_on timers pit rtc hpet slew time) && pf_of (rtc_at_power_on time))
+flag_at_power_on : (s : Setup) → (line_at 1 (devices_at_power_on s)).up ≡ (counts_rtc (devices_at_power_on s) && pf_of (rtc_at_power_on s.time))
 unfolding rtc_at_power_on with_time
-flag_at_power_on timers pit rtc hpet slew time = refl
+flag_at_power_on s = refl
+
+-- a format has three timers or eight
+pub timers-three_or_eight : (format : ℕ) → (timers_of format ≡ 3) ⊎ (timers_of format ≡ 8)
+timers-three_or_eight format = by (leb format 1)
+  where
+    by : (b : Bool) → let n : ℕ = cond b 3 8 in (n ≡ 3) ⊎ (n ≡ 8)
+    by true = inl refl
+    by false = inr refl
+
+-- .. and eight where there are message registers
+pub timers-messages : (format : ℕ) → has_messages format ≡ true → timers_of format ≡ 8
+timers-messages format has = ap (λ (b : Bool). let n : ℕ = cond b 3 8 in n) (lt-leb format 1 (omega (arith, leb-true 5 format has)))
 
 timer_lines_at_power_on : (timers : ℕ) (pit rtc hpet : Policy) → (timers ≡ 3) ⊎ (timers ≡ 8) → (k : ℕ) → k < 8
     → IsTimerLine (ltb k timers) (get_or (lines_at_power_on timers pit rtc hpet) 2 no_line).policy
@@ -47,28 +60,25 @@ timer_lines_at_power_on timers pit rtc hpet (inr eight) k small = subst
     place (suc (suc (suc (suc (suc (suc (suc zero))))))) h = refl
     place (suc (suc (suc (suc (suc (suc (suc (suc k)))))))) h = absurd (omega arith)
 
-pub IsDevices-at_power_on : (timers : ℕ) (pit rtc hpet : Policy) (slew : ℕ) (time : TimeBytes) → (timers ≡ 3) ⊎ (timers ≡ 8) → 1 ≤ slew → slew ≤ 1000000000
-    → IsDevices (devices_at_power_on timers pit rtc hpet slew time)
-IsDevices-at_power_on timers pit rtc hpet slew time number low high = record {
+pub IsDevices-at_power_on : (s : Setup) → IsSetup s → IsDevices (devices_at_power_on s)
+IsDevices-at_power_on s valid = record {
   places = refl;
-  slew_low = low;
-  slew_high = high;
-  flag = flag_at_power_on timers pit rtc hpet slew time;
-  timer_lines = timer_lines_at_power_on timers pit rtc hpet number;
-  messages = refl;
+  slew_low = valid.least_slew;
+  slew_high = valid.most_slew;
+  flag = flag_at_power_on s;
+  timer_lines = timer_lines_at_power_on (timers_of s.format) s.pit s.rtc s.hpet (timers-three_or_eight s.format);
 }
 
 -- no tick was due
-pub due_at_power_on : (timers : ℕ) (pit rtc hpet : Policy) (slew : ℕ) (time : TimeBytes) (k : ℕ)
-    → (line_at k (devices_at_power_on timers pit rtc hpet slew time)).counts.due ≡ 0
-due_at_power_on timers pit rtc hpet slew time zero = refl
-due_at_power_on timers pit rtc hpet slew time (suc zero) = refl
-due_at_power_on timers pit rtc hpet slew time (suc (suc zero)) = refl
-due_at_power_on timers pit rtc hpet slew time (suc (suc (suc zero))) = refl
-due_at_power_on timers pit rtc hpet slew time (suc (suc (suc (suc zero)))) = refl
-due_at_power_on timers pit rtc hpet slew time (suc (suc (suc (suc (suc zero))))) = refl
-due_at_power_on timers pit rtc hpet slew time (suc (suc (suc (suc (suc (suc zero)))))) = refl
-due_at_power_on timers pit rtc hpet slew time (suc (suc (suc (suc (suc (suc (suc zero))))))) = refl
-due_at_power_on timers pit rtc hpet slew time (suc (suc (suc (suc (suc (suc (suc (suc zero)))))))) = refl
-due_at_power_on timers pit rtc hpet slew time (suc (suc (suc (suc (suc (suc (suc (suc (suc zero))))))))) = refl
-due_at_power_on timers pit rtc hpet slew time (suc (suc (suc (suc (suc (suc (suc (suc (suc (suc k)))))))))) = refl
+pub due_at_power_on : (s : Setup) (k : ℕ) → (line_at k (devices_at_power_on s)).counts.due ≡ 0
+due_at_power_on s zero = refl
+due_at_power_on s (suc zero) = refl
+due_at_power_on s (suc (suc zero)) = refl
+due_at_power_on s (suc (suc (suc zero))) = refl
+due_at_power_on s (suc (suc (suc (suc zero)))) = refl
+due_at_power_on s (suc (suc (suc (suc (suc zero))))) = refl
+due_at_power_on s (suc (suc (suc (suc (suc (suc zero)))))) = refl
+due_at_power_on s (suc (suc (suc (suc (suc (suc (suc zero))))))) = refl
+due_at_power_on s (suc (suc (suc (suc (suc (suc (suc (suc zero)))))))) = refl
+due_at_power_on s (suc (suc (suc (suc (suc (suc (suc (suc (suc zero))))))))) = refl
+due_at_power_on s (suc (suc (suc (suc (suc (suc (suc (suc (suc (suc k)))))))))) = refl

@@ -12,7 +12,7 @@ use Rattle.hpet_registers.specs.declared.parts.HpetParts.{HpetParts}
 use Rattle.hpet_registers.specs.declared.register.Register.{Register}
 use Rattle.hpet_registers.specs.declared.register.Register.TheVariants.{Capabilities, Configuration, Status, MainCounter, TimerConfig, TimerComparator}
 use Rattle.hpet_registers.specs.declared.register.Register.TheVariants.{TimerMessage, Reserved}
-use Rattle.hpet_registers.specs.Parts.{no_timer, timer_at, is_legacy}
+use Rattle.hpet_registers.specs.Parts.{no_timer, timer_at, message_bit_at, is_legacy}
 use Rattle.hpet_registers.specs.Register.{register_at}
 use Rattle.hpet_registers.specs.Access.{register_written, hpet_written, is_effective}
 use Rattle.tick_policy.specs.declared.parts.TickParts.{TickParts}
@@ -26,7 +26,7 @@ use Rattle.board_devices.specs.Parts.{IsDevices}
 use Rattle.board_devices.specs.private.Writes.{moves_lines}
 use Rattle.board_devices.proofs.Masks.{rtc_set_second}
 use Rattle.board_devices.proofs.ActEdges.{none-of}
-use Rattle.board_devices.proofs.Keeps.{IsDevices-each, timers-hpet_written, messages-hpet_written}
+use Rattle.board_devices.proofs.Keeps.{IsDevices-each, timers-hpet_written}
 use Rattle.board_devices.proofs.Places.{each-none}
 
 -- two HPETs whose outputs and lines are the same
@@ -36,9 +36,10 @@ pub record SameShown (g h : HpetParts) : Type 0 where
   pub level : (k : ℕ) → is_level (timer_at k g) ≡ is_level (timer_at k h)
   pub enabled : (k : ℕ) → is_enabled (timer_at k g) ≡ is_enabled (timer_at k h)
   pub route : (k : ℕ) → route_of (timer_at k g).config ≡ route_of (timer_at k h).config
+  pub message : (k : ℕ) → message_bit_at k g ≡ message_bit_at k h
 
 same : (h : HpetParts) → SameShown h h
-same h = record { legacy = refl; status = refl; level = λ k. refl; enabled = λ k. refl; route = λ k. refl }
+same h = record { legacy = refl; status = refl; level = λ k. refl; enabled = λ k. refl; route = λ k. refl; message = λ k. refl }
 
 -- what is said of each element stays, where it is said of the new one
 set-said : {X Y : Type 0} (f : X → Y) (xs : List X) (k j : ℕ) (x d : X) → f x ≡ f (get_or xs k d) → f (get_or (set xs k x) j d) ≡ f (get_or xs j d)
@@ -59,6 +60,7 @@ comparator-shown k width high v h = record {
   enabled = λ j. set-said is_enabled h.timer k j (comparator_written width high v (timer_at k h)) no_timer (bit-cleared (timer_at k h).config 2 refl);
   route = λ j. set-said (λ (t : TimerParts). route_of t.config) h.timer k j (comparator_written width high v (timer_at k h)) no_timer
       (route_of-cleared (timer_at k h).config);
+  message = λ j. refl;
 }
 
 -- registers whose writes show
@@ -74,10 +76,10 @@ unfolding is_quiet
 written-shown Capabilities width high v h e = same h
 written-shown Configuration width high v h e = absurd (true≢false (sym e))
 written-shown Status width high v h e = absurd (true≢false (sym e))
-written-shown MainCounter width high v h e = record { legacy = refl; status = refl; level = λ k. refl; enabled = λ k. refl; route = λ k. refl }
+written-shown MainCounter width high v h e = record { legacy = refl; status = refl; level = λ k. refl; enabled = λ k. refl; route = λ k. refl; message = λ k. refl }
 written-shown (TimerConfig k) width high v h e = absurd (true≢false (sym e))
 written-shown (TimerComparator k) width high v h e = comparator-shown k width high v h
-written-shown (TimerMessage k) width high v h e = record { legacy = refl; status = refl; level = λ k. refl; enabled = λ k. refl; route = λ k. refl }
+written-shown (TimerMessage k) width high v h e = record { legacy = refl; status = refl; level = λ k. refl; enabled = λ k. refl; route = λ k. refl; message = λ k. refl }
 written-shown Reserved width high v h e = same h
 
 -- the register at an offset, by the tests of its place
@@ -122,10 +124,11 @@ hpet_written-shown offset width v h e = by_width (is_effective offset width)
 -- the levels by them
 module _ (d : DeviceParts) (g : HpetParts) (shown : SameShown g d.hpet) where
   output-shown : (k : ℕ) → output_of k (record d { hpet = g }) ≡ output_of k d
-  output-shown k = by_parts (line_at (suc (suc k)) d).up (shown.level k) (ap (bit k) shown.status) (shown.enabled k)
+  output-shown k = by_parts (line_at (suc (suc k)) d).up (shown.level k) (ap (bit k) shown.status) (shown.enabled k) (shown.message k) shown.legacy
     where
-      by_parts : (up : Bool) {l m s t e f : Bool} → l ≡ m → s ≡ t → e ≡ f → cond l (s && e) up ≡ cond m (t && f) up
-      by_parts up x y z = rw (x, y, z) refl
+      by_parts : (up : Bool) {l m s t e f p q v w : Bool} → l ≡ m → s ≡ t → e ≡ f → p ≡ q → v ≡ w
+          → cond l (s && e) (not (p && ((e && not l) && not (v && ltb k 2))) && up) ≡ cond m (t && f) (not (q && ((f && not m) && not (w && ltb k 2))) && up)
+      by_parts up x y z u w = rw (x, y, z, u, w) refl
 
   drives-shown : (line k : ℕ) → drives line k g ≡ drives line k d.hpet
   drives-shown line k = ap (λ (r : ℕ). eqb r line && not (is_legacy g && ltb k 2)) (shown.route k)
@@ -183,5 +186,4 @@ IsDevices-quiet offset width v d g joined e g_is =
     IsDevices-each d d.pit d.rtc g d.ticks (λ k l. l) joined (sym (each-none (λ k l. l) (λ i l. refl) 0 d.ticks))
     (record { policy = λ k l. refl; absent = λ k _ _. refl })
     (ap (λ (h : HpetParts). h.timers) g_is ∙ timers-hpet_written offset width v d.hpet)
-    (ap (λ (h : HpetParts). h.messages) g_is ∙ messages-hpet_written offset width v d.hpet)
     (joined.flag ∙ ap (λ (b : Bool). b && pf_of d.rtc) (sym (counts-shown d g shown)))

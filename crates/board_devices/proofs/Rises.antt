@@ -19,7 +19,7 @@ use Rattle.board_devices.specs.declared.act.Act.TheVariants.{PitRead, PitWrite, 
 use Rattle.board_devices.specs.Act.{acks, reads_c, acked_where, down_where, acted, first_part, act_edges}
 use Rattle.hpet_comparator.specs.Parts.{is_level}
 use Rattle.hpet_registers.specs.Parts.{timer_at, is_legacy}
-use Rattle.hpet_registers.specs.Outputs.{level_output}
+use Rattle.hpet_registers.specs.Outputs.{level_output, is_message}
 use Rattle.tick_policy.specs.declared.parts.TickParts.{TickParts}
 use Rattle.board_devices.specs.declared.parts.DeviceParts.{DeviceParts}
 use Rattle.board_devices.specs.Places.{each, line_at, no_line}
@@ -204,15 +204,19 @@ lifts-parts n t a b c la lb lc below =
     let second = balance n t line_numbers b c refl lb lc in
     omega (arith, first, second.0, no-falls n t line_numbers b c below, lifts-++ n (changes t line_numbers a b) (changes t line_numbers b c))
 
+and-grows : (a b c : Bool) → (b ≡ true → c ≡ true) → (a && b) ≡ true → (a && c) ≡ true
+and-grows true b c h e = h e
+and-grows false b c h e = e
+
 -- levels grow with the tick lines and IRQF
 output-below : (k : ℕ) (d : DeviceParts) (r : RtcParts) (ls : List TickParts) → ((i : ℕ) → (line_at i d).up ≡ true → (get_or ls i no_line).up ≡ true)
     → output_of k d ≡ true → output_of k (record d { rtc = r; ticks = ls }) ≡ true
 output-below k d r ls grow up = by_type (is_level (timer_at k d.hpet)) up
   where
-    by_type : (b : Bool) → cond b (level_output k d.hpet) (line_at (suc (suc k)) d).up ≡ true
-        → cond b (level_output k d.hpet) (get_or ls (suc (suc k)) no_line).up ≡ true
+    by_type : (b : Bool) → cond b (level_output k d.hpet) (not (is_message k d.hpet) && (line_at (suc (suc k)) d).up) ≡ true
+        → cond b (level_output k d.hpet) (not (is_message k d.hpet) && (get_or ls (suc (suc k)) no_line).up) ≡ true
     by_type true h = h
-    by_type false h = grow (suc (suc k)) h
+    by_type false h = and-grows (not (is_message k d.hpet)) (line_at (suc (suc k)) d).up (get_or ls (suc (suc k)) no_line).up (grow (suc (suc k))) h
 
 or-grows : (a b c d : Bool) → (a ≡ true → c ≡ true) → (b ≡ true → d ≡ true) → (a || b) ≡ true → (c || d) ≡ true
 or-grows true b c d h k e = ap (λ (x : Bool). x || d) (h refl)
@@ -222,10 +226,6 @@ or-grows false true c d h k e = ap (λ (x : Bool). c || x) (k refl) ∙ last c
     last true = refl
     last false = refl
 or-grows false false c d h k e = cc
-
-and-grows : (a b c : Bool) → (b ≡ true → c ≡ true) → (a && b) ≡ true → (a && c) ≡ true
-and-grows true b c h e = h e
-and-grows false b c h e = e
 
 routed-below : (line k : ℕ) (d : DeviceParts) (r : RtcParts) (ls : List TickParts) → ((i : ℕ) → (line_at i d).up ≡ true → (get_or ls i no_line).up ≡ true)
     → routed line k d ≡ true → routed line k (record d { rtc = r; ticks = ls }) ≡ true

@@ -1,5 +1,5 @@
 -- Rows on the definitions: each rule of a nanosecond, of the lines and of an access, at one state shortly before it.
-use Rattle.std.proofs.Common.{◌≡◌, ℕ, ◌+◌, ◌*◌, true, false, refl, [], ◌∷◌, List}
+use Rattle.std.proofs.Common.{◌≡◌, ℕ, ◌+◌, ◌*◌, true, false, map, refl, [], ◌∷◌, List}
 use Rattle.std.specs.Prelude.{replicate}
 use Rattle.clk_units.specs.Pulses.{falls_at, pulses_by}
 use Rattle.pit_counter.specs.declared.parts.CounterParts.{CounterParts}
@@ -11,7 +11,6 @@ use Rattle.pit_readback.specs.declared.parts.PitParts.{PitParts}
 use Rattle.pit_readback.specs.Pit.{pit_pulsed}
 use Rattle.pit_readback.specs.Ports.{port_written, written_43, commanded}
 use Rattle.rtc_cycle.specs.Divider.{ticks_next, updates_next, pulsed as divider_pulsed}
-use Rattle.rtc_calendar.specs.declared.TimeBytes.{TimeBytes}
 use Rattle.rtc_registers.specs.declared.parts.RtcParts.{RtcParts}
 use Rattle.rtc_registers.specs.Registers.{with_time, pf_of}
 use Rattle.rtc_registers.specs.Parts.{rtc_at_power_on}
@@ -20,19 +19,23 @@ use Rattle.rtc_registers.specs.Pulses.{alarms_next, moved, rtc_pulsed}
 use Rattle.hpet_comparator.specs.declared.parts.TimerParts.{TimerParts}
 use Rattle.hpet_comparator.specs.Stretch.{matches_at, pulsed as timer_pulsed}
 use Rattle.hpet_registers.specs.declared.parts.HpetParts.{HpetParts}
-use Rattle.hpet_registers.specs.Parts.{no_timer, no_bits, no_words}
+use Rattle.hpet_registers.specs.Parts.{no_timer, no_bits, no_words, hpet_at_power_on}
 use Rattle.hpet_registers.specs.Stretch.{matches_next, hpet_pulsed}
 use Rattle.tick_policy.specs.declared.parts.TickParts.{TickParts}
 use Rattle.tick_policy.specs.declared.parts.Policy.{Policy}
 use Rattle.tick_policy.specs.declared.parts.Policy.TheVariants.{Discard, Delay, Slew}
 use Rattle.board_devices.specs.declared.parts.DeviceParts.{DeviceParts}
-use Rattle.board_devices.specs.declared.act.Act.TheVariants.{Ack, ClockRead, IndexRead, PitWrite}
+use Rattle.board_devices.specs.declared.act.Act.TheVariants.{Ack, ClockRead, HpetWrite, IndexRead, PitWrite}
 use Rattle.board_devices.specs.Places.{line_at, no_line}
 use Rattle.board_devices.specs.Nanosecond.{pit_pulse, rtc_pulse, hpet_pulse, catch_up_point, at_nanosecond}
 use Rattle.board_devices.specs.Lines.{levels}
 use Rattle.board_devices.specs.Run.{onward, run}
 use Rattle.board_devices.specs.Act.{acted, first_part, act_edges, value_of}
 use Rattle.board_devices.specs.Parts.{devices_at_power_on, devices_upgraded}
+use Rattle.board_devices.specs.Rises.{rises_with}
+use Rattle.board_types.specs.declared.setup.Setup.{Setup}
+use Rattle.irq_edges.specs.Lines.{line_numbers}
+use Rattle.hpet_comparator.specs.Config.{config_written}
 
 -- a line with q ticks that wait, and one that is up with them
 line : Policy → ℕ → TickParts
@@ -198,16 +201,26 @@ read_c_flag : pf_of (acted ClockRead (record start { rtc = rtc 66 64; ticks = li
 unfolding start line shown rtc hpet lines pit counter acted after_rtc_read flagged
 read_c_flag = refl
 
--- at power on no line is up, and a place whose timer isn't there holds nothing
-power_on_levels : (pit rtc hpet : Policy) (slew : ℕ) (time : TimeBytes) → levels (devices_at_power_on 3 pit rtc hpet slew time) ≡ false ∷ false ∷ false ∷ false
-    ∷ false ∷ false ∷ []
+-- at power on no line is up
+power_on_levels : (s : Setup) → levels (devices_at_power_on (record s { format = 1 })) ≡ false ∷ false ∷ false ∷ false ∷ false ∷ false ∷ []
 unfolding levels rtc_at_power_on with_time
-power_on_levels pit rtc hpet slew time = refl
+power_on_levels s = refl
+
+-- three timers in format 1, eight from format 2 on, and message registers from format 5 on
+hpets_of_formats : (s : Setup) → map (λ f. (devices_at_power_on (record s { format = f })).hpet) (1 ∷ 2 ∷ 4 ∷ 5 ∷ [])
+    ≡ hpet_at_power_on 3 false ∷ hpet_at_power_on 8 false ∷ hpet_at_power_on 8 false ∷ hpet_at_power_on 8 true ∷ []
+hpets_of_formats s = refl
 
 -- five timers more: their lines have the policy of the others
-upgraded_line : line_at 5 (devices_upgraded start) ≡ line Delay 0
+upgraded_line : line_at 5 (devices_upgraded false start) ≡ line Delay 0
 unfolding start line rtc hpet lines pit counter devices_upgraded
 upgraded_line = refl
+
+-- message registers come where they are asked for, and stay where they are
+upgraded_messages : (devices_upgraded false start).hpet.messages ∷ (devices_upgraded true start).hpet.messages
+    ∷ (devices_upgraded false (record start { hpet = record (hpet 1 0 0) { timers = 8; messages = true } })).hpet.messages ∷ [] ≡ false ∷ true ∷ true ∷ []
+unfolding start line rtc hpet lines pit counter devices_upgraded
+upgraded_messages = refl
 
 -- Legacy replacement, acknowledgements of other lines, timers that drive a line, and lines that a catch-up point shows.
 
@@ -360,3 +373,71 @@ level_timer_with_a_tick = refl
 index_reads_ff : value_of 5 IndexRead start ≡ 0xff
 unfolding value_of
 index_reads_ff = refl
+
+-- Timers that send messages.
+
+-- timer 0 with bit 14, of this configuration, at comparator 12 of a counter at 9; timer 1 without it; both tick lines are up
+sender : ℕ → ℕ → DeviceParts
+sender config timer_config = record start {
+  hpet = record (timers config (record { config = timer_config; comparator = 12; period = 0 }) (edge_timer 21) no_timer) {
+    messages = true;
+    message_bit = true ∷ false ∷ false ∷ false ∷ false ∷ false ∷ false ∷ false ∷ [];
+    message_word = 0xfee0000000000041 ∷ 0 ∷ 0 ∷ 0 ∷ 0 ∷ 0 ∷ 0 ∷ 0 ∷ [];
+  };
+  ticks = line Delay 0 ∷ line Delay 0 ∷ shown Delay 1 ∷ shown Delay 0 ∷ no_line ∷ no_line ∷ no_line ∷ no_line ∷ no_line ∷ no_line ∷ [];
+}
+
+-- its line is low, though its tick line is up
+sender_is_low : levels (sender 1 0x2804) ≡ false ∷ false ∷ false ∷ true ∷ false ∷ false ∷ []
+unfolding sender start line shown timers edge_timer rtc pit counter levels
+sender_is_low = refl
+
+-- .. but not that of one with its interrupt off, nor of one of level type
+disabled_sender_shows : levels (sender 1 0x2800) ≡ false ∷ false ∷ true ∷ true ∷ false ∷ false ∷ []
+unfolding sender start line shown timers edge_timer rtc pit counter levels
+disabled_sender_shows = refl
+
+level_sender_shows : levels (record (sender 1 0x2806) { hpet = record (sender 1 0x2806).hpet { status = 1 } }) ≡ false ∷ false ∷ true ∷ true ∷ false ∷ false ∷ []
+unfolding sender start line shown timers edge_timer rtc pit counter levels
+level_sender_shows = refl
+
+-- a match is a message, and no tick
+match_is_a_message : (run 0 30 (sender 1 0x2804)).edges ≡ []
+unfolding sender start line shown timers edge_timer rtc pit counter run onward at_nanosecond pit_pulse rtc_pulse hpet_pulse catch_up_point levels falls_at
+    pulses_by flagged matches_next hpet_pulsed matches_at timer_pulsed
+match_is_a_message = refl
+
+match_is_no_tick : line_at 2 (run 0 30 (sender 1 0x2804)).state ≡ shown Delay 1
+unfolding sender start line shown timers edge_timer rtc pit counter run onward at_nanosecond pit_pulse rtc_pulse hpet_pulse catch_up_point levels falls_at
+    pulses_by flagged matches_next hpet_pulsed matches_at timer_pulsed
+match_is_no_tick = refl
+
+-- bit 14 cleared: the line rises, which is one rise; set again it falls
+cleared_bit_14 : act_edges 5 (HpetWrite 0x100 4 0x2804) (sender 1 0x2804) ≡ record { at = 5; line = 20; up = true } ∷ []
+unfolding sender start line shown timers edge_timer rtc pit counter levels acted first_part config_written
+cleared_bit_14 = refl
+
+cleared_is_one_rise : rises_with (act_edges 5 (HpetWrite 0x100 4 0x2804) (sender 1 0x2804)) line_numbers (replicate 6 0) ≡ 0 ∷ 0 ∷ 1 ∷ 0 ∷ 0 ∷ 0 ∷ []
+unfolding sender start line shown timers edge_timer rtc pit counter levels acted first_part config_written
+cleared_is_one_rise = refl
+
+set_bit_14 : act_edges 5 (HpetWrite 0x100 4 0x6804) (acted (HpetWrite 0x100 4 0x2804) (sender 1 0x2804)) ≡ record { at = 5; line = 20; up = false } ∷ []
+unfolding sender start line shown timers edge_timer rtc pit counter levels acted first_part config_written
+set_bit_14 = refl
+
+-- legacy replacement takes timer 0 from messages to line 0
+legacy_shows_timer_0 : act_edges 5 (HpetWrite 0x10 4 3) (sender 1 0x2804) ≡ record { at = 5; line = 0; up = true } ∷ record { at = 5; line = 8; up = true }
+    ∷ record { at = 5; line = 21; up = false } ∷ []
+unfolding sender start line shown timers edge_timer rtc pit counter levels acted first_part
+legacy_shows_timer_0 = refl
+
+-- an acknowledgement takes no tick line of a timer that sends messages
+ack_of_a_sender : line_at 2 (acted (Ack 20) (sender 1 0x2804)) ≡ shown Delay 1
+unfolding sender start line shown timers edge_timer rtc pit counter acted
+ack_of_a_sender = refl
+
+-- .. a catch-up point shows a tick of it that waits, and its line stays low
+catch_up_of_a_sender : line_at 2 (at_nanosecond 35 (record (sender 1 0x2804) { ticks = lines (line Delay 0) (line Slew 0) (line Slew 1) })) ≡ caught_up
+unfolding sender start line shown caught_up timers edge_timer rtc lines pit counter at_nanosecond pit_pulse rtc_pulse hpet_pulse catch_up_point falls_at
+    pulses_by flagged matches_next hpet_pulsed matches_at timer_pulsed
+catch_up_of_a_sender = refl

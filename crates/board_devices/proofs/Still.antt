@@ -26,7 +26,8 @@ use Rattle.rtc_registers.proofs.Lines.{irqf_of-rtc_pulsed_times}
 use Rattle.clk_units.specs.Bits.{bit}
 use Rattle.hpet_comparator.specs.Parts.{is_level, is_enabled, route_of}
 use Rattle.hpet_registers.specs.Parts.{timer_at, is_legacy}
-use Rattle.hpet_registers.specs.Outputs.{has_ticks}
+use Rattle.hpet_registers.specs.Outputs.{has_ticks, is_message}
+use Rattle.hpet_registers.proofs.Behind.{is_message-hpet_pulsed_times}
 use Rattle.hpet_registers.specs.Stretch.{hpet_pulsed_times, matches_of}
 use Rattle.hpet_registers.proofs.Product.{timer_config-hpet_pulsed_times, status_bit-hpet_pulsed_times, is_legacy-hpet_pulsed_times}
 use Rattle.hpet_registers.proofs.Product.{CountsUp-matches_of}
@@ -146,11 +147,14 @@ module _ {d : DeviceParts} {t n c : ℕ} (quiet : Quiet d t n c) where
 
   output-still : (j k : ℕ) → j ≤ n → k < 8 → output_of k (moved j) ≡ output_of k d
   output-still j k le small =
-      ap (λ (g : ℕ). cond (bit 1 g) (bit k (hpet_pulsed_times (pulses_from HPET_HZ t j) d.hpet).status && bit 2 g) (line_at (suc (suc k)) (moved j)).up)
-      (config-still j k)
-      ∙ ap (λ (b : Bool). cond (is_level (timer_at k d.hpet)) (b && is_enabled (timer_at k d.hpet)) (line_at (suc (suc k)) (moved j)).up)
-      (status-still j k le small)
-      ∙ ap (cond (is_level (timer_at k d.hpet)) (bit k d.hpet.status && is_enabled (timer_at k d.hpet))) (line-still j (suc (suc k)) le (omega arith))
+      ap (λ (g : ℕ). cond (bit 1 g) (bit k (hpet_pulsed_times (pulses_from HPET_HZ t j) d.hpet).status && bit 2 g)
+      (not (is_message k (moved j).hpet) && (line_at (suc (suc k)) (moved j)).up)) (config-still j k)
+      ∙ ap (λ (b : Bool). cond (is_level (timer_at k d.hpet)) (b && is_enabled (timer_at k d.hpet))
+      (not (is_message k (moved j).hpet) && (line_at (suc (suc k)) (moved j)).up)) (status-still j k le small)
+      ∙ ap (λ (m : Bool). cond (is_level (timer_at k d.hpet)) (bit k d.hpet.status && is_enabled (timer_at k d.hpet))
+      (not m && (line_at (suc (suc k)) (moved j)).up)) (is_message-hpet_pulsed_times k (pulses_from HPET_HZ t j) d.hpet)
+      ∙ ap (λ (b : Bool). cond (is_level (timer_at k d.hpet)) (bit k d.hpet.status && is_enabled (timer_at k d.hpet)) (not (is_message k d.hpet) && b))
+      (line-still j (suc (suc k)) le (omega arith))
 
   routed-still : (line m j : ℕ) → j ≤ n → m ≤ 8 → routed line m (moved j) ≡ routed line m d
   routed-still line zero j le few = refl

@@ -14,7 +14,8 @@ use Rattle.hpet_registers.specs.Parts.{IsHpet, is_legacy}
 use Rattle.hpet_registers.specs.Outputs.{has_ticks}
 use Rattle.hpet_registers.specs.Stretch.{hpet_pulsed_times, timer_matches, no_matches}
 use Rattle.hpet_registers.proofs.Product.{is_level-hpet_pulsed_times, is_enabled-hpet_pulsed_times, is_legacy-hpet_pulsed_times, timers-hpet_pulsed_times}
-use Rattle.hpet_registers.proofs.Product.{message_bit_at-hpet_pulsed_times, timer_config-hpet_pulsed_times}
+use Rattle.hpet_registers.proofs.Product.{timer_config-hpet_pulsed_times}
+use Rattle.hpet_registers.proofs.Behind.{is_message-hpet_pulsed_times, has_ticks-hpet_pulsed_times}
 use Rattle.tick_policy.specs.declared.parts.TickParts.{TickParts}
 use Rattle.tick_policy.specs.Stretch.{caught_up_where, line_end}
 use Rattle.tick_policy.proofs.Ticks.{ticked_times-zero}
@@ -27,21 +28,13 @@ use Rattle.board_devices.specs.private.Stretch.{counted, flag_from, timer_ticks,
 use Rattle.board_devices.proofs.Slots.{slots-are, slots-same}
 use Rattle.board_devices.proofs.Advance.{Known, out_at, up_at, irq_at, lines_from, outs, outs-are}
 
--- pulses change nothing that has to do with ticks
-pub has_ticks-pulsed : (k n : ℕ) (h : HpetParts) → has_ticks k (hpet_pulsed_times n h) ≡ has_ticks k h
-has_ticks-pulsed k n h = by_parts
-    (is_enabled-hpet_pulsed_times k n h) (is_level-hpet_pulsed_times k n h) (message_bit_at-hpet_pulsed_times k n h) (is_legacy-hpet_pulsed_times n h)
-  where
-    by_parts : {a b m l e f p q : Bool} → a ≡ e → b ≡ f → m ≡ p → l ≡ q
-        → ((a && not b) && not (m && ((a && not b) && not (l && ltb k 2)))) ≡ ((e && not f) && not (p && ((e && not f) && not (q && ltb k 2))))
-    by_parts x y z w = rw (x, y, z, w) refl
-
-output-same : (span : Span) (m : Matches) (l : TickParts) {level enabled has was lv en hs ws : Bool} → level ≡ lv → enabled ≡ en → has ≡ hs → was ≡ ws
+output-same : (span : Span) (m : Matches) (l : TickParts) {level enabled has was sends lv en hs ws sn : Bool} → level ≡ lv → enabled ≡ en → has ≡ hs
+    → was ≡ ws → sends ≡ sn
     → cond level (flag_from enabled was span.from (first_at HPET_HZ span.from m.first))
-    (up_of span.from span.point span.to (counted true has m.count (first_at HPET_HZ span.from m.first)) l)
+    (cond sends None (up_of span.from span.point span.to (counted true has m.count (first_at HPET_HZ span.from m.first)) l))
     ≡ cond lv (flag_from en ws span.from (first_at HPET_HZ span.from m.first))
-    (up_of span.from span.point span.to (counted true hs m.count (first_at HPET_HZ span.from m.first)) l)
-output-same span m l x y z w = rw (x, y, z, w) refl
+    (cond sn None (up_of span.from span.point span.to (counted true hs m.count (first_at HPET_HZ span.from m.first)) l))
+output-same span m l x y z w v = rw (x, y, z, w, v) refl
 
 module _ {d : DeviceParts} {t n c : ℕ} {rises : Rises} {events : RtcEvents} {ms : List Matches} {pit rtc : Ticks}
     (know : Known d t n c rises events ms pit rtc) where
@@ -54,7 +47,7 @@ module _ {d : DeviceParts} {t n c : ℕ} {rises : Rises} {events : RtcEvents} {m
       let span : Span = record { from = t; to = t + n; point = t + c } in
       ap (output_up span k (hpet_pulsed_times m d.hpet) (bit k status) (timer_matches ms k)) line_is
       ∙ output-same span (timer_matches ms k) (line_at (suc (suc k)) d) (is_level-hpet_pulsed_times k m d.hpet) (is_enabled-hpet_pulsed_times k m d.hpet)
-      (has_ticks-pulsed k m d.hpet) (ap (bit k) status_is)
+      (has_ticks-hpet_pulsed_times k m d.hpet) (ap (bit k) status_is) (is_message-hpet_pulsed_times k m d.hpet)
 
   -- the lines of the timers at the end: a timer that isn't there has no tick
   still : (b : Bool) (P to : ℕ) → no_line ≡ end_of P to (counted true b 0 None) no_line
@@ -81,7 +74,7 @@ module _ {d : DeviceParts} {t n c : ℕ} {rises : Rises} {events : RtcEvents} {m
         ap (λ (i : ℕ). get_or new i no_line) place
         ∙ there k (omega (arith, inside, same))
         ∙ ap (λ (b : Bool). end_of P to (counted true b m.count (first_at HPET_HZ t m.first)) (get_or old (k + 2) no_line))
-        (has_ticks-pulsed k (pulses_from HPET_HZ t n) d.hpet)
+        (has_ticks-hpet_pulsed_times k (pulses_from HPET_HZ t n) d.hpet)
         ∙ ap (end_of P to (timer_ticks t k d.hpet m)) (before k less)
     | inr gone ↦
         rest (suc (suc k)) (omega (arith, gone, same))

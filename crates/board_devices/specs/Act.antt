@@ -37,6 +37,7 @@ use Rattle.rtc_registers.specs.Access.{
 use Rattle.hpet_comparator.specs.Parts.{is_level, route_of}
 use Rattle.hpet_registers.specs.declared.parts.HpetParts.{HpetParts}
 use Rattle.hpet_registers.specs.Parts.{timer_at, is_legacy}
+use Rattle.hpet_registers.specs.Outputs.{is_message}
 use Rattle.hpet_registers.specs.Access.{hpet_read, hpet_written, is_access_width}
 use Rattle.tick_policy.specs.declared.parts.TickParts.{TickParts}
 use Rattle.tick_policy.specs.Line.{acked, acked_down, goes_again, set_up_to}
@@ -85,13 +86,18 @@ drives_now line k h =
     if is_legacy h && nat_lt k 2 then line == (if k == 0 then 0 else 8)
     else route_of (timer_at k h).config == line
 
+-- a timer of edge type whose matches are ticks of its line and no messages, or would be with its
+-- interrupt enabled (2.3.8, 2.3.10)
+abbrev pub shows_ticks : ℕ → HpetParts → Bool
+shows_ticks k h = not (is_level (timer_at k h)) && not (is_message k h)
+
 -- the places whose tick lines an acknowledgement of a line reaches: that of the 8254, and those of
--- the timers of edge type that drive it (own)
+-- the timers of edge type that drive it and send no messages (own)
 abbrev pub acks : ℕ → HpetParts → ℕ → Bool
 acks line h zero = (line == 0) && not (is_legacy h)
 acks line h (suc zero) = false
 acks line h (suc (suc k)) =
-    nat_lt k h.timers && (not (is_level (timer_at k h)) && drives_now line k h)
+    nat_lt k h.timers && (shows_ticks k h && drives_now line k h)
 
 -- a read of register C (0Ch) acknowledges the line of the MC146818 while its ticks are counted
 -- (own)

@@ -20,15 +20,16 @@ use Rattle.rtc_registers.specs.Registers.{irqf_of}
 use Rattle.hpet_comparator.specs.Parts.{is_level, route_of}
 use Rattle.hpet_registers.specs.declared.parts.HpetParts.{HpetParts}
 use Rattle.hpet_registers.specs.Parts.{timer_at, is_legacy}
-use Rattle.hpet_registers.specs.Outputs.{level_output}
+use Rattle.hpet_registers.specs.Outputs.{level_output, is_message}
 use Rattle.board_devices.specs.declared.parts.DeviceParts.{DeviceParts}
 use Rattle.board_devices.specs.Places.{line_at}
 
--- the output of timer k: its status bit with its interrupt enabled for level type, else its tick
--- line (2.3.6, 2.3.8)
+-- the output of timer k: its status bit with its interrupt enabled for level type (2.3.6), else its
+-- tick line (2.3.8), and low while its matches are messages (2.3.10)
 abbrev pub output_of : ℕ → DeviceParts → Bool
 output_of k d =
-    if is_level (timer_at k d.hpet) then level_output k d.hpet else (line_at (suc (suc k)) d).up
+    if is_level (timer_at k d.hpet) then level_output k d.hpet
+    else not (is_message k d.hpet) && (line_at (suc (suc k)) d).up
 
 -- a timer drives the line to which it is routed (2.3.8, Tn_INT_ROUTE_CNF), but not timers 0 and 1
 -- under legacy replacement (2.3.5)

@@ -1,5 +1,5 @@
 -- The devices at power on, the conditions on their fields, and the devices of a board that gets
--- five timers more.
+-- five timers more, or message registers.
 use Rattle.std.specs.Prelude.{
   ◌≡◌,
   ℕ,
@@ -11,6 +11,7 @@ use Rattle.std.specs.Prelude.{
   true,
   false,
   ◌&&◌,
+  ◌||◌,
   ◌==◌,
   nat_lt,
   length,
@@ -22,7 +23,8 @@ use Rattle.std.specs.Prelude.{
 }
 use Rattle.pit_readback.specs.Parts.{IsPit}
 use Rattle.pit_readback.specs.Pit.{pit_at_power_on}
-use Rattle.rtc_calendar.specs.declared.TimeBytes.{TimeBytes}
+use Rattle.board_types.specs.declared.setup.Setup.{Setup}
+use Rattle.board_types.specs.Setup.{timers_of, has_messages}
 use Rattle.rtc_registers.specs.Registers.{pf_of}
 use Rattle.rtc_registers.specs.Parts.{IsRtc, rtc_at_power_on}
 use Rattle.hpet_comparator.specs.declared.parts.TimerParts.{TimerParts}
@@ -47,14 +49,14 @@ lines_at_power_on timers pit rtc hpet =
     ∷ line_at_power_on hpet
     ∷ later ∷ later ∷ later ∷ later ∷ later ∷ []
 
--- the devices at power on
-abbrev pub devices_at_power_on : ℕ → Policy → Policy → Policy → ℕ → TimeBytes → DeviceParts
-devices_at_power_on timers pit rtc hpet slew_ns time = record {
+-- the devices of a setup, at power on
+abbrev pub devices_at_power_on : Setup → DeviceParts
+devices_at_power_on s = record {
   pit = pit_at_power_on;
-  rtc = rtc_at_power_on time;
-  hpet = hpet_at_power_on timers false;
-  ticks = lines_at_power_on timers pit rtc hpet;
-  slew_ns = slew_ns;
+  rtc = rtc_at_power_on s.time;
+  hpet = hpet_at_power_on (timers_of s.format) (has_messages s.format);
+  ticks = lines_at_power_on (timers_of s.format) s.pit s.rtc s.hpet;
+  slew_ns = s.slew_ns;
 }
 
 -- the tick line at the place of a timer: one of this policy, or nothing where there is no timer
@@ -72,8 +74,6 @@ pub record IsDevices (d : DeviceParts) : Type 0 where
   -- the lines of the timers have one policy, that of timer 0
   pub timer_lines : (k : ℕ) → k < 8
       → IsTimerLine (nat_lt k d.hpet.timers) (line_at 2 d).policy (line_at (suc (suc k)) d)
-  -- no timer sends messages
-  pub messages : d.hpet.messages ≡ false
 
 -- all conditions on the fields: those of each part, and those that join them
 pub record AreDevices (d : DeviceParts) : Type 0 where
@@ -95,9 +95,14 @@ abbrev pub line_upgraded : DeviceParts → ℕ → TickParts → TickParts
 line_upgraded d k l =
     if nat_lt k (d.hpet.timers + 2) then l else line_at_power_on (line_at 2 d).policy
 
--- the devices with eight timers: those that weren't there as at power on, and all else kept
-unfoldable pub devices_upgraded : DeviceParts → DeviceParts
-devices_upgraded d = record d {
-  hpet = record d.hpet { timers = 8; timer = eight_timers d.hpet };
+-- the devices with eight timers, and with message registers where `messages` holds: what wasn't
+-- there is as at power on, and all else is kept
+unfoldable pub devices_upgraded : Bool → DeviceParts → DeviceParts
+devices_upgraded messages d = record d {
+  hpet = record d.hpet {
+    timers = 8;
+    timer = eight_timers d.hpet;
+    messages = d.hpet.messages || messages;
+  };
   ticks = each (line_upgraded d) 0 d.ticks;
 }

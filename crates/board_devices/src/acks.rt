@@ -98,8 +98,8 @@ fn ack_at(ticks: &mut [TickLine; 10], k: usize) -> bool
     line.is_up()
 }
 
-/// Acknowledges the tick line of timer `k`, where the timer is of edge type and drives the line.
-/// Answers what the timer shows of it.
+/// Acknowledges the tick line of timer `k`, where the timer is of edge type, drives the line and
+/// sends no messages. Answers what the timer shows of it.
 fn ack_timer(ticks: &mut [TickLine; 10], h: &Hpet, k: u8, line: u8) -> Levels
     requires place { k < 8 }
     requires there { k < h.now.timers }
@@ -112,6 +112,9 @@ fn ack_timer(ticks: &mut [TickLine; 10], h: &Hpet, k: u8, line: u8) -> Levels
         (slice_index_or ticks.old (k + 2) no_line) }
 {
     if !drives_now(line, k, h) {
+        return Levels::DOWN;
+    }
+    if h.is_message(k) {
         return Levels::DOWN;
     }
     let shown = shows(line, k, h);

@@ -318,7 +318,7 @@ fn is_counted(rose: bool, legacy: bool) -> bool
 }
 
 /// Whether one of two holds.
-fn either(a: bool, b: bool) -> bool
+pub(crate) fn either(a: bool, b: bool) -> bool
     ensures { result ≡ (a || b) }
 {
     a || b

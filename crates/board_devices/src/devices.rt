@@ -1,15 +1,16 @@
 //! The devices of a board and their tick lines.
-ghost use Rattle.std.specs.Prelude.{◌≡◌, ◌<◌, ◌≤◌, ◌⊎◌};
+ghost use Rattle.std.specs.Prelude.{◌≡◌, ◌<◌};
+ghost use Rattle.board_types.specs.Setup.{IsSetup};
 ghost use Rattle.board_devices.specs.Places.{line_at};
 ghost use Rattle.board_devices.specs.Lines.{levels};
 ghost use Rattle.board_devices.specs.Parts.{devices_at_power_on, lines_at_power_on};
 
 use crate::lines::lines_of;
 use crate::parts::DeviceParts;
+use board_types::{Setup, has_messages, timers_of};
 use hpet_registers::Hpet;
 use irq_edges::Lines;
 use pit_readback::Pit;
-use rtc_calendar::TimeBytes;
 use rtc_registers::Rtc;
 use std::marker::Model;
 use tick_policy::{Counts, Policy, TickLine};
@@ -41,27 +42,19 @@ impl Model for Devices {
 }
 
 impl Devices {
-    /// The devices at power on, with 3 or 8 timers, a policy for the ticks of each device, catch-up
-    /// points that come `slew_ns` nanoseconds apart, and the time of the MC146818.
-    pub fn power_on(
-        timers: u8,
-        pit: Policy,
-        rtc: Policy,
-        hpet: Policy,
-        slew_ns: u64,
-        time: TimeBytes,
-    ) -> Devices
-        requires timers { (timers ≡ 3) ⊎ (timers ≡ 8) }
-        requires low { 1 ≤ slew_ns }
-        requires high { slew_ns ≤ 1000000000 }
-        ensures { result ≡ devices_at_power_on timers pit rtc hpet slew_ns time }
+    /// The devices of a setup at power on: its format says how many timers there are and whether
+    /// they have message registers.
+    pub fn power_on(setup: &Setup) -> Devices
+        requires { IsSetup setup.now }
+        ensures { result ≡ devices_at_power_on setup.now }
     {
+        let timers = timers_of(setup.format);
         Devices {
             pit: Pit::power_on(),
-            rtc: Rtc::power_on(time),
-            hpet: Hpet::power_on(timers, false),
-            ticks: lines_at_power_on(timers, pit, rtc, hpet),
-            slew_ns,
+            rtc: Rtc::power_on(setup.time),
+            hpet: Hpet::power_on(timers, has_messages(setup.format)),
+            ticks: lines_at_power_on(timers, setup.pit, setup.rtc, setup.hpet),
+            slew_ns: setup.slew_ns,
         }
     }
 

@@ -7,7 +7,7 @@
 //! once, and each line goes up once at most.
 //!
 //! ```text
-//! let mut devices = Devices::power_on(3, Policy::Delay, Policy::Delay, Policy::Delay, 1_000_000, time);
+//! let mut devices = Devices::power_on(&setup);
 //! let mut edges = EdgeList::new();
 //! devices.act(Act::PitWrite { port: 0x43, byte: 0x34 }, 0, &mut edges);
 //! devices.run_to(0, 5_000, &mut edges);
@@ -21,6 +21,7 @@ mod devices;
 mod found_up;
 mod levels;
 mod lines;
+mod messages;
 mod parts;
 mod pulse_counts;
 mod run;

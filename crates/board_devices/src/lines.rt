@@ -20,6 +20,7 @@ fn up_at(ticks: &[TickLine; 10], k: usize) -> bool
 }
 
 /// The output of timer `k`.
+#[tactic(auto, unfolding(crate::specs::private::Stretch::output_by))]
 fn output_by(h: &Hpet, k: u8, ticks: &[TickLine; 10]) -> bool
     requires { k < 8 }
     ensures { result ≡ output_by k h.now ticks.now }
@@ -28,7 +29,7 @@ fn output_by(h: &Hpet, k: u8, ticks: &[TickLine; 10]) -> bool
     if timer.is_level() {
         h.status_bit(k) && timer.is_enabled()
     } else {
-        up_at(ticks, k as usize + 2)
+        !h.is_message(k) && up_at(ticks, k as usize + 2)
     }
 }
 

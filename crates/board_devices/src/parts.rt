@@ -1,10 +1,11 @@
-//! All fields of the devices, the conditions on them, and five timers more.
+//! All fields of the devices, the conditions on them, and five timers or message registers more.
 ghost use Rattle.std.specs.Prelude.{
   ◌≡◌,
   ℕ,
   ◌+◌,
   ◌<◌,
   ◌↔◌,
+  ◌||◌,
   map,
   nat_lt,
   slice_index_or,
@@ -29,6 +30,7 @@ ghost use Rattle.board_devices.specs.Parts.{
 };
 ghost use Rattle.board_devices.specs.private.Stretch.{ten};
 
+use crate::act::either;
 use crate::clock::clock_up;
 use crate::devices::Devices;
 use board_types::SLEW_MAX_NS;
@@ -91,18 +93,19 @@ impl Devices {
         }
     }
 
-    /// The devices with eight timers: those that weren't there, and their tick lines, are as at
-    /// power on, with the policy of the others, and all else is kept. No line changes its level.
+    /// The devices with eight timers, and with message registers where `messages` holds. What
+    /// wasn't there, tick lines included, is as at power on, with the policy of the others, and all
+    /// else is kept. No line changes its level.
     #[tactic(auto, unfolding(crate::specs::Parts::devices_upgraded))]
-    pub fn upgraded(&self) -> Devices
-        ensures value { result ≡ devices_upgraded self.now }
+    pub fn upgraded(&self, messages: bool) -> Devices
+        ensures value { result ≡ devices_upgraded messages self.now }
         ensures levels { levels result ≡ levels self.now }
     {
         let before = self.parts();
         Devices {
             pit: self.pit,
             rtc: self.rtc,
-            hpet: with_eight_timers(&self.hpet),
+            hpet: with_eight_timers(&self.hpet, messages),
             ticks: lines_upgraded(&self.ticks, before.hpet.timers),
             slew_ns: self.slew_ns,
         }
@@ -148,12 +151,10 @@ fn are_joined(rtc: &Rtc, hpet: &Hpet, ticks: &[TickLine; 10], slew_ns: u64) -> b
           slew_ns = slew_ns;
         }) }
 {
-    let h = hpet.parts();
     1 <= slew_ns
         && slew_ns <= SLEW_MAX_NS
+        && are_timer_lines(ticks, hpet.timers())
         && ticks[1].is_up() == clock_up(rtc, hpet)
-        && are_timer_lines(ticks, h.timers)
-        && !h.messages
 }
 
 /// Whether the lines of the timers have one policy, and the other places hold nothing.
@@ -194,9 +195,13 @@ fn timer_or_new(h: &HpetParts, k: u8) -> TimerParts
     }
 }
 
-/// The HPET with eight timers.
-fn with_eight_timers(hpet: &Hpet) -> Hpet
-    ensures { result ≡ record hpet.now { timers = 8; timer = eight_timers hpet.now } }
+/// The HPET with eight timers, and with message registers where there are some or `messages` holds.
+fn with_eight_timers(hpet: &Hpet, messages: bool) -> Hpet
+    ensures { result ≡ record hpet.now {
+      timers = 8;
+      timer = eight_timers hpet.now;
+      messages = hpet.now.messages || messages;
+    } }
 {
     let h = hpet.parts();
     let timer = [
@@ -212,6 +217,7 @@ fn with_eight_timers(hpet: &Hpet) -> Hpet
     match Hpet::of_parts(HpetParts {
         timers: 8,
         timer,
+        messages: either(h.messages, messages),
         ..h
     }) {
         Some(upgraded) => upgraded,

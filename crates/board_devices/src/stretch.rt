@@ -279,7 +279,7 @@ fn run_timer(
     let timer = h.timer(k);
     if lines[k as usize + 2].is_up() && !timer.is_level() {
         count_ticks(lines, k as usize + 2, h.has_ticks(k), matches.count);
-        return Some(span.from);
+        return unless(h.is_message(k), Some(span.from));
     }
     let first = first_at(matches.first, HPET_HZ, span.from, span.to);
     let ticks = counted(true, h.has_ticks(k), matches.count, first);
@@ -287,8 +287,15 @@ fn run_timer(
     if timer.is_level() {
         flag_from(timer.is_enabled(), was_set, span.from, first)
     } else {
-        up
+        unless(h.is_message(k), up)
     }
+}
+
+/// From when on a line is up, of which nothing is shown while `hidden` holds.
+fn unless(hidden: bool, up: Option<u64>) -> Option<u64>
+    ensures { result ≡ (if hidden then None else up) }
+{
+    if hidden { None } else { up }
 }
 
 /// The status bit of timer `k`.

@@ -5,29 +5,23 @@ ghost use Rattle.board_devices.specs.Places.{line_at};
 ghost use Rattle.board_devices.specs.Act.{IsLegal};
 
 use crate::{Act, Devices};
-use irq_edges::{Edge, EdgeList};
-use rtc_calendar::TimeBytes;
+use board_types::Setup;
+use irq_edges::{Burst, BurstList, Edge, EdgeList};
 use std::process::Abort;
 use tick_policy::{Counts, Policy};
 
 mod steps;
-
-const TIME: TimeBytes = TimeBytes {
-    sec: 0,
-    min: 0,
-    hour: 0,
-    wday: 1,
-    date: 1,
-    month: 1,
-    year: 0,
-};
 
 /// Devices of three timers, with one policy for the ticks of the 8254, and `Delay` for the others.
 fn devices(pit: Policy, slew_ns: u64) -> Devices
     requires low { 1 ≤ slew_ns }
     requires high { slew_ns ≤ 1000000000 }
 {
-    Devices::power_on(3, pit, Policy::Delay, Policy::Delay, slew_ns, TIME)
+    Devices::power_on(&Setup {
+        pit,
+        slew_ns,
+        ..Setup::by_default(1)
+    })
 }
 
 /// Whether the counts of all ticks are far from their end.
@@ -235,5 +229,30 @@ fn next_edge_parts_and_upgrade(rt: HostRuntime) {
     assert_eq!(rt; d.next_edge(0), Some(4_191));
     let same = Devices::of_parts(d.parts());
     assert!(rt; same.is_some());
-    assert_eq!(rt; d.upgraded().parts().hpet.timers, 8);
+    let upgraded = d.upgraded(true).parts().hpet;
+    assert_eq!(rt; (upgraded.timers, upgraded.messages), (8, true));
+}
+
+// timer 0 of edge type, periodic, each 100 pulses, with messages
+#[test]
+fn messages_of_a_timer(rt: HostRuntime) {
+    let mut d = Devices::power_on(&Setup::by_default(5));
+    set(&rt, &mut d, 0x100, 0x684c, 0);
+    set(&rt, &mut d, 0x110, 0xfee0_0000_0000_0041, 0);
+    set(&rt, &mut d, 0x108, 100, 0);
+    set(&rt, &mut d, 0x10, 1, 0);
+    assert_eq!(rt; d.next_message(0, 3_500), Some(1_000));
+    let mut bursts = BurstList::new();
+    d.bursts(0, 3_500, &mut bursts);
+    let burst = Burst {
+        timer: 0,
+        first: 1_000,
+        count: 3,
+        every: 1_000,
+        address: 0xfee0_0000,
+        data: 0x41,
+    };
+    assert_eq!(rt; bursts.as_slice(), [burst].as_slice());
+    assert!(rt; run(&rt, &mut d, 0, 3_500).is_empty());
+    assert_eq!(rt; d.counts(2), counts(0, 0, 0, 0));
 }

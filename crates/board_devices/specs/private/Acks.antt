@@ -17,11 +17,11 @@ use Rattle.std.specs.Prelude.{
 use Rattle.hpet_comparator.specs.Parts.{is_level, route_of}
 use Rattle.hpet_registers.specs.declared.parts.HpetParts.{HpetParts}
 use Rattle.hpet_registers.specs.Parts.{timer_at}
-use Rattle.hpet_registers.specs.Outputs.{level_output}
+use Rattle.hpet_registers.specs.Outputs.{level_output, is_message}
 use Rattle.tick_policy.specs.declared.parts.TickParts.{TickParts}
 use Rattle.board_devices.specs.declared.acks.Levels.{Levels}
 use Rattle.board_devices.specs.Places.{no_line}
-use Rattle.board_devices.specs.Act.{drives_now, acked_where, down_where}
+use Rattle.board_devices.specs.Act.{drives_now, shows_ticks, acked_where, down_where}
 
 -- a line to which timers are routed
 abbrev pub is_io_line : ℕ → Bool
@@ -36,11 +36,12 @@ shows legacy line k h =
 -- whether an acknowledgement of the line reaches the tick line of timer k
 abbrev pub timer_acks : ℕ → HpetParts → ℕ → Bool
 timer_acks line h k =
-    nat_lt k h.timers && (not (is_level (timer_at k h)) && drives_now line k h)
+    nat_lt k h.timers && (shows_ticks k h && drives_now line k h)
 
 -- the output of timer k, by its tick line
 abbrev pub output_with : ℕ → HpetParts → TickParts → Bool
-output_with k h l = if is_level (timer_at k h) then level_output k h else l.up
+output_with k h l =
+    if is_level (timer_at k h) then level_output k h else not (is_message k h) && l.up
 
 -- what timer k shows of the line: before, between the parts of an acknowledgement, and after
 abbrev pub timer_levels : Bool → ℕ → ℕ → HpetParts → TickParts → Levels

@@ -41,7 +41,7 @@ use Rattle.clk_units.specs.Bits.{bit}
 use Rattle.hpet_comparator.specs.Parts.{is_level, is_enabled, route_of}
 use Rattle.hpet_registers.specs.declared.parts.HpetParts.{HpetParts}
 use Rattle.hpet_registers.specs.Parts.{is_legacy, timer_at}
-use Rattle.hpet_registers.specs.Outputs.{has_ticks, level_output}
+use Rattle.hpet_registers.specs.Outputs.{has_ticks, is_message, level_output}
 use Rattle.hpet_registers.specs.Stretch.{hpet_pulsed_times, matches_of, timer_matches}
 use Rattle.tick_policy.specs.declared.parts.TickParts.{TickParts}
 use Rattle.tick_policy.specs.Line.{is_waiting}
@@ -129,7 +129,8 @@ flag_from b flag from first = if b then (if flag then Some from else first) else
 abbrev pub output_from : ℕ → ℕ → HpetParts → Option ℕ → Option ℕ → Option ℕ
 output_from from k h matched line =
     if is_level (timer_at k h)
-    then flag_from (is_enabled (timer_at k h)) (bit k h.status) from matched else line
+    then flag_from (is_enabled (timer_at k h)) (bit k h.status) from matched
+    else if is_message k h then None else line
 
 -- the same by its matches, by what its status bit was, and by its tick line before
 abbrev pub output_up : Span → ℕ → HpetParts → Bool → Matches → TickParts → Option ℕ
@@ -137,6 +138,7 @@ output_up span k h was_set m l =
     if is_level (timer_at k h)
     then flag_from (is_enabled (timer_at k h)) was_set span.from
     (first_at HPET_HZ span.from m.first)
+    else if is_message k h then None
     else up_of span.from span.point span.to (timer_ticks span.from k h m) l
 
 -- from when on one of the first n timers drives the line and is up
@@ -177,10 +179,10 @@ abbrev pub ten : List ℕ
 ten = 0 ∷ 1 ∷ 2 ∷ 3 ∷ 4 ∷ 5 ∷ 6 ∷ 7 ∷ 8 ∷ 9 ∷ []
 
 -- outputs, by their parts
-abbrev pub output_by : ℕ → HpetParts → List TickParts → Bool
+unfoldable pub output_by : ℕ → HpetParts → List TickParts → Bool
 output_by k h ls =
     if is_level (timer_at k h) then level_output k h
-    else (slice_index_or ls (suc (suc k)) no_line).up
+    else not (is_message k h) && (slice_index_or ls (suc (suc k)) no_line).up
 
 -- the place of the clock's line, where b holds
 abbrev pub clock_place : Bool → ℕ → Bool

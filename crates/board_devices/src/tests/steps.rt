@@ -63,7 +63,7 @@ fn some_act(numbers: &mut Numbers) -> Act
             byte: 0x02 + 0x40 * (byte % 2),
         },
         6 | 7 => Act::ClockRead,
-        8 => wide(0x100, [0x284c, 0x284e, 0x2844, 0x2846][byte as usize % 4]),
+        8 => wide(0x100, [0x284c, 0x284e, 0x684c, 0x2846][byte as usize % 4]),
         9 => wide(0x108, 3 + u64::from(byte)),
         10 => wide(0x1a0, [0x284c, 0x2a4e, 0, 0x2846][byte as usize % 4]),
         11 => wide(0x1a8, 2 + u64::from(byte)),
@@ -90,7 +90,13 @@ fn run_by_steps(rt: &impl Abort, devices: &mut Devices, from: u64, to: u64) -> E
 
 /// Devices shortly before a periodic event of the MC146818, which interrupts.
 fn begun(rt: &impl Abort, policy: Policy) -> Devices {
-    let mut d = Devices::power_on(8, policy, policy, policy, 700, TIME);
+    let mut d = Devices::power_on(&Setup {
+        pit: policy,
+        rtc: policy,
+        hpet: policy,
+        slew_ns: 700,
+        ..Setup::by_default(5)
+    });
     act(rt, &mut d, Act::IndexWrite { byte: 0x0b }, 0);
     act(rt, &mut d, Act::ClockWrite { byte: 0x42 }, 0);
     run(rt, &mut d, 0, 976_000);

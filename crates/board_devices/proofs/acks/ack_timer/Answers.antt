@@ -21,4 +21,5 @@ returns-clause-levels c =
     (c.both-before.ensures ∙ ap (λ (b : Bool). c.shows-shown.result && b) was ∙ ap (λ (b : Bool). b && l.up) c.shows-shown.ensures)
     refl
     (c.both.ensures ∙ ap (λ (b : Bool). c.shows-shown.result && b) c.ack_at-again.ensures.up ∙ ap (λ (b : Bool). b && (acked l).up) c.shows-shown.ensures)
-    ∙ sym (levels-edge c.args.line c.args.k c.args.h.now l c.requires.there edge (sym c.drives_now.ensures ∙ c.if-not-drives_now.false))
+    ∙ sym (levels-edge c.args.line c.args.k c.args.h.now l c.requires.there edge (sym c.is_message.ensures ∙ c.if-is_message.false)
+    (sym c.drives_now.ensures ∙ c.if-not-drives_now.false))

@@ -23,7 +23,7 @@ pub invariant_of-self : goal.invariant_of-self
 invariant_of-self c =
     let d : DeviceParts = parts_of c.self.inside in
     IsDevices-each d d.pit d.rtc d.hpet c.ack_lines-levels.new.ticks (λ k l. acked_where (acks c.args.line d.hpet k) l) c.self.invariant (again c)
-    (KeepsLines-acked (acks c.args.line d.hpet) d.hpet.timers) refl refl
+    (KeepsLines-acked (acks c.args.line d.hpet) d.hpet.timers) refl
     (ap (λ (ls : List TickParts). (get_or ls 1 no_line).up) (again c)
     ∙ ap (λ (l : TickParts). l.up) (each-at (λ k l. acked_where (acks c.args.line d.hpet k) l) 0 1 d.ticks no_line
     (omega (arith, c.self.invariant.places))) ∙ c.self.invariant.flag)

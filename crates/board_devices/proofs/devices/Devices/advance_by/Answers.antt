@@ -38,7 +38,8 @@ use Rattle.board_devices.specs.View.{parts_of}
 use Rattle.board_devices.specs.private.Stretch.{source, counted, timer_ticks, ticks_at, end_of, up_of, flagged_where, either_from, flag_from, output_up, slots_from}
 use Rattle.board_devices.proofs.Product.{Sound, run-parted}
 use Rattle.board_devices.proofs.Advance.{Brought, Known, ran-state, ran-levels, up-is, IsDevices-parted, due-few, up_at, irq_at, lines_from, outs}
-use Rattle.board_devices.proofs.Timers.{ends-timers, times-are, has_ticks-pulsed}
+use Rattle.board_devices.proofs.Timers.{ends-timers, times-are}
+use Rattle.hpet_registers.proofs.Behind.{has_ticks-hpet_pulsed_times}
 use Rattle.board_devices.proofs.Idle.{end-early, end-unseen}
 use Rattle.board_devices.proofs.Still.{Quiet, levels-still, flag-again}
 use Rattle.board_devices.proofs.devices.Devices.advance_by.Goals as goal
@@ -383,7 +384,7 @@ found c (suc (suc k)) less some =
     let place : suc (suc k) ≡ k + 2 = omega arith in
     ap (λ (i : ℕ). (get_or c.self.inside.ticks i no_line).up) place
     ∙ c.if-finds_up.ensures.timers refl k (there c k count) count
-    (ap (has_ticks k) (hpet_is (still_pulsed c)) ∙ has_ticks-pulsed k (pulses_from HPET_HZ c.args.from (c.args.to - c.args.from)) c.self.inside.hpet ∙ due.0)
+    (ap (has_ticks k) (hpet_is (still_pulsed c)) ∙ has_ticks-hpet_pulsed_times k (pulses_from HPET_HZ c.args.from (c.args.to - c.args.from)) c.self.inside.hpet ∙ due.0)
 
 -- no timer of level type matches
 level : (c : goal.After-take_ticks) (k : ℕ) → is_level (timer_at k c.self.inside.hpet) ≡ true

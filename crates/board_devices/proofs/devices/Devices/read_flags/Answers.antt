@@ -61,7 +61,7 @@ invariant_of-self c =
     ≡ acked_where (reads_c d 1) (line_at 1 d) = ap (λ (ls : List TickParts). get_or ls 1 no_line) (lines c)
     ∙ each-at (λ k l. acked_where (reads_c d k) l) 0 1 d.ticks no_line (omega (arith, c.self.invariant.places)) in
     IsDevices-each d d.pit c.set_flag.new.rtc d.hpet c.ack_clock_line.new.ticks (λ k l. acked_where (reads_c d k) l) c.self.invariant (lines c)
-    (KeepsLines-acked (reads_c d) d.hpet.timers) refl refl
+    (KeepsLines-acked (reads_c d) d.hpet.timers) refl
     (ap (λ (l : TickParts). l.up) line
     ∙ flag-read d.rtc (counts_rtc d) (line_at 1 d) (valid c) c.self.invariant.flag
     ∙ ap (λ (b : Bool). b && pf_of (flagged_where g (after_rtc_read d.rtc)))

@@ -32,7 +32,7 @@ state : (c : goal.After-lines_upgraded)
       hpet = c.with_eight_timers.result;
       ticks = c.lines_upgraded.result;
       slew_ns = c.self.inside.slew_ns;
-    }) ≡ devices_upgraded (parts_of c.self.inside)
+    }) ≡ devices_upgraded c.args.messages (parts_of c.self.inside)
 unfolding devices_upgraded
 state c =
     ap (λ (ls : List TickParts). record (parts_of c.self.inside) { hpet = c.with_eight_timers.result; ticks = ls }) (lines c)
@@ -40,10 +40,10 @@ state c =
     (parts_of c.self.inside) { hpet = h; ticks = each (line_upgraded (parts_of c.self.inside)) 0 c.self.inside.ticks }) c.with_eight_timers.ensures
 
 pub invariant_of-result : goal.invariant_of-result
-invariant_of-result c = subst IsDevices (sym (state c)) (IsDevices-upgraded (parts_of c.self.inside) (hpet c) c.self.invariant)
+invariant_of-result c = subst IsDevices (sym (state c)) (IsDevices-upgraded c.args.messages (parts_of c.self.inside) (hpet c) c.self.invariant)
 
 pub returns-clause-value : goal.returns-clause-value
-returns-clause-value c = state c ∙ ap devices_upgraded c.self.view_is
+returns-clause-value c = state c ∙ ap (devices_upgraded c.args.messages) c.self.view_is
 
 pub returns-clause-levels : goal.returns-clause-levels
-returns-clause-levels c = ap levels (state c) ∙ levels-upgraded (parts_of c.self.inside) (hpet c) c.self.invariant.places ∙ ap levels c.self.view_is
+returns-clause-levels c = ap levels (state c) ∙ levels-upgraded c.args.messages (parts_of c.self.inside) (hpet c) c.self.invariant.places ∙ ap levels c.self.view_is

@@ -29,7 +29,7 @@ pub invariant_of-self : goal.invariant_of-self
 unfolding moved
 invariant_of-self c = IsDevices-each
     (parts_of c.self.inside) c.self.inside.pit c.write.new.self c.self.inside.hpet c.set_clock_line.new.ticks _ c.self.invariant (lines c)
-    (KeepsLines-rtc_set (counts_rtc (moved c) && pf_of (moved c).rtc) c.self.inside.hpet.timers) refl refl
+    (KeepsLines-rtc_set (counts_rtc (moved c) && pf_of (moved c).rtc) c.self.inside.hpet.timers) refl
     (ap (λ (ls : List TickParts). (get_or ls 1 no_line).up) (lines c)
     ∙ line_of_clock (counts_rtc (moved c) && pf_of (moved c).rtc) c.self.inside.ticks c.self.invariant.places)
 

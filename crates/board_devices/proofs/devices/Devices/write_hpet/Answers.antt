@@ -9,7 +9,7 @@ use Rattle.board_devices.specs.Nanosecond.{counts_rtc}
 use Rattle.board_devices.specs.Act.{acted, first_part, act_edges, rtc_set}
 use Rattle.board_devices.specs.Lines.{levels}
 use Rattle.board_devices.specs.View.{parts_of}
-use Rattle.board_devices.proofs.Keeps.{IsDevices-each, KeepsLines-rtc_set, timers-hpet_written, messages-hpet_written}
+use Rattle.board_devices.proofs.Keeps.{IsDevices-each, KeepsLines-rtc_set, timers-hpet_written}
 use Rattle.board_devices.proofs.Masks.{one_part, due-set, line_of_clock}
 use Rattle.irq_edges.specs.declared.edges.Edge.{Edge}
 use Rattle.board_devices.proofs.QuietWrites.{acted-quiet, edges-quiet, IsDevices-quiet}
@@ -47,7 +47,6 @@ invariant_of-self-2 c = IsDevices-each
     (parts_of c.self.inside) c.self.inside.pit c.self.inside.rtc c.write-2.new.self c.set_clock_line.new.ticks _ c.self.invariant (lines c)
     (KeepsLines-rtc_set (counts_rtc (moved c) && pf_of (moved c).rtc) c.self.inside.hpet.timers)
     (ap (λ (h : HpetParts). h.timers) c.write-2.ensures.value ∙ timers-hpet_written c.args.offset c.args.width c.args.v c.self.inside.hpet)
-    (ap (λ (h : HpetParts). h.messages) c.write-2.ensures.value ∙ messages-hpet_written c.args.offset c.args.width c.args.v c.self.inside.hpet)
     (ap (λ (ls : List TickParts). (get_or ls 1 no_line).up) (lines c)
     ∙ line_of_clock (counts_rtc (moved c) && pf_of (moved c).rtc) c.self.inside.ticks c.self.invariant.places)
 

@@ -28,7 +28,7 @@ lines c = c.tick_first.ensures ∙ ap (λ (b : Bool). ticked_at (pit_ticked b) c
 pub invariant_of-self : goal.invariant_of-self
 unfolding rises
 invariant_of-self c = IsDevices-each (parts_of c.self.inside) c.write.new.self c.self.inside.rtc c.self.inside.hpet c.tick_first.new.ticks _ c.self.invariant
-    (lines c) (KeepsLines-pit_ticked (rises c) c.self.inside.hpet.timers) refl refl
+    (lines c) (KeepsLines-pit_ticked (rises c) c.self.inside.hpet.timers) refl
     (ap (λ (ls : List TickParts). (get_or ls 1 no_line).up) (lines c)
     ∙ ap (λ (l : TickParts). l.up) (each-at _ 0 1 c.self.inside.ticks no_line (omega (arith, c.self.invariant.places))) ∙ c.self.invariant.flag)
 
