@@ -93,7 +93,7 @@ AreProcessors-set guest_khz cpus ps i x long inside most valid new = record { ea
     others : (k : ℕ) → cpus ≤ k → get_or (set ps i x) k no_processor ≡ no_processor
     others k more = get_or-set_other ps i k x no_processor (λ (e : k ≡ i). omega (arith, e)) ∙ valid.absent k more
 
-prepared-version : (anchor : Anchor) (guest_khz h : ℕ) (a : Access) (p : ProcessorParts) → (prepared anchor guest_khz h a p).version ≡ p.version
+pub prepared-version : (anchor : Anchor) (guest_khz h : ℕ) (a : Access) (p : ProcessorParts) → (prepared anchor guest_khz h a p).version ≡ p.version
 prepared-version anchor guest_khz h (MsrWrite msr v) p = refl
 prepared-version anchor guest_khz h _ p = refl
 

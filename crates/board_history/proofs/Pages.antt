@@ -55,12 +55,14 @@ use Rattle.board_types.specs.declared.access.TheConstants.{MSR_KVM_WALL_CLOCK}
 use Rattle.board_types.specs.declared.parts.BoardParts.{BoardParts}
 use Rattle.board_types.specs.declared.parts.ProcessorParts.{ProcessorParts}
 use Rattle.board_types.specs.declared.parts.TheConstants.{LAST_VERSION}
-use Rattle.board_core.specs.Access.{after_access, after_act, after_run}
-use Rattle.board_core.specs.Pages.{page_in, page_of_msr, prepared, processors_after, published, published_at, published_by}
+use Rattle.board_core.specs.Access.{after_access}
+use Rattle.board_core.specs.Pages.{page_in, page_of_msr, prepared, published, published_at, published_by}
 use Rattle.board_core.specs.Refusals.{refusal_of}
 use Rattle.board_core.specs.Tsc.{no_processor, processor_at}
 use Rattle.board_core.specs.Wall.{publishes_wall}
+use Rattle.board_core.proofs.Joined.{prepared-version}
 use Rattle.board_core.proofs.Laws.{
+  processors-are,
   after_access-accesses,
   after_access-anchor,
   after_access-cpus,
@@ -117,16 +119,6 @@ machine_of-access b cpu h a = λ i. record {
   anchor = after_access-anchor b cpu h a i;
   guest_khz = after_access-guest_khz b cpu h a i;
 }
-
--- the processors after an access
-processors-are : (b : BoardParts) (cpu h : ℕ) (a : Access) → (after_access b cpu h a).processors
-    ≡ published_at (published_by cpu a) b.anchor b.guest_khz h a b.processors
-unfolding after_access after_act after_run processors_after
-processors-are b cpu h a = refl
-
-prepared-version : (anchor : Anchor) (guest_khz h : ℕ) (a : Access) (p : ProcessorParts) → (prepared anchor guest_khz h a p).version ≡ p.version
-prepared-version anchor guest_khz h (MsrWrite msr v) p = refl
-prepared-version anchor guest_khz h _ p = refl
 
 -- the page that an access publishes is one of the table's: the reference page, or that of a processor
 pub page_published-legal : (cpus format cpu k : ℕ) (a : Access) → cpu < cpus → IsTrue (is_legal cpus format a)
