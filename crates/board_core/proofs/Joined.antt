@@ -26,7 +26,7 @@ use Rattle.board_core.specs.Wall.{wall_number_after, wall_version_after, publish
 use Rattle.board_core.specs.Rises.{rises_after}
 use Rattle.board_core.specs.Access.{act_of, own_edges, before_look}
 use Rattle.board_core.specs.Conditions.{IsFormat, IsVersion, IsWall, flags_valid, IsProcessor, AreProcessors, AreRises, IsJoined}
-use Rattle.board_core.specs.Upgrade.{gets_timers}
+use Rattle.board_core.specs.Upgrade.{has_eight_timers}
 use Rattle.board_core.proofs.ApicTimers.{AreApics-more}
 use Rattle.board_core.specs.Conditions.{IsHv, AreApics}
 use Rattle.board_core.specs.Apics.{apics_in, apics_acted}
@@ -42,7 +42,7 @@ use Rattle.hv_page.specs.Scale.{tsc_scale}
 use Rattle.hv_page.specs.Page.{published as page_published, withdrawn}
 use Rattle.std.proofs.lemmas.Bool.{eqb-true, leb-true, false≢true, and_from, and_left, and_right, lt-ltb, le-ltb, le-leb, lt-leb}
 use Rattle.std.proofs.lemmas.Nat.{le-div}
-use Rattle.board_core.proofs.Timers.{timers-acted}
+use Rattle.board_core.proofs.Timers.{timers-acted, messages-acted}
 
 -- a count up to the board's has a time, and moves none
 pub early : (b : BoardParts) (h : ℕ) → 0 < b.anchor.khz → HasTime b.anchor b.host → b.anchor.start ≤ h → h ≤ b.host
@@ -261,23 +261,15 @@ most-cpus format cpus timers valid = omega (arith, valid.most_cpus, processors_o
 
 -- a later format: all from 2 on have as many processors and timers as it
 pub IsFormat-later : (format to cpus timers more : ℕ) → IsFormat format cpus timers → format ≤ to → to ≤ LAST_FORMAT
-    → more ≡ cond (gets_timers format to) 8 timers → IsFormat to cpus more
-IsFormat-later format to cpus timers more valid later built e = elim (cases_lt format 2) [
-  | inl old ↦ elim (cases_lt to 2) [
-    | inl stays ↦
-        let same : format ≡ to = omega (arith, valid.least) in
-        let timers_are : more ≡ timers = by false (and_right (ltb format 2) (leb 2 to) (lt-leb 2 to stays)) in
-        subst (λ (f : ℕ). IsFormat f cpus more) same (subst (λ (n : ℕ). IsFormat format cpus n) (sym timers_are) valid)
-    | inr grows ↦
-        in_new grows (by true (and_from (ltb format 2) (leb 2 to) (lt-ltb format 2 old) (le-leb 2 to grows)))
-  ]
-  | inr new ↦
-      let timers_are : more ≡ timers = by false (and_left (ltb format 2) (leb 2 to) (le-ltb format 2 new)) in
-      let eight : timers ≡ 8 = subst (λ (b : Bool). timers ≡ cond b 3 8) (lt-leb format 1 new) valid.has_timers in
-      in_new (omega arith) (timers_are ∙ eight)
+    → more ≡ cond (has_eight_timers to) 8 timers → IsFormat to cpus more
+IsFormat-later format to cpus timers more valid later built e = elim (cases_lt to 2) [
+  | inl stays ↦
+      let same : format ≡ to = omega (arith, valid.least) in
+      subst (λ (f : ℕ). IsFormat f cpus more) same (subst (λ (n : ℕ). IsFormat format cpus n) (sym (by false (lt-leb 2 to stays))) valid)
+  | inr grows ↦ in_new grows (by true (le-leb 2 to grows))
 ]
   where
-    by : (b : Bool) → gets_timers format to ≡ b → more ≡ cond b 8 timers
+    by : (b : Bool) → has_eight_timers to ≡ b → more ≡ cond b 8 timers
     by b is = subst (λ (x : Bool). more ≡ cond x 8 timers) is e
 
     in_new : 2 ≤ to → more ≡ 8 → IsFormat to cpus more
@@ -303,6 +295,7 @@ pub IsJoined-same_time : (b : BoardParts) (host : ℕ) → IsJoined b → b.host
     → IsJoined (record b { host = host })
 IsJoined-same_time b host valid more same = record {
   format = valid.format;
+  messages = valid.messages;
   rates = valid.rates;
   time = record { started = omega (arith, valid.time.started); range = omega (arith, same, valid.time.range) };
   accesses = valid.accesses;
@@ -327,6 +320,7 @@ pub IsJoined-acted : (b : BoardParts) (cpu h : ℕ) (a : Access) → IsJoined b 
 unfolding before_look
 IsJoined-acted b cpu h a valid few six wall processors hv apics due lifted = record {
   format = subst (λ (n : ℕ). IsFormat b.format b.cpus n) (sym (timers-acted (act_of a) (devices_in b))) valid.format;
+  messages = messages-acted (act_of a) (devices_in b) ∙ valid.messages;
   rates = valid.rates;
   time = valid.time;
   accesses = omega arith;
@@ -345,6 +339,7 @@ IsJoined-acted b cpu h a valid few six wall processors hv apics due lifted = rec
 pub IsJoined-counted : (b : BoardParts) → IsJoined b → b.accesses < MOST_ACCESSES → IsJoined (record b { accesses = b.accesses + 1 })
 IsJoined-counted b valid few = record {
   format = valid.format;
+  messages = valid.messages;
   rates = valid.rates;
   time = valid.time;
   accesses = omega arith;

@@ -14,3 +14,4 @@ pub mod Nanoseconds
 mod Rows
 mod RowsApics
 mod RowsHv
+mod RowsMessages

@@ -7,12 +7,13 @@ use Rattle.std.specs.Prelude.{
   max,
   if◌then◌else◌,
   List,
-  [],
   ◌++◌,
   slice_index_or,
 }
 use Rattle.irq_edges.specs.declared.edges.Edge.{Edge}
+use Rattle.irq_edges.specs.declared.bursts.Burst.{Burst}
 use Rattle.irq_edges.specs.Lines.{line_numbers}
+use Rattle.hpet_bursts.specs.Bursts.{bursts_of}
 use Rattle.board_types.specs.declared.access.Access.{Access}
 use Rattle.board_types.specs.declared.access.Access.TheVariants.{
   PortIn,
@@ -109,6 +110,11 @@ abbrev pub apics_ran_to : BoardParts → ℕ → ApicsParts
 apics_ran_to b h =
     run_apics (tscs_by_time b) (now_of b) (time_of_access b h - now_of b) (apics_in b)
 
+-- the messages of that run. Their addresses and data are those that the board holds before it, since
+-- no access comes within; and no access sends a message by itself
+abbrev pub bursts_to : BoardParts → ℕ → List Burst
+bursts_to b h = bursts_of (now_of b) (time_of_access b h - now_of b) b.hpet
+
 -- the board at that time, with the access still to come
 unfoldable pub after_run : BoardParts → ℕ → BoardParts
 after_run b h = record b {
@@ -182,14 +188,13 @@ after_act b cpu h a = after_look (before_look b cpu h a)
 unfoldable pub edges_of : BoardParts → ℕ → Access → List Edge
 edges_of b h a = (ran_to b h).edges ++ own_edges (after_run b h) a
 
--- what an access is answered: the number that follows, its value, its edges. No format that is built
--- has messages
+-- what an access is answered: the number that follows, its value, its edges, the messages of its run
 unfoldable pub reply_of : BoardParts → ℕ → ℕ → Access → Reply
 reply_of b cpu h a = record {
   number = b.accesses + 1;
   value = value_at (after_run b h) cpu h a;
   edges = edges_of b h a;
-  bursts = [];
+  bursts = bursts_to b h;
 }
 
 -- the board after an access

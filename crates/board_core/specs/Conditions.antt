@@ -31,7 +31,7 @@ use Rattle.board_types.specs.declared.setup.TheConstants.{
   LAST_FORMAT,
   HV_FORMAT,
 }
-use Rattle.board_types.specs.Setup.{timers_of, processors_of}
+use Rattle.board_types.specs.Setup.{timers_of, has_messages, processors_of}
 use Rattle.local_apics.specs.declared.parts.ApicsParts.{ApicsParts}
 use Rattle.local_apics.specs.Parts.{AreApicsOf}
 use Rattle.local_apics.specs.Places.{line_at as apic_line_at}
@@ -112,6 +112,7 @@ pub record AreRises (format accesses : ℕ) (lines : List Bool) (rises : List �
 -- what joins the devices and the rest of a board
 pub record IsJoined (b : BoardParts) : Type 0 where
   pub format : IsFormat b.format b.cpus b.hpet.timers
+  pub messages : b.hpet.messages ≡ has_messages b.format
   pub rates : AreRates b.anchor b.guest_khz
   pub time : HasTime b.anchor b.host
   pub accesses : b.accesses ≤ MOST_ACCESSES

@@ -1,13 +1,15 @@
--- When a line changes next, and when a local APIC's timer ticks next, if no access comes.
+-- When a line changes next, when a local APIC's timer ticks next, and when a message is sent next, if
+-- no access comes.
 use Rattle.std.specs.Prelude.{ℕ, zero, suc, ◌+◌, ◌-◌, List, [], ◌∷◌, Option, Some, None}
 use Rattle.clk_units.specs.declared.ranges.TheConstants.{RANGE_NS}
 use Rattle.irq_edges.specs.declared.edges.Edge.{Edge}
+use Rattle.hpet_bursts.specs.Next.{next_message}
+use Rattle.board_types.specs.declared.parts.BoardParts.{BoardParts}
 use Rattle.board_devices.specs.declared.parts.DeviceParts.{DeviceParts}
 use Rattle.board_devices.specs.Run.{run}
 use Rattle.lapic_timer.specs.Deadline.{IsFirstAt}
 use Rattle.local_apics.specs.Places.{timer_at}
 use Rattle.local_apics.specs.Nanosecond.{ticks_at}
-use Rattle.board_types.specs.declared.parts.BoardParts.{BoardParts}
 use Rattle.board_core.specs.Time.{now_of}
 use Rattle.board_core.specs.Apics.{apics_in, tscs_by_time}
 
@@ -37,3 +39,8 @@ abbrev pub IsNextTick : BoardParts → ℕ → Option ℕ → Type 0
 IsNextTick b cpu next =
     IsFirstAt (ticks_at (tscs_by_time b cpu) (now_of b) (timer_at cpu (apics_in b))) (now_of b)
     (RANGE_NS - 1) next
+
+-- the first nanosecond after the board's time, and below `RANGE_NS`, in which a timer of the HPET
+-- sends a message
+abbrev pub next_message_of : BoardParts → Option ℕ
+next_message_of b = next_message (now_of b) (RANGE_NS - 1 - now_of b) b.hpet

@@ -4,18 +4,12 @@ use Rattle.local_apics.specs.declared.parts.ApicsParts.{ApicsParts}
 use Rattle.local_apics.specs.Parts.{apics_at_power_on}
 use Rattle.board_types.specs.declared.setup.Setup.{Setup}
 use Rattle.board_types.specs.declared.parts.BoardParts.{BoardParts}
-use Rattle.board_types.specs.Setup.{timers_of}
-use Rattle.board_devices.specs.declared.parts.DeviceParts.{DeviceParts}
 use Rattle.board_devices.specs.Parts.{devices_at_power_on}
 use Rattle.board_core.specs.Tsc.{no_processor}
 use Rattle.board_core.specs.Apics.{apics_of}
 use Rattle.board_core.specs.Hv.{no_hv}
 
--- the devices of a setup, at power on
-abbrev pub devices_of_setup : Setup → DeviceParts
-devices_of_setup s = devices_at_power_on (timers_of s.format) s.pit s.rtc s.hpet s.slew_ns s.time
-
--- the timers of its local APICs, at power on
+-- the timers of a setup's local APICs, at power on
 abbrev pub apics_of_setup : Setup → ApicsParts
 apics_of_setup s = apics_at_power_on (apics_of s.format s.cpus)
 
@@ -29,11 +23,11 @@ board_at_power_on s = record {
   guest_khz = s.guest_khz;
   accesses = 0;
   greatest = 0;
-  slew_ns = (devices_of_setup s).slew_ns;
-  pit = (devices_of_setup s).pit;
-  rtc = (devices_of_setup s).rtc;
-  hpet = (devices_of_setup s).hpet;
-  ticks = (devices_of_setup s).ticks;
+  slew_ns = (devices_at_power_on s).slew_ns;
+  pit = (devices_at_power_on s).pit;
+  rtc = (devices_at_power_on s).rtc;
+  hpet = (devices_at_power_on s).hpet;
+  ticks = (devices_at_power_on s).ticks;
   wall_number = 0;
   wall_version = 0;
   wall_sec = s.wall_sec;

@@ -5,6 +5,7 @@ ghost use Rattle.std.specs.Prelude.{
   ◌<◌,
   ◌≤◌,
   ◌++◌,
+  [],
   length,
   IsTrue,
   IfOk,
@@ -18,14 +19,14 @@ ghost use Rattle.irq_edges.specs.declared.edges.TheConstants.{EDGE_PLACES};
 ghost use Rattle.board_types.specs.Legal.{is_legal};
 ghost use Rattle.board_types.specs.Reply.{IsFresh};
 ghost use Rattle.board_core.specs.Time.{time_of_access, HasTime};
-ghost use Rattle.board_core.specs.Access.{ran_to, after_run, reply_of, after_access};
+ghost use Rattle.board_core.specs.Access.{ran_to, bursts_to, after_run, reply_of, after_access};
 ghost use Rattle.board_core.specs.Refusals.{refusal_of};
 
 use crate::apics::run_apics;
 use crate::board::BoardState;
 use crate::rises::count_rises_where;
 use board_types::{Access, Refusal, Reply};
-use irq_edges::EdgeList;
+use irq_edges::{BurstList, EdgeList};
 
 impl BoardState {
     /// One access by processor `cpu` at count `h` of the host's counter: the devices run to the greater of the
@@ -111,7 +112,7 @@ impl BoardState {
             Ok(to) => to,
             Err(refusal) => return Err(refusal),
         };
-        self.run_to(h, to, &mut reply.edges);
+        self.run_to(h, to, &mut reply.edges, &mut reply.bursts);
         reply.value = self.act(cpu, h, a, &mut reply.edges);
         reply.number = self.accesses;
         Ok(())
@@ -119,13 +120,16 @@ impl BoardState {
 }
 
 impl BoardState {
-    /// Runs to the time `to` of an access at count `h`, and counts the rises on the way.
-    fn run_to(&mut self, h: u64, to: u64, edges: &mut EdgeList)
+    /// Runs to the time `to` of an access at count `h`, counts the rises on the way, and puts the messages of the run
+    /// into an empty list.
+    fn run_to(&mut self, h: u64, to: u64, edges: &mut EdgeList, bursts: &mut BurstList)
         requires time { HasTime self.old.anchor h }
         requires to { to ≡ time_of_access self.old h }
         requires places { length edges.old + 6 ≤ EDGE_PLACES }
+        requires fresh { bursts.old ≡ [] }
         ensures state { self.new ≡ after_run self.old h }
         ensures edges { edges.new ≡ edges.old ++ (ran_to self.old h).edges }
+        ensures bursts { bursts.new ≡ bursts_to self.old h }
         ensures few { length (ran_to self.old h).edges ≤ 6 }
         ensures room { length edges.new ≤ length edges.old + 6 }
     {
@@ -136,24 +140,27 @@ impl BoardState {
             self.host = h;
             return;
         }
-        self.run_on(h, to, edges);
+        self.run_on(h, to, edges, bursts);
     }
 
     /// The same, where nanoseconds go by. It stands apart, so that an access at the board's own time needs no room
     /// for a run.
     #[inline(never)]
-    fn run_on(&mut self, h: u64, to: u64, edges: &mut EdgeList)
+    fn run_on(&mut self, h: u64, to: u64, edges: &mut EdgeList, bursts: &mut BurstList)
         requires later { self.old.host < h }
         requires time { HasTime self.old.anchor h }
         requires to { to ≡ time_of_access self.old h }
         requires places { length edges.old + 6 ≤ EDGE_PLACES }
+        requires fresh { bursts.old ≡ [] }
         ensures state { self.new ≡ after_run self.old h }
         ensures edges { edges.new ≡ edges.old ++ (ran_to self.old h).edges }
+        ensures bursts { bursts.new ≡ bursts_to self.old h }
         ensures few { length (ran_to self.old h).edges ≤ 6 }
         ensures room { length edges.new ≤ length edges.old + 6 }
     {
         let before = edges.len();
         let from = self.time_ns;
+        self.devices.bursts(from, to, bursts);
         self.host = h;
         self.time_ns = to;
         run_apics(

@@ -7,14 +7,15 @@ ghost use Rattle.board_core.specs.Time.{devices_in, now_of};
 ghost use Rattle.board_core.specs.Tsc.{processor_at, tsc_of};
 ghost use Rattle.board_core.specs.Pages.{page_in, with_greatest};
 ghost use Rattle.board_core.specs.Conditions.{IsVersion, IsJoined};
-ghost use Rattle.board_core.specs.Next.{next_of};
-ghost use Rattle.board_core.specs.PowerOn.{board_at_power_on, devices_of_setup, apics_of_setup};
+ghost use Rattle.board_core.specs.Next.{next_of, next_message_of};
+ghost use Rattle.board_core.specs.PowerOn.{board_at_power_on, apics_of_setup};
 
 use crate::apics::apics_of;
 use crate::hv::NO_HV;
 use crate::processors::{NO_PROCESSOR, page_in, tsc_of};
 use board_devices::Devices;
-use board_types::{HvParts, ProcessorParts, Setup, timers_of};
+use board_types::{HvParts, ProcessorParts, Setup};
+use clk_units::RANGE_NS;
 use host_counter::Anchor;
 use irq_edges::Lines;
 use local_apics::LocalApics;
@@ -78,7 +79,7 @@ impl BoardState {
             guest_khz: setup.guest_khz,
             accesses: 0,
             greatest: 0,
-            devices: devices_of_setup(setup),
+            devices: Devices::power_on(setup),
             wall_number: 0,
             wall_version: 0,
             wall_sec: setup.wall_sec,
@@ -172,21 +173,15 @@ impl BoardState {
     {
         self.devices.next_edge(self.time_ns)
     }
-}
 
-/// The devices of a setup, at power on.
-fn devices_of_setup(setup: &Setup) -> Devices
-    requires { IsSetup setup.now }
-    ensures { result ≡ devices_of_setup setup.now }
-{
-    Devices::power_on(
-        timers_of(setup.format),
-        setup.pit,
-        setup.rtc,
-        setup.hpet,
-        setup.slew_ns,
-        setup.time,
-    )
+    /// The first nanosecond behind the board's time, and below 2^59, in which a timer of the HPET sends a message if no
+    /// access comes. No line changes then, so `next_edge` doesn't tell it.
+    #[inline(never)]
+    pub fn next_message(&self) -> Option<u64>
+        ensures { result ≡ next_message_of self.now }
+    {
+        self.devices.next_message(self.time_ns, RANGE_NS - 1)
+    }
 }
 
 /// The timers of its local APICs, at power on.

@@ -18,6 +18,7 @@ ghost use Rattle.clk_units.specs.Ranges.{IsKhz};
 ghost use Rattle.host_counter.specs.Time.{time_at};
 ghost use Rattle.pvclock_page.specs.Scale.{mul_for, shift_for};
 ghost use Rattle.board_types.specs.declared.parts.TheConstants.{MOST_ACCESSES};
+ghost use Rattle.board_types.specs.Setup.{has_messages};
 ghost use Rattle.local_apics.specs.Parts.{AreApicsOf};
 ghost use Rattle.board_devices.specs.Lines.{levels};
 ghost use Rattle.board_devices.specs.Places.{no_line};
@@ -42,7 +43,8 @@ use crate::hv::is_hv;
 use crate::processors::NO_PROCESSOR;
 use board_devices::{DeviceParts, Devices};
 use board_types::{
-    BoardParts, LAST_FORMAT, MOST_ACCESSES, ProcessorParts, SECOND_NS, processors_of, timers_of,
+    BoardParts, LAST_FORMAT, MOST_ACCESSES, ProcessorParts, SECOND_NS, has_messages, processors_of,
+    timers_of,
 };
 use clk_units::{KHZ_MAX, KHZ_MIN, RANGE_NS};
 use host_counter::Anchor;
@@ -170,6 +172,15 @@ fn time_of(anchor: &Anchor, h: u64) -> Option<u64>
     }
 }
 
+/// Whether a board has the processors, timers and message registers of its format.
+fn fits_format(parts: &BoardParts) -> bool
+    ensures { IsTrue result ↔ (IsFormat parts.now.format parts.now.cpus parts.now.hpet.timers
+        × (parts.now.hpet.messages ≡ has_messages parts.now.format)) }
+{
+    is_format(parts.format, parts.cpus, parts.hpet.timers)
+        && parts.hpet.messages == has_messages(parts.format)
+}
+
 /// Whether a format has this many processors and timers.
 fn is_format(format: u8, cpus: u8, timers: u8) -> bool
     ensures { IsTrue result ↔ IsFormat format cpus timers }
@@ -274,7 +285,7 @@ fn are_joined(parts: &BoardParts, time_ns: u64, lines: &Lines) -> bool
     ensures { IsTrue result ↔ IsJoined parts.now }
 {
     parts.accesses <= MOST_ACCESSES
-        && is_format(parts.format, parts.cpus, parts.hpet.timers)
+        && fits_format(parts)
         && are_due(&parts.ticks, time_ns + parts.accesses)
         && is_wall(parts.wall_number, parts.wall_version, parts.wall_nsec)
         && are_processors(&parts.processors, parts.cpus, parts.guest_khz)

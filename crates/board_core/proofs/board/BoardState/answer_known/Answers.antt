@@ -66,10 +66,10 @@ returns-clause-reply c =
     ap (λ (x : BoardParts). x.accesses) (c.self.view_is ∙ state_is c) ∙ after_access-accesses b c.args.cpu c.args.h c.args.a in
     let value : c.act-reply.result ≡ r.value =
     c.act-reply.ensures.value ∙ ap (λ (x : BoardParts). value_at x c.args.cpu c.args.h c.args.a) c.run_to.ensures.state in
-    ap (λ (bs : List Burst). reply bs c.self.inside.accesses c.act-reply.result c.act-reply.new.edges) c.requires.fresh.bursts
-    ∙ ap (λ (n : ℕ). reply [] n c.act-reply.result c.act-reply.new.edges) number
-    ∙ ap (λ (v : Value). reply [] r.number v c.act-reply.new.edges) value
-    ∙ ap (reply [] r.number r.value) (edges_are c)
+    ap (λ (bs : List Burst). reply bs c.self.inside.accesses c.act-reply.result c.act-reply.new.edges) c.run_to.ensures.bursts
+    ∙ ap (λ (n : ℕ). reply r.bursts n c.act-reply.result c.act-reply.new.edges) number
+    ∙ ap (λ (v : Value). reply r.bursts r.number v c.act-reply.new.edges) value
+    ∙ ap (reply r.bursts r.number r.value) (edges_are c)
 
 pub returns-clause-state : goal.returns-clause-state
 returns-clause-state c = state_is c

@@ -33,6 +33,7 @@ invariant_of-self c =
       time = c.self.invariant.time;
       joined = record {
         format = i.format;
+        messages = i.messages;
         rates = i.rates;
         time = i.time;
         accesses = i.accesses;

@@ -7,9 +7,8 @@ use Rattle.host_counter.proofs.Times.{time_at-start}
 use Rattle.board_devices.specs.declared.parts.DeviceParts.{DeviceParts}
 use Rattle.board_devices.specs.Places.{line_at}
 use Rattle.board_devices.proofs.PowerOn.{due_at_power_on}
-use Rattle.board_types.specs.Setup.{timers_of}
 use Rattle.board_core.specs.Time.{now_of}
-use Rattle.board_core.specs.PowerOn.{board_at_power_on, devices_of_setup}
+use Rattle.board_core.specs.PowerOn.{board_at_power_on}
 use Rattle.board_core.proofs.Joined.{AreProcessors-none, AreRises-none}
 use Rattle.board_core.proofs.board.BoardState.power_on.Goals as goal
 
@@ -22,15 +21,16 @@ invariant_of-result c = record {
       last = c.requires.last_format;
       least_cpus = c.requires.least_cpus;
       most_cpus = c.requires.most_cpus;
-      has_timers = ap (λ (d : DeviceParts). d.hpet.timers) c.devices_of_setup.ensures;
+      has_timers = ap (λ (d : DeviceParts). d.hpet.timers) c.power_on.ensures;
     };
+    messages = ap (λ (d : DeviceParts). d.hpet.messages) c.power_on.ensures;
     rates = record {
       host = c.requires.host;
       guest = c.requires.guest;
     };
     time = record { started = omega arith; range = omega (arith, time_at-start c.args.setup.now.anchor, c.requires.base) };
     accesses = omega arith;
-    due = λ k less. omega (arith, ap (λ (d : DeviceParts). (line_at k d).counts.due) c.devices_of_setup.ensures ∙ none k);
+    due = λ k less. omega (arith, ap (λ (d : DeviceParts). (line_at k d).counts.due) c.power_on.ensures ∙ due_at_power_on c.args.setup.now k);
     wall = record { words = record { most = omega arith; even = omega arith }; unpublished = λ e. refl; below_second = c.requires.wall_nsec };
     processors = AreProcessors-none c.args.setup.now.guest_khz c.args.setup.now.cpus 64;
     rises = AreRises-none c.args.setup.now.format 0 6 _;
@@ -39,10 +39,6 @@ invariant_of-result c = record {
   };
 }
   where
-    none : (k : ℕ) → (line_at k (devices_of_setup c.args.setup.now)).counts.due ≡ 0
-    none k = due_at_power_on (timers_of c.args.setup.now.format) c.args.setup.now.pit c.args.setup.now.rtc c.args.setup.now.hpet
-        c.args.setup.now.slew_ns c.args.setup.now.time k
-
     apics : AreApics c.args.setup.now.format c.args.setup.now.cpus (now_of (board_at_power_on c.args.setup.now) + 0) c.apics_of_setup.result
     apics = subst (λ (a : ApicsParts). AreApics c.args.setup.now.format c.args.setup.now.cpus (now_of (board_at_power_on c.args.setup.now) + 0) a)
         (sym c.apics_of_setup.ensures) (AreApics-power_on c.args.setup.now.format c.args.setup.now.cpus (now_of (board_at_power_on c.args.setup.now) + 0)

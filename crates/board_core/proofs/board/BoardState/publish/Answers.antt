@@ -25,6 +25,7 @@ invariant_of-self c =
       time = c.self.invariant.time;
       joined = record {
         format = c.self.invariant.joined.format;
+        messages = c.self.invariant.joined.messages;
         rates = c.self.invariant.joined.rates;
         time = c.self.invariant.joined.time;
         accesses = c.self.invariant.joined.accesses;

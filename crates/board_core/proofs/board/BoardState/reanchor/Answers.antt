@@ -10,13 +10,14 @@ use Rattle.board_devices.specs.Places.{line_at}
 use Rattle.board_devices.specs.Lines.{levels}
 use Rattle.board_devices.specs.Rises.{lifts}
 use Rattle.board_devices.specs.Run.{run}
+use Rattle.hpet_bursts.specs.Bursts.{bursts_of}
 use Rattle.board_core.specs.Time.{now_of}
 use Rattle.local_apics.specs.declared.parts.ApicsParts.{ApicsParts}
 use Rattle.board_core.specs.Apics.{apics_in, tscs_by_time}
 use Rattle.board_core.specs.Conditions.{IsFormat, AreRises, AreApics}
 use Rattle.board_core.specs.View.{board_parts_of}
 use Rattle.board_core.proofs.Times.{base-first}
-use Rattle.board_core.proofs.Timers.{timers-run}
+use Rattle.board_core.proofs.Timers.{timers-run, messages-run}
 use Rattle.board_core.proofs.ApicTimers.{AreApics-ran, AreApics-more}
 use Rattle.board_core.proofs.Joined.{AreRises-after}
 use Rattle.board_core.proofs.board.BoardState.reanchor.Goals as goal
@@ -42,6 +43,8 @@ invariant_of-self c =
             (sym (ap (λ (d : DeviceParts). d.hpet.timers) c.run_to-came.ensures.state
             ∙ timers-run c.self.inside.time_ns (to - c.self.inside.time_ns) c.self.inside.devices))
             c.self.invariant.joined.format;
+        messages = ap (λ (d : DeviceParts). d.hpet.messages) c.run_to-came.ensures.state
+            ∙ messages-run c.self.inside.time_ns (to - c.self.inside.time_ns) c.self.inside.devices ∙ c.self.invariant.joined.messages;
         rates = record { host = c.requires.rate; guest = c.self.invariant.joined.rates.guest };
         time = record {
           started = omega arith;
@@ -64,3 +67,11 @@ invariant_of-self c =
             (λ line. omega (arith, ap (lifts line) es, c.run_to-came.ensures.lifts line)));
       };
     }
+
+pub returns-clause-bursts : goal.returns-clause-bursts
+returns-clause-bursts c =
+    let from : ℕ = c.self.inside.time_ns in
+    c.bursts.ensures
+    ∙ ap (λ (n : ℕ). bursts_of from n c.self.inside.devices.hpet) (let e : from + c.args.gap - from ≡ c.args.gap = omega arith in e)
+    ∙ ap (λ (t : ℕ). bursts_of t c.args.gap c.self.inside.devices.hpet) c.self.invariant.time
+    ∙ ap (λ (b : BoardParts). bursts_of (now_of b) c.args.gap b.hpet) c.self.view_is

@@ -13,11 +13,12 @@ use Rattle.board_core.specs.Time.{HasTime, now_of, time_of_access}
 use Rattle.board_core.specs.Conditions.{IsFormat, AreRises, AreApics}
 use Rattle.board_core.specs.View.{board_parts_of}
 use Rattle.board_core.proofs.Times.{time_at_max, base-first}
-use Rattle.board_core.proofs.Timers.{timers-run}
+use Rattle.board_core.proofs.Timers.{timers-run, messages-run}
 use Rattle.local_apics.specs.declared.parts.ApicsParts.{ApicsParts}
 use Rattle.local_apics.specs.Nanosecond.{run as run_apics}
 use Rattle.board_core.specs.Apics.{apics_in, tscs_by_time}
-use Rattle.board_core.specs.Access.{ran_to, apics_ran_to, after_run}
+use Rattle.board_core.specs.Access.{ran_to, bursts_to, apics_ran_to, after_run}
+use Rattle.hpet_bursts.specs.Bursts.{bursts_of}
 use Rattle.board_core.specs.Rises.{rises_after}
 use Rattle.board_core.proofs.ApicTimers.{AreApics-ran, AreApics-more}
 use Rattle.board_core.proofs.Joined.{AreRises-after}
@@ -85,6 +86,8 @@ invariant_of-self c =
             (sym (ap (λ (d : DeviceParts). d.hpet.timers) c.run_to-came.ensures.state
             ∙ timers-run c.self.inside.time_ns (c.args.to - c.self.inside.time_ns) c.self.inside.devices))
             c.self.invariant.joined.format;
+        messages = ap (λ (d : DeviceParts). d.hpet.messages) c.run_to-came.ensures.state
+            ∙ messages-run c.self.inside.time_ns (c.args.to - c.self.inside.time_ns) c.self.inside.devices ∙ c.self.invariant.joined.messages;
         rates = c.self.invariant.joined.rates;
         time = record {
           started = omega (arith, c.self.invariant.joined.time.started, later c);
@@ -117,6 +120,13 @@ returns-clause-state c =
 
 pub returns-clause-edges : goal.returns-clause-edges
 returns-clause-edges c = edges_are c ∙ ap (λ (b : BoardParts). c.args.edges.now ++ (ran_to b c.args.h).edges) c.self.view_is
+
+pub returns-clause-bursts : goal.returns-clause-bursts
+returns-clause-bursts c =
+    c.bursts.ensures
+    ∙ ap (λ (n : ℕ). bursts_of c.self.inside.time_ns (n - c.self.inside.time_ns) c.self.inside.devices.hpet) (to_is c)
+    ∙ ap (λ (t : ℕ). bursts_of t (time_of_access (seen c) c.args.h - t) c.self.inside.devices.hpet) c.self.invariant.time
+    ∙ ap (λ (b : BoardParts). bursts_to b c.args.h) c.self.view_is
 
 pub returns-clause-few : goal.returns-clause-few
 returns-clause-few c =

@@ -7,7 +7,9 @@ use Rattle.board_core.specs.Time.{devices_in, now_of, time_of_access}
 use Rattle.board_core.specs.Rises.{rises_after}
 use Rattle.local_apics.specs.Nanosecond.{run as run_apics}
 use Rattle.board_core.specs.Apics.{apics_in, tscs_by_time}
-use Rattle.board_core.specs.Access.{ran_to, apics_ran_to, after_run}
+use Rattle.board_core.specs.Access.{ran_to, bursts_to, apics_ran_to, after_run}
+use Rattle.hpet_bursts.specs.Bursts.{bursts_of}
+use Rattle.hpet_bursts.proofs.Runs.{bursts_below-still}
 use Rattle.board_core.specs.View.{board_parts_of}
 use Rattle.board_core.proofs.Times.{time_at_max}
 use Rattle.board_core.proofs.Counted.{rises_after-none}
@@ -24,6 +26,10 @@ module _ (b : BoardParts) (h : ℕ) (stays : now_of b ≡ time_of_access b h) wh
 
   edges-none : (ran_to b h).edges ≡ []
   edges-none = run_none_edges (now_of b) (time_of_access b h) (devices_in b) stays
+
+  bursts-none : bursts_to b h ≡ []
+  bursts-none = ap (λ (n : ℕ). bursts_of (now_of b) n b.hpet) (let none : time_of_access b h - now_of b ≡ 0 = omega (arith, stays) in none)
+      ∙ bursts_below-still 8 (now_of b) b.hpet
 
   same_time : (host : ℕ) → 0 < b.anchor.khz → host ≡ max b.host h → time_at b.anchor host ≡ now_of b
   same_time host runs is = ap (time_at b.anchor) is ∙ time_at_max b.anchor b.host h runs ∙ sym stays
@@ -55,6 +61,13 @@ returns-then-h-self-clause-edges c =
     (subst (λ (x : BoardParts). HasTime x.anchor c.args.h) (sym c.self.view_is) c.requires.time) c.if-h-self.true in
     sym (ap (λ (x : BoardParts). c.args.edges.now ++ (ran_to x c.args.h).edges) (sym c.self.view_is)
     ∙ ap (λ (es : List Edge). c.args.edges.now ++ es) (edges-none b c.args.h stays) ∙ append-nil c.args.edges.now)
+
+pub returns-then-h-self-clause-bursts : goal.returns-then-h-self-clause-bursts
+returns-then-h-self-clause-bursts c =
+    let b : BoardParts = board_parts_of c.self.inside in
+    let stays : now_of b ≡ time_of_access b c.args.h = stays_at b c.args.h c.self.invariant.joined
+    (subst (λ (x : BoardParts). HasTime x.anchor c.args.h) (sym c.self.view_is) c.requires.time) c.if-h-self.true in
+    c.requires.fresh ∙ sym (ap (λ (x : BoardParts). bursts_to x c.args.h) (sym c.self.view_is) ∙ bursts-none b c.args.h stays)
 
 pub returns-then-h-self-clause-few : goal.returns-then-h-self-clause-few
 returns-then-h-self-clause-few c =
@@ -90,6 +103,13 @@ returns-then-to-self-clause-edges c =
     let stays : now_of b ≡ time_of_access b c.args.h =
     ap now_of (sym c.self.view_is) ∙ sym c.self.invariant.time ∙ sym c.if-to-self.true ∙ c.requires.to in
     sym (ap (λ (es : List Edge). c.args.edges.now ++ es) (edges-none b c.args.h stays) ∙ append-nil c.args.edges.now)
+
+pub returns-then-to-self-clause-bursts : goal.returns-then-to-self-clause-bursts
+returns-then-to-self-clause-bursts c =
+    let b : BoardParts = c.args.self.now in
+    let stays : now_of b ≡ time_of_access b c.args.h =
+    ap now_of (sym c.self.view_is) ∙ sym c.self.invariant.time ∙ sym c.if-to-self.true ∙ c.requires.to in
+    c.requires.fresh ∙ sym (bursts-none b c.args.h stays)
 
 pub returns-then-to-self-clause-few : goal.returns-then-to-self-clause-few
 returns-then-to-self-clause-few c =
