@@ -23,7 +23,7 @@ rises_after-none format rises = by (leb 2 format)
     by true = rises_with-none line_numbers rises
     by false = refl
 
--- behind the last edge there is none
+-- after the last edge there is none
 drop-length : (es : List Edge) → drop (length es) es ≡ []
 drop-length [] = refl
 drop-length (e ∷ es) = drop-length es

@@ -127,7 +127,7 @@ AreProcessors-none guest_khz cpus n = record {
     none (suc n) zero = refl
     none (suc n) (suc k) = none n k
 
--- the counts of rises behind these edges
+-- the counts of rises after these edges
 pub AreRises-after : (format n m d : ℕ) (before after : List Bool) (es : List Edge) (rises : List ℕ) → length rises ≡ 6 → n + d ≡ m
     → AreRises format n before rises
     → ((line : ℕ) → lifts line es + one_if (level_of line_numbers before line) ≤ d + one_if (level_of line_numbers after line))
@@ -148,7 +148,7 @@ AreRises-none format accesses n lines = record { most = λ k less. omega (arith,
     zeros (suc n) zero = refl
     zeros (suc n) (suc k) = zeros n k
 
--- the wall clock behind an access
+-- the wall clock after an access
 pub IsWall-after : (a : Access) (number version nsec : ℕ) → (publishes_wall a ≡ true → version < LAST_VERSION) → IsWall number version nsec
     → IsWall (wall_number_after a number) (wall_version_after a version) nsec
 IsWall-after (MsrWrite msr v) number version nsec fresh valid = elim (eqb msr MSR_KVM_WALL_CLOCK) as
@@ -163,7 +163,7 @@ IsWall-after (MsrWrite msr v) number version nsec fresh valid = elim (eqb msr MS
     ] fresh
 IsWall-after _ number version nsec fresh valid = valid
 
--- the reference page at power on, and behind a publishing
+-- the reference page at power on, and after a publishing
 pub IsHv-none : (format guest_khz cpus : ℕ) → 1 ≤ cpus → IsHv format guest_khz cpus no_hv
 IsHv-none format guest_khz cpus some = record {
   version = record { most = omega arith; even = omega arith };
@@ -234,7 +234,7 @@ hv_msr cpus format msr v legal is =
     at true e t = leb-true HV_FORMAT format e
     at false e t = absurd (false≢true t)
 
--- the reference page behind an access
+-- the reference page after an access
 pub IsHv-after : (anchor : Anchor) (format guest_khz cpus cpu h : ℕ) (a : Access) (ps : List ProcessorParts) (p : HvParts) → IsKhz guest_khz
     → cpu < cpus → IsTrue (is_legal cpus format a) → (publishes_hv a ≡ true → p.version < LAST_VERSION) → IsHv format guest_khz cpus p
     → IsHv format guest_khz cpus (hv_after anchor guest_khz cpu h a ps p)
@@ -307,7 +307,7 @@ IsJoined-same_time b host valid more same = record {
   hv = valid.hv;
 }
 
--- a board behind what an access does, by what is known of its devices, wall clock, processors and timers
+-- a board after what an access does, by what is known of its devices, wall clock, processors and timers
 pub IsJoined-acted : (b : BoardParts) (cpu h : ℕ) (a : Access) → IsJoined b → b.accesses < MOST_ACCESSES → length b.rises ≡ 6
     → IsWall (wall_number_after a b.wall_number) (wall_version_after a b.wall_version) b.wall_nsec
     → AreProcessors b.guest_khz b.cpus (processors_after b.anchor b.guest_khz cpu h a b.processors)
@@ -335,7 +335,7 @@ IsJoined-acted b cpu h a valid few six wall processors hv apics due lifted = rec
   hv = hv;
 }
 
--- a board behind an access that only reads
+-- a board after an access that only reads
 pub IsJoined-counted : (b : BoardParts) → IsJoined b → b.accesses < MOST_ACCESSES → IsJoined (record b { accesses = b.accesses + 1 })
 IsJoined-counted b valid few = record {
   format = valid.format;

@@ -28,7 +28,7 @@ legal-page cpus format cpu (MsrWrite msr v) inside legal = by _
     by false = tt
 legal-page cpus format cpu _ inside legal = tt
 
--- what an access would raise, told of the wall clock's words and of a page
+-- what an access would raise, for the wall clock's words and for a page
 pub raised-wall : (ps : List ProcessorParts) (wall hv cpu : ℕ) (a : Access) → IfSome (raised_version ps wall hv cpu a) (λ v. v < LAST_VERSION)
     → publishes_wall a ≡ true → wall < LAST_VERSION
 raised-wall ps wall hv cpu a fresh is = subst (λ (v : Option ℕ). IfSome v (λ n. n < LAST_VERSION))

@@ -1,4 +1,4 @@
--- A board behind a run, and behind an access, by its parts.
+-- A board after a run, and after an access, by its parts.
 use Rattle.std.proofs.Common.{◌≡◌, ℕ, ◌+◌, max, List, ap, ◌∙◌}
 use Rattle.board_types.specs.declared.access.Access.{Access}
 use Rattle.board_types.specs.declared.parts.BoardParts.{BoardParts}

@@ -67,7 +67,7 @@ abbrev pub publishes_hv : Access → Bool
 publishes_hv (MsrWrite msr v) = msr == MSR_HV_REFERENCE_TSC
 publishes_hv _ = false
 
--- the page behind an access of a processor at count h
+-- the page after an access of a processor at count h
 unfoldable pub hv_after :
     Anchor → ℕ → ℕ → ℕ → Access → List ProcessorParts → HvParts → HvParts
 hv_after anchor guest_khz cpu h (MsrWrite msr v) ps p =

@@ -29,7 +29,7 @@ first_edge now zero d = None
 first_edge now (suc n) d =
     or_later (first_edge now n d) (at_first_edge (now + n + 1) (run now (suc n) d).edges)
 
--- the first nanosecond behind now, and below `RANGE_NS`, in which a line changes
+-- the first nanosecond after now, and below `RANGE_NS`, in which a line changes
 abbrev pub next_of : ℕ → DeviceParts → Option ℕ
 next_of now d = first_edge now (RANGE_NS - 1 - now) d
 

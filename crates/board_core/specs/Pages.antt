@@ -40,7 +40,7 @@ use Rattle.board_types.specs.declared.parts.ProcessorParts.{ProcessorParts}
 use Rattle.board_core.specs.Tsc.{no_processor, processor_at, with_tsc, tsc_read, msr_written}
 
 -- a processor's page is published at count h, with these flags: its version goes up by 2, and it
--- tells the TSC and the time at h, and the scale of the guest's rate
+-- holds the TSC and the time at h, and the scale of the guest's rate
 unfoldable pub published : Anchor → ℕ → ℕ → ℕ → ProcessorParts → ProcessorParts
 published anchor guest_khz h flags p = record p {
   version = p.version + 2;
@@ -113,7 +113,7 @@ page_reply b cpu h =
     (tsc_by (page_in (processor_at b cpu)).offset h (ratio_of b.guest_khz b.anchor.khz)))
     else Off
 
--- the clamp: a clock tells the greater of a page's reading and of all that was told before
+-- the clamp: a clock reads the greater of a page's reading and of all readings before
 abbrev pub clamped : ℕ → PageReply → ClockReply
 clamped greatest Off = ClockOff
 clamped greatest (On page reading) = ClockOn reading (max reading greatest)

@@ -4,7 +4,7 @@ use Rattle.irq_edges.specs.declared.edges.Edge.{Edge}
 use Rattle.irq_edges.specs.Lines.{line_numbers}
 use Rattle.board_devices.specs.Rises.{rises_with}
 
--- the counts behind these edges, in order of line numbers: each edge upwards counts one
+-- the counts after these edges, in order of line numbers: each edge upwards counts one
 abbrev pub rises_after : ℕ → List Edge → List ℕ → List ℕ
 rises_after format es rises = if nat_le 2 format then rises_with es line_numbers rises else rises
 

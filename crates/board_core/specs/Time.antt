@@ -20,7 +20,7 @@ devices_in b = record {
 abbrev pub now_of : BoardParts → ℕ
 now_of b = time_at b.anchor b.host
 
--- the time of an access at count h: a count behind the board's moves no time (own)
+-- the time of an access at count h: a count before the board's moves no time (own)
 abbrev pub time_of_access : BoardParts → ℕ → ℕ
 time_of_access b h = max (now_of b) (time_at b.anchor h)
 

@@ -56,7 +56,7 @@ tsc_of p = record { offset = p.offset; adjust = p.adjust }
 abbrev pub with_tsc : Tsc → ProcessorParts → ProcessorParts
 with_tsc tsc p = record p { offset = tsc.offset; adjust = tsc.adjust }
 
--- its TSC at count h: the count of the access itself, also where that is behind the board's
+-- its TSC at count h: the count of the access itself, also where that is before the board's
 abbrev pub tsc_read : Anchor → ℕ → ℕ → ProcessorParts → ℕ
 tsc_read anchor guest_khz h p = tsc_at (tsc_of p) h (ratio_of guest_khz anchor.khz)
 
@@ -76,7 +76,7 @@ msr_read b cpu h msr =
     else register_or (register_of msr) (slice_index_or b.apic cpu no_timer)
     (processor_at b cpu).number))))
 
--- the TSC behind a write of v to an MSR at count h: IA32_TIME_STAMP_COUNTER is set to v and
+-- the TSC after a write of v to an MSR at count h: IA32_TIME_STAMP_COUNTER is set to v and
 -- TSC_ADJUST moves with it, or the other way round (Intel SDM, volume 3, "Time-Stamp Counter
 -- Adjustment")
 abbrev pub tsc_after : Anchor → ℕ → ℕ → ℕ → ℕ → Tsc → Tsc
@@ -85,7 +85,7 @@ tsc_after anchor guest_khz h msr v tsc =
     moved_by (difference v (tsc_at tsc h (ratio_of guest_khz anchor.khz))) tsc
     else (if msr == MSR_TSC_ADJUST then moved_by (difference v tsc.adjust) tsc else tsc)
 
--- a processor behind it; MSR_KVM_SYSTEM_TIME_NEW keeps v
+-- a processor after it; MSR_KVM_SYSTEM_TIME_NEW keeps v
 abbrev pub msr_written : Anchor → ℕ → ℕ → ℕ → ℕ → ProcessorParts → ProcessorParts
 msr_written anchor guest_khz h msr v p = record p {
   offset = (tsc_after anchor guest_khz h msr v (tsc_of p)).offset;

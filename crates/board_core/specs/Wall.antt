@@ -12,7 +12,7 @@ abbrev pub publishes_wall : Access → Bool
 publishes_wall (MsrWrite msr v) = msr == MSR_KVM_WALL_CLOCK
 publishes_wall _ = false
 
--- the number that is kept, and the version behind an access: up by 2 with each publishing
+-- the number that is kept, and the version after an access: up by 2 with each publishing
 abbrev pub wall_number_after : Access → ℕ → ℕ
 wall_number_after (MsrWrite msr v) number = if msr == MSR_KVM_WALL_CLOCK then v else number
 wall_number_after _ number = number

@@ -316,7 +316,7 @@ fn act_of(a: Access) -> Act
     }
 }
 
-/// The value of an access: the word that the devices gave, or what the board told.
+/// The value of an access: the word that the devices gave, or what the board itself reads.
 #[inline(always)]
 fn value_with(a: Access, word: u64, told: Value) -> Value
     requires { IsTrue (reads_byte (act_of a)) → word < 256 }
@@ -329,7 +329,7 @@ fn value_with(a: Access, word: u64, told: Value) -> Value
     }
 }
 
-/// The number in MSR_KVM_WALL_CLOCK behind an access.
+/// The number in MSR_KVM_WALL_CLOCK after an access.
 fn wall_number_after(a: Access, number: u64) -> u64
     ensures { result ≡ wall_number_after a number }
 {
@@ -343,7 +343,7 @@ fn wall_number_after(a: Access, number: u64) -> u64
     }
 }
 
-/// The version of the wall clock's words behind an access.
+/// The version of the wall clock's words after an access.
 fn wall_version_after(a: Access, version: u32) -> u32
     requires { IsTrue (publishes_wall a) → version < LAST_VERSION }
     ensures { result ≡ wall_version_after a version }

@@ -1,4 +1,4 @@
-//! The board, and what it tells of itself.
+//! The board, and what can be read of it without an access.
 ghost use Rattle.std.specs.Prelude.{◌≡◌, ◌<◌};
 ghost use Rattle.clk_units.specs.declared.ranges.TheConstants.{RANGE_NS};
 ghost use Rattle.board_types.specs.Setup.{IsSetup};
@@ -128,7 +128,7 @@ impl BoardState {
         self.accesses
     }
 
-    /// The greatest clock reading that was told, in nanoseconds.
+    /// The greatest clock reading of all, in nanoseconds.
     pub fn greatest(&self) -> u64
         ensures { result ≡ self.now.greatest }
     {
@@ -166,7 +166,7 @@ impl BoardState {
         tsc_of(&self.processors[cpu as usize])
     }
 
-    /// The first nanosecond behind the board's time, and below 2^59, in which a line changes if no access comes.
+    /// The first nanosecond after the board's time, and below 2^59, in which a line changes if no access comes.
     #[inline(never)]
     pub fn next_edge(&self) -> Option<u64>
         ensures { result ≡ next_of (now_of self.now) (devices_in self.now) }
@@ -174,7 +174,7 @@ impl BoardState {
         self.devices.next_edge(self.time_ns)
     }
 
-    /// The first nanosecond behind the board's time, and below 2^59, in which a timer of the HPET sends a message if no
+    /// The first nanosecond after the board's time, and below 2^59, in which a timer of the HPET sends a message if no
     /// access comes. No line changes then, so `next_edge` doesn't tell it.
     #[inline(never)]
     pub fn next_message(&self) -> Option<u64>

@@ -33,7 +33,7 @@ impl BoardState {
         Ok(self.page_reply(cpu, h))
     }
 
-    /// What a read of the clock by the page of `cpu` at count `h` answers: no clock tells less than one before it.
+    /// What a read of the clock by the page of `cpu` at count `h` answers: no clock reads less than one before it.
     /// It moves no time and takes no number.
     #[tactic(auto, unfolding(crate::specs::Pages::clock_reply, crate::specs::Pages::after_clock))]
     pub fn clock_of(&mut self, cpu: u8, h: u64) -> Result<ClockReply, TimeFault>
@@ -103,7 +103,7 @@ fn with_tsc(p: ProcessorParts, tsc: Tsc) -> ProcessorParts
     }
 }
 
-/// What a clock tells, by a page's reading and the greatest of all that was told.
+/// What a clock reads, by a page's reading and the greatest of all readings before.
 fn clamped(greatest: u64, read: PageReply) -> ClockReply
     ensures { result ≡ clamped greatest read }
 {
@@ -116,7 +116,7 @@ fn clamped(greatest: u64, read: PageReply) -> ClockReply
     }
 }
 
-/// The greatest of all that was told, with this reading.
+/// The greatest of all readings, with this one.
 fn greatest_with(greatest: u64, read: PageReply) -> u64
     ensures { result ≡ greatest_with greatest read }
 {

@@ -139,7 +139,7 @@ pub fn publishes_hv(a: Access) -> bool
     }
 }
 
-/// The page behind an access of processor `cpu` at count `h`.
+/// The page after an access of processor `cpu` at count `h`.
 #[tactic(auto, unfolding(crate::specs::Hv::hv_after))]
 pub(crate) fn hv_after(
     p: HvParts,

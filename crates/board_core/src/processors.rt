@@ -149,7 +149,7 @@ pub(crate) fn published(
     }
 }
 
-/// The TSC behind a write of `v` to an MSR.
+/// The TSC after a write of `v` to an MSR.
 fn tsc_after(tsc: Tsc, anchor: Anchor, guest_khz: u64, h: u64, msr: u32, v: u64) -> Tsc
     requires { AreRates anchor guest_khz }
     ensures { result ≡ tsc_after anchor guest_khz h msr v tsc }
@@ -166,7 +166,7 @@ fn tsc_after(tsc: Tsc, anchor: Anchor, guest_khz: u64, h: u64, msr: u32, v: u64)
     tsc
 }
 
-/// A processor behind a write of `v` to one of its MSRs.
+/// A processor after a write of `v` to one of its MSRs.
 fn msr_written(
     p: ProcessorParts,
     anchor: Anchor,
@@ -187,7 +187,7 @@ fn msr_written(
     }
 }
 
-/// The number in MSR_KVM_SYSTEM_TIME behind a write of `v` to an MSR.
+/// The number in MSR_KVM_SYSTEM_TIME after a write of `v` to an MSR.
 fn number_after(number: u64, msr: u32, v: u64) -> u64
     ensures { result ≡ (if msr == MSR_KVM_SYSTEM_TIME then v else number) }
 {

@@ -49,7 +49,7 @@ pub(crate) fn count_rises(rises: &mut [u64; 6], format: u8, edges: &EdgeList, fr
     }
 }
 
-/// The same where some came behind place `from`; where none did, no edge stands there.
+/// The same where some came after place `from`; where none did, no edge is there.
 #[inline(always)]
 pub(crate) fn count_rises_where(
     came: bool,

@@ -1,4 +1,4 @@
--- The value of an access in two halves: what the devices gave, and what the board tells by itself.
+-- The value of an access in two halves: what the devices gave, and what the board itself reads.
 use Rattle.std.specs.Prelude.{ℕ}
 use Rattle.irq_edges.specs.Lines.{line_numbers}
 use Rattle.board_types.specs.declared.access.Access.{Access}

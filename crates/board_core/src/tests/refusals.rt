@@ -35,7 +35,7 @@ fn refusals_leave_the_board(rt: HostRuntime) {
     }
 }
 
-/// A board behind one access, whose page has this version, the wall clock's words that one, and so many accesses.
+/// A board after one access, whose page has this version, the wall clock's words that one, and so many accesses.
 fn worn(rt: &impl Abort, version: u32, wall_version: u32, accesses: u64) -> BoardState {
     let mut board = board(Policy::Delay);
     ask(rt, &mut board, 0, ENABLE);
@@ -58,7 +58,7 @@ const WORDS: Access = Access::MsrWrite {
     value: 1,
 };
 
-/// What an access at 7 of a worn board is refused with; where it is, all that the board tells stays.
+/// What an access at 7 of a worn board is refused with; where it is, all that can be read of the board stays.
 fn refusal(rt: &impl Abort, mut board: BoardState, access: Access) -> Option<Refusal> {
     if board.cpus() == 0 || !access.legal(board.cpus(), board.format()) {
         panic!(rt; "{access:?} isn't legal");
