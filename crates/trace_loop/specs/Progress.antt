@@ -1,6 +1,7 @@
 -- What is known, and what was printed, after some bytes of a trace, whatever answers its lines: A
 -- is what is kept from line to line, and E how a trace may end.
 use Rattle.std.specs.Str.{bytes_eq}
+use Rattle.trace_loop.specs.declared.lines.TheConstants.{LINE_MAX, STATE_LINE_MAX}
 use Rattle.std.specs.Prelude.{
   ℕ,
   ◌+◌,
@@ -21,7 +22,7 @@ use Rattle.std.specs.Prelude.{
 
 -- how many bytes a line may have without its end: one that begins with `state ` has more
 unfoldable pub limit_of : List ℕ → ℕ
-limit_of text = if bytes_eq (take 6 text) (codes "state ") then 200000 else 128
+limit_of text = if bytes_eq (take 6 text) (codes "state ") then STATE_LINE_MAX else LINE_MAX
 
 -- what ends a trace prints, and how it ends
 pub record Closing (E : Type 0) : Type 0 where

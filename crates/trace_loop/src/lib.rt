@@ -14,6 +14,6 @@ mod program;
 
 pub use answerer::Answerer;
 pub use ended::Ended;
-pub use lines::limit_of;
+pub use lines::{LINE_MAX, STATE_LINE_MAX, limit_of};
 pub use output::{put_all, say, say_each};
 pub use program::{MEMORY_FAULT, answer_lines};

@@ -38,7 +38,13 @@ use memchr::memchr;
 use std::alloc::Global;
 use std::marker::Model;
 
-/// The prefix of a line that may have more bytes than others.
+/// The most bytes that a line has, without its end.
+pub const LINE_MAX: usize = 128;
+
+/// The most bytes that a line which begins with `state ` has, without its end.
+pub const STATE_LINE_MAX: usize = 200_000;
+
+/// How a line begins that may have more bytes than others.
 const STATE: &[u8] = b"state ";
 
 /// How many bytes are taken from the source at a time.
@@ -299,14 +305,14 @@ fn append_part(out: &mut Vec<u8>, piece: &[u8], from: usize, to: usize) -> Resul
     append(out, &piece[from..to])
 }
 
-/// How many bytes a line may have without its end: 128, and 200,000 where it begins with `state `.
+/// How many bytes a line may have without its end, by how it begins.
 pub fn limit_of(text: &[u8]) -> usize
     ensures { result ≡ limit_of text.now }
 {
     if starts_with(text, STATE) {
-        200_000
+        STATE_LINE_MAX
     } else {
-        128
+        LINE_MAX
     }
 }
 
@@ -322,9 +328,9 @@ fn limit_across(kept: &[u8], rest: &[u8]) -> usize
         return limit_of(kept);
     }
     if starts_across(kept, rest) {
-        200_000
+        STATE_LINE_MAX
     } else {
-        128
+        LINE_MAX
     }
 }
 

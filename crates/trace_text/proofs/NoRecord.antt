@@ -8,7 +8,8 @@ use Rattle.std.specs.Str.{bytes_eq}
 use Rattle.std.proofs.lemmas.Bool.{lt-ltb, le-ltb, cases_lt, ne_eqb, leb-false}
 use Rattle.trace_text.specs.Tokens.{words_of, dec, decimal_in, number_in}
 use Rattle.trace_text.specs.Records.{record_of}
-use Rattle.trace_text.specs.Lines.{limit_of, is_skipped, stepped, step_of, Step, next, item_in, record_in}
+use Rattle.trace_loop.specs.Progress.{limit_of}
+use Rattle.trace_text.specs.Lines.{is_skipped, stepped, step_of, Step, next, item_in, record_in}
 use Rattle.trace_text.specs.private.Lines.{IsNoRecord}
 use Rattle.trace_text.specs.declared.faults.Reason.{Reason}
 use Rattle.trace_text.specs.declared.faults.Reason.TheVariants.{TooLong}

@@ -29,7 +29,8 @@ use Rattle.hex.specs.Hex.{decode_pairs}
 use Rattle.byte_table.specs.Kinds.{plain}
 use Rattle.save_state.specs.Fields.{head as first_fields}
 use Rattle.save_state.specs.Table.{fault_of}
-use Rattle.trace_text.specs.Lines.{limit_of, stepped, item_in, taken, behind, at_start, end_fault}
+use Rattle.trace_loop.specs.Progress.{limit_of}
+use Rattle.trace_text.specs.Lines.{stepped, item_in, taken, behind, at_start, end_fault}
 use Rattle.trace_text.specs.declared.faults.Reason.{Reason}
 use Rattle.trace_text.specs.declared.faults.Reason.TheVariants.{Form, Steal, Cpu, CounterFell, StateBytes, TooLong, NoEnd}
 use Rattle.trace_text.specs.declared.records.Body.{Body}
@@ -384,14 +385,6 @@ long_comment = refl
 longest_comment : taken at_start (35 ∷ replicate 127 32) ≡ Ok Skipped
 unfolding stepped limit_of
 longest_comment = refl
-
-limit_of_a_state : limit_of (codes "state 00") ≡ 200000
-unfolding limit_of
-limit_of_a_state = refl
-
-limit_of_another : limit_of (codes "state") ≡ 128
-unfolding limit_of
-limit_of_another = refl
 
 no_end : end_fault (record { lines = 2; stage = Opening }) ≡ record { line = 3; reason = NoEnd }
 no_end = refl

@@ -12,7 +12,6 @@ use Rattle.std.specs.Prelude.{
   [],
   ◌∷◌,
   length,
-  take,
   Option,
   Some,
   None,
@@ -24,6 +23,8 @@ use Rattle.std.specs.Prelude.{
   codes,
 }
 use Rattle.std.specs.Str.{bytes_eq}
+use Rattle.trace_loop.specs.Progress.{limit_of}
+use Rattle.trace_loop.specs.declared.lines.TheConstants.{LINE_MAX}
 use Rattle.trace_text.specs.Tokens.{words_of}
 use Rattle.trace_text.specs.Records.{record_of, read_alone, body_behind, IsRecord}
 use Rattle.trace_text.specs.Header.{first_line, header_line, header_of, body_of, IsHead, IsBegin}
@@ -50,10 +51,6 @@ use Rattle.trace_text.specs.declared.reading.Stage.TheVariants.{
   Refused,
 }
 use Rattle.trace_text.specs.declared.reading.ReadingParts.{ReadingParts}
-
--- how long a line may be, its end not counted: a saved state's line is longer
-unfoldable pub limit_of : List ℕ → ℕ
-limit_of line = if bytes_eq (take 6 line) (codes "state ") then 200000 else 128
 
 -- an empty line, and one that begins with `#`, is skipped
 abbrev pub is_skipped : List ℕ → Bool
@@ -198,12 +195,12 @@ IsRecordAt (Running body) r = IsRecord body r
 IsRecordAt Ended r = ⊥
 IsRecordAt (Refused fault) r = ⊥
 
--- a line of at most 128 bytes that is read alone as the same record
+-- a line of few bytes that is read alone as the same record
 abbrev pub IsAlone : Stage → List ℕ → Record → Type 0
 IsAlone Opening line r = ⊥
 IsAlone (Heading head) line r = ⊥
 IsAlone (Running body) line r =
-    (length line ≤ 128) × (read_alone body.format body.cpus line ≡ Ok r)
+    (length line ≤ LINE_MAX) × (read_alone body.format body.cpus line ≡ Ok r)
 IsAlone Ended line r = ⊥
 IsAlone (Refused fault) line r = ⊥
 

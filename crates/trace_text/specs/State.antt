@@ -26,6 +26,7 @@ use Rattle.save_state.specs.Places.{format_in}
 use Rattle.save_state.specs.Reading.{board_in}
 use Rattle.save_state.specs.Table.{fault_of}
 use Rattle.save_state.specs.declared.fault.StateFault.{StateFault}
+use Rattle.trace_loop.specs.declared.lines.TheConstants.{STATE_LINE_MAX}
 use Rattle.trace_text.specs.Tokens.{first}
 use Rattle.trace_text.specs.declared.faults.Reason.{Reason}
 use Rattle.trace_text.specs.declared.faults.Reason.TheVariants.{StateBytes}
@@ -35,10 +36,10 @@ abbrev pub decoded : Result (List ℕ) FromHexError → Option (List ℕ)
 decoded (Ok bytes) = Some bytes
 decoded (Err fault) = None
 
--- HEXES: bytes of two digits each, of either case, at least one; no line has 200,000 digits
+-- HEXES: bytes of two digits each, of either case, at least one, and no more than a line has bytes
 abbrev pub hexes_in : List ℕ → Option (List ℕ)
 hexes_in word =
-    if (length word == 0) || nat_lt 200000 (length word) then None else decoded (decode_of word)
+    if (length word == 0) || nat_lt STATE_LINE_MAX (length word) then None else decoded (decode_of word)
 
 abbrev pub hexes : List (List ℕ) → Option (List ℕ)
 hexes = first hexes_in

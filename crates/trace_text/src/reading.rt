@@ -39,15 +39,17 @@ ghost use Rattle.trace_text.specs.Lines.{
   item_in,
   stage_in,
   met,
-  limit_of,
   is_skipped,
 };
+ghost use Rattle.trace_loop.specs.Progress.{limit_of};
+ghost use Rattle.trace_loop.specs.declared.lines.TheConstants.{LINE_MAX};
 
 use crate::faults::{Reason, RecordFault};
 use crate::header::{Head, Header, first_line};
 use crate::records::{Body, Job, Record};
 use crate::words::Words;
 use std::marker::Model;
+use trace_loop::{LINE_MAX, limit_of};
 
 /// What a line is.
 #[derive(Clone, Copy)]
@@ -117,9 +119,9 @@ impl Reading {
         }
     }
 
-    /// Takes the next line, without its end. A line over its limit of 128 bytes, or 200,000 where it begins with
-    /// `state `, may be handed in up to its first byte too many. `end` must not have been taken, and fewer than
-    /// 2^63 lines. After a fault the same fault comes again, whatever the line.
+    /// Takes the next line, without its end. A line over the limit that trace_loop's `limit_of` says may be handed in
+    /// up to its first byte too many. `end` must not have been taken, and fewer than 2^63 lines. After a fault the same
+    /// fault comes again, whatever the line.
     pub fn take_line(&mut self, line: &[u8]) -> Result<Item, RecordFault>
         requires open { IsOpen self.old.stage }
         requires few { self.old.lines < 2 ^ 63 }
@@ -342,18 +344,6 @@ impl Stage {
     }
 }
 
-/// How long a line may be: one that begins with `state ` has a saved state.
-#[tactic(auto, unfolding(crate::specs::Lines::limit_of))]
-fn limit_of(line: &[u8]) -> usize
-    ensures { result ≡ limit_of line.now }
-{
-    if line.starts_with(b"state ") {
-        200_000
-    } else {
-        128
-    }
-}
-
 /// Whether a line is empty or a comment.
 fn is_skipped(line: &[u8]) -> bool
     ensures { result ≡ is_skipped line.now }
@@ -367,14 +357,14 @@ fn is_skipped(line: &[u8]) -> bool
 /// Whether a line is of words, and isn't `end`: it is short, and begins with a digit.
 #[inline(always)]
 fn may_be_record(line: &[u8]) -> bool
-    ensures short { OnTrue result (length line.now ≤ 128) }
+    ensures short { OnTrue result (length line.now ≤ LINE_MAX) }
     ensures within { OnTrue result (nat_lt (limit_of line.now) (length line.now) ≡ false) }
     ensures words { OnTrue result (is_skipped line.now ≡ false) }
     ensures record { OnTrue result (bytes_eq line.now (codes "end") ≡ false) }
     ensures cause { OnFalse result (IsNoRecord line.now) }
 {
     match line {
-        [b'0'..=b'9', ..] => line.len() <= 128,
+        [b'0'..=b'9', ..] => line.len() <= LINE_MAX,
         _ => false,
     }
 }

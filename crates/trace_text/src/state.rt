@@ -10,9 +10,7 @@ ghost use Rattle.trace_text.specs.private.State.{restored_digits};
 use crate::faults::Reason;
 use board_core::BoardState;
 use save_state::{StateFault, decode};
-
-/// The most digits that a line can have.
-const MOST_DIGITS: usize = 200_000;
+use trace_loop::STATE_LINE_MAX;
 
 /// The place of a saved state's version, which is a number of two bytes.
 const VERSION: u64 = 8;
@@ -25,10 +23,10 @@ pub(crate) fn board_of(digits: &[u8], format: u8) -> Result<BoardState, Reason>
     ensures board { result ≡ restored_digits format digits.now }
     ensures few { IfOk result (λ b. b.cpus ≤ 64) }
 {
-    if digits.is_empty() || digits.len() > MOST_DIGITS {
+    if digits.is_empty() || digits.len() > STATE_LINE_MAX {
         return Err(Reason::Form);
     }
-    let mut buffer = [0; MOST_DIGITS / 2];
+    let mut buffer = [0; STATE_LINE_MAX / 2];
     let bytes = &mut buffer[..digits.len() / 2];
     if decode_digits(digits, bytes) {
         restored(bytes, format)
