@@ -200,3 +200,14 @@ or_else-end (Some fault) = refl
 pub size_of-append : {F B P : Type 0} (fs gs : List (Field F B P)) → size_of (fs ++ gs) ≡ size_of fs + size_of gs
 size_of-append [] gs = omega arith
 size_of-append (f ∷ fs) gs = let rest = size_of-append fs gs in omega (arith, rest)
+
+-- where a list ends that follows another, and the first fault of the two, or a later one
+pub end-next : {F B P : Type 0} (fs gs : List (Field F B P)) (place at n : ℕ) → place + size_of fs ≡ at → size_of gs ≡ n → place + size_of (fs ++ gs) ≡ at + n
+end-next fs gs place at n there size = let both = size_of-append fs gs in omega (arith, both, there, size)
+
+pub fault-next : {F B P : Type 0} (fs gs : List (Field F B P)) (b : B) (p : P) (place at : ℕ) (bytes : List ℕ) (later : Option F) → place + size_of fs ≡ at
+    → or_else (fault_in (fs ++ gs) b p place bytes) later ≡ or_else (fault_in fs b p place bytes) (or_else (fault_in gs b p at bytes) later)
+fault-next {F = F} fs gs b p place at bytes later there =
+    ap (λ (o : Option F). or_else o later) (fault_in-append fs gs b p place bytes)
+    ∙ or_else-assoc (fault_in fs b p place bytes) (fault_in gs b p (place + size_of fs) bytes) later
+    ∙ ap (λ (n : ℕ). or_else (fault_in fs b p place bytes) (or_else (fault_in gs b p n bytes) later)) there

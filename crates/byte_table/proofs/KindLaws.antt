@@ -120,22 +120,22 @@ below-length {T = T} fields blank b ts bytes k (suc n) all =
     ∙ (λ i. length-write (fields k) b t bytes (all k (omega arith) (omega arith)) i
     + below-length fields blank b ts bytes (suc k) n (λ j low high. all j (omega arith) (omega arith)) i)
 
-below-back : {F B T : Type 0} (fields : ℕ → List (Field F B T)) (blank : T) → ((k : ℕ) (t : T) → moved (fields k) t blank ≡ t) → (b : B) (ts : List T) (bytes : List ℕ) (k n : ℕ)
-    → k + n ≤ length ts → AllBlocks fields blank b ts bytes k n → (place : ℕ) (rest : List ℕ) → drop place bytes ≡ write_below fields blank ts k n ++ rest
+below-back : {F B T : Type 0} (fields : ℕ → List (Field F B T)) (blank : T) → (b : B) (ts : List T)
+    → ((k : ℕ) → k < length ts → moved (fields k) (get_or ts k blank) blank ≡ get_or ts k blank) → (bytes : List ℕ) (k n : ℕ) → k + n ≤ length ts → AllBlocks fields blank b ts bytes k n → (place : ℕ) (rest : List ℕ) → drop place bytes ≡ write_below fields blank ts k n ++ rest
     → (read_below fields blank k n place bytes ++ drop (k + n) ts ≡ drop k ts) × (place ≤ length bytes → fault_below fields blank b ts k n place bytes ≡ None)
-below-back fields blank covers b ts bytes k zero le all place rest e = let at : k + 0 ≡ k = omega arith in (ap (λ (m : ℕ). drop m ts) at, λ there. refl)
-below-back {T = T} fields blank covers b ts bytes k (suc n) le all place rest e =
+below-back fields blank b ts covers bytes k zero le all place rest e = let at : k + 0 ≡ k = omega arith in (ap (λ (m : ℕ). drop m ts) at, λ there. refl)
+below-back {T = T} fields blank b ts covers bytes k (suc n) le all place rest e =
     let t : T = get_or ts k blank in
     let s : ℕ = size_of (fields k) in
     let here = all k (omega arith) (omega arith) in
     let tail : List ℕ = write_below fields blank ts (suc k) n ++ rest in
     let len = length-write (fields k) b t bytes here in
     let first = split (drop place bytes) (write (fields k) t) (write_below fields blank ts (suc k) n) rest e in
-    let later = below-back fields blank covers b ts bytes (suc k) n (omega arith) (λ j low high. all j (omega arith) (omega arith)) (place + s) rest
+    let later = below-back fields blank b ts covers bytes (suc k) n (omega arith) (λ j low high. all j (omega arith) (omega arith)) (place + s) rest
     (next place s bytes (write (fields k) t) tail len first) in
     let at : k + suc n ≡ suc k + n = omega arith in
     let one : suc k ≡ k + 1 = omega arith in (
-      (λ i. (read-write (fields k) b t blank bytes here place tail first ∙ covers k t) i
+      (λ i. (read-write (fields k) b t blank bytes here place tail first ∙ covers k (omega (arith, le))) i
           ∷ (read_below fields blank (suc k) n (place + s) bytes ++ drop (at i) ts))
           ∙ ap (λ (us : List T). t ∷ us) (later.0 ∙ ap (λ (m : ℕ). drop m ts) one) ∙ sym (drop_more ts k blank (omega arith)),
       λ there.
@@ -144,7 +144,7 @@ below-back {T = T} fields blank covers b ts bytes k (suc n) le all place rest e 
     )
 
 pub blocks-here : {F B P T : Type 0} (n all : ℕ) (fields : ℕ → List (Field F B T)) (blank : T) (get : P → List T) (put : List T → P → P) (b : B) (p : P) (bytes : List ℕ)
-    → ((k : ℕ) (t : T) → moved (fields k) t blank ≡ t) → n ≤ length (get p) → AllBlocks fields blank b (get p) bytes 0 n
+    → ((k : ℕ) → k < length (get p) → moved (fields k) (get_or (get p) k blank) blank ≡ get_or (get p) k blank) → n ≤ length (get p) → AllBlocks fields blank b (get p) bytes 0 n
     → drop n (get p) ≡ replicate (all - n) blank → IsHere (blocks n all fields blank get put) b p bytes
 unfolding blocks
 blocks-here n all fields blank get put b p bytes covers le each others =
@@ -154,8 +154,8 @@ blocks-here n all fields blank get put b p bytes covers le each others =
       size_is = below-length fields blank b (get p) bytes 0 n each;
       back = λ place rest q e.
           (λ i. put (read_below fields blank 0 n place bytes ++ (sym others ∙ ap (λ (m : ℕ). drop m (get p)) at) i) q)
-          ∙ (λ i. put ((below-back fields blank covers b (get p) bytes 0 n room each place rest e).0 i) q);
-      none = λ place rest there e. (below-back fields blank covers b (get p) bytes 0 n room each place rest e).1 there;
+          ∙ (λ i. put ((below-back fields blank b (get p) covers bytes 0 n room each place rest e).0 i) q);
+      none = λ place rest there e. (below-back fields blank b (get p) covers bytes 0 n room each place rest e).1 there;
     }
 
 -- what is read of a block is written as its bytes are

@@ -4,4 +4,5 @@ pub mod CodeLaws
 pub mod KindLaws
 pub mod Little
 pub mod Loops
+pub mod Pairs
 mod Rows

@@ -1,7 +1,8 @@
 -- Numbers by their bytes.
-use Rattle.std.proofs.Common.{◌≡◌, ℕ, ◌+◌, ◌*◌, List, get_or, drop, ap, sym, ◌∙◌, arith}
+use Rattle.std.proofs.Common.{◌≡◌, ℕ, ◌+◌, ◌*◌, ◌<◌, List, get_or, drop, ap, sym, ◌∙◌, arith}
 use Rattle.std.proofs.lemmas.List.{get_or-drop}
 use Rattle.byte_table.specs.Codes.{number_at}
+use Rattle.byte_table.proofs.FoldLaws.{AreBytes}
 
 -- a byte of the rest, by its place
 here : (p q i j : ℕ) (xs : List ℕ) → p + i ≡ q + j → get_or (drop p xs) i 0 ≡ get_or (drop q xs) j 0
@@ -29,3 +30,8 @@ number_at-8 p xs =
     let e6 : get_or (drop p xs) 6 0 ≡ get_or (drop (p + 4) xs) 2 0 = here p (p + 4) 6 2 xs (omega arith) in
     let e7 : get_or (drop p xs) 7 0 ≡ get_or (drop (p + 4) xs) 3 0 = here p (p + 4) 7 3 xs (omega arith) in
     omega (arith, e4, e5, e6, e7)
+
+-- a number of four bytes has its range
+pub number-below : (bytes : List ℕ) → AreBytes bytes → (p : ℕ) → number_at 4 p bytes < 4294967296
+number-below bytes small p =
+    omega (arith, number_at-4 p bytes, number_at-2 p bytes, number_at-2 (p + 2) bytes, small p, small (p + 1), small (p + 2), small (p + 2 + 1))

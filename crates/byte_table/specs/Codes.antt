@@ -147,6 +147,12 @@ both a c = record {
   spelled = λ place bytes. a.spelled place bytes && c.spelled (place + a.size) bytes;
 }
 
+-- the items of two lists, side by side
+abbrev pub pairs : {A C : Type 0} → List A → List C → List (Two A C)
+pairs [] ys = []
+pairs (x ∷ xs) [] = []
+pairs (x ∷ xs) (y ∷ ys) = record { first = x; second = y } ∷ pairs xs ys
+
 -- the first n values of a list
 unfoldable pub row_bytes : {A : Type 0} → Code A → ℕ → List A → List ℕ
 row_bytes c zero xs = []
