@@ -1,5 +1,5 @@
 -- The rows of each block, by what code knows of it.
-use Rattle.std.proofs.Common.{◌≡◌, ℕ, ◌+◌, ◌*◌, ◌%◌, Bool, true, false, leb, ltb, eqb, ◌&&◌, ◌||◌, List, [], ◌∷◌, refl, ap, ◌∙◌, arith}
+use Rattle.std.proofs.Common.{◌≡◌, ℕ, ◌+◌, ◌*◌, ◌%◌, Bool, true, false, leb, ltb, eqb, not, ◌&&◌, ◌||◌, List, [], ◌∷◌, refl, ap, ◌∙◌, arith}
 use Rattle.std.specs.Int.{w8, cast_unsigned}
 use Rattle.clk_units.specs.declared.ranges.TheConstants.{RANGE_NS}
 use Rattle.pit_counter.specs.declared.parts.CounterParts.{CounterParts}
@@ -11,9 +11,12 @@ use Rattle.tick_policy.specs.declared.parts.TickParts.{TickParts}
 use Rattle.tick_policy.specs.Parts.{queue_valid, lost_valid}
 use Rattle.pvclock_page.specs.Scale.{mul_for, shift_for}
 use Rattle.board_types.specs.declared.parts.BoardParts.{BoardParts}
+use Rattle.lapic_timer.specs.declared.parts.ApicParts.{ApicParts}
+use Rattle.lapic_timer.specs.Parts.{lvt_valid, divide_valid, initial_valid, current_valid, phase_valid, deadline_valid}
+use Rattle.board_types.specs.declared.parts.HvParts.{HvParts}
 use Rattle.board_types.specs.declared.parts.ProcessorParts.{ProcessorParts}
 use Rattle.board_types.specs.declared.parts.TheConstants.{MOST_ACCESSES}
-use Rattle.board_types.specs.Setup.{processors_of}
+use Rattle.board_types.specs.Setup.{has_messages, processors_of}
 use Rattle.board_types.specs.declared.setup.TheConstants.{LAST_FORMAT, SLEW_MAX_NS}
 use Rattle.board_core.specs.Time.{now_of}
 use Rattle.byte_table.specs.Codes.{byte_at, number_at, flag_valid, number, byte}
@@ -23,7 +26,7 @@ use Rattle.save_state.specs.declared.table.Row.{Row}
 use Rattle.save_state.specs.declared.fault.StateFault.{StateFault}
 use Rattle.save_state.specs.declared.fault.StateKind.{StateKind}
 use Rattle.save_state.specs.declared.fault.StateKind.TheVariants.{Magic, Version, Field as Invalid}
-use Rattle.save_state.specs.Fields.{faults_of, magic, khz_valid, host_valid, head, host, guest, policies, front, clock, registers, counter, timer, line, up_allowed, tsc, page, processor, wall, rise_valid, rises}
+use Rattle.save_state.specs.Fields.{faults_of, magic, khz_valid, host_valid, head, host, guest, policies, front, clock, registers, counter, timer, line, up_allowed, tsc, page, processor, wall, legacy_rises_valid, routed_rises_valid, rises, Message, message, version_valid, published_valid, apic_timer, apic_line, apic, scale_for, reference}
 use Rattle.save_state.specs.private.Rows.{field, row_fault, processor_rows}
 use Rattle.byte_table.proofs.FoldLaws.{◌⨾◌}
 use Rattle.byte_table.proofs.CodeLaws.{row_spelled-each}
@@ -88,7 +91,7 @@ processor-rows k b x p bytes =
     ⨾ is refl refl ⨾ tt)
 
 pub wall-rows : (b : BoardParts) (p : ℕ) (bytes : List ℕ)
-    → row_fault bytes p (field 8 true ∷ field 4 (eqb (b.wall_version % 2) 0 && (ltb 0 b.wall_version || eqb b.wall_number 0)) ∷ field 4 true
+    → row_fault bytes p (field 8 true ∷ field 4 (version_valid b.wall_version (eqb b.wall_number 0)) ∷ field 4 true
     ∷ field 4 (ltb b.wall_nsec 1000000000) ∷ []) ≡ fault_in wall b b p bytes
 unfolding wall plain
 wall-rows b p bytes = rows-are wall b b p bytes _ (is refl refl ⨾ is refl refl ⨾ is refl refl ⨾ is refl refl ⨾ tt)
@@ -121,10 +124,32 @@ head-rows b bytes =
     ⨾ is refl (alone Invalid 1 77 (ltb (byte_at 77 bytes) 3) bytes) ⨾ is refl (alone Invalid 1 78 (ltb (byte_at 78 bytes) 3) bytes) ⨾ tt)
 
 pub rises-rows : (counts : ℕ) (b : BoardParts) (p : ℕ) (bytes : List ℕ)
-    → row_fault bytes p (field (8 * counts) (rise_valid b 0 && rise_valid b 1 && rise_valid b 2 && rise_valid b 3 && rise_valid b 4 && rise_valid b 5) ∷ [])
-    ≡ fault_in (rises counts) b b p bytes
+    → row_fault bytes p (field (8 * counts) (legacy_rises_valid b && (has_messages b.format || routed_rises_valid b)) ∷ []) ≡ fault_in (rises counts) b b p bytes
 unfolding rises row
 rises-rows counts b p bytes =
-    let all = rise_valid b 0 && rise_valid b 1 && rise_valid b 2 && rise_valid b 3 && rise_valid b 4 && rise_valid b 5 in
+    let all = legacy_rises_valid b && (has_messages b.format || routed_rises_valid b) in
     rows-are (rises counts) b b p bytes _
     (is refl (ap (λ (s : Bool). one_fault (faults_of Invalid) (8 * counts) (s && all) p bytes) (row_spelled-each (number 8) bytes (λ place. refl) counts p)) ⨾ tt)
+
+pub message-rows : (k : ℕ) (b : BoardParts) (m : Message) (p : ℕ) (bytes : List ℕ)
+    → row_fault bytes p (field 1 (flag_valid p bytes && (not (eqb k 7) || routed_rises_valid b)) ∷ field 8 true ∷ []) ≡ fault_in (message k) b m p bytes
+unfolding message plain
+message-rows k b m p bytes = rows-are (message k) b m p bytes _ (is refl refl ⨾ is refl refl ⨾ tt)
+
+pub apic-rows : (k : ℕ) (b : BoardParts) (x : ApicParts) (l : TickParts) (p : ℕ) (bytes : List ℕ)
+    → row_fault bytes p (field 4 (lvt_valid x) ∷ field 1 (divide_valid x) ∷ field 4 (initial_valid x) ∷ field 4 (current_valid x) ∷ field 1 (phase_valid x)
+    ∷ field 8 (deadline_valid x) ∷ field 1 (flag_valid (p + 22) bytes) ∷ field 8 (leb l.counts.due (now_of b + b.accesses)) ∷ field 8 true
+    ∷ field 8 (queue_valid l) ∷ field 8 (lost_valid l) ∷ []) ≡ fault_in (apic k) b (record { first = x; second = l }) p bytes
+unfolding apic_timer apic_line plain
+apic-rows k b x l p bytes =
+    rows-are (apic k) b (record { first = x; second = l }) p bytes _ (is refl refl ⨾ is refl refl ⨾ is refl refl ⨾ is refl refl ⨾ is refl refl ⨾ is refl refl
+    ⨾ is refl (at 1 (p + 4 + 1 + 4 + 4 + 1 + 8) (p + 22) true bytes (omega arith) ∙ alone Invalid 1 _ (flag_valid (p + 22) bytes) bytes)
+    ⨾ is refl refl ⨾ is refl refl ⨾ is refl refl ⨾ is refl refl ⨾ tt)
+
+pub reference-rows : (b : BoardParts) (x : HvParts) (p : ℕ) (bytes : List ℕ)
+    → row_fault bytes p (field 8 true ∷ field 4 (version_valid x.version (eqb x.number 0)) ∷ field 1 (published_valid x.version x.cpu (ltb x.cpu b.cpus))
+    ∷ field 8 (eqb x.scale (scale_for b.guest_khz x.number)) ∷ field 8 (ltb 0 x.scale || eqb x.offset 0) ∷ field 8 (ltb 0 x.scale || eqb x.tsc_offset 0) ∷ [])
+    ≡ fault_in (reference 0) b x p bytes
+unfolding reference plain
+reference-rows b x p bytes =
+    rows-are (reference 0) b x p bytes _ (is refl refl ⨾ is refl refl ⨾ is refl refl ⨾ is refl refl ⨾ is refl refl ⨾ is refl refl ⨾ tt)

@@ -1,6 +1,6 @@
 -- The laws of each block: its fields cover it, what is read is written as its bytes are, and what is written is read as it was.
 use Rattle.std.proofs.Common.{◌≡◌, ℕ, zero, suc, ◌+◌, ◌*◌, ◌%◌, ◌<◌, ◌≤◌, ⊎_elim, Bool, true, eqb, ltb, leb, not, ◌||◌, List, refl, ap, ◌∙◌, arith}
-use Rattle.std.proofs.lemmas.Bool.{lt-ltb, le-leb, eq-eqb, and_from, or_left, ne_eqb, cond-true, cond-false, cases_lt}
+use Rattle.std.proofs.lemmas.Bool.{lt-ltb, le-leb, leb-true, eq-eqb, eqb-true, and_from, and_parts}
 use Rattle.std.specs.Int.{w8, cast_unsigned}
 use Rattle.clk_units.specs.declared.ranges.TheConstants.{RANGE_NS}
 use Rattle.pvclock_page.specs.Scale.{mul_for, shift_for}
@@ -23,12 +23,12 @@ use Rattle.board_core.specs.Tsc.{no_processor}
 use Rattle.byte_table.specs.Codes.{byte_at, number, byte, flag}
 use Rattle.byte_table.specs.Fold.{moved}
 use Rattle.byte_table.specs.Kinds.{plain, elsewhere}
-use Rattle.byte_table.proofs.FoldLaws.{◌⨾◌, AllHere, AllSpelled}
+use Rattle.byte_table.proofs.FoldLaws.{◌⨾◌, AllHere, AllSpelled, AllHold, all_here-append, all_spelled-append}
 use Rattle.byte_table.proofs.CodeLaws.{IsWritten, IsCode, number-written, number-code, byte-written, byte-code, signed_byte-written, signed_byte-code, flag-written, flag-code}
 use Rattle.byte_table.proofs.CodeLaws.{flags-written, flags-code, choice-written, choice-code, both-written, both-code}
 use Rattle.byte_table.proofs.KindLaws.{plain-here, plain-spelled, elsewhere-here, elsewhere-spelled, AreBlocks}
-use Rattle.save_state.specs.Fields.{policy, policy_place, counter, no_counter, flags_from, timer, line, up_allowed, tsc, page, processor, version_valid, page_valid}
-use Rattle.save_state.specs.private.Fits.{CounterFits, TimerFits, LineFits, ProcessorFits}
+use Rattle.save_state.specs.Fields.{policy, policy_place, counter, no_counter, flags_from, timer, line, up_allowed, ticks_of, line_ticks, line_policy}
+use Rattle.save_state.specs.private.Fits.{CounterFits, TimerFits, LineFits}
 
 -- a policy
 pub policy-written : (p : Policy) → IsWritten policy p
@@ -106,11 +106,17 @@ pub line-covers : (k : ℕ) (t q : TickParts) → moved (line k) t q ≡ t
 unfolding line plain elsewhere
 line-covers k t q = refl
 
+-- the fields that all tick lines have
+pub ticks-spelled : {T : Type 0} (of : T → TickParts) (with_line : TickParts → T → T) (up : BoardParts → T → Bool) → AllSpelled (ticks_of of with_line up)
+ticks-spelled of with_line up =
+    plain-spelled _ _ _ _ _ flag-code ⨾ plain-spelled _ _ _ _ _ (number-code 8) ⨾ plain-spelled _ _ _ _ _ (number-code 8)
+    ⨾ plain-spelled _ _ _ _ _ (number-code 8) ⨾ plain-spelled _ _ _ _ _ (number-code 8) ⨾ tt
+
 line-spelled : (k : ℕ) → AllSpelled (line k)
 unfolding line
 line-spelled k =
-    plain-spelled _ _ _ _ _ flag-code ⨾ plain-spelled _ _ _ _ _ (number-code 8) ⨾ plain-spelled _ _ _ _ _ (number-code 8)
-    ⨾ plain-spelled _ _ _ _ _ (number-code 8) ⨾ plain-spelled _ _ _ _ _ (number-code 8) ⨾ elsewhere-spelled _ _ _ _ ⨾ tt
+    all_spelled-append (line_ticks k) (line_policy k)
+    (ticks-spelled (λ (x : TickParts). x) (λ (x y : TickParts). x) (λ (c : BoardParts) (x : TickParts). up_allowed c k x.up)) (elsewhere-spelled _ _ _ _ ⨾ tt)
 
 pub line-laws : AreBlocks line no_line
 unfolding line plain elsewhere
@@ -129,73 +135,45 @@ by_policy_lost Discard c follows = refl
 by_policy_lost Delay c follows = eq-eqb c.lost 0 follows
 by_policy_lost Slew c follows = eq-eqb c.lost 0 follows
 
+pub ticks-here : {T : Type 0} (b : BoardParts) (t : T) (bytes : List ℕ) (of : T → TickParts) (with_line : TickParts → T → T) (up : BoardParts → T → Bool)
+    → IsTickLine (of t) → up b t ≡ true → (of t).counts.due ≤ now_of b + b.accesses → LineFits (of t) → AllHere (ticks_of of with_line up) b t bytes
+ticks-here b t bytes of with_line up is up_is due fits =
+    let l : TickParts = of t in
+    let queue : queue_valid l ≡ true = by_policy_queue l.policy l.counts is.policy in
+    let lost : lost_valid l ≡ true = and_from _ _ (eq-eqb l.counts.due _ is.sum) (by_policy_lost l.policy l.counts is.policy) in
+    plain-here _ _ _ _ _ b t bytes (flag-written l.up) up_is ⨾ plain-here _ _ _ _ _ b t bytes (number-written 8 l.counts.due fits.due) (le-leb l.counts.due _ due)
+    ⨾ plain-here _ _ _ _ _ b t bytes (number-written 8 l.counts.rises fits.rises) refl
+    ⨾ plain-here _ _ _ _ _ b t bytes (number-written 8 l.counts.queue fits.queue) queue
+    ⨾ plain-here _ _ _ _ _ b t bytes (number-written 8 l.counts.lost fits.lost) lost ⨾ tt
+
 pub line-here : (b : BoardParts) (k : ℕ) (l : TickParts) (bytes : List ℕ) → IsTickLine l → up_allowed b k l.up ≡ true → l.counts.due ≤ now_of b + b.accesses
     → LineFits l → policy_of (byte_at (policy_place k) bytes) ≡ l.policy → AllHere (line k) b l bytes
 unfolding line
 line-here b k l bytes is up due fits policy_is =
-    let queue : queue_valid l ≡ true = by_policy_queue l.policy l.counts is.policy in
-    let lost : lost_valid l ≡ true = and_from _ _ (eq-eqb l.counts.due _ is.sum) (by_policy_lost l.policy l.counts is.policy) in
-    plain-here _ _ _ _ _ b l bytes (flag-written l.up) up ⨾ plain-here _ _ _ _ _ b l bytes (number-written 8 l.counts.due fits.due) (le-leb l.counts.due _ due)
-    ⨾ plain-here _ _ _ _ _ b l bytes (number-written 8 l.counts.rises fits.rises) refl
-    ⨾ plain-here _ _ _ _ _ b l bytes (number-written 8 l.counts.queue fits.queue) queue
-    ⨾ plain-here _ _ _ _ _ b l bytes (number-written 8 l.counts.lost fits.lost) lost ⨾ elsewhere-here _ _ _ _ b l bytes policy_is ⨾ tt
+    all_here-append (line_ticks k) (line_policy k) b l bytes
+    (ticks-here b l bytes (λ (x : TickParts). x) (λ (x y : TickParts). x) (λ (c : BoardParts) (x : TickParts). up_allowed c k x.up) is up due fits)
+    (elsewhere-here _ _ _ _ b l bytes policy_is ⨾ tt)
 
--- a processor
-pub processor-covers : (k : ℕ) (t q : ProcessorParts) → moved (processor k) t q ≡ t
-unfolding tsc page plain
-processor-covers k t q = refl
+follows : (p : Policy) (c : Counts) → (is_kept p || eqb c.queue 0) ≡ true → (not (is_kept p) || eqb c.lost 0) ≡ true → FollowsPolicy p c
+follows Discard c queue lost = eqb-true c.queue 0 queue
+follows Delay c queue lost = eqb-true c.lost 0 lost
+follows Slew c queue lost = eqb-true c.lost 0 lost
 
-processor-spelled : (k : ℕ) → AllSpelled (processor k)
-unfolding tsc page
-processor-spelled k =
-    plain-spelled _ _ _ _ _ (number-code 8) ⨾ plain-spelled _ _ _ _ _ (number-code 8) ⨾ plain-spelled _ _ _ _ _ (number-code 8)
-    ⨾ plain-spelled _ _ _ _ _ (number-code 4) ⨾ plain-spelled _ _ _ _ _ (number-code 8) ⨾ plain-spelled _ _ _ _ _ (number-code 8)
-    ⨾ plain-spelled _ _ _ _ _ (number-code 4) ⨾ plain-spelled _ _ _ _ _ signed_byte-code ⨾ plain-spelled _ _ _ _ _ byte-code ⨾ tt
+tick_line-valid : (l : TickParts) → queue_valid l ≡ true → lost_valid l ≡ true → IsTickLine l
+tick_line-valid l queue lost =
+    let c : Counts = l.counts in
+    let parts : (eqb c.due (c.rises + c.queue + c.lost) ≡ true) × ((not (is_kept l.policy) || eqb c.lost 0) ≡ true) =
+    and_parts (eqb c.due (c.rises + c.queue + c.lost)) (not (is_kept l.policy) || eqb c.lost 0) lost in
+    record { sum = eqb-true c.due (c.rises + c.queue + c.lost) parts.0; policy = follows l.policy c queue parts.1 }
 
-pub processor-laws : AreBlocks processor no_processor
-unfolding tsc page plain
-processor-laws = record {
-  keeps = λ k place bytes. refl;
-  spelled = processor-spelled;
+pub record TicksHold (b : BoardParts) (l : TickParts) : Type 0 where
+  pub due : l.counts.due ≤ now_of b + b.accesses
+  pub valid : IsTickLine l
+
+pub ticks-hold : {T : Type 0} (b : BoardParts) (t : T) (of : T → TickParts) (with_line : TickParts → T → T) (up : BoardParts → T → Bool)
+    → AllHold (ticks_of of with_line up) b t → TicksHold b (of t)
+unfolding plain
+ticks-hold b t of with_line up h = record {
+  due = leb-true (of t).counts.due _ h.1.0;
+  valid = tick_line-valid (of t) h.1.1.1.0 h.1.1.1.1.0;
 }
-
-version_valid-is : (khz : ℕ) (p : ProcessorParts) → IsProcessor khz p → version_valid p ≡ true
-version_valid-is khz p is =
-    let zero_case : p.version ≡ 0 → version_valid p ≡ true = λ (h : p.version ≡ 0). ap (λ (x : ProcessorParts). version_valid x) (is.unpublished h) in
-    let later : 0 < p.version → version_valid p ≡ true = λ (h : 0 < p.version).
-    and_from _ _ (eq-eqb (p.version % 2) 0 is.version.even) (or_left _ _ (lt-ltb 0 p.version h)) in
-    ⊎_elim later (λ (h : p.version ≤ 0). zero_case (omega arith)) (cases_lt 0 p.version)
-
--- a field of a page: 0 before the first publishing, then as it must be
-page_valid-is : (khz : ℕ) (p : ProcessorParts) (value : ProcessorParts → ℕ) (valid : ProcessorParts → Bool) → IsProcessor khz p → value no_processor ≡ 0
-    → (0 < p.version → valid p ≡ true) → page_valid p (value p) (valid p) ≡ true
-page_valid-is khz p value valid is none later =
-    let unpublished : p.version ≡ 0 → page_valid p (value p) (valid p) ≡ true = λ (h : p.version ≡ 0).
-    cond-true (eqb p.version 0) (eqb (value p) 0) (valid p) (eq-eqb p.version 0 h)
-    ∙ ap (λ (x : ProcessorParts). eqb (value x) 0) (is.unpublished h) ∙ eq-eqb (value no_processor) 0 none in
-    let published : 0 < p.version → page_valid p (value p) (valid p) ≡ true = λ (h : 0 < p.version).
-    cond-false (eqb p.version 0) (eqb (value p) 0) (valid p) (ne_eqb p.version 0 (λ (e : p.version ≡ 0). omega arith)) ∙ later h in
-    ⊎_elim published (λ (h : p.version ≤ 0). unpublished (omega arith)) (cases_lt 0 p.version)
-
-pub processor-here : (b : BoardParts) (k : ℕ) (p : ProcessorParts) (bytes : List ℕ) → IsProcessor b.guest_khz p → ProcessorFits p
-    → AllHere (processor k) b p bytes
-unfolding tsc page
-processor-here b k p bytes is fits =
-    let khz : ℕ = b.guest_khz in
-    let scale : ℕ = khz * 1000 in
-    let time = page_valid-is khz p (λ (x : ProcessorParts). x.system_time) (λ (x : ProcessorParts). ltb x.system_time RANGE_NS) is refl
-    (λ _. lt-ltb p.system_time RANGE_NS is.time) in
-    let mul = page_valid-is khz p (λ (x : ProcessorParts). x.mul) (λ (x : ProcessorParts). eqb x.mul (mul_for scale)) is refl
-    (λ (h : 0 < p.version). eq-eqb p.mul (mul_for scale) (is.mul h)) in
-    let shift = page_valid-is khz p (λ (x : ProcessorParts). cast_unsigned w8 x.shift)
-    (λ (x : ProcessorParts). eqb (cast_unsigned w8 x.shift) (cast_unsigned w8 (shift_for scale))) is refl
-    (λ (h : 0 < p.version). eq-eqb (cast_unsigned w8 p.shift) (cast_unsigned w8 (shift_for scale)) (ap (λ z. cast_unsigned w8 z) (is.shift h))) in
-    let flags = page_valid-is khz p (λ (x : ProcessorParts). x.flags) (λ (x : ProcessorParts). page_flags_valid x.flags) is refl is.flags in
-    plain-here _ _ _ _ _ b p bytes (number-written 8 p.offset fits.tsc.offset) refl ⨾ plain-here _ _ _ _ _ b p bytes (number-written 8 p.adjust fits.tsc.adjust) refl
-    ⨾ plain-here _ _ _ _ _ b p bytes (number-written 8 p.number fits.tsc.number) refl
-    ⨾ plain-here _ _ _ _ _ b p bytes (number-written 4 p.version fits.tsc.version) (version_valid-is khz p is)
-    ⨾ plain-here _ _ _ _ _ b p bytes (number-written 8 p.tsc_timestamp fits.page.tsc_timestamp)
-    (page_valid-is khz p (λ (x : ProcessorParts). x.tsc_timestamp) (λ (x : ProcessorParts). true) is refl (λ _. refl))
-    ⨾ plain-here _ _ _ _ _ b p bytes (number-written 8 p.system_time fits.page.system_time) time
-    ⨾ plain-here _ _ _ _ _ b p bytes (number-written 4 p.mul fits.page.mul) mul
-    ⨾ plain-here _ _ _ _ _ b p bytes (signed_byte-written p.shift fits.page.shift) shift ⨾ plain-here _ _ _ _ _ b p bytes (byte-written p.flags) flags ⨾ tt

@@ -20,11 +20,12 @@ use Rattle.board_types.specs.declared.parts.BoardParts.{BoardParts}
 use Rattle.board_types.specs.declared.parts.ProcessorParts.{ProcessorParts}
 use Rattle.board_types.specs.declared.parts.TheConstants.{MOST_ACCESSES}
 use Rattle.board_types.specs.declared.setup.TheConstants.{LAST_FORMAT, SLEW_MAX_NS}
-use Rattle.board_types.specs.Setup.{timers_of, processors_of}
+use Rattle.board_types.specs.Setup.{timers_of, has_messages, processors_of}
 use Rattle.board_devices.specs.Nanosecond.{counts_rtc}
 use Rattle.board_devices.specs.Lines.{levels}
 use Rattle.board_devices.specs.Parts.{IsTimerLine}
 use Rattle.board_devices.specs.Places.{line_at, no_line}
+use Rattle.board_core.specs.Apics.{apics_of}
 use Rattle.board_core.specs.Conditions.{IsBoard}
 use Rattle.board_core.specs.Time.{devices_in, now_of}
 use Rattle.board_core.specs.Tsc.{no_processor, processor_at}
@@ -36,9 +37,14 @@ use Rattle.byte_table.proofs.CodeLaws.{number-written, word-written, byte-writte
 use Rattle.byte_table.proofs.KindLaws.{plain-here, row-here, blocks-here}
 use Rattle.byte_table.proofs.Loops.{drop-blank}
 use Rattle.save_state.specs.Fields.{magic, khz_valid, policy_place, head, host, guest, policies, front, counter, no_counter, counters, clock, registers, timer, timers, same}
-use Rattle.save_state.specs.Fields.{up_allowed, line, lines, counts_of, rise_valid, rises, wall, processor, processors, devices, back, fields_of}
+use Rattle.save_state.specs.Fields.{up_allowed, line, lines, counts_of, rise_valid, rises, wall, processor, processors, apics, references, references_of, messages, messages_of, routed_rises_valid, devices, back, fields_of}
 use Rattle.save_state.specs.private.Fits.{BoardFits}
-use Rattle.save_state.proofs.Blocks.{policy-written, counter-covers, counter-here, timer-covers, timer-here, line-covers, line-here, processor-covers, processor-here}
+use Rattle.save_state.proofs.Blocks.{policy-written, counter-covers, counter-here, timer-covers, timer-here, line-covers, line-here}
+use Rattle.save_state.proofs.Processors.{processor-covers, processor-here}
+use Rattle.save_state.proofs.ApicLaws.{apics-here}
+use Rattle.save_state.proofs.MessageLaws.{messages-here}
+use Rattle.save_state.proofs.ReferenceLaws.{references-here}
+use Rattle.save_state.proofs.Versions.{version-is}
 use Rattle.save_state.proofs.Formats.{timers_few, timers_least, processors_few, counts_few}
 
 -- the head
@@ -86,7 +92,7 @@ counters-here : (b : BoardParts) (bytes : List ℕ) → IsBoard b → BoardFits 
 unfolding counters
 counters-here b bytes is fits =
     let p = is.devices.pit in
-    blocks-here 3 3 counter no_counter _ _ b b bytes (λ (k : ℕ) (t : CounterParts). counter-covers k t no_counter) (omega (arith, p.three)) each
+    blocks-here 3 3 counter no_counter _ _ b b bytes (λ k less. counter-covers k _ no_counter) (omega (arith, p.three)) each
     (drop_all 3 b.pit.counters (omega (arith, p.three))) ⨾ tt
   where
     each : (j : ℕ) → 0 ≤ j → j < 0 + 3 → AllHere (counter j) b (get_or b.pit.counters j no_counter) bytes
@@ -156,7 +162,7 @@ timers-here : (b : BoardParts) (bytes : List ℕ) → IsBoard b → BoardFits b 
 unfolding timers
 timers-here b bytes is fits =
     let n : ℕ = timers_of b.format in
-    blocks-here n 8 timer no_timer _ _ b b bytes (λ (k : ℕ) (t : TimerParts). timer-covers k t no_timer)
+    blocks-here n 8 timer no_timer _ _ b b bytes (λ k less. timer-covers k _ no_timer)
     (omega (arith, timers_few b.format, fits.timer_places))
     (λ j low less. timer-here b j (timer_at j b.hpet) bytes (timer-there b is j (omega arith))
     (fits.blocks.timers j (omega (arith, is.joined.format.has_timers))))
@@ -191,7 +197,7 @@ unfolding lines
 lines-here b bytes is fits policies_are =
     let n : ℕ = timers_of b.format + 2 in
     let ten = is.devices.joined.places in
-    blocks-here n 10 line no_line _ _ b b bytes (λ (k : ℕ) (t : TickParts). line-covers k t no_line) (omega (arith, timers_few b.format, ten))
+    blocks-here n 10 line no_line _ _ b b bytes (λ k less. line-covers k _ no_line) (omega (arith, timers_few b.format, ten))
     (λ j low less. line-here b j (line_at j (devices_in b)) bytes (is.devices.lines j (omega (arith, timers_few b.format))) (up_allowed-is b is j)
     (is.joined.due j (omega (arith, timers_few b.format))) (fits.blocks.lines j (omega arith)) (policies_are j (omega arith)))
     (drop-blank no_line n 10 b.ticks ten (omega (arith, timers_few b.format)) (line-absent b is)) ⨾ tt
@@ -236,6 +242,11 @@ rise_valid-is b is (suc (suc (suc (suc zero)))) less = le-leb _ _ (is.joined.ris
 rise_valid-is b is (suc (suc (suc (suc (suc zero))))) less = le-leb _ _ (is.joined.rises.most 5 less)
 rise_valid-is b is (suc (suc (suc (suc (suc (suc k)))))) less = absurd (omega arith)
 
+routed_valid-is : (b : BoardParts) → IsBoard b → routed_rises_valid b ≡ true
+routed_valid-is b is =
+    let ok : (k : ℕ) → k < 6 → rise_valid b k ≡ true = rise_valid-is b is in
+    and_from _ _ (and_from _ _ (and_from _ _ (ok 2 (omega arith)) (ok 3 (omega arith))) (ok 4 (omega arith))) (ok 5 (omega arith))
+
 rise-absent : (b : BoardParts) → IsBoard b → (j : ℕ) → counts_of b.format ≤ j → j < 6 → get_or b.rises j 0 ≡ 0
 rise-absent b is j le less =
     ⊎_elim (λ (first : b.format < 2). is.joined.rises.none (omega arith) j)
@@ -249,21 +260,16 @@ rises-here b bytes is fits =
     row-here _ n 6 (number 8) 0 _ _ _ b b bytes
     (all-written (number 8) 0 n b.rises (omega (arith, counts_few b.format, fits.rise_places)) (λ k less. number-written 8 _ (fits.rises k)))
     (drop-blank 0 n 6 b.rises fits.rise_places (counts_few b.format) (rise-absent b is))
-    (and_from _ _ (and_from _ _ (and_from _ _ (and_from _ _ (and_from _ _ (ok 0 (omega arith)) (ok 1 (omega arith))) (ok 2 (omega arith)))
-    (ok 3 (omega arith))) (ok 4 (omega arith))) (ok 5 (omega arith))) ⨾ tt
+    (and_from _ _ (and_from _ _ (ok 0 (omega arith)) (ok 1 (omega arith))) (or_right (has_messages b.format) (routed_rises_valid b) (routed_valid-is b is))) ⨾ tt
 
 -- the wall clock
 wall-here : (b : BoardParts) (bytes : List ℕ) → IsBoard b → BoardFits b → AllHere wall b b bytes
 unfolding wall
 wall-here b bytes is fits =
     let w = is.joined.wall in
-    let number_is : (ltb 0 b.wall_version || eqb b.wall_number 0) ≡ true =
-    ⊎_elim (λ (h : 0 < b.wall_version). or_left (ltb 0 b.wall_version) (eqb b.wall_number 0) (lt-ltb 0 b.wall_version h))
-    (λ (h : b.wall_version ≤ 0). or_right (ltb 0 b.wall_version) (eqb b.wall_number 0) (eq-eqb b.wall_number 0 (w.unpublished (omega arith))))
-    (cases_lt 0 b.wall_version) in
     plain-here _ _ _ _ _ b b bytes (number-written 8 b.wall_number fits.wall_number) refl
     ⨾ plain-here _ _ _ _ _ b b bytes (number-written 4 b.wall_version fits.wall_version)
-    (and_from (eqb (b.wall_version % 2) 0) _ (eq-eqb (b.wall_version % 2) 0 w.words.even) number_is)
+    (version-is b.wall_version _ w.words.even (λ none. eq-eqb b.wall_number 0 (w.unpublished none)))
     ⨾ plain-here _ _ _ _ _ b b bytes (number-written 4 b.wall_sec fits.wall_sec) refl
     ⨾ plain-here _ _ _ _ _ b b bytes (number-written 4 b.wall_nsec fits.wall_nsec) (lt-ltb b.wall_nsec 1000000000 w.below_second) ⨾ tt
 
@@ -272,7 +278,7 @@ processors-here : (b : BoardParts) (bytes : List ℕ) → IsBoard b → BoardFit
 unfolding processors
 processors-here b bytes is fits =
     let few : b.cpus ≤ 64 = omega (arith, is.joined.format.most_cpus, processors_few b.format) in
-    blocks-here b.cpus 64 processor no_processor _ _ b b bytes (λ (k : ℕ) (t : ProcessorParts). processor-covers k t no_processor)
+    blocks-here b.cpus 64 processor no_processor _ _ b b bytes (λ k less. processor-covers k _ no_processor)
     (omega (arith, few, fits.processor_places))
     (λ j low less. processor-here b j (processor_at b j) bytes (is.joined.processors.each j) (fits.blocks.processors j (omega arith)))
     (drop-blank no_processor b.cpus 64 b.processors fits.processor_places few (λ j le less. is.joined.processors.absent j le)) ⨾ tt
@@ -290,5 +296,10 @@ fields-here b bytes is fits rest e =
     let five = all_here-append (counters ++ clock ++ registers ++ timers n) (lines n) b b bytes four
     (lines-here b bytes is fits (are-policies b bytes is fits rest e)) in
     let later = all_here-append (rises counts) wall b b bytes (rises-here b bytes is fits) (wall-here b bytes is fits) in
-    let last = all_here-append (rises counts ++ wall) (processors b.cpus) b b bytes later (processors-here b bytes is fits) in
+    let some = all_here-append (rises counts ++ wall) (processors b.cpus) b b bytes later (processors-here b bytes is fits) in
+    let more = all_here-append (rises counts ++ wall ++ processors b.cpus) (apics (apics_of b.format b.cpus)) b b bytes some (apics-here b is bytes fits.blocks.apics) in
+    let most = all_here-append (rises counts ++ wall ++ processors b.cpus ++ apics (apics_of b.format b.cpus)) (references (references_of b.format)) b b bytes more
+    (references-here b bytes is fits.reference) in
+    let last = all_here-append (rises counts ++ wall ++ processors b.cpus ++ apics (apics_of b.format b.cpus) ++ references (references_of b.format))
+    (messages (messages_of b.format)) b b bytes most (messages-here b is fits (routed_valid-is b is) bytes) in
     all_here-append (front ++ devices b.format) (back b.format b.cpus) b b bytes (all_here-append front (devices b.format) b b bytes first five) last

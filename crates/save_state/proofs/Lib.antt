@@ -4,6 +4,11 @@ pub mod Walk
 pub mod RowLaws
 pub mod BlockRows
 pub mod Blocks
+pub mod Versions
+pub mod Processors
+pub mod ApicLaws
+pub mod ReferenceLaws
+pub mod MessageLaws
 pub mod Spelled
 pub mod Here
 pub mod RoundTrip
@@ -12,3 +17,4 @@ pub mod Valid
 pub mod Parts
 mod Rows
 mod RowsSecond
+mod RowsLater

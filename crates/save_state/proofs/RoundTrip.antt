@@ -2,13 +2,13 @@
 use Rattle.std.proofs.Common.{◌≡◌, ℕ, ◌+◌, ◌^◌, ◌<◌, ◌≤◌, ⊎_elim, Bool, false, cond, List, [], ◌∷◌, ◌++◌, length, drop, Some, None, refl, ap, sym, ◌∙◌, arith}
 use Rattle.std.proofs.lemmas.Bool.{lt-ltb, le-ltb, cases_lt}
 use Rattle.std.proofs.lemmas.List.{append-nil, take_all}
-use Rattle.hpet_registers.specs.Parts.{no_bits, no_words}
 use Rattle.tick_policy.specs.declared.parts.Policy.{Policy}
 use Rattle.tick_policy.specs.declared.parts.TickParts.{TickParts}
 use Rattle.tick_policy.specs.Parts.{policy_byte, policy_of}
 use Rattle.board_types.specs.declared.parts.BoardParts.{BoardParts}
 use Rattle.board_types.specs.Setup.{timers_of}
 use Rattle.board_devices.specs.Places.{no_line, line_at}
+use Rattle.board_core.specs.Apics.{apics_of}
 use Rattle.board_core.specs.Conditions.{IsBoard}
 use Rattle.board_core.specs.Time.{devices_in}
 use Rattle.byte_table.specs.Codes.{byte_at, number_bytes}
@@ -17,41 +17,38 @@ use Rattle.byte_table.specs.Kinds.{plain, row, blocks, elsewhere}
 use Rattle.byte_table.proofs.FoldLaws.{◌⨾◌, AreBytes, next, AllKeep, or_else-none, or_else-both, length-write, read-write, fault-write, rewritten, rewrite_in-keep}
 use Rattle.byte_table.proofs.CodeLaws.{number_at-is, length-number}
 use Rattle.byte_table.proofs.Loops.{read_below-at, drop-blank}
+use Rattle.byte_table.proofs.Pairs.{firsts-pairs, seconds-pairs}
 use Rattle.save_state.specs.declared.fault.StateFault.{StateFault}
 use Rattle.save_state.specs.declared.fault.StateKind.TheVariants.{Trailing}
-use Rattle.save_state.specs.Fields.{Fields, magic, policy_place, head, host, guest, policies, counter, counters, clock, registers, timer, timers, line, lines, rises, wall, processors, fields_of}
+use Rattle.save_state.specs.Fields.{Fields, magic, policy_place, head, host, guest, policies, counter, counters, clock, registers, timer, timers, line, lines, rises, wall, processors, apics, references, references_of, messages, messages_of, fields_of}
 use Rattle.save_state.specs.Places.{format_in, cpus_in}
 use Rattle.save_state.specs.Reading.{blank, fields_in, board_in}
 use Rattle.save_state.specs.Table.{trailing, fault_of}
 use Rattle.save_state.specs.Writing.{bytes_of}
 use Rattle.save_state.specs.private.Fits.{BoardFits}
-use Rattle.save_state.proofs.Formats.{timers_least, processors_few}
-use Rattle.save_state.proofs.Sizes.{line-size}
+use Rattle.save_state.proofs.Formats.{timers_least, processors_few, references_few}
+use Rattle.save_state.proofs.ApicLaws.{apics-kept}
+use Rattle.save_state.proofs.MessageLaws.{messages-kept}
+use Rattle.save_state.proofs.ReferenceLaws.{reference-kept}
+use Rattle.save_state.proofs.Sizes.{lines_sum, apics_sum, references_sum, messages_sum, line-size}
 use Rattle.save_state.proofs.Spelled.{fields-spelled}
 use Rattle.save_state.proofs.Here.{fields-here}
 
 -- all fields of a valid board, put into the blank one, give the board
 board-covers : (b : BoardParts) → IsBoard b → BoardFits b → moved (fields_of b.format b.cpus) b blank ≡ b
-unfolding head host guest policies counters counter clock registers timers timer lines rises wall processors plain row blocks
+unfolding head host guest policies counters counter clock registers timers timer lines rises wall processors apics references messages plain row blocks
 board-covers b is fits =
-    let none = is.devices.joined.messages in
-    let bits : b.hpet.message_bit ≡ no_bits =
-    drop-blank false 0 8 b.hpet.message_bit fits.bit_places (omega arith) (λ j le less. (is.devices.hpet.plain none j less).0) in
-    let words : b.hpet.message_word ≡ no_words =
-    drop-blank 0 0 8 b.hpet.message_word fits.word_places (omega arith) (λ j le less. (is.devices.hpet.plain none j less).1) in
-    let timers = is.joined.apics.no_timers (omega (arith, is.joined.format.last)) in
-    let tick_lines = is.joined.apics.no_lines (omega (arith, is.joined.format.last)) in
-    let reference = is.joined.hv.none (omega (arith, is.joined.format.last)) in
+    let places = fits.bit_places ∙ sym fits.word_places in
+    let same = is.joined.apics.places.timers ∙ sym is.joined.apics.places.lines in
     λ i. record b {
       hpet = record b.hpet {
         timers = sym is.joined.format.has_timers i;
-        messages = sym none i;
-        message_bit = sym bits i;
-        message_word = sym words i;
+        messages = sym is.joined.messages i;
+        message_bit = firsts-pairs b.hpet.message_bit b.hpet.message_word places i;
+        message_word = seconds-pairs b.hpet.message_bit b.hpet.message_word places i;
       };
-      apic = sym timers i;
-      apic_ticks = sym tick_lines i;
-      hv = sym reference i;
+      apic = firsts-pairs b.apic b.apic_ticks same i;
+      apic_ticks = seconds-pairs b.apic b.apic_ticks same i;
     }
 
 -- the version and the number of processors of a board's bytes
@@ -100,23 +97,28 @@ fault_of-bytes_of b is fits =
 -- the policy of a tick line that is read
 pub line-policy : (bytes : List ℕ) (k : ℕ) → k < timers_of (format_in bytes) + 2
     → (line_at k (devices_in (board_in bytes))).policy ≡ policy_of (byte_at (policy_place k) bytes)
-unfolding board_in head host guest policies counters counter clock registers timers timer line lines rises wall processors plain row blocks elsewhere
+unfolding board_in head host guest policies counters counter clock registers timers timer line lines rises wall processors apics references messages plain row blocks elsewhere
 line-policy bytes k less =
     let at : 0 + k ≡ k = omega arith in
-    ap (λ (l : TickParts). l.policy) (read_below-at line no_line 33 line-size 0 (timers_of (format_in bytes) + 2) _ bytes _ k less)
+    ap (λ (l : TickParts). l.policy) (read_below-at line no_line 33 line-size 0 (timers_of (format_in bytes) + 2) (lines_sum (format_in bytes)) bytes _ k less)
     ∙ ap (λ (m : ℕ). policy_of (byte_at (policy_place m) bytes)) at
 
 -- each field of what is read is written as it would be
 board-keeps : (bytes : List ℕ) → AllKeep (fields_in bytes) (board_in bytes) 0 bytes
-unfolding board_in head host guest policies counters counter clock registers timers timer lines rises wall processors plain row blocks
+unfolding board_in head host guest policies counters counter clock registers timers timer lines rises wall processors apics references messages plain row blocks
 board-keeps bytes =
-    let least = timers_least (format_in bytes) in
+    let f : ℕ = format_in bytes in
+    let c : ℕ = cpus_in bytes in
+    let n : ℕ = apics_of f c in
+    let least = timers_least f in
     let policy_is : (k : ℕ) → k < timers_of (format_in bytes) + 2 → policy_byte (line_at k (devices_in (board_in bytes))).policy ∷ []
     ≡ policy_byte (policy_of (byte_at (policy_place k) bytes)) ∷ [] =
     λ k less. ap (λ (p : Policy). policy_byte p ∷ []) (line-policy bytes k less) in
     refl ⨾ refl ⨾ refl ⨾ refl ⨾ refl ⨾ refl ⨾ refl ⨾ refl ⨾ refl ⨾ refl ⨾ refl
     ⨾ policy_is 0 (omega (arith, least)) ⨾ policy_is 1 (omega (arith, least)) ⨾ policy_is 2 (omega (arith, least))
-    ⨾ refl ⨾ refl ⨾ refl ⨾ refl ⨾ refl ⨾ refl ⨾ refl ⨾ refl ⨾ refl ⨾ refl ⨾ refl ⨾ refl ⨾ refl ⨾ refl ⨾ refl ⨾ refl ⨾ refl ⨾ tt
+    ⨾ refl ⨾ refl ⨾ refl ⨾ refl ⨾ refl ⨾ refl ⨾ refl ⨾ refl ⨾ refl ⨾ refl ⨾ refl ⨾ refl ⨾ refl ⨾ refl ⨾ refl ⨾ refl ⨾ refl
+    ⨾ apics-kept n (apics_sum f c) bytes ⨾ reference-kept (references_of f) (references_sum f c) bytes (references_few f)
+    ⨾ messages-kept (messages_of f) (messages_sum f c) bytes ⨾ tt
 
 not_trailing : (wanted : ℕ) (bytes : List ℕ) → trailing wanted bytes ≡ None → length bytes ≤ wanted
 not_trailing wanted bytes none =
@@ -128,7 +130,7 @@ not_trailing wanted bytes none =
     some_none e = cc
 
 same-fields : (bytes : List ℕ) → write (fields_of (board_in bytes).format (board_in bytes).cpus) (board_in bytes) ≡ write (fields_in bytes) (board_in bytes)
-unfolding board_in head host guest policies counters counter clock registers timers timer lines rises wall processors plain row blocks
+unfolding board_in head host guest policies counters counter clock registers timers timer lines rises wall processors apics references messages plain row blocks
 same-fields bytes = refl
 
 -- bytes with no fault are those of the board that they are read as

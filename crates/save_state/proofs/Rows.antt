@@ -9,7 +9,7 @@ use Rattle.save_state.specs.declared.fault.StateFault.{StateFault}
 use Rattle.save_state.specs.declared.fault.StateKind.TheVariants.{Short, Magic, Version, Field, Trailing}
 use Rattle.byte_table.specs.Codes.{number_at, number_bytes, row_bytes, row_value, row_spelled}
 use Rattle.byte_table.specs.Kinds.{plain, row, blocks, elsewhere}
-use Rattle.save_state.specs.Fields.{head, host, guest, policies, counter, counters, clock, registers, timer, timers, line, lines, rises, wall, tsc, page, processors}
+use Rattle.save_state.specs.Fields.{head, host, guest, policies, counter, counters, clock, registers, timer, timers, line, lines, rises, wall, tsc, page, processors, apic_timer, apic_line, apics, reference, references, message, messages}
 use Rattle.save_state.specs.Reading.{board_in}
 use Rattle.save_state.specs.Table.{fault_of}
 use Rattle.save_state.specs.Writing.{bytes_of}
@@ -21,6 +21,8 @@ use Rattle.board_devices.specs.Lines.{levels}
 use Rattle.rtc_registers.specs.Registers.{with_time}
 use Rattle.rtc_registers.specs.Parts.{rtc_at_power_on}
 use Rattle.pvclock_page.specs.Scale.{mul_for, shift_for}
+use Rattle.lapic_timer.specs.Parts.{divisor}
+use Rattle.hv_page.specs.Scale.{tsc_scale}
 
 abbrev pub setup : Setup
 setup = record {
@@ -42,7 +44,7 @@ abbrev pub board : BoardParts
 board = record (board_at_power_on setup) { accesses = 1 }
 
 unfoldable pub example : List ℕ
-unfolding number_bytes row_bytes bytes_of with_time rtc_at_power_on head host guest policies counter counters clock registers timer timers line lines rises wall tsc page processors plain row blocks elsewhere
+unfolding number_bytes row_bytes bytes_of with_time rtc_at_power_on head host guest policies counter counters clock registers timer timers line lines rises wall tsc page processors apic_timer apic_line apics reference references message messages plain row blocks elsewhere
 example = bytes_of board
 
 example-length : length example ≡ 553
@@ -63,14 +65,14 @@ example-processor = refl
 -- the fault and the board of bytes, computed
 unfoldable pub fault : List ℕ → Option StateFault
 unfolding example number_at row_value row_spelled board_in fault_of bits_valid flags_valid cr_valid ce_valid part_valid read_order_valid
-    latched_count_valid latched_status_valid programmed modulus mode_of access_of is_bcd levels time_at mul_for shift_for rtc_at_power_on with_time
-    head host guest policies counter counters clock registers timer timers line lines rises wall tsc page processors plain row blocks elsewhere
+    latched_count_valid latched_status_valid programmed modulus mode_of access_of is_bcd levels time_at mul_for shift_for divisor tsc_scale rtc_at_power_on with_time
+    head host guest policies counter counters clock registers timer timers line lines rises wall tsc page processors apic_timer apic_line apics reference references message messages plain row blocks elsewhere
 fault bytes = fault_of bytes
 
 unfoldable pub read : List ℕ → BoardParts
 unfolding example number_at row_value row_spelled board_in fault_of bits_valid flags_valid cr_valid ce_valid part_valid read_order_valid
-    latched_count_valid latched_status_valid programmed modulus mode_of access_of is_bcd levels time_at mul_for shift_for rtc_at_power_on with_time
-    head host guest policies counter counters clock registers timer timers line lines rises wall tsc page processors plain row blocks elsewhere
+    latched_count_valid latched_status_valid programmed modulus mode_of access_of is_bcd levels time_at mul_for shift_for divisor tsc_scale rtc_at_power_on with_time
+    head host guest policies counter counters clock registers timer timers line lines rises wall tsc page processors apic_timer apic_line apics reference references message messages plain row blocks elsewhere
 read bytes = board_in bytes
 
 example-is_one : fault example ≡ None
@@ -107,9 +109,9 @@ version_0 : fault (set example 8 0) ≡ Some (record { place = 8; kind = Version
 unfolding example fault
 version_0 = refl
 
-version_3 : fault (set example 8 3) ≡ Some (record { place = 8; kind = Version })
+version_6 : fault (set example 8 6) ≡ Some (record { place = 8; kind = Version })
 unfolding example fault
-version_3 = refl
+version_6 = refl
 
 version_high : fault (set example 9 1) ≡ Some (record { place = 8; kind = Version })
 unfolding example fault

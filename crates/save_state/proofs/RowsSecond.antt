@@ -10,7 +10,7 @@ use Rattle.rtc_registers.specs.Parts.{rtc_at_power_on}
 use Rattle.save_state.specs.declared.fault.StateKind.TheVariants.{Short, Field, Trailing}
 use Rattle.byte_table.specs.Codes.{number_bytes, row_bytes}
 use Rattle.byte_table.specs.Kinds.{plain, row, blocks, elsewhere}
-use Rattle.save_state.specs.Fields.{head, host, guest, policies, counter, counters, clock, registers, timer, timers, line, lines, rises, wall, tsc, page, processors}
+use Rattle.save_state.specs.Fields.{head, host, guest, policies, counter, counters, clock, registers, timer, timers, line, lines, rises, wall, tsc, page, processors, apic_timer, apic_line, apics, reference, references, message, messages}
 use Rattle.save_state.specs.Writing.{bytes_of}
 use Rattle.save_state.proofs.Rows.{setup, board, example, fault, read}
 
@@ -19,11 +19,11 @@ abbrev second_board : BoardParts
 second_board = record (board_at_power_on (record setup { format = 2 })) { accesses = 1 }
 
 -- the bytes of a board, computed
-unfoldable spelled : BoardParts → List ℕ
-unfolding number_bytes row_bytes bytes_of with_time rtc_at_power_on upgraded_to devices_upgraded head host guest policies counter counters clock registers timer timers line lines rises wall tsc page processors plain row blocks elsewhere
+unfoldable pub spelled : BoardParts → List ℕ
+unfolding number_bytes row_bytes bytes_of with_time rtc_at_power_on upgraded_to devices_upgraded head host guest policies counter counters clock registers timer timers line lines rises wall tsc page processors apic_timer apic_line apics reference references message messages plain row blocks elsewhere
 spelled b = bytes_of b
 
-unfoldable second : List ℕ
+unfoldable pub second : List ℕ
 unfolding spelled
 second = spelled second_board
 

@@ -3,14 +3,19 @@ use Rattle.std.proofs.Common.{ℕ, ◌+◌, ◌++◌}
 use Rattle.hpet_registers.specs.Parts.{no_timer}
 use Rattle.board_types.specs.Setup.{timers_of}
 use Rattle.board_devices.specs.Places.{no_line}
+use Rattle.board_core.specs.Apics.{apics_of}
 use Rattle.board_core.specs.Tsc.{no_processor}
 use Rattle.byte_table.specs.Codes.{number, byte}
 use Rattle.byte_table.proofs.FoldLaws.{◌⨾◌, AllSpelled, all_spelled-append}
 use Rattle.byte_table.proofs.CodeLaws.{number-code, word-code, byte-code, flag-code}
 use Rattle.byte_table.proofs.KindLaws.{plain-spelled, row-spelled, blocks-spelled}
 use Rattle.save_state.specs.Fields.{magic, head, host, guest, policies, front, counter, no_counter, counters, clock, registers, timer, timers, line, lines, counts_of, rises, wall}
-use Rattle.save_state.specs.Fields.{processor, processors, devices, back, fields_of}
-use Rattle.save_state.proofs.Blocks.{policy-code, counter-laws, timer-laws, line-laws, processor-laws}
+use Rattle.save_state.specs.Fields.{processor, processors, apics, references, references_of, messages, messages_of, devices, back, fields_of}
+use Rattle.save_state.proofs.Blocks.{policy-code, counter-laws, timer-laws, line-laws}
+use Rattle.save_state.proofs.Processors.{processor-laws}
+use Rattle.save_state.proofs.ApicLaws.{apics-spelled}
+use Rattle.save_state.proofs.MessageLaws.{messages-spelled}
+use Rattle.save_state.proofs.ReferenceLaws.{references-spelled}
 
 pub front-spelled : AllSpelled front
 unfolding head host guest policies
@@ -68,8 +73,12 @@ devices-spelled format =
 pub back-spelled : (format cpus : ℕ) → AllSpelled (back format cpus)
 back-spelled format cpus =
     let counts : ℕ = counts_of format in
-    all_spelled-append (rises counts ++ wall) (processors cpus) (all_spelled-append (rises counts) wall (rises-spelled counts) wall-spelled)
-    (processors-spelled cpus)
+    let n : ℕ = apics_of format cpus in
+    all_spelled-append (rises counts ++ wall ++ processors cpus ++ apics n ++ references (references_of format)) (messages (messages_of format))
+    (all_spelled-append (rises counts ++ wall ++ processors cpus ++ apics n) (references (references_of format))
+    (all_spelled-append (rises counts ++ wall ++ processors cpus) (apics n)
+    (all_spelled-append (rises counts ++ wall) (processors cpus) (all_spelled-append (rises counts) wall (rises-spelled counts) wall-spelled)
+    (processors-spelled cpus)) (apics-spelled n)) (references-spelled (references_of format))) (messages-spelled (messages_of format))
 
 pub fields-spelled : (format cpus : ℕ) → AllSpelled (fields_of format cpus)
 fields-spelled format cpus =

@@ -1,7 +1,7 @@
 -- A board that is read, whose conditions all hold, is valid.
 use Rattle.std.proofs.Common.{◌≡◌, ℕ, zero, suc, ℤ, pos, negsuc, ◌+◌, ◌*◌, ◌%◌, ◌<◌, ◌≤◌, Bool, true, false, cond, not, ◌&&◌, ◌||◌, leb, ltb, eqb, List, [], ◌∷◌, ◌++◌, length, get_or}
 use Rattle.std.proofs.Common.{Some, None, ◌⊎◌, inl, inr, refl, ap, sym, subst, ◌∙◌, arith}
-use Rattle.std.proofs.lemmas.Bool.{and_parts, or_cases, leb-true, ltb-true, ltb-false, eqb-true, lt-leb, lt-ltb, le-ltb, eq-eqb, ne_eqb, cases_lt, cases_eq, false≢true}
+use Rattle.std.proofs.lemmas.Bool.{and_parts, or_cases, leb-true, ltb-true, ltb-false, eqb-true, lt-leb, lt-ltb, le-ltb, eq-eqb, ne_eqb, cases_lt, cases_eq, cond-true, cond-false, false≢true}
 use Rattle.std.specs.Int.{w8, cast_signed, cast_unsigned}
 use Rattle.clk_units.specs.Ranges.{IsKhz}
 use Rattle.clk_units.specs.declared.ranges.TheConstants.{RANGE_NS, KHZ_MIN, KHZ_MAX}
@@ -28,8 +28,8 @@ use Rattle.board_types.specs.declared.parts.BoardParts.{BoardParts}
 use Rattle.board_types.specs.declared.parts.HvParts.{HvParts}
 use Rattle.board_types.specs.declared.parts.ProcessorParts.{ProcessorParts}
 use Rattle.board_types.specs.declared.parts.TheConstants.{MOST_ACCESSES}
-use Rattle.board_types.specs.declared.setup.TheConstants.{LAST_FORMAT, SLEW_MAX_NS}
-use Rattle.board_types.specs.Setup.{timers_of, processors_of}
+use Rattle.board_types.specs.declared.setup.TheConstants.{LAST_FORMAT, HV_FORMAT, MESSAGE_FORMAT, SLEW_MAX_NS}
+use Rattle.board_types.specs.Setup.{timers_of, has_messages, processors_of}
 use Rattle.board_devices.specs.declared.parts.DeviceParts.{DeviceParts}
 use Rattle.board_devices.specs.Lines.{levels}
 use Rattle.board_devices.specs.Nanosecond.{counts_rtc}
@@ -38,16 +38,23 @@ use Rattle.board_devices.specs.Parts.{IsTimerLine, AreDevices}
 use Rattle.board_devices.specs.Rises.{one_if}
 use Rattle.board_core.specs.Time.{HasTime, devices_in, now_of}
 use Rattle.board_core.specs.Tsc.{no_processor, processor_at}
+use Rattle.board_core.specs.Apics.{apics_of}
+use Rattle.board_core.specs.Hv.{no_hv}
 use Rattle.board_core.specs.Conditions.{IsVersion, IsWall, flags_valid as page_flags_valid, IsProcessor, AreProcessors, AreRises, IsHv, IsBoard}
 use Rattle.board_core.proofs.Joined.{IsProcessor-none, IsHv-none}
 use Rattle.byte_table.specs.Kinds.{plain, row, blocks, elsewhere}
 use Rattle.byte_table.proofs.FoldLaws.{AllHold, all_hold-split}
 use Rattle.byte_table.proofs.KindLaws.{hold-each}
 use Rattle.byte_table.proofs.Loops.{get_or-blank}
-use Rattle.save_state.specs.Fields.{khz_valid, head, host, guest, policies, front, counter, no_counter, counters, clock, registers, timer, timers, same, up_allowed, line}
-use Rattle.save_state.specs.Fields.{lines, counts_of, rise_valid, rises, wall, tsc, page, processor, processors, devices, back}
-use Rattle.save_state.proofs.Formats.{timers_least}
-use Rattle.save_state.proofs.Read.{IsPage, IsRead}
+use Rattle.save_state.specs.Fields.{khz_valid, head, host, guest, policies, front, counter, no_counter, counters, clock, registers, timer, timers, same, up_allowed, line_ticks, line_policy, line}
+use Rattle.save_state.specs.Fields.{lines, counts_of, rise_valid, rises, wall, processor, processors, apics, reference, references, references_of, legacy_rises_valid, routed_rises_valid, message, no_message, message_pairs, messages, messages_of, devices, back}
+use Rattle.save_state.proofs.ApicLaws.{apics-valid}
+use Rattle.save_state.proofs.Blocks.{TicksHold, ticks-hold}
+use Rattle.save_state.proofs.Formats.{timers_least, references-one}
+use Rattle.save_state.proofs.Processors.{processor-valid}
+use Rattle.save_state.proofs.Read.{IsRead}
+use Rattle.save_state.proofs.ReferenceLaws.{reference-valid}
+use Rattle.save_state.proofs.Versions.{version-valid, at_first}
 
 -- the fields before the 8254
 pub record IsHead (b : BoardParts) : Type 0 where
@@ -201,6 +208,13 @@ status-few format status e three = elim (or_cases (leb 2 format) (leb status 7) 
   | inr few ↦ leb-true status 7 few
 ]
 
+-- a format with messages has eight timers, and one without has none of them
+eight-timers : (format : ℕ) → has_messages format ≡ true → timers_of format ≡ 8
+eight-timers format e = cond-false (leb format 1) 3 8 (lt-leb format 1 (omega (arith, leb-true MESSAGE_FORMAT format e)))
+
+no-messages : (format : ℕ) → has_messages format ≡ false → messages_of format ≡ 0
+no-messages format e = cond-false (has_messages format) 8 0 e
+
 place-valid : (k n : ℕ) (t : TimerParts) → (k < n → IsTimer t) → (n ≤ k → t ≡ no_timer) → IsPlace (ltb k n) t
 place-valid k n t there absent = elim (cases_lt k n) [
   | inl less ↦ subst (λ (b : Bool). IsPlace b t) (sym (lt-ltb k n less)) (there less)
@@ -218,31 +232,23 @@ hpet-valid b is h h' =
       places = λ k small.
           subst (λ (m : ℕ). IsPlace (ltb k m) (timer_at k b.hpet)) (sym is.timers) (place-valid k n (timer_at k b.hpet)
           (λ less. timer-valid b k (timer_at k b.hpet) (hold-each timer no_timer b b.hpet.timer 0 n h'.0 k (omega arith) (omega arith))) (is.no_timers k));
-      messages = λ e. absurd (false≢true (sym is.messages ∙ e));
-      plain = λ e k small. (ap (λ (xs : List Bool). get_or xs k false) is.bits ∙ get_or-blank false 8 k, ap (λ (xs : List ℕ). get_or xs k 0) is.words ∙ get_or-blank 0 8 k);
+      messages = λ e. is.timers ∙ eight-timers b.format (sym is.messages ∙ e);
+      plain = λ e k small. is.no_messages k (omega (arith, no-messages b.format (sym is.messages ∙ e)));
     }
 
 -- the tick lines
-follows : (p : Policy) (c : Counts) → (is_kept p || eqb c.queue 0) ≡ true → (not (is_kept p) || eqb c.lost 0) ≡ true → FollowsPolicy p c
-follows Discard c queue lost = eqb-true c.queue 0 queue
-follows Delay c queue lost = eqb-true c.lost 0 lost
-follows Slew c queue lost = eqb-true c.lost 0 lost
-
-tick_line-valid : (l : TickParts) → queue_valid l ≡ true → lost_valid l ≡ true → IsTickLine l
-tick_line-valid l queue lost =
-    let c : Counts = l.counts in
-    let parts : (eqb c.due (c.rises + c.queue + c.lost) ≡ true) × ((not (is_kept l.policy) || eqb c.lost 0) ≡ true) =
-    and_parts (eqb c.due (c.rises + c.queue + c.lost)) (not (is_kept l.policy) || eqb c.lost 0) lost in
-    record { sum = eqb-true c.due (c.rises + c.queue + c.lost) parts.0; policy = follows l.policy c queue parts.1 }
-
 record LineHolds (b : BoardParts) (k : ℕ) (l : TickParts) : Type 0 where
   up : up_allowed b k l.up ≡ true
-  due : l.counts.due ≤ now_of b + b.accesses
-  valid : IsTickLine l
+  ticks : TicksHold b l
 
 line-valid : (b : BoardParts) (k : ℕ) (l : TickParts) → AllHold (line k) b l → LineHolds b k l
-unfolding line plain elsewhere
-line-valid b k l h = record { up = h.0; due = leb-true l.counts.due _ h.1.0; valid = tick_line-valid l h.1.1.1.0 h.1.1.1.1.0 }
+unfolding line plain
+line-valid b k l h =
+    let parts = all_hold-split (line_ticks k) (line_policy k) b l h in
+    record {
+      up = parts.0.0;
+      ticks = ticks-hold b l (λ (x : TickParts). x) (λ (x y : TickParts). x) (λ (c : BoardParts) (x : TickParts). up_allowed c k x.up) parts.0;
+    }
 
 none-valid : IsTickLine no_line
 none-valid = record { sum = refl; policy = refl }
@@ -264,13 +270,13 @@ module _ (b : BoardParts) (is : IsRead b) (h : AllHold (lines (timers_of b.forma
 
   lines-valid : (k : ℕ) → IsTickLine (line_at k (devices_in b))
   lines-valid k = elim (cases_lt k (timers_of b.format + 2)) [
-    | inl less ↦ (here k less).valid
+    | inl less ↦ (here k less).ticks.valid
     | inr more ↦ subst (λ (l : TickParts). IsTickLine l) (sym (is.no_lines k more)) none-valid
   ]
 
   lines-due : (k : ℕ) → (line_at k (devices_in b)).counts.due ≤ now_of b + b.accesses
   lines-due k = elim (cases_lt k (timers_of b.format + 2)) [
-    | inl less ↦ (here k less).due
+    | inl less ↦ (here k less).ticks.due
     | inr more ↦ subst (λ (l : TickParts). l.counts.due ≤ now_of b + b.accesses) (sym (is.no_lines k more)) (omega arith)
   ]
 
@@ -315,115 +321,21 @@ devices-valid b is head h =
         slew_high = head.most_slew;
         flag = clock_line-valid b is each.lines;
         timer_lines = λ k small. timer_lines-valid b is k;
-        messages = is.messages;
       };
     }
 
 -- the wall clock
-version-valid : (version : ℕ) → version < 4294967296 → eqb (version % 2) 0 ≡ true → IsVersion version
-version-valid version less even =
-    let half : version % 2 ≡ 0 = eqb-true (version % 2) 0 even in
-    record { most = omega (arith, half); even = half }
-
--- where the one is 0, the other is
-unpublished : (version number : ℕ) → (ltb 0 version || eqb number 0) ≡ true → version ≡ 0 → number ≡ 0
-unpublished version number e none = elim (or_cases (ltb 0 version) (eqb number 0) e) [
-  | inl some ↦ absurd (omega (arith, ltb-true 0 version some, none))
-  | inr is ↦ eqb-true number 0 is
-]
-
 wall-valid : (b : BoardParts) → IsRead b → AllHold wall b b → IsWall b.wall_number b.wall_version b.wall_nsec
 unfolding wall plain
 wall-valid b is h =
     let parts = and_parts (eqb (b.wall_version % 2) 0) (ltb 0 b.wall_version || eqb b.wall_number 0) h.1.0 in
     record {
       words = version-valid b.wall_version is.wall_version parts.0;
-      unpublished = unpublished b.wall_version b.wall_number parts.1;
+      unpublished = λ (e : b.wall_version ≡ 0). eqb-true b.wall_number 0 (at_first b.wall_version _ parts.1 e);
       below_second = ltb-true b.wall_nsec 1000000000 h.1.1.1.0;
     }
 
--- a byte that is the guest's shift, read with its sign
-signed-shift : (b1 b2 b3 b4 b5 b6 b7 : Bool)
-    → let shift : ℤ = cond b1 (pos 4)
-    (cond b2 (pos 3) (cond b3 (pos 2) (cond b4 (pos 1) (cond b5 (pos 0) (cond b6 (negsuc 0) (cond b7 (negsuc 1) (negsuc 2))))))) in
-    cast_signed w8 (cast_unsigned w8 shift) ≡ shift
-signed-shift true b2 b3 b4 b5 b6 b7 = refl
-signed-shift false true b3 b4 b5 b6 b7 = refl
-signed-shift false false true b4 b5 b6 b7 = refl
-signed-shift false false false true b5 b6 b7 = refl
-signed-shift false false false false true b6 b7 = refl
-signed-shift false false false false false true b7 = refl
-signed-shift false false false false false false true = refl
-signed-shift false false false false false false false = refl
-
-shift-signed : (hz : ℕ) → cast_signed w8 (cast_unsigned w8 (shift_for hz)) ≡ shift_for hz
-unfolding shift_for
-shift-signed hz = signed-shift _ _ _ _ _ _ _
-
--- a field after the version, before the first publishing and after
-page-none : (version value : ℕ) (valid : Bool) → cond (eqb version 0) (eqb value 0) valid ≡ true → version ≡ 0 → value ≡ 0
-page-none version value valid e none = eqb-true value 0 (sym (ap (λ (b : Bool). cond b (eqb value 0) valid) (eq-eqb version 0 none)) ∙ e)
-
-page-some : (version value : ℕ) (valid : Bool) → cond (eqb version 0) (eqb value 0) valid ≡ true → 0 < version → valid ≡ true
-page-some version value valid e some =
-    let other : version ≡ 0 → ⊥ = λ (none : version ≡ 0). omega arith in
-    sym (ap (λ (b : Bool). cond b (eqb value 0) valid) (ne_eqb version 0 other)) ∙ e
-
-all-zero : (offset adjust number version tsc time mul : ℕ) (shift : ℤ) (flags : ℕ) → offset ≡ 0 → adjust ≡ 0 → number ≡ 0 → version ≡ 0 → tsc ≡ 0 → time ≡ 0
-    → mul ≡ 0 → shift ≡ pos 0 → flags ≡ 0
-    → let p : ProcessorParts = record {
-      offset = offset;
-      adjust = adjust;
-      number = number;
-      version = version;
-      tsc_timestamp = tsc;
-      system_time = time;
-      mul = mul;
-      shift = shift;
-      flags = flags;
-    } in p ≡ no_processor
-all-zero offset adjust number version tsc time mul shift flags e1 e2 e3 e4 e5 e6 e7 e8 e9 = cc
-
-processor-valid : (b : BoardParts) (k : ℕ) (p : ProcessorParts) → IsPage p → AllHold (processor k) b p → IsProcessor b.guest_khz p
-unfolding tsc page plain
-processor-valid b k p is h =
-    let hz : ℕ = b.guest_khz * 1000 in
-    let byte : ℕ = cast_unsigned w8 p.shift in
-    let first : Bool = eqb p.offset 0 && eqb p.adjust 0 && eqb p.number 0 in
-    let version = and_parts (eqb (p.version % 2) 0) (ltb 0 p.version || first) h.1.1.1.0 in
-    let at_first : p.version ≡ 0 → first ≡ true = λ (e : p.version ≡ 0). elim (or_cases (ltb 0 p.version) first version.1) [
-      | inl some ↦ absurd (omega (arith, ltb-true 0 p.version some, e))
-      | inr none ↦ none
-    ] in
-    let tsc_is = h.1.1.1.1.0 in
-    let time = h.1.1.1.1.1.0 in
-    let mul = h.1.1.1.1.1.1.0 in
-    let shift = h.1.1.1.1.1.1.1.0 in
-    let flags = h.1.1.1.1.1.1.1.1.0 in
-    record {
-      version = version-valid p.version is.version version.0;
-      time = time-valid p.version p.system_time time;
-      unpublished = λ (e : p.version ≡ 0).
-          let numbers = and_parts (eqb p.offset 0 && eqb p.adjust 0) (eqb p.number 0) (at_first e) in
-          let offsets = and_parts (eqb p.offset 0) (eqb p.adjust 0) numbers.0 in
-          all-zero p.offset p.adjust p.number p.version p.tsc_timestamp p.system_time p.mul p.shift p.flags (eqb-true p.offset 0 offsets.0)
-          (eqb-true p.adjust 0 offsets.1) (eqb-true p.number 0 numbers.1) e (page-none p.version p.tsc_timestamp true tsc_is e)
-          (page-none p.version p.system_time (ltb p.system_time RANGE_NS) time e) (page-none p.version p.mul (eqb p.mul (mul_for hz)) mul e)
-          (sym is.shift ∙ ap (cast_signed w8) (page-none p.version byte (eqb byte (cast_unsigned w8 (shift_for hz))) shift e))
-          (page-none p.version p.flags (page_flags_valid p.flags) flags e);
-      flags = λ some. page-some p.version p.flags (page_flags_valid p.flags) flags some;
-      mul = λ some. eqb-true p.mul (mul_for hz) (page-some p.version p.mul (eqb p.mul (mul_for hz)) mul some);
-      shift = λ some.
-          sym is.shift ∙ ap (cast_signed w8) (eqb-true byte (cast_unsigned w8 (shift_for hz))
-          (page-some p.version byte (eqb byte (cast_unsigned w8 (shift_for hz))) shift some)) ∙ shift-signed hz;
-    }
-  where
-    time-valid : (version time : ℕ) → cond (eqb version 0) (eqb time 0) (ltb time RANGE_NS) ≡ true → time < RANGE_NS
-    time-valid version time e = elim (cases_eq version 0) [
-      | inl none ↦ omega (arith, page-none version time (ltb time RANGE_NS) e none)
-      | inr some ↦ ltb-true time RANGE_NS (page-some version time (ltb time RANGE_NS) e (omega arith))
-    ]
-
+-- the processors
 processors-valid : (b : BoardParts) → IsRead b → AllHold (processors b.cpus) b b → AreProcessors b.guest_khz b.cpus b.processors
 unfolding processors blocks
 processors-valid b is h = record {
@@ -434,6 +346,15 @@ processors-valid b is h = record {
   ];
   absent = is.no_processors;
 }
+
+-- the reference page
+hv-valid : (b : BoardParts) → IsRead b → 1 ≤ b.cpus → AllHold (references (references_of b.format)) b b → IsHv b.format b.guest_khz b.cpus b.hv
+unfolding references blocks
+hv-valid b is some h = elim (cases_lt b.format HV_FORMAT) [
+  | inl before ↦ subst (λ (p : HvParts). IsHv b.format b.guest_khz b.cpus p) (sym (is.no_reference before)) (IsHv-none b.format b.guest_khz b.cpus some)
+  | inr there ↦ reference-valid b some is.reference_version there
+      (hold-each reference no_hv b (b.hv ∷ []) 0 (references_of b.format) h.0 0 (omega arith) (omega (arith, references-one b.format there)))
+]
 
 -- the level of the line at a place
 level-at : (b0 b1 b2 b3 b4 b5 : Bool) (k : ℕ) → k < 6
@@ -450,15 +371,14 @@ levels-at : (d : DeviceParts) (k : ℕ) → k < 6 → level_of line_numbers (lev
 unfolding levels
 levels-at d k less = level-at _ _ _ _ _ _ k less
 
--- six conditions of one row
-all-six : (f : ℕ → Bool) → (f 0 && f 1 && f 2 && f 3 && f 4 && f 5) ≡ true → (k : ℕ) → k < 6 → f k ≡ true
-all-six f e k less =
-    let five = and_parts (f 0 && f 1 && f 2 && f 3 && f 4) (f 5) e in
-    let four = and_parts (f 0 && f 1 && f 2 && f 3) (f 4) five.0 in
-    let three = and_parts (f 0 && f 1 && f 2) (f 3) four.0 in
-    let two = and_parts (f 0 && f 1) (f 2) three.0 in
-    let one = and_parts (f 0) (f 1) two.0 in
-    at k less one.0 one.1 two.1 three.1 four.1 five.1
+-- six conditions
+all-six : (f : ℕ → Bool) → (f 0 && f 1) ≡ true → (f 2 && f 3 && f 4 && f 5) ≡ true → (k : ℕ) → k < 6 → f k ≡ true
+all-six f e e' k less =
+    let first = and_parts (f 0) (f 1) e in
+    let three = and_parts (f 2 && f 3 && f 4) (f 5) e' in
+    let two = and_parts (f 2 && f 3) (f 4) three.0 in
+    let one = and_parts (f 2) (f 3) two.0 in
+    at k less first.0 first.1 one.0 one.1 two.1 three.1
   where
     at : (k : ℕ) → k < 6 → f 0 ≡ true → f 1 ≡ true → f 2 ≡ true → f 3 ≡ true → f 4 ≡ true → f 5 ≡ true → f k ≡ true
     at zero less e0 e1 e2 e3 e4 e5 = e0
@@ -470,12 +390,25 @@ all-six f e k less =
     at (suc (suc (suc (suc (suc (suc k)))))) less e0 e1 e2 e3 e4 e5 = absurd (omega arith)
 
 -- the counts of rises
-rises-valid : (b : BoardParts) → IsRead b → AllHold (rises (counts_of b.format)) b b → AreRises b.format b.accesses (levels (devices_in b)) b.rises
-unfolding rises row
-rises-valid b is h = record {
+routed-valid : (b : BoardParts) → AllHold (rises (counts_of b.format)) b b → AllHold (messages (messages_of b.format)) b b
+    → (legacy_rises_valid b ≡ true) × (routed_rises_valid b ≡ true)
+unfolding rises messages message plain row blocks
+routed-valid b h h' =
+    let parts = and_parts (legacy_rises_valid b) (has_messages b.format || routed_rises_valid b) h.0 in (
+      parts.0,
+      elim (or_cases (has_messages b.format) (routed_rises_valid b) parts.1) [
+        | inl there ↦
+            let eight : messages_of b.format ≡ 8 = cond-true {A = ℕ} (has_messages b.format) 8 0 there in
+            (hold-each message no_message b (message_pairs b) 0 (messages_of b.format) h'.0 7 (omega arith) (omega (arith, eight))).0
+        | inr is ↦ is
+      ],
+    )
+
+rises-valid : (b : BoardParts) → IsRead b → AllHold (rises (counts_of b.format)) b b → AllHold (messages (messages_of b.format)) b b → AreRises b.format b.accesses (levels (devices_in b)) b.rises
+rises-valid b is h h' = record {
   most = λ (k : ℕ) (less : k < 6).
       subst (λ (x : Bool). get_or b.rises k 0 ≤ b.accesses + one_if x) (sym (levels-at (devices_in b) k less))
-      (leb-true (get_or b.rises k 0) _ (all-six (rise_valid b) h.0 k less));
+      (leb-true (get_or b.rises k 0) _ (all-six (rise_valid b) (routed-valid b h h').0 (routed-valid b h h').1 k less));
   none = λ (first : b.format ≤ 1) (k : ℕ). is.no_rises k (omega (arith, cond-false-count b.format first));
 }
   where
@@ -486,8 +419,13 @@ rises-valid b is h = record {
 pub board-valid : (b : BoardParts) → IsRead b → IsHead b → AllHold (devices b.format) b b → AllHold (back b.format b.cpus) b b → IsBoard b
 board-valid b is head h h' =
     let each = devices-hold b h in
-    let last = all_hold-split (rises (counts_of b.format) ++ wall) (processors b.cpus) b b h' in
-    let first = all_hold-split (rises (counts_of b.format)) wall b b last.0 in
+    let n : ℕ = apics_of b.format b.cpus in
+    let fifth = all_hold-split (rises (counts_of b.format) ++ wall ++ processors b.cpus ++ apics n ++ references (references_of b.format))
+    (messages (messages_of b.format)) b b h' in
+    let fourth = all_hold-split (rises (counts_of b.format) ++ wall ++ processors b.cpus ++ apics n) (references (references_of b.format)) b b fifth.0 in
+    let third = all_hold-split (rises (counts_of b.format) ++ wall ++ processors b.cpus) (apics n) b b fourth.0 in
+    let second = all_hold-split (rises (counts_of b.format) ++ wall) (processors b.cpus) b b third.0 in
+    let first = all_hold-split (rises (counts_of b.format)) wall b b second.0 in
     record {
       devices = devices-valid b is head h;
       joined = record {
@@ -497,9 +435,10 @@ board-valid b is head h h' =
         accesses = head.accesses;
         due = λ (k : ℕ) (less : k < 10). lines-due b is each.lines k;
         wall = wall-valid b is first.1;
-        processors = processors-valid b is last.1;
-        rises = rises-valid b is first.0;
-        apics = record { no_timers = λ before. is.no_apics; no_lines = λ before. is.no_apic_lines };
-        hv = subst (λ (p : HvParts). IsHv b.format b.guest_khz b.cpus p) (sym is.no_reference) (IsHv-none b.format b.guest_khz b.cpus head.least_cpus);
+        processors = processors-valid b is second.1;
+        rises = rises-valid b is first.0 fifth.1;
+        messages = is.messages;
+        apics = apics-valid b is.apics third.1;
+        hv = hv-valid b is head.least_cpus fourth.1;
       };
     }

@@ -1,8 +1,9 @@
 -- The fields of a saved state, in the order of their bytes (own): each with its spelling, where its
 -- value is in the board, and its condition. A condition over several fields is one on the first of
 -- them at which it is certain that it fails.
-use Rattle.std.specs.Prelude.{ℕ, ◌+◌, ◌*◌, ◌%◌, ◌==◌, nat_lt, nat_le, Bool, true, false, ◌&&◌, ◌||◌, not, if◌then◌else◌, List, [], ◌∷◌, ◌++◌, slice_index_or}
+use Rattle.std.specs.Prelude.{ℕ, ◌+◌, ◌*◌, ◌%◌, ◌==◌, nat_lt, nat_le, Bool, true, false, ◌&&◌, ◌||◌, not, if◌then◌else◌, List, [], ◌∷◌, ◌++◌, slice_index_or, map}
 use Rattle.std.specs.Int.{w8, cast_unsigned}
+use Rattle.clk_units.specs.Bits.{bit}
 use Rattle.clk_units.specs.declared.ranges.TheConstants.{RANGE_NS, KHZ_MIN, KHZ_MAX}
 use Rattle.host_counter.specs.Time.{time_at}
 use Rattle.pit_counter.specs.declared.parts.CounterParts.{CounterParts}
@@ -21,22 +22,36 @@ use Rattle.rtc_registers.specs.Registers.{pf_of}
 use Rattle.rtc_registers.specs.Parts.{index_valid, bytes_valid, divider_valid, cycle_valid}
 use Rattle.hpet_comparator.specs.declared.parts.TimerParts.{TimerParts}
 use Rattle.hpet_comparator.specs.Parts.{config_valid, comparator_valid, period_valid}
-use Rattle.hpet_registers.specs.Parts.{no_timer}
+use Rattle.hpet_registers.specs.Parts.{no_timer as no_hpet_timer}
 use Rattle.tick_policy.specs.declared.parts.TickParts.{TickParts}
 use Rattle.tick_policy.specs.declared.parts.Policy.{Policy}
 use Rattle.tick_policy.specs.Parts.{policy_byte, policy_of, queue_valid, lost_valid}
+use Rattle.lapic_timer.specs.declared.parts.ApicParts.{ApicParts}
+use Rattle.lapic_timer.specs.Parts.{
+  lvt_valid,
+  divide_valid,
+  initial_valid,
+  current_valid,
+  phase_valid,
+  deadline_valid,
+}
+use Rattle.local_apics.specs.Places.{no_timer}
 use Rattle.pvclock_page.specs.Scale.{mul_for, shift_for}
+use Rattle.hv_page.specs.Scale.{tsc_scale}
 use Rattle.board_types.specs.declared.parts.BoardParts.{BoardParts}
+use Rattle.board_types.specs.declared.parts.HvParts.{HvParts}
 use Rattle.board_types.specs.declared.parts.ProcessorParts.{ProcessorParts}
 use Rattle.board_types.specs.declared.parts.TheConstants.{MOST_ACCESSES}
-use Rattle.board_types.specs.Setup.{timers_of, processors_of}
-use Rattle.board_types.specs.declared.setup.TheConstants.{LAST_FORMAT, SLEW_MAX_NS}
+use Rattle.board_types.specs.Setup.{timers_of, has_messages, processors_of}
+use Rattle.board_types.specs.declared.setup.TheConstants.{LAST_FORMAT, HV_FORMAT, SLEW_MAX_NS}
 use Rattle.board_devices.specs.Places.{no_line, line_at}
 use Rattle.board_devices.specs.Nanosecond.{counts_rtc}
 use Rattle.board_devices.specs.Lines.{levels}
 use Rattle.board_devices.specs.Rises.{one_if}
 use Rattle.board_core.specs.Time.{devices_in, now_of}
+use Rattle.board_core.specs.Apics.{apics_of}
 use Rattle.board_core.specs.Tsc.{no_processor}
+use Rattle.board_core.specs.Hv.{no_hv}
 use Rattle.board_core.specs.Conditions.{flags_valid as page_flags_valid}
 use Rattle.byte_table.specs.Codes.{
   Code,
@@ -49,6 +64,8 @@ use Rattle.byte_table.specs.Codes.{
   Flags,
   flags,
   both,
+  Two,
+  pairs,
 }
 use Rattle.byte_table.specs.Fold.{Field}
 use Rattle.byte_table.specs.Kinds.{Faults, plain, row, blocks, elsewhere}
@@ -104,9 +121,13 @@ policy_place k = 76 + (if nat_le 2 k then 2 else k)
 abbrev pub policy_field : ℕ → Field StateFault BoardParts BoardParts
 policy_field k = field policy (λ b. (line_at k (devices_in b)).policy) (λ x b. b) any
 
--- the version is the format, which tells how many timers the HPET has
+-- the version is the format, which tells how many timers the HPET has, and whether they send
+-- messages
 abbrev pub with_format : ℕ → BoardParts → BoardParts
-with_format x b = record b { format = x; hpet = record b.hpet { timers = timers_of x } }
+with_format x b = record b {
+  format = x;
+  hpet = record b.hpet { timers = timers_of x; messages = has_messages x };
+}
 
 -- magic, version, number of processors
 unfoldable pub head : Fields BoardParts
@@ -244,7 +265,7 @@ registers =
 -- its timers
 unfoldable pub timers : ℕ → Fields BoardParts
 timers n =
-    blocks n 8 timer no_timer (λ b. b.hpet.timer)
+    blocks n 8 timer no_hpet_timer (λ b. b.hpet.timer)
     (λ x b. record b { hpet = record b.hpet { timer = x } })
     ∷ []
 
@@ -258,25 +279,38 @@ abbrev pub up_allowed : BoardParts → ℕ → Bool → Bool
 up_allowed b k up =
     if k == 1 then same up (counts_rtc (devices_in b) && pf_of b.rtc) else true
 
--- tick line k: whether it is up, and its ticks: due, of which there are, at most, as many as there
--- were nanoseconds and accesses; rises; queue; lost, with the sum. Its policy is before the 8254
-unfoldable pub line : ℕ → Fields TickParts
-line k =
-    field flag (λ l. l.up) (λ x l. record l { up = x }) (λ b l. up_allowed b k l.up)
-    ∷ field (number 8) (λ l. l.counts.due)
-    (λ x l. record l { counts = record l.counts { due = x } })
-    (λ b l. nat_le l.counts.due (now_of b + b.accesses))
-    ∷ field (number 8) (λ l. l.counts.rises)
-    (λ x l. record l { counts = record l.counts { rises = x } })
+-- a tick line of a part T: whether it is up, and its ticks: due, of which there are, at most, as
+-- many as there were nanoseconds and accesses; rises; queue; lost, with the sum
+abbrev pub ticks_of : {T : Type 0} → (T → TickParts) → (TickParts → T → T)
+    → (BoardParts → T → Bool) → Fields T
+ticks_of of with_line up_valid =
+    field flag (λ t. (of t).up) (λ x t. with_line (record (of t) { up = x }) t) up_valid
+    ∷ field (number 8) (λ t. (of t).counts.due)
+    (λ x t. with_line (record (of t) { counts = record (of t).counts { due = x } }) t)
+    (λ b t. nat_le (of t).counts.due (now_of b + b.accesses))
+    ∷ field (number 8) (λ t. (of t).counts.rises)
+    (λ x t. with_line (record (of t) { counts = record (of t).counts { rises = x } }) t)
     any
-    ∷ field (number 8) (λ l. l.counts.queue)
-    (λ x l. record l { counts = record l.counts { queue = x } })
-    (λ b l. queue_valid l)
-    ∷ field (number 8) (λ l. l.counts.lost)
-    (λ x l. record l { counts = record l.counts { lost = x } })
-    (λ b l. lost_valid l)
-    ∷ elsewhere (policy_place k) policy (λ l. l.policy) (λ x l. record l { policy = x })
+    ∷ field (number 8) (λ t. (of t).counts.queue)
+    (λ x t. with_line (record (of t) { counts = record (of t).counts { queue = x } }) t)
+    (λ b t. queue_valid (of t))
+    ∷ field (number 8) (λ t. (of t).counts.lost)
+    (λ x t. with_line (record (of t) { counts = record (of t).counts { lost = x } }) t)
+    (λ b t. lost_valid (of t))
     ∷ []
+
+-- those of tick line k
+abbrev pub line_ticks : ℕ → Fields TickParts
+line_ticks k = ticks_of (λ l. l) (λ x l. x) (λ b l. up_allowed b k l.up)
+
+-- its policy, which is before the 8254
+abbrev pub line_policy : ℕ → Fields TickParts
+line_policy k =
+    elsewhere (policy_place k) policy (λ l. l.policy) (λ x l. record l { policy = x }) ∷ []
+
+-- tick line k
+unfoldable pub line : ℕ → Fields TickParts
+line k = line_ticks k ++ line_policy k
 
 -- the tick lines: two, and one for each timer
 unfoldable pub lines : ℕ → Fields BoardParts
@@ -293,34 +327,39 @@ rise_valid b k =
     nat_le (slice_index_or b.rises k 0)
     (b.accesses + one_if (slice_index_or (levels (devices_in b)) k false))
 
+-- whether the counts of lines 0 and 8 aren't too great
+abbrev pub legacy_rises_valid : BoardParts → Bool
+legacy_rises_valid b = rise_valid b 0 && rise_valid b 1
+
+-- the same of lines 20 to 23, which timers that send messages leave low
+abbrev pub routed_rises_valid : BoardParts → Bool
+routed_rises_valid b = rise_valid b 2 && rise_valid b 3 && rise_valid b 4 && rise_valid b 5
+
+-- the counts of the six lines
 unfoldable pub rises : ℕ → Fields BoardParts
 rises counts =
     row (faults_of Invalid) counts 6 (number 8) 0 (λ b. b.rises) (λ x b. record b { rises = x })
-    (λ b p. rise_valid p 0 && rise_valid p 1 && rise_valid p 2 && rise_valid p 3 && rise_valid p 4
-    && rise_valid p 5)
+    (λ b p. legacy_rises_valid p && (has_messages p.format || routed_rises_valid p))
     ∷ []
 
--- the wall clock: the number of its words, which is 0 before they are published first; their
--- version, which is even; its seconds and nanoseconds at power on
+-- a version is even; before the first publishing it is 0, with what is before it
+abbrev pub version_valid : ℕ → Bool → Bool
+version_valid version unused = (version % 2 == 0) && (nat_lt 0 version || unused)
+
+-- a field after a version: before the first publishing it is 0, and then it has this condition
+abbrev pub published_valid : ℕ → ℕ → Bool → Bool
+published_valid version value valid = if version == 0 then value == 0 else valid
+
+-- the wall clock: the number of its words, their version, its seconds and nanoseconds at power on
 unfoldable pub wall : Fields BoardParts
 wall =
     field (number 8) (λ b. b.wall_number) (λ x b. record b { wall_number = x }) any
     ∷ field (number 4) (λ b. b.wall_version) (λ x b. record b { wall_version = x })
-    (λ b p. (p.wall_version % 2 == 0) && (nat_lt 0 p.wall_version || (p.wall_number == 0)))
+    (λ b p. version_valid p.wall_version (p.wall_number == 0))
     ∷ field (number 4) (λ b. b.wall_sec) (λ x b. record b { wall_sec = x }) any
     ∷ field (number 4) (λ b. b.wall_nsec) (λ x b. record b { wall_nsec = x })
     (λ b p. nat_lt p.wall_nsec 1000000000)
     ∷ []
-
--- the version is even; before the first publishing it is 0, with what is before it
-abbrev pub version_valid : ProcessorParts → Bool
-version_valid p =
-    (p.version % 2 == 0)
-    && (nat_lt 0 p.version || ((p.offset == 0) && (p.adjust == 0) && (p.number == 0)))
-
--- a field after the version: before the first publishing it is 0, and then it has this condition
-abbrev pub page_valid : ProcessorParts → ℕ → Bool → Bool
-page_valid p value valid = if p.version == 0 then value == 0 else valid
 
 -- the TSC of a processor: offset, adjust; the number of its page, and the version
 unfoldable pub tsc : Fields ProcessorParts
@@ -329,23 +368,23 @@ tsc =
     ∷ field (number 8) (λ p. p.adjust) (λ x p. record p { adjust = x }) any
     ∷ field (number 8) (λ p. p.number) (λ x p. record p { number = x }) any
     ∷ field (number 4) (λ p. p.version) (λ x p. record p { version = x })
-    (λ b p. version_valid p)
+    (λ b p. version_valid p.version ((p.offset == 0) && (p.adjust == 0) && (p.number == 0)))
     ∷ []
 
 -- the page: TSC and time, their scale by the guest's rate, flags
 unfoldable pub page : Fields ProcessorParts
 page =
     field (number 8) (λ p. p.tsc_timestamp) (λ x p. record p { tsc_timestamp = x })
-    (λ b p. page_valid p p.tsc_timestamp true)
+    (λ b p. published_valid p.version p.tsc_timestamp true)
     ∷ field (number 8) (λ p. p.system_time) (λ x p. record p { system_time = x })
-    (λ b p. page_valid p p.system_time (nat_lt p.system_time RANGE_NS))
+    (λ b p. published_valid p.version p.system_time (nat_lt p.system_time RANGE_NS))
     ∷ field (number 4) (λ p. p.mul) (λ x p. record p { mul = x })
-    (λ b p. page_valid p p.mul (p.mul == mul_for (b.guest_khz * 1000)))
+    (λ b p. published_valid p.version p.mul (p.mul == mul_for (b.guest_khz * 1000)))
     ∷ field signed_byte (λ p. p.shift) (λ x p. record p { shift = x })
-    (λ b p. page_valid p (cast_unsigned w8 p.shift)
+    (λ b p. published_valid p.version (cast_unsigned w8 p.shift)
     (cast_unsigned w8 p.shift == cast_unsigned w8 (shift_for (b.guest_khz * 1000))))
     ∷ field byte (λ p. p.flags) (λ x p. record p { flags = x })
-    (λ b p. page_valid p p.flags (page_flags_valid p.flags))
+    (λ b p. published_valid p.version p.flags (page_flags_valid p.flags))
     ∷ []
 
 abbrev pub processor : ℕ → Fields ProcessorParts
@@ -357,6 +396,131 @@ processors cpus =
     (λ x b. record b { processors = x })
     ∷ []
 
+-- a local APIC's timer with its tick line
+abbrev pub Apic : Type 0
+Apic = Two ApicParts TickParts
+
+-- .. with another timer, and with another tick line
+abbrev pub with_timer : ApicParts → Apic → Apic
+with_timer x a = record a { first = x }
+
+abbrev pub with_ticks : TickParts → Apic → Apic
+with_ticks x a = record a { second = x }
+
+-- the timer: LVT, divide configuration, initial and current count, phase, deadline
+unfoldable pub apic_timer : Fields Apic
+apic_timer =
+    field (number 4) (λ a. a.first.lvt) (λ x a. with_timer (record a.first { lvt = x }) a)
+    (λ b a. lvt_valid a.first)
+    ∷ field byte (λ a. a.first.divide) (λ x a. with_timer (record a.first { divide = x }) a)
+    (λ b a. divide_valid a.first)
+    ∷ field (number 4) (λ a. a.first.initial)
+    (λ x a. with_timer (record a.first { initial = x }) a)
+    (λ b a. initial_valid a.first)
+    ∷ field (number 4) (λ a. a.first.current)
+    (λ x a. with_timer (record a.first { current = x }) a)
+    (λ b a. current_valid a.first)
+    ∷ field byte (λ a. a.first.phase) (λ x a. with_timer (record a.first { phase = x }) a)
+    (λ b a. phase_valid a.first)
+    ∷ field (number 8) (λ a. a.first.deadline)
+    (λ x a. with_timer (record a.first { deadline = x }) a)
+    (λ b a. deadline_valid a.first)
+    ∷ []
+
+-- its tick line, whose policy is Discard on each board
+unfoldable pub apic_line : Fields Apic
+apic_line = ticks_of (λ a. a.second) with_ticks any
+
+-- the timer of processor k, with its tick line
+abbrev pub apic : ℕ → Fields Apic
+apic k = apic_timer ++ apic_line
+
+-- what the place of a processor that isn't there holds
+abbrev pub no_apic : Apic
+no_apic = record { first = no_timer; second = no_line }
+
+-- the timers of a board, each with its tick line, and a board with others
+abbrev pub apic_pairs : BoardParts → List Apic
+apic_pairs b = pairs b.apic b.apic_ticks
+
+abbrev pub with_apic_pairs : List Apic → BoardParts → BoardParts
+with_apic_pairs x b = record b {
+  apic = map (λ a. a.first) x;
+  apic_ticks = map (λ a. a.second) x;
+}
+
+-- the timers of n processors
+unfoldable pub apics : ℕ → Fields BoardParts
+apics n = blocks n 64 apic no_apic apic_pairs with_apic_pairs ∷ []
+
+-- the scale of a reference page: that of the guest's rate where bit 0 of the number enables it
+abbrev pub scale_for : ℕ → ℕ → ℕ
+scale_for guest_khz number = if bit 0 number then tsc_scale guest_khz else 0
+
+-- the reference page of Hyper-V: its number, its version, its processor; its scale; what is added,
+-- and the TSC's offset, both 0 where the scale is
+unfoldable pub reference : ℕ → Fields HvParts
+reference k =
+    field (number 8) (λ p. p.number) (λ x p. record p { number = x }) any
+    ∷ field (number 4) (λ p. p.version) (λ x p. record p { version = x })
+    (λ b p. version_valid p.version (p.number == 0))
+    ∷ field byte (λ p. p.cpu) (λ x p. record p { cpu = x })
+    (λ b p. published_valid p.version p.cpu (nat_lt p.cpu b.cpus))
+    ∷ field (number 8) (λ p. p.scale) (λ x p. record p { scale = x })
+    (λ b p. p.scale == scale_for b.guest_khz p.number)
+    ∷ field (number 8) (λ p. p.offset) (λ x p. record p { offset = x })
+    (λ b p. nat_lt 0 p.scale || (p.offset == 0))
+    ∷ field (number 8) (λ p. p.tsc_offset) (λ x p. record p { tsc_offset = x })
+    (λ b p. nat_lt 0 p.scale || (p.tsc_offset == 0))
+    ∷ []
+
+-- how many such pages a format has
+abbrev pub references_of : ℕ → ℕ
+references_of format = if nat_le HV_FORMAT format then 1 else 0
+
+-- those pages
+unfoldable pub references : ℕ → Fields BoardParts
+references n =
+    blocks n 1 reference no_hv (λ b. b.hv ∷ []) (λ x b. record b { hv = slice_index_or x 0 no_hv })
+    ∷ []
+
+-- the messages of a timer of the HPET: whether it sends them, and its message register
+abbrev pub Message : Type 0
+Message = Two Bool ℕ
+
+-- those of timer k. With the last timer the levels of lines 20 to 23 are known, so their counts of
+-- rises have their condition there
+unfoldable pub message : ℕ → Fields Message
+message k =
+    field flag (λ m. m.first) (λ x m. record m { first = x })
+    (λ b m. not (k == 7) || routed_rises_valid b)
+    ∷ field (number 8) (λ m. m.second) (λ x m. record m { second = x }) any
+    ∷ []
+
+-- how many timers of a format send messages
+abbrev pub messages_of : ℕ → ℕ
+messages_of format = if has_messages format then 8 else 0
+
+-- what the place of a timer that sends none holds
+abbrev pub no_message : Message
+no_message = record { first = false; second = 0 }
+
+-- the messages of a board's timers, and a board with others
+abbrev pub message_pairs : BoardParts → List Message
+message_pairs b = pairs b.hpet.message_bit b.hpet.message_word
+
+abbrev pub with_message_pairs : List Message → BoardParts → BoardParts
+with_message_pairs x b = record b {
+  hpet = record b.hpet {
+    message_bit = map (λ m. m.first) x;
+    message_word = map (λ m. m.second) x;
+  };
+}
+
+-- the messages of n timers
+unfoldable pub messages : ℕ → Fields BoardParts
+messages n = blocks n 8 message no_message message_pairs with_message_pairs ∷ []
+
 -- all before the 8254, the devices with their tick lines, and what follows these
 abbrev pub front : Fields BoardParts
 front = head ++ host ++ guest ++ policies
@@ -366,7 +530,10 @@ devices format =
     counters ++ clock ++ registers ++ timers (timers_of format) ++ lines (timers_of format)
 
 abbrev pub back : ℕ → ℕ → Fields BoardParts
-back format cpus = rises (counts_of format) ++ wall ++ processors cpus
+back format cpus =
+    rises (counts_of format) ++ wall ++ processors cpus ++ apics (apics_of format cpus)
+    ++ references (references_of format)
+    ++ messages (messages_of format)
 
 -- the fields of a board of a format
 abbrev pub fields_of : ℕ → ℕ → Fields BoardParts

@@ -1,16 +1,12 @@
 -- The board that bytes are, whether or not their conditions hold.
-use Rattle.std.specs.Prelude.{ℕ, false, List, [], replicate}
+use Rattle.std.specs.Prelude.{ℕ, false, List, []}
 use Rattle.board_types.specs.declared.parts.BoardParts.{BoardParts}
-use Rattle.hpet_registers.specs.Parts.{no_bits, no_words}
-use Rattle.board_devices.specs.Places.{no_line}
-use Rattle.board_core.specs.Apics.{no_apic}
 use Rattle.board_core.specs.Hv.{no_hv}
 use Rattle.byte_table.specs.Fold.{read}
 use Rattle.save_state.specs.Fields.{Fields, fields_of}
 use Rattle.save_state.specs.Places.{format_in, cpus_in}
 
--- what all fields are put into: no format that is built has timers of local APICs or a reference page
--- of Hyper-V
+-- what all fields are put into
 abbrev pub blank : BoardParts
 blank = record {
   format = 0;
@@ -30,8 +26,8 @@ blank = record {
     timer = [];
     timers = 0;
     messages = false;
-    message_bit = no_bits;
-    message_word = no_words;
+    message_bit = [];
+    message_word = [];
   };
   ticks = [];
   wall_number = 0;
@@ -40,8 +36,8 @@ blank = record {
   wall_nsec = 0;
   processors = [];
   rises = [];
-  apic = replicate 64 no_apic;
-  apic_ticks = replicate 64 no_line;
+  apic = [];
+  apic_ticks = [];
   hv = no_hv;
 }
 

@@ -9,10 +9,13 @@ ghost use Rattle.save_state.specs.Table.{fault_of};
 ghost use Rattle.save_state.specs.Writing.{bytes_of};
 ghost use Rattle.save_state.specs.private.Parts.{devices_fault, rest_fault};
 
+use crate::apics::apics_fault;
 use crate::fault::StateFault;
 use crate::faults::{clock_fault, counters_fault, registers_fault, timers_fault};
 use crate::head::head_fault;
 use crate::lines::{lines_fault, rises_fault};
+use crate::messages::messages_fault;
+use crate::reference::references_fault;
 use crate::rest::{processors_fault, trailing_fault, wall_fault};
 use crate::whole::board_in;
 use board_core::{BoardParts, BoardState};
@@ -72,6 +75,8 @@ fn devices_fault(bytes: &[u8], b: &BoardParts) -> Option<StateFault>
 #[tactic(auto, unfolding(crate::specs::private::Parts::rest_fault))]
 fn rest_fault(bytes: &[u8], b: &BoardParts) -> Option<StateFault>
     requires few { b.now.cpus ≤ 64 }
+    requires rate { IsKhz b.now.anchor.khz }
+    requires time { HasTime b.now.anchor b.now.host }
     requires guest { IsKhz b.now.guest_khz }
     requires accesses { b.now.accesses ≤ MOST_ACCESSES }
     requires devices { AreDevices (devices_in b.now) }
@@ -84,6 +89,15 @@ fn rest_fault(bytes: &[u8], b: &BoardParts) -> Option<StateFault>
         return Some(fault);
     }
     if let Some(fault) = processors_fault(bytes, b) {
+        return Some(fault);
+    }
+    if let Some(fault) = apics_fault(bytes, b) {
+        return Some(fault);
+    }
+    if let Some(fault) = references_fault(bytes, b) {
+        return Some(fault);
+    }
+    if let Some(fault) = messages_fault(bytes, b) {
         return Some(fault);
     }
     trailing_fault(bytes, b)

@@ -25,14 +25,18 @@ ghost use Rattle.save_state.specs.private.Fits.{
   TimersFit,
   LinesFit,
   ProcessorsFit,
+  ApicsFit,
   BlocksFit,
 };
 ghost use Rattle.save_state.specs.Reading.{board_in};
 ghost use Rattle.save_state.specs.Table.{fault_of};
 ghost use Rattle.save_state.specs.Writing.{bytes_of};
 
+use crate::apics::put_apics;
 use crate::appending::{put_counter, put_line, put_processor, put_timer};
-use crate::whole::counts_of;
+use crate::messages::put_messages;
+use crate::places::{counts_of, end_place};
+use crate::reference::put_references;
 use board_core::{BoardParts, BoardState, timers_of};
 use byte_table::{flag_byte, put, put_2, put_4, put_8};
 use clk_units::NoMemory;
@@ -41,13 +45,6 @@ use std::alloc::Global;
 /// 'CLKBOARD', as a number of 8 bytes, the lowest first.
 pub(crate) const MAGIC: u64 = 0x4452_414f_424b_4c43;
 
-/// How many bytes a saved state has without its processors, in formats 1 and 2, and for each processor.
-const FIRST_LEN: usize = 503;
-
-const SECOND_LEN: usize = 806;
-
-const PROCESSOR_LEN: usize = 50;
-
 /// The bytes of a board, in one allocation of their number. They have no fault, and `decode` gives the board back.
 pub fn encode(alloc: Global, state: &BoardState) -> Result<Vec<u8>, NoMemory>
     ensures bytes { IfOk result (λ bytes. bytes.items ≡ bytes_of state.now) }
@@ -55,19 +52,13 @@ pub fn encode(alloc: Global, state: &BoardState) -> Result<Vec<u8>, NoMemory>
     ensures reads_back { IfOk result (λ bytes. board_in bytes.items ≡ state.now) }
 {
     let b = state.parts();
-    match Vec::with_capacity(alloc, length_of(b.format, b.cpus)) {
+    match Vec::with_capacity(alloc, end_place(b.format, b.cpus)) {
         Ok(mut out) => {
             put_board(&mut out, &b)?;
             Ok(out)
         }
         Err(_) => Err(NoMemory),
     }
-}
-
-/// How many bytes a board has.
-fn length_of(format: u8, cpus: u8) -> usize {
-    let first = if format <= 1 { FIRST_LEN } else { SECOND_LEN };
-    first + PROCESSOR_LEN * usize::from(cpus)
 }
 
 /// Appends a board.
@@ -113,11 +104,15 @@ fn put_back(out: &mut Vec<u8>, b: &BoardParts) -> Result<(), NoMemory>
     requires { b.now.cpus ≤ 64 }
     ensures bytes { OnOk result (out.new.items
         ≡ out.old.items ++ write (back b.now.format b.now.cpus) b.now) }
-    ensures fit { OnOk result (ProcessorsFit b.now) }
+    ensures processors { OnOk result (ProcessorsFit b.now) }
+    ensures apics { OnOk result (ApicsFit b.now) }
 {
     put_rises(out, b)?;
     put_wall(out, b)?;
-    put_processors(out, b)
+    put_processors(out, b)?;
+    put_apics(out, b)?;
+    put_references(out, b)?;
+    put_messages(out, b)
 }
 
 /// Appends the magic word, the version and the number of processors.

@@ -12,6 +12,7 @@
 //! ```
 #![tactic(auto)]
 
+mod apics;
 mod appending;
 mod decoding;
 mod encoding;
@@ -19,7 +20,10 @@ mod fault;
 mod faults;
 mod head;
 mod lines;
+mod messages;
 mod pieces;
+mod places;
+mod reference;
 mod rest;
 mod table;
 mod whole;

@@ -1,7 +1,7 @@
 //! The first fault of the tick lines, and of the counts of rises.
-ghost use Rattle.std.specs.Prelude.{◌≡◌, ℕ, ◌+◌, ◌*◌, ◌<◌, ◌≤◌, ◌&&◌, nat_lt, nat_le, false, slice_index_or};
+ghost use Rattle.std.specs.Prelude.{◌≡◌, ℕ, ◌+◌, ◌*◌, ◌<◌, ◌≤◌, ◌&&◌, ◌||◌, slice_index_or};
 ghost use Rattle.rtc_registers.specs.Registers.{pf_of};
-ghost use Rattle.board_types.specs.Setup.{timers_of};
+ghost use Rattle.board_types.specs.Setup.{timers_of, has_messages};
 ghost use Rattle.board_types.specs.declared.parts.TheConstants.{MOST_ACCESSES};
 ghost use Rattle.board_devices.specs.Nanosecond.{counts_rtc};
 ghost use Rattle.board_devices.specs.Lines.{levels};
@@ -9,15 +9,16 @@ ghost use Rattle.board_devices.specs.Parts.{AreDevices};
 ghost use Rattle.board_devices.specs.Places.{no_line, line_at};
 ghost use Rattle.board_core.specs.Time.{devices_in, now_of, HasTime};
 ghost use Rattle.byte_table.specs.Fold.{fault_in};
-ghost use Rattle.save_state.specs.Fields.{line, lines, up_allowed, counts_of, rise_valid, rises};
+ghost use Rattle.save_state.specs.Fields.{line, lines, up_allowed, counts_of, rise_valid, legacy_rises_valid, routed_rises_valid, rises};
 ghost use Rattle.save_state.specs.private.Places.{line_place, rises_place};
 ghost use Rattle.clk_units.specs.Ranges.{IsKhz};
 
 use crate::fault::StateFault;
+use crate::places::{counts_of, line_place, rises_place};
 use crate::table::{both, fault_in, field};
-use crate::whole::{counts_of, line_place, rises_place};
 use board_core::{BoardParts, timers_of};
 use board_devices::{DeviceParts, Devices};
+use board_types::has_messages;
 use byte_table::flag_valid;
 use clk_units::bit;
 use irq_edges::Lines;
@@ -91,20 +92,28 @@ pub(crate) fn rises_fault(bytes: &[u8], b: &BoardParts) -> Option<StateFault>
     ensures { result ≡ fault_in (rises (counts_of b.now.format)) b.now b.now
         (rises_place b.now.format) bytes.now }
 {
-    let valid = [
-        rise_valid(b, 0),
-        rise_valid(b, 1),
-        rise_valid(b, 2),
-        rise_valid(b, 3),
-        rise_valid(b, 4),
-        rise_valid(b, 5),
-    ];
     let size = 8 * counts_of(b.format);
-    fault_in(
-        bytes,
-        rises_place(b.format),
-        &[field(size, all_valid(&valid))],
-    )
+    let rows = [field(size, rises_valid(b))];
+    fault_in(bytes, rises_place(b.format), &rows)
+}
+
+/// Whether the counts of rises are valid; those of lines 20 to 23 are looked at later where timers send messages.
+fn rises_valid(b: &BoardParts) -> bool
+    requires accesses { b.now.accesses ≤ MOST_ACCESSES }
+    requires devices { AreDevices (devices_in b.now) }
+    ensures { result ≡ (legacy_rises_valid b.now
+        && (has_messages b.now.format || routed_rises_valid b.now)) }
+{
+    rise_valid(b, 0) && rise_valid(b, 1) && (has_messages(b.format) || routed_rises_valid(b))
+}
+
+/// Whether the counts of rises of lines 20 to 23 are valid.
+pub(crate) fn routed_rises_valid(b: &BoardParts) -> bool
+    requires accesses { b.now.accesses ≤ MOST_ACCESSES }
+    requires devices { AreDevices (devices_in b.now) }
+    ensures { result ≡ routed_rises_valid b.now }
+{
+    rise_valid(b, 2) && rise_valid(b, 3) && rise_valid(b, 4) && rise_valid(b, 5)
 }
 
 /// Whether the count of rises of line `k` isn't too great. The line's level is looked at only where there were more
@@ -138,13 +147,4 @@ fn lines_of(b: &BoardParts) -> Lines
         Some(devices) => devices.lines(),
         None => unreachable!(),
     }
-}
-
-/// Whether all six are valid.
-fn all_valid(valid: &[bool; 6]) -> bool
-    ensures { result ≡ (slice_index_or valid.now 0 false && slice_index_or valid.now 1 false
-        && slice_index_or valid.now 2 false && slice_index_or valid.now 3 false
-        && slice_index_or valid.now 4 false && slice_index_or valid.now 5 false) }
-{
-    valid[0] && valid[1] && valid[2] && valid[3] && valid[4] && valid[5]
 }

@@ -1,10 +1,10 @@
 //! The blocks of a saved state, read whether or not their conditions hold.
-ghost use Rattle.std.specs.Prelude.{◌≡◌, ℕ, ◌<◌};
+ghost use Rattle.std.specs.Prelude.{◌≡◌, ℕ, ◌+◌, ◌<◌};
 ghost use Rattle.hpet_registers.specs.Parts.{no_timer};
 ghost use Rattle.board_devices.specs.Places.{no_line};
 ghost use Rattle.board_core.specs.Tsc.{no_processor};
 ghost use Rattle.tick_policy.specs.Parts.{policy_of};
-ghost use Rattle.byte_table.specs.Codes.{byte_at};
+ghost use Rattle.byte_table.specs.Codes.{byte_at, flag_at, number_at};
 ghost use Rattle.byte_table.specs.Fold.{read};
 ghost use Rattle.save_state.specs.Fields.{
   counter,
@@ -81,8 +81,25 @@ pub(crate) fn line_in(bytes: &[u8], k: u8, place: usize) -> TickParts
     requires { place < 8000 }
     ensures { result ≡ read (line k) place bytes.now no_line }
 {
+    ticks_in(bytes, policy_in(bytes, k), place)
+}
+
+/// A tick line with this policy.
+pub(crate) fn ticks_in(bytes: &[u8], policy: Policy, place: usize) -> TickParts
+    requires { place < 8000 }
+    ensures { result ≡ record {
+      policy = policy;
+      up = flag_at place bytes.now;
+      counts = record {
+        due = number_at 8 (place + 1) bytes.now;
+        rises = number_at 8 (place + 9) bytes.now;
+        queue = number_at 8 (place + 17) bytes.now;
+        lost = number_at 8 (place + 25) bytes.now;
+      };
+    } }
+{
     TickParts {
-        policy: policy_in(bytes, k),
+        policy,
         up: flag_at(bytes, place),
         counts: Counts {
             due: eight_at(bytes, place + 1),

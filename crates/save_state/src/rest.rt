@@ -5,14 +5,14 @@ ghost use Rattle.pvclock_page.specs.Scale.{mul_for, shift_for};
 ghost use Rattle.clk_units.specs.Ranges.{IsKhz};
 ghost use Rattle.board_core.specs.Tsc.{no_processor};
 ghost use Rattle.byte_table.specs.Fold.{fault_in};
-ghost use Rattle.save_state.specs.Fields.{wall, version_valid, page_valid, processor, processors};
+ghost use Rattle.save_state.specs.Fields.{wall, version_valid, published_valid, processor, processors};
 ghost use Rattle.save_state.specs.Table.{trailing};
 ghost use Rattle.save_state.specs.private.Rows.{processor_rows};
-ghost use Rattle.save_state.specs.private.Places.{wall_place, processor_place};
+ghost use Rattle.save_state.specs.private.Places.{wall_place, processor_place, end_place};
 
 use crate::fault::{StateFault, StateKind};
-use crate::table::{Row, both, either, fault_in, field};
-use crate::whole::{processor_place, wall_place};
+use crate::places::{end_place, processor_place, wall_place};
+use crate::table::{Row, either, fault_in, field};
 use board_core::{BoardParts, ProcessorParts};
 use clk_units::RANGE_NS;
 use pvclock_page::scale_of;
@@ -21,10 +21,9 @@ use pvclock_page::scale_of;
 pub(crate) fn wall_fault(bytes: &[u8], b: &BoardParts) -> Option<StateFault>
     ensures { result ≡ fault_in wall b.now b.now (wall_place b.now.format) bytes.now }
 {
-    let known = either(0 < b.wall_version, b.wall_number == 0);
     let rows = [
         field(8, true),
-        field(4, both(b.wall_version % 2 == 0, known)),
+        field(4, version_valid(b.wall_version, b.wall_number == 0)),
         field(4, true),
         field(4, b.wall_nsec < 1_000_000_000),
     ];
@@ -66,42 +65,54 @@ fn processor_rows(p: &ProcessorParts, mul: u32, shift: u8) -> [Row; 9]
     ensures { result ≡ processor_rows mul shift p.now }
 {
     let shift_byte = p.shift.cast_unsigned();
+    let unused = p.offset == 0 && p.adjust == 0 && p.number == 0;
+    let version = p.version;
     [
         field(8, true),
         field(8, true),
         field(8, true),
-        field(4, version_valid(p)),
-        field(8, page_valid(p, p.tsc_timestamp, true)),
-        field(8, page_valid(p, p.system_time, p.system_time < RANGE_NS)),
-        field(4, page_valid(p, u64::from(p.mul), p.mul == mul)),
-        field(1, page_valid(p, u64::from(shift_byte), shift_byte == shift)),
+        field(4, version_valid(version, unused)),
+        field(8, published_valid(version, p.tsc_timestamp, true)),
+        field(
+            8,
+            published_valid(version, p.system_time, p.system_time < RANGE_NS),
+        ),
+        field(4, published_valid(version, u64::from(p.mul), p.mul == mul)),
         field(
             1,
-            page_valid(p, u64::from(p.flags), either(p.flags == 1, p.flags == 3)),
+            published_valid(version, u64::from(shift_byte), shift_byte == shift),
+        ),
+        field(
+            1,
+            published_valid(
+                version,
+                u64::from(p.flags),
+                either(p.flags == 1, p.flags == 3),
+            ),
         ),
     ]
 }
 
-/// Whether the version is even, and before the first publishing 0 with what is before it.
-fn version_valid(p: &ProcessorParts) -> bool
-    ensures { result ≡ version_valid p.now }
+/// Whether a version is even, and before the first publishing 0 with what is before it.
+pub(crate) fn version_valid(version: u32, unused: bool) -> bool
+    ensures { result ≡ version_valid version unused }
 {
-    p.version % 2 == 0 && (0 < p.version || (p.offset == 0 && p.adjust == 0 && p.number == 0))
+    version % 2 == 0 && (0 < version || unused)
 }
 
-/// Whether a field after the version is 0 before the first publishing, and then as it has to be.
-fn page_valid(p: &ProcessorParts, value: u64, valid: bool) -> bool
-    ensures { result ≡ page_valid p.now value valid }
+/// Whether a field after a version is 0 before the first publishing, and then as it has to be.
+pub(crate) fn published_valid(version: u32, value: u64, valid: bool) -> bool
+    ensures { result ≡ published_valid version value valid }
 {
-    if p.version == 0 { value == 0 } else { valid }
+    if version == 0 { value == 0 } else { valid }
 }
 
 /// Bytes after the last field.
 pub(crate) fn trailing_fault(bytes: &[u8], b: &BoardParts) -> Option<StateFault>
     requires { b.now.cpus ≤ 64 }
-    ensures { result ≡ trailing (processor_place b.now.format b.now.cpus) bytes.now }
+    ensures { result ≡ trailing (end_place b.now.format b.now.cpus) bytes.now }
 {
-    let wanted = processor_place(b.format, b.cpus);
+    let wanted = end_place(b.format, b.cpus);
     if wanted < bytes.len() {
         Some(StateFault {
             place: wanted as u64,

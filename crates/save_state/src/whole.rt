@@ -12,12 +12,16 @@ ghost use Rattle.save_state.specs.Reading.{board_in};
 ghost use Rattle.save_state.specs.private.Places.{
   line_place,
   rises_place,
-  wall_place,
   processor_place,
 };
 
+use crate::apics::{apic_lines_in, apic_timers_in};
+use crate::messages::{message_bits_in, message_words_in};
 use crate::pieces::{counter_in, line_in, processor_in, timer_in};
-use board_core::{BoardParts, NO_APIC, NO_HV, ProcessorParts, timers_of};
+use crate::places::{counts_of, line_place, processor_place, rises_place, wall_place};
+use crate::reference::hv_in;
+use board_core::{BoardParts, ProcessorParts, timers_of};
+use board_types::has_messages;
 use byte_table::{byte_at, eight_at, flag_at, four_at, two_at};
 use host_counter::Anchor;
 use hpet_comparator::TimerParts;
@@ -47,7 +51,7 @@ const NO_TIMER: TimerParts = TimerParts {
 };
 
 /// What the place of a tick line that isn't there holds.
-const NO_LINE: TickParts = TickParts {
+pub(crate) const NO_LINE: TickParts = TickParts {
     policy: Policy::Discard,
     up: false,
     counts: Counts {
@@ -57,47 +61,6 @@ const NO_LINE: TickParts = TickParts {
         lost: 0,
     },
 };
-
-/// How many counts of rises a format has.
-pub(crate) fn counts_of(format: u8) -> u8
-    ensures { result ≡ counts_of format }
-{
-    if format >= 2 { 6 } else { 0 }
-}
-
-/// Where tick line `k` begins.
-pub(crate) fn line_place(format: u8, k: u8) -> usize
-    requires { k ≤ 10 }
-    ensures value { result ≡ line_place format k }
-    ensures small { result ≤ 738 }
-{
-    264 + 18 * usize::from(timers_of(format)) + 33 * usize::from(k)
-}
-
-/// Where the counts of rises begin.
-pub(crate) fn rises_place(format: u8) -> usize
-    ensures value { result ≡ rises_place format }
-    ensures small { result ≤ 738 }
-{
-    line_place(format, timers_of(format) + 2)
-}
-
-/// Where the wall clock begins.
-pub(crate) fn wall_place(format: u8) -> usize
-    ensures value { result ≡ wall_place format }
-    ensures small { result ≤ 786 }
-{
-    rises_place(format) + 8 * usize::from(counts_of(format))
-}
-
-/// Where processor `k` begins.
-pub(crate) fn processor_place(format: u8, k: u8) -> usize
-    requires { k ≤ 64 }
-    ensures value { result ≡ processor_place format k }
-    ensures small { result ≤ 4006 }
-{
-    wall_place(format) + 20 + 50 * usize::from(k)
-}
 
 /// The bytes of the MC146818.
 fn clock_bytes_in(bytes: &[u8]) -> [u8; 128]
@@ -123,8 +86,10 @@ fn timers_in(bytes: &[u8], format: u8) -> [TimerParts; 8]
 }
 
 /// The HPET.
-fn hpet_in(bytes: &[u8], format: u8) -> HpetParts
-    requires { format ≡ format_in bytes.now }
+fn hpet_in(bytes: &[u8], format: u8, cpus: u8) -> HpetParts
+    requires format { format ≡ format_in bytes.now }
+    requires cpus { cpus ≡ cpus_in bytes.now }
+    requires few { cpus ≤ 64 }
     ensures { result ≡ (board_in bytes.now).hpet }
 {
     HpetParts {
@@ -133,9 +98,9 @@ fn hpet_in(bytes: &[u8], format: u8) -> HpetParts
         counter: eight_at(bytes, 256),
         timer: timers_in(bytes, format),
         timers: timers_of(format),
-        messages: false,
-        message_bit: [false; 8],
-        message_word: [0; 8],
+        messages: has_messages(format),
+        message_bit: message_bits_in(bytes, format, cpus),
+        message_word: message_words_in(bytes, format, cpus),
     }
 }
 
@@ -211,7 +176,7 @@ pub(crate) fn board_in(bytes: &[u8], format: u8, cpus: u8) -> BoardParts
             d: two_at(bytes, 251),
             cycle: flag_at(bytes, 253),
         },
-        hpet: hpet_in(bytes, format),
+        hpet: hpet_in(bytes, format, cpus),
         ticks: lines_in(bytes, format),
         wall_number: eight_at(bytes, wall),
         wall_version: four_at(bytes, wall + 8),
@@ -219,8 +184,8 @@ pub(crate) fn board_in(bytes: &[u8], format: u8, cpus: u8) -> BoardParts
         wall_nsec: four_at(bytes, wall + 16),
         processors: processors_in(bytes, format, cpus),
         rises: rises_in(bytes, format),
-        apic: [NO_APIC; 64],
-        apic_ticks: [NO_LINE; 64],
-        hv: NO_HV,
+        apic: apic_timers_in(bytes, format, cpus),
+        apic_ticks: apic_lines_in(bytes, format, cpus),
+        hv: hv_in(bytes, format, cpus),
     }
 }

@@ -1,5 +1,5 @@
 -- What the types of a board's fields say: each number fits its bytes, each list has its places.
-use Rattle.std.specs.Prelude.{◌≡◌, ℕ, ◌+◌, ◌^◌, ◌<◌, length, slice_index}
+use Rattle.std.specs.Prelude.{◌≡◌, ℕ, ◌+◌, ◌^◌, ◌<◌, length, slice_index, slice_index_or}
 use Rattle.std.specs.Int.{w8}
 use Rattle.std.specs.Int.RustNames.{FitsSigned}
 use Rattle.pit_counter.specs.declared.parts.CounterParts.{CounterParts}
@@ -9,12 +9,16 @@ use Rattle.hpet_registers.specs.declared.parts.HpetParts.{HpetParts}
 use Rattle.hpet_registers.specs.Parts.{timer_at}
 use Rattle.pit_readback.specs.declared.parts.PitParts.{PitParts}
 use Rattle.tick_policy.specs.declared.parts.TickParts.{TickParts}
+use Rattle.lapic_timer.specs.declared.parts.ApicParts.{ApicParts}
 use Rattle.board_types.specs.declared.parts.BoardParts.{BoardParts}
+use Rattle.board_types.specs.declared.parts.HvParts.{HvParts}
 use Rattle.board_types.specs.declared.parts.ProcessorParts.{ProcessorParts}
 use Rattle.board_types.specs.Setup.{timers_of}
 use Rattle.board_devices.specs.Places.{line_at}
 use Rattle.board_core.specs.Time.{devices_in}
 use Rattle.board_core.specs.Tsc.{processor_at}
+use Rattle.board_core.specs.Apics.{apics_of}
+use Rattle.save_state.specs.Fields.{Apic, apic_pairs, no_apic}
 
 -- a counter
 pub record CounterFits (c : CounterParts) : Type 0 where
@@ -65,12 +69,36 @@ LinesFit b = (k : ℕ) → k < timers_of b.format + 2 → LineFits (line_at k (d
 abbrev pub ProcessorsFit : BoardParts → Type 0
 ProcessorsFit b = (k : ℕ) → k < b.cpus → ProcessorFits (processor_at b k)
 
+-- a timer of a local APIC with its tick line, and those that are written
+pub record ApicTimerFits (p : ApicParts) : Type 0 where
+  pub lvt : p.lvt < 256 ^ 4
+  pub initial : p.initial < 256 ^ 4
+  pub current : p.current < 256 ^ 4
+  pub deadline : p.deadline < 256 ^ 8
+
+pub record ApicFits (a : Apic) : Type 0 where
+  pub timer : ApicTimerFits a.first
+  pub line : LineFits a.second
+
+abbrev pub ApicsFit : BoardParts → Type 0
+ApicsFit b =
+    (k : ℕ) → k < apics_of b.format b.cpus → ApicFits (slice_index_or (apic_pairs b) k no_apic)
+
 -- all of them
 pub record BlocksFit (b : BoardParts) : Type 0 where
   pub counters : CountersFit b.pit
   pub timers : TimersFit b.hpet
   pub lines : LinesFit b
   pub processors : ProcessorsFit b
+  pub apics : ApicsFit b
+
+-- the reference page
+pub record ReferenceFits (p : HvParts) : Type 0 where
+  pub number : p.number < 256 ^ 8
+  pub version : p.version < 256 ^ 4
+  pub scale : p.scale < 256 ^ 8
+  pub offset : p.offset < 256 ^ 8
+  pub tsc_offset : p.tsc_offset < 256 ^ 8
 
 -- a board
 pub record BoardFits (b : BoardParts) : Type 0 where
@@ -95,3 +123,5 @@ pub record BoardFits (b : BoardParts) : Type 0 where
   pub processor_places : length b.processors ≡ 64
   pub rises : (k : ℕ) → slice_index b.rises k < 256 ^ 8
   pub rise_places : length b.rises ≡ 6
+  pub reference : ReferenceFits b.hv
+  pub words : (k : ℕ) → slice_index b.hpet.message_word k < 256 ^ 8

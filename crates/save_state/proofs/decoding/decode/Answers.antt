@@ -64,6 +64,14 @@ rest_fault-requires-clause-few c =
     let head = right-head _ b (right _ _ (λ k. omega (arith, c.type_inv.bytes k)) c.in_default.ensures c.board_in-parts.ensures) in
     omega (arith, head.most_cpus, processors_few b.format)
 
+pub rest_fault-requires-clause-rate : goal.rest_fault-requires-clause-rate
+rest_fault-requires-clause-rate c =
+    (right-head _ _ (right _ _ (λ k. omega (arith, c.type_inv.bytes k)) c.in_default.ensures c.board_in-parts.ensures)).host
+
+pub rest_fault-requires-clause-time : goal.rest_fault-requires-clause-time
+rest_fault-requires-clause-time c =
+    (right-head _ _ (right _ _ (λ k. omega (arith, c.type_inv.bytes k)) c.in_default.ensures c.board_in-parts.ensures)).time
+
 pub rest_fault-requires-clause-guest : goal.rest_fault-requires-clause-guest
 rest_fault-requires-clause-guest c =
     (right-head _ _ (right _ _ (λ k. omega (arith, c.type_inv.bytes k)) c.in_default.ensures c.board_in-parts.ensures)).guest

@@ -35,6 +35,14 @@ board_fits c = record {
   processor_places = search rules;
   rises = λ (k : ℕ). search rules;
   rise_places = search rules;
+  words = λ (k : ℕ). search rules;
+  reference = record {
+    number = search rules;
+    version = search rules;
+    scale = search rules;
+    offset = search rules;
+    tsc_offset = search rules;
+  };
 }
 
 pub returns-in_ok-put_board-in-Ok-clause-valid : goal.returns-in_ok-put_board-in-Ok-clause-valid

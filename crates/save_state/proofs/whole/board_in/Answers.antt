@@ -1,21 +1,29 @@
-use Rattle.std.proofs.Common.{◌≡◌, ℕ, List, ◌+◌, ◌-◌, ◌*◌, [], ◌∷◌, ◌++◌, replicate, ap, ◌∙◌, arith}
+use Rattle.std.proofs.Common.{◌≡◌, ℕ, List, ◌+◌, ◌-◌, ◌*◌, [], ◌∷◌, ◌++◌, map, replicate, ap, ◌∙◌, arith}
+use Rattle.lapic_timer.specs.declared.parts.ApicParts.{ApicParts}
+use Rattle.tick_policy.specs.declared.parts.TickParts.{TickParts}
 use Rattle.board_types.specs.Setup.{timers_of}
 use Rattle.board_devices.specs.Places.{no_line}
-use Rattle.board_core.specs.Apics.{no_apic}
-use Rattle.board_core.specs.Hv.{no_hv}
+use Rattle.board_core.specs.Apics.{apics_of}
 use Rattle.board_core.specs.Tsc.{no_processor}
 use Rattle.byte_table.specs.Codes.{number, number_at, row_value}
-use Rattle.byte_table.specs.Fold.{size_below, read_below}
+use Rattle.byte_table.specs.Fold.{read_below}
 use Rattle.byte_table.specs.Kinds.{plain, row, blocks}
-use Rattle.save_state.specs.Fields.{head, host, guest, policies, counters, counter, clock, registers, timers, timer, lines, line, rises, wall, processors, processor, counts_of}
+use Rattle.save_state.specs.Fields.{head, host, guest, policies, counters, counter, clock, registers, timers, timer, lines, line, rises, wall, processors, Apic, apics, references, messages, processor, counts_of}
 use Rattle.save_state.specs.Places.{format_in, cpus_in}
 use Rattle.save_state.specs.Reading.{board_in}
-use Rattle.save_state.specs.private.Places.{line_place, rises_place, wall_place, processor_place}
-use Rattle.save_state.proofs.Sizes.{lines-at, rises-at, wall-at}
+use Rattle.save_state.specs.private.Places.{line_place, rises_place, wall_place, processor_place, apic_place}
+use Rattle.save_state.proofs.ApicLaws.{apics_read}
+use Rattle.save_state.proofs.Sizes.{wall_sum, lines-at, rises-at, wall-at, processors-at, apics-at}
 use Rattle.save_state.proofs.whole.board_in.Goals as goal
 
+abbrev firsts : List Apic → List ApicParts
+firsts xs = map (λ (a : Apic). a.first) xs
+
+abbrev seconds : List Apic → List TickParts
+seconds xs = map (λ (a : Apic). a.second) xs
+
 pub returns : goal.returns
-unfolding board_in head host guest policies counters counter clock registers timers timer lines line rises wall processors plain row blocks
+unfolding board_in head host guest policies counters counter clock registers timers timer lines line rises wall processors apics references messages plain row blocks
 returns c =
     let bytes : List ℕ = c.args.bytes.now in
     let format : ℕ = format_in bytes in
@@ -26,14 +34,18 @@ returns c =
     let rises_are = c.rises_in.ensures
     ∙ (λ i. row_value (number 8) (counts_of (same i)) (rises_place (same i)) bytes ++ replicate (6 - counts_of (same i)) 0)
     ∙ ap (λ (p : ℕ). row_value (number 8) (counts_of format) p bytes ++ replicate (6 - counts_of format) 0) (rises-at format) in
-    let at : ℕ = 264 + size_below timer 0 (timers_of format) + size_below line 0 (timers_of format + 2) + 8 * counts_of format in
+    let at : ℕ = wall_sum format in
     let wall_is : c.wall_place-wall.result ≡ at = c.wall_place-wall.ensures.value ∙ ap wall_place same ∙ wall-at format in
     let sec : c.wall_place-wall.result + 12 ≡ at + 8 + 4 = omega (arith, wall_is) in
     let nsec : c.wall_place-wall.result + 16 ≡ at + 8 + 4 + 4 = omega (arith, wall_is) in
-    let later : processor_place format 0 ≡ at + 8 + 4 + 4 + 4 = omega (arith, wall-at format) in
     let processors_are = c.processors_in.ensures
     ∙ (λ i. read_below processor no_processor 0 (c.requires.cpus i) (processor_place (same i) 0) bytes ++ replicate (64 - c.requires.cpus i) no_processor)
-    ∙ ap (λ (p : ℕ). read_below processor no_processor 0 (cpus_in bytes) p bytes ++ replicate (64 - cpus_in bytes) no_processor) later in
+    ∙ ap (λ (p : ℕ). read_below processor no_processor 0 (cpus_in bytes) p bytes ++ replicate (64 - cpus_in bytes) no_processor) (processors-at format) in
+    let cpus_are : c.args.cpus ≡ cpus_in bytes = c.requires.cpus in
+    let timers_are = c.apic_timers_in.ensures ∙ (λ i. firsts (apics_read (apics_of (same i) (cpus_are i)) (apic_place (same i) (cpus_are i) 0) bytes))
+    ∙ ap (λ (p : ℕ). firsts (apics_read (apics_of format (cpus_in bytes)) p bytes)) (apics-at format (cpus_in bytes)) in
+    let lines_are = c.apic_lines_in.ensures ∙ (λ i. seconds (apics_read (apics_of (same i) (cpus_are i)) (apic_place (same i) (cpus_are i) 0) bytes))
+    ∙ ap (λ (p : ℕ). seconds (apics_read (apics_of format (cpus_in bytes)) p bytes)) (apics-at format (cpus_in bytes)) in
     λ i. record {
       format = same i;
       cpus = c.requires.cpus i;
@@ -53,7 +65,7 @@ returns c =
       wall_nsec = (c.four_at-3.ensures ∙ ap (λ (p : ℕ). number_at 4 p bytes) nsec) i;
       processors = processors_are i;
       rises = rises_are i;
-      apic = replicate 64 no_apic;
-      apic_ticks = replicate 64 no_line;
-      hv = no_hv;
+      apic = timers_are i;
+      apic_ticks = lines_are i;
+      hv = c.hv_in.ensures i;
     }

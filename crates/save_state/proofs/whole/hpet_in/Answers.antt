@@ -1,22 +1,39 @@
-use Rattle.std.proofs.Common.{ℕ, ◌-◌, ◌++◌, false, replicate, ap, ◌∙◌}
-use Rattle.hpet_registers.specs.Parts.{no_timer, no_bits, no_words}
-use Rattle.board_types.specs.Setup.{timers_of}
+use Rattle.std.proofs.Common.{ℕ, ◌-◌, Bool, List, ◌++◌, map, replicate, ap, ◌∙◌}
+use Rattle.hpet_registers.specs.Parts.{no_timer}
+use Rattle.board_types.specs.Setup.{timers_of, has_messages}
 use Rattle.byte_table.specs.Fold.{read_below}
 use Rattle.byte_table.specs.Kinds.{plain, row, blocks}
-use Rattle.save_state.specs.Fields.{head, host, guest, policies, counters, counter, clock, registers, timers, timer, lines, line, rises, wall, processors}
+use Rattle.save_state.specs.Fields.{head, host, guest, policies, counters, counter, clock, registers, timers, timer, lines, line, rises, wall, processors, apics, references, Message, messages, messages_of}
+use Rattle.save_state.specs.Places.{format_in, cpus_in}
 use Rattle.save_state.specs.Reading.{board_in}
+use Rattle.save_state.specs.private.Places.{message_place}
+use Rattle.save_state.proofs.MessageLaws.{messages_read}
+use Rattle.save_state.proofs.Sizes.{messages-at}
 use Rattle.save_state.proofs.whole.hpet_in.Goals as goal
 
+abbrev bits : List Message → List Bool
+bits ms = map (λ (m : Message). m.first) ms
+
+abbrev words : List Message → List ℕ
+words ms = map (λ (m : Message). m.second) ms
+
 pub returns : goal.returns
-unfolding board_in head host guest policies counters counter clock registers timers timer lines line rises wall processors plain row blocks
-returns c = λ i. record {
-  config = c.byte_at.ensures i;
-  status = c.byte_at-2.ensures i;
-  counter = c.eight_at.ensures i;
-  timer = (c.timers_in.ensures
-      ∙ ap (λ (f : ℕ). read_below timer no_timer 0 (timers_of f) 264 c.args.bytes.now ++ replicate (8 - timers_of f) no_timer) c.requires) i;
-  timers = (c.timers_of.ensures ∙ ap timers_of c.requires) i;
-  messages = false;
-  message_bit = no_bits;
-  message_word = no_words;
-}
+unfolding board_in head host guest policies counters counter clock registers timers timer lines line rises wall processors apics references messages plain row blocks
+returns c =
+    let bytes : List ℕ = c.args.bytes.now in
+    let format : ℕ = format_in bytes in
+    λ i. record {
+      config = c.byte_at.ensures i;
+      status = c.byte_at-2.ensures i;
+      counter = c.eight_at.ensures i;
+      timer = (c.timers_in.ensures
+          ∙ ap (λ (f : ℕ). read_below timer no_timer 0 (timers_of f) 264 c.args.bytes.now ++ replicate (8 - timers_of f) no_timer) c.requires.format) i;
+      timers = (c.timers_of.ensures ∙ ap timers_of c.requires.format) i;
+      messages = (c.has_messages.ensures ∙ ap has_messages c.requires.format) i;
+      message_bit = (c.message_bits_in.ensures
+          ∙ (λ j. bits (messages_read (messages_of (c.requires.format j)) (message_place (c.requires.format j) (c.requires.cpus j) 0) bytes))
+          ∙ ap (λ (p : ℕ). bits (messages_read (messages_of format) p bytes)) (messages-at format (cpus_in bytes))) i;
+      message_word = (c.message_words_in.ensures
+          ∙ (λ j. words (messages_read (messages_of (c.requires.format j)) (message_place (c.requires.format j) (c.requires.cpus j) 0) bytes))
+          ∙ ap (λ (p : ℕ). words (messages_read (messages_of format) p bytes)) (messages-at format (cpus_in bytes))) i;
+    }

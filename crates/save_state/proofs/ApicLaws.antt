@@ -1,0 +1,243 @@
+-- The timers of local APICs with their tick lines: their fields cover them, what is read is written as its bytes are, and valid ones are written and read as they were.
+use Rattle.std.proofs.Common.{◌≡◌, ℕ, ◌+◌, ◌-◌, ◌<◌, ◌≤◌, Bool, true, false, not, ◌&&◌, ◌||◌, eqb, ltb, leb, List, ◌++◌, length, map, get_or, replicate, inl, inr, refl, ap, sym, subst, ◌∙◌, arith}
+use Rattle.std.proofs.lemmas.Bool.{and_from, and_parts, or_cases, or_left, or_right, eq-eqb, eqb-true, ne_eqb, lt-ltb, le-ltb, ltb-true, ltb-false, le-leb, leb-true, cases_lt, cases_eq, not_from_false, false≢true}
+use Rattle.std.proofs.lemmas.List.{length-map}
+use Rattle.tick_policy.specs.declared.parts.Policy.TheVariants.{Discard}
+use Rattle.tick_policy.specs.declared.parts.TickParts.{TickParts}
+use Rattle.tick_policy.specs.Parts.{IsTickLine}
+use Rattle.lapic_timer.specs.declared.parts.ApicParts.{ApicParts}
+use Rattle.lapic_timer.specs.Parts.{lvt_bits, mode_of, divide_bits, divisor, is_deadline, is_periodic, IsApicTimer}
+use Rattle.lapic_timer.specs.Parts.{lvt_valid, divide_valid, initial_valid, current_valid, phase_valid, deadline_valid}
+use Rattle.local_apics.specs.Parts.{IsPlaceOf, AreApicsOf}
+use Rattle.local_apics.specs.Places.{no_timer, no_line, timer_at, line_at}
+use Rattle.board_types.specs.declared.parts.BoardParts.{BoardParts}
+use Rattle.board_core.specs.Apics.{apics_of, apics_in}
+use Rattle.board_core.specs.Conditions.{AreApics, IsBoard}
+use Rattle.board_core.specs.Time.{now_of}
+use Rattle.byte_table.specs.Codes.{number, byte, pairs}
+use Rattle.byte_table.specs.Fold.{read, moved, read_below, write_below}
+use Rattle.byte_table.specs.Kinds.{plain, blocks}
+use Rattle.byte_table.proofs.FoldLaws.{◌⨾◌, AllHere, AllSpelled, AllHold, all_here-append, all_spelled-append, all_hold-split}
+use Rattle.byte_table.proofs.CodeLaws.{number-written, number-code, byte-written, byte-code}
+use Rattle.byte_table.proofs.KindLaws.{plain-here, plain-spelled, blocks-here, blocks-spelled, AreBlocks, hold-each}
+use Rattle.byte_table.proofs.Loops.{drop-blank, read_below-at, read_below-after, length-read_below}
+use Rattle.byte_table.proofs.Pairs.{pairs-at, length-pairs, pairs-halves}
+use Rattle.save_state.specs.Fields.{any, Apic, with_ticks, apic_timer, apic_line, apic, no_apic, apic_pairs, apics}
+use Rattle.save_state.specs.private.Fits.{ApicTimerFits, ApicFits, ApicsFit}
+use Rattle.save_state.proofs.Blocks.{ticks-spelled, ticks-here, TicksHold, ticks-hold}
+use Rattle.save_state.proofs.Formats.{apics_few, processors_few}
+use Rattle.save_state.proofs.Sizes.{apic-size}
+
+-- the policy of the tick line is Discard in each saved state
+apic-covers : (k : ℕ) (a : Apic) → a.second.policy ≡ Discard → moved (apic k) a no_apic ≡ a
+unfolding apic_timer apic_line plain
+apic-covers k a is = λ i. record a { second = record a.second { policy = sym is i } }
+
+apic-spelled : (k : ℕ) → AllSpelled (apic k)
+unfolding apic_timer apic_line
+apic-spelled k =
+    all_spelled-append apic_timer apic_line
+    (plain-spelled _ _ _ _ _ (number-code 4) ⨾ plain-spelled _ _ _ _ _ byte-code ⨾ plain-spelled _ _ _ _ _ (number-code 4)
+    ⨾ plain-spelled _ _ _ _ _ (number-code 4) ⨾ plain-spelled _ _ _ _ _ byte-code ⨾ plain-spelled _ _ _ _ _ (number-code 8) ⨾ tt)
+    (ticks-spelled (λ (x : Apic). x.second) with_ticks any)
+
+pub apic-laws : AreBlocks apic no_apic
+unfolding apic_timer apic_line plain
+apic-laws = record {
+  keeps = λ k place bytes. refl;
+  spelled = apic-spelled;
+}
+
+-- one condition under another
+unless : (a c : Bool) → (a ≡ true → c ≡ true) → (not a || c) ≡ true
+unless true c later = later refl
+unless false c later = refl
+
+when : (a c : Bool) → (not a || c) ≡ true → a ≡ true → c ≡ true
+when true c e is = e
+when false c e is = absurd (false≢true is)
+
+-- a timer
+timer-here : (b : BoardParts) (a : Apic) (bytes : List ℕ) → IsApicTimer a.first → ApicTimerFits a.first → AllHere apic_timer b a bytes
+unfolding apic_timer
+timer-here b a bytes is fits =
+    let p : ApicParts = a.first in
+    let mode : ℕ = mode_of p.lvt in
+    let initial : initial_valid p ≡ true = unless (eqb mode 2) (eqb p.initial 0) (λ e. eq-eqb p.initial 0 (is.initial (eqb-true mode 2 e))) in
+    let reload = unless (eqb mode 1 && eqb p.current 0) (eqb p.initial 0) (λ e.
+    let both = and_parts (eqb mode 1) (eqb p.current 0) e in eq-eqb p.initial 0 (is.reload (eqb-true mode 1 both.0) (eqb-true p.current 0 both.1))) in
+    let stopped = unless (eqb p.current 0) (eqb p.phase 0) (λ e. eq-eqb p.phase 0 (is.stopped (eqb-true p.current 0 e))) in
+    let deadline : deadline_valid p ≡ true = elim (cases_eq mode 2) [
+      | inl e ↦ or_left (eqb mode 2) (eqb p.deadline 0) (eq-eqb mode 2 e)
+      | inr other ↦ or_right (eqb mode 2) (eqb p.deadline 0) (eq-eqb p.deadline 0 (is.deadline other))
+    ] in
+    plain-here _ _ _ _ _ b a bytes (number-written 4 p.lvt fits.lvt) (and_from _ _ (eq-eqb (lvt_bits p.lvt) p.lvt is.bits) (lt-ltb mode 3 is.mode))
+    ⨾ plain-here _ _ _ _ _ b a bytes (byte-written p.divide) (eq-eqb (divide_bits p.divide) p.divide is.divide)
+    ⨾ plain-here _ _ _ _ _ b a bytes (number-written 4 p.initial fits.initial) initial
+    ⨾ plain-here _ _ _ _ _ b a bytes (number-written 4 p.current fits.current) (and_from _ _ (le-leb p.current p.initial is.current) reload)
+    ⨾ plain-here _ _ _ _ _ b a bytes (byte-written p.phase) (and_from _ _ (lt-ltb p.phase (divisor p.divide) is.phase) stopped)
+    ⨾ plain-here _ _ _ _ _ b a bytes (number-written 8 p.deadline fits.deadline) deadline ⨾ tt
+
+timer-valid : (b : BoardParts) (a : Apic) → AllHold apic_timer b a → IsApicTimer a.first
+unfolding apic_timer plain
+timer-valid b a h =
+    let p : ApicParts = a.first in
+    let mode : ℕ = mode_of p.lvt in
+    let lvt = and_parts (eqb (lvt_bits p.lvt) p.lvt) (ltb mode 3) h.0 in
+    let current = and_parts (leb p.current p.initial) (not (eqb mode 1 && eqb p.current 0) || eqb p.initial 0) h.1.1.1.0 in
+    let phase = and_parts (ltb p.phase (divisor p.divide)) (not (eqb p.current 0) || eqb p.phase 0) h.1.1.1.1.0 in
+    record {
+      bits = eqb-true (lvt_bits p.lvt) p.lvt lvt.0;
+      mode = ltb-true mode 3 lvt.1;
+      divide = eqb-true (divide_bits p.divide) p.divide h.1.0;
+      initial = λ e. eqb-true p.initial 0 (when (eqb mode 2) (eqb p.initial 0) h.1.1.0 (eq-eqb mode 2 e));
+      current = leb-true p.current p.initial current.0;
+      reload = λ e e'.
+          eqb-true p.initial 0
+          (when (eqb mode 1 && eqb p.current 0) (eqb p.initial 0) current.1 (and_from _ _ (eq-eqb mode 1 e) (eq-eqb p.current 0 e')));
+      phase = ltb-true p.phase (divisor p.divide) phase.0;
+      stopped = λ e. eqb-true p.phase 0 (when (eqb p.current 0) (eqb p.phase 0) phase.1 (eq-eqb p.current 0 e));
+      deadline = λ other. elim (or_cases (eqb mode 2) (eqb p.deadline 0) h.1.1.1.1.1.0) [
+        | inl e ↦ absurd (other (eqb-true mode 2 e))
+        | inr none ↦ eqb-true p.deadline 0 none
+      ];
+    }
+
+-- how many timers a board has
+abbrev count : BoardParts → ℕ
+count b = apics_of b.format b.cpus
+
+-- the places of a valid board
+module _ (b : BoardParts) (is : IsBoard b) where
+  few : count b ≤ 64
+  few = apics_few b.format b.cpus (omega (arith, is.joined.format.most_cpus, processors_few b.format))
+
+  same : length b.apic ≡ length b.apic_ticks
+  same = is.joined.apics.places.timers ∙ sym is.joined.apics.places.lines
+
+  at : (k : ℕ) → get_or (apic_pairs b) k no_apic ≡ record { first = timer_at k (apics_in b); second = line_at k (apics_in b) }
+  at k = pairs-at no_timer no_line b.apic b.apic_ticks k same
+
+  long : length (apic_pairs b) ≡ 64
+  long = length-pairs b.apic b.apic_ticks same ∙ is.joined.apics.places.timers
+
+  place : (k : ℕ) → k < 64 → IsPlaceOf (ltb k (count b)) (get_or (apic_pairs b) k no_apic).first (get_or (apic_pairs b) k no_apic).second
+  place k less = subst (λ (a : Apic). IsPlaceOf (ltb k (count b)) a.first a.second) (sym (at k)) (is.joined.apics.places.place k less)
+
+  here : (bytes : List ℕ) → ApicsFit b → (k : ℕ) → k < count b → AllHere (apic k) b (get_or (apic_pairs b) k no_apic) bytes
+  unfolding apic_line
+  here bytes fits k less =
+      let a : Apic = get_or (apic_pairs b) k no_apic in
+      let p = place k (omega (arith, less, few)) in
+      let due : a.second.counts.due ≤ now_of b + b.accesses =
+      subst (λ (x : Apic). x.second.counts.due ≤ now_of b + b.accesses) (sym (at k)) (is.joined.apics.due k (omega (arith, less, few))) in
+      all_here-append apic_timer apic_line b a bytes (timer-here b a bytes p.timer (fits k less).timer)
+      (ticks-here b a bytes (λ (x : Apic). x.second) with_ticks any p.line refl due (fits k less).line)
+
+  absent : (k : ℕ) → count b ≤ k → k < 64 → get_or (apic_pairs b) k no_apic ≡ no_apic
+  absent k le less =
+      let p = is.joined.apics.places.place k less in
+      at k ∙ (λ i. record { first = p.no_timer (le-ltb k (count b) le) i; second = p.no_line (le-ltb k (count b) le) i })
+
+  pub apics-here : (bytes : List ℕ) → ApicsFit b → AllHere (apics (apics_of b.format b.cpus)) b b bytes
+  unfolding apics
+  apics-here bytes fits =
+      blocks-here (count b) 64 apic no_apic _ _ b b bytes (λ k less. apic-covers k _ (place k (omega (arith, less, long))).policy) (omega (arith, few, long))
+      (λ j low less. here bytes fits j (omega arith)) (drop-blank no_apic (count b) 64 (apic_pairs b) long few absent) ⨾ tt
+
+pub apics-spelled : (n : ℕ) → AllSpelled (apics n)
+unfolding apics
+apics-spelled n = blocks-spelled n 64 apic no_apic _ _ apic-laws ⨾ tt
+
+-- the place of a timer that isn't there
+none : IsApicTimer no_timer
+unfolding divisor
+none = record {
+  bits = refl;
+  mode = omega arith;
+  divide = refl;
+  initial = λ e. refl;
+  current = omega arith;
+  reload = λ e e'. refl;
+  phase = omega arith;
+  stopped = λ e. refl;
+  deadline = λ e. refl;
+}
+
+-- what holds of each board that is read: 64 places, those that aren't there are empty, and the policy is Discard
+pub record AreRead (n : ℕ) (b : BoardParts) : Type 0 where
+  pub timers : length b.apic ≡ 64
+  pub lines : length b.apic_ticks ≡ 64
+  pub absent : (k : ℕ) → n ≤ k → get_or (apic_pairs b) k no_apic ≡ no_apic
+  pub policy : (k : ℕ) → (get_or (apic_pairs b) k no_apic).second.policy ≡ Discard
+
+abbrev pub apics_read : ℕ → ℕ → List ℕ → List Apic
+apics_read n place bytes = read_below apic no_apic 0 n place bytes ++ replicate (64 - n) no_apic
+
+pub apics-kept : (n place : ℕ) (bytes : List ℕ)
+    → write_below apic no_apic (pairs (map (λ (a : Apic). a.first) (apics_read n place bytes)) (map (λ (a : Apic). a.second) (apics_read n place bytes))) 0 n
+    ≡ write_below apic no_apic (apics_read n place bytes) 0 n
+apics-kept n place bytes = ap (λ (xs : List Apic). write_below apic no_apic xs 0 n) (pairs-halves (apics_read n place bytes))
+
+pub apics-read : (n place : ℕ) (bytes : List ℕ) (b : BoardParts) → n ≤ 64 → b.apic ≡ map (λ (a : Apic). a.first) (apics_read n place bytes)
+    → b.apic_ticks ≡ map (λ (a : Apic). a.second) (apics_read n place bytes) → AreRead n b
+unfolding apic_timer apic_line plain
+apics-read n place bytes b few timers lines =
+    let all : List Apic = apics_read n place bytes in
+    let long : length all ≡ 64 = length-read_below apic no_apic 0 n 64 place bytes few in
+    let pairs_are : apic_pairs b ≡ all = (λ i. pairs (timers i) (lines i)) ∙ pairs-halves all in
+    let absent : (k : ℕ) → n ≤ k → get_or (apic_pairs b) k no_apic ≡ no_apic =
+    λ k le. ap (λ (xs : List Apic). get_or xs k no_apic) pairs_are ∙ read_below-after apic no_apic 0 n place bytes (64 - n) k le in
+    record {
+      timers = ap (λ (ps : List ApicParts). length ps) timers ∙ length-map all (λ (a : Apic). a.first) ∙ long;
+      lines = ap (λ (ls : List TickParts). length ls) lines ∙ length-map all (λ (a : Apic). a.second) ∙ long;
+      absent = absent;
+      policy = λ k. elim (cases_lt k n) [
+        | inl less ↦ ap (λ (xs : List Apic). (get_or xs k no_apic).second.policy) pairs_are
+            ∙ ap (λ (a : Apic). a.second.policy) (read_below-at apic no_apic 55 apic-size 0 n place bytes (replicate (64 - n) no_apic) k less)
+        | inr more ↦ ap (λ (a : Apic). a.second.policy) (absent k more)
+      ];
+    }
+
+-- a board whose conditions hold has valid timers
+module _ (b : BoardParts) (is : AreRead (apics_of b.format b.cpus) b) (h : AllHold (apics (apics_of b.format b.cpus)) b b) where
+  read-at : (k : ℕ) → get_or (apic_pairs b) k no_apic ≡ record { first = timer_at k (apics_in b); second = line_at k (apics_in b) }
+  read-at k = pairs-at no_timer no_line b.apic b.apic_ticks k (is.timers ∙ sym is.lines)
+
+  there : (k : ℕ) → k < count b → IsApicTimer (get_or (apic_pairs b) k no_apic).first × TicksHold b (get_or (apic_pairs b) k no_apic).second
+  unfolding apics apic_line blocks
+  there k less =
+      let a : Apic = get_or (apic_pairs b) k no_apic in
+      let each = all_hold-split apic_timer apic_line b a (hold-each apic no_apic b (apic_pairs b) 0 (count b) h.0 k (omega arith) (omega (arith, less))) in
+      (timer-valid b a each.0, ticks-hold b a (λ (x : Apic). x.second) with_ticks any each.1)
+
+  empty : (k : ℕ) → count b ≤ k → IsPlaceOf (ltb k (count b)) no_timer no_line
+  empty k more = record { timer = none; line = record { sum = refl; policy = refl }; policy = refl; no_timer = λ _. refl; no_line = λ _. refl }
+
+  valid-place : (k : ℕ) → IsPlaceOf (ltb k (count b)) (get_or (apic_pairs b) k no_apic).first (get_or (apic_pairs b) k no_apic).second
+  valid-place k = elim (cases_lt k (count b)) [
+    | inl less ↦ record {
+      timer = (there k less).0;
+      line = (there k less).1.valid;
+      policy = is.policy k;
+      no_timer = λ e. absurd (omega (arith, less, ltb-false k (count b) e));
+      no_line = λ e. absurd (omega (arith, less, ltb-false k (count b) e));
+    }
+    | inr more ↦ subst (λ (a : Apic). IsPlaceOf (ltb k (count b)) a.first a.second) (sym (is.absent k more)) (empty k more)
+  ]
+
+  few-due : (k : ℕ) → (get_or (apic_pairs b) k no_apic).second.counts.due ≤ now_of b + b.accesses
+  few-due k = elim (cases_lt k (count b)) [
+    | inl less ↦ (there k less).1.due
+    | inr more ↦ subst (λ (a : Apic). a.second.counts.due ≤ now_of b + b.accesses) (sym (is.absent k more)) (omega arith)
+  ]
+
+  pub apics-valid : AreApics b.format b.cpus (now_of b + b.accesses) (apics_in b)
+  apics-valid = record {
+    places = record {
+      timers = is.timers;
+      lines = is.lines;
+      place = λ k less. subst (λ (a : Apic). IsPlaceOf (ltb k (count b)) a.first a.second) (read-at k) (valid-place k);
+    };
+    due = λ k less. subst (λ (a : Apic). a.second.counts.due ≤ now_of b + b.accesses) (read-at k) (few-due k);
+  }

@@ -1,0 +1,18 @@
+use Rattle.std.proofs.Common.{get_or, ap, sym, ◌∙◌, rules}
+use Rattle.local_apics.specs.Places.{no_timer, no_line}
+use Rattle.byte_table.specs.Fold.{fault_in}
+use Rattle.byte_table.proofs.Pairs.{pairs-at}
+use Rattle.save_state.specs.Fields.{Apic, apic}
+use Rattle.save_state.specs.private.Places.{apic_place}
+use Rattle.save_state.proofs.BlockRows.{apic-rows}
+use Rattle.save_state.proofs.apics.apic_fault.Goals as goal
+
+pub returns : goal.returns
+returns c =
+    let b = c.args.b.now in
+    let k = c.args.k in
+    let at = pairs-at no_timer no_line b.apic b.apic_ticks k (search rules) in
+    let is = apic-rows k b (get_or b.apic k no_timer) (get_or b.apic_ticks k no_line) (apic_place b.format b.cpus k) c.args.bytes.now in
+    let here = ap (λ (a : Apic). fault_in (apic k) b a (apic_place b.format b.cpus k) c.args.bytes.now) at in
+    let most = c.requires.most in
+    cc

@@ -1,0 +1,11 @@
+use Rattle.std.proofs.Common.{ℕ, ◌+◌, ◌*◌}
+use Rattle.local_apics.specs.Places.{no_line}
+use Rattle.byte_table.specs.Fold.{read}
+use Rattle.byte_table.proofs.Loops.{IsFilled}
+use Rattle.save_state.specs.Fields.{apic, no_apic}
+use Rattle.save_state.specs.private.Places.{apic_place}
+use Rattle.save_state.proofs.apics.apic_lines_in.Given as goal
+
+abbrev pub invariant-loop-k : goal.invariant-loop-k
+invariant-loop-k l =
+    IsFilled (λ (j : ℕ). (read (apic j) (apic_place l.format l.cpus 0 + 55 * j) l.bytes no_apic).second) no_line l.all l.k 64

@@ -1,0 +1,25 @@
+use Rattle.std.proofs.Common.{ℕ, false, ap, ◌∙◌, arith}
+use Rattle.byte_table.specs.Codes.{flag_at, number_at}
+use Rattle.byte_table.specs.Kinds.{plain}
+use Rattle.byte_table.proofs.Loops.{filled-none, filled-more}
+use Rattle.byte_table.proofs.Pairs.{part-filled}
+use Rattle.save_state.specs.Fields.{Message, message, messages_of, no_message}
+use Rattle.save_state.specs.private.Places.{message_place}
+use Rattle.save_state.proofs.Formats.{messages_few}
+use Rattle.save_state.proofs.Sizes.{message-size}
+use Rattle.save_state.proofs.messages.message_bits_in.Goals as goal
+
+pub loop-k-init : goal.loop-k-init
+loop-k-init c = filled-none _ false 8
+
+pub loop-k-preserved : goal.loop-k-preserved
+unfolding message plain
+loop-k-preserved c =
+    filled-more _ false _ c.loop-k.all c.loop-k.k 8 c.loop-k.invariant
+    (omega (arith, c.loop-k-test.true, c.loop-k.auto.k-end, c.messages_of-k-end.ensures.few)) (c.flag_at.ensures ∙ ap (λ (p : ℕ). flag_at p c.args.bytes.now) (c.message_place.ensures.value ∙ omega arith))
+
+pub returns : goal.returns
+returns c =
+    part-filled message no_message 9 message-size (λ (m : Message). m.first) (messages_of c.args.format) 8 (message_place c.args.format c.args.cpus 0)
+    c.args.bytes.now c.loop-k.all c.loop-k.k (omega (arith, c.loop-k-test.false, c.loop-k.auto.k-end, c.messages_of-k-end.ensures.value))
+    (messages_few c.args.format) c.loop-k.invariant

@@ -1,0 +1,10 @@
+use Rattle.std.proofs.Common.{ℕ, ◌+◌, ◌*◌, false}
+use Rattle.byte_table.specs.Fold.{read}
+use Rattle.byte_table.proofs.Loops.{IsFilled}
+use Rattle.save_state.specs.Fields.{message, no_message}
+use Rattle.save_state.specs.private.Places.{message_place}
+use Rattle.save_state.proofs.messages.message_bits_in.Given as goal
+
+abbrev pub invariant-loop-k : goal.invariant-loop-k
+invariant-loop-k l =
+    IsFilled (λ (j : ℕ). (read (message j) (message_place l.format l.cpus 0 + 9 * j) l.bytes no_message).first) false l.all l.k 8

@@ -1,0 +1,28 @@
+use Rattle.std.proofs.Common.{arith}
+use Rattle.byte_table.specs.Kinds.{blocks}
+use Rattle.byte_table.proofs.Loops.{faults-begin, faults-some, faults-none, faults-end}
+use Rattle.save_state.specs.Fields.{message, no_message, message_pairs, messages, messages_of}
+use Rattle.save_state.specs.private.Places.{message_place}
+use Rattle.save_state.proofs.Sizes.{message-size}
+use Rattle.save_state.proofs.messages.messages_fault.Goals as goal
+
+pub loop-k-init : goal.loop-k-init
+loop-k-init c =
+    let b = c.args.b.now in faults-begin message no_message 9 b (message_pairs b) (messages_of b.format) (message_place b.format b.cpus 0) c.args.bytes.now
+
+pub returns-in-Some : goal.returns-in-Some
+unfolding messages blocks
+returns-in-Some c =
+    let b = c.args.b.now in
+    faults-some message-size c.loop-k.invariant (omega (arith, c.loop-k-test.true, c.loop-k.auto.k-end)) (message_place b.format b.cpus c.loop-k.k) (omega arith)
+    c.in-Some.fault c.in-Some.ensures
+
+pub loop-k-preserved : goal.loop-k-preserved
+loop-k-preserved c =
+    let b = c.args.b.now in
+    faults-none message-size c.loop-k.invariant (omega (arith, c.loop-k-test.true, c.loop-k.auto.k-end)) (message_place b.format b.cpus c.loop-k.k) (omega arith)
+    c.in_default.ensures
+
+pub returns : goal.returns
+unfolding messages blocks
+returns c = faults-end c.loop-k.invariant (omega (arith, c.loop-k-test.false, c.loop-k.auto.k-end))

@@ -1,0 +1,6 @@
+use Rattle.byte_table.proofs.Loops.{AreWritten}
+use Rattle.save_state.specs.Fields.{message, no_message, message_pairs}
+use Rattle.save_state.proofs.messages.put_messages.Given as goal
+
+abbrev pub invariant-loop-k : goal.invariant-loop-k
+invariant-loop-k l = AreWritten message no_message (λ m. Unit {0}) (message_pairs l.b) l.initial.out.items l.out.items l.k

@@ -1,0 +1,34 @@
+use Rattle.std.proofs.Common.{◌≡◌, ℕ, ◌<◌, ◌≤◌, List, get_or, ap, sym, subst, ◌∙◌}
+use Rattle.board_types.specs.declared.setup.TheConstants.{HV_FORMAT}
+use Rattle.board_core.specs.Hv.{no_hv}
+use Rattle.byte_table.specs.Fold.{read}
+use Rattle.byte_table.specs.Kinds.{plain, row, blocks}
+use Rattle.save_state.specs.Fields.{head, host, guest, policies, counters, counter, clock, registers, timers, timer, lines, line, rises, wall, processors, apics, reference, references, messages, references_of}
+use Rattle.save_state.specs.Places.{format_in, cpus_in}
+use Rattle.save_state.specs.Reading.{board_in}
+use Rattle.save_state.specs.private.Places.{reference_place}
+use Rattle.save_state.proofs.Formats.{references-none, references-one}
+use Rattle.save_state.proofs.ReferenceLaws.{reference_read, read-one, read-none}
+use Rattle.save_state.proofs.Sizes.{reference-at}
+use Rattle.save_state.proofs.reference.hv_in.Goals as goal
+
+-- the page of the board, by its place
+board-hv : (bytes : List ℕ)
+    → (board_in bytes).hv ≡ get_or (reference_read (references_of (format_in bytes)) (reference_place (format_in bytes) (cpus_in bytes)) bytes) 0 no_hv
+unfolding board_in head host guest policies counters counter clock registers timers timer lines line rises wall processors apics references messages plain row blocks
+board-hv bytes =
+    ap (λ (p : ℕ). get_or (reference_read (references_of (format_in bytes)) p bytes) 0 no_hv) (sym (reference-at (format_in bytes) (cpus_in bytes)))
+
+pub returns-then-format-lt-HV_FORMAT : goal.returns-then-format-lt-HV_FORMAT
+returns-then-format-lt-HV_FORMAT c =
+    let bytes : List ℕ = c.args.bytes.now in
+    let before : format_in bytes < HV_FORMAT = subst (λ (f : ℕ). f < HV_FORMAT) c.requires.format c.if-format-lt-HV_FORMAT.true in
+    sym (board-hv bytes ∙ read-none (references_of (format_in bytes)) _ bytes (references-none (format_in bytes) before))
+
+pub returns : goal.returns
+returns c =
+    let bytes : List ℕ = c.args.bytes.now in
+    let there : HV_FORMAT ≤ format_in bytes = subst (λ (f : ℕ). HV_FORMAT ≤ f) c.requires.format c.if-format-lt-HV_FORMAT.false in
+    c.reference_in.ensures
+    ∙ ap (λ (p : ℕ). read (reference 0) p bytes no_hv) (c.reference_place.ensures.value ∙ (λ i. reference_place (c.requires.format i) (c.requires.cpus i)))
+    ∙ sym (board-hv bytes ∙ read-one (references_of (format_in bytes)) _ bytes (references-one (format_in bytes) there))

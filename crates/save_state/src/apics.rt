@@ -1,0 +1,229 @@
+//! The timers of local APICs in a saved state: written, read, and their first fault.
+ghost use Rattle.std.specs.Prelude.{◌≡◌, ℕ, ◌+◌, ◌-◌, ◌<◌, ◌≤◌, ◌++◌, OnOk, map, replicate, slice_index_or};
+ghost use Rattle.clk_units.specs.Ranges.{IsKhz};
+ghost use Rattle.lapic_timer.specs.Parts.{
+  lvt_valid,
+  divide_valid,
+  initial_valid,
+  current_valid,
+  phase_valid,
+  deadline_valid,
+};
+ghost use Rattle.board_types.specs.declared.parts.TheConstants.{MOST_ACCESSES};
+ghost use Rattle.board_core.specs.Apics.{apics_of};
+ghost use Rattle.board_core.specs.Time.{now_of, HasTime};
+ghost use Rattle.byte_table.specs.Fold.{write, read, read_below, fault_in};
+ghost use Rattle.save_state.specs.Fields.{
+  apic_timer,
+  apic_line,
+  apic,
+  no_apic,
+  apic_pairs,
+  apics,
+};
+ghost use Rattle.save_state.specs.private.Fits.{ApicTimerFits, LineFits, ApicsFit};
+ghost use Rattle.save_state.specs.private.Places.{apic_place};
+
+use crate::appending::put_line;
+use crate::fault::StateFault;
+use crate::pieces::ticks_in;
+use crate::places::{apic_place, apics_of};
+use crate::table::{fault_in, field};
+use crate::whole::NO_LINE;
+use board_core::BoardParts;
+use byte_table::{byte_at, eight_at, flag_valid, four_at, put, put_4, put_8};
+use clk_units::NoMemory;
+use lapic_timer::ApicParts;
+use tick_policy::{Policy, TickParts, lost_valid, queue_valid};
+
+/// What the place of a timer that isn't there holds.
+const NO_TIMER: ApicParts = ApicParts {
+    lvt: 0,
+    divide: 0,
+    initial: 0,
+    current: 0,
+    phase: 0,
+    deadline: 0,
+};
+
+/// Appends the timers with their tick lines, of which formats before `APIC_FORMAT` have none.
+#[tactic(auto, unfolding(crate::specs::Fields::apics, byte_table::specs::Kinds::blocks))]
+pub(crate) fn put_apics(out: &mut Vec<u8>, b: &BoardParts) -> Result<(), NoMemory>
+    requires { b.now.cpus ≤ 64 }
+    ensures bytes { OnOk result (out.new.items
+        ≡ out.old.items ++ write (apics (apics_of b.now.format b.now.cpus)) b.now) }
+    ensures fit { OnOk result (ApicsFit b.now) }
+{
+    for k in 0..apics_of(b.format, b.cpus) {
+        put_apic(out, &b.apic[k as usize], &b.apic_ticks[k as usize])?;
+    }
+    Ok(())
+}
+
+/// Appends timer `k` with its tick line, whichever it is.
+fn put_apic(out: &mut Vec<u8>, timer: &ApicParts, line: &TickParts) -> Result<(), NoMemory>
+    ensures bytes { (k : ℕ) → OnOk result (out.new.items ≡ out.old.items
+        ++ write (apic k) (record { first = timer.now; second = line.now })) }
+    ensures timer { OnOk result (ApicTimerFits timer.now) }
+    ensures line { OnOk result (LineFits line.now) }
+{
+    put_timer(out, timer)?;
+    put_line(out, line)
+}
+
+/// Appends a timer.
+#[tactic(auto, unfolding(crate::specs::Fields::apic_timer, byte_table::specs::Kinds::plain))]
+fn put_timer(out: &mut Vec<u8>, t: &ApicParts) -> Result<(), NoMemory>
+    ensures bytes { (l : TickParts) → OnOk result (out.new.items ≡ out.old.items
+        ++ write apic_timer (record { first = t.now; second = l })) }
+    ensures fits { OnOk result (ApicTimerFits t.now) }
+{
+    put_4(out, t.lvt)?;
+    put(out, &[t.divide])?;
+    put_4(out, t.initial)?;
+    put_4(out, t.current)?;
+    put(out, &[t.phase])?;
+    put_8(out, t.deadline)
+}
+
+/// The timers.
+pub(crate) fn apic_timers_in(bytes: &[u8], format: u8, cpus: u8) -> [ApicParts; 64]
+    requires { cpus ≤ 64 }
+    ensures { result ≡ map (λ a. a.first)
+        (read_below apic no_apic 0 (apics_of format cpus) (apic_place format cpus 0) bytes.now
+        ++ replicate (64 - apics_of format cpus) no_apic) }
+{
+    let mut all = [NO_TIMER; 64];
+    for k in 0..apics_of(format, cpus) {
+        all[k as usize] = timer_in(bytes, apic_place(format, cpus, k));
+    }
+    all
+}
+
+/// Timer `k`, whichever it is.
+#[tactic(auto, unfolding(crate::specs::Fields::apic_timer, crate::specs::Fields::apic_line, byte_table::specs::Kinds::plain))]
+fn timer_in(bytes: &[u8], place: usize) -> ApicParts
+    requires { place < 8000 }
+    ensures { (k : ℕ) → result ≡ (read (apic k) place bytes.now no_apic).first }
+{
+    ApicParts {
+        lvt: four_at(bytes, place),
+        divide: byte_at(bytes, place + 4),
+        initial: four_at(bytes, place + 5),
+        current: four_at(bytes, place + 9),
+        phase: byte_at(bytes, place + 13),
+        deadline: eight_at(bytes, place + 14),
+    }
+}
+
+/// Their tick lines.
+pub(crate) fn apic_lines_in(bytes: &[u8], format: u8, cpus: u8) -> [TickParts; 64]
+    requires { cpus ≤ 64 }
+    ensures { result ≡ map (λ a. a.second)
+        (read_below apic no_apic 0 (apics_of format cpus) (apic_place format cpus 0) bytes.now
+        ++ replicate (64 - apics_of format cpus) no_apic) }
+{
+    let mut all = [NO_LINE; 64];
+    for k in 0..apics_of(format, cpus) {
+        all[k as usize] = line_in(bytes, apic_place(format, cpus, k));
+    }
+    all
+}
+
+/// Tick line `k`, whichever it is.
+#[tactic(auto, unfolding(crate::specs::Fields::apic_timer, crate::specs::Fields::apic_line, byte_table::specs::Kinds::plain))]
+fn line_in(bytes: &[u8], place: usize) -> TickParts
+    requires { place < 7800 }
+    ensures { (k : ℕ) → result ≡ (read (apic k) place bytes.now no_apic).second }
+{
+    ticks_in(bytes, Policy::Discard, place + 22)
+}
+
+/// The first fault of the timers and their tick lines.
+#[tactic(auto, unfolding(crate::specs::Fields::apics, byte_table::specs::Kinds::blocks))]
+pub(crate) fn apics_fault(bytes: &[u8], b: &BoardParts) -> Option<StateFault>
+    requires few { b.now.cpus ≤ 64 }
+    requires rate { IsKhz b.now.anchor.khz }
+    requires time { HasTime b.now.anchor b.now.host }
+    requires accesses { b.now.accesses ≤ MOST_ACCESSES }
+    ensures { result ≡ fault_in (apics (apics_of b.now.format b.now.cpus)) b.now b.now
+        (apic_place b.now.format b.now.cpus 0) bytes.now }
+{
+    let most = b.anchor.time_of(b.host) + b.accesses;
+    for k in 0..apics_of(b.format, b.cpus) {
+        if let Some(fault) = apic_fault(bytes, b, k, most) {
+            return Some(fault);
+        }
+    }
+    None
+}
+
+/// The first fault of timer `k` and its tick line, of which `most` ticks are due, at most.
+fn apic_fault(bytes: &[u8], b: &BoardParts, k: u8, most: u64) -> Option<StateFault>
+    requires k { k < 64 }
+    requires few { b.now.cpus ≤ 64 }
+    requires most { most ≡ now_of b.now + b.now.accesses }
+    ensures { result ≡ fault_in (apic k) b.now (slice_index_or (apic_pairs b.now) k no_apic)
+        (apic_place b.now.format b.now.cpus k) bytes.now }
+{
+    let place = apic_place(b.format, b.cpus, k);
+    let p = &b.apic[k as usize];
+    let l = &b.apic_ticks[k as usize];
+    let rows = [
+        field(4, lvt_valid(p)),
+        field(1, divide_valid(p)),
+        field(4, initial_valid(p)),
+        field(4, current_valid(p)),
+        field(1, phase_valid(p)),
+        field(8, deadline_valid(p)),
+        field(1, flag_valid(bytes, place + 22)),
+        field(8, l.counts.due <= most),
+        field(8, true),
+        field(8, queue_valid(l)),
+        field(8, lost_valid(l)),
+    ];
+    fault_in(bytes, place, &rows)
+}
+
+/// Whether the LVT has kept bits alone and a mode that isn't reserved.
+fn lvt_valid(p: &ApicParts) -> bool
+    ensures { result ≡ lvt_valid p.now }
+{
+    let kept = p.lvt % 0x100 + p.lvt / 0x1_0000 % 8 * 0x1_0000;
+    kept == p.lvt && p.lvt / 0x2_0000 % 4 < 3
+}
+
+/// Whether the divide configuration has kept bits alone.
+fn divide_valid(p: &ApicParts) -> bool
+    ensures { result ≡ divide_valid p.now }
+{
+    p.divide % 4 + p.divide / 8 % 2 * 8 == p.divide
+}
+
+/// Whether the initial count is 0 in deadline mode.
+fn initial_valid(p: &ApicParts) -> bool
+    ensures { result ≡ initial_valid p.now }
+{
+    !p.is_deadline() || p.initial == 0
+}
+
+/// Whether the current count is at most the initial one, and in periodic mode 0 only where that is.
+fn current_valid(p: &ApicParts) -> bool
+    ensures { result ≡ current_valid p.now }
+{
+    p.current <= p.initial && (!(p.is_periodic() && p.current == 0) || p.initial == 0)
+}
+
+/// Whether the phase is below the divisor, and 0 where the current count is.
+fn phase_valid(p: &ApicParts) -> bool
+    ensures { result ≡ phase_valid p.now }
+{
+    p.phase < p.divisor() && (p.current != 0 || p.phase == 0)
+}
+
+/// Whether the deadline is 0 outside deadline mode.
+fn deadline_valid(p: &ApicParts) -> bool
+    ensures { result ≡ deadline_valid p.now }
+{
+    p.is_deadline() || p.deadline == 0
+}
