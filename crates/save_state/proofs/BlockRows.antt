@@ -26,7 +26,8 @@ use Rattle.save_state.specs.declared.table.Row.{Row}
 use Rattle.save_state.specs.declared.fault.StateFault.{StateFault}
 use Rattle.save_state.specs.declared.fault.StateKind.{StateKind}
 use Rattle.save_state.specs.declared.fault.StateKind.TheVariants.{Magic, Version, Field as Invalid}
-use Rattle.save_state.specs.Fields.{faults_of, magic, khz_valid, host_valid, head, host, guest, policies, front, clock, registers, counter, timer, line, up_allowed, tsc, page, processor, wall, legacy_rises_valid, routed_rises_valid, rises, Message, message, version_valid, published_valid, apic_timer, apic_line, apic, scale_for, reference}
+use Rattle.save_state.specs.Rises.{legacy_rises_valid, routed_rises_valid}
+use Rattle.save_state.specs.Fields.{faults_of, magic, khz_valid, host_valid, head, host, guest, policies, front, clock, registers, counter, timer, line, up_allowed, tsc, page, processor, wall, rises, Message, message, version_valid, published_valid, apic_timer, apic_line, apic, scale_for, reference}
 use Rattle.save_state.specs.private.Rows.{field, row_fault, processor_rows}
 use Rattle.byte_table.proofs.FoldLaws.{◌⨾◌}
 use Rattle.byte_table.proofs.CodeLaws.{row_spelled-each}

@@ -36,8 +36,9 @@ use Rattle.byte_table.proofs.FoldLaws.{◌⨾◌, AllHere, all_here-append, next
 use Rattle.byte_table.proofs.CodeLaws.{number-written, word-written, byte-written, flag-written, all-written}
 use Rattle.byte_table.proofs.KindLaws.{plain-here, row-here, blocks-here}
 use Rattle.byte_table.proofs.Loops.{drop-blank}
+use Rattle.save_state.specs.Rises.{rise_valid, routed_rises_valid}
 use Rattle.save_state.specs.Fields.{magic, khz_valid, policy_place, head, host, guest, policies, front, counter, no_counter, counters, clock, registers, timer, timers, same}
-use Rattle.save_state.specs.Fields.{up_allowed, line, lines, counts_of, rise_valid, rises, wall, processor, processors, apics, references, references_of, messages, messages_of, routed_rises_valid, devices, back, fields_of}
+use Rattle.save_state.specs.Fields.{up_allowed, line, lines, counts_of, rises, wall, processor, processors, apics, references, references_of, messages, messages_of, devices, back, fields_of}
 use Rattle.save_state.specs.private.Fits.{BoardFits}
 use Rattle.save_state.proofs.Blocks.{policy-written, counter-covers, counter-here, timer-covers, timer-here, line-covers, line-here}
 use Rattle.save_state.proofs.Processors.{processor-covers, processor-here}

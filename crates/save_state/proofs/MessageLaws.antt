@@ -14,7 +14,8 @@ use Rattle.byte_table.proofs.CodeLaws.{number-written, number-code, flag-written
 use Rattle.byte_table.proofs.KindLaws.{plain-here, plain-spelled, blocks-here, blocks-spelled, AreBlocks}
 use Rattle.byte_table.proofs.Loops.{drop-blank}
 use Rattle.byte_table.proofs.Pairs.{pairs-at, length-pairs, pairs-halves}
-use Rattle.save_state.specs.Fields.{routed_rises_valid, Message, message, messages_of, no_message, message_pairs, messages}
+use Rattle.save_state.specs.Rises.{routed_rises_valid}
+use Rattle.save_state.specs.Fields.{Message, message, messages_of, no_message, message_pairs, messages}
 use Rattle.save_state.specs.private.Fits.{BoardFits}
 use Rattle.save_state.proofs.Formats.{messages_few}
 

@@ -46,8 +46,9 @@ use Rattle.byte_table.specs.Kinds.{plain, row, blocks, elsewhere}
 use Rattle.byte_table.proofs.FoldLaws.{AllHold, all_hold-split}
 use Rattle.byte_table.proofs.KindLaws.{hold-each}
 use Rattle.byte_table.proofs.Loops.{get_or-blank}
+use Rattle.save_state.specs.Rises.{rise_valid, legacy_rises_valid, routed_rises_valid}
 use Rattle.save_state.specs.Fields.{khz_valid, head, host, guest, policies, front, counter, no_counter, counters, clock, registers, timer, timers, same, up_allowed, line_ticks, line_policy, line}
-use Rattle.save_state.specs.Fields.{lines, counts_of, rise_valid, rises, wall, processor, processors, apics, reference, references, references_of, legacy_rises_valid, routed_rises_valid, message, no_message, message_pairs, messages, messages_of, devices, back}
+use Rattle.save_state.specs.Fields.{lines, counts_of, rises, wall, processor, processors, apics, reference, references, references_of, message, no_message, message_pairs, messages, messages_of, devices, back}
 use Rattle.save_state.proofs.ApicLaws.{apics-valid}
 use Rattle.save_state.proofs.Blocks.{TicksHold, ticks-hold}
 use Rattle.save_state.proofs.Formats.{timers_least, references-one}

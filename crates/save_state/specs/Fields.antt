@@ -1,23 +1,16 @@
 -- The fields of a saved state, in the order of their bytes (own): each with its spelling, where its
 -- value is in the board, and its condition. A condition over several fields is one on the first of
 -- them at which it is certain that it fails.
-use Rattle.std.specs.Prelude.{ℕ, ◌+◌, ◌*◌, ◌%◌, ◌==◌, nat_lt, nat_le, Bool, true, false, ◌&&◌, ◌||◌, not, if◌then◌else◌, List, [], ◌∷◌, ◌++◌, slice_index_or, map}
+use Rattle.std.specs.Prelude.{ℕ, ◌+◌, ◌*◌, ◌%◌, ◌==◌, nat_lt, nat_le, Bool, true, false, ◌&&◌, ◌||◌}
+use Rattle.std.specs.Prelude.{not, if◌then◌else◌, List, [], ◌∷◌, ◌++◌, slice_index_or, map}
 use Rattle.std.specs.Int.{w8, cast_unsigned}
 use Rattle.clk_units.specs.Bits.{bit}
 use Rattle.clk_units.specs.declared.ranges.TheConstants.{RANGE_NS, KHZ_MIN, KHZ_MAX}
 use Rattle.host_counter.specs.Time.{time_at}
 use Rattle.pit_counter.specs.declared.parts.CounterParts.{CounterParts}
 use Rattle.pit_counter.specs.Programming.{counter_at_power_on}
-use Rattle.pit_counter.specs.Parts.{
-  bits_valid,
-  flags_valid,
-  cr_valid,
-  ce_valid,
-  part_valid,
-  read_order_valid,
-  latched_count_valid,
-  latched_status_valid,
-}
+use Rattle.pit_counter.specs.Parts.{bits_valid, flags_valid, cr_valid, ce_valid, part_valid}
+use Rattle.pit_counter.specs.Parts.{read_order_valid, latched_count_valid, latched_status_valid}
 use Rattle.rtc_registers.specs.Registers.{pf_of}
 use Rattle.rtc_registers.specs.Parts.{index_valid, bytes_valid, divider_valid, cycle_valid}
 use Rattle.hpet_comparator.specs.declared.parts.TimerParts.{TimerParts}
@@ -27,14 +20,8 @@ use Rattle.tick_policy.specs.declared.parts.TickParts.{TickParts}
 use Rattle.tick_policy.specs.declared.parts.Policy.{Policy}
 use Rattle.tick_policy.specs.Parts.{policy_byte, policy_of, queue_valid, lost_valid}
 use Rattle.lapic_timer.specs.declared.parts.ApicParts.{ApicParts}
-use Rattle.lapic_timer.specs.Parts.{
-  lvt_valid,
-  divide_valid,
-  initial_valid,
-  current_valid,
-  phase_valid,
-  deadline_valid,
-}
+use Rattle.lapic_timer.specs.Parts.{lvt_valid, divide_valid, initial_valid, current_valid}
+use Rattle.lapic_timer.specs.Parts.{phase_valid, deadline_valid}
 use Rattle.local_apics.specs.Places.{no_timer}
 use Rattle.pvclock_page.specs.Scale.{mul_for, shift_for}
 use Rattle.hv_page.specs.Scale.{tsc_scale}
@@ -46,37 +33,20 @@ use Rattle.board_types.specs.Setup.{timers_of, has_messages, processors_of}
 use Rattle.board_types.specs.declared.setup.TheConstants.{LAST_FORMAT, HV_FORMAT, SLEW_MAX_NS}
 use Rattle.board_devices.specs.Places.{no_line, line_at}
 use Rattle.board_devices.specs.Nanosecond.{counts_rtc}
-use Rattle.board_devices.specs.Lines.{levels}
-use Rattle.board_devices.specs.Rises.{one_if}
 use Rattle.board_core.specs.Time.{devices_in, now_of}
 use Rattle.board_core.specs.Apics.{apics_of}
 use Rattle.board_core.specs.Tsc.{no_processor}
 use Rattle.board_core.specs.Hv.{no_hv}
 use Rattle.board_core.specs.Conditions.{flags_valid as page_flags_valid}
-use Rattle.byte_table.specs.Codes.{
-  Code,
-  number,
-  byte,
-  signed_byte,
-  word,
-  choice,
-  flag,
-  Flags,
-  flags,
-  both,
-  Two,
-  pairs,
-}
+use Rattle.byte_table.specs.Codes.{Code, number, byte, signed_byte, word, choice, flag, Flags}
+use Rattle.byte_table.specs.Codes.{flags, both, Two, pairs}
 use Rattle.byte_table.specs.Fold.{Field}
 use Rattle.byte_table.specs.Kinds.{Faults, plain, row, blocks, elsewhere}
+use Rattle.save_state.specs.Rises.{legacy_rises_valid, routed_rises_valid}
 use Rattle.save_state.specs.declared.fault.StateFault.{StateFault}
 use Rattle.save_state.specs.declared.fault.StateKind.{StateKind}
-use Rattle.save_state.specs.declared.fault.StateKind.TheVariants.{
-  Short,
-  Magic,
-  Version,
-  Field as Invalid,
-}
+use Rattle.save_state.specs.declared.fault.StateKind.TheVariants.{Short, Magic, Version}
+use Rattle.save_state.specs.declared.fault.StateKind.TheVariants.{Field as Invalid}
 
 -- the faults of a field whose condition is of a kind
 abbrev pub faults_of : StateKind → Faults StateFault
@@ -317,23 +287,9 @@ unfoldable pub lines : ℕ → Fields BoardParts
 lines n =
     blocks (n + 2) 10 line no_line (λ b. b.ticks) (λ x b. record b { ticks = x }) ∷ []
 
--- the counts of rises: none in format 1. A line has at most one rise an access, and one more while
--- it is up
+-- how many counts of rises there are: none in format 1
 abbrev pub counts_of : ℕ → ℕ
 counts_of format = if nat_le 2 format then 6 else 0
-
-abbrev pub rise_valid : BoardParts → ℕ → Bool
-rise_valid b k =
-    nat_le (slice_index_or b.rises k 0)
-    (b.accesses + one_if (slice_index_or (levels (devices_in b)) k false))
-
--- whether the counts of lines 0 and 8 aren't too great
-abbrev pub legacy_rises_valid : BoardParts → Bool
-legacy_rises_valid b = rise_valid b 0 && rise_valid b 1
-
--- the same of lines 20 to 23, which timers that send messages leave low
-abbrev pub routed_rises_valid : BoardParts → Bool
-routed_rises_valid b = rise_valid b 2 && rise_valid b 3 && rise_valid b 4 && rise_valid b 5
 
 -- the counts of the six lines
 unfoldable pub rises : ℕ → Fields BoardParts

@@ -1,3 +1,4 @@
+pub mod Rises
 pub mod Fields
 pub mod Places
 pub mod Reading

@@ -9,7 +9,8 @@ ghost use Rattle.board_devices.specs.Parts.{AreDevices};
 ghost use Rattle.board_devices.specs.Places.{no_line, line_at};
 ghost use Rattle.board_core.specs.Time.{devices_in, now_of, HasTime};
 ghost use Rattle.byte_table.specs.Fold.{fault_in};
-ghost use Rattle.save_state.specs.Fields.{line, lines, up_allowed, counts_of, rise_valid, legacy_rises_valid, routed_rises_valid, rises};
+ghost use Rattle.save_state.specs.Rises.{rise_valid, legacy_rises_valid, routed_rises_valid};
+ghost use Rattle.save_state.specs.Fields.{line, lines, up_allowed, counts_of, rises};
 ghost use Rattle.save_state.specs.private.Places.{line_place, rises_place};
 ghost use Rattle.clk_units.specs.Ranges.{IsKhz};
 

@@ -4,14 +4,8 @@ ghost use Rattle.board_types.specs.declared.parts.TheConstants.{MOST_ACCESSES};
 ghost use Rattle.board_devices.specs.Parts.{AreDevices};
 ghost use Rattle.board_core.specs.Time.{devices_in};
 ghost use Rattle.byte_table.specs.Fold.{write, read_below, fault_in};
-ghost use Rattle.save_state.specs.Fields.{
-  routed_rises_valid,
-  message,
-  messages_of,
-  no_message,
-  message_pairs,
-  messages,
-};
+ghost use Rattle.save_state.specs.Rises.{routed_rises_valid};
+ghost use Rattle.save_state.specs.Fields.{message, messages_of, no_message, message_pairs, messages};
 ghost use Rattle.save_state.specs.private.Places.{message_place};
 
 use crate::fault::StateFault;
