@@ -11,13 +11,13 @@ use Rattle.std.specs.Prelude.{
   nat_le,
   if◌then◌else◌,
   List,
-  [],
   Option,
   Some,
   None,
 }
 use Rattle.clk_units.specs.declared.ranges.TheConstants.{RANGE_NS}
 use Rattle.irq_edges.specs.declared.bursts.Burst.{Burst}
+use Rattle.hpet_bursts.specs.Bursts.{bursts_of}
 use Rattle.tsc_scale.specs.declared.Tsc.{Tsc}
 use Rattle.tsc_scale.specs.Ratio.{ratio_of}
 use Rattle.tsc_scale.specs.Offset.{tsc_by}
@@ -67,9 +67,9 @@ unfoldable pub moved_to : ℕ → ℕ → ℕ → BoardParts → BoardParts
 moved_to khz start gap b =
     hv_published_at_host (published_below b khz start gap b.cpus (reanchored khz start gap b))
 
--- the messages of the gap: a board sends none
+-- the messages of the gap, by its timers
 abbrev pub gap_bursts : ℕ → BoardParts → List Burst
-gap_bursts gap b = []
+gap_bursts gap b = bursts_of (now_of b) gap b.hpet
 
 -- an earlier fault, or else that of a page whose version is the last one
 abbrev pub or_spent : Option MoveFault → ℕ → ℕ → Option MoveFault
