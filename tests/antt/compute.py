@@ -117,6 +117,7 @@ LIBRARY: dict[str, object] = {
     "nat_lt": lambda a, b: a < b, "nat_le": lambda a, b: a <= b, "bytes_eq": lambda a, b: a == b,
     "bit_and": lambda a, b: a & b, "bit_or": lambda a, b: a | b, "length": len, "ap": lambda f, a: f(a),
     "map": lambda f, xs: [f(x) for x in xs], "filter": lambda f, xs: [x for x in xs if f(x)],
+    "flat_map": lambda f, xs: [y for x in xs for y in f(x)],
     "list_any": lambda f, xs: any(map(f, xs)), "list_all": lambda f, xs: all(map(f, xs)),
     "take": lambda n, xs: xs[:n], "drop": lambda n, xs: xs[n:], "replicate": lambda n, x: [x] * n,
     "slice_index": lambda xs, k: xs[k] if k < len(xs) else 0,
