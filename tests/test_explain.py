@@ -79,7 +79,13 @@ class Explain(unittest.TestCase):
         trace = b"clockboard 1\nstate 434c4b424f4152440600\nbegin\n"
         self.assertEqual(self.place(trace, "refused 2 state 8"), "06")
         rows = self.explain(trace, "refused 2 state 8")
-        self.assertEqual(rows[-1], "  byte 8 is in the field at 8: version; condition: 1 or 2")
+        self.assertEqual(rows[-1], "  byte 8 is in the field at 8: version; condition: 1 to 5")
+
+    def test_block_of_a_state(self) -> None:
+        # With one processor block 3 begins at 856, block 4 at 911, block 5 at 948.
+        trace = b"clockboard 5\nstate 434c4b424f41524405000100" + 2 * 1008 * b"0" + b"\nbegin\n"
+        for place, said in ((870, "block 3, local APIC timers, 55 bytes each: its byte 14"), (911, "block 4"), (948, "block 5")):
+            self.assertIn(said, self.explain(trace, f"refused 2 state {place}")[-1])
 
     def test_nothing_refused(self) -> None:
         with tempfile.TemporaryDirectory() as folder:
