@@ -25,14 +25,13 @@ use Rattle.std.proofs.Common.{
   append_assoc,
   append-nil,
   Bool,
-  Option,
   if◌then◌else◌,
   All,
 }
 use Rattle.std.proofs.lemmas.Bool.{cases_lt, lt-ltb, le-ltb}
 use Rattle.std.proofs.lemmas.List.{get_or_past}
 use native.Mathlib.Decide.{dec_le}
-use Rattle.edge_hooks.specs.declared.deliveries.Delivery.{Delivery}
+use Rattle.race_phase.specs.declared.deliveries.Deliveries.{Deliveries}
 use Rattle.board_types.specs.declared.access.Access.{Access}
 use Rattle.board_types.specs.declared.parts.BoardParts.{BoardParts}
 use Rattle.board_types.specs.declared.parts.ProcessorParts.{ProcessorParts}
@@ -45,7 +44,7 @@ use Rattle.board_history.specs.declared.entry.Entry.TheVariants.{Opened, Board, 
 use Rattle.board_history.proofs.Laws.{board_after-snoc, machine-stays}
 use Rattle.board_history.proofs.Pages.{machine_of-access, length-processors}
 use Rattle.race_phase.specs.declared.records.Call.{Call}
-use Rattle.race_phase.specs.declared.records.Call.TheVariants.{Act, ReadPage, ReadClock}
+use Rattle.race_phase.specs.declared.records.Call.TheVariants.{Act, ReadPage, ReadClock, ReadHv}
 use Rattle.race_phase.specs.declared.records.Record.{Record}
 use Rattle.race_phase.specs.Calls.{IsFitting, records_of, Shown, PhaseTold}
 use Rattle.race_phase.specs.Order.{AreAlike, after_call, after_record, after_records}
@@ -72,7 +71,7 @@ use Rattle.race_phase.proofs.Settle.{rpart, rpart_whole, Exact, exact, exact_all
 use Rattle.race_phase.proofs.Taken.{IsSound, filed}
 
 -- the entries weigh what the records weigh
-shown_exact : (s : BoardParts) (ds : List (Option Delivery)) (w : Entry → ℕ) (v : Record → ℕ) (rs : List Record) (h : List Entry) (n k : ℕ) (out : List ℕ)
+shown_exact : (s : BoardParts) (ds : Deliveries) (w : Entry → ℕ) (v : Record → ℕ) (rs : List Record) (h : List Entry) (n k : ℕ) (out : List ℕ)
     → Exact s w v
     → Shown s ds rs h n k out → part w h n k ≡ rpart v rs n k
 shown_exact s ds w v rs h n zero out e shown = refl
@@ -119,6 +118,7 @@ reaches_call : (x : ℕ) (b : BoardParts) (cpu h : ℕ) (call : Call) → Reache
 reaches_call x b cpu h (Act a) = reaches_access x b cpu h a
 reaches_call x b cpu h (ReadPage page) = reaches_none x b
 reaches_call x b cpu h (ReadClock page) = reaches_none x b
+reaches_call x b cpu h ReadHv = reaches_none x b
 
 reaches_records : (x : ℕ) (b : BoardParts) (rs : List Record) → Reaches x b (after_records b rs) (weigh (of_record (past x)) rs)
 reaches_records x b [] = reaches_none x b
@@ -156,6 +156,7 @@ machine_records b (r ∷ rs) = machine_records (after_record b r) rs ∙ machine
     machine_call cpu h (Act a) = machine_of-access b cpu h a
     machine_call cpu h (ReadPage page) = refl
     machine_call cpu h (ReadClock page) = refl
+    machine_call cpu h ReadHv = refl
 
 places_records : (b : BoardParts) (rs : List Record) → length (after_records b rs).processors ≡ length b.processors
 places_records b [] = refl
@@ -165,9 +166,10 @@ places_records b (r ∷ rs) = places_records (after_record b r) rs ∙ places_ca
     places_call cpu h (Act a) = length-processors b cpu h a
     places_call cpu h (ReadPage page) = refl
     places_call cpu h (ReadClock page) = refl
+    places_call cpu h ReadHv = refl
 
 -- the workers leave the counts that file order leaves
-module _ (s : BoardParts) (ds : List (Option Delivery)) (rs : List Record) (mid : BoardParts) (out : List ℕ) (sound : IsSound s)
+module _ (s : BoardParts) (ds : Deliveries) (rs : List Record) (mid : BoardParts) (out : List ℕ) (sound : IsSound s)
     (fit : All (IsFitting s.cpus s.format) rs) (t : PhaseTold s ds rs mid out) where
   later : List Entry
   later = t.opens.0

@@ -3,9 +3,10 @@ use Rattle.std.proofs.Common.{◌≡◌, ◌∙◌, ℕ, List, [], ◌∷◌, �
 use Rattle.board_types.specs.declared.access.Access.{Access}
 use Rattle.board_types.specs.declared.parts.BoardParts.{BoardParts}
 use Rattle.board_types.specs.declared.reply.Reply.{Reply}
-use Rattle.board_history.specs.Machine.{machine_of, ratio_in, reading_by}
 use Rattle.board_history.specs.declared.entry.Entry.{Entry}
-use Rattle.board_history.specs.declared.entry.Entry.TheVariants.{Board, PageRead, Clamp}
+use Rattle.board_history.specs.declared.entry.Entry.TheVariants.{Board, PageRead, HvRead, Clamp}
+use Rattle.hv_page.specs.declared.page.HvPage.{HvPage}
+use Rattle.hv_page.specs.declared.page.HvReply.{HvReply}
 use Rattle.clock_table.specs.declared.view.Miss.{Miss}
 use Rattle.pvclock_page.specs.declared.page.Page.{Page}
 use Rattle.pvclock_page.specs.declared.page.PageReply.{PageReply}
@@ -13,12 +14,12 @@ use Rattle.pvclock_page.specs.declared.page.ClockReply.{ClockReply}
 use Rattle.pvclock_page.specs.declared.page.ClockReply.TheVariants.{Off, On}
 use Rattle.shared_board.specs.declared.known.PassKnown.{PassKnown}
 use Rattle.shared_board.specs.Passes.{miss, Answered, Tried}
+use Rattle.shared_board.specs.Hv.{HasReadHv}
 use Rattle.shared_board.specs.Pages.{clock_entries, IsClockOf, HasReadPage, HasReadClock}
 use Rattle.shared_board.proofs.Made.{made_of}
-use Rattle.race_phase.specs.declared.records.Answer.{Answer}
-use Rattle.race_phase.specs.declared.records.Answer.TheVariants.{Acted, PageIs, ClockIs}
+use Rattle.race_phase.specs.declared.records.Answer.TheVariants.{Acted, PageIs, ClockIs, HvIs}
 use Rattle.race_phase.specs.declared.records.Call.{Call}
-use Rattle.race_phase.specs.declared.records.Call.TheVariants.{Act, ReadPage, ReadClock}
+use Rattle.race_phase.specs.declared.records.Call.TheVariants.{Act, ReadPage, ReadClock, ReadHv}
 use Rattle.race_phase.specs.declared.records.Record.{Record}
 use Rattle.race_phase.specs.Calls.{AllTried, CallMade, Tells}
 use Rattle.race_phase.specs.private.Workers.{IsMade}
@@ -31,6 +32,10 @@ read_tried : (c n k h : ℕ) (page : Page) (locked : Bool) (es : List Entry) (p 
     → HasMisses c (PageRead n k h page locked ∷ es) p q
 read_tried c n k h page true es p q t none = (miss k t.0 t.1 ∷ [], (t.0, t.1, [], refl, t.4, none), t.2)
 read_tried c n k h page false es p q t none = ([], none, t ∙ sym (append-nil p.misses))
+
+hv_tried : (c n h : ℕ) (page : HvPage) (locked : Bool) (p q : PassKnown) → Tried c locked p q → HasMisses c (HvRead n h page locked ∷ []) p q
+hv_tried c n h page true p q t = (miss c t.0 t.1 ∷ [], (t.0, t.1, [], refl, t.4, refl), t.2)
+hv_tried c n h page false p q t = ([], refl, t ∙ sym (append-nil p.misses))
 
 clock_tried : (c n k h : ℕ) (page : Page) (locked : Bool) (reply : ClockReply) (p q : PassKnown) → Tried k locked p q
     → HasMisses c (clock_entries n k h page locked reply) p q
@@ -72,6 +77,18 @@ module _ (s : BoardParts) (r : Record) (p q : PassKnown) where
         es,
         subst (λ (call : Call). CallMade s p.number r.cpu r.h call (ClockIs reply) es) (sym is)
             (a.read.page, a.locked, clock_tells s r.h a.read.page reply p a.read.answer, refl),
+        a.read.made,
+        m.0,
+        m.1,
+        m.2,
+      )
+
+  pub hv_made : (reply : HvReply) → r.call ≡ ReadHv → HasReadHv s r.h reply p q → IsMade s r (HvIs reply) p q
+  hv_made reply is a =
+      let es : List Entry = HvRead p.number r.h a.read.page a.locked ∷ [] in
+      let m = hv_tried s.cpus p.number r.h a.read.page a.locked p q a.tried in (
+        es,
+        subst (λ (call : Call). CallMade s p.number r.cpu r.h call (HvIs reply) es) (sym is) (a.read.page, a.locked, a.read.answer, refl),
         a.read.made,
         m.0,
         m.1,

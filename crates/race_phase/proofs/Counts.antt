@@ -53,7 +53,7 @@ use Rattle.board_history.proofs.Laws.{board_after-snoc}
 use Rattle.board_history.proofs.Pages.{length-processors, processor_at-none, publishes_wall-page}
 use Rattle.shared_board.specs.Faults.{page_reads}
 use Rattle.race_phase.specs.declared.records.Call.{Call}
-use Rattle.race_phase.specs.declared.records.Call.TheVariants.{Act, ReadPage, ReadClock}
+use Rattle.race_phase.specs.declared.records.Call.TheVariants.{Act, ReadPage, ReadClock, ReadHv}
 use Rattle.race_phase.specs.declared.records.Record.{Record}
 
 -- the weights of a list, added up
@@ -85,6 +85,7 @@ abbrev pub of_call : (ℕ → ℕ → Access → ℕ) → ℕ → ℕ → Call �
 of_call f cpu h (Act a) = f cpu h a
 of_call f cpu h (ReadPage page) = 0
 of_call f cpu h (ReadClock page) = 0
+of_call f cpu h ReadHv = 0
 
 abbrev pub of_record : (ℕ → ℕ → Access → ℕ) → Record → ℕ
 of_record f r = of_call f r.cpu r.h r.call

@@ -1,6 +1,6 @@
 -- A phase with what ends it.
 use Rattle.std.proofs.Common.{◌≡◌, ℕ, ◌<◌, List, [], ◌∷◌, ◌++◌, refl, sym, ap, ◌∙◌, subst, append-nil, Option, Some, None}
-use Rattle.edge_hooks.specs.declared.deliveries.Delivery.{Delivery}
+use Rattle.race_phase.specs.declared.deliveries.Deliveries.{Deliveries}
 use Rattle.board_types.specs.declared.access.Access.TheVariants.{Step}
 use Rattle.board_types.specs.declared.parts.BoardParts.{BoardParts}
 use Rattle.board_core.specs.Access.{after_access}
@@ -50,7 +50,7 @@ end_legal s h (Move line cpu hh host) legal opens fits free =
 pub save_free : (b : BoardParts) (line cpu h : ℕ) → end_fault b (Save line cpu h) ≡ None → refusal_of b cpu h Step ≡ None
 save_free b line cpu h free = access_none (refusal_of b cpu h Step) (line_none line (by_access (refusal_of b cpu h Step)) free)
 
-pub phase_ended : (s : BoardParts) (ds : List (Option Delivery)) (v : Phase) (mid next : BoardParts) (block out : List ℕ)
+pub phase_ended : (s : BoardParts) (ds : Deliveries) (v : Phase) (mid next : BoardParts) (block out : List ℕ)
     → PhaseTold s ds v.lines.records mid block
     → IsEnd mid.cpus v.end → end_fault mid v.end ≡ None → next ≡ next_board v.end mid → out ≡ block ++ end_text ds v.end mid → PhaseEnded s ds v next out
 phase_ended s ds v mid next block out t fits free is says = record {

@@ -1,7 +1,6 @@
 pub mod Alike
 pub mod Answered
 pub mod Counts
-pub mod Edges
 pub mod Ended
 pub mod Kept
 pub mod Pieces

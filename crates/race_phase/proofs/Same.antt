@@ -21,6 +21,7 @@ use Rattle.std.proofs.Common.{
   subst,
   arith,
   cond,
+  if◌then◌else◌,
   Option,
   Some,
   None,
@@ -37,7 +38,8 @@ use Rattle.board_types.specs.Legal.{is_legal}
 use Rattle.board_types.specs.declared.access.Access.{Access}
 use Rattle.board_types.specs.declared.access.Access.TheVariants.{Step}
 use Rattle.board_types.specs.declared.parts.BoardParts.{BoardParts}
-use Rattle.board_types.specs.declared.parts.HvParts.{HvParts}
+use Rattle.board_types.specs.declared.setup.TheConstants.{HV_FORMAT}
+use Rattle.board_core.specs.Hv.{hv_published_at_host}
 use Rattle.board_types.specs.declared.parts.ProcessorParts.{ProcessorParts}
 use Rattle.board_types.specs.declared.reply.Refusal.{Refusal}
 use Rattle.board_core.specs.Access.{after_access}
@@ -50,12 +52,13 @@ use Rattle.board_history.specs.Machine.{Machine, machine_of}
 use Rattle.board_history.proofs.Pages.{machine_of-access, length-processors, processor_at-none, published_by-legal}
 use Rattle.board_history.proofs.Refusals.{same_refusal}
 use Rattle.transfer.specs.Move.{or_spent, spent_below, move_fault, published_below, moved_to, tsc_moved}
+use Rattle.transfer.proofs.Publishing.{published_below-hv, reanchored-hv, hv-version}
 use Rattle.transfer.specs.declared.outcome.MoveFault.TheVariants.{OutOfRange}
 use Rattle.race_phase.specs.declared.phases.End.{End}
 use Rattle.race_phase.specs.declared.phases.End.TheVariants.{Finish, Save, Move}
 use Rattle.race_phase.specs.declared.phases.Phase.{Phase}
 use Rattle.race_phase.specs.declared.records.Call.{Call}
-use Rattle.race_phase.specs.declared.records.Call.TheVariants.{Act, ReadPage, ReadClock}
+use Rattle.race_phase.specs.declared.records.Call.TheVariants.{Act, ReadPage, ReadClock, ReadHv}
 use Rattle.race_phase.specs.declared.records.Record.{Record}
 use Rattle.race_phase.specs.Calls.{IsFitting, IsFittingCall}
 use Rattle.race_phase.specs.Order.{
@@ -134,6 +137,7 @@ call_alike : (b c : BoardParts) (cpu h : ℕ) (call : Call) → AreAlike b c →
 call_alike b c cpu h (Act a) s inside fits = access_alike b c cpu h a s inside fits
 call_alike b c cpu h (ReadPage page) s inside fits = s
 call_alike b c cpu h (ReadClock page) s inside fits = s
+call_alike b c cpu h ReadHv s inside fits = s
 
 -- the processors and the format, which no record changes
 pub size_of : BoardParts → ℕ × ℕ
@@ -144,6 +148,7 @@ unfolding size_of
 size_call b cpu h (Act a) = ap (λ (m : Machine). (m.cpus, m.format)) (machine_of-access b cpu h a)
 size_call b cpu h (ReadPage page) = refl
 size_call b cpu h (ReadClock page) = refl
+size_call b cpu h ReadHv = refl
 
 pub size_record : (b : BoardParts) (r : Record) → size_of (after_record b r) ≡ size_of b
 size_record b r = size_call b r.cpu r.h r.call
@@ -162,6 +167,7 @@ same_cause : (b c : BoardParts) (cpu h : ℕ) (call : Call) → AreAlike b c →
 same_cause b c cpu h (Act a) s = ap by_access (same_refusal b c cpu h a s.counts)
 same_cause b c cpu h (ReadPage page) s = ap (λ (m : Machine). by_count (time_fault m.anchor h)) s.counts.machine
 same_cause b c cpu h (ReadClock page) s = ap (λ (m : Machine). by_count (time_fault m.anchor h)) s.counts.machine
+same_cause b c cpu h ReadHv s = ap (λ (m : Machine). by_count (time_fault m.anchor h)) s.counts.machine
 
 pub records_alike : (b c : BoardParts) (rs : List Record) → AreAlike b c → All (IsFitting b.cpus b.format) rs
     → AreAlike (after_records b rs) (after_records c rs)
@@ -195,7 +201,7 @@ same_move_fault b c gap s =
     let spent : spent_below b b.cpus ≡ spent_below c c.cpus =
     same_spent b c b.cpus s ∙ ap (λ (m : Machine). spent_below c m.cpus) s.counts.machine in
     let now = same_now b c s in
-    λ i. cond (leb RANGE_NS (now i + gap)) (Some (OutOfRange (now i + gap))) (spent i)
+    λ i. cond (leb RANGE_NS (now i + gap)) (Some (OutOfRange (now i + gap))) (or_spent (spent i) (s.counts.machine i).cpus (s.counts.hv i))
 
 published_machine : (b : BoardParts) (khz start gap n : ℕ) (m : BoardParts) → machine_of (published_below b khz start gap n m) ≡ machine_of m
 unfolding published_below published_at_host
@@ -211,11 +217,6 @@ published_wall : (b : BoardParts) (khz start gap n : ℕ) (m : BoardParts) → (
 unfolding published_below published_at_host
 published_wall b khz start gap zero m = refl
 published_wall b khz start gap (suc n) m = published_wall b khz start gap n m
-
-published_hv : (b : BoardParts) (khz start gap n : ℕ) (m : BoardParts) → (published_below b khz start gap n m).hv ≡ m.hv
-unfolding published_below published_at_host
-published_hv b khz start gap zero m = refl
-published_hv b khz start gap (suc n) m = published_hv b khz start gap n m
 
 published_host : (b : BoardParts) (khz start gap n : ℕ) (m : BoardParts) → (published_below b khz start gap n m).host ≡ m.host
 unfolding published_below published_at_host
@@ -276,10 +277,6 @@ reanchored_wall : (khz start gap : ℕ) (b : BoardParts) → (reanchored khz sta
 unfolding reanchored
 reanchored_wall khz start gap b = refl
 
-reanchored_hv : (khz start gap : ℕ) (b : BoardParts) → (reanchored khz start gap b).hv ≡ b.hv
-unfolding reanchored
-reanchored_hv khz start gap b = refl
-
 reanchored_host : (khz start gap : ℕ) (b : BoardParts) → (reanchored khz start gap b).host ≡ start
 unfolding reanchored
 reanchored_host khz start gap b = refl
@@ -288,29 +285,30 @@ pub reanchored_processors : (khz start gap : ℕ) (b : BoardParts) → (reanchor
 unfolding reanchored
 reanchored_processors khz start gap b = refl
 
+-- the reference page is published in the same format
+format_stays : (b : BoardParts) → (hv_published_at_host b).format ≡ b.format
+unfolding hv_published_at_host
+format_stays b = refl
+
 module _ (khz start gap : ℕ) where
   moved_machine : (b : BoardParts) → machine_of (moved_to khz start gap b) ≡ anew khz start gap (now_of b) (machine_of b)
-  unfolding moved_to
+  unfolding moved_to hv_published_at_host
   moved_machine b = published_machine b khz start gap b.cpus (reanchored khz start gap b) ∙ reanchored_machine khz start gap b
 
   pub moved_accesses : (b : BoardParts) → (moved_to khz start gap b).accesses ≡ b.accesses
-  unfolding moved_to
+  unfolding moved_to hv_published_at_host
   moved_accesses b = published_accesses b khz start gap b.cpus (reanchored khz start gap b) ∙ reanchored_accesses khz start gap b
 
   pub moved_wall : (b : BoardParts) → (moved_to khz start gap b).wall_version ≡ b.wall_version
-  unfolding moved_to
+  unfolding moved_to hv_published_at_host
   moved_wall b = published_wall b khz start gap b.cpus (reanchored khz start gap b) ∙ reanchored_wall khz start gap b
 
-  pub moved_hv : (b : BoardParts) → (moved_to khz start gap b).hv ≡ b.hv
-  unfolding moved_to
-  moved_hv b = published_hv b khz start gap b.cpus (reanchored khz start gap b) ∙ reanchored_hv khz start gap b
-
   pub moved_host : (b : BoardParts) → (moved_to khz start gap b).host ≡ start
-  unfolding moved_to
+  unfolding moved_to hv_published_at_host
   moved_host b = published_host b khz start gap b.cpus (reanchored khz start gap b) ∙ reanchored_host khz start gap b
 
   pub moved_places : (b : BoardParts) → length (moved_to khz start gap b).processors ≡ length b.processors
-  unfolding moved_to
+  unfolding moved_to hv_published_at_host
   moved_places b = published_places b khz start gap b.cpus (reanchored khz start gap b) ∙ ap length (reanchored_processors khz start gap b)
 
   pub moved_cpus : (b : BoardParts) → (moved_to khz start gap b).cpus ≡ b.cpus
@@ -321,13 +319,23 @@ module _ (khz start gap : ℕ) where
   unfolding anew
   moved_format b = ap (λ (m : Machine). m.format) (moved_machine b)
 
+  -- the reference page gets its next version, where the format has one
+  pub moved_hv : (b : BoardParts) → (moved_to khz start gap b).hv.version ≡ (if leb HV_FORMAT b.format then b.hv.version + 2 else b.hv.version)
+  unfolding moved_to
+  moved_hv b =
+      let r : BoardParts = reanchored khz start gap b in
+      let m : BoardParts = published_below b khz start gap b.cpus r in
+      let format : m.format ≡ b.format = sym (format_stays m) ∙ moved_format b in
+      let hv : m.hv ≡ b.hv = published_below-hv b khz start gap b.cpus r ∙ reanchored-hv khz start gap b in
+      hv-version m ∙ (λ i. cond (leb HV_FORMAT (format i)) ((hv i).version + 2) (hv i).version)
+
   pub moved_anchor : (b : BoardParts) → (moved_to khz start gap b).anchor ≡ record { khz = khz; start = start; base_ns = now_of b + gap }
   unfolding anew
   moved_anchor b = ap (λ (m : Machine). m.anchor) (moved_machine b)
 
   moved_versions : (b c : BoardParts) → AreAlike b c → (k : ℕ)
       → (processor_at (moved_to khz start gap b) k).version ≡ (processor_at (moved_to khz start gap c) k).version
-  unfolding moved_to
+  unfolding moved_to hv_published_at_host
   moved_versions b c s k =
       let size : b.cpus ≡ c.cpus = ap (λ (m : Machine). m.cpus) s.counts.machine in
       let rb = reanchored_processors khz start gap b in
@@ -348,7 +356,7 @@ module _ (khz start gap : ℕ) where
       machine = moved_machine b ∙ ((λ i. anew khz start gap (same_now b c s i) (s.counts.machine i)) ∙ sym (moved_machine c));
       accesses = moved_accesses b ∙ (s.counts.accesses ∙ sym (moved_accesses c));
       wall = moved_wall b ∙ (s.counts.wall ∙ sym (moved_wall c));
-      hv = ap (λ (p : HvParts). p.version) (moved_hv b) ∙ (s.counts.hv ∙ sym (ap (λ (p : HvParts). p.version) (moved_hv c)));
+      hv = moved_hv b ∙ ((λ i. cond (leb HV_FORMAT (s.counts.machine i).format) (s.counts.hv i + 2) (s.counts.hv i)) ∙ sym (moved_hv c));
       pages = moved_versions b c s;
     };
     host = moved_host b ∙ sym (moved_host c);

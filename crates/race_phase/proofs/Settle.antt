@@ -25,12 +25,11 @@ use Rattle.std.proofs.Common.{
   Bool,
   true,
   false,
-  Option,
   if◌then◌else◌,
   All,
 }
 use mathlib.Core.List.{IsPrefix}
-use Rattle.edge_hooks.specs.declared.deliveries.Delivery.{Delivery}
+use Rattle.race_phase.specs.declared.deliveries.Deliveries.{Deliveries}
 use Rattle.pvclock_page.specs.declared.page.ClockReply.TheVariants.{Off, On}
 use Rattle.board_types.specs.declared.access.Access.{Access}
 use Rattle.board_types.specs.declared.parts.BoardParts.{BoardParts}
@@ -40,9 +39,9 @@ use Rattle.shared_board.specs.declared.known.PassKnown.{PassKnown}
 use Rattle.shared_board.specs.Passes.{mine}
 use Rattle.shared_board.specs.Stops.{PassesTold}
 use Rattle.race_phase.specs.declared.records.Answer.{Answer}
-use Rattle.race_phase.specs.declared.records.Answer.TheVariants.{Acted, PageIs, ClockIs}
+use Rattle.race_phase.specs.declared.records.Answer.TheVariants.{Acted, PageIs, ClockIs, HvIs}
 use Rattle.race_phase.specs.declared.records.Call.{Call}
-use Rattle.race_phase.specs.declared.records.Call.TheVariants.{Act, ReadPage, ReadClock}
+use Rattle.race_phase.specs.declared.records.Call.TheVariants.{Act, ReadPage, ReadClock, ReadHv}
 use Rattle.race_phase.specs.declared.records.Record.{Record}
 use Rattle.race_phase.specs.Calls.{IsFitting, records_of, CallMade, MadeBy, AllMade, AllTried, Shown}
 use Rattle.race_phase.specs.private.Workers.{IsTrouble, HasStopped, HasWorked, AllWorked}
@@ -96,6 +95,13 @@ module _ (s : BoardParts) where
   exact_call f n cpu h (ReadClock page) (PageIs reply) es m = absurd m
   exact_call f n cpu h (ReadClock page) (ClockIs Off) es m = ap (weigh (of_entry f)) m.3
   exact_call f n cpu h (ReadClock page) (ClockIs (On reading clock)) es m = ap (weigh (of_entry f)) m.3
+  exact_call f n cpu h (Act x) (HvIs reply) es m = absurd m
+  exact_call f n cpu h (ReadPage page) (HvIs reply) es m = absurd m
+  exact_call f n cpu h (ReadClock page) (HvIs reply) es m = absurd m
+  exact_call f n cpu h ReadHv (Acted reply) es m = absurd m
+  exact_call f n cpu h ReadHv (PageIs reply) es m = absurd m
+  exact_call f n cpu h ReadHv (ClockIs reply) es m = absurd m
+  exact_call f n cpu h ReadHv (HvIs reply) es m = ap (weigh (of_entry f)) m.3
 
   pub exact : (f : ℕ → ℕ → Access → ℕ) → Exact (of_entry f) (of_record f)
   exact f n r a es m = exact_call f n r.cpu r.h r.call a es m
@@ -111,11 +117,18 @@ module _ (s : BoardParts) where
   reads_call n cpu h (ReadClock page) (PageIs reply) es m = absurd m
   reads_call n cpu h (ReadClock page) (ClockIs Off) es m = let e = ap (weigh reads) m.3 in omega arith
   reads_call n cpu h (ReadClock page) (ClockIs (On reading clock)) es m = let e = ap (weigh reads) m.3 in omega arith
+  reads_call n cpu h (Act x) (HvIs reply) es m = absurd m
+  reads_call n cpu h (ReadPage page) (HvIs reply) es m = absurd m
+  reads_call n cpu h (ReadClock page) (HvIs reply) es m = absurd m
+  reads_call n cpu h ReadHv (Acted reply) es m = absurd m
+  reads_call n cpu h ReadHv (PageIs reply) es m = absurd m
+  reads_call n cpu h ReadHv (ClockIs reply) es m = absurd m
+  reads_call n cpu h ReadHv (HvIs reply) es m = let e = ap (weigh reads) m.3 in omega arith
 
   pub reads_cover : Covers reads (λ r. 1)
   reads_cover n r a es m = reads_call n r.cpu r.h r.call a es m
 
-  module _ (ds : List (Option Delivery)) where
+  module _ (ds : Deliveries) where
     covers_all : (w : Entry → ℕ) (v : Record → ℕ) (n : ℕ) (rs : List Record) (out : List ℕ) (es : List Entry) → Covers w v → AllMade s ds n rs out es
         → weigh w es ≤ weigh v rs
     covers_all w v n [] out es k all = let e = ap (weigh w) all.1 in omega arith
@@ -159,7 +172,7 @@ pub record Stuck (s : BoardParts) (rs : List Record) (h : List Entry) (n k : ℕ
   pub begins : IsPrefix pass.seen h
   pub below : (w : Entry → ℕ) (v : Record → ℕ) → Covers s w v → part w h n k + v next ≤ rpart v rs n k
 
-module _ (s : BoardParts) (ds : List (Option Delivery)) (rs : List Record) (h : List Entry) where
+module _ (s : BoardParts) (ds : Deliveries) (rs : List Record) (h : List Entry) where
   all_below : (n : ℕ) (ps : List PassKnown) (out : List ℕ) (w : Entry → ℕ) (v : Record → ℕ) → Covers s w v → AllWorked s ds rs n ps out → PassesTold h ps
       → part w h n (length ps) ≤ rpart v rs n (length ps)
   all_below n [] out w v k all told = omega arith

@@ -44,7 +44,7 @@ use Rattle.clk_units.specs.declared.ranges.TheConstants.{RANGE_NS}
 use Rattle.host_counter.specs.declared.Anchor.{Anchor}
 use Rattle.host_counter.specs.declared.TimeFault.TheVariants.{BeforeStart, OutOfRange}
 use Rattle.host_counter.specs.Time.{time_at}
-use Rattle.edge_hooks.specs.declared.deliveries.Delivery.{Delivery}
+use Rattle.race_phase.specs.declared.deliveries.Deliveries.{Deliveries}
 use Rattle.board_types.specs.declared.access.Access.{Access}
 use Rattle.board_types.specs.declared.parts.BoardParts.{BoardParts}
 use Rattle.board_types.specs.declared.parts.TheConstants.{LAST_VERSION, MOST_ACCESSES}
@@ -73,7 +73,7 @@ use Rattle.shared_board.specs.Stops.{StopTold}
 use Rattle.race_phase.specs.declared.faults.Cause.{Cause}
 use Rattle.race_phase.specs.declared.faults.Fault.{Fault}
 use Rattle.race_phase.specs.declared.records.Call.{Call}
-use Rattle.race_phase.specs.declared.records.Call.TheVariants.{Act, ReadPage, ReadClock}
+use Rattle.race_phase.specs.declared.records.Call.TheVariants.{Act, ReadPage, ReadClock, ReadHv}
 use Rattle.race_phase.specs.declared.records.Record.{Record}
 use Rattle.race_phase.specs.Calls.{IsFitting, IsFittingCall, Shown, PhaseTold}
 use Rattle.race_phase.specs.Order.{
@@ -143,12 +143,14 @@ places_call : (b : BoardParts) (cpu h : ℕ) (call : Call) → length (after_cal
 places_call b cpu h (Act a) = length-processors b cpu h a
 places_call b cpu h (ReadPage page) = refl
 places_call b cpu h (ReadClock page) = refl
+places_call b cpu h ReadHv = refl
 
 module _ (n : ℕ) (q : BoardParts → ℕ) (f : ℕ → ℕ → Access → ℕ) (k most : ℕ) (r : Raises n q f k most) where
   raised_call : (b : BoardParts) (cpu h : ℕ) (call : Call) → n ≤ length b.processors → q (after_call b cpu h call) ≡ q b + k * of_call f cpu h call
   raised_call b cpu h (Act a) l = r.access b cpu h a l
   raised_call b cpu h (ReadPage page) l = omega arith
   raised_call b cpu h (ReadClock page) l = omega arith
+  raised_call b cpu h ReadHv l = omega arith
 
   -- file order raises the number by the weight of its records
   pub filed : (b : BoardParts) (rs : List Record) → n ≤ length b.processors → q (after_records b rs) ≡ q b + k * weigh (of_record f) rs
@@ -162,6 +164,7 @@ module _ (n : ℕ) (q : BoardParts → ℕ) (f : ℕ → ℕ → Access → ℕ)
   room_call b cpu h (Act a) free l = r.room b cpu h a (access_none (refusal_of b cpu h a) free) l
   room_call b cpu h (ReadPage page) free l = omega arith
   room_call b cpu h (ReadClock page) free l = omega arith
+  room_call b cpu h ReadHv free l = omega arith
 
   -- and leaves room for all of them
   pub room_all : (b : BoardParts) (rs : List Record) → IsFree b rs → n ≤ length b.processors → q b ≤ most → q b + k * weigh (of_record f) rs ≤ most
@@ -206,11 +209,13 @@ timed_call : (b : BoardParts) (cpu h : ℕ) (call : Call) → call_cause b cpu h
 timed_call b cpu h (Act a) e = has_time b.anchor h (taken_time b cpu h a (access_none (refusal_of b cpu h a) e))
 timed_call b cpu h (ReadPage page) e = no_fault b.anchor h e
 timed_call b cpu h (ReadClock page) e = no_fault b.anchor h e
+timed_call b cpu h ReadHv e = no_fault b.anchor h e
 
 anchor_call : (b : BoardParts) (cpu h : ℕ) (call : Call) → (after_call b cpu h call).anchor ≡ b.anchor
 anchor_call b cpu h (Act a) = after_access-anchor b cpu h a
 anchor_call b cpu h (ReadPage page) = refl
 anchor_call b cpu h (ReadClock page) = refl
+anchor_call b cpu h ReadHv = refl
 
 -- each record that is taken has its time
 all_timed : (anchor : Anchor) (b : BoardParts) (rs : List Record) → b.anchor ≡ anchor → IsFree b rs → weigh (untimed anchor) rs ≡ 0
@@ -358,9 +363,10 @@ module _ (s : BoardParts) (rs : List Record) (h : List Entry) (sound : IsSound s
       by_call (Act a) is takes met = refused a met.0 is takes met.1
       by_call (ReadPage page) is there met = unread met
       by_call (ReadClock page) is there met = unread met
+      by_call ReadHv is there met = unread met
 
 -- what a stopped board tells of its workers
-pub phase_told : (s state : BoardParts) (ds : List (Option Delivery)) (rs : List Record) (ps : List PassKnown) (out : List ℕ) → IsSound s → length ps ≡ s.cpus
+pub phase_told : (s state : BoardParts) (ds : Deliveries) (rs : List Record) (ps : List PassKnown) (out : List ℕ) → IsSound s → length ps ≡ s.cpus
     → All (IsFitting s.cpus s.format) rs → records_fault s rs ≡ None → length rs ≤ 2 ^ 62
     → StopTold s s.cpus state ps → AllWorked s ds rs 0 ps out → PhaseTold s ds rs state out
 phase_told s state ds rs ps out sound len fit free few told all =

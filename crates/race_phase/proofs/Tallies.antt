@@ -40,7 +40,7 @@ use Rattle.std.proofs.Common.{
   add-one,
 }
 use Rattle.std.proofs.Math.Nat.{div-le_of_le-mul}
-use Rattle.std.proofs.lemmas.Bool.{cases_lt, le-leb, lt-leb}
+use Rattle.std.proofs.lemmas.Bool.{cases_lt, le-leb}
 use Rattle.std.proofs.lemmas.Grind.{get_or-set_at}
 use Rattle.std.proofs.lemmas.List.{get_or-set_other}
 use native.Mathlib.Decide.{ℕ_discrete}
@@ -52,7 +52,6 @@ use Rattle.tsc_scale.specs.declared.Tsc.{Tsc}
 use Rattle.board_types.specs.Legal.{is_legal}
 use Rattle.board_types.specs.declared.access.Access.{Access}
 use Rattle.board_types.specs.declared.parts.BoardParts.{BoardParts}
-use Rattle.board_types.specs.declared.parts.HvParts.{HvParts}
 use Rattle.board_types.specs.declared.parts.ProcessorParts.{ProcessorParts}
 use Rattle.board_types.specs.declared.parts.TheConstants.{LAST_VERSION, MOST_ACCESSES}
 use Rattle.board_types.specs.declared.reply.Refusal.{Refusal}
@@ -63,7 +62,7 @@ use Rattle.board_core.specs.Reanchor.{reanchored}
 use Rattle.board_core.specs.Refusals.{version_at, raised_version, spent_version, refusal_of}
 use Rattle.board_core.specs.Time.{HasTime, now_of}
 use Rattle.board_core.specs.Tsc.{no_processor, processor_at}
-use Rattle.board_core.specs.Hv.{publishes_hv}
+use Rattle.board_core.specs.Hv.{publishes_hv, hv_published_at_host}
 use Rattle.board_core.specs.Wall.{publishes_wall, wall_version_after}
 use Rattle.board_core.proofs.Laws.{
   after_access-format,
@@ -84,7 +83,7 @@ use Rattle.board_core.proofs.Laws.{
 use Rattle.board_history.proofs.Pages.{length-processors, published_by-legal, publishes_wall-page}
 use Rattle.transfer.specs.Move.{or_spent, spent_below, move_fault, published_below, moved_to, tsc_moved}
 use Rattle.transfer.specs.declared.outcome.MoveFault.{MoveFault}
-use Rattle.transfer.specs.declared.outcome.MoveFault.TheVariants.{OutOfRange as GapOutOfRange, VersionsSpent}
+use Rattle.transfer.specs.declared.outcome.MoveFault.TheVariants.{OutOfRange as GapOutOfRange}
 use Rattle.transfer.proofs.Publishing.{move_fault-none}
 use Rattle.race_phase.specs.Tallies.{TallyParts, IsTally}
 use Rattle.race_phase.specs.private.Tallied.{
@@ -97,6 +96,7 @@ use Rattle.race_phase.specs.private.Tallied.{
   spent_in,
   move_fault_in,
   gap_end,
+  hv_version_moved,
   raised_below,
   moved_in,
 }
@@ -191,7 +191,7 @@ move_fault-tally b t gap x =
     let now : now_of b ≡ time_at t.anchor t.host = λ i. time_at (sym x.anchor i) (sym x.host i) in
     let spent : spent_below b b.cpus ≡ spent_in t.versions t.cpus =
     spent_below-tally b t b.cpus x ∙ ap (spent_in t.versions) (sym x.cpus) in
-    λ i. cond (leb RANGE_NS (now i + gap)) (Some (GapOutOfRange (now i + gap))) (spent i)
+    λ i. cond (leb RANGE_NS (now i + gap)) (Some (GapOutOfRange (now i + gap))) (or_spent (spent i) (sym x.cpus i) (sym x.hv_version i))
 
 -- the versions behind a move
 length-below : (n : ℕ) (vs : List ℕ) → length (raised_below n vs) ≡ length vs
@@ -222,7 +222,7 @@ versions-below b khz start gap (suc n) m vs lm lv same k =
 
 module _ (khz start gap : ℕ) (b : BoardParts) (t : TallyParts) (x : IsTally b t) where
   versions-moved : (k : ℕ) → get_or (raised_below t.cpus t.versions) k 0 ≡ (processor_at (moved_to khz start gap b) k).version
-  unfolding moved_to
+  unfolding moved_to hv_published_at_host
   versions-moved k =
       let rb = reanchored_processors khz start gap b in
       let lb = ap length rb in
@@ -242,7 +242,7 @@ module _ (khz start gap : ℕ) (b : BoardParts) (t : TallyParts) (x : IsTally b 
     host = sym (moved_host khz start gap b);
     accesses = x.accesses ∙ sym (moved_accesses khz start gap b);
     wall_version = x.wall_version ∙ sym (moved_wall khz start gap b);
-    hv_version = x.hv_version ∙ sym (ap (λ (p : HvParts). p.version) (moved_hv khz start gap b));
+    hv_version = (λ i. hv_version_moved (x.format i) (x.hv_version i)) ∙ sym (moved_hv khz start gap b);
     versions = versions-moved;
     places = (let m = moved_cpus khz start gap b in let l = moved_places khz start gap b in let p = x.places in omega arith);
     own = (let l = length-below t.cpus t.versions in let p = x.own in omega arith);
@@ -296,6 +296,9 @@ module _ (b : BoardParts) (t : TallyParts) (gap : ℕ) (x : IsTally b t) (none :
   room_pages =
       sym (spent_below-tally b t b.cpus x ∙ ap (spent_in t.versions) (sym x.cpus)) ∙ (move_fault-none gap b none).1
 
+  pub room_reference : t.hv_version < LAST_VERSION
+  room_reference = let e = x.hv_version in let l = (move_fault-none gap b none).2 in omega arith
+
 -- a count whose product isn't beyond that of the range has a time
 pub product_time : (anchor : Anchor) (h : ℕ) → anchor.start ≤ h → anchor.base_ns < RANGE_NS
     → (h - anchor.start) * 1000000 ≤ anchor.khz * (RANGE_NS - 1 - anchor.base_ns) → HasTime anchor h
@@ -304,12 +307,6 @@ product_time anchor h started base few =
     record { started = started; range = omega (arith, base, div-le_of_le-mul anchor.khz few) }
 
 -- the first page at its last version, page by page
-or_spent-last : (cpu v : ℕ) → LAST_VERSION ≤ v → or_spent None cpu v ≡ Some (VersionsSpent cpu v)
-or_spent-last cpu v last = ap (λ (t : Bool). cond t (Some (VersionsSpent cpu v)) None) (le-leb LAST_VERSION v last)
-
-or_spent-fresh : (cpu v : ℕ) → v < LAST_VERSION → or_spent None cpu v ≡ None
-or_spent-fresh cpu v less = ap (λ (t : Bool). cond t (Some (VersionsSpent cpu v)) None) (lt-leb LAST_VERSION v less)
-
 or_spent-none : (f : Option MoveFault) (cpu v : ℕ) → or_spent f cpu v ≡ None → (f ≡ None) × (v < LAST_VERSION)
 or_spent-none (Some f) cpu v e = cc
 or_spent-none None cpu v e = elim (cases_lt v LAST_VERSION) [
@@ -321,24 +318,20 @@ pub spent_in-zero : (vs : List ℕ) → spent_in vs 0 ≡ None
 unfolding spent_in
 spent_in-zero vs = refl
 
-pub spent_in-more : (vs : List ℕ) (n : ℕ) → spent_in vs n ≡ None → get_or vs n 0 < LAST_VERSION → spent_in vs (n + 1) ≡ None
+pub spent_in-more : (vs : List ℕ) (n : ℕ) → spent_in vs n ≡ None → or_spent None n (get_or vs n 0) ≡ None → spent_in vs (n + 1) ≡ None
 unfolding spent_in
-spent_in-more vs n none less =
-    rw add-one (ap (λ (f : Option MoveFault). or_spent f n (get_or vs n 0)) none ∙ or_spent-fresh n (get_or vs n 0) less)
+spent_in-more vs n none fresh = rw add-one (ap (λ (f : Option MoveFault). or_spent f n (get_or vs n 0)) none ∙ fresh)
 
-pub spent_in-is : (vs : List ℕ) (n m v : ℕ) → spent_in vs n ≡ None → n < m → LAST_VERSION ≤ get_or vs n 0 → v ≡ get_or vs n 0
-    → Some (VersionsSpent n v) ≡ spent_in vs m
+pub spent_in-is : (vs : List ℕ) (n m : ℕ) (fault : MoveFault) → spent_in vs n ≡ None → n < m → or_spent None n (get_or vs n 0) ≡ Some fault
+    → spent_in vs m ≡ Some fault
 unfolding spent_in
-spent_in-is vs n zero v none less last is = absurd (omega arith)
-spent_in-is vs n (suc j) v none less last is = elim (cases_lt n j) [
-  | inl below ↦ ap (λ (f : Option MoveFault). or_spent f j (get_or vs j 0)) (spent_in-is vs n j v none below last is)
+spent_in-is vs n zero fault none less here = absurd (omega arith)
+spent_in-is vs n (suc j) fault none less here = elim (cases_lt n j) [
+  | inl below ↦ ap (λ (f : Option MoveFault). or_spent f j (get_or vs j 0)) (spent_in-is vs n j fault none below here)
   | inr above ↦
       let same : n ≡ j = omega arith in
-      let here : or_spent (spent_in vs n) n (get_or vs n 0) ≡ Some (VersionsSpent n v) =
-      ap (λ (f : Option MoveFault). or_spent f n (get_or vs n 0)) none
-      ∙ or_spent-last n (get_or vs n 0) last
-      ∙ ap (λ (w : ℕ). Some (VersionsSpent n w)) (sym is) in
-      subst (λ (i : ℕ). Some (VersionsSpent n v) ≡ or_spent (spent_in vs i) i (get_or vs i 0)) same (sym here)
+      let first : spent_in vs (suc n) ≡ Some fault = ap (λ (f : Option MoveFault). or_spent f n (get_or vs n 0)) none ∙ here in
+      subst (λ (i : ℕ). spent_in vs (suc i) ≡ Some fault) same first
 ]
 
 spent_in-none : (vs : List ℕ) (n : ℕ) → spent_in vs n ≡ None → (k : ℕ) → k < n → get_or vs k 0 < LAST_VERSION

@@ -51,7 +51,7 @@ use Rattle.std.proofs.Math.Seq.{take-suc, drop-cons, get_or-append_seam}
 use Rattle.std.proofs.lemmas.List.{length-take-le, take-append-drop, take_more_set, take_all, drop_all}
 use Rattle.std.proofs.lemmas.Option.{slice_get-get_or, get_or_from_slice_get, slice_get_within}
 use native.Mathlib.Decide.{ℕ_discrete}
-use Rattle.edge_hooks.specs.declared.deliveries.Delivery.{Delivery}
+use Rattle.race_phase.specs.declared.deliveries.Deliveries.{Deliveries}
 use Rattle.board_types.specs.declared.parts.BoardParts.{BoardParts}
 use Rattle.board_history.specs.declared.entry.Entry.{Entry}
 use Rattle.board_history.specs.declared.entry.Entry.TheVariants.{Opened, Board, PageRead, HvRead, Clamp}
@@ -146,7 +146,7 @@ newcomer s (suc n) i d x l is =
           newcomer s n i d x before (is ∙ get_or-append (newcomers s n) (new ∷ []) d i inside)
     ]
 
-module _ (s : BoardParts) (ds : List (Option Delivery)) where
+module _ (s : BoardParts) (ds : Deliveries) where
   -- one record more
   pub made-snoc : (n : ℕ) (rs : List Record) (out : List ℕ) (es : List Entry) (r : Record) (a : Answer) (more : List Entry) → AllMade s ds n rs out es
       → MadeBy s n r a more → AllMade s ds n (rs ++ r ∷ []) (out ++ block_of ds r.line a) (es ++ more)
@@ -200,7 +200,7 @@ module _ (s : BoardParts) (ds : List (Option Delivery)) where
       subst (λ r. IfOk r (λ w. HasWorked s ds rs (length xs) (pass w) (answers w))) (get_or-append_seam xs x [] x) (all (length xs) x more)
 
 -- the blocks of records, one more at a time
-pub places_text-snoc : (ds : List (Option Delivery)) (rs : List Record) (ts : List Place) (r : Record) (t : Place) → length ts ≡ length rs
+pub places_text-snoc : (ds : Deliveries) (rs : List Record) (ts : List Place) (r : Record) (t : Place) → length ts ≡ length rs
     → places_text ds (rs ++ r ∷ []) (ts ++ t ∷ []) ≡ places_text ds rs ts ++ place_text ds r t
 places_text-snoc ds [] [] r t same = append-nil (place_text ds r t)
 places_text-snoc ds [] (u ∷ ts) r t same = absurd (omega arith)
@@ -210,7 +210,7 @@ places_text-snoc ds (x ∷ rs) (u ∷ ts) r t same =
     ap (λ (l : List ℕ). place_text ds x u ++ l) (places_text-snoc ds rs ts r t long)
     ∙ sym (append_assoc (place_text ds x u) (places_text ds rs ts) (place_text ds r t))
 
-pub places_text-take : (ds : List (Option Delivery)) (rs : List Record) (ts : List Place) (i : ℕ) (d : Record) (e : Place) → i < length rs → i < length ts
+pub places_text-take : (ds : Deliveries) (rs : List Record) (ts : List Place) (i : ℕ) (d : Record) (e : Place) → i < length rs → i < length ts
     → places_text ds (take (i + 1) rs) (take (i + 1) ts) ≡ places_text ds (take i rs) (take i ts) ++ place_text ds (get_or rs i d) (get_or ts i e)
 places_text-take ds rs ts i d e l m =
     let next : i + 1 ≡ suc i = omega arith in
@@ -222,7 +222,7 @@ places_text-take ds rs ts i d e l m =
     ap (λ (k : ℕ). places_text ds (take k rs) (take k ts)) next
     ∙ (more ∙ places_text-snoc ds (take i rs) (take i ts) (get_or rs i d) (get_or ts i e) (b ∙ sym a))
 
-pub blocks_more : (ds : List (Option Delivery)) (rs : List Record) (ts : List Place) (i : ℕ) (d : Record) (e : Place) (out xs ys : List ℕ) → i < length rs → i < length ts
+pub blocks_more : (ds : Deliveries) (rs : List Record) (ts : List Place) (i : ℕ) (d : Record) (e : Place) (out xs ys : List ℕ) → i < length rs → i < length ts
     → xs ≡ out ++ places_text ds (take i rs) (take i ts)
     → ys ≡ xs ++ place_text ds (get_or rs i d) (get_or ts i e)
     → ys ≡ out ++ places_text ds (take (i + 1) rs) (take (i + 1) ts)
@@ -309,7 +309,7 @@ pub read_fits : (cpus format : ℕ) (rs : List Record) (i : ℕ) (r : Record) �
 read_fits cpus format rs i r is fit =
     subst (IsFitting cpus format) (get_or_from_slice_get rs i r r is) (fit i r (slice_get_within rs i r is))
 
-module _ (s : BoardParts) (ds : List (Option Delivery)) (n : ℕ) where
+module _ (s : BoardParts) (ds : Deliveries) (n : ℕ) where
   -- a new pass
   pub none_waits : (p : PassKnown) → mine p ≡ [] → p.misses ≡ [] → AllButLast s ds n [] [] [] p
   none_waits p fresh none = record {
@@ -403,7 +403,7 @@ not_ok (Ok x) none err = absurd (none x refl)
 not_ok (Err e) none err = err
 
 -- a worker that has stopped at a batch, and one that has come to the last
-module _ (s : BoardParts) (ds : List (Option Delivery)) (n : ℕ) (i : ℕ) (rs ws : List Record) (xs : List ℕ) (p q : PassKnown) (is : p.number ≡ n)
+module _ (s : BoardParts) (ds : Deliveries) (n : ℕ) (i : ℕ) (rs ws : List Record) (xs : List ℕ) (p q : PassKnown) (is : p.number ≡ n)
     (all : AllButLast s ds n (records_of n (take i rs)) ws xs p) where
   pub batch_halted : (ys : List ℕ) → HasHalted s ws p q → HasWorked s ds rs n q ys
   batch_halted ys halted = (

@@ -12,19 +12,20 @@ use Rattle.std.specs.Prelude.{
   [],
   ◌∷◌,
   ◌++◌,
-  Option,
   Bool,
   true,
   false,
   IsTrue,
 }
-use Rattle.edge_hooks.specs.declared.deliveries.Delivery.{Delivery}
+use Rattle.race_phase.specs.declared.deliveries.Deliveries.{Deliveries}
+use Rattle.hv_page.specs.declared.page.HvPage.{HvPage}
 use Rattle.pvclock_page.specs.declared.page.Page.{Page}
 use Rattle.pvclock_page.specs.declared.page.ClockReply.{ClockReply}
 use Rattle.pvclock_page.specs.declared.page.ClockReply.TheVariants.{Off, On}
 use Rattle.board_types.specs.Legal.{is_legal}
 use Rattle.board_types.specs.declared.parts.BoardParts.{BoardParts}
-use Rattle.board_history.specs.Machine.{machine_of, ratio_in, reading_by, answer_by}
+use Rattle.board_types.specs.declared.setup.TheConstants.{HV_FORMAT}
+use Rattle.board_history.specs.Machine.{machine_of, ratio_in, reading_by, answer_by, hv_answer_by}
 use Rattle.board_history.specs.History.{board_after, entries_of, IsLegal, Opens}
 use Rattle.board_history.specs.declared.entry.Entry.{Entry}
 use Rattle.board_history.specs.declared.entry.Entry.TheVariants.{
@@ -39,9 +40,9 @@ use Rattle.clock_table.specs.Ends.{MissesTold}
 use Rattle.shared_board.specs.Pages.{clock_entries}
 use Rattle.shared_board.specs.Passes.{miss, IsUpdate}
 use Rattle.race_phase.specs.declared.records.Answer.{Answer}
-use Rattle.race_phase.specs.declared.records.Answer.TheVariants.{Acted, PageIs, ClockIs}
+use Rattle.race_phase.specs.declared.records.Answer.TheVariants.{Acted, PageIs, ClockIs, HvIs}
 use Rattle.race_phase.specs.declared.records.Call.{Call}
-use Rattle.race_phase.specs.declared.records.Call.TheVariants.{Act, ReadPage, ReadClock}
+use Rattle.race_phase.specs.declared.records.Call.TheVariants.{Act, ReadPage, ReadClock, ReadHv}
 use Rattle.race_phase.specs.declared.records.Record.{Record}
 use Rattle.race_phase.specs.Blocks.{block_of}
 
@@ -50,6 +51,7 @@ abbrev pub IsFittingCall : ℕ → ℕ → Call → Type 0
 IsFittingCall cpus format (Act a) = IsTrue (is_legal cpus format a)
 IsFittingCall cpus format (ReadPage page) = page < cpus
 IsFittingCall cpus format (ReadClock page) = page < cpus
+IsFittingCall cpus format ReadHv = HV_FORMAT ≤ format
 
 -- and the processor of the record
 abbrev pub IsFitting : ℕ → ℕ → Record → Type 0
@@ -67,7 +69,8 @@ Tells s h page (On reading clock) =
     IsTrue page.enabled × (reading ≡ reading_by (ratio_in (machine_of s)) page h)
 
 -- the entries that a call of the pass n makes on a board that opened with s, and its answer: one of
--- an access; one of a page; of the clock that of the page, and the clamp where the page is enabled
+-- an access; one of a page; of the clock that of the page, and the clamp where the page is enabled;
+-- one of the reference page
 abbrev pub CallMade : BoardParts → ℕ → ℕ → ℕ → Call → Answer → List Entry → Type 0
 CallMade s n cpu h (Act a) (Acted reply) es = es ≡ Board n cpu h a reply ∷ []
 CallMade s n cpu h (ReadPage k) (PageIs reply) es =
@@ -76,6 +79,9 @@ CallMade s n cpu h (ReadPage k) (PageIs reply) es =
 CallMade s n cpu h (ReadClock k) (ClockIs reply) es =
     (page : Page) × (locked : Bool) × Tells s h page reply
     × (es ≡ clock_entries n k h page locked reply)
+CallMade s n cpu h ReadHv (HvIs reply) es =
+    (page : HvPage) × (locked : Bool) × (reply ≡ hv_answer_by (ratio_in (machine_of s)) page h)
+    × (es ≡ HvRead n h page locked ∷ [])
 CallMade s n cpu h _ _ es = ⊥
 
 abbrev pub MadeBy : BoardParts → ℕ → Record → Answer → List Entry → Type 0
@@ -83,7 +89,7 @@ MadeBy s n r a es = CallMade s n r.cpu r.h r.call a es
 
 -- the entries of these records in order, and the text of their blocks
 abbrev pub AllMade :
-    BoardParts → List (Option Delivery) → ℕ → List Record → List ℕ → List Entry → Type 0
+    BoardParts → Deliveries → ℕ → List Record → List ℕ → List Entry → Type 0
 AllMade s ds n [] out es = (out ≡ []) × (es ≡ [])
 AllMade s ds n (r ∷ rs) out es =
     (a : Answer) × (more : List ℕ) × (first : List Entry) × (rest : List Entry)
@@ -113,7 +119,7 @@ IsTried cpus h n = (ms : List Miss) × AllTried cpus (entries_of n h) ms × Miss
 
 -- the text of k processors from n on, one behind another
 abbrev pub Shown :
-    BoardParts → List (Option Delivery) → List Record → List Entry → ℕ → ℕ → List ℕ → Type 0
+    BoardParts → Deliveries → List Record → List Entry → ℕ → ℕ → List ℕ → Type 0
 Shown s ds rs h n zero out = out ≡ []
 Shown s ds rs h n (suc k) out =
     (first : List ℕ) × (rest : List ℕ) × (out ≡ first ++ rest)
@@ -122,7 +128,7 @@ Shown s ds rs h n (suc k) out =
 
 -- there is one legal history, which opens with the opening state and leaves this one. It has the
 -- entries of the records and no others, those of a processor in their order, and this is their text
-pub record PhaseTold (opening : BoardParts) (ds : List (Option Delivery)) (rs : List Record)
+pub record PhaseTold (opening : BoardParts) (ds : Deliveries) (rs : List Record)
     (state : BoardParts) (out : List ℕ) : Type 0 where
   pub h : List Entry
   pub legal : IsLegal h

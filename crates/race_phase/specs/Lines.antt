@@ -2,10 +2,10 @@
 use Rattle.std.specs.Prelude.{ℕ, List, ◌∷◌, [], ◌++◌}
 use Rattle.board_types.specs.declared.access.Access.TheVariants.{Step}
 use Rattle.trace_text.specs.declared.records.Job.{Job}
-use Rattle.trace_text.specs.declared.records.Job.TheVariants.{Board, Page, Clock, Save, Move}
+use Rattle.trace_text.specs.declared.records.Job.TheVariants.{Board, Page, Clock, Hv, Save, Move}
 use Rattle.trace_text.specs.declared.records.Record.{Record as Written}
 use Rattle.race_phase.specs.declared.records.Call.{Call}
-use Rattle.race_phase.specs.declared.records.Call.TheVariants.{Act, ReadPage, ReadClock}
+use Rattle.race_phase.specs.declared.records.Call.TheVariants.{Act, ReadPage, ReadClock, ReadHv}
 use Rattle.race_phase.specs.declared.records.Record.{Record}
 
 -- what a record asks that stands in a phase. A save and a move end one, by an access
@@ -13,6 +13,7 @@ abbrev pub call_of : Job → Call
 call_of (Board a) = Act a
 call_of (Page page) = ReadPage page
 call_of (Clock page) = ReadClock page
+call_of Hv = ReadHv
 call_of Save = Act Step
 call_of (Move khz start gap) = Act Step
 

@@ -28,7 +28,7 @@ use Rattle.race_phase.specs.declared.faults.Cause.{Cause}
 use Rattle.race_phase.specs.declared.faults.Cause.TheVariants.{Access as ByAccess, Count as ByCount}
 use Rattle.race_phase.specs.declared.faults.Fault.{Fault}
 use Rattle.race_phase.specs.declared.records.Call.{Call}
-use Rattle.race_phase.specs.declared.records.Call.TheVariants.{Act, ReadPage, ReadClock}
+use Rattle.race_phase.specs.declared.records.Call.TheVariants.{Act, ReadPage, ReadClock, ReadHv}
 use Rattle.race_phase.specs.declared.records.Record.{Record}
 
 -- the first of two causes, and of two faults
@@ -66,6 +66,7 @@ abbrev pub call_cause : BoardParts → ℕ → ℕ → Call → Option Cause
 call_cause b cpu h (Act a) = by_access (refusal_of b cpu h a)
 call_cause b cpu h (ReadPage page) = by_count (time_fault b.anchor h)
 call_cause b cpu h (ReadClock page) = by_count (time_fault b.anchor h)
+call_cause b cpu h ReadHv = by_count (time_fault b.anchor h)
 
 abbrev pub record_fault : BoardParts → Record → Option Fault
 record_fault b r = at_line r.line (call_cause b r.cpu r.h r.call)
@@ -75,6 +76,7 @@ abbrev pub after_call : BoardParts → ℕ → ℕ → Call → BoardParts
 after_call b cpu h (Act a) = after_access b cpu h a
 after_call b cpu h (ReadPage page) = b
 after_call b cpu h (ReadClock page) = b
+after_call b cpu h ReadHv = b
 
 abbrev pub after_record : BoardParts → Record → BoardParts
 after_record b r = after_call b r.cpu r.h r.call

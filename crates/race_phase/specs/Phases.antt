@@ -16,7 +16,7 @@ use Rattle.std.specs.Prelude.{
   None,
 }
 use Rattle.clk_units.specs.Ranges.{IsKhz}
-use Rattle.edge_hooks.specs.declared.deliveries.Delivery.{Delivery}
+use Rattle.race_phase.specs.declared.deliveries.Deliveries.{Deliveries}
 use Rattle.board_types.specs.declared.access.Access.TheVariants.{Step}
 use Rattle.board_types.specs.declared.parts.BoardParts.{BoardParts}
 use Rattle.board_types.specs.declared.reply.Reply.{Reply}
@@ -29,7 +29,7 @@ use Rattle.board_history.specs.declared.entry.Entry.{Entry}
 use Rattle.board_history.specs.declared.entry.Entry.TheVariants.{Board}
 use Rattle.reply_text.specs.Text.{save_text, move_text}
 use Rattle.save_state.specs.Writing.{bytes_of}
-use Rattle.transfer.specs.Move.{move_fault, moved_to}
+use Rattle.transfer.specs.Move.{gap_bursts, move_fault, moved_to}
 use Rattle.transfer.specs.declared.outcome.MoveFault.{MoveFault}
 use Rattle.race_phase.specs.declared.faults.Cause.{Cause}
 use Rattle.race_phase.specs.declared.faults.Cause.TheVariants.{Move as ByMove}
@@ -37,7 +37,7 @@ use Rattle.race_phase.specs.declared.faults.Fault.{Fault}
 use Rattle.race_phase.specs.declared.phases.End.{End}
 use Rattle.race_phase.specs.declared.phases.End.TheVariants.{Finish, Save, Move}
 use Rattle.race_phase.specs.declared.phases.Phase.{Phase}
-use Rattle.race_phase.specs.Blocks.{edges_text}
+use Rattle.race_phase.specs.Blocks.{edges_text, messages_text}
 use Rattle.race_phase.specs.Calls.{IsFitting, Shown}
 use Rattle.race_phase.specs.Order.{
   or_cause,
@@ -101,19 +101,23 @@ end_entries Finish b = []
 end_entries (Save line cpu h) b = step_entry cpu h b ∷ []
 end_entries (Move line cpu h host) b = step_entry cpu h b ∷ []
 
--- the block of a save: the edges of its access, and the state behind it
-abbrev pub save_block : List (Option Delivery) → ℕ → Reply → BoardParts → List ℕ
-save_block ds line reply b = edges_text ds reply.edges ++ save_text line reply.number (bytes_of b)
+-- the block of a save: the edges and the messages of its access, and the state after it
+abbrev pub save_block : Deliveries → ℕ → Reply → BoardParts → List ℕ
+save_block ds line reply b =
+    edges_text ds reply.edges ++ messages_text ds reply.bursts
+    ++ save_text line reply.number (bytes_of b)
 
--- the block of a move: the edges of its access, those of the gap, and the time behind it
-abbrev pub move_block :
-    List (Option Delivery) → ℕ → ℕ → Reply → BoardParts → BoardParts → List ℕ
+-- the block of a move: the edges of its access and those of the gap, likewise the messages, and the
+-- time after it
+abbrev pub move_block : Deliveries → ℕ → ℕ → Reply → BoardParts → BoardParts → List ℕ
 move_block ds line gap reply b moved =
     edges_text ds reply.edges
     ++ edges_text ds (run (now_of b) gap (devices_in b)).edges
+    ++ messages_text ds reply.bursts
+    ++ messages_text ds (gap_bursts gap b)
     ++ move_text line reply.number (now_of moved)
 
-abbrev pub end_text : List (Option Delivery) → End → BoardParts → List ℕ
+abbrev pub end_text : Deliveries → End → BoardParts → List ℕ
 end_text ds Finish b = []
 end_text ds (Save line cpu h) b =
     save_block ds line (reply_of b cpu h Step) (after_access b cpu h Step)
@@ -124,7 +128,7 @@ end_text ds (Move line cpu h host) b =
 -- a phase that was run, with the access that ends it: there is one legal history, which opens with
 -- the opening state. It has the entries of the records and no others, and the access as its last.
 -- The text is the blocks of processor 0 in their order, then those of 1, and so on, and the end's
-pub record PhaseEnded (opening : BoardParts) (ds : List (Option Delivery)) (v : Phase)
+pub record PhaseEnded (opening : BoardParts) (ds : Deliveries) (v : Phase)
     (next : BoardParts) (out : List ℕ) : Type 0 where
   pub h : List Entry
   pub block : List ℕ
@@ -138,7 +142,7 @@ pub record PhaseEnded (opening : BoardParts) (ds : List (Option Delivery)) (v : 
 -- the text of these phases from a state on, and the state that they leave. Each phase opens with
 -- the board that the one before it left
 abbrev pub race_text :
-    List (Option Delivery) → BoardParts → List Phase → BoardParts → List ℕ → Type 0
+    Deliveries → BoardParts → List Phase → BoardParts → List ℕ → Type 0
 race_text ds s [] state out = (state ≡ s) × (out ≡ [])
 race_text ds s (v ∷ vs) state out =
     (next : BoardParts) × (first : List ℕ) × (rest : List ℕ) × (out ≡ first ++ rest)

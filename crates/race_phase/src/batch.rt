@@ -325,6 +325,13 @@ fn answer<N: Name, R: Wait, G: Gate>(
             }
             Err(_fault) => Err(Halted),
         },
+        Call::ReadHv => match board.read_hv(rt, pass, given.h) {
+            Ok(reply) => {
+                place.told = Told::HvIs { reply };
+                Ok(())
+            }
+            Err(_fault) => Err(Halted),
+        },
     }
 }
 

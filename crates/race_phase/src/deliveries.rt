@@ -1,27 +1,43 @@
-//! Where the rises of lines go, and the lines of edges.
-ghost use Rattle.std.specs.Prelude.{◌≡◌, ◌++◌, OnOk, OnErr, OnSome, IsTrue};
+//! Where the rises of lines and the messages of timers go, and their lines.
+ghost use Rattle.std.specs.Prelude.{◌≡◌, ◌≤◌, ◌++◌, OnOk, OnErr, OnSome, IsTrue};
 ghost use Rattle.std.specs.Io.{StartsWith};
-ghost use Rattle.race_phase.specs.Blocks.{delivery_to, delivery_of, edges_text};
+ghost use Rattle.edge_hooks.specs.Hooks.{IsDelivery};
+ghost use Rattle.race_phase.specs.Blocks.{
+  delivery_to,
+  delivery_of,
+  edges_text,
+  message_to,
+  messages_text,
+};
 
 use clk_units::NoMemory;
-use edge_hooks::Delivery;
-use irq_edges::Edge;
-use reply_text::edge_line;
+use edge_hooks::{Delivery, Message, Sent};
+use irq_edges::{Burst, Edge};
+use reply_text::{edge_line, msg_line};
 
-/// Who gets a rise of the lines 0, 8, 20, 21, 22 and 23.
-pub type Deliveries = [Option<Delivery>; 6];
+/// The vector of a message whose own is reserved.
+const DEFAULT_VECTOR: u8 = 0x30;
+
+/// Who gets interrupts.
+#[derive(Clone, Copy, Debug, PartialEq, Eq)]
+pub struct Deliveries {
+    /// How many processors there are.
+    pub cpus: u8,
+    /// Who gets a rise of the lines 0, 8, 20, 21, 22 and 23.
+    pub lines: [Option<Delivery>; 6],
+}
 
 /// Who gets a rise of a line.
 fn delivery_to(deliveries: &Deliveries, line: u8) -> Option<Delivery>
     ensures { result ≡ delivery_to deliveries.now line }
 {
     match line {
-        0 => deliveries[0],
-        8 => deliveries[1],
-        20 => deliveries[2],
-        21 => deliveries[3],
-        22 => deliveries[4],
-        23 => deliveries[5],
+        0 => deliveries.lines[0],
+        8 => deliveries.lines[1],
+        20 => deliveries.lines[2],
+        21 => deliveries.lines[3],
+        22 => deliveries.lines[4],
+        23 => deliveries.lines[5],
         _ => None,
     }
 }
@@ -51,6 +67,47 @@ pub fn edge_lines(
 {
     for edge in edges {
         edge_line(edge, delivery_of(deliveries, edge), out)?;
+    }
+    Ok(())
+}
+
+/// Who gets a message, where there are so many processors: the processor in bits 19 to 12 of its address, and the
+/// vector in bits 7 to 0 of its data (Intel SDM, volume 3, "Message Address Register Format" and "Message Data Register
+/// Format"). Processor 0 stands for one that isn't there, and vector 30h for one that is reserved.
+#[tactic(auto, unfolding(crate::specs::Blocks::message_to))]
+pub fn message_to(cpus: u8, message: &Message) -> Delivery
+    ensures value { result ≡ message_to cpus message.now }
+    ensures valid { 1 ≤ cpus → IsDelivery cpus result }
+{
+    let cpu = ((message.address >> 12) % 256) as u8;
+    let vector = (message.data % 256) as u8;
+    Delivery {
+        cpu: if cpu < cpus { cpu } else { 0 },
+        vector: if vector < 16 { DEFAULT_VECTOR } else { vector },
+    }
+}
+
+/// Appends the lines of messages. After an `Err` the text begins as it was.
+#[inline(always)]
+pub fn message_lines(
+    bursts: &[Burst],
+    deliveries: &Deliveries,
+    out: &mut Vec<u8>,
+) -> Result<(), NoMemory>
+    ensures ok { OnOk result
+        (out.new.items ≡ out.old.items ++ messages_text deliveries.now bursts.now) }
+    ensures err { OnErr result (StartsWith out.new.items out.old.items) }
+{
+    for burst in bursts {
+        let message = Message {
+            address: burst.address,
+            data: burst.data,
+        };
+        let sent = Sent {
+            burst: *burst,
+            to: message_to(deliveries.cpus, &message),
+        };
+        msg_line(&sent, out)?;
     }
     Ok(())
 }

@@ -7,7 +7,7 @@ ghost use Rattle.board_core.specs.Refusals.{refusal_of};
 ghost use Rattle.transfer.specs.Move.{move_fault, moved_to};
 ghost use Rattle.race_phase.specs.Phases.{IsEnd, next_board, end_fault, end_text, save_block, move_block};
 
-use crate::deliveries::{Deliveries, edge_lines};
+use crate::deliveries::{Deliveries, edge_lines, message_lines};
 use crate::phases::{End, NewHost};
 use board_core::{Access, BoardState, Reply};
 use clk_units::NoMemory;
@@ -67,6 +67,7 @@ fn save(
         (out.new.items ≡ out.old.items ++ save_block deliveries.now line reply.now board.now) }
 {
     edge_lines(reply.edges.as_slice(), deliveries, out)?;
+    message_lines(reply.bursts.as_slice(), deliveries, out)?;
     let bytes = encode(*out.allocator(), board)?;
     save_line(line, reply.number, &bytes, out)
 }
@@ -91,6 +92,8 @@ fn cross_gap(
         Ok(moved) => {
             edge_lines(reply.edges.as_slice(), deliveries, out)?;
             edge_lines(moved.edges.as_slice(), deliveries, out)?;
+            message_lines(reply.bursts.as_slice(), deliveries, out)?;
+            message_lines(moved.bursts.as_slice(), deliveries, out)?;
             *board = moved.state;
             move_line(line, reply.number, board.now(), out)
         }

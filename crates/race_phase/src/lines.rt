@@ -162,6 +162,7 @@ fn call_of(job: &Job) -> Call
         Job::Board(access) => Call::Act { access },
         Job::Page { page } => Call::ReadPage { page },
         Job::Clock { page } => Call::ReadClock { page },
+        Job::Hv => Call::ReadHv,
         Job::Save | Job::Move { .. } => Call::Act {
             access: Access::Step,
         },

@@ -1,6 +1,6 @@
 //! The records of a phase, each processor's in a thread of its own.
-ghost use Rattle.std.specs.Prelude.{◌≡◌, ◌<◌, ◌≤◌, ◌^◌, List, [], All, IfOk, Option, None, length, vec_len};
-ghost use Rattle.edge_hooks.specs.declared.deliveries.Delivery.{Delivery};
+ghost use Rattle.std.specs.Prelude.{◌≡◌, ◌<◌, ◌≤◌, ◌^◌, List, [], All, IfOk, None, length, vec_len};
+ghost use Rattle.race_phase.specs.declared.deliveries.Deliveries.{Deliveries};
 ghost use Rattle.shared_board.specs.Passes.{mine};
 ghost use Rattle.race_phase.specs.declared.records.Record.{Record};
 ghost use Rattle.race_phase.specs.Calls.{IsFitting, PhaseTold};
@@ -82,7 +82,7 @@ fn gather<N: Name>(
     results: Vec<Result<Worked<N>, NoMemory>>,
 ) -> Result<(Vec<Pass<N>>, Text), NoMemory>
     ensures len { IfOk result (λ t. vec_len t.0 ≡ vec_len results) }
-    ensures all { IfOk result (λ t. (ds : List (Option Delivery)) (rs : List Record)
+    ensures all { IfOk result (λ t. (ds : Deliveries) (rs : List Record)
         → AllGiven results.items (λ w. w.pass) (λ w. w.text.items) N.state ds rs
         → AllWorked N.state ds rs 0 t.0.items t.1) }
 {

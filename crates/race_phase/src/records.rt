@@ -1,5 +1,6 @@
 //! The records of a trace, and what they are answered.
 use board_core::{Access, Reply};
+use hv_page::HvReply;
 use pvclock_page::{ClockReply, PageReply};
 
 /// What a record asks.
@@ -11,6 +12,8 @@ pub enum Call {
     ReadPage { page: u8 },
     /// The clock is read by the page of this processor.
     ReadClock { page: u8 },
+    /// The reference page of Hyper-V is read; from format 4 on.
+    ReadHv,
 }
 
 /// A record of a trace.
@@ -35,4 +38,6 @@ pub enum Answer {
     PageIs { reply: PageReply },
     /// A reading of the clock.
     ClockIs { reply: ClockReply },
+    /// The reference page.
+    HvIs { reply: HvReply },
 }

@@ -31,7 +31,7 @@ ghost use Rattle.board_core.specs.Time.{HasTime};
 ghost use Rattle.board_core.specs.Tsc.{no_processor};
 ghost use Rattle.board_core.specs.Hv.{publishes_hv};
 ghost use Rattle.board_core.specs.Wall.{publishes_wall, wall_version_after};
-ghost use Rattle.transfer.specs.Move.{move_fault, moved_to};
+ghost use Rattle.transfer.specs.Move.{move_fault, moved_to, or_spent};
 ghost use Rattle.race_phase.specs.Tallies.{IsTally};
 ghost use Rattle.race_phase.specs.private.Tallied.{
   version_in,
@@ -43,6 +43,7 @@ ghost use Rattle.race_phase.specs.private.Tallied.{
   spent_in,
   move_fault_in,
   gap_end,
+  hv_version_moved,
   raised_below,
   moved_in,
 };
@@ -50,13 +51,13 @@ ghost use Rattle.race_phase.specs.private.Tallied.{
 use crate::phase::places;
 use crate::phases::NewHost;
 use board_core::{
-    Access, BoardState, LAST_VERSION, MOST_ACCESSES, MSR_KVM_WALL_CLOCK, ProcessorParts, Refusal,
-    published_by, publishes_hv,
+    Access, BoardState, HV_FORMAT, LAST_VERSION, MOST_ACCESSES, MSR_KVM_WALL_CLOCK, ProcessorParts,
+    Refusal, published_by, publishes_hv,
 };
 use clk_units::RANGE_NS;
 use host_counter::{Anchor, TimeFault};
 use std::marker::Model;
-use transfer::MoveFault;
+use transfer::{MoveFault, spent_page};
 
 /// The counts of a board on which its refusals depend, without its devices: it refuses what the board would, and counts
 /// what the board would, in a few dozen instructions.
@@ -253,9 +254,20 @@ impl Tally {
         if ns >= u128::from(RANGE_NS) {
             return Err(MoveFault::OutOfRange { ns });
         }
-        match spent_below(&self.versions, self.cpus) {
+        match self.spent_pages() {
             Some(fault) => Err(fault),
             None => Ok(()),
+        }
+    }
+
+    /// The first page whose version is the last one; the reference page comes after those of the processors.
+    fn spent_pages(&self) -> Option<MoveFault>
+        ensures { result
+            ≡ or_spent (spent_in self.now.versions self.now.cpus) self.now.cpus self.now.hv_version }
+    {
+        match spent_below(&self.versions, self.cpus) {
+            Some(fault) => Some(fault),
+            None => spent_page(self.cpus, self.hv_version),
         }
     }
 
@@ -274,10 +286,12 @@ impl Tally {
         requires rate { IsKhz host.khz }
         requires range { gap_end host.gap self.old < RANGE_NS }
         requires free { spent_in self.old.versions self.old.cpus ≡ None }
+        requires reference { self.old.hv_version < LAST_VERSION }
         ensures { self.new ≡ moved_in host.khz host.start host.gap self.old }
     {
         let base_ns = self.anchor.time_of(self.host) + host.gap;
         raise_all(&mut self.versions, self.cpus);
+        self.hv_version = hv_version_moved(self.format, self.hv_version);
         self.host = host.start;
         self.anchor = Anchor {
             khz: host.khz,
@@ -319,6 +333,18 @@ fn hv_version_after(a: Access, version: u32) -> u32
     ensures { result ≡ hv_version_after a version }
 {
     if publishes_hv(a) {
+        version + 2
+    } else {
+        version
+    }
+}
+
+/// The version of the reference page behind a move, which publishes it where the format has one.
+fn hv_version_moved(format: u8, version: u32) -> u32
+    requires { version < LAST_VERSION }
+    ensures { result ≡ hv_version_moved format version }
+{
+    if format >= HV_FORMAT {
         version + 2
     } else {
         version
@@ -397,11 +423,8 @@ fn spent_below(versions: &[u32; 64], cpus: u8) -> Option<MoveFault>
 {
     for cpu in 0..cpus {
         let version = versions[cpu as usize];
-        if version >= LAST_VERSION {
-            return Some(MoveFault::VersionsSpent {
-                cpu,
-                version: u64::from(version),
-            });
+        if let Some(fault) = spent_page(cpu, version) {
+            return Some(fault);
         }
     }
     None

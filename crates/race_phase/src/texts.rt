@@ -3,13 +3,13 @@ ghost use Rattle.std.specs.Prelude.{◌≡◌, ◌++◌, OnOk};
 ghost use Rattle.race_phase.specs.Blocks.{block_of};
 ghost use Rattle.race_phase.specs.private.Told.{answer_with};
 
-use crate::deliveries::{Deliveries, edge_lines};
+use crate::deliveries::{Deliveries, edge_lines, message_lines};
 use crate::told::Told;
 use board_core::Reply;
 use clk_units::NoMemory;
-use reply_text::{board_line, clock_line, page_line};
+use reply_text::{board_line, clock_line, hv_line, page_line};
 
-/// Appends the block of a record: the edges of an access, whose reply is this, and the record's line.
+/// Appends the block of a record: the edges and messages of an access, whose reply is this, and the record's line.
 #[tactic(auto, unfolding(crate::specs::Blocks::block_of))]
 pub(crate) fn append_block(
     line: u64,
@@ -24,9 +24,11 @@ pub(crate) fn append_block(
     match told {
         Told::Acted => {
             edge_lines(reply.edges.as_slice(), deliveries, out)?;
+            message_lines(reply.bursts.as_slice(), deliveries, out)?;
             board_line(line, reply, out)
         }
         Told::PageIs { reply } => page_line(line, reply, out),
         Told::ClockIs { reply } => clock_line(line, reply, out),
+        Told::HvIs { reply } => hv_line(line, reply, out),
     }
 }

@@ -2,6 +2,7 @@
 ghost use Rattle.std.specs.Prelude.{◌≡◌};
 ghost use Rattle.race_phase.specs.declared.told.Told.TheVariants.{Acted};
 
+use hv_page::HvReply;
 use pvclock_page::{ClockReply, PageReply};
 
 /// What a record was answered. The reply of an access stands apart, where the worker keeps it.
@@ -13,6 +14,8 @@ pub(crate) enum Told {
     PageIs { reply: PageReply },
     /// A reading of the clock.
     ClockIs { reply: ClockReply },
+    /// The reference page.
+    HvIs { reply: HvReply },
 }
 
 impl Told {

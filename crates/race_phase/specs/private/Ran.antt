@@ -1,13 +1,13 @@
 -- A phase that was run behind a text.
-use Rattle.std.specs.Prelude.{◌≡◌, ℕ, List, ◌++◌, Option}
-use Rattle.edge_hooks.specs.declared.deliveries.Delivery.{Delivery}
+use Rattle.std.specs.Prelude.{◌≡◌, ℕ, List, ◌++◌}
+use Rattle.race_phase.specs.declared.deliveries.Deliveries.{Deliveries}
 use Rattle.board_types.specs.declared.parts.BoardParts.{BoardParts}
 use Rattle.race_phase.specs.declared.phases.Phase.{Phase}
 use Rattle.race_phase.specs.Order.{AreAlike}
 use Rattle.race_phase.specs.Phases.{after_phase, PhaseEnded}
 
 -- one phase more behind a text, with a board that refuses as that of file order does
-abbrev pub PhaseRan : List (Option Delivery) → BoardParts → Phase → BoardParts → List ℕ → List ℕ
+abbrev pub PhaseRan : Deliveries → BoardParts → Phase → BoardParts → List ℕ → List ℕ
     → Type 0
 PhaseRan ds s v next old new =
     (first : List ℕ) × (new ≡ old ++ first) × PhaseEnded s ds v next first

@@ -6,6 +6,7 @@ use Rattle.host_counter.specs.declared.Anchor.{Anchor}
 use Rattle.host_counter.specs.Time.{time_at}
 use Rattle.board_types.specs.declared.access.Access.{Access}
 use Rattle.board_types.specs.declared.parts.TheConstants.{MOST_ACCESSES}
+use Rattle.board_types.specs.declared.setup.TheConstants.{HV_FORMAT}
 use Rattle.board_types.specs.declared.reply.Refusal.{Refusal}
 use Rattle.board_types.specs.declared.reply.Refusal.TheVariants.{BeforeStart, OutOfRange, Spent}
 use Rattle.board_core.specs.Pages.{published_by}
@@ -61,7 +62,7 @@ counted cpu h a t = record t {
   versions = raised_at (published_by cpu a) t.versions;
 }
 
--- why a move is refused: the first processor below n whose page has the last version
+-- the fault of the first processor below n whose page has the last version
 unfoldable pub spent_in : List ℕ → ℕ → Option MoveFault
 spent_in vs zero = None
 spent_in vs (suc n) = or_spent (spent_in vs n) n (slice_index_or vs n 0)
@@ -72,16 +73,21 @@ gap_end gap t = time_at t.anchor t.host + gap
 unfoldable pub move_fault_in : ℕ → TallyParts → Option MoveFault
 move_fault_in gap t =
     if nat_le RANGE_NS (gap_end gap t) then Some (GapOutOfRange (gap_end gap t))
-    else spent_in t.versions t.cpus
+    else or_spent (spent_in t.versions t.cpus) t.cpus t.hv_version
 
 -- the pages of all processors below n are published
 unfoldable pub raised_below : ℕ → List ℕ → List ℕ
 raised_below zero vs = vs
 raised_below (suc n) vs = raised_at (Some n) (raised_below n vs)
 
+-- the version of the reference page behind a move, if the format has one
+abbrev pub hv_version_moved : ℕ → ℕ → ℕ
+hv_version_moved format version = if nat_le HV_FORMAT format then version + 2 else version
+
 abbrev pub moved_in : ℕ → ℕ → ℕ → TallyParts → TallyParts
 moved_in khz start gap t = record t {
   anchor = record { khz = khz; start = start; base_ns = gap_end gap t };
   host = start;
+  hv_version = hv_version_moved t.format t.hv_version;
   versions = raised_below t.cpus t.versions;
 }

@@ -5,12 +5,14 @@ use Rattle.race_phase.specs.declared.records.Answer.TheVariants.{
   Acted as ActedBy,
   PageIs as PageIsBy,
   ClockIs as ClockIsBy,
+  HvIs as HvIsBy,
 }
 use Rattle.race_phase.specs.declared.told.Told.{Told}
-use Rattle.race_phase.specs.declared.told.Told.TheVariants.{Acted, PageIs, ClockIs}
+use Rattle.race_phase.specs.declared.told.Told.TheVariants.{Acted, PageIs, ClockIs, HvIs}
 
 -- the answer to a record
 abbrev pub answer_with : Told → Reply → Answer
 answer_with Acted reply = ActedBy reply
 answer_with (PageIs page) reply = PageIsBy page
 answer_with (ClockIs clock) reply = ClockIsBy clock
+answer_with (HvIs hv) reply = HvIsBy hv

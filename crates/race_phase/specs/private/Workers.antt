@@ -12,13 +12,12 @@ use Rattle.std.specs.Prelude.{
   ◌∷◌,
   ◌++◌,
   length,
-  Option,
   Some,
   Result,
   IfOk,
   slice_index_or,
 }
-use Rattle.edge_hooks.specs.declared.deliveries.Delivery.{Delivery}
+use Rattle.race_phase.specs.declared.deliveries.Deliveries.{Deliveries}
 use Rattle.board_types.specs.declared.parts.BoardParts.{BoardParts}
 use Rattle.board_types.specs.declared.reply.Refusal.{Refusal}
 use Rattle.board_core.specs.Refusals.{refusal_of}
@@ -31,7 +30,7 @@ use Rattle.shared_board.specs.Passes.{mine, Made}
 use Rattle.shared_board.specs.Faults.{page_reads}
 use Rattle.race_phase.specs.declared.records.Answer.{Answer}
 use Rattle.race_phase.specs.declared.records.Call.{Call}
-use Rattle.race_phase.specs.declared.records.Call.TheVariants.{Act, ReadPage, ReadClock}
+use Rattle.race_phase.specs.declared.records.Call.TheVariants.{Act, ReadPage, ReadClock, ReadHv}
 use Rattle.race_phase.specs.declared.records.Record.{Record}
 use Rattle.race_phase.specs.declared.batch.Place.{Place}
 use Rattle.race_phase.specs.Blocks.{block_of}
@@ -54,12 +53,13 @@ CallTrouble s cpu h (Act a) seen =
     (f : Refusal) × (refusal_of (board_after seen) cpu h a ≡ Some f)
 CallTrouble s cpu h (ReadPage page) seen = IsUnread s h seen
 CallTrouble s cpu h (ReadClock page) seen = IsUnread s h seen
+CallTrouble s cpu h ReadHv seen = IsUnread s h seen
 
 abbrev pub IsTrouble : BoardParts → Record → PassKnown → Type 0
 IsTrouble s r p = CallTrouble s r.cpu r.h r.call p.seen
 
 -- the pass has made the entries of the first of these records, and met trouble at the next
-pub record HasStopped (s : BoardParts) (ds : List (Option Delivery)) (n : ℕ) (rs : List Record)
+pub record HasStopped (s : BoardParts) (ds : Deliveries) (n : ℕ) (rs : List Record)
     (p : PassKnown) : Type 0 where
   pub done : List Record
   pub next : Record
@@ -73,18 +73,18 @@ pub record HasStopped (s : BoardParts) (ds : List (Option Delivery)) (n : ℕ) (
 
 -- the pass n has answered all its records, or it has stopped
 abbrev pub HasWorked :
-    BoardParts → List (Option Delivery) → List Record → ℕ → PassKnown → List ℕ → Type 0
+    BoardParts → Deliveries → List Record → ℕ → PassKnown → List ℕ → Type 0
 HasWorked s ds rs n p out =
     (p.number ≡ n)
     × ((AllMade s ds n (records_of n rs) out (mine p) × AllTried s.cpus (mine p) p.misses)
     ⊎ HasStopped s ds n (records_of n rs) p)
 
 -- the block of a record, by its place
-abbrev pub place_text : List (Option Delivery) → Record → Place → List ℕ
+abbrev pub place_text : Deliveries → Record → Place → List ℕ
 place_text ds r t = block_of ds r.line (answer_with t.told t.reply)
 
 -- the blocks of records, in order
-abbrev pub places_text : List (Option Delivery) → List Record → List Place → List ℕ
+abbrev pub places_text : Deliveries → List Record → List Place → List ℕ
 places_text ds [] ts = []
 places_text ds (r ∷ rs) [] = []
 places_text ds (r ∷ rs) (t ∷ ts) = place_text ds r t ++ places_text ds rs ts
@@ -94,13 +94,13 @@ pub record AllAnswered (s : BoardParts) (rs : List Record) (ts : List Place) (p 
     Type 0 where
   pub number : q.number ≡ p.number
   pub long : length ts ≡ length rs
-  pub made : (ds : List (Option Delivery)) (done : List Record) (out : List ℕ)
+  pub made : (ds : Deliveries) (done : List Record) (out : List ℕ)
       → AllMade s ds p.number done out (mine p)
       → AllMade s ds p.number (done ++ rs) (out ++ places_text ds rs ts) (mine q)
   pub tried : AllTried s.cpus (mine p) p.misses → AllTried s.cpus (mine q) q.misses
 
 -- a pass has answered these records, and their blocks were put behind a text
-abbrev pub HasPrinted : BoardParts → List (Option Delivery) → List Record → List ℕ → List ℕ
+abbrev pub HasPrinted : BoardParts → Deliveries → List Record → List ℕ → List ℕ
     → PassKnown → PassKnown → Type 0
 HasPrinted s ds rs old new p q =
     (ts : List Place) × (new ≡ old ++ places_text ds rs ts) × AllAnswered s rs ts p q
@@ -108,11 +108,11 @@ HasPrinted s ds rs old new p q =
 -- a pass has stopped at one of these records
 pub record HasHalted (s : BoardParts) (rs : List Record) (p q : PassKnown) : Type 0 where
   pub number : q.number ≡ p.number
-  pub met : (ds : List (Option Delivery)) (done : List Record) (out : List ℕ)
+  pub met : (ds : Deliveries) (done : List Record) (out : List ℕ)
       → AllMade s ds p.number done out (mine p) → HasStopped s ds p.number (done ++ rs) q
 
 -- of these records the pass has answered all but the last ones, which wait; the text is of the others
-pub record AllButLast (s : BoardParts) (ds : List (Option Delivery)) (n : ℕ) (rs : List Record)
+pub record AllButLast (s : BoardParts) (ds : Deliveries) (n : ℕ) (rs : List Record)
     (waiting : List Record) (text : List ℕ) (p : PassKnown) : Type 0 where
   pub done : List Record
   pub whole : rs ≡ done ++ waiting
@@ -121,13 +121,13 @@ pub record AllButLast (s : BoardParts) (ds : List (Option Delivery)) (n : ℕ) (
 
 -- each call that ended well has done the work of its place
 abbrev pub AllGiven : {A E : Type 0} → List (Result A E) → (A → PassKnown) → (A → List ℕ)
-    → BoardParts → List (Option Delivery) → List Record → Type 0
+    → BoardParts → Deliveries → List Record → Type 0
 AllGiven {A} {E} xs pass text s ds rs =
     (i : ℕ) (d : Result A E) → i < length xs
     → IfOk (slice_index_or xs i d) (λ w. HasWorked s ds rs i (pass w) (text w))
 
 -- the passes from n on, and what they answered, one behind another
-abbrev pub AllWorked : BoardParts → List (Option Delivery) → List Record → ℕ → List PassKnown
+abbrev pub AllWorked : BoardParts → Deliveries → List Record → ℕ → List PassKnown
     → List ℕ → Type 0
 AllWorked s ds rs n [] out = out ≡ []
 AllWorked s ds rs n (p ∷ ps) out =

@@ -2,7 +2,7 @@ use Rattle.std.proofs.Common.{sym, subst}
 use Rattle.race_phase.specs.declared.records.Call.{Call}
 use Rattle.race_phase.specs.private.Workers.{CallTrouble}
 use Rattle.race_phase.proofs.Unread.{unread}
-use Rattle.race_phase.proofs.Answered.{page_made, clock_made}
+use Rattle.race_phase.proofs.Answered.{page_made, clock_made, hv_made}
 use Rattle.race_phase.proofs.batch.answer.Goals as goal
 
 pub returns-in-Ok-clause-ok : goal.returns-in-Ok-clause-ok
@@ -29,3 +29,15 @@ returns-in-Err-read_clock-clause-err g c =
     let q = c.read_clock.new.pass in
     let t = unread s c.in-ReadClock.page r.h c.in-Err-read_clock._fault c.args.pass.now q c.requires.legal c.in-Err-read_clock.ensures.err in
     (t.0, subst (λ (call : Call). CallTrouble s r.cpu r.h call q.seen) (sym c.in-ReadClock.is) t.1)
+
+pub returns-in-Ok-read_hv-clause-ok : goal.returns-in-Ok-read_hv-clause-ok
+returns-in-Ok-read_hv-clause-ok g c =
+    hv_made g.N.Name.state c.args.given.now c.args.pass.now c.read_hv.new.pass c.in-Ok-read_hv.reply c.in-ReadHv.is c.in-Ok-read_hv.ensures.ok
+
+pub returns-in-Err-read_hv-clause-err : goal.returns-in-Err-read_hv-clause-err
+returns-in-Err-read_hv-clause-err g c =
+    let r = c.args.given.now in
+    let s = g.N.Name.state in
+    let q = c.read_hv.new.pass in
+    let t = unread s s.cpus r.h c.in-Err-read_hv._fault c.args.pass.now q c.requires.legal c.in-Err-read_hv.ensures.err in
+    (t.0, subst (λ (call : Call). CallTrouble s r.cpu r.h call q.seen) (sym c.in-ReadHv.is) t.1)

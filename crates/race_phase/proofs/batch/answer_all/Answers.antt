@@ -1,4 +1,4 @@
-use Rattle.std.proofs.Common.{inl, inr, ◌≤◌, length, arith}
+use Rattle.std.proofs.Common.{inl, inr, arith}
 use Rattle.race_phase.proofs.batch.answer_all.Goals as goal
 
 pub returns-in-Err-clause-err : goal.returns-in-Err-clause-err

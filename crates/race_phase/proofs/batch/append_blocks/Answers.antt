@@ -1,5 +1,5 @@
-use Rattle.std.proofs.Common.{◌≡◌, ℕ, ◌<◌, ◌++◌, ◌∙◌, List, Option, ap, get_or, length, arith}
-use Rattle.edge_hooks.specs.declared.deliveries.Delivery.{Delivery}
+use Rattle.std.proofs.Common.{◌≡◌, ℕ, ◌<◌, ◌++◌, ◌∙◌, List, ap, get_or, length, arith}
+use Rattle.race_phase.specs.declared.deliveries.Deliveries.{Deliveries}
 use Rattle.race_phase.specs.declared.batch.Place.{Place}
 use Rattle.race_phase.specs.declared.records.Record.{Record}
 use Rattle.race_phase.specs.private.Workers.{place_text}
@@ -7,7 +7,7 @@ use Rattle.race_phase.proofs.Workers.{blocks_more}
 use Rattle.race_phase.proofs.batch.append_blocks.Goals as goal
 
 -- the block of a record that was read at its place
-at_place : (ds : List (Option Delivery)) (rs : List Record) (k : ℕ) (d : Record) (xs ys : List ℕ) (t u : Place) → t ≡ u
+at_place : (ds : Deliveries) (rs : List Record) (k : ℕ) (d : Record) (xs ys : List ℕ) (t u : Place) → t ≡ u
     → ys ≡ xs ++ place_text ds (get_or rs k d) t
     → ys ≡ xs ++ place_text ds (get_or rs k d) u
 at_place ds rs k d xs ys t u e is = is ∙ ap (λ (z : Place). xs ++ place_text ds (get_or rs k d) z) e
