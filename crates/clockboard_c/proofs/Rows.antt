@@ -1,11 +1,18 @@
 -- Small rows of what the definitions give.
-use Rattle.std.proofs.Common.{◌≡◌, true, false, refl, ◌∷◌, []}
+use Rattle.std.proofs.Common.{◌≡◌, ℕ, true, false, refl, ◌∷◌, []}
+use Rattle.irq_edges.specs.declared.bursts.Burst.{Burst}
+use Rattle.irq_edges.specs.Lines.{line_numbers}
+use Rattle.rtc_calendar.specs.Bytes.{spelt, is_spelt, has_digits}
+use Rattle.rtc_calendar.specs.Calendar.{month_length}
 use Rattle.host_counter.specs.declared.Anchor.{Anchor}
-use Rattle.board_types.specs.declared.access.TickSource.TheVariants.{Pit, Rtc, Hpet}
+use Rattle.board_types.specs.declared.access.TickSource.TheVariants.{Pit, Rtc, Hpet, Apic}
 use Rattle.board_types.specs.declared.reply.Value.TheVariants.{Byte, Wall}
+use Rattle.clockboard_c.specs.declared.code.TheConstants.{OK, OUT_OF_RANGE}
 use Rattle.clockboard_c.specs.declared.power_on.SetupWords.{SetupWords}
 use Rattle.clockboard_c.specs.Call.{source_of}
-use Rattle.clockboard_c.specs.Replies.{value_words}
+use Rattle.clockboard_c.specs.Calendar.{setup_at, setup_at_code}
+use Rattle.clockboard_c.specs.Look.{lines_word}
+use Rattle.clockboard_c.specs.Replies.{value_words, burst_at}
 use Rattle.clockboard_c.specs.Setup.{setup_valid}
 use Rattle.clockboard_c.specs.Timer.{count_of}
 
@@ -41,11 +48,59 @@ the_clock = refl
 the_last_timer : source_of 9 ≡ Hpet 7
 the_last_timer = refl
 
+the_first_local_apic : source_of 16 ≡ Apic 0
+the_first_local_apic = refl
+
+the_last_local_apic : source_of 79 ≡ Apic 63
+the_last_local_apic = refl
+
+lines_0_and_23 :
+    lines_word line_numbers (true ∷ false ∷ false ∷ false ∷ false ∷ true ∷ []) ≡ 0x800001
+lines_0_and_23 = refl
+
+line_8_alone :
+    lines_word line_numbers (false ∷ true ∷ false ∷ false ∷ false ∷ false ∷ []) ≡ 0x100
+line_8_alone = refl
+
 a_byte : value_words (Byte 0x34) ≡ 0x34 ∷ 0 ∷ 0 ∷ 0 ∷ []
 a_byte = refl
 
 the_wall_clock : value_words (Wall 2 1700000000 5) ≡ 2 ∷ 1700000000 ∷ 5 ∷ 0 ∷ []
 the_wall_clock = refl
+
+-- three messages of timer 2, a microsecond apart
+three : Burst
+three = record {
+  timer = 2;
+  first = 1000;
+  count = 3;
+  every = 1000;
+  address = 0xfee00000;
+  «data» = 0x31;
+}
+
+the_burst_in_its_place : burst_at (three ∷ []) 0 ≡ record {
+  first_ns = 1000;
+  count = 3;
+  every_ns = 1000;
+  address = 0xfee00000;
+  «data» = 0x31;
+  timer = 2;
+  reserved = 0;
+}
+unfolding three
+the_burst_in_its_place = refl
+
+zeros_after_it : burst_at (three ∷ []) 1 ≡ record {
+  first_ns = 0;
+  count = 0;
+  every_ns = 0;
+  address = 0;
+  «data» = 0;
+  timer = 0;
+  reserved = 0;
+}
+zeros_after_it = refl
 
 -- a setup in range
 plain : SetupWords
@@ -72,7 +127,7 @@ plain = record {
 }
 
 sixteen_processors : setup_valid plain ≡ true
-unfolding plain
+unfolding plain spelt is_spelt has_digits month_length
 sixteen_processors = refl
 
 seventeen_in_format_1 : setup_valid (record plain { cpus = 17 }) ≡ false
@@ -80,9 +135,49 @@ unfolding plain
 seventeen_in_format_1 = refl
 
 seventeen_in_format_2 : setup_valid (record plain { cpus = 17; format = 2 }) ≡ true
-unfolding plain
+unfolding plain spelt is_spelt has_digits month_length
 seventeen_in_format_2 = refl
 
 a_fourth_policy : setup_valid (record plain { hpet_policy = 3 }) ≡ false
 unfolding plain
 a_fourth_policy = refl
+
+-- with this hour, date, month and year
+at : ℕ → ℕ → ℕ → ℕ → SetupWords
+at hour date month year =
+    record plain { hour = hour; date = date; month = month; year = year }
+
+a_leap_day : setup_valid (at 0x23 0x29 0x02 0x04) ≡ true
+unfolding at plain spelt is_spelt has_digits month_length
+a_leap_day = refl
+
+no_leap_day : setup_valid (at 0x23 0x29 0x02 0x01) ≡ false
+unfolding at plain spelt is_spelt has_digits month_length
+no_leap_day = refl
+
+the_last_of_april : setup_valid (at 0 0x31 0x04 0) ≡ false
+unfolding at plain spelt is_spelt has_digits month_length
+the_last_of_april = refl
+
+hour_24 : setup_valid (at 0x24 0x01 0x01 0) ≡ false
+unfolding at plain spelt is_spelt has_digits month_length
+hour_24 = refl
+
+no_decimal_digit : setup_valid (at 0x0a 0x01 0x01 0) ≡ false
+unfolding at plain spelt is_spelt has_digits month_length
+no_decimal_digit = refl
+
+month_0 : setup_valid (at 0 0x01 0 0) ≡ false
+unfolding at plain spelt is_spelt has_digits month_length
+month_0 = refl
+
+-- 1970 began on a Thursday
+the_epoch : setup_at 0 plain ≡ record plain { wday = 5; year = 0x70 }
+unfolding plain
+the_epoch = refl
+
+february_2100 : setup_at_code 4107542399 ≡ OK
+february_2100 = refl
+
+march_2100 : setup_at_code 4107542400 ≡ OUT_OF_RANGE
+march_2100 = refl

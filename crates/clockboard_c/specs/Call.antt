@@ -11,7 +11,7 @@ use Rattle.std.specs.Prelude.{
 }
 use Rattle.board_types.specs.declared.access.Access.{Access}
 use Rattle.board_types.specs.declared.access.TickSource.{TickSource}
-use Rattle.board_types.specs.declared.access.TickSource.TheVariants.{Pit, Rtc, Hpet}
+use Rattle.board_types.specs.declared.access.TickSource.TheVariants.{Pit, Rtc, Hpet, Apic}
 use Rattle.board_types.specs.declared.parts.BoardParts.{BoardParts}
 use Rattle.board_types.specs.declared.reply.Refusal.{Refusal}
 use Rattle.board_types.specs.Legal.{is_legal}
@@ -22,11 +22,11 @@ use Rattle.clockboard_c.specs.declared.board.Board.{Board}
 use Rattle.clockboard_c.specs.declared.board.TheConstants.{SEAL}
 use Rattle.clockboard_c.specs.declared.code.TheConstants.{NO_BOARD, NO_PROCESSOR, NOT_OURS}
 use Rattle.clockboard_c.specs.Codes.{code_of}
-use Rattle.clockboard_c.specs.Replies.{Told, refused, taken, value_words}
+use Rattle.clockboard_c.specs.Replies.{Told, refused, told_of}
 
 -- a board that a call has made
 abbrev pub sealed : BoardParts → Board
-sealed state = record { seal = SEAL; state = state; scratch = tt }
+sealed state = record { seal = SEAL; state = state }
 
 -- why an access isn't handed to the board, the causes in this order: the memory isn't sealed; the
 -- board has no such processor; it takes no such access
@@ -41,9 +41,7 @@ early_code b cpu a =
 -- what the board tells of an access that it is handed, where that is why it refuses it
 abbrev pub told_unless : Option Refusal → BoardParts → ℕ → ℕ → Access → Told
 told_unless (Some refusal) s cpu h a = refused (code_of refusal)
-told_unless None s cpu h a =
-    taken (reply_of s cpu h a).number (now_of (after_access s cpu h a))
-    (value_words (reply_of s cpu h a).value) (reply_of s cpu h a).edges
+told_unless None s cpu h a = told_of (reply_of s cpu h a) (now_of (after_access s cpu h a))
 
 abbrev pub told_by : BoardParts → ℕ → ℕ → Access → Told
 told_by s cpu h a = told_unless (refusal_of s cpu h a) s cpu h a
@@ -75,6 +73,10 @@ behind_or None b cpu h a = answered b cpu h a
 abbrev pub behind : Board → ℕ → ℕ → Access → Board
 behind b cpu h a = behind_or (early_code b cpu a) b cpu h a
 
--- the source of ticks of a number: the 8254, the MC146818, and then the timers of the HPET
+-- the source of ticks of a number: the 8254, the MC146818, from 2 on the timers of the HPET, and from
+-- 16 on those of the processors' local APICs
 abbrev pub source_of : ℕ → TickSource
-source_of n = if n == 0 then Pit else (if n == 1 then Rtc else Hpet (n - 2))
+source_of n =
+    if n == 0 then Pit
+    else (if n == 1 then Rtc
+    else (if nat_lt n 16 then Hpet (n - 2) else Apic (n - 16)))

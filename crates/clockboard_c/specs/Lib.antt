@@ -1,8 +1,11 @@
 pub mod Codes
 pub mod Replies
 pub mod Call
+pub mod Calendar
 pub mod Setup
 pub mod Timer
+pub mod Look
+pub mod Hv
 pub mod Pages
 pub mod States
 pub mod private

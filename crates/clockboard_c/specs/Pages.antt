@@ -11,16 +11,14 @@ use Rattle.board_core.specs.Time.{now_of}
 use Rattle.board_core.specs.Tsc.{processor_at}
 use Rattle.board_core.specs.Pages.{page_in, clock_reply, after_clock}
 use Rattle.clockboard_c.specs.declared.board.Board.{Board}
-use Rattle.clockboard_c.specs.declared.board.TheConstants.{SEAL}
 use Rattle.clockboard_c.specs.declared.code.TheConstants.{
   OK,
-  NO_BOARD,
-  NO_PROCESSOR,
   BEFORE_START,
   OUT_OF_RANGE,
   PAGE_OFF,
 }
 use Rattle.clockboard_c.specs.declared.pages.PageWords.{PageWords}
+use Rattle.clockboard_c.specs.Look.{processor_code}
 use Rattle.clockboard_c.specs.Replies.{Told, refused, taken}
 
 -- a page: the guest's address is the number in MSR_KVM_SYSTEM_TIME_NEW without its bit 0, which
@@ -33,19 +31,14 @@ page_words s cpu = record {
   bytes = guest_bytes (page_in (processor_at s cpu));
 }
 
--- the code of a question about a processor
-abbrev pub page_code : Board → ℕ → ℕ
-page_code b cpu =
-    if b.seal == SEAL then (if nat_lt cpu b.state.cpus then OK else NO_PROCESSOR) else NO_BOARD
-
 -- the page, or what the memory held before
 abbrev pub page_behind : Board → ℕ → PageWords → PageWords
-page_behind b cpu before = if page_code b cpu == OK then page_words b.state cpu else before
+page_behind b cpu before = if processor_code b cpu == OK then page_words b.state cpu else before
 
 -- what a clock tells: its reading, clamped, and that of the page
 abbrev pub clock_in : ClockReply → ℕ → Told
 clock_in Off now = refused PAGE_OFF
-clock_in (On reading clock) now = taken 0 now (clock ∷ reading ∷ 0 ∷ 0 ∷ []) []
+clock_in (On reading clock) now = taken 0 now (clock ∷ reading ∷ 0 ∷ 0 ∷ []) [] []
 
 -- the same at count h, which must have a time
 abbrev pub clock_by : BoardParts → ℕ → ℕ → Told
@@ -62,8 +55,8 @@ state_behind_clock s cpu h =
 -- what the call tells, and the board behind it
 abbrev pub clock_told : Board → ℕ → ℕ → Told
 clock_told b cpu h =
-    if page_code b cpu == OK then clock_by b.state cpu h else refused (page_code b cpu)
+    if processor_code b cpu == OK then clock_by b.state cpu h else refused (processor_code b cpu)
 
 abbrev pub behind_clock : Board → ℕ → ℕ → Board
 behind_clock b cpu h =
-    if page_code b cpu == OK then record b { state = state_behind_clock b.state cpu h } else b
+    if processor_code b cpu == OK then record b { state = state_behind_clock b.state cpu h } else b

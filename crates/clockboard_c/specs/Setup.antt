@@ -9,6 +9,7 @@ use Rattle.std.specs.Prelude.{
   [],
 }
 use Rattle.clk_units.specs.declared.ranges.TheConstants.{RANGE_NS, KHZ_MIN, KHZ_MAX}
+use Rattle.rtc_calendar.specs.declared.TimeBytes.{TimeBytes}
 use Rattle.tick_policy.specs.Parts.{policy_of}
 use Rattle.board_types.specs.declared.setup.Setup.{Setup}
 use Rattle.board_types.specs.declared.setup.TheConstants.{SLEW_MAX_NS, SECOND_NS, LAST_FORMAT}
@@ -18,6 +19,7 @@ use Rattle.board_core.specs.PowerOn.{board_at_power_on}
 use Rattle.clockboard_c.specs.declared.board.Board.{Board}
 use Rattle.clockboard_c.specs.declared.code.TheConstants.{BAD_SETUP}
 use Rattle.clockboard_c.specs.declared.power_on.SetupWords.{SetupWords}
+use Rattle.clockboard_c.specs.Calendar.{time_valid}
 use Rattle.clockboard_c.specs.Call.{sealed}
 use Rattle.clockboard_c.specs.Replies.{Told, refused, taken, no_value}
 
@@ -25,13 +27,29 @@ use Rattle.clockboard_c.specs.Replies.{Told, refused, taken, no_value}
 abbrev pub is_rate : ℕ → Bool
 is_rate khz = nat_le KHZ_MIN khz && nat_le khz KHZ_MAX
 
+-- the time bytes of a setup
+abbrev pub time_of : SetupWords → TimeBytes
+time_of s = record {
+  sec = s.sec;
+  min = s.min;
+  hour = s.hour;
+  wday = s.wday;
+  date = s.date;
+  month = s.month;
+  year = s.year;
+}
+
 -- whether each number is in its range
-abbrev pub setup_valid : SetupWords → Bool
-setup_valid s =
+abbrev pub in_range : SetupWords → Bool
+in_range s =
     nat_le 1 s.format && nat_le s.format LAST_FORMAT && is_rate s.host_khz && nat_lt s.base_ns RANGE_NS
     && is_rate s.guest_khz && nat_le 1 s.cpus && nat_le s.cpus (processors_of s.format)
     && nat_le 1 s.slew_ns && nat_le s.slew_ns SLEW_MAX_NS && nat_lt s.wall_nsec SECOND_NS
     && nat_le s.pit_policy 2 && nat_le s.rtc_policy 2 && nat_le s.hpet_policy 2
+
+-- .. and the time bytes valid
+abbrev pub setup_valid : SetupWords → Bool
+setup_valid s = in_range s && time_valid (time_of s)
 
 -- the setup of these numbers
 abbrev pub setup_of : SetupWords → Setup
@@ -46,21 +64,13 @@ setup_of s = record {
   slew_ns = s.slew_ns;
   wall_sec = s.wall_sec;
   wall_nsec = s.wall_nsec;
-  time = record {
-    sec = s.sec;
-    min = s.min;
-    hour = s.hour;
-    wday = s.wday;
-    date = s.date;
-    month = s.month;
-    year = s.year;
-  };
+  time = time_of s;
 }
 
 -- what power on tells, and the board that it makes in some memory
 abbrev pub power_on_told : SetupWords → Told
 power_on_told s =
-    if setup_valid s then taken 0 (now_of (board_at_power_on (setup_of s))) no_value []
+    if setup_valid s then taken 0 (now_of (board_at_power_on (setup_of s))) no_value [] []
     else refused BAD_SETUP
 
 abbrev pub powered_on : SetupWords → Board → Board

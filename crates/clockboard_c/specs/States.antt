@@ -32,7 +32,7 @@ use Rattle.save_state.specs.Table.{fault_of}
 use Rattle.save_state.specs.Writing.{bytes_of}
 use Rattle.transfer.specs.declared.outcome.MoveFault.{MoveFault}
 use Rattle.transfer.specs.declared.outcome.MoveFault.TheVariants.{OutOfRange, VersionsSpent}
-use Rattle.transfer.specs.Move.{move_fault, moved_to}
+use Rattle.transfer.specs.Move.{move_fault, moved_to, gap_bursts}
 use Rattle.clockboard_c.specs.declared.board.Board.{Board}
 use Rattle.clockboard_c.specs.declared.board.TheConstants.{SEAL}
 use Rattle.clockboard_c.specs.declared.code.TheConstants.{
@@ -67,7 +67,7 @@ kind_number Trailing = 4
 abbrev pub load_told_unless : Option StateFault → List ℕ → Told
 load_told_unless (Some f) bytes = refused_at BAD_STATE (f.place ∷ kind_number f.kind ∷ 0 ∷ 0 ∷ [])
 load_told_unless None bytes =
-    taken (board_in bytes).accesses (now_of (board_in bytes)) no_value []
+    taken (board_in bytes).accesses (now_of (board_in bytes)) no_value [] []
 
 abbrev pub load_told : List ℕ → Told
 load_told bytes = load_told_unless (fault_of bytes) bytes
@@ -89,7 +89,7 @@ abbrev pub moved_told_unless : Option MoveFault → BoardParts → ℕ → ℕ �
 moved_told_unless (Some f) s khz start gap = refused (fault_code f)
 moved_told_unless None s khz start gap =
     taken (moved_to khz start gap s).accesses (now_of (moved_to khz start gap s)) no_value
-    (run (now_of s) gap (devices_in s)).edges
+    (run (now_of s) gap (devices_in s)).edges (gap_bursts gap s)
 
 abbrev pub moved_told : BoardParts → ℕ → ℕ → ℕ → Told
 moved_told s khz start gap = moved_told_unless (move_fault gap s) s khz start gap

@@ -23,7 +23,7 @@ use Rattle.clockboard_c.specs.declared.board.Board.{Board}
 use Rattle.clockboard_c.specs.declared.board.TheConstants.{SEAL}
 use Rattle.clockboard_c.specs.declared.code.TheConstants.{OK, NO_BOARD, NO_EDGE}
 
--- the number in some memory behind a call that has one to tell or not
+-- the number in some memory after a call that has one to tell or not
 abbrev pub number_or_0 : Option ℕ → ℕ
 number_or_0 (Some n) = n
 number_or_0 None = 0
@@ -31,6 +31,10 @@ number_or_0 None = 0
 abbrev pub code_or_none : Option ℕ → ℕ
 code_or_none (Some n) = OK
 code_or_none None = NO_EDGE
+
+-- the number that a code and some memory tell
+abbrev pub told_number : ℕ → ℕ → Option ℕ
+told_number code n = if code == OK then Some n else None
 
 -- a question to a board that is answered by a number, or by none
 abbrev pub answer_code : Board → Option ℕ → ℕ

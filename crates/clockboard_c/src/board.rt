@@ -5,7 +5,6 @@ ghost use Rattle.board_core.specs.PowerOn.{board_at_power_on};
 ghost use Rattle.clockboard_c.specs.Call.{sealed};
 
 use crate::reply::ReplyWords;
-use crate::scratch::Scratch;
 use board_core::BoardState;
 use board_types::Setup;
 use std::mem::size_of;
@@ -13,8 +12,9 @@ use std::mem::size_of;
 /// The number of this binary interface: it goes up where a struct or a call changes.
 pub const ABI: u32 = 3;
 
-/// What the first word of each board holds: 'CLKBRDC1', the lowest byte first.
-pub(crate) const SEAL: u64 = 0x3143_4452_424b_4c43;
+/// What the first word of each board holds: 'CLKBRDC' and the digit of `ABI`, the lowest byte first. So memory that holds
+/// a board of another interface holds none of this.
+pub(crate) const SEAL: u64 = 0x3343_4452_424b_4c43;
 
 /// A board in the caller's memory, `struct clockboard` of the header. It holds no pointer, so it may be moved and
 /// copied whole.
@@ -25,19 +25,13 @@ pub struct Board {
     pub(crate) seal: u64,
     /// The board.
     pub(crate) state: BoardState,
-    /// Places for the edges of a call.
-    pub(crate) scratch: Scratch,
 }
 
 /// A board of this state.
 pub(crate) fn sealed(state: BoardState) -> Board
     ensures { result ≡ sealed state }
 {
-    Board {
-        seal: SEAL,
-        state,
-        scratch: Scratch::new(),
-    }
+    Board { seal: SEAL, state }
 }
 
 /// The number of the binary interface, which a program compares with its header's.

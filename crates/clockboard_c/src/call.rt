@@ -6,8 +6,8 @@ ghost use Rattle.clockboard_c.specs.Call.{early_code, told, behind, told_by, ans
 
 use crate::board::{Board, SEAL};
 use crate::code::{NO_BOARD, NO_PROCESSOR, NOT_OURS, code_of};
-use crate::reply::{ReplyWords, value_words};
-use board_types::{Access, Value};
+use crate::reply::ReplyWords;
+use board_types::{Access, Reply};
 
 /// One access by processor `cpu` at count `host`: what of it C could have given that no board takes is answered by
 /// a code; else the board answers. Each call of C's has its own copy of these tests, in which its kind of access is known.
@@ -47,21 +47,9 @@ fn answer(board: &mut Board, cpu: u8, host: u64, access: Access, reply: &mut Rep
     ensures reply { IsReply reply.old reply.new (told_by board.old.state cpu host access) }
     ensures board { board.new ≡ answered board.old cpu host access }
 {
-    let scratch = &mut board.scratch;
-    let mut value = Value::Nothing;
-    match board
-        .state
-        .answer(cpu, host, access, &mut value, &mut scratch.edges)
-    {
-        Ok(()) => {
-            reply.take(
-                board.state.accesses(),
-                board.state.now(),
-                value_words(value),
-                scratch.edges.as_slice(),
-            );
-            scratch.edges.clear();
-        }
+    let mut answered = Reply::empty();
+    match board.state.answer(cpu, host, access, &mut answered) {
+        Ok(()) => reply.take_answer(&answered, board.state.now()),
         Err(refusal) => reply.refuse(code_of(refusal)),
     }
 }

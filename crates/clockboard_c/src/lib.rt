@@ -15,35 +15,42 @@
 #![tactic(auto)]
 
 mod board;
+mod calendar;
 mod call;
 mod code;
+mod hv;
+mod look;
 mod pages;
 mod ports;
 mod power_on;
 mod registers;
 mod reply;
-mod scratch;
 mod states;
 mod timer;
 
 pub use board::{
     ABI, Board, clockboard_abi, clockboard_blank, clockboard_reply_size, clockboard_size,
 };
+pub use calendar::{MARCH_2100, clockboard_setup_at};
 pub use code::{
     ACCESSES_SPENT, BAD_FORMAT, BAD_RATE, BAD_SETUP, BAD_STATE, BEFORE_START, NO_BOARD, NO_EDGE,
     NO_MEMORY, NO_PROCESSOR, NO_ROOM, NOT_OURS, OK, OUT_OF_RANGE, PAGE_OFF, VERSIONS_SPENT,
 };
+pub use hv::{HvWords, clockboard_hv_page, clockboard_hv_time};
+pub use look::{TscWords, ViewWords, clockboard_look, clockboard_tsc};
 pub use pages::{PageWords, clockboard_clock, clockboard_page};
 pub use ports::{clockboard_port_read, clockboard_port_write, clockboard_step};
 pub use power_on::{SetupWords, clockboard_power_on};
 pub use registers::{
-    clockboard_acknowledge, clockboard_counts, clockboard_hpet_read, clockboard_hpet_write,
-    clockboard_msr_read, clockboard_msr_write, clockboard_refresh, clockboard_rises,
-    clockboard_wall,
+    clockboard_acknowledge, clockboard_counts, clockboard_eoi, clockboard_hpet_read,
+    clockboard_hpet_write, clockboard_msr_read, clockboard_msr_write, clockboard_refresh,
+    clockboard_rises, clockboard_wall,
 };
-pub use reply::{EdgeWords, ReplyWords};
+pub use reply::{BurstWords, EdgeWords, ReplyWords};
 pub use states::{clockboard_load, clockboard_move, clockboard_save, clockboard_upgrade};
-pub use timer::{clockboard_counter_of, clockboard_next_edge};
+pub use timer::{
+    clockboard_counter_of, clockboard_next_edge, clockboard_next_message, clockboard_next_tick,
+};
 
 #[cfg(test)]
 mod tests;

@@ -1,8 +1,8 @@
 //! The pages of the paravirtual clock, and the clock that they tell.
 ghost use Rattle.std.specs.Prelude.{◌≡◌, ◌<◌};
 ghost use Rattle.clockboard_c.specs.Replies.{IsReply};
+ghost use Rattle.clockboard_c.specs.Look.{processor_code};
 ghost use Rattle.clockboard_c.specs.Pages.{
-  page_code,
   page_words,
   page_behind,
   clock_told,
@@ -35,7 +35,7 @@ pub struct PageWords {
 /// The page of a processor. Behind a code other than `OK` the memory stays as it is.
 #[unsafe(no_mangle)]
 pub extern "C" fn clockboard_page(board: &Board, cpu: u8, page: &mut PageWords) -> u32
-    ensures code { result ≡ page_code board.now cpu }
+    ensures code { result ≡ processor_code board.now cpu }
     ensures page { page.new ≡ page_behind board.now cpu page.old }
 {
     if board.seal != SEAL {
@@ -91,7 +91,7 @@ fn tell_clock(state: &mut BoardState, cpu: u8, host: u64, reply: &mut ReplyWords
 {
     match state.clock_of(cpu, host) {
         Ok(ClockReply::On { reading, clock }) => {
-            reply.take(0, state.now(), [clock, reading, 0, 0], &[]);
+            reply.take(0, state.now(), [clock, reading, 0, 0], &[], &[]);
         }
         Ok(ClockReply::Off) => reply.refuse(PAGE_OFF),
         Err(TimeFault::BeforeStart { .. }) => reply.refuse(BEFORE_START),

@@ -3,9 +3,17 @@ ghost use Rattle.std.specs.Prelude.{◌≡◌, IsTrue, if◌then◌else◌};
 ghost use Rattle.board_types.specs.Setup.{IsSetup};
 ghost use Rattle.tick_policy.specs.Parts.{policy_of};
 ghost use Rattle.clockboard_c.specs.Replies.{IsReply};
-ghost use Rattle.clockboard_c.specs.Setup.{setup_of, setup_valid, power_on_told, powered_on};
+ghost use Rattle.clockboard_c.specs.Setup.{
+  setup_of,
+  time_of,
+  in_range,
+  setup_valid,
+  power_on_told,
+  powered_on,
+};
 
 use crate::board::{Board, sealed};
+use crate::calendar::time_valid;
 use crate::code::BAD_SETUP;
 use crate::reply::{NO_VALUE, ReplyWords};
 use board_core::BoardState;
@@ -32,15 +40,16 @@ pub struct SetupWords {
     /// The wall clock at power on: seconds, and nanoseconds below 1,000,000,000.
     pub wall_sec: u32,
     pub wall_nsec: u32,
-    /// The format: 1 or 2.
+    /// The format, 1 to 5.
     pub format: u8,
-    /// How many processors there are: 1 to 16, in format 2 to 64.
+    /// How many processors there are: 1 to 16, from format 2 on to 64.
     pub cpus: u8,
     /// What becomes of a late tick of the 8254, the MC146818 and the HPET: 0 discard, 1 delay, 2 slew.
     pub pit_policy: u8,
     pub rtc_policy: u8,
     pub hpet_policy: u8,
-    /// The time of the MC146818, as it holds it: seconds, minutes, hours, day of the week, date, month, year.
+    /// The time of the MC146818 in BCD, as it holds it: seconds, minutes, hour of 24, day of the week (1 is Sunday), date,
+    /// month, year of the century.
     pub sec: u8,
     pub min: u8,
     pub hour: u8,
@@ -61,12 +70,20 @@ pub extern "C" fn clockboard_power_on(board: &mut Board, setup: &SetupWords, rep
         return;
     }
     *board = sealed(BoardState::power_on(&setup_of(setup)));
-    reply.take(0, board.state.now(), NO_VALUE, &[]);
+    reply.take(0, board.state.now(), NO_VALUE, &[], &[]);
+}
+
+/// Whether each number of a setup is in its range, and the time bytes valid.
+fn is_valid(s: &SetupWords) -> bool
+    ensures value { result ≡ setup_valid s.now }
+    ensures valid { IsTrue result → IsSetup (setup_of s.now) }
+{
+    in_range(s) && time_valid(time_of(s))
 }
 
 /// Whether each number of a setup is in its range.
-fn is_valid(s: &SetupWords) -> bool
-    ensures value { result ≡ setup_valid s.now }
+fn in_range(s: &SetupWords) -> bool
+    ensures value { result ≡ in_range s.now }
     ensures valid { IsTrue result → IsSetup (setup_of s.now) }
 {
     1 <= s.format
@@ -103,15 +120,22 @@ fn setup_of(s: &SetupWords) -> Setup
         slew_ns: s.slew_ns,
         wall_sec: s.wall_sec,
         wall_nsec: s.wall_nsec,
-        time: TimeBytes {
-            sec: s.sec,
-            min: s.min,
-            hour: s.hour,
-            wday: s.wday,
-            date: s.date,
-            month: s.month,
-            year: s.year,
-        },
+        time: time_of(s),
+    }
+}
+
+/// The time bytes of a setup.
+fn time_of(s: &SetupWords) -> TimeBytes
+    ensures { result ≡ time_of s.now }
+{
+    TimeBytes {
+        sec: s.sec,
+        min: s.min,
+        hour: s.hour,
+        wday: s.wday,
+        date: s.date,
+        month: s.month,
+        year: s.year,
     }
 }
 

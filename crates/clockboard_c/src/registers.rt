@@ -10,6 +10,7 @@ ghost use Rattle.board_types.specs.declared.access.Access.TheVariants.{
   Wall,
   CountsOf,
   Rose,
+  Eoi,
 };
 ghost use Rattle.clockboard_c.specs.Replies.{IsReply};
 ghost use Rattle.clockboard_c.specs.Call.{told, behind, source_of};
@@ -57,7 +58,8 @@ pub extern "C" fn clockboard_hpet_write(
     call(board, cpu, host, access, reply);
 }
 
-/// A read of an MSR: 10h, 3Bh, 4B564D00h or 4B564D01h.
+/// A read of an MSR: 10h, 3Bh, 4B564D00h or 4B564D01h; from format 3 on 832h, 838h, 839h, 83Eh and 6E0h of the local
+/// APIC's timer, from format 4 on 40000020h and 40000021h of Hyper-V's reference time.
 #[unsafe(no_mangle)]
 pub extern "C" fn clockboard_msr_read(
     board: &mut Board,
@@ -103,6 +105,15 @@ pub extern "C" fn clockboard_acknowledge(
     call(board, cpu, host, Access::Ack { line }, reply);
 }
 
+/// The end of the interrupt of the local APIC's timer of processor `cpu`; from format 3 on.
+#[unsafe(no_mangle)]
+pub extern "C" fn clockboard_eoi(board: &mut Board, cpu: u8, host: u64, reply: &mut ReplyWords)
+    ensures reply { IsReply reply.old reply.new (told board.old cpu host Eoi) }
+    ensures board { board.new ≡ behind board.old cpu host Eoi }
+{
+    call(board, cpu, host, Access::Eoi, reply);
+}
+
 /// The page of a processor is published.
 #[unsafe(no_mangle)]
 pub extern "C" fn clockboard_refresh(
@@ -128,7 +139,7 @@ pub extern "C" fn clockboard_wall(board: &mut Board, cpu: u8, host: u64, reply: 
 }
 
 /// The ticks of a source: those that were due, that rose, that wait, and that are lost. Source 0 is the 8254, 1 the
-/// MC146818, and 2 + k timer k of the HPET.
+/// MC146818, 2 + k timer k of the HPET, and 16 + k the timer of processor k's local APIC.
 #[unsafe(no_mangle)]
 pub extern "C" fn clockboard_counts(
     board: &mut Board,
@@ -166,6 +177,7 @@ fn source_of(source: u8) -> TickSource
     match source {
         0 => TickSource::Pit,
         1 => TickSource::Rtc,
-        _ => TickSource::Hpet(source - 2),
+        2..16 => TickSource::Hpet(source - 2),
+        _ => TickSource::Apic(source - 16),
     }
 }

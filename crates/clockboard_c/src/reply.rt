@@ -10,8 +10,11 @@ ghost use Rattle.std.specs.Prelude.{
   slice_index_or,
   if◌then◌else◌,
 };
+ghost use Rattle.irq_edges.specs.declared.bursts.TheConstants.{BURST_PLACES};
 ghost use Rattle.irq_edges.specs.declared.edges.TheConstants.{EDGE_PLACES};
 ghost use Rattle.clockboard_c.specs.Replies.{
+  burst_at,
+  burst_places,
   edge_words,
   value_words,
   AreKept,
@@ -19,11 +22,12 @@ ghost use Rattle.clockboard_c.specs.Replies.{
   refused,
   refused_at,
   taken,
+  told_of,
   EdgesAre,
 };
 
-use board_types::Value;
-use irq_edges::{EDGE_PLACES, Edge, EdgeList};
+use board_types::{Reply, Value};
+use irq_edges::{BURST_PLACES, Burst, EDGE_PLACES, Edge};
 
 /// A change of the level of a line.
 #[derive(Clone, Copy)]
@@ -37,7 +41,27 @@ pub struct EdgeWords {
     pub up: u32,
 }
 
-/// What a call gave. Behind a code other than `OK` all but the code is 0, and behind `BAD_STATE` the value.
+/// The messages that a timer of the HPET sent, all to one address, at even distances.
+#[derive(Clone, Copy)]
+#[repr(C)]
+pub struct BurstWords {
+    /// The nanosecond of the first message.
+    pub first_ns: u64,
+    /// How many messages there are.
+    pub count: u64,
+    /// The nanoseconds from one message to the next; 0 where there is one alone.
+    pub every_ns: u64,
+    /// The address to which each is written.
+    pub address: u32,
+    /// What is written there.
+    pub data: u32,
+    /// The number of the timer.
+    pub timer: u32,
+    /// 0.
+    pub reserved: u32,
+}
+
+/// What a call gave. After a code other than `OK` all but the code is 0, and after `BAD_STATE` the value.
 #[derive(Clone, Copy)]
 #[repr(C)]
 pub struct ReplyWords {
@@ -45,19 +69,36 @@ pub struct ReplyWords {
     pub answer: u32,
     /// How many edges there are.
     pub edge_count: u32,
+    /// How many bursts of messages there are; from format 5 on.
+    pub burst_count: u32,
+    /// 0.
+    pub reserved: u32,
     /// The number of the access, from 1 on; of a load or a move that of the last one, of power on and clock 0.
     pub number: u64,
-    /// The board's time behind the call, in nanoseconds.
+    /// The board's time after the call, in nanoseconds.
     pub now_ns: u64,
     /// What was read: one number, or more where the call says so; else 0.
     pub value: [u64; 4],
-    /// The edges in the order of time, those of the way before those of the access; places behind them are as
+    /// The edges in the order of time, those of the way before those of the access; the places after them are as
     /// they were.
     pub edges: [EdgeWords; EDGE_PLACES],
+    /// The messages of the HPET's timers, in the order of timers; the places after them hold 0.
+    pub bursts: [BurstWords; BURST_PLACES],
 }
 
 /// No value.
 pub(crate) const NO_VALUE: [u64; 4] = [0; 4];
+
+/// What a place without a burst holds.
+const NO_BURST: BurstWords = BurstWords {
+    first_ns: 0,
+    count: 0,
+    every_ns: 0,
+    address: 0,
+    data: 0,
+    timer: 0,
+    reserved: 0,
+};
 
 impl ReplyWords {
     /// A refusal with this code.
@@ -73,22 +114,49 @@ impl ReplyWords {
     {
         self.answer = code;
         self.edge_count = 0;
+        self.burst_count = 0;
+        self.reserved = 0;
         self.number = 0;
         self.now_ns = 0;
         self.value = value;
+        self.bursts = [NO_BURST; BURST_PLACES];
+    }
+
+    /// What the board answered an access that left it at this time.
+    pub(crate) fn take_answer(&mut self, answered: &Reply, now_ns: u64)
+        ensures { IsReply self.old self.new (told_of answered.now now_ns) }
+    {
+        self.take(
+            answered.number,
+            now_ns,
+            value_words(answered.value),
+            answered.edges.as_slice(),
+            answered.bursts.as_slice(),
+        );
     }
 
     /// The reply to a call that was taken.
-    pub(crate) fn take(&mut self, number: u64, now_ns: u64, value: [u64; 4], edges: &[Edge])
-        requires { length edges.now ≤ EDGE_PLACES }
-        ensures { IsReply self.old self.new (taken number now_ns value edges.now) }
+    pub(crate) fn take(
+        &mut self,
+        number: u64,
+        now_ns: u64,
+        value: [u64; 4],
+        edges: &[Edge],
+        bursts: &[Burst],
+    )
+        requires edges { length edges.now ≤ EDGE_PLACES }
+        requires bursts { length bursts.now ≤ BURST_PLACES }
+        ensures { IsReply self.old self.new (taken number now_ns value edges.now bursts.now) }
     {
         self.answer = crate::code::OK;
         self.edge_count = edges.len() as u32;
+        self.burst_count = bursts.len() as u32;
+        self.reserved = 0;
         self.number = number;
         self.now_ns = now_ns;
         self.value = value;
         put_edges(&mut self.edges, edges);
+        self.bursts = burst_places(bursts);
     }
 }
 
@@ -114,8 +182,43 @@ fn edge_words(edge: Edge) -> EdgeWords
     }
 }
 
+/// The places of the bursts.
+fn burst_places(bursts: &[Burst]) -> [BurstWords; BURST_PLACES]
+    ensures { result ≡ burst_places bursts.now }
+{
+    [
+        burst_at(bursts, 0),
+        burst_at(bursts, 1),
+        burst_at(bursts, 2),
+        burst_at(bursts, 3),
+        burst_at(bursts, 4),
+        burst_at(bursts, 5),
+        burst_at(bursts, 6),
+        burst_at(bursts, 7),
+    ]
+}
+
+/// The burst of a place as numbers; 0 where there is none.
+fn burst_at(bursts: &[Burst], place: usize) -> BurstWords
+    ensures { result ≡ burst_at bursts.now place }
+{
+    if place >= bursts.len() {
+        return NO_BURST;
+    }
+    let burst = bursts[place];
+    BurstWords {
+        first_ns: burst.first,
+        count: burst.count,
+        every_ns: burst.every,
+        address: burst.address,
+        data: burst.data,
+        timer: u32::from(burst.timer),
+        reserved: 0,
+    }
+}
+
 /// A value as four numbers.
-pub(crate) fn value_words(value: Value) -> [u64; 4]
+fn value_words(value: Value) -> [u64; 4]
     ensures { result ≡ value_words value }
 {
     match value {

@@ -74,7 +74,13 @@ pub extern "C" fn clockboard_load(board: &mut Board, bytes: &[u8], reply: &mut R
     match decode(bytes) {
         Ok(state) => {
             *board = sealed(state);
-            reply.take(board.state.accesses(), board.state.now(), NO_VALUE, &[]);
+            reply.take(
+                board.state.accesses(),
+                board.state.now(),
+                NO_VALUE,
+                &[],
+                &[],
+            );
         }
         Err(fault) => {
             reply.refuse_at(BAD_STATE, [fault.place, kind_number(fault.kind), 0, 0]);
@@ -95,7 +101,8 @@ fn kind_number(kind: StateKind) -> u64
     }
 }
 
-/// Moves a board to a host whose counter runs at `khz`, and counts `start` when the gap of `gap_ns` is over.
+/// Moves a board to a host whose counter runs at `khz`, and counts `start` when the gap of `gap_ns` is over. The reply has
+/// the edges and the messages of the gap.
 #[unsafe(no_mangle)]
 pub extern "C" fn clockboard_move(
     board: &mut Board,
@@ -133,6 +140,7 @@ fn move_on(state: &mut BoardState, khz: u64, start: u64, gap_ns: u64, reply: &mu
                 state.now(),
                 NO_VALUE,
                 moved.edges.as_slice(),
+                moved.bursts.as_slice(),
             );
         }
         Err(fault) => reply.refuse(fault_code(fault)),

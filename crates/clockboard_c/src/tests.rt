@@ -1,13 +1,13 @@
 //! What no clause says: the sizes that the header names, and a worked case through the calls as C makes them.
 use super::*;
-use irq_edges::EDGE_PLACES;
+use irq_edges::{BURST_PLACES, EDGE_PLACES};
 use std::test::Fail;
 
 /// `CLOCKBOARD_SIZE` and `CLOCKBOARD_REPLY_SIZE` of c/clockboard.h.
 #[test]
 fn sizes_of_the_header(rt: HostRuntime) -> Result<(), Fail> {
-    assert_eq!(rt; clockboard_size(), 5_072);
-    assert_eq!(rt; clockboard_reply_size(), 440);
+    assert_eq!(rt; clockboard_size(), 9_296);
+    assert_eq!(rt; clockboard_reply_size(), 768);
     Ok(())
 }
 
@@ -18,13 +18,25 @@ fn unfilled() -> ReplyWords {
         line: 0,
         up: 0,
     };
+    let burst = BurstWords {
+        first_ns: 0,
+        count: 0,
+        every_ns: 0,
+        address: 0,
+        data: 0,
+        timer: 0,
+        reserved: 0,
+    };
     ReplyWords {
         answer: NO_MEMORY,
         edge_count: 0,
+        burst_count: 0,
+        reserved: 0,
         number: 0,
         now_ns: 0,
         value: [0; 4],
         edges: [edge; EDGE_PLACES],
+        bursts: [burst; BURST_PLACES],
     }
 }
 

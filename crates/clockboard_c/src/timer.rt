@@ -1,9 +1,24 @@
-//! What a monitor's one timer needs: the next edge, and the host's count of a time.
-ghost use Rattle.std.specs.Prelude.{◌≡◌, ◌+◌, ◌-◌, ◌*◌, ◌/◌, ◌^◌, ◌<◌, ◌≤◌, Some, IfSome};
+//! What a monitor's one timer needs: the next edge, tick and message, and the host's count of a time.
+ghost use Rattle.std.specs.Prelude.{
+  ◌≡◌,
+  ◌≢◌,
+  ◌⊎◌,
+  ◌+◌,
+  ◌-◌,
+  ◌*◌,
+  ◌/◌,
+  ◌^◌,
+  ◌<◌,
+  ◌≤◌,
+  IfSome,
+};
 ghost use Rattle.clk_units.specs.Ranges.{IsKhz};
+ghost use Rattle.board_core.specs.Next.{IsNextTick, next_message_of};
+ghost use Rattle.clockboard_c.specs.Look.{processor_code};
 ghost use Rattle.clockboard_c.specs.Timer.{
   code_or_none,
   number_or_0,
+  told_number,
   answer_code,
   answer_number,
   next_in,
@@ -14,14 +29,14 @@ ghost use Rattle.clockboard_c.specs.Timer.{
 };
 
 use crate::board::{Board, SEAL};
-use crate::code::{NO_BOARD, NO_EDGE, OK};
+use crate::code::{NO_BOARD, NO_EDGE, NO_PROCESSOR, OK};
 use board_core::BoardState;
 use host_counter::Anchor;
 
 /// Nanoseconds in a millisecond, of which a counter of 1 kHz counts one.
 const MILLISECOND_NS: u128 = 1_000_000;
 
-/// The first nanosecond behind the board's time, and below 2^59, in which a line changes if no access comes; 0 behind a
+/// The first nanosecond after the board's time, and below 2^59, in which a line changes if no access comes; 0 after a
 /// code other than `OK`.
 #[unsafe(no_mangle)]
 pub extern "C" fn clockboard_next_edge(board: &Board, at_ns: &mut u64) -> u32
@@ -35,7 +50,39 @@ pub extern "C" fn clockboard_next_edge(board: &Board, at_ns: &mut u64) -> u32
     tell(board.state.next_edge(), at_ns)
 }
 
-/// The first count of the host's counter whose time is `at_ns` or later; 0 behind a code other than `OK`.
+/// The same for the local APIC's timer of processor `cpu`: the nanosecond in which it fires and isn't masked.
+#[unsafe(no_mangle)]
+pub extern "C" fn clockboard_next_tick(board: &Board, cpu: u8, at_ns: &mut u64) -> u32
+    ensures refused { processor_code board.now cpu ≢ OK → result ≡ processor_code board.now cpu }
+    ensures taken { processor_code board.now cpu ≡ OK → result ≡ OK ⊎ result ≡ NO_EDGE }
+    ensures next { processor_code board.now cpu ≡ OK
+        → IsNextTick board.now.state cpu (told_number result at_ns.new) }
+    ensures none { result ≢ OK → at_ns.new ≡ 0 }
+{
+    *at_ns = 0;
+    if board.seal != SEAL {
+        return NO_BOARD;
+    }
+    if cpu >= board.state.cpus() {
+        return NO_PROCESSOR;
+    }
+    tell(board.state.next_tick(cpu), at_ns)
+}
+
+/// The same for the messages of the HPET's timers.
+#[unsafe(no_mangle)]
+pub extern "C" fn clockboard_next_message(board: &Board, at_ns: &mut u64) -> u32
+    ensures code { result ≡ answer_code board.now (next_message_of board.now.state) }
+    ensures number { at_ns.new ≡ answer_number board.now (next_message_of board.now.state) }
+{
+    if board.seal != SEAL {
+        *at_ns = 0;
+        return NO_BOARD;
+    }
+    tell(board.state.next_message(), at_ns)
+}
+
+/// The first count of the host's counter whose time is `at_ns` or later; 0 after a code other than `OK`.
 #[unsafe(no_mangle)]
 pub extern "C" fn clockboard_counter_of(board: &Board, at_ns: u64, host: &mut u64) -> u32
     ensures code { result ≡ answer_code board.now (count_in board.now at_ns) }
@@ -54,7 +101,7 @@ fn anchor_of(state: &BoardState) -> Anchor
     ensures value { result ≡ state.now.anchor }
     ensures rate { IsKhz result.khz }
 {
-    // A board tells with its processors what joins its parts.
+    // The call gives with the processors what joins the parts of a board.
     let _ = state.cpus();
     state.anchor()
 }
@@ -63,7 +110,9 @@ fn anchor_of(state: &BoardState) -> Anchor
 fn tell(told: Option<u64>, number: &mut u64) -> u32
     ensures code { result ≡ code_or_none told }
     ensures number { number.new ≡ number_or_0 told }
-    ensures some { result ≡ OK → told ≡ Some number.new }
+    ensures told { told_number result number.new ≡ told }
+    ensures known { result ≡ OK ⊎ result ≡ NO_EDGE }
+    ensures none { result ≢ OK → number.new ≡ 0 }
 {
     match told {
         Some(told) => {
