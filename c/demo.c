@@ -26,9 +26,9 @@ static void print_edges(const struct clockboard_reply *reply) {
 
 /* The library and this header agree. */
 static void same_interface(void) {
-    expect(clockboard_abi() == CLOCKBOARD_ABI, "abi");
-    expect(clockboard_size() == sizeof(struct clockboard), "size of a board");
-    expect(clockboard_reply_size() == sizeof(struct clockboard_reply), "size of a reply");
+    expect(clockboard_fits() && sizeof(struct clockboard) == CLOCKBOARD_SIZE
+               && sizeof(struct clockboard_reply) == CLOCKBOARD_REPLY_SIZE,
+           "the interface");
 }
 
 /* The setup to begin with is that of a blank board; an answer has a text. */
@@ -42,13 +42,13 @@ static void names(const struct clockboard *blank) {
     expect(clockboard_save(blank, bytes, sizeof bytes, &length) == CLOCKBOARD_OK, "save of a blank board");
     expect(clockboard_save(&board, again, sizeof again, &length_again) == CLOCKBOARD_OK, "save of one by a setup");
     expect(length == length_again && memcmp(bytes, again, length) == 0, "CLOCKBOARD_SETUP_INIT");
-    setup.format = 2;
+    setup.format = CLOCKBOARD_FORMAT_MAX;
     setup.cpus = 64;
     clockboard_power_on(&board, &setup, &reply);
     expect(clockboard_save(&board, bytes, sizeof bytes, &length) == CLOCKBOARD_OK && length == CLOCKBOARD_STATE_MAX,
            "CLOCKBOARD_STATE_MAX");
     expect(strcmp(clockboard_answer_text(CLOCKBOARD_BAD_STATE), "no board has these bytes") == 0
-               && strcmp(clockboard_answer_text(CLOCKBOARD_NO_EDGE), "no line changes") == 0
+               && strcmp(clockboard_answer_text(CLOCKBOARD_NO_EDGE), "nothing comes below 2^59 ns") == 0
                && strcmp(clockboard_answer_text(16), "an unknown answer") == 0,
            "texts of answers");
 }

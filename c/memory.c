@@ -94,14 +94,14 @@ static void others(struct clockboard *board) {
 
 int main(void) {
     struct clockboard_setup setup = {
-        .host_khz = 1000000, .guest_khz = 1000000, .slew_ns = 1000000, .format = 2, .cpus = 64, .wday = 1, .date = 1, .month = 1};
+        .host_khz = 1000000, .guest_khz = 1000000, .slew_ns = 1000000, .format = 5, .cpus = 64, .wday = 1, .date = 1, .month = 1};
     struct clockboard board = clockboard_blank();
     struct clockboard_reply reply;
     saved(&board, 503 + 50);
     others(&board);
     clockboard_power_on(&board, &setup, &reply);
-    expect(reply.answer == CLOCKBOARD_OK, "a board of format 2");
-    saved(&board, 806 + 50 * 64);
+    expect(reply.answer == CLOCKBOARD_OK, "a board of format 5");
+    saved(&board, 915 + 105 * 64);
     others(&board);
     return wrong;
 }

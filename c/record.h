@@ -4,9 +4,9 @@
  * tools/compare and the pictures can take up a monitor's run. Header-only, C11 and C++17.
  *
  * clockboard_record_begin writes the board as it is into the trace's header; it may be called at any time of a run. From then
- * on each access, clock and move goes through a call of this header, and clockboard_record_end writes the last line. Calls
- * that change nothing (next edge, page, save) are made without it. After a load, an upgrade or a power on the trace is of
- * another board: end it, and begin one in another file.
+ * on each access, clock, reference time and move goes through a call of this header, and clockboard_record_end writes the last
+ * line. Calls that change nothing (next edge, page, save) are made without it. After a load, an upgrade or a power on the trace
+ * is of another board: end it, and begin one in another file.
  *
  * A call that the board refuses changes nothing; it is written as a comment, with its answer.
  *
@@ -139,6 +139,13 @@ static inline void clockboard_record_acknowledge(struct clockboard_record *recor
     fprintf(record->file, "ack %u\n", line);
 }
 
+static inline void clockboard_record_eoi(struct clockboard_record *record, struct clockboard *board, uint8_t cpu,
+                                         uint64_t host, struct clockboard_reply *reply) {
+    clockboard_eoi(board, cpu, host, reply);
+    clockboard_record_line(record, cpu, host, reply->answer, false, true);
+    fputs("eoi\n", record->file);
+}
+
 static inline void clockboard_record_refresh(struct clockboard_record *record, struct clockboard *board, uint8_t cpu,
                                              uint64_t host, uint8_t page, struct clockboard_reply *reply) {
     clockboard_refresh(board, cpu, host, page, reply);
@@ -159,8 +166,10 @@ static inline void clockboard_record_counts(struct clockboard_record *record, st
     clockboard_record_line(record, cpu, host, reply->answer, false, true);
     if (source < 2) {
         fprintf(record->file, "counts %s\n", source == 0 ? "pit" : "rtc");
-    } else {
+    } else if (source < 16) {
         fprintf(record->file, "counts hpet%u\n", source - 2u);
+    } else {
+        fprintf(record->file, "counts apic%u\n", source - 16u);
     }
 }
 
@@ -177,6 +186,14 @@ static inline void clockboard_record_clock(struct clockboard_record *record, str
     clockboard_clock(board, cpu, host, reply);
     clockboard_record_line(record, cpu, host, reply->answer, true, false);
     fprintf(record->file, "clock %u\n", cpu);
+}
+
+/* The time of Hyper-V's reference page, read by processor `cpu`. */
+static inline void clockboard_record_hv_time(struct clockboard_record *record, const struct clockboard *board, uint8_t cpu,
+                                             uint64_t host, struct clockboard_reply *reply) {
+    clockboard_hv_time(board, host, reply);
+    clockboard_record_line(record, cpu, host, reply->answer, true, false);
+    fputs("hv\n", record->file);
 }
 
 /* A step to count `host`, and then the move, as a trace's move has both. The step's reply, with its edges, is in `step`; where

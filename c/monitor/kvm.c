@@ -119,13 +119,13 @@ bool make_machine(struct machine *m, bool halts) {
 
 /* KVM's TSC of the processor becomes the board's: guest and host have one rate, so the offset says all. While it doesn't run. */
 bool set_tsc(struct processor *p) {
-    struct clockboard_reply reply;
-    uint64_t host = counter();
-    clockboard_msr_read(&p->machine->board, p->number, host, CLOCKBOARD_MSR_TSC, &reply);
-    settle(p->machine, &reply);
-    uint64_t offset = reply.value[0] - host, kept = ~offset;
-    struct kvm_device_attr set = {.group = KVM_VCPU_TSC_CTRL, .attr = KVM_VCPU_TSC_OFFSET, .addr = (uintptr_t)&offset};
+    struct clockboard_tsc tsc;
+    if (clockboard_tsc(&p->machine->board, p->number, &tsc) != CLOCKBOARD_OK) {
+        return false;
+    }
+    uint64_t kept = ~tsc.offset;
+    struct kvm_device_attr set = {.group = KVM_VCPU_TSC_CTRL, .attr = KVM_VCPU_TSC_OFFSET, .addr = (uintptr_t)&tsc.offset};
     struct kvm_device_attr get = {.group = KVM_VCPU_TSC_CTRL, .attr = KVM_VCPU_TSC_OFFSET, .addr = (uintptr_t)&kept};
-    return reply.answer == CLOCKBOARD_OK && ioctl(p->fd, KVM_SET_DEVICE_ATTR, &set) == 0
-        && ioctl(p->fd, KVM_GET_DEVICE_ATTR, &get) == 0 && kept == offset; /* not every KVM does what it answers */
+    return ioctl(p->fd, KVM_SET_DEVICE_ATTR, &set) == 0 && ioctl(p->fd, KVM_GET_DEVICE_ATTR, &get) == 0
+        && kept == tsc.offset; /* not every KVM does what it answers */
 }

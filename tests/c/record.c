@@ -8,6 +8,7 @@
  * Ends with 1 where a file can't be written, or where a line is inexact. */
 #include "record.h"
 #include <stdlib.h>
+#include <string.h>
 
 static uint64_t random_state;
 
@@ -35,7 +36,17 @@ static void print_edges(struct run *run, const struct clockboard_reply *reply) {
     }
 }
 
-/* Prints the edges of an access and begins its line; false where it was refused. */
+/* A message goes to the processor of bits 19 to 12 of its address, or to 0, with the vector of its data, at least 10h. */
+static void print_messages(struct run *run, const struct clockboard_reply *reply) {
+    for (uint32_t k = 0; k < reply->burst_count; k++) {
+        const struct clockboard_burst *burst = &reply->bursts[k];
+        unsigned cpu = burst->address >> 12 & 0xff, vector = burst->data & 0xff;
+        fprintf(run->printed, "msg %" PRIu64 " %" PRIu32 " %u %02x %" PRIu64 " %" PRIu64 "\n", burst->first_ns, burst->timer,
+                cpu < 4 ? cpu : 0, vector < 16 ? 0x30 : vector, burst->count, burst->every_ns);
+    }
+}
+
+/* Prints the edges and messages of an access and begins its line; false where it was refused. */
 static bool answered(struct run *run) {
     const struct clockboard_reply *reply = &run->reply;
     if (reply->answer != CLOCKBOARD_OK) {
@@ -44,6 +55,7 @@ static bool answered(struct run *run) {
     run->now = reply->now_ns;
     run->accesses = reply->number;
     print_edges(run, reply);
+    print_messages(run, reply);
     fprintf(run->printed, "%" PRIu64 " %" PRIu64, run->record.lines, reply->number);
     return true;
 }
@@ -83,7 +95,8 @@ static void ports(struct run *run, uint8_t cpu, uint64_t host) {
 }
 
 static void hpet(struct run *run, uint8_t cpu, uint64_t host) {
-    static const uint16_t offsets[] = {0, 0x10, 0x10, 0x20, 0xf0, 0x100, 0x108, 0x120, 0x128, 0x140, 0x148, 0x400};
+    static const uint16_t offsets[] = {0,     0x10,  0x10,  0x20,  0xf0,  0x100, 0x108, 0x110,
+                                       0x120, 0x128, 0x130, 0x140, 0x148, 0x150, 0x400};
     uint16_t offset = offsets[below(sizeof offsets / sizeof offsets[0])];
     uint8_t width = below(2) ? 8 : 4;
     if (below(3) == 0) {
@@ -97,13 +110,19 @@ static void hpet(struct run *run, uint8_t cpu, uint64_t host) {
 
 static void msrs(struct run *run, uint8_t cpu, uint64_t host) {
     static const uint32_t msrs[] = {CLOCKBOARD_MSR_TSC, CLOCKBOARD_MSR_TSC_ADJUST, CLOCKBOARD_MSR_WALL_CLOCK,
-                                    CLOCKBOARD_MSR_SYSTEM_TIME, 0x11};
+                                    CLOCKBOARD_MSR_SYSTEM_TIME, 0x11, CLOCKBOARD_MSR_APIC_LVT, CLOCKBOARD_MSR_APIC_INITIAL,
+                                    CLOCKBOARD_MSR_APIC_CURRENT, CLOCKBOARD_MSR_APIC_DIVIDE, CLOCKBOARD_MSR_TSC_DEADLINE,
+                                    CLOCKBOARD_MSR_HV_TIME_REF_COUNT, CLOCKBOARD_MSR_HV_REFERENCE_TSC};
     uint32_t msr = msrs[below(sizeof msrs / sizeof msrs[0])];
     if (below(2)) {
         clockboard_record_msr_read(&run->record, &run->board, cpu, host, msr, &run->reply);
         read_digits(run, 16);
     } else {
-        clockboard_record_msr_write(&run->record, &run->board, cpu, host, msr, below(UINT64_C(1) << 30) | 1, &run->reply);
+        uint64_t value = below(UINT64_C(1) << 30) | 1;
+        if (msr == CLOCKBOARD_MSR_APIC_LVT) {
+            value = below(3) << 17 | below(4) / 3 << 16 | 0x30;
+        }
+        clockboard_record_msr_write(&run->record, &run->board, cpu, host, msr, value, &run->reply);
         nothing_read(run);
     }
 }
@@ -114,6 +133,18 @@ static void clock_of(struct run *run, uint8_t cpu, uint64_t host) {
         uint64_t clock = run->reply.value[0], reading = run->reply.value[1];
         run->greatest = clock > run->greatest ? clock : run->greatest;
         fprintf(run->printed, "%" PRIu64 " clock %" PRIu64 " %" PRIu64 "\n", run->record.lines, reading, clock);
+    }
+}
+
+/* The time of Hyper-V's page, with the page of which it is. */
+static void hv_time(struct run *run, uint8_t cpu, uint64_t host) {
+    struct clockboard_hv_page page;
+    uint64_t fields[2];
+    clockboard_record_hv_time(&run->record, &run->board, cpu, host, &run->reply);
+    if (run->reply.answer == CLOCKBOARD_OK && clockboard_hv_page(&run->board, &page) == CLOCKBOARD_OK) {
+        memcpy(fields, page.bytes + 8, sizeof fields);
+        fprintf(run->printed, "%" PRIu64 " hv %" PRIu32 " %" PRIu64 " %" PRIu64 " %" PRIu64 "\n", run->record.lines,
+                page.sequence, fields[0], fields[1], run->reply.value[0]);
     }
 }
 
@@ -130,6 +161,8 @@ static void move(struct run *run, uint8_t cpu, uint64_t host) {
     }
     print_edges(run, &run->reply);
     print_edges(run, &reply);
+    print_messages(run, &run->reply);
+    print_messages(run, &reply);
     run->now = reply.now_ns;
     run->accesses = run->reply.number;
     run->khz = khz;
@@ -159,12 +192,16 @@ static void others(struct run *run, uint8_t cpu, uint64_t host, uint64_t kind) {
         read_numbers(run, 3);
         break;
     case 5:
-        clockboard_record_counts(record, &run->board, cpu, host, (uint8_t)below(8), &run->reply);
+        clockboard_record_counts(record, &run->board, cpu, host, (uint8_t)below(22), &run->reply);
         read_numbers(run, 4);
         break;
     case 6:
         clockboard_record_rises(record, &run->board, cpu, host, lines[below(7)], &run->reply);
         read_digits(run, 16);
+        break;
+    case 7:
+        clockboard_record_eoi(record, &run->board, cpu, host, &run->reply);
+        nothing_read(run);
         break;
     default:
         clockboard_record_step(record, &run->board, cpu, host, &run->reply);
@@ -174,7 +211,7 @@ static void others(struct run *run, uint8_t cpu, uint64_t host, uint64_t kind) {
 
 /* One call of a random kind. Counts of ports fall now and then, those of MSRs, pages and clocks never do. */
 static void one_call(struct run *run) {
-    uint64_t kind = below(40);
+    uint64_t kind = below(42);
     uint8_t cpu = (uint8_t)below(4), caller = below(40) == 0 ? 4 : cpu;
     uint64_t host = run->counts[cpu] += below(run->khz / 5);
     if (kind < 12) {
@@ -187,8 +224,10 @@ static void one_call(struct run *run) {
         msrs(run, caller, host);
     } else if (kind < 31) {
         clock_of(run, caller, host);
-    } else if (kind < 39) {
+    } else if (kind < 40) {
         others(run, caller, host, kind - 31);
+    } else if (kind < 41) {
+        hv_time(run, cpu, host);
     } else if (below(8) == 0) {
         move(run, cpu, host);
     }

@@ -1,5 +1,6 @@
 // SPDX-License-Identifier: Apache-2.0 OR MIT
 //! What is said to a board.
+use crate::error::Error;
 use crate::ffi;
 
 /// What becomes of a tick that comes due while its line is up.
@@ -17,9 +18,10 @@ pub enum Policy {
 /// What a board is at power on.
 #[derive(Clone, Debug, PartialEq, Eq)]
 pub struct Setup {
-    /// The format: 1, or 2 with 8 timers in the HPET, up to 64 processors, and counts of rises.
+    /// The format, 1 to 5. From 2 on there are 8 timers in the HPET, up to 64 processors, and counts of rises; from 3 on a
+    /// local APIC's timer for each processor; from 4 on Hyper-V's reference page; in 5 HPET timers can send messages.
     pub format: u8,
-    /// How many processors there are: 1 to 16, in format 2 to 64.
+    /// How many processors there are: 1 to 16, from format 2 on to 64.
     pub cpus: u8,
     /// The rate of the host's counter in kHz, 100,000 to 10,000,000.
     pub host_khz: u64,
@@ -41,7 +43,8 @@ pub struct Setup {
     pub wall_sec: u32,
     /// And nanoseconds, below 1,000,000,000.
     pub wall_nsec: u32,
-    /// The bytes of the MC146818: seconds, minutes, hours, day of the week, date, month, year.
+    /// The bytes of the MC146818 in BCD: seconds, minutes, hour of 24, day of the week (1 is Sunday), date, month, year of
+    /// the century. Bytes that are no such time are refused.
     pub time: [u8; 7],
 }
 
@@ -67,6 +70,20 @@ impl Default for Setup {
 }
 
 impl Setup {
+    /// Sets the time to `seconds` since midnight of 1 January 1970, UTC. [`Error::OutOfRange`] from 1 March 2100 on, as the
+    /// MC146818 has a leap day in that year.
+    pub fn set_time(&mut self, seconds: u64) -> Result<(), Error> {
+        let mut words = self.words();
+        // SAFETY: a reference of its type.
+        match unsafe { ffi::clockboard_setup_at(&mut words, seconds) } {
+            0 => {
+                self.time = words.time;
+                Ok(())
+            }
+            code => Err(Error::of_code(code, [0; 4])),
+        }
+    }
+
     /// The setup as the archive takes it.
     pub(crate) fn words(&self) -> ffi::Setup {
         ffi::Setup {
@@ -97,15 +114,18 @@ pub enum TickSource {
     Rtc,
     /// A timer of the HPET.
     Hpet(u8),
+    /// The local APIC's timer of a processor; from format 3 on.
+    Apic(u8),
 }
 
 impl TickSource {
-    /// The number of the source; that of a timer past all is one that no board has.
+    /// The number of the source; that of a timer or a processor past all is one that no board has.
     pub(crate) fn number(self) -> u8 {
         match self {
             TickSource::Pit => 0,
             TickSource::Rtc => 1,
-            TickSource::Hpet(timer) => timer.saturating_add(2),
+            TickSource::Hpet(timer) => timer.min(13) + 2,
+            TickSource::Apic(cpu) => cpu.saturating_add(16),
         }
     }
 }
@@ -144,7 +164,8 @@ pub enum Access {
         /// The value, which fits the width.
         value: u64,
     },
-    /// A read of an MSR: 10h, 3Bh, 4B564D00h or 4B564D01h.
+    /// A read of an MSR: 10h, 3Bh, 4B564D00h or 4B564D01h; from format 3 on 832h, 838h, 839h, 83Eh and 6E0h of the local
+    /// APIC's timer, from format 4 on 40000020h and 40000021h of Hyper-V.
     MsrRead {
         /// The MSR.
         msr: u32,
@@ -161,6 +182,8 @@ pub enum Access {
         /// The line.
         line: u8,
     },
+    /// The end of the interrupt of the processor's local APIC timer; from format 3 on.
+    Eoi,
     /// The page of a processor is published.
     Refresh {
         /// The processor.
@@ -170,7 +193,7 @@ pub enum Access {
     Wall,
     /// The ticks of a source: [`Reply::counts`](crate::Reply::counts).
     Counts(TickSource),
-    /// How often a line went up, in format 2.
+    /// How often a line went up; from format 2 on.
     Rises {
         /// The line.
         line: u8,

@@ -3,7 +3,7 @@
 use crate::access::{Access, Setup};
 use crate::error::Error;
 use crate::ffi;
-use crate::reply::{Clock, Page, Reply};
+use crate::reply::{Clock, HvPage, Page, Reply, Tsc, View};
 use core::fmt;
 
 /// A board: the time hardware of one guest.
@@ -77,6 +77,7 @@ impl Board {
                     ffi::clockboard_msr_write(board, cpu, host, msr, value, reply)
                 }
                 Acknowledge { line } => ffi::clockboard_acknowledge(board, cpu, host, line, reply),
+                Eoi => ffi::clockboard_eoi(board, cpu, host, reply),
                 Refresh { page } => ffi::clockboard_refresh(board, cpu, host, page, reply),
                 Wall => ffi::clockboard_wall(board, cpu, host, reply),
                 Counts(source) => ffi::clockboard_counts(board, cpu, host, source.number(), reply),
@@ -85,11 +86,27 @@ impl Board {
         })
     }
 
-    /// The first nanosecond behind the board's time, and below 2^59, in which a line changes if no access comes.
+    /// The first nanosecond after the board's time, and below 2^59, in which a line changes if no access comes.
     pub fn next_edge(&self) -> Option<u64> {
         let mut at = 0;
         // SAFETY: two references of their types.
         let code = unsafe { ffi::clockboard_next_edge(&self.0, &mut at) };
+        (code == 0).then_some(at)
+    }
+
+    /// The same for the local APIC's timer of a processor: when it ticks next, which is when it fires and isn't masked.
+    pub fn next_tick(&self, cpu: u8) -> Option<u64> {
+        let mut at = 0;
+        // SAFETY: two references of their types.
+        let code = unsafe { ffi::clockboard_next_tick(&self.0, cpu, &mut at) };
+        (code == 0).then_some(at)
+    }
+
+    /// The same for the messages of the HPET's timers.
+    pub fn next_message(&self) -> Option<u64> {
+        let mut at = 0;
+        // SAFETY: two references of their types.
+        let code = unsafe { ffi::clockboard_next_message(&self.0, &mut at) };
         (code == 0).then_some(at)
     }
 
@@ -99,6 +116,62 @@ impl Board {
         // SAFETY: two references of their types.
         let code = unsafe { ffi::clockboard_counter_of(&self.0, at_ns, &mut host) };
         (code == 0).then_some(host)
+    }
+
+    /// The board at a glance. It is no access.
+    pub fn look(&self) -> View {
+        let mut view = ffi::View::default();
+        // SAFETY: two references of their types.
+        let _ = unsafe { ffi::clockboard_look(&self.0, &mut view) };
+        View {
+            now_ns: view.now_ns,
+            accesses: view.accesses,
+            greatest_ns: view.greatest_ns,
+            lines: view.lines,
+            format: view.format,
+            cpus: view.cpus,
+        }
+    }
+
+    /// The numbers of a processor's TSC. It is no access.
+    pub fn tsc(&self, cpu: u8) -> Result<Tsc, Error> {
+        let mut tsc = ffi::Tsc::default();
+        // SAFETY: two references of their types.
+        match unsafe { ffi::clockboard_tsc(&self.0, cpu, &mut tsc) } {
+            0 => Ok(Tsc {
+                offset: tsc.offset,
+                ratio: tsc.ratio,
+                khz: tsc.khz,
+            }),
+            code => Err(Error::of_code(code, [0; 4])),
+        }
+    }
+
+    /// Hyper-V's reference page, as it was published last; from format 4 on.
+    pub fn hv_page(&self) -> Result<HvPage, Error> {
+        let mut page = ffi::HvPage::default();
+        // SAFETY: two references of their types.
+        match unsafe { ffi::clockboard_hv_page(&self.0, &mut page) } {
+            0 => Ok(HvPage {
+                guest_address: page.guest_address,
+                enabled: page.enabled != 0,
+                sequence: page.sequence,
+                bytes: page.bytes,
+            }),
+            code => Err(Error::of_code(code, [0; 4])),
+        }
+    }
+
+    /// The time in units of 100 ns that this page gives at count `host`, by the TSC of the processor that published it. It is
+    /// no access.
+    pub fn hv_time(&self, host: u64) -> Result<u64, Error> {
+        let mut reply = ffi::Reply::empty();
+        // SAFETY: two references of their types, which don't overlap.
+        unsafe { ffi::clockboard_hv_time(&self.0, host, &mut reply) };
+        match reply.answer {
+            0 => Ok(reply.value[0]),
+            code => Err(Error::of_code(code, reply.value)),
+        }
     }
 
     /// The page of a processor, as it was published last.
@@ -134,8 +207,8 @@ impl Board {
         })
     }
 
-    /// The bytes of the longest saved state: format 2, 64 processors.
-    pub const STATE_MAX: usize = 4_006;
+    /// The bytes of the longest saved state: format 5, 64 processors.
+    pub const STATE_MAX: usize = 7_635;
 
     /// Writes the saved state to the front of `bytes`, and answers its length. [`Board::STATE_MAX`] bytes are enough for each
     /// board. Two boards with the same saved state answer each access alike.

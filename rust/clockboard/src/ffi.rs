@@ -5,7 +5,7 @@
 pub const ABI: u32 = 3;
 
 /// `CLOCKBOARD_SIZE` of the header.
-pub const SIZE: usize = 5_072;
+pub const SIZE: usize = 9_296;
 
 #[derive(Clone, Copy)]
 #[repr(C)]
@@ -38,15 +38,30 @@ pub struct Edge {
     pub up: u32,
 }
 
+#[derive(Clone, Copy, Default)]
+#[repr(C)]
+pub struct Burst {
+    pub first_ns: u64,
+    pub count: u64,
+    pub every_ns: u64,
+    pub address: u32,
+    pub data: u32,
+    pub timer: u32,
+    pub reserved: u32,
+}
+
 #[derive(Clone)]
 #[repr(C)]
 pub struct Reply {
     pub answer: u32,
     pub edge_count: u32,
+    pub burst_count: u32,
+    pub reserved: u32,
     pub number: u64,
     pub now_ns: u64,
     pub value: [u64; 4],
     pub edges: [Edge; 24],
+    pub bursts: [Burst; 8],
 }
 
 impl Reply {
@@ -60,10 +75,13 @@ impl Reply {
         Reply {
             answer: 0,
             edge_count: 0,
+            burst_count: 0,
+            reserved: 0,
             number: 0,
             now_ns: 0,
             value: [0; 4],
             edges: [edge; 24],
+            bursts: [Burst::default(); 8],
         }
     }
 }
@@ -76,11 +94,40 @@ pub struct Page {
     pub bytes: [u8; 32],
 }
 
+#[derive(Default)]
+#[repr(C)]
+pub struct View {
+    pub now_ns: u64,
+    pub accesses: u64,
+    pub greatest_ns: u64,
+    pub lines: u32,
+    pub format: u8,
+    pub cpus: u8,
+}
+
+#[derive(Default)]
+#[repr(C)]
+pub struct Tsc {
+    pub offset: u64,
+    pub ratio: u64,
+    pub khz: u64,
+}
+
+#[derive(Default)]
+#[repr(C)]
+pub struct HvPage {
+    pub guest_address: u64,
+    pub enabled: u32,
+    pub sequence: u32,
+    pub bytes: [u8; 24],
+}
+
 extern "C" {
     pub fn clockboard_abi() -> u32;
     pub fn clockboard_size() -> usize;
     pub fn clockboard_reply_size() -> usize;
     pub fn clockboard_blank() -> Board;
+    pub fn clockboard_setup_at(setup: *mut Setup, seconds: u64) -> u32;
     pub fn clockboard_power_on(board: *mut Board, setup: *const Setup, reply: *mut Reply);
     pub fn clockboard_step(board: *mut Board, cpu: u8, host: u64, reply: *mut Reply);
     pub fn clockboard_port_read(
@@ -131,12 +178,19 @@ extern "C" {
         line: u8,
         reply: *mut Reply,
     );
+    pub fn clockboard_eoi(board: *mut Board, cpu: u8, host: u64, reply: *mut Reply);
     pub fn clockboard_refresh(board: *mut Board, cpu: u8, host: u64, page: u8, reply: *mut Reply);
     pub fn clockboard_wall(board: *mut Board, cpu: u8, host: u64, reply: *mut Reply);
     pub fn clockboard_counts(board: *mut Board, cpu: u8, host: u64, source: u8, reply: *mut Reply);
     pub fn clockboard_rises(board: *mut Board, cpu: u8, host: u64, line: u8, reply: *mut Reply);
     pub fn clockboard_next_edge(board: *const Board, at_ns: *mut u64) -> u32;
+    pub fn clockboard_next_tick(board: *const Board, cpu: u8, at_ns: *mut u64) -> u32;
+    pub fn clockboard_next_message(board: *const Board, at_ns: *mut u64) -> u32;
     pub fn clockboard_counter_of(board: *const Board, at_ns: u64, host: *mut u64) -> u32;
+    pub fn clockboard_look(board: *const Board, view: *mut View) -> u32;
+    pub fn clockboard_tsc(board: *const Board, cpu: u8, tsc: *mut Tsc) -> u32;
+    pub fn clockboard_hv_page(board: *const Board, page: *mut HvPage) -> u32;
+    pub fn clockboard_hv_time(board: *const Board, host: u64, reply: *mut Reply);
     pub fn clockboard_page(board: *const Board, cpu: u8, page: *mut Page) -> u32;
     pub fn clockboard_clock(board: *mut Board, cpu: u8, host: u64, reply: *mut Reply);
     pub fn clockboard_save(

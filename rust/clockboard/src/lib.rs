@@ -1,6 +1,6 @@
 // SPDX-License-Identifier: Apache-2.0 OR MIT
-//! The time hardware of a PC guest for a virtual machine monitor: Intel 8254, MC146818, HPET, the guest's TSC, and pvclock
-//! pages, over the library `clockboard_c`, whose calls are proved to do what the data sheets say.
+//! The time hardware of a PC guest for a virtual machine monitor: Intel 8254, MC146818, HPET, the guest's TSC, pvclock
+//! pages, timers of local APICs, and Hyper-V's reference page, over the library `clockboard_c`, whose calls are proved to do what the data sheets say.
 //!
 //! ```
 //! use clockboard::{Access, Board, Setup};
@@ -29,4 +29,4 @@ mod reply;
 pub use access::{Access, Policy, Setup, TickSource};
 pub use board::Board;
 pub use error::{Error, StateFault};
-pub use reply::{Clock, Counts, Edge, Page, Reply, Wall};
+pub use reply::{Burst, Clock, Counts, Edge, HvPage, Page, Reply, Tsc, View, Wall};

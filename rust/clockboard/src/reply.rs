@@ -14,6 +14,23 @@ pub struct Edge {
     pub up: bool,
 }
 
+/// Messages that one timer of the HPET sent, at even distances; from format 5 on.
+#[derive(Clone, Copy, Debug, PartialEq, Eq)]
+pub struct Burst {
+    /// The timer's number.
+    pub timer: u8,
+    /// The nanosecond of the first message.
+    pub first_ns: u64,
+    /// How many messages there are.
+    pub count: u64,
+    /// The nanoseconds from one to the next; 0 where there is one alone.
+    pub every_ns: u64,
+    /// The address to which each is written.
+    pub address: u32,
+    /// What is written there.
+    pub data: u32,
+}
+
 /// What an access gave.
 #[derive(Clone)]
 pub struct Reply(pub(crate) ffi::Reply);
@@ -24,7 +41,7 @@ impl Reply {
         self.0.number
     }
 
-    /// The board's time behind the access, in nanoseconds.
+    /// The board's time after the access, in nanoseconds.
     pub fn now_ns(&self) -> u64 {
         self.0.now_ns
     }
@@ -70,6 +87,19 @@ impl Reply {
             up: edge.up != 0,
         })
     }
+
+    /// The messages of the HPET's timers, in the order of timers.
+    pub fn bursts(&self) -> impl ExactSizeIterator<Item = Burst> + '_ {
+        let count = (self.0.burst_count as usize).min(self.0.bursts.len());
+        self.0.bursts[..count].iter().map(|burst| Burst {
+            timer: burst.timer as u8,
+            first_ns: burst.first_ns,
+            count: burst.count,
+            every_ns: burst.every_ns,
+            address: burst.address,
+            data: burst.data,
+        })
+    }
 }
 
 /// Ticks of a source since power on.
@@ -101,6 +131,7 @@ impl PartialEq for Reply {
         (self.number(), self.now_ns(), self.values())
             == (other.number(), other.now_ns(), other.values())
             && self.edges().eq(other.edges())
+            && self.bursts().eq(other.bursts())
     }
 }
 
@@ -113,6 +144,7 @@ impl fmt::Debug for Reply {
             .field("now_ns", &self.now_ns())
             .field("values", &self.values())
             .field("edges", &Edges(self))
+            .field("bursts", &Bursts(self))
             .finish()
     }
 }
@@ -124,6 +156,59 @@ impl fmt::Debug for Edges<'_> {
     fn fmt(&self, f: &mut fmt::Formatter<'_>) -> fmt::Result {
         f.debug_list().entries(self.0.edges()).finish()
     }
+}
+
+/// The bursts of a reply, as a list.
+struct Bursts<'a>(&'a Reply);
+
+impl fmt::Debug for Bursts<'_> {
+    fn fmt(&self, f: &mut fmt::Formatter<'_>) -> fmt::Result {
+        f.debug_list().entries(self.0.bursts()).finish()
+    }
+}
+
+/// A board at a glance.
+#[derive(Clone, Copy, Debug, PartialEq, Eq)]
+#[non_exhaustive]
+pub struct View {
+    /// Its time, in nanoseconds.
+    pub now_ns: u64,
+    /// How many accesses it has answered.
+    pub accesses: u64,
+    /// The greatest reading that [`Board::clock`](crate::Board::clock) gave, in nanoseconds.
+    pub greatest_ns: u64,
+    /// Bit n is set where line n is up.
+    pub lines: u32,
+    /// The format.
+    pub format: u8,
+    /// How many processors there are.
+    pub cpus: u8,
+}
+
+/// The TSC of a processor: at count `h` of the host's counter it is `h * ratio / 2^48 + offset`, modulo 2^64.
+#[derive(Clone, Copy, Debug, PartialEq, Eq)]
+#[non_exhaustive]
+pub struct Tsc {
+    /// What is added to the scaled counter: what `KVM_VCPU_TSC_OFFSET` wants.
+    pub offset: u64,
+    /// The ratio of the guest's rate to the host's, with 48 bits after the binary point.
+    pub ratio: u64,
+    /// The guest's rate in kHz, which `KVM_SET_TSC_KHZ` wants.
+    pub khz: u64,
+}
+
+/// Hyper-V's reference page, as it was published last.
+#[derive(Clone, Copy, Debug, PartialEq, Eq)]
+#[non_exhaustive]
+pub struct HvPage {
+    /// Where the guest wants it.
+    pub guest_address: u64,
+    /// Whether the guest has enabled it.
+    pub enabled: bool,
+    /// The sequence: 0 where the page isn't enabled.
+    pub sequence: u32,
+    /// The bytes as the guest sees them, `HV_REFERENCE_TSC_PAGE` up to its last field.
+    pub bytes: [u8; 24],
 }
 
 /// What the clock of a processor tells, in nanoseconds.

@@ -1,7 +1,7 @@
 // SPDX-License-Identifier: Apache-2.0 OR MIT
 //! The crate over the archive: worked cases of the data sheets, refusals, and what a state survives.
 use clockboard::{
-    Access, Board, Clock, Counts, Edge, Error, Policy, Setup, StateFault, TickSource,
+    Access, Board, Burst, Clock, Counts, Edge, Error, Policy, Setup, StateFault, TickSource,
 };
 
 /// Programs counter 0 of the 8254 in mode 2 with count 4.
@@ -109,7 +109,11 @@ fn setups_out_of_range() {
             ..setup.clone()
         },
         Setup {
-            format: 3,
+            format: 6,
+            ..setup.clone()
+        },
+        Setup {
+            time: [0; 7],
             ..setup.clone()
         },
         Setup {
@@ -226,7 +230,7 @@ fn a_clock_goes_on_behind_a_move() {
 #[test]
 fn a_later_format_counts_rises() {
     let mut board = programmed();
-    assert_eq!(board.upgrade(3), Err(Error::BadFormat));
+    assert_eq!(board.upgrade(6), Err(Error::BadFormat));
     board.upgrade(2).unwrap();
     assert_eq!(board.upgrade(1), Err(Error::BadFormat));
     let rises = board.access(0, 5_000, Access::Rises { line: 0 }).unwrap();
@@ -388,10 +392,120 @@ fn what_types_can_do() {
     assert_eq!(format!("{first:?}"), "Board { .. }");
 }
 
+/// A board of a format with two processors.
+fn of_format(format: u8) -> Board {
+    let setup = Setup {
+        format,
+        cpus: 2,
+        ..Setup::default()
+    };
+    Board::power_on(&setup).unwrap()
+}
+
+#[test]
+fn a_look_and_a_time() {
+    let mut board = programmed();
+    board.access(0, 5_000, Access::Step).unwrap();
+    let view = board.look();
+    assert_eq!((view.now_ns, view.accesses, view.lines), (5_000, 4, 1));
+    assert_eq!((view.greatest_ns, view.format, view.cpus), (0, 1, 1));
+    let mut setup = Setup::default();
+    setup.set_time(951_782_399).unwrap();
+    assert_eq!(setup.time, [0x59, 0x59, 0x23, 2, 0x28, 2, 0]);
+    setup.set_time(951_782_400).unwrap();
+    assert_eq!(setup.time, [0, 0, 0, 3, 0x29, 2, 0]);
+    assert_eq!(setup.set_time(4_107_542_400), Err(Error::OutOfRange));
+}
+
+#[test]
+fn the_numbers_of_a_tsc() {
+    let mut board = of_format(1);
+    let write = Access::MsrWrite {
+        msr: 0x10,
+        value: 5,
+    };
+    board.access(1, 1_000, write).unwrap();
+    let tsc = board.tsc(1).unwrap();
+    assert_eq!((tsc.khz, tsc.ratio), (1_000_000, 1 << 48));
+    assert_eq!(tsc.offset.wrapping_add(1_000), 5);
+    assert_eq!(board.tsc(2), Err(Error::NoProcessor));
+}
+
+/// A periodic timer of 1000 ns on processor 1.
+#[test]
+fn a_timer_of_a_local_apic() {
+    let mut board = of_format(3);
+    for (msr, value) in [(0x83e, 0xb), (0x832, 0x2_0030), (0x838, 1_000)] {
+        board.access(1, 0, Access::MsrWrite { msr, value }).unwrap();
+    }
+    assert_eq!(
+        (board.next_tick(1), board.next_tick(0)),
+        (Some(1_000), None)
+    );
+    let counts = Access::Counts(TickSource::Apic(1));
+    let counted = board.access(0, 2_500, counts).unwrap();
+    assert_eq!(counted.values(), [2, 1, 0, 1]);
+    board.access(1, 2_500, Access::Eoi).unwrap();
+    let counted = board.access(0, 3_000, counts).unwrap();
+    assert_eq!(counted.values(), [3, 2, 0, 1]);
+}
+
+#[test]
+fn the_reference_page() {
+    let mut board = of_format(4);
+    assert_eq!(board.hv_time(0), Err(Error::PageOff));
+    let write = Access::MsrWrite {
+        msr: 0x4000_0021,
+        value: 0x7fff,
+    };
+    board.access(0, 1_000, write).unwrap();
+    let page = board.hv_page().unwrap();
+    assert_eq!(
+        (page.guest_address, page.enabled, page.sequence),
+        (0x7000, true, 1)
+    );
+    assert_eq!(page.bytes[..8], [1, 0, 0, 0, 0, 0, 0, 0]);
+    assert_eq!(board.hv_time(21_000), Ok(210));
+    assert_eq!(of_format(3).hv_page(), Err(Error::NotOurs));
+}
+
+/// Timer 2 of the HPET sends data 31h each 1000 ns.
+#[test]
+fn messages() {
+    let mut board = of_format(5);
+    for (offset, width, value) in [
+        (0x140, 4, 0x684c),
+        (0x148, 8, 100),
+        (0x150, 8, 0xfee0_0000_0000_0031),
+        (0x10, 8, 1),
+    ] {
+        let write = Access::HpetWrite {
+            offset,
+            width,
+            value,
+        };
+        board.access(0, 0, write).unwrap();
+    }
+    assert_eq!(board.next_message(), Some(1_000));
+    let reply = board.access(0, 3_500, Access::Step).unwrap();
+    let bursts: Vec<Burst> = reply.bursts().collect();
+    assert_eq!(
+        bursts,
+        [Burst {
+            timer: 2,
+            first_ns: 1_000,
+            count: 3,
+            every_ns: 1_000,
+            address: 0xfee0_0000,
+            data: 0x31
+        }]
+    );
+}
+
 #[test]
 fn the_longest_state() {
     let setup = Setup {
-        format: 2,
+        format: 5,
         cpus: 64,
         ..Setup::default()
     };
