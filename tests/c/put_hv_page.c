@@ -3,7 +3,7 @@
  * Hyper-V's reference page under fire: one thread writes pages by clockboard_put_hv_page, the other reads as Linux's guest does
  * (hv_read_tsc_page_tsc), and looks that each page that it takes is one that was written, and none older than one before.
  *
- *     put_hv_page READS
+ *     put_hv_page READS [tight]   tight: the writer pauses less between pages, so that a read meets an update often
  *
  * It reads on until 10,000 new pages were met (under ThreadSanitizer 1,000), but no longer than 20 seconds in all. Ends with 1
  * where a read was torn, and with 3 where too few new pages were met for the run to mean anything. Before that it publishes by
@@ -19,6 +19,13 @@
 
 enum { TORN = 1, WRITER_FAILED = 2, TOO_FEW = 3, WRONG_ALONE = 4, SECONDS = 20 };
 
+/* How many new pages a run must meet, and how often the writer turns between two of them. */
+#if defined(__SANITIZE_THREAD__) || defined(TSAN)
+enum { NEW_PAGES = 1000, PAUSE = 5000 };
+#else
+enum { NEW_PAGES = 10000, PAUSE = 200 };
+#endif
+
 /* HV_REFERENCE_TSC_PAGE up to its last field. */
 struct guest_page {
     uint32_t sequence, reserved;
@@ -28,6 +35,7 @@ struct guest_page {
 
 static _Alignas(4096) struct guest_page guest;
 static int done;
+static bool tight;
 
 /* The fields of the page of a sequence. */
 static uint64_t scale_of(uint32_t sequence) {
@@ -72,17 +80,18 @@ static void *writer(void *none) {
         if (!put(&guest, &page)) {
             exit(WRITER_FAILED);
         }
+        for (int pause = tight ? PAUSE / 10 : PAUSE; pause > 0; pause--) {
+            __asm__ volatile("" ::: "memory");
+        }
     }
     return NULL;
 }
 
 #if defined(__SANITIZE_THREAD__) || defined(TSAN)
-enum { NEW_PAGES = 1000 };
 /* Linux's loop with acquire loads for plain loads and barriers, as ThreadSanitizer knows no barrier. */
 #define LOAD(field) __atomic_load_n(&guest.field, __ATOMIC_ACQUIRE)
 #define RMB()
 #else
-enum { NEW_PAGES = 10000 };
 /* Linux's loop: plain loads, and smp_rmb(), which on x86 is a barrier for the compiler. */
 #define LOAD(field) (*(const volatile __typeof__(guest.field) *)&guest.field)
 #define RMB() __asm__ volatile("" ::: "memory")
@@ -151,6 +160,7 @@ int main(int count, char **words) {
     time_t end = time(NULL) + SECONDS;
     uint32_t last = 0;
     pthread_t thread;
+    tight = count > 2;
     if (pthread_create(&thread, NULL, writer, NULL) != 0) {
         return WRITER_FAILED;
     }
