@@ -35,7 +35,8 @@ use Rattle.race_phase.specs.declared.deliveries.Deliveries.{Deliveries}
 use Rattle.board_types.specs.declared.access.Access.{Access}
 use Rattle.board_types.specs.declared.parts.BoardParts.{BoardParts}
 use Rattle.board_types.specs.declared.parts.ProcessorParts.{ProcessorParts}
-use Rattle.board_core.specs.Access.{after_access, after_run, after_act}
+use Rattle.board_core.specs.Access.{after_access, after_run, after_act, before_look}
+use Rattle.board_core.specs.Apics.{after_look}
 use Rattle.board_core.specs.Tsc.{no_processor, processor_at}
 use Rattle.board_history.specs.Machine.{Machine, machine_of}
 use Rattle.board_history.specs.History.{of_state, after_entry, board_after, May, LegalFrom, IsLegal, entries_of}
@@ -81,7 +82,7 @@ shown_exact s ds w v rs h n (suc k) out e shown =
 
 -- the greatest count of accesses
 pub host_after : (b : BoardParts) (cpu h : ℕ) (a : Access) → (after_access b cpu h a).host ≡ max b.host h
-unfolding after_access after_run after_act
+unfolding after_access after_act after_look before_look after_run
 host_after b cpu h a = refl
 
 -- accesses past a count
