@@ -32,7 +32,7 @@ mod phase;
 mod phases;
 mod race;
 mod records;
-mod start;
+mod schedule;
 mod tally;
 mod text;
 mod texts;

@@ -1,8 +1,8 @@
-//! How many accesses a worker makes each time that it has the lock, and how long it stays away from it.
+//! How many accesses a worker makes each time that it has the lock, and when it asks for it.
 ghost use Rattle.std.specs.Prelude.{◌≡◌, ◌<◌, ◌≤◌};
 
+use crate::schedule::Schedule;
 use std::hint::spin_loop;
-use std::thread::yield_now;
 
 /// The most records that a worker answers before it gives the lock back, and the fewest where many are left.
 pub(crate) const MOST_AT_ONCE: usize = 16;
@@ -12,11 +12,12 @@ const LEAST_AT_ONCE: usize = 8;
 /// With fewer records of its processor left, a worker answers one at a time.
 const FEW: u64 = 1_000;
 
+/// How many records of a phase begin in turns: its last ones. With fewer left, times the number of workers, a worker takes
+/// turns.
+const TURNS: u64 = 200;
+
 /// How many pauses of the processor a worker makes before it answers one record: fewer than these.
 const PAUSES: u64 = 32;
-
-/// With fewer pauses than these it first lets another thread run, for a host with fewer processors than threads.
-const YIELDS: u64 = 2;
 
 /// The constants of Knuth's linear generator modulo 2^64. The low bits of its numbers come round soon, so the high ones
 /// are taken.
@@ -26,20 +27,39 @@ const ADDEND: u64 = 1_442_695_040_888_963_407;
 
 const HIGH: u32 = 33;
 
-/// A worker's own random numbers, so that its turns fall otherwise beside those of others in each run.
+/// When a worker goes on, by random numbers of its own, so that its records fall otherwise beside those of others in each run.
 #[derive(Drop)]
-pub(crate) struct Pace {
+pub(crate) struct Pace<'a> {
+    schedule: &'a Schedule,
+    worker: u64,
     state: u64,
 }
 
-impl Pace {
-    /// The numbers of a processor's worker. `chance` is a number that differs from run to run.
-    pub(crate) fn new(cpu: u64, chance: u64) -> Pace {
+impl<'a> Pace<'a> {
+    /// The pace of a worker with so many records, which waits at the start line.
+    pub(crate) fn new(schedule: &'a Schedule, worker: u64, records: u64) -> Pace<'a> {
         let mut pace = Pace {
-            state: chance.wrapping_mul(FACTOR).wrapping_add(cpu),
+            schedule,
+            worker,
+            state: worker,
         };
-        pace.draw(PAUSES);
+        if records > 0 && pace.takes_turns(records) {
+            schedule.come(worker);
+        }
+        schedule.start();
+        pace.stir();
         pace
+    }
+
+    /// Whether the worker takes turns, where so many records are left.
+    fn takes_turns(&self, left: u64) -> bool {
+        left.saturating_mul(self.schedule.workers()) < TURNS
+    }
+
+    /// Makes the next numbers differ from run to run.
+    fn stir(&mut self) {
+        let state = self.state.wrapping_add(self.schedule.chance());
+        self.state = state.wrapping_mul(FACTOR);
     }
 
     /// A number below `end`.
@@ -64,17 +84,25 @@ impl Pace {
         LEAST_AT_ONCE + self.draw(more as u64) as usize
     }
 
-    /// Stays away for a random while, where one record is answered next.
-    pub(crate) fn stay_away(&mut self, at_once: usize) {
-        if at_once > 1 {
+    /// Waits where one record is answered next: for the worker's turn, where it takes turns, and then for a random while.
+    pub(crate) fn wait(&mut self, left: u64) {
+        if left >= FEW {
             return;
         }
-        let pauses = self.draw(PAUSES);
-        if pauses < YIELDS {
-            yield_now();
+        if self.takes_turns(left) {
+            self.take_turn();
         }
-        for _ in 0..pauses {
+        for _ in 0..self.draw(PAUSES) {
             spin_loop();
         }
+    }
+
+    /// Waits for the worker's turn, and draws whose turn is next.
+    fn take_turn(&mut self) {
+        self.schedule.come(self.worker);
+        self.schedule.wait(self.worker);
+        self.stir();
+        let next = self.draw(self.schedule.workers().max(1));
+        self.schedule.begin(self.worker, next);
     }
 }

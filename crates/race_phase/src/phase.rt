@@ -9,7 +9,7 @@ ghost use Rattle.race_phase.specs.private.Workers.{HasWorked, AllGiven, AllWorke
 
 use crate::deliveries::Deliveries;
 use crate::lines::RecordLines;
-use crate::start::StartLine;
+use crate::schedule::Schedule;
 use crate::text::Text;
 use crate::work::{Worked, work};
 use board_core::{BoardState, ProcessorParts};
@@ -47,8 +47,8 @@ pub fn run_phase<N: Name + Send + Sync, R: Threads + Wait + Sync, G: Gate + Sync
     let cpus = state.cpus();
     let (board, passes) = SharedBoard::<N>::new(alloc, blank, state, cpus)?;
     let shared = &board;
-    let line = StartLine::new(u64::from(cpus));
-    let start = &line;
+    let workers = Schedule::new(u64::from(cpus));
+    let schedule = &workers;
     let Ok(results) = map_vec(
         rt,
         passes,
@@ -57,7 +57,7 @@ pub fn run_phase<N: Name + Send + Sync, R: Threads + Wait + Sync, G: Gate + Sync
                 × All (IsFitting N.state.cpus N.state.format) lines.now.records }
             ensures { IfOk result (λ w. HasWorked N.state deliveries.entry.now lines.entry.now.records
                 pass.number w.pass w.text.items) }
-        { work(rt, alloc, gate, shared, start, deliveries, lines, pass) },
+        { work(rt, alloc, gate, shared, schedule, deliveries, lines, pass) },
     ) else {
         return Err(NoMemory);
     };

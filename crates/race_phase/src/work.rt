@@ -8,7 +8,7 @@ use crate::batch::{new_places, print_all};
 use crate::deliveries::Deliveries;
 use crate::lines::RecordLines;
 use crate::pace::{MOST_AT_ONCE, Pace};
-use crate::start::StartLine;
+use crate::schedule::Schedule;
 use board_io::Gate;
 use clk_units::NoMemory;
 use clock_table::Name;
@@ -31,7 +31,7 @@ pub(crate) fn work<N: Name, R: Wait, G: Gate>(
     alloc: Global,
     gate: &G,
     board: &SharedBoard<N>,
-    start: &StartLine,
+    schedule: &Schedule,
     deliveries: &Deliveries,
     lines: &RecordLines,
     mut pass: Pass<N>,
@@ -48,7 +48,7 @@ pub(crate) fn work<N: Name, R: Wait, G: Gate>(
     let mut places = new_places(alloc, MOST_AT_ONCE)?;
     let mut text = Vec::new(alloc);
     let mut batch = Vec::new(alloc);
-    let mut pace = Pace::new(cpu, start.wait());
+    let mut pace = Pace::new(schedule, cpu, left);
     let mut at_once = pace.next(left);
     let mut index = 0;
     for place in 0..lines.len() {
@@ -57,7 +57,7 @@ pub(crate) fn work<N: Name, R: Wait, G: Gate>(
                 return Err(NoMemory);
             };
             if batch.len() >= at_once {
-                pace.stay_away(at_once);
+                pace.wait(left);
                 board.give_way();
                 let Ok(()) = print_all(
                     rt,

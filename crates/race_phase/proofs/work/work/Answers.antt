@@ -15,6 +15,14 @@ use Rattle.race_phase.proofs.work.work.Goals.{
   else-from-cpu,
 }
 
+pub print_all-requires-clause-fitting : goal.print_all-requires-clause-fitting
+print_all-requires-clause-fitting g c =
+    let s = g.N.Name.state in
+    let rs = c.args.lines.now.records in
+    subst (λ (l : List Record). All (IsFitting s.cpus s.format) l) (sym (c.deref.ensures.value ∙ c.in-Ok.ensures.items))
+    (All-push (IsFitting s.cpus s.format) c.loop-place.batch.items _ c.loop-place.invariant.fitting
+    (read_fits s.cpus s.format rs c.loop-place.place c.record.result c.record.ensures c.requires.fitting))
+
 pub returns-in_default-2 : goal.returns-in_default-2
 returns-in_default-2 g c =
     let s = g.N.Name.state in
