@@ -1,42 +1,14 @@
 -- On one processor a race has one text: the blocks of its records in file order.
-use Rattle.std.proofs.Common.{
-  ◌≡◌,
-  ℕ,
-  zero,
-  suc,
-  ◌<◌,
-  ◌≤◌,
-  ◌==◌,
-  max,
-  Bool,
-  true,
-  false,
-  cond,
-  if◌then◌else◌,
-  List,
-  [],
-  ◌∷◌,
-  ◌++◌,
-  Option,
-  Some,
-  refl,
-  sym,
-  ap,
-  subst,
-  ◌∙◌,
-  append_assoc,
-  append-nil,
-  arith,
-}
+use Rattle.std.proofs.Common.{◌≡◌, ℕ, zero, suc, ◌<◌, ◌≤◌, ◌==◌, max, Bool, true, false, if◌then◌else◌, List, [], ◌∷◌, ◌++◌, Some, refl, sym, ap, subst, ◌∙◌, append_assoc, append-nil, arith}
 use Rattle.std.specs.Prelude.{All}
 use Rattle.std.proofs.lemmas.List.Elements.{All-head, All-tail}
+use Rattle.hv_page.specs.declared.page.HvPage.{HvPage}
+use Rattle.board_core.specs.Hv.{hv_reply}
 use Rattle.board_types.specs.declared.parts.BoardParts.{BoardParts}
 use Rattle.pvclock_page.specs.declared.page.Page.{Page}
 use Rattle.pvclock_page.specs.declared.page.PageReply.{PageReply}
 use Rattle.pvclock_page.specs.declared.page.PageReply.TheVariants.{Off as PageOff, On as PageOn}
-use Rattle.pvclock_page.specs.declared.page.ClockReply.{ClockReply}
 use Rattle.pvclock_page.specs.declared.page.ClockReply.TheVariants.{Off, On}
-use Rattle.board_core.specs.Access.{reply_of}
 use Rattle.board_core.specs.Pages.{
   page_reply,
   clamped,
@@ -46,7 +18,7 @@ use Rattle.board_core.specs.Pages.{
   with_greatest,
 }
 use Rattle.board_core.proofs.Laws.{after_access-cpus}
-use Rattle.board_history.specs.Machine.{machine_of, page_at, ratio_in, reading_by, answer_by}
+use Rattle.board_history.specs.Machine.{machine_of, page_at, ratio_in, reading_by, answer_by, hv_at, hv_answer_by}
 use Rattle.board_history.specs.History.{
   of_state,
   board_after,
@@ -67,7 +39,7 @@ use Rattle.board_history.proofs.Laws.{
   LegalFrom-front,
   LegalFrom-rest,
 }
-use Rattle.edge_hooks.specs.declared.deliveries.Delivery.{Delivery}
+use Rattle.race_phase.specs.declared.deliveries.Deliveries.{Deliveries}
 use Rattle.race_phase.specs.Blocks.{block_of}
 use Rattle.race_phase.specs.Calls.{IsFitting, records_of, CallMade, AllMade, Shown}
 use Rattle.race_phase.specs.Phases.{next_board, end_entries, end_text, PhaseEnded, race_text}
@@ -75,9 +47,9 @@ use Rattle.race_phase.specs.declared.phases.End.{End}
 use Rattle.race_phase.specs.declared.phases.End.TheVariants.{Finish, Save, Move}
 use Rattle.race_phase.specs.declared.phases.Phase.{Phase}
 use Rattle.race_phase.specs.declared.records.Answer.{Answer}
-use Rattle.race_phase.specs.declared.records.Answer.TheVariants.{Acted, PageIs, ClockIs}
+use Rattle.race_phase.specs.declared.records.Answer.TheVariants.{Acted, PageIs, ClockIs, HvIs}
 use Rattle.race_phase.specs.declared.records.Call.{Call}
-use Rattle.race_phase.specs.declared.records.Call.TheVariants.{Act, ReadPage, ReadClock}
+use Rattle.race_phase.specs.declared.records.Call.TheVariants.{Act, ReadPage, ReadClock, ReadHv}
 use Rattle.race_phase.specs.declared.records.Record.{Record}
 use Rattle.trace_runner.specs.FileText.{answer_on, records_text, phase_text, phases_text, file_text}
 use Rattle.trace_runner.specs.Free.{IsPhase, IsFree}
@@ -129,6 +101,12 @@ page_reply-is b cpu h inside = ap (λ (page : Page). answer_by (ratio_in (machin
 answer_at : (s b : BoardParts) (cpu h : ℕ) (page : Page) → machine_of b ≡ machine_of s → (cpu < b.cpus) × (page_at b cpu ≡ page)
     → page_reply b cpu h ≡ answer_by (ratio_in (machine_of s)) page h
 answer_at s b cpu h page same here = page_reply-is b cpu h here.0 ∙ (λ i. answer_by (ratio_in (same i)) (here.1 i) h)
+
+-- and so is the reference page
+hv_answer_at : (s b : BoardParts) (h : ℕ) (page : HvPage) → machine_of b ≡ machine_of s → hv_at b ≡ page
+    → hv_reply b h ≡ hv_answer_by (ratio_in (machine_of s)) page h
+unfolding hv_reply
+hv_answer_at s b h page same here = λ i. hv_answer_by (ratio_in (same i)) (here i) h
 
 answer_off : (ratio h : ℕ) (page : Page) → page.enabled ≡ false → answer_by ratio page h ≡ PageOff
 answer_off ratio h page off = ap (λ (b : Bool). if b then PageOn page (reading_by ratio page h) else PageOff) off
@@ -201,9 +179,21 @@ module _ (s : BoardParts) (n cpu h : ℕ) (before first : List Entry) where
         ap (λ es. board_after (before ++ es)) made.3 ∙ ap board_after (sym (append_assoc before (e ∷ []) (f ∷ [])))
             ∙ board_after-snoc (before ++ e ∷ []) f ∙ ap (λ (x : BoardParts). with_greatest x clock) after ∙ on.1,
       )
+  call_plain (Act a) (HvIs reply) same legal made = absurd made
+  call_plain (ReadPage k) (HvIs reply) same legal made = absurd made
+  call_plain (ReadClock k) (HvIs reply) same legal made = absurd made
+  call_plain ReadHv (Acted reply) same legal made = absurd made
+  call_plain ReadHv (PageIs reply) same legal made = absurd made
+  call_plain ReadHv (ClockIs reply) same legal made = absurd made
+  call_plain ReadHv (HvIs reply) same legal made =
+      let e : Entry = HvRead n h made.0 made.1 in
+      let may = (subst (LegalFrom before) made.3 legal).0 in (
+        ap (λ r. HvIs r) (made.2 ∙ sym (hv_answer_at s (board_after before) h made.0 same may)),
+        ap (λ es. board_after (before ++ es)) made.3 ∙ board_after-snoc before e,
+      )
 
 -- so do those of all its records
-records_plain : (s : BoardParts) (ds : List (Option Delivery)) (n : ℕ) (rs : List Record) (before later : List Entry) (out : List ℕ)
+records_plain : (s : BoardParts) (ds : Deliveries) (n : ℕ) (rs : List Record) (before later : List Entry) (out : List ℕ)
     → machine_of (board_after before) ≡ machine_of s → LegalFrom before later → AllMade s ds n rs out later
     → (out ≡ records_text ds (board_after before) rs) × (board_after (before ++ later) ≡ records_behind (board_after before) rs)
 records_plain s ds n [] before later out same legal made =
@@ -234,7 +224,7 @@ records_of-0 (r ∷ rs) format fit =
     ∙ ap (λ us. r ∷ us) (records_of-0 rs format (All-tail (IsFitting 1 format) r rs fit))
 
 -- a phase
-phase_plain : (b : BoardParts) (ds : List (Option Delivery)) (v : Phase) (next : BoardParts) (out : List ℕ) (format : ℕ) → b.cpus ≡ 1
+phase_plain : (b : BoardParts) (ds : Deliveries) (v : Phase) (next : BoardParts) (out : List ℕ) (format : ℕ) → b.cpus ≡ 1
     → All (IsFitting 1 format) v.lines.records → PhaseEnded b ds v next out
     → (out ≡ phase_text ds b (phase_read v)) × (next ≡ next_board v.end (records_behind b v.lines.records))
 phase_plain b ds v next out format one fit e =
@@ -263,6 +253,7 @@ unfolding after_clock
 board_behind-cpus b cpu h (Act a) = after_access-cpus b cpu h a
 board_behind-cpus b cpu h (ReadPage page) = refl
 board_behind-cpus b cpu h (ReadClock page) = refl
+board_behind-cpus b cpu h ReadHv = refl
 
 records_behind-cpus : (b : BoardParts) (rs : List Record) → (records_behind b rs).cpus ≡ b.cpus
 records_behind-cpus b [] = refl
@@ -274,7 +265,7 @@ next_board-cpus (Save line cpu h) b = after_access-cpus b cpu h _
 next_board-cpus (Move line cpu h host) b = moved-cpus host.khz host.start host.gap _ ∙ after_access-cpus b cpu h _
 
 -- phases, one behind another
-phases_plain : (ds : List (Option Delivery)) (vs : List Phase) (b state : BoardParts) (out : List ℕ) (format : ℕ) → b.cpus ≡ 1
+phases_plain : (ds : Deliveries) (vs : List Phase) (b state : BoardParts) (out : List ℕ) (format : ℕ) → b.cpus ≡ 1
     → All (IsPhase 1 format) (phases_read vs) → race_text ds b vs state out
     → (out ≡ phases_text ds b (phases_read vs)) × (state ≡ replayed b (phases_read vs) [])
 phases_plain ds [] b state out format one fits told = (told.1, told.0)

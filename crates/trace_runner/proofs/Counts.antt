@@ -1,6 +1,6 @@
 -- Counts with a time and without, as answers to reads; and what an access prints.
-use Rattle.std.proofs.Common.{◌≡◌, ℕ, ◌≤◌, List, ◌++◌, Option, Some, None, refl, sym, ap, subst, ◌∙◌, append_assoc}
-use Rattle.irq_edges.specs.declared.edges.Edge.{Edge}
+use Rattle.std.proofs.Common.{◌≡◌, ℕ, ◌≤◌, List, ◌++◌, Option, Some, None, Result, OnOk, refl, sym, ap, subst, ◌∙◌, append_assoc}
+use Rattle.std.proofs.lemmas.Result.{on_ok_weaker}
 use Rattle.std.proofs.lemmas.Bool.{lt-ltb, le-ltb, le-leb, lt-leb}
 use Rattle.clk_units.specs.declared.ranges.TheConstants.{RANGE_NS}
 use Rattle.host_counter.specs.Time.{time_at, IsFaultAt}
@@ -10,30 +10,29 @@ use Rattle.board_types.specs.declared.access.Access.{Access}
 use Rattle.board_types.specs.declared.parts.BoardParts.{BoardParts}
 use Rattle.board_types.specs.declared.reply.Refusal.{Refusal}
 use Rattle.board_types.specs.declared.reply.Reply.{Reply}
-use Rattle.board_types.specs.declared.reply.Value.{Value}
-use Rattle.board_core.specs.Access.{reply_of, after_access}
+use Rattle.board_core.specs.Access.{reply_of}
 use Rattle.board_core.specs.Refusals.{refusal_of}
-use Rattle.board_core.proofs.Laws.{after_access-accesses, reply_of-number}
-use Rattle.edge_hooks.specs.declared.deliveries.Delivery.{Delivery}
-use Rattle.race_phase.specs.Blocks.{edges_text}
+use Rattle.race_phase.specs.declared.deliveries.Deliveries.{Deliveries}
+use Rattle.race_phase.specs.Blocks.{edges_text, messages_text}
 use Rattle.board_core.specs.Time.{HasTime}
-use Rattle.board_core.specs.Pages.{page_reply, clock_reply, after_clock}
-use Rattle.reply_text.specs.Text.{value_text, board_text, page_text, clock_text}
+use Rattle.clk_units.specs.declared.NoMemory.{NoMemory}
+use Rattle.reply_text.specs.Text.{board_text, refused_text}
 use Rattle.reply_text.specs.declared.ends.Refused.{Refused}
 use Rattle.reply_text.specs.declared.ends.Refused.TheVariants.{Fell, Range}
-use Rattle.trace_loop.specs.Progress.{Goes, Ends, printed}
+use Rattle.trace_loop.specs.Progress.{Answer, Goes, Ends, printed, end_of, state_behind}
 use Rattle.trace_runner.specs.Records.{
   refused_count,
   refused_fault,
   access_answer,
   board_answer,
   read_answer,
-  page_answer,
-  clock_answer,
+  block,
   stops,
 }
 use Rattle.trace_runner.specs.Replay.{with_board}
 use Rattle.trace_runner.specs.declared.replay.Replay.{Replay}
+use Rattle.trace_runner.specs.declared.status.Verdict.{Verdict}
+use Rattle.trace_runner.specs.declared.status.Verdict.TheVariants.{Stopped}
 
 -- a count with a time isn't refused
 pub counted : (b : BoardParts) (h : ℕ) → HasTime b.anchor h → refused_count b h ≡ None
@@ -48,31 +47,43 @@ faulted b h (OutOfRange ns) is =
     let late : RANGE_NS ≤ time_at b.anchor h = subst (λ (n : ℕ). RANGE_NS ≤ n) is.2 is.1 in
     rw (le-ltb h b.anchor.start is.0, le-leb RANGE_NS (time_at b.anchor h) late) (ap (λ (n : ℕ). Some (Range n)) (sym is.2))
 
--- reads of pages and of clocks
-pub page-read : (line page h : ℕ) (b : BoardParts) → HasTime b.anchor h → page_answer line page h b ≡ Goes (page_text line (page_reply b page h)) b
-page-read line page h b t = ap (λ (o : Option Refused). read_answer o line (page_text line (page_reply b page h)) b) (counted b h t)
+-- a read of a board, which is kept elsewhere as the same: at a count with a time it prints its text, and leaves its board
+module _ (text : BoardParts → List ℕ) (behind : BoardParts → BoardParts) (line h : ℕ) (r : Replay) where
+  abbrev pub read_of : BoardParts → Answer Replay Verdict
+  read_of b = with_board (read_answer (refused_count b h) line (text b) (behind b)) r
 
-pub page-refused : (line page h : ℕ) (b : BoardParts) (fault : TimeFault) → IsFaultAt b.anchor h fault → page_answer line page h b
-    ≡ Ends (stops line (refused_fault fault))
-page-refused line page h b fault is = ap (λ (o : Option Refused). read_answer o line (page_text line (page_reply b page h)) b) (faulted b h fault is)
+  module _ (b c : BoardParts) (same : b ≡ c) where
+    goes : HasTime b.anchor h → read_of c ≡ Goes (text b) (record r { board = behind b })
+    goes t = ap read_of (sym same) ∙ ap (λ (o : Option Refused). with_board (read_answer o line (text b) (behind b)) r) (counted b h t)
 
-pub clock-read : (line page h : ℕ) (b : BoardParts) → HasTime b.anchor h → clock_answer line page h b
-    ≡ Goes (clock_text line (clock_reply b page h)) (after_clock b page h)
-clock-read line page h b t = ap (λ (o : Option Refused). read_answer o line (clock_text line (clock_reply b page h)) (after_clock b page h)) (counted b h t)
+    pub read-printed : (out new : List ℕ) → HasTime b.anchor h → new ≡ out ++ text b → new ≡ out ++ printed (read_of c)
+    read-printed out new t is = is ∙ ap (λ (x : Answer Replay Verdict). out ++ printed x) (sym (goes t))
 
-pub clock-refused : (line page h : ℕ) (b : BoardParts) (fault : TimeFault) → IsFaultAt b.anchor h fault → clock_answer line page h b
-    ≡ Ends (stops line (refused_fault fault))
-clock-refused line page h b fault is = ap (λ (o : Option Refused). read_answer o line (clock_text line (clock_reply b page h)) (after_clock b page h))
-    (faulted b h fault is)
+    pub read-ends : (end : Option Verdict) → HasTime b.anchor h → end ≡ None → end ≡ end_of (read_of c)
+    read-ends end t is = is ∙ ap end_of (sym (goes t))
 
--- the edges of an access that is taken, and its line, are its block
-pub access-printed : (line cpu h : ℕ) (a : Access) (ds : List (Option Delivery)) (b : BoardParts) (r : Replay) (n : ℕ) (v : Value) (es : List Edge)
-    (out : List ℕ) → refusal_of b cpu h a ≡ None → n ≡ (after_access b cpu h a).accesses → v ≡ (reply_of b cpu h a).value
-    → es ≡ (reply_of b cpu h a).edges
-    → (out ++ edges_text ds es) ++ value_text line n v ≡ out ++ printed (with_board (board_answer line cpu h a ds b) r)
-access-printed line cpu h a ds b r n v es out taken number value edges =
-    let reply : Reply = reply_of b cpu h a in
-    let same : n ≡ reply.number = number ∙ after_access-accesses b cpu h a ∙ sym (reply_of-number b cpu h a) in
-    (λ i. (out ++ edges_text ds (edges i)) ++ value_text line (same i) (value i))
-    ∙ append_assoc out (edges_text ds reply.edges) (board_text line reply)
+    pub read-state : (after : BoardParts) → HasTime b.anchor h → after ≡ behind b → record r { board = after } ≡ state_behind (read_of c) r
+    read-state after t is = ap (λ (x : BoardParts). record r { board = x }) is ∙ ap (λ (x : Answer Replay Verdict). state_behind x r) (sym (goes t))
+
+    -- and at one without it is refused
+    stopped : (fault : TimeFault) → IsFaultAt b.anchor h fault → read_of c ≡ Ends (stops line (refused_fault fault))
+    stopped fault is = ap read_of (sym same) ∙ ap (λ (o : Option Refused). with_board (read_answer o line (text b) (behind b)) r) (faulted b h fault is)
+
+    module _ (res : Result (Unit {0}) NoMemory) (fault : TimeFault) (why : Refused) (is : IsFaultAt b.anchor h fault) (told : why ≡ refused_fault fault) where
+      pub refused-printed : (out new : List ℕ) → OnOk res (new ≡ out ++ refused_text line why) → OnOk res (new ≡ out ++ printed (read_of c))
+      refused-printed out new =
+          on_ok_weaker res (λ e. e ∙ ap (λ (w : Refused). out ++ refused_text line w) told ∙ ap (λ (x : Answer Replay Verdict). out ++ printed x) (sym (stopped fault is)))
+
+      pub refused-ends : (end : Option Verdict) → OnOk res (end ≡ Some (Stopped line why)) → OnOk res (end ≡ end_of (read_of c))
+      refused-ends end =
+          on_ok_weaker res (λ e. e ∙ ap (λ (w : Refused). Some (Stopped line w)) told ∙ ap end_of (sym (stopped fault is)))
+
+-- an access that is taken prints its block
+pub access-printed : (line cpu h : ℕ) (a : Access) (ds : Deliveries) (b : BoardParts) (r : Replay) (reply : Reply) (out : List ℕ)
+    → refusal_of b cpu h a ≡ None → reply ≡ reply_of b cpu h a
+    → (out ++ (edges_text ds reply.edges ++ messages_text ds reply.bursts)) ++ board_text line reply
+    ≡ out ++ printed (with_board (board_answer line cpu h a ds b) r)
+access-printed line cpu h a ds b r reply out taken is =
+    append_assoc out (edges_text ds reply.edges ++ messages_text ds reply.bursts) (board_text line reply)
+    ∙ ap (λ (x : Reply). out ++ block line ds x) is
     ∙ ap (λ (o : Option Refusal). out ++ printed (with_board (access_answer o line cpu h a ds b) r)) (sym taken)

@@ -2,6 +2,7 @@
 use Rattle.std.proofs.Common.{◌≡◌, ℕ, zero, suc, leb, cond, ◌+◌, Option, Some, refl, ap}
 use Rattle.clk_units.specs.declared.ranges.TheConstants.{RANGE_NS}
 use Rattle.board_types.specs.declared.parts.BoardParts.{BoardParts}
+use Rattle.board_core.specs.Hv.{hv_published_at_host}
 use Rattle.board_core.specs.Pages.{published_at_host, with_greatest}
 use Rattle.board_core.specs.Reanchor.{reanchored}
 use Rattle.board_core.specs.Tsc.{processor_at}
@@ -26,8 +27,8 @@ published-greatest b khz start gap (suc n) m g =
 
 pub moved_to-greatest : (khz start gap : ℕ) (b : BoardParts) (g : ℕ)
     → moved_to khz start gap (with_greatest b g) ≡ with_greatest (moved_to khz start gap b) g
-unfolding moved_to reanchored
-moved_to-greatest khz start gap b g = published-greatest b khz start gap b.cpus (reanchored khz start gap b) g
+unfolding moved_to reanchored hv_published_at_host
+moved_to-greatest khz start gap b g = ap hv_published_at_host (published-greatest b khz start gap b.cpus (reanchored khz start gap b) g)
 
 spent-greatest : (b : BoardParts) (g n : ℕ) → spent_below (with_greatest b g) n ≡ spent_below b n
 unfolding spent_below
@@ -37,4 +38,5 @@ spent-greatest b g (suc n) = ap (λ (o : Option MoveFault). or_spent o n (proces
 pub move_fault-greatest : (gap : ℕ) (b : BoardParts) (g : ℕ) → move_fault gap (with_greatest b g) ≡ move_fault gap b
 unfolding move_fault
 move_fault-greatest gap b g =
-    ap (λ (o : Option MoveFault). cond (leb RANGE_NS (now_of b + gap)) (Some (OutOfRange (now_of b + gap))) o) (spent-greatest b g b.cpus)
+    ap (λ (o : Option MoveFault). cond (leb RANGE_NS (now_of b + gap)) (Some (OutOfRange (now_of b + gap))) (or_spent o b.cpus b.hv.version))
+    (spent-greatest b g b.cpus)

@@ -28,7 +28,7 @@ use Rattle.trace_runner.specs.Check.{
   check,
 }
 use Rattle.trace_runner.specs.FileText.{file_text}
-use Rattle.trace_runner.specs.Race.{CheckedLeaves, RaceLeaves, CheckFails, AloneLeaves, check_run}
+use Rattle.trace_runner.specs.Race.{CheckedLeaves, RaceLeaves, AloneLeaves, check_run}
 use Rattle.trace_runner.specs.Replay.{replay}
 use Rattle.trace_runner.specs.Said.{Said, SaidAtMost}
 use Rattle.trace_runner.specs.Status.{verdict_status}

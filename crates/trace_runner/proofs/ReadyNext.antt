@@ -34,6 +34,7 @@ use Rattle.board_types.specs.declared.access.Access.TheVariants.{Step}
 use Rattle.board_types.specs.declared.parts.BoardParts.{BoardParts}
 use Rattle.board_types.specs.declared.reply.Refusal.{Refusal}
 use Rattle.board_types.specs.declared.reply.Reply.{Reply}
+use Rattle.board_core.specs.Hv.{hv_published_at_host}
 use Rattle.board_core.specs.Refusals.{refusal_of}
 use Rattle.board_core.specs.Access.{after_access, reply_of}
 use Rattle.board_core.specs.Pages.{after_clock, published_at_host}
@@ -42,7 +43,7 @@ use Rattle.board_core.proofs.Laws.{after_access-cpus, after_access-format}
 use Rattle.transfer.specs.Move.{move_fault, moved_to, published_below}
 use Rattle.transfer.specs.declared.outcome.MoveFault.{MoveFault}
 use Rattle.transfer.proofs.Publishing.{published_below-cpus}
-use Rattle.edge_hooks.specs.declared.deliveries.Delivery.{Delivery}
+use Rattle.race_phase.specs.declared.deliveries.Deliveries.{Deliveries}
 use Rattle.reply_text.specs.declared.ends.Refused.{Refused}
 use Rattle.trace_text.specs.Tokens.{words_of}
 use Rattle.trace_text.specs.Header.{first_line, header_line, cpus_of, format_of}
@@ -50,7 +51,6 @@ use Rattle.trace_text.specs.declared.header.Begin.{Begin}
 use Rattle.trace_text.specs.declared.header.Begin.TheVariants.{Fresh, Saved}
 use Rattle.trace_text.specs.Records.{record_of}
 use Rattle.trace_text.specs.Lines.{
-  limit_of,
   is_skipped,
   Step as Stepped,
   step_of,
@@ -72,7 +72,7 @@ use Rattle.trace_text.specs.declared.faults.RecordFault.{RecordFault}
 use Rattle.trace_text.specs.declared.header.Head.{Head}
 use Rattle.trace_text.specs.declared.records.Body.{Body}
 use Rattle.trace_text.specs.declared.records.Job.{Job}
-use Rattle.trace_text.specs.declared.records.Job.TheVariants.{Board, Page, Clock, Save, Move}
+use Rattle.trace_text.specs.declared.records.Job.TheVariants.{Board, Page, Clock, Hv, Save, Move}
 use Rattle.trace_text.specs.declared.records.Record.{Record}
 use Rattle.trace_text.specs.declared.reading.Item.{Item}
 use Rattle.trace_text.specs.declared.reading.Item.TheVariants.{Skipped, Part, Begun, Next, End}
@@ -85,7 +85,7 @@ use Rattle.trace_text.specs.declared.reading.Stage.TheVariants.{
   Ended,
   Refused as Stops,
 }
-use Rattle.trace_loop.specs.Progress.{Answer, Goes, Ends, end_of, state_behind}
+use Rattle.trace_loop.specs.Progress.{limit_of, Answer, Goes, Ends, end_of, state_behind}
 use Rattle.trace_runner.specs.Records.{
   access_answer,
   read_answer,
@@ -177,7 +177,7 @@ abbrev pub Same : BoardParts → Answer BoardParts Verdict → Type 0
 Same b (Goes text b') = (b'.cpus ≡ b.cpus) × (b'.format ≡ b.format)
 Same b (Ends closing) = Unit {0}
 
-same_access : (o : Option Refusal) (line cpu h : ℕ) (a : Access) (ds : List (Option Delivery)) (b : BoardParts) → Same b (access_answer o line cpu h a ds b)
+same_access : (o : Option Refusal) (line cpu h : ℕ) (a : Access) (ds : Deliveries) (b : BoardParts) → Same b (access_answer o line cpu h a ds b)
 same_access None line cpu h a ds b = (after_access-cpus b cpu h a, after_access-format b cpu h a)
 same_access (Some refusal) line cpu h a ds b = tt
 
@@ -186,7 +186,7 @@ same_read None line text b b' cpus format = (cpus, format)
 same_read (Some why) line text b b' cpus format = tt
 
 -- so do a save and a move
-same_save : (o : Option Refusal) (line cpu h : ℕ) (ds : List (Option Delivery)) (b : BoardParts) → Same b (saved_answer o line cpu h ds b)
+same_save : (o : Option Refusal) (line cpu h : ℕ) (ds : Deliveries) (b : BoardParts) → Same b (saved_answer o line cpu h ds b)
 same_save None line cpu h ds b = (after_access-cpus b cpu h Step, after_access-format b cpu h Step)
 same_save (Some refusal) line cpu h ds b = tt
 
@@ -196,30 +196,31 @@ published-format b khz start gap zero m = refl
 published-format b khz start gap (suc n) m = published-format b khz start gap n m
 
 pub moved-cpus : (khz start gap : ℕ) (b : BoardParts) → (moved_to khz start gap b).cpus ≡ b.cpus
-unfolding moved_to reanchored
+unfolding moved_to reanchored hv_published_at_host
 moved-cpus khz start gap b = published_below-cpus b khz start gap b.cpus (reanchored khz start gap b)
 
 moved-format : (khz start gap : ℕ) (b : BoardParts) → (moved_to khz start gap b).format ≡ b.format
-unfolding moved_to reanchored
+unfolding moved_to reanchored hv_published_at_host
 moved-format khz start gap b = published-format b khz start gap b.cpus (reanchored khz start gap b)
 
-same_gap : (o : Option MoveFault) (line khz start gap : ℕ) (ds : List (Option Delivery)) (reply : Reply) (b b' : BoardParts)
+same_gap : (o : Option MoveFault) (line khz start gap : ℕ) (ds : Deliveries) (reply : Reply) (b b' : BoardParts)
     → b'.cpus ≡ b.cpus → b'.format ≡ b.format → Same b (gap_answer o line khz start gap ds reply b')
 same_gap None line khz start gap ds reply b b' cpus format = (moved-cpus khz start gap b' ∙ cpus, moved-format khz start gap b' ∙ format)
 same_gap (Some fault) line khz start gap ds reply b b' cpus format = tt
 
-same_move : (o : Option Refusal) (line cpu h khz start gap : ℕ) (ds : List (Option Delivery)) (b : BoardParts)
+same_move : (o : Option Refusal) (line cpu h khz start gap : ℕ) (ds : Deliveries) (b : BoardParts)
     → Same b (moved_answer o line cpu h khz start gap ds b)
 same_move None line cpu h khz start gap ds b =
     same_gap (move_fault gap (after_access b cpu h Step)) line khz start gap ds (reply_of b cpu h Step) b (after_access b cpu h Step)
     (after_access-cpus b cpu h Step) (after_access-format b cpu h Step)
 same_move (Some refusal) line cpu h khz start gap ds b = tt
 
-pub same_job : (line cpu h : ℕ) (job : Job) (ds : List (Option Delivery)) (b : BoardParts) → Same b (job_answer line cpu h job ds b)
+pub same_job : (line cpu h : ℕ) (job : Job) (ds : Deliveries) (b : BoardParts) → Same b (job_answer line cpu h job ds b)
 unfolding after_clock
 same_job line cpu h (Board a) ds b = same_access (refusal_of b cpu h a) line cpu h a ds b
 same_job line cpu h (Page page) ds b = same_read _ line _ b b refl refl
 same_job line cpu h (Clock page) ds b = same_read _ line _ b (after_clock b page h) refl refl
+same_job line cpu h Hv ds b = same_read _ line _ b b refl refl
 same_job line cpu h Save ds b = same_save (refusal_of b cpu h Step) line cpu h ds b
 same_job line cpu h (Move khz start gap) ds b = same_move (refusal_of b cpu h Step) line cpu h khz start gap ds b
 

@@ -32,18 +32,20 @@ use Rattle.board_types.specs.declared.parts.BoardParts.{BoardParts}
 use Rattle.board_types.specs.declared.reply.Refusal.{Refusal}
 use Rattle.board_types.specs.declared.reply.Reply.{Reply}
 use Rattle.board_core.specs.Access.{after_access, reply_of}
+use Rattle.board_core.specs.Hv.{hv_reply}
+use Rattle.board_types.specs.declared.setup.TheConstants.{HV_FORMAT}
 use Rattle.board_core.specs.Pages.{page_reply, clock_reply, after_clock, with_greatest}
 use Rattle.board_core.specs.PowerOn.{board_at_power_on}
 use Rattle.board_core.specs.Refusals.{refusal_of}
 use Rattle.board_core.proofs.Laws.{after_access-greatest, refusal_of-greatest}
-use Rattle.edge_hooks.specs.declared.deliveries.Delivery.{Delivery}
-use Rattle.reply_text.specs.Text.{page_text, clock_text}
+use Rattle.race_phase.specs.declared.deliveries.Deliveries.{Deliveries}
+use Rattle.reply_text.specs.Text.{page_text, clock_text, hv_text}
 use Rattle.reply_text.specs.declared.ends.Refused.{Refused}
 use Rattle.transfer.specs.Move.{move_fault, moved_to}
 use Rattle.transfer.specs.declared.outcome.MoveFault.{MoveFault}
 use Rattle.trace_text.specs.declared.header.Header.{Header}
 use Rattle.trace_text.specs.declared.records.Job.{Job}
-use Rattle.trace_text.specs.declared.records.Job.TheVariants.{Board, Page, Clock, Save, Move}
+use Rattle.trace_text.specs.declared.records.Job.TheVariants.{Board, Page, Clock, Hv, Save, Move}
 use Rattle.trace_text.specs.declared.records.Record.{Record as Written}
 use Rattle.trace_loop.specs.Progress.{Answer, Goes, Ends}
 use Rattle.trace_runner.specs.Records.{
@@ -57,6 +59,7 @@ use Rattle.trace_runner.specs.Records.{
   board_answer,
   page_answer,
   clock_answer,
+  hv_answer,
   save_answer,
   move_answer,
   job_answer,
@@ -81,7 +84,7 @@ use Rattle.trace_runner.specs.Free.{IsPhase, after_phases, IsFree}
 use Rattle.trace_runner.specs.Sound.{IsSound}
 use Rattle.trace_runner.specs.Trace.{PhaseRead}
 use Rattle.race_phase.specs.declared.records.Call.{Call}
-use Rattle.race_phase.specs.declared.records.Call.TheVariants.{Act, ReadPage, ReadClock}
+use Rattle.race_phase.specs.declared.records.Call.TheVariants.{Act, ReadPage, ReadClock, ReadHv}
 use Rattle.race_phase.specs.declared.phases.End.{End}
 use Rattle.race_phase.specs.declared.phases.End.TheVariants.{
   Finish,
@@ -114,7 +117,7 @@ abbrev Goes_on : Option Fault → BoardParts → Answer BoardParts Verdict → T
 Goes_on fault next (Goes text b) = (fault ≡ None) × ((m : ℕ) × (b ≡ with_greatest next m))
 Goes_on fault next (Ends closing) = Unit {0}
 
-module _ (b : BoardParts) (g line cpu h : ℕ) (ds : List (Option Delivery)) where
+module _ (b : BoardParts) (g line cpu h : ℕ) (ds : Deliveries) where
   free : (a : Access) → refusal_of (with_greatest b g) cpu h a ≡ None → refusal_of b cpu h a ≡ None
   free a is = sym (refusal_of-greatest b cpu h g a) ∙ is
 
@@ -222,7 +225,7 @@ pub job_kept : (line : ℕ) (rec : Written) (job : Job) (s : Checking) → IsSou
     → JobSuits job s.replay.board → Keeps (kept_job line rec job) s (job_answer line rec.cpu rec.h job s.replay.deliveries s.replay.board)
 job_kept line rec job s sound few there suits = by_job job suits
   where
-    ds : List (Option Delivery)
+    ds : Deliveries
     ds = s.replay.deliveries
 
     cpu : rec.cpu < s.opening.cpus
@@ -252,6 +255,12 @@ job_kept line rec job s sound few there suits = by_job job suits
         (subst (λ (c : BoardParts). Goes_on (at_line line (by_count (time_fault (now s).anchor rec.h))) (now s) (clock_answer line page rec.h c))
         (sym sound.board)
         (clock_goes (now s) sound.greatest line rec.cpu rec.h s.replay.deliveries page))
+    by_job Hv has =
+        call_kept line rec ReadHv s _ sound cpu (subst (λ (n : ℕ). HV_FORMAT ≤ n) sound.format has) (same Hv)
+        (subst (λ (c : BoardParts). Goes_on (at_line line (by_count (time_fault (now s).anchor rec.h))) (now s) (hv_answer line rec.h c))
+        (sym sound.board)
+        (read_goes (now s) sound.greatest line rec.cpu rec.h s.replay.deliveries (refused_count (with_greatest (now s) sound.greatest) rec.h)
+        (hv_text line (hv_reply (with_greatest (now s) sound.greatest) rec.h)) sound.greatest refl))
     by_job Save suited =
         end_kept (BySave line rec.cpu rec.h) s _ sound few cpu (same Save)
         (subst (λ (c : BoardParts). Goes_on (end_fault (now s) (BySave line rec.cpu rec.h)) (next_board (BySave line rec.cpu rec.h) (now s))

@@ -36,17 +36,17 @@ use Rattle.board_types.specs.declared.access.Access.TheVariants.{Step}
 use Rattle.board_types.specs.declared.access.Access.{Access}
 use Rattle.board_types.specs.declared.parts.BoardParts.{BoardParts}
 use Rattle.board_types.specs.declared.reply.Refusal.{Refusal}
+use Rattle.board_core.specs.Hv.{hv_reply}
 use Rattle.board_core.specs.Access.{after_access, reply_of}
 use Rattle.board_core.specs.Pages.{page_reply, clock_reply, after_clock}
 use Rattle.board_core.specs.Refusals.{refusal_of}
-use Rattle.edge_hooks.specs.declared.deliveries.Delivery.{Delivery}
+use Rattle.race_phase.specs.declared.deliveries.Deliveries.{Deliveries}
 use Rattle.transfer.specs.Move.{move_fault}
 use Rattle.transfer.specs.declared.outcome.MoveFault.{MoveFault}
-use Rattle.reply_text.specs.Text.{page_text, clock_text}
+use Rattle.reply_text.specs.Text.{page_text, clock_text, hv_text}
 use Rattle.reply_text.specs.declared.ends.Refused.{Refused}
 use Rattle.trace_text.specs.Header.{first_line, header_line}
 use Rattle.trace_text.specs.Lines.{
-  limit_of as line_limit,
   is_skipped,
   Step as Stepped,
   step_of,
@@ -68,7 +68,6 @@ use Rattle.trace_text.specs.declared.faults.Reason.{Reason}
 use Rattle.trace_text.specs.declared.faults.Reason.TheVariants.{TooLong}
 use Rattle.trace_text.specs.declared.faults.RecordFault.{RecordFault}
 use Rattle.trace_text.specs.declared.header.Head.{Head}
-use Rattle.trace_text.specs.declared.header.Header.{Header}
 use Rattle.trace_text.specs.declared.reading.Item.{Item}
 use Rattle.trace_text.specs.declared.reading.Item.TheVariants.{Skipped, Part, Begun, Next, End}
 use Rattle.trace_text.specs.declared.reading.ReadingParts.{ReadingParts}
@@ -82,7 +81,7 @@ use Rattle.trace_text.specs.declared.reading.Stage.TheVariants.{
 }
 use Rattle.trace_text.specs.declared.records.Body.{Body}
 use Rattle.trace_text.specs.declared.records.Job.{Job}
-use Rattle.trace_text.specs.declared.records.Job.TheVariants.{Board, Page, Clock, Save, Move}
+use Rattle.trace_text.specs.declared.records.Job.TheVariants.{Board, Page, Clock, Hv, Save, Move}
 use Rattle.trace_text.specs.declared.records.Record.{Record as Written}
 use Rattle.trace_loop.specs.Progress.{
   limit_of,
@@ -111,32 +110,9 @@ use Rattle.race_phase.specs.declared.phases.End.TheVariants.{
   Move as ByMove,
 }
 use Rattle.race_phase.specs.declared.records.Call.{Call}
-use Rattle.race_phase.specs.declared.records.Call.TheVariants.{Act, ReadPage, ReadClock}
+use Rattle.race_phase.specs.declared.records.Call.TheVariants.{Act, ReadPage, ReadClock, ReadHv}
 use Rattle.race_phase.specs.declared.records.Record.{Record}
-use Rattle.trace_runner.specs.Check.{
-  check_start,
-  with_call,
-  with_end,
-  ended_by,
-  kept_job,
-  kept,
-  has_form,
-  is_full,
-  too_many,
-  refusal,
-  trace_of,
-  checked_by,
-  record_checked,
-  begun,
-  item_checked,
-  fault_checked,
-  taken_checked,
-  read_on,
-  check_answer,
-  check_closing,
-  check_behind,
-  check,
-}
+use Rattle.trace_runner.specs.Check.{check_start, with_call, with_end, has_form, is_full, too_many, refusal, checked_by, record_checked, item_checked, fault_checked, taken_checked, read_on, check_answer, check_closing, check_behind, check}
 use Rattle.trace_runner.specs.Checking.{Checking}
 use Rattle.trace_runner.specs.FileText.{answer_on, records_text, phase_text, phases_text, file_text}
 use Rattle.trace_runner.specs.Records.{
@@ -172,7 +148,7 @@ use Rattle.trace_runner.specs.declared.status.Verdict.TheVariants.{Done}
 use Rattle.trace_runner.proofs.Replayed.{replayed-record, replayed-end}
 
 -- one record more, and one phase more
-records_text-snoc : (ds : List (Option Delivery)) (b : BoardParts) (rs : List Record) (r : Record)
+records_text-snoc : (ds : Deliveries) (b : BoardParts) (rs : List Record) (r : Record)
     → records_text ds b (rs ++ r ∷ []) ≡ records_text ds b rs ++ block_of ds r.line (answer_on (records_behind b rs) r.cpu r.h r.call)
 records_text-snoc ds b [] r = append-nil _
 records_text-snoc ds b (x ∷ xs) r =
@@ -180,7 +156,7 @@ records_text-snoc ds b (x ∷ xs) r =
     let c : BoardParts = board_behind b x.cpu x.h x.call in
     ap (λ (l : List ℕ). front ++ l) (records_text-snoc ds c xs r) ∙ sym (append_assoc front (records_text ds c xs) _)
 
-phases_text-snoc : (ds : List (Option Delivery)) (b : BoardParts) (vs : List PhaseRead) (v : PhaseRead)
+phases_text-snoc : (ds : Deliveries) (b : BoardParts) (vs : List PhaseRead) (v : PhaseRead)
     → phases_text ds b (vs ++ v ∷ []) ≡ phases_text ds b vs ++ phase_text ds (replayed b vs []) v
 phases_text-snoc ds b [] v = append-nil _
 phases_text-snoc ds b (x ∷ xs) v =
@@ -192,13 +168,13 @@ replayed-last b [] rs = refl
 replayed-last b (v ∷ vs) rs = replayed-last (next_board v.end (records_behind b v.records)) vs rs
 
 -- what was kept prints this, and leaves this board
-abbrev text_of : List (Option Delivery) → BoardParts → List PhaseRead → List Record → List ℕ
+abbrev text_of : Deliveries → BoardParts → List PhaseRead → List Record → List ℕ
 text_of ds b vs rs = phases_text ds b vs ++ records_text ds (replayed b vs []) rs
 
 abbrev said : Checking → List ℕ
 said s = text_of s.replay.deliveries s.opening s.phases s.last
 
-text_of-record : (ds : List (Option Delivery)) (b : BoardParts) (vs : List PhaseRead) (rs : List Record) (r : Record)
+text_of-record : (ds : Deliveries) (b : BoardParts) (vs : List PhaseRead) (rs : List Record) (r : Record)
     → text_of ds b vs rs ++ block_of ds r.line (answer_on (replayed b vs rs) r.cpu r.h r.call) ≡ text_of ds b vs (rs ++ r ∷ [])
 text_of-record ds b vs rs r =
     let c : BoardParts = replayed b vs [] in
@@ -206,7 +182,7 @@ text_of-record ds b vs rs r =
     ∙ ap (λ (x : BoardParts). phases_text ds b vs ++ (records_text ds c rs ++ block_of ds r.line (answer_on x r.cpu r.h r.call))) (replayed-last b vs rs)
     ∙ ap (λ (l : List ℕ). phases_text ds b vs ++ l) (sym (records_text-snoc ds c rs r))
 
-text_of-end : (ds : List (Option Delivery)) (b : BoardParts) (vs : List PhaseRead) (rs : List Record) (end : PhaseEnd)
+text_of-end : (ds : Deliveries) (b : BoardParts) (vs : List PhaseRead) (rs : List Record) (end : PhaseEnd)
     → text_of ds b vs rs ++ end_text ds end (replayed b vs rs) ≡ phases_text ds b (vs ++ record { records = rs; end = end } ∷ [])
 text_of-end ds b vs rs end =
     let c : BoardParts = replayed b vs [] in
@@ -280,7 +256,7 @@ module _ (text line : List ℕ) where
 
   step_fresh : (s : Stage) → Fresh text s → FreshStep text (stepped s line)
   unfolding stepped
-  step_fresh s none = by_long (ltb (line_limit line) (length line))
+  step_fresh s none = by_long (ltb (limit_of line) (length line))
     where
       by_skip : (t : Bool) → FreshStep text (cond t (Ok (record { item = Skipped; stage = s })) (step_of s line))
       by_skip true = none
@@ -328,7 +304,7 @@ module _ (line cpu h : ℕ) (s : Checking) (board : s.replay.board ≡ replayed 
   abbrev b : BoardParts
   b = s.replay.board
 
-  abbrev ds : List (Option Delivery)
+  abbrev ds : Deliveries
   ds = s.replay.deliveries
 
   abbrev on : BoardParts → Checking
@@ -383,6 +359,11 @@ module _ (line cpu h : ℕ) (s : Checking) (board : s.replay.board ≡ replayed 
   clock_so page None = goes_call (Clock page) (ReadClock page) _ (after_clock b page h) refl refl
   clock_so page (Some why) = tt
 
+  hv_so : (o : Option Refused) → So Hv (read_answer o line (hv_text line (hv_reply b h)) b)
+  unfolding block_of
+  hv_so None = goes_call Hv ReadHv _ b refl refl
+  hv_so (Some why) = tt
+
   save_so : (o : Option Refusal) → So Save (saved_answer o line cpu h ds b)
   save_so None = goes_end (BySave line cpu h) _ (after_access b cpu h Step) refl refl
   save_so (Some refusal) = tt
@@ -400,6 +381,7 @@ module _ (line cpu h : ℕ) (s : Checking) (board : s.replay.board ≡ replayed 
   job_so (Board a) = access_so a (refusal_of b cpu h a)
   job_so (Page page) = page_so page (refused_count b h)
   job_so (Clock page) = clock_so page (refused_count b h)
+  job_so Hv = hv_so (refused_count b h)
   job_so Save = save_so (refusal_of b cpu h Step)
   job_so (Move khz start gap) = move_so khz start gap (refusal_of b cpu h Step)
 

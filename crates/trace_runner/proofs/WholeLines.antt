@@ -42,14 +42,18 @@ use Rattle.board_devices.specs.Lines.{levels}
 use Rattle.board_core.specs.Time.{devices_in, now_of}
 use Rattle.board_core.specs.Access.{after_access, reply_of}
 use Rattle.board_core.specs.Refusals.{refusal_of}
+use Rattle.board_core.specs.Hv.{hv_reply}
 use Rattle.board_core.specs.Pages.{page_reply, clock_reply, after_clock}
+use Rattle.hv_page.specs.Page.{tsc_sequence}
+use Rattle.hv_page.specs.declared.page.HvReply.{HvReply}
+use Rattle.hv_page.specs.declared.page.HvReply.TheVariants.{Off as HvOff, On as HvOn}
 use Rattle.irq_edges.specs.Lines.{line_numbers}
-use Rattle.edge_hooks.specs.declared.deliveries.Delivery.{Delivery}
+use Rattle.race_phase.specs.declared.deliveries.Deliveries.{Deliveries}
 use Rattle.pvclock_page.specs.declared.page.PageReply.{PageReply}
 use Rattle.pvclock_page.specs.declared.page.PageReply.TheVariants.{Off as PageOff, On as PageOn}
 use Rattle.pvclock_page.specs.declared.page.ClockReply.{ClockReply}
 use Rattle.pvclock_page.specs.declared.page.ClockReply.TheVariants.{Off as ClockOff, On as ClockOn}
-use Rattle.transfer.specs.Move.{move_fault, moved_to}
+use Rattle.transfer.specs.Move.{gap_bursts, move_fault, moved_to}
 use Rattle.transfer.specs.declared.outcome.MoveFault.{MoveFault}
 use Rattle.save_state.specs.Writing.{bytes_of}
 use Rattle.reply_text.specs.Words.{hex_text, hexes, line_of, spaced}
@@ -58,6 +62,7 @@ use Rattle.reply_text.specs.Text.{
   board_text,
   page_text,
   clock_text,
+  hv_text,
   save_text,
   move_text,
   final_text,
@@ -74,9 +79,9 @@ use Rattle.trace_text.specs.declared.faults.RecordFault.{RecordFault}
 use Rattle.trace_text.specs.declared.reading.Item.{Item}
 use Rattle.trace_text.specs.declared.reading.Item.TheVariants.{Skipped, Part, Begun, Next, End}
 use Rattle.trace_text.specs.declared.records.Job.{Job}
-use Rattle.trace_text.specs.declared.records.Job.TheVariants.{Board, Page, Clock, Save, Move}
+use Rattle.trace_text.specs.declared.records.Job.TheVariants.{Board, Page, Clock, Hv, Save, Move}
 use Rattle.trace_loop.specs.Progress.{limit_of, Answer, Goes, Ends, Progress, printed, opened, told, answered, checked, heard, heard_until, behind}
-use Rattle.race_phase.specs.Blocks.{edges_text}
+use Rattle.race_phase.specs.Blocks.{edges_text, messages_text}
 use Rattle.trace_runner.specs.Records.{
   refused_by,
   refused_access,
@@ -139,6 +144,12 @@ unfolding clock_text
 clock_ends line ClockOff = line_ends (decimal line) (codes "clock" ∷ codes "off" ∷ [])
 clock_ends line (ClockOn reading clock) = line_ends (decimal line) (codes "clock" ∷ decimal reading ∷ decimal clock ∷ [])
 
+hv_ends : (line : ℕ) (reply : HvReply) → EndsLine (hv_text line reply)
+unfolding hv_text
+hv_ends line HvOff = line_ends (decimal line) (codes "hv" ∷ codes "off" ∷ [])
+hv_ends line (HvOn page reading) =
+    line_ends (decimal line) (codes "hv" ∷ decimal (tsc_sequence page) ∷ decimal page.scale ∷ decimal page.offset ∷ decimal reading ∷ [])
+
 save_ends : (line number : ℕ) (bytes : List ℕ) → EndsLine (save_text line number bytes)
 unfolding save_text
 save_ends line number bytes = line_ends (decimal line) (decimal number ∷ codes "state" ∷ hexes bytes ∷ [])
@@ -162,46 +173,48 @@ final_ends b =
     (decimal (now_of b) ∷ decimal b.accesses ∷ decimal b.greatest ∷ up_word (up_numbers line_numbers (levels (devices_in b))) ∷ [])
 
 -- each answer
-access_whole : (o : Option Refusal) (line cpu h : ℕ) (a : Access) (ds : List (Option Delivery)) (b : BoardParts)
+access_whole : (o : Option Refusal) (line cpu h : ℕ) (a : Access) (ds : Deliveries) (b : BoardParts)
     → IsWholeLines (printed (access_answer o line cpu h a ds b))
 access_whole (Some refusal) line cpu h a ds b = inr (refused_ends line (refused_access refusal))
 access_whole None line cpu h a ds b =
     let reply : Reply = reply_of b cpu h a in
-    inr (ends_behind (edges_text ds reply.edges) (board_text line reply) (board_ends line reply))
+    inr (ends_behind (edges_text ds reply.edges ++ messages_text ds reply.bursts) (board_text line reply) (board_ends line reply))
 
 read_whole : (o : Option Refused) (line : ℕ) (text : List ℕ) (b : BoardParts) → EndsLine text → IsWholeLines (printed (read_answer o line text b))
 read_whole (Some why) line text b ends = inr (refused_ends line why)
 read_whole None line text b ends = inr ends
 
-saved_whole : (o : Option Refusal) (line cpu h : ℕ) (ds : List (Option Delivery)) (b : BoardParts)
+saved_whole : (o : Option Refusal) (line cpu h : ℕ) (ds : Deliveries) (b : BoardParts)
     → IsWholeLines (printed (saved_answer o line cpu h ds b))
 saved_whole (Some refusal) line cpu h ds b = inr (refused_ends line (refused_access refusal))
 saved_whole None line cpu h ds b =
     let reply : Reply = reply_of b cpu h Step in
     let bytes : List ℕ = bytes_of (after_access b cpu h Step) in
-    inr (ends_behind (edges_text ds reply.edges) (save_text line reply.number bytes) (save_ends line reply.number bytes))
+    inr (ends_behind (edges_text ds reply.edges ++ messages_text ds reply.bursts) (save_text line reply.number bytes) (save_ends line reply.number bytes))
 
-gap_whole : (o : Option MoveFault) (line khz start gap : ℕ) (ds : List (Option Delivery)) (reply : Reply) (b : BoardParts)
+gap_whole : (o : Option MoveFault) (line khz start gap : ℕ) (ds : Deliveries) (reply : Reply) (b : BoardParts)
     → IsWholeLines (printed (gap_answer o line khz start gap ds reply b))
 gap_whole (Some fault) line khz start gap ds reply b = inr (refused_ends line (refused_move fault))
 gap_whole None line khz start gap ds reply b =
     let time : ℕ = now_of (moved_to khz start gap b) in
-    inr (ends_behind (edges_text ds reply.edges ++ edges_text ds (run (now_of b) gap (devices_in b)).edges) (move_text line reply.number time)
+    let edges : List ℕ = edges_text ds reply.edges ++ edges_text ds (run (now_of b) gap (devices_in b)).edges in
+    inr (ends_behind (edges ++ messages_text ds reply.bursts ++ messages_text ds (gap_bursts gap b)) (move_text line reply.number time)
     (move_ends line reply.number time))
 
-moved_whole : (o : Option Refusal) (line cpu h khz start gap : ℕ) (ds : List (Option Delivery)) (b : BoardParts)
+moved_whole : (o : Option Refusal) (line cpu h khz start gap : ℕ) (ds : Deliveries) (b : BoardParts)
     → IsWholeLines (printed (moved_answer o line cpu h khz start gap ds b))
 moved_whole (Some refusal) line cpu h khz start gap ds b = inr (refused_ends line (refused_access refusal))
 moved_whole None line cpu h khz start gap ds b =
     gap_whole (move_fault gap (after_access b cpu h Step)) line khz start gap ds (reply_of b cpu h Step) (after_access b cpu h Step)
 
-job_whole : (line cpu h : ℕ) (job : Job) (ds : List (Option Delivery)) (b : BoardParts) → IsWholeLines (printed (job_answer line cpu h job ds b))
+job_whole : (line cpu h : ℕ) (job : Job) (ds : Deliveries) (b : BoardParts) → IsWholeLines (printed (job_answer line cpu h job ds b))
 job_whole line cpu h (Board a) ds b = access_whole (refusal_of b cpu h a) line cpu h a ds b
 job_whole line cpu h (Page page) ds b =
     read_whole (records.refused_count b h) line (page_text line (page_reply b page h)) b (page_ends line (page_reply b page h))
 job_whole line cpu h (Clock page) ds b =
     read_whole (records.refused_count b h) line (clock_text line (clock_reply b page h)) (after_clock b page h)
     (clock_ends line (clock_reply b page h))
+job_whole line cpu h Hv ds b = read_whole (records.refused_count b h) line (hv_text line (hv_reply b h)) b (hv_ends line (hv_reply b h))
 job_whole line cpu h Save ds b = saved_whole (refusal_of b cpu h Step) line cpu h ds b
 job_whole line cpu h (Move khz start gap) ds b = moved_whole (refusal_of b cpu h Step) line cpu h khz start gap ds b
 

@@ -27,7 +27,7 @@ use Rattle.trace_text.specs.declared.faults.RecordFault.{RecordFault}
 use Rattle.trace_text.specs.declared.header.Header.{Header}
 use Rattle.trace_text.specs.declared.reading.Item.{Item}
 use Rattle.trace_text.specs.declared.reading.Item.TheVariants.{Skipped, Part, Begun, Next, End}
-use Rattle.trace_text.specs.declared.records.Job.TheVariants.{Board, Page, Clock, Save, Move}
+use Rattle.trace_text.specs.declared.records.Job.TheVariants.{Board, Page, Clock, Hv, Save, Move}
 use Rattle.trace_text.specs.declared.records.Job.{Job}
 use Rattle.trace_text.specs.declared.records.Record.{Record as Written}
 use Rattle.trace_loop.specs.Progress.{
@@ -48,7 +48,7 @@ use Rattle.trace_runner.specs.Checking.{Checking}
 use Rattle.trace_runner.specs.Sound.{IsSound}
 use Rattle.trace_runner.specs.Trace.{PhaseRead, TraceRead}
 use Rattle.race_phase.specs.declared.records.Call.{Call}
-use Rattle.race_phase.specs.declared.records.Call.TheVariants.{Act, ReadPage, ReadClock}
+use Rattle.race_phase.specs.declared.records.Call.TheVariants.{Act, ReadPage, ReadClock, ReadHv}
 use Rattle.race_phase.specs.declared.phases.End.{End as PhaseEnd}
 use Rattle.race_phase.specs.declared.phases.End.TheVariants.{
   Finish,
@@ -98,6 +98,7 @@ abbrev pub kept_job : ℕ → Written → Job → Checking → Checking
 kept_job line rec (Board access) s = with_call line rec (Act access) s
 kept_job line rec (Page page) s = with_call line rec (ReadPage page) s
 kept_job line rec (Clock page) s = with_call line rec (ReadClock page) s
+kept_job line rec Hv s = with_call line rec ReadHv s
 kept_job line rec Save s = with_end (BySave line rec.cpu rec.h) s
 kept_job line rec (Move khz start gap) s =
     with_end (ByMove line rec.cpu rec.h (record { khz = khz; start = start; gap = gap })) s
@@ -147,7 +148,7 @@ abbrev pub begun : Header → Checking → Checking
 begun header s = record {
   replay = record s.replay {
     board = board_of header.begin;
-    deliveries = deliveries_of header.routes;
+    deliveries = deliveries_of (board_of header.begin).cpus header.routes;
   };
   opening = board_of header.begin;
   phases = [];

@@ -1,4 +1,4 @@
--- Where the rises of lines go, by the routes of a header.
+-- Who gets interrupts, by the routes of a header.
 use Rattle.std.specs.Prelude.{
   ℕ,
   ◌+◌,
@@ -19,6 +19,7 @@ use Rattle.std.specs.Prelude.{
 }
 use Rattle.irq_edges.specs.Lines.{line_numbers}
 use Rattle.edge_hooks.specs.declared.deliveries.Delivery.{Delivery}
+use Rattle.race_phase.specs.declared.deliveries.Deliveries.{Deliveries}
 
 -- whether the line at a place has a route, and whether any line has one
 abbrev pub there : ℕ → List (Option Delivery) → Bool
@@ -42,6 +43,10 @@ filled any place routes =
 abbrev pub six : List ℕ
 six = 0 ∷ 1 ∷ 2 ∷ 3 ∷ 4 ∷ 5 ∷ []
 
--- who gets the rises of all lines, by the routes of a header
-unfoldable pub deliveries_of : List (Option Delivery) → List (Option Delivery)
-deliveries_of routes = map (λ place. filled (any_route routes) place routes) six
+-- who gets the rises of all lines, by the routes of a header, and the messages, where there are so
+-- many processors
+unfoldable pub deliveries_of : ℕ → List (Option Delivery) → Deliveries
+deliveries_of cpus routes = record {
+  cpus = cpus;
+  lines = map (λ place. filled (any_route routes) place routes) six;
+}

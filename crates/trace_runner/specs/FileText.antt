@@ -1,15 +1,16 @@
 -- What the records of a trace print that is answered in file order, by one thread.
-use Rattle.std.specs.Prelude.{ℕ, List, [], ◌∷◌, ◌++◌, Option}
+use Rattle.std.specs.Prelude.{ℕ, List, [], ◌∷◌, ◌++◌}
 use Rattle.board_types.specs.declared.parts.BoardParts.{BoardParts}
 use Rattle.board_core.specs.Access.{reply_of}
 use Rattle.board_core.specs.Pages.{page_reply, clock_reply}
-use Rattle.edge_hooks.specs.declared.deliveries.Delivery.{Delivery}
+use Rattle.board_core.specs.Hv.{hv_reply}
+use Rattle.race_phase.specs.declared.deliveries.Deliveries.{Deliveries}
 use Rattle.race_phase.specs.Blocks.{block_of}
 use Rattle.race_phase.specs.Phases.{next_board, end_text}
 use Rattle.race_phase.specs.declared.records.Answer.{Answer}
-use Rattle.race_phase.specs.declared.records.Answer.TheVariants.{Acted, PageIs, ClockIs}
+use Rattle.race_phase.specs.declared.records.Answer.TheVariants.{Acted, PageIs, ClockIs, HvIs}
 use Rattle.race_phase.specs.declared.records.Call.{Call}
-use Rattle.race_phase.specs.declared.records.Call.TheVariants.{Act, ReadPage, ReadClock}
+use Rattle.race_phase.specs.declared.records.Call.TheVariants.{Act, ReadPage, ReadClock, ReadHv}
 use Rattle.race_phase.specs.declared.records.Record.{Record}
 use Rattle.trace_runner.specs.Replay.{ended}
 use Rattle.trace_runner.specs.Replayed.{board_behind, records_behind, replayed}
@@ -20,19 +21,20 @@ abbrev pub answer_on : BoardParts → ℕ → ℕ → Call → Answer
 answer_on b cpu h (Act a) = Acted (reply_of b cpu h a)
 answer_on b cpu h (ReadPage page) = PageIs (page_reply b page h)
 answer_on b cpu h (ReadClock page) = ClockIs (clock_reply b page h)
+answer_on b cpu h ReadHv = HvIs (hv_reply b h)
 
 -- the blocks of records, one behind another
-abbrev pub records_text : List (Option Delivery) → BoardParts → List Record → List ℕ
+abbrev pub records_text : Deliveries → BoardParts → List Record → List ℕ
 records_text ds b [] = []
 records_text ds b (r ∷ rs) =
     block_of ds r.line (answer_on b r.cpu r.h r.call)
     ++ records_text ds (board_behind b r.cpu r.h r.call) rs
 
 -- of a phase, with what ends it; and of phases
-abbrev pub phase_text : List (Option Delivery) → BoardParts → PhaseRead → List ℕ
+abbrev pub phase_text : Deliveries → BoardParts → PhaseRead → List ℕ
 phase_text ds b v = records_text ds b v.records ++ end_text ds v.end (records_behind b v.records)
 
-abbrev pub phases_text : List (Option Delivery) → BoardParts → List PhaseRead → List ℕ
+abbrev pub phases_text : Deliveries → BoardParts → List PhaseRead → List ℕ
 phases_text ds b [] = []
 phases_text ds b (v ∷ vs) =
     phase_text ds b v ++ phases_text ds (next_board v.end (records_behind b v.records)) vs

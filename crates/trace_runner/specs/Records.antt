@@ -20,7 +20,8 @@ use Rattle.board_types.specs.declared.reply.Refusal.TheVariants.{
 use Rattle.board_core.specs.Access.{after_access, reply_of}
 use Rattle.board_core.specs.Refusals.{refusal_of}
 use Rattle.board_core.specs.Pages.{page_reply, clock_reply, after_clock}
-use Rattle.edge_hooks.specs.declared.deliveries.Delivery.{Delivery}
+use Rattle.board_core.specs.Hv.{hv_reply}
+use Rattle.race_phase.specs.declared.deliveries.Deliveries.{Deliveries}
 use Rattle.race_phase.specs.Order.{time_fault}
 use Rattle.transfer.specs.Move.{move_fault, moved_to}
 use Rattle.transfer.specs.declared.outcome.MoveFault.{MoveFault}
@@ -28,7 +29,7 @@ use Rattle.transfer.specs.declared.outcome.MoveFault.TheVariants.{
   OutOfRange as GapOutOfRange,
   VersionsSpent as PageSpent,
 }
-use Rattle.reply_text.specs.Text.{board_text, page_text, clock_text, refused_text}
+use Rattle.reply_text.specs.Text.{board_text, page_text, clock_text, hv_text, refused_text}
 use Rattle.reply_text.specs.declared.ends.Refused.{Refused}
 use Rattle.reply_text.specs.declared.ends.Refused.TheVariants.{
   Form,
@@ -55,9 +56,9 @@ use Rattle.trace_text.specs.declared.faults.Reason.TheVariants.{
   NoEnd as EndsEarly,
 }
 use Rattle.trace_text.specs.declared.records.Job.{Job}
-use Rattle.trace_text.specs.declared.records.Job.TheVariants.{Board, Page, Clock, Save, Move}
+use Rattle.trace_text.specs.declared.records.Job.TheVariants.{Board, Page, Clock, Hv, Save, Move}
 use Rattle.trace_loop.specs.Progress.{Closing, Answer, Goes, Ends}
-use Rattle.race_phase.specs.Blocks.{edges_text}
+use Rattle.race_phase.specs.Blocks.{edges_text, messages_text}
 use Rattle.race_phase.specs.Phases.{save_block, move_block}
 use Rattle.trace_runner.specs.declared.status.Verdict.{Verdict}
 use Rattle.trace_runner.specs.declared.status.Verdict.TheVariants.{Stopped}
@@ -93,22 +94,23 @@ refused_count b h = option_map refused_fault (time_fault b.anchor h)
 abbrev pub stops : ℕ → Refused → Closing Verdict
 stops line why = record { text = refused_text line why; end = Stopped line why }
 
--- the block of an access: its edges in order, and its reply
-abbrev pub block : ℕ → List (Option Delivery) → Reply → List ℕ
-block line ds reply = edges_text ds reply.edges ++ board_text line reply
+-- the block of an access: its edges and its messages in order, and its reply
+abbrev pub block : ℕ → Deliveries → Reply → List ℕ
+block line ds reply =
+    edges_text ds reply.edges ++ messages_text ds reply.bursts ++ board_text line reply
 
 -- an access to the board
-abbrev pub access_answer : Option Refusal → ℕ → ℕ → ℕ → Access → List (Option Delivery)
+abbrev pub access_answer : Option Refusal → ℕ → ℕ → ℕ → Access → Deliveries
     → BoardParts → Answer BoardParts Verdict
 access_answer (Some refusal) line cpu h a ds b = Ends (stops line (refused_access refusal))
 access_answer None line cpu h a ds b =
     Goes (block line ds (reply_of b cpu h a)) (after_access b cpu h a)
 
-abbrev pub board_answer : ℕ → ℕ → ℕ → Access → List (Option Delivery) → BoardParts
+abbrev pub board_answer : ℕ → ℕ → ℕ → Access → Deliveries → BoardParts
     → Answer BoardParts Verdict
 board_answer line cpu h a ds b = access_answer (refusal_of b cpu h a) line cpu h a ds b
 
--- a read of a page changes nothing
+-- a read of a page of a processor changes nothing
 abbrev pub read_answer : Option Refused → ℕ → List ℕ → BoardParts → Answer BoardParts Verdict
 read_answer (Some why) line text b = Ends (stops line why)
 read_answer None line text b = Goes text b
@@ -123,15 +125,19 @@ clock_answer line page h b =
     read_answer (refused_count b h) line (clock_text line (clock_reply b page h))
     (after_clock b page h)
 
+-- a read of the reference page changes nothing
+abbrev pub hv_answer : ℕ → ℕ → BoardParts → Answer BoardParts Verdict
+hv_answer line h b = read_answer (refused_count b h) line (hv_text line (hv_reply b h)) b
+
 -- a save: time passes by an access, and the state behind it is printed
-abbrev pub saved_answer : Option Refusal → ℕ → ℕ → ℕ → List (Option Delivery) → BoardParts
+abbrev pub saved_answer : Option Refusal → ℕ → ℕ → ℕ → Deliveries → BoardParts
     → Answer BoardParts Verdict
 saved_answer (Some refusal) line cpu h ds b = Ends (stops line (refused_access refusal))
 saved_answer None line cpu h ds b =
     Goes (save_block ds line (reply_of b cpu h Step) (after_access b cpu h Step))
     (after_access b cpu h Step)
 
-abbrev pub save_answer : ℕ → ℕ → ℕ → List (Option Delivery) → BoardParts
+abbrev pub save_answer : ℕ → ℕ → ℕ → Deliveries → BoardParts
     → Answer BoardParts Verdict
 save_answer line cpu h ds b = saved_answer (refusal_of b cpu h Step) line cpu h ds b
 
@@ -142,13 +148,13 @@ refused_move (PageSpent cpu version) = Versions version
 
 -- a move: time passes by an access, which gave this reply; then the board runs over the gap and
 -- goes on at the new host
-abbrev pub gap_answer : Option MoveFault → ℕ → ℕ → ℕ → ℕ → List (Option Delivery) → Reply
+abbrev pub gap_answer : Option MoveFault → ℕ → ℕ → ℕ → ℕ → Deliveries → Reply
     → BoardParts → Answer BoardParts Verdict
 gap_answer (Some fault) line khz start gap ds reply b = Ends (stops line (refused_move fault))
 gap_answer None line khz start gap ds reply b =
     Goes (move_block ds line gap reply b (moved_to khz start gap b)) (moved_to khz start gap b)
 
-abbrev pub moved_answer : Option Refusal → ℕ → ℕ → ℕ → ℕ → ℕ → ℕ → List (Option Delivery)
+abbrev pub moved_answer : Option Refusal → ℕ → ℕ → ℕ → ℕ → ℕ → ℕ → Deliveries
     → BoardParts → Answer BoardParts Verdict
 moved_answer (Some refusal) line cpu h khz start gap ds b =
     Ends (stops line (refused_access refusal))
@@ -156,16 +162,17 @@ moved_answer None line cpu h khz start gap ds b =
     gap_answer (move_fault gap (after_access b cpu h Step)) line khz start gap ds
     (reply_of b cpu h Step) (after_access b cpu h Step)
 
-abbrev pub move_answer : ℕ → ℕ → ℕ → ℕ → ℕ → ℕ → List (Option Delivery) → BoardParts
+abbrev pub move_answer : ℕ → ℕ → ℕ → ℕ → ℕ → ℕ → Deliveries → BoardParts
     → Answer BoardParts Verdict
 move_answer line cpu h khz start gap ds b =
     moved_answer (refusal_of b cpu h Step) line cpu h khz start gap ds b
 
 -- a record, by what it does
-abbrev pub job_answer : ℕ → ℕ → ℕ → Job → List (Option Delivery) → BoardParts
+abbrev pub job_answer : ℕ → ℕ → ℕ → Job → Deliveries → BoardParts
     → Answer BoardParts Verdict
 job_answer line cpu h (Board a) ds b = board_answer line cpu h a ds b
 job_answer line cpu h (Page page) ds b = page_answer line page h b
 job_answer line cpu h (Clock page) ds b = clock_answer line page h b
+job_answer line cpu h Hv ds b = hv_answer line h b
 job_answer line cpu h Save ds b = save_answer line cpu h ds b
 job_answer line cpu h (Move khz start gap) ds b = move_answer line cpu h khz start gap ds b

@@ -39,6 +39,7 @@ use Rattle.trace_loop.specs.Progress.{
   finished,
 }
 use Rattle.trace_loop.specs.Outcome.{Run}
+use Rattle.race_phase.specs.declared.deliveries.Deliveries.{Deliveries}
 use Rattle.trace_runner.specs.Deliveries.{deliveries_of}
 use Rattle.trace_runner.specs.Records.{refused_by, stops, job_answer}
 use Rattle.trace_runner.specs.declared.replay.Replay.{Replay}
@@ -54,12 +55,15 @@ board_of (Saved board) = board
 abbrev pub opening : Setup
 opening = setup_by_default 1
 
+abbrev pub no_routes : Deliveries
+no_routes = record { cpus = opening.cpus; lines = replicate 6 None }
+
 abbrev pub at_start : Bool → Replay
 at_start shows_state = record {
   reading = reading_at_start;
   shows_state = shows_state;
   board = board_at_power_on opening;
-  deliveries = replicate 6 None;
+  deliveries = no_routes;
 }
 
 -- the line that ends a trace: the time, the accesses, the greatest clock reading, the lines that
@@ -89,7 +93,7 @@ item_answer line Skipped r = Goes [] r
 item_answer line Part r = Goes [] r
 item_answer line (Begun header) r = Goes [] (record r {
   board = board_of header.begin;
-  deliveries = deliveries_of header.routes;
+  deliveries = deliveries_of (board_of header.begin).cpus header.routes;
 })
 item_answer line (Next rec) r = record_answer line rec r
 item_answer line End r = Ends (ended r.shows_state r.board)

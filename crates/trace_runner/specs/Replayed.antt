@@ -11,10 +11,10 @@ use Rattle.transfer.specs.Move.{move_fault, moved_to}
 use Rattle.transfer.specs.declared.outcome.MoveFault.{MoveFault}
 use Rattle.reply_text.specs.declared.ends.Refused.{Refused}
 use Rattle.trace_text.specs.declared.records.Job.{Job}
-use Rattle.trace_text.specs.declared.records.Job.TheVariants.{Board, Page, Clock, Save, Move}
+use Rattle.trace_text.specs.declared.records.Job.TheVariants.{Board, Page, Clock, Hv, Save, Move}
 use Rattle.race_phase.specs.Phases.{next_board}
 use Rattle.race_phase.specs.declared.records.Call.{Call}
-use Rattle.race_phase.specs.declared.records.Call.TheVariants.{Act, ReadPage, ReadClock}
+use Rattle.race_phase.specs.declared.records.Call.TheVariants.{Act, ReadPage, ReadClock, ReadHv}
 use Rattle.race_phase.specs.declared.records.Record.{Record}
 use Rattle.trace_runner.specs.Checking.{Checking}
 use Rattle.trace_runner.specs.Records.{refused_access, refused_count, refused_move}
@@ -25,6 +25,7 @@ abbrev pub board_behind : BoardParts → ℕ → ℕ → Call → BoardParts
 board_behind b cpu h (Act a) = after_access b cpu h a
 board_behind b cpu h (ReadPage page) = b
 board_behind b cpu h (ReadClock page) = after_clock b page h
+board_behind b cpu h ReadHv = b
 
 abbrev pub records_behind : BoardParts → List Record → BoardParts
 records_behind b [] = b
@@ -44,6 +45,7 @@ abbrev pub job_behind : ℕ → ℕ → Job → BoardParts → BoardParts
 job_behind cpu h (Board a) b = after_access b cpu h a
 job_behind cpu h (Page page) b = b
 job_behind cpu h (Clock page) b = after_clock b page h
+job_behind cpu h Hv b = b
 job_behind cpu h Save b = after_access b cpu h Step
 job_behind cpu h (Move khz start gap) b = moved_to khz start gap (after_access b cpu h Step)
 
@@ -52,6 +54,7 @@ abbrev pub TakesCall : BoardParts → ℕ → ℕ → Call → Type 0
 TakesCall b cpu h (Act a) = refusal_of b cpu h a ≡ None
 TakesCall b cpu h (ReadPage page) = Unit {0}
 TakesCall b cpu h (ReadClock page) = Unit {0}
+TakesCall b cpu h ReadHv = Unit {0}
 
 -- why a record is refused
 abbrev pub by_refusal : Option Refusal → Option Refused
@@ -74,5 +77,6 @@ abbrev pub refused_job : ℕ → ℕ → Job → BoardParts → Option Refused
 refused_job cpu h (Board a) b = by_refusal (refusal_of b cpu h a)
 refused_job cpu h (Page page) b = refused_count b h
 refused_job cpu h (Clock page) b = refused_count b h
+refused_job cpu h Hv b = refused_count b h
 refused_job cpu h Save b = by_refusal (refusal_of b cpu h Step)
 refused_job cpu h (Move khz start gap) b = refused_gap cpu h gap b

@@ -1,7 +1,7 @@
 -- A trace that was read whole.
-use Rattle.std.specs.Prelude.{Bool, List, Option, map}
+use Rattle.std.specs.Prelude.{Bool, List, map}
 use Rattle.board_types.specs.declared.parts.BoardParts.{BoardParts}
-use Rattle.edge_hooks.specs.declared.deliveries.Delivery.{Delivery}
+use Rattle.race_phase.specs.declared.deliveries.Deliveries.{Deliveries}
 use Rattle.race_phase.specs.declared.phases.End.{End}
 use Rattle.race_phase.specs.declared.phases.Phase.{Phase}
 use Rattle.race_phase.specs.declared.records.Record.{Record}
@@ -22,6 +22,6 @@ phases_read vs = map phase_read vs
 -- the board's state is shown at its end
 pub record TraceRead : Type 0 where
   pub opening : BoardParts
-  pub deliveries : List (Option Delivery)
+  pub deliveries : Deliveries
   pub phases : List PhaseRead
   pub shows_state : Bool

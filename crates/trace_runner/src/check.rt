@@ -47,7 +47,7 @@ ghost use Rattle.trace_runner.specs.Check.{
 
 use crate::counting::{admits, count_call, count_end, refused_job};
 use crate::deliveries::deliveries_of;
-use crate::replay::opening;
+use crate::replay::{no_routes, opening};
 use crate::status::Verdict;
 use crate::trace::Trace;
 use board_core::BoardState;
@@ -122,7 +122,7 @@ impl Check {
         Check {
             reading: Reading::new(),
             shows_state,
-            deliveries: [None; 6],
+            deliveries: no_routes(),
             tally: Tally::of_board(&board),
             opening: board,
             phases: Vec::new(alloc),
@@ -185,6 +185,7 @@ impl Check {
             Job::Board(access) => self.push(line, given, text, Call::Act { access }),
             Job::Page { page } => self.push(line, given, text, Call::ReadPage { page }),
             Job::Clock { page } => self.push(line, given, text, Call::ReadClock { page }),
+            Job::Hv => self.push(line, given, text, Call::ReadHv),
             Job::Save => self.keep_end(line, given),
             Job::Move { .. } => self.keep_end(line, given),
         }
@@ -239,7 +240,7 @@ impl Check {
             Begin::Fresh(setup) => BoardState::power_on(&setup),
             Begin::Saved(board) => board,
         };
-        self.deliveries = deliveries_of(&header.routes);
+        self.deliveries = deliveries_of(self.opening.cpus(), &header.routes);
         self.tally = Tally::of_board(&self.opening);
         self.phases.clear();
         self.last = no_lines(*self.phases.allocator(), &self.opening);

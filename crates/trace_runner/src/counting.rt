@@ -35,6 +35,7 @@ pub(crate) fn admits(tally: &Tally, given: &Record) -> bool
         Job::Board(access) => admits_access(tally, given.cpu, given.h, access),
         Job::Page { .. } => admits_count(tally, given.h),
         Job::Clock { .. } => admits_count(tally, given.h),
+        Job::Hv => admits_count(tally, given.h),
         Job::Save => false,
         Job::Move { .. } => false,
     }
@@ -75,6 +76,7 @@ pub(crate) fn refused_job(tally: &Tally, given: &Record) -> Option<Refused>
         Job::Board(access) => refused_by_board(tally, given.cpu, given.h, access),
         Job::Page { .. } => refused_count(tally, given.h),
         Job::Clock { .. } => refused_count(tally, given.h),
+        Job::Hv => refused_count(tally, given.h),
         Job::Save => refused_by_board(tally, given.cpu, given.h, Access::Step),
         Job::Move { gap, .. } => refused_gap(tally, given.cpu, given.h, gap),
     }
@@ -133,6 +135,7 @@ pub(crate) fn count_call(tally: &mut Tally, cpu: u8, h: u64, call: &Call)
         Call::Act { access } => tally.count(cpu, h, access),
         Call::ReadPage { .. } => {}
         Call::ReadClock { .. } => {}
+        Call::ReadHv => {}
     }
 }
 

@@ -1,4 +1,4 @@
-//! Where the rises of lines go, by the routes of a header.
+//! Who gets interrupts, by the routes of a header.
 ghost use Rattle.std.specs.Prelude.{
   ◌≡◌,
   ◌<◌,
@@ -28,7 +28,7 @@ use race_phase::Deliveries;
 const FIRST_VECTOR: u8 = 0x30;
 
 /// Whether the line at a place has a route.
-fn there(routes: &Deliveries, place: usize) -> bool
+fn there(routes: &[Option<Delivery>; 6], place: usize) -> bool
     requires { place < 6 }
     ensures { result ≡ there place routes.now }
 {
@@ -36,7 +36,7 @@ fn there(routes: &Deliveries, place: usize) -> bool
 }
 
 /// Whether any line has a route.
-fn any_route(routes: &Deliveries) -> bool
+fn any_route(routes: &[Option<Delivery>; 6]) -> bool
     ensures { result ≡ any_route routes.now }
 {
     there(routes, 0)
@@ -48,7 +48,7 @@ fn any_route(routes: &Deliveries) -> bool
 }
 
 /// Who gets the rises of the line at a place, where any line has a route.
-fn filled(any: bool, routes: &Deliveries, place: usize) -> Option<Delivery>
+fn filled(any: bool, routes: &[Option<Delivery>; 6], place: usize) -> Option<Delivery>
     requires { place < 6 }
     ensures { result ≡ filled any place routes.now }
 {
@@ -62,18 +62,21 @@ fn filled(any: bool, routes: &Deliveries, place: usize) -> Option<Delivery>
     Some(routes[place].unwrap_or(by_default))
 }
 
-/// Who gets the rises of all lines.
+/// Who gets the rises of all lines, and the messages, where there are so many processors.
 #[tactic(auto, unfolding(crate::specs::Deliveries::deliveries_of))]
-pub(crate) fn deliveries_of(routes: &Deliveries) -> Deliveries
-    ensures { result ≡ deliveries_of routes.now }
+pub(crate) fn deliveries_of(cpus: u8, routes: &[Option<Delivery>; 6]) -> Deliveries
+    ensures { result ≡ deliveries_of cpus routes.now }
 {
     let any = any_route(routes);
-    [
-        filled(any, routes, 0),
-        filled(any, routes, 1),
-        filled(any, routes, 2),
-        filled(any, routes, 3),
-        filled(any, routes, 4),
-        filled(any, routes, 5),
-    ]
+    Deliveries {
+        cpus,
+        lines: [
+            filled(any, routes, 0),
+            filled(any, routes, 1),
+            filled(any, routes, 2),
+            filled(any, routes, 3),
+            filled(any, routes, 4),
+            filled(any, routes, 5),
+        ],
+    }
 }

@@ -1,17 +1,15 @@
-//! A board with the places into which its accesses are answered.
+//! A board with the reply into which its accesses are answered.
 ghost use Rattle.std.specs.Prelude.{◌≡◌};
 
-use board_core::{BoardState, Value};
-use irq_edges::EdgeList;
+use board_core::{BoardState, Reply};
 use std::marker::Model;
 
-/// A board, and places for the value and the edges of its accesses, which are kept from one to the next: a new list of
-/// edges has all its places cleared. What stands in them between two accesses means nothing.
+/// A board, and a reply for its accesses, which is kept from one to the next: a new one has all its places cleared. What
+/// stands in it between two accesses means nothing.
 #[derive(Drop)]
 pub(crate) struct KeptBoard {
     pub(crate) state: BoardState,
-    pub(crate) value: Value,
-    pub(crate) edges: EdgeList,
+    pub(crate) reply: Reply,
 }
 
 impl Model for KeptBoard {
@@ -29,8 +27,7 @@ impl KeptBoard {
     {
         KeptBoard {
             state,
-            value: Value::Nothing,
-            edges: EdgeList::new(),
+            reply: Reply::empty(),
         }
     }
 

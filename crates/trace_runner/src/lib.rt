@@ -42,6 +42,7 @@ mod check;
 mod checker;
 mod counting;
 mod deliveries;
+mod events;
 mod generate;
 mod kept;
 mod moves;

@@ -4,18 +4,23 @@ ghost use Rattle.std.specs.Io.{StartsWith};
 ghost use Rattle.clk_units.specs.Ranges.{IsKhz};
 ghost use Rattle.trace_loop.specs.Progress.{printed, end_of, state_behind};
 ghost use Rattle.transfer.specs.Move.{move_fault};
+ghost use Rattle.board_core.specs.Time.{now_of};
+ghost use Rattle.race_phase.specs.Blocks.{edges_text, messages_text};
+ghost use Rattle.race_phase.specs.Phases.{save_block};
+ghost use Rattle.reply_text.specs.Text.{move_text};
 ghost use Rattle.trace_runner.specs.Records.{save_answer, move_answer, gap_answer, refused_move};
 ghost use Rattle.trace_runner.specs.Replay.{with_board};
 
+use crate::events::{event_lines, move_edge_lines, move_message_lines};
 use crate::replay::Replay;
 use crate::status::{Verdict, refuse, refused_access};
-use board_core::{Access, Reply};
+use board_core::{Access, BoardState, Reply};
 use clk_units::NoMemory;
-use race_phase::{NewHost, edge_lines};
+use race_phase::{Deliveries, NewHost};
 use reply_text::{Refused, move_line, save_line};
 use save_state::encode;
 use trace_text::Record;
-use transfer::{MoveFault, moved};
+use transfer::{MoveFault, Moved, moved};
 
 impl Replay {
     /// Answers a save: the board runs to the time of the record, and its state is printed.
@@ -43,9 +48,7 @@ impl Replay {
         let board = &mut self.board.state;
         match board.access(given.cpu, given.h, Access::Step) {
             Ok(reply) => {
-                edge_lines(reply.edges.as_slice(), &self.deliveries, out)?;
-                let bytes = encode(*out.allocator(), board)?;
-                save_line(line, reply.number, &bytes, out)?;
+                append_save(line, &reply, board, &self.deliveries, out)?;
                 Ok(())
             }
             Err(refusal) => refuse(line, refused_access(refusal), out, end),
@@ -109,15 +112,52 @@ impl Replay {
         let deliveries = &self.deliveries;
         match moved(board, host.khz, host.start, host.gap) {
             Ok(moved) => {
-                edge_lines(reply.edges.as_slice(), deliveries, out)?;
-                edge_lines(moved.edges.as_slice(), deliveries, out)?;
+                append_move(line, reply, &moved, deliveries, out)?;
                 *board = moved.state;
-                move_line(line, reply.number, board.now(), out)?;
                 Ok(())
             }
             Err(fault) => refuse(line, refused_move(fault), out, end),
         }
     }
+}
+
+/// Appends the block of a save, whose access gave this reply and left this board.
+fn append_save(
+    line: u64,
+    reply: &Reply,
+    board: &BoardState,
+    deliveries: &Deliveries,
+    out: &mut Vec<u8>,
+) -> Result<(), NoMemory>
+    ensures ok { OnOk result
+        (out.new.items ≡ out.old.items ++ save_block deliveries.now line reply.now board.now) }
+    ensures err { OnErr result (StartsWith out.new.items out.old.items) }
+{
+    event_lines(reply, deliveries, out)?;
+    let bytes = encode(*out.allocator(), board)?;
+    save_line(line, reply.number, &bytes, out)?;
+    Ok(())
+}
+
+/// Appends the block of a move, whose access gave this reply.
+fn append_move(
+    line: u64,
+    reply: &Reply,
+    moved: &Moved,
+    deliveries: &Deliveries,
+    out: &mut Vec<u8>,
+) -> Result<(), NoMemory>
+    ensures ok { OnOk result (out.new.items ≡ out.old.items
+        ++ (edges_text deliveries.now reply.now.edges ++ edges_text deliveries.now moved.now.edges
+        ++ messages_text deliveries.now reply.now.bursts
+        ++ messages_text deliveries.now moved.now.bursts
+        ++ move_text line reply.now.number (now_of moved.now.state))) }
+    ensures err { OnErr result (StartsWith out.new.items out.old.items) }
+{
+    move_edge_lines(reply, moved, deliveries, out)?;
+    move_message_lines(reply, moved, deliveries, out)?;
+    move_line(line, reply.number, moved.state.now(), out)?;
+    Ok(())
 }
 
 /// A move that is refused, as it is printed.

@@ -1,19 +1,26 @@
 //! The answers to records.
-ghost use Rattle.std.specs.Prelude.{◌≡◌, ◌++◌, ◌<◌, true, None, OnOk, OnErr};
+ghost use Rattle.std.specs.Prelude.{◌≡◌, ◌++◌, ◌<◌, ◌≤◌, true, None, OnOk, OnErr};
 ghost use Rattle.std.specs.Io.{StartsWith};
 ghost use Rattle.board_types.specs.Legal.{is_legal};
+ghost use Rattle.board_types.specs.declared.setup.TheConstants.{HV_FORMAT};
 ghost use Rattle.trace_text.specs.declared.reading.Item.TheVariants.{Next};
 ghost use Rattle.trace_loop.specs.Progress.{printed, end_of, state_behind};
-ghost use Rattle.trace_runner.specs.Records.{board_answer, page_answer, clock_answer};
+ghost use Rattle.trace_runner.specs.Records.{
+  board_answer,
+  page_answer,
+  clock_answer,
+  hv_answer,
+};
 ghost use Rattle.trace_runner.specs.Replay.{record_answer, with_board};
 ghost use Rattle.trace_runner.specs.Ready.{Suits};
 
+use crate::events::event_lines;
 use crate::replay::Replay;
 use crate::status::{Verdict, refuse, refused_access, refused_time};
 use board_core::Access;
 use clk_units::NoMemory;
-use race_phase::{NewHost, edge_lines};
-use reply_text::{clock_line, page_line, value_line};
+use race_phase::NewHost;
+use reply_text::{board_line, clock_line, hv_line, page_line};
 use trace_text::{Job, Record};
 
 impl Replay {
@@ -40,6 +47,7 @@ impl Replay {
             Job::Board(access) => self.answer_access(line, given, access, out, end),
             Job::Page { page } => self.answer_page(line, page, given.h, out, end),
             Job::Clock { page } => self.answer_clock(line, page, given.h, out, end),
+            Job::Hv => self.answer_hv(line, given.h, out, end),
             Job::Save => self.answer_save(line, given, out, end),
             Job::Move { khz, start, gap } => {
                 self.answer_move(line, given, NewHost { khz, start, gap }, out, end)
@@ -72,17 +80,12 @@ impl Replay {
         ensures err { OnErr result (StartsWith out.new.items out.old.items) }
     {
         let board = &mut self.board;
-        board.edges.clear();
-        match board.state.answer(
-            given.cpu,
-            given.h,
-            access,
-            &mut board.value,
-            &mut board.edges,
-        ) {
+        let reply = &mut board.reply;
+        reply.clear();
+        match board.state.answer(given.cpu, given.h, access, reply) {
             Ok(()) => {
-                edge_lines(board.edges.as_slice(), &self.deliveries, out)?;
-                value_line(line, board.state.accesses(), &board.value, out)?;
+                event_lines(reply, &self.deliveries, out)?;
+                board_line(line, reply, out)?;
                 Ok(())
             }
             Err(refusal) => refuse(line, refused_access(refusal), out, end),
@@ -143,6 +146,35 @@ impl Replay {
         match board.state.clock_of(page, h) {
             Ok(reply) => {
                 clock_line(line, &reply, out)?;
+                Ok(())
+            }
+            Err(fault) => refuse(line, refused_time(fault), out, end),
+        }
+    }
+
+    /// Answers a read of the reference page.
+    #[inline(always)]
+    fn answer_hv(
+        &mut self,
+        line: u64,
+        h: u64,
+        out: &mut Vec<u8>,
+        end: &mut Option<Verdict>,
+    ) -> Result<(), NoMemory>
+        requires format { HV_FORMAT ≤ self.old.board.format }
+        requires open { end.old ≡ None }
+        ensures printed { OnOk result (out.new.items ≡ out.old.items
+            ++ printed (with_board (hv_answer line h self.old.board) self.old)) }
+        ensures ends { OnOk result
+            (end.new ≡ end_of (with_board (hv_answer line h self.old.board) self.old)) }
+        ensures state { OnOk result (end.new ≡ None → self.new
+            ≡ state_behind (with_board (hv_answer line h self.old.board) self.old) self.old) }
+        ensures err { OnErr result (StartsWith out.new.items out.old.items) }
+    {
+        let board = &self.board;
+        match board.state.hv_of(h) {
+            Ok(reply) => {
+                hv_line(line, &reply, out)?;
                 Ok(())
             }
             Err(fault) => refuse(line, refused_time(fault), out, end),

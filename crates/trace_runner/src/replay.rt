@@ -4,7 +4,14 @@ ghost use Rattle.std.specs.Io.{StartsWith};
 ghost use Rattle.trace_loop.specs.Progress.{printed, end_of, state_behind};
 ghost use Rattle.trace_text.specs.Lines.{at_start as reading_at_start};
 ghost use Rattle.trace_runner.specs.Deliveries.{deliveries_of};
-ghost use Rattle.trace_runner.specs.Replay.{answer_of, board_of, item_answer, opening, ended};
+ghost use Rattle.trace_runner.specs.Replay.{
+  answer_of,
+  board_of,
+  item_answer,
+  opening,
+  no_routes,
+  ended,
+};
 ghost use Rattle.trace_runner.specs.Ready.{IsReady, Suits};
 
 use crate::deliveries::deliveries_of;
@@ -38,6 +45,16 @@ pub(crate) fn opening() -> Setup
     Setup::by_default(1)
 }
 
+/// Who gets interrupts before `begin`.
+pub(crate) fn no_routes() -> Deliveries
+    ensures { result ≡ no_routes }
+{
+    Deliveries {
+        cpus: 1,
+        lines: [None; 6],
+    }
+}
+
 impl Replay {
     ghost use Rattle.trace_runner.specs.Replay.{at_start};
 
@@ -49,7 +66,7 @@ impl Replay {
             reading: Reading::new(),
             shows_state,
             board: KeptBoard::new(BoardState::power_on(&opening())),
-            deliveries: [None; 6],
+            deliveries: no_routes(),
         }
     }
 
@@ -57,7 +74,8 @@ impl Replay {
     pub(crate) fn begin(&mut self, header: &Header)
         requires { Suits (Item.Begun header.now) self.old.board }
         ensures board { self.new.board ≡ board_of header.now.begin }
-        ensures deliveries { self.new.deliveries ≡ deliveries_of header.now.routes }
+        ensures deliveries { self.new.deliveries
+            ≡ deliveries_of (board_of header.now.begin).cpus header.now.routes }
         ensures reading { self.new.reading ≡ self.old.reading }
         ensures shows_state { self.new.shows_state ≡ self.old.shows_state }
     {
@@ -65,7 +83,7 @@ impl Replay {
             Begin::Fresh(setup) => self.board = KeptBoard::new(BoardState::power_on(&setup)),
             Begin::Saved(board) => self.board = KeptBoard::new(board),
         }
-        self.deliveries = deliveries_of(&header.routes);
+        self.deliveries = deliveries_of(self.board.state().cpus(), &header.routes);
     }
 
     /// Answers a line that was read.

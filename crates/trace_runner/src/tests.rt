@@ -323,6 +323,21 @@ fn a_guest_that_is_moved(rt: HostRuntime) -> Result<(), Fail> {
     Ok(())
 }
 
+/// The reference page of Hyper-V, which a guest of 2 GHz reads, before and after it is enabled.
+const REFERENCE: &[u8] =
+    b"clockboard 4\nguest 2000000\nbegin\n0 0 hv\n0 1000 wrmsr 40000021 1\n0 1000 hv\n0 21000 hv\n0 21000 rdmsr 40000020\nend\n";
+
+const REFERENCE_TEXT: &[u8] =
+    b"4 hv off\n5 1\n6 hv 1 92233720368547758 1 10\n7 hv 1 92233720368547758 1 210\n8 2 00000000000000d2\nfinal 21000 2 0 -\n";
+
+#[test]
+fn a_guest_that_reads_the_reference_page(rt: HostRuntime) -> Result<(), Fail> {
+    for job in ["replay", "race"] {
+        expect(&rt, &[job], REFERENCE, &WELL, Status::Ok, REFERENCE_TEXT)?;
+    }
+    Ok(())
+}
+
 /// The lines of `FIRST_RISE`, each with what it prints.
 const FIRST_RISE_LINES: [(&[u8], &[u8]); 9] = [
     (b"clockboard 1\n", b""),

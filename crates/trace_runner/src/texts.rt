@@ -65,10 +65,17 @@ of the 8254 to 4 pulses, waits 5000 ns and reads the counter:\n\
 \x20 0 5000 in 40\n\
 \x20 end\n\
 \n\
+The first line names the format. Formats 2 to 5 add one after the other:\n\
+eight HPET timers and 64 processors; timers of local APICs ('eoi', 'counts\n\
+apicP'); the reference page of Hyper-V ('hv'); messages of HPET timers.\n\
+\n\
 A record is a processor, a count of the host's counter (nanoseconds, where\n\
 no line 'host' says otherwise), and what is done. Each is answered by\n\
 \n\
 \x20 edge NS LINE up|down    for each edge of an interrupt line until then\n\
+\x20 msg NS TIMER CPU VECTOR COUNT EVERY\n\
+\x20                         for the messages of each timer until then: the first,\n\
+\x20                         how many, and the nanoseconds from one to the next\n\
 \x20 LINE NUMBER VALUE       the record's line, the number of the access, and\n\
 \x20                         the value, if it reads one\n\
 \n\
@@ -88,12 +95,13 @@ clockboard race: answers a trace with each processor on a thread of its own\n\
 \n\
 usage: clockboard race [--state] < TRACE\n\
 \n\
-The trace is read whole and checked first, up to 200000 records; the first\n\
-line that is refused is printed alone. Then each phase runs, up to a save,\n\
-a move or the end: a processor's records are answered in their order, and\n\
-nothing orders those of different processors. What a phase prints is the\n\
-lines of processor 0, then those of processor 1, and so on. The numbers of\n\
-the accesses tell in which order the board was asked.\n\
+The trace, of any of the formats 1 to 5, is read whole and checked first, up\n\
+to 200000 records; the first line that is refused is printed alone. Then each\n\
+phase runs, up to a save, a move or the end: a processor's records are\n\
+answered in their order, and nothing orders those of different processors.\n\
+What a phase prints is the lines of processor 0, then those of processor 1,\n\
+and so on. The numbers of the accesses show in which order the board was\n\
+asked.\n\
 \n\
 --state    prints the board's saved state after the final line\n\
 \n\

@@ -27,3 +27,7 @@ pub returns-in-ReadClock : goal.returns-in-ReadClock
 returns-in-ReadClock c = λ b x.
     subst (λ (call : Call). IsTally (board_behind b c.args.cpu c.args.h call) c.args.tally.now) (sym c.in-ReadClock.is)
     (clock-tally b c.args.tally.now _ c.args.h x)
+
+pub returns-in-ReadHv : goal.returns-in-ReadHv
+returns-in-ReadHv c = λ b x.
+    subst (λ (call : Call). IsTally (board_behind b c.args.cpu c.args.h call) c.args.tally.now) (sym c.in-ReadHv.is) x

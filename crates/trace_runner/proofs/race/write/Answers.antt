@@ -1,7 +1,6 @@
-use Rattle.std.proofs.Common.{◌≡◌, ℕ, List, inl, inr, subst, ◌∙◌}
+use Rattle.std.proofs.Common.{ℕ, List, inl, inr, subst, ◌∙◌}
 use Rattle.board_io.specs.Faults.{Rose}
 use Rattle.trace_loop.specs.Text.{memory_fault_text}
-use Rattle.trace_runner.specs.FileText.{file_text}
 use Rattle.trace_runner.specs.Free.{IsFree}
 use Rattle.trace_runner.specs.Said.{Said}
 use Rattle.trace_runner.specs.Trace.{TraceRead}

@@ -1,48 +1,27 @@
-use Rattle.std.proofs.Common.{◌≡◌, ℕ, List, ◌++◌, OnOk, Some, sym, ap, subst, ◌∙◌}
-use Rattle.board_types.specs.declared.parts.BoardParts.{BoardParts}
+use Rattle.std.proofs.Common.{◌++◌, ap, ◌∙◌}
+use Rattle.board_core.specs.Pages.{page_reply}
 use Rattle.pvclock_page.specs.declared.page.PageReply.{PageReply}
-use Rattle.reply_text.specs.Text.{page_text, refused_text}
-use Rattle.reply_text.specs.declared.ends.Refused.{Refused}
-use Rattle.trace_loop.specs.Progress.{Answer, printed, end_of, state_behind}
-use Rattle.trace_runner.specs.Records.{page_answer}
-use Rattle.trace_runner.specs.Replay.{with_board}
-use Rattle.trace_runner.specs.declared.replay.Replay.{Replay}
-use Rattle.trace_runner.specs.declared.status.Verdict.{Verdict}
-use Rattle.trace_runner.specs.declared.status.Verdict.TheVariants.{Stopped}
-use Rattle.trace_runner.proofs.Counts.{page-read, page-refused}
+use Rattle.reply_text.specs.Text.{page_text}
+use Rattle.trace_runner.proofs.Counts.{read-printed, read-ends, refused-printed, refused-ends}
 use Rattle.trace_runner.proofs.replay.Replay.answer_page.Goals as goal
 
 pub returns-in_ok-page_line-in-Ok-clause-printed : goal.returns-in_ok-page_line-in-Ok-clause-printed
 returns-in_ok-page_line-in-Ok-clause-printed c =
-    let r : Replay = c.args.self.now in
-    let out : List ℕ = c.args.out.now.items in
-    subst (λ (b : BoardParts). c.page_line.new.out.items ≡ out ++ printed (with_board (page_answer c.args.line c.args.page c.args.h b) r)) c.board.view_is
-    (c.in_ok-page_line-in-Ok.ensures.ok ∙ ap (λ (x : PageReply). out ++ page_text c.args.line x) c.in-Ok.ensures.value
-    ∙ ap (λ (a : Answer BoardParts Verdict). out ++ printed (with_board a r))
-    (sym (page-read c.args.line c.args.page c.args.h c.board.inside.state c.in-Ok.ensures.ok)))
+    read-printed (λ b. page_text c.args.line (page_reply b c.args.page c.args.h)) (λ b. b) c.args.line c.args.h c.args.self.now c.board.inside.state c.args.self.now.board c.board.view_is
+    c.args.out.now.items c.page_line.new.out.items c.in-Ok.ensures.ok
+    (c.in_ok-page_line-in-Ok.ensures.ok ∙ ap (λ (x : PageReply). c.args.out.now.items ++ page_text c.args.line x) c.in-Ok.ensures.value)
 
 pub returns-in_ok-page_line-in-Ok-clause-ends : goal.returns-in_ok-page_line-in-Ok-clause-ends
 returns-in_ok-page_line-in-Ok-clause-ends c =
-    let r : Replay = c.args.self.now in
-    subst (λ (b : BoardParts). c.args.end.now ≡ end_of (with_board (page_answer c.args.line c.args.page c.args.h b) r)) c.board.view_is
-    (c.requires.open ∙ ap (λ (a : Answer BoardParts Verdict). end_of (with_board a r))
-    (sym (page-read c.args.line c.args.page c.args.h c.board.inside.state c.in-Ok.ensures.ok)))
+    read-ends (λ b. page_text c.args.line (page_reply b c.args.page c.args.h)) (λ b. b) c.args.line c.args.h c.args.self.now c.board.inside.state c.args.self.now.board c.board.view_is
+    c.args.end.now c.in-Ok.ensures.ok c.requires.open
 
 pub returns-in-Err-clause-printed : goal.returns-in-Err-clause-printed
 returns-in-Err-clause-printed c =
-    let r : Replay = c.args.self.now in
-    let out : List ℕ = c.args.out.now.items in
-    subst (λ (b : BoardParts). OnOk c.refuse.result
-    (c.refuse.new.out.items ≡ out ++ printed (with_board (page_answer c.args.line c.args.page c.args.h b) r))) c.board.view_is
-    (subst (λ (a : Answer BoardParts Verdict). OnOk c.refuse.result (c.refuse.new.out.items ≡ out ++ printed (with_board a r)))
-    (sym (page-refused c.args.line c.args.page c.args.h c.board.inside.state c.in-Err.fault c.in-Err.ensures.fault))
-    (subst (λ (w : Refused). OnOk c.refuse.result (c.refuse.new.out.items ≡ out ++ refused_text c.args.line w)) c.refused_time.ensures
-    c.refuse.ensures.printed))
+    refused-printed (λ b. page_text c.args.line (page_reply b c.args.page c.args.h)) (λ b. b) c.args.line c.args.h c.args.self.now c.board.inside.state c.args.self.now.board c.board.view_is
+    c.refuse.result c.in-Err.fault c.refused_time.result c.in-Err.ensures.fault c.refused_time.ensures c.args.out.now.items c.refuse.new.out.items c.refuse.ensures.printed
 
 pub returns-in-Err-clause-ends : goal.returns-in-Err-clause-ends
 returns-in-Err-clause-ends c =
-    let r : Replay = c.args.self.now in
-    subst (λ (b : BoardParts). OnOk c.refuse.result (c.refuse.new.end ≡ end_of (with_board (page_answer c.args.line c.args.page c.args.h b) r))) c.board.view_is
-    (subst (λ (a : Answer BoardParts Verdict). OnOk c.refuse.result (c.refuse.new.end ≡ end_of (with_board a r)))
-    (sym (page-refused c.args.line c.args.page c.args.h c.board.inside.state c.in-Err.fault c.in-Err.ensures.fault))
-    (subst (λ (w : Refused). OnOk c.refuse.result (c.refuse.new.end ≡ Some (Stopped c.args.line w))) c.refused_time.ensures c.refuse.ensures.ends))
+    refused-ends (λ b. page_text c.args.line (page_reply b c.args.page c.args.h)) (λ b. b) c.args.line c.args.h c.args.self.now c.board.inside.state c.args.self.now.board c.board.view_is
+    c.refuse.result c.in-Err.fault c.refused_time.result c.in-Err.ensures.fault c.refused_time.ensures c.refuse.new.end c.refuse.ensures.ends
