@@ -5,9 +5,8 @@
 //! of a row it makes those accesses alone, for a program that counts instructions.
 #![tactic(auto)]
 
-use board_core::{Access, BoardState, Setup, Value};
+use board_core::{Access, BoardState, Reply, Setup, Value};
 use host_counter::Anchor;
-use irq_edges::{EDGE_PLACES, EdgeList};
 use rtc_calendar::TimeBytes;
 use std::rt::Clock;
 use std::time::Instant;
@@ -166,7 +165,7 @@ fn print_row(
     Ok(told)
 }
 
-/// Makes many accesses, or none, and all else as often. Returns the sum of what was told.
+/// Makes many accesses, or none, and all else as often. Returns the sum of what was answered.
 fn many(board: &mut BoardState, access: Option<Access>, gap: u64) -> u64 {
     match access {
         Some(access) => many_asked(board, access, gap),
@@ -174,56 +173,49 @@ fn many(board: &mut BoardState, access: Option<Access>, gap: u64) -> u64 {
     }
 }
 
-/// Makes many accesses, with one list of edges for all. Returns the sum of what was told.
+/// Makes many accesses, with one reply for all. Returns the sum of what was answered.
 fn many_asked(board: &mut BoardState, access: Access, gap: u64) -> u64 {
-    let mut list = EdgeList::new();
+    let mut reply = Reply::empty();
     let mut told = 0u64;
     let mut h = board.now();
     for _ in 0..CALLS {
         h = h.wrapping_add(gap);
-        told = told.wrapping_add(ask(board, h, access, &mut list));
+        told = told.wrapping_add(ask(board, h, access, &mut reply));
     }
     told
 }
 
 /// One access of processor 0, where it is legal. Returns what was read, and how many edges it brought, as one number.
-fn ask(board: &mut BoardState, h: u64, access: Access, list: &mut EdgeList) -> u64 {
+fn ask(board: &mut BoardState, h: u64, access: Access, reply: &mut Reply) -> u64 {
     if board.cpus() == 0 || !access.legal(board.cpus(), board.format()) {
         return 0;
     }
-    if list.len() > EDGE_PLACES - 18 {
-        list.clear();
-    }
-    let before = list.len();
-    let mut value = Value::Nothing;
-    match board.answer(0, h, access, &mut value, list) {
-        Ok(()) => number_of(value).wrapping_add(list.len().saturating_sub(before) as u64),
+    reply.clear();
+    match board.answer(0, h, access, reply) {
+        Ok(()) => number_of(reply.value).wrapping_add(reply.edges.len() as u64),
         Err(_) => 0,
     }
 }
 
 /// Does for many accesses all that is done but the access itself.
 fn many_bare(board: &mut BoardState, access: Access) -> u64 {
-    let mut list = EdgeList::new();
+    let mut reply = Reply::empty();
     let mut told = 0u64;
     for h in 0..u64::from(CALLS) {
-        told = told.wrapping_add(ask_nothing(board, h, access, &mut list));
+        told = told.wrapping_add(ask_nothing(board, h, access, &mut reply));
     }
     told
 }
 
 /// What `ask` does but the access itself.
 #[inline(never)]
-fn ask_nothing(board: &mut BoardState, h: u64, access: Access, list: &mut EdgeList) -> u64 {
+fn ask_nothing(board: &mut BoardState, h: u64, access: Access, reply: &mut Reply) -> u64 {
     if board.cpus() == 0 || !access.legal(board.cpus(), board.format()) {
         return 0;
     }
-    if list.len() > EDGE_PLACES - 18 {
-        list.clear();
-    }
-    let before = list.len();
+    reply.clear();
     let value = Value::Word { width: 8, value: h };
-    number_of(value).wrapping_add(list.len().saturating_sub(before) as u64)
+    number_of(value).wrapping_add(reply.edges.len() as u64)
 }
 
 /// A value as one number.
@@ -257,7 +249,7 @@ fn running() -> BoardState {
         wall_nsec: 0,
         time: MIDNIGHT,
     });
-    let mut list = EdgeList::new();
+    let mut reply = Reply::empty();
     for (port, byte) in [
         (0x43, 0x34),
         (0x40, 4),
@@ -265,7 +257,7 @@ fn running() -> BoardState {
         (0x70, 0x0b),
         (0x71, 0x42),
     ] {
-        ask(&mut board, 0, Access::PortOut { port, byte }, &mut list);
+        ask(&mut board, 0, Access::PortOut { port, byte }, &mut reply);
     }
     for (offset, value) in [(0x100, 0x284c), (0x108, 100), (0x10, 1)] {
         let write = Access::HpetWrite {
@@ -273,8 +265,8 @@ fn running() -> BoardState {
             width: 8,
             value,
         };
-        ask(&mut board, 0, write, &mut list);
+        ask(&mut board, 0, write, &mut reply);
     }
-    ask(&mut board, 5_000, Access::Step, &mut list);
+    ask(&mut board, 5_000, Access::Step, &mut reply);
     board
 }
