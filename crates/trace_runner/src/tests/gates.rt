@@ -97,17 +97,22 @@ fn met<R: Threads + Wait + Sync + Abort + Alloc<A = Global>>(
     Vec::from_slice(alloc, sink.bytes())
 }
 
-/// The reads of a page that a trace can ask for.
-const READS: [&str; 2] = ["clock", "page"];
+/// The reads of a page that a trace can ask for: the record's words, and what is printed where the page is off.
+const READS: [(&str, &str); 3] = [
+    ("clock 0", "clock off"),
+    ("page 0", "page off"),
+    ("hv", "hv off"),
+];
 
-/// Processor 1 reads processor 0's page while the access has the lock. The page is off, as no access has enabled it.
+/// Processor 1 reads processor 0's page, or the reference page, while the access has the lock. The page is off, as no access
+/// has enabled it.
 #[test]
 fn pages_and_clocks_are_read_while_another_has_the_lock(rt: HostRuntime) -> Result<(), Fail> {
-    for read in READS {
+    for (read, off) in READS {
         let trace = format!(in rt.alloc();
-            "clockboard 1\ncpus 2\nbegin\n0 0 step\n1 1000 {read} 0\nend\n"
+            "clockboard 4\ncpus 2\nbegin\n0 0 step\n1 1000 {read}\nend\n"
         )?;
-        let wanted = format!(in rt.alloc(); "4 1\n5 {read} off\nfinal 0 1 0 -\n")?;
+        let wanted = format!(in rt.alloc(); "4 1\n5 {off}\nfinal 0 1 0 -\n")?;
         let text = met(&rt, 0, 2, trace.as_bytes())?;
         assert!(rt; text.as_slice() == wanted.as_bytes());
     }
@@ -123,12 +128,12 @@ const SECOND_READ: u64 = 5;
 
 #[test]
 fn a_worker_keeps_no_lock_for_its_reads(rt: HostRuntime) -> Result<(), Fail> {
-    for read in READS {
-        let mut trace = String::from_str(rt.alloc(), "clockboard 1\ncpus 2\nbegin\n0 0 step\n")?;
+    for (read, _off) in READS {
+        let mut trace = String::from_str(rt.alloc(), "clockboard 4\ncpus 2\nbegin\n0 0 step\n")?;
         for _ in 0..ROUNDS {
             trace.push_str("1 0 step\n1 0 step\n1 0 ")?;
             trace.push_str(read)?;
-            trace.push_str(" 0\n")?;
+            trace.push('\n')?;
         }
         trace.push_str("end\n")?;
         let _text = met(&rt, SECOND_READ, 3 * ROUNDS + 1, trace.as_bytes())?;
