@@ -16,9 +16,12 @@ pub record Supply : Type 0 where
   pub failing : List ℕ
   pub largest : ℕ
 
--- what a sink in memory holds
+-- what a sink in memory holds: the bytes, whether a call failed, and whether one came after it;
+-- faults, calls, which fail, the largest piece
 pub record Store : Type 0 where
   pub held : List ℕ
+  pub done : Bool
+  pub late : Bool
   pub faults : ℕ
   pub calls : ℕ
   pub failing : List ℕ

@@ -72,6 +72,8 @@ impl<T: Read + Drop> Source for ReadSource<T> {
 #[derive(Drop)]
 pub struct WriteSink<T: Write + Drop> {
     writer: T,
+    done: bool,
+    late: bool,
     faults: u64,
 }
 
@@ -79,21 +81,34 @@ impl<T: Write + Drop> WriteSink<T> {
     /// A sink whose bytes go to the writer.
     pub fn new(writer: T) -> WriteSink<T>
         ensures contents { ⟦<WriteSink<T> as Sink>⟧.contents result ≡ T.contents writer }
+        ensures done { ⟦<WriteSink<T> as Sink>⟧.done result ≡ false }
+        ensures late { ⟦<WriteSink<T> as Sink>⟧.late result ≡ false }
         ensures faults { ⟦<WriteSink<T> as Sink>⟧.faults result ≡ 0 }
     {
-        WriteSink { writer, faults: 0 }
+        WriteSink {
+            writer,
+            done: false,
+            late: false,
+            faults: 0,
+        }
     }
 }
 
 impl<T: Write + Drop> Sink for WriteSink<T> {
     ghost contents = { λ s. T.contents s.writer };
 
+    ghost done = { λ s. s.done };
+
+    ghost late = { λ s. s.late };
+
     ghost faults = { λ s. s.faults };
 
     fn put(&mut self, piece: &[u8]) -> Result<usize, Failed> {
+        self.late = self.late || self.done;
         match self.writer.write(piece) {
             Ok(n) if n > 0 => Ok(n),
             _ => {
+                self.done = true;
                 self.faults = self.faults.saturating_add(1);
                 Err(Failed)
             }

@@ -4,7 +4,8 @@
 //! Contracts can name the bytes that a [`Source`] has left and a [`Sink`] holds. Both count their
 //! faults: `Failed` comes only where that count rose, and a call that is well leaves the count, so a
 //! caller's contract can name the cause. A source also counts the bytes that it had given at its
-//! last call, and knows whether it was called after a call that gave nothing. [`MemSource`] and
+//! last call, and knows whether it was called after a call that gave nothing; a sink knows whether
+//! it was called after a call that failed. [`MemSource`] and
 //! [`MemSink`] are in memory and fail on demand; [`ReadSource`] and [`WriteSink`] adapt std's
 //! readers and writers, and are the trusted edge.
 //!

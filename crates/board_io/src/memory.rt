@@ -1,5 +1,5 @@
 ghost use Rattle.std.specs.Prelude.{◌≡◌, ◌+◌, ◌-◌, ◌<◌, ◌≤◌, ◌||◌, ℕ, Bool, not, true, false, []};
-ghost use Rattle.std.specs.Prelude.{◌++◌, Some, length, min, drop, IfOk, OnOk, OnErr, IsErr, is_ok};
+ghost use Rattle.std.specs.Prelude.{◌++◌, Some, length, min, drop, IfOk, OnOk, OnErr, IsErr, is_ok, is_err};
 ghost use Rattle.std.specs.Prelude.{vec_len};
 ghost use Rattle.std.specs.Io.KnownBytes.{ReadConsumes, WriteAppends};
 ghost use Rattle.board_io.specs.Faults.{Rose, most_given, AddsGiven, gave_nothing};
@@ -129,6 +129,8 @@ impl Source for MemSource {
 #[derive(Drop)]
 pub struct MemSink {
     bytes: Vec<u8>,
+    done: bool,
+    late: bool,
     failing: Vec<u64>,
     largest: usize,
     calls: u64,
@@ -140,6 +142,8 @@ impl Model for MemSink {
 
     ghost view = { λ s. record {
       held = s.bytes.items;
+      done = s.done;
+      late = s.late;
       faults = s.faults;
       calls = s.calls;
       failing = s.failing.items;
@@ -156,6 +160,8 @@ impl MemSink {
         requires { 0 < largest }
         ensures { result ≡ record {
           held = [];
+          done = false;
+          late = false;
           faults = 0;
           calls = 0;
           failing = failing.items;
@@ -164,6 +170,8 @@ impl MemSink {
     {
         MemSink {
             bytes: Vec::new(alloc),
+            done: false,
+            late: false,
             failing,
             largest,
             calls: 0,
@@ -182,6 +190,10 @@ impl MemSink {
 impl Sink for MemSink {
     ghost contents = { λ s. Some s.held };
 
+    ghost done = { λ s. s.done };
+
+    ghost late = { λ s. s.late };
+
     ghost faults = { λ s. s.faults };
 
     fn put(&mut self, piece: &[u8]) -> Result<usize, Failed>
@@ -189,6 +201,8 @@ impl Sink for MemSink {
         ensures some { IfOk result (λ n. 0 < n) }
         ensures bound { IfOk result (λ n. n ≤ length piece.now) }
         ensures bytes { WriteAppends (Some self.old.held) (Some self.new.held) result piece.now }
+        ensures done { self.new.done ≡ (self.old.done || is_err result) }
+        ensures late { self.new.late ≡ (self.old.late || self.old.done) }
         ensures well { OnOk result (self.new.faults ≡ self.old.faults) }
         ensures counted { self.old.faults ≤ self.new.faults }
         ensures failed { OnErr result (Rose self.old.faults self.new.faults) }
@@ -199,6 +213,7 @@ impl Sink for MemSink {
         ensures same { (self.new.failing ≡ self.old.failing)
             × (self.new.largest ≡ self.old.largest) }
     {
+        self.late = self.late || self.done;
         self.calls = self.calls.saturating_add(1);
         let n = piece.len().min(self.largest);
         if !self.failing.contains(&self.calls)
@@ -206,6 +221,7 @@ impl Sink for MemSink {
         {
             return Ok(n);
         }
+        self.done = true;
         self.faults = self.faults.saturating_add(1);
         Err(Failed)
     }

@@ -1,4 +1,5 @@
-ghost use Rattle.std.specs.Prelude.{ℕ, ◌≡◌, ◌<◌, ◌≤◌, List, Option, length, IfOk, OnOk, OnErr};
+ghost use Rattle.std.specs.Prelude.{ℕ, Bool, ◌||◌, ◌≡◌, ◌<◌, ◌≤◌, List, Option, length, IfOk, OnOk};
+ghost use Rattle.std.specs.Prelude.{OnErr, is_err};
 ghost use Rattle.std.specs.Io.KnownBytes.{WriteAppends};
 ghost use Rattle.board_io.specs.Faults.{Rose};
 
@@ -8,6 +9,12 @@ use crate::source::Failed;
 pub trait Sink {
     // The bytes that it holds, where they are known.
     ghost contents: { Self → Option (List ℕ) };
+
+    // Whether a call failed.
+    ghost done: { Self → Bool };
+
+    // Whether it was called after such a call.
+    ghost late: { Self → Bool };
 
     // How many faults it has had.
     ghost faults: { Self → ℕ };
@@ -19,6 +26,8 @@ pub trait Sink {
         ensures some { IfOk result (λ n. 0 < n) }
         ensures bound { IfOk result (λ n. n ≤ length piece.now) }
         ensures bytes { WriteAppends (contents self.old) (contents self.new) result piece.now }
+        ensures done { done self.new ≡ (done self.old || is_err result) }
+        ensures late { late self.new ≡ (late self.old || done self.old) }
         ensures well { OnOk result (faults self.new ≡ faults self.old) }
         ensures counted { faults self.old ≤ faults self.new }
         ensures failed { OnErr result (Rose (faults self.old) (faults self.new)) };
