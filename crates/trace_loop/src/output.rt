@@ -1,5 +1,6 @@
 //! Texts that are put into a sink, or after one another.
-ghost use Rattle.std.specs.Prelude.{◌≡◌, ◌≢◌, ℕ, ◌<◌, ◌≤◌, List, ◌++◌, length, OnOk, OnErr};
+ghost use Rattle.std.specs.Prelude.{◌≡◌, ◌≢◌, ℕ, ◌<◌, ◌≤◌, List, ◌++◌, length, false, OnOk};
+ghost use Rattle.std.specs.Prelude.{OnErr};
 ghost use Rattle.std.specs.List.{flat_map};
 ghost use Rattle.std.specs.Vec.{vec_items};
 ghost use Rattle.std.specs.Io.KnownBytes.{Appends};
@@ -15,6 +16,9 @@ pub fn put_all<K: Sink>(sink: &mut K, text: &[u8]) -> Result<(), Failed>
     ensures cut { OnErr result ((cut : List ℕ) × Begins cut text.now
         × Appends (K.contents sink.old) (K.contents sink.new) cut) }
     ensures well { OnOk result (K.faults sink.new ≡ K.faults sink.old) }
+    ensures quiet { OnOk result (K.done sink.new ≡ K.done sink.old) }
+    ensures once { K.done sink.old ≡ false → K.late sink.old ≡ false
+        → K.late sink.new ≡ false }
     ensures some { OnErr result (0 < length text.now) }
     ensures counted { K.faults sink.old ≤ K.faults sink.new }
     ensures failed { OnErr result (Rose (K.faults sink.old) (K.faults sink.new)) }
@@ -31,6 +35,9 @@ pub fn say<R: Drop, K: Sink>(sink: &mut K, text: &[u8], end: R, fault: R) -> R
     ensures said { SaidOr fault end result (K.contents sink.old) (K.contents sink.new) text.now
         (Rose (K.faults sink.old) (K.faults sink.new)) }
     ensures sink_well { result ≢ fault → K.faults sink.new ≡ K.faults sink.old }
+    ensures quiet { result ≢ fault → K.done sink.new ≡ K.done sink.old }
+    ensures once { K.done sink.old ≡ false → K.late sink.old ≡ false
+        → K.late sink.new ≡ false }
     ensures counted { K.faults sink.old ≤ K.faults sink.new }
 {
     match put_all(sink, text) {
@@ -46,6 +53,9 @@ fn put_each<K: Sink>(sink: &mut K, texts: &[Vec<u8>]) -> Result<(), Failed>
     ensures cut { OnErr result ((cut : List ℕ) × Begins cut (flat_map vec_items texts.now)
         × Appends (K.contents sink.old) (K.contents sink.new) cut) }
     ensures well { OnOk result (K.faults sink.new ≡ K.faults sink.old) }
+    ensures quiet { OnOk result (K.done sink.new ≡ K.done sink.old) }
+    ensures once { K.done sink.old ≡ false → K.late sink.old ≡ false
+        → K.late sink.new ≡ false }
     ensures counted { K.faults sink.old ≤ K.faults sink.new }
     ensures failed { OnErr result (Rose (K.faults sink.old) (K.faults sink.new)) }
 {
@@ -60,6 +70,9 @@ pub fn say_each<R: Drop, K: Sink>(sink: &mut K, texts: &[Vec<u8>], end: R, fault
     ensures said { SaidOr fault end result (K.contents sink.old) (K.contents sink.new)
         (flat_map vec_items texts.now) (Rose (K.faults sink.old) (K.faults sink.new)) }
     ensures sink_well { result ≢ fault → K.faults sink.new ≡ K.faults sink.old }
+    ensures quiet { result ≢ fault → K.done sink.new ≡ K.done sink.old }
+    ensures once { K.done sink.old ≡ false → K.late sink.old ≡ false
+        → K.late sink.new ≡ false }
     ensures counted { K.faults sink.old ≤ K.faults sink.new }
 {
     match put_each(sink, texts) {

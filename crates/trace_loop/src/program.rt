@@ -66,6 +66,9 @@ pub fn answer_lines<E: Drop, T: Answerer<E>, S: Source, K: Sink>(
         → Rose (S.faults source.old) (S.faults source.new) }
     ensures sink_fault { result ≡ Ended.SinkFault → Rose (K.faults sink.old) (K.faults sink.new) }
     ensures sink_well { result ≢ Ended.SinkFault → K.faults sink.new ≡ K.faults sink.old }
+    ensures sink_quiet { result ≢ Ended.SinkFault → K.done sink.new ≡ K.done sink.old }
+    ensures sink_once { K.done sink.old ≡ false → K.late sink.old ≡ false
+        → K.late sink.new ≡ false }
 {
     let mut feed = Feed::new(alloc);
     answer_fed(&mut feed, answerer, source, sink)
@@ -81,11 +84,14 @@ fn answer_fed<E: Drop, T: Answerer<E>, S: Source, K: Sink>(
     requires may { T.may 1 answerer.old }
     requires lines { feed.old.lines ≡ record { number = 0; line = []; text = []; left = [] } }
     requires out { feed.old.out.items ≡ [] }
-    ensures { RunEnds T.answer T.closing answerer.old
+    ensures over { RunEnds T.answer T.closing answerer.old
         (ends_of S.remaining S.given S.before S.faults S.done S.late
         K.contents K.faults source.old sink.old)
         (ends_of S.remaining S.given S.before S.faults S.done S.late
         K.contents K.faults source.new sink.new) result }
+    ensures sink_quiet { result ≢ Ended.SinkFault → K.done sink.new ≡ K.done sink.old }
+    ensures sink_once { K.done sink.old ≡ false → K.late sink.old ≡ false
+        → K.late sink.new ≡ false }
 {
     'lines: loop {
         match feed.lines.advance() {
@@ -143,6 +149,9 @@ fn end_input<E: Drop, T: Answerer<E>, K: Sink>(
         ⊎ Said Ended.NoMemory result (K.contents sink.old) (K.contents sink.new)
         memory_fault_text (Rose (K.faults sink.old) (K.faults sink.new)) }
     ensures sink_well { result ≢ Ended.SinkFault → K.faults sink.new ≡ K.faults sink.old }
+    ensures sink_quiet { result ≢ Ended.SinkFault → K.done sink.new ≡ K.done sink.old }
+    ensures sink_once { K.done sink.old ≡ false → K.late sink.old ≡ false
+        → K.late sink.new ≡ false }
     ensures counted { K.faults sink.old ≤ K.faults sink.new }
 {
     match finish(answerer, lines.number() + 1, lines.text(), out) {
@@ -182,6 +191,9 @@ fn want_memory<E: Drop, K: Sink>(sink: &mut K, out: &[u8]) -> Ended<E>
     ensures said { Said Ended.NoMemory result (K.contents sink.old) (K.contents sink.new)
         (out.now ++ memory_fault_text) (Rose (K.faults sink.old) (K.faults sink.new)) }
     ensures sink_well { result ≢ Ended.SinkFault → K.faults sink.new ≡ K.faults sink.old }
+    ensures sink_quiet { result ≢ Ended.SinkFault → K.done sink.new ≡ K.done sink.old }
+    ensures sink_once { K.done sink.old ≡ false → K.late sink.old ≡ false
+        → K.late sink.new ≡ false }
     ensures counted { K.faults sink.old ≤ K.faults sink.new }
 {
     if put_all(sink, out).is_err() {

@@ -14,7 +14,7 @@ returns-in_err-put-clause-cut g c =
       take c.loop-put.put c.args.text.now,
       (drop c.loop-put.put c.args.text.now, sym (take-append-drop c.loop-put.put c.args.text.now)),
       Appends-kept (contents c.args.sink.now) (contents c.loop-put.sink) (contents c.put.new.self)
-          (take c.loop-put.put c.args.text.now) c.loop-put.invariant.1 c.in_err-put.ensures.bytes,
+          (take c.loop-put.put c.args.text.now) c.loop-put.invariant.front c.in_err-put.ensures.bytes,
     )
 
 pub loop-put-preserved : goal.loop-put-preserved
@@ -26,10 +26,13 @@ loop-put-preserved g c =
       length-take (length c.args.text.now - c.loop-put.put)
           (drop c.loop-put.put c.args.text.now),
       length-drop c.loop-put.put c.args.text.now,
-    ) in (
-      inside,
-      subst (λ (l : List ℕ). Appends (contents c.args.sink.now) (contents c.put.new.self) l)
+    ) in record {
+      within = inside;
+      front =
+          subst (λ (l : List ℕ). Appends (contents c.args.sink.now) (contents c.put.new.self) l)
           (take_piece c.args.text.now c.loop-put.put c.in_ok-put.field-0 inside)
-          (Appends-trans (contents c.args.sink.now) (contents c.loop-put.sink) (contents c.put.new.self) _ _ c.loop-put.invariant.1 c.in_ok-put.ensures.bytes),
-      c.in_ok-put.ensures.well ∙ c.loop-put.invariant.2,
-    )
+          (Appends-trans (contents c.args.sink.now) (contents c.loop-put.sink) (contents c.put.new.self) _ _ c.loop-put.invariant.front c.in_ok-put.ensures.bytes);
+      well = c.in_ok-put.ensures.well ∙ c.loop-put.invariant.well;
+      quiet = grind (arith, c.put.ensures.done, c.in_ok-put.is, c.loop-put.invariant.quiet);
+      once = λ done late. grind (arith, c.put.ensures.late, c.loop-put.invariant.quiet, c.loop-put.invariant.once done late, done);
+    }

@@ -30,10 +30,12 @@ lines-preserved-in-None g c =
           (sym c.in-None.is ∙ c.in-Ok.ensures.ends ∙ ap end_of same)
           (c.in-Ok.ensures.printed ∙ ap (λ (b : Answer g.row.T.Denot g.row.E.Denot). c.lines.feed.out.items ++ printed b) same)
           (c.in-Ok.ensures.state c.in-None.is ∙ ap (λ (b : Answer g.row.T.Denot g.row.E.Denot). state_behind b c.lines.answerer) same);
+      quiet = c.lines.invariant.quiet;
+      once = c.lines.invariant.once;
     }
 
-pub returns-in-Some : goal.returns-in-Some
-returns-in-Some g c =
+pub returns-in-Some-clause-over : goal.returns-in-Some-clause-over
+returns-in-Some-clause-over g c =
     let old : Cut = c.lines.feed.lines in
     let new : Cut = c.advance.new.self in
     let l : IsLine old new = c.in-Ok-true.ensures.line c.in-Ok-true.field-0-test in
@@ -48,9 +50,9 @@ returns-in-Some g c =
     (subst (λ (t : List ℕ). Said (statuses.By c.in-Some.end) c.say.result (g.K.Sink.contents c.lines.sink) (g.K.Sink.contents c.say.new.sink) t
     (Rose (g.K.Sink.faults c.lines.sink) (g.K.Sink.faults c.say.new.sink))) c.deref.ensures.value c.say.ensures.said) c.say.ensures.sink_well
 
-pub returns-in-Err-answer_line : goal.returns-in-Err-answer_line
+pub returns-in-Err-answer_line-clause-over : goal.returns-in-Err-answer_line-clause-over
 unfolding memory_fault_text
-returns-in-Err-answer_line g c =
+returns-in-Err-answer_line-clause-over g c =
     let old : Cut = c.lines.feed.lines in
     let l : IsLine old c.advance.new.self = c.in-Ok-true.ensures.line c.in-Ok-true.field-0-test in
     let k = c.lines.invariant.going in
@@ -60,8 +62,8 @@ returns-in-Err-answer_line g c =
     (ap (λ (t : List ℕ). t ++ memory_fault_text) (c.deref-in-Err-answer_line.ensures.value ∙ c.in-Err-answer_line.ensures.err)) c.want_memory.ensures.said
     c.want_memory.ensures.sink_well
 
-pub returns-then-is_err : goal.returns-then-is_err
-returns-then-is_err g c =
+pub returns-then-is_err-clause-over : goal.returns-then-is_err-clause-over
+returns-then-is_err-clause-over g c =
     let out : c.deref-in-Ok-false.result.now ≡ c.lines.feed.out.items = c.deref-in-Ok-false.ensures.value in
     let failed : (cut : List ℕ) × Begins cut c.deref-in-Ok-false.result.now × Appends (g.K.Sink.contents c.lines.sink)
     (g.K.Sink.contents c.put_all.new.sink) cut =
@@ -78,8 +80,8 @@ returns-then-is_err g c =
     (subst (λ (t : List ℕ). (cut : List ℕ) × Begins cut t × Appends (g.K.Sink.contents c.lines.sink) (g.K.Sink.contents c.put_all.new.sink) cut) out failed)
     rose
 
-pub returns-in-Ok-eq0 : goal.returns-in-Ok-eq0
-returns-in-Ok-eq0 g c =
+pub returns-in-Ok-eq0-clause-over : goal.returns-in-Ok-eq0-clause-over
+returns-in-Ok-eq0-clause-over g c =
     let old : Cut = c.lines.feed.lines in
     let new : Cut = c.advance.new.self in
     let l : IsWhole old new = c.in-Ok-false.ensures.whole c.in-Ok-false.field-0-test in
@@ -128,11 +130,14 @@ lines-preserved g c =
             c.in-Ok-refill.ensures.done ∙ ap (λ (b : Bool). b || eqb c.in-Ok-refill.field-0 0) done ∙ some,
             c.in-Ok-refill.ensures.late ∙ ap (λ (b : Bool). b || g.S.Source.done c.lines.source) late ∙ done,
           ));
+      quiet = on_ok_from_is_err c.put_all.result (g.K.Sink.done c.put_all.new.sink ≡ g.K.Sink.done c.lines.sink) (sym c.if-is_err.ensures.value)
+          c.put_all.ensures.quiet ∙ c.lines.invariant.quiet;
+      once = λ done late. c.put_all.ensures.once (c.lines.invariant.quiet ∙ done) (c.lines.invariant.once done late);
     }
 
-pub returns-in-Err-refill : goal.returns-in-Err-refill
+pub returns-in-Err-refill-clause-over : goal.returns-in-Err-refill-clause-over
 unfolding source_fault_text
-returns-in-Err-refill g c =
+returns-in-Err-refill-clause-over g c =
     let new : Cut = c.advance.new.self in
     let l : IsWhole c.lines.feed.lines new = c.in-Ok-false.ensures.whole c.in-Ok-false.field-0-test in
     let all : Appends (g.K.Sink.contents c.lines.sink) (g.K.Sink.contents c.put_all.new.sink) c.lines.feed.out.items = subst
@@ -148,9 +153,9 @@ returns-in-Err-refill g c =
     c.say-in-Err-refill.ensures.said
     c.say-in-Err-refill.ensures.sink_well
 
-pub returns-in-Err : goal.returns-in-Err
+pub returns-in-Err-clause-over : goal.returns-in-Err-clause-over
 unfolding memory_fault_text
-returns-in-Err g c =
+returns-in-Err-clause-over g c =
     let k = c.lines.invariant.going in
     over_memory g.row.T.Denot g.row.E.Denot g.T.Answerer.answer g.T.Answerer.closing _ _ c.lines.answerer c.lines.feed _
     (c.deref-in-Err.result.now ++ memory_fault_text) c.want_memory-in-Err.result (g.K.Sink.contents c.want_memory-in-Err.new.sink)

@@ -1,4 +1,4 @@
-use Rattle.std.proofs.Common.{◌≤◌, ◌+◌, ◌-◌, ◌*◌, length}
+use Rattle.std.proofs.Common.{◌≡◌, ◌≤◌, false, ◌+◌, ◌-◌, ◌*◌, length}
 use Rattle.trace_loop.specs.private.Going.{IsFed, IsGoing, ends_of}
 use Rattle.trace_loop.proofs.program.answer_fed.Given as goal
 
@@ -11,6 +11,8 @@ invariant-lines g l =
       may : g.T.Answerer.may (l.feed.lines.number + 1) l.answerer;
       fed : IsFed l.feed (g.S.Source.given l.source);
       going : IsGoing g.row.T.Denot g.row.E.Denot g.T.Answerer.answer l.fn.answerer (ends l.fn.source l.fn.sink) l.answerer l.feed (ends l.source l.sink);
+      quiet : g.K.Sink.done l.sink ≡ g.K.Sink.done l.fn.sink;
+      once : g.K.Sink.done l.fn.sink ≡ false → g.K.Sink.late l.fn.sink ≡ false → g.K.Sink.late l.sink ≡ false;
     }
 
 abbrev pub decreases-lines : goal.decreases-lines
