@@ -41,35 +41,53 @@ use Rattle.std.specs.Char.{digit_char}
 use Rattle.std.proofs.lemmas.List.{drop_more, take-append-drop}
 use lib.Ieee.Fits.{and_l, and_r}
 use Rattle.reply_text.specs.Words.{hex_text, hexes}
-use Rattle.reply_text.specs.declared.digits.TheConstants.{DIGITS}
+use Rattle.reply_text.specs.declared.digits.TheConstants.{PAIRS}
 
--- the first digits are the bytes of the table
-abbrev are_digits : ℕ → Bool
-are_digits zero = true
-are_digits (suc n) = eqb (get_or DIGITS n 0) (digit_char n) && are_digits n
+-- the first bytes have their two digits in the table
+abbrev are_pairs : ℕ → Bool
+are_pairs zero = true
+are_pairs (suc n) =
+    eqb (get_or PAIRS (2 * n) 0) (digit_char (n / 16)) && (eqb (get_or PAIRS (2 * n + 1) 0) (digit_char (n % 16)) && are_pairs n)
 
-DIGITS_below : (n d : ℕ) → T (are_digits n) → d < n → get_or DIGITS d 0 ≡ digit_char d
-DIGITS_below zero d t h = absurd (omega arith)
-DIGITS_below (suc n) d t h =
-    elim (eq-zero-or-pos (n - d)) [
-      | inl z ↦ let e : d ≡ n = omega arith in rw e (eqb→eq _ _ (and_l _ (are_digits n) t))
-      | inr g ↦ DIGITS_below n d (and_r _ (are_digits n) t) (omega arith)
+PAIRS_below : (n b : ℕ) → T (are_pairs n) → b < n
+    → (get_or PAIRS (2 * b) 0 ≡ digit_char (b / 16)) × (get_or PAIRS (2 * b + 1) 0 ≡ digit_char (b % 16))
+PAIRS_below zero b t h = absurd (omega arith)
+PAIRS_below (suc n) b t h =
+    let high : Bool = eqb (get_or PAIRS (2 * n) 0) (digit_char (n / 16)) in
+    let low : Bool = eqb (get_or PAIRS (2 * n + 1) 0) (digit_char (n % 16)) in
+    let more : T (low && are_pairs n) = and_r high (low && are_pairs n) t in
+    elim (eq-zero-or-pos (n - b)) [
+      | inl z ↦
+          let e : b ≡ n = omega arith in
+          rw e (eqb→eq _ _ (and_l high (low && are_pairs n) t), eqb→eq _ _ (and_l low (are_pairs n) more))
+      | inr g ↦ PAIRS_below n b (and_r low (are_pairs n) more) (omega arith)
     ]
 
--- the table of digits
-pub DIGITS_at : (d : ℕ) → d < 16 → get_or DIGITS d 0 ≡ digit_char d
-DIGITS_at d h = DIGITS_below 16 d tt h
+-- the table of pairs of digits
+pub PAIRS_at : (b : ℕ) → b < 256
+    → (get_or PAIRS (2 * b) 0 ≡ digit_char (b / 16)) × (get_or PAIRS (2 * b + 1) 0 ≡ digit_char (b % 16))
+PAIRS_at b h = PAIRS_below 256 b tt h
 
 -- one digit more, by a number that counts down
 pub hex_text-more : (k j n : ℕ) → k ≡ j + 1 → hex_text k n ≡ hex_text j (n / 16) ++ digit_char (n % 16) ∷ []
 unfolding hex_text
 hex_text-more k j n e = subst (λ (m : ℕ). hex_text m n ≡ hex_text j (n / 16) ++ digit_char (n % 16) ∷ []) (let next : suc j ≡ k = omega arith in next) refl
 
--- the step of a loop that writes them from the last to the first
-pub hex_step : (k j n : ℕ) (rest all : List ℕ) → k ≡ j + 1 → hex_text k n ++ rest ≡ all → hex_text j (n / 16) ++ digit_char (n % 16) ∷ rest ≡ all
+-- one digit after the others is one before the rest
+hex_step : (k j n : ℕ) (rest all : List ℕ) → k ≡ j + 1 → hex_text k n ++ rest ≡ all → hex_text j (n / 16) ++ digit_char (n % 16) ∷ rest ≡ all
 hex_step k j n rest all e h =
     sym (ap (λ (t : List ℕ). t ++ rest) (hex_text-more k j n e) ∙ append_assoc (hex_text j (n / 16)) (digit_char (n % 16) ∷ []) rest)
     ∙ h
+
+-- the step of a loop that writes two of them, from the last to the first
+pub pair_step : (k j n : ℕ) (rest all : List ℕ) → k ≡ j + 2 → hex_text k n ++ rest ≡ all
+    → hex_text j (n / 256) ++ digit_char (n % 256 / 16) ∷ digit_char (n % 256 % 16) ∷ rest ≡ all
+pair_step k j n rest all e h =
+    let left : n / 256 ≡ n / 16 / 16 = omega arith in
+    let high : n % 256 / 16 ≡ n / 16 % 16 = omega arith in
+    let low : n % 256 % 16 ≡ n % 16 = omega arith in
+    let one = hex_step k (j + 1) n rest all (omega arith) h in
+    rw (left, high, low) (hex_step (j + 1) j (n / 16) (digit_char (n % 16) ∷ rest) all refl one)
 
 -- that many digits
 pub length-hex_text : (k n : ℕ) → length (hex_text k n) ≡ k
@@ -77,7 +95,7 @@ unfolding hex_text
 length-hex_text zero n = refl
 length-hex_text (suc k) n = omega (arith, length-append (hex_text k (n / 16)) (digit_char (n % 16) ∷ []), length-hex_text k (n / 16))
 
--- digits of bytes, one list behind another
+-- digits of bytes, one list after another
 pub hexes-append : (xs ys : List ℕ) → hexes (xs ++ ys) ≡ hexes xs ++ hexes ys
 unfolding hexes
 hexes-append [] ys = refl

@@ -12,7 +12,7 @@ unfoldable pub hexes : List ℕ → List ℕ
 hexes [] = []
 hexes (b ∷ bs) = digit_char (b / 16) ∷ digit_char (b % 16) ∷ hexes bs
 
--- words behind another, each behind its space, and the line's end
+-- words one after another, each after a space, and the line's end
 abbrev pub spaced : List (List ℕ) → List ℕ
 spaced [] = 10 ∷ []
 spaced (w ∷ ws) = 32 ∷ w ++ spaced ws

@@ -30,9 +30,9 @@ pub fn page_line(line: u64, reply: &PageReply, out: &mut Vec<u8>) -> Result<(), 
         PageReply::Off => tail.word(b"off"),
         PageReply::On { page, reading } => {
             tail.number(*reading);
-            tail.hex(u64::from(page.flags), 2);
+            tail.hex(u64::from(page.flags), 1);
             tail.signed(page.shift);
-            tail.hex(u64::from(page.mul), 8);
+            tail.hex(u64::from(page.mul), 4);
             tail.number(page.system_time);
             tail.number(page.tsc_timestamp);
             tail.number(page.version);

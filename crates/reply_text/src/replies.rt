@@ -64,8 +64,8 @@ fn put_value(value: &Value, tail: &mut Tail)
 {
     match *value {
         Value::Nothing => {}
-        Value::Byte(byte) => tail.hex(u64::from(byte), 2),
-        Value::Word { width, value } => tail.hex(value, 2 * usize::from(width.min(8))),
+        Value::Byte(byte) => tail.hex(u64::from(byte), 1),
+        Value::Word { width, value } => tail.hex(value, usize::from(width.min(8))),
         Value::Counts(counts) => {
             tail.number(counts.lost);
             tail.number(counts.queue);
@@ -94,7 +94,7 @@ pub fn edge_line(edge: &Edge, to: Option<Delivery>, out: &mut Vec<u8>) -> Result
 {
     let mut tail = Tail::new();
     if let Some(to) = to {
-        tail.hex(u64::from(to.vector), 2);
+        tail.hex(u64::from(to.vector), 1);
         tail.number(u64::from(to.cpu));
     }
     tail.word(if edge.up { b"up" } else { b"down" });
@@ -117,7 +117,7 @@ pub fn msg_line(sent: &Sent, out: &mut Vec<u8>) -> Result<(), NoMemory>
     let mut tail = Tail::new();
     tail.number(burst.every);
     tail.number(burst.count);
-    tail.hex(u64::from(to.vector), 2);
+    tail.hex(u64::from(to.vector), 1);
     tail.number(u64::from(to.cpu));
     tail.number(u64::from(burst.timer));
     tail.number(burst.first);

@@ -19,7 +19,6 @@ ghost use Rattle.std.specs.Io.{StartsWith};
 ghost use Rattle.reply_text.specs.Words.{hexes};
 ghost use Rattle.reply_text.specs.Text.{save_text, move_text, state_text};
 
-use crate::digits::hex_digit;
 use crate::tail::Tail;
 use clk_units::NoMemory;
 
@@ -51,7 +50,7 @@ pub fn state_line(bytes: &[u8], out: &mut Vec<u8>) -> Result<(), NoMemory>
     append_state(&front, bytes, out)
 }
 
-/// The line of a move: the line of the record, the number of its access, and the time behind the gap.
+/// The line of a move: the line of the record, the number of its access, and the time after the gap.
 #[tactic(auto, unfolding(crate::specs::Text::move_text))]
 pub fn move_line(line: u64, number: u64, time: u64, out: &mut Vec<u8>) -> Result<(), NoMemory>
     ensures ok { OnOk result (out.new.items ≡ out.old.items ++ move_text line number time) }
@@ -83,7 +82,7 @@ fn append_state(front: &Tail, bytes: &[u8], out: &mut Vec<u8>) -> Result<(), NoM
     appended
 }
 
-/// The same, but what was appended stays behind an `Err`.
+/// The same, but what was appended stays after an `Err`.
 fn append_parts(front: &Tail, bytes: &[u8], out: &mut Vec<u8>) -> Result<(), NoMemory>
     ensures ok { OnOk result (out.new.items
         ≡ out.old.items ++ front.now ++ hexes bytes.now ++ 10 ∷ []) }
@@ -99,7 +98,7 @@ fn append_parts(front: &Tail, bytes: &[u8], out: &mut Vec<u8>) -> Result<(), NoM
 /// How many bytes of a saved state are written at once.
 const PIECE: usize = 64;
 
-/// Appends two digits a byte. What was appended stays behind an `Err`.
+/// Appends two digits a byte. What was appended stays after an `Err`.
 fn append_hexes(bytes: &[u8], out: &mut Vec<u8>) -> Result<(), NoMemory>
     ensures ok { OnOk result (out.new.items ≡ out.old.items ++ hexes bytes.now) }
     ensures err { OnErr result (StartsWith out.new.items out.old.items) }
@@ -127,9 +126,7 @@ fn append_piece(bytes: &[u8], out: &mut Vec<u8>) -> Result<(), NoMemory>
 {
     let mut tail = Tail::empty();
     for place in (0..bytes.len()).rev() {
-        let byte = bytes[place];
-        tail.byte(hex_digit(byte % 16));
-        tail.byte(hex_digit(byte / 16));
+        tail.pair(bytes[place]);
     }
     tail.append_to(out)
 }

@@ -15,8 +15,8 @@ ghost use Rattle.reply_text.specs.Soak.{soak_text};
 use crate::tail::Tail;
 use clk_units::NoMemory;
 
-/// The line of a soak: how many records were asked for, how many edges came, the time behind the last record, and the
-/// greatest clock reading that was told.
+/// The line of a soak: how many records were asked for, how many edges came, the time after the last record, and the
+/// greatest clock reading that was given.
 #[tactic(auto, unfolding(crate::specs::Soak::soak_text))]
 pub fn soak_line(
     records: u64,

@@ -3,6 +3,8 @@ ghost use Rattle.std.specs.Prelude.{
   ◌≡◌,
   ◌+◌,
   ◌*◌,
+  ◌/◌,
+  ◌%◌,
   ◌<◌,
   ◌≤◌,
   ◌++◌,
@@ -15,11 +17,12 @@ ghost use Rattle.std.specs.Prelude.{
   vec_len,
   vec_capacity,
 };
+ghost use Rattle.std.specs.Char.{digit_char};
 ghost use Rattle.std.specs.Fmt.{signed_decimal};
 ghost use Rattle.reply_text.specs.Words.{hex_text, spaced};
 ghost use Rattle.reply_text.specs.declared.tail.TheConstants.{LONGEST};
 
-use crate::digits::{write_byte, write_hex, write_text};
+use crate::digits::{write_byte, write_hex, write_pair, write_text};
 use clk_units::NoMemory;
 use itoa::{Buffer, write_digits};
 use std::marker::Model;
@@ -27,7 +30,7 @@ use std::marker::Model;
 /// The most bytes that a line without a saved state has.
 pub(crate) const LONGEST: usize = 128;
 
-/// The words at the end of a line, each behind its space, and the line's end.
+/// The words at the end of a line, each after its space, and the line's end.
 #[derive(Drop)]
 pub(crate) struct Tail {
     bytes: [u8; LONGEST],
@@ -107,7 +110,7 @@ impl Tail {
         self.start = write_digits(u64::from(n), &mut self.bytes, self.start);
     }
 
-    /// A word in front, behind a space.
+    /// A word in front, after a space.
     #[inline(always)]
     pub(crate) fn word(&mut self, word: &[u8])
         requires { length self.old + length word.now < LONGEST }
@@ -118,7 +121,7 @@ impl Tail {
         self.byte(b' ');
     }
 
-    /// A number in front, behind a space.
+    /// A number in front, after a space.
     #[inline(always)]
     pub(crate) fn number(&mut self, n: u64)
         requires { length self.old + 20 < LONGEST }
@@ -129,7 +132,7 @@ impl Tail {
         self.byte(b' ');
     }
 
-    /// A number of up to 128 bits in front, behind a space.
+    /// A number of up to 128 bits in front, after a space.
     pub(crate) fn wide(&mut self, n: u128)
         requires { length self.old + 40 < LONGEST }
         ensures value { self.new ≡ 32 ∷ decimal n ++ self.old }
@@ -139,7 +142,7 @@ impl Tail {
         self.word(buffer.format(n).as_bytes());
     }
 
-    /// A number with its sign in front, behind a space.
+    /// A number with its sign in front, after a space.
     pub(crate) fn signed(&mut self, n: i8)
         requires { length self.old + 4 < LONGEST }
         ensures value { self.new ≡ 32 ∷ signed_decimal n ++ self.old }
@@ -149,12 +152,22 @@ impl Tail {
         self.word(buffer.format(n).as_bytes());
     }
 
-    /// The last `count` hexadecimal digits of a number in front, behind a space.
+    /// The two hexadecimal digits of a byte in front.
+    #[inline(always)]
+    pub(crate) fn pair(&mut self, byte: u8)
+        requires { length self.old + 2 ≤ LONGEST }
+        ensures value { self.new ≡ digit_char (byte / 16) ∷ digit_char (byte % 16) ∷ self.old }
+        ensures len { length self.new ≡ length self.old + 2 }
+    {
+        self.start = write_pair(byte, &mut self.bytes, self.start);
+    }
+
+    /// The hexadecimal digits of the last `count` bytes of a number in front, after a space.
     #[inline(always)]
     pub(crate) fn hex(&mut self, n: u64, count: usize)
-        requires { length self.old + count < LONGEST }
-        ensures value { self.new ≡ 32 ∷ hex_text count n ++ self.old }
-        ensures len { length self.new ≡ length self.old + count + 1 }
+        requires { length self.old + 2 * count < LONGEST }
+        ensures value { self.new ≡ 32 ∷ hex_text (2 * count) n ++ self.old }
+        ensures len { length self.new ≡ length self.old + 2 * count + 1 }
     {
         self.start = write_hex(n, count, &mut self.bytes, self.start);
         self.byte(b' ');

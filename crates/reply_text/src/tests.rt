@@ -1,4 +1,4 @@
-//! What no clause says: with ample memory each call answers Ok, and lines stand one behind the other.
+//! What no clause says: with ample memory each call answers Ok, and each line follows the one before.
 use super::*;
 use board_types::{Reply, Value};
 use edge_hooks::{Delivery, Sent};
@@ -7,9 +7,9 @@ use irq_edges::{Burst, BurstList, Edge, EdgeList, Lines};
 use pvclock_page::{ClockReply, Page, PageReply};
 use std::test::Fail;
 
-/// The block of an access, then each other kind of line, and the line that ends a trace.
+/// The block of an access: its edges, its messages and its reply.
 #[test]
-fn lines_of_a_replay(rt: HostRuntime) -> Result<(), Fail> {
+fn lines_of_an_access(rt: HostRuntime) -> Result<(), Fail> {
     let mut out = Vec::new(rt.alloc());
     let edge = Edge {
         at: 4191,
@@ -37,6 +37,21 @@ fn lines_of_a_replay(rt: HostRuntime) -> Result<(), Fail> {
         edges: EdgeList::new(),
         bursts: BurstList::new(),
     };
+    edge_line(&edge, None, &mut out)?;
+    edge_line(&edge, Some(to), &mut out)?;
+    msg_line(&Sent { burst, to }, &mut out)?;
+    board_line(6, &reply, &mut out)?;
+    value_line(7, 5, &Value::Byte(4), &mut out)?;
+    let wanted =
+        b"edge 4191 0 up\nedge 4191 0 up 0 30\nmsg 5000 7 0 30 1 0\n6 4 009896808086a201\n7 5 04\n";
+    assert_eq!(rt; out.as_slice(), wanted.as_slice());
+    Ok(())
+}
+
+/// Each other kind of line, and the lines that end a trace.
+#[test]
+fn lines_of_pages_saves_and_ends(rt: HostRuntime) -> Result<(), Fail> {
+    let mut out = Vec::new(rt.alloc());
     let page = Page {
         version: 4,
         tsc_timestamp: 2_000_004_000,
@@ -47,22 +62,11 @@ fn lines_of_a_replay(rt: HostRuntime) -> Result<(), Fail> {
         offset: 0,
         enabled: true,
     };
+    let reading = 1_000_003_000;
     let lines = Lines {
         levels: [true, false, false, true, false, true],
     };
-    edge_line(&edge, None, &mut out)?;
-    edge_line(&edge, Some(to), &mut out)?;
-    msg_line(&Sent { burst, to }, &mut out)?;
-    board_line(6, &reply, &mut out)?;
-    value_line(7, 5, &Value::Byte(4), &mut out)?;
-    page_line(
-        11,
-        &PageReply::On {
-            page,
-            reading: 1_000_003_000,
-        },
-        &mut out,
-    )?;
+    page_line(11, &PageReply::On { page, reading }, &mut out)?;
     clock_line(12, &ClockReply::Off, &mut out)?;
     hv_line(13, &HvReply::Off, &mut out)?;
     move_line(9, 5, 1_000_002_000, &mut out)?;
@@ -71,8 +75,7 @@ fn lines_of_a_replay(rt: HostRuntime) -> Result<(), Fail> {
     final_line(5000, 6, 0, lines, &mut out)?;
     refused_line(4, Refused::Fell { before: 10 }, &mut out)?;
     let wanted =
-        b"edge 4191 0 up\nedge 4191 0 up 0 30\nmsg 5000 7 0 30 1 0\n6 4 009896808086a201\n7 5 04\n\
-11 page 4 2000004000 1000002000 80000000 -1 03 1000003000\n12 clock off\n13 hv off\n\
+        b"11 page 4 2000004000 1000002000 80000000 -1 03 1000003000\n12 clock off\n13 hv off\n\
 9 5 moved 1000002000\n3 1 state 434c4b424f415244\nstate fe0f\nfinal 5000 6 0 0,21,23\nrefused 4 fell 10\n";
     assert_eq!(rt; out.as_slice(), wanted.as_slice());
     Ok(())

@@ -15,8 +15,5 @@ pub loop-place-preserved : goal.loop-place-preserved
 loop-place-preserved c =
     let place : ℕ = c.loop-place.place - 1 in
     let next : place + 1 ≡ c.loop-place.place = omega arith in
-    let front = hexes-drop c.args.bytes.now place c.loop-place.place next (omega arith) in (
-      c.byte-in-loop-place.ensures.value
-          ∙ rw (c.byte.ensures.value, c.hex_digit.ensures, c.hex_digit-in-loop-place.ensures, c.loop-place.invariant.0) (sym front),
-      omega (arith, c.byte.ensures.len, c.byte-in-loop-place.ensures.len),
-    )
+    let front = hexes-drop c.args.bytes.now place c.loop-place.place next (omega arith) in
+    (c.pair.ensures.value ∙ rw (c.loop-place.invariant.0) (sym front), omega (arith, c.pair.ensures.len))
