@@ -19,6 +19,7 @@ APICS = "local_apics.specs.Nanosecond"
 MESSAGES = "hpet_bursts.specs.Messages"
 RATES = (("pit_readback", "PIT_HZ"), ("rtc_registers", "RTC_HZ"), ("hpet_registers", "HPET_HZ"))
 SECOND = 10**9
+SHORT = 16
 
 
 class Runs:
@@ -32,10 +33,17 @@ class Runs:
     def take_place(self) -> None:
         self.kept: list[tuple] = []
         self.kept_apics: list[tuple] = []
-        self.all.made[RUN, "run"] = self.run
-        self.all.made[NEXT, "first_edge"] = self.first_edge
-        self.all.made[APICS, "run"] = self.apics_run
-        self.all.made[MESSAGES, "message_times"] = self.message_times
+        for place, length_at, quickly in ((RUN, "run"), 1, self.run), ((NEXT, "first_edge"), 1, self.first_edge), \
+                ((APICS, "run"), 2, self.apics_run), ((MESSAGES, "message_times"), 2, self.message_times):
+            self.all.made[place] = self.where_short(place, length_at, quickly)
+
+    def where_short(self, place: tuple[str, str], length_at: int, quickly: Callable) -> Callable:
+        """The definition itself for a length of at most `SHORT`, else what takes its place."""
+        module = self.all.modules[place[0]]
+        by_definition = self.all.function(module, module.declared[place[1]])
+        if self.all.arity(*place) == 3:
+            return lambda a, b, c: (by_definition if (a, b, c)[length_at] <= SHORT else quickly)(a, b, c)
+        return lambda a, b, c, d: (by_definition if (a, b, c, d)[length_at] <= SHORT else quickly)(a, b, c, d)
 
     def run(self, start: int, length: int, devices: Fields) -> Fields:
         for known, result in self.kept:

@@ -15,7 +15,8 @@ from pathlib import Path
 from . import syntax
 from .syntax import Declared, Module
 
-SIGNS = {"&&": "({} and {})", "||": "({} or {})", "==": "({} == {})", "≡": "({} == {})", "≢": "({} != {})",
+SIGNS = {"×": "({} and {})", "⊎": "({} or {})", "<": "({} < {})", "≤": "({} <= {})",
+         "&&": "({} and {})", "||": "({} or {})", "==": "({} == {})", "≡": "({} == {})", "≢": "({} != {})",
          "∷": "[{}, *{}]", "++": "({} + {})", "+": "({} + {})", "-": "max({} - {}, 0)", "*": "({} * {})",
          "/": "quotient({}, {})", "%": "remainder({}, {})", "^": "({} ** {})"}
 
@@ -112,7 +113,8 @@ def decoded(text: list[int]) -> tuple:
 
 
 LIBRARY: dict[str, object] = {
-    "zero": 0, "true": True, "false": False, "w8": 8, "w16": 16, "w32": 32, "w64": 64,
+    "zero": 0, "true": True, "false": False, "⊥": False, "IsTrue": lambda b: b, "All": lambda f, xs: all(map(f, xs)),
+    "w8": 8, "w16": 16, "w32": 32, "w64": 64,
     "suc": lambda n: n + 1, "not": lambda b: not b, "max": max, "min": min,
     "nat_lt": lambda a, b: a < b, "nat_le": lambda a, b: a <= b, "nat_eq": lambda a, b: a == b,
     "bytes_eq": lambda a, b: a == b,
@@ -155,8 +157,10 @@ class Definitions:
         self.constants = syntax.constants(crates)
         self.made: dict[tuple[str, str], Callable] = {}
         self.arities: dict[tuple[str, str], int] = {}
-        # one equation in the place of another: whose, which, its patterns and what it gives
-        self.instead: tuple[tuple[str, str], int, tuple] | None = None
+        # a definition with other equations: each by its number, or None where it is left out
+        self.instead: tuple[tuple[str, str], dict[int, tuple | None]] | None = None
+        # which equations gave a value, where that is asked for: whose, and which
+        self.given: set[tuple[tuple[str, str], int]] | None = None
         self.names = {"quotient": quotient, "remainder": remainder, "Fields": Fields, "partial": functools.partial,
                       "call": self.get, "applied": applied, "library": LIBRARY, "max": max, "Gap": Gap}
 
@@ -175,27 +179,39 @@ class Definitions:
             declared = self.modules[key].declared[name]
             if not declared.equations:
                 raise Gap(f"{key}.{name} has no equation")
-            self.arities[place] = len(syntax.equation(declared.equations[0])[0])
+            self.arities[place] = len(self.equation(declared.equations[0])[0])
         return self.arities[place]
+
+    @staticmethod
+    def equation(text: str) -> tuple[list[tuple], tuple]:
+        try:
+            return syntax.equation(text)
+        except SyntaxError as error:
+            raise Gap(str(error)) from error
 
     def function(self, module: Module, declared: Declared) -> Callable:
         writer = Writer(self, module)
         lines = [f"def it({', '.join(f'a{k}' for k in range(self.arity(module.key, declared.name)))}):"]
+        place, others = self.instead or (None, {})
         for number, text in enumerate(declared.equations):
-            patterns, given = syntax.equation(text)
-            if self.instead and self.instead[:2] == ((module.key, declared.name), number):
-                patterns, given = self.instead[2]
+            read = self.equation(text)
+            if place == (module.key, declared.name):
+                read = others.get(number, read)
+            if read is None:
+                continue
+            patterns, given = read
             known: dict[str, str] = {}
             tests: list[str] = []
             for k, pattern in enumerate(patterns):
                 writer.match(pattern, f"a{k}", known, tests)
-            lines.append(f"  if {' and '.join(tests) or 'True'}: return {writer.write(given, known)}")
+            mark = "" if self.given is None else f"given.add(({(module.key, declared.name)}, {number})); "
+            lines.append(f"  if {' and '.join(tests) or 'True'}: {mark}return {writer.write(given, known)}")
         lines.append(f"  raise Gap('no equation of {declared.name} fits')")
         return self.run("\n".join(lines), "it")
 
     def run(self, text: str, name: str) -> Callable:
         made: dict[str, object] = {}
-        exec(text, self.names, made)
+        exec(text, self.names | {"given": self.given}, made)
         return made[name]
 
     def expression(self, module: Module, read: tuple) -> object:

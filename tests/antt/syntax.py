@@ -17,8 +17,9 @@ TOKEN = re.compile(r"""\s*(?:
 )""", re.VERBOSE)
 
 # How tightly a sign binds, and to which side it groups.
-BINDS = {"≡": (0, "n"), "≢": (0, "n"), "||": (1, "r"), "&&": (2, "r"), "==": (3, "n"), "∷": (4, "r"), "++": (4, "r"),
-         "+": (6, "l"), "-": (6, "l"), "*": (7, "l"), "/": (7, "l"), "%": (7, "l"), "^": (8, "r")}
+BINDS = {"⊎": (-2, "r"), "×": (-1, "r"), "≡": (0, "n"), "≢": (0, "n"), "<": (0, "n"), "≤": (0, "n"), "||": (1, "r"),
+         "&&": (2, "r"), "==": (3, "n"), "∷": (4, "r"), "++": (4, "r"), "+": (6, "l"), "-": (6, "l"), "*": (7, "l"),
+         "/": (7, "l"), "%": (7, "l"), "^": (8, "r")}
 
 HEAD = re.compile(r"^((?:(?:abbrev|unfoldable|opaque|private) )*)(pub )?(?:(record|data) )?(\S+)")
 IMPORT = re.compile(r"use (?:(?:Rattle|mathlib)\.)?([\w.]+?)(?:\.\{(.*)\}|(?: as (\w+)))?$")
@@ -94,7 +95,7 @@ class Parser:
         self.take("")
         return read
 
-    def expression(self, least: int = 0) -> tuple:
+    def expression(self, least: int = -2) -> tuple:
         if self.next.kind == "lam" or self.next.text in ("if", "let"):
             return self.prefixed()
         left = self.application()
@@ -152,6 +153,11 @@ class Parser:
             read = ("nil",)
         elif token.text == "record":
             read = self.record()
+        elif token.text == "Unit":
+            self.take("{")
+            self.take("0")
+            self.take("}")
+            read = ("var", "true")
         elif token.kind == "id":
             read = ("var", token.text)
         elif token.text == "(":
@@ -193,15 +199,14 @@ def equation(text: str) -> tuple[list[tuple], tuple]:
     while not parser.is_sign("="):
         patterns.append(parser.atom())
     parser.take("=")
-    given = parser.expression(1)
-    parser.take("")
-    return patterns, given
+    return patterns, parser.whole()
 
 
 def is_closed_row(declared: Declared) -> bool:
-    """Whether it is `left ≡ right`, proved by `refl`, with no variable."""
+    """Whether it is `left ≡ right`, proved by `refl`, or `IsLegal ..`, with no variable."""
     ends = len(declared.equations) == 1 and declared.equations[0].split()[-2:] == ["=", "refl"]
-    return ends and "≡" in declared.type and not re.search(r"^\s*\(\w[\w ]* : |\w \{\w+ = |⊥|\w\{", declared.type)
+    says = (ends and "≡" in declared.type) or declared.type.lstrip().startswith("IsLegal ")
+    return says and not re.search(r"^\s*\(\w[\w ]* : |\w \{\w+ = |\w\{", declared.type)
 
 
 def row(declared: Declared) -> tuple:
@@ -261,9 +266,19 @@ def take_declaration(made: Module, lines: list[str], text: str) -> None:
         return
     type_of = text[HEAD.match(text).end():].lstrip().removeprefix(":")
     made.declared[name] = Declared(name, kind or "def", type_of, bool(public), list(lines))
+    if kind == "record":
+        made.declared[name].equations.extend(conjunction(name, type_of))
     if kind == "data":
         for maker in re.findall(r"^\s+(?:pub )?(\w+) :", text, re.MULTILINE):
             made.makers[maker] = name
+
+
+def conjunction(name: str, type_of: str) -> list[str]:
+    """A record of facts of some values, as the equation that gives all of them at once."""
+    head, _, body = type_of.partition(" where\n")
+    names = " ".join(re.findall(r"\((\w[\w ]*) : ", head))
+    facts = re.split(r"^\s+pub \w+ :", body, flags=re.MULTILINE)[1:]
+    return [f"{name} {names} = {' × '.join(f'({it})' for it in facts)}"] if names and facts else []
 
 
 def constants(crates: Path) -> dict[tuple[str, str], int]:
