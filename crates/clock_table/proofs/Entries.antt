@@ -1,46 +1,110 @@
--- What a step asks that makes an entry, from what its call asks.
-use Rattle.std.proofs.Common.{◌≡◌, ℕ, ◌+◌, ◌%◌, ◌^◌, ◌<◌, [], ◌∷◌, ◌++◌, sym, ◌∙◌, subst, arith, true, None}
-use mathlib.Core.Option.{none}
-use Rattle.atomic_table.specs.Table.{step, Allows}
+-- What an entry of the pen's holder leaves, where it may come after what its seat has seen.
+use Rattle.std.proofs.Common.{◌≡◌, ◌≢◌, ℕ, ◌+◌, ◌^◌, ◌<◌, List, [], ◌∷◌, ◌++◌, ap, sym, ◌∙◌, subst, arith, refl}
+use Rattle.board_types.specs.declared.access.Access.{Access}
+use Rattle.board_types.specs.declared.reply.Reply.{Reply}
 use Rattle.board_types.specs.declared.parts.BoardParts.{BoardParts}
+use Rattle.board_core.specs.Access.{after_access}
+use Rattle.board_core.proofs.Laws.{after_access-greatest, refusal_of-greatest, reply_of-greatest, after_access-kept_greatest}
+use Rattle.board_history.specs.Machine.{page_at, hv_at}
+use Rattle.board_history.specs.History.{board_after, version_after, after_entry, IsAnswered, May}
+use Rattle.board_history.specs.private.Steady.{IsSteady}
 use Rattle.board_history.specs.declared.entry.Entry.{Entry}
-use Rattle.board_history.specs.Machine.{page_at}
-use Rattle.board_history.specs.History.{board_after}
-use Rattle.board_history.proofs.Laws.{is_of-pass}
-use Rattle.clock_table.specs.Words.{place, pages_for}
-use Rattle.clock_table.specs.Calls.{IsPen, IsNext, PublishesNone, IsBump, IsPublishing, HasPut, AllPut}
-use Rattle.clock_table.specs.private.Rule.{Kept}
-use Rattle.clock_table.specs.private.Plays.{Finished}
-use Rattle.clock_table.proofs.Keeps.{M}
-use Rattle.clock_table.proofs.WriteSteps.{Holds, enters, bumps, finishes}
+use Rattle.board_history.specs.declared.entry.Entry.TheVariants.{Opened, Board, PageRead, HvRead, Clamp}
+use Rattle.board_history.proofs.Pages.{version-here, page_at-else, page_at-none}
+use Rattle.board_history.proofs.Laws.{board_after-snoc}
+use Rattle.clock_table.specs.Steps.{GoesOnQuietly, weight, loudness, loud}
+use Rattle.clock_table.specs.Calls.{IsPublishing, PublishesNone, IsBump}
+use Rattle.clock_table.proofs.Keeps.{quiet_board, loud-append, loud_between}
 
-module _ (opening : BoardParts) where
-  holds : (id : ℕ) (me : M) (pen : IsPen me.0) → me.0.live ≡ true → Holds opening id pen.number.0 me
-  holds id me pen live = record { pen = pen.pen; number = pen.number.1; meet = pen.meet; live = live }
+-- the entry may come after the history, and raises the front word by n
+pub record Leaves (log : List Entry) (e : Entry) (n : ℕ) : Type 0 where
+  pub may : May log e
+  pub count : loud (log ++ e ∷ []) ≡ loud log + n
+  pub low : loud log + n < 2 ^ 63 + 1
+  pub greatest : (board_after (log ++ e ∷ [])).greatest ≡ (board_after log).greatest
 
-  -- an access that publishes no page
-  pub enter_allowed : (slots id : ℕ) (me : M) (e : Entry) → IsPen me.0 → me.0.live ≡ true → me.0.hand ≡ None → PublishesNone opening.cpus e → IsNext e me.0
-      → Allows (Kept opening) slots id me 0 (λ n. n) (Finished e (step slots 0 0 0 none) me)
-  enter_allowed slots id me e pen live shut quiet next =
-      let p = pen.number.0 in
-      enters opening slots id p me e (holds id me pen live) shut (is_of-pass e p (next.number ∙ pen.number.1)) quiet next.legal
+-- and it publishes the page c alone
+pub record Publishes (seen log : List Entry) (e : Entry) (c : ℕ) : Type 0 where
+  pub leaves : Leaves log e 0
+  pub version : version_after (log ++ e ∷ []) c ≡ version_after log c + 2
+  pub same : page_at (board_after (log ++ e ∷ [])) c ≡ page_at (board_after (seen ++ e ∷ [])) c
+  pub others : (d : ℕ) → d ≢ c → page_at (board_after log) d ≡ page_at (board_after (log ++ e ∷ [])) d
 
-  -- a read under the lock
-  pub bump_allowed : (slots id : ℕ) (me : M) (e : Entry) → IsPen me.0 → me.0.live ≡ true → me.0.hand ≡ None → IsBump me.0.seen e → IsNext e me.0
-      → Allows (Kept opening) slots id me 0 (λ n. (n + 1) % 2 ^ 64) (Finished e (step slots 0 1 0 none) me)
-  bump_allowed slots id me e pen live shut is next =
-      let p = pen.number.0 in
-      bumps opening slots id p me e (holds id me pen live) shut (is_of-pass e p (next.number ∙ pen.number.1)) is next.legal
+-- or it leaves all pages
+abbrev pub PagesStay : List Entry → Entry → Type 0
+PagesStay log e = (d : ℕ) → page_at (board_after log) d ≡ page_at (board_after (log ++ e ∷ [])) d
 
-  -- an entry that publishes the page c
-  pub finish_allowed : (slots id c : ℕ) (me : M) (e : Entry) → c < pages_for opening.cpus → IsPen me.0 → me.0.live ≡ true
-      → HasPut c (page_at (board_after (me.0.seen ++ e ∷ [])) c) me.0 → IsPublishing opening.cpus c e → IsNext e me.0
-      → Allows (Kept opening) slots id me (place c 0) (λ n. (n + 1) % 2 ^ 64) (Finished e (step slots (place c 0) 1 0 none) me)
-  finish_allowed slots id c me e there pen live put publishes next =
-      let p = pen.number.0 in
-      let o = put.0 in
-      let same : o.cpu ≡ c = put.2 in
-      subst (λ (x : ℕ). Allows (Kept opening) slots id me (place x 0) (λ n. (n + 1) % 2 ^ 64) (Finished e (step slots (place x 0) 1 0 none) me)) same
-      (finishes opening slots id p me o e (omega arith) (holds id me pen live) (is_of-pass e p (next.number ∙ pen.number.1)) put.1
-      (subst (λ (x : ℕ). IsPublishing opening.cpus x e) (sym same) publishes) next.legal
-      (subst (λ (x : ℕ). AllPut o (page_at (board_after (me.0.seen ++ e ∷ [])) x)) (sym same) put.3))
+board_leaves : (seen log : List Entry) (pass cpu h : ℕ) (a : Access) (reply : Reply) → GoesOnQuietly seen log → IsAnswered (board_after seen) cpu h a reply
+    → loud log < 2 ^ 63 + 1 → Leaves log (Board pass cpu h a reply) 0
+board_leaves seen log pass cpu h a reply quiet is low =
+    let q = quiet_board seen log quiet in
+    let b : BoardParts = board_after seen in
+    let e : Entry = Board pass cpu h a reply in
+    let count = loud-append log (e ∷ []) in
+    record {
+      may = subst (λ (x : BoardParts). IsAnswered x cpu h a reply) (sym q.1) (record {
+        cpu_below = is.cpu_below;
+        legal = is.legal;
+        taken = refusal_of-greatest b cpu h q.0 a ∙ is.taken;
+        reply = reply_of-greatest b cpu h q.0 a ∙ is.reply;
+      });
+      count = omega arith;
+      low = omega arith;
+      greatest = ap (λ (x : BoardParts). x.greatest) (board_after-snoc log e) ∙ after_access-kept_greatest (board_after log) cpu h a;
+    }
+
+-- an access that publishes no page
+pub enter_leaves : (seen log : List Entry) (e : Entry) → GoesOnQuietly seen log → PublishesNone (board_after log).cpus e → May seen e → loud log < 2 ^ 63 + 1
+    → Leaves log e 0 × PagesStay log e
+enter_leaves seen log (Opened s) quiet is may low = absurd is
+enter_leaves seen log (PageRead pass cpu h page locked) quiet is may low = absurd is
+enter_leaves seen log (HvRead pass h page locked) quiet is may low = absurd is
+enter_leaves seen log (Clamp pass cpu reading clock) quiet is may low = absurd is
+enter_leaves seen log (Board pass cpu h a reply) quiet is may low = (
+  board_leaves seen log pass cpu h a reply quiet may low,
+  λ d. sym (ap (λ (x : BoardParts). page_at x d) (board_after-snoc log (Board pass cpu h a reply)) ∙ page_at-none (board_after log) cpu h d a is),
+)
+
+-- a read under the lock
+read_leaves : (seen log : List Entry) (e : Entry) → GoesOnQuietly seen log → after_entry (board_after log) e ≡ board_after log → loudness e ≡ 1
+    → loud seen < 2 ^ 63 → May log e → Leaves log e 1 × PagesStay log e
+read_leaves seen log e quiet stays one few may =
+    let same : board_after (log ++ e ∷ []) ≡ board_after log = board_after-snoc log e ∙ stays in
+    let was : loud log ≡ loud seen = loud_between seen log quiet in
+    let count = loud-append log (e ∷ []) in (
+      record { may = may; count = omega arith; low = omega arith; greatest = ap (λ (x : BoardParts). x.greatest) same },
+      λ d. ap (λ (x : BoardParts). page_at x d) (sym same),
+    )
+
+pub bump_leaves : (seen log : List Entry) (e : Entry) → GoesOnQuietly seen log → IsBump seen e → May seen e → Leaves log e 1 × PagesStay log e
+bump_leaves seen log (Opened s) quiet is may = absurd is
+bump_leaves seen log (Board pass cpu h access reply) quiet is may = absurd is
+bump_leaves seen log (Clamp pass cpu reading clock) quiet is may = absurd is
+bump_leaves seen log (PageRead pass cpu h page locked) quiet is may =
+    read_leaves seen log (PageRead pass cpu h page locked) quiet refl (ap weight is.0) is.1
+    (subst (λ (x : BoardParts). (cpu < x.cpus) × (page_at x cpu ≡ page)) (sym (quiet_board seen log quiet).1) (may.0, may.1))
+bump_leaves seen log (HvRead pass h page locked) quiet is may =
+    read_leaves seen log (HvRead pass h page locked) quiet refl (ap weight is.0) is.1
+    (subst (λ (x : BoardParts). hv_at x ≡ page) (sym (quiet_board seen log quiet).1) may)
+
+-- an access that publishes a page
+pub publish_leaves : (seen log : List Entry) (e : Entry) (c : ℕ) → GoesOnQuietly seen log → IsPublishing (board_after log).cpus c e → May seen e
+    → loud log < 2 ^ 63 + 1 → IsSteady (board_after log) → Publishes seen log e c
+publish_leaves seen log (Opened s) c quiet is may low steady = absurd is
+publish_leaves seen log (PageRead pass cpu h page locked) c quiet is may low steady = absurd is
+publish_leaves seen log (HvRead pass h page locked) c quiet is may low steady = absurd is
+publish_leaves seen log (Clamp pass cpu reading clock) c quiet is may low steady = absurd is
+publish_leaves seen log (Board pass cpu h a reply) c quiet is may low steady =
+    let q = quiet_board seen log quiet in
+    let e : Entry = Board pass cpu h a reply in
+    let leaves = board_leaves seen log pass cpu h a reply quiet may low in
+    let answered : IsAnswered (board_after log) cpu h a reply = leaves.may in
+    let after = board_after-snoc log e in
+    record {
+      leaves = leaves;
+      version = ap (λ (x : BoardParts). (page_at x c).version) after
+          ∙ version-here (board_after log) cpu h c a steady.places answered.cpu_below answered.legal is;
+      same = ap (λ (x : BoardParts). page_at x c) (after ∙ (ap (λ (x : BoardParts). after_access x cpu h a) q.1
+          ∙ after_access-greatest (board_after seen) cpu h q.0 a)) ∙ sym (ap (λ (x : BoardParts). page_at x c) (board_after-snoc seen e));
+      others = λ d ne. sym (ap (λ (x : BoardParts). page_at x d) after ∙ page_at-else (board_after log) cpu h c d a is ne);
+    }

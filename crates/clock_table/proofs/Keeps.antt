@@ -1,65 +1,22 @@
 -- What a step has to show for the rule to be kept.
-use Rattle.std.proofs.Common.{
-  ◌≡◌,
-  ◌≢◌,
-  ℕ,
-  suc,
-  ◌+◌,
-  ◌%◌,
-  ◌<◌,
-  ◌≤◌,
-  eqb,
-  List,
-  [],
-  ◌∷◌,
-  ◌++◌,
-  length,
-  get_or,
-  set,
-  refl,
-  ap,
-  sym,
-  ◌∙◌,
-  subst,
-  arith,
-  append_assoc,
-  append-nil,
-  Bool,
-  true,
-  false,
-  true≢false,
-  Option,
-  Some,
-  None,
-  eq-eqb,
-}
+use Rattle.std.proofs.Common.{◌≡◌, ◌≢◌, ◌⊎◌, ℕ, suc, ◌+◌, ◌%◌, ◌<◌, ◌≤◌, eqb, List, [], ◌∷◌, ◌++◌, set, refl, ap, sym, ◌∙◌, subst, arith}
+use Rattle.std.proofs.Common.{append_assoc, append-nil, true, Option, Some, None, eq-eqb, ⊎_elim, inl, inr}
+use Rattle.std.proofs.lemmas.List.{append_cancel_left}
 use mathlib.Core.List.{IsPrefix}
-use mathlib.Core.Option.{some, some-injective}
+use mathlib.Core.Option.{some}
 use lib.ListN.{get_elem?}
 use Rattle.atomic_table.specs.Table.{State, Me}
-use Rattle.atomic_table.proofs.Lists.{set_else}
 use Rattle.pvclock_page.specs.declared.page.Page.{Page}
 use Rattle.pvclock_page.specs.Words.{page_of}
 use Rattle.pvclock_page.proofs.Fields.{page_of-words_of}
 use Rattle.board_types.specs.declared.parts.BoardParts.{BoardParts}
 use Rattle.board_core.specs.Pages.{with_greatest}
-use Rattle.board_history.specs.Machine.{machine_of, page_at, no_board}
-use Rattle.board_history.specs.History.{of_state, board_from, board_after, version_after, May, LegalFrom, IsLegal, entries_of, is_of}
+use Rattle.board_history.specs.Machine.{machine_of, no_board}
+use Rattle.board_history.specs.History.{of_state, board_from, board_after, May, IsLegal, entries_of, is_of}
 use Rattle.board_history.specs.private.Steady.{IsSteady, IsSteadyPage}
 use Rattle.board_history.specs.declared.entry.Entry.{Entry}
 use Rattle.board_history.specs.declared.entry.Entry.TheVariants.{Opened, Board, PageRead, HvRead, Clamp}
-use Rattle.board_history.proofs.Laws.{
-  no_board-version,
-  board_from-++,
-  board_after-snoc,
-  LegalFrom-snoc,
-  LegalFrom-rest,
-  versions-grow,
-  steady-entry,
-  machine-entry,
-  entries_of-++,
-  entries_of-else,
-}
+use Rattle.board_history.proofs.Laws.{board_from-++, board_after-snoc, LegalFrom-snoc, steady-entry, machine-entry, entries_of-++, entries_of-else}
 use Rattle.clock_table.specs.declared.view.View.{View}
 use Rattle.clock_table.specs.declared.view.Read.{Read}
 use Rattle.clock_table.specs.declared.view.Hand.{Hand}
@@ -67,9 +24,9 @@ use Rattle.clock_table.specs.declared.view.Miss.{Miss}
 use Rattle.clock_table.specs.declared.view.Meet.{Meet}
 use Rattle.clock_table.specs.declared.view.Ended.{Ended}
 use Rattle.clock_table.specs.Words.{word_of, field_at, pages_for}
-use Rattle.clock_table.specs.Steps.{IsQuiet, GoesOnQuietly, weight, loud, Learnt, here_of, penned_of, MeetKept, number_is, ended_with, claims}
-use Rattle.clock_table.specs.private.Rule.{PageKept, ReadKept, MissesKept, EndedKept, Ghost, log_in, Fits, FrontKept, Kept}
-use Rattle.clock_table.proofs.Lists.{prefix_self, prefix_trans, prefix_length, prefix_more, set_at, each_set}
+use Rattle.clock_table.specs.Steps.{IsQuietEntry, IsQuiet, GoesOnQuietly, weight, loud, Learnt, here_of, penned_of, MeetKept, number_is, ended_with, claims}
+use Rattle.clock_table.specs.private.Rule.{ReadingKept, MissesKept, EndedKept, Ghost, log_in, PenKept, HistoryKept, WordsKept, Fits, Kept}
+use Rattle.clock_table.proofs.Lists.{prefix_self, prefix_trans, prefix_length, each_set}
 
 abbrev pub St : Type 0
 St = State (Unit {0}) View
@@ -78,19 +35,20 @@ abbrev pub M : Type 0
 M = Me (Unit {0}) View
 
 -- versions rise, and the fields of a page whose even version stays are as they were
-pub record Later (cpus : ℕ) (ws ws' : List ℕ) : Type 0 where
-  pub up : (c : ℕ) → c < cpus → word_of ws c 0 ≤ word_of ws' c 0
-  pub still : (c : ℕ) → c < cpus → word_of ws' c 0 ≡ word_of ws c 0 → word_of ws c 0 % 2 ≡ 0 → (k : ℕ) → k < 4 → word_of ws' c (suc k) ≡ word_of ws c (suc k)
-
-pub later_self : (cpus : ℕ) (ws : List ℕ) → Later cpus ws ws
-later_self cpus ws = record { up = λ c l. omega arith; still = λ c l e v k m. refl }
+pub record Later (pages : ℕ) (ws ws' : List ℕ) : Type 0 where
+  pub up : (c : ℕ) → c < pages → word_of ws c 0 ≤ word_of ws' c 0
+  pub still : (c : ℕ) → c < pages → word_of ws' c 0 ≡ word_of ws c 0 → word_of ws c 0 % 2 ≡ 0 → (k : ℕ) → k < 4 → word_of ws' c (suc k) ≡ word_of ws c (suc k)
 
 -- words that differ in no word of a page
-pub later_same : (cpus : ℕ) (ws ws' : List ℕ) → ((c k : ℕ) → word_of ws' c k ≡ word_of ws c k) → Later cpus ws ws'
-later_same cpus ws ws' same = record { up = λ c l. let e = same c 0 in omega arith; still = λ c l e v k m. same c (suc k) }
+pub later_same : (pages : ℕ) (ws ws' : List ℕ) → ((c k : ℕ) → word_of ws' c k ≡ word_of ws c k) → Later pages ws ws'
+later_same pages ws ws' same = record { up = λ c l. let e = same c 0 in omega arith; still = λ c l e v k m. same c (suc k) }
 
-pub read_later : (cpus : ℕ) (ws ws' : List ℕ) (seen : List Entry) (r : Read) → Later cpus ws ws' → ReadKept ws cpus seen r → ReadKept ws' cpus seen r
-read_later cpus ws ws' seen r l k =
+pub later_self : (pages : ℕ) (ws : List ℕ) → Later pages ws ws
+later_self pages ws = later_same pages ws ws (λ c k. refl)
+
+read_later : (pages : ℕ) (ws ws' : List ℕ) (seen : List Entry) (o : Option Read) → Later pages ws ws' → ReadingKept ws pages seen o → ReadingKept ws' pages seen o
+read_later pages ws ws' seen None l k = tt
+read_later pages ws ws' seen (Some r) l k =
     let up = l.up r.cpu k.there in
     let grown = k.grown in
     record {
@@ -104,47 +62,49 @@ read_later cpus ws ws' seen r l k =
           l.still r.cpu k.there (is ∙ sym now) even j small ∙ k.same now j x small noted;
     }
 
-pub misses_later : (cpus : ℕ) (ws ws' : List ℕ) (xs : List Miss) → Later cpus ws ws' → MissesKept ws cpus xs → MissesKept ws' cpus xs
-misses_later cpus ws ws' [] l m = tt
-misses_later cpus ws ws' (x ∷ xs) l m = let up = l.up x.page m.0 in let was = m.1 in (m.0, omega arith, misses_later cpus ws ws' xs l m.2)
+pub misses_later : (pages : ℕ) (ws ws' : List ℕ) (xs : List Miss) → Later pages ws ws' → MissesKept ws pages xs → MissesKept ws' pages xs
+misses_later pages ws ws' [] l m = tt
+misses_later pages ws ws' (x ∷ xs) l m = let up = l.up x.page m.0 in let was = m.1 in (m.0, omega arith, misses_later pages ws ws' xs l m.2)
 
-pub misses_snoc : (ws : List ℕ) (cpus : ℕ) (xs : List Miss) (x : Miss) → MissesKept ws cpus xs → x.page < cpus → x.second ≤ word_of ws x.page 0
-    → MissesKept ws cpus (xs ++ x ∷ [])
-misses_snoc ws cpus [] x m l h = (l, h, tt)
-misses_snoc ws cpus (y ∷ ys) x m l h = (m.0, m.1, misses_snoc ws cpus ys x m.2 l h)
+pub misses_snoc : (ws : List ℕ) (pages : ℕ) (xs : List Miss) (x : Miss) → MissesKept ws pages xs → x.page < pages → x.second ≤ word_of ws x.page 0
+    → MissesKept ws pages (xs ++ x ∷ [])
+misses_snoc ws pages [] x m l h = (l, h, tt)
+misses_snoc ws pages (y ∷ ys) x m l h = (m.0, m.1, misses_snoc ws pages ys x m.2 l h)
 
--- entries of other numbers are added
-pub number_stays : (log es seen : List Entry) (n : ℕ) → entries_of n log ≡ entries_of n seen → entries_of n es ≡ []
-    → entries_of n (log ++ es) ≡ entries_of n seen
-number_stays log es seen n was none = entries_of-++ n log es ∙ (ap (λ ys. entries_of n log ++ ys) none ∙ (append-nil (entries_of n log) ∙ was))
+-- an entry of another number is added
+pub entry_else : (log : List Entry) (e : Entry) (p n : ℕ) → is_of p e ≡ true → n ≢ p → entries_of n (log ++ e ∷ []) ≡ entries_of n log
+entry_else log e p n is ne = entries_of-++ n log (e ∷ []) ∙ (ap (λ l. entries_of n log ++ l) (entries_of-else e p n is ne) ∙ append-nil (entries_of n log))
 
-pub ended_later : (cpus : ℕ) (ws ws' : List ℕ) (log es seen seen' : List Entry) (xs : List Ended) → Later cpus ws ws' → IsPrefix seen seen'
-    → ((n : ℕ) → 0 < ended_with n xs → entries_of n es ≡ [])
-    → EndedKept ws cpus log seen xs → EndedKept ws' cpus (log ++ es) seen' xs
-ended_later cpus ws ws' log es seen seen' [] l p own k = tt
-ended_later cpus ws ws' log es seen seen' (x ∷ xs) l p own k =
+ended_later : (pages : ℕ) (ws ws' : List ℕ) (log log' seen seen' : List Entry) (xs : List Ended) → Later pages ws ws' → IsPrefix seen seen'
+    → ((n : ℕ) → 0 < ended_with n xs → entries_of n log' ≡ entries_of n log) → EndedKept ws pages log seen xs → EndedKept ws' pages log' seen' xs
+ended_later pages ws ws' log log' seen seen' [] l p own k = tt
+ended_later pages ws ws' log log' seen seen' (x ∷ xs) l p own k =
     let here : weight (eqb x.number x.number) ≡ 1 = ap weight (eq-eqb x.number x.number refl) in (
       prefix_trans x.seen seen seen' k.0 p,
-      number_stays log es x.seen x.number k.1 (own x.number (omega arith)),
-      misses_later cpus ws ws' x.misses l k.2,
-      ended_later cpus ws ws' log es seen seen' xs l p (λ n m. own n (omega arith)) k.3,
+      own x.number (omega arith) ∙ k.1,
+      misses_later pages ws ws' x.misses l k.2,
+      ended_later pages ws ws' log log' seen seen' xs l p (λ n m. own n (omega arith)) k.3,
     )
 
 pub quiet_more : (xs ys : List Entry) → IsQuiet xs → IsQuiet ys → IsQuiet (xs ++ ys)
 quiet_more [] ys p q = q
 quiet_more (x ∷ xs) ys p q = (p.0, quiet_more xs ys p.1 q)
 
-pub quiet_both : (xs ys : List Entry) → IsQuiet (xs ++ ys) → IsQuiet xs × IsQuiet ys
+quiet_both : (xs ys : List Entry) → IsQuiet (xs ++ ys) → IsQuiet xs × IsQuiet ys
 quiet_both [] ys q = (tt, q)
 quiet_both (x ∷ xs) ys q = let r = quiet_both xs ys q.1 in ((q.0, r.0), r.1)
 
-pub quiet_board : (b : BoardParts) (es : List Entry) → IsQuiet es → (board_from b es).processors ≡ b.processors
-quiet_board b [] q = refl
-quiet_board b (Opened s ∷ es) q = absurd q.0
-quiet_board b (Board pass cpu h access reply ∷ es) q = absurd q.0
-quiet_board b (PageRead pass cpu h page locked ∷ es) q = quiet_board b es q.1
-quiet_board b (HvRead pass h page locked ∷ es) q = quiet_board b es q.1
-quiet_board b (Clamp pass cpu reading clock ∷ es) q = quiet_board (with_greatest b clock) es q.1
+pub quiet_self : (xs : List Entry) → GoesOnQuietly xs xs
+quiet_self xs = ([], append-nil xs, tt)
+
+quiet_trans : (a b c : List Entry) → GoesOnQuietly a b → GoesOnQuietly b c → GoesOnQuietly a c
+quiet_trans a b c p q = (p.0 ++ q.0, sym (append_assoc a p.0 q.0) ∙ (ap (λ l. l ++ q.0) p.1 ∙ q.1), quiet_more p.0 q.0 p.2 q.2)
+
+pub quiet_between : (a b c : List Entry) → IsPrefix a b → IsPrefix b c → GoesOnQuietly a c → GoesOnQuietly a b × GoesOnQuietly b c
+quiet_between a b c p q g =
+    let same : p.0 ++ q.0 ≡ g.0 = append_cancel_left a (p.0 ++ q.0) g.0 (sym (append_assoc a p.0 q.0) ∙ (ap (λ l. l ++ q.0) p.1 ∙ (q.1 ∙ sym g.1))) in
+    let both = quiet_both p.0 q.0 (subst IsQuiet (sym same) g.2) in
+    ((p.0, p.1, both.0), (q.0, q.1, both.1))
 
 -- quiet entries change nothing of the board but `greatest`
 pub quiet_beside : (b : BoardParts) (es : List Entry) → IsQuiet es → (g : ℕ) × (board_from b es ≡ with_greatest b g)
@@ -155,11 +115,9 @@ quiet_beside b (PageRead pass cpu h page locked ∷ es) q = quiet_beside b es q.
 quiet_beside b (HvRead pass h page locked ∷ es) q = quiet_beside b es q.1
 quiet_beside b (Clamp pass cpu reading clock ∷ es) q = let r = quiet_beside (with_greatest b clock) es q.1 in (r.0, r.1)
 
--- quiet entries leave each page
-pub quiet_page : (xs es : List Entry) (c : ℕ) → IsQuiet es → page_at (board_after (xs ++ es)) c ≡ page_at (board_after xs) c
-quiet_page xs es c q =
-    ap (λ (b : BoardParts). page_at b c) (board_from-++ no_board xs es)
-    ∙ ap (λ (b : BoardParts). page_at b c) (quiet_beside (board_after xs) es q).1
+-- the board after a history that went on quietly
+pub quiet_board : (xs ys : List Entry) → GoesOnQuietly xs ys → (g : ℕ) × (board_after ys ≡ with_greatest (board_after xs) g)
+quiet_board xs ys q = let r = quiet_beside (board_after xs) q.0 q.2 in (r.0, ap board_after (sym q.1) ∙ (board_from-++ no_board xs q.0 ∙ r.1))
 
 pub loud-append : (xs ys : List Entry) → loud (xs ++ ys) ≡ loud xs + loud ys
 loud-append [] ys = omega arith
@@ -173,21 +131,8 @@ loud_quiet (PageRead pass cpu h page locked ∷ es) q = let r = loud_quiet es q.
 loud_quiet (HvRead pass h page locked ∷ es) q = let r = loud_quiet es q.1 in let z : weight locked ≡ 0 = ap weight q.0 in omega arith
 loud_quiet (Clamp pass cpu reading clock ∷ es) q = let r = loud_quiet es q.1 in omega arith
 
--- what was seen has no later version than the history
-pub seen_least : (opening : BoardParts) (later seen : List Entry) (c : ℕ) → LegalFrom (of_state opening ∷ []) later → IsPrefix seen (of_state opening ∷ later)
-    → version_after seen c ≤ version_after (of_state opening ∷ later) c
-seen_least opening later [] c l p = let none_yet = no_board-version c in omega arith
-seen_least opening later (x ∷ xs) c l p =
-    let rest : xs ++ p.0 ≡ later = cc (p.1) in
-    let head : x ≡ of_state opening = cc (p.1) in
-    let legal : LegalFrom (of_state opening ∷ xs) p.0 = LegalFrom-rest (of_state opening ∷ []) xs p.0 (subst (LegalFrom (of_state opening ∷ [])) (sym rest) l)
-    in
-    let up = versions-grow (of_state opening ∷ xs) p.0 c legal in
-    subst (λ (z : Entry × List Entry). version_after (z.0 ∷ xs) c ≤ version_after (of_state opening ∷ z.1) c) (λ k. (sym head k, rest k)) up
-
-pub no_rest : (xs ys : List Entry) → xs ++ ys ≡ xs → ys ≡ []
-no_rest [] ys e = e
-no_rest (x ∷ xs) ys e = no_rest xs ys (cc e)
+pub loud_between : (b c : List Entry) → GoesOnQuietly b c → loud c ≡ loud b
+loud_between b c g = ap loud (sym g.1) ∙ (loud-append b g.0 ∙ (let z = loud_quiet g.0 g.2 in omega arith))
 
 -- a page of the board is that of its words
 pub rebuilt : (p : Page) (v a b c d : ℕ) → IsSteadyPage p → p.version ≡ v → field_at p 0 ≡ a → field_at p 1 ≡ b → field_at p 2 ≡ c → field_at p 3 ≡ d
@@ -195,214 +140,197 @@ pub rebuilt : (p : Page) (v a b c d : ℕ) → IsSteadyPage p → p.version ≡ 
 rebuilt p v a b c d steady e f g h k =
     sym (page_of-words_of p steady.mul steady.shift steady.flags) ∙ (λ i. page_of (e i ∷ f i ∷ g i ∷ h i ∷ k i ∷ []))
 
-module _ (opening : BoardParts) where
-  abbrev pub Rule : St → Type 0
-  Rule = Kept opening
+-- the number of a view is claimed by it
+number_claimed : (v : View) (p : ℕ) → v.number ≡ Some p → 0 < claims p v
+number_claimed v p is = let e : number_is p v.number ≡ 1 = ap (number_is p) is ∙ ap weight (eq-eqb p p refl) in omega arith
 
-  abbrev pub log_of : (s : St) → Rule s → List Entry
+module _ (opening : BoardParts) where
+  abbrev pub log_of : (s : St) → Kept opening s → List Entry
   log_of s r = log_in opening r.g
 
-  abbrev pub grown : Ghost → List Entry → Ghost
-  grown g es = record { later = g.later ++ es; holder = g.holder; owner = g.owner; made = g.made; limit = g.limit }
+  -- what a step of the seat id makes of the history
+  pub record Adds (g : Ghost) (id : ℕ) (later : List Entry) : Type 0 where
+    pub history : HistoryKept opening later
+    pub begins : IsPrefix (log_in opening g) (of_state opening ∷ later)
+    pub own : (n : ℕ) → g.owner n ≢ id → entries_of n (of_state opening ∷ later) ≡ entries_of n (log_in opening g)
+    pub numbers : (n : ℕ) → g.made ≤ n → entries_of n (of_state opening ∷ later) ≡ []
 
-  -- what is added to the history by the seat id, and the words afterwards
-  pub record Comes (s : St) (r : Rule s) (id : ℕ) (es : List Entry) : Type 0 where
-    pub legal : LegalFrom (of_state opening ∷ []) (r.g.later ++ es)
-    pub steady : IsSteady (board_after (log_of s r ++ es))
-    pub machine : machine_of (board_after (log_of s r ++ es)) ≡ machine_of opening
-    pub own : (n : ℕ) → r.g.owner n ≢ id → entries_of n es ≡ []
-    pub numbers : (n : ℕ) → r.g.made ≤ n → entries_of n es ≡ []
-
-  pub comes_none : (s : St) (r : Rule s) (id : ℕ) → Comes s r id []
-  comes_none s r id = record {
-    legal = subst (LegalFrom (of_state opening ∷ [])) (sym (append-nil r.g.later)) r.legal;
-    steady = subst (λ h. IsSteady (board_after h)) (sym (append-nil (log_of s r))) r.steady;
-    machine = ap (λ h. machine_of (board_after h)) (append-nil (log_of s r)) ∙ r.machine;
-    own = λ n ne. refl;
-    numbers = λ n le. refl;
-  }
-
-  -- the number of a view is claimed by it
-  pub number_claimed : (v : View) (p : ℕ) → v.number ≡ Some p → 0 < claims p v
-  number_claimed v p is = let e : number_is p v.number ≡ 1 = ap (number_is p) is ∙ ap weight (eq-eqb p p refl) in omega arith
-
-  pub comes_one : (s : St) (r : Rule s) (id p : ℕ) (v : View) (e : Entry) → get_elem? s.views id ≡ some v → v.number ≡ Some p → is_of p e ≡ true
-      → May (log_of s r) e → Comes s r id (e ∷ [])
-  comes_one s r id p v e at num is may =
-      let mine = (r.each id v at).claimed p (number_claimed v p num) in
+  -- a seat that doesn't step
+  pub fits_other : (ws ws' : List ℕ) (g g' : Ghost) (j : ℕ) (u : View) → Fits opening ws g j u → Later (pages_for opening.cpus) ws ws'
+      → IsPrefix (log_in opening g) (log_in opening g')
+      → ((n : ℕ) → g.owner n ≡ j → n < g.made
+      → (entries_of n (log_in opening g') ≡ entries_of n (log_in opening g)) × (g'.owner n ≡ j) × (n < g'.made))
+      → (u.pen ≡ true → PenKept opening g' j u) → (u.live ≡ true → u.limit ≡ g'.limit) → Fits opening ws' g' j u
+  fits_other ws ws' g g' j u f late begins own pen limit =
+      let stays : (n : ℕ) → 0 < claims n u → entries_of n (log_in opening g') ≡ entries_of n (log_in opening g) =
+      λ n c. let k = f.numbers.claimed n c in (own n k.0 k.1).0 in
       record {
-        legal = LegalFrom-snoc (of_state opening ∷ []) r.g.later e r.legal may;
-        steady = subst IsSteady (sym (board_after-snoc (log_of s r) e)) (steady-entry (log_of s r) e r.steady may);
-        machine = ap machine_of (board_after-snoc (log_of s r) e) ∙ (machine-entry (log_of s r) e may ∙ r.machine);
-        own = λ n ne. entries_of-else e p n is (λ (q : n ≡ p). ne (ap r.g.owner q ∙ mine.0));
-        numbers = λ n le. let below = mine.1 in entries_of-else e p n is (λ (q : n ≡ p). omega arith);
+        seen = record {
+          begins = prefix_trans u.seen (log_in opening g) (log_in opening g') f.seen.begins begins;
+          mine = λ n is. stays n (number_claimed u n is) ∙ f.seen.mine n is;
+          meet = f.seen.meet;
+          opened = f.seen.opened;
+        };
+        numbers = record { claimed = λ n c. let k = f.numbers.claimed n c in let o = own n k.0 k.1 in (o.1, o.2); once = f.numbers.once };
+        pen = pen;
+        read = read_later (pages_for opening.cpus) ws ws' u.seen u.read late f.read;
+        misses = misses_later (pages_for opening.cpus) ws ws' u.misses late f.misses;
+        ended = ended_later (pages_for opening.cpus) ws ws' (log_in opening g) (log_in opening g') u.seen u.seen u.ended late (prefix_self u.seen)
+            (λ n c. stays n (omega arith)) f.ended;
+        limit = limit;
       }
 
-  -- the other seats
-  pub fits_later : (s : St) (r : Rule s) (words' : List ℕ) (id j : ℕ) (es : List Entry) (u : View) → Comes s r id es
-      → Later (pages_for opening.cpus) s.words words'
-      → j ≢ id → Fits opening s.words r.g j u → Fits opening words' (grown r.g es) j u
-  fits_later s r words' id j es u comes l apart f =
-      let other : (n : ℕ) → 0 < claims n u → entries_of n es ≡ [] = λ n c. comes.own n (λ (q : r.g.owner n ≡ id). apart (sym (f.claimed n c).0 ∙ q)) in
+-- a step of the seat id, whose view is v
+module _ (opening : BoardParts) (s : St) (r : Kept opening s) (id : ℕ) (v : View) (at : get_elem? s.views id ≡ some v) where
+  -- the table afterwards
+  abbrev pub after : List ℕ → View → St
+  after ws w = record { words = ws; homes = s.homes; views = set s.views id w }
+
+  pub adds_none : Adds opening r.g id r.g.later
+  adds_none = record { history = r.history; begins = prefix_self (log_in opening r.g); own = λ n ne. refl; numbers = r.numbers }
+
+  adds_one : (p : ℕ) (e : Entry) → v.number ≡ Some p → is_of p e ≡ true → May (log_in opening r.g) e → Adds opening r.g id (r.g.later ++ e ∷ [])
+  adds_one p e num is may =
+      let log : List Entry = log_in opening r.g in
+      let mine = (r.each id v at).numbers.claimed p (number_claimed v p num) in
       record {
-        begins = prefix_more u.seen (log_of s r) es f.begins;
-        pen = f.pen;
-        read = λ x is. read_later (pages_for opening.cpus) s.words words' u.seen x l (f.read x is);
-        claimed = f.claimed;
-        once = f.once;
-        mine = λ n is. number_stays (log_of s r) es (here_of u.meet u.seen) n (f.mine n is) (other n (number_claimed u n is));
-        misses = misses_later (pages_for opening.cpus) s.words words' u.misses l f.misses;
-        meet = f.meet;
-        ended = ended_later (pages_for opening.cpus) s.words words' (log_of s r) es u.seen u.seen u.ended l (prefix_self u.seen)
-            (λ n c. other n (omega arith)) f.ended;
-        opened = f.opened;
+        history = record {
+          legal = LegalFrom-snoc (of_state opening ∷ []) r.g.later e r.history.legal may;
+          steady = subst IsSteady (sym (board_after-snoc log e)) (steady-entry log e r.history.steady may);
+          machine = ap machine_of (board_after-snoc log e) ∙ (machine-entry log e may ∙ r.history.machine);
+        };
+        begins = (e ∷ [], refl);
+        own = λ n ne. entry_else log e p n is (λ (q : n ≡ p). ne (ap r.g.owner q ∙ mine.0));
+        numbers = λ n le. let below = mine.1 in entry_else log e p n is (λ (q : n ≡ p). omega arith) ∙ r.numbers n le;
+      }
+
+  -- a step leaves the holder of the pen and all numbers
+  pub kept_next : (ws : List ℕ) (w : View) (later : List Entry) (hand : Option Hand) → w.live ≡ v.live → Adds opening r.g id later
+      → Later (pages_for opening.cpus) s.words ws → WordsKept opening ws hand (of_state opening ∷ later)
+      → (v.pen ≡ true) ⊎ ((hand ≡ r.g.hand) × GoesOnQuietly (log_in opening r.g) (of_state opening ∷ later))
+      → Fits opening ws (record r.g { later = later; hand = hand }) id w → Kept opening (after ws w)
+  kept_next ws w later hand lives adds late words way mine =
+      let log : List Entry = log_in opening r.g in
+      let g' : Ghost = record r.g { later = later; hand = hand } in
+      record {
+        g = g';
+        history = adds.history;
+        numbers = adds.numbers;
+        room = r.room;
+        words = words;
+        each = each_set s.views id w (Fits opening ws g') mine (λ j u ne e. let f = r.each j u e in
+            fits_other opening s.words ws r.g g' j u f late adds.begins (λ n own below. (adds.own n (λ q. ne (sym own ∙ q)), own, below))
+            (λ has. let k = f.pen has in ⊎_elim
+            (λ (own : v.pen ≡ true). absurd (ne (k.holder ∙ sym ((r.each id v at).pen own).holder)))
+            (λ (calm : (hand ≡ r.g.hand) × GoesOnQuietly log (of_state opening ∷ later)). record {
+              holder = k.holder;
+              hand = k.hand ∙ sym calm.0;
+              made = k.made;
+              quiet = quiet_trans (penned_of u.meet u.seen) log (of_state opening ∷ later) k.quiet calm.1;
+            }) way) f.limit);
+        alone = λ none. each_set s.views id w (λ j u. u.live ≡ true → j ≡ r.g.holder) (λ is. r.alone none id v at (sym lives ∙ is))
+            (λ j u ne e. r.alone none j u e);
+      }
+
+  -- what the holder of the pen has seen
+  pub penned : v.pen ≡ true → v.meet ≡ None → GoesOnQuietly v.seen (log_in opening r.g)
+  penned has alone = subst (λ m. GoesOnQuietly (penned_of m v.seen) (log_in opening r.g)) alone ((r.each id v at).pen has).quiet
+
+  -- a step of a pass: its seat has the pen, or leaves what is open and adds quiet entries
+  abbrev pub Way : Option Hand → Option Hand → List Entry → List Entry → Type 0
+  Way hand left later seen =
+      ((v.pen ≡ true) × (hand ≡ left) × GoesOnQuietly seen (of_state opening ∷ later))
+      ⊎ ((hand ≡ v.hand) × (left ≡ r.g.hand) × GoesOnQuietly (log_in opening r.g) (of_state opening ∷ later))
+
+  moved : (ws : List ℕ) (p : ℕ) (later seen : List Entry) (hand left : Option Hand) (read : Option Read) (misses : List Miss)
+      → v.number ≡ Some p → v.meet ≡ None → Adds opening r.g id later
+      → ((n : ℕ) → n ≢ p → entries_of n (of_state opening ∷ later) ≡ entries_of n (log_in opening r.g))
+      → IsPrefix v.seen seen → IsPrefix seen (of_state opening ∷ later) → entries_of p (of_state opening ∷ later) ≡ entries_of p seen
+      → Later (pages_for opening.cpus) s.words ws → WordsKept opening ws left (of_state opening ∷ later) → Way hand left later seen
+      → ReadingKept ws (pages_for opening.cpus) seen read → MissesKept ws (pages_for opening.cpus) misses
+      → Kept opening (after ws (record v { seen = seen; hand = hand; read = read; misses = misses }))
+  moved ws p later seen hand left read misses num alone adds only goes begins mine late words way reading missed =
+      let f = r.each id v at in
+      let old : List Entry = log_in opening r.g in
+      let log : List Entry = of_state opening ∷ later in
+      kept_next ws (record v { seen = seen; hand = hand; read = read; misses = misses }) later left refl adds late words
+      (⊎_elim (λ (own : (v.pen ≡ true) × (hand ≡ left) × GoesOnQuietly seen log). inl own.0)
+      (λ (calm : (hand ≡ v.hand) × (left ≡ r.g.hand) × GoesOnQuietly old log). inr (calm.1, calm.2)) way)
+      (record {
+        seen = record {
+          begins = begins;
+          mine = λ n is. let q : p ≡ n = cc (is, num) in
+              subst (λ (z : ℕ × Option Meet). entries_of z.0 log ≡ entries_of z.0 (here_of z.1 seen)) (λ k. (q k, sym alone k)) mine;
+          meet = subst (λ m. MeetKept m seen) (sym alone) tt;
+          opened = λ is. let was = f.seen.opened is in let le = prefix_length v.seen seen goes in omega arith;
+        };
+        numbers = f.numbers;
+        pen = λ is.
+            let k = f.pen is in
+            let q : (hand ≡ left) × GoesOnQuietly seen log =
+            ⊎_elim (λ (own : (v.pen ≡ true) × (hand ≡ left) × GoesOnQuietly seen log). (own.1, own.2))
+            (λ (calm : (hand ≡ v.hand) × (left ≡ r.g.hand) × GoesOnQuietly old log). (
+              calm.0 ∙ (k.hand ∙ sym calm.1),
+              (quiet_between v.seen seen log goes begins (quiet_trans v.seen old log (penned is alone) calm.2)).1,
+            )) way in
+            record {
+              holder = k.holder;
+              hand = q.0;
+              made = k.made;
+              quiet = subst (λ m. GoesOnQuietly (penned_of m seen) log) (sym alone) q.1;
+            };
+        read = reading;
+        misses = missed;
+        ended = ended_later (pages_for opening.cpus) s.words ws old log v.seen seen v.ended late goes
+            (λ n c. only n (λ (q : n ≡ p). let one = f.numbers.once n in
+            let here : number_is n v.number ≡ 1 = ap (number_is n) num ∙ ap weight (eq-eqb p n (sym q)) in omega arith)) f.ended;
         limit = f.limit;
-      }
+      })
 
-  -- the seat that steps, which has no open meet afterwards
-  pub fits_mine : (s : St) (r : Rule s) (words' : List ℕ) (id p : ℕ) (es : List Entry) (v w : View) → get_elem? s.views id ≡ some v → Comes s r id es
-      → Later (pages_for opening.cpus) s.words words'
-      → v.number ≡ Some p → ((n : ℕ) → n ≢ p → entries_of n es ≡ [])
-      → w.number ≡ v.number → w.ended ≡ v.ended → w.meet ≡ None → w.live ≡ v.live → w.limit ≡ v.limit → w.pen ≡ v.pen
-      → IsPrefix v.seen w.seen → IsPrefix w.seen (log_of s r ++ es) → entries_of p (log_of s r ++ es) ≡ entries_of p w.seen
-      → ((x : Read) → w.read ≡ Some x → ReadKept words' (pages_for opening.cpus) w.seen x) → MissesKept words' (pages_for opening.cpus) w.misses
-      → Fits opening words' (grown r.g es) id w
-  fits_mine s r words' id p es v w at comes l num only same_number same_ended no_meet same_live same_limit same_pen goes begins mine read misses =
+  -- the seat's own entries are all in what it has seen
+  pub mine_seen : (p : ℕ) → v.number ≡ Some p → v.meet ≡ None → entries_of p (log_in opening r.g) ≡ entries_of p v.seen
+  mine_seen p num alone = (r.each id v at).seen.mine p num ∙ ap (λ m. entries_of p (here_of m v.seen)) alone
+
+  -- a step that adds no entry
+  pub stay : (ws : List ℕ) (p : ℕ) (hand left : Option Hand) (read : Option Read) (misses : List Miss) → v.number ≡ Some p → v.meet ≡ None
+      → Later (pages_for opening.cpus) s.words ws → WordsKept opening ws left (log_in opening r.g) → Way hand left r.g.later v.seen
+      → ReadingKept ws (pages_for opening.cpus) v.seen read → MissesKept ws (pages_for opening.cpus) misses
+      → Kept opening (after ws (record v { hand = hand; read = read; misses = misses }))
+  stay ws p hand left read misses num alone late words way reading missed =
+      moved ws p r.g.later v.seen hand left read misses num alone adds_none (λ n ne. refl) (prefix_self v.seen) (r.each id v at).seen.begins
+      (mine_seen p num alone) late words way reading missed
+
+  -- what lies between what the seat has seen and the end of the history
+  abbrev pub between : List Entry
+  between = (r.each id v at).seen.begins.0
+
+  -- where the seat has the pen it is quiet
+  pub quiet_rest : v.pen ≡ true → v.meet ≡ None → IsQuiet between
+  quiet_rest has alone =
+      let q = penned has alone in
+      subst IsQuiet (append_cancel_left v.seen q.0 between (q.1 ∙ sym (r.each id v at).seen.begins.1)) q.2
+
+  -- a step that adds an entry: the seat has then seen all, and what the history shows it
+  pub enter : (ws : List ℕ) (p : ℕ) (e : Entry) (hand left : Option Hand) → v.number ≡ Some p → v.meet ≡ None → v.live ≡ true → is_of p e ≡ true
+      → May (log_in opening r.g) e → Later (pages_for opening.cpus) s.words ws → WordsKept opening ws left (log_in opening r.g ++ e ∷ [])
+      → ((v.pen ≡ true) × (hand ≡ left)) ⊎ ((hand ≡ v.hand) × (left ≡ r.g.hand) × IsQuietEntry e)
+      → Kept opening (after ws (record v { seen = (v.seen ++ between) ++ e ∷ []; hand = hand; read = None }))
+      × Learnt v between ((v.seen ++ between) ++ e ∷ [])
+  enter ws p e hand left num alone lives is may late words way =
       let f = r.each id v at in
-      let same : (n : ℕ) → claims n w ≡ claims n v = λ n. ap (λ (z : Option ℕ × List Ended). number_is n z.0 + ended_with n z.1) (λ k. (
-        same_number k,
-        same_ended k,
-      )) in
-      record {
-        begins = begins;
-        pen = λ is. f.pen (sym same_pen ∙ is);
-        read = read;
-        claimed = λ n c. f.claimed n (subst (λ (m : ℕ). 0 < m) (same n) c);
-        once = λ n. subst (λ (m : ℕ). m ≤ 1) (sym (same n)) (f.once n);
-        mine = λ n is. let q : p ≡ n = cc (is, same_number, num) in
-            subst (λ (z : ℕ × Option Meet). entries_of z.0 (log_of s r ++ es) ≡ entries_of z.0 (here_of z.1 w.seen)) (λ k. (q k, sym no_meet k)) mine;
-        misses = misses;
-        meet = subst (λ m. MeetKept m w.seen) (sym no_meet) tt;
-        opened = λ lives. let was = f.opened (sym same_live ∙ lives) in let le = prefix_length v.seen w.seen goes in omega arith;
-        ended = subst (EndedKept words' (pages_for opening.cpus) (log_of s r ++ es) w.seen) (sym same_ended)
-            (ended_later (pages_for opening.cpus) s.words words' (log_of s r) es v.seen w.seen v.ended l goes
-            (λ n c. only n (λ (q : n ≡ p). let one = f.once n in let here : number_is n v.number ≡ 1 = ap (number_is n) num
-            ∙ (ap (λ (m : ℕ). weight (eqb m n)) (sym q) ∙ ap weight (eq-eqb n n refl)) in omega arith))
-            f.ended);
-        limit = λ is. same_limit ∙ f.limit (sym same_live ∙ is);
-      }
-
-  -- the state after a step by the seat id that leaves the pen where it is
-  pub kept_next : (s : St) (r : Rule s) (words' : List ℕ) (id : ℕ) (v w : View) (es : List Entry) → get_elem? s.views id ≡ some v → w.pen ≡ v.pen
-      → w.made ≡ v.made → w.live ≡ v.live
-      → length words' ≡ length s.words → Comes s r id es → Later (pages_for opening.cpus) s.words words' → FrontKept words' (log_of s r ++ es)
-      → (v.pen ≡ true → GoesOnQuietly (penned_of w.meet w.seen) (log_of s r ++ es)) → (v.pen ≡ false → IsQuiet es)
-      → ((hand : Option Hand) → (v.pen ≡ true → hand ≡ w.hand) → (v.pen ≡ false → hand ≡ r.pen.hand) → (c : ℕ) → c < pages_for opening.cpus
-      → PageKept words' hand (page_at (board_after (log_of s r ++ es)) c) c)
-      → Fits opening words' (grown r.g es) id w
-      → (b : Bool) → v.pen ≡ b → Rule record { words = words'; homes = s.homes; views = set s.views id w }
-  kept_next s r words' id v w es at same_pen same_made same_live as_wide comes late front quiet calm pages mine true is =
-      let here : id ≡ r.g.holder = (r.each id v at).pen is in
-      let old : r.pen ≡ v = some-injective r.pen v (sym r.there ∙ (ap (get_elem? s.views) (sym here) ∙ at)) in
-      record {
-        g = grown r.g es;
-        legal = comes.legal;
-        steady = comes.steady;
-        machine = comes.machine;
-        numbers = λ n le. number_stays (log_of s r) es [] n (r.numbers n le) (comes.numbers n le);
-        room = r.room;
-        pen = w;
-        there = subst (λ j. get_elem? (set s.views id w) j ≡ some w) here (set_at s.views id v w at);
-        has_pen = same_pen ∙ is;
-        made = same_made ∙ (sym (ap (λ (u : View). u.made) old) ∙ r.made);
-        quiet = quiet is;
-        wide = as_wide ∙ r.wide;
-        front = front;
-        pages = pages w.hand (λ _. refl) (λ no. absurd (true≢false (sym is ∙ no)));
-        each = each_set s.views id w (Fits opening words' (grown r.g es)) mine (λ j u apart e. fits_later s r words' id j es u comes late apart (r.each j u e));
-        alone = λ none. each_set s.views id w (λ j u. u.live ≡ true
-            → j ≡ r.g.holder) (λ lives. r.alone none id v at (sym same_live ∙ lives)) (λ j u apart e. r.alone none j u e);
-      }
-  kept_next s r words' id v w es at same_pen same_made same_live as_wide comes late front quiet calm pages mine false is =
-      let apart : r.g.holder ≢ id = λ e.
-      let same : r.pen ≡ v = some-injective r.pen v (sym r.there ∙ (ap (get_elem? s.views) e ∙ at)) in
-      true≢false (sym r.has_pen ∙ (ap (λ (u : View). u.pen) same ∙ is)) in
-      record {
-        g = grown r.g es;
-        legal = comes.legal;
-        steady = comes.steady;
-        machine = comes.machine;
-        numbers = λ n le. number_stays (log_of s r) es [] n (r.numbers n le) (comes.numbers n le);
-        room = r.room;
-        pen = r.pen;
-        there = set_else s.views id r.g.holder w apart ∙ r.there;
-        has_pen = r.has_pen;
-        made = r.made;
-        quiet = (
-          r.quiet.0 ++ es,
-          sym (append_assoc (penned_of r.pen.meet r.pen.seen) r.quiet.0 es) ∙ ap (λ h. h ++ es) r.quiet.1,
-          quiet_more r.quiet.0 es r.quiet.2 (calm is),
-        );
-        wide = as_wide ∙ r.wide;
-        front = front;
-        pages = pages r.pen.hand (λ yes. absurd (true≢false (sym yes ∙ is))) (λ _. refl);
-        each = each_set s.views id w (Fits opening words' (grown r.g es)) mine (λ j u ne e. fits_later s r words' id j es u comes late ne (r.each j u e));
-        alone = λ none. each_set s.views id w (λ j u. u.live ≡ true
-            → j ≡ r.g.holder) (λ lives. r.alone none id v at (sym same_live ∙ lives)) (λ j u ne e. r.alone none j u e);
-      }
-
-  -- the pen's view, where the seat that steps holds it
-  pub pen_same : (s : St) (r : Rule s) (id : ℕ) (v : View) → get_elem? s.views id ≡ some v → v.pen ≡ true → r.pen ≡ v
-  pen_same s r id v at is = some-injective r.pen v (sym r.there ∙ (ap (get_elem? s.views) (sym ((r.each id v at).pen is)) ∙ at))
-
-  -- a step that leaves the words of the pages as they are, and adds quiet entries
-  pub look : (s : St) (r : Rule s) (words' : List ℕ) (id : ℕ) (v w : View) (es : List Entry) → get_elem? s.views id ≡ some v → w.pen ≡ v.pen → w.made ≡ v.made
-      → w.live ≡ v.live → w.hand ≡ v.hand
-      → length words' ≡ length s.words → ((c k : ℕ) → word_of words' c k ≡ word_of s.words c k) → FrontKept words' (log_of s r ++ es)
-      → Comes s r id es → IsQuiet es → (GoesOnQuietly (penned_of v.meet v.seen) (log_of s r ++ es) → GoesOnQuietly (penned_of w.meet w.seen) (log_of s r ++ es))
-      → Fits opening words' (grown r.g es) id w
-      → Rule record { words = words'; homes = s.homes; views = set s.views id w }
-  look s r words' id v w es at same_pen same_made same_live same_hand as_wide same front comes calm goes mine =
-      kept_next s r words' id v w es at same_pen same_made same_live as_wide comes (later_same (pages_for opening.cpus) s.words words' same) front
-      (λ is. let pen = pen_same s r id v at is in
-      let q = subst (λ (u : View). GoesOnQuietly (penned_of u.meet u.seen) (log_of s r)) pen r.quiet in
-      goes (q.0 ++ es, sym (append_assoc (penned_of v.meet v.seen) q.0 es) ∙ ap (λ h. h ++ es) q.1, quiet_more q.0 es q.2 calm))
-      (λ _. calm)
-      (λ hand yes no c l.
-      let is_pens : hand ≡ r.pen.hand = elim v.pen as (λ (b : Bool). v.pen ≡ b → hand ≡ r.pen.hand) [
-        | true ↦ (λ e. yes e ∙ (same_hand ∙ sym (ap (λ (u : View). u.hand) (pen_same s r id v at e))))
-        | false ↦ (λ e. no e)
-      ] refl in
-      let k = r.pages c l in
-      let p = quiet_page (log_of s r) es c calm in
-      subst (λ (x : Option Hand × Page). PageKept words' x.0 x.1 c) (λ i. (sym is_pens i, sym p i)) (record {
-        version = same c 0 ∙ k.version;
-        field =
-            λ j small. same c (suc j) ∙ k.field j small;
-      }))
-      mine v.pen refl
-
-  -- where quiet entries other than a clamp come, the front words stay
-  pub front_same : (s : St) (r : Rule s) (words' : List ℕ) (es : List Entry) → IsQuiet es → get_or words' 0 0 ≡ get_or s.words 0 0
-      → get_or words' 16 0 ≡ (board_after (log_of s r ++ es)).greatest → FrontKept words' (log_of s r ++ es)
-  front_same s r words' es calm zero' one' =
-      let f = r.front in
-      let count : loud (log_of s r ++ es) ≡ loud (log_of s r) = loud-append (log_of s r) es ∙ (let z = loud_quiet es calm in omega arith) in
-      record { front = zero' ∙ (f.front ∙ sym count); low = let low = f.low in omega arith; clamp = one' }
-
-  -- what the history shows the seat id, which has seen v.seen and then what lies between
-  pub learnt : (s : St) (r : Rule s) (id p : ℕ) (v : View) (e : Entry) (at : get_elem? s.views id ≡ some v) → v.number ≡ Some p → v.meet ≡ None → v.live ≡ true
-      → Comes s r id (e ∷ [])
-      → Learnt v (r.each id v at).begins.0 ((v.seen ++ (r.each id v at).begins.0) ++ e ∷ [])
-  learnt s r id p v e at num no_meet lives comes =
-      let f = r.each id v at in
-      let b : List Entry = f.begins.0 in
-      let whole : (v.seen ++ b) ++ e ∷ [] ≡ log_of s r ++ e ∷ [] = ap (λ h. h ++ e ∷ []) f.begins.1 in
-      record {
-        legal = subst IsLegal (sym whole) comes.legal;
-        own = λ q is.
-            let mine : entries_of q (log_of s r) ≡ entries_of q v.seen = f.mine q is ∙ ap (λ m. entries_of q (here_of m v.seen)) no_meet in
-            no_rest (entries_of q v.seen) (entries_of q b) (sym (entries_of-++ q v.seen b) ∙ (ap (entries_of q) f.begins.1 ∙ mine));
-        below = λ m n is le. let room = r.room m (sym (f.limit lives) ∙ is) in
-            ap (entries_of n) whole ∙ number_stays (log_of s r) (e ∷ []) [] n (r.numbers n (omega arith)) (comes.numbers n (omega arith));
-      }
+      let log : List Entry = log_in opening r.g in
+      let seen : List Entry = (v.seen ++ between) ++ e ∷ [] in
+      let adds = adds_one p e num is may in
+      let whole : seen ≡ log ++ e ∷ [] = ap (λ l. l ++ e ∷ []) f.seen.begins.1 in (
+        moved ws p (r.g.later ++ e ∷ []) seen hand left None v.misses num alone adds (λ n ne. entry_else log e p n is ne)
+            (between ++ e ∷ [], sym (append_assoc v.seen between (e ∷ []))) ([], append-nil seen ∙ whole) (ap (entries_of p) (sym whole)) late words
+            (⊎_elim (λ (own : (v.pen ≡ true) × (hand ≡ left)). inl (own.0, own.1, ([], append-nil seen ∙ whole, tt)))
+            (λ (calm : (hand ≡ v.hand) × (left ≡ r.g.hand) × IsQuietEntry e). inr (calm.0, calm.1, (e ∷ [], refl, (calm.2, tt)))) way) tt
+            (misses_later (pages_for opening.cpus) s.words ws v.misses late f.misses),
+        record {
+          legal = subst IsLegal (sym whole) adds.history.legal;
+          own = λ q num'. append_cancel_left (entries_of q v.seen) (entries_of q between) []
+              (sym (entries_of-++ q v.seen between) ∙ (ap (entries_of q) f.seen.begins.1 ∙ (mine_seen q num' alone ∙ sym (append-nil (entries_of q v.seen)))));
+          below = λ m n lim le. let room = r.room m (sym (f.limit lives) ∙ lim) in ap (entries_of n) whole ∙ adds.numbers n (omega arith);
+        },
+      )

@@ -1,8 +1,9 @@
 pub mod Lists
 pub mod Laid
 pub mod Keeps
+pub mod Pages
+pub mod Entries
 pub mod ReadSteps
 pub mod WriteSteps
 pub mod SeatSteps
 pub mod EndSteps
-pub mod Entries

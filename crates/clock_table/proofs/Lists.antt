@@ -1,35 +1,6 @@
--- Beginnings of one list, and lists of views.
-use Rattle.std.proofs.Common.{
-  ◌≡◌,
-  ◌≢◌,
-  ◌⊎◌,
-  ℕ,
-  zero,
-  suc,
-  ◌≤◌,
-  List,
-  [],
-  ◌∷◌,
-  ◌++◌,
-  length,
-  get_or,
-  set,
-  refl,
-  ap,
-  sym,
-  ◌∙◌,
-  subst,
-  ⊎_elim,
-  inl,
-  inr,
-  arith,
-  append_assoc,
-  append-nil,
-  length-append,
-  Option,
-  Some,
-  None,
-}
+-- Prefixes of one list, and lists of views.
+use Rattle.std.proofs.Common.{◌≡◌, ◌≢◌, ◌⊎◌, ℕ, zero, suc, ◌≤◌, List, [], ◌∷◌, ◌++◌, length, get_or, set, refl, ap, sym, ◌∙◌, subst, ⊎_elim, inl, inr}
+use Rattle.std.proofs.Common.{arith, append_assoc, append-nil, length-append, Option, Some, None}
 use mathlib.Core.List.{IsPrefix}
 use mathlib.Core.Option.{some, some-injective, some-ne-none}
 use lib.ListN.{get_elem?}
@@ -40,13 +11,10 @@ module _ {A : Type 0} where
   pub prefix_self : (xs : List A) → IsPrefix xs xs
   prefix_self xs = ([], append-nil xs)
 
-  pub prefix_more : (xs ys zs : List A) → IsPrefix xs ys → IsPrefix xs (ys ++ zs)
-  prefix_more xs ys zs p = (p.0 ++ zs, sym (append_assoc xs p.0 zs) ∙ ap (λ w. w ++ zs) p.1)
-
   pub prefix_trans : (xs ys zs : List A) → IsPrefix xs ys → IsPrefix ys zs → IsPrefix xs zs
   prefix_trans xs ys zs p q = (p.0 ++ q.0, sym (append_assoc xs p.0 q.0) ∙ (ap (λ w. w ++ q.0) p.1 ∙ q.1))
 
-  -- of two beginnings of one list the shorter begins the longer
+  -- of two prefixes of one list the shorter is a prefix of the longer
   pub prefix_shorter : (xs ys zs : List A) → IsPrefix xs zs → IsPrefix ys zs → length xs ≤ length ys → IsPrefix xs ys
   prefix_shorter [] ys zs p q le = (ys, refl)
   prefix_shorter (x ∷ xs) [] zs p q le = absurd (omega arith)
@@ -59,29 +27,12 @@ module _ {A : Type 0} where
   pub prefix_length : (xs ys : List A) → IsPrefix xs ys → length xs ≤ length ys
   prefix_length xs ys p = omega (arith, sym (ap length p.1) ∙ length-append xs p.0)
 
-  -- a list is a prefix of what goes on after it
-  pub prefix_on : (xs ys zs : List A) → IsPrefix xs ((xs ++ ys) ++ zs)
-  prefix_on xs ys zs = (ys ++ zs, sym (append_assoc xs ys zs))
-
   -- the last of a longer list, with its place
-  pub at_end : (l : List A) (a b : A) (j : ℕ) → get_elem? (l ++ a ∷ []) j ≡ some b → (get_elem? l j ≡ some b) ⊎ ((j ≡ length l) × (a ≡ b))
+  at_end : (l : List A) (a b : A) (j : ℕ) → get_elem? (l ++ a ∷ []) j ≡ some b → (get_elem? l j ≡ some b) ⊎ ((j ≡ length l) × (a ≡ b))
   at_end [] a b zero e = inr (refl, some-injective a b e)
   at_end [] a b (suc j) e = absurd (some-ne-none b (sym e))
   at_end (x ∷ xs) a b zero e = inl e
   at_end (x ∷ xs) a b (suc j) e = ⊎_elim (λ t. inl t) (λ (t : (j ≡ length xs) × (a ≡ b)). inr (ap suc t.0, t.1)) (at_end xs a b j e)
-
-  pub at_length : (l : List A) (a : A) → get_elem? (l ++ a ∷ []) (length l) ≡ some a
-  at_length [] a = refl
-  at_length (x ∷ xs) a = at_length xs a
-
-  pub cancel : (xs ys zs : List A) → xs ++ ys ≡ xs ++ zs → ys ≡ zs
-  cancel [] ys zs e = e
-  cancel (x ∷ xs) ys zs e = cancel xs ys zs (cc e)
-
-  pub set_at : (l : List A) (i : ℕ) (a b : A) → get_elem? l i ≡ some a → get_elem? (set l i b) i ≡ some b
-  set_at [] i a b e = absurd (some-ne-none a (sym e))
-  set_at (x ∷ xs) zero a b e = refl
-  set_at (x ∷ xs) (suc i) a b e = set_at xs i a b e
 
   -- what holds of one view, and of all others, holds of all
   pub each_set : (l : List A) (i : ℕ) (w : A) (F : ℕ → A → Type 0) → F i w → ((j : ℕ) (u : A) → j ≢ i → get_elem? l j ≡ some u → F j u) → (j : ℕ) (u : A)
@@ -90,13 +41,19 @@ module _ {A : Type 0} where
       (λ (t : (j ≡ i) × (w ≡ u)). subst (λ (x : ℕ × A). F x.0 x.1) (λ k. (sym t.0 k, t.1 k)) mine)
       (λ (t : (j ≢ i) × (get_elem? l j ≡ some u)). others j u t.0 t.1) (at_set l i j w u e)
 
--- no field is noted yet
-pub none_yet : (k x : ℕ) → get_or no_fields k None ≡ Some x → ⊥
-none_yet zero x e = cc e
-none_yet (suc zero) x e = cc e
-none_yet (suc (suc zero)) x e = cc e
-none_yet (suc (suc (suc zero))) x e = cc e
-none_yet (suc (suc (suc (suc k)))) x e = cc e
+  -- the same with a view more at the end
+  pub each_more : (l : List A) (i : ℕ) (w new : A) (F : ℕ → A → Type 0) → F i w → ((j : ℕ) (u : A) → j ≢ i → get_elem? l j ≡ some u → F j u)
+      → F (length (set l i w)) new → (j : ℕ) (u : A) → get_elem? (set l i w ++ new ∷ []) j ≡ some u → F j u
+  each_more l i w new F mine others last j u e = ⊎_elim (λ old. each_set l i w F mine others j u old)
+      (λ (t : (j ≡ length (set l i w)) × (new ≡ u)). subst (λ (x : ℕ × A). F x.0 x.1) (λ k. (sym t.0 k, t.1 k)) last) (at_end (set l i w) new u j e)
+
+-- no field is there yet
+pub no_field : (k : ℕ) → get_or no_fields k None ≡ None
+no_field zero = refl
+no_field (suc zero) = refl
+no_field (suc (suc zero)) = refl
+no_field (suc (suc (suc zero))) = refl
+no_field (suc (suc (suc (suc k)))) = refl
 
 -- what is found at j after a write at k is what was written, or what was there
 pub set_or : (xs : List (Option ℕ)) (k j n u : ℕ) (F : Type 0) → get_or (set xs k (Some n)) j None ≡ Some u → (j ≡ k → n ≡ u → F)

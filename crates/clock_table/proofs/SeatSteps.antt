@@ -1,122 +1,55 @@
 -- Splits and meets of seats keep the rule.
-use Rattle.std.proofs.Common.{
-  ◌≡◌,
-  ◌≢◌,
-  ◌⊎◌,
-  ℕ,
-  zero,
-  suc,
-  ◌+◌,
-  ◌<◌,
-  ◌≤◌,
-  eqb,
-  leb,
-  List,
-  [],
-  ◌∷◌,
-  ◌++◌,
-  length,
-  set,
-  refl,
-  ap,
-  sym,
-  ◌∙◌,
-  subst,
-  arith,
-  append_assoc,
-  append-nil,
-  Bool,
-  true,
-  false,
-  true≢false,
-  ◌||◌,
-  if◌then◌else◌,
-  Option,
-  Some,
-  None,
-  eq-eqb,
-  ne_eqb,
-  inl,
-  inr,
-  ⊎_elim,
-}
+use Rattle.std.proofs.Common.{◌≡◌, ◌≢◌, ◌⊎◌, ℕ, zero, suc, ◌+◌, ◌<◌, ◌≤◌, eqb, leb, List, [], ◌∷◌, ◌++◌, length, set, refl, ap, sym, ◌∙◌, subst, arith}
+use Rattle.std.proofs.Common.{append_assoc, append-nil, Bool, true, false, true≢false, ◌||◌, if◌then◌else◌, Option, Some, None}
+use Rattle.std.proofs.Common.{eq-eqb, ne_eqb, inl, inr, ⊎_elim}
 use Rattle.std.proofs.lemmas.Bool.Decides.{nat_tests}
+use Rattle.std.proofs.lemmas.List.{append_cancel_left}
 use mathlib.Core.List.{IsPrefix}
 use mathlib.Core.Logic.{dite}
-use mathlib.Core.Option.{none, some}
+use mathlib.Core.Option.{none}
 use native.Mathlib.Decide.{ℕ_discrete}
-use lib.ListN.{get_elem?}
 use lib.Seq.{set-get_or}
 use Rattle.atomic_table.specs.Table.{step, keeps, Allows, Splits, Joins}
-use Rattle.atomic_table.proofs.Lists.{set_else, at_longer}
+use Rattle.atomic_table.proofs.Lists.{set_else}
 use Rattle.board_types.specs.declared.parts.BoardParts.{BoardParts}
-use Rattle.board_history.specs.Machine.{page_at}
-use Rattle.board_history.specs.History.{board_after, entries_of}
+use Rattle.board_history.specs.History.{entries_of}
 use Rattle.board_history.specs.declared.entry.Entry.{Entry}
 use Rattle.board_history.proofs.Laws.{entries_of-++}
 use Rattle.clock_table.specs.Words.{pages_for}
 use Rattle.clock_table.specs.declared.view.View.{View}
-use Rattle.clock_table.specs.declared.view.Hand.{Hand}
 use Rattle.clock_table.specs.declared.view.Meet.{Meet}
 use Rattle.clock_table.specs.declared.view.Ended.{Ended}
-use Rattle.clock_table.specs.Steps.{
-  named,
-  IsQuiet,
-  GoesOnQuietly,
-  weight,
-  loud,
-  pass_left,
-  pass_right,
-  pen_left,
-  pen_right,
-  longer,
-  ended_of,
-  met,
-  parted,
-  here_of,
-  penned_of,
-  MeetKept,
-  number_is,
-  ended_with,
-  claims,
-}
-use Rattle.clock_table.specs.private.Rule.{PageKept, MissesKept, EndedKept, Ghost, Fits, Kept}
+use Rattle.clock_table.specs.Steps.{named, GoesOnQuietly, weight, pass_left, pass_right, pen_left, pen_right, longer, ended_of, met, parted}
+use Rattle.clock_table.specs.Steps.{here_of, penned_of, MeetKept, number_is, ended_with, claims}
+use Rattle.clock_table.specs.private.Rule.{MissesKept, EndedKept, Ghost, log_in, PenKept, Fits, Kept}
 use Rattle.clock_table.specs.private.Plays.{Named, Parted, spent}
-use Rattle.clock_table.proofs.Lists.{prefix_self, prefix_more, prefix_trans, prefix_length, prefix_shorter, set_at, each_set, at_end, at_length, cancel}
-use Rattle.clock_table.proofs.Keeps.{M, quiet_both, loud-append, loud_quiet, no_rest, Rule, log_of, comes_none, look, front_same, pen_same}
+use Rattle.clock_table.proofs.Lists.{prefix_self, prefix_trans, prefix_length, prefix_shorter, each_set, each_more}
+use Rattle.clock_table.proofs.Keeps.{M, later_self, quiet_self, quiet_between, loud_between, log_of, adds_none, kept_next, penned, fits_other}
 
--- between two beginnings of a list
+-- between two prefixes of a list
 pub entries_between : (a b c : List Entry) (n : ℕ) → IsPrefix a b → IsPrefix b c → entries_of n c ≡ entries_of n a → entries_of n b ≡ entries_of n a
 entries_between a b c n p q e =
     let two : entries_of n a ++ (entries_of n p.0 ++ entries_of n q.0) ≡ entries_of n a =
     sym (append_assoc (entries_of n a) (entries_of n p.0) (entries_of n q.0))
-    ∙ (sym (ap (λ (x : List Entry). x ++ entries_of n q.0) (entries_of-++ n a p.0) ∙ refl)
+    ∙ (sym (ap (λ (x : List Entry). x ++ entries_of n q.0) (entries_of-++ n a p.0))
     ∙ (sym (entries_of-++ n (a ++ p.0) q.0) ∙ (ap (λ l. entries_of n (l ++ q.0)) p.1 ∙ (ap (entries_of n) q.1 ∙ e)))) in
-    let none : entries_of n p.0 ≡ [] = both_none (entries_of n p.0) (entries_of n q.0) (no_rest (entries_of n a) (entries_of n p.0 ++ entries_of n q.0) two) in
+    let both = append_cancel_left (entries_of n a) (entries_of n p.0 ++ entries_of n q.0) [] (two ∙ sym (append-nil (entries_of n a))) in
+    let none : entries_of n p.0 ≡ [] = both_none (entries_of n p.0) (entries_of n q.0) both in
     sym (ap (entries_of n) p.1) ∙ (entries_of-++ n a p.0 ∙ (ap (λ l. entries_of n a ++ l) none ∙ append-nil (entries_of n a)))
   where
     both_none : (xs ys : List Entry) → xs ++ ys ≡ [] → xs ≡ []
     both_none [] ys e = refl
     both_none (x ∷ xs) ys e = absurd (cc e)
 
-pub quiet_between : (a b c : List Entry) → IsPrefix a b → IsPrefix b c → GoesOnQuietly a c → GoesOnQuietly a b × GoesOnQuietly b c
-quiet_between a b c p q g =
-    let same : p.0 ++ q.0 ≡ g.0 = cancel a (p.0 ++ q.0) g.0 (sym (append_assoc a p.0 q.0) ∙ (ap (λ l. l ++ q.0) p.1 ∙ (q.1 ∙ sym g.1))) in
-    let both = quiet_both p.0 q.0 (subst IsQuiet (sym same) g.2) in
-    ((p.0, p.1, both.0), (q.0, q.1, both.1))
+ended_append : (ws : List ℕ) (pages : ℕ) (log seen : List Entry) (xs ys : List Ended) → EndedKept ws pages log seen xs → EndedKept ws pages log seen ys
+    → EndedKept ws pages log seen (xs ++ ys)
+ended_append ws pages log seen [] ys a b = b
+ended_append ws pages log seen (x ∷ xs) ys a b = (a.0, a.1, a.2, ended_append ws pages log seen xs ys a.3 b)
 
-loud_between : (b c : List Entry) → GoesOnQuietly b c → loud c ≡ loud b
-loud_between b c g = ap loud (sym g.1) ∙ (loud-append b g.0 ∙ (let z = loud_quiet g.0 g.2 in omega arith))
-
-ended_append : (ws : List ℕ) (cpus : ℕ) (log seen : List Entry) (xs ys : List Ended) → EndedKept ws cpus log seen xs → EndedKept ws cpus log seen ys
-    → EndedKept ws cpus log seen (xs ++ ys)
-ended_append ws cpus log seen [] ys a b = b
-ended_append ws cpus log seen (x ∷ xs) ys a b = (a.0, a.1, a.2, ended_append ws cpus log seen xs ys a.3 b)
-
-ended_wider : (ws : List ℕ) (cpus : ℕ) (log seen seen' : List Entry) (xs : List Ended) → IsPrefix seen seen' → EndedKept ws cpus log seen xs
-    → EndedKept ws cpus log seen' xs
-ended_wider ws cpus log seen seen' [] p a = tt
-ended_wider ws cpus log seen seen' (x ∷ xs) p a = (prefix_trans x.seen seen seen' a.0 p, a.1, a.2, ended_wider ws cpus log seen seen' xs p a.3)
+ended_wider : (ws : List ℕ) (pages : ℕ) (log seen seen' : List Entry) (xs : List Ended) → IsPrefix seen seen' → EndedKept ws pages log seen xs
+    → EndedKept ws pages log seen' xs
+ended_wider ws pages log seen seen' [] p a = tt
+ended_wider ws pages log seen seen' (x ∷ xs) p a = (prefix_trans x.seen seen seen' a.0 p, a.1, a.2, ended_wider ws pages log seen seen' xs p a.3)
 
 ended_count : (n : ℕ) (xs ys : List Ended) → ended_with n (xs ++ ys) ≡ ended_with n xs + ended_with n ys
 ended_count n [] ys = omega arith
@@ -126,68 +59,39 @@ count_of : (n : ℕ) (o : Option ℕ) (w : View) → ended_with n (ended_of o w)
 count_of n None w = refl
 count_of n (Some m) w = omega arith
 
+longer_case : (xs ys : List Entry) (F : List Entry → Type 0) → (length ys ≤ length xs → F xs) → (length xs ≤ length ys → F ys) → F (longer xs ys)
+longer_case xs ys F a b = cases (leb (length ys) (length xs)) refl
+  where
+    cases : (t : Bool) → leb (length ys) (length xs) ≡ t → F (if t then xs else ys)
+    cases true e = a (grind (arith, nat_tests))
+    cases false e = b (grind (arith, nat_tests))
+
 module _ (opening : BoardParts) where
   -- the number of passes is named
   pub names : (slots id m : ℕ) (me : M) → me.0.pen ≡ true → me.0.limit ≡ None → me.0.made ≡ 0 → me.0.live ≡ true
       → Allows (Kept opening) slots id me 0 (λ n. n) (Named m (step slots 0 0 0 none) me)
   names slots id m me has unset none_made lives s r _ at _ =
-      let v = me.0 in
-      let f = r.each id v at in
-      let w = named m v in
-      let same = pen_same opening s r id v at has in
-      let here : id ≡ r.g.holder = f.pen has in
-      let g' : Ghost = record { later = r.g.later; holder = r.g.holder; owner = r.g.owner; made = r.g.made; limit = Some m } in
+      let f = r.each id me.0 at in
+      let k = f.pen has in
+      let w = named m me.0 in
+      let g' : Ghost = record r.g { limit = Some m } in
       let none_left : r.g.limit ≡ None = sym (f.limit lives) ∙ unset in
-      let zero_made : r.g.made ≡ 0 = sym r.made ∙ (ap (λ (u : View). u.made) same ∙ none_made) in (
+      let zero_made : r.g.made ≡ 0 = sym k.made ∙ none_made in (
         w,
         keeps,
         tt,
-        subst (λ ws. Rule opening record { words = ws; homes = s.homes; views = set s.views id w }) (sym (set-get_or s.words 0 0)) (record {
+        subst (λ ws. Kept opening record { words = ws; homes = s.homes; views = set s.views id w }) (sym (set-get_or s.words 0 0)) (record {
           g = g';
-          legal = r.legal;
-          steady = r.steady;
-          machine = r.machine;
+          history = r.history;
           numbers = r.numbers;
-          room = λ k e. omega arith;
-          pen = w;
-          there = subst (λ j. get_elem? (set s.views id w) j ≡ some w) here (set_at s.views id v w at);
-          has_pen = has;
-          made = ap (λ (u : View). u.made) (sym same) ∙ r.made;
-          quiet = subst (λ (u : View). GoesOnQuietly (penned_of u.meet u.seen) (log_of opening s r)) same r.quiet;
-          wide = r.wide;
-          front = r.front;
-          pages = λ c l. subst (λ (u : View). PageKept s.words u.hand (page_at (board_after (log_of opening s r)) c) c) same (r.pages c l);
+          room = λ i e. omega arith;
+          words = r.words;
           each = each_set s.views id w (Fits opening s.words g')
-              (record {
-                begins = f.begins;
-                pen = f.pen;
-                read = λ z n. absurd (cc n);
-                claimed = f.claimed;
-                once = f.once;
-                mine = f.mine;
-                misses =
-                    f.misses;
-                meet = f.meet;
-                ended = f.ended;
-                opened = f.opened;
-                limit = λ _. refl;
-              })
-              (λ j u apart e. let o = r.each j u e in
-              record {
-                begins = o.begins;
-                pen = o.pen;
-                read = o.read;
-                claimed = o.claimed;
-                once = o.once;
-                mine = o.mine;
-                misses = o.misses;
-                meet =
-                    o.meet;
-                ended = o.ended;
-                opened = o.opened;
-                limit = λ live. absurd (apart (r.alone none_left j u e live ∙ sym here));
-              });
-          alone = λ unset. absurd (cc unset);
+              (record { seen = f.seen; numbers = f.numbers; pen = f.pen; read = tt; misses = f.misses; ended = f.ended; limit = λ _. refl })
+              (λ j u ne e. let o = r.each j u e in fits_other opening s.words s.words r.g g' j u o (later_self (pages_for opening.cpus) s.words)
+              (prefix_self (log_of opening s r)) (λ n own below. (refl, own, below)) o.pen
+              (λ live. absurd (ne (r.alone none_left j u e live ∙ sym k.holder))));
+          alone = λ unset'. absurd (cc unset');
         }),
         (refl, refl),
       )
@@ -195,84 +99,54 @@ module _ (opening : BoardParts) where
   -- a pass is split off
   pub splits : (id m : ℕ) (v : View) → v.pen ≡ true → v.meet ≡ None → v.live ≡ true → v.limit ≡ Some m → v.made < m
       → Splits (Kept opening) id v (pass_left v) (pass_right v)
-  splits id m v has no_meet lives lim room s r at =
-      let same = pen_same opening s r id v at has in
+  splits id m v has alone lives lim room s r at =
       let f = r.each id v at in
-      let here : id ≡ r.g.holder = f.pen has in
-      let w = pass_left v in
-      let log : List Entry = log_of opening s r in
-      let n : ℕ = length (set s.views id w) in
-      let owner' : ℕ → ℕ = λ k. if eqb k r.g.made then n else r.g.owner k in
-      let g' : Ghost = record { later = r.g.later; holder = r.g.holder; owner = owner'; made = r.g.made + 1; limit = r.g.limit } in
-      let as_made : v.made ≡ r.g.made = ap (λ (u : View). u.made) (sym same) ∙ r.made in
-      let old_owner : (k j : ℕ) → (r.g.owner k ≡ j) × (k < r.g.made) → (owner' k ≡ j) × (k < r.g.made + 1) =
-      λ k j o. let lower = o.1 in let ne : k ≢ r.g.made = λ e. omega arith in
-      (ap (λ (b : Bool). if b then n else r.g.owner k) (ne_eqb k r.g.made ne) ∙ o.0, omega arith) in
+      let k = f.pen has in
+      let n : ℕ = length (set s.views id (pass_left v)) in
+      let owner' : ℕ → ℕ = λ i. if eqb i r.g.made then n else r.g.owner i in
+      let g' : Ghost = record r.g { owner = owner'; made = r.g.made + 1 } in
+      let as_made : v.made ≡ r.g.made = k.made in
+      let old : (i j : ℕ) → r.g.owner i ≡ j → i < r.g.made → (owner' i ≡ j) × (i < r.g.made + 1) =
+      λ i j own lower. (ap (λ (b : Bool). if b then n else r.g.owner i) (ne_eqb i r.g.made (λ e. omega arith)) ∙ own, omega arith) in
       let lim' : r.g.limit ≡ Some m = sym (f.limit lives) ∙ lim in
       record {
         g = g';
-        legal = r.legal;
-        steady = r.steady;
-        machine = r.machine;
-        numbers = λ k le. r.numbers k (omega arith);
-        room = λ k e. let same_limit : m ≡ k = cc (lim', e) in omega arith;
-        pen = w;
-        there = at_longer (set s.views id w) (pass_right v ∷ []) r.g.holder w
-            (subst (λ j. get_elem? (set s.views id w) j ≡ some w) here (set_at s.views id v w at));
-        has_pen = has;
-        made = ap (λ (k : ℕ). k + 1) as_made;
-        quiet = subst (λ (u : View). GoesOnQuietly (penned_of u.meet u.seen) log) same r.quiet;
-        wide = r.wide;
-        front = r.front;
-        pages = λ c l. subst (λ (u : View). PageKept s.words u.hand (page_at (board_after log) c) c) same (r.pages c l);
-        each = λ j u e. ⊎_elim
-            (λ old. each_set s.views id w (Fits opening s.words g')
+        history = r.history;
+        numbers = λ i le. r.numbers i (omega arith);
+        room = λ i e. let same_limit : m ≡ i = cc (lim', e) in omega arith;
+        words = r.words;
+        each = each_more s.views id (pass_left v) (pass_right v) (Fits opening s.words g')
             (record {
-              begins = f.begins;
-              pen = f.pen;
-              read = λ z q. absurd (cc q);
-              claimed = λ k c. old_owner k id (f.claimed k c);
-              once = f.once;
-              mine =
-                  f.mine;
+              seen = f.seen;
+              numbers = record { claimed = λ i c. let o = f.numbers.claimed i c in old i id o.0 o.1; once = f.numbers.once };
+              pen = λ _. record { holder = k.holder; hand = k.hand; made = ap (λ (i : ℕ). i + 1) as_made; quiet = k.quiet };
+              read = tt;
               misses = f.misses;
-              meet = f.meet;
               ended = f.ended;
-              opened = f.opened;
               limit = f.limit;
             })
-            (λ k x apart was. let o = r.each k x was in
-            record {
-              begins = o.begins;
-              pen = o.pen;
-              read = o.read;
-              claimed = λ i c. old_owner i k (o.claimed i c);
-              once = o.once;
-              mine = o.mine;
-              misses =
-                  o.misses;
-              meet = o.meet;
-              ended = o.ended;
-              opened = o.opened;
-              limit = o.limit;
-            }) j u old)
-            (λ (new : (j ≡ n) × (pass_right v ≡ u)). subst (λ (z : ℕ × View). Fits opening s.words g' z.0 z.1) (λ i. (sym new.0 i, new.1 i))
+            (λ j u ne e. let o = r.each j u e in fits_other opening s.words s.words r.g g' j u o (later_self (pages_for opening.cpus) s.words)
+            (prefix_self (log_of opening s r)) (λ i own below. let w = old i j own below in (refl, w.0, w.1))
+            (λ yes. absurd (ne ((o.pen yes).holder ∙ sym k.holder))) o.limit)
             (record {
-              begins = f.begins;
+              seen = record {
+                begins = f.seen.begins;
+                mine = λ i is. let e : i ≡ r.g.made = (cc is) ∙ as_made in let none = r.numbers i (omega arith) in
+                    none ∙ sym (entries_between [] v.seen (log_of opening s r) i (v.seen, refl) f.seen.begins none);
+                meet = tt;
+                opened = λ _. f.seen.opened lives;
+              };
+              numbers = record {
+                claimed = λ i c. let e : i ≡ r.g.made = new_claim i v.made c ∙ as_made in
+                    (ap (λ (b : Bool). if b then n else r.g.owner i) (eq-eqb i r.g.made e), omega arith);
+                once = λ i. at_most (eqb v.made i);
+              };
               pen = λ no. absurd (true≢false (sym no));
-              read = λ z q. absurd (cc q);
-              claimed = λ k c. let e : k ≡ r.g.made = new_claim k v.made c ∙ as_made in
-                  (ap (λ (b : Bool). if b then n else r.g.owner k) (eq-eqb k r.g.made e), omega arith);
-              once = λ k. at_most (eqb v.made k);
-              mine = λ k is. let e : k ≡ r.g.made = (cc is) ∙ as_made in let none = r.numbers k (omega arith) in none
-                  ∙ sym (none_before v.seen log k f.begins none);
+              read = tt;
               misses = tt;
-              meet = tt;
               ended = tt;
-              opened = λ _. f.opened lives;
               limit = λ _. f.limit lives;
-            }))
-            (at_end (set s.views id w) (pass_right v) u j e);
+            });
         alone = λ unset. let no : None ≡ Some m = sym unset ∙ lim' in absurd (cc no);
       }
     where
@@ -280,87 +154,44 @@ module _ (opening : BoardParts) where
       at_most true = omega arith
       at_most false = omega arith
 
-      new_claim : (k made : ℕ) → 0 < weight (eqb made k) + 0 → k ≡ made
-      new_claim k made c = dite (ℕ_discrete made k) (λ e. sym e) (λ ne. let z : weight (eqb made k) ≡ 0 = ap weight (ne_eqb made k ne) in absurd (omega arith))
-
-      none_before : (a b : List Entry) (k : ℕ) → IsPrefix a b → entries_of k b ≡ [] → entries_of k a ≡ []
-      none_before a b k p empty = entries_between [] a b k (a, refl) p empty
+      new_claim : (i made : ℕ) → 0 < weight (eqb made i) + 0 → i ≡ made
+      new_claim i made c = dite (ℕ_discrete made i) (λ e. sym e) (λ ne. let z : weight (eqb made i) ≡ 0 = ap weight (ne_eqb made i ne) in absurd (omega arith))
 
   -- the pen is split off
   pub splits_pen : (id m : ℕ) (v : View) → v.pen ≡ true → v.meet ≡ None → v.hand ≡ None → v.live ≡ true → v.limit ≡ Some m
       → Splits (Kept opening) id v (pen_left v) (pen_right v)
-  splits_pen id m v has no_meet shut lives lim s r at =
-      let same = pen_same opening s r id v at has in
+  splits_pen id m v has alone shut lives lim s r at =
       let f = r.each id v at in
-      let here : id ≡ r.g.holder = f.pen has in
-      let w = pen_left v in
-      let log : List Entry = log_of opening s r in
-      let n : ℕ = length (set s.views id w) in
-      let g' : Ghost = record { later = r.g.later; holder = n; owner = r.g.owner; made = r.g.made; limit = r.g.limit } in
-      let lim' : r.g.limit ≡ Some m = sym (f.limit lives) ∙ lim in
+      let k = f.pen has in
+      let g' : Ghost = record r.g { holder = length (set s.views id (pen_left v)) } in
       record {
         g = g';
-        legal = r.legal;
-        steady = r.steady;
-        machine = r.machine;
+        history = r.history;
         numbers = r.numbers;
         room = r.room;
-        pen = pen_right v;
-        there = at_length (set s.views id w) (pen_right v);
-        has_pen = refl;
-        made = ap (λ (u : View). u.made) (sym same) ∙ r.made;
-        quiet = subst (λ m. GoesOnQuietly (penned_of m v.seen) log) no_meet (subst (λ (u : View). GoesOnQuietly (penned_of u.meet u.seen) log) same r.quiet);
-        wide = r.wide;
-        front = r.front;
-        pages = λ c l. subst (λ (z : Option Hand). PageKept s.words z (page_at (board_after log) c) c) (ap (λ (u : View). u.hand) same ∙ shut) (r.pages c l);
-        each = λ j u e. ⊎_elim
-            (λ old. each_set s.views id w (Fits opening s.words g')
+        words = r.words;
+        each = each_more s.views id (pen_left v) (pen_right v) (Fits opening s.words g')
             (record {
-              begins = f.begins;
+              seen = f.seen;
+              numbers = f.numbers;
               pen = λ no. absurd (true≢false (sym no));
-              read = λ z q. absurd (cc q);
-              claimed = f.claimed;
-              once = f.once;
-              mine =
-                  f.mine;
+              read = tt;
               misses = f.misses;
-              meet = f.meet;
               ended = f.ended;
-              opened = f.opened;
               limit = f.limit;
             })
-            (λ k x apart was. let o = r.each k x was in
-            record {
-              begins = o.begins;
-              pen = λ yes. absurd (apart (o.pen yes ∙ sym here));
-              read = o.read;
-              claimed = o.claimed;
-              once = o.once;
-              mine =
-                  o.mine;
-              misses = o.misses;
-              meet = o.meet;
-              ended = o.ended;
-              opened = o.opened;
-              limit = o.limit;
-            }) j u old)
-            (λ (new : (j ≡ n) × (pen_right v ≡ u)). subst (λ (z : ℕ × View). Fits opening s.words g' z.0 z.1) (λ i. (sym new.0 i, new.1 i))
+            (λ j u ne e. let o = r.each j u e in fits_other opening s.words s.words r.g g' j u o (later_self (pages_for opening.cpus) s.words)
+            (prefix_self (log_of opening s r)) (λ n own below. (refl, own, below)) (λ yes. absurd (ne ((o.pen yes).holder ∙ sym k.holder))) o.limit)
             (record {
-              begins = f.begins;
-              pen = λ _. refl;
-              read = λ z q. absurd (cc q);
-              claimed = λ k c. absurd (omega arith);
-              once = λ k. omega arith;
-              mine =
-                  λ k is. absurd (cc is);
+              seen = record { begins = f.seen.begins; mine = λ n is. absurd (cc is); meet = tt; opened = λ _. f.seen.opened lives };
+              numbers = record { claimed = λ n c. absurd (omega arith); once = λ n. omega arith };
+              pen = λ _. record { holder = refl; hand = sym shut ∙ k.hand; made = k.made; quiet = penned opening s r id v at has alone };
+              read = tt;
               misses = tt;
-              meet = tt;
               ended = tt;
-              opened = λ _. f.opened lives;
               limit = λ _. f.limit lives;
-            }))
-            (at_end (set s.views id w) (pen_right v) u j e);
-        alone = λ unset. let no : None ≡ Some m = sym unset ∙ lim' in absurd (cc no);
+            });
+        alone = λ unset. let no : None ≡ Some m = sym unset ∙ (sym (f.limit lives) ∙ lim) in absurd (cc no);
       }
 
   -- a meet ends
@@ -370,69 +201,53 @@ module _ (opening : BoardParts) where
       let f = r.each id v at in
       let w = parted v in
       let log : List Entry = log_of opening s r in
-      let none = comes_none opening s r id in
-      let end : log ≡ log ++ [] = sym (append-nil log) in
-      let meets = meet_parts v f.meet in
+      let meets = meet_parts v.meet v.seen f.seen.meet in
       let same_mine : (n : ℕ) → v.number ≡ Some n → entries_of n v.seen ≡ entries_of n (here_of v.meet v.seen) =
-      λ n is. entries_between (here_of v.meet v.seen) v.seen log n meets.0 f.begins (f.mine n is) in
+      λ n is. entries_between (here_of v.meet v.seen) v.seen log n meets.0 f.seen.begins (f.seen.mine n is) in
       let pens : v.pen ≡ true → GoesOnQuietly (penned_of v.meet v.seen) v.seen × GoesOnQuietly v.seen log =
-      λ has. quiet_between (penned_of v.meet v.seen) v.seen log meets.1 f.begins
-      (subst (λ (u : View). GoesOnQuietly (penned_of u.meet u.seen) log) (pen_same opening s r id v at has) r.quiet) in (
+      λ has. quiet_between (penned_of v.meet v.seen) v.seen log meets.1 f.seen.begins (f.pen has).quiet in (
         w,
         keeps,
         tt,
-        subst (λ ws. Rule opening record { words = ws; homes = s.homes; views = set s.views id w }) (sym (set-get_or s.words 0 0))
-            (look opening s r s.words id v w [] at refl refl refl refl refl (λ c k. refl)
-            (front_same opening s r s.words [] tt refl (r.front.clamp ∙ ap (λ l. (board_after l).greatest) end)) none tt
-            (λ q. (quiet_between (penned_of v.meet v.seen) v.seen (log ++ []) meets.1 (prefix_more v.seen log [] f.begins) q).1)
-            (record {
-              begins = prefix_more v.seen log [] f.begins;
-              pen = f.pen;
-              read = λ z q. absurd (cc q);
-              claimed = f.claimed;
-              once = f.once;
-              mine = λ n is. ap (entries_of n) (sym end) ∙ (f.mine n is ∙ sym (same_mine n is));
+        subst (λ ws. Kept opening record { words = ws; homes = s.homes; views = set s.views id w }) (sym (set-get_or s.words 0 0))
+            (kept_next opening s r id v at s.words w r.g.later r.g.hand refl (adds_none opening s r id v at) (later_self (pages_for opening.cpus) s.words)
+            r.words (inr (refl, quiet_self log)) (record {
+              seen = record { begins = f.seen.begins; mine = λ n is. f.seen.mine n is ∙ sym (same_mine n is); meet = tt; opened = f.seen.opened };
+              numbers = f.numbers;
+              pen = λ is. let k = f.pen is in record { holder = k.holder; hand = k.hand; made = k.made; quiet = (pens is).1 };
+              read = tt;
               misses = f.misses;
-              meet = tt;
-              ended = subst (λ l. EndedKept s.words (pages_for opening.cpus) l v.seen v.ended) end f.ended;
-              opened = f.opened;
+              ended = f.ended;
               limit = f.limit;
             })),
         (
           refl,
           refl,
           record {
-            meet = f.meet;
+            meet = f.seen.meet;
             pen = λ has. (pens has).0;
             mine = same_mine;
-            front = λ has. r.front.front ∙ loud_between v.seen log (pens has).1;
-            once = f.once;
-            below = λ n has c. let same = ap (λ (u : View). u.made) (sym (pen_same opening s r id v at has)) ∙ r.made in let b = (f.claimed n c).1 in
-                omega arith;
+            front = λ has. r.words.front.front ∙ loud_between v.seen log (pens has).1;
+            once = f.numbers.once;
+            below = λ n has c. let same = (f.pen has).made in let b = (f.numbers.claimed n c).1 in omega arith;
           },
         ),
       )
     where
-      meet_parts : (v : View) → MeetKept v.meet v.seen → IsPrefix (here_of v.meet v.seen) v.seen × IsPrefix (penned_of v.meet v.seen) v.seen
-      meet_parts v k = at_meet v.meet v.seen k
-        where
-          at_meet : (m : Option Meet) (seen : List Entry) → MeetKept m seen → IsPrefix (here_of m seen) seen × IsPrefix (penned_of m seen) seen
-          at_meet None seen k = (prefix_self seen, prefix_self seen)
-          at_meet (Some m) seen k = (k.0, k.2)
+      meet_parts : (m : Option Meet) (seen : List Entry) → MeetKept m seen → IsPrefix (here_of m seen) seen × IsPrefix (penned_of m seen) seen
+      meet_parts None seen k = (prefix_self seen, prefix_self seen)
+      meet_parts (Some m) seen k = (k.0, k.2)
 
--- the other view, where one of two is set
-join_cases : (a b : Bool) (F : Type 0) → a || b ≡ true → (a ≡ true → F) → (a ≡ false → b ≡ true → F) → F
-join_cases true b F e here there = here refl
-join_cases false b F e here there = there refl e
+  -- the pen of two seats that meet
+  met_pen : (g : Ghost) (i j : ℕ) (a b : Bool) (v w : View) → a || b ≡ true → (a ≡ true → PenKept opening g i v) → (b ≡ true → PenKept opening g j w)
+      → v.hand ≡ None → w.hand ≡ None → v.meet ≡ None → w.meet ≡ None
+      → (None ≡ g.hand) × ((if a then v.made else w.made) ≡ g.made) × GoesOnQuietly (if a then v.seen else w.seen) (log_in opening g)
+      × ((i ≡ g.holder) ⊎ (j ≡ g.holder))
+  met_pen g i j true b v w one p q v_shut w_shut v_alone w_alone = let k = p refl in
+      (sym v_shut ∙ k.hand, k.made, subst (λ m. GoesOnQuietly (penned_of m v.seen) (log_in opening g)) v_alone k.quiet, inl k.holder)
+  met_pen g i j false b v w one p q v_shut w_shut v_alone w_alone = let k = q one in
+      (sym w_shut ∙ k.hand, k.made, subst (λ m. GoesOnQuietly (penned_of m w.seen) (log_in opening g)) w_alone k.quiet, inr k.holder)
 
-longer_case : (xs ys : List Entry) (F : List Entry → Type 0) → (length ys ≤ length xs → F xs) → (length xs ≤ length ys → F ys) → F (longer xs ys)
-longer_case xs ys F a b = cases (leb (length ys) (length xs)) refl
-  where
-    cases : (t : Bool) → leb (length ys) (length xs) ≡ t → F (if t then xs else ys)
-    cases true e = a (grind (arith, nat_tests))
-    cases false e = b (grind (arith, nat_tests))
-
-module _ (opening : BoardParts) where
   -- a seat joins another
   pub joins : (id other : ℕ) (v w : View) → v.pen || w.pen ≡ true → v.hand ≡ None → w.hand ≡ None → v.meet ≡ None → w.meet ≡ None → v.live ≡ true
       → w.live ≡ true → Joins (Kept opening) id v other w (met v w) spent
@@ -440,118 +255,67 @@ module _ (opening : BoardParts) where
       let u = met v w in
       let log : List Entry = log_of opening s r in
       let f = r.each id v at in
-      let at' : get_elem? s.views other ≡ some w = sym (set_else s.views id other u apart) ∙ there' in
-      let h = r.each other w at' in
+      let h = r.each other w (sym (set_else s.views id other u apart) ∙ there') in
       let owner' : ℕ → ℕ = λ k. if eqb (r.g.owner k) other then id else r.g.owner k in
-      let g' : Ghost = record { later = r.g.later; holder = id; owner = owner'; made = r.g.made; limit = r.g.limit } in
-      let to_id : (k : ℕ) → r.g.owner k ≡ id → owner' k ≡ id =
-      λ k e. ap (λ (b : Bool). if b then id else r.g.owner k) (ne_eqb (r.g.owner k) other (λ q. apart (sym q ∙ e))) ∙ e in
+      let g' : Ghost = record r.g { holder = id; owner = owner' } in
       let from_other : (k : ℕ) → r.g.owner k ≡ other → owner' k ≡ id = λ k e. ap (λ (b : Bool). if b then id else r.g.owner k) (eq-eqb (r.g.owner k) other e) in
       let stays : (k j : ℕ) → j ≢ other → r.g.owner k ≡ j → owner' k ≡ j =
       λ k j ne e. ap (λ (b : Bool). if b then id else r.g.owner k) (ne_eqb (r.g.owner k) other (λ q. ne (sym e ∙ q))) ∙ e in
       let here_longer : IsPrefix v.seen u.seen = longer_case v.seen w.seen (λ l. IsPrefix v.seen l) (λ _. prefix_self v.seen)
-      (λ le. prefix_shorter v.seen w.seen log f.begins h.begins le) in
+      (λ le. prefix_shorter v.seen w.seen log f.seen.begins h.seen.begins le) in
       let there_longer : IsPrefix w.seen u.seen = longer_case v.seen w.seen (λ l. IsPrefix w.seen l)
-      (λ le. prefix_shorter w.seen v.seen log h.begins f.begins le) (λ _. prefix_self w.seen) in
-      let begins : IsPrefix u.seen log = longer_case v.seen w.seen (λ l. IsPrefix l log) (λ _. f.begins) (λ _. h.begins) in
+      (λ le. prefix_shorter w.seen v.seen log h.seen.begins f.seen.begins le) (λ _. prefix_self w.seen) in
       let sum : (n : ℕ) → claims n u ≡ claims n v + claims n w = λ n. count_join n v w in
-      let pen_is : (z : View) × (r.pen ≡ z) × (z.hand ≡ None) × (u.made ≡ z.made) × ((if v.pen then v.seen else w.seen) ≡ z.seen) × (z.meet ≡ None)
-      × ((r.g.holder ≡ id) ⊎ (r.g.holder ≡ other)) =
-      join_cases v.pen w.pen ((z : View) × (r.pen ≡ z) × (z.hand ≡ None) × (u.made ≡ z.made) × ((if v.pen then v.seen else w.seen) ≡ z.seen) × (z.meet ≡ None)
-      × ((r.g.holder ≡ id) ⊎ (r.g.holder ≡ other))) one_pen
-      (λ yes. (
-        v,
-        pen_same opening s r id v at yes,
-        v_shut,
-        ap (λ (b : Bool). if b then v.made else w.made) yes,
-        ap (λ (b : Bool). if b then v.seen else w.seen) yes,
-        v_alone,
-        inl (sym (f.pen yes)),
-      ))
-      (λ no yes. (
-        w,
-        pen_same opening s r other w at' yes,
-        w_shut,
-        ap (λ (b : Bool). if b then v.made else w.made) no,
-        ap (λ (b : Bool). if b then v.seen else w.seen) no,
-        w_alone,
-        inr (sym (h.pen yes)),
-      )) in
-      let z = pen_is.0 in
-      let is_z = pen_is.1 in
-      let penned_longer : IsPrefix (if v.pen then v.seen else w.seen) u.seen = pick v.pen v.seen w.seen u.seen here_longer there_longer in
-      let quiet_z : GoesOnQuietly z.seen log = subst (λ m. GoesOnQuietly (penned_of m z.seen) log) pen_is.5
-      (subst (λ (y : View). GoesOnQuietly (penned_of y.meet y.seen) log) is_z r.quiet) in
+      let pen = met_pen r.g id other v.pen w.pen v w one_pen f.pen h.pen v_shut w_shut v_alone w_alone in
+      let last : (k : ℕ) → k ≢ id → k ≢ other → k ≡ r.g.holder → ⊥ =
+      λ k ne no is. ⊎_elim (λ (q : id ≡ r.g.holder). ne (is ∙ sym q)) (λ (q : other ≡ r.g.holder). no (is ∙ sym q)) pen.3 in
       record {
         g = g';
-        legal = r.legal;
-        steady = r.steady;
-        machine = r.machine;
+        history = r.history;
         numbers = r.numbers;
         room = r.room;
-        pen = u;
-        there = set_else (set s.views id u) other id spent (λ e. apart (sym e)) ∙ set_at s.views id v u at;
-        has_pen = one_pen;
-        made = pen_is.3 ∙ (ap (λ (y : View). y.made) (sym is_z) ∙ r.made);
-        quiet = subst (λ l. GoesOnQuietly l log) (sym pen_is.4) quiet_z;
-        wide = r.wide;
-        front = r.front;
-        pages = λ c l. subst (λ (y : Option Hand). PageKept s.words y (page_at (board_after log) c) c) (ap (λ (y : View). y.hand) is_z
-            ∙ pen_is.2) (r.pages c l);
+        words = r.words;
         each = each_set (set s.views id u) other spent (Fits opening s.words g')
             (record {
-              begins = (log, refl);
+              seen = record { begins = (log, refl); mine = λ k is. absurd (cc is); meet = tt; opened = λ no. absurd (true≢false (sym no)) };
+              numbers = record { claimed = λ k c. absurd (omega arith); once = λ k. omega arith };
               pen = λ no. absurd (true≢false (sym no));
-              read = λ x q. absurd (cc q);
-              claimed = λ k c. absurd (omega arith);
-              once =
-                  λ k. omega arith;
-              mine = λ k is. absurd (cc is);
+              read = tt;
               misses = tt;
-              meet = tt;
               ended = tt;
-              opened = λ no. absurd (true≢false (sym no));
-              limit =
-                  λ no. absurd (true≢false (sym no));
+              limit = λ no. absurd (true≢false (sym no));
             })
             (λ j y ne e. each_set s.views id u (λ k x. k ≢ other → Fits opening s.words g' k x)
             (λ _. record {
-              begins = begins;
-              pen = λ _. refl;
-              read = λ x q. absurd (cc q);
-              claimed = λ k c. one_of (claims k v) (claims k w) ((owner' k ≡ id) × (k < r.g.made)) (subst (λ (m : ℕ). 0 < m) (sum k) c)
-                  (λ a. (to_id k (f.claimed k a).0, (f.claimed k a).1)) (λ b. (from_other k (h.claimed k b).0, (h.claimed k b).1));
-              once = λ k. subst (λ (m : ℕ). m ≤ 1) (sym (sum k)) (never_both (claims k v) (claims k w) (f.once k) (h.once k)
-                  (λ a b. apart (sym (h.claimed k b).0 ∙ (f.claimed k a).0)));
-              mine = λ k is. f.mine k is ∙ ap (λ m. entries_of k (here_of m v.seen)) v_alone;
+              seen = record {
+                begins = longer_case v.seen w.seen (λ l. IsPrefix l log) (λ _. f.seen.begins) (λ _. h.seen.begins);
+                mine = λ k is. f.seen.mine k is ∙ ap (λ m. entries_of k (here_of m v.seen)) v_alone;
+                meet = (here_longer, there_longer, pick v.pen v.seen w.seen u.seen here_longer there_longer);
+                opened = λ _. let le = prefix_length v.seen u.seen here_longer in let one = f.seen.opened v_lives in omega arith;
+              };
+              numbers = record {
+                claimed = λ k c. one_of (claims k v) (claims k w) ((owner' k ≡ id) × (k < r.g.made)) (subst (λ (m : ℕ). 0 < m) (sum k) c)
+                    (λ a. let o = f.numbers.claimed k a in (stays k id (λ q. apart (sym q)) o.0, o.1))
+                    (λ b. let o = h.numbers.claimed k b in (from_other k o.0, o.1));
+                once = λ k. subst (λ (m : ℕ). m ≤ 1) (sym (sum k)) (never_both (claims k v) (claims k w) (f.numbers.once k) (h.numbers.once k)
+                    (λ a b. apart (sym (h.numbers.claimed k b).0 ∙ (f.numbers.claimed k a).0)));
+              };
+              pen = λ _. record { holder = refl; hand = pen.0; made = pen.1; quiet = pen.2 };
+              read = tt;
               misses = f.misses;
-              meet = (here_longer, there_longer, penned_longer);
               ended = ended_append s.words (pages_for opening.cpus) log u.seen v.ended (w.ended ++ ended_of w.number w)
                   (ended_wider s.words (pages_for opening.cpus) log v.seen u.seen v.ended here_longer f.ended)
                   (ended_append s.words (pages_for opening.cpus) log u.seen w.ended (ended_of w.number w)
                   (ended_wider s.words (pages_for opening.cpus) log w.seen u.seen w.ended there_longer h.ended)
-                  (ended_new s.words log w u.seen w.number (λ k is. h.mine k is ∙ ap (λ m. entries_of k (here_of m w.seen)) w_alone) there_longer h.misses));
-              opened = λ _. let le = prefix_length v.seen u.seen here_longer in let one = f.opened v_lives in omega arith;
-              limit = λ lives. f.limit lives;
+                  (ended_new s.words log w u.seen w.number (λ k is. h.seen.mine k is ∙ ap (λ m. entries_of k (here_of m w.seen)) w_alone) there_longer h.misses));
+              limit = f.limit;
             })
-            (λ k x ne' was ne_other. let o = r.each k x was in
-            record {
-              begins = o.begins;
-              pen = λ yes. absurd (⊎_elim (λ (q : r.g.holder ≡ id). ne' (o.pen yes ∙ q)) (λ (q : r.g.holder ≡ other). ne_other (o.pen yes ∙ q)) pen_is.6);
-              read = o.read;
-              claimed = λ i c. (stays i k ne_other (o.claimed i c).0, (o.claimed i c).1);
-              once = o.once;
-              mine = o.mine;
-              misses = o.misses;
-              meet = o.meet;
-              ended = o.ended;
-              opened = o.opened;
-              limit = o.limit;
-            }) j y e ne);
+            (λ k x ne' was no. let o = r.each k x was in
+            fits_other opening s.words s.words r.g g' k x o (later_self (pages_for opening.cpus) s.words) (prefix_self log)
+            (λ i own below. (refl, stays i k no own, below)) (λ yes. absurd (last k ne' no (o.pen yes).holder)) o.limit) j y e ne);
         alone = λ unset. each_set (set s.views id u) other spent (λ j y. y.live ≡ true → j ≡ id) (λ no. absurd (true≢false (sym no)))
             (λ j y ne e. each_set s.views id u (λ k x. k ≢ other → x.live ≡ true → k ≡ id) (λ _ _. refl)
-            (λ k x ne' was ne_other lives. ⊎_elim (λ (q : r.g.holder ≡ id). r.alone unset k x was lives
-            ∙ q) (λ (q : r.g.holder ≡ other). absurd (ne_other (r.alone unset k x was lives ∙ q))) pen_is.6) j y e ne);
+            (λ k x ne' was no lives. absurd (last k ne' no (r.alone unset k x was lives))) j y e ne);
       }
     where
       pick : (b : Bool) (xs ys zs : List Entry) → IsPrefix xs zs → IsPrefix ys zs → IsPrefix (if b then xs else ys) zs

@@ -79,25 +79,31 @@ pub record ReadKept (words : List ℕ) (pages : ℕ) (seen : List Entry) (r : Re
   pub same : word_of words r.cpu 0 ≡ r.first → (k x : ℕ) → k < 4
       → slice_index_or r.noted k None ≡ Some x → word_of words r.cpu (suc k) ≡ x
 
+-- a view is in no read, or in one that goes on
+abbrev pub ReadingKept : List ℕ → ℕ → List Entry → Option Read → Type 0
+ReadingKept words pages seen None = Unit {0}
+ReadingKept words pages seen (Some r) = ReadKept words pages seen r
+
 -- the version of each page that was missed has come as far as the miss saw
 abbrev pub MissesKept : List ℕ → ℕ → List Miss → Type 0
-MissesKept words cpus [] = Unit {0}
-MissesKept words cpus (x ∷ xs) =
-    (x.page < cpus) × (x.second ≤ word_of words x.page 0) × MissesKept words cpus xs
+MissesKept words pages [] = Unit {0}
+MissesKept words pages (x ∷ xs) =
+    (x.page < pages) × (x.second ≤ word_of words x.page 0) × MissesKept words pages xs
 
 -- the passes that ended in a view: each had seen all entries of its number, and no more than the
 -- view has
 abbrev pub EndedKept : List ℕ → ℕ → List Entry → List Entry → List Ended → Type 0
-EndedKept words cpus log seen [] = Unit {0}
-EndedKept words cpus log seen (x ∷ xs) =
+EndedKept words pages log seen [] = Unit {0}
+EndedKept words pages log seen (x ∷ xs) =
     IsPrefix x.seen seen × (entries_of x.number log ≡ entries_of x.number x.seen)
-    × MissesKept words cpus x.misses × EndedKept words cpus log seen xs
+    × MissesKept words pages x.misses × EndedKept words pages log seen xs
 
--- what the rule alone knows: the entries after Opened, the seat that holds the pen, the seat of
--- each number, how many numbers were given, and how many may be
+-- what the rule alone knows: the entries after Opened, the seat that holds the pen and what it has
+-- open, the seat of each number, how many numbers were given, and how many may be
 pub record Ghost : Type 0 where
   pub later : List Entry
   pub holder : ℕ
+  pub hand : Option Hand
   pub owner : ℕ → ℕ
   pub made : ℕ
   pub limit : Option ℕ
@@ -105,21 +111,52 @@ pub record Ghost : Type 0 where
 abbrev pub log_in : BoardParts → Ghost → List Entry
 log_in opening g = of_state opening ∷ g.later
 
+-- A group of facts is a record without a name, so that it is the same for two views that agree in
+-- what it reads.
+
+-- what a view has seen: a prefix of the history, with all entries of its number
+abbrev pub SeenKept : List Entry → View → Type 0
+SeenKept log v = record {
+  begins : IsPrefix v.seen log;
+  mine : (n : ℕ) → v.number ≡ Some n → entries_of n log ≡ entries_of n (here_of v.meet v.seen);
+  meet : MeetKept v.meet v.seen;
+  opened : v.live ≡ true → 0 < length v.seen;
+}
+
+-- the numbers of a view are those of its seat
+abbrev pub NumbersKept : Ghost → ℕ → View → Type 0
+NumbersKept g by v = record {
+  claimed : (n : ℕ) → 0 < claims n v → (g.owner n ≡ by) × (n < g.made);
+  once : (n : ℕ) → claims n v ≤ 1;
+}
+
+-- a view that holds the pen: what the history has after what had been seen with it is quiet
+abbrev pub PenKept : BoardParts → Ghost → ℕ → View → Type 0
+PenKept opening g by v = record {
+  holder : by ≡ g.holder;
+  hand : v.hand ≡ g.hand;
+  made : v.made ≡ g.made;
+  quiet : GoesOnQuietly (penned_of v.meet v.seen) (log_in opening g);
+}
+
 -- what each view says is so
 pub record Fits (opening : BoardParts) (words : List ℕ) (g : Ghost) (by : ℕ) (v : View) :
     Type 0 where
-  pub begins : IsPrefix v.seen (log_in opening g)
-  pub pen : v.pen ≡ true → by ≡ g.holder
-  pub read : (r : Read) → v.read ≡ Some r → ReadKept words (pages_for opening.cpus) v.seen r
-  pub claimed : (n : ℕ) → 0 < claims n v → (g.owner n ≡ by) × (n < g.made)
-  pub once : (n : ℕ) → claims n v ≤ 1
-  pub mine : (n : ℕ) → v.number ≡ Some n
-      → entries_of n (log_in opening g) ≡ entries_of n (here_of v.meet v.seen)
+  pub seen : SeenKept (log_in opening g) v
+  pub numbers : NumbersKept g by v
+  pub pen : v.pen ≡ true → PenKept opening g by v
+  pub read : ReadingKept words (pages_for opening.cpus) v.seen v.read
   pub misses : MissesKept words (pages_for opening.cpus) v.misses
-  pub meet : MeetKept v.meet v.seen
   pub ended : EndedKept words (pages_for opening.cpus) (log_in opening g) v.seen v.ended
-  pub opened : v.live ≡ true → 0 < length v.seen
   pub limit : v.live ≡ true → v.limit ≡ g.limit
+
+-- the history is legal
+abbrev pub HistoryKept : BoardParts → List Entry → Type 0
+HistoryKept opening later = record {
+  legal : LegalFrom (of_state opening ∷ []) later;
+  steady : IsSteady (board_after (of_state opening ∷ later));
+  machine : machine_of (board_after (of_state opening ∷ later)) ≡ machine_of opening;
+}
 
 -- the front word counts the loud entries, and the clamp word is the greatest reading
 pub record FrontKept (words : List ℕ) (log : List Entry) : Type 0 where
@@ -127,22 +164,21 @@ pub record FrontKept (words : List ℕ) (log : List Entry) : Type 0 where
   pub low : loud log < 2 ^ 63 + 1
   pub clamp : slice_index words 16 ≡ (board_after log).greatest
 
+-- the words are those of the board after the history
+abbrev pub WordsKept : BoardParts → List ℕ → Option Hand → List Entry → Type 0
+WordsKept opening words hand log = record {
+  wide : length words ≡ 32 + 16 * pages_for opening.cpus;
+  front : FrontKept words log;
+  pages : (c : ℕ) → c < pages_for opening.cpus
+      → PageKept words hand (page_at (board_after log) c) c;
+}
+
 pub record Kept (opening : BoardParts) (s : State (Unit {0}) View) : Type 0 where
   pub g : Ghost
-  pub legal : LegalFrom (of_state opening ∷ []) g.later
-  pub steady : IsSteady (board_after (log_in opening g))
-  pub machine : machine_of (board_after (log_in opening g)) ≡ machine_of opening
+  pub history : HistoryKept opening g.later
   pub numbers : (n : ℕ) → g.made ≤ n → entries_of n (log_in opening g) ≡ []
   pub room : (m : ℕ) → g.limit ≡ Some m → g.made ≤ m
-  pub pen : View
-  pub there : get_elem? s.views g.holder ≡ some pen
-  pub has_pen : pen.pen ≡ true
-  pub made : pen.made ≡ g.made
-  pub quiet : GoesOnQuietly (penned_of pen.meet pen.seen) (log_in opening g)
-  pub wide : length s.words ≡ 32 + 16 * pages_for opening.cpus
-  pub front : FrontKept s.words (log_in opening g)
-  pub pages : (c : ℕ) → c < pages_for opening.cpus
-      → PageKept s.words pen.hand (page_at (board_after (log_in opening g)) c) c
+  pub words : WordsKept opening s.words g.hand (log_in opening g)
   pub each : (by : ℕ) (v : View) → get_elem? s.views by ≡ some v → Fits opening s.words g by v
   pub alone : g.limit ≡ None → (by : ℕ) (v : View) → get_elem? s.views by ≡ some v
       → v.live ≡ true → by ≡ g.holder

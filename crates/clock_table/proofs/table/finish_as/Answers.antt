@@ -5,7 +5,7 @@ use Rattle.board_history.specs.History.{board_after}
 use Rattle.clock_table.specs.declared.view.View.{View}
 use Rattle.clock_table.specs.Words.{place}
 use Rattle.clock_table.specs.Calls.{HasPut}
-use Rattle.clock_table.proofs.Entries.{finish_allowed}
+use Rattle.clock_table.proofs.WriteSteps.{finishes}
 use Rattle.clock_table.proofs.table.finish_as.Goals as goal
 
 pub fetch_add-requires : goal.fetch_add-requires
@@ -16,7 +16,7 @@ fetch_add-requires g c = let t = c.args.table.now in
     let at : c.place.result ≡ place c.args.page 0 = c.place.ensures in (
       c.seat.invariant.0 ∙ sym t.named,
       (let w = t.sized in let l = c.requires.page in omega arith),
-      rw at (finish_allowed t.table.shared.key _ _ c.args.page c.seat.inside.seat.me g.E.Ask.entry (let l = c.requires.page in omega arith)
+      rw at (finishes t.table.shared.key _ c.args.page _ c.seat.inside.seat.me g.E.Ask.entry (let l = c.requires.page in omega arith)
           (rw c.seat.view_is c.requires.pen) c.seat.invariant.2 put
           (rw (cpus, ← c.requires.entry) c.requires.publishes) (rw (c.seat.view_is, ← c.requires.entry) c.requires.next)),
     )

@@ -2,20 +2,16 @@ use Rattle.std.proofs.Common.{◌≡◌, ◌<◌, ap, sym, ◌∙◌, arith, Mat
 use Rattle.clock_table.specs.declared.view.View.{View}
 use Rattle.clock_table.specs.Steps.{Hears, missed}
 use Rattle.board_history.specs.declared.entry.Entry.{Entry}
-use Rattle.clock_table.specs.Words.{place}
 use Rattle.clock_table.proofs.ReadSteps.{seconds}
 use Rattle.clock_table.proofs.table.second_as.Goals as goal
 
 pub load-requires : goal.load-requires
-load-requires g c = let t = c.args.table.now in
-    let r = c.requires.read in
-    let at : c.place.result ≡ place r.0.cpu 0 = let p = c.place.ensures in let same = r.2 in omega arith in (
-      c.seat.invariant.0 ∙ sym t.named,
-      (let w = t.sized in let b = ap (λ b. b.cpus) t.opened in let p = c.place.ensures in let l = c.requires.page in omega arith),
-      rw at (seconds t.table.shared.key _ g.E.Tag.tag c.requires.pass.number.0 _ _ (ap (λ b. b.cpus) t.opened) c.seat.inside.seat.me r.0
-          (rw c.seat.view_is c.requires.pass.number.1)
-          (rw c.seat.view_is c.requires.pass.meet) c.seat.invariant.2 (rw c.seat.view_is r.1) r.3),
-    )
+load-requires g c = let t = c.args.table.now in (
+  c.seat.invariant.0 ∙ sym t.named,
+  (let w = t.sized in let b = ap (λ b. b.cpus) t.opened in let p = c.place.ensures in let l = c.requires.page in omega arith),
+  rw c.place.ensures (seconds t.table.shared.key _ g.E.Tag.tag c.args.page _ _ (ap (λ b. b.cpus) t.opened) c.seat.inside.seat.me
+      (rw c.seat.view_is c.requires.pass) c.seat.invariant.2 (rw c.seat.view_is c.requires.read)),
+)
 
 still : (b : Bool) (e : Entry) (c first n : ℕ) (v w : View) → MatchBool b (Hears e v w) ((w ≡ missed c first n v) × (first < n))
     → (w.live ≡ v.live) × (w.limit ≡ v.limit)

@@ -6,14 +6,12 @@ use Rattle.clock_table.proofs.table.ClockTable.field.Goals as goal
 
 pub load-requires : goal.load-requires
 load-requires g c = let t = c.args.self.now in
-    let r = c.requires.read in
     let k = c.number.result in
-    let at : c.place.result ≡ place r.0.cpu (suc k) = let p = c.place.ensures in let same = r.2 in omega arith in (
+    let small = c.number.ensures.small in
+    let at : c.place.result ≡ place c.args.page (suc k) = let p = c.place.ensures in omega arith in (
       c.seat.invariant.0 ∙ sym t.named,
-      (let w = t.sized in let b = ap (λ b. b.cpus) t.opened in let p = c.place.ensures in let l = c.requires.page in let small = c.number.ensures.small in
-          omega arith),
-      rw at (fields t.table.shared.key _ k _ c.requires.pass.number.0 c.seat.inside.seat.me r.0 c.number.ensures.small
-          (rw c.seat.view_is c.requires.pass.number.1) (rw c.seat.view_is c.requires.pass.meet) (rw c.seat.view_is r.1)),
+      (let w = t.sized in let b = ap (λ b. b.cpus) t.opened in let l = c.requires.page in omega arith),
+      rw at (fields t.table.shared.key _ c.args.page k _ c.seat.inside.seat.me small (rw c.seat.view_is c.requires.pass) (rw c.seat.view_is c.requires.read)),
     )
 
 pub invariant_of-seat : goal.invariant_of-seat

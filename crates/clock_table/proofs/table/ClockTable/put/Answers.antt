@@ -1,27 +1,19 @@
 use Rattle.std.proofs.Common.{◌<◌, ◌+◌, ◌≡◌, suc, ℕ, ap, sym, ◌∙◌, arith}
 use Rattle.clock_table.specs.Steps.{put_in}
 use Rattle.clock_table.specs.Words.{place}
-use Rattle.clock_table.proofs.WriteSteps.{Holds, puts}
+use Rattle.clock_table.proofs.WriteSteps.{puts}
 use Rattle.clock_table.proofs.table.ClockTable.put.Goals as goal
 
 pub store-requires : goal.store-requires
 store-requires g c = let t = c.args.self.now in
-    let o = c.requires.open in
     let k = c.number.result in
     let small : k < 4 = c.number.ensures.small in
-    let holds : Holds t.table.shared.key c.seat.inside.seat.id c.requires.pen.number.0 c.seat.inside.seat.me =
-    record {
-      pen = rw c.seat.view_is c.requires.pen.pen;
-      number = rw c.seat.view_is c.requires.pen.number.1;
-      meet =
-          rw c.seat.view_is c.requires.pen.meet;
-      live = c.seat.invariant.2;
-    } in
-    let at : c.place.result ≡ place o.0.cpu (suc k) = let p = c.place.ensures in let same = o.2 in omega arith in
-    let inside : o.0.cpu < t.table.shared.key.cpus + 1 = let same = o.2 in let l = c.requires.page in let b = ap (λ b. b.cpus) t.opened in omega arith in (
+    let at : c.place.result ≡ place c.args.page (suc k) = let p = c.place.ensures in omega arith in
+    let inside : c.args.page < t.table.shared.key.cpus + 1 = let l = c.requires.page in let b = ap (λ b. b.cpus) t.opened in omega arith in (
       c.seat.invariant.0 ∙ sym t.named,
-      (let w = t.sized in let b = ap (λ b. b.cpus) t.opened in let p = c.place.ensures in let l = c.requires.page in omega arith),
-      rw at (puts t.table.shared.key _ k c.args.word _ c.requires.pen.number.0 c.seat.inside.seat.me o.0 inside small holds (rw c.seat.view_is o.1) o.3),
+      (let w = t.sized in let b = ap (λ b. b.cpus) t.opened in omega arith),
+      rw at (puts t.table.shared.key _ c.args.page k c.args.word _ c.seat.inside.seat.me inside small (rw c.seat.view_is c.requires.pen)
+          (rw c.seat.view_is c.requires.open)),
     )
 
 pub invariant_of-seat : goal.invariant_of-seat
