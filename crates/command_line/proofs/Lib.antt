@@ -3,3 +3,4 @@ mod Numbers
 mod Parsed
 mod Sizes
 mod Rows
+mod RowsJobs
