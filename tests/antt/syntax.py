@@ -278,7 +278,8 @@ def conjunction(name: str, type_of: str) -> list[str]:
     head, _, body = type_of.partition(" where\n")
     names = " ".join(re.findall(r"\((\w[\w ]*) : ", head))
     facts = re.split(r"^\s+pub \w+ :", body, flags=re.MULTILINE)[1:]
-    return [f"{name} {names} = {' × '.join(f'({it})' for it in facts)}"] if names and facts else []
+    is_fact = names and facts and ": Type 0)" not in head
+    return [f"{name} {names} = {' × '.join(f'({it})' for it in facts)}"] if is_fact else []
 
 
 def constants(crates: Path) -> dict[tuple[str, str], int]:
