@@ -34,11 +34,11 @@ use Rattle.clock_table.specs.Words.{word_of, field_at, pages_for}
 use Rattle.clock_table.specs.Steps.{first_view, weight, loud, number_is, ended_with}
 use Rattle.clock_table.specs.Ends.{no_page, IsWhole, MissesTold, EndedTold}
 use Rattle.clock_table.specs.private.Rule.{is_open, PageKept, MissesKept, EndedKept, Ghost, Fits, Kept}
-use Rattle.clock_table.specs.private.Laid.{words_at, IsLaidBelow, IsLaid, Closing}
+use Rattle.clock_table.specs.private.Laid.{words_at, IsLaidBelow, Closing}
 use Rattle.clock_table.proofs.Keeps.{rebuilt, St, log_of}
 use Rattle.clock_table.proofs.SeatSteps.{entries_between}
 
-pub opens : (s : BoardParts) (words : List ℕ) → IsSteady s → IsLaid s words → Kept s (opening_of words [] (first_view s))
+pub opens : (s : BoardParts) (words : List ℕ) → IsSteady s → IsLaidBelow (5 * pages_for s.cpus) s words → Kept s (opening_of words [] (first_view s))
 opens s words steady laid = record {
   g = g;
   history = record { legal = tt; steady = steady; machine = refl };
@@ -47,7 +47,10 @@ opens s words steady laid = record {
   words = record {
     wide = laid.wide;
     front = record { front = laid.front; low = omega arith; clamp = laid.clamp };
-    pages = λ c l. record { version = let v = laid.version c l in omega arith; field = λ k small. laid.field c k l small };
+    pages = λ c l. record {
+      version = let v = laid.word c 0 (omega arith) (omega arith) in omega arith;
+      field = λ k small. laid.word c (suc k) (omega arith) (omega arith);
+    };
   };
   each = one;
   alone = λ _ by v e lives. alone by v e;
@@ -267,23 +270,6 @@ steady_of b joined long = record {
     at : (c : ℕ) (t : Bool) → IsSteadyPage (page_if t b c)
     at c true = hv-steady b.hv joined.hv.version.most joined.hv.version.even
     at c false = page (processor_at b c) (joined.processors.each c)
-
--- the words of all pages
-pub laid_of : (s : BoardParts) (words : List ℕ) → length words ≡ 32 + 16 * pages_for s.cpus → IsLaidBelow (pages_for s.cpus) s words → IsLaid s words
-laid_of s words long l = record {
-  wide = long;
-  front = l.front;
-  clamp = l.clamp;
-  version = l.version;
-  field = fields;
-}
-  where
-    fields : (c k : ℕ) → c < pages_for s.cpus → k < 4 → word_of words c (suc k) ≡ field_at (page_at s c) k
-    fields c zero h small = l.stamp c h
-    fields c (suc zero) h small = l.system c h
-    fields c (suc (suc zero)) h small = l.scale c h
-    fields c (suc (suc (suc zero))) h small = l.offset c h
-    fields c (suc (suc (suc (suc k)))) h small = absurd (omega arith)
 
 pub at_word : (ws : List ℕ) (i j x : ℕ) → i ≡ j → get_elem? ws i ≡ some x → x ≡ get_or ws j 0
 at_word ws i j x same e = subst (λ (k : ℕ). x ≡ get_or ws k 0) same (found ws i x e)

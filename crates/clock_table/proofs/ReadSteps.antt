@@ -24,7 +24,7 @@ use Rattle.clock_table.specs.Steps.{or_else, number_in, IsQuietEntry, weight, lo
 use Rattle.clock_table.specs.Steps.{noted_in, note_at, noted_page, ReadEnds}
 use Rattle.clock_table.specs.Calls.{IsPass, IsReading, AllNoted, HasNoted}
 use Rattle.clock_table.specs.private.Rule.{is_open, put_at, PageKept, ReadKept, ReadingKept, MissesKept, Kept}
-use Rattle.clock_table.specs.private.Plays.{FirstRead, FieldRead, SecondRead, Raised}
+use Rattle.clock_table.specs.private.Plays.{Stays, FirstRead, FieldRead, SecondRead, Raised}
 use Rattle.clock_table.proofs.Lists.{set_or, no_field}
 use Rattle.clock_table.proofs.Pages.{page_same}
 use Rattle.clock_table.proofs.Keeps.{rebuilt, St, M, later_self, later_same, misses_snoc, loud-append, loud_quiet, quiet_self, log_of, stay, enter, mine_seen}
@@ -48,6 +48,10 @@ read_quiet cpus pass c h page = by (eqb c cpus)
 not_open : (b : Bool) (v first : ℕ) → first ≡ v + weight b → first % 2 ≡ 0 → v % 2 ≡ 0 → b ≡ false
 not_open true v first e even steady = absurd (omega arith)
 not_open false v first e even steady = refl
+
+still : (b : Bool) (c n : ℕ) (me : M) → Stays me (first_if b c n me.0, me.1)
+still true c n me = (refl, refl, refl)
+still false c n me = (refl, refl, refl)
 
 module _ (opening : BoardParts) where
   -- the word of a version is at least what was seen of it
@@ -114,7 +118,7 @@ module _ (opening : BoardParts) where
         tt,
         first_kept s r c id me l at pass (eqb (n % 2) 0) refl,
         (
-          refl,
+          still (eqb (n % 2) 0) c n me,
           λ d e. let same : c ≡ d = omega arith in (
             ap (λ (x : ℕ). first_read x n me.0) same,
             subst (λ (x : ℕ). version_after me.0.seen x ≤ n) same (least s r me.0.seen c l (r.each id me.0 at).seen.begins),
@@ -149,7 +153,7 @@ module _ (opening : BoardParts) where
               same = λ still j u jsmall noted. set_or x.noted k j n u (word_of s.words c (suc j) ≡ u) noted
                   (λ here now. ap (λ (i : ℕ). word_of s.words c (suc i)) here ∙ now) (λ was. old.same still j u jsmall was);
             })) (r.each id me.0 at).misses,
-        (refl, λ d j jsmall e. let same : k ≡ j = omega arith in ap (λ (i : ℕ). noted_in i n me.0) same),
+        ((refl, refl, refl), λ d j jsmall e. let same : k ≡ j = omega arith in ap (λ (i : ℕ). noted_in i n me.0) same),
       )
 
   -- where the version is the one noted first, the noted page is the board's
@@ -171,7 +175,7 @@ module _ (opening : BoardParts) where
   second_kept : (s : St) (r : Kept opening s) (h id : ℕ) (me : M) (x : Read) → IsPass me.0 → me.0.live ≡ true → me.0.read ≡ Some x → AllNoted x
       → get_elem? s.views id ≡ some me.0 → (b : Bool) → eqb (word_of s.words x.cpu 0) x.first ≡ b
       → (w : View) × Kept opening (stepped s (place x.cpu 0) (word_of s.words x.cpu 0) id me.1 w keeps)
-      × MatchBool b (Hears (read_of opening.cpus (number_in me.0) x.cpu h (noted_page x) false) me.0 w)
+      × Stays me (w, me.1) × MatchBool b (Hears (read_of opening.cpus (number_in me.0) x.cpu h (noted_page x) false) me.0 w)
       ((w ≡ missed x.cpu x.first (word_of s.words x.cpu 0) me.0) × (x.first < word_of s.words x.cpu 0))
   second_kept s r h id me x pass lives is all at true same =
       let old = reading s r id me x at is in
@@ -188,7 +192,7 @@ module _ (opening : BoardParts) where
       let t = hears s r s.words id me e at pass lives own (read_quiet opening.cpus n x.cpu h (noted_page x)) may refl (λ c k. refl) refl
       (λ c. ap (λ (b : BoardParts). page_at b c) (sym leaves)) (r.words.front.clamp ∙ ap (λ (b : BoardParts). b.greatest) (sym leaves)) in
       let w : View = heard me.0 (r.each id me.0 at).seen.begins.0 e in
-      (w, subst (λ ws. Kept opening record { words = ws; homes = s.homes; views = set s.views id w }) (sym (set-get_or s.words (place x.cpu 0) 0)) t.0, t.1)
+      (w, subst (λ ws. Kept opening record { words = ws; homes = s.homes; views = set s.views id w }) (sym (set-get_or s.words (place x.cpu 0) 0)) t.0, (refl, refl, refl), t.1)
   second_kept s r h id me x pass lives is all at false differ =
       let old = reading s r id me x at is in
       let grown = old.grown in
@@ -198,6 +202,7 @@ module _ (opening : BoardParts) where
         missed x.cpu x.first n me.0,
         glance s r (place x.cpu 0) id me None (me.0.misses ++ miss ∷ []) at pass tt
             (misses_snoc s.words (pages_for opening.cpus) me.0.misses miss (r.each id me.0 at).misses old.there (omega arith)),
+        (refl, refl, refl),
         (refl, omega arith),
       )
 
@@ -213,10 +218,10 @@ module _ (opening : BoardParts) where
         tt,
         t.1,
         (
-          refl,
+          t.2,
           λ y yis.
               let same_y : x ≡ y = cc (is, yis) in
-              subst (λ (z : ℕ × Read). ReadEnds z.0 h z.1 (word_of s.words c 0) me.0 t.0) (λ i. (same i, same_y i)) t.2,
+              subst (λ (z : ℕ × Read). ReadEnds z.0 h z.1 (word_of s.words c 0) me.0 t.0) (λ i. (same i, same_y i)) t.3,
         ),
       )
 

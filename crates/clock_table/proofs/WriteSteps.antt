@@ -67,7 +67,7 @@ module _ (opening : BoardParts) where
             (on_page s r c 0 (n + 1) id me (Some o) at pen (later_version (pages_for opening.cpus) s.words c (n + 1) (omega arith) (omega arith))
             (λ d m. page_cases s.words c 0 (n + 1) d None (Some o) page page (omega arith) (open_none c) (open_one o) (λ i ne. refl) (kept d m)
             (page_opened s.words c (page c) (omega arith) (kept c l)))),
-        (refl, λ d e. let same : c ≡ d = omega arith in ap (λ (x : ℕ). begun x me.0) same),
+        ((refl, refl, refl), λ d e. let same : c ≡ d = omega arith in ap (λ (x : ℕ). begun x me.0) same),
       )
 
   -- a field is put
@@ -91,7 +91,7 @@ module _ (opening : BoardParts) where
             (on_page s r c (suc k) x id me (Some o') at pen (later_field (pages_for opening.cpus) s.words c k x small odd)
             (λ d m. page_cases s.words c (suc k) x d (Some o) (Some o') page page (omega arith) (open_one o) (open_one o') (λ i ne. refl) (kept d m)
             (page_put s.words o k x (page c) (omega arith) small open_page.3 (kept c l)))),
-        (refl, λ d j jsmall e. let same : k ≡ j = omega arith in ap (λ (i : ℕ). put_in i x me.0) same),
+        ((refl, refl, refl), λ d j jsmall e. let same : k ≡ j = omega arith in ap (λ (i : ℕ). put_in i x me.0) same),
       )
 
   -- a step that adds an entry, after which nothing is open

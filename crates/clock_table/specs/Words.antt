@@ -1,13 +1,30 @@
--- The words of a table: a front word, a clamp word, and five words for each page. They begin at places
--- 16 apart, so that no two of them are in one line of a cache.
+-- The words of a table: a front word, a clamp word, and five words for each page.
 use Rattle.std.specs.Prelude.{ℕ, suc, ◌+◌, ◌*◌, List, [], slice_index}
 use Rattle.pvclock_page.specs.declared.page.Page.{Page}
 use Rattle.pvclock_page.specs.Words.{words_of}
 use Rattle.atomic_table.specs.Seated.{TableId}
 
+-- They begin at places so far apart, so that no two of them are in one line of a cache (own).
+abbrev pub apart : ℕ
+apart = 16
+
+-- where the front word, the clamp word and the first page are
+abbrev pub front_at : ℕ
+front_at = 0
+
+abbrev pub clamp_at : ℕ
+clamp_at = apart
+
+abbrev pub pages_at : ℕ
+pages_at = 2 * apart
+
 -- where the word k of the page c is
 abbrev pub place : ℕ → ℕ → ℕ
-place c k = 32 + (16 * c + k)
+place c k = pages_at + (apart * c + k)
+
+-- how many words a table of so many pages has
+abbrev pub words_for : ℕ → ℕ
+words_for pages = pages_at + apart * pages
 
 -- how many pages a table has for so many processors: after theirs comes the reference page
 abbrev pub pages_for : ℕ → ℕ

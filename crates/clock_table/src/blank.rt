@@ -26,14 +26,14 @@ impl Model for Blank {
     ghost use Rattle.atomic_table.specs.Seated.{TableId};
     ghost use Rattle.board_types.specs.declared.parts.BoardParts.{BoardParts};
     ghost use Rattle.clock_table.specs.Steps.{first_view};
-    ghost use Rattle.clock_table.specs.Words.{pages_for};
+    ghost use Rattle.clock_table.specs.Words.{pages_for, words_for};
 
     ghost Value = { TableId × BoardParts };
 
     ghost view = { λ b. (b.table.shared.table_id, b.table.shared.key) };
 
     ghost invariant = { λ b. (b.table.shared.table_id.words
-        ≡ 32 + 16 * pages_for b.table.shared.key.cpus)
+        ≡ words_for (pages_for b.table.shared.key.cpus))
         × (b.table.shared.table_id.slots ≡ 0) × (b.seat.table_id ≡ b.table.shared.table_id)
         × (b.seat.me ≡ (first_view b.table.shared.key, [])) };
 }
@@ -63,8 +63,7 @@ fn places(processors: &[ProcessorParts; 64]) -> usize
 
 /// The words of a state: the front word, the clamp word, and those of each page.
 fn laid(alloc: Global, state: &BoardState) -> Result<Vec<u64>, NoMemory>
-    ensures long { IfOk result (λ ws. length ws.items ≡ 32 + 16 * pages_for state.now.cpus) }
-    ensures laid { IfOk result (λ ws. IsLaidBelow (pages_for state.now.cpus) state.now ws.items) }
+    ensures { IfOk result (λ ws. IsLaidBelow (5 * pages_for state.now.cpus) state.now ws.items) }
 {
     let pages = state.cpus() as usize + 1;
     let Ok(mut words) = vec![in alloc; 0; PAGES + APART * pages] else {

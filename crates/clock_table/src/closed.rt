@@ -4,6 +4,7 @@ ghost use Rattle.std.specs.Slots.{slots_items, slots_len, IsFull};
 ghost use Rattle.pvclock_page.specs.Words.{page_of};
 ghost use Rattle.board_history.specs.Machine.{page_at};
 ghost use Rattle.board_history.specs.History.{board_after, entries_of, IsLegal, Opens};
+ghost use Rattle.clock_table.specs.Words.{words_for};
 ghost use Rattle.clock_table.specs.Steps.{loud};
 ghost use Rattle.clock_table.specs.Ends.{IsWhole, EndedTold, no_page};
 ghost use Rattle.clock_table.specs.private.Laid.{words_at};
@@ -73,9 +74,9 @@ impl<N: Name> ClockTable<N> {
 fn pages_of(words: &ClosedWords<(), Global>, count: usize) -> [Page; MOST_PAGES]
     requires full { IsFull words.now.words }
     requires count { slots_len words.now.words ≡ count }
-    ensures pages { (page : ℕ) → 32 + 16 * page + 16 ≤ count → page < MOST_PAGES →
+    ensures pages { (page : ℕ) → words_for (page + 1) ≤ count → page < MOST_PAGES →
         slice_index_or result page no_page ≡ page_of (words_at (slots_items words.now.words) page) }
-    ensures no_pages { (page : ℕ) → count < 32 + 16 * page + 16 →
+    ensures no_pages { (page : ℕ) → count < words_for (page + 1) →
         slice_index_or result page no_page ≡ no_page }
 {
     let mut pages = [NO_PAGE; MOST_PAGES];
@@ -90,7 +91,7 @@ fn pages_of(words: &ClosedWords<(), Global>, count: usize) -> [Page; MOST_PAGES]
 /// The page at this place.
 fn page_at(words: &ClosedWords<(), Global>, page: usize) -> Page
     requires full { IsFull words.now.words }
-    requires there { 32 + 16 * page + 16 ≤ slots_len words.now.words }
+    requires there { words_for (page + 1) ≤ slots_len words.now.words }
     requires few { page < MOST_PAGES }
     ensures { result ≡ page_of (words_at (slots_items words.now.words) page) }
 {

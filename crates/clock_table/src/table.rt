@@ -24,7 +24,7 @@ ghost use Rattle.board_history.specs.History.{
   entries_of,
 };
 ghost use Rattle.board_history.specs.declared.entry.Entry.TheVariants.{Clamp};
-ghost use Rattle.clock_table.specs.Words.{place as place_of, pages_for};
+ghost use Rattle.clock_table.specs.Words.{place as place_of, pages_for, words_for};
 ghost use Rattle.clock_table.specs.Steps.{
   first_view,
   named,
@@ -97,7 +97,7 @@ pub struct ClockTable<N: Name> {
     pub(crate) of: PhantomData<N>,
     pub(crate) ghost named: { table.shared.table_id ≡ N.table },
     pub(crate) ghost opened: { table.shared.key ≡ N.state },
-    pub(crate) ghost sized: { table.shared.table_id.words ≡ 32 + 16 * pages_for N.state.cpus },
+    pub(crate) ghost sized: { table.shared.table_id.words ≡ words_for (pages_for N.state.cpus) },
     pub(crate) ghost plain: { table.shared.table_id.slots ≡ 0 },
 }
 

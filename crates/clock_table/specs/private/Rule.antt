@@ -1,29 +1,5 @@
 -- The rule of the words: what is true between any two steps, whatever thread makes them.
-use Rattle.std.specs.Prelude.{
-  ◌≡◌,
-  ℕ,
-  suc,
-  ◌+◌,
-  ◌*◌,
-  ◌%◌,
-  ◌^◌,
-  ◌<◌,
-  ◌≤◌,
-  ◌==◌,
-  if◌then◌else◌,
-  Bool,
-  true,
-  false,
-  List,
-  [],
-  ◌∷◌,
-  length,
-  slice_index,
-  slice_index_or,
-  Option,
-  Some,
-  None,
-}
+use Rattle.std.specs.Prelude.{◌≡◌, ℕ, suc, ◌+◌, ◌%◌, ◌^◌, ◌<◌, ◌≤◌, ◌==◌, if◌then◌else◌, Bool, true, false, List, [], ◌∷◌, length, slice_index, slice_index_or, Option, Some, None}
 use mathlib.Core.Option.{some}
 use mathlib.Core.List.{IsPrefix}
 use lib.ListN.{get_elem?}
@@ -39,7 +15,7 @@ use Rattle.clock_table.specs.declared.view.Read.{Read}
 use Rattle.clock_table.specs.declared.view.Hand.{Hand}
 use Rattle.clock_table.specs.declared.view.Miss.{Miss}
 use Rattle.clock_table.specs.declared.view.Ended.{Ended}
-use Rattle.clock_table.specs.Words.{word_of, field_at, pages_for}
+use Rattle.clock_table.specs.Words.{front_at, clamp_at, word_of, field_at, pages_for, words_for}
 use Rattle.clock_table.specs.Steps.{
   or_else,
   weight,
@@ -160,14 +136,14 @@ HistoryKept opening later = record {
 
 -- the front word counts the loud entries, and the clamp word is the greatest reading
 pub record FrontKept (words : List ℕ) (log : List Entry) : Type 0 where
-  pub front : slice_index words 0 ≡ loud log
+  pub front : slice_index words front_at ≡ loud log
   pub low : loud log < 2 ^ 63 + 1
-  pub clamp : slice_index words 16 ≡ (board_after log).greatest
+  pub clamp : slice_index words clamp_at ≡ (board_after log).greatest
 
 -- the words are those of the board after the history
 abbrev pub WordsKept : BoardParts → List ℕ → Option Hand → List Entry → Type 0
 WordsKept opening words hand log = record {
-  wide : length words ≡ 32 + 16 * pages_for opening.cpus;
+  wide : length words ≡ words_for (pages_for opening.cpus);
   front : FrontKept words log;
   pages : (c : ℕ) → c < pages_for opening.cpus
       → PageKept words hand (page_at (board_after log) c) c;

@@ -4,7 +4,7 @@ use Rattle.board_types.specs.declared.parts.BoardParts.{BoardParts}
 use Rattle.board_core.specs.Conditions.{IsJoined}
 use Rattle.clock_table.specs.Steps.{first_view}
 use Rattle.clock_table.specs.private.Rule.{Kept}
-use Rattle.clock_table.proofs.EndSteps.{opens, steady_of, laid_of}
+use Rattle.clock_table.proofs.EndSteps.{opens, steady_of}
 use Rattle.clock_table.proofs.blank.Blank.new.Goals as goal
 
 pub of_words-requires : goal.of_words-requires
@@ -14,4 +14,4 @@ of_words-requires c =
     let long : length s.processors ≡ 64 = subst (λ (b : BoardParts). length b.processors ≡ 64) c.parts.ensures.value c.places-places.ensures in
     let ws = c.in_ok-words.words.items in
     subst (λ (l : List ℕ). Kept s (opening l [] (first_view s))) (sym c.deref.ensures.value)
-    (opens s ws (steady_of s joined long) (laid_of s ws c.in_ok-words.ensures.long c.in_ok-words.ensures.laid))
+    (opens s ws (steady_of s joined long) c.in_ok-words.ensures)

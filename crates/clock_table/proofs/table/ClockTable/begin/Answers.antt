@@ -12,10 +12,5 @@ fetch_add-requires g c = let t = c.args.self.now in
           (rw c.seat.view_is c.requires.shut) (rw c.seat.view_is c.requires.room)),
     )
 
-pub invariant_of-seat : goal.invariant_of-seat
-invariant_of-seat g c = let e = c.fetch_add.ensures in let i = c.seat.invariant in
-    let same = e.2.1 c.args.page c.place.ensures in
-    (e.0 ∙ i.0, e.2.0 ∙ i.1, ap (λ v. v.live) same ∙ i.2, ap (λ v. v.limit) same ∙ i.3)
-
 pub returns : goal.returns
 returns g c = c.fetch_add.ensures.2.1 c.args.page c.place.ensures ∙ ap (λ v. begun c.args.page v) c.seat.view_is

@@ -14,12 +14,6 @@ load-requires g c = let t = c.args.self.now in
       rw at (fields t.table.shared.key _ c.args.page k _ c.seat.inside.seat.me small (rw c.seat.view_is c.requires.pass) (rw c.seat.view_is c.requires.read)),
     )
 
-pub invariant_of-seat : goal.invariant_of-seat
-invariant_of-seat g c = let e = c.load.ensures in let i = c.seat.invariant in
-    let at : c.place.result ≡ place c.args.page (suc c.number.result) = let p = c.place.ensures in omega arith in
-    let same = e.2.1 c.args.page c.number.result c.number.ensures.small at in
-    (e.0 ∙ i.0, e.2.0 ∙ i.1, ap (λ v. v.live) same ∙ i.2, ap (λ v. v.limit) same ∙ i.3)
-
 pub returns : goal.returns
 returns g c =
     let at : c.place.result ≡ place c.args.page (suc c.number.result) = let p = c.place.ensures in omega arith in

@@ -16,12 +16,6 @@ store-requires g c = let t = c.args.self.now in
           (rw c.seat.view_is c.requires.open)),
     )
 
-pub invariant_of-seat : goal.invariant_of-seat
-invariant_of-seat g c = let e = c.store.ensures in let i = c.seat.invariant in
-    let at : c.place.result ≡ place c.args.page (suc c.number.result) = let p = c.place.ensures in omega arith in
-    let same = e.2.1 c.args.page c.number.result c.number.ensures.small at in
-    (e.0 ∙ i.0, e.2.0 ∙ i.1, ap (λ v. v.live) same ∙ i.2, ap (λ v. v.limit) same ∙ i.3)
-
 pub returns : goal.returns
 returns g c = let e = c.store.ensures in
     let n = c.number.ensures.value in
