@@ -1,0 +1,576 @@
+/* SPDX-License-Identifier: Apache-2.0 OR MIT
+ *
+ * The device `clockboard` of QEMU 7.2: a board in the place of the machine's 8254, MC146818 and HPET.
+ *
+ *     -device clockboard[,pit-policy=P][,rtc-policy=P][,hpet-policy=P][,slew-ns=N][,trace=FILE]
+ *
+ * P is discard, delay (the default) or slew. The board's regions lie above those of QEMU's own devices: ports 40h to 43h, 61h,
+ * 70h and 71h, and the HPET's page where the machine has an HPET. Its lines are GSIs 0, 8 and 20 to 23 (on q35 the last four
+ * are PCI's too). Its counter is QEMU's virtual clock, so it stops with the guest, and -icount makes a run repeatable. The
+ * timer of the local APICs and the TSC stay QEMU's.
+ *
+ * The interrupt controllers are QEMU's, in user space: TCG, or KVM with kernel-irqchip=off. qemu/edit puts a watch into four of
+ * their functions, by which the device acknowledges a line:
+ *   - at the end of its interrupt: an 8259 or a local APIC ends it;
+ *   - where a controller has lost the edge: the guest unmasks a pin of the IO-APIC whose line is up, or initializes an 8259
+ *     that had seen it go up. No end of an interrupt would come, and the line would stay up.
+ *
+ * The trace has each call, by record.h, and behind each, in comments that begin with `# > `, what a replay prints for it. After
+ * loadvm a new file goes on: FILE.1, FILE.2 .. */
+#include "qemu/osdep.h"
+#include "qemu/cutils.h"
+#include "qemu/error-report.h"
+#include "qemu/log.h"
+#include "qemu/timer.h"
+#include "qapi/error.h"
+#include "exec/address-spaces.h"
+#include "hw/boards.h"
+#include "hw/core/cpu.h"
+#include "hw/i386/apic_internal.h"
+#include "hw/i386/clockboard_hooks.h"
+#include "hw/i386/ioapic.h"
+#include "hw/i386/ioapic_internal.h"
+#include "hw/i386/x86.h"
+#include "hw/irq.h"
+#include "hw/isa/i8259_internal.h"
+#include "hw/isa/isa.h"
+#include "hw/qdev-properties-system.h"
+#include "hw/qdev-properties.h"
+#include "hw/rtc/mc146818rtc.h"
+#include "hw/timer/hpet.h"
+#include "hw/timer/i8254.h"
+#include "migration/vmstate.h"
+#include "sysemu/kvm.h"
+#include "sysemu/rtc.h"
+#include "sysemu/sysemu.h"
+#include "record.h"
+
+#define TYPE_CLOCKBOARD "clockboard"
+OBJECT_DECLARE_SIMPLE_TYPE(ClockboardState, CLOCKBOARD)
+
+enum { RTC_FIRMWARE = 0x0e, RTC_BYTES = 0x80, HPET_TIMERS = 3, PRIORITY = 1 };
+
+struct ClockboardState {
+    ISADevice parent_obj;
+
+    LostTickPolicy pit_policy, rtc_policy, hpet_policy;
+    uint64_t slew_ns;
+    char *trace;
+
+    struct clockboard board;
+    struct clockboard_record record;
+    bool recording;
+    unsigned traces;              /* how many files there were */
+    uint8_t firmware[RTC_BYTES];  /* QEMU's bytes of the MC146818 as they were copied last */
+    QEMUTimer *timer;
+    ISADevice *rtc;
+    IOAPICCommonState *ioapic;    /* NULL where the machine has none */
+    qemu_irq *gsi;
+    MemoryRegion pit_ports, speaker_port, rtc_ports, hpet_page;
+    Notifier exit;
+
+    uint32_t state_length;        /* of the saved state, while one is saved or loaded */
+    uint8_t *state;
+};
+
+/* The one board of the machine. */
+static ClockboardState *the_board;
+
+static const struct {
+    uint8_t line, pin;            /* of the IO-APIC */
+} lines[] = {{0, 2}, {8, 8}, {20, 20}, {21, 21}, {22, 22}, {23, 23}};
+
+static uint64_t counter(void)
+{
+    return qemu_clock_get_ns(QEMU_CLOCK_VIRTUAL);
+}
+
+static uint8_t processor(void)
+{
+    return current_cpu ? current_cpu->cpu_index : 0;
+}
+
+static bool is_up(ClockboardState *s, uint8_t line)
+{
+    struct clockboard_view view;
+    return clockboard_look(&s->board, &view) == CLOCKBOARD_OK && (view.lines >> line & 1);
+}
+
+/* What a replay prints for the call that was written last: its edges, its number and what was read. */
+static void write_printed(ClockboardState *s, const struct clockboard_reply *reply, const char *read)
+{
+    FILE *file = s->record.file;
+    uint64_t line = s->record.lines;
+
+    for (uint32_t k = 0; k < reply->edge_count; k++) {
+        const struct clockboard_edge *edge = &reply->edges[k];
+        fprintf(file, "# > edge %" PRIu64 " %" PRIu32 " %s\n", edge->at_ns, edge->line, edge->up ? "up" : "down");
+    }
+    fprintf(file, "# > %" PRIu64 " %" PRIu64 "%s\n", line, reply->number, read);
+    s->record.lines += reply->edge_count + 1;
+}
+
+static void set_timer(ClockboardState *s)
+{
+    uint64_t at_ns, count;
+
+    if (clockboard_next_edge(&s->board, &at_ns) == CLOCKBOARD_OK
+        && clockboard_counter_of(&s->board, at_ns, &count) == CLOCKBOARD_OK && count <= INT64_MAX) {
+        timer_mod_ns(s->timer, count);
+    } else {
+        timer_del(s->timer);
+    }
+}
+
+/* What follows from a call: its edges reach the interrupt controllers, and the timer is set to the next one. */
+static void settle(ClockboardState *s, const struct clockboard_reply *reply, const char *read)
+{
+    if (reply->answer != CLOCKBOARD_OK) {
+        qemu_log_mask(LOG_GUEST_ERROR, "clockboard: %s\n", clockboard_answer_text(reply->answer));
+        return;
+    }
+    if (s->recording) {
+        write_printed(s, reply, read);
+    }
+    for (uint32_t k = 0; k < reply->edge_count; k++) {
+        qemu_set_irq(s->gsi[reply->edges[k].line], reply->edges[k].up);
+    }
+    set_timer(s);
+}
+
+/* A call at this count, written to the trace where there is one. */
+#define CALL(s, reply, name, cpu, ...) \
+    ((s)->recording ? clockboard_record_##name(&(s)->record, &(s)->board, cpu, counter(), ##__VA_ARGS__, reply) \
+                    : clockboard_##name(&(s)->board, cpu, counter(), ##__VA_ARGS__, reply))
+
+static void step(void *opaque)
+{
+    ClockboardState *s = opaque;
+    struct clockboard_reply reply;
+
+    CALL(s, &reply, step, 0);
+    settle(s, &reply, "");
+}
+
+static void acknowledge(ClockboardState *s, uint8_t line)
+{
+    struct clockboard_reply reply;
+
+    CALL(s, &reply, acknowledge, processor(), line);
+    settle(s, &reply, "");
+}
+
+static uint8_t port_in(ClockboardState *s, uint16_t port)
+{
+    struct clockboard_reply reply;
+    char read[8];
+
+    CALL(s, &reply, port_read, processor(), port);
+    snprintf(read, sizeof(read), " %02x", (uint8_t)reply.value[0]);
+    settle(s, &reply, read);
+    return reply.answer == CLOCKBOARD_OK ? reply.value[0] : 0xff;
+}
+
+static void port_out(ClockboardState *s, uint16_t port, uint8_t byte)
+{
+    struct clockboard_reply reply;
+
+    CALL(s, &reply, port_write, processor(), port, byte);
+    settle(s, &reply, "");
+}
+
+static uint64_t hpet_in(ClockboardState *s, uint16_t offset, uint8_t width)
+{
+    struct clockboard_reply reply;
+    char read[24];
+
+    CALL(s, &reply, hpet_read, processor(), offset, width);
+    snprintf(read, sizeof(read), " %0*" PRIx64, 2 * width, reply.value[0]);
+    settle(s, &reply, read);
+    return reply.answer == CLOCKBOARD_OK ? reply.value[0] : UINT64_MAX;
+}
+
+static void hpet_out(ClockboardState *s, uint16_t offset, uint8_t width, uint64_t value)
+{
+    struct clockboard_reply reply;
+
+    CALL(s, &reply, hpet_write, processor(), offset, width, value);
+    settle(s, &reply, "");
+}
+
+static uint8_t rtc_in(ClockboardState *s, uint8_t at)
+{
+    port_out(s, 0x70, at);
+    return port_in(s, 0x71);
+}
+
+static void rtc_out(ClockboardState *s, uint8_t at, uint8_t byte)
+{
+    port_out(s, 0x70, at);
+    port_out(s, 0x71, byte);
+}
+
+/* The regions. */
+
+static uint64_t pit_read(void *opaque, hwaddr at, unsigned size)
+{
+    return port_in(opaque, 0x40 + at);
+}
+
+static void pit_write(void *opaque, hwaddr at, uint64_t value, unsigned size)
+{
+    port_out(opaque, 0x40 + at, value);
+}
+
+static uint64_t speaker_read(void *opaque, hwaddr at, unsigned size)
+{
+    return port_in(opaque, 0x61);
+}
+
+static void speaker_write(void *opaque, hwaddr at, uint64_t value, unsigned size)
+{
+    port_out(opaque, 0x61, value);
+}
+
+static uint64_t rtc_read(void *opaque, hwaddr at, unsigned size)
+{
+    return port_in(opaque, 0x70 + at);
+}
+
+static void rtc_write(void *opaque, hwaddr at, uint64_t value, unsigned size)
+{
+    port_out(opaque, 0x70 + at, value);
+}
+
+static uint64_t hpet_read(void *opaque, hwaddr at, unsigned size)
+{
+    return hpet_in(opaque, at, size);
+}
+
+static void hpet_write(void *opaque, hwaddr at, uint64_t value, unsigned size)
+{
+    hpet_out(opaque, at, size, value);
+}
+
+#define PORT_OPS(name) \
+    static const MemoryRegionOps name##_ops = { \
+        .read = name##_read, \
+        .write = name##_write, \
+        .impl = { .min_access_size = 1, .max_access_size = 1 }, \
+        .endianness = DEVICE_LITTLE_ENDIAN, \
+    }
+PORT_OPS(pit);
+PORT_OPS(speaker);
+PORT_OPS(rtc);
+
+static const MemoryRegionOps hpet_ops = {
+    .read = hpet_read,
+    .write = hpet_write,
+    .valid = { .min_access_size = 1, .max_access_size = 8 },
+    .impl = { .min_access_size = 1, .max_access_size = 8 },
+    .endianness = DEVICE_LITTLE_ENDIAN,
+};
+
+/* The interrupt controllers. */
+
+/* An interrupt ends where its bit in service goes, or at once, where the controller ends interrupts by itself. An edge is lost
+ * where the controller forgets that its input is up. */
+struct clockboard_watch clockboard_watch_pic(void *pic)
+{
+    PICCommonState *c = pic;
+    return (struct clockboard_watch){the_board ? pic : NULL, {c->isr, c->last_irr, c->irr}};
+}
+
+void clockboard_watched_pic(struct clockboard_watch *watch)
+{
+    PICCommonState *c = watch->controller;
+    uint32_t *before = watch->before;
+
+    if (c && 1 & ((before[0] & ~c->isr) | (before[1] & ~c->last_irr) | (c->auto_eoi ? before[2] & ~c->irr : 0))) {
+        acknowledge(the_board, c->master ? 0 : 8);
+    }
+}
+
+static uint32_t masked_pins(IOAPICCommonState *c)
+{
+    uint32_t pins = 0;
+    for (int k = 0; k < IOAPIC_NUM_PINS; k++) {
+        pins |= (c->ioredtbl[k] & IOAPIC_LVT_MASKED) ? 1u << k : 0;
+    }
+    return pins;
+}
+
+/* A pin that is unmasked while its line is up: the edge met the masked pin, and is lost. */
+struct clockboard_watch clockboard_watch_ioapic(void *ioapic)
+{
+    bool ours = the_board && the_board->ioapic == ioapic;
+    return (struct clockboard_watch){ours ? ioapic : NULL, {ours ? masked_pins(ioapic) : 0}};
+}
+
+void clockboard_watched_ioapic(struct clockboard_watch *watch)
+{
+    uint32_t opened = watch->controller ? watch->before[0] & ~masked_pins(watch->controller) : 0;
+
+    for (int k = 0; k < ARRAY_SIZE(lines); k++) {
+        if ((opened >> lines[k].pin & 1) && is_up(the_board, lines[k].line)) {
+            acknowledge(the_board, lines[k].line);
+        }
+    }
+}
+
+/* A local APIC names the vector that ended: the line is that of the pin with this vector. */
+struct clockboard_watch clockboard_watch_apic(void *apic)
+{
+    APICCommonState *c = apic;
+    struct clockboard_watch watch = {the_board && the_board->ioapic ? apic : NULL};
+
+    memcpy(watch.before, c->isr, sizeof(watch.before));
+    return watch;
+}
+
+void clockboard_watched_apic(struct clockboard_watch *watch)
+{
+    APICCommonState *c = watch->controller;
+
+    for (int k = 0; c && k < ARRAY_SIZE(lines); k++) {
+        uint8_t vector = the_board->ioapic->ioredtbl[lines[k].pin] & IOAPIC_VECTOR_MASK;
+        if ((watch->before[vector / 32] & ~c->isr[vector / 32]) >> vector % 32 & 1) {
+            acknowledge(the_board, lines[k].line);
+        }
+    }
+}
+
+/* The trace. */
+
+static bool begin_trace(ClockboardState *s, Error **errp)
+{
+    g_autofree char *next = s->traces ? g_strdup_printf("%s.%u", s->trace, s->traces) : g_strdup(s->trace);
+    FILE *file = fopen(next, "w");
+
+    if (!file) {
+        error_setg_errno(errp, errno, "clockboard: %s", next);
+        return false;
+    }
+    s->traces++;
+    s->recording = clockboard_record_begin(&s->record, file, &s->board) == CLOCKBOARD_OK;
+    return s->recording;
+}
+
+static void end_trace(ClockboardState *s)
+{
+    if (s->recording) {
+        clockboard_record_end(&s->record);
+        if (ferror(s->record.file) | fclose(s->record.file)) {
+            error_report("clockboard: the trace couldn't be written");
+        }
+        s->recording = false;
+    }
+}
+
+/* The last lines of the last trace: the counts of the ticks, and the end. */
+static void at_exit(Notifier *exit, void *data)
+{
+    ClockboardState *s = container_of(exit, ClockboardState, exit);
+    struct clockboard_reply reply;
+
+    for (uint8_t source = 0; s->recording && source < 2 + HPET_TIMERS; source++) {
+        char read[96];
+        CALL(s, &reply, counts, 0, source);
+        snprintf(read, sizeof(read), " %" PRIu64 " %" PRIu64 " %" PRIu64 " %" PRIu64, reply.value[0], reply.value[1],
+                 reply.value[2], reply.value[3]);
+        settle(s, &reply, read);
+    }
+    end_trace(s);
+}
+
+/* Reset. The library has no call for it, so it is made of accesses: the RESET pin of the MC146818 clears PIE, AIE, UIE, SQWE and
+ * the flags of register C; the HPET's registers go to what they are at power on; no line of edge type stays up, as the
+ * controllers are reset too. An 8254 has no reset, and counts on; port 61h is 0. Time and memory of the MC146818 stay, but for
+ * bytes that QEMU has for the firmware since. */
+static void reset(DeviceState *dev)
+{
+    ClockboardState *s = CLOCKBOARD(dev);
+
+    rtc_out(s, 0x0b, rtc_in(s, 0x0b) & 0x87);
+    rtc_in(s, 0x0c);
+    hpet_out(s, 0x10, 8, 0);
+    for (int k = 0; k < HPET_TIMERS; k++) {
+        hpet_out(s, 0x100 + 0x20 * k, 8, 20 << 9);
+        hpet_out(s, 0x108 + 0x20 * k, 8, 0);
+    }
+    hpet_out(s, 0x20, 8, (1 << HPET_TIMERS) - 1);
+    hpet_out(s, 0xf0, 8, 0);
+    port_out(s, 0x61, 0);
+    for (int k = 0; k < ARRAY_SIZE(lines); k++) {
+        while (lines[k].line != 8 && is_up(s, lines[k].line)) {
+            acknowledge(s, lines[k].line);
+        }
+    }
+    for (int at = RTC_FIRMWARE; at < RTC_BYTES; at++) {
+        uint8_t byte = rtc_get_memory(s->rtc, at);
+        if (byte != s->firmware[at]) {
+            rtc_out(s, at, s->firmware[at] = byte);
+        }
+    }
+}
+
+/* The board at power on: the time of -rtc, by a counter of nanoseconds. */
+static bool power_on(ClockboardState *s, Error **errp)
+{
+    unsigned cpus = MACHINE(qdev_get_machine())->smp.max_cpus;
+    struct clockboard_setup setup = CLOCKBOARD_SETUP_INIT;
+    struct clockboard_reply reply;
+    struct tm tm;
+
+    qemu_get_timedate(&tm, 0);
+    setup.host_start = setup.base_ns = counter();
+    setup.format = cpus > 16 ? 2 : 1;
+    setup.cpus = MIN(cpus, 255);
+    setup.slew_ns = s->slew_ns;
+    setup.pit_policy = s->pit_policy;
+    setup.rtc_policy = s->rtc_policy;
+    setup.hpet_policy = s->hpet_policy;
+    setup.wall_sec = mktimegm(&tm);
+    reply.answer = clockboard_setup_at(&setup, mktimegm(&tm));
+    if (reply.answer == CLOCKBOARD_OK) {
+        clockboard_power_on(&s->board, &setup, &reply);
+    }
+    if (reply.answer != CLOCKBOARD_OK) {
+        error_setg(errp, "clockboard: %s", clockboard_answer_text(reply.answer));
+    }
+    return reply.answer == CLOCKBOARD_OK;
+}
+
+static void map_regions(ClockboardState *s)
+{
+    MemoryRegion *io = isa_address_space_io(ISA_DEVICE(s));
+
+    memory_region_init_io(&s->pit_ports, OBJECT(s), &pit_ops, s, "clockboard-8254", 4);
+    memory_region_add_subregion_overlap(io, 0x40, &s->pit_ports, PRIORITY);
+    memory_region_init_io(&s->speaker_port, OBJECT(s), &speaker_ops, s, "clockboard-61h", 1);
+    memory_region_add_subregion_overlap(io, 0x61, &s->speaker_port, PRIORITY);
+    memory_region_init_io(&s->rtc_ports, OBJECT(s), &rtc_ops, s, "clockboard-mc146818", 2);
+    memory_region_add_subregion_overlap(io, 0x70, &s->rtc_ports, PRIORITY);
+    if (hpet_find()) {
+        memory_region_init_io(&s->hpet_page, OBJECT(s), &hpet_ops, s, "clockboard-hpet", 0x400);
+        memory_region_add_subregion_overlap(get_system_memory(), HPET_BASE, &s->hpet_page, PRIORITY);
+    }
+}
+
+static void realize(DeviceState *dev, Error **errp)
+{
+    ClockboardState *s = CLOCKBOARD(dev);
+    Object *pit = object_resolve_path_type("", TYPE_PIT_COMMON, NULL);
+    Object *rtc = object_resolve_path_type("", TYPE_MC146818_RTC, NULL);
+    Object *ioapic = object_resolve_path_type("", TYPE_IOAPIC_COMMON, NULL);
+
+    if (kvm_irqchip_in_kernel()) {
+        error_setg(errp, "clockboard: the interrupt controllers are KVM's; give -machine kernel-irqchip=off");
+    } else if (the_board || !pit || !rtc || !clockboard_fits()) {
+        error_setg(errp, the_board ? "clockboard: the machine has one already"
+                         : !pit || !rtc ? "clockboard: the machine has no 8254 or no MC146818 of its own"
+                         : "clockboard: the library isn't the header's");
+    } else if (power_on(s, errp) && (!s->trace || begin_trace(s, errp))) {
+        s->rtc = ISA_DEVICE(rtc);
+        s->ioapic = ioapic ? IOAPIC_COMMON(ioapic) : NULL;
+        s->gsi = X86_MACHINE(qdev_get_machine())->gsi;
+        s->timer = timer_new_ns(QEMU_CLOCK_VIRTUAL, step, s);
+        s->state = g_malloc0(CLOCKBOARD_STATE_MAX);
+        s->exit.notify = at_exit;
+        qemu_add_exit_notifier(&s->exit);
+        map_regions(s);
+        qdev_connect_gpio_out(DEVICE(pit), 0, NULL); /* QEMU's own 8254 ticks on, and moves no line */
+        the_board = s;
+        set_timer(s);
+    }
+}
+
+/* savevm, loadvm and migration. The controllers keep what they know of the lines. */
+
+static int pre_save(void *opaque)
+{
+    ClockboardState *s = opaque;
+    size_t length = 0;
+    uint32_t answer = clockboard_save(&s->board, s->state, CLOCKBOARD_STATE_MAX, &length);
+
+    s->state_length = length;
+    return answer == CLOCKBOARD_OK ? 0 : -EINVAL;
+}
+
+static bool has_valid_length(void *opaque, int version_id)
+{
+    return ((ClockboardState *)opaque)->state_length <= CLOCKBOARD_STATE_MAX;
+}
+
+static int post_load(void *opaque, int version_id)
+{
+    ClockboardState *s = opaque;
+    struct clockboard_reply reply;
+    Error *error = NULL;
+
+    end_trace(s);
+    clockboard_load(&s->board, s->state, s->state_length, &reply);
+    if (reply.answer != CLOCKBOARD_OK) {
+        error_report("clockboard: %s", clockboard_answer_text(reply.answer));
+        return -EINVAL;
+    }
+    if (s->trace && !begin_trace(s, &error)) {
+        error_report_err(error);
+        return -EINVAL;
+    }
+    set_timer(s);
+    return 0;
+}
+
+static const VMStateDescription vmstate_clockboard = {
+    .name = "clockboard",
+    .version_id = 1,
+    .minimum_version_id = 1,
+    .pre_save = pre_save,
+    .post_load = post_load,
+    .fields = (VMStateField[]) {
+        VMSTATE_UINT32(state_length, ClockboardState),
+        VMSTATE_VALIDATE("the length of a saved state", has_valid_length),
+        VMSTATE_VBUFFER_UINT32(state, ClockboardState, 1, NULL, state_length),
+        VMSTATE_BUFFER(firmware, ClockboardState),
+        VMSTATE_END_OF_LIST()
+    }
+};
+
+static Property properties[] = {
+    DEFINE_PROP_LOSTTICKPOLICY("pit-policy", ClockboardState, pit_policy, LOST_TICK_POLICY_DELAY),
+    DEFINE_PROP_LOSTTICKPOLICY("rtc-policy", ClockboardState, rtc_policy, LOST_TICK_POLICY_DELAY),
+    DEFINE_PROP_LOSTTICKPOLICY("hpet-policy", ClockboardState, hpet_policy, LOST_TICK_POLICY_DELAY),
+    DEFINE_PROP_UINT64("slew-ns", ClockboardState, slew_ns, 1000000),
+    DEFINE_PROP_STRING("trace", ClockboardState, trace),
+    DEFINE_PROP_END_OF_LIST(),
+};
+
+static void class_init(ObjectClass *class, void *data)
+{
+    DeviceClass *dc = DEVICE_CLASS(class);
+
+    dc->desc = "8254, MC146818 and HPET by clockboard";
+    dc->realize = realize;
+    dc->reset = reset;
+    dc->vmsd = &vmstate_clockboard;
+    dc->hotpluggable = false;
+    device_class_set_props(dc, properties);
+    set_bit(DEVICE_CATEGORY_MISC, dc->categories);
+    QEMU_BUILD_BUG_ON(LOST_TICK_POLICY_DISCARD != (int)CLOCKBOARD_DISCARD || LOST_TICK_POLICY_DELAY != (int)CLOCKBOARD_DELAY
+                      || LOST_TICK_POLICY_SLEW != (int)CLOCKBOARD_SLEW);
+}
+
+static const TypeInfo clockboard_type = {
+    .name = TYPE_CLOCKBOARD,
+    .parent = TYPE_ISA_DEVICE,
+    .instance_size = sizeof(ClockboardState),
+    .class_init = class_init,
+};
+
+static void register_types(void)
+{
+    type_register_static(&clockboard_type);
+}
+
+type_init(register_types)

@@ -1,0 +1,29 @@
+/* SPDX-License-Identifier: Apache-2.0 OR MIT
+ *
+ * The calls that qemu/edit puts into QEMU's interrupt controllers: what a controller was when one of its functions was
+ * entered is compared with what it is when the function ends, so that the device hears of the end of an interrupt, and of an
+ * edge that the controller has lost. */
+#ifndef HW_I386_CLOCKBOARD_HOOKS_H
+#define HW_I386_CLOCKBOARD_HOOKS_H
+
+#include <stdint.h>
+
+struct clockboard_watch {
+    void *controller;   /* NULL where the machine has no board */
+    uint32_t before[8];
+};
+
+/* An 8259 (pic), an IO-APIC, a local APIC: what it is now, and what to do about how it changed. */
+struct clockboard_watch clockboard_watch_pic(void *pic);
+struct clockboard_watch clockboard_watch_ioapic(void *ioapic);
+struct clockboard_watch clockboard_watch_apic(void *apic);
+void clockboard_watched_pic(struct clockboard_watch *watch);
+void clockboard_watched_ioapic(struct clockboard_watch *watch);
+void clockboard_watched_apic(struct clockboard_watch *watch);
+
+/* In front of a function's first line. It is over whichever way the function returns. */
+#define CLOCKBOARD_WATCH(kind, controller) \
+    __attribute__((cleanup(clockboard_watched_##kind))) struct clockboard_watch clockboard_watch \
+        = clockboard_watch_##kind(controller)
+
+#endif
