@@ -3,6 +3,7 @@ pub mod Answered
 pub mod Counts
 pub mod Ended
 pub mod Kept
+mod Messages
 pub mod Pieces
 pub mod Same
 pub mod Settle

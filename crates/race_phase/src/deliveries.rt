@@ -1,5 +1,5 @@
 //! Where the rises of lines and the messages of timers go, and their lines.
-ghost use Rattle.std.specs.Prelude.{◌≡◌, ◌≤◌, ◌++◌, OnOk, OnErr, OnSome, IsTrue};
+ghost use Rattle.std.specs.Prelude.{◌≡◌, ◌++◌, max, OnOk, OnErr, OnSome, IsTrue};
 ghost use Rattle.std.specs.Io.{StartsWith};
 ghost use Rattle.edge_hooks.specs.Hooks.{IsDelivery};
 ghost use Rattle.race_phase.specs.Blocks.{
@@ -8,11 +8,14 @@ ghost use Rattle.race_phase.specs.Blocks.{
   edges_text,
   message_to,
   messages_text,
+  sent_to,
 };
+ghost use Rattle.reply_text.specs.Text.{msg_text};
+ghost use Rattle.std.specs.List.{flat_map};
 
 use clk_units::NoMemory;
-use edge_hooks::{Delivery, Message, Sent};
-use irq_edges::{Burst, Edge};
+use edge_hooks::{Delivery, Message, MessageHooks};
+use irq_edges::{BurstList, Edge};
 use reply_text::{edge_line, msg_line};
 
 /// The vector of a message whose own is reserved.
@@ -77,7 +80,7 @@ pub fn edge_lines(
 #[tactic(auto, unfolding(crate::specs::Blocks::message_to))]
 pub fn message_to(cpus: u8, message: &Message) -> Delivery
     ensures value { result ≡ message_to cpus message.now }
-    ensures valid { 1 ≤ cpus → IsDelivery cpus result }
+    ensures valid { IsDelivery (max cpus 1) result }
 {
     let cpu = ((message.address >> 12) % 256) as u8;
     let vector = (message.data % 256) as u8;
@@ -87,10 +90,10 @@ pub fn message_to(cpus: u8, message: &Message) -> Delivery
     }
 }
 
-/// Appends the lines of messages. After an `Err` the text begins as it was.
+/// Appends the lines of messages, which the board's own hook sends. After an `Err` the text begins as it was.
 #[inline(always)]
 pub fn message_lines(
-    bursts: &[Burst],
+    bursts: &BurstList,
     deliveries: &Deliveries,
     out: &mut Vec<u8>,
 ) -> Result<(), NoMemory>
@@ -98,16 +101,22 @@ pub fn message_lines(
         (out.new.items ≡ out.old.items ++ messages_text deliveries.now bursts.now) }
     ensures err { OnErr result (StartsWith out.new.items out.old.items) }
 {
-    for burst in bursts {
-        let message = Message {
-            address: burst.address,
-            data: burst.data,
-        };
-        let sent = Sent {
-            burst: *burst,
-            to: message_to(deliveries.cpus, &message),
-        };
-        msg_line(&sent, out)?;
+    if bursts.is_empty() {
+        return Ok(());
+    }
+    sent_lines(bursts, deliveries.cpus, out)
+}
+
+/// The same where there are messages.
+fn sent_lines(bursts: &BurstList, cpus: u8, out: &mut Vec<u8>) -> Result<(), NoMemory>
+    ensures ok { OnOk result (out.new.items
+        ≡ out.old.items ++ flat_map (λ b. msg_text (sent_to cpus b)) bursts.now) }
+    ensures err { OnErr result (StartsWith out.new.items out.old.items) }
+{
+    let hooks = MessageHooks::new(cpus.max(1), |message: Message| message_to(cpus, &message));
+    let sent = hooks.send(bursts);
+    for sent in sent.as_slice() {
+        msg_line(sent, out)?;
     }
     Ok(())
 }

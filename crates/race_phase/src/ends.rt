@@ -67,7 +67,7 @@ fn save(
         (out.new.items ≡ out.old.items ++ save_block deliveries.now line reply.now board.now) }
 {
     edge_lines(reply.edges.as_slice(), deliveries, out)?;
-    message_lines(reply.bursts.as_slice(), deliveries, out)?;
+    message_lines(&reply.bursts, deliveries, out)?;
     let bytes = encode(*out.allocator(), board)?;
     save_line(line, reply.number, &bytes, out)
 }
@@ -92,8 +92,8 @@ fn cross_gap(
         Ok(moved) => {
             edge_lines(reply.edges.as_slice(), deliveries, out)?;
             edge_lines(moved.edges.as_slice(), deliveries, out)?;
-            message_lines(reply.bursts.as_slice(), deliveries, out)?;
-            message_lines(moved.bursts.as_slice(), deliveries, out)?;
+            message_lines(&reply.bursts, deliveries, out)?;
+            message_lines(&moved.bursts, deliveries, out)?;
             *board = moved.state;
             move_line(line, reply.number, board.now(), out)
         }

@@ -39,7 +39,7 @@ mod texts;
 mod told;
 mod work;
 
-pub use deliveries::{Deliveries, edge_lines, message_lines, message_to};
+pub use deliveries::{Deliveries, edge_lines, message_lines};
 pub use faults::{Cause, Fault};
 pub use lines::RecordLines;
 pub use phase::run_phase;

@@ -24,7 +24,7 @@ pub(crate) fn append_block(
     match told {
         Told::Acted => {
             edge_lines(reply.edges.as_slice(), deliveries, out)?;
-            message_lines(reply.bursts.as_slice(), deliveries, out)?;
+            message_lines(&reply.bursts, deliveries, out)?;
             board_line(line, reply, out)
         }
         Told::PageIs { reply } => page_line(line, reply, out),

@@ -20,7 +20,7 @@ pub(crate) fn event_lines(
     ensures err { OnErr result (StartsWith out.new.items out.old.items) }
 {
     edge_lines(reply.edges.as_slice(), deliveries, out)?;
-    message_lines(reply.bursts.as_slice(), deliveries, out)
+    message_lines(&reply.bursts, deliveries, out)
 }
 
 /// Appends the lines of the edges of a move's access, and then of its gap. After an `Err` the text begins as it was.
@@ -50,6 +50,6 @@ pub(crate) fn move_message_lines(
         ++ messages_text deliveries.now moved.now.bursts)) }
     ensures err { OnErr result (StartsWith out.new.items out.old.items) }
 {
-    message_lines(reply.bursts.as_slice(), deliveries, out)?;
-    message_lines(moved.bursts.as_slice(), deliveries, out)
+    message_lines(&reply.bursts, deliveries, out)?;
+    message_lines(&moved.bursts, deliveries, out)
 }
