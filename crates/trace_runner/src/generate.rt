@@ -1,5 +1,5 @@
 //! Generated traces, written out.
-ghost use Rattle.std.specs.Prelude.{◌≡◌, ◌≢◌, ◌≤◌};
+ghost use Rattle.std.specs.Prelude.{◌≡◌, ◌≢◌, ◌≤◌, false};
 ghost use Rattle.board_io.specs.Faults.{Rose};
 ghost use Rattle.command_line.specs.Command.{IsSize};
 ghost use Rattle.trace_gen.specs.Text.{gen_text};
@@ -20,6 +20,8 @@ pub(crate) fn generate<K: Sink>(size: Size, sink: &mut K) -> Status
     ensures said { Said Status.Ok result (K.contents sink.old) (K.contents sink.new)
         (gen_text size.key size.records size.cpus) (Rose (K.faults sink.old) (K.faults sink.new)) }
     ensures sink_well { result ≢ Status.SinkFault → K.faults sink.new ≡ K.faults sink.old }
+    ensures sink_once { K.done sink.old ≡ false → K.late sink.old ≡ false
+        → K.late sink.new ≡ false }
     ensures counted { K.faults sink.old ≤ K.faults sink.new }
 {
     let mut generator = Generator::new(size.key, size.records, size.cpus as u8);

@@ -49,8 +49,9 @@ use trace_loop::{MEMORY_FAULT, answer_lines, say};
 /// Runs the program on its words (those behind its name): the job `replay` reads a trace from `source`, and writes
 /// what it answers to `sink`, in pieces as large as the source's.
 ///
-/// Each line whose end was taken is answered before more is taken. Nothing is taken behind the piece that ended the
-/// trace: by the line `end`, by a line that is refused, or by a line that is too long.
+/// Each line whose end was taken is answered before more is taken. Nothing is taken after the piece that ended the
+/// trace: by the line `end`, by a line that is refused, or by a line that is too long. Nothing is put
+/// after a put that failed.
 ///
 /// The job `race` reads and checks the whole trace first, and writes nothing but the line that is refused. Then each of
 /// its phases, which a save or a move ends, runs on one thread a processor, which `rt` starts; `gate` is called around
@@ -147,6 +148,8 @@ pub fn run<R: Threads + Wait + Sync, S: Source, K: Sink, G: Gate + Sync>(
     ensures sink_fault { result ≡ Status.SinkFault
         → Rose (K.faults sink.old) (K.faults sink.new) }
     ensures sink_well { result ≢ Status.SinkFault → K.faults sink.new ≡ K.faults sink.old }
+    ensures sink_once { K.done sink.old ≡ false → K.late sink.old ≡ false
+        → K.late sink.new ≡ false }
 {
     match command_of(alloc, words) {
         Ok(Command::Replay { shows_state }) => {
@@ -170,6 +173,8 @@ fn tell<K: Sink>(alloc: Global, command: Command, sink: &mut K) -> Status
     ensures sink_fault { result ≡ Status.SinkFault
         → Rose (K.faults sink.old) (K.faults sink.new) }
     ensures sink_well { result ≢ Status.SinkFault → K.faults sink.new ≡ K.faults sink.old }
+    ensures sink_once { K.done sink.old ≡ false → K.late sink.old ≡ false
+        → K.late sink.new ≡ false }
 {
     match command {
         Command::Gen(size) => generate(size, sink),

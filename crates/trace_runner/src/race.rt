@@ -64,6 +64,8 @@ pub(crate) fn race<R: Threads + Wait + Sync, S: Source, K: Sink, G: Gate + Sync>
     ensures sink_fault { result ≡ Status.SinkFault
         → Rose (K.faults sink.old) (K.faults sink.new) }
     ensures sink_well { result ≢ Status.SinkFault → K.faults sink.new ≡ K.faults sink.old }
+    ensures sink_once { K.done sink.old ≡ false → K.late sink.old ≡ false
+        → K.late sink.new ≡ false }
 {
     let mut check = Checker::new(alloc, shows_state);
     match answer_lines(alloc, &mut check, source, sink) {
@@ -92,6 +94,8 @@ fn write<R: Threads + Wait + Sync, K: Sink, G: Gate + Sync>(
     ensures sink_fault { result ≡ Status.SinkFault
         → Rose (K.faults sink.old) (K.faults sink.new) }
     ensures sink_well { result ≢ Status.SinkFault → K.faults sink.new ≡ K.faults sink.old }
+    ensures sink_once { K.done sink.old ≡ false → K.late sink.old ≡ false
+        → K.late sink.new ≡ false }
 {
     let _ = &trace.phases;
     match text_of(rt, alloc, gate, trace) {

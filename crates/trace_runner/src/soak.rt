@@ -1,5 +1,6 @@
 //! A generated trace that is replayed, of which only a sum is printed.
-ghost use Rattle.std.specs.Prelude.{◌≡◌, ◌≢◌, ◌<◌, ◌≤◌, ◌++◌, take, drop, vec_len, OnOk, OnErr};
+ghost use Rattle.std.specs.Prelude.{◌≡◌, ◌≢◌, ◌<◌, ◌≤◌, ◌++◌, false, take, drop, vec_len, OnOk};
+ghost use Rattle.std.specs.Prelude.{OnErr};
 ghost use Rattle.board_io.specs.Faults.{Rose};
 ghost use Rattle.command_line.specs.Command.{IsSize};
 ghost use Rattle.trace_runner.specs.Soak.{soak_of, is_edge, edges_in, Soaked};
@@ -42,6 +43,8 @@ pub(crate) fn run_soak<K: Sink>(alloc: Global, size: Size, sink: &mut K) -> Stat
     ensures said { Soaked (soak_of size) result (K.contents sink.old) (K.contents sink.new)
         (Rose (K.faults sink.old) (K.faults sink.new)) }
     ensures sink_well { result ≢ Status.SinkFault → K.faults sink.new ≡ K.faults sink.old }
+    ensures sink_once { K.done sink.old ≡ false → K.late sink.old ≡ false
+        → K.late sink.new ≡ false }
 {
     let mut source = GenSource::new(size.key, size.records, size.cpus as u8);
     let mut soak = Soak {

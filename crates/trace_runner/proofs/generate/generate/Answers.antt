@@ -17,6 +17,8 @@ pieces-preserved g c =
       Appends-trans (contents c.args.sink.now) (contents c.pieces.sink) (contents c.put_all.new.sink) put (take n left) c.pieces.invariant.2
           (subst (λ (l : List ℕ). Appends (contents c.pieces.sink) (contents c.put_all.new.sink) l) front c.in-Ok.ensures.all),
       c.in-Ok.ensures.well ∙ c.pieces.invariant.3,
+      c.in-Ok.ensures.quiet ∙ c.pieces.invariant.4,
+      λ done late. c.put_all.ensures.once (c.pieces.invariant.4 ∙ done) (c.pieces.invariant.5 done late),
     )
 
 pub returns-in-Err-clause-said : goal.returns-in-Err-clause-said
