@@ -1,6 +1,6 @@
 -- Letters that the first word of a line begins with.
-use Rattle.std.proofs.Common.{◌≡◌, ℕ, ◌≤◌, Bool, true, false, not, ◌&&◌, cond, eqb, length, take, drop, List, [], ◌∷◌, None, refl, sym, ◌∙◌, ap, IsTrue, inl, inr, arith}
-use Rattle.std.specs.List.{slice_split, onto_first, list_all, starts_with}
+use Rattle.std.proofs.Common.{◌≡◌, ℕ, ◌≤◌, Bool, true, false, not, ◌&&◌, eqb, length, drop, List, [], ◌∷◌, None, refl, sym, ◌∙◌, ap, IsTrue, inl, inr, arith}
+use Rattle.std.specs.List.{onto_first, list_all, starts_with}
 use Rattle.std.proofs.lemmas.Bool.{cases_eq, eqb-true, ne_eqb}
 use Rattle.trace_text.specs.Tokens.{words_of, rest, first, dec, decimal_past}
 use Rattle.trace_text.specs.private.Spelled.{begins, shortened}
