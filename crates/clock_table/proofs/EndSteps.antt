@@ -1,20 +1,18 @@
 -- The opening meets the rule, and the end gives the whole history.
 use Rattle.std.proofs.Common.{◌≡◌, ℕ, zero, suc, ◌+◌, ◌*◌, ◌^◌, ◌<◌, ◌≤◌, eqb, List, [], ◌∷◌, ◌++◌, length, get_or, refl, ap, sym, ◌∙◌, subst, arith}
-use Rattle.std.proofs.Common.{append-nil, Bool, true, false, true≢false, ◌||◌, if◌then◌else◌, Option, Some, None, eq-eqb, ne_eqb, replicate, FitsSigned, IsTrue}
+use Rattle.std.proofs.Common.{append-nil, Bool, true, false, true≢false, ◌||◌, if◌then◌else◌, Some, None, eq-eqb, ne_eqb, replicate, FitsSigned, IsTrue}
 use mathlib.Core.List.{IsPrefix}
 use mathlib.Core.Logic.{dite}
 use mathlib.Core.Option.{some, some-injective, some-ne-none}
 use native.Mathlib.Decide.{ℕ_discrete, dec_le}
 use lib.ListN.{get_elem?}
 use Rattle.atomic_table.specs.Table.{Final, Seen, opening as opening_of}
-use Rattle.pvclock_page.specs.declared.page.Page.{Page}
-use Rattle.pvclock_page.specs.Words.{page_of}
 use Rattle.board_types.specs.declared.parts.BoardParts.{BoardParts}
 use Rattle.board_types.specs.declared.parts.ProcessorParts.{ProcessorParts}
 use Rattle.board_core.specs.Tsc.{processor_at, no_processor}
 use Rattle.board_history.specs.Machine.{page_at, page_if}
 use Rattle.board_history.proofs.Pages.{hv-steady}
-use Rattle.board_history.specs.History.{board_after, version_after, May, LegalFrom, IsLegal, entries_of, is_of}
+use Rattle.board_history.specs.History.{board_after, May, LegalFrom, IsLegal, entries_of, is_of}
 use Rattle.board_history.specs.private.Steady.{IsSteady, IsSteadyPage}
 use Rattle.board_history.specs.declared.entry.Entry.{Entry}
 use Rattle.board_history.specs.declared.entry.Entry.TheVariants.{Opened, Board, PageRead, HvRead, Clamp}
@@ -26,16 +24,14 @@ use Rattle.board_core.specs.Conditions.{IsJoined, IsProcessor, flags_valid}
 use Rattle.board_core.specs.Pages.{page_in}
 use Rattle.board_core.proofs.Joined.{most-cpus}
 use Rattle.board_history.proofs.Pages.{shift_for-fits, mul_for-fits}
-use Rattle.clock_table.specs.declared.view.View.{View}
-use Rattle.clock_table.specs.declared.view.Hand.{Hand}
-use Rattle.clock_table.specs.declared.view.Miss.{Miss}
-use Rattle.clock_table.specs.declared.view.Ended.{Ended}
-use Rattle.clock_table.specs.Words.{word_of, field_at, pages_for}
-use Rattle.clock_table.specs.Steps.{first_view, weight, loud, number_is, ended_with}
+use Rattle.clock_table.specs.declared.view.{View.View, Miss.Miss, Ended.Ended}
+use Rattle.clock_table.specs.Words.{pages_for}
+use Rattle.clock_table.specs.Steps.{first_view, weight, number_is, ended_with}
 use Rattle.clock_table.specs.Ends.{no_page, IsWhole, MissesTold, EndedTold}
-use Rattle.clock_table.specs.private.Rule.{is_open, PageKept, MissesKept, EndedKept, Ghost, Fits, Kept}
-use Rattle.clock_table.specs.private.Laid.{words_at, IsLaidBelow, Closing}
-use Rattle.clock_table.proofs.Keeps.{rebuilt, St, log_of}
+use Rattle.clock_table.specs.private.Rule.{is_open, MissesKept, EndedKept, Ghost, Fits, Kept}
+use Rattle.clock_table.specs.private.Laid.{IsLaidBelow, Closing}
+use Rattle.clock_table.proofs.Keeps.{St, log_of}
+use Rattle.clock_table.proofs.Pages.{page_shut}
 use Rattle.clock_table.proofs.SeatSteps.{entries_between}
 
 pub opens : (s : BoardParts) (words : List ℕ) → IsSteady s → IsLaidBelow (5 * pages_for s.cpus) s words → Kept s (opening_of words [] (first_view s))
@@ -177,39 +173,19 @@ module _ (opening : BoardParts) where
       legal_rest [] rest legal some_seen empty = absurd (omega arith)
       legal_rest (x ∷ xs) rest legal some_seen empty = no_entry_left (x ∷ xs) rest (IsLegal-rest xs rest x legal) empty
 
-  told_misses : (s : St) (r : Kept opening s) (seen : List Entry) (xs : List Miss) → log_of opening s r ≡ seen → r.g.hand ≡ None
-      → MissesKept s.words (pages_for opening.cpus) xs → MissesTold seen xs
-  told_misses s r seen [] e shut k = tt
-  told_misses s r seen (x ∷ xs) e shut k =
+  told_misses : (s : St) (r : Kept opening s) (xs : List Miss) → r.g.hand ≡ None → MissesKept s.words (pages_for opening.cpus) xs
+      → MissesTold (log_of opening s r) xs
+  told_misses s r [] shut k = tt
+  told_misses s r (x ∷ xs) shut k =
       let p = (r.words.pages x.page k.0).version in
       let z : weight (is_open r.g.hand x.page) ≡ 0 = ap (λ h. weight (is_open h x.page)) shut in
-      let v = ap (λ l. version_after l x.page) e in
       let m = k.1 in
-      (omega arith, told_misses s r seen xs e shut k.2)
+      (omega arith, told_misses s r xs shut k.2)
 
-  told_ended : (s : St) (r : Kept opening s) (seen : List Entry) (xs : List Ended) → log_of opening s r ≡ seen → r.g.hand ≡ None
-      → EndedKept s.words (pages_for opening.cpus) (log_of opening s r) seen xs → EndedTold seen xs
-  told_ended s r seen [] e shut k = tt
-  told_ended s r seen (x ∷ xs) e shut k = (
-    k.0,
-    sym (ap (entries_of x.number) e) ∙ k.1,
-    told_misses s r seen x.misses e shut k.2,
-    told_ended s r seen xs e shut k.3,
-  )
-
-  -- each page of the board after the history is in the words
-  page_ends : (s : St) (r : Kept opening s) (ws : List ℕ) (c : ℕ) {seen : List Entry} → c < pages_for opening.cpus → seen ≡ log_of opening s r → s.words ≡ ws
-      → r.g.hand ≡ None → page_of (words_at ws c) ≡ page_at (board_after seen) c
-  page_ends s r ws c {seen} l same words shut =
-      let page : Page = page_at (board_after (log_of opening s r)) c in
-      let kept : PageKept s.words None page c =
-      subst (λ (h : Option Hand). PageKept s.words h (page_at (board_after (log_of opening s r)) c) c) shut (r.words.pages c l) in
-      let version : page.version ≡ word_of s.words c 0 = let v = kept.version in omega arith in
-      let field : (k : ℕ) → k < 4 → field_at page k ≡ word_of s.words c (suc k) = λ k small. sym (kept.field k small) in
-      let here : page ≡ page_of (words_at s.words c) =
-      rebuilt page (word_of s.words c 0) (word_of s.words c 1) (word_of s.words c 2) (word_of s.words c 3) (word_of s.words c 4) (r.history.steady.pages c)
-      version (field 0 (omega arith)) (field 1 (omega arith)) (field 2 (omega arith)) (field 3 (omega arith)) in
-      sym (ap (λ h. page_at (board_after h) c) same ∙ (here ∙ ap (λ w. page_of (words_at w c)) words))
+  told_ended : (s : St) (r : Kept opening s) (xs : List Ended) → r.g.hand ≡ None
+      → EndedKept s.words (pages_for opening.cpus) (log_of opening s r) (log_of opening s r) xs → EndedTold (log_of opening s r) xs
+  told_ended s r [] shut k = tt
+  told_ended s r (x ∷ xs) shut k = (k.0, k.1, told_misses s r x.misses shut k.2, told_ended s r xs shut k.3)
 
   -- what the words hold at the end
   pub closes : (id m : ℕ) (v : View) (ws : List ℕ) (xs : List (Unit {0})) → IsWhole m v → v.live ≡ true → v.limit ≡ Some m
@@ -217,21 +193,21 @@ module _ (opening : BoardParts) where
   closes id m v ws xs w lives lim final =
       let s = final.0 in
       let r = final.1.0 in
-      let at = final.1.1 in
-      let words = final.2 in
-      let same = whole s r id m v at w lives lim in
-      let k = (r.each id v at).pen w.pen in
+      let f = r.each id v final.1.1 in
+      let log : List Entry = log_of opening s r in
+      let same = whole s r id m v final.1.1 w lives lim in
+      let k = f.pen w.pen in
       let shut : r.g.hand ≡ None = sym k.hand ∙ w.hand in
-      record {
-        legal = subst IsLegal (sym same) r.history.legal;
-        opened = (r.g.later, same);
-        front = ap (λ l. get_or l 0 0) (sym words) ∙ (r.words.front.front ∙ ap loud (sym same));
-        greatest = ap (λ l. get_or l 16 0) (sym words) ∙ (r.words.front.clamp ∙ ap (λ l. (board_after l).greatest) (sym same));
-        page = λ c l. page_ends s r ws c l same words shut;
-        ended = told_ended s r v.seen v.ended (sym same) shut (r.each id v at).ended;
-        numbers = λ n l.
-            let made : v.made ≡ r.g.made = k.made in ap (entries_of n) same ∙ r.numbers n (omega arith);
-      }
+      subst (λ (z : List Entry × List ℕ). Closing opening (record v { seen = z.0 }) z.1) (λ i. (sym same i, final.2 i)) (record {
+        legal = r.history.legal;
+        opened = (r.g.later, refl);
+        front = r.words.front.front;
+        greatest = r.words.front.clamp;
+        page = λ c l. sym (page_shut s.words r.g.hand c (page_at (board_after log) c) (r.history.steady.pages c) (r.words.pages c l)
+            (ap (λ h. is_open h c) shut));
+        ended = told_ended s r v.ended shut (subst (λ l. EndedKept s.words (pages_for opening.cpus) log l v.ended) same f.ended);
+        numbers = λ n l. let made : v.made ≡ r.g.made = k.made in r.numbers n (omega arith);
+      })
 
 -- the board of a state is steady
 pub steady_of : (b : BoardParts) → IsJoined b → length b.processors ≡ 64 → IsSteady b

@@ -6,24 +6,16 @@ use mathlib.Core.List.{IsPrefix}
 use mathlib.Core.Option.{some}
 use lib.ListN.{get_elem?}
 use Rattle.atomic_table.specs.Table.{State, Me}
-use Rattle.pvclock_page.specs.declared.page.Page.{Page}
-use Rattle.pvclock_page.specs.Words.{page_of}
-use Rattle.pvclock_page.proofs.Fields.{page_of-words_of}
 use Rattle.board_types.specs.declared.parts.BoardParts.{BoardParts}
 use Rattle.board_core.specs.Pages.{with_greatest}
 use Rattle.board_history.specs.Machine.{machine_of, no_board}
 use Rattle.board_history.specs.History.{of_state, board_from, board_after, May, IsLegal, entries_of, is_of}
-use Rattle.board_history.specs.private.Steady.{IsSteady, IsSteadyPage}
+use Rattle.board_history.specs.private.Steady.{IsSteady}
 use Rattle.board_history.specs.declared.entry.Entry.{Entry}
 use Rattle.board_history.specs.declared.entry.Entry.TheVariants.{Opened, Board, PageRead, HvRead, Clamp}
 use Rattle.board_history.proofs.Laws.{board_from-++, board_after-snoc, LegalFrom-snoc, steady-entry, machine-entry, entries_of-++, entries_of-else}
-use Rattle.clock_table.specs.declared.view.View.{View}
-use Rattle.clock_table.specs.declared.view.Read.{Read}
-use Rattle.clock_table.specs.declared.view.Hand.{Hand}
-use Rattle.clock_table.specs.declared.view.Miss.{Miss}
-use Rattle.clock_table.specs.declared.view.Meet.{Meet}
-use Rattle.clock_table.specs.declared.view.Ended.{Ended}
-use Rattle.clock_table.specs.Words.{word_of, field_at, pages_for}
+use Rattle.clock_table.specs.declared.view.{View.View, Read.Read, Hand.Hand, Miss.Miss, Meet.Meet, Ended.Ended}
+use Rattle.clock_table.specs.Words.{word_of, pages_for}
 use Rattle.clock_table.specs.Steps.{IsQuietEntry, IsQuiet, GoesOnQuietly, weight, loud, Learnt, here_of, penned_of, MeetKept, number_is, ended_with, claims}
 use Rattle.clock_table.specs.private.Rule.{ReadingKept, MissesKept, EndedKept, Ghost, log_in, PenKept, HistoryKept, WordsKept, Fits, Kept}
 use Rattle.clock_table.proofs.Lists.{prefix_self, prefix_trans, prefix_length, each_set}
@@ -133,12 +125,6 @@ loud_quiet (Clamp pass cpu reading clock ∷ es) q = let r = loud_quiet es q.1 i
 
 pub loud_between : (b c : List Entry) → GoesOnQuietly b c → loud c ≡ loud b
 loud_between b c g = ap loud (sym g.1) ∙ (loud-append b g.0 ∙ (let z = loud_quiet g.0 g.2 in omega arith))
-
--- a page of the board is that of its words
-pub rebuilt : (p : Page) (v a b c d : ℕ) → IsSteadyPage p → p.version ≡ v → field_at p 0 ≡ a → field_at p 1 ≡ b → field_at p 2 ≡ c → field_at p 3 ≡ d
-    → p ≡ page_of (v ∷ a ∷ b ∷ c ∷ d ∷ [])
-rebuilt p v a b c d steady e f g h k =
-    sym (page_of-words_of p steady.mul steady.shift steady.flags) ∙ (λ i. page_of (e i ∷ f i ∷ g i ∷ h i ∷ k i ∷ []))
 
 -- the number of a view is claimed by it
 number_claimed : (v : View) (p : ℕ) → v.number ≡ Some p → 0 < claims p v

@@ -1,9 +1,12 @@
 -- The words of the pages, and one write among them.
-use Rattle.std.proofs.Common.{◌≡◌, ◌≢◌, ◌⊎◌, ℕ, suc, ◌+◌, ◌%◌, ◌<◌, ◌≤◌, eqb, List, length, get_or, set, refl, ap, sym, ◌∙◌, subst, arith}
+use Rattle.std.proofs.Common.{◌≡◌, ◌≢◌, ◌⊎◌, ℕ, suc, ◌+◌, ◌%◌, ◌<◌, ◌≤◌, eqb, List, [], ◌∷◌, length, get_or, set, refl, ap, sym, ◌∙◌, subst, arith}
 use Rattle.std.proofs.Common.{get_or-set_same, get_or-set_other, Bool, false, if◌then◌else◌, Option, Some, None, eq-eqb, ne_eqb, inl, inr}
 use mathlib.Core.Logic.{dite}
 use native.Mathlib.Decide.{ℕ_discrete}
 use Rattle.pvclock_page.specs.declared.page.Page.{Page}
+use Rattle.pvclock_page.specs.Words.{page_of}
+use Rattle.pvclock_page.proofs.Fields.{page_of-words_of}
+use Rattle.board_history.specs.private.Steady.{IsSteadyPage}
 use Rattle.board_history.specs.declared.entry.Entry.{Entry}
 use Rattle.board_history.specs.History.{board_after}
 use Rattle.clock_table.specs.declared.view.Hand.{Hand}
@@ -11,6 +14,7 @@ use Rattle.clock_table.specs.Words.{place, word_of, field_at}
 use Rattle.clock_table.specs.Steps.{or_else, weight, loud, no_fields}
 use Rattle.clock_table.specs.Calls.{AllPut}
 use Rattle.clock_table.specs.private.Rule.{is_open, put_at, stored, PageKept, FrontKept}
+use Rattle.clock_table.specs.private.Laid.{words_at}
 use Rattle.clock_table.proofs.Lists.{no_field}
 use Rattle.clock_table.proofs.Keeps.{Later}
 
@@ -58,6 +62,15 @@ stored_shut hand d k p shut = ap (λ (b : Bool). if b then or_else (put_at hand 
 
 stored_open : (o : Hand) (k : ℕ) (p : Page) → stored (Some o) o.cpu p k ≡ or_else (get_or o.put k None) (field_at p k)
 stored_open o k p = ap (λ (b : Bool). if b then or_else (get_or o.put k None) (field_at p k) else field_at p k) (eq-eqb o.cpu o.cpu refl)
+
+-- the page of words that aren't open
+pub page_shut : (ws : List ℕ) (hand : Option Hand) (c : ℕ) (p : Page) → IsSteadyPage p → PageKept ws hand p c → is_open hand c ≡ false
+    → p ≡ page_of (words_at ws c)
+page_shut ws hand c p steady kept shut =
+    let version : p.version ≡ word_of ws c 0 = let v = kept.version in omega (arith, ap weight shut) in
+    let field : (k : ℕ) → k < 4 → field_at p k ≡ word_of ws c (suc k) = λ k small. sym (kept.field k small ∙ stored_shut hand c k p shut) in
+    sym (page_of-words_of p steady.mul steady.shift steady.flags)
+    ∙ (λ i. page_of (version i ∷ field 0 (omega arith) i ∷ field 1 (omega arith) i ∷ field 2 (omega arith) i ∷ field 3 (omega arith) i ∷ []))
 
 pub open_here : (c : ℕ) → weight (eqb c c) ≡ 1
 open_here c = ap weight (eq-eqb c c refl)

@@ -1,6 +1,6 @@
 -- The steps of a read, and the clamp, keep the rule.
 use Rattle.std.proofs.Common.{◌≡◌, ◌≢◌, ℕ, suc, ◌+◌, ◌%◌, ◌<◌, ◌≤◌, eqb, List, [], ◌∷◌, ◌++◌, length, get_or, set, refl, ap, sym, ◌∙◌, subst, arith, length-set}
-use Rattle.std.proofs.Common.{get_or-set_same, get_or-set_other, Bool, true, false, true≢false, if◌then◌else◌, MatchBool, max, Option, Some, None, eq-eqb, inr}
+use Rattle.std.proofs.Common.{get_or-set_same, get_or-set_other, Bool, true, false, true≢false, MatchBool, max, Option, Some, None, eq-eqb, inr}
 use Rattle.std.proofs.lemmas.Bool.{eqb-true}
 use Rattle.std.proofs.lemmas.Bool.Decides.{nat_tests}
 use mathlib.Core.List.{IsPrefix}
@@ -9,6 +9,7 @@ use lib.ListN.{get_elem?}
 use lib.Seq.{set-get_or}
 use Rattle.atomic_table.specs.Table.{step, keeps, stepped, Allows}
 use Rattle.pvclock_page.specs.declared.page.Page.{Page}
+use Rattle.pvclock_page.specs.Words.{page_of}
 use Rattle.board_types.specs.declared.parts.BoardParts.{BoardParts}
 use Rattle.board_history.specs.Machine.{Machine, machine_of, page_at}
 use Rattle.board_history.specs.History.{board_after, version_after, May, entries_of, is_of, last_of, Reads, read_if, read_of}
@@ -16,18 +17,16 @@ use Rattle.board_history.specs.private.Steady.{IsSteadyPage}
 use Rattle.board_history.specs.declared.entry.Entry.{Entry}
 use Rattle.board_history.specs.declared.entry.Entry.TheVariants.{Clamp}
 use Rattle.board_history.proofs.Laws.{board_after-snoc, legal-version, read_of-number, read_of-leaves, read_of-may}
-use Rattle.clock_table.specs.declared.view.View.{View}
-use Rattle.clock_table.specs.declared.view.Read.{Read}
-use Rattle.clock_table.specs.declared.view.Miss.{Miss}
-use Rattle.clock_table.specs.Words.{place, word_of, field_at, pages_for}
+use Rattle.clock_table.specs.declared.view.{View.View, Read.Read, Miss.Miss}
+use Rattle.clock_table.specs.Words.{place, word_of, pages_for}
 use Rattle.clock_table.specs.Steps.{or_else, number_in, IsQuietEntry, weight, loud, heard, Hears, no_fields, missed, first_if, first_read, with_note}
 use Rattle.clock_table.specs.Steps.{noted_in, note_at, noted_page, ReadEnds}
 use Rattle.clock_table.specs.Calls.{IsPass, IsReading, AllNoted, HasNoted}
-use Rattle.clock_table.specs.private.Rule.{is_open, put_at, PageKept, ReadKept, ReadingKept, MissesKept, Kept}
+use Rattle.clock_table.specs.private.Rule.{is_open, PageKept, ReadKept, ReadingKept, MissesKept, Kept}
 use Rattle.clock_table.specs.private.Plays.{Stays, FirstRead, FieldRead, SecondRead, Raised}
 use Rattle.clock_table.proofs.Lists.{set_or, no_field}
-use Rattle.clock_table.proofs.Pages.{page_same}
-use Rattle.clock_table.proofs.Keeps.{rebuilt, St, M, later_self, later_same, misses_snoc, loud-append, loud_quiet, quiet_self, log_of, stay, enter, mine_seen}
+use Rattle.clock_table.proofs.Pages.{page_same, page_shut}
+use Rattle.clock_table.proofs.Keeps.{St, M, later_self, later_same, misses_snoc, loud-append, loud_quiet, quiet_self, log_of, stay, enter, mine_seen}
 
 -- a read of the page c, by its number
 abbrev read_at : ℕ → Read → Read
@@ -164,13 +163,10 @@ module _ (opening : BoardParts) where
       let steady : IsSteadyPage page = r.history.steady.pages x.cpu in
       let kept : PageKept s.words r.g.hand page x.cpu = r.words.pages x.cpu old.there in
       let shut : is_open r.g.hand x.cpu ≡ false = not_open (is_open r.g.hand x.cpu) page.version x.first (sym same ∙ kept.version) old.even steady.even in
-      let version : page.version ≡ x.first = let v = kept.version in omega (arith, ap weight shut) in
-      let field : (k : ℕ) → k < 4 → field_at page k ≡ note_at x k =
-      λ k small. let one = all k small in
-      sym (ap (λ (b : Bool). if b then or_else (put_at r.g.hand k) (field_at page k) else field_at page k) shut)
-      ∙ (sym (kept.field k small) ∙ (old.same same k one.0 small one.1 ∙ sym (ap (λ (o : Option ℕ). or_else o 0) one.1))) in
-      rebuilt page x.first (note_at x 0) (note_at x 1) (note_at x 2) (note_at x 3) steady version
-      (field 0 (omega arith)) (field 1 (omega arith)) (field 2 (omega arith)) (field 3 (omega arith))
+      let noted : (k : ℕ) → k < 4 → word_of s.words x.cpu (suc k) ≡ note_at x k =
+      λ k small. let one = all k small in old.same same k one.0 small one.1 ∙ sym (ap (λ (o : Option ℕ). or_else o 0) one.1) in
+      page_shut s.words r.g.hand x.cpu page steady kept shut
+      ∙ (λ i. page_of (same i ∷ noted 0 (omega arith) i ∷ noted 1 (omega arith) i ∷ noted 2 (omega arith) i ∷ noted 3 (omega arith) i ∷ []))
 
   second_kept : (s : St) (r : Kept opening s) (h id : ℕ) (me : M) (x : Read) → IsPass me.0 → me.0.live ≡ true → me.0.read ≡ Some x → AllNoted x
       → get_elem? s.views id ≡ some me.0 → (b : Bool) → eqb (word_of s.words x.cpu 0) x.first ≡ b

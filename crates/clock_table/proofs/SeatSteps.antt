@@ -16,9 +16,7 @@ use Rattle.board_history.specs.History.{entries_of}
 use Rattle.board_history.specs.declared.entry.Entry.{Entry}
 use Rattle.board_history.proofs.Laws.{entries_of-++}
 use Rattle.clock_table.specs.Words.{pages_for}
-use Rattle.clock_table.specs.declared.view.View.{View}
-use Rattle.clock_table.specs.declared.view.Meet.{Meet}
-use Rattle.clock_table.specs.declared.view.Ended.{Ended}
+use Rattle.clock_table.specs.declared.view.{View.View, Meet.Meet, Ended.Ended}
 use Rattle.clock_table.specs.Steps.{named, GoesOnQuietly, weight, pass_left, pass_right, pen_left, pen_right, longer, ended_of, met, parted}
 use Rattle.clock_table.specs.Steps.{here_of, penned_of, MeetKept, number_is, ended_with, claims}
 use Rattle.clock_table.specs.private.Rule.{MissesKept, EndedKept, Ghost, log_in, PenKept, Fits, Kept}

@@ -11,8 +11,7 @@ use Rattle.board_history.specs.Machine.{Machine, page_at}
 use Rattle.board_history.specs.History.{board_after, version_after}
 use Rattle.board_history.specs.declared.entry.Entry.{Entry}
 use Rattle.board_history.proofs.Laws.{is_of-pass}
-use Rattle.clock_table.specs.declared.view.View.{View}
-use Rattle.clock_table.specs.declared.view.Hand.{Hand}
+use Rattle.clock_table.specs.declared.view.{View.View, Hand.Hand}
 use Rattle.clock_table.specs.Words.{place, word_of, pages_for}
 use Rattle.clock_table.specs.Steps.{told, Extends, no_fields, begun, with_put, put_in}
 use Rattle.clock_table.specs.Calls.{IsPen, IsNext, IsPublishing, PublishesNone, IsBump, HasOpen, HasPut, AllPut}

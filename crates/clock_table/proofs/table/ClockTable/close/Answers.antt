@@ -15,27 +15,19 @@ ended g c =
     (closes c.args.self.table.shared.key c.seat.inside.seat.id g.N.Name.passes c.seat.inside.seat.me.0 (slots_items c.close_with-words.result.words)
     (slots_items c.close_with-words.result.slots) w c.seat.invariant.2 c.seat.invariant.3 c.close_with-words.ensures.values.2)
 
-pub returns-clause-legal : goal.returns-clause-legal
-returns-clause-legal g c = let k = ended g c in (k.legal, k.opened)
-
-pub returns-clause-front : goal.returns-clause-front
-returns-clause-front g c = let k = ended g c in
-    at_word (slots_items c.close_with-words.result.words) 0 0 c.word-front.result refl c.word-front.ensures ∙ k.front
-
-pub returns-clause-greatest : goal.returns-clause-greatest
-returns-clause-greatest g c = let k = ended g c in
-    at_word (slots_items c.close_with-words.result.words) 16 16 c.word-greatest.result refl c.word-greatest.ensures ∙ k.greatest
-
-pub returns-clause-pages : goal.returns-clause-pages
-returns-clause-pages g c cpu l small = let k = ended g c in
-    c.pages_of-pages.ensures.pages cpu (let w = c.args.self.sized in let n = c.word_count-count.ensures in omega arith) small ∙ k.page cpu (omega arith)
-
-pub returns-clause-no_pages : goal.returns-clause-no_pages
-returns-clause-no_pages g c cpu l =
-    c.pages_of-pages.ensures.no_pages cpu (let w = c.args.self.sized in let n = c.word_count-count.ensures in omega arith)
-
-pub returns-clause-ended : goal.returns-clause-ended
-returns-clause-ended g c = let k = ended g c in k.ended
-
-pub returns-clause-numbers : goal.returns-clause-numbers
-returns-clause-numbers g c n l = let k = ended g c in let w = c.requires.made in k.numbers n (omega arith)
+pub returns : goal.returns
+returns g c =
+    let k = ended g c in
+    let ws = slots_items c.close_with-words.result.words in
+    let w = c.args.self.sized in
+    let n = c.word_count-count.ensures in
+    let m = c.requires.made in
+    record {
+      legal = (k.legal, k.opened);
+      front = at_word ws 0 0 c.word-front.result refl c.word-front.ensures ∙ k.front;
+      greatest = at_word ws 16 16 c.word-greatest.result refl c.word-greatest.ensures ∙ k.greatest;
+      pages = λ cpu l small. c.pages_of-pages.ensures.pages cpu (omega arith) small ∙ k.page cpu (omega arith);
+      no_pages = λ cpu l. c.pages_of-pages.ensures.no_pages cpu (omega arith);
+      ended = k.ended;
+      numbers = λ i l. k.numbers i (omega arith);
+    }
