@@ -149,29 +149,35 @@ TAKES = {"max": 2, "min": 2, "len": 1}
 MAKERS = ("Some", "None", "Ok", "Err", "pos", "negsuc")
 
 
+class Made(dict):
+    """Functions by their places, each made when it is first asked for."""
+
+    def __init__(self, make: Callable[[tuple[str, str]], Callable]) -> None:
+        super().__init__()
+        self.make = make
+
+    def __missing__(self, place: tuple[str, str]) -> Callable:
+        self[place] = self.make(place)
+        return self[place]
+
+
 class Definitions:
     """All definitions below a folder of crates, each made a function when it is first asked for."""
 
     def __init__(self, crates: Path, with_rows: bool = True) -> None:
         self.modules = syntax.modules(crates, with_rows)
         self.constants = syntax.constants(crates)
-        self.made: dict[tuple[str, str], Callable] = {}
+        self.made = Made(lambda place: self.function(self.modules[place[0]], self.modules[place[0]].declared[place[1]]))
         self.arities: dict[tuple[str, str], int] = {}
         # a definition with other equations: each by its number, or None where it is left out
         self.instead: tuple[tuple[str, str], dict[int, tuple | None]] | None = None
         # which equations gave a value, where that is asked for: whose, and which
         self.given: set[tuple[tuple[str, str], int]] | None = None
         self.names = {"quotient": quotient, "remainder": remainder, "Fields": Fields, "partial": functools.partial,
-                      "call": self.get, "applied": applied, "library": LIBRARY, "max": max, "Gap": Gap}
-
-    def get(self, key: str, name: str) -> Callable:
-        found = self.made.get((key, name))
-        if found is None:
-            found = self.made[key, name] = self.function(self.modules[key], self.modules[key].declared[name])
-        return found
+                      "made": self.made, "applied": applied, "library": LIBRARY, "max": max, "Gap": Gap}
 
     def value(self, key: str, name: str, *given: object) -> object:
-        return self.get(key, name)(*given)
+        return self.made[key, name](*given)
 
     def arity(self, key: str, name: str) -> int:
         place = key, name
@@ -214,8 +220,10 @@ class Definitions:
         exec(text, self.names | {"given": self.given}, made)
         return made[name]
 
-    def expression(self, module: Module, read: tuple) -> object:
-        return eval(Writer(self, module).write(read, {}), self.names)
+    def expression(self, module: Module, read: tuple) -> Callable[[], object]:
+        """What computes an expression of a module."""
+        text = compile(Writer(self, module).write(read, {}), module.key, "eval")
+        return lambda: eval(text, self.names)
 
 
 class Writer:
@@ -303,7 +311,7 @@ class Writer:
         if kind == "constant":
             return str(self.all.constants[where, original])
         if kind == "definition":
-            return self.applied(f"call({where!r}, {original!r})", self.all.arity(where, original), given)
+            return self.applied(f"made[{where!r}, {original!r}]", self.all.arity(where, original), given)
         if original not in LIBRARY:
             raise Gap(f"{self.module.key}: unknown word {original}")
         word = LIBRARY[original]
