@@ -113,15 +113,11 @@ total-less (suc m) n xs once gone less = dite (ℕ_discrete n m)
 pub ended_most : (m : ℕ) (xs : List Ended) → ((n : ℕ) → ended_with n xs ≤ 1) → ((n : ℕ) → 0 < ended_with n xs → n < m) → length xs ≤ m
 ended_most m xs once all = let a = total-all m xs all in let b = total-most m xs once in omega arith
 
-nothing : (k : ℕ) → ¬ (1 ≤ k) → k ≡ 0
-nothing zero h = refl
-nothing (suc k) h = absurd (h (omega arith))
-
 -- where as many passes have ended as there are numbers, each number is among them
 everyone : (m n : ℕ) (xs : List Ended) → ((n : ℕ) → ended_with n xs ≤ 1) → ((n : ℕ) → 0 < ended_with n xs → n < m) → length xs ≡ m → n < m → 0 < ended_with n xs
 everyone m n xs once all len less = elim (dec_le 1 (ended_with n xs)) [
   | yes h ↦ h
-  | no h ↦ absurd (let a = total-less m n xs once (nothing (ended_with n xs) h) less in let b = total-all m xs all in omega arith)
+  | no h ↦ absurd (let a = total-less m n xs once (omega arith) less in let b = total-all m xs all in omega arith)
 ]
 
 ended_seen : (ws : List ℕ) (cpus : ℕ) (log seen : List Entry) (xs : List Ended) (n : ℕ) → EndedKept ws cpus log seen xs → IsPrefix seen log
@@ -237,7 +233,7 @@ steady_of b joined long = record {
         flags = few_flags p.flags (is.flags (omega arith));
       }
       | no never ↦ (
-          let none : p ≡ no_processor = is.unpublished (nothing p.version never) in
+          let none : p ≡ no_processor = is.unpublished (omega arith) in
           subst (λ (q : ProcessorParts). IsSteadyPage (page_in q)) (sym none)
           (record { even = refl; most = omega arith; mul = omega arith; shift = record { sfits = omega arith }; flags = omega arith })
           )

@@ -1,6 +1,6 @@
 -- What a step has to show for the rule to be kept.
-use Rattle.std.proofs.Common.{◌≡◌, ◌≢◌, ◌⊎◌, ℕ, suc, ◌+◌, ◌%◌, ◌<◌, ◌≤◌, eqb, List, [], ◌∷◌, ◌++◌, set, refl, ap, sym, ◌∙◌, subst, arith}
-use Rattle.std.proofs.Common.{append_assoc, append-nil, true, Option, Some, None, eq-eqb, ⊎_elim, inl, inr}
+use Rattle.std.proofs.Common.{◌≡◌, ◌≢◌, ℕ, suc, ◌+◌, ◌%◌, ◌<◌, ◌≤◌, eqb, List, [], ◌∷◌, ◌++◌, set, refl, ap, sym, ◌∙◌, subst, arith}
+use Rattle.std.proofs.Common.{append_assoc, append-nil, Bool, true, false, Option, Some, None, eq-eqb}
 use Rattle.std.proofs.lemmas.List.{append_cancel_left}
 use mathlib.Core.List.{IsPrefix}
 use mathlib.Core.Option.{some}
@@ -126,6 +126,10 @@ loud_quiet (Clamp pass cpu reading clock ∷ es) q = let r = loud_quiet es q.1 i
 pub loud_between : (b c : List Entry) → GoesOnQuietly b c → loud c ≡ loud b
 loud_between b c g = ap loud (sym g.1) ∙ (loud-append b g.0 ∙ (let z = loud_quiet g.0 g.2 in omega arith))
 
+not_true : (b : Bool) → (b ≡ true → ⊥) → b ≡ false
+not_true true f = absurd (f refl)
+not_true false f = refl
+
 -- the number of a view is claimed by it
 number_claimed : (v : View) (p : ℕ) → v.number ≡ Some p → 0 < claims p v
 number_claimed v p is = let e : number_is p v.number ≡ 1 = ap (number_is p) is ∙ ap weight (eq-eqb p p refl) in omega arith
@@ -190,12 +194,12 @@ module _ (opening : BoardParts) (s : St) (r : Kept opening s) (id : ℕ) (v : Vi
         numbers = λ n le. let below = mine.1 in entry_else log e p n is (λ (q : n ≡ p). omega arith) ∙ r.numbers n le;
       }
 
-  -- a step leaves the holder of the pen and all numbers
+  -- a step leaves the holder of the pen and all numbers, and is quiet unless its seat has the pen
   pub kept_next : (ws : List ℕ) (w : View) (later : List Entry) (hand : Option Hand) → w.live ≡ v.live → Adds opening r.g id later
       → Later (pages_for opening.cpus) s.words ws → WordsKept opening ws hand (of_state opening ∷ later)
-      → (v.pen ≡ true) ⊎ ((hand ≡ r.g.hand) × GoesOnQuietly (log_in opening r.g) (of_state opening ∷ later))
+      → (v.pen ≡ false → (hand ≡ r.g.hand) × GoesOnQuietly (log_in opening r.g) (of_state opening ∷ later))
       → Fits opening ws (record r.g { later = later; hand = hand }) id w → Kept opening (after ws w)
-  kept_next ws w later hand lives adds late words way mine =
+  kept_next ws w later hand lives adds late words calm mine =
       let log : List Entry = log_in opening r.g in
       let g' : Ghost = record r.g { later = later; hand = hand } in
       record {
@@ -206,14 +210,12 @@ module _ (opening : BoardParts) (s : St) (r : Kept opening s) (id : ℕ) (v : Vi
         words = words;
         each = each_set s.views id w (Fits opening ws g') mine (λ j u ne e. let f = r.each j u e in
             fits_other opening s.words ws r.g g' j u f late adds.begins (λ n own below. (adds.own n (λ q. ne (sym own ∙ q)), own, below))
-            (λ has. let k = f.pen has in ⊎_elim
-            (λ (own : v.pen ≡ true). absurd (ne (k.holder ∙ sym ((r.each id v at).pen own).holder)))
-            (λ (calm : (hand ≡ r.g.hand) × GoesOnQuietly log (of_state opening ∷ later)). record {
+            (λ has. let k = f.pen has in let c = calm (not_true v.pen (λ own. ne (k.holder ∙ sym ((r.each id v at).pen own).holder))) in record {
               holder = k.holder;
-              hand = k.hand ∙ sym calm.0;
+              hand = k.hand ∙ sym c.0;
               made = k.made;
-              quiet = quiet_trans (penned_of u.meet u.seen) log (of_state opening ∷ later) k.quiet calm.1;
-            }) way) f.limit);
+              quiet = quiet_trans (penned_of u.meet u.seen) log (of_state opening ∷ later) k.quiet c.1;
+            }) f.limit);
         alone = λ none. each_set s.views id w (λ j u. u.live ≡ true → j ≡ r.g.holder) (λ is. r.alone none id v at (sym lives ∙ is))
             (λ j u ne e. r.alone none j u e);
       }
@@ -222,27 +224,24 @@ module _ (opening : BoardParts) (s : St) (r : Kept opening s) (id : ℕ) (v : Vi
   pub penned : v.pen ≡ true → v.meet ≡ None → GoesOnQuietly v.seen (log_in opening r.g)
   penned has alone = subst (λ m. GoesOnQuietly (penned_of m v.seen) (log_in opening r.g)) alone ((r.each id v at).pen has).quiet
 
-  -- a step of a pass: its seat has the pen, or leaves what is open and adds quiet entries
-  abbrev pub Way : Option Hand → Option Hand → List Entry → List Entry → Type 0
-  Way hand left later seen =
-      ((v.pen ≡ true) × (hand ≡ left) × GoesOnQuietly seen (of_state opening ∷ later))
-      ⊎ ((hand ≡ v.hand) × (left ≡ r.g.hand) × GoesOnQuietly (log_in opening r.g) (of_state opening ∷ later))
+  -- the seat's own entries are all in what it has seen
+  pub mine_seen : (p : ℕ) → v.number ≡ Some p → v.meet ≡ None → entries_of p (log_in opening r.g) ≡ entries_of p v.seen
+  mine_seen p num alone = (r.each id v at).seen.mine p num ∙ ap (λ m. entries_of p (here_of m v.seen)) alone
 
+  -- a step of a pass
   moved : (ws : List ℕ) (p : ℕ) (later seen : List Entry) (hand left : Option Hand) (read : Option Read) (misses : List Miss)
       → v.number ≡ Some p → v.meet ≡ None → Adds opening r.g id later
       → ((n : ℕ) → n ≢ p → entries_of n (of_state opening ∷ later) ≡ entries_of n (log_in opening r.g))
       → IsPrefix v.seen seen → IsPrefix seen (of_state opening ∷ later) → entries_of p (of_state opening ∷ later) ≡ entries_of p seen
-      → Later (pages_for opening.cpus) s.words ws → WordsKept opening ws left (of_state opening ∷ later) → Way hand left later seen
+      → Later (pages_for opening.cpus) s.words ws → WordsKept opening ws left (of_state opening ∷ later)
+      → (v.pen ≡ true → (hand ≡ left) × GoesOnQuietly seen (of_state opening ∷ later))
+      → (v.pen ≡ false → (left ≡ r.g.hand) × GoesOnQuietly (log_in opening r.g) (of_state opening ∷ later))
       → ReadingKept ws (pages_for opening.cpus) seen read → MissesKept ws (pages_for opening.cpus) misses
       → Kept opening (after ws (record v { seen = seen; hand = hand; read = read; misses = misses }))
-  moved ws p later seen hand left read misses num alone adds only goes begins mine late words way reading missed =
+  moved ws p later seen hand left read misses num alone adds only goes begins mine late words pens calm reading missed =
       let f = r.each id v at in
-      let old : List Entry = log_in opening r.g in
       let log : List Entry = of_state opening ∷ later in
-      kept_next ws (record v { seen = seen; hand = hand; read = read; misses = misses }) later left refl adds late words
-      (⊎_elim (λ (own : (v.pen ≡ true) × (hand ≡ left) × GoesOnQuietly seen log). inl own.0)
-      (λ (calm : (hand ≡ v.hand) × (left ≡ r.g.hand) × GoesOnQuietly old log). inr (calm.1, calm.2)) way)
-      (record {
+      kept_next ws (record v { seen = seen; hand = hand; read = read; misses = misses }) later left refl adds late words calm (record {
         seen = record {
           begins = begins;
           mine = λ n is. let q : p ≡ n = cc (is, num) in
@@ -251,46 +250,30 @@ module _ (opening : BoardParts) (s : St) (r : Kept opening s) (id : ℕ) (v : Vi
           opened = λ is. let was = f.seen.opened is in let le = prefix_length v.seen seen goes in omega arith;
         };
         numbers = f.numbers;
-        pen = λ is.
-            let k = f.pen is in
-            let q : (hand ≡ left) × GoesOnQuietly seen log =
-            ⊎_elim (λ (own : (v.pen ≡ true) × (hand ≡ left) × GoesOnQuietly seen log). (own.1, own.2))
-            (λ (calm : (hand ≡ v.hand) × (left ≡ r.g.hand) × GoesOnQuietly old log). (
-              calm.0 ∙ (k.hand ∙ sym calm.1),
-              (quiet_between v.seen seen log goes begins (quiet_trans v.seen old log (penned is alone) calm.2)).1,
-            )) way in
-            record {
-              holder = k.holder;
-              hand = q.0;
-              made = k.made;
-              quiet = subst (λ m. GoesOnQuietly (penned_of m seen) log) (sym alone) q.1;
-            };
+        pen = λ is. let k = f.pen is in let q = pens is in
+            record { holder = k.holder; hand = q.0; made = k.made; quiet = subst (λ m. GoesOnQuietly (penned_of m seen) log) (sym alone) q.1 };
         read = reading;
         misses = missed;
-        ended = ended_later (pages_for opening.cpus) s.words ws old log v.seen seen v.ended late goes
+        ended = ended_later (pages_for opening.cpus) s.words ws (log_in opening r.g) log v.seen seen v.ended late goes
             (λ n c. only n (λ (q : n ≡ p). let one = f.numbers.once n in
             let here : number_is n v.number ≡ 1 = ap (number_is n) num ∙ ap weight (eq-eqb p n (sym q)) in omega arith)) f.ended;
         limit = f.limit;
       })
 
-  -- the seat's own entries are all in what it has seen
-  pub mine_seen : (p : ℕ) → v.number ≡ Some p → v.meet ≡ None → entries_of p (log_in opening r.g) ≡ entries_of p v.seen
-  mine_seen p num alone = (r.each id v at).seen.mine p num ∙ ap (λ m. entries_of p (here_of m v.seen)) alone
-
   -- a step that adds no entry
   pub stay : (ws : List ℕ) (p : ℕ) (hand left : Option Hand) (read : Option Read) (misses : List Miss) → v.number ≡ Some p → v.meet ≡ None
-      → Later (pages_for opening.cpus) s.words ws → WordsKept opening ws left (log_in opening r.g) → Way hand left r.g.later v.seen
+      → Later (pages_for opening.cpus) s.words ws → WordsKept opening ws left (log_in opening r.g)
+      → (v.pen ≡ true → hand ≡ left) → (v.pen ≡ false → left ≡ r.g.hand)
       → ReadingKept ws (pages_for opening.cpus) v.seen read → MissesKept ws (pages_for opening.cpus) misses
       → Kept opening (after ws (record v { hand = hand; read = read; misses = misses }))
-  stay ws p hand left read misses num alone late words way reading missed =
+  stay ws p hand left read misses num alone late words pens calm reading missed =
       moved ws p r.g.later v.seen hand left read misses num alone adds_none (λ n ne. refl) (prefix_self v.seen) (r.each id v at).seen.begins
-      (mine_seen p num alone) late words way reading missed
+      (mine_seen p num alone) late words (λ has. (pens has, penned has alone)) (λ no. (calm no, quiet_self (log_in opening r.g))) reading missed
 
-  -- what lies between what the seat has seen and the end of the history
+  -- what lies between what the seat has seen and the end of the history: where the seat has the pen it is quiet
   abbrev pub between : List Entry
   between = (r.each id v at).seen.begins.0
 
-  -- where the seat has the pen it is quiet
   pub quiet_rest : v.pen ≡ true → v.meet ≡ None → IsQuiet between
   quiet_rest has alone =
       let q = penned has alone in
@@ -299,10 +282,10 @@ module _ (opening : BoardParts) (s : St) (r : Kept opening s) (id : ℕ) (v : Vi
   -- a step that adds an entry: the seat has then seen all, and what the history shows it
   pub enter : (ws : List ℕ) (p : ℕ) (e : Entry) (hand left : Option Hand) → v.number ≡ Some p → v.meet ≡ None → v.live ≡ true → is_of p e ≡ true
       → May (log_in opening r.g) e → Later (pages_for opening.cpus) s.words ws → WordsKept opening ws left (log_in opening r.g ++ e ∷ [])
-      → ((v.pen ≡ true) × (hand ≡ left)) ⊎ ((hand ≡ v.hand) × (left ≡ r.g.hand) × IsQuietEntry e)
+      → (v.pen ≡ true → hand ≡ left) → (v.pen ≡ false → (left ≡ r.g.hand) × IsQuietEntry e)
       → Kept opening (after ws (record v { seen = (v.seen ++ between) ++ e ∷ []; hand = hand; read = None }))
       × Learnt v between ((v.seen ++ between) ++ e ∷ [])
-  enter ws p e hand left num alone lives is may late words way =
+  enter ws p e hand left num alone lives is may late words pens calm =
       let f = r.each id v at in
       let log : List Entry = log_in opening r.g in
       let seen : List Entry = (v.seen ++ between) ++ e ∷ [] in
@@ -310,8 +293,7 @@ module _ (opening : BoardParts) (s : St) (r : Kept opening s) (id : ℕ) (v : Vi
       let whole : seen ≡ log ++ e ∷ [] = ap (λ l. l ++ e ∷ []) f.seen.begins.1 in (
         moved ws p (r.g.later ++ e ∷ []) seen hand left None v.misses num alone adds (λ n ne. entry_else log e p n is ne)
             (between ++ e ∷ [], sym (append_assoc v.seen between (e ∷ []))) ([], append-nil seen ∙ whole) (ap (entries_of p) (sym whole)) late words
-            (⊎_elim (λ (own : (v.pen ≡ true) × (hand ≡ left)). inl (own.0, own.1, ([], append-nil seen ∙ whole, tt)))
-            (λ (calm : (hand ≡ v.hand) × (left ≡ r.g.hand) × IsQuietEntry e). inr (calm.0, calm.1, (e ∷ [], refl, (calm.2, tt)))) way) tt
+            (λ has. (pens has, ([], append-nil seen ∙ whole, tt))) (λ no. let c = calm no in (c.0, (e ∷ [], refl, (c.1, tt)))) tt
             (misses_later (pages_for opening.cpus) s.words ws v.misses late f.misses),
         record {
           legal = subst IsLegal (sym whole) adds.history.legal;

@@ -1,6 +1,6 @@
 -- The steps of a read, and the clamp, keep the rule.
 use Rattle.std.proofs.Common.{◌≡◌, ◌≢◌, ℕ, suc, ◌+◌, ◌%◌, ◌<◌, ◌≤◌, eqb, List, [], ◌∷◌, ◌++◌, length, get_or, set, refl, ap, sym, ◌∙◌, subst, arith, length-set}
-use Rattle.std.proofs.Common.{get_or-set_same, get_or-set_other, Bool, true, false, true≢false, MatchBool, max, Option, Some, None, eq-eqb, inr}
+use Rattle.std.proofs.Common.{get_or-set_same, get_or-set_other, Bool, true, false, true≢false, MatchBool, max, Option, Some, None, eq-eqb}
 use Rattle.std.proofs.lemmas.Bool.{eqb-true}
 use Rattle.std.proofs.lemmas.Bool.Decides.{nat_tests}
 use mathlib.Core.List.{IsPrefix}
@@ -26,7 +26,7 @@ use Rattle.clock_table.specs.private.Rule.{is_open, PageKept, ReadKept, ReadingK
 use Rattle.clock_table.specs.private.Plays.{Stays, FirstRead, FieldRead, SecondRead, Raised}
 use Rattle.clock_table.proofs.Lists.{set_or, no_field}
 use Rattle.clock_table.proofs.Pages.{page_same, page_shut}
-use Rattle.clock_table.proofs.Keeps.{St, M, later_self, later_same, misses_snoc, loud-append, loud_quiet, quiet_self, log_of, stay, enter, mine_seen}
+use Rattle.clock_table.proofs.Keeps.{St, M, later_self, later_same, misses_snoc, loud-append, loud_quiet, log_of, stay, enter, mine_seen}
 
 -- a read of the page c, by its number
 abbrev read_at : ℕ → Read → Read
@@ -66,7 +66,7 @@ module _ (opening : BoardParts) where
       let w : View = record me.0 { read = read; misses = misses } in
       subst (λ ws. Kept opening record { words = ws; homes = s.homes; views = set s.views id w }) (sym (set-get_or s.words i 0))
       (stay opening s r id me.0 at s.words pass.number.0 me.0.hand r.g.hand read misses pass.number.1 pass.meet
-      (later_self (pages_for opening.cpus) s.words) r.words (inr (refl, refl, quiet_self (log_of opening s r))) reading missed)
+      (later_self (pages_for opening.cpus) s.words) r.words (λ has. ((r.each id me.0 at).pen has).hand) (λ _. refl) reading missed)
 
   -- a step that changes no word of a page, after which the seat has seen a quiet entry
   hears : (s : St) (r : Kept opening s) (ws : List ℕ) (id : ℕ) (me : M) (e : Entry) (at : get_elem? s.views id ≡ some me.0) → (pass : IsPass me.0) → me.0.live ≡ true
@@ -85,7 +85,7 @@ module _ (opening : BoardParts) where
         wide = wide ∙ r.words.wide;
         front = record { front = front ∙ (f.front ∙ sym count); low = let low = f.low in omega arith; clamp = clamp };
         pages = λ c l. page_same s.words ws r.g.hand _ _ c (same c) (page c) (r.words.pages c l);
-      }) (inr (refl, refl, calm)) in
+      }) (λ has. ((r.each id me.0 at).pen has).hand) (λ _. (refl, calm)) in
       (t.0, ((r.each id me.0 at).seen.begins.0, refl, t.1))
 
   first_kept : (s : St) (r : Kept opening s) (c id : ℕ) (me : M) → c < pages_for opening.cpus → get_elem? s.views id ≡ some me.0 → IsPass me.0

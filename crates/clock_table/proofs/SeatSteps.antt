@@ -209,7 +209,7 @@ module _ (opening : BoardParts) where
         tt,
         subst (λ ws. Kept opening record { words = ws; homes = s.homes; views = set s.views id w }) (sym (set-get_or s.words 0 0))
             (kept_next opening s r id v at s.words w r.g.later r.g.hand refl (adds_none opening s r id v at) (later_self (pages_for opening.cpus) s.words)
-            r.words (inr (refl, quiet_self log)) (record {
+            r.words (λ _. (refl, quiet_self log)) (record {
               seen = record { begins = f.seen.begins; mine = λ n is. f.seen.mine n is ∙ sym (same_mine n is); meet = tt; opened = f.seen.opened };
               numbers = f.numbers;
               pen = λ is. let k = f.pen is in record { holder = k.holder; hand = k.hand; made = k.made; quiet = (pens is).1 };

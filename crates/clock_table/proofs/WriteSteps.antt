@@ -1,6 +1,6 @@
 -- The steps of the pen's holder keep the rule.
 use Rattle.std.proofs.Common.{◌≡◌, ℕ, suc, ◌+◌, ◌%◌, ◌^◌, ◌<◌, List, [], ◌∷◌, ◌++◌, get_or, set, refl, ap, sym, ◌∙◌, subst, arith}
-use Rattle.std.proofs.Common.{length-set, get_or-set_same, get_or-set_other, true, Option, Some, None, inl}
+use Rattle.std.proofs.Common.{length-set, get_or-set_same, get_or-set_other, true, true≢false, Option, Some, None}
 use mathlib.Core.Option.{none, some}
 use lib.ListN.{get_elem?}
 use Rattle.atomic_table.specs.Table.{step, keeps, stepped, Allows}
@@ -43,7 +43,7 @@ module _ (opening : BoardParts) where
         wide = length-set s.words (place c k) x ∙ r.words.wide;
         front = front_else s.words c k x log log r.words.front refl refl;
         pages = pages;
-      }) (inl (pen.pen, refl, penned opening s r id me.0 at pen.pen pen.meet)) tt
+      }) (λ _. refl) (λ no. absurd (true≢false (sym pen.pen ∙ no))) tt
       (misses_later (pages_for opening.cpus) s.words (set s.words (place c k) x) me.0.misses late (r.each id me.0 at).misses)
 
   -- a page is opened
@@ -102,7 +102,7 @@ module _ (opening : BoardParts) where
   finished s r i x id n me e at pen live next leaves late words =
       let p : ℕ = pen.number.0 in
       let t = enter opening s r id me.0 at (set s.words i x) p e None None pen.number.1 pen.meet live (is_of-pass e p (next.number ∙ pen.number.1))
-      leaves.may late words (inl (pen.pen, refl)) in
+      leaves.may late words (λ _. refl) (λ no. absurd (true≢false (sym pen.pen ∙ no))) in
       (t.0, ((r.each id me.0 at).seen.begins.0, refl, quiet_rest opening s r id me.0 at pen.pen pen.meet, t.1))
 
   -- the same on the front word
