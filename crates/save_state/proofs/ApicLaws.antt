@@ -1,21 +1,20 @@
 -- The timers of local APICs with their tick lines: their fields cover them, what is read is written as its bytes are, and valid ones are written and read as they were.
 use Rattle.std.proofs.Common.{◌≡◌, ℕ, ◌+◌, ◌-◌, ◌<◌, ◌≤◌, Bool, true, false, not, ◌&&◌, ◌||◌, eqb, ltb, leb, List, ◌++◌, length, map, get_or, replicate, inl, inr, refl, ap, sym, subst, ◌∙◌, arith}
-use Rattle.std.proofs.lemmas.Bool.{and_from, and_parts, or_cases, or_left, or_right, eq-eqb, eqb-true, ne_eqb, lt-ltb, le-ltb, ltb-true, ltb-false, le-leb, leb-true, cases_lt, cases_eq, not_from_false, false≢true}
+use Rattle.std.proofs.lemmas.Bool.{and_from, and_parts, or_cases, or_left, or_right, eq-eqb, eqb-true, lt-ltb, le-ltb, ltb-true, ltb-false, le-leb, leb-true, cases_lt, cases_eq, false≢true}
 use Rattle.std.proofs.lemmas.List.{length-map}
 use Rattle.tick_policy.specs.declared.parts.Policy.TheVariants.{Discard}
 use Rattle.tick_policy.specs.declared.parts.TickParts.{TickParts}
-use Rattle.tick_policy.specs.Parts.{IsTickLine}
 use Rattle.lapic_timer.specs.declared.parts.ApicParts.{ApicParts}
-use Rattle.lapic_timer.specs.Parts.{lvt_bits, mode_of, divide_bits, divisor, is_deadline, is_periodic, IsApicTimer}
-use Rattle.lapic_timer.specs.Parts.{lvt_valid, divide_valid, initial_valid, current_valid, phase_valid, deadline_valid}
-use Rattle.local_apics.specs.Parts.{IsPlaceOf, AreApicsOf}
+use Rattle.lapic_timer.specs.Parts.{lvt_bits, mode_of, divide_bits, divisor, IsApicTimer}
+use Rattle.lapic_timer.specs.Parts.{initial_valid, deadline_valid}
+use Rattle.local_apics.specs.Parts.{IsPlaceOf}
 use Rattle.local_apics.specs.Places.{no_timer, no_line, timer_at, line_at}
 use Rattle.board_types.specs.declared.parts.BoardParts.{BoardParts}
 use Rattle.board_core.specs.Apics.{apics_of, apics_in}
 use Rattle.board_core.specs.Conditions.{AreApics, IsBoard}
 use Rattle.board_core.specs.Time.{now_of}
-use Rattle.byte_table.specs.Codes.{number, byte, pairs}
-use Rattle.byte_table.specs.Fold.{read, moved, read_below, write_below}
+use Rattle.byte_table.specs.Codes.{pairs}
+use Rattle.byte_table.specs.Fold.{moved, read_below, write_below}
 use Rattle.byte_table.specs.Kinds.{plain, blocks}
 use Rattle.byte_table.proofs.FoldLaws.{◌⨾◌, AllHere, AllSpelled, AllHold, all_here-append, all_spelled-append, all_hold-split}
 use Rattle.byte_table.proofs.CodeLaws.{number-written, number-code, byte-written, byte-code}
@@ -23,7 +22,7 @@ use Rattle.byte_table.proofs.KindLaws.{plain-here, plain-spelled, blocks-here, b
 use Rattle.byte_table.proofs.Loops.{drop-blank, read_below-at, read_below-after, length-read_below}
 use Rattle.byte_table.proofs.Pairs.{pairs-at, length-pairs, pairs-halves}
 use Rattle.save_state.specs.Fields.{any, Apic, with_ticks, apic_timer, apic_line, apic, no_apic, apic_pairs, apics}
-use Rattle.save_state.specs.private.Fits.{ApicTimerFits, ApicFits, ApicsFit}
+use Rattle.save_state.specs.private.Fits.{ApicTimerFits, ApicsFit}
 use Rattle.save_state.proofs.Blocks.{ticks-spelled, ticks-here, TicksHold, ticks-hold}
 use Rattle.save_state.proofs.Formats.{apics_few, processors_few}
 use Rattle.save_state.proofs.Sizes.{apic-size}

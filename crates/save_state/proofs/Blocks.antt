@@ -1,9 +1,6 @@
 -- The laws of each block: its fields cover it, what is read is written as its bytes are, and what is written is read as it was.
-use Rattle.std.proofs.Common.{◌≡◌, ℕ, zero, suc, ◌+◌, ◌*◌, ◌%◌, ◌<◌, ◌≤◌, ⊎_elim, Bool, true, eqb, ltb, leb, not, ◌||◌, List, refl, ap, ◌∙◌, arith}
+use Rattle.std.proofs.Common.{◌≡◌, ℕ, zero, suc, ◌+◌, ◌<◌, ◌≤◌, Bool, true, eqb, leb, not, ◌||◌, List, refl, arith}
 use Rattle.std.proofs.lemmas.Bool.{lt-ltb, le-leb, leb-true, eq-eqb, eqb-true, and_from, and_parts}
-use Rattle.std.specs.Int.{w8, cast_unsigned}
-use Rattle.clk_units.specs.declared.ranges.TheConstants.{RANGE_NS}
-use Rattle.pvclock_page.specs.Scale.{mul_for, shift_for}
 use Rattle.pit_counter.specs.declared.parts.CounterParts.{CounterParts}
 use Rattle.pit_counter.specs.Parts.{IsCounter}
 use Rattle.hpet_comparator.specs.declared.parts.TimerParts.{TimerParts}
@@ -15,16 +12,13 @@ use Rattle.tick_policy.specs.declared.parts.Counts.{Counts}
 use Rattle.tick_policy.specs.declared.parts.TickParts.{TickParts}
 use Rattle.tick_policy.specs.Parts.{IsTickLine, FollowsPolicy, is_kept, queue_valid, lost_valid, policy_byte, policy_of}
 use Rattle.board_types.specs.declared.parts.BoardParts.{BoardParts}
-use Rattle.board_types.specs.declared.parts.ProcessorParts.{ProcessorParts}
 use Rattle.board_devices.specs.Places.{no_line}
-use Rattle.board_core.specs.Conditions.{IsProcessor, flags_valid as page_flags_valid}
 use Rattle.board_core.specs.Time.{now_of}
-use Rattle.board_core.specs.Tsc.{no_processor}
 use Rattle.byte_table.specs.Codes.{byte_at, number, byte, flag}
 use Rattle.byte_table.specs.Fold.{moved}
 use Rattle.byte_table.specs.Kinds.{plain, elsewhere}
 use Rattle.byte_table.proofs.FoldLaws.{◌⨾◌, AllHere, AllSpelled, AllHold, all_here-append, all_spelled-append}
-use Rattle.byte_table.proofs.CodeLaws.{IsWritten, IsCode, number-written, number-code, byte-written, byte-code, signed_byte-written, signed_byte-code, flag-written, flag-code}
+use Rattle.byte_table.proofs.CodeLaws.{IsWritten, IsCode, number-written, number-code, byte-written, byte-code, flag-written, flag-code}
 use Rattle.byte_table.proofs.CodeLaws.{flags-written, flags-code, choice-written, choice-code, both-written, both-code}
 use Rattle.byte_table.proofs.KindLaws.{plain-here, plain-spelled, elsewhere-here, elsewhere-spelled, AreBlocks}
 use Rattle.save_state.specs.Fields.{policy, policy_place, counter, no_counter, flags_from, timer, line, up_allowed, ticks_of, line_ticks, line_policy}

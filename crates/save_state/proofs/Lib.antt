@@ -1,3 +1,4 @@
+pub mod AllFields
 pub mod Formats
 pub mod Sizes
 pub mod Walk

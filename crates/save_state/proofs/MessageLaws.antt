@@ -1,14 +1,14 @@
 -- The messages of the HPET's timers: their fields cover them, what is read is written as its bytes are, and those of a valid board are written and read as they were.
-use Rattle.std.proofs.Common.{◌≡◌, ℕ, ◌+◌, ◌-◌, ◌^◌, ◌<◌, ◌≤◌, Bool, true, false, not, ◌||◌, eqb, List, ◌++◌, length, map, get_or, replicate, inl, inr, refl, ap, sym, ◌∙◌, arith}
+use Rattle.std.proofs.Common.{◌≡◌, ℕ, ◌-◌, ◌^◌, ◌<◌, ◌≤◌, true, false, not, eqb, List, ◌++◌, length, map, get_or, replicate, inl, inr, refl, ap, sym, ◌∙◌, arith}
 use Rattle.std.proofs.lemmas.Bool.{or_right, cases_lt, cond-true, lt-leb, le-leb}
 use Rattle.hpet_registers.specs.Parts.{message_bit_at, message_word_at}
 use Rattle.board_types.specs.declared.parts.BoardParts.{BoardParts}
 use Rattle.board_types.specs.declared.setup.TheConstants.{MESSAGE_FORMAT}
 use Rattle.board_types.specs.Setup.{has_messages}
 use Rattle.board_core.specs.Conditions.{IsBoard}
-use Rattle.byte_table.specs.Codes.{number, flag, pairs}
+use Rattle.byte_table.specs.Codes.{pairs}
 use Rattle.byte_table.specs.Fold.{moved, read_below, write_below}
-use Rattle.byte_table.specs.Kinds.{plain, blocks}
+use Rattle.byte_table.specs.Kinds.{plain}
 use Rattle.byte_table.proofs.FoldLaws.{◌⨾◌, AllHere, AllSpelled}
 use Rattle.byte_table.proofs.CodeLaws.{number-written, number-code, flag-written, flag-code}
 use Rattle.byte_table.proofs.KindLaws.{plain-here, plain-spelled, blocks-here, blocks-spelled, AreBlocks}

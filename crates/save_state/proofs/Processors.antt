@@ -9,7 +9,7 @@ use Rattle.board_types.specs.declared.parts.BoardParts.{BoardParts}
 use Rattle.board_types.specs.declared.parts.ProcessorParts.{ProcessorParts}
 use Rattle.board_core.specs.Conditions.{IsProcessor, flags_valid as page_flags_valid}
 use Rattle.board_core.specs.Tsc.{no_processor}
-use Rattle.byte_table.specs.Codes.{number, byte}
+use Rattle.byte_table.specs.Codes.{number}
 use Rattle.byte_table.specs.Fold.{read, moved}
 use Rattle.byte_table.specs.Kinds.{plain}
 use Rattle.byte_table.proofs.FoldLaws.{◌⨾◌, AreBytes, AllHere, AllSpelled, AllHold}

@@ -1,5 +1,5 @@
 -- The reference page of Hyper-V: its fields cover it, what is read is written as its bytes are, and a valid page is written and read as it was.
-use Rattle.std.proofs.Common.{◌≡◌, ℕ, zero, suc, ◌+◌, ◌-◌, ◌%◌, ◌<◌, ◌≤◌, Bool, true, eqb, ltb, ◌||◌, List, [], ◌∷◌, ◌++◌, get_or, replicate, None, inl, inr, refl, ap, sym, subst, ◌∙◌, arith}
+use Rattle.std.proofs.Common.{◌≡◌, ℕ, zero, suc, ◌+◌, ◌-◌, ◌%◌, ◌<◌, ◌≤◌, true, eqb, ltb, ◌||◌, List, [], ◌∷◌, ◌++◌, get_or, replicate, None, inl, inr, refl, ap, ◌∙◌, arith}
 use Rattle.std.proofs.lemmas.Bool.{and_parts, eqb-true, ltb-true, lt-ltb, eq-eqb, cases_lt, cases_eq}
 use Rattle.std.proofs.lemmas.List.{append-nil}
 use Rattle.board_types.specs.declared.parts.BoardParts.{BoardParts}
@@ -7,7 +7,7 @@ use Rattle.board_types.specs.declared.parts.HvParts.{HvParts}
 use Rattle.board_types.specs.declared.setup.TheConstants.{HV_FORMAT}
 use Rattle.board_core.specs.Conditions.{IsHv, IsBoard}
 use Rattle.board_core.specs.Hv.{no_hv}
-use Rattle.byte_table.specs.Codes.{number, byte}
+use Rattle.byte_table.specs.Codes.{number}
 use Rattle.byte_table.specs.Fold.{write, read, moved, or_else, fault_in, write_below, read_below, fault_below}
 use Rattle.byte_table.specs.Kinds.{plain, blocks}
 use Rattle.byte_table.proofs.FoldLaws.{◌⨾◌, AreBytes, AllHere, AllSpelled, AllHold, or_else-end}
@@ -17,7 +17,7 @@ use Rattle.byte_table.proofs.Little.{number-below}
 use Rattle.byte_table.proofs.Loops.{drop-blank}
 use Rattle.save_state.specs.Fields.{scale_for, reference, references, references_of}
 use Rattle.save_state.specs.private.Fits.{ReferenceFits}
-use Rattle.save_state.proofs.Formats.{references-none, references-one, references_few}
+use Rattle.save_state.proofs.Formats.{references-one, references_few}
 use Rattle.save_state.proofs.Versions.{version-is, published-is, some-or, version-valid, at_first, page-none, page-some}
 
 pub reference-covers : (k : ℕ) (t q : HvParts) → moved (reference k) t q ≡ t

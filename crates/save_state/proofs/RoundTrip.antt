@@ -1,5 +1,5 @@
 -- The round trip of a saved state: a board's bytes are read as the board and have no fault, and bytes with no fault are those of the board that they are.
-use Rattle.std.proofs.Common.{◌≡◌, ℕ, ◌+◌, ◌^◌, ◌<◌, ◌≤◌, ⊎_elim, Bool, false, cond, List, [], ◌∷◌, ◌++◌, length, drop, Some, None, refl, ap, sym, ◌∙◌, arith}
+use Rattle.std.proofs.Common.{◌≡◌, ℕ, ◌+◌, ◌^◌, ◌<◌, ◌≤◌, ⊎_elim, Bool, cond, List, [], ◌∷◌, ◌++◌, length, drop, Some, None, refl, ap, sym, ◌∙◌, arith}
 use Rattle.std.proofs.lemmas.Bool.{lt-ltb, le-ltb, cases_lt}
 use Rattle.std.proofs.lemmas.List.{append-nil, take_all}
 use Rattle.tick_policy.specs.declared.parts.Policy.{Policy}
@@ -16,7 +16,7 @@ use Rattle.byte_table.specs.Fold.{size_of, write, read, moved, fault_in}
 use Rattle.byte_table.specs.Kinds.{plain, row, blocks, elsewhere}
 use Rattle.byte_table.proofs.FoldLaws.{◌⨾◌, AreBytes, next, AllKeep, or_else-none, or_else-both, length-write, read-write, fault-write, rewritten, rewrite_in-keep}
 use Rattle.byte_table.proofs.CodeLaws.{number_at-is, length-number}
-use Rattle.byte_table.proofs.Loops.{read_below-at, drop-blank}
+use Rattle.byte_table.proofs.Loops.{read_below-at}
 use Rattle.byte_table.proofs.Pairs.{firsts-pairs, seconds-pairs}
 use Rattle.save_state.specs.declared.fault.StateFault.{StateFault}
 use Rattle.save_state.specs.declared.fault.StateKind.TheVariants.{Trailing}

@@ -1,15 +1,13 @@
 -- A board that is read, whose conditions all hold, is valid.
-use Rattle.std.proofs.Common.{◌≡◌, ℕ, zero, suc, ℤ, pos, negsuc, ◌+◌, ◌*◌, ◌%◌, ◌<◌, ◌≤◌, Bool, true, false, cond, not, ◌&&◌, ◌||◌, leb, ltb, eqb, List, [], ◌∷◌, ◌++◌, length, get_or}
+use Rattle.std.proofs.Common.{◌≡◌, ℕ, zero, suc, ◌+◌, ◌%◌, ◌<◌, ◌≤◌, Bool, true, false, cond, not, ◌&&◌, ◌||◌, leb, ltb, eqb, [], ◌∷◌, ◌++◌, length, get_or}
 use Rattle.std.proofs.Common.{Some, None, ◌⊎◌, inl, inr, refl, ap, sym, subst, ◌∙◌, arith}
-use Rattle.std.proofs.lemmas.Bool.{and_parts, or_cases, leb-true, ltb-true, ltb-false, eqb-true, lt-leb, lt-ltb, le-ltb, eq-eqb, ne_eqb, cases_lt, cases_eq, cond-true, cond-false, false≢true}
-use Rattle.std.specs.Int.{w8, cast_signed, cast_unsigned}
+use Rattle.std.proofs.lemmas.Bool.{and_parts, or_cases, leb-true, ltb-true, ltb-false, eqb-true, lt-leb, lt-ltb, le-ltb, cases_lt, cond-true, cond-false, false≢true}
 use Rattle.clk_units.specs.Ranges.{IsKhz}
 use Rattle.clk_units.specs.declared.ranges.TheConstants.{RANGE_NS, KHZ_MIN, KHZ_MAX}
 use Rattle.irq_edges.specs.Lines.{line_numbers, level_of}
 use Rattle.pit_counter.specs.declared.parts.CounterParts.{CounterParts}
 use Rattle.pit_counter.specs.Parts.{IsCounter, flags_valid}
 use Rattle.pit_readback.specs.Parts.{IsPit}
-use Rattle.pvclock_page.specs.Scale.{mul_for, shift_for}
 use Rattle.rtc_cycle.specs.Parts.{IsDivider}
 use Rattle.rtc_registers.specs.declared.parts.RtcParts.{RtcParts}
 use Rattle.rtc_registers.specs.Registers.{register_a, register_c, register_d, pf_of, af_of, uf_of, set_of, flags_byte, divider_of}
@@ -20,10 +18,8 @@ use Rattle.hpet_comparator.specs.Parts.{IsTimer, config_valid, comparator_valid,
 use Rattle.hpet_comparator.proofs.Conditions.{IsTimer-no_fault}
 use Rattle.hpet_registers.specs.Parts.{IsHpet, IsPlace, no_timer, timer_at}
 use Rattle.tick_policy.specs.declared.parts.Policy.{Policy}
-use Rattle.tick_policy.specs.declared.parts.Policy.TheVariants.{Discard, Delay, Slew}
-use Rattle.tick_policy.specs.declared.parts.Counts.{Counts}
 use Rattle.tick_policy.specs.declared.parts.TickParts.{TickParts}
-use Rattle.tick_policy.specs.Parts.{IsTickLine, FollowsPolicy, is_kept, queue_valid, lost_valid}
+use Rattle.tick_policy.specs.Parts.{IsTickLine}
 use Rattle.board_types.specs.declared.parts.BoardParts.{BoardParts}
 use Rattle.board_types.specs.declared.parts.HvParts.{HvParts}
 use Rattle.board_types.specs.declared.parts.ProcessorParts.{ProcessorParts}
@@ -40,12 +36,11 @@ use Rattle.board_core.specs.Time.{HasTime, devices_in, now_of}
 use Rattle.board_core.specs.Tsc.{no_processor, processor_at}
 use Rattle.board_core.specs.Apics.{apics_of}
 use Rattle.board_core.specs.Hv.{no_hv}
-use Rattle.board_core.specs.Conditions.{IsVersion, IsWall, flags_valid as page_flags_valid, IsProcessor, AreProcessors, AreRises, IsHv, IsBoard}
+use Rattle.board_core.specs.Conditions.{IsWall, IsProcessor, AreProcessors, AreRises, IsHv, IsBoard}
 use Rattle.board_core.proofs.Joined.{IsProcessor-none, IsHv-none}
-use Rattle.byte_table.specs.Kinds.{plain, row, blocks, elsewhere}
+use Rattle.byte_table.specs.Kinds.{plain, row, blocks}
 use Rattle.byte_table.proofs.FoldLaws.{AllHold, all_hold-split}
 use Rattle.byte_table.proofs.KindLaws.{hold-each}
-use Rattle.byte_table.proofs.Loops.{get_or-blank}
 use Rattle.save_state.specs.Rises.{rise_valid, legacy_rises_valid, routed_rises_valid}
 use Rattle.save_state.specs.Fields.{khz_valid, head, host, guest, policies, front, counter, no_counter, counters, clock, registers, timer, timers, same, up_allowed, line_ticks, line_policy, line}
 use Rattle.save_state.specs.Fields.{lines, counts_of, rises, wall, processor, processors, apics, reference, references, references_of, message, no_message, message_pairs, messages, messages_of, devices, back}

@@ -1,5 +1,5 @@
 -- Versions, and the fields that are 0 before the first publishing.
-use Rattle.std.proofs.Common.{◌≡◌, ℕ, ◌%◌, ◌<◌, ◌≤◌, Bool, true, cond, eqb, ltb, ◌||◌, inl, inr, sym, ap, ◌∙◌, arith}
+use Rattle.std.proofs.Common.{◌≡◌, ℕ, ◌%◌, ◌<◌, Bool, true, cond, eqb, ltb, ◌||◌, inl, inr, sym, ap, ◌∙◌, arith}
 use Rattle.std.proofs.lemmas.Bool.{eqb-true, ltb-true, lt-ltb, eq-eqb, ne_eqb, and_from, or_cases, or_left, or_right, cond-true, cond-false, cases_lt, cases_eq}
 use Rattle.board_core.specs.Conditions.{IsVersion}
 use Rattle.save_state.specs.Fields.{version_valid, published_valid}

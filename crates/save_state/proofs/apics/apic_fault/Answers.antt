@@ -1,4 +1,4 @@
-use Rattle.std.proofs.Common.{get_or, ap, sym, ◌∙◌, rules}
+use Rattle.std.proofs.Common.{get_or, ap, rules}
 use Rattle.local_apics.specs.Places.{no_timer, no_line}
 use Rattle.byte_table.specs.Fold.{fault_in}
 use Rattle.byte_table.proofs.Pairs.{pairs-at}

@@ -1,4 +1,4 @@
-use Rattle.std.proofs.Common.{◌≡◌, ◌++◌, sym, subst, ap, ◌∙◌, rules}
+use Rattle.std.proofs.Common.{◌++◌, sym, subst, ap, ◌∙◌, rules}
 use Rattle.local_apics.specs.Places.{no_timer, no_line}
 use Rattle.byte_table.specs.Fold.{write}
 use Rattle.byte_table.proofs.Loops.{written-none, written-one}

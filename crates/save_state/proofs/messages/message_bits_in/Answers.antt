@@ -1,5 +1,5 @@
 use Rattle.std.proofs.Common.{ℕ, false, ap, ◌∙◌, arith}
-use Rattle.byte_table.specs.Codes.{flag_at, number_at}
+use Rattle.byte_table.specs.Codes.{flag_at}
 use Rattle.byte_table.specs.Kinds.{plain}
 use Rattle.byte_table.proofs.Loops.{filled-none, filled-more}
 use Rattle.byte_table.proofs.Pairs.{part-filled}

@@ -1,4 +1,4 @@
-use Rattle.std.proofs.Common.{ℕ, ◌+◌, ◌*◌, false}
+use Rattle.std.proofs.Common.{ℕ, ◌+◌, ◌*◌}
 use Rattle.byte_table.specs.Fold.{read}
 use Rattle.byte_table.proofs.Loops.{IsFilled}
 use Rattle.save_state.specs.Fields.{message, no_message}

@@ -1,4 +1,4 @@
-use Rattle.std.proofs.Common.{◌≡◌, ◌++◌, false, sym, ap, ◌∙◌, rules}
+use Rattle.std.proofs.Common.{◌++◌, false, sym, ap, ◌∙◌, rules}
 use Rattle.byte_table.specs.Fold.{write}
 use Rattle.byte_table.proofs.Loops.{written-none, written-one}
 use Rattle.byte_table.proofs.Pairs.{pairs-at}

@@ -1,4 +1,4 @@
-use Rattle.std.proofs.Common.{◌≡◌, ℕ, List, ◌+◌, ◌-◌, ◌*◌, [], ◌∷◌, ◌++◌, map, replicate, ap, ◌∙◌, arith}
+use Rattle.std.proofs.Common.{◌≡◌, ℕ, List, ◌+◌, ◌-◌, [], ◌∷◌, ◌++◌, map, replicate, ap, ◌∙◌, arith}
 use Rattle.lapic_timer.specs.declared.parts.ApicParts.{ApicParts}
 use Rattle.tick_policy.specs.declared.parts.TickParts.{TickParts}
 use Rattle.board_types.specs.Setup.{timers_of}
