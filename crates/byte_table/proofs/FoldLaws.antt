@@ -211,3 +211,36 @@ fault-next {F = F} fs gs b p place at bytes later there =
     ap (λ (o : Option F). or_else o later) (fault_in-append fs gs b p place bytes)
     ∙ or_else-assoc (fault_in fs b p place bytes) (fault_in gs b p (place + size_of fs) bytes) later
     ∙ ap (λ (n : ℕ). or_else (fault_in fs b p place bytes) (or_else (fault_in gs b p n bytes) later)) there
+
+-- lists one after the other: what holds of each holds of all
+abbrev pub joined : {A : Type 0} → List (List A) → List A
+joined [] = []
+joined (xs ∷ xss) = xs ++ joined xss
+
+abbrev pub EachHere : {F B P : Type 0} → List (List (Field F B P)) → B → P → List ℕ → Type 0
+EachHere [] b p bytes = Unit {0}
+EachHere (fs ∷ fss) b p bytes = AllHere fs b p bytes × EachHere fss b p bytes
+
+abbrev pub EachHolds : {F B P : Type 0} → List (List (Field F B P)) → B → P → Type 0
+EachHolds [] b p = Unit {0}
+EachHolds (fs ∷ fss) b p = AllHold fs b p × EachHolds fss b p
+
+pub here-joined : {F B P : Type 0} (fss : List (List (Field F B P))) (b : B) (p : P) (bytes : List ℕ) → EachHere fss b p bytes → AllHere (joined fss) b p bytes
+here-joined [] b p bytes each = tt
+here-joined (fs ∷ fss) b p bytes each = all_here-append fs (joined fss) b p bytes each.0 (here-joined fss b p bytes each.1)
+
+pub hold-joined : {F B P : Type 0} (fss : List (List (Field F B P))) (b : B) (p : P) → AllHold (joined fss) b p → EachHolds fss b p
+hold-joined [] b p h = tt
+hold-joined (fs ∷ fss) b p h = let parts = all_hold-split fs (joined fss) b p h in (parts.0, hold-joined fss b p parts.1)
+
+-- their first fault, list by list, or else a later one
+abbrev pub fault_along : {F B P : Type 0} → List (List (Field F B P)) → B → P → ℕ → List ℕ → Option F → Option F
+fault_along [] b p place bytes later = later
+fault_along (fs ∷ fss) b p place bytes later = or_else (fault_in fs b p place bytes) (fault_along fss b p (place + size_of fs) bytes later)
+
+pub fault-joined : {F B P : Type 0} (fss : List (List (Field F B P))) (b : B) (p : P) (place : ℕ) (bytes : List ℕ) (later : Option F)
+    → or_else (fault_in (joined fss) b p place bytes) later ≡ fault_along fss b p place bytes later
+fault-joined [] b p place bytes later = refl
+fault-joined {F = F} (fs ∷ fss) b p place bytes later =
+    fault-next fs (joined fss) b p place (place + size_of fs) bytes later refl
+    ∙ ap (λ (o : Option F). or_else (fault_in fs b p place bytes) o) (fault-joined fss b p (place + size_of fs) bytes later)

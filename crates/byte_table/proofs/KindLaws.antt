@@ -7,7 +7,7 @@ use Rattle.byte_table.specs.Codes.{Code, row_bytes, row_value, row_spelled}
 use Rattle.byte_table.specs.Kinds.{Faults, one_fault, plain, row, blocks, elsewhere}
 use Rattle.byte_table.proofs.FoldLaws.{AreBytes, first-fault, next, split, room, take-more, IsHere, AllHere, IsSpelled, AllSpelled, or_else-none, or_else-both, length-write}
 use Rattle.byte_table.proofs.FoldLaws.{read-write, fault-write, rewritten, AllHold, hold}
-use Rattle.byte_table.proofs.CodeLaws.{IsWritten, IsCode, AllWritten, row-is, row-same}
+use Rattle.byte_table.proofs.CodeLaws.{IsWritten, IsCode, AllWritten, row-is, row-same, number-code, word-code, byte-code, signed_byte-code, flag-code, flags-code, both-code}
 
 -- the fault of one field: short, invalid, or none
 pub one_fault-short : {F : Type 0} (faults : Faults F) (size : ℕ) (valid : Bool) (place : ℕ) (bytes : List ℕ) → length bytes < place + size
@@ -225,3 +225,6 @@ unfolding plain
 invalid-at xs ys faults c get put valid b p bytes none there is =
     first-fault xs ys (plain faults c get put valid) b p 0 bytes (faults.invalid (0 + size_of xs)) none
     (one_fault-is faults c.size (c.spelled (0 + size_of xs) bytes && valid b p) (0 + size_of xs) bytes there false is)
+
+-- by these a search finds that all fields of a list are spelled
+pub ruleset spells = (plain-spelled, row-spelled, elsewhere-spelled, number-code, word-code, byte-code, signed_byte-code, flag-code, flags-code, both-code)

@@ -1,12 +1,11 @@
 -- The timers of local APICs with their tick lines: their fields cover them, what is read is written as its bytes are, and valid ones are written and read as they were.
-use Rattle.std.proofs.Common.{◌≡◌, ℕ, ◌+◌, ◌-◌, ◌<◌, ◌≤◌, Bool, true, false, not, ◌&&◌, ◌||◌, eqb, ltb, leb, List, ◌++◌, length, map, get_or, replicate, inl, inr, refl, ap, sym, subst, ◌∙◌, arith}
-use Rattle.std.proofs.lemmas.Bool.{and_from, and_parts, or_cases, or_left, or_right, eq-eqb, eqb-true, lt-ltb, le-ltb, ltb-true, ltb-false, le-leb, leb-true, cases_lt, cases_eq, false≢true}
+use Rattle.std.proofs.Common.{◌≡◌, ℕ, ◌+◌, ◌-◌, ◌<◌, ◌≤◌, ltb, List, ◌++◌, length, map, get_or, replicate, inl, inr, refl, ap, sym, subst, ◌∙◌, arith}
+use Rattle.std.proofs.lemmas.Bool.{le-ltb, ltb-false, cases_lt}
 use Rattle.std.proofs.lemmas.List.{length-map}
 use Rattle.tick_policy.specs.declared.parts.Policy.TheVariants.{Discard}
 use Rattle.tick_policy.specs.declared.parts.TickParts.{TickParts}
 use Rattle.lapic_timer.specs.declared.parts.ApicParts.{ApicParts}
-use Rattle.lapic_timer.specs.Parts.{lvt_bits, mode_of, divide_bits, divisor, IsApicTimer}
-use Rattle.lapic_timer.specs.Parts.{initial_valid, deadline_valid}
+use Rattle.lapic_timer.specs.Parts.{divisor, IsApicTimer}
 use Rattle.local_apics.specs.Parts.{IsPlaceOf}
 use Rattle.local_apics.specs.Places.{no_timer, no_line, timer_at, line_at}
 use Rattle.board_types.specs.declared.parts.BoardParts.{BoardParts}
@@ -14,16 +13,16 @@ use Rattle.board_core.specs.Apics.{apics_of, apics_in}
 use Rattle.board_core.specs.Conditions.{AreApics, IsBoard}
 use Rattle.board_core.specs.Time.{now_of}
 use Rattle.byte_table.specs.Codes.{pairs}
-use Rattle.byte_table.specs.Fold.{moved, read_below, write_below}
+use Rattle.byte_table.specs.Fold.{moved, read_below}
 use Rattle.byte_table.specs.Kinds.{plain, blocks}
-use Rattle.byte_table.proofs.FoldLaws.{◌⨾◌, AllHere, AllSpelled, AllHold, all_here-append, all_spelled-append, all_hold-split}
-use Rattle.byte_table.proofs.CodeLaws.{number-written, number-code, byte-written, byte-code}
-use Rattle.byte_table.proofs.KindLaws.{plain-here, plain-spelled, blocks-here, blocks-spelled, AreBlocks, hold-each}
+use Rattle.byte_table.proofs.FoldLaws.{◌⨾◌, AllHere, AllHold, all_here-append, all_hold-split}
+use Rattle.byte_table.proofs.CodeLaws.{number-written, byte-written}
+use Rattle.byte_table.proofs.KindLaws.{plain-here, blocks-here, hold-each}
 use Rattle.byte_table.proofs.Loops.{drop-blank, read_below-at, read_below-after, length-read_below}
 use Rattle.byte_table.proofs.Pairs.{pairs-at, length-pairs, pairs-halves}
 use Rattle.save_state.specs.Fields.{any, Apic, with_ticks, apic_timer, apic_line, apic, no_apic, apic_pairs, apics}
 use Rattle.save_state.specs.private.Fits.{ApicTimerFits, ApicsFit}
-use Rattle.save_state.proofs.Blocks.{ticks-spelled, ticks-here, TicksHold, ticks-hold}
+use Rattle.save_state.proofs.Blocks.{ticks-here, TicksHold, ticks-hold}
 use Rattle.save_state.proofs.Formats.{apics_few, processors_few}
 use Rattle.save_state.proofs.Sizes.{apic-size}
 
@@ -32,75 +31,30 @@ apic-covers : (k : ℕ) (a : Apic) → a.second.policy ≡ Discard → moved (ap
 unfolding apic_timer apic_line plain
 apic-covers k a is = λ i. record a { second = record a.second { policy = sym is i } }
 
-apic-spelled : (k : ℕ) → AllSpelled (apic k)
-unfolding apic_timer apic_line
-apic-spelled k =
-    all_spelled-append apic_timer apic_line
-    (plain-spelled _ _ _ _ _ (number-code 4) ⨾ plain-spelled _ _ _ _ _ byte-code ⨾ plain-spelled _ _ _ _ _ (number-code 4)
-    ⨾ plain-spelled _ _ _ _ _ (number-code 4) ⨾ plain-spelled _ _ _ _ _ byte-code ⨾ plain-spelled _ _ _ _ _ (number-code 8) ⨾ tt)
-    (ticks-spelled (λ (x : Apic). x.second) with_ticks any)
-
-pub apic-laws : AreBlocks apic no_apic
-unfolding apic_timer apic_line plain
-apic-laws = record {
-  keeps = λ k place bytes. refl;
-  spelled = apic-spelled;
-}
-
--- one condition under another
-unless : (a c : Bool) → (a ≡ true → c ≡ true) → (not a || c) ≡ true
-unless true c later = later refl
-unless false c later = refl
-
-when : (a c : Bool) → (not a || c) ≡ true → a ≡ true → c ≡ true
-when true c e is = e
-when false c e is = absurd (false≢true is)
-
 -- a timer
 timer-here : (b : BoardParts) (a : Apic) (bytes : List ℕ) → IsApicTimer a.first → ApicTimerFits a.first → AllHere apic_timer b a bytes
 unfolding apic_timer
 timer-here b a bytes is fits =
     let p : ApicParts = a.first in
-    let mode : ℕ = mode_of p.lvt in
-    let initial : initial_valid p ≡ true = unless (eqb mode 2) (eqb p.initial 0) (λ e. eq-eqb p.initial 0 (is.initial (eqb-true mode 2 e))) in
-    let reload = unless (eqb mode 1 && eqb p.current 0) (eqb p.initial 0) (λ e.
-    let both = and_parts (eqb mode 1) (eqb p.current 0) e in eq-eqb p.initial 0 (is.reload (eqb-true mode 1 both.0) (eqb-true p.current 0 both.1))) in
-    let stopped = unless (eqb p.current 0) (eqb p.phase 0) (λ e. eq-eqb p.phase 0 (is.stopped (eqb-true p.current 0 e))) in
-    let deadline : deadline_valid p ≡ true = elim (cases_eq mode 2) [
-      | inl e ↦ or_left (eqb mode 2) (eqb p.deadline 0) (eq-eqb mode 2 e)
-      | inr other ↦ or_right (eqb mode 2) (eqb p.deadline 0) (eq-eqb p.deadline 0 (is.deadline other))
-    ] in
-    plain-here _ _ _ _ _ b a bytes (number-written 4 p.lvt fits.lvt) (and_from _ _ (eq-eqb (lvt_bits p.lvt) p.lvt is.bits) (lt-ltb mode 3 is.mode))
-    ⨾ plain-here _ _ _ _ _ b a bytes (byte-written p.divide) (eq-eqb (divide_bits p.divide) p.divide is.divide)
-    ⨾ plain-here _ _ _ _ _ b a bytes (number-written 4 p.initial fits.initial) initial
-    ⨾ plain-here _ _ _ _ _ b a bytes (number-written 4 p.current fits.current) (and_from _ _ (le-leb p.current p.initial is.current) reload)
-    ⨾ plain-here _ _ _ _ _ b a bytes (byte-written p.phase) (and_from _ _ (lt-ltb p.phase (divisor p.divide) is.phase) stopped)
-    ⨾ plain-here _ _ _ _ _ b a bytes (number-written 8 p.deadline fits.deadline) deadline ⨾ tt
+    plain-here _ _ _ _ _ b a bytes (number-written 4 p.lvt fits.lvt) (grind arith) ⨾ plain-here _ _ _ _ _ b a bytes (byte-written p.divide) (grind arith)
+    ⨾ plain-here _ _ _ _ _ b a bytes (number-written 4 p.initial fits.initial) (grind arith)
+    ⨾ plain-here _ _ _ _ _ b a bytes (number-written 4 p.current fits.current) (grind arith)
+    ⨾ plain-here _ _ _ _ _ b a bytes (byte-written p.phase) (grind arith)
+    ⨾ plain-here _ _ _ _ _ b a bytes (number-written 8 p.deadline fits.deadline) (grind arith) ⨾ tt
 
 timer-valid : (b : BoardParts) (a : Apic) → AllHold apic_timer b a → IsApicTimer a.first
 unfolding apic_timer plain
-timer-valid b a h =
-    let p : ApicParts = a.first in
-    let mode : ℕ = mode_of p.lvt in
-    let lvt = and_parts (eqb (lvt_bits p.lvt) p.lvt) (ltb mode 3) h.0 in
-    let current = and_parts (leb p.current p.initial) (not (eqb mode 1 && eqb p.current 0) || eqb p.initial 0) h.1.1.1.0 in
-    let phase = and_parts (ltb p.phase (divisor p.divide)) (not (eqb p.current 0) || eqb p.phase 0) h.1.1.1.1.0 in
-    record {
-      bits = eqb-true (lvt_bits p.lvt) p.lvt lvt.0;
-      mode = ltb-true mode 3 lvt.1;
-      divide = eqb-true (divide_bits p.divide) p.divide h.1.0;
-      initial = λ e. eqb-true p.initial 0 (when (eqb mode 2) (eqb p.initial 0) h.1.1.0 (eq-eqb mode 2 e));
-      current = leb-true p.current p.initial current.0;
-      reload = λ e e'.
-          eqb-true p.initial 0
-          (when (eqb mode 1 && eqb p.current 0) (eqb p.initial 0) current.1 (and_from _ _ (eq-eqb mode 1 e) (eq-eqb p.current 0 e')));
-      phase = ltb-true p.phase (divisor p.divide) phase.0;
-      stopped = λ e. eqb-true p.phase 0 (when (eqb p.current 0) (eqb p.phase 0) phase.1 (eq-eqb p.current 0 e));
-      deadline = λ other. elim (or_cases (eqb mode 2) (eqb p.deadline 0) h.1.1.1.1.1.0) [
-        | inl e ↦ absurd (other (eqb-true mode 2 e))
-        | inr none ↦ eqb-true p.deadline 0 none
-      ];
-    }
+timer-valid b a h = record {
+  bits = grind arith;
+  mode = grind arith;
+  divide = grind arith;
+  initial = λ e. grind arith;
+  current = grind arith;
+  reload = λ e e'. grind arith;
+  phase = grind arith;
+  stopped = λ e. grind arith;
+  deadline = λ other. grind arith;
+}
 
 -- how many timers a board has
 abbrev count : BoardParts → ℕ
@@ -144,24 +98,10 @@ module _ (b : BoardParts) (is : IsBoard b) where
       blocks-here (count b) 64 apic no_apic _ _ b b bytes (λ k less. apic-covers k _ (place k (omega (arith, less, long))).policy) (omega (arith, few, long))
       (λ j low less. here bytes fits j (omega arith)) (drop-blank no_apic (count b) 64 (apic_pairs b) long few absent) ⨾ tt
 
-pub apics-spelled : (n : ℕ) → AllSpelled (apics n)
-unfolding apics
-apics-spelled n = blocks-spelled n 64 apic no_apic _ _ apic-laws ⨾ tt
-
 -- the place of a timer that isn't there
 none : IsApicTimer no_timer
 unfolding divisor
-none = record {
-  bits = refl;
-  mode = omega arith;
-  divide = refl;
-  initial = λ e. refl;
-  current = omega arith;
-  reload = λ e e'. refl;
-  phase = omega arith;
-  stopped = λ e. refl;
-  deadline = λ e. refl;
-}
+none = grind arith
 
 -- what holds of each board that is read: 64 places, those that aren't there are empty, and the policy is Discard
 pub record AreRead (n : ℕ) (b : BoardParts) : Type 0 where
@@ -172,11 +112,6 @@ pub record AreRead (n : ℕ) (b : BoardParts) : Type 0 where
 
 abbrev pub apics_read : ℕ → ℕ → List ℕ → List Apic
 apics_read n place bytes = read_below apic no_apic 0 n place bytes ++ replicate (64 - n) no_apic
-
-pub apics-kept : (n place : ℕ) (bytes : List ℕ)
-    → write_below apic no_apic (pairs (map (λ (a : Apic). a.first) (apics_read n place bytes)) (map (λ (a : Apic). a.second) (apics_read n place bytes))) 0 n
-    ≡ write_below apic no_apic (apics_read n place bytes) 0 n
-apics-kept n place bytes = ap (λ (xs : List Apic). write_below apic no_apic xs 0 n) (pairs-halves (apics_read n place bytes))
 
 pub apics-read : (n place : ℕ) (bytes : List ℕ) (b : BoardParts) → n ≤ 64 → b.apic ≡ map (λ (a : Apic). a.first) (apics_read n place bytes)
     → b.apic_ticks ≡ map (λ (a : Apic). a.second) (apics_read n place bytes) → AreRead n b

@@ -1,12 +1,13 @@
 -- Each list of fields: what is written of a valid board is read as it was, and has no fault.
-use Rattle.std.proofs.Common.{◌≡◌, ℕ, zero, suc, ◌+◌, ◌<◌, ◌≤◌, ⊎_elim, Bool, true, false, eqb, ltb, leb, ◌&&◌, ◌||◌, List, ◌++◌, drop, get_or, refl, ap, sym, subst, ◌∙◌, arith}
-use Rattle.std.proofs.lemmas.Bool.{lt-ltb, le-ltb, le-leb, eq-eqb, and_from, or_left, or_right, ne_eqb, cond-true, cond-false, cases_Bool, cases_lt, not_from_false}
+use Rattle.std.proofs.Common.{◌∷◌, [], ◌≡◌, ℕ, zero, suc, ◌+◌, ◌<◌, ◌≤◌, Bool, true, false, eqb, ltb, leb, ◌&&◌, ◌||◌, List, ◌++◌, drop, get_or, refl, ap, sym, subst, ◌∙◌, arith}
+use Rattle.std.proofs.lemmas.Bool.{lt-ltb, le-ltb, le-leb, and_from, or_right, ne_eqb, cond-true, cond-false}
 use Rattle.std.proofs.lemmas.List.{drop_all, get_or-drop}
 use Rattle.clk_units.specs.Ranges.{IsKhz}
 use Rattle.clk_units.specs.declared.ranges.TheConstants.{RANGE_NS}
 use Rattle.host_counter.specs.Time.{time_at}
+use Rattle.host_counter.specs.declared.Anchor.{Anchor}
 use Rattle.rtc_registers.specs.declared.parts.RtcParts.{RtcParts}
-use Rattle.rtc_registers.specs.Registers.{register_a, register_c, register_d, flags_byte, pf_of, af_of, uf_of, set_of, divider_of}
+use Rattle.rtc_registers.specs.Registers.{pf_of}
 use Rattle.rtc_registers.specs.Parts.{IsRtc, bytes_valid, divider_valid, cycle_valid}
 use Rattle.hpet_comparator.specs.Parts.{IsTimer}
 use Rattle.hpet_registers.specs.Parts.{no_timer, timer_at, IsPlace}
@@ -28,16 +29,21 @@ use Rattle.board_core.specs.Tsc.{no_processor, processor_at}
 use Rattle.byte_table.specs.Codes.{byte_at, number, byte}
 use Rattle.byte_table.specs.Fold.{write}
 use Rattle.byte_table.specs.Kinds.{plain}
-use Rattle.byte_table.proofs.FoldLaws.{◌⨾◌, AllHere, all_here-append, next-write}
+use Rattle.byte_table.proofs.FoldLaws.{◌⨾◌, AllHere, next-write}
 use Rattle.byte_table.proofs.CodeLaws.{number-written, word-written, byte-written, flag-written, all-written}
 use Rattle.byte_table.proofs.KindLaws.{plain-here, row-here, blocks-here}
 use Rattle.byte_table.proofs.Loops.{drop-blank}
 use Rattle.save_state.specs.Rises.{rise_valid, routed_rises_valid}
-use Rattle.save_state.specs.Fields.{magic, khz_valid, policy_place, head, host, guest, policies, front, counter, no_counter, counters, clock, registers, timer, timers, same}
+use Rattle.save_state.specs.Fields.{magic, khz_valid, policy_place, head, host, guest, policies, counter, no_counter, counters, clock, registers, timer, timers, same}
 use Rattle.save_state.specs.Fields.{up_allowed, line, lines, counts_of, rises, wall, processor, processors, apics, references, references_of, messages, messages_of, devices, back, fields_of}
 use Rattle.save_state.specs.private.Fits.{BoardFits}
-use Rattle.save_state.proofs.Blocks.{policy-written, counter-covers, counter-here, timer-covers, timer-here, line-covers, line-here}
-use Rattle.save_state.proofs.Processors.{processor-covers, processor-here}
+use Rattle.pit_readback.specs.Parts.{IsPit}
+use Rattle.byte_table.specs.Kinds.{plain, elsewhere}
+use Rattle.byte_table.proofs.FoldLaws.{here-joined}
+use Rattle.save_state.specs.Fields.{tsc, page}
+use Rattle.save_state.proofs.AllFields.{lists}
+use Rattle.save_state.proofs.Blocks.{writes, policy-written, counter-here, timer-here, line-here}
+use Rattle.save_state.proofs.Processors.{processor-here}
 use Rattle.save_state.proofs.ApicLaws.{apics-here}
 use Rattle.save_state.proofs.MessageLaws.{messages-here}
 use Rattle.save_state.proofs.ReferenceLaws.{references-here}
@@ -45,79 +51,58 @@ use Rattle.save_state.proofs.Versions.{version-is}
 use Rattle.save_state.proofs.Formats.{timers_few, timers_least, processors_few, counts_few}
 
 -- the head
-khz_valid-is : (khz : ℕ) → IsKhz khz → khz_valid khz ≡ true
-khz_valid-is khz is = and_from _ _ (le-leb _ khz is.slow) (le-leb khz _ is.fast)
-
-base_is : (b : BoardParts) → IsBoard b → b.anchor.base_ns < RANGE_NS
+base_is : (a : Anchor) (host : ℕ) → time_at a host < RANGE_NS → a.base_ns < RANGE_NS
 unfolding time_at
-base_is b is = let range = is.joined.time.range in omega (arith, range)
+base_is a host range = omega (arith, range)
 
 start-here : (b : BoardParts) (bytes : List ℕ) → IsBoard b → BoardFits b → AllHere (head ++ host ++ guest) b b bytes
 unfolding head host guest
 start-here b bytes is fits =
     let joined = is.joined in
     let few : b.cpus ≤ 64 = omega (arith, joined.format.most_cpus, processors_few b.format) in
-    let slew = is.devices.joined in
+    let time = joined.time in
     plain-here _ _ _ _ _ b b bytes (word-written 8 magic (omega arith)) refl
     ⨾ plain-here _ _ _ _ _ b b bytes (number-written 2 b.format (omega (arith, joined.format.last)))
-    (and_from _ _ (le-leb 1 b.format joined.format.least) (le-leb b.format LAST_FORMAT joined.format.last))
+    (within 1 b.format LAST_FORMAT joined.format.least joined.format.last)
     ⨾ plain-here _ _ _ _ _ b b bytes (number-written 2 b.cpus (omega (arith, few)))
-    (and_from _ _ (le-leb 1 b.cpus joined.format.least_cpus) (le-leb b.cpus (processors_of b.format) joined.format.most_cpus))
+    (within 1 b.cpus (processors_of b.format) joined.format.least_cpus joined.format.most_cpus)
     ⨾ plain-here _ _ _ _ _ b b bytes (number-written 8 b.anchor.khz fits.khz) (khz_valid-is b.anchor.khz joined.rates.host)
     ⨾ plain-here _ _ _ _ _ b b bytes (number-written 8 b.anchor.start fits.start) refl
-    ⨾ plain-here _ _ _ _ _ b b bytes (number-written 8 b.anchor.base_ns fits.base_ns) (lt-ltb b.anchor.base_ns RANGE_NS (base_is b is))
-    ⨾ plain-here _ _ _ _ _ b b bytes (number-written 8 b.host fits.host)
-    (and_from _ _ (le-leb b.anchor.start b.host joined.time.started) (lt-ltb (now_of b) RANGE_NS joined.time.range))
+    ⨾ plain-here _ _ _ _ _ b b bytes (number-written 8 b.anchor.base_ns fits.base_ns) (lt-ltb b.anchor.base_ns RANGE_NS (base_is b.anchor b.host time.range))
+    ⨾ plain-here _ _ _ _ _ b b bytes (number-written 8 b.host fits.host) (and_from _ _ (le-leb b.anchor.start b.host time.started) (lt-ltb (now_of b) RANGE_NS time.range))
     ⨾ plain-here _ _ _ _ _ b b bytes (number-written 8 b.guest_khz fits.guest_khz) (khz_valid-is b.guest_khz joined.rates.guest)
     ⨾ plain-here _ _ _ _ _ b b bytes (number-written 8 b.accesses fits.accesses) (le-leb b.accesses MOST_ACCESSES joined.accesses)
     ⨾ plain-here _ _ _ _ _ b b bytes (number-written 8 b.greatest fits.greatest) refl
     ⨾ plain-here _ _ _ _ _ b b bytes (number-written 8 b.slew_ns fits.slew_ns)
-    (and_from _ _ (le-leb 1 b.slew_ns slew.slew_low) (le-leb b.slew_ns SLEW_MAX_NS slew.slew_high)) ⨾ tt
+    (within 1 b.slew_ns SLEW_MAX_NS is.devices.joined.slew_low is.devices.joined.slew_high) ⨾ tt
+  where
+    within : (low n high : ℕ) → low ≤ n → n ≤ high → (leb low n && leb n high) ≡ true
+    within low n high e e' = grind arith
+
+    khz_valid-is : (khz : ℕ) → IsKhz khz → khz_valid khz ≡ true
+    khz_valid-is khz is = grind arith
 
 policies-here : (b : BoardParts) (bytes : List ℕ) → AllHere policies b b bytes
 unfolding policies
-policies-here b bytes =
-    plain-here _ _ _ _ _ b b bytes (policy-written _) refl ⨾ plain-here _ _ _ _ _ b b bytes (policy-written _) refl
-    ⨾ plain-here _ _ _ _ _ b b bytes (policy-written _) refl ⨾ tt
+policies-here b bytes = search (writes, policy-written)
 
 -- the 8254
-high : (gate : Bool) → gate ≡ true → (gate || false) ≡ true
-high true e = refl
-high false e = e
-
 counters-here : (b : BoardParts) (bytes : List ℕ) → IsBoard b → BoardFits b → AllHere counters b b bytes
-unfolding counters
+unfolding counters counter plain
 counters-here b bytes is fits =
     let p = is.devices.pit in
-    blocks-here 3 3 counter no_counter _ _ b b bytes (λ k less. counter-covers k _ no_counter) (omega (arith, p.three)) each
-    (drop_all 3 b.pit.counters (omega (arith, p.three))) ⨾ tt
+    blocks-here 3 3 counter no_counter _ _ b b bytes (λ k less. refl) (omega (arith, p.three)) (each p) (drop_all 3 b.pit.counters (omega (arith, p.three))) ⨾ tt
   where
-    each : (j : ℕ) → 0 ≤ j → j < 0 + 3 → AllHere (counter j) b (get_or b.pit.counters j no_counter) bytes
-    each zero low less = counter-here b 0 _ bytes is.devices.pit.first (high _ is.devices.pit.gate_of_first) (fits.blocks.counters 0 (omega arith))
-    each (suc zero) low less = counter-here b 1 _ bytes is.devices.pit.second (high _ is.devices.pit.gate_of_second) (fits.blocks.counters 1 (omega arith))
-    each (suc (suc zero)) low less = counter-here b 2 _ bytes is.devices.pit.third (or_right _ true refl) (fits.blocks.counters 2 (omega arith))
-    each (suc (suc (suc j))) low less = absurd (omega arith)
+    high : (gate second : Bool) → gate ≡ true → (gate || second) ≡ true
+    high gate second e = grind arith
+
+    each : IsPit b.pit → (j : ℕ) → 0 ≤ j → j < 0 + 3 → AllHere (counter j) b (get_or b.pit.counters j no_counter) bytes
+    each p zero low less = counter-here b 0 _ bytes p.first (high _ _ p.gate_of_first) (fits.blocks.counters 0 (omega arith))
+    each p (suc zero) low less = counter-here b 1 _ bytes p.second (high _ _ p.gate_of_second) (fits.blocks.counters 1 (omega arith))
+    each p (suc (suc zero)) low less = counter-here b 2 _ bytes p.third (or_right _ true refl) (fits.blocks.counters 2 (omega arith))
+    each p (suc (suc (suc j))) low less = absurd (omega arith)
 
 -- the MC146818
-bytes_valid-is : (r : RtcParts) → IsRtc r → bytes_valid r ≡ true
-bytes_valid-is r is =
-    and_from _ _ (le-leb (register_a r) 0x7f is.register_a)
-    (and_from _ _ (eq-eqb (register_c r) (flags_byte (pf_of r) (af_of r) (uf_of r)) is.register_c) (eq-eqb (register_d r) 0x80 is.register_d))
-
-divider_valid-is : (r : RtcParts) → IsRtc r → divider_valid r ≡ true
-divider_valid-is r is =
-    and_from _ _ (lt-ltb r.d 32768 is.divider.below)
-    (⊎_elim (λ (h : (divider_of r).dv ≡ 2). or_left _ _ (eq-eqb (divider_of r).dv 2 h))
-    (λ (h : r.d ≡ 16384). or_right _ _ (eq-eqb r.d 16384 h)) is.divider.held)
-
-cycle_valid-is : (r : RtcParts) → IsRtc r → cycle_valid r ≡ true
-cycle_valid-is r is =
-    let on : r.cycle ≡ true → cycle_valid r ≡ true = λ (h : r.cycle ≡ true).
-    let f = is.divider.in_cycle h in
-    or_right _ _ (and_from _ _ (eq-eqb (divider_of r).dv 2 f.0) (and_from _ _ (not_from_false (set_of r) f.1) (le-leb r.d 64 f.2))) in
-    let off : r.cycle ≡ false → cycle_valid r ≡ true = λ (h : r.cycle ≡ false). or_left _ _ (not_from_false r.cycle h) in
-    ⊎_elim on off (cases_Bool r.cycle)
-
 clock-here : (b : BoardParts) (bytes : List ℕ) → IsBoard b → BoardFits b → AllHere clock b b bytes
 unfolding clock
 clock-here b bytes is fits =
@@ -128,15 +113,26 @@ clock-here b bytes is fits =
     (drop_all 128 b.rtc.bytes (omega (arith, r.places))) (bytes_valid-is b.rtc r)
     ⨾ plain-here _ _ _ _ _ b b bytes (number-written 2 b.rtc.d fits.divider) (divider_valid-is b.rtc r)
     ⨾ plain-here _ _ _ _ _ b b bytes (flag-written b.rtc.cycle) (cycle_valid-is b.rtc r) ⨾ tt
+  where
+    bytes_valid-is : (r : RtcParts) → IsRtc r → bytes_valid r ≡ true
+    bytes_valid-is r is = grind arith
+
+    divider_valid-is : (r : RtcParts) → IsRtc r → divider_valid r ≡ true
+    divider_valid-is r is = grind arith
+
+    cycle_valid-is : (r : RtcParts) → IsRtc r → cycle_valid r ≡ true
+    cycle_valid-is r is = grind arith
 
 -- the HPET
 status_valid-is : (b : BoardParts) → IsBoard b → (leb 2 b.format || leb b.hpet.status 7) ≡ true
-status_valid-is b is =
-    ⊎_elim (λ (first : b.format < 2).
-    let low : leb b.format 1 ≡ true = le-leb b.format 1 (omega arith) in
-    let three : timers_of b.format ≡ 3 = cond-true (leb b.format 1) 3 8 low in
-    or_right _ _ (le-leb b.hpet.status 7 (is.devices.hpet.status (is.joined.format.has_timers ∙ three))))
-    (λ (later : 2 ≤ b.format). or_left _ _ (le-leb 2 b.format later)) (cases_lt b.format 2)
+status_valid-is b is = grind arith
+
+registers-here : (b : BoardParts) (bytes : List ℕ) → IsBoard b → BoardFits b → AllHere registers b b bytes
+unfolding registers
+registers-here b bytes is fits =
+    plain-here _ _ _ _ _ b b bytes (byte-written b.hpet.config) (le-leb b.hpet.config 3 is.devices.hpet.config)
+    ⨾ plain-here _ _ _ _ _ b b bytes (byte-written b.hpet.status) (status_valid-is b is)
+    ⨾ plain-here _ _ _ _ _ b b bytes (number-written 8 b.hpet.counter fits.counter) refl ⨾ tt
 
 timer-there : (b : BoardParts) → IsBoard b → (j : ℕ) → j < timers_of b.format → IsTimer (timer_at j b.hpet)
 timer-there b is j less =
@@ -148,21 +144,12 @@ timer-absent b is j le less =
     let among : ltb j b.hpet.timers ≡ false = le-ltb j b.hpet.timers (omega (arith, is.joined.format.has_timers)) in
     subst (λ (t : Bool). IsPlace t (timer_at j b.hpet)) among (is.devices.hpet.places j less)
 
-registers-here : (b : BoardParts) (bytes : List ℕ) → IsBoard b → BoardFits b → AllHere registers b b bytes
-unfolding registers
-registers-here b bytes is fits =
-    plain-here _ _ _ _ _ b b bytes (byte-written b.hpet.config) (le-leb b.hpet.config 3 is.devices.hpet.config)
-    ⨾ plain-here _ _ _ _ _ b b bytes (byte-written b.hpet.status) (status_valid-is b is)
-    ⨾ plain-here _ _ _ _ _ b b bytes (number-written 8 b.hpet.counter fits.counter) refl ⨾ tt
-
 timers-here : (b : BoardParts) (bytes : List ℕ) → IsBoard b → BoardFits b → AllHere (timers (timers_of b.format)) b b bytes
-unfolding timers
+unfolding timers timer plain
 timers-here b bytes is fits =
     let n : ℕ = timers_of b.format in
-    blocks-here n 8 timer no_timer _ _ b b bytes (λ k less. timer-covers k _ no_timer)
-    (omega (arith, timers_few b.format, fits.timer_places))
-    (λ j low less. timer-here b j (timer_at j b.hpet) bytes (timer-there b is j (omega arith))
-    (fits.blocks.timers j (omega (arith, is.joined.format.has_timers))))
+    blocks-here n 8 timer no_timer _ _ b b bytes (λ k less. refl) (omega (arith, timers_few b.format, fits.timer_places))
+    (λ j low less. timer-here b j (timer_at j b.hpet) bytes (timer-there b is j (omega arith)) (fits.blocks.timers j (omega (arith, is.joined.format.has_timers))))
     (drop-blank no_timer n 8 b.hpet.timer fits.timer_places (timers_few b.format) (timer-absent b is)) ⨾ tt
 
 -- the tick lines
@@ -190,11 +177,11 @@ abbrev ArePolicies : BoardParts → List ℕ → Type 0
 ArePolicies b bytes = (k : ℕ) → k < timers_of b.format + 2 → policy_of (byte_at (policy_place k) bytes) ≡ (line_at k (devices_in b)).policy
 
 lines-here : (b : BoardParts) (bytes : List ℕ) → IsBoard b → BoardFits b → ArePolicies b bytes → AllHere (lines (timers_of b.format)) b b bytes
-unfolding lines
+unfolding lines line plain elsewhere
 lines-here b bytes is fits policies_are =
     let n : ℕ = timers_of b.format + 2 in
     let ten = is.devices.joined.places in
-    blocks-here n 10 line no_line _ _ b b bytes (λ k less. line-covers k _ no_line) (omega (arith, timers_few b.format, ten))
+    blocks-here n 10 line no_line _ _ b b bytes (λ k less. refl) (omega (arith, timers_few b.format, ten))
     (λ j low less. line-here b j (line_at j (devices_in b)) bytes (is.devices.lines j (omega (arith, timers_few b.format))) (up_allowed-is b is j)
     (is.joined.due j (omega (arith, timers_few b.format))) (fits.blocks.lines j (omega arith)) (policies_are j (omega arith)))
     (drop-blank no_line n 10 b.ticks ten (omega (arith, timers_few b.format)) (line-absent b is)) ⨾ tt
@@ -244,11 +231,6 @@ routed_valid-is b is =
     let ok : (k : ℕ) → k < 6 → rise_valid b k ≡ true = rise_valid-is b is in
     and_from _ _ (and_from _ _ (and_from _ _ (ok 2 (omega arith)) (ok 3 (omega arith))) (ok 4 (omega arith))) (ok 5 (omega arith))
 
-rise-absent : (b : BoardParts) → IsBoard b → (j : ℕ) → counts_of b.format ≤ j → j < 6 → get_or b.rises j 0 ≡ 0
-rise-absent b is j le less =
-    ⊎_elim (λ (first : b.format < 2). is.joined.rises.none (omega arith) j)
-    (λ (later : 2 ≤ b.format). let six = cond-true {A = ℕ} (leb 2 b.format) 6 0 (le-leb 2 b.format later) in absurd (omega (arith, le, six))) (cases_lt b.format 2)
-
 rises-here : (b : BoardParts) (bytes : List ℕ) → IsBoard b → BoardFits b → AllHere (rises (counts_of b.format)) b b bytes
 unfolding rises
 rises-here b bytes is fits =
@@ -256,8 +238,11 @@ rises-here b bytes is fits =
     let ok : (k : ℕ) → k < 6 → rise_valid b k ≡ true = rise_valid-is b is in
     row-here _ n 6 (number 8) 0 _ _ _ b b bytes
     (all-written (number 8) 0 n b.rises (omega (arith, counts_few b.format, fits.rise_places)) (λ k less. number-written 8 _ (fits.rises k)))
-    (drop-blank 0 n 6 b.rises fits.rise_places (counts_few b.format) (rise-absent b is))
+    (drop-blank 0 n 6 b.rises fits.rise_places (counts_few b.format) (λ j le less. is.joined.rises.none (first b.format j le less) j))
     (and_from _ _ (and_from _ _ (ok 0 (omega arith)) (ok 1 (omega arith))) (or_right (has_messages b.format) (routed_rises_valid b) (routed_valid-is b is))) ⨾ tt
+  where
+    first : (format j : ℕ) → counts_of format ≤ j → j < 6 → format ≤ 1
+    first format j le less = grind arith
 
 -- the wall clock
 wall-here : (b : BoardParts) (bytes : List ℕ) → IsBoard b → BoardFits b → AllHere wall b b bytes
@@ -265,38 +250,29 @@ unfolding wall
 wall-here b bytes is fits =
     let w = is.joined.wall in
     plain-here _ _ _ _ _ b b bytes (number-written 8 b.wall_number fits.wall_number) refl
-    ⨾ plain-here _ _ _ _ _ b b bytes (number-written 4 b.wall_version fits.wall_version)
-    (version-is b.wall_version _ w.words.even (λ none. eq-eqb b.wall_number 0 (w.unpublished none)))
+    ⨾ plain-here _ _ _ _ _ b b bytes (number-written 4 b.wall_version fits.wall_version) (version-is b.wall_version b.wall_number w.words.even w.unpublished)
     ⨾ plain-here _ _ _ _ _ b b bytes (number-written 4 b.wall_sec fits.wall_sec) refl
     ⨾ plain-here _ _ _ _ _ b b bytes (number-written 4 b.wall_nsec fits.wall_nsec) (lt-ltb b.wall_nsec 1000000000 w.below_second) ⨾ tt
 
 -- the processors
 processors-here : (b : BoardParts) (bytes : List ℕ) → IsBoard b → BoardFits b → AllHere (processors b.cpus) b b bytes
-unfolding processors
+unfolding processors tsc page plain
 processors-here b bytes is fits =
     let few : b.cpus ≤ 64 = omega (arith, is.joined.format.most_cpus, processors_few b.format) in
-    blocks-here b.cpus 64 processor no_processor _ _ b b bytes (λ k less. processor-covers k _ no_processor)
-    (omega (arith, few, fits.processor_places))
+    blocks-here b.cpus 64 processor no_processor _ _ b b bytes (λ k less. refl) (omega (arith, few, fits.processor_places))
     (λ j low less. processor-here b j (processor_at b j) bytes (is.joined.processors.each j) (fits.blocks.processors j (omega arith)))
     (drop-blank no_processor b.cpus 64 b.processors fits.processor_places few (λ j le less. is.joined.processors.absent j le)) ⨾ tt
 
 -- all of them
 pub fields-here : (b : BoardParts) (bytes : List ℕ) → IsBoard b → BoardFits b → (rest : List ℕ) → drop 0 bytes ≡ write (fields_of b.format b.cpus) b ++ rest
     → AllHere (fields_of b.format b.cpus) b b bytes
+unfolding lists
 fields-here b bytes is fits rest e =
-    let n : ℕ = timers_of b.format in
-    let counts : ℕ = counts_of b.format in
-    let first = all_here-append (head ++ host ++ guest) policies b b bytes (start-here b bytes is fits) (policies-here b bytes) in
-    let two = all_here-append counters clock b b bytes (counters-here b bytes is fits) (clock-here b bytes is fits) in
-    let three = all_here-append (counters ++ clock) registers b b bytes two (registers-here b bytes is fits) in
-    let four = all_here-append (counters ++ clock ++ registers) (timers n) b b bytes three (timers-here b bytes is fits) in
-    let five = all_here-append (counters ++ clock ++ registers ++ timers n) (lines n) b b bytes four
-    (lines-here b bytes is fits (are-policies b bytes is fits rest e)) in
-    let later = all_here-append (rises counts) wall b b bytes (rises-here b bytes is fits) (wall-here b bytes is fits) in
-    let some = all_here-append (rises counts ++ wall) (processors b.cpus) b b bytes later (processors-here b bytes is fits) in
-    let more = all_here-append (rises counts ++ wall ++ processors b.cpus) (apics (apics_of b.format b.cpus)) b b bytes some (apics-here b is bytes fits.blocks.apics) in
-    let most = all_here-append (rises counts ++ wall ++ processors b.cpus ++ apics (apics_of b.format b.cpus)) (references (references_of b.format)) b b bytes more
-    (references-here b bytes is fits.reference) in
-    let last = all_here-append (rises counts ++ wall ++ processors b.cpus ++ apics (apics_of b.format b.cpus) ++ references (references_of b.format))
-    (messages (messages_of b.format)) b b bytes most (messages-here b is fits (routed_valid-is b is) bytes) in
-    all_here-append (front ++ devices b.format) (back b.format b.cpus) b b bytes (all_here-append front (devices b.format) b b bytes first five) last
+    let f : ℕ = b.format in
+    let n : ℕ = timers_of f in
+    here-joined ((head ++ host ++ guest) ∷ policies ∷ counters ∷ clock ∷ registers ∷ timers n ∷ lines n ∷ rises (counts_of f) ∷ wall ∷ processors b.cpus
+    ∷ apics (apics_of f b.cpus) ∷ references (references_of f) ∷ messages (messages_of f) ∷ []) b b bytes
+    (start-here b bytes is fits ⨾ policies-here b bytes ⨾ counters-here b bytes is fits ⨾ clock-here b bytes is fits ⨾ registers-here b bytes is fits
+    ⨾ timers-here b bytes is fits ⨾ lines-here b bytes is fits (are-policies b bytes is fits rest e) ⨾ rises-here b bytes is fits ⨾ wall-here b bytes is fits
+    ⨾ processors-here b bytes is fits ⨾ apics-here b is bytes fits.blocks.apics ⨾ references-here b bytes is fits.reference
+    ⨾ messages-here b is fits (routed_valid-is b is) bytes ⨾ tt)

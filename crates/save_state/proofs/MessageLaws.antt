@@ -1,38 +1,21 @@
 -- The messages of the HPET's timers: their fields cover them, what is read is written as its bytes are, and those of a valid board are written and read as they were.
-use Rattle.std.proofs.Common.{◌≡◌, ℕ, ◌-◌, ◌^◌, ◌<◌, ◌≤◌, true, false, not, eqb, List, ◌++◌, length, map, get_or, replicate, inl, inr, refl, ap, sym, ◌∙◌, arith}
-use Rattle.std.proofs.lemmas.Bool.{or_right, cases_lt, cond-true, lt-leb, le-leb}
+use Rattle.std.proofs.Common.{◌≡◌, ℕ, ◌-◌, ◌^◌, ◌<◌, ◌≤◌, true, false, not, eqb, List, ◌++◌, length, get_or, replicate, refl, ap, sym, ◌∙◌, arith}
+use Rattle.std.proofs.lemmas.Bool.{or_right, lt-leb}
 use Rattle.hpet_registers.specs.Parts.{message_bit_at, message_word_at}
 use Rattle.board_types.specs.declared.parts.BoardParts.{BoardParts}
 use Rattle.board_types.specs.declared.setup.TheConstants.{MESSAGE_FORMAT}
-use Rattle.board_types.specs.Setup.{has_messages}
 use Rattle.board_core.specs.Conditions.{IsBoard}
-use Rattle.byte_table.specs.Codes.{pairs}
-use Rattle.byte_table.specs.Fold.{moved, read_below, write_below}
+use Rattle.byte_table.specs.Fold.{read_below}
 use Rattle.byte_table.specs.Kinds.{plain}
-use Rattle.byte_table.proofs.FoldLaws.{◌⨾◌, AllHere, AllSpelled}
-use Rattle.byte_table.proofs.CodeLaws.{number-written, number-code, flag-written, flag-code}
-use Rattle.byte_table.proofs.KindLaws.{plain-here, plain-spelled, blocks-here, blocks-spelled, AreBlocks}
+use Rattle.byte_table.proofs.FoldLaws.{◌⨾◌, AllHere}
+use Rattle.byte_table.proofs.CodeLaws.{number-written, flag-written}
+use Rattle.byte_table.proofs.KindLaws.{plain-here, blocks-here}
 use Rattle.byte_table.proofs.Loops.{drop-blank}
-use Rattle.byte_table.proofs.Pairs.{pairs-at, length-pairs, pairs-halves}
+use Rattle.byte_table.proofs.Pairs.{pairs-at, length-pairs}
 use Rattle.save_state.specs.Rises.{routed_rises_valid}
 use Rattle.save_state.specs.Fields.{Message, message, messages_of, no_message, message_pairs, messages}
 use Rattle.save_state.specs.private.Fits.{BoardFits}
 use Rattle.save_state.proofs.Formats.{messages_few}
-
-message-covers : (k : ℕ) (m q : Message) → moved (message k) m q ≡ m
-unfolding message plain
-message-covers k m q = refl
-
-message-spelled : (k : ℕ) → AllSpelled (message k)
-unfolding message
-message-spelled k = plain-spelled _ _ _ _ _ flag-code ⨾ plain-spelled _ _ _ _ _ (number-code 8) ⨾ tt
-
-message-laws : AreBlocks message no_message
-unfolding message plain
-message-laws = record {
-  keeps = λ k place bytes. refl;
-  spelled = message-spelled;
-}
 
 message-here : (b : BoardParts) (k : ℕ) (m : Message) (bytes : List ℕ) → m.second < 256 ^ 8 → routed_rises_valid b ≡ true → AllHere (message k) b m bytes
 unfolding message
@@ -57,30 +40,17 @@ module _ (b : BoardParts) (is : IsBoard b) (fits : BoardFits b) (valid : routed_
       message-here b k (get_or (message_pairs b) k no_message) bytes (omega (arith, word, fits.words k)) valid
 
   absent : (k : ℕ) → messages_of b.format ≤ k → k < 8 → get_or (message_pairs b) k no_message ≡ no_message
-  absent k le less = elim (cases_lt b.format MESSAGE_FORMAT) [
-    | inl before ↦
-        let none = is.devices.hpet.plain (is.joined.messages ∙ lt-leb MESSAGE_FORMAT b.format before) k less in
-        at k ∙ (λ i. record { first = none.0 i; second = none.1 i })
-    | inr there ↦
-        let all = cond-true {A = ℕ} (has_messages b.format) 8 0 (le-leb MESSAGE_FORMAT b.format there) in
-        absurd (omega (arith, all, le, less))
-  ]
+  absent k le less =
+      let before : b.format < MESSAGE_FORMAT = grind arith in
+      let none = is.devices.hpet.plain (is.joined.messages ∙ lt-leb MESSAGE_FORMAT b.format before) k less in
+      at k ∙ (λ i. record { first = none.0 i; second = none.1 i })
 
   pub messages-here : (bytes : List ℕ) → AllHere (messages (messages_of b.format)) b b bytes
-  unfolding messages
+  unfolding messages message plain
   messages-here bytes =
       let few = messages_few b.format in
-      blocks-here (messages_of b.format) 8 message no_message _ _ b b bytes (λ k less. message-covers k _ no_message) (omega (arith, few, long))
+      blocks-here (messages_of b.format) 8 message no_message _ _ b b bytes (λ k less. refl) (omega (arith, few, long))
       (λ j low less. here bytes j) (drop-blank no_message (messages_of b.format) 8 (message_pairs b) long few absent) ⨾ tt
-
-pub messages-spelled : (n : ℕ) → AllSpelled (messages n)
-unfolding messages
-messages-spelled n = blocks-spelled n 8 message no_message _ _ message-laws ⨾ tt
 
 abbrev pub messages_read : ℕ → ℕ → List ℕ → List Message
 messages_read n place bytes = read_below message no_message 0 n place bytes ++ replicate (8 - n) no_message
-
-pub messages-kept : (n place : ℕ) (bytes : List ℕ)
-    → write_below message no_message (pairs (map (λ (m : Message). m.first) (messages_read n place bytes)) (map (λ (m : Message). m.second) (messages_read n place bytes))) 0 n
-    ≡ write_below message no_message (messages_read n place bytes) 0 n
-messages-kept n place bytes = ap (λ (ms : List Message). write_below message no_message ms 0 n) (pairs-halves (messages_read n place bytes))

@@ -1,6 +1,6 @@
 -- The processors: their fields cover them, what is read is written as its bytes are, and a valid one is written and read as it was.
-use Rattle.std.proofs.Common.{◌≡◌, ℕ, ℤ, pos, negsuc, ◌+◌, ◌*◌, ◌%◌, ◌<◌, Bool, true, false, cond, ◌&&◌, ◌||◌, eqb, ltb, List, get_or, inl, inr, refl, ap, sym, ◌∙◌, arith}
-use Rattle.std.proofs.lemmas.Bool.{and_parts, eqb-true, ltb-true, lt-ltb, eq-eqb, cases_eq}
+use Rattle.std.proofs.Common.{◌≡◌, ℕ, ℤ, pos, negsuc, ◌+◌, ◌*◌, ◌%◌, ◌<◌, Bool, true, false, cond, ◌&&◌, eqb, ltb, List, get_or, refl, ap, sym, ◌∙◌, arith}
+use Rattle.std.proofs.lemmas.Bool.{lt-ltb, eq-eqb}
 use Rattle.std.proofs.lemmas.Int.{of_z-to_z}
 use Rattle.std.specs.Int.{w8, cast_signed, cast_unsigned}
 use Rattle.clk_units.specs.declared.ranges.TheConstants.{RANGE_NS}
@@ -10,34 +10,19 @@ use Rattle.board_types.specs.declared.parts.ProcessorParts.{ProcessorParts}
 use Rattle.board_core.specs.Conditions.{IsProcessor, flags_valid as page_flags_valid}
 use Rattle.board_core.specs.Tsc.{no_processor}
 use Rattle.byte_table.specs.Codes.{number}
-use Rattle.byte_table.specs.Fold.{read, moved}
+use Rattle.byte_table.specs.Fold.{read}
 use Rattle.byte_table.specs.Kinds.{plain}
-use Rattle.byte_table.proofs.FoldLaws.{◌⨾◌, AreBytes, AllHere, AllSpelled, AllHold}
-use Rattle.byte_table.proofs.CodeLaws.{number-written, number-code, byte-written, byte-code, signed_byte-written, signed_byte-code}
-use Rattle.byte_table.proofs.KindLaws.{plain-here, plain-spelled, AreBlocks}
+use Rattle.byte_table.proofs.FoldLaws.{◌⨾◌, AreBytes, AllHere, AllHold}
+use Rattle.byte_table.proofs.CodeLaws.{number-written, byte-written, signed_byte-written}
+use Rattle.byte_table.proofs.KindLaws.{plain-here}
 use Rattle.byte_table.proofs.Little.{number-below}
-use Rattle.save_state.specs.Fields.{published_valid, tsc, page, processor}
+use Rattle.save_state.specs.Fields.{version_valid, tsc, page, processor}
 use Rattle.save_state.specs.private.Fits.{ProcessorFits}
-use Rattle.save_state.proofs.Versions.{version-is, published-is, version-valid, at_first, page-none, page-some}
+use Rattle.save_state.proofs.Versions.{published-is}
 
--- a processor
-pub processor-covers : (k : ℕ) (t q : ProcessorParts) → moved (processor k) t q ≡ t
-unfolding tsc page plain
-processor-covers k t q = refl
-
-processor-spelled : (k : ℕ) → AllSpelled (processor k)
-unfolding tsc page
-processor-spelled k =
-    plain-spelled _ _ _ _ _ (number-code 8) ⨾ plain-spelled _ _ _ _ _ (number-code 8) ⨾ plain-spelled _ _ _ _ _ (number-code 8)
-    ⨾ plain-spelled _ _ _ _ _ (number-code 4) ⨾ plain-spelled _ _ _ _ _ (number-code 8) ⨾ plain-spelled _ _ _ _ _ (number-code 8)
-    ⨾ plain-spelled _ _ _ _ _ (number-code 4) ⨾ plain-spelled _ _ _ _ _ signed_byte-code ⨾ plain-spelled _ _ _ _ _ byte-code ⨾ tt
-
-pub processor-laws : AreBlocks processor no_processor
-unfolding tsc page plain
-processor-laws = record {
-  keeps = λ k place bytes. refl;
-  spelled = processor-spelled;
-}
+version-all : (version offset adjust number : ℕ) → version % 2 ≡ 0 → (version ≡ 0 → offset ≡ 0) → (version ≡ 0 → adjust ≡ 0) → (version ≡ 0 → number ≡ 0)
+    → version_valid version (eqb offset 0 && eqb adjust 0 && eqb number 0) ≡ true
+version-all version offset adjust number even none none' none'' = grind arith
 
 at_none : {A : Type 0} (khz : ℕ) (p : ProcessorParts) (value : ProcessorParts → A) → IsProcessor khz p → p.version ≡ 0 → value p ≡ value no_processor
 at_none khz p value is e = ap value (is.unpublished e)
@@ -48,8 +33,11 @@ unfolding tsc page
 processor-here b k p bytes is fits =
     let scale : ℕ = b.guest_khz * 1000 in
     let khz : ℕ = b.guest_khz in
-    let unused = version-is p.version (eqb p.offset 0 && eqb p.adjust 0 && eqb p.number 0) is.version.even
-    (at_none khz p (λ (x : ProcessorParts). eqb x.offset 0 && eqb x.adjust 0 && eqb x.number 0) is) in
+    let offset = at_none khz p (λ (x : ProcessorParts). x.offset) is in
+    let adjust = at_none khz p (λ (x : ProcessorParts). x.adjust) is in
+    let number = at_none khz p (λ (x : ProcessorParts). x.number) is in
+    let unused : version_valid p.version (eqb p.offset 0 && eqb p.adjust 0 && eqb p.number 0) ≡ true = version-all p.version p.offset p.adjust p.number is.version.even
+    offset adjust number in
     let tsc_is = published-is p.version p.tsc_timestamp true (at_none khz p (λ (x : ProcessorParts). x.tsc_timestamp) is) (λ _. refl) in
     let time = published-is p.version p.system_time (ltb p.system_time RANGE_NS) (at_none khz p (λ (x : ProcessorParts). x.system_time) is)
     (λ _. lt-ltb p.system_time RANGE_NS is.time) in
@@ -95,53 +83,36 @@ shift-signed : (hz : ℕ) → cast_signed w8 (cast_unsigned w8 (shift_for hz)) �
 unfolding shift_for
 shift-signed hz = signed-shift _ _ _ _ _ _ _
 
-all-zero : (offset adjust number version tsc time mul : ℕ) (shift : ℤ) (flags : ℕ) → offset ≡ 0 → adjust ≡ 0 → number ≡ 0 → version ≡ 0 → tsc ≡ 0 → time ≡ 0
-    → mul ≡ 0 → shift ≡ pos 0 → flags ≡ 0
-    → let p : ProcessorParts = record {
-      offset = offset;
-      adjust = adjust;
-      number = number;
-      version = version;
-      tsc_timestamp = tsc;
-      system_time = time;
-      mul = mul;
-      shift = shift;
-      flags = flags;
-    } in p ≡ no_processor
-all-zero offset adjust number version tsc time mul shift flags e1 e2 e3 e4 e5 e6 e7 e8 e9 = cc
-
 pub processor-valid : (b : BoardParts) (k : ℕ) (p : ProcessorParts) → IsPage p → AllHold (processor k) b p → IsProcessor b.guest_khz p
 unfolding tsc page plain
 processor-valid b k p is h =
     let hz : ℕ = b.guest_khz * 1000 in
-    let byte : ℕ = cast_unsigned w8 p.shift in
-    let first : Bool = eqb p.offset 0 && eqb p.adjust 0 && eqb p.number 0 in
-    let version = and_parts (eqb (p.version % 2) 0) (ltb 0 p.version || first) h.1.1.1.0 in
-    let tsc_is = h.1.1.1.1.0 in
-    let time = h.1.1.1.1.1.0 in
-    let mul = h.1.1.1.1.1.1.0 in
-    let shift = h.1.1.1.1.1.1.1.0 in
-    let flags = h.1.1.1.1.1.1.1.1.0 in
+    let zero_byte : p.version ≡ 0 → cast_unsigned w8 p.shift ≡ 0 = λ e. grind arith in
+    let byte : 0 < p.version → cast_unsigned w8 p.shift ≡ cast_unsigned w8 (shift_for hz) = λ some. grind arith in
     record {
-      version = version-valid p.version is.version version.0;
-      time = time-valid p.version p.system_time time;
-      unpublished = λ (e : p.version ≡ 0).
-          let numbers = and_parts (eqb p.offset 0 && eqb p.adjust 0) (eqb p.number 0) (at_first p.version first version.1 e) in
-          let offsets = and_parts (eqb p.offset 0) (eqb p.adjust 0) numbers.0 in
-          all-zero p.offset p.adjust p.number p.version p.tsc_timestamp p.system_time p.mul p.shift p.flags (eqb-true p.offset 0 offsets.0)
-          (eqb-true p.adjust 0 offsets.1) (eqb-true p.number 0 numbers.1) e (page-none p.version p.tsc_timestamp true tsc_is e)
-          (page-none p.version p.system_time (ltb p.system_time RANGE_NS) time e) (page-none p.version p.mul (eqb p.mul (mul_for hz)) mul e)
-          (sym is.shift ∙ ap (cast_signed w8) (page-none p.version byte (eqb byte (cast_unsigned w8 (shift_for hz))) shift e))
-          (page-none p.version p.flags (page_flags_valid p.flags) flags e);
-      flags = λ some. page-some p.version p.flags (page_flags_valid p.flags) flags some;
-      mul = λ some. eqb-true p.mul (mul_for hz) (page-some p.version p.mul (eqb p.mul (mul_for hz)) mul some);
-      shift = λ some.
-          sym is.shift ∙ ap (cast_signed w8) (eqb-true byte (cast_unsigned w8 (shift_for hz))
-          (page-some p.version byte (eqb byte (cast_unsigned w8 (shift_for hz))) shift some)) ∙ shift-signed hz;
+      version = record { most = grind arith; even = grind arith };
+      time = grind arith;
+      unpublished = λ e.
+          let offset : p.offset ≡ 0 = grind arith in
+          let adjust : p.adjust ≡ 0 = grind arith in
+          let number : p.number ≡ 0 = grind arith in
+          let stamp : p.tsc_timestamp ≡ 0 = grind arith in
+          let time : p.system_time ≡ 0 = grind arith in
+          let mul : p.mul ≡ 0 = grind arith in
+          let flags : p.flags ≡ 0 = grind arith in
+          let shift : p.shift ≡ pos 0 = sym is.shift ∙ ap (cast_signed w8) (zero_byte e) in
+          λ i. record {
+            offset = offset i;
+            adjust = adjust i;
+            number = number i;
+            version = e i;
+            tsc_timestamp = stamp i;
+            system_time = time i;
+            mul = mul i;
+            shift = shift i;
+            flags = flags i;
+          };
+      flags = λ some. grind arith;
+      mul = λ some. grind arith;
+      shift = λ some. sym is.shift ∙ ap (cast_signed w8) (byte some) ∙ shift-signed hz;
     }
-  where
-    time-valid : (version time : ℕ) → published_valid version time (ltb time RANGE_NS) ≡ true → time < RANGE_NS
-    time-valid version time e = elim (cases_eq version 0) [
-      | inl none ↦ omega (arith, page-none version time (ltb time RANGE_NS) e none)
-      | inr some ↦ ltb-true time RANGE_NS (page-some version time (ltb time RANGE_NS) e (omega arith))
-    ]

@@ -12,12 +12,10 @@ use Rattle.board_core.specs.Hv.{no_hv}
 use Rattle.board_core.specs.Time.{devices_in}
 use Rattle.board_core.specs.Tsc.{no_processor, processor_at}
 use Rattle.byte_table.specs.Codes.{byte_at, number, byte}
-use Rattle.byte_table.specs.Kinds.{plain, row, blocks}
 use Rattle.byte_table.proofs.FoldLaws.{AreBytes}
 use Rattle.byte_table.proofs.Little.{number-below}
 use Rattle.byte_table.proofs.Loops.{read_below-at, read_below-after, row_value-after, length-read_below, length-row_value}
-use Rattle.save_state.specs.Fields.{policy_place, counter, counters, clock, registers, timer, timers, line, lines, counts_of, rises, wall, processor, processors, apics, references, references_of, Message, message, no_message, messages, messages_of}
-use Rattle.save_state.specs.Fields.{head, host, guest, policies}
+use Rattle.save_state.specs.Fields.{policy_place, timer, line, counts_of, processor, references_of, Message, message, no_message, messages_of}
 use Rattle.save_state.specs.Places.{format_in, cpus_in}
 use Rattle.save_state.specs.Reading.{board_in}
 use Rattle.save_state.proofs.Formats.{timers_few, timers_least, apics_few, messages_few, references-none}
@@ -27,6 +25,7 @@ use Rattle.save_state.proofs.MessageLaws.{messages_read}
 use Rattle.save_state.proofs.ReferenceLaws.{read-none, reference-version}
 use Rattle.save_state.proofs.RoundTrip.{line-policy}
 use Rattle.save_state.proofs.Sizes.{lines_sum, rises_sum, wall_sum, processors_sum, apics_sum, references_sum, messages_sum, processor-size}
+use Rattle.save_state.proofs.AllFields.{layout}
 
 pub record IsRead (b : BoardParts) : Type 0 where
   pub three : length b.pit.counters ≡ 3
@@ -64,7 +63,7 @@ hpet-policy : (bytes : List ℕ) (k : ℕ) → 2 ≤ k → policy_of (byte_at (p
 hpet-policy bytes k more = ap (λ (n : ℕ). policy_of (byte_at (76 + n) bytes)) (cond-true _ 2 k (le-leb 2 k more))
 
 pub board-read : (bytes : List ℕ) → AreBytes bytes → cpus_in bytes ≤ 64 → IsRead (board_in bytes)
-unfolding board_in head host guest policies counters counter clock registers timers lines rises wall processors apics references messages plain row blocks
+unfolding layout
 board-read bytes small few_cpus =
     let f : ℕ = format_in bytes in
     let c : ℕ = cpus_in bytes in

@@ -1,53 +1,35 @@
 -- The reference page of Hyper-V: its fields cover it, what is read is written as its bytes are, and a valid page is written and read as it was.
-use Rattle.std.proofs.Common.{◌≡◌, ℕ, zero, suc, ◌+◌, ◌-◌, ◌%◌, ◌<◌, ◌≤◌, true, eqb, ltb, ◌||◌, List, [], ◌∷◌, ◌++◌, get_or, replicate, None, inl, inr, refl, ap, ◌∙◌, arith}
-use Rattle.std.proofs.lemmas.Bool.{and_parts, eqb-true, ltb-true, lt-ltb, eq-eqb, cases_lt, cases_eq}
+use Rattle.std.proofs.Common.{◌≡◌, ℕ, zero, suc, ◌+◌, ◌-◌, ◌<◌, ◌≤◌, List, [], ◌∷◌, ◌++◌, get_or, replicate, None, inl, inr, refl, ap, ◌∙◌, arith}
+use Rattle.std.proofs.lemmas.Bool.{eqb-true, lt-ltb, eq-eqb, cases_lt}
 use Rattle.std.proofs.lemmas.List.{append-nil}
 use Rattle.board_types.specs.declared.parts.BoardParts.{BoardParts}
 use Rattle.board_types.specs.declared.parts.HvParts.{HvParts}
 use Rattle.board_types.specs.declared.setup.TheConstants.{HV_FORMAT}
 use Rattle.board_core.specs.Conditions.{IsHv, IsBoard}
 use Rattle.board_core.specs.Hv.{no_hv}
-use Rattle.byte_table.specs.Codes.{number}
-use Rattle.byte_table.specs.Fold.{write, read, moved, or_else, fault_in, write_below, read_below, fault_below}
+use Rattle.byte_table.specs.Fold.{write, read, or_else, fault_in, write_below, read_below, fault_below}
 use Rattle.byte_table.specs.Kinds.{plain, blocks}
-use Rattle.byte_table.proofs.FoldLaws.{◌⨾◌, AreBytes, AllHere, AllSpelled, AllHold, or_else-end}
-use Rattle.byte_table.proofs.CodeLaws.{number-written, number-code, byte-written, byte-code}
-use Rattle.byte_table.proofs.KindLaws.{plain-here, plain-spelled, blocks-here, blocks-spelled, AreBlocks}
+use Rattle.byte_table.proofs.FoldLaws.{◌⨾◌, AreBytes, AllHere, AllHold, or_else-end}
+use Rattle.byte_table.proofs.CodeLaws.{number-written, byte-written}
+use Rattle.byte_table.proofs.KindLaws.{plain-here, blocks-here}
 use Rattle.byte_table.proofs.Little.{number-below}
 use Rattle.byte_table.proofs.Loops.{drop-blank}
 use Rattle.save_state.specs.Fields.{scale_for, reference, references, references_of}
 use Rattle.save_state.specs.private.Fits.{ReferenceFits}
 use Rattle.save_state.proofs.Formats.{references-one, references_few}
-use Rattle.save_state.proofs.Versions.{version-is, published-is, some-or, version-valid, at_first, page-none, page-some}
-
-pub reference-covers : (k : ℕ) (t q : HvParts) → moved (reference k) t q ≡ t
-unfolding reference plain
-reference-covers k t q = refl
-
-reference-spelled : (k : ℕ) → AllSpelled (reference k)
-unfolding reference
-reference-spelled k =
-    plain-spelled _ _ _ _ _ (number-code 8) ⨾ plain-spelled _ _ _ _ _ (number-code 4) ⨾ plain-spelled _ _ _ _ _ byte-code
-    ⨾ plain-spelled _ _ _ _ _ (number-code 8) ⨾ plain-spelled _ _ _ _ _ (number-code 8) ⨾ plain-spelled _ _ _ _ _ (number-code 8) ⨾ tt
-
-pub reference-laws : AreBlocks reference no_hv
-unfolding reference plain
-reference-laws = record {
-  keeps = λ k place bytes. refl;
-  spelled = reference-spelled;
-}
+use Rattle.save_state.proofs.Versions.{version-is, published-is, some-or}
 
 reference-here : (b : BoardParts) (k : ℕ) (p : HvParts) (bytes : List ℕ) → IsHv b.format b.guest_khz b.cpus p → ReferenceFits p → AllHere (reference k) b p bytes
 unfolding reference
 reference-here b k p bytes is fits =
-    let unused : p.version ≡ 0 → eqb p.number 0 ≡ true = λ e. eq-eqb p.number 0 (ap (λ (x : HvParts). x.number) (is.unpublished e)) in
+    let unused : p.version ≡ 0 → p.number ≡ 0 = λ e. ap (λ (x : HvParts). x.number) (is.unpublished e) in
+    let nowhere : p.version ≡ 0 → p.cpu ≡ 0 = λ e. ap (λ (x : HvParts). x.cpu) (is.unpublished e) in
     plain-here _ _ _ _ _ b p bytes (number-written 8 p.number fits.number) refl
-    ⨾ plain-here _ _ _ _ _ b p bytes (number-written 4 p.version fits.version) (version-is p.version _ is.version.even unused)
-    ⨾ plain-here _ _ _ _ _ b p bytes (byte-written p.cpu)
-    (published-is p.version p.cpu _ (λ e. ap (λ (x : HvParts). x.cpu) (is.unpublished e)) (λ _. lt-ltb p.cpu b.cpus is.processor))
+    ⨾ plain-here _ _ _ _ _ b p bytes (number-written 4 p.version fits.version) (version-is p.version p.number is.version.even unused)
+    ⨾ plain-here _ _ _ _ _ b p bytes (byte-written p.cpu) (published-is p.version p.cpu _ nowhere (λ _. lt-ltb p.cpu b.cpus is.processor))
     ⨾ plain-here _ _ _ _ _ b p bytes (number-written 8 p.scale fits.scale) (eq-eqb p.scale _ is.scale)
-    ⨾ plain-here _ _ _ _ _ b p bytes (number-written 8 p.offset fits.offset) (some-or p.scale _ (λ e. eq-eqb p.offset 0 (is.offset e)))
-    ⨾ plain-here _ _ _ _ _ b p bytes (number-written 8 p.tsc_offset fits.tsc_offset) (some-or p.scale _ (λ e. eq-eqb p.tsc_offset 0 (is.tsc_offset e))) ⨾ tt
+    ⨾ plain-here _ _ _ _ _ b p bytes (number-written 8 p.offset fits.offset) (some-or p.scale p.offset is.offset)
+    ⨾ plain-here _ _ _ _ _ b p bytes (number-written 8 p.tsc_offset fits.tsc_offset) (some-or p.scale p.tsc_offset is.tsc_offset) ⨾ tt
 
 -- the place of the page: it is there from its format on
 reference-absent : (b : BoardParts) → IsBoard b → (j : ℕ) → references_of b.format ≤ j → j < 1 → get_or (b.hv ∷ []) j no_hv ≡ no_hv
@@ -58,19 +40,15 @@ reference-absent b is zero le less = elim (cases_lt b.format HV_FORMAT) [
 reference-absent b is (suc j) le less = absurd (omega arith)
 
 pub references-here : (b : BoardParts) (bytes : List ℕ) → IsBoard b → ReferenceFits b.hv → AllHere (references (references_of b.format)) b b bytes
-unfolding references
+unfolding references reference plain
 references-here b bytes is fits =
     let few = references_few b.format in
-    blocks-here (references_of b.format) 1 reference no_hv _ _ b b bytes (λ k less. reference-covers k _ no_hv) few
+    blocks-here (references_of b.format) 1 reference no_hv _ _ b b bytes (λ k less. refl) few
     (λ j low less. each j (omega (arith, few, less))) (drop-blank no_hv (references_of b.format) 1 (b.hv ∷ []) refl few (reference-absent b is)) ⨾ tt
   where
     each : (j : ℕ) → j < 1 → AllHere (reference j) b (get_or (b.hv ∷ []) j no_hv) bytes
     each zero less = reference-here b 0 b.hv bytes is.joined.hv fits
     each (suc j) less = absurd (omega arith)
-
-pub references-spelled : (n : ℕ) → AllSpelled (references n)
-unfolding references
-references-spelled n = blocks-spelled n 1 reference no_hv _ _ reference-laws ⨾ tt
 
 -- the page that is read
 abbrev pub reference_read : ℕ → ℕ → List ℕ → List HvParts
@@ -118,34 +96,18 @@ pub reference-valid : (b : BoardParts) → 1 ≤ b.cpus → b.hv.version < 42949
 unfolding reference plain
 reference-valid b some small there h =
     let p : HvParts = b.hv in
-    let version = and_parts (eqb (p.version % 2) 0) (ltb 0 p.version || eqb p.number 0) h.1.0 in
-    let unused : p.version ≡ 0 → p.number ≡ 0 = λ e. eqb-true p.number 0 (at_first p.version _ version.1 e) in
-    let cpu = h.1.1.0 in
     let scale : p.scale ≡ scale_for b.guest_khz p.number = eqb-true p.scale _ h.1.1.1.0 in
-    let offset : p.scale ≡ 0 → p.offset ≡ 0 = λ e. eqb-true p.offset 0 (at_first p.scale _ h.1.1.1.1.0 e) in
-    let tsc_offset : p.scale ≡ 0 → p.tsc_offset ≡ 0 = λ e. eqb-true p.tsc_offset 0 (at_first p.scale _ h.1.1.1.1.1.0 e) in
+    let number : p.version ≡ 0 → p.number ≡ 0 = λ e. grind arith in
+    let cpu : p.version ≡ 0 → p.cpu ≡ 0 = λ e. grind arith in
+    let offset : p.scale ≡ 0 → p.offset ≡ 0 = λ e. grind arith in
+    let tsc_offset : p.scale ≡ 0 → p.tsc_offset ≡ 0 = λ e. grind arith in
     record {
-      version = version-valid p.version small version.0;
+      version = record { most = grind arith; even = grind arith };
       none = λ before. absurd (omega (arith, there, before));
-      unpublished = λ e.
-          let none : p.scale ≡ 0 = scale ∙ ap (λ (n : ℕ). scale_for b.guest_khz n) (unused e) in
-          all-zero p.number p.version p.cpu p.scale p.offset p.tsc_offset (unused e) e (page-none p.version p.cpu _ cpu e) none (offset none) (tsc_offset none);
-      processor = elim (cases_eq p.version 0) [
-        | inl e ↦ omega (arith, page-none p.version p.cpu _ cpu e, some)
-        | inr published ↦ ltb-true p.cpu b.cpus (page-some p.version p.cpu _ cpu (omega arith))
-      ];
+      unpublished = λ e. let none : p.scale ≡ 0 = scale ∙ ap (λ (n : ℕ). scale_for b.guest_khz n) (number e) in
+          λ i. record { number = number e i; version = e i; cpu = cpu e i; scale = none i; offset = offset none i; tsc_offset = tsc_offset none i };
+      processor = grind arith;
       scale = scale;
       offset = offset;
       tsc_offset = tsc_offset;
     }
-  where
-    all-zero : (number version cpu scale offset tsc_offset : ℕ) → number ≡ 0 → version ≡ 0 → cpu ≡ 0 → scale ≡ 0 → offset ≡ 0 → tsc_offset ≡ 0
-        → let p : HvParts = record {
-          number = number;
-          version = version;
-          cpu = cpu;
-          scale = scale;
-          offset = offset;
-          tsc_offset = tsc_offset;
-        } in p ≡ no_hv
-    all-zero number version cpu scale offset tsc_offset e1 e2 e3 e4 e5 e6 = cc

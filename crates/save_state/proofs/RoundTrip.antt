@@ -1,5 +1,5 @@
 -- The round trip of a saved state: a board's bytes are read as the board and have no fault, and bytes with no fault are those of the board that they are.
-use Rattle.std.proofs.Common.{◌≡◌, ℕ, ◌+◌, ◌^◌, ◌<◌, ◌≤◌, ⊎_elim, Bool, cond, List, [], ◌∷◌, ◌++◌, length, drop, Some, None, refl, ap, sym, ◌∙◌, arith}
+use Rattle.std.proofs.Common.{◌≡◌, ℕ, ◌+◌, ◌^◌, ◌<◌, ◌≤◌, ⊎_elim, Bool, cond, List, [], ◌∷◌, ◌++◌, length, map, drop, Some, None, refl, ap, sym, ◌∙◌, arith}
 use Rattle.std.proofs.lemmas.Bool.{lt-ltb, le-ltb, cases_lt}
 use Rattle.std.proofs.lemmas.List.{append-nil, take_all}
 use Rattle.tick_policy.specs.declared.parts.Policy.{Policy}
@@ -11,24 +11,25 @@ use Rattle.board_devices.specs.Places.{no_line, line_at}
 use Rattle.board_core.specs.Apics.{apics_of}
 use Rattle.board_core.specs.Conditions.{IsBoard}
 use Rattle.board_core.specs.Time.{devices_in}
-use Rattle.byte_table.specs.Codes.{byte_at, number_bytes}
-use Rattle.byte_table.specs.Fold.{size_of, write, read, moved, fault_in}
-use Rattle.byte_table.specs.Kinds.{plain, row, blocks, elsewhere}
+use Rattle.byte_table.specs.Codes.{byte_at, number_bytes, Two, pairs}
+use Rattle.byte_table.specs.Fold.{size_of, write, write_below, read, moved, fault_in}
+use Rattle.byte_table.specs.Kinds.{plain, elsewhere}
 use Rattle.byte_table.proofs.FoldLaws.{◌⨾◌, AreBytes, next, AllKeep, or_else-none, or_else-both, length-write, read-write, fault-write, rewritten, rewrite_in-keep}
 use Rattle.byte_table.proofs.CodeLaws.{number_at-is, length-number}
 use Rattle.byte_table.proofs.Loops.{read_below-at}
-use Rattle.byte_table.proofs.Pairs.{firsts-pairs, seconds-pairs}
+use Rattle.byte_table.proofs.Pairs.{firsts-pairs, seconds-pairs, pairs-halves}
 use Rattle.save_state.specs.declared.fault.StateFault.{StateFault}
 use Rattle.save_state.specs.declared.fault.StateKind.TheVariants.{Trailing}
-use Rattle.save_state.specs.Fields.{Fields, magic, policy_place, head, host, guest, policies, counter, counters, clock, registers, timer, timers, line, lines, rises, wall, processors, apics, references, references_of, messages, messages_of, fields_of}
+use Rattle.save_state.specs.Fields.{Fields, apic, no_apic, message, no_message, magic, policy_place, head, line, references_of, messages_of, fields_of}
 use Rattle.save_state.specs.Places.{format_in, cpus_in}
 use Rattle.save_state.specs.Reading.{blank, fields_in, board_in}
 use Rattle.save_state.specs.Table.{trailing, fault_of}
 use Rattle.save_state.specs.Writing.{bytes_of}
 use Rattle.save_state.specs.private.Fits.{BoardFits}
+use Rattle.save_state.proofs.AllFields.{layout}
+use Rattle.save_state.proofs.ApicLaws.{apics_read}
+use Rattle.save_state.proofs.MessageLaws.{messages_read}
 use Rattle.save_state.proofs.Formats.{timers_least, processors_few, references_few}
-use Rattle.save_state.proofs.ApicLaws.{apics-kept}
-use Rattle.save_state.proofs.MessageLaws.{messages-kept}
 use Rattle.save_state.proofs.ReferenceLaws.{reference-kept}
 use Rattle.save_state.proofs.Sizes.{lines_sum, apics_sum, references_sum, messages_sum, line-size}
 use Rattle.save_state.proofs.Spelled.{fields-spelled}
@@ -36,7 +37,7 @@ use Rattle.save_state.proofs.Here.{fields-here}
 
 -- all fields of a valid board, put into the blank one, give the board
 board-covers : (b : BoardParts) → IsBoard b → BoardFits b → moved (fields_of b.format b.cpus) b blank ≡ b
-unfolding head host guest policies counters counter clock registers timers timer lines rises wall processors apics references messages plain row blocks
+unfolding layout
 board-covers b is fits =
     let places = fits.bit_places ∙ sym fits.word_places in
     let same = is.joined.apics.places.timers ∙ sym is.joined.apics.places.lines in
@@ -97,15 +98,20 @@ fault_of-bytes_of b is fits =
 -- the policy of a tick line that is read
 pub line-policy : (bytes : List ℕ) (k : ℕ) → k < timers_of (format_in bytes) + 2
     → (line_at k (devices_in (board_in bytes))).policy ≡ policy_of (byte_at (policy_place k) bytes)
-unfolding board_in head host guest policies counters counter clock registers timers timer line lines rises wall processors apics references messages plain row blocks elsewhere
+unfolding layout line elsewhere
 line-policy bytes k less =
     let at : 0 + k ≡ k = omega arith in
     ap (λ (l : TickParts). l.policy) (read_below-at line no_line 33 line-size 0 (timers_of (format_in bytes) + 2) (lines_sum (format_in bytes)) bytes _ k less)
     ∙ ap (λ (m : ℕ). policy_of (byte_at (policy_place m) bytes)) at
 
+-- blocks of pairs are written as they were read
+pairs-kept : {A C : Type 0} (fields : ℕ → Fields (Two A C)) (blank : Two A C) (n : ℕ) (ts : List (Two A C))
+    → write_below fields blank (pairs (map (λ (t : Two A C). t.first) ts) (map (λ (t : Two A C). t.second) ts)) 0 n ≡ write_below fields blank ts 0 n
+pairs-kept {A = A} {C = C} fields blank n ts = ap (λ (us : List (Two A C)). write_below fields blank us 0 n) (pairs-halves ts)
+
 -- each field of what is read is written as it would be
 board-keeps : (bytes : List ℕ) → AllKeep (fields_in bytes) (board_in bytes) 0 bytes
-unfolding board_in head host guest policies counters counter clock registers timers timer lines rises wall processors apics references messages plain row blocks
+unfolding layout
 board-keeps bytes =
     let f : ℕ = format_in bytes in
     let c : ℕ = cpus_in bytes in
@@ -117,8 +123,8 @@ board-keeps bytes =
     refl ⨾ refl ⨾ refl ⨾ refl ⨾ refl ⨾ refl ⨾ refl ⨾ refl ⨾ refl ⨾ refl ⨾ refl
     ⨾ policy_is 0 (omega (arith, least)) ⨾ policy_is 1 (omega (arith, least)) ⨾ policy_is 2 (omega (arith, least))
     ⨾ refl ⨾ refl ⨾ refl ⨾ refl ⨾ refl ⨾ refl ⨾ refl ⨾ refl ⨾ refl ⨾ refl ⨾ refl ⨾ refl ⨾ refl ⨾ refl ⨾ refl ⨾ refl ⨾ refl
-    ⨾ apics-kept n (apics_sum f c) bytes ⨾ reference-kept (references_of f) (references_sum f c) bytes (references_few f)
-    ⨾ messages-kept (messages_of f) (messages_sum f c) bytes ⨾ tt
+    ⨾ pairs-kept apic no_apic n (apics_read n (apics_sum f c) bytes) ⨾ reference-kept (references_of f) (references_sum f c) bytes (references_few f)
+    ⨾ pairs-kept message no_message (messages_of f) (messages_read (messages_of f) (messages_sum f c) bytes) ⨾ tt
 
 not_trailing : (wanted : ℕ) (bytes : List ℕ) → trailing wanted bytes ≡ None → length bytes ≤ wanted
 not_trailing wanted bytes none =
@@ -130,7 +136,7 @@ not_trailing wanted bytes none =
     some_none e = cc
 
 same-fields : (bytes : List ℕ) → write (fields_of (board_in bytes).format (board_in bytes).cpus) (board_in bytes) ≡ write (fields_in bytes) (board_in bytes)
-unfolding board_in head host guest policies counters counter clock registers timers timer lines rises wall processors apics references messages plain row blocks
+unfolding layout
 same-fields bytes = refl
 
 -- bytes with no fault are those of the board that they are read as

@@ -1,86 +1,99 @@
 -- Each list of fields: bytes with no fault are those that are written.
-use Rattle.std.proofs.Common.{ℕ, ◌+◌, ◌++◌}
+use Rattle.std.proofs.Common.{ℕ, zero, suc, ◌<◌, ◌≡◌, refl, arith}
 use Rattle.hpet_registers.specs.Parts.{no_timer}
-use Rattle.board_types.specs.Setup.{timers_of}
+use Rattle.tick_policy.specs.Parts.{policy_byte, policy_of}
 use Rattle.board_devices.specs.Places.{no_line}
-use Rattle.board_core.specs.Apics.{apics_of}
+use Rattle.board_core.specs.Hv.{no_hv}
 use Rattle.board_core.specs.Tsc.{no_processor}
-use Rattle.byte_table.specs.Codes.{number, byte}
-use Rattle.byte_table.proofs.FoldLaws.{◌⨾◌, AllSpelled, all_spelled-append}
-use Rattle.byte_table.proofs.CodeLaws.{number-code, word-code, byte-code, flag-code}
-use Rattle.byte_table.proofs.KindLaws.{plain-spelled, row-spelled, blocks-spelled}
-use Rattle.save_state.specs.Fields.{magic, head, host, guest, policies, front, counter, no_counter, counters, clock, registers, timer, timers, line, lines, counts_of, rises, wall}
-use Rattle.save_state.specs.Fields.{processor, processors, apics, references, references_of, messages, messages_of, devices, back, fields_of}
-use Rattle.save_state.proofs.Blocks.{policy-code, counter-laws, timer-laws, line-laws}
-use Rattle.save_state.proofs.Processors.{processor-laws}
-use Rattle.save_state.proofs.ApicLaws.{apics-spelled}
-use Rattle.save_state.proofs.MessageLaws.{messages-spelled}
-use Rattle.save_state.proofs.ReferenceLaws.{references-spelled}
+use Rattle.byte_table.specs.Kinds.{plain, elsewhere}
+use Rattle.byte_table.proofs.FoldLaws.{AllSpelled}
+use Rattle.byte_table.proofs.CodeLaws.{IsCode, choice-code}
+use Rattle.byte_table.proofs.KindLaws.{AreBlocks, blocks-spelled, spells}
+use Rattle.save_state.specs.Fields.{policy, counter, no_counter, timer, line, processor, apic, no_apic, reference, message, no_message, front, devices, back, fields_of}
+use Rattle.save_state.proofs.AllFields.{lists, block_lists}
 
+policy-code : IsCode policy
+policy-code = choice-code 3 policy_byte policy_of three
+  where
+    three : (y : ℕ) → y < 3 → policy_byte (policy_of y) ≡ y
+    three zero h = refl
+    three (suc zero) h = refl
+    three (suc (suc zero)) h = refl
+    three (suc (suc (suc y))) h = absurd (omega arith)
+
+-- the fields of each block ..
+counter-spelled : (k : ℕ) → AllSpelled (counter k)
+unfolding block_lists
+counter-spelled k = search spells
+
+timer-spelled : (k : ℕ) → AllSpelled (timer k)
+unfolding block_lists
+timer-spelled k = search spells
+
+line-spelled : (k : ℕ) → AllSpelled (line k)
+unfolding block_lists
+line-spelled k = search spells
+
+processor-spelled : (k : ℕ) → AllSpelled (processor k)
+unfolding block_lists
+processor-spelled k = search spells
+
+apic-spelled : (k : ℕ) → AllSpelled (apic k)
+unfolding block_lists
+apic-spelled k = search spells
+
+reference-spelled : (k : ℕ) → AllSpelled (reference k)
+unfolding block_lists
+reference-spelled k = search spells
+
+message-spelled : (k : ℕ) → AllSpelled (message k)
+unfolding block_lists
+message-spelled k = search spells
+
+-- .. which are written as what was read
+counter-laws : AreBlocks counter no_counter
+unfolding block_lists plain
+counter-laws = record { keeps = λ k place bytes. refl; spelled = counter-spelled }
+
+timer-laws : AreBlocks timer no_timer
+unfolding block_lists plain
+timer-laws = record { keeps = λ k place bytes. refl; spelled = timer-spelled }
+
+line-laws : AreBlocks line no_line
+unfolding block_lists plain elsewhere
+line-laws = record { keeps = λ k place bytes. refl; spelled = line-spelled }
+
+processor-laws : AreBlocks processor no_processor
+unfolding block_lists plain
+processor-laws = record { keeps = λ k place bytes. refl; spelled = processor-spelled }
+
+apic-laws : AreBlocks apic no_apic
+unfolding block_lists plain
+apic-laws = record { keeps = λ k place bytes. refl; spelled = apic-spelled }
+
+reference-laws : AreBlocks reference no_hv
+unfolding block_lists plain
+reference-laws = record { keeps = λ k place bytes. refl; spelled = reference-spelled }
+
+message-laws : AreBlocks message no_message
+unfolding block_lists plain
+message-laws = record { keeps = λ k place bytes. refl; spelled = message-spelled }
+
+ruleset laws = (spells, policy-code, blocks-spelled, counter-laws, timer-laws, line-laws, processor-laws, apic-laws, reference-laws, message-laws)
+
+-- .. and those of a board
 pub front-spelled : AllSpelled front
-unfolding head host guest policies
-front-spelled =
-    plain-spelled _ _ _ _ _ (word-code 8 magic) ⨾ plain-spelled _ _ _ _ _ (number-code 2) ⨾ plain-spelled _ _ _ _ _ (number-code 2)
-    ⨾ plain-spelled _ _ _ _ _ (number-code 8) ⨾ plain-spelled _ _ _ _ _ (number-code 8) ⨾ plain-spelled _ _ _ _ _ (number-code 8)
-    ⨾ plain-spelled _ _ _ _ _ (number-code 8) ⨾ plain-spelled _ _ _ _ _ (number-code 8) ⨾ plain-spelled _ _ _ _ _ (number-code 8)
-    ⨾ plain-spelled _ _ _ _ _ (number-code 8) ⨾ plain-spelled _ _ _ _ _ (number-code 8) ⨾ plain-spelled _ _ _ _ _ policy-code
-    ⨾ plain-spelled _ _ _ _ _ policy-code ⨾ plain-spelled _ _ _ _ _ policy-code ⨾ tt
-
-counters-spelled : AllSpelled counters
-unfolding counters
-counters-spelled = blocks-spelled 3 3 counter no_counter _ _ counter-laws ⨾ tt
-
-clock-spelled : AllSpelled clock
-unfolding clock
-clock-spelled =
-    plain-spelled _ _ _ _ _ flag-code ⨾ plain-spelled _ _ _ _ _ byte-code ⨾ row-spelled _ 128 128 byte 0 _ _ _ byte-code
-    ⨾ plain-spelled _ _ _ _ _ (number-code 2) ⨾ plain-spelled _ _ _ _ _ flag-code ⨾ tt
-
-registers-spelled : AllSpelled registers
-unfolding registers
-registers-spelled = plain-spelled _ _ _ _ _ byte-code ⨾ plain-spelled _ _ _ _ _ byte-code ⨾ plain-spelled _ _ _ _ _ (number-code 8) ⨾ tt
-
-timers-spelled : (n : ℕ) → AllSpelled (timers n)
-unfolding timers
-timers-spelled n = blocks-spelled n 8 timer no_timer _ _ timer-laws ⨾ tt
-
-lines-spelled : (timers : ℕ) → AllSpelled (lines timers)
-unfolding lines
-lines-spelled timers = blocks-spelled (timers + 2) 10 line no_line _ _ line-laws ⨾ tt
-
-rises-spelled : (counts : ℕ) → AllSpelled (rises counts)
-unfolding rises
-rises-spelled counts = row-spelled _ counts 6 (number 8) 0 _ _ _ (number-code 8) ⨾ tt
-
-wall-spelled : AllSpelled wall
-unfolding wall
-wall-spelled =
-    plain-spelled _ _ _ _ _ (number-code 8) ⨾ plain-spelled _ _ _ _ _ (number-code 4) ⨾ plain-spelled _ _ _ _ _ (number-code 4)
-    ⨾ plain-spelled _ _ _ _ _ (number-code 4) ⨾ tt
-
-processors-spelled : (cpus : ℕ) → AllSpelled (processors cpus)
-unfolding processors
-processors-spelled cpus = blocks-spelled cpus 64 processor no_processor _ _ processor-laws ⨾ tt
+unfolding lists
+front-spelled = search laws
 
 pub devices-spelled : (format : ℕ) → AllSpelled (devices format)
-devices-spelled format =
-    let n : ℕ = timers_of format in
-    all_spelled-append (counters ++ clock ++ registers ++ timers n) (lines n)
-    (all_spelled-append (counters ++ clock ++ registers) (timers n)
-    (all_spelled-append (counters ++ clock) registers (all_spelled-append counters clock counters-spelled clock-spelled) registers-spelled)
-    (timers-spelled n)) (lines-spelled n)
+unfolding lists
+devices-spelled format = search laws
 
 pub back-spelled : (format cpus : ℕ) → AllSpelled (back format cpus)
-back-spelled format cpus =
-    let counts : ℕ = counts_of format in
-    let n : ℕ = apics_of format cpus in
-    all_spelled-append (rises counts ++ wall ++ processors cpus ++ apics n ++ references (references_of format)) (messages (messages_of format))
-    (all_spelled-append (rises counts ++ wall ++ processors cpus ++ apics n) (references (references_of format))
-    (all_spelled-append (rises counts ++ wall ++ processors cpus) (apics n)
-    (all_spelled-append (rises counts ++ wall) (processors cpus) (all_spelled-append (rises counts) wall (rises-spelled counts) wall-spelled)
-    (processors-spelled cpus)) (apics-spelled n)) (references-spelled (references_of format))) (messages-spelled (messages_of format))
+unfolding lists
+back-spelled format cpus = search laws
 
 pub fields-spelled : (format cpus : ℕ) → AllSpelled (fields_of format cpus)
-fields-spelled format cpus =
-    all_spelled-append (front ++ devices format) (back format cpus)
-    (all_spelled-append front (devices format) front-spelled (devices-spelled format)) (back-spelled format cpus)
+unfolding lists
+fields-spelled format cpus = search laws

@@ -2,8 +2,7 @@ use Rattle.std.proofs.Common.{◌≡◌, ℕ, ◌<◌, ◌≤◌, List, get_or, 
 use Rattle.board_types.specs.declared.setup.TheConstants.{HV_FORMAT}
 use Rattle.board_core.specs.Hv.{no_hv}
 use Rattle.byte_table.specs.Fold.{read}
-use Rattle.byte_table.specs.Kinds.{plain, row, blocks}
-use Rattle.save_state.specs.Fields.{head, host, guest, policies, counters, counter, clock, registers, timers, timer, lines, line, rises, wall, processors, apics, reference, references, messages, references_of}
+use Rattle.save_state.specs.Fields.{line, reference, references_of}
 use Rattle.save_state.specs.Places.{format_in, cpus_in}
 use Rattle.save_state.specs.Reading.{board_in}
 use Rattle.save_state.specs.private.Places.{reference_place}
@@ -11,11 +10,12 @@ use Rattle.save_state.proofs.Formats.{references-none, references-one}
 use Rattle.save_state.proofs.ReferenceLaws.{reference_read, read-one, read-none}
 use Rattle.save_state.proofs.Sizes.{reference-at}
 use Rattle.save_state.proofs.reference.hv_in.Goals as goal
+use Rattle.save_state.proofs.AllFields.{layout}
 
 -- the page of the board, by its place
 board-hv : (bytes : List ℕ)
     → (board_in bytes).hv ≡ get_or (reference_read (references_of (format_in bytes)) (reference_place (format_in bytes) (cpus_in bytes)) bytes) 0 no_hv
-unfolding board_in head host guest policies counters counter clock registers timers timer lines line rises wall processors apics references messages plain row blocks
+unfolding layout line
 board-hv bytes =
     ap (λ (p : ℕ). get_or (reference_read (references_of (format_in bytes)) p bytes) 0 no_hv) (sym (reference-at (format_in bytes) (cpus_in bytes)))
 

@@ -7,14 +7,13 @@ use Rattle.board_core.specs.Apics.{apics_of}
 use Rattle.board_core.specs.Tsc.{no_processor}
 use Rattle.byte_table.specs.Codes.{number, number_at, row_value}
 use Rattle.byte_table.specs.Fold.{read_below}
-use Rattle.byte_table.specs.Kinds.{plain, row, blocks}
-use Rattle.save_state.specs.Fields.{head, host, guest, policies, counters, counter, clock, registers, timers, timer, lines, line, rises, wall, processors, Apic, apics, references, messages, processor, counts_of}
+use Rattle.save_state.specs.Fields.{line, Apic, processor, counts_of}
 use Rattle.save_state.specs.Places.{format_in, cpus_in}
-use Rattle.save_state.specs.Reading.{board_in}
 use Rattle.save_state.specs.private.Places.{line_place, rises_place, wall_place, processor_place, apic_place}
 use Rattle.save_state.proofs.ApicLaws.{apics_read}
 use Rattle.save_state.proofs.Sizes.{wall_sum, lines-at, rises-at, wall-at, processors-at, apics-at}
 use Rattle.save_state.proofs.whole.board_in.Goals as goal
+use Rattle.save_state.proofs.AllFields.{layout}
 
 abbrev firsts : List Apic → List ApicParts
 firsts xs = map (λ (a : Apic). a.first) xs
@@ -23,7 +22,7 @@ abbrev seconds : List Apic → List TickParts
 seconds xs = map (λ (a : Apic). a.second) xs
 
 pub returns : goal.returns
-unfolding board_in head host guest policies counters counter clock registers timers timer lines line rises wall processors apics references messages plain row blocks
+unfolding layout line
 returns c =
     let bytes : List ℕ = c.args.bytes.now in
     let format : ℕ = format_in bytes in

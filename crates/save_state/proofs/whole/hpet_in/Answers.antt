@@ -2,14 +2,13 @@ use Rattle.std.proofs.Common.{ℕ, ◌-◌, Bool, List, ◌++◌, map, replicate
 use Rattle.hpet_registers.specs.Parts.{no_timer}
 use Rattle.board_types.specs.Setup.{timers_of, has_messages}
 use Rattle.byte_table.specs.Fold.{read_below}
-use Rattle.byte_table.specs.Kinds.{plain, row, blocks}
-use Rattle.save_state.specs.Fields.{head, host, guest, policies, counters, counter, clock, registers, timers, timer, lines, line, rises, wall, processors, apics, references, Message, messages, messages_of}
+use Rattle.save_state.specs.Fields.{timer, line, Message, messages_of}
 use Rattle.save_state.specs.Places.{format_in, cpus_in}
-use Rattle.save_state.specs.Reading.{board_in}
 use Rattle.save_state.specs.private.Places.{message_place}
 use Rattle.save_state.proofs.MessageLaws.{messages_read}
 use Rattle.save_state.proofs.Sizes.{messages-at}
 use Rattle.save_state.proofs.whole.hpet_in.Goals as goal
+use Rattle.save_state.proofs.AllFields.{layout}
 
 abbrev bits : List Message → List Bool
 bits ms = map (λ (m : Message). m.first) ms
@@ -18,7 +17,7 @@ abbrev words : List Message → List ℕ
 words ms = map (λ (m : Message). m.second) ms
 
 pub returns : goal.returns
-unfolding board_in head host guest policies counters counter clock registers timers timer lines line rises wall processors apics references messages plain row blocks
+unfolding layout line
 returns c =
     let bytes : List ℕ = c.args.bytes.now in
     let format : ℕ = format_in bytes in
