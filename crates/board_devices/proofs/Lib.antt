@@ -6,6 +6,8 @@ pub mod Times
 pub mod Counts
 pub mod Advance
 pub mod Edges
+pub mod OfLines
+pub mod Sends
 pub mod Masks
 pub mod Fronts
 pub mod Keeps

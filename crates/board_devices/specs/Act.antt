@@ -57,7 +57,7 @@ use Rattle.board_devices.specs.declared.act.Act.TheVariants.{
 }
 use Rattle.board_devices.specs.Places.{each, ticked_at, line_at}
 use Rattle.board_devices.specs.Nanosecond.{counts_rtc}
-use Rattle.board_devices.specs.Lines.{levels}
+use Rattle.board_devices.specs.Lines.{is_replaced, levels}
 
 -- what an access may ask
 abbrev pub IsLegal : Act → Type 0
@@ -79,11 +79,11 @@ ticks_on_write port byte d =
     has_risen (counter_of d.pit 0) (counter_of (port_written port byte d.pit) 0)
     && not (is_legacy d.hpet)
 
--- a timer drives now the line to which it is routed; under legacy replacement timer 0 drives line 0
--- and timer 1 line 8 (HPET 2.3.5, LEG_RT_CNF)
+-- a timer drives now the line to which it is routed; replaced, timer 0 drives line 0 and timer 1
+-- line 8 (HPET 2.3.5, LEG_RT_CNF)
 abbrev pub drives_now : ℕ → ℕ → HpetParts → Bool
 drives_now line k h =
-    if is_legacy h && nat_lt k 2 then line == (if k == 0 then 0 else 8)
+    if is_replaced k h then line == (if k == 0 then 0 else 8)
     else route_of (timer_at k h).config == line
 
 -- a timer of edge type whose matches are ticks of its line and no messages, or would be with its
@@ -146,20 +146,13 @@ acted Nothing d = d
 
 -- the access without rises out of a queue: an acknowledged line is down
 unfoldable pub first_part : Act → DeviceParts → DeviceParts
-first_part (PitRead port) d = acted (PitRead port) d
-first_part (PitWrite port byte) d = acted (PitWrite port byte) d
-first_part IndexRead d = d
-first_part (IndexWrite byte) d = acted (IndexWrite byte) d
 first_part ClockRead d = record d {
   rtc = after_rtc_read d.rtc;
   ticks = each (λ k l. down_where (reads_c d k) l) 0 d.ticks;
 }
-first_part (ClockWrite byte) d = acted (ClockWrite byte) d
-first_part (HpetRead offset width) d = d
-first_part (HpetWrite offset width v) d = acted (HpetWrite offset width v) d
 first_part (Ack line) d =
     record d { ticks = each (λ k l. down_where (acks line d.hpet k) l) 0 d.ticks }
-first_part Nothing d = d
+first_part a d = acted a d
 
 -- what it reads at nanosecond t; port 70h reads FFh (own), and what reads nothing gives 0
 unfoldable pub value_of : ℕ → Act → DeviceParts → ℕ

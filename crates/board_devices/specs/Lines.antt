@@ -31,10 +31,14 @@ output_of k d =
     if is_level (timer_at k d.hpet) then level_output k d.hpet
     else not (is_message k d.hpet) && (line_at (suc (suc k)) d).up
 
--- a timer drives the line to which it is routed (2.3.8, Tn_INT_ROUTE_CNF), but not timers 0 and 1
--- under legacy replacement (2.3.5)
+-- legacy replacement takes timers 0 and 1 from the lines to which they are routed (2.3.5,
+-- LEG_RT_CNF)
+abbrev pub is_replaced : ℕ → HpetParts → Bool
+is_replaced k h = is_legacy h && nat_lt k 2
+
+-- any other timer drives the line to which it is routed (2.3.8, Tn_INT_ROUTE_CNF)
 abbrev pub drives : ℕ → ℕ → HpetParts → Bool
-drives line k h = (route_of (timer_at k h).config == line) && not (is_legacy h && nat_lt k 2)
+drives line k h = (route_of (timer_at k h).config == line) && not (is_replaced k h)
 
 -- whether one of the first n timers drives the line and is up
 abbrev pub routed : ℕ → ℕ → DeviceParts → Bool

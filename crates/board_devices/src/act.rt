@@ -16,7 +16,8 @@ ghost use Rattle.std.specs.Prelude.{
   IsTrue,
 };
 ghost use Rattle.irq_edges.specs.declared.edges.TheConstants.{EDGE_PLACES};
-ghost use Rattle.irq_edges.specs.Lines.{line_numbers, level_of, change};
+ghost use Rattle.std.specs.List.{All};
+ghost use Rattle.irq_edges.specs.Lines.{line_numbers, level_of, change, IsOfLine};
 ghost use Rattle.pit_readback.specs.Ports.{is_pit_port, port_read};
 ghost use Rattle.hpet_registers.specs.Access.{is_access_width};
 ghost use Rattle.rtc_registers.specs.Parts.{IsRtc};
@@ -89,6 +90,7 @@ impl Devices {
         ensures value { result ≡ value_of at a self.old }
         ensures byte { IsTrue (reads_byte a) → result < 256 }
         ensures edges { edges.new ≡ edges.old ++ act_edges at a self.old }
+        ensures of_lines { All IsOfLine (act_edges at a self.old) }
         ensures few { length edges.new ≤ length edges.old + 12 }
         ensures due { (k : ℕ) → k < 10 → (line_at k self.new).counts.due
             ≤ (line_at k self.old).counts.due + 1 }

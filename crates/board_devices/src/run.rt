@@ -24,7 +24,8 @@ ghost use Rattle.rtc_cycle.specs.Divider.{ticks_in, updates_in};
 ghost use Rattle.rtc_registers.specs.Pulses.{rtc_pulsed_times, alarms_in};
 ghost use Rattle.rtc_registers.specs.Registers.{divider_of};
 ghost use Rattle.irq_edges.specs.declared.edges.TheConstants.{EDGE_PLACES};
-ghost use Rattle.irq_edges.specs.Lines.{line_numbers, level_of};
+ghost use Rattle.std.specs.List.{All};
+ghost use Rattle.irq_edges.specs.Lines.{line_numbers, level_of, IsOfLine};
 ghost use Rattle.irq_edges.specs.Rises.{IsNextRise};
 ghost use Rattle.board_devices.specs.Rises.{one_if, lifts};
 ghost use Rattle.board_devices.specs.Places.{line_at};
@@ -156,6 +157,7 @@ impl Devices {
     /// free. Answers false where there was none.
     // Most stretches bring nothing: a frame of its own would cost as much as what is done here.
     #[inline(always)]
+    #[tactic(auto, using(crate::proofs::OfLines::of_lines_run))]
     pub fn run_to(&mut self, from: u64, to: u64, edges: &mut EdgeList) -> bool
         requires order { from ≤ to }
         requires range { to < 2 ^ 59 }
@@ -163,6 +165,7 @@ impl Devices {
         requires places { length edges.old + 6 ≤ EDGE_PLACES }
         ensures state { self.new ≡ (run from (to - from) self.old).state }
         ensures edges { edges.new ≡ edges.old ++ (run from (to - from) self.old).edges }
+        ensures of_lines { All IsOfLine (run from (to - from) self.old).edges }
         ensures still { result ≡ false → edges.new ≡ edges.old }
         ensures few { length edges.new ≤ length edges.old + 6 }
         ensures due { (k : ℕ) → k < 10 → (line_at k self.new).counts.due

@@ -26,6 +26,9 @@ ghost use Rattle.rtc_registers.specs.declared.TheConstants.{RTC_HZ};
 ghost use Rattle.hpet_registers.specs.declared.hpet.TheConstants.{HPET_HZ};
 ghost use Rattle.clk_units.specs.Pulses.{pulses_from};
 ghost use Rattle.clk_units.specs.Events.{first_at};
+ghost use Rattle.hpet_comparator.specs.Parts.{is_level};
+ghost use Rattle.hpet_registers.specs.Parts.{timer_at};
+ghost use Rattle.hpet_registers.specs.Outputs.{has_ticks, is_message};
 ghost use Rattle.hpet_registers.specs.Stretch.{timer_matches};
 ghost use Rattle.tick_policy.specs.Line.{is_waiting, ticked_times};
 ghost use Rattle.board_devices.specs.Places.{no_line};
@@ -277,18 +280,32 @@ fn run_timer(
         return None;
     }
     let timer = h.timer(k);
+    let has_ticks = h.has_ticks(k);
     if lines[k as usize + 2].is_up() && !timer.is_level() {
-        count_ticks(lines, k as usize + 2, h.has_ticks(k), matches.count);
-        return unless(h.is_message(k), Some(span.from));
+        count_ticks(lines, k as usize + 2, has_ticks, matches.count);
+        return unless(is_message(h, k, has_ticks), Some(span.from));
     }
     let first = first_at(matches.first, HPET_HZ, span.from, span.to);
-    let ticks = counted(true, h.has_ticks(k), matches.count, first);
+    let ticks = counted(true, has_ticks, matches.count, first);
     let up = run_at(lines, k as usize + 2, ticks, span);
     if timer.is_level() {
         flag_from(timer.is_enabled(), was_set, span.from, first)
     } else {
-        unless(h.is_message(k), up)
+        unless(is_message(h, k, has_ticks), up)
     }
+}
+
+/// Whether the matches of timer `k` are messages, by whether they are ticks: those of an enabled
+/// timer of edge type are one or the other.
+#[inline(always)]
+#[tactic(auto, using(crate::proofs::Sends::message_by_ticks))]
+fn is_message(h: &Hpet, k: u8, ticks: bool) -> bool
+    requires place { k < 8 }
+    requires edge { is_level (timer_at k h.now) ≡ false }
+    requires ticks { ticks ≡ has_ticks k h.now }
+    ensures { result ≡ is_message k h.now }
+{
+    !ticks && h.timer(k).is_enabled()
 }
 
 /// From when on a line is up, of which nothing is shown while `hidden` holds.

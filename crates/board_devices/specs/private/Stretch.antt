@@ -49,7 +49,7 @@ use Rattle.tick_policy.specs.Stretch.{line_after, line_end, up_from}
 use Rattle.board_devices.specs.declared.parts.DeviceParts.{DeviceParts}
 use Rattle.board_devices.specs.declared.stretch.Ticks.{Ticks}
 use Rattle.board_devices.specs.declared.stretch.Span.{Span}
-use Rattle.board_devices.specs.Lines.{drives}
+use Rattle.board_devices.specs.Lines.{drives, is_replaced}
 use Rattle.board_devices.specs.Places.{each, line_at, no_line}
 use Rattle.board_devices.specs.Nanosecond.{counts_rtc, sees_point}
 
@@ -160,7 +160,7 @@ slot_of_route route =
 -- .. and of the one that timer k drives
 abbrev pub slot_of : ℕ → HpetParts → Option ℕ
 slot_of k h =
-    if is_legacy h && nat_lt k 2 then Some k else slot_of_route (route_of (timer_at k h).config)
+    if is_replaced k h then Some k else slot_of_route (route_of (timer_at k h).config)
 
 -- the line at a slot is up from a time on, too
 abbrev pub with_rise : Option ℕ → Option ℕ → List (Option ℕ) → List (Option ℕ)

@@ -1,5 +1,5 @@
 use Rattle.board_devices.specs.Parts.{IsDevices, devices_at_power_on}
-use Rattle.board_devices.proofs.PowerOn.{IsDevices-at_power_on, timers-three_or_eight, timers-messages}
+use Rattle.board_devices.proofs.PowerOn.{IsDevices-at_power_on}
 use Rattle.board_devices.proofs.devices.Devices.power_on.Goals as goal
 
 pub invariant_of-result : goal.invariant_of-result
