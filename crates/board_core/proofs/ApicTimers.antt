@@ -1,8 +1,7 @@
 -- The conditions on the timers of local APICs are kept.
-use Rattle.std.proofs.Common.{◌≡◌, ℕ, ◌+◌, ◌<◌, ◌≤◌, Bool, true, false, cond, ltb, leb, eqb, ◌||◌, IsTrue, Option, Some, None, get_or, set, List, length, refl, sym, ap, subst, ◌∙◌, inl, inr, arith}
+use Rattle.std.proofs.Common.{◌≡◌, ℕ, ◌+◌, ◌<◌, ◌≤◌, Bool, true, false, cond, ltb, leb, eqb, ◌||◌, IsTrue, Option, Some, None, get_or, set, List, refl, sym, ap, subst, ◌∙◌, inl, inr, arith}
 use Rattle.std.proofs.lemmas.Bool.{cases_lt, cases_eq, and_from, and_left, and_right, lt-ltb, le-ltb, le-leb, lt-leb, leb-true, eqb-true, false≢true}
-use Rattle.std.proofs.lemmas.List.{get_or-replicate, get_or-set_same, get_or-set_other, ext_get_or, length-map}
-use Rattle.tsc_scale.specs.declared.Tsc.{Tsc}
+use Rattle.std.proofs.lemmas.List.{get_or-replicate, get_or-set_same, get_or-set_other}
 use Rattle.std.proofs.Math.ListN.{get_or-map}
 use Rattle.tick_policy.specs.declared.parts.TickParts.{TickParts}
 use Rattle.tick_policy.specs.Line.{acked}
@@ -12,7 +11,7 @@ use Rattle.lapic_timer.specs.Registers.{register_of}
 use Rattle.local_apics.specs.declared.parts.ApicsParts.{ApicsParts}
 use Rattle.local_apics.specs.Parts.{AreApicsOf, apics_at_power_on}
 use Rattle.local_apics.specs.Places.{no_line, no_tsc, line_at}
-use Rattle.local_apics.specs.Nanosecond.{run, looked_all}
+use Rattle.local_apics.specs.Nanosecond.{run, looked_all, tscs_of}
 use Rattle.local_apics.specs.Registers.{eoi_at}
 use Rattle.local_apics.proofs.Keeps.{AreApicsOf-apics_at_power_on, AreApicsOf-run, AreApicsOf-looked_all, AreApicsOf-written_at, AreApicsOf-eoi_at}
 use Rattle.local_apics.proofs.Laws.{due-run, due-looked_all}
@@ -21,7 +20,7 @@ use Rattle.board_types.specs.declared.access.Access.{Access}
 use Rattle.board_types.specs.declared.access.Access.TheVariants.{MsrWrite, Eoi}
 use Rattle.board_types.specs.declared.setup.TheConstants.{APIC_FORMAT}
 use Rattle.board_types.specs.declared.parts.ProcessorParts.{ProcessorParts}
-use Rattle.board_core.specs.Apics.{apics_of, tscs_of, apic_written, apics_acted}
+use Rattle.board_core.specs.Apics.{apics_of, apic_written, apics_acted}
 use Rattle.board_core.specs.Tsc.{no_processor, tsc_of}
 use Rattle.board_core.specs.Conditions.{AreApics}
 use Rattle.board_core.specs.Upgrade.{gets_apics, apics_upgraded}
@@ -128,8 +127,3 @@ AreApics-acted format cpus most cpu _ x there few legal valid = valid
 -- the numbers of the TSCs, place by place
 pub tsc-at : (ps : List ProcessorParts) (k : ℕ) → get_or (tscs_of ps) k no_tsc ≡ tsc_of (get_or ps k no_processor)
 tsc-at ps k = get_or-map tsc_of ps k no_processor
-
-pub tscs-are : (ps : List ProcessorParts) (tscs : List Tsc) → length tscs ≡ length ps
-    → ((k : ℕ) → k < length ps → get_or tscs k no_tsc ≡ tsc_of (get_or ps k no_processor)) → tscs ≡ tscs_of ps
-tscs-are ps tscs long each = ext_get_or no_tsc tscs (tscs_of ps) (long ∙ sym (length-map ps tsc_of))
-    (λ k less. each k (omega (arith, less, long)) ∙ sym (tsc-at ps k))

@@ -1,5 +1,5 @@
 -- The conditions on the parts of a board are kept.
-use Rattle.std.proofs.Common.{◌≡◌, ℕ, zero, suc, ◌+◌, ◌*◌, ◌^◌, ◌<◌, ◌≤◌, Bool, true, false, cond, if◌then◌else◌, leb, ltb, eqb, List, length, get_or, set, replicate, Option, Some, None, IfSome, IsTrue, refl, sym, ap, subst, ◌∙◌, arith, inl, inr}
+use Rattle.std.proofs.Common.{◌≡◌, ℕ, zero, suc, ◌+◌, ◌*◌, ◌^◌, ◌<◌, ◌≤◌, Bool, true, false, cond, if◌then◌else◌, leb, eqb, List, length, get_or, set, replicate, Option, Some, None, IfSome, IsTrue, refl, sym, ap, subst, ◌∙◌, arith, inl, inr}
 use Rattle.std.proofs.lemmas.Bool.{cases_lt, cases_eq}
 use Rattle.std.proofs.lemmas.List.{get_or-set_same, get_or-set_other}
 use Rattle.irq_edges.specs.declared.edges.Edge.{Edge}
@@ -40,7 +40,7 @@ use Rattle.clk_units.specs.Bits.{bit}
 use Rattle.clk_units.specs.Ranges.{IsKhz}
 use Rattle.hv_page.specs.Scale.{tsc_scale}
 use Rattle.hv_page.specs.Page.{published as page_published, withdrawn}
-use Rattle.std.proofs.lemmas.Bool.{eqb-true, leb-true, false≢true, and_from, and_left, and_right, lt-ltb, le-ltb, le-leb, lt-leb}
+use Rattle.std.proofs.lemmas.Bool.{eqb-true, leb-true, false≢true, le-leb, lt-leb}
 use Rattle.std.proofs.lemmas.Nat.{le-div}
 use Rattle.board_core.proofs.Timers.{timers-acted, messages-acted}
 

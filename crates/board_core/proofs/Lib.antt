@@ -10,6 +10,7 @@ pub mod Upgrades
 pub mod Counted
 pub mod Kept
 pub mod Laws
+pub mod OfLines
 pub mod Nanoseconds
 mod Rows
 mod RowsApics

@@ -4,7 +4,8 @@ use Rattle.std.proofs.lemmas.Bool.{cases_lt}
 use Rattle.irq_edges.specs.declared.edges.Edge.{Edge}
 use Rattle.board_devices.specs.declared.parts.DeviceParts.{DeviceParts}
 use Rattle.board_devices.specs.Run.{run, onward, IsNextEdge}
-use Rattle.board_core.specs.Next.{at_first_edge, or_later, first_edge, next_of}
+use Rattle.hpet_bursts.specs.Next.{or_later}
+use Rattle.board_core.specs.Next.{at_first_edge, first_edge, next_of}
 
 front-nil : (xs ys : List Edge) → xs ++ ys ≡ [] → xs ≡ []
 front-nil [] ys e = refl

@@ -6,7 +6,7 @@ use Rattle.hpet_comparator.specs.Parts.{timer_at_power_on}
 use Rattle.hpet_comparator.specs.Stretch.{matches_at, pulsed}
 use Rattle.hpet_registers.specs.Parts.{hpet_at_power_on}
 use Rattle.hpet_registers.specs.Stretch.{matches_next, hpet_pulsed}
-use Rattle.hpet_bursts.specs.Bursts.{bursts_below, bursts_of}
+use Rattle.hpet_bursts.specs.Bursts.{bursts_below}
 use Rattle.irq_edges.specs.declared.bursts.Burst.{Burst}
 use Rattle.board_types.specs.declared.access.Access.TheVariants.{HpetWrite, Step}
 use Rattle.board_types.specs.declared.parts.BoardParts.{BoardParts}

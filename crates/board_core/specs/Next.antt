@@ -3,7 +3,7 @@
 use Rattle.std.specs.Prelude.{ℕ, zero, suc, ◌+◌, ◌-◌, List, [], ◌∷◌, Option, Some, None}
 use Rattle.clk_units.specs.declared.ranges.TheConstants.{RANGE_NS}
 use Rattle.irq_edges.specs.declared.edges.Edge.{Edge}
-use Rattle.hpet_bursts.specs.Next.{next_message}
+use Rattle.hpet_bursts.specs.Next.{or_later, next_message}
 use Rattle.board_types.specs.declared.parts.BoardParts.{BoardParts}
 use Rattle.board_devices.specs.declared.parts.DeviceParts.{DeviceParts}
 use Rattle.board_devices.specs.Run.{run}
@@ -17,11 +17,6 @@ use Rattle.board_core.specs.Apics.{apics_in, tscs_by_time}
 abbrev pub at_first_edge : ℕ → List Edge → Option ℕ
 at_first_edge t [] = None
 at_first_edge t (e ∷ es) = Some t
-
--- a nanosecond that was found before, or else this one
-abbrev pub or_later : Option ℕ → Option ℕ → Option ℕ
-or_later (Some t) later = Some t
-or_later None later = later
 
 -- the first of the n nanoseconds that follow now in which a line changes
 unfoldable pub first_edge : ℕ → ℕ → DeviceParts → Option ℕ

@@ -1,12 +1,11 @@
 //! The timers of local APICs.
 ghost use Rattle.std.specs.Prelude.{◌≡◌, ℕ, ◌+◌, ◌-◌, ◌^◌, ◌<◌, ◌≤◌};
 ghost use Rattle.clk_units.specs.declared.ranges.TheConstants.{RANGE_NS};
-ghost use Rattle.local_apics.specs.Nanosecond.{run as run_apics, tsc_by_time};
+ghost use Rattle.local_apics.specs.Nanosecond.{run as run_apics, tscs_of, tsc_by_time};
 ghost use Rattle.local_apics.specs.Places.{line_at};
 ghost use Rattle.board_core.specs.Apics.{
   apics_of,
   apics_in,
-  tscs_of,
   apics_acted,
   after_look,
 };
@@ -15,13 +14,12 @@ ghost use Rattle.board_core.specs.Next.{IsNextTick};
 ghost use Rattle.board_core.specs.private.Room.{HasRoom};
 
 use crate::board::BoardState;
-use crate::processors::{NO_PROCESSOR, tsc_of};
+use crate::processors::tsc_of;
 use board_types::{APIC_FORMAT, Access, BoardParts, ProcessorParts};
 use clk_units::RANGE_NS;
 use host_counter::Anchor;
 use lapic_timer::ApicRegister;
 use local_apics::{ApicsParts, LocalApics, TscClock};
-use tsc_scale::Tsc;
 
 impl BoardState {
     /// The first nanosecond after the board's time, and below 2^59, in which the timer of processor `cpu` ticks if no
@@ -61,8 +59,7 @@ impl BoardState {
             anchor: self.anchor,
             guest_khz: self.guest_khz,
         };
-        let tscs = tscs_of(&self.processors);
-        self.apics.look(&clock, &tscs, self.time_ns);
+        self.apics.look(&clock, &self.processors, self.time_ns);
     }
 }
 
@@ -80,17 +77,6 @@ pub(crate) fn apics_in(parts: &BoardParts) -> ApicsParts
     let timers = parts.apic;
     let lines = parts.apic_ticks;
     ApicsParts { timers, lines }
-}
-
-/// The numbers of the TSCs of all processors.
-fn tscs_of(processors: &[ProcessorParts; 64]) -> [Tsc; 64]
-    ensures { result ≡ tscs_of processors.now }
-{
-    let mut tscs = [tsc_of(&NO_PROCESSOR); 64];
-    for cpu in 0..64 {
-        tscs[cpu] = tsc_of(&processors[cpu]);
-    }
-    tscs
 }
 
 /// Runs the timers from nanosecond `from` to `to`. Where no timer counts and no deadline is armed it is one test.
@@ -114,8 +100,7 @@ pub(crate) fn run_apics(
 {
     if apics.is_armed() {
         let clock = TscClock { anchor, guest_khz };
-        let tscs = tscs_of(processors);
-        apics.run(&clock, &tscs, from, to);
+        apics.run(&clock, processors, from, to);
     }
 }
 

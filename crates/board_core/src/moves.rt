@@ -1,5 +1,7 @@
 //! A new anchor, and a later format.
 ghost use Rattle.std.specs.Prelude.{◌≡◌, if◌then◌else◌, ◌+◌, ◌<◌, ◌≤◌, length};
+ghost use Rattle.std.specs.List.{All};
+ghost use Rattle.irq_edges.specs.Lines.{IsOfLine};
 ghost use Rattle.clk_units.specs.Ranges.{IsKhz};
 ghost use Rattle.clk_units.specs.declared.ranges.TheConstants.{RANGE_NS};
 ghost use Rattle.board_types.specs.declared.setup.TheConstants.{LAST_FORMAT};
@@ -31,6 +33,7 @@ impl BoardState {
         requires range { now_of self.old + gap < RANGE_NS }
         ensures state { self.new ≡ reanchored khz start gap self.old }
         ensures edges { result.edges ≡ (run (now_of self.old) gap (devices_in self.old)).edges }
+        ensures of_lines { All IsOfLine result.edges }
         ensures bursts { result.bursts ≡ bursts_of (now_of self.old) gap self.old.hpet }
         ensures few { length result.edges ≤ 6 }
     {

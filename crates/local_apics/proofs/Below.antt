@@ -11,7 +11,7 @@ use Rattle.lapic_timer.specs.Parts.{is_masked}
 use Rattle.local_apics.specs.declared.parts.ApicsParts.{ApicsParts}
 use Rattle.local_apics.specs.declared.span.Span.{Span}
 use Rattle.local_apics.specs.declared.span.TscClock.{TscClock}
-use Rattle.local_apics.specs.Parts.{AreApics, is_idle}
+use Rattle.local_apics.specs.Parts.{AreApicPlaces, is_idle}
 use Rattle.local_apics.specs.Places.{timer_at, line_at, no_tsc}
 use Rattle.local_apics.specs.Nanosecond.{run, looked_all, looks_due, tsc_by_time, tsc_in}
 use Rattle.local_apics.specs.private.Span.{length_of}
@@ -22,10 +22,10 @@ use Rattle.local_apics.proofs.Joins.{looks-parts}
 use Rattle.local_apics.proofs.Ticks.{idle_parts, nanoseconds-idle, ticks_in-idle, looked-quiet}
 
 -- a run
-pub run-none : (tsc : ℕ → ℕ → ℕ) (from n : ℕ) (a : ApicsParts) → AreApics a → IsRunBelow 0 tsc from n a a
+pub run-none : (tsc : ℕ → ℕ → ℕ) (from n : ℕ) (a : ApicsParts) → AreApicPlaces a → IsRunBelow 0 tsc from n a a
 run-none tsc from n a are = done-none _ _ a are
 
-pub run-more : (k : ℕ) (tsc : ℕ → ℕ → ℕ) (from n : ℕ) (a b c : ApicsParts) → IsRunBelow k tsc from n a b → AreApics c
+pub run-more : (k : ℕ) (tsc : ℕ → ℕ → ℕ) (from n : ℕ) (a b c : ApicsParts) → IsRunBelow k tsc from n a b → AreApicPlaces c
     → timer_at k c ≡ nanoseconds (tsc k) from n (timer_at k b)
     → line_at k c ≡ ticked_times (ticks_in (tsc k) from (timer_at k b) n) (line_at k b)
     → ((j : ℕ) → (j ≡ k → ⊥) → timer_at j c ≡ timer_at j b) → ((j : ℕ) → (j ≡ k → ⊥) → line_at j c ≡ line_at j b)
@@ -61,10 +61,10 @@ span-run span clock tscs from to a e f g =
     ∙ ap (λ (x : ℕ). run (λ k. tsc_in clock (get_or tscs k no_tsc)) from (x - from) a) g
 
 -- a look
-pub looked-start : (tsc : ℕ → ℕ) (a : ApicsParts) → AreApics a → IsLookedBelow 0 tsc a a
+pub looked-start : (tsc : ℕ → ℕ) (a : ApicsParts) → AreApicPlaces a → IsLookedBelow 0 tsc a a
 looked-start tsc a are = done-none _ _ a are
 
-pub looked-more : (k : ℕ) (tsc : ℕ → ℕ) (a b c : ApicsParts) → IsLookedBelow k tsc a b → AreApics c
+pub looked-more : (k : ℕ) (tsc : ℕ → ℕ) (a b c : ApicsParts) → IsLookedBelow k tsc a b → AreApicPlaces c
     → timer_at k c ≡ looked (tsc k) (timer_at k b) → line_at k c ≡ ticked_where (looks_due (tsc k) (timer_at k b)) (line_at k b)
     → ((j : ℕ) → (j ≡ k → ⊥) → timer_at j c ≡ timer_at j b) → ((j : ℕ) → (j ≡ k → ⊥) → line_at j c ≡ line_at j b)
     → IsLookedBelow (k + 1) tsc a c
@@ -87,13 +87,19 @@ never-due x p none = ap (λ (b : Bool). not (is_masked p) && b) none ∙ by (not
     by true = refl
     by false = refl
 
-pub looked-end : (k : ℕ) (tsc : ℕ → ℕ) (a b : ApicsParts) → IsLookedBelow k tsc a b
-    → ((j : ℕ) → k ≤ j → j < 64 → is_idle (timer_at j b) ≡ true) → b ≡ looked_all tsc a
-looked-end k tsc a b done idle =
+looked-rest : (k : ℕ) (tsc : ℕ → ℕ) (a b : ApicsParts) → IsLookedBelow k tsc a b
+    → ((j : ℕ) → k ≤ j → j < 64 → is_reached (timer_at j a).deadline (tsc j) ≡ false) → b ≡ looked_all tsc a
+looked-rest k tsc a b done quiet =
     let all = done-all k _ _ a b done
     (λ j after less. looked-quiet (tsc j) (timer_at j a) (quiet j after less))
     (λ j after less. ap (λ (d : Bool). ticked_where d (line_at j a)) (never-due (tsc j) (timer_at j a) (quiet j after less))) in
     all ∙ looks-parts tsc a
-  where
-    quiet : (j : ℕ) → k ≤ j → j < 64 → is_reached (timer_at j a).deadline (tsc j) ≡ false
-    quiet j after less = idle-unreached (tsc j) (timer_at j a) (ap is_idle (sym (done.other_timers j after)) ∙ idle j after less)
+
+pub looked-end : (k : ℕ) (tsc : ℕ → ℕ) (a b : ApicsParts) → IsLookedBelow k tsc a b
+    → ((j : ℕ) → k ≤ j → j < 64 → is_idle (timer_at j b) ≡ true) → b ≡ looked_all tsc a
+looked-end k tsc a b done idle = looked-rest k tsc a b done (λ j after less.
+    idle-unreached (tsc j) (timer_at j a) (ap is_idle (sym (done.other_timers j after)) ∙ idle j after less))
+
+-- a look where no deadline is armed
+pub looked-none : (tsc : ℕ → ℕ) (a : ApicsParts) → AreApicPlaces a → ((j : ℕ) → j < 64 → (timer_at j a).deadline ≡ 0) → a ≡ looked_all tsc a
+looked-none tsc a are none = looked-rest 0 tsc a a (looked-start tsc a are) (λ j after less. ap (λ (d : ℕ). is_reached d (tsc j)) (none j less))

@@ -4,13 +4,13 @@ use Rattle.std.proofs.lemmas.Bool.{cases_eq, cases_lt}
 use Rattle.tick_policy.specs.declared.parts.TickParts.{TickParts}
 use Rattle.lapic_timer.specs.declared.parts.ApicParts.{ApicParts}
 use Rattle.local_apics.specs.declared.parts.ApicsParts.{ApicsParts}
-use Rattle.local_apics.specs.Parts.{AreApics}
+use Rattle.local_apics.specs.Parts.{AreApicPlaces}
 use Rattle.local_apics.specs.Places.{each, no_timer, no_line, timer_at, line_at}
 use Rattle.local_apics.specs.private.Stretch.{IsDoneBelow}
 use Rattle.local_apics.proofs.Places.{each-in, same_places, length-each}
 use Rattle.local_apics.proofs.Product.{both, same_parts}
 
-pub done-none : (f : ℕ → ApicParts → ApicParts) (g : ℕ → TickParts → TickParts) (a : ApicsParts) → AreApics a → IsDoneBelow 0 f g a a
+pub done-none : (f : ℕ → ApicParts → ApicParts) (g : ℕ → TickParts → TickParts) (a : ApicsParts) → AreApicPlaces a → IsDoneBelow 0 f g a a
 done-none f g a are = record {
   before = are;
   after = are;
@@ -21,7 +21,7 @@ done-none f g a are = record {
 }
 
 -- one place more
-pub done-more : (n : ℕ) (f : ℕ → ApicParts → ApicParts) (g : ℕ → TickParts → TickParts) (a b c : ApicsParts) → IsDoneBelow n f g a b → AreApics c
+pub done-more : (n : ℕ) (f : ℕ → ApicParts → ApicParts) (g : ℕ → TickParts → TickParts) (a b c : ApicsParts) → IsDoneBelow n f g a b → AreApicPlaces c
     → timer_at n c ≡ f n (timer_at n a) → line_at n c ≡ g n (line_at n a) → ((k : ℕ) → (k ≡ n → ⊥) → timer_at k c ≡ timer_at k b)
     → ((k : ℕ) → (k ≡ n → ⊥) → line_at k c ≡ line_at k b) → IsDoneBelow (n + 1) f g a c
 done-more n f g a b c done are timer line timers lines = record {

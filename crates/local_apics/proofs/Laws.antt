@@ -8,7 +8,7 @@ use Rattle.lapic_timer.specs.declared.parts.ApicParts.{ApicParts}
 use Rattle.lapic_timer.specs.Stretch.{nanoseconds}
 use Rattle.lapic_timer.specs.Deadline.{IsFirstAt}
 use Rattle.local_apics.specs.declared.parts.ApicsParts.{ApicsParts}
-use Rattle.local_apics.specs.Parts.{AreApics, AreIdle, apics_at_power_on}
+use Rattle.local_apics.specs.Parts.{AreApicPlaces, AreIdle, apics_at_power_on}
 use Rattle.local_apics.specs.Places.{each, no_line, timer_at, line_at}
 use Rattle.local_apics.specs.Nanosecond.{tick_with, run, looks_due, looked_all, ticks_at}
 use Rattle.local_apics.specs.private.Stretch.{ticks_in, parted}
@@ -51,10 +51,10 @@ due-looked_all tsc k a inside =
     omega (arith, e, due-where (looks_due (tsc k) (timer_at k a)) (line_at k a))
 
 -- idle timers, as all are where there is no processor
-pub look-idle : (tsc : ℕ → ℕ) (a : ApicsParts) → AreApics a → AreIdle a → looked_all tsc a ≡ a
+pub look-idle : (tsc : ℕ → ℕ) (a : ApicsParts) → AreApicPlaces a → AreIdle a → looked_all tsc a ≡ a
 look-idle tsc a are idle = sym (looked-end 0 tsc a a (looked-start tsc a are) (λ k after less. idle k less))
 
-AreApics-power_on : (cpus : ℕ) → cpus ≤ 64 → AreApics (apics_at_power_on cpus)
+AreApics-power_on : (cpus : ℕ) → cpus ≤ 64 → AreApicPlaces (apics_at_power_on cpus)
 AreApics-power_on cpus few = record { timers = power_on-length cpus few; lines = refl; policy = λ k less. no_lines-policy 64 k }
 
 pub run-empty : (tsc : ℕ → ℕ → ℕ) (from n : ℕ) → run tsc from n (apics_at_power_on 0) ≡ apics_at_power_on 0

@@ -1,5 +1,7 @@
 -- Deadlines in a span, by its two ends.
-use Rattle.std.proofs.Common.{◌≡◌, ℕ, ◌+◌, ◌%◌, ◌^◌, true, false, sym, ap, ◌∙◌, arith}
+use Rattle.std.proofs.Common.{◌≡◌, ℕ, ◌+◌, ◌%◌, ◌^◌, ◌<◌, true, false, List, length, get_or, sym, ap, ◌∙◌, arith}
+use Rattle.std.proofs.lemmas.List.{get_or-map}
+use Rattle.board_types.specs.declared.parts.ProcessorParts.{ProcessorParts}
 use Rattle.tsc_scale.specs.declared.Tsc.{Tsc}
 use Rattle.lapic_timer.specs.declared.parts.ApicParts.{ApicParts}
 use Rattle.lapic_timer.specs.Parts.{mode_of, ticks_of}
@@ -7,12 +9,13 @@ use Rattle.lapic_timer.specs.Stretch.{nanoseconds}
 use Rattle.lapic_timer.specs.Deadline.{is_reached, count_at}
 use Rattle.lapic_timer.proofs.Waits.{tsc_at-offset, reached-ends}
 use Rattle.local_apics.specs.declared.span.Span.{Span}
-use Rattle.local_apics.specs.Nanosecond.{tsc_in}
+use Rattle.local_apics.specs.Places.{no_tsc}
+use Rattle.local_apics.specs.Nanosecond.{tscs_of, tsc_in}
 use Rattle.local_apics.specs.private.Span.{IsSpan, ratio_in, length_of}
 use Rattle.local_apics.specs.private.Stretch.{ticks_in}
 use Rattle.local_apics.proofs.Ticks.{reached-none, reached-some, reached-is}
 
-module _ (span : Span) (tsc : Tsc) (is : IsSpan span) where
+module _ (span : Span) (tsc : Tsc) (is : IsSpan span) (looks : span.looks ≡ true) where
   -- the TSC at the ends
   abbrev pub first_of : ℕ
   first_of = (span.first + tsc.offset) % 2 ^ 64
@@ -22,11 +25,11 @@ module _ (span : Span) (tsc : Tsc) (is : IsSpan span) where
 
   first-tsc : first_of ≡ tsc_in span.clock tsc (span.from + 1)
   first-tsc =
-      ap (λ (x : ℕ). (x + tsc.offset) % 2 ^ 64) is.first
+      ap (λ (x : ℕ). (x + tsc.offset) % 2 ^ 64) (is.first looks)
       ∙ tsc_at-offset tsc (count_at span.clock.anchor (span.from + 1)) (ratio_in span.clock)
 
   last-tsc : last_of ≡ tsc_in span.clock tsc span.to
-  last-tsc = ap (λ (x : ℕ). (x + tsc.offset) % 2 ^ 64) is.last ∙ tsc_at-offset tsc (count_at span.clock.anchor span.to) (ratio_in span.clock)
+  last-tsc = ap (λ (x : ℕ). (x + tsc.offset) % 2 ^ 64) (is.last looks) ∙ tsc_at-offset tsc (count_at span.clock.anchor span.to) (ratio_in span.clock)
 
   -- reached at an end
   pub reached-first : (p : ApicParts) → mode_of p.lvt ≡ 2 → is_reached p.deadline first_of ≡ true
@@ -54,3 +57,8 @@ module _ (span : Span) (tsc : Tsc) (is : IsSpan span) where
       (omega (arith, within, is.order))
       (reached-is span.clock.anchor (ratio_in span.clock) tsc p.deadline (span.from + 1) ∙ ap (is_reached p.deadline) (sym first-tsc) ∙ first)
       (reached-is span.clock.anchor (ratio_in span.clock) tsc p.deadline span.to ∙ ap (is_reached p.deadline) (sym last-tsc) ∙ last))
+
+-- the TSC of a processor
+pub tscs_at : (ps : List ProcessorParts) (k : ℕ) (p : ProcessorParts) → k < length ps
+    → get_or (tscs_of ps) k no_tsc ≡ record { offset = (get_or ps k p).offset; adjust = (get_or ps k p).adjust }
+tscs_at ps k p less = get_or-map (λ (p : ProcessorParts). record { offset = p.offset; adjust = p.adjust }) ps k p no_tsc less

@@ -1,7 +1,8 @@
 -- Nanoseconds of all timers, and what they make of the tick lines. Sections are those of Intel's
 -- Software Developer's Manual, volume 3; (own) marks the project's own choices.
 use Rattle.std.specs.Prelude.{ℕ, zero, suc, ◌+◌, ◌-◌, Bool, ◌&&◌, not, if◌then◌else◌, List}
-use Rattle.std.specs.Prelude.{slice_index_or}
+use Rattle.std.specs.Prelude.{slice_index_or, map}
+use Rattle.board_types.specs.declared.parts.ProcessorParts.{ProcessorParts}
 use Rattle.tsc_scale.specs.declared.Tsc.{Tsc}
 use Rattle.tsc_scale.specs.Ratio.{ratio_of}
 use Rattle.tsc_scale.specs.Tsc.{tsc_at}
@@ -48,6 +49,10 @@ looked_all tsc a = record {
 -- whether a timer that is left alone after nanosecond `from` ticks in nanosecond t
 abbrev pub ticks_at : (ℕ → ℕ) → ℕ → ApicParts → ℕ → Bool
 ticks_at tsc from p t = tick_with (tsc t) (nanoseconds tsc from (t - from - 1) p)
+
+-- the numbers of the TSCs of these processors
+abbrev pub tscs_of : List ProcessorParts → List Tsc
+tscs_of ps = map (λ p. record { offset = p.offset; adjust = p.adjust }) ps
 
 -- the TSC at nanosecond t of a processor with these numbers
 abbrev pub tsc_in : TscClock → Tsc → ℕ → ℕ

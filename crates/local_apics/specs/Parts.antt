@@ -19,7 +19,7 @@ abbrev pub AreIdle : ApicsParts → Type 0
 AreIdle a = (k : ℕ) → k < 64 → is_idle (timer_at k a) ≡ true
 
 -- 64 places, and the policy of the lines
-pub record AreApics (a : ApicsParts) : Type 0 where
+pub record AreApicPlaces (a : ApicsParts) : Type 0 where
   pub timers : length a.timers ≡ 64
   pub lines : length a.lines ≡ 64
   pub policy : (k : ℕ) → k < 64 → (line_at k a).policy ≡ Discard

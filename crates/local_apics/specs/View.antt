@@ -3,7 +3,7 @@ use Rattle.std.specs.Prelude.{◌≡◌, ℕ}
 use Rattle.std.proofs.Common.{ap}
 use Rattle.local_apics.specs.declared.parts.ApicsParts.{ApicsParts}
 use Rattle.local_apics.specs.declared.apics.LocalApics.TheInside.{Inside}
-use Rattle.local_apics.specs.Parts.{AreApics}
+use Rattle.local_apics.specs.Parts.{AreApicPlaces}
 use Rattle.local_apics.specs.private.Mask.{armed_below}
 
 abbrev pub parts_of : Inside → ApicsParts
@@ -15,7 +15,7 @@ stored p = record { armed = armed_below 64 p.timers; timers = p.timers; lines = 
 -- the mask is that of the timers that aren't idle
 pub record IsStored (a : Inside) : Type 0 where
   pub armed : armed_below 64 a.timers ≡ a.armed
-  pub joined : AreApics (parts_of a)
+  pub joined : AreApicPlaces (parts_of a)
 
 pub stored-parts_of : (a : Inside) → IsStored a → stored (parts_of a) ≡ a
 stored-parts_of a is = ap (λ (m : ℕ). record a { armed = m }) is.armed

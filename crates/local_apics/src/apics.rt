@@ -17,8 +17,15 @@ ghost use Rattle.clk_units.specs.Ranges.{IsKhz};
 ghost use Rattle.clk_units.specs.declared.ranges.TheConstants.{RANGE_NS};
 ghost use Rattle.lapic_timer.specs.Deadline.{IsFirstAt};
 ghost use Rattle.lapic_timer.specs.Registers.{register_read};
-ghost use Rattle.local_apics.specs.Nanosecond.{run, looked_all, ticks_at, tsc_in, tsc_by_time};
-ghost use Rattle.local_apics.specs.Parts.{AreIdle, AreApics, AreApicsOf, is_idle, apics_at_power_on};
+ghost use Rattle.local_apics.specs.Nanosecond.{
+  run,
+  looked_all,
+  ticks_at,
+  tscs_of,
+  tsc_in,
+  tsc_by_time,
+};
+ghost use Rattle.local_apics.specs.Parts.{AreIdle, AreApicPlaces, AreApicsOf, is_idle, apics_at_power_on};
 ghost use Rattle.local_apics.specs.Parts.{timers_at_power_on};
 ghost use Rattle.local_apics.specs.Places.{timer_at, line_at, no_timer, no_line};
 ghost use Rattle.local_apics.specs.Registers.{written_at, eoi_at};
@@ -26,6 +33,7 @@ ghost use Rattle.local_apics.specs.Registers.{written_at, eoi_at};
 use crate::parts::{ApicsParts, NO_PARTS};
 use crate::place::tsc_of;
 use crate::span::{Span, TscClock, next_tick, tsc_by};
+use board_types::ProcessorParts;
 use lapic_timer::{ApicRegister, ApicTimer, guest_count_at};
 use std::marker::Model;
 use tick_policy::{Counts, Policy, TickLine};
@@ -106,46 +114,65 @@ impl LocalApics {
     #[inline]
     pub fn is_armed(&self) -> bool
         ensures idle { (result ≡ false) ↔ AreIdle self.now }
-        ensures joined { AreApics self.now }
+        ensures joined { AreApicPlaces self.now }
     {
         self.armed != 0
     }
 
+    /// Whether a deadline may be armed. Where none is, no TSC is asked for.
+    fn has_deadlines(&self) -> bool
+        ensures none { result ≡ false → (k : ℕ) → k < 64 → (timer_at k self.now).deadline ≡ 0 }
+        ensures joined { AreApicPlaces self.now }
+    {
+        let _ = &self.armed;
+        for cpu in 0..64 {
+            if self.is_idle_from(cpu) {
+                return false;
+            }
+            if self.timer(cpu).deadline() != 0 {
+                return true;
+            }
+        }
+        false
+    }
+
     /// Runs all timers from nanosecond `from` to `to`, each with the TSC of its processor: these are
     /// the single nanoseconds between, one after the other.
-    pub fn run(&mut self, clock: &TscClock, tscs: &[Tsc; 64], from: u64, to: u64)
+    pub fn run(&mut self, clock: &TscClock, processors: &[ProcessorParts; 64], from: u64, to: u64)
         requires order { from ≤ to }
         requires in_range { to < RANGE_NS }
         requires host { IsKhz clock.now.anchor.khz }
         requires guest { IsKhz clock.now.guest_khz }
         requires anchored { clock.now.anchor.base_ns ≤ from }
         requires room { (k : ℕ) → k < 64 → (line_at k self.old).counts.due + (to - from) < 2 ^ 63 }
-        ensures { self.new ≡ run (tsc_by_time clock.now tscs.now) from (to - from) self.old }
+        ensures { self.new
+            ≡ run (tsc_by_time clock.now (tscs_of processors.now)) from (to - from) self.old }
     {
         if !self.is_armed() || from == to {
             return;
         }
-        let span = Span::new(clock, from, to);
+        let span = Span::new(clock, from, to, self.has_deadlines());
         for cpu in 0..64 {
             if self.is_idle_from(cpu) {
                 return;
             }
-            let tsc = tsc_of(tscs, cpu);
+            let tsc = tsc_of(processors, cpu);
             self.run_at(cpu, &span, tsc);
         }
     }
 
     /// Looks at the deadlines of all processors at nanosecond `at`, as at the end of an access's
     /// first part.
-    pub fn look(&mut self, clock: &TscClock, tscs: &[Tsc; 64], at: u64)
+    pub fn look(&mut self, clock: &TscClock, processors: &[ProcessorParts; 64], at: u64)
         requires in_range { at < RANGE_NS }
         requires host { IsKhz clock.now.anchor.khz }
         requires guest { IsKhz clock.now.guest_khz }
         requires anchored { clock.now.anchor.base_ns ≤ at }
         requires room { (k : ℕ) → k < 64 → (line_at k self.old).counts.due + 1 < 2 ^ 63 }
-        ensures { self.new ≡ looked_all (λ k. tsc_by_time clock.now tscs.now k at) self.old }
+        ensures { self.new
+            ≡ looked_all (λ k. tsc_by_time clock.now (tscs_of processors.now) k at) self.old }
     {
-        if !self.is_armed() {
+        if !self.has_deadlines() {
             return;
         }
         let count = guest_count_at(clock.anchor, clock.guest_khz, at);
@@ -153,7 +180,7 @@ impl LocalApics {
             if self.is_idle_from(cpu) {
                 return;
             }
-            let tsc = tsc_by(count, tsc_of(tscs, cpu));
+            let tsc = tsc_by(count, tsc_of(processors, cpu));
             self.look_at(cpu, tsc);
         }
     }

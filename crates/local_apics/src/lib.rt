@@ -8,7 +8,7 @@
 //! apics.write(1, ApicRegister::Divide, 0xb);      // divide by 1
 //! apics.write(1, ApicRegister::Lvt, 0x2_0030);    // periodic, vector 30h
 //! apics.write(1, ApicRegister::Initial, 100);
-//! apics.run(&clock, &tscs, 0, 250);
+//! apics.run(&clock, &processors, 0, 250);
 //! // two ticks are due on the line of processor 1: one raised it, the other is lost
 //! apics.eoi(1);
 //! ```

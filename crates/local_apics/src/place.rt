@@ -4,6 +4,7 @@ ghost use Rattle.std.specs.Prelude.{
   ◌≢◌,
   ℕ,
   true,
+  false,
   ◌+◌,
   ◌^◌,
   ◌<◌,
@@ -19,8 +20,8 @@ ghost use Rattle.tick_policy.specs.Line.{ticked_times, acked};
 ghost use Rattle.tick_policy.specs.Stretch.{ticked_where};
 ghost use Rattle.lapic_timer.specs.Deadline.{guest_count_at, looked};
 ghost use Rattle.lapic_timer.specs.Stretch.{nanoseconds};
-ghost use Rattle.local_apics.specs.Nanosecond.{looks_due, tsc_in};
-ghost use Rattle.local_apics.specs.Parts.{AreApics, IsPlaceOf, is_idle};
+ghost use Rattle.local_apics.specs.Nanosecond.{looks_due, tscs_of, tsc_in};
+ghost use Rattle.local_apics.specs.Parts.{AreApicPlaces, IsPlaceOf, is_idle};
 ghost use Rattle.local_apics.specs.Places.{timer_at, line_at, no_tsc};
 ghost use Rattle.local_apics.specs.private.Span.{IsSpan, length_of};
 ghost use Rattle.local_apics.specs.private.Stretch.{ticks_in};
@@ -28,6 +29,7 @@ ghost use Rattle.local_apics.specs.private.Stretch.{ticks_in};
 use crate::LocalApics;
 use crate::parts::{is_no_line, is_no_timer};
 use crate::span::{Span, run_timer};
+use board_types::ProcessorParts;
 use clk_units::bit;
 use lapic_timer::{ApicParts, ApicTimer};
 use tick_policy::{Policy, TickLine, TickParts};
@@ -55,7 +57,7 @@ impl LocalApics {
     pub(crate) fn timer(&self, cpu: u8) -> ApicTimer
         requires { cpu < 64 }
         ensures value { result ≡ timer_at cpu self.now }
-        ensures joined { AreApics self.now }
+        ensures joined { AreApicPlaces self.now }
     {
         self.timers[cpu as usize]
     }
@@ -64,7 +66,7 @@ impl LocalApics {
     pub(crate) fn line(&self, cpu: u8) -> TickLine
         requires { cpu < 64 }
         ensures value { result ≡ line_at cpu self.now }
-        ensures joined { AreApics self.now }
+        ensures joined { AreApicPlaces self.now }
     {
         self.lines[cpu as usize]
     }
@@ -86,7 +88,7 @@ impl LocalApics {
         requires place { cpu < 64 }
         requires policy { line.policy ≡ Policy.Discard }
         ensures state { self.new ≡ record self.old { lines = slice_set self.old.lines cpu line } }
-        ensures joined { AreApics self.new }
+        ensures joined { AreApicPlaces self.new }
     {
         self.lines[cpu as usize] = line;
     }
@@ -126,6 +128,7 @@ impl LocalApics {
     pub(crate) fn run_at(&mut self, cpu: u8, span: &Span, tsc: Tsc)
         requires place { cpu < 64 }
         requires span { IsSpan span.now }
+        requires looks { span.now.looks ≡ false → (timer_at cpu self.old).deadline ≡ 0 }
         requires room { (line_at cpu self.old).counts.due + length_of span.now < 2 ^ 63 }
         ensures timer { timer_at cpu self.new ≡ nanoseconds (tsc_in span.now.clock tsc)
             span.now.from (length_of span.now) (timer_at cpu self.old) }
@@ -133,7 +136,7 @@ impl LocalApics {
             span.now.from (timer_at cpu self.old) (length_of span.now)) (line_at cpu self.old) }
         ensures other_timers { (k : ℕ) → k ≢ cpu → timer_at k self.new ≡ timer_at k self.old }
         ensures other_lines { (k : ℕ) → k ≢ cpu → line_at k self.new ≡ line_at k self.old }
-        ensures joined { AreApics self.new }
+        ensures joined { AreApicPlaces self.new }
     {
         let mut timer = self.timer(cpu);
         if self.is_idle(cpu) {
@@ -141,7 +144,9 @@ impl LocalApics {
         }
         let ticks = run_timer(&mut timer, span, tsc);
         self.put(cpu, timer);
-        self.tick(cpu, ticks);
+        if ticks > 0 {
+            self.tick(cpu, ticks);
+        }
     }
 
     /// Looks at the deadline of one processor, whose TSC is `tsc`.
@@ -153,7 +158,7 @@ impl LocalApics {
             ≡ ticked_where (looks_due tsc (timer_at cpu self.old)) (line_at cpu self.old) }
         ensures other_timers { (k : ℕ) → k ≢ cpu → timer_at k self.new ≡ timer_at k self.old }
         ensures other_lines { (k : ℕ) → k ≢ cpu → line_at k self.new ≡ line_at k self.old }
-        ensures joined { AreApics self.new }
+        ensures joined { AreApicPlaces self.new }
     {
         let mut timer = self.timer(cpu);
         if !timer.reach(tsc) {
@@ -171,7 +176,7 @@ impl LocalApics {
         ensures state { self.new ≡ record self.old {
           lines = slice_set self.old.lines cpu (ticked_times ticks (line_at cpu self.old));
         } }
-        ensures joined { AreApics self.new }
+        ensures joined { AreApicPlaces self.new }
     {
         let mut line = self.line(cpu);
         line.due(ticks);
@@ -180,11 +185,17 @@ impl LocalApics {
 }
 
 /// The numbers of the TSC of processor `k`.
-pub(crate) fn tsc_of(tscs: &[Tsc; 64], k: u8) -> Tsc
+#[inline(always)]
+#[tactic(auto, using(crate::proofs::Spans::tscs_at))]
+pub(crate) fn tsc_of(processors: &[ProcessorParts; 64], k: u8) -> Tsc
     requires { k < 64 }
-    ensures { result ≡ slice_index_or tscs.now k no_tsc }
+    ensures { result ≡ slice_index_or (tscs_of processors.now) k no_tsc }
 {
-    tscs[k as usize]
+    let p = &processors[k as usize];
+    Tsc {
+        offset: p.offset,
+        adjust: p.adjust,
+    }
 }
 
 /// The bit of processor `k`, where its timer isn't idle.

@@ -1,5 +1,17 @@
 //! One timer over a run.
-ghost use Rattle.std.specs.Prelude.{◌≡◌, ◌≢◌, ℕ, ◌+◌, ◌-◌, ◌%◌, ◌^◌, ◌<◌, ◌≤◌};
+ghost use Rattle.std.specs.Prelude.{
+  ◌≡◌,
+  ◌≢◌,
+  ℕ,
+  ◌+◌,
+  ◌-◌,
+  ◌%◌,
+  ◌^◌,
+  ◌<◌,
+  ◌≤◌,
+  true,
+  false,
+};
 ghost use Rattle.clk_units.specs.Ranges.{IsKhz};
 ghost use Rattle.clk_units.specs.declared.ranges.TheConstants.{RANGE_NS};
 ghost use Rattle.lapic_timer.specs.Deadline.{IsFirstAt};
@@ -23,20 +35,21 @@ pub struct TscClock {
     pub guest_khz: u64,
 }
 
-/// The nanoseconds of a run, with the guest's counts at the first and at the last of them, which
-/// all processors share.
+/// The nanoseconds of a run, and where `looks` holds the guest's counts at the first and at the last
+/// of them, which all processors share. Deadlines alone ask for these.
 #[derive(Clone, Copy)]
 pub(crate) struct Span {
     clock: TscClock,
     from: u64,
     to: u64,
+    looks: bool,
     first: u64,
     last: u64,
 }
 
 impl Span {
     /// The nanoseconds after `from` up to `to`.
-    pub(crate) fn new(clock: &TscClock, from: u64, to: u64) -> Span
+    pub(crate) fn new(clock: &TscClock, from: u64, to: u64, looks: bool) -> Span
         requires order { from < to }
         requires in_range { to < RANGE_NS }
         requires host { IsKhz clock.now.anchor.khz }
@@ -46,16 +59,21 @@ impl Span {
         ensures clock { result.clock ≡ clock.now }
         ensures from { result.from ≡ from }
         ensures to { result.to ≡ to }
+        ensures looks { result.looks ≡ looks }
     {
-        let first = guest_count_at(clock.anchor, clock.guest_khz, from + 1);
-        let last = guest_count_at(clock.anchor, clock.guest_khz, to);
-        Span {
+        let mut span = Span {
             clock: *clock,
             from,
             to,
-            first,
-            last,
+            looks,
+            first: 0,
+            last: 0,
+        };
+        if looks {
+            span.first = guest_count_at(clock.anchor, clock.guest_khz, from + 1);
+            span.last = guest_count_at(clock.anchor, clock.guest_khz, to);
         }
+        span
     }
 }
 
@@ -68,17 +86,21 @@ pub(crate) fn tsc_by(count: u64, tsc: Tsc) -> u64
 
 /// Runs a timer over a span. Answers its ticks.
 pub(crate) fn run_timer(timer: &mut ApicTimer, span: &Span, tsc: Tsc) -> u64
-    requires { IsSpan span.now }
+    requires span { IsSpan span.now }
+    requires looks { span.now.looks ≡ false → timer.old.deadline ≡ 0 }
     ensures state { timer.new ≡ nanoseconds (tsc_in span.now.clock tsc) span.now.from
         (length_of span.now) timer.old }
     ensures ticks { result ≡ ticks_in (tsc_in span.now.clock tsc) span.now.from timer.old
         (length_of span.now) }
     ensures few { result ≤ length_of span.now }
 {
-    if timer.parts().is_deadline() {
+    let parts = timer.parts();
+    if parts.deadline != 0 {
         run_deadline(timer, span, tsc)
-    } else {
+    } else if parts.current != 0 {
         run_counts(timer, span.to - span.from)
+    } else {
+        0
     }
 }
 
@@ -99,6 +121,7 @@ fn run_counts(timer: &mut ApicTimer, n: u64) -> u64
 fn run_deadline(timer: &mut ApicTimer, span: &Span, tsc: Tsc) -> u64
     requires mode { mode_of timer.old.lvt ≡ 2 }
     requires span { IsSpan span.now }
+    requires looks { span.now.looks ≡ true }
     ensures state { timer.new ≡ nanoseconds (tsc_in span.now.clock tsc) span.now.from
         (length_of span.now) timer.old }
     ensures ticks { result ≡ ticks_in (tsc_in span.now.clock tsc) span.now.from timer.old

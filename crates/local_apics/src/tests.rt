@@ -4,6 +4,7 @@ ghost use Rattle.std.specs.Prelude.{◌≡◌, ℕ, true, ◌^◌, ◌<◌};
 ghost use Rattle.local_apics.specs.Places.{line_at};
 
 use crate::{ApicsParts, LocalApics, TscClock};
+use board_types::ProcessorParts;
 use clk_units::{RANGE_NS, is_khz};
 use host_counter::Anchor;
 use lapic_timer::{ApicParts, ApicRegister};
@@ -29,12 +30,25 @@ enum Act {
     MoveTsc(u64),
 }
 
+/// A processor whose TSC is the guest's count.
+const PROCESSOR: ProcessorParts = ProcessorParts {
+    offset: 0,
+    adjust: 0,
+    number: 0,
+    version: 0,
+    tsc_timestamp: 0,
+    system_time: 0,
+    mul: 0,
+    shift: 0,
+    flags: 0,
+};
+
 /// The timers with the processors' TSCs, and the time.
 #[derive(Clone, Copy)]
 struct Rig {
     apics: LocalApics,
     clock: TscClock,
-    tscs: [Tsc; 64],
+    processors: [ProcessorParts; 64],
     now: u64,
 }
 
@@ -56,10 +70,7 @@ fn rig_of(cpus: u8, clock: TscClock) -> Rig
     Rig {
         apics: LocalApics::power_on(cpus),
         clock,
-        tscs: [Tsc {
-            offset: 0,
-            adjust: 0,
-        }; 64],
+        processors: [PROCESSOR; 64],
         now: clock.anchor.base_ns,
     }
 }
@@ -88,7 +99,7 @@ impl Rig {
         if !has_room(&self.apics) {
             return false;
         }
-        self.apics.run(&self.clock, &self.tscs, self.now, to);
+        self.apics.run(&self.clock, &self.processors, self.now, to);
         self.now = to;
         true
     }
@@ -104,7 +115,7 @@ impl Rig {
         if !has_room(&self.apics) {
             return false;
         }
-        self.apics.look(&self.clock, &self.tscs, self.now);
+        self.apics.look(&self.clock, &self.processors, self.now);
         true
     }
 
@@ -116,7 +127,8 @@ impl Rig {
         if self.now < self.clock.anchor.base_ns || to < self.now || to >= RANGE_NS || cpu >= 64 {
             return None;
         }
-        let tsc = self.tscs[cpu as usize];
+        let ProcessorParts { offset, adjust, .. } = self.processors[cpu as usize];
+        let tsc = Tsc { offset, adjust };
         self.apics.next_tick(cpu, &self.clock, tsc, self.now, to)
     }
 }
@@ -146,8 +158,8 @@ fn perform(rt: &impl Abort, rig: &mut Rig, cpu: u8, at: u64, act: Act) {
             assert_eq!(rt; rig.apics.counts(cpu), counts, "at {at}");
         }
         Act::MoveTsc(distance) => {
-            let tsc = &mut rig.tscs[cpu as usize];
-            tsc.offset = tsc.offset.wrapping_add(distance);
+            let processor = &mut rig.processors[cpu as usize];
+            processor.offset = processor.offset.wrapping_add(distance);
         }
     }
     assert!(rt; rig.look(), "{act:?} at {at}");

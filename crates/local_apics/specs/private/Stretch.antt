@@ -8,7 +8,7 @@ use Rattle.lapic_timer.specs.Deadline.{looked}
 use Rattle.lapic_timer.specs.Stretch.{nanoseconds}
 use Rattle.local_apics.specs.declared.parts.ApicsParts.{ApicsParts}
 use Rattle.local_apics.specs.Nanosecond.{tick_with, looks_due}
-use Rattle.local_apics.specs.Parts.{AreApics}
+use Rattle.local_apics.specs.Parts.{AreApicPlaces}
 use Rattle.local_apics.specs.Places.{each, timer_at, line_at}
 
 -- how many ticks a timer makes in the n nanoseconds after `from`
@@ -28,8 +28,8 @@ parted tsc from n a = record {
 -- what was done at the first n places of `old` makes `new`
 pub record IsDoneBelow (n : ℕ) (f : ℕ → ApicParts → ApicParts) (g : ℕ → TickParts → TickParts)
     (old new : ApicsParts) : Type 0 where
-  pub before : AreApics old
-  pub after : AreApics new
+  pub before : AreApicPlaces old
+  pub after : AreApicPlaces new
   pub timers : (k : ℕ) → k < n → timer_at k new ≡ f k (timer_at k old)
   pub lines : (k : ℕ) → k < n → line_at k new ≡ g k (line_at k old)
   pub other_timers : (k : ℕ) → n ≤ k → timer_at k new ≡ timer_at k old

@@ -1,7 +1,6 @@
 use Rattle.std.proofs.Common.{◌-◌, refl, sym}
-use Rattle.local_apics.specs.Nanosecond.{tsc_by_time}
+use Rattle.local_apics.specs.Nanosecond.{tscs_of, tsc_by_time}
 use Rattle.local_apics.proofs.Product.{run-idle}
-use Rattle.board_core.specs.Apics.{tscs_of}
 use Rattle.board_core.proofs.apics.run_apics.Goals as goal
 
 pub returns-else-is_armed : goal.returns-else-is_armed

@@ -1,10 +1,9 @@
-use Rattle.std.proofs.Common.{◌≡◌, ℕ, ◌+◌, List, ap, sym, subst, ◌∙◌, arith}
-use Rattle.tsc_scale.specs.declared.Tsc.{Tsc}
+use Rattle.std.proofs.Common.{◌≡◌, ℕ, ◌+◌, ap, sym, subst, ◌∙◌, arith}
 use Rattle.local_apics.specs.declared.parts.ApicsParts.{ApicsParts}
-use Rattle.local_apics.specs.Nanosecond.{tsc_by_time, looked_all}
+use Rattle.local_apics.specs.Nanosecond.{looked_all}
 use Rattle.board_types.specs.declared.parts.BoardParts.{BoardParts}
 use Rattle.board_core.specs.Time.{now_of}
-use Rattle.board_core.specs.Apics.{apics_in, with_apics, clock_in, tscs_by_time, after_look}
+use Rattle.board_core.specs.Apics.{apics_in, with_apics, tscs_by_time, after_look}
 use Rattle.board_core.specs.Conditions.{AreApics}
 use Rattle.board_core.specs.View.{board_parts_of}
 use Rattle.board_core.specs.private.Room.{HasRoom}
@@ -21,7 +20,6 @@ looked_is : (c : goal.After-look) → c.look.new.self
 looked_is c =
     let b : BoardParts = board_parts_of c.self.inside in
     c.look.ensures
-    ∙ ap (λ (tscs : List Tsc). looked_all (λ k. tsc_by_time (clock_in b) tscs k c.self.inside.time_ns) c.self.inside.apics) c.tscs_of-tscs.ensures
     ∙ ap (λ (t : ℕ). looked_all (λ k. tscs_by_time b k t) c.self.inside.apics) c.self.invariant.time
 
 pub invariant_of-self : goal.invariant_of-self

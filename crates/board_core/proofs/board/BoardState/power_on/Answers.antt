@@ -2,7 +2,7 @@ use Rattle.board_core.proofs.Joined.{IsHv-none, processors_of-most}
 use Rattle.board_core.proofs.ApicTimers.{AreApics-power_on}
 use Rattle.board_core.specs.Conditions.{AreApics}
 use Rattle.local_apics.specs.declared.parts.ApicsParts.{ApicsParts}
-use Rattle.std.proofs.Common.{◌≡◌, ℕ, ◌+◌, ap, sym, subst, refl, ◌∙◌, arith}
+use Rattle.std.proofs.Common.{◌+◌, ap, sym, subst, refl, ◌∙◌, arith}
 use Rattle.host_counter.proofs.Times.{time_at-start}
 use Rattle.board_devices.specs.declared.parts.DeviceParts.{DeviceParts}
 use Rattle.board_devices.specs.Places.{line_at}

@@ -6,30 +6,29 @@ use Rattle.tick_policy.specs.Stretch.{ticked_where}
 use Rattle.lapic_timer.specs.Deadline.{count_at, looked}
 use Rattle.lapic_timer.proofs.Waits.{tsc_at-offset}
 use Rattle.local_apics.specs.Places.{timer_at, line_at}
-use Rattle.local_apics.specs.Nanosecond.{looks_due, tsc_by_time}
+use Rattle.local_apics.specs.Nanosecond.{looks_due, tscs_of, tsc_by_time}
 use Rattle.local_apics.specs.private.Stretch.{IsLookedBelow}
-use Rattle.local_apics.proofs.Below.{looked-start, looked-more, looked-end}
+use Rattle.local_apics.proofs.Below.{looked-start, looked-more, looked-end, looked-none}
 use Rattle.local_apics.proofs.apics.LocalApics.look.Goals as goal
 
-pub returns-then-not-is_armed : goal.returns-then-not-is_armed
-returns-then-not-is_armed c =
-    let tsc : ℕ → ℕ = λ k. tsc_by_time c.args.clock.now c.args.tscs.now k c.args.at in
-    looked-end 0 tsc c.args.self.now c.args.self.now (looked-start tsc c.args.self.now c.is_armed.ensures.joined)
-    (λ k after less. c.is_armed.ensures.idle.0 c.if-not-is_armed.true k less)
+pub returns-then-not-has_deadlines : goal.returns-then-not-has_deadlines
+returns-then-not-has_deadlines c =
+    looked-none (λ k. tsc_by_time c.args.clock.now (tscs_of c.args.processors.now) k c.args.at) c.args.self.now c.has_deadlines.ensures.joined
+    (c.has_deadlines.ensures.none c.if-not-has_deadlines.true)
 
 pub loop-cpu-init : goal.loop-cpu-init
 loop-cpu-init c =
-    let tsc : ℕ → ℕ = λ k. tsc_by_time c.args.clock.now c.args.tscs.now k c.args.at in
-    let none : IsLookedBelow 0 tsc c.args.self.now c.args.self.now = looked-start tsc c.args.self.now c.is_armed.ensures.joined in
+    let tsc : ℕ → ℕ = λ k. tsc_by_time c.args.clock.now (tscs_of c.args.processors.now) k c.args.at in
+    let none : IsLookedBelow 0 tsc c.args.self.now c.args.self.now = looked-start tsc c.args.self.now c.has_deadlines.ensures.joined in
     none
 
 pub returns-then-is_idle_from : goal.returns-then-is_idle_from
 returns-then-is_idle_from c =
-    let tsc : ℕ → ℕ = λ k. tsc_by_time c.args.clock.now c.args.tscs.now k c.args.at in
+    let tsc : ℕ → ℕ = λ k. tsc_by_time c.args.clock.now (tscs_of c.args.processors.now) k c.args.at in
     looked-end c.loop-cpu.cpu tsc c.args.self.now c.loop-cpu.self c.loop-cpu.invariant (c.is_idle_from.ensures c.if-is_idle_from.true)
 
 -- the TSC at the look
-tsc_is : (c : goal.After-look_at) → c.tsc_by-tsc.result ≡ tsc_by_time c.args.clock.now c.args.tscs.now c.loop-cpu.cpu c.args.at
+tsc_is : (c : goal.After-look_at) → c.tsc_by-tsc.result ≡ tsc_by_time c.args.clock.now (tscs_of c.args.processors.now) c.loop-cpu.cpu c.args.at
 tsc_is c =
     c.tsc_by-tsc.ensures
     ∙ ap (λ (x : ℕ). (x + c.tsc_of.result.offset) % 2 ^ 64) c.guest_count_at-count.ensures
@@ -39,7 +38,7 @@ tsc_is c =
 
 pub loop-cpu-preserved : goal.loop-cpu-preserved
 loop-cpu-preserved c =
-    let tsc : ℕ → ℕ = λ k. tsc_by_time c.args.clock.now c.args.tscs.now k c.args.at in
+    let tsc : ℕ → ℕ = λ k. tsc_by_time c.args.clock.now (tscs_of c.args.processors.now) k c.args.at in
     let more : IsLookedBelow (c.loop-cpu.cpu + 1) tsc c.args.self.now c.look_at.new.self =
     looked-more c.loop-cpu.cpu tsc c.args.self.now c.loop-cpu.self c.look_at.new.self c.loop-cpu.invariant c.look_at.ensures.joined
     (c.look_at.ensures.timer ∙ ap (λ (x : ℕ). looked x (timer_at c.loop-cpu.cpu c.loop-cpu.self)) (tsc_is c))
@@ -50,5 +49,5 @@ loop-cpu-preserved c =
 
 pub returns : goal.returns
 returns c =
-    let tsc : ℕ → ℕ = λ k. tsc_by_time c.args.clock.now c.args.tscs.now k c.args.at in
+    let tsc : ℕ → ℕ = λ k. tsc_by_time c.args.clock.now (tscs_of c.args.processors.now) k c.args.at in
     looked-end c.loop-cpu.cpu tsc c.args.self.now c.loop-cpu.self c.loop-cpu.invariant (λ k after less. absurd (omega (arith, after, less, c.loop-cpu-test.false)))

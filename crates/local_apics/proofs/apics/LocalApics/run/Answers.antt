@@ -3,7 +3,7 @@ use Rattle.tsc_scale.specs.declared.Tsc.{Tsc}
 use Rattle.tick_policy.specs.Line.{ticked_times}
 use Rattle.lapic_timer.specs.Stretch.{nanoseconds}
 use Rattle.local_apics.specs.Places.{no_tsc, timer_at, line_at}
-use Rattle.local_apics.specs.Nanosecond.{run, tsc_by_time, tsc_in}
+use Rattle.local_apics.specs.Nanosecond.{run, tscs_of, tsc_by_time, tsc_in}
 use Rattle.local_apics.specs.private.Span.{length_of}
 use Rattle.local_apics.specs.private.Stretch.{IsRunBelow, ticks_in}
 use Rattle.local_apics.proofs.Below.{run-none, run-more, run-end, span-run}
@@ -11,7 +11,7 @@ use Rattle.local_apics.proofs.apics.LocalApics.run.Goals as goal
 
 pub returns-then-not-is_armed : goal.returns-then-not-is_armed
 returns-then-not-is_armed c =
-    let tsc : ℕ → ℕ → ℕ = tsc_by_time c.args.clock.now c.args.tscs.now in
+    let tsc : ℕ → ℕ → ℕ = tsc_by_time c.args.clock.now (tscs_of c.args.processors.now) in
     elim c.then-not-is_armed.either [
       | inl idle ↦ run-end 0 tsc c.args.from (c.args.to - c.args.from) c.args.self.now c.args.self.now
           (run-none tsc c.args.from (c.args.to - c.args.from) c.args.self.now c.is_armed.ensures.joined) (λ k after less. c.is_armed.ensures.idle.0 idle k less)
@@ -22,21 +22,21 @@ returns-then-not-is_armed c =
 
 pub loop-cpu-init : goal.loop-cpu-init
 loop-cpu-init c =
-    let none : IsRunBelow 0 (λ k. tsc_in c.new-span.result.clock (get_or c.args.tscs.now k no_tsc)) c.new-span.result.from
+    let none : IsRunBelow 0 (λ k. tsc_in c.new-span.result.clock (get_or (tscs_of c.args.processors.now) k no_tsc)) c.new-span.result.from
     (length_of c.new-span.result) c.args.self.now c.args.self.now =
-    run-none (λ k. tsc_in c.new-span.result.clock (get_or c.args.tscs.now k no_tsc)) c.new-span.result.from (length_of c.new-span.result) c.args.self.now c.is_armed.ensures.joined in
+    run-none (λ k. tsc_in c.new-span.result.clock (get_or (tscs_of c.args.processors.now) k no_tsc)) c.new-span.result.from (length_of c.new-span.result) c.args.self.now c.is_armed.ensures.joined in
     none
 
 pub returns-then-is_idle_from : goal.returns-then-is_idle_from
 returns-then-is_idle_from c =
-    run-end c.loop-cpu.cpu (λ k. tsc_in c.new-span.result.clock (get_or c.args.tscs.now k no_tsc)) c.new-span.result.from (length_of c.new-span.result)
+    run-end c.loop-cpu.cpu (λ k. tsc_in c.new-span.result.clock (get_or (tscs_of c.args.processors.now) k no_tsc)) c.new-span.result.from (length_of c.new-span.result)
     c.args.self.now c.loop-cpu.self c.loop-cpu.invariant (c.is_idle_from.ensures c.if-is_idle_from.true)
-    ∙ span-run c.new-span.result c.args.clock.now c.args.tscs.now c.args.from c.args.to c.args.self.now c.new-span.ensures.clock c.new-span.ensures.from
+    ∙ span-run c.new-span.result c.args.clock.now (tscs_of c.args.processors.now) c.args.from c.args.to c.args.self.now c.new-span.ensures.clock c.new-span.ensures.from
     c.new-span.ensures.to
 
 pub loop-cpu-preserved : goal.loop-cpu-preserved
 loop-cpu-preserved c =
-    let tsc : ℕ → ℕ → ℕ = λ k. tsc_in c.new-span.result.clock (get_or c.args.tscs.now k no_tsc) in
+    let tsc : ℕ → ℕ → ℕ = λ k. tsc_in c.new-span.result.clock (get_or (tscs_of c.args.processors.now) k no_tsc) in
     let more : IsRunBelow (c.loop-cpu.cpu + 1) tsc c.new-span.result.from (length_of c.new-span.result) c.args.self.now c.run_at.new.self =
     run-more c.loop-cpu.cpu tsc c.new-span.result.from (length_of c.new-span.result) c.args.self.now c.loop-cpu.self c.run_at.new.self
     c.loop-cpu.invariant c.run_at.ensures.joined
@@ -49,7 +49,7 @@ loop-cpu-preserved c =
 
 pub returns : goal.returns
 returns c =
-    run-end c.loop-cpu.cpu (λ k. tsc_in c.new-span.result.clock (get_or c.args.tscs.now k no_tsc)) c.new-span.result.from (length_of c.new-span.result)
+    run-end c.loop-cpu.cpu (λ k. tsc_in c.new-span.result.clock (get_or (tscs_of c.args.processors.now) k no_tsc)) c.new-span.result.from (length_of c.new-span.result)
     c.args.self.now c.loop-cpu.self c.loop-cpu.invariant (λ k after less. absurd (omega (arith, after, less, c.loop-cpu-test.false)))
-    ∙ span-run c.new-span.result c.args.clock.now c.args.tscs.now c.args.from c.args.to c.args.self.now c.new-span.ensures.clock c.new-span.ensures.from
+    ∙ span-run c.new-span.result c.args.clock.now (tscs_of c.args.processors.now) c.args.from c.args.to c.args.self.now c.new-span.ensures.clock c.new-span.ensures.from
     c.new-span.ensures.to
