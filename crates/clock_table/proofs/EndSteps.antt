@@ -1,6 +1,6 @@
 -- The opening meets the rule, and the end gives the whole history.
 use Rattle.std.proofs.Common.{◌≡◌, ℕ, zero, suc, ◌+◌, ◌*◌, ◌^◌, ◌<◌, ◌≤◌, eqb, List, [], ◌∷◌, ◌++◌, length, get_or, refl, ap, sym, ◌∙◌, subst, arith}
-use Rattle.std.proofs.Common.{append-nil, Bool, true, false, true≢false, ◌||◌, if◌then◌else◌, Some, None, eq-eqb, ne_eqb, replicate, FitsSigned, IsTrue}
+use Rattle.std.proofs.Common.{append-nil, Bool, true, false, true≢false, if◌then◌else◌, Some, None, eq-eqb, ne_eqb, replicate, FitsSigned, IsTrue}
 use mathlib.Core.List.{IsPrefix}
 use mathlib.Core.Logic.{dite}
 use mathlib.Core.Option.{some, some-injective, some-ne-none}
@@ -18,7 +18,7 @@ use Rattle.board_history.specs.declared.entry.Entry.{Entry}
 use Rattle.board_history.specs.declared.entry.Entry.TheVariants.{Opened, Board, PageRead, HvRead, Clamp}
 use Rattle.board_history.proofs.Laws.{IsLegal-rest, entries_of-++}
 use Rattle.std.proofs.lemmas.List.{append_cancel_left}
-use Rattle.std.proofs.lemmas.Bool.{false≢true}
+use Rattle.std.proofs.lemmas.Bool.Decides.{nat_tests}
 use Rattle.std.specs.Int.{w8}
 use Rattle.board_core.specs.Conditions.{IsJoined, IsProcessor, flags_valid}
 use Rattle.board_core.specs.Pages.{page_in}
@@ -218,10 +218,7 @@ steady_of b joined long = record {
     most_cpus = let m = most-cpus b.format b.cpus b.hpet.timers joined.format in omega arith
 
     few_flags : (flags : ℕ) → IsTrue (flags_valid flags) → flags < 2 ^ 8
-    few_flags flags is = elim (dec_le 256 flags) [
-      | yes many ↦ absurd (false≢true (sym (ap (λ (b : Bool). b || eqb flags 3) (ne_eqb flags 1 (λ e. omega arith)) ∙ ne_eqb flags 3 (λ e. omega arith)) ∙ is))
-      | no few ↦ omega arith
-    ]
+    few_flags flags is = grind (arith, nat_tests)
 
     page : (p : ProcessorParts) → IsProcessor b.guest_khz p → IsSteadyPage (page_in p)
     page p is = elim (dec_le 1 p.version) [

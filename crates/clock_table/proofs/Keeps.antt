@@ -1,10 +1,11 @@
 -- What a step has to show for the rule to be kept.
-use Rattle.std.proofs.Common.{◌≡◌, ◌≢◌, ℕ, suc, ◌+◌, ◌%◌, ◌<◌, ◌≤◌, eqb, List, [], ◌∷◌, ◌++◌, set, refl, ap, sym, ◌∙◌, subst, arith}
+use Rattle.std.proofs.Common.{◌≡◌, ◌≢◌, ℕ, suc, ◌+◌, ◌%◌, ◌<◌, ◌≤◌, eqb, List, [], ◌∷◌, ◌++◌, get_or, set, refl, ap, sym, ◌∙◌, subst, arith}
 use Rattle.std.proofs.Common.{append_assoc, append-nil, Bool, true, false, Option, Some, None, eq-eqb}
 use Rattle.std.proofs.lemmas.List.{append_cancel_left}
 use mathlib.Core.List.{IsPrefix}
 use mathlib.Core.Option.{some}
 use lib.ListN.{get_elem?}
+use lib.Seq.{set-get_or}
 use Rattle.atomic_table.specs.Table.{State, Me}
 use Rattle.board_types.specs.declared.parts.BoardParts.{BoardParts}
 use Rattle.board_core.specs.Pages.{with_greatest}
@@ -175,6 +176,10 @@ module _ (opening : BoardParts) (s : St) (r : Kept opening s) (id : ℕ) (v : Vi
   -- the table afterwards
   abbrev pub after : List ℕ → View → St
   after ws w = record { words = ws; homes = s.homes; views = set s.views id w }
+
+  -- and after a load
+  pub loaded : (i : ℕ) (w : View) → Kept opening (after s.words w) → Kept opening (after (set s.words i (get_or s.words i 0)) w)
+  loaded i w = subst (λ (ws : List ℕ). Kept opening (after ws w)) (sym (set-get_or s.words i 0))
 
   pub adds_none : Adds opening r.g id r.g.later
   adds_none = record { history = r.history; begins = prefix_self (log_in opening r.g); own = λ n ne. refl; numbers = r.numbers }

@@ -6,7 +6,6 @@ use Rattle.std.proofs.lemmas.Bool.Decides.{nat_tests}
 use mathlib.Core.List.{IsPrefix}
 use mathlib.Core.Option.{none, some}
 use lib.ListN.{get_elem?}
-use lib.Seq.{set-get_or}
 use Rattle.atomic_table.specs.Table.{step, keeps, stepped, Allows}
 use Rattle.pvclock_page.specs.declared.page.Page.{Page}
 use Rattle.pvclock_page.specs.Words.{page_of}
@@ -26,7 +25,7 @@ use Rattle.clock_table.specs.private.Rule.{is_open, PageKept, ReadKept, ReadingK
 use Rattle.clock_table.specs.private.Plays.{Stays, FirstRead, FieldRead, SecondRead, Raised}
 use Rattle.clock_table.proofs.Lists.{set_or, no_field}
 use Rattle.clock_table.proofs.Pages.{page_same, page_shut}
-use Rattle.clock_table.proofs.Keeps.{St, M, later_self, later_same, misses_snoc, loud-append, loud_quiet, log_of, stay, enter, mine_seen}
+use Rattle.clock_table.proofs.Keeps.{St, M, later_self, later_same, misses_snoc, loud-append, loud_quiet, log_of, loaded, stay, enter, mine_seen}
 
 -- a read of the page c, by its number
 abbrev read_at : ℕ → Read → Read
@@ -63,9 +62,7 @@ module _ (opening : BoardParts) where
       → ReadingKept s.words (pages_for opening.cpus) me.0.seen read → MissesKept s.words (pages_for opening.cpus) misses
       → Kept opening (stepped s i (get_or s.words i 0) id me.1 (record me.0 { read = read; misses = misses }) keeps)
   glance s r i id me read misses at pass reading missed =
-      let w : View = record me.0 { read = read; misses = misses } in
-      subst (λ ws. Kept opening record { words = ws; homes = s.homes; views = set s.views id w }) (sym (set-get_or s.words i 0))
-      (stay opening s r id me.0 at s.words pass.number.0 me.0.hand r.g.hand read misses pass.number.1 pass.meet
+      loaded opening s r id me.0 at i (record me.0 { read = read; misses = misses }) (stay opening s r id me.0 at s.words pass.number.0 me.0.hand r.g.hand read misses pass.number.1 pass.meet
       (later_self (pages_for opening.cpus) s.words) r.words (λ has. ((r.each id me.0 at).pen has).hand) (λ _. refl) reading missed)
 
   -- a step that changes no word of a page, after which the seat has seen a quiet entry
@@ -111,19 +108,12 @@ module _ (opening : BoardParts) where
   pub firsts : (slots c id : ℕ) (me : M) → c < pages_for opening.cpus → IsPass me.0
       → Allows (Kept opening) slots id me (place c 0) (λ n. n) (FirstRead (step slots (place c 0) 0 0 none) me)
   firsts slots c id me l pass s r _ at _ =
-      let n : ℕ = word_of s.words c 0 in (
-        first_read c n me.0,
-        keeps,
-        tt,
-        first_kept s r c id me l at pass (eqb (n % 2) 0) refl,
-        (
-          still (eqb (n % 2) 0) c n me,
-          λ d e. let same : c ≡ d = omega arith in (
-            ap (λ (x : ℕ). first_read x n me.0) same,
-            subst (λ (x : ℕ). version_after me.0.seen x ≤ n) same (least s r me.0.seen c l (r.each id me.0 at).seen.begins),
-          ),
-        ),
-      )
+      let n : ℕ = word_of s.words c 0 in
+      let kept = first_kept s r c id me l at pass (eqb (n % 2) 0) refl in
+      let told : (d : ℕ) → place c 0 ≡ place d 0 → (first_read c n me.0 ≡ first_read d n me.0) × (version_after me.0.seen d ≤ n) =
+      λ d e. let same : c ≡ d = omega arith in subst (λ (x : ℕ). (first_read c n me.0 ≡ first_read x n me.0) × (version_after me.0.seen x ≤ n)) same
+      (refl, least s r me.0.seen c l (r.each id me.0 at).seen.begins) in
+      (first_read c n me.0, keeps, tt, kept, (still (eqb (n % 2) 0) c n me, told))
 
   -- what is so of the read in which a seat is
   reading : (s : St) (r : Kept opening s) (id : ℕ) (me : M) (x : Read) → get_elem? s.views id ≡ some me.0 → me.0.read ≡ Some x
@@ -139,21 +129,17 @@ module _ (opening : BoardParts) where
       let old = reading s r id me x at is in
       let n : ℕ = word_of s.words c (suc k) in
       let y : Option Read = Some (record { cpu = c; first = x.first; noted = set x.noted k (Some n) }) in
-      let new : y ≡ with_note k n me.0.read = ap (with_note k n) (sym is) in (
-        noted_in k n me.0,
-        keeps,
-        tt,
-        glance s r (place c (suc k)) id me (with_note k n me.0.read) me.0.misses at pass
-            (subst (ReadingKept s.words (pages_for opening.cpus) me.0.seen) new (record {
-              there = old.there;
-              even = old.even;
-              least = old.least;
-              grown = old.grown;
-              same = λ still j u jsmall noted. set_or x.noted k j n u (word_of s.words c (suc j) ≡ u) noted
-                  (λ here now. ap (λ (i : ℕ). word_of s.words c (suc i)) here ∙ now) (λ was. old.same still j u jsmall was);
-            })) (r.each id me.0 at).misses,
-        ((refl, refl, refl), λ d j jsmall e. let same : k ≡ j = omega arith in ap (λ (i : ℕ). noted_in i n me.0) same),
-      )
+      let new : y ≡ with_note k n me.0.read = ap (with_note k n) (sym is) in
+      let kept = glance s r (place c (suc k)) id me (with_note k n me.0.read) me.0.misses at pass
+      (subst (ReadingKept s.words (pages_for opening.cpus) me.0.seen) new (record {
+        there = old.there;
+        even = old.even;
+        least = old.least;
+        grown = old.grown;
+        same = λ still j u jsmall noted. set_or x.noted k j n u (word_of s.words c (suc j) ≡ u) noted
+            (λ here now. ap (λ (i : ℕ). word_of s.words c (suc i)) here ∙ now) (λ was. old.same still j u jsmall was);
+      })) (r.each id me.0 at).misses in
+      (noted_in k n me.0, keeps, tt, kept, ((refl, refl, refl), λ d j jsmall e. let same : k ≡ j = omega arith in ap (λ (i : ℕ). noted_in i n me.0) same))
 
   -- where the version is the one noted first, the noted page is the board's
   page_is : (s : St) (r : Kept opening s) (seen : List Entry) (x : Read) → ReadKept s.words (pages_for opening.cpus) seen x → AllNoted x
@@ -188,7 +174,7 @@ module _ (opening : BoardParts) where
       let t = hears s r s.words id me e at pass lives own (read_quiet opening.cpus n x.cpu h (noted_page x)) may refl (λ c k. refl) refl
       (λ c. ap (λ (b : BoardParts). page_at b c) (sym leaves)) (r.words.front.clamp ∙ ap (λ (b : BoardParts). b.greatest) (sym leaves)) in
       let w : View = heard me.0 (r.each id me.0 at).seen.begins.0 e in
-      (w, subst (λ ws. Kept opening record { words = ws; homes = s.homes; views = set s.views id w }) (sym (set-get_or s.words (place x.cpu 0) 0)) t.0, (refl, refl, refl), t.1)
+      (w, loaded opening s r id me.0 at (place x.cpu 0) w t.0, (refl, refl, refl), t.1)
   second_kept s r h id me x pass lives is all at false differ =
       let old = reading s r id me x at is in
       let grown = old.grown in
@@ -208,18 +194,11 @@ module _ (opening : BoardParts) where
   seconds slots h c id cpus same me pass lives noted s r _ at _ =
       let x : Read = read_at c noted.0 in
       let is : me.0.read ≡ Some x = noted.1 ∙ cpu_at c noted.0 noted.2 in
-      let t = second_kept s r h id me x pass lives is noted.3 at (eqb (word_of s.words c 0) x.first) refl in (
-        t.0,
-        keeps,
-        tt,
-        t.1,
-        (
-          t.2,
-          λ y yis.
-              let same_y : x ≡ y = cc (is, yis) in
-              subst (λ (z : ℕ × Read). ReadEnds z.0 h z.1 (word_of s.words c 0) me.0 t.0) (λ i. (same i, same_y i)) t.3,
-        ),
-      )
+      let t = second_kept s r h id me x pass lives is noted.3 at (eqb (word_of s.words c 0) x.first) refl in
+      let ends : (y : Read) → me.0.read ≡ Some y → ReadEnds cpus h y (word_of s.words c 0) me.0 t.0 =
+      λ y yis. let same_y : x ≡ y = cc (is, yis) in
+      subst (λ (z : ℕ × Read). ReadEnds z.0 h z.1 (word_of s.words c 0) me.0 t.0) (λ i. (same i, same_y i)) t.3 in
+      (t.0, keeps, tt, t.1, (t.2, ends))
 
   -- the clamp word is raised
   pub raises : (slots id cpu k : ℕ) (me : M) → IsPass me.0 → me.0.live ≡ true

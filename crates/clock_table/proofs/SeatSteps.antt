@@ -1,5 +1,5 @@
 -- Splits and meets of seats keep the rule.
-use Rattle.std.proofs.Common.{◌≡◌, ◌≢◌, ◌⊎◌, ℕ, zero, suc, ◌+◌, ◌<◌, ◌≤◌, eqb, leb, List, [], ◌∷◌, ◌++◌, length, set, refl, ap, sym, ◌∙◌, subst, arith}
+use Rattle.std.proofs.Common.{◌≡◌, ◌≢◌, ◌⊎◌, ℕ, zero, suc, ◌+◌, ◌<◌, ◌≤◌, eqb, leb, List, [], ◌∷◌, ◌++◌, length, get_or, set, refl, ap, sym, ◌∙◌, subst, arith}
 use Rattle.std.proofs.Common.{append_assoc, append-nil, Bool, true, false, true≢false, ◌||◌, if◌then◌else◌, Option, Some, None}
 use Rattle.std.proofs.Common.{eq-eqb, ne_eqb, inl, inr, ⊎_elim}
 use Rattle.std.proofs.lemmas.Bool.Decides.{nat_tests}
@@ -8,7 +8,6 @@ use mathlib.Core.List.{IsPrefix}
 use mathlib.Core.Logic.{dite}
 use mathlib.Core.Option.{none}
 use native.Mathlib.Decide.{ℕ_discrete}
-use lib.Seq.{set-get_or}
 use Rattle.atomic_table.specs.Table.{step, keeps, Allows, Splits, Joins}
 use Rattle.atomic_table.proofs.Lists.{set_else}
 use Rattle.board_types.specs.declared.parts.BoardParts.{BoardParts}
@@ -17,12 +16,12 @@ use Rattle.board_history.specs.declared.entry.Entry.{Entry}
 use Rattle.board_history.proofs.Laws.{entries_of-++}
 use Rattle.clock_table.specs.Words.{pages_for}
 use Rattle.clock_table.specs.declared.view.{View.View, Meet.Meet, Ended.Ended}
-use Rattle.clock_table.specs.Steps.{named, GoesOnQuietly, weight, pass_left, pass_right, pen_left, pen_right, longer, ended_of, met, parted}
+use Rattle.clock_table.specs.Steps.{named, GoesOnQuietly, weight, pass_left, pass_right, pen_left, pen_right, longer, ended_of, met, parted, MeetTold}
 use Rattle.clock_table.specs.Steps.{here_of, penned_of, MeetKept, number_is, ended_with, claims}
 use Rattle.clock_table.specs.private.Rule.{MissesKept, EndedKept, Ghost, log_in, PenKept, Fits, Kept}
 use Rattle.clock_table.specs.private.Plays.{Named, Parted, spent}
 use Rattle.clock_table.proofs.Lists.{prefix_self, prefix_trans, prefix_length, prefix_shorter, each_set, each_more}
-use Rattle.clock_table.proofs.Keeps.{M, later_self, quiet_self, quiet_between, loud_between, log_of, adds_none, kept_next, penned, fits_other}
+use Rattle.clock_table.proofs.Keeps.{M, later_self, quiet_self, quiet_between, loud_between, log_of, adds_none, kept_next, loaded, penned, fits_other}
 
 -- between two prefixes of a list
 pub entries_between : (a b c : List Entry) (n : ℕ) → IsPrefix a b → IsPrefix b c → entries_of n c ≡ entries_of n a → entries_of n b ≡ entries_of n a
@@ -57,12 +56,13 @@ count_of : (n : ℕ) (o : Option ℕ) (w : View) → ended_with n (ended_of o w)
 count_of n None w = refl
 count_of n (Some m) w = omega arith
 
-longer_case : (xs ys : List Entry) (F : List Entry → Type 0) → (length ys ≤ length xs → F xs) → (length xs ≤ length ys → F ys) → F (longer xs ys)
-longer_case xs ys F a b = cases (leb (length ys) (length xs)) refl
+-- two prefixes of one list are prefixes of the longer, and so is either of them
+longer_has : (xs ys log : List Entry) → IsPrefix xs log → IsPrefix ys log → IsPrefix xs (longer xs ys) × IsPrefix ys (longer xs ys) × IsPrefix (longer xs ys) log
+longer_has xs ys log p q = cases (leb (length ys) (length xs)) refl
   where
-    cases : (t : Bool) → leb (length ys) (length xs) ≡ t → F (if t then xs else ys)
-    cases true e = a (grind (arith, nat_tests))
-    cases false e = b (grind (arith, nat_tests))
+    cases : (t : Bool) → leb (length ys) (length xs) ≡ t → IsPrefix xs (if t then xs else ys) × IsPrefix ys (if t then xs else ys) × IsPrefix (if t then xs else ys) log
+    cases true e = (prefix_self xs, prefix_shorter ys xs log q p (grind (arith, nat_tests)), p)
+    cases false e = (prefix_shorter xs ys log p q (grind (arith, nat_tests)), prefix_self ys, q)
 
 module _ (opening : BoardParts) where
   -- the number of passes is named
@@ -74,25 +74,21 @@ module _ (opening : BoardParts) where
       let w = named m me.0 in
       let g' : Ghost = record r.g { limit = Some m } in
       let none_left : r.g.limit ≡ None = sym (f.limit lives) ∙ unset in
-      let zero_made : r.g.made ≡ 0 = sym k.made ∙ none_made in (
-        w,
-        keeps,
-        tt,
-        subst (λ ws. Kept opening record { words = ws; homes = s.homes; views = set s.views id w }) (sym (set-get_or s.words 0 0)) (record {
-          g = g';
-          history = r.history;
-          numbers = r.numbers;
-          room = λ i e. omega arith;
-          words = r.words;
-          each = each_set s.views id w (Fits opening s.words g')
-              (record { seen = f.seen; numbers = f.numbers; pen = f.pen; read = tt; misses = f.misses; ended = f.ended; limit = λ _. refl })
-              (λ j u ne e. let o = r.each j u e in fits_other opening s.words s.words r.g g' j u o (later_self (pages_for opening.cpus) s.words)
-              (prefix_self (log_of opening s r)) (λ n own below. (refl, own, below)) o.pen
-              (λ live. absurd (ne (r.alone none_left j u e live ∙ sym k.holder))));
-          alone = λ unset'. absurd (cc unset');
-        }),
-        (refl, refl),
-      )
+      let zero_made : r.g.made ≡ 0 = sym k.made ∙ none_made in
+      let kept = loaded opening s r id me.0 at 0 w (record {
+        g = g';
+        history = r.history;
+        numbers = r.numbers;
+        room = λ i e. omega arith;
+        words = r.words;
+        each = each_set s.views id w (Fits opening s.words g')
+            (record { seen = f.seen; numbers = f.numbers; pen = f.pen; read = tt; misses = f.misses; ended = f.ended; limit = λ _. refl })
+            (λ j u ne e. let o = r.each j u e in fits_other opening s.words s.words r.g g' j u o (later_self (pages_for opening.cpus) s.words)
+            (prefix_self (log_of opening s r)) (λ n own below. (refl, own, below)) o.pen
+            (λ live. absurd (ne (r.alone none_left j u e live ∙ sym k.holder))));
+        alone = λ unset'. absurd (cc unset');
+      }) in
+      (w, keeps, tt, kept, (refl, refl))
 
   -- a pass is split off
   pub splits : (id m : ℕ) (v : View) → v.pen ≡ true → v.meet ≡ None → v.live ≡ true → v.limit ≡ Some m → v.made < m
@@ -203,34 +199,27 @@ module _ (opening : BoardParts) where
       let same_mine : (n : ℕ) → v.number ≡ Some n → entries_of n v.seen ≡ entries_of n (here_of v.meet v.seen) =
       λ n is. entries_between (here_of v.meet v.seen) v.seen log n meets.0 f.seen.begins (f.seen.mine n is) in
       let pens : v.pen ≡ true → GoesOnQuietly (penned_of v.meet v.seen) v.seen × GoesOnQuietly v.seen log =
-      λ has. quiet_between (penned_of v.meet v.seen) v.seen log meets.1 f.seen.begins (f.pen has).quiet in (
-        w,
-        keeps,
-        tt,
-        subst (λ ws. Kept opening record { words = ws; homes = s.homes; views = set s.views id w }) (sym (set-get_or s.words 0 0))
-            (kept_next opening s r id v at s.words w r.g.later r.g.hand refl (adds_none opening s r id v at) (later_self (pages_for opening.cpus) s.words)
-            r.words (λ _. (refl, quiet_self log)) (record {
-              seen = record { begins = f.seen.begins; mine = λ n is. f.seen.mine n is ∙ sym (same_mine n is); meet = tt; opened = f.seen.opened };
-              numbers = f.numbers;
-              pen = λ is. let k = f.pen is in record { holder = k.holder; hand = k.hand; made = k.made; quiet = (pens is).1 };
-              read = tt;
-              misses = f.misses;
-              ended = f.ended;
-              limit = f.limit;
-            })),
-        (
-          refl,
-          refl,
-          record {
-            meet = f.seen.meet;
-            pen = λ has. (pens has).0;
-            mine = same_mine;
-            front = λ has. r.words.front.front ∙ loud_between v.seen log (pens has).1;
-            once = f.numbers.once;
-            below = λ n has c. let same = (f.pen has).made in let b = (f.numbers.claimed n c).1 in omega arith;
-          },
-        ),
-      )
+      λ has. quiet_between (penned_of v.meet v.seen) v.seen log meets.1 f.seen.begins (f.pen has).quiet in
+      let kept = loaded opening s r id v at 0 w
+      (kept_next opening s r id v at s.words w r.g.later r.g.hand refl (adds_none opening s r id v at) (later_self (pages_for opening.cpus) s.words)
+      r.words (λ _. (refl, quiet_self log)) (record {
+        seen = record { begins = f.seen.begins; mine = λ n is. f.seen.mine n is ∙ sym (same_mine n is); meet = tt; opened = f.seen.opened };
+        numbers = f.numbers;
+        pen = λ is. let k = f.pen is in record { holder = k.holder; hand = k.hand; made = k.made; quiet = (pens is).1 };
+        read = tt;
+        misses = f.misses;
+        ended = f.ended;
+        limit = f.limit;
+      })) in
+      let told : MeetTold v (get_or s.words 0 0) = record {
+        meet = f.seen.meet;
+        pen = λ has. (pens has).0;
+        mine = same_mine;
+        front = λ has. r.words.front.front ∙ loud_between v.seen log (pens has).1;
+        once = f.numbers.once;
+        below = λ n has c. let same = (f.pen has).made in let b = (f.numbers.claimed n c).1 in omega arith;
+      } in
+      (w, keeps, tt, kept, (refl, refl, told))
     where
       meet_parts : (m : Option Meet) (seen : List Entry) → MeetKept m seen → IsPrefix (here_of m seen) seen × IsPrefix (penned_of m seen) seen
       meet_parts None seen k = (prefix_self seen, prefix_self seen)
@@ -259,10 +248,7 @@ module _ (opening : BoardParts) where
       let from_other : (k : ℕ) → r.g.owner k ≡ other → owner' k ≡ id = λ k e. ap (λ (b : Bool). if b then id else r.g.owner k) (eq-eqb (r.g.owner k) other e) in
       let stays : (k j : ℕ) → j ≢ other → r.g.owner k ≡ j → owner' k ≡ j =
       λ k j ne e. ap (λ (b : Bool). if b then id else r.g.owner k) (ne_eqb (r.g.owner k) other (λ q. ne (sym e ∙ q))) ∙ e in
-      let here_longer : IsPrefix v.seen u.seen = longer_case v.seen w.seen (λ l. IsPrefix v.seen l) (λ _. prefix_self v.seen)
-      (λ le. prefix_shorter v.seen w.seen log f.seen.begins h.seen.begins le) in
-      let there_longer : IsPrefix w.seen u.seen = longer_case v.seen w.seen (λ l. IsPrefix w.seen l)
-      (λ le. prefix_shorter w.seen v.seen log h.seen.begins f.seen.begins le) (λ _. prefix_self w.seen) in
+      let long = longer_has v.seen w.seen log f.seen.begins h.seen.begins in
       let sum : (n : ℕ) → claims n u ≡ claims n v + claims n w = λ n. count_join n v w in
       let pen = met_pen r.g id other v.pen w.pen v w one_pen f.pen h.pen v_shut w_shut v_alone w_alone in
       let last : (k : ℕ) → k ≢ id → k ≢ other → k ≡ r.g.holder → ⊥ =
@@ -286,10 +272,10 @@ module _ (opening : BoardParts) where
             (λ j y ne e. each_set s.views id u (λ k x. k ≢ other → Fits opening s.words g' k x)
             (λ _. record {
               seen = record {
-                begins = longer_case v.seen w.seen (λ l. IsPrefix l log) (λ _. f.seen.begins) (λ _. h.seen.begins);
+                begins = long.2;
                 mine = λ k is. f.seen.mine k is ∙ ap (λ m. entries_of k (here_of m v.seen)) v_alone;
-                meet = (here_longer, there_longer, pick v.pen v.seen w.seen u.seen here_longer there_longer);
-                opened = λ _. let le = prefix_length v.seen u.seen here_longer in let one = f.seen.opened v_lives in omega arith;
+                meet = (long.0, long.1, pick v.pen v.seen w.seen u.seen long.0 long.1);
+                opened = λ _. let le = prefix_length v.seen u.seen long.0 in let one = f.seen.opened v_lives in omega arith;
               };
               numbers = record {
                 claimed = λ k c. one_of (claims k v) (claims k w) ((owner' k ≡ id) × (k < r.g.made)) (subst (λ (m : ℕ). 0 < m) (sum k) c)
@@ -302,10 +288,10 @@ module _ (opening : BoardParts) where
               read = tt;
               misses = f.misses;
               ended = ended_append s.words (pages_for opening.cpus) log u.seen v.ended (w.ended ++ ended_of w.number w)
-                  (ended_wider s.words (pages_for opening.cpus) log v.seen u.seen v.ended here_longer f.ended)
+                  (ended_wider s.words (pages_for opening.cpus) log v.seen u.seen v.ended long.0 f.ended)
                   (ended_append s.words (pages_for opening.cpus) log u.seen w.ended (ended_of w.number w)
-                  (ended_wider s.words (pages_for opening.cpus) log w.seen u.seen w.ended there_longer h.ended)
-                  (ended_new s.words log w u.seen w.number (λ k is. h.seen.mine k is ∙ ap (λ m. entries_of k (here_of m w.seen)) w_alone) there_longer h.misses));
+                  (ended_wider s.words (pages_for opening.cpus) log w.seen u.seen w.ended long.1 h.ended)
+                  (ended_new s.words log w u.seen w.number (λ k is. h.seen.mine k is ∙ ap (λ m. entries_of k (here_of m w.seen)) w_alone) long.1 h.misses));
               limit = f.limit;
             })
             (λ k x ne' was no. let o = r.each k x was in

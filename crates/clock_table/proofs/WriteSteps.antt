@@ -58,16 +58,12 @@ module _ (opening : BoardParts) where
       let was = (kept c l).version in
       let seen : version_after log c ≡ version_after me.0.seen c =
       ap (λ (b : BoardParts). (page_at b c).version) (quiet_board me.0.seen log (penned opening s r id me.0 at pen.pen pen.meet)).1 in
-      let o : Hand = record { cpu = c; put = no_fields } in (
-        begun c me.0,
-        keeps,
-        tt,
-        subst (λ (x : ℕ). Kept opening (stepped s (place c 0) x id me.1 (begun c me.0) keeps)) (wraps n (omega arith))
-            (on_page s r c 0 (n + 1) id me (Some o) at pen (later_version (pages_for opening.cpus) s.words c (n + 1) (omega arith) (omega arith))
-            (λ d m. page_cases s.words c 0 (n + 1) d None (Some o) page page (omega arith) (open_none c) (open_one o) (λ i ne. refl) (kept d m)
-            (page_opened s.words c (page c) (omega arith) (kept c l)))),
-        ((refl, refl, refl), λ d e. let same : c ≡ d = omega arith in ap (λ (x : ℕ). begun x me.0) same),
-      )
+      let o : Hand = record { cpu = c; put = no_fields } in
+      let next = subst (λ (x : ℕ). Kept opening (stepped s (place c 0) x id me.1 (begun c me.0) keeps)) (wraps n (omega arith))
+      (on_page s r c 0 (n + 1) id me (Some o) at pen (later_version (pages_for opening.cpus) s.words c (n + 1) (omega arith) (omega arith))
+      (λ d m. page_cases s.words c 0 (n + 1) d None (Some o) page page (omega arith) (open_none c) (open_one o) (λ i ne. refl) (kept d m)
+      (page_opened s.words c (page c) (omega arith) (kept c l)))) in
+      (begun c me.0, keeps, tt, next, ((refl, refl, refl), λ d e. let same : c ≡ d = omega arith in ap (λ (x : ℕ). begun x me.0) same))
 
   -- a field is put
   pub puts : (slots c k x id : ℕ) (me : M) → c < pages_for opening.cpus → k < 4 → IsPen me.0 → HasOpen c me.0
@@ -82,16 +78,12 @@ module _ (opening : BoardParts) where
       let o' : Hand = record { cpu = c; put = set o.put k (Some x) } in
       let odd : word_of s.words c 0 % 2 ≡ 1 =
       let even = (r.history.steady.pages c).even in let was = (kept c l).version in let one = open_here c in omega arith in
-      let new : with_put k x me.0.hand ≡ Some o' = ap (with_put k x) is in (
-        put_in k x me.0,
-        keeps,
-        tt,
-        subst (λ (z : Option Hand). Kept opening (stepped s (place c (suc k)) x id me.1 (record me.0 { hand = z; read = None }) keeps)) (sym new)
-            (on_page s r c (suc k) x id me (Some o') at pen (later_field (pages_for opening.cpus) s.words c k x small odd)
-            (λ d m. page_cases s.words c (suc k) x d (Some o) (Some o') page page (omega arith) (open_one o) (open_one o') (λ i ne. refl) (kept d m)
-            (page_put s.words o k x (page c) (omega arith) small open_page.3 (kept c l)))),
-        ((refl, refl, refl), λ d j jsmall e. let same : k ≡ j = omega arith in ap (λ (i : ℕ). put_in i x me.0) same),
-      )
+      let new : with_put k x me.0.hand ≡ Some o' = ap (with_put k x) is in
+      let next = subst (λ (z : Option Hand). Kept opening (stepped s (place c (suc k)) x id me.1 (record me.0 { hand = z; read = None }) keeps)) (sym new)
+      (on_page s r c (suc k) x id me (Some o') at pen (later_field (pages_for opening.cpus) s.words c k x small odd)
+      (λ d m. page_cases s.words c (suc k) x d (Some o) (Some o') page page (omega arith) (open_one o) (open_one o') (λ i ne. refl) (kept d m)
+      (page_put s.words o k x (page c) (omega arith) small open_page.3 (kept c l)))) in
+      (put_in k x me.0, keeps, tt, next, ((refl, refl, refl), λ d j jsmall e. let same : k ≡ j = omega arith in ap (λ (i : ℕ). put_in i x me.0) same))
 
   -- a step that adds an entry, after which nothing is open
   finished : (s : St) (r : Kept opening s) (i x id n : ℕ) (me : M) (e : Entry) (at : get_elem? s.views id ≡ some me.0) → IsPen me.0 → me.0.live ≡ true
