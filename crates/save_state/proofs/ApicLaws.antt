@@ -1,27 +1,14 @@
 -- The timers of local APICs with their tick lines: their fields cover them, what is read is written as its bytes are, and valid ones are written and read as they were.
-use Rattle.std.proofs.Common.{◌≡◌, ℕ, ◌+◌, ◌-◌, ◌<◌, ◌≤◌, ltb, List, ◌++◌, length, map, get_or, replicate, inl, inr, refl, ap, sym, subst, ◌∙◌, arith}
-use Rattle.std.proofs.lemmas.Bool.{le-ltb, ltb-false, cases_lt}
-use Rattle.std.proofs.lemmas.List.{length-map}
-use Rattle.tick_policy.specs.declared.parts.Policy.TheVariants.{Discard}
-use Rattle.tick_policy.specs.declared.parts.TickParts.{TickParts}
-use Rattle.lapic_timer.specs.declared.parts.ApicParts.{ApicParts}
-use Rattle.lapic_timer.specs.Parts.{divisor, IsApicTimer}
-use Rattle.local_apics.specs.Parts.{IsPlaceOf}
-use Rattle.local_apics.specs.Places.{no_timer, no_line, timer_at, line_at}
-use Rattle.board_types.specs.declared.parts.BoardParts.{BoardParts}
-use Rattle.board_core.specs.Apics.{apics_of, apics_in}
-use Rattle.board_core.specs.Conditions.{AreApics, IsBoard}
-use Rattle.board_core.specs.Time.{now_of}
-use Rattle.byte_table.specs.Codes.{pairs}
-use Rattle.byte_table.specs.Fold.{moved, read_below}
-use Rattle.byte_table.specs.Kinds.{plain, blocks}
-use Rattle.byte_table.proofs.FoldLaws.{◌⨾◌, AllHere, AllHold, all_here-append, all_hold-split}
-use Rattle.byte_table.proofs.CodeLaws.{number-written, byte-written}
-use Rattle.byte_table.proofs.KindLaws.{plain-here, blocks-here, hold-each}
-use Rattle.byte_table.proofs.Loops.{drop-blank, read_below-at, read_below-after, length-read_below}
-use Rattle.byte_table.proofs.Pairs.{pairs-at, length-pairs, pairs-halves}
-use Rattle.save_state.specs.Fields.{any, Apic, with_ticks, apic_timer, apic_line, apic, no_apic, apic_pairs, apics}
-use Rattle.save_state.specs.private.Fits.{ApicTimerFits, ApicsFit}
+use Rattle.save_state.proofs.Names.{◌≡◌, ℕ, ◌+◌, ◌-◌, ◌<◌, ◌≤◌, ltb, List, ◌++◌, length, map, get_or, replicate, inl, inr, refl, ap, sym, subst, ◌∙◌, arith}
+use Rattle.save_state.proofs.Names.{le-ltb, ltb-false, cases_lt, length-map, Discard, TickParts, ApicParts, divisor, IsApicTimer, IsPlaceOf, BoardParts}
+use Rattle.save_state.proofs.Names.{apics_of, apics_in, AreApics, IsBoard, now_of, pairs, moved, read_below, plain, blocks, ◌⨾◌, AllHere, AllHold}
+use Rattle.save_state.proofs.Names.{all_here-append, all_hold-split, number-written, byte-written, plain-here, blocks-here, hold-each, drop-blank}
+use Rattle.save_state.proofs.Names.{read_below-at, read_below-after, length-read_below, pairs-at, length-pairs, pairs-halves, any, Apic, with_ticks, apic_timer}
+use Rattle.save_state.proofs.Names.{apic_line, apic, no_apic, apic_pairs, apics, ApicTimerFits, ApicsFit}
+use Rattle.local_apics.specs.Places.{no_timer}
+use Rattle.local_apics.specs.Places.{no_line}
+use Rattle.local_apics.specs.Places.{timer_at}
+use Rattle.local_apics.specs.Places.{line_at}
 use Rattle.save_state.proofs.Blocks.{ticks-here, TicksHold, ticks-hold}
 use Rattle.save_state.proofs.Formats.{apics_few, processors_few}
 use Rattle.save_state.proofs.Sizes.{apic-size}

@@ -1,36 +1,14 @@
 -- The rows of each block, by what code knows of it.
-use Rattle.std.proofs.Common.{◌≡◌, ℕ, ◌+◌, ◌*◌, Bool, true, false, leb, ltb, eqb, not, ◌&&◌, ◌||◌, List, [], ◌∷◌, refl, ap, ◌∙◌, arith}
-use Rattle.std.specs.Int.{w8, cast_unsigned}
-use Rattle.clk_units.specs.declared.ranges.TheConstants.{RANGE_NS}
-use Rattle.pit_counter.specs.declared.parts.CounterParts.{CounterParts}
-use Rattle.pit_counter.specs.Parts.{bits_valid, flags_valid, cr_valid, ce_valid, part_valid, read_order_valid, latched_count_valid, latched_status_valid}
-use Rattle.hpet_comparator.specs.declared.parts.TimerParts.{TimerParts}
-use Rattle.hpet_comparator.specs.Parts.{config_valid, comparator_valid, period_valid}
-use Rattle.rtc_registers.specs.Parts.{index_valid, bytes_valid, divider_valid, cycle_valid}
-use Rattle.tick_policy.specs.declared.parts.TickParts.{TickParts}
-use Rattle.tick_policy.specs.Parts.{queue_valid, lost_valid}
-use Rattle.pvclock_page.specs.Scale.{mul_for, shift_for}
-use Rattle.board_types.specs.declared.parts.BoardParts.{BoardParts}
-use Rattle.lapic_timer.specs.declared.parts.ApicParts.{ApicParts}
-use Rattle.lapic_timer.specs.Parts.{lvt_valid, divide_valid, initial_valid, current_valid, phase_valid, deadline_valid}
-use Rattle.board_types.specs.declared.parts.HvParts.{HvParts}
-use Rattle.board_types.specs.declared.parts.ProcessorParts.{ProcessorParts}
-use Rattle.board_types.specs.declared.parts.TheConstants.{MOST_ACCESSES}
-use Rattle.board_types.specs.Setup.{has_messages, processors_of}
-use Rattle.board_types.specs.declared.setup.TheConstants.{LAST_FORMAT, SLEW_MAX_NS}
-use Rattle.board_core.specs.Time.{now_of}
-use Rattle.byte_table.specs.Codes.{byte_at, number_at, flag_valid, number, byte}
-use Rattle.byte_table.specs.Fold.{Field, fault_in}
-use Rattle.byte_table.specs.Kinds.{one_fault, plain, row, elsewhere}
-use Rattle.save_state.specs.declared.table.Row.{Row}
-use Rattle.save_state.specs.declared.fault.StateFault.{StateFault}
-use Rattle.save_state.specs.declared.fault.StateKind.{StateKind}
-use Rattle.save_state.specs.declared.fault.StateKind.TheVariants.{Magic, Version, Field as Invalid}
-use Rattle.save_state.specs.Rises.{legacy_rises_valid, routed_rises_valid}
-use Rattle.save_state.specs.Fields.{faults_of, magic, khz_valid, host_valid, head, host, guest, policies, front, clock, registers, counter, timer, line, up_allowed, tsc, page, processor, wall, rises, Message, message, version_valid, published_valid, apic_timer, apic_line, apic, scale_for, reference}
-use Rattle.save_state.specs.private.Rows.{field, row_fault, processor_rows}
-use Rattle.byte_table.proofs.FoldLaws.{◌⨾◌}
-use Rattle.byte_table.proofs.CodeLaws.{row_spelled-each}
+use Rattle.save_state.proofs.Names.{◌≡◌, ℕ, ◌+◌, ◌*◌, Bool, true, false, leb, ltb, eqb, not, ◌&&◌, ◌||◌, List, [], ◌∷◌, refl, ap, ◌∙◌, arith, w8, cast_unsigned}
+use Rattle.save_state.proofs.Names.{RANGE_NS, CounterParts, bits_valid, flags_valid, cr_valid, ce_valid, part_valid, read_order_valid, latched_count_valid}
+use Rattle.save_state.proofs.Names.{latched_status_valid, TimerParts, config_valid, comparator_valid, period_valid, index_valid, bytes_valid, divider_valid}
+use Rattle.save_state.proofs.Names.{cycle_valid, TickParts, queue_valid, lost_valid, mul_for, shift_for, BoardParts, ApicParts, lvt_valid, divide_valid}
+use Rattle.save_state.proofs.Names.{initial_valid, current_valid, phase_valid, deadline_valid, HvParts, ProcessorParts, MOST_ACCESSES, has_messages}
+use Rattle.save_state.proofs.Names.{processors_of, LAST_FORMAT, SLEW_MAX_NS, now_of, byte_at, number_at, flag_valid, number, byte, Field, fault_in, one_fault}
+use Rattle.save_state.proofs.Names.{plain, row, elsewhere, Row, StateFault, StateKind, Magic, Version, Invalid, legacy_rises_valid, routed_rises_valid}
+use Rattle.save_state.proofs.Names.{faults_of, magic, khz_valid, host_valid, head, host, guest, policies, front, clock, registers, counter, timer, line}
+use Rattle.save_state.proofs.Names.{up_allowed, tsc, page, processor, wall, rises, Message, message, version_valid, published_valid, apic_timer, apic_line}
+use Rattle.save_state.proofs.Names.{apic, scale_for, reference, field, row_fault, processor_rows, ◌⨾◌, row_spelled-each}
 use Rattle.save_state.proofs.RowLaws.{IsRow, rows-are}
 
 -- a row that is its field as it is

@@ -1,23 +1,10 @@
 -- The laws of each block: its fields cover it, what is read is written as its bytes are, and what is written is read as it was.
-use Rattle.std.proofs.Common.{◌≡◌, ℕ, ◌+◌, ◌≤◌, Bool, true, leb, ◌||◌, List, refl, arith}
-use Rattle.std.proofs.lemmas.Bool.{lt-ltb, le-leb, leb-true, eq-eqb, eqb-true, and_from, and_parts}
-use Rattle.pit_counter.specs.declared.parts.CounterParts.{CounterParts}
-use Rattle.pit_counter.specs.Parts.{IsCounter}
-use Rattle.hpet_comparator.specs.declared.parts.TimerParts.{TimerParts}
-use Rattle.hpet_comparator.specs.Parts.{IsTimer}
-use Rattle.tick_policy.specs.declared.parts.Policy.{Policy}
-use Rattle.tick_policy.specs.declared.parts.Policy.TheVariants.{Discard, Delay, Slew}
-use Rattle.tick_policy.specs.declared.parts.TickParts.{TickParts}
-use Rattle.tick_policy.specs.Parts.{IsTickLine, queue_valid, lost_valid, policy_byte, policy_of}
-use Rattle.board_types.specs.declared.parts.BoardParts.{BoardParts}
-use Rattle.board_core.specs.Time.{now_of}
-use Rattle.byte_table.specs.Codes.{byte_at}
-use Rattle.byte_table.specs.Kinds.{plain}
-use Rattle.byte_table.proofs.FoldLaws.{◌⨾◌, AllHere, AllHold, all_here-append}
-use Rattle.byte_table.proofs.CodeLaws.{IsWritten, number-written, byte-written, signed_byte-written, flag-written, flags-written, both-written, choice-written}
-use Rattle.byte_table.proofs.KindLaws.{plain-here, plain-spelled, elsewhere-here, elsewhere-spelled, AreBlocks}
-use Rattle.save_state.specs.Fields.{policy, policy_place, counter, timer, line, up_allowed, ticks_of, line_ticks, line_policy}
-use Rattle.save_state.specs.private.Fits.{CounterFits, TimerFits, LineFits}
+use Rattle.save_state.proofs.Names.{◌≡◌, ℕ, ◌+◌, ◌≤◌, Bool, true, leb, ◌||◌, List, refl, arith, lt-ltb, le-leb, leb-true, eq-eqb, eqb-true, and_from, and_parts}
+use Rattle.save_state.proofs.Names.{CounterParts, IsCounter, TimerParts, IsTimer, Policy, Discard, Delay, Slew, TickParts, IsTickLine, queue_valid, lost_valid}
+use Rattle.save_state.proofs.Names.{policy_byte, policy_of, BoardParts, now_of, byte_at, plain, ◌⨾◌, AllHere, AllHold, all_here-append, IsWritten}
+use Rattle.save_state.proofs.Names.{number-written, byte-written, signed_byte-written, flag-written, flags-written, both-written, choice-written, plain-here}
+use Rattle.save_state.proofs.Names.{plain-spelled, elsewhere-here, elsewhere-spelled, AreBlocks, policy, policy_place, counter, timer, line, up_allowed}
+use Rattle.save_state.proofs.Names.{ticks_of, line_ticks, line_policy, CounterFits, TimerFits, LineFits}
 
 -- by these a search finds that the fields of a list are here, from their ranges and conditions
 pub ruleset writes = (plain-here, number-written, byte-written, signed_byte-written, flag-written, flags-written, both-written, and_from)

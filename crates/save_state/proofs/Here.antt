@@ -1,46 +1,15 @@
 -- Each list of fields: what is written of a valid board is read as it was, and has no fault.
-use Rattle.std.proofs.Common.{◌∷◌, [], ◌≡◌, ℕ, zero, suc, ◌+◌, ◌<◌, ◌≤◌, Bool, true, false, eqb, ltb, leb, ◌&&◌, ◌||◌, List, ◌++◌, drop, get_or, refl, ap, sym, subst, ◌∙◌, arith}
-use Rattle.std.proofs.lemmas.Bool.{lt-ltb, le-ltb, le-leb, and_from, or_right, ne_eqb, cond-true, cond-false}
-use Rattle.std.proofs.lemmas.List.{drop_all, get_or-drop}
-use Rattle.clk_units.specs.Ranges.{IsKhz}
-use Rattle.clk_units.specs.declared.ranges.TheConstants.{RANGE_NS}
-use Rattle.host_counter.specs.Time.{time_at}
-use Rattle.host_counter.specs.declared.Anchor.{Anchor}
-use Rattle.rtc_registers.specs.declared.parts.RtcParts.{RtcParts}
-use Rattle.rtc_registers.specs.Registers.{pf_of}
-use Rattle.rtc_registers.specs.Parts.{IsRtc, bytes_valid, divider_valid, cycle_valid}
-use Rattle.hpet_comparator.specs.Parts.{IsTimer}
-use Rattle.hpet_registers.specs.Parts.{no_timer, timer_at, IsPlace}
-use Rattle.tick_policy.specs.declared.parts.Policy.{Policy}
-use Rattle.tick_policy.specs.declared.parts.Policy.TheVariants.{Discard, Delay, Slew}
-use Rattle.tick_policy.specs.Parts.{policy_byte, policy_of}
-use Rattle.board_types.specs.declared.parts.BoardParts.{BoardParts}
-use Rattle.board_types.specs.declared.parts.TheConstants.{MOST_ACCESSES}
-use Rattle.board_types.specs.declared.setup.TheConstants.{LAST_FORMAT, SLEW_MAX_NS}
-use Rattle.board_types.specs.Setup.{timers_of, has_messages, processors_of}
-use Rattle.board_devices.specs.Nanosecond.{counts_rtc}
-use Rattle.board_devices.specs.Lines.{levels}
-use Rattle.board_devices.specs.Parts.{IsTimerLine}
-use Rattle.board_devices.specs.Places.{line_at, no_line}
-use Rattle.board_core.specs.Apics.{apics_of}
-use Rattle.board_core.specs.Conditions.{IsBoard}
-use Rattle.board_core.specs.Time.{devices_in, now_of}
-use Rattle.board_core.specs.Tsc.{no_processor, processor_at}
-use Rattle.byte_table.specs.Codes.{byte_at, number, byte}
-use Rattle.byte_table.specs.Fold.{write}
-use Rattle.byte_table.specs.Kinds.{plain}
-use Rattle.byte_table.proofs.FoldLaws.{◌⨾◌, AllHere, next-write}
-use Rattle.byte_table.proofs.CodeLaws.{number-written, word-written, byte-written, flag-written, all-written}
-use Rattle.byte_table.proofs.KindLaws.{plain-here, row-here, blocks-here}
-use Rattle.byte_table.proofs.Loops.{drop-blank}
-use Rattle.save_state.specs.Rises.{rise_valid, routed_rises_valid}
-use Rattle.save_state.specs.Fields.{magic, khz_valid, policy_place, head, host, guest, policies, counter, no_counter, counters, clock, registers, timer, timers, same}
-use Rattle.save_state.specs.Fields.{up_allowed, line, lines, counts_of, rises, wall, processor, processors, apics, references, references_of, messages, messages_of, devices, back, fields_of}
-use Rattle.save_state.specs.private.Fits.{BoardFits}
-use Rattle.pit_readback.specs.Parts.{IsPit}
-use Rattle.byte_table.specs.Kinds.{plain, elsewhere}
-use Rattle.byte_table.proofs.FoldLaws.{here-joined}
-use Rattle.save_state.specs.Fields.{tsc, page}
+use Rattle.save_state.proofs.Names.{◌∷◌, [], ◌≡◌, ℕ, zero, suc, ◌+◌, ◌<◌, ◌≤◌, Bool, true, false, eqb, ltb, leb, ◌&&◌, ◌||◌, List, ◌++◌, drop, get_or, refl, ap}
+use Rattle.save_state.proofs.Names.{sym, subst, ◌∙◌, arith, lt-ltb, le-ltb, le-leb, and_from, or_right, ne_eqb, cond-true, cond-false, drop_all, get_or-drop}
+use Rattle.save_state.proofs.Names.{IsKhz, RANGE_NS, time_at, Anchor, RtcParts, pf_of, IsRtc, bytes_valid, divider_valid, cycle_valid, IsTimer, no_timer}
+use Rattle.save_state.proofs.Names.{timer_at, IsPlace, Policy, Discard, Delay, Slew, policy_byte, policy_of, BoardParts, MOST_ACCESSES, LAST_FORMAT}
+use Rattle.save_state.proofs.Names.{SLEW_MAX_NS, timers_of, has_messages, processors_of, counts_rtc, levels, IsTimerLine, line_at, no_line, apics_of, IsBoard}
+use Rattle.save_state.proofs.Names.{devices_in, now_of, no_processor, processor_at, byte_at, number, byte, write, plain, ◌⨾◌, AllHere, next-write}
+use Rattle.save_state.proofs.Names.{number-written, word-written, byte-written, flag-written, all-written, plain-here, row-here, blocks-here, drop-blank}
+use Rattle.save_state.proofs.Names.{rise_valid, routed_rises_valid, magic, khz_valid, policy_place, head, host, guest, policies, counter, no_counter, counters}
+use Rattle.save_state.proofs.Names.{clock, registers, timer, timers, same, up_allowed, line, lines, counts_of, rises, wall, processor, processors, apics}
+use Rattle.save_state.proofs.Names.{references, references_of, messages, messages_of, devices, back, fields_of, BoardFits, IsPit, elsewhere, here-joined, tsc}
+use Rattle.save_state.proofs.Names.{page}
 use Rattle.save_state.proofs.AllFields.{lists}
 use Rattle.save_state.proofs.Blocks.{writes, policy-written, counter-here, timer-here, line-here}
 use Rattle.save_state.proofs.Processors.{processor-here}

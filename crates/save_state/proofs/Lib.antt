@@ -1,3 +1,4 @@
+pub mod Names
 pub mod AllFields
 pub mod Formats
 pub mod Sizes

@@ -1,20 +1,8 @@
 -- The messages of the HPET's timers: their fields cover them, what is read is written as its bytes are, and those of a valid board are written and read as they were.
-use Rattle.std.proofs.Common.{◌≡◌, ℕ, ◌-◌, ◌^◌, ◌<◌, ◌≤◌, true, false, not, eqb, List, ◌++◌, length, get_or, replicate, refl, ap, sym, ◌∙◌, arith}
-use Rattle.std.proofs.lemmas.Bool.{or_right, lt-leb}
-use Rattle.hpet_registers.specs.Parts.{message_bit_at, message_word_at}
-use Rattle.board_types.specs.declared.parts.BoardParts.{BoardParts}
-use Rattle.board_types.specs.declared.setup.TheConstants.{MESSAGE_FORMAT}
-use Rattle.board_core.specs.Conditions.{IsBoard}
-use Rattle.byte_table.specs.Fold.{read_below}
-use Rattle.byte_table.specs.Kinds.{plain}
-use Rattle.byte_table.proofs.FoldLaws.{◌⨾◌, AllHere}
-use Rattle.byte_table.proofs.CodeLaws.{number-written, flag-written}
-use Rattle.byte_table.proofs.KindLaws.{plain-here, blocks-here}
-use Rattle.byte_table.proofs.Loops.{drop-blank}
-use Rattle.byte_table.proofs.Pairs.{pairs-at, length-pairs}
-use Rattle.save_state.specs.Rises.{routed_rises_valid}
-use Rattle.save_state.specs.Fields.{Message, message, messages_of, no_message, message_pairs, messages}
-use Rattle.save_state.specs.private.Fits.{BoardFits}
+use Rattle.save_state.proofs.Names.{◌≡◌, ℕ, ◌-◌, ◌^◌, ◌<◌, ◌≤◌, true, false, not, eqb, List, ◌++◌, length, get_or, replicate, refl, ap, sym, ◌∙◌, arith}
+use Rattle.save_state.proofs.Names.{or_right, lt-leb, message_bit_at, message_word_at, BoardParts, MESSAGE_FORMAT, IsBoard, read_below, plain, ◌⨾◌, AllHere}
+use Rattle.save_state.proofs.Names.{number-written, flag-written, plain-here, blocks-here, drop-blank, pairs-at, length-pairs, routed_rises_valid, Message}
+use Rattle.save_state.proofs.Names.{message, messages_of, no_message, message_pairs, messages, BoardFits}
 use Rattle.save_state.proofs.Formats.{messages_few}
 
 message-here : (b : BoardParts) (k : ℕ) (m : Message) (bytes : List ℕ) → m.second < 256 ^ 8 → routed_rises_valid b ≡ true → AllHere (message k) b m bytes

@@ -1,22 +1,11 @@
 -- The first fault of bytes is that of the head, of the devices, or of the rest.
-use Rattle.std.proofs.Common.{◌≡◌, ℕ, ◌+◌, ◌*◌, ◌≤◌, ◌++◌, List, [], ◌∷◌, length, Option, None, Some, refl, ap, sym, subst, ◌∙◌, arith}
-use Rattle.board_types.specs.declared.parts.BoardParts.{BoardParts}
-use Rattle.board_types.specs.Setup.{timers_of}
-use Rattle.board_devices.specs.Parts.{AreDevices}
-use Rattle.board_core.specs.Apics.{apics_of}
-use Rattle.board_core.specs.Conditions.{IsBoard}
-use Rattle.board_core.specs.Time.{devices_in}
-use Rattle.byte_table.specs.Fold.{size_of, or_else, fault_in}
-use Rattle.byte_table.proofs.FoldLaws.{AreBytes, hold, rewritten, or_else-none, or_else-both, or_else-end, size_of-append, fault-next, fault-joined}
-use Rattle.byte_table.proofs.Loops.{size-below}
-use Rattle.save_state.specs.declared.fault.StateFault.{StateFault}
-use Rattle.save_state.specs.Fields.{Fields, front, counters, clock, registers, timer, timers, line, lines, counts_of, rises, wall, processor}
-use Rattle.save_state.specs.Fields.{processors, apic, apics, reference, references, references_of, message, messages, messages_of, devices, back, fields_of}
-use Rattle.save_state.specs.Places.{format_in, cpus_in}
-use Rattle.save_state.specs.Reading.{board_in}
-use Rattle.save_state.specs.Table.{trailing, fault_of}
-use Rattle.save_state.specs.private.Parts.{devices_fault, rest_fault}
-use Rattle.save_state.specs.private.Places.{line_place, rises_place, wall_place, processor_place, apic_place, reference_place, message_place, end_place}
+use Rattle.save_state.proofs.Names.{◌≡◌, ℕ, ◌+◌, ◌*◌, ◌≤◌, ◌++◌, List, [], ◌∷◌, length, Option, None, Some, refl, ap, sym, subst, ◌∙◌, arith, BoardParts}
+use Rattle.save_state.proofs.Names.{timers_of, AreDevices, apics_of, IsBoard, devices_in, size_of, or_else, fault_in, AreBytes, hold, rewritten, or_else-none}
+use Rattle.save_state.proofs.Names.{or_else-both, or_else-end, size_of-append, fault-next, fault-joined, size-below, StateFault, Fields, front, counters, clock}
+use Rattle.save_state.proofs.Names.{registers, timer, timers, line, lines, counts_of, rises, wall, processor, processors, apic, apics, reference, references}
+use Rattle.save_state.proofs.Names.{references_of, message, messages, messages_of, devices, back, fields_of, format_in, cpus_in, board_in, trailing, fault_of}
+use Rattle.save_state.proofs.Names.{devices_fault, rest_fault, line_place, rises_place, wall_place, processor_place, apic_place, reference_place, message_place}
+use Rattle.save_state.proofs.Names.{end_place}
 use Rattle.save_state.proofs.Formats.{processors_few}
 use Rattle.save_state.proofs.Sizes.{timer-size, line-size, processor-size, apic-size, reference-size, message-size}
 use Rattle.save_state.proofs.Spelled.{front-spelled, devices-spelled, back-spelled}

@@ -1,23 +1,8 @@
 -- The processors: their fields cover them, what is read is written as its bytes are, and a valid one is written and read as it was.
-use Rattle.std.proofs.Common.{◌≡◌, ℕ, ℤ, pos, negsuc, ◌+◌, ◌*◌, ◌%◌, ◌<◌, Bool, true, false, cond, ◌&&◌, eqb, ltb, List, get_or, refl, ap, sym, ◌∙◌, arith}
-use Rattle.std.proofs.lemmas.Bool.{lt-ltb, eq-eqb}
-use Rattle.std.proofs.lemmas.Int.{of_z-to_z}
-use Rattle.std.specs.Int.{w8, cast_signed, cast_unsigned}
-use Rattle.clk_units.specs.declared.ranges.TheConstants.{RANGE_NS}
-use Rattle.pvclock_page.specs.Scale.{mul_for, shift_for}
-use Rattle.board_types.specs.declared.parts.BoardParts.{BoardParts}
-use Rattle.board_types.specs.declared.parts.ProcessorParts.{ProcessorParts}
-use Rattle.board_core.specs.Conditions.{IsProcessor, flags_valid as page_flags_valid}
-use Rattle.board_core.specs.Tsc.{no_processor}
-use Rattle.byte_table.specs.Codes.{number}
-use Rattle.byte_table.specs.Fold.{read}
-use Rattle.byte_table.specs.Kinds.{plain}
-use Rattle.byte_table.proofs.FoldLaws.{◌⨾◌, AreBytes, AllHere, AllHold}
-use Rattle.byte_table.proofs.CodeLaws.{number-written, byte-written, signed_byte-written}
-use Rattle.byte_table.proofs.KindLaws.{plain-here}
-use Rattle.byte_table.proofs.Little.{number-below}
-use Rattle.save_state.specs.Fields.{version_valid, tsc, page, processor}
-use Rattle.save_state.specs.private.Fits.{ProcessorFits}
+use Rattle.save_state.proofs.Names.{◌≡◌, ℕ, ℤ, pos, negsuc, ◌+◌, ◌*◌, ◌%◌, ◌<◌, Bool, true, false, cond, ◌&&◌, eqb, ltb, List, get_or, refl, ap, sym, ◌∙◌}
+use Rattle.save_state.proofs.Names.{arith, lt-ltb, eq-eqb, of_z-to_z, w8, cast_signed, cast_unsigned, RANGE_NS, mul_for, shift_for, BoardParts, ProcessorParts}
+use Rattle.save_state.proofs.Names.{IsProcessor, page_flags_valid, no_processor, number, read, plain, ◌⨾◌, AreBytes, AllHere, AllHold, number-written}
+use Rattle.save_state.proofs.Names.{byte-written, signed_byte-written, plain-here, number-below, version_valid, tsc, page, processor, ProcessorFits}
 use Rattle.save_state.proofs.Versions.{published-is}
 
 version-all : (version offset adjust number : ℕ) → version % 2 ≡ 0 → (version ≡ 0 → offset ≡ 0) → (version ≡ 0 → adjust ≡ 0) → (version ≡ 0 → number ≡ 0)

@@ -1,23 +1,9 @@
 -- What holds of each board that is read, whatever its conditions.
-use Rattle.std.proofs.Common.{◌≡◌, ℕ, ◌+◌, ◌<◌, ◌≤◌, ◌-◌, zero, suc, false, List, [], ◌∷◌, length, map, get_or, refl, ap, sym, subst, ◌∙◌, arith}
-use Rattle.std.proofs.lemmas.Bool.{le-leb, cond-true}
-use Rattle.hpet_registers.specs.Parts.{no_timer, timer_at, message_bit_at, message_word_at}
-use Rattle.tick_policy.specs.Parts.{policy_of}
-use Rattle.board_types.specs.declared.parts.BoardParts.{BoardParts}
-use Rattle.board_types.specs.Setup.{timers_of, has_messages}
-use Rattle.board_types.specs.declared.setup.TheConstants.{HV_FORMAT}
-use Rattle.board_devices.specs.Places.{no_line, line_at}
-use Rattle.board_core.specs.Apics.{apics_of}
-use Rattle.board_core.specs.Hv.{no_hv}
-use Rattle.board_core.specs.Time.{devices_in}
-use Rattle.board_core.specs.Tsc.{no_processor, processor_at}
-use Rattle.byte_table.specs.Codes.{byte_at, number, byte}
-use Rattle.byte_table.proofs.FoldLaws.{AreBytes}
-use Rattle.byte_table.proofs.Little.{number-below}
-use Rattle.byte_table.proofs.Loops.{read_below-at, read_below-after, row_value-after, length-read_below, length-row_value}
-use Rattle.save_state.specs.Fields.{policy_place, timer, line, counts_of, processor, references_of, Message, message, no_message, messages_of}
-use Rattle.save_state.specs.Places.{format_in, cpus_in}
-use Rattle.save_state.specs.Reading.{board_in}
+use Rattle.save_state.proofs.Names.{◌≡◌, ℕ, ◌+◌, ◌<◌, ◌≤◌, ◌-◌, zero, suc, false, List, [], ◌∷◌, length, map, get_or, refl, ap, sym, subst, ◌∙◌, arith, le-leb}
+use Rattle.save_state.proofs.Names.{cond-true, no_timer, timer_at, message_bit_at, message_word_at, policy_of, BoardParts, timers_of, has_messages, HV_FORMAT}
+use Rattle.save_state.proofs.Names.{no_line, line_at, apics_of, no_hv, devices_in, no_processor, processor_at, byte_at, number, byte, AreBytes, number-below}
+use Rattle.save_state.proofs.Names.{read_below-at, read_below-after, row_value-after, length-read_below, length-row_value, policy_place, timer, line, counts_of}
+use Rattle.save_state.proofs.Names.{processor, references_of, Message, message, no_message, messages_of, format_in, cpus_in, board_in}
 use Rattle.save_state.proofs.Formats.{timers_few, timers_least, apics_few, messages_few, references-none}
 use Rattle.save_state.proofs.Processors.{IsPage, page-read}
 use Rattle.save_state.proofs.ApicLaws.{AreRead, apics-read}

@@ -1,21 +1,9 @@
 -- The reference page of Hyper-V: its fields cover it, what is read is written as its bytes are, and a valid page is written and read as it was.
-use Rattle.std.proofs.Common.{◌≡◌, ℕ, zero, suc, ◌+◌, ◌-◌, ◌<◌, ◌≤◌, List, [], ◌∷◌, ◌++◌, get_or, replicate, None, inl, inr, refl, ap, ◌∙◌, arith}
-use Rattle.std.proofs.lemmas.Bool.{eqb-true, lt-ltb, eq-eqb, cases_lt}
-use Rattle.std.proofs.lemmas.List.{append-nil}
-use Rattle.board_types.specs.declared.parts.BoardParts.{BoardParts}
-use Rattle.board_types.specs.declared.parts.HvParts.{HvParts}
-use Rattle.board_types.specs.declared.setup.TheConstants.{HV_FORMAT}
-use Rattle.board_core.specs.Conditions.{IsHv, IsBoard}
-use Rattle.board_core.specs.Hv.{no_hv}
-use Rattle.byte_table.specs.Fold.{write, read, or_else, fault_in, write_below, read_below, fault_below}
-use Rattle.byte_table.specs.Kinds.{plain, blocks}
-use Rattle.byte_table.proofs.FoldLaws.{◌⨾◌, AreBytes, AllHere, AllHold, or_else-end}
-use Rattle.byte_table.proofs.CodeLaws.{number-written, byte-written}
-use Rattle.byte_table.proofs.KindLaws.{plain-here, blocks-here}
-use Rattle.byte_table.proofs.Little.{number-below}
-use Rattle.byte_table.proofs.Loops.{drop-blank}
-use Rattle.save_state.specs.Fields.{scale_for, reference, references, references_of}
-use Rattle.save_state.specs.private.Fits.{ReferenceFits}
+use Rattle.save_state.proofs.Names.{◌≡◌, ℕ, zero, suc, ◌+◌, ◌-◌, ◌<◌, ◌≤◌, List, [], ◌∷◌, ◌++◌, get_or, replicate, None, inl, inr, refl, ap, ◌∙◌, arith}
+use Rattle.save_state.proofs.Names.{eqb-true, lt-ltb, eq-eqb, cases_lt, append-nil, BoardParts, HvParts, HV_FORMAT, IsHv, IsBoard, no_hv, write, read, or_else}
+use Rattle.save_state.proofs.Names.{fault_in, write_below, read_below, fault_below, plain, blocks, ◌⨾◌, AreBytes, AllHere, AllHold, or_else-end, number-written}
+use Rattle.save_state.proofs.Names.{byte-written, plain-here, blocks-here, number-below, drop-blank, scale_for, reference, references, references_of}
+use Rattle.save_state.proofs.Names.{ReferenceFits}
 use Rattle.save_state.proofs.Formats.{references-one, references_few}
 use Rattle.save_state.proofs.Versions.{version-is, published-is, some-or}
 

@@ -1,31 +1,12 @@
 -- The round trip of a saved state: a board's bytes are read as the board and have no fault, and bytes with no fault are those of the board that they are.
-use Rattle.std.proofs.Common.{◌≡◌, ℕ, ◌+◌, ◌^◌, ◌<◌, ◌≤◌, ⊎_elim, Bool, cond, List, [], ◌∷◌, ◌++◌, length, map, drop, Some, None, refl, ap, sym, ◌∙◌, arith}
-use Rattle.std.proofs.lemmas.Bool.{lt-ltb, le-ltb, cases_lt}
-use Rattle.std.proofs.lemmas.List.{append-nil, take_all}
-use Rattle.tick_policy.specs.declared.parts.Policy.{Policy}
-use Rattle.tick_policy.specs.declared.parts.TickParts.{TickParts}
-use Rattle.tick_policy.specs.Parts.{policy_byte, policy_of}
-use Rattle.board_types.specs.declared.parts.BoardParts.{BoardParts}
-use Rattle.board_types.specs.Setup.{timers_of}
-use Rattle.board_devices.specs.Places.{no_line, line_at}
-use Rattle.board_core.specs.Apics.{apics_of}
-use Rattle.board_core.specs.Conditions.{IsBoard}
-use Rattle.board_core.specs.Time.{devices_in}
-use Rattle.byte_table.specs.Codes.{byte_at, number_bytes, Two, pairs}
-use Rattle.byte_table.specs.Fold.{size_of, write, write_below, read, moved, fault_in}
-use Rattle.byte_table.specs.Kinds.{plain, elsewhere}
-use Rattle.byte_table.proofs.FoldLaws.{◌⨾◌, AreBytes, next, AllKeep, or_else-none, or_else-both, length-write, read-write, fault-write, rewritten, rewrite_in-keep}
-use Rattle.byte_table.proofs.CodeLaws.{number_at-is, length-number}
-use Rattle.byte_table.proofs.Loops.{read_below-at}
-use Rattle.byte_table.proofs.Pairs.{firsts-pairs, seconds-pairs, pairs-halves}
-use Rattle.save_state.specs.declared.fault.StateFault.{StateFault}
-use Rattle.save_state.specs.declared.fault.StateKind.TheVariants.{Trailing}
-use Rattle.save_state.specs.Fields.{Fields, apic, no_apic, message, no_message, magic, policy_place, head, line, references_of, messages_of, fields_of}
-use Rattle.save_state.specs.Places.{format_in, cpus_in}
-use Rattle.save_state.specs.Reading.{blank, fields_in, board_in}
-use Rattle.save_state.specs.Table.{trailing, fault_of}
-use Rattle.save_state.specs.Writing.{bytes_of}
-use Rattle.save_state.specs.private.Fits.{BoardFits}
+use Rattle.save_state.proofs.Names.{◌≡◌, ℕ, ◌+◌, ◌^◌, ◌<◌, ◌≤◌, ⊎_elim, Bool, cond, List, [], ◌∷◌, ◌++◌, length, map, drop, Some, None, refl, ap, sym, ◌∙◌}
+use Rattle.save_state.proofs.Names.{arith, lt-ltb, le-ltb, cases_lt, append-nil, take_all, Policy, TickParts, policy_byte, policy_of, BoardParts, timers_of}
+use Rattle.save_state.proofs.Names.{no_line, line_at, apics_of, IsBoard, devices_in, byte_at, number_bytes, Two, pairs, size_of, write, write_below, read}
+use Rattle.save_state.proofs.Names.{moved, fault_in, plain, elsewhere, ◌⨾◌, AreBytes, next, AllKeep, or_else-none, or_else-both, length-write, read-write}
+use Rattle.save_state.proofs.Names.{fault-write, rewritten, rewrite_in-keep, number_at-is, length-number, read_below-at, firsts-pairs, seconds-pairs}
+use Rattle.save_state.proofs.Names.{pairs-halves, StateFault, Trailing, Fields, apic, no_apic, message, no_message, magic, policy_place, head, line}
+use Rattle.save_state.proofs.Names.{references_of, messages_of, fields_of, format_in, cpus_in, blank, fields_in, board_in, trailing, fault_of, bytes_of}
+use Rattle.save_state.proofs.Names.{BoardFits}
 use Rattle.save_state.proofs.AllFields.{layout}
 use Rattle.save_state.proofs.ApicLaws.{apics_read}
 use Rattle.save_state.proofs.MessageLaws.{messages_read}

@@ -1,13 +1,6 @@
 -- The rows that code walks are the fields: their first fault is the same.
-use Rattle.std.proofs.Common.{◌≡◌, ℕ, ◌+◌, Bool, true, false, cond, ltb, List, [], ◌∷◌, length, Option, Some, None, refl, sym, ◌∙◌}
-use Rattle.board_types.specs.declared.parts.BoardParts.{BoardParts}
-use Rattle.byte_table.specs.Fold.{Field, or_else, fault_in}
-use Rattle.byte_table.specs.Kinds.{one_fault}
-use Rattle.save_state.specs.declared.table.Row.{Row}
-use Rattle.save_state.specs.declared.fault.StateFault.{StateFault}
-use Rattle.save_state.specs.declared.fault.StateKind.TheVariants.{Short}
-use Rattle.save_state.specs.Fields.{Fields, faults_of}
-use Rattle.save_state.specs.private.Rows.{row_fault}
+use Rattle.save_state.proofs.Names.{◌≡◌, ℕ, ◌+◌, Bool, true, false, cond, ltb, List, [], ◌∷◌, length, Option, Some, None, refl, sym, ◌∙◌, BoardParts, Field}
+use Rattle.save_state.proofs.Names.{or_else, fault_in, one_fault, Row, StateFault, Short, Fields, faults_of, row_fault}
 
 -- a row of a field
 pub record IsRow {P : Type 0} (f : Field StateFault BoardParts P) (b : BoardParts) (p : P) (place : ℕ) (bytes : List ℕ) (r : Row) : Type 0 where

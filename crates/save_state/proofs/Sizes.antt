@@ -1,12 +1,7 @@
 -- How many bytes a block takes, and where blocks begin.
-use Rattle.std.proofs.Common.{◌≡◌, ℕ, ◌+◌, ◌*◌, refl, arith}
-use Rattle.board_types.specs.Setup.{timers_of}
-use Rattle.board_core.specs.Apics.{apics_of}
-use Rattle.byte_table.specs.Fold.{size_of, size_below}
-use Rattle.byte_table.specs.Kinds.{plain, elsewhere}
-use Rattle.byte_table.proofs.Loops.{size-below}
-use Rattle.save_state.specs.Fields.{counter, timer, line, tsc, page, processor, apic_timer, apic_line, apic, reference, references_of, message, counts_of}
-use Rattle.save_state.specs.private.Places.{line_place, rises_place, wall_place, processor_place, apic_place, reference_place, message_place}
+use Rattle.save_state.proofs.Names.{◌≡◌, ℕ, ◌+◌, ◌*◌, refl, arith, timers_of, apics_of, size_of, size_below, plain, elsewhere, size-below, counter, timer, line}
+use Rattle.save_state.proofs.Names.{tsc, page, processor, apic_timer, apic_line, apic, reference, references_of, message, counts_of, line_place, rises_place}
+use Rattle.save_state.proofs.Names.{wall_place, processor_place, apic_place, reference_place, message_place}
 
 pub counter-size : (k : ℕ) → size_of (counter k) ≡ 14
 unfolding counter plain

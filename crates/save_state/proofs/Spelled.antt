@@ -1,15 +1,7 @@
 -- Each list of fields: bytes with no fault are those that are written.
-use Rattle.std.proofs.Common.{ℕ, zero, suc, ◌<◌, ◌≡◌, refl, arith}
-use Rattle.hpet_registers.specs.Parts.{no_timer}
-use Rattle.tick_policy.specs.Parts.{policy_byte, policy_of}
-use Rattle.board_devices.specs.Places.{no_line}
-use Rattle.board_core.specs.Hv.{no_hv}
-use Rattle.board_core.specs.Tsc.{no_processor}
-use Rattle.byte_table.specs.Kinds.{plain, elsewhere}
-use Rattle.byte_table.proofs.FoldLaws.{AllSpelled}
-use Rattle.byte_table.proofs.CodeLaws.{IsCode, choice-code}
-use Rattle.byte_table.proofs.KindLaws.{AreBlocks, blocks-spelled, spells}
-use Rattle.save_state.specs.Fields.{policy, counter, no_counter, timer, line, processor, apic, no_apic, reference, message, no_message, front, devices, back, fields_of}
+use Rattle.save_state.proofs.Names.{ℕ, zero, suc, ◌<◌, ◌≡◌, refl, arith, no_timer, policy_byte, policy_of, no_line, no_hv, no_processor, plain, elsewhere}
+use Rattle.save_state.proofs.Names.{AllSpelled, IsCode, choice-code, AreBlocks, blocks-spelled, spells, policy, counter, no_counter, timer, line, processor}
+use Rattle.save_state.proofs.Names.{apic, no_apic, reference, message, no_message, front, devices, back, fields_of}
 use Rattle.save_state.proofs.AllFields.{lists, block_lists}
 
 policy-code : IsCode policy

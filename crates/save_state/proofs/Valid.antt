@@ -1,48 +1,17 @@
 -- A board that is read, whose conditions all hold, is valid.
-use Rattle.std.proofs.Common.{◌≡◌, ℕ, zero, suc, ◌+◌, ◌<◌, ◌≤◌, Bool, true, false, cond, ◌&&◌, ◌||◌, leb, ltb, [], ◌∷◌, length, get_or}
-use Rattle.std.proofs.Common.{Some, None, ◌⊎◌, inl, inr, refl, sym, subst, ◌∙◌, arith}
-use Rattle.std.proofs.lemmas.Bool.{and_parts, or_cases, leb-true, ltb-true, ltb-false, lt-ltb, le-ltb, cases_lt, cond-true}
-use Rattle.clk_units.specs.Ranges.{IsKhz}
-use Rattle.irq_edges.specs.Lines.{line_numbers, level_of}
-use Rattle.pit_counter.specs.declared.parts.CounterParts.{CounterParts}
-use Rattle.pit_counter.specs.Parts.{IsCounter}
-use Rattle.pit_readback.specs.Parts.{IsPit}
-use Rattle.rtc_cycle.specs.Parts.{IsDivider}
-use Rattle.rtc_registers.specs.declared.parts.RtcParts.{RtcParts}
-use Rattle.rtc_registers.specs.Registers.{register_a, register_c, register_d, pf_of, af_of, uf_of, flags_byte, divider_of}
-use Rattle.rtc_registers.specs.Parts.{IsRtc, bytes_valid, divider_valid, cycle_valid}
-use Rattle.hpet_comparator.specs.declared.parts.TimerParts.{TimerParts}
-use Rattle.hpet_comparator.specs.declared.parts.TimerField.TheVariants.{Config, Comparator, Period}
-use Rattle.hpet_comparator.specs.Parts.{IsTimer, config_valid, comparator_valid, period_valid}
-use Rattle.hpet_comparator.proofs.Conditions.{IsTimer-no_fault}
-use Rattle.hpet_registers.specs.Parts.{IsHpet, IsPlace, no_timer, timer_at}
-use Rattle.tick_policy.specs.declared.parts.Policy.{Policy}
-use Rattle.tick_policy.specs.declared.parts.TickParts.{TickParts}
-use Rattle.tick_policy.specs.Parts.{IsTickLine}
-use Rattle.board_types.specs.declared.parts.BoardParts.{BoardParts}
-use Rattle.board_types.specs.declared.parts.HvParts.{HvParts}
-use Rattle.board_types.specs.declared.parts.ProcessorParts.{ProcessorParts}
-use Rattle.board_types.specs.declared.parts.TheConstants.{MOST_ACCESSES}
-use Rattle.board_types.specs.declared.setup.TheConstants.{LAST_FORMAT, HV_FORMAT, SLEW_MAX_NS}
-use Rattle.board_types.specs.Setup.{timers_of, has_messages, processors_of}
-use Rattle.board_devices.specs.declared.parts.DeviceParts.{DeviceParts}
-use Rattle.board_devices.specs.Lines.{levels}
-use Rattle.board_devices.specs.Nanosecond.{counts_rtc}
-use Rattle.board_devices.specs.Places.{no_line, line_at}
-use Rattle.board_devices.specs.Parts.{IsTimerLine, AreDevices}
-use Rattle.board_devices.specs.Rises.{one_if}
-use Rattle.board_core.specs.Time.{HasTime, devices_in, now_of}
-use Rattle.board_core.specs.Tsc.{no_processor, processor_at}
-use Rattle.board_core.specs.Apics.{apics_of}
-use Rattle.board_core.specs.Hv.{no_hv}
-use Rattle.board_core.specs.Conditions.{IsWall, IsProcessor, AreProcessors, AreRises, IsHv, IsBoard}
-use Rattle.board_core.proofs.Joined.{IsProcessor-none, IsHv-none}
-use Rattle.byte_table.specs.Kinds.{plain, row, blocks}
-use Rattle.byte_table.proofs.FoldLaws.{AllHold, all_hold-split, EachHolds, hold-joined}
-use Rattle.byte_table.proofs.KindLaws.{hold-each}
-use Rattle.save_state.specs.Rises.{rise_valid, legacy_rises_valid, routed_rises_valid}
-use Rattle.save_state.specs.Fields.{head, host, guest, policies, front, counter, no_counter, counters, clock, registers, timer, timers, same, up_allowed, line_ticks, line_policy, line}
-use Rattle.save_state.specs.Fields.{lines, counts_of, rises, wall, processor, processors, apics, reference, references, references_of, message, no_message, message_pairs, messages, messages_of, devices, back}
+use Rattle.save_state.proofs.Names.{◌≡◌, ℕ, zero, suc, ◌+◌, ◌<◌, ◌≤◌, Bool, true, false, cond, ◌&&◌, ◌||◌, leb, ltb, [], ◌∷◌, length, get_or, Some, None, ◌⊎◌}
+use Rattle.save_state.proofs.Names.{inl, inr, refl, sym, subst, ◌∙◌, arith, and_parts, or_cases, leb-true, ltb-true, ltb-false, lt-ltb, le-ltb, cases_lt}
+use Rattle.save_state.proofs.Names.{cond-true, IsKhz, line_numbers, level_of, CounterParts, IsCounter, IsPit, IsDivider, RtcParts, register_a, register_c}
+use Rattle.save_state.proofs.Names.{register_d, pf_of, af_of, uf_of, flags_byte, divider_of, IsRtc, bytes_valid, divider_valid, cycle_valid, TimerParts, Config}
+use Rattle.save_state.proofs.Names.{Comparator, Period, IsTimer, config_valid, comparator_valid, period_valid, IsTimer-no_fault, IsHpet, IsPlace, no_timer}
+use Rattle.save_state.proofs.Names.{timer_at, Policy, TickParts, IsTickLine, BoardParts, HvParts, ProcessorParts, MOST_ACCESSES, LAST_FORMAT, HV_FORMAT}
+use Rattle.save_state.proofs.Names.{SLEW_MAX_NS, timers_of, has_messages, processors_of, DeviceParts, levels, counts_rtc, no_line, line_at, IsTimerLine}
+use Rattle.save_state.proofs.Names.{AreDevices, one_if, HasTime, devices_in, now_of, no_processor, processor_at, apics_of, no_hv, IsWall, IsProcessor}
+use Rattle.save_state.proofs.Names.{AreProcessors, AreRises, IsHv, IsBoard, IsProcessor-none, IsHv-none, plain, row, blocks, AllHold, all_hold-split, EachHolds}
+use Rattle.save_state.proofs.Names.{hold-joined, hold-each, rise_valid, legacy_rises_valid, routed_rises_valid, head, host, guest, policies, front, counter}
+use Rattle.save_state.proofs.Names.{no_counter, counters, clock, registers, timer, timers, same, up_allowed, line_ticks, line_policy, line, lines, counts_of}
+use Rattle.save_state.proofs.Names.{rises, wall, processor, processors, apics, reference, references, references_of, message, no_message, message_pairs}
+use Rattle.save_state.proofs.Names.{messages, messages_of, devices, back}
 use Rattle.save_state.proofs.AllFields.{lists}
 use Rattle.save_state.proofs.ApicLaws.{apics-valid}
 use Rattle.save_state.proofs.Blocks.{TicksHold, ticks-hold}

@@ -1,10 +1,6 @@
 -- The rows of a block, one after the other.
-use Rattle.std.proofs.Common.{◌≡◌, ℕ, ◌+◌, ◌<◌, ◌≤◌, Bool, true, false, cond, List, ◌∷◌, length, drop, get_or, None, Some, ap, ◌∙◌}
-use Rattle.std.proofs.lemmas.Bool.{lt-ltb, le-ltb}
-use Rattle.std.proofs.lemmas.List.{drop_more, drop_all}
-use Rattle.save_state.specs.declared.table.Row.{Row}
-use Rattle.save_state.specs.declared.fault.StateKind.TheVariants.{Short}
-use Rattle.save_state.specs.private.Rows.{row_fault}
+use Rattle.save_state.proofs.Names.{◌≡◌, ℕ, ◌+◌, ◌<◌, ◌≤◌, Bool, true, false, cond, List, ◌∷◌, length, drop, get_or, None, Some, ap, ◌∙◌, lt-ltb, le-ltb}
+use Rattle.save_state.proofs.Names.{drop_more, drop_all, Row, Short, row_fault}
 
 -- the rest of the rows begins with the row at a place
 pub rest-is : (bytes : List ℕ) (at i : ℕ) (rows : List Row) (d : Row) → i < length rows

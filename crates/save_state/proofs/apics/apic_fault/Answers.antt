@@ -1,9 +1,6 @@
-use Rattle.std.proofs.Common.{get_or, ap, rules}
-use Rattle.local_apics.specs.Places.{no_timer, no_line}
-use Rattle.byte_table.specs.Fold.{fault_in}
-use Rattle.byte_table.proofs.Pairs.{pairs-at}
-use Rattle.save_state.specs.Fields.{Apic, apic}
-use Rattle.save_state.specs.private.Places.{apic_place}
+use Rattle.save_state.proofs.Names.{get_or, ap, rules, fault_in, pairs-at, Apic, apic, apic_place}
+use Rattle.local_apics.specs.Places.{no_timer}
+use Rattle.local_apics.specs.Places.{no_line}
 use Rattle.save_state.proofs.BlockRows.{apic-rows}
 use Rattle.save_state.proofs.apics.apic_fault.Goals as goal
 

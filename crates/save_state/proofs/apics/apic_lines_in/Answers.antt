@@ -1,11 +1,5 @@
-use Rattle.std.proofs.Common.{ℕ, ap, ◌∙◌, arith}
+use Rattle.save_state.proofs.Names.{ℕ, ap, ◌∙◌, arith, apics_of, read, filled-none, filled-more, part-filled, Apic, apic, no_apic, apic_place}
 use Rattle.local_apics.specs.Places.{no_line}
-use Rattle.board_core.specs.Apics.{apics_of}
-use Rattle.byte_table.specs.Fold.{read}
-use Rattle.byte_table.proofs.Loops.{filled-none, filled-more}
-use Rattle.byte_table.proofs.Pairs.{part-filled}
-use Rattle.save_state.specs.Fields.{Apic, apic, no_apic}
-use Rattle.save_state.specs.private.Places.{apic_place}
 use Rattle.save_state.proofs.Formats.{apics_few}
 use Rattle.save_state.proofs.Sizes.{apic-size}
 use Rattle.save_state.proofs.apics.apic_lines_in.Goals as goal

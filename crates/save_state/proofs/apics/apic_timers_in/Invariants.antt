@@ -1,9 +1,5 @@
-use Rattle.std.proofs.Common.{ℕ, ◌+◌, ◌*◌}
+use Rattle.save_state.proofs.Names.{ℕ, ◌+◌, ◌*◌, read, IsFilled, apic, no_apic, apic_place}
 use Rattle.local_apics.specs.Places.{no_timer}
-use Rattle.byte_table.specs.Fold.{read}
-use Rattle.byte_table.proofs.Loops.{IsFilled}
-use Rattle.save_state.specs.Fields.{apic, no_apic}
-use Rattle.save_state.specs.private.Places.{apic_place}
 use Rattle.save_state.proofs.apics.apic_timers_in.Given as goal
 
 abbrev pub invariant-loop-k : goal.invariant-loop-k

@@ -1,9 +1,4 @@
-use Rattle.std.proofs.Common.{arith}
-use Rattle.board_core.specs.Apics.{apics_of}
-use Rattle.byte_table.specs.Kinds.{blocks}
-use Rattle.byte_table.proofs.Loops.{faults-begin, faults-some, faults-none, faults-end}
-use Rattle.save_state.specs.Fields.{apic, no_apic, apic_pairs, apics}
-use Rattle.save_state.specs.private.Places.{apic_place}
+use Rattle.save_state.proofs.Names.{arith, apics_of, blocks, faults-begin, faults-some, faults-none, faults-end, apic, no_apic, apic_pairs, apics, apic_place}
 use Rattle.save_state.proofs.Sizes.{apic-size}
 use Rattle.save_state.proofs.apics.apics_fault.Goals as goal
 

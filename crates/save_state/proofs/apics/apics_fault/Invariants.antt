@@ -1,7 +1,4 @@
-use Rattle.board_core.specs.Apics.{apics_of}
-use Rattle.byte_table.proofs.Loops.{FaultsFrom}
-use Rattle.save_state.specs.Fields.{apic, no_apic, apic_pairs}
-use Rattle.save_state.specs.private.Places.{apic_place}
+use Rattle.save_state.proofs.Names.{apics_of, FaultsFrom, apic, no_apic, apic_pairs, apic_place}
 use Rattle.save_state.proofs.apics.apics_fault.Given as goal
 
 abbrev pub invariant-loop-k : goal.invariant-loop-k

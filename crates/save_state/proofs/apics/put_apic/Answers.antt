@@ -1,9 +1,4 @@
-use Rattle.std.proofs.Common.{◌≡◌, ℕ, List, ◌++◌, refl, ap, ◌∙◌}
-use Rattle.std.proofs.lemmas.Result.{on_ok_weaker}
-use Rattle.byte_table.specs.Fold.{write}
-use Rattle.byte_table.specs.Kinds.{plain, elsewhere}
-use Rattle.byte_table.proofs.FoldLaws.{written-then}
-use Rattle.save_state.specs.Fields.{Apic, apic_timer, apic_line, line}
+use Rattle.save_state.proofs.Names.{◌≡◌, ℕ, List, ◌++◌, refl, ap, ◌∙◌, on_ok_weaker, write, plain, elsewhere, written-then, Apic, apic_timer, apic_line, line}
 use Rattle.save_state.proofs.apics.put_apic.Goals as goal
 
 -- a tick line is written as those of the devices are

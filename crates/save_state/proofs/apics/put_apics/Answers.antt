@@ -1,10 +1,6 @@
-use Rattle.std.proofs.Common.{◌++◌, sym, subst, ap, ◌∙◌, rules}
-use Rattle.local_apics.specs.Places.{no_timer, no_line}
-use Rattle.byte_table.specs.Fold.{write}
-use Rattle.byte_table.proofs.Loops.{written-none, written-one}
-use Rattle.byte_table.proofs.Pairs.{pairs-at}
-use Rattle.save_state.specs.Fields.{Apic, apic, no_apic, apic_pairs}
-use Rattle.save_state.specs.private.Fits.{ApicFits}
+use Rattle.save_state.proofs.Names.{◌++◌, sym, subst, ap, ◌∙◌, rules, write, written-none, written-one, pairs-at, Apic, apic, no_apic, apic_pairs, ApicFits}
+use Rattle.local_apics.specs.Places.{no_timer}
+use Rattle.local_apics.specs.Places.{no_line}
 use Rattle.save_state.proofs.apics.put_apics.Goals as goal
 
 pub loop-k-init : goal.loop-k-init

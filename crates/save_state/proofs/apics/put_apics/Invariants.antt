@@ -1,6 +1,4 @@
-use Rattle.byte_table.proofs.Loops.{AreWritten}
-use Rattle.save_state.specs.Fields.{apic, no_apic, apic_pairs}
-use Rattle.save_state.specs.private.Fits.{ApicFits}
+use Rattle.save_state.proofs.Names.{AreWritten, apic, no_apic, apic_pairs, ApicFits}
 use Rattle.save_state.proofs.apics.put_apics.Given as goal
 
 abbrev pub invariant-loop-k : goal.invariant-loop-k

@@ -1,7 +1,4 @@
-use Rattle.std.proofs.lemmas.Result.{on_ok_weaker}
-use Rattle.byte_table.proofs.FoldLaws.{written-then}
-use Rattle.save_state.specs.Fields.{tsc, page}
-use Rattle.save_state.specs.private.Fits.{TscFits, PageFits}
+use Rattle.save_state.proofs.Names.{on_ok_weaker, written-then, tsc, page, TscFits, PageFits}
 use Rattle.save_state.proofs.appending.put_processor.Goals as goal
 
 pub returns-clause-bytes : goal.returns-clause-bytes

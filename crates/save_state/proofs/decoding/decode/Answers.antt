@@ -1,13 +1,5 @@
-use Rattle.std.proofs.Common.{◌≡◌, ℕ, ◌<◌, List, get_or, Option, None, refl, ap, sym, ◌∙◌, arith}
-use Rattle.std.proofs.lemmas.Bool.{false≢true}
-use Rattle.board_types.specs.declared.parts.BoardParts.{BoardParts}
-use Rattle.byte_table.specs.Fold.{or_else, fault_in}
-use Rattle.save_state.specs.declared.fault.StateFault.{StateFault}
-use Rattle.save_state.specs.Fields.{front}
-use Rattle.save_state.specs.Reading.{board_in}
-use Rattle.save_state.specs.Table.{fault_of}
-use Rattle.save_state.specs.Writing.{bytes_of}
-use Rattle.save_state.specs.private.Parts.{rest_fault}
+use Rattle.save_state.proofs.Names.{◌≡◌, ℕ, ◌<◌, List, get_or, Option, None, refl, ap, sym, ◌∙◌, arith, false≢true, BoardParts, or_else, fault_in, StateFault}
+use Rattle.save_state.proofs.Names.{front, board_in, fault_of, bytes_of, rest_fault}
 use Rattle.save_state.proofs.Formats.{processors_few}
 use Rattle.save_state.proofs.RoundTrip.{bytes_of-board_in}
 use Rattle.save_state.proofs.Parts.{IsRight, board-format, fault-head, right-head, after-head, after-devices, right-devices, right-board}

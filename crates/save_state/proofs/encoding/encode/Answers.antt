@@ -1,8 +1,4 @@
-use Rattle.std.proofs.Common.{◌≡◌, ℕ, List, ◌++◌, rules, ap, ◌∙◌}
-use Rattle.save_state.specs.private.Fits.{BoardFits}
-use Rattle.save_state.specs.Reading.{board_in}
-use Rattle.save_state.specs.Table.{fault_of}
-use Rattle.save_state.specs.Writing.{bytes_of}
+use Rattle.save_state.proofs.Names.{◌≡◌, ℕ, List, ◌++◌, rules, ap, ◌∙◌, BoardFits, board_in, fault_of, bytes_of}
 use Rattle.save_state.proofs.RoundTrip.{board_in-bytes_of, fault_of-bytes_of}
 use Rattle.save_state.proofs.encoding.encode.Goals as goal
 use Rattle.save_state.proofs.encoding.encode.Goals.{In_ok-put_board-in-Ok}

@@ -1,8 +1,5 @@
-use Rattle.std.proofs.Common.{◌++◌}
-use Rattle.std.proofs.lemmas.Result.{on_ok_weaker}
-use Rattle.board_core.specs.Apics.{apics_of}
-use Rattle.byte_table.proofs.FoldLaws.{written-then}
-use Rattle.save_state.specs.Fields.{rises, counts_of, wall, processors, apics, references, references_of, messages, messages_of}
+use Rattle.save_state.proofs.Names.{◌++◌, on_ok_weaker, apics_of, written-then, rises, counts_of, wall, processors, apics, references, references_of, messages}
+use Rattle.save_state.proofs.Names.{messages_of}
 use Rattle.save_state.proofs.encoding.put_back.Goals as goal
 
 pub returns-clause-bytes : goal.returns-clause-bytes

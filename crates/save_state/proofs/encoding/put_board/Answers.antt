@@ -1,8 +1,4 @@
-use Rattle.std.proofs.Common.{◌++◌}
-use Rattle.std.proofs.lemmas.Result.{on_ok_weaker}
-use Rattle.byte_table.proofs.FoldLaws.{written-then}
-use Rattle.save_state.specs.Fields.{front, devices, back}
-use Rattle.save_state.specs.Writing.{bytes_of}
+use Rattle.save_state.proofs.Names.{◌++◌, on_ok_weaker, written-then, front, devices, back, bytes_of}
 use Rattle.save_state.proofs.encoding.put_board.Goals as goal
 
 pub returns-clause-bytes : goal.returns-clause-bytes

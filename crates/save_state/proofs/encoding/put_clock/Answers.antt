@@ -1,10 +1,5 @@
-use Rattle.std.proofs.Common.{◌≡◌, ℕ, List, [], ◌∷◌, ◌++◌, ap, sym, ◌∙◌, rules}
-use Rattle.std.proofs.lemmas.List.{append_assoc, append-nil}
-use Rattle.std.proofs.lemmas.Result.{on_ok_weaker}
-use Rattle.byte_table.specs.Codes.{number_bytes, flag_byte, row_bytes, byte}
-use Rattle.byte_table.specs.Kinds.{plain, row}
-use Rattle.byte_table.proofs.CodeLaws.{row_bytes-byte}
-use Rattle.save_state.specs.Fields.{clock}
+use Rattle.save_state.proofs.Names.{◌≡◌, ℕ, List, [], ◌∷◌, ◌++◌, ap, sym, ◌∙◌, rules, append_assoc, append-nil, on_ok_weaker, number_bytes, flag_byte}
+use Rattle.save_state.proofs.Names.{row_bytes, byte, plain, row, row_bytes-byte, clock}
 use Rattle.save_state.proofs.encoding.put_clock.Goals as goal
 
 joined : (old first xs second third : List ℕ) → old ++ first ++ xs ++ second ++ third ≡ old ++ (first ++ (xs ++ (second ++ (third ++ []))))

@@ -1,9 +1,4 @@
-use Rattle.std.proofs.Common.{◌++◌, ap, subst, ◌∙◌}
-use Rattle.pit_counter.specs.declared.parts.CounterParts.{CounterParts}
-use Rattle.byte_table.specs.Fold.{write}
-use Rattle.byte_table.proofs.Loops.{written-none, written-one}
-use Rattle.save_state.specs.Fields.{counter, no_counter}
-use Rattle.save_state.specs.private.Fits.{CounterFits}
+use Rattle.save_state.proofs.Names.{◌++◌, ap, subst, ◌∙◌, CounterParts, write, written-none, written-one, counter, no_counter, CounterFits}
 use Rattle.save_state.proofs.encoding.put_counters.Goals as goal
 
 pub loop-k-init : goal.loop-k-init

@@ -1,6 +1,4 @@
-use Rattle.byte_table.proofs.Loops.{AreWritten}
-use Rattle.save_state.specs.Fields.{counter, no_counter}
-use Rattle.save_state.specs.private.Fits.{CounterFits}
+use Rattle.save_state.proofs.Names.{AreWritten, counter, no_counter, CounterFits}
 use Rattle.save_state.proofs.encoding.put_counters.Given as goal
 
 abbrev pub invariant-loop-k : goal.invariant-loop-k

@@ -1,8 +1,4 @@
-use Rattle.std.proofs.Common.{ℕ, ◌++◌}
-use Rattle.std.proofs.lemmas.Result.{on_ok_weaker}
-use Rattle.board_types.specs.Setup.{timers_of}
-use Rattle.byte_table.proofs.FoldLaws.{written-then}
-use Rattle.save_state.specs.Fields.{counters, clock, registers, timers, lines}
+use Rattle.save_state.proofs.Names.{ℕ, ◌++◌, on_ok_weaker, timers_of, written-then, counters, clock, registers, timers, lines}
 use Rattle.save_state.proofs.encoding.put_devices.Goals as goal
 
 pub returns-clause-bytes : goal.returns-clause-bytes

@@ -1,7 +1,4 @@
-use Rattle.std.proofs.Common.{◌++◌}
-use Rattle.std.proofs.lemmas.Result.{on_ok_weaker}
-use Rattle.byte_table.proofs.FoldLaws.{written-then}
-use Rattle.save_state.specs.Fields.{head, host, guest, policies}
+use Rattle.save_state.proofs.Names.{◌++◌, on_ok_weaker, written-then, head, host, guest, policies}
 use Rattle.save_state.proofs.encoding.put_front.Goals as goal
 
 pub returns : goal.returns

@@ -1,7 +1,4 @@
-use Rattle.board_devices.specs.Places.{no_line}
-use Rattle.byte_table.proofs.Loops.{written-none, written-one}
-use Rattle.save_state.specs.Fields.{line}
-use Rattle.save_state.specs.private.Fits.{LineFits}
+use Rattle.save_state.proofs.Names.{no_line, written-none, written-one, line, LineFits}
 use Rattle.save_state.proofs.encoding.put_lines.Goals as goal
 
 pub loop-k-init : goal.loop-k-init

@@ -1,7 +1,4 @@
-use Rattle.board_devices.specs.Places.{no_line}
-use Rattle.byte_table.proofs.Loops.{AreWritten}
-use Rattle.save_state.specs.Fields.{line}
-use Rattle.save_state.specs.private.Fits.{LineFits}
+use Rattle.save_state.proofs.Names.{no_line, AreWritten, line, LineFits}
 use Rattle.save_state.proofs.encoding.put_lines.Given as goal
 
 abbrev pub invariant-loop-k : goal.invariant-loop-k

@@ -1,7 +1,4 @@
-use Rattle.board_core.specs.Tsc.{no_processor}
-use Rattle.byte_table.proofs.Loops.{written-none, written-one}
-use Rattle.save_state.specs.Fields.{processor}
-use Rattle.save_state.specs.private.Fits.{ProcessorFits}
+use Rattle.save_state.proofs.Names.{no_processor, written-none, written-one, processor, ProcessorFits}
 use Rattle.save_state.proofs.encoding.put_processors.Goals as goal
 
 pub loop-k-init : goal.loop-k-init

@@ -1,9 +1,5 @@
-use Rattle.std.proofs.Common.{◌≡◌, ℕ, List, ◌++◌, get_or, ap, sym, ◌∙◌, rules, arith}
-use Rattle.std.proofs.lemmas.List.{append-nil, append_assoc}
-use Rattle.byte_table.specs.Codes.{number, number_bytes, row_bytes}
-use Rattle.byte_table.specs.Kinds.{row}
-use Rattle.byte_table.proofs.Loops.{row-more}
-use Rattle.save_state.specs.Fields.{rises, counts_of}
+use Rattle.save_state.proofs.Names.{◌≡◌, ℕ, List, ◌++◌, get_or, ap, sym, ◌∙◌, rules, arith, append-nil, append_assoc, number, number_bytes, row_bytes, row}
+use Rattle.save_state.proofs.Names.{row-more, rises, counts_of}
 use Rattle.save_state.proofs.encoding.put_rises.Goals as goal
 
 pub loop-k-init : goal.loop-k-init

@@ -1,5 +1,4 @@
-use Rattle.std.proofs.Common.{◌≡◌, ◌++◌}
-use Rattle.byte_table.specs.Codes.{number, row_bytes}
+use Rattle.save_state.proofs.Names.{◌≡◌, ◌++◌, number, row_bytes}
 use Rattle.save_state.proofs.encoding.put_rises.Given as goal
 
 abbrev pub invariant-loop-k : goal.invariant-loop-k

@@ -1,7 +1,4 @@
-use Rattle.hpet_registers.specs.Parts.{no_timer}
-use Rattle.byte_table.proofs.Loops.{written-none, written-one}
-use Rattle.save_state.specs.Fields.{timer}
-use Rattle.save_state.specs.private.Fits.{TimerFits}
+use Rattle.save_state.proofs.Names.{no_timer, written-none, written-one, timer, TimerFits}
 use Rattle.save_state.proofs.encoding.put_timers.Goals as goal
 
 pub loop-k-init : goal.loop-k-init

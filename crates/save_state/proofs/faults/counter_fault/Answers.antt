@@ -1,8 +1,5 @@
-use Rattle.std.proofs.Common.{◌≡◌, ℕ, ◌+◌, ◌*◌, ◌&&◌, ◌||◌, leb, [], ◌∷◌, get_or, ap, ◌∙◌}
-use Rattle.pit_counter.specs.declared.parts.CounterParts.{CounterParts}
-use Rattle.pit_counter.specs.Parts.{bits_valid, flags_valid, cr_valid, ce_valid, part_valid, read_order_valid, latched_count_valid, latched_status_valid}
-use Rattle.save_state.specs.Fields.{no_counter}
-use Rattle.save_state.specs.private.Rows.{field, row_fault}
+use Rattle.save_state.proofs.Names.{◌≡◌, ℕ, ◌+◌, ◌*◌, ◌&&◌, ◌||◌, leb, [], ◌∷◌, get_or, ap, ◌∙◌, CounterParts, bits_valid, flags_valid, cr_valid, ce_valid}
+use Rattle.save_state.proofs.Names.{part_valid, read_order_valid, latched_count_valid, latched_status_valid, no_counter, field, row_fault}
 use Rattle.save_state.proofs.BlockRows.{counter-rows}
 use Rattle.save_state.proofs.faults.counter_fault.Goals as goal
 

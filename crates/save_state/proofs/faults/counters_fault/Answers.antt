@@ -1,7 +1,4 @@
-use Rattle.std.proofs.Common.{refl, arith}
-use Rattle.byte_table.specs.Kinds.{blocks}
-use Rattle.byte_table.proofs.Loops.{faults-begin, faults-some, faults-none, faults-end}
-use Rattle.save_state.specs.Fields.{counter, no_counter, counters}
+use Rattle.save_state.proofs.Names.{refl, arith, blocks, faults-begin, faults-some, faults-none, faults-end, counter, no_counter, counters}
 use Rattle.save_state.proofs.Sizes.{counter-size}
 use Rattle.save_state.proofs.faults.counters_fault.Goals as goal
 

@@ -1,5 +1,4 @@
-use Rattle.byte_table.proofs.Loops.{FaultsFrom}
-use Rattle.save_state.specs.Fields.{counter, no_counter}
+use Rattle.save_state.proofs.Names.{FaultsFrom, counter, no_counter}
 use Rattle.save_state.proofs.faults.counters_fault.Given as goal
 
 abbrev pub invariant-loop-k : goal.invariant-loop-k

@@ -1,5 +1,4 @@
-use Rattle.std.proofs.Common.{◌+◌, ◌*◌, get_or}
-use Rattle.hpet_registers.specs.Parts.{no_timer}
+use Rattle.save_state.proofs.Names.{◌+◌, ◌*◌, get_or, no_timer}
 use Rattle.save_state.proofs.BlockRows.{timer-rows}
 use Rattle.save_state.proofs.faults.timer_fault.Goals as goal
 

@@ -1,9 +1,4 @@
-use Rattle.std.proofs.Common.{refl, arith}
-use Rattle.hpet_registers.specs.Parts.{no_timer}
-use Rattle.board_types.specs.Setup.{timers_of}
-use Rattle.byte_table.specs.Kinds.{blocks}
-use Rattle.byte_table.proofs.Loops.{faults-begin, faults-some, faults-none, faults-end}
-use Rattle.save_state.specs.Fields.{timer, timers}
+use Rattle.save_state.proofs.Names.{refl, arith, no_timer, timers_of, blocks, faults-begin, faults-some, faults-none, faults-end, timer, timers}
 use Rattle.save_state.proofs.Sizes.{timer-size}
 use Rattle.save_state.proofs.faults.timers_fault.Goals as goal
 

@@ -1,7 +1,4 @@
-use Rattle.hpet_registers.specs.Parts.{no_timer}
-use Rattle.board_types.specs.Setup.{timers_of}
-use Rattle.byte_table.proofs.Loops.{FaultsFrom}
-use Rattle.save_state.specs.Fields.{timer}
+use Rattle.save_state.proofs.Names.{no_timer, timers_of, FaultsFrom, timer}
 use Rattle.save_state.proofs.faults.timers_fault.Given as goal
 
 abbrev pub invariant-loop-k : goal.invariant-loop-k

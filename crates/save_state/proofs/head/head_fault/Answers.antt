@@ -1,4 +1,4 @@
-use Rattle.save_state.specs.Reading.{board_in}
+use Rattle.save_state.proofs.Names.{board_in}
 use Rattle.save_state.proofs.BlockRows.{head-rows}
 use Rattle.save_state.proofs.head.head_fault.Goals as goal
 use Rattle.save_state.proofs.AllFields.{layout}

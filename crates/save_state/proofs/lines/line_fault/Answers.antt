@@ -1,6 +1,4 @@
-use Rattle.std.proofs.Common.{get_or}
-use Rattle.board_devices.specs.Places.{no_line}
-use Rattle.save_state.specs.private.Places.{line_place}
+use Rattle.save_state.proofs.Names.{get_or, no_line, line_place}
 use Rattle.save_state.proofs.BlockRows.{line-rows}
 use Rattle.save_state.proofs.lines.line_fault.Goals as goal
 

@@ -1,10 +1,4 @@
-use Rattle.std.proofs.Common.{◌+◌, arith}
-use Rattle.board_types.specs.Setup.{timers_of}
-use Rattle.board_devices.specs.Places.{no_line}
-use Rattle.byte_table.specs.Kinds.{blocks}
-use Rattle.byte_table.proofs.Loops.{faults-begin, faults-some, faults-none, faults-end}
-use Rattle.save_state.specs.Fields.{line, lines}
-use Rattle.save_state.specs.private.Places.{line_place}
+use Rattle.save_state.proofs.Names.{◌+◌, arith, timers_of, no_line, blocks, faults-begin, faults-some, faults-none, faults-end, line, lines, line_place}
 use Rattle.save_state.proofs.Sizes.{line-size}
 use Rattle.save_state.proofs.lines.lines_fault.Goals as goal
 

@@ -1,9 +1,4 @@
-use Rattle.std.proofs.Common.{◌+◌}
-use Rattle.board_types.specs.Setup.{timers_of}
-use Rattle.board_devices.specs.Places.{no_line}
-use Rattle.byte_table.proofs.Loops.{FaultsFrom}
-use Rattle.save_state.specs.Fields.{line}
-use Rattle.save_state.specs.private.Places.{line_place}
+use Rattle.save_state.proofs.Names.{◌+◌, timers_of, no_line, FaultsFrom, line, line_place}
 use Rattle.save_state.proofs.lines.lines_fault.Given as goal
 
 abbrev pub invariant-loop-k : goal.invariant-loop-k

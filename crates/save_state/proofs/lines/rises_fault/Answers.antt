@@ -1,5 +1,4 @@
-use Rattle.save_state.specs.Fields.{counts_of}
-use Rattle.save_state.specs.private.Places.{rises_place}
+use Rattle.save_state.proofs.Names.{counts_of, rises_place}
 use Rattle.save_state.proofs.BlockRows.{rises-rows}
 use Rattle.save_state.proofs.lines.rises_fault.Goals as goal
 

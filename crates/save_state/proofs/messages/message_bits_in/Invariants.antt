@@ -1,8 +1,4 @@
-use Rattle.std.proofs.Common.{ℕ, ◌+◌, ◌*◌, false}
-use Rattle.byte_table.specs.Fold.{read}
-use Rattle.byte_table.proofs.Loops.{IsFilled}
-use Rattle.save_state.specs.Fields.{message, no_message}
-use Rattle.save_state.specs.private.Places.{message_place}
+use Rattle.save_state.proofs.Names.{ℕ, ◌+◌, ◌*◌, false, read, IsFilled, message, no_message, message_place}
 use Rattle.save_state.proofs.messages.message_bits_in.Given as goal
 
 abbrev pub invariant-loop-k : goal.invariant-loop-k

@@ -1,6 +1,4 @@
-use Rattle.std.proofs.Common.{get_or}
-use Rattle.save_state.specs.Fields.{no_message, message_pairs}
-use Rattle.save_state.specs.private.Places.{message_place}
+use Rattle.save_state.proofs.Names.{get_or, no_message, message_pairs, message_place}
 use Rattle.save_state.proofs.BlockRows.{message-rows}
 use Rattle.save_state.proofs.messages.message_fault.Goals as goal
 

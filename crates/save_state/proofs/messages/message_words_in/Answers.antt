@@ -1,10 +1,5 @@
-use Rattle.std.proofs.Common.{ℕ, ap, ◌∙◌, arith}
-use Rattle.byte_table.specs.Codes.{number_at}
-use Rattle.byte_table.specs.Kinds.{plain}
-use Rattle.byte_table.proofs.Loops.{filled-none, filled-more}
-use Rattle.byte_table.proofs.Pairs.{part-filled}
-use Rattle.save_state.specs.Fields.{Message, message, messages_of, no_message}
-use Rattle.save_state.specs.private.Places.{message_place}
+use Rattle.save_state.proofs.Names.{ℕ, ap, ◌∙◌, arith, number_at, plain, filled-none, filled-more, part-filled, Message, message, messages_of, no_message}
+use Rattle.save_state.proofs.Names.{message_place}
 use Rattle.save_state.proofs.Formats.{messages_few}
 use Rattle.save_state.proofs.Sizes.{message-size}
 use Rattle.save_state.proofs.messages.message_words_in.Goals as goal

@@ -1,8 +1,5 @@
-use Rattle.std.proofs.Common.{arith}
-use Rattle.byte_table.specs.Kinds.{blocks}
-use Rattle.byte_table.proofs.Loops.{faults-begin, faults-some, faults-none, faults-end}
-use Rattle.save_state.specs.Fields.{message, no_message, message_pairs, messages, messages_of}
-use Rattle.save_state.specs.private.Places.{message_place}
+use Rattle.save_state.proofs.Names.{arith, blocks, faults-begin, faults-some, faults-none, faults-end, message, no_message, message_pairs, messages}
+use Rattle.save_state.proofs.Names.{messages_of, message_place}
 use Rattle.save_state.proofs.Sizes.{message-size}
 use Rattle.save_state.proofs.messages.messages_fault.Goals as goal
 

@@ -1,6 +1,4 @@
-use Rattle.byte_table.proofs.Loops.{FaultsFrom}
-use Rattle.save_state.specs.Fields.{message, no_message, message_pairs, messages_of}
-use Rattle.save_state.specs.private.Places.{message_place}
+use Rattle.save_state.proofs.Names.{FaultsFrom, message, no_message, message_pairs, messages_of, message_place}
 use Rattle.save_state.proofs.messages.messages_fault.Given as goal
 
 abbrev pub invariant-loop-k : goal.invariant-loop-k

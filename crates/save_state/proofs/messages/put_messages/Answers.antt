@@ -1,8 +1,4 @@
-use Rattle.std.proofs.Common.{◌++◌, false, sym, ap, ◌∙◌, rules}
-use Rattle.byte_table.specs.Fold.{write}
-use Rattle.byte_table.proofs.Loops.{written-none, written-one}
-use Rattle.byte_table.proofs.Pairs.{pairs-at}
-use Rattle.save_state.specs.Fields.{Message, message, no_message, message_pairs}
+use Rattle.save_state.proofs.Names.{◌++◌, false, sym, ap, ◌∙◌, rules, write, written-none, written-one, pairs-at, Message, message, no_message, message_pairs}
 use Rattle.save_state.proofs.messages.put_messages.Goals as goal
 
 pub loop-k-init : goal.loop-k-init

@@ -1,5 +1,4 @@
-use Rattle.byte_table.proofs.Loops.{AreWritten}
-use Rattle.save_state.specs.Fields.{message, no_message, message_pairs}
+use Rattle.save_state.proofs.Names.{AreWritten, message, no_message, message_pairs}
 use Rattle.save_state.proofs.messages.put_messages.Given as goal
 
 abbrev pub invariant-loop-k : goal.invariant-loop-k

@@ -1,6 +1,4 @@
-use Rattle.std.proofs.Common.{◌≡◌, ◌+◌, arith}
-use Rattle.byte_table.specs.Kinds.{plain}
-use Rattle.save_state.specs.Fields.{counter}
+use Rattle.save_state.proofs.Names.{◌≡◌, ◌+◌, arith, plain, counter}
 use Rattle.save_state.proofs.pieces.counter_in.Goals as goal
 
 pub returns : goal.returns

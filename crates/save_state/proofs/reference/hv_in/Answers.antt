@@ -1,11 +1,5 @@
-use Rattle.std.proofs.Common.{◌≡◌, ℕ, ◌<◌, ◌≤◌, List, get_or, ap, sym, subst, ◌∙◌}
-use Rattle.board_types.specs.declared.setup.TheConstants.{HV_FORMAT}
-use Rattle.board_core.specs.Hv.{no_hv}
-use Rattle.byte_table.specs.Fold.{read}
-use Rattle.save_state.specs.Fields.{line, reference, references_of}
-use Rattle.save_state.specs.Places.{format_in, cpus_in}
-use Rattle.save_state.specs.Reading.{board_in}
-use Rattle.save_state.specs.private.Places.{reference_place}
+use Rattle.save_state.proofs.Names.{◌≡◌, ℕ, ◌<◌, ◌≤◌, List, get_or, ap, sym, subst, ◌∙◌, HV_FORMAT, no_hv, read, line, reference, references_of, format_in}
+use Rattle.save_state.proofs.Names.{cpus_in, board_in, reference_place}
 use Rattle.save_state.proofs.Formats.{references-none, references-one}
 use Rattle.save_state.proofs.ReferenceLaws.{reference_read, read-one, read-none}
 use Rattle.save_state.proofs.Sizes.{reference-at}

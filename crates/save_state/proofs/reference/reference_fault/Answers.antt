@@ -1,4 +1,4 @@
-use Rattle.save_state.specs.private.Places.{reference_place}
+use Rattle.save_state.proofs.Names.{reference_place}
 use Rattle.save_state.proofs.BlockRows.{reference-rows}
 use Rattle.save_state.proofs.reference.reference_fault.Goals as goal
 

@@ -1,6 +1,4 @@
-use Rattle.std.proofs.Common.{get_or}
-use Rattle.board_core.specs.Tsc.{no_processor}
-use Rattle.save_state.specs.private.Places.{processor_place}
+use Rattle.save_state.proofs.Names.{get_or, no_processor, processor_place}
 use Rattle.save_state.proofs.BlockRows.{processor-rows}
 use Rattle.save_state.proofs.rest.processor_fault.Goals as goal
 

@@ -1,9 +1,4 @@
-use Rattle.std.proofs.Common.{arith}
-use Rattle.board_core.specs.Tsc.{no_processor}
-use Rattle.byte_table.specs.Kinds.{blocks}
-use Rattle.byte_table.proofs.Loops.{faults-begin, faults-some, faults-none, faults-end}
-use Rattle.save_state.specs.Fields.{processor, processors}
-use Rattle.save_state.specs.private.Places.{processor_place}
+use Rattle.save_state.proofs.Names.{arith, no_processor, blocks, faults-begin, faults-some, faults-none, faults-end, processor, processors, processor_place}
 use Rattle.save_state.proofs.Sizes.{processor-size}
 use Rattle.save_state.proofs.rest.processors_fault.Goals as goal
 

@@ -1,4 +1,4 @@
-use Rattle.save_state.specs.private.Places.{wall_place}
+use Rattle.save_state.proofs.Names.{wall_place}
 use Rattle.save_state.proofs.BlockRows.{wall-rows}
 use Rattle.save_state.proofs.rest.wall_fault.Goals as goal
 

@@ -1,7 +1,4 @@
-use Rattle.std.proofs.Common.{ℕ, ◌+◌, false, get_or, drop, ap, sym, ◌∙◌, arith}
-use Rattle.save_state.specs.declared.fault.StateKind.TheVariants.{Short}
-use Rattle.save_state.specs.declared.table.Row.{Row}
-use Rattle.save_state.specs.private.Rows.{row_fault}
+use Rattle.save_state.proofs.Names.{ℕ, ◌+◌, false, get_or, drop, ap, sym, ◌∙◌, arith, Short, Row, row_fault}
 use Rattle.save_state.proofs.Walk.{rest-is, walk-short, walk-invalid, walk-valid, walk-end}
 use Rattle.save_state.proofs.table.fault_in.Goals as goal
 

@@ -1,5 +1,4 @@
-use Rattle.std.proofs.Common.{◌≡◌, ◌+◌, ◌*◌, ◌≤◌, drop}
-use Rattle.save_state.specs.private.Rows.{row_fault}
+use Rattle.save_state.proofs.Names.{◌≡◌, ◌+◌, ◌*◌, ◌≤◌, drop, row_fault}
 use Rattle.save_state.proofs.table.fault_in.Given as goal
 
 abbrev pub invariant-loop-r : goal.invariant-loop-r

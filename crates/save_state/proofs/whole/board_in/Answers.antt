@@ -1,15 +1,6 @@
-use Rattle.std.proofs.Common.{◌≡◌, ℕ, List, ◌+◌, ◌-◌, [], ◌∷◌, ◌++◌, map, replicate, ap, ◌∙◌, arith}
-use Rattle.lapic_timer.specs.declared.parts.ApicParts.{ApicParts}
-use Rattle.tick_policy.specs.declared.parts.TickParts.{TickParts}
-use Rattle.board_types.specs.Setup.{timers_of}
-use Rattle.board_devices.specs.Places.{no_line}
-use Rattle.board_core.specs.Apics.{apics_of}
-use Rattle.board_core.specs.Tsc.{no_processor}
-use Rattle.byte_table.specs.Codes.{number, number_at, row_value}
-use Rattle.byte_table.specs.Fold.{read_below}
-use Rattle.save_state.specs.Fields.{line, Apic, processor, counts_of}
-use Rattle.save_state.specs.Places.{format_in, cpus_in}
-use Rattle.save_state.specs.private.Places.{line_place, rises_place, wall_place, processor_place, apic_place}
+use Rattle.save_state.proofs.Names.{◌≡◌, ℕ, List, ◌+◌, ◌-◌, [], ◌∷◌, ◌++◌, map, replicate, ap, ◌∙◌, arith, ApicParts, TickParts, timers_of, no_line, apics_of}
+use Rattle.save_state.proofs.Names.{no_processor, number, number_at, row_value, read_below, line, Apic, processor, counts_of, format_in, cpus_in, line_place}
+use Rattle.save_state.proofs.Names.{rises_place, wall_place, processor_place, apic_place}
 use Rattle.save_state.proofs.ApicLaws.{apics_read}
 use Rattle.save_state.proofs.Sizes.{wall_sum, lines-at, rises-at, wall-at, processors-at, apics-at}
 use Rattle.save_state.proofs.whole.board_in.Goals as goal

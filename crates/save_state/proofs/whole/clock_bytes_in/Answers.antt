@@ -1,7 +1,4 @@
-use Rattle.std.proofs.Common.{ℕ, ap, ◌∙◌, arith}
-use Rattle.byte_table.specs.Codes.{byte}
-use Rattle.byte_table.specs.Codes.{byte_at}
-use Rattle.byte_table.proofs.Loops.{filled-none, filled-more, row-filled}
+use Rattle.save_state.proofs.Names.{ℕ, ap, ◌∙◌, arith, byte, byte_at, filled-none, filled-more, row-filled}
 use Rattle.save_state.proofs.whole.clock_bytes_in.Goals as goal
 
 pub loop-k-init : goal.loop-k-init

@@ -1,6 +1,4 @@
-use Rattle.std.proofs.Common.{ℕ, ◌+◌, ◌*◌}
-use Rattle.byte_table.specs.Codes.{byte}
-use Rattle.byte_table.proofs.Loops.{IsFilled}
+use Rattle.save_state.proofs.Names.{ℕ, ◌+◌, ◌*◌, byte, IsFilled}
 use Rattle.save_state.proofs.whole.clock_bytes_in.Given as goal
 
 abbrev pub invariant-loop-k : goal.invariant-loop-k

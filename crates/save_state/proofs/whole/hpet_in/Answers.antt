@@ -1,10 +1,5 @@
-use Rattle.std.proofs.Common.{ℕ, ◌-◌, Bool, List, ◌++◌, map, replicate, ap, ◌∙◌}
-use Rattle.hpet_registers.specs.Parts.{no_timer}
-use Rattle.board_types.specs.Setup.{timers_of, has_messages}
-use Rattle.byte_table.specs.Fold.{read_below}
-use Rattle.save_state.specs.Fields.{timer, line, Message, messages_of}
-use Rattle.save_state.specs.Places.{format_in, cpus_in}
-use Rattle.save_state.specs.private.Places.{message_place}
+use Rattle.save_state.proofs.Names.{ℕ, ◌-◌, Bool, List, ◌++◌, map, replicate, ap, ◌∙◌, no_timer, timers_of, has_messages, read_below, timer, line, Message}
+use Rattle.save_state.proofs.Names.{messages_of, format_in, cpus_in, message_place}
 use Rattle.save_state.proofs.MessageLaws.{messages_read}
 use Rattle.save_state.proofs.Sizes.{messages-at}
 use Rattle.save_state.proofs.whole.hpet_in.Goals as goal

@@ -1,10 +1,4 @@
-use Rattle.std.proofs.Common.{ℕ, ◌+◌, ap, ◌∙◌, arith}
-use Rattle.board_devices.specs.Places.{no_line}
-use Rattle.board_types.specs.Setup.{timers_of}
-use Rattle.byte_table.specs.Fold.{read}
-use Rattle.byte_table.proofs.Loops.{filled-none, filled-more, read-filled}
-use Rattle.save_state.specs.Fields.{line}
-use Rattle.save_state.specs.private.Places.{line_place}
+use Rattle.save_state.proofs.Names.{ℕ, ◌+◌, ap, ◌∙◌, arith, no_line, timers_of, read, filled-none, filled-more, read-filled, line, line_place}
 use Rattle.save_state.proofs.Formats.{timers_few}
 use Rattle.save_state.proofs.Sizes.{line-size}
 use Rattle.save_state.proofs.whole.lines_in.Goals as goal

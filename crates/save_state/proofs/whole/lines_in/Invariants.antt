@@ -1,9 +1,4 @@
-use Rattle.std.proofs.Common.{ℕ, ◌+◌, ◌*◌}
-use Rattle.board_devices.specs.Places.{no_line}
-use Rattle.byte_table.specs.Fold.{read}
-use Rattle.byte_table.proofs.Loops.{IsFilled}
-use Rattle.save_state.specs.Fields.{line}
-use Rattle.save_state.specs.private.Places.{line_place}
+use Rattle.save_state.proofs.Names.{ℕ, ◌+◌, ◌*◌, no_line, read, IsFilled, line, line_place}
 use Rattle.save_state.proofs.whole.lines_in.Given as goal
 
 abbrev pub invariant-loop-k : goal.invariant-loop-k

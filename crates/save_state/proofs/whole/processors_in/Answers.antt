@@ -1,9 +1,4 @@
-use Rattle.std.proofs.Common.{ℕ, ap, ◌∙◌, arith}
-use Rattle.board_core.specs.Tsc.{no_processor}
-use Rattle.byte_table.specs.Fold.{read}
-use Rattle.byte_table.proofs.Loops.{filled-none, filled-more, read-filled}
-use Rattle.save_state.specs.Fields.{processor}
-use Rattle.save_state.specs.private.Places.{processor_place}
+use Rattle.save_state.proofs.Names.{ℕ, ap, ◌∙◌, arith, no_processor, read, filled-none, filled-more, read-filled, processor, processor_place}
 use Rattle.save_state.proofs.Formats.{timers_few}
 use Rattle.save_state.proofs.Sizes.{processor-size}
 use Rattle.save_state.proofs.whole.processors_in.Goals as goal

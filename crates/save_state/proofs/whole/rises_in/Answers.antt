@@ -1,9 +1,4 @@
-use Rattle.std.proofs.Common.{ℕ, ap, ◌∙◌, arith}
-use Rattle.byte_table.specs.Codes.{number}
-use Rattle.save_state.specs.Fields.{counts_of}
-use Rattle.save_state.specs.private.Places.{rises_place}
-use Rattle.byte_table.specs.Codes.{number_at}
-use Rattle.byte_table.proofs.Loops.{filled-none, filled-more, row-filled}
+use Rattle.save_state.proofs.Names.{ℕ, ap, ◌∙◌, arith, number, counts_of, rises_place, number_at, filled-none, filled-more, row-filled}
 use Rattle.save_state.proofs.Formats.{counts_few}
 use Rattle.save_state.proofs.whole.rises_in.Goals as goal
 

@@ -1,7 +1,4 @@
-use Rattle.std.proofs.Common.{ℕ, ◌+◌, ◌*◌}
-use Rattle.byte_table.specs.Codes.{number}
-use Rattle.save_state.specs.private.Places.{rises_place}
-use Rattle.byte_table.proofs.Loops.{IsFilled}
+use Rattle.save_state.proofs.Names.{ℕ, ◌+◌, ◌*◌, number, rises_place, IsFilled}
 use Rattle.save_state.proofs.whole.rises_in.Given as goal
 
 abbrev pub invariant-loop-k : goal.invariant-loop-k

@@ -1,8 +1,4 @@
-use Rattle.std.proofs.Common.{arith}
-use Rattle.hpet_registers.specs.Parts.{no_timer}
-use Rattle.board_types.specs.Setup.{timers_of}
-use Rattle.byte_table.proofs.Loops.{filled-none, filled-more, read-filled}
-use Rattle.save_state.specs.Fields.{timer}
+use Rattle.save_state.proofs.Names.{arith, no_timer, timers_of, filled-none, filled-more, read-filled, timer}
 use Rattle.save_state.proofs.Formats.{timers_few}
 use Rattle.save_state.proofs.Sizes.{timer-size}
 use Rattle.save_state.proofs.whole.timers_in.Goals as goal
