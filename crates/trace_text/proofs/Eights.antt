@@ -1,5 +1,5 @@
 -- Lemmas on eight decimal digits that are read as one word.
-use Rattle.std.proofs.Common.{◌≡◌, ℕ, ◌+◌, ◌-◌, ◌*◌, ◌/◌, ◌%◌, ◌<◌, ◌≤◌, length, drop, get_or, List, ap, ◌∙◌, sym, arith}
+use Rattle.std.proofs.Common.{◌≡◌, ℕ, ◌+◌, ◌-◌, ◌*◌, ◌/◌, ◌%◌, ◌<◌, ◌≤◌, length, drop, get_or, List, ap, ◌∙◌, sym, refl, arith}
 use Rattle.std.specs.Char.{digit_value}
 use Rattle.std.specs.Int.{IsInRange}
 use Rattle.std.specs.Int.RustNames.{bit_and}
@@ -111,12 +111,17 @@ below : (a b c d e f g h : ℕ) → a ≤ 9 → b ≤ 9 → c ≤ 9 → d ≤ 9 
     → a * 10000000 + b * 1000000 + c * 100000 + d * 10000 + e * 1000 + f * 100 + g * 10 + h < 100000000
 below a b c d e f g h al bl cl dl el fl gl hl = omega arith
 
+below_first : (a b c d e f g h : ℕ) → a ≡ 0 → b ≤ 9 → c ≤ 9 → d ≤ 9 → e ≤ 9 → f ≤ 9 → g ≤ 9 → h ≤ 9
+    → a * 10000000 + b * 1000000 + c * 100000 + d * 10000 + e * 1000 + f * 100 + g * 10 + h < 10000000
+below_first a b c d e f g h al bl cl dl el fl gl hl = omega arith
+
 -- what eight bytes that are decimal digits spell
 pub eight_spell : (a b c d e f g h w : ℕ)
     → IsInRange 48 57 a → IsInRange 48 57 b → IsInRange 48 57 c → IsInRange 48 57 d
     → IsInRange 48 57 e → IsInRange 48 57 f → IsInRange 48 57 g → IsInRange 48 57 h
     → w ≡ word_of a b c d e f g h
     → (value_of (pairs_in w) < 100000000)
+    × (a ≡ 48 → value_of (pairs_in w) < 10000000)
     × (value_of (pairs_in w) ≡ (a - 48) * 10000000 + (b - 48) * 1000000 + (c - 48) * 100000 + (d - 48) * 10000 + (e - 48) * 1000
     + (f - 48) * 100 + (g - 48) * 10 + (h - 48))
 eight_spell a b c d e f g h w ar br cr dr er fr gr hr is =
@@ -133,7 +138,9 @@ eight_spell a b c d e f g h w ar br cr dr er fr gr hr is =
     let value =
     spelled_by (a - 48) (b - 48) (c - 48) (d - 48) (e - 48) (f - 48) (g - 48) (h - 48) w al.0 bl.0 cl.0 dl.0 el.0 fl.0 gl.0 hl.0 from_zero in
     let small = below (a - 48) (b - 48) (c - 48) (d - 48) (e - 48) (f - 48) (g - 48) (h - 48) al.0 bl.0 cl.0 dl.0 el.0 fl.0 gl.0 hl.0 in
-    (rw value small, value)
+    let small_first : a ≡ 48 → value_of (pairs_in w) < 10000000 = λ zero.
+    rw value (below_first (a - 48) (b - 48) (c - 48) (d - 48) (e - 48) (f - 48) (g - 48) (h - 48) (rw zero refl) bl.0 cl.0 dl.0 el.0 fl.0 gl.0 hl.0) in
+    (rw value small, small_first, value)
 
 -- a decimal digit more
 spelled-decimal : (count n i m j : ℕ) (xs : List ℕ) → m ≡ count + 1 → j ≡ i + 1 → i < length xs → IsInRange 48 57 (get_or xs i 0)

@@ -108,16 +108,6 @@ not_space base b most small e =
     let value : digit_value b ≡ 36 = ap digit_value e in
     omega arith
 
--- the first digit of a decimal number
-pub first_spelled : (at first : ℕ) (xs : List ℕ) → at < length xs → digit_value (get_or xs at 0) ≡ first → first < 10
-    → spelled 10 0 0 (drop at xs) ≡ spelled 10 (at + 1 - at) first (drop (at + 1) xs)
-first_spelled at first xs h digit decimal =
-    let byte : ℕ = get_or xs at 0 in
-    let small : digit_value byte < 10 = omega arith in
-    let value : 0 * 10 + digit_value byte ≡ first = omega arith in
-    let count : at + 1 - at ≡ 0 + 1 = omega arith in
-    rw (count, ← value) (spelled-more 10 0 0 at xs h (not_space 10 byte (omega arith) small) small (omega arith))
-
 -- another byte than the word's
 pub word-differs : (at i : ℕ) (name line : List ℕ) → i < length name → at + i < length line → (get_or line (at + i) 0 ≡ get_or name i 0 → ⊥)
     → behind_word (drop i name) (drop (at + i) line) ≡ None

@@ -231,7 +231,8 @@ const SIXES: u64 = 0x0606_0606_0606_0606;
 #[inline(always)]
 fn eight_digits_at(line: &[u8], at: usize) -> Option<u64>
     requires { at + 8 ≤ length line.now }
-    ensures { IfSome result (λ n. (n < 100000000) × ((count read : ℕ)
+    ensures { IfSome result (λ n. (n < 100000000)
+        × (slice_index line.now at ≡ 48 → n < 10000000) × ((count read : ℕ)
         → read * 100000000 + n < 18446744073709551616 → spelled 10 count read (drop at line.now)
         ≡ spelled 10 (count + 8) (read * 100000000 + n) (drop (at + 8) line.now))) }
 {
@@ -259,50 +260,59 @@ fn eight_digits_at(line: &[u8], at: usize) -> Option<u64>
     Some(first + second + third + pairs / 0x1_0000_0000_0000 % 0x100)
 }
 
-/// What the first digits of a decimal word spell: 16 or 8 of them, or the first alone, which is given.
+/// What the first 8 or 16 digits of a decimal number spell, of which the first eight spell `n`.
 #[inline(always)]
-#[tactic(auto, using(crate::proofs::Spells::first_spelled))]
-fn digits_at(line: &[u8], at: usize, first: u8) -> Spelling
-    requires within { at < length line.now }
-    requires first { digit_value (slice_index line.now at) ≡ first }
-    requires decimal { first < 10 }
-    ensures within { (at < result.end) × (result.end ≤ at + 16) × (result.end ≤ length line.now) }
+fn eights_at(line: &[u8], at: usize, n: u64) -> Spelling
+    requires within { at + 8 ≤ length line.now }
+    requires small { n < 100000000 }
+    ensures within { (at + 8 ≤ result.end) × (result.end ≤ at + 16)
+        × (result.end ≤ length line.now) }
     ensures small { result.value < 16 ^ (result.end - at) }
-    ensures read { spelled 10 0 0 (drop at line.now)
+    ensures read { spelled 10 8 n (drop (at + 8) line.now)
         ≡ spelled 10 (result.end - at) result.value (drop result.end line.now) }
 {
-    let one = Spelling {
-        value: u64::from(first),
-        end: at + 1,
-    };
-    if line.len() - at < 8 {
-        return one;
-    }
-    let Some(n) = eight_digits_at(line, at) else {
-        return one;
+    let eight = Spelling {
+        value: n,
+        end: at + 8,
     };
     if line.len() - at < 16 {
-        return Spelling {
-            value: n,
-            end: at + 8,
-        };
+        return eight;
     }
     match eight_digits_at(line, at + 8) {
         Some(m) => Spelling {
             value: n * 100_000_000 + m,
             end: at + 16,
         },
-        None => Spelling {
-            value: n,
-            end: at + 8,
-        },
+        None => eight,
     }
 }
 
-/// The number that stands at a place of a line, if it is decimal, begins with another digit than zero, and has at most
-/// 16 digits.
+/// The number of 8 to 16 digits that is at a place of a line, of which the first eight spell `n`.
 #[inline(always)]
-pub(crate) fn decimal_at(line: &[u8], at: usize) -> Option<Spelling>
+fn long_decimal_at(line: &[u8], at: usize, n: u64) -> Option<Spelling>
+    requires within { at + 8 ≤ length line.now }
+    requires small { n < 100000000 }
+    requires first { slice_index line.now at ≡ 48 → n < 10000000 }
+    requires read { spelled 10 0 0 (drop at line.now) ≡ spelled 10 8 n (drop (at + 8) line.now) }
+    ensures { IfSome result (λ s. (at < s.end) × (s.end ≤ length line.now)
+        × (slice_index line.now at ≢ 48) × (spelled 10 0 0 (drop at line.now) ≡ Some (record {
+          count = s.end - at;
+          value = s.value;
+          left = words_from (s.end + 1) line.now;
+        }))) }
+{
+    if n < 10_000_000 {
+        return None;
+    }
+    let read = eights_at(line, at, n);
+    let spelling = short_spelling(line, at, read.end, 10, read.value)?;
+    Some(spelling)
+}
+
+/// The number that is at a place of a line, if it is decimal, begins with another digit than zero, and has at most 16
+/// digits. One that is long is likely to have eight or more.
+#[inline(always)]
+pub(crate) fn decimal_at(line: &[u8], at: usize, is_long: bool) -> Option<Spelling>
     ensures { IfSome result (λ s. (at < s.end) × (s.end ≤ length line.now)
         × (slice_index line.now at ≢ 48) × (spelled 10 0 0 (drop at line.now) ≡ Some (record {
           count = s.end - at;
@@ -313,12 +323,16 @@ pub(crate) fn decimal_at(line: &[u8], at: usize) -> Option<Spelling>
     if at >= line.len() {
         return None;
     }
+    if is_long && line.len() - at >= 8 {
+        if let Some(n) = eight_digits_at(line, at) {
+            return long_decimal_at(line, at, n);
+        }
+    }
     let first = decimal_digit_of(line[at]);
     if first == 0 || first >= 10 {
         return None;
     }
-    let read = digits_at(line, at, first);
-    let spelling = short_spelling(line, at, read.end, 10, read.value)?;
+    let spelling = short_spelling(line, at, at + 1, 10, u64::from(first))?;
     Some(spelling)
 }
 

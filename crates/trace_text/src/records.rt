@@ -198,6 +198,16 @@ fn read_job(body: &Body, mut words: Words<'_>, into: &mut Job) -> bool
         }
         _ => {}
     }
+    read_other(body, words, into)
+}
+
+/// The same of the other kinds. It is apart from where it is called, so that the answer of `job_in` takes no place there.
+#[inline(never)]
+fn read_other(body: &Body, words: Words<'_>, into: &mut Job) -> bool
+    ensures job { OnTrue result (job_of body.now words.entry ≡ Ok into.new) }
+    ensures cause { OnFalse result (IsErr (job_of body.now words.entry)) }
+    ensures valid { OnTrue result (IsJob body.now into.new) }
+{
     put_job(job_in(body, words), into)
 }
 

@@ -40,4 +40,4 @@ returns c =
     let d6 : IsInRange 48 57 b6 = (omega arith, omega arith) in
     let d7 : IsInRange 48 57 b7 = (omega arith, omega arith) in
     let value = eight_spell b0 b1 b2 b3 b4 b5 b6 b7 w d0 d1 d2 d3 d4 d5 d6 d7 is in
-    (value.0, λ count read fits. spelled-eight count read at line c.requires d0 d1 d2 d3 d4 d5 d6 d7 _ value.1 fits)
+    (value.0, value.1, λ count read fits. spelled-eight count read at line c.requires d0 d1 d2 d3 d4 d5 d6 d7 _ value.2 fits)
