@@ -17,7 +17,9 @@ ghost use Rattle.std.specs.Prelude.{
   IfSome,
   length,
 };
+ghost use Rattle.std.specs.List.{All};
 ghost use Rattle.clk_units.specs.Ranges.{IsKhz};
+ghost use Rattle.irq_edges.specs.Lines.{IsOfLine};
 ghost use Rattle.board_devices.specs.Run.{run};
 ghost use Rattle.board_core.specs.Time.{devices_in, now_of};
 ghost use Rattle.board_core.specs.Tsc.{processor_at, tsc_read};
@@ -59,6 +61,7 @@ pub fn moved(state: &BoardState, khz: u64, start: u64, gap: u64) -> Result<Moved
     ensures state { IfOk result (λ m. m.state ≡ moved_to khz start gap state.now) }
     ensures edges { IfOk result (λ m. m.edges
         ≡ (run (now_of state.now) gap (devices_in state.now)).edges) }
+    ensures of_lines { IfOk result (λ m. All IsOfLine m.edges) }
     ensures few { IfOk result (λ m. length m.edges ≤ 6) }
     ensures bursts { IfOk result (λ m. m.bursts ≡ gap_bursts gap state.now) }
     // A TSC that is read at count `start` has gone on from its value at the greatest count.
