@@ -299,7 +299,8 @@ class Writer:
     def write_fld(self, read: tuple, known: dict[str, str]) -> str:
         if self.is_module(read[1], known):
             return f"({read[2]!r},)"
-        return f"{self.write(read[1], known)}[{read[2]!r}]"
+        field = int(read[2]) if read[2].isdigit() else read[2]
+        return f"{self.write(read[1], known)}[{field!r}]"
 
     def is_module(self, read: tuple, known: dict[str, str]) -> bool:
         return read[0] == "var" and read[1] not in known and self.place(read[1])[0] == "module"

@@ -62,7 +62,7 @@ def tokens(text: str) -> list[Token]:
         kind = match.lastgroup
         start, end = match.span(kind)
         spaced = start == 0 or text[start - 1].isspace()
-        found.append(Token(kind, match.group(kind), spaced, bool(re.match(r"[A-Za-z_«]", text[end:end + 1]))))
+        found.append(Token(kind, match.group(kind), spaced, bool(re.match(r"[A-Za-z_«0-9]", text[end:end + 1]))))
         at = match.end()
     if text[at:].strip():
         raise SyntaxError(f"unknown sign at: {text[at:at + 30]}")
@@ -113,8 +113,8 @@ class Parser:
         word = self.take()
         if word.kind == "lam":
             names = []
-            while self.next.kind == "id":
-                names.append(self.take().text)
+            while not self.is_sign("."):
+                names += self.binder()
             self.take(".")
             return ("lam", names, self.expression(1))
         if word.text == "if":
@@ -131,6 +131,18 @@ class Parser:
         value = self.expression(1)
         self.take("in")
         return ("let", name, value, self.expression(1))
+
+    def binder(self) -> list[str]:
+        """The names that a part of a λ binds: one, or some in parentheses with their type."""
+        token = self.take()
+        if token.text != "(":
+            return [token.text]
+        names = []
+        while not self.is_sign(":"):
+            names.append(self.take().text)
+        while self.take().text != ")":
+            pass
+        return names
 
     def application(self) -> tuple:
         head, given = self.atom(), []
