@@ -1,6 +1,6 @@
 /* SPDX-License-Identifier: Apache-2.0 OR MIT
- * The guest, in 64-bit mode: processor 0 sets a tick of 10 ms by the 8254; both read the clock by their pages until the fifth
- * tick, look that it never falls, and leave what they read last. Its code is copied into the guest's memory, so it calls nothing outside and has no data;
+ * The guest, in 64-bit mode: processor 0 sets a tick of 10 ms by the 8254, whose first ones meet a masked pin; both read the
+ * clock by their pages until the fifth tick, look that it never falls, and leave what they read last. Its code is copied into the guest's memory, so it calls nothing outside and has no data;
  * built with -mgeneral-regs-only -mno-red-zone -fno-stack-protector -fcf-protection=none. */
 #include "machine.h"
 
@@ -24,7 +24,7 @@ GUEST static inline __attribute__((always_inline)) void out(uint16_t port, uint8
 GUEST __attribute__((interrupt)) void guest_tick(void *frame) {
     (void)frame;
     ++*ticks;
-    out(0x20, 0x20); /* the end of the interrupt */
+    *(volatile uint32_t *)(APIC + 0xb0) = 0; /* the end of the interrupt */
 }
 
 /* The clock by a page, as Linux reads it. */
@@ -42,12 +42,23 @@ GUEST static uint64_t clock_by(const struct guest_page *page) {
     return time;
 }
 
-/* The 8259s: line 0 alone, at TICK_VECTOR; the HPET counts; counter 0 of the 8254 in mode 2 with count 11,932. */
+/* The low word of the entry of the IO-APIC's pin 0, for processor 0: edges, at TICK_VECTOR. */
+GUEST static void set_pin(uint32_t mask) {
+    *(volatile uint32_t *)IO_APIC = 0x10;
+    *(volatile uint32_t *)(IO_APIC + 0x10) = mask | TICK_VECTOR;
+}
+
+/* The local APIC takes interrupts; the HPET counts; counter 0 of the 8254 in mode 2 with count 11,932. The pin is unmasked only
+ * when its first tick has passed. */
 GUEST static void set_up(void) {
-    out(0x20, 0x11), out(0x21, TICK_VECTOR), out(0x21, 4), out(0x21, 1), out(0x21, 0xfe);
-    out(0xa0, 0x11), out(0xa1, TICK_VECTOR + 8), out(0xa1, 2), out(0xa1, 1), out(0xa1, 0xff);
+    out(0x21, 0xff), out(0xa1, 0xff);
+    set_pin(1 << 16);
+    *(volatile uint32_t *)(APIC + 0xf0) = 0x1ff;
     *(volatile uint32_t *)(HPET + 0x10) = 1;
     out(0x43, 0x34), out(0x40, 11932 & 0xff), out(0x40, 11932 >> 8);
+    while (*(volatile uint64_t *)(HPET + 0xf0) < 15000000 / 10) {
+    }
+    set_pin(0);
     __asm__ volatile("sti" ::: "memory");
 }
 

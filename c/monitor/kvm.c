@@ -20,15 +20,20 @@ static bool filter_msrs(int vm) {
     return ioctl(vm, KVM_ENABLE_CAP, &exits) == 0 && ioctl(vm, KVM_X86_SET_MSR_FILTER, &filter) == 0;
 }
 
-/* Line n is GSI n: by KVM's routing at first, input n of the IO-APIC, and of the 8259s for 0 to 15. */
+/* Connects a line to its GSI, or takes it off, which takes the input down. Line n is GSI n: by KVM's routing at first, input n of
+ * the IO-APIC, and of the 8259s for 0 to 15. */
+bool connect_line(struct machine *m, int k, bool on) {
+    struct kvm_irqfd irq = {.fd = (uint32_t)m->rise[k], .gsi = lines[k], .resamplefd = (uint32_t)m->end[k],
+                            .flags = on ? KVM_IRQFD_FLAG_RESAMPLE : KVM_IRQFD_FLAG_DEASSIGN};
+    return ioctl(m->vm, KVM_IRQFD, &irq) == 0;
+}
+
 static bool make_lines(struct machine *m) {
     m->timer = timerfd_create(CLOCK_MONOTONIC, TFD_NONBLOCK);
     for (int k = 0; k < LINES; k++) {
         m->rise[k] = eventfd(0, EFD_NONBLOCK);
         m->end[k] = eventfd(0, EFD_NONBLOCK);
-        struct kvm_irqfd irq = {.fd = (uint32_t)m->rise[k], .gsi = lines[k], .flags = KVM_IRQFD_FLAG_RESAMPLE,
-                                .resamplefd = (uint32_t)m->end[k]};
-        if (ioctl(m->vm, KVM_IRQFD, &irq) != 0) {
+        if (!connect_line(m, k, true)) {
             return false;
         }
     }
@@ -62,7 +67,9 @@ static void make_tables(struct machine *m) {
     tables[512] = (TABLES + 0x2000) | 3;
     tables[512 + 3] = (TABLES + 0x3000) | 3;
     tables[1024] = 0x83;                                                    /* 2 MB at 0 */
-    tables[1536 + (HPET >> 21) % 512] = (HPET >> 21) << 21 | 0x93;          /* 2 MB with the HPET, not cached */
+    for (uint64_t at = IO_APIC; at <= APIC; at += 1 << 21) { /* 2 MB each, not cached: IO-APIC, HPET, local APIC */
+        tables[1536 + (at >> 21) % 512] = at | 0x93;
+    }
     gdt[1] = UINT64_C(0x00af9b000000ffff);
     gdt[2] = UINT64_C(0x00cf93000000ffff);
     gate[0] = (tick & 0xffff) | 8 << 16 | UINT64_C(0x8e00) << 32 | (tick >> 16) << 48;

@@ -64,6 +64,26 @@ static void timer_went_off(struct machine *m) {
     settle(m, &reply);
 }
 
+/* A rise that met a masked pin of the IO-APIC is lost, and no end of an interrupt comes. So every 100 ms: where the 8254's line has
+ * stayed up while another tick came due, KVM's input is taken down and the line acknowledged, and a tick raises both again. */
+static void look_for_lost_rise(struct machine *m) {
+    struct clockboard_reply reply;
+    uint64_t now = counter();
+    if (now - m->looked < 100 * m->khz) {
+        return;
+    }
+    clockboard_counts(&m->board, 0, now, 0, &reply);
+    settle(m, &reply);
+    bool lost = m->up & 1 && reply.value[1] == m->rose && reply.value[0] > m->due;
+    m->looked = now;
+    m->due = reply.value[0];
+    m->rose = reply.value[1];
+    if (lost && connect_line(m, 0, false) && connect_line(m, 0, true)) {
+        clockboard_acknowledge(&m->board, 0, counter(), 0, &reply);
+        settle(m, &reply);
+    }
+}
+
 void *watch(void *machine) {
     struct machine *m = machine;
     struct pollfd all[LINES + 1];
@@ -78,6 +98,7 @@ void *watch(void *machine) {
                 k < LINES ? end_of_interrupt(m, lines[k]) : timer_went_off(m);
             }
         }
+        look_for_lost_rise(m);
         pthread_mutex_unlock(&m->lock);
     }
     return NULL;

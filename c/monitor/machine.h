@@ -12,6 +12,8 @@
 enum { MEMORY = 0x200000, TABLES = 0x1000, GDT = 0x5000, IDT = 0x6000, WORDS = 0x7000, PAGES = 0x8000, CODE = 0x10000,
        STACKS = 0x20000 };
 #define HPET UINT64_C(0xfed00000)
+#define IO_APIC UINT64_C(0xfec00000)
+#define APIC UINT64_C(0xfee00000)
 enum { PROCESSORS = 2, LINES = 6, TICKS = 5, RESULT_PORT = 0xf4, TICK_VECTOR = 0x20, NO_KVM = 77 };
 
 struct processor {
@@ -28,6 +30,7 @@ struct machine {
     struct processor processors[PROCESSORS];
     uint8_t *memory;
     uint64_t khz, alarm; /* rate of the host's TSC; the count at which the timer goes off, or 0 */
+    uint64_t looked, due, rose; /* the count of the last look for a lost rise; the 8254's ticks and rises then */
     int kvm, vm, timer, rise[LINES], end[LINES];
     uint32_t up, rises, ends; /* lines that are up, a bit each; how many rises and ends of interrupts there were */
     atomic_bool over;
@@ -39,6 +42,7 @@ struct machine {
 /* kvm.c. Each answers false where KVM doesn't do it. */
 bool make_machine(struct machine *m, bool halts);
 bool set_tsc(struct processor *p);
+bool connect_line(struct machine *m, int k, bool on);
 /* exits.c: an access of the guest's, false for one that nobody takes; its pages, into its memory. */
 bool take_exit(struct processor *p);
 void put_pages(struct machine *m);
