@@ -16,3 +16,4 @@ mod Rows
 mod RowsApics
 mod RowsHv
 mod RowsMessages
+mod RowsNext

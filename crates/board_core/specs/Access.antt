@@ -79,6 +79,7 @@ abbrev pub read_of_port : ℕ → Act
 read_of_port port =
     if port == 0x70 then IndexRead else (if port == 0x71 then ClockRead else PitRead port)
 
+-- what a write of a port asks
 abbrev pub write_of_port : ℕ → ℕ → Act
 write_of_port port byte =
     if port == 0x70 then IndexWrite byte

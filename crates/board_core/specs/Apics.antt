@@ -37,6 +37,7 @@ abbrev pub apic_written : ℕ → Option ApicRegister → ℕ → ApicsParts →
 apic_written cpu None v a = a
 apic_written cpu (Some register) v a = written_at cpu register v a
 
+-- the timers after an access of a processor
 abbrev pub apics_acted : ℕ → Access → ApicsParts → ApicsParts
 apics_acted cpu (MsrWrite msr v) a = apic_written cpu (register_of msr) v a
 apics_acted cpu Eoi a = eoi_at cpu a

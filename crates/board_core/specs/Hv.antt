@@ -41,6 +41,7 @@ hv_in p = record {
   tsc_offset = p.tsc_offset;
 }
 
+-- the same with another page
 abbrev pub with_page : HvParts → HvPage → HvParts
 with_page p page = record p {
   version = page.version;

@@ -118,6 +118,7 @@ abbrev pub clamped : ℕ → PageReply → ClockReply
 clamped greatest Off = ClockOff
 clamped greatest (On page reading) = ClockOn reading (max reading greatest)
 
+-- the greatest reading after a read of a clock
 abbrev pub greatest_with : ℕ → PageReply → ℕ
 greatest_with greatest Off = greatest
 greatest_with greatest (On page reading) = max reading greatest
@@ -126,6 +127,7 @@ greatest_with greatest (On page reading) = max reading greatest
 unfoldable pub clock_reply : BoardParts → ℕ → ℕ → ClockReply
 clock_reply b cpu h = clamped b.greatest (page_reply b cpu h)
 
+-- the board after a read of the clock
 unfoldable pub after_clock : BoardParts → ℕ → ℕ → BoardParts
 after_clock b cpu h = record b { greatest = greatest_with b.greatest (page_reply b cpu h) }
 

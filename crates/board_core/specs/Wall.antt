@@ -17,6 +17,7 @@ abbrev pub wall_number_after : Access → ℕ → ℕ
 wall_number_after (MsrWrite msr v) number = if msr == MSR_KVM_WALL_CLOCK then v else number
 wall_number_after _ number = number
 
+-- the version after an access: up by 2 with each publishing
 abbrev pub wall_version_after : Access → ℕ → ℕ
 wall_version_after a version = if publishes_wall a then version + 2 else version
 
