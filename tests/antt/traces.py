@@ -11,7 +11,7 @@ STATUS = "trace_runner.specs.Status"
 CALLS = {"page": "ReadPage", "clock": "ReadClock", "hv": "ReadHv"}
 # Commands that read no trace: their words, and what these ask for.
 COMMANDS = [
-    (["gen", "7", "40", "2"], ("Gen", Fields(key=7, records=40, cpus=2))),
+    (["gen", "7", "200", "3"], ("Gen", Fields(key=7, records=200, cpus=3))),
     (["soak", "1", "0", "3"], ("Soak", Fields(key=1, records=0, cpus=3))),
     (["soak", "2", "1", "1"], ("Soak", Fields(key=2, records=1, cpus=1))),
     (["--help"], ("Help", ("Overview",))),
