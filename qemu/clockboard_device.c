@@ -15,7 +15,7 @@
  *   - where a controller has lost the edge: the guest unmasks a pin of the IO-APIC whose line is up, or initializes an 8259
  *     that had seen it go up. No end of an interrupt would come, and the line would stay up.
  *
- * The trace has each call, by record.h, and behind each, in comments that begin with `# > `, what a replay prints for it. After
+ * The trace has each call, by record.h, and after each, in comments that begin with `# > `, what a replay prints for it. After
  * loadvm a new file goes on: FILE.1, FILE.2 .. */
 #include "qemu/osdep.h"
 #include "qemu/cutils.h"
