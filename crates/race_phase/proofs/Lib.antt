@@ -1,5 +1,6 @@
 pub mod Alike
 pub mod Answered
+pub mod Checked
 pub mod Counts
 pub mod Ended
 pub mod Kept

@@ -140,7 +140,7 @@ call_alike b c cpu h (ReadClock page) s inside fits = s
 call_alike b c cpu h ReadHv s inside fits = s
 
 -- the processors and the format, which no record changes
-pub size_of : BoardParts → ℕ × ℕ
+unfoldable pub size_of : BoardParts → ℕ × ℕ
 size_of b = (b.cpus, b.format)
 
 size_call : (b : BoardParts) (cpu h : ℕ) (call : Call) → size_of (after_call b cpu h call) ≡ size_of b

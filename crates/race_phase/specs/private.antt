@@ -4,3 +4,4 @@ pub mod Ran
 pub mod Tallied
 pub mod Told
 pub mod Kept
+pub mod Checked

@@ -76,7 +76,8 @@ pub fn edge_lines(
 
 /// Who gets a message, where there are so many processors: the processor in bits 19 to 12 of its address, and the
 /// vector in bits 7 to 0 of its data (Intel SDM, volume 3, "Message Address Register Format" and "Message Data Register
-/// Format"). Processor 0 stands for one that isn't there, and vector 30h for one that is reserved.
+/// Format"). Where there is no such processor it is processor 0, and vector 30h where its own is
+/// reserved (own).
 #[tactic(auto, unfolding(crate::specs::Blocks::message_to))]
 pub fn message_to(cpus: u8, message: &Message) -> Delivery
     ensures value { result ≡ message_to cpus message.now }

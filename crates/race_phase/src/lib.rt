@@ -17,12 +17,15 @@
 //! tally.admit(0, 1_000, Access::Step)?;          // refused as the board would
 //! tally.count(0, 1_000, Access::Step);
 //! lines.push(3, &record, b"0 1000 step")?;       // the line that was read as this record
-//! let phase = Phase { lines, end: End::Finish };
-//! let ran = run_race(rt, alloc, &OpenGate, state, &deliveries, &[phase])?;
+//! let phases = [Phase { lines, end: End::Finish }];
+//! if check(&state, &phases) {                    // or as the lines are read, by the tally above
+//!     let ran = run_race(rt, alloc, &OpenGate, state, &deliveries, &phases)?;
+//! }
 //! ```
 #![tactic(auto)]
 
 mod batch;
+mod checking;
 mod deliveries;
 mod ends;
 mod faults;
@@ -39,6 +42,7 @@ mod texts;
 mod told;
 mod work;
 
+pub use checking::check;
 pub use deliveries::{Deliveries, edge_lines, message_lines};
 pub use faults::{Cause, Fault};
 pub use lines::RecordLines;

@@ -26,8 +26,8 @@ pub struct Ran {
     pub text: Text,
 }
 
-/// Runs a trace of phases, of which no line is refused in file order: a caller checks that by a
-/// [`Tally`](crate::Tally). Each phase runs on a board that its threads share, one thread a processor, and ends by its
+/// Runs a trace of phases, of which no line is refused in file order: [`check`](crate::check) tells, and so does a
+/// [`Tally`](crate::Tally) as the lines are read. Each phase runs on a board that its threads share, one thread a processor, and ends by its
 /// save or move on the board that they leave.
 pub fn run_race<R: Threads + Wait + Sync, G: Gate + Sync>(
     rt: &R,

@@ -124,6 +124,20 @@ impl Tally {
         }
     }
 
+    /// How many processors there are.
+    pub(crate) fn cpus(&self) -> u8
+        ensures { result ≡ self.now.cpus }
+    {
+        self.cpus
+    }
+
+    /// The format.
+    pub(crate) fn format(&self) -> u8
+        ensures { result ≡ self.now.format }
+    {
+        self.format
+    }
+
     /// Whether a count of the host's counter has a time, or why it has none. Next to no count asks for a division.
     #[inline(always)]
     pub fn check_count(&self, h: u64) -> Result<(), TimeFault>
