@@ -1,17 +1,12 @@
 -- The timers of local APICs with their tick lines: their fields cover them, what is read is written as its bytes are, and valid ones are written and read as they were.
-use Rattle.save_state.proofs.Names.{◌≡◌, ℕ, ◌+◌, ◌-◌, ◌<◌, ◌≤◌, ltb, List, ◌++◌, length, map, get_or, replicate, inl, inr, refl, ap, sym, subst, ◌∙◌, arith}
-use Rattle.save_state.proofs.Names.{le-ltb, ltb-false, cases_lt, length-map, Discard, TickParts, ApicParts, divisor, IsApicTimer, IsPlaceOf, BoardParts}
-use Rattle.save_state.proofs.Names.{apics_of, apics_in, AreApics, IsBoard, now_of, pairs, moved, read_below, plain, blocks, ◌⨾◌, AllHere, AllHold}
-use Rattle.save_state.proofs.Names.{all_here-append, all_hold-split, number-written, byte-written, plain-here, blocks-here, hold-each, drop-blank}
-use Rattle.save_state.proofs.Names.{read_below-at, read_below-after, length-read_below, pairs-at, length-pairs, pairs-halves, any, Apic, with_ticks, apic_timer}
-use Rattle.save_state.proofs.Names.{apic_line, apic, no_apic, apic_pairs, apics, ApicTimerFits, ApicsFit}
-use Rattle.local_apics.specs.Places.{no_timer}
-use Rattle.local_apics.specs.Places.{no_line}
-use Rattle.local_apics.specs.Places.{timer_at}
-use Rattle.local_apics.specs.Places.{line_at}
+use Rattle.save_state.proofs.Names.{apic_line, apic, no_apic, apic_pairs, apics, ApicTimerFits, ApicsFit, read_below-at, read_below-after, length-read_below}
+use Rattle.save_state.proofs.Names.{pairs-at, length-pairs, pairs-halves, any, Apic, with_ticks, apic_timer, all_here-append, all_hold-split, number-written}
+use Rattle.save_state.proofs.Names.{byte-written, plain-here, blocks-here, hold-each, drop-blank, apics_of, apics_in, AreApics, IsBoard, now_of, pairs, moved}
+use Rattle.save_state.proofs.Names.{read_below, plain, blocks, ◌⨾◌, AllHere, AllHold, le-ltb, ltb-false, cases_lt, length-map, Discard, TickParts, ApicParts}
+use Rattle.save_state.proofs.Names.{divisor, IsApicTimer, IsPlaceOf, BoardParts, ◌≡◌, ℕ, ◌+◌, ◌-◌, ◌<◌, ◌≤◌, ltb, List, ◌++◌, length, map, get_or, replicate}
+use Rattle.save_state.proofs.Names.{inl, inr, refl, ap, sym, subst, ◌∙◌, arith, apics_few, processors_few, apic-size}
+use Rattle.local_apics.specs.Places.{no_timer, no_line, timer_at, line_at}
 use Rattle.save_state.proofs.Blocks.{ticks-here, TicksHold, ticks-hold}
-use Rattle.save_state.proofs.Formats.{apics_few, processors_few}
-use Rattle.save_state.proofs.Sizes.{apic-size}
 
 -- the policy of the tick line is Discard in each saved state
 apic-covers : (k : ℕ) (a : Apic) → a.second.policy ≡ Discard → moved (apic k) a no_apic ≡ a

@@ -1,14 +1,14 @@
 -- The rows of each block, by what code knows of it.
-use Rattle.save_state.proofs.Names.{◌≡◌, ℕ, ◌+◌, ◌*◌, Bool, true, false, leb, ltb, eqb, not, ◌&&◌, ◌||◌, List, [], ◌∷◌, refl, ap, ◌∙◌, arith, w8, cast_unsigned}
-use Rattle.save_state.proofs.Names.{RANGE_NS, CounterParts, bits_valid, flags_valid, cr_valid, ce_valid, part_valid, read_order_valid, latched_count_valid}
-use Rattle.save_state.proofs.Names.{latched_status_valid, TimerParts, config_valid, comparator_valid, period_valid, index_valid, bytes_valid, divider_valid}
-use Rattle.save_state.proofs.Names.{cycle_valid, TickParts, queue_valid, lost_valid, mul_for, shift_for, BoardParts, ApicParts, lvt_valid, divide_valid}
-use Rattle.save_state.proofs.Names.{initial_valid, current_valid, phase_valid, deadline_valid, HvParts, ProcessorParts, MOST_ACCESSES, has_messages}
-use Rattle.save_state.proofs.Names.{processors_of, LAST_FORMAT, SLEW_MAX_NS, now_of, byte_at, number_at, flag_valid, number, byte, Field, fault_in, one_fault}
-use Rattle.save_state.proofs.Names.{plain, row, elsewhere, Row, StateFault, StateKind, Magic, Version, Invalid, legacy_rises_valid, routed_rises_valid}
-use Rattle.save_state.proofs.Names.{faults_of, magic, khz_valid, host_valid, head, host, guest, policies, front, clock, registers, counter, timer, line}
-use Rattle.save_state.proofs.Names.{up_allowed, tsc, page, processor, wall, rises, Message, message, version_valid, published_valid, apic_timer, apic_line}
-use Rattle.save_state.proofs.Names.{apic, scale_for, reference, field, row_fault, processor_rows, ◌⨾◌, row_spelled-each}
+use Rattle.save_state.proofs.Names.{apic, scale_for, reference, field, row_fault, processor_rows, ◌⨾◌, row_spelled-each, up_allowed, tsc, page, processor, wall}
+use Rattle.save_state.proofs.Names.{rises, Message, message, version_valid, published_valid, apic_timer, apic_line, faults_of, magic, khz_valid, host_valid}
+use Rattle.save_state.proofs.Names.{head, host, guest, policies, front, clock, registers, counter, timer, line, plain, row, elsewhere, Row, StateFault}
+use Rattle.save_state.proofs.Names.{StateKind, Magic, Version, Invalid, legacy_rises_valid, routed_rises_valid, processors_of, LAST_FORMAT, SLEW_MAX_NS, now_of}
+use Rattle.save_state.proofs.Names.{byte_at, number_at, flag_valid, number, byte, Field, fault_in, one_fault, initial_valid, current_valid, phase_valid}
+use Rattle.save_state.proofs.Names.{deadline_valid, HvParts, ProcessorParts, MOST_ACCESSES, has_messages, cycle_valid, TickParts, queue_valid, lost_valid}
+use Rattle.save_state.proofs.Names.{mul_for, shift_for, BoardParts, ApicParts, lvt_valid, divide_valid, latched_status_valid, TimerParts, config_valid}
+use Rattle.save_state.proofs.Names.{comparator_valid, period_valid, index_valid, bytes_valid, divider_valid, RANGE_NS, CounterParts, bits_valid, flags_valid}
+use Rattle.save_state.proofs.Names.{cr_valid, ce_valid, part_valid, read_order_valid, latched_count_valid, ◌≡◌, ℕ, ◌+◌, ◌*◌, Bool, true, false, leb, ltb, eqb}
+use Rattle.save_state.proofs.Names.{not, ◌&&◌, ◌||◌, List, [], ◌∷◌, refl, ap, ◌∙◌, arith, w8, cast_unsigned}
 use Rattle.save_state.proofs.RowLaws.{IsRow, rows-are}
 
 -- a row that is its field as it is

@@ -1,10 +1,10 @@
 -- The laws of each block: its fields cover it, what is read is written as its bytes are, and what is written is read as it was.
-use Rattle.save_state.proofs.Names.{◌≡◌, ℕ, ◌+◌, ◌≤◌, Bool, true, leb, ◌||◌, List, refl, arith, lt-ltb, le-leb, leb-true, eq-eqb, eqb-true, and_from, and_parts}
-use Rattle.save_state.proofs.Names.{CounterParts, IsCounter, TimerParts, IsTimer, Policy, Discard, Delay, Slew, TickParts, IsTickLine, queue_valid, lost_valid}
-use Rattle.save_state.proofs.Names.{policy_byte, policy_of, BoardParts, now_of, byte_at, plain, ◌⨾◌, AllHere, AllHold, all_here-append, IsWritten}
-use Rattle.save_state.proofs.Names.{number-written, byte-written, signed_byte-written, flag-written, flags-written, both-written, choice-written, plain-here}
-use Rattle.save_state.proofs.Names.{plain-spelled, elsewhere-here, elsewhere-spelled, AreBlocks, policy, policy_place, counter, timer, line, up_allowed}
-use Rattle.save_state.proofs.Names.{ticks_of, line_ticks, line_policy, CounterFits, TimerFits, LineFits}
+use Rattle.save_state.proofs.Names.{ticks_of, line_ticks, line_policy, CounterFits, TimerFits, LineFits, plain-spelled, elsewhere-here, elsewhere-spelled}
+use Rattle.save_state.proofs.Names.{AreBlocks, policy, policy_place, counter, timer, line, up_allowed, number-written, byte-written, signed_byte-written}
+use Rattle.save_state.proofs.Names.{flag-written, flags-written, both-written, choice-written, plain-here, policy_byte, policy_of, BoardParts, now_of, byte_at}
+use Rattle.save_state.proofs.Names.{plain, ◌⨾◌, AllHere, AllHold, all_here-append, IsWritten, CounterParts, IsCounter, TimerParts, IsTimer, Policy, Discard}
+use Rattle.save_state.proofs.Names.{Delay, Slew, TickParts, IsTickLine, queue_valid, lost_valid, ◌≡◌, ℕ, ◌+◌, ◌≤◌, Bool, true, leb, ◌||◌, List, refl, arith}
+use Rattle.save_state.proofs.Names.{lt-ltb, le-leb, leb-true, eq-eqb, eqb-true, and_from, and_parts}
 
 -- by these a search finds that the fields of a list are here, from their ranges and conditions
 pub ruleset writes = (plain-here, number-written, byte-written, signed_byte-written, flag-written, flags-written, both-written, and_from)

@@ -1,6 +1,10 @@
 -- How many timers, counts of rises, processors and reference pages a format has.
-use Rattle.save_state.proofs.Names.{◌≡◌, ℕ, ◌<◌, ◌≤◌, leb, arith, cond_both, cond-true, cond-false, le-leb, lt-leb, timers_of, processors_of, APIC_FORMAT}
-use Rattle.save_state.proofs.Names.{HV_FORMAT, MESSAGE_FORMAT, apics_of, counts_of, references_of, messages_of}
+use Rattle.std.proofs.Common.{◌≡◌, ℕ, ◌<◌, ◌≤◌, leb, arith}
+use Rattle.std.proofs.lemmas.Bool.{cond_both, cond-true, cond-false, le-leb, lt-leb}
+use Rattle.board_types.specs.Setup.{timers_of, processors_of}
+use Rattle.board_types.specs.declared.setup.TheConstants.{APIC_FORMAT, HV_FORMAT, MESSAGE_FORMAT}
+use Rattle.board_core.specs.Apics.{apics_of}
+use Rattle.save_state.specs.Fields.{counts_of, references_of, messages_of}
 
 pub timers_few : (format : ℕ) → timers_of format ≤ 8
 timers_few format = cond_both (leb format 1) 3 8 (λ (n : ℕ). n ≤ 8) (λ _. omega arith) (λ _. omega arith)

@@ -1,23 +1,20 @@
 -- Each list of fields: what is written of a valid board is read as it was, and has no fault.
-use Rattle.save_state.proofs.Names.{◌∷◌, [], ◌≡◌, ℕ, zero, suc, ◌+◌, ◌<◌, ◌≤◌, Bool, true, false, eqb, ltb, leb, ◌&&◌, ◌||◌, List, ◌++◌, drop, get_or, refl, ap}
-use Rattle.save_state.proofs.Names.{sym, subst, ◌∙◌, arith, lt-ltb, le-ltb, le-leb, and_from, or_right, ne_eqb, cond-true, cond-false, drop_all, get_or-drop}
-use Rattle.save_state.proofs.Names.{IsKhz, RANGE_NS, time_at, Anchor, RtcParts, pf_of, IsRtc, bytes_valid, divider_valid, cycle_valid, IsTimer, no_timer}
-use Rattle.save_state.proofs.Names.{timer_at, IsPlace, Policy, Discard, Delay, Slew, policy_byte, policy_of, BoardParts, MOST_ACCESSES, LAST_FORMAT}
-use Rattle.save_state.proofs.Names.{SLEW_MAX_NS, timers_of, has_messages, processors_of, counts_rtc, levels, IsTimerLine, line_at, no_line, apics_of, IsBoard}
-use Rattle.save_state.proofs.Names.{devices_in, now_of, no_processor, processor_at, byte_at, number, byte, write, plain, ◌⨾◌, AllHere, next-write}
-use Rattle.save_state.proofs.Names.{number-written, word-written, byte-written, flag-written, all-written, plain-here, row-here, blocks-here, drop-blank}
+use Rattle.save_state.proofs.Names.{page, references, references_of, messages, messages_of, devices, back, fields_of, BoardFits, IsPit, elsewhere, here-joined}
+use Rattle.save_state.proofs.Names.{tsc, clock, registers, timer, timers, same, up_allowed, line, lines, counts_of, rises, wall, processor, processors, apics}
 use Rattle.save_state.proofs.Names.{rise_valid, routed_rises_valid, magic, khz_valid, policy_place, head, host, guest, policies, counter, no_counter, counters}
-use Rattle.save_state.proofs.Names.{clock, registers, timer, timers, same, up_allowed, line, lines, counts_of, rises, wall, processor, processors, apics}
-use Rattle.save_state.proofs.Names.{references, references_of, messages, messages_of, devices, back, fields_of, BoardFits, IsPit, elsewhere, here-joined, tsc}
-use Rattle.save_state.proofs.Names.{page}
-use Rattle.save_state.proofs.AllFields.{lists}
+use Rattle.save_state.proofs.Names.{number-written, word-written, byte-written, flag-written, all-written, plain-here, row-here, blocks-here, drop-blank}
+use Rattle.save_state.proofs.Names.{devices_in, now_of, no_processor, processor_at, byte_at, number, byte, write, plain, ◌⨾◌, AllHere, next-write, SLEW_MAX_NS}
+use Rattle.save_state.proofs.Names.{timers_of, has_messages, processors_of, counts_rtc, levels, IsTimerLine, line_at, no_line, apics_of, IsBoard, timer_at}
+use Rattle.save_state.proofs.Names.{IsPlace, Policy, Discard, Delay, Slew, policy_byte, policy_of, BoardParts, MOST_ACCESSES, LAST_FORMAT, IsKhz, RANGE_NS}
+use Rattle.save_state.proofs.Names.{time_at, Anchor, RtcParts, pf_of, IsRtc, bytes_valid, divider_valid, cycle_valid, IsTimer, no_timer, sym, subst, ◌∙◌, arith}
+use Rattle.save_state.proofs.Names.{lt-ltb, le-ltb, le-leb, and_from, or_right, ne_eqb, cond-true, cond-false, drop_all, get_or-drop, ◌∷◌, [], ◌≡◌, ℕ, zero}
+use Rattle.save_state.proofs.Names.{suc, ◌+◌, ◌<◌, ◌≤◌, Bool, true, false, eqb, ltb, leb, ◌&&◌, ◌||◌, List, ◌++◌, drop, get_or, refl, ap, lists, version-is}
+use Rattle.save_state.proofs.Names.{timers_few, timers_least, processors_few, counts_few}
 use Rattle.save_state.proofs.Blocks.{writes, policy-written, counter-here, timer-here, line-here}
 use Rattle.save_state.proofs.Processors.{processor-here}
 use Rattle.save_state.proofs.ApicLaws.{apics-here}
 use Rattle.save_state.proofs.MessageLaws.{messages-here}
 use Rattle.save_state.proofs.ReferenceLaws.{references-here}
-use Rattle.save_state.proofs.Versions.{version-is}
-use Rattle.save_state.proofs.Formats.{timers_few, timers_least, processors_few, counts_few}
 
 -- the head
 base_is : (a : Anchor) (host : ℕ) → time_at a host < RANGE_NS → a.base_ns < RANGE_NS

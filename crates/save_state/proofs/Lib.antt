@@ -1,12 +1,12 @@
-pub mod Names
 pub mod AllFields
 pub mod Formats
 pub mod Sizes
+pub mod Versions
+pub mod Names
 pub mod Walk
 pub mod RowLaws
 pub mod BlockRows
 pub mod Blocks
-pub mod Versions
 pub mod Processors
 pub mod ApicLaws
 pub mod ReferenceLaws

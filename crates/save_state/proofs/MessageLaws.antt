@@ -1,9 +1,8 @@
 -- The messages of the HPET's timers: their fields cover them, what is read is written as its bytes are, and those of a valid board are written and read as they were.
-use Rattle.save_state.proofs.Names.{◌≡◌, ℕ, ◌-◌, ◌^◌, ◌<◌, ◌≤◌, true, false, not, eqb, List, ◌++◌, length, get_or, replicate, refl, ap, sym, ◌∙◌, arith}
-use Rattle.save_state.proofs.Names.{or_right, lt-leb, message_bit_at, message_word_at, BoardParts, MESSAGE_FORMAT, IsBoard, read_below, plain, ◌⨾◌, AllHere}
-use Rattle.save_state.proofs.Names.{number-written, flag-written, plain-here, blocks-here, drop-blank, pairs-at, length-pairs, routed_rises_valid, Message}
-use Rattle.save_state.proofs.Names.{message, messages_of, no_message, message_pairs, messages, BoardFits}
-use Rattle.save_state.proofs.Formats.{messages_few}
+use Rattle.save_state.proofs.Names.{message, messages_of, no_message, message_pairs, messages, BoardFits, number-written, flag-written, plain-here, blocks-here}
+use Rattle.save_state.proofs.Names.{drop-blank, pairs-at, length-pairs, routed_rises_valid, Message, or_right, lt-leb, message_bit_at, message_word_at}
+use Rattle.save_state.proofs.Names.{BoardParts, MESSAGE_FORMAT, IsBoard, read_below, plain, ◌⨾◌, AllHere, ◌≡◌, ℕ, ◌-◌, ◌^◌, ◌<◌, ◌≤◌, true, false, not, eqb}
+use Rattle.save_state.proofs.Names.{List, ◌++◌, length, get_or, replicate, refl, ap, sym, ◌∙◌, arith, messages_few}
 
 message-here : (b : BoardParts) (k : ℕ) (m : Message) (bytes : List ℕ) → m.second < 256 ^ 8 → routed_rises_valid b ≡ true → AllHere (message k) b m bytes
 unfolding message

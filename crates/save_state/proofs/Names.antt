@@ -72,6 +72,13 @@ pub use Rattle.byte_table.proofs.Loops.{drop-blank, read_below-at, read_below-af
 pub use Rattle.byte_table.proofs.Loops.{FaultsFrom, faults-begin, faults-some, faults-none, faults-end, IsFilled, filled-none, filled-more, row-filled}
 pub use Rattle.byte_table.proofs.Loops.{read-filled, AreWritten, written-none, written-one, row-more}
 pub use Rattle.byte_table.proofs.Pairs.{pairs-at, length-pairs, pairs-halves, firsts-pairs, seconds-pairs, part-filled}
+unfoldable pub use Rattle.save_state.proofs.AllFields.{lists, layout, block_lists}
+pub use Rattle.save_state.proofs.Formats.{apics_few, processors_few, timers_least, references_few, timers_few, messages_few, references-none, references-one}
+pub use Rattle.save_state.proofs.Formats.{counts_few}
+pub use Rattle.save_state.proofs.Sizes.{apic-size, timer-size, line-size, processor-size, reference-size, message-size, lines_sum, apics_sum, references_sum}
+pub use Rattle.save_state.proofs.Sizes.{messages_sum, rises_sum, wall_sum, processors_sum, counter-size, reference-at, messages-at, lines-at, rises-at, wall-at}
+pub use Rattle.save_state.proofs.Sizes.{processors-at, apics-at}
+pub use Rattle.save_state.proofs.Versions.{published-is, version-is, some-or}
 pub use Rattle.save_state.specs.Fields.{any, Apic, with_ticks, apic, no_apic, apic_pairs, version_valid, processor, published_valid, Fields, front, counts_of}
 pub use Rattle.save_state.specs.Fields.{references_of, messages_of, devices, back, fields_of, policy, policy_place, up_allowed, ticks_of, line_ticks}
 pub use Rattle.save_state.specs.Fields.{line_policy, no_message, magic, faults_of, Message, khz_valid, host_valid, scale_for, no_counter, message_pairs, same}
@@ -90,6 +97,7 @@ pub use Rattle.save_state.specs.declared.fault.StateKind.TheVariants.{Trailing, 
 pub use Rattle.save_state.specs.declared.table.Row.{Row}
 pub use Rattle.save_state.specs.private.Fits.{ApicTimerFits, ApicsFit, ProcessorFits, CounterFits, TimerFits, LineFits, BoardFits, ReferenceFits, ApicFits}
 pub use Rattle.save_state.specs.private.Fits.{TscFits, PageFits}
+pub use Rattle.save_state.specs.private.Parts.{IsHead}
 unfoldable pub use Rattle.save_state.specs.private.Parts.{devices_fault, rest_fault}
 pub use Rattle.save_state.specs.private.Places.{line_place, rises_place, wall_place, processor_place, apic_place, reference_place, message_place, end_place}
 pub use Rattle.save_state.specs.private.Rows.{field}

@@ -1,17 +1,15 @@
 -- The first fault of bytes is that of the head, of the devices, or of the rest.
-use Rattle.save_state.proofs.Names.{◌≡◌, ℕ, ◌+◌, ◌*◌, ◌≤◌, ◌++◌, List, [], ◌∷◌, length, Option, None, Some, refl, ap, sym, subst, ◌∙◌, arith, BoardParts}
-use Rattle.save_state.proofs.Names.{timers_of, AreDevices, apics_of, IsBoard, devices_in, size_of, or_else, fault_in, AreBytes, hold, rewritten, or_else-none}
-use Rattle.save_state.proofs.Names.{or_else-both, or_else-end, size_of-append, fault-next, fault-joined, size-below, StateFault, Fields, front, counters, clock}
-use Rattle.save_state.proofs.Names.{registers, timer, timers, line, lines, counts_of, rises, wall, processor, processors, apic, apics, reference, references}
-use Rattle.save_state.proofs.Names.{references_of, message, messages, messages_of, devices, back, fields_of, format_in, cpus_in, board_in, trailing, fault_of}
-use Rattle.save_state.proofs.Names.{devices_fault, rest_fault, line_place, rises_place, wall_place, processor_place, apic_place, reference_place, message_place}
-use Rattle.save_state.proofs.Names.{end_place}
-use Rattle.save_state.proofs.Formats.{processors_few}
-use Rattle.save_state.proofs.Sizes.{timer-size, line-size, processor-size, apic-size, reference-size, message-size}
+use Rattle.save_state.proofs.Names.{end_place, devices_fault, rest_fault, line_place, rises_place, wall_place, processor_place, apic_place, reference_place}
+use Rattle.save_state.proofs.Names.{message_place, references_of, message, messages, messages_of, devices, back, fields_of, format_in, cpus_in, board_in}
+use Rattle.save_state.proofs.Names.{trailing, fault_of, registers, timer, timers, line, lines, counts_of, rises, wall, processor, processors, apic, apics}
+use Rattle.save_state.proofs.Names.{reference, references, or_else-both, or_else-end, size_of-append, fault-next, fault-joined, size-below, StateFault, Fields}
+use Rattle.save_state.proofs.Names.{front, counters, clock, timers_of, AreDevices, apics_of, IsBoard, devices_in, size_of, or_else, fault_in, AreBytes, hold}
+use Rattle.save_state.proofs.Names.{rewritten, or_else-none, ◌≡◌, ℕ, ◌+◌, ◌*◌, ◌≤◌, ◌++◌, List, [], ◌∷◌, length, Option, None, Some, refl, ap, sym, subst, ◌∙◌}
+use Rattle.save_state.proofs.Names.{arith, BoardParts, processors_few, timer-size, line-size, processor-size, apic-size, reference-size, message-size, IsHead}
+use Rattle.save_state.proofs.Names.{lists, layout}
 use Rattle.save_state.proofs.Spelled.{front-spelled, devices-spelled, back-spelled}
 use Rattle.save_state.proofs.Read.{IsRead, board-read}
-use Rattle.save_state.proofs.Valid.{IsHead, head-valid, devices-valid, board-valid}
-use Rattle.save_state.proofs.AllFields.{lists, layout}
+use Rattle.save_state.proofs.Valid.{head-valid, devices-valid, board-valid}
 
 -- how many bytes the lists take
 sizes : (size_of front ≡ 79) × (size_of counters ≡ 42) × (size_of clock ≡ 133) × (size_of registers ≡ 10) × (size_of wall ≡ 20)

@@ -1,9 +1,8 @@
 -- The processors: their fields cover them, what is read is written as its bytes are, and a valid one is written and read as it was.
-use Rattle.save_state.proofs.Names.{◌≡◌, ℕ, ℤ, pos, negsuc, ◌+◌, ◌*◌, ◌%◌, ◌<◌, Bool, true, false, cond, ◌&&◌, eqb, ltb, List, get_or, refl, ap, sym, ◌∙◌}
-use Rattle.save_state.proofs.Names.{arith, lt-ltb, eq-eqb, of_z-to_z, w8, cast_signed, cast_unsigned, RANGE_NS, mul_for, shift_for, BoardParts, ProcessorParts}
-use Rattle.save_state.proofs.Names.{IsProcessor, page_flags_valid, no_processor, number, read, plain, ◌⨾◌, AreBytes, AllHere, AllHold, number-written}
 use Rattle.save_state.proofs.Names.{byte-written, signed_byte-written, plain-here, number-below, version_valid, tsc, page, processor, ProcessorFits}
-use Rattle.save_state.proofs.Versions.{published-is}
+use Rattle.save_state.proofs.Names.{IsProcessor, page_flags_valid, no_processor, number, read, plain, ◌⨾◌, AreBytes, AllHere, AllHold, number-written, arith}
+use Rattle.save_state.proofs.Names.{lt-ltb, eq-eqb, of_z-to_z, w8, cast_signed, cast_unsigned, RANGE_NS, mul_for, shift_for, BoardParts, ProcessorParts, ◌≡◌, ℕ}
+use Rattle.save_state.proofs.Names.{ℤ, pos, negsuc, ◌+◌, ◌*◌, ◌%◌, ◌<◌, Bool, true, false, cond, ◌&&◌, eqb, ltb, List, get_or, refl, ap, sym, ◌∙◌, published-is}
 
 version-all : (version offset adjust number : ℕ) → version % 2 ≡ 0 → (version ≡ 0 → offset ≡ 0) → (version ≡ 0 → adjust ≡ 0) → (version ≡ 0 → number ≡ 0)
     → version_valid version (eqb offset 0 && eqb adjust 0 && eqb number 0) ≡ true

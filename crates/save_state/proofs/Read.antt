@@ -1,17 +1,16 @@
 -- What holds of each board that is read, whatever its conditions.
-use Rattle.save_state.proofs.Names.{◌≡◌, ℕ, ◌+◌, ◌<◌, ◌≤◌, ◌-◌, zero, suc, false, List, [], ◌∷◌, length, map, get_or, refl, ap, sym, subst, ◌∙◌, arith, le-leb}
-use Rattle.save_state.proofs.Names.{cond-true, no_timer, timer_at, message_bit_at, message_word_at, policy_of, BoardParts, timers_of, has_messages, HV_FORMAT}
-use Rattle.save_state.proofs.Names.{no_line, line_at, apics_of, no_hv, devices_in, no_processor, processor_at, byte_at, number, byte, AreBytes, number-below}
-use Rattle.save_state.proofs.Names.{read_below-at, read_below-after, row_value-after, length-read_below, length-row_value, policy_place, timer, line, counts_of}
-use Rattle.save_state.proofs.Names.{processor, references_of, Message, message, no_message, messages_of, format_in, cpus_in, board_in}
-use Rattle.save_state.proofs.Formats.{timers_few, timers_least, apics_few, messages_few, references-none}
+use Rattle.save_state.proofs.Names.{processor, references_of, Message, message, no_message, messages_of, format_in, cpus_in, board_in, read_below-at}
+use Rattle.save_state.proofs.Names.{read_below-after, row_value-after, length-read_below, length-row_value, policy_place, timer, line, counts_of, no_line}
+use Rattle.save_state.proofs.Names.{line_at, apics_of, no_hv, devices_in, no_processor, processor_at, byte_at, number, byte, AreBytes, number-below, cond-true}
+use Rattle.save_state.proofs.Names.{no_timer, timer_at, message_bit_at, message_word_at, policy_of, BoardParts, timers_of, has_messages, HV_FORMAT, ◌≡◌, ℕ, ◌+◌}
+use Rattle.save_state.proofs.Names.{◌<◌, ◌≤◌, ◌-◌, zero, suc, false, List, [], ◌∷◌, length, map, get_or, refl, ap, sym, subst, ◌∙◌, arith, le-leb, timers_few}
+use Rattle.save_state.proofs.Names.{timers_least, apics_few, messages_few, references-none, lines_sum, rises_sum, wall_sum, processors_sum, apics_sum}
+use Rattle.save_state.proofs.Names.{references_sum, messages_sum, processor-size, layout}
 use Rattle.save_state.proofs.Processors.{IsPage, page-read}
 use Rattle.save_state.proofs.ApicLaws.{AreRead, apics-read}
 use Rattle.save_state.proofs.MessageLaws.{messages_read}
 use Rattle.save_state.proofs.ReferenceLaws.{read-none, reference-version}
 use Rattle.save_state.proofs.RoundTrip.{line-policy}
-use Rattle.save_state.proofs.Sizes.{lines_sum, rises_sum, wall_sum, processors_sum, apics_sum, references_sum, messages_sum, processor-size}
-use Rattle.save_state.proofs.AllFields.{layout}
 
 pub record IsRead (b : BoardParts) : Type 0 where
   pub three : length b.pit.counters ≡ 3

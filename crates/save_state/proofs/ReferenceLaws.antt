@@ -1,11 +1,9 @@
 -- The reference page of Hyper-V: its fields cover it, what is read is written as its bytes are, and a valid page is written and read as it was.
-use Rattle.save_state.proofs.Names.{◌≡◌, ℕ, zero, suc, ◌+◌, ◌-◌, ◌<◌, ◌≤◌, List, [], ◌∷◌, ◌++◌, get_or, replicate, None, inl, inr, refl, ap, ◌∙◌, arith}
-use Rattle.save_state.proofs.Names.{eqb-true, lt-ltb, eq-eqb, cases_lt, append-nil, BoardParts, HvParts, HV_FORMAT, IsHv, IsBoard, no_hv, write, read, or_else}
-use Rattle.save_state.proofs.Names.{fault_in, write_below, read_below, fault_below, plain, blocks, ◌⨾◌, AreBytes, AllHere, AllHold, or_else-end, number-written}
-use Rattle.save_state.proofs.Names.{byte-written, plain-here, blocks-here, number-below, drop-blank, scale_for, reference, references, references_of}
-use Rattle.save_state.proofs.Names.{ReferenceFits}
-use Rattle.save_state.proofs.Formats.{references-one, references_few}
-use Rattle.save_state.proofs.Versions.{version-is, published-is, some-or}
+use Rattle.save_state.proofs.Names.{ReferenceFits, byte-written, plain-here, blocks-here, number-below, drop-blank, scale_for, reference, references}
+use Rattle.save_state.proofs.Names.{references_of, fault_in, write_below, read_below, fault_below, plain, blocks, ◌⨾◌, AreBytes, AllHere, AllHold, or_else-end}
+use Rattle.save_state.proofs.Names.{number-written, eqb-true, lt-ltb, eq-eqb, cases_lt, append-nil, BoardParts, HvParts, HV_FORMAT, IsHv, IsBoard, no_hv, write}
+use Rattle.save_state.proofs.Names.{read, or_else, ◌≡◌, ℕ, zero, suc, ◌+◌, ◌-◌, ◌<◌, ◌≤◌, List, [], ◌∷◌, ◌++◌, get_or, replicate, None, inl, inr, refl, ap, ◌∙◌}
+use Rattle.save_state.proofs.Names.{arith, references-one, references_few, version-is, published-is, some-or}
 
 reference-here : (b : BoardParts) (k : ℕ) (p : HvParts) (bytes : List ℕ) → IsHv b.format b.guest_khz b.cpus p → ReferenceFits p → AllHere (reference k) b p bytes
 unfolding reference

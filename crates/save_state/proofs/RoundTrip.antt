@@ -1,18 +1,15 @@
 -- The round trip of a saved state: a board's bytes are read as the board and have no fault, and bytes with no fault are those of the board that they are.
-use Rattle.save_state.proofs.Names.{◌≡◌, ℕ, ◌+◌, ◌^◌, ◌<◌, ◌≤◌, ⊎_elim, Bool, cond, List, [], ◌∷◌, ◌++◌, length, map, drop, Some, None, refl, ap, sym, ◌∙◌}
-use Rattle.save_state.proofs.Names.{arith, lt-ltb, le-ltb, cases_lt, append-nil, take_all, Policy, TickParts, policy_byte, policy_of, BoardParts, timers_of}
-use Rattle.save_state.proofs.Names.{no_line, line_at, apics_of, IsBoard, devices_in, byte_at, number_bytes, Two, pairs, size_of, write, write_below, read}
-use Rattle.save_state.proofs.Names.{moved, fault_in, plain, elsewhere, ◌⨾◌, AreBytes, next, AllKeep, or_else-none, or_else-both, length-write, read-write}
-use Rattle.save_state.proofs.Names.{fault-write, rewritten, rewrite_in-keep, number_at-is, length-number, read_below-at, firsts-pairs, seconds-pairs}
-use Rattle.save_state.proofs.Names.{pairs-halves, StateFault, Trailing, Fields, apic, no_apic, message, no_message, magic, policy_place, head, line}
-use Rattle.save_state.proofs.Names.{references_of, messages_of, fields_of, format_in, cpus_in, blank, fields_in, board_in, trailing, fault_of, bytes_of}
-use Rattle.save_state.proofs.Names.{BoardFits}
-use Rattle.save_state.proofs.AllFields.{layout}
+use Rattle.save_state.proofs.Names.{BoardFits, references_of, messages_of, fields_of, format_in, cpus_in, blank, fields_in, board_in, trailing, fault_of}
+use Rattle.save_state.proofs.Names.{bytes_of, pairs-halves, StateFault, Trailing, Fields, apic, no_apic, message, no_message, magic, policy_place, head, line}
+use Rattle.save_state.proofs.Names.{fault-write, rewritten, rewrite_in-keep, number_at-is, length-number, read_below-at, firsts-pairs, seconds-pairs, moved}
+use Rattle.save_state.proofs.Names.{fault_in, plain, elsewhere, ◌⨾◌, AreBytes, next, AllKeep, or_else-none, or_else-both, length-write, read-write, no_line}
+use Rattle.save_state.proofs.Names.{line_at, apics_of, IsBoard, devices_in, byte_at, number_bytes, Two, pairs, size_of, write, write_below, read, arith, lt-ltb}
+use Rattle.save_state.proofs.Names.{le-ltb, cases_lt, append-nil, take_all, Policy, TickParts, policy_byte, policy_of, BoardParts, timers_of, ◌≡◌, ℕ, ◌+◌, ◌^◌}
+use Rattle.save_state.proofs.Names.{◌<◌, ◌≤◌, ⊎_elim, Bool, cond, List, [], ◌∷◌, ◌++◌, length, map, drop, Some, None, refl, ap, sym, ◌∙◌, layout, timers_least}
+use Rattle.save_state.proofs.Names.{processors_few, references_few, lines_sum, apics_sum, references_sum, messages_sum, line-size}
 use Rattle.save_state.proofs.ApicLaws.{apics_read}
 use Rattle.save_state.proofs.MessageLaws.{messages_read}
-use Rattle.save_state.proofs.Formats.{timers_least, processors_few, references_few}
 use Rattle.save_state.proofs.ReferenceLaws.{reference-kept}
-use Rattle.save_state.proofs.Sizes.{lines_sum, apics_sum, references_sum, messages_sum, line-size}
 use Rattle.save_state.proofs.Spelled.{fields-spelled}
 use Rattle.save_state.proofs.Here.{fields-here}
 

@@ -1,6 +1,6 @@
 -- The rows that code walks are the fields: their first fault is the same.
-use Rattle.save_state.proofs.Names.{◌≡◌, ℕ, ◌+◌, Bool, true, false, cond, ltb, List, [], ◌∷◌, length, Option, Some, None, refl, sym, ◌∙◌, BoardParts, Field}
-use Rattle.save_state.proofs.Names.{or_else, fault_in, one_fault, Row, StateFault, Short, Fields, faults_of, row_fault}
+use Rattle.save_state.proofs.Names.{or_else, fault_in, one_fault, Row, StateFault, Short, Fields, faults_of, row_fault, ◌≡◌, ℕ, ◌+◌, Bool, true, false, cond}
+use Rattle.save_state.proofs.Names.{ltb, List, [], ◌∷◌, length, Option, Some, None, refl, sym, ◌∙◌, BoardParts, Field}
 
 -- a row of a field
 pub record IsRow {P : Type 0} (f : Field StateFault BoardParts P) (b : BoardParts) (p : P) (place : ℕ) (bytes : List ℕ) (r : Row) : Type 0 where

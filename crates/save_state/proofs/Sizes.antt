@@ -1,7 +1,12 @@
 -- How many bytes a block takes, and where blocks begin.
-use Rattle.save_state.proofs.Names.{◌≡◌, ℕ, ◌+◌, ◌*◌, refl, arith, timers_of, apics_of, size_of, size_below, plain, elsewhere, size-below, counter, timer, line}
-use Rattle.save_state.proofs.Names.{tsc, page, processor, apic_timer, apic_line, apic, reference, references_of, message, counts_of, line_place, rises_place}
-use Rattle.save_state.proofs.Names.{wall_place, processor_place, apic_place, reference_place, message_place}
+use Rattle.std.proofs.Common.{◌≡◌, ℕ, ◌+◌, ◌*◌, refl, arith}
+use Rattle.board_types.specs.Setup.{timers_of}
+use Rattle.board_core.specs.Apics.{apics_of}
+use Rattle.byte_table.specs.Fold.{size_of, size_below}
+use Rattle.byte_table.specs.Kinds.{plain, elsewhere}
+use Rattle.byte_table.proofs.Loops.{size-below}
+use Rattle.save_state.specs.Fields.{counter, timer, line, tsc, page, processor, apic_timer, apic_line, apic, reference, references_of, message, counts_of}
+use Rattle.save_state.specs.private.Places.{line_place, rises_place, wall_place, processor_place, apic_place, reference_place, message_place}
 
 pub counter-size : (k : ℕ) → size_of (counter k) ≡ 14
 unfolding counter plain
@@ -54,34 +59,22 @@ abbrev pub messages_sum : ℕ → ℕ → ℕ
 messages_sum f c = references_sum f c + size_below reference 0 (references_of f)
 
 pub lines-at : (f : ℕ) → line_place f 0 ≡ lines_sum f
-lines-at f = let timers = size-below timer 18 timer-size 0 (timers_of f) in omega (arith, timers)
+lines-at f = omega (arith, size-below timer 18 timer-size 0 (timers_of f))
 
 pub rises-at : (f : ℕ) → rises_place f ≡ rises_sum f
-rises-at f =
-    let timers = size-below timer 18 timer-size 0 (timers_of f) in
-    let lines = size-below line 33 line-size 0 (timers_of f + 2) in
-    omega (arith, timers, lines)
+rises-at f = omega (arith, lines-at f, size-below line 33 line-size 0 (timers_of f + 2))
 
 pub wall-at : (f : ℕ) → wall_place f ≡ wall_sum f
-wall-at f = let rises = rises-at f in omega (arith, rises)
+wall-at f = omega (arith, rises-at f)
 
 pub processors-at : (f : ℕ) → processor_place f 0 ≡ processors_sum f
-processors-at f = let wall = wall-at f in omega (arith, wall)
+processors-at f = omega (arith, wall-at f)
 
 pub apics-at : (f c : ℕ) → apic_place f c 0 ≡ apics_sum f c
-apics-at f c =
-    let processors = size-below processor 50 processor-size 0 c in
-    let before = processors-at f in
-    omega (arith, before, processors)
+apics-at f c = omega (arith, processors-at f, size-below processor 50 processor-size 0 c)
 
 pub reference-at : (f c : ℕ) → reference_place f c ≡ references_sum f c
-reference-at f c =
-    let apics = size-below apic 55 apic-size 0 (apics_of f c) in
-    let before = apics-at f c in
-    omega (arith, before, apics)
+reference-at f c = omega (arith, apics-at f c, size-below apic 55 apic-size 0 (apics_of f c))
 
 pub messages-at : (f c : ℕ) → message_place f c 0 ≡ messages_sum f c
-messages-at f c =
-    let references = size-below reference 37 reference-size 0 (references_of f) in
-    let before = reference-at f c in
-    omega (arith, before, references)
+messages-at f c = omega (arith, reference-at f c, size-below reference 37 reference-size 0 (references_of f))

@@ -1,8 +1,7 @@
 -- Each list of fields: bytes with no fault are those that are written.
-use Rattle.save_state.proofs.Names.{ℕ, zero, suc, ◌<◌, ◌≡◌, refl, arith, no_timer, policy_byte, policy_of, no_line, no_hv, no_processor, plain, elsewhere}
-use Rattle.save_state.proofs.Names.{AllSpelled, IsCode, choice-code, AreBlocks, blocks-spelled, spells, policy, counter, no_counter, timer, line, processor}
-use Rattle.save_state.proofs.Names.{apic, no_apic, reference, message, no_message, front, devices, back, fields_of}
-use Rattle.save_state.proofs.AllFields.{lists, block_lists}
+use Rattle.save_state.proofs.Names.{apic, no_apic, reference, message, no_message, front, devices, back, fields_of, AllSpelled, IsCode, choice-code, AreBlocks}
+use Rattle.save_state.proofs.Names.{blocks-spelled, spells, policy, counter, no_counter, timer, line, processor, ℕ, zero, suc, ◌<◌, ◌≡◌, refl, arith, no_timer}
+use Rattle.save_state.proofs.Names.{policy_byte, policy_of, no_line, no_hv, no_processor, plain, elsewhere, lists, block_lists}
 
 policy-code : IsCode policy
 policy-code = choice-code 3 policy_byte policy_of three
@@ -13,67 +12,38 @@ policy-code = choice-code 3 policy_byte policy_of three
     three (suc (suc zero)) h = refl
     three (suc (suc (suc y))) h = absurd (omega arith)
 
--- the fields of each block ..
-counter-spelled : (k : ℕ) → AllSpelled (counter k)
-unfolding block_lists
-counter-spelled k = search spells
-
-timer-spelled : (k : ℕ) → AllSpelled (timer k)
-unfolding block_lists
-timer-spelled k = search spells
-
-line-spelled : (k : ℕ) → AllSpelled (line k)
-unfolding block_lists
-line-spelled k = search spells
-
-processor-spelled : (k : ℕ) → AllSpelled (processor k)
-unfolding block_lists
-processor-spelled k = search spells
-
-apic-spelled : (k : ℕ) → AllSpelled (apic k)
-unfolding block_lists
-apic-spelled k = search spells
-
-reference-spelled : (k : ℕ) → AllSpelled (reference k)
-unfolding block_lists
-reference-spelled k = search spells
-
-message-spelled : (k : ℕ) → AllSpelled (message k)
-unfolding block_lists
-message-spelled k = search spells
-
--- .. which are written as what was read
+-- the fields of each block are written as what was read
 counter-laws : AreBlocks counter no_counter
 unfolding block_lists plain
-counter-laws = record { keeps = λ k place bytes. refl; spelled = counter-spelled }
+counter-laws = record { keeps = λ k place bytes. refl; spelled = λ k. search spells }
 
 timer-laws : AreBlocks timer no_timer
 unfolding block_lists plain
-timer-laws = record { keeps = λ k place bytes. refl; spelled = timer-spelled }
+timer-laws = record { keeps = λ k place bytes. refl; spelled = λ k. search spells }
 
 line-laws : AreBlocks line no_line
 unfolding block_lists plain elsewhere
-line-laws = record { keeps = λ k place bytes. refl; spelled = line-spelled }
+line-laws = record { keeps = λ k place bytes. refl; spelled = λ k. search spells }
 
 processor-laws : AreBlocks processor no_processor
 unfolding block_lists plain
-processor-laws = record { keeps = λ k place bytes. refl; spelled = processor-spelled }
+processor-laws = record { keeps = λ k place bytes. refl; spelled = λ k. search spells }
 
 apic-laws : AreBlocks apic no_apic
 unfolding block_lists plain
-apic-laws = record { keeps = λ k place bytes. refl; spelled = apic-spelled }
+apic-laws = record { keeps = λ k place bytes. refl; spelled = λ k. search spells }
 
 reference-laws : AreBlocks reference no_hv
 unfolding block_lists plain
-reference-laws = record { keeps = λ k place bytes. refl; spelled = reference-spelled }
+reference-laws = record { keeps = λ k place bytes. refl; spelled = λ k. search spells }
 
 message-laws : AreBlocks message no_message
 unfolding block_lists plain
-message-laws = record { keeps = λ k place bytes. refl; spelled = message-spelled }
+message-laws = record { keeps = λ k place bytes. refl; spelled = λ k. search spells }
 
 ruleset laws = (spells, policy-code, blocks-spelled, counter-laws, timer-laws, line-laws, processor-laws, apic-laws, reference-laws, message-laws)
 
--- .. and those of a board
+-- the fields of a board
 pub front-spelled : AllSpelled front
 unfolding lists
 front-spelled = search laws

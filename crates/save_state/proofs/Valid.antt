@@ -1,38 +1,24 @@
 -- A board that is read, whose conditions all hold, is valid.
-use Rattle.save_state.proofs.Names.{◌≡◌, ℕ, zero, suc, ◌+◌, ◌<◌, ◌≤◌, Bool, true, false, cond, ◌&&◌, ◌||◌, leb, ltb, [], ◌∷◌, length, get_or, Some, None, ◌⊎◌}
-use Rattle.save_state.proofs.Names.{inl, inr, refl, sym, subst, ◌∙◌, arith, and_parts, or_cases, leb-true, ltb-true, ltb-false, lt-ltb, le-ltb, cases_lt}
-use Rattle.save_state.proofs.Names.{cond-true, IsKhz, line_numbers, level_of, CounterParts, IsCounter, IsPit, IsDivider, RtcParts, register_a, register_c}
-use Rattle.save_state.proofs.Names.{register_d, pf_of, af_of, uf_of, flags_byte, divider_of, IsRtc, bytes_valid, divider_valid, cycle_valid, TimerParts, Config}
-use Rattle.save_state.proofs.Names.{Comparator, Period, IsTimer, config_valid, comparator_valid, period_valid, IsTimer-no_fault, IsHpet, IsPlace, no_timer}
-use Rattle.save_state.proofs.Names.{timer_at, Policy, TickParts, IsTickLine, BoardParts, HvParts, ProcessorParts, MOST_ACCESSES, LAST_FORMAT, HV_FORMAT}
-use Rattle.save_state.proofs.Names.{SLEW_MAX_NS, timers_of, has_messages, processors_of, DeviceParts, levels, counts_rtc, no_line, line_at, IsTimerLine}
-use Rattle.save_state.proofs.Names.{AreDevices, one_if, HasTime, devices_in, now_of, no_processor, processor_at, apics_of, no_hv, IsWall, IsProcessor}
-use Rattle.save_state.proofs.Names.{AreProcessors, AreRises, IsHv, IsBoard, IsProcessor-none, IsHv-none, plain, row, blocks, AllHold, all_hold-split, EachHolds}
-use Rattle.save_state.proofs.Names.{hold-joined, hold-each, rise_valid, legacy_rises_valid, routed_rises_valid, head, host, guest, policies, front, counter}
-use Rattle.save_state.proofs.Names.{no_counter, counters, clock, registers, timer, timers, same, up_allowed, line_ticks, line_policy, line, lines, counts_of}
-use Rattle.save_state.proofs.Names.{rises, wall, processor, processors, apics, reference, references, references_of, message, no_message, message_pairs}
-use Rattle.save_state.proofs.Names.{messages, messages_of, devices, back}
-use Rattle.save_state.proofs.AllFields.{lists}
+use Rattle.save_state.proofs.Names.{messages, messages_of, devices, back, rises, wall, processor, processors, apics, reference, references, references_of}
+use Rattle.save_state.proofs.Names.{message, no_message, message_pairs, no_counter, counters, clock, registers, timer, timers, same, up_allowed, line_ticks}
+use Rattle.save_state.proofs.Names.{line_policy, line, lines, counts_of, hold-joined, hold-each, rise_valid, legacy_rises_valid, routed_rises_valid, head, host}
+use Rattle.save_state.proofs.Names.{guest, policies, front, counter, AreProcessors, AreRises, IsHv, IsBoard, IsProcessor-none, IsHv-none, plain, row, blocks}
+use Rattle.save_state.proofs.Names.{AllHold, all_hold-split, EachHolds, AreDevices, one_if, devices_in, now_of, no_processor, processor_at, apics_of}
+use Rattle.save_state.proofs.Names.{no_hv, IsWall, IsProcessor, timers_of, has_messages, DeviceParts, levels, counts_rtc, no_line}
+use Rattle.save_state.proofs.Names.{line_at, IsTimerLine, timer_at, Policy, TickParts, IsTickLine, BoardParts, HvParts, ProcessorParts}
+use Rattle.save_state.proofs.Names.{HV_FORMAT, Comparator, Period, IsTimer, config_valid, comparator_valid, period_valid, IsTimer-no_fault, IsHpet}
+use Rattle.save_state.proofs.Names.{IsPlace, no_timer, register_d, pf_of, af_of, uf_of, flags_byte, divider_of, IsRtc, bytes_valid, divider_valid, cycle_valid}
+use Rattle.save_state.proofs.Names.{TimerParts, Config, cond-true, line_numbers, level_of, CounterParts, IsCounter, IsPit, IsDivider, RtcParts}
+use Rattle.save_state.proofs.Names.{register_a, register_c, inl, inr, refl, sym, subst, ◌∙◌, arith, and_parts, or_cases, leb-true, ltb-true, ltb-false, lt-ltb}
+use Rattle.save_state.proofs.Names.{le-ltb, cases_lt, ◌≡◌, ℕ, zero, suc, ◌+◌, ◌<◌, ◌≤◌, Bool, true, false, cond, ◌&&◌, ◌||◌, leb, ltb, [], ◌∷◌, length, get_or}
+use Rattle.save_state.proofs.Names.{Some, None, ◌⊎◌, IsHead, lists, timers_least, references-one}
 use Rattle.save_state.proofs.ApicLaws.{apics-valid}
 use Rattle.save_state.proofs.Blocks.{TicksHold, ticks-hold}
-use Rattle.save_state.proofs.Formats.{timers_least, references-one}
 use Rattle.save_state.proofs.Processors.{processor-valid}
 use Rattle.save_state.proofs.Read.{IsRead}
 use Rattle.save_state.proofs.ReferenceLaws.{reference-valid}
 
 -- the fields before the 8254
-pub record IsHead (b : BoardParts) : Type 0 where
-  pub least : 1 ≤ b.format
-  pub built : b.format ≤ LAST_FORMAT
-  pub least_cpus : 1 ≤ b.cpus
-  pub most_cpus : b.cpus ≤ processors_of b.format
-  pub host : IsKhz b.anchor.khz
-  pub time : HasTime b.anchor b.host
-  pub guest : IsKhz b.guest_khz
-  pub accesses : b.accesses ≤ MOST_ACCESSES
-  pub least_slew : 1 ≤ b.slew_ns
-  pub most_slew : b.slew_ns ≤ SLEW_MAX_NS
-
 pub head-valid : (b : BoardParts) → AllHold front b b → IsHead b
 unfolding head host guest policies plain
 head-valid b h = grind arith

@@ -1,5 +1,6 @@
 -- Versions, and the fields that are 0 before the first publishing.
-use Rattle.save_state.proofs.Names.{◌≡◌, ℕ, ◌%◌, ◌<◌, Bool, true, eqb, ltb, ◌||◌, arith, version_valid, published_valid}
+use Rattle.std.proofs.Common.{◌≡◌, ℕ, ◌%◌, ◌<◌, Bool, true, eqb, ltb, ◌||◌, arith}
+use Rattle.save_state.specs.Fields.{version_valid, published_valid}
 
 -- a number, or one that is 0 where it is
 pub some-or : (n m : ℕ) → (n ≡ 0 → m ≡ 0) → (ltb 0 n || eqb m 0) ≡ true

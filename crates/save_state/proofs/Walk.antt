@@ -1,6 +1,6 @@
 -- The rows of a block, one after the other.
-use Rattle.save_state.proofs.Names.{◌≡◌, ℕ, ◌+◌, ◌<◌, ◌≤◌, Bool, true, false, cond, List, ◌∷◌, length, drop, get_or, None, Some, ap, ◌∙◌, lt-ltb, le-ltb}
-use Rattle.save_state.proofs.Names.{drop_more, drop_all, Row, Short, row_fault}
+use Rattle.save_state.proofs.Names.{drop_more, drop_all, Row, Short, row_fault, ◌≡◌, ℕ, ◌+◌, ◌<◌, ◌≤◌, Bool, true, false, cond, List, ◌∷◌, length, drop, get_or}
+use Rattle.save_state.proofs.Names.{None, Some, ap, ◌∙◌, lt-ltb, le-ltb}
 
 -- the rest of the rows begins with the row at a place
 pub rest-is : (bytes : List ℕ) (at i : ℕ) (rows : List Row) (d : Row) → i < length rows

@@ -1,13 +1,11 @@
 //! The board of bytes, or the first field at fault.
-ghost use Rattle.std.specs.Prelude.{◌≡◌, ◌≤◌, None, Some, IfErr, IfOk, OnOk};
+ghost use Rattle.std.specs.Prelude.{◌≡◌, None, Some, IfErr, IfOk, OnOk};
 ghost use Rattle.board_devices.specs.Parts.{AreDevices};
-ghost use Rattle.board_types.specs.declared.parts.TheConstants.{MOST_ACCESSES};
-ghost use Rattle.board_core.specs.Time.{devices_in, HasTime};
-ghost use Rattle.clk_units.specs.Ranges.{IsKhz};
+ghost use Rattle.board_core.specs.Time.{devices_in};
 ghost use Rattle.save_state.specs.Reading.{board_in};
 ghost use Rattle.save_state.specs.Table.{fault_of};
 ghost use Rattle.save_state.specs.Writing.{bytes_of};
-ghost use Rattle.save_state.specs.private.Parts.{devices_fault, rest_fault};
+ghost use Rattle.save_state.specs.private.Parts.{IsHead, devices_fault, rest_fault};
 
 use crate::apics::apics_fault;
 use crate::fault::StateFault;
@@ -51,9 +49,7 @@ pub fn decode(bytes: &[u8]) -> Result<BoardState, StateFault>
 /// The first fault of the devices and of their tick lines.
 #[tactic(auto, unfolding(crate::specs::private::Parts::devices_fault))]
 fn devices_fault(bytes: &[u8], b: &BoardParts) -> Option<StateFault>
-    requires rate { IsKhz b.now.anchor.khz }
-    requires time { HasTime b.now.anchor b.now.host }
-    requires accesses { b.now.accesses ≤ MOST_ACCESSES }
+    requires { IsHead b.now }
     ensures { result ≡ devices_fault b.now bytes.now }
 {
     if let Some(fault) = counters_fault(bytes, b) {
@@ -74,11 +70,7 @@ fn devices_fault(bytes: &[u8], b: &BoardParts) -> Option<StateFault>
 /// The first fault of what follows the tick lines.
 #[tactic(auto, unfolding(crate::specs::private::Parts::rest_fault))]
 fn rest_fault(bytes: &[u8], b: &BoardParts) -> Option<StateFault>
-    requires few { b.now.cpus ≤ 64 }
-    requires rate { IsKhz b.now.anchor.khz }
-    requires time { HasTime b.now.anchor b.now.host }
-    requires guest { IsKhz b.now.guest_khz }
-    requires accesses { b.now.accesses ≤ MOST_ACCESSES }
+    requires head { IsHead b.now }
     requires devices { AreDevices (devices_in b.now) }
     ensures { result ≡ rest_fault b.now bytes.now }
 {

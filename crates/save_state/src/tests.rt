@@ -1,18 +1,14 @@
 //! Bytes of boards, worked out by hand from the table, and the fault of bytes that are none.
 ghost use Rattle.std.specs.Prelude.{◌≤◌};
 ghost use Rattle.board_types.specs.declared.setup.TheConstants.{LAST_FORMAT};
-ghost use Rattle.board_types.specs.Setup.{IsSetup};
 
 mod odd_writes;
 
 use super::*;
 use board_core::{BoardState, Setup};
-use host_counter::Anchor;
-use rtc_calendar::TimeBytes;
 use std::alloc::Global;
 use std::process::Abort;
 use std::test::Fail;
-use tick_policy::Policy;
 
 /// The bytes before the 8254: of hosts and guests of 1 GHz, one processor and 1 ms between catch-up points.
 const FRONT: [u8; 79] = [
@@ -26,31 +22,7 @@ fn board(format: u8) -> BoardState
     requires low { 1 ≤ format }
     requires high { format ≤ LAST_FORMAT }
 {
-    BoardState::power_on(&Setup {
-        format,
-        anchor: Anchor {
-            khz: 1_000_000,
-            start: 0,
-            base_ns: 0,
-        },
-        guest_khz: 1_000_000,
-        cpus: 1,
-        pit: Policy::Delay,
-        rtc: Policy::Delay,
-        hpet: Policy::Delay,
-        slew_ns: 1_000_000,
-        wall_sec: 0,
-        wall_nsec: 0,
-        time: TimeBytes {
-            sec: 0,
-            min: 0,
-            hour: 0,
-            wday: 1,
-            date: 1,
-            month: 1,
-            year: 0,
-        },
-    })
+    BoardState::power_on(&Setup::by_default(format))
 }
 
 #[test]

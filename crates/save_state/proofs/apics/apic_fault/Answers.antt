@@ -1,6 +1,5 @@
 use Rattle.save_state.proofs.Names.{get_or, ap, rules, fault_in, pairs-at, Apic, apic, apic_place}
-use Rattle.local_apics.specs.Places.{no_timer}
-use Rattle.local_apics.specs.Places.{no_line}
+use Rattle.local_apics.specs.Places.{no_timer, no_line}
 use Rattle.save_state.proofs.BlockRows.{apic-rows}
 use Rattle.save_state.proofs.apics.apic_fault.Goals as goal
 

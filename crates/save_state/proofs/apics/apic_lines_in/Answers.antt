@@ -1,7 +1,6 @@
 use Rattle.save_state.proofs.Names.{ℕ, ap, ◌∙◌, arith, apics_of, read, filled-none, filled-more, part-filled, Apic, apic, no_apic, apic_place}
+use Rattle.save_state.proofs.Names.{apics_few, apic-size}
 use Rattle.local_apics.specs.Places.{no_line}
-use Rattle.save_state.proofs.Formats.{apics_few}
-use Rattle.save_state.proofs.Sizes.{apic-size}
 use Rattle.save_state.proofs.apics.apic_lines_in.Goals as goal
 
 pub loop-k-init : goal.loop-k-init

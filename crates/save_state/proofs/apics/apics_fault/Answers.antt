@@ -1,5 +1,5 @@
 use Rattle.save_state.proofs.Names.{arith, apics_of, blocks, faults-begin, faults-some, faults-none, faults-end, apic, no_apic, apic_pairs, apics, apic_place}
-use Rattle.save_state.proofs.Sizes.{apic-size}
+use Rattle.save_state.proofs.Names.{apic-size}
 use Rattle.save_state.proofs.apics.apics_fault.Goals as goal
 
 pub loop-k-init : goal.loop-k-init

@@ -1,6 +1,5 @@
 use Rattle.save_state.proofs.Names.{◌++◌, sym, subst, ap, ◌∙◌, rules, write, written-none, written-one, pairs-at, Apic, apic, no_apic, apic_pairs, ApicFits}
-use Rattle.local_apics.specs.Places.{no_timer}
-use Rattle.local_apics.specs.Places.{no_line}
+use Rattle.local_apics.specs.Places.{no_timer, no_line}
 use Rattle.save_state.proofs.apics.put_apics.Goals as goal
 
 pub loop-k-init : goal.loop-k-init

@@ -1,6 +1,5 @@
-use Rattle.save_state.proofs.Names.{◌≡◌, ℕ, ◌<◌, List, get_or, Option, None, refl, ap, sym, ◌∙◌, arith, false≢true, BoardParts, or_else, fault_in, StateFault}
-use Rattle.save_state.proofs.Names.{front, board_in, fault_of, bytes_of, rest_fault}
-use Rattle.save_state.proofs.Formats.{processors_few}
+use Rattle.save_state.proofs.Names.{front, board_in, fault_of, bytes_of, rest_fault, ◌≡◌, ℕ, ◌<◌, ◌≤◌, List, get_or, Option, None, refl, ap, sym, ◌∙◌, arith}
+use Rattle.save_state.proofs.Names.{false≢true, BoardParts, or_else, fault_in, StateFault, LAST_FORMAT, format_in, cpus_in}
 use Rattle.save_state.proofs.RoundTrip.{bytes_of-board_in}
 use Rattle.save_state.proofs.Parts.{IsRight, board-format, fault-head, right-head, after-head, after-devices, right-devices, right-board}
 use Rattle.save_state.proofs.decoding.decode.Goals as goal
@@ -13,35 +12,25 @@ right : (bytes : List ℕ) (b : BoardParts) → ((k : ℕ) → get_or bytes k 0 
     → b ≡ board_in bytes → IsRight bytes b
 right bytes b small none read = record { small = small; none = sym none; read = read }
 
+-- so the format and the number of processors are in range
+ranges : (bytes : List ℕ) → IsRight bytes (board_in bytes) → (format_in bytes ≤ LAST_FORMAT) × (cpus_in bytes ≤ 64)
+ranges bytes is =
+    let head = right-head bytes (board_in bytes) is in (omega (arith, head.built, (board-format bytes).0), omega (arith, head.few, (board-format bytes).1))
+
 pub overflow_cast-format : goal.overflow_cast-format
 overflow_cast-format c =
-    let bytes = c.args.bytes.now in
-    let head = right-head bytes (board_in bytes) (right bytes (board_in bytes) (λ k. omega (arith, c.type_inv.bytes k)) c.in_default.ensures refl) in
-    omega (arith, head.built, (board-format bytes).0, c.two_at-format.ensures)
+    let few = ranges _ (right _ _ (λ k. omega (arith, c.type_inv.bytes k)) c.in_default.ensures refl) in omega (arith, few.0, c.two_at-format.ensures)
 
 pub overflow_cast-cpus : goal.overflow_cast-cpus
 overflow_cast-cpus c =
-    let bytes = c.args.bytes.now in
-    let head = right-head bytes (board_in bytes) (right bytes (board_in bytes) (λ k. omega (arith, c.type_inv.bytes k)) c.in_default.ensures refl) in
-    omega (arith, head.most_cpus, processors_few (board_in bytes).format, (board-format bytes).1, c.two_at-cpus.ensures)
+    let few = ranges _ (right _ _ (λ k. omega (arith, c.type_inv.bytes k)) c.in_default.ensures refl) in omega (arith, few.1, c.two_at-cpus.ensures)
 
 pub board_in-parts-requires-clause-few : goal.board_in-parts-requires-clause-few
 board_in-parts-requires-clause-few c =
-    let bytes = c.args.bytes.now in
-    let head = right-head bytes (board_in bytes) (right bytes (board_in bytes) (λ k. omega (arith, c.type_inv.bytes k)) c.in_default.ensures refl) in
-    omega (arith, head.most_cpus, processors_few (board_in bytes).format, (board-format bytes).1, c.two_at-cpus.ensures)
+    let few = ranges _ (right _ _ (λ k. omega (arith, c.type_inv.bytes k)) c.in_default.ensures refl) in omega (arith, few.1, c.two_at-cpus.ensures)
 
-pub devices_fault-requires-clause-rate : goal.devices_fault-requires-clause-rate
-devices_fault-requires-clause-rate c =
-    (right-head _ _ (right _ _ (λ k. omega (arith, c.type_inv.bytes k)) c.in_default.ensures c.board_in-parts.ensures)).host
-
-pub devices_fault-requires-clause-time : goal.devices_fault-requires-clause-time
-devices_fault-requires-clause-time c =
-    (right-head _ _ (right _ _ (λ k. omega (arith, c.type_inv.bytes k)) c.in_default.ensures c.board_in-parts.ensures)).time
-
-pub devices_fault-requires-clause-accesses : goal.devices_fault-requires-clause-accesses
-devices_fault-requires-clause-accesses c =
-    (right-head _ _ (right _ _ (λ k. omega (arith, c.type_inv.bytes k)) c.in_default.ensures c.board_in-parts.ensures)).accesses
+pub devices_fault-requires : goal.devices_fault-requires
+devices_fault-requires c = right-head _ _ (right _ _ (λ k. omega (arith, c.type_inv.bytes k)) c.in_default.ensures c.board_in-parts.ensures)
 
 pub returns-in-Some-devices_fault-clause-refused : goal.returns-in-Some-devices_fault-clause-refused
 returns-in-Some-devices_fault-clause-refused c =
@@ -50,27 +39,8 @@ returns-in-Some-devices_fault-clause-refused c =
     after-head bytes b (right bytes b (λ k. omega (arith, c.type_inv.bytes k)) c.in_default.ensures c.board_in-parts.ensures)
     ∙ ap (λ (o : Option StateFault). or_else o (rest_fault b bytes)) (sym c.in-Some-devices_fault.ensures)
 
-pub rest_fault-requires-clause-few : goal.rest_fault-requires-clause-few
-rest_fault-requires-clause-few c =
-    let b : BoardParts = c.board_in-parts.result in
-    let head = right-head _ b (right _ _ (λ k. omega (arith, c.type_inv.bytes k)) c.in_default.ensures c.board_in-parts.ensures) in
-    omega (arith, head.most_cpus, processors_few b.format)
-
-pub rest_fault-requires-clause-rate : goal.rest_fault-requires-clause-rate
-rest_fault-requires-clause-rate c =
-    (right-head _ _ (right _ _ (λ k. omega (arith, c.type_inv.bytes k)) c.in_default.ensures c.board_in-parts.ensures)).host
-
-pub rest_fault-requires-clause-time : goal.rest_fault-requires-clause-time
-rest_fault-requires-clause-time c =
-    (right-head _ _ (right _ _ (λ k. omega (arith, c.type_inv.bytes k)) c.in_default.ensures c.board_in-parts.ensures)).time
-
-pub rest_fault-requires-clause-guest : goal.rest_fault-requires-clause-guest
-rest_fault-requires-clause-guest c =
-    (right-head _ _ (right _ _ (λ k. omega (arith, c.type_inv.bytes k)) c.in_default.ensures c.board_in-parts.ensures)).guest
-
-pub rest_fault-requires-clause-accesses : goal.rest_fault-requires-clause-accesses
-rest_fault-requires-clause-accesses c =
-    (right-head _ _ (right _ _ (λ k. omega (arith, c.type_inv.bytes k)) c.in_default.ensures c.board_in-parts.ensures)).accesses
+pub rest_fault-requires-clause-head : goal.rest_fault-requires-clause-head
+rest_fault-requires-clause-head c = right-head _ _ (right _ _ (λ k. omega (arith, c.type_inv.bytes k)) c.in_default.ensures c.board_in-parts.ensures)
 
 pub rest_fault-requires-clause-devices : goal.rest_fault-requires-clause-devices
 rest_fault-requires-clause-devices c =

@@ -1,5 +1,5 @@
-use Rattle.save_state.proofs.Names.{◌++◌, on_ok_weaker, apics_of, written-then, rises, counts_of, wall, processors, apics, references, references_of, messages}
-use Rattle.save_state.proofs.Names.{messages_of}
+use Rattle.save_state.proofs.Names.{messages_of, ◌++◌, on_ok_weaker, apics_of, written-then, rises, counts_of, wall, processors, apics, references}
+use Rattle.save_state.proofs.Names.{references_of, messages}
 use Rattle.save_state.proofs.encoding.put_back.Goals as goal
 
 pub returns-clause-bytes : goal.returns-clause-bytes

@@ -1,5 +1,5 @@
-use Rattle.save_state.proofs.Names.{◌≡◌, ℕ, List, [], ◌∷◌, ◌++◌, ap, sym, ◌∙◌, rules, append_assoc, append-nil, on_ok_weaker, number_bytes, flag_byte}
-use Rattle.save_state.proofs.Names.{row_bytes, byte, plain, row, row_bytes-byte, clock}
+use Rattle.save_state.proofs.Names.{row_bytes, byte, plain, row, row_bytes-byte, clock, ◌≡◌, ℕ, List, [], ◌∷◌, ◌++◌, ap, sym, ◌∙◌, rules, append_assoc}
+use Rattle.save_state.proofs.Names.{append-nil, on_ok_weaker, number_bytes, flag_byte}
 use Rattle.save_state.proofs.encoding.put_clock.Goals as goal
 
 joined : (old first xs second third : List ℕ) → old ++ first ++ xs ++ second ++ third ≡ old ++ (first ++ (xs ++ (second ++ (third ++ []))))

@@ -1,5 +1,5 @@
-use Rattle.save_state.proofs.Names.{◌≡◌, ℕ, List, ◌++◌, get_or, ap, sym, ◌∙◌, rules, arith, append-nil, append_assoc, number, number_bytes, row_bytes, row}
-use Rattle.save_state.proofs.Names.{row-more, rises, counts_of}
+use Rattle.save_state.proofs.Names.{row-more, rises, counts_of, ◌≡◌, ℕ, List, ◌++◌, get_or, ap, sym, ◌∙◌, rules, arith, append-nil, append_assoc, number}
+use Rattle.save_state.proofs.Names.{number_bytes, row_bytes, row}
 use Rattle.save_state.proofs.encoding.put_rises.Goals as goal
 
 pub loop-k-init : goal.loop-k-init

@@ -1,5 +1,5 @@
-use Rattle.save_state.proofs.Names.{◌≡◌, ℕ, ◌+◌, ◌*◌, ◌&&◌, ◌||◌, leb, [], ◌∷◌, get_or, ap, ◌∙◌, CounterParts, bits_valid, flags_valid, cr_valid, ce_valid}
-use Rattle.save_state.proofs.Names.{part_valid, read_order_valid, latched_count_valid, latched_status_valid, no_counter, field, row_fault}
+use Rattle.save_state.proofs.Names.{part_valid, read_order_valid, latched_count_valid, latched_status_valid, no_counter, field, row_fault, ◌≡◌, ℕ, ◌+◌, ◌*◌}
+use Rattle.save_state.proofs.Names.{◌&&◌, ◌||◌, leb, [], ◌∷◌, get_or, ap, ◌∙◌, CounterParts, bits_valid, flags_valid, cr_valid, ce_valid}
 use Rattle.save_state.proofs.BlockRows.{counter-rows}
 use Rattle.save_state.proofs.faults.counter_fault.Goals as goal
 

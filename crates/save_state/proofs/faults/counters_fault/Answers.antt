@@ -1,5 +1,4 @@
-use Rattle.save_state.proofs.Names.{refl, arith, blocks, faults-begin, faults-some, faults-none, faults-end, counter, no_counter, counters}
-use Rattle.save_state.proofs.Sizes.{counter-size}
+use Rattle.save_state.proofs.Names.{refl, arith, blocks, faults-begin, faults-some, faults-none, faults-end, counter, no_counter, counters, counter-size}
 use Rattle.save_state.proofs.faults.counters_fault.Goals as goal
 
 pub loop-k-init : goal.loop-k-init

@@ -1,5 +1,4 @@
-use Rattle.save_state.proofs.Names.{refl, arith, no_timer, timers_of, blocks, faults-begin, faults-some, faults-none, faults-end, timer, timers}
-use Rattle.save_state.proofs.Sizes.{timer-size}
+use Rattle.save_state.proofs.Names.{refl, arith, no_timer, timers_of, blocks, faults-begin, faults-some, faults-none, faults-end, timer, timers, timer-size}
 use Rattle.save_state.proofs.faults.timers_fault.Goals as goal
 
 pub loop-k-init : goal.loop-k-init

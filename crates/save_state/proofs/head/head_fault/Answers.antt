@@ -1,7 +1,6 @@
-use Rattle.save_state.proofs.Names.{board_in}
+use Rattle.save_state.proofs.Names.{board_in, layout}
 use Rattle.save_state.proofs.BlockRows.{head-rows}
 use Rattle.save_state.proofs.head.head_fault.Goals as goal
-use Rattle.save_state.proofs.AllFields.{layout}
 
 pub returns : goal.returns
 unfolding layout

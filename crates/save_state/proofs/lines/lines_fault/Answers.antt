@@ -1,5 +1,5 @@
 use Rattle.save_state.proofs.Names.{◌+◌, arith, timers_of, no_line, blocks, faults-begin, faults-some, faults-none, faults-end, line, lines, line_place}
-use Rattle.save_state.proofs.Sizes.{line-size}
+use Rattle.save_state.proofs.Names.{line-size}
 use Rattle.save_state.proofs.lines.lines_fault.Goals as goal
 
 pub loop-k-init : goal.loop-k-init

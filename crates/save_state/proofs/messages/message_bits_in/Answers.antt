@@ -1,7 +1,5 @@
-use Rattle.save_state.proofs.Names.{ℕ, false, ap, ◌∙◌, arith, flag_at, plain, filled-none, filled-more, part-filled, Message, message, messages_of, no_message}
-use Rattle.save_state.proofs.Names.{message_place}
-use Rattle.save_state.proofs.Formats.{messages_few}
-use Rattle.save_state.proofs.Sizes.{message-size}
+use Rattle.save_state.proofs.Names.{message_place, ℕ, false, ap, ◌∙◌, arith, flag_at, plain, filled-none, filled-more, part-filled, Message, message}
+use Rattle.save_state.proofs.Names.{messages_of, no_message, messages_few, message-size}
 use Rattle.save_state.proofs.messages.message_bits_in.Goals as goal
 
 pub loop-k-init : goal.loop-k-init

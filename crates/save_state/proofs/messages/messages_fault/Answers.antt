@@ -1,6 +1,5 @@
-use Rattle.save_state.proofs.Names.{arith, blocks, faults-begin, faults-some, faults-none, faults-end, message, no_message, message_pairs, messages}
-use Rattle.save_state.proofs.Names.{messages_of, message_place}
-use Rattle.save_state.proofs.Sizes.{message-size}
+use Rattle.save_state.proofs.Names.{messages_of, message_place, arith, blocks, faults-begin, faults-some, faults-none, faults-end, message, no_message}
+use Rattle.save_state.proofs.Names.{message_pairs, messages, message-size}
 use Rattle.save_state.proofs.messages.messages_fault.Goals as goal
 
 pub loop-k-init : goal.loop-k-init

@@ -1,10 +1,7 @@
-use Rattle.save_state.proofs.Names.{◌≡◌, ℕ, ◌<◌, ◌≤◌, List, get_or, ap, sym, subst, ◌∙◌, HV_FORMAT, no_hv, read, line, reference, references_of, format_in}
-use Rattle.save_state.proofs.Names.{cpus_in, board_in, reference_place}
-use Rattle.save_state.proofs.Formats.{references-none, references-one}
+use Rattle.save_state.proofs.Names.{cpus_in, board_in, reference_place, ◌≡◌, ℕ, ◌<◌, ◌≤◌, List, get_or, ap, sym, subst, ◌∙◌, HV_FORMAT, no_hv, read, line}
+use Rattle.save_state.proofs.Names.{reference, references_of, format_in, references-none, references-one, reference-at, layout}
 use Rattle.save_state.proofs.ReferenceLaws.{reference_read, read-one, read-none}
-use Rattle.save_state.proofs.Sizes.{reference-at}
 use Rattle.save_state.proofs.reference.hv_in.Goals as goal
-use Rattle.save_state.proofs.AllFields.{layout}
 
 -- the page of the board, by its place
 board-hv : (bytes : List ℕ)

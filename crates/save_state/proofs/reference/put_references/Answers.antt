@@ -1,5 +1,4 @@
-use Rattle.save_state.proofs.Names.{ℕ, List, ◌++◌, ap, sym, ◌∙◌, append-nil, on_ok_weaker, references_of}
-use Rattle.save_state.proofs.Formats.{references-none, references-one}
+use Rattle.save_state.proofs.Names.{ℕ, List, ◌++◌, ap, sym, ◌∙◌, append-nil, on_ok_weaker, references_of, references-none, references-one}
 use Rattle.save_state.proofs.ReferenceLaws.{written-one, written-none}
 use Rattle.save_state.proofs.reference.put_references.Goals as goal
 

@@ -1,5 +1,4 @@
-use Rattle.save_state.proofs.Names.{sym, ◌∙◌, references_of, reference_place}
-use Rattle.save_state.proofs.Formats.{references-none, references-one}
+use Rattle.save_state.proofs.Names.{sym, ◌∙◌, references_of, reference_place, references-none, references-one}
 use Rattle.save_state.proofs.ReferenceLaws.{fault-one, fault-none}
 use Rattle.save_state.proofs.reference.references_fault.Goals as goal
 

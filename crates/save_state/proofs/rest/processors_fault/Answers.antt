@@ -1,5 +1,5 @@
 use Rattle.save_state.proofs.Names.{arith, no_processor, blocks, faults-begin, faults-some, faults-none, faults-end, processor, processors, processor_place}
-use Rattle.save_state.proofs.Sizes.{processor-size}
+use Rattle.save_state.proofs.Names.{processor-size}
 use Rattle.save_state.proofs.rest.processors_fault.Goals as goal
 
 pub loop-k-init : goal.loop-k-init

@@ -1,10 +1,8 @@
-use Rattle.save_state.proofs.Names.{◌≡◌, ℕ, List, ◌+◌, ◌-◌, [], ◌∷◌, ◌++◌, map, replicate, ap, ◌∙◌, arith, ApicParts, TickParts, timers_of, no_line, apics_of}
-use Rattle.save_state.proofs.Names.{no_processor, number, number_at, row_value, read_below, line, Apic, processor, counts_of, format_in, cpus_in, line_place}
-use Rattle.save_state.proofs.Names.{rises_place, wall_place, processor_place, apic_place}
+use Rattle.save_state.proofs.Names.{rises_place, wall_place, processor_place, apic_place, no_processor, number, number_at, row_value, read_below, line, Apic}
+use Rattle.save_state.proofs.Names.{processor, counts_of, format_in, cpus_in, line_place, ◌≡◌, ℕ, List, ◌+◌, ◌-◌, [], ◌∷◌, ◌++◌, map, replicate, ap, ◌∙◌, arith}
+use Rattle.save_state.proofs.Names.{ApicParts, TickParts, timers_of, no_line, apics_of, wall_sum, lines-at, rises-at, wall-at, processors-at, apics-at, layout}
 use Rattle.save_state.proofs.ApicLaws.{apics_read}
-use Rattle.save_state.proofs.Sizes.{wall_sum, lines-at, rises-at, wall-at, processors-at, apics-at}
 use Rattle.save_state.proofs.whole.board_in.Goals as goal
-use Rattle.save_state.proofs.AllFields.{layout}
 
 abbrev firsts : List Apic → List ApicParts
 firsts xs = map (λ (a : Apic). a.first) xs

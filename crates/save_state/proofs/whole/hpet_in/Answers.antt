@@ -1,9 +1,7 @@
-use Rattle.save_state.proofs.Names.{ℕ, ◌-◌, Bool, List, ◌++◌, map, replicate, ap, ◌∙◌, no_timer, timers_of, has_messages, read_below, timer, line, Message}
-use Rattle.save_state.proofs.Names.{messages_of, format_in, cpus_in, message_place}
+use Rattle.save_state.proofs.Names.{messages_of, format_in, cpus_in, message_place, ℕ, ◌-◌, Bool, List, ◌++◌, map, replicate, ap, ◌∙◌, no_timer, timers_of}
+use Rattle.save_state.proofs.Names.{has_messages, read_below, timer, line, Message, messages-at, layout}
 use Rattle.save_state.proofs.MessageLaws.{messages_read}
-use Rattle.save_state.proofs.Sizes.{messages-at}
 use Rattle.save_state.proofs.whole.hpet_in.Goals as goal
-use Rattle.save_state.proofs.AllFields.{layout}
 
 abbrev bits : List Message → List Bool
 bits ms = map (λ (m : Message). m.first) ms

@@ -1,6 +1,5 @@
-use Rattle.save_state.proofs.Names.{ℕ, ◌+◌, ap, ◌∙◌, arith, no_line, timers_of, read, filled-none, filled-more, read-filled, line, line_place}
-use Rattle.save_state.proofs.Formats.{timers_few}
-use Rattle.save_state.proofs.Sizes.{line-size}
+use Rattle.save_state.proofs.Names.{ℕ, ◌+◌, ap, ◌∙◌, arith, no_line, timers_of, read, filled-none, filled-more, read-filled, line, line_place, timers_few}
+use Rattle.save_state.proofs.Names.{line-size}
 use Rattle.save_state.proofs.whole.lines_in.Goals as goal
 
 pub loop-k-init : goal.loop-k-init

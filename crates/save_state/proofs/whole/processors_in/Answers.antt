@@ -1,6 +1,5 @@
-use Rattle.save_state.proofs.Names.{ℕ, ap, ◌∙◌, arith, no_processor, read, filled-none, filled-more, read-filled, processor, processor_place}
-use Rattle.save_state.proofs.Formats.{timers_few}
-use Rattle.save_state.proofs.Sizes.{processor-size}
+use Rattle.save_state.proofs.Names.{ℕ, ap, ◌∙◌, arith, no_processor, read, filled-none, filled-more, read-filled, processor, processor_place, timers_few}
+use Rattle.save_state.proofs.Names.{processor-size}
 use Rattle.save_state.proofs.whole.processors_in.Goals as goal
 
 pub loop-k-init : goal.loop-k-init

@@ -1,5 +1,4 @@
-use Rattle.save_state.proofs.Names.{ℕ, ap, ◌∙◌, arith, number, counts_of, rises_place, number_at, filled-none, filled-more, row-filled}
-use Rattle.save_state.proofs.Formats.{counts_few}
+use Rattle.save_state.proofs.Names.{ℕ, ap, ◌∙◌, arith, number, counts_of, rises_place, number_at, filled-none, filled-more, row-filled, counts_few}
 use Rattle.save_state.proofs.whole.rises_in.Goals as goal
 
 pub loop-k-init : goal.loop-k-init

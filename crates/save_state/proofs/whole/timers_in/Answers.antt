@@ -1,6 +1,4 @@
-use Rattle.save_state.proofs.Names.{arith, no_timer, timers_of, filled-none, filled-more, read-filled, timer}
-use Rattle.save_state.proofs.Formats.{timers_few}
-use Rattle.save_state.proofs.Sizes.{timer-size}
+use Rattle.save_state.proofs.Names.{arith, no_timer, timers_of, filled-none, filled-more, read-filled, timer, timers_few, timer-size}
 use Rattle.save_state.proofs.whole.timers_in.Goals as goal
 
 pub loop-k-init : goal.loop-k-init
