@@ -1,4 +1,4 @@
-//! A line byte by byte: the number that stands at a place, and whether a word stands there.
+//! A line byte by byte: the number at a place, and whether a word is there.
 ghost use Rattle.std.specs.Prelude.{
   ◌≡◌,
   ◌≢◌,
@@ -70,7 +70,7 @@ impl Number {
     }
 }
 
-/// A number that stands in a line, and where it ends.
+/// A number in a line, and where it ends.
 #[derive(Clone, Copy)]
 pub(crate) struct Spelling {
     pub(crate) value: u64,
@@ -144,8 +144,8 @@ fn pushed(n: u64, base: u8, digit: u8) -> Option<u64>
         .checked_add(u64::from(digit))
 }
 
-/// The number in a base that stands at a place of a line, up to the next space or the line's end. It stands apart from
-/// where it is called: most words are read by the functions below.
+/// The number in a base at a place of a line, up to the next space or the line's end. It is apart from where it is
+/// called: most words are read by the functions below.
 #[inline(never)]
 pub(crate) fn spelling_at(line: &[u8], at: usize, base: u8) -> Option<Spelling>
     requires least { 2 ≤ base }
@@ -177,7 +177,7 @@ pub(crate) fn spelling_at(line: &[u8], at: usize, base: u8) -> Option<Spelling>
     })
 }
 
-/// The number in a base that stands at a place of a line, if it has at most 16 digits, where those before `from` were
+/// The number in a base at a place of a line, if it has at most 16 digits, where those before `from` were
 /// read, and spelled `read`; None for any other word.
 #[inline(always)]
 fn short_spelling(line: &[u8], at: usize, from: usize, base: u8, read: u64) -> Option<Spelling>
@@ -287,7 +287,7 @@ fn eights_at(line: &[u8], at: usize, n: u64) -> Spelling
     }
 }
 
-/// The number of 8 to 16 digits that is at a place of a line, of which the first eight spell `n`.
+/// The number of 8 to 16 digits at a place of a line, of which the first eight spell `n`.
 #[inline(always)]
 fn long_decimal_at(line: &[u8], at: usize, n: u64) -> Option<Spelling>
     requires within { at + 8 ≤ length line.now }
@@ -309,7 +309,7 @@ fn long_decimal_at(line: &[u8], at: usize, n: u64) -> Option<Spelling>
     Some(spelling)
 }
 
-/// The number that is at a place of a line, if it is decimal, begins with another digit than zero, and has at most 16
+/// The number at a place of a line, if it is decimal, begins with another digit than zero, and has at most 16
 /// digits. One that is long is likely to have eight or more.
 #[inline(always)]
 pub(crate) fn decimal_at(line: &[u8], at: usize, is_long: bool) -> Option<Spelling>
@@ -336,7 +336,7 @@ pub(crate) fn decimal_at(line: &[u8], at: usize, is_long: bool) -> Option<Spelli
     Some(spelling)
 }
 
-/// The number that stands at a place of a line, if it has 1 to 16 hexadecimal digits.
+/// The number at a place of a line, if it has 1 to 16 hexadecimal digits.
 #[inline(always)]
 pub(crate) fn hexadecimal_at(line: &[u8], at: usize) -> Option<Spelling>
     ensures { IfSome result (λ s. (at < s.end) × (s.end ≤ length line.now) × (s.end ≤ at + 16)
@@ -365,7 +365,7 @@ fn ends_at(line: &[u8], at: usize) -> bool
     at >= line.len() || line[at] == b' '
 }
 
-/// The decimal digit that stands at a place of a line, if the line ends behind it, or a space stands there.
+/// The decimal digit at a place of a line, if a space or the line's end follows.
 #[inline(always)]
 pub(crate) fn one_digit_at(line: &[u8], at: usize) -> Option<u8>
     requires { at ≤ length line.now + 1 }
@@ -383,8 +383,7 @@ pub(crate) fn one_digit_at(line: &[u8], at: usize) -> Option<u8>
     if digit < 10 { Some(digit) } else { None }
 }
 
-/// The byte of the two hexadecimal digits that stand at a place of a line, if the line ends behind them, or a space
-/// stands there.
+/// The byte of the two hexadecimal digits at a place of a line, if a space or the line's end follows.
 #[inline(always)]
 pub(crate) fn two_digits_at(line: &[u8], at: usize) -> Option<u8>
     requires { at ≤ length line.now + 1 }
@@ -410,7 +409,7 @@ pub(crate) fn two_digits_at(line: &[u8], at: usize) -> Option<u8>
     }
 }
 
-/// Whether a word that stands from a place on has bytes, and the first is a zero.
+/// Whether the word from a place on has bytes, and the first is a zero.
 #[inline(always)]
 pub(crate) fn is_zero(line: &[u8], at: usize, end: usize) -> bool
     requires { end ≤ length line.now }
@@ -419,7 +418,7 @@ pub(crate) fn is_zero(line: &[u8], at: usize, end: usize) -> bool
     at < end && line[at] == b'0'
 }
 
-/// Where the words behind this word begin, if it stands at a place of a line, up to the next space or the line's end.
+/// Where the words after this word begin, if it is at a place of a line, up to the next space or the line's end.
 #[inline(always)]
 pub(crate) fn end_of_word(line: &[u8], at: usize, name: &[u8]) -> Option<usize>
     requires { at ≤ length line.now + 1 }

@@ -106,7 +106,7 @@ impl Begin {
     }
 }
 
-/// What is known behind the first line.
+/// What is known after the first line.
 pub(crate) fn first_line(words: &mut Words<'_>) -> Result<Head, Reason>
     ensures head { result ≡ first_line words.old }
     ensures valid { IfOk result IsHead }
@@ -121,7 +121,7 @@ pub(crate) fn first_line(words: &mut Words<'_>) -> Result<Head, Reason>
 }
 
 impl Head {
-    /// What stands where no line says otherwise.
+    /// What is so where no line says otherwise.
     fn of_format(format: u8) -> Head
         requires { (1 ≤ format) × (format ≤ LAST_FORMAT) }
         ensures head { result ≡ head_of format }
@@ -194,7 +194,7 @@ impl Head {
         }
     }
 
-    /// A route, the one line that may stand behind a saved state.
+    /// A route, the one line that may follow a saved state.
     fn last_line(self, words: &mut Words<'_>) -> Result<Head, Reason>
         requires { IsHead self }
         ensures head { result ≡ by_table (last_rows self) words.old }
@@ -207,7 +207,7 @@ impl Head {
         }
     }
 
-    /// Whether a line of this number may stand behind the last one; else it is out of form.
+    /// Whether a line of this number may follow the last one; else it is out of form.
     fn in_order(&self, number: u8) -> Result<(), Reason>
         ensures { MatchResult result (λ _. self.now.row < number)
             (λ e. (e ≡ Reason.Form) × (number ≤ self.now.row)) }
@@ -229,7 +229,7 @@ impl Head {
         }
     }
 
-    /// What is known behind it.
+    /// What is known after it.
     pub(crate) fn body(&self) -> Body
         ensures { result ≡ body_of self.now }
     {

@@ -1,4 +1,4 @@
-//! The lines of a header, by the words behind their names.
+//! The lines of a header, by the words after their names.
 ghost use Rattle.std.specs.Prelude.{
   ◌≡◌,
   ◌<◌,

@@ -1,4 +1,4 @@
-//! What a record does, by the words behind its counter.
+//! What a record does, by the words after its counter.
 ghost use Rattle.std.specs.Prelude.{◌≡◌, ◌<◌, Ok, IfOk, OnSome, IfNone};
 ghost use Rattle.board_types.specs.Legal.{is_port, is_hpet_place};
 ghost use Rattle.irq_edges.specs.Lines.{is_line};
@@ -204,7 +204,7 @@ pub(crate) fn step_job(body: &Body, words: &Words<'_>) -> Result<Job, Reason>
     Ok(Job::Board(Access::Step))
 }
 
-/// An access without words behind its name.
+/// An access without words after its name.
 pub(crate) fn plain_job(body: &Body, access: Access, words: &Words<'_>) -> Result<Job, Reason>
     ensures job { result ≡ last (board body.now access) words.now }
     ensures valid { IfOk result (IsJob body.now) }
@@ -273,7 +273,7 @@ fn apic_counts(body: &Body, cpu: u64) -> Result<Job, Reason>
     Ok(Job::Board(Access::CountsOf { from }))
 }
 
-/// The number of a page that stands last in its line.
+/// The number of a page, the last word of its line.
 #[inline(always)]
 fn page_in(body: &Body, words: &mut Words<'_>) -> Result<u8, Reason>
     ensures page { result ≡ page_at body.now words.old }

@@ -73,11 +73,11 @@ pub enum Stage {
     Opening,
     /// In the header.
     Heading(Head),
-    /// Behind `begin`.
+    /// After `begin`.
     Running(Body),
-    /// Behind `end`.
+    /// After `end`.
     Ended,
-    /// Behind a line that was refused.
+    /// After a line that was refused.
     Refused(RecordFault),
 }
 
@@ -212,7 +212,7 @@ impl Reading {
         }
     }
 
-    /// The input ends before `end`: why the trace is refused, at the line behind the last one. `end` must not have
+    /// The input ends before `end`: why the trace is refused, at the line after the last one. `end` must not have
     /// been taken, and fewer than 2^63 lines.
     pub fn at_end(&self) -> RecordFault
         requires open { IsOpen self.now.stage }
@@ -241,7 +241,7 @@ impl Stage {
         }
     }
 
-    /// Reads a record behind `begin`; false for any other line, and for one that is refused, which change nothing.
+    /// Reads a record after `begin`; false for any other line, and for one that is refused, which change nothing.
     #[inline(always)]
     #[tactic(auto, unfolding(crate::specs::Lines::stepped))]
     fn read(&mut self, line: &[u8], into: &mut Record) -> bool
@@ -279,7 +279,7 @@ impl Stage {
         *self = Stage::Ended;
     }
 
-    /// What a line is, and the stage behind it.
+    /// What a line is, and the stage after it.
     #[inline(always)]
     #[tactic(auto, unfolding(crate::specs::Lines::stepped))]
     fn step(&mut self, line: &[u8]) -> Result<Item, Reason>

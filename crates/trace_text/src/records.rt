@@ -30,7 +30,7 @@ pub enum Job {
     Hv,
     /// The board is saved.
     Save,
-    /// The board moves to a host of this rate in kHz, whose counter is at `start`, behind a gap in nanoseconds.
+    /// The board moves to a host of this rate in kHz, whose counter is at `start`, after a gap in nanoseconds.
     Move { khz: u64, start: u64, gap: u64 },
 }
 
@@ -45,7 +45,7 @@ pub struct Record {
     pub job: Job,
 }
 
-/// What is known behind `begin`: the format, the number of processors, and the counter before of each.
+/// What is known after `begin`: the format, the number of processors, and the counter before of each.
 #[derive(Clone, Copy, Debug, PartialEq, Eq)]
 pub struct Body {
     pub(crate) format: u8,
@@ -66,7 +66,7 @@ impl Body {
     }
 
     /// Reads the record of a line into one that is there, and remembers nothing; false where the line is none, or one
-    /// that is refused, and then the record there has no meaning. So a line that was read as a record behind others is
+    /// that is refused, and then the record there has no meaning. So a line that was read as a record after others is
     /// read again, alone.
     #[inline(always)]
     pub fn look(&self, line: &[u8], into: &mut Record) -> bool

@@ -16,7 +16,7 @@ fn record_of(answer: Result<Item, RecordFault>) -> Option<Record>
 }
 
 /// Comments and empty lines are skipped wherever they stand; a record's counter is above the one before of its own
-/// processor alone; behind a refused line nothing is read.
+/// processor alone; after a refused line nothing is read.
 #[test]
 fn items_of_a_trace(rt: HostRuntime) -> Result<(), Fail> {
     let mut reading = Reading::new();
@@ -54,7 +54,7 @@ fn items_of_a_trace(rt: HostRuntime) -> Result<(), Fail> {
     Ok(())
 }
 
-/// A board of format 1 behind one access that did nothing, as it is printed.
+/// A board of format 1 after one access that did nothing, as it is printed.
 const SAVED: &[u8] = b"state \
 434c4b424f4152440100010040420f000000000000000000000000000000000000000000000000000000000040420f000000\
 00000100000000000000000000000000000040420f0000000000010101360700000000000000000000000036070000000000\
@@ -69,7 +69,7 @@ const SAVED: &[u8] = b"state \
 0000000000000000000000000000000000000000000000000000000000000000000000000000000000000000000000000000\
 000000";
 
-/// The fault of a header line behind the line of a format.
+/// The fault of a header line after the line of a format.
 fn refused(format: &[u8], line: &[u8]) -> Option<Reason> {
     let mut reading = Reading::new();
     match reading.take_line(format) {
@@ -108,8 +108,8 @@ fn a_saved_board_begins_a_trace(rt: HostRuntime) -> Result<(), Fail> {
     Ok(())
 }
 
-/// Why a line `state` is refused: digits that are none, odd or another character, behind another line, and the places
-/// of bytes that are no saved board; a version above the trace's comes before any fault behind it.
+/// Why a line `state` is refused: digits that are none, odd or another character, after another line, and the places
+/// of bytes that are no saved board; a version above the trace's comes before any fault after it.
 #[test]
 fn states_that_are_refused(rt: HostRuntime) -> Result<(), Fail> {
     let form = Some(Reason::Form);

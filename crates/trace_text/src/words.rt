@@ -1,4 +1,4 @@
-//! The words of a line, read one behind the other, and the numbers that they spell.
+//! The words of a line, read one after the other, and the numbers that they spell.
 ghost use Rattle.std.specs.Prelude.{
   ◌≡◌,
   ℕ,
@@ -93,7 +93,7 @@ impl<'a> Words<'a> {
         }
     }
 
-    /// The next word as it stands.
+    /// The next word as it is.
     pub(crate) fn word(&mut self) -> Option<&'a [u8]>
         ensures { MatchOption result (self.old ≡ []) (λ w. self.old ≡ w.now ∷ self.new) }
     {
@@ -226,7 +226,7 @@ impl<'a> Words<'a> {
         self.number_apart(10)?.decimal()
     }
 
-    /// The next word as a DEC behind these letters, which have no space.
+    /// The next word as a DEC after these letters, which have no space.
     pub(crate) fn dec_past(&mut self, letters: &[u8]) -> Option<u64>
         requires { IsTrue (list_all (λ b. not (b == 32)) letters.now) }
         ensures value { result ≡ first (decimal_past letters.now) self.old }
