@@ -20,7 +20,7 @@ use Rattle.clock_table.specs.declared.view.{View.View, Read.Read, Miss.Miss}
 use Rattle.clock_table.specs.Words.{place, word_of, pages_for}
 use Rattle.clock_table.specs.Steps.{or_else, number_in, IsQuietEntry, weight, loud, heard, Hears, no_fields, missed, first_if, first_read, with_note}
 use Rattle.clock_table.specs.Steps.{noted_in, note_at, noted_page, ReadEnds}
-use Rattle.clock_table.specs.Calls.{IsPass, IsReading, AllNoted, HasNoted}
+use Rattle.clock_table.specs.Calls.{IsPass, IsReading, AllNoted, MayEnd}
 use Rattle.clock_table.specs.private.Rule.{is_open, PageKept, ReadKept, ReadingKept, MissesKept, Kept}
 use Rattle.clock_table.specs.private.Plays.{Stays, FirstRead, FieldRead, SecondRead, Raised}
 use Rattle.clock_table.proofs.Lists.{set_or, no_field}
@@ -189,12 +189,13 @@ module _ (opening : BoardParts) where
       )
 
   -- the version is loaded again
-  pub seconds : (slots h c id cpus : ℕ) → opening.cpus ≡ cpus → (me : M) → IsPass me.0 → me.0.live ≡ true → HasNoted c me.0
+  pub seconds : (slots h c id cpus : ℕ) → opening.cpus ≡ cpus → (me : M) → MayEnd cpus c me.0 → me.0.live ≡ true
       → Allows (Kept opening) slots id me (place c 0) (λ n. n) (SecondRead cpus h (step slots (place c 0) 0 0 none) me)
-  seconds slots h c id cpus same me pass lives noted s r _ at _ =
+  seconds slots h c id cpus same me may lives s r _ at _ =
+      let noted = may.noted in
       let x : Read = read_at c noted.0 in
       let is : me.0.read ≡ Some x = noted.1 ∙ cpu_at c noted.0 noted.2 in
-      let t = second_kept s r h id me x pass lives is noted.3 at (eqb (word_of s.words c 0) x.first) refl in
+      let t = second_kept s r h id me x may.pass lives is noted.3 at (eqb (word_of s.words c 0) x.first) refl in
       let ends : (y : Read) → me.0.read ≡ Some y → ReadEnds cpus h y (word_of s.words c 0) me.0 t.0 =
       λ y yis. let same_y : x ≡ y = cc (is, yis) in
       subst (λ (z : ℕ × Read). ReadEnds z.0 h z.1 (word_of s.words c 0) me.0 t.0) (λ i. (same i, same_y i)) t.3 in

@@ -14,7 +14,7 @@ use Rattle.board_history.proofs.Laws.{is_of-pass}
 use Rattle.clock_table.specs.declared.view.{View.View, Hand.Hand}
 use Rattle.clock_table.specs.Words.{place, word_of, pages_for}
 use Rattle.clock_table.specs.Steps.{told, Extends, no_fields, begun, with_put, put_in}
-use Rattle.clock_table.specs.Calls.{IsPen, IsNext, IsPublishing, PublishesNone, IsBump, HasOpen, HasPut, AllPut}
+use Rattle.clock_table.specs.Calls.{IsPen, IsNext, IsPublishing, PublishesNone, IsBump, HasOpen, AllPut, MayEnter, MayClose}
 use Rattle.clock_table.specs.private.Rule.{PageKept, WordsKept, Kept}
 use Rattle.clock_table.specs.private.Plays.{Begun, PutIn, Finished}
 use Rattle.clock_table.proofs.Keeps.{St, M, Later, later_same, misses_later, quiet_board, log_of, stay, enter, penned, quiet_rest}
@@ -98,52 +98,56 @@ module _ (opening : BoardParts) where
       (t.0, ((r.each id me.0 at).seen.begins.0, refl, quiet_rest opening s r id me.0 at pen.pen pen.meet, t.1))
 
   -- the same on the front word
-  on_front : (s : St) (r : Kept opening s) (x id n : ℕ) (me : M) (e : Entry) (at : get_elem? s.views id ≡ some me.0) → IsPen me.0 → me.0.live ≡ true
-      → me.0.hand ≡ None → IsNext e me.0 → Leaves (log_of opening s r) e n → PagesStay (log_of opening s r) e → x ≡ get_or s.words 0 0 + n
+  on_front : (s : St) (r : Kept opening s) (x id n : ℕ) (me : M) (e : Entry) (at : get_elem? s.views id ≡ some me.0) → MayEnter e me.0
+      → me.0.live ≡ true → Leaves (log_of opening s r) e n → PagesStay (log_of opening s r) e → x ≡ get_or s.words 0 0 + n
       → Kept opening (stepped s 0 x id me.1 (told me.0 (r.each id me.0 at).seen.begins.0 e) keeps)
       × Extends e me.0 (told me.0 (r.each id me.0 at).seen.begins.0 e)
-  on_front s r x id n me e at pen live shut next leaves pages more =
+  on_front s r x id n me e at may live leaves pages more =
       let ws : List ℕ = set s.words 0 x in
       let same : (c k : ℕ) → word_of ws c k ≡ word_of s.words c k = λ c k. get_or-set_other s.words 0 (place c k) x 0 (λ z. omega arith) in
       let wide = r.words.wide in
       let f = r.words.front in
-      finished s r 0 x id n me e at pen live next leaves (later_same (pages_for opening.cpus) s.words ws same) (record {
+      finished s r 0 x id n me e at may.pen live may.next leaves (later_same (pages_for opening.cpus) s.words ws same) (record {
         wide = length-set s.words 0 x ∙ wide;
         front = record {
           front = get_or-set_same s.words 0 x 0 (omega arith) ∙ (let was = f.front in let count = leaves.count in omega arith);
           low = let count = leaves.count in let low = leaves.low in omega arith;
           clamp = get_or-set_other s.words 0 16 x 0 (λ z. omega arith) ∙ (f.clamp ∙ sym leaves.greatest);
         };
-        pages = λ c l. page_same s.words ws None _ _ c (same c) (pages c) (held s r id me.0 None at pen.pen shut c l);
+        pages = λ c l. page_same s.words ws None _ _ c (same c) (pages c) (held s r id me.0 None at may.pen.pen may.shut c l);
       })
 
   -- an access that publishes no page, by a load of the front word
-  pub enters : (slots id : ℕ) (me : M) (e : Entry) → IsPen me.0 → me.0.live ≡ true → me.0.hand ≡ None → PublishesNone opening.cpus e → IsNext e me.0
+  pub enters : (slots id : ℕ) (me : M) (e : Entry) → MayEnter e me.0 → me.0.live ≡ true → PublishesNone opening.cpus e
       → Allows (Kept opening) slots id me 0 (λ n. n) (Finished e (step slots 0 0 0 none) me)
-  enters slots id me e pen live shut is next s r _ at small =
+  enters slots id me e may live is s r _ at small =
+      let pen = may.pen in
       let log : List Entry = log_of opening s r in
       let cpus : opening.cpus ≡ (board_after log).cpus = ap (λ (m : Machine). m.cpus) (sym r.history.machine) in
-      let leaves = enter_leaves me.0.seen log e (penned opening s r id me.0 at pen.pen pen.meet) (subst (λ (k : ℕ). PublishesNone k e) cpus is) next.legal
+      let leaves = enter_leaves me.0.seen log e (penned opening s r id me.0 at pen.pen pen.meet) (subst (λ (k : ℕ). PublishesNone k e) cpus is) may.next.legal
       r.words.front.low in
-      let t = on_front s r (get_or s.words 0 0) id 0 me e at pen live shut next leaves.0 leaves.1 (omega arith) in
+      let t = on_front s r (get_or s.words 0 0) id 0 me e at may live leaves.0 leaves.1 (omega arith) in
       (told me.0 (r.each id me.0 at).seen.begins.0 e, keeps, tt, t.0, (refl, t.1))
 
   -- a read under the lock, by an addition to the front word
-  pub bumps : (slots id : ℕ) (me : M) (e : Entry) → IsPen me.0 → me.0.live ≡ true → me.0.hand ≡ None → IsBump me.0.seen e → IsNext e me.0
+  pub bumps : (slots id : ℕ) (me : M) (e : Entry) → MayEnter e me.0 → me.0.live ≡ true → IsBump me.0.seen e
       → Allows (Kept opening) slots id me 0 (λ n. (n + 1) % 2 ^ 64) (Finished e (step slots 0 1 0 none) me)
-  bumps slots id me e pen live shut is next s r _ at small =
+  bumps slots id me e may live is s r _ at small =
+      let pen = may.pen in
       let n : ℕ = get_or s.words 0 0 in
       let w : View = told me.0 (r.each id me.0 at).seen.begins.0 e in
-      let leaves = bump_leaves me.0.seen (log_of opening s r) e (penned opening s r id me.0 at pen.pen pen.meet) is next.legal in
-      let t = on_front s r (n + 1) id 1 me e at pen live shut next leaves.0 leaves.1 refl in
+      let leaves = bump_leaves me.0.seen (log_of opening s r) e (penned opening s r id me.0 at pen.pen pen.meet) is may.next.legal in
+      let t = on_front s r (n + 1) id 1 me e at may live leaves.0 leaves.1 refl in
       let no_wrap : n + 1 ≡ (n + 1) % 2 ^ 64 = wraps n (let was = r.words.front.front in let low = leaves.0.low in omega arith) in
       (w, keeps, tt, subst (λ (x : ℕ). Kept opening (stepped s 0 x id me.1 w keeps)) no_wrap t.0, (refl, t.1))
 
   -- the page is closed
-  pub finishes : (slots c id : ℕ) (me : M) (e : Entry) → c < pages_for opening.cpus → IsPen me.0 → me.0.live ≡ true
-      → HasPut c (page_at (board_after (me.0.seen ++ e ∷ [])) c) me.0 → IsPublishing opening.cpus c e → IsNext e me.0
+  pub finishes : (slots c id : ℕ) (me : M) (e : Entry) → MayClose opening.cpus c e me.0 → me.0.live ≡ true
       → Allows (Kept opening) slots id me (place c 0) (λ n. (n + 1) % 2 ^ 64) (Finished e (step slots (place c 0) 1 0 none) me)
-  finishes slots c id me e l pen live put publishes next s r _ at small =
+  finishes slots c id me e may live s r _ at small =
+      let put = may.put in
+      let pen = may.pen in
+      let l : c < pages_for opening.cpus = let there = may.there in omega arith in
       let o : Hand = record { cpu = c; put = put.0.put } in
       let is : me.0.hand ≡ Some o = put.1 ∙ ap (λ (n : ℕ). Some (record { cpu = n; put = put.0.put })) put.2 in
       let n : ℕ = word_of s.words c 0 in
@@ -156,9 +160,9 @@ module _ (opening : BoardParts) where
       let one = open_here c in
       let most = (r.history.steady.pages c).most in
       let cpus : opening.cpus ≡ (board_after log).cpus = ap (λ (m : Machine). m.cpus) (sym r.history.machine) in
-      let new = publish_leaves me.0.seen log e c (penned opening s r id me.0 at pen.pen pen.meet) (subst (λ (k : ℕ). IsPublishing k c e) cpus publishes)
-      next.legal r.words.front.low r.history.steady in
-      let t = finished s r (place c 0) (n + 1) id 0 me e at pen live next new.leaves
+      let new = publish_leaves me.0.seen log e c (penned opening s r id me.0 at pen.pen pen.meet) (subst (λ (k : ℕ). IsPublishing k c e) cpus may.publishes)
+      may.next.legal r.words.front.low r.history.steady in
+      let t = finished s r (place c 0) (n + 1) id 0 me e at pen live may.next new.leaves
       (later_version (pages_for opening.cpus) s.words c (n + 1) (omega arith) (omega arith)) (record {
         wide = length-set s.words (place c 0) (n + 1) ∙ wide;
         front = front_else s.words c 0 (n + 1) log (log ++ e ∷ []) r.words.front (let count = new.leaves.count in omega arith) new.leaves.greatest;

@@ -1,8 +1,8 @@
 -- What the calls of a table ask.
-use Rattle.std.specs.Prelude.{◌≡◌, ℕ, ◌<◌, ◌^◌, length, slice_index_or, Some, None, true, List}
+use Rattle.std.specs.Prelude.{◌≡◌, ℕ, ◌<◌, ◌≤◌, ◌^◌, length, slice_index_or, Some, None, true, List, [], ◌∷◌, ◌++◌}
 use Rattle.pvclock_page.specs.declared.page.Page.{Page}
-use Rattle.board_history.specs.Machine.{page_published}
-use Rattle.board_history.specs.History.{May, pass_of}
+use Rattle.board_history.specs.Machine.{page_at, page_published}
+use Rattle.board_history.specs.History.{board_after, May, pass_of}
 use Rattle.board_history.specs.declared.entry.Entry.{Entry}
 use Rattle.board_history.specs.declared.entry.Entry.TheVariants.{Opened, Board, PageRead, HvRead, Clamp}
 use Rattle.board_types.specs.declared.reply.Reply.{Reply}
@@ -84,3 +84,23 @@ AllNoted r = (k : ℕ) → k < 4 → (x : ℕ) × (slice_index_or r.noted k None
 
 abbrev pub HasNoted : ℕ → View → Type 0
 HasNoted cpu v = (r : Read) × (v.read ≡ Some r) × (r.cpu ≡ cpu) × AllNoted r
+
+-- an entry that the front word may make: the seat holds the pen, and nothing is open
+pub record MayEnter (e : Entry) (v : View) : Type 0 where
+  pub pen : IsPen v
+  pub shut : v.hand ≡ None
+  pub next : IsNext e v
+
+-- an entry that may close the page c of a table of n processors, all of whose fields were put
+pub record MayClose (n c : ℕ) (e : Entry) (v : View) : Type 0 where
+  pub there : c ≤ n
+  pub pen : IsPen v
+  pub put : HasPut c (page_at (board_after (v.seen ++ e ∷ [])) c) v
+  pub publishes : IsPublishing n c e
+  pub next : IsNext e v
+
+-- a read of the page c of a table of n processors may end: all fields were noted
+pub record MayEnd (n c : ℕ) (v : View) : Type 0 where
+  pub there : c ≤ n
+  pub pass : IsPass v
+  pub noted : HasNoted c v

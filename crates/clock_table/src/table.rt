@@ -15,9 +15,8 @@ ghost use Rattle.std.specs.Prelude.{
   Some,
 };
 ghost use Rattle.board_types.specs.declared.parts.TheConstants.{LAST_VERSION};
-ghost use Rattle.board_history.specs.Machine.{machine_of, page_at};
+ghost use Rattle.board_history.specs.Machine.{machine_of};
 ghost use Rattle.board_history.specs.History.{
-  board_after,
   version_after,
   Reads,
   last_of,
@@ -46,13 +45,12 @@ ghost use Rattle.clock_table.specs.Steps.{
 };
 ghost use Rattle.clock_table.specs.Calls.{
   HasOpen,
-  HasPut,
   IsReading,
-  HasNoted,
   IsPass,
   IsPen,
-  IsNext,
-  IsPublishing,
+  MayEnter,
+  MayClose,
+  MayEnd,
   PublishesNone,
   IsBump,
   entry_of,
@@ -193,10 +191,8 @@ impl<N: Name> ClockTable<N> {
 
     /// Adds 1 to the front word: a read under the lock, which its entry describes.
     pub fn bump_read(&self, seat: &mut ClockSeat<N>, entry: &Entry)
-        requires pen { IsPen seat.old }
-        requires shut { seat.old.hand ≡ None }
+        requires may { MayEnter entry.now seat.old }
         requires bump { IsBump seat.old.seen entry.now }
-        requires next { IsNext entry.now seat.old }
         ensures { Extends entry.now seat.old seat.new }
     {
         bump_read_as::<N, Brand>(self, seat, entry);
@@ -207,10 +203,8 @@ impl<N: Name> ClockTable<N> {
     /// Enters an access that publishes no page, by a load of the front word. Its call and its reply describe it, so no
     /// entry is built, and the reply isn't moved.
     pub fn enter(&self, seat: &mut ClockSeat<N>, call: &Call, reply: &Reply)
-        requires pen { IsPen seat.old }
-        requires shut { seat.old.hand ≡ None }
+        requires may { MayEnter (entry_of call.now reply.now) seat.old }
         requires none { PublishesNone N.state.cpus (entry_of call.now reply.now) }
-        requires next { IsNext (entry_of call.now reply.now) seat.old }
         ensures { Extends (entry_of call.now reply.now) seat.old seat.new }
     {
         enter_as::<N, Brand>(self, seat, call, reply);
@@ -243,12 +237,7 @@ impl<N: Name> ClockTable<N> {
 
     /// Closes the page, whose version is then even: an access that publishes it.
     pub fn finish(&self, seat: &mut ClockSeat<N>, page: u8, call: &Call, reply: &Reply)
-        requires page { page ≤ N.state.cpus }
-        requires pen { IsPen seat.old }
-        requires open { HasPut page
-            (page_at (board_after (seat.old.seen ++ entry_of call.now reply.now ∷ [])) page) seat.old }
-        requires publishes { IsPublishing N.state.cpus page (entry_of call.now reply.now) }
-        requires next { IsNext (entry_of call.now reply.now) seat.old }
+        requires { MayClose N.state.cpus page (entry_of call.now reply.now) seat.old }
         ensures { Extends (entry_of call.now reply.now) seat.old seat.new }
     {
         finish_as::<N, Brand>(self, seat, page, call, reply);
@@ -280,9 +269,7 @@ impl<N: Name> ClockTable<N> {
 
     /// Loads the version again. Where it is as before, the page was read, at count `h`; else it is a miss.
     pub fn second(&self, seat: &mut ClockSeat<N>, page: u8, h: u64) -> u64
-        requires page { page ≤ N.state.cpus }
-        requires pass { IsPass seat.old }
-        requires read { HasNoted page seat.old }
+        requires { MayEnd N.state.cpus page seat.old }
         ensures { (r : Read) → seat.old.read ≡ Some r → ReadEnds N.state.cpus h r result seat.old seat.new }
     {
         second_as::<N, Brand>(self, seat, page, h)
@@ -304,10 +291,8 @@ impl<N: Name> ClockTable<N> {
 
 fn bump_read_as<N: Name, E: Ask>(table: &ClockTable<N>, seat: &mut ClockSeat<N>, entry: &Entry)
     requires entry { entry.now ≡ E.entry }
-    requires pen { IsPen seat.old }
-    requires shut { seat.old.hand ≡ None }
+    requires may { MayEnter entry.now seat.old }
     requires bump { IsBump seat.old.seen entry.now }
-    requires next { IsNext entry.now seat.old }
     ensures { Extends entry.now seat.old seat.new }
 {
     let _ = entry;
@@ -324,10 +309,8 @@ fn enter_as<N: Name, E: Ask>(
     reply: &Reply,
 )
     requires entry { entry_of call.now reply.now ≡ E.entry }
-    requires pen { IsPen seat.old }
-    requires shut { seat.old.hand ≡ None }
+    requires may { MayEnter (entry_of call.now reply.now) seat.old }
     requires none { PublishesNone N.state.cpus (entry_of call.now reply.now) }
-    requires next { IsNext (entry_of call.now reply.now) seat.old }
     ensures { Extends (entry_of call.now reply.now) seat.old seat.new }
 {
     let _ = call;
@@ -346,12 +329,7 @@ fn finish_as<N: Name, E: Ask>(
     reply: &Reply,
 )
     requires entry { entry_of call.now reply.now ≡ E.entry }
-    requires page { page ≤ N.state.cpus }
-    requires pen { IsPen seat.old }
-    requires open { HasPut page
-        (page_at (board_after (seat.old.seen ++ entry_of call.now reply.now ∷ [])) page) seat.old }
-    requires publishes { IsPublishing N.state.cpus page (entry_of call.now reply.now) }
-    requires next { IsNext (entry_of call.now reply.now) seat.old }
+    requires may { MayClose N.state.cpus page (entry_of call.now reply.now) seat.old }
     ensures { Extends (entry_of call.now reply.now) seat.old seat.new }
 {
     let _ = call;
@@ -369,9 +347,7 @@ fn second_as<N: Name, E: Tag>(
     h: u64,
 ) -> u64
     requires h { h ≡ E.tag }
-    requires page { page ≤ N.state.cpus }
-    requires pass { IsPass seat.old }
-    requires read { HasNoted page seat.old }
+    requires may { MayEnd N.state.cpus page seat.old }
     ensures { (r : Read) → seat.old.read ≡ Some r → ReadEnds N.state.cpus h r result seat.old seat.new }
 {
     let _ = h;

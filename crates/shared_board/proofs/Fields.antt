@@ -6,10 +6,12 @@ use Rattle.std.proofs.Common.{
   suc,
   ◌%◌,
   ◌<◌,
+  ◌≤◌,
   List,
   [],
   ◌∷◌,
   refl,
+  sym,
   ap,
   ◌∙◌,
   subst,
@@ -34,7 +36,7 @@ use Rattle.clock_table.specs.declared.view.View.{View}
 use Rattle.clock_table.specs.declared.view.Read.{Read}
 use Rattle.clock_table.specs.Words.{field_at}
 use Rattle.clock_table.specs.Steps.{begun, put_in, first_read, first_if, noted_in, no_fields, number_in, missed, Extends, Hears, ReadEnds}
-use Rattle.clock_table.specs.Calls.{HasOpen, HasPut, IsReading, HasNoted}
+use Rattle.clock_table.specs.Calls.{HasOpen, HasPut, IsReading, IsPass, HasNoted, MayEnd}
 
 -- the view with four fields put, of which n are
 abbrev pub put_all : ℕ → ℕ → ℕ → ℕ → ℕ → View → View
@@ -93,7 +95,7 @@ even_read c n v u even is = is ∙ ap (λ (b : Bool). first_if b c n v) (eq-eqb 
 pub is_reading : (c n : ℕ) (fields : List (Option ℕ)) (v u : View) → u ≡ noted c n fields v → IsReading c u
 is_reading c n fields v u is = (record { cpu = c; first = n; noted = fields }, ap (λ w. w.read) is, refl)
 
-pub has_noted : (c n x y z w : ℕ) (v u : View) → u ≡ noted c n (all_four x y z w) v → HasNoted c u
+has_noted : (c n x y z w : ℕ) (v u : View) → u ≡ noted c n (all_four x y z w) v → HasNoted c u
 has_noted c n x y z w v u is = (record { cpu = c; first = n; noted = all_four x y z w }, ap (λ t. t.read) is, refl, each)
   where
     each : (k : ℕ) → k < 4 → (i : ℕ) × (slice_index_or (all_four x y z w) k None ≡ Some i)
@@ -102,6 +104,14 @@ has_noted c n x y z w v u is = (record { cpu = c; first = n; noted = all_four x 
     each (suc (suc zero)) h = (z, refl)
     each (suc (suc (suc zero))) h = (w, refl)
     each (suc (suc (suc (suc k)))) h = absurd (omega arith)
+
+-- a read of which all fields were noted may end
+pub may_end : (cpus c n x y z w : ℕ) (v u : View) → u ≡ noted c n (all_four x y z w) v → c ≤ cpus → IsPass v → MayEnd cpus c u
+may_end cpus c n x y z w v u is there pass = record {
+  there = there;
+  pass = subst IsPass (sym is) (record { number = pass.number; meet = pass.meet });
+  noted = has_noted c n x y z w v u is;
+}
 
 -- how a read ends, told of the view before it
 abbrev pub Ends : ℕ → Bool → ℕ → ℕ → ℕ → ℕ → Page → View → View → Type 0

@@ -6,6 +6,6 @@ pub fetch_add-requires : goal.fetch_add-requires
 fetch_add-requires g c = let t = c.args.table.now in (
   c.seat.invariant.0 ∙ sym t.named,
   (let w = t.sized in omega arith),
-  bumps t.table.shared.key _ _ c.seat.inside.seat.me g.E.Ask.entry (rw c.seat.view_is c.requires.pen) c.seat.invariant.2
-      (rw c.seat.view_is c.requires.shut) (rw (c.seat.view_is, ← c.requires.entry) c.requires.bump) (rw (c.seat.view_is, ← c.requires.entry) c.requires.next),
+  bumps t.table.shared.key _ _ c.seat.inside.seat.me g.E.Ask.entry (rw (c.seat.view_is, ← c.requires.entry) c.requires.may) c.seat.invariant.2
+      (rw (c.seat.view_is, ← c.requires.entry) c.requires.bump),
 )

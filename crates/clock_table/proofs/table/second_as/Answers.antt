@@ -5,7 +5,7 @@ use Rattle.clock_table.proofs.table.second_as.Goals as goal
 pub load-requires : goal.load-requires
 load-requires g c = let t = c.args.table.now in (
   c.seat.invariant.0 ∙ sym t.named,
-  (let w = t.sized in let b = ap (λ b. b.cpus) t.opened in let p = c.place.ensures in let l = c.requires.page in omega arith),
+  (let w = t.sized in let p = c.place.ensures in let l = c.requires.may.there in omega arith),
   rw c.place.ensures (seconds t.table.shared.key _ g.E.Tag.tag c.args.page _ _ (ap (λ b. b.cpus) t.opened) c.seat.inside.seat.me
-      (rw c.seat.view_is c.requires.pass) c.seat.invariant.2 (rw c.seat.view_is c.requires.read)),
+      (rw c.seat.view_is c.requires.may) c.seat.invariant.2),
 )

@@ -1,11 +1,9 @@
-use Rattle.std.proofs.Common.{◌++◌, ◌∷◌, [], ap, sym, ◌∙◌, subst}
+use Rattle.std.proofs.Common.{ap, sym, ◌∙◌, subst}
 use Rattle.pvclock_page.specs.declared.page.Page.{Page}
-use Rattle.board_history.specs.Machine.{page_at}
-use Rattle.board_history.specs.History.{board_after}
 use Rattle.clock_table.specs.declared.view.View.{View}
 use Rattle.clock_table.specs.Words.{field_at}
 use Rattle.clock_table.specs.Steps.{put_in, Extends}
-use Rattle.clock_table.specs.Calls.{HasOpen, HasPut, entry_of}
+use Rattle.clock_table.specs.Calls.{HasOpen, HasPut, MayClose, entry_of}
 use Rattle.shared_board.proofs.Fields.{put_all, put_four, open_1, open_2, open_3, open_4, all_put, extends_from}
 use Rattle.shared_board.proofs.pens.publish.Goals as goal
 
@@ -27,16 +25,21 @@ put-requires-4-clause-open g c =
     (sym (c.put-3.ensures ∙ ap (put_in 2 _) (c.put-2.ensures ∙ ap (put_in 1 _) (c.put.ensures ∙ ap (put_in 0 _) c.begin.ensures))))
     (open_4 c.args.index _ _ _ c.args.seat.now)
 
-pub finish-requires-clause-open : goal.finish-requires-clause-open
-finish-requires-clause-open g c =
+pub finish-requires : goal.finish-requires
+finish-requires g c =
     let p = c.table_page.result in
     let v = c.args.seat.now in
-    subst (λ (u : View). HasPut c.args.index (page_at (board_after (u.seen ++ (entry_of c.args.call.now c.args.reply.now) ∷ [])) c.args.index) u)
-    (sym (put_four c.args.index c.page_words.result p c.args.seat.now c.begin.new.seat c.put.new.seat c.put-2.new.seat c.put-3.new.seat
-    c.put-4.new.seat c.begin.ensures c.put.ensures c.put-2.ensures c.put-3.ensures c.put-4.ensures c.page_words.ensures.value))
-    (subst (λ (q : Page). HasPut c.args.index q (put_all c.args.index (field_at p 0) (field_at p 1) (field_at p 2) (field_at p 3) v)) (c.table_page.ensures
-    ∙ sym c.requires.page)
-    (all_put c.args.index p v))
+    let e = entry_of c.args.call.now c.args.reply.now in
+    let same = put_four c.args.index c.page_words.result p c.args.seat.now c.begin.new.seat c.put.new.seat c.put-2.new.seat c.put-3.new.seat
+    c.put-4.new.seat c.begin.ensures c.put.ensures c.put-2.ensures c.put-3.ensures c.put-4.ensures c.page_words.ensures.value in
+    subst (MayClose g.N.Name.state.cpus c.args.index e) (sym same) (record {
+      there = c.requires.index;
+      pen = record { number = c.requires.pen.number; meet = c.requires.pen.meet; pen = c.requires.pen.pen };
+      put = subst (λ (q : Page). HasPut c.args.index q (put_all c.args.index (field_at p 0) (field_at p 1) (field_at p 2) (field_at p 3) v))
+          (c.table_page.ensures ∙ sym c.requires.page) (all_put c.args.index p v);
+      publishes = c.requires.publishes;
+      next = record { number = c.requires.next.number; legal = c.requires.next.legal };
+    })
 
 pub returns : goal.returns
 returns g c =

@@ -2,7 +2,7 @@ use Rattle.std.proofs.Common.{◌≡◌, ◌%◌, ◌∷◌, [], sym, subst, ari
 use Rattle.pvclock_page.specs.declared.page.Page.{Page}
 use Rattle.pvclock_page.specs.Words.{page_of}
 use Rattle.shared_board.specs.private.Tries.{HasHeard}
-use Rattle.shared_board.proofs.Fields.{even_read, noted_1, noted_2, noted_3, noted_4, is_reading, has_noted, Ends, read_ends}
+use Rattle.shared_board.proofs.Fields.{even_read, noted_1, noted_2, noted_3, noted_4, is_reading, may_end, Ends, read_ends}
 use Rattle.shared_board.proofs.tries.read_words.Goals as goal
 
 pub field-stamp-requires-clause-read : goal.field-stamp-requires-clause-read
@@ -33,14 +33,14 @@ field-offset-requires-clause-read g c =
     c.field-stamp.new.seat c.field-system.new.seat c.field-scale.new.seat even c.first-first.ensures.view c.field-stamp.ensures c.field-system.ensures
     c.field-scale.ensures)
 
-pub second-second-requires-clause-read : goal.second-second-requires-clause-read
-second-second-requires-clause-read g c =
+pub second-second-requires : goal.second-second-requires
+second-second-requires g c =
     let even : c.first-first.result % 2 ≡ 0 = omega (arith, c.if-first-ne0.false) in
-    has_noted c.args.index c.first-first.result c.field-stamp.result c.field-system.result c.field-scale.result c.field-offset.result c.args.seat.now
-    c.field-offset.new.seat
-    (noted_4 c.args.index c.first-first.result c.field-stamp.result c.field-system.result c.field-scale.result c.field-offset.result c.args.seat.now
+    let all = noted_4 c.args.index c.first-first.result c.field-stamp.result c.field-system.result c.field-scale.result c.field-offset.result c.args.seat.now
     c.first-first.new.seat c.field-stamp.new.seat c.field-system.new.seat c.field-scale.new.seat c.field-offset.new.seat even c.first-first.ensures.view
-    c.field-stamp.ensures c.field-system.ensures c.field-scale.ensures c.field-offset.ensures)
+    c.field-stamp.ensures c.field-system.ensures c.field-scale.ensures c.field-offset.ensures in
+    may_end g.N.Name.state.cpus c.args.index c.first-first.result c.field-stamp.result c.field-system.result c.field-scale.result c.field-offset.result
+    c.args.seat.now c.field-offset.new.seat all c.requires.index c.requires.pass
 
 pub returns-then-second-first-clause-err : goal.returns-then-second-first-clause-err
 returns-then-second-first-clause-err g c =

@@ -1,7 +1,7 @@
 use Rattle.std.proofs.Common.{◌≡◌, ℕ, ◌%◌, List, Option, refl, sym, subst, arith}
 use Rattle.clock_table.specs.declared.view.View.{View}
 use Rattle.clock_table.specs.Calls.{IsPass}
-use Rattle.shared_board.proofs.Fields.{noted, even_read, noted_1, noted_2, noted_3, noted_4, is_reading, has_noted}
+use Rattle.shared_board.proofs.Fields.{noted, even_read, noted_1, noted_2, noted_3, noted_4, is_reading, may_end}
 use Rattle.shared_board.proofs.tests.words.read_round_an_update.Goals as goal
 
 -- a pass is one while it reads
@@ -69,19 +69,11 @@ field-requires-4-clause-read g c =
     (noted_3 0 c.first-first.result c.field.result c.field-2.result c.field-3.result c.split_pass-two.result c.first-first.new.seat c.field.new.seat
     c.field-2.new.seat c.field-3.new.seat even c.first-first.ensures.view c.field.ensures c.field-2.ensures c.field-3.ensures)
 
-pub second-second-requires-clause-pass : goal.second-second-requires-clause-pass
-second-second-requires-clause-pass g c =
+pub second-second-requires : goal.second-second-requires
+second-second-requires g c =
     let even : c.first-first.result % 2 ≡ 0 = omega (arith, c.if-first-ne0.false) in
-    reading_pass 0 c.first-first.result _ c.split_pass-two.result c.field-4.new.seat
+    may_end g.N.Name.state.cpus 0 c.first-first.result c.field.result c.field-2.result c.field-3.result c.field-4.result c.split_pass-two.result
+    c.field-4.new.seat
     (noted_4 0 c.first-first.result c.field.result c.field-2.result c.field-3.result c.field-4.result c.split_pass-two.result c.first-first.new.seat
     c.field.new.seat c.field-2.new.seat c.field-3.new.seat c.field-4.new.seat even c.first-first.ensures.view c.field.ensures c.field-2.ensures
-    c.field-3.ensures c.field-4.ensures)
-    (subst IsPass (sym c.split_pass-two.ensures.right) (record { number = (_, refl); meet = refl }))
-
-pub second-second-requires-clause-read : goal.second-second-requires-clause-read
-second-second-requires-clause-read g c =
-    let even : c.first-first.result % 2 ≡ 0 = omega (arith, c.if-first-ne0.false) in
-    has_noted 0 c.first-first.result c.field.result c.field-2.result c.field-3.result c.field-4.result c.split_pass-two.result c.field-4.new.seat
-    (noted_4 0 c.first-first.result c.field.result c.field-2.result c.field-3.result c.field-4.result c.split_pass-two.result c.first-first.new.seat
-    c.field.new.seat c.field-2.new.seat c.field-3.new.seat c.field-4.new.seat even c.first-first.ensures.view c.field.ensures c.field-2.ensures
-    c.field-3.ensures c.field-4.ensures)
+    c.field-3.ensures c.field-4.ensures) (omega arith) (subst IsPass (sym c.split_pass-two.ensures.right) (record { number = (_, refl); meet = refl }))
