@@ -48,8 +48,8 @@ static void names(const struct clockboard *blank) {
     expect(clockboard_save(&board, bytes, sizeof bytes, &length) == CLOCKBOARD_OK && length == CLOCKBOARD_STATE_MAX,
            "CLOCKBOARD_STATE_MAX");
     expect(strcmp(clockboard_answer_text(CLOCKBOARD_BAD_STATE), "no board has these bytes") == 0
-               && strcmp(clockboard_answer_text(CLOCKBOARD_NO_EDGE), "nothing comes below 2^59 ns") == 0
-               && strcmp(clockboard_answer_text(16), "an unknown answer") == 0,
+               && strcmp(clockboard_answer_text(CLOCKBOARD_NOT_SHARED), "threads don't share the board") == 0
+               && strcmp(clockboard_answer_text(19), "an unknown answer") == 0,
            "texts of answers");
 }
 

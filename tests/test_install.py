@@ -116,7 +116,7 @@ class Install(unittest.TestCase):
             monitor = [f"share/doc/clockboard/examples/monitor/{path.name}" for path in (HEADER.parent / "monitor").iterdir()]
             self.assertEqual(files, sorted([
                 "bin/clockboard", "include/clockboard/clockboard.h", "include/clockboard/put_page.h",
-                "include/clockboard/record.h", "lib/cmake/clockboard/clockboard-config-version.cmake",
+                "include/clockboard/record.h", "include/clockboard/shared.h", "lib/cmake/clockboard/clockboard-config-version.cmake",
                 "lib/cmake/clockboard/clockboard-config.cmake", "lib/libclockboard.a", *shared,
                 "lib/pkgconfig/clockboard.pc", "share/bash-completion/completions/clockboard",
                 "share/doc/clockboard/LICENSE-APACHE", "share/doc/clockboard/LICENSE-MIT",

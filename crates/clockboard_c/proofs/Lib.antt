@@ -1,3 +1,5 @@
 mod Telling
 mod Counts
+mod Kept
+mod Wide
 mod Rows

@@ -1,5 +1,5 @@
 -- Small rows of what the definitions give.
-use Rattle.std.proofs.Common.{◌≡◌, ℕ, true, false, refl, ◌∷◌, []}
+use Rattle.std.proofs.Common.{◌≡◌, ℕ, true, false, refl, ◌∷◌, [], Some}
 use Rattle.irq_edges.specs.declared.bursts.Burst.{Burst}
 use Rattle.irq_edges.specs.Lines.{line_numbers}
 use Rattle.rtc_calendar.specs.Bytes.{spelt, is_spelt, has_digits}
@@ -7,9 +7,15 @@ use Rattle.rtc_calendar.specs.Calendar.{month_length}
 use Rattle.host_counter.specs.declared.Anchor.{Anchor}
 use Rattle.board_types.specs.declared.access.TickSource.TheVariants.{Pit, Rtc, Hpet, Apic}
 use Rattle.board_types.specs.declared.reply.Value.TheVariants.{Byte, Wall}
-use Rattle.clockboard_c.specs.declared.code.TheConstants.{OK, OUT_OF_RANGE}
+use Rattle.board_types.specs.declared.access.Access.TheVariants.{HpetRead, MsrWrite, PortOut, Refresh}
+use Rattle.board_types.specs.declared.parts.BoardParts.{BoardParts}
+use Rattle.clockboard_c.specs.declared.board.TheConstants.{SEAL}
+use Rattle.clockboard_c.specs.declared.code.TheConstants.{OK, OUT_OF_RANGE, SHARED, NOT_SHARED}
 use Rattle.clockboard_c.specs.declared.power_on.SetupWords.{SetupWords}
-use Rattle.clockboard_c.specs.Call.{source_of}
+use Rattle.clockboard_c.specs.Kept.{CallerBoard}
+use Rattle.clockboard_c.specs.Call.{source_of, sealed, access_code, early_code, leaves_devices}
+use Rattle.clockboard_c.specs.Shared.{last_count, open_code, opened}
+use Rattle.clockboard_c.specs.States.{save_code}
 use Rattle.clockboard_c.specs.Calendar.{setup_at, setup_at_code}
 use Rattle.clockboard_c.specs.Look.{lines_word}
 use Rattle.clockboard_c.specs.Replies.{value_words, burst_at}
@@ -181,3 +187,46 @@ february_2100 = refl
 
 march_2100 : setup_at_code 4107542400 ≡ OUT_OF_RANGE
 march_2100 = refl
+
+-- the times of a counter of 3 GHz end 2^59 ns after its first count, and those of 64 bits may end sooner
+the_last_count : last_count fast ≡ 1729382256910270963
+unfolding count_of fast
+the_last_count = refl
+
+the_last_count_of_64_bits : last_count (record fast { khz = 10000000; start = 13000000000000000000 }) ≡ 18446744073709551615
+unfolding count_of fast
+the_last_count_of_64_bits = refl
+
+-- a board whose pages threads share
+shared_by_threads : BoardParts → CallerBoard
+shared_by_threads s = record { seal = SEAL; shared = true; known = true; state = s }
+
+no_write_of_the_tsc : (s : BoardParts) → early_code (shared_by_threads s) 0 (MsrWrite 0x10 5) ≡ Some SHARED
+unfolding shared_by_threads
+no_write_of_the_tsc s = refl
+
+no_refresh : (s : BoardParts) → early_code (shared_by_threads s) 0 (Refresh 1) ≡ Some SHARED
+unfolding shared_by_threads
+no_refresh s = refl
+
+a_write_of_the_wall_clock : (s : BoardParts) → early_code (shared_by_threads s) 0 (MsrWrite 0x4b564d00 5) ≡ access_code s 0 (MsrWrite 0x4b564d00 5)
+unfolding shared_by_threads
+a_write_of_the_wall_clock s = refl
+
+no_save : (s : BoardParts) → save_code (shared_by_threads s) 8000 ≡ SHARED
+unfolding shared_by_threads
+no_save s = refl
+
+no_second_opening : (s : BoardParts) → opened (shared_by_threads s) ≡ shared_by_threads s
+unfolding shared_by_threads
+no_second_opening s = refl
+
+never_opened : (s : BoardParts) → open_code (sealed s) ≡ NOT_SHARED
+never_opened s = refl
+
+-- what leaves a next edge as it was, if no line changed on the way
+a_read_of_the_hpet : leaves_devices (HpetRead 0xf0 8) ≡ true
+a_read_of_the_hpet = refl
+
+a_write_of_a_port : leaves_devices (PortOut 0x70 0) ≡ false
+a_write_of_a_port = refl

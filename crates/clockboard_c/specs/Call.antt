@@ -3,39 +3,75 @@ use Rattle.std.specs.Prelude.{
   ℕ,
   ◌-◌,
   ◌==◌,
+  ◌&&◌,
   nat_lt,
+  Bool,
+  true,
+  false,
   if◌then◌else◌,
+  List,
+  [],
+  ◌∷◌,
   Option,
   Some,
   None,
 }
+use Rattle.irq_edges.specs.declared.edges.Edge.{Edge}
 use Rattle.board_types.specs.declared.access.Access.{Access}
+use Rattle.board_types.specs.declared.access.Access.TheVariants.{
+  PortIn,
+  PortOut,
+  HpetWrite,
+  Ack,
+}
 use Rattle.board_types.specs.declared.access.TickSource.{TickSource}
 use Rattle.board_types.specs.declared.access.TickSource.TheVariants.{Pit, Rtc, Hpet, Apic}
 use Rattle.board_types.specs.declared.parts.BoardParts.{BoardParts}
 use Rattle.board_types.specs.declared.reply.Refusal.{Refusal}
 use Rattle.board_types.specs.Legal.{is_legal}
 use Rattle.board_core.specs.Time.{now_of}
-use Rattle.board_core.specs.Access.{reply_of, after_access}
+use Rattle.board_core.specs.Access.{edges_of, reply_of, after_access}
+use Rattle.board_core.specs.Pages.{published_by}
 use Rattle.board_core.specs.Refusals.{refusal_of}
 use Rattle.clockboard_c.specs.declared.board.Board.{Board}
 use Rattle.clockboard_c.specs.declared.board.TheConstants.{SEAL}
-use Rattle.clockboard_c.specs.declared.code.TheConstants.{NO_BOARD, NO_PROCESSOR, NOT_OURS}
+use Rattle.clockboard_c.specs.declared.code.TheConstants.{
+  NO_BOARD,
+  NO_PROCESSOR,
+  NOT_OURS,
+  SHARED,
+  NOT_SHARED,
+}
 use Rattle.clockboard_c.specs.Codes.{code_of}
 use Rattle.clockboard_c.specs.Replies.{Told, refused, told_of}
 
 -- a board that a call has made
 abbrev pub sealed : BoardParts → Board
-sealed state = record { seal = SEAL; state = state }
+sealed state = record { seal = SEAL; shared = false; known = false; state = state }
+
+-- whether a page of a processor is published
+abbrev pub is_page : Option ℕ → Bool
+is_page (Some page) = true
+is_page None = false
+
+-- why a board that has been made takes no such access
+abbrev pub access_code : BoardParts → ℕ → Access → Option ℕ
+access_code s cpu a =
+    if nat_lt cpu s.cpus then (if is_legal s.cpus s.format a then None else Some NOT_OURS)
+    else Some NO_PROCESSOR
 
 -- why an access isn't handed to the board, the causes in this order: the memory isn't sealed; the
--- board has no such processor; it takes no such access
+-- access publishes a page that threads share; the board has no such processor; it takes no such access
 abbrev pub early_code : Board → ℕ → Access → Option ℕ
 early_code b cpu a =
     if b.seal == SEAL then
-    (if nat_lt cpu b.state.cpus then
-    (if is_legal b.state.cpus b.state.format a then None else Some NOT_OURS)
-    else Some NO_PROCESSOR)
+    (if b.shared && is_page (published_by cpu a) then Some SHARED else access_code b.state cpu a)
+    else Some NO_BOARD
+
+-- .. and where the caller puts that page's words for the threads
+abbrev pub shared_code : Board → ℕ → Access → Option ℕ
+shared_code b cpu a =
+    if b.seal == SEAL then (if b.shared then access_code b.state cpu a else Some NOT_SHARED)
     else Some NO_BOARD
 
 -- what the board tells of an access that it is handed, where that is why it refuses it
@@ -62,9 +98,36 @@ told_or None s cpu h a = told_by s cpu h a
 abbrev pub told : Board → ℕ → ℕ → Access → Told
 told b cpu h a = told_or (early_code b cpu a) b.state cpu h a
 
+abbrev pub shared_told : Board → ℕ → ℕ → Access → Told
+shared_told b cpu h a = told_or (shared_code b cpu a) b.state cpu h a
+
+-- an access that asks the devices to do nothing, or only reads the HPET
+abbrev pub leaves_devices : Access → Bool
+leaves_devices (PortIn port) = false
+leaves_devices (PortOut port byte) = false
+leaves_devices (HpetWrite offset width value) = false
+leaves_devices (Ack line) = false
+leaves_devices _ = true
+
+abbrev pub is_none : List Edge → Bool
+is_none [] = true
+is_none (e ∷ es) = false
+
+-- whether a next edge that was kept stays: the access leaves the devices, and no line changed; or it
+-- is refused
+abbrev pub keeps_unless : Option Refusal → BoardParts → ℕ → Access → Bool
+keeps_unless (Some refusal) s h a = true
+keeps_unless None s h a = leaves_devices a && is_none (edges_of s h a)
+
+abbrev pub keeps_next : BoardParts → ℕ → ℕ → Access → Bool
+keeps_next s cpu h a = keeps_unless (refusal_of s cpu h a) s h a
+
 -- the board behind it: as it was, or as the access leaves it
 abbrev pub answered : Board → ℕ → ℕ → Access → Board
-answered b cpu h a = record b { state = state_behind b.state cpu h a }
+answered b cpu h a = record b {
+  known = b.known && keeps_next b.state cpu h a;
+  state = state_behind b.state cpu h a;
+}
 
 abbrev pub behind_or : Option ℕ → Board → ℕ → ℕ → Access → Board
 behind_or (Some code) b cpu h a = b
@@ -72,6 +135,9 @@ behind_or None b cpu h a = answered b cpu h a
 
 abbrev pub behind : Board → ℕ → ℕ → Access → Board
 behind b cpu h a = behind_or (early_code b cpu a) b cpu h a
+
+abbrev pub shared_behind : Board → ℕ → ℕ → Access → Board
+shared_behind b cpu h a = behind_or (shared_code b cpu a) b cpu h a
 
 -- the source of ticks of a number: the 8254, the MC146818, from 2 on the timers of the HPET, and from
 -- 16 on those of the processors' local APICs

@@ -1,5 +1,7 @@
 pub mod Codes
 pub mod Replies
+pub mod Kept
+pub mod View
 pub mod Call
 pub mod Calendar
 pub mod Setup
@@ -8,4 +10,5 @@ pub mod Look
 pub mod Hv
 pub mod Pages
 pub mod States
+pub mod Shared
 pub mod private

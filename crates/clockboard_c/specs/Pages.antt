@@ -1,5 +1,5 @@
 -- What C reads of a page, and of the clock.
-use Rattle.std.specs.Prelude.{ℕ, ◌-◌, ◌%◌, ◌==◌, nat_lt, nat_le, if◌then◌else◌, [], ◌∷◌}
+use Rattle.std.specs.Prelude.{ℕ, ◌-◌, ◌%◌, ◌==◌, ◌&&◌, nat_lt, nat_le, if◌then◌else◌, [], ◌∷◌}
 use Rattle.clk_units.specs.Bits.{bit}
 use Rattle.clk_units.specs.declared.ranges.TheConstants.{RANGE_NS}
 use Rattle.host_counter.specs.Time.{time_at}
@@ -11,11 +11,13 @@ use Rattle.board_core.specs.Time.{now_of}
 use Rattle.board_core.specs.Tsc.{processor_at}
 use Rattle.board_core.specs.Pages.{page_in, clock_reply, after_clock}
 use Rattle.clockboard_c.specs.declared.board.Board.{Board}
+use Rattle.clockboard_c.specs.declared.board.TheConstants.{SEAL}
 use Rattle.clockboard_c.specs.declared.code.TheConstants.{
   OK,
   BEFORE_START,
   OUT_OF_RANGE,
   PAGE_OFF,
+  SHARED,
 }
 use Rattle.clockboard_c.specs.declared.pages.PageWords.{PageWords}
 use Rattle.clockboard_c.specs.Look.{processor_code}
@@ -52,11 +54,17 @@ state_behind_clock s cpu h =
     if nat_lt h s.anchor.start then s
     else (if nat_le RANGE_NS (time_at s.anchor h) then s else after_clock s cpu h)
 
+-- the code of a question about the clock of a processor, whose greatest reading the board doesn't
+-- know while threads share its pages
+abbrev pub clock_code : Board → ℕ → ℕ
+clock_code b cpu =
+    if b.seal == SEAL && b.shared then SHARED else processor_code b cpu
+
 -- what the call tells, and the board behind it
 abbrev pub clock_told : Board → ℕ → ℕ → Told
 clock_told b cpu h =
-    if processor_code b cpu == OK then clock_by b.state cpu h else refused (processor_code b cpu)
+    if clock_code b cpu == OK then clock_by b.state cpu h else refused (clock_code b cpu)
 
 abbrev pub behind_clock : Board → ℕ → ℕ → Board
 behind_clock b cpu h =
-    if processor_code b cpu == OK then record b { state = state_behind_clock b.state cpu h } else b
+    if clock_code b cpu == OK then record b { state = state_behind_clock b.state cpu h } else b

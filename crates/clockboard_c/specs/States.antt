@@ -4,6 +4,7 @@ use Rattle.std.specs.Prelude.{
   ◌==◌,
   ◌&&◌,
   nat_le,
+  false,
   if◌then◌else◌,
   List,
   [],
@@ -44,16 +45,22 @@ use Rattle.clockboard_c.specs.declared.code.TheConstants.{
   BAD_FORMAT,
   OUT_OF_RANGE,
   VERSIONS_SPENT,
+  SHARED,
 }
 use Rattle.clockboard_c.specs.Call.{sealed}
 use Rattle.clockboard_c.specs.Replies.{Told, refused, refused_at, taken, no_value}
 use Rattle.clockboard_c.specs.Setup.{is_rate}
 
+-- the code of what is done with a board as a whole, and not while threads share its pages
+abbrev pub whole_code : Board → ℕ
+whole_code b = if b.seal == SEAL then (if b.shared then SHARED else OK) else NO_BOARD
+
 -- the code of a save into so many bytes
 abbrev pub save_code : Board → ℕ → ℕ
 save_code b room =
-    if b.seal == SEAL then (if nat_le (length (bytes_of b.state)) room then OK else NO_ROOM)
-    else NO_BOARD
+    if whole_code b == OK then
+    (if nat_le (length (bytes_of b.state)) room then OK else NO_ROOM)
+    else whole_code b
 
 -- what is at fault in a saved state, by a number
 abbrev pub kind_number : StateKind → ℕ
@@ -104,23 +111,25 @@ state_behind_move s khz start gap = state_moved_unless (move_fault gap s) s khz 
 -- what the call tells, and the board behind it
 abbrev pub move_told : Board → ℕ → ℕ → ℕ → Told
 move_told b khz start gap =
-    if b.seal == SEAL then
+    if whole_code b == OK then
     (if is_rate khz then moved_told b.state khz start gap else refused BAD_RATE)
-    else refused NO_BOARD
+    else refused (whole_code b)
 
 abbrev pub behind_move : Board → ℕ → ℕ → ℕ → Board
 behind_move b khz start gap =
-    if b.seal == SEAL && is_rate khz then
-    record b { state = state_behind_move b.state khz start gap }
+    if whole_code b == OK && is_rate khz then
+    record b { known = false; state = state_behind_move b.state khz start gap }
     else b
 
 -- the code of an upgrade, and the board behind it
 abbrev pub upgrade_code : Board → ℕ → ℕ
 upgrade_code b format =
-    if b.seal == SEAL then
+    if whole_code b == OK then
     (if nat_le b.state.format format && nat_le format LAST_FORMAT then OK else BAD_FORMAT)
-    else NO_BOARD
+    else whole_code b
 
 abbrev pub behind_upgrade : Board → ℕ → Board
 behind_upgrade b format =
-    if upgrade_code b format == OK then record b { state = upgraded_to format b.state } else b
+    if upgrade_code b format == OK then
+    record b { known = false; state = upgraded_to format b.state }
+    else b

@@ -10,6 +10,7 @@ use Rattle.std.specs.Prelude.{
   ◌≤◌,
   ◌==◌,
   nat_lt,
+  true,
   if◌then◌else◌,
   Option,
   Some,
@@ -17,20 +18,10 @@ use Rattle.std.specs.Prelude.{
 }
 use Rattle.host_counter.specs.declared.Anchor.{Anchor}
 use Rattle.host_counter.specs.Time.{time_at}
-use Rattle.board_core.specs.Time.{devices_in, now_of}
-use Rattle.board_core.specs.Next.{next_of}
 use Rattle.clockboard_c.specs.declared.board.Board.{Board}
 use Rattle.clockboard_c.specs.declared.board.TheConstants.{SEAL}
-use Rattle.clockboard_c.specs.declared.code.TheConstants.{OK, NO_BOARD, NO_EDGE}
-
--- the number in some memory after a call that has one to tell or not
-abbrev pub number_or_0 : Option ℕ → ℕ
-number_or_0 (Some n) = n
-number_or_0 None = 0
-
-abbrev pub code_or_none : Option ℕ → ℕ
-code_or_none (Some n) = OK
-code_or_none None = NO_EDGE
+use Rattle.clockboard_c.specs.declared.code.TheConstants.{OK, NO_BOARD}
+use Rattle.clockboard_c.specs.Kept.{number_or_0, code_or_none}
 
 -- the number that a code and some memory tell
 abbrev pub told_number : ℕ → ℕ → Option ℕ
@@ -43,9 +34,9 @@ answer_code b told = if b.seal == SEAL then code_or_none told else NO_BOARD
 abbrev pub answer_number : Board → Option ℕ → ℕ
 answer_number b told = if b.seal == SEAL then number_or_0 told else 0
 
--- when a line changes next, if no access comes
-abbrev pub next_in : Board → Option ℕ
-next_in b = next_of (now_of b.state) (devices_in b.state)
+-- the board after it was asked for its next edge, which it keeps from then on
+abbrev pub with_next : Board → Board
+with_next b = if b.seal == SEAL then record b { known = true } else b
 
 -- the first count of the host's counter whose time is t or later
 unfoldable pub count_of : Anchor → ℕ → ℕ

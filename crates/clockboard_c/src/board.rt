@@ -1,20 +1,50 @@
 //! The board as C keeps it.
-ghost use Rattle.std.specs.Prelude.{◌≡◌};
+ghost use Rattle.std.specs.Prelude.{◌≡◌, if◌then◌else◌};
 ghost use Rattle.board_types.specs.Setup.{setup_by_default};
 ghost use Rattle.board_core.specs.PowerOn.{board_at_power_on};
 ghost use Rattle.clockboard_c.specs.Call.{sealed};
+ghost use Rattle.clockboard_c.specs.Kept.{no_kept};
 
 use crate::reply::ReplyWords;
 use board_core::BoardState;
 use board_types::Setup;
+use std::marker::Model;
 use std::mem::size_of;
 
 /// The number of this binary interface: it goes up where a struct or a call changes.
-pub const ABI: u32 = 3;
+pub const ABI: u32 = 4;
 
 /// What the first word of each board holds: 'CLKBRDC' and the digit of `ABI`, the lowest byte first. So memory that holds
 /// a board of another interface holds none of this.
-pub(crate) const SEAL: u64 = 0x3343_4452_424b_4c43;
+pub(crate) const SEAL: u64 = 0x3443_4452_424b_4c43;
+
+/// The next edge that a board keeps: where `known`, what `clockboard_next_edge` answers, and else 0.
+#[derive(Clone, Copy)]
+#[repr(C)]
+pub struct KeptEdge {
+    pub(crate) known: bool,
+    pub(crate) code: u32,
+    pub(crate) ns: u64,
+}
+
+/// None is kept.
+pub(crate) const NO_KEPT: KeptEdge = KeptEdge {
+    known: false,
+    code: 0,
+    ns: 0,
+};
+
+impl KeptEdge {
+    /// Goes on to keep what it keeps, or keeps nothing.
+    #[inline(always)]
+    pub(crate) fn keep_where(&mut self, kept: bool)
+        ensures { self.new ≡ (if kept then self.old else no_kept) }
+    {
+        if !kept {
+            *self = NO_KEPT;
+        }
+    }
+}
 
 /// A board in the caller's memory, `struct clockboard` of the header. It holds no pointer, so it may be moved and
 /// copied whole.
@@ -23,15 +53,41 @@ pub(crate) const SEAL: u64 = 0x3343_4452_424b_4c43;
 pub struct Board {
     /// `SEAL`, in each board that a call has made.
     pub(crate) seal: u64,
+    /// Whether threads share its pages: from `clockboard_share` to `clockboard_unshare`.
+    pub(crate) shared: bool,
+    pub(crate) next: KeptEdge,
     /// The board.
     pub(crate) state: BoardState,
+}
+
+impl Model for Board {
+    ghost use Rattle.std.proofs.Common.{ap, sym};
+    ghost use Rattle.clockboard_c.specs.Kept.{CallerBoard};
+
+    ghost Value = { CallerBoard };
+
+    ghost use Rattle.clockboard_c.specs.View.{caller_board, board_of, KeepsNext};
+    ghost use Rattle.clockboard_c.specs.declared.board.KeptEdge.{KeptEdge};
+
+    ghost view = { caller_board };
+
+    ghost invariant = { KeepsNext };
+
+    ghost inverse = { board_of };
+
+    ghost inverse_ok = { λ b kept. ap (λ (k : KeptEdge). record b { next = k }) (sym kept) };
 }
 
 /// A board of this state.
 pub(crate) fn sealed(state: BoardState) -> Board
     ensures { result ≡ sealed state }
 {
-    Board { seal: SEAL, state }
+    Board {
+        seal: SEAL,
+        shared: false,
+        next: NO_KEPT,
+        state,
+    }
 }
 
 /// The number of the binary interface, which a program compares with its header's.

@@ -1,13 +1,28 @@
 //! One access to a board that C holds.
-ghost use Rattle.std.specs.Prelude.{◌≡◌, ◌<◌, IsTrue};
+ghost use Rattle.std.specs.Prelude.{◌≡◌, ◌<◌, ◌&&◌, IsTrue};
+ghost use Rattle.board_types.specs.declared.parts.BoardParts.{BoardParts};
 ghost use Rattle.board_types.specs.Legal.{is_legal};
 ghost use Rattle.clockboard_c.specs.Replies.{IsReply};
-ghost use Rattle.clockboard_c.specs.Call.{early_code, told, behind, told_by, answered};
+ghost use Rattle.clockboard_c.specs.Call.{
+  access_code,
+  early_code,
+  shared_code,
+  leaves_devices,
+  is_none,
+  told,
+  behind,
+  shared_told,
+  shared_behind,
+  told_by,
+  answered,
+};
 
 use crate::board::{Board, SEAL};
-use crate::code::{NO_BOARD, NO_PROCESSOR, NOT_OURS, code_of};
+use crate::code::{NO_BOARD, NO_PROCESSOR, NOT_OURS, NOT_SHARED, SHARED, code_of};
 use crate::reply::ReplyWords;
+use board_core::{BoardState, published_by};
 use board_types::{Access, Reply};
+use irq_edges::EdgeList;
 
 /// One access by processor `cpu` at count `host`: what of it C could have given that no board takes is answered by
 /// a code; else the board answers. Each call of C's has its own copy of these tests, in which its kind of access is known.
@@ -22,6 +37,24 @@ pub(crate) fn call(board: &mut Board, cpu: u8, host: u64, access: Access, reply:
     }
 }
 
+/// The same to a board that is open for sharing, where the caller puts the words of the page that the access publishes.
+#[inline(always)]
+pub(crate) fn shared_call(
+    board: &mut Board,
+    cpu: u8,
+    host: u64,
+    access: Access,
+    reply: &mut ReplyWords,
+)
+    ensures reply { IsReply reply.old reply.new (shared_told board.old cpu host access) }
+    ensures board { board.new ≡ shared_behind board.old cpu host access }
+{
+    match shared_code(board, cpu, access) {
+        Some(code) => reply.refuse(code),
+        None => answer(board, cpu, host, access, reply),
+    }
+}
+
 /// Why an access isn't handed to the board. The seal is looked at before anything else of it.
 #[inline(always)]
 fn early_code(board: &Board, cpu: u8, access: Access) -> Option<u32>
@@ -30,16 +63,41 @@ fn early_code(board: &Board, cpu: u8, access: Access) -> Option<u32>
     if board.seal != SEAL {
         return Some(NO_BOARD);
     }
-    if cpu >= board.state.cpus() {
+    if board.shared && published_by(cpu, access).is_some() {
+        return Some(SHARED);
+    }
+    access_code(&board.state, cpu, access)
+}
+
+/// The same for the calls of a board that is open for sharing.
+#[inline(always)]
+fn shared_code(board: &Board, cpu: u8, access: Access) -> Option<u32>
+    ensures { result ≡ shared_code board.now cpu access }
+{
+    if board.seal != SEAL {
+        return Some(NO_BOARD);
+    }
+    if !board.shared {
+        return Some(NOT_SHARED);
+    }
+    access_code(&board.state, cpu, access)
+}
+
+/// Why a board takes no such access.
+#[inline(always)]
+fn access_code(state: &BoardState, cpu: u8, access: Access) -> Option<u32>
+    ensures { result ≡ access_code state.now cpu access }
+{
+    if cpu >= state.cpus() {
         return Some(NO_PROCESSOR);
     }
-    if !access.legal(board.state.cpus(), board.state.format()) {
+    if !access.legal(state.cpus(), state.format()) {
         return Some(NOT_OURS);
     }
     None
 }
 
-/// The board's answer, in one place for all calls: so the board's code for an access stands in it, and not behind a call.
+/// The board's answer, in one place for all calls: so the board's code for an access is in it, and not a call away.
 #[inline(never)]
 fn answer(board: &mut Board, cpu: u8, host: u64, access: Access, reply: &mut ReplyWords)
     requires cpu { cpu < board.old.state.cpus }
@@ -47,9 +105,37 @@ fn answer(board: &mut Board, cpu: u8, host: u64, access: Access, reply: &mut Rep
     ensures reply { IsReply reply.old reply.new (told_by board.old.state cpu host access) }
     ensures board { board.new ≡ answered board.old cpu host access }
 {
+    // The call gives with the processors what joins the parts of a board.
+    let _ = board.state.cpus();
     let mut answered = Reply::empty();
     match board.state.answer(cpu, host, access, &mut answered) {
-        Ok(()) => reply.take_answer(&answered, board.state.now()),
+        Ok(()) => {
+            let kept = keeps_next(access, &answered.edges);
+            board.next.keep_where(kept);
+            reply.take_answer(&answered, board.state.now());
+        }
         Err(refusal) => reply.refuse(code_of(refusal)),
     }
+}
+
+/// Whether the next edge is what it was: the access leaves the devices, and no line changed.
+#[inline(always)]
+fn keeps_next(access: Access, edges: &EdgeList) -> bool
+    ensures { result ≡ (leaves_devices access && is_none edges.now) }
+{
+    leaves_devices(access) && edges.is_empty()
+}
+
+/// Whether an access asks the devices to do nothing, or only reads the HPET.
+#[inline(always)]
+fn leaves_devices(access: Access) -> bool
+    ensures { result ≡ leaves_devices access }
+{
+    !matches!(
+        access,
+        Access::PortIn { .. }
+            | Access::PortOut { .. }
+            | Access::HpetWrite { .. }
+            | Access::Ack { .. }
+    )
 }

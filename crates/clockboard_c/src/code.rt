@@ -52,6 +52,15 @@ pub const PAGE_OFF: u32 = 14;
 /// No line changes below 2^59 ns, or no count has that time.
 pub const NO_EDGE: u32 = 15;
 
+/// The pages' words are being put; of shared.h alone, which tries again.
+pub const AGAIN: u32 = 16;
+
+/// Threads share the board's pages: the call waits until they don't, or is one of shared.h's.
+pub const SHARED: u32 = 17;
+
+/// Threads don't share the board's pages.
+pub const NOT_SHARED: u32 = 18;
+
 /// The code of a refusal.
 pub(crate) fn code_of(refusal: Refusal) -> u32
     ensures { result ≡ code_of refusal }

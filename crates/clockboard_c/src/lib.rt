@@ -25,6 +25,7 @@ mod ports;
 mod power_on;
 mod registers;
 mod reply;
+mod shared;
 mod states;
 mod timer;
 
@@ -33,8 +34,9 @@ pub use board::{
 };
 pub use calendar::{MARCH_2100, clockboard_setup_at};
 pub use code::{
-    ACCESSES_SPENT, BAD_FORMAT, BAD_RATE, BAD_SETUP, BAD_STATE, BEFORE_START, NO_BOARD, NO_EDGE,
-    NO_MEMORY, NO_PROCESSOR, NO_ROOM, NOT_OURS, OK, OUT_OF_RANGE, PAGE_OFF, VERSIONS_SPENT,
+    ACCESSES_SPENT, AGAIN, BAD_FORMAT, BAD_RATE, BAD_SETUP, BAD_STATE, BEFORE_START, NO_BOARD,
+    NO_EDGE, NO_MEMORY, NO_PROCESSOR, NO_ROOM, NOT_OURS, NOT_SHARED, OK, OUT_OF_RANGE, PAGE_OFF,
+    SHARED, VERSIONS_SPENT,
 };
 pub use hv::{HvWords, clockboard_hv_page, clockboard_hv_time};
 pub use look::{TscWords, ViewWords, clockboard_look, clockboard_tsc};
@@ -47,6 +49,10 @@ pub use registers::{
     clockboard_rises, clockboard_wall,
 };
 pub use reply::{BurstWords, EdgeWords, ReplyWords};
+pub use shared::{
+    FiveWords, RateWords, clockboard_page_reading, clockboard_page_words, clockboard_share,
+    clockboard_share_msr_write, clockboard_share_refresh, clockboard_unshare,
+};
 pub use states::{clockboard_load, clockboard_move, clockboard_save, clockboard_upgrade};
 pub use timer::{
     clockboard_counter_of, clockboard_next_edge, clockboard_next_message, clockboard_next_tick,

@@ -5,6 +5,7 @@ ghost use Rattle.clockboard_c.specs.Look.{processor_code};
 ghost use Rattle.clockboard_c.specs.Pages.{
   page_words,
   page_behind,
+  clock_code,
   clock_told,
   behind_clock,
   clock_by,
@@ -12,7 +13,7 @@ ghost use Rattle.clockboard_c.specs.Pages.{
 };
 
 use crate::board::{Board, SEAL};
-use crate::code::{BEFORE_START, NO_BOARD, NO_PROCESSOR, OK, OUT_OF_RANGE, PAGE_OFF};
+use crate::code::{BEFORE_START, NO_BOARD, NO_PROCESSOR, OK, OUT_OF_RANGE, PAGE_OFF, SHARED};
 use crate::reply::ReplyWords;
 use board_core::BoardState;
 use host_counter::TimeFault;
@@ -71,15 +72,27 @@ pub extern "C" fn clockboard_clock(board: &mut Board, cpu: u8, host: u64, reply:
     ensures reply { IsReply reply.old reply.new (clock_told board.old cpu host) }
     ensures board { board.new ≡ behind_clock board.old cpu host }
 {
-    if board.seal != SEAL {
-        reply.refuse(NO_BOARD);
-        return;
-    }
-    if cpu >= board.state.cpus() {
-        reply.refuse(NO_PROCESSOR);
+    let code = clock_code(board, cpu);
+    if code != OK {
+        reply.refuse(code);
         return;
     }
     tell_clock(&mut board.state, cpu, host, reply);
+}
+
+/// The code of a question about the clock of a processor.
+fn clock_code(board: &Board, cpu: u8) -> u32
+    ensures { result ≡ clock_code board.now cpu }
+{
+    if board.seal != SEAL {
+        NO_BOARD
+    } else if board.shared {
+        SHARED
+    } else if cpu >= board.state.cpus() {
+        NO_PROCESSOR
+    } else {
+        OK
+    }
 }
 
 /// What the clock of a processor tells that is there.

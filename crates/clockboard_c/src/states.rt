@@ -5,6 +5,7 @@ ghost use Rattle.save_state.specs.Writing.{bytes_of};
 ghost use Rattle.save_state.specs.declared.fault.StateKind.{StateKind};
 ghost use Rattle.clockboard_c.specs.Replies.{IsReply};
 ghost use Rattle.clockboard_c.specs.States.{
+  whole_code,
   save_code,
   kind_number,
   load_told,
@@ -18,9 +19,10 @@ ghost use Rattle.clockboard_c.specs.States.{
   behind_upgrade,
 };
 
-use crate::board::{Board, SEAL, sealed};
+use crate::board::{Board, NO_KEPT, SEAL, sealed};
 use crate::code::{
-    BAD_FORMAT, BAD_RATE, BAD_STATE, NO_BOARD, NO_MEMORY, NO_ROOM, OK, OUT_OF_RANGE, VERSIONS_SPENT,
+    BAD_FORMAT, BAD_RATE, BAD_STATE, NO_BOARD, NO_MEMORY, NO_ROOM, OK, OUT_OF_RANGE, SHARED,
+    VERSIONS_SPENT,
 };
 use crate::reply::{NO_VALUE, ReplyWords};
 use board_core::BoardState;
@@ -47,11 +49,12 @@ pub extern "C" fn clockboard_save(
     // The length that was written, or that is wanted.
     ensures length { result ≡ OK ⊎ result ≡ NO_ROOM
         → written.new ≡ length (bytes_of board.now.state) }
-    ensures none { result ≡ NO_BOARD ⊎ result ≡ NO_MEMORY → written.new ≡ 0 }
+    ensures none { result ≢ OK → result ≢ NO_ROOM → written.new ≡ 0 }
 {
     *written = 0;
-    if board.seal != SEAL {
-        return NO_BOARD;
+    let code = whole_code(board);
+    if code != OK {
+        return code;
     }
     let Ok(saved) = encode(alloc, &board.state) else {
         return NO_MEMORY;
@@ -114,14 +117,16 @@ pub extern "C" fn clockboard_move(
     ensures reply { IsReply reply.old reply.new (move_told board.old khz start gap_ns) }
     ensures board { board.new ≡ behind_move board.old khz start gap_ns }
 {
-    if board.seal != SEAL {
-        reply.refuse(NO_BOARD);
+    let code = whole_code(board);
+    if code != OK {
+        reply.refuse(code);
         return;
     }
     if !is_khz(khz) {
         reply.refuse(BAD_RATE);
         return;
     }
+    board.next = NO_KEPT;
     move_on(&mut board.state, khz, start, gap_ns, reply);
 }
 
@@ -163,12 +168,27 @@ pub extern "C" fn clockboard_upgrade(board: &mut Board, format: u8) -> u32
     ensures code { result ≡ upgrade_code board.old format }
     ensures board { board.new ≡ behind_upgrade board.old format }
 {
-    if board.seal != SEAL {
-        return NO_BOARD;
+    let code = whole_code(board);
+    if code != OK {
+        return code;
     }
     if format < board.state.format() || format > LAST_FORMAT {
         return BAD_FORMAT;
     }
+    board.next = NO_KEPT;
     board.state = board.state.upgraded(format);
     OK
+}
+
+/// The code of what is done with a board as a whole, and not while threads share its pages.
+pub(crate) fn whole_code(board: &Board) -> u32
+    ensures { result ≡ whole_code board.now }
+{
+    if board.seal != SEAL {
+        NO_BOARD
+    } else if board.shared {
+        SHARED
+    } else {
+        OK
+    }
 }

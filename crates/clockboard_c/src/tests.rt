@@ -6,7 +6,7 @@ use std::test::Fail;
 /// `CLOCKBOARD_SIZE` and `CLOCKBOARD_REPLY_SIZE` of c/clockboard.h.
 #[test]
 fn sizes_of_the_header(rt: HostRuntime) -> Result<(), Fail> {
-    assert_eq!(rt; clockboard_size(), 9_296);
+    assert_eq!(rt; clockboard_size(), 9_320);
     assert_eq!(rt; clockboard_reply_size(), 768);
     Ok(())
 }
@@ -50,7 +50,7 @@ fn one_rise_in_mode_2(rt: HostRuntime) -> Result<(), Fail> {
         assert_eq!(rt; reply.answer, OK);
     }
     let mut at = 0;
-    assert_eq!(rt; clockboard_next_edge(&board, &mut at), OK);
+    assert_eq!(rt; clockboard_next_edge(&mut board, &mut at), OK);
     assert_eq!(rt; at, 4_191);
     clockboard_step(&mut board, 0, 5_000, &mut reply);
     assert_eq!(rt; (reply.edge_count, reply.edges[0].at_ns), (1, 4_191));

@@ -11,24 +11,24 @@ ghost use Rattle.std.specs.Prelude.{
   ◌<◌,
   ◌≤◌,
   IfSome,
+  true,
 };
 ghost use Rattle.clk_units.specs.Ranges.{IsKhz};
 ghost use Rattle.board_core.specs.Next.{IsNextTick, next_message_of};
 ghost use Rattle.clockboard_c.specs.Look.{processor_code};
+ghost use Rattle.clockboard_c.specs.Kept.{code_or_none, number_or_0, next_edge_of, kept_of};
 ghost use Rattle.clockboard_c.specs.Timer.{
-  code_or_none,
-  number_or_0,
   told_number,
   answer_code,
   answer_number,
-  next_in,
+  with_next,
   count_of,
   count_in,
   count_within,
   IsFirstCount,
 };
 
-use crate::board::{Board, SEAL};
+use crate::board::{Board, KeptEdge, SEAL};
 use crate::code::{NO_BOARD, NO_EDGE, NO_PROCESSOR, OK};
 use board_core::BoardState;
 use host_counter::Anchor;
@@ -37,17 +37,43 @@ use host_counter::Anchor;
 const MILLISECOND_NS: u128 = 1_000_000;
 
 /// The first nanosecond after the board's time, and below 2^59, in which a line changes if no access comes; 0 after a
-/// code other than `OK`.
+/// code other than `OK`. The board keeps it until an access may have changed it, so that it is looked up again then alone.
 #[unsafe(no_mangle)]
-pub extern "C" fn clockboard_next_edge(board: &Board, at_ns: &mut u64) -> u32
-    ensures code { result ≡ answer_code board.now (next_in board.now) }
-    ensures number { at_ns.new ≡ answer_number board.now (next_in board.now) }
+pub extern "C" fn clockboard_next_edge(board: &mut Board, at_ns: &mut u64) -> u32
+    ensures code { result ≡ answer_code board.old (next_edge_of board.old.state) }
+    ensures number { at_ns.new ≡ answer_number board.old (next_edge_of board.old.state) }
+    ensures board { board.new ≡ with_next board.old }
 {
     if board.seal != SEAL {
         *at_ns = 0;
         return NO_BOARD;
     }
-    tell(board.state.next_edge(), at_ns)
+    if !board.next.known {
+        keep_next(board);
+    }
+    *at_ns = board.next.ns;
+    board.next.code
+}
+
+/// Looks up the next edge, and keeps it.
+#[inline(never)]
+fn keep_next(board: &mut Board)
+    ensures { board.new ≡ record board.old { known = true } }
+{
+    board.next = next_edge(&board.state);
+}
+
+/// The next edge as it is kept.
+fn next_edge(state: &BoardState) -> KeptEdge
+    ensures { result ≡ kept_of true state.now }
+{
+    let mut ns = 0;
+    let code = tell(state.next_edge(), &mut ns);
+    KeptEdge {
+        known: true,
+        code,
+        ns,
+    }
 }
 
 /// The same for the local APIC's timer of processor `cpu`: the nanosecond in which it fires and isn't masked.
@@ -128,7 +154,7 @@ fn tell(told: Option<u64>, number: &mut u64) -> u32
 
 /// The first count with a time or a later one, where 64 bits hold it.
 #[tactic(auto, using(crate::proofs::Counts::first_count), unfolding(crate::specs::Timer::count_of))]
-fn count_within(anchor: &Anchor, t: u64) -> Option<u64>
+pub(crate) fn count_within(anchor: &Anchor, t: u64) -> Option<u64>
     requires { IsKhz anchor.now.khz }
     ensures value { result ≡ count_within anchor.now t }
     ensures first { IfSome result (IsFirstCount anchor.now t) }

@@ -86,11 +86,12 @@ impl Board {
         })
     }
 
-    /// The first nanosecond after the board's time, and below 2^59, in which a line changes if no access comes.
-    pub fn next_edge(&self) -> Option<u64> {
+    /// The first nanosecond after the board's time, and below 2^59, in which a line changes if no access comes. The board
+    /// keeps it: to ask again costs little.
+    pub fn next_edge(&mut self) -> Option<u64> {
         let mut at = 0;
         // SAFETY: two references of their types.
-        let code = unsafe { ffi::clockboard_next_edge(&self.0, &mut at) };
+        let code = unsafe { ffi::clockboard_next_edge(&mut self.0, &mut at) };
         (code == 0).then_some(at)
     }
 

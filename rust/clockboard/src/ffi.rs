@@ -2,10 +2,10 @@
 //! The calls of the archive, as `c/clockboard.h` declares them.
 
 /// `CLOCKBOARD_ABI` of the header.
-pub const ABI: u32 = 3;
+pub const ABI: u32 = 4;
 
 /// `CLOCKBOARD_SIZE` of the header.
-pub const SIZE: usize = 9_296;
+pub const SIZE: usize = 9_320;
 
 #[derive(Clone, Copy)]
 #[repr(C)]
@@ -183,7 +183,7 @@ extern "C" {
     pub fn clockboard_wall(board: *mut Board, cpu: u8, host: u64, reply: *mut Reply);
     pub fn clockboard_counts(board: *mut Board, cpu: u8, host: u64, source: u8, reply: *mut Reply);
     pub fn clockboard_rises(board: *mut Board, cpu: u8, host: u64, line: u8, reply: *mut Reply);
-    pub fn clockboard_next_edge(board: *const Board, at_ns: *mut u64) -> u32;
+    pub fn clockboard_next_edge(board: *mut Board, at_ns: *mut u64) -> u32;
     pub fn clockboard_next_tick(board: *const Board, cpu: u8, at_ns: *mut u64) -> u32;
     pub fn clockboard_next_message(board: *const Board, at_ns: *mut u64) -> u32;
     pub fn clockboard_counter_of(board: *const Board, at_ns: u64, host: *mut u64) -> u32;

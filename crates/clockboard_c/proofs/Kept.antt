@@ -1,0 +1,214 @@
+-- A next edge that is kept: an access that leaves the devices, and meets no edge on its way, leaves it.
+use Rattle.std.proofs.Common.{◌≡◌, ℕ, zero, suc, ◌+◌, ◌-◌, ◌<◌, refl, sym, subst, ap, ◌∙◌, arith, List, [], ◌∷◌, ◌++◌, Option, None, Bool, true, false, cond, ltb, leb, ◌&&◌}
+use Rattle.clk_units.specs.declared.ranges.TheConstants.{RANGE_NS}
+use Rattle.irq_edges.specs.declared.edges.Edge.{Edge}
+use Rattle.host_counter.specs.Time.{time_at}
+use Rattle.host_counter.proofs.Times.{time_at-max}
+use Rattle.board_types.specs.declared.access.Access.{Access}
+use Rattle.board_types.specs.declared.access.Access.TheVariants.{
+  PortIn,
+  PortOut,
+  HpetRead,
+  HpetWrite,
+  MsrRead,
+  MsrWrite,
+  Ack,
+  Step,
+  Refresh,
+  Wall,
+  CountsOf,
+  Next,
+  Rose,
+  Eoi,
+}
+use Rattle.board_types.specs.declared.parts.BoardParts.{BoardParts}
+use Rattle.board_devices.specs.declared.parts.DeviceParts.{DeviceParts}
+use Rattle.board_devices.specs.Run.{Ran, run, onward}
+use Rattle.board_devices.specs.Act.{acted}
+use Rattle.board_core.specs.Time.{devices_in, now_of, time_of_access}
+use Rattle.board_core.specs.Conditions.{IsJoined}
+use Rattle.board_core.specs.Refusals.{refusal_of}
+use Rattle.board_types.specs.declared.reply.Refusal.{Refusal}
+use Rattle.board_types.specs.declared.reply.Reply.{Reply}
+use Rattle.clockboard_c.specs.declared.board.KeptEdge.{KeptEdge}
+use Rattle.board_core.specs.Apics.{after_look}
+use Rattle.board_core.specs.Access.{ran_to, after_run, before_look, after_act, own_edges, edges_of, reply_of, after_access}
+use Rattle.board_core.specs.Pages.{after_clock}
+use Rattle.board_core.specs.Next.{at_first_edge, or_later, first_edge, next_of}
+use Rattle.clockboard_c.specs.Kept.{CallerBoard, code_or_none, number_or_0, next_edge_of, no_kept, kept_of}
+use Rattle.clockboard_c.specs.Pages.{state_behind_clock}
+use Rattle.clockboard_c.specs.Call.{leaves_devices, is_none, keeps_unless, keeps_next, state_unless, state_behind, answered}
+
+front-nil : (xs ys : List Edge) → xs ++ ys ≡ [] → xs ≡ []
+front-nil [] ys e = refl
+front-nil (x ∷ xs) ys e = cc
+
+module _ (now k : ℕ) (d : DeviceParts) where
+  before : (n : ℕ) → (run now (suc n) d).edges ≡ [] → (run now n d).edges ≡ []
+  unfolding run onward
+  before n e = front-nil (run now n d).edges _ e
+
+  first-none : (n : ℕ) → (run now n d).edges ≡ [] → first_edge now n d ≡ None
+  unfolding first_edge
+  first-none zero e = refl
+  first-none (suc n) e =
+      ap (λ (o : Option ℕ). or_later o (at_first_edge (now + n + 1) (run now (suc n) d).edges)) (first-none n (before n e))
+      ∙ ap (at_first_edge (now + n + 1)) e
+
+  -- a run whose first k nanoseconds have no edge goes on as one from there
+  run-on : (n : ℕ) → (run now k d).edges ≡ [] → run now (k + n) d ≡ run (now + k) n (run now k d).state
+  unfolding run onward
+  run-on zero e =
+      let same : k + 0 ≡ k = omega arith in
+      ap (λ (x : ℕ). run now x d) same ∙ ap (λ (es : List Edge). record { state = (run now k d).state; edges = es }) e
+  run-on (suc n) e =
+      let more : k + suc n ≡ suc (k + n) = omega arith in
+      let at : now + (k + n) + 1 ≡ now + k + n + 1 = omega arith in
+      ap (λ (x : ℕ). run now x d) more
+      ∙ ap (onward (now + (k + n) + 1)) (run-on n e)
+      ∙ ap (λ (t : ℕ). onward t (run (now + k) n (run now k d).state)) at
+
+  -- .. and so does the search for its first edge
+  first-on : (n : ℕ) → (run now k d).edges ≡ [] → first_edge now (k + n) d ≡ first_edge (now + k) n (run now k d).state
+  unfolding first_edge
+  first-on zero e =
+      let same : k + 0 ≡ k = omega arith in
+      ap (λ (x : ℕ). first_edge now x d) same ∙ first-none k e
+  first-on (suc n) e =
+      let more : k + suc n ≡ suc (k + n) = omega arith in
+      let at : now + (k + n) + 1 ≡ now + k + n + 1 = omega arith in
+      let later : run now (suc (k + n)) d ≡ run (now + k) (suc n) (run now k d).state = ap (λ (x : ℕ). run now x d) (sym more) ∙ run-on (suc n) e in
+      ap (λ (x : ℕ). first_edge now x d) more
+      ∙ ap (λ (o : Option ℕ). or_later o (at_first_edge (now + (k + n) + 1) (run now (suc (k + n)) d).edges)) (first-on n e)
+      ∙ ap (λ (r : Ran). or_later (first_edge (now + k) n (run now k d).state) (at_first_edge (now + (k + n) + 1) r.edges)) later
+      ∙ ap (λ (t : ℕ). or_later (first_edge (now + k) n (run now k d).state) (at_first_edge t (run (now + k) (suc n) (run now k d).state).edges)) at
+
+  next-on : now + k < RANGE_NS → (run now k d).edges ≡ [] → next_of (now + k) (run now k d).state ≡ next_of now d
+  next-on range e =
+      let whole : k + (RANGE_NS - 1 - (now + k)) ≡ RANGE_NS - 1 - now = omega arith in
+      sym (first-on (RANGE_NS - 1 - (now + k)) e) ∙ ap (λ (x : ℕ). first_edge now x d) whole
+
+-- the devices after such an access are those of its run
+devices-left : (s : BoardParts) (cpu h : ℕ) (a : Access) → leaves_devices a ≡ true → devices_in (after_access s cpu h a) ≡ (ran_to s h).state
+unfolding after_access after_act after_look before_look after_run acted
+devices-left s cpu h (PortIn port) leaves = cc
+devices-left s cpu h (PortOut port byte) leaves = cc
+devices-left s cpu h (HpetRead offset width) leaves = refl
+devices-left s cpu h (HpetWrite offset width v) leaves = cc
+devices-left s cpu h (MsrRead msr) leaves = refl
+devices-left s cpu h (MsrWrite msr v) leaves = refl
+devices-left s cpu h (Ack line) leaves = cc
+devices-left s cpu h Step leaves = refl
+devices-left s cpu h (Refresh page) leaves = refl
+devices-left s cpu h Wall leaves = refl
+devices-left s cpu h (CountsOf from) leaves = refl
+devices-left s cpu h Next leaves = refl
+devices-left s cpu h (Rose line) leaves = refl
+devices-left s cpu h Eoi leaves = refl
+
+time-after : (s : BoardParts) (cpu h : ℕ) (a : Access) → IsJoined s → now_of (after_access s cpu h a) ≡ time_of_access s h
+unfolding after_access after_act after_look before_look after_run
+time-after s cpu h a joined = time_at-max s.anchor s.host h (omega (arith, joined.rates.host.slow))
+
+no-edges : (s : BoardParts) (h : ℕ) (a : Access) → edges_of s h a ≡ [] → (ran_to s h).edges ≡ []
+unfolding edges_of
+no-edges s h a e = front-nil (ran_to s h).edges (own_edges (after_run s h) a) e
+
+pub next-left :
+    (s : BoardParts) (cpu h : ℕ) (a : Access) → IsJoined s → now_of (after_access s cpu h a) < RANGE_NS
+    → leaves_devices a ≡ true → edges_of s h a ≡ [] → next_edge_of (after_access s cpu h a) ≡ next_edge_of s
+next-left s cpu h a joined range leaves none =
+    let to : ℕ = time_of_access s h in
+    let k : ℕ = to - now_of s in
+    let time : now_of (after_access s cpu h a) ≡ to = time-after s cpu h a joined in
+    let sum : now_of s + k ≡ to = omega arith in
+    let end : now_of s + k < RANGE_NS = omega (arith, time, sum, range) in
+    ap (λ (d : DeviceParts). next_of (now_of (after_access s cpu h a)) d) (devices-left s cpu h a leaves)
+    ∙ ap (λ (t : ℕ). next_of t (ran_to s h).state) (time ∙ sym sum)
+    ∙ next-on (now_of s) k (devices_in s) end (no-edges s h a none)
+
+and-both : (b c : Bool) → (b && c) ≡ true → (b ≡ true) × (c ≡ true)
+and-both true true e = (refl, refl)
+and-both true false e = cc
+and-both false c e = cc
+
+none-nil : (es : List Edge) → is_none es ≡ true → es ≡ []
+none-nil [] e = refl
+none-nil (x ∷ es) e = cc
+
+-- what is kept goes on to be the next edge
+kept-on :
+    (s : BoardParts) (cpu h : ℕ) (a : Access) (known kept : Bool) → IsJoined s → now_of (after_access s cpu h a) < RANGE_NS
+    → kept ≡ (leaves_devices a && is_none (edges_of s h a))
+    → cond kept (kept_of known s) no_kept ≡ kept_of (known && kept) (after_access s cpu h a)
+kept-on s cpu h a true true joined range is =
+    let both : (leaves_devices a ≡ true) × (is_none (edges_of s h a) ≡ true) = and-both _ _ (sym is) in
+    ap (λ (o : Option ℕ). record { known = true; code = code_or_none o; ns = number_or_0 o })
+    (sym (next-left s cpu h a joined range both.0 (none-nil _ both.1)))
+kept-on s cpu h a true false joined range is = refl
+kept-on s cpu h a false true joined range is = refl
+kept-on s cpu h a false false joined range is = refl
+
+known-kept : (known : Bool) (s : BoardParts) → (kept_of known s).known ≡ known
+known-kept true s = refl
+known-kept false s = refl
+
+known-where : (kept : Bool) (k : KeptEdge) → (cond kept k no_kept).known ≡ (k.known && kept)
+known-where true k = right k.known where
+  right : (b : Bool) → b ≡ (b && true)
+  right true = refl
+  right false = refl
+known-where false k = right k.known where
+  right : (b : Bool) → false ≡ (b && false)
+  right true = refl
+  right false = refl
+
+module _ (s : BoardParts) (cpu h : ℕ) (a : Access) (after : BoardParts) (r : Reply) where
+  pub still-next :
+      (old new : KeptEdge) (kept : Bool) → IsJoined s → now_of after < RANGE_NS → after ≡ after_access s cpu h a → r ≡ reply_of s cpu h a
+      → old ≡ kept_of old.known s → kept ≡ (leaves_devices a && is_none r.edges) → new ≡ cond kept old no_kept → new ≡ kept_of new.known after
+  unfolding reply_of
+  still-next old new kept joined range state answer keeps is next =
+      let inside : now_of (after_access s cpu h a) < RANGE_NS = subst (λ (x : BoardParts). now_of x < RANGE_NS) state range in
+      let none : kept ≡ (leaves_devices a && is_none (edges_of s h a)) = is ∙ ap (λ (x : Reply). leaves_devices a && is_none x.edges) answer in
+      let on : new ≡ kept_of (old.known && kept) after =
+      next ∙ ap (λ (k : KeptEdge). cond kept k no_kept) keeps ∙ kept-on s cpu h a old.known kept joined inside none
+      ∙ ap (kept_of (old.known && kept)) (sym state) in
+      let known : new.known ≡ (old.known && kept) = ap (λ (k : KeptEdge). k.known) on ∙ known-kept (old.known && kept) after in
+      on ∙ ap (λ (b : Bool). kept_of b after) (sym known)
+
+  pub answered-is :
+      (seal : ℕ) (shared : Bool) (b : CallerBoard) (old new : KeptEdge) (kept : Bool)
+      → record { seal = seal; shared = shared; known = old.known; state = s } ≡ b → refusal_of s cpu h a ≡ None
+      → after ≡ after_access s cpu h a → r ≡ reply_of s cpu h a
+      → kept ≡ (leaves_devices a && is_none r.edges) → new ≡ cond kept old no_kept
+      → record { seal = seal; shared = shared; known = new.known; state = after } ≡ answered b cpu h a
+  unfolding reply_of
+  answered-is seal shared b old new kept of taken state answer is next =
+      let keeps : kept ≡ keeps_next s cpu h a =
+      is ∙ ap (λ (x : Reply). leaves_devices a && is_none x.edges) answer
+      ∙ sym (ap (λ (o : Option Refusal). keeps_unless o s h a) taken) in
+      let known : new.known ≡ (old.known && keeps_next s cpu h a) =
+      ap (λ (k : KeptEdge). k.known) next ∙ known-where kept old ∙ ap (λ (x : Bool). old.known && x) keeps in
+      let behind : after ≡ state_behind s cpu h a = state ∙ sym (ap (λ (o : Option Refusal). state_unless o s cpu h a) taken) in
+      ap (λ (x : Bool). record { seal = seal; shared = shared; known = x; state = after }) known
+      ∙ ap (λ (x : BoardParts). record { seal = seal; shared = shared; known = old.known && keeps_next s cpu h a; state = x }) behind
+      ∙ ap (λ (x : CallerBoard). answered x cpu h a) of
+
+-- a read of the clock leaves it
+clock-where : (known b c : Bool) (s t : BoardParts) → kept_of known t ≡ kept_of known s
+    → kept_of known (cond b s (cond c s t)) ≡ kept_of known s
+clock-where known true c s t e = refl
+clock-where known false true s t e = refl
+clock-where known false false s t e = e
+
+clock-after : (known : Bool) (s : BoardParts) (cpu h : ℕ) → kept_of known (after_clock s cpu h) ≡ kept_of known s
+unfolding after_clock
+clock-after known s cpu h = refl
+
+pub clock-next :
+    (s after : BoardParts) (cpu h : ℕ) (k : KeptEdge) → after ≡ state_behind_clock s cpu h → k ≡ kept_of k.known s → k ≡ kept_of k.known after
+clock-next s after cpu h k is keeps =
+    keeps
+    ∙ sym (clock-where k.known (ltb h s.anchor.start) (leb RANGE_NS (time_at s.anchor h)) s (after_clock s cpu h) (clock-after k.known s cpu h))
+    ∙ ap (kept_of k.known) (sym is)

@@ -1,0 +1,222 @@
+//! What c/shared.h needs for threads that share a board's pages: what no access changes, a page as words that are loaded
+//! and stored each by itself, and what such words give at a count. No call here touches memory that another thread writes.
+ghost use Rattle.std.specs.Prelude.{◌≡◌, ℕ};
+ghost use Rattle.clk_units.specs.Ranges.{IsKhz};
+ghost use Rattle.board_types.specs.declared.access.Access.TheVariants.{MsrWrite, Refresh};
+ghost use Rattle.tsc_scale.specs.Ratio.{ratio_of};
+ghost use Rattle.board_core.specs.Pages.{page_reply};
+ghost use Rattle.clockboard_c.specs.Replies.{IsReply};
+ghost use Rattle.clockboard_c.specs.Call.{shared_told, shared_behind};
+ghost use Rattle.clockboard_c.specs.States.{whole_code};
+ghost use Rattle.clockboard_c.specs.Shared.{
+  last_count,
+  rates_of,
+  AreTimes,
+  opened,
+  rates_in_memory,
+  open_code,
+  closed,
+  words_code,
+  words_in_memory,
+  reply_in,
+  reading_code,
+  reading_told,
+};
+
+use crate::board::{Board, SEAL};
+use crate::call::shared_call;
+use crate::code::{BEFORE_START, NO_BOARD, NO_PROCESSOR, NOT_SHARED, OK, OUT_OF_RANGE, PAGE_OFF};
+use crate::reply::ReplyWords;
+use crate::states::whole_code;
+use crate::timer::count_within;
+use board_core::BoardState;
+use board_types::Access;
+use clk_units::RANGE_NS;
+use host_counter::Anchor;
+use pvclock_page::{page_words, reading, words_page};
+use tsc_scale::{ratio, tsc_by};
+
+/// What the first word of `RateWords` holds that a call has filled: 'CLKBRDS' and the digit of `ABI`.
+pub(crate) const RATES_SEAL: u64 = 0x3453_4452_424b_4c43;
+
+/// What no access changes of a board, `struct clockboard_rates` of shared.h.
+#[derive(Clone, Copy)]
+#[repr(C)]
+pub struct RateWords {
+    /// `RATES_SEAL`.
+    pub seal: u64,
+    /// The first and the last count of the host's counter that have a time.
+    pub host_start: u64,
+    pub host_last: u64,
+    /// The ratio of the guest's rate to the host's, with 48 bits after the binary point.
+    pub ratio: u64,
+    /// The greatest reading of a clock before the board was opened, in nanoseconds.
+    pub greatest_ns: u64,
+    /// How many processors there are.
+    pub cpus: u64,
+}
+
+/// A page as five words: version, TSC, time, scale, offset.
+#[derive(Clone, Copy)]
+#[repr(C)]
+pub struct FiveWords {
+    pub word: [u64; 5],
+}
+
+/// Opens a board for sharing. After a code other than `OK` the memory stays as it is.
+#[unsafe(no_mangle)]
+pub extern "C" fn clockboard_share(board: &mut Board, rates: &mut RateWords) -> u32
+    ensures code { result ≡ whole_code board.old }
+    ensures board { board.new ≡ opened board.old }
+    ensures rates { rates.new ≡ rates_in_memory board.old rates.old }
+    // Which counts have a time is known without a division.
+    ensures times { result ≡ OK
+        → AreTimes board.old.state.anchor rates.new.host_start rates.new.host_last }
+{
+    let code = whole_code(board);
+    if code == OK {
+        board.shared = true;
+        *rates = rates_of(&board.state);
+    }
+    code
+}
+
+/// What no access changes of a board.
+#[inline(never)]
+fn rates_of(state: &BoardState) -> RateWords
+    ensures value { result ≡ rates_of state.now }
+    ensures times { AreTimes state.now.anchor result.host_start result.host_last }
+{
+    let parts = state.parts();
+    let anchor = parts.anchor;
+    RateWords {
+        seal: RATES_SEAL,
+        host_start: anchor.start,
+        host_last: last_count(&anchor),
+        ratio: ratio(parts.guest_khz, anchor.khz),
+        greatest_ns: parts.greatest,
+        cpus: u64::from(parts.cpus),
+    }
+}
+
+/// The last count of 64 bits that has a time.
+fn last_count(anchor: &Anchor) -> u64
+    requires { IsKhz anchor.now.khz }
+    ensures { result ≡ last_count anchor.now }
+{
+    match count_within(anchor, RANGE_NS) {
+        Some(end) => end.saturating_sub(1),
+        None => u64::MAX,
+    }
+}
+
+/// Closes a board that was open for sharing. `greatest_ns` is the greatest reading that its threads gave.
+#[unsafe(no_mangle)]
+pub extern "C" fn clockboard_unshare(board: &mut Board, greatest_ns: u64) -> u32
+    ensures code { result ≡ open_code board.old }
+    ensures board { board.new ≡ closed board.old greatest_ns }
+{
+    let code = open_code(board);
+    if code == OK {
+        board.shared = false;
+        board
+            .state
+            .set_greatest(board.state.greatest().max(greatest_ns));
+    }
+    code
+}
+
+/// The code of what only threads that share a board ask.
+fn open_code(board: &Board) -> u32
+    ensures { result ≡ open_code board.now }
+{
+    if board.seal != SEAL {
+        NO_BOARD
+    } else if board.shared {
+        OK
+    } else {
+        NOT_SHARED
+    }
+}
+
+/// The page of a processor as words. After a code other than `OK` the memory stays as it is.
+#[unsafe(no_mangle)]
+#[tactic(auto, unfolding(board_core::specs::Pages::page_reply))]
+pub extern "C" fn clockboard_page_words(board: &Board, cpu: u8, words: &mut FiveWords) -> u32
+    ensures code { result ≡ words_code board.now cpu }
+    ensures words { words.new ≡ words_in_memory board.now cpu words.old }
+    // At each count the words give what the board's page gives.
+    ensures gives { result ≡ OK → (h : ℕ) →
+        reply_in words.new (ratio_of board.now.state.guest_khz board.now.state.anchor.khz) h
+        ≡ page_reply board.now.state cpu h }
+{
+    let code = open_code(board);
+    if code != OK {
+        return code;
+    }
+    if cpu >= board.state.cpus() {
+        return NO_PROCESSOR;
+    }
+    words.word = page_words(&board.state.page(cpu));
+    OK
+}
+
+/// The time that a page of these words gives at count `host`, in nanoseconds; 0 after a code other than `OK`.
+#[unsafe(no_mangle)]
+pub extern "C" fn clockboard_page_reading(
+    rates: &RateWords,
+    words: &FiveWords,
+    host: u64,
+    reading_ns: &mut u64,
+) -> u32
+    ensures code { result ≡ reading_code rates.now words.now host }
+    ensures reading { reading_ns.new ≡ reading_told rates.now words.now host }
+{
+    *reading_ns = 0;
+    if rates.seal != RATES_SEAL {
+        return NO_BOARD;
+    }
+    if host < rates.host_start {
+        return BEFORE_START;
+    }
+    if host > rates.host_last {
+        return OUT_OF_RANGE;
+    }
+    let page = words_page(&words.word);
+    if !page.enabled {
+        return PAGE_OFF;
+    }
+    *reading_ns = reading(&page, tsc_by(page.offset, host, rates.ratio));
+    OK
+}
+
+/// A write to an MSR of a board that is open for sharing; the caller puts the words of the processor's page.
+#[unsafe(no_mangle)]
+pub extern "C" fn clockboard_share_msr_write(
+    board: &mut Board,
+    cpu: u8,
+    host: u64,
+    msr: u32,
+    value: u64,
+    reply: &mut ReplyWords,
+)
+    ensures reply { IsReply reply.old reply.new (shared_told board.old cpu host (MsrWrite msr value)) }
+    ensures board { board.new ≡ shared_behind board.old cpu host (MsrWrite msr value) }
+{
+    shared_call(board, cpu, host, Access::MsrWrite { msr, value }, reply);
+}
+
+/// The page of a processor is published on a board that is open for sharing; the caller puts its words.
+#[unsafe(no_mangle)]
+pub extern "C" fn clockboard_share_refresh(
+    board: &mut Board,
+    cpu: u8,
+    host: u64,
+    page: u8,
+    reply: &mut ReplyWords,
+)
+    ensures reply { IsReply reply.old reply.new (shared_told board.old cpu host (Refresh page)) }
+    ensures board { board.new ≡ shared_behind board.old cpu host (Refresh page) }
+{
+    shared_call(board, cpu, host, Access::Refresh { page }, reply);
+}
