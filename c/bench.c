@@ -5,6 +5,7 @@
  * instructions. */
 #define _POSIX_C_SOURCE 199309L
 #include "clockboard.h"
+#include "shared.h"
 #include <inttypes.h>
 #include <stdio.h>
 #include <string.h>
@@ -43,7 +44,51 @@ static void read_tsc(struct clockboard *board, uint64_t host, struct clockboard_
     clockboard_msr_read(board, 0, host, 0x10, reply);
 }
 
-/* A kind of access, each a number of nanoseconds behind the last. */
+/* The questions that are no accesses: their number takes the place of a reply's value. */
+static void ask_next_edge(struct clockboard *board, uint64_t host, struct clockboard_reply *reply) {
+    reply->edge_count = 0;
+    reply->value[0] = host;
+    if (clockboard_next_edge(board, &reply->value[0]) != CLOCKBOARD_OK)
+        reply->value[0] = 0;
+}
+
+static void look_up_next_edge(struct clockboard *board, uint64_t host, struct clockboard_reply *reply) {
+    set_comparator(board, host, reply);
+    ask_next_edge(board, host, reply);
+}
+
+static void read_clock(struct clockboard *board, uint64_t host, struct clockboard_reply *reply) {
+    clockboard_clock(board, 0, host, reply);
+}
+
+static void look(struct clockboard *board, uint64_t host, struct clockboard_reply *reply) {
+    struct clockboard_view view = {.now_ns = host};
+    reply->edge_count = clockboard_look(board, &view);
+    reply->value[0] = view.now_ns;
+}
+
+static void take_page(struct clockboard *board, uint64_t host, struct clockboard_reply *reply) {
+    struct clockboard_page page = {.guest_address = host};
+    reply->edge_count = clockboard_page(board, 0, &page);
+    reply->value[0] = page.version;
+}
+
+static void take_tsc(struct clockboard *board, uint64_t host, struct clockboard_reply *reply) {
+    struct clockboard_tsc tsc = {.offset = host};
+    reply->edge_count = clockboard_tsc(board, 0, &tsc);
+    reply->value[0] = tsc.ratio;
+}
+
+/* The clock of a processor by shared.h, on the one board that is open. */
+static struct clockboard_shared shared;
+
+static void try_clock(struct clockboard *board, uint64_t host, struct clockboard_reply *reply) {
+    if (shared.rates.cpus == 0)
+        reply->edge_count = clockboard_shared_open(&shared, board);
+    reply->edge_count = clockboard_try_clock(&shared, 0, host, &reply->value[0]);
+}
+
+/* A kind of call, each a number of nanoseconds after the last. `try` opens the board, so it comes last. */
 static const struct {
     const char *word;
     const char *name;
@@ -58,6 +103,13 @@ static const struct {
     {"step", "step of 700 ns", step, 700},
     {"ack", "acknowledgement, ticks waiting", acknowledge, 0},
     {"tsc", "TSC", read_tsc, 0},
+    {"edge", "next edge, kept", ask_next_edge, 0},
+    {"anew", "HPET comparator set, next edge", look_up_next_edge, 0},
+    {"clock", "clock", read_clock, 0},
+    {"look", "board at a glance", look, 0},
+    {"page", "page", take_page, 0},
+    {"numbers", "numbers of a TSC", take_tsc, 0},
+    {"try", "clock by shared.h", try_clock, 0},
 };
 
 /* A board with all devices running, as bench/board has it. */
@@ -71,6 +123,7 @@ static void run_all(struct clockboard *board) {
     for (size_t k = 0; k < sizeof registers / sizeof registers[0]; k++)
         clockboard_hpet_write(board, 0, 0, registers[k][0], 8, registers[k][1], &reply);
     clockboard_step(board, 0, 5000, &reply);
+    clockboard_msr_write(board, 0, 5000, CLOCKBOARD_MSR_SYSTEM_TIME, 0x1001, &reply);
 }
 
 /* Makes many accesses of one kind from a count on, and adds up what they tell. Returns the count behind them. */

@@ -5,7 +5,7 @@
  *
  *     put_hv_page READS [tight]   tight: the writer pauses less between pages, so that a read meets an update often
  *
- * It reads on until 10,000 new pages were met (under ThreadSanitizer 1,000), but no longer than 20 seconds in all. Ends with 1
+ * It reads on until 10,000 new pages were met (under ThreadSanitizer 1,000), but no longer than two minutes in all. Ends with 1
  * where a read was torn, and with 3 where too few new pages were met for the run to mean anything. Before that it publishes by
  * the library, and ends with 4 where a page, a time or a refusal isn't right.
  * WRONG names a wrong writer, which must end with 1: 1 writes no sequence 0, 2 the sequence before the fields, and 3 has plain
@@ -17,7 +17,7 @@
 #include <stdlib.h>
 #include <time.h>
 
-enum { TORN = 1, WRITER_FAILED = 2, TOO_FEW = 3, WRONG_ALONE = 4, SECONDS = 20 };
+enum { TORN = 1, WRITER_FAILED = 2, TOO_FEW = 3, WRONG_ALONE = 4, SECONDS = 120 };
 
 /* How many new pages a run must meet, and how often the writer turns between two of them. */
 #if defined(__SANITIZE_THREAD__) || defined(TSAN)

@@ -5,7 +5,7 @@
  *
  *     put_page READS [tight]   tight: the writer makes pages without the library, so that a read meets an update often
  *
- * It reads on until 10,000 new pages were met (under ThreadSanitizer 1,000), but no longer than 20 seconds in all. Ends with 1 where a read was torn, and
+ * It reads on until 10,000 new pages were met (under ThreadSanitizer 1,000), but no longer than two minutes in all. Ends with 1 where a read was torn, and
  * with 3 where too few new pages were met for the run to mean anything.
  * Before that it looks at what is refused, and ends with 4 where that isn't so.
  * WRONG names a wrong writer, which must end with 1: 1 puts no odd version, 2 the even version before the fields, and 3 has
@@ -17,7 +17,7 @@
 #include <stdlib.h>
 #include <time.h>
 
-enum { TORN = 1, WRITER_FAILED = 2, TOO_FEW = 3, WRONG_ALONE = 4, START = 1000, EACH = 1001, SECONDS = 20 };
+enum { TORN = 1, WRITER_FAILED = 2, TOO_FEW = 3, WRONG_ALONE = 4, START = 1000, EACH = 1001, SECONDS = 120 };
 
 /* struct pvclock_vcpu_time_info of Linux. */
 struct guest_page {
