@@ -5,8 +5,8 @@
  *
  * clockboard_record_begin writes the board as it is into the trace's header; it may be called at any time of a run. From then
  * on each access, clock, reference time and move goes through a call of this header, and clockboard_record_end writes the last
- * line. Calls that change nothing (next edge, page, save) are made without it. After a load, an upgrade or a power on the trace
- * is of another board: end it, and begin one in another file.
+ * line. Calls that change nothing (next edge, page, save) are made without it. After a load, an upgrade, a reset or a power on the
+ * trace is of another board: end it, and begin one in another file.
  *
  * A call that the board refuses changes nothing; it is written as a comment, with its answer.
  *

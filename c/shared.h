@@ -15,8 +15,8 @@
  *     a thread that holds the monitor's lock           clockboard_shared_msr_write, _refresh, _clock; all calls of clockboard.h
  *     any thread, with the lock or without             clockboard_try_page, clockboard_try_clock
  *
- * From open to close clockboard_clock, _save, _move and _upgrade, and direct writes that publish a page (MSRs 10h, 3Bh and
- * 4B564D01h, clockboard_refresh), answer CLOCKBOARD_SHARED and do nothing. No board is made in the same memory meanwhile. A copy of
+ * From open to close clockboard_clock, _save, _move, _reset and _upgrade, and direct writes that publish a page (MSRs 10h, 3Bh
+ * and 4B564D01h, clockboard_refresh), answer CLOCKBOARD_SHARED and do nothing. No board is made in the same memory meanwhile. A copy of
  * an open board is open too. Hyper-V's page isn't among the words: clockboard_hv_time reads it under the lock.
  *
  *     for (;;) {

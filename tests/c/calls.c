@@ -121,6 +121,29 @@ static int counts_are(uint8_t source, uint64_t due, uint64_t rose, uint64_t wait
         && reply.value[3] == lost;
 }
 
+/* A reset takes a line down that was up, stops the 8254, and leaves the MC146818's memory; the next edge is looked up anew. */
+static void reset(void) {
+    uint64_t at = 7;
+    power_on(1, 1);
+    clockboard_port_write(&board, 0, 0, 0x70, 0x30, &reply);
+    clockboard_port_write(&board, 0, 0, 0x71, 0x5a, &reply);
+    clockboard_port_write(&board, 0, 0, 0x43, 0x34, &reply);
+    clockboard_port_write(&board, 0, 0, 0x40, 4, &reply);
+    clockboard_port_write(&board, 0, 0, 0x40, 0, &reply);
+    clockboard_step(&board, 0, 5000, &reply);
+    expect(reply.edge_count == 1 && reply.edges[0].up == 1, "a rise");
+    clockboard_acknowledge(&board, 0, 5000, CLOCKBOARD_LINE_PIT, &reply);
+    expect(clockboard_next_edge(&board, &at) == CLOCKBOARD_OK && at > 5000, "the next rise");
+    clockboard_step(&board, 0, at, &reply);
+    clockboard_reset(&board, &reply);
+    expect(reply.answer == CLOCKBOARD_OK && reply.number == 8 && reply.now_ns == at && reply.edge_count == 1
+               && reply.edges[0].at_ns == at && reply.edges[0].line == CLOCKBOARD_LINE_PIT && reply.edges[0].up == 0,
+           "a reset");
+    expect(clockboard_next_edge(&board, &at) == CLOCKBOARD_NO_EDGE && at == 0, "no edge after it");
+    clockboard_port_read(&board, 0, 6000, 0x71, &reply);
+    expect(reply.value[0] == 0x5a, "the memory of the MC146818");
+}
+
 /* Processor 1 has a periodic timer of 1000 ns, and then a deadline. */
 static void apic(void) {
     uint64_t at = 7;
@@ -178,6 +201,7 @@ int main(void) {
     looks();
     calendar();
     tsc();
+    reset();
     apic();
     messages();
     return wrong;

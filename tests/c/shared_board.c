@@ -166,6 +166,8 @@ static void refusals(void) {
     clockboard_msr_write(&board, 0, 100, CLOCKBOARD_MSR_TSC_ADJUST, 5, &reply);
     look(reply.answer == CLOCKBOARD_SHARED, "a write of a TSC");
     look(clockboard_save(&board, bytes, sizeof bytes, &length) == CLOCKBOARD_SHARED, "a save");
+    clockboard_reset(&board, &reply);
+    look(reply.answer == CLOCKBOARD_SHARED, "a reset");
     look(clockboard_upgrade(&board, CLOCKBOARD_FORMAT_MAX) == CLOCKBOARD_SHARED, "an upgrade");
     look(clockboard_try_clock(&shared, (uint8_t)threads, 100, &ns) == CLOCKBOARD_NO_PROCESSOR, "another processor's clock");
     look(clockboard_try_clock(&shared, 0, 0, &ns) == CLOCKBOARD_BEFORE_START, "a clock before the first count");

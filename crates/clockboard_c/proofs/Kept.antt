@@ -34,7 +34,8 @@ use Rattle.clockboard_c.specs.declared.board.KeptEdge.{KeptEdge}
 use Rattle.board_core.specs.Apics.{after_look}
 use Rattle.board_core.specs.Access.{ran_to, after_run, before_look, after_act, own_edges, edges_of, reply_of, after_access}
 use Rattle.board_core.specs.Pages.{after_clock}
-use Rattle.board_core.specs.Next.{at_first_edge, or_later, first_edge, next_of}
+use Rattle.hpet_bursts.specs.Next.{or_later}
+use Rattle.board_core.specs.Next.{at_first_edge, first_edge, next_of}
 use Rattle.clockboard_c.specs.Kept.{CallerBoard, code_or_none, number_or_0, next_edge_of, no_kept, kept_of}
 use Rattle.clockboard_c.specs.Pages.{state_behind_clock}
 use Rattle.clockboard_c.specs.Call.{leaves_devices, is_none, keeps_unless, keeps_next, state_unless, state_behind, answered}

@@ -16,9 +16,12 @@ use Rattle.std.specs.Prelude.{
 }
 use Rattle.board_types.specs.declared.parts.BoardParts.{BoardParts}
 use Rattle.board_types.specs.declared.setup.TheConstants.{LAST_FORMAT}
+use Rattle.irq_edges.specs.Lines.{changes, line_numbers}
+use Rattle.board_devices.specs.Lines.{levels}
 use Rattle.board_devices.specs.Run.{run}
 use Rattle.board_core.specs.Time.{devices_in, now_of}
 use Rattle.board_core.specs.Upgrade.{upgraded_to}
+use Rattle.board_reset.specs.Reset.{after_reset}
 use Rattle.save_state.specs.declared.fault.StateFault.{StateFault}
 use Rattle.save_state.specs.declared.fault.StateKind.{StateKind}
 use Rattle.save_state.specs.declared.fault.StateKind.TheVariants.{
@@ -120,6 +123,19 @@ behind_move b khz start gap =
     if whole_code b == OK && is_rate khz then
     record b { known = false; state = state_behind_move b.state khz start gap }
     else b
+
+-- what a reset of the PC tells, the lines that were up going down, and the board behind it
+unfoldable pub reset_by : BoardParts → Told
+reset_by s =
+    taken s.accesses (now_of s) no_value
+    (changes (now_of s) line_numbers (levels (devices_in s)) (levels (devices_in (after_reset s)))) []
+
+abbrev pub reset_told : Board → Told
+reset_told b = if whole_code b == OK then reset_by b.state else refused (whole_code b)
+
+abbrev pub behind_reset : Board → Board
+behind_reset b =
+    if whole_code b == OK then record b { known = false; state = after_reset b.state } else b
 
 -- the code of an upgrade, and the board behind it
 abbrev pub upgrade_code : Board → ℕ → ℕ

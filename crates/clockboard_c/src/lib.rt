@@ -53,7 +53,9 @@ pub use shared::{
     FiveWords, RateWords, clockboard_page_reading, clockboard_page_words, clockboard_share,
     clockboard_share_msr_write, clockboard_share_refresh, clockboard_unshare,
 };
-pub use states::{clockboard_load, clockboard_move, clockboard_save, clockboard_upgrade};
+pub use states::{
+    clockboard_load, clockboard_move, clockboard_reset, clockboard_save, clockboard_upgrade,
+};
 pub use timer::{
     clockboard_counter_of, clockboard_next_edge, clockboard_next_message, clockboard_next_tick,
 };

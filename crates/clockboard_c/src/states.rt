@@ -1,6 +1,7 @@
 //! Saved states, moves to another host, and later formats.
 ghost use Rattle.std.specs.Prelude.{◌≡◌, ◌≢◌, ◌≤◌, ◌++◌, ◌⊎◌, drop, length};
 ghost use Rattle.clk_units.specs.Ranges.{IsKhz};
+ghost use Rattle.board_reset.specs.Reset.{after_reset};
 ghost use Rattle.save_state.specs.Writing.{bytes_of};
 ghost use Rattle.save_state.specs.declared.fault.StateKind.{StateKind};
 ghost use Rattle.clockboard_c.specs.Replies.{IsReply};
@@ -17,6 +18,9 @@ ghost use Rattle.clockboard_c.specs.States.{
   fault_code,
   upgrade_code,
   behind_upgrade,
+  reset_by,
+  reset_told,
+  behind_reset,
 };
 
 use crate::board::{Board, NO_KEPT, SEAL, sealed};
@@ -26,6 +30,7 @@ use crate::code::{
 };
 use crate::reply::{NO_VALUE, ReplyWords};
 use board_core::BoardState;
+use board_reset::reset;
 use board_types::LAST_FORMAT;
 use clk_units::is_khz;
 use save_state::{StateKind, decode, encode};
@@ -160,6 +165,35 @@ fn fault_code(fault: MoveFault) -> u32
         MoveFault::OutOfRange { .. } => OUT_OF_RANGE,
         MoveFault::VersionsSpent { .. } => VERSIONS_SPENT,
     }
+}
+
+/// Resets a board at its present time, as a reset of the PC does. It is no access. The reply has the edges of the lines that
+/// were up.
+#[unsafe(no_mangle)]
+pub extern "C" fn clockboard_reset(board: &mut Board, reply: &mut ReplyWords)
+    ensures reply { IsReply reply.old reply.new (reset_told board.old) }
+    ensures board { board.new ≡ behind_reset board.old }
+{
+    let code = whole_code(board);
+    if code != OK {
+        reply.refuse(code);
+        return;
+    }
+    board.next = NO_KEPT;
+    reset_at_once(&mut board.state, reply);
+}
+
+/// Resets a board that no threads share.
+#[inline(never)]
+#[tactic(auto, unfolding(crate::specs::States::reset_by))]
+fn reset_at_once(state: &mut BoardState, reply: &mut ReplyWords)
+    ensures reply { IsReply reply.old reply.new (reset_by state.old) }
+    ensures state { state.new ≡ after_reset state.old }
+{
+    let accesses = state.accesses();
+    let now = state.now();
+    let edges = reset(state);
+    reply.take(accesses, now, NO_VALUE, edges.as_slice(), &[]);
 }
 
 /// Takes a board to a later format, or leaves it in the same.

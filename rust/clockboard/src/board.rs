@@ -242,6 +242,15 @@ impl Board {
         })
     }
 
+    /// A reset of the PC, at the board's time. The reply has the edges of the lines that were up. TSCs go on, and the
+    /// MC146818's time and memory stay.
+    pub fn reset(&mut self) -> Result<Reply, Error> {
+        self.call(|board, reply| {
+            // SAFETY: two references of their types, which don't overlap.
+            unsafe { ffi::clockboard_reset(board, reply) }
+        })
+    }
+
     /// Takes the board to a later format, or leaves it in the same.
     pub fn upgrade(&mut self, format: u8) -> Result<(), Error> {
         // SAFETY: a reference of its type.

@@ -201,5 +201,6 @@ extern "C" {
     ) -> u32;
     pub fn clockboard_load(board: *mut Board, bytes: *const u8, length: usize, reply: *mut Reply);
     pub fn clockboard_move(board: *mut Board, khz: u64, start: u64, gap_ns: u64, reply: *mut Reply);
+    pub fn clockboard_reset(board: *mut Board, reply: *mut Reply);
     pub fn clockboard_upgrade(board: *mut Board, format: u8) -> u32;
 }

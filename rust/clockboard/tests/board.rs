@@ -227,6 +227,23 @@ fn a_clock_goes_on_behind_a_move() {
     assert_eq!(board.page(1).err(), Some(Error::NoProcessor));
 }
 
+/// A line that is up goes down, and no edge comes.
+#[test]
+fn a_reset_stops_the_8254() {
+    let mut board = programmed();
+    board.access(0, 5_000, Access::Step).unwrap();
+    let fell: Vec<Edge> = board.reset().unwrap().edges().collect();
+    assert_eq!(
+        fell,
+        [Edge {
+            at_ns: 5_000,
+            line: 0,
+            up: false
+        }]
+    );
+    assert_eq!(board.next_edge(), None);
+}
+
 #[test]
 fn a_later_format_counts_rises() {
     let mut board = programmed();
