@@ -12,3 +12,4 @@ pub mod Taken
 pub mod Tallies
 pub mod Unread
 pub mod Workers
+mod Rows

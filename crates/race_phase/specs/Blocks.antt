@@ -51,6 +51,7 @@ abbrev pub destination : ℕ → Message → ℕ
 destination cpus m =
     if nat_lt (m.address / 2 ^ 12 % 2 ^ 8) cpus then m.address / 2 ^ 12 % 2 ^ 8 else 0
 
+-- the vector of a message
 abbrev pub vector_of : Message → ℕ
 vector_of m = if nat_lt (m.data % 2 ^ 8) 16 then 0x30 else m.data % 2 ^ 8
 

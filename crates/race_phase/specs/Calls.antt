@@ -84,6 +84,7 @@ CallMade s n cpu h ReadHv (HvIs reply) es =
     × (es ≡ HvRead n h page locked ∷ [])
 CallMade s n cpu h _ _ es = ⊥
 
+-- the entries that a record makes, and its answer
 abbrev pub MadeBy : BoardParts → ℕ → Record → Answer → List Entry → Type 0
 MadeBy s n r a es = CallMade s n r.cpu r.h r.call a es
 

@@ -96,6 +96,7 @@ trace_fault b (v ∷ vs) = or_fault (phase_fault b v) (trace_fault (after_phase 
 abbrev pub step_entry : ℕ → ℕ → BoardParts → Entry
 step_entry cpu h b = Board cpu cpu h Step (reply_of b cpu h Step)
 
+-- the entry of what ends a phase, if that is an access
 abbrev pub end_entries : End → BoardParts → List Entry
 end_entries Finish b = []
 end_entries (Save line cpu h) b = step_entry cpu h b ∷ []
@@ -117,6 +118,7 @@ move_block ds line gap reply b moved =
     ++ messages_text ds (gap_bursts gap b)
     ++ move_text line reply.number (now_of moved)
 
+-- what the end of a phase prints
 abbrev pub end_text : Deliveries → End → BoardParts → List ℕ
 end_text ds Finish b = []
 end_text ds (Save line cpu h) b =

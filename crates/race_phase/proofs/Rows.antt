@@ -1,0 +1,272 @@
+-- Small rows that pin the definitions: what a record and the end of a phase print, and which entries
+-- answer the calls of a processor.
+use Rattle.std.proofs.Common.{◌≡◌, ℕ, ◌%◌, ◌<◌, ◌⊎◌, List, [], ◌∷◌, true, false, Bool, Some, None, pos, refl}
+use Rattle.std.specs.Prelude.{codes}
+use Rattle.std.specs.Fmt.{digits}
+use Rattle.host_counter.specs.Time.{time_at}
+use Rattle.tsc_scale.specs.Offset.{tsc_by}
+use Rattle.tick_policy.specs.declared.parts.Policy.TheVariants.{Delay}
+use Rattle.pvclock_page.specs.Reading.{reading_of}
+use Rattle.pvclock_page.specs.declared.page.Page.{Page}
+use Rattle.pvclock_page.specs.declared.page.PageReply.TheVariants.{Off as PageOff, On as PageOn}
+use Rattle.pvclock_page.specs.declared.page.ClockReply.{ClockReply}
+use Rattle.pvclock_page.specs.declared.page.ClockReply.TheVariants.{Off, On}
+use Rattle.hv_page.specs.declared.page.HvReply.TheVariants.{Off as HvOff}
+use Rattle.board_types.specs.declared.access.Access.TheVariants.{MsrWrite, Step}
+use Rattle.board_types.specs.declared.parts.BoardParts.{BoardParts}
+use Rattle.board_types.specs.declared.reply.Reply.{Reply}
+use Rattle.board_types.specs.declared.reply.Value.TheVariants.{Nothing, Byte}
+use Rattle.board_core.specs.Access.{after_access, reply_of}
+use Rattle.board_core.specs.PowerOn.{board_at_power_on}
+use Rattle.board_history.specs.Machine.{machine_of, ratio_in, answer_by}
+use Rattle.board_history.specs.History.{entries_of}
+use Rattle.board_history.specs.declared.entry.Entry.{Entry}
+use Rattle.board_history.specs.declared.entry.Entry.TheVariants.{Opened, Board, PageRead, HvRead, Clamp}
+use Rattle.clock_table.specs.declared.view.Miss.{Miss}
+use Rattle.reply_text.specs.Words.{hex_text}
+use Rattle.reply_text.specs.Text.{edge_text, msg_text, value_text, page_text, clock_text, hv_text}
+use Rattle.transfer.specs.Move.{moved_to}
+use Rattle.race_phase.specs.declared.deliveries.Deliveries.{Deliveries}
+use Rattle.race_phase.specs.declared.phases.End.TheVariants.{Finish, Save, Move}
+use Rattle.race_phase.specs.declared.records.Answer.TheVariants.{Acted, PageIs, ClockIs, HvIs}
+use Rattle.race_phase.specs.declared.records.Call.{Call}
+use Rattle.race_phase.specs.declared.records.Call.TheVariants.{Act, ReadPage, ReadClock, ReadHv}
+use Rattle.race_phase.specs.declared.records.Record.{Record}
+use Rattle.race_phase.specs.Blocks.{block_of, delivery_to, message_to}
+use Rattle.race_phase.specs.Calls.{records_of, CallMade, AllTried, IsTried, Shown}
+use Rattle.race_phase.specs.Phases.{next_board, end_entries, end_text}
+
+-- two processors on a host of 1 GHz, with a guest of 2 GHz
+abbrev at_power_on : BoardParts
+at_power_on = board_at_power_on (record {
+  format = 1;
+  anchor = record { khz = 1000000; start = 0; base_ns = 0 };
+  guest_khz = 2000000;
+  cpus = 2;
+  pit = Delay;
+  rtc = Delay;
+  hpet = Delay;
+  slew_ns = 1000;
+  wall_sec = 0;
+  wall_nsec = 0;
+  time = record { sec = 0; min = 0; hour = 0; wday = 1; date = 1; month = 1; year = 0 };
+})
+
+-- the page of processor 0, enabled at count 0
+abbrev page : Page
+page = record {
+  version = 2;
+  tsc_timestamp = 0;
+  system_time = 0;
+  mul = 0x80000000;
+  shift = pos 0;
+  flags = 1;
+  offset = 0;
+  enabled = true;
+}
+
+-- each line to a vector of its own
+abbrev routed : Deliveries
+routed = record {
+  cpus = 2;
+  lines = Some (record { cpu = 0; vector = 0x30 }) ∷ Some (record { cpu = 1; vector = 0x31 }) ∷ Some (record { cpu = 0; vector = 0x32 })
+      ∷ Some (record { cpu = 1; vector = 0x33 })
+      ∷ Some (record { cpu = 0; vector = 0x34 }) ∷ Some (record { cpu = 1; vector = 0x35 }) ∷ [];
+}
+
+rises_of_line_0 : delivery_to routed 0 ≡ Some (record { cpu = 0; vector = 0x30 })
+rises_of_line_0 = refl
+
+rises_of_line_8 : delivery_to routed 8 ≡ Some (record { cpu = 1; vector = 0x31 })
+rises_of_line_8 = refl
+
+rises_of_line_20 : delivery_to routed 20 ≡ Some (record { cpu = 0; vector = 0x32 })
+rises_of_line_20 = refl
+
+rises_of_line_21 : delivery_to routed 21 ≡ Some (record { cpu = 1; vector = 0x33 })
+rises_of_line_21 = refl
+
+rises_of_line_22 : delivery_to routed 22 ≡ Some (record { cpu = 0; vector = 0x34 })
+rises_of_line_22 = refl
+
+rises_of_line_23 : delivery_to routed 23 ≡ Some (record { cpu = 1; vector = 0x35 })
+rises_of_line_23 = refl
+
+-- blocks: edges, messages, the reply
+an_access : block_of routed 7 (Acted (record {
+  number = 3;
+  value = Byte 10;
+  edges = record { at = 5; line = 8; up = true } ∷ record { at = 6; line = 8; up = false } ∷ [];
+  bursts = record { timer = 2; first = 4; count = 2; every = 10; address = 0xfee01000; «data» = 0x41 } ∷ [];
+}))
+    ≡ codes "edge 5 8 up 1 31\nedge 6 8 down\nmsg 4 2 1 41 2 10\n7 3 0a\n"
+unfolding block_of edge_text msg_text message_to value_text hex_text digits
+an_access = refl
+
+a_page : block_of routed 8 (PageIs (PageOn page 900)) ≡ codes "8 page 2 0 0 80000000 0 01 900\n"
+unfolding block_of page_text hex_text digits
+a_page = refl
+
+a_page_that_is_off : block_of routed 8 (PageIs PageOff) ≡ codes "8 page off\n"
+unfolding block_of page_text digits
+a_page_that_is_off = refl
+
+a_clock : block_of routed 9 (ClockIs (On 900 1000)) ≡ codes "9 clock 900 1000\n"
+unfolding block_of clock_text digits
+a_clock = refl
+
+a_reference_page_that_is_off : block_of routed 9 (HvIs HvOff) ≡ codes "9 hv off\n"
+unfolding block_of hv_text digits
+a_reference_page_that_is_off = refl
+
+-- what ends a phase: nothing, a save, a move
+no_end_leaves_the_board : (b : BoardParts) → next_board Finish b ≡ b
+no_end_leaves_the_board b = refl
+
+a_save_leaves : (b : BoardParts) → next_board (Save 9 1 100) b ≡ after_access b 1 100 Step
+a_save_leaves b = refl
+
+a_move_leaves : (b : BoardParts) → next_board (Move 9 1 100 (record { khz = 3000000; start = 500; gap = 40 })) b
+    ≡ moved_to 3000000 500 40 (after_access b 1 100 Step)
+a_move_leaves b = refl
+
+no_entry_of_no_end : (b : BoardParts) → end_entries Finish b ≡ []
+no_entry_of_no_end b = refl
+
+the_entry_of_a_save : (b : BoardParts) → end_entries (Save 9 1 100) b ≡ Board 1 1 100 Step (reply_of b 1 100 Step) ∷ []
+the_entry_of_a_save b = refl
+
+the_entry_of_a_move : (b : BoardParts) → end_entries (Move 9 1 100 (record { khz = 3000000; start = 500; gap = 40 })) b
+    ≡ Board 1 1 100 Step (reply_of b 1 100 Step) ∷ []
+the_entry_of_a_move b = refl
+
+-- Calls and their entries: of a clock, the clamp only where the page is enabled
+a_page_that_is_read : (es : List Entry) → CallMade at_power_on 1 1 900 (ReadPage 0) (PageIs PageOff) es
+    ≡ ((p : Page) × (locked : Bool) × (PageOff ≡ answer_by (ratio_in (machine_of at_power_on)) p 900) × (es ≡ PageRead 1 0 900 p locked ∷ []))
+a_page_that_is_read es = refl
+
+a_clock_of_a_page_that_is_off : (es : List Entry) → CallMade at_power_on 1 1 900 (ReadClock 0) (ClockIs Off) es
+    ≡ ((p : Page) × (locked : Bool) × (p.enabled ≡ false) × (es ≡ PageRead 1 0 900 p locked ∷ []))
+a_clock_of_a_page_that_is_off es = refl
+
+an_answer_of_another_call : (es : List Entry) → CallMade at_power_on 1 1 900 (ReadPage 0) (ClockIs Off) es ≡ ⊥
+an_answer_of_another_call es = refl
+
+-- Two processors, in two orders: 0 enables its page and reads the clock by it, 1 steps twice
+abbrev reply : ℕ → Reply
+reply number = record { number = number; value = Nothing; edges = []; bursts = [] }
+
+abbrev enable : Record
+enable = record { line = 5; cpu = 0; h = 0; call = Act (MsrWrite 0x4b564d01 1) }
+
+abbrev clock : Record
+clock = record { line = 7; cpu = 0; h = 4; call = ReadClock 0 }
+
+abbrev step : ℕ → ℕ → Record
+step line h = record { line = line; cpu = 1; h = h; call = Act Step }
+
+abbrev records : List Record
+records = enable ∷ step 6 0 ∷ clock ∷ step 8 3 ∷ []
+
+records_of_0 : records_of 0 records ≡ enable ∷ clock ∷ []
+records_of_0 = refl
+
+records_of_1 : records_of 1 records ≡ step 6 0 ∷ step 8 3 ∷ []
+records_of_1 = refl
+
+abbrev enabled : ℕ → Entry
+enabled number = Board 0 0 0 (MsrWrite 0x4b564d01 1) (reply number)
+
+abbrev stepped : ℕ → ℕ → Entry
+stepped h number = Board 1 1 h Step (reply number)
+
+abbrev clock_read : Bool → List Entry
+clock_read locked = PageRead 0 0 4 page locked ∷ Clamp 0 0 4 4 ∷ []
+
+processor_0_is_first : Shown at_power_on routed records (Opened at_power_on ∷ enabled 1 ∷ PageRead 0 0 4 page false ∷ Clamp 0 0 4 4 ∷ stepped 0 2 ∷ stepped 3 3 ∷ []) 0 2
+    (codes "5 1\n7 clock 4 4\n6 2\n8 3\n")
+unfolding block_of value_text clock_text digits tsc_by reading_of
+processor_0_is_first = (
+  codes "5 1\n7 clock 4 4\n",
+  codes "6 2\n8 3\n",
+  refl,
+  (
+    Acted (reply 1),
+    codes "7 clock 4 4\n",
+    enabled 1 ∷ [],
+    clock_read false,
+    refl,
+    refl,
+    refl,
+    (ClockIs (On 4 4), [], clock_read false, [], refl, refl, (page, false, (refl, refl), refl), (refl, refl)),
+  ),
+  ([], refl, tt),
+  (
+    codes "6 2\n8 3\n",
+    [],
+    refl,
+    (
+      Acted (reply 2),
+      codes "8 3\n",
+      stepped 0 2 ∷ [],
+      stepped 3 3 ∷ [],
+      refl,
+      refl,
+      refl,
+      (Acted (reply 3), [], stepped 3 3 ∷ [], [], refl, refl, refl, (refl, refl)),
+    ),
+    ([], refl, tt),
+    refl,
+  ),
+)
+
+processor_1_is_first : Shown at_power_on routed records (Opened at_power_on ∷ stepped 0 1 ∷ enabled 2 ∷ stepped 3 3 ∷ PageRead 0 0 4 page false ∷ Clamp 0 0 4 4 ∷ []) 0 2
+    (codes "5 2\n7 clock 4 4\n6 1\n8 3\n")
+unfolding block_of value_text clock_text digits tsc_by reading_of
+processor_1_is_first = (
+  codes "5 2\n7 clock 4 4\n",
+  codes "6 1\n8 3\n",
+  refl,
+  (
+    Acted (reply 2),
+    codes "7 clock 4 4\n",
+    enabled 2 ∷ [],
+    clock_read false,
+    refl,
+    refl,
+    refl,
+    (ClockIs (On 4 4), [], clock_read false, [], refl, refl, (page, false, (refl, refl), refl), (refl, refl)),
+  ),
+  ([], refl, tt),
+  (
+    codes "6 1\n8 3\n",
+    [],
+    refl,
+    (
+      Acted (reply 1),
+      codes "8 3\n",
+      stepped 0 1 ∷ [],
+      stepped 3 3 ∷ [],
+      refl,
+      refl,
+      refl,
+      (Acted (reply 3), [], stepped 3 3 ∷ [], [], refl, refl, refl, (refl, refl)),
+    ),
+    ([], refl, tt),
+    refl,
+  ),
+)
+
+-- a pass that no processor has
+an_entry_of_a_third_pass : entries_of 2 (Opened at_power_on ∷ enabled 1 ∷ Board 2 0 3 Step (reply 2) ∷ []) ≡ Board 2 0 3 Step (reply 2) ∷ []
+an_entry_of_a_third_pass = refl
+
+-- a read under the lock has its try, which met an update; one without it has none
+a_read_under_the_lock : (ms : List Miss) → AllTried 2 (clock_read true) ms
+    ≡ ((first : ℕ) × (second : ℕ) × (more : List Miss) × (ms ≡ record { page = 0; first = first; second = second } ∷ more)
+    × (((first % 2 ≡ 1) × (second ≡ first)) ⊎ (first < second))
+    × (more ≡ []))
+a_read_under_the_lock ms = refl
+
+a_read_without_the_lock : (ms : List Miss) → AllTried 2 (clock_read false) ms ≡ (ms ≡ [])
+a_read_without_the_lock ms = refl
