@@ -1,35 +1,24 @@
 -- The opening meets the rule, and the end gives the whole history.
 use Rattle.std.proofs.Common.{◌≡◌, ℕ, zero, suc, ◌+◌, ◌*◌, ◌^◌, ◌<◌, ◌≤◌, eqb, List, [], ◌∷◌, ◌++◌, length, get_or, refl, ap, sym, ◌∙◌, subst, arith}
 use Rattle.std.proofs.Common.{append-nil, Bool, true, false, true≢false, if◌then◌else◌, Some, None, eq-eqb, ne_eqb, replicate, FitsSigned, IsTrue}
-use mathlib.Core.List.{IsPrefix}
-use mathlib.Core.Logic.{dite}
-use mathlib.Core.Option.{some, some-injective, some-ne-none}
+use mathlib.Core.{List.IsPrefix, Logic.dite, Option.some, Option.some-injective, Option.some-ne-none}
 use native.Mathlib.Decide.{ℕ_discrete, dec_le}
 use lib.ListN.{get_elem?}
 use Rattle.atomic_table.specs.Table.{Final, Seen, opening as opening_of}
-use Rattle.board_types.specs.declared.parts.BoardParts.{BoardParts}
-use Rattle.board_types.specs.declared.parts.ProcessorParts.{ProcessorParts}
-use Rattle.board_core.specs.Tsc.{processor_at, no_processor}
-use Rattle.board_history.specs.Machine.{page_at, page_if}
-use Rattle.board_history.proofs.Pages.{hv-steady}
-use Rattle.board_history.specs.History.{board_after, May, LegalFrom, IsLegal, entries_of, is_of}
-use Rattle.board_history.specs.private.Steady.{IsSteady, IsSteadyPage}
-use Rattle.board_history.specs.declared.entry.Entry.{Entry}
+use Rattle.board_types.specs.declared.{parts.BoardParts.BoardParts, parts.ProcessorParts.ProcessorParts}
+use Rattle.board_core.specs.{Tsc.processor_at, Tsc.no_processor, Conditions.IsJoined, Conditions.IsProcessor, Conditions.flags_valid, Pages.page_in}
+use Rattle.board_history.specs.{Machine.page_at, Machine.page_if, History.board_after, History.May, History.LegalFrom, History.IsLegal, History.entries_of}
+use Rattle.board_history.specs.{History.is_of, private.Steady.IsSteady, private.Steady.IsSteadyPage, declared.entry.Entry.Entry}
+use Rattle.board_history.proofs.{Pages.hv-steady, Laws.IsLegal-rest, Laws.entries_of-++, Pages.shift_for-fits, Pages.mul_for-fits}
 use Rattle.board_history.specs.declared.entry.Entry.TheVariants.{Opened, Board, PageRead, HvRead, Clamp}
-use Rattle.board_history.proofs.Laws.{IsLegal-rest, entries_of-++}
-use Rattle.std.proofs.lemmas.List.{append_cancel_left}
-use Rattle.std.proofs.lemmas.Bool.Decides.{nat_tests}
+use Rattle.std.proofs.lemmas.{List.append_cancel_left, Bool.Decides.nat_tests}
 use Rattle.std.specs.Int.{w8}
-use Rattle.board_core.specs.Conditions.{IsJoined, IsProcessor, flags_valid}
-use Rattle.board_core.specs.Pages.{page_in}
 use Rattle.board_core.proofs.Joined.{most-cpus}
-use Rattle.board_history.proofs.Pages.{shift_for-fits, mul_for-fits}
 use Rattle.clock_table.specs.declared.view.{View.View, Miss.Miss, Ended.Ended}
 use Rattle.clock_table.specs.Words.{pages_for}
 use Rattle.clock_table.specs.Steps.{first_view, weight, number_is, ended_with}
 use Rattle.clock_table.specs.Ends.{no_page, IsWhole, MissesTold, EndedTold}
-use Rattle.clock_table.specs.private.Rule.{is_open, MissesKept, EndedKept, Ghost, Fits, Kept}
-use Rattle.clock_table.specs.private.Laid.{IsLaidBelow, Closing}
+use Rattle.clock_table.specs.private.{Rule.is_open, Rule.MissesKept, Rule.EndedKept, Rule.Ghost, Rule.Fits, Rule.Kept, Laid.IsLaidBelow, Laid.Closing}
 use Rattle.clock_table.proofs.Keeps.{St, log_of}
 use Rattle.clock_table.proofs.Pages.{page_shut}
 use Rattle.clock_table.proofs.SeatSteps.{entries_between}

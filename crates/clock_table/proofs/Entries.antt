@@ -1,17 +1,12 @@
 -- What an entry of the pen's holder leaves, where it may come after what its seat has seen.
 use Rattle.std.proofs.Common.{◌≡◌, ◌≢◌, ℕ, ◌+◌, ◌^◌, ◌<◌, List, [], ◌∷◌, ◌++◌, ap, sym, ◌∙◌, subst, arith, refl}
-use Rattle.board_types.specs.declared.access.Access.{Access}
-use Rattle.board_types.specs.declared.reply.Reply.{Reply}
-use Rattle.board_types.specs.declared.parts.BoardParts.{BoardParts}
+use Rattle.board_types.specs.declared.{access.Access.Access, reply.Reply.Reply, parts.BoardParts.BoardParts}
 use Rattle.board_core.specs.Access.{after_access}
 use Rattle.board_core.proofs.Laws.{after_access-greatest, refusal_of-greatest, reply_of-greatest, after_access-kept_greatest}
-use Rattle.board_history.specs.Machine.{page_at, hv_at}
-use Rattle.board_history.specs.History.{board_after, version_after, after_entry, IsAnswered, May}
-use Rattle.board_history.specs.private.Steady.{IsSteady}
-use Rattle.board_history.specs.declared.entry.Entry.{Entry}
-use Rattle.board_history.specs.declared.entry.Entry.TheVariants.{Opened, Board, PageRead, HvRead, Clamp}
-use Rattle.board_history.proofs.Pages.{version-here, page_at-else, page_at-none}
-use Rattle.board_history.proofs.Laws.{board_after-snoc}
+use Rattle.board_history.specs.{Machine.page_at, Machine.hv_at, History.board_after, History.version_after, History.after_entry, History.IsAnswered}
+use Rattle.board_history.specs.{History.May, private.Steady.IsSteady, declared.entry.Entry.Entry}
+use Rattle.board_history.specs.declared.entry.Entry.TheVariants.{Board, PageRead, HvRead}
+use Rattle.board_history.proofs.{Pages.version-here, Pages.page_at-else, Pages.page_at-none, Laws.board_after-snoc}
 use Rattle.clock_table.specs.Steps.{GoesOnQuietly, weight, loudness, loud}
 use Rattle.clock_table.specs.Calls.{IsPublishing, PublishesNone, IsBump}
 use Rattle.clock_table.proofs.Keeps.{quiet_board, loud-append, loud_between}
@@ -56,14 +51,11 @@ board_leaves seen log pass cpu h a reply quiet is low =
 -- an access that publishes no page
 pub enter_leaves : (seen log : List Entry) (e : Entry) → GoesOnQuietly seen log → PublishesNone (board_after log).cpus e → May seen e → loud log < 2 ^ 63 + 1
     → Leaves log e 0 × PagesStay log e
-enter_leaves seen log (Opened s) quiet is may low = absurd is
-enter_leaves seen log (PageRead pass cpu h page locked) quiet is may low = absurd is
-enter_leaves seen log (HvRead pass h page locked) quiet is may low = absurd is
-enter_leaves seen log (Clamp pass cpu reading clock) quiet is may low = absurd is
 enter_leaves seen log (Board pass cpu h a reply) quiet is may low = (
   board_leaves seen log pass cpu h a reply quiet may low,
   λ d. sym (ap (λ (x : BoardParts). page_at x d) (board_after-snoc log (Board pass cpu h a reply)) ∙ page_at-none (board_after log) cpu h d a is),
 )
+enter_leaves seen log e quiet is may low = absurd is
 
 -- a read under the lock
 read_leaves : (seen log : List Entry) (e : Entry) → GoesOnQuietly seen log → after_entry (board_after log) e ≡ board_after log → loudness e ≡ 1
@@ -77,23 +69,17 @@ read_leaves seen log e quiet stays one few may =
     )
 
 pub bump_leaves : (seen log : List Entry) (e : Entry) → GoesOnQuietly seen log → IsBump seen e → May seen e → Leaves log e 1 × PagesStay log e
-bump_leaves seen log (Opened s) quiet is may = absurd is
-bump_leaves seen log (Board pass cpu h access reply) quiet is may = absurd is
-bump_leaves seen log (Clamp pass cpu reading clock) quiet is may = absurd is
 bump_leaves seen log (PageRead pass cpu h page locked) quiet is may =
     read_leaves seen log (PageRead pass cpu h page locked) quiet refl (ap weight is.0) is.1
     (subst (λ (x : BoardParts). (cpu < x.cpus) × (page_at x cpu ≡ page)) (sym (quiet_board seen log quiet).1) (may.0, may.1))
 bump_leaves seen log (HvRead pass h page locked) quiet is may =
     read_leaves seen log (HvRead pass h page locked) quiet refl (ap weight is.0) is.1
     (subst (λ (x : BoardParts). hv_at x ≡ page) (sym (quiet_board seen log quiet).1) may)
+bump_leaves seen log e quiet is may = absurd is
 
 -- an access that publishes a page
 pub publish_leaves : (seen log : List Entry) (e : Entry) (c : ℕ) → GoesOnQuietly seen log → IsPublishing (board_after log).cpus c e → May seen e
     → loud log < 2 ^ 63 + 1 → IsSteady (board_after log) → Publishes seen log e c
-publish_leaves seen log (Opened s) c quiet is may low steady = absurd is
-publish_leaves seen log (PageRead pass cpu h page locked) c quiet is may low steady = absurd is
-publish_leaves seen log (HvRead pass h page locked) c quiet is may low steady = absurd is
-publish_leaves seen log (Clamp pass cpu reading clock) c quiet is may low steady = absurd is
 publish_leaves seen log (Board pass cpu h a reply) c quiet is may low steady =
     let q = quiet_board seen log quiet in
     let e : Entry = Board pass cpu h a reply in
@@ -108,3 +94,4 @@ publish_leaves seen log (Board pass cpu h a reply) c quiet is may low steady =
           ∙ after_access-greatest (board_after seen) cpu h q.0 a)) ∙ sym (ap (λ (x : BoardParts). page_at x c) (board_after-snoc seen e));
       others = λ d ne. sym (ap (λ (x : BoardParts). page_at x d) after ∙ page_at-else (board_after log) cpu h c d a is ne);
     }
+publish_leaves seen log e c quiet is may low steady = absurd is

@@ -2,17 +2,13 @@
 use Rattle.std.proofs.Common.{◌≡◌, ◌≢◌, ℕ, suc, ◌+◌, ◌%◌, ◌<◌, ◌≤◌, eqb, List, [], ◌∷◌, ◌++◌, get_or, set, refl, ap, sym, ◌∙◌, subst, arith}
 use Rattle.std.proofs.Common.{append_assoc, append-nil, Bool, true, false, Option, Some, None, eq-eqb}
 use Rattle.std.proofs.lemmas.List.{append_cancel_left}
-use mathlib.Core.List.{IsPrefix}
-use mathlib.Core.Option.{some}
-use lib.ListN.{get_elem?}
-use lib.Seq.{set-get_or}
+use mathlib.Core.{List.IsPrefix, Option.some}
+use lib.{ListN.get_elem?, Seq.set-get_or}
 use Rattle.atomic_table.specs.Table.{State, Me}
 use Rattle.board_types.specs.declared.parts.BoardParts.{BoardParts}
 use Rattle.board_core.specs.Pages.{with_greatest}
-use Rattle.board_history.specs.Machine.{machine_of, no_board}
-use Rattle.board_history.specs.History.{of_state, board_from, board_after, May, IsLegal, entries_of, is_of}
-use Rattle.board_history.specs.private.Steady.{IsSteady}
-use Rattle.board_history.specs.declared.entry.Entry.{Entry}
+use Rattle.board_history.specs.{Machine.machine_of, Machine.no_board, History.of_state, History.board_from, History.board_after, History.May, History.IsLegal}
+use Rattle.board_history.specs.{History.entries_of, History.is_of, private.Steady.IsSteady, declared.entry.Entry.Entry}
 use Rattle.board_history.specs.declared.entry.Entry.TheVariants.{Opened, Board, PageRead, HvRead, Clamp}
 use Rattle.board_history.proofs.Laws.{board_from-++, board_after-snoc, LegalFrom-snoc, steady-entry, machine-entry, entries_of-++, entries_of-else}
 use Rattle.clock_table.specs.declared.view.{View.View, Read.Read, Hand.Hand, Miss.Miss, Meet.Meet, Ended.Ended}

@@ -1,8 +1,7 @@
 -- Prefixes of one list, and lists of views.
 use Rattle.std.proofs.Common.{◌≡◌, ◌≢◌, ◌⊎◌, ℕ, zero, suc, ◌≤◌, List, [], ◌∷◌, ◌++◌, length, get_or, set, refl, ap, sym, ◌∙◌, subst, ⊎_elim, inl, inr}
 use Rattle.std.proofs.Common.{arith, append_assoc, append-nil, length-append, Option, Some, None}
-use mathlib.Core.List.{IsPrefix}
-use mathlib.Core.Option.{some, some-injective, some-ne-none}
+use mathlib.Core.{List.IsPrefix, Option.some, Option.some-injective, Option.some-ne-none}
 use lib.ListN.{get_elem?}
 use Rattle.atomic_table.proofs.Lists.{at_set}
 use Rattle.clock_table.specs.Steps.{no_fields}
@@ -58,8 +57,6 @@ no_field (suc (suc (suc (suc k)))) = refl
 -- what is found at j after a write at k is what was written, or what was there
 pub set_or : (xs : List (Option ℕ)) (k j n u : ℕ) (F : Type 0) → get_or (set xs k (Some n)) j None ≡ Some u → (j ≡ k → n ≡ u → F)
     → (get_or xs j None ≡ Some u → F) → F
-set_or [] k j n u F e hit miss = miss e
 set_or (x ∷ xs) zero zero n u F e hit miss = hit refl (cc e)
-set_or (x ∷ xs) zero (suc j) n u F e hit miss = miss e
-set_or (x ∷ xs) (suc k) zero n u F e hit miss = miss e
 set_or (x ∷ xs) (suc k) (suc j) n u F e hit miss = set_or xs k j n u F e (λ a b. hit (ap suc a) b) miss
+set_or xs k j n u F e hit miss = miss e

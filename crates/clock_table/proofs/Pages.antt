@@ -3,18 +3,14 @@ use Rattle.std.proofs.Common.{◌≡◌, ◌≢◌, ◌⊎◌, ℕ, suc, ◌+◌
 use Rattle.std.proofs.Common.{get_or-set_same, get_or-set_other, Bool, false, if◌then◌else◌, Option, Some, None, eq-eqb, ne_eqb, inl, inr}
 use mathlib.Core.Logic.{dite}
 use native.Mathlib.Decide.{ℕ_discrete}
-use Rattle.pvclock_page.specs.declared.page.Page.{Page}
-use Rattle.pvclock_page.specs.Words.{page_of}
+use Rattle.pvclock_page.specs.{declared.page.Page.Page, Words.page_of}
 use Rattle.pvclock_page.proofs.Fields.{page_of-words_of}
-use Rattle.board_history.specs.private.Steady.{IsSteadyPage}
-use Rattle.board_history.specs.declared.entry.Entry.{Entry}
-use Rattle.board_history.specs.History.{board_after}
+use Rattle.board_history.specs.{private.Steady.IsSteadyPage, declared.entry.Entry.Entry, History.board_after}
 use Rattle.clock_table.specs.declared.view.Hand.{Hand}
 use Rattle.clock_table.specs.Words.{place, word_of, field_at}
 use Rattle.clock_table.specs.Steps.{or_else, weight, loud, no_fields}
 use Rattle.clock_table.specs.Calls.{AllPut}
-use Rattle.clock_table.specs.private.Rule.{is_open, put_at, stored, PageKept, FrontKept}
-use Rattle.clock_table.specs.private.Laid.{words_at}
+use Rattle.clock_table.specs.private.{Rule.is_open, Rule.put_at, Rule.stored, Rule.PageKept, Rule.FrontKept, Laid.words_at}
 use Rattle.clock_table.proofs.Lists.{no_field}
 use Rattle.clock_table.proofs.Keeps.{Later}
 

@@ -1,19 +1,15 @@
 -- The steps of a read, and the clamp, keep the rule.
 use Rattle.std.proofs.Common.{◌≡◌, ◌≢◌, ℕ, suc, ◌+◌, ◌%◌, ◌<◌, ◌≤◌, eqb, List, [], ◌∷◌, ◌++◌, length, get_or, set, refl, ap, sym, ◌∙◌, subst, arith, length-set}
 use Rattle.std.proofs.Common.{get_or-set_same, get_or-set_other, Bool, true, false, true≢false, MatchBool, max, Option, Some, None, eq-eqb}
-use Rattle.std.proofs.lemmas.Bool.{eqb-true}
-use Rattle.std.proofs.lemmas.Bool.Decides.{nat_tests}
-use mathlib.Core.List.{IsPrefix}
-use mathlib.Core.Option.{none, some}
+use Rattle.std.proofs.lemmas.{Bool.eqb-true, Bool.Decides.nat_tests}
+use mathlib.Core.{List.IsPrefix, Option.none, Option.some}
 use lib.ListN.{get_elem?}
 use Rattle.atomic_table.specs.Table.{step, keeps, stepped, Allows}
-use Rattle.pvclock_page.specs.declared.page.Page.{Page}
-use Rattle.pvclock_page.specs.Words.{page_of}
+use Rattle.pvclock_page.specs.{declared.page.Page.Page, Words.page_of}
 use Rattle.board_types.specs.declared.parts.BoardParts.{BoardParts}
-use Rattle.board_history.specs.Machine.{Machine, machine_of, page_at}
-use Rattle.board_history.specs.History.{board_after, version_after, May, entries_of, is_of, last_of, Reads, read_if, read_of}
-use Rattle.board_history.specs.private.Steady.{IsSteadyPage}
-use Rattle.board_history.specs.declared.entry.Entry.{Entry}
+use Rattle.board_history.specs.{Machine.Machine, Machine.machine_of, Machine.page_at, History.board_after, History.version_after, History.May}
+use Rattle.board_history.specs.{History.entries_of, History.is_of, History.last_of, History.Reads, History.read_if, History.read_of}
+use Rattle.board_history.specs.{private.Steady.IsSteadyPage, declared.entry.Entry.Entry}
 use Rattle.board_history.specs.declared.entry.Entry.TheVariants.{Clamp}
 use Rattle.board_history.proofs.Laws.{board_after-snoc, legal-version, read_of-number, read_of-leaves, read_of-may}
 use Rattle.clock_table.specs.declared.view.{View.View, Read.Read, Miss.Miss}

@@ -1,18 +1,13 @@
 -- Splits and meets of seats keep the rule.
 use Rattle.std.proofs.Common.{◌≡◌, ◌≢◌, ◌⊎◌, ℕ, zero, suc, ◌+◌, ◌<◌, ◌≤◌, eqb, leb, List, [], ◌∷◌, ◌++◌, length, get_or, set, refl, ap, sym, ◌∙◌, subst, arith}
-use Rattle.std.proofs.Common.{append_assoc, append-nil, Bool, true, false, true≢false, ◌||◌, if◌then◌else◌, Option, Some, None}
+use Rattle.std.proofs.Common.{append_assoc, append-nil, Bool, true, false, ◌||◌, if◌then◌else◌, Option, Some, None}
 use Rattle.std.proofs.Common.{eq-eqb, ne_eqb, inl, inr, ⊎_elim}
-use Rattle.std.proofs.lemmas.Bool.Decides.{nat_tests}
-use Rattle.std.proofs.lemmas.List.{append_cancel_left}
-use mathlib.Core.List.{IsPrefix}
-use mathlib.Core.Logic.{dite}
-use mathlib.Core.Option.{none}
+use Rattle.std.proofs.lemmas.{Bool.Decides.nat_tests, List.append_cancel_left}
+use mathlib.Core.{List.IsPrefix, Logic.dite, Option.none}
 use native.Mathlib.Decide.{ℕ_discrete}
-use Rattle.atomic_table.specs.Table.{step, keeps, Allows, Splits, Joins}
-use Rattle.atomic_table.proofs.Lists.{set_else}
+use Rattle.atomic_table.{specs.Table.step, specs.Table.keeps, specs.Table.Allows, specs.Table.Splits, specs.Table.Joins, proofs.Lists.set_else}
 use Rattle.board_types.specs.declared.parts.BoardParts.{BoardParts}
-use Rattle.board_history.specs.History.{entries_of}
-use Rattle.board_history.specs.declared.entry.Entry.{Entry}
+use Rattle.board_history.specs.{History.entries_of, declared.entry.Entry.Entry}
 use Rattle.board_history.proofs.Laws.{entries_of-++}
 use Rattle.clock_table.specs.Words.{pages_for}
 use Rattle.clock_table.specs.declared.view.{View.View, Meet.Meet, Ended.Ended}
@@ -135,7 +130,7 @@ module _ (opening : BoardParts) where
                     (ap (λ (b : Bool). if b then n else r.g.owner i) (eq-eqb i r.g.made e), omega arith);
                 once = λ i. at_most (eqb v.made i);
               };
-              pen = λ no. absurd (true≢false (sym no));
+              pen = λ no. absurd (cc no);
               read = tt;
               misses = tt;
               ended = tt;
@@ -168,7 +163,7 @@ module _ (opening : BoardParts) where
             (record {
               seen = f.seen;
               numbers = f.numbers;
-              pen = λ no. absurd (true≢false (sym no));
+              pen = λ no. absurd (cc no);
               read = tt;
               misses = f.misses;
               ended = f.ended;
@@ -261,13 +256,13 @@ module _ (opening : BoardParts) where
         words = r.words;
         each = each_set (set s.views id u) other spent (Fits opening s.words g')
             (record {
-              seen = record { begins = (log, refl); mine = λ k is. absurd (cc is); meet = tt; opened = λ no. absurd (true≢false (sym no)) };
+              seen = record { begins = (log, refl); mine = λ k is. absurd (cc is); meet = tt; opened = λ no. absurd (cc no) };
               numbers = record { claimed = λ k c. absurd (omega arith); once = λ k. omega arith };
-              pen = λ no. absurd (true≢false (sym no));
+              pen = λ no. absurd (cc no);
               read = tt;
               misses = tt;
               ended = tt;
-              limit = λ no. absurd (true≢false (sym no));
+              limit = λ no. absurd (cc no);
             })
             (λ j y ne e. each_set s.views id u (λ k x. k ≢ other → Fits opening s.words g' k x)
             (λ _. record {
@@ -297,7 +292,7 @@ module _ (opening : BoardParts) where
             (λ k x ne' was no. let o = r.each k x was in
             fits_other opening s.words s.words r.g g' k x o (later_self (pages_for opening.cpus) s.words) (prefix_self log)
             (λ i own below. (refl, stays i k no own, below)) (λ yes. absurd (last k ne' no (o.pen yes).holder)) o.limit) j y e ne);
-        alone = λ unset. each_set (set s.views id u) other spent (λ j y. y.live ≡ true → j ≡ id) (λ no. absurd (true≢false (sym no)))
+        alone = λ unset. each_set (set s.views id u) other spent (λ j y. y.live ≡ true → j ≡ id) (λ no. absurd (cc no))
             (λ j y ne e. each_set s.views id u (λ k x. k ≢ other → x.live ≡ true → k ≡ id) (λ _ _. refl)
             (λ k x ne' was no lives. absurd (last k ne' no (r.alone unset k x was lives))) j y e ne);
       }

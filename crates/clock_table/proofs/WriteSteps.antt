@@ -5,18 +5,14 @@ use mathlib.Core.Option.{none, some}
 use lib.ListN.{get_elem?}
 use Rattle.atomic_table.specs.Table.{step, keeps, stepped, Allows}
 use Rattle.pvclock_page.specs.declared.page.Page.{Page}
-use Rattle.board_types.specs.declared.parts.BoardParts.{BoardParts}
-use Rattle.board_types.specs.declared.parts.TheConstants.{LAST_VERSION}
-use Rattle.board_history.specs.Machine.{Machine, page_at}
-use Rattle.board_history.specs.History.{board_after, version_after}
-use Rattle.board_history.specs.declared.entry.Entry.{Entry}
+use Rattle.board_types.specs.declared.{parts.BoardParts.BoardParts, parts.TheConstants.LAST_VERSION}
+use Rattle.board_history.specs.{Machine.Machine, Machine.page_at, History.board_after, History.version_after, declared.entry.Entry.Entry}
 use Rattle.board_history.proofs.Laws.{is_of-pass}
 use Rattle.clock_table.specs.declared.view.{View.View, Hand.Hand}
 use Rattle.clock_table.specs.Words.{place, word_of, pages_for}
 use Rattle.clock_table.specs.Steps.{told, Extends, no_fields, begun, with_put, put_in}
 use Rattle.clock_table.specs.Calls.{IsPen, IsNext, IsPublishing, PublishesNone, IsBump, HasOpen, AllPut, MayEnter, MayClose}
-use Rattle.clock_table.specs.private.Rule.{PageKept, WordsKept, Kept}
-use Rattle.clock_table.specs.private.Plays.{Begun, PutIn, Finished}
+use Rattle.clock_table.specs.private.{Rule.PageKept, Rule.WordsKept, Rule.Kept, Plays.Begun, Plays.PutIn, Plays.Finished}
 use Rattle.clock_table.proofs.Keeps.{St, M, Later, later_same, misses_later, quiet_board, log_of, stay, enter, penned, quiet_rest}
 use Rattle.clock_table.proofs.Pages.{later_version, later_field, front_else, page_same, page_cases, open_none, open_one, open_here, page_opened, page_put, page_closed}
 use Rattle.clock_table.proofs.Entries.{Leaves, PagesStay, enter_leaves, bump_leaves, publish_leaves}

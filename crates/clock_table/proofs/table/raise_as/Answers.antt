@@ -1,6 +1,5 @@
 use Rattle.std.proofs.Common.{sym, ◌∙◌, arith}
-use Rattle.board_history.specs.Machine.{machine_of}
-use Rattle.board_history.specs.History.{Reads, last_of, entries_of}
+use Rattle.board_history.specs.{Machine.machine_of, History.Reads, History.last_of, History.entries_of}
 use Rattle.clock_table.specs.Steps.{number_in}
 use Rattle.clock_table.proofs.ReadSteps.{raises}
 use Rattle.clock_table.proofs.table.raise_as.Goals as goal

@@ -1,4 +1,4 @@
-use Rattle.std.proofs.Common.{◌≡◌, suc, ℕ, ap, sym, ◌∙◌, arith}
+use Rattle.std.proofs.Common.{◌≡◌, suc, ap, sym, ◌∙◌, arith}
 use Rattle.clock_table.specs.Steps.{noted_in}
 use Rattle.clock_table.specs.Words.{place}
 use Rattle.clock_table.proofs.ReadSteps.{fields}
@@ -18,4 +18,4 @@ pub returns : goal.returns
 returns g c =
     let at : c.place.result ≡ place c.args.page (suc c.number.result) = let p = c.place.ensures in omega arith in
     c.load.ensures.2.1 c.args.page c.number.result c.number.ensures.small at
-    ∙ (ap (λ v. noted_in c.number.result c.load.result v) c.seat.view_is ∙ ap (λ (k : ℕ). noted_in k c.load.result c.args.seat.now) c.number.ensures.value)
+    ∙ (λ i. noted_in (c.number.ensures.value i) c.load.result (c.seat.view_is i))

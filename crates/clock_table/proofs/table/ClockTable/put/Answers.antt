@@ -1,4 +1,4 @@
-use Rattle.std.proofs.Common.{◌<◌, ◌+◌, ◌≡◌, suc, ℕ, ap, sym, ◌∙◌, arith}
+use Rattle.std.proofs.Common.{◌<◌, ◌+◌, ◌≡◌, suc, ap, sym, ◌∙◌, arith}
 use Rattle.clock_table.specs.Steps.{put_in}
 use Rattle.clock_table.specs.Words.{place}
 use Rattle.clock_table.proofs.WriteSteps.{puts}
@@ -17,8 +17,7 @@ store-requires g c = let t = c.args.self.now in
     )
 
 pub returns : goal.returns
-returns g c = let e = c.store.ensures in
-    let n = c.number.ensures.value in
+returns g c =
     let at : c.place.result ≡ place c.args.page (suc c.number.result) = let p = c.place.ensures in omega arith in
-    e.2.1 c.args.page c.number.result c.number.ensures.small at
-    ∙ (ap (λ v. put_in c.number.result c.args.word v) c.seat.view_is ∙ ap (λ (k : ℕ). put_in k c.args.word c.args.seat.now) n)
+    c.store.ensures.2.1 c.args.page c.number.result c.number.ensures.small at
+    ∙ (λ i. put_in (c.number.ensures.value i) c.args.word (c.seat.view_is i))
