@@ -196,12 +196,7 @@ module _ (opening : BoardParts) where
 
 -- the board of a state is steady
 pub steady_of : (b : BoardParts) → IsJoined b → length b.processors ≡ 64 → IsSteady b
-steady_of b joined long = record {
-  places = most_cpus;
-  rate = joined.rates.guest;
-  pages = λ c. at c (eqb c b.cpus);
-  count = joined.accesses;
-}
+steady_of b joined long = record { places = most_cpus; rate = joined.rates.guest; pages = λ c. at c (eqb c b.cpus); count = joined.accesses }
   where
     most_cpus : b.cpus ≤ length b.processors
     most_cpus = let m = most-cpus b.format b.cpus b.hpet.timers joined.format in omega arith

@@ -160,15 +160,7 @@ module _ (opening : BoardParts) where
         room = r.room;
         words = r.words;
         each = each_more s.views id (pen_left v) (pen_right v) (Fits opening s.words g')
-            (record {
-              seen = f.seen;
-              numbers = f.numbers;
-              pen = λ no. absurd (cc no);
-              read = tt;
-              misses = f.misses;
-              ended = f.ended;
-              limit = f.limit;
-            })
+            (record { seen = f.seen; numbers = f.numbers; pen = λ no. absurd (cc no); read = tt; misses = f.misses; ended = f.ended; limit = f.limit })
             (λ j u ne e. let o = r.each j u e in fits_other opening s.words s.words r.g g' j u o (later_self (pages_for opening.cpus) s.words)
             (prefix_self (log_of opening s r)) (λ n own below. (refl, own, below)) (λ yes. absurd (ne ((o.pen yes).holder ∙ sym k.holder))) o.limit)
             (record {
