@@ -60,9 +60,9 @@ unfoldable pub example : List ℕ
 unfolding spelled
 example = spelled (board_of 1)
 
-example-length : length example ≡ 553
+example-bytes : (length example ≡ 553) × (drop 503 example ≡ replicate 50 0)
 unfolding example
-example-length = refl
+example-bytes = (refl, refl)
 
 example-head : take 79 example
     ≡ 67 ∷ 76 ∷ 75 ∷ 66 ∷ 79 ∷ 65 ∷ 82 ∷ 68 ∷ 1 ∷ 0 ∷ 1 ∷ 0 ∷ 64 ∷ 66 ∷ 15 ∷ 0 ∷ 0 ∷ 0 ∷ 0 ∷ 0 ∷ 0 ∷ 0 ∷ 0 ∷ 0 ∷ 0 ∷ 0 ∷ 0 ∷ 0 ∷ 0 ∷ 0 ∷ 0
@@ -71,30 +71,15 @@ example-head : take 79 example
 unfolding example
 example-head = refl
 
-example-processor : drop 503 example ≡ replicate 50 0
-unfolding example
-example-processor = refl
-
-example-fault : fault example ≡ None
-unfolding example fault
-example-fault = refl
-
 example-board : read example ≡ board_of 1
 unfolding example read
 example-board = refl
 
--- cut at once, in the version, and at the last byte; with one more
-cut : map (λ (n : ℕ). fault (take n example)) (0 ∷ 9 ∷ 552 ∷ []) ≡ map (λ (n : ℕ). Some (record { place = n; kind = Short })) (0 ∷ 9 ∷ 552 ∷ [])
+-- no fault; cut at once, in the version, and at the last byte; with one more; another magic word
+example-ends : (fault example ≡ None) × (map (λ (n : ℕ). fault (take n example)) (0 ∷ 9 ∷ 552 ∷ []) ≡ map (λ (n : ℕ). Some (record { place = n; kind = Short })) (0 ∷ 9 ∷ 552 ∷ []))
+    × (fault (example ++ 0 ∷ []) ≡ Some (record { place = 553; kind = Trailing })) × (fault (set example 7 69) ≡ Some (record { place = 0; kind = Magic }))
 unfolding example fault
-cut = refl
-
-more : fault (example ++ 0 ∷ []) ≡ Some (record { place = 553; kind = Trailing })
-unfolding example fault
-more = refl
-
-magic : fault (set example 7 69) ≡ Some (record { place = 0; kind = Magic })
-unfolding example fault
-magic = refl
+example-ends = (refl, refl, refl, refl)
 
 -- versions 0, 6 and 257
 versions : map (λ (c : ℕ × ℕ). fault (set example c.0 c.1)) ((8, 0) ∷ (8, 6) ∷ (9, 1) ∷ []) ≡ replicate 3 (Some (record { place = 8; kind = Version }))

@@ -19,13 +19,10 @@ unfolding spelled
 fifth = spelled (board_of 5)
 
 -- each is the one before, with its version and a block: a masked timer, a page that isn't written, and no messages
-blocks-before : (drop 9 (take 856 third) ≡ drop 9 second) × (drop 9 (take 911 fourth) ≡ drop 9 third) × (drop 9 (take 948 fifth) ≡ drop 9 fourth)
+blocks-are : (drop 9 (take 856 third) ≡ drop 9 second) × (drop 9 (take 911 fourth) ≡ drop 9 third) × (drop 9 (take 948 fifth) ≡ drop 9 fourth)
+    × (drop 856 third ≡ 0 ∷ 0 ∷ 1 ∷ 0 ∷ replicate 51 0) × (drop 911 fourth ≡ replicate 37 0) × (drop 948 fifth ≡ replicate 72 0)
 unfolding second third fourth fifth
-blocks-before = (refl, refl, refl)
-
-blocks-are : (drop 856 third ≡ 0 ∷ 0 ∷ 1 ∷ 0 ∷ replicate 51 0) × (drop 911 fourth ≡ replicate 37 0) × (drop 948 fifth ≡ replicate 72 0)
-unfolding third fourth fifth
-blocks-are = (refl, refl, refl)
+blocks-are = (refl, refl, refl, refl, refl, refl)
 
 fifth-board : read fifth ≡ board_of 5
 unfolding fifth read
@@ -52,36 +49,28 @@ timer-modes : Faulty (set (set fifth 858 4) 861 1) 861 × (fault (set (set fifth
 unfolding fifth fault
 timer-modes = (refl, refl, refl)
 
--- a page before the first publishing: number, an odd version, scale, offset, offset of the TSC; and its processor
+-- a page before the first publishing: number, an odd version, scale, offset, offset of the TSC
 page-faults : FaultsBy fifth ((911, 1, 919) ∷ (919, 1, 919) ∷ (924, 1, 924) ∷ (932, 1, 932) ∷ (940, 1, 940) ∷ [])
 unfolding fifth fault
 page-faults = refl
 
-page-processor : Faulty (set (set fifth 919 2) 923 1) 923
-unfolding fifth fault
-page-processor = refl
-
--- one that is enabled, with the scale of a TSC of 1 GHz and offsets
+-- one of a processor that the board hasn't, and one that is enabled, with the scale of a TSC of 1 GHz and offsets
 abbrev enabled : List ℕ
 enabled =
     1 ∷ replicate 7 0 ++ (2 ∷ 0 ∷ 0 ∷ 0 ∷ 0 ∷ []) ++ (0x5c ∷ 0x8f ∷ 0xc2 ∷ 0xf5 ∷ 0x28 ∷ 0x5c ∷ 0x8f ∷ 2 ∷ []) ++ replicate 16 9
 
-page-enabled : fault (take 911 fifth ++ enabled ++ drop 948 fifth) ≡ None
+page-is : Faulty (set (set fifth 919 2) 923 1) 923 × (fault (take 911 fifth ++ enabled ++ drop 948 fifth) ≡ None)
 unfolding fifth fault
-page-enabled = refl
+page-is = (refl, refl)
 
 -- messages of the first timer and of the last; the counts of rises: those of line 0 at their row, those of line 20 at the flag of the last timer, and in format 4 at their row
 message-faults : FaultsBy fifth ((948, 2, 948) ∷ (1011, 2, 1011) ∷ (738, 2, 738) ∷ (754, 2, 1011) ∷ [])
 unfolding fifth fault
 message-faults = refl
 
-message-register : fault (set (set fifth 948 1) 956 255) ≡ None
-unfolding fifth fault
-message-register = refl
-
-rises-format_4 : Faulty (set fourth 754 2) 738
-unfolding fourth fault
-rises-format_4 = refl
+message-others : (fault (set (set fifth 948 1) 956 255) ≡ None) × Faulty (set fourth 754 2) 738
+unfolding fourth fifth fault
+message-others = (refl, refl)
 
 -- the first example taken to format 5
 upgraded-is : spelled (upgraded_to 5 (board_of 1)) ≡ fifth

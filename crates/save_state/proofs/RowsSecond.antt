@@ -10,45 +10,24 @@ unfoldable pub second : List ℕ
 unfolding spelled
 second = spelled (board_of 2)
 
-second-length : length second ≡ 856
-unfolding second
-second-length = refl
-
--- all before the timers is as in version 1, but the version
-second-before : take 8 second ++ drop 9 (take 264 second) ≡ take 8 example ++ drop 9 (take 264 example)
-unfolding second example
-second-before = refl
-
-second-version : take 2 (drop 8 second) ≡ 2 ∷ 0 ∷ []
-unfolding second
-second-version = refl
-
--- eight timers; then ten lines, six counts of rises, the wall clock and a processor, all 0
+-- eight timers; then ten lines, six counts of rises, the wall clock and a processor, all 0; what is before the timers is as in version 1, but the version
 abbrev eight_timers : List ℕ
 eight_timers = let one : List ℕ = 0 ∷ 40 ∷ replicate 16 0 in one ++ one ++ one ++ one ++ one ++ one ++ one ++ one
 
-second-timers : take 144 (drop 264 second) ≡ eight_timers
-unfolding second
-second-timers = refl
-
-second-rest : drop 408 second ≡ replicate 448 0
-unfolding second
-second-rest = refl
+second-bytes : (length second ≡ 856) × (take 144 (drop 264 second) ≡ eight_timers) × (drop 408 second ≡ replicate 448 0) × (take 2 (drop 8 second) ≡ 2 ∷ 0 ∷ [])
+    × (take 8 second ++ drop 9 (take 264 second) ≡ take 8 example ++ drop 9 (take 264 example))
+unfolding second example
+second-bytes = (refl, refl, refl, refl, refl)
 
 second-board : read second ≡ board_of 2
 unfolding second read
 second-board = refl
 
--- no fault: the example, and with eight bits of status
-second-fault : (fault second ≡ None) × (fault (set second 255 255) ≡ None)
+-- no fault: the example, and with eight bits of status; cut, with more, and with 64 processors
+second-ends : (fault second ≡ None) × (fault (set second 255 255) ≡ None) × (fault (take 855 second) ≡ Some (record { place = 855; kind = Short }))
+    × (fault (second ++ 0 ∷ []) ≡ Some (record { place = 856; kind = Trailing })) × (fault (set second 10 64) ≡ Some (record { place = 856; kind = Short }))
 unfolding second fault
-second-fault = (refl, refl)
-
--- cut, with more, and with 64 processors
-second-ends : (fault (take 855 second) ≡ Some (record { place = 855; kind = Short })) × (fault (second ++ 0 ∷ []) ≡ Some (record { place = 856; kind = Trailing }))
-    × (fault (set second 10 64) ≡ Some (record { place = 856; kind = Short }))
-unfolding second fault
-second-ends = (refl, refl, refl)
+second-ends = (refl, refl, refl, refl, refl)
 
 -- as version 1 its fourth timer would be the line of the 8254, and the first example's lines timers
 other-version : Faulty (set second 8 1) 319 × Faulty (set example 8 2) 318
@@ -93,9 +72,6 @@ upgraded = spelled (upgraded_to 2 busy)
 
 upgraded-blocks : (length upgraded ≡ 856) × (take 144 (drop 264 upgraded) ≡ eight_timers)
     × (take 330 (drop 408 upgraded) ≡ take 165 (drop 318 (spelled busy)) ++ replicate 165 0) × (drop 738 upgraded ≡ replicate 48 0 ++ drop 483 (spelled busy))
-unfolding upgraded spelled
-upgraded-blocks = (refl, refl, refl, refl)
-
-upgraded-fault : fault upgraded ≡ None
-unfolding upgraded fault
-upgraded-fault = refl
+    × (fault upgraded ≡ None)
+unfolding upgraded spelled fault
+upgraded-blocks = (refl, refl, refl, refl, refl)

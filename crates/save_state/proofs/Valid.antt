@@ -6,12 +6,12 @@ use Rattle.save_state.proofs.Names.{guest, policies, front, counter, AreProcesso
 use Rattle.save_state.proofs.Names.{AllHold, all_hold-split, EachHolds, AreDevices, one_if, devices_in, now_of, no_processor, processor_at, apics_of}
 use Rattle.save_state.proofs.Names.{no_hv, IsWall, IsProcessor, timers_of, has_messages, DeviceParts, levels, counts_rtc, no_line}
 use Rattle.save_state.proofs.Names.{line_at, IsTimerLine, timer_at, Policy, TickParts, IsTickLine, BoardParts, HvParts, ProcessorParts}
-use Rattle.save_state.proofs.Names.{HV_FORMAT, Comparator, Period, IsTimer, config_valid, comparator_valid, period_valid, IsTimer-no_fault, IsHpet}
+use Rattle.save_state.proofs.Names.{HV_FORMAT, IsTimer, IsHpet}
 use Rattle.save_state.proofs.Names.{IsPlace, no_timer, register_d, pf_of, af_of, uf_of, flags_byte, divider_of, IsRtc, bytes_valid, divider_valid, cycle_valid}
-use Rattle.save_state.proofs.Names.{TimerParts, Config, cond-true, line_numbers, level_of, CounterParts, IsCounter, IsPit, IsDivider, RtcParts}
+use Rattle.save_state.proofs.Names.{TimerParts, cond-true, line_numbers, level_of, CounterParts, IsCounter, IsPit, IsDivider, RtcParts}
 use Rattle.save_state.proofs.Names.{register_a, register_c, inl, inr, refl, sym, subst, ◌∙◌, arith, and_parts, or_cases, leb-true, ltb-true, ltb-false, lt-ltb}
-use Rattle.save_state.proofs.Names.{le-ltb, cases_lt, ◌≡◌, ℕ, zero, suc, ◌+◌, ◌<◌, ◌≤◌, Bool, true, false, cond, ◌&&◌, ◌||◌, leb, ltb, [], ◌∷◌, length, get_or}
-use Rattle.save_state.proofs.Names.{Some, None, ◌⊎◌, IsHead, lists, timers_least, references-one}
+use Rattle.save_state.proofs.Names.{le-ltb, cases_lt, ◌≡◌, ℕ, zero, suc, ◌+◌, ◌<◌, ◌≤◌, Bool, true, false, ◌&&◌, ◌||◌, leb, ltb, [], ◌∷◌, length, get_or}
+use Rattle.save_state.proofs.Names.{◌⊎◌, IsHead, lists, timers_least, references-one}
 use Rattle.save_state.proofs.ApicLaws.{apics-valid}
 use Rattle.save_state.proofs.Blocks.{TicksHold, ticks-hold}
 use Rattle.save_state.proofs.Processors.{processor-valid}
@@ -69,15 +69,9 @@ clock-valid b long h =
     }
 
 -- the HPET
-all-hold : (a b c : Bool) → a ≡ true → b ≡ true → c ≡ true → cond a (cond b (cond c None (Some Period)) (Some Comparator)) (Some Config) ≡ None
-all-hold true true true e e' e'' = refl
-all-hold true true false e e' e'' = cc
-all-hold true false c e e' e'' = cc
-all-hold false b c e e' e'' = cc
-
 timer-valid : (b : BoardParts) (k : ℕ) (t : TimerParts) → AllHold (timer k) b t → IsTimer t
 unfolding timer plain
-timer-valid b k t h = IsTimer-no_fault t (all-hold (config_valid t) (comparator_valid t) (period_valid t) h.0 h.1.0 h.1.1.0)
+timer-valid b k t h = grind arith
 
 timers-few : (format : ℕ) → (timers_of format ≡ 3) ⊎ (timers_of format ≡ 8)
 timers-few format = grind arith

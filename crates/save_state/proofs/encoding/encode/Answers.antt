@@ -9,37 +9,7 @@ bytes_are c = c.in_ok-put_board-in-Ok.ensures.bytes ∙ ap (λ (xs : List ℕ). 
 
 -- what the types of the board's fields say
 board_fits : (c : In_ok-put_board-in-Ok) → BoardFits c.parts-b.result
-board_fits c = record {
-  khz = search rules;
-  start = search rules;
-  base_ns = search rules;
-  host = search rules;
-  guest_khz = search rules;
-  accesses = search rules;
-  greatest = search rules;
-  slew_ns = search rules;
-  divider = search rules;
-  counter = search rules;
-  blocks = c.in_ok-put_board-in-Ok.ensures.fit;
-  timer_places = search rules;
-  bit_places = search rules;
-  word_places = search rules;
-  wall_number = search rules;
-  wall_version = search rules;
-  wall_sec = search rules;
-  wall_nsec = search rules;
-  processor_places = search rules;
-  rises = λ (k : ℕ). search rules;
-  rise_places = search rules;
-  words = λ (k : ℕ). search rules;
-  reference = record {
-    number = search rules;
-    version = search rules;
-    scale = search rules;
-    offset = search rules;
-    tsc_offset = search rules;
-  };
-}
+board_fits c = search rules
 
 pub returns-in_ok-put_board-in-Ok-clause-valid : goal.returns-in_ok-put_board-in-Ok-clause-valid
 returns-in_ok-put_board-in-Ok-clause-valid c =
