@@ -1,7 +1,7 @@
 /* SPDX-License-Identifier: Apache-2.0 OR MIT
- * The guest, in 64-bit mode: processor 0 sets a tick of 10 ms by the 8254, whose first ones meet a masked pin; both read the
- * clock by their pages until the fifth tick, look that it never falls, and leave what they read last. Its code is copied into the guest's memory, so it calls nothing outside and has no data;
- * built with -mgeneral-regs-only -mno-red-zone -fno-stack-protector -fcf-protection=none. */
+ * The guest, in 64-bit mode: processor 0 sets a tick of 10 ms by the 8254, whose first ones meet a masked pin, and asks for a pause at
+ * the second; both read the clock by their pages until the fifth, look that it never falls, and leave what they read last. Its code
+ * is copied into the guest's memory, so it calls nothing outside and has no data; built with -mgeneral-regs-only -mno-red-zone -fno-stack-protector -fcf-protection=none. */
 #include "machine.h"
 
 #define GUEST __attribute__((section("guest")))
@@ -64,9 +64,9 @@ GUEST static void set_up(void) {
 
 GUEST void guest_main(uint64_t processor, uint64_t halts) {
     const struct guest_page *page = (const struct guest_page *)(PAGES + 64 * processor);
-    uint64_t address = (uint64_t)page | 1, clock = 0, count = 0;
-    uint8_t fell = 0;
-    __asm__ volatile("wrmsr" : : "c"(CLOCKBOARD_MSR_SYSTEM_TIME), "a"((uint32_t)address), "d"(0) : "memory");
+    uint64_t clock = 0, count = 0;
+    uint8_t fell = 0, paused = processor != 0;
+    __asm__ volatile("wrmsr" : : "c"(CLOCKBOARD_MSR_SYSTEM_TIME), "a"((uint32_t)(uint64_t)page | 1), "d"(0) : "memory");
     if (processor == 0) {
         set_up();
     }
@@ -75,6 +75,10 @@ GUEST void guest_main(uint64_t processor, uint64_t halts) {
         fell |= now < clock || hpet < count;
         clock = now;
         count = hpet;
+        if (!paused && *ticks >= TICKS / 2) {
+            paused = 1;
+            out(PAUSE_PORT, 0);
+        }
         if (halts && processor == 0) {
             __asm__ volatile("hlt" ::: "memory");
         }

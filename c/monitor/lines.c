@@ -9,9 +9,8 @@
 const uint8_t lines[LINES] = {0, 8, 20, 21, 22, 23};
 
 static void raise_line(struct machine *m, uint32_t line) {
-    uint64_t one = 1;
     for (int k = 0; k < LINES; k++) {
-        m->rises += lines[k] == line && write(m->rise[k], &one, sizeof one) == sizeof one;
+        m->rises += lines[k] == line && write(m->rise[k], &(uint64_t){1}, 8) == 8;
     }
 }
 
@@ -31,7 +30,8 @@ static void set_timer(struct machine *m) {
 }
 
 /* KVM takes an input down by itself, at the end of the interrupt. Answers which lines rose, a bit each. */
-uint32_t settle(struct machine *m, const struct clockboard_reply *reply) {
+uint32_t settle(struct machine *m) {
+    const struct clockboard_reply *reply = &m->reply;
     uint32_t rose = 0;
     for (uint32_t k = 0; k < reply->edge_count; k++) {
         uint32_t line = UINT32_C(1) << reply->edges[k].line;
@@ -48,39 +48,29 @@ uint32_t settle(struct machine *m, const struct clockboard_reply *reply) {
 /* The end of an interrupt. A line that is up and didn't rise just now is raised again: one of level type whose status the guest
  * hasn't cleared, or the MC146818's, which rose again before the end. */
 static void end_of_interrupt(struct machine *m, uint8_t line) {
-    struct clockboard_reply reply;
-    clockboard_acknowledge(&m->board, 0, counter(), line, &reply);
+    clockboard_acknowledge(&m->board, 0, counter(), line, &m->reply);
     m->ends++;
-    if (~settle(m, &reply) & m->up & UINT32_C(1) << line) {
+    if (~settle(m) & m->up & UINT32_C(1) << line) {
         raise_line(m, line);
     }
-}
-
-/* The timer is set again, also where it went off early. */
-static void timer_went_off(struct machine *m) {
-    struct clockboard_reply reply;
-    m->alarm = 0;
-    clockboard_step(&m->board, 0, counter(), &reply);
-    settle(m, &reply);
 }
 
 /* A rise that met a masked pin of the IO-APIC is lost, and no end of an interrupt comes. So every 100 ms: where the 8254's line has
  * stayed up while another tick came due, KVM's input is taken down and the line acknowledged, and a tick raises both again. */
 static void look_for_lost_rise(struct machine *m) {
-    struct clockboard_reply reply;
     uint64_t now = counter();
     if (now - m->looked < 100 * m->khz) {
         return;
     }
-    clockboard_counts(&m->board, 0, now, 0, &reply);
-    settle(m, &reply);
-    bool lost = m->up & 1 && reply.value[1] == m->rose && reply.value[0] > m->due;
+    clockboard_counts(&m->board, 0, now, 0, &m->reply);
+    settle(m);
+    bool lost = m->up & 1 && m->reply.value[1] == m->rose && m->reply.value[0] > m->due;
     m->looked = now;
-    m->due = reply.value[0];
-    m->rose = reply.value[1];
+    m->due = m->reply.value[0];
+    m->rose = m->reply.value[1];
     if (lost && connect_line(m, 0, false) && connect_line(m, 0, true)) {
-        clockboard_acknowledge(&m->board, 0, counter(), 0, &reply);
-        settle(m, &reply);
+        clockboard_acknowledge(&m->board, 0, counter(), 0, &m->reply);
+        settle(m);
     }
 }
 
@@ -93,10 +83,15 @@ void *watch(void *machine) {
     }
     while (!m->over && poll(all, LINES + 1, 100) >= 0) {
         pthread_mutex_lock(&m->lock);
-        for (int k = 0; k <= LINES; k++) {
-            if (read(all[k].fd, &events, sizeof events) > 0) {
-                k < LINES ? end_of_interrupt(m, lines[k]) : timer_went_off(m);
+        for (int k = 0; k < LINES; k++) {
+            if (read(m->end[k], &events, 8) > 0) {
+                end_of_interrupt(m, lines[k]);
             }
+        }
+        if (read(m->timer, &events, 8) > 0) { /* it is set again, also where it went off early */
+            m->alarm = 0;
+            clockboard_step(&m->board, 0, counter(), &m->reply);
+            settle(m);
         }
         look_for_lost_rise(m);
         pthread_mutex_unlock(&m->lock);

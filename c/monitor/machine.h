@@ -6,15 +6,16 @@
 #include <pthread.h>
 #include <stdatomic.h>
 #include <stdbool.h>
+#include <sys/ioctl.h>
 #include <x86intrin.h>
 
 /* Where things lie in the guest's memory; WORDS has the number of ticks, and each processor's last clock from 8 on. */
 enum { MEMORY = 0x200000, TABLES = 0x1000, GDT = 0x5000, IDT = 0x6000, WORDS = 0x7000, PAGES = 0x8000, CODE = 0x10000,
-       STACKS = 0x20000 };
-#define HPET UINT64_C(0xfed00000)
+       STACKS = 0x20000, PROCESSORS = 2, LINES = 6, TICKS = 5, PAUSE_PORT = 0xf3, RESULT_PORT = 0xf4, TICK_VECTOR = 0x20 };
 #define IO_APIC UINT64_C(0xfec00000)
+#define HPET UINT64_C(0xfed00000)
 #define APIC UINT64_C(0xfee00000)
-enum { PROCESSORS = 2, LINES = 6, TICKS = 5, RESULT_PORT = 0xf4, TICK_VECTOR = 0x20, NO_KVM = 77 };
+#define counter() __rdtsc() /* the host's counter, of which pages and TSCs of the guest are made; read under the lock */
 
 struct processor {
     struct machine *machine;
@@ -25,32 +26,27 @@ struct processor {
 };
 
 struct machine {
-    pthread_mutex_t lock; /* over the board and all of this that changes */
+    pthread_mutex_t lock;  /* over the board and all of this that changes */
+    pthread_rwlock_t runs; /* to read while a processor runs, to write while none does; taken after the other */
     struct clockboard board;
+    struct clockboard_reply reply; /* of the last call */
     struct processor processors[PROCESSORS];
     uint8_t *memory;
-    uint64_t khz, alarm; /* rate of the host's TSC; the count at which the timer goes off, or 0 */
-    uint64_t looked, due, rose; /* the count of the last look for a lost rise; the 8254's ticks and rises then */
+    uint64_t khz, alarm, looked, due, rose; /* rate of the host's TSC; see lines.c */
     int kvm, vm, timer, rise[LINES], end[LINES];
     uint32_t up, rises, ends; /* lines that are up, a bit each; how many rises and ends of interrupts there were */
     atomic_bool over;
 };
 
-/* The host's counter: its TSC, of which the guest's pages and its TSC are made. Read under the lock. */
-#define counter() __rdtsc()
-
-/* kvm.c. Each answers false where KVM doesn't do it. */
-bool make_machine(struct machine *m, bool halts);
+bool make_machine(struct machine *m, bool halts); /* kvm.c: false where KVM doesn't do it */
 bool set_tsc(struct processor *p);
 bool connect_line(struct machine *m, int k, bool on);
-/* exits.c: an access of the guest's, false for one that nobody takes; its pages, into its memory. */
-bool take_exit(struct processor *p);
+bool take_exit(struct processor *p); /* exits.c: false for an access that nobody takes */
 void put_pages(struct machine *m);
-/* lines.c: what a reply's edges do, and the thread of the one timer and of the ends of interrupts. */
-extern const uint8_t lines[LINES];
-uint32_t settle(struct machine *m, const struct clockboard_reply *reply);
+extern const uint8_t lines[LINES]; /* lines.c: what the reply's edges do; the thread of the timer and of ends of interrupts */
+uint32_t settle(struct machine *m);
 void *watch(void *machine);
-/* guest.c: the guest's code, between these addresses, and two places in it. */
-extern const uint8_t __start_guest[], __stop_guest[];
+bool pause_and_move(struct machine *m);                   /* main.c */
+extern const uint8_t __start_guest[], __stop_guest[];     /* guest.c: the guest's code, and two places in it */
 void guest_main(uint64_t processor, uint64_t halts);
 void guest_tick(void *frame);
