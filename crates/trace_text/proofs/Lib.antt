@@ -9,6 +9,7 @@ pub mod Letters
 pub mod WordAt
 pub mod States
 mod Rows
+mod RowsAfter
 pub mod Limits
 pub mod NoRecord
 pub mod Alone

@@ -138,10 +138,12 @@ abbrev pub format_of : Begin → ℕ
 format_of (Fresh s) = s.format
 format_of (Saved b) = b.format
 
+-- the processors that a trace begins with
 abbrev pub cpus_of : Begin → ℕ
 cpus_of (Fresh s) = s.cpus
 cpus_of (Saved b) = b.cpus
 
+-- its count at the anchor
 abbrev pub start_of : Begin → ℕ
 start_of (Fresh s) = s.anchor.start
 start_of (Saved b) = b.anchor.start
@@ -155,6 +157,7 @@ abbrev pub resumes : Head → Result BoardParts Reason → Result Head Reason
 resumes head (Ok b) = Ok (record head { row = STATE_ROW; begin = Saved b })
 resumes head (Err reason) = Err reason
 
+-- `state HEXES`
 abbrev pub state_row : Head → Setup → List (List ℕ) → Result Head Reason
 state_row head s = place hexes (λ bytes. last (resumes head (restored s.format bytes)))
 
@@ -186,6 +189,7 @@ route_row head =
 abbrev pub last_rows : Head → List (Row Head)
 last_rows head = row (codes "route") (route_row head) ∷ []
 
+-- `host` to `policy`
 abbrev pub first_rows : Head → Setup → List (Row Head)
 first_rows head s =
     row (codes "host") (λ ws. in_order HOST_ROW head (host_row head s ws))
@@ -194,6 +198,7 @@ first_rows head s =
     ∷ row (codes "policy") (λ ws. in_order POLICY_ROW head (policy_row head s ws))
     ∷ []
 
+-- `slew` to `route`
 abbrev pub later_rows : Head → Setup → List (Row Head)
 later_rows head s =
     row (codes "slew") (λ ws. in_order SLEW_ROW head (slew_row head s ws))
@@ -207,6 +212,7 @@ abbrev pub rows_of : Head → Begin → List (Row Head)
 rows_of head (Fresh s) = first_rows head s ++ later_rows head s
 rows_of head (Saved b) = last_rows head
 
+-- a line of the header behind the first, by its words
 unfoldable pub header_line : Head → List (List ℕ) → Result Head Reason
 header_line head = by_table (rows_of head head.begin)
 

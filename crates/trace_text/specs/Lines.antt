@@ -70,9 +70,11 @@ abbrev pub part : Result Head Reason → Result Step Reason
 part (Ok head) = Ok (record { item = Part; stage = Heading head })
 part (Err reason) = Err reason
 
+-- the trace begins: what its header set up, and what is known before its first record
 abbrev pub begun : Head → Step
 begun head = record { item = Begun (header_of head); stage = Running (body_of head) }
 
+-- a record, and what is known behind it
 abbrev pub next : Body → Result Record Reason → Result Step Reason
 next body (Ok r) = Ok (record { item = NextItem r; stage = Running (body_behind body r) })
 next body (Err reason) = Err reason
@@ -110,6 +112,7 @@ abbrev pub answer_in : ℕ → Result Step Reason → Result Item RecordFault
 answer_in line (Ok step) = Ok step.item
 answer_in line (Err reason) = Err (record { line = line; reason = reason })
 
+-- .. and the stage
 abbrev pub stage_behind : ℕ → Result Step Reason → Stage
 stage_behind line (Ok step) = step.stage
 stage_behind line (Err reason) = Refused (record { line = line; reason = reason })
@@ -131,6 +134,7 @@ abbrev pub answer_by : Option RecordFault → ReadingParts → List ℕ → Resu
 answer_by (Some fault) r line = Err fault
 answer_by None r line = answer_in (r.lines + 1) (stepped r.stage line)
 
+-- the answer to the next line
 abbrev pub taken : ReadingParts → List ℕ → Result Item RecordFault
 taken r line = answer_by (fault_of r.stage) r line
 
@@ -153,6 +157,7 @@ behind_by (Some fault) line r = r
 behind_by None line r =
     record { lines = r.lines + 1; stage = stage_behind (r.lines + 1) (stepped r.stage line) }
 
+-- the reader behind the next line
 abbrev pub behind : List ℕ → ReadingParts → ReadingParts
 behind line r = behind_by (fault_of r.stage) line r
 

@@ -104,6 +104,7 @@ apic = first (decimal_past (codes "apic"))
 abbrev pub in_row : Body → List (List ℕ) → Result Job Reason
 in_row body = place (hex_of_bits 8) (λ port. last (board body (PortIn port)))
 
+-- `out PORT BYTE`
 abbrev pub out_row : Body → List (List ℕ) → Result Job Reason
 out_row body = place (hex_of_bits 8) (λ port. place byte (λ b. last (board body (PortOut port b))))
 
@@ -113,6 +114,7 @@ hr_row body =
     place (hex_of_bits 16) (λ offset. place (dec_of_bits 8) (λ w.
     last (board body (HpetRead offset w))))
 
+-- `hw OFFSET W HEX`
 abbrev pub hw_row : Body → List (List ℕ) → Result Job Reason
 hw_row body =
     place (hex_of_bits 16) (λ offset. place (dec_of_bits 8) (λ w. place hex (λ v.
@@ -122,6 +124,7 @@ hw_row body =
 abbrev pub rdmsr_row : Body → List (List ℕ) → Result Job Reason
 rdmsr_row body = place (hex_of_bits 32) (λ m. last (to_msr body m (MsrRead m)))
 
+-- `wrmsr M HEX`
 abbrev pub wrmsr_row : Body → List (List ℕ) → Result Job Reason
 wrmsr_row body = place (hex_of_bits 32) (λ m. place hex (λ v. last (to_msr body m (MsrWrite m v))))
 
@@ -129,6 +132,7 @@ wrmsr_row body = place (hex_of_bits 32) (λ m. place hex (λ v. last (to_msr bod
 abbrev pub ack_row : Body → List (List ℕ) → Result Job Reason
 ack_row body = place (dec_of_bits 8) (λ line. last (board body (Ack line)))
 
+-- `rose LINE`
 abbrev pub rose_row : Body → List (List ℕ) → Result Job Reason
 rose_row body = place (dec_of_bits 8) (λ line. last (board body (Rose line)))
 
@@ -141,6 +145,7 @@ abbrev pub counts_of : Body → List (List ℕ) → Option TickSource → Result
 counts_of body ws (Some who) = last (board body (CountsOf who)) (rest ws)
 counts_of body ws None = place apic (λ p. last (apic_counts body p)) ws
 
+-- `counts WHO`
 abbrev pub counts_row : Body → List (List ℕ) → Result Job Reason
 counts_row body ws = counts_of body ws (source ws)
 
@@ -152,9 +157,11 @@ page_at body = place dec (λ p. last (if nat_lt p body.cpus then Ok p else Err C
 abbrev pub refresh_row : Body → List (List ℕ) → Result Job Reason
 refresh_row body = place dec (λ p. last (on_cpu body p (Board (Refresh p))))
 
+-- `page P`
 abbrev pub page_row : Body → List (List ℕ) → Result Job Reason
 page_row body = place dec (λ p. last (on_cpu body p (Page p)))
 
+-- `clock P`
 abbrev pub clock_row : Body → List (List ℕ) → Result Job Reason
 clock_row body = place dec (λ p. last (on_cpu body p (Clock p)))
 
@@ -187,6 +194,7 @@ rows body =
     ∷ row (codes "rose") (rose_row body)
     ∷ []
 
+-- what a record asks, by the words behind its processor and its count
 unfoldable pub job_of : Body → List (List ℕ) → Result Job Reason
 job_of body = by_table (rows body)
 
@@ -224,6 +232,7 @@ before_behind before r (Clock p) = slice_set before r.cpu r.h
 before_behind before r Hv = slice_set before r.cpu r.h
 before_behind before r Save = slice_set before r.cpu r.h
 
+-- what is known behind a record
 abbrev pub body_behind : Body → Record → Body
 body_behind body r = record body { before = before_behind body.before r r.job }
 

@@ -25,6 +25,7 @@ pub record Row (T : Type 0) : Type 0 where
   pub name : List ℕ
   pub means : List (List ℕ) → Result T Reason
 
+-- a row of this name
 abbrev pub row : {T : Type 0} → List ℕ → (List (List ℕ) → Result T Reason) → Row T
 row name means = record { name = name; means = means }
 

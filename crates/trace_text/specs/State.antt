@@ -41,6 +41,7 @@ abbrev pub hexes_in : List ℕ → Option (List ℕ)
 hexes_in word =
     if (length word == 0) || nat_lt STATE_LINE_MAX (length word) then None else decoded (decode_of word)
 
+-- the bytes that the first word spells
 abbrev pub hexes : List (List ℕ) → Option (List ℕ)
 hexes = first hexes_in
 
@@ -62,5 +63,6 @@ abbrev pub restored_by : ℕ → List ℕ → Option StateFault → Result Board
 restored_by format bytes (Some fault) = Err (StateBytes (place_in format bytes fault))
 restored_by format bytes None = in_format format (board_in bytes)
 
+-- the board that a trace of this format begins with, by these bytes
 unfoldable pub restored : ℕ → List ℕ → Result BoardParts Reason
 restored format bytes = restored_by format bytes (fault_of bytes)

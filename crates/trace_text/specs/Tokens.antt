@@ -99,5 +99,6 @@ khz = dec_within 100000 10000000
 abbrev pub dec_of_bits : ℕ → List (List ℕ) → Option ℕ
 dec_of_bits bits ws = such_that (λ n. nat_lt n (2 ^ bits)) (dec ws)
 
+-- a HEX of so many bits
 abbrev pub hex_of_bits : ℕ → List (List ℕ) → Option ℕ
 hex_of_bits bits ws = such_that (λ n. nat_lt n (2 ^ bits)) (hex ws)
