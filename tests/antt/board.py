@@ -19,7 +19,7 @@ APICS = "local_apics.specs.Nanosecond"
 MESSAGES = "hpet_bursts.specs.Messages"
 RATES = (("pit_readback", "PIT_HZ"), ("rtc_registers", "RTC_HZ"), ("hpet_registers", "HPET_HZ"))
 SECOND = 10**9
-SHORT = 16
+SHORT = 32
 
 
 class Runs:
