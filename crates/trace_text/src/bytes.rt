@@ -228,7 +228,7 @@ const SIXES: u64 = 0x0606_0606_0606_0606;
 
 /// The number that the next eight bytes of a line spell, if they are decimal digits. The bytes are taken as one word:
 /// each byte holds a digit, then two digits, without a carry between them.
-#[inline(always)]
+#[inline(never)]
 fn eight_digits_at(line: &[u8], at: usize) -> Option<u64>
     requires { at + 8 ≤ length line.now }
     ensures { IfSome result (λ n. (n < 100000000)
