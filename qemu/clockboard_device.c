@@ -15,8 +15,8 @@
  *   - where a controller has lost the edge: the guest unmasks a pin of the IO-APIC whose line is up, or initializes an 8259
  *     that had seen it go up. No end of an interrupt would come, and the line would stay up.
  *
- * The trace has each call, by record.h, and after each, in comments that begin with `# > `, what a replay prints for it. After
- * loadvm a new file goes on: FILE.1, FILE.2 .. */
+ * The trace has each call, by record.h, and after each, in comments that begin with `# > `, what a replay prints for it. After a
+ * reset and a loadvm a new file goes on: FILE.1, FILE.2 .. */
 #include "qemu/osdep.h"
 #include "qemu/cutils.h"
 #include "qemu/error-report.h"
@@ -59,7 +59,7 @@ struct ClockboardState {
 
     struct clockboard board;
     struct clockboard_record record;
-    bool recording;
+    bool recording, was_reset;
     unsigned traces;              /* how many files there were */
     uint8_t firmware[RTC_BYTES];  /* QEMU's bytes of the MC146818 as they were copied last */
     QEMUTimer *timer;
@@ -196,18 +196,6 @@ static void hpet_out(ClockboardState *s, uint16_t offset, uint8_t width, uint64_
 
     CALL(s, &reply, hpet_write, processor(), offset, width, value);
     settle(s, &reply, "");
-}
-
-static uint8_t rtc_in(ClockboardState *s, uint8_t at)
-{
-    port_out(s, 0x70, at);
-    return port_in(s, 0x71);
-}
-
-static void rtc_out(ClockboardState *s, uint8_t at, uint8_t byte)
-{
-    port_out(s, 0x70, at);
-    port_out(s, 0x71, byte);
 }
 
 /* The regions. */
@@ -353,6 +341,9 @@ static bool begin_trace(ClockboardState *s, Error **errp)
     }
     s->traces++;
     s->recording = clockboard_record_begin(&s->record, file, &s->board) == CLOCKBOARD_OK;
+    if (!s->recording) {
+        error_setg(errp, "clockboard: no memory for the trace's header");
+    }
     return s->recording;
 }
 
@@ -367,10 +358,9 @@ static void end_trace(ClockboardState *s)
     }
 }
 
-/* The last lines of the last trace: the counts of the ticks, and the end. */
-static void at_exit(Notifier *exit, void *data)
+/* The last lines of a trace that a guest comes to: the counts of the ticks. */
+static void write_counts(ClockboardState *s)
 {
-    ClockboardState *s = container_of(exit, ClockboardState, exit);
     struct clockboard_reply reply;
 
     for (uint8_t source = 0; s->recording && source < 2 + HPET_TIMERS; source++) {
@@ -380,36 +370,40 @@ static void at_exit(Notifier *exit, void *data)
                  reply.value[2], reply.value[3]);
         settle(s, &reply, read);
     }
+}
+
+static void at_exit(Notifier *exit, void *data)
+{
+    ClockboardState *s = container_of(exit, ClockboardState, exit);
+
+    write_counts(s);
     end_trace(s);
 }
 
-/* Reset. The library has no call for it, so it is made of accesses: the RESET pin of the MC146818 clears PIE, AIE, UIE, SQWE and
- * the flags of register C; the HPET's registers go to what they are at power on; no line of edge type stays up, as the
- * controllers are reset too. An 8254 has no reset, and counts on; port 61h is 0. Time and memory of the MC146818 stay, but for
- * bytes that QEMU has for the firmware since. */
+/* A reset of the PC is no access, so the trace of the board before it ends, and one of the board after it begins. At power on a
+ * reset changes nothing. The MC146818's memory stays, but for bytes that QEMU has put there for the firmware since. */
 static void reset(DeviceState *dev)
 {
     ClockboardState *s = CLOCKBOARD(dev);
+    struct clockboard_reply reply;
+    bool goes_on = s->recording;
 
-    rtc_out(s, 0x0b, rtc_in(s, 0x0b) & 0x87);
-    rtc_in(s, 0x0c);
-    hpet_out(s, 0x10, 8, 0);
-    for (int k = 0; k < HPET_TIMERS; k++) {
-        hpet_out(s, 0x100 + 0x20 * k, 8, 20 << 9);
-        hpet_out(s, 0x108 + 0x20 * k, 8, 0);
-    }
-    hpet_out(s, 0x20, 8, (1 << HPET_TIMERS) - 1);
-    hpet_out(s, 0xf0, 8, 0);
-    port_out(s, 0x61, 0);
-    for (int k = 0; k < ARRAY_SIZE(lines); k++) {
-        while (lines[k].line != 8 && is_up(s, lines[k].line)) {
-            acknowledge(s, lines[k].line);
+    if (s->was_reset) {
+        step(s);
+        write_counts(s);
+        end_trace(s);
+        clockboard_reset(&s->board, &reply);
+        settle(s, &reply, "");
+        if (goes_on) {
+            begin_trace(s, &error_fatal);
         }
     }
+    s->was_reset = true;
     for (int at = RTC_FIRMWARE; at < RTC_BYTES; at++) {
         uint8_t byte = rtc_get_memory(s->rtc, at);
         if (byte != s->firmware[at]) {
-            rtc_out(s, at, s->firmware[at] = byte);
+            port_out(s, 0x70, at);
+            port_out(s, 0x71, s->firmware[at] = byte);
         }
     }
 }
