@@ -2,9 +2,9 @@
  *
  * The device `clockboard` of QEMU 7.2: a board in the place of the machine's 8254, MC146818 and HPET.
  *
- *     -device clockboard[,pit-policy=P][,rtc-policy=P][,hpet-policy=P][,slew-ns=N][,trace=FILE]
+ *     -device clockboard[,pit-policy=P][,rtc-policy=P][,hpet-policy=P][,slew-ns=N][,hpet-messages=on][,trace=FILE]
  *
- * P is discard, delay (the default) or slew. The board's regions lie above those of QEMU's own devices: ports 40h to 43h, 61h,
+ * P is discard, delay (the default) or slew. With messages the HPET has eight timers, which can send them. The board's regions lie above those of QEMU's own devices: ports 40h to 43h, 61h,
  * 70h and 71h, and the HPET's page where the machine has an HPET. Its lines are GSIs 0, 8 and 20 to 23 (on q35 the last four
  * are PCI's too). Its counter is QEMU's virtual clock, so it stops with the guest, and -icount makes a run repeatable. The
  * timer of the local APICs and the TSC stay QEMU's.
@@ -55,10 +55,12 @@ struct ClockboardState {
 
     LostTickPolicy pit_policy, rtc_policy, hpet_policy;
     uint64_t slew_ns;
+    bool hpet_messages;
     char *trace;
 
     struct clockboard board;
     struct clockboard_record record;
+    unsigned cpus;
     bool recording, was_reset;
     unsigned traces;              /* how many files there were */
     uint8_t firmware[RTC_BYTES];  /* QEMU's bytes of the MC146818 as they were copied last */
@@ -106,23 +108,35 @@ static void write_printed(ClockboardState *s, const struct clockboard_reply *rep
         const struct clockboard_edge *edge = &reply->edges[k];
         fprintf(file, "# > edge %" PRIu64 " %" PRIu32 " %s\n", edge->at_ns, edge->line, edge->up ? "up" : "down");
     }
+    for (uint32_t k = 0; k < reply->burst_count; k++) {
+        const struct clockboard_burst *burst = &reply->bursts[k];
+        unsigned cpu = burst->address >> 12 & 0xff, vector = burst->data & 0xff;
+        fprintf(file, "# > msg %" PRIu64 " %" PRIu32 " %u %02x %" PRIu64 " %" PRIu64 "\n", burst->first_ns, burst->timer,
+                cpu < s->cpus ? cpu : 0, vector < 16 ? 0x30 : vector, burst->count, burst->every_ns);
+    }
     fprintf(file, "# > %" PRIu64 " %" PRIu64 "%s\n", line, reply->number, read);
-    s->record.lines += reply->edge_count + 1;
+    s->record.lines += reply->edge_count + reply->burst_count + 1;
 }
 
 static void set_timer(ClockboardState *s)
 {
-    uint64_t at_ns, count;
+    uint64_t edge = UINT64_MAX, message = UINT64_MAX, count;
 
-    if (clockboard_next_edge(&s->board, &at_ns) == CLOCKBOARD_OK
-        && clockboard_counter_of(&s->board, at_ns, &count) == CLOCKBOARD_OK && count <= INT64_MAX) {
+    if (clockboard_next_edge(&s->board, &edge) != CLOCKBOARD_OK) {
+        edge = UINT64_MAX;
+    }
+    if (clockboard_next_message(&s->board, &message) != CLOCKBOARD_OK) {
+        message = UINT64_MAX;
+    }
+    if (clockboard_counter_of(&s->board, MIN(edge, message), &count) == CLOCKBOARD_OK && count <= INT64_MAX) {
         timer_mod_ns(s->timer, count);
     } else {
         timer_del(s->timer);
     }
 }
 
-/* What follows from a call: its edges reach the interrupt controllers, and the timer is set to the next one. */
+/* What follows from a call: its edges and messages reach the interrupt controllers, and the timer is set to the next one. Several
+ * messages of one burst are one interrupt to a local APIC, so one is sent. */
 static void settle(ClockboardState *s, const struct clockboard_reply *reply, const char *read)
 {
     if (reply->answer != CLOCKBOARD_OK) {
@@ -134,6 +148,10 @@ static void settle(ClockboardState *s, const struct clockboard_reply *reply, con
     }
     for (uint32_t k = 0; k < reply->edge_count; k++) {
         qemu_set_irq(s->gsi[reply->edges[k].line], reply->edges[k].up);
+    }
+    for (uint32_t k = 0; k < reply->burst_count; k++) {
+        address_space_stl_le(&address_space_memory, reply->bursts[k].address, reply->bursts[k].data, MEMTXATTRS_UNSPECIFIED,
+                             NULL);
     }
     set_timer(s);
 }
@@ -411,15 +429,15 @@ static void reset(DeviceState *dev)
 /* The board at power on: the time of -rtc, by a counter of nanoseconds. */
 static bool power_on(ClockboardState *s, Error **errp)
 {
-    unsigned cpus = MACHINE(qdev_get_machine())->smp.max_cpus;
     struct clockboard_setup setup = CLOCKBOARD_SETUP_INIT;
     struct clockboard_reply reply;
     struct tm tm;
 
+    s->cpus = MACHINE(qdev_get_machine())->smp.max_cpus;
     qemu_get_timedate(&tm, 0);
     setup.host_start = setup.base_ns = counter();
-    setup.format = cpus > 16 ? 2 : 1;
-    setup.cpus = MIN(cpus, 255);
+    setup.format = s->hpet_messages ? 5 : s->cpus > 16 ? 2 : 1;
+    setup.cpus = MIN(s->cpus, 255);
     setup.slew_ns = s->slew_ns;
     setup.pit_policy = s->pit_policy;
     setup.rtc_policy = s->rtc_policy;
@@ -536,6 +554,7 @@ static Property properties[] = {
     DEFINE_PROP_LOSTTICKPOLICY("rtc-policy", ClockboardState, rtc_policy, LOST_TICK_POLICY_DELAY),
     DEFINE_PROP_LOSTTICKPOLICY("hpet-policy", ClockboardState, hpet_policy, LOST_TICK_POLICY_DELAY),
     DEFINE_PROP_UINT64("slew-ns", ClockboardState, slew_ns, 1000000),
+    DEFINE_PROP_BOOL("hpet-messages", ClockboardState, hpet_messages, false),
     DEFINE_PROP_STRING("trace", ClockboardState, trace),
     DEFINE_PROP_END_OF_LIST(),
 };
