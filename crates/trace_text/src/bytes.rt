@@ -310,7 +310,7 @@ fn long_decimal_at(line: &[u8], at: usize, n: u64) -> Option<Spelling>
 }
 
 /// The number at a place of a line, if it is decimal, begins with another digit than zero, and has at most 16
-/// digits. One that is long is likely to have eight or more.
+/// digits. One that is long is likely to have eight or more: its eighth byte is looked at first.
 #[inline(always)]
 pub(crate) fn decimal_at(line: &[u8], at: usize, is_long: bool) -> Option<Spelling>
     ensures { IfSome result (λ s. (at < s.end) × (s.end ≤ length line.now)
@@ -323,7 +323,7 @@ pub(crate) fn decimal_at(line: &[u8], at: usize, is_long: bool) -> Option<Spelli
     if at >= line.len() {
         return None;
     }
-    if is_long && line.len() - at >= 8 {
+    if is_long && line.len() - at >= 8 && decimal_digit_of(line[at + 7]) < 10 {
         if let Some(n) = eight_digits_at(line, at) {
             return long_decimal_at(line, at, n);
         }
