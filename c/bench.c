@@ -4,6 +4,7 @@
  * each kind of access; with the word of a row it makes those accesses alone, 200,000 of them, for a program that counts
  * instructions. */
 #define _POSIX_C_SOURCE 199309L
+#include "by_timers.h"
 #include "clockboard.h"
 #include "shared.h"
 #include <inttypes.h>
@@ -88,6 +89,34 @@ static void try_clock(struct clockboard *board, uint64_t host, struct clockboard
     reply->edge_count = clockboard_try_clock(&shared, 0, host, &reply->value[0]);
 }
 
+/* The same by devices with timers that call back. */
+static struct by_timers devices;
+
+static void read_port_by_timers(struct clockboard *board, uint64_t host, struct clockboard_reply *reply) {
+    (void)board;
+    reply->value[0] = by_timers_read_pit(&devices, host);
+    reply->edge_count = devices.edge_count;
+}
+
+static void read_hpet_by_timers(struct clockboard *board, uint64_t host, struct clockboard_reply *reply) {
+    (void)board;
+    reply->value[0] = by_timers_read_hpet(&devices, host);
+    reply->edge_count = devices.edge_count;
+}
+
+static void step_by_timers(struct clockboard *board, uint64_t host, struct clockboard_reply *reply) {
+    (void)board;
+    by_timers_step(&devices, host);
+    reply->value[0] = 0;
+    reply->edge_count = devices.edge_count;
+}
+
+static void ask_next_edge_by_timers(struct clockboard *board, uint64_t host, struct clockboard_reply *reply) {
+    (void)board;
+    reply->value[0] = by_timers_next_edge(&devices) + host;
+    reply->edge_count = 0;
+}
+
 /* A kind of call, each a number of nanoseconds after the last. `try` opens the board, so it comes last. */
 static const struct {
     const char *word;
@@ -109,6 +138,10 @@ static const struct {
     {"look", "board at a glance", look, 0},
     {"page", "page", take_page, 0},
     {"numbers", "numbers of a TSC", take_tsc, 0},
+    {"read-t", "port 40h, by timers", read_port_by_timers, 0},
+    {"hpet-t", "HPET main counter, by timers", read_hpet_by_timers, 0},
+    {"step-t", "step of 700 ns, by timers", step_by_timers, 700},
+    {"edge-t", "next edge, by timers", ask_next_edge_by_timers, 0},
     {"try", "clock by shared.h", try_clock, 0},
 };
 
@@ -149,6 +182,7 @@ int main(int count, char **words) {
     int table = strcmp(word, "time") == 0;
     uint64_t told = 0, host = 5000;
     run_all(&board);
+    by_timers_power_on(&devices);
     if (table)
         printf("a call                           nanoseconds    calls a second\n");
     for (size_t k = 0; k < sizeof rows / sizeof rows[0]; k++) {
