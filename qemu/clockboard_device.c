@@ -156,10 +156,11 @@ static void settle(ClockboardState *s, const struct clockboard_reply *reply, con
     set_timer(s);
 }
 
-/* A call at this count, written to the trace where there is one. */
-#define CALL(s, reply, name, cpu, ...) \
-    ((s)->recording ? clockboard_record_##name(&(s)->record, &(s)->board, cpu, counter(), ##__VA_ARGS__, reply) \
-                    : clockboard_##name(&(s)->board, cpu, counter(), ##__VA_ARGS__, reply))
+/* A call, written to the trace where there is one. */
+#define CALL_AT(s, reply, name, cpu, count, ...) \
+    ((s)->recording ? clockboard_record_##name(&(s)->record, &(s)->board, cpu, count, ##__VA_ARGS__, reply) \
+                    : clockboard_##name(&(s)->board, cpu, count, ##__VA_ARGS__, reply))
+#define CALL(s, reply, name, cpu, ...) CALL_AT(s, reply, name, cpu, counter(), ##__VA_ARGS__)
 
 static void step(void *opaque)
 {
@@ -376,14 +377,19 @@ static void end_trace(ClockboardState *s)
     }
 }
 
-/* The last lines of a trace that a guest comes to: the counts of the ticks. */
+/* The last lines of a trace that a guest comes to: the counts of the ticks, at the time of the last access. The virtual clock may
+ * be ahead, as a processor runs on for a little while after the guest's power off, from run to run for another time. */
 static void write_counts(ClockboardState *s)
 {
+    struct clockboard_view view;
     struct clockboard_reply reply;
 
     for (uint8_t source = 0; s->recording && source < 2 + HPET_TIMERS; source++) {
         char read[96];
-        CALL(s, &reply, counts, 0, source);
+        if (clockboard_look(&s->board, &view) != CLOCKBOARD_OK) {
+            return;
+        }
+        CALL_AT(s, &reply, counts, 0, view.now_ns, source);
         snprintf(read, sizeof(read), " %" PRIu64 " %" PRIu64 " %" PRIu64 " %" PRIu64, reply.value[0], reply.value[1],
                  reply.value[2], reply.value[3]);
         settle(s, &reply, read);
