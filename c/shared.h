@@ -4,11 +4,11 @@
  * page without the lock. Header-only, C11 and C++17, with the __atomic builtins of GCC and Clang.
  *
  * The words of the pages, and the greatest reading of a clock, lie in memory of the caller's. Each step on such a word is one
- * atomic one, sequentially consistent, and the steps come in the order of the crate clock_table: to put a page, the odd version,
- * four fields, the even version; to read it, the version, four fields, the version again; to read a clock, a maximum after
- * that. There it is proved that such steps make one history of all accesses and reads, in which no clock goes back. These steps are
- * C, which nothing proves: tests/c-library tries them. What the words mean is worked out by proved calls of the library, and no call
- * of the library touches a word that another thread writes.
+ * atomic one, sequentially consistent, and the steps come in the order of the crate clock_table: to put a page, the odd
+ * version, four fields, the even version; to read it, the version, four fields, the version again; to read a clock, a maximum
+ * after that. There it is proved that such steps make one history of all accesses and reads, in which no clock goes back. These
+ * steps are C, which nothing proves: tests/c-library tries them. What the words mean is worked out by proved calls of the
+ * library, and no call of the library touches a word that another thread writes.
  *
  *     who                                              calls
  *     one thread, and no other in a call               clockboard_shared_open, clockboard_shared_close
@@ -16,17 +16,15 @@
  *     any thread, with the lock or without             clockboard_try_page, clockboard_try_clock
  *
  * From open to close clockboard_clock, _save, _move, _reset and _upgrade, and direct writes that publish a page (MSRs 10h, 3Bh
- * and 4B564D01h, clockboard_refresh), answer CLOCKBOARD_SHARED and do nothing. No board is made in the same memory meanwhile. A copy of
- * an open board is open too. Hyper-V's page isn't among the words: clockboard_hv_time reads it under the lock.
+ * and 4B564D01h, clockboard_refresh), answer CLOCKBOARD_SHARED and do nothing. No board is made in the same memory meanwhile. A
+ * copy of an open board is open too. Hyper-V's page isn't among the words: clockboard_hv_time reads it under the lock.
  *
- *     for (;;) {
- *         code = clockboard_try_clock(&shared, cpu, counter(), &ns);
- *         if (code == CLOCKBOARD_AGAIN) {                    // an update was met
- *             pthread_mutex_lock(&lock);
- *             code = clockboard_shared_clock(&shared, &board, cpu, counter(), &ns);
- *             pthread_mutex_unlock(&lock);
- *         }
- */
+ *     code = clockboard_try_clock(&shared, cpu, counter(), &ns);
+ *     if (code == CLOCKBOARD_AGAIN) {
+ *         pthread_mutex_lock(&lock);
+ *         code = clockboard_shared_clock(&shared, &board, cpu, counter(), &ns);
+ *         pthread_mutex_unlock(&lock);
+ *     } */
 #ifndef CLOCKBOARD_SHARED_H
 #define CLOCKBOARD_SHARED_H
 

@@ -1,20 +1,12 @@
 /* SPDX-License-Identifier: Apache-2.0 OR MIT
- * The guest, in 64-bit mode: processor 0 sets a tick of 10 ms by the 8254, whose first ones meet a masked pin, and asks for a pause at
- * the second; both read the clock by their pages until the fifth, look that it never falls, and leave what they read last. Its code
- * is copied into the guest's memory, so it calls nothing outside and has no data; built with -mgeneral-regs-only -mno-red-zone -fno-stack-protector -fcf-protection=none. */
+ * The guest, in 64-bit mode: processor 0 sets a tick of 10 ms by the 8254, whose first ones meet a masked pin, and asks for a
+ * pause at the second; both read the clock by their pages until the fifth, look that it never falls, and leave what they read
+ * last. Its code is copied into the guest's memory, so it calls nothing outside and has no data; built with -mgeneral-regs-only
+ * -mno-red-zone -fno-stack-protector -fcf-protection=none. */
 #include "machine.h"
 
 #define GUEST __attribute__((section("guest")))
 #define ticks ((volatile uint32_t *)WORDS)
-
-/* struct pvclock_vcpu_time_info of Linux. */
-struct guest_page {
-    volatile uint32_t version, pad0;
-    volatile uint64_t tsc_timestamp, system_time;
-    volatile uint32_t mul;
-    volatile int8_t shift;
-    volatile uint8_t flags, pad[2];
-};
 
 GUEST static inline __attribute__((always_inline)) void out(uint16_t port, uint8_t byte) {
     __asm__ volatile("outb %0, %1" : : "a"(byte), "Nd"(port));
@@ -27,18 +19,18 @@ GUEST __attribute__((interrupt)) void guest_tick(void *frame) {
     *(volatile uint32_t *)(APIC + 0xb0) = 0; /* the end of the interrupt */
 }
 
-/* The clock by a page, as Linux reads it. */
-GUEST static uint64_t clock_by(const struct guest_page *page) {
+/* The clock by a page, as Linux reads it. Words of the page: 0 the version, 2 the TSC, 4 the time, 6 the factor, 7 the shift. */
+GUEST static uint64_t clock_by(const volatile uint32_t *page) {
     uint64_t delta, time;
     uint32_t version;
     do {
-        version = page->version & ~1u;
+        version = page[0] & ~1u;
         __asm__ volatile("lfence" ::: "memory");
-        delta = __rdtsc() - page->tsc_timestamp;
-        delta = page->shift >= 0 ? delta << page->shift : delta >> -page->shift;
-        time = page->system_time + (uint64_t)(((unsigned __int128)delta * page->mul) >> 32);
-        __asm__ volatile("" ::: "memory");
-    } while (page->version != version);
+        int8_t shift = (int8_t)page[7];
+        delta = __rdtsc() - *(const volatile uint64_t *)&page[2];
+        delta = shift >= 0 ? delta << shift : delta >> -shift;
+        time = *(const volatile uint64_t *)&page[4] + (uint64_t)(((unsigned __int128)delta * page[6]) >> 32);
+    } while (page[0] != version);
     return time;
 }
 
@@ -63,7 +55,7 @@ GUEST static void set_up(void) {
 }
 
 GUEST void guest_main(uint64_t processor, uint64_t halts) {
-    const struct guest_page *page = (const struct guest_page *)(PAGES + 64 * processor);
+    const volatile uint32_t *page = (const volatile uint32_t *)(PAGES + 64 * processor);
     uint64_t clock = 0, count = 0;
     uint8_t fell = 0, paused = processor != 0;
     __asm__ volatile("wrmsr" : : "c"(CLOCKBOARD_MSR_SYSTEM_TIME), "a"((uint32_t)(uint64_t)page | 1), "d"(0) : "memory");

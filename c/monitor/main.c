@@ -16,9 +16,9 @@ static void need(bool done, const char *what, int status) {
     }
 }
 
-/* A pause of 20 ms, as a move to this very host, and under the lock: all processors leave KVM, the board is saved, loaded, and moved to
- * the count at the end, and each processor's TSC is set anew. The guest sees the gap: so its TSC goes on with the host's, which
- * KVM does everywhere. With a gap of 0 it sees none, where KVM takes an offset. */
+/* A pause of 20 ms, as a move to this very host, and under the lock: all processors leave KVM, the board is saved, loaded, and
+ * moved to the count at the end, and each processor's TSC is set anew. The guest sees the gap: so its TSC goes on with the
+ * host's, which KVM does everywhere. With a gap of 0 it sees none, where KVM takes an offset. */
 bool pause_and_move(struct machine *m) {
     static uint8_t bytes[CLOCKBOARD_STATE_MAX];
     uint64_t host, start, gap = 20000000;

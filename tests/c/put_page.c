@@ -5,8 +5,8 @@
  *
  *     put_page READS [tight]   tight: the writer makes pages without the library, so that a read meets an update often
  *
- * It reads on until 10,000 new pages were met (under ThreadSanitizer 1,000), but no longer than two minutes in all. Ends with 1 where a read was torn, and
- * with 3 where too few new pages were met for the run to mean anything.
+ * It reads on until 10,000 new pages were met (under ThreadSanitizer 1,000), but no longer than two minutes in all. Ends with 1
+ * where a read was torn, and with 3 where too few new pages were met for the run to mean anything.
  * Before that it looks at what is refused, and ends with 4 where that isn't so.
  * WRONG names a wrong writer, which must end with 1: 1 puts no odd version, 2 the even version before the fields, and 3 has
  * plain stores, which ThreadSanitizer must report. */

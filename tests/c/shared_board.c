@@ -5,10 +5,10 @@
  *     shared_board ROUNDS THREADS
  *
  * Looks that each page that was read is one that was published, and no older than what was seen or had ended; that no clock is
- * below one that was given before its read began; that the accesses, in the order in which they had the lock, get from a plain board
- * the replies that they got here; and that both boards are the same at the end, byte for byte as saved states. Before that it looks at
- * what an open board refuses. Ends with 1 where a look fails, and with 3 where fewer than 10,000 versions were met (under
- * ThreadSanitizer 1,000). */
+ * below one that was given before its read began; that the accesses, in the order in which they had the lock, get from a plain
+ * board the replies that they got here; and that both boards are the same at the end, byte for byte as saved states. Before
+ * that it looks at what an open board refuses. Ends with 1 where a look fails, and with 3 where fewer than 10,000 versions were
+ * met (under ThreadSanitizer 1,000). */
 #include "shared.h"
 #include <inttypes.h>
 #include <pthread.h>
@@ -60,7 +60,8 @@ static void make(struct clockboard *b, struct clockboard_shared *words, bool ope
         if (words != NULL)
             clockboard_shared_msr_write(words, b, a->cpu, a->host, CLOCKBOARD_MSR_TSC, a->host * 3, &reply);
         else
-            (open ? clockboard_share_msr_write : clockboard_msr_write)(b, a->cpu, a->host, CLOCKBOARD_MSR_TSC, a->host * 3, &reply);
+            (open ? clockboard_share_msr_write : clockboard_msr_write)(b, a->cpu, a->host, CLOCKBOARD_MSR_TSC, a->host * 3,
+                                                                       &reply);
         break;
     default:
         if (words != NULL)
@@ -204,7 +205,8 @@ static void compare(struct clockboard *plain) {
         make(plain, NULL, false, &a);
         look(memcmp(&a, &done[k], sizeof a) == 0, "a reply that a plain board doesn't give");
     }
-    look(clockboard_share(plain, &rates) == CLOCKBOARD_OK && clockboard_unshare(plain, given) == CLOCKBOARD_OK, "the greatest clock");
+    look(clockboard_share(plain, &rates) == CLOCKBOARD_OK && clockboard_unshare(plain, given) == CLOCKBOARD_OK,
+         "the greatest clock");
     look(clockboard_save(&board, left, sizeof left, &l) == CLOCKBOARD_OK
              && clockboard_save(plain, right, sizeof right, &r) == CLOCKBOARD_OK && l == r && memcmp(left, right, l) == 0,
          "the boards differ at the end");
