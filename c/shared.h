@@ -68,7 +68,8 @@ struct clockboard_cell {
     uint64_t word[16];
 } __attribute__((aligned(128)));
 
-/* What the threads share of a board. These functions alone touch it. */
+/* What the threads share of a board: 8,448 bytes, aligned to 128 (malloc aligns to 16; aligned_alloc takes 128). These functions
+ * alone touch it. */
 struct clockboard_shared {
     struct clockboard_rates rates __attribute__((aligned(128)));
     struct clockboard_cell greatest; /* word 0: the greatest reading of a clock, in nanoseconds */
@@ -94,7 +95,7 @@ static inline void clockboard_shared_publish(struct clockboard_shared *shared, c
     }
 }
 
-/* Opens a board for sharing, in any memory for `shared`. CLOCKBOARD_SHARED: it is open. */
+/* Opens a board for sharing; `shared` may hold anything before. CLOCKBOARD_SHARED: the board is open. */
 static inline uint32_t clockboard_shared_open(struct clockboard_shared *shared, struct clockboard *board) {
     struct clockboard_words words;
     uint32_t code = clockboard_share(board, &shared->rates);

@@ -30,6 +30,8 @@ struct access {
     uint8_t kind, cpu, page, pad[5];
 };
 
+_Static_assert(sizeof(struct clockboard_shared) == 8448 && _Alignof(struct clockboard_shared) == 128, "as shared.h says");
+
 static struct clockboard board;
 static struct clockboard_shared shared;
 static pthread_mutex_t lock = PTHREAD_MUTEX_INITIALIZER;
