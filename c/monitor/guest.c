@@ -1,8 +1,8 @@
 /* SPDX-License-Identifier: Apache-2.0 OR MIT
  * The guest, in 64-bit mode: processor 0 sets a tick of 10 ms by the 8254, whose first ones meet a masked pin, and asks for a
- * pause at the second; both read the clock by their pages until the fifth, look that it never falls, and leave what they read
- * last. Its code is copied into the guest's memory, so it calls nothing outside and has no data; built with -mgeneral-regs-only
- * -mno-red-zone -fno-stack-protector -fcf-protection=none. */
+ * pause at the second; timer 1 of the HPET sends it a message, a tick more. Both read the clock by their pages until the fifth, look
+ * that it never falls, and leave what they read last. Its code is copied into the guest's memory, so it calls nothing outside and
+ * has no data; built with -mgeneral-regs-only -mno-red-zone -fno-stack-protector -fcf-protection=none. */
 #include "machine.h"
 
 #define GUEST __attribute__((section("guest")))
@@ -40,12 +40,15 @@ GUEST static void set_pin(uint32_t mask) {
     *(volatile uint32_t *)(IO_APIC + 0x10) = mask | TICK_VECTOR;
 }
 
-/* The local APIC takes interrupts; the HPET counts; counter 0 of the 8254 in mode 2 with count 11,932. The pin is unmasked only
- * when its first tick has passed. */
+/* The local APIC takes interrupts; the HPET counts, and its timer 1 sends a message at 20 ms; counter 0 of the 8254 in mode 2 with
+ * count 11,932. The pin is unmasked only when its first tick has passed. */
 GUEST static void set_up(void) {
     out(0x21, 0xff), out(0xa1, 0xff);
     set_pin(1 << 16);
     *(volatile uint32_t *)(APIC + 0xf0) = 0x1ff;
+    *(volatile uint64_t *)(HPET + 0x130) = APIC << 32 | TICK_VECTOR;
+    *(volatile uint64_t *)(HPET + 0x128) = 20000000 / 10;
+    *(volatile uint64_t *)(HPET + 0x120) = 1 << 14 | 1 << 2;
     *(volatile uint32_t *)(HPET + 0x10) = 1;
     out(0x43, 0x34), out(0x40, 11932 & 0xff), out(0x40, 11932 >> 8);
     while (*(volatile uint64_t *)(HPET + 0xf0) < 15000000 / 10) {

@@ -14,12 +14,20 @@ static void raise_line(struct machine *m, uint32_t line) {
     }
 }
 
-/* The timer goes off at the next edge. Nobody is woken: the thread of `watch` waits for the timer anyway. */
+/* When a line changes next, or the HPET sends a message. */
+static bool next_event(struct machine *m, uint64_t *at) {
+    uint64_t message = 0;
+    bool changes = clockboard_next_edge(&m->board, at) == CLOCKBOARD_OK;
+    bool sends = clockboard_next_message(&m->board, &message) == CLOCKBOARD_OK;
+    *at = sends && (!changes || message < *at) ? message : *at;
+    return changes || sends;
+}
+
+/* The timer goes off then. Nobody is woken: the thread of `watch` waits for the timer anyway. */
 static void set_timer(struct machine *m) {
     struct itimerspec when = {0};
     uint64_t at = 0, alarm = 0, now = counter();
-    if (clockboard_next_edge(&m->board, &at) == CLOCKBOARD_OK
-        && clockboard_counter_of(&m->board, at, &alarm) == CLOCKBOARD_OK) {
+    if (next_event(m, &at) && clockboard_counter_of(&m->board, at, &alarm) == CLOCKBOARD_OK) {
         unsigned __int128 ns = alarm > now ? (unsigned __int128)(alarm - now) * 1000000 / m->khz + 1 : 1;
         when.it_value = (struct timespec){(time_t)(ns / 1000000000), (long)(ns % 1000000000)};
     }
@@ -40,6 +48,10 @@ uint32_t settle(struct machine *m) {
             rose |= line;
             raise_line(m, reply->edges[k].line);
         }
+    }
+    for (uint32_t k = 0; k < reply->burst_count; k++) { /* one of a burst: sent at once they are one interrupt to the guest */
+        struct kvm_msi message = {.address_lo = reply->bursts[k].address, .data = reply->bursts[k].data};
+        m->messages += ioctl(m->vm, KVM_SIGNAL_MSI, &message) > 0;
     }
     set_timer(m);
     return rose;

@@ -35,6 +35,7 @@ struct machine {
     uint64_t khz, alarm, looked, due, rose; /* rate of the host's TSC; see lines.c */
     int kvm, vm, timer, rise[LINES], end[LINES];
     uint32_t up, rises, ends; /* lines that are up, a bit each; how many rises and ends of interrupts there were */
+    uint32_t messages; /* of the HPET, that reached a processor */
     atomic_bool over;
 };
 

@@ -73,6 +73,7 @@ static int run_guest(bool halts) {
     setup.host_khz = setup.guest_khz = m->khz;
     setup.host_start = counter();
     setup.cpus = PROCESSORS;
+    setup.format = 5;
     clockboard_power_on(&m->board, &setup, &m->reply);
     need(m->reply.answer == CLOCKBOARD_OK && pthread_create(&watcher, NULL, watch, m) == 0, "power on", 1);
     pthread_mutex_lock(&m->lock); /* no exit is taken until all threads are there */
@@ -87,9 +88,9 @@ static int run_guest(bool halts) {
     }
     m->over = true;
     pthread_join(watcher, NULL);
-    printf("%s: %u ticks, %u rises, %u ends of interrupts%s\n", halts ? "halting" : "spinning",
-           *(uint32_t *)(m->memory + WORDS), m->rises, m->ends, wrong ? ", a clock fell or was ahead" : "");
-    return wrong;
+    printf("%s: %u ticks, %u rises, %u ends of interrupts, %u messages%s\n", halts ? "halting" : "spinning",
+           *(uint32_t *)(m->memory + WORDS), m->rises, m->ends, m->messages, wrong ? ", a clock fell or was ahead" : "");
+    return wrong | (m->messages == 0);
 }
 
 static void leave(int signal) {
