@@ -4,16 +4,13 @@
  *
  *     -device clockboard[,pit-policy=P][,rtc-policy=P][,hpet-policy=P][,slew-ns=N][,hpet-messages=on][,trace=FILE]
  *
- * P is discard, delay (the default) or slew. With messages the HPET has eight timers, which can send them. The board's regions lie above those of QEMU's own devices: ports 40h to 43h, 61h,
- * 70h and 71h, and the HPET's page where the machine has an HPET. Its lines are GSIs 0, 8 and 20 to 23 (on q35 the last four
- * are PCI's too). Its counter is QEMU's virtual clock, so it stops with the guest, and -icount makes a run repeatable. The
- * timer of the local APICs and the TSC stay QEMU's.
+ * P is discard, delay (the default) or slew. With messages the HPET has eight timers, which can send them. The board's regions lie
+ * above those of QEMU's own devices: ports 40h to 43h, 61h, 70h and 71h, and the HPET's page where the machine has an HPET. Its
+ * lines are GSIs 0, 8 and 20 to 23 (on q35 the last four are PCI's too). Its counter is QEMU's virtual clock, so it stops with
+ * the guest, and -icount makes a run repeatable. The timers of the local APICs and the TSC stay QEMU's.
  *
- * The interrupt controllers are QEMU's, in user space: TCG, or KVM with kernel-irqchip=off. qemu/edit puts a watch into four of
- * their functions, by which the device acknowledges a line:
- *   - at the end of its interrupt: an 8259 or a local APIC ends it;
- *   - where a controller has lost the edge: the guest unmasks a pin of the IO-APIC whose line is up, or initializes an 8259
- *     that had seen it go up. No end of an interrupt would come, and the line would stay up.
+ * The interrupt controllers are QEMU's, in user space: TCG, or KVM with kernel-irqchip=off. clockboard_watch.c acknowledges lines
+ * by what it sees of them.
  *
  * The trace has each call, by record.h, and after each, in comments that begin with `# > `, what a replay prints for it. After a
  * reset and a loadvm a new file goes on: FILE.1, FILE.2 .. */
@@ -26,13 +23,9 @@
 #include "exec/address-spaces.h"
 #include "hw/boards.h"
 #include "hw/core/cpu.h"
-#include "hw/i386/apic_internal.h"
 #include "hw/i386/clockboard_hooks.h"
-#include "hw/i386/ioapic.h"
-#include "hw/i386/ioapic_internal.h"
 #include "hw/i386/x86.h"
 #include "hw/irq.h"
-#include "hw/isa/i8259_internal.h"
 #include "hw/isa/isa.h"
 #include "hw/qdev-properties-system.h"
 #include "hw/qdev-properties.h"
@@ -66,7 +59,6 @@ struct ClockboardState {
     uint8_t firmware[RTC_BYTES];  /* QEMU's bytes of the MC146818 as they were copied last */
     QEMUTimer *timer;
     ISADevice *rtc;
-    IOAPICCommonState *ioapic;    /* NULL where the machine has none */
     qemu_irq *gsi;
     MemoryRegion pit_ports, speaker_port, rtc_ports, hpet_page;
     Notifier exit;
@@ -78,10 +70,6 @@ struct ClockboardState {
 /* The one board of the machine. */
 static ClockboardState *the_board;
 
-static const struct {
-    uint8_t line, pin;            /* of the IO-APIC */
-} lines[] = {{0, 2}, {8, 8}, {20, 20}, {21, 21}, {22, 22}, {23, 23}};
-
 static uint64_t counter(void)
 {
     return qemu_clock_get_ns(QEMU_CLOCK_VIRTUAL);
@@ -90,12 +78,6 @@ static uint64_t counter(void)
 static uint8_t processor(void)
 {
     return current_cpu ? current_cpu->cpu_index : 0;
-}
-
-static bool is_up(ClockboardState *s, uint8_t line)
-{
-    struct clockboard_view view;
-    return clockboard_look(&s->board, &view) == CLOCKBOARD_OK && (view.lines >> line & 1);
 }
 
 /* What a replay prints for the call that was written last: its edges, its number and what was read. */
@@ -168,14 +150,6 @@ static void step(void *opaque)
     struct clockboard_reply reply;
 
     CALL(s, &reply, step, 0);
-    settle(s, &reply, "");
-}
-
-static void acknowledge(ClockboardState *s, uint8_t line)
-{
-    struct clockboard_reply reply;
-
-    CALL(s, &reply, acknowledge, processor(), line);
     settle(s, &reply, "");
 }
 
@@ -278,73 +252,25 @@ static const MemoryRegionOps hpet_ops = {
     .endianness = DEVICE_LITTLE_ENDIAN,
 };
 
-/* The interrupt controllers. */
+/* For the watch of the interrupt controllers. */
 
-/* An interrupt ends where its bit in service goes, or at once, where the controller ends interrupts by itself. An edge is lost
- * where the controller forgets that its input is up. */
-struct clockboard_watch clockboard_watch_pic(void *pic)
+bool clockboard_is_there(void)
 {
-    PICCommonState *c = pic;
-    return (struct clockboard_watch){the_board ? pic : NULL, {c->isr, c->last_irr, c->irr}};
+    return the_board;
 }
 
-void clockboard_watched_pic(struct clockboard_watch *watch)
+bool clockboard_is_up(uint8_t line)
 {
-    PICCommonState *c = watch->controller;
-    uint32_t *before = watch->before;
-
-    if (c && 1 & ((before[0] & ~c->isr) | (before[1] & ~c->last_irr) | (c->auto_eoi ? before[2] & ~c->irr : 0))) {
-        acknowledge(the_board, c->master ? 0 : 8);
-    }
+    struct clockboard_view view;
+    return clockboard_look(&the_board->board, &view) == CLOCKBOARD_OK && (view.lines >> line & 1);
 }
 
-static uint32_t masked_pins(IOAPICCommonState *c)
+void clockboard_line_ended(uint8_t line)
 {
-    uint32_t pins = 0;
-    for (int k = 0; k < IOAPIC_NUM_PINS; k++) {
-        pins |= (c->ioredtbl[k] & IOAPIC_LVT_MASKED) ? 1u << k : 0;
-    }
-    return pins;
-}
+    struct clockboard_reply reply;
 
-/* A pin that is unmasked while its line is up: the edge met the masked pin, and is lost. */
-struct clockboard_watch clockboard_watch_ioapic(void *ioapic)
-{
-    bool ours = the_board && the_board->ioapic == ioapic;
-    return (struct clockboard_watch){ours ? ioapic : NULL, {ours ? masked_pins(ioapic) : 0}};
-}
-
-void clockboard_watched_ioapic(struct clockboard_watch *watch)
-{
-    uint32_t opened = watch->controller ? watch->before[0] & ~masked_pins(watch->controller) : 0;
-
-    for (int k = 0; k < ARRAY_SIZE(lines); k++) {
-        if ((opened >> lines[k].pin & 1) && is_up(the_board, lines[k].line)) {
-            acknowledge(the_board, lines[k].line);
-        }
-    }
-}
-
-/* A local APIC names the vector that ended: the line is that of the pin with this vector. */
-struct clockboard_watch clockboard_watch_apic(void *apic)
-{
-    APICCommonState *c = apic;
-    struct clockboard_watch watch = {the_board && the_board->ioapic ? apic : NULL};
-
-    memcpy(watch.before, c->isr, sizeof(watch.before));
-    return watch;
-}
-
-void clockboard_watched_apic(struct clockboard_watch *watch)
-{
-    APICCommonState *c = watch->controller;
-
-    for (int k = 0; c && k < ARRAY_SIZE(lines); k++) {
-        uint8_t vector = the_board->ioapic->ioredtbl[lines[k].pin] & IOAPIC_VECTOR_MASK;
-        if ((watch->before[vector / 32] & ~c->isr[vector / 32]) >> vector % 32 & 1) {
-            acknowledge(the_board, lines[k].line);
-        }
-    }
+    CALL(the_board, &reply, acknowledge, processor(), line);
+    settle(the_board, &reply, "");
 }
 
 /* The trace. */
@@ -480,7 +406,6 @@ static void realize(DeviceState *dev, Error **errp)
     ClockboardState *s = CLOCKBOARD(dev);
     Object *pit = object_resolve_path_type("", TYPE_PIT_COMMON, NULL);
     Object *rtc = object_resolve_path_type("", TYPE_MC146818_RTC, NULL);
-    Object *ioapic = object_resolve_path_type("", TYPE_IOAPIC_COMMON, NULL);
 
     if (kvm_irqchip_in_kernel()) {
         error_setg(errp, "clockboard: the interrupt controllers are KVM's; give -machine kernel-irqchip=off");
@@ -490,7 +415,6 @@ static void realize(DeviceState *dev, Error **errp)
                          : "clockboard: the library isn't the header's");
     } else if (power_on(s, errp) && (!s->trace || begin_trace(s, errp))) {
         s->rtc = ISA_DEVICE(rtc);
-        s->ioapic = ioapic ? IOAPIC_COMMON(ioapic) : NULL;
         s->gsi = X86_MACHINE(qdev_get_machine())->gsi;
         s->timer = timer_new_ns(QEMU_CLOCK_VIRTUAL, step, s);
         s->state = g_malloc0(CLOCKBOARD_STATE_MAX);

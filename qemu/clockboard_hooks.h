@@ -6,6 +6,7 @@
 #ifndef HW_I386_CLOCKBOARD_HOOKS_H
 #define HW_I386_CLOCKBOARD_HOOKS_H
 
+#include <stdbool.h>
 #include <stdint.h>
 
 struct clockboard_watch {
@@ -20,6 +21,11 @@ struct clockboard_watch clockboard_watch_apic(void *apic);
 void clockboard_watched_pic(struct clockboard_watch *watch);
 void clockboard_watched_ioapic(struct clockboard_watch *watch);
 void clockboard_watched_apic(struct clockboard_watch *watch);
+
+/* The device: whether the machine has one, whether a line of its is up, and the acknowledgement of a line. */
+bool clockboard_is_there(void);
+bool clockboard_is_up(uint8_t line);
+void clockboard_line_ended(uint8_t line);
 
 /* In front of a function's first line. It is over whichever way the function returns. */
 #define CLOCKBOARD_WATCH(kind, controller) \
