@@ -1,7 +1,6 @@
 pub mod Numbers
 pub mod HexValues
 pub mod Spells
-pub mod Eights
 pub mod FirstWord
 pub mod Tokens
 pub mod ShortWords

@@ -217,102 +217,10 @@ fn short_spelling(line: &[u8], at: usize, from: usize, base: u8, read: u64) -> O
     })
 }
 
-/// The upper half of each byte of a word.
-const UPPER_HALVES: u64 = 0xf0f0_f0f0_f0f0_f0f0;
-
-/// The digit 0 in each byte of a word, which has the upper half of each decimal digit.
-const ZEROS: u64 = 0x3030_3030_3030_3030;
-
-/// What takes the lower half of each byte from 10 on into the upper one.
-const SIXES: u64 = 0x0606_0606_0606_0606;
-
-/// The number that the next eight bytes of a line spell, if they are decimal digits. The bytes are taken as one word:
-/// each byte holds a digit, then two digits, without a carry between them.
-#[inline(never)]
-fn eight_digits_at(line: &[u8], at: usize) -> Option<u64>
-    requires { at + 8 ≤ length line.now }
-    ensures { IfSome result (λ n. (n < 100000000)
-        × (slice_index line.now at ≡ 48 → n < 10000000) × ((count read : ℕ)
-        → read * 100000000 + n < 18446744073709551616 → spelled 10 count read (drop at line.now)
-        ≡ spelled 10 (count + 8) (read * 100000000 + n) (drop (at + 8) line.now))) }
-{
-    let word = u64::from_le_bytes([
-        line[at],
-        line[at + 1],
-        line[at + 2],
-        line[at + 3],
-        line[at + 4],
-        line[at + 5],
-        line[at + 6],
-        line[at + 7],
-    ]);
-    if word & UPPER_HALVES != ZEROS {
-        return None;
-    }
-    if word.wrapping_add(SIXES) & UPPER_HALVES != ZEROS {
-        return None;
-    }
-    let digits = word.wrapping_sub(ZEROS);
-    let pairs = digits.wrapping_mul(10).wrapping_add(digits / 0x100);
-    let first = pairs % 0x100 * 1_000_000;
-    let second = pairs / 0x1_0000 % 0x100 * 10_000;
-    let third = pairs / 0x1_0000_0000 % 0x100 * 100;
-    Some(first + second + third + pairs / 0x1_0000_0000_0000 % 0x100)
-}
-
-/// What the first 8 or 16 digits of a decimal number spell, of which the first eight spell `n`.
-#[inline(always)]
-fn eights_at(line: &[u8], at: usize, n: u64) -> Spelling
-    requires within { at + 8 ≤ length line.now }
-    requires small { n < 100000000 }
-    ensures within { (at + 8 ≤ result.end) × (result.end ≤ at + 16)
-        × (result.end ≤ length line.now) }
-    ensures small { result.value < 16 ^ (result.end - at) }
-    ensures read { spelled 10 8 n (drop (at + 8) line.now)
-        ≡ spelled 10 (result.end - at) result.value (drop result.end line.now) }
-{
-    let eight = Spelling {
-        value: n,
-        end: at + 8,
-    };
-    if line.len() - at < 16 {
-        return eight;
-    }
-    match eight_digits_at(line, at + 8) {
-        Some(m) => Spelling {
-            value: n * 100_000_000 + m,
-            end: at + 16,
-        },
-        None => eight,
-    }
-}
-
-/// The number of 8 to 16 digits at a place of a line, of which the first eight spell `n`.
-#[inline(always)]
-fn long_decimal_at(line: &[u8], at: usize, n: u64) -> Option<Spelling>
-    requires within { at + 8 ≤ length line.now }
-    requires small { n < 100000000 }
-    requires first { slice_index line.now at ≡ 48 → n < 10000000 }
-    requires read { spelled 10 0 0 (drop at line.now) ≡ spelled 10 8 n (drop (at + 8) line.now) }
-    ensures { IfSome result (λ s. (at < s.end) × (s.end ≤ length line.now)
-        × (slice_index line.now at ≢ 48) × (spelled 10 0 0 (drop at line.now) ≡ Some (record {
-          count = s.end - at;
-          value = s.value;
-          left = words_from (s.end + 1) line.now;
-        }))) }
-{
-    if n < 10_000_000 {
-        return None;
-    }
-    let read = eights_at(line, at, n);
-    let spelling = short_spelling(line, at, read.end, 10, read.value)?;
-    Some(spelling)
-}
-
 /// The number at a place of a line, if it is decimal, begins with another digit than zero, and has at most 16
-/// digits. One that is long is likely to have eight or more: its eighth byte is looked at first.
+/// digits.
 #[inline(always)]
-pub(crate) fn decimal_at(line: &[u8], at: usize, is_long: bool) -> Option<Spelling>
+pub(crate) fn decimal_at(line: &[u8], at: usize) -> Option<Spelling>
     ensures { IfSome result (λ s. (at < s.end) × (s.end ≤ length line.now)
         × (slice_index line.now at ≢ 48) × (spelled 10 0 0 (drop at line.now) ≡ Some (record {
           count = s.end - at;
@@ -322,11 +230,6 @@ pub(crate) fn decimal_at(line: &[u8], at: usize, is_long: bool) -> Option<Spelli
 {
     if at >= line.len() {
         return None;
-    }
-    if is_long && line.len() - at >= 8 && decimal_digit_of(line[at + 7]) < 10 {
-        if let Some(n) = eight_digits_at(line, at) {
-            return long_decimal_at(line, at, n);
-        }
     }
     let first = decimal_digit_of(line[at]);
     if first == 0 || first >= 10 {

@@ -176,7 +176,7 @@ impl<'a> Words<'a> {
     {
         match self.one_digit() {
             Some(digit) => Some(u64::from(digit)),
-            None => self.decimal(false),
+            None => self.dec(),
         }
     }
 
@@ -193,22 +193,13 @@ impl<'a> Words<'a> {
         Some(n)
     }
 
-    /// The next word as a DEC, which most likely has 8 to 16 digits.
+    /// The next word as a DEC, which most likely has at most 16 digits.
     #[inline(always)]
     pub(crate) fn dec(&mut self) -> Option<u64>
         ensures value { result ≡ dec self.old }
         ensures past { OnSome result (self.new ≡ rest self.old) }
     {
-        self.decimal(true)
-    }
-
-    /// The next word as a DEC, which is long or not.
-    #[inline(always)]
-    fn decimal(&mut self, is_long: bool) -> Option<u64>
-        ensures value { result ≡ dec self.old }
-        ensures past { OnSome result (self.new ≡ rest self.old) }
-    {
-        match decimal_at(self.line, self.at, is_long) {
+        match decimal_at(self.line, self.at) {
             Some(spelling) => {
                 self.at = spelling.end + 1;
                 Some(spelling.value)

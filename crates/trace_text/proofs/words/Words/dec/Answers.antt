@@ -1,7 +1,7 @@
 use Rattle.std.proofs.Common.{sym, ◌∙◌, ap}
 use Rattle.trace_text.specs.Tokens.{first, rest, decimal_in}
 use Rattle.trace_text.proofs.ShortWords.{decimal_word}
-use Rattle.trace_text.proofs.words.Words.decimal.Goals as goal
+use Rattle.trace_text.proofs.words.Words.dec.Goals as goal
 
 pub returns-in-Some-clause-value : goal.returns-in-Some-clause-value
 returns-in-Some-clause-value c =
