@@ -14,7 +14,7 @@ const HALF_DAY: u8 = 12;
 
 /// The number that a byte spells: itself in binary, and else a decimal digit in each half.
 #[tactic(auto, unfolding(crate::specs::Bytes::spelt))]
-fn spelt(binary: bool, byte: u8) -> u8
+pub fn spelt(binary: bool, byte: u8) -> u8
     ensures { result ≡ spelt binary byte }
 {
     if binary {
@@ -34,7 +34,7 @@ fn has_digits(byte: u8) -> bool
 
 /// Whether the byte spells a number of `low` to `high`.
 #[tactic(auto, unfolding(crate::specs::Bytes::is_spelt))]
-pub(crate) fn is_spelt(binary: bool, low: u8, high: u8, byte: u8) -> bool
+pub fn is_spelt(binary: bool, low: u8, high: u8, byte: u8) -> bool
     ensures { result ≡ is_spelt binary low high byte }
 {
     let number = spelt(binary, byte);

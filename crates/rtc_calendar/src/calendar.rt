@@ -16,9 +16,9 @@ pub struct Moment {
     pub year: u8,
 }
 
-/// How many days a month has; February has 29 in every fourth year, 00 included.
+/// How many days a month of 1 to 12 has, in a year 0 to 99 of the century; February has 29 in every fourth year, 00 included.
 #[tactic(auto, unfolding(crate::specs::Calendar::month_length))]
-pub(crate) fn month_length(year: u8, month: u8) -> u8
+pub fn month_length(year: u8, month: u8) -> u8
     ensures value { result ≡ month_length year month }
     ensures shortest { 28 ≤ result }
     ensures longest { result ≤ 31 }

@@ -19,6 +19,8 @@ mod updates;
 mod wanted;
 
 pub use alarms::{first_match, matches};
+pub use bytes::{is_spelt, spelt};
+pub use calendar::month_length;
 pub use updates::after;
 
 /// The seven time bytes, as the clock's registers 0, 2, 4 and 6 to 9 hold them: seconds, minutes, hours, day
