@@ -113,6 +113,13 @@ impl BoardState {
         self.anchor
     }
 
+    /// The rate of the guest's TSC, in kHz.
+    pub fn guest_khz(&self) -> u64
+        ensures { result ≡ self.now.guest_khz }
+    {
+        self.guest_khz
+    }
+
     /// The time in nanoseconds: that of the greatest count of all accesses.
     pub fn now(&self) -> u64
         ensures value { result ≡ now_of self.now }
@@ -156,6 +163,21 @@ impl BoardState {
         ensures version { IsVersion result.version }
     {
         page_in(&self.processors[cpu as usize])
+    }
+
+    /// What the guest wrote to a processor's MSR_KVM_SYSTEM_TIME_NEW: its page's address, with bit 0 to enable the page.
+    pub fn page_number(&self, cpu: u8) -> u64
+        requires { cpu < self.now.cpus }
+        ensures { result ≡ (processor_at self.now cpu).number }
+    {
+        self.processors[cpu as usize].number
+    }
+
+    /// What the guest wrote to HV_X64_MSR_REFERENCE_TSC: the reference page's address, with bit 0 to enable the page.
+    pub fn hv_number(&self) -> u64
+        ensures { result ≡ self.now.hv.number }
+    {
+        self.hv.number
     }
 
     /// The TSC of a processor.
