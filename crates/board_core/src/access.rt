@@ -27,7 +27,7 @@ ghost use Rattle.board_core.specs.Refusals.{refusal_of};
 use crate::apics::run_apics;
 use crate::board::BoardState;
 use crate::rises::count_rises_where;
-use board_types::{Access, Refusal, Reply, Value};
+use board_types::{Access, Refusal, Reply};
 use irq_edges::{BurstList, EdgeList};
 
 impl BoardState {
@@ -70,76 +70,19 @@ impl BoardState {
         ensures few { OnOk result
             (length reply.new.edges ≤ length (ran_to self.old h).edges + 12) }
     {
-        self.answer_into(
-            cpu,
-            h,
-            a,
-            &mut reply.value,
-            &mut reply.edges,
-            &mut reply.bursts,
-        )?;
-        reply.number = self.accesses;
-        Ok(())
-    }
-
-    /// The same into a value and lists that the caller keeps, for one that keeps them apart. The lists must be empty.
-    #[inline(always)]
-    pub fn answer_into(
-        &mut self,
-        cpu: u8,
-        h: u64,
-        a: Access,
-        value: &mut Value,
-        edges: &mut EdgeList,
-        bursts: &mut BurstList,
-    ) -> Result<(), Refusal>
-        requires cpu { cpu < self.old.cpus }
-        requires legal { IsTrue (is_legal self.old.cpus self.old.format a) }
-        requires edges { edges.old ≡ [] }
-        requires bursts { bursts.old ≡ [] }
-        ensures refused { IfErr result (λ e. refusal_of self.old cpu h a ≡ Some e) }
-        ensures unchanged { OnErr result (self.new ≡ self.old) }
-        ensures no_value { OnErr result (value.new ≡ value.old) }
-        ensures no_edges { OnErr result (edges.new ≡ []) }
-        ensures no_bursts { OnErr result (bursts.new ≡ []) }
-        ensures taken { OnOk result (refusal_of self.old cpu h a ≡ None) }
-        ensures reply { OnOk result (reply_of self.old cpu h a ≡ record {
-          number = self.new.accesses;
-          value = value.new;
-          edges = edges.new;
-          bursts = bursts.new;
-        }) }
-        ensures state { OnOk result (self.new ≡ after_access self.old cpu h a) }
-        ensures of_lines { OnOk result (All IsOfLine edges.new) }
-        ensures few_run { OnOk result (length (ran_to self.old h).edges ≤ 6) }
-        ensures few { OnOk result (length edges.new ≤ length (ran_to self.old h).edges + 12) }
-    {
         // In each of these arms the compiler knows the kind, and leaves out what the others need.
         match a {
-            Access::PortIn { port } => {
-                self.answer_parts(cpu, h, Access::PortIn { port }, value, edges, bursts)
-            }
+            Access::PortIn { port } => self.answer_known(cpu, h, Access::PortIn { port }, reply),
             Access::HpetRead { offset, width } => {
-                self.answer_parts(
-                    cpu,
-                    h,
-                    Access::HpetRead { offset, width },
-                    value,
-                    edges,
-                    bursts,
-                )
+                self.answer_known(cpu, h, Access::HpetRead { offset, width }, reply)
             }
             Access::PortOut { port, byte } => {
-                self.answer_parts(cpu, h, Access::PortOut { port, byte }, value, edges, bursts)
+                self.answer_known(cpu, h, Access::PortOut { port, byte }, reply)
             }
-            Access::Ack { line } => {
-                self.answer_parts(cpu, h, Access::Ack { line }, value, edges, bursts)
-            }
-            Access::MsrRead { msr } => {
-                self.answer_parts(cpu, h, Access::MsrRead { msr }, value, edges, bursts)
-            }
-            Access::Step => self.answer_parts(cpu, h, Access::Step, value, edges, bursts),
-            _ => self.answer_parts(cpu, h, a, value, edges, bursts),
+            Access::Ack { line } => self.answer_known(cpu, h, Access::Ack { line }, reply),
+            Access::MsrRead { msr } => self.answer_known(cpu, h, Access::MsrRead { msr }, reply),
+            Access::Step => self.answer_known(cpu, h, Access::Step, reply),
+            _ => self.answer_known(cpu, h, a, reply),
         }
     }
 }
@@ -170,58 +113,14 @@ impl BoardState {
         ensures few { OnOk result
             (length reply.new.edges ≤ length (ran_to self.old h).edges + 12) }
     {
-        self.answer_parts(
-            cpu,
-            h,
-            a,
-            &mut reply.value,
-            &mut reply.edges,
-            &mut reply.bursts,
-        )?;
-        reply.number = self.accesses;
-        Ok(())
-    }
-}
-
-impl BoardState {
-    /// The access into a value and lists, where the caller knows its kind.
-    #[inline(always)]
-    fn answer_parts(
-        &mut self,
-        cpu: u8,
-        h: u64,
-        a: Access,
-        value: &mut Value,
-        edges: &mut EdgeList,
-        bursts: &mut BurstList,
-    ) -> Result<(), Refusal>
-        requires cpu { cpu < self.old.cpus }
-        requires legal { IsTrue (is_legal self.old.cpus self.old.format a) }
-        requires edges { edges.old ≡ [] }
-        requires bursts { bursts.old ≡ [] }
-        ensures refused { IfErr result (λ e. refusal_of self.old cpu h a ≡ Some e) }
-        ensures unchanged { OnErr result (self.new ≡ self.old) }
-        ensures no_value { OnErr result (value.new ≡ value.old) }
-        ensures no_edges { OnErr result (edges.new ≡ []) }
-        ensures no_bursts { OnErr result (bursts.new ≡ []) }
-        ensures taken { OnOk result (refusal_of self.old cpu h a ≡ None) }
-        ensures reply { OnOk result (reply_of self.old cpu h a ≡ record {
-          number = self.new.accesses;
-          value = value.new;
-          edges = edges.new;
-          bursts = bursts.new;
-        }) }
-        ensures state { OnOk result (self.new ≡ after_access self.old cpu h a) }
-        ensures of_lines { OnOk result (All IsOfLine edges.new) }
-        ensures few_run { OnOk result (length (ran_to self.old h).edges ≤ 6) }
-        ensures few { OnOk result (length edges.new ≤ length (ran_to self.old h).edges + 12) }
-    {
         let to = match self.admit(cpu, h, a) {
             Ok(to) => to,
             Err(refusal) => return Err(refusal),
         };
-        self.run_to(h, to, edges, bursts);
-        *value = self.act(cpu, h, a, edges);
+        self.run_to(h, to, &mut reply.edges, &mut reply.bursts);
+        let value = self.act(cpu, h, a, &mut reply.edges);
+        reply.value = value;
+        reply.number = self.accesses;
         Ok(())
     }
 }
