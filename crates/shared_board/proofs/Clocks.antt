@@ -30,7 +30,7 @@ weight-le : (b : Bool) → weight b ≤ 1
 weight-le true = omega arith
 weight-le false = omega arith
 
--- an entry that is counted is a read of a page, so a full front word tells of many reads
+-- an entry that is counted is a read of a page, so a full front word means many reads
 pub loud-le : (es : List Entry) → loud es ≤ page_reads es
 loud-le [] = omega arith
 loud-le (Opened s ∷ es) = let r = loud-le es in omega arith
@@ -39,7 +39,7 @@ loud-le (PageRead pass cpu h page locked ∷ es) = let r = loud-le es in let w =
 loud-le (HvRead pass h page locked ∷ es) = let r = loud-le es in let w = weight-le locked in omega arith
 loud-le (Clamp pass cpu reading clock ∷ es) = let r = loud-le es in omega arith
 
--- what an answer tells of the page
+-- what an answer says of the page
 answer-on : (b : Bool) (p page : Page) (x y : ℕ) → On p x ≡ (if b then On page y else Off) → (b ≡ true) × (x ≡ y)
 answer-on true p page x y e = (refl, cc e)
 answer-on false p page x y e = absurd (cc e)
@@ -59,7 +59,7 @@ read_last s cpu h locked reply p q r = record {
   answer = r.answer;
 }
 
--- so a clamp may come behind it
+-- so a clamp may come after it
 pub last_reads : (m : Machine) (cpu x : ℕ) (page : Page) (p : PassKnown) → IsLastRead m cpu (On page x) p → Reads m (last_of (entries_of p.number p.seen)) cpu x
 last_reads m cpu x page p l =
     let a = answer-on l.page.enabled page l.page x (reading_by (ratio_in m) l.page l.h) l.answer in

@@ -70,7 +70,7 @@ all_put c p v = (
     each (suc (suc (suc zero))) h = refl
     each (suc (suc (suc (suc k)))) h = absurd (omega arith)
 
--- the view behind the four puts of a page's words
+-- the view after the four puts of a page's words
 pub put_four : (c : ℕ) (ws : List ℕ) (p : Page) (v v0 v1 v2 v3 v4 : View) → v0 ≡ begun c v → v1 ≡ put_in 0 (get_or ws 1 0) v0 → v2 ≡ put_in 1 (get_or ws 2 0) v1
     → v3 ≡ put_in 2 (get_or ws 3 0) v2 → v4 ≡ put_in 3 (get_or ws 4 0) v3 → ws ≡ words_of p
     → v4 ≡ put_all c (field_at p 0) (field_at p 1) (field_at p 2) (field_at p 3) v

@@ -1,4 +1,4 @@
--- What calls made, one behind another.
+-- What calls made, one after another.
 use Rattle.std.proofs.Common.{◌≡◌, ℕ, List, [], ◌∷◌, ◌++◌, refl, ap, sym, ◌∙◌, subst, append_assoc, append-nil, Some, Bool, true, false}
 use mathlib.Core.List.{IsPrefix}
 use Rattle.board_history.specs.History.{entries_of, last_of, IsLegal}
@@ -63,7 +63,7 @@ heard_made n v w e rest x of_n =
           ∙ (ap (λ l. l ++ entries_of n (e ∷ [])) now ∙ ap (λ l. entries_of n v.seen ++ l) (entries_of-own e n of_n)));
     }
 
--- an entry that a pass made while it had the pen, behind all that came with it
+-- an entry that a pass made while it had the pen, after all that came with it
 pub told_answered : (n : ℕ) (v w x y : View) (e : Entry) → IsAtRest n v → PenMoved w v x → Extends e x y → is_of n e ≡ true → Answered (known n v) (known n y) e
 told_answered n v w x y e rest moved ext of_n =
     let seen_y : y.seen ≡ (x.seen ++ ext.0) ++ e ∷ [] = ap (λ u. u.seen) ext.1 in

@@ -43,7 +43,7 @@ alike_quiet b xs ys e q =
     let now : board_after ys ≡ with_greatest (board_after xs) beside.0 = ap board_after (sym q.1) ∙ (board_from-++ no_board xs q.0 ∙ beside.1) in
     e ∙ sym (ap (λ (x : BoardParts). with_greatest x 0) now)
 
--- the board after an access that was added behind quiet entries
+-- the board after an access that was added after quiet entries
 pub alike_told : (c : Call) (r : Reply) (b : BoardParts) (v w : View) → AreAlike b (after_access (board_after v.seen) c.cpu c.h c.access)
     → Extends (entry_of c r) v w → AreAlike b (board_after w.seen)
 alike_told c r b v w e x =

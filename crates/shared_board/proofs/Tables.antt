@@ -70,7 +70,7 @@ pub locked_answered : (s : BoardParts) (k h : ℕ) (page : Page) (p q : PassKnow
 locked_answered s k h page p q a least room =
     record { read = record { made = made_of p q (read_of s.cpus p.number k h page true) a; least = least }; misses = a.misses; room = room }
 
--- a read under the lock behind a try that met an update
+-- a read under the lock after a try that met an update
 pub read_late : (s : BoardParts) (k h : ℕ) (page : Page) (first second : ℕ) (p q r : PassKnown) → Missed k first second p q
     → HasLockedTable s k h page q r → HasReadTable s k h page p r
 read_late s k h page first second p q r m a =

@@ -1,4 +1,4 @@
--- What a read of the reference page tells.
+-- What a read of the reference page answers.
 use Rattle.std.specs.Prelude.{◌≡◌, ℕ, ◌≤◌, [], ◌∷◌, Bool, true, false}
 use Rattle.hv_page.specs.declared.page.HvPage.{HvPage}
 use Rattle.hv_page.specs.declared.page.HvReply.{HvReply}

@@ -1,4 +1,4 @@
--- What a pass knows, and what a call tells of it.
+-- What a pass knows, and how a call changes it.
 use Rattle.std.specs.Prelude.{
   ◌≡◌,
   ◌⊎◌,
@@ -38,14 +38,14 @@ mine p = entries_of p.number p.seen
 abbrev pub floor : PassKnown → ℕ
 floor p = floor_after p.seen
 
--- the call made these entries, behind all that the pass had seen and made
+-- the call made these entries, after all that the pass had seen and made
 pub record Made (p q : PassKnown) (es : List Entry) : Type 0 where
   pub number : q.number ≡ p.number
   pub more : IsPrefix p.seen q.seen
   pub legal : IsLegal q.seen
   pub mine : mine q ≡ mine p ++ es
 
--- the call made one entry, and the pass has seen all that stands before it
+-- the call made one entry, and the pass has seen all that is before it
 pub record Answered (p q : PassKnown) (e : Entry) : Type 0 where
   pub number : q.number ≡ p.number
   pub misses : q.misses ≡ p.misses

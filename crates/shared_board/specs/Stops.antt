@@ -1,4 +1,4 @@
--- What a new board, and the end of one, tells of its passes.
+-- The passes of a new board, and of one that was stopped.
 use Rattle.std.specs.Prelude.{◌≡◌, ℕ, zero, suc, ◌≤◌, List, [], ◌∷◌, ◌++◌}
 use mathlib.Core.List.{IsPrefix}
 use Rattle.board_types.specs.declared.parts.BoardParts.{BoardParts}

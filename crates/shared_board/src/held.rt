@@ -48,7 +48,7 @@ use std::marker::Model;
 const FULL: u64 = 1 << 63;
 
 /// What lies under the lock. The board is the one after all that the writer's seat has seen, but for its greatest
-/// reading, which stands in the clamp word. It lies in a box, so that no move of what is shared moves it.
+/// reading, which is in the clamp word. It lies in a box, so that no move of what is shared moves it.
 #[derive(Drop)]
 pub struct Held<N: Name> {
     pub(crate) board: Box<BoardState>,

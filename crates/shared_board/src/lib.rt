@@ -1,8 +1,8 @@
 //! A board that threads share: its registers behind one lock, its pages beside it, and one history of both.
 //!
 //! Each caller has a [`Pass`]. An access takes the lock; a page of the paravirtual clock, and the clock by it, are read
-//! without it, as a guest reads them (`clock_table`). What the callers were told stands in one legal history of one
-//! board (`board_history`): each call's entries in it are what the call was answered, behind all that its caller had
+//! without it, as a guest reads them (`clock_table`). What the callers were told is in one legal history of one
+//! board (`board_history`): each call's entries in it are what the call was answered, after all that its caller had
 //! seen. [`SharedBoard::stop`] gives the board after that history, once all passes are given back.
 //!
 //! ```text

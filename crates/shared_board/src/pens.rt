@@ -29,7 +29,7 @@ pub(crate) fn move_pen<N: Name>(
     table.front(to)
 }
 
-/// Publishes a page of the table, and makes the entry of the access that does. It stands apart, so that an access
+/// Publishes a page of the table, and makes the entry of the access that does. It is a function of its own, so that an access
 /// that publishes nothing needs no room for a page.
 #[inline(never)]
 pub(crate) fn publish<N: Name>(

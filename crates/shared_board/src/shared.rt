@@ -121,7 +121,7 @@ impl<N: Name> SharedBoard<N> {
         Ok((board, list))
     }
 
-    // It stands where it is called from, so that the list is moved once, to its place there.
+    // Inlined, so that the list is moved once, to its place at the caller.
     /// An access by processor `cpu` at count `h`, under the lock. The gate is called once, when the lock is held.
     #[inline(always)]
     pub fn access<R: Wait, G: Gate>(
@@ -198,8 +198,8 @@ impl<N: Name> SharedBoard<N> {
 
     // Whoever has the lock keeps it for some microseconds, and to wake a thread that sleeps takes longer. Each look takes
     // the lock's memory from the thread that works beside it, so looks are rare.
-    /// Takes the lock behind another thread: looks for it a bounded number of times, and then sleeps. It stands apart,
-    /// so that a lock that is free costs one exchange.
+    /// Takes the lock that another thread has: looks for it a bounded number of times, and then sleeps. It is a function
+    /// of its own, so that a lock that is free costs one exchange.
     #[cold]
     #[inline(never)]
     fn lock_behind<R: Wait>(&self, rt: &R) -> MutexGuard<'_, CachePadded<Held<N>>> {
@@ -274,7 +274,7 @@ impl<N: Name> SharedBoard<N> {
         }
     }
 
-    // It stands where it is called from, so that a caller who asks for the reading alone moves no page.
+    // Inlined, so that a caller who asks for the reading alone moves no page.
     /// Reads the page of `cpu` at count `h`, without the lock.
     #[inline(always)]
     pub fn try_page(&self, pass: &mut Pass<N>, cpu: u8, h: u64) -> Result<PageReply, PageFault>
@@ -433,7 +433,7 @@ impl<N: Name> SharedBoard<N> {
         }
     }
 
-    /// The clamp behind a read of a page.
+    /// The clamp after a read of a page.
     fn clamp(&self, pass: &mut Pass<N>, cpu: u8, read: PageReply) -> ClockReply
         requires read { IsLastRead (machine_of N.state) cpu read pass.old }
         ensures { HasClamped cpu read result pass.old pass.new }

@@ -17,7 +17,7 @@ pub(crate) struct Update {
     pub(crate) second: u64,
 }
 
-/// Reads a page of the table: the version, the fields, the version again. `h` is the count that the entry tells.
+/// Reads a page of the table: the version, the fields, the version again. `h` is the count in the entry.
 #[inline(always)]
 fn read_words<N: Name>(
     table: &ClockTable<N>,

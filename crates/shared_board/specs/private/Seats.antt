@@ -109,7 +109,7 @@ pub record IsLastRead (m : Machine) (cpu : ℕ) (reply : PageReply) (p : PassKno
   pub last : last_of (mine p) ≡ Some (PageRead p.number cpu h page locked)
   pub answer : reply ≡ answer_by (ratio_in m) page h
 
--- the clamp behind that read: nothing where the page is off, else one entry
+-- the clamp after that read: nothing where the page is off, else one entry
 abbrev pub HasClamped : ℕ → PageReply → ClockReply → PassKnown → PassKnown → Type 0
 HasClamped cpu PageOff ClockOff p q = q ≡ p
 HasClamped cpu (PageOn page reading) (ClockOn told clock) p q =
