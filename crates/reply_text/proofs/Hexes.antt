@@ -23,6 +23,8 @@ use Rattle.std.proofs.Common.{
   take,
   drop,
   get_or,
+  set,
+  below_more,
   refl,
   sym,
   ap,
@@ -38,7 +40,8 @@ use Rattle.std.proofs.Common.{
   length-append,
 }
 use Rattle.std.specs.Char.{digit_char}
-use Rattle.std.proofs.lemmas.List.{drop_more, take-append-drop}
+use Rattle.std.proofs.Math.Seq.{take-append_seam}
+use Rattle.std.proofs.lemmas.List.{take-append-drop, length-set, get_or-set_same, get_or-set_other}
 use lib.Ieee.Fits.{and_l, and_r}
 use Rattle.reply_text.specs.Words.{hex_text, hexes}
 use Rattle.reply_text.specs.declared.digits.TheConstants.{PAIRS}
@@ -107,15 +110,51 @@ unfolding hexes
 length-hexes [] = refl
 length-hexes (x ∷ xs) = omega (arith, length-hexes xs)
 
--- the digits of one byte more, in front
-pub hexes-drop : (xs : List ℕ) (k i : ℕ) → k + 1 ≡ i → k < length xs
-    → hexes (drop k xs) ≡ digit_char (get_or xs k 0 / 16) ∷ digit_char (get_or xs k 0 % 16) ∷ hexes (drop i xs)
+-- the first n bytes have their two digits in a text
+abbrev pub AreDigits : List ℕ → List ℕ → ℕ → Type 0
+AreDigits xs text n = (j : ℕ) → j < n
+    → (get_or text (2 * j) 0 ≡ digit_char (get_or xs j 0 / 16)) × (get_or text (2 * j + 1) 0 ≡ digit_char (get_or xs j 0 % 16))
+
+-- .. and so has one byte more
+pub digits-more : (xs text : List ℕ) (n high low : ℕ) → 2 * n + 1 < length text → AreDigits xs text n
+    → high ≡ digit_char (get_or xs n 0 / 16) → low ≡ digit_char (get_or xs n 0 % 16)
+    → AreDigits xs (set (set text (2 * n) high) (2 * n + 1) low) (n + 1)
+digits-more xs text n high low room before is_high is_low = below_more _ n
+    (λ j less. (
+      get_or-set_other _ (2 * n + 1) (2 * j) low 0 (λ e. omega arith) ∙ get_or-set_other text (2 * n) (2 * j) high 0 (λ e. omega arith) ∙ (before j less).0,
+      get_or-set_other _ (2 * n + 1) (2 * j + 1) low 0 (λ e. omega arith) ∙ get_or-set_other text (2 * n) (2 * j + 1) high 0 (λ e. omega arith)
+          ∙ (before j less).1,
+    )) (
+      get_or-set_other _ (2 * n + 1) (2 * n) low 0 (λ e. omega arith) ∙ get_or-set_same text (2 * n) high 0 (omega arith) ∙ is_high,
+      get_or-set_same _ (2 * n + 1) low 0 (omega (arith, length-set text (2 * n) high)) ∙ is_low,
+    )
+
+-- all of them are the text
+pub digits-all : (xs text : List ℕ) → length text ≡ 2 * length xs → AreDigits xs text (length xs) → text ≡ hexes xs
 unfolding hexes
-hexes-drop xs k i e h = rw (drop_more xs k 0 h, e) refl
+digits-all [] [] len each = refl
+digits-all [] (t ∷ text) len each = absurd (omega (arith, len))
+digits-all (x ∷ xs) [] len each = absurd (omega (arith, len))
+digits-all (x ∷ xs) (t ∷ []) len each = absurd (omega (arith, len))
+digits-all (x ∷ xs) (h ∷ l ∷ text) len each =
+    let rest : AreDigits xs text (length xs) = λ j less.
+    let high : 2 * suc j ≡ suc (suc (2 * j)) = omega arith in
+    let low : 2 * suc j + 1 ≡ suc (suc (2 * j + 1)) = omega arith in
+    let both = each (suc j) (omega arith) in (
+      sym (ap (λ (i : ℕ). get_or (h ∷ l ∷ text) i 0) high) ∙ both.0,
+      sym (ap (λ (i : ℕ). get_or (h ∷ l ∷ text) i 0) low) ∙ both.1,
+    ) in
+    λ i. (each 0 (omega arith)).0 i ∷ (each 0 (omega arith)).1 i ∷ digits-all xs text (omega (arith, len)) rest i
 
 -- the digits of a front and of what is left
 pub hexes-take-drop : (n : ℕ) (xs : List ℕ) → hexes (take n xs) ++ hexes (drop n xs) ≡ hexes xs
 hexes-take-drop n xs = sym (hexes-append (take n xs) (drop n xs)) ∙ ap hexes (take-append-drop n xs)
+
+-- the digits of a front are those before the others
+pub take-hexes : (xs ys : List ℕ) → take (2 * length xs) (hexes (xs ++ ys)) ≡ hexes xs
+take-hexes xs ys =
+    ap (λ (t : List ℕ). take (2 * length xs) t) (hexes-append xs ys)
+    ∙ ap (λ (n : ℕ). take n (hexes xs ++ hexes ys)) (sym (length-hexes xs)) ∙ take-append_seam (hexes xs) (hexes ys)
 
 -- no digits
 pub hex_text-none : (k n : ℕ) (rest : List ℕ) → k ≡ 0 → rest ≡ hex_text k n ++ rest

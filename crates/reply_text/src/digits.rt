@@ -15,7 +15,7 @@ e0e1e2e3e4e5e6e7e8e9eaebecedeeeff0f1f2f3f4f5f6f7f8f9fafbfcfdfeff";
 
 /// Writes the two hexadecimal digits of a byte so that they end at `end`, and returns where they start.
 #[inline(always)]
-pub(crate) fn write_pair(byte: u8, buf: &mut [u8], end: usize) -> usize
+fn write_pair(byte: u8, buf: &mut [u8], end: usize) -> usize
     requires room { 2 ≤ end }
     requires within { end ≤ length buf.old }
     ensures start { result + 2 ≡ end }

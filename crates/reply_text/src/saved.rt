@@ -15,6 +15,7 @@ ghost use Rattle.std.specs.Prelude.{
   vec_len,
   vec_capacity,
 };
+ghost use Rattle.std.specs.Char.{digit_char};
 ghost use Rattle.std.specs.Io.{StartsWith};
 ghost use Rattle.reply_text.specs.Words.{hexes};
 ghost use Rattle.reply_text.specs.Text.{save_text, move_text, state_text};
@@ -107,16 +108,15 @@ fn append_hexes(bytes: &[u8], out: &mut Vec<u8>) -> Result<(), NoMemory>
     ensures grows { vec_capacity out.old ≤ vec_capacity out.new }
 {
     let mut left = bytes;
-    while left.len() > PIECE {
-        let (piece, more) = left.split_at(PIECE);
-        append_piece(piece, out)?;
+    while let Some((piece, more)) = left.split_first_chunk::<PIECE>() {
+        append_bytes(&hexes(piece), out)?;
         left = more;
     }
-    append_piece(left, out)
+    append_last(left, out)
 }
 
-/// The same for a few bytes, which changes nothing where it fails.
-fn append_piece(bytes: &[u8], out: &mut Vec<u8>) -> Result<(), NoMemory>
+/// The same for fewer bytes than a piece, which changes nothing where it fails.
+fn append_last(bytes: &[u8], out: &mut Vec<u8>) -> Result<(), NoMemory>
     requires { length bytes.now ≤ PIECE }
     ensures ok { OnOk result (out.new.items ≡ out.old.items ++ hexes bytes.now) }
     ensures err { OnErr result (out.new.items ≡ out.old.items) }
@@ -124,11 +124,31 @@ fn append_piece(bytes: &[u8], out: &mut Vec<u8>) -> Result<(), NoMemory>
     ensures full { OnErr result (vec_capacity out.old < vec_len out.old + 2 * length bytes.now) }
     ensures grows { vec_capacity out.old ≤ vec_capacity out.new }
 {
-    let mut tail = Tail::empty();
-    for place in (0..bytes.len()).rev() {
-        tail.pair(bytes[place]);
+    let len = bytes.len();
+    let mut piece = [0; PIECE];
+    piece[..len].copy_from_slice(bytes);
+    append_bytes(&hexes(&piece)[..2 * len], out)
+}
+
+/// The digits of a piece, in a loop that a compiler can make steps of many bytes of.
+fn hexes(piece: &[u8; PIECE]) -> [u8; 2 * PIECE]
+    ensures { result ≡ hexes piece.now }
+{
+    let mut text = [0; 2 * PIECE];
+    for k in 0..PIECE {
+        text[2 * k] = digit(piece[k] / 16);
+        text[2 * k + 1] = digit(piece[k] % 16);
     }
-    tail.append_to(out)
+    text
+}
+
+/// A hexadecimal digit, without a branch.
+#[inline(always)]
+fn digit(n: u8) -> u8
+    requires { n < 16 }
+    ensures { result ≡ digit_char n }
+{
+    n + 48 + if n < 10 { 0 } else { 39 }
 }
 
 /// Appends bytes.

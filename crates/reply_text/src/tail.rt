@@ -3,8 +3,6 @@ ghost use Rattle.std.specs.Prelude.{
   ◌≡◌,
   ◌+◌,
   ◌*◌,
-  ◌/◌,
-  ◌%◌,
   ◌<◌,
   ◌≤◌,
   ◌++◌,
@@ -17,12 +15,11 @@ ghost use Rattle.std.specs.Prelude.{
   vec_len,
   vec_capacity,
 };
-ghost use Rattle.std.specs.Char.{digit_char};
 ghost use Rattle.std.specs.Fmt.{signed_decimal};
 ghost use Rattle.reply_text.specs.Words.{hex_text, spaced};
 ghost use Rattle.reply_text.specs.declared.tail.TheConstants.{LONGEST};
 
-use crate::digits::{write_byte, write_hex, write_pair, write_text};
+use crate::digits::{write_byte, write_hex, write_text};
 use clk_units::NoMemory;
 use itoa::{Buffer, write_digits};
 use std::marker::Model;
@@ -150,16 +147,6 @@ impl Tail {
     {
         let mut buffer = Buffer::new();
         self.word(buffer.format(n).as_bytes());
-    }
-
-    /// The two hexadecimal digits of a byte in front.
-    #[inline(always)]
-    pub(crate) fn pair(&mut self, byte: u8)
-        requires { length self.old + 2 ≤ LONGEST }
-        ensures value { self.new ≡ digit_char (byte / 16) ∷ digit_char (byte % 16) ∷ self.old }
-        ensures len { length self.new ≡ length self.old + 2 }
-    {
-        self.start = write_pair(byte, &mut self.bytes, self.start);
     }
 
     /// The hexadecimal digits of the last `count` bytes of a number in front, after a space.
