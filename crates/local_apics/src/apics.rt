@@ -34,9 +34,9 @@ use crate::parts::{ApicsParts, NO_PARTS};
 use crate::place::tsc_of;
 use crate::span::{Span, TscClock, next_tick, tsc_by};
 use board_types::ProcessorParts;
-use lapic_timer::{ApicRegister, ApicTimer, guest_count_at};
+use lapic_timer::{ApicParts, ApicRegister, ApicTimer, guest_count_at};
 use std::marker::Model;
-use tick_policy::{Counts, Policy, TickLine};
+use tick_policy::{Counts, Policy, TickLine, TickParts};
 use tsc_scale::Tsc;
 
 /// The timers of the local APICs of up to 64 processors, and their tick lines. Contracts see all
@@ -92,6 +92,22 @@ impl LocalApics {
             parts.put(cpu, timer, line);
         }
         parts
+    }
+
+    /// The fields of a processor's timer.
+    pub fn timer_parts(&self, cpu: u8) -> ApicParts
+        requires { cpu < 64 }
+        ensures { result ≡ timer_at cpu self.now }
+    {
+        self.timer(cpu).parts()
+    }
+
+    /// The fields of its tick line.
+    pub fn line_parts(&self, cpu: u8) -> TickParts
+        requires { cpu < 64 }
+        ensures { result ≡ line_at cpu self.now }
+    {
+        self.line(cpu).parts()
     }
 
     /// The timers and lines of so many processors with these fields, or None exactly where a
