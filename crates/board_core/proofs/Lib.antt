@@ -12,6 +12,8 @@ pub mod Kept
 pub mod Laws
 pub mod OfLines
 pub mod Nanoseconds
+pub mod Messages
+pub mod Joins
 mod Rows
 mod RowsApics
 mod RowsHv

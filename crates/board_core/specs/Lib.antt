@@ -9,6 +9,7 @@ pub mod Next
 pub mod Rises
 pub mod Access
 pub mod Refusals
+pub mod Quiet
 pub mod Reanchor
 pub mod PowerOn
 pub mod Upgrade

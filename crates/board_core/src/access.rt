@@ -128,7 +128,7 @@ impl BoardState {
 impl BoardState {
     /// Runs to the time `to` of an access at count `h`, counts the rises on the way, and puts the messages of the run
     /// into an empty list.
-    fn run_to(&mut self, h: u64, to: u64, edges: &mut EdgeList, bursts: &mut BurstList)
+    pub(crate) fn run_to(&mut self, h: u64, to: u64, edges: &mut EdgeList, bursts: &mut BurstList)
         requires time { HasTime self.old.anchor h }
         requires to { to ≡ time_of_access self.old h }
         requires places { length edges.old + 6 ≤ EDGE_PLACES }

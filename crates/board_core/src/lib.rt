@@ -20,6 +20,7 @@ mod apics;
 mod board;
 mod clock;
 mod hv;
+mod lag;
 mod moves;
 mod parts;
 mod processors;
