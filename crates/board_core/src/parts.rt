@@ -20,6 +20,7 @@ ghost use Rattle.pvclock_page.specs.Scale.{mul_for, shift_for};
 ghost use Rattle.board_types.specs.declared.parts.TheConstants.{MOST_ACCESSES};
 ghost use Rattle.board_types.specs.Setup.{has_messages};
 ghost use Rattle.local_apics.specs.Parts.{AreApicsOf};
+ghost use Rattle.local_apics.specs.Places.{no_timer};
 ghost use Rattle.board_devices.specs.Lines.{levels};
 ghost use Rattle.board_devices.specs.Places.{no_line};
 ghost use Rattle.board_core.specs.Time.{HasTime, devices_in};
@@ -43,12 +44,13 @@ use crate::hv::is_hv;
 use crate::processors::NO_PROCESSOR;
 use board_devices::{DeviceParts, Devices};
 use board_types::{
-    BoardParts, LAST_FORMAT, MOST_ACCESSES, ProcessorParts, SECOND_NS, has_messages, processors_of,
-    timers_of,
+    BoardParts, HvParts, LAST_FORMAT, MOST_ACCESSES, ProcessorParts, SECOND_NS, has_messages,
+    processors_of, timers_of,
 };
 use clk_units::{KHZ_MAX, KHZ_MIN, RANGE_NS};
 use host_counter::Anchor;
 use irq_edges::Lines;
+use lapic_timer::ApicParts;
 use local_apics::LocalApics;
 use pvclock_page::scale_of;
 use tick_policy::TickParts;
@@ -89,6 +91,86 @@ impl BoardState {
             apic_ticks,
             hv: self.hv,
         }
+    }
+
+    /// The greatest count of all accesses.
+    pub fn host(&self) -> u64
+        ensures { result ≡ self.now.host }
+    {
+        self.host
+    }
+
+    /// The fields of the devices. A caller learns here that all conditions on a board hold.
+    pub fn device_parts(&self) -> DeviceParts
+        ensures value { result ≡ devices_in self.now }
+        ensures valid { IsBoard self.now }
+    {
+        self.devices.parts()
+    }
+
+    /// The number written to MSR_KVM_WALL_CLOCK.
+    pub fn wall_number(&self) -> u64
+        ensures { result ≡ self.now.wall_number }
+    {
+        self.wall_number
+    }
+
+    /// The version of the wall clock's words.
+    pub fn wall_version(&self) -> u32
+        ensures { result ≡ self.now.wall_version }
+    {
+        self.wall_version
+    }
+
+    /// The seconds of the wall clock at power on.
+    pub fn wall_sec(&self) -> u32
+        ensures { result ≡ self.now.wall_sec }
+    {
+        self.wall_sec
+    }
+
+    /// Its nanoseconds at power on.
+    pub fn wall_nsec(&self) -> u32
+        ensures { result ≡ self.now.wall_nsec }
+    {
+        self.wall_nsec
+    }
+
+    /// The fields of the processors; places from `cpus` on hold 0.
+    pub fn processors(&self) -> &[ProcessorParts; 64]
+        ensures { result.now ≡ self.now.processors }
+    {
+        &self.processors
+    }
+
+    /// How often each line went up, in order of line numbers.
+    pub fn rises(&self) -> &[u64; 6]
+        ensures { result.now ≡ self.now.rises }
+    {
+        &self.rises
+    }
+
+    /// The fields of the timer of a processor's local APIC.
+    pub fn apic(&self, cpu: u8) -> ApicParts
+        requires { cpu < 64 }
+        ensures { result ≡ slice_index_or self.now.apic cpu no_timer }
+    {
+        self.apics.timer_parts(cpu)
+    }
+
+    /// The fields of its tick line.
+    pub fn apic_tick(&self, cpu: u8) -> TickParts
+        requires { cpu < 64 }
+        ensures { result ≡ slice_index_or self.now.apic_ticks cpu no_line }
+    {
+        self.apics.line_parts(cpu)
+    }
+
+    /// The fields of the reference page of Hyper-V.
+    pub fn hv(&self) -> &HvParts
+        ensures { result.now ≡ self.now.hv }
+    {
+        &self.hv
     }
 
     /// The board with these fields, or None exactly where a condition on them fails.
