@@ -1,5 +1,5 @@
 /* SPDX-License-Identifier: Apache-2.0 OR MIT
- * The guest, in 64-bit mode. Both processors read the clock by their pages until the fifth tick, look that it never falls, and
+ * The guest, in 64-bit mode. Both processors read the clock by their pages until the fifth tick, look that it goes on, and
  * leave what they read last. Their code is copied into the guest's memory: it calls nothing outside, and has no data. Built with
  * -mgeneral-regs-only -mno-red-zone -fno-stack-protector -fcf-protection=none. */
 #include "machine.h"
@@ -50,7 +50,7 @@ GUEST void guest_main(uint64_t processor, uint64_t halts) {
     }
     while (at32(WORDS) < TICKS) {
         uint64_t now = clock_by(page), hpet = at64(HPET + 0xf0);
-        fell |= now < clock || hpet < count;
+        fell |= now <= clock || hpet < count;
         clock = now, count = hpet;
         if (!paused && at32(WORDS) >= TICKS / 2) out(PAUSE_PORT, 0), paused = true;
         if (halts && processor == 0) __asm__ volatile("hlt" ::: "memory");

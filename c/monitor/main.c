@@ -115,7 +115,7 @@ static int run_guest(struct machine *m, bool halts) {
     int wrong = m->processors[0].result | m->processors[1].result;
     printf("%s: %u ticks, %u rises, %u ends of interrupts, %u messages%s\n", halts ? "halting" : "spinning",
            *(uint32_t *)(m->memory + WORDS), m->rises, m->ends, m->messages, wrong ? ", a clock fell or was ahead" : "");
-    return wrong | (m->messages == 0);
+    return wrong | (m->messages == 0 || m->ends == 0);
 }
 
 static void leave(int signal) { (void)signal; }

@@ -5,16 +5,21 @@ use Rattle.irq_edges.specs.Lines.{line_numbers}
 use Rattle.rtc_calendar.specs.Bytes.{spelt, is_spelt, has_digits}
 use Rattle.rtc_calendar.specs.Calendar.{month_length}
 use Rattle.host_counter.specs.declared.Anchor.{Anchor}
+use Rattle.tsc_scale.specs.Offset.{tsc_by}
+use Rattle.hv_page.specs.Time.{reference_time, units_of}
 use Rattle.board_types.specs.declared.access.TickSource.TheVariants.{Pit, Rtc, Hpet, Apic}
 use Rattle.board_types.specs.declared.reply.Value.TheVariants.{Byte, Wall}
 use Rattle.board_types.specs.declared.access.Access.TheVariants.{HpetRead, MsrWrite, PortOut, Refresh}
 use Rattle.board_types.specs.declared.parts.BoardParts.{BoardParts}
 use Rattle.clockboard_c.specs.declared.board.TheConstants.{SEAL}
-use Rattle.clockboard_c.specs.declared.code.TheConstants.{OK, OUT_OF_RANGE, SHARED, NOT_SHARED}
+use Rattle.clockboard_c.specs.declared.code.TheConstants.{OK, NOT_OURS, OUT_OF_RANGE, SHARED, NOT_SHARED}
 use Rattle.clockboard_c.specs.declared.power_on.SetupWords.{SetupWords}
+use Rattle.clockboard_c.specs.declared.shared.FiveWords.{FiveWords}
+use Rattle.clockboard_c.specs.declared.shared.RateWords.{RateWords}
+use Rattle.clockboard_c.specs.declared.shared.TheConstants.{RATES_SEAL}
 use Rattle.clockboard_c.specs.Kept.{CallerBoard}
 use Rattle.clockboard_c.specs.Call.{source_of, sealed, access_code, early_code, leaves_devices}
-use Rattle.clockboard_c.specs.Shared.{last_count, open_code, opened}
+use Rattle.clockboard_c.specs.Shared.{last_count, open_code, opened, hv_reading_code, hv_reading_told}
 use Rattle.clockboard_c.specs.States.{save_code}
 use Rattle.clockboard_c.specs.Calendar.{setup_at, setup_at_code}
 use Rattle.clockboard_c.specs.Look.{lines_word}
@@ -209,6 +214,10 @@ no_refresh : (s : BoardParts) → early_code (shared_by_threads s) 0 (Refresh 1)
 unfolding shared_by_threads
 no_refresh s = refl
 
+no_write_of_hyper_v_s_page : (s : BoardParts) → early_code (shared_by_threads s) 0 (MsrWrite 0x40000021 5) ≡ Some SHARED
+unfolding shared_by_threads
+no_write_of_hyper_v_s_page s = refl
+
 a_write_of_the_wall_clock : (s : BoardParts) → early_code (shared_by_threads s) 0 (MsrWrite 0x4b564d00 5) ≡ access_code s 0 (MsrWrite 0x4b564d00 5)
 unfolding shared_by_threads
 a_write_of_the_wall_clock s = refl
@@ -223,6 +232,30 @@ no_second_opening s = refl
 
 never_opened : (s : BoardParts) → open_code (sealed s) ≡ NOT_SHARED
 never_opened s = refl
+
+-- what threads are given of a board that counts alike with its host, and Hyper-V's page in words: half a
+-- unit a tick, 7 units at TSC 0
+alike : ℕ → RateWords
+alike format = record {
+  seal = RATES_SEAL;
+  host_start = 5;
+  host_last = 100;
+  ratio = 0x1000000000000;
+  greatest_ns = 0;
+  cpus = 1;
+  format = format;
+}
+
+half : FiveWords
+half = record { word = 2 ∷ 0x8000000000000000 ∷ 7 ∷ 0x1000000000000 ∷ 0 ∷ [] }
+
+seventeen_units : hv_reading_told (alike 4) half 20 ≡ 17
+unfolding alike half reference_time units_of tsc_by
+seventeen_units = refl
+
+no_units_in_format_3 : hv_reading_code (alike 3) half 20 ≡ NOT_OURS
+unfolding alike half
+no_units_in_format_3 = refl
 
 -- what leaves a next edge as it was, if no line changed on the way
 a_read_of_the_hpet : leaves_devices (HpetRead 0xf0 8) ≡ true

@@ -4,6 +4,7 @@ use Rattle.std.specs.Prelude.{
   ◌-◌,
   ◌==◌,
   ◌&&◌,
+  ◌||◌,
   nat_lt,
   Bool,
   true,
@@ -31,6 +32,7 @@ use Rattle.board_types.specs.declared.reply.Refusal.{Refusal}
 use Rattle.board_types.specs.Legal.{is_legal}
 use Rattle.board_core.specs.Time.{now_of}
 use Rattle.board_core.specs.Access.{edges_of, reply_of, after_access}
+use Rattle.board_core.specs.Hv.{publishes_hv}
 use Rattle.board_core.specs.Pages.{published_by}
 use Rattle.board_core.specs.Refusals.{refusal_of}
 use Rattle.clockboard_c.specs.declared.board.Board.{Board}
@@ -54,6 +56,10 @@ abbrev pub is_page : Option ℕ → Bool
 is_page (Some page) = true
 is_page None = false
 
+-- an access that publishes a page which threads share: a processor's, or Hyper-V's
+abbrev pub publishes : ℕ → Access → Bool
+publishes cpu a = is_page (published_by cpu a) || publishes_hv a
+
 -- why a board that has been made takes no such access
 abbrev pub access_code : BoardParts → ℕ → Access → Option ℕ
 access_code s cpu a =
@@ -65,7 +71,7 @@ access_code s cpu a =
 abbrev pub early_code : Board → ℕ → Access → Option ℕ
 early_code b cpu a =
     if b.seal == SEAL then
-    (if b.shared && is_page (published_by cpu a) then Some SHARED else access_code b.state cpu a)
+    (if b.shared && publishes cpu a then Some SHARED else access_code b.state cpu a)
     else Some NO_BOARD
 
 -- .. and where the caller puts that page's words for the threads

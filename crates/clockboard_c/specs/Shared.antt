@@ -9,13 +9,19 @@ use Rattle.pvclock_page.specs.declared.page.PageReply.{PageReply}
 use Rattle.pvclock_page.specs.declared.page.PageReply.TheVariants.{Off, On}
 use Rattle.pvclock_page.specs.Words.{words_of, page_of}
 use Rattle.pvclock_page.specs.Reading.{reading_of}
+use Rattle.hv_page.specs.declared.page.HvReply.{HvReply}
+use Rattle.hv_page.specs.declared.page.HvReply.TheVariants.{Off as HvOff, On as HvOn}
+use Rattle.hv_page.specs.Words.{as_page, of_page}
+use Rattle.hv_page.specs.Time.{reply}
 use Rattle.board_types.specs.declared.parts.BoardParts.{BoardParts}
+use Rattle.board_types.specs.declared.setup.TheConstants.{HV_FORMAT}
 use Rattle.board_core.specs.Time.{HasTime}
 use Rattle.board_core.specs.Tsc.{processor_at}
+use Rattle.board_core.specs.Hv.{hv_in}
 use Rattle.board_core.specs.Pages.{page_in, with_greatest}
 use Rattle.clockboard_c.specs.declared.board.Board.{Board}
 use Rattle.clockboard_c.specs.declared.board.TheConstants.{SEAL}
-use Rattle.clockboard_c.specs.declared.code.TheConstants.{OK, NO_BOARD, NO_PROCESSOR, BEFORE_START, OUT_OF_RANGE, PAGE_OFF, NOT_SHARED}
+use Rattle.clockboard_c.specs.declared.code.TheConstants.{OK, NO_BOARD, NO_PROCESSOR, BEFORE_START, OUT_OF_RANGE, PAGE_OFF, NOT_OURS, NOT_SHARED}
 use Rattle.clockboard_c.specs.declared.shared.RateWords.{RateWords}
 use Rattle.clockboard_c.specs.declared.shared.FiveWords.{FiveWords}
 use Rattle.clockboard_c.specs.declared.shared.TheConstants.{RATES_SEAL}
@@ -35,6 +41,7 @@ rates_of s = record {
   ratio = ratio_of s.guest_khz s.anchor.khz;
   greatest_ns = s.greatest;
   cpus = s.cpus;
+  format = s.format;
 }
 
 -- the counts of 64 bits from the first to the last one are those that have a time
@@ -78,6 +85,12 @@ reply_in ws ratio h =
     (reading_of (page_of ws.word) (tsc_by (page_of ws.word).offset h ratio))
     else Off
 
+-- whether a count has a time
+abbrev pub count_code : RateWords → ℕ → ℕ
+count_code r h =
+    if nat_lt h r.host_start then BEFORE_START
+    else (if nat_lt r.host_last h then OUT_OF_RANGE else OK)
+
 -- the code of such a reading, the causes in this order: no call has filled the rates; the count has no
 -- time; the page isn't enabled
 abbrev pub code_in : PageReply → ℕ
@@ -87,8 +100,7 @@ code_in (On page reading) = OK
 abbrev pub reading_code : RateWords → FiveWords → ℕ → ℕ
 reading_code r ws h =
     if r.seal == RATES_SEAL then
-    (if nat_lt h r.host_start then BEFORE_START
-    else (if nat_lt r.host_last h then OUT_OF_RANGE else code_in (reply_in ws r.ratio h)))
+    (if count_code r h == OK then code_in (reply_in ws r.ratio h) else count_code r h)
     else NO_BOARD
 
 abbrev pub reading_in : PageReply → ℕ
@@ -98,3 +110,40 @@ reading_in (On page reading) = reading
 abbrev pub reading_told : RateWords → FiveWords → ℕ → ℕ
 reading_told r ws h =
     if reading_code r ws h == OK then reading_in (reply_in ws r.ratio h) else 0
+
+-- the words of Hyper-V's reference page, which a board has from format 4 on, or what the memory held
+-- before
+abbrev pub hv_words_code : Board → ℕ
+hv_words_code b =
+    if open_code b == OK then (if nat_lt b.state.format HV_FORMAT then NOT_OURS else OK)
+    else open_code b
+
+abbrev pub hv_words_in_memory : Board → FiveWords → FiveWords
+hv_words_in_memory b before =
+    if hv_words_code b == OK then record { word = words_of (as_page (hv_in b.state.hv)) } else before
+
+-- what its words give at a count, by the ratio of the guest's rate to the host's
+abbrev pub hv_reply_in : FiveWords → ℕ → ℕ → HvReply
+hv_reply_in ws ratio h =
+    reply (of_page (page_of ws.word)) (tsc_by (of_page (page_of ws.word)).tsc_offset h ratio)
+
+-- the code of such a reading, the causes in this order: no call has filled the rates; the format has no
+-- such page; the count has no time; the page isn't enabled
+abbrev pub hv_code_in : HvReply → ℕ
+hv_code_in HvOff = PAGE_OFF
+hv_code_in (HvOn page reading) = OK
+
+abbrev pub hv_reading_code : RateWords → FiveWords → ℕ → ℕ
+hv_reading_code r ws h =
+    if r.seal == RATES_SEAL then
+    (if nat_lt r.format HV_FORMAT then NOT_OURS
+    else (if count_code r h == OK then hv_code_in (hv_reply_in ws r.ratio h) else count_code r h))
+    else NO_BOARD
+
+abbrev pub hv_reading_in : HvReply → ℕ
+hv_reading_in HvOff = 0
+hv_reading_in (HvOn page reading) = reading
+
+abbrev pub hv_reading_told : RateWords → FiveWords → ℕ → ℕ
+hv_reading_told r ws h =
+    if hv_reading_code r ws h == OK then hv_reading_in (hv_reply_in ws r.ratio h) else 0

@@ -1,12 +1,10 @@
 //! The time bytes of a setup: which are valid, and those of a time since 1970.
-ghost use Rattle.std.specs.Prelude.{◌≡◌, false};
-ghost use Rattle.rtc_calendar.specs.Bytes.{spelt, is_spelt};
-ghost use Rattle.rtc_calendar.specs.Calendar.{month_length};
+ghost use Rattle.std.specs.Prelude.{◌≡◌};
 ghost use Rattle.clockboard_c.specs.Calendar.{time_valid, setup_at_code, setup_at};
 
 use crate::code::{OK, OUT_OF_RANGE};
 use crate::power_on::SetupWords;
-use rtc_calendar::{Form, TimeBytes, after};
+use rtc_calendar::{Form, TimeBytes, after, is_spelt, month_length, spelt};
 
 /// How the bytes spell numbers at power on, as register B is 02h.
 const FORM: Form = Form {
@@ -53,45 +51,12 @@ pub extern "C" fn clockboard_setup_at(setup: &mut SetupWords, seconds: u64) -> u
 pub(crate) fn time_valid(time: TimeBytes) -> bool
     ensures { result ≡ time_valid time }
 {
-    is_decimal(0, 59, time.sec)
-        && is_decimal(0, 59, time.min)
-        && is_decimal(0, 23, time.hour)
-        && is_decimal(1, 7, time.wday)
-        && is_decimal(1, 12, time.month)
-        && is_decimal(0, 99, time.year)
-        && is_decimal(
-            1,
-            month_length(decimal(time.year), decimal(time.month)),
-            time.date,
-        )
-}
-
-/// The number that a byte spells, a decimal digit in each half.
-#[tactic(auto, unfolding(rtc_calendar::specs::Bytes::spelt))]
-fn decimal(byte: u8) -> u8
-    ensures { result ≡ spelt false byte }
-{
-    byte / 16 * 10 + byte % 16
-}
-
-/// Whether a byte spells a number of `low` to `high` by two decimal digits.
-#[tactic(auto, unfolding(rtc_calendar::specs::Bytes::is_spelt, rtc_calendar::specs::Bytes::has_digits))]
-fn is_decimal(low: u8, high: u8, byte: u8) -> bool
-    ensures { result ≡ is_spelt false low high byte }
-{
-    let number = decimal(byte);
-    byte / 16 <= 9 && byte % 16 <= 9 && low <= number && number <= high
-}
-
-/// How many days a month has; February has 29 in every fourth year, 00 included.
-#[tactic(auto, unfolding(rtc_calendar::specs::Calendar::month_length))]
-fn month_length(year: u8, month: u8) -> u8
-    ensures { result ≡ month_length year month }
-{
-    match month {
-        2 if year % 4 == 0 => 29,
-        2 => 28,
-        4 | 6 | 9 | 11 => 30,
-        _ => 31,
-    }
+    let days = month_length(spelt(false, time.year), spelt(false, time.month));
+    is_spelt(false, 0, 59, time.sec)
+        && is_spelt(false, 0, 59, time.min)
+        && is_spelt(false, 0, 23, time.hour)
+        && is_spelt(false, 1, 7, time.wday)
+        && is_spelt(false, 1, 12, time.month)
+        && is_spelt(false, 0, 99, time.year)
+        && is_spelt(false, 1, days, time.date)
 }

@@ -6,6 +6,7 @@ ghost use Rattle.clockboard_c.specs.Replies.{IsReply};
 ghost use Rattle.clockboard_c.specs.Call.{
   access_code,
   early_code,
+  publishes,
   shared_code,
   leaves_devices,
   is_none,
@@ -20,7 +21,7 @@ ghost use Rattle.clockboard_c.specs.Call.{
 use crate::board::{Board, SEAL};
 use crate::code::{NO_BOARD, NO_PROCESSOR, NOT_OURS, NOT_SHARED, SHARED, code_of};
 use crate::reply::ReplyWords;
-use board_core::{BoardState, published_by};
+use board_core::{BoardState, published_by, publishes_hv};
 use board_types::{Access, Reply};
 use irq_edges::EdgeList;
 
@@ -63,7 +64,7 @@ fn early_code(board: &Board, cpu: u8, access: Access) -> Option<u32>
     if board.seal != SEAL {
         return Some(NO_BOARD);
     }
-    if board.shared && published_by(cpu, access).is_some() {
+    if board.shared && publishes(cpu, access) {
         return Some(SHARED);
     }
     access_code(&board.state, cpu, access)
@@ -81,6 +82,14 @@ fn shared_code(board: &Board, cpu: u8, access: Access) -> Option<u32>
         return Some(NOT_SHARED);
     }
     access_code(&board.state, cpu, access)
+}
+
+/// Whether an access publishes a page that threads share: a processor's, or Hyper-V's.
+#[inline(always)]
+fn publishes(cpu: u8, access: Access) -> bool
+    ensures { result ≡ publishes cpu access }
+{
+    published_by(cpu, access).is_some() || publishes_hv(access)
 }
 
 /// Why a board takes no such access.

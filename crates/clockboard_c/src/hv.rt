@@ -62,12 +62,11 @@ fn hv_code(board: &Board) -> u32
 }
 
 /// The reference page of a board as plain numbers.
-#[inline(never)]
 fn hv_words(state: &BoardState) -> HvWords
     ensures { result ≡ hv_words state.now }
 {
     let page = state.hv_page();
-    let number = state.parts().hv.number;
+    let number = state.hv_number();
     HvWords {
         guest_address: number - number % PAGE_SIZE,
         enabled: if bit(0, number) { 1 } else { 0 },

@@ -50,8 +50,9 @@ pub use registers::{
 };
 pub use reply::{BurstWords, EdgeWords, ReplyWords};
 pub use shared::{
-    FiveWords, RateWords, clockboard_page_reading, clockboard_page_words, clockboard_share,
-    clockboard_share_msr_write, clockboard_share_refresh, clockboard_unshare,
+    FiveWords, RateWords, clockboard_hv_reading, clockboard_hv_words, clockboard_page_reading,
+    clockboard_page_words, clockboard_share, clockboard_share_msr_write, clockboard_share_refresh,
+    clockboard_unshare,
 };
 pub use states::{
     clockboard_load, clockboard_move, clockboard_reset, clockboard_save, clockboard_upgrade,

@@ -116,15 +116,16 @@ pub extern "C" fn clockboard_tsc(board: &Board, cpu: u8, tsc: &mut TscWords) -> 
 }
 
 /// The numbers of the TSC of a processor that is there.
-#[inline(never)]
 fn tsc_words(state: &BoardState, cpu: u8) -> TscWords
     requires { cpu < state.now.cpus }
     ensures { result ≡ tsc_words state.now cpu }
 {
-    let parts = state.parts();
+    // The call gives with the processors what joins the parts of a board.
+    let _ = state.cpus();
+    let khz = state.guest_khz();
     TscWords {
-        offset: parts.processors[cpu as usize].offset,
-        ratio: ratio(parts.guest_khz, parts.anchor.khz),
-        khz: parts.guest_khz,
+        offset: state.tsc(cpu).offset,
+        ratio: ratio(khz, state.anchor().khz),
+        khz,
     }
 }

@@ -50,13 +50,12 @@ pub extern "C" fn clockboard_page(board: &Board, cpu: u8, page: &mut PageWords) 
 }
 
 /// The page of a processor that is there.
-#[inline(never)]
 fn page_words(state: &BoardState, cpu: u8) -> PageWords
     requires { cpu < state.now.cpus }
     ensures { result ≡ page_words state.now cpu }
 {
     let page = state.page(cpu);
-    let number = state.parts().processors[cpu as usize].number;
+    let number = state.page_number(cpu);
     PageWords {
         guest_address: number - number % 2,
         enabled: if page.enabled { 1 } else { 0 },

@@ -4,6 +4,7 @@ ghost use Rattle.std.specs.Prelude.{◌≡◌, ℕ};
 ghost use Rattle.clk_units.specs.Ranges.{IsKhz};
 ghost use Rattle.board_types.specs.declared.access.Access.TheVariants.{MsrWrite, Refresh};
 ghost use Rattle.tsc_scale.specs.Ratio.{ratio_of};
+ghost use Rattle.board_core.specs.Hv.{hv_reply};
 ghost use Rattle.board_core.specs.Pages.{page_reply};
 ghost use Rattle.clockboard_c.specs.Replies.{IsReply};
 ghost use Rattle.clockboard_c.specs.Call.{shared_told, shared_behind};
@@ -19,25 +20,34 @@ ghost use Rattle.clockboard_c.specs.Shared.{
   words_code,
   words_in_memory,
   reply_in,
+  count_code,
   reading_code,
   reading_told,
+  hv_words_code,
+  hv_words_in_memory,
+  hv_reply_in,
+  hv_reading_code,
+  hv_reading_told,
 };
 
 use crate::board::{Board, SEAL};
 use crate::call::shared_call;
-use crate::code::{BEFORE_START, NO_BOARD, NO_PROCESSOR, NOT_SHARED, OK, OUT_OF_RANGE, PAGE_OFF};
+use crate::code::{
+    BEFORE_START, NO_BOARD, NO_PROCESSOR, NOT_OURS, NOT_SHARED, OK, OUT_OF_RANGE, PAGE_OFF,
+};
 use crate::reply::ReplyWords;
 use crate::states::whole_code;
 use crate::timer::count_within;
 use board_core::BoardState;
-use board_types::Access;
+use board_types::{Access, HV_FORMAT};
 use clk_units::RANGE_NS;
 use host_counter::Anchor;
+use hv_page::{HvReply, as_page, of_page, reply};
 use pvclock_page::{page_words, reading, words_page};
 use tsc_scale::{ratio, tsc_by};
 
 /// What the first word of `RateWords` holds that a call has filled: 'CLKBRDS' and the digit of `ABI`.
-pub(crate) const RATES_SEAL: u64 = 0x3453_4452_424b_4c43;
+pub(crate) const RATES_SEAL: u64 = 0x3553_4452_424b_4c43;
 
 /// What no access changes of a board, `struct clockboard_rates` of shared.h.
 #[derive(Clone, Copy)]
@@ -54,9 +64,11 @@ pub struct RateWords {
     pub greatest_ns: u64,
     /// How many processors there are.
     pub cpus: u64,
+    /// The format.
+    pub format: u64,
 }
 
-/// A page as five words: version, TSC, time, scale, offset.
+/// A page as five words: version, TSC, time, scale, offset. Hyper-V's reference page is kept in the words of such a page.
 #[derive(Clone, Copy)]
 #[repr(C)]
 pub struct FiveWords {
@@ -82,20 +94,20 @@ pub extern "C" fn clockboard_share(board: &mut Board, rates: &mut RateWords) -> 
 }
 
 /// What no access changes of a board.
-#[inline(never)]
 fn rates_of(state: &BoardState) -> RateWords
     ensures value { result ≡ rates_of state.now }
     ensures times { AreTimes state.now.anchor result.host_start result.host_last }
 {
-    let parts = state.parts();
-    let anchor = parts.anchor;
+    let cpus = state.cpus();
+    let anchor = state.anchor();
     RateWords {
         seal: RATES_SEAL,
         host_start: anchor.start,
         host_last: last_count(&anchor),
-        ratio: ratio(parts.guest_khz, anchor.khz),
-        greatest_ns: parts.greatest,
-        cpus: u64::from(parts.cpus),
+        ratio: ratio(state.guest_khz(), anchor.khz),
+        greatest_ns: state.greatest(),
+        cpus: u64::from(cpus),
+        format: u64::from(state.format()),
     }
 }
 
@@ -176,11 +188,9 @@ pub extern "C" fn clockboard_page_reading(
     if rates.seal != RATES_SEAL {
         return NO_BOARD;
     }
-    if host < rates.host_start {
-        return BEFORE_START;
-    }
-    if host > rates.host_last {
-        return OUT_OF_RANGE;
+    let code = count_code(rates, host);
+    if code != OK {
+        return code;
     }
     let page = words_page(&words.word);
     if !page.enabled {
@@ -190,7 +200,75 @@ pub extern "C" fn clockboard_page_reading(
     OK
 }
 
-/// A write to an MSR of a board that is open for sharing; the caller puts the words of the processor's page.
+/// Whether a count has a time.
+#[inline(always)]
+fn count_code(rates: &RateWords, host: u64) -> u32
+    ensures { result ≡ count_code rates.now host }
+{
+    if host < rates.host_start {
+        BEFORE_START
+    } else if host > rates.host_last {
+        OUT_OF_RANGE
+    } else {
+        OK
+    }
+}
+
+/// Hyper-V's reference page as words. After a code other than `OK` the memory stays as it is.
+#[unsafe(no_mangle)]
+#[tactic(auto, unfolding(board_core::specs::Hv::hv_reply))]
+pub extern "C" fn clockboard_hv_words(board: &Board, words: &mut FiveWords) -> u32
+    ensures code { result ≡ hv_words_code board.now }
+    ensures words { words.new ≡ hv_words_in_memory board.now words.old }
+    // At each count the words give what the board's page gives.
+    ensures gives { result ≡ OK → (h : ℕ) →
+        hv_reply_in words.new (ratio_of board.now.state.guest_khz board.now.state.anchor.khz) h
+        ≡ hv_reply board.now.state h }
+{
+    let code = open_code(board);
+    if code != OK {
+        return code;
+    }
+    if board.state.format() < HV_FORMAT {
+        return NOT_OURS;
+    }
+    words.word = page_words(&as_page(&board.state.hv_page()));
+    OK
+}
+
+/// The time that a reference page of these words gives at count `host`, in units of 100 ns; 0 after a code other than `OK`.
+#[unsafe(no_mangle)]
+pub extern "C" fn clockboard_hv_reading(
+    rates: &RateWords,
+    words: &FiveWords,
+    host: u64,
+    reading: &mut u64,
+) -> u32
+    ensures code { result ≡ hv_reading_code rates.now words.now host }
+    ensures reading { reading.new ≡ hv_reading_told rates.now words.now host }
+{
+    *reading = 0;
+    if rates.seal != RATES_SEAL {
+        return NO_BOARD;
+    }
+    if rates.format < u64::from(HV_FORMAT) {
+        return NOT_OURS;
+    }
+    let code = count_code(rates, host);
+    if code != OK {
+        return code;
+    }
+    let page = of_page(&words_page(&words.word));
+    match reply(&page, tsc_by(page.tsc_offset, host, rates.ratio)) {
+        HvReply::On { reading: time, .. } => {
+            *reading = time;
+            OK
+        }
+        HvReply::Off => PAGE_OFF,
+    }
+}
+
+/// A write to an MSR of a board that is open for sharing; the caller puts the words of the page that it publishes.
 #[unsafe(no_mangle)]
 pub extern "C" fn clockboard_share_msr_write(
     board: &mut Board,

@@ -8,7 +8,7 @@ use core::fmt;
 
 /// A board: the time hardware of one guest.
 #[derive(Clone)]
-pub struct Board(ffi::Board);
+pub struct Board(pub(crate) ffi::Board);
 
 impl fmt::Debug for Board {
     /// A board's bytes are the library's; its saved state has its fields.
@@ -261,7 +261,10 @@ impl Board {
     }
 
     /// A call that fills a reply.
-    fn call(&mut self, f: impl FnOnce(&mut ffi::Board, &mut ffi::Reply)) -> Result<Reply, Error> {
+    pub(crate) fn call(
+        &mut self,
+        f: impl FnOnce(&mut ffi::Board, &mut ffi::Reply),
+    ) -> Result<Reply, Error> {
         let mut reply = ffi::Reply::empty();
         f(&mut self.0, &mut reply);
         match reply.answer {

@@ -40,6 +40,10 @@ pub enum Error {
     BadFormat,
     /// The guest hasn't enabled the page.
     PageOff,
+    /// Threads share the board's pages: it must be closed first, or the call is one of [`Pages`](crate::Pages).
+    Shared,
+    /// Threads don't share the board's pages.
+    NotShared,
     /// A code that this crate doesn't know: the archive is of another version.
     Unknown(u32),
 }
@@ -82,7 +86,19 @@ impl Error {
             12 => Error::BadRate,
             13 => Error::BadFormat,
             14 => Error::PageOff,
+            17 => Error::Shared,
+            18 => Error::NotShared,
             code => Error::Unknown(code),
+        }
+    }
+}
+
+impl Error {
+    /// Nothing after code 0, and else the error of a call that fills no reply.
+    pub(crate) fn unless_ok(code: u32) -> Result<(), Error> {
+        match code {
+            0 => Ok(()),
+            code => Err(Error::of_code(code, [0; 4])),
         }
     }
 }
@@ -119,6 +135,8 @@ impl fmt::Display for Error {
             Error::BadRate => f.write_str("the host's rate is out of range"),
             Error::BadFormat => f.write_str("the board can't be of that format"),
             Error::PageOff => f.write_str("the guest hasn't enabled the page"),
+            Error::Shared => f.write_str("threads share the board"),
+            Error::NotShared => f.write_str("threads don't share the board"),
             Error::Unknown(code) => write!(f, "the archive answers code {code}"),
         }
     }

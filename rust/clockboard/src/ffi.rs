@@ -2,7 +2,7 @@
 //! The calls of the archive, as `c/clockboard.h` declares them.
 
 /// `CLOCKBOARD_ABI` of the header.
-pub const ABI: u32 = 4;
+pub const ABI: u32 = 5;
 
 /// `CLOCKBOARD_SIZE` of the header.
 pub const SIZE: usize = 9_320;
@@ -122,6 +122,26 @@ pub struct HvPage {
     pub bytes: [u8; 24],
 }
 
+/// `struct clockboard_rates` of shared.h.
+#[derive(Default)]
+#[repr(C)]
+pub struct Rates {
+    pub seal: u64,
+    pub host_start: u64,
+    pub host_last: u64,
+    pub ratio: u64,
+    pub greatest_ns: u64,
+    pub cpus: u64,
+    pub format: u64,
+}
+
+/// `struct clockboard_words` of shared.h.
+#[derive(Default)]
+#[repr(C)]
+pub struct Words {
+    pub word: [u64; 5],
+}
+
 extern "C" {
     pub fn clockboard_abi() -> u32;
     pub fn clockboard_size() -> usize;
@@ -203,4 +223,35 @@ extern "C" {
     pub fn clockboard_move(board: *mut Board, khz: u64, start: u64, gap_ns: u64, reply: *mut Reply);
     pub fn clockboard_reset(board: *mut Board, reply: *mut Reply);
     pub fn clockboard_upgrade(board: *mut Board, format: u8) -> u32;
+    pub fn clockboard_share(board: *mut Board, rates: *mut Rates) -> u32;
+    pub fn clockboard_unshare(board: *mut Board, greatest_ns: u64) -> u32;
+    pub fn clockboard_page_words(board: *const Board, cpu: u8, words: *mut Words) -> u32;
+    pub fn clockboard_page_reading(
+        rates: *const Rates,
+        words: *const Words,
+        host: u64,
+        reading_ns: *mut u64,
+    ) -> u32;
+    pub fn clockboard_hv_words(board: *const Board, words: *mut Words) -> u32;
+    pub fn clockboard_hv_reading(
+        rates: *const Rates,
+        words: *const Words,
+        host: u64,
+        reading: *mut u64,
+    ) -> u32;
+    pub fn clockboard_share_msr_write(
+        board: *mut Board,
+        cpu: u8,
+        host: u64,
+        msr: u32,
+        value: u64,
+        reply: *mut Reply,
+    );
+    pub fn clockboard_share_refresh(
+        board: *mut Board,
+        cpu: u8,
+        host: u64,
+        page: u8,
+        reply: *mut Reply,
+    );
 }

@@ -15,7 +15,7 @@
 //! ```
 //!
 //! A [`Board`] holds no pointer and no lock: it is moved and copied as any value, and a monitor with several threads keeps
-//! it behind a lock of its own. The crate takes no memory but in [`Board::save`], where the library takes some by the C
+//! it behind a lock of its own. Clocks are read without that lock by its [`Pages`]. The crate takes no memory but in [`Board::save`], where the library takes some by the C
 //! library's `malloc` and gives it back.
 #![no_std]
 #![warn(missing_docs)]
@@ -25,8 +25,10 @@ mod board;
 mod error;
 mod ffi;
 mod reply;
+mod shared;
 
 pub use access::{Access, Policy, Setup, TickSource};
 pub use board::Board;
 pub use error::{Error, StateFault};
 pub use reply::{Burst, Clock, Counts, Edge, HvPage, Page, Reply, Tsc, View, Wall};
+pub use shared::Pages;
