@@ -1,8 +1,12 @@
 //! The alarm: which updates it matches.
 ghost use Rattle.std.specs.Prelude.{◌≡◌, ◌<◌, ◌≤◌, IsTrue};
 ghost use Rattle.clk_units.specs.Events.{IsFirst};
+ghost use Rattle.rtc_calendar.specs.declared.TimeBytes.{TimeBytes};
+ghost use Rattle.rtc_calendar.specs.Calendar.{IsMoment};
+ghost use Rattle.rtc_calendar.specs.Updates.{moment_of};
 ghost use Rattle.rtc_calendar.specs.Alarms.{fits_byte, is_match, IsDontCare, matches_in};
 
+use crate::calendar::Moment;
 use crate::stretch::second_of_day;
 use crate::updates::moment_of;
 use crate::wanted::{ANYTHING, next_second, wanted_time};
@@ -39,7 +43,16 @@ pub fn first_match(bytes: TimeBytes, form: Form, alarm: Alarm, n: u64) -> Option
     if n == 0 {
         return None;
     }
-    let start = second_of_day(moment_of(bytes, form)) + 1;
+    match_after(moment_of(bytes, form), form, alarm, n)
+}
+
+/// The same from the moment that the bytes stand for.
+pub(crate) fn match_after(m: Moment, form: Form, alarm: Alarm, n: u64) -> Option<u64>
+    requires { IsMoment m }
+    ensures { (bytes : TimeBytes) → m ≡ moment_of form bytes
+        → IsFirst (matches_in form alarm bytes) n result }
+{
+    let start = second_of_day(m) + 1;
     let next = next_second(wanted_time(form, alarm), start)?;
     let update = next - start + 1;
     if update <= n { Some(update) } else { None }

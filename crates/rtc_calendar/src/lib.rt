@@ -14,6 +14,7 @@
 mod alarms;
 mod bytes;
 mod calendar;
+mod passing;
 mod stretch;
 mod updates;
 mod wanted;
@@ -21,6 +22,7 @@ mod wanted;
 pub use alarms::{first_match, matches};
 pub use bytes::{is_spelt, spelt};
 pub use calendar::month_length;
+pub use passing::{Elapsed, let_pass};
 pub use updates::after;
 
 /// The seven time bytes, as the clock's registers 0, 2, 4 and 6 to 9 hold them: seconds, minutes, hours, day

@@ -119,13 +119,33 @@ fn moment_at(second: u64, day: u64, weekday: u8) -> Moment
     }
 }
 
-/// The moment `n` seconds later.
+/// The moment at another second of the same day.
+fn at_second(m: Moment, second: u64) -> Moment
+    requires moment { IsMoment m }
+    requires in_day { second < 86400 }
+    ensures valid { IsMoment result }
+    ensures second { second_of_day result ≡ second }
+    ensures day { day_number result ≡ day_number m }
+    ensures weekday { result.weekday ≡ m.weekday }
+{
+    Moment {
+        second: (second % MINUTE) as u8,
+        minute: (second / MINUTE % 60) as u8,
+        hour: (second / HOUR) as u8,
+        ..m
+    }
+}
+
+/// The moment `n` seconds later. Where the day stays, the date isn't asked.
 pub(crate) fn later(m: Moment, n: u64) -> Moment
     requires { IsMoment m }
     ensures { result ≡ next_seconds n m }
 {
     let seconds = second_of_day(m) + n % DAY;
     let days = n / DAY + seconds / DAY;
+    if days == 0 {
+        return at_second(m, seconds);
+    }
     let day = (day_number(m) + days) % CENTURY_DAYS;
     let weekday = (u64::from(m.weekday - 1) + days) % 7 + 1;
     moment_at(seconds % DAY, day, weekday as u8)

@@ -69,6 +69,16 @@ impl Divider {
         }
     }
 
+    /// The device with these fields, of which it is known that they are a divider's: for a caller that keeps them
+    /// in a record of its own. No condition is looked at again.
+    #[inline]
+    pub fn of_valid_parts(parts: DividerParts) -> Divider
+        requires { IsDivider parts }
+        ensures { result ≡ parts }
+    {
+        Divider { parts }
+    }
+
     /// Writes the bits DV of register A. 010 lets the divider run; any other value holds it in the middle of
     /// a second, with no update cycle in progress (own below 110).
     pub fn dv(&mut self, dv: u8)

@@ -62,6 +62,12 @@ pub same-bytes : (bs : List ℕ) → 14 ≤ length bs → set (with_time (time_i
 unfolding with_time
 same-bytes bs h = fourteen (λ xs. set (with_time (time_in xs) xs) 12 (get_or xs 12 0) ≡ xs) (λ b0 b1 b2 b3 b4 b5 b6 b7 b8 b9 b10 b11 b12 b13 rest. refl) bs h
 
+-- the time written as it is
+pub same-time : (flags : ℕ) (bs : List ℕ) → 14 ≤ length bs → set (with_time (time_in bs) bs) 12 flags ≡ set bs 12 flags
+unfolding with_time
+same-time flags bs h = fourteen (λ xs. set (with_time (time_in xs) xs) 12 flags ≡ set xs 12 flags)
+    (λ b0 b1 b2 b3 b4 b5 b6 b7 b8 b9 b10 b11 b12 b13 rest. refl) bs h
+
 -- which byte is where, once register C is written
 pub record Flagged (flags : ℕ) (bs : List ℕ) : Type 0 where
   pub time : time_in (set bs 12 flags) ≡ time_in bs

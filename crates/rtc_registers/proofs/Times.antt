@@ -1,5 +1,5 @@
 -- A stretch of pulses at once: the divider, the time and the flags each go their own way.
-use Rattle.std.proofs.Common.{◌≡◌, ℕ, zero, suc, ◌+◌, ◌-◌, ◌*◌, ◌≤◌, Bool, true, false, ◌&&◌, ◌||◌, cond}
+use Rattle.std.proofs.Common.{◌≡◌, ℕ, zero, suc, ◌+◌, ◌-◌, ◌*◌, ◌<◌, ◌≤◌, Bool, true, false, ◌&&◌, ◌||◌, cond}
 use Rattle.std.proofs.Common.{ltb, List, length, set, Option, Some, None, refl, sym, ap, subst, ◌∙◌, arith}
 use Rattle.std.proofs.Math.Bool.{or-false, or-true}
 use Rattle.std.proofs.lemmas.Bool.{lt-ltb, le-ltb, both_ways}
@@ -21,11 +21,12 @@ use Rattle.rtc_registers.specs.declared.parts.RtcParts.{RtcParts}
 use Rattle.clk_units.specs.Bits.{bit}
 use Rattle.rtc_registers.specs.Registers.{set_of, register_b, register_c, flags_byte, pf_of, af_of, uf_of}
 use Rattle.rtc_registers.specs.Registers.{divider_of, form_of, time_of, alarm_of, with_time}
+use Rattle.rtc_registers.specs.Access.{flagged}
 use Rattle.rtc_registers.specs.Parts.{IsRtc}
 use Rattle.rtc_registers.specs.Pulses.{moved, time_next, flags_next, alarms_next, rtc_pulsed}
 use Rattle.rtc_registers.specs.Pulses.{rtc_pulsed_times, alarms_in}
 use Rattle.rtc_registers.specs.private.Stretch.{second_apart}
-use Rattle.rtc_registers.proofs.Bytes.{Moved, moved-bytes, flags_byte-read, same-bytes, bit-pf, bit-af}
+use Rattle.rtc_registers.proofs.Bytes.{Moved, moved-bytes, flags_byte-read, same-bytes, same-time, bit-pf, bit-af}
 use Rattle.rtc_registers.proofs.Bytes.{bit-uf}
 
 same_clock : (c : DividerParts) (dv rs : ℕ) (on : Bool) → c.dv ≡ dv → c.rs ≡ rs → c.set ≡ on → record c { dv = dv; rs = rs; set = on } ≡ c
@@ -322,6 +323,27 @@ rtc_pulsed_times-no_event n r valid c divider no_tick no_update =
     moved-quiet c r (omega (arith, valid.places))
     ∙ moved-is n r valid c (time_of r) (register_c r) divider (ap (λ (u : ℕ). updated_times (form_of r) u (time_of r)) (sym no_update))
     (sym (flags_in-no_event n r valid no_tick no_update))
+
+-- without an update, but with a tick, it and PF do
+ticked-flags : (n : ℕ) (r : RtcParts) → IsRtc r → 0 < ticks_in (divider_of r) n → updates_in (divider_of r) n ≡ 0
+    → flags_byte true (af_of r) (uf_of r) ≡ flags_in r n
+ticked-flags n r valid ticks no_update =
+    let no_alarm : alarms_in r n ≡ 0 = alarms_in-no_update n r valid no_update in
+    rw (no_alarm, no_update, lt-ltb 0 (ticks_in (divider_of r) n) ticks, or-true (pf_of r), or-false (af_of r), or-false (uf_of r)) refl
+
+moved-flag : (c : DividerParts) (r : RtcParts) → 14 ≤ length r.bytes
+    → record (flagged r) { d = c.d; cycle = c.cycle } ≡ moved c (time_of r) (flags_byte true (af_of r) (uf_of r)) r
+unfolding moved flagged
+moved-flag c r h = ap (λ (bs : List ℕ). let p : RtcParts =
+    record { index = r.index; bytes = bs; d = c.d; cycle = c.cycle } in p) (sym (same-time (flags_byte true (af_of r) (uf_of r)) r.bytes h))
+
+pub rtc_pulsed_times-ticked : (n : ℕ) (r : RtcParts) → IsRtc r → (c : DividerParts) → c ≡ pulsed_times n (divider_of r)
+    → 0 < ticks_in (divider_of r) n → updates_in (divider_of r) n ≡ 0
+    → record (flagged r) { d = c.d; cycle = c.cycle } ≡ rtc_pulsed_times n r
+rtc_pulsed_times-ticked n r valid c divider ticks no_update =
+    moved-flag c r (omega (arith, valid.places))
+    ∙ moved-is n r valid c (time_of r) (flags_byte true (af_of r) (uf_of r)) divider
+    (ap (λ (u : ℕ). updated_times (form_of r) u (time_of r)) (sym no_update)) (ticked-flags n r valid ticks no_update)
 
 -- without an update the time stays ..
 pub time_of-no_update : (n : ℕ) (r : RtcParts) → IsRtc r → updates_in (divider_of r) n ≡ 0 → time_of (rtc_pulsed_times n r) ≡ time_of r

@@ -110,10 +110,7 @@ pub(crate) fn divider(r: &RtcParts) -> Divider
     requires { IsRtc r.now }
     ensures { result ≡ divider_of r.now }
 {
-    match Divider::of_parts(divider_of(r)) {
-        Some(divider) => divider,
-        None => unreachable!(),
-    }
+    Divider::of_valid_parts(divider_of(r))
 }
 
 /// The form of the time bytes.

@@ -6,17 +6,18 @@ ghost use Rattle.clk_units.specs.Events.{IsFirst};
 ghost use Rattle.rtc_calendar.specs.Updates.{updated_times};
 ghost use Rattle.rtc_calendar.specs.Alarms.{matches_in};
 ghost use Rattle.rtc_cycle.specs.Divider.{ticks_in, updates_in};
+ghost use Rattle.rtc_registers.specs.Access.{flagged};
 ghost use Rattle.rtc_registers.specs.Parts.{IsRtc};
 ghost use Rattle.rtc_registers.specs.Pulses.{moved, rtc_pulsed_times, alarms_in};
 ghost use Rattle.rtc_registers.specs.Registers.{pf_of, af_of, uf_of, flags_byte, divider_of};
 ghost use Rattle.rtc_registers.specs.Registers.{form_of, time_of, alarm_of};
 ghost use Rattle.rtc_registers.specs.private.Stretch.{second_apart, flags_behind};
 
-use crate::RTC_HZ;
 use crate::events::RtcEvents;
 use crate::parts::RtcParts;
 use crate::registers::{self, ALARM, PERIODIC, REGISTER_C, UPDATE_ENDED};
-use rtc_calendar::{TimeBytes, after, first_match};
+use crate::{RTC_HZ, access};
+use rtc_calendar::{TimeBytes, let_pass};
 use rtc_cycle::{CycleEvents, DividerParts};
 
 /// The divider moves on, and nothing else changes.
@@ -60,10 +61,10 @@ fn take_events(r: &mut RtcParts, divider: DividerParts, cycle: &CycleEvents) -> 
 {
     let time = registers::time_of(r);
     let form = registers::form_of(r);
-    let matched = first_match(time, form, registers::alarm_of(r), cycle.updates);
-    let flags = flags_after(r, cycle, matched.is_some());
-    replace(r, divider, after(time, form, cycle.updates), flags);
-    matched
+    let elapsed = let_pass(time, form, registers::alarm_of(r), cycle.updates);
+    let flags = flags_after(r, cycle, elapsed.matched.is_some());
+    replace(r, divider, elapsed.bytes, flags);
+    elapsed.matched
 }
 
 /// The pulse of the update numbered `matched`, where the first one comes at pulse `first`.
@@ -81,7 +82,15 @@ fn update_pulse(first: Option<u64>, matched: Option<u64>) -> Option<u64>
     }
 }
 
-/// Lets `n` pulses pass. Where no event falls the divider alone moves.
+/// The divider moves on, and a tick sets PF.
+fn take_ticks(r: &mut RtcParts, divider: DividerParts)
+    ensures { r.new ≡ record (flagged r.old) { d = divider.d; cycle = divider.cycle } }
+{
+    access::set_pf(r);
+    move_divider(r, divider);
+}
+
+/// Lets `n` pulses pass. Where no event falls the divider alone moves, and where no update does it and PF.
 pub(crate) fn pass(r: &mut RtcParts, n: u64) -> RtcEvents
     requires { IsRtc r.old }
     ensures state { r.new ≡ rtc_pulsed_times n r.old }
@@ -98,17 +107,20 @@ pub(crate) fn pass(r: &mut RtcParts, n: u64) -> RtcEvents
     }
     let mut divider = registers::divider(r);
     let cycle = divider.pulses(n);
-    if cycle.ticks == 0 && cycle.updates == 0 {
-        move_divider(r, divider.parts());
-        RtcEvents {
-            cycle,
-            first_alarm: None,
-        }
-    } else {
+    if cycle.updates > 0 {
         let matched = take_events(r, divider.parts(), &cycle);
-        RtcEvents {
+        return RtcEvents {
             cycle,
             first_alarm: update_pulse(cycle.first_update, matched),
-        }
+        };
+    }
+    if cycle.ticks > 0 {
+        take_ticks(r, divider.parts());
+    } else {
+        move_divider(r, divider.parts());
+    }
+    RtcEvents {
+        cycle,
+        first_alarm: None,
     }
 }

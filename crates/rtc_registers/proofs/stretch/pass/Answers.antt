@@ -1,4 +1,4 @@
-use Rattle.std.proofs.Common.{◌≡◌, ◌+◌, ◌-◌, ◌*◌, ◌≤◌, Some, ap, sym, ◌∙◌, arith}
+use Rattle.std.proofs.Common.{◌≡◌, ◌+◌, ◌-◌, ◌*◌, ◌≤◌, Some, ap, ◌∙◌, arith}
 use Rattle.clk_units.specs.Events.{IsFirst}
 use Rattle.rtc_calendar.specs.Updates.{updated_times}
 use Rattle.rtc_calendar.specs.Alarms.{matches_in}
@@ -8,7 +8,7 @@ use Rattle.rtc_cycle.proofs.Times.{updates_in-apart}
 use Rattle.rtc_registers.specs.declared.parts.RtcParts.{RtcParts}
 use Rattle.rtc_registers.specs.Registers.{divider_of, form_of, time_of, alarm_of}
 use Rattle.rtc_registers.proofs.Times.{moved-is, flags_in-is, is_some-match, IsFirst-alarms_in}
-use Rattle.rtc_registers.proofs.Times.{rtc_pulsed_times-no_event, alarms_in-no_update}
+use Rattle.rtc_registers.proofs.Times.{rtc_pulsed_times-no_event, rtc_pulsed_times-ticked, alarms_in-no_update}
 use Rattle.rtc_registers.proofs.stretch.pass.Goals as goal
 
 pub update_pulse-requires : goal.update_pulse-requires
@@ -24,29 +24,11 @@ update_pulse-requires c = λ f k is_f is_k.
     updates_in-apart (divider_of r) c.requires.divider c.args.n f k first match.0 (omega (arith, match.1, updates)) in
     (match.0, omega (arith, apart.0, c.ranges.n.fits))
 
-pub returns-then-cycle-eq0-2-clause-state : goal.returns-then-cycle-eq0-2-clause-state
-returns-then-cycle-eq0-2-clause-state c =
+pub returns-then-cycle-gt0-clause-state : goal.returns-then-cycle-gt0-clause-state
+returns-then-cycle-gt0-clause-state c =
     let r : RtcParts = c.args.r.now in
     let divider : c.parts.result ≡ pulsed_times c.args.n (divider_of r) =
     c.parts.ensures.value ∙ c.pulses-cycle.ensures.state ∙ ap (pulsed_times c.args.n) c.divider-divider.ensures in
-    let ticks : ticks_in (divider_of r) c.args.n ≡ 0 =
-    sym (c.pulses-cycle.ensures.ticks ∙ ap (λ (d : DividerParts). ticks_in d c.args.n) c.divider-divider.ensures) ∙ c.if-cycle-eq0.true in
-    let updates : updates_in (divider_of r) c.args.n ≡ 0 =
-    sym (c.pulses-cycle.ensures.updates ∙ ap (λ (d : DividerParts). updates_in d c.args.n) c.divider-divider.ensures) ∙ c.if-cycle-eq0-2.true in
-    c.move_divider.ensures ∙ rtc_pulsed_times-no_event c.args.n r c.requires c.parts.result divider ticks updates
-
-pub returns-then-cycle-eq0-2-clause-first_alarm : goal.returns-then-cycle-eq0-2-clause-first_alarm
-returns-then-cycle-eq0-2-clause-first_alarm c =
-    let r : RtcParts = c.args.r.now in
-    let updates : updates_in (divider_of r) c.args.n ≡ 0 =
-    sym (c.pulses-cycle.ensures.updates ∙ ap (λ (d : DividerParts). updates_in d c.args.n) c.divider-divider.ensures) ∙ c.if-cycle-eq0-2.true in
-    alarms_in-no_update c.args.n r c.requires updates
-
-pub returns-else-cycle-eq0-clause-state : goal.returns-else-cycle-eq0-clause-state
-returns-else-cycle-eq0-clause-state c =
-    let r : RtcParts = c.args.r.now in
-    let divider : c.parts-else-cycle-eq0.result ≡ pulsed_times c.args.n (divider_of r) =
-    c.parts-else-cycle-eq0.ensures.value ∙ c.pulses-cycle.ensures.state ∙ ap (pulsed_times c.args.n) c.divider-divider.ensures in
     let ticks : c.pulses-cycle.result.ticks ≡ ticks_in (divider_of r) c.args.n =
     c.pulses-cycle.ensures.ticks ∙ ap (λ (d : DividerParts). ticks_in d c.args.n) c.divider-divider.ensures in
     let updates : c.pulses-cycle.result.updates ≡ updates_in (divider_of r) c.args.n =
@@ -57,8 +39,8 @@ returns-else-cycle-eq0-clause-state c =
     ∙ moved-is c.args.n r c.requires _ _ _ divider (ap (λ u. updated_times (form_of r) u (time_of r)) updates)
     (flags_in-is c.args.n r _ _ _ ticks (is_some-match c.args.n r c.requires c.take_events-matched.result match) updates)
 
-pub returns-else-cycle-eq0-clause-first_alarm : goal.returns-else-cycle-eq0-clause-first_alarm
-returns-else-cycle-eq0-clause-first_alarm c =
+pub returns-then-cycle-gt0-clause-first_alarm : goal.returns-then-cycle-gt0-clause-first_alarm
+returns-then-cycle-gt0-clause-first_alarm c =
     let r : RtcParts = c.args.r.now in
     let updates : c.pulses-cycle.result.updates ≡ updates_in (divider_of r) c.args.n =
     c.pulses-cycle.ensures.updates ∙ ap (λ (d : DividerParts). updates_in d c.args.n) c.divider-divider.ensures in
@@ -67,3 +49,43 @@ returns-else-cycle-eq0-clause-first_alarm c =
     let match : IsFirst (matches_in (form_of r) (alarm_of r) (time_of r)) (updates_in (divider_of r) c.args.n) c.take_events-matched.result =
     rw updates at c.take_events-matched.ensures.matched in
     rw c.update_pulse.ensures (IsFirst-alarms_in c.args.n r c.requires c.pulses-cycle.result.first_update c.take_events-matched.result first match)
+
+pub returns-then-cycle-gt0-2-clause-state : goal.returns-then-cycle-gt0-2-clause-state
+returns-then-cycle-gt0-2-clause-state c =
+    let r : RtcParts = c.args.r.now in
+    let divider : c.parts-then-cycle-gt0-2.result ≡ pulsed_times c.args.n (divider_of r) =
+    c.parts-then-cycle-gt0-2.ensures.value ∙ c.pulses-cycle.ensures.state ∙ ap (pulsed_times c.args.n) c.divider-divider.ensures in
+    let ticks : c.pulses-cycle.result.ticks ≡ ticks_in (divider_of r) c.args.n =
+    c.pulses-cycle.ensures.ticks ∙ ap (λ (d : DividerParts). ticks_in d c.args.n) c.divider-divider.ensures in
+    let updates : c.pulses-cycle.result.updates ≡ updates_in (divider_of r) c.args.n =
+    c.pulses-cycle.ensures.updates ∙ ap (λ (d : DividerParts). updates_in d c.args.n) c.divider-divider.ensures in
+    c.take_ticks.ensures
+    ∙ rtc_pulsed_times-ticked c.args.n r c.requires c.parts-then-cycle-gt0-2.result divider
+    (omega (arith, ticks, c.if-cycle-gt0-2.true)) (omega (arith, updates, c.if-cycle-gt0.false))
+
+pub returns-then-cycle-gt0-2-clause-first_alarm : goal.returns-then-cycle-gt0-2-clause-first_alarm
+returns-then-cycle-gt0-2-clause-first_alarm c =
+    let r : RtcParts = c.args.r.now in
+    let updates : c.pulses-cycle.result.updates ≡ updates_in (divider_of r) c.args.n =
+    c.pulses-cycle.ensures.updates ∙ ap (λ (d : DividerParts). updates_in d c.args.n) c.divider-divider.ensures in
+    alarms_in-no_update c.args.n r c.requires (omega (arith, updates, c.if-cycle-gt0.false))
+
+pub returns-else-cycle-gt0-2-clause-state : goal.returns-else-cycle-gt0-2-clause-state
+returns-else-cycle-gt0-2-clause-state c =
+    let r : RtcParts = c.args.r.now in
+    let divider : c.parts-else-cycle-gt0-2.result ≡ pulsed_times c.args.n (divider_of r) =
+    c.parts-else-cycle-gt0-2.ensures.value ∙ c.pulses-cycle.ensures.state ∙ ap (pulsed_times c.args.n) c.divider-divider.ensures in
+    let ticks : c.pulses-cycle.result.ticks ≡ ticks_in (divider_of r) c.args.n =
+    c.pulses-cycle.ensures.ticks ∙ ap (λ (d : DividerParts). ticks_in d c.args.n) c.divider-divider.ensures in
+    let updates : c.pulses-cycle.result.updates ≡ updates_in (divider_of r) c.args.n =
+    c.pulses-cycle.ensures.updates ∙ ap (λ (d : DividerParts). updates_in d c.args.n) c.divider-divider.ensures in
+    c.move_divider.ensures
+    ∙ rtc_pulsed_times-no_event c.args.n r c.requires c.parts-else-cycle-gt0-2.result divider
+    (omega (arith, ticks, c.if-cycle-gt0-2.false)) (omega (arith, updates, c.if-cycle-gt0.false))
+
+pub returns-else-cycle-gt0-2-clause-first_alarm : goal.returns-else-cycle-gt0-2-clause-first_alarm
+returns-else-cycle-gt0-2-clause-first_alarm c =
+    let r : RtcParts = c.args.r.now in
+    let updates : c.pulses-cycle.result.updates ≡ updates_in (divider_of r) c.args.n =
+    c.pulses-cycle.ensures.updates ∙ ap (λ (d : DividerParts). updates_in d c.args.n) c.divider-divider.ensures in
+    alarms_in-no_update c.args.n r c.requires (omega (arith, updates, c.if-cycle-gt0.false))
