@@ -522,6 +522,26 @@ rate-from SquareWave h = cc
 rate-from SoftwareStrobe h = cc
 rate-from HardwareStrobe h = cc
 
+-- a load of mode 2 while it counts, by the count that is meant
+pub load_rate : (c : CounterParts) (n : ℕ) → is_dividing c ≡ true → n ≡ meant_count c.bits c.cr
+    → record c { ce = n % modulus c.bits; out = true; null = false; armed = false; odd = false } ≡ affected (Load true) c
+unfolding is_dividing loaded_count is_odd_square
+load_rate c n h meant =
+    let a = and_parts _ _ h in
+    let b = and_parts _ _ a.0 in
+    let d = and_parts _ _ b.0 in
+    let e = and_parts _ _ d.0 in
+    let m = rate-from (mode_of c.bits) e.0 in
+    let trig : c.trig ≡ false = not_from c.trig b.1 in
+    let strobe : false ≡ has_strobe (mode_of c.bits) = sym (ap has_strobe m) in
+    let odd : false ≡ (is_square (mode_of c.bits) && eqb (meant_count c.bits c.cr % 2) 1) =
+    sym (ap (λ (k : Mode). is_square k && eqb (meant_count c.bits c.cr % 2) 1) m) in
+    let none : n ≡ meant_count c.bits c.cr - cond {A = ℕ} false 1 0 = omega (arith, meant) in
+    let count : n % modulus c.bits ≡ (meant_count c.bits c.cr - cond (is_square (mode_of c.bits) && eqb (meant_count c.bits c.cr % 2) 1) 1 0)
+    % modulus c.bits =
+    ap (λ (k : ℕ). k % modulus c.bits) none ∙ ap (λ (x : Bool). (meant_count c.bits c.cr - cond x 1 0) % modulus c.bits) odd in
+    λ i. record c { ce = count i; out = true; null = false; live = d.1 i; trig = trig i; armed = strobe i; odd = odd i }
+
 -- where the count isn't 1 there are two pulses at least
 height-two : (c : CounterParts) → eqb c.ce 1 ≡ false → 2 ≤ height c
 unfolding height modulus

@@ -19,7 +19,7 @@ ghost use Rattle.std.specs.Bool.{OnTrue, OnFalse};
 ghost use Rattle.clk_units.specs.Events.{IsFirst};
 ghost use Rattle.pit_counter.specs.Count.{modulus, meant_count};
 ghost use Rattle.pit_counter.specs.Parts.{IsCounter};
-ghost use Rattle.pit_counter.specs.Table.{pulsed_times, rises_in};
+ghost use Rattle.pit_counter.specs.Table.{affected, pulsed_times, rises_in};
 ghost use Rattle.pit_counter.specs.private.Stretch.{
   step_of,
   is_still,
@@ -36,7 +36,7 @@ use crate::count::{is_odd_square, loaded_count, meant_count, modulus};
 use crate::mode::{is_bcd, mode_of};
 use crate::parts::CounterParts;
 use crate::rises::{NONE, Rises, joined, with_pulse};
-use crate::table::{Effect, has_risen, loaded, next_effect, pulsed};
+use crate::table::{Effect, has_risen, next_effect, pulsed};
 
 /// More pulses than are ever asked for.
 const FOREVER: u64 = u64::MAX;
@@ -241,8 +241,27 @@ fn whole_periods(p: CounterParts, n: u64) -> Leap
     }
 }
 
+/// The counter after a load in mode 2 while it counts, by the count that is meant.
+#[inline(always)]
+#[tactic(auto, using(crate::proofs::Reloaded::load_rate))]
+fn reloaded_rate(p: CounterParts, period: u32) -> CounterParts
+    requires counts { is_dividing p ≡ true }
+    requires period { period ≡ meant_count p.bits p.cr }
+    ensures { result ≡ affected (Effect.Load true) p }
+{
+    CounterParts {
+        ce: (period % modulus(p.bits)) as u16,
+        out: true,
+        null: false,
+        armed: false,
+        odd: false,
+        ..p
+    }
+}
+
 /// In mode 2 takes what is left of a period, and as many whole ones as there are after it in `n`
 /// pulses. Each ends with a load, and with a rise at its last pulse.
+#[inline(always)]
 fn rate_periods(p: CounterParts, n: u64) -> Leap
     requires one { height p ≤ n }
     requires below { p.ce < modulus p.bits }
@@ -254,11 +273,11 @@ fn rate_periods(p: CounterParts, n: u64) -> Leap
     ensures first { IsFirst (rises_in p) result.pulses result.rises.first }
 {
     let left = height(&p);
-    let period = meant_count(p.bits, p.cr) as u64;
-    let whole = (n - left) / period;
+    let period = meant_count(p.bits, p.cr);
+    let whole = (n - left) / period as u64;
     Leap {
-        parts: loaded(true, p),
-        pulses: left + whole * period,
+        parts: reloaded_rate(p, period),
+        pulses: left + whole * period as u64,
         rises: Rises {
             count: 1 + whole,
             first: Some(left),

@@ -11,16 +11,16 @@ use Rattle.pit_counter.proofs.Reloaded.{
   first_ending,
 }
 use Rattle.pit_counter.proofs.stretch.rate_periods.Goals as goal
-use Rattle.pit_counter.proofs.stretch.rate_periods.Goals.{After-loaded}
+use Rattle.pit_counter.proofs.stretch.rate_periods.Goals.{After-reloaded_rate}
 
-the_ending : (c : After-loaded) → Ending c.args.p c.height-left.result
+the_ending : (c : After-reloaded_rate) → Ending c.args.p c.height-left.result
 the_ending c =
     let few : meant_count c.args.p.bits c.args.p.cr ≤ modulus c.args.p.bits = omega
     (arith, c.meant_count-period.ensures.greatest, c.meant_count-period.ensures.value) in
     subst (λ (n : ℕ). Ending c.args.p n) (sym c.height-left.ensures.value) (ending c.args.p c.requires.counts c.requires.below few)
 
 -- the pulses, with the period as the body has it
-pulses : (c : After-loaded) → (c.args.n - c.height-left.result) / c.meant_count-period.result * c.meant_count-period.result
+pulses : (c : After-reloaded_rate) → (c.args.n - c.height-left.result) / c.meant_count-period.result * c.meant_count-period.result
     ≡ (c.args.n - c.height-left.result) / c.meant_count-period.result * meant_count c.args.p.bits c.args.p.cr
 pulses c = ap (λ (k : ℕ). (c.args.n - c.height-left.result) / c.meant_count-period.result * k) c.meant_count-period.ensures.value
 
@@ -34,7 +34,7 @@ returns-clause-forward c = omega (arith, (the_ending c).some)
 
 pub returns-clause-state : goal.returns-clause-state
 returns-clause-state c =
-    c.loaded.ensures
+    c.reloaded_rate.ensures
     ∙ sym (ap (λ (k : ℕ). pulsed_times (c.height-left.result + k) c.args.p) (pulses c)
     ∙ state_ending c.args.p c.height-left.result ((c.args.n - c.height-left.result) / c.meant_count-period.result) (the_ending c))
 
