@@ -62,11 +62,15 @@ fn rises_at(time: Option<u64>, t: u64) -> bool
 }
 
 /// Appends an edge for each line that goes up at time `t`. There must be a place for each of them.
-fn append_rises(times: &[Option<u64>; 6], t: u64, into: &mut EdgeList)
+/// Answers when the next line goes up, after `t` and up to `to`.
+fn append_rises(times: &[Option<u64>; 6], t: u64, to: u64, into: &mut EdgeList) -> Option<u64>
     requires { length into.old + length (rising t line_numbers times.now) ≤ EDGE_PLACES }
-    ensures { into.new ≡ into.old ++ rising t line_numbers times.now }
+    ensures edges { into.new ≡ into.old ++ rising t line_numbers times.now }
+    ensures next { IsNextRise times.now t to result }
 {
+    let mut next = None;
     for place in 0..6 {
+        next = earlier_rise(next, times[place], t, to);
         if rises_at(times[place], t) {
             into.push(Edge {
                 at: t,
@@ -75,6 +79,7 @@ fn append_rises(times: &[Option<u64>; 6], t: u64, into: &mut EdgeList)
             });
         }
     }
+    next
 }
 
 /// Appends the edges of the nanoseconds after `from` and up to `to`, in order of time and, at one
@@ -86,8 +91,9 @@ pub fn emit(times: &[Option<u64>; 6], from: u64, to: u64, into: &mut EdgeList)
     ensures few { length into.new ≤ length into.old + 6 }
 {
     let mut at = from;
-    while let Some(rise) = next_rise(times, at, to) {
-        append_rises(times, rise, into);
+    let mut next = next_rise(times, from, to);
+    while let Some(rise) = next {
+        next = append_rises(times, rise, to, into);
         at = rise;
     }
 }

@@ -1,5 +1,8 @@
-use Rattle.std.proofs.Common.{◌≡◌, ℕ, ◌+◌, ◌<◌, Option, Bool, true, false, cond, List, [], ◌∷◌, ◌++◌, length, get_or, drop, None, ap, sym, ◌∙◌}
-use Rattle.std.proofs.lemmas.List.{append-nil}
+use Rattle.std.proofs.Common.{◌≡◌, ℕ, ◌+◌, ◌<◌, Option, Bool, true, false, cond, List, [], ◌∷◌, ◌++◌, length, get_or, drop, take}
+use Rattle.std.proofs.Common.{None, ap, sym, subst, ◌∙◌, arith}
+use Rattle.std.proofs.lemmas.List.{append-nil, take_more, take_all}
+use Rattle.irq_edges.specs.Rises.{IsNextRise}
+use Rattle.irq_edges.proofs.NextRise.{IsNextRise-push}
 use Rattle.irq_edges.specs.Lines.{line_numbers}
 use Rattle.irq_edges.specs.private.Rises.{rises_at, rising}
 use Rattle.irq_edges.proofs.EdgesOf.{room_for, joined}
@@ -17,16 +20,25 @@ first b t us place less long e = rising-drop t line_numbers us place None less l
 
 pub push-requires : goal.push-requires
 push-requires c =
-    room_for c.loop-place.into _ c.args.into.now _ _ _ _ c.loop-place.invariant
+    room_for c.loop-place.into _ c.args.into.now _ _ _ _ c.loop-place.invariant.edges
     (first true c.args.t c.args.times.now c.loop-place.place c.loop-place-test.true c.told-times (sym c.rises_at.ensures ∙ c.if-rises_at.true)) c.requires
 
+pub returns-clause-next : goal.returns-clause-next
+returns-clause-next c =
+    let all : take c.loop-place.place c.args.times.now ≡ c.args.times.now = take_all c.loop-place.place c.args.times.now (omega arith) in
+    subst (λ (us : List (Option ℕ)). IsNextRise us c.args.t c.args.to c.loop-place.next) all c.loop-place.invariant.next
+
 pub loop-place-preserved : goal.loop-place-preserved
-loop-place-preserved c =
-    elim c.if-rises_at.branch [
-      | then-rises_at w ↦ rw (w.into-is, w.push.ensures)
-          (joined c.loop-place.into _ _ _ _ c.loop-place.invariant
-          (first true c.args.t c.args.times.now c.loop-place.place c.loop-place-test.true c.told-times (sym c.rises_at.ensures ∙ w.if-rises_at.true)))
-      | else-rises_at w ↦ rw (w.into-is, ← append-nil c.loop-place.into)
-          (joined c.loop-place.into _ _ _ _ c.loop-place.invariant
-          (first false c.args.t c.args.times.now c.loop-place.place c.loop-place-test.true c.told-times (sym c.rises_at.ensures ∙ w.if-rises_at.false)))
-    ]
+loop-place-preserved c = record {
+  edges = elim c.if-rises_at.branch [
+    | then-rises_at w ↦ rw (w.into-is, w.push.ensures)
+        (joined c.loop-place.into _ _ _ _ c.loop-place.invariant.edges
+        (first true c.args.t c.args.times.now c.loop-place.place c.loop-place-test.true c.told-times (sym c.rises_at.ensures ∙ w.if-rises_at.true)))
+    | else-rises_at w ↦ rw (w.into-is, ← append-nil c.loop-place.into)
+        (joined c.loop-place.into _ _ _ _ c.loop-place.invariant.edges
+        (first false c.args.t c.args.times.now c.loop-place.place c.loop-place-test.true c.told-times (sym c.rises_at.ensures ∙ w.if-rises_at.false)))
+  ];
+  next =
+      rw (take_more c.args.times.now c.loop-place.place None (omega (arith, c.told-times, c.loop-place-test.true)), c.earlier_rise-next.ensures)
+      (IsNextRise-push _ c.args.t c.args.to c.loop-place.next _ c.loop-place.invariant.next);
+}
