@@ -11,7 +11,7 @@ use host_counter::Anchor;
 use tsc_scale::{Tsc, ratio};
 
 /// Nanoseconds in a millisecond, of which a counter of 1 kHz counts one.
-const MILLISECOND_NS: u128 = 1_000_000;
+const NS_IN_MS: u64 = 1_000_000;
 
 /// How many bits a ratio has after its binary point.
 const FRACTION_BITS: u32 = 48;
@@ -29,6 +29,18 @@ pub(crate) fn is_reached(deadline: u64, tsc: u64) -> bool
     deadline != 0 && tsc.wrapping_sub(deadline) < HALF
 }
 
+/// The counts of a host's counter in `ns` nanoseconds, rounded up. Whole milliseconds have whole counts, so nothing
+/// here needs 128 bits.
+#[inline]
+fn counts_in(ns: u64, khz: u64) -> u64
+    requires in_range { ns < 2 ^ 59 }
+    requires rate { khz ≤ 10000000 }
+    ensures { result ≡ (ns * khz + 999999) / 1000000 }
+{
+    let rest = ns % NS_IN_MS * khz;
+    ns / NS_IN_MS * khz + (rest + (NS_IN_MS - 1)) / NS_IN_MS
+}
+
 /// The counts of the guest at nanosecond `t`, before offset and modulus.
 #[tactic(auto, unfolding(crate::specs::Deadline::count_at, crate::specs::private::Wait::scaled_at))]
 fn scaled_at(anchor: &Anchor, ratio: u64, t: u64) -> u128
@@ -39,8 +51,7 @@ fn scaled_at(anchor: &Anchor, ratio: u64, t: u64) -> u128
     ensures value { result ≡ scaled_at anchor.now ratio t }
     ensures small { result < 2 ^ 73 }
 {
-    let counts = u128::from(t - anchor.base_ns) * u128::from(anchor.khz);
-    let count = u128::from(anchor.start) + (counts + (MILLISECOND_NS - 1)) / MILLISECOND_NS;
+    let count = u128::from(anchor.start) + u128::from(counts_in(t - anchor.base_ns, anchor.khz));
     (count * u128::from(ratio)) >> FRACTION_BITS
 }
 
@@ -68,7 +79,7 @@ fn time_of_scaled(anchor: &Anchor, ratio: u64, scaled: u128) -> u128
     let ratio = u128::from(ratio);
     let count = ((scaled << FRACTION_BITS) + ratio - 1) / ratio;
     let counts = count - u128::from(anchor.start) - 1;
-    u128::from(anchor.base_ns) + (counts * MILLISECOND_NS / u128::from(anchor.khz) + 1)
+    u128::from(anchor.base_ns) + (counts * u128::from(NS_IN_MS) / u128::from(anchor.khz) + 1)
 }
 
 /// The first nanosecond after `from` and up to `to` at which a deadline is reached by the TSC `tsc` of a
