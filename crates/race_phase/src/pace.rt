@@ -90,19 +90,22 @@ impl<'a> Pace<'a> {
             return;
         }
         if self.takes_turns(left) {
-            self.take_turn();
+            self.take_turn(left);
         }
         for _ in 0..self.draw(PAUSES) {
             spin_loop();
         }
     }
 
-    /// Waits for the worker's turn, and draws whose turn is next.
-    fn take_turn(&mut self) {
+    /// Waits for the worker's turn, and draws whose turn is next. At its last record it takes none any more.
+    fn take_turn(&mut self, left: u64) {
         self.schedule.come(self.worker);
         self.schedule.wait(self.worker);
         self.stir();
+        if left <= 1 {
+            self.schedule.leave(self.worker);
+        }
         let next = self.draw(self.schedule.workers().max(1));
-        self.schedule.begin(self.worker, next);
+        self.schedule.begin(next);
     }
 }

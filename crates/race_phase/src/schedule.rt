@@ -3,24 +3,34 @@ use std::hint::spin_loop;
 use std::sync::atomic::{AtomicU64, Ordering};
 use std::thread::yield_now;
 
-/// How often a thread looks in a row before it lets other threads run between two looks.
-const SPINS: u64 = 500;
+/// How often a worker looks in a row before it lets other threads run between two looks: at the start line, where the others
+/// are mostly about to come, and for its turn.
+const START_SPINS: u64 = 4_000;
 
-/// How often a worker looks for those that aren't there yet, or for its turn. Where a thread can't be started, its worker comes
-/// after another has ended.
-const MOST_LOOKS: u64 = 20_000;
+const TURN_SPINS: u64 = 500;
 
-/// How often a worker looks for its turn where the one whose turn it is doesn't wait for it: it has records left that it
-/// answers without turns, is at one, or at its end.
+/// How often a worker lets other threads run as it looks for those that aren't there yet, or for its turn. Where a thread can't
+/// be started, its worker comes after another has ended.
+const MOST_YIELDS: u64 = 2_000;
+
+/// How often a worker looks for its turn where the one whose turn it is takes none: it has more records left, is at its last
+/// one, or was looked for in vain and hasn't come since.
 const FEW_LOOKS: u64 = 100;
 
-/// Lets a short while pass between two looks.
-fn pause(looks: u64) {
-    if looks < SPINS {
+/// How many pauses of the processor come before other threads run: else all looks would be over soon where no other thread
+/// wants the processor.
+const PAUSES: u64 = 100;
+
+/// Lets a short while pass between two looks, in which other threads run where there were `spins` in a row.
+fn pause(looks: u64, spins: u64) {
+    if looks < spins {
         spin_loop();
-    } else {
-        yield_now();
+        return;
     }
+    for _ in 0..PAUSES {
+        spin_loop();
+    }
+    yield_now();
 }
 
 /// The bit of a worker.
@@ -29,8 +39,9 @@ fn bit(worker: u64) -> u64 {
 }
 
 // Whoever begins a record says who begins the next one, and both go on beside each other. So records begin in an order that
-// no scheduler of the host chooses, and a read can still fall into another's publishing. No wait is without an end: a thread
-// may not be run for long, or be held by the gate.
+// no scheduler of the host chooses, and a read can still fall into another's publishing. Where it is the turn of one that is
+// at a record the others wait for it too: the first record of a new thread takes as long as some twenty later ones. No wait
+// is without an end: a thread may not be run for long, or be held by the gate.
 /// A start line, where a worker waits until all have come, so that none is at its end before another begins; and turns.
 #[derive(Drop)]
 pub(crate) struct Schedule {
@@ -38,20 +49,20 @@ pub(crate) struct Schedule {
     there: AtomicU64,
     /// The worker that begins the next record.
     turn: AtomicU64,
-    /// A bit for each worker that waits for its turn.
-    waiting: AtomicU64,
+    /// A bit for each worker that takes turns.
+    taking: AtomicU64,
     /// How often all workers have looked for others, which differs from run to run.
     looks: AtomicU64,
 }
 
 impl Schedule {
-    /// A start line for so many workers, numbered from 0. None waits for its turn.
+    /// A start line for so many workers, numbered from 0. None takes turns.
     pub(crate) fn new(workers: u64) -> Schedule {
         Schedule {
             workers,
             there: AtomicU64::new(0),
             turn: AtomicU64::new(0),
-            waiting: AtomicU64::new(0),
+            taking: AtomicU64::new(0),
             looks: AtomicU64::new(0),
         }
     }
@@ -69,37 +80,47 @@ impl Schedule {
     /// A worker comes to the start line, and waits a bounded number of looks for the others.
     pub(crate) fn start(&self) {
         self.there.fetch_add(1, Ordering::SeqCst);
-        for looks in 0..MOST_LOOKS {
+        for looks in 0..START_SPINS + MOST_YIELDS {
             if self.there.load(Ordering::SeqCst) >= self.workers {
                 return;
             }
             self.looks.fetch_add(1, Ordering::SeqCst);
-            pause(looks);
+            pause(looks, START_SPINS);
         }
     }
 
-    /// A worker will wait for its turn.
+    /// A worker takes turns.
     pub(crate) fn come(&self, worker: u64) {
-        self.waiting.fetch_or(bit(worker), Ordering::SeqCst);
+        self.taking.fetch_or(bit(worker), Ordering::SeqCst);
     }
 
-    /// A worker that has come waits a bounded number of looks for its turn: fewer where the one whose turn it is doesn't
-    /// wait for it.
+    /// A worker takes no more turns.
+    pub(crate) fn leave(&self, worker: u64) {
+        self.taking.fetch_and(!bit(worker), Ordering::SeqCst);
+    }
+
+    /// A worker waits a bounded number of looks for its turn: fewer where the one whose turn it is takes none.
     pub(crate) fn wait(&self, worker: u64) {
-        for looks in 0..MOST_LOOKS {
+        self.wait_at_most(worker, TURN_SPINS + MOST_YIELDS);
+    }
+
+    /// The same with so many looks at most.
+    fn wait_at_most(&self, worker: u64, most: u64) {
+        for looks in 0..most {
             let turn = self.turn.load(Ordering::SeqCst);
-            let is_missing = self.waiting.load(Ordering::SeqCst) & bit(turn) == 0;
-            if turn == worker || is_missing && looks >= FEW_LOOKS {
+            let takes_none = self.taking.load(Ordering::SeqCst) & bit(turn) == 0;
+            if turn == worker || takes_none && looks >= FEW_LOOKS {
                 self.looks.fetch_add(looks, Ordering::SeqCst);
                 return;
             }
-            pause(looks);
+            pause(looks, TURN_SPINS);
         }
+        // It isn't waited for so long again, unless it comes.
+        self.leave(self.turn.load(Ordering::SeqCst));
     }
 
     /// A worker begins a record, and it is another's turn, or its own again.
-    pub(crate) fn begin(&self, worker: u64, next: u64) {
-        self.waiting.fetch_and(!bit(worker), Ordering::SeqCst);
+    pub(crate) fn begin(&self, next: u64) {
         self.turn.store(next, Ordering::SeqCst);
     }
 }
@@ -129,16 +150,41 @@ mod tests {
     }
 
     #[test]
-    fn a_worker_waits_longer_for_one_that_waits_for_its_turn(rt: HostRuntime) {
+    fn a_worker_waits_for_one_that_takes_turns(rt: HostRuntime) {
         let schedule = Schedule::new(2);
-        schedule.come(0);
-        schedule.begin(0, 1);
+        schedule.begin(1);
         assert_eq!(rt; looks(&schedule, 0), FEW_LOOKS);
-        schedule.come(1);
         assert_eq!(rt; looks(&schedule, 1), 0);
-        schedule.wait(0);
+        schedule.come(1);
+        let shared = &schedule;
+        let wait = || -> u64 {
+            shared.wait(0);
+            shared.turn.load(Ordering::SeqCst)
+        };
+        let begin = || -> u64 {
+            shared.begin(0);
+            0
+        };
+        let (turn, _) = join(&rt, wait, begin);
+        assert_eq!(rt; turn, 0);
+    }
+
+    #[test]
+    fn one_that_is_looked_for_in_vain_takes_no_turn(rt: HostRuntime) {
+        let schedule = Schedule::new(2);
+        schedule.come(1);
+        schedule.begin(1);
+        schedule.wait_at_most(0, TURN_SPINS);
+        assert_eq!(rt; looks(&schedule, 0), FEW_LOOKS);
         assert_eq!(rt; schedule.turn.load(Ordering::SeqCst), 1);
-        schedule.begin(1, 0);
-        assert_eq!(rt; looks(&schedule, 0), 0);
+    }
+
+    #[test]
+    fn a_worker_at_its_end_is_not_waited_for(rt: HostRuntime) {
+        let schedule = Schedule::new(2);
+        schedule.come(1);
+        schedule.leave(1);
+        schedule.begin(1);
+        assert_eq!(rt; looks(&schedule, 0), FEW_LOOKS);
     }
 }
