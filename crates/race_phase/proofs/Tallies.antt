@@ -38,7 +38,11 @@ use Rattle.std.proofs.Common.{
   IsTrue,
   length-set,
   add-one,
+  map,
+  [],
 }
+use Rattle.std.proofs.Math.ListN.{get_or-map}
+use Rattle.std.proofs.lemmas.List.{length-map}
 use Rattle.std.proofs.Math.Nat.{div-le_of_le-mul}
 use Rattle.std.proofs.lemmas.Bool.{cases_lt, le-leb}
 use Rattle.std.proofs.lemmas.Grind.{get_or-set_at}
@@ -81,6 +85,7 @@ use Rattle.board_core.proofs.Laws.{
   hv_version-after,
 }
 use Rattle.board_history.proofs.Pages.{length-processors, published_by-legal, publishes_wall-page}
+use Rattle.save_state.specs.Reading.{board_in}
 use Rattle.transfer.specs.Move.{or_spent, spent_below, move_fault, published_below, moved_to, tsc_moved}
 use Rattle.transfer.specs.declared.outcome.MoveFault.{MoveFault}
 use Rattle.transfer.specs.declared.outcome.MoveFault.TheVariants.{OutOfRange as GapOutOfRange}
@@ -140,7 +145,7 @@ page_place cpus format cpu a most inside legal = by (published_by cpu a) refl
     by None e = tt
     by (Some k) e = let below = published_by-legal cpus format cpu k a inside legal e in omega arith
 
--- the versions behind an access
+-- the versions after an access
 module _ (b : BoardParts) (t : TallyParts) (cpu h : ℕ) (a : Access) (x : IsTally b t) (inside : cpu < t.cpus) (legal : IsTrue (is_legal t.cpus t.format a)) where
   versions-at : (k : ℕ) (o : Option ℕ) → published_by cpu a ≡ o → get_or (raised_at o t.versions) k 0 ≡ (processor_at (after_access b cpu h a) k).version
   versions-at k None e =
@@ -193,7 +198,7 @@ move_fault-tally b t gap x =
     spent_below-tally b t b.cpus x ∙ ap (spent_in t.versions) (sym x.cpus) in
     λ i. cond (leb RANGE_NS (now i + gap)) (Some (GapOutOfRange (now i + gap))) (or_spent (spent i) (sym x.cpus i) (sym x.hv_version i))
 
--- the versions behind a move
+-- the versions after a move
 length-below : (n : ℕ) (vs : List ℕ) → length (raised_below n vs) ≡ length vs
 unfolding raised_below
 length-below zero vs = refl
@@ -298,6 +303,50 @@ module _ (b : BoardParts) (t : TallyParts) (gap : ℕ) (x : IsTally b t) (none :
 
   pub room_reference : t.hv_version < LAST_VERSION
   room_reference = let e = x.hv_version in let l = (move_fault-none gap b none).2 in omega arith
+
+-- each tally has the counts of a board, whatever else that board has
+abbrev page_at : ℕ → ProcessorParts
+page_at version = record no_processor { version = version }
+
+abbrev board_with : TallyParts → BoardParts
+board_with t = let other : BoardParts = board_in [] in record other {
+  format = t.format;
+  cpus = t.cpus;
+  anchor = t.anchor;
+  host = t.host;
+  accesses = t.accesses;
+  wall_version = t.wall_version;
+  hv = record other.hv { version = t.hv_version };
+  processors = map page_at t.versions;
+}
+
+has_board : (t : TallyParts) → t.cpus ≤ length t.versions → IsTally (board_with t) t
+has_board t own = record {
+  format = refl;
+  cpus = refl;
+  anchor = refl;
+  host = refl;
+  accesses = refl;
+  wall_version = refl;
+  hv_version = refl;
+  versions = λ k. sym (ap (λ (p : ProcessorParts). p.version) (get_or-map page_at t.versions k 0));
+  places = (let l = length-map t.versions page_at in omega arith);
+  own = own;
+}
+
+pub admitted-free : {A : Type 0} (r : Result A Refusal) (t : TallyParts) (cpu h : ℕ) (a : Access) → t.cpus ≤ length t.versions
+    → OnOk r (refusal_in t cpu h a ≡ None) → OnOk r ((b : BoardParts) × IsTally b t × (refusal_of b cpu h a ≡ None))
+admitted-free (Ok x) t cpu h a own e =
+    let b : BoardParts = board_with t in
+    let is : IsTally b t = has_board t own in (b, is, refusal_of-tally b t cpu h a is ∙ e)
+admitted-free (Err f) t cpu h a own e = tt
+
+pub crossed-free : {A : Type 0} (r : Result A MoveFault) (t : TallyParts) (gap : ℕ) → t.cpus ≤ length t.versions
+    → OnOk r (move_fault_in gap t ≡ None) → OnOk r ((b : BoardParts) × IsTally b t × (move_fault gap b ≡ None))
+crossed-free (Ok x) t gap own e =
+    let b : BoardParts = board_with t in
+    let is : IsTally b t = has_board t own in (b, is, move_fault-tally b t gap is ∙ e)
+crossed-free (Err f) t gap own e = tt
 
 -- a count whose product isn't beyond that of the range has a time
 pub product_time : (anchor : Anchor) (h : ℕ) → anchor.start ≤ h → anchor.base_ns < RANGE_NS

@@ -44,7 +44,6 @@ pub fn check(state: &BoardState, phases: &[Phase]) -> bool
 
 /// Whether each board of these counts takes a phase, which is then counted.
 fn takes_phase(tally: &mut Tally, phase: &Phase) -> bool
-    requires { (b : BoardParts) × IsTally b tally.old }
     ensures taken { OnTrue result ((b : BoardParts) → IsTally b tally.old
         → TakesPhase b phase.now × IsTally (after_phase b phase.now) tally.new) }
     ensures only { result ≡ false → (b : BoardParts) → IsTally b tally.old
@@ -55,7 +54,6 @@ fn takes_phase(tally: &mut Tally, phase: &Phase) -> bool
 
 /// Whether each board of these counts takes the records of a phase, which are then counted.
 fn takes_records(tally: &mut Tally, lines: &RecordLines) -> bool
-    requires { (b : BoardParts) × IsTally b tally.old }
     ensures taken { OnTrue result ((b : BoardParts) → IsTally b tally.old
         → All (IsFitting b.cpus b.format) lines.now.records
         × (records_fault b lines.now.records ≡ None)
@@ -82,7 +80,6 @@ fn takes_records(tally: &mut Tally, lines: &RecordLines) -> bool
 
 /// Whether each board of these counts takes a record, which is then counted.
 fn takes_record(tally: &mut Tally, given: &Record) -> bool
-    requires { (b : BoardParts) × IsTally b tally.old }
     ensures taken { OnTrue result ((b : BoardParts) → IsTally b tally.old
         → TakesRecord b given.now × IsTally (after_record b given.now) tally.new) }
     ensures only { result ≡ false → (b : BoardParts) → IsTally b tally.old
@@ -114,7 +111,6 @@ fn fits(cpus: u8, format: u8, given: &Record) -> bool
 fn takes_access(tally: &mut Tally, cpu: u8, h: u64, access: Access) -> bool
     requires cpu { cpu < tally.old.cpus }
     requires legal { IsTrue (is_legal tally.old.cpus tally.old.format access) }
-    requires board { (b : BoardParts) × IsTally b tally.old }
     ensures taken { OnTrue result ((b : BoardParts) → IsTally b tally.old
         → (refusal_of b cpu h access ≡ None) × IsTally (after_access b cpu h access) tally.new) }
     ensures only { result ≡ false → (b : BoardParts) → IsTally b tally.old
@@ -144,7 +140,6 @@ fn has_time(tally: &Tally, h: u64) -> bool
 
 /// Whether each board of these counts takes what ends a phase, which is then counted.
 fn takes_end(tally: &mut Tally, end: End) -> bool
-    requires { (b : BoardParts) × IsTally b tally.old }
     ensures taken { OnTrue result ((b : BoardParts) → IsTally b tally.old
         → TakesEnd b end × IsTally (next_board end b) tally.new) }
     ensures only { result ≡ false → (b : BoardParts) → IsTally b tally.old
@@ -167,7 +162,6 @@ fn takes_end(tally: &mut Tally, end: End) -> bool
 /// Whether each board of these counts can move to a host, which is then counted.
 fn takes_move(tally: &mut Tally, host: NewHost) -> bool
     requires rate { IsKhz host.khz }
-    requires board { (b : BoardParts) × IsTally b tally.old }
     ensures taken { OnTrue result ((b : BoardParts) → IsTally b tally.old
         → (move_fault host.gap b ≡ None)
         × IsTally (moved_to host.khz host.start host.gap b) tally.new) }

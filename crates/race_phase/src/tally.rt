@@ -13,6 +13,7 @@ ghost use Rattle.std.specs.Prelude.{
   true,
   max,
   IsTrue,
+  length,
   slice_index_or,
   nat_le,
   if◌then◌else◌,
@@ -153,8 +154,9 @@ impl Tally {
         }
     }
 
-    // It stands where it is called from, so that a caller who asks for no cause makes none.
-    /// Whether each board of these counts takes an access by processor `cpu` at count `h`, or why each refuses it.
+    // Inlined, so that a caller who asks for no cause makes none.
+    /// Whether each board of these counts takes an access by processor `cpu` at count `h`, or why each refuses it. There is
+    /// such a board, so `count` may follow where the answer is `Ok`.
     #[inline(always)]
     pub fn admit(&self, cpu: u8, h: u64, a: Access) -> Result<(), Refusal>
         requires cpu { cpu < self.now.cpus }
@@ -163,8 +165,11 @@ impl Tally {
             → refusal_of b cpu h a ≡ Some f) }
         ensures taken { OnOk result ((b : BoardParts) → IsTally b self.now
             → refusal_of b cpu h a ≡ None) }
+        ensures free { OnOk result
+            ((b : BoardParts) × IsTally b self.now × (refusal_of b cpu h a ≡ None)) }
     {
         let _counting = self.cpus;
+        let _places = version_places(&self.versions);
         self.judge(cpu, h, a)
     }
 
@@ -248,13 +253,18 @@ impl Tally {
         raise_page(&mut self.versions, published_by(cpu, a));
     }
 
-    /// Whether each board of these counts goes over a gap of nanoseconds to another host, or why each can't.
+    /// Whether each board of these counts goes over a gap of nanoseconds to another host, or why each can't. There is such
+    /// a board, so `count_move` may follow where the answer is `Ok`.
     pub fn admit_move(&self, gap: u64) -> Result<(), MoveFault>
         ensures refused { IfErr result (λ f. (b : BoardParts) → IsTally b self.now
             → move_fault gap b ≡ Some f) }
         ensures taken { OnOk result ((b : BoardParts) → IsTally b self.now
             → move_fault gap b ≡ None) }
+        ensures free { OnOk result
+            ((b : BoardParts) × IsTally b self.now × (move_fault gap b ≡ None)) }
     {
+        let _counting = self.cpus;
+        let _places = version_places(&self.versions);
         self.judge_move(gap)
     }
 
@@ -327,7 +337,7 @@ fn is_timed(anchor: &Anchor, h: u64) -> bool
             <= u128::from(anchor.khz) * u128::from(RANGE_NS - 1 - anchor.base_ns)
 }
 
-/// The version of the wall clock's words behind an access.
+/// The version of the wall clock's words after an access.
 #[inline(always)]
 fn wall_version_after(a: Access, version: u32) -> u32
     requires { publishes_wall a ≡ true → version < LAST_VERSION }
@@ -340,7 +350,7 @@ fn wall_version_after(a: Access, version: u32) -> u32
     }
 }
 
-/// The version of the reference page behind an access.
+/// The version of the reference page after an access.
 #[inline(always)]
 fn hv_version_after(a: Access, version: u32) -> u32
     requires { publishes_hv a ≡ true → version < LAST_VERSION }
@@ -353,7 +363,7 @@ fn hv_version_after(a: Access, version: u32) -> u32
     }
 }
 
-/// The version of the reference page behind a move, which publishes it where the format has one.
+/// The version of the reference page after a move, which publishes it where the format has one.
 fn hv_version_moved(format: u8, version: u32) -> u32
     requires { version < LAST_VERSION }
     ensures { result ≡ hv_version_moved format version }
@@ -374,6 +384,14 @@ fn raise_page(versions: &mut [u32; 64], page: Option<u8>)
     if let Some(page) = page {
         versions[page as usize] += 2;
     }
+}
+
+/// A tally has a place for the page of each of 64 processors.
+#[inline(always)]
+fn version_places(versions: &[u32; 64]) -> usize
+    ensures { length versions.now ≡ 64 }
+{
+    versions.len()
 }
 
 /// The versions of all pages.
