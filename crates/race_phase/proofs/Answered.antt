@@ -1,4 +1,4 @@
--- What a record was answered, by what its call on the board tells.
+-- What a record was answered, by what its call on the board answered.
 use Rattle.std.proofs.Common.{◌≡◌, ◌∙◌, ℕ, List, [], ◌∷◌, ◌++◌, refl, sym, subst, append-nil, Bool, true, false}
 use Rattle.board_types.specs.declared.access.Access.{Access}
 use Rattle.board_types.specs.declared.parts.BoardParts.{BoardParts}

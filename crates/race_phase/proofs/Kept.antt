@@ -12,7 +12,7 @@ use Rattle.race_phase.specs.Lines.{record_at}
 use Rattle.race_phase.specs.declared.lines.Line.{Line}
 use Rattle.race_phase.specs.private.Kept.{bytes_of, read_in, written, record_in, records_in, IsKept, AreKept}
 
--- bytes that are put behind the text
+-- bytes that are appended to the text
 bytes_of-more : (text more : List ℕ) (l : Line) → l.start + l.length ≤ length text → bytes_of (text ++ more) l ≡ bytes_of text l
 bytes_of-more text more l inside =
     let n : ℕ = (l.start + l.length) - l.start in

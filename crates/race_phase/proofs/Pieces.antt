@@ -38,7 +38,7 @@ pub flat_map-take : {X A : Type 0} (f : X → List A) (old : List A) (xs : List 
 flat_map-take f old xs i d inside =
     flat_map_more f old (take i xs) (get_or xs i d) ∙ ap (λ ys. old ++ flat_map f ys) (sym (take_more xs i d inside))
 
--- what is put onto the last piece stands behind them all
+-- what is put onto the last piece comes after them all
 flat_map-set : {X A : Type 0} (f : X → List A) (xs : List X) (i : ℕ) (x d : X) (more : List A) → i + 1 ≡ length xs → f x ≡ f (get_or xs i d) ++ more
     → flat_map f (set xs i x) ≡ flat_map f xs ++ more
 flat_map-set f [] i x d more last is = absurd (omega arith)

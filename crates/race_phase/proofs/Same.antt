@@ -261,7 +261,7 @@ versions_alike b c khz start gap (suc n) m w lm lw same k =
           published_else m' n k (tsc_moved b khz start gap n) apart ∙ (before k ∙ sym (published_else w' n k (tsc_moved c khz start gap n) apart))
     ]
 
--- the machine behind a new anchor
+-- the machine of a new anchor
 anew : ℕ → ℕ → ℕ → ℕ → Machine → Machine
 anew khz start gap now m = record m { anchor = record { khz = khz; start = start; base_ns = now + gap } }
 

@@ -365,7 +365,7 @@ module _ (s : BoardParts) (rs : List Record) (h : List Entry) (sound : IsSound s
       by_call (ReadClock page) is there met = unread met
       by_call ReadHv is there met = unread met
 
--- what a stopped board tells of its workers
+-- what a stopped board says of its workers
 pub phase_told : (s state : BoardParts) (ds : Deliveries) (rs : List Record) (ps : List PassKnown) (out : List ℕ) → IsSound s → length ps ≡ s.cpus
     → All (IsFitting s.cpus s.format) rs → records_fault s rs ≡ None → length rs ≤ 2 ^ 62
     → StopTold s s.cpus state ps → AllWorked s ds rs 0 ps out → PhaseTold s ds rs state out

@@ -81,7 +81,7 @@ use Rattle.race_phase.specs.private.Workers.{
   AllButLast,
 }
 
--- the records of a processor in two lists, one behind the other
+-- the records of a processor in two lists, one after the other
 records_step : (b : Bool) (x : Record) (us bs cs : List Record) → us ≡ bs ++ cs → (if b then (x ∷ us) else us) ≡ (if b then (x ∷ bs) else bs) ++ cs
 records_step true x us bs cs e = ap (λ es. x ∷ es) e
 records_step false x us bs cs e = e
@@ -101,7 +101,7 @@ records_skip n xs x e = records_of-append n xs (x ∷ [])
 pub take_next : (rs : List Record) (i : ℕ) (d : Record) → i < length rs → take (i + 1) rs ≡ take i rs ++ get_or rs i d ∷ []
 take_next rs i d l = let e : i + 1 ≡ suc i = omega arith in ap (λ (k : ℕ). take k rs) e ∙ take-suc rs i d l
 
--- the misses of calls one behind another
+-- the misses of calls one after another
 pub tried-++ : (c : ℕ) (es fs : List Entry) (ms ns : List Miss) → AllTried c es ms → AllTried c fs ns → AllTried c (es ++ fs) (ms ++ ns)
 tried-++ c [] fs ms ns a b = subst (λ (l : List Miss). AllTried c fs (l ++ ns)) (sym a) b
 tried-++ c (PageRead n k h page true ∷ es) fs ms ns a b =

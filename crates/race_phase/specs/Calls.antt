@@ -62,7 +62,7 @@ abbrev pub records_of : ℕ → List Record → List Record
 records_of n [] = []
 records_of n (r ∷ rs) = if r.cpu == n then (r ∷ records_of n rs) else records_of n rs
 
--- the clock is off as the page is, or tells the reading that the page gives at count h
+-- the clock is off as the page is, or has the reading that the page gives at count h
 abbrev pub Tells : BoardParts → ℕ → Page → ClockReply → Type 0
 Tells s h page Off = page.enabled ≡ false
 Tells s h page (On reading clock) =
@@ -97,7 +97,7 @@ AllMade s ds n (r ∷ rs) out es =
     × (out ≡ block_of ds r.line a ++ more) × (es ≡ first ++ rest)
     × MadeBy s n r a first × AllMade s ds n rs more rest
 
--- each read under the lock among these entries of a pass comes behind a try without it that met an
+-- each read under the lock among these entries of a pass comes after a try without it that met an
 -- update of the same page, which has the place cpus where it is the reference page: these are the
 -- pass's misses, in order, and there are no others
 abbrev pub AllTried : ℕ → List Entry → List Miss → Type 0
@@ -118,7 +118,7 @@ AllTried cpus (Clamp n k reading clock ∷ es) ms = AllTried cpus es ms
 abbrev pub IsTried : ℕ → List Entry → ℕ → Type 0
 IsTried cpus h n = (ms : List Miss) × AllTried cpus (entries_of n h) ms × MissesTold h ms
 
--- the text of k processors from n on, one behind another
+-- the text of k processors from n on, one after another
 abbrev pub Shown :
     BoardParts → Deliveries → List Record → List Entry → ℕ → ℕ → List ℕ → Type 0
 Shown s ds rs h n zero out = out ≡ []

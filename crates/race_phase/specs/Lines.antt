@@ -8,7 +8,7 @@ use Rattle.race_phase.specs.declared.records.Call.{Call}
 use Rattle.race_phase.specs.declared.records.Call.TheVariants.{Act, ReadPage, ReadClock, ReadHv}
 use Rattle.race_phase.specs.declared.records.Record.{Record}
 
--- what a record asks that stands in a phase. A save and a move end one, by an access
+-- what a record of a phase asks. A save and a move end one, by an access
 abbrev pub call_of : Job → Call
 call_of (Board a) = Act a
 call_of (Page page) = ReadPage page

@@ -71,7 +71,7 @@ call_cause b cpu h ReadHv = by_count (time_fault b.anchor h)
 abbrev pub record_fault : BoardParts → Record → Option Fault
 record_fault b r = at_line r.line (call_cause b r.cpu r.h r.call)
 
--- the board behind a call, but for the greatest clock reading, on which no refusal depends
+-- the board after a call, but for the greatest clock reading, on which no refusal depends
 abbrev pub after_call : BoardParts → ℕ → ℕ → Call → BoardParts
 after_call b cpu h (Act a) = after_access b cpu h a
 after_call b cpu h (ReadPage page) = b

@@ -59,14 +59,14 @@ pub record IsPhase (cpus format : ℕ) (v : Phase) : Type 0 where
   pub few : length v.lines.records ≤ 2 ^ 62
   pub end : IsEnd cpus v.end
 
--- the board with which the next phase opens: that behind a save's access, or the moved one
+-- the board with which the next phase opens: that after a save's access, or the moved one
 abbrev pub next_board : End → BoardParts → BoardParts
 next_board Finish b = b
 next_board (Save line cpu h) b = after_access b cpu h Step
 next_board (Move line cpu h host) b =
     moved_to host.khz host.start host.gap (after_access b cpu h Step)
 
--- why the end of a phase is refused: by its access, or behind that by the move
+-- why the end of a phase is refused: by its access, or after that by the move
 abbrev pub by_move : Option MoveFault → Option Cause
 by_move None = None
 by_move (Some fault) = Some (ByMove fault)
@@ -92,7 +92,7 @@ abbrev pub trace_fault : BoardParts → List Phase → Option Fault
 trace_fault b [] = None
 trace_fault b (v ∷ vs) = or_fault (phase_fault b v) (trace_fault (after_phase b v) vs)
 
--- the access that ends a phase on the board behind it, as an entry of its processor's pass
+-- the access that ends a phase on the board after it, as an entry of its processor's pass
 abbrev pub step_entry : ℕ → ℕ → BoardParts → Entry
 step_entry cpu h b = Board cpu cpu h Step (reply_of b cpu h Step)
 

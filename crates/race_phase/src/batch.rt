@@ -1,4 +1,4 @@
-//! Records of one processor that are answered together: accesses that stand one behind another under one lock, reads of pages
+//! Records of one processor that are answered together: accesses that follow one another under one lock, reads of pages
 //! and clocks without it.
 ghost use Rattle.std.specs.Prelude.{◌≡◌, ◌<◌, ◌≤◌, ◌+◌, ◌^◌, ◌++◌, ◌⊎◌, All, IfOk, OnOk, OnErr, length, take, vec_len};
 ghost use Rattle.std.specs.Bool.{OnTrue};
@@ -29,7 +29,7 @@ use shared_board::{Holding, Pass, SharedBoard};
 use std::alloc::Global;
 use std::sync::Wait;
 
-// The count of the reply's edges stands last in it, beside what each record asks for.
+// The count of the reply's edges is last in it, beside what each record asks for.
 /// What a record was told, until it is printed. Its reply is put where it stays, so that no list of edges is moved.
 #[derive(Drop)]
 pub(crate) struct Place {
@@ -125,7 +125,7 @@ fn answer_all<N: Name, R: Wait, G: Gate>(
     Ok(())
 }
 
-/// Whether an access stands at a place, and another behind it.
+/// Whether there is an access at a place, and another after it.
 fn begins_run(records: &[Record], done: usize) -> bool
     requires { done < length records.now }
     ensures { OnTrue result (done + 1 < length records.now) }
@@ -135,8 +135,8 @@ fn begins_run(records: &[Record], done: usize) -> bool
         && matches!(records[done + 1].call, Call::Act { .. })
 }
 
-/// Answers accesses that stand one behind another, two at least, from a place on, under one lock, which it gives back. It
-/// tells at which place it stops, where there is no access, or no record; or that one of the accesses wasn't answered. The
+/// Answers accesses that follow one another, two at least, from a place on, under one lock, which it gives back. It
+/// says at which place it stops, where there is no access, or no record; or that one of the accesses wasn't answered. The
 /// gate's first and last calls are outside of the lock.
 fn answer_run<N: Name, R: Wait, G: Gate>(
     rt: &R,
@@ -201,7 +201,7 @@ fn answer_run<N: Name, R: Wait, G: Gate>(
     Ok(done)
 }
 
-/// Answers the record at a place, where there is one. It tells at which place it stops, or that the record wasn't answered.
+/// Answers the record at a place, where there is one. It says at which place it stops, or that the record wasn't answered.
 fn answer_next<N: Name, R: Wait, G: Gate>(
     rt: &R,
     gate: &G,

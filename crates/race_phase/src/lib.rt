@@ -2,7 +2,7 @@
 //!
 //! A phase is the records between two saves or moves. [`run_race`] runs a trace of which no line is refused as one
 //! thread would take it in file order; since refusals depend on counts alone, no order of the threads is refused then.
-//! A [`Tally`] tells which lines are: it has these counts, and no devices. In each phase the processors share one board
+//! A [`Tally`] says which lines are: it has these counts, and no devices. In each phase the processors share one board
 //! (`shared_board`), each takes its own records in their order, and appends what it is told to a text of its own. The
 //! text of a phase is the blocks of processor 0, then those of 1, and so on; the numbers in them say in which order the
 //! board was asked. Then the save or the move is done on the board that the threads leave, and the next phase opens with

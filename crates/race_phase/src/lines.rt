@@ -10,12 +10,12 @@ use std::alloc::Global;
 use std::marker::Model;
 use trace_text::{Body, Job, Record as Written};
 
-/// Where a line stands in the text of its phase.
+/// Where a line is in the text of its phase.
 #[derive(Clone, Copy)]
 pub(crate) struct Line {
     /// Its number in the trace, counted from 1.
     pub(crate) number: u64,
-    /// How many bytes stand before it.
+    /// How many bytes are before it.
     pub(crate) start: u32,
     /// How many it has, without its end.
     pub(crate) length: u8,
@@ -153,7 +153,7 @@ impl RecordLines {
     }
 }
 
-/// What a record asks that stands in a phase.
+/// What a record of a phase asks.
 #[inline(always)]
 fn call_of(job: &Job) -> Call
     ensures { result ≡ call_of job.now }

@@ -22,7 +22,7 @@ use std::sync::Wait;
 use std::thread::{Threads, map_vec};
 
 /// Runs the records of a phase on a board, of whose state the blank was made, each processor's in a thread of its own,
-/// and gives back the board behind them and their text: the blocks of processor 0, then those of 1, and so on.
+/// and gives back the board after them and their text: the blocks of processor 0, then those of 1, and so on.
 pub fn run_phase<N: Name + Send + Sync, R: Threads + Wait + Sync, G: Gate + Sync>(
     rt: &R,
     alloc: Global,
@@ -76,7 +76,7 @@ pub(crate) fn places(processors: &[ProcessorParts; 64]) -> usize
     processors.len()
 }
 
-/// The passes, and the text of one worker behind that of another.
+/// The passes, and the texts of the workers one after another.
 fn gather<N: Name>(
     alloc: Global,
     results: Vec<Result<Worked<N>, NoMemory>>,

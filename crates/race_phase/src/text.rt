@@ -11,7 +11,7 @@ use std::marker::Model;
 /// pieces, and no long one is copied.
 const SHORT: usize = 16 * 1024;
 
-/// A text in pieces, that stand one behind another.
+/// A text in pieces, one after another.
 #[derive(Drop)]
 pub struct Text {
     pieces: Vec<Vec<u8>>,

@@ -48,7 +48,7 @@ abbrev pub raised_at : Option ℕ → List ℕ → List ℕ
 raised_at None vs = vs
 raised_at (Some k) vs = slice_set vs k (slice_index_or vs k 0 + 2)
 
--- the version of the reference page behind an access
+-- the version of the reference page after an access
 abbrev pub hv_version_after : Access → ℕ → ℕ
 hv_version_after a version = if publishes_hv a then version + 2 else version
 
@@ -80,7 +80,7 @@ unfoldable pub raised_below : ℕ → List ℕ → List ℕ
 raised_below zero vs = vs
 raised_below (suc n) vs = raised_at (Some n) (raised_below n vs)
 
--- the version of the reference page behind a move, if the format has one
+-- the version of the reference page after a move, if the format has one
 abbrev pub hv_version_moved : ℕ → ℕ → ℕ
 hv_version_moved format version = if nat_le HV_FORMAT format then version + 2 else version
 

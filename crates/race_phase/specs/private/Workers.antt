@@ -89,7 +89,7 @@ places_text ds [] ts = []
 places_text ds (r ∷ rs) [] = []
 places_text ds (r ∷ rs) (t ∷ ts) = place_text ds r t ++ places_text ds rs ts
 
--- a pass has answered these records behind what it had made before, as the places tell
+-- a pass has answered these records after what it had made before, as the places say
 pub record AllAnswered (s : BoardParts) (rs : List Record) (ts : List Place) (p q : PassKnown) :
     Type 0 where
   pub number : q.number ≡ p.number
@@ -99,7 +99,7 @@ pub record AllAnswered (s : BoardParts) (rs : List Record) (ts : List Place) (p 
       → AllMade s ds p.number (done ++ rs) (out ++ places_text ds rs ts) (mine q)
   pub tried : AllTried s.cpus (mine p) p.misses → AllTried s.cpus (mine q) q.misses
 
--- a pass has answered these records, and their blocks were put behind a text
+-- a pass has answered these records, and their blocks were appended to a text
 abbrev pub HasPrinted : BoardParts → Deliveries → List Record → List ℕ → List ℕ
     → PassKnown → PassKnown → Type 0
 HasPrinted s ds rs old new p q =
@@ -126,7 +126,7 @@ AllGiven {A} {E} xs pass text s ds rs =
     (i : ℕ) (d : Result A E) → i < length xs
     → IfOk (slice_index_or xs i d) (λ w. HasWorked s ds rs i (pass w) (text w))
 
--- the passes from n on, and what they answered, one behind another
+-- the passes from n on, and what they answered, one after another
 abbrev pub AllWorked : BoardParts → Deliveries → List Record → ℕ → List PassKnown
     → List ℕ → Type 0
 AllWorked s ds rs n [] out = out ≡ []
