@@ -7,7 +7,7 @@
  *     shared_words clamp RAISES   four threads raise the greatest reading to readings that jump about, and look that none is
  *                                 given less than was given before
  *
- * A reader reads on until it met 10,000 versions (under ThreadSanitizer 1,000), but no longer than two minutes in all. Ends with
+ * A reader reads on until it met 10,000 versions (under ThreadSanitizer 1,000), but no longer than five minutes in all. Ends with
  * 1 where a look fails, and with 3 where too few versions were met for the run to mean anything. */
 #include "shared.h"
 #include <inttypes.h>
@@ -18,7 +18,7 @@
 #include <string.h>
 #include <time.h>
 
-enum { FAILED = 1, NO_THREAD = 2, TOO_FEW = 3, READERS = 3, RAISERS = 4, PAGE = 3, SECONDS = 120 };
+enum { FAILED = 1, NO_THREAD = 2, TOO_FEW = 3, READERS = 3, RAISERS = 4, PAGE = 3, SECONDS = 300 };
 #if defined(__SANITIZE_THREAD__) || defined(TSAN)
 enum { NEW_PAGES = 1000 };
 #else
