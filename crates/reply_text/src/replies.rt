@@ -65,6 +65,9 @@ fn put_value(value: &Value, tail: &mut Tail)
     match *value {
         Value::Nothing => {}
         Value::Byte(byte) => tail.hex(u64::from(byte), 1),
+        // The widths of a guest's driver are apart: their digits are written without a test a byte.
+        Value::Word { width: 8, value } => tail.hex(value, 8),
+        Value::Word { width: 4, value } => tail.hex(value, 4),
         Value::Word { width, value } => tail.hex(value, usize::from(width.min(8))),
         Value::Counts(counts) => {
             tail.number(counts.lost);
