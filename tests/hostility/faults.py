@@ -7,7 +7,7 @@ from collections.abc import Callable, Iterator
 from .jobs import MEMORY_FAULT, SOURCE_FAULT, Job
 from .program import Outcome, Program
 
-PIECE = 4096
+PIECE = 16384
 """How many bytes the program asks for at a time."""
 
 Check = Callable[[Job, int, Outcome], bool]

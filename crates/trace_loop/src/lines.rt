@@ -48,7 +48,7 @@ pub const STATE_LINE_MAX: usize = 200_000;
 const STATE: &[u8] = b"state ";
 
 /// How many bytes are taken from the source at a time.
-const PIECE: usize = 4096;
+const PIECE: usize = 16384;
 
 /// Where the present line stops in the bytes that are left.
 #[derive(Clone, Copy, Debug, PartialEq, Eq)]
@@ -89,7 +89,7 @@ impl Model for Lines {
       left = take (r.to - r.from) (drop r.from r.piece);
     } };
 
-    ghost invariant = { λ r. (r.from ≤ r.to) × (r.to ≤ 4096) × (r.start ≤ r.stop) × (r.stop ≤ 4096)
+    ghost invariant = { λ r. (r.from ≤ r.to) × (r.to ≤ 16384) × (r.start ≤ r.stop) × (r.stop ≤ 16384)
         × HasNoEnd r.kept.items × (length r.kept.items ≤ limit_of r.kept.items) };
 }
 
@@ -173,7 +173,7 @@ impl Lines {
         let rest = &self.piece[self.from..self.to];
         let end = memchr(b'\n', rest);
         let n = end.unwrap_or(rest.len());
-        let limit = limit_across(&self.kept, &rest[..n]);
+        let limit = limit_met(&self.kept, &rest[..n]);
         if self.kept.len() + n > limit {
             return Found::Excess(limit + 1 - self.kept.len());
         }
@@ -316,8 +316,22 @@ pub fn limit_of(text: &[u8]) -> usize
     }
 }
 
-/// The same of a line of which an earlier piece had the front.
+/// A limit that a line is over if it is over its own, of which an earlier piece had the front. Most lines are within the
+/// least limit, and then how they begin isn't looked at.
 #[inline(always)]
+fn limit_met(kept: &[u8], rest: &[u8]) -> usize
+    ensures least { result ≤ limit_of (kept.now ++ rest.now) }
+    ensures over { result < length kept.now + length rest.now
+        → result ≡ limit_of (kept.now ++ rest.now) }
+{
+    if kept.len() + rest.len() <= LINE_MAX {
+        return LINE_MAX;
+    }
+    limit_across(kept, rest)
+}
+
+/// How many bytes a line may have without its end, of which an earlier piece had the front.
+#[inline(never)]
 fn limit_across(kept: &[u8], rest: &[u8]) -> usize
     ensures { result ≡ limit_of (kept.now ++ rest.now) }
 {

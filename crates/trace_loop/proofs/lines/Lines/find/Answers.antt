@@ -1,5 +1,5 @@
 use Rattle.std.proofs.Common.{◌≡◌, ℕ, ◌+◌, ◌-◌, ◌<◌, ◌≤◌, List, ◌++◌, length, take, drop, slice_index, unwrap_or, ap, ◌∙◌, subst, arith}
-use Rattle.std.proofs.lemmas.List.{take_all}
+use Rattle.std.proofs.lemmas.List.{take_all, length-take-le}
 use Rattle.trace_loop.specs.Progress.{limit_of}
 use Rattle.trace_loop.proofs.Progresses.{limit_least, limit_grows, limit_part}
 use Rattle.trace_loop.specs.Cut.{Cut, HasNoEnd}
@@ -13,7 +13,9 @@ overflow_sub-result c =
     let left : rest ≡ c.args.self.now.left = ap (λ (s : Cut). s.left) c.self.view_is in
     let text : r.kept.items ≡ c.args.self.now.text = ap (λ (s : Cut). s.text) c.self.view_is in
     let N : ℕ = c.unwrap_or-n.result in
-    let limit : c.limit_across-limit.result ≡ limit_of (r.kept.items ++ take N rest) = c.limit_across-limit.ensures
+    let most : N ≤ length rest = omega (arith, c.unwrap_or-n.ensures, found_within rest c.memchr-end.result c.memchr-end.ensures) in
+    let limit : c.limit_met-limit.result ≡ limit_of (r.kept.items ++ take N rest) = c.limit_met-limit.ensures.over
+    (omega (arith, length-take-le N rest most, ap length c.deref.ensures.value, c.len.ensures, r.kept.ok.0, c.if-len-n.true))
     ∙ ap (λ (t : List ℕ). limit_of (t ++ take N rest)) c.deref.ensures.value in
     omega (arith, limit, limit_grows r.kept.items (take N rest) c.self.invariant.5, c.len-then-len-n.ensures, r.kept.ok.0)
 
@@ -24,15 +26,16 @@ returns-then-len-n c =
     let left : rest ≡ c.args.self.now.left = ap (λ (s : Cut). s.left) c.self.view_is in
     let text : r.kept.items ≡ c.args.self.now.text = ap (λ (s : Cut). s.text) c.self.view_is in
     let N : ℕ = c.unwrap_or-n.result in
-    let limit : c.limit_across-limit.result ≡ limit_of (r.kept.items ++ take N rest) = c.limit_across-limit.ensures
+    let most : N ≤ length rest = omega (arith, c.unwrap_or-n.ensures, found_within rest c.memchr-end.result c.memchr-end.ensures) in
+    let limit : c.limit_met-limit.result ≡ limit_of (r.kept.items ++ take N rest) = c.limit_met-limit.ensures.over
+    (omega (arith, length-take-le N rest most, ap length c.deref.ensures.value, c.len.ensures, r.kept.ok.0, c.if-len-n.true))
     ∙ ap (λ (t : List ℕ). limit_of (t ++ take N rest)) c.deref.ensures.value in
-    let L : ℕ = c.limit_across-limit.result in
+    let L : ℕ = c.limit_met-limit.result in
     let k : ℕ = c.len-then-len-n.result in
     let n : ℕ = L + 1 - k in
     let kept : k ≡ length r.kept.items = c.len-then-len-n.ensures ∙ r.kept.ok.0 in
     let grows : length r.kept.items ≤ L = omega (arith, limit, limit_grows r.kept.items (take N rest) c.self.invariant.5) in
     let low : n ≤ N = omega (arith, kept, c.len.ensures, r.kept.ok.0, c.if-len-n.true) in
-    let most : N ≤ length rest = omega (arith, c.unwrap_or-n.ensures, found_within rest c.memchr-end.result c.memchr-end.ensures) in
     let same : limit_of (r.kept.items ++ take N rest)
     ≡ limit_of (r.kept.items ++ take n rest) = limit_part r.kept.items rest n N low (omega (arith, low, most))
     (omega (arith, kept, grows, limit, limit_least (r.kept.items ++ take N rest))) in (
@@ -50,8 +53,8 @@ returns-in-Some c =
     let left : rest ≡ c.args.self.now.left = ap (λ (s : Cut). s.left) c.self.view_is in
     let text : r.kept.items ≡ c.args.self.now.text = ap (λ (s : Cut). s.text) c.self.view_is in
     let N : ℕ = c.unwrap_or-n.result in
-    let limit : c.limit_across-limit.result ≡ limit_of (r.kept.items ++ take N rest) = c.limit_across-limit.ensures
-    ∙ ap (λ (t : List ℕ). limit_of (t ++ take N rest)) c.deref.ensures.value in
+    let limit : c.limit_met-limit.result ≤ limit_of (r.kept.items ++ take N rest) = subst (λ (t : List ℕ). c.limit_met-limit.result ≤ limit_of (t ++ take N rest))
+    c.deref.ensures.value c.limit_met-limit.ensures.least in
     let at = found_at rest c.memchr-end.result c.in-Some.n c.memchr-end.ensures c.in-Some.is in
     let is : unwrap_or c.memchr-end.result (length rest) ≡ c.in-Some.n = ap (λ o. unwrap_or o (length rest)) c.in-Some.is in (
       subst (λ (l : List ℕ). c.in-Some.n < length l) left at.0,
@@ -70,8 +73,8 @@ returns-in-None c =
     let left : rest ≡ c.args.self.now.left = ap (λ (s : Cut). s.left) c.self.view_is in
     let text : r.kept.items ≡ c.args.self.now.text = ap (λ (s : Cut). s.text) c.self.view_is in
     let N : ℕ = c.unwrap_or-n.result in
-    let limit : c.limit_across-limit.result ≡ limit_of (r.kept.items ++ take N rest) = c.limit_across-limit.ensures
-    ∙ ap (λ (t : List ℕ). limit_of (t ++ take N rest)) c.deref.ensures.value in
+    let limit : c.limit_met-limit.result ≤ limit_of (r.kept.items ++ take N rest) = subst (λ (t : List ℕ). c.limit_met-limit.result ≤ limit_of (t ++ take N rest))
+    c.deref.ensures.value c.limit_met-limit.ensures.least in
     let is : unwrap_or c.memchr-end.result (length rest) ≡ length rest = ap (λ o. unwrap_or o (length rest)) c.in-None.is in (
       subst HasNoEnd (take_all (length rest) rest (omega arith) ∙ left)
           (no_end_found rest c.memchr-end.result (length rest) c.memchr-end.ensures (omega (arith, is))),
