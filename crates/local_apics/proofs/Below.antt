@@ -21,9 +21,23 @@ use Rattle.local_apics.proofs.Product.{runs}
 use Rattle.local_apics.proofs.Joins.{looks-parts}
 use Rattle.local_apics.proofs.Ticks.{idle_parts, nanoseconds-idle, ticks_in-idle, looked-quiet}
 
--- a run
-pub run-none : (tsc : ℕ → ℕ → ℕ) (from n : ℕ) (a : ApicsParts) → AreApicPlaces a → IsRunBelow 0 tsc from n a a
-run-none tsc from n a are = done-none _ _ a are
+-- idle timers stay in a run, and so do their lines
+timer-idle : (tsc : ℕ → ℕ → ℕ) (from n j : ℕ) (a : ApicsParts) → is_idle (timer_at j a) ≡ true → nanoseconds (tsc j) from n (timer_at j a) ≡ timer_at j a
+timer-idle tsc from n j a idle =
+    nanoseconds-idle (tsc j) from n (timer_at j a) (idle_parts (timer_at j a) idle).0 (idle_parts (timer_at j a) idle).1
+
+line-idle : (tsc : ℕ → ℕ → ℕ) (from n j : ℕ) (a : ApicsParts) → is_idle (timer_at j a) ≡ true
+    → ticked_times (ticks_in (tsc j) from (timer_at j a) n) (line_at j a) ≡ line_at j a
+line-idle tsc from n j a idle =
+    ap (λ (m : ℕ). ticked_times m (line_at j a))
+    (ticks_in-idle (tsc j) from n (timer_at j a) (idle_parts (timer_at j a) idle).0 (idle_parts (timer_at j a) idle).1)
+    ∙ ticked_times-zero (line_at j a)
+
+-- a run begins with the first timer that isn't idle
+pub run-start : (k : ℕ) (tsc : ℕ → ℕ → ℕ) (from n : ℕ) (a : ApicsParts) → AreApicPlaces a
+    → ((j : ℕ) → j < k → is_idle (timer_at j a) ≡ true) → IsRunBelow k tsc from n a a
+run-start k tsc from n a are idle =
+    done-none k _ _ a are (λ j less. timer-idle tsc from n j a (idle j less)) (λ j less. line-idle tsc from n j a (idle j less))
 
 pub run-more : (k : ℕ) (tsc : ℕ → ℕ → ℕ) (from n : ℕ) (a b c : ApicsParts) → IsRunBelow k tsc from n a b → AreApicPlaces c
     → timer_at k c ≡ nanoseconds (tsc k) from n (timer_at k b)
@@ -43,13 +57,12 @@ pub run-end : (k : ℕ) (tsc : ℕ → ℕ → ℕ) (from n : ℕ) (a b : ApicsP
     → ((j : ℕ) → k ≤ j → j < 64 → is_idle (timer_at j b) ≡ true) → b ≡ run tsc from n a
 run-end k tsc from n a b done idle =
     let all = done-all k _ _ a b done
-    (λ j after less. nanoseconds-idle (tsc j) from n (timer_at j a) (parts j after less).0 (parts j after less).1)
-    (λ j after less. ap (λ (m : ℕ). ticked_times m (line_at j a)) (ticks_in-idle (tsc j) from n (timer_at j a) (parts j after less).0 (parts j after less).1)
-    ∙ ticked_times-zero (line_at j a)) in
+    (λ j after less. timer-idle tsc from n j a (before j after less))
+    (λ j after less. line-idle tsc from n j a (before j after less)) in
     all ∙ runs tsc from n a _ _ refl refl
   where
-    parts : (j : ℕ) → k ≤ j → j < 64 → ((timer_at j a).current ≡ 0) × ((timer_at j a).deadline ≡ 0)
-    parts j after less = idle_parts (timer_at j a) (ap is_idle (sym (done.other_timers j after)) ∙ idle j after less)
+    before : (j : ℕ) → k ≤ j → j < 64 → is_idle (timer_at j a) ≡ true
+    before j after less = ap is_idle (sym (done.other_timers j after)) ∙ idle j after less
 
 -- the run of a span
 pub span-run : (span : Span) (clock : TscClock) (tscs : List Tsc) (from to : ℕ) (a : ApicsParts) → span.clock ≡ clock → span.from ≡ from → span.to ≡ to
@@ -60,10 +73,7 @@ span-run span clock tscs from to a e f g =
     ∙ ap (λ (x : ℕ). run (λ k. tsc_in clock (get_or tscs k no_tsc)) x (span.to - x) a) f
     ∙ ap (λ (x : ℕ). run (λ k. tsc_in clock (get_or tscs k no_tsc)) from (x - from) a) g
 
--- a look
-pub looked-start : (tsc : ℕ → ℕ) (a : ApicsParts) → AreApicPlaces a → IsLookedBelow 0 tsc a a
-looked-start tsc a are = done-none _ _ a are
-
+-- a look at one timer more
 pub looked-more : (k : ℕ) (tsc : ℕ → ℕ) (a b c : ApicsParts) → IsLookedBelow k tsc a b → AreApicPlaces c
     → timer_at k c ≡ looked (tsc k) (timer_at k b) → line_at k c ≡ ticked_where (looks_due (tsc k) (timer_at k b)) (line_at k b)
     → ((j : ℕ) → (j ≡ k → ⊥) → timer_at j c ≡ timer_at j b) → ((j : ℕ) → (j ≡ k → ⊥) → line_at j c ≡ line_at j b)
@@ -87,6 +97,13 @@ never-due x p none = ap (λ (b : Bool). not (is_masked p) && b) none ∙ by (not
     by true = refl
     by false = refl
 
+-- a look begins with the first timer that isn't idle
+pub looked-start : (k : ℕ) (tsc : ℕ → ℕ) (a : ApicsParts) → AreApicPlaces a → ((j : ℕ) → j < k → is_idle (timer_at j a) ≡ true) → IsLookedBelow k tsc a a
+looked-start k tsc a are idle =
+    done-none k _ _ a are
+    (λ j less. looked-quiet (tsc j) (timer_at j a) (idle-unreached (tsc j) (timer_at j a) (idle j less)))
+    (λ j less. ap (λ (d : Bool). ticked_where d (line_at j a)) (never-due (tsc j) (timer_at j a) (idle-unreached (tsc j) (timer_at j a) (idle j less))))
+
 looked-rest : (k : ℕ) (tsc : ℕ → ℕ) (a b : ApicsParts) → IsLookedBelow k tsc a b
     → ((j : ℕ) → k ≤ j → j < 64 → is_reached (timer_at j a).deadline (tsc j) ≡ false) → b ≡ looked_all tsc a
 looked-rest k tsc a b done quiet =
@@ -102,4 +119,4 @@ looked-end k tsc a b done idle = looked-rest k tsc a b done (λ j after less.
 
 -- a look where no deadline is armed
 pub looked-none : (tsc : ℕ → ℕ) (a : ApicsParts) → AreApicPlaces a → ((j : ℕ) → j < 64 → (timer_at j a).deadline ≡ 0) → a ≡ looked_all tsc a
-looked-none tsc a are none = looked-rest 0 tsc a a (looked-start tsc a are) (λ j after less. ap (λ (d : ℕ). is_reached d (tsc j)) (none j less))
+looked-none tsc a are none = looked-rest 0 tsc a a (looked-start 0 tsc a are (λ j less. absurd (omega (arith, less)))) (λ j after less. ap (λ (d : ℕ). is_reached d (tsc j)) (none j less))

@@ -10,12 +10,14 @@ use Rattle.local_apics.specs.private.Stretch.{IsDoneBelow}
 use Rattle.local_apics.proofs.Places.{each-in, same_places, length-each}
 use Rattle.local_apics.proofs.Product.{both, same_parts}
 
-pub done-none : (f : ℕ → ApicParts → ApicParts) (g : ℕ → TickParts → TickParts) (a : ApicsParts) → AreApicPlaces a → IsDoneBelow 0 f g a a
-done-none f g a are = record {
+-- where nothing is to be done at the first places
+pub done-none : (n : ℕ) (f : ℕ → ApicParts → ApicParts) (g : ℕ → TickParts → TickParts) (a : ApicsParts) → AreApicPlaces a
+    → ((k : ℕ) → k < n → f k (timer_at k a) ≡ timer_at k a) → ((k : ℕ) → k < n → g k (line_at k a) ≡ line_at k a) → IsDoneBelow n f g a a
+done-none n f g a are idle still = record {
   before = are;
   after = are;
-  timers = λ k less. absurd (omega (arith, less));
-  lines = λ k less. absurd (omega (arith, less));
+  timers = λ k less. sym (idle k less);
+  lines = λ k less. sym (still k less);
   other_timers = λ k after. refl;
   other_lines = λ k after. refl;
 }

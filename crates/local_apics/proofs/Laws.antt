@@ -52,16 +52,16 @@ due-looked_all tsc k a inside =
 
 -- idle timers, as all are where there is no processor
 pub look-idle : (tsc : ℕ → ℕ) (a : ApicsParts) → AreApicPlaces a → AreIdle a → looked_all tsc a ≡ a
-look-idle tsc a are idle = sym (looked-end 0 tsc a a (looked-start tsc a are) (λ k after less. idle k less))
+look-idle tsc a are idle = sym (looked-end 0 tsc a a (looked-start 0 tsc a are (λ j less. absurd (omega (arith, less)))) (λ k after less. idle k less))
 
-AreApics-power_on : (cpus : ℕ) → cpus ≤ 64 → AreApicPlaces (apics_at_power_on cpus)
-AreApics-power_on cpus few = record { timers = power_on-length cpus few; lines = refl; policy = λ k less. no_lines-policy 64 k }
+AreApicPlaces-apics_at_power_on : (cpus : ℕ) → cpus ≤ 64 → AreApicPlaces (apics_at_power_on cpus)
+AreApicPlaces-apics_at_power_on cpus few = record { timers = power_on-length cpus few; lines = refl; policy = λ k less. no_lines-policy 64 k }
 
 pub run-empty : (tsc : ℕ → ℕ → ℕ) (from n : ℕ) → run tsc from n (apics_at_power_on 0) ≡ apics_at_power_on 0
 run-empty tsc from n = run-idle tsc from n (apics_at_power_on 0) refl refl (λ k less. power_on-idle 0 k)
 
 pub look-empty : (tsc : ℕ → ℕ) → looked_all tsc (apics_at_power_on 0) ≡ apics_at_power_on 0
-look-empty tsc = look-idle tsc (apics_at_power_on 0) (AreApics-power_on 0 (omega arith)) (λ k less. power_on-idle 0 k)
+look-empty tsc = look-idle tsc (apics_at_power_on 0) (AreApicPlaces-apics_at_power_on 0 (omega arith)) (λ k less. power_on-idle 0 k)
 
 -- the next tick, as a run has it: until then the line of the processor stays, and then it takes a tick
 ticks_in-none : (tsc : ℕ → ℕ) (from n : ℕ) (p : ApicParts) → ((t : ℕ) → from < t → t ≤ from + n → ticks_at tsc from p t ≡ false) → ticks_in tsc from p n ≡ 0

@@ -4,6 +4,9 @@ use Rattle.lapic_timer.specs.declared.parts.ApicParts.{ApicParts}
 use Rattle.lapic_timer.specs.Parts.{apic_at_power_on}
 use Rattle.local_apics.specs.Parts.{is_idle, timers_at_power_on}
 use Rattle.local_apics.specs.Places.{no_timer, no_line}
+use Rattle.local_apics.specs.private.Mask.{no_deadline}
+use Rattle.local_apics.proofs.Ticks.{idle_parts}
+use Rattle.std.proofs.lemmas.Bool.{eq-eqb}
 use Rattle.tick_policy.specs.declared.parts.Policy.TheVariants.{Discard}
 
 set-replicate : (k m : ℕ) (a b : ApicParts) → set (replicate k a ++ replicate (suc m) b) k a ≡ replicate (suc k) a ++ replicate m b
@@ -38,6 +41,10 @@ idle (suc k) m (suc j) = idle k m j
 -- all of them are idle
 pub power_on-idle : (cpus j : ℕ) → is_idle (get_or (timers_at_power_on cpus) j no_timer) ≡ true
 power_on-idle cpus j = idle cpus (64 - cpus) j
+
+-- and so none waits for a deadline
+pub power_on-unset : (cpus j : ℕ) → no_deadline (get_or (timers_at_power_on cpus) j no_timer) ≡ true
+power_on-unset cpus j = eq-eqb (get_or (timers_at_power_on cpus) j no_timer).deadline 0 (idle_parts (get_or (timers_at_power_on cpus) j no_timer) (power_on-idle cpus j)).1
 
 pub no_lines-policy : (m j : ℕ) → (get_or (replicate m no_line) j no_line).policy ≡ Discard
 no_lines-policy zero j = refl

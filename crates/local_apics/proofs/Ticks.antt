@@ -44,6 +44,14 @@ ticks_in-counting tsc from (suc n) p other =
     ∙ ap (λ (x : ℕ). cond (not (is_masked p) && fires_next (passed_times n p)) (suc x) x) (ticks_in-counting tsc from n p other)
     ∙ counted (is_masked p) (fires_next (passed_times n p)) (fires_in p n)
 
+-- without a fire there is no tick
+pub ticks_in-quiet : (tsc : ℕ → ℕ) (from n : ℕ) (p : ApicParts) → (mode_of p.lvt ≡ 2 → ⊥) → fires_in p n ≡ 0 → ticks_in tsc from p n ≡ 0
+ticks_in-quiet tsc from n p other none = ticks_in-counting tsc from n p other ∙ ap (cond (is_masked p) 0) none ∙ by (is_masked p)
+  where
+    by : (m : Bool) → ◌≡◌ {A = ℕ} (cond m 0 0) 0
+    by true = refl
+    by false = refl
+
 -- in deadline mode
 tick-deadline : (t d : ℕ) (p : ApicParts) → mode_of p.lvt ≡ 2 → tick_with t (record p { deadline = d }) ≡ (not (is_masked p) && is_reached d t)
 tick-deadline t d p deadline =

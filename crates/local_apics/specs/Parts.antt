@@ -38,10 +38,11 @@ pub record AreApicsOf (cpus : ℕ) (a : ApicsParts) : Type 0 where
   pub lines : length a.lines ≡ 64
   pub place : (k : ℕ) → k < 64 → IsPlaceOf (nat_lt k cpus) (timer_at k a) (line_at k a)
 
--- those at power on
+-- the timers at power on
 abbrev pub timers_at_power_on : ℕ → List ApicParts
 timers_at_power_on cpus = replicate cpus apic_at_power_on ++ replicate (64 - cpus) no_timer
 
+-- .. with their lines
 abbrev pub apics_at_power_on : ℕ → ApicsParts
 apics_at_power_on cpus = record {
   timers = timers_at_power_on cpus;

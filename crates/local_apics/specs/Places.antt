@@ -12,19 +12,22 @@ abbrev pub each : {X : Type 0} → (ℕ → X → X) → ℕ → List X → List
 each f k [] = []
 each f k (x ∷ xs) = f k x ∷ each f (suc k) xs
 
--- what the place of a processor that isn't there holds
+-- the timer in the place of a processor that isn't there: all its fields are 0
 abbrev pub no_timer : ApicParts
 no_timer = record { lvt = 0; divide = 0; initial = 0; current = 0; phase = 0; deadline = 0 }
 
+-- .. its tick line
 abbrev pub no_line : TickParts
 no_line = line_at_power_on Discard
 
+-- .. and the numbers of its TSC
 abbrev pub no_tsc : Tsc
 no_tsc = record { offset = 0; adjust = 0 }
 
--- the timer of a processor, and its tick line
+-- the timer of a processor
 abbrev pub timer_at : ℕ → ApicsParts → ApicParts
 timer_at k a = slice_index_or a.timers k no_timer
 
+-- .. and its tick line
 abbrev pub line_at : ℕ → ApicsParts → TickParts
 line_at k a = slice_index_or a.lines k no_line

@@ -46,6 +46,8 @@ use tsc_scale::Tsc;
 pub struct LocalApics {
     /// A bit for each timer that isn't idle.
     pub(crate) armed: u64,
+    /// A bit for each of these that waits for a deadline.
+    pub(crate) waiting: u64,
     pub(crate) timers: [ApicTimer; 64],
     pub(crate) lines: [TickLine; 64],
 }
@@ -74,6 +76,7 @@ impl LocalApics {
     {
         LocalApics {
             armed: 0,
+            waiting: 0,
             timers: timers_at_power_on(cpus),
             lines: no_lines(),
         }
@@ -135,21 +138,13 @@ impl LocalApics {
         self.armed != 0
     }
 
-    /// Whether a deadline may be armed. Where none is, no TSC is asked for.
-    fn has_deadlines(&self) -> bool
+    /// Whether a deadline is armed. Where none is, a look does nothing, and no TSC is asked for.
+    #[inline]
+    pub fn has_deadlines(&self) -> bool
         ensures none { result ≡ false → (k : ℕ) → k < 64 → (timer_at k self.now).deadline ≡ 0 }
         ensures joined { AreApicPlaces self.now }
     {
-        let _ = &self.armed;
-        for cpu in 0..64 {
-            if self.is_idle_from(cpu) {
-                return false;
-            }
-            if self.timer(cpu).deadline() != 0 {
-                return true;
-            }
-        }
-        false
+        self.waiting != 0
     }
 
     /// Runs all timers from nanosecond `from` to `to`, each with the TSC of its processor: these are
@@ -168,7 +163,7 @@ impl LocalApics {
             return;
         }
         let span = Span::new(clock, from, to, self.has_deadlines());
-        for cpu in 0..64 {
+        for cpu in self.first_armed()..64 {
             if self.is_idle_from(cpu) {
                 return;
             }
@@ -192,7 +187,7 @@ impl LocalApics {
             return;
         }
         let count = guest_count_at(clock.anchor, clock.guest_khz, at);
-        for cpu in 0..64 {
+        for cpu in self.first_armed()..64 {
             if self.is_idle_from(cpu) {
                 return;
             }

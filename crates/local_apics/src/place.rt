@@ -6,6 +6,7 @@ ghost use Rattle.std.specs.Prelude.{
   true,
   false,
   ◌+◌,
+  ◌-◌,
   ◌^◌,
   ◌<◌,
   ◌≤◌,
@@ -19,16 +20,18 @@ ghost use Rattle.tsc_scale.specs.Tsc.{tsc_at};
 ghost use Rattle.tick_policy.specs.Line.{ticked_times, acked};
 ghost use Rattle.tick_policy.specs.Stretch.{ticked_where};
 ghost use Rattle.lapic_timer.specs.Deadline.{guest_count_at, looked};
+ghost use Rattle.lapic_timer.specs.Parts.{mode_of};
 ghost use Rattle.lapic_timer.specs.Stretch.{nanoseconds};
 ghost use Rattle.local_apics.specs.Nanosecond.{looks_due, tscs_of, tsc_in};
 ghost use Rattle.local_apics.specs.Parts.{AreApicPlaces, IsPlaceOf, is_idle};
 ghost use Rattle.local_apics.specs.Places.{timer_at, line_at, no_tsc};
+ghost use Rattle.local_apics.specs.private.Mask.{no_deadline};
 ghost use Rattle.local_apics.specs.private.Span.{IsSpan, length_of};
 ghost use Rattle.local_apics.specs.private.Stretch.{ticks_in};
 
 use crate::LocalApics;
 use crate::parts::{is_no_line, is_no_timer};
-use crate::span::{Span, run_timer};
+use crate::span::{Span, run_counts, run_deadline};
 use board_types::ProcessorParts;
 use clk_units::bit;
 use lapic_timer::{ApicParts, ApicTimer};
@@ -48,9 +51,18 @@ impl LocalApics {
     /// Whether the timer of a processor is idle, by its bit of the mask.
     fn is_idle(&self, cpu: u8) -> bool
         requires { cpu < 64 }
-        ensures { result ≡ true → is_idle (timer_at cpu self.now) ≡ true }
+        ensures { result ≡ is_idle (timer_at cpu self.now) }
     {
         !bit(u32::from(cpu), self.armed)
+    }
+
+    /// The first processor whose timer isn't idle, or 64.
+    #[inline]
+    pub(crate) fn first_armed(&self) -> u8
+        ensures idle { (k : ℕ) → k < result → is_idle (timer_at k self.now) ≡ true }
+        ensures few { result ≤ 64 }
+    {
+        self.armed.trailing_zeros() as u8
     }
 
     /// The timer of a processor.
@@ -76,11 +88,22 @@ impl LocalApics {
         requires { cpu < 64 }
         ensures { self.new ≡ record self.old { timers = slice_set self.old.timers cpu timer } }
     {
-        let k = cpu as usize;
-        let before = bit_of(k, is_idle(&self.timers[k]));
-        let after = bit_of(k, is_idle(&timer));
-        self.timers[k] = timer;
-        self.armed = self.armed - before + after;
+        let before = self.timer(cpu);
+        self.armed = mask_with(self.armed, cpu, is_idle(&before), is_idle(&timer));
+        self.waiting = mask_with(self.waiting, cpu, no_deadline(&before), no_deadline(&timer));
+        self.timers[cpu as usize] = timer;
+    }
+
+    /// Puts a timer in the place of one that differs neither in being idle nor in waiting for a deadline, so that the masks
+    /// stay.
+    #[inline]
+    fn put_alike(&mut self, cpu: u8, timer: ApicTimer)
+        requires place { cpu < 64 }
+        requires idle { is_idle timer ≡ is_idle (timer_at cpu self.old) }
+        requires deadline { timer.deadline ≡ (timer_at cpu self.old).deadline }
+        ensures { self.new ≡ record self.old { timers = slice_set self.old.timers cpu timer } }
+    {
+        self.timers[cpu as usize] = timer;
     }
 
     /// Puts a tick line in the place of a processor's.
@@ -138,15 +161,82 @@ impl LocalApics {
         ensures other_lines { (k : ℕ) → k ≢ cpu → line_at k self.new ≡ line_at k self.old }
         ensures joined { AreApicPlaces self.new }
     {
-        let mut timer = self.timer(cpu);
+        let timer = self.timer(cpu);
         if self.is_idle(cpu) {
             return;
         }
-        let ticks = run_timer(&mut timer, span, tsc);
-        self.put(cpu, timer);
-        if ticks > 0 {
-            self.tick(cpu, ticks);
+        let parts = timer.parts();
+        if parts.deadline != 0 {
+            self.run_waiting(cpu, span, tsc);
+        } else {
+            self.run_counting(cpu, span.length());
         }
+    }
+
+    /// The same where the timer counts, whatever the TSC. Mostly it doesn't fire.
+    #[inline]
+    fn run_counting(&mut self, cpu: u8, n: u64)
+        requires place { cpu < 64 }
+        requires mode { mode_of (timer_at cpu self.old).lvt ≢ 2 }
+        requires room { (line_at cpu self.old).counts.due + n < 2 ^ 63 }
+        ensures timer { (tsc : ℕ → ℕ) (from : ℕ) → timer_at cpu self.new
+            ≡ nanoseconds tsc from n (timer_at cpu self.old) }
+        ensures line { (tsc : ℕ → ℕ) (from : ℕ) → line_at cpu self.new
+            ≡ ticked_times (ticks_in tsc from (timer_at cpu self.old) n) (line_at cpu self.old) }
+        ensures other_timers { (k : ℕ) → k ≢ cpu → timer_at k self.new ≡ timer_at k self.old }
+        ensures other_lines { (k : ℕ) → k ≢ cpu → line_at k self.new ≡ line_at k self.old }
+        ensures joined { AreApicPlaces self.new }
+    {
+        let mut timer = self.timer(cpu);
+        if timer.glide(n) {
+            self.put_alike(cpu, timer);
+        } else {
+            self.run_fires(cpu, n);
+        }
+    }
+
+    /// The same where it fires.
+    fn run_fires(&mut self, cpu: u8, n: u64)
+        requires place { cpu < 64 }
+        requires mode { mode_of (timer_at cpu self.old).lvt ≢ 2 }
+        requires room { (line_at cpu self.old).counts.due + n < 2 ^ 63 }
+        ensures timer { (tsc : ℕ → ℕ) (from : ℕ) → timer_at cpu self.new
+            ≡ nanoseconds tsc from n (timer_at cpu self.old) }
+        ensures line { (tsc : ℕ → ℕ) (from : ℕ) → line_at cpu self.new
+            ≡ ticked_times (ticks_in tsc from (timer_at cpu self.old) n) (line_at cpu self.old) }
+        ensures other_timers { (k : ℕ) → k ≢ cpu → timer_at k self.new ≡ timer_at k self.old }
+        ensures other_lines { (k : ℕ) → k ≢ cpu → line_at k self.new ≡ line_at k self.old }
+        ensures joined { AreApicPlaces self.new }
+    {
+        let mut timer = self.timer(cpu);
+        let ticks = run_counts(&mut timer, n);
+        self.put(cpu, timer);
+        self.tick(cpu, ticks);
+    }
+
+    /// The same where the timer waits for a deadline. Mostly that isn't reached.
+    #[inline]
+    fn run_waiting(&mut self, cpu: u8, span: &Span, tsc: Tsc)
+        requires place { cpu < 64 }
+        requires mode { mode_of (timer_at cpu self.old).lvt ≡ 2 }
+        requires span { IsSpan span.now }
+        requires looks { span.now.looks ≡ true }
+        requires room { (line_at cpu self.old).counts.due + length_of span.now < 2 ^ 63 }
+        ensures timer { timer_at cpu self.new ≡ nanoseconds (tsc_in span.now.clock tsc)
+            span.now.from (length_of span.now) (timer_at cpu self.old) }
+        ensures line { line_at cpu self.new ≡ ticked_times (ticks_in (tsc_in span.now.clock tsc)
+            span.now.from (timer_at cpu self.old) (length_of span.now)) (line_at cpu self.old) }
+        ensures other_timers { (k : ℕ) → k ≢ cpu → timer_at k self.new ≡ timer_at k self.old }
+        ensures other_lines { (k : ℕ) → k ≢ cpu → line_at k self.new ≡ line_at k self.old }
+        ensures joined { AreApicPlaces self.new }
+    {
+        let mut timer = self.timer(cpu);
+        if !run_deadline(&mut timer, span, tsc) {
+            return;
+        }
+        self.put(cpu, timer);
+        let due = timer.ticks(1);
+        self.tick(cpu, due);
     }
 
     /// Looks at the deadline of one processor, whose TSC is `tsc`.
@@ -198,12 +288,22 @@ pub(crate) fn tsc_of(processors: &[ProcessorParts; 64], k: u8) -> Tsc
     }
 }
 
-/// The bit of processor `k`, where its timer isn't idle.
-fn bit_of(k: usize, idle: bool) -> u64
-    requires { k < 64 }
-    ensures { result ≡ (if idle then 0 else 2 ^ k) }
+/// A mask with the bit of processor `k` clear or not, where it was clear or not.
+fn mask_with(mask: u64, k: u8, was_clear: bool, is_clear: bool) -> u64
+    requires place { k < 64 }
+    requires has { (if was_clear then 0 else 2 ^ k) ≤ mask }
+    requires fits { mask - (if was_clear then 0 else 2 ^ k) + (if is_clear then 0 else 2 ^ k) < 2 ^ 64 }
+    ensures { result ≡ mask - (if was_clear then 0 else 2 ^ k) + (if is_clear then 0 else 2 ^ k) }
 {
-    if idle { 0 } else { 1 << k }
+    mask - bit_of(k, was_clear) + bit_of(k, is_clear)
+}
+
+/// The bit of processor `k`, or none.
+fn bit_of(k: u8, is_clear: bool) -> u64
+    requires { k < 64 }
+    ensures { result ≡ (if is_clear then 0 else 2 ^ k) }
+{
+    if is_clear { 0 } else { 1 << k }
 }
 
 /// Whether a timer is idle.
@@ -211,4 +311,11 @@ fn is_idle(timer: &ApicTimer) -> bool
     ensures { result ≡ is_idle timer.now }
 {
     timer.current() == 0 && timer.deadline() == 0
+}
+
+/// Whether a timer waits for no deadline.
+fn no_deadline(timer: &ApicTimer) -> bool
+    ensures { result ≡ no_deadline timer.now }
+{
+    timer.deadline() == 0
 }

@@ -11,11 +11,13 @@ ghost use Rattle.std.specs.Prelude.{
   ◌≤◌,
   true,
   false,
+  if◌then◌else◌,
 };
 ghost use Rattle.clk_units.specs.Ranges.{IsKhz};
 ghost use Rattle.clk_units.specs.declared.ranges.TheConstants.{RANGE_NS};
-ghost use Rattle.lapic_timer.specs.Deadline.{IsFirstAt};
-ghost use Rattle.lapic_timer.specs.Parts.{mode_of};
+ghost use Rattle.tsc_scale.specs.Tsc.{difference};
+ghost use Rattle.lapic_timer.specs.Deadline.{IsFirstAt, is_reached};
+ghost use Rattle.lapic_timer.specs.Parts.{mode_of, ticks_of};
 ghost use Rattle.lapic_timer.specs.Stretch.{nanoseconds};
 ghost use Rattle.local_apics.specs.Nanosecond.{ticks_at, tsc_in};
 ghost use Rattle.local_apics.specs.private.Span.{IsSpan, length_of, ratio_in};
@@ -35,15 +37,23 @@ pub struct TscClock {
     pub guest_khz: u64,
 }
 
-/// The nanoseconds of a run, and where `looks` holds the guest's counts at the first and at the last
-/// of them, which all processors share. Deadlines alone ask for these.
+/// Half of the TSC's numbers: what lies less than this past a deadline has reached it.
+const HALF: u64 = 1 << 63;
+
+/// How many nanoseconds a short span has at most, about 18 minutes.
+const SHORT: u64 = 1 << 40;
+
+/// More than a TSC grows in a short span.
+const FEW: u64 = 1 << 60;
+
+/// The nanoseconds of a run, and where `looks` holds the guest's count at the last of them, which all processors share.
+/// Deadlines alone ask for it.
 #[derive(Clone, Copy)]
 pub(crate) struct Span {
     clock: TscClock,
     from: u64,
     to: u64,
     looks: bool,
-    first: u64,
     last: u64,
 }
 
@@ -61,19 +71,27 @@ impl Span {
         ensures to { result.to ≡ to }
         ensures looks { result.looks ≡ looks }
     {
-        let mut span = Span {
+        let last = if looks {
+            guest_count_at(clock.anchor, clock.guest_khz, to)
+        } else {
+            0
+        };
+        Span {
             clock: *clock,
             from,
             to,
             looks,
-            first: 0,
-            last: 0,
-        };
-        if looks {
-            span.first = guest_count_at(clock.anchor, clock.guest_khz, from + 1);
-            span.last = guest_count_at(clock.anchor, clock.guest_khz, to);
+            last,
         }
-        span
+    }
+
+    /// How many nanoseconds there are.
+    #[inline]
+    pub(crate) fn length(&self) -> u64
+        requires { IsSpan self.now }
+        ensures { result ≡ length_of self.now }
+    {
+        self.to - self.from
     }
 }
 
@@ -84,59 +102,67 @@ pub(crate) fn tsc_by(count: u64, tsc: Tsc) -> u64
     count.wrapping_add(tsc.offset)
 }
 
-/// Runs a timer over a span. Answers its ticks.
-pub(crate) fn run_timer(timer: &mut ApicTimer, span: &Span, tsc: Tsc) -> u64
-    requires span { IsSpan span.now }
-    requires looks { span.now.looks ≡ false → timer.old.deadline ≡ 0 }
-    ensures state { timer.new ≡ nanoseconds (tsc_in span.now.clock tsc) span.now.from
-        (length_of span.now) timer.old }
-    ensures ticks { result ≡ ticks_in (tsc_in span.now.clock tsc) span.now.from timer.old
-        (length_of span.now) }
-    ensures few { result ≤ length_of span.now }
-{
-    let parts = timer.parts();
-    if parts.deadline != 0 {
-        run_deadline(timer, span, tsc)
-    } else if parts.current != 0 {
-        run_counts(timer, span.to - span.from)
-    } else {
-        0
-    }
-}
-
-/// The same outside deadline mode, whatever the TSC.
-fn run_counts(timer: &mut ApicTimer, n: u64) -> u64
+/// Runs a timer that counts, whatever the TSC. Answers its ticks.
+pub(crate) fn run_counts(timer: &mut ApicTimer, n: u64) -> u64
     requires mode { mode_of timer.old.lvt ≢ 2 }
     ensures state { (tsc : ℕ → ℕ) (from : ℕ) → timer.new ≡ nanoseconds tsc from n timer.old }
     ensures ticks { (tsc : ℕ → ℕ) (from : ℕ) → result ≡ ticks_in tsc from timer.old n }
     ensures few { result ≤ n }
 {
-    let masked = timer.is_masked();
     let fires = timer.run(n);
-    if masked { 0 } else { fires.count }
+    timer.ticks(fires.count)
 }
 
-/// The same in deadline mode. A deadline that is reached in a span is reached at its first
-/// nanosecond or at its last, since the TSC grows by less than half of its numbers.
-fn run_deadline(timer: &mut ApicTimer, span: &Span, tsc: Tsc) -> u64
+/// Runs a timer in deadline mode over a span, and answers whether the deadline is reached. One that is reached in a span
+/// is reached at its last nanosecond or at its first, since the TSC grows by less than half of its numbers. Mostly the last
+/// one tells alone.
+#[inline]
+pub(crate) fn run_deadline(timer: &mut ApicTimer, span: &Span, tsc: Tsc) -> bool
     requires mode { mode_of timer.old.lvt ≡ 2 }
     requires span { IsSpan span.now }
     requires looks { span.now.looks ≡ true }
     ensures state { timer.new ≡ nanoseconds (tsc_in span.now.clock tsc) span.now.from
         (length_of span.now) timer.old }
-    ensures ticks { result ≡ ticks_in (tsc_in span.now.clock tsc) span.now.from timer.old
-        (length_of span.now) }
-    ensures few { result ≤ length_of span.now }
+    ensures ticks { ticks_in (tsc_in span.now.clock tsc) span.now.from timer.old
+        (length_of span.now) ≡ (if result then ticks_of timer.new 1 else 0) }
+    ensures unchanged { result ≡ false → timer.new ≡ timer.old }
 {
-    let first = tsc_by(span.first, tsc);
-    if timer.reach(first) {
-        return timer.ticks(1);
-    }
     let last = tsc_by(span.last, tsc);
     if timer.reach(last) {
-        return timer.ticks(1);
+        return true;
     }
-    0
+    if is_far(span, last, timer.deadline()) {
+        return false;
+    }
+    reach_first(timer, *span, tsc)
+}
+
+/// Whether a deadline is far from being reached at the TSC `last` of a short span's last nanosecond.
+#[inline]
+fn is_far(span: &Span, last: u64, deadline: u64) -> bool
+    requires { IsSpan span.now }
+    ensures short { result ≡ true → length_of span.now < 2 ^ 40 }
+    ensures far { result ≡ true → 2 ^ 63 + 2 ^ 60 ≤ difference last deadline }
+{
+    span.length() < SHORT && last.wrapping_sub(deadline) >= HALF + FEW
+}
+
+/// The same where the deadline isn't reached at the last nanosecond.
+#[inline(never)]
+fn reach_first(timer: &mut ApicTimer, span: Span, tsc: Tsc) -> bool
+    requires mode { mode_of timer.old.lvt ≡ 2 }
+    requires span { IsSpan span }
+    requires last { is_reached timer.old.deadline (tsc_in span.clock tsc span.to)
+        ≡ false }
+    ensures state { timer.new ≡ nanoseconds (tsc_in span.clock tsc) span.from
+        (length_of span) timer.old }
+    ensures ticks { ticks_in (tsc_in span.clock tsc) span.from timer.old
+        (length_of span) ≡ (if result then ticks_of timer.new 1 else 0) }
+    ensures unchanged { result ≡ false → timer.new ≡ timer.old }
+{
+    let clock = span.clock;
+    let count = guest_count_at(clock.anchor, clock.guest_khz, span.from + 1);
+    timer.reach(tsc_by(count, tsc))
 }
 
 /// The first nanosecond after `from` and up to `to` in which a timer ticks that is left alone.

@@ -19,8 +19,9 @@ returns-then-not-has_deadlines c =
 pub loop-cpu-init : goal.loop-cpu-init
 loop-cpu-init c =
     let tsc : ℕ → ℕ = λ k. tsc_by_time c.args.clock.now (tscs_of c.args.processors.now) k c.args.at in
-    let none : IsLookedBelow 0 tsc c.args.self.now c.args.self.now = looked-start tsc c.args.self.now c.has_deadlines.ensures.joined in
-    none
+    let start : IsLookedBelow c.first_armed-cpu.result tsc c.args.self.now c.args.self.now =
+    looked-start c.first_armed-cpu.result tsc c.args.self.now c.has_deadlines.ensures.joined c.first_armed-cpu.ensures.idle in
+    start
 
 pub returns-then-is_idle_from : goal.returns-then-is_idle_from
 returns-then-is_idle_from c =

@@ -6,7 +6,7 @@ use Rattle.local_apics.specs.Places.{no_tsc, timer_at, line_at}
 use Rattle.local_apics.specs.Nanosecond.{run, tscs_of, tsc_by_time, tsc_in}
 use Rattle.local_apics.specs.private.Span.{length_of}
 use Rattle.local_apics.specs.private.Stretch.{IsRunBelow, ticks_in}
-use Rattle.local_apics.proofs.Below.{run-none, run-more, run-end, span-run}
+use Rattle.local_apics.proofs.Below.{run-start, run-more, run-end, span-run}
 use Rattle.local_apics.proofs.apics.LocalApics.run.Goals as goal
 
 pub returns-then-not-is_armed : goal.returns-then-not-is_armed
@@ -14,7 +14,7 @@ returns-then-not-is_armed c =
     let tsc : ℕ → ℕ → ℕ = tsc_by_time c.args.clock.now (tscs_of c.args.processors.now) in
     elim c.then-not-is_armed.either [
       | inl idle ↦ run-end 0 tsc c.args.from (c.args.to - c.args.from) c.args.self.now c.args.self.now
-          (run-none tsc c.args.from (c.args.to - c.args.from) c.args.self.now c.is_armed.ensures.joined) (λ k after less. c.is_armed.ensures.idle.0 idle k less)
+          (run-start 0 tsc c.args.from (c.args.to - c.args.from) c.args.self.now c.is_armed.ensures.joined (λ j less. absurd (omega (arith, less)))) (λ k after less. c.is_armed.ensures.idle.0 idle k less)
       | inr none ↦
           let e : 0 ≡ c.args.to - c.args.from = omega (arith, none.1) in
           ap (λ (n : ℕ). run tsc c.args.from n c.args.self.now) e
@@ -22,10 +22,11 @@ returns-then-not-is_armed c =
 
 pub loop-cpu-init : goal.loop-cpu-init
 loop-cpu-init c =
-    let none : IsRunBelow 0 (λ k. tsc_in c.new-span.result.clock (get_or (tscs_of c.args.processors.now) k no_tsc)) c.new-span.result.from
-    (length_of c.new-span.result) c.args.self.now c.args.self.now =
-    run-none (λ k. tsc_in c.new-span.result.clock (get_or (tscs_of c.args.processors.now) k no_tsc)) c.new-span.result.from (length_of c.new-span.result) c.args.self.now c.is_armed.ensures.joined in
-    none
+    let tsc : ℕ → ℕ → ℕ = λ k. tsc_in c.new-span.result.clock (get_or (tscs_of c.args.processors.now) k no_tsc) in
+    let start : IsRunBelow c.first_armed-cpu.result tsc c.new-span.result.from (length_of c.new-span.result) c.args.self.now c.args.self.now =
+    run-start c.first_armed-cpu.result tsc c.new-span.result.from (length_of c.new-span.result) c.args.self.now c.is_armed.ensures.joined
+    c.first_armed-cpu.ensures.idle in
+    start
 
 pub returns-then-is_idle_from : goal.returns-then-is_idle_from
 returns-then-is_idle_from c =

@@ -1,8 +1,6 @@
 use Rattle.std.proofs.Common.{◌≡◌, ℕ, sym, ap, ◌∙◌, arith}
-use Rattle.tick_policy.specs.declared.parts.TickParts.{TickParts}
 use Rattle.tick_policy.specs.Line.{ticked_times}
 use Rattle.tick_policy.proofs.Ticks.{ticked_times-zero}
-use Rattle.lapic_timer.specs.declared.parts.ApicParts.{ApicParts}
 use Rattle.local_apics.specs.Places.{timer_at, line_at}
 use Rattle.local_apics.specs.Nanosecond.{tsc_in}
 use Rattle.local_apics.specs.private.Span.{length_of}
@@ -11,7 +9,7 @@ use Rattle.local_apics.proofs.Ticks.{idle_parts, nanoseconds-idle, ticks_in-idle
 use Rattle.local_apics.proofs.apics.LocalApics.run_at.Goals as goal
 
 idle : (c : goal.Then-is_idle) → ((timer_at c.args.cpu c.args.self.now).current ≡ 0) × ((timer_at c.args.cpu c.args.self.now).deadline ≡ 0)
-idle c = idle_parts (timer_at c.args.cpu c.args.self.now) (c.is_idle.ensures c.if-is_idle.true)
+idle c = idle_parts (timer_at c.args.cpu c.args.self.now) (sym c.is_idle.ensures ∙ c.if-is_idle.true)
 
 pub returns-then-is_idle-clause-timer : goal.returns-then-is_idle-clause-timer
 returns-then-is_idle-clause-timer c =
@@ -24,13 +22,3 @@ returns-then-is_idle-clause-line c =
     (ticks_in-idle (tsc_in c.args.span.now.clock c.args.tsc) c.args.span.now.from (length_of c.args.span.now)
     (timer_at c.args.cpu c.args.self.now) (idle c).0 (idle c).1)
     ∙ ticked_times-zero (line_at c.args.cpu c.args.self.now))
-
--- without a tick the line stays
-pub returns-else-ticks-gt0-clause-line : goal.returns-else-ticks-gt0-clause-line
-returns-else-ticks-gt0-clause-line c =
-    let l : TickParts = line_at c.args.cpu c.args.self.now in
-    let none : c.run_timer-ticks.result ≡ 0 = omega (arith, c.if-ticks-gt0.false) in
-    let ticks : ticks_in (tsc_in c.args.span.now.clock c.args.tsc) c.args.span.now.from (timer_at c.args.cpu c.args.self.now) (length_of c.args.span.now) ≡ 0 =
-    ap (λ (p : ApicParts). ticks_in (tsc_in c.args.span.now.clock c.args.tsc) c.args.span.now.from p (length_of c.args.span.now)) (sym c.timer-timer.ensures.value)
-    ∙ sym c.run_timer-ticks.ensures.ticks ∙ none in
-    ap (line_at c.args.cpu) c.put.ensures ∙ sym (ap (λ (n : ℕ). ticked_times n l) ticks ∙ ticked_times-zero l)
