@@ -5,7 +5,7 @@
 pub const ABI: u32 = 5;
 
 /// `CLOCKBOARD_SIZE` of the header.
-pub const SIZE: usize = 9_320;
+pub const SIZE: usize = 9_328;
 
 #[derive(Clone, Copy)]
 #[repr(C)]
