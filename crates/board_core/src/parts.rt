@@ -138,16 +138,18 @@ impl BoardState {
 
     /// The fields of the processors; places from `cpus` on hold 0.
     pub fn processors(&self) -> &[ProcessorParts; 64]
-        ensures { result.now ≡ self.now.processors }
+        ensures value { result.now ≡ self.now.processors }
+        ensures places { length self.now.processors ≡ 64 }
     {
+        let _places = places(&self.processors);
         &self.processors
     }
 
     /// How often each line went up, in order of line numbers.
-    pub fn rises(&self) -> &[u64; 6]
-        ensures { result.now ≡ self.now.rises }
+    pub fn rises(&self) -> [u64; 6]
+        ensures { result ≡ self.now.rises }
     {
-        &self.rises
+        self.rises
     }
 
     /// The fields of the timer of a processor's local APIC.
@@ -167,10 +169,10 @@ impl BoardState {
     }
 
     /// The fields of the reference page of Hyper-V.
-    pub fn hv(&self) -> &HvParts
-        ensures { result.now ≡ self.now.hv }
+    pub fn hv(&self) -> HvParts
+        ensures { result ≡ self.now.hv }
     {
-        &self.hv
+        self.hv
     }
 
     /// The board with these fields, or None exactly where a condition on them fails.
@@ -207,6 +209,13 @@ impl BoardState {
             None
         }
     }
+}
+
+/// A board has places for 64 processors.
+fn places(processors: &[ProcessorParts; 64]) -> usize
+    ensures { length processors.now ≡ 64 }
+{
+    processors.len()
 }
 
 /// The fields of the devices.
