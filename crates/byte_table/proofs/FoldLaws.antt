@@ -128,19 +128,6 @@ hold (f ∷ fs) all b p place bytes small there none =
     let first = all.0.spelled b p place bytes small there parts.0 in
     (first.2, hold fs all.1 b p (place + f.size) bytes small first.0 parts.1)
 
--- the first fault is that of the first field with one
-pub first-fault : {F B P : Type 0} (xs ys : List (Field F B P)) (f : Field F B P) (b : B) (p : P) (place : ℕ) (bytes : List ℕ) (fault : F)
-    → fault_in xs b p place bytes ≡ None → f.fault b p (place + size_of xs) bytes ≡ Some fault
-    → fault_in (xs ++ (f ∷ ys)) b p place bytes ≡ Some fault
-first-fault {F = F} [] ys f b p place bytes fault none is =
-    let here : place ≡ place + 0 = omega arith in
-    ap (λ (o : Option F). or_else o (fault_in ys b p (place + f.size) bytes)) (ap (λ (k : ℕ). f.fault b p k bytes) here ∙ is)
-first-fault (x ∷ xs) ys f b p place bytes fault none is =
-    let parts = or_else-both (x.fault b p place bytes) (fault_in xs b p (place + x.size) bytes) none in
-    let there : place + x.size + size_of xs ≡ place + (x.size + size_of xs) = omega arith in
-    or_else-none (x.fault b p place bytes) (fault_in (xs ++ (f ∷ ys)) b p (place + x.size) bytes) parts.0
-    ∙ first-fault xs ys f b p (place + x.size) bytes fault parts.1 (ap (λ (k : ℕ). f.fault b p k bytes) there ∙ is)
-
 -- two lists of fields, one after the other
 pub write_append : {F B P : Type 0} (fs gs : List (Field F B P)) (p : P) → write (fs ++ gs) p ≡ write fs p ++ write gs p
 write_append [] gs p = refl
@@ -163,10 +150,6 @@ pub all_here-append : {F B P : Type 0} (fs gs : List (Field F B P)) (b : B) (p :
     → AllHere (fs ++ gs) b p bytes
 all_here-append [] gs b p bytes here there = there
 all_here-append (f ∷ fs) gs b p bytes here there = (here.0, all_here-append fs gs b p bytes here.1 there)
-
-pub all_spelled-append : {F B P : Type 0} (fs gs : List (Field F B P)) → AllSpelled fs → AllSpelled gs → AllSpelled (fs ++ gs)
-all_spelled-append [] gs here there = there
-all_spelled-append (f ∷ fs) gs here there = (here.0, all_spelled-append fs gs here.1 there)
 
 pub all_keep-append : {F B P : Type 0} (fs gs : List (Field F B P)) (p : P) (place : ℕ) (bytes : List ℕ) → AllKeep fs p place bytes
     → AllKeep gs p (place + size_of fs) bytes → AllKeep (fs ++ gs) p place bytes
@@ -200,10 +183,6 @@ or_else-end (Some fault) = refl
 pub size_of-append : {F B P : Type 0} (fs gs : List (Field F B P)) → size_of (fs ++ gs) ≡ size_of fs + size_of gs
 size_of-append [] gs = omega arith
 size_of-append (f ∷ fs) gs = let rest = size_of-append fs gs in omega (arith, rest)
-
--- where a list ends that follows another, and the first fault of the two, or a later one
-pub end-next : {F B P : Type 0} (fs gs : List (Field F B P)) (place at n : ℕ) → place + size_of fs ≡ at → size_of gs ≡ n → place + size_of (fs ++ gs) ≡ at + n
-end-next fs gs place at n there size = let both = size_of-append fs gs in omega (arith, both, there, size)
 
 pub fault-next : {F B P : Type 0} (fs gs : List (Field F B P)) (b : B) (p : P) (place at : ℕ) (bytes : List ℕ) (later : Option F) → place + size_of fs ≡ at
     → or_else (fault_in (fs ++ gs) b p place bytes) later ≡ or_else (fault_in fs b p place bytes) (or_else (fault_in gs b p at bytes) later)

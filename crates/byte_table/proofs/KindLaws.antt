@@ -5,7 +5,7 @@ use Rattle.std.proofs.lemmas.List.{length-append, get_or-drop, drop_more, drop-d
 use Rattle.byte_table.specs.Fold.{Field, size_of, write, read, rewrite_in, moved, fault_in, size_below, write_below, read_below, fault_below, all_hold, hold_below}
 use Rattle.byte_table.specs.Codes.{Code, row_bytes, row_value, row_spelled}
 use Rattle.byte_table.specs.Kinds.{Faults, one_fault, plain, row, blocks, elsewhere}
-use Rattle.byte_table.proofs.FoldLaws.{AreBytes, first-fault, next, split, room, take-more, IsHere, AllHere, IsSpelled, AllSpelled, or_else-none, or_else-both, length-write}
+use Rattle.byte_table.proofs.FoldLaws.{AreBytes, next, split, room, take-more, IsHere, AllHere, IsSpelled, AllSpelled, or_else-none, or_else-both, length-write}
 use Rattle.byte_table.proofs.FoldLaws.{read-write, fault-write, rewritten, AllHold, hold}
 use Rattle.byte_table.proofs.CodeLaws.{IsWritten, IsCode, AllWritten, row-is, row-same, number-code, word-code, byte-code, signed_byte-code, flag-code, flags-code, both-code}
 
@@ -208,23 +208,6 @@ hold-each fields blank b ts k (suc n) h j low high =
     (λ (le : j ≤ k).
     let is : k ≡ j = omega arith in
     subst (λ (m : ℕ). AllHold (fields m) b (get_or ts m blank)) is (all-hold (fields k) b (get_or ts k blank) parts.0)) (cases_lt k j)
-
--- the first field at fault, by place and kind: short, or invalid
-pub short-at : {F B P A : Type 0} (xs ys : List (Field F B P)) (faults : Faults F) (c : Code A) (get : P → A) (put : A → P → P) (valid : B → P → Bool) (b : B) (p : P)
-    (bytes : List ℕ) → fault_in xs b p 0 bytes ≡ None → length bytes < 0 + size_of xs + c.size
-    → fault_in (xs ++ (plain faults c get put valid ∷ ys)) b p 0 bytes ≡ Some (faults.short (length bytes))
-unfolding plain
-short-at xs ys faults c get put valid b p bytes none less =
-    first-fault xs ys (plain faults c get put valid) b p 0 bytes (faults.short (length bytes)) none
-    (one_fault-short faults c.size (c.spelled (0 + size_of xs) bytes && valid b p) (0 + size_of xs) bytes less)
-
-pub invalid-at : {F B P A : Type 0} (xs ys : List (Field F B P)) (faults : Faults F) (c : Code A) (get : P → A) (put : A → P → P) (valid : B → P → Bool) (b : B) (p : P)
-    (bytes : List ℕ) → fault_in xs b p 0 bytes ≡ None → 0 + size_of xs + c.size ≤ length bytes → (c.spelled (0 + size_of xs) bytes && valid b p) ≡ false
-    → fault_in (xs ++ (plain faults c get put valid ∷ ys)) b p 0 bytes ≡ Some (faults.invalid (0 + size_of xs))
-unfolding plain
-invalid-at xs ys faults c get put valid b p bytes none there is =
-    first-fault xs ys (plain faults c get put valid) b p 0 bytes (faults.invalid (0 + size_of xs)) none
-    (one_fault-is faults c.size (c.spelled (0 + size_of xs) bytes && valid b p) (0 + size_of xs) bytes there false is)
 
 -- by these a search finds that all fields of a list are spelled
 pub ruleset spells = (plain-spelled, row-spelled, elsewhere-spelled, number-code, word-code, byte-code, signed_byte-code, flag-code, flags-code, both-code)
