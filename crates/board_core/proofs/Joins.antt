@@ -1,5 +1,5 @@
 -- Two runs one after the other are one run, and times in which nothing comes.
-use Rattle.std.proofs.Common.{◌≡◌, ℕ, zero, suc, ◌+◌, ◌-◌, ◌*◌, ◌/◌, ◌<◌, ◌≤◌, Bool, true, false, cond, ltb, leb, max, List, [], ◌∷◌, ◌++◌, Option, Some, None, refl, sym, ap, subst, ◌∙◌, append_assoc, append-nil, arith}
+use Rattle.std.proofs.Common.{◌≡◌, ℕ, zero, suc, ◌+◌, ◌-◌, ◌*◌, ◌/◌, ◌<◌, ◌≤◌, Bool, true, false, cond, ltb, leb, max, List, [], ◌∷◌, ◌++◌, Some, None, refl, sym, ap, subst, ◌∙◌, append_assoc, append-nil, arith}
 use Rattle.std.proofs.Math.Nat.{zero-div}
 use Rattle.std.proofs.lemmas.Bool.{le-ltb, lt-leb, false≢true}
 use Rattle.clk_units.specs.declared.ranges.TheConstants.{RANGE_NS}
@@ -14,9 +14,7 @@ use Rattle.hpet_registers.specs.declared.hpet.TheConstants.{HPET_HZ}
 use Rattle.hpet_registers.specs.declared.parts.HpetParts.{HpetParts}
 use Rattle.hpet_registers.specs.Stretch.{hpet_pulsed_times}
 use Rattle.hpet_bursts.specs.Messages.{message_at}
-use Rattle.hpet_bursts.specs.Bursts.{bursts_of}
 use Rattle.local_apics.specs.declared.parts.ApicsParts.{ApicsParts}
-use Rattle.local_apics.specs.Nanosecond.{run as run_apics, looked_all}
 use Rattle.local_apics.specs.Parts.{AreApicPlaces, AreIdle}
 use Rattle.local_apics.proofs.Product.{run-idle}
 use Rattle.local_apics.proofs.Laws.{look-idle}
@@ -24,7 +22,6 @@ use Rattle.board_types.specs.declared.access.Access.{Access}
 use Rattle.board_types.specs.declared.access.Access.TheVariants.{Step}
 use Rattle.board_types.specs.declared.parts.BoardParts.{BoardParts}
 use Rattle.board_types.specs.declared.parts.TheConstants.{MOST_ACCESSES}
-use Rattle.board_types.specs.declared.reply.Refusal.{Refusal}
 use Rattle.board_types.specs.declared.reply.Refusal.TheVariants.{BeforeStart, OutOfRange, Spent}
 use Rattle.board_types.specs.declared.reply.Reply.{Reply}
 use Rattle.board_types.specs.declared.reply.Value.TheVariants.{Nothing}
@@ -33,18 +30,16 @@ use Rattle.board_devices.specs.Nanosecond.{at_nanosecond}
 use Rattle.board_devices.specs.Lines.{levels}
 use Rattle.board_devices.specs.Run.{run, onward}
 use Rattle.board_core.specs.Time.{HasTime, devices_in, now_of, time_of_access}
-use Rattle.board_core.specs.Access.{ran_to, bursts_to, apics_ran_to, after_run, before_look, after_act, value_at, edges_of, reply_of, after_access, own_edges, act_of}
+use Rattle.board_core.specs.Access.{ran_to, bursts_to, after_run, before_look, after_act, value_at, edges_of, reply_of, after_access, own_edges}
 use Rattle.board_core.specs.Apics.{apics_in, tscs_by_time, after_look, with_apics}
 use Rattle.board_core.specs.Nanosecond.{passed, passed_times}
 use Rattle.board_core.specs.Quiet.{IsQuiet}
 use Rattle.board_core.specs.Refusals.{refusal_of}
-use Rattle.board_core.specs.Rises.{rises_after}
-use Rattle.board_core.proofs.Counted.{rises_after-none}
 use Rattle.board_core.proofs.Messages.{hpet-run, bursts-silent, message_at-later}
 use Rattle.board_core.proofs.Kept.{own-none, rises-kept, devices-kept, processors-kept, hv-kept, apics-kept}
 use Rattle.board_core.proofs.Nanoseconds.{after_run-nanoseconds}
 use Rattle.board_core.proofs.Steps.{with_parts-is}
-use Rattle.board_core.proofs.Times.{time_at_max, base-first}
+use Rattle.board_core.proofs.Times.{time_at_max}
 
 -- the devices: m nanoseconds, and then n more
 state-zero : (t : ℕ) (d : DeviceParts) → (run t 0 d).state ≡ d

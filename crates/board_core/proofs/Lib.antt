@@ -14,6 +14,7 @@ pub mod OfLines
 pub mod Nanoseconds
 pub mod Messages
 pub mod Joins
+pub mod LazySteps
 mod Rows
 mod RowsApics
 mod RowsHv

@@ -10,6 +10,7 @@ pub mod Rises
 pub mod Access
 pub mod Refusals
 pub mod Quiet
+pub mod Lazy
 pub mod Reanchor
 pub mod PowerOn
 pub mod Upgrade

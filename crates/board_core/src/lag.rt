@@ -1,4 +1,4 @@
-//! For a caller that lets a board lag behind its accesses where nothing of it can be seen.
+//! What a lazy board asks of the board that lags.
 ghost use Rattle.std.specs.Prelude.{◌≡◌, ℕ, ◌+◌, ◌-◌, ◌^◌, ◌<◌, ◌≤◌, false, []};
 ghost use Rattle.clk_units.specs.declared.ranges.TheConstants.{RANGE_NS};
 ghost use Rattle.hpet_bursts.specs.Messages.{message_at};
@@ -20,16 +20,8 @@ use irq_edges::{BurstList, EdgeList};
 const MILLISECOND_NS: u128 = 1_000_000;
 
 impl BoardState {
-    /// The greatest count of all accesses.
-    #[inline(always)]
-    pub fn host(&self) -> u64
-        ensures { result ≡ self.now.host }
-    {
-        self.host
-    }
-
     /// The time to which an access at count `h` would run.
-    pub fn time_by(&self, h: u64) -> u64
+    pub(crate) fn time_by(&self, h: u64) -> u64
         requires { self.now.host < h → HasTime self.now.anchor h }
         ensures { result ≡ time_of_access self.now h }
     {
@@ -41,7 +33,7 @@ impl BoardState {
 
     /// Lets the time up to that of count `h` pass, without an access. Its edges and messages are not told.
     #[inline(always)]
-    pub fn pass_to(&mut self, h: u64)
+    pub(crate) fn pass_to(&mut self, h: u64)
         requires { self.old.host < h → HasTime self.old.anchor h }
         ensures { self.new ≡ after_run self.old h }
     {
@@ -64,7 +56,7 @@ impl BoardState {
 
     /// Counts an access that changes nothing else.
     #[inline(always)]
-    pub fn count_access(&mut self)
+    pub(crate) fn count_access(&mut self)
         requires { self.old.accesses < MOST_ACCESSES }
         ensures state { self.new ≡ record self.old { accesses = self.old.accesses + 1 } }
         ensures joined { IsJoined self.old }
@@ -75,7 +67,7 @@ impl BoardState {
     /// A count before which nothing comes that a caller sees if no access comes; 0 where none is known. It asks for the
     /// next edge, and costs as much.
     #[inline(never)]
-    pub fn quiet_before(&self) -> u64
+    pub(crate) fn quiet_before(&self) -> u64
         ensures { 0 < result → IsQuiet self.now (result - 1) }
     {
         if self.apics.is_armed() {

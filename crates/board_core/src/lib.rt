@@ -21,6 +21,7 @@ mod board;
 mod clock;
 mod hv;
 mod lag;
+mod lazy;
 mod moves;
 mod parts;
 mod processors;
@@ -36,6 +37,7 @@ pub use board_types::{
     Setup, TickSource, Value, processors_of, timers_of,
 };
 pub use hv::{NO_HV, publishes_hv};
+pub use lazy::LazyBoard;
 pub use processors::published_by;
 
 #[cfg(test)]

@@ -1,0 +1,285 @@
+//! A board that does nothing where nothing can be seen.
+//!
+//! Most steps of a monitor change no line and send no message. A lazy board answers such a step by counting it: it keeps
+//! the count of the host's counter, and its devices stay where they were. Any other access first brings them up. So it is
+//! at each moment the board that a plain one would be, and each of its calls is a plain board's, with the same clauses.
+//!
+//! How far nothing comes is looked up after two steps in a row that brought no edge, since it costs as much as the next
+//! edge, some ten such steps. Any other access forgets it.
+ghost use Rattle.std.specs.Prelude.{
+  ◌≡◌,
+  ◌+◌,
+  ◌-◌,
+  ◌<◌,
+  ◌≤◌,
+  IsTrue,
+  IfOk,
+  IfErr,
+  OnOk,
+  OnErr,
+  Some,
+  None,
+  length,
+};
+ghost use Rattle.std.specs.List.{All};
+ghost use Rattle.irq_edges.specs.Lines.{IsOfLine};
+ghost use Rattle.host_counter.specs.Time.{IsFaultAt};
+ghost use Rattle.board_types.specs.Legal.{is_legal};
+ghost use Rattle.board_types.specs.Reply.{IsFresh};
+ghost use Rattle.board_types.specs.declared.access.Access.TheVariants.{Step};
+ghost use Rattle.board_core.specs.Time.{HasTime, now_of};
+ghost use Rattle.board_core.specs.Access.{ran_to, reply_of, after_access};
+ghost use Rattle.board_core.specs.Refusals.{refusal_of};
+ghost use Rattle.board_core.specs.Pages.{page_reply, clock_reply, after_clock};
+ghost use Rattle.board_core.specs.Hv.{hv_reply};
+ghost use Rattle.board_core.specs.Quiet.{IsQuiet};
+
+use crate::board::BoardState;
+use board_types::{Access, MOST_ACCESSES, Refusal, Reply, Value};
+use host_counter::TimeFault;
+use hv_page::HvReply;
+use pvclock_page::{ClockReply, PageReply};
+use std::marker::Model;
+
+/// A board whose devices may lag. Its value is a plain board's: how far it lags isn't seen.
+#[derive(Drop)]
+pub struct LazyBoard {
+    /// The board as it was when its devices last ran, but with all accesses counted.
+    board: BoardState,
+    /// The greatest count of those that the board doesn't know, or 0.
+    host: u64,
+    /// Before this count nothing comes that a caller sees; 0 where that isn't known.
+    horizon: u64,
+    /// Whether the last access was a step without an edge.
+    stepped: bool,
+}
+
+impl Model for LazyBoard {
+    ghost use Rattle.board_types.specs.declared.parts.BoardParts.{BoardParts};
+    ghost use Rattle.board_core.specs.Access.{after_run};
+    ghost use Rattle.board_core.specs.Lazy.{IsLazy};
+
+    ghost Value = { BoardParts };
+
+    ghost view = { λ l. after_run l.board l.host };
+
+    ghost invariant = { λ l. IsLazy l.board l.host l.horizon };
+}
+
+impl LazyBoard {
+    /// A board that doesn't lag yet.
+    pub fn new(board: BoardState) -> LazyBoard
+        ensures { result ≡ board }
+    {
+        LazyBoard {
+            board,
+            host: 0,
+            horizon: 0,
+            stepped: false,
+        }
+    }
+
+    /// A copy of the board itself, brought up to its time.
+    #[inline(never)]
+    pub fn state(&self) -> BoardState
+        ensures { result ≡ self.now }
+    {
+        let mut board = self.board;
+        board.pass_to(self.host);
+        board
+    }
+
+    /// One access, as `BoardState::access` answers it.
+    pub fn access(&mut self, cpu: u8, h: u64, a: Access) -> Result<Reply, Refusal>
+        requires cpu { cpu < self.old.cpus }
+        requires legal { IsTrue (is_legal self.old.cpus self.old.format a) }
+        ensures refused { IfErr result (λ e. refusal_of self.old cpu h a ≡ Some e) }
+        ensures unchanged { OnErr result (self.new ≡ self.old) }
+        ensures taken { OnOk result (refusal_of self.old cpu h a ≡ None) }
+        ensures reply { IfOk result (λ r. r ≡ reply_of self.old cpu h a) }
+        ensures state { OnOk result (self.new ≡ after_access self.old cpu h a) }
+        ensures of_lines { IfOk result (λ r. All IsOfLine r.edges) }
+        ensures few_run { OnOk result (length (ran_to self.old h).edges ≤ 6) }
+        ensures few { IfOk result (λ r. length r.edges ≤ length (ran_to self.old h).edges + 12) }
+    {
+        let mut reply = Reply::empty();
+        self.answer(cpu, h, a, &mut reply)?;
+        Ok(reply)
+    }
+
+    /// The same into a reply that its caller keeps, without edges and messages in it, as `BoardState::answer` does it.
+    #[inline(always)]
+    pub fn answer(&mut self, cpu: u8, h: u64, a: Access, reply: &mut Reply) -> Result<(), Refusal>
+        requires cpu { cpu < self.old.cpus }
+        requires legal { IsTrue (is_legal self.old.cpus self.old.format a) }
+        requires fresh { IsFresh reply.old }
+        ensures refused { IfErr result (λ e. refusal_of self.old cpu h a ≡ Some e) }
+        ensures unchanged { OnErr result (self.new ≡ self.old) }
+        ensures untouched { OnErr result (reply.new ≡ reply.old) }
+        ensures taken { OnOk result (refusal_of self.old cpu h a ≡ None) }
+        ensures reply { OnOk result (reply.new ≡ reply_of self.old cpu h a) }
+        ensures state { OnOk result (self.new ≡ after_access self.old cpu h a) }
+        ensures of_lines { OnOk result (All IsOfLine reply.new.edges) }
+        ensures few_run { OnOk result (length (ran_to self.old h).edges ≤ 6) }
+        ensures few { OnOk result
+            (length reply.new.edges ≤ length (ran_to self.old h).edges + 12) }
+    {
+        match a {
+            Access::Step => self.step(cpu, h, reply),
+            _ => self.act(cpu, h, a, reply),
+        }
+    }
+
+    /// An access for which the board is brought up.
+    #[inline(always)]
+    fn act(&mut self, cpu: u8, h: u64, a: Access, reply: &mut Reply) -> Result<(), Refusal>
+        requires cpu { cpu < self.old.cpus }
+        requires legal { IsTrue (is_legal self.old.cpus self.old.format a) }
+        requires fresh { IsFresh reply.old }
+        ensures refused { IfErr result (λ e. refusal_of self.old cpu h a ≡ Some e) }
+        ensures unchanged { OnErr result (self.new ≡ self.old) }
+        ensures untouched { OnErr result (reply.new ≡ reply.old) }
+        ensures taken { OnOk result (refusal_of self.old cpu h a ≡ None) }
+        ensures reply { OnOk result (reply.new ≡ reply_of self.old cpu h a) }
+        ensures state { OnOk result (self.new ≡ after_access self.old cpu h a) }
+        ensures of_lines { OnOk result (All IsOfLine reply.new.edges) }
+        ensures few_run { OnOk result (length (ran_to self.old h).edges ≤ 6) }
+        ensures few { OnOk result
+            (length reply.new.edges ≤ length (ran_to self.old h).edges + 12) }
+    {
+        self.board.pass_to(self.host);
+        self.host = 0;
+        self.horizon = 0; // whatever it changes
+        self.stepped = false;
+        self.board.answer(cpu, h, a, reply)
+    }
+
+    /// A step: an access that lets time pass, and does nothing else. Before the horizon it is counted.
+    #[inline(always)]
+    fn step(&mut self, cpu: u8, h: u64, reply: &mut Reply) -> Result<(), Refusal>
+        requires cpu { cpu < self.old.cpus }
+        requires fresh { IsFresh reply.old }
+        ensures refused { IfErr result (λ e. refusal_of self.old cpu h Step ≡ Some e) }
+        ensures unchanged { OnErr result (self.new ≡ self.old) }
+        ensures untouched { OnErr result (reply.new ≡ reply.old) }
+        ensures taken { OnOk result (refusal_of self.old cpu h Step ≡ None) }
+        ensures reply { OnOk result (reply.new ≡ reply_of self.old cpu h Step) }
+        ensures state { OnOk result (self.new ≡ after_access self.old cpu h Step) }
+        ensures of_lines { OnOk result (All IsOfLine reply.new.edges) }
+        ensures few_run { OnOk result (length (ran_to self.old h).edges ≤ 6) }
+        ensures few { OnOk result
+            (length reply.new.edges ≤ length (ran_to self.old h).edges + 12) }
+    {
+        let start = self.board.anchor().start;
+        if h < self.horizon && start <= h && self.board.accesses() < MOST_ACCESSES {
+            self.host = self.host.max(h);
+            self.board.count_access();
+            reply.number = self.board.accesses();
+            reply.value = Value::Nothing;
+            return Ok(());
+        }
+        self.run(cpu, h, reply)
+    }
+
+    /// The same by a run. Where the step before it brought no edge either, it looks for the horizon.
+    #[inline(never)]
+    fn run(&mut self, cpu: u8, h: u64, reply: &mut Reply) -> Result<(), Refusal>
+        requires cpu { cpu < self.old.cpus }
+        requires fresh { IsFresh reply.old }
+        ensures refused { IfErr result (λ e. refusal_of self.old cpu h Step ≡ Some e) }
+        ensures unchanged { OnErr result (self.new ≡ self.old) }
+        ensures untouched { OnErr result (reply.new ≡ reply.old) }
+        ensures taken { OnOk result (refusal_of self.old cpu h Step ≡ None) }
+        ensures reply { OnOk result (reply.new ≡ reply_of self.old cpu h Step) }
+        ensures state { OnOk result (self.new ≡ after_access self.old cpu h Step) }
+        ensures of_lines { OnOk result (All IsOfLine reply.new.edges) }
+        ensures few_run { OnOk result (length (ran_to self.old h).edges ≤ 6) }
+        ensures few { OnOk result
+            (length reply.new.edges ≤ length (ran_to self.old h).edges + 12) }
+    {
+        self.board.pass_to(self.host);
+        self.host = 0;
+        self.horizon = 0;
+        match self.board.answer_known(cpu, h, Access::Step, reply) {
+            Ok(()) => {
+                let still = reply.edges.is_empty();
+                self.horizon = horizon_of(&self.board, still && self.stepped);
+                self.stepped = still;
+                Ok(())
+            }
+            Err(refusal) => Err(refusal),
+        }
+    }
+
+    /// How many processors there are.
+    pub fn cpus(&self) -> u8
+        ensures { result ≡ self.now.cpus }
+    {
+        self.board.cpus()
+    }
+
+    /// The format, 1 to `board_core::LAST_FORMAT`.
+    pub fn format(&self) -> u8
+        ensures { result ≡ self.now.format }
+    {
+        self.board.format()
+    }
+
+    /// The time in nanoseconds: that of the greatest count of all accesses.
+    pub fn now(&self) -> u64
+        ensures { result ≡ now_of self.now }
+    {
+        // What joins a board's parts gives its counter a rate.
+        let _cpus = self.board.cpus();
+        self.board.time_by(self.host)
+    }
+
+    /// The greatest clock reading of all, in nanoseconds.
+    pub fn greatest(&self) -> u64
+        ensures { result ≡ self.now.greatest }
+    {
+        self.board.greatest()
+    }
+
+    /// What a read of the page of `cpu` at count `h` answers.
+    #[inline(always)]
+    pub fn page_of(&self, cpu: u8, h: u64) -> Result<PageReply, TimeFault>
+        requires { cpu < self.now.cpus }
+        ensures ok { OnOk result (HasTime self.now.anchor h) }
+        ensures value { IfOk result (λ r. r ≡ page_reply self.now cpu h) }
+        ensures fault { IfErr result (IsFaultAt self.now.anchor h) }
+    {
+        self.board.page_of(cpu, h)
+    }
+
+    /// What a read of the clock by the page of `cpu` at count `h` answers.
+    #[inline(always)]
+    pub fn clock_of(&mut self, cpu: u8, h: u64) -> Result<ClockReply, TimeFault>
+        requires { cpu < self.old.cpus }
+        ensures ok { OnOk result (HasTime self.old.anchor h) }
+        ensures value { IfOk result (λ r. r ≡ clock_reply self.old cpu h) }
+        ensures state { OnOk result (self.new ≡ after_clock self.old cpu h) }
+        ensures fault { IfErr result (IsFaultAt self.old.anchor h) }
+        ensures unchanged { OnErr result (self.new ≡ self.old) }
+    {
+        self.board.clock_of(cpu, h)
+    }
+
+    /// What a read of the reference page at count `h` answers.
+    #[inline(always)]
+    pub fn hv_of(&self, h: u64) -> Result<HvReply, TimeFault>
+        ensures ok { OnOk result (HasTime self.now.anchor h) }
+        ensures value { IfOk result (λ r. r ≡ hv_reply self.now h) }
+        ensures fault { IfErr result (IsFaultAt self.now.anchor h) }
+    {
+        self.board.hv_of(h)
+    }
+}
+
+/// The count before which nothing comes that a caller sees, where it is wanted; 0 where none is known.
+#[inline(always)]
+fn horizon_of(board: &BoardState, wanted: bool) -> u64
+    ensures { 0 < result → IsQuiet board.now (result - 1) }
+{
+    if wanted { board.quiet_before() } else { 0 }
+}
