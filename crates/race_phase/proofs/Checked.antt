@@ -1,5 +1,32 @@
 -- A trace that a board takes, one record or one phase more.
-use Rattle.std.proofs.Common.{◌≡◌, ℕ, Bool, true, false, zero, suc, ◌+◌, ◌<◌, ◌≤◌, ◌^◌, List, [], ◌∷◌, ◌++◌, length, take, get_or, Option, None, refl, sym, ap, ◌∙◌, subst, arith}
+use Rattle.std.proofs.Common.{
+  ◌≡◌,
+  ℕ,
+  Bool,
+  true,
+  false,
+  zero,
+  suc,
+  ◌+◌,
+  ◌<◌,
+  ◌≤◌,
+  ◌^◌,
+  List,
+  [],
+  ◌∷◌,
+  ◌++◌,
+  length,
+  take,
+  get_or,
+  Option,
+  None,
+  refl,
+  sym,
+  ap,
+  ◌∙◌,
+  subst,
+  arith,
+}
 use Rattle.std.specs.Bool.{OnTrue}
 use Rattle.std.proofs.lemmas.List.{take_more}
 use Rattle.std.proofs.lemmas.List.Elements.{All-get_or, All-more}
@@ -14,7 +41,7 @@ use Rattle.race_phase.specs.private.Checked.{TakesRecord, TakesRecords, TakesEnd
 use Rattle.race_phase.proofs.Same.{size_of, size_records, size_phase, end_fits}
 use Rattle.race_phase.proofs.Taken.{or_none}
 
-or_both : (a o : Option Fault) → a ≡ None → o ≡ None → or_fault a o ≡ None
+pub or_both : (a o : Option Fault) → a ≡ None → o ≡ None → or_fault a o ≡ None
 or_both a o e f = ap (λ (x : Option Fault). or_fault x o) e ∙ f
 
 -- records

@@ -44,7 +44,17 @@ use Rattle.board_core.specs.Pages.{published_by, with_greatest}
 use Rattle.board_core.specs.Refusals.{refusal_of, raised_version, version_at}
 use Rattle.board_core.specs.Wall.{publishes_wall}
 use Rattle.board_core.specs.Hv.{publishes_hv}
-use Rattle.board_core.proofs.Laws.{after_access-accesses, version-published, processor_at-other, wall_version-after, hv_version-after, taken_accesses, taken_version, taken_page, taken_hv}
+use Rattle.board_core.proofs.Laws.{
+  after_access-accesses,
+  version-published,
+  processor_at-other,
+  wall_version-after,
+  hv_version-after,
+  taken_accesses,
+  taken_version,
+  taken_page,
+  taken_hv,
+}
 use Rattle.board_core.specs.Tsc.{processor_at}
 use Rattle.board_history.specs.History.{of_state, after_entry, board_after, May, LegalFrom, is_of, entries_of}
 use Rattle.board_history.specs.declared.entry.Entry.{Entry}

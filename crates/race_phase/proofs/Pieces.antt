@@ -48,7 +48,8 @@ flat_map-set f (y ∷ []) (suc i) x d more last is = absurd (omega arith)
 flat_map-set f (y ∷ z ∷ zs) (suc i) x d more last is =
     ap (λ l. f y ++ l) (flat_map-set f (z ∷ zs) i x d more (omega arith) is) ∙ sym (append_assoc (f y) (flat_map f (z ∷ zs)) more)
 
-pub flat_map-last : {X A : Type 0} (f : X → List A) (xs : List X) (n : ℕ) (x d : X) (more : List A) → n ≡ length xs → 0 < n → f x ≡ f (get_or xs (n - 1) d) ++ more
+pub flat_map-last : {X A : Type 0} (f : X → List A) (xs : List X) (n : ℕ) (x d : X) (more : List A) → n ≡ length xs → 0 < n
+    → f x ≡ f (get_or xs (n - 1) d) ++ more
     → flat_map f (set xs (n - 1) x) ≡ flat_map f xs ++ more
 flat_map-last f xs n x d more len some is = flat_map-set f xs (n - 1) x d more (omega arith) is
 

@@ -183,7 +183,8 @@ stepped h number = Board 1 1 h Step (reply number)
 abbrev clock_read : Bool → List Entry
 clock_read locked = PageRead 0 0 4 page locked ∷ Clamp 0 0 4 4 ∷ []
 
-processor_0_is_first : Shown at_power_on routed records (Opened at_power_on ∷ enabled 1 ∷ PageRead 0 0 4 page false ∷ Clamp 0 0 4 4 ∷ stepped 0 2 ∷ stepped 3 3 ∷ []) 0 2
+processor_0_is_first : Shown at_power_on routed records (Opened at_power_on ∷ enabled 1 ∷ PageRead 0 0 4 page false ∷ Clamp 0 0 4 4 ∷ stepped 0 2 ∷ stepped 3 3 ∷ [])
+    0 2
     (codes "5 1\n7 clock 4 4\n6 2\n8 3\n")
 unfolding block_of value_text clock_text digits tsc_by reading_of
 processor_0_is_first = (
@@ -220,8 +221,8 @@ processor_0_is_first = (
   ),
 )
 
-processor_1_is_first : Shown at_power_on routed records (Opened at_power_on ∷ stepped 0 1 ∷ enabled 2 ∷ stepped 3 3 ∷ PageRead 0 0 4 page false ∷ Clamp 0 0 4 4 ∷ []) 0 2
-    (codes "5 2\n7 clock 4 4\n6 1\n8 3\n")
+processor_1_is_first : Shown at_power_on routed records (Opened at_power_on ∷ stepped 0 1 ∷ enabled 2 ∷ stepped 3 3 ∷ PageRead 0 0 4 page false ∷ Clamp 0 0 4 4 ∷ [])
+    0 2 (codes "5 2\n7 clock 4 4\n6 1\n8 3\n")
 unfolding block_of value_text clock_text digits tsc_by reading_of
 processor_1_is_first = (
   codes "5 2\n7 clock 4 4\n",

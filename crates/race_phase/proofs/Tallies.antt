@@ -130,7 +130,8 @@ pub refusal_of-tally : (b : BoardParts) (t : TallyParts) (cpu h : ℕ) (a : Acce
 unfolding refusal_of refusal_in
 refusal_of-tally b t cpu h a x =
     let raised : raised_version b.processors b.wall_version b.hv.version cpu a ≡ raised_in t cpu a =
-    λ i. cond (publishes_wall a) (Some (sym x.wall_version i)) (cond (publishes_hv a) (Some (sym x.hv_version i)) (same_version (published_by cpu a) b t x i)) in
+    λ i. cond (publishes_wall a) (Some (sym x.wall_version i))
+    (cond (publishes_hv a) (Some (sym x.hv_version i)) (same_version (published_by cpu a) b t x i)) in
     let anchor : b.anchor ≡ t.anchor = sym x.anchor in
     let accesses : b.accesses ≡ t.accesses = sym x.accesses in
     λ i. cond (ltb h (anchor i).start) (Some (BeforeStart (anchor i).start))
@@ -146,7 +147,8 @@ page_place cpus format cpu a most inside legal = by (published_by cpu a) refl
     by (Some k) e = let below = published_by-legal cpus format cpu k a inside legal e in omega arith
 
 -- the versions after an access
-module _ (b : BoardParts) (t : TallyParts) (cpu h : ℕ) (a : Access) (x : IsTally b t) (inside : cpu < t.cpus) (legal : IsTrue (is_legal t.cpus t.format a)) where
+module _ (b : BoardParts) (t : TallyParts) (cpu h : ℕ) (a : Access) (x : IsTally b t) (inside : cpu < t.cpus)
+    (legal : IsTrue (is_legal t.cpus t.format a)) where
   versions-at : (k : ℕ) (o : Option ℕ) → published_by cpu a ≡ o → get_or (raised_at o t.versions) k 0 ≡ (processor_at (after_access b cpu h a) k).version
   versions-at k None e =
       x.versions k ∙ sym (ap (λ (ps : List ProcessorParts). (get_or ps k no_processor).version) (processors-none b cpu h a e))

@@ -28,6 +28,7 @@ pub record LinesRead : Type 0 where
   pub cpus : ℕ
   pub records : List Record
 
+-- before the first record
 abbrev pub no_lines : ℕ → ℕ → LinesRead
 no_lines format cpus = record { format = format; cpus = cpus; records = [] }
 

@@ -36,6 +36,7 @@ abbrev pub or_cause : Option Cause → Option Cause → Option Cause
 or_cause None o = o
 or_cause (Some c) o = Some c
 
+-- the first of two faults
 abbrev pub or_fault : Option Fault → Option Fault → Option Fault
 or_fault None o = o
 or_fault (Some f) o = Some f
@@ -57,6 +58,7 @@ time_fault anchor h =
     else if nat_le RANGE_NS (time_at anchor h) then Some (OutOfRange (time_at anchor h))
     else None
 
+-- a count without a time, as a cause
 abbrev pub by_count : Option TimeFault → Option Cause
 by_count None = None
 by_count (Some fault) = Some (ByCount fault)
@@ -68,6 +70,7 @@ call_cause b cpu h (ReadPage page) = by_count (time_fault b.anchor h)
 call_cause b cpu h (ReadClock page) = by_count (time_fault b.anchor h)
 call_cause b cpu h ReadHv = by_count (time_fault b.anchor h)
 
+-- .. and a record, with its line
 abbrev pub record_fault : BoardParts → Record → Option Fault
 record_fault b r = at_line r.line (call_cause b r.cpu r.h r.call)
 
@@ -78,9 +81,11 @@ after_call b cpu h (ReadPage page) = b
 after_call b cpu h (ReadClock page) = b
 after_call b cpu h ReadHv = b
 
+-- after a record
 abbrev pub after_record : BoardParts → Record → BoardParts
 after_record b r = after_call b r.cpu r.h r.call
 
+-- after records, in order
 abbrev pub after_records : BoardParts → List Record → BoardParts
 after_records b [] = b
 after_records b (r ∷ rs) = after_records (after_record b r) rs

@@ -54,6 +54,7 @@ IsEnd cpus Finish = Unit {0}
 IsEnd cpus (Save line cpu h) = cpu < cpus
 IsEnd cpus (Move line cpu h host) = (cpu < cpus) × IsKhz host.khz
 
+-- and a phase: its records, at most 2^62, and its end
 pub record IsPhase (cpus format : ℕ) (v : Phase) : Type 0 where
   pub records : All (IsFitting cpus format) v.lines.records
   pub few : length v.lines.records ≤ 2 ^ 62
@@ -71,6 +72,7 @@ abbrev pub by_move : Option MoveFault → Option Cause
 by_move None = None
 by_move (Some fault) = Some (ByMove fault)
 
+-- the end of a phase with its line: its access is refused, or then its move
 abbrev pub end_fault : BoardParts → End → Option Fault
 end_fault b Finish = None
 end_fault b (Save line cpu h) = at_line line (by_access (refusal_of b cpu h Step))
@@ -83,11 +85,13 @@ end_fault b (Move line cpu h host) =
 abbrev pub after_phase : BoardParts → Phase → BoardParts
 after_phase b v = next_board v.end (after_records b v.lines.records)
 
+-- .. of a phase: that of its records, or else of its end
 abbrev pub phase_fault : BoardParts → Phase → Option Fault
 phase_fault b v =
     or_fault (records_fault b v.lines.records)
     (end_fault (after_records b v.lines.records) v.end)
 
+-- .. of phases, one after another
 abbrev pub trace_fault : BoardParts → List Phase → Option Fault
 trace_fault b [] = None
 trace_fault b (v ∷ vs) = or_fault (phase_fault b v) (trace_fault (after_phase b v) vs)

@@ -5,7 +5,7 @@ ghost use Rattle.race_phase.specs.declared.told.Told.TheVariants.{Acted};
 use hv_page::HvReply;
 use pvclock_page::{ClockReply, PageReply};
 
-/// What a record was answered. The reply of an access stands apart, where the worker keeps it.
+/// What a record was answered. The reply of an access is apart, where the worker keeps it.
 #[derive(Drop)]
 pub(crate) enum Told {
     /// The access was done.

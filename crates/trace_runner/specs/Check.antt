@@ -77,9 +77,11 @@ with_call line rec call s = record s {
   taken = s.taken + 1;
 }
 
+-- the phases with one more, which this ends
 abbrev pub ended_by : PhaseEnd → Checking → List PhaseRead
 ended_by end s = s.phases ++ record { records = s.last; end = end } ∷ []
 
+-- a phase ends: no record came after it yet
 abbrev pub with_end : PhaseEnd → Checking → Checking
 with_end end s = record s {
   phases = ended_by end s;
@@ -103,6 +105,7 @@ kept_job line rec Save s = with_end (BySave line rec.cpu rec.h) s
 kept_job line rec (Move khz start gap) s =
     with_end (ByMove line rec.cpu rec.h (record { khz = khz; start = start; gap = gap })) s
 
+-- .. by what the record asks
 abbrev pub kept : ℕ → Written → Checking → Checking
 kept line rec s = kept_job line rec rec.job s
 
@@ -114,6 +117,7 @@ refusal closing = record { text = closing.text; end = Stopped closing.end }
 abbrev pub is_full : Checking → Bool
 is_full s = nat_le 200000 s.taken
 
+-- so a further one is refused
 abbrev pub too_many : ℕ → Closing Checked
 too_many line = refusal (stops line Many)
 
@@ -122,6 +126,7 @@ abbrev pub checked_by : Answer Replay Verdict → ℕ → Written → Checking �
 checked_by (Goes block r) line rec s = Goes [] (kept line rec (record s { replay = r }))
 checked_by (Ends closing) line rec s = Ends (refusal closing)
 
+-- unless it is one too many
 abbrev pub record_checked : ℕ → Written → Checking → Answer Checking Checked
 record_checked line rec s =
     if is_full s then Ends (too_many line)
@@ -164,11 +169,13 @@ item_checked line (Begun header) s = Goes [] (begun header s)
 item_checked line (Next rec) s = record_checked line rec s
 item_checked line End s = Ends (record { text = []; end = Whole (trace_of s) })
 
+-- a line that is refused by its words
 abbrev pub fault_checked : ℕ → RecordFault → Checking → Closing Checked
 fault_checked line fault s =
     if is_full s && has_form fault.reason then too_many line
     else refusal (stops fault.line (refused_by fault.reason))
 
+-- by what the reader took the line for
 abbrev pub taken_checked : ℕ → Result Item RecordFault → Checking → Answer Checking Checked
 taken_checked line (Ok item) s = item_checked line item s
 taken_checked line (Err fault) s = Ends (fault_checked line fault s)

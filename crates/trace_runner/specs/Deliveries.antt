@@ -21,10 +21,11 @@ use Rattle.irq_edges.specs.Lines.{line_numbers}
 use Rattle.edge_hooks.specs.declared.deliveries.Delivery.{Delivery}
 use Rattle.race_phase.specs.declared.deliveries.Deliveries.{Deliveries}
 
--- whether the line at a place has a route, and whether any line has one
+-- whether the line at a place has a route
 abbrev pub there : ℕ → List (Option Delivery) → Bool
 there place routes = is_some (slice_index_or routes place None)
 
+-- whether any line has a route
 abbrev pub any_route : List (Option Delivery) → Bool
 any_route rs = there 0 rs || there 1 rs || there 2 rs || there 3 rs || there 4 rs || there 5 rs
 
@@ -40,6 +41,7 @@ filled any place routes =
     (unwrap_or (slice_index_or routes place None) (by_default (slice_index line_numbers place)))
     else None
 
+-- the places of the six lines
 abbrev pub six : List ℕ
 six = 0 ∷ 1 ∷ 2 ∷ 3 ∷ 4 ∷ 5 ∷ []
 

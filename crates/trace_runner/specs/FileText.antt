@@ -34,6 +34,7 @@ records_text ds b (r ∷ rs) =
 abbrev pub phase_text : Deliveries → BoardParts → PhaseRead → List ℕ
 phase_text ds b v = records_text ds b v.records ++ end_text ds v.end (records_behind b v.records)
 
+-- of phases, one after another
 abbrev pub phases_text : Deliveries → BoardParts → List PhaseRead → List ℕ
 phases_text ds b [] = []
 phases_text ds b (v ∷ vs) =

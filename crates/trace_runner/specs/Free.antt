@@ -18,6 +18,7 @@ pub record IsPhase (cpus format : ℕ) (v : PhaseRead) : Type 0 where
 abbrev pub after_phase : BoardParts → PhaseRead → BoardParts
 after_phase b v = next_board v.end (after_records b v.records)
 
+-- the first fault of a phase: that of its records, or else of its end
 abbrev pub phase_fault : BoardParts → PhaseRead → Option Fault
 phase_fault b v =
     or_fault (records_fault b v.records) (end_fault (after_records b v.records) v.end)
@@ -27,10 +28,12 @@ abbrev pub after_phases : BoardParts → List PhaseRead → BoardParts
 after_phases b [] = b
 after_phases b (v ∷ vs) = after_phases (after_phase b v) vs
 
+-- the first fault of phases, one after another
 abbrev pub trace_fault : BoardParts → List PhaseRead → Option Fault
 trace_fault b [] = None
 trace_fault b (v ∷ vs) = or_fault (phase_fault b v) (trace_fault (after_phase b v) vs)
 
+-- phases that fit the board, and have no fault
 pub record IsFree (opening : BoardParts) (phases : List PhaseRead) : Type 0 where
   pub fit : All (IsPhase opening.cpus opening.format) phases
   pub free : trace_fault opening phases ≡ None

@@ -55,9 +55,11 @@ board_of (Saved board) = board
 abbrev pub opening : Setup
 opening = setup_by_default 1
 
+-- no line has a route
 abbrev pub no_routes : Deliveries
 no_routes = record { cpus = opening.cpus; lines = replicate 6 None }
 
+-- a replay before its first line
 abbrev pub at_start : Bool → Replay
 at_start shows_state = record {
   reading = reading_at_start;
@@ -83,6 +85,7 @@ abbrev pub with_board : Answer BoardParts Verdict → Replay → Answer Replay V
 with_board (Goes text b) r = Goes text (record r { board = b })
 with_board (Ends closing) r = Ends closing
 
+-- a record, by what it asks of the board
 abbrev pub record_answer : ℕ → Record → Replay → Answer Replay Verdict
 record_answer line rec r =
     with_board (job_answer line rec.cpu rec.h rec.job r.deliveries r.board) r

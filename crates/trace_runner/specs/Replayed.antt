@@ -27,6 +27,7 @@ board_behind b cpu h (ReadPage page) = b
 board_behind b cpu h (ReadClock page) = after_clock b page h
 board_behind b cpu h ReadHv = b
 
+-- after records, in order
 abbrev pub records_behind : BoardParts → List Record → BoardParts
 records_behind b [] = b
 records_behind b (r ∷ rs) = records_behind (board_behind b r.cpu r.h r.call) rs
@@ -60,9 +61,11 @@ TakesCall b cpu h ReadHv = Unit {0}
 abbrev pub by_refusal : Option Refusal → Option Refused
 by_refusal = option_map refused_access
 
+-- .. by the gap of a move
 abbrev pub by_gap : Option MoveFault → Option Refused
 by_gap = option_map refused_move
 
+-- the first of two reasons
 abbrev pub or_gap : Option Refused → Option Refused → Option Refused
 or_gap None o = o
 or_gap (Some why) o = Some why
@@ -73,6 +76,7 @@ refused_gap cpu h gap b =
     or_gap (by_refusal (refusal_of b cpu h Step))
     (by_gap (move_fault gap (after_access b cpu h Step)))
 
+-- by what the record asks
 abbrev pub refused_job : ℕ → ℕ → Job → BoardParts → Option Refused
 refused_job cpu h (Board a) b = by_refusal (refusal_of b cpu h a)
 refused_job cpu h (Page page) b = refused_count b h

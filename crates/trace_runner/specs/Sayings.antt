@@ -29,13 +29,15 @@ pub record Saying : Type 0 where
   pub status : Status
   pub text : List ℕ
 
+-- words that are no command
 abbrev pub usage : Saying
 usage = record { status = Usage; text = usage_text }
 
--- a generated trace, and the sum of a soak over it
+-- a generated trace
 abbrev pub generated : Size → Saying
 generated size = record { status = Ok; text = gen_text size.key size.records size.cpus }
 
+-- the sum of a soak over it
 abbrev pub summed : Size → Saying
 summed size =
     record { status = verdict_status (soak_of size).end; text = (soak_of size).text }

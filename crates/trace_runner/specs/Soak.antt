@@ -39,7 +39,7 @@ is_edge line = bytes_eq (take 5 line) (codes "edge ")
 unfoldable pub edges_in : List ℕ → ℕ
 edges_in text = length (filter is_edge (slice_split (λ b. b == 10) text))
 
--- what there is to be told
+-- what there is to print
 abbrev pub sum_of : Soak → Sum
 sum_of s = record {
   records = s.records;
@@ -54,8 +54,8 @@ abbrev pub sum_text : Verdict → List ℕ → Sum → List ℕ
 sum_text Done text sum = soak_text sum.records sum.edges sum.time sum.greatest
 sum_text (Stopped line why) text sum = text
 
--- a line does what it does to the replay; of its block the edges are counted (a count that stands
--- still at its type's end), and nothing is printed
+-- a line does what it does to the replay; of its block the edges are counted (a count that rises
+-- no more at its type's end), and nothing is printed
 abbrev pub soaked : Answer Replay Verdict → Soak → Answer Soak Verdict
 soaked (Goes block r) s = Goes [] (record s {
   replay = r;
@@ -66,9 +66,11 @@ soaked (Ends closing) s = Ends (record {
   end = closing.end;
 })
 
+-- what a line does to a soak
 unfoldable pub soak_answer : ℕ → Soak → List ℕ → Answer Soak Verdict
 soak_answer line s text = soaked (answer_of line s.replay text) s
 
+-- the end of the input, where the trace has not ended
 abbrev pub soak_closing : ℕ → Soak → Closing Verdict
 soak_closing line s = closing_of line s.replay
 
@@ -82,7 +84,7 @@ soak_from r records bytes =
 unfoldable pub soak_of : Size → Closing Verdict
 soak_of size = soak_from (at_start false) size.records (gen_text size.key size.records size.cpus)
 
--- what a soak leaves: all of that, with its status; or memory ran out, and only that is told
+-- what a soak leaves: all of that, with its status; or memory ran out, and only that is printed
 abbrev pub Soaked : Closing Verdict → Status → Option (List ℕ) → Option (List ℕ) → Type 0 → Type 0
 Soaked closing result old new shown =
     SaidAtMost (verdict_status closing.end) result old new closing.text shown

@@ -15,6 +15,7 @@ pub record PhaseRead : Type 0 where
 abbrev pub phase_read : Phase → PhaseRead
 phase_read v = record { records = v.lines.records; end = v.end }
 
+-- likewise of several
 abbrev pub phases_read : List Phase → List PhaseRead
 phases_read vs = map phase_read vs
 

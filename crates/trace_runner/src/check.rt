@@ -75,13 +75,13 @@ pub(crate) enum Checked {
 /// processors' threads. Nothing is printed but a refusal.
 ///
 /// Contracts see in it a replay of these records, with the board that they leave. That board isn't there: it is worked
-/// out from the records, and what it refuses is told by a tally of its counts.
+/// out from the records, and a tally of its counts says what it refuses.
 #[derive(Drop)]
 pub(crate) struct Check {
     reading: Reading,
     shows_state: bool,
     deliveries: Deliveries,
-    /// The counts of the board behind the records.
+    /// The counts of the board after the records.
     tally: Tally,
     opening: BoardState,
     phases: Vec<Phase>,

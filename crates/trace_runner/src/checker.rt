@@ -93,7 +93,7 @@ impl Answerer<Checked> for Checker {
 
 impl Check {
     /// Refuses a record where a replay would, or keeps it. A common one is kept here; what ends a phase, or is refused,
-    /// stands apart, since ends and causes have places that a call clears as it begins.
+    /// is apart, since ends and causes have places that a call clears as it begins.
     #[inline(always)]
     fn take(
         &mut self,
@@ -203,7 +203,7 @@ impl Check {
         stopped(fault.line, refused_by(fault.reason), out, end)
     }
 
-    /// Answers a line that is no record, or one that is refused. It stands apart, since its item has room for a board,
+    /// Answers a line that is no record, or one that is refused. It is apart, since its item has room for a board,
     /// which a call clears as it begins.
     #[cold]
     #[inline(never)]

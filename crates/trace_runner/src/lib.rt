@@ -1,4 +1,4 @@
-//! The runner behind the program `clockboard`: it reads a trace of what processors do to a clock board (8254,
+//! The runner of the program `clockboard`: it reads a trace of what processors do to a clock board (8254,
 //! MC146818, HPET, TSCs, pvclock pages), runs the board to the time of each record, and prints replies and edges.
 //!
 //! [`run`] is the one call. A trace is a text: a header, and records. A record names a processor, a count of the

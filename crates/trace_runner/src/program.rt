@@ -46,7 +46,7 @@ use std::sync::Wait;
 use std::thread::Threads;
 use trace_loop::{MEMORY_FAULT, answer_lines, say};
 
-/// Runs the program on its words (those behind its name): the job `replay` reads a trace from `source`, and writes
+/// Runs the program on its words (those after its name): the job `replay` reads a trace from `source`, and writes
 /// what it answers to `sink`, in pieces as large as the source's.
 ///
 /// Each line whose end was taken is answered before more is taken. Nothing is taken after the piece that ended the
@@ -64,8 +64,8 @@ use trace_loop::{MEMORY_FAULT, answer_lines, say};
 ///   help or the version.
 /// - `Usage`: the words are no command; the usage is printed, and nothing is taken.
 /// - `BadRecord`: that line, or the end of the input at it, is refused for the reason given.
-/// - `OutOfRange`: the time of that line's count, or that behind a move's gap, is 2^59 ns or more.
-/// - `VersionsSpent`: that line would publish a page, or the wall clock's words, behind the last version.
+/// - `OutOfRange`: the time of that line's count, or that after a move's gap, is 2^59 ns or more.
+/// - `VersionsSpent`: that line would publish a page, or the wall clock's words, past the last version.
 /// - `Spent`: 2^62 accesses came before that line.
 /// - `SourceFault`, `SinkFault`: only where that end counted a fault in this call. What was written is then the blocks
 ///   of all whole lines given and `fault source`, or a beginning of what would be printed.
@@ -127,7 +127,7 @@ pub fn run<R: Threads + Wait + Sync, S: Source, K: Sink, G: Gate + Sync>(
         ⊎ (Said Status.NoMemory result (K.contents sink.old) (K.contents sink.new)
         memory_fault_text (Rose (K.faults sink.old) (K.faults sink.new))
         × (source.new ≡ source.old)) }
-    // what stands before the word of a fault: whole lines in a replay, nothing in a race
+    // what is printed before the word of a fault: whole lines in a replay, nothing in a race
     ensures whole_lines { (shows_state : Bool) → (bytes : List ℕ)
         → IsWholeLines (progress_behind shows_state bytes).printed }
     ensures race_silent { (shows_state : Bool) → (bytes : List ℕ)

@@ -25,7 +25,7 @@ use trace_text::{Job, Record};
 
 impl Replay {
     /// Answers a record: appends its block, or refuses it. After an `Err` the text begins as it was. Only a refusal writes
-    /// the end, in which none stands: it is too large for registers, and most records have none.
+    /// the end, which was none: it is too large for registers, and most records have none.
     #[inline(always)]
     pub(crate) fn answer_record(
         &mut self,

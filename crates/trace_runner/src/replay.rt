@@ -120,7 +120,7 @@ impl Replay {
 }
 
 impl Replay {
-    /// Answers a line that is no record, or one that is refused. It stands apart, since its item has room for a board,
+    /// Answers a line that is no record, or one that is refused. It is apart, since its item has room for a board,
     /// which a call clears as it begins.
     #[cold]
     #[inline(never)]

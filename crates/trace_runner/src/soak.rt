@@ -21,11 +21,11 @@ pub(crate) struct Soak {
     pub(crate) replay: Replay,
     /// How many records were asked for.
     pub(crate) records: u64,
-    /// How many edges came; it stands still at its type's end.
+    /// How many edges came; at its type's end it rises no more.
     pub(crate) edges: u64,
 }
 
-/// What a soak tells.
+/// What a soak prints.
 #[derive(Clone, Copy, Debug, PartialEq, Eq)]
 pub(crate) struct Sum {
     pub(crate) records: u64,
@@ -37,7 +37,7 @@ pub(crate) struct Sum {
 }
 
 /// Replays the generated trace of this size, and writes how many edges came, the time and the greatest clock reading
-/// behind it. It takes nothing from a source.
+/// after it. It takes nothing from a source.
 pub(crate) fn run_soak<K: Sink>(alloc: Global, size: Size, sink: &mut K) -> Status
     requires { IsSize size }
     ensures said { Soaked (soak_of size) result (K.contents sink.old) (K.contents sink.new)
@@ -74,7 +74,7 @@ fn edges_in(text: &[u8]) -> u64
 impl Soak {
     ghost use Rattle.trace_runner.specs.Soak.{sum_of};
 
-    /// What there is to be told now.
+    /// What there is to print now.
     fn sum(&self) -> Sum
         ensures { result ≡ sum_of self.now }
     {

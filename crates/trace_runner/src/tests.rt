@@ -232,7 +232,7 @@ fn the_first_line_outside_ends_a_trace(rt: HostRuntime) -> Result<(), Fail> {
             },
             b"refused 3 range 576460752303423488\n",
         ),
-        // A move whose gap ends behind the range prints nothing but its refusal, not the rise before it.
+        // A move whose gap ends past the range prints nothing but its refusal, not the rise before it.
         (
             b"clockboard 1\nbegin\n0 0 out 43 10\n0 0 out 40 01\n0 2000 move 1000000 0 576460752303421488\nend\n",
             Status::OutOfRange {
@@ -370,7 +370,7 @@ const MOVED_LINES: [(&[u8], &[u8]); 12] = [
     (b"end\n", b"final 1000003000 6 1000003000 0\n"),
 ];
 
-/// What a source is to have printed that fails behind so many bytes of these lines: the blocks of the whole lines
+/// What a source is to have printed that fails after so many bytes of these lines: the blocks of the whole lines
 /// among them, and the word of the fault.
 fn cut_off(alloc: Global, lines: &[(&[u8], &[u8])], bytes: usize) -> Result<Vec<u8>, AllocError> {
     let mut given = Vec::new(alloc);

@@ -6,7 +6,7 @@ use std::marker::Model;
 /// A trace that was read to its end. No record of it is refused in file order.
 #[derive(Drop)]
 pub(crate) struct Trace {
-    /// The board that it begins with. It stands apart, since the answer to a line has room for a trace.
+    /// The board that it begins with. It is apart, since the answer to a line has room for a trace.
     pub(crate) opening: Box<BoardState>,
     /// Where rises go, where the header has routes.
     pub(crate) deliveries: Deliveries,

@@ -15,7 +15,8 @@ returns-then-not-takes_record-clause-only c = λ same b x fit few free.
     let r : Record = c.record.result in
     let front : BoardParts = after_records b (take i rs) in
     let next : TakesRecord front (get_or rs i r) = takes_records-at b rs i r (slice_get_within rs i r c.record.ensures) (fit, free) in
-    c.if-not-takes_record.ensures.only refl front (c.loop-done.invariant.taken b x).1 (subst (TakesRecord front) (get_or_from_slice_get rs i r r c.record.ensures) next)
+    c.if-not-takes_record.ensures.only refl front (c.loop-done.invariant.taken b x).1
+    (subst (TakesRecord front) (get_or_from_slice_get rs i r r c.record.ensures) next)
 
 pub loop-done-preserved : goal.loop-done-preserved
 loop-done-preserved c =

@@ -9,7 +9,8 @@ use Rattle.race_phase.proofs.checking.takes_records.Given as goal
 abbrev pub invariant-loop-done : goal.invariant-loop-done
 invariant-loop-done l = record {
   within : l.done ≤ length l.lines.records;
-  taken : (b : BoardParts) → IsTally b l.fn.tally → TakesRecords b (take l.done l.lines.records) × IsTally (after_records b (take l.done l.lines.records)) l.tally;
+  taken : (b : BoardParts) → IsTally b l.fn.tally
+      → TakesRecords b (take l.done l.lines.records) × IsTally (after_records b (take l.done l.lines.records)) l.tally;
 }
 
 abbrev pub decreases-loop-done : goal.decreases-loop-done

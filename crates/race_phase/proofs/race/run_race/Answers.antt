@@ -32,7 +32,8 @@ loop-phase-preserved g c =
           ∙ (or_none (phase_fault now v) (trace_fault (after_phase now v) vs) free).1;
       told = λ st out x.
           subst (race_text ds c.args.state c.args.phases.now st) (sym (append_assoc c.loop-phase.text e.0 out) ∙ ap (λ l. l ++ out) (sym e.1))
-          (inv.told st (e.0 ++ out) (subst (λ (l : List Phase). race_text ds now l st (e.0 ++ out)) (sym split) (c.in_ok-now.now.value, e.0, out, refl, ended, x)));
+          (inv.told st (e.0 ++ out) (subst (λ (l : List Phase). race_text ds now l st (e.0 ++ out)) (sym split)
+          (c.in_ok-now.now.value, e.0, out, refl, ended, x)));
     }
 
 none_left : (vs : List Phase) → length vs ≡ 0 → vs ≡ []

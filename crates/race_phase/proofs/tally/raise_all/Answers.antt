@@ -7,7 +7,8 @@ loop-cpu-init c = sym (raised_below-zero c.args.versions.now)
 
 pub overflow_add-versions : goal.overflow_add-versions
 overflow_add-versions c =
-    let fresh = raised_below-fresh c.loop-cpu.cpu c.args.cpus c.args.versions.now c.loop-cpu.versions c.loop-cpu.invariant c.requires.free c.loop-cpu-test.true in
+    let fresh =
+    raised_below-fresh c.loop-cpu.cpu c.args.cpus c.args.versions.now c.loop-cpu.versions c.loop-cpu.invariant c.requires.free c.loop-cpu-test.true in
     omega arith
 
 pub loop-cpu-preserved : goal.loop-cpu-preserved

@@ -89,7 +89,8 @@ loop-place-preserved g c =
           let here = record_cpu rs i _ n _ _ w.record.ensures c.cpu.ensures c.from.ensures w.if-from-cpu.true in
           let waits = next_read s ds n i rs w.record.result c.loop-place.batch.items c.loop-place.text.items p w.record.ensures here inv.made in
           let items = ap (λ v. v.items) w.batch-is ∙ w.in-Ok.ensures.items in
-          let fit = All-push (IsFitting s.cpus s.format) c.loop-place.batch.items _ inv.fitting (read_fits s.cpus s.format rs i w.record.result w.record.ensures c.requires.fitting) in
+          let fit = All-push (IsFitting s.cpus s.format) c.loop-place.batch.items _ inv.fitting
+          (read_fits s.cpus s.format rs i w.record.result w.record.ensures c.requires.fitting) in
           record {
             number = ap (λ z. z.number) w.pass-is ∙ inv.number;
             legal = subst (λ (z : PassKnown). IsLegal z.seen) (sym w.pass-is) inv.legal;

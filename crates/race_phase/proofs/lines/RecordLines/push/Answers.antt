@@ -20,6 +20,7 @@ returns-clause-ok c =
     let read = subst (λ (l : LinesRead). read_alone l.format l.cpus c.args.line.now ≡ Ok c.args.given.now) (sym c.self.view_is) c.requires.read in
     let records : records_in (body_at i.format i.cpus) c.extend_from_slice.new.self.items c.push.new.self.items ≡ _ =
     (λ k. records_in (body_at i.format i.cpus) (c.in-Ok.ensures.items k) (c.in-Ok-push.ensures.items k))
-    ∙ records_pushed i.format i.cpus i.text.items c.args.line.now i.lines.items _ c.args.given.now c.self.invariant (c.len-start.ensures ∙ i.text.ok.0) refl read in
+    ∙ records_pushed i.format i.cpus i.text.items c.args.line.now i.lines.items _ c.args.given.now c.self.invariant
+    (c.len-start.ensures ∙ i.text.ok.0) refl read in
     (λ k. record { format = i.format; cpus = i.cpus; records = records k })
     ∙ ap (λ (l : LinesRead). with_line c.args.number c.args.given.now l) c.self.view_is
