@@ -76,10 +76,12 @@ unfolding is_quiet
 written-shown Capabilities width high v h e = same h
 written-shown Configuration width high v h e = absurd (true≢false (sym e))
 written-shown Status width high v h e = absurd (true≢false (sym e))
-written-shown MainCounter width high v h e = record { legacy = refl; status = refl; level = λ k. refl; enabled = λ k. refl; route = λ k. refl; message = λ k. refl }
+written-shown MainCounter width high v h e =
+    record { legacy = refl; status = refl; level = λ k. refl; enabled = λ k. refl; route = λ k. refl; message = λ k. refl }
 written-shown (TimerConfig k) width high v h e = absurd (true≢false (sym e))
 written-shown (TimerComparator k) width high v h e = comparator-shown k width high v h
-written-shown (TimerMessage k) width high v h e = record { legacy = refl; status = refl; level = λ k. refl; enabled = λ k. refl; route = λ k. refl; message = λ k. refl }
+written-shown (TimerMessage k) width high v h e =
+    record { legacy = refl; status = refl; level = λ k. refl; enabled = λ k. refl; route = λ k. refl; message = λ k. refl }
 written-shown Reserved width high v h e = same h
 
 -- the register at an offset, by the tests of its place

@@ -320,7 +320,8 @@ unfolding start line shown edges timers edge_timer rtc pit counter acted
 ack_of_another_line = refl
 
 -- .. nor is a timer reached that isn't there
-ack_of_no_timer : line_at 5 (acted (Ack 0) (record start { ticks = line Delay 0 ∷ line Delay 0 ∷ line Delay 0 ∷ line Delay 0 ∷ line Delay 0 ∷ shown Delay 0 ∷ [] }))
+ack_of_no_timer : line_at 5 (acted (Ack 0)
+    (record start { ticks = line Delay 0 ∷ line Delay 0 ∷ line Delay 0 ∷ line Delay 0 ∷ line Delay 0 ∷ shown Delay 0 ∷ [] }))
     ≡ shown Delay 0
 unfolding start line shown hpet rtc pit counter acted
 ack_of_no_timer = refl
@@ -397,7 +398,8 @@ disabled_sender_shows : levels (sender 1 0x2800) ≡ false ∷ false ∷ true �
 unfolding sender start line shown timers edge_timer rtc pit counter levels
 disabled_sender_shows = refl
 
-level_sender_shows : levels (record (sender 1 0x2806) { hpet = record (sender 1 0x2806).hpet { status = 1 } }) ≡ false ∷ false ∷ true ∷ true ∷ false ∷ false ∷ []
+level_sender_shows : levels (record (sender 1 0x2806) { hpet = record (sender 1 0x2806).hpet { status = 1 } })
+    ≡ false ∷ false ∷ true ∷ true ∷ false ∷ false ∷ []
 unfolding sender start line shown timers edge_timer rtc pit counter levels
 level_sender_shows = refl
 

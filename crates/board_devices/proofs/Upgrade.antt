@@ -112,7 +112,8 @@ and-false : (b : Bool) → (b && false) ≡ false
 and-false true = refl
 and-false false = refl
 
-pub output_of-upgraded : (m : Bool) (k : ℕ) (d : DeviceParts) → length d.ticks ≡ 10 → k < 8 → k < d.hpet.timers → output_of k (devices_upgraded m d) ≡ output_of k d
+pub output_of-upgraded : (m : Bool) (k : ℕ) (d : DeviceParts) → length d.ticks ≡ 10 → k < 8 → k < d.hpet.timers
+    → output_of k (devices_upgraded m d) ≡ output_of k d
 unfolding devices_upgraded
 output_of-upgraded m k d long small there =
     ap (λ (t : TimerParts). cond (is_level t) (bit k d.hpet.status && is_enabled t)

@@ -106,20 +106,21 @@ reads_c d zero = false
 reads_c d (suc zero) = (d.rtc.index == 0x0c) && counts_rtc d
 reads_c d (suc (suc k)) = false
 
--- a line that is acknowledged where b holds, and the same without a rise out of its queue
+-- a line that is acknowledged where b holds
 abbrev pub acked_where : Bool → TickParts → TickParts
 acked_where b l = if b then acked l else l
 
+-- the same without a rise out of its queue
 abbrev pub down_where : Bool → TickParts → TickParts
 down_where b l = if b then acked_down l else l
 
--- the line of the MC146818 is PF while its ticks are counted: a write that changes PIE or LEG_RT
--- moves it, and counts nothing (own)
+-- the line of the MC146818 at this level: nothing is counted
 abbrev pub rtc_set : Bool → ℕ → TickParts → TickParts
 rtc_set up zero l = l
 rtc_set up (suc zero) l = set_up_to up l
 rtc_set up (suc (suc k)) l = l
 
+-- it is PF while its ticks are counted: a write that changes PIE or LEG_RT moves it (own)
 abbrev pub with_rtc_line : DeviceParts → DeviceParts
 with_rtc_line d = record d { ticks = each (rtc_set (counts_rtc d && pf_of d.rtc)) 0 d.ticks }
 

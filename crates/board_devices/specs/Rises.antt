@@ -2,10 +2,11 @@
 use Rattle.std.specs.Prelude.{ℕ, ◌+◌, Bool, ◌&&◌, ◌==◌, if◌then◌else◌, List, [], ◌∷◌}
 use Rattle.irq_edges.specs.declared.edges.Edge.{Edge}
 
--- how many edges of the list lift this line
+-- 1 where it holds, and else 0
 abbrev pub one_if : Bool → ℕ
 one_if b = if b then 1 else 0
 
+-- how many edges of the list lift this line
 abbrev pub lifts : ℕ → List Edge → ℕ
 lifts line [] = 0
 lifts line (e ∷ es) = one_if (e.up && (e.line == line)) + lifts line es

@@ -107,10 +107,11 @@ ticks_at from h ms pit rtc zero = pit
 ticks_at from h ms pit rtc (suc zero) = rtc
 ticks_at from h ms pit rtc (suc (suc k)) = timer_ticks from k h (timer_matches ms k)
 
--- a line at the end of a stretch, and from when on it is up
+-- a line at the end of a stretch
 abbrev pub end_of : ℕ → ℕ → Ticks → TickParts → TickParts
 end_of point to s l = if s.seen then line_end point to s.first s.count l else l
 
+-- from when on it is up
 abbrev pub up_of : ℕ → ℕ → ℕ → Ticks → TickParts → Option ℕ
 up_of from point to s l =
     if s.seen then up_from from point to s.first l else (if l.up then Some from else None)

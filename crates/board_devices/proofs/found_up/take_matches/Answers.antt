@@ -33,7 +33,8 @@ loop-k-preserved c =
       front = λ j less. c.count_ticks.ensures.others j (λ same. absurd (omega (arith, same))) ∙ c.loop-k.invariant.front j less;
       done = λ j less. elim (cases_eq j k) [
         | inl same ↦ subst (λ (i : ℕ). get_or c.count_ticks.new.lines (i + 2) no_line
-            ≡ ticked_times (cond (has_ticks i c.args.h.now) (timer_matches c.args.matches.now i).count 0) (get_or c.args.lines.now (i + 2) no_line)) (sym same) here
+            ≡ ticked_times (cond (has_ticks i c.args.h.now) (timer_matches c.args.matches.now i).count 0)
+            (get_or c.args.lines.now (i + 2) no_line)) (sym same) here
         | inr other ↦ c.count_ticks.ensures.others (j + 2) (λ same. other (omega (arith, same))) ∙ c.loop-k.invariant.done j (omega (arith, less, other))
       ];
       rest = λ j behind. c.count_ticks.ensures.others j (λ same. absurd (omega (arith, same, behind))) ∙ c.loop-k.invariant.rest j (omega (arith, behind));

@@ -9,13 +9,16 @@ use Rattle.board_devices.proofs.pulse_counts.counts_within.Goals as goal
 
 -- later no fewer pulses are seen
 pub overflow_sub-result : goal.overflow_sub-result
-overflow_sub-result c = omega (arith, pulses_by-mono PIT_HZ c.args.start c.args.end (omega (arith, c.requires.end)), c.pit_pulses.ensures, c.pit_pulses-2.ensures)
+overflow_sub-result c =
+    omega (arith, pulses_by-mono PIT_HZ c.args.start c.args.end (omega (arith, c.requires.end)), c.pit_pulses.ensures, c.pit_pulses-2.ensures)
 
 pub overflow_sub-result-2 : goal.overflow_sub-result-2
-overflow_sub-result-2 c = omega (arith, pulses_by-mono RTC_HZ c.args.start c.args.end (omega (arith, c.requires.end)), c.rtc_pulses.ensures, c.rtc_pulses-2.ensures)
+overflow_sub-result-2 c =
+    omega (arith, pulses_by-mono RTC_HZ c.args.start c.args.end (omega (arith, c.requires.end)), c.rtc_pulses.ensures, c.rtc_pulses-2.ensures)
 
 pub overflow_sub-result-3 : goal.overflow_sub-result-3
-overflow_sub-result-3 c = omega (arith, pulses_by-mono HPET_HZ c.args.start c.args.end (omega (arith, c.requires.end)), c.hpet_pulses.ensures, c.hpet_pulses-2.ensures)
+overflow_sub-result-3 c =
+    omega (arith, pulses_by-mono HPET_HZ c.args.start c.args.end (omega (arith, c.requires.end)), c.hpet_pulses.ensures, c.hpet_pulses-2.ensures)
 
 -- what is between, and no more than the nanoseconds
 count : (hz end start : ℕ) (c : goal.After-hpet_pulses-2) → end ≡ pulses_by hz c.args.end → start ≡ pulses_by hz c.args.start

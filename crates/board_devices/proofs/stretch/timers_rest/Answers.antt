@@ -24,7 +24,8 @@ loop-k-preserved c =
     let up : line.up ≡ false = subst (λ (l : TickParts). l.up ≡ false) line_is (c.rests.ensures.down c.if-not-rests.false) in
     record {
       still = below_more _ _ c.loop-k.invariant.still
-          (rest-end c.args.span.point c.args.span.to HPET_HZ c.args.span.from (has_ticks k c.args.h.now) m line (c.rests.ensures.count c.if-not-rests.false) never idle);
+          (rest-end c.args.span.point c.args.span.to HPET_HZ c.args.span.from (has_ticks k c.args.h.now) m line
+          (c.rests.ensures.count c.if-not-rests.false) never idle);
       down = below_more _ _ c.loop-k.invariant.down
           (rest-output c.args.span k c.args.h.now (bit k c.args.status) m line never up (no_bit k c.args.status (omega arith)) idle);
     }

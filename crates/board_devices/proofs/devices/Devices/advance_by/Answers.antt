@@ -35,7 +35,8 @@ use Rattle.board_devices.specs.Parts.{IsDevices}
 use Rattle.board_devices.specs.Places.{line_at, no_line}
 use Rattle.board_devices.specs.Run.{run}
 use Rattle.board_devices.specs.View.{parts_of}
-use Rattle.board_devices.specs.private.Stretch.{source, counted, timer_ticks, ticks_at, end_of, up_of, flagged_where, either_from, flag_from, output_up, slots_from}
+use Rattle.board_devices.specs.private.Stretch.{source, counted, timer_ticks, ticks_at, end_of, up_of, flagged_where, either_from}
+use Rattle.board_devices.specs.private.Stretch.{flag_from, output_up, slots_from}
 use Rattle.board_devices.proofs.Product.{Sound, run-parted}
 use Rattle.board_devices.proofs.Advance.{Brought, Known, ran-state, ran-levels, up-is, IsDevices-parted, due-few, up_at, irq_at, lines_from, outs}
 use Rattle.board_devices.proofs.Timers.{ends-timers, times-are}
@@ -164,7 +165,8 @@ first_line c =
 ends : (c : goal.After-run_timers) → (k : ℕ) → k < 10 → get_or c.run_timers.new.lines k no_line
     ≡ end_of c.next_point-point.result c.args.to
     (ticks_at c.args.from c.self.inside.hpet c.pulses-reach.new.matches (pit_of (pulsed c)) (rtc_of (pulsed c)) k) (line_at k (parts_of c.self.inside))
-ends c zero less = c.run_timers.ensures.front 0 (omega arith) ∙ c.run_clock-rtc_up.ensures.others 0 (λ e. absurd (omega (arith, e))) ∙ c.run_pit-pit_up.ensures.here
+ends c zero less =
+    c.run_timers.ensures.front 0 (omega arith) ∙ c.run_clock-rtc_up.ensures.others 0 (λ e. absurd (omega (arith, e))) ∙ c.run_pit-pit_up.ensures.here
 ends c (suc zero) less = c.run_timers.ensures.front 1 (omega arith) ∙ first_line c
 ends c (suc (suc k)) less = ends-timers (known (pulsed c)) c.next_point-point.result c.args.to c.run_clock-rtc_up.new.lines c.run_timers.new.lines (behind c)
     (λ j inside. subst (λ (h : HpetParts). get_or c.run_timers.new.lines (j + 2) no_line ≡ end_of c.next_point-point.result c.args.to
@@ -384,7 +386,8 @@ found c (suc (suc k)) less some =
     let place : suc (suc k) ≡ k + 2 = omega arith in
     ap (λ (i : ℕ). (get_or c.self.inside.ticks i no_line).up) place
     ∙ c.if-finds_up.ensures.timers refl k (there c k count) count
-    (ap (has_ticks k) (hpet_is (still_pulsed c)) ∙ has_ticks-hpet_pulsed_times k (pulses_from HPET_HZ c.args.from (c.args.to - c.args.from)) c.self.inside.hpet ∙ due.0)
+    (ap (has_ticks k) (hpet_is (still_pulsed c))
+    ∙ has_ticks-hpet_pulsed_times k (pulses_from HPET_HZ c.args.from (c.args.to - c.args.from)) c.self.inside.hpet ∙ due.0)
 
 -- no timer of level type matches
 level : (c : goal.After-take_ticks) (k : ℕ) → is_level (timer_at k c.self.inside.hpet) ≡ true

@@ -46,4 +46,5 @@ pub returns-clause-value : goal.returns-clause-value
 returns-clause-value c = state c ∙ ap (devices_upgraded c.args.messages) c.self.view_is
 
 pub returns-clause-levels : goal.returns-clause-levels
-returns-clause-levels c = ap levels (state c) ∙ levels-upgraded c.args.messages (parts_of c.self.inside) (hpet c) c.self.invariant.places ∙ ap levels c.self.view_is
+returns-clause-levels c =
+    ap levels (state c) ∙ levels-upgraded c.args.messages (parts_of c.self.inside) (hpet c) c.self.invariant.places ∙ ap levels c.self.view_is
