@@ -93,7 +93,7 @@ pub fn emit(times: &[Option<u64>; 6], from: u64, to: u64, into: &mut EdgeList)
     let mut at = from;
     let mut next = next_rise(times, from, to);
     while let Some(rise) = next {
-        next = append_rises(times, rise, to, into);
         at = rise;
+        next = append_rises(times, at, to, into);
     }
 }
