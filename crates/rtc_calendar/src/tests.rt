@@ -335,6 +335,9 @@ fn days_at_once_are_their_updates(rt: HostRuntime) {
             first,
             "{bytes:?} in {form:?}, {alarm:?}"
         );
+        let elapsed = let_pass(bytes, form, alarm, n);
+        assert_eq!(rt; elapsed.bytes, after(bytes, form, n));
+        assert_eq!(rt; elapsed.matched, first);
     }
 }
 
