@@ -35,11 +35,11 @@ as_one_burst : burst_in 2 0 65 (block 1 timer_at_power_on timer_at_power_on (per
 unfolding matches_next hpet_pulsed matches_at pulsed falls_at pulses_from pulses_by
 as_one_burst = refl
 
--- after nanosecond 15 the first pulse falls at 20, and two more are the second match
-behind_15 : burst_in 2 15 25 (block 1 timer_at_power_on timer_at_power_on (periodic 2))
-    ≡ Some (record { timer = 2; first = 30; count = 1; every = 0; address = 0xfee01000; «data» = 0x4032 })
+-- after nanosecond 15 the first pulse falls at 20, and the third at 40 is the match
+after_15 : burst_in 2 15 35 (block 1 timer_at_power_on timer_at_power_on (periodic 3))
+    ≡ Some (record { timer = 2; first = 40; count = 1; every = 0; address = 0xfee01000; «data» = 0x4032 })
 unfolding matches_next hpet_pulsed matches_at pulsed falls_at pulses_from pulses_by
-behind_15 = refl
+after_15 = refl
 
 -- at its very nanosecond, and a nanosecond before
 at_its_nanosecond : map (λ n. message_times 2 0 n (block 1 timer_at_power_on timer_at_power_on (periodic 2))) (19 ∷ 20 ∷ []) ≡ [] ∷ (20 ∷ []) ∷ []
