@@ -32,14 +32,14 @@ start-here b bytes is fits =
     (within 1 b.format LAST_FORMAT joined.format.least joined.format.last)
     ⨾ plain-here _ _ _ _ _ b b bytes (number-written 2 b.cpus (omega (arith, few)))
     (within 1 b.cpus (processors_of b.format) joined.format.least_cpus joined.format.most_cpus)
-    ⨾ plain-here _ _ _ _ _ b b bytes (number-written 8 b.anchor.khz fits.khz) (khz_valid-is b.anchor.khz joined.rates.host)
-    ⨾ plain-here _ _ _ _ _ b b bytes (number-written 8 b.anchor.start fits.start) refl
-    ⨾ plain-here _ _ _ _ _ b b bytes (number-written 8 b.anchor.base_ns fits.base_ns) (lt-ltb b.anchor.base_ns RANGE_NS (base_is b.anchor b.host time.range))
-    ⨾ plain-here _ _ _ _ _ b b bytes (number-written 8 b.host fits.host) (and_from _ _ (le-leb b.anchor.start b.host time.started) (lt-ltb (now_of b) RANGE_NS time.range))
-    ⨾ plain-here _ _ _ _ _ b b bytes (number-written 8 b.guest_khz fits.guest_khz) (khz_valid-is b.guest_khz joined.rates.guest)
-    ⨾ plain-here _ _ _ _ _ b b bytes (number-written 8 b.accesses fits.accesses) (le-leb b.accesses MOST_ACCESSES joined.accesses)
-    ⨾ plain-here _ _ _ _ _ b b bytes (number-written 8 b.greatest fits.greatest) refl
-    ⨾ plain-here _ _ _ _ _ b b bytes (number-written 8 b.slew_ns fits.slew_ns)
+    ⨾ plain-here _ _ _ _ _ b b bytes (number-written 8 b.anchor.khz fits.host.khz) (khz_valid-is b.anchor.khz joined.rates.host)
+    ⨾ plain-here _ _ _ _ _ b b bytes (number-written 8 b.anchor.start fits.host.start) refl
+    ⨾ plain-here _ _ _ _ _ b b bytes (number-written 8 b.anchor.base_ns fits.host.base_ns) (lt-ltb b.anchor.base_ns RANGE_NS (base_is b.anchor b.host time.range))
+    ⨾ plain-here _ _ _ _ _ b b bytes (number-written 8 b.host fits.host.host) (and_from _ _ (le-leb b.anchor.start b.host time.started) (lt-ltb (now_of b) RANGE_NS time.range))
+    ⨾ plain-here _ _ _ _ _ b b bytes (number-written 8 b.guest_khz fits.guest.guest_khz) (khz_valid-is b.guest_khz joined.rates.guest)
+    ⨾ plain-here _ _ _ _ _ b b bytes (number-written 8 b.accesses fits.guest.accesses) (le-leb b.accesses MOST_ACCESSES joined.accesses)
+    ⨾ plain-here _ _ _ _ _ b b bytes (number-written 8 b.greatest fits.guest.greatest) refl
+    ⨾ plain-here _ _ _ _ _ b b bytes (number-written 8 b.slew_ns fits.guest.slew_ns)
     (within 1 b.slew_ns SLEW_MAX_NS is.devices.joined.slew_low is.devices.joined.slew_high) ⨾ tt
   where
     within : (low n high : ℕ) → low ≤ n → n ≤ high → (leb low n && leb n high) ≡ true
@@ -63,9 +63,9 @@ counters-here b bytes is fits =
     high gate second e = grind arith
 
     each : IsPit b.pit → (j : ℕ) → 0 ≤ j → j < 0 + 3 → AllHere (counter j) b (get_or b.pit.counters j no_counter) bytes
-    each p zero low less = counter-here b 0 _ bytes p.first (high _ _ p.gate_of_first) (fits.blocks.counters 0 (omega arith))
-    each p (suc zero) low less = counter-here b 1 _ bytes p.second (high _ _ p.gate_of_second) (fits.blocks.counters 1 (omega arith))
-    each p (suc (suc zero)) low less = counter-here b 2 _ bytes p.third (or_right _ true refl) (fits.blocks.counters 2 (omega arith))
+    each p zero low less = counter-here b 0 _ bytes p.first (high _ _ p.gate_of_first) (fits.devices.counters 0 (omega arith))
+    each p (suc zero) low less = counter-here b 1 _ bytes p.second (high _ _ p.gate_of_second) (fits.devices.counters 1 (omega arith))
+    each p (suc (suc zero)) low less = counter-here b 2 _ bytes p.third (or_right _ true refl) (fits.devices.counters 2 (omega arith))
     each p (suc (suc (suc j))) low less = absurd (omega arith)
 
 -- the MC146818
@@ -77,7 +77,7 @@ clock-here b bytes is fits =
     ⨾ plain-here _ _ _ _ _ b b bytes (byte-written b.rtc.index) (le-leb b.rtc.index 0x7f r.index)
     ⨾ row-here _ 128 128 byte 0 _ _ _ b b bytes (all-written byte 0 128 b.rtc.bytes (omega (arith, r.places)) (λ k less. byte-written _))
     (drop_all 128 b.rtc.bytes (omega (arith, r.places))) (bytes_valid-is b.rtc r)
-    ⨾ plain-here _ _ _ _ _ b b bytes (number-written 2 b.rtc.d fits.divider) (divider_valid-is b.rtc r)
+    ⨾ plain-here _ _ _ _ _ b b bytes (number-written 2 b.rtc.d fits.numbers.divider) (divider_valid-is b.rtc r)
     ⨾ plain-here _ _ _ _ _ b b bytes (flag-written b.rtc.cycle) (cycle_valid-is b.rtc r) ⨾ tt
   where
     bytes_valid-is : (r : RtcParts) → IsRtc r → bytes_valid r ≡ true
@@ -98,7 +98,7 @@ unfolding registers
 registers-here b bytes is fits =
     plain-here _ _ _ _ _ b b bytes (byte-written b.hpet.config) (le-leb b.hpet.config 3 is.devices.hpet.config)
     ⨾ plain-here _ _ _ _ _ b b bytes (byte-written b.hpet.status) (status_valid-is b is)
-    ⨾ plain-here _ _ _ _ _ b b bytes (number-written 8 b.hpet.counter fits.counter) refl ⨾ tt
+    ⨾ plain-here _ _ _ _ _ b b bytes (number-written 8 b.hpet.counter fits.numbers.counter) refl ⨾ tt
 
 timer-there : (b : BoardParts) → IsBoard b → (j : ℕ) → j < timers_of b.format → IsTimer (timer_at j b.hpet)
 timer-there b is j less =
@@ -114,9 +114,9 @@ timers-here : (b : BoardParts) (bytes : List ℕ) → IsBoard b → BoardFits b 
 unfolding timers timer plain
 timers-here b bytes is fits =
     let n : ℕ = timers_of b.format in
-    blocks-here n 8 timer no_timer _ _ b b bytes (λ k less. refl) (omega (arith, timers_few b.format, fits.timer_places))
-    (λ j low less. timer-here b j (timer_at j b.hpet) bytes (timer-there b is j (omega arith)) (fits.blocks.timers j (omega (arith, is.joined.format.has_timers))))
-    (drop-blank no_timer n 8 b.hpet.timer fits.timer_places (timers_few b.format) (timer-absent b is)) ⨾ tt
+    blocks-here n 8 timer no_timer _ _ b b bytes (λ k less. refl) (omega (arith, timers_few b.format, fits.numbers.timers))
+    (λ j low less. timer-here b j (timer_at j b.hpet) bytes (timer-there b is j (omega arith)) (fits.devices.timers j (omega (arith, is.joined.format.has_timers))))
+    (drop-blank no_timer n 8 b.hpet.timer fits.numbers.timers (timers_few b.format) (timer-absent b is)) ⨾ tt
 
 -- the tick lines
 same-refl : (b : Bool) → same b b ≡ true
@@ -149,7 +149,7 @@ lines-here b bytes is fits policies_are =
     let ten = is.devices.joined.places in
     blocks-here n 10 line no_line _ _ b b bytes (λ k less. refl) (omega (arith, timers_few b.format, ten))
     (λ j low less. line-here b j (line_at j (devices_in b)) bytes (is.devices.lines j (omega (arith, timers_few b.format))) (up_allowed-is b is j)
-    (is.joined.due j (omega (arith, timers_few b.format))) (fits.blocks.lines j (omega arith)) (policies_are j (omega arith)))
+    (is.joined.due j (omega (arith, timers_few b.format))) (fits.devices.lines j (omega arith)) (policies_are j (omega arith)))
     (drop-blank no_line n 10 b.ticks ten (omega (arith, timers_few b.format)) (line-absent b is)) ⨾ tt
 
 policy_of-byte : (p : Policy) → policy_of (policy_byte p) ≡ p
@@ -203,8 +203,8 @@ rises-here b bytes is fits =
     let n : ℕ = counts_of b.format in
     let ok : (k : ℕ) → k < 6 → rise_valid b k ≡ true = rise_valid-is b is in
     row-here _ n 6 (number 8) 0 _ _ _ b b bytes
-    (all-written (number 8) 0 n b.rises (omega (arith, counts_few b.format, fits.rise_places)) (λ k less. number-written 8 _ (fits.rises k)))
-    (drop-blank 0 n 6 b.rises fits.rise_places (counts_few b.format) (λ j le less. is.joined.rises.none (first b.format j le less) j))
+    (all-written (number 8) 0 n b.rises (omega (arith, counts_few b.format, fits.back.rises.places)) (λ k less. number-written 8 _ (fits.back.rises.each k)))
+    (drop-blank 0 n 6 b.rises fits.back.rises.places (counts_few b.format) (λ j le less. is.joined.rises.none (first b.format j le less) j))
     (and_from _ _ (and_from _ _ (ok 0 (omega arith)) (ok 1 (omega arith))) (or_right (has_messages b.format) (routed_rises_valid b) (routed_valid-is b is))) ⨾ tt
   where
     first : (format j : ℕ) → counts_of format ≤ j → j < 6 → format ≤ 1
@@ -215,19 +215,19 @@ wall-here : (b : BoardParts) (bytes : List ℕ) → IsBoard b → BoardFits b �
 unfolding wall
 wall-here b bytes is fits =
     let w = is.joined.wall in
-    plain-here _ _ _ _ _ b b bytes (number-written 8 b.wall_number fits.wall_number) refl
-    ⨾ plain-here _ _ _ _ _ b b bytes (number-written 4 b.wall_version fits.wall_version) (version-is b.wall_version b.wall_number w.words.even w.unpublished)
-    ⨾ plain-here _ _ _ _ _ b b bytes (number-written 4 b.wall_sec fits.wall_sec) refl
-    ⨾ plain-here _ _ _ _ _ b b bytes (number-written 4 b.wall_nsec fits.wall_nsec) (lt-ltb b.wall_nsec 1000000000 w.below_second) ⨾ tt
+    plain-here _ _ _ _ _ b b bytes (number-written 8 b.wall_number fits.back.wall.number) refl
+    ⨾ plain-here _ _ _ _ _ b b bytes (number-written 4 b.wall_version fits.back.wall.version) (version-is b.wall_version b.wall_number w.words.even w.unpublished)
+    ⨾ plain-here _ _ _ _ _ b b bytes (number-written 4 b.wall_sec fits.back.wall.sec) refl
+    ⨾ plain-here _ _ _ _ _ b b bytes (number-written 4 b.wall_nsec fits.back.wall.nsec) (lt-ltb b.wall_nsec 1000000000 w.below_second) ⨾ tt
 
 -- the processors
 processors-here : (b : BoardParts) (bytes : List ℕ) → IsBoard b → BoardFits b → AllHere (processors b.cpus) b b bytes
 unfolding processors tsc page plain
 processors-here b bytes is fits =
     let few : b.cpus ≤ 64 = omega (arith, is.joined.format.most_cpus, processors_few b.format) in
-    blocks-here b.cpus 64 processor no_processor _ _ b b bytes (λ k less. refl) (omega (arith, few, fits.processor_places))
-    (λ j low less. processor-here b j (processor_at b j) bytes (is.joined.processors.each j) (fits.blocks.processors j (omega arith)))
-    (drop-blank no_processor b.cpus 64 b.processors fits.processor_places few (λ j le less. is.joined.processors.absent j le)) ⨾ tt
+    blocks-here b.cpus 64 processor no_processor _ _ b b bytes (λ k less. refl) (omega (arith, few, fits.back.processor_places))
+    (λ j low less. processor-here b j (processor_at b j) bytes (is.joined.processors.each j) (fits.back.processors j (omega arith)))
+    (drop-blank no_processor b.cpus 64 b.processors fits.back.processor_places few (λ j le less. is.joined.processors.absent j le)) ⨾ tt
 
 -- all of them
 pub fields-here : (b : BoardParts) (bytes : List ℕ) → IsBoard b → BoardFits b → (rest : List ℕ) → drop 0 bytes ≡ write (fields_of b.format b.cpus) b ++ rest
@@ -240,5 +240,5 @@ fields-here b bytes is fits rest e =
     ∷ apics (apics_of f b.cpus) ∷ references (references_of f) ∷ messages (messages_of f) ∷ []) b b bytes
     (start-here b bytes is fits ⨾ policies-here b bytes ⨾ counters-here b bytes is fits ⨾ clock-here b bytes is fits ⨾ registers-here b bytes is fits
     ⨾ timers-here b bytes is fits ⨾ lines-here b bytes is fits (are-policies b bytes is fits rest e) ⨾ rises-here b bytes is fits ⨾ wall-here b bytes is fits
-    ⨾ processors-here b bytes is fits ⨾ apics-here b is bytes fits.blocks.apics ⨾ references-here b bytes is fits.reference
+    ⨾ processors-here b bytes is fits ⨾ apics-here b is bytes fits.back.apics ⨾ references-here b bytes is fits.back.reference
     ⨾ messages-here b is fits (routed_valid-is b is) bytes ⨾ tt)

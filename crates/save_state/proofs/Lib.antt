@@ -20,3 +20,4 @@ pub mod Parts
 mod Rows
 mod RowsSecond
 mod RowsLater
+mod Devices

@@ -13,18 +13,18 @@ message-here b k m bytes fits valid =
 -- the places of a valid board, whose counts of rises are valid
 module _ (b : BoardParts) (is : IsBoard b) (fits : BoardFits b) (valid : routed_rises_valid b ≡ true) where
   same : length b.hpet.message_bit ≡ length b.hpet.message_word
-  same = fits.bit_places ∙ sym fits.word_places
+  same = fits.numbers.bits ∙ sym fits.numbers.words
 
   at : (k : ℕ) → get_or (message_pairs b) k no_message ≡ record { first = message_bit_at k b.hpet; second = message_word_at k b.hpet }
   at k = pairs-at false 0 b.hpet.message_bit b.hpet.message_word k same
 
   long : length (message_pairs b) ≡ 8
-  long = length-pairs b.hpet.message_bit b.hpet.message_word same ∙ fits.bit_places
+  long = length-pairs b.hpet.message_bit b.hpet.message_word same ∙ fits.numbers.bits
 
   here : (bytes : List ℕ) (k : ℕ) → AllHere (message k) b (get_or (message_pairs b) k no_message) bytes
   here bytes k =
       let word : (get_or (message_pairs b) k no_message).second ≡ message_word_at k b.hpet = ap (λ (m : Message). m.second) (at k) in
-      message-here b k (get_or (message_pairs b) k no_message) bytes (omega (arith, word, fits.words k)) valid
+      message-here b k (get_or (message_pairs b) k no_message) bytes (omega (arith, word, fits.numbers.word k)) valid
 
   absent : (k : ℕ) → messages_of b.format ≤ k → k < 8 → get_or (message_pairs b) k no_message ≡ no_message
   absent k le less =

@@ -17,7 +17,7 @@ use Rattle.save_state.proofs.Here.{fields-here}
 board-covers : (b : BoardParts) → IsBoard b → BoardFits b → moved (fields_of b.format b.cpus) b blank ≡ b
 unfolding layout
 board-covers b is fits =
-    let places = fits.bit_places ∙ sym fits.word_places in
+    let places = fits.numbers.bits ∙ sym fits.numbers.words in
     let same = is.joined.apics.places.timers ∙ sym is.joined.apics.places.lines in
     λ i. record b {
       hpet = record b.hpet {

@@ -80,14 +80,16 @@ khz_valid khz = nat_le KHZ_MIN khz && nat_le khz KHZ_MAX
 abbrev pub host_valid : BoardParts → Bool
 host_valid b = nat_le b.anchor.start b.host && nat_lt (time_at b.anchor b.host) RANGE_NS
 
--- a policy of the tick lines, and where those of line k is: at 76 that of the 8254, at 77 that of
--- the MC146818, at 78 that of the HPET's timers
+-- a policy of the tick lines
 abbrev pub policy : Code Policy
 policy = choice 3 policy_byte policy_of
 
+-- where that of line k is: at 76 that of the 8254, at 77 that of the MC146818, at 78 that of the
+-- HPET's timers
 abbrev pub policy_place : ℕ → ℕ
 policy_place k = 76 + (if nat_le 2 k then 2 else k)
 
+-- the field of the policy of line k
 abbrev pub policy_field : ℕ → Field StateFault BoardParts BoardParts
 policy_field k = field policy (λ b. (line_at k (devices_in b)).policy) (λ x b. b) any
 
@@ -136,6 +138,7 @@ guest =
     (λ b p. nat_le 1 p.slew_ns && nat_le p.slew_ns SLEW_MAX_NS)
     ∷ []
 
+-- the policies
 unfoldable pub policies : Fields BoardParts
 policies = policy_field 0 ∷ policy_field 1 ∷ policy_field 2 ∷ []
 
@@ -152,6 +155,7 @@ flags_from c = record {
   bit_7 = c.odd;
 }
 
+-- a counter with these flags
 abbrev pub with_flags : Flags → CounterParts → CounterParts
 with_flags x c = record c {
   null = x.bit_0;
@@ -186,10 +190,11 @@ counter k =
     (λ b c. latched_status_valid c)
     ∷ []
 
--- the counters of the 8254
+-- what the place of a counter that isn't there holds
 abbrev pub no_counter : CounterParts
 no_counter = counter_at_power_on true
 
+-- the counters of the 8254
 unfoldable pub counters : Fields BoardParts
 counters =
     blocks 3 3 counter no_counter (λ b. b.pit.counters)
@@ -343,9 +348,11 @@ page =
     (λ b p. published_valid p.version p.flags (page_flags_valid p.flags))
     ∷ []
 
+-- processor k
 abbrev pub processor : ℕ → Fields ProcessorParts
 processor k = tsc ++ page
 
+-- the processors
 unfoldable pub processors : ℕ → Fields BoardParts
 processors cpus =
     blocks cpus 64 processor no_processor (λ b. b.processors)
@@ -356,10 +363,11 @@ processors cpus =
 abbrev pub Apic : Type 0
 Apic = Two ApicParts TickParts
 
--- .. with another timer, and with another tick line
+-- .. with another timer
 abbrev pub with_timer : ApicParts → Apic → Apic
 with_timer x a = record a { first = x }
 
+-- .. with another tick line
 abbrev pub with_ticks : TickParts → Apic → Apic
 with_ticks x a = record a { second = x }
 
@@ -395,10 +403,11 @@ apic k = apic_timer ++ apic_line
 abbrev pub no_apic : Apic
 no_apic = record { first = no_timer; second = no_line }
 
--- the timers of a board, each with its tick line, and a board with others
+-- the timers of a board, each with its tick line
 abbrev pub apic_pairs : BoardParts → List Apic
 apic_pairs b = pairs b.apic b.apic_ticks
 
+-- a board with other timers and tick lines
 abbrev pub with_apic_pairs : List Apic → BoardParts → BoardParts
 with_apic_pairs x b = record b {
   apic = map (λ a. a.first) x;
@@ -461,10 +470,11 @@ messages_of format = if has_messages format then 8 else 0
 abbrev pub no_message : Message
 no_message = record { first = false; second = 0 }
 
--- the messages of a board's timers, and a board with others
+-- the messages of a board's timers
 abbrev pub message_pairs : BoardParts → List Message
 message_pairs b = pairs b.hpet.message_bit b.hpet.message_word
 
+-- a board with other messages
 abbrev pub with_message_pairs : List Message → BoardParts → BoardParts
 with_message_pairs x b = record b {
   hpet = record b.hpet {
@@ -477,14 +487,16 @@ with_message_pairs x b = record b {
 unfoldable pub messages : ℕ → Fields BoardParts
 messages n = blocks n 8 message no_message message_pairs with_message_pairs ∷ []
 
--- all before the 8254, the devices with their tick lines, and what follows these
+-- all before the 8254
 abbrev pub front : Fields BoardParts
 front = head ++ host ++ guest ++ policies
 
+-- the devices with their tick lines
 abbrev pub devices : ℕ → Fields BoardParts
 devices format =
     counters ++ clock ++ registers ++ timers (timers_of format) ++ lines (timers_of format)
 
+-- what follows the tick lines
 abbrev pub back : ℕ → ℕ → Fields BoardParts
 back format cpus =
     rises (counts_of format) ++ wall ++ processors cpus ++ apics (apics_of format cpus)

@@ -45,5 +45,6 @@ blank = record {
 abbrev pub fields_in : List ℕ → Fields BoardParts
 fields_in bytes = fields_of (format_in bytes) (cpus_in bytes)
 
+-- the board that bytes are
 unfoldable pub board_in : List ℕ → BoardParts
 board_in bytes = read (fields_in bytes) 0 bytes blank

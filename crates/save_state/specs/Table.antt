@@ -11,6 +11,7 @@ abbrev pub trailing : ℕ → List ℕ → Option StateFault
 trailing wanted bytes =
     if nat_lt wanted (length bytes) then Some (record { place = wanted; kind = Trailing }) else None
 
+-- the first fault of bytes, or None
 unfoldable pub fault_of : List ℕ → Option StateFault
 fault_of bytes =
     or_else (fault_in (fields_in bytes) (board_in bytes) (board_in bytes) 0 bytes)

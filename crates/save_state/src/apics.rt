@@ -30,7 +30,7 @@ use crate::pieces::ticks_in;
 use crate::places::{apic_place, apics_of};
 use crate::table::{fault_in, field};
 use crate::whole::NO_LINE;
-use board_core::BoardParts;
+use board_core::{BoardParts, BoardState};
 use byte_table::{byte_at, eight_at, flag_valid, four_at, put, put_4, put_8};
 use clk_units::NoMemory;
 use lapic_timer::ApicParts;
@@ -48,14 +48,14 @@ const NO_TIMER: ApicParts = ApicParts {
 
 /// Appends the timers with their tick lines, of which formats before `APIC_FORMAT` have none.
 #[tactic(auto, unfolding(crate::specs::Fields::apics, byte_table::specs::Kinds::blocks))]
-pub(crate) fn put_apics(out: &mut Vec<u8>, b: &BoardParts) -> Result<(), NoMemory>
+pub(crate) fn put_apics(out: &mut Vec<u8>, b: &BoardState) -> Result<(), NoMemory>
     requires { b.now.cpus ≤ 64 }
     ensures bytes { OnOk result (out.new.items
         ≡ out.old.items ++ write (apics (apics_of b.now.format b.now.cpus)) b.now) }
     ensures fit { OnOk result (ApicsFit b.now) }
 {
-    for k in 0..apics_of(b.format, b.cpus) {
-        put_apic(out, &b.apic[k as usize], &b.apic_ticks[k as usize])?;
+    for k in 0..apics_of(b.format(), b.cpus()) {
+        put_apic(out, &b.apic(k), &b.apic_tick(k))?;
     }
     Ok(())
 }

@@ -1,6 +1,7 @@
 //! The bytes of a board.
-ghost use Rattle.std.specs.Prelude.{◌≡◌, ◌+◌, ◌≤◌, ◌++◌, None, OnOk, IfOk};
+ghost use Rattle.std.specs.Prelude.{◌≡◌, ◌≤◌, ◌++◌, None, OnOk, IfOk, length};
 ghost use Rattle.board_types.specs.Setup.{timers_of};
+ghost use Rattle.board_core.specs.Time.{devices_in};
 ghost use Rattle.byte_table.specs.Fold.{write};
 ghost use Rattle.save_state.specs.Fields.{
   head,
@@ -20,13 +21,20 @@ ghost use Rattle.save_state.specs.Fields.{
   devices,
   back,
 };
+ghost use Rattle.save_state.specs.private.Devices.{board_with};
 ghost use Rattle.save_state.specs.private.Fits.{
+  HostFits,
+  GuestFits,
   CountersFit,
   TimersFit,
   LinesFit,
+  RisesFit,
+  WallFits,
+  NumbersFit,
   ProcessorsFit,
-  ApicsFit,
-  BlocksFit,
+  DevicesFit,
+  BackFits,
+  BoardFits,
 };
 ghost use Rattle.save_state.specs.Reading.{board_in};
 ghost use Rattle.save_state.specs.Table.{fault_of};
@@ -37,7 +45,8 @@ use crate::appending::{put_counter, put_line, put_processor, put_timer};
 use crate::messages::put_messages;
 use crate::places::{counts_of, end_place};
 use crate::reference::put_references;
-use board_core::{BoardParts, BoardState, timers_of};
+use board_core::{BoardState, timers_of};
+use board_devices::DeviceParts;
 use byte_table::{flag_byte, put, put_2, put_4, put_8};
 use clk_units::NoMemory;
 use std::alloc::Global;
@@ -51,10 +60,9 @@ pub fn encode(alloc: Global, state: &BoardState) -> Result<Vec<u8>, NoMemory>
     ensures valid { IfOk result (λ bytes. fault_of bytes.items ≡ None) }
     ensures reads_back { IfOk result (λ bytes. board_in bytes.items ≡ state.now) }
 {
-    let b = state.parts();
-    match Vec::with_capacity(alloc, end_place(b.format, b.cpus)) {
+    match Vec::with_capacity(alloc, end_place(state.format(), state.cpus())) {
         Ok(mut out) => {
-            put_board(&mut out, &b)?;
+            put_board(&mut out, state, &state.device_parts())?;
             Ok(out)
         }
         Err(_) => Err(NoMemory),
@@ -63,190 +71,204 @@ pub fn encode(alloc: Global, state: &BoardState) -> Result<Vec<u8>, NoMemory>
 
 /// Appends a board.
 #[tactic(auto, unfolding(crate::specs::Writing::bytes_of))]
-fn put_board(out: &mut Vec<u8>, b: &BoardParts) -> Result<(), NoMemory>
+fn put_board(out: &mut Vec<u8>, b: &BoardState, d: &DeviceParts) -> Result<(), NoMemory>
+    requires devices { d.now ≡ devices_in b.now }
+    requires numbers { NumbersFit d.now }
     requires timers { b.now.hpet.timers ≡ timers_of b.now.format }
     requires cpus { b.now.cpus ≤ 64 }
     ensures bytes { OnOk result (out.new.items ≡ out.old.items ++ bytes_of b.now) }
-    ensures fit { OnOk result (BlocksFit b.now) }
+    ensures fit { OnOk result (BoardFits b.now) }
 {
-    put_front(out, b)?;
-    put_devices(out, b)?;
-    put_back(out, b)
+    put_front(out, b, d)?;
+    put_devices(out, b.format(), d)?;
+    put_back(out, b, d)
 }
 
 /// Appends all before the 8254.
-fn put_front(out: &mut Vec<u8>, b: &BoardParts) -> Result<(), NoMemory>
-    ensures { OnOk result (out.new.items ≡ out.old.items ++ write front b.now) }
+fn put_front(out: &mut Vec<u8>, b: &BoardState, d: &DeviceParts) -> Result<(), NoMemory>
+    requires { d.now ≡ devices_in b.now }
+    ensures bytes { OnOk result (out.new.items ≡ out.old.items ++ write front b.now) }
+    ensures host { OnOk result (HostFits b.now) }
+    ensures guest { OnOk result (GuestFits b.now) }
 {
     put_head(out, b)?;
     put_host(out, b)?;
-    put_guest(out, b)?;
-    put_policies(out, b)
+    put_guest(out, b, d)?;
+    put_policies(out, d)
 }
 
 /// Appends the devices and their tick lines.
-fn put_devices(out: &mut Vec<u8>, b: &BoardParts) -> Result<(), NoMemory>
-    requires { b.now.hpet.timers ≡ timers_of b.now.format }
-    ensures bytes { OnOk result (out.new.items ≡ out.old.items ++ write (devices b.now.format) b.now) }
-    ensures counters { OnOk result (CountersFit b.now.pit) }
-    ensures timers { OnOk result (TimersFit b.now.hpet) }
-    ensures lines { OnOk result (LinesFit b.now) }
+fn put_devices(out: &mut Vec<u8>, format: u8, d: &DeviceParts) -> Result<(), NoMemory>
+    requires { d.now.hpet.timers ≡ timers_of format }
+    ensures bytes { OnOk result (out.new.items
+        ≡ out.old.items ++ write (devices format) (board_with d.now)) }
+    ensures fit { OnOk result (DevicesFit (timers_of format) d.now) }
 {
-    put_counters(out, b)?;
-    put_clock(out, b)?;
-    put_registers(out, b)?;
-    put_timers(out, b)?;
-    put_lines(out, b)
+    put_counters(out, d)?;
+    put_clock(out, d)?;
+    put_registers(out, d)?;
+    put_timers(out, format, d)?;
+    put_lines(out, format, d)
 }
 
 /// Appends what follows the tick lines.
-fn put_back(out: &mut Vec<u8>, b: &BoardParts) -> Result<(), NoMemory>
-    requires { b.now.cpus ≤ 64 }
+fn put_back(out: &mut Vec<u8>, b: &BoardState, d: &DeviceParts) -> Result<(), NoMemory>
+    requires devices { d.now ≡ devices_in b.now }
+    requires cpus { b.now.cpus ≤ 64 }
     ensures bytes { OnOk result (out.new.items
         ≡ out.old.items ++ write (back b.now.format b.now.cpus) b.now) }
-    ensures processors { OnOk result (ProcessorsFit b.now) }
-    ensures apics { OnOk result (ApicsFit b.now) }
+    ensures fit { OnOk result (BackFits b.now) }
 {
     put_rises(out, b)?;
     put_wall(out, b)?;
     put_processors(out, b)?;
     put_apics(out, b)?;
     put_references(out, b)?;
-    put_messages(out, b)
+    put_messages(out, b.format(), d)
 }
 
 /// Appends the magic word, the version and the number of processors.
 #[tactic(auto, unfolding(crate::specs::Fields::head, byte_table::specs::Kinds::plain))]
-fn put_head(out: &mut Vec<u8>, b: &BoardParts) -> Result<(), NoMemory>
+fn put_head(out: &mut Vec<u8>, b: &BoardState) -> Result<(), NoMemory>
     ensures { OnOk result (out.new.items ≡ out.old.items ++ write head b.now) }
 {
     put_8(out, MAGIC)?;
-    put_2(out, u16::from(b.format))?;
-    put_2(out, u16::from(b.cpus))
+    put_2(out, u16::from(b.format()))?;
+    put_2(out, u16::from(b.cpus()))
 }
 
 /// Appends the anchor and the greatest count.
 #[tactic(auto, unfolding(crate::specs::Fields::host, byte_table::specs::Kinds::plain))]
-fn put_host(out: &mut Vec<u8>, b: &BoardParts) -> Result<(), NoMemory>
-    ensures { OnOk result (out.new.items ≡ out.old.items ++ write host b.now) }
+fn put_host(out: &mut Vec<u8>, b: &BoardState) -> Result<(), NoMemory>
+    ensures bytes { OnOk result (out.new.items ≡ out.old.items ++ write host b.now) }
+    ensures fits { OnOk result (HostFits b.now) }
 {
-    put_8(out, b.anchor.khz)?;
-    put_8(out, b.anchor.start)?;
-    put_8(out, b.anchor.base_ns)?;
-    put_8(out, b.host)
+    let anchor = b.anchor();
+    put_8(out, anchor.khz)?;
+    put_8(out, anchor.start)?;
+    put_8(out, anchor.base_ns)?;
+    put_8(out, b.host())
 }
 
 /// Appends the guest's rate, the number of accesses, the greatest reading and the time between catch-up points.
 #[tactic(auto, unfolding(crate::specs::Fields::guest, byte_table::specs::Kinds::plain))]
-fn put_guest(out: &mut Vec<u8>, b: &BoardParts) -> Result<(), NoMemory>
-    ensures { OnOk result (out.new.items ≡ out.old.items ++ write guest b.now) }
+fn put_guest(out: &mut Vec<u8>, b: &BoardState, d: &DeviceParts) -> Result<(), NoMemory>
+    requires { d.now ≡ devices_in b.now }
+    ensures bytes { OnOk result (out.new.items ≡ out.old.items ++ write guest b.now) }
+    ensures fits { OnOk result (GuestFits b.now) }
 {
-    put_8(out, b.guest_khz)?;
-    put_8(out, b.accesses)?;
-    put_8(out, b.greatest)?;
-    put_8(out, b.slew_ns)
+    put_8(out, b.guest_khz())?;
+    put_8(out, b.accesses())?;
+    put_8(out, b.greatest())?;
+    put_8(out, d.slew_ns)
 }
 
 /// Appends the policies.
 #[tactic(auto, unfolding(crate::specs::Fields::policies, byte_table::specs::Kinds::plain))]
-fn put_policies(out: &mut Vec<u8>, b: &BoardParts) -> Result<(), NoMemory>
-    ensures { OnOk result (out.new.items ≡ out.old.items ++ write policies b.now) }
+fn put_policies(out: &mut Vec<u8>, d: &DeviceParts) -> Result<(), NoMemory>
+    ensures { OnOk result (out.new.items ≡ out.old.items ++ write policies (board_with d.now)) }
 {
-    let pit = b.ticks[0].policy.byte();
-    let rtc = b.ticks[1].policy.byte();
-    let hpet = b.ticks[2].policy.byte();
+    let pit = d.ticks[0].policy.byte();
+    let rtc = d.ticks[1].policy.byte();
+    let hpet = d.ticks[2].policy.byte();
     put(out, &[pit, rtc, hpet])
 }
 
 /// Appends the counters of the 8254.
 #[tactic(auto, unfolding(crate::specs::Fields::counters, byte_table::specs::Kinds::blocks))]
-fn put_counters(out: &mut Vec<u8>, b: &BoardParts) -> Result<(), NoMemory>
-    ensures bytes { OnOk result (out.new.items ≡ out.old.items ++ write counters b.now) }
-    ensures fit { OnOk result (CountersFit b.now.pit) }
+fn put_counters(out: &mut Vec<u8>, d: &DeviceParts) -> Result<(), NoMemory>
+    ensures bytes { OnOk result (out.new.items ≡ out.old.items ++ write counters (board_with d.now)) }
+    ensures fit { OnOk result (CountersFit d.now.pit) }
 {
     for k in 0..3 {
-        put_counter(out, &b.pit.counter(k))?;
+        put_counter(out, &d.pit.counter(k))?;
     }
     Ok(())
 }
 
 /// Appends speaker data and the MC146818.
-fn put_clock(out: &mut Vec<u8>, b: &BoardParts) -> Result<(), NoMemory>
-    ensures { OnOk result (out.new.items ≡ out.old.items ++ write clock b.now) }
+fn put_clock(out: &mut Vec<u8>, d: &DeviceParts) -> Result<(), NoMemory>
+    ensures { OnOk result (out.new.items ≡ out.old.items ++ write clock (board_with d.now)) }
 {
-    put(out, &[flag_byte(b.pit.speaker), b.rtc.index])?;
-    put(out, &b.rtc.bytes)?;
-    put_2(out, b.rtc.d)?;
-    put(out, &[flag_byte(b.rtc.cycle)])
+    put(out, &[flag_byte(d.pit.speaker), d.rtc.index])?;
+    put(out, &d.rtc.bytes)?;
+    put_2(out, d.rtc.d)?;
+    put(out, &[flag_byte(d.rtc.cycle)])
 }
 
 /// Appends the registers of the HPET.
 #[tactic(auto, unfolding(crate::specs::Fields::registers, byte_table::specs::Kinds::plain))]
-fn put_registers(out: &mut Vec<u8>, b: &BoardParts) -> Result<(), NoMemory>
-    ensures { OnOk result (out.new.items ≡ out.old.items ++ write registers b.now) }
+fn put_registers(out: &mut Vec<u8>, d: &DeviceParts) -> Result<(), NoMemory>
+    ensures { OnOk result (out.new.items
+        ≡ out.old.items ++ write registers (board_with d.now)) }
 {
-    put(out, &[b.hpet.config, b.hpet.status])?;
-    put_8(out, b.hpet.counter)
+    put(out, &[d.hpet.config, d.hpet.status])?;
+    put_8(out, d.hpet.counter)
 }
 
 /// Appends the timers of the HPET.
 #[tactic(auto, unfolding(crate::specs::Fields::timers, byte_table::specs::Kinds::blocks))]
-fn put_timers(out: &mut Vec<u8>, b: &BoardParts) -> Result<(), NoMemory>
-    requires { b.now.hpet.timers ≡ timers_of b.now.format }
+fn put_timers(out: &mut Vec<u8>, format: u8, d: &DeviceParts) -> Result<(), NoMemory>
+    requires { d.now.hpet.timers ≡ timers_of format }
     ensures bytes { OnOk result (out.new.items
-        ≡ out.old.items ++ write (timers (timers_of b.now.format)) b.now) }
-    ensures fit { OnOk result (TimersFit b.now.hpet) }
+        ≡ out.old.items ++ write (timers (timers_of format)) (board_with d.now)) }
+    ensures fit { OnOk result (TimersFit d.now.hpet) }
 {
-    for k in 0..timers_of(b.format) {
-        put_timer(out, &b.hpet.timer[k as usize])?;
+    for k in 0..timers_of(format) {
+        put_timer(out, &d.hpet.timer[k as usize])?;
     }
     Ok(())
 }
 
 /// Appends the tick lines.
 #[tactic(auto, unfolding(crate::specs::Fields::lines, byte_table::specs::Kinds::blocks))]
-fn put_lines(out: &mut Vec<u8>, b: &BoardParts) -> Result<(), NoMemory>
+fn put_lines(out: &mut Vec<u8>, format: u8, d: &DeviceParts) -> Result<(), NoMemory>
     ensures bytes { OnOk result (out.new.items
-        ≡ out.old.items ++ write (lines (timers_of b.now.format)) b.now) }
-    ensures fit { OnOk result (LinesFit b.now) }
+        ≡ out.old.items ++ write (lines (timers_of format)) (board_with d.now)) }
+    ensures fit { OnOk result (LinesFit (timers_of format) d.now) }
 {
-    for k in 0..timers_of(b.format) + 2 {
-        put_line(out, &b.ticks[k as usize])?;
+    for k in 0..timers_of(format) + 2 {
+        put_line(out, &d.ticks[k as usize])?;
     }
     Ok(())
 }
 
 /// Appends the counts of rises, which format 1 doesn't have.
-fn put_rises(out: &mut Vec<u8>, b: &BoardParts) -> Result<(), NoMemory>
-    ensures { OnOk result (out.new.items
+fn put_rises(out: &mut Vec<u8>, b: &BoardState) -> Result<(), NoMemory>
+    ensures bytes { OnOk result (out.new.items
         ≡ out.old.items ++ write (rises (counts_of b.now.format)) b.now) }
+    ensures fit { OnOk result (RisesFit b.now) }
 {
-    for k in 0..counts_of(b.format) {
-        put_8(out, b.rises[k as usize])?;
+    let rises = b.rises();
+    for k in 0..counts_of(b.format()) {
+        put_8(out, rises[k as usize])?;
     }
     Ok(())
 }
 
 /// Appends the wall clock.
 #[tactic(auto, unfolding(crate::specs::Fields::wall, byte_table::specs::Kinds::plain))]
-fn put_wall(out: &mut Vec<u8>, b: &BoardParts) -> Result<(), NoMemory>
-    ensures { OnOk result (out.new.items ≡ out.old.items ++ write wall b.now) }
+fn put_wall(out: &mut Vec<u8>, b: &BoardState) -> Result<(), NoMemory>
+    ensures bytes { OnOk result (out.new.items ≡ out.old.items ++ write wall b.now) }
+    ensures fits { OnOk result (WallFits b.now) }
 {
-    put_8(out, b.wall_number)?;
-    put_4(out, b.wall_version)?;
-    put_4(out, b.wall_sec)?;
-    put_4(out, b.wall_nsec)
+    put_8(out, b.wall_number())?;
+    put_4(out, b.wall_version())?;
+    put_4(out, b.wall_sec())?;
+    put_4(out, b.wall_nsec())
 }
 
 /// Appends the processors.
 #[tactic(auto, unfolding(crate::specs::Fields::processors, byte_table::specs::Kinds::blocks))]
-fn put_processors(out: &mut Vec<u8>, b: &BoardParts) -> Result<(), NoMemory>
+fn put_processors(out: &mut Vec<u8>, b: &BoardState) -> Result<(), NoMemory>
     requires { b.now.cpus ≤ 64 }
     ensures bytes { OnOk result (out.new.items ≡ out.old.items ++ write (processors b.now.cpus) b.now) }
     ensures fit { OnOk result (ProcessorsFit b.now) }
+    ensures places { length b.now.processors ≡ 64 }
 {
-    for k in 0..b.cpus {
-        put_processor(out, &b.processors[k as usize])?;
+    let processors = b.processors();
+    for k in 0..b.cpus() {
+        put_processor(out, &processors[k as usize])?;
     }
     Ok(())
 }

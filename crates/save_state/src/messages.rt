@@ -6,6 +6,7 @@ ghost use Rattle.board_core.specs.Time.{devices_in};
 ghost use Rattle.byte_table.specs.Fold.{write, read_below, fault_in};
 ghost use Rattle.save_state.specs.Rises.{routed_rises_valid};
 ghost use Rattle.save_state.specs.Fields.{message, messages_of, no_message, message_pairs, messages};
+ghost use Rattle.save_state.specs.private.Devices.{board_with};
 ghost use Rattle.save_state.specs.private.Places.{message_place};
 
 use crate::fault::StateFault;
@@ -13,6 +14,7 @@ use crate::lines::routed_rises_valid;
 use crate::places::{message_place, messages_of};
 use crate::table::{both, fault_in, field};
 use board_core::BoardParts;
+use board_devices::DeviceParts;
 use byte_table::{eight_at, flag_at, flag_byte, flag_valid, put, put_8};
 use clk_units::NoMemory;
 
@@ -21,15 +23,15 @@ const LAST_TIMER: u8 = 7;
 
 /// Appends the messages, which formats before `MESSAGE_FORMAT` don't have.
 #[tactic(auto, unfolding(crate::specs::Fields::messages, byte_table::specs::Kinds::blocks))]
-pub(crate) fn put_messages(out: &mut Vec<u8>, b: &BoardParts) -> Result<(), NoMemory>
+pub(crate) fn put_messages(out: &mut Vec<u8>, format: u8, d: &DeviceParts) -> Result<(), NoMemory>
     ensures { OnOk result (out.new.items
-        ≡ out.old.items ++ write (messages (messages_of b.now.format)) b.now) }
+        ≡ out.old.items ++ write (messages (messages_of format)) (board_with d.now)) }
 {
-    for k in 0..messages_of(b.format) {
+    for k in 0..messages_of(format) {
         put_message(
             out,
-            b.hpet.message_bit[k as usize],
-            b.hpet.message_word[k as usize],
+            d.hpet.message_bit[k as usize],
+            d.hpet.message_word[k as usize],
         )?;
     }
     Ok(())

@@ -6,26 +6,29 @@ ghost use Rattle.byte_table.specs.Fold.{write, read, fault_in};
 ghost use Rattle.save_state.specs.Fields.{scale_for, reference, references, references_of};
 ghost use Rattle.save_state.specs.Places.{format_in, cpus_in};
 ghost use Rattle.save_state.specs.Reading.{board_in};
+ghost use Rattle.save_state.specs.private.Fits.{ReferenceFits};
 ghost use Rattle.save_state.specs.private.Places.{reference_place};
 
 use crate::fault::StateFault;
 use crate::places::reference_place;
 use crate::rest::{published_valid, version_valid};
 use crate::table::{either, fault_in, field};
-use board_core::{BoardParts, HV_FORMAT, HvParts, NO_HV};
+use board_core::{BoardParts, BoardState, HV_FORMAT, HvParts, NO_HV};
 use byte_table::{byte_at, eight_at, four_at, put, put_4, put_8};
 use clk_units::{NoMemory, bit};
 use hv_page::scale_of;
 
 /// Appends the reference page, which formats before `HV_FORMAT` don't have.
-pub(crate) fn put_references(out: &mut Vec<u8>, b: &BoardParts) -> Result<(), NoMemory>
-    ensures { OnOk result (out.new.items
+pub(crate) fn put_references(out: &mut Vec<u8>, b: &BoardState) -> Result<(), NoMemory>
+    ensures bytes { OnOk result (out.new.items
         ≡ out.old.items ++ write (references (references_of b.now.format)) b.now) }
+    ensures fits { OnOk result (ReferenceFits b.now.hv) }
 {
-    if b.format < HV_FORMAT {
+    let hv = b.hv();
+    if b.format() < HV_FORMAT {
         return Ok(());
     }
-    put_reference(out, &b.hv)
+    put_reference(out, &hv)
 }
 
 /// Appends a reference page.

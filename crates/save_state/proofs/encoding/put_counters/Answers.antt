@@ -2,7 +2,7 @@ use Rattle.save_state.proofs.Names.{◌++◌, ap, subst, ◌∙◌, CounterParts
 use Rattle.save_state.proofs.encoding.put_counters.Goals as goal
 
 pub loop-k-init : goal.loop-k-init
-loop-k-init c = written-none counter no_counter CounterFits c.args.b.now.pit.counters c.args.out.now.items
+loop-k-init c = written-none counter no_counter CounterFits c.args.d.now.pit.counters c.args.out.now.items
 
 pub loop-k-preserved : goal.loop-k-preserved
 loop-k-preserved c =
