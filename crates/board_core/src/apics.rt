@@ -38,13 +38,13 @@ impl BoardState {
             .next_tick(cpu, &clock, tsc, self.time_ns, RANGE_NS - 1)
     }
 
-    /// The look at the deadlines of all processors. Where no timer counts and no deadline is armed it is one test.
+    /// The look at the deadlines of all processors. Where none is armed it is one test.
     #[inline(always)]
     pub(crate) fn look(&mut self)
         requires { HasRoom self.old }
         ensures { self.new ≡ after_look self.old }
     {
-        if self.apics.is_armed() {
+        if self.apics.has_deadlines() {
             self.look_armed();
         }
     }
