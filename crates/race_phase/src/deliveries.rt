@@ -59,7 +59,7 @@ fn delivery_of(deliveries: &Deliveries, edge: &Edge) -> Option<Delivery>
 
 /// Appends the lines of edges. After an `Err` the text begins as it was.
 #[inline(always)]
-pub fn edge_lines(
+pub(crate) fn edge_lines(
     edges: &[Edge],
     deliveries: &Deliveries,
     out: &mut Vec<u8>,
@@ -93,7 +93,7 @@ pub fn message_to(cpus: u8, message: &Message) -> Delivery
 
 /// Appends the lines of messages, which the board's own hook sends. After an `Err` the text begins as it was.
 #[inline(always)]
-pub fn message_lines(
+pub(crate) fn message_lines(
     bursts: &BurstList,
     deliveries: &Deliveries,
     out: &mut Vec<u8>,

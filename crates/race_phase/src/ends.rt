@@ -1,58 +1,60 @@
 //! The end of a phase: a save or a move.
-ghost use Rattle.std.specs.Prelude.{◌≡◌, ◌<◌, ◌++◌, None, OnOk};
+ghost use Rattle.std.specs.Prelude.{◌≡◌, ◌<◌, ◌++◌, Some, None, IfOk, IfSome, IfNone, OnOk, OnErr};
+ghost use Rattle.std.specs.Io.{StartsWith};
 ghost use Rattle.clk_units.specs.Ranges.{IsKhz};
-ghost use Rattle.board_types.specs.declared.access.Access.TheVariants.{Step};
-ghost use Rattle.board_core.specs.Access.{after_access, reply_of};
-ghost use Rattle.board_core.specs.Refusals.{refusal_of};
 ghost use Rattle.transfer.specs.Move.{move_fault, moved_to};
-ghost use Rattle.race_phase.specs.Phases.{IsEnd, next_board, end_fault, end_text, save_block, move_block};
+ghost use Rattle.race_phase.specs.Blocks.{edges_text, messages_text};
+ghost use Rattle.race_phase.specs.Order.{at_line};
+ghost use Rattle.race_phase.specs.Phases.{IsEnd, next_board, by_move, end_fault, end_text, save_block, move_block};
 
 use crate::deliveries::{Deliveries, edge_lines, message_lines};
+use crate::faults::{Cause, Fault};
 use crate::phases::{End, NewHost};
+use crate::texts::event_lines;
 use board_core::{Access, BoardState, Reply};
 use clk_units::NoMemory;
 use reply_text::{move_line, save_line};
 use save_state::encode;
-use transfer::moved;
+use transfer::{Moved, moved};
 
-/// Does what ends a phase, which is known not to be refused, and appends its block.
+/// Does what ends a phase, and appends its block; or says why it is refused, and then appends nothing. A move that its gap
+/// refuses leaves the board after the access before it.
 #[inline(never)]
-pub(crate) fn end_phase(
+pub fn end_phase(
     end: &End,
     board: &mut BoardState,
     deliveries: &Deliveries,
     out: &mut Vec<u8>,
-) -> Result<(), NoMemory>
+) -> Result<Option<Fault>, NoMemory>
     requires end { IsEnd board.old.cpus end.now }
-    requires free { end_fault board.old end.now ≡ None }
-    ensures board { OnOk result (board.new ≡ next_board end.now board.old) }
-    ensures text { OnOk result
-        (out.new.items ≡ out.old.items ++ end_text deliveries.now end.now board.old) }
+    ensures fault { IfOk result (λ f. f ≡ end_fault board.old end.now) }
+    ensures board { IfOk result (λ f. IfNone f (board.new ≡ next_board end.now board.old)) }
+    ensures text { IfOk result (λ f. IfNone f (out.new.items
+        ≡ out.old.items ++ end_text deliveries.now end.now board.old)) }
+    ensures refused { IfOk result (λ f. IfSome f (λ _. out.new.items ≡ out.old.items)) }
+    ensures err { OnErr result (StartsWith out.new.items out.old.items) }
 {
     match *end {
-        End::Finish => Ok(()),
-        End::Save { line, cpu, h } => {
-            let reply = step(board, cpu, h);
-            save(line, &reply, board, deliveries, out)
-        }
-        End::Move { line, cpu, h, host } => {
-            let reply = step(board, cpu, h);
-            cross_gap(line, &reply, host, board, deliveries, out)
-        }
+        End::Finish => Ok(None),
+        End::Save { line, cpu, h } => match board.access(cpu, h, Access::Step) {
+            Ok(reply) => {
+                save(line, &reply, board, deliveries, out)?;
+                Ok(None)
+            }
+            Err(refusal) => Ok(refused(line, Cause::Access { refusal })),
+        },
+        End::Move { line, cpu, h, host } => match board.access(cpu, h, Access::Step) {
+            Ok(reply) => cross_gap(line, &reply, host, board, deliveries, out),
+            Err(refusal) => Ok(refused(line, Cause::Access { refusal })),
+        },
     }
 }
 
-/// An access that lets time pass.
-fn step(board: &mut BoardState, cpu: u8, h: u64) -> Reply
-    requires cpu { cpu < board.old.cpus }
-    requires free { refusal_of board.old cpu h Step ≡ None }
-    ensures reply { result ≡ reply_of board.old cpu h Step }
-    ensures board { board.new ≡ after_access board.old cpu h Step }
+/// A line that is refused.
+fn refused(line: u64, cause: Cause) -> Option<Fault>
+    ensures { result ≡ at_line line (Some cause) }
 {
-    match board.access(cpu, h, Access::Step) {
-        Ok(reply) => reply,
-        Err(_refusal) => unreachable!(),
-    }
+    Some(Fault { line, cause })
 }
 
 /// Appends the block of a save, whose access gave this reply.
@@ -63,16 +65,16 @@ fn save(
     deliveries: &Deliveries,
     out: &mut Vec<u8>,
 ) -> Result<(), NoMemory>
-    ensures { OnOk result
+    ensures ok { OnOk result
         (out.new.items ≡ out.old.items ++ save_block deliveries.now line reply.now board.now) }
+    ensures err { OnErr result (StartsWith out.new.items out.old.items) }
 {
-    edge_lines(reply.edges.as_slice(), deliveries, out)?;
-    message_lines(&reply.bursts, deliveries, out)?;
+    event_lines(reply, deliveries, out)?;
     let bytes = encode(*out.allocator(), board)?;
     save_line(line, reply.number, &bytes, out)
 }
 
-/// Takes a board over the gap, behind an access that gave this reply, and appends the block of the move.
+/// Takes a board over the gap, after an access that gave this reply, and appends the block of the move.
 fn cross_gap(
     line: u64,
     reply: &Reply,
@@ -80,23 +82,57 @@ fn cross_gap(
     board: &mut BoardState,
     deliveries: &Deliveries,
     out: &mut Vec<u8>,
-) -> Result<(), NoMemory>
+) -> Result<Option<Fault>, NoMemory>
     requires rate { IsKhz host.khz }
-    requires free { move_fault host.gap board.old ≡ None }
-    ensures board { OnOk result (board.new ≡ moved_to host.khz host.start host.gap board.old) }
-    ensures text { OnOk result (out.new.items ≡ out.old.items
+    ensures fault { IfOk result
+        (λ f. f ≡ at_line line (by_move (move_fault host.gap board.old))) }
+    ensures board { IfOk result (λ f. IfNone f
+        (board.new ≡ moved_to host.khz host.start host.gap board.old)) }
+    ensures text { IfOk result (λ f. IfNone f (out.new.items ≡ out.old.items
         ++ move_block deliveries.now line host.gap reply.now board.old
-        (moved_to host.khz host.start host.gap board.old)) }
+        (moved_to host.khz host.start host.gap board.old))) }
+    ensures refused { IfOk result (λ f. IfSome f (λ _. out.new.items ≡ out.old.items)) }
+    ensures err { OnErr result (StartsWith out.new.items out.old.items) }
 {
     match moved(board, host.khz, host.start, host.gap) {
         Ok(moved) => {
-            edge_lines(reply.edges.as_slice(), deliveries, out)?;
-            edge_lines(moved.edges.as_slice(), deliveries, out)?;
-            message_lines(&reply.bursts, deliveries, out)?;
-            message_lines(&moved.bursts, deliveries, out)?;
+            all_edge_lines(reply, &moved, deliveries, out)?;
+            all_message_lines(reply, &moved, deliveries, out)?;
             *board = moved.state;
-            move_line(line, reply.number, board.now(), out)
+            move_line(line, reply.number, board.now(), out)?;
+            Ok(None)
         }
-        Err(_fault) => unreachable!(),
+        Err(fault) => Ok(refused(line, Cause::Move { fault })),
     }
+}
+
+/// Appends the lines of the edges of a move's access, and then of its gap.
+fn all_edge_lines(
+    reply: &Reply,
+    moved: &Moved,
+    deliveries: &Deliveries,
+    out: &mut Vec<u8>,
+) -> Result<(), NoMemory>
+    ensures ok { OnOk result (out.new.items ≡ out.old.items
+        ++ (edges_text deliveries.now reply.now.edges ++ edges_text deliveries.now moved.now.edges)) }
+    ensures err { OnErr result (StartsWith out.new.items out.old.items) }
+{
+    edge_lines(reply.edges.as_slice(), deliveries, out)?;
+    edge_lines(moved.edges.as_slice(), deliveries, out)
+}
+
+/// The same of its messages.
+fn all_message_lines(
+    reply: &Reply,
+    moved: &Moved,
+    deliveries: &Deliveries,
+    out: &mut Vec<u8>,
+) -> Result<(), NoMemory>
+    ensures ok { OnOk result (out.new.items ≡ out.old.items
+        ++ (messages_text deliveries.now reply.now.bursts
+        ++ messages_text deliveries.now moved.now.bursts)) }
+    ensures err { OnErr result (StartsWith out.new.items out.old.items) }
+{
+    message_lines(&reply.bursts, deliveries, out)?;
+    message_lines(&moved.bursts, deliveries, out)
 }

@@ -3,12 +3,12 @@
 //! A phase is the records between two saves or moves. [`run_race`] runs a trace of which no line is refused as one
 //! thread would take it in file order; since refusals depend on counts alone, no order of the threads is refused then.
 //! A [`Tally`] says which lines are: it has these counts, and no devices. In each phase the processors share one board
-//! (`shared_board`), each takes its own records in their order, and appends what it is told to a text of its own. The
+//! (`shared_board`), each takes its own records in their order, and appends its answers to a text of its own. The
 //! text of a phase is the blocks of processor 0, then those of 1, and so on; the numbers in them say in which order the
 //! board was asked. Then the save or the move is done on the board that the threads leave, and the next phase opens with
 //! it.
 //!
-//! What is printed is told by `race_text` (`specs/Phases.antt`): for each phase there is one legal history
+//! `race_text` (`specs/Phases.antt`) says what is printed: for each phase there is one legal history
 //! (`board_history`) that has the entries of its records and no others.
 //!
 //! ```text
@@ -43,7 +43,8 @@ mod told;
 mod work;
 
 pub use checking::check;
-pub use deliveries::{Deliveries, edge_lines, message_lines};
+pub use deliveries::Deliveries;
+pub use ends::end_phase;
 pub use faults::{Cause, Fault};
 pub use lines::RecordLines;
 pub use phase::run_phase;
@@ -52,6 +53,7 @@ pub use race::{Ran, run_race};
 pub use records::{Answer, Call, Record};
 pub use tally::Tally;
 pub use text::Text;
+pub use texts::access_block;
 
 #[cfg(test)]
 mod tests;

@@ -1,12 +1,21 @@
 //! A trace of phases, run by one thread a processor.
-ghost use Rattle.std.specs.Prelude.{◌≡◌, All, IfOk, None};
-ghost use Rattle.race_phase.specs.Phases.{IsPhase, phase_fault, trace_fault, race_text};
+ghost use Rattle.std.specs.Prelude.{◌≡◌, ◌++◌, All, IfOk, OnOk, None};
+ghost use Rattle.race_phase.specs.Phases.{
+  IsEnd,
+  IsPhase,
+  next_board,
+  end_fault,
+  end_text,
+  phase_fault,
+  trace_fault,
+  race_text,
+};
 ghost use Rattle.race_phase.specs.private.Ran.{PhaseRan};
 
 use crate::deliveries::Deliveries;
 use crate::ends::end_phase;
 use crate::phase::run_phase;
-use crate::phases::Phase;
+use crate::phases::{End, Phase};
 use crate::text::Text;
 use board_core::BoardState;
 use board_io::Gate;
@@ -20,13 +29,13 @@ use std::thread::Threads;
 /// What a trace gave.
 #[derive(Drop)]
 pub struct Ran {
-    /// The board behind the last phase.
+    /// The board after the last phase.
     pub state: Box<BoardState>,
     /// The text of all phases.
     pub text: Text,
 }
 
-/// Runs a trace of phases, of which no line is refused in file order: [`check`](crate::check) tells, and so does a
+/// Runs a trace of phases, of which no line is refused in file order: [`check`](crate::check) says so, and so does a
 /// [`Tally`](crate::Tally) as the lines are read. Each phase runs on a board that its threads share, one thread a processor, and ends by its
 /// save or move on the board that they leave.
 pub fn run_race<R: Threads + Wait + Sync, G: Gate + Sync>(
@@ -81,7 +90,26 @@ fn next<R: Threads + Wait + Sync, G: Gate + Sync>(
     )?;
     text.join(lines)?;
     let mut block = Vec::new(alloc);
-    end_phase(&phase.end, &mut *board, deliveries, &mut block)?;
+    end_free(&phase.end, &mut *board, deliveries, &mut block)?;
     text.append(block)?;
     Ok(board)
+}
+
+/// Does what ends a phase, which is known not to be refused.
+fn end_free(
+    end: &End,
+    board: &mut BoardState,
+    deliveries: &Deliveries,
+    out: &mut Vec<u8>,
+) -> Result<(), NoMemory>
+    requires end { IsEnd board.old.cpus end.now }
+    requires free { end_fault board.old end.now ≡ None }
+    ensures board { OnOk result (board.new ≡ next_board end.now board.old) }
+    ensures text { OnOk result
+        (out.new.items ≡ out.old.items ++ end_text deliveries.now end.now board.old) }
+{
+    match end_phase(end, board, deliveries, out)? {
+        None => Ok(()),
+        Some(_fault) => unreachable!(),
+    }
 }

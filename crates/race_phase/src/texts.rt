@@ -1,6 +1,8 @@
-//! The block of a record.
-ghost use Rattle.std.specs.Prelude.{◌≡◌, ◌++◌, OnOk};
-ghost use Rattle.race_phase.specs.Blocks.{block_of};
+//! The blocks of records, which a replay and a race print.
+ghost use Rattle.std.specs.Prelude.{◌≡◌, ◌++◌, OnOk, OnErr};
+ghost use Rattle.std.specs.Io.{StartsWith};
+ghost use Rattle.race_phase.specs.Blocks.{edges_text, messages_text, block_of};
+ghost use Rattle.race_phase.specs.declared.records.Answer.TheVariants.{Acted};
 ghost use Rattle.race_phase.specs.private.Told.{answer_with};
 
 use crate::deliveries::{Deliveries, edge_lines, message_lines};
@@ -9,7 +11,40 @@ use board_core::Reply;
 use clk_units::NoMemory;
 use reply_text::{board_line, clock_line, hv_line, page_line};
 
-/// Appends the block of a record: the edges and messages of an access, whose reply is this, and the record's line.
+/// Appends the lines of the edges of an access, and of its messages.
+#[inline(always)]
+pub(crate) fn event_lines(
+    reply: &Reply,
+    deliveries: &Deliveries,
+    out: &mut Vec<u8>,
+) -> Result<(), NoMemory>
+    ensures ok { OnOk result (out.new.items ≡ out.old.items
+        ++ (edges_text deliveries.now reply.now.edges ++ messages_text deliveries.now reply.now.bursts)) }
+    ensures err { OnErr result (StartsWith out.new.items out.old.items) }
+{
+    edge_lines(reply.edges.as_slice(), deliveries, out)?;
+    message_lines(&reply.bursts, deliveries, out)
+}
+
+/// Appends the block of an access: its edges, its messages, and its line. After an `Err` the text begins as it was.
+#[inline(always)]
+#[tactic(auto, unfolding(crate::specs::Blocks::block_of))]
+pub fn access_block(
+    line: u64,
+    reply: &Reply,
+    deliveries: &Deliveries,
+    out: &mut Vec<u8>,
+) -> Result<(), NoMemory>
+    ensures ok { OnOk result
+        (out.new.items ≡ out.old.items ++ block_of deliveries.now line (Acted reply.now)) }
+    ensures err { OnErr result (StartsWith out.new.items out.old.items) }
+{
+    event_lines(reply, deliveries, out)?;
+    board_line(line, reply, out)?;
+    Ok(())
+}
+
+/// Appends the block of a record that was answered so; the reply of an access is this.
 #[tactic(auto, unfolding(crate::specs::Blocks::block_of))]
 pub(crate) fn append_block(
     line: u64,
@@ -22,11 +57,7 @@ pub(crate) fn append_block(
         (out.new.items ≡ out.old.items ++ block_of deliveries.now line (answer_with told.now reply.now)) }
 {
     match told {
-        Told::Acted => {
-            edge_lines(reply.edges.as_slice(), deliveries, out)?;
-            message_lines(&reply.bursts, deliveries, out)?;
-            board_line(line, reply, out)
-        }
+        Told::Acted => access_block(line, reply, deliveries, out),
         Told::PageIs { reply } => page_line(line, reply, out),
         Told::ClockIs { reply } => clock_line(line, reply, out),
         Told::HvIs { reply } => hv_line(line, reply, out),

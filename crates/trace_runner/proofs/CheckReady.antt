@@ -111,7 +111,8 @@ item_ready line (Next rec) s few sound suits next none = record_ready line rec s
 item_ready line End s few sound suits next none = let no : ⊥ = cc in absurd no
 
 -- behind a line that was read, as a fact of the next line
-pub check_next : {A : Type 0} (res : Result A NoMemory) (end : Option Checked) (line : ℕ) (item : Item) (s t new : Checking) (text : List ℕ) → IsCheckReady line s
+pub check_next : {A : Type 0} (res : Result A NoMemory) (end : Option Checked) (line : ℕ) (item : Item) (s t new : Checking) (text : List ℕ)
+    → IsCheckReady line s
     → taken s.replay.reading text ≡ Ok item → IsItem s.replay.reading.stage item
     → t ≡ read_on text s → OnOk res (end ≡ end_of (item_checked line item t))
     → OnOk res (end ≡ None → new ≡ state_behind (item_checked line item t) t) → OnOk res (end ≡ None → IsCheckReady (line + 1) new)

@@ -1,5 +1,5 @@
 -- Counts with a time and without, as answers to reads; and what an access prints.
-use Rattle.std.proofs.Common.{◌≡◌, ℕ, ◌≤◌, List, ◌++◌, Option, Some, None, Result, OnOk, refl, sym, ap, subst, ◌∙◌, append_assoc}
+use Rattle.std.proofs.Common.{◌≡◌, ℕ, ◌≤◌, List, ◌++◌, Option, Some, None, Result, OnOk, refl, sym, ap, subst, ◌∙◌}
 use Rattle.std.proofs.lemmas.Result.{on_ok_weaker}
 use Rattle.std.proofs.lemmas.Bool.{lt-ltb, le-ltb, le-leb, lt-leb}
 use Rattle.clk_units.specs.declared.ranges.TheConstants.{RANGE_NS}
@@ -13,10 +13,11 @@ use Rattle.board_types.specs.declared.reply.Reply.{Reply}
 use Rattle.board_core.specs.Access.{reply_of}
 use Rattle.board_core.specs.Refusals.{refusal_of}
 use Rattle.race_phase.specs.declared.deliveries.Deliveries.{Deliveries}
-use Rattle.race_phase.specs.Blocks.{edges_text, messages_text}
+use Rattle.race_phase.specs.Blocks.{block_of}
+use Rattle.race_phase.specs.declared.records.Answer.TheVariants.{Acted}
 use Rattle.board_core.specs.Time.{HasTime}
 use Rattle.clk_units.specs.declared.NoMemory.{NoMemory}
-use Rattle.reply_text.specs.Text.{board_text, refused_text}
+use Rattle.reply_text.specs.Text.{refused_text}
 use Rattle.reply_text.specs.declared.ends.Refused.{Refused}
 use Rattle.reply_text.specs.declared.ends.Refused.TheVariants.{Fell, Range}
 use Rattle.trace_loop.specs.Progress.{Answer, Goes, Ends, printed, end_of, state_behind}
@@ -26,7 +27,6 @@ use Rattle.trace_runner.specs.Records.{
   access_answer,
   board_answer,
   read_answer,
-  block,
   stops,
 }
 use Rattle.trace_runner.specs.Replay.{with_board}
@@ -72,7 +72,8 @@ module _ (text : BoardParts → List ℕ) (behind : BoardParts → BoardParts) (
     module _ (res : Result (Unit {0}) NoMemory) (fault : TimeFault) (why : Refused) (is : IsFaultAt b.anchor h fault) (told : why ≡ refused_fault fault) where
       pub refused-printed : (out new : List ℕ) → OnOk res (new ≡ out ++ refused_text line why) → OnOk res (new ≡ out ++ printed (read_of c))
       refused-printed out new =
-          on_ok_weaker res (λ e. e ∙ ap (λ (w : Refused). out ++ refused_text line w) told ∙ ap (λ (x : Answer Replay Verdict). out ++ printed x) (sym (stopped fault is)))
+          on_ok_weaker res (λ e. e ∙ ap (λ (w : Refused). out ++ refused_text line w) told
+          ∙ ap (λ (x : Answer Replay Verdict). out ++ printed x) (sym (stopped fault is)))
 
       pub refused-ends : (end : Option Verdict) → OnOk res (end ≡ Some (Stopped line why)) → OnOk res (end ≡ end_of (read_of c))
       refused-ends end =
@@ -81,9 +82,7 @@ module _ (text : BoardParts → List ℕ) (behind : BoardParts → BoardParts) (
 -- an access that is taken prints its block
 pub access-printed : (line cpu h : ℕ) (a : Access) (ds : Deliveries) (b : BoardParts) (r : Replay) (reply : Reply) (out : List ℕ)
     → refusal_of b cpu h a ≡ None → reply ≡ reply_of b cpu h a
-    → (out ++ (edges_text ds reply.edges ++ messages_text ds reply.bursts)) ++ board_text line reply
-    ≡ out ++ printed (with_board (board_answer line cpu h a ds b) r)
+    → out ++ block_of ds line (Acted reply) ≡ out ++ printed (with_board (board_answer line cpu h a ds b) r)
 access-printed line cpu h a ds b r reply out taken is =
-    append_assoc out (edges_text ds reply.edges ++ messages_text ds reply.bursts) (board_text line reply)
-    ∙ ap (λ (x : Reply). out ++ block line ds x) is
+    ap (λ (x : Reply). out ++ block_of ds line (Acted x)) is
     ∙ ap (λ (o : Option Refusal). out ++ printed (with_board (access_answer o line cpu h a ds b) r)) (sym taken)

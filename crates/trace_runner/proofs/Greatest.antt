@@ -1,12 +1,21 @@
 -- A move goes past the greatest clock reading, and what it is refused doesn't depend on it.
-use Rattle.std.proofs.Common.{◌≡◌, ℕ, zero, suc, leb, cond, ◌+◌, Option, Some, refl, ap}
+use Rattle.std.proofs.Common.{◌≡◌, ℕ, zero, suc, leb, cond, ◌+◌, Option, Some, refl, ap, ◌∙◌}
 use Rattle.clk_units.specs.declared.ranges.TheConstants.{RANGE_NS}
+use Rattle.board_types.specs.declared.access.Access.TheVariants.{Step}
 use Rattle.board_types.specs.declared.parts.BoardParts.{BoardParts}
+use Rattle.board_types.specs.declared.reply.Refusal.{Refusal}
+use Rattle.board_core.specs.Access.{after_access}
 use Rattle.board_core.specs.Hv.{hv_published_at_host}
 use Rattle.board_core.specs.Pages.{published_at_host, with_greatest}
 use Rattle.board_core.specs.Reanchor.{reanchored}
+use Rattle.board_core.specs.Refusals.{refusal_of}
 use Rattle.board_core.specs.Tsc.{processor_at}
 use Rattle.board_core.specs.Time.{now_of}
+use Rattle.board_core.proofs.Laws.{after_access-greatest, refusal_of-greatest}
+use Rattle.race_phase.specs.Order.{or_cause, at_line, by_access}
+use Rattle.race_phase.specs.Phases.{by_move, next_board, end_fault}
+use Rattle.race_phase.specs.declared.phases.End.{End}
+use Rattle.race_phase.specs.declared.phases.End.TheVariants.{Finish, Save, Move}
 use Rattle.transfer.specs.Move.{
   published_below,
   moved_to,
@@ -40,3 +49,20 @@ unfolding move_fault
 move_fault-greatest gap b g =
     ap (λ (o : Option MoveFault). cond (leb RANGE_NS (now_of b + gap)) (Some (OutOfRange (now_of b + gap))) (or_spent o b.cpus b.hv.version))
     (spent-greatest b g b.cpus)
+
+-- so does what ends a phase
+pub next_board-greatest : (end : End) (b : BoardParts) (g : ℕ) → next_board end (with_greatest b g) ≡ with_greatest (next_board end b) g
+next_board-greatest Finish b g = refl
+next_board-greatest (Save line cpu h) b g = after_access-greatest b cpu h g Step
+next_board-greatest (Move line cpu h host) b g =
+    ap (moved_to host.khz host.start host.gap) (after_access-greatest b cpu h g Step)
+    ∙ moved_to-greatest host.khz host.start host.gap (after_access b cpu h Step) g
+
+pub end_fault-greatest : (end : End) (b : BoardParts) (g : ℕ) → end_fault (with_greatest b g) end ≡ end_fault b end
+end_fault-greatest Finish b g = refl
+end_fault-greatest (Save line cpu h) b g = ap (λ (o : Option Refusal). at_line line (by_access o)) (refusal_of-greatest b cpu h g Step)
+end_fault-greatest (Move line cpu h host) b g =
+    ap (λ (o : Option Refusal). at_line line (or_cause (by_access o) (by_move (move_fault host.gap (after_access (with_greatest b g) cpu h Step)))))
+    (refusal_of-greatest b cpu h g Step)
+    ∙ ap (λ (o : Option MoveFault). at_line line (or_cause (by_access (refusal_of b cpu h Step)) (by_move o)))
+    (ap (move_fault host.gap) (after_access-greatest b cpu h g Step) ∙ move_fault-greatest host.gap (after_access b cpu h Step) g)

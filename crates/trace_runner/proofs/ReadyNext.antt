@@ -33,17 +33,17 @@ use Rattle.board_types.specs.declared.access.Access.{Access}
 use Rattle.board_types.specs.declared.access.Access.TheVariants.{Step}
 use Rattle.board_types.specs.declared.parts.BoardParts.{BoardParts}
 use Rattle.board_types.specs.declared.reply.Refusal.{Refusal}
-use Rattle.board_types.specs.declared.reply.Reply.{Reply}
 use Rattle.board_core.specs.Hv.{hv_published_at_host}
 use Rattle.board_core.specs.Refusals.{refusal_of}
-use Rattle.board_core.specs.Access.{after_access, reply_of}
 use Rattle.board_core.specs.Pages.{after_clock, published_at_host}
 use Rattle.board_core.specs.Reanchor.{reanchored}
 use Rattle.board_core.proofs.Laws.{after_access-cpus, after_access-format}
-use Rattle.transfer.specs.Move.{move_fault, moved_to, published_below}
-use Rattle.transfer.specs.declared.outcome.MoveFault.{MoveFault}
+use Rattle.transfer.specs.Move.{moved_to, published_below}
 use Rattle.transfer.proofs.Publishing.{published_below-cpus}
 use Rattle.race_phase.specs.declared.deliveries.Deliveries.{Deliveries}
+use Rattle.race_phase.specs.declared.faults.Fault.{Fault}
+use Rattle.race_phase.specs.declared.phases.End.{End as PhaseEnd}
+use Rattle.race_phase.specs.declared.phases.End.TheVariants.{Finish, Save as BySave, Move as ByMove}
 use Rattle.reply_text.specs.declared.ends.Refused.{Refused}
 use Rattle.trace_text.specs.Tokens.{words_of}
 use Rattle.trace_text.specs.Header.{first_line, header_line, cpus_of, format_of}
@@ -89,9 +89,7 @@ use Rattle.trace_loop.specs.Progress.{limit_of, Answer, Goes, Ends, end_of, stat
 use Rattle.trace_runner.specs.Records.{
   access_answer,
   read_answer,
-  saved_answer,
-  gap_answer,
-  moved_answer,
+  ended_answer,
   job_answer,
 }
 use Rattle.trace_runner.specs.Replay.{board_of, item_answer, with_board}
@@ -185,11 +183,6 @@ same_read : (o : Option Refused) (line : ℕ) (text : List ℕ) (b b' : BoardPar
 same_read None line text b b' cpus format = (cpus, format)
 same_read (Some why) line text b b' cpus format = tt
 
--- so do a save and a move
-same_save : (o : Option Refusal) (line cpu h : ℕ) (ds : Deliveries) (b : BoardParts) → Same b (saved_answer o line cpu h ds b)
-same_save None line cpu h ds b = (after_access-cpus b cpu h Step, after_access-format b cpu h Step)
-same_save (Some refusal) line cpu h ds b = tt
-
 published-format : (b : BoardParts) (khz start gap n : ℕ) (m : BoardParts) → (published_below b khz start gap n m).format ≡ m.format
 unfolding published_below published_at_host
 published-format b khz start gap zero m = refl
@@ -203,17 +196,15 @@ moved-format : (khz start gap : ℕ) (b : BoardParts) → (moved_to khz start ga
 unfolding moved_to reanchored hv_published_at_host
 moved-format khz start gap b = published-format b khz start gap b.cpus (reanchored khz start gap b)
 
-same_gap : (o : Option MoveFault) (line khz start gap : ℕ) (ds : Deliveries) (reply : Reply) (b b' : BoardParts)
-    → b'.cpus ≡ b.cpus → b'.format ≡ b.format → Same b (gap_answer o line khz start gap ds reply b')
-same_gap None line khz start gap ds reply b b' cpus format = (moved-cpus khz start gap b' ∙ cpus, moved-format khz start gap b' ∙ format)
-same_gap (Some fault) line khz start gap ds reply b b' cpus format = tt
-
-same_move : (o : Option Refusal) (line cpu h khz start gap : ℕ) (ds : Deliveries) (b : BoardParts)
-    → Same b (moved_answer o line cpu h khz start gap ds b)
-same_move None line cpu h khz start gap ds b =
-    same_gap (move_fault gap (after_access b cpu h Step)) line khz start gap ds (reply_of b cpu h Step) b (after_access b cpu h Step)
-    (after_access-cpus b cpu h Step) (after_access-format b cpu h Step)
-same_move (Some refusal) line cpu h khz start gap ds b = tt
+-- so does what ends a phase
+same_end : (o : Option Fault) (end : PhaseEnd) (ds : Deliveries) (b : BoardParts) → Same b (ended_answer o end ds b)
+same_end (Some fault) end ds b = tt
+same_end None Finish ds b = (refl, refl)
+same_end None (BySave line cpu h) ds b = (after_access-cpus b cpu h Step, after_access-format b cpu h Step)
+same_end None (ByMove line cpu h host) ds b = (
+  moved-cpus host.khz host.start host.gap _ ∙ after_access-cpus b cpu h Step,
+  moved-format host.khz host.start host.gap _ ∙ after_access-format b cpu h Step,
+)
 
 pub same_job : (line cpu h : ℕ) (job : Job) (ds : Deliveries) (b : BoardParts) → Same b (job_answer line cpu h job ds b)
 unfolding after_clock
@@ -221,8 +212,8 @@ same_job line cpu h (Board a) ds b = same_access (refusal_of b cpu h a) line cpu
 same_job line cpu h (Page page) ds b = same_read _ line _ b b refl refl
 same_job line cpu h (Clock page) ds b = same_read _ line _ b (after_clock b page h) refl refl
 same_job line cpu h Hv ds b = same_read _ line _ b b refl refl
-same_job line cpu h Save ds b = same_save (refusal_of b cpu h Step) line cpu h ds b
-same_job line cpu h (Move khz start gap) ds b = same_move (refusal_of b cpu h Step) line cpu h khz start gap ds b
+same_job line cpu h Save ds b = same_end _ (BySave line cpu h) ds b
+same_job line cpu h (Move khz start gap) ds b = same_end _ (ByMove line cpu h (record { khz = khz; start = start; gap = gap })) ds b
 
 -- behind a record
 record_ready : (line : ℕ) (t : Stage) (r : Replay) (x : Answer BoardParts Verdict) → r.reading.lines ≡ line → r.reading.stage ≡ t → IsRound t r.board

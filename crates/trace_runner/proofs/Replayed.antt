@@ -36,7 +36,8 @@ pub pushed : (s : Checking) (line : ℕ) (rec : Written) (call : Call) (b : Boar
 pushed s line rec call b rs e f = λ i. record s { replay = record s.replay { board = e i }; last = f i; taken = s.taken + 1 }
 
 -- or ends its phase
-pub ended : (s : Checking) (end : End) (b : BoardParts) (vs : List PhaseRead) (rs : List Record) → b ≡ next_board end s.replay.board → vs ≡ ended_by end s → rs ≡ []
+pub ended : (s : Checking) (end : End) (b : BoardParts) (vs : List PhaseRead) (rs : List Record) → b ≡ next_board end s.replay.board → vs ≡ ended_by end s
+    → rs ≡ []
     → record s { replay = record s.replay { board = b }; phases = vs; last = rs; taken = s.taken + 1 }
     ≡ with_end end (on_board (next_board end s.replay.board) s)
 ended s end b vs rs e f g = λ i. record s { replay = record s.replay { board = e i }; phases = f i; last = g i; taken = s.taken + 1 }

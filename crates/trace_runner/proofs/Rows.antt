@@ -30,7 +30,8 @@ one_route_delivers_all : (deliveries_of 2 (None ∷ Some (record { cpu = 1; vect
 unfolding deliveries_of
 one_route_delivers_all = refl
 
-a_fall_is_not_delivered : delivery_of (record { cpus = 1; lines = Some (record { cpu = 0; vector = 0x30 }) ∷ [] }) (record { at = 5; line = 0; up = false }) ≡ None
+a_fall_is_not_delivered : delivery_of (record { cpus = 1; lines = Some (record { cpu = 0; vector = 0x30 }) ∷ [] })
+    (record { at = 5; line = 0; up = false }) ≡ None
 a_fall_is_not_delivered = refl
 
 -- messages: bits 19 to 12 of the address, and 7 to 0 of the data

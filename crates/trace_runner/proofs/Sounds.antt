@@ -27,11 +27,9 @@ use Rattle.std.proofs.lemmas.List.Elements.{All-nil, All-push}
 use Rattle.host_counter.specs.declared.TimeFault.{TimeFault}
 use Rattle.board_types.specs.Legal.{is_legal}
 use Rattle.board_types.specs.declared.access.Access.{Access}
-use Rattle.board_types.specs.declared.access.Access.TheVariants.{Step}
 use Rattle.board_types.specs.declared.parts.BoardParts.{BoardParts}
 use Rattle.board_types.specs.declared.reply.Refusal.{Refusal}
-use Rattle.board_types.specs.declared.reply.Reply.{Reply}
-use Rattle.board_core.specs.Access.{after_access, reply_of}
+use Rattle.board_core.specs.Access.{after_access}
 use Rattle.board_core.specs.Hv.{hv_reply}
 use Rattle.board_types.specs.declared.setup.TheConstants.{HV_FORMAT}
 use Rattle.board_core.specs.Pages.{page_reply, clock_reply, after_clock, with_greatest}
@@ -41,8 +39,6 @@ use Rattle.board_core.proofs.Laws.{after_access-greatest, refusal_of-greatest}
 use Rattle.race_phase.specs.declared.deliveries.Deliveries.{Deliveries}
 use Rattle.reply_text.specs.Text.{page_text, clock_text, hv_text}
 use Rattle.reply_text.specs.declared.ends.Refused.{Refused}
-use Rattle.transfer.specs.Move.{move_fault, moved_to}
-use Rattle.transfer.specs.declared.outcome.MoveFault.{MoveFault}
 use Rattle.trace_text.specs.declared.header.Header.{Header}
 use Rattle.trace_text.specs.declared.records.Job.{Job}
 use Rattle.trace_text.specs.declared.records.Job.TheVariants.{Board, Page, Clock, Hv, Save, Move}
@@ -53,22 +49,19 @@ use Rattle.trace_runner.specs.Records.{
   refused_fault,
   access_answer,
   read_answer,
-  saved_answer,
-  gap_answer,
-  moved_answer,
+  ended_answer,
   board_answer,
   page_answer,
   clock_answer,
   hv_answer,
-  save_answer,
-  move_answer,
+  end_answer,
   job_answer,
 }
 use Rattle.trace_runner.specs.Replay.{opening, board_of}
 use Rattle.trace_runner.specs.Ready.{JobSuits}
 use Rattle.race_phase.specs.Calls.{IsFitting, IsFittingCall}
-use Rattle.race_phase.specs.Order.{or_cause, at_line, by_access, by_count, time_fault, record_fault, after_record, after_records, records_fault}
-use Rattle.race_phase.specs.Phases.{IsEnd, by_move, next_board, end_fault}
+use Rattle.race_phase.specs.Order.{at_line, by_access, by_count, time_fault, record_fault, after_record, after_records, records_fault}
+use Rattle.race_phase.specs.Phases.{IsEnd, next_board, end_fault}
 use Rattle.race_phase.specs.declared.faults.Fault.{Fault}
 use Rattle.trace_runner.specs.Check.{
   check_start,
@@ -93,14 +86,9 @@ use Rattle.race_phase.specs.declared.phases.End.TheVariants.{
 }
 use Rattle.race_phase.specs.declared.records.Record.{Record}
 use Rattle.trace_runner.specs.declared.status.Verdict.{Verdict}
-use Rattle.trace_runner.proofs.FileOrder.{
-  or_both,
-  after_records-snoc,
-  records_fault-snoc,
-  after_phases-snoc,
-  trace_fault-snoc,
-}
-use Rattle.trace_runner.proofs.Greatest.{moved_to-greatest, move_fault-greatest}
+use Rattle.race_phase.proofs.Checked.{or_both, after_records-snoc, records_fault-snoc}
+use Rattle.trace_runner.proofs.FileOrder.{after_phases-snoc, trace_fault-snoc}
+use Rattle.trace_runner.proofs.Greatest.{next_board-greatest, end_fault-greatest}
 use Rattle.trace_runner.proofs.ReadyNext.{Same, same_job}
 
 -- a count that isn't refused has a time
@@ -137,31 +125,10 @@ module _ (b : BoardParts) (g line cpu h : ℕ) (ds : Deliveries) where
       read_goes (refused_count (with_greatest b g) h) (clock_text line (clock_reply (with_greatest b g) page h))
       (after_clock (with_greatest b g) page h).greatest refl
 
-  save_goes : (o : Option Refusal) → refusal_of (with_greatest b g) cpu h Step ≡ o
-      → Goes_on (end_fault b (BySave line cpu h)) (next_board (BySave line cpu h) b) (saved_answer o line cpu h ds (with_greatest b g))
-  save_goes None is = (ap (λ (x : Option Refusal). at_line line (by_access x)) (free Step is), (g, after_access-greatest b cpu h g Step))
-  save_goes (Some refusal) is = tt
-
-  module _ (khz start gap : ℕ) where
-    abbrev moves : End
-    moves = ByMove line cpu h (record { khz = khz; start = start; gap = gap })
-
-    gap_goes : (o : Option MoveFault) (reply : Reply) (c : BoardParts) → refusal_of b cpu h Step ≡ None → c ≡ with_greatest (after_access b cpu h Step) g
-        → move_fault gap c ≡ o → Goes_on (end_fault b moves) (next_board moves b) (gap_answer o line khz start gap ds reply c)
-    gap_goes None reply c none at is = (
-      ap (λ (x : Option Refusal). at_line line (or_cause (by_access x) (by_move (move_fault gap (after_access b cpu h Step))))) none
-          ∙ ap (λ (x : Option MoveFault). at_line line (by_move x))
-          (sym (move_fault-greatest gap (after_access b cpu h Step) g) ∙ sym (ap (λ (x : BoardParts). move_fault gap x) at) ∙ is),
-      (g, ap (λ (x : BoardParts). moved_to khz start gap x) at ∙ moved_to-greatest khz start gap (after_access b cpu h Step) g),
-    )
-    gap_goes (Some fault) reply c none at is = tt
-
-    move_goes : (o : Option Refusal) → refusal_of (with_greatest b g) cpu h Step ≡ o
-        → Goes_on (end_fault b moves) (next_board moves b) (moved_answer o line cpu h khz start gap ds (with_greatest b g))
-    move_goes None is =
-        gap_goes (move_fault gap (after_access (with_greatest b g) cpu h Step)) (reply_of (with_greatest b g) cpu h Step)
-        (after_access (with_greatest b g) cpu h Step) (free Step is) (after_access-greatest b cpu h g Step) refl
-    move_goes (Some refusal) is = tt
+end_goes : (b : BoardParts) (g : ℕ) (ds : Deliveries) (end : End) (o : Option Fault) → end_fault (with_greatest b g) end ≡ o
+    → Goes_on (end_fault b end) (next_board end b) (ended_answer o end ds (with_greatest b g))
+end_goes b g ds end None is = (sym (end_fault-greatest end b g) ∙ is, (g, next_board-greatest end b g))
+end_goes b g ds end (Some fault) is = tt
 
 -- the board of file order behind what was kept
 abbrev now : Checking → BoardParts
@@ -234,6 +201,13 @@ job_kept line rec job s sound few there suits = by_job job suits
     same : (j : Job) → Same s.replay.board (job_answer line rec.cpu rec.h j s.replay.deliveries s.replay.board)
     same j = same_job line rec.cpu rec.h j s.replay.deliveries s.replay.board
 
+    by_end : (end : End) → IsEnd s.opening.cpus end → Same s.replay.board (end_answer end s.replay.deliveries s.replay.board)
+        → Keeps (with_end end) s (end_answer end s.replay.deliveries s.replay.board)
+    by_end end fits stays =
+        end_kept end s _ sound few fits stays
+        (subst (λ (c : BoardParts). Goes_on (end_fault (now s) end) (next_board end (now s)) (end_answer end s.replay.deliveries c)) (sym sound.board)
+        (end_goes (now s) sound.greatest s.replay.deliveries end (end_fault (with_greatest (now s) sound.greatest) end) refl))
+
     by_job : (j : Job) → JobSuits j s.replay.board
         → Keeps (kept_job line rec j) s (job_answer line rec.cpu rec.h j s.replay.deliveries s.replay.board)
     by_job (Board a) legal =
@@ -261,19 +235,9 @@ job_kept line rec job s sound few there suits = by_job job suits
         (sym sound.board)
         (read_goes (now s) sound.greatest line rec.cpu rec.h s.replay.deliveries (refused_count (with_greatest (now s) sound.greatest) rec.h)
         (hv_text line (hv_reply (with_greatest (now s) sound.greatest) rec.h)) sound.greatest refl))
-    by_job Save suited =
-        end_kept (BySave line rec.cpu rec.h) s _ sound few cpu (same Save)
-        (subst (λ (c : BoardParts). Goes_on (end_fault (now s) (BySave line rec.cpu rec.h)) (next_board (BySave line rec.cpu rec.h) (now s))
-        (save_answer line rec.cpu rec.h s.replay.deliveries c)) (sym sound.board)
-        (save_goes (now s) sound.greatest line rec.cpu rec.h s.replay.deliveries
-        (refusal_of (with_greatest (now s) sound.greatest) rec.cpu rec.h Step) refl))
+    by_job Save suited = by_end (BySave line rec.cpu rec.h) cpu (same Save)
     by_job (Move khz start gap) rate =
-        let end : End = ByMove line rec.cpu rec.h (record { khz = khz; start = start; gap = gap }) in
-        end_kept end s _ sound few (cpu, rate) (same (Move khz start gap))
-        (subst (λ (c : BoardParts). Goes_on (end_fault (now s) end) (next_board end (now s))
-        (move_answer line rec.cpu rec.h khz start gap s.replay.deliveries c)) (sym sound.board)
-        (move_goes (now s) sound.greatest line rec.cpu rec.h s.replay.deliveries khz start gap
-        (refusal_of (with_greatest (now s) sound.greatest) rec.cpu rec.h Step) refl))
+        by_end (ByMove line rec.cpu rec.h (record { khz = khz; start = start; gap = gap })) (cpu, rate) (same (Move khz start gap))
 
 -- the reader goes on; a header begins a trace
 pub read_sound : (text : List ℕ) (s : Checking) → IsSound s → IsSound (read_on text s)

@@ -32,17 +32,14 @@ use Rattle.std.proofs.Common.{
   append-nil,
 }
 use Rattle.std.specs.Str.{bytes_eq}
-use Rattle.board_types.specs.declared.access.Access.TheVariants.{Step}
 use Rattle.board_types.specs.declared.access.Access.{Access}
 use Rattle.board_types.specs.declared.parts.BoardParts.{BoardParts}
 use Rattle.board_types.specs.declared.reply.Refusal.{Refusal}
 use Rattle.board_core.specs.Hv.{hv_reply}
-use Rattle.board_core.specs.Access.{after_access, reply_of}
+use Rattle.board_core.specs.Access.{after_access}
 use Rattle.board_core.specs.Pages.{page_reply, clock_reply, after_clock}
 use Rattle.board_core.specs.Refusals.{refusal_of}
 use Rattle.race_phase.specs.declared.deliveries.Deliveries.{Deliveries}
-use Rattle.transfer.specs.Move.{move_fault}
-use Rattle.transfer.specs.declared.outcome.MoveFault.{MoveFault}
 use Rattle.reply_text.specs.Text.{page_text, clock_text, hv_text}
 use Rattle.reply_text.specs.declared.ends.Refused.{Refused}
 use Rattle.trace_text.specs.Header.{first_line, header_line}
@@ -102,7 +99,8 @@ use Rattle.trace_loop.specs.Progress.{
   finished_by,
 }
 use Rattle.race_phase.specs.Blocks.{block_of}
-use Rattle.race_phase.specs.Phases.{next_board, end_text}
+use Rattle.race_phase.specs.Phases.{next_board, end_fault, end_text}
+use Rattle.race_phase.specs.declared.faults.Fault.{Fault}
 use Rattle.race_phase.specs.declared.phases.End.{End as PhaseEnd}
 use Rattle.race_phase.specs.declared.phases.End.TheVariants.{
   Finish,
@@ -112,7 +110,25 @@ use Rattle.race_phase.specs.declared.phases.End.TheVariants.{
 use Rattle.race_phase.specs.declared.records.Call.{Call}
 use Rattle.race_phase.specs.declared.records.Call.TheVariants.{Act, ReadPage, ReadClock, ReadHv}
 use Rattle.race_phase.specs.declared.records.Record.{Record}
-use Rattle.trace_runner.specs.Check.{check_start, with_call, with_end, has_form, is_full, too_many, refusal, checked_by, record_checked, item_checked, fault_checked, taken_checked, read_on, check_answer, check_closing, check_behind, check}
+use Rattle.trace_runner.specs.Check.{
+  check_start,
+  with_call,
+  with_end,
+  has_form,
+  is_full,
+  too_many,
+  refusal,
+  checked_by,
+  record_checked,
+  item_checked,
+  fault_checked,
+  taken_checked,
+  read_on,
+  check_answer,
+  check_closing,
+  check_behind,
+  check,
+}
 use Rattle.trace_runner.specs.Checking.{Checking}
 use Rattle.trace_runner.specs.FileText.{answer_on, records_text, phase_text, phases_text, file_text}
 use Rattle.trace_runner.specs.Records.{
@@ -121,9 +137,7 @@ use Rattle.trace_runner.specs.Records.{
   stops,
   access_answer,
   read_answer,
-  saved_answer,
-  gap_answer,
-  moved_answer,
+  ended_answer,
   job_answer,
 }
 use Rattle.trace_runner.specs.Replay.{
@@ -345,7 +359,6 @@ module _ (line cpu h : ℕ) (s : Checking) (board : s.replay.board ≡ replayed 
       )
 
   access_so : (a : Access) (o : Option Refusal) → So (Board a) (access_answer o line cpu h a ds b)
-  unfolding block_of
   access_so a None = goes_call (Board a) (Act a) _ (after_access b cpu h a) refl refl
   access_so a (Some refusal) = tt
 
@@ -364,26 +377,22 @@ module _ (line cpu h : ℕ) (s : Checking) (board : s.replay.board ≡ replayed 
   hv_so None = goes_call Hv ReadHv _ b refl refl
   hv_so (Some why) = tt
 
-  save_so : (o : Option Refusal) → So Save (saved_answer o line cpu h ds b)
-  save_so None = goes_end (BySave line cpu h) _ (after_access b cpu h Step) refl refl
-  save_so (Some refusal) = tt
+  save_so : (o : Option Fault) → So Save (ended_answer o (BySave line cpu h) ds b)
+  save_so None = goes_end (BySave line cpu h) _ _ refl refl
+  save_so (Some fault) = tt
 
-  gap_so : (khz start gap : ℕ) (o : Option MoveFault)
-      → So (Move khz start gap) (gap_answer o line khz start gap ds (reply_of b cpu h Step) (after_access b cpu h Step))
-  gap_so khz start gap None = goes_end (ByMove line cpu h (record { khz = khz; start = start; gap = gap })) _ _ refl refl
-  gap_so khz start gap (Some fault) = tt
-
-  move_so : (khz start gap : ℕ) (o : Option Refusal) → So (Move khz start gap) (moved_answer o line cpu h khz start gap ds b)
-  move_so khz start gap None = gap_so khz start gap (move_fault gap (after_access b cpu h Step))
-  move_so khz start gap (Some refusal) = tt
+  move_so : (khz start gap : ℕ) (o : Option Fault)
+      → So (Move khz start gap) (ended_answer o (ByMove line cpu h (record { khz = khz; start = start; gap = gap })) ds b)
+  move_so khz start gap None = goes_end (ByMove line cpu h (record { khz = khz; start = start; gap = gap })) _ _ refl refl
+  move_so khz start gap (Some fault) = tt
 
   job_so : (job : Job) → So job (job_answer line cpu h job ds b)
   job_so (Board a) = access_so a (refusal_of b cpu h a)
   job_so (Page page) = page_so page (refused_count b h)
   job_so (Clock page) = clock_so page (refused_count b h)
   job_so Hv = hv_so (refused_count b h)
-  job_so Save = save_so (refusal_of b cpu h Step)
-  job_so (Move khz start gap) = move_so khz start gap (refusal_of b cpu h Step)
+  job_so Save = save_so (end_fault b (BySave line cpu h))
+  job_so (Move khz start gap) = move_so khz start gap (end_fault b (ByMove line cpu h (record { khz = khz; start = start; gap = gap })))
 
 record_so : (line : ℕ) (rec : Written) (s : Checking) → s.replay.board ≡ replayed s.opening s.phases s.last → IsRunning s.replay.reading.stage
     → Together (record_answer line rec s.replay) (record_checked line rec s) (said s)

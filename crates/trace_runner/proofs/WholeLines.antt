@@ -53,8 +53,7 @@ use Rattle.pvclock_page.specs.declared.page.PageReply.{PageReply}
 use Rattle.pvclock_page.specs.declared.page.PageReply.TheVariants.{Off as PageOff, On as PageOn}
 use Rattle.pvclock_page.specs.declared.page.ClockReply.{ClockReply}
 use Rattle.pvclock_page.specs.declared.page.ClockReply.TheVariants.{Off as ClockOff, On as ClockOn}
-use Rattle.transfer.specs.Move.{gap_bursts, move_fault, moved_to}
-use Rattle.transfer.specs.declared.outcome.MoveFault.{MoveFault}
+use Rattle.transfer.specs.Move.{gap_bursts, moved_to}
 use Rattle.save_state.specs.Writing.{bytes_of}
 use Rattle.reply_text.specs.Words.{hex_text, hexes, line_of, spaced}
 use Rattle.reply_text.specs.Text.{
@@ -81,16 +80,18 @@ use Rattle.trace_text.specs.declared.reading.Item.TheVariants.{Skipped, Part, Be
 use Rattle.trace_text.specs.declared.records.Job.{Job}
 use Rattle.trace_text.specs.declared.records.Job.TheVariants.{Board, Page, Clock, Hv, Save, Move}
 use Rattle.trace_loop.specs.Progress.{limit_of, Answer, Goes, Ends, Progress, printed, opened, told, answered, checked, heard, heard_until, behind}
-use Rattle.race_phase.specs.Blocks.{edges_text, messages_text}
+use Rattle.race_phase.specs.Blocks.{edges_text, messages_text, block_of}
+use Rattle.race_phase.specs.Phases.{end_fault}
+use Rattle.race_phase.specs.declared.faults.Fault.{Fault}
+use Rattle.race_phase.specs.declared.phases.End.{End as PhaseEnd}
+use Rattle.race_phase.specs.declared.phases.End.TheVariants.{Finish, Save as BySave, Move as ByMove}
 use Rattle.trace_runner.specs.Records.{
   refused_by,
   refused_access,
-  refused_move,
+  refused_cause,
   access_answer,
   read_answer,
-  saved_answer,
-  gap_answer,
-  moved_answer,
+  ended_answer,
   job_answer,
 }
 use Rattle.trace_runner.specs.Records as records
@@ -175,6 +176,7 @@ final_ends b =
 -- each answer
 access_whole : (o : Option Refusal) (line cpu h : ℕ) (a : Access) (ds : Deliveries) (b : BoardParts)
     → IsWholeLines (printed (access_answer o line cpu h a ds b))
+unfolding block_of
 access_whole (Some refusal) line cpu h a ds b = inr (refused_ends line (refused_access refusal))
 access_whole None line cpu h a ds b =
     let reply : Reply = reply_of b cpu h a in
@@ -184,28 +186,20 @@ read_whole : (o : Option Refused) (line : ℕ) (text : List ℕ) (b : BoardParts
 read_whole (Some why) line text b ends = inr (refused_ends line why)
 read_whole None line text b ends = inr ends
 
-saved_whole : (o : Option Refusal) (line cpu h : ℕ) (ds : Deliveries) (b : BoardParts)
-    → IsWholeLines (printed (saved_answer o line cpu h ds b))
-saved_whole (Some refusal) line cpu h ds b = inr (refused_ends line (refused_access refusal))
-saved_whole None line cpu h ds b =
+end_whole : (o : Option Fault) (end : PhaseEnd) (ds : Deliveries) (b : BoardParts) → IsWholeLines (printed (ended_answer o end ds b))
+end_whole (Some fault) end ds b = inr (refused_ends fault.line (refused_cause fault.cause))
+end_whole None Finish ds b = inl refl
+end_whole None (BySave line cpu h) ds b =
     let reply : Reply = reply_of b cpu h Step in
     let bytes : List ℕ = bytes_of (after_access b cpu h Step) in
     inr (ends_behind (edges_text ds reply.edges ++ messages_text ds reply.bursts) (save_text line reply.number bytes) (save_ends line reply.number bytes))
-
-gap_whole : (o : Option MoveFault) (line khz start gap : ℕ) (ds : Deliveries) (reply : Reply) (b : BoardParts)
-    → IsWholeLines (printed (gap_answer o line khz start gap ds reply b))
-gap_whole (Some fault) line khz start gap ds reply b = inr (refused_ends line (refused_move fault))
-gap_whole None line khz start gap ds reply b =
-    let time : ℕ = now_of (moved_to khz start gap b) in
-    let edges : List ℕ = edges_text ds reply.edges ++ edges_text ds (run (now_of b) gap (devices_in b)).edges in
-    inr (ends_behind (edges ++ messages_text ds reply.bursts ++ messages_text ds (gap_bursts gap b)) (move_text line reply.number time)
+end_whole None (ByMove line cpu h host) ds b =
+    let reply : Reply = reply_of b cpu h Step in
+    let c : BoardParts = after_access b cpu h Step in
+    let time : ℕ = now_of (moved_to host.khz host.start host.gap c) in
+    let edges : List ℕ = edges_text ds reply.edges ++ edges_text ds (run (now_of c) host.gap (devices_in c)).edges in
+    inr (ends_behind (edges ++ messages_text ds reply.bursts ++ messages_text ds (gap_bursts host.gap c)) (move_text line reply.number time)
     (move_ends line reply.number time))
-
-moved_whole : (o : Option Refusal) (line cpu h khz start gap : ℕ) (ds : Deliveries) (b : BoardParts)
-    → IsWholeLines (printed (moved_answer o line cpu h khz start gap ds b))
-moved_whole (Some refusal) line cpu h khz start gap ds b = inr (refused_ends line (refused_access refusal))
-moved_whole None line cpu h khz start gap ds b =
-    gap_whole (move_fault gap (after_access b cpu h Step)) line khz start gap ds (reply_of b cpu h Step) (after_access b cpu h Step)
 
 job_whole : (line cpu h : ℕ) (job : Job) (ds : Deliveries) (b : BoardParts) → IsWholeLines (printed (job_answer line cpu h job ds b))
 job_whole line cpu h (Board a) ds b = access_whole (refusal_of b cpu h a) line cpu h a ds b
@@ -215,8 +209,9 @@ job_whole line cpu h (Clock page) ds b =
     read_whole (records.refused_count b h) line (clock_text line (clock_reply b page h)) (after_clock b page h)
     (clock_ends line (clock_reply b page h))
 job_whole line cpu h Hv ds b = read_whole (records.refused_count b h) line (hv_text line (hv_reply b h)) b (hv_ends line (hv_reply b h))
-job_whole line cpu h Save ds b = saved_whole (refusal_of b cpu h Step) line cpu h ds b
-job_whole line cpu h (Move khz start gap) ds b = moved_whole (refusal_of b cpu h Step) line cpu h khz start gap ds b
+job_whole line cpu h Save ds b = end_whole (end_fault b (BySave line cpu h)) (BySave line cpu h) ds b
+job_whole line cpu h (Move khz start gap) ds b =
+    let end : PhaseEnd = ByMove line cpu h (record { khz = khz; start = start; gap = gap }) in end_whole (end_fault b end) end ds b
 
 board_whole : (x : Answer BoardParts Verdict) (r : Replay) → IsWholeLines (printed x) → IsWholeLines (printed (with_board x r))
 board_whole (Goes text b) r whole = whole

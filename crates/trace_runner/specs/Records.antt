@@ -1,5 +1,5 @@
 -- What records do to the board, and what they print.
-use Rattle.std.specs.Prelude.{ℕ, List, ◌++◌, Option, Some, None}
+use Rattle.std.specs.Prelude.{ℕ, List, Option, Some, None}
 use Rattle.std.specs.Option.{option_map}
 use Rattle.host_counter.specs.declared.TimeFault.{TimeFault}
 use Rattle.host_counter.specs.declared.TimeFault.TheVariants.{
@@ -7,9 +7,7 @@ use Rattle.host_counter.specs.declared.TimeFault.TheVariants.{
   OutOfRange as FaultOutOfRange,
 }
 use Rattle.board_types.specs.declared.access.Access.{Access}
-use Rattle.board_types.specs.declared.access.Access.TheVariants.{Step}
 use Rattle.board_types.specs.declared.parts.BoardParts.{BoardParts}
-use Rattle.board_types.specs.declared.reply.Reply.{Reply}
 use Rattle.board_types.specs.declared.reply.Refusal.{Refusal}
 use Rattle.board_types.specs.declared.reply.Refusal.TheVariants.{
   BeforeStart,
@@ -23,13 +21,12 @@ use Rattle.board_core.specs.Pages.{page_reply, clock_reply, after_clock}
 use Rattle.board_core.specs.Hv.{hv_reply}
 use Rattle.race_phase.specs.declared.deliveries.Deliveries.{Deliveries}
 use Rattle.race_phase.specs.Order.{time_fault}
-use Rattle.transfer.specs.Move.{move_fault, moved_to}
 use Rattle.transfer.specs.declared.outcome.MoveFault.{MoveFault}
 use Rattle.transfer.specs.declared.outcome.MoveFault.TheVariants.{
   OutOfRange as GapOutOfRange,
   VersionsSpent as PageSpent,
 }
-use Rattle.reply_text.specs.Text.{board_text, page_text, clock_text, hv_text, refused_text}
+use Rattle.reply_text.specs.Text.{page_text, clock_text, hv_text, refused_text}
 use Rattle.reply_text.specs.declared.ends.Refused.{Refused}
 use Rattle.reply_text.specs.declared.ends.Refused.TheVariants.{
   Form,
@@ -58,8 +55,18 @@ use Rattle.trace_text.specs.declared.faults.Reason.TheVariants.{
 use Rattle.trace_text.specs.declared.records.Job.{Job}
 use Rattle.trace_text.specs.declared.records.Job.TheVariants.{Board, Page, Clock, Hv, Save, Move}
 use Rattle.trace_loop.specs.Progress.{Closing, Answer, Goes, Ends}
-use Rattle.race_phase.specs.Blocks.{edges_text, messages_text}
-use Rattle.race_phase.specs.Phases.{save_block, move_block}
+use Rattle.race_phase.specs.Blocks.{block_of}
+use Rattle.race_phase.specs.Phases.{next_board, end_fault, end_text}
+use Rattle.race_phase.specs.declared.faults.Cause.{Cause}
+use Rattle.race_phase.specs.declared.faults.Cause.TheVariants.{
+  Access as ByAccess,
+  Count as ByCount,
+  Move as ByGap,
+}
+use Rattle.race_phase.specs.declared.faults.Fault.{Fault}
+use Rattle.race_phase.specs.declared.phases.End.{End as PhaseEnd}
+use Rattle.race_phase.specs.declared.phases.End.TheVariants.{Save as BySave, Move as ByMove}
+use Rattle.race_phase.specs.declared.records.Answer.TheVariants.{Acted}
 use Rattle.trace_runner.specs.declared.status.Verdict.{Verdict}
 use Rattle.trace_runner.specs.declared.status.Verdict.TheVariants.{Stopped}
 
@@ -94,18 +101,14 @@ refused_count b h = option_map refused_fault (time_fault b.anchor h)
 abbrev pub stops : ℕ → Refused → Closing Verdict
 stops line why = record { text = refused_text line why; end = Stopped line why }
 
--- the block of an access: its edges and its messages in order, and its reply
-abbrev pub block : ℕ → Deliveries → Reply → List ℕ
-block line ds reply =
-    edges_text ds reply.edges ++ messages_text ds reply.bursts ++ board_text line reply
-
 -- an access to the board
 abbrev pub access_answer : Option Refusal → ℕ → ℕ → ℕ → Access → Deliveries
     → BoardParts → Answer BoardParts Verdict
 access_answer (Some refusal) line cpu h a ds b = Ends (stops line (refused_access refusal))
 access_answer None line cpu h a ds b =
-    Goes (block line ds (reply_of b cpu h a)) (after_access b cpu h a)
+    Goes (block_of ds line (Acted (reply_of b cpu h a))) (after_access b cpu h a)
 
+-- .. which the board may refuse
 abbrev pub board_answer : ℕ → ℕ → ℕ → Access → Deliveries → BoardParts
     → Answer BoardParts Verdict
 board_answer line cpu h a ds b = access_answer (refusal_of b cpu h a) line cpu h a ds b
@@ -115,6 +118,7 @@ abbrev pub read_answer : Option Refused → ℕ → List ℕ → BoardParts → 
 read_answer (Some why) line text b = Ends (stops line why)
 read_answer None line text b = Goes text b
 
+-- at a count that has a time
 abbrev pub page_answer : ℕ → ℕ → ℕ → BoardParts → Answer BoardParts Verdict
 page_answer line page h b =
     read_answer (refused_count b h) line (page_text line (page_reply b page h)) b
@@ -129,43 +133,26 @@ clock_answer line page h b =
 abbrev pub hv_answer : ℕ → ℕ → BoardParts → Answer BoardParts Verdict
 hv_answer line h b = read_answer (refused_count b h) line (hv_text line (hv_reply b h)) b
 
--- a save: time passes by an access, and the state behind it is printed
-abbrev pub saved_answer : Option Refusal → ℕ → ℕ → ℕ → Deliveries → BoardParts
-    → Answer BoardParts Verdict
-saved_answer (Some refusal) line cpu h ds b = Ends (stops line (refused_access refusal))
-saved_answer None line cpu h ds b =
-    Goes (save_block ds line (reply_of b cpu h Step) (after_access b cpu h Step))
-    (after_access b cpu h Step)
-
-abbrev pub save_answer : ℕ → ℕ → ℕ → Deliveries → BoardParts
-    → Answer BoardParts Verdict
-save_answer line cpu h ds b = saved_answer (refusal_of b cpu h Step) line cpu h ds b
-
--- a move that is refused: the time behind the gap, or the version of a page
+-- a move that is refused: the time after the gap, or the version of a page
 abbrev pub refused_move : MoveFault → Refused
 refused_move (GapOutOfRange ns) = Range ns
 refused_move (PageSpent cpu version) = Versions version
 
--- a move: time passes by an access, which gave this reply; then the board runs over the gap and
--- goes on at the new host
-abbrev pub gap_answer : Option MoveFault → ℕ → ℕ → ℕ → ℕ → Deliveries → Reply
-    → BoardParts → Answer BoardParts Verdict
-gap_answer (Some fault) line khz start gap ds reply b = Ends (stops line (refused_move fault))
-gap_answer None line khz start gap ds reply b =
-    Goes (move_block ds line gap reply b (moved_to khz start gap b)) (moved_to khz start gap b)
+-- a cause, as it is printed
+abbrev pub refused_cause : Cause → Refused
+refused_cause (ByAccess refusal) = refused_access refusal
+refused_cause (ByCount fault) = refused_fault fault
+refused_cause (ByGap fault) = refused_move fault
 
-abbrev pub moved_answer : Option Refusal → ℕ → ℕ → ℕ → ℕ → ℕ → ℕ → Deliveries
-    → BoardParts → Answer BoardParts Verdict
-moved_answer (Some refusal) line cpu h khz start gap ds b =
-    Ends (stops line (refused_access refusal))
-moved_answer None line cpu h khz start gap ds b =
-    gap_answer (move_fault gap (after_access b cpu h Step)) line khz start gap ds
-    (reply_of b cpu h Step) (after_access b cpu h Step)
-
-abbrev pub move_answer : ℕ → ℕ → ℕ → ℕ → ℕ → ℕ → Deliveries → BoardParts
+-- a save or a move, as it ends a phase: it is refused, or prints its block
+abbrev pub ended_answer : Option Fault → PhaseEnd → Deliveries → BoardParts
     → Answer BoardParts Verdict
-move_answer line cpu h khz start gap ds b =
-    moved_answer (refusal_of b cpu h Step) line cpu h khz start gap ds b
+ended_answer (Some fault) end ds b = Ends (stops fault.line (refused_cause fault.cause))
+ended_answer None end ds b = Goes (end_text ds end b) (next_board end b)
+
+-- .. for the fault that it has on a board
+abbrev pub end_answer : PhaseEnd → Deliveries → BoardParts → Answer BoardParts Verdict
+end_answer end ds b = ended_answer (end_fault b end) end ds b
 
 -- a record, by what it does
 abbrev pub job_answer : ℕ → ℕ → ℕ → Job → Deliveries → BoardParts
@@ -174,5 +161,6 @@ job_answer line cpu h (Board a) ds b = board_answer line cpu h a ds b
 job_answer line cpu h (Page page) ds b = page_answer line page h b
 job_answer line cpu h (Clock page) ds b = clock_answer line page h b
 job_answer line cpu h Hv ds b = hv_answer line h b
-job_answer line cpu h Save ds b = save_answer line cpu h ds b
-job_answer line cpu h (Move khz start gap) ds b = move_answer line cpu h khz start gap ds b
+job_answer line cpu h Save ds b = end_answer (BySave line cpu h) ds b
+job_answer line cpu h (Move khz start gap) ds b =
+    end_answer (ByMove line cpu h (record { khz = khz; start = start; gap = gap })) ds b

@@ -17,8 +17,7 @@ ghost use Rattle.trace_runner.specs.Replayed.{
   refused_job,
 };
 
-use crate::moves::refused_move;
-use crate::status::{refused_access, refused_time};
+use crate::status::{refused_access, refused_move, refused_time};
 use board_core::Access;
 use race_phase::{Call, End, Tally};
 use reply_text::Refused;

@@ -42,7 +42,6 @@ mod check;
 mod checker;
 mod counting;
 mod deliveries;
-mod events;
 mod generate;
 mod kept;
 mod moves;

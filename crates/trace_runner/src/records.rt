@@ -14,13 +14,12 @@ ghost use Rattle.trace_runner.specs.Records.{
 ghost use Rattle.trace_runner.specs.Replay.{record_answer, with_board};
 ghost use Rattle.trace_runner.specs.Ready.{Suits};
 
-use crate::events::event_lines;
 use crate::replay::Replay;
 use crate::status::{Verdict, refuse, refused_access, refused_time};
 use board_core::Access;
 use clk_units::NoMemory;
-use race_phase::NewHost;
-use reply_text::{board_line, clock_line, hv_line, page_line};
+use race_phase::{NewHost, access_block};
+use reply_text::{clock_line, hv_line, page_line};
 use trace_text::{Job, Record};
 
 impl Replay {
@@ -84,8 +83,7 @@ impl Replay {
         reply.clear();
         match board.state.answer(given.cpu, given.h, access, reply) {
             Ok(()) => {
-                event_lines(reply, &self.deliveries, out)?;
-                board_line(line, reply, out)?;
+                access_block(line, reply, &self.deliveries, out)?;
                 Ok(())
             }
             Err(refusal) => refuse(line, refused_access(refusal), out, end),

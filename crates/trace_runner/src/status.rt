@@ -1,15 +1,23 @@
 //! How a run of the program ends.
 ghost use Rattle.std.specs.Prelude.{◌≡◌, ◌++◌, Some, IfOk, OnOk, OnErr};
 ghost use Rattle.reply_text.specs.Text.{refused_text};
-ghost use Rattle.trace_runner.specs.Records.{refused_by, refused_access, refused_fault};
+ghost use Rattle.trace_runner.specs.Records.{
+  refused_by,
+  refused_access,
+  refused_fault,
+  refused_move,
+  refused_cause,
+};
 ghost use Rattle.trace_runner.specs.Status.{status_of, refused_status, verdict_status};
 
 use board_core::Refusal;
 use clk_units::NoMemory;
 use host_counter::TimeFault;
+use race_phase::Cause;
 use reply_text::{Refused, refused_line};
 use trace_loop::Ended;
 use trace_text::Reason;
+use transfer::MoveFault;
 
 /// How a trace ends.
 #[derive(Clone, Copy, Debug, PartialEq, Eq)]
@@ -141,6 +149,27 @@ pub(crate) fn refused_time(fault: TimeFault) -> Refused
     match fault {
         TimeFault::BeforeStart { start } => Refused::Fell { before: start },
         TimeFault::OutOfRange { ns } => Refused::Range { ns },
+    }
+}
+
+/// A move that is refused, as it is printed.
+pub(crate) fn refused_move(fault: MoveFault) -> Refused
+    ensures { result ≡ refused_move fault }
+{
+    match fault {
+        MoveFault::OutOfRange { ns } => Refused::Range { ns },
+        MoveFault::VersionsSpent { version, .. } => Refused::Versions { version },
+    }
+}
+
+/// A cause, as it is printed.
+pub(crate) fn refused_cause(cause: Cause) -> Refused
+    ensures { result ≡ refused_cause cause }
+{
+    match cause {
+        Cause::Access { refusal } => refused_access(refusal),
+        Cause::Count { fault } => refused_time(fault),
+        Cause::Move { fault } => refused_move(fault),
     }
 }
 

@@ -20,8 +20,8 @@ run_phase-requires-clause-free g c κs within =
     subst (λ (b : BoardParts). records_fault b rs ≡ None) (sym c.in_ok-blank.ensures.state)
     (or_none (records_fault s rs) (end_fault (after_records s rs) v.end) c.requires.free).0
 
-pub end_phase-requires-clause-end : goal.end_phase-requires-clause-end
-end_phase-requires-clause-end g c =
+pub end_free-requires-clause-end : goal.end_free-requires-clause-end
+end_free-requires-clause-end g c =
     let mid = c.deref_mut.result.now in
     let s = c.args.state.now in
     let rs = c.args.phase.now.lines.records in
@@ -29,8 +29,8 @@ end_phase-requires-clause-end g c =
     (subst (λ (b : BoardParts). AreAlike (after_records b rs) c.in_ok-board.board.value) c.in_ok-blank.ensures.state c.in_ok-board.ensures.alike) in
     mid_fits c.args.state.now c.args.phase.now mid c.requires.fitting alike
 
-pub end_phase-requires-clause-free : goal.end_phase-requires-clause-free
-end_phase-requires-clause-free g c =
+pub end_free-requires-clause-free : goal.end_free-requires-clause-free
+end_free-requires-clause-free g c =
     let mid = c.deref_mut.result.now in
     let s = c.args.state.now in
     let rs = c.args.phase.now.lines.records in
@@ -52,12 +52,12 @@ returns g c =
     (subst (λ (b : BoardParts). PhaseTold b ds rs c.in_ok-board.board.value lines) c.in_ok-blank.ensures.state c.in_ok-board.ensures.told) in
     let last : List ℕ = end_text ds v.end mid in
     let more = c.in_ok-join.ensures in
-    let block = c.in_ok-end_phase.ensures.text ∙ ap (λ l. l ++ last) c.new-block.ensures.items in
+    let block = c.in_ok-end_free.ensures.text ∙ ap (λ l. l ++ last) c.new-block.ensures.items in
     let text = c.in_ok-append.ensures.ok ∙ (ap (λ l. c.join.new.self ++ l) block ∙ (ap (λ l. l ++ last) more ∙ append_assoc c.args.text.now lines last)) in
-    let board = c.in_ok-end_phase.ensures.board in (
+    let board = c.in_ok-end_free.ensures.board in (
       lines ++ last,
       text,
-      phase_ended s ds v mid c.end_phase.new.board lines (lines ++ last) told (mid_fits s v mid c.requires.fitting alike)
+      phase_ended s ds v mid c.end_free.new.board lines (lines ++ last) told (mid_fits s v mid c.requires.fitting alike)
           (mid_free s v mid c.requires.fitting alike c.requires.free) board refl,
       subst (AreAlike (after_phase s v)) (sym board) (mid_alike s v mid c.requires.fitting alike),
     )

@@ -18,5 +18,6 @@ answer_item-requires-clause-other c =
 
 pub returns-in-Ok-clause-may : goal.returns-in-Ok-clause-may
 returns-in-Ok-clause-may c =
-    check_next c.answer_item.result c.answer_item.new.end c.args.line c.in-Ok.item c.args.self.now c.read_line.new.self c.answer_item.new.self c.args.text.now c.requires.may
+    check_next c.answer_item.result c.answer_item.new.end c.args.line c.in-Ok.item c.args.self.now c.read_line.new.self c.answer_item.new.self c.args.text.now
+    c.requires.may
     (sym c.read_line.ensures.item ∙ c.in-Ok.is) c.in-Ok.ensures.valid c.read_line.ensures.state c.answer_item.ensures.ends c.answer_item.ensures.state
