@@ -13,7 +13,7 @@ ghost use Rattle.trace_text.specs.Records.{
 
 use crate::faults::Reason;
 use crate::groups::job_in;
-use crate::jobs::{ack_job, clock_job, hr_job, in_job, out_job, step_job};
+use crate::jobs::{in_job, out_job, step_job};
 use crate::words::Words;
 use board_types::Access;
 
@@ -170,23 +170,12 @@ fn read_job(body: &Body, mut words: Words<'_>, into: &mut Job) -> bool
     if words.takes(b"in") {
         return put_job(in_job(body, &mut words), into);
     }
-    match words.initial() {
-        b'o' if words.takes(b"out") => put_job(out_job(body, &mut words), into),
-        b's' if words.takes(b"step") => put_job(step_job(body, &words), into),
-        b'h' if words.takes(b"hr") => put_job(hr_job(body, &mut words), into),
-        b'a' if words.takes(b"ack") => put_job(ack_job(body, &mut words), into),
-        b'c' if words.takes(b"clock") => put_job(clock_job(body, &mut words), into),
-        _ => read_other_job(body, words, into),
+    if words.takes(b"out") {
+        return put_job(out_job(body, &mut words), into);
     }
-}
-
-/// The same for any record. It is apart, so that the others don't clear what `job_in` answers in.
-#[inline(always)]
-fn read_other_job(body: &Body, words: Words<'_>, into: &mut Job) -> bool
-    ensures job { OnTrue result (job_of body.now words.entry ≡ Ok into.new) }
-    ensures cause { OnFalse result (IsErr (job_of body.now words.entry)) }
-    ensures valid { OnTrue result (IsJob body.now into.new) }
-{
+    if words.takes(b"step") {
+        return put_job(step_job(body, &words), into);
+    }
     put_job(job_in(body, words), into)
 }
 
