@@ -145,8 +145,8 @@ impl Pages {
         let at = &self.pages[place].0;
         if at[0].load(SeqCst) != words.word[0] {
             at[0].store(words.word[0] - 1, SeqCst);
-            for k in 1..5 {
-                at[k].store(words.word[k], SeqCst);
+            for (cell, word) in at.iter().zip(words.word).skip(1) {
+                cell.store(word, SeqCst);
             }
             at[0].store(words.word[0], SeqCst);
         }

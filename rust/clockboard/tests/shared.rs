@@ -1,7 +1,7 @@
 // SPDX-License-Identifier: Apache-2.0 OR MIT
 //! Threads that share the pages of a board, and what an open board refuses.
 use clockboard::{Access, Board, Error, Pages, Setup};
-use std::sync::atomic::{AtomicU64, Ordering::SeqCst};
+use std::sync::atomic::{AtomicBool, AtomicU64, Ordering::SeqCst};
 use std::sync::Mutex;
 use std::thread;
 
@@ -33,44 +33,45 @@ fn with_pages() -> Board {
     board
 }
 
-/// Counts of one counter for all threads; each processor writes its TSC, publishes pages, and reads clocks.
+/// Counts of one counter for all threads, a nanosecond each. Every processor writes its TSC, publishes pages, and reads clocks:
+/// none goes back over all threads, and none is ahead of the counter.
 #[test]
 fn no_clock_goes_back() {
+    const ROUNDS: u64 = 100_000;
     let mut board = with_pages();
     let pages = Pages::open(&mut board).unwrap();
     let (board, counter, given) = (Mutex::new(board), AtomicU64::new(100), AtomicU64::new(0));
+    let read = |cpu: u8, host: u64| {
+        let floor = given.load(SeqCst);
+        let clock = match pages.try_clock(cpu, host).unwrap() {
+            Some(clock) => clock,
+            None => pages.clock(&board.lock().unwrap(), cpu, host).unwrap(),
+        };
+        let most = counter.load(SeqCst);
+        assert!(
+            floor <= clock && clock <= most,
+            "{clock} after {floor}, at {most}"
+        );
+        given.fetch_max(clock, SeqCst);
+    };
     let run = |cpu: u8| {
-        for round in 0..100_000u64 {
-            let host = counter.fetch_add(7, SeqCst);
-            let other = 1 - cpu;
+        for round in 0..ROUNDS {
+            let (host, other) = (counter.fetch_add(7, SeqCst), 1 - cpu);
+            let access = |msr, value| {
+                pages
+                    .msr_write(&mut board.lock().unwrap(), cpu, host, msr, value)
+                    .unwrap()
+            };
             match round % 8 {
-                0 => drop(
-                    pages
-                        .msr_write(&mut board.lock().unwrap(), cpu, host, TSC, host * 3)
-                        .unwrap(),
-                ),
-                1 => drop(
+                0 => drop(access(TSC, host * 3)),
+                1 => drop(access(REFERENCE_TSC, 0x9001)),
+                2 => drop(
                     pages
                         .refresh(&mut board.lock().unwrap(), cpu, host, other)
                         .unwrap(),
                 ),
-                2 => {
-                    let mut board = board.lock().unwrap();
-                    pages
-                        .msr_write(&mut board, cpu, host, REFERENCE_TSC, 0x9001)
-                        .unwrap();
-                    assert_eq!(pages.try_hv(host), Ok(board.hv_time(host).ok()));
-                }
                 3 => drop(pages.try_hv(host).unwrap()),
-                _ => {
-                    let floor = given.load(SeqCst);
-                    let clock = match pages.try_clock(other, host).unwrap() {
-                        Some(clock) => clock,
-                        None => pages.clock(&board.lock().unwrap(), other, host).unwrap(),
-                    };
-                    assert!(clock >= floor, "{clock} after {floor}");
-                    given.fetch_max(clock, SeqCst);
-                }
+                _ => read(other, host),
             }
         }
     };
@@ -81,7 +82,48 @@ fn no_clock_goes_back() {
     let mut board = board.into_inner().unwrap();
     pages.close(&mut board).unwrap();
     assert_eq!(board.look().greatest_ns, given.into_inner());
-    assert_eq!(board.look().accesses, 3 + 2 * 100_000 / 8 * 3);
+    assert_eq!(board.look().accesses, 3 + 2 * ROUNDS / 8 * 3);
+}
+
+/// A page that is torn is ahead of the time: it has the TSC of one publishing and the offset of another.
+#[test]
+fn no_page_is_torn() {
+    let mut board = with_pages();
+    let pages = Pages::open(&mut board).unwrap();
+    let (counter, over) = (AtomicU64::new(100), AtomicBool::new(false));
+    thread::scope(|scope| {
+        scope.spawn(|| {
+            while !over.load(SeqCst) {
+                let host = counter.load(SeqCst);
+                let reading = pages.try_page(0, host).unwrap();
+                let most = counter.load(SeqCst);
+                assert!(reading.unwrap_or(host) <= most, "{reading:?} at {most}");
+            }
+        });
+        for _ in 0..300_000 {
+            let host = counter.fetch_add(7, SeqCst);
+            pages.msr_write(&mut board, 0, host, TSC, host * 3).unwrap();
+        }
+        over.store(true, SeqCst);
+    });
+}
+
+/// A page is read as it was published last.
+#[test]
+fn what_is_published_is_read() {
+    let mut board = with_pages();
+    let pages = Pages::open(&mut board).unwrap();
+    assert_eq!(pages.try_clock(1, 300), Ok(Some(300)));
+    assert_eq!(pages.clock(&board, 1, 200), Ok(300));
+    assert_eq!(pages.try_page(1, 200), Ok(Some(200)));
+    assert_eq!(pages.try_hv(500), board.hv_time(500).map(Some));
+    for (msr, value) in [(SYSTEM_TIME, 0x1040), (REFERENCE_TSC, 0x9000)] {
+        pages.msr_write(&mut board, 1, 600, msr, value).unwrap();
+    }
+    assert_eq!(pages.try_clock(1, 700), Err(Error::PageOff));
+    assert_eq!(pages.clock(&board, 1, 700), Err(Error::PageOff));
+    assert_eq!(pages.try_hv(700), Err(Error::PageOff));
+    assert_eq!(pages.try_clock(0, 700), Ok(Some(700)));
 }
 
 #[test]
