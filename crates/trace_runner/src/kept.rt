@@ -1,14 +1,14 @@
 //! A board with the reply into which its accesses are answered.
 ghost use Rattle.std.specs.Prelude.{◌≡◌};
 
-use board_core::{BoardState, Reply};
+use board_core::{BoardState, LazyBoard, Reply};
 use std::marker::Model;
 
 /// A board, and a reply for its accesses, which is kept from one to the next: a new one has all its places cleared. What
 /// stands in it between two accesses means nothing.
 #[derive(Drop)]
 pub(crate) struct KeptBoard {
-    pub(crate) state: BoardState,
+    pub(crate) state: LazyBoard,
     pub(crate) reply: Reply,
 }
 
@@ -26,15 +26,15 @@ impl KeptBoard {
         ensures { result ≡ state }
     {
         KeptBoard {
-            state,
+            state: LazyBoard::new(state),
             reply: Reply::empty(),
         }
     }
 
-    /// The board.
-    pub(crate) fn state(&self) -> &BoardState
-        ensures { result.now ≡ self.now }
+    /// A copy of the board, brought up to its time.
+    pub(crate) fn state(&self) -> BoardState
+        ensures { result ≡ self.now }
     {
-        &self.state
+        self.state.state()
     }
 }

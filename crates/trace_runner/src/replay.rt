@@ -83,7 +83,7 @@ impl Replay {
             Begin::Fresh(setup) => self.board = KeptBoard::new(BoardState::power_on(&setup)),
             Begin::Saved(board) => self.board = KeptBoard::new(board),
         }
-        self.deliveries = deliveries_of(self.board.state().cpus(), &header.routes);
+        self.deliveries = deliveries_of(self.board.state.cpus(), &header.routes);
     }
 
     /// Answers a line that was read.
@@ -111,7 +111,7 @@ impl Replay {
             }
             Item::Next(record) => self.answer_record(line, record, out, end),
             Item::End => {
-                self::end(self.board.state(), self.shows_state, out)?;
+                self::end(&self.board.state(), self.shows_state, out)?;
                 *end = Some(Verdict::Done);
                 Ok(())
             }

@@ -81,8 +81,8 @@ impl Soak {
         Sum {
             records: self.records,
             edges: self.edges,
-            time: self.replay.board.state().now(),
-            greatest: self.replay.board.state().greatest(),
+            time: self.replay.board.state.now(),
+            greatest: self.replay.board.state.greatest(),
         }
     }
 }
