@@ -19,6 +19,9 @@ SIGNS = {"×": "({} and {})", "⊎": "({} or {})", "<": "({} < {})", "≤": "({}
          "&&": "({} and {})", "||": "({} or {})", "==": "({} == {})", "≡": "({} == {})", "≢": "({} != {})",
          "∷": "[{}, *{}]", "++": "({} + {})", "+": "({} + {})", "-": "max({} - {}, 0)", "*": "({} * {})",
          "/": "quotient({}, {})", "%": "remainder({}, {})", "^": "({} ** {})"}
+# Definitions that give the first of two faults. The second is computed only where it is asked for: it may be that of a run of
+# years, on a board that the first one refuses.
+FIRST_OF_TWO = ("or_fault", "or_cause")
 
 
 class Gap(Exception):
@@ -311,6 +314,10 @@ class Writer:
             return f"({', '.join([repr(original), *given])},)"
         if kind == "constant":
             return str(self.all.constants[where, original])
+        if kind == "definition" and original in FIRST_OF_TWO and len(given) == 2:
+            first = self.fresh()
+            second = f"({given[1]} if {first} == ('None',) else ('None',))"
+            return f"(lambda {first}: made[{where!r}, {original!r}]({first}, {second}))({given[0]})"
         if kind == "definition":
             return self.applied(f"made[{where!r}, {original!r}]", self.all.arity(where, original), given)
         if original not in LIBRARY:
