@@ -20,7 +20,8 @@ NUMBERS = (b"0", b"1", b"00", b"+5", b"-1", b"255", b"256", b"7fffffff", b"42949
            b"576460752303423488", b"9223372036854775807", b"18446744073709551615", b"18446744073709551616", b"9" * 40, b"f" * 16)
 
 PRINTED = re.compile(
-    rb"(?:(?:\d+ (?:\d+|page|clock)(?: [^\n]*)?|edge \d+ \d+ (?:up|down)(?: \d+ [0-9a-f]+)?|final [^\n]*)\n)*"
+    rb"(?:(?:\d+ (?:\d+|page|clock|hv)(?: [^\n]*)?|edge \d+ \d+ (?:up|down)(?: \d+ [0-9a-f]+)?|msg(?: [0-9a-f]+){6}|"
+    rb"final [^\n]*)\n)*"
     rb"(?P<refused>refused \d+ (?P<why>[a-z]+)(?: \d+)?\n)?")
 """A text of whole lines, of which the last may be a refusal."""
 
