@@ -67,6 +67,10 @@ impl Model for LazyBoard {
 }
 
 impl LazyBoard {
+    ghost use Rattle.std.specs.Borrow.{Lends, sem};
+    ghost use Rattle.board_core.specs.contracts.lazy.LazyBoard.{the_row};
+    ghost use Rattle.board_core.specs.contracts.board.BoardState.{the_row as board_row};
+
     /// A board that doesn't lag yet.
     pub fn new(board: BoardState) -> LazyBoard
         ensures { result ≡ board }
@@ -79,35 +83,20 @@ impl LazyBoard {
         }
     }
 
-    /// A copy of the board itself, brought up to its time.
-    #[inline(never)]
-    pub fn state(&self) -> BoardState
-        ensures { result ≡ self.now }
+    /// The board itself, brought up to its time. What its caller makes of it is the board from then on.
+    #[inline(always)]
+    pub fn state_mut(&mut self) -> &mut BoardState
+        ensures* writes_back { sem 𝓛 (Lends the_row board_row self.entry result (λ b. b)) }
+        ensures value { result.now ≡ self.old }
     {
-        let mut board = self.board;
-        board.pass_to(self.host);
-        board
+        self.board.pass_to(self.host);
+        self.host = 0;
+        self.horizon = 0; // whatever its caller changes
+        self.stepped = false;
+        &mut self.board
     }
 
-    /// One access, as `BoardState::access` answers it.
-    pub fn access(&mut self, cpu: u8, h: u64, a: Access) -> Result<Reply, Refusal>
-        requires cpu { cpu < self.old.cpus }
-        requires legal { IsTrue (is_legal self.old.cpus self.old.format a) }
-        ensures refused { IfErr result (λ e. refusal_of self.old cpu h a ≡ Some e) }
-        ensures unchanged { OnErr result (self.new ≡ self.old) }
-        ensures taken { OnOk result (refusal_of self.old cpu h a ≡ None) }
-        ensures reply { IfOk result (λ r. r ≡ reply_of self.old cpu h a) }
-        ensures state { OnOk result (self.new ≡ after_access self.old cpu h a) }
-        ensures of_lines { IfOk result (λ r. All IsOfLine r.edges) }
-        ensures few_run { OnOk result (length (ran_to self.old h).edges ≤ 6) }
-        ensures few { IfOk result (λ r. length r.edges ≤ length (ran_to self.old h).edges + 12) }
-    {
-        let mut reply = Reply::empty();
-        self.answer(cpu, h, a, &mut reply)?;
-        Ok(reply)
-    }
-
-    /// The same into a reply that its caller keeps, without edges and messages in it, as `BoardState::answer` does it.
+    /// One access, into a reply that its caller keeps, without edges and messages in it, as `BoardState::answer` does it.
     #[inline(always)]
     pub fn answer(&mut self, cpu: u8, h: u64, a: Access, reply: &mut Reply) -> Result<(), Refusal>
         requires cpu { cpu < self.old.cpus }
@@ -126,32 +115,8 @@ impl LazyBoard {
     {
         match a {
             Access::Step => self.step(cpu, h, reply),
-            _ => self.act(cpu, h, a, reply),
+            _ => self.state_mut().answer(cpu, h, a, reply),
         }
-    }
-
-    /// An access for which the board is brought up.
-    #[inline(always)]
-    fn act(&mut self, cpu: u8, h: u64, a: Access, reply: &mut Reply) -> Result<(), Refusal>
-        requires cpu { cpu < self.old.cpus }
-        requires legal { IsTrue (is_legal self.old.cpus self.old.format a) }
-        requires fresh { IsFresh reply.old }
-        ensures refused { IfErr result (λ e. refusal_of self.old cpu h a ≡ Some e) }
-        ensures unchanged { OnErr result (self.new ≡ self.old) }
-        ensures untouched { OnErr result (reply.new ≡ reply.old) }
-        ensures taken { OnOk result (refusal_of self.old cpu h a ≡ None) }
-        ensures reply { OnOk result (reply.new ≡ reply_of self.old cpu h a) }
-        ensures state { OnOk result (self.new ≡ after_access self.old cpu h a) }
-        ensures of_lines { OnOk result (All IsOfLine reply.new.edges) }
-        ensures few_run { OnOk result (length (ran_to self.old h).edges ≤ 6) }
-        ensures few { OnOk result
-            (length reply.new.edges ≤ length (ran_to self.old h).edges + 12) }
-    {
-        self.board.pass_to(self.host);
-        self.host = 0;
-        self.horizon = 0; // whatever it changes
-        self.stepped = false;
-        self.board.answer(cpu, h, a, reply)
     }
 
     /// A step: an access that lets time pass, and does nothing else. Before the horizon it is counted.
@@ -216,13 +181,6 @@ impl LazyBoard {
         ensures { result ≡ self.now.cpus }
     {
         self.board.cpus()
-    }
-
-    /// The format, 1 to `board_core::LAST_FORMAT`.
-    pub fn format(&self) -> u8
-        ensures { result ≡ self.now.format }
-    {
-        self.board.format()
     }
 
     /// The time in nanoseconds: that of the greatest count of all accesses.

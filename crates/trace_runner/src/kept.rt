@@ -30,11 +30,4 @@ impl KeptBoard {
             reply: Reply::empty(),
         }
     }
-
-    /// A copy of the board, brought up to its time.
-    pub(crate) fn state(&self) -> BoardState
-        ensures { result ≡ self.now }
-    {
-        self.state.state()
-    }
 }

@@ -9,7 +9,6 @@ ghost use Rattle.trace_runner.specs.Replay.{with_board};
 
 use crate::replay::Replay;
 use crate::status::{Verdict, refuse, refused_cause};
-use board_core::LazyBoard;
 use clk_units::NoMemory;
 use race_phase::{End, NewHost, end_phase};
 use trace_text::Record;
@@ -96,12 +95,8 @@ impl Replay {
             OnOk result (end.new ≡ None → self.new ≡ state_behind (with_board by self.old) self.old) }
         ensures err { OnErr result (StartsWith out.new.items out.old.items) }
     {
-        let mut board = self.board.state();
-        match end_phase(ending, &mut board, &self.deliveries, out)? {
-            None => {
-                self.board.state = LazyBoard::new(board);
-                Ok(())
-            }
+        match end_phase(ending, self.board.state.state_mut(), &self.deliveries, out)? {
+            None => Ok(()),
             Some(fault) => refuse(fault.line, refused_cause(fault.cause), out, end),
         }
     }

@@ -111,7 +111,7 @@ impl Replay {
             }
             Item::Next(record) => self.answer_record(line, record, out, end),
             Item::End => {
-                self::end(&self.board.state(), self.shows_state, out)?;
+                self::end(self.board.state.state_mut(), self.shows_state, out)?;
                 *end = Some(Verdict::Done);
                 Ok(())
             }
