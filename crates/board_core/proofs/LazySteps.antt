@@ -1,16 +1,13 @@
 -- A step before the horizon.
-use Rattle.std.proofs.Common.{◌≡◌, ℕ, ◌+◌, ◌-◌, ◌<◌, ◌≤◌, max, [], None, subst, sym, ap, ◌∙◌, arith}
-use Rattle.clk_units.specs.declared.ranges.TheConstants.{RANGE_NS}
+use Rattle.std.proofs.Common.{◌≡◌, ℕ, ◌+◌, ◌-◌, ◌<◌, ◌≤◌, max, [], None, ◌∙◌, arith}
 use Rattle.host_counter.specs.declared.Anchor.{Anchor}
 use Rattle.host_counter.specs.Time.{time_at}
 use Rattle.host_counter.proofs.Times.{time_at-mono}
-use Rattle.local_apics.specs.Parts.{AreApicPlaces}
 use Rattle.board_types.specs.declared.access.Access.TheVariants.{Step}
 use Rattle.board_types.specs.declared.parts.BoardParts.{BoardParts}
 use Rattle.board_types.specs.declared.parts.TheConstants.{MOST_ACCESSES}
 use Rattle.board_types.specs.declared.reply.Value.TheVariants.{Nothing}
 use Rattle.board_core.specs.Access.{ran_to, after_run, reply_of, after_access}
-use Rattle.board_core.specs.Apics.{apics_in}
 use Rattle.board_core.specs.Conditions.{IsJoined}
 use Rattle.board_core.specs.Quiet.{IsQuiet}
 use Rattle.board_core.specs.Refusals.{refusal_of}

@@ -23,6 +23,7 @@ ghost use Rattle.board_types.specs.Reply.{IsFresh};
 ghost use Rattle.board_core.specs.Time.{time_of_access, HasTime};
 ghost use Rattle.board_core.specs.Access.{ran_to, bursts_to, after_run, reply_of, after_access};
 ghost use Rattle.board_core.specs.Refusals.{refusal_of};
+ghost use Rattle.board_core.specs.Answered.{IsAnswered};
 
 use crate::apics::run_apics;
 use crate::board::BoardState;
@@ -59,16 +60,7 @@ impl BoardState {
         requires cpu { cpu < self.old.cpus }
         requires legal { IsTrue (is_legal self.old.cpus self.old.format a) }
         requires fresh { IsFresh reply.old }
-        ensures refused { IfErr result (λ e. refusal_of self.old cpu h a ≡ Some e) }
-        ensures unchanged { OnErr result (self.new ≡ self.old) }
-        ensures untouched { OnErr result (reply.new ≡ reply.old) }
-        ensures taken { OnOk result (refusal_of self.old cpu h a ≡ None) }
-        ensures reply { OnOk result (reply.new ≡ reply_of self.old cpu h a) }
-        ensures state { OnOk result (self.new ≡ after_access self.old cpu h a) }
-        ensures of_lines { OnOk result (All IsOfLine reply.new.edges) }
-        ensures few_run { OnOk result (length (ran_to self.old h).edges ≤ 6) }
-        ensures few { OnOk result
-            (length reply.new.edges ≤ length (ran_to self.old h).edges + 12) }
+        ensures { IsAnswered self.old cpu h a result self.new reply.old reply.new }
     {
         // In each of these arms the compiler knows the kind, and leaves out what the others need.
         match a {
@@ -102,16 +94,7 @@ impl BoardState {
         requires cpu { cpu < self.old.cpus }
         requires legal { IsTrue (is_legal self.old.cpus self.old.format a) }
         requires fresh { IsFresh reply.old }
-        ensures refused { IfErr result (λ e. refusal_of self.old cpu h a ≡ Some e) }
-        ensures unchanged { OnErr result (self.new ≡ self.old) }
-        ensures untouched { OnErr result (reply.new ≡ reply.old) }
-        ensures taken { OnOk result (refusal_of self.old cpu h a ≡ None) }
-        ensures reply { OnOk result (reply.new ≡ reply_of self.old cpu h a) }
-        ensures state { OnOk result (self.new ≡ after_access self.old cpu h a) }
-        ensures of_lines { OnOk result (All IsOfLine reply.new.edges) }
-        ensures few_run { OnOk result (length (ran_to self.old h).edges ≤ 6) }
-        ensures few { OnOk result
-            (length reply.new.edges ≤ length (ran_to self.old h).edges + 12) }
+        ensures { IsAnswered self.old cpu h a result self.new reply.old reply.new }
     {
         let to = match self.admit(cpu, h, a) {
             Ok(to) => to,

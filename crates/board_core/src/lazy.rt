@@ -6,30 +6,13 @@
 //!
 //! How far nothing comes is looked up after two steps in a row that brought no edge, since it costs as much as the next
 //! edge, some ten such steps. Any other access forgets it.
-ghost use Rattle.std.specs.Prelude.{
-  ◌≡◌,
-  ◌+◌,
-  ◌-◌,
-  ◌<◌,
-  ◌≤◌,
-  IsTrue,
-  IfOk,
-  IfErr,
-  OnOk,
-  OnErr,
-  Some,
-  None,
-  length,
-};
-ghost use Rattle.std.specs.List.{All};
-ghost use Rattle.irq_edges.specs.Lines.{IsOfLine};
+ghost use Rattle.std.specs.Prelude.{◌≡◌, ◌-◌, ◌<◌, IsTrue, IfOk, IfErr, OnOk, OnErr};
 ghost use Rattle.host_counter.specs.Time.{IsFaultAt};
 ghost use Rattle.board_types.specs.Legal.{is_legal};
 ghost use Rattle.board_types.specs.Reply.{IsFresh};
 ghost use Rattle.board_types.specs.declared.access.Access.TheVariants.{Step};
 ghost use Rattle.board_core.specs.Time.{HasTime, now_of};
-ghost use Rattle.board_core.specs.Access.{ran_to, reply_of, after_access};
-ghost use Rattle.board_core.specs.Refusals.{refusal_of};
+ghost use Rattle.board_core.specs.Answered.{IsAnswered};
 ghost use Rattle.board_core.specs.Pages.{page_reply, clock_reply, after_clock};
 ghost use Rattle.board_core.specs.Hv.{hv_reply};
 ghost use Rattle.board_core.specs.Quiet.{IsQuiet};
@@ -102,16 +85,7 @@ impl LazyBoard {
         requires cpu { cpu < self.old.cpus }
         requires legal { IsTrue (is_legal self.old.cpus self.old.format a) }
         requires fresh { IsFresh reply.old }
-        ensures refused { IfErr result (λ e. refusal_of self.old cpu h a ≡ Some e) }
-        ensures unchanged { OnErr result (self.new ≡ self.old) }
-        ensures untouched { OnErr result (reply.new ≡ reply.old) }
-        ensures taken { OnOk result (refusal_of self.old cpu h a ≡ None) }
-        ensures reply { OnOk result (reply.new ≡ reply_of self.old cpu h a) }
-        ensures state { OnOk result (self.new ≡ after_access self.old cpu h a) }
-        ensures of_lines { OnOk result (All IsOfLine reply.new.edges) }
-        ensures few_run { OnOk result (length (ran_to self.old h).edges ≤ 6) }
-        ensures few { OnOk result
-            (length reply.new.edges ≤ length (ran_to self.old h).edges + 12) }
+        ensures { IsAnswered self.old cpu h a result self.new reply.old reply.new }
     {
         match a {
             Access::Step => self.step(cpu, h, reply),
@@ -124,16 +98,7 @@ impl LazyBoard {
     fn step(&mut self, cpu: u8, h: u64, reply: &mut Reply) -> Result<(), Refusal>
         requires cpu { cpu < self.old.cpus }
         requires fresh { IsFresh reply.old }
-        ensures refused { IfErr result (λ e. refusal_of self.old cpu h Step ≡ Some e) }
-        ensures unchanged { OnErr result (self.new ≡ self.old) }
-        ensures untouched { OnErr result (reply.new ≡ reply.old) }
-        ensures taken { OnOk result (refusal_of self.old cpu h Step ≡ None) }
-        ensures reply { OnOk result (reply.new ≡ reply_of self.old cpu h Step) }
-        ensures state { OnOk result (self.new ≡ after_access self.old cpu h Step) }
-        ensures of_lines { OnOk result (All IsOfLine reply.new.edges) }
-        ensures few_run { OnOk result (length (ran_to self.old h).edges ≤ 6) }
-        ensures few { OnOk result
-            (length reply.new.edges ≤ length (ran_to self.old h).edges + 12) }
+        ensures { IsAnswered self.old cpu h Step result self.new reply.old reply.new }
     {
         let start = self.board.anchor().start;
         if h < self.horizon && start <= h && self.board.accesses() < MOST_ACCESSES {
@@ -151,16 +116,7 @@ impl LazyBoard {
     fn run(&mut self, cpu: u8, h: u64, reply: &mut Reply) -> Result<(), Refusal>
         requires cpu { cpu < self.old.cpus }
         requires fresh { IsFresh reply.old }
-        ensures refused { IfErr result (λ e. refusal_of self.old cpu h Step ≡ Some e) }
-        ensures unchanged { OnErr result (self.new ≡ self.old) }
-        ensures untouched { OnErr result (reply.new ≡ reply.old) }
-        ensures taken { OnOk result (refusal_of self.old cpu h Step ≡ None) }
-        ensures reply { OnOk result (reply.new ≡ reply_of self.old cpu h Step) }
-        ensures state { OnOk result (self.new ≡ after_access self.old cpu h Step) }
-        ensures of_lines { OnOk result (All IsOfLine reply.new.edges) }
-        ensures few_run { OnOk result (length (ran_to self.old h).edges ≤ 6) }
-        ensures few { OnOk result
-            (length reply.new.edges ≤ length (ran_to self.old h).edges + 12) }
+        ensures { IsAnswered self.old cpu h Step result self.new reply.old reply.new }
     {
         self.board.pass_to(self.host);
         self.host = 0;

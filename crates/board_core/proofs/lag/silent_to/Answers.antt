@@ -1,4 +1,4 @@
-use Rattle.std.proofs.Common.{ℕ, ◌-◌, ◌<◌, ◌≤◌, ◌+◌, Some, None, sym, ◌∙◌, arith}
+use Rattle.std.proofs.Common.{◌-◌, ◌<◌, ◌≤◌, ◌+◌, Some, None, sym, ◌∙◌, arith}
 use Rattle.board_core.proofs.Messages.{message-in, silent-before}
 use Rattle.board_core.proofs.lag.silent_to.Goals as goal
 

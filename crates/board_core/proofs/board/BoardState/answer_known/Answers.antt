@@ -61,9 +61,9 @@ edges_are b ran h a old mid new run none came act =
     act ∙ ap (λ (es : List Edge). es ++ own_edges ran a) (came ∙ ap (λ (es : List Edge). es ++ (ran_to b h).edges) none)
     ∙ ap (λ (x : BoardParts). (ran_to b h).edges ++ own_edges x a) run
 
-pub returns-clause-reply : goal.returns-clause-reply
+pub returns : goal.returns
 unfolding reply_of
-returns-clause-reply c =
+returns c =
     let b : BoardParts = c.args.self.now in
     let r : Reply = reply_of b c.args.cpu c.args.h c.args.a in
     let after : c.act-value.new.self ≡ after_access b c.args.cpu c.args.h c.args.a =
@@ -72,29 +72,25 @@ returns-clause-reply c =
     ap (λ (x : BoardParts). x.accesses) (c.self.view_is ∙ after) ∙ after_access-accesses b c.args.cpu c.args.h c.args.a in
     let value : c.act-value.result ≡ r.value =
     c.act-value.ensures.value ∙ ap (λ (x : BoardParts). value_at x c.args.cpu c.args.h c.args.a) c.run_to.ensures.state in
-    ap (λ (bs : List Burst). reply bs c.self.inside.accesses c.act-value.result c.act-value.new.edges) c.run_to.ensures.bursts
-    ∙ ap (λ (n : ℕ). reply r.bursts n c.act-value.result c.act-value.new.edges) number
-    ∙ ap (λ (v : Value). reply r.bursts r.number v c.act-value.new.edges) value
-    ∙ ap (reply r.bursts r.number r.value)
-    (edges_are b _ c.args.h c.args.a _ _ _ c.run_to.ensures.state c.requires.fresh.edges c.run_to.ensures.edges c.act-value.ensures.edges)
-
-pub returns-clause-state : goal.returns-clause-state
-returns-clause-state c =
-    state_is c.args.self.now _ _ c.args.cpu c.args.h c.args.a c.run_to.ensures.state c.act-value.ensures.state
-
-pub returns-clause-few : goal.returns-clause-few
-returns-clause-few c =
-    omega (
-      arith,
-      c.act-value.ensures.few,
-      ap length c.run_to.ensures.edges,
-      length-append c.args.reply.now.edges (ran_to c.args.self.now c.args.h).edges,
-      ap length c.requires.fresh.edges,
-    )
-
-pub returns-clause-of_lines : goal.returns-clause-of_lines
-returns-clause-of_lines c =
-    let b : BoardParts = c.args.self.now in
-    subst (λ (es : List Edge). All IsOfLine es)
-    (sym (edges_are b _ c.args.h c.args.a _ _ _ c.run_to.ensures.state c.requires.fresh.edges c.run_to.ensures.edges c.act-value.ensures.edges))
-    (of_lines_edges b c.args.h c.args.a)
+    let edges : c.act-value.new.edges ≡ edges_of b c.args.h c.args.a =
+    edges_are b _ c.args.h c.args.a _ _ _ c.run_to.ensures.state c.requires.fresh.edges c.run_to.ensures.edges c.act-value.ensures.edges in
+    record {
+      refused = tt;
+      unchanged = tt;
+      untouched = tt;
+      taken = c.in-Ok.ensures.taken;
+      reply = ap (λ (bs : List Burst). reply bs c.self.inside.accesses c.act-value.result c.act-value.new.edges) c.run_to.ensures.bursts
+          ∙ ap (λ (n : ℕ). reply r.bursts n c.act-value.result c.act-value.new.edges) number
+          ∙ ap (λ (v : Value). reply r.bursts r.number v c.act-value.new.edges) value
+          ∙ ap (reply r.bursts r.number r.value) edges;
+      state = after;
+      of_lines = subst (λ (es : List Edge). All IsOfLine es) (sym edges) (of_lines_edges b c.args.h c.args.a);
+      few_run = c.run_to.ensures.few;
+      few = omega (
+        arith,
+        c.act-value.ensures.few,
+        ap length c.run_to.ensures.edges,
+        length-append c.args.reply.now.edges (ran_to b c.args.h).edges,
+        ap length c.requires.fresh.edges,
+      );
+    }

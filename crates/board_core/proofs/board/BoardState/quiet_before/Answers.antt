@@ -1,11 +1,10 @@
-use Rattle.std.proofs.Common.{◌≡◌, ℕ, ◌+◌, ◌-◌, ◌<◌, ◌≤◌, false, [], ap, sym, subst, ◌∙◌, arith}
+use Rattle.std.proofs.Common.{◌≡◌, ℕ, ◌+◌, ◌-◌, false, [], sym, subst, arith}
 use Rattle.hpet_bursts.specs.Messages.{message_at}
 use Rattle.board_types.specs.declared.parts.BoardParts.{BoardParts}
 use Rattle.board_devices.specs.Run.{run}
-use Rattle.local_apics.specs.Parts.{AreIdle}
 use Rattle.host_counter.specs.Time.{time_at}
 use Rattle.board_core.specs.Quiet.{IsQuiet}
-use Rattle.board_core.specs.Time.{devices_in, now_of, time_of_access}
+use Rattle.board_core.specs.Time.{devices_in, now_of}
 use Rattle.board_core.specs.View.{board_parts_of}
 use Rattle.board_core.proofs.Joins.{IsQuiet-to}
 use Rattle.board_core.proofs.board.BoardState.quiet_before.Goals as goal

@@ -1,15 +1,21 @@
-use Rattle.std.proofs.Common.{ap, ◌∙◌}
-use Rattle.board_types.specs.declared.access.Access.TheVariants.{Step}
+use Rattle.std.proofs.Common.{◌≡◌, ℕ, Result, sym, subst, ◌∙◌}
+use Rattle.board_types.specs.declared.access.Access.{Access}
 use Rattle.board_types.specs.declared.parts.BoardParts.{BoardParts}
-use Rattle.board_core.specs.Access.{after_access}
+use Rattle.board_types.specs.declared.reply.Refusal.{Refusal}
+use Rattle.board_types.specs.declared.reply.Reply.{Reply}
+use Rattle.board_core.specs.Answered.{IsAnswered}
 use Rattle.board_core.proofs.Joins.{after_run-zero}
 use Rattle.board_core.proofs.lazy.LazyBoard.run.Goals as goal
 
-pub returns-in-Err-clause-unchanged : goal.returns-in-Err-clause-unchanged
-returns-in-Err-clause-unchanged c =
-    after_run-zero c.answer_known.new.self ∙ c.in-Err.ensures.unchanged ∙ c.pass_to.ensures ∙ c.self.view_is
+-- the same of boards equal to those
+answered : {T : Type 0} {b b' after after' : BoardParts} {cpu h : ℕ} {a : Access} {result : Result T Refusal} {before told : Reply}
+    → b ≡ b' → after' ≡ after → IsAnswered b cpu h a result after before told → IsAnswered b' cpu h a result after' before told
+answered {T} {b} {b'} {after} {after'} {cpu} {h} {a} {result} {before} {told} same new is =
+    subst (λ (x : BoardParts). IsAnswered x cpu h a result after' before told) same
+    (subst (λ (x : BoardParts). IsAnswered b cpu h a result x before told) (sym new) is)
 
-pub returns-after-still-clause-state : goal.returns-after-still-clause-state
-returns-after-still-clause-state c =
-    after_run-zero c.answer_known.new.self ∙ c.in-Ok.ensures.state
-    ∙ ap (λ (b : BoardParts). after_access b c.args.cpu c.args.h Step) (c.pass_to.ensures ∙ c.self.view_is)
+pub returns-in-Err : goal.returns-in-Err
+returns-in-Err c = answered (c.pass_to.ensures ∙ c.self.view_is) (after_run-zero c.answer_known.new.self) c.in-Err.ensures
+
+pub returns-after-still : goal.returns-after-still
+returns-after-still c = answered (c.pass_to.ensures ∙ c.self.view_is) (after_run-zero c.answer_known.new.self) c.in-Ok.ensures

@@ -1,4 +1,7 @@
-use Rattle.std.proofs.Common.{◌≡◌, ℕ, ◌+◌, ◌<◌, ◌≤◌, max, List, [], length, ap, sym, subst, ◌∙◌, arith}
+use Rattle.std.proofs.Common.{◌≡◌, ℕ, ◌+◌, ◌<◌, ◌≤◌, List, [], length, None, ap, sym, subst, ◌∙◌, arith}
+use Rattle.std.specs.List.{All}
+use Rattle.std.proofs.lemmas.List.Elements.{All-nil}
+use Rattle.irq_edges.specs.Lines.{IsOfLine}
 use Rattle.irq_edges.specs.declared.edges.Edge.{Edge}
 use Rattle.irq_edges.specs.declared.bursts.Burst.{Burst}
 use Rattle.board_types.specs.declared.access.Access.TheVariants.{Step}
@@ -30,8 +33,8 @@ invariant_of-self c =
     (IsLazy-step (kept c) c.self.inside.host c.self.inside.horizon c.args.cpu c.args.h c.count_access.ensures.joined c.self.invariant c.if-h-self.true
     (started c) ((kept c).accesses + 1)))
 
-pub returns-then-accesses-lt-MOST_ACCESSES-clause-taken : goal.returns-then-accesses-lt-MOST_ACCESSES-clause-taken
-returns-then-accesses-lt-MOST_ACCESSES-clause-taken c =
+taken : (c : After-reply-then-accesses-lt-MOST_ACCESSES-1) → refusal_of c.args.self.now c.args.cpu c.args.h Step ≡ None
+taken c =
     ap (λ (b : BoardParts). refusal_of b c.args.cpu c.args.h Step) (sym c.self.view_is)
     ∙ refusal_of-step (kept c) c.self.inside.host c.self.inside.horizon c.args.cpu c.args.h c.count_access.ensures.joined c.self.invariant c.if-h-self.true
     (started c) (spare c)
@@ -39,9 +42,10 @@ returns-then-accesses-lt-MOST_ACCESSES-clause-taken c =
 reply : ℕ → List Edge → List Burst → Reply
 reply number edges bursts = record { number = number; value = Nothing; edges = edges; bursts = bursts }
 
-pub returns-then-accesses-lt-MOST_ACCESSES-clause-reply : goal.returns-then-accesses-lt-MOST_ACCESSES-clause-reply
+replied : (c : After-reply-then-accesses-lt-MOST_ACCESSES-1)
+    → reply c.accesses-reply.result c.args.reply.now.edges c.args.reply.now.bursts ≡ reply_of c.args.self.now c.args.cpu c.args.h Step
 unfolding reply
-returns-then-accesses-lt-MOST_ACCESSES-clause-reply c =
+replied c =
     let number : c.accesses-reply.result ≡ (kept c).accesses + 1 =
     c.accesses-reply.ensures ∙ ap (λ (b : BoardParts). b.accesses) c.count_access.ensures.state in
     ap (λ (n : ℕ). reply n c.args.reply.now.edges c.args.reply.now.bursts) number
@@ -51,19 +55,34 @@ returns-then-accesses-lt-MOST_ACCESSES-clause-reply c =
     c.if-h-self.true (started c))
     ∙ ap (λ (b : BoardParts). reply_of b c.args.cpu c.args.h Step) c.self.view_is
 
-pub returns-then-accesses-lt-MOST_ACCESSES-clause-state : goal.returns-then-accesses-lt-MOST_ACCESSES-clause-state
-returns-then-accesses-lt-MOST_ACCESSES-clause-state c =
+counted : (c : After-reply-then-accesses-lt-MOST_ACCESSES-1)
+    → after_run c.count_access.new.self c.max-self-inside.result ≡ after_access c.args.self.now c.args.cpu c.args.h Step
+counted c =
     ap (λ (b : BoardParts). after_run b c.max-self-inside.result) c.count_access.ensures.state
     ∙ ap (after_run (record (kept c) { accesses = (kept c).accesses + 1 })) c.max-self-inside.ensures
     ∙ sym (after_access-step (kept c) c.self.inside.host c.self.inside.horizon c.args.cpu c.args.h c.count_access.ensures.joined c.self.invariant
     c.if-h-self.true (started c))
     ∙ ap (λ (b : BoardParts). after_access b c.args.cpu c.args.h Step) c.self.view_is
 
-pub returns-then-accesses-lt-MOST_ACCESSES-clause-few_run : goal.returns-then-accesses-lt-MOST_ACCESSES-clause-few_run
-returns-then-accesses-lt-MOST_ACCESSES-clause-few_run c =
+few_run : (c : After-reply-then-accesses-lt-MOST_ACCESSES-1) → length (ran_to c.args.self.now c.args.h).edges ≤ 6
+few_run c =
     subst (λ (b : BoardParts). length (ran_to b c.args.h).edges ≤ 6) c.self.view_is
     (omega (
       arith,
       ap length (ran_to-step (kept c) c.self.inside.host c.self.inside.horizon c.args.cpu c.args.h c.count_access.ensures.joined
           c.self.invariant c.if-h-self.true (started c)),
     ))
+
+pub returns-then-accesses-lt-MOST_ACCESSES : goal.returns-then-accesses-lt-MOST_ACCESSES
+unfolding reply
+returns-then-accesses-lt-MOST_ACCESSES c = record {
+  refused = tt;
+  unchanged = tt;
+  untouched = tt;
+  taken = taken c;
+  reply = replied c;
+  state = counted c;
+  of_lines = subst (All IsOfLine) (sym c.requires.fresh.edges) (All-nil IsOfLine);
+  few_run = few_run c;
+  few = omega (arith, ap length c.requires.fresh.edges);
+}
