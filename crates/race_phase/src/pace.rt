@@ -3,6 +3,7 @@ ghost use Rattle.std.specs.Prelude.{◌≡◌, ◌<◌, ◌≤◌};
 
 use crate::schedule::Schedule;
 use std::hint::spin_loop;
+use std::sync::Wait;
 
 /// The most records that a worker answers before it gives the lock back, and the fewest where many are left.
 pub(crate) const MOST_AT_ONCE: usize = 16;
@@ -37,7 +38,12 @@ pub(crate) struct Pace<'a> {
 
 impl<'a> Pace<'a> {
     /// The pace of a worker with so many records, which waits at the start line.
-    pub(crate) fn new(schedule: &'a Schedule, worker: u64, records: u64) -> Pace<'a> {
+    pub(crate) fn new<R: Wait>(
+        rt: &R,
+        schedule: &'a Schedule,
+        worker: u64,
+        records: u64,
+    ) -> Pace<'a> {
         let mut pace = Pace {
             schedule,
             worker,
@@ -46,7 +52,7 @@ impl<'a> Pace<'a> {
         if records > 0 && pace.takes_turns(records) {
             schedule.come(worker);
         }
-        schedule.start();
+        schedule.start(rt, records < FEW);
         pace.stir();
         pace
     }

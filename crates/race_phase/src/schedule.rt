@@ -1,13 +1,15 @@
 //! How the workers of a phase meet: they begin together, and take turns where few of their records are left.
 use std::hint::spin_loop;
+use std::sync::Wait;
 use std::sync::atomic::{AtomicU64, Ordering};
 use std::thread::yield_now;
+use std::time::Duration;
 
 /// How often a worker looks in a row before it lets other threads run between two looks: at the start line, where the others
 /// are mostly about to come, and for its turn.
-const START_SPINS: u64 = 4_000;
+const START_SPINS: u64 = 400;
 
-const TURN_SPINS: u64 = 500;
+const TURN_SPINS: u64 = 100;
 
 /// How often a worker lets other threads run as it looks for those that aren't there yet, or for its turn. Where a thread can't
 /// be started, its worker comes after another has ended.
@@ -16,6 +18,17 @@ const MOST_YIELDS: u64 = 2_000;
 /// How often a worker looks for its turn where the one whose turn it is takes none: it has more records left, is at its last
 /// one, or was looked for in vain and hasn't come since.
 const FEW_LOOKS: u64 = 100;
+
+/// How often a worker looks for the start, once all have come.
+const OPENING_LOOKS: u64 = 20_000;
+
+/// How often the last worker to come sleeps before a short phase starts, and for how many microseconds each time.
+const NAPS: u64 = 4;
+
+const NAP_US: u64 = 20;
+
+/// An odd number, by which the chances of one nap are multiplied before those of the next come to them.
+const SPREAD: u64 = 6_364_136_223_846_793_005;
 
 /// How many pauses of the processor come before other threads run: else all looks would be over soon where no other thread
 /// wants the processor.
@@ -42,17 +55,24 @@ fn bit(worker: u64) -> u64 {
 // no scheduler of the host chooses, and a read can still fall into another's publishing. Where it is the turn of one that is
 // at a record the others wait for it too: the first record of a new thread takes as long as some twenty later ones. No wait
 // is without an end: a thread may not be run for long, or be held by the gate.
+//
+// Looks alone are no chance where the host runs the threads on one processor, as an idle one may: they change there at the
+// same looks in each run. How often others look while one sleeps by the host's timer differs even so.
 /// A start line, where a worker waits until all have come, so that none is at its end before another begins; and turns.
 #[derive(Drop)]
 pub(crate) struct Schedule {
     workers: u64,
     there: AtomicU64,
+    /// Not 0 once the workers may begin.
+    started: AtomicU64,
     /// The worker that begins the next record.
     turn: AtomicU64,
     /// A bit for each worker that takes turns.
     taking: AtomicU64,
     /// How often all workers have looked for others, which differs from run to run.
     looks: AtomicU64,
+    /// What the looks of each nap make together.
+    seed: AtomicU64,
 }
 
 impl Schedule {
@@ -61,9 +81,11 @@ impl Schedule {
         Schedule {
             workers,
             there: AtomicU64::new(0),
+            started: AtomicU64::new(0),
             turn: AtomicU64::new(0),
             taking: AtomicU64::new(0),
             looks: AtomicU64::new(0),
+            seed: AtomicU64::new(0),
         }
     }
 
@@ -74,18 +96,54 @@ impl Schedule {
 
     /// A number that differs from run to run.
     pub(crate) fn chance(&self) -> u64 {
-        self.looks.load(Ordering::SeqCst)
+        let seed = self.seed.load(Ordering::SeqCst);
+        seed.wrapping_add(self.looks.load(Ordering::SeqCst))
     }
 
-    /// A worker comes to the start line, and waits a bounded number of looks for the others.
-    pub(crate) fn start(&self) {
-        self.there.fetch_add(1, Ordering::SeqCst);
+    /// A worker comes to the start line, and waits a bounded number of looks for the others. The last one to come lets all
+    /// begin: after a few naps where the phase is short.
+    pub(crate) fn start<R: Wait>(&self, rt: &R, is_short: bool) {
+        let others = self.there.fetch_add(1, Ordering::SeqCst);
+        if others.saturating_add(1) < self.workers {
+            self.wait_for_others();
+            return;
+        }
+        if is_short && others > 0 {
+            self.nap(rt);
+        }
+        self.started.store(1, Ordering::SeqCst);
+    }
+
+    /// Sleeps a few times, and makes a chance of how often the others have looked in each.
+    fn nap<R: Wait>(&self, rt: &R) {
+        for _ in 0..NAPS {
+            self.started
+                .park_timeout(rt, 0, Duration::from_micros(NAP_US));
+            self.seed
+                .store(self.chance().wrapping_mul(SPREAD), Ordering::SeqCst);
+        }
+    }
+
+    /// Waits a bounded number of looks for the others to come.
+    fn wait_for_others(&self) {
         for looks in 0..START_SPINS + MOST_YIELDS {
             if self.there.load(Ordering::SeqCst) >= self.workers {
+                self.wait_for_start();
                 return;
             }
             self.looks.fetch_add(1, Ordering::SeqCst);
             pause(looks, START_SPINS);
+        }
+    }
+
+    /// Waits a bounded number of looks for the start, when all have come.
+    fn wait_for_start(&self) {
+        for _ in 0..OPENING_LOOKS {
+            if self.started.load(Ordering::SeqCst) != 0 {
+                return;
+            }
+            self.looks.fetch_add(1, Ordering::SeqCst);
+            yield_now();
         }
     }
 
@@ -135,7 +193,7 @@ mod tests {
         let schedule = Schedule::new(2);
         let shared = &schedule;
         let come = || -> u64 {
-            shared.start();
+            shared.start(&rt, true);
             shared.there.load(Ordering::SeqCst)
         };
         let (one, two) = join(&rt, come, come);

@@ -48,7 +48,7 @@ pub(crate) fn work<N: Name, R: Wait, G: Gate>(
     let mut places = new_places(alloc, MOST_AT_ONCE)?;
     let mut text = Vec::new(alloc);
     let mut batch = Vec::new(alloc);
-    let mut pace = Pace::new(schedule, cpu, left);
+    let mut pace = Pace::new(rt, schedule, cpu, left);
     let mut at_once = pace.next(left);
     let mut index = 0;
     for place in 0..lines.len() {
