@@ -22,12 +22,15 @@ const FEW_LOOKS: u64 = 100;
 /// How often a worker looks for the start, once all have come.
 const OPENING_LOOKS: u64 = 20_000;
 
-/// How often the last worker to come sleeps before a short phase starts, and for how many microseconds each time.
-const NAPS: u64 = 4;
+/// How often the last worker to come lets the others look before a short phase starts, for how many pauses of the processor
+/// each time, and for how many microseconds it sleeps where they can't look beside it.
+const ROUNDS: u64 = 3;
+
+const ROUND_PAUSES: u64 = 200;
 
 const NAP_US: u64 = 20;
 
-/// An odd number, by which the chances of one nap are multiplied before those of the next come to them.
+/// An odd number, by which the chance of one round is multiplied before that of the next comes to it.
 const SPREAD: u64 = 6_364_136_223_846_793_005;
 
 /// How many pauses of the processor come before other threads run: else all looks would be over soon where no other thread
@@ -57,7 +60,8 @@ fn bit(worker: u64) -> u64 {
 // is without an end: a thread may not be run for long, or be held by the gate.
 //
 // Looks alone are no chance where the host runs the threads on one processor, as an idle one may: they change there at the
-// same looks in each run. How often others look while one sleeps by the host's timer differs even so.
+// same looks in each run. How often others look while one sleeps by the host's timer differs even so. On processors of their
+// own it differs without a sleep, which takes longer than a thread does to start.
 /// A start line, where a worker waits until all have come, so that none is at its end before another begins; and turns.
 #[derive(Drop)]
 pub(crate) struct Schedule {
@@ -71,7 +75,7 @@ pub(crate) struct Schedule {
     taking: AtomicU64,
     /// How often all workers have looked for others, which differs from run to run.
     looks: AtomicU64,
-    /// What the looks of each nap make together.
+    /// What the looks of each round before the start make together.
     seed: AtomicU64,
 }
 
@@ -101,7 +105,7 @@ impl Schedule {
     }
 
     /// A worker comes to the start line, and waits a bounded number of looks for the others. The last one to come lets all
-    /// begin: after a few naps where the phase is short.
+    /// begin: after a few rounds of looks where the phase is short.
     pub(crate) fn start<R: Wait>(&self, rt: &R, is_short: bool) {
         let others = self.there.fetch_add(1, Ordering::SeqCst);
         if others.saturating_add(1) < self.workers {
@@ -109,18 +113,24 @@ impl Schedule {
             return;
         }
         if is_short && others > 0 {
-            self.nap(rt);
+            for _ in 0..ROUNDS {
+                self.let_others_look(rt);
+                let chance = self.chance().wrapping_mul(SPREAD);
+                self.seed.store(chance, Ordering::SeqCst);
+            }
         }
         self.started.store(1, Ordering::SeqCst);
     }
 
-    /// Sleeps a few times, and makes a chance of how often the others have looked in each.
-    fn nap<R: Wait>(&self, rt: &R) {
-        for _ in 0..NAPS {
-            self.started
-                .park_timeout(rt, 0, Duration::from_micros(NAP_US));
-            self.seed
-                .store(self.chance().wrapping_mul(SPREAD), Ordering::SeqCst);
+    /// Lets the others look for a short while. Where none of them runs beside this worker, it sleeps.
+    fn let_others_look<R: Wait>(&self, rt: &R) {
+        let before = self.looks.load(Ordering::SeqCst);
+        for _ in 0..ROUND_PAUSES {
+            spin_loop();
+        }
+        if self.looks.load(Ordering::SeqCst) == before {
+            let nap = Duration::from_micros(NAP_US);
+            self.started.park_timeout(rt, 0, nap);
         }
     }
 
