@@ -19,9 +19,9 @@ SIGNS = {"×": "({} and {})", "⊎": "({} or {})", "<": "({} < {})", "≤": "({}
          "&&": "({} and {})", "||": "({} or {})", "==": "({} == {})", "≡": "({} == {})", "≢": "({} != {})",
          "∷": "[{}, *{}]", "++": "({} + {})", "+": "({} + {})", "-": "max({} - {}, 0)", "*": "({} * {})",
          "/": "quotient({}, {})", "%": "remainder({}, {})", "^": "({} ** {})"}
-# Definitions that give the first of two faults. The second is computed only where it is asked for: it may be that of a run of
-# years, on a board that the first one refuses.
-FIRST_OF_TWO = ("or_fault", "or_cause")
+# The word that gives the first of two values. The second is computed only where it is asked for: it may be the fault of a run
+# of years, on a board that the first one refuses.
+FIRST_OF_TWO = "option_or"
 
 
 class Gap(Exception):
@@ -132,8 +132,9 @@ LIBRARY: dict[str, object] = {
     "get_or": lambda xs, k, other: xs[k] if k < len(xs) else other, "tt": (),
     "slice_set": set_place, "set": set_place, "slice_split": split,
     "slice_range": lambda a, b, xs: xs[a:b],
-    "option_map": lambda f, x: ("Some", f(x[1])) if x[0] == "Some" else x,
-    "option_map_or": lambda other, f, x: f(x[1]) if x[0] == "Some" else other,
+    "option_map": lambda f, x: ("Some", f(x[1]) if callable(f) else (*f, x[1])) if x[0] == "Some" else x,
+    "option_map_or": lambda f, x, other: f(x[1]) if x[0] == "Some" else other,
+    "result_ok": lambda r: ("Some", r[1]) if r[0] == "Ok" else ("None",),
     "option_and_then": lambda f, x: f(x[1]) if x[0] == "Some" else x,
     "is_some": lambda x: x[0] == "Some", "is_none": lambda x: x[0] == "None",
     "unwrap_or": lambda x, other: x[1] if x[0] == "Some" else other,
@@ -314,10 +315,9 @@ class Writer:
             return f"({', '.join([repr(original), *given])},)"
         if kind == "constant":
             return str(self.all.constants[where, original])
-        if kind == "definition" and original in FIRST_OF_TWO and len(given) == 2:
+        if original == FIRST_OF_TWO and len(given) == 2:
             first = self.fresh()
-            second = f"({given[1]} if {first} == ('None',) else ('None',))"
-            return f"(lambda {first}: made[{where!r}, {original!r}]({first}, {second}))({given[0]})"
+            return f"(lambda {first}: {given[1]} if {first} == ('None',) else {first})({given[0]})"
         if kind == "definition":
             return self.applied(f"made[{where!r}, {original!r}]", self.all.arity(where, original), given)
         if original not in LIBRARY:

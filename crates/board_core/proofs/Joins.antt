@@ -1,12 +1,13 @@
 -- Two runs one after the other are one run, and times in which nothing comes.
-use Rattle.std.proofs.Common.{◌≡◌, ℕ, zero, suc, ◌+◌, ◌-◌, ◌*◌, ◌/◌, ◌<◌, ◌≤◌, Bool, true, false, cond, ltb, leb, max, List, [], ◌∷◌, ◌++◌, Some, None, refl, sym, ap, subst, ◌∙◌, append_assoc, append-nil, arith}
+use Rattle.std.proofs.Common.{◌≡◌, ℕ, zero, suc, ◌+◌, ◌-◌, ◌*◌, ◌/◌, ◌<◌, ◌≤◌, Bool, false, cond, leb, max, List, [], ◌∷◌, ◌++◌, Option, Some, None, option_map, refl, sym, ap, subst, ◌∙◌, append_assoc, append-nil, arith}
+use Rattle.std.specs.Option.{option_or}
 use Rattle.std.proofs.Math.Nat.{zero-div}
-use Rattle.std.proofs.lemmas.Bool.{le-ltb, lt-leb, false≢true}
-use Rattle.clk_units.specs.declared.ranges.TheConstants.{RANGE_NS}
+use Rattle.std.proofs.lemmas.Bool.{lt-leb}
 use Rattle.irq_edges.specs.declared.edges.Edge.{Edge}
 use Rattle.irq_edges.specs.declared.bursts.Burst.{Burst}
 use Rattle.irq_edges.specs.Lines.{changes, line_numbers}
 use Rattle.host_counter.specs.declared.Anchor.{Anchor}
+use Rattle.host_counter.specs.declared.TimeFault.{TimeFault}
 use Rattle.host_counter.specs.Time.{time_at}
 use Rattle.host_counter.proofs.Times.{time_at-mono}
 use Rattle.clk_units.specs.Pulses.{pulses_from}
@@ -22,7 +23,7 @@ use Rattle.board_types.specs.declared.access.Access.{Access}
 use Rattle.board_types.specs.declared.access.Access.TheVariants.{Step}
 use Rattle.board_types.specs.declared.parts.BoardParts.{BoardParts}
 use Rattle.board_types.specs.declared.parts.TheConstants.{MOST_ACCESSES}
-use Rattle.board_types.specs.declared.reply.Refusal.TheVariants.{BeforeStart, OutOfRange, Spent}
+use Rattle.board_types.specs.declared.reply.Refusal.TheVariants.{Spent}
 use Rattle.board_types.specs.declared.reply.Reply.{Reply}
 use Rattle.board_types.specs.declared.reply.Value.TheVariants.{Nothing}
 use Rattle.board_devices.specs.declared.parts.DeviceParts.{DeviceParts}
@@ -34,12 +35,12 @@ use Rattle.board_core.specs.Access.{ran_to, bursts_to, after_run, before_look, a
 use Rattle.board_core.specs.Apics.{apics_in, tscs_by_time, after_look, with_apics}
 use Rattle.board_core.specs.Nanosecond.{passed, passed_times}
 use Rattle.board_core.specs.Quiet.{IsQuiet}
-use Rattle.board_core.specs.Refusals.{refusal_of}
+use Rattle.board_core.specs.Refusals.{untimed, refusal_of}
 use Rattle.board_core.proofs.Messages.{hpet-run, bursts-silent, message_at-later}
 use Rattle.board_core.proofs.Kept.{own-none, rises-kept, devices-kept, processors-kept, hv-kept, apics-kept}
 use Rattle.board_core.proofs.Nanoseconds.{after_run-nanoseconds}
 use Rattle.board_core.proofs.Steps.{with_parts-is}
-use Rattle.board_core.proofs.Times.{time_at_max}
+use Rattle.board_core.proofs.Times.{time_at_max, no_fault-of_time}
 
 -- the devices: m nanoseconds, and then n more
 state-zero : (t : ℕ) (d : DeviceParts) → (run t 0 d).state ≡ d
@@ -313,12 +314,6 @@ refusal_of-after_run b cpu g h a = refl
 pub step-taken : (b : BoardParts) (cpu h : ℕ) → HasTime b.anchor h → b.accesses < MOST_ACCESSES → refusal_of b cpu h Step ≡ None
 unfolding refusal_of
 step-taken b cpu h time few =
-    by (ltb h b.anchor.start) (leb RANGE_NS (time_at b.anchor h)) (leb MOST_ACCESSES b.accesses) (le-ltb h b.anchor.start time.started)
-    (lt-leb RANGE_NS (time_at b.anchor h) time.range) (lt-leb MOST_ACCESSES b.accesses few)
-  where
-    by : (x y z : Bool) → x ≡ false → y ≡ false → z ≡ false
-        → cond x (Some (BeforeStart b.anchor.start)) (cond y (Some (OutOfRange (time_at b.anchor h))) (cond z (Some (Spent b.accesses)) None)) ≡ None
-    by false false false e f g = refl
-    by true y z e f g = absurd (false≢true (sym e))
-    by false true z e f g = absurd (false≢true (sym f))
-    by false false true e f g = absurd (false≢true (sym g))
+    ap (λ (o : Option TimeFault). option_or (option_map untimed o) (cond (leb MOST_ACCESSES b.accesses) (Some (Spent b.accesses)) None))
+    (no_fault-of_time b.anchor h time)
+    ∙ ap (λ (spent : Bool). cond spent (Some (Spent b.accesses)) None) (lt-leb MOST_ACCESSES b.accesses few)

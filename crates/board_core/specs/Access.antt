@@ -15,22 +15,7 @@ use Rattle.irq_edges.specs.declared.bursts.Burst.{Burst}
 use Rattle.irq_edges.specs.Lines.{line_numbers}
 use Rattle.hpet_bursts.specs.Bursts.{bursts_of}
 use Rattle.board_types.specs.declared.access.Access.{Access}
-use Rattle.board_types.specs.declared.access.Access.TheVariants.{
-  PortIn,
-  PortOut,
-  HpetRead,
-  HpetWrite,
-  MsrRead,
-  MsrWrite,
-  Ack,
-  Step,
-  Refresh,
-  Wall,
-  CountsOf,
-  Next,
-  Rose,
-  Eoi,
-}
+use Rattle.board_types.specs.declared.access.Access.TheVariants.{PortIn, PortOut, HpetRead, HpetWrite, MsrRead, Ack, Wall, CountsOf, Next, Rose}
 use Rattle.board_types.specs.declared.access.TickSource.{TickSource}
 use Rattle.board_types.specs.declared.access.TickSource.TheVariants.{Pit, Rtc, Hpet, Apic}
 use Rattle.tick_policy.specs.declared.parts.Counts.{Counts as TickCounts}
@@ -64,12 +49,12 @@ use Rattle.board_devices.specs.declared.act.Act.TheVariants.{
 use Rattle.board_devices.specs.Places.{no_line}
 use Rattle.board_devices.specs.Run.{Ran, run}
 use Rattle.board_devices.specs.Act.{acted, act_edges, value_of}
-use Rattle.board_core.specs.Time.{devices_in, now_of, time_of_access}
+use Rattle.board_core.specs.Time.{devices_in, with_devices, now_of, time_of_access}
 use Rattle.board_core.specs.Tsc.{msr_read}
 use Rattle.board_core.specs.Pages.{processors_after}
 use Rattle.board_core.specs.Wall.{wall_number_after, wall_version_after, wall_words}
 use Rattle.board_core.specs.Hv.{hv_after}
-use Rattle.board_core.specs.Apics.{apics_in, tscs_by_time, apics_acted, after_look}
+use Rattle.board_core.specs.Apics.{apics_in, with_apics, tscs_by_time, apics_acted, after_look}
 use Rattle.board_core.specs.Next.{next_of}
 use Rattle.board_core.specs.Rises.{rises_after, count_at}
 
@@ -91,16 +76,8 @@ act_of (PortIn port) = read_of_port port
 act_of (PortOut port byte) = write_of_port port byte
 act_of (HpetRead offset width) = ReadHpet offset width
 act_of (HpetWrite offset width value) = WriteHpet offset width value
-act_of (MsrRead msr) = NoAct
-act_of (MsrWrite msr value) = NoAct
 act_of (Ack line) = AckLine line
-act_of Step = NoAct
-act_of (Refresh page) = NoAct
-act_of Wall = NoAct
-act_of (CountsOf from) = NoAct
-act_of Next = NoAct
-act_of (Rose line) = NoAct
-act_of Eoi = NoAct
+act_of _ = NoAct
 
 -- the run up to the time of an access at count h: what it leaves, and its edges
 abbrev pub ran_to : BoardParts → ℕ → Ran
@@ -118,16 +95,9 @@ bursts_to b h = bursts_of (now_of b) (time_of_access b h - now_of b) b.hpet
 
 -- the board at that time, with the access still to come
 unfoldable pub after_run : BoardParts → ℕ → BoardParts
-after_run b h = record b {
+after_run b h = record (with_apics (apics_ran_to b h) (with_devices (ran_to b h).state b)) {
   host = max b.host h;
-  pit = (ran_to b h).state.pit;
-  rtc = (ran_to b h).state.rtc;
-  hpet = (ran_to b h).state.hpet;
-  ticks = (ran_to b h).state.ticks;
-  slew_ns = (ran_to b h).state.slew_ns;
   rises = rises_after b.format (ran_to b h).edges b.rises;
-  apic = (apics_ran_to b h).timers;
-  apic_ticks = (apics_ran_to b h).lines;
 }
 
 -- the counts of a source's tick line, among the lines of the devices and those of local APICs
@@ -141,20 +111,14 @@ counts_of ticks apic_ticks (Apic cpu) = (slice_index_or apic_ticks cpu no_line).
 -- HPET a word of the width, an MSR and a count of rises a word of 8 bytes
 unfoldable pub value_at : BoardParts → ℕ → ℕ → Access → Value
 value_at b cpu h (PortIn port) = Byte (value_of (now_of b) (read_of_port port) (devices_in b))
-value_at b cpu h (PortOut port byte) = Nothing
 value_at b cpu h (HpetRead offset width) =
     Word width (value_of (now_of b) (ReadHpet offset width) (devices_in b))
-value_at b cpu h (HpetWrite offset width value) = Nothing
 value_at b cpu h (MsrRead msr) = Word 8 (msr_read b cpu h msr)
-value_at b cpu h (MsrWrite msr value) = Nothing
-value_at b cpu h (Ack line) = Nothing
-value_at b cpu h Step = Nothing
-value_at b cpu h (Refresh page) = Nothing
 value_at b cpu h Wall = wall_words b
 value_at b cpu h (CountsOf from) = Counts (counts_of b.ticks b.apic_ticks from)
 value_at b cpu h Next = NextEdge (next_of (now_of b) (devices_in b))
 value_at b cpu h (Rose line) = Word 8 (count_at line_numbers b.rises line)
-value_at b cpu h Eoi = Nothing
+value_at b cpu h _ = Nothing
 
 -- the edges of the access itself, part after part
 abbrev pub own_edges : BoardParts → Access → List Edge
@@ -165,20 +129,13 @@ own_edges b a = act_edges (now_of b) (act_of a) (devices_in b)
 unfoldable pub before_look : BoardParts → ℕ → ℕ → Access → BoardParts
 before_look b cpu h a =
     let d : DeviceParts = acted (act_of a) (devices_in b) in
-    record b {
+    record (with_apics (apics_acted cpu a (apics_in b)) (with_devices d b)) {
       accesses = b.accesses + 1;
-      pit = d.pit;
-      rtc = d.rtc;
-      hpet = d.hpet;
-      ticks = d.ticks;
-      slew_ns = d.slew_ns;
       wall_number = wall_number_after a b.wall_number;
       wall_version = wall_version_after a b.wall_version;
       processors = processors_after b.anchor b.guest_khz cpu h a b.processors;
       rises = rises_after b.format (own_edges b a) b.rises;
       hv = hv_after b.anchor b.guest_khz cpu h a b.processors b.hv;
-      apic = (apics_acted cpu a (apics_in b)).timers;
-      apic_ticks = (apics_acted cpu a (apics_in b)).lines;
     }
 
 -- .. and after the look, which takes the TSCs that the access leaves, at the board's time

@@ -86,7 +86,11 @@ hv_published_at_host b = record b {
       else b.hv;
 }
 
--- a read of the page at count h: the time that it gives at the TSC there, by the page's own offset
+-- what a read of the page is answered at count h: the time that it gives at the TSC there, by the
+-- page's own offset
+abbrev pub hv_answer_by : ℕ → HvPage → ℕ → HvReply
+hv_answer_by ratio page h = reply page (tsc_by page.tsc_offset h ratio)
+
+-- a read of a board's page at count h
 unfoldable pub hv_reply : BoardParts → ℕ → HvReply
-hv_reply b h =
-    reply (hv_in b.hv) (tsc_by b.hv.tsc_offset h (ratio_of b.guest_khz b.anchor.khz))
+hv_reply b h = hv_answer_by (ratio_of b.guest_khz b.anchor.khz) (hv_in b.hv) h

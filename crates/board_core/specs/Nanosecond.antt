@@ -4,24 +4,17 @@ use Rattle.local_apics.specs.declared.parts.ApicsParts.{ApicsParts}
 use Rattle.local_apics.specs.Nanosecond.{at_nanosecond}
 use Rattle.board_types.specs.declared.parts.BoardParts.{BoardParts}
 use Rattle.board_devices.specs.Run.{Ran, onward}
-use Rattle.board_core.specs.Apics.{apics_in, tscs_by_time}
+use Rattle.board_core.specs.Apics.{apics_in, with_apics, tscs_by_time}
 use Rattle.board_core.specs.Rises.{rises_after}
-use Rattle.board_core.specs.Time.{devices_in}
+use Rattle.board_core.specs.Time.{devices_in, with_devices}
 
 -- nanosecond t: that of the devices, with its edges, and then that of each processor's timer
 unfoldable pub passed : ℕ → BoardParts → BoardParts
 passed t b =
     let r : Ran = onward t (record { state = devices_in b; edges = [] }) in
     let a : ApicsParts = at_nanosecond (λ k. tscs_by_time b k t) (apics_in b) in
-    record b {
-      pit = r.state.pit;
-      rtc = r.state.rtc;
-      hpet = r.state.hpet;
-      ticks = r.state.ticks;
-      slew_ns = r.state.slew_ns;
+    record (with_apics a (with_devices r.state b)) {
       rises = rises_after b.format r.edges b.rises;
-      apic = a.timers;
-      apic_ticks = a.lines;
     }
 
 -- the n nanoseconds after nanosecond t

@@ -104,14 +104,19 @@ published_at_host cpu tsc flags b = record b {
       (published b.anchor b.guest_khz b.host flags (with_tsc tsc (processor_at b cpu)));
 }
 
--- a read of a page at count h: the time that it gives at the TSC there, by the page's own offset
+-- the time that a page gives at count h, by the ratio of the guest's TSC to the host's counter: that
+-- at the TSC there, by the page's own offset
+abbrev pub reading_by : ℕ → Page → ℕ → ℕ
+reading_by ratio page h = reading_of page (tsc_by page.offset h ratio)
+
+-- what a read of a page is answered
+abbrev pub answer_by : ℕ → Page → ℕ → PageReply
+answer_by ratio page h = if page.enabled then On page (reading_by ratio page h) else Off
+
+-- a read of the page of a processor at count h
 unfoldable pub page_reply : BoardParts → ℕ → ℕ → PageReply
 page_reply b cpu h =
-    if (page_in (processor_at b cpu)).enabled then
-    On (page_in (processor_at b cpu))
-    (reading_of (page_in (processor_at b cpu))
-    (tsc_by (page_in (processor_at b cpu)).offset h (ratio_of b.guest_khz b.anchor.khz)))
-    else Off
+    answer_by (ratio_of b.guest_khz b.anchor.khz) (page_in (processor_at b cpu)) h
 
 -- the clamp: a clock reads the greater of a page's reading and of all readings before
 abbrev pub clamped : ℕ → PageReply → ClockReply

@@ -3,10 +3,9 @@ use Rattle.std.specs.Prelude.{ℕ, ◌+◌}
 use Rattle.board_types.specs.declared.parts.BoardParts.{BoardParts}
 use Rattle.local_apics.specs.declared.parts.ApicsParts.{ApicsParts}
 use Rattle.local_apics.specs.Nanosecond.{run as run_apics}
-use Rattle.board_devices.specs.declared.parts.DeviceParts.{DeviceParts}
-use Rattle.board_devices.specs.Run.{run}
-use Rattle.board_core.specs.Time.{devices_in, now_of}
-use Rattle.board_core.specs.Apics.{apics_in, tscs_by_time}
+use Rattle.board_devices.specs.Run.{Ran, run}
+use Rattle.board_core.specs.Time.{devices_in, with_devices, now_of}
+use Rattle.board_core.specs.Apics.{apics_in, with_apics, tscs_by_time}
 use Rattle.board_core.specs.Rises.{rises_after}
 
 -- the board runs gap nanoseconds, by the old anchor; then count `start` of a counter of this rate
@@ -14,17 +13,10 @@ use Rattle.board_core.specs.Rises.{rises_after}
 -- follows (own)
 unfoldable pub reanchored : ℕ → ℕ → ℕ → BoardParts → BoardParts
 reanchored khz start gap b =
-    let d : DeviceParts = (run (now_of b) gap (devices_in b)).state in
+    let r : Ran = run (now_of b) gap (devices_in b) in
     let a : ApicsParts = run_apics (tscs_by_time b) (now_of b) gap (apics_in b) in
-    record b {
+    record (with_apics a (with_devices r.state b)) {
       anchor = record { khz = khz; start = start; base_ns = now_of b + gap };
       host = start;
-      pit = d.pit;
-      rtc = d.rtc;
-      hpet = d.hpet;
-      ticks = d.ticks;
-      slew_ns = d.slew_ns;
-      rises = rises_after b.format (run (now_of b) gap (devices_in b)).edges b.rises;
-      apic = a.timers;
-      apic_ticks = a.lines;
+      rises = rises_after b.format r.edges b.rises;
     }

@@ -1,7 +1,6 @@
 -- Why an access is refused.
 use Rattle.std.specs.Prelude.{
   ℕ,
-  nat_lt,
   nat_le,
   if◌then◌else◌,
   List,
@@ -10,8 +9,12 @@ use Rattle.std.specs.Prelude.{
   Some,
   None,
 }
-use Rattle.clk_units.specs.declared.ranges.TheConstants.{RANGE_NS}
-use Rattle.host_counter.specs.Time.{time_at}
+use Rattle.std.specs.Option.{option_or, option_map}
+use Rattle.host_counter.specs.declared.TimeFault.{TimeFault}
+use Rattle.host_counter.specs.declared.TimeFault.TheVariants.{
+  BeforeStart as FaultBeforeStart,
+  OutOfRange as FaultOutOfRange,
+}
 use Rattle.board_types.specs.declared.access.Access.{Access}
 use Rattle.board_types.specs.declared.parts.BoardParts.{BoardParts}
 use Rattle.board_types.specs.declared.parts.ProcessorParts.{ProcessorParts}
@@ -23,6 +26,7 @@ use Rattle.board_types.specs.declared.reply.Refusal.TheVariants.{
   VersionsSpent,
   Spent,
 }
+use Rattle.board_core.specs.Time.{time_fault}
 use Rattle.board_core.specs.Tsc.{no_processor}
 use Rattle.board_core.specs.Pages.{published_by}
 use Rattle.board_core.specs.Hv.{publishes_hv}
@@ -46,11 +50,15 @@ spent_version None next = next
 spent_version (Some version) next =
     if nat_le LAST_VERSION version then Some (VersionsSpent version) else next
 
--- why an access at count h is refused, the causes in this order: the count is before the anchor's;
--- its time is `RANGE_NS` or more; a version is spent; the accesses are spent
+-- a count without a time, as a refusal
+abbrev pub untimed : TimeFault → Refusal
+untimed (FaultBeforeStart start) = BeforeStart start
+untimed (FaultOutOfRange ns) = OutOfRange ns
+
+-- why an access at count h is refused, the causes in this order: the count has no time; a version is
+-- spent; the accesses are spent
 unfoldable pub refusal_of : BoardParts → ℕ → ℕ → Access → Option Refusal
 refusal_of b cpu h a =
-    if nat_lt h b.anchor.start then Some (BeforeStart b.anchor.start)
-    else (if nat_le RANGE_NS (time_at b.anchor h) then Some (OutOfRange (time_at b.anchor h))
-    else spent_version (raised_version b.processors b.wall_version b.hv.version cpu a)
+    option_or (option_map untimed (time_fault b.anchor h))
+    (spent_version (raised_version b.processors b.wall_version b.hv.version cpu a)
     (if nat_le MOST_ACCESSES b.accesses then Some (Spent b.accesses) else None))

@@ -7,7 +7,7 @@ use Rattle.board_types.specs.declared.setup.TheConstants.{APIC_FORMAT}
 use Rattle.board_types.specs.Setup.{has_messages}
 use Rattle.board_devices.specs.declared.parts.DeviceParts.{DeviceParts}
 use Rattle.board_devices.specs.Parts.{devices_upgraded}
-use Rattle.board_core.specs.Apics.{apics_in}
+use Rattle.board_core.specs.Apics.{apics_in, with_apics}
 use Rattle.board_core.specs.Time.{devices_in}
 
 -- whether the HPET of a format has eight timers, as from format 2 on
@@ -29,10 +29,8 @@ unfoldable pub upgraded_to : ℕ → BoardParts → BoardParts
 upgraded_to to b =
     let d : DeviceParts = devices_upgraded (has_messages to) (devices_in b) in
     let a : ApicsParts = apics_upgraded b.cpus (gets_apics b.format to) (apics_in b) in
-    record b {
+    record (with_apics a b) {
       format = to;
       hpet = if has_eight_timers to then d.hpet else b.hpet;
       ticks = if has_eight_timers to then d.ticks else b.ticks;
-      apic = a.timers;
-      apic_ticks = a.lines;
     }

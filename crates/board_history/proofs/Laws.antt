@@ -74,7 +74,7 @@ get_or-replicate (suc n) (suc c) = get_or-replicate n c
 
 pub no_board-version : (c : ℕ) → version_after [] c ≡ 0
 unfolding no_board
-no_board-version c = by (eqb c 0)
+no_board-version c = by (eqb c 1)
   where
     by : (t : Bool) → (page_if t no_board c).version ≡ 0
     by true = refl

@@ -1,20 +1,23 @@
 -- Why an access is refused, and that boards of the same counts refuse alike.
-use Rattle.std.proofs.Common.{◌≡◌, ◌⊎◌, ℕ, ◌≤◌, ltb, leb, List, get_or, refl, sym, ap, ◌∙◌, arith, Bool, true, false, cond, Option, None, Some, inl, inr}
+use Rattle.std.proofs.Common.{◌≡◌, ◌⊎◌, ℕ, ◌≤◌, ltb, leb, List, get_or, refl, sym, ap, ◌∙◌, arith, Bool, true, false, cond, Option, None, Some, option_map, inl, inr}
+use Rattle.std.specs.Option.{option_or}
 use Rattle.std.proofs.lemmas.Bool.{ltb-true, leb-true}
 use Rattle.clk_units.specs.declared.ranges.TheConstants.{RANGE_NS}
 use Rattle.host_counter.specs.declared.Anchor.{Anchor}
+use Rattle.host_counter.specs.declared.TimeFault.TheVariants.{BeforeStart, OutOfRange}
 use Rattle.host_counter.specs.Time.{time_at}
 use Rattle.board_types.specs.declared.access.Access.{Access}
 use Rattle.board_types.specs.declared.parts.BoardParts.{BoardParts}
 use Rattle.board_types.specs.declared.parts.ProcessorParts.{ProcessorParts}
 use Rattle.board_types.specs.declared.parts.TheConstants.{LAST_VERSION, MOST_ACCESSES}
 use Rattle.board_types.specs.declared.reply.Refusal.{Refusal}
-use Rattle.board_types.specs.declared.reply.Refusal.TheVariants.{BeforeStart, OutOfRange, VersionsSpent, Spent}
+use Rattle.board_types.specs.declared.reply.Refusal.TheVariants.{VersionsSpent, Spent}
+use Rattle.board_core.specs.Time.{time_fault}
 use Rattle.board_core.specs.Tsc.{no_processor}
 use Rattle.board_core.specs.Pages.{published_by}
 use Rattle.board_core.specs.Wall.{publishes_wall}
 use Rattle.board_core.specs.Hv.{publishes_hv}
-use Rattle.board_core.specs.Refusals.{version_at, raised_version, spent_version, refusal_of}
+use Rattle.board_core.specs.Refusals.{version_at, raised_version, spent_version, untimed, refusal_of}
 use Rattle.board_history.specs.Counts.{HasNoTime, IsAtLastVersion, SameCounts}
 
 -- one of two causes
@@ -51,20 +54,28 @@ raised_at b cpu n a is last = by (publishes_wall a) refl is
     by true w e = inl (w, (let same : b.wall_version ≡ n = cc e in omega arith))
     by false w e = by_hv (publishes_hv a) refl e
 
+time_or_rest : (anchor : Anchor) (h : ℕ) (f : Refusal) (rest : Option Refusal) → option_or (option_map untimed (time_fault anchor h)) rest ≡ Some f
+    → HasNoTime anchor h ⊎ (rest ≡ Some f)
+time_or_rest anchor h f rest is = by (ltb h anchor.start) (leb RANGE_NS (time_at anchor h)) refl refl is
+  where
+    by : (early late : Bool) → ltb h anchor.start ≡ early → leb RANGE_NS (time_at anchor h) ≡ late
+        → option_or (option_map untimed (cond early (Some (BeforeStart anchor.start)) (cond late (Some (OutOfRange (time_at anchor h))) None))) rest ≡ Some f
+        → HasNoTime anchor h ⊎ (rest ≡ Some f)
+    by true late e g is = inl (inl (ltb-true h anchor.start e))
+    by false true e g is = inl (inr (leb-true RANGE_NS (time_at anchor h) g))
+    by false false e g is = inr is
+
 -- the causes of a refusal: the time, a version, the number of accesses
 pub refused_why : (b : BoardParts) (cpu h : ℕ) (a : Access) (f : Refusal) → refusal_of b cpu h a ≡ Some f
     → HasNoTime b.anchor h ⊎ (IsAtLastVersion b cpu a ⊎ (MOST_ACCESSES ≤ b.accesses))
 unfolding refusal_of
-refused_why b cpu h a f is = elim (this_or_rest (ltb h b.anchor.start) (BeforeStart b.anchor.start) f _ is) [
-  | inl before ↦ inl (inl (ltb-true h b.anchor.start before))
-  | inr rest ↦ elim (this_or_rest (leb RANGE_NS (time_at b.anchor h)) (OutOfRange (time_at b.anchor h)) f _ rest) [
-    | inl past ↦ inl (inr (leb-true RANGE_NS (time_at b.anchor h) past))
-    | inr more ↦ elim (version_or_rest (raised_version b.processors b.wall_version b.hv.version cpu a) f _ more) [
-      | inl last ↦ inr (inl (raised_at b cpu last.0 a last.1 last.2))
-      | inr spent ↦ elim (this_or_rest (leb MOST_ACCESSES b.accesses) (Spent b.accesses) f None spent) [
-        | inl all ↦ inr (inr (leb-true MOST_ACCESSES b.accesses all))
-        | inr none ↦ absurd (cc none)
-      ]
+refused_why b cpu h a f is = elim (time_or_rest b.anchor h f _ is) [
+  | inl untimed ↦ inl untimed
+  | inr more ↦ elim (version_or_rest (raised_version b.processors b.wall_version b.hv.version cpu a) f _ more) [
+    | inl last ↦ inr (inl (raised_at b cpu last.0 a last.1 last.2))
+    | inr spent ↦ elim (this_or_rest (leb MOST_ACCESSES b.accesses) (Spent b.accesses) f None spent) [
+      | inl all ↦ inr (inr (leb-true MOST_ACCESSES b.accesses all))
+      | inr none ↦ absurd (cc none)
     ]
   ]
 ]
@@ -72,9 +83,7 @@ refused_why b cpu h a f is = elim (this_or_rest (ltb h b.anchor.start) (BeforeSt
 -- a refusal, by the anchor, the version that would rise, and the number of accesses
 refusal_by : Anchor → ℕ → Option ℕ → ℕ → Option Refusal
 refusal_by anchor h v accesses =
-    cond (ltb h anchor.start) (Some (BeforeStart anchor.start))
-    (cond (leb RANGE_NS (time_at anchor h)) (Some (OutOfRange (time_at anchor h)))
-    (spent_version v (cond (leb MOST_ACCESSES accesses) (Some (Spent accesses)) None)))
+    option_or (option_map untimed (time_fault anchor h)) (spent_version v (cond (leb MOST_ACCESSES accesses) (Some (Spent accesses)) None))
 
 refusal_of-by : (b : BoardParts) (cpu h : ℕ) (a : Access)
     → refusal_of b cpu h a ≡ refusal_by b.anchor h (raised_version b.processors b.wall_version b.hv.version cpu a) b.accesses

@@ -5,13 +5,14 @@ use Rattle.pvclock_page.specs.Reading.{reading_of}
 use Rattle.pvclock_page.specs.declared.page.Page.{Page}
 use Rattle.pvclock_page.specs.declared.page.PageReply.TheVariants.{Off, On}
 use Rattle.board_types.specs.declared.parts.BoardParts.{BoardParts}
-use Rattle.board_core.specs.Pages.{with_greatest}
+use Rattle.board_core.specs.Pages.{with_greatest, answer_by}
 use Rattle.hv_page.specs.declared.page.HvPage.{HvPage}
 use Rattle.hv_page.specs.declared.page.HvReply.TheVariants.{Off as HvOff, On as HvOn}
 use Rattle.hv_page.specs.Time.{units_of, reference_time}
 use Rattle.hv_page.specs.Words.{of_page}
 use Rattle.board_types.specs.declared.access.Access.TheVariants.{MsrWrite, Refresh, Step}
-use Rattle.board_history.specs.Machine.{answer_by, hv_answer_by, page_published}
+use Rattle.board_core.specs.Hv.{hv_answer_by}
+use Rattle.board_history.specs.Machine.{page_published}
 use Rattle.board_history.specs.History.{after_entry, entries_of, last_of, read_of, IsLegal}
 use Rattle.board_history.specs.declared.entry.Entry.TheVariants.{Opened, PageRead, HvRead, Clamp}
 

@@ -1,5 +1,5 @@
 -- Which lists of entries are legal, each at a small case.
-use Rattle.std.proofs.Common.{◌≡◌, ℕ, ◌<◌, List, [], ◌∷◌, replicate, true, false, Some, None, IsTrue, pos, refl, arith}
+use Rattle.std.proofs.Common.{◌≡◌, ℕ, ◌<◌, [], ◌∷◌, replicate, true, false, IsTrue, pos, refl, arith}
 use Rattle.tsc_scale.specs.Offset.{tsc_by}
 use Rattle.pvclock_page.specs.Reading.{reading_of}
 use Rattle.pvclock_page.specs.Scale.{mul_for, shift_for}
@@ -7,7 +7,6 @@ use Rattle.pvclock_page.specs.declared.page.Page.{Page}
 use Rattle.hv_page.specs.declared.page.HvPage.{HvPage}
 use Rattle.host_counter.specs.Time.{time_at}
 use Rattle.tick_policy.specs.declared.parts.Policy.TheVariants.{Delay}
-use Rattle.board_types.specs.declared.access.Access.{Access}
 use Rattle.board_types.specs.declared.access.Access.TheVariants.{MsrWrite, Step}
 use Rattle.board_types.specs.declared.parts.BoardParts.{BoardParts}
 use Rattle.board_types.specs.declared.reply.Reply.{Reply}

@@ -5,7 +5,6 @@ use Rattle.std.specs.Prelude.{
   ◌<◌,
   max,
   ◌==◌,
-  if◌then◌else◌,
   Bool,
   true,
   false,
@@ -17,25 +16,18 @@ use Rattle.std.specs.Prelude.{
   Option,
   Some,
   None,
+  if◌then◌else◌,
 }
 use Rattle.board_types.specs.declared.access.Access.{Access}
 use Rattle.board_types.specs.declared.parts.BoardParts.{BoardParts}
 use Rattle.board_types.specs.declared.reply.Reply.{Reply}
 use Rattle.board_types.specs.Legal.{is_legal}
 use Rattle.board_core.specs.Access.{after_access, reply_of}
-use Rattle.board_core.specs.Pages.{with_greatest}
+use Rattle.board_core.specs.Pages.{with_greatest, reading_by}
 use Rattle.board_core.specs.Refusals.{refusal_of}
 use Rattle.pvclock_page.specs.declared.page.Page.{Page}
 use Rattle.hv_page.specs.Words.{of_page}
-use Rattle.board_history.specs.Machine.{
-  Machine,
-  machine_of,
-  page_at,
-  hv_at,
-  ratio_in,
-  reading_by,
-  no_board,
-}
+use Rattle.board_history.specs.Machine.{Machine, machine_of, page_at, hv_at, ratio_in, no_board}
 use Rattle.board_history.specs.declared.entry.Entry.{Entry}
 use Rattle.board_history.specs.declared.entry.Entry.TheVariants.{Opened, Board, PageRead, HvRead, Clamp}
 
@@ -106,13 +98,9 @@ last_of (e ∷ f ∷ es) = last_of (f ∷ es)
 
 -- the entry is a read of an enabled page of cpu, which gives this reading
 abbrev pub Reads : Machine → Option Entry → ℕ → ℕ → Type 0
-Reads m None cpu reading = ⊥
-Reads m (Some (Opened s)) cpu reading = ⊥
-Reads m (Some (Board pass c h access reply)) cpu reading = ⊥
-Reads m (Some (HvRead pass h page locked)) cpu reading = ⊥
-Reads m (Some (Clamp pass c r clock)) cpu reading = ⊥
 Reads m (Some (PageRead pass c h page locked)) cpu reading =
     (c ≡ cpu) × IsTrue page.enabled × (reading_by (ratio_in m) page h ≡ reading)
+Reads m _ cpu reading = ⊥
 
 -- an access is one that the board takes, isn't refused, and is answered as one thread would be
 pub record IsAnswered (b : BoardParts) (cpu h : ℕ) (a : Access) (r : Reply) : Type 0 where
@@ -139,12 +127,8 @@ LegalFrom before (e ∷ es) = May before e × LegalFrom (before ++ e ∷ []) es
 
 -- a legal history begins with Opened, and has no other
 abbrev pub IsLegal : List Entry → Type 0
-IsLegal [] = ⊥
 IsLegal (Opened s ∷ es) = LegalFrom (Opened s ∷ []) es
-IsLegal (Board pass cpu h access reply ∷ es) = ⊥
-IsLegal (PageRead pass cpu h page locked ∷ es) = ⊥
-IsLegal (HvRead pass h page locked ∷ es) = ⊥
-IsLegal (Clamp pass cpu reading clock ∷ es) = ⊥
+IsLegal _ = ⊥
 
 -- the history opens with this state
 abbrev pub Opens : BoardParts → List Entry → Type 0

@@ -1,6 +1,7 @@
 //! What a read of a page answers.
 ghost use Rattle.std.specs.Prelude.{◌≡◌};
-ghost use Rattle.board_history.specs.Machine.{answer_by, hv_answer_by};
+ghost use Rattle.board_core.specs.Pages.{answer_by};
+ghost use Rattle.board_core.specs.Hv.{hv_answer_by};
 
 use hv_page::{HvPage, HvReply, reply};
 use pvclock_page::{Page, PageReply, reading};

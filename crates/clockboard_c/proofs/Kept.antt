@@ -1,8 +1,8 @@
 -- A next edge that is kept: an access that leaves the devices, and meets no edge on its way, leaves it.
-use Rattle.std.proofs.Common.{◌≡◌, ℕ, zero, suc, ◌+◌, ◌-◌, ◌<◌, refl, sym, subst, ap, ◌∙◌, arith, List, [], ◌∷◌, ◌++◌, Option, None, Bool, true, false, cond, ltb, leb, ◌&&◌}
+use Rattle.std.proofs.Common.{◌≡◌, ℕ, zero, suc, ◌+◌, ◌-◌, ◌<◌, refl, sym, subst, ap, ◌∙◌, arith, List, [], ◌∷◌, ◌++◌, Option, None, Bool, true, false, cond, ◌&&◌}
+use Rattle.std.specs.Option.{is_none as has_none}
 use Rattle.clk_units.specs.declared.ranges.TheConstants.{RANGE_NS}
 use Rattle.irq_edges.specs.declared.edges.Edge.{Edge}
-use Rattle.host_counter.specs.Time.{time_at}
 use Rattle.host_counter.proofs.Times.{time_at-max}
 use Rattle.board_types.specs.declared.access.Access.{Access}
 use Rattle.board_types.specs.declared.access.Access.TheVariants.{
@@ -25,7 +25,7 @@ use Rattle.board_types.specs.declared.parts.BoardParts.{BoardParts}
 use Rattle.board_devices.specs.declared.parts.DeviceParts.{DeviceParts}
 use Rattle.board_devices.specs.Run.{Ran, run, onward}
 use Rattle.board_devices.specs.Act.{acted}
-use Rattle.board_core.specs.Time.{devices_in, now_of, time_of_access}
+use Rattle.board_core.specs.Time.{devices_in, now_of, time_of_access, time_fault}
 use Rattle.board_core.specs.Conditions.{IsJoined}
 use Rattle.board_core.specs.Refusals.{refusal_of}
 use Rattle.board_types.specs.declared.reply.Refusal.{Refusal}
@@ -197,11 +197,9 @@ module _ (s : BoardParts) (cpu h : ℕ) (a : Access) (after : BoardParts) (r : R
       ∙ ap (λ (x : CallerBoard). answered x cpu h a) of
 
 -- a read of the clock leaves it
-clock-where : (known b c : Bool) (s t : BoardParts) → kept_of known t ≡ kept_of known s
-    → kept_of known (cond b s (cond c s t)) ≡ kept_of known s
-clock-where known true c s t e = refl
-clock-where known false true s t e = refl
-clock-where known false false s t e = e
+clock-where : (known timed : Bool) (s t : BoardParts) → kept_of known t ≡ kept_of known s → kept_of known (cond timed t s) ≡ kept_of known s
+clock-where known true s t e = e
+clock-where known false s t e = refl
 
 clock-after : (known : Bool) (s : BoardParts) (cpu h : ℕ) → kept_of known (after_clock s cpu h) ≡ kept_of known s
 unfolding after_clock
@@ -211,5 +209,5 @@ pub clock-next :
     (s after : BoardParts) (cpu h : ℕ) (k : KeptEdge) → after ≡ state_behind_clock s cpu h → k ≡ kept_of k.known s → k ≡ kept_of k.known after
 clock-next s after cpu h k is keeps =
     keeps
-    ∙ sym (clock-where k.known (ltb h s.anchor.start) (leb RANGE_NS (time_at s.anchor h)) s (after_clock s cpu h) (clock-after k.known s cpu h))
+    ∙ sym (clock-where k.known (has_none (time_fault s.anchor h)) s (after_clock s cpu h) (clock-after k.known s cpu h))
     ∙ ap (kept_of k.known) (sym is)

@@ -1,8 +1,6 @@
 -- What C reads of Hyper-V's reference page.
-use Rattle.std.specs.Prelude.{ℕ, ◌-◌, ◌%◌, ◌==◌, nat_lt, nat_le, if◌then◌else◌, [], ◌∷◌}
+use Rattle.std.specs.Prelude.{ℕ, ◌-◌, ◌%◌, ◌==◌, nat_lt, if◌then◌else◌, [], ◌∷◌}
 use Rattle.clk_units.specs.Bits.{bit}
-use Rattle.clk_units.specs.declared.ranges.TheConstants.{RANGE_NS}
-use Rattle.host_counter.specs.Time.{time_at}
 use Rattle.hv_page.specs.Guest.{guest_bytes, guest_sequence}
 use Rattle.hv_page.specs.declared.page.HvReply.{HvReply}
 use Rattle.hv_page.specs.declared.page.HvReply.TheVariants.{Off, On}
@@ -12,15 +10,9 @@ use Rattle.board_core.specs.Hv.{hv_in, hv_reply}
 use Rattle.board_core.specs.Time.{now_of}
 use Rattle.clockboard_c.specs.declared.board.Board.{Board}
 use Rattle.clockboard_c.specs.declared.board.TheConstants.{SEAL}
-use Rattle.clockboard_c.specs.declared.code.TheConstants.{
-  OK,
-  NO_BOARD,
-  NOT_OURS,
-  BEFORE_START,
-  OUT_OF_RANGE,
-  PAGE_OFF,
-}
+use Rattle.clockboard_c.specs.declared.code.TheConstants.{OK, NO_BOARD, NOT_OURS, PAGE_OFF}
 use Rattle.clockboard_c.specs.declared.hv.HvWords.{HvWords}
+use Rattle.clockboard_c.specs.Pages.{in_time}
 use Rattle.clockboard_c.specs.Replies.{Told, refused, taken}
 
 -- a page: bits 63 to 12 of the number are the guest's page, and bit 0 enables it (TLFS, "Reference
@@ -50,10 +42,7 @@ hv_time_in (On page reading) now = taken 0 now (reading ∷ 0 ∷ 0 ∷ 0 ∷ []
 
 -- the same at count h, which must have a time
 abbrev pub hv_time_by : BoardParts → ℕ → Told
-hv_time_by s h =
-    if nat_lt h s.anchor.start then refused BEFORE_START
-    else (if nat_le RANGE_NS (time_at s.anchor h) then refused OUT_OF_RANGE
-    else hv_time_in (hv_reply s h) (now_of s))
+hv_time_by s h = in_time s h (hv_time_in (hv_reply s h) (now_of s))
 
 -- what the call tells
 abbrev pub hv_time_told : Board → ℕ → Told

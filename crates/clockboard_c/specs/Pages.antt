@@ -1,25 +1,20 @@
 -- What C reads of a page, and of the clock.
-use Rattle.std.specs.Prelude.{ℕ, ◌-◌, ◌%◌, ◌==◌, ◌&&◌, nat_lt, nat_le, if◌then◌else◌, [], ◌∷◌}
+use Rattle.std.specs.Prelude.{ℕ, ◌-◌, ◌%◌, ◌==◌, ◌&&◌, if◌then◌else◌, [], ◌∷◌, is_none}
+use Rattle.std.specs.Option.{unwrap_or, option_map}
 use Rattle.clk_units.specs.Bits.{bit}
-use Rattle.clk_units.specs.declared.ranges.TheConstants.{RANGE_NS}
-use Rattle.host_counter.specs.Time.{time_at}
 use Rattle.pvclock_page.specs.Guest.{guest_bytes}
 use Rattle.pvclock_page.specs.declared.page.ClockReply.{ClockReply}
 use Rattle.pvclock_page.specs.declared.page.ClockReply.TheVariants.{Off, On}
 use Rattle.board_types.specs.declared.parts.BoardParts.{BoardParts}
-use Rattle.board_core.specs.Time.{now_of}
+use Rattle.board_core.specs.Time.{now_of, time_fault}
+use Rattle.board_core.specs.Refusals.{untimed}
 use Rattle.board_core.specs.Tsc.{processor_at}
 use Rattle.board_core.specs.Pages.{page_in, clock_reply, after_clock}
 use Rattle.clockboard_c.specs.declared.board.Board.{Board}
 use Rattle.clockboard_c.specs.declared.board.TheConstants.{SEAL}
-use Rattle.clockboard_c.specs.declared.code.TheConstants.{
-  OK,
-  BEFORE_START,
-  OUT_OF_RANGE,
-  PAGE_OFF,
-  SHARED,
-}
+use Rattle.clockboard_c.specs.declared.code.TheConstants.{OK, PAGE_OFF, SHARED}
 use Rattle.clockboard_c.specs.declared.pages.PageWords.{PageWords}
+use Rattle.clockboard_c.specs.Codes.{code_of}
 use Rattle.clockboard_c.specs.Look.{processor_code}
 use Rattle.clockboard_c.specs.Replies.{Told, refused, taken}
 
@@ -42,17 +37,17 @@ abbrev pub clock_in : ClockReply → ℕ → Told
 clock_in Off now = refused PAGE_OFF
 clock_in (On reading clock) now = taken 0 now (clock ∷ reading ∷ 0 ∷ 0 ∷ []) [] []
 
--- the same at count h, which must have a time
-abbrev pub clock_by : BoardParts → ℕ → ℕ → Told
-clock_by s cpu h =
-    if nat_lt h s.anchor.start then refused BEFORE_START
-    else (if nat_le RANGE_NS (time_at s.anchor h) then refused OUT_OF_RANGE
-    else clock_in (clock_reply s cpu h) (now_of s))
+-- what is told at count h, which must have a time
+abbrev pub in_time : BoardParts → ℕ → Told → Told
+in_time s h told =
+    unwrap_or (option_map (λ fault. refused (code_of (untimed fault))) (time_fault s.anchor h)) told
 
+abbrev pub clock_by : BoardParts → ℕ → ℕ → Told
+clock_by s cpu h = in_time s h (clock_in (clock_reply s cpu h) (now_of s))
+
+-- and the board after it
 abbrev pub state_behind_clock : BoardParts → ℕ → ℕ → BoardParts
-state_behind_clock s cpu h =
-    if nat_lt h s.anchor.start then s
-    else (if nat_le RANGE_NS (time_at s.anchor h) then s else after_clock s cpu h)
+state_behind_clock s cpu h = if is_none (time_fault s.anchor h) then after_clock s cpu h else s
 
 -- the code of a question about the clock of a processor, whose greatest reading the board doesn't
 -- know while threads share its pages

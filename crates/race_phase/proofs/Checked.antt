@@ -27,6 +27,7 @@ use Rattle.std.proofs.Common.{
   subst,
   arith,
 }
+use Rattle.std.specs.Option.{option_or}
 use Rattle.std.specs.Bool.{OnTrue}
 use Rattle.std.proofs.lemmas.List.{take_more}
 use Rattle.std.proofs.lemmas.List.Elements.{All-get_or, All-more}
@@ -35,14 +36,14 @@ use Rattle.race_phase.specs.declared.faults.Fault.{Fault}
 use Rattle.race_phase.specs.declared.phases.Phase.{Phase}
 use Rattle.race_phase.specs.declared.records.Record.{Record}
 use Rattle.race_phase.specs.Calls.{IsFitting}
-use Rattle.race_phase.specs.Order.{or_fault, record_fault, after_record, after_records, records_fault}
+use Rattle.race_phase.specs.Order.{record_fault, after_record, after_records, records_fault}
 use Rattle.race_phase.specs.Phases.{IsPhase, end_fault, phase_fault, after_phase, trace_fault}
 use Rattle.race_phase.specs.private.Checked.{TakesRecord, TakesRecords, TakesEnd, TakesPhase, TakesTrace, after_phases}
 use Rattle.race_phase.proofs.Same.{size_of, size_records, size_phase, end_fits}
 use Rattle.race_phase.proofs.Taken.{or_none}
 
-pub or_both : (a o : Option Fault) → a ≡ None → o ≡ None → or_fault a o ≡ None
-or_both a o e f = ap (λ (x : Option Fault). or_fault x o) e ∙ f
+pub or_both : (a o : Option Fault) → a ≡ None → o ≡ None → option_or a o ≡ None
+or_both a o e f = ap (λ (x : Option Fault). option_or x o) e ∙ f
 
 -- records
 pub after_records-snoc : (b : BoardParts) (rs : List Record) (r : Record) → after_records b (rs ++ r ∷ []) ≡ after_record (after_records b rs) r

@@ -1,5 +1,7 @@
 -- A phase with what ends it.
-use Rattle.std.proofs.Common.{◌≡◌, ℕ, ◌<◌, List, [], ◌∷◌, ◌++◌, refl, sym, ap, ◌∙◌, subst, append-nil, Option, Some, None}
+use Rattle.std.proofs.Common.{◌≡◌, ℕ, ◌<◌, List, [], ◌∷◌, ◌++◌, refl, sym, ap, ◌∙◌, subst, append-nil, Option, Some, None, option_map}
+use Rattle.std.specs.Option.{option_or}
+use Rattle.race_phase.specs.declared.faults.Cause.TheVariants.{Access as ByAccess, Move as ByMove}
 use Rattle.race_phase.specs.declared.deliveries.Deliveries.{Deliveries}
 use Rattle.board_types.specs.declared.access.Access.TheVariants.{Step}
 use Rattle.board_types.specs.declared.parts.BoardParts.{BoardParts}
@@ -14,11 +16,10 @@ use Rattle.race_phase.specs.declared.phases.End.{End}
 use Rattle.race_phase.specs.declared.phases.End.TheVariants.{Finish, Save, Move}
 use Rattle.race_phase.specs.declared.phases.Phase.{Phase}
 use Rattle.race_phase.specs.Calls.{PhaseTold}
-use Rattle.race_phase.specs.Order.{or_cause, by_access}
-use Rattle.race_phase.specs.Phases.{IsEnd, by_move, end_fault, step_entry, end_entries, end_text, next_board, PhaseEnded}
+use Rattle.race_phase.specs.Phases.{IsEnd, end_fault, step_entry, end_entries, end_text, next_board, PhaseEnded}
 use Rattle.race_phase.proofs.Taken.{line_none, access_none}
 
-pub cause_none : (o q : Option Cause) → or_cause o q ≡ None → (o ≡ None) × (q ≡ None)
+pub cause_none : (o q : Option Cause) → option_or o q ≡ None → (o ≡ None) × (q ≡ None)
 cause_none None q e = (refl, e)
 cause_none (Some c) q e = absurd (cc e)
 
@@ -39,16 +40,16 @@ end_legal : (s : BoardParts) (h : List Entry) (e : End) → IsLegal h → Opens 
 end_legal s h Finish legal opens fits free = subst IsLegal (sym (append-nil h)) legal
 end_legal s h (Save line cpu hh) legal opens fits free =
     step_more s h cpu hh legal opens fits
-    (access_none (refusal_of (board_after h) cpu hh Step) (line_none line (by_access (refusal_of (board_after h) cpu hh Step)) free))
+    (access_none (refusal_of (board_after h) cpu hh Step) (line_none line (option_map ByAccess (refusal_of (board_after h) cpu hh Step)) free))
 end_legal s h (Move line cpu hh host) legal opens fits free =
     let b = board_after h in
-    let both = cause_none (by_access (refusal_of b cpu hh Step)) (by_move (move_fault host.gap (after_access b cpu hh Step)))
-    (line_none line (or_cause (by_access (refusal_of b cpu hh Step)) (by_move (move_fault host.gap (after_access b cpu hh Step)))) free) in
+    let both = cause_none (option_map ByAccess (refusal_of b cpu hh Step)) (option_map ByMove (move_fault host.gap (after_access b cpu hh Step)))
+    (line_none line (option_or (option_map ByAccess (refusal_of b cpu hh Step)) (option_map ByMove (move_fault host.gap (after_access b cpu hh Step)))) free) in
     step_more s h cpu hh legal opens fits.0 (access_none (refusal_of b cpu hh Step) both.0)
 
 -- the causes of an end that is not refused
 pub save_free : (b : BoardParts) (line cpu h : ℕ) → end_fault b (Save line cpu h) ≡ None → refusal_of b cpu h Step ≡ None
-save_free b line cpu h free = access_none (refusal_of b cpu h Step) (line_none line (by_access (refusal_of b cpu h Step)) free)
+save_free b line cpu h free = access_none (refusal_of b cpu h Step) (line_none line (option_map ByAccess (refusal_of b cpu h Step)) free)
 
 pub phase_ended : (s : BoardParts) (ds : Deliveries) (v : Phase) (mid next : BoardParts) (block out : List ℕ)
     → PhaseTold s ds v.lines.records mid block

@@ -1,15 +1,13 @@
 -- Small rows that pin the definitions: what a record and the end of a phase print, and which entries
 -- answer the calls of a processor.
-use Rattle.std.proofs.Common.{◌≡◌, ℕ, ◌%◌, ◌<◌, ◌⊎◌, List, [], ◌∷◌, true, false, Bool, Some, None, pos, refl}
+use Rattle.std.proofs.Common.{◌≡◌, ℕ, ◌%◌, ◌<◌, ◌⊎◌, List, [], ◌∷◌, true, false, Bool, Some, pos, refl}
 use Rattle.std.specs.Prelude.{codes}
 use Rattle.std.specs.Fmt.{digits}
-use Rattle.host_counter.specs.Time.{time_at}
 use Rattle.tsc_scale.specs.Offset.{tsc_by}
 use Rattle.tick_policy.specs.declared.parts.Policy.TheVariants.{Delay}
 use Rattle.pvclock_page.specs.Reading.{reading_of}
 use Rattle.pvclock_page.specs.declared.page.Page.{Page}
 use Rattle.pvclock_page.specs.declared.page.PageReply.TheVariants.{Off as PageOff, On as PageOn}
-use Rattle.pvclock_page.specs.declared.page.ClockReply.{ClockReply}
 use Rattle.pvclock_page.specs.declared.page.ClockReply.TheVariants.{Off, On}
 use Rattle.hv_page.specs.declared.page.HvReply.TheVariants.{Off as HvOff}
 use Rattle.board_types.specs.declared.access.Access.TheVariants.{MsrWrite, Step}
@@ -18,10 +16,11 @@ use Rattle.board_types.specs.declared.reply.Reply.{Reply}
 use Rattle.board_types.specs.declared.reply.Value.TheVariants.{Nothing, Byte}
 use Rattle.board_core.specs.Access.{after_access, reply_of}
 use Rattle.board_core.specs.PowerOn.{board_at_power_on}
-use Rattle.board_history.specs.Machine.{machine_of, ratio_in, answer_by}
+use Rattle.board_core.specs.Pages.{answer_by}
+use Rattle.board_history.specs.Machine.{machine_of, ratio_in}
 use Rattle.board_history.specs.History.{entries_of}
 use Rattle.board_history.specs.declared.entry.Entry.{Entry}
-use Rattle.board_history.specs.declared.entry.Entry.TheVariants.{Opened, Board, PageRead, HvRead, Clamp}
+use Rattle.board_history.specs.declared.entry.Entry.TheVariants.{Opened, Board, PageRead, Clamp}
 use Rattle.clock_table.specs.declared.view.Miss.{Miss}
 use Rattle.reply_text.specs.Words.{hex_text}
 use Rattle.reply_text.specs.Text.{edge_text, msg_text, value_text, page_text, clock_text, hv_text}
@@ -29,12 +28,11 @@ use Rattle.transfer.specs.Move.{moved_to}
 use Rattle.race_phase.specs.declared.deliveries.Deliveries.{Deliveries}
 use Rattle.race_phase.specs.declared.phases.End.TheVariants.{Finish, Save, Move}
 use Rattle.race_phase.specs.declared.records.Answer.TheVariants.{Acted, PageIs, ClockIs, HvIs}
-use Rattle.race_phase.specs.declared.records.Call.{Call}
-use Rattle.race_phase.specs.declared.records.Call.TheVariants.{Act, ReadPage, ReadClock, ReadHv}
+use Rattle.race_phase.specs.declared.records.Call.TheVariants.{Act, ReadPage, ReadClock}
 use Rattle.race_phase.specs.declared.records.Record.{Record}
 use Rattle.race_phase.specs.Blocks.{block_of, delivery_to, message_to}
-use Rattle.race_phase.specs.Calls.{records_of, CallMade, AllTried, IsTried, Shown}
-use Rattle.race_phase.specs.Phases.{next_board, end_entries, end_text}
+use Rattle.race_phase.specs.Calls.{records_of, CallMade, AllTried, Shown}
+use Rattle.race_phase.specs.Phases.{next_board, end_entries}
 
 -- two processors on a host of 1 GHz, with a guest of 2 GHz
 abbrev at_power_on : BoardParts

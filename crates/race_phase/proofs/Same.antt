@@ -28,7 +28,9 @@ use Rattle.std.proofs.Common.{
   All,
   IsTrue,
   length-set,
+  option_map,
 }
+use Rattle.std.specs.Option.{option_or}
 use Rattle.std.proofs.lemmas.List.{get_or-set_other, get_or-set_same}
 use native.Mathlib.Decide.{ℕ_discrete}
 use Rattle.clk_units.specs.declared.ranges.TheConstants.{RANGE_NS}
@@ -45,7 +47,7 @@ use Rattle.board_types.specs.declared.reply.Refusal.{Refusal}
 use Rattle.board_core.specs.Access.{after_access}
 use Rattle.board_core.specs.Pages.{published, published_at_host, published_by}
 use Rattle.board_core.specs.Reanchor.{reanchored}
-use Rattle.board_core.specs.Time.{now_of}
+use Rattle.board_core.specs.Time.{now_of, time_fault}
 use Rattle.board_core.specs.Tsc.{no_processor, processor_at}
 use Rattle.board_core.proofs.Laws.{after_access-accesses, version-published, processor_at-other}
 use Rattle.board_history.specs.Machine.{Machine, machine_of}
@@ -54,6 +56,7 @@ use Rattle.board_history.proofs.Refusals.{same_refusal}
 use Rattle.transfer.specs.Move.{or_spent, spent_below, move_fault, published_below, moved_to, tsc_moved}
 use Rattle.transfer.proofs.Publishing.{published_below-hv, reanchored-hv, hv-version}
 use Rattle.transfer.specs.declared.outcome.MoveFault.TheVariants.{OutOfRange}
+use Rattle.race_phase.specs.declared.faults.Cause.TheVariants.{Access as ByAccess, Count as ByCount, Move as ByMove}
 use Rattle.race_phase.specs.declared.phases.End.{End}
 use Rattle.race_phase.specs.declared.phases.End.TheVariants.{Finish, Save, Move}
 use Rattle.race_phase.specs.declared.phases.Phase.{Phase}
@@ -61,22 +64,8 @@ use Rattle.race_phase.specs.declared.records.Call.{Call}
 use Rattle.race_phase.specs.declared.records.Call.TheVariants.{Act, ReadPage, ReadClock, ReadHv}
 use Rattle.race_phase.specs.declared.records.Record.{Record}
 use Rattle.race_phase.specs.Calls.{IsFitting, IsFittingCall}
-use Rattle.race_phase.specs.Order.{
-  AreAlike,
-  or_cause,
-  or_fault,
-  at_line,
-  by_access,
-  by_count,
-  time_fault,
-  call_cause,
-  record_fault,
-  after_call,
-  after_record,
-  after_records,
-  records_fault,
-}
-use Rattle.race_phase.specs.Phases.{IsEnd, IsPhase, next_board, by_move, end_fault, after_phase, phase_fault, trace_fault}
+use Rattle.race_phase.specs.Order.{AreAlike, at_line, call_cause, record_fault, after_call, after_record, after_records, records_fault}
+use Rattle.race_phase.specs.Phases.{IsEnd, IsPhase, next_board, end_fault, after_phase, phase_fault, trace_fault}
 use Rattle.race_phase.proofs.Alike.{host_after}
 use Rattle.race_phase.proofs.Counts.{raises_wall, raises_hv}
 use Rattle.race_phase.proofs.Taken.{or_none}
@@ -164,10 +153,10 @@ fit_rest b c r rs same all = subst (λ (z : ℕ × ℕ). All (IsFitting z.0 z.1)
 
 -- what records are refused
 same_cause : (b c : BoardParts) (cpu h : ℕ) (call : Call) → AreAlike b c → call_cause b cpu h call ≡ call_cause c cpu h call
-same_cause b c cpu h (Act a) s = ap by_access (same_refusal b c cpu h a s.counts)
-same_cause b c cpu h (ReadPage page) s = ap (λ (m : Machine). by_count (time_fault m.anchor h)) s.counts.machine
-same_cause b c cpu h (ReadClock page) s = ap (λ (m : Machine). by_count (time_fault m.anchor h)) s.counts.machine
-same_cause b c cpu h ReadHv s = ap (λ (m : Machine). by_count (time_fault m.anchor h)) s.counts.machine
+same_cause b c cpu h (Act a) s = ap (option_map ByAccess) (same_refusal b c cpu h a s.counts)
+same_cause b c cpu h (ReadPage page) s = ap (λ (m : Machine). option_map ByCount (time_fault m.anchor h)) s.counts.machine
+same_cause b c cpu h (ReadClock page) s = ap (λ (m : Machine). option_map ByCount (time_fault m.anchor h)) s.counts.machine
+same_cause b c cpu h ReadHv s = ap (λ (m : Machine). option_map ByCount (time_fault m.anchor h)) s.counts.machine
 
 pub records_alike : (b c : BoardParts) (rs : List Record) → AreAlike b c → All (IsFitting b.cpus b.format) rs
     → AreAlike (after_records b rs) (after_records c rs)
@@ -184,7 +173,7 @@ same_records_fault b c (r ∷ rs) s fit =
     let first : record_fault b r ≡ record_fault c r = ap (at_line r.line) (same_cause b c r.cpu r.h r.call s) in
     let rest = same_records_fault (after_record b r) (after_record c r) rs (call_alike b c r.cpu r.h r.call s f.0 f.1)
     (fit_rest b (after_record b r) r rs (size_call b r.cpu r.h r.call) fit) in
-    λ i. or_fault (first i) (rest i)
+    λ i. option_or (first i) (rest i)
 
 -- a move
 same_spent : (b c : BoardParts) (n : ℕ) → AreAlike b c → spent_below b n ≡ spent_below c n
@@ -377,11 +366,11 @@ next_alike b c (Move line cpu h host) s fits =
 
 pub same_end_fault : (b c : BoardParts) (e : End) → AreAlike b c → IsEnd b.cpus e → end_fault b e ≡ end_fault c e
 same_end_fault b c Finish s fits = refl
-same_end_fault b c (Save line cpu h) s fits = ap (λ (o : Option Refusal). at_line line (by_access o)) (same_refusal b c cpu h Step s.counts)
+same_end_fault b c (Save line cpu h) s fits = ap (λ (o : Option Refusal). at_line line (option_map ByAccess o)) (same_refusal b c cpu h Step s.counts)
 same_end_fault b c (Move line cpu h host) s fits =
     let refused = same_refusal b c cpu h Step s.counts in
     let move = same_move_fault (after_access b cpu h Step) (after_access c cpu h Step) host.gap (access_alike b c cpu h Step s fits.0 refl) in
-    λ i. at_line line (or_cause (by_access (refused i)) (by_move (move i)))
+    λ i. at_line line (option_or (option_map ByAccess (refused i)) (option_map ByMove (move i)))
 
 pub size_next : (b : BoardParts) (e : End) → size_of (next_board e b) ≡ size_of b
 size_next b Finish = refl
@@ -420,7 +409,7 @@ same_phase_fault b c v s fits =
     let first = same_records_fault b c rs s fits.records in
     let last = same_end_fault (after_records b rs) (after_records c rs) v.end (records_alike b c rs s fits.records)
     (end_fits b (after_records b rs) v.end (size_records b rs) fits.end) in
-    λ i. or_fault (first i) (last i)
+    λ i. option_or (first i) (last i)
 
 pub same_trace_fault : (b c : BoardParts) (vs : List Phase) → AreAlike b c → All (IsPhase b.cpus b.format) vs → trace_fault b vs ≡ trace_fault c vs
 same_trace_fault b c [] s fits = refl
@@ -429,7 +418,7 @@ same_trace_fault b c (v ∷ vs) s fits =
     let first = same_phase_fault b c v s f in
     let rest = same_trace_fault (after_phase b v) (after_phase c v) vs (phase_ends_alike b c v s f)
     (phases_rest b (after_phase b v) v vs (size_phase b v) fits) in
-    λ i. or_fault (first i) (rest i)
+    λ i. option_or (first i) (rest i)
 
 -- the board that the workers leave ends its phase as that of file order does
 module _ (s : BoardParts) (v : Phase) (mid : BoardParts) (fits : IsPhase s.cpus s.format v) (alike : AreAlike (after_records s v.lines.records) mid) where

@@ -36,7 +36,9 @@ use Rattle.std.proofs.Common.{
   if◌then◌else◌,
   All,
   eq-eqb,
+  option_map,
 }
+use Rattle.std.specs.Option.{option_or}
 use Rattle.std.proofs.lemmas.Bool.{lt-ltb, le-leb, le-ltb, lt-leb}
 use Rattle.std.proofs.Math.Nat.{mul-le-mul_left}
 use mathlib.Core.List.{IsPrefix}
@@ -44,6 +46,7 @@ use Rattle.clk_units.specs.declared.ranges.TheConstants.{RANGE_NS}
 use Rattle.host_counter.specs.declared.Anchor.{Anchor}
 use Rattle.host_counter.specs.declared.TimeFault.TheVariants.{BeforeStart, OutOfRange}
 use Rattle.host_counter.specs.Time.{time_at}
+use Rattle.race_phase.specs.declared.faults.Cause.TheVariants.{Access as ByAccess, Count as ByCount}
 use Rattle.race_phase.specs.declared.deliveries.Deliveries.{Deliveries}
 use Rattle.board_types.specs.declared.access.Access.{Access}
 use Rattle.board_types.specs.declared.parts.BoardParts.{BoardParts}
@@ -52,7 +55,7 @@ use Rattle.board_types.specs.declared.reply.Refusal.{Refusal}
 use Rattle.board_types.specs.Legal.{is_legal}
 use Rattle.board_core.specs.Pages.{published_by}
 use Rattle.board_core.specs.Refusals.{refusal_of}
-use Rattle.board_core.specs.Time.{HasTime}
+use Rattle.board_core.specs.Time.{HasTime, time_fault}
 use Rattle.board_core.specs.Wall.{publishes_wall}
 use Rattle.board_core.specs.Hv.{publishes_hv}
 use Rattle.board_core.specs.Conditions.{IsJoined}
@@ -76,19 +79,7 @@ use Rattle.race_phase.specs.declared.records.Call.{Call}
 use Rattle.race_phase.specs.declared.records.Call.TheVariants.{Act, ReadPage, ReadClock, ReadHv}
 use Rattle.race_phase.specs.declared.records.Record.{Record}
 use Rattle.race_phase.specs.Calls.{IsFitting, IsFittingCall, Shown, PhaseTold}
-use Rattle.race_phase.specs.Order.{
-  or_fault,
-  at_line,
-  by_access,
-  by_count,
-  time_fault,
-  call_cause,
-  record_fault,
-  after_call,
-  after_record,
-  after_records,
-  records_fault,
-}
+use Rattle.race_phase.specs.Order.{at_line, call_cause, record_fault, after_call, after_record, after_records, records_fault}
 use Rattle.race_phase.specs.private.Workers.{CallTrouble, AllWorked}
 use Rattle.race_phase.proofs.Counts.{
   weigh,
@@ -121,7 +112,7 @@ abbrev pub IsFree : BoardParts → List Record → Type 0
 IsFree b [] = Unit {0}
 IsFree b (r ∷ rs) = (call_cause b r.cpu r.h r.call ≡ None) × IsFree (after_record b r) rs
 
-pub or_none : (o q : Option Fault) → or_fault o q ≡ None → (o ≡ None) × (q ≡ None)
+pub or_none : (o q : Option Fault) → option_or o q ≡ None → (o ≡ None) × (q ≡ None)
 or_none None q e = (refl, e)
 or_none (Some f) q e = absurd (cc e)
 
@@ -129,7 +120,7 @@ pub line_none : (line : ℕ) (o : Option Cause) → at_line line o ≡ None → 
 line_none line None e = refl
 line_none line (Some cause) e = absurd (cc e)
 
-pub access_none : (o : Option Refusal) → by_access o ≡ None → o ≡ None
+pub access_none : (o : Option Refusal) → option_map ByAccess o ≡ None → o ≡ None
 access_none None e = refl
 access_none (Some refusal) e = absurd (cc e)
 
@@ -195,11 +186,11 @@ unfolding no_time
 has_none anchor h (inl before) = ap (λ (b : Bool). b || leb RANGE_NS (time_at anchor h)) (lt-ltb h anchor.start before)
 has_none anchor h (inr past) = ap (λ (b : Bool). ltb h anchor.start || b) (le-leb RANGE_NS (time_at anchor h) past) ∙ or_true (ltb h anchor.start)
 
-no_fault : (anchor : Anchor) (h : ℕ) → by_count (time_fault anchor h) ≡ None → no_time anchor h ≡ false
+no_fault : (anchor : Anchor) (h : ℕ) → option_map ByCount (time_fault anchor h) ≡ None → no_time anchor h ≡ false
 unfolding no_time
 no_fault anchor h e = by_start (ltb h anchor.start) (leb RANGE_NS (time_at anchor h)) e
   where
-    by_start : (t u : Bool) → by_count (if t then Some (BeforeStart anchor.start) else if u then Some (OutOfRange (time_at anchor h)) else None) ≡ None
+    by_start : (t u : Bool) → option_map ByCount (if t then Some (BeforeStart anchor.start) else if u then Some (OutOfRange (time_at anchor h)) else None) ≡ None
         → (t || u) ≡ false
     by_start true u e = absurd (cc e)
     by_start false true e = absurd (cc e)

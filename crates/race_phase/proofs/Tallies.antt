@@ -1,46 +1,6 @@
 -- A tally refuses what each board of its counts refuses, and counts what it counts.
-use Rattle.std.proofs.Common.{
-  ◌≡◌,
-  ℕ,
-  zero,
-  suc,
-  ◌+◌,
-  ◌-◌,
-  ◌*◌,
-  ◌<◌,
-  ◌≤◌,
-  ltb,
-  leb,
-  max,
-  List,
-  length,
-  get_or,
-  refl,
-  sym,
-  ap,
-  ◌∙◌,
-  subst,
-  arith,
-  cond,
-  Bool,
-  true,
-  inl,
-  inr,
-  Option,
-  Some,
-  None,
-  IfSome,
-  IfErr,
-  OnOk,
-  Result,
-  Ok,
-  Err,
-  IsTrue,
-  length-set,
-  add-one,
-  map,
-  [],
-}
+use Rattle.std.proofs.Common.{◌≡◌, ℕ, zero, suc, ◌+◌, ◌-◌, ◌*◌, ◌<◌, ◌≤◌, leb, max, List, length, get_or, refl, sym, ap, ◌∙◌, subst, arith, cond, Bool, true, inl, inr, Option, Some, None, IfSome, IfErr, OnOk, Result, Ok, Err, IsTrue, length-set, add-one, map, [], option_map}
+use Rattle.std.specs.Option.{option_or}
 use Rattle.std.proofs.Math.ListN.{get_or-map}
 use Rattle.std.proofs.lemmas.List.{length-map}
 use Rattle.std.proofs.Math.Nat.{div-le_of_le-mul}
@@ -59,12 +19,12 @@ use Rattle.board_types.specs.declared.parts.BoardParts.{BoardParts}
 use Rattle.board_types.specs.declared.parts.ProcessorParts.{ProcessorParts}
 use Rattle.board_types.specs.declared.parts.TheConstants.{LAST_VERSION, MOST_ACCESSES}
 use Rattle.board_types.specs.declared.reply.Refusal.{Refusal}
-use Rattle.board_types.specs.declared.reply.Refusal.TheVariants.{BeforeStart, OutOfRange, Spent}
+use Rattle.board_types.specs.declared.reply.Refusal.TheVariants.{Spent}
 use Rattle.board_core.specs.Access.{after_access}
 use Rattle.board_core.specs.Pages.{published_by, published_at_host}
 use Rattle.board_core.specs.Reanchor.{reanchored}
-use Rattle.board_core.specs.Refusals.{version_at, raised_version, spent_version, refusal_of}
-use Rattle.board_core.specs.Time.{HasTime, now_of}
+use Rattle.board_core.specs.Refusals.{version_at, raised_version, spent_version, untimed, refusal_of}
+use Rattle.board_core.specs.Time.{HasTime, now_of, time_fault}
 use Rattle.board_core.specs.Tsc.{no_processor, processor_at}
 use Rattle.board_core.specs.Hv.{publishes_hv, hv_published_at_host}
 use Rattle.board_core.specs.Wall.{publishes_wall, wall_version_after}
@@ -134,9 +94,8 @@ refusal_of-tally b t cpu h a x =
     (cond (publishes_hv a) (Some (sym x.hv_version i)) (same_version (published_by cpu a) b t x i)) in
     let anchor : b.anchor ≡ t.anchor = sym x.anchor in
     let accesses : b.accesses ≡ t.accesses = sym x.accesses in
-    λ i. cond (ltb h (anchor i).start) (Some (BeforeStart (anchor i).start))
-    (cond (leb RANGE_NS (time_at (anchor i) h)) (Some (OutOfRange (time_at (anchor i) h)))
-    (spent_version (raised i) (cond (leb MOST_ACCESSES (accesses i)) (Some (Spent (accesses i))) None)))
+    λ i. option_or (option_map untimed (time_fault (anchor i) h))
+    (spent_version (raised i) (cond (leb MOST_ACCESSES (accesses i)) (Some (Spent (accesses i))) None))
 
 -- the page that an access publishes has a place
 pub page_place : (cpus format cpu : ℕ) (a : Access) → cpus ≤ 64 → cpu < cpus → IsTrue (is_legal cpus format a) → IfSome (published_by cpu a) (λ k. k < 64)

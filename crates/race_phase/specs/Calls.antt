@@ -25,16 +25,12 @@ use Rattle.pvclock_page.specs.declared.page.ClockReply.TheVariants.{Off, On}
 use Rattle.board_types.specs.Legal.{is_legal}
 use Rattle.board_types.specs.declared.parts.BoardParts.{BoardParts}
 use Rattle.board_types.specs.declared.setup.TheConstants.{HV_FORMAT}
-use Rattle.board_history.specs.Machine.{machine_of, ratio_in, reading_by, answer_by, hv_answer_by}
+use Rattle.board_core.specs.Pages.{reading_by, answer_by}
+use Rattle.board_core.specs.Hv.{hv_answer_by}
+use Rattle.board_history.specs.Machine.{machine_of, ratio_in}
 use Rattle.board_history.specs.History.{board_after, entries_of, IsLegal, Opens}
 use Rattle.board_history.specs.declared.entry.Entry.{Entry}
-use Rattle.board_history.specs.declared.entry.Entry.TheVariants.{
-  Opened,
-  Board,
-  PageRead,
-  HvRead,
-  Clamp,
-}
+use Rattle.board_history.specs.declared.entry.Entry.TheVariants.{Board, PageRead, HvRead}
 use Rattle.clock_table.specs.declared.view.Miss.{Miss}
 use Rattle.clock_table.specs.Ends.{MissesTold}
 use Rattle.shared_board.specs.Pages.{clock_entries}
@@ -108,11 +104,7 @@ AllTried cpus (PageRead n k h page true ∷ es) ms =
 AllTried cpus (HvRead n h page true ∷ es) ms =
     (first : ℕ) × (second : ℕ) × (rest : List Miss) × (ms ≡ miss cpus first second ∷ rest)
     × IsUpdate first second × AllTried cpus es rest
-AllTried cpus (PageRead n k h page false ∷ es) ms = AllTried cpus es ms
-AllTried cpus (HvRead n h page false ∷ es) ms = AllTried cpus es ms
-AllTried cpus (Opened s ∷ es) ms = AllTried cpus es ms
-AllTried cpus (Board n cpu h a reply ∷ es) ms = AllTried cpus es ms
-AllTried cpus (Clamp n k reading clock ∷ es) ms = AllTried cpus es ms
+AllTried cpus (e ∷ es) ms = AllTried cpus es ms
 
 -- so the pass n has taken the lock for a read, and the version that each of its misses met came
 abbrev pub IsTried : ℕ → List Entry → ℕ → Type 0

@@ -1,27 +1,9 @@
 -- The records in file order, as one thread would take them: what they leave, and which is refused.
-use Rattle.std.specs.Prelude.{
-  ◌≡◌,
-  ℕ,
-  ◌≤◌,
-  nat_lt,
-  nat_le,
-  List,
-  [],
-  ◌∷◌,
-  length,
-  Option,
-  Some,
-  None,
-  if◌then◌else◌,
-}
-use Rattle.clk_units.specs.declared.ranges.TheConstants.{RANGE_NS}
-use Rattle.host_counter.specs.declared.Anchor.{Anchor}
-use Rattle.host_counter.specs.declared.TimeFault.{TimeFault}
-use Rattle.host_counter.specs.declared.TimeFault.TheVariants.{BeforeStart, OutOfRange}
-use Rattle.host_counter.specs.Time.{time_at}
+use Rattle.std.specs.Prelude.{◌≡◌, ℕ, ◌≤◌, List, [], ◌∷◌, length, Option, None}
+use Rattle.std.specs.Option.{option_or, option_map}
 use Rattle.board_types.specs.declared.parts.BoardParts.{BoardParts}
-use Rattle.board_types.specs.declared.reply.Refusal.{Refusal}
 use Rattle.board_core.specs.Access.{after_access}
+use Rattle.board_core.specs.Time.{time_fault}
 use Rattle.board_core.specs.Refusals.{refusal_of}
 use Rattle.board_history.specs.Counts.{SameCounts}
 use Rattle.race_phase.specs.declared.faults.Cause.{Cause}
@@ -31,44 +13,16 @@ use Rattle.race_phase.specs.declared.records.Call.{Call}
 use Rattle.race_phase.specs.declared.records.Call.TheVariants.{Act, ReadPage, ReadClock, ReadHv}
 use Rattle.race_phase.specs.declared.records.Record.{Record}
 
--- the first of two causes, and of two faults
-abbrev pub or_cause : Option Cause → Option Cause → Option Cause
-or_cause None o = o
-or_cause (Some c) o = Some c
-
--- the first of two faults
-abbrev pub or_fault : Option Fault → Option Fault → Option Fault
-or_fault None o = o
-or_fault (Some f) o = Some f
-
 -- a cause, with the line that is refused for it
 abbrev pub at_line : ℕ → Option Cause → Option Fault
-at_line line None = None
-at_line line (Some cause) = Some (record { line = line; cause = cause })
-
--- the board's refusal, as a cause
-abbrev pub by_access : Option Refusal → Option Cause
-by_access None = None
-by_access (Some refusal) = Some (ByAccess refusal)
-
--- why a count of the host's counter has no time, if it has none
-abbrev pub time_fault : Anchor → ℕ → Option TimeFault
-time_fault anchor h =
-    if nat_lt h anchor.start then Some (BeforeStart anchor.start)
-    else if nat_le RANGE_NS (time_at anchor h) then Some (OutOfRange (time_at anchor h))
-    else None
-
--- a count without a time, as a cause
-abbrev pub by_count : Option TimeFault → Option Cause
-by_count None = None
-by_count (Some fault) = Some (ByCount fault)
+at_line line cause = option_map (λ c. record { line = line; cause = c }) cause
 
 -- why a call is refused: an access by the board, a read as its count has no time
 abbrev pub call_cause : BoardParts → ℕ → ℕ → Call → Option Cause
-call_cause b cpu h (Act a) = by_access (refusal_of b cpu h a)
-call_cause b cpu h (ReadPage page) = by_count (time_fault b.anchor h)
-call_cause b cpu h (ReadClock page) = by_count (time_fault b.anchor h)
-call_cause b cpu h ReadHv = by_count (time_fault b.anchor h)
+call_cause b cpu h (Act a) = option_map ByAccess (refusal_of b cpu h a)
+call_cause b cpu h (ReadPage page) = option_map ByCount (time_fault b.anchor h)
+call_cause b cpu h (ReadClock page) = option_map ByCount (time_fault b.anchor h)
+call_cause b cpu h ReadHv = option_map ByCount (time_fault b.anchor h)
 
 -- .. and a record, with its line
 abbrev pub record_fault : BoardParts → Record → Option Fault
@@ -93,7 +47,7 @@ after_records b (r ∷ rs) = after_records (after_record b r) rs
 -- the first of these records that is refused
 abbrev pub records_fault : BoardParts → List Record → Option Fault
 records_fault b [] = None
-records_fault b (r ∷ rs) = or_fault (record_fault b r) (records_fault (after_record b r) rs)
+records_fault b (r ∷ rs) = option_or (record_fault b r) (records_fault (after_record b r) rs)
 
 -- two boards that refuse alike: of the same counts and the same time, and with a place for each
 -- processor

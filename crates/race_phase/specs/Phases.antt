@@ -1,20 +1,6 @@
 -- A trace of phases: what ends one, what it is refused, and what it prints.
-use Rattle.std.specs.Prelude.{
-  ◌≡◌,
-  ℕ,
-  ◌<◌,
-  ◌≤◌,
-  ◌^◌,
-  List,
-  [],
-  ◌∷◌,
-  ◌++◌,
-  length,
-  All,
-  Option,
-  Some,
-  None,
-}
+use Rattle.std.specs.Prelude.{◌≡◌, ℕ, ◌<◌, ◌≤◌, ◌^◌, List, [], ◌∷◌, ◌++◌, length, All, Option, None}
+use Rattle.std.specs.Option.{option_or, option_map}
 use Rattle.clk_units.specs.Ranges.{IsKhz}
 use Rattle.race_phase.specs.declared.deliveries.Deliveries.{Deliveries}
 use Rattle.board_types.specs.declared.access.Access.TheVariants.{Step}
@@ -30,23 +16,14 @@ use Rattle.board_history.specs.declared.entry.Entry.TheVariants.{Board}
 use Rattle.reply_text.specs.Text.{save_text, move_text}
 use Rattle.save_state.specs.Writing.{bytes_of}
 use Rattle.transfer.specs.Move.{gap_bursts, move_fault, moved_to}
-use Rattle.transfer.specs.declared.outcome.MoveFault.{MoveFault}
-use Rattle.race_phase.specs.declared.faults.Cause.{Cause}
-use Rattle.race_phase.specs.declared.faults.Cause.TheVariants.{Move as ByMove}
+use Rattle.race_phase.specs.declared.faults.Cause.TheVariants.{Move as ByMove, Access as ByAccess}
 use Rattle.race_phase.specs.declared.faults.Fault.{Fault}
 use Rattle.race_phase.specs.declared.phases.End.{End}
 use Rattle.race_phase.specs.declared.phases.End.TheVariants.{Finish, Save, Move}
 use Rattle.race_phase.specs.declared.phases.Phase.{Phase}
 use Rattle.race_phase.specs.Blocks.{edges_text, messages_text}
 use Rattle.race_phase.specs.Calls.{IsFitting, Shown}
-use Rattle.race_phase.specs.Order.{
-  or_cause,
-  or_fault,
-  at_line,
-  by_access,
-  after_records,
-  records_fault,
-}
+use Rattle.race_phase.specs.Order.{at_line, after_records, records_fault}
 
 -- a board of this many processors and this format takes what ends a phase, and its records
 abbrev pub IsEnd : ℕ → End → Type 0
@@ -67,19 +44,14 @@ next_board (Save line cpu h) b = after_access b cpu h Step
 next_board (Move line cpu h host) b =
     moved_to host.khz host.start host.gap (after_access b cpu h Step)
 
--- why the end of a phase is refused: by its access, or after that by the move
-abbrev pub by_move : Option MoveFault → Option Cause
-by_move None = None
-by_move (Some fault) = Some (ByMove fault)
-
 -- the end of a phase with its line: its access is refused, or then its move
 abbrev pub end_fault : BoardParts → End → Option Fault
 end_fault b Finish = None
-end_fault b (Save line cpu h) = at_line line (by_access (refusal_of b cpu h Step))
+end_fault b (Save line cpu h) = at_line line (option_map ByAccess (refusal_of b cpu h Step))
 end_fault b (Move line cpu h host) =
     at_line line
-    (or_cause (by_access (refusal_of b cpu h Step))
-    (by_move (move_fault host.gap (after_access b cpu h Step))))
+    (option_or (option_map ByAccess (refusal_of b cpu h Step))
+    (option_map ByMove (move_fault host.gap (after_access b cpu h Step))))
 
 -- the first fault of a trace in file order
 abbrev pub after_phase : BoardParts → Phase → BoardParts
@@ -88,13 +60,13 @@ after_phase b v = next_board v.end (after_records b v.lines.records)
 -- .. of a phase: that of its records, or else of its end
 abbrev pub phase_fault : BoardParts → Phase → Option Fault
 phase_fault b v =
-    or_fault (records_fault b v.lines.records)
+    option_or (records_fault b v.lines.records)
     (end_fault (after_records b v.lines.records) v.end)
 
 -- .. of phases, one after another
 abbrev pub trace_fault : BoardParts → List Phase → Option Fault
 trace_fault b [] = None
-trace_fault b (v ∷ vs) = or_fault (phase_fault b v) (trace_fault (after_phase b v) vs)
+trace_fault b (v ∷ vs) = option_or (phase_fault b v) (trace_fault (after_phase b v) vs)
 
 -- the access that ends a phase on the board after it, as an entry of its processor's pass
 abbrev pub step_entry : ℕ → ℕ → BoardParts → Entry

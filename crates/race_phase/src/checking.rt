@@ -1,5 +1,6 @@
 //! Whether a board takes a trace of phases, by its counts alone.
 ghost use Rattle.std.specs.Prelude.{◌≡◌, ◌≢◌, ◌<◌, ◌≤◌, ◌^◌, ℕ, All, IsTrue, None, false, length, true};
+ghost use Rattle.board_core.specs.Time.{time_fault};
 ghost use Rattle.std.specs.Bool.{OnTrue};
 ghost use Rattle.clk_units.specs.Ranges.{IsKhz};
 ghost use Rattle.board_types.specs.Legal.{is_legal};
@@ -8,7 +9,7 @@ ghost use Rattle.board_core.specs.Access.{after_access};
 ghost use Rattle.board_core.specs.Refusals.{refusal_of};
 ghost use Rattle.transfer.specs.Move.{move_fault, moved_to};
 ghost use Rattle.race_phase.specs.Calls.{IsFitting};
-ghost use Rattle.race_phase.specs.Order.{after_record, after_records, records_fault, time_fault};
+ghost use Rattle.race_phase.specs.Order.{after_record, after_records, records_fault};
 ghost use Rattle.race_phase.specs.Phases.{IsPhase, after_phase, next_board, trace_fault};
 ghost use Rattle.race_phase.specs.Tallies.{IsTally};
 ghost use Rattle.race_phase.specs.private.Checked.{TakesRecord, TakesEnd, TakesPhase};

@@ -1,11 +1,20 @@
 //! The end of a phase: a save or a move.
 ghost use Rattle.std.specs.Prelude.{◌≡◌, ◌<◌, ◌++◌, Some, None, IfOk, IfSome, IfNone, OnOk, OnErr};
+ghost use Rattle.std.specs.Option.{option_map};
 ghost use Rattle.std.specs.Io.{StartsWith};
 ghost use Rattle.clk_units.specs.Ranges.{IsKhz};
 ghost use Rattle.transfer.specs.Move.{move_fault, moved_to};
+ghost use Rattle.race_phase.specs.declared.faults.Cause.TheVariants.{Move as ByMove};
 ghost use Rattle.race_phase.specs.Blocks.{edges_text, messages_text};
 ghost use Rattle.race_phase.specs.Order.{at_line};
-ghost use Rattle.race_phase.specs.Phases.{IsEnd, next_board, by_move, end_fault, end_text, save_block, move_block};
+ghost use Rattle.race_phase.specs.Phases.{
+  IsEnd,
+  next_board,
+  end_fault,
+  end_text,
+  save_block,
+  move_block,
+};
 
 use crate::deliveries::{Deliveries, edge_lines, message_lines};
 use crate::faults::{Cause, Fault};
@@ -85,7 +94,7 @@ fn cross_gap(
 ) -> Result<Option<Fault>, NoMemory>
     requires rate { IsKhz host.khz }
     ensures fault { IfOk result
-        (λ f. f ≡ at_line line (by_move (move_fault host.gap board.old))) }
+        (λ f. f ≡ at_line line (option_map ByMove (move_fault host.gap board.old))) }
     ensures board { IfOk result (λ f. IfNone f
         (board.new ≡ moved_to host.khz host.start host.gap board.old)) }
     ensures text { IfOk result (λ f. IfNone f (out.new.items ≡ out.old.items

@@ -8,7 +8,8 @@ use Rattle.pvclock_page.specs.declared.page.ClockReply.{ClockReply}
 use Rattle.pvclock_page.specs.declared.page.ClockReply.TheVariants.{Off as ClockOff, On as ClockOn}
 use Rattle.host_counter.specs.declared.Anchor.{Anchor}
 use Rattle.board_types.specs.declared.parts.BoardParts.{BoardParts}
-use Rattle.board_history.specs.Machine.{Machine, machine_of, ratio_in, reading_by}
+use Rattle.board_core.specs.Pages.{reading_by}
+use Rattle.board_history.specs.Machine.{Machine, machine_of, ratio_in}
 use Rattle.board_history.specs.History.{floor_after, entries_of, last_of, Reads}
 use Rattle.board_history.specs.declared.entry.Entry.{Entry}
 use Rattle.board_history.specs.declared.entry.Entry.TheVariants.{Opened, Board, PageRead, HvRead, Clamp}

@@ -5,7 +5,9 @@ use Rattle.pvclock_page.specs.declared.page.Page.{Page}
 use Rattle.hv_page.specs.Words.{of_page}
 use Rattle.host_counter.specs.declared.Anchor.{Anchor}
 use Rattle.board_types.specs.declared.parts.BoardParts.{BoardParts}
-use Rattle.board_history.specs.Machine.{Machine, machine_of, page_at, ratio_in, answer_by, hv_answer_by, page_published}
+use Rattle.board_core.specs.Pages.{answer_by}
+use Rattle.board_core.specs.Hv.{hv_answer_by}
+use Rattle.board_history.specs.Machine.{Machine, machine_of, page_at, ratio_in, page_published}
 use Rattle.board_history.specs.History.{board_after, version_after, entries_of, IsLegal, read_of}
 use Rattle.board_history.specs.declared.entry.Entry.{Entry}
 use Rattle.board_history.proofs.Laws.{legal-version, read_of-number, read_of-page, read_of-hv}

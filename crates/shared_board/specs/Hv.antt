@@ -3,7 +3,8 @@ use Rattle.std.specs.Prelude.{◌≡◌, ℕ, ◌≤◌, [], ◌∷◌, Bool, tr
 use Rattle.hv_page.specs.declared.page.HvPage.{HvPage}
 use Rattle.hv_page.specs.declared.page.HvReply.{HvReply}
 use Rattle.board_types.specs.declared.parts.BoardParts.{BoardParts}
-use Rattle.board_history.specs.Machine.{machine_of, ratio_in, hv_answer_by}
+use Rattle.board_core.specs.Hv.{hv_answer_by}
+use Rattle.board_history.specs.Machine.{machine_of, ratio_in}
 use Rattle.board_history.specs.History.{version_after}
 use Rattle.board_history.specs.declared.entry.Entry.TheVariants.{HvRead}
 use Rattle.shared_board.specs.declared.known.PassKnown.{PassKnown}

@@ -6,7 +6,8 @@ use Rattle.pvclock_page.specs.declared.page.PageReply.{PageReply}
 use Rattle.pvclock_page.specs.declared.page.ClockReply.{ClockReply}
 use Rattle.pvclock_page.specs.declared.page.ClockReply.TheVariants.{Off, On}
 use Rattle.board_types.specs.declared.parts.BoardParts.{BoardParts}
-use Rattle.board_history.specs.Machine.{machine_of, ratio_in, reading_by, answer_by}
+use Rattle.board_core.specs.Pages.{reading_by, answer_by}
+use Rattle.board_history.specs.Machine.{machine_of, ratio_in}
 use Rattle.board_history.specs.History.{version_after}
 use Rattle.board_history.specs.declared.entry.Entry.{Entry}
 use Rattle.board_history.specs.declared.entry.Entry.TheVariants.{PageRead, Clamp}

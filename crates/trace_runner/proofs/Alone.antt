@@ -29,22 +29,15 @@ use Rattle.std.proofs.Common.{
 use Rattle.std.specs.Prelude.{All}
 use Rattle.std.proofs.lemmas.List.Elements.{All-head, All-tail}
 use Rattle.hv_page.specs.declared.page.HvPage.{HvPage}
-use Rattle.board_core.specs.Hv.{hv_reply}
+use Rattle.board_core.specs.Hv.{hv_reply, hv_answer_by}
 use Rattle.board_types.specs.declared.parts.BoardParts.{BoardParts}
 use Rattle.pvclock_page.specs.declared.page.Page.{Page}
 use Rattle.pvclock_page.specs.declared.page.PageReply.{PageReply}
 use Rattle.pvclock_page.specs.declared.page.PageReply.TheVariants.{Off as PageOff, On as PageOn}
 use Rattle.pvclock_page.specs.declared.page.ClockReply.TheVariants.{Off, On}
-use Rattle.board_core.specs.Pages.{
-  page_reply,
-  clamped,
-  greatest_with,
-  clock_reply,
-  after_clock,
-  with_greatest,
-}
+use Rattle.board_core.specs.Pages.{page_reply, clamped, greatest_with, clock_reply, after_clock, with_greatest, reading_by, answer_by}
 use Rattle.board_core.proofs.Laws.{after_access-cpus}
-use Rattle.board_history.specs.Machine.{machine_of, page_at, ratio_in, reading_by, answer_by, hv_at, hv_answer_by}
+use Rattle.board_history.specs.Machine.{machine_of, page_at, ratio_in, hv_at}
 use Rattle.board_history.specs.History.{
   of_state,
   board_after,

@@ -1,5 +1,6 @@
 -- A move goes past the greatest clock reading, and what it is refused doesn't depend on it.
-use Rattle.std.proofs.Common.{◌≡◌, ℕ, zero, suc, leb, cond, ◌+◌, Option, Some, refl, ap, ◌∙◌}
+use Rattle.std.proofs.Common.{◌≡◌, ℕ, zero, suc, leb, cond, ◌+◌, Option, Some, refl, ap, ◌∙◌, option_map}
+use Rattle.std.specs.Option.{option_or}
 use Rattle.clk_units.specs.declared.ranges.TheConstants.{RANGE_NS}
 use Rattle.board_types.specs.declared.access.Access.TheVariants.{Step}
 use Rattle.board_types.specs.declared.parts.BoardParts.{BoardParts}
@@ -12,8 +13,9 @@ use Rattle.board_core.specs.Refusals.{refusal_of}
 use Rattle.board_core.specs.Tsc.{processor_at}
 use Rattle.board_core.specs.Time.{now_of}
 use Rattle.board_core.proofs.Laws.{after_access-greatest, refusal_of-greatest}
-use Rattle.race_phase.specs.Order.{or_cause, at_line, by_access}
-use Rattle.race_phase.specs.Phases.{by_move, next_board, end_fault}
+use Rattle.race_phase.specs.declared.faults.Cause.TheVariants.{Access as ByAccess, Move as ByMove}
+use Rattle.race_phase.specs.Order.{at_line}
+use Rattle.race_phase.specs.Phases.{next_board, end_fault}
 use Rattle.race_phase.specs.declared.phases.End.{End}
 use Rattle.race_phase.specs.declared.phases.End.TheVariants.{Finish, Save, Move}
 use Rattle.transfer.specs.Move.{
@@ -60,9 +62,9 @@ next_board-greatest (Move line cpu h host) b g =
 
 pub end_fault-greatest : (end : End) (b : BoardParts) (g : ℕ) → end_fault (with_greatest b g) end ≡ end_fault b end
 end_fault-greatest Finish b g = refl
-end_fault-greatest (Save line cpu h) b g = ap (λ (o : Option Refusal). at_line line (by_access o)) (refusal_of-greatest b cpu h g Step)
+end_fault-greatest (Save line cpu h) b g = ap (λ (o : Option Refusal). at_line line (option_map ByAccess o)) (refusal_of-greatest b cpu h g Step)
 end_fault-greatest (Move line cpu h host) b g =
-    ap (λ (o : Option Refusal). at_line line (or_cause (by_access o) (by_move (move_fault host.gap (after_access (with_greatest b g) cpu h Step)))))
+    ap (λ (o : Option Refusal). at_line line (option_or (option_map ByAccess o) (option_map ByMove (move_fault host.gap (after_access (with_greatest b g) cpu h Step)))))
     (refusal_of-greatest b cpu h g Step)
-    ∙ ap (λ (o : Option MoveFault). at_line line (or_cause (by_access (refusal_of b cpu h Step)) (by_move o)))
+    ∙ ap (λ (o : Option MoveFault). at_line line (option_or (option_map ByAccess (refusal_of b cpu h Step)) (option_map ByMove o)))
     (ap (move_fault host.gap) (after_access-greatest b cpu h g Step) ∙ move_fault-greatest host.gap (after_access b cpu h Step) g)

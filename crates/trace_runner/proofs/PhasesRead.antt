@@ -1,12 +1,12 @@
 -- Phases as they were read, and as they are run.
 use Rattle.std.proofs.Common.{◌≡◌, ℕ, List, [], ◌∷◌, ◌++◌, Option, refl, ap}
+use Rattle.std.specs.Option.{option_or}
 use Rattle.std.specs.Prelude.{All}
 use Rattle.std.proofs.lemmas.List.{map-append}
 use Rattle.std.proofs.lemmas.List.Elements.{All-nil, All-cons, All-head, All-tail}
 use Rattle.board_types.specs.declared.parts.BoardParts.{BoardParts}
 use Rattle.race_phase.specs.declared.faults.Fault.{Fault}
 use Rattle.race_phase.specs.declared.phases.Phase.{Phase}
-use Rattle.race_phase.specs.Order.{or_fault}
 use Rattle.race_phase.specs.Phases.{
   IsPhase as IsRunPhase,
   phase_fault as run_phase_fault,
@@ -29,4 +29,4 @@ run_fits cpus format (v ∷ vs) fits =
 
 pub run_fault-read : (b : BoardParts) (vs : List Phase) → run_fault b vs ≡ trace_fault b (phases_read vs)
 run_fault-read b [] = refl
-run_fault-read b (v ∷ vs) = ap (λ (o : Option Fault). or_fault (run_phase_fault b v) o) (run_fault-read (after_run_phase b v) vs)
+run_fault-read b (v ∷ vs) = ap (λ (o : Option Fault). option_or (run_phase_fault b v) o) (run_fault-read (after_run_phase b v) vs)

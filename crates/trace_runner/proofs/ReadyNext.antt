@@ -46,9 +46,7 @@ use Rattle.race_phase.specs.declared.phases.End.{End as PhaseEnd}
 use Rattle.race_phase.specs.declared.phases.End.TheVariants.{Finish, Save as BySave, Move as ByMove}
 use Rattle.reply_text.specs.declared.ends.Refused.{Refused}
 use Rattle.trace_text.specs.Tokens.{words_of}
-use Rattle.trace_text.specs.Header.{first_line, header_line, cpus_of, format_of}
-use Rattle.trace_text.specs.declared.header.Begin.{Begin}
-use Rattle.trace_text.specs.declared.header.Begin.TheVariants.{Fresh, Saved}
+use Rattle.trace_text.specs.Header.{first_line, header_line, board_of}
 use Rattle.trace_text.specs.Records.{record_of}
 use Rattle.trace_text.specs.Lines.{
   is_skipped,
@@ -92,7 +90,7 @@ use Rattle.trace_runner.specs.Records.{
   ended_answer,
   job_answer,
 }
-use Rattle.trace_runner.specs.Replay.{board_of, item_answer, with_board}
+use Rattle.trace_runner.specs.Replay.{item_answer, with_board}
 use Rattle.trace_runner.specs.Ready.{IsRound, IsReady}
 use Rattle.trace_runner.specs.declared.replay.Replay.{Replay}
 use Rattle.trace_runner.specs.declared.status.Verdict.{Verdict}
@@ -104,15 +102,6 @@ Onward Part t b = IsRound t b
 Onward (Begun header) t b = IsRound t (board_of header.begin)
 Onward (Next rec) t b = IsRound t b
 Onward End t b = Unit {0}
-
--- the board with which a trace begins is that of its header
-begun-cpus : (b : Begin) → cpus_of b ≡ (board_of b).cpus
-begun-cpus (Fresh setup) = refl
-begun-cpus (Saved board) = refl
-
-begun-format : (b : Begin) → format_of b ≡ (board_of b).format
-begun-format (Fresh setup) = refl
-begun-format (Saved board) = refl
 
 abbrev Fits : BoardParts → Result Stepped Reason → Type 0
 Fits b (Ok step) = Onward step.item step.stage b
@@ -132,7 +121,7 @@ module _ (text : List ℕ) (b : BoardParts) where
   stage_fits (Heading head) round = by_begin (bytes_eq text (codes "begin"))
     where
       by_begin : (t : Bool) → Fits b (cond t (Ok (begun head)) (part (header_line head (words_of text))))
-      by_begin true = (begun-cpus head.begin, begun-format head.begin)
+      by_begin true = (refl, refl)
       by_begin false = part_fits (header_line head (words_of text))
   stage_fits (Running body) round = by_end (bytes_eq text (codes "end"))
     where

@@ -21,7 +21,9 @@ use Rattle.std.proofs.Common.{
   subst,
   ◌∙◌,
   arith,
+  option_map,
 }
+use Rattle.trace_text.specs.Header.{board_of}
 use Rattle.std.specs.Option.{option_map}
 use Rattle.std.proofs.lemmas.List.Elements.{All-nil, All-push}
 use Rattle.host_counter.specs.declared.TimeFault.{TimeFault}
@@ -29,6 +31,7 @@ use Rattle.board_types.specs.Legal.{is_legal}
 use Rattle.board_types.specs.declared.access.Access.{Access}
 use Rattle.board_types.specs.declared.parts.BoardParts.{BoardParts}
 use Rattle.board_types.specs.declared.reply.Refusal.{Refusal}
+use Rattle.board_core.specs.Time.{time_fault}
 use Rattle.board_core.specs.Access.{after_access}
 use Rattle.board_core.specs.Hv.{hv_reply}
 use Rattle.board_types.specs.declared.setup.TheConstants.{HV_FORMAT}
@@ -36,6 +39,7 @@ use Rattle.board_core.specs.Pages.{page_reply, clock_reply, after_clock, with_gr
 use Rattle.board_core.specs.PowerOn.{board_at_power_on}
 use Rattle.board_core.specs.Refusals.{refusal_of}
 use Rattle.board_core.proofs.Laws.{after_access-greatest, refusal_of-greatest}
+use Rattle.race_phase.specs.declared.faults.Cause.TheVariants.{Access as ByAccess, Count as ByCount}
 use Rattle.race_phase.specs.declared.deliveries.Deliveries.{Deliveries}
 use Rattle.reply_text.specs.Text.{page_text, clock_text, hv_text}
 use Rattle.reply_text.specs.declared.ends.Refused.{Refused}
@@ -57,10 +61,10 @@ use Rattle.trace_runner.specs.Records.{
   end_answer,
   job_answer,
 }
-use Rattle.trace_runner.specs.Replay.{opening, board_of}
+use Rattle.trace_runner.specs.Replay.{opening}
 use Rattle.trace_runner.specs.Ready.{JobSuits}
 use Rattle.race_phase.specs.Calls.{IsFitting, IsFittingCall}
-use Rattle.race_phase.specs.Order.{at_line, by_access, by_count, time_fault, record_fault, after_record, after_records, records_fault}
+use Rattle.race_phase.specs.Order.{at_line, record_fault, after_record, after_records, records_fault}
 use Rattle.race_phase.specs.Phases.{IsEnd, next_board, end_fault}
 use Rattle.race_phase.specs.declared.faults.Fault.{Fault}
 use Rattle.trace_runner.specs.Check.{
@@ -110,16 +114,16 @@ module _ (b : BoardParts) (g line cpu h : ℕ) (ds : Deliveries) where
   free a is = sym (refusal_of-greatest b cpu h g a) ∙ is
 
   act_goes : (o : Option Refusal) (a : Access) → refusal_of (with_greatest b g) cpu h a ≡ o
-      → Goes_on (at_line line (by_access (refusal_of b cpu h a))) (after_access b cpu h a) (access_answer o line cpu h a ds (with_greatest b g))
-  act_goes None a is = (ap (λ (x : Option Refusal). at_line line (by_access x)) (free a is), (g, after_access-greatest b cpu h g a))
+      → Goes_on (at_line line (option_map ByAccess (refusal_of b cpu h a))) (after_access b cpu h a) (access_answer o line cpu h a ds (with_greatest b g))
+  act_goes None a is = (ap (λ (x : Option Refusal). at_line line (option_map ByAccess x)) (free a is), (g, after_access-greatest b cpu h g a))
   act_goes (Some refusal) a is = tt
 
   read_goes : (o : Option Refused) (text : List ℕ) (m : ℕ) → refused_count (with_greatest b g) h ≡ o
-      → Goes_on (at_line line (by_count (time_fault b.anchor h))) b (read_answer o line text (with_greatest b m))
-  read_goes None text m is = (ap (λ (x : Option TimeFault). at_line line (by_count x)) (timed (with_greatest b g) h is), (m, refl))
+      → Goes_on (at_line line (option_map ByCount (time_fault b.anchor h))) b (read_answer o line text (with_greatest b m))
+  read_goes None text m is = (ap (λ (x : Option TimeFault). at_line line (option_map ByCount x)) (timed (with_greatest b g) h is), (m, refl))
   read_goes (Some why) text m is = tt
 
-  clock_goes : (page : ℕ) → Goes_on (at_line line (by_count (time_fault b.anchor h))) b (clock_answer line page h (with_greatest b g))
+  clock_goes : (page : ℕ) → Goes_on (at_line line (option_map ByCount (time_fault b.anchor h))) b (clock_answer line page h (with_greatest b g))
   unfolding after_clock
   clock_goes page =
       read_goes (refused_count (with_greatest b g) h) (clock_text line (clock_reply (with_greatest b g) page h))
@@ -214,24 +218,24 @@ job_kept line rec job s sound few there suits = by_job job suits
         call_kept line rec (Act a) s _ sound cpu
         (subst (λ (n : ℕ). is_legal n s.opening.format a ≡ true) sound.cpus
         (subst (λ (f : ℕ). is_legal s.replay.board.cpus f a ≡ true) sound.format legal)) (same (Board a))
-        (subst (λ (c : BoardParts). Goes_on (at_line line (by_access (refusal_of (now s) rec.cpu rec.h a))) (after_access (now s) rec.cpu rec.h a)
+        (subst (λ (c : BoardParts). Goes_on (at_line line (option_map ByAccess (refusal_of (now s) rec.cpu rec.h a))) (after_access (now s) rec.cpu rec.h a)
         (board_answer line rec.cpu rec.h a s.replay.deliveries c)) (sym sound.board)
         (act_goes (now s) sound.greatest line rec.cpu rec.h s.replay.deliveries
         (refusal_of (with_greatest (now s) sound.greatest) rec.cpu rec.h a) a refl))
     by_job (Page page) inside =
         call_kept line rec (ReadPage page) s _ sound cpu (subst (λ (n : ℕ). page < n) sound.cpus inside) (same (Page page))
-        (subst (λ (c : BoardParts). Goes_on (at_line line (by_count (time_fault (now s).anchor rec.h))) (now s) (page_answer line page rec.h c))
+        (subst (λ (c : BoardParts). Goes_on (at_line line (option_map ByCount (time_fault (now s).anchor rec.h))) (now s) (page_answer line page rec.h c))
         (sym sound.board)
         (read_goes (now s) sound.greatest line rec.cpu rec.h s.replay.deliveries (refused_count (with_greatest (now s) sound.greatest) rec.h)
         (page_text line (page_reply (with_greatest (now s) sound.greatest) page rec.h)) sound.greatest refl))
     by_job (Clock page) inside =
         call_kept line rec (ReadClock page) s _ sound cpu (subst (λ (n : ℕ). page < n) sound.cpus inside) (same (Clock page))
-        (subst (λ (c : BoardParts). Goes_on (at_line line (by_count (time_fault (now s).anchor rec.h))) (now s) (clock_answer line page rec.h c))
+        (subst (λ (c : BoardParts). Goes_on (at_line line (option_map ByCount (time_fault (now s).anchor rec.h))) (now s) (clock_answer line page rec.h c))
         (sym sound.board)
         (clock_goes (now s) sound.greatest line rec.cpu rec.h s.replay.deliveries page))
     by_job Hv has =
         call_kept line rec ReadHv s _ sound cpu (subst (λ (n : ℕ). HV_FORMAT ≤ n) sound.format has) (same Hv)
-        (subst (λ (c : BoardParts). Goes_on (at_line line (by_count (time_fault (now s).anchor rec.h))) (now s) (hv_answer line rec.h c))
+        (subst (λ (c : BoardParts). Goes_on (at_line line (option_map ByCount (time_fault (now s).anchor rec.h))) (now s) (hv_answer line rec.h c))
         (sym sound.board)
         (read_goes (now s) sound.greatest line rec.cpu rec.h s.replay.deliveries (refused_count (with_greatest (now s) sound.greatest) rec.h)
         (hv_text line (hv_reply (with_greatest (now s) sound.greatest) rec.h)) sound.greatest refl))

@@ -18,7 +18,6 @@ use Rattle.std.specs.Prelude.{
   Err,
   if◌then◌else◌,
 }
-use Rattle.board_core.specs.PowerOn.{board_at_power_on}
 use Rattle.reply_text.specs.declared.ends.Refused.TheVariants.{Many}
 use Rattle.trace_text.specs.Lines.{taken, behind}
 use Rattle.trace_text.specs.declared.faults.Reason.{Reason}
@@ -40,10 +39,9 @@ use Rattle.trace_loop.specs.Progress.{
   behind as heard_behind,
   finished,
 }
-use Rattle.trace_runner.specs.Deliveries.{deliveries_of}
 use Rattle.trace_runner.specs.Ready.{IsReady}
 use Rattle.trace_runner.specs.Records.{refused_by, stops}
-use Rattle.trace_runner.specs.Replay.{at_start, opening, board_of, record_answer, closing_of}
+use Rattle.trace_runner.specs.Replay.{at_start, record_answer, closing_of, with_header}
 use Rattle.trace_runner.specs.Checking.{Checking}
 use Rattle.trace_runner.specs.Sound.{IsSound}
 use Rattle.trace_runner.specs.Trace.{PhaseRead, TraceRead}
@@ -60,15 +58,13 @@ use Rattle.trace_runner.specs.declared.check.Checked.TheVariants.{Whole, Stopped
 use Rattle.trace_runner.specs.declared.replay.Replay.{Replay}
 use Rattle.trace_runner.specs.declared.status.Verdict.{Verdict}
 
+-- a replay of which no record was checked yet
+abbrev pub unchecked : Replay → Checking
+unchecked r = record { replay = r; opening = r.board; phases = []; last = []; taken = 0 }
+
 -- before the first line
 abbrev pub check_start : Bool → Checking
-check_start shows_state = record {
-  replay = at_start shows_state;
-  opening = board_at_power_on opening;
-  phases = [];
-  last = [];
-  taken = 0;
-}
+check_start shows_state = unchecked (at_start shows_state)
 
 -- one record more of the phase, and a phase that ends
 abbrev pub with_call : ℕ → Written → Call → Checking → Checking
@@ -150,16 +146,7 @@ trace_of s = record {
 
 -- the header is whole: the trace begins, and no record was kept
 abbrev pub begun : Header → Checking → Checking
-begun header s = record {
-  replay = record s.replay {
-    board = board_of header.begin;
-    deliveries = deliveries_of (board_of header.begin).cpus header.routes;
-  };
-  opening = board_of header.begin;
-  phases = [];
-  last = [];
-  taken = 0;
-}
+begun header s = unchecked (with_header header s.replay)
 
 -- what a line does, by what it is: a line that has a record's form is refused as one too many first
 abbrev pub item_checked : ℕ → Item → Checking → Answer Checking Checked

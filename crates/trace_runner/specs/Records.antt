@@ -2,10 +2,6 @@
 use Rattle.std.specs.Prelude.{ℕ, List, Option, Some, None}
 use Rattle.std.specs.Option.{option_map}
 use Rattle.host_counter.specs.declared.TimeFault.{TimeFault}
-use Rattle.host_counter.specs.declared.TimeFault.TheVariants.{
-  BeforeStart as FaultBeforeStart,
-  OutOfRange as FaultOutOfRange,
-}
 use Rattle.board_types.specs.declared.access.Access.{Access}
 use Rattle.board_types.specs.declared.parts.BoardParts.{BoardParts}
 use Rattle.board_types.specs.declared.reply.Refusal.{Refusal}
@@ -16,11 +12,11 @@ use Rattle.board_types.specs.declared.reply.Refusal.TheVariants.{
   Spent as AccessesSpent,
 }
 use Rattle.board_core.specs.Access.{after_access, reply_of}
-use Rattle.board_core.specs.Refusals.{refusal_of}
+use Rattle.board_core.specs.Time.{time_fault}
+use Rattle.board_core.specs.Refusals.{untimed, refusal_of}
 use Rattle.board_core.specs.Pages.{page_reply, clock_reply, after_clock}
 use Rattle.board_core.specs.Hv.{hv_reply}
 use Rattle.race_phase.specs.declared.deliveries.Deliveries.{Deliveries}
-use Rattle.race_phase.specs.Order.{time_fault}
 use Rattle.transfer.specs.declared.outcome.MoveFault.{MoveFault}
 use Rattle.transfer.specs.declared.outcome.MoveFault.TheVariants.{
   OutOfRange as GapOutOfRange,
@@ -90,8 +86,7 @@ refused_access (AccessesSpent number) = Spent number
 
 -- a count of the host's counter that has no time
 abbrev pub refused_fault : TimeFault → Refused
-refused_fault (FaultBeforeStart start) = Fell start
-refused_fault (FaultOutOfRange ns) = Range ns
+refused_fault fault = refused_access (untimed fault)
 
 -- why a count of the host's counter has no time, if it has none
 unfoldable pub refused_count : BoardParts → ℕ → Option Refused

@@ -21,10 +21,10 @@ use Rattle.board_core.specs.Time.{devices_in, now_of}
 use Rattle.board_core.specs.PowerOn.{board_at_power_on}
 use Rattle.save_state.specs.Writing.{bytes_of}
 use Rattle.reply_text.specs.Text.{final_text, state_text}
+use Rattle.trace_text.specs.Header.{board_of}
 use Rattle.trace_text.specs.Lines.{at_start as reading_at_start, taken, behind, end_fault}
 use Rattle.trace_text.specs.declared.faults.RecordFault.{RecordFault}
-use Rattle.trace_text.specs.declared.header.Begin.{Begin}
-use Rattle.trace_text.specs.declared.header.Begin.TheVariants.{Fresh, Saved}
+use Rattle.trace_text.specs.declared.header.Header.{Header}
 use Rattle.trace_text.specs.declared.reading.Item.{Item}
 use Rattle.trace_text.specs.declared.reading.Item.TheVariants.{Skipped, Part, Begun, Next, End}
 use Rattle.trace_text.specs.declared.records.Record.{Record}
@@ -45,11 +45,6 @@ use Rattle.trace_runner.specs.Records.{refused_by, stops, job_answer}
 use Rattle.trace_runner.specs.declared.replay.Replay.{Replay}
 use Rattle.trace_runner.specs.declared.status.Verdict.{Verdict}
 use Rattle.trace_runner.specs.declared.status.Verdict.TheVariants.{Done}
-
--- the board with which a trace begins
-abbrev pub board_of : Begin → BoardParts
-board_of (Fresh setup) = board_at_power_on setup
-board_of (Saved board) = board
 
 -- before the first line; the board is one that no line asks
 abbrev pub opening : Setup
@@ -90,14 +85,18 @@ abbrev pub record_answer : ℕ → Record → Replay → Answer Replay Verdict
 record_answer line rec r =
     with_board (job_answer line rec.cpu rec.h rec.job r.deliveries r.board) r
 
+-- a replay behind this header
+abbrev pub with_header : Header → Replay → Replay
+with_header header r = record r {
+  board = board_of header.begin;
+  deliveries = deliveries_of (board_of header.begin).cpus header.routes;
+}
+
 -- what a line does, by what it is
 abbrev pub item_answer : ℕ → Item → Replay → Answer Replay Verdict
 item_answer line Skipped r = Goes [] r
 item_answer line Part r = Goes [] r
-item_answer line (Begun header) r = Goes [] (record r {
-  board = board_of header.begin;
-  deliveries = deliveries_of (board_of header.begin).cpus header.routes;
-})
+item_answer line (Begun header) r = Goes [] (with_header header r)
 item_answer line (Next rec) r = record_answer line rec r
 item_answer line End r = Ends (ended r.shows_state r.board)
 

@@ -1,17 +1,11 @@
 //! What answers the lines of a trace: a reader, and the board that its records act on.
 ghost use Rattle.std.specs.Prelude.{◌≡◌, ◌<◌, ◌+◌, ◌^◌, ◌++◌, Ok, None, Some, OnOk, OnErr};
+ghost use Rattle.trace_text.specs.Header.{board_of};
 ghost use Rattle.std.specs.Io.{StartsWith};
 ghost use Rattle.trace_loop.specs.Progress.{printed, end_of, state_behind};
 ghost use Rattle.trace_text.specs.Lines.{at_start as reading_at_start};
 ghost use Rattle.trace_runner.specs.Deliveries.{deliveries_of};
-ghost use Rattle.trace_runner.specs.Replay.{
-  answer_of,
-  board_of,
-  item_answer,
-  opening,
-  no_routes,
-  ended,
-};
+ghost use Rattle.trace_runner.specs.Replay.{answer_of, item_answer, opening, no_routes, ended};
 ghost use Rattle.trace_runner.specs.Ready.{IsReady, Suits};
 
 use crate::deliveries::deliveries_of;

@@ -1,5 +1,6 @@
 -- The header line `state`, by its first word and those behind it.
 use Rattle.std.proofs.Common.{◌≡◌, ℕ, ◌/◌, ◌%◌, Bool, true, false, cond, eqb, length, List, [], ◌∷◌, Option, Some, None, Ok, Err, refl, sym, ◌∙◌}
+use Rattle.std.specs.Result.{result_ok}
 use Rattle.std.specs.Prelude.{Result}
 use Rattle.std.proofs.lemmas.Bool.{eq-eqb}
 use Rattle.hex.specs.Hex.{decode_of, decode_pairs, decode_sized}
@@ -7,7 +8,7 @@ use Rattle.hex.specs.declared.error.FromHexError.{FromHexError}
 use Rattle.hex.specs.declared.error.FromHexError.TheVariants.{OddLength, InvalidStringLength}
 use Rattle.board_types.specs.declared.setup.Setup.{Setup}
 use Rattle.trace_text.specs.Rows.{placed, last}
-use Rattle.trace_text.specs.State.{hexes_in, decoded, restored}
+use Rattle.trace_text.specs.State.{hexes_in, restored}
 use Rattle.trace_text.specs.Header.{state_row, resumes}
 use Rattle.trace_text.specs.private.State.{restored_digits, restored_from}
 use Rattle.trace_text.specs.declared.faults.Reason.TheVariants.{Form}
@@ -49,9 +50,9 @@ sized digits n half = by_odd (eqb (length digits % 2) 1)
 
 -- digits that aren't decoded are no bytes
 pub not_decoded : (digits : List ℕ) (n : ℕ) → n ≡ length digits / 2
-    → ((bytes : List ℕ) → decode_sized digits n ≡ Ok bytes → ⊥) → decoded (decode_of digits) ≡ None
+    → ((bytes : List ℕ) → decode_sized digits n ≡ Ok bytes → ⊥) → result_ok (decode_of digits) ≡ None
 not_decoded digits n half none = by_pairs (decode_of digits) (λ bytes e. none bytes (sized digits n half ∙ e))
   where
-    by_pairs : (d : Result (List ℕ) FromHexError) → ((bytes : List ℕ) → d ≡ Ok bytes → ⊥) → decoded d ≡ None
+    by_pairs : (d : Result (List ℕ) FromHexError) → ((bytes : List ℕ) → d ≡ Ok bytes → ⊥) → result_ok d ≡ None
     by_pairs (Ok bytes) h = absurd (h bytes refl)
     by_pairs (Err e) h = refl

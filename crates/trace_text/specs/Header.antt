@@ -26,6 +26,7 @@ use Rattle.std.specs.Prelude.{
   ◌≤◌,
   All,
 }
+use Rattle.board_core.specs.PowerOn.{board_at_power_on}
 use Rattle.board_types.specs.Setup.{IsSetup, processors_of, setup_by_default}
 use Rattle.board_types.specs.declared.setup.Setup.{Setup}
 use Rattle.board_types.specs.declared.setup.TheConstants.{LAST_FORMAT}
@@ -133,20 +134,10 @@ rtc_row head s =
       time = record { sec = sec; min = m; hour = h; wday = w; date = d; month = o; year = y };
     })))))))))
 
--- the format and the processors that a trace begins with, and its counter at the anchor
-abbrev pub format_of : Begin → ℕ
-format_of (Fresh s) = s.format
-format_of (Saved b) = b.format
-
--- the processors that a trace begins with
-abbrev pub cpus_of : Begin → ℕ
-cpus_of (Fresh s) = s.cpus
-cpus_of (Saved b) = b.cpus
-
--- its count at the anchor
-abbrev pub start_of : Begin → ℕ
-start_of (Fresh s) = s.anchor.start
-start_of (Saved b) = b.anchor.start
+-- the board with which a trace begins
+abbrev pub board_of : Begin → BoardParts
+board_of (Fresh setup) = board_at_power_on setup
+board_of (Saved board) = board
 
 -- a line stands in front of all others
 abbrev pub in_front : Head → Result Head Reason → Result Head Reason
@@ -168,7 +159,7 @@ place_of_line line = if line == 0 then 0 else if line == 8 then 1 else line - 18
 -- a line's route goes to a processor that is there
 abbrev pub routed : Head → ℕ → ℕ → ℕ → Result Head Reason
 routed head line cpu vector =
-    if nat_lt cpu (cpus_of head.begin) then
+    if nat_lt cpu (board_of head.begin).cpus then
     Ok (record head {
       row = ROUTE_ROW;
       next_line = line + 1;
@@ -223,9 +214,9 @@ header_of head = record { begin = head.begin; routes = head.routes }
 -- and what is known behind it: each processor's counter before is the anchor's start
 abbrev pub body_of : Head → Body
 body_of head = record {
-  format = format_of head.begin;
-  cpus = cpus_of head.begin;
-  before = replicate 64 (start_of head.begin);
+  format = (board_of head.begin).format;
+  cpus = (board_of head.begin).cpus;
+  before = replicate 64 (board_of head.begin).anchor.start;
 }
 
 -- a delivery goes to a processor that is there, with a vector from 10h on
@@ -241,7 +232,7 @@ IsStart (Saved b) = b.cpus ≤ 64
 -- and of its routes
 pub record IsBegin (b : Begin) (to : List (Option Delivery)) : Type 0 where
   pub start : IsStart b
-  pub routes : All (IsRoute (cpus_of b)) to
+  pub routes : All (IsRoute (board_of b).cpus) to
 
 -- and before `begin`: no line is routed before the first route
 pub record IsHead (h : Head) : Type 0 where

@@ -119,11 +119,8 @@ stage_behind line (Err reason) = Refused (record { line = line; reason = reason 
 
 -- the fault of a reader that has refused
 abbrev pub fault_of : Stage → Option RecordFault
-fault_of Opening = None
-fault_of (Heading head) = None
-fault_of (Running body) = None
-fault_of Ended = None
 fault_of (Refused fault) = Some fault
+fault_of _ = None
 
 -- before the first line
 abbrev pub at_start : ReadingParts

@@ -226,11 +226,7 @@ read_alone format cpus line = record_of (body_at format cpus) (words_of line)
 -- the counters before, behind a record: a move begins with its own start, for every processor
 abbrev pub before_behind : List ℕ → Record → Job → List ℕ
 before_behind before r (Move k start gap) = replicate 64 start
-before_behind before r (Board a) = slice_set before r.cpu r.h
-before_behind before r (Page p) = slice_set before r.cpu r.h
-before_behind before r (Clock p) = slice_set before r.cpu r.h
-before_behind before r Hv = slice_set before r.cpu r.h
-before_behind before r Save = slice_set before r.cpu r.h
+before_behind before r _ = slice_set before r.cpu r.h
 
 -- what is known behind a record
 abbrev pub body_behind : Body → Record → Body

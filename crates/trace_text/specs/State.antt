@@ -18,6 +18,7 @@ use Rattle.std.specs.Prelude.{
   Err,
   if◌then◌else◌,
 }
+use Rattle.std.specs.Result.{result_ok}
 use Rattle.hex.specs.Hex.{decode_of}
 use Rattle.hex.specs.declared.error.FromHexError.{FromHexError}
 use Rattle.board_core.specs.Upgrade.{upgraded_to}
@@ -31,15 +32,10 @@ use Rattle.trace_text.specs.Tokens.{first}
 use Rattle.trace_text.specs.declared.faults.Reason.{Reason}
 use Rattle.trace_text.specs.declared.faults.Reason.TheVariants.{StateBytes}
 
--- what was decoded, if all digits are some
-abbrev pub decoded : Result (List ℕ) FromHexError → Option (List ℕ)
-decoded (Ok bytes) = Some bytes
-decoded (Err fault) = None
-
 -- HEXES: bytes of two digits each, of either case, at least one, and no more than a line has bytes
 abbrev pub hexes_in : List ℕ → Option (List ℕ)
 hexes_in word =
-    if (length word == 0) || nat_lt STATE_LINE_MAX (length word) then None else decoded (decode_of word)
+    if (length word == 0) || nat_lt STATE_LINE_MAX (length word) then None else result_ok (decode_of word)
 
 -- the bytes that the first word spells
 abbrev pub hexes : List (List ℕ) → Option (List ℕ)

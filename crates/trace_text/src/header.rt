@@ -10,12 +10,10 @@ ghost use Rattle.trace_text.specs.Header.{
   later_rows,
   last_rows,
   header_line,
-  format_of,
-  cpus_of,
-  start_of,
   header_of,
   body_of,
   IsHead,
+  board_of,
 };
 
 use crate::faults::Reason;
@@ -77,7 +75,7 @@ pub struct Head {
 impl Begin {
     /// The format.
     fn format(&self) -> u8
-        ensures { result ≡ format_of self.now }
+        ensures { result ≡ (board_of self.now).format }
     {
         match self {
             Begin::Fresh(setup) => setup.format,
@@ -87,7 +85,7 @@ impl Begin {
 
     /// How many processors there are.
     pub(crate) fn cpus(&self) -> u8
-        ensures { result ≡ cpus_of self.now }
+        ensures { result ≡ (board_of self.now).cpus }
     {
         match self {
             Begin::Fresh(setup) => setup.cpus,
@@ -97,7 +95,7 @@ impl Begin {
 
     /// The host's counter at the anchor.
     fn start(&self) -> u64
-        ensures { result ≡ start_of self.now }
+        ensures { result ≡ (board_of self.now).anchor.start }
     {
         match self {
             Begin::Fresh(setup) => setup.anchor.start,

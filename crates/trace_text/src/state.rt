@@ -1,10 +1,11 @@
 //! The header line `state`: a saved board.
 ghost use Rattle.std.specs.Prelude.{◌≡◌, ◌/◌, ◌≤◌, length, Some, None, IfOk};
+ghost use Rattle.std.specs.Result.{result_ok};
 ghost use Rattle.std.specs.Bool.{OnTrue, OnFalse};
 ghost use Rattle.board_types.specs.declared.setup.TheConstants.{LAST_FORMAT};
 ghost use Rattle.hex.specs.Hex.{decode_of};
 ghost use Rattle.save_state.specs.Places.{format_in};
-ghost use Rattle.trace_text.specs.State.{decoded, is_newer, place_in, in_format, restored};
+ghost use Rattle.trace_text.specs.State.{is_newer, place_in, in_format, restored};
 ghost use Rattle.trace_text.specs.private.State.{restored_digits};
 
 use crate::faults::Reason;
@@ -38,8 +39,8 @@ pub(crate) fn board_of(digits: &[u8], format: u8) -> Result<BoardState, Reason>
 /// Writes the bytes that digits spell, if they spell some; whether they do.
 fn decode_digits(digits: &[u8], bytes: &mut [u8]) -> bool
     requires { length bytes.old ≡ length digits.now / 2 }
-    ensures bytes { OnTrue result (decoded (decode_of digits.now) ≡ Some bytes.new) }
-    ensures none { OnFalse result (decoded (decode_of digits.now) ≡ None) }
+    ensures bytes { OnTrue result (result_ok (decode_of digits.now) ≡ Some bytes.new) }
+    ensures none { OnFalse result (result_ok (decode_of digits.now) ≡ None) }
 {
     match hex::decode_to_slice(digits, bytes) {
         Ok(()) => true,

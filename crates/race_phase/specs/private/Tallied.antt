@@ -1,5 +1,6 @@
 -- What a tally refuses, and what it counts, in its own numbers.
-use Rattle.std.specs.Prelude.{ℕ, zero, suc, ◌+◌, ◌≤◌, max, nat_lt, nat_le, List, slice_index_or, slice_set, Option, Some, None, if◌then◌else◌}
+use Rattle.std.specs.Prelude.{ℕ, zero, suc, ◌+◌, ◌≤◌, max, nat_le, List, slice_index_or, slice_set, Option, Some, None, if◌then◌else◌}
+use Rattle.std.specs.Option.{option_or, option_map}
 use Rattle.clk_units.specs.Ranges.{IsKhz}
 use Rattle.clk_units.specs.declared.ranges.TheConstants.{RANGE_NS}
 use Rattle.host_counter.specs.declared.Anchor.{Anchor}
@@ -8,10 +9,10 @@ use Rattle.board_types.specs.declared.access.Access.{Access}
 use Rattle.board_types.specs.declared.parts.TheConstants.{MOST_ACCESSES}
 use Rattle.board_types.specs.declared.setup.TheConstants.{HV_FORMAT}
 use Rattle.board_types.specs.declared.reply.Refusal.{Refusal}
-use Rattle.board_types.specs.declared.reply.Refusal.TheVariants.{BeforeStart, OutOfRange, Spent}
+use Rattle.board_types.specs.declared.reply.Refusal.TheVariants.{Spent}
 use Rattle.board_core.specs.Pages.{published_by}
-use Rattle.board_core.specs.Refusals.{spent_version}
-use Rattle.board_core.specs.Time.{HasTime}
+use Rattle.board_core.specs.Refusals.{spent_version, untimed}
+use Rattle.board_core.specs.Time.{HasTime, time_fault}
 use Rattle.board_core.specs.Hv.{publishes_hv}
 use Rattle.board_core.specs.Wall.{publishes_wall, wall_version_after}
 use Rattle.transfer.specs.Move.{or_spent}
@@ -38,9 +39,8 @@ raised_in t cpu a =
 -- why an access is refused
 unfoldable pub refusal_in : TallyParts → ℕ → ℕ → Access → Option Refusal
 refusal_in t cpu h a =
-    if nat_lt h t.anchor.start then Some (BeforeStart t.anchor.start)
-    else (if nat_le RANGE_NS (time_at t.anchor h) then Some (OutOfRange (time_at t.anchor h))
-    else spent_version (raised_in t cpu a)
+    option_or (option_map untimed (time_fault t.anchor h))
+    (spent_version (raised_in t cpu a)
     (if nat_le MOST_ACCESSES t.accesses then Some (Spent t.accesses) else None))
 
 -- the versions with that of a page raised, if there is one

@@ -6,8 +6,8 @@ use Rattle.board_types.specs.declared.reply.Refusal.{Refusal}
 use Rattle.board_types.specs.declared.reply.Reply.{Reply}
 use Rattle.board_core.specs.Refusals.{refusal_of}
 use Rattle.board_core.specs.Access.{after_access}
-use Rattle.board_core.specs.Pages.{with_greatest}
-use Rattle.board_history.specs.Machine.{Machine, ratio_in, answer_by}
+use Rattle.board_core.specs.Pages.{with_greatest, answer_by}
+use Rattle.board_history.specs.Machine.{Machine, ratio_in}
 use Rattle.board_history.specs.History.{IsAnswered, IsLegal, board_after, entries_of, last_of}
 use Rattle.board_history.specs.declared.entry.Entry.{Entry}
 use Rattle.board_history.specs.declared.entry.Entry.TheVariants.{PageRead, Clamp}

@@ -3,7 +3,7 @@ use Rattle.hv_page.specs.declared.page.HvReply.{HvReply}
 use Rattle.shared_board.specs.Hv.{HasReadHv}
 use Rattle.std.proofs.Common.{ℕ, ap, ◌∙◌}
 use Rattle.hv_page.specs.declared.page.HvPage.{HvPage}
-use Rattle.board_history.specs.Machine.{hv_answer_by}
+use Rattle.board_core.specs.Hv.{hv_answer_by}
 use Rattle.shared_board.specs.private.Tables.{HasReadTable}
 use Rattle.shared_board.proofs.Tables.{read_hv}
 use Rattle.shared_board.proofs.shared.SharedBoard.read_hv.Goals as goal
