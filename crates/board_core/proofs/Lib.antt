@@ -9,6 +9,7 @@ pub mod Legals
 pub mod Upgrades
 pub mod Counted
 pub mod Kept
+pub mod Looks
 pub mod Laws
 pub mod OfLines
 pub mod Nanoseconds

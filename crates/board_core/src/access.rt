@@ -1,6 +1,7 @@
 //! One access: the run to its time, and then the access itself.
 ghost use Rattle.std.specs.Prelude.{
   ◌≡◌,
+  ◌≢◌,
   ◌+◌,
   ◌<◌,
   ◌≤◌,
@@ -8,6 +9,7 @@ ghost use Rattle.std.specs.Prelude.{
   [],
   length,
   IsTrue,
+  true,
   IfOk,
   IfErr,
   OnOk,
@@ -20,7 +22,8 @@ ghost use Rattle.irq_edges.specs.declared.edges.TheConstants.{EDGE_PLACES};
 ghost use Rattle.irq_edges.specs.Lines.{IsOfLine};
 ghost use Rattle.board_types.specs.Legal.{is_legal};
 ghost use Rattle.board_types.specs.Reply.{IsFresh};
-ghost use Rattle.board_core.specs.Time.{time_of_access, HasTime};
+ghost use Rattle.board_core.specs.Apics.{after_look};
+ghost use Rattle.board_core.specs.Time.{now_of, time_of_access, HasTime};
 ghost use Rattle.board_core.specs.Access.{ran_to, bursts_to, after_run, reply_of, after_access};
 ghost use Rattle.board_core.specs.Refusals.{refusal_of};
 ghost use Rattle.board_core.specs.Answered.{IsAnswered};
@@ -100,8 +103,8 @@ impl BoardState {
             Ok(to) => to,
             Err(refusal) => return Err(refusal),
         };
-        self.run_to(h, to, &mut reply.edges, &mut reply.bursts);
-        let value = self.act(cpu, h, a, &mut reply.edges);
+        let looked = self.run_to(h, to, &mut reply.edges, &mut reply.bursts);
+        let value = self.act(cpu, h, a, looked, &mut reply.edges);
         reply.value = value;
         reply.number = self.accesses;
         Ok(())
@@ -110,8 +113,14 @@ impl BoardState {
 
 impl BoardState {
     /// Runs to the time `to` of an access at count `h`, counts the rises on the way, and puts the messages of the run
-    /// into an empty list.
-    pub(crate) fn run_to(&mut self, h: u64, to: u64, edges: &mut EdgeList, bursts: &mut BurstList)
+    /// into an empty list. Answers whether nanoseconds went by: then a look at the deadlines finds none.
+    pub(crate) fn run_to(
+        &mut self,
+        h: u64,
+        to: u64,
+        edges: &mut EdgeList,
+        bursts: &mut BurstList,
+    ) -> bool
         requires time { HasTime self.old.anchor h }
         requires to { to ≡ time_of_access self.old h }
         requires places { length edges.old + 6 ≤ EDGE_PLACES }
@@ -121,15 +130,17 @@ impl BoardState {
         ensures bursts { bursts.new ≡ bursts_to self.old h }
         ensures few { length (ran_to self.old h).edges ≤ 6 }
         ensures room { length edges.new ≤ length edges.old + 6 }
+        ensures looked { result ≡ true → after_look self.new ≡ self.new }
     {
         if h <= self.host {
-            return;
+            return false;
         }
         if to == self.time_ns {
             self.host = h;
-            return;
+            return false;
         }
         self.run_on(h, to, edges, bursts);
+        true
     }
 
     /// The same, where nanoseconds go by. It stands apart, so that an access at the board's own time needs no room
@@ -139,6 +150,7 @@ impl BoardState {
         requires later { self.old.host < h }
         requires time { HasTime self.old.anchor h }
         requires to { to ≡ time_of_access self.old h }
+        requires passes { now_of self.old ≢ to }
         requires places { length edges.old + 6 ≤ EDGE_PLACES }
         requires fresh { bursts.old ≡ [] }
         ensures state { self.new ≡ after_run self.old h }
@@ -146,6 +158,7 @@ impl BoardState {
         ensures bursts { bursts.new ≡ bursts_to self.old h }
         ensures few { length (ran_to self.old h).edges ≤ 6 }
         ensures room { length edges.new ≤ length edges.old + 6 }
+        ensures looked { after_look self.new ≡ self.new }
     {
         let before = edges.len();
         let from = self.time_ns;

@@ -1,5 +1,5 @@
 //! What an access does to a board that has run to its time, and what it reads.
-ghost use Rattle.std.specs.Prelude.{◌≡◌, ℕ, ◌+◌, ◌<◌, ◌≤◌, ◌++◌, false, length, IsTrue, IfSome};
+ghost use Rattle.std.specs.Prelude.{◌≡◌, ℕ, ◌+◌, ◌<◌, ◌≤◌, ◌++◌, true, false, length, IsTrue, IfSome};
 ghost use Rattle.irq_edges.specs.declared.edges.TheConstants.{EDGE_PLACES};
 ghost use Rattle.board_types.specs.Legal.{is_source, is_legal};
 ghost use Rattle.board_types.specs.declared.parts.TheConstants.{LAST_VERSION, MOST_ACCESSES};
@@ -12,6 +12,7 @@ ghost use Rattle.board_core.specs.Wall.{
   wall_version_after,
   wall_words,
 };
+ghost use Rattle.board_core.specs.Apics.{after_look};
 ghost use Rattle.board_core.specs.Access.{
   read_of_port,
   write_of_port,
@@ -46,9 +47,18 @@ use tick_policy::Counts;
 const UNIT_NS: u64 = 100;
 
 impl BoardState {
-    /// The access itself, on a board that has run to its time, and then the look at the deadlines.
+    /// The access itself, on a board that has run to its time, and then the look at the deadlines. Where that run looked
+    /// at them at this very time, a look finds none, unless the access writes a register or moves a TSC.
     #[inline(always)]
-    pub(crate) fn act(&mut self, cpu: u8, h: u64, a: Access, edges: &mut EdgeList) -> Value
+    pub(crate) fn act(
+        &mut self,
+        cpu: u8,
+        h: u64,
+        a: Access,
+        looked: bool,
+        edges: &mut EdgeList,
+    ) -> Value
+        requires looked { looked ≡ true → after_look self.old ≡ self.old }
         requires cpu { cpu < self.old.cpus }
         requires legal { IsTrue (is_legal self.old.cpus self.old.format a) }
         requires time { HasTime self.old.anchor h }
@@ -63,6 +73,9 @@ impl BoardState {
         ensures few { length edges.new ≤ length edges.old + 12 }
     {
         let value = self.perform(cpu, h, a, edges);
+        if looked && !writes(a) {
+            return value;
+        }
         self.look();
         value
     }

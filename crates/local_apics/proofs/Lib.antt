@@ -6,6 +6,7 @@ pub mod Mask
 pub mod Done
 pub mod Spans
 pub mod Below
+pub mod Unchanged
 pub mod PowerOn
 pub mod Keeps
 pub mod Laws

@@ -65,7 +65,7 @@ bit-clear f k m ts less e =
     by_test false = refl
 
 -- a bit that is 0
-zero-clear : (f : ApicParts → Bool) (k m : ℕ) (ts : List ApicParts) → k < 64 → m ≡ bits_below f 64 ts → bit_at m k ≡ 0 → f (get_or ts k no_timer) ≡ true
+pub zero-clear : (f : ApicParts → Bool) (k m : ℕ) (ts : List ApicParts) → k < 64 → m ≡ bits_below f 64 ts → bit_at m k ≡ 0 → f (get_or ts k no_timer) ≡ true
 zero-clear f k m ts less e none = sym (bit-clear f k m ts less e) ∙ ap (λ (x : ℕ). not (eqb x 1)) none
 
 -- no bit at all

@@ -85,10 +85,10 @@ module _ (span : Span) (tsc : Tsc) (is : IsSpan span) where
       )
 
 -- a look at the TSC x of the last nanosecond makes q of p, and b tells whether it reaches the deadline
-module _ (span : Span) (tsc : Tsc) (is : IsSpan span) (looks : span.looks ≡ true) (p : ApicParts) (deadline : mode_of p.lvt ≡ 2) (x : ℕ)
+module _ (span : Span) (tsc : Tsc) (is : IsSpan span) (p : ApicParts) (deadline : mode_of p.lvt ≡ 2) (x : ℕ)
     (by_count : x ≡ (span.last + tsc.offset) % 2 ^ 64) (q : ApicParts) (b : Bool) (state : q ≡ looked x p) (test : b ≡ is_reached p.deadline x) where
   last-tsc : x ≡ tsc_in span.clock tsc span.to
-  last-tsc = by_count ∙ tsc-by_count span tsc is span.last span.to (is.last looks)
+  last-tsc = by_count ∙ tsc-by_count span tsc is span.last span.to is.last
 
   reaches : is_reached p.deadline (tsc_in span.clock tsc span.to) ≡ b
   reaches = ap (is_reached p.deadline) (sym last-tsc) ∙ sym test

@@ -162,7 +162,45 @@ impl LocalApics {
         if !self.is_armed() || from == to {
             return;
         }
-        let span = Span::new(clock, from, to, self.has_deadlines());
+        if !self.has_deadlines() {
+            self.run_each_counting(to - from);
+            return;
+        }
+        if self.is_still(clock, processors, from, to) {
+            return;
+        }
+        self.run_each(clock, processors, from, to);
+    }
+
+    /// The same where no timer waits for a deadline, so that no TSC is asked for.
+    #[inline(always)]
+    fn run_each_counting(&mut self, n: u64)
+        requires none { (k : ℕ) → k < 64 → (timer_at k self.old).deadline ≡ 0 }
+        requires room { (k : ℕ) → k < 64 → (line_at k self.old).counts.due + n < 2 ^ 63 }
+        ensures { (tsc : ℕ → ℕ → ℕ) (from : ℕ) → self.new ≡ run tsc from n self.old }
+    {
+        for cpu in self.first_armed()..64 {
+            if self.is_idle_from(cpu) {
+                return;
+            }
+            self.run_counting_at(cpu, n);
+        }
+    }
+
+    /// The same, one timer after the other. It stands apart, so that a run in which all deadlines are far off needs no
+    /// room for it.
+    #[inline(never)]
+    fn run_each(&mut self, clock: &TscClock, processors: &[ProcessorParts; 64], from: u64, to: u64)
+        requires order { from < to }
+        requires in_range { to < RANGE_NS }
+        requires host { IsKhz clock.now.anchor.khz }
+        requires guest { IsKhz clock.now.guest_khz }
+        requires anchored { clock.now.anchor.base_ns ≤ from }
+        requires room { (k : ℕ) → k < 64 → (line_at k self.old).counts.due + (to - from) < 2 ^ 63 }
+        ensures { self.new
+            ≡ run (tsc_by_time clock.now (tscs_of processors.now)) from (to - from) self.old }
+    {
+        let span = Span::new(clock, from, to);
         for cpu in self.first_armed()..64 {
             if self.is_idle_from(cpu) {
                 return;

@@ -18,6 +18,7 @@ mod apics;
 mod parts;
 mod place;
 mod span;
+mod still;
 
 pub use apics::LocalApics;
 pub use parts::ApicsParts;

@@ -61,6 +61,7 @@ impl LocalApics {
     pub(crate) fn first_armed(&self) -> u8
         ensures idle { (k : ℕ) → k < result → is_idle (timer_at k self.now) ≡ true }
         ensures few { result ≤ 64 }
+        ensures joined { AreApicPlaces self.now }
     {
         self.armed.trailing_zeros() as u8
     }
@@ -147,11 +148,32 @@ impl LocalApics {
         }
     }
 
+    /// Runs the timer of one processor, which waits for no deadline.
+    #[inline(always)]
+    pub(crate) fn run_counting_at(&mut self, cpu: u8, n: u64)
+        requires place { cpu < 64 }
+        requires none { (timer_at cpu self.old).deadline ≡ 0 }
+        requires room { (line_at cpu self.old).counts.due + n < 2 ^ 63 }
+        ensures timer { (tsc : ℕ → ℕ) (from : ℕ) → timer_at cpu self.new
+            ≡ nanoseconds tsc from n (timer_at cpu self.old) }
+        ensures line { (tsc : ℕ → ℕ) (from : ℕ) → line_at cpu self.new
+            ≡ ticked_times (ticks_in tsc from (timer_at cpu self.old) n) (line_at cpu self.old) }
+        ensures other_timers { (k : ℕ) → k ≢ cpu → timer_at k self.new ≡ timer_at k self.old }
+        ensures other_lines { (k : ℕ) → k ≢ cpu → line_at k self.new ≡ line_at k self.old }
+        ensures joined { AreApicPlaces self.new }
+    {
+        let timer = self.timer(cpu);
+        if self.is_idle(cpu) {
+            return;
+        }
+        let _parts = timer.parts();
+        self.run_counting(cpu, n);
+    }
+
     /// Runs the timer of one processor, whose TSC is `tsc`.
     pub(crate) fn run_at(&mut self, cpu: u8, span: &Span, tsc: Tsc)
         requires place { cpu < 64 }
         requires span { IsSpan span.now }
-        requires looks { span.now.looks ≡ false → (timer_at cpu self.old).deadline ≡ 0 }
         requires room { (line_at cpu self.old).counts.due + length_of span.now < 2 ^ 63 }
         ensures timer { timer_at cpu self.new ≡ nanoseconds (tsc_in span.now.clock tsc)
             span.now.from (length_of span.now) (timer_at cpu self.old) }
@@ -161,20 +183,15 @@ impl LocalApics {
         ensures other_lines { (k : ℕ) → k ≢ cpu → line_at k self.new ≡ line_at k self.old }
         ensures joined { AreApicPlaces self.new }
     {
-        let timer = self.timer(cpu);
-        if self.is_idle(cpu) {
-            return;
-        }
-        let parts = timer.parts();
-        if parts.deadline != 0 {
+        if self.timer(cpu).deadline() != 0 {
             self.run_waiting(cpu, span, tsc);
         } else {
-            self.run_counting(cpu, span.length());
+            self.run_counting_at(cpu, span.length());
         }
     }
 
     /// The same where the timer counts, whatever the TSC. Mostly it doesn't fire.
-    #[inline]
+    #[inline(always)]
     fn run_counting(&mut self, cpu: u8, n: u64)
         requires place { cpu < 64 }
         requires mode { mode_of (timer_at cpu self.old).lvt ≢ 2 }
@@ -196,6 +213,7 @@ impl LocalApics {
     }
 
     /// The same where it fires.
+    #[inline(never)]
     fn run_fires(&mut self, cpu: u8, n: u64)
         requires place { cpu < 64 }
         requires mode { mode_of (timer_at cpu self.old).lvt ≢ 2 }
@@ -220,7 +238,6 @@ impl LocalApics {
         requires place { cpu < 64 }
         requires mode { mode_of (timer_at cpu self.old).lvt ≡ 2 }
         requires span { IsSpan span.now }
-        requires looks { span.now.looks ≡ true }
         requires room { (line_at cpu self.old).counts.due + length_of span.now < 2 ^ 63 }
         ensures timer { timer_at cpu self.new ≡ nanoseconds (tsc_in span.now.clock tsc)
             span.now.from (length_of span.now) (timer_at cpu self.old) }

@@ -21,7 +21,7 @@ ghost use Rattle.lapic_timer.specs.Parts.{mode_of, ticks_of};
 ghost use Rattle.lapic_timer.specs.Stretch.{nanoseconds};
 ghost use Rattle.local_apics.specs.Nanosecond.{ticks_at, tsc_in};
 ghost use Rattle.local_apics.specs.private.Span.{IsSpan, length_of, ratio_in};
-ghost use Rattle.local_apics.specs.private.Stretch.{ticks_in};
+ghost use Rattle.local_apics.specs.private.Stretch.{IsStill, ticks_in};
 
 use host_counter::Anchor;
 use lapic_timer::{ApicTimer, first_reach, guest_count_at};
@@ -46,20 +46,18 @@ const SHORT: u64 = 1 << 40;
 /// More than a TSC grows in a short span.
 const FEW: u64 = 1 << 60;
 
-/// The nanoseconds of a run, and where `looks` holds the guest's count at the last of them, which all processors share.
-/// Deadlines alone ask for it.
+/// The nanoseconds of a run, and the guest's count at the last of them, which all processors share.
 #[derive(Clone, Copy)]
 pub(crate) struct Span {
     clock: TscClock,
     from: u64,
     to: u64,
-    looks: bool,
     last: u64,
 }
 
 impl Span {
     /// The nanoseconds after `from` up to `to`.
-    pub(crate) fn new(clock: &TscClock, from: u64, to: u64, looks: bool) -> Span
+    pub(crate) fn new(clock: &TscClock, from: u64, to: u64) -> Span
         requires order { from < to }
         requires in_range { to < RANGE_NS }
         requires host { IsKhz clock.now.anchor.khz }
@@ -69,18 +67,12 @@ impl Span {
         ensures clock { result.clock ≡ clock.now }
         ensures from { result.from ≡ from }
         ensures to { result.to ≡ to }
-        ensures looks { result.looks ≡ looks }
     {
-        let last = if looks {
-            guest_count_at(clock.anchor, clock.guest_khz, to)
-        } else {
-            0
-        };
+        let last = guest_count_at(clock.anchor, clock.guest_khz, to);
         Span {
             clock: *clock,
             from,
             to,
-            looks,
             last,
         }
     }
@@ -120,7 +112,6 @@ pub(crate) fn run_counts(timer: &mut ApicTimer, n: u64) -> u64
 pub(crate) fn run_deadline(timer: &mut ApicTimer, span: &Span, tsc: Tsc) -> bool
     requires mode { mode_of timer.old.lvt ≡ 2 }
     requires span { IsSpan span.now }
-    requires looks { span.now.looks ≡ true }
     ensures state { timer.new ≡ nanoseconds (tsc_in span.now.clock tsc) span.now.from
         (length_of span.now) timer.old }
     ensures ticks { ticks_in (tsc_in span.now.clock tsc) span.now.from timer.old
@@ -138,13 +129,23 @@ pub(crate) fn run_deadline(timer: &mut ApicTimer, span: &Span, tsc: Tsc) -> bool
 }
 
 /// Whether a deadline is far from being reached at the TSC `last` of a short span's last nanosecond.
-#[inline]
+#[inline(always)]
 fn is_far(span: &Span, last: u64, deadline: u64) -> bool
     requires { IsSpan span.now }
     ensures short { result ≡ true → length_of span.now < 2 ^ 40 }
     ensures far { result ≡ true → 2 ^ 63 + 2 ^ 60 ≤ difference last deadline }
 {
     span.length() < SHORT && last.wrapping_sub(deadline) >= HALF + FEW
+}
+
+/// Whether a deadline is so far off that a span leaves its timer alone.
+#[inline(always)]
+pub(crate) fn is_far_off(timer: &ApicTimer, span: &Span, tsc: Tsc) -> bool
+    requires span { IsSpan span.now }
+    ensures { result ≡ true → timer.now.deadline ≢ 0
+        → IsStill (tsc_in span.now.clock tsc) span.now.from (length_of span.now) timer.now }
+{
+    is_far(span, tsc_by(span.last, tsc), timer.deadline())
 }
 
 /// The same where the deadline isn't reached at the last nanosecond.

@@ -1,5 +1,5 @@
 -- The nanoseconds of one run.
-use Rattle.std.specs.Prelude.{◌≡◌, ℕ, ◌+◌, ◌-◌, ◌<◌, ◌≤◌, true}
+use Rattle.std.specs.Prelude.{◌≡◌, ℕ, ◌-◌, ◌<◌, ◌≤◌}
 use Rattle.clk_units.specs.Ranges.{IsKhz}
 use Rattle.clk_units.specs.declared.ranges.TheConstants.{RANGE_NS}
 use Rattle.tsc_scale.specs.Ratio.{ratio_of}
@@ -15,12 +15,11 @@ ratio_in clock = ratio_of clock.guest_khz clock.anchor.khz
 abbrev pub length_of : Span → ℕ
 length_of span = span.to - span.from
 
--- a span holds a nanosecond, and where deadlines are asked for knows the guest's count at its last
+-- a span holds a nanosecond, and knows the guest's count at its last
 pub record IsSpan (span : Span) : Type 0 where
   pub order : span.from < span.to
   pub in_range : span.to < RANGE_NS
   pub host : IsKhz span.clock.anchor.khz
   pub guest : IsKhz span.clock.guest_khz
   pub anchored : span.clock.anchor.base_ns ≤ span.from
-  pub last : span.looks ≡ true
-      → span.last ≡ guest_count_at span.clock.anchor (ratio_in span.clock) span.to
+  pub last : span.last ≡ guest_count_at span.clock.anchor (ratio_in span.clock) span.to

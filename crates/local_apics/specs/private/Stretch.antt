@@ -44,3 +44,8 @@ IsRunBelow k tsc from n a b = IsDoneBelow k (λ k p. nanoseconds (tsc k) from n 
 abbrev pub IsLookedBelow : ℕ → (ℕ → ℕ) → ApicsParts → ApicsParts → Type 0
 IsLookedBelow k tsc a b = IsDoneBelow k (λ k p. looked (tsc k) p)
     (λ k l. ticked_where (looks_due (tsc k) (timer_at k a)) l) a b
+
+-- a timer that the n nanoseconds after `from` leave as it is, without a tick
+pub record IsStill (tsc : ℕ → ℕ) (from n : ℕ) (p : ApicParts) : Type 0 where
+  pub timer : nanoseconds tsc from n p ≡ p
+  pub ticks : ticks_in tsc from p n ≡ 0

@@ -19,34 +19,34 @@ use Rattle.board_core.proofs.board.BoardState.answer_known.Goals as goal
 abbrev reply : List Burst → ℕ → Value → List Edge → Reply
 reply bursts number value edges = record { number = number; value = value; edges = edges; bursts = bursts }
 
-pub run_to-requires-clause-time : goal.run_to-requires-clause-time
-run_to-requires-clause-time c = taken_time c.args.self.now c.args.cpu c.args.h c.args.a c.in-Ok.ensures.taken
+pub run_to-looked-requires-clause-time : goal.run_to-looked-requires-clause-time
+run_to-looked-requires-clause-time c = taken_time c.args.self.now c.args.cpu c.args.h c.args.a c.in-Ok.ensures.taken
 
 pub act-value-requires-clause-cpu : goal.act-value-requires-clause-cpu
 unfolding after_run
-act-value-requires-clause-cpu c = subst (λ (b : BoardParts). c.args.cpu < b.cpus) (sym c.run_to.ensures.state) c.requires.cpu
+act-value-requires-clause-cpu c = subst (λ (b : BoardParts). c.args.cpu < b.cpus) (sym c.run_to-looked.ensures.state) c.requires.cpu
 
 pub act-value-requires-clause-legal : goal.act-value-requires-clause-legal
 unfolding after_run
-act-value-requires-clause-legal c = subst (λ (b : BoardParts). IsTrue (is_legal b.cpus b.format c.args.a)) (sym c.run_to.ensures.state) c.requires.legal
+act-value-requires-clause-legal c = subst (λ (b : BoardParts). IsTrue (is_legal b.cpus b.format c.args.a)) (sym c.run_to-looked.ensures.state) c.requires.legal
 
 pub act-value-requires-clause-time : goal.act-value-requires-clause-time
 unfolding after_run
 act-value-requires-clause-time c =
-    subst (λ (b : BoardParts). HasTime b.anchor c.args.h) (sym c.run_to.ensures.state)
+    subst (λ (b : BoardParts). HasTime b.anchor c.args.h) (sym c.run_to-looked.ensures.state)
     (taken_time c.args.self.now c.args.cpu c.args.h c.args.a c.in-Ok.ensures.taken)
 
 pub act-value-requires-clause-accesses : goal.act-value-requires-clause-accesses
 unfolding after_run
 act-value-requires-clause-accesses c =
-    subst (λ (b : BoardParts). b.accesses < MOST_ACCESSES) (sym c.run_to.ensures.state)
+    subst (λ (b : BoardParts). b.accesses < MOST_ACCESSES) (sym c.run_to-looked.ensures.state)
     (taken_accesses c.args.self.now c.args.cpu c.args.h c.args.a c.in-Ok.ensures.taken)
 
 pub act-value-requires-clause-version : goal.act-value-requires-clause-version
 unfolding after_run
 act-value-requires-clause-version c =
     subst (λ (b : BoardParts). IfSome (raised_version b.processors b.wall_version b.hv.version c.args.cpu c.args.a) (λ v. v < LAST_VERSION))
-    (sym c.run_to.ensures.state)
+    (sym c.run_to-looked.ensures.state)
     (taken_version c.args.self.now c.args.cpu c.args.h c.args.a c.in-Ok.ensures.taken)
 
 -- the board after the access, and the edges by their parts
@@ -67,29 +67,29 @@ returns c =
     let b : BoardParts = c.args.self.now in
     let r : Reply = reply_of b c.args.cpu c.args.h c.args.a in
     let after : c.act-value.new.self ≡ after_access b c.args.cpu c.args.h c.args.a =
-    state_is b _ _ c.args.cpu c.args.h c.args.a c.run_to.ensures.state c.act-value.ensures.state in
+    state_is b _ _ c.args.cpu c.args.h c.args.a c.run_to-looked.ensures.state c.act-value.ensures.state in
     let number : c.self.inside.accesses ≡ r.number =
     ap (λ (x : BoardParts). x.accesses) (c.self.view_is ∙ after) ∙ after_access-accesses b c.args.cpu c.args.h c.args.a in
     let value : c.act-value.result ≡ r.value =
-    c.act-value.ensures.value ∙ ap (λ (x : BoardParts). value_at x c.args.cpu c.args.h c.args.a) c.run_to.ensures.state in
+    c.act-value.ensures.value ∙ ap (λ (x : BoardParts). value_at x c.args.cpu c.args.h c.args.a) c.run_to-looked.ensures.state in
     let edges : c.act-value.new.edges ≡ edges_of b c.args.h c.args.a =
-    edges_are b _ c.args.h c.args.a _ _ _ c.run_to.ensures.state c.requires.fresh.edges c.run_to.ensures.edges c.act-value.ensures.edges in
+    edges_are b _ c.args.h c.args.a _ _ _ c.run_to-looked.ensures.state c.requires.fresh.edges c.run_to-looked.ensures.edges c.act-value.ensures.edges in
     record {
       refused = tt;
       unchanged = tt;
       untouched = tt;
       taken = c.in-Ok.ensures.taken;
-      reply = ap (λ (bs : List Burst). reply bs c.self.inside.accesses c.act-value.result c.act-value.new.edges) c.run_to.ensures.bursts
+      reply = ap (λ (bs : List Burst). reply bs c.self.inside.accesses c.act-value.result c.act-value.new.edges) c.run_to-looked.ensures.bursts
           ∙ ap (λ (n : ℕ). reply r.bursts n c.act-value.result c.act-value.new.edges) number
           ∙ ap (λ (v : Value). reply r.bursts r.number v c.act-value.new.edges) value
           ∙ ap (reply r.bursts r.number r.value) edges;
       state = after;
       of_lines = subst (λ (es : List Edge). All IsOfLine es) (sym edges) (of_lines_edges b c.args.h c.args.a);
-      few_run = c.run_to.ensures.few;
+      few_run = c.run_to-looked.ensures.few;
       few = omega (
         arith,
         c.act-value.ensures.few,
-        ap length c.run_to.ensures.edges,
+        ap length c.run_to-looked.ensures.edges,
         length-append c.args.reply.now.edges (ran_to b c.args.h).edges,
         ap length c.requires.fresh.edges,
       );

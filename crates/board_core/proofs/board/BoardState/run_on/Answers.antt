@@ -16,13 +16,14 @@ use Rattle.board_core.proofs.Times.{time_at_max, base-first}
 use Rattle.board_core.proofs.Timers.{timers-run, messages-run}
 use Rattle.local_apics.specs.declared.parts.ApicsParts.{ApicsParts}
 use Rattle.local_apics.specs.Nanosecond.{run as run_apics}
-use Rattle.board_core.specs.Apics.{apics_in, tscs_by_time}
+use Rattle.board_core.specs.Apics.{apics_in, tscs_by_time, after_look}
 use Rattle.board_core.specs.Access.{ran_to, bursts_to, apics_ran_to, after_run}
 use Rattle.hpet_bursts.specs.Bursts.{bursts_of}
 use Rattle.board_core.specs.Rises.{rises_after}
 use Rattle.board_core.proofs.ApicTimers.{AreApics-ran, AreApics-more}
 use Rattle.board_core.proofs.Joined.{AreRises-after}
 use Rattle.board_core.proofs.Steps.{with_run-is}
+use Rattle.board_core.proofs.Looks.{look-ran}
 use Rattle.board_core.proofs.board.BoardState.run_on.Goals as goal
 
 pub run_apics-requires-clause-anchored : goal.run_apics-requires-clause-anchored
@@ -132,3 +133,11 @@ pub returns-clause-few : goal.returns-clause-few
 returns-clause-few c =
     subst (λ (b : BoardParts). length (ran_to b c.args.h).edges ≤ 6) c.self.view_is
     (omega (arith, c.run_to-came.ensures.few, ap length (edges_are c), length-append c.args.edges.now (ran_to (seen c) c.args.h).edges))
+
+pub returns-clause-looked : goal.returns-clause-looked
+returns-clause-looked c =
+    ap after_look (returns-clause-state c)
+    ∙ subst (λ (b : BoardParts). after_look (after_run b c.args.h) ≡ after_run b c.args.h) c.self.view_is
+    (look-ran (seen c) c.args.h c.self.invariant.joined.apics.places (omega (arith, c.self.invariant.joined.rates.host.slow))
+    (λ e. c.requires.passes (ap now_of (sym c.self.view_is) ∙ e ∙ sym (to_is c))))
+    ∙ sym (returns-clause-state c)

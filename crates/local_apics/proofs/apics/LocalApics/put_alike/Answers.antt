@@ -1,4 +1,4 @@
-use Rattle.std.proofs.Common.{◌≡◌, ℕ, ap, sym, ◌∙◌, eqb}
+use Rattle.std.proofs.Common.{ℕ, ap, sym, ◌∙◌, eqb}
 use Rattle.std.proofs.lemmas.List.{length-set}
 use Rattle.local_apics.specs.Parts.{is_idle}
 use Rattle.local_apics.specs.Places.{timer_at}

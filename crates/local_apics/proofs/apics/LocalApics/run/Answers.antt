@@ -1,12 +1,7 @@
-use Rattle.std.proofs.Common.{◌≡◌, ℕ, ◌+◌, ◌-◌, get_or, ap, ◌∙◌, arith, inl, inr}
-use Rattle.tsc_scale.specs.declared.Tsc.{Tsc}
-use Rattle.tick_policy.specs.Line.{ticked_times}
-use Rattle.lapic_timer.specs.Stretch.{nanoseconds}
-use Rattle.local_apics.specs.Places.{no_tsc, timer_at, line_at}
-use Rattle.local_apics.specs.Nanosecond.{run, tscs_of, tsc_by_time, tsc_in}
-use Rattle.local_apics.specs.private.Span.{length_of}
-use Rattle.local_apics.specs.private.Stretch.{IsRunBelow, ticks_in}
-use Rattle.local_apics.proofs.Below.{run-start, run-more, run-end, span-run}
+use Rattle.std.proofs.Common.{◌≡◌, ℕ, ◌-◌, ap, inl, inr, arith}
+use Rattle.local_apics.specs.Nanosecond.{run, tscs_of, tsc_by_time}
+use Rattle.local_apics.proofs.Below.{run-start, run-end}
+use Rattle.local_apics.proofs.Unchanged.{run-still}
 use Rattle.local_apics.proofs.apics.LocalApics.run.Goals as goal
 
 pub returns-then-not-is_armed : goal.returns-then-not-is_armed
@@ -20,37 +15,7 @@ returns-then-not-is_armed c =
           ap (λ (n : ℕ). run tsc c.args.from n c.args.self.now) e
     ]
 
-pub loop-cpu-init : goal.loop-cpu-init
-loop-cpu-init c =
-    let tsc : ℕ → ℕ → ℕ = λ k. tsc_in c.new-span.result.clock (get_or (tscs_of c.args.processors.now) k no_tsc) in
-    let start : IsRunBelow c.first_armed-cpu.result tsc c.new-span.result.from (length_of c.new-span.result) c.args.self.now c.args.self.now =
-    run-start c.first_armed-cpu.result tsc c.new-span.result.from (length_of c.new-span.result) c.args.self.now c.is_armed.ensures.joined
-    c.first_armed-cpu.ensures.idle in
-    start
-
-pub returns-then-is_idle_from : goal.returns-then-is_idle_from
-returns-then-is_idle_from c =
-    run-end c.loop-cpu.cpu (λ k. tsc_in c.new-span.result.clock (get_or (tscs_of c.args.processors.now) k no_tsc)) c.new-span.result.from (length_of c.new-span.result)
-    c.args.self.now c.loop-cpu.self c.loop-cpu.invariant (c.is_idle_from.ensures c.if-is_idle_from.true)
-    ∙ span-run c.new-span.result c.args.clock.now (tscs_of c.args.processors.now) c.args.from c.args.to c.args.self.now c.new-span.ensures.clock c.new-span.ensures.from
-    c.new-span.ensures.to
-
-pub loop-cpu-preserved : goal.loop-cpu-preserved
-loop-cpu-preserved c =
-    let tsc : ℕ → ℕ → ℕ = λ k. tsc_in c.new-span.result.clock (get_or (tscs_of c.args.processors.now) k no_tsc) in
-    let more : IsRunBelow (c.loop-cpu.cpu + 1) tsc c.new-span.result.from (length_of c.new-span.result) c.args.self.now c.run_at.new.self =
-    run-more c.loop-cpu.cpu tsc c.new-span.result.from (length_of c.new-span.result) c.args.self.now c.loop-cpu.self c.run_at.new.self
-    c.loop-cpu.invariant c.run_at.ensures.joined
-    (c.run_at.ensures.timer ∙ ap (λ (t : Tsc). nanoseconds (tsc_in c.new-span.result.clock t) c.new-span.result.from (length_of c.new-span.result)
-    (timer_at c.loop-cpu.cpu c.loop-cpu.self)) c.tsc_of-tsc.ensures)
-    (c.run_at.ensures.line ∙ ap (λ (t : Tsc). ticked_times (ticks_in (tsc_in c.new-span.result.clock t) c.new-span.result.from
-    (timer_at c.loop-cpu.cpu c.loop-cpu.self) (length_of c.new-span.result)) (line_at c.loop-cpu.cpu c.loop-cpu.self)) c.tsc_of-tsc.ensures)
-    c.run_at.ensures.other_timers c.run_at.ensures.other_lines in
-    more
-
-pub returns : goal.returns
-returns c =
-    run-end c.loop-cpu.cpu (λ k. tsc_in c.new-span.result.clock (get_or (tscs_of c.args.processors.now) k no_tsc)) c.new-span.result.from (length_of c.new-span.result)
-    c.args.self.now c.loop-cpu.self c.loop-cpu.invariant (λ k after less. absurd (omega (arith, after, less, c.loop-cpu-test.false)))
-    ∙ span-run c.new-span.result c.args.clock.now (tscs_of c.args.processors.now) c.args.from c.args.to c.args.self.now c.new-span.ensures.clock c.new-span.ensures.from
-    c.new-span.ensures.to
+pub returns-then-is_still : goal.returns-then-is_still
+returns-then-is_still c =
+    run-still (tsc_by_time c.args.clock.now (tscs_of c.args.processors.now)) c.args.from (c.args.to - c.args.from) c.args.self.now
+    c.is_armed.ensures.joined (c.is_still.ensures c.if-is_still.true)
