@@ -9,7 +9,7 @@ pub mod Next
 pub mod Rises
 pub mod Access
 pub mod Refusals
-pub mod Answered
+pub mod Outcome
 pub mod Quiet
 pub mod Lazy
 pub mod Reanchor

@@ -26,7 +26,7 @@ ghost use Rattle.board_core.specs.Apics.{after_look};
 ghost use Rattle.board_core.specs.Time.{now_of, time_of_access, HasTime};
 ghost use Rattle.board_core.specs.Access.{ran_to, bursts_to, after_run, reply_of, after_access};
 ghost use Rattle.board_core.specs.Refusals.{refusal_of};
-ghost use Rattle.board_core.specs.Answered.{IsAnswered};
+ghost use Rattle.board_core.specs.Outcome.{IsOutcome};
 
 use crate::apics::run_apics;
 use crate::board::BoardState;
@@ -63,7 +63,7 @@ impl BoardState {
         requires cpu { cpu < self.old.cpus }
         requires legal { IsTrue (is_legal self.old.cpus self.old.format a) }
         requires fresh { IsFresh reply.old }
-        ensures { IsAnswered self.old cpu h a result self.new reply.old reply.new }
+        ensures { IsOutcome self.old cpu h a result self.new reply.old reply.new }
     {
         // In each of these arms the compiler knows the kind, and leaves out what the others need.
         match a {
@@ -97,7 +97,7 @@ impl BoardState {
         requires cpu { cpu < self.old.cpus }
         requires legal { IsTrue (is_legal self.old.cpus self.old.format a) }
         requires fresh { IsFresh reply.old }
-        ensures { IsAnswered self.old cpu h a result self.new reply.old reply.new }
+        ensures { IsOutcome self.old cpu h a result self.new reply.old reply.new }
     {
         let to = match self.admit(cpu, h, a) {
             Ok(to) => to,

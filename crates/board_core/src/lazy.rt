@@ -12,7 +12,7 @@ ghost use Rattle.board_types.specs.Legal.{is_legal};
 ghost use Rattle.board_types.specs.Reply.{IsFresh};
 ghost use Rattle.board_types.specs.declared.access.Access.TheVariants.{Step};
 ghost use Rattle.board_core.specs.Time.{HasTime, now_of};
-ghost use Rattle.board_core.specs.Answered.{IsAnswered};
+ghost use Rattle.board_core.specs.Outcome.{IsOutcome};
 ghost use Rattle.board_core.specs.Pages.{page_reply, clock_reply, after_clock};
 ghost use Rattle.board_core.specs.Hv.{hv_reply};
 ghost use Rattle.board_core.specs.Quiet.{IsQuiet};
@@ -85,7 +85,7 @@ impl LazyBoard {
         requires cpu { cpu < self.old.cpus }
         requires legal { IsTrue (is_legal self.old.cpus self.old.format a) }
         requires fresh { IsFresh reply.old }
-        ensures { IsAnswered self.old cpu h a result self.new reply.old reply.new }
+        ensures { IsOutcome self.old cpu h a result self.new reply.old reply.new }
     {
         match a {
             Access::Step => self.step(cpu, h, reply),
@@ -98,7 +98,7 @@ impl LazyBoard {
     fn step(&mut self, cpu: u8, h: u64, reply: &mut Reply) -> Result<(), Refusal>
         requires cpu { cpu < self.old.cpus }
         requires fresh { IsFresh reply.old }
-        ensures { IsAnswered self.old cpu h Step result self.new reply.old reply.new }
+        ensures { IsOutcome self.old cpu h Step result self.new reply.old reply.new }
     {
         let start = self.board.anchor().start;
         if h < self.horizon && start <= h && self.board.accesses() < MOST_ACCESSES {
@@ -116,7 +116,7 @@ impl LazyBoard {
     fn run(&mut self, cpu: u8, h: u64, reply: &mut Reply) -> Result<(), Refusal>
         requires cpu { cpu < self.old.cpus }
         requires fresh { IsFresh reply.old }
-        ensures { IsAnswered self.old cpu h Step result self.new reply.old reply.new }
+        ensures { IsOutcome self.old cpu h Step result self.new reply.old reply.new }
     {
         self.board.pass_to(self.host);
         self.host = 0;

@@ -23,7 +23,7 @@ use Rattle.board_core.specs.Refusals.{refusal_of}
 
 -- board b was asked access a of processor cpu at count h: board and reply, which was `before`, are then
 -- `after` and `told`; the run to the access's time brings at most six edges, and the access itself twelve
-pub record IsAnswered {T : Type 0} (b : BoardParts) (cpu h : ℕ) (a : Access) (result : Result T Refusal)
+pub record IsOutcome {T : Type 0} (b : BoardParts) (cpu h : ℕ) (a : Access) (result : Result T Refusal)
     (after : BoardParts) (before told : Reply) : Type 0 where
   pub refused : IfErr result (λ e. refusal_of b cpu h a ≡ Some e)
   pub unchanged : OnErr result (after ≡ b)
