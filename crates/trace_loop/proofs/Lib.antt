@@ -1,5 +1,6 @@
 pub mod ByLines
 pub mod Cuts
+pub mod Ends
 pub mod Goings
 pub mod Outcomes
 pub mod Progresses

@@ -25,6 +25,9 @@ ghost use Rattle.std.specs.Prelude.{
   if◌then◌else◌,
 };
 ghost use Rattle.std.specs.Str.{bytes_eq};
+ghost use Rattle.std.specs.Prelude.{map};
+ghost use lib.Lanes.{mask_l};
+ghost use Rattle.memchr.specs.Find.{IsFirstByte, is_byte};
 ghost use Rattle.std.specs.Io.KnownBytes.{Consumes, IsAtEnd};
 ghost use Rattle.board_io.specs.Faults.{Rose, most_given, AddsGiven, gave_nothing};
 ghost use Rattle.trace_loop.specs.Progress.{limit_of};
@@ -37,6 +40,7 @@ use clk_units::NoMemory;
 use memchr::memchr;
 use std::alloc::Global;
 use std::marker::Model;
+use std::simd::prelude::*;
 
 /// The most bytes that a line has, without its end.
 pub const LINE_MAX: usize = 128;
@@ -171,7 +175,7 @@ impl Lines {
         ensures { IsFound self.now.text self.now.left result }
     {
         let rest = &self.piece[self.from..self.to];
-        let end = memchr(b'\n', rest);
+        let end = first_end(rest);
         let n = end.unwrap_or(rest.len());
         let limit = limit_met(&self.kept, &rest[..n]);
         if self.kept.len() + n > limit {
@@ -303,6 +307,31 @@ fn append_part(out: &mut Vec<u8>, piece: &[u8], from: usize, to: usize) -> Resul
     ensures err { OnErr result (out.new.items ≡ out.old.items) }
 {
     append(out, &piece[from..to])
+}
+
+/// Where the first line's end is in the bytes of a piece. Most lines are short, so a few bytes are looked at first, at once.
+#[inline(always)]
+fn first_end(rest: &[u8]) -> Option<usize>
+    ensures { IsFirstByte (is_byte 10) rest.now result }
+{
+    if rest.len() >= 32 {
+        let ends = ends_in(rest);
+        if ends != 0 {
+            return Some(ends.trailing_zeros() as usize);
+        }
+    }
+    memchr(b'\n', rest)
+}
+
+/// Which of the first 32 bytes are ends of lines, a bit each.
+#[inline(always)]
+fn ends_in(rest: &[u8]) -> u64
+    requires { 32 ≤ length rest.now }
+    ensures { result ≡ mask_l (map (is_byte 10) (take 32 rest.now)) }
+{
+    u8x32::from_slice(rest)
+        .simd_eq(u8x32::splat(b'\n'))
+        .to_bitmask()
 }
 
 /// How many bytes a line may have without its end, by how it begins.

@@ -190,3 +190,17 @@ more_digits base n k digit most small h =
 -- 16 digits fit 64 bits
 pub digits_fit : (k : ℕ) → k ≤ 16 → 16 ^ k ≤ 18446744073709551616
 digits_fit k h = pow-le-pow_right {n = 16} (omega arith) {i = k} {j = 16} h
+
+-- a decimal digit more, of the number at a place, of which so many were read
+pub decimal_more : (at k n digit : ℕ) (line : List ℕ) → at + k < length line → k < 16 → digit_value (get_or line (at + k) 0) ≡ digit → digit < 10
+    → n < 16 ^ k
+    → (spelled 10 k n (drop (at + k) line) ≡ spelled 10 (k + 1) (n * 10 + digit) (drop (at + (k + 1)) line))
+    × (n * 10 + digit < 16 ^ (k + 1))
+decimal_more at k n digit line inside few same small h =
+    let byte : ℕ = get_or line (at + k) 0 in
+    let less : digit_value byte < 10 = omega arith in
+    let below = more_digits 10 n k digit (omega arith) small h in
+    let fits = digits_fit (k + 1) (omega arith) in
+    let next : at + (k + 1) ≡ at + k + 1 = omega arith in
+    let more = spelled-more 10 k n (at + k) line inside (not_space 10 byte (omega arith) less) less (omega arith) in
+    (rw (next, ← same) more, below)

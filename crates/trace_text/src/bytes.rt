@@ -77,6 +77,9 @@ pub(crate) struct Spelling {
     pub(crate) end: usize,
 }
 
+/// How many digits are read without a test of the line's end.
+const MANY_DIGITS: usize = 10;
+
 /// How many digits of a base of at most 16 spell a number below 2^64, whichever they are.
 const DIGITS_THAT_FIT: usize = 16;
 
@@ -97,25 +100,25 @@ static HEX_VALUES: [u8; 256] = [
 
 /// The value of a byte as a decimal digit; 10 or more where it is none.
 #[inline(always)]
-fn decimal_digit_of(byte: u8) -> u8
+fn decimal_digit_of(byte: u8) -> u64
     ensures digit { result < 10 → digit_value byte ≡ result }
     ensures none { 10 ≤ result → 10 ≤ digit_value byte }
 {
-    byte.wrapping_sub(b'0')
+    u64::from(byte).wrapping_sub(48)
 }
 
 /// The value of a byte as a digit, of either case; 16 where it is no digit of a base of at most 16.
 #[inline(always)]
-fn digit_of(byte: u8) -> u8
+fn digit_of(byte: u8) -> u64
     ensures digit { result < 16 → digit_value byte ≡ result }
     ensures none { 16 ≤ result → 16 ≤ digit_value byte }
 {
-    HEX_VALUES[byte as usize]
+    u64::from(HEX_VALUES[byte as usize])
 }
 
 /// The value of a byte as a digit of a base, of either case; the base or more where it is none.
 #[inline(always)]
-fn digit_in(byte: u8, base: u8) -> u8
+fn digit_in(byte: u8, base: u64) -> u64
     requires { base ≤ 16 }
     ensures digit { result < base → digit_value byte ≡ result }
     ensures none { base ≤ result → base ≤ digit_value byte }
@@ -129,25 +132,24 @@ fn digit_in(byte: u8, base: u8) -> u8
 
 /// A number with one digit more.
 #[inline(always)]
-fn with_digit(n: u64, base: u8, digit: u8) -> u64
+fn with_digit(n: u64, base: u64, digit: u64) -> u64
     requires { n * base + digit < 18446744073709551616 }
     ensures { result ≡ n * base + digit }
 {
-    n * u64::from(base) + u64::from(digit)
+    n * base + digit
 }
 
 /// A number with one digit more, if it is below 2^64.
-fn pushed(n: u64, base: u8, digit: u8) -> Option<u64>
+fn pushed(n: u64, base: u64, digit: u64) -> Option<u64>
     ensures { SomeIff result (n * base + digit < 18446744073709551616) (n * base + digit) }
 {
-    n.checked_mul(u64::from(base))?
-        .checked_add(u64::from(digit))
+    n.checked_mul(base)?.checked_add(digit)
 }
 
 /// The number in a base at a place of a line, up to the next space or the line's end. It is apart from where it is
 /// called: most words are read by the functions below.
 #[inline(never)]
-pub(crate) fn spelling_at(line: &[u8], at: usize, base: u8) -> Option<Spelling>
+pub(crate) fn spelling_at(line: &[u8], at: usize, base: u64) -> Option<Spelling>
     requires least { 2 ≤ base }
     requires most { base ≤ 16 }
     requires within { at ≤ length line.now }
@@ -180,7 +182,7 @@ pub(crate) fn spelling_at(line: &[u8], at: usize, base: u8) -> Option<Spelling>
 /// The number in a base at a place of a line, if it has at most 16 digits, where those before `from` were
 /// read, and spelled `read`; None for any other word.
 #[inline(always)]
-fn short_spelling(line: &[u8], at: usize, from: usize, base: u8, read: u64) -> Option<Spelling>
+fn short_spelling(line: &[u8], at: usize, from: usize, base: u64, read: u64) -> Option<Spelling>
     requires least { 2 ≤ base }
     requires most { base ≤ 16 }
     requires behind { at ≤ from }
@@ -218,9 +220,9 @@ fn short_spelling(line: &[u8], at: usize, from: usize, base: u8, read: u64) -> O
 }
 
 /// The number at a place of a line, if it is decimal, begins with another digit than zero, and has at most 16
-/// digits.
-#[inline(always)]
-pub(crate) fn decimal_at(line: &[u8], at: usize) -> Option<Spelling>
+/// digits. It is apart from where it is called, for numbers of a few digits.
+#[inline(never)]
+pub(crate) fn few_digits_at(line: &[u8], at: usize) -> Option<Spelling>
     ensures { IfSome result (λ s. (at < s.end) × (s.end ≤ length line.now)
         × (slice_index line.now at ≢ 48) × (spelled 10 0 0 (drop at line.now) ≡ Some (record {
           count = s.end - at;
@@ -235,7 +237,43 @@ pub(crate) fn decimal_at(line: &[u8], at: usize) -> Option<Spelling>
     if first == 0 || first >= 10 {
         return None;
     }
-    let spelling = short_spelling(line, at, at + 1, 10, u64::from(first))?;
+    let spelling = short_spelling(line, at, at + 1, 10, first)?;
+    Some(spelling)
+}
+
+/// The same for a number of many digits: the first of them are read without a test of the line's end.
+#[inline(always)]
+pub(crate) fn decimal_at(line: &[u8], at: usize) -> Option<Spelling>
+    ensures { IfSome result (λ s. (at < s.end) × (s.end ≤ length line.now)
+        × (slice_index line.now at ≢ 48) × (spelled 10 0 0 (drop at line.now) ≡ Some (record {
+          count = s.end - at;
+          value = s.value;
+          left = words_from (s.end + 1) line.now;
+        }))) }
+{
+    if line.len() < MANY_DIGITS || line.len() - MANY_DIGITS < at {
+        return few_digits_at(line, at);
+    }
+    let mut n = decimal_digit_of(line[at]);
+    if n == 0 || n >= 10 {
+        return None;
+    }
+    for k in 1..MANY_DIGITS {
+        let byte = line[at + k];
+        let digit = decimal_digit_of(byte);
+        if digit >= 10 {
+            return if byte == b' ' {
+                Some(Spelling {
+                    value: n,
+                    end: at + k,
+                })
+            } else {
+                None
+            };
+        }
+        n = with_digit(n, 10, digit);
+    }
+    let spelling = short_spelling(line, at, at + MANY_DIGITS, 10, n)?;
     Some(spelling)
 }
 
@@ -256,7 +294,7 @@ pub(crate) fn hexadecimal_at(line: &[u8], at: usize) -> Option<Spelling>
     if first >= 16 {
         return None;
     }
-    let spelling = short_spelling(line, at, at + 1, 16, u64::from(first))?;
+    let spelling = short_spelling(line, at, at + 1, 16, first)?;
     Some(spelling)
 }
 
@@ -270,7 +308,7 @@ fn ends_at(line: &[u8], at: usize) -> bool
 
 /// The decimal digit at a place of a line, if a space or the line's end follows.
 #[inline(always)]
-pub(crate) fn one_digit_at(line: &[u8], at: usize) -> Option<u8>
+pub(crate) fn one_digit_at(line: &[u8], at: usize) -> Option<u64>
     requires { at ≤ length line.now + 1 }
     ensures { IfSome result (λ n. (at + 1 ≤ length line.now) × (spelled 10 0 0 (drop at line.now)
         ≡ Some (record {
@@ -306,7 +344,7 @@ pub(crate) fn two_digits_at(line: &[u8], at: usize) -> Option<u8>
     let high = digit_of(line[at]);
     let low = digit_of(line[at + 1]);
     if high < 16 && low < 16 {
-        Some(16 * high + low)
+        Some((16 * high + low) as u8)
     } else {
         None
     }

@@ -1,5 +1,5 @@
 //! What a record does, by the words after its counter.
-ghost use Rattle.std.specs.Prelude.{◌≡◌, ◌<◌, Ok, IfOk, OnSome, IfNone};
+ghost use Rattle.std.specs.Prelude.{◌≡◌, ◌<◌, Ok, IfOk, OnSome, IfSome, IfNone};
 ghost use Rattle.board_types.specs.Legal.{is_port, is_hpet_place};
 ghost use Rattle.irq_edges.specs.Lines.{is_line};
 ghost use Rattle.trace_text.specs.Tokens.{rest};
@@ -101,6 +101,19 @@ pub(crate) fn in_job(body: &Body, words: &mut Words<'_>) -> Result<Job, Reason>
     }
 }
 
+/// The same, where the port has two digits; None for any other words.
+#[inline(always)]
+pub(crate) fn usual_in(body: &Body, words: &mut Words<'_>) -> Option<Job>
+    ensures job { IfSome result (λ j. in_row body.now words.old ≡ Ok j) }
+    ensures valid { IfSome result (IsJob body.now) }
+{
+    let port = words.two_digits()?;
+    if words.end().is_err() || !is_port(port) {
+        return None;
+    }
+    Some(Job::Board(Access::PortIn { port }))
+}
+
 #[inline(always)]
 pub(crate) fn out_job(body: &Body, words: &mut Words<'_>) -> Result<Job, Reason>
     ensures job { result ≡ out_row body.now words.old }
@@ -114,6 +127,20 @@ pub(crate) fn out_job(body: &Body, words: &mut Words<'_>) -> Result<Job, Reason>
     } else {
         Err(Reason::Form)
     }
+}
+
+/// The same, where the port and the byte have two digits; None for any other words.
+#[inline(always)]
+pub(crate) fn usual_out(body: &Body, words: &mut Words<'_>) -> Option<Job>
+    ensures job { IfSome result (λ j. out_row body.now words.old ≡ Ok j) }
+    ensures valid { IfSome result (IsJob body.now) }
+{
+    let port = words.two_digits()?;
+    let byte = words.two_digits()?;
+    if words.end().is_err() || !is_port(port) {
+        return None;
+    }
+    Some(Job::Board(Access::PortOut { port, byte }))
 }
 
 #[inline(always)]
@@ -183,6 +210,20 @@ pub(crate) fn ack_job(body: &Body, words: &mut Words<'_>) -> Result<Job, Reason>
     } else {
         Err(Reason::Form)
     }
+}
+
+/// The same, where the line's number has few digits; None for any other words.
+#[inline(always)]
+pub(crate) fn usual_ack(body: &Body, words: &mut Words<'_>) -> Option<Job>
+    ensures job { IfSome result (λ j. ack_row body.now words.old ≡ Ok j) }
+    ensures valid { IfSome result (IsJob body.now) }
+{
+    let line = words.usual_dec()?;
+    if words.end().is_err() || line >= 0x100 || !is_line(line as u8) {
+        return None;
+    }
+    let line = line as u8;
+    Some(Job::Board(Access::Ack { line }))
 }
 
 #[inline(never)]
@@ -312,6 +353,20 @@ pub(crate) fn clock_job(body: &Body, words: &mut Words<'_>) -> Result<Job, Reaso
 {
     let page = page_in(body, words)?;
     Ok(Job::Clock { page })
+}
+
+/// The same, where the page's number has few digits; None for any other words.
+#[inline(always)]
+pub(crate) fn usual_clock(body: &Body, words: &mut Words<'_>) -> Option<Job>
+    ensures job { IfSome result (λ j. clock_row body.now words.old ≡ Ok j) }
+    ensures valid { IfSome result (IsJob body.now) }
+{
+    let page = words.usual_dec()?;
+    if words.end().is_err() || page >= u64::from(body.cpus) {
+        return None;
+    }
+    let page = page as u8;
+    Some(Job::Clock { page })
 }
 
 pub(crate) fn hv_job(body: &Body, words: &Words<'_>) -> Result<Job, Reason>

@@ -1,5 +1,5 @@
 //! Records: what a processor does at a host counter.
-ghost use Rattle.std.specs.Prelude.{◌≡◌, ◌<◌, ◌≤◌, Ok, IfOk, OnErr, IsErr};
+ghost use Rattle.std.specs.Prelude.{◌≡◌, ◌<◌, ◌≤◌, Ok, IfOk, IfSome, OnErr, IsErr, slice_index};
 ghost use Rattle.std.specs.Bool.{OnTrue, OnFalse};
 ghost use Rattle.trace_text.specs.Tokens.{words_of};
 ghost use Rattle.trace_text.specs.Records.{
@@ -13,7 +13,7 @@ ghost use Rattle.trace_text.specs.Records.{
 
 use crate::faults::Reason;
 use crate::groups::job_in;
-use crate::jobs::{in_job, out_job, step_job};
+use crate::jobs::{step_job, usual_ack, usual_clock, usual_in, usual_out};
 use crate::words::Words;
 use board_types::Access;
 
@@ -123,7 +123,34 @@ impl Body {
     /// The same, and remembers nothing. What most records are stays out of memory.
     #[inline(always)]
     #[tactic(auto, unfolding(crate::specs::Records::record_of))]
-    fn look_at(&self, mut words: Words<'_>, into: &mut Record) -> bool
+    fn look_at(&self, words: Words<'_>, into: &mut Record) -> bool
+        requires { self.now.cpus ≤ 64 }
+        ensures record { OnTrue result (record_of self.now words.entry ≡ Ok into.new) }
+        ensures cause { OnFalse result (IsErr (record_of self.now words.entry)) }
+        ensures valid { OnTrue result (IsRecord self.now into.new) }
+    {
+        let mut usual = words.again();
+        let Some(cpu) = usual.usual_dec() else {
+            return self.look_apart(words, into);
+        };
+        let Some(h) = usual.many_digits() else {
+            return self.look_apart(words, into);
+        };
+        if !read_job(self, usual, &mut into.job) {
+            return false;
+        }
+        if !self.is_next(cpu, h) {
+            return false;
+        }
+        into.cpu = cpu as u8;
+        into.h = h;
+        true
+    }
+
+    /// The same, apart from where it is called.
+    #[inline(never)]
+    #[tactic(auto, unfolding(crate::specs::Records::record_of))]
+    fn look_apart(&self, mut words: Words<'_>, into: &mut Record) -> bool
         requires { self.now.cpus ≤ 64 }
         ensures record { OnTrue result (record_of self.now words.entry ≡ Ok into.new) }
         ensures cause { OnFalse result (IsErr (record_of self.now words.entry)) }
@@ -135,14 +162,27 @@ impl Body {
         let Some(h) = words.dec() else {
             return false;
         };
-        if !read_job(self, words, &mut into.job) {
+        if !put_job(job_in(self, words), &mut into.job) {
             return false;
         }
-        if cpu >= u64::from(self.cpus) || h < self.before[cpu as usize] {
+        if !self.is_next(cpu, h) {
             return false;
         }
         into.cpu = cpu as u8;
         into.h = h;
+        true
+    }
+
+    /// Whether a record may come by this processor at this counter.
+    #[inline(always)]
+    fn is_next(&self, cpu: u64, h: u64) -> bool
+        requires { self.now.cpus ≤ 64 }
+        ensures next { OnTrue result ((cpu < self.now.cpus) × (slice_index self.now.before cpu ≤ h)) }
+        ensures refused { OnFalse result (cpu < self.now.cpus → h < slice_index self.now.before cpu) }
+    {
+        if cpu >= u64::from(self.cpus) || h < self.before[cpu as usize] {
+            return false;
+        }
         true
     }
 
@@ -159,24 +199,39 @@ impl Body {
     }
 }
 
-/// Puts what a record does in its place; false where it does nothing that there is.
+/// Puts what a record does in its place; false where it does nothing that there is. What most records do is read here,
+/// and the rest apart.
 #[inline(always)]
 #[tactic(auto, unfolding(crate::specs::Records::job_of))]
-fn read_job(body: &Body, mut words: Words<'_>, into: &mut Job) -> bool
+fn read_job(body: &Body, words: Words<'_>, into: &mut Job) -> bool
     ensures job { OnTrue result (job_of body.now words.entry ≡ Ok into.new) }
     ensures cause { OnFalse result (IsErr (job_of body.now words.entry)) }
     ensures valid { OnTrue result (IsJob body.now into.new) }
 {
-    if words.takes(b"in") {
-        return put_job(in_job(body, &mut words), into);
+    match usual_job(body, words.again()) {
+        Some(job) => {
+            *into = job;
+            true
+        }
+        None => put_job(job_in(body, words), into),
     }
-    if words.takes(b"out") {
-        return put_job(out_job(body, &mut words), into);
+}
+
+/// What most records do: None also for what others do.
+#[inline(always)]
+#[tactic(auto, unfolding(crate::specs::Records::job_of))]
+fn usual_job(body: &Body, mut words: Words<'_>) -> Option<Job>
+    ensures job { IfSome result (λ j. job_of body.now words.entry ≡ Ok j) }
+    ensures valid { IfSome result (IsJob body.now) }
+{
+    match words.initial() {
+        b'i' if words.takes(b"in") => usual_in(body, &mut words),
+        b'o' if words.takes(b"out") => usual_out(body, &mut words),
+        b's' if words.takes(b"step") => step_job(body, &words).ok(),
+        b'c' if words.takes(b"clock") => usual_clock(body, &mut words),
+        b'a' if words.takes(b"ack") => usual_ack(body, &mut words),
+        _ => None,
     }
-    if words.takes(b"step") {
-        return put_job(step_job(body, &words), into);
-    }
-    put_job(job_in(body, words), into)
 }
 
 /// Puts a job in its place, if there is one.

@@ -45,8 +45,8 @@ ghost use Rattle.trace_text.specs.Tokens.{
 ghost use Rattle.trace_text.specs.Rows.{last};
 
 use crate::bytes::{
-    Number, decimal_at, end_of_word, hexadecimal_at, is_zero, one_digit_at, spelling_at,
-    two_digits_at,
+    Number, decimal_at, end_of_word, few_digits_at, hexadecimal_at, is_zero, one_digit_at,
+    spelling_at, two_digits_at,
 };
 use crate::faults::Reason;
 use memchr::memchr;
@@ -79,6 +79,17 @@ impl<'a> Words<'a> {
         ensures { result ≡ words_of line.now }
     {
         Words { line, at: 0 }
+    }
+
+    /// The same words again.
+    #[inline(always)]
+    pub(crate) fn again(&self) -> Words<'a>
+        ensures { result ≡ self.now }
+    {
+        Words {
+            line: self.line,
+            at: self.at,
+        }
     }
 
     /// Whether no word is left; else the line is out of form.
@@ -137,7 +148,7 @@ impl<'a> Words<'a> {
 
     /// Goes past the next word, if it is a number in this base. It is read apart from where it is called.
     #[inline(always)]
-    fn number_apart(&mut self, base: u8) -> Option<Number>
+    fn number_apart(&mut self, base: u64) -> Option<Number>
         requires least { 2 ≤ base }
         requires most { base ≤ 16 }
         ensures value { result ≡ first (number_of base) self.old }
@@ -158,7 +169,7 @@ impl<'a> Words<'a> {
 
     /// The next word as a decimal digit; None where it is anything else, and then it stays.
     #[inline(always)]
-    fn one_digit(&mut self) -> Option<u8>
+    fn one_digit(&mut self) -> Option<u64>
         ensures value { IfSome result (λ n. dec self.old ≡ Some n) }
         ensures past { OnSome result (self.new ≡ rest self.old) }
         ensures still { IfNone result (self.new ≡ self.old) }
@@ -168,21 +179,58 @@ impl<'a> Words<'a> {
         Some(n)
     }
 
-    /// The next word as a DEC, which most likely has one digit.
+    /// The next word as a DEC, which most likely has one digit, or a few.
     #[inline(always)]
     pub(crate) fn short_dec(&mut self) -> Option<u64>
         ensures value { result ≡ dec self.old }
         ensures past { OnSome result (self.new ≡ rest self.old) }
     {
+        match self.usual_dec() {
+            Some(n) => Some(n),
+            None => self.dec_apart(),
+        }
+    }
+
+    /// The next word as a DEC of at most 16 digits, most likely of a few; None also where it is another DEC.
+    #[inline(always)]
+    fn few_digits(&mut self) -> Option<u64>
+        ensures value { IfSome result (λ n. dec self.old ≡ Some n) }
+        ensures past { OnSome result (self.new ≡ rest self.old) }
+        ensures still { IfNone result (self.new ≡ self.old) }
+    {
+        let spelling = few_digits_at(self.line, self.at)?;
+        self.at = spelling.end + 1;
+        Some(spelling.value)
+    }
+
+    /// The same, most likely of many digits.
+    #[inline(always)]
+    pub(crate) fn many_digits(&mut self) -> Option<u64>
+        ensures value { IfSome result (λ n. dec self.old ≡ Some n) }
+        ensures past { OnSome result (self.new ≡ rest self.old) }
+        ensures still { IfNone result (self.new ≡ self.old) }
+    {
+        let spelling = decimal_at(self.line, self.at)?;
+        self.at = spelling.end + 1;
+        Some(spelling.value)
+    }
+
+    /// The same, most likely of one digit.
+    #[inline(always)]
+    pub(crate) fn usual_dec(&mut self) -> Option<u64>
+        ensures value { IfSome result (λ n. dec self.old ≡ Some n) }
+        ensures past { OnSome result (self.new ≡ rest self.old) }
+        ensures still { IfNone result (self.new ≡ self.old) }
+    {
         match self.one_digit() {
-            Some(digit) => Some(u64::from(digit)),
-            None => self.dec(),
+            Some(digit) => Some(digit),
+            None => self.few_digits(),
         }
     }
 
     /// The next word as two hexadecimal digits; None where it is anything else, and then it stays.
     #[inline(always)]
-    fn two_digits(&mut self) -> Option<u8>
+    pub(crate) fn two_digits(&mut self) -> Option<u8>
         ensures byte { IfSome result (λ n. byte self.old ≡ Some n) }
         ensures hex { IfSome result (λ n. hex self.old ≡ Some n) }
         ensures past { OnSome result (self.new ≡ rest self.old) }
@@ -193,17 +241,14 @@ impl<'a> Words<'a> {
         Some(n)
     }
 
-    /// The next word as a DEC, which most likely has at most 16 digits.
+    /// The next word as a DEC, which most likely has many digits.
     #[inline(always)]
     pub(crate) fn dec(&mut self) -> Option<u64>
         ensures value { result ≡ dec self.old }
         ensures past { OnSome result (self.new ≡ rest self.old) }
     {
-        match decimal_at(self.line, self.at) {
-            Some(spelling) => {
-                self.at = spelling.end + 1;
-                Some(spelling.value)
-            }
+        match self.many_digits() {
+            Some(n) => Some(n),
             None => self.dec_apart(),
         }
     }

@@ -1,4 +1,4 @@
-use Rattle.std.proofs.Common.{◌≡◌, ◌≤◌, false, ◌+◌, ◌-◌, ◌*◌, length}
+use Rattle.std.proofs.Common.{◌≡◌, false, ◌+◌, ◌-◌, ◌*◌, length}
 use Rattle.trace_loop.specs.private.Going.{IsFed, IsGoing, ends_of}
 use Rattle.trace_loop.proofs.program.answer_fed.Given as goal
 

@@ -1,17 +1,40 @@
 use Rattle.std.proofs.Common.{◌≡◌, ℕ, ◌+◌, ◌-◌, ◌*◌, ◌<◌, length, get_or, ap, ◌∙◌, arith}
 use Rattle.std.specs.Char.{digit_value}
-use Rattle.trace_text.proofs.Spells.{spelled-more, not_space}
+use Rattle.trace_text.proofs.Spells.{decimal_more, digits_fit, spelled-space}
 use Rattle.trace_text.proofs.bytes.decimal_at.Goals as goal
 
-pub returns : goal.returns
-returns c =
+pub loop-k-init : goal.loop-k-init
+loop-k-init c =
     let at : ℕ = c.args.at in
-    let byte : ℕ = get_or c.args.line.now at 0 in
-    let inside : at < length c.args.line.now = omega arith in
-    let digit : digit_value byte ≡ c.decimal_digit_of-first.result = c.decimal_digit_of-first.ensures.digit (omega arith) in
-    let small : digit_value byte < 10 = omega arith in
-    let value : 0 * 10 + digit_value byte ≡ c.from.result = omega (arith, c.from.ensures) in
-    let count : at + 1 - at ≡ 0 + 1 = omega arith in
-    let more = spelled-more 10 0 0 at c.args.line.now inside (not_space 10 byte (omega arith) small) small (omega arith) in
-    let other : byte ≡ 48 → ⊥ = λ e. absurd (let value_of : digit_value byte ≡ 0 = ap digit_value e in omega arith) in
-    (omega (arith, c.in_ok-spelling.ensures.0), c.in_ok-spelling.ensures.1, other, more ∙ rw value (rw count at c.in_ok-spelling.ensures.3))
+    let digit : ℕ = c.decimal_digit_of-n.result in
+    let zero : at + 0 ≡ at = omega arith in
+    let same : digit_value (get_or c.args.line.now (at + 0) 0) ≡ digit = rw zero (c.decimal_digit_of-n.ensures.digit (omega arith)) in
+    let total : 0 * 10 + digit ≡ digit = omega arith in
+    let more = decimal_more at 0 0 digit c.args.line.now (omega arith) (omega arith) same (omega arith) (omega arith) in
+    (rw (zero, total) at more.0, omega arith)
+
+pub returns-then-byte-eq32 : goal.returns-then-byte-eq32
+returns-then-byte-eq32 c =
+    let at : ℕ = c.args.at in
+    let k : ℕ = c.loop-k.k in
+    let first : ℕ = get_or c.args.line.now at 0 in
+    let inside : at + k < length c.args.line.now = omega arith in
+    let other : first ≡ 48 → ⊥ = λ e. absurd
+    (let value_of : digit_value first ≡ 0 = ap digit_value e in omega (arith, c.decimal_digit_of-n.ensures.digit (omega arith))) in
+    let count : at + k - at ≡ k = omega arith in
+    let space = spelled-space 10 k c.loop-k.n (at + k) c.args.line.now inside c.if-byte-eq32.true in
+    (omega arith, omega arith, other, rw count (c.loop-k.invariant.0 ∙ space))
+
+pub with_digit-n-requires : goal.with_digit-n-requires
+with_digit-n-requires c =
+    let digit = c.decimal_digit_of-digit.ensures.digit (omega arith) in
+    let more = decimal_more c.args.at c.loop-k.k c.loop-k.n c.decimal_digit_of-digit.result c.args.line.now (omega arith) (omega arith) digit
+    (omega arith) c.loop-k.invariant.1 in
+    omega (arith, more.1, digits_fit (c.loop-k.k + 1) (omega arith))
+
+pub loop-k-preserved : goal.loop-k-preserved
+loop-k-preserved c =
+    let digit = c.decimal_digit_of-digit.ensures.digit (omega arith) in
+    let more = decimal_more c.args.at c.loop-k.k c.loop-k.n c.decimal_digit_of-digit.result c.args.line.now (omega arith) (omega arith) digit
+    (omega arith) c.loop-k.invariant.1 in
+    (rw c.with_digit-n.ensures (c.loop-k.invariant.0 ∙ more.0), rw c.with_digit-n.ensures more.1)

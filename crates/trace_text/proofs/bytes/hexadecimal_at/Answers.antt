@@ -10,7 +10,7 @@ returns c =
     let inside : at < length c.args.line.now = omega arith in
     let digit : digit_value byte ≡ c.digit_of-first.result = c.digit_of-first.ensures.digit (omega arith) in
     let small : digit_value byte < 16 = omega arith in
-    let value : 0 * 16 + digit_value byte ≡ c.from.result = omega (arith, c.from.ensures) in
+    let value : 0 * 16 + digit_value byte ≡ c.digit_of-first.result = omega arith in
     let count : at + 1 - at ≡ 0 + 1 = omega arith in
     let more = spelled-more 16 0 0 at c.args.line.now inside (not_space 16 byte (omega arith) small) small (omega arith) in (
       omega (arith, c.in_ok-spelling.ensures.0),
