@@ -1,4 +1,5 @@
--- The timers of local APICs with their tick lines: their fields cover them, what is read is written as its bytes are, and valid ones are written and read as they were.
+-- The timers of local APICs with their tick lines: their fields cover them, what is read is written as its bytes are, and valid ones are written and read as
+-- they were.
 use Rattle.save_state.proofs.Names.{apic_line, apic, no_apic, apic_pairs, apics, ApicTimerFits, ApicsFit, read_below-at, read_below-after, length-read_below}
 use Rattle.save_state.proofs.Names.{pairs-at, length-pairs, pairs-halves, any, Apic, with_ticks, apic_timer, all_here-append, all_hold-split, number-written}
 use Rattle.save_state.proofs.Names.{byte-written, plain-here, blocks-here, hold-each, drop-blank, apics_of, apics_in, AreApics, IsBoard, now_of, pairs, moved}

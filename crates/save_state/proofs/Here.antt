@@ -1,52 +1,83 @@
--- Each list of fields: what is written of a valid board is read as it was, and has no fault.
-use Rattle.save_state.proofs.Names.{page, references, references_of, messages, messages_of, devices, back, fields_of, BoardFits, IsPit, elsewhere, here-joined}
-use Rattle.save_state.proofs.Names.{tsc, clock, registers, timer, timers, same, up_allowed, line, lines, counts_of, rises, wall, processor, processors, apics}
-use Rattle.save_state.proofs.Names.{rise_valid, routed_rises_valid, magic, khz_valid, policy_place, head, host, guest, policies, counter, no_counter, counters}
-use Rattle.save_state.proofs.Names.{number-written, word-written, byte-written, flag-written, all-written, plain-here, row-here, blocks-here, drop-blank}
-use Rattle.save_state.proofs.Names.{devices_in, now_of, no_processor, processor_at, byte_at, number, byte, write, plain, ◌⨾◌, AllHere, next-write, SLEW_MAX_NS}
-use Rattle.save_state.proofs.Names.{timers_of, has_messages, processors_of, counts_rtc, levels, IsTimerLine, line_at, no_line, apics_of, IsBoard, timer_at}
-use Rattle.save_state.proofs.Names.{IsPlace, Policy, Discard, Delay, Slew, policy_byte, policy_of, BoardParts, MOST_ACCESSES, LAST_FORMAT, IsKhz, RANGE_NS}
-use Rattle.save_state.proofs.Names.{time_at, Anchor, RtcParts, pf_of, IsRtc, bytes_valid, divider_valid, cycle_valid, IsTimer, no_timer, sym, subst, ◌∙◌, arith}
-use Rattle.save_state.proofs.Names.{lt-ltb, le-ltb, le-leb, and_from, or_right, ne_eqb, cond-true, cond-false, drop_all, get_or-drop, ◌∷◌, [], ◌≡◌, ℕ, zero}
-use Rattle.save_state.proofs.Names.{suc, ◌+◌, ◌<◌, ◌≤◌, Bool, true, false, eqb, ltb, leb, ◌&&◌, ◌||◌, List, ◌++◌, drop, get_or, refl, ap, lists, version-is}
-use Rattle.save_state.proofs.Names.{timers_few, timers_least, processors_few, counts_few}
-use Rattle.save_state.proofs.Blocks.{writes, policy-written, counter-here, timer-here, line-here}
-use Rattle.save_state.proofs.Processors.{processor-here}
-use Rattle.save_state.proofs.ApicLaws.{apics-here}
-use Rattle.save_state.proofs.MessageLaws.{messages-here}
-use Rattle.save_state.proofs.ReferenceLaws.{references-here}
+-- Each list of fields: bytes with no fault are those that are written, and what is written of a valid board is read as it was, and has no fault.
+use Rattle.save_state.proofs.Names.{apic, no_apic, reference, message, no_message, front, devices, back, fields_of, AllSpelled, IsCode, choice-code, AreBlocks}
+use Rattle.save_state.proofs.Names.{blocks-spelled, spells, policy, counter, no_counter, timer, line, processor, ℕ, zero, suc, ◌<◌, ◌≡◌, refl, arith, no_timer}
+use Rattle.save_state.proofs.Names.{policy_byte, policy_of, no_line, no_hv, no_processor, plain, elsewhere, lists, block_lists, page, references, references_of}
+use Rattle.save_state.proofs.Names.{messages, messages_of, BoardFits, IsPit, here-joined, tsc, clock, registers, timers, same, up_allowed, lines, counts_of}
+use Rattle.save_state.proofs.Names.{rises, wall, processors, apics, rise_valid, routed_rises_valid, magic, khz_valid, policy_place, head, host, guest, policies}
+use Rattle.save_state.proofs.Names.{counters, number-written, word-written, byte-written, flag-written, all-written, plain-here, row-here, blocks-here}
+use Rattle.save_state.proofs.Names.{drop-blank, devices_in, processor_at, byte_at, number, byte, write, ◌⨾◌, AllHere, next-write, timers_of, has_messages}
+use Rattle.save_state.proofs.Names.{counts_rtc, IsTimerLine, line_at, apics_of, IsBoard, timer_at, IsPlace, Policy, Discard, Delay, Slew, BoardParts, IsKhz}
+use Rattle.save_state.proofs.Names.{RANGE_NS, time_at, Anchor, RtcParts, pf_of, IsRtc, bytes_valid, divider_valid, cycle_valid, IsTimer, sym, subst, ◌∙◌}
+use Rattle.save_state.proofs.Names.{lt-ltb, le-ltb, le-leb, and_from, or_right, ne_eqb, cond-true, cond-false, drop_all, get_or-drop, ◌∷◌, [], ◌+◌, ◌≤◌, Bool}
+use Rattle.save_state.proofs.Names.{true, false, eqb, ltb, leb, ◌&&◌, ◌||◌, List, ◌++◌, drop, get_or, ap, version-is, timers_few, timers_least, processors_few}
+use Rattle.save_state.proofs.Blocks.{writes, policy-written, counter-here, timer-here, line-here, processor-here, messages-here, references-here}
+use Rattle.save_state.proofs.{Names.counts_few, Names.levels-at, Names.one_if, Names.◌^◌, ApicLaws.apics-here}
+
+policy-code : IsCode policy
+policy-code = choice-code 3 policy_byte policy_of three
+  where
+    three : (y : ℕ) → y < 3 → policy_byte (policy_of y) ≡ y
+    three zero h = refl
+    three (suc zero) h = refl
+    three (suc (suc zero)) h = refl
+    three (suc (suc (suc y))) h = absurd (omega arith)
+
+-- the fields of each block are written as what was read
+block-laws : AreBlocks counter no_counter × AreBlocks timer no_timer × AreBlocks line no_line × AreBlocks processor no_processor × AreBlocks apic no_apic
+    × AreBlocks reference no_hv × AreBlocks message no_message
+unfolding block_lists plain elsewhere
+block-laws = (
+  record { keeps = λ k place bytes. refl; spelled = λ k. search spells },
+  record { keeps = λ k place bytes. refl; spelled = λ k. search spells },
+  record { keeps = λ k place bytes. refl; spelled = λ k. search spells },
+  record { keeps = λ k place bytes. refl; spelled = λ k. search spells },
+  record { keeps = λ k place bytes. refl; spelled = λ k. search spells },
+  record { keeps = λ k place bytes. refl; spelled = λ k. search spells },
+  record { keeps = λ k place bytes. refl; spelled = λ k. search spells },
+)
+
+ruleset laws = (spells, policy-code, blocks-spelled)
+
+-- the fields of a board
+pub front-spelled : AllSpelled front
+unfolding lists
+front-spelled = let blocks = block-laws in search laws
+
+pub devices-spelled : (format : ℕ) → AllSpelled (devices format)
+unfolding lists
+devices-spelled format = let blocks = block-laws in search laws
+
+pub back-spelled : (format cpus : ℕ) → AllSpelled (back format cpus)
+unfolding lists
+back-spelled format cpus = let blocks = block-laws in search laws
+
+pub fields-spelled : (format cpus : ℕ) → AllSpelled (fields_of format cpus)
+unfolding lists
+fields-spelled format cpus = let blocks = block-laws in search laws
 
 -- the head
 base_is : (a : Anchor) (host : ℕ) → time_at a host < RANGE_NS → a.base_ns < RANGE_NS
 unfolding time_at
 base_is a host range = omega (arith, range)
 
+khz_valid-is : (khz : ℕ) → IsKhz khz → khz_valid khz ≡ true
+khz_valid-is khz is = grind arith
+
 start-here : (b : BoardParts) (bytes : List ℕ) → IsBoard b → BoardFits b → AllHere (head ++ host ++ guest) b b bytes
 unfolding head host guest
 start-here b bytes is fits =
-    let joined = is.joined in
-    let few : b.cpus ≤ 64 = omega (arith, joined.format.most_cpus, processors_few b.format) in
-    let time = joined.time in
-    plain-here _ _ _ _ _ b b bytes (word-written 8 magic (omega arith)) refl
-    ⨾ plain-here _ _ _ _ _ b b bytes (number-written 2 b.format (omega (arith, joined.format.last)))
-    (within 1 b.format LAST_FORMAT joined.format.least joined.format.last)
-    ⨾ plain-here _ _ _ _ _ b b bytes (number-written 2 b.cpus (omega (arith, few)))
-    (within 1 b.cpus (processors_of b.format) joined.format.least_cpus joined.format.most_cpus)
-    ⨾ plain-here _ _ _ _ _ b b bytes (number-written 8 b.anchor.khz fits.host.khz) (khz_valid-is b.anchor.khz joined.rates.host)
-    ⨾ plain-here _ _ _ _ _ b b bytes (number-written 8 b.anchor.start fits.host.start) refl
-    ⨾ plain-here _ _ _ _ _ b b bytes (number-written 8 b.anchor.base_ns fits.host.base_ns) (lt-ltb b.anchor.base_ns RANGE_NS (base_is b.anchor b.host time.range))
-    ⨾ plain-here _ _ _ _ _ b b bytes (number-written 8 b.host fits.host.host) (and_from _ _ (le-leb b.anchor.start b.host time.started) (lt-ltb (now_of b) RANGE_NS time.range))
-    ⨾ plain-here _ _ _ _ _ b b bytes (number-written 8 b.guest_khz fits.guest.guest_khz) (khz_valid-is b.guest_khz joined.rates.guest)
-    ⨾ plain-here _ _ _ _ _ b b bytes (number-written 8 b.accesses fits.guest.accesses) (le-leb b.accesses MOST_ACCESSES joined.accesses)
-    ⨾ plain-here _ _ _ _ _ b b bytes (number-written 8 b.greatest fits.guest.greatest) refl
-    ⨾ plain-here _ _ _ _ _ b b bytes (number-written 8 b.slew_ns fits.guest.slew_ns)
-    (within 1 b.slew_ns SLEW_MAX_NS is.devices.joined.slew_low is.devices.joined.slew_high) ⨾ tt
-  where
-    within : (low n high : ℕ) → low ≤ n → n ≤ high → (leb low n && leb n high) ≡ true
-    within low n high e e' = grind arith
-
-    khz_valid-is : (khz : ℕ) → IsKhz khz → khz_valid khz ≡ true
-    khz_valid-is khz is = grind arith
+    let format = is.joined.format in
+    let rates = is.joined.rates in
+    let time = is.joined.time in
+    let accesses = is.joined.accesses in
+    let slew = is.devices.joined in
+    let host = fits.host in
+    let guest = fits.guest in
+    let base = base_is b.anchor b.host time.range in
+    let magic_fits : magic < 256 ^ 8 = omega arith in
+    let format_fits : b.format < 256 ^ 2 = omega (arith, format.last) in
+    let cpus_fits : b.cpus < 256 ^ 2 = omega (arith, format.most_cpus, processors_few b.format) in
+    search (writes, word-written, le-leb, lt-ltb, khz_valid-is)
 
 policies-here : (b : BoardParts) (bytes : List ℕ) → AllHere policies b b bytes
 unfolding policies
@@ -57,7 +88,8 @@ counters-here : (b : BoardParts) (bytes : List ℕ) → IsBoard b → BoardFits 
 unfolding counters counter plain
 counters-here b bytes is fits =
     let p = is.devices.pit in
-    blocks-here 3 3 counter no_counter _ _ b b bytes (λ k less. refl) (omega (arith, p.three)) (each p) (drop_all 3 b.pit.counters (omega (arith, p.three))) ⨾ tt
+    blocks-here 3 3 counter no_counter _ _ b b bytes (λ k less. refl) (omega (arith, p.three)) (each p) (drop_all 3 b.pit.counters (omega (arith, p.three)))
+    ⨾ tt
   where
     high : (gate second : Bool) → gate ≡ true → (gate || second) ≡ true
     high gate second e = grind arith
@@ -96,9 +128,10 @@ status_valid-is b is = grind arith
 registers-here : (b : BoardParts) (bytes : List ℕ) → IsBoard b → BoardFits b → AllHere registers b b bytes
 unfolding registers
 registers-here b bytes is fits =
-    plain-here _ _ _ _ _ b b bytes (byte-written b.hpet.config) (le-leb b.hpet.config 3 is.devices.hpet.config)
-    ⨾ plain-here _ _ _ _ _ b b bytes (byte-written b.hpet.status) (status_valid-is b is)
-    ⨾ plain-here _ _ _ _ _ b b bytes (number-written 8 b.hpet.counter fits.numbers.counter) refl ⨾ tt
+    let h = is.devices.hpet in
+    let numbers = fits.numbers in
+    let status = status_valid-is b is in
+    search (writes, le-leb)
 
 timer-there : (b : BoardParts) → IsBoard b → (j : ℕ) → j < timers_of b.format → IsTimer (timer_at j b.hpet)
 timer-there b is j less =
@@ -115,7 +148,8 @@ unfolding timers timer plain
 timers-here b bytes is fits =
     let n : ℕ = timers_of b.format in
     blocks-here n 8 timer no_timer _ _ b b bytes (λ k less. refl) (omega (arith, timers_few b.format, fits.numbers.timers))
-    (λ j low less. timer-here b j (timer_at j b.hpet) bytes (timer-there b is j (omega arith)) (fits.devices.timers j (omega (arith, is.joined.format.has_timers))))
+    (λ j low less. timer-here b j (timer_at j b.hpet) bytes (timer-there b is j (omega arith))
+    (fits.devices.timers j (omega (arith, is.joined.format.has_timers))))
     (drop-blank no_timer n 8 b.hpet.timer fits.numbers.timers (timers_few b.format) (timer-absent b is)) ⨾ tt
 
 -- the tick lines
@@ -166,10 +200,12 @@ are-policies b bytes is fits rest e =
     next-write (head ++ host ++ guest) (policies ++ devices b.format ++ back b.format b.cpus) b b bytes (start-here b bytes is fits) 0 rest e in
     let byte_is : (i : ℕ) → get_or bytes (76 + i) 0 ≡ get_or (drop 76 bytes) i 0 = λ i. sym (get_or-drop 76 bytes i 0) in
     let at : (i : ℕ) → get_or bytes (76 + i) 0 ≡ get_or tail i 0 = λ i. byte_is i ∙ ap (λ (xs : List ℕ). get_or xs i 0) there in
-    λ k less. policy-at b bytes is (ap policy_of (at 0) ∙ policy_of-byte _) (ap policy_of (at 1) ∙ policy_of-byte _) (ap policy_of (at 2) ∙ policy_of-byte _) k less
+    λ k less. policy-at b bytes is (ap policy_of (at 0) ∙ policy_of-byte _) (ap policy_of (at 1) ∙ policy_of-byte _)
+    (ap policy_of (at 2) ∙ policy_of-byte _) k less
   where
     policy-at : (b : BoardParts) (bytes : List ℕ) → IsBoard b → policy_of (get_or bytes 76 0) ≡ (line_at 0 (devices_in b)).policy
-        → policy_of (get_or bytes 77 0) ≡ (line_at 1 (devices_in b)).policy → policy_of (get_or bytes 78 0) ≡ (line_at 2 (devices_in b)).policy → ArePolicies b bytes
+        → policy_of (get_or bytes 77 0) ≡ (line_at 1 (devices_in b)).policy → policy_of (get_or bytes 78 0) ≡ (line_at 2 (devices_in b)).policy
+        → ArePolicies b bytes
     policy-at b bytes is p0 p1 p2 zero less = p0
     policy-at b bytes is p0 p1 p2 (suc zero) less = p1
     policy-at b bytes is p0 p1 p2 (suc (suc k)) less =
@@ -183,14 +219,8 @@ are-policies b bytes is fits rest e =
 
 -- the counts of rises
 rise_valid-is : (b : BoardParts) → IsBoard b → (k : ℕ) → k < 6 → rise_valid b k ≡ true
-unfolding levels
-rise_valid-is b is zero less = le-leb _ _ (is.joined.rises.most 0 less)
-rise_valid-is b is (suc zero) less = le-leb _ _ (is.joined.rises.most 1 less)
-rise_valid-is b is (suc (suc zero)) less = le-leb _ _ (is.joined.rises.most 2 less)
-rise_valid-is b is (suc (suc (suc zero))) less = le-leb _ _ (is.joined.rises.most 3 less)
-rise_valid-is b is (suc (suc (suc (suc zero)))) less = le-leb _ _ (is.joined.rises.most 4 less)
-rise_valid-is b is (suc (suc (suc (suc (suc zero))))) less = le-leb _ _ (is.joined.rises.most 5 less)
-rise_valid-is b is (suc (suc (suc (suc (suc (suc k)))))) less = absurd (omega arith)
+rise_valid-is b is k less =
+    le-leb _ _ (subst (λ (x : Bool). get_or b.rises k 0 ≤ b.accesses + one_if x) (levels-at (devices_in b) k less) (is.joined.rises.most k less))
 
 routed_valid-is : (b : BoardParts) → IsBoard b → routed_rises_valid b ≡ true
 routed_valid-is b is =
@@ -205,7 +235,8 @@ rises-here b bytes is fits =
     row-here _ n 6 (number 8) 0 _ _ _ b b bytes
     (all-written (number 8) 0 n b.rises (omega (arith, counts_few b.format, fits.back.rises.places)) (λ k less. number-written 8 _ (fits.back.rises.each k)))
     (drop-blank 0 n 6 b.rises fits.back.rises.places (counts_few b.format) (λ j le less. is.joined.rises.none (first b.format j le less) j))
-    (and_from _ _ (and_from _ _ (ok 0 (omega arith)) (ok 1 (omega arith))) (or_right (has_messages b.format) (routed_rises_valid b) (routed_valid-is b is))) ⨾ tt
+    (and_from _ _ (and_from _ _ (ok 0 (omega arith)) (ok 1 (omega arith))) (or_right (has_messages b.format) (routed_rises_valid b) (routed_valid-is b is)))
+    ⨾ tt
   where
     first : (format j : ℕ) → counts_of format ≤ j → j < 6 → format ≤ 1
     first format j le less = grind arith
@@ -215,10 +246,9 @@ wall-here : (b : BoardParts) (bytes : List ℕ) → IsBoard b → BoardFits b �
 unfolding wall
 wall-here b bytes is fits =
     let w = is.joined.wall in
-    plain-here _ _ _ _ _ b b bytes (number-written 8 b.wall_number fits.back.wall.number) refl
-    ⨾ plain-here _ _ _ _ _ b b bytes (number-written 4 b.wall_version fits.back.wall.version) (version-is b.wall_version b.wall_number w.words.even w.unpublished)
-    ⨾ plain-here _ _ _ _ _ b b bytes (number-written 4 b.wall_sec fits.back.wall.sec) refl
-    ⨾ plain-here _ _ _ _ _ b b bytes (number-written 4 b.wall_nsec fits.back.wall.nsec) (lt-ltb b.wall_nsec 1000000000 w.below_second) ⨾ tt
+    let wall = fits.back.wall in
+    let version = version-is b.wall_version b.wall_number w.words.even w.unpublished in
+    search (writes, lt-ltb)
 
 -- the processors
 processors-here : (b : BoardParts) (bytes : List ℕ) → IsBoard b → BoardFits b → AllHere (processors b.cpus) b b bytes

@@ -1,17 +1,19 @@
--- The round trip of a saved state: a board's bytes are read as the board and have no fault, and bytes with no fault are those of the board that they are.
+-- The round trip of a saved state: a board's bytes are read as the board and have no fault, and bytes with no fault are those of the board that they are; what
+-- holds of each board that is read, whatever its conditions.
 use Rattle.save_state.proofs.Names.{BoardFits, references_of, messages_of, fields_of, format_in, cpus_in, blank, fields_in, board_in, trailing, fault_of}
-use Rattle.save_state.proofs.Names.{bytes_of, pairs-halves, StateFault, Trailing, Fields, apic, no_apic, message, no_message, magic, policy_place, head, line}
-use Rattle.save_state.proofs.Names.{fault-write, rewritten, rewrite_in-keep, number_at-is, length-number, read_below-at, firsts-pairs, seconds-pairs, moved}
-use Rattle.save_state.proofs.Names.{fault_in, plain, elsewhere, ◌⨾◌, AreBytes, next, AllKeep, or_else-none, or_else-both, length-write, read-write, no_line}
-use Rattle.save_state.proofs.Names.{line_at, apics_of, IsBoard, devices_in, byte_at, number_bytes, Two, pairs, size_of, write, write_below, read, arith, lt-ltb}
-use Rattle.save_state.proofs.Names.{le-ltb, cases_lt, append-nil, take_all, Policy, TickParts, policy_byte, policy_of, BoardParts, timers_of, ◌≡◌, ℕ, ◌+◌, ◌^◌}
-use Rattle.save_state.proofs.Names.{◌<◌, ◌≤◌, ⊎_elim, Bool, cond, List, [], ◌∷◌, ◌++◌, length, map, drop, Some, None, refl, ap, sym, ◌∙◌, layout, timers_least}
-use Rattle.save_state.proofs.Names.{processors_few, references_few, lines_sum, apics_sum, references_sum, messages_sum, line-size}
-use Rattle.save_state.proofs.ApicLaws.{apics_read}
-use Rattle.save_state.proofs.MessageLaws.{messages_read}
-use Rattle.save_state.proofs.ReferenceLaws.{reference-kept}
-use Rattle.save_state.proofs.Spelled.{fields-spelled}
-use Rattle.save_state.proofs.Here.{fields-here}
+use Rattle.save_state.proofs.Names.{bytes_of, pairs-halves, Trailing, Fields, apic, no_apic, message, no_message, magic, policy_place, head, line, fault-write}
+use Rattle.save_state.proofs.Names.{rewritten, rewrite_in-keep, number_at-is, length-number, read_below-at, firsts-pairs, seconds-pairs, moved, fault_in, plain}
+use Rattle.save_state.proofs.Names.{elsewhere, ◌⨾◌, AreBytes, next, AllKeep, or_else-none, or_else-both, length-write, read-write, no_line, line_at, apics_of}
+use Rattle.save_state.proofs.Names.{IsBoard, devices_in, byte_at, number_bytes, Two, pairs, size_of, write, write_below, read, arith, le-ltb, append-nil}
+use Rattle.save_state.proofs.Names.{take_all, Policy, TickParts, policy_byte, policy_of, BoardParts, timers_of, ◌≡◌, ℕ, ◌+◌, ◌^◌, ◌<◌, ◌≤◌, Bool, cond, List}
+use Rattle.save_state.proofs.Names.{[], ◌∷◌, ◌++◌, length, map, drop, Some, None, refl, ap, sym, ◌∙◌, layout, timers_least, processors_few, references_few}
+use Rattle.save_state.proofs.Names.{lines_start, apics_start, reference_place, messages_start, line-size, processor, Message, read_below-after, row_value-after}
+use Rattle.save_state.proofs.Names.{length-read_below, length-row_value, timer, counts_of, no_hv, no_processor, processor_at, number, byte, number-below}
+use Rattle.save_state.proofs.Names.{cond-true, no_timer, timer_at, message_bit_at, message_word_at, has_messages, HV_FORMAT, ◌-◌, false, get_or, subst, le-leb}
+use Rattle.save_state.proofs.Names.{timers_few, apics_few, messages_few, references-none, rises_place, wall_place, processors_start, processor-size}
+use Rattle.save_state.proofs.Blocks.{messages_read, reference-kept, read-none, reference-version, IsPage, page-read}
+use Rattle.std.proofs.Math.ListN.{get_or-map}
+use Rattle.save_state.proofs.{ApicLaws.apics_read, ApicLaws.AreRead, ApicLaws.apics-read, Here.fields-spelled, Here.fields-here}
 
 -- all fields of a valid board, put into the blank one, give the board
 board-covers : (b : BoardParts) → IsBoard b → BoardFits b → moved (fields_of b.format b.cpus) b blank ≡ b
@@ -79,7 +81,8 @@ pub line-policy : (bytes : List ℕ) (k : ℕ) → k < timers_of (format_in byte
 unfolding layout line elsewhere
 line-policy bytes k less =
     let at : 0 + k ≡ k = omega arith in
-    ap (λ (l : TickParts). l.policy) (read_below-at line no_line 33 line-size 0 (timers_of (format_in bytes) + 2) (lines_sum (format_in bytes)) bytes _ k less)
+    ap (λ (l : TickParts). l.policy)
+    (read_below-at line no_line 33 line-size 0 (timers_of (format_in bytes) + 2) (lines_start (format_in bytes)) bytes _ k less)
     ∙ ap (λ (m : ℕ). policy_of (byte_at (policy_place m) bytes)) at
 
 -- blocks of pairs are written as they were read
@@ -101,17 +104,11 @@ board-keeps bytes =
     refl ⨾ refl ⨾ refl ⨾ refl ⨾ refl ⨾ refl ⨾ refl ⨾ refl ⨾ refl ⨾ refl ⨾ refl
     ⨾ policy_is 0 (omega (arith, least)) ⨾ policy_is 1 (omega (arith, least)) ⨾ policy_is 2 (omega (arith, least))
     ⨾ refl ⨾ refl ⨾ refl ⨾ refl ⨾ refl ⨾ refl ⨾ refl ⨾ refl ⨾ refl ⨾ refl ⨾ refl ⨾ refl ⨾ refl ⨾ refl ⨾ refl ⨾ refl ⨾ refl
-    ⨾ pairs-kept apic no_apic n (apics_read n (apics_sum f c) bytes) ⨾ reference-kept (references_of f) (references_sum f c) bytes (references_few f)
-    ⨾ pairs-kept message no_message (messages_of f) (messages_read (messages_of f) (messages_sum f c) bytes) ⨾ tt
+    ⨾ pairs-kept apic no_apic n (apics_read n (apics_start f c) bytes) ⨾ reference-kept (references_of f) (reference_place f c) bytes (references_few f)
+    ⨾ pairs-kept message no_message (messages_of f) (messages_read (messages_of f) (messages_start f c) bytes) ⨾ tt
 
 not_trailing : (wanted : ℕ) (bytes : List ℕ) → trailing wanted bytes ≡ None → length bytes ≤ wanted
-not_trailing wanted bytes none =
-    ⊎_elim (λ (more : wanted < length bytes).
-    some_none (sym (ap (λ (t : Bool). cond t (Some (record { place = wanted; kind = Trailing })) None) (lt-ltb wanted (length bytes) more)) ∙ none))
-    (λ (le : length bytes ≤ wanted). le) (cases_lt wanted (length bytes))
-  where
-    some_none : {s : StateFault} {R : Type 0} → Some s ≡ None → R
-    some_none e = cc
+not_trailing wanted bytes none = grind arith
 
 same-fields : (bytes : List ℕ) → write (fields_of (board_in bytes).format (board_in bytes).cpus) (board_in bytes) ≡ write (fields_in bytes) (board_in bytes)
 unfolding layout
@@ -126,3 +123,65 @@ bytes_of-board_in bytes small none =
     let parts = or_else-both (fault_in fs b b 0 bytes) (trailing (size_of fs) bytes) none in
     let all = rewritten fs (fields-spelled (format_in bytes) (cpus_in bytes)) b b 0 bytes small (omega arith) parts.0 in
     same-fields bytes ∙ rewrite_in-keep fs b 0 bytes (board-keeps bytes) ∙ all.1 ∙ take_all (size_of fs) bytes (not_trailing (size_of fs) bytes parts.1)
+
+pub ruleset round_trip = (board_in-bytes_of, fault_of-bytes_of)
+
+pub record IsRead (b : BoardParts) : Type 0 where
+  pub three : length b.pit.counters ≡ 3
+  pub bytes : length b.rtc.bytes ≡ 128
+  pub timers : b.hpet.timers ≡ timers_of b.format
+  pub messages : b.hpet.messages ≡ has_messages b.format
+  pub no_messages : (k : ℕ) → messages_of b.format ≤ k → (message_bit_at k b.hpet ≡ false) × (message_word_at k b.hpet ≡ 0)
+  pub no_timers : (k : ℕ) → timers_of b.format ≤ k → timer_at k b.hpet ≡ no_timer
+  pub ten : length b.ticks ≡ 10
+  pub no_lines : (k : ℕ) → timers_of b.format + 2 ≤ k → line_at k (devices_in b) ≡ no_line
+  pub policies : (k : ℕ) → 2 ≤ k → k < timers_of b.format + 2 → (line_at k (devices_in b)).policy ≡ (line_at 2 (devices_in b)).policy
+  pub no_rises : (k : ℕ) → counts_of b.format ≤ k → get_or b.rises k 0 ≡ 0
+  pub wall_version : b.wall_version < 4294967296
+  pub no_processors : (k : ℕ) → b.cpus ≤ k → processor_at b k ≡ no_processor
+  pub apics : AreRead (apics_of b.format b.cpus) b
+  pub no_reference : b.format < HV_FORMAT → b.hv ≡ no_hv
+  pub reference_version : b.hv.version < 4294967296
+  pub pages : (k : ℕ) → k < b.cpus → IsPage (processor_at b k)
+
+none-read : (n place : ℕ) (bytes : List ℕ) → n ≤ 8 → (k : ℕ) → n ≤ k
+    → (get_or (map (λ (m : Message). m.first) (messages_read n place bytes)) k false ≡ false)
+    × (get_or (map (λ (m : Message). m.second) (messages_read n place bytes)) k 0 ≡ 0)
+none-read n place bytes few k le =
+    let all : List Message = messages_read n place bytes in
+    let none : get_or all k no_message ≡ no_message = read_below-after message no_message 0 n place bytes (8 - n) k le in (
+      get_or-map (λ (m : Message). m.first) all k no_message ∙ ap (λ (m : Message). m.first) none,
+      get_or-map (λ (m : Message). m.second) all k no_message ∙ ap (λ (m : Message). m.second) none,
+    )
+
+hpet-policy : (bytes : List ℕ) (k : ℕ) → 2 ≤ k → policy_of (byte_at (policy_place k) bytes) ≡ policy_of (byte_at 78 bytes)
+hpet-policy bytes k more = ap (λ (n : ℕ). policy_of (byte_at (76 + n) bytes)) (cond-true _ 2 k (le-leb 2 k more))
+
+pub board-read : (bytes : List ℕ) → AreBytes bytes → cpus_in bytes ≤ 64 → IsRead (board_in bytes)
+unfolding layout
+board-read bytes small few_cpus =
+    let f : ℕ = format_in bytes in
+    let c : ℕ = cpus_in bytes in
+    let n : ℕ = apics_of f c in
+    let few = timers_few (format_in bytes) in
+    let least = timers_least (format_in bytes) in
+    record {
+      three = refl;
+      bytes = length-row_value byte 0 128 128 123 bytes (omega arith);
+      timers = refl;
+      messages = refl;
+      no_messages = λ k le. none-read (messages_of f) (messages_start f c) bytes (messages_few f) k le;
+      no_timers = λ k le. read_below-after timer no_timer 0 (timers_of f) 264 bytes _ k le;
+      ten = length-read_below line no_line 0 (timers_of f + 2) 10 (lines_start f) bytes (omega (arith, few));
+      no_lines = λ k le. read_below-after line no_line 0 (timers_of f + 2) (lines_start f) bytes _ k le;
+      policies = λ k more less.
+          line-policy bytes k less ∙ hpet-policy bytes k more ∙ sym (line-policy bytes 2 (omega (arith, least)));
+      no_rises = λ k le. row_value-after (number 8) 0 (counts_of f) (rises_place f) bytes _ k le;
+      wall_version = number-below bytes small (wall_place f + 8);
+      no_processors = λ k le. read_below-after processor no_processor 0 c (processors_start f) bytes _ k le;
+      apics = apics-read n (apics_start f c) bytes (board_in bytes) (apics_few f c few_cpus) refl refl;
+      no_reference = λ before. read-none (references_of f) (reference_place f c) bytes (references-none f before);
+      reference_version = reference-version (references_of f) (reference_place f c) bytes small;
+      pages = λ k less.
+          subst IsPage (sym (read_below-at processor no_processor 50 processor-size 0 c (processors_start f) bytes _ k less)) (page-read (0 + k) _ bytes small);
+    }

@@ -1,22 +1,21 @@
--- A board that is read, whose conditions all hold, is valid.
-use Rattle.save_state.proofs.Names.{messages, messages_of, devices, back, rises, wall, processor, processors, apics, reference, references, references_of}
-use Rattle.save_state.proofs.Names.{message, no_message, message_pairs, no_counter, counters, clock, registers, timer, timers, same, up_allowed, line_ticks}
-use Rattle.save_state.proofs.Names.{line_policy, line, lines, counts_of, hold-joined, hold-each, rise_valid, legacy_rises_valid, routed_rises_valid, head, host}
-use Rattle.save_state.proofs.Names.{guest, policies, front, counter, AreProcessors, AreRises, IsHv, IsBoard, IsProcessor-none, IsHv-none, plain, row, blocks}
-use Rattle.save_state.proofs.Names.{AllHold, all_hold-split, EachHolds, AreDevices, one_if, devices_in, now_of, no_processor, processor_at, apics_of}
-use Rattle.save_state.proofs.Names.{no_hv, IsWall, IsProcessor, timers_of, has_messages, DeviceParts, levels, counts_rtc, no_line}
-use Rattle.save_state.proofs.Names.{line_at, IsTimerLine, timer_at, Policy, TickParts, IsTickLine, BoardParts, HvParts, ProcessorParts}
-use Rattle.save_state.proofs.Names.{HV_FORMAT, IsTimer, IsHpet}
-use Rattle.save_state.proofs.Names.{IsPlace, no_timer, register_d, pf_of, af_of, uf_of, flags_byte, divider_of, IsRtc, bytes_valid, divider_valid, cycle_valid}
-use Rattle.save_state.proofs.Names.{TimerParts, cond-true, line_numbers, level_of, CounterParts, IsCounter, IsPit, IsDivider, RtcParts}
-use Rattle.save_state.proofs.Names.{register_a, register_c, inl, inr, refl, sym, subst, ◌∙◌, arith, and_parts, or_cases, leb-true, ltb-true, ltb-false, lt-ltb}
-use Rattle.save_state.proofs.Names.{le-ltb, cases_lt, ◌≡◌, ℕ, zero, suc, ◌+◌, ◌<◌, ◌≤◌, Bool, true, false, ◌&&◌, ◌||◌, leb, ltb, [], ◌∷◌, length, get_or}
-use Rattle.save_state.proofs.Names.{◌⊎◌, IsHead, lists, timers_least, references-one}
-use Rattle.save_state.proofs.ApicLaws.{apics-valid}
-use Rattle.save_state.proofs.Blocks.{TicksHold, ticks-hold}
-use Rattle.save_state.proofs.Processors.{processor-valid}
-use Rattle.save_state.proofs.Read.{IsRead}
-use Rattle.save_state.proofs.ReferenceLaws.{reference-valid}
+-- A board that is read, whose conditions all hold, is valid; the first fault of bytes is that of the head, of the devices, or of the rest.
+use Rattle.save_state.proofs.Names.{LAST_FORMAT, messages, messages_of, devices, back, rises, wall, processor, processors, apics, reference, references}
+use Rattle.save_state.proofs.Names.{references_of, message, no_message, message_pairs, no_counter, counters, clock, registers, timer, timers, same, up_allowed}
+use Rattle.save_state.proofs.Names.{line_ticks, line_policy, line, lines, counts_of, hold-joined, hold-each, rise_valid, legacy_rises_valid, routed_rises_valid}
+use Rattle.save_state.proofs.Names.{head, host, guest, policies, front, counter, AreProcessors, AreRises, IsHv, IsBoard, IsProcessor-none, IsHv-none, plain}
+use Rattle.save_state.proofs.Names.{row, blocks, AllHold, all_hold-split, EachHolds, AreDevices, one_if, devices_in, now_of, no_processor, processor_at}
+use Rattle.save_state.proofs.Names.{apics_of, no_hv, IsWall, IsProcessor, timers_of, has_messages, levels, counts_rtc, no_line, line_at, IsTimerLine, timer_at}
+use Rattle.save_state.proofs.Names.{Policy, TickParts, IsTickLine, BoardParts, HvParts, ProcessorParts, HV_FORMAT, IsTimer, IsHpet, IsPlace, no_timer}
+use Rattle.save_state.proofs.Names.{register_d, pf_of, af_of, uf_of, flags_byte, divider_of, IsRtc, bytes_valid, divider_valid, cycle_valid, TimerParts}
+use Rattle.save_state.proofs.Names.{cond-true, CounterParts, IsCounter, IsPit, IsDivider, RtcParts, register_a, register_c, inl, inr, refl, sym, subst, ◌∙◌}
+use Rattle.save_state.proofs.Names.{arith, and_parts, or_cases, leb-true, ltb-true, ltb-false, lt-ltb, le-ltb, cases_lt, ◌≡◌, ℕ, suc, ◌+◌, ◌<◌, ◌≤◌, Bool, true}
+use Rattle.save_state.proofs.Names.{false, ◌&&◌, ◌||◌, leb, ltb, [], ◌∷◌, length, get_or, ◌⊎◌, IsHead, lists, timers_least, references-one, all-six, levels-at}
+use Rattle.save_state.proofs.Names.{end_place, devices_fault, rest_fault, line_place, rises_place, wall_place, processor_place, apic_place, reference_place}
+use Rattle.save_state.proofs.Names.{message_place, fields_of, format_in, cpus_in, board_in, trailing, fault_of, or_else-both, or_else-end, size_of-append}
+use Rattle.save_state.proofs.Names.{fault-next, fault-joined, StateFault, Fields, size_of, or_else, fault_in, AreBytes, hold, rewritten, or_else-none, ◌++◌}
+use Rattle.save_state.proofs.Blocks.{TicksHold, ticks-hold, processor-valid, reference-valid}
+use Rattle.save_state.proofs.{ApicLaws.apics-valid, RoundTrip.IsRead, RoundTrip.board-read, Here.front-spelled, Here.devices-spelled, Here.back-spelled}
+use Rattle.save_state.proofs.{RoundTrip.bytes_of-board_in, Names.List, Names.Option, Names.None, Names.Some, Names.layout}
 
 -- the fields before the 8254
 pub head-valid : (b : BoardParts) → AllHold front b b → IsHead b
@@ -209,31 +208,6 @@ hv-valid b is some h = elim (cases_lt b.format HV_FORMAT) [
       (hold-each reference no_hv b (b.hv ∷ []) 0 (references_of b.format) h.0 0 (omega arith) (omega (arith, references-one b.format there)))
 ]
 
--- the level of the line at a place
-level-at : (b0 b1 b2 b3 b4 b5 : Bool) (k : ℕ) → k < 6
-    → level_of line_numbers (b0 ∷ b1 ∷ b2 ∷ b3 ∷ b4 ∷ b5 ∷ []) (get_or line_numbers k 0) ≡ get_or (b0 ∷ b1 ∷ b2 ∷ b3 ∷ b4 ∷ b5 ∷ []) k false
-level-at b0 b1 b2 b3 b4 b5 zero less = refl
-level-at b0 b1 b2 b3 b4 b5 (suc zero) less = refl
-level-at b0 b1 b2 b3 b4 b5 (suc (suc zero)) less = refl
-level-at b0 b1 b2 b3 b4 b5 (suc (suc (suc zero))) less = refl
-level-at b0 b1 b2 b3 b4 b5 (suc (suc (suc (suc zero)))) less = refl
-level-at b0 b1 b2 b3 b4 b5 (suc (suc (suc (suc (suc zero))))) less = refl
-level-at b0 b1 b2 b3 b4 b5 (suc (suc (suc (suc (suc (suc k)))))) less = absurd (omega arith)
-
-levels-at : (d : DeviceParts) (k : ℕ) → k < 6 → level_of line_numbers (levels d) (get_or line_numbers k 0) ≡ get_or (levels d) k false
-unfolding levels
-levels-at d k less = level-at _ _ _ _ _ _ k less
-
--- six conditions
-all-six : (f : ℕ → Bool) → (f 0 && f 1) ≡ true → (f 2 && f 3 && f 4 && f 5) ≡ true → (k : ℕ) → k < 6 → f k ≡ true
-all-six f e e' zero less = grind arith
-all-six f e e' (suc zero) less = grind arith
-all-six f e e' (suc (suc zero)) less = grind arith
-all-six f e e' (suc (suc (suc zero))) less = grind arith
-all-six f e e' (suc (suc (suc (suc zero)))) less = grind arith
-all-six f e e' (suc (suc (suc (suc (suc zero))))) less = grind arith
-all-six f e e' (suc (suc (suc (suc (suc (suc k)))))) less = absurd (omega arith)
-
 -- the counts of rises
 routed-valid : (b : BoardParts) → AllHold (rises (counts_of b.format)) b b → AllHold (messages (messages_of b.format)) b b
     → (legacy_rises_valid b ≡ true) × (routed_rises_valid b ≡ true)
@@ -249,7 +223,8 @@ routed-valid b h h' =
       ],
     )
 
-rises-valid : (b : BoardParts) → IsRead b → AllHold (rises (counts_of b.format)) b b → AllHold (messages (messages_of b.format)) b b → AreRises b.format b.accesses (levels (devices_in b)) b.rises
+rises-valid : (b : BoardParts) → IsRead b → AllHold (rises (counts_of b.format)) b b → AllHold (messages (messages_of b.format)) b b
+    → AreRises b.format b.accesses (levels (devices_in b)) b.rises
 rises-valid b is h h' = record {
   most = λ (k : ℕ) (less : k < 6).
       subst (λ (x : Bool). get_or b.rises k 0 ≤ b.accesses + one_if x) (sym (levels-at (devices_in b) k less))
@@ -266,7 +241,8 @@ unfolding lists
 board-valid b is head h h' =
     let f : ℕ = b.format in
     let here = each b is head h in
-    let there = hold-joined (rises (counts_of f) ∷ wall ∷ processors b.cpus ∷ apics (apics_of f b.cpus) ∷ references (references_of f) ∷ messages (messages_of f) ∷ [])
+    let there = hold-joined
+    (rises (counts_of f) ∷ wall ∷ processors b.cpus ∷ apics (apics_of f b.cpus) ∷ references (references_of f) ∷ messages (messages_of f) ∷ [])
     b b h' in
     record {
       devices = devices-valid b is head h;
@@ -284,3 +260,111 @@ board-valid b is head h h' =
         hv = hv-valid b is head.least_cpus there.1.1.1.1.0;
       };
     }
+
+-- how many bytes the lists take
+sizes : (size_of front ≡ 79) × (size_of counters ≡ 42) × (size_of clock ≡ 133) × (size_of registers ≡ 10) × (size_of wall ≡ 20)
+unfolding layout
+sizes = (refl, refl, refl, refl, refl)
+
+devices-end : (f : ℕ) → 0 + size_of (front ++ devices f) ≡ rises_place f
+unfolding layout
+devices-end f = omega arith
+
+fields-end : (f c : ℕ) → size_of (fields_of f c) ≡ end_place f c
+unfolding layout
+fields-end f c = omega arith
+
+-- the devices, and the rest, part by part
+pub devices-are : (b : BoardParts) (bytes : List ℕ) → fault_in (devices b.format) b b 79 bytes ≡ devices_fault b bytes
+unfolding devices_fault layout
+devices-are b bytes =
+    let n : ℕ = timers_of b.format in
+    let lines_at : 264 + size_of (timers n) ≡ line_place b.format 0 = omega arith in
+    sym (or_else-end (fault_in (devices b.format) b b 79 bytes)) ∙ fault-joined (counters ∷ clock ∷ registers ∷ timers n ∷ lines n ∷ []) b b 79 bytes None
+    ∙ (λ i. or_else (fault_in counters b b 79 bytes) (or_else (fault_in clock b b 121 bytes) (or_else (fault_in registers b b 254 bytes)
+    (or_else (fault_in (timers n) b b 264 bytes) (or_else-end (fault_in (lines n) b b (lines_at i) bytes) i)))))
+
+places : (f c : ℕ) → let p : ℕ = rises_place f in (p + size_of (rises (counts_of f)) ≡ wall_place f)
+    × (p + size_of (rises (counts_of f)) + size_of wall ≡ processor_place f 0)
+    × (p + size_of (rises (counts_of f)) + size_of wall + size_of (processors c) ≡ apic_place f c 0)
+    × (p + size_of (rises (counts_of f)) + size_of wall + size_of (processors c) + size_of (apics (apics_of f c)) ≡ reference_place f c)
+    × (p + size_of (rises (counts_of f)) + size_of wall + size_of (processors c) + size_of (apics (apics_of f c)) + size_of (references (references_of f))
+    ≡ message_place f c 0)
+unfolding layout
+places f c = (omega arith, omega arith, omega arith, omega arith, omega arith)
+
+pub rest-is : (b : BoardParts) (bytes : List ℕ)
+    → or_else (fault_in (back b.format b.cpus) b b (rises_place b.format) bytes) (trailing (end_place b.format b.cpus) bytes) ≡ rest_fault b bytes
+unfolding rest_fault lists
+rest-is b bytes =
+    let f : ℕ = b.format in
+    let c : ℕ = b.cpus in
+    let n : ℕ = apics_of f c in
+    let p : ℕ = rises_place f in
+    let counts : Fields BoardParts = rises (counts_of f) in
+    let pages : Fields BoardParts = references (references_of f) in
+    let last : Option StateFault = trailing (end_place f c) bytes in
+    let at = places f c in
+    fault-joined (counts ∷ wall ∷ processors c ∷ apics n ∷ pages ∷ messages (messages_of f) ∷ []) b b p bytes last
+    ∙ (λ i. or_else (fault_in counts b b p bytes) (or_else (fault_in wall b b (at.0 i) bytes) (or_else (fault_in (processors c) b b (at.1 i) bytes)
+    (or_else (fault_in (apics n) b b (at.2 i) bytes)
+    (or_else (fault_in pages b b (at.3 i) bytes) (or_else (fault_in (messages (messages_of f)) b b (at.4 i) bytes) last))))))
+
+-- the format and the number of processors of the board
+pub board-format : (bytes : List ℕ) → ((board_in bytes).format ≡ format_in bytes) × ((board_in bytes).cpus ≡ cpus_in bytes)
+unfolding layout
+board-format bytes = (refl, refl)
+
+pub three-parts : (bytes : List ℕ) → let b : BoardParts = board_in bytes in fault_of bytes
+    ≡ or_else (fault_in front b b 0 bytes) (or_else (devices_fault b bytes) (rest_fault b bytes))
+unfolding fault_of layout
+three-parts bytes =
+    let b : BoardParts = board_in bytes in
+    (λ i. or_else (fault_in (fields_of b.format b.cpus) b b 0 bytes) (trailing (fields-end b.format b.cpus i) bytes))
+    ∙ fault-next (front ++ devices b.format) (back b.format b.cpus) b b 0 _ bytes _ (devices-end b.format)
+    ∙ fault-next front (devices b.format) b b 0 79 bytes _ (omega (arith, sizes.0))
+    ∙ (λ i. or_else (fault_in front b b 0 bytes) (or_else (devices-are b bytes i) (rest-is b bytes i)))
+
+-- a board that was read, with no fault before the 8254
+pub record IsRight (bytes : List ℕ) (b : BoardParts) : Type 0 where
+  pub small : AreBytes bytes
+  pub none : fault_in front (board_in bytes) (board_in bytes) 0 bytes ≡ None
+  pub read : b ≡ board_in bytes
+
+pub right-head : (bytes : List ℕ) (b : BoardParts) → IsRight bytes b → IsHead b
+right-head bytes b is =
+    subst IsHead (sym is.read) (head-valid (board_in bytes) (hold front front-spelled (board_in bytes) (board_in bytes) 0 bytes is.small (omega arith) is.none))
+
+-- 79 bytes are there where the first fields have no fault
+room-at : (bytes : List ℕ) (b : BoardParts) → IsRight bytes b → 79 ≤ length bytes
+room-at bytes b is =
+    let end = (rewritten front front-spelled (board_in bytes) (board_in bytes) 0 bytes is.small (omega arith) is.none).0 in omega (arith, end, sizes.0)
+
+-- the format and the number of processors of bytes whose first fields have no fault
+pub format-few : (bytes : List ℕ) → AreBytes bytes → None ≡ fault_in front (board_in bytes) (board_in bytes) 0 bytes → format_in bytes ≤ LAST_FORMAT
+format-few bytes small none =
+    let head = right-head bytes (board_in bytes) (record { small = small; none = sym none; read = refl }) in omega (arith, head.built, (board-format bytes).0)
+
+pub cpus-few : (bytes : List ℕ) → AreBytes bytes → None ≡ fault_in front (board_in bytes) (board_in bytes) 0 bytes → cpus_in bytes ≤ 64
+cpus-few bytes small none =
+    let head = right-head bytes (board_in bytes) (record { small = small; none = sym none; read = refl }) in omega (arith, head.few, (board-format bytes).1)
+
+pub or_else-some : (fault : StateFault) (later : Option StateFault) → or_else (Some fault) later ≡ Some fault
+or_else-some fault later = refl
+
+pub ruleset decoded = (format-few, cpus-few, three-parts, or_else-some, or_else-none, bytes_of-board_in)
+
+pub right-devices : (bytes : List ℕ) (b : BoardParts) → IsRight bytes b → devices_fault b bytes ≡ None → AreDevices (devices_in b)
+right-devices bytes b is none =
+    devices-valid b (subst IsRead (sym is.read) (board-read bytes is.small (cpus-few bytes is.small (sym is.none)))) (right-head bytes b is)
+    (hold (devices b.format) (devices-spelled b.format) b b 79 bytes is.small (room-at bytes b is) (devices-are b bytes ∙ none))
+
+pub right-board : (bytes : List ℕ) (b : BoardParts) → IsRight bytes b → devices_fault b bytes ≡ None → rest_fault b bytes ≡ None → IsBoard b
+right-board bytes b is none none' =
+    let end = (rewritten (devices b.format) (devices-spelled b.format) b b 79 bytes is.small (room-at bytes b is) (devices-are b bytes ∙ none)).0 in
+    let all = devices-end b.format in
+    let one = size_of-append front (devices b.format) in
+    let parts = or_else-both (fault_in (back b.format b.cpus) b b (rises_place b.format) bytes) _ (rest-is b bytes ∙ none') in
+    board-valid b (subst IsRead (sym is.read) (board-read bytes is.small (cpus-few bytes is.small (sym is.none)))) (right-head bytes b is)
+    (hold (devices b.format) (devices-spelled b.format) b b 79 bytes is.small (room-at bytes b is) (devices-are b bytes ∙ none))
+    (hold (back b.format b.cpus) (back-spelled b.format b.cpus) b b (rises_place b.format) bytes is.small (omega (arith, end, all, one, sizes.0)) parts.0)

@@ -21,6 +21,7 @@ use byte_table::two_at;
 
 /// The board that bytes are, or the first field at fault: in the order of the table, the first field that
 /// isn't wholly there, or whose condition fails, or bytes after the last one.
+#[tactic(auto, using(crate::proofs::Valid::decoded))]
 pub fn decode(bytes: &[u8]) -> Result<BoardState, StateFault>
     ensures refused { IfErr result (λ e. fault_of bytes.now ≡ Some e) }
     ensures taken { OnOk result (fault_of bytes.now ≡ None) }

@@ -55,6 +55,7 @@ use std::alloc::Global;
 pub(crate) const MAGIC: u64 = 0x4452_414f_424b_4c43;
 
 /// The bytes of a board, in one allocation of their number. They have no fault, and `decode` gives the board back.
+#[tactic(auto, using(crate::proofs::RoundTrip::round_trip))]
 pub fn encode(alloc: Global, state: &BoardState) -> Result<Vec<u8>, NoMemory>
     ensures bytes { IfOk result (λ bytes. bytes.items ≡ bytes_of state.now) }
     ensures valid { IfOk result (λ bytes. fault_of bytes.items ≡ None) }
@@ -70,7 +71,7 @@ pub fn encode(alloc: Global, state: &BoardState) -> Result<Vec<u8>, NoMemory>
 }
 
 /// Appends a board.
-#[tactic(auto, unfolding(crate::specs::Writing::bytes_of))]
+#[tactic(auto, using(crate::proofs::Written::board_written), unfolding(crate::specs::Writing::bytes_of))]
 fn put_board(out: &mut Vec<u8>, b: &BoardState, d: &DeviceParts) -> Result<(), NoMemory>
     requires devices { d.now ≡ devices_in b.now }
     requires numbers { NumbersFit d.now }
@@ -85,6 +86,7 @@ fn put_board(out: &mut Vec<u8>, b: &BoardState, d: &DeviceParts) -> Result<(), N
 }
 
 /// Appends all before the 8254.
+#[tactic(auto, using(crate::proofs::Written::lists_written))]
 fn put_front(out: &mut Vec<u8>, b: &BoardState, d: &DeviceParts) -> Result<(), NoMemory>
     requires { d.now ≡ devices_in b.now }
     ensures bytes { OnOk result (out.new.items ≡ out.old.items ++ write front b.now) }
@@ -98,6 +100,7 @@ fn put_front(out: &mut Vec<u8>, b: &BoardState, d: &DeviceParts) -> Result<(), N
 }
 
 /// Appends the devices and their tick lines.
+#[tactic(auto, using(crate::proofs::Written::lists_written))]
 fn put_devices(out: &mut Vec<u8>, format: u8, d: &DeviceParts) -> Result<(), NoMemory>
     requires { d.now.hpet.timers ≡ timers_of format }
     ensures bytes { OnOk result (out.new.items
@@ -112,6 +115,7 @@ fn put_devices(out: &mut Vec<u8>, format: u8, d: &DeviceParts) -> Result<(), NoM
 }
 
 /// Appends what follows the tick lines.
+#[tactic(auto, using(crate::proofs::Written::lists_written))]
 fn put_back(out: &mut Vec<u8>, b: &BoardState, d: &DeviceParts) -> Result<(), NoMemory>
     requires devices { d.now ≡ devices_in b.now }
     requires cpus { b.now.cpus ≤ 64 }
@@ -187,6 +191,7 @@ fn put_counters(out: &mut Vec<u8>, d: &DeviceParts) -> Result<(), NoMemory>
 }
 
 /// Appends speaker data and the MC146818.
+#[tactic(auto, using(crate::proofs::Written::bytes_written), unfolding(crate::specs::Fields::clock, byte_table::specs::Kinds::plain, byte_table::specs::Kinds::row))]
 fn put_clock(out: &mut Vec<u8>, d: &DeviceParts) -> Result<(), NoMemory>
     ensures { OnOk result (out.new.items ≡ out.old.items ++ write clock (board_with d.now)) }
 {
@@ -234,6 +239,7 @@ fn put_lines(out: &mut Vec<u8>, format: u8, d: &DeviceParts) -> Result<(), NoMem
 }
 
 /// Appends the counts of rises, which format 1 doesn't have.
+#[tactic(auto, using(crate::proofs::Written::rises_written), unfolding(crate::specs::Fields::rises, byte_table::specs::Kinds::row))]
 fn put_rises(out: &mut Vec<u8>, b: &BoardState) -> Result<(), NoMemory>
     ensures bytes { OnOk result (out.new.items
         ≡ out.old.items ++ write (rises (counts_of b.now.format)) b.now) }

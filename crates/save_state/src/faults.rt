@@ -38,6 +38,7 @@ pub(crate) fn counters_fault(bytes: &[u8], b: &BoardParts) -> Option<StateFault>
 }
 
 /// The first fault of counter `k`.
+#[tactic(auto, using(crate::proofs::BlockRows::block_rows))]
 fn counter_fault(bytes: &[u8], b: &BoardParts, k: u8) -> Option<StateFault>
     requires { k < 3 }
     ensures { result ≡ fault_in (counter k) b.now (slice_index_or b.now.pit.counters k no_counter)
@@ -72,6 +73,7 @@ fn is_wired(gate: bool, k: u8) -> bool
 }
 
 /// The first fault of speaker data and of the MC146818.
+#[tactic(auto, using(crate::proofs::BlockRows::block_rows))]
 pub(crate) fn clock_fault(bytes: &[u8], b: &BoardParts) -> Option<StateFault>
     ensures { result ≡ fault_in clock b.now b.now 121 bytes.now }
 {
@@ -86,6 +88,7 @@ pub(crate) fn clock_fault(bytes: &[u8], b: &BoardParts) -> Option<StateFault>
 }
 
 /// The first fault of the registers of the HPET.
+#[tactic(auto, using(crate::proofs::BlockRows::block_rows))]
 pub(crate) fn registers_fault(bytes: &[u8], b: &BoardParts) -> Option<StateFault>
     ensures { result ≡ fault_in registers b.now b.now 254 bytes.now }
 {
@@ -111,6 +114,7 @@ pub(crate) fn timers_fault(bytes: &[u8], b: &BoardParts) -> Option<StateFault>
 }
 
 /// The first fault of timer `k`.
+#[tactic(auto, using(crate::proofs::BlockRows::block_rows))]
 fn timer_fault(bytes: &[u8], b: &BoardParts, k: u8) -> Option<StateFault>
     requires { k < 8 }
     ensures { result ≡ fault_in (timer k) b.now (slice_index_or b.now.hpet.timer k no_timer)

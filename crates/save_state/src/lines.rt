@@ -46,6 +46,7 @@ pub(crate) fn lines_fault(bytes: &[u8], b: &BoardParts) -> Option<StateFault>
 
 /// The first fault of tick line `k`: `most` ticks are due, at most, and `clock_up` tells whether that of the MC146818
 /// is up.
+#[tactic(auto, using(crate::proofs::BlockRows::block_rows))]
 fn line_fault(bytes: &[u8], b: &BoardParts, k: u8, most: u64, clock_up: bool) -> Option<StateFault>
     requires k { k < 10 }
     requires most { most ≡ now_of b.now + b.now.accesses }
@@ -87,6 +88,7 @@ fn up_allowed(k: u8, up: bool, clock_up: bool) -> bool
 }
 
 /// The first fault of the counts of rises.
+#[tactic(auto, using(crate::proofs::BlockRows::block_rows))]
 pub(crate) fn rises_fault(bytes: &[u8], b: &BoardParts) -> Option<StateFault>
     requires accesses { b.now.accesses ≤ MOST_ACCESSES }
     requires devices { AreDevices (devices_in b.now) }

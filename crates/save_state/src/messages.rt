@@ -93,6 +93,7 @@ pub(crate) fn messages_fault(bytes: &[u8], b: &BoardParts) -> Option<StateFault>
 }
 
 /// The first fault of the messages of timer `k`.
+#[tactic(auto, using(crate::proofs::BlockRows::block_rows))]
 fn message_fault(bytes: &[u8], b: &BoardParts, k: u8) -> Option<StateFault>
     requires k { k < 8 }
     requires few { b.now.cpus ≤ 64 }

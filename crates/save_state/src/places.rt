@@ -24,6 +24,7 @@ pub(crate) fn counts_of(format: u8) -> u8
 }
 
 /// Where tick line `k` begins.
+#[tactic(auto, using(crate::proofs::Formats::takes))]
 pub(crate) fn line_place(format: u8, k: u8) -> usize
     requires { k ≤ 10 }
     ensures value { result ≡ line_place format k }
@@ -33,6 +34,7 @@ pub(crate) fn line_place(format: u8, k: u8) -> usize
 }
 
 /// Where the counts of rises begin.
+#[tactic(auto, using(crate::proofs::Formats::takes))]
 pub(crate) fn rises_place(format: u8) -> usize
     ensures value { result ≡ rises_place format }
     ensures small { result ≤ 738 }
@@ -41,6 +43,7 @@ pub(crate) fn rises_place(format: u8) -> usize
 }
 
 /// Where the wall clock begins.
+#[tactic(auto, using(crate::proofs::Formats::takes))]
 pub(crate) fn wall_place(format: u8) -> usize
     ensures value { result ≡ wall_place format }
     ensures small { result ≤ 786 }
@@ -49,6 +52,7 @@ pub(crate) fn wall_place(format: u8) -> usize
 }
 
 /// Where processor `k` begins.
+#[tactic(auto, using(crate::proofs::Formats::takes))]
 pub(crate) fn processor_place(format: u8, k: u8) -> usize
     requires { k ≤ 64 }
     ensures value { result ≡ processor_place format k }
@@ -74,6 +78,7 @@ pub(crate) fn apics_of(format: u8, cpus: u8) -> u8
 }
 
 /// Where the timer `k` of a board with so many processors begins.
+#[tactic(auto, using(crate::proofs::Formats::takes))]
 pub(crate) fn apic_place(format: u8, cpus: u8, k: u8) -> usize
     requires cpus { cpus ≤ 64 }
     requires k { k ≤ 64 }
@@ -84,6 +89,7 @@ pub(crate) fn apic_place(format: u8, cpus: u8, k: u8) -> usize
 }
 
 /// Where the reference page begins.
+#[tactic(auto, using(crate::proofs::Formats::takes))]
 pub(crate) fn reference_place(format: u8, cpus: u8) -> usize
     requires { cpus ≤ 64 }
     ensures value { result ≡ reference_place format cpus }
@@ -101,6 +107,7 @@ pub(crate) fn messages_of(format: u8) -> u8
 }
 
 /// Where the messages of timer `k` begin.
+#[tactic(auto, using(crate::proofs::Formats::takes))]
 pub(crate) fn message_place(format: u8, cpus: u8, k: u8) -> usize
     requires cpus { cpus ≤ 64 }
     requires k { k ≤ 8 }
@@ -111,6 +118,7 @@ pub(crate) fn message_place(format: u8, cpus: u8, k: u8) -> usize
 }
 
 /// How many bytes a board with so many processors has.
+#[tactic(auto, using(crate::proofs::Formats::takes))]
 pub(crate) fn end_place(format: u8, cpus: u8) -> usize
     requires { cpus ≤ 64 }
     ensures value { result ≡ end_place format cpus }

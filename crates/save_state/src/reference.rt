@@ -19,6 +19,7 @@ use clk_units::{NoMemory, bit};
 use hv_page::scale_of;
 
 /// Appends the reference page, which formats before `HV_FORMAT` don't have.
+#[tactic(auto, using(crate::proofs::Blocks::reference_page))]
 pub(crate) fn put_references(out: &mut Vec<u8>, b: &BoardState) -> Result<(), NoMemory>
     ensures bytes { OnOk result (out.new.items
         ≡ out.old.items ++ write (references (references_of b.now.format)) b.now) }
@@ -74,6 +75,7 @@ fn reference_in(bytes: &[u8], place: usize) -> HvParts
 }
 
 /// The first fault of the reference page.
+#[tactic(auto, using(crate::proofs::Blocks::reference_page))]
 pub(crate) fn references_fault(bytes: &[u8], b: &BoardParts) -> Option<StateFault>
     requires few { b.now.cpus ≤ 64 }
     requires rate { IsKhz b.now.guest_khz }
@@ -87,6 +89,7 @@ pub(crate) fn references_fault(bytes: &[u8], b: &BoardParts) -> Option<StateFaul
 }
 
 /// The first fault of a reference page.
+#[tactic(auto, using(crate::proofs::BlockRows::block_rows))]
 fn reference_fault(bytes: &[u8], b: &BoardParts) -> Option<StateFault>
     requires few { b.now.cpus ≤ 64 }
     requires rate { IsKhz b.now.guest_khz }

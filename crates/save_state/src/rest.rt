@@ -18,6 +18,7 @@ use clk_units::RANGE_NS;
 use pvclock_page::scale_of;
 
 /// The first fault of the wall clock.
+#[tactic(auto, using(crate::proofs::BlockRows::block_rows))]
 pub(crate) fn wall_fault(bytes: &[u8], b: &BoardParts) -> Option<StateFault>
     ensures { result ≡ fault_in wall b.now b.now (wall_place b.now.format) bytes.now }
 {

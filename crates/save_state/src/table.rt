@@ -41,6 +41,7 @@ pub(crate) fn either(a: bool, b: bool) -> bool
 }
 
 /// The first fault of the rows from a place on.
+#[tactic(auto, using(crate::proofs::BlockRows::walk))]
 pub(crate) fn fault_in(bytes: &[u8], place: usize, rows: &[Row]) -> Option<StateFault>
     requires place { place < 8192 }
     requires few { length rows.now ≤ 16 }

@@ -1,14 +1,10 @@
-use Rattle.save_state.proofs.Names.{◌≡◌, ◌++◌, subst, ap, ◌∙◌, rules, write, written-none, written-one, pairs-at, Apic, apic, no_apic, apic_pairs, ApicFits}
-use Rattle.save_state.proofs.Names.{ApicParts, TickParts, sym, get_or}
+use Rattle.save_state.proofs.Names.{◌≡◌, ◌++◌, subst, ap, ◌∙◌, rules, write, written-one, pairs-at, Apic, apic, ApicFits, ApicParts, TickParts, sym, get_or}
 use Rattle.local_apics.specs.Places.{no_timer, no_line}
 use Rattle.save_state.proofs.apics.put_apics.Goals as goal
 
 -- a timer with its tick line
 abbrev two : ApicParts → TickParts → Apic
 two a l = record { first = a; second = l }
-
-pub loop-k-init : goal.loop-k-init
-loop-k-init c = written-none apic no_apic ApicFits (apic_pairs c.args.b.now) c.args.out.now.items
 
 pub loop-k-preserved : goal.loop-k-preserved
 loop-k-preserved c =

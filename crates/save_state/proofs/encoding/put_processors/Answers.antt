@@ -1,9 +1,5 @@
-use Rattle.save_state.proofs.Names.{List, ◌++◌, ap, subst, ◌∙◌, get_or, ProcessorParts, no_processor, write, written-none, written-one, processor}
-use Rattle.save_state.proofs.Names.{ProcessorFits}
+use Rattle.save_state.proofs.Names.{List, ◌++◌, ap, subst, ◌∙◌, get_or, ProcessorParts, no_processor, write, written-one, processor, ProcessorFits}
 use Rattle.save_state.proofs.encoding.put_processors.Goals as goal
-
-pub loop-k-init : goal.loop-k-init
-loop-k-init c = written-none processor no_processor ProcessorFits c.args.b.now.processors c.args.out.now.items
 
 pub loop-k-preserved : goal.loop-k-preserved
 loop-k-preserved c =

@@ -1,5 +1,4 @@
-use Rattle.save_state.proofs.Names.{board_in, layout}
-use Rattle.save_state.proofs.BlockRows.{head-rows}
+use Rattle.save_state.proofs.{Names.board_in, Names.layout, BlockRows.head-rows}
 use Rattle.save_state.proofs.head.head_fault.Goals as goal
 
 pub returns : goal.returns

@@ -1,9 +1,5 @@
-use Rattle.save_state.proofs.Names.{◌++◌, false, sym, ap, ◌∙◌, rules, write, written-none, written-one, pairs-at, Message, message, no_message, message_pairs}
-use Rattle.save_state.specs.private.Devices.{board_with}
+use Rattle.save_state.proofs.Names.{◌++◌, false, sym, ap, ◌∙◌, rules, write, written-one, pairs-at, Message, message}
 use Rattle.save_state.proofs.messages.put_messages.Goals as goal
-
-pub loop-k-init : goal.loop-k-init
-loop-k-init c = written-none message no_message (λ m. Unit {0}) (message_pairs (board_with c.args.d.now)) c.args.out.now.items
 
 pub loop-k-preserved : goal.loop-k-preserved
 loop-k-preserved c =

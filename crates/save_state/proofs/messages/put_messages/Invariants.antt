@@ -1,5 +1,4 @@
-use Rattle.save_state.proofs.Names.{AreWritten, message, no_message, message_pairs}
-use Rattle.save_state.specs.private.Devices.{board_with}
+use Rattle.save_state.{proofs.Names.AreWritten, proofs.Names.message, proofs.Names.no_message, proofs.Names.message_pairs, specs.private.Devices.board_with}
 use Rattle.save_state.proofs.messages.put_messages.Given as goal
 
 abbrev pub invariant-loop-k : goal.invariant-loop-k

@@ -1,5 +1,4 @@
-use Rattle.save_state.proofs.Names.{get_or, no_processor, processor_place}
-use Rattle.save_state.proofs.BlockRows.{processor-rows}
+use Rattle.save_state.proofs.{Names.get_or, Names.no_processor, Names.processor_place, BlockRows.processor-rows}
 use Rattle.save_state.proofs.rest.processor_fault.Goals as goal
 
 pub returns : goal.returns
