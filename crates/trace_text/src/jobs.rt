@@ -158,6 +158,25 @@ pub(crate) fn hr_job(body: &Body, words: &mut Words<'_>) -> Result<Job, Reason>
     }
 }
 
+/// The same, where the width has one digit; None for any other words.
+#[inline(always)]
+pub(crate) fn usual_hr(body: &Body, words: &mut Words<'_>) -> Option<Job>
+    ensures job { IfSome result (λ j. hr_row body.now words.old ≡ Ok j) }
+    ensures valid { IfSome result (IsJob body.now) }
+{
+    let offset = words.usual_hex()?;
+    let width = words.one_digit()?;
+    if words.end().is_err() || offset >= 0x1_0000 || width >= 0x100 {
+        return None;
+    }
+    let (offset, width) = (offset as u16, width as u8);
+    if is_hpet_place(offset, width) {
+        Some(Job::Board(Access::HpetRead { offset, width }))
+    } else {
+        None
+    }
+}
+
 #[inline(always)]
 pub(crate) fn hw_job(body: &Body, words: &mut Words<'_>) -> Result<Job, Reason>
     ensures job { result ≡ hw_row body.now words.old }

@@ -13,7 +13,7 @@ ghost use Rattle.trace_text.specs.Records.{
 
 use crate::faults::Reason;
 use crate::groups::job_in;
-use crate::jobs::{step_job, usual_ack, usual_clock, usual_in, usual_out};
+use crate::jobs::{step_job, usual_ack, usual_clock, usual_hr, usual_in, usual_out};
 use crate::words::Words;
 use board_types::Access;
 
@@ -230,6 +230,7 @@ fn usual_job(body: &Body, mut words: Words<'_>) -> Option<Job>
         b's' if words.takes(b"step") => step_job(body, &words).ok(),
         b'c' if words.takes(b"clock") => usual_clock(body, &mut words),
         b'a' if words.takes(b"ack") => usual_ack(body, &mut words),
+        b'h' if words.takes(b"hr") => usual_hr(body, &mut words),
         _ => None,
     }
 }

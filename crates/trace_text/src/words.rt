@@ -169,7 +169,7 @@ impl<'a> Words<'a> {
 
     /// The next word as a decimal digit; None where it is anything else, and then it stays.
     #[inline(always)]
-    fn one_digit(&mut self) -> Option<u64>
+    pub(crate) fn one_digit(&mut self) -> Option<u64>
         ensures value { IfSome result (λ n. dec self.old ≡ Some n) }
         ensures past { OnSome result (self.new ≡ rest self.old) }
         ensures still { IfNone result (self.new ≡ self.old) }
@@ -290,17 +290,26 @@ impl<'a> Words<'a> {
         true
     }
 
+    /// The next word as a HEX of 1 to 16 digits; None for any other word.
+    #[inline(always)]
+    pub(crate) fn usual_hex(&mut self) -> Option<u64>
+        ensures value { IfSome result (λ n. hex self.old ≡ Some n) }
+        ensures past { OnSome result (self.new ≡ rest self.old) }
+        ensures still { IfNone result (self.new ≡ self.old) }
+    {
+        let spelling = hexadecimal_at(self.line, self.at)?;
+        self.at = spelling.end + 1;
+        Some(spelling.value)
+    }
+
     /// The next word as a HEX.
     #[inline(always)]
     pub(crate) fn hex(&mut self) -> Option<u64>
         ensures value { result ≡ hex self.old }
         ensures past { OnSome result (self.new ≡ rest self.old) }
     {
-        match hexadecimal_at(self.line, self.at) {
-            Some(spelling) => {
-                self.at = spelling.end + 1;
-                Some(spelling.value)
-            }
+        match self.usual_hex() {
+            Some(n) => Some(n),
             None => self.hex_apart(),
         }
     }
