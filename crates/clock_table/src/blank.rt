@@ -1,5 +1,5 @@
 //! The words of a state, before a table has its name.
-ghost use Rattle.std.specs.Prelude.{◌≡◌, ◌≤◌, ◌+◌, ◌*◌, length, IfOk};
+ghost use Rattle.std.specs.Prelude.{◌≡◌, ◌≤◌, ◌+◌, ◌*◌, IfOk};
 ghost use Rattle.board_core.specs.Conditions.{IsJoined};
 ghost use Rattle.clock_table.specs.Words.{pages_for};
 ghost use Rattle.clock_table.specs.private.Laid.{IsLaidBelow};
@@ -7,7 +7,7 @@ ghost use Rattle.clock_table.specs.private.Laid.{IsLaidBelow};
 use crate::table::{APART, CLAMP, PAGES, Words};
 use crate::view::View;
 use atomic_table::Seat;
-use board_core::{BoardParts, BoardState, ProcessorParts};
+use board_core::{BoardParts, BoardState};
 use board_history::table_page;
 use clk_units::NoMemory;
 use pvclock_page::page_words;
@@ -45,20 +45,14 @@ impl Blank {
         ensures state { IfOk result (λ b. b.1 ≡ state.now) }
         ensures joined { IsJoined state.now }
     {
-        let _places = places(&state.parts().processors);
+        let _processors = state.processors();
+        let _cpus = state.cpus();
         let words = laid(alloc, state)?;
         match Words::of_words(alloc, &words, state) {
             Ok((table, seat)) => Ok(Blank { table, seat }),
             Err(_full) => Err(NoMemory),
         }
     }
-}
-
-/// A board has places for 64 processors.
-fn places(processors: &[ProcessorParts; 64]) -> usize
-    ensures { length processors.now ≡ 64 }
-{
-    processors.len()
 }
 
 /// The words of a state: the front word, the clamp word, and those of each page.

@@ -12,7 +12,7 @@ use crate::lines::RecordLines;
 use crate::schedule::Schedule;
 use crate::text::Text;
 use crate::work::{Worked, work};
-use board_core::{BoardState, ProcessorParts};
+use board_core::BoardState;
 use board_io::Gate;
 use clk_units::NoMemory;
 use clock_table::{Blank, Name};
@@ -43,7 +43,7 @@ pub fn run_phase<N: Name + Send + Sync, R: Threads + Wait + Sync, G: Gate + Sync
         t.0.value t.1) }
     ensures alike { IfOk result (λ t. AreAlike (after_records N.state lines.now.records) t.0.value) }
 {
-    let _places = places(&state.parts().processors);
+    let _processors = state.processors();
     let cpus = state.cpus();
     let (board, passes) = SharedBoard::<N>::new(alloc, blank, state, cpus)?;
     let shared = &board;
@@ -67,13 +67,6 @@ pub fn run_phase<N: Name + Send + Sync, R: Threads + Wait + Sync, G: Gate + Sync
         Err(_out) => unreachable!(),
     };
     Ok((stopped.state, text))
-}
-
-/// A board has places for 64 processors.
-pub(crate) fn places(processors: &[ProcessorParts; 64]) -> usize
-    ensures { length processors.now ≡ 64 }
-{
-    processors.len()
 }
 
 /// The passes, and the texts of the workers one after another.

@@ -49,7 +49,6 @@ ghost use Rattle.race_phase.specs.private.Tallied.{
   moved_in,
 };
 
-use crate::phase::places;
 use crate::phases::NewHost;
 use board_core::{
     Access, BoardState, HV_FORMAT, LAST_VERSION, MOST_ACCESSES, MSR_KVM_WALL_CLOCK, ProcessorParts,
@@ -111,17 +110,15 @@ impl Tally {
     pub fn of_board(board: &BoardState) -> Tally
         ensures { IsTally board.now result }
     {
-        let parts = board.parts();
-        let _places = places(&parts.processors);
         Tally {
-            format: parts.format,
-            cpus: parts.cpus,
-            anchor: parts.anchor,
-            host: parts.host,
-            accesses: parts.accesses,
-            wall_version: parts.wall_version,
-            hv_version: parts.hv.version,
-            versions: versions_of(&parts.processors),
+            format: board.format(),
+            cpus: board.cpus(),
+            anchor: board.anchor(),
+            host: board.host(),
+            accesses: board.accesses(),
+            wall_version: board.wall_version(),
+            hv_version: board.hv().version,
+            versions: versions_of(board.processors()),
         }
     }
 

@@ -39,8 +39,8 @@ returns g c =
     let len : length c.in_ok-passes.passes.items ≡ st.cpus = omega arith in
     let stop : StopTold st st.cpus mid c.in_ok-passes.passes.items =
     subst (λ (k : ℕ). StopTold st k mid c.in_ok-passes.passes.items) p c.in-Ok-stop.ensures.ok in
-    let long : length c.args.state.now.processors ≡ 64 = ap (λ (b : BoardParts). length b.processors) (sym c.parts.ensures.value) ∙ c.places-places.ensures in
-    let sound : IsSound st = subst IsSound c.requires.state (sound_of c.args.state.now c.cpus-cpus.ensures.joined long) in
+    let sound : IsSound st = subst IsSound c.requires.state
+    (sound_of c.args.state.now c.cpus-cpus.ensures.joined c.processors-processors.ensures.places) in
     let told = phase_told st mid ds rs c.in_ok-passes.passes.items text sound len c.requires.fitting c.requires.free c.requires.few stop
     (c.in_ok-passes.ensures.all ds rs (λ i d l.
     let there : i < length c.in_ok-board.passes.items = omega arith in
