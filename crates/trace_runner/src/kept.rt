@@ -4,8 +4,8 @@ ghost use Rattle.std.specs.Prelude.{◌≡◌};
 use board_core::{BoardState, LazyBoard, Reply};
 use std::marker::Model;
 
-/// A board, and a reply for its accesses, which is kept from one to the next: a new one has all its places cleared. What
-/// stands in it between two accesses means nothing.
+/// A board, and a reply for its accesses, which is kept from one to the next: a new one has all its places cleared. Between two
+/// accesses it holds no edge and no message; its number and its value mean nothing then.
 #[derive(Drop)]
 pub(crate) struct KeptBoard {
     pub(crate) state: LazyBoard,
@@ -17,7 +17,11 @@ impl Model for KeptBoard {
 
     ghost Value = { BoardParts };
 
+    ghost use Rattle.board_types.specs.Reply.{IsFresh};
+
     ghost view = { λ k. k.state };
+
+    ghost invariant = { λ k. IsFresh k.reply };
 }
 
 impl KeptBoard {

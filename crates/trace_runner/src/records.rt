@@ -19,7 +19,7 @@ use crate::status::{Verdict, refuse, refused_access, refused_time};
 use board_core::Access;
 use clk_units::NoMemory;
 use race_phase::{NewHost, access_block};
-use reply_text::{clock_line, hv_line, page_line};
+use reply_text::{board_line, clock_line, hv_line, page_line};
 use trace_text::{Job, Record};
 
 impl Replay {
@@ -27,6 +27,31 @@ impl Replay {
     /// the end, which was none: it is too large for registers, and most records have none.
     #[inline(always)]
     pub(crate) fn answer_record(
+        &mut self,
+        line: u64,
+        given: &Record,
+        out: &mut Vec<u8>,
+        end: &mut Option<Verdict>,
+    ) -> Result<(), NoMemory>
+        requires suits { Suits (Next given.now) self.old.board }
+        requires open { end.old ≡ None }
+        ensures printed { OnOk result
+            (out.new.items ≡ out.old.items ++ printed (record_answer line given.now self.old)) }
+        ensures ends { OnOk result (end.new ≡ end_of (record_answer line given.now self.old)) }
+        ensures state { OnOk result (end.new ≡ None
+            → self.new ≡ state_behind (record_answer line given.now self.old) self.old) }
+        ensures err { OnErr result (StartsWith out.new.items out.old.items) }
+    {
+        if let Job::Board(access) = given.job {
+            return self.answer_access(line, given, access, out, end);
+        }
+        self.answer_job(line, given, out, end)
+    }
+
+    /// The same, apart from where most records are answered: with all of it there, that would be too large to go into the
+    /// loop over the lines.
+    #[inline(never)]
+    fn answer_job(
         &mut self,
         line: u64,
         given: &Record,
@@ -80,11 +105,14 @@ impl Replay {
     {
         let board = &mut self.board;
         let reply = &mut board.reply;
-        reply.clear();
         match board.state.answer(given.cpu, given.h, access, reply) {
             Ok(()) => {
-                access_block(line, reply, &self.deliveries, out)?;
-                Ok(())
+                if reply.edges.is_empty() && reply.bursts.is_empty() {
+                    return board_line(line, reply, out);
+                }
+                let printed = access_block(line, reply, &self.deliveries, out);
+                reply.clear();
+                printed
             }
             Err(refusal) => refuse(line, refused_access(refusal), out, end),
         }

@@ -1,21 +1,36 @@
-use Rattle.std.proofs.Common.{◌≡◌, ℕ, List, ◌++◌, subst, ◌∙◌}
+use Rattle.std.proofs.Common.{◌≡◌, ℕ, List, [], ◌++◌, OnOk, ap, sym, subst, ◌∙◌}
+use Rattle.irq_edges.specs.declared.edges.Edge.{Edge}
+use Rattle.irq_edges.specs.declared.bursts.Burst.{Burst}
 use Rattle.board_types.specs.declared.parts.BoardParts.{BoardParts}
 use Rattle.board_types.specs.declared.reply.Reply.{Reply}
+use Rattle.reply_text.specs.Text.{board_text}
 use Rattle.race_phase.specs.declared.deliveries.Deliveries.{Deliveries}
+use Rattle.race_phase.specs.declared.records.Answer.TheVariants.{Acted}
+use Rattle.race_phase.specs.Blocks.{block_of, edges_text, messages_text}
 use Rattle.trace_loop.specs.Progress.{printed}
 use Rattle.trace_runner.specs.Records.{board_answer}
 use Rattle.trace_runner.specs.Replay.{with_board}
 use Rattle.trace_runner.proofs.Counts.{access-printed}
 use Rattle.trace_runner.proofs.replay.Replay.answer_access.Goals as goal
 
-pub returns-in_ok-access_block-in-Ok-clause-printed : goal.returns-in_ok-access_block-in-Ok-clause-printed
-returns-in_ok-access_block-in-Ok-clause-printed c =
+-- the block of a reply without edges and messages is its line
+quiet : (ds : Deliveries) (line : ℕ) (reply : Reply) → reply.edges ≡ [] → reply.bursts ≡ [] → block_of ds line (Acted reply) ≡ board_text line reply
+unfolding block_of
+quiet ds line reply edges bursts =
+    ap (λ (es : List Edge). edges_text ds es ++ messages_text ds reply.bursts ++ board_text line reply) edges
+    ∙ ap (λ (bs : List Burst). messages_text ds bs ++ board_text line reply) bursts
+
+pub returns-then-is_empty-2-clause-printed : goal.returns-then-is_empty-2-clause-printed
+returns-then-is_empty-2-clause-printed c =
     let cpu : ℕ = c.args.given.now.cpu in
     let h : ℕ = c.args.given.now.h in
     let ds : Deliveries = c.args.self.now.deliveries in
     let out : List ℕ = c.args.out.now.items in
     let reply : Reply = c.answer.new.reply in
-    subst (λ (x : BoardParts). c.access_block.new.out.items ≡ out ++ printed (with_board (board_answer c.args.line cpu h c.args.access ds x) c.args.self.now))
-    c.board.view_is
-    (c.in_ok-access_block-in-Ok.ensures.ok
+    subst (λ (x : BoardParts). OnOk c.board_line.result (c.board_line.new.out.items
+    ≡ out ++ printed (with_board (board_answer c.args.line cpu h c.args.access ds x) c.args.self.now))) c.board.view_is
+    (subst (λ (t : List ℕ). OnOk c.board_line.result (c.board_line.new.out.items ≡ t))
+    (ap (λ (t : List ℕ). out ++ t) (sym (quiet ds c.args.line reply (c.is_empty.ensures.0 c.if-is_empty.true)
+    (c.is_empty-then-is_empty.ensures.0 c.if-is_empty-2.true)))
     ∙ access-printed c.args.line cpu h c.args.access ds c.board.inside.state c.args.self.now reply out c.in-Ok.ensures.taken c.in-Ok.ensures.reply)
+    c.board_line.ensures.ok)
