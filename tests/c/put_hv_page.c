@@ -5,12 +5,14 @@
  *
  *     put_hv_page READS [tight]   tight: the writer pauses less between pages, so that a read meets an update often
  *
- * It reads on until 10,000 new pages were met (under ThreadSanitizer 1,000), but no longer than two minutes in all. Ends with 1
- * where a read was torn, and with 3 where too few new pages were met for the run to mean anything. Before that it publishes by
- * the library, and ends with 4 where a page, a time or a refusal isn't right.
+ * It reads the first page while the writer waits: so ThreadSanitizer surely meets a store and a load of a page, as it remembers an
+ * access for a while alone. Then it reads on until 10,000 new pages were met (under ThreadSanitizer 1,000), but no longer than two
+ * minutes in all. Ends with 1 where a read was torn, and with 3 where too few new pages were met for the run to mean anything.
+ * Before that it publishes by the library, and ends with 4 where a page, a time or a refusal isn't right.
  * WRONG names a wrong writer, which must end with 1: 1 writes no sequence 0, 2 the sequence before the fields, and 3 has plain
  * stores, which ThreadSanitizer must report. */
 #include "put_page.h"
+#include "start_line.h"
 #include <inttypes.h>
 #include <pthread.h>
 #include <stdio.h>
@@ -70,16 +72,22 @@ static bool put(void *memory, const struct clockboard_hv_page *page) {
 }
 #endif
 
+static void put_sequence(uint32_t sequence) {
+    struct clockboard_hv_page page = {.enabled = 1, .sequence = sequence};
+    struct guest_page next = {sequence, 0, scale_of(sequence), offset_of(sequence)};
+    memcpy(page.bytes, &next, sizeof page.bytes);
+    if (!put(&guest, &page)) {
+        exit(WRITER_FAILED);
+    }
+}
+
 static void *writer(void *none) {
-    struct clockboard_hv_page page = {.enabled = 1};
     (void)none;
-    for (uint32_t sequence = 1; !__atomic_load_n(&done, __ATOMIC_RELAXED); sequence++) {
-        struct guest_page next = {sequence, 0, scale_of(sequence), offset_of(sequence)};
-        page.sequence = sequence;
-        memcpy(page.bytes, &next, sizeof page.bytes);
-        if (!put(&guest, &page)) {
-            exit(WRITER_FAILED);
-        }
+    put_sequence(1);
+    meet(2);
+    meet(4);
+    for (uint32_t sequence = 2; !__atomic_load_n(&done, __ATOMIC_RELAXED); sequence++) {
+        put_sequence(sequence);
         for (int pause = tight ? PAUSE / 10 : PAUSE; pause > 0; pause--) {
             __asm__ volatile("" ::: "memory");
         }
@@ -164,6 +172,9 @@ int main(int count, char **words) {
     if (pthread_create(&thread, NULL, writer, NULL) != 0) {
         return WRITER_FAILED;
     }
+    meet(2);
+    read_page(&met);
+    meet(4);
     for (; (reads < wanted || changes < NEW_PAGES) && (reads % 4096 != 0 || time(NULL) < end); reads++) {
         struct guest_page page = read_page(&met);
         if (page.scale != scale_of(page.sequence) || page.offset != offset_of(page.sequence) || page.sequence < last) {

@@ -5,12 +5,14 @@
  *
  *     put_page READS [tight]   tight: the writer makes pages without the library, so that a read meets an update often
  *
- * It reads on until 10,000 new pages were met (under ThreadSanitizer 1,000), but no longer than two minutes in all. Ends with 1
- * where a read was torn, and with 3 where too few new pages were met for the run to mean anything.
+ * It reads the first page while the writer waits: so ThreadSanitizer surely meets a store and a load of a page, as it remembers an
+ * access for a while alone. Then it reads on until 10,000 new pages were met (under ThreadSanitizer 1,000), but no longer than two
+ * minutes in all. Ends with 1 where a read was torn, and with 3 where too few new pages were met for the run to mean anything.
  * Before that it looks at what is refused, and ends with 4 where that isn't so.
  * WRONG names a wrong writer, which must end with 1: 1 puts no odd version, 2 the even version before the fields, and 3 has
  * plain stores, which ThreadSanitizer must report. */
 #include "put_page.h"
+#include "start_line.h"
 #include <inttypes.h>
 #include <pthread.h>
 #include <stdio.h>
@@ -88,8 +90,13 @@ static void *writer(void *none) {
     if (clockboard_page(&board, 0, &page) != CLOCKBOARD_OK) {
         exit(WRITER_FAILED);
     }
+    if (!put(&guest, &page)) {
+        exit(WRITER_FAILED);
+    }
+    meet(2);
+    meet(4);
     while (!__atomic_load_n(&done, __ATOMIC_RELAXED)) {
-        if (!put(&guest, &page) || !next_page(&board, &page)) {
+        if (!next_page(&board, &page) || !put(&guest, &page)) {
             exit(WRITER_FAILED);
         }
     }
@@ -167,8 +174,9 @@ int main(int count, char **words) {
     if (pthread_create(&thread, NULL, writer, NULL) != 0) {
         return WRITER_FAILED;
     }
-    while (LOAD(version) == 0) {
-    }
+    meet(2);
+    read_page(&met);
+    meet(4);
     for (; (reads < wanted || changes < NEW_PAGES) && (reads % 4096 != 0 || time(NULL) < end); reads++) {
         struct guest_page page = read_page(&met);
         uint64_t published = time_of(page.version);

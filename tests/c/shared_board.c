@@ -11,6 +11,7 @@
  * that it looks at what an open board refuses. Ends with 1 where a look fails, and with 3 where fewer than 10,000 versions were
  * met (under ThreadSanitizer 1,000). */
 #include "shared.h"
+#include "start_line.h"
 #include <inttypes.h>
 #include <pthread.h>
 #include <stdbool.h>
@@ -166,6 +167,7 @@ static void read_hv(uint64_t host) {
 static void *processor(void *number) {
     uint8_t cpu = (uint8_t)(uintptr_t)number;
     uint64_t seed = 88172645463325252u + cpu * 977u, last[PLACES] = {0}, below = 0, changes = 0;
+    meet(threads);
     for (uint64_t k = 0; k < rounds; k++) {
         seed ^= seed << 13, seed ^= seed >> 7, seed ^= seed << 17;
         uint8_t of = (uint8_t)((seed >> 8) % (threads + 1));

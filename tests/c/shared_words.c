@@ -7,11 +7,15 @@
  *     shared_words clamp RAISES   four threads raise the greatest reading to readings that jump about, and look that none is
  *                                 given less than was given before
  *
- * A reader reads on until it met 10,000 versions (under ThreadSanitizer 1,000), but no longer than five minutes in all. Ends with
- * 1 where a look fails, and with 3 where too few versions were met for the run to mean anything. */
+ * Each reader reads the first page while the writer waits: so ThreadSanitizer surely meets a store and a load of its words, as it
+ * remembers an access for a while alone. Then it reads on until it met 10,000 versions (under ThreadSanitizer 1,000), but no
+ * longer than five minutes in all. Ends with 1 where a look fails, and with 3 where too few versions were met for the run to mean
+ * anything. */
 #include "shared.h"
+#include "start_line.h"
 #include <inttypes.h>
 #include <pthread.h>
+#include <sched.h>
 #include <stdbool.h>
 #include <stdio.h>
 #include <stdlib.h>
@@ -19,10 +23,14 @@
 #include <time.h>
 
 enum { FAILED = 1, NO_THREAD = 2, TOO_FEW = 3, READERS = 3, RAISERS = 4, PAGE = 3, SECONDS = 300 };
+/* A thread rests under ThreadSanitizer alone, which needs no update in the midst of a read: so new versions come soon also where
+ * all threads have one processor. */
 #if defined(__SANITIZE_THREAD__) || defined(TSAN)
 enum { NEW_PAGES = 1000 };
+#define rest() sched_yield()
 #else
 enum { NEW_PAGES = 10000 };
+#define rest() ((void)0)
 #endif
 
 static struct clockboard_shared shared;
@@ -35,38 +43,61 @@ static struct clockboard_words page_of(uint64_t version) {
     return (struct clockboard_words){{version, version * 3, version * 5, version * 7, version * 11}};
 }
 
+static void put_a_page(uint64_t version) {
+    struct clockboard_words words = page_of(version);
+    clockboard_shared_put(&shared, PAGE, &words);
+}
+
 static void *put_pages(void *none) {
     (void)none;
-    for (uint64_t version = 2; !__atomic_load_n(&done, __ATOMIC_RELAXED); version += 2) {
-        struct clockboard_words words = page_of(version);
-        clockboard_shared_put(&shared, PAGE, &words);
+    put_a_page(2);
+    meet(READERS + 1);
+    meet(2 * (READERS + 1));
+    for (uint64_t version = 4; !__atomic_load_n(&done, __ATOMIC_RELAXED); version += 2) {
+        put_a_page(version);
+        rest();
         for (volatile int pause = 0; pause < 100; pause++) {
         }
     }
     return NULL;
 }
 
+/* Reads the page; `last` is the version before. Gives whether it met a new one. */
+static bool read_a_page(uint64_t *last) {
+    struct clockboard_words words, whole;
+    uint64_t before = *last;
+    while (clockboard_try_words(&shared, PAGE, &words) != CLOCKBOARD_OK) {
+        rest();
+    }
+    whole = page_of(words.word[0]);
+    if (words.word[0] % 2 != 0 || words.word[0] < before || memcmp(&words, &whole, sizeof words) != 0) {
+        printf("torn: version %" PRIu64 " after %" PRIu64 "\n", words.word[0], before);
+        exit(FAILED);
+    }
+    *last = words.word[0];
+    return *last != before;
+}
+
 /* Gives how many versions it met. */
 static void *read_pages(void *none) {
     uint64_t last = 0, changes = 0;
     (void)none;
+    meet(READERS + 1);
+    changes += read_a_page(&last);
+    meet(2 * (READERS + 1));
     for (uint64_t reads = 0; (reads < wanted || changes < NEW_PAGES) && (reads % 4096 != 0 || time(NULL) < end); reads++) {
-        struct clockboard_words words, whole;
-        while (clockboard_try_words(&shared, PAGE, &words) != CLOCKBOARD_OK) {
+        if (read_a_page(&last)) {
+            changes++;
+        } else {
+            rest();
         }
-        whole = page_of(words.word[0]);
-        if (words.word[0] % 2 != 0 || words.word[0] < last || memcmp(&words, &whole, sizeof words) != 0) {
-            printf("torn: version %" PRIu64 " after %" PRIu64 "\n", words.word[0], last);
-            exit(FAILED);
-        }
-        changes += words.word[0] != last;
-        last = words.word[0];
     }
     return (void *)(uintptr_t)changes;
 }
 
 static void *raise_readings(void *number) {
     uint64_t seed = 88172645463325252u + (uintptr_t)number * 977u;
+    meet(RAISERS);
     for (uint64_t k = 0; k < wanted; k++) {
         seed ^= seed << 13, seed ^= seed >> 7, seed ^= seed << 17;
         uint64_t reading = k + seed % 64, floor = __atomic_load_n(&given, __ATOMIC_SEQ_CST);
