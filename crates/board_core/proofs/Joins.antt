@@ -1,5 +1,5 @@
 -- Two runs one after the other are one run, and times in which nothing comes.
-use Rattle.std.proofs.Common.{◌≡◌, ℕ, zero, suc, ◌+◌, ◌-◌, ◌*◌, ◌/◌, ◌<◌, ◌≤◌, Bool, false, cond, leb, max, List, [], ◌∷◌, ◌++◌, Option, Some, None, option_map, refl, sym, ap, subst, ◌∙◌, append_assoc, append-nil, arith}
+use Rattle.std.proofs.Common.{◌≡◌, ℕ, zero, suc, ◌+◌, ◌-◌, ◌*◌, ◌/◌, ◌<◌, ◌≤◌, Bool, true, false, cond, leb, max, List, [], ◌∷◌, ◌++◌, Option, Some, None, option_map, refl, sym, ap, subst, ◌∙◌, append_assoc, append-nil, arith}
 use Rattle.std.specs.Option.{option_or}
 use Rattle.std.proofs.Math.Nat.{zero-div}
 use Rattle.std.proofs.lemmas.Bool.{lt-leb}
@@ -25,7 +25,7 @@ use Rattle.board_types.specs.declared.parts.BoardParts.{BoardParts}
 use Rattle.board_types.specs.declared.parts.TheConstants.{MOST_ACCESSES}
 use Rattle.board_types.specs.declared.reply.Refusal.TheVariants.{Spent}
 use Rattle.board_types.specs.declared.reply.Reply.{Reply}
-use Rattle.board_types.specs.declared.reply.Value.TheVariants.{Nothing}
+use Rattle.board_types.specs.declared.reply.Value.{Value}
 use Rattle.board_devices.specs.declared.parts.DeviceParts.{DeviceParts}
 use Rattle.board_devices.specs.Nanosecond.{at_nanosecond}
 use Rattle.board_devices.specs.Lines.{levels}
@@ -36,10 +36,11 @@ use Rattle.board_core.specs.Apics.{apics_in, tscs_by_time, after_look, with_apic
 use Rattle.board_core.specs.Nanosecond.{passed, passed_times}
 use Rattle.board_core.specs.Quiet.{IsQuiet}
 use Rattle.board_core.specs.Refusals.{untimed, refusal_of}
-use Rattle.board_core.proofs.Messages.{hpet-run, bursts-silent, message_at-later}
-use Rattle.board_core.proofs.Kept.{own-none, rises-kept, devices-kept, processors-kept, hv-kept, apics-kept}
+use Rattle.board_devices.proofs.MainCounter.{hpet-run}
+use Rattle.board_core.proofs.Messages.{bursts-silent, message_at-later}
 use Rattle.board_core.proofs.Nanoseconds.{after_run-nanoseconds}
-use Rattle.board_core.proofs.Steps.{with_parts-is}
+use Rattle.board_core.specs.private.Kinds.{is_passive}
+use Rattle.board_core.proofs.Passive.{before_look-passive, own-passive, value_at-passive}
 use Rattle.board_core.proofs.Times.{time_at_max, no_fault-of_time}
 
 -- the devices: m nanoseconds, and then n more
@@ -265,13 +266,6 @@ look-none : (b : BoardParts) → AreApicPlaces (apics_in b) → AreIdle (apics_i
 unfolding after_look
 look-none b places idle = ap (λ (a : ApicsParts). with_apics a b) (look-idle (λ k. tscs_by_time b k (now_of b)) (apics_in b) places idle)
 
--- a step does nothing but to count
-step-before_look : (b : BoardParts) (cpu h : ℕ) → before_look b cpu h Step ≡ record b { accesses = b.accesses + 1 }
-step-before_look b cpu h =
-    sym (with_parts-is b cpu h Step (devices_in b) b.wall_number b.wall_version b.processors b.rises b.hv (apics_in b)
-    (sym (devices-kept Step (devices_in b) refl)) refl refl (sym (processors-kept b.anchor b.guest_khz cpu h Step b.processors refl))
-    (sym (rises-kept b Step refl)) (sym (hv-kept b.anchor b.guest_khz cpu h Step b.processors b.hv refl)) (sym (apics-kept cpu Step (apics_in b) refl)))
-
 one-counted : (b : BoardParts) (h : ℕ) → record (after_run b h) { accesses = (after_run b h).accesses + 1 } ≡ after_run (record b { accesses = b.accesses + 1 }) h
 unfolding after_run
 one-counted b h = refl
@@ -281,30 +275,35 @@ unfolding after_run
 accesses-after_run b h = refl
 
 -- what runs last is the look, and here it does nothing
-pub after_step-idle : (b : BoardParts) (cpu g h : ℕ) → 0 < b.anchor.khz → AreApicPlaces (apics_in b) → AreIdle (apics_in b)
-    → after_access (after_run b g) cpu h Step ≡ after_run (record b { accesses = b.accesses + 1 }) (max g h)
+pub after_access-idle : (b : BoardParts) (cpu g h : ℕ) (a : Access) → is_passive a ≡ true
+    → 0 < b.anchor.khz → AreApicPlaces (apics_in b) → AreIdle (apics_in b)
+    → after_access (after_run b g) cpu h a ≡ after_run (record b { accesses = b.accesses + 1 }) (max g h)
 unfolding after_access after_act
-after_step-idle b cpu g h runs places idle =
+after_access-idle b cpu g h a passive runs places idle =
     let same : apics_in (after_run b (max g h)) ≡ apics_in b = apics-idle b (max g h) places idle in
-    ap (λ (x : BoardParts). after_look (before_look x cpu h Step)) (after_run-joined b g h runs)
-    ∙ ap after_look (step-before_look (after_run b (max g h)) cpu h)
+    ap (λ (x : BoardParts). after_look (before_look x cpu h a)) (after_run-joined b g h runs)
+    ∙ ap after_look (before_look-passive (after_run b (max g h)) cpu h a passive)
     ∙ look-none (record (after_run b (max g h)) { accesses = (after_run b (max g h)).accesses + 1 })
     (subst AreApicPlaces (sym same) places) (subst AreIdle (sym same) idle)
     ∙ one-counted b (max g h)
 
--- a step of a quiet board is answered by its number alone
-abbrev reply_with : ℕ → List Edge → List Burst → Reply
-reply_with number edges bursts = record { number = number; value = Nothing; edges = edges; bursts = bursts }
+-- a passive access to a quiet board is answered by its number and its value alone
+abbrev reply_with : ℕ → Value → List Edge → List Burst → Reply
+reply_with number value edges bursts = record { number = number; value = value; edges = edges; bursts = bursts }
 
-pub reply_of-quiet : (b : BoardParts) (cpu q g h : ℕ) → 0 < b.anchor.khz → IsQuiet b q → g ≤ q → h ≤ q
-    → reply_of (after_run b g) cpu h Step ≡ record { number = b.accesses + 1; value = Nothing; edges = []; bursts = [] }
-unfolding reply_of value_at edges_of
-reply_of-quiet b cpu q g h runs quiet before within =
+pub reply_of-quiet : (b : BoardParts) (cpu q g h : ℕ) (a : Access) → is_passive a ≡ true → 0 < b.anchor.khz → IsQuiet b q → g ≤ q → h ≤ q
+    → reply_of (after_run b g) cpu h a
+    ≡ record { number = b.accesses + 1; value = value_at (after_run (record b { accesses = b.accesses + 1 }) (max g h)) cpu h a; edges = []; bursts = [] }
+unfolding reply_of edges_of
+reply_of-quiet b cpu q g h a passive runs quiet before within =
     let c : BoardParts = after_run b g in
-    ap (λ (n : ℕ). reply_with (n + 1) ((ran_to c h).edges ++ own_edges (after_run c h) Step) (bursts_to c h)) (accesses-after_run b g)
-    ∙ ap (λ (es : List Edge). reply_with (b.accesses + 1) (es ++ own_edges (after_run c h) Step) (bursts_to c h)) (edges-quiet b q g h runs quiet before within)
-    ∙ ap (λ (es : List Edge). reply_with (b.accesses + 1) es (bursts_to c h)) (own-none (after_run c h) Step refl)
-    ∙ ap (reply_with (b.accesses + 1) []) (bursts-quiet b q g h runs quiet before within)
+    let value : Value = value_at (after_run c h) cpu h a in
+    ap (λ (n : ℕ). reply_with (n + 1) value ((ran_to c h).edges ++ own_edges (after_run c h) a) (bursts_to c h)) (accesses-after_run b g)
+    ∙ ap (λ (es : List Edge). reply_with (b.accesses + 1) value (es ++ own_edges (after_run c h) a) (bursts_to c h)) (edges-quiet b q g h runs quiet before within)
+    ∙ ap (λ (es : List Edge). reply_with (b.accesses + 1) value es (bursts_to c h)) (own-passive (after_run c h) a passive)
+    ∙ ap (reply_with (b.accesses + 1) value []) (bursts-quiet b q g h runs quiet before within)
+    ∙ ap (λ (v : Value). reply_with (b.accesses + 1) v [] [])
+    (ap (λ (x : BoardParts). value_at x cpu h a) (after_run-joined b g h runs) ∙ sym (value_at-passive b (b.accesses + 1) (max g h) cpu h a passive))
 
 -- a run changes nothing of what is refused
 pub refusal_of-after_run : (b : BoardParts) (cpu g h : ℕ) (a : Access) → refusal_of (after_run b g) cpu h a ≡ refusal_of b cpu h a

@@ -1,18 +1,20 @@
--- A step before the horizon.
-use Rattle.std.proofs.Common.{◌≡◌, ℕ, ◌+◌, ◌-◌, ◌<◌, ◌≤◌, max, [], None, ◌∙◌, arith}
+-- An access before the horizon that changes nothing.
+use Rattle.std.proofs.Common.{◌≡◌, ℕ, ◌+◌, ◌-◌, ◌<◌, ◌≤◌, max, true, [], None, ◌∙◌, arith}
 use Rattle.host_counter.specs.declared.Anchor.{Anchor}
 use Rattle.host_counter.specs.Time.{time_at}
 use Rattle.host_counter.proofs.Times.{time_at-mono}
+use Rattle.board_types.specs.declared.access.Access.{Access}
 use Rattle.board_types.specs.declared.access.Access.TheVariants.{Step}
 use Rattle.board_types.specs.declared.parts.BoardParts.{BoardParts}
 use Rattle.board_types.specs.declared.parts.TheConstants.{MOST_ACCESSES}
-use Rattle.board_types.specs.declared.reply.Value.TheVariants.{Nothing}
-use Rattle.board_core.specs.Access.{ran_to, after_run, reply_of, after_access}
+use Rattle.board_core.specs.Access.{ran_to, after_run, value_at, reply_of, after_access}
 use Rattle.board_core.specs.Conditions.{IsJoined}
 use Rattle.board_core.specs.Quiet.{IsQuiet}
 use Rattle.board_core.specs.Refusals.{refusal_of}
 use Rattle.board_core.specs.Time.{HasTime}
-use Rattle.board_core.proofs.Joins.{edges-quiet, after_step-idle, reply_of-quiet, refusal_of-after_run, step-taken}
+use Rattle.board_core.specs.private.Kinds.{is_passive}
+use Rattle.board_core.proofs.Passive.{refusal_of-passive}
+use Rattle.board_core.proofs.Joins.{edges-quiet, after_access-idle, reply_of-quiet, refusal_of-after_run, step-taken}
 use Rattle.board_core.specs.Lazy.{IsLazy}
 
 time-within : (anchor : Anchor) (q h : ℕ) → 0 < anchor.khz → HasTime anchor q → anchor.start ≤ h → h ≤ q → HasTime anchor h
@@ -51,16 +53,23 @@ module _ (b : BoardParts) (host horizon cpu h : ℕ) (joined : IsJoined b) (is :
   pub ran_to-step : (ran_to (after_run b host) h).edges ≡ []
   ran_to-step = edges-quiet b (horizon - 1) host h runs quiet is.lag (omega (arith, before))
 
-  pub refusal_of-step : b.accesses < MOST_ACCESSES → refusal_of (after_run b host) cpu h Step ≡ None
-  refusal_of-step spare = refusal_of-after_run b cpu host h Step ∙ step-taken b cpu h step-time spare
+  module _ (a : Access) (passive : is_passive a ≡ true) where
+    pub refusal_of-counted : b.accesses < MOST_ACCESSES → refusal_of (after_run b host) cpu h a ≡ None
+    refusal_of-counted spare =
+        refusal_of-passive (after_run b host) cpu h a passive ∙ (refusal_of-after_run b cpu host h Step ∙ step-taken b cpu h step-time spare)
 
-  pub reply_of-step : reply_of (after_run b host) cpu h Step ≡ record { number = b.accesses + 1; value = Nothing; edges = []; bursts = [] }
-  reply_of-step = reply_of-quiet b cpu (horizon - 1) host h runs quiet is.lag (omega (arith, before))
+    pub reply_of-counted : reply_of (after_run b host) cpu h a ≡ record {
+      number = b.accesses + 1;
+      value = value_at (after_run (record b { accesses = b.accesses + 1 }) (max host h)) cpu h a;
+      edges = [];
+      bursts = [];
+    }
+    reply_of-counted = reply_of-quiet b cpu (horizon - 1) host h a passive runs quiet is.lag (omega (arith, before))
 
-  pub after_access-step : after_access (after_run b host) cpu h Step ≡ after_run (record b { accesses = b.accesses + 1 }) (max host h)
-  after_access-step = after_step-idle b cpu host h runs
-      (record {
-        timers = joined.apics.places.timers;
-        lines = joined.apics.places.lines;
-        policy = λ k less. (joined.apics.places.place k less).policy;
-      }) quiet.idle
+    pub after_access-counted : after_access (after_run b host) cpu h a ≡ after_run (record b { accesses = b.accesses + 1 }) (max host h)
+    after_access-counted = after_access-idle b cpu host h a passive runs
+        (record {
+          timers = joined.apics.places.timers;
+          lines = joined.apics.places.lines;
+          policy = λ k less. (joined.apics.places.place k less).policy;
+        }) quiet.idle

@@ -15,6 +15,7 @@ pub mod OfLines
 pub mod Nanoseconds
 pub mod Messages
 pub mod Joins
+pub mod Passive
 pub mod LazySteps
 mod Rows
 mod RowsApics

@@ -1,9 +1,7 @@
 -- Looks at the deadlines that find none.
-use Rattle.std.proofs.Common.{◌≡◌, ◌≢◌, ℕ, suc, ◌+◌, ◌-◌, ◌<◌, max, false, List, length, refl, sym, ap, ◌∙◌, arith}
-use Rattle.lapic_timer.specs.Parts.{IsApicTimer}
+use Rattle.std.proofs.Common.{◌≡◌, ◌≢◌, ℕ, suc, ◌+◌, ◌-◌, ◌<◌, false, List, sym, ap, ◌∙◌, arith}
 use Rattle.local_apics.specs.declared.parts.ApicsParts.{ApicsParts}
 use Rattle.local_apics.specs.Parts.{AreApicsOf}
-use Rattle.local_apics.specs.Places.{timer_at}
 use Rattle.local_apics.specs.Nanosecond.{run as run_apics, at_nanosecond, looked_all, tscs_of, tsc_by_time}
 use Rattle.local_apics.proofs.Joins.{look-again}
 use Rattle.local_apics.proofs.Keeps.{AreApicsOf-run}

@@ -2,30 +2,14 @@
 use Rattle.std.proofs.Common.{◌≡◌, ℕ, zero, suc, ◌+◌, ◌<◌, ◌≤◌, Bool, true, false, cond, ◌||◌, ◌&&◌, List, [], ◌∷◌, ◌++◌, Option, Some, None, refl, sym, ap, subst, ◌∙◌, append-nil, inl, inr, arith}
 use Rattle.std.proofs.lemmas.Bool.{cases_eq}
 use Rattle.clk_units.specs.Pulses.{falls_at, pulses_by, pulses_from}
-use Rattle.clk_units.proofs.Pulses.{pulses_from-zero, pulses_from-more, pulses_from-joins}
+use Rattle.clk_units.proofs.Pulses.{pulses_from-joins}
 use Rattle.hpet_registers.specs.declared.hpet.TheConstants.{HPET_HZ}
 use Rattle.hpet_registers.specs.declared.parts.HpetParts.{HpetParts}
-use Rattle.hpet_registers.specs.Stretch.{hpet_pulsed, hpet_pulsed_times}
+use Rattle.hpet_registers.specs.Stretch.{hpet_pulsed_times}
 use Rattle.hpet_registers.proofs.Product.{hpet_pulsed_times-add}
 use Rattle.hpet_bursts.specs.Messages.{message_next, message_at, message_times}
 use Rattle.hpet_bursts.specs.Bursts.{burst_from, with_burst, bursts_below}
 use Rattle.hpet_bursts.specs.Next.{or_later, first_where, sends_below}
-use Rattle.board_devices.specs.declared.parts.DeviceParts.{DeviceParts}
-use Rattle.board_devices.specs.Nanosecond.{pit_pulse, rtc_pulse, hpet_pulse, catch_up_point, at_nanosecond}
-use Rattle.board_devices.specs.Run.{run, onward}
-
--- a run of the devices is to the HPET its pulses
-pub hpet-run : (t n : ℕ) (d : DeviceParts) → (run t n d).state.hpet ≡ hpet_pulsed_times (pulses_from HPET_HZ t n) d.hpet
-unfolding run onward at_nanosecond catch_up_point hpet_pulse rtc_pulse pit_pulse
-hpet-run t zero d = sym (ap (λ (k : ℕ). hpet_pulsed_times k d.hpet) (pulses_from-zero HPET_HZ t))
-hpet-run t (suc n) d =
-    ap (λ (h : HpetParts). cond (falls_at HPET_HZ (t + n + 1)) (hpet_pulsed h) h) (hpet-run t n d)
-    ∙ one (falls_at HPET_HZ (t + n + 1)) (pulses_from HPET_HZ t n) d.hpet
-    ∙ sym (ap (λ (k : ℕ). hpet_pulsed_times k d.hpet) (pulses_from-more HPET_HZ t n (omega arith)))
-  where
-    one : (f : Bool) (m : ℕ) (h : HpetParts) → cond f (hpet_pulsed (hpet_pulsed_times m h)) (hpet_pulsed_times m h) ≡ hpet_pulsed_times (cond f (suc m) m) h
-    one true m h = refl
-    one false m h = refl
 
 -- the pulses of two stretches
 pulses_from-joined : (hz t m n : ℕ) → pulses_from hz t (m + n) ≡ pulses_from hz t m + pulses_from hz (t + m) n

@@ -1,20 +1,26 @@
 //! What a lazy board asks of the board that lags.
-ghost use Rattle.std.specs.Prelude.{◌≡◌, ℕ, ◌+◌, ◌-◌, ◌^◌, ◌<◌, ◌≤◌, false, []};
+ghost use Rattle.std.specs.Prelude.{◌≡◌, ℕ, ◌+◌, ◌-◌, ◌^◌, ◌<◌, ◌≤◌, false, [], IsTrue};
 ghost use Rattle.clk_units.specs.declared.ranges.TheConstants.{RANGE_NS};
 ghost use Rattle.hpet_bursts.specs.Messages.{message_at};
+ghost use Rattle.hpet_registers.specs.Access.{part_of};
 ghost use Rattle.board_devices.specs.Places.{line_at};
 ghost use Rattle.board_devices.specs.Run.{run};
 ghost use Rattle.board_types.specs.declared.parts.TheConstants.{MOST_ACCESSES};
 ghost use Rattle.board_core.specs.Time.{HasTime, now_of, time_of_access};
-ghost use Rattle.board_core.specs.Access.{after_run};
+ghost use Rattle.board_core.specs.Access.{after_run, value_at};
 ghost use Rattle.board_core.specs.Conditions.{IsJoined};
 ghost use Rattle.board_core.specs.Quiet.{IsQuiet};
+ghost use Rattle.board_core.specs.private.Kinds.{is_passive};
 
 use crate::board::BoardState;
 use board_devices::Devices;
+use board_types::{Access, Value};
 use clk_units::RANGE_NS;
 use host_counter::Anchor;
 use irq_edges::{BurstList, EdgeList};
+
+/// How many numbers half of a register has.
+const HALF: u64 = 0x1_0000_0000;
 
 /// Nanoseconds in a millisecond, in which a counter of 1 kHz counts once.
 const MILLISECOND_NS: u128 = 1_000_000;
@@ -23,7 +29,8 @@ impl BoardState {
     /// The time to which an access at count `h` would run.
     pub(crate) fn time_by(&self, h: u64) -> u64
         requires { self.now.host < h → HasTime self.now.anchor h }
-        ensures { result ≡ time_of_access self.now h }
+        ensures value { result ≡ time_of_access self.now h }
+        ensures range { result < RANGE_NS }
     {
         if h <= self.host {
             return self.time_ns;
@@ -54,6 +61,31 @@ impl BoardState {
         self.run_to(h, to, &mut edges, &mut bursts);
     }
 
+    /// What an access that changes nothing reads of a board that has run to the time of count `h`.
+    #[inline(always)]
+    pub(crate) fn passive_value(&self, h: u64, a: Access) -> Value
+        requires passive { IsTrue (is_passive a) }
+        requires time { self.now.host < h → HasTime self.now.anchor h }
+        ensures { (cpu g : ℕ) → result ≡ value_at (after_run self.now h) cpu g a }
+    {
+        match a {
+            Access::HpetRead { width, .. } => Value::Word {
+                width,
+                value: low_part(width, self.main_counter_at(h)),
+            },
+            _ => Value::Nothing,
+        }
+    }
+
+    /// The HPET's main counter at the time of count `h`.
+    #[inline(always)]
+    fn main_counter_at(&self, h: u64) -> u64
+        requires { self.now.host < h → HasTime self.now.anchor h }
+        ensures { result ≡ (after_run self.now h).hpet.counter }
+    {
+        self.devices.main_counter(self.time_ns, self.time_by(h))
+    }
+
     /// Counts an access that changes nothing else.
     #[inline(always)]
     pub(crate) fn count_access(&mut self)
@@ -81,6 +113,14 @@ impl BoardState {
             _ => 0,
         }
     }
+}
+
+/// What a read of 8 bytes or of 4 gives of a register, the low half first.
+#[inline(always)]
+fn low_part(width: u8, v: u64) -> u64
+    ensures { result ≡ part_of width false v }
+{
+    if width == 8 { v } else { v % HALF }
 }
 
 /// A nanosecond up to which no line changes.

@@ -1,28 +1,32 @@
 //! A board that does nothing where nothing can be seen.
 //!
-//! Most steps of a monitor change no line and send no message. A lazy board answers such a step by counting it: it keeps
-//! the count of the host's counter, and its devices stay where they were. Any other access first brings them up. So it is
-//! at each moment the board that a plain one would be, and each of its calls is a plain board's, with the same clauses.
+//! Most steps of a monitor change no line and send no message, and a read of the HPET's main counter, by which a guest
+//! tells time, changes nothing at all. A lazy board answers these by counting them: it keeps the count of the host's
+//! counter, and its devices stay where they were. Any other access first brings them up. So it is at each moment the board
+//! that a plain one would be, and each of its calls is a plain board's, with the same clauses.
 //!
-//! How far nothing comes is looked up after two steps in a row that brought no edge, since it costs as much as the next
-//! edge, some ten such steps. Any other access forgets it.
+//! How far nothing comes is looked up after some such accesses in a row that brought no edge, since it costs as much as
+//! the next edge, some ten of them. Any other access forgets it.
 ghost use Rattle.std.specs.Prelude.{◌≡◌, ◌-◌, ◌<◌, IsTrue, IfOk, IfErr, OnOk, OnErr};
 ghost use Rattle.host_counter.specs.Time.{IsFaultAt};
 ghost use Rattle.board_types.specs.Legal.{is_legal};
 ghost use Rattle.board_types.specs.Reply.{IsFresh};
-ghost use Rattle.board_types.specs.declared.access.Access.TheVariants.{Step};
 ghost use Rattle.board_core.specs.Time.{HasTime, now_of};
 ghost use Rattle.board_core.specs.Outcome.{IsOutcome};
 ghost use Rattle.board_core.specs.Pages.{page_reply, clock_reply, after_clock};
 ghost use Rattle.board_core.specs.Hv.{hv_reply};
 ghost use Rattle.board_core.specs.Quiet.{IsQuiet};
+ghost use Rattle.board_core.specs.private.Kinds.{is_passive};
 
 use crate::board::BoardState;
-use board_types::{Access, MOST_ACCESSES, Refusal, Reply, Value};
+use board_types::{Access, MOST_ACCESSES, Refusal, Reply};
 use host_counter::TimeFault;
 use hv_page::HvReply;
 use pvclock_page::{ClockReply, PageReply};
 use std::marker::Model;
+
+/// After so many accesses in a row that change nothing and bring no edge the horizon is looked for (own).
+const STILL: u8 = 3;
 
 /// A board whose devices may lag. Its value is a plain board's: how far it lags isn't seen.
 #[derive(Drop)]
@@ -33,8 +37,8 @@ pub struct LazyBoard {
     host: u64,
     /// Before this count nothing comes that a caller sees; 0 where that isn't known.
     horizon: u64,
-    /// Whether the last access was a step without an edge.
-    stepped: bool,
+    /// How many accesses came last that change nothing and brought no edge, counted to `STILL` at most.
+    still: u8,
 }
 
 impl Model for LazyBoard {
@@ -62,7 +66,7 @@ impl LazyBoard {
             board,
             host: 0,
             horizon: 0,
-            stepped: false,
+            still: 0,
         }
     }
 
@@ -75,7 +79,7 @@ impl LazyBoard {
         self.board.pass_to(self.host);
         self.host = 0;
         self.horizon = 0; // whatever its caller changes
-        self.stepped = false;
+        self.still = 0;
         &mut self.board
     }
 
@@ -87,45 +91,47 @@ impl LazyBoard {
         requires fresh { IsFresh reply.old }
         ensures { IsOutcome self.old cpu h a result self.new reply.old reply.new }
     {
-        match a {
-            Access::Step => self.step(cpu, h, reply),
-            _ => self.state_mut().answer(cpu, h, a, reply),
+        if is_passive(a) {
+            return self.answer_passive(cpu, h, a, reply);
         }
+        self.state_mut().answer(cpu, h, a, reply)
     }
 
-    /// A step: an access that lets time pass, and does nothing else. Before the horizon it is counted.
+    /// An access that lets time pass, and changes nothing. Before the horizon it is counted.
     #[inline(always)]
-    fn step(&mut self, cpu: u8, h: u64, reply: &mut Reply) -> Result<(), Refusal>
+    fn answer_passive(&mut self, cpu: u8, h: u64, a: Access, reply: &mut Reply) -> Result<(), Refusal>
+        requires passive { IsTrue (is_passive a) }
         requires cpu { cpu < self.old.cpus }
+        requires legal { IsTrue (is_legal self.old.cpus self.old.format a) }
         requires fresh { IsFresh reply.old }
-        ensures { IsOutcome self.old cpu h Step result self.new reply.old reply.new }
+        ensures { IsOutcome self.old cpu h a result self.new reply.old reply.new }
     {
         let start = self.board.anchor().start;
         if h < self.horizon && start <= h && self.board.accesses() < MOST_ACCESSES {
             self.host = self.host.max(h);
             self.board.count_access();
             reply.number = self.board.accesses();
-            reply.value = Value::Nothing;
+            reply.value = self.board.passive_value(self.host, a);
             return Ok(());
         }
-        self.run(cpu, h, reply)
+        self.run(cpu, h, a, reply)
     }
 
-    /// The same by a run. Where the step before it brought no edge either, it looks for the horizon.
+    /// The same by a run. After enough of them without an edge it looks for the horizon.
     #[inline(never)]
-    fn run(&mut self, cpu: u8, h: u64, reply: &mut Reply) -> Result<(), Refusal>
+    fn run(&mut self, cpu: u8, h: u64, a: Access, reply: &mut Reply) -> Result<(), Refusal>
         requires cpu { cpu < self.old.cpus }
+        requires legal { IsTrue (is_legal self.old.cpus self.old.format a) }
         requires fresh { IsFresh reply.old }
-        ensures { IsOutcome self.old cpu h Step result self.new reply.old reply.new }
+        ensures { IsOutcome self.old cpu h a result self.new reply.old reply.new }
     {
         self.board.pass_to(self.host);
         self.host = 0;
         self.horizon = 0;
-        match self.board.answer_known(cpu, h, Access::Step, reply) {
+        match self.board.answer_known(cpu, h, a, reply) {
             Ok(()) => {
-                let still = reply.edges.is_empty();
-                self.horizon = horizon_of(&self.board, still && self.stepped);
-                self.stepped = still;
+                self.still = more_still(self.still, reply.edges.is_empty());
+                self.horizon = horizon_of(&self.board, self.still == STILL);
                 Ok(())
             }
             Err(refusal) => Err(refusal),
@@ -188,6 +194,25 @@ impl LazyBoard {
     {
         self.board.hv_of(h)
     }
+}
+
+/// Whether an access changes nothing, whatever the board: a step, and a read of the HPET's main counter, whole or its low
+/// half.
+#[inline(always)]
+fn is_passive(a: Access) -> bool
+    ensures { result ≡ is_passive a }
+{
+    match a {
+        Access::Step => true,
+        Access::HpetRead { offset, width } => offset == 0xf0 && (width == 4 || width == 8),
+        _ => false,
+    }
+}
+
+/// How many still accesses came last, counted to `STILL` at most, with one more that may be still.
+#[inline(always)]
+fn more_still(before: u8, still: bool) -> u8 {
+    if still { before.saturating_add(1).min(STILL) } else { 0 }
 }
 
 /// The count before which nothing comes that a caller sees, where it is wanted; 0 where none is known.

@@ -23,3 +23,4 @@ pub mod Slots
 pub mod LevelsOf
 pub mod Timers
 pub mod PowerOn
+pub mod MainCounter

@@ -17,6 +17,7 @@
 mod acks;
 mod act;
 mod clock;
+mod counter;
 mod devices;
 mod found_up;
 mod levels;

@@ -17,5 +17,5 @@ answered {T} {b} {b'} {after} {after'} {cpu} {h} {a} {result} {before} {told} sa
 pub returns-in-Err : goal.returns-in-Err
 returns-in-Err c = answered (c.pass_to.ensures ∙ c.self.view_is) (after_run-zero c.answer_known.new.self) c.in-Err.ensures
 
-pub returns-after-still : goal.returns-after-still
-returns-after-still c = answered (c.pass_to.ensures ∙ c.self.view_is) (after_run-zero c.answer_known.new.self) c.in-Ok.ensures
+pub returns-in-Ok : goal.returns-in-Ok
+returns-in-Ok c = answered (c.pass_to.ensures ∙ c.self.view_is) (after_run-zero c.answer_known.new.self) c.in-Ok.ensures
