@@ -17,7 +17,7 @@ HPET_RULES = {
     0x00: ("capabilities", "hpet_registers", "register_value"),
     0x10: ("configuration", "hpet_registers", "register_value"),
     0x20: ("status", "hpet_registers", "hpet_pulsed"),
-    0xF0: ("main counter", "hpet_counter", "counter_after"),
+    0xF0: ("main counter", "hpet_comparator", "counter_after"),
 }
 TIMER_RULES = (
     ("configuration", "hpet_comparator", "config_register"),

@@ -1,3 +1,5 @@
+pub mod Counting
+pub mod Halves
 pub mod Writes
 pub mod Steps
 pub mod Rounds

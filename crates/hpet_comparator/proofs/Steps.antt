@@ -2,7 +2,7 @@
 use Rattle.std.proofs.Common.{◌≡◌, ℕ, zero, suc, ◌+◌, ◌%◌, ◌^◌, Bool, true, false, cond, ◌&&◌, eqb, refl, ap, sym, subst, ◌∙◌, arith}
 use Rattle.clk_units.specs.Events.{CountsUp}
 use Rattle.clk_units.proofs.Events.{CountsUp-by_test}
-use Rattle.hpet_counter.specs.Counter.{counter_after}
+use Rattle.hpet_comparator.specs.Counter.{counter_after}
 use Rattle.hpet_comparator.specs.declared.parts.TimerParts.{TimerParts}
 use Rattle.clk_units.specs.Bits.{bit}
 use Rattle.hpet_comparator.specs.Parts.{IsTimer, is_32_bit, is_periodic, modulus}

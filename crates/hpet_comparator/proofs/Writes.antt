@@ -2,7 +2,7 @@
 use Rattle.std.proofs.Common.{◌≡◌, ℕ, ◌+◌, ◌*◌, ◌/◌, ◌%◌, ◌^◌, ◌<◌, ◌≤◌, Bool, true, false, cond, ◌&&◌, not, eqb, bit_and, refl, ap, sym, subst, ◌∙◌, arith}
 use Rattle.std.proofs.lemmas.Nat.{and_le_r, and_block, and_mask, and_mod, and_assoc, and_shr, mod_below}
 use Rattle.std.proofs.lemmas.Nat.Bits.{bit_at_and}
-use Rattle.hpet_counter.specs.Part.{part_written}
+use Rattle.hpet_comparator.specs.Part.{part_written}
 use Rattle.hpet_comparator.specs.declared.parts.TimerParts.{TimerParts}
 use Rattle.clk_units.specs.Bits.{bit}
 use Rattle.hpet_comparator.specs.Parts.{IsTimer, route_of, modulus, is_32_bit, is_periodic, takes_comparator, writable_bits}

@@ -1,6 +1,6 @@
 -- The comparator register of a timer (IA-PC HPET specification 1.0a, section 2.3.9).
 use Rattle.std.specs.Prelude.{ℕ, ◌%◌, Bool, ◌&&◌, not, if◌then◌else◌, bit_and}
-use Rattle.hpet_counter.specs.Part.{part_written}
+use Rattle.hpet_comparator.specs.Part.{part_written}
 use Rattle.hpet_comparator.specs.declared.parts.TimerParts.{TimerParts}
 use Rattle.hpet_comparator.specs.Parts.{is_periodic, takes_comparator, modulus}
 

@@ -1,3 +1,5 @@
+pub mod Counter
+pub mod Part
 pub mod Parts
 pub mod Config
 pub mod Comparator

@@ -2,7 +2,7 @@
 
 ghost use Rattle.std.specs.Prelude.{◌≡◌, ℕ, suc, ◌+◌, ◌/◌, ◌<◌, ◌≤◌, IsTrue};
 ghost use Rattle.clk_units.specs.Events.{IsFirst};
-ghost use Rattle.hpet_counter.specs.Counter.{counter_after};
+ghost use Rattle.hpet_comparator.specs.Counter.{counter_after};
 ghost use Rattle.hpet_comparator.specs.Parts.{IsTimer};
 ghost use Rattle.hpet_comparator.specs.Stretch.{
   matches_at,

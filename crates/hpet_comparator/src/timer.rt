@@ -3,8 +3,8 @@
 ghost use Rattle.std.specs.Prelude.{◌≡◌, ℕ, suc, ◌*◌, ◌%◌, ◌^◌, ◌<◌, ◌≤◌, ◌↔◌, IsTrue, IsSome};
 ghost use Rattle.std.specs.Prelude.{IfSome};
 ghost use Rattle.clk_units.specs.Events.{IsFirst};
-ghost use Rattle.hpet_counter.specs.Counter.{counter_after};
-ghost use Rattle.hpet_counter.specs.Part.{is_register_width};
+ghost use Rattle.hpet_comparator.specs.Counter.{counter_after};
+ghost use Rattle.hpet_comparator.specs.Part.{is_register_width};
 ghost use Rattle.hpet_comparator.specs.Parts.{IsTimer, is_32_bit, timer_at_power_on};
 ghost use Rattle.hpet_comparator.specs.Config.{config_register, config_written};
 ghost use Rattle.hpet_comparator.specs.Comparator.{comparator_written};

@@ -5,8 +5,8 @@ use Rattle.std.proofs.Math.ListN.{set, get_or-map}
 use Rattle.std.proofs.lemmas.List.{get_or-set_other}
 use Rattle.std.proofs.lemmas.Bool.{cases_eq, lt-ltb, le-ltb, false≢true}
 use Rattle.std.proofs.lemmas.Nat.{and_le_l}
-use Rattle.hpet_counter.specs.Counter.{counter_after}
-use Rattle.hpet_counter.specs.Part.{part_written}
+use Rattle.hpet_comparator.specs.Counter.{counter_after}
+use Rattle.hpet_comparator.specs.Part.{part_written}
 use Rattle.hpet_comparator.specs.declared.parts.TimerParts.{TimerParts}
 use Rattle.clk_units.specs.Bits.{bit}
 use Rattle.hpet_comparator.specs.Parts.{IsTimer, is_periodic, is_level}

@@ -5,8 +5,8 @@ use Rattle.std.proofs.Math.ListN.{set}
 use Rattle.std.proofs.Math.Nat.{mod-mod}
 use Rattle.std.proofs.lemmas.Bool.{eq-eqb, ne_eqb, false≢true}
 use Rattle.std.proofs.lemmas.Nat.{and_le_r, and_mask, and_mod, and_assoc, or_disjoint, and_or_apart}
-use Rattle.hpet_counter.specs.Part.{part_written}
-use Rattle.hpet_counter.proofs.Halves.{part_written-halves}
+use Rattle.hpet_comparator.specs.Part.{part_written}
+use Rattle.hpet_comparator.proofs.Halves.{part_written-halves}
 use Rattle.hpet_comparator.specs.declared.parts.TimerParts.{TimerParts}
 use Rattle.clk_units.specs.Bits.{bit}
 use Rattle.hpet_comparator.specs.Parts.{route_of, modulus}

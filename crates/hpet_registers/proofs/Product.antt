@@ -6,8 +6,8 @@ use Rattle.std.proofs.lemmas.Bool.{lt-ltb, le-ltb}
 use Rattle.clk_units.specs.Bits.{bit}
 use Rattle.clk_units.specs.Events.{CountsUp, IsFirst}
 use Rattle.clk_units.proofs.Events.{CountsUp-by_test}
-use Rattle.hpet_counter.specs.Counter.{counter_after}
-use Rattle.hpet_counter.proofs.Counting.{counter_after-zero, counter_after-suc}
+use Rattle.hpet_comparator.specs.Counter.{counter_after}
+use Rattle.hpet_comparator.proofs.Counting.{counter_after-zero, counter_after-suc}
 use Rattle.hpet_comparator.specs.declared.parts.TimerParts.{TimerParts}
 use Rattle.hpet_comparator.specs.Parts.{is_level, is_enabled, route_of}
 use Rattle.hpet_comparator.specs.Stretch.{matches_at, pulsed, pulsed_times, matches_in, spacing_of}

@@ -2,7 +2,7 @@
 -- 2.4).
 use Rattle.std.specs.Prelude.{ℕ, ◌+◌, ◌-◌, ◌*◌, ◌/◌, ◌%◌, ◌^◌, Bool, true, false, ◌&&◌, ◌||◌, ◌==◌}
 use Rattle.std.specs.Prelude.{if◌then◌else◌, slice_set, bit_and}
-use Rattle.hpet_counter.specs.Part.{part_written, is_register_width}
+use Rattle.hpet_comparator.specs.Part.{part_written, is_register_width}
 use Rattle.clk_units.specs.Bits.{bit}
 use Rattle.hpet_comparator.specs.Config.{config_register, config_written}
 use Rattle.hpet_comparator.specs.Comparator.{comparator_written}

@@ -1,7 +1,7 @@
 -- The pulses of the HPET, one and many (IA-PC HPET specification 1.0a, sections 2.3.5 to 2.3.9).
 use Rattle.std.specs.Prelude.{ℕ, zero, suc, ◌^◌, Bool, ◌&&◌, nat_lt, if◌then◌else◌, bit_or, map}
 use Rattle.std.specs.Prelude.{List, slice_index_or, None}
-use Rattle.hpet_counter.specs.Counter.{counter_after}
+use Rattle.hpet_comparator.specs.Counter.{counter_after}
 use Rattle.hpet_comparator.specs.declared.stretch.Matches.{Matches}
 use Rattle.hpet_comparator.specs.Parts.{is_level}
 use Rattle.hpet_comparator.specs.Stretch.{matches_at, pulsed}

@@ -2,7 +2,7 @@
 
 ghost use Rattle.std.specs.Prelude.{◌≡◌, ◌+◌, ◌*◌, ◌^◌, ◌<◌, ◌≤◌, length, IsTrue, nat_lt};
 ghost use Rattle.std.specs.Prelude.{slice_set, if◌then◌else◌};
-ghost use Rattle.hpet_counter.specs.Part.{part_written, is_register_width};
+ghost use Rattle.hpet_comparator.specs.Part.{part_written, is_register_width};
 ghost use Rattle.clk_units.specs.Bits.{bit};
 ghost use Rattle.hpet_comparator.specs.Parts.{IsTimer};
 ghost use Rattle.hpet_comparator.specs.Config.{config_written};
@@ -15,8 +15,7 @@ ghost use Rattle.hpet_registers.specs.Access.{timer_config_written};
 
 use crate::parts::HpetParts;
 use crate::register::{Register, is_effective, register_at};
-use hpet_comparator::{Timer, TimerParts};
-use hpet_counter::{MainCounter, write_part};
+use hpet_comparator::{MainCounter, Timer, TimerParts, write_part};
 
 /// The capabilities of a block of one timer: 10 ns a pulse, vendor 8086h, legacy replacement, 64
 /// bits, revision 1.

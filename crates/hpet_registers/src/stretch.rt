@@ -18,8 +18,7 @@ ghost use Rattle.hpet_registers.specs.Stretch.{
 ghost use Rattle.hpet_registers.specs.private.Matches.{AreMatches};
 
 use crate::parts::HpetParts;
-use hpet_comparator::{Matches, Timer};
-use hpet_counter::MainCounter;
+use hpet_comparator::{MainCounter, Matches, Timer};
 
 /// The status after matches of timer `k`: they set its bit where it is of level type.
 fn raised(status: u8, k: u8, level: bool) -> u8

@@ -1,7 +1,7 @@
 -- The matches of one timer over a stretch; private contracts alone cite them.
 use Rattle.std.specs.Prelude.{◌≡◌, ℕ, suc, ◌<◌, ◌≤◌}
 use Rattle.clk_units.specs.Events.{IsFirst}
-use Rattle.hpet_counter.specs.Counter.{counter_after}
+use Rattle.hpet_comparator.specs.Counter.{counter_after}
 use Rattle.hpet_comparator.specs.declared.parts.TimerParts.{TimerParts}
 use Rattle.hpet_comparator.specs.declared.stretch.Matches.{Matches}
 use Rattle.hpet_comparator.specs.Stretch.{matches_at, pulsed_times, matches_in, spacing_of}

@@ -1,7 +1,7 @@
 use Rattle.std.proofs.Common.{◌≡◌, ℕ, suc, ◌/◌, ◌%◌, ◌^◌, true, false, eqb, ap, sym, subst, ◌∙◌, inl, inr, arith}
 use Rattle.std.proofs.lemmas.Bool.{cases_lt, eq-eqb, ne_eqb}
 use Rattle.clk_units.specs.Events.{IsFirst}
-use Rattle.hpet_counter.specs.Counter.{counter_after}
+use Rattle.hpet_comparator.specs.Counter.{counter_after}
 use Rattle.hpet_comparator.specs.declared.stretch.Matches.{Matches}
 use Rattle.hpet_comparator.specs.Stretch.{spacing_of, falls_on}
 use Rattle.hpet_registers.specs.declared.parts.HpetParts.{HpetParts}

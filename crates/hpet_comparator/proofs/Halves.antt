@@ -1,6 +1,6 @@
 -- A whole write is a write of each half.
 use Rattle.std.proofs.Common.{◌≡◌, ℕ, ◌/◌, ◌%◌, ◌^◌, Bool, true, false, arith}
-use Rattle.hpet_counter.specs.Part.{part_written}
+use Rattle.hpet_comparator.specs.Part.{part_written}
 
 -- the low half first, then the high one
 pub part_written-halves : (high : Bool) (v old : ℕ)

@@ -1,7 +1,7 @@
 //! Writes of a register of 64 bits, whole or by halves.
 
 ghost use Rattle.std.specs.Prelude.{◌≡◌, ◌*◌, ◌/◌, ◌%◌, ◌^◌, ◌<◌, true, false, IsTrue};
-ghost use Rattle.hpet_counter.specs.Part.{part_written, is_register_width};
+ghost use Rattle.hpet_comparator.specs.Part.{part_written, is_register_width};
 
 /// How many numbers a half of a register has.
 const HALF: u64 = 0x1_0000_0000;

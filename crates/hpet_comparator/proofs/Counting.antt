@@ -1,6 +1,6 @@
 -- Lemmas on the main counter.
 use Rattle.std.proofs.Common.{◌≡◌, ℕ, suc, ◌+◌, ◌%◌, ◌^◌, ◌<◌, arith}
-use Rattle.hpet_counter.specs.Counter.{counter_after}
+use Rattle.hpet_comparator.specs.Counter.{counter_after}
 
 -- no pulses
 pub counter_after-zero : (v : ℕ) → v < 2 ^ 64 → counter_after v 0 ≡ v

@@ -1,8 +1,8 @@
 //! The main counter.
 
 ghost use Rattle.std.specs.Prelude.{◌≡◌, ◌*◌, ◌^◌, ◌<◌, IsTrue};
-ghost use Rattle.hpet_counter.specs.Counter.{counter_after};
-ghost use Rattle.hpet_counter.specs.Part.{part_written, is_register_width};
+ghost use Rattle.hpet_comparator.specs.Counter.{counter_after};
+ghost use Rattle.hpet_comparator.specs.Part.{part_written, is_register_width};
 
 use crate::part::write_part;
 
