@@ -6,7 +6,6 @@ use Rattle.std.proofs.lemmas.Bool.{eq-eqb}
 use Rattle.hex.specs.Hex.{decode_of, decode_pairs, decode_sized}
 use Rattle.hex.specs.declared.error.FromHexError.{FromHexError}
 use Rattle.hex.specs.declared.error.FromHexError.TheVariants.{OddLength, InvalidStringLength}
-use Rattle.board_types.specs.declared.setup.Setup.{Setup}
 use Rattle.trace_text.specs.Rows.{placed, last}
 use Rattle.trace_text.specs.State.{hexes_in, restored}
 use Rattle.trace_text.specs.Header.{state_row, resumes}
@@ -15,23 +14,23 @@ use Rattle.trace_text.specs.declared.faults.Reason.TheVariants.{Form}
 use Rattle.trace_text.specs.declared.header.Head.{Head}
 
 -- one word
-pub one_word : (head : Head) (s : Setup) (digits : List ℕ)
-    → state_row head s (digits ∷ []) ≡ resumes head (restored_digits s.format digits)
-one_word head s digits = by_bytes (hexes_in digits)
+pub one_word : (head : Head) (format : ℕ) (digits : List ℕ)
+    → state_row head format (digits ∷ []) ≡ resumes head (restored_digits format digits)
+one_word head format digits = by_bytes (hexes_in digits)
   where
     by_bytes : (o : Option (List ℕ))
-        → placed (λ (bytes : List ℕ). last (resumes head (restored s.format bytes))) [] o
-        ≡ resumes head (restored_from s.format o)
+        → placed (λ (bytes : List ℕ). last (resumes head (restored format bytes))) [] o
+        ≡ resumes head (restored_from format o)
     by_bytes None = refl
     by_bytes (Some bytes) = refl
 
 -- more words
-pub more_words : (head : Head) (s : Setup) (digits w : List ℕ) (ws : List (List ℕ))
-    → state_row head s (digits ∷ w ∷ ws) ≡ Err Form
-more_words head s digits w ws = by_bytes (hexes_in digits)
+pub more_words : (head : Head) (format : ℕ) (digits w : List ℕ) (ws : List (List ℕ))
+    → state_row head format (digits ∷ w ∷ ws) ≡ Err Form
+more_words head format digits w ws = by_bytes (hexes_in digits)
   where
     by_bytes : (o : Option (List ℕ))
-        → placed (λ (bytes : List ℕ). last (resumes head (restored s.format bytes))) (w ∷ ws) o ≡ Err Form
+        → placed (λ (bytes : List ℕ). last (resumes head (restored format bytes))) (w ∷ ws) o ≡ Err Form
     by_bytes None = refl
     by_bytes (Some bytes) = refl
 

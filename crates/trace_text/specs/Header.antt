@@ -81,58 +81,54 @@ policy ws =
     else if starts (codes "slew") ws then Some Slew
     else None
 
--- a line stands behind those of smaller numbers
-abbrev pub in_order : ℕ → Head → Result Head Reason → Result Head Reason
-in_order number head answer = if nat_lt head.row number then answer else Err Form
-
--- a line sets something up
-abbrev pub sets : ℕ → Head → Setup → Result Head Reason
-sets number head s = Ok (record head { row = number; begin = Fresh s })
-
 -- `host KHZ START`
-abbrev pub host_row : Head → Setup → List (List ℕ) → Result Head Reason
-host_row head s =
+abbrev pub host_row : Setup → List (List ℕ) → Result Setup Reason
+host_row s =
     place khz (λ k. place dec (λ start.
-    last (sets HOST_ROW head (record s {
-      anchor = record { khz = k; start = start; base_ns = 0 };
-    }))))
+    last (Ok (record s { anchor = record { khz = k; start = start; base_ns = 0 } }))))
 
 -- `guest KHZ`
-abbrev pub guest_row : Head → Setup → List (List ℕ) → Result Head Reason
-guest_row head s = place khz (λ k. last (sets GUEST_ROW head (record s { guest_khz = k })))
+abbrev pub guest_row : Setup → List (List ℕ) → Result Setup Reason
+guest_row s = place khz (λ k. last (Ok (record s { guest_khz = k })))
 
 -- `cpus N`
-abbrev pub cpus_row : Head → Setup → List (List ℕ) → Result Head Reason
-cpus_row head s =
-    place (dec_within 1 (processors_of s.format)) (λ n.
-    last (sets CPUS_ROW head (record s { cpus = n })))
+abbrev pub cpus_row : Setup → List (List ℕ) → Result Setup Reason
+cpus_row s =
+    place (dec_within 1 (processors_of s.format)) (λ n. last (Ok (record s { cpus = n })))
 
 -- `policy P Q R`: of the 8254, the RTC, the HPET
-abbrev pub policy_row : Head → Setup → List (List ℕ) → Result Head Reason
-policy_row head s =
+abbrev pub policy_row : Setup → List (List ℕ) → Result Setup Reason
+policy_row s =
     place policy (λ p. place policy (λ q. place policy (λ r.
-    last (sets POLICY_ROW head (record s { pit = p; rtc = q; hpet = r })))))
+    last (Ok (record s { pit = p; rtc = q; hpet = r })))))
 
 -- `slew NS`
-abbrev pub slew_row : Head → Setup → List (List ℕ) → Result Head Reason
-slew_row head s =
-    place (dec_within 1 1000000000) (λ ns.
-    last (sets SLEW_ROW head (record s { slew_ns = ns })))
+abbrev pub slew_row : Setup → List (List ℕ) → Result Setup Reason
+slew_row s = place (dec_within 1 1000000000) (λ ns. last (Ok (record s { slew_ns = ns })))
 
 -- `wall SEC NSEC`
-abbrev pub wall_row : Head → Setup → List (List ℕ) → Result Head Reason
-wall_row head s =
+abbrev pub wall_row : Setup → List (List ℕ) → Result Setup Reason
+wall_row s =
     place (dec_within 0 4294967295) (λ sec. place (dec_within 0 999999999) (λ nsec.
-    last (sets WALL_ROW head (record s { wall_sec = sec; wall_nsec = nsec }))))
+    last (Ok (record s { wall_sec = sec; wall_nsec = nsec }))))
 
 -- `rtc S M H W D O Y`
-abbrev pub rtc_row : Head → Setup → List (List ℕ) → Result Head Reason
-rtc_row head s =
+abbrev pub rtc_row : Setup → List (List ℕ) → Result Setup Reason
+rtc_row s =
     place byte (λ sec. place byte (λ m. place byte (λ h. place byte (λ w.
-    place byte (λ d. place byte (λ o. place byte (λ y.
-    last (sets RTC_ROW head (record s {
+    place byte (λ d. place byte (λ o. place byte (λ y. last (Ok (record s {
       time = record { sec = sec; min = m; hour = h; wday = w; date = d; month = o; year = y };
     })))))))))
+
+-- what a trace begins with is set up by the line of this number
+abbrev pub set_up : ℕ → Head → Result Setup Reason → Result Head Reason
+set_up number head (Ok s) = Ok (record head { row = number; begin = Fresh s })
+set_up number head (Err reason) = Err reason
+
+-- a line that sets something up comes after those of smaller numbers
+abbrev pub setup_row : List ℕ → ℕ → Head → (List (List ℕ) → Result Setup Reason) → Row Head
+setup_row name number head means =
+    row name (λ ws. if nat_lt head.row number then set_up number head (means ws) else Err Form)
 
 -- the board with which a trace begins
 abbrev pub board_of : Begin → BoardParts
@@ -149,8 +145,8 @@ resumes head (Ok b) = Ok (record head { row = STATE_ROW; begin = Saved b })
 resumes head (Err reason) = Err reason
 
 -- `state HEXES`
-abbrev pub state_row : Head → Setup → List (List ℕ) → Result Head Reason
-state_row head s = place hexes (λ bytes. last (resumes head (restored s.format bytes)))
+abbrev pub state_row : Head → ℕ → List (List ℕ) → Result Head Reason
+state_row head format = place hexes (λ bytes. last (resumes head (restored format bytes)))
 
 -- the place of a line among the six, by its number
 abbrev pub place_of_line : ℕ → ℕ
@@ -183,19 +179,19 @@ last_rows head = row (codes "route") (route_row head) ∷ []
 -- `host` to `policy`
 abbrev pub first_rows : Head → Setup → List (Row Head)
 first_rows head s =
-    row (codes "host") (λ ws. in_order HOST_ROW head (host_row head s ws))
-    ∷ row (codes "guest") (λ ws. in_order GUEST_ROW head (guest_row head s ws))
-    ∷ row (codes "cpus") (λ ws. in_order CPUS_ROW head (cpus_row head s ws))
-    ∷ row (codes "policy") (λ ws. in_order POLICY_ROW head (policy_row head s ws))
+    setup_row (codes "host") HOST_ROW head (host_row s)
+    ∷ setup_row (codes "guest") GUEST_ROW head (guest_row s)
+    ∷ setup_row (codes "cpus") CPUS_ROW head (cpus_row s)
+    ∷ setup_row (codes "policy") POLICY_ROW head (policy_row s)
     ∷ []
 
 -- `slew` to `route`
 abbrev pub later_rows : Head → Setup → List (Row Head)
 later_rows head s =
-    row (codes "slew") (λ ws. in_order SLEW_ROW head (slew_row head s ws))
-    ∷ row (codes "wall") (λ ws. in_order WALL_ROW head (wall_row head s ws))
-    ∷ row (codes "rtc") (λ ws. in_order RTC_ROW head (rtc_row head s ws))
-    ∷ row (codes "state") (λ ws. in_front head (state_row head s ws))
+    setup_row (codes "slew") SLEW_ROW head (slew_row s)
+    ∷ setup_row (codes "wall") WALL_ROW head (wall_row s)
+    ∷ setup_row (codes "rtc") RTC_ROW head (rtc_row s)
+    ∷ row (codes "state") (λ ws. in_front head (state_row head s.format ws))
     ∷ last_rows head
 
 -- behind a saved state routes alone may stand

@@ -1,5 +1,5 @@
 -- Rows of a table of lines: a name, and what the words behind it make.
-use Rattle.std.specs.Prelude.{ℕ, List, [], ◌∷◌, Option, Some, None, Result, Err, if◌then◌else◌}
+use Rattle.std.specs.Prelude.{ℕ, List, [], ◌∷◌, Option, Some, None, Result, Ok, Err, if◌then◌else◌}
 use Rattle.trace_text.specs.Tokens.{rest, starts}
 use Rattle.trace_text.specs.declared.faults.Reason.{Reason}
 use Rattle.trace_text.specs.declared.faults.Reason.TheVariants.{Form}
@@ -33,3 +33,8 @@ row name means = record { name = name; means = means }
 abbrev pub by_table : {T : Type 0} → List (Row T) → List (List ℕ) → Result T Reason
 by_table [] ws = Err Form
 by_table (r ∷ rs) ws = if starts r.name ws then r.means (rest ws) else by_table rs ws
+
+-- what words make that were taken in place: what they left, or why they are refused
+abbrev pub left_by : {T : Type 0} → Result Unit Reason → T → Result T Reason
+left_by (Ok u) left = Ok left
+left_by (Err reason) left = Err reason

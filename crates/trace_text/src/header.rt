@@ -1,8 +1,9 @@
 //! The header: what a trace is set up with.
-ghost use Rattle.std.specs.Prelude.{◌≡◌, ◌<◌, ◌≤◌, ◌++◌, Ok, IfOk, MatchResult};
+ghost use Rattle.std.specs.Prelude.{◌≡◌, ◌<◌, ◌≤◌, ◌++◌, Ok, IfOk, OnOk, MatchResult};
 ghost use Rattle.board_types.specs.Setup.{IsSetup};
 ghost use Rattle.board_types.specs.declared.setup.TheConstants.{LAST_FORMAT};
-ghost use Rattle.trace_text.specs.Rows.{by_table};
+ghost use Rattle.trace_text.specs.Rows.{by_table, left_by};
+ghost use Rattle.trace_text.specs.declared.header.TheConstants.{ROUTE_ROW};
 ghost use Rattle.trace_text.specs.Header.{
   head_of,
   first_line,
@@ -10,6 +11,7 @@ ghost use Rattle.trace_text.specs.Header.{
   later_rows,
   last_rows,
   header_line,
+  set_up,
   header_of,
   body_of,
   IsHead,
@@ -17,6 +19,7 @@ ghost use Rattle.trace_text.specs.Header.{
 };
 
 use crate::faults::Reason;
+use crate::header_lines::{cpus, guest, host, policies, rtc, slew, wall};
 use crate::records::Body;
 use crate::words::Words;
 use board_core::BoardState;
@@ -133,12 +136,12 @@ impl Head {
         }
     }
 
-    /// The next line of a header.
+    /// The next line of a header. After a fault what is known has no meaning.
     #[tactic(auto, unfolding(crate::specs::Header::header_line))]
-    pub(crate) fn line(self, words: &mut Words<'_>) -> Result<Head, Reason>
-        requires { IsHead self }
-        ensures head { result ≡ header_line self words.old }
-        ensures valid { IfOk result IsHead }
+    pub(crate) fn line(&mut self, words: &mut Words<'_>) -> Result<(), Reason>
+        requires { IsHead self.old }
+        ensures head { header_line self.old words.old ≡ left_by result self.new }
+        ensures valid { OnOk result (IsHead self.new) }
     {
         match self.begin {
             Begin::Fresh(setup) => self.first_line(setup, words),
@@ -147,56 +150,66 @@ impl Head {
     }
 
     /// The next line of a header without a saved state.
-    fn first_line(self, setup: Setup, words: &mut Words<'_>) -> Result<Head, Reason>
-        requires valid { IsHead self }
+    fn first_line(&mut self, mut setup: Setup, words: &mut Words<'_>) -> Result<(), Reason>
+        requires valid { IsHead self.old }
         requires setup { IsSetup setup }
-        ensures head { result ≡ by_table (first_rows self setup ++ later_rows self setup) words.old }
-        ensures valid { IfOk result IsHead }
+        ensures head { by_table (first_rows self.old setup ++ later_rows self.old setup) words.old
+            ≡ left_by result self.new }
+        ensures valid { OnOk result (IsHead self.new) }
     {
         if words.takes(b"host") {
             self.in_order(HOST_ROW)?;
-            self.host(setup, words)
+            host(&mut setup, words)?;
+            self.set_up(HOST_ROW, setup);
         } else if words.takes(b"guest") {
             self.in_order(GUEST_ROW)?;
-            self.guest(setup, words)
+            guest(&mut setup, words)?;
+            self.set_up(GUEST_ROW, setup);
         } else if words.takes(b"cpus") {
             self.in_order(CPUS_ROW)?;
-            self.cpus(setup, words)
+            cpus(&mut setup, words)?;
+            self.set_up(CPUS_ROW, setup);
         } else if words.takes(b"policy") {
             self.in_order(POLICY_ROW)?;
-            self.policies(setup, words)
+            policies(&mut setup, words)?;
+            self.set_up(POLICY_ROW, setup);
         } else {
-            self.later_line(setup, words)
+            return self.later_line(setup, words);
         }
+        Ok(())
     }
 
-    fn later_line(self, setup: Setup, words: &mut Words<'_>) -> Result<Head, Reason>
-        requires valid { IsHead self }
+    fn later_line(&mut self, mut setup: Setup, words: &mut Words<'_>) -> Result<(), Reason>
+        requires valid { IsHead self.old }
         requires setup { IsSetup setup }
-        ensures head { result ≡ by_table (later_rows self setup) words.old }
-        ensures valid { IfOk result IsHead }
+        ensures head { by_table (later_rows self.old setup) words.old ≡ left_by result self.new }
+        ensures valid { OnOk result (IsHead self.new) }
     {
         if words.takes(b"slew") {
             self.in_order(SLEW_ROW)?;
-            self.slew(setup, words)
+            slew(&mut setup, words)?;
+            self.set_up(SLEW_ROW, setup);
         } else if words.takes(b"wall") {
             self.in_order(WALL_ROW)?;
-            self.wall(setup, words)
+            wall(&mut setup, words)?;
+            self.set_up(WALL_ROW, setup);
         } else if words.takes(b"rtc") {
             self.in_order(RTC_ROW)?;
-            self.rtc(setup, words)
+            rtc(&mut setup, words)?;
+            self.set_up(RTC_ROW, setup);
         } else if words.takes(b"state") {
-            self.state(setup, words)
+            self.state(setup.format, words)?;
         } else {
-            self.last_line(words)
+            return self.last_line(words);
         }
+        Ok(())
     }
 
     /// A route, the one line that may follow a saved state.
-    fn last_line(self, words: &mut Words<'_>) -> Result<Head, Reason>
-        requires { IsHead self }
-        ensures head { result ≡ by_table (last_rows self) words.old }
-        ensures valid { IfOk result IsHead }
+    fn last_line(&mut self, words: &mut Words<'_>) -> Result<(), Reason>
+        requires { IsHead self.old }
+        ensures head { by_table (last_rows self.old) words.old ≡ left_by result self.new }
+        ensures valid { OnOk result (IsHead self.new) }
     {
         if words.takes(b"route") {
             self.route(words)
@@ -215,6 +228,19 @@ impl Head {
         } else {
             Err(Reason::Form)
         }
+    }
+
+    /// The line of this number has made the setup this one.
+    fn set_up(&mut self, number: u8, setup: Setup)
+        requires valid { IsHead self.old }
+        requires setup { IsSetup setup }
+        requires early { self.old.row < number }
+        requires first { number < ROUTE_ROW }
+        ensures head { set_up number self.old (Ok setup) ≡ Ok self.new }
+        ensures valid { IsHead self.new }
+    {
+        self.row = number;
+        self.begin = Begin::Fresh(setup);
     }
 
     /// What `begin` begins.

@@ -6,15 +6,15 @@ ghost use Rattle.std.specs.Prelude.{
   ◌&&◌,
   nat_le,
   true,
-  Ok,
-  IfOk,
+  OnOk,
   OnSome,
   IfSome,
 };
 ghost use Rattle.board_types.specs.Setup.{IsSetup};
+ghost use Rattle.board_types.specs.declared.setup.TheConstants.{LAST_FORMAT};
 ghost use Rattle.irq_edges.specs.Lines.{is_line};
 ghost use Rattle.trace_text.specs.Tokens.{rest, dec, byte, such_that};
-ghost use Rattle.trace_text.specs.declared.header.TheConstants.{ROUTE_ROW};
+ghost use Rattle.trace_text.specs.Rows.{left_by};
 ghost use Rattle.trace_text.specs.Header.{
   policy,
   host_row,
@@ -33,10 +33,7 @@ ghost use Rattle.trace_text.specs.Header.{
 };
 
 use crate::faults::Reason;
-use crate::header::{
-    Begin, CPUS_ROW, FORMAT_ROW, GUEST_ROW, HOST_ROW, Head, POLICY_ROW, ROUTE_ROW, RTC_ROW,
-    SLEW_ROW, STATE_ROW, WALL_ROW,
-};
+use crate::header::{Begin, FORMAT_ROW, Head, ROUTE_ROW, STATE_ROW};
 use crate::state::board_of;
 use crate::words::Words;
 use board_types::{Setup, processors_of};
@@ -45,185 +42,141 @@ use host_counter::Anchor;
 use rtc_calendar::TimeBytes;
 use tick_policy::Policy;
 
+/// The host's counter: its rate and its first count.
+pub(crate) fn host(setup: &mut Setup, words: &mut Words<'_>) -> Result<(), Reason>
+    requires { IsSetup setup.old }
+    ensures setup { host_row setup.old words.old ≡ left_by result setup.new }
+    ensures valid { OnOk result (IsSetup setup.new) }
+{
+    let khz = words.khz().ok_or(Reason::Form)?;
+    let start = words.dec().ok_or(Reason::Form)?;
+    words.end()?;
+    setup.anchor = Anchor {
+        khz,
+        start,
+        base_ns: 0,
+    };
+    Ok(())
+}
+
+/// The rate of the guest's TSC.
+pub(crate) fn guest(setup: &mut Setup, words: &mut Words<'_>) -> Result<(), Reason>
+    requires { IsSetup setup.old }
+    ensures setup { guest_row setup.old words.old ≡ left_by result setup.new }
+    ensures valid { OnOk result (IsSetup setup.new) }
+{
+    let guest_khz = words.khz().ok_or(Reason::Form)?;
+    words.end()?;
+    setup.guest_khz = guest_khz;
+    Ok(())
+}
+
+/// How many processors there are.
+pub(crate) fn cpus(setup: &mut Setup, words: &mut Words<'_>) -> Result<(), Reason>
+    requires { IsSetup setup.old }
+    ensures setup { cpus_row setup.old words.old ≡ left_by result setup.new }
+    ensures valid { OnOk result (IsSetup setup.new) }
+{
+    let most = u64::from(processors_of(setup.format));
+    let cpus = words.dec_within(1, most).ok_or(Reason::Form)?;
+    words.end()?;
+    setup.cpus = cpus as u8;
+    Ok(())
+}
+
+/// What becomes of ticks that find their line up: of the 8254, the MC146818 and the HPET.
+pub(crate) fn policies(setup: &mut Setup, words: &mut Words<'_>) -> Result<(), Reason>
+    requires { IsSetup setup.old }
+    ensures setup { policy_row setup.old words.old ≡ left_by result setup.new }
+    ensures valid { OnOk result (IsSetup setup.new) }
+{
+    let pit = policy(words).ok_or(Reason::Form)?;
+    let rtc = policy(words).ok_or(Reason::Form)?;
+    let hpet = policy(words).ok_or(Reason::Form)?;
+    words.end()?;
+    setup.pit = pit;
+    setup.rtc = rtc;
+    setup.hpet = hpet;
+    Ok(())
+}
+
+/// The nanoseconds between catch-up points.
+pub(crate) fn slew(setup: &mut Setup, words: &mut Words<'_>) -> Result<(), Reason>
+    requires { IsSetup setup.old }
+    ensures setup { slew_row setup.old words.old ≡ left_by result setup.new }
+    ensures valid { OnOk result (IsSetup setup.new) }
+{
+    let slew_ns = words.dec_within(1, 1_000_000_000).ok_or(Reason::Form)?;
+    words.end()?;
+    setup.slew_ns = slew_ns;
+    Ok(())
+}
+
+/// The wall clock at time 0.
+pub(crate) fn wall(setup: &mut Setup, words: &mut Words<'_>) -> Result<(), Reason>
+    requires { IsSetup setup.old }
+    ensures setup { wall_row setup.old words.old ≡ left_by result setup.new }
+    ensures valid { OnOk result (IsSetup setup.new) }
+{
+    let sec = words.dec_within(0, 4_294_967_295).ok_or(Reason::Form)?;
+    let nsec = words.dec_within(0, 999_999_999).ok_or(Reason::Form)?;
+    words.end()?;
+    setup.wall_sec = sec as u32;
+    setup.wall_nsec = nsec as u32;
+    Ok(())
+}
+
+/// The time bytes of the MC146818.
+pub(crate) fn rtc(setup: &mut Setup, words: &mut Words<'_>) -> Result<(), Reason>
+    requires { IsSetup setup.old }
+    ensures setup { rtc_row setup.old words.old ≡ left_by result setup.new }
+    ensures valid { OnOk result (IsSetup setup.new) }
+{
+    let time = TimeBytes {
+        sec: words.byte().ok_or(Reason::Form)?,
+        min: words.byte().ok_or(Reason::Form)?,
+        hour: words.byte().ok_or(Reason::Form)?,
+        wday: words.byte().ok_or(Reason::Form)?,
+        date: words.byte().ok_or(Reason::Form)?,
+        month: words.byte().ok_or(Reason::Form)?,
+        year: words.byte().ok_or(Reason::Form)?,
+    };
+    words.end()?;
+    setup.time = time;
+    Ok(())
+}
+
 impl Head {
-    pub(crate) fn host(self, setup: Setup, words: &mut Words<'_>) -> Result<Head, Reason>
-        requires valid { IsHead self }
-        requires setup { IsSetup setup }
-        requires early { self.row < ROUTE_ROW }
-        ensures head { result ≡ host_row self setup words.old }
-        ensures valid { IfOk result IsHead }
-    {
-        let khz = words.khz().ok_or(Reason::Form)?;
-        let start = words.dec().ok_or(Reason::Form)?;
-        words.end()?;
-        let anchor = Anchor {
-            khz,
-            start,
-            base_ns: 0,
-        };
-        let setup = Setup { anchor, ..setup };
-        Ok(Head {
-            row: HOST_ROW,
-            begin: Begin::Fresh(setup),
-            ..self
-        })
-    }
-
-    pub(crate) fn guest(self, setup: Setup, words: &mut Words<'_>) -> Result<Head, Reason>
-        requires valid { IsHead self }
-        requires setup { IsSetup setup }
-        requires early { self.row < ROUTE_ROW }
-        ensures head { result ≡ guest_row self setup words.old }
-        ensures valid { IfOk result IsHead }
-    {
-        let guest_khz = words.khz().ok_or(Reason::Form)?;
-        words.end()?;
-        let setup = Setup { guest_khz, ..setup };
-        Ok(Head {
-            row: GUEST_ROW,
-            begin: Begin::Fresh(setup),
-            ..self
-        })
-    }
-
-    pub(crate) fn cpus(self, setup: Setup, words: &mut Words<'_>) -> Result<Head, Reason>
-        requires valid { IsHead self }
-        requires setup { IsSetup setup }
-        requires early { self.row < ROUTE_ROW }
-        ensures head { result ≡ cpus_row self setup words.old }
-        ensures valid { IfOk result IsHead }
-    {
-        let most = u64::from(processors_of(setup.format));
-        let cpus = words.dec_within(1, most).ok_or(Reason::Form)?;
-        words.end()?;
-        let setup = Setup {
-            cpus: cpus as u8,
-            ..setup
-        };
-        Ok(Head {
-            row: CPUS_ROW,
-            begin: Begin::Fresh(setup),
-            ..self
-        })
-    }
-
-    pub(crate) fn policies(self, setup: Setup, words: &mut Words<'_>) -> Result<Head, Reason>
-        requires valid { IsHead self }
-        requires setup { IsSetup setup }
-        requires early { self.row < ROUTE_ROW }
-        ensures head { result ≡ policy_row self setup words.old }
-        ensures valid { IfOk result IsHead }
-    {
-        let pit = policy(words).ok_or(Reason::Form)?;
-        let rtc = policy(words).ok_or(Reason::Form)?;
-        let hpet = policy(words).ok_or(Reason::Form)?;
-        words.end()?;
-        let setup = Setup {
-            pit,
-            rtc,
-            hpet,
-            ..setup
-        };
-        Ok(Head {
-            row: POLICY_ROW,
-            begin: Begin::Fresh(setup),
-            ..self
-        })
-    }
-
-    pub(crate) fn slew(self, setup: Setup, words: &mut Words<'_>) -> Result<Head, Reason>
-        requires valid { IsHead self }
-        requires setup { IsSetup setup }
-        requires early { self.row < ROUTE_ROW }
-        ensures head { result ≡ slew_row self setup words.old }
-        ensures valid { IfOk result IsHead }
-    {
-        let slew_ns = words.dec_within(1, 1_000_000_000).ok_or(Reason::Form)?;
-        words.end()?;
-        let setup = Setup { slew_ns, ..setup };
-        Ok(Head {
-            row: SLEW_ROW,
-            begin: Begin::Fresh(setup),
-            ..self
-        })
-    }
-
-    pub(crate) fn wall(self, setup: Setup, words: &mut Words<'_>) -> Result<Head, Reason>
-        requires valid { IsHead self }
-        requires setup { IsSetup setup }
-        requires early { self.row < ROUTE_ROW }
-        ensures head { result ≡ wall_row self setup words.old }
-        ensures valid { IfOk result IsHead }
-    {
-        let sec = words.dec_within(0, 4_294_967_295).ok_or(Reason::Form)?;
-        let nsec = words.dec_within(0, 999_999_999).ok_or(Reason::Form)?;
-        words.end()?;
-        let setup = Setup {
-            wall_sec: sec as u32,
-            wall_nsec: nsec as u32,
-            ..setup
-        };
-        Ok(Head {
-            row: WALL_ROW,
-            begin: Begin::Fresh(setup),
-            ..self
-        })
-    }
-
-    pub(crate) fn rtc(self, setup: Setup, words: &mut Words<'_>) -> Result<Head, Reason>
-        requires valid { IsHead self }
-        requires setup { IsSetup setup }
-        requires early { self.row < ROUTE_ROW }
-        ensures head { result ≡ rtc_row self setup words.old }
-        ensures valid { IfOk result IsHead }
-    {
-        let time = TimeBytes {
-            sec: words.byte().ok_or(Reason::Form)?,
-            min: words.byte().ok_or(Reason::Form)?,
-            hour: words.byte().ok_or(Reason::Form)?,
-            wday: words.byte().ok_or(Reason::Form)?,
-            date: words.byte().ok_or(Reason::Form)?,
-            month: words.byte().ok_or(Reason::Form)?,
-            year: words.byte().ok_or(Reason::Form)?,
-        };
-        words.end()?;
-        let setup = Setup { time, ..setup };
-        Ok(Head {
-            row: RTC_ROW,
-            begin: Begin::Fresh(setup),
-            ..self
-        })
-    }
-
-    pub(crate) fn state(self, setup: Setup, words: &mut Words<'_>) -> Result<Head, Reason>
-        requires valid { IsHead self }
-        requires setup { IsSetup setup }
-        ensures head { result ≡ in_front self (state_row self setup words.old) }
-        ensures valid { IfOk result IsHead }
+    /// A saved board in place of a setup, before all other lines.
+    pub(crate) fn state(&mut self, format: u8, words: &mut Words<'_>) -> Result<(), Reason>
+        requires valid { IsHead self.old }
+        requires format { format ≤ LAST_FORMAT }
+        ensures head { in_front self.old (state_row self.old format words.old)
+            ≡ left_by result self.new }
+        ensures valid { OnOk result (IsHead self.new) }
     {
         if self.row > FORMAT_ROW {
             return Err(Reason::Form);
         }
         let digits = words.word().ok_or(Reason::Form)?;
         words.end()?;
-        let board = board_of(digits, setup.format)?;
-        Ok(Head {
-            row: STATE_ROW,
-            begin: Begin::Saved(board),
-            ..self
-        })
+        let board = board_of(digits, format)?;
+        self.row = STATE_ROW;
+        self.begin = Begin::Saved(board);
+        Ok(())
     }
 
-    pub(crate) fn route(self, words: &mut Words<'_>) -> Result<Head, Reason>
-        requires { IsHead self }
-        ensures head { result ≡ route_row self words.old }
-        ensures valid { IfOk result IsHead }
+    /// Where the rises of a line go.
+    pub(crate) fn route(&mut self, words: &mut Words<'_>) -> Result<(), Reason>
+        requires { IsHead self.old }
+        ensures head { route_row self.old words.old ≡ left_by result self.new }
+        ensures valid { OnOk result (IsHead self.new) }
     {
         let line = self.line_in(words).ok_or(Reason::Form)?;
         let cpu = words.dec().ok_or(Reason::Form)?;
         let vector = vector_in(words).ok_or(Reason::Form)?;
         words.end()?;
-        self.routed(line, cpu, vector)
+        self.add_route(line, cpu, vector)
     }
 
     /// The number of a line that may be routed next.
@@ -242,27 +195,23 @@ impl Head {
     }
 
     /// A line's route to a processor that is there.
-    fn routed(self, line: u8, cpu: u64, vector: u8) -> Result<Head, Reason>
-        requires valid { IsHead self }
+    fn add_route(&mut self, line: u8, cpu: u64, vector: u8) -> Result<(), Reason>
+        requires valid { IsHead self.old }
         requires line { is_line line ≡ true }
         requires vector { 16 ≤ vector }
-        ensures head { result ≡ routed self line cpu vector }
-        ensures valid { IfOk result IsHead }
+        ensures head { routed self.old line cpu vector ≡ left_by result self.new }
+        ensures valid { OnOk result (IsHead self.new) }
     {
         if cpu >= u64::from(self.begin.cpus()) {
             return Err(Reason::Cpu);
         }
-        let mut routes = self.routes;
-        routes[place_of_line(line)] = Some(Delivery {
+        self.row = ROUTE_ROW;
+        self.next_line = line + 1;
+        self.routes[place_of_line(line)] = Some(Delivery {
             cpu: cpu as u8,
             vector,
         });
-        Ok(Head {
-            row: ROUTE_ROW,
-            next_line: line + 1,
-            routes,
-            ..self
-        })
+        Ok(())
     }
 }
 

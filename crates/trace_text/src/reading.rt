@@ -323,7 +323,7 @@ impl Stage {
         ensures valid { IfOk result (IsItem self.old) }
         ensures kept { OnOk result (IsStage self.new) }
     {
-        match *self {
+        match self {
             Stage::Opening => {
                 let head = first_line(&mut Words::new(line))?;
                 *self = Stage::Heading(head);
@@ -331,11 +331,11 @@ impl Stage {
             }
             Stage::Heading(head) => {
                 if line == b"begin".as_slice() {
+                    let header = head.header();
                     *self = Stage::Running(head.body());
-                    return Ok(Item::Begun(head.header()));
+                    return Ok(Item::Begun(header));
                 }
-                let head = head.line(&mut Words::new(line))?;
-                *self = Stage::Heading(head);
+                head.line(&mut Words::new(line))?;
                 Ok(Item::Part)
             }
             Stage::Running(_) | Stage::Ended => Err(Reason::Form),
