@@ -288,8 +288,8 @@ class Writer:
         return f"applied({', '.join([self.write(read[1], known), *given])})"
 
     def write_lam(self, read: tuple, known: dict[str, str]) -> str:
-        names = {it: self.fresh() for it in read[1]}
-        return f"(lambda {', '.join(names.values())}: {self.write(read[2], {**known, **names})})"
+        names = [(it, self.fresh()) for it in read[1]]
+        return f"(lambda {', '.join(it for _, it in names)}: {self.write(read[2], known | dict(names))})"
 
     def write_let(self, read: tuple, known: dict[str, str]) -> str:
         name = self.fresh()

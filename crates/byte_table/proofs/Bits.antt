@@ -1,11 +1,11 @@
 -- Flags of one byte, taken apart and put together.
-use Rattle.std.proofs.Common.{◌≡◌, ℕ, zero, suc, ◌+◌, ◌*◌, ◌/◌, ◌%◌, ◌^◌, ◌<◌, ◌≤◌, Bool, true, false, cond, eqb, refl, ap, ◌∙◌, arith}
+use Rattle.std.proofs.Common.{◌≡◌, ℕ, zero, suc, ◌+◌, ◌*◌, ◌/◌, ◌%◌, ◌^◌, ◌<◌, ◌≤◌, Bool, true, false, cond, eqb, [], ◌∷◌, refl, ap, ◌∙◌, arith}
 use Rattle.clk_units.specs.Bits.{bit, bit_value}
+use Rattle.byte_table.specs.Codes.{flags_byte}
 
 -- eight flags as a byte
 abbrev pub byte_with : Bool → Bool → Bool → Bool → Bool → Bool → Bool → Bool → ℕ
-byte_with b0 b1 b2 b3 b4 b5 b6 b7 =
-    bit_value b0 0 + bit_value b1 1 + bit_value b2 2 + bit_value b3 3 + bit_value b4 4 + bit_value b5 5 + bit_value b6 6 + bit_value b7 7
+byte_with b0 b1 b2 b3 b4 b5 b6 b7 = flags_byte 0 (b0 ∷ b1 ∷ b2 ∷ b3 ∷ b4 ∷ b5 ∷ b6 ∷ b7 ∷ [])
 
 -- the bits of a byte
 pub record HasBits (x : ℕ) (b0 b1 b2 b3 b4 b5 b6 b7 : Bool) : Type 0 where

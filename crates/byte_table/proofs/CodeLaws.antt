@@ -1,5 +1,5 @@
 -- The laws of each code: what is written is read as it was, and what is read is written as it is.
-use Rattle.std.proofs.Common.{◌≡◌, ℕ, zero, suc, ℤ, ◌+◌, ◌*◌, ◌/◌, ◌%◌, ◌^◌, ◌<◌, ◌≤◌, Bool, true, false, ltb, eqb, List, [], ◌∷◌, ◌++◌, length, take, drop, get_or, refl, ap, sym, ◌∙◌, arith}
+use Rattle.std.proofs.Common.{◌≡◌, ℕ, zero, suc, ℤ, ◌+◌, ◌-◌, ◌*◌, ◌/◌, ◌%◌, ◌^◌, ◌<◌, ◌≤◌, Bool, true, false, ltb, eqb, List, [], ◌∷◌, ◌++◌, length, take, drop, get_or, replicate, refl, ap, sym, ◌∙◌, arith}
 use Rattle.std.proofs.lemmas.Bool.{lt-ltb, ltb-true, eqb-true, eq-eqb, and_from, and_parts}
 use Rattle.std.proofs.lemmas.Int.{of_z-to_z, to_z-of_z}
 use Rattle.std.proofs.lemmas.List.{length-append, length-drop, length-take-le, get_or-take, get_or-drop, ext_get_or, drop_more}
@@ -8,10 +8,10 @@ use Rattle.std.specs.Int.{w8, byte_at as byte_of, bytes_low_first, cast_signed, 
 use Rattle.std.specs.Int.RustNames.{FitsSigned}
 use Rattle.byteorder.specs.Endian.{little_from, little_number, little_bytes}
 use Rattle.byteorder.specs.Numbers.{length-bytes_low_first, little_number-reads_back}
-use Rattle.byte_table.specs.Codes.{number_at, number_bytes, flag_byte, Code, number, byte, signed_byte, word, choice, flag, Flags, flags_byte, flags_of, flags}
-use Rattle.byte_table.specs.Codes.{Two, both, row_bytes, row_value, row_spelled}
+use Rattle.byte_table.specs.Codes.{number_at, number_bytes, flag_byte, Code, number, byte, signed_byte, word, choice, flag, flags_of, flags}
+use Rattle.byte_table.specs.Codes.{Two, both, row_bytes, row_value, row_spelled, rows}
 use Rattle.byte_table.proofs.FoldLaws.{AreBytes, next, split, take-more}
-use Rattle.byte_table.proofs.Bits.{HasBits-byte_with, byte_with-bits}
+use Rattle.byte_table.proofs.Bits.{byte_with, HasBits-byte_with, byte_with-bits}
 
 -- a value that is written is read as it was
 pub record IsWritten {A : Type 0} (c : Code A) (x : A) : Type 0 where
@@ -175,26 +175,16 @@ flag-code = record {
 }
 
 -- eight flags
-flags-again : (x : Flags) → flags_of (flags_byte x) ≡ x
-flags-again x =
-    let h = HasBits-byte_with x.bit_0 x.bit_1 x.bit_2 x.bit_3 x.bit_4 x.bit_5 x.bit_6 x.bit_7 in
-    λ i. record {
-      bit_0 = h.bit_0 i;
-      bit_1 = h.bit_1 i;
-      bit_2 = h.bit_2 i;
-      bit_3 = h.bit_3 i;
-      bit_4 = h.bit_4 i;
-      bit_5 = h.bit_5 i;
-      bit_6 = h.bit_6 i;
-      bit_7 = h.bit_7 i;
+pub flags-written : (b0 b1 b2 b3 b4 b5 b6 b7 : Bool) → IsWritten flags (b0 ∷ b1 ∷ b2 ∷ b3 ∷ b4 ∷ b5 ∷ b6 ∷ b7 ∷ [])
+flags-written b0 b1 b2 b3 b4 b5 b6 b7 =
+    let h = HasBits-byte_with b0 b1 b2 b3 b4 b5 b6 b7 in
+    record {
+      length = refl;
+      back = λ place bytes rest e.
+          ap (λ (y : ℕ). flags_of y) (byte-is place (byte_with b0 b1 b2 b3 b4 b5 b6 b7) bytes rest e)
+          ∙ (λ i. h.bit_0 i ∷ h.bit_1 i ∷ h.bit_2 i ∷ h.bit_3 i ∷ h.bit_4 i ∷ h.bit_5 i ∷ h.bit_6 i ∷ h.bit_7 i ∷ []);
+      spelled = λ place bytes rest e. refl;
     }
-
-pub flags-written : (x : Flags) → IsWritten flags x
-flags-written x = record {
-  length = refl;
-  back = λ place bytes rest e. ap (λ (y : ℕ). flags_of y) (byte-is place (flags_byte x) bytes rest e) ∙ flags-again x;
-  spelled = λ place bytes rest e. refl;
-}
 
 pub flags-code : IsCode flags
 flags-code = record {
@@ -273,6 +263,23 @@ row-same c law (suc n) place bytes others small there spelled =
     (λ i. law.same place bytes small (omega (arith, there)) parts.0 i
     ++ row-same c law n (place + c.size) bytes others small (omega (arith, there)) parts.1 i)
     ∙ take-more place c.size (c.size * n) bytes ∙ ap (λ (k : ℕ). take k (drop place bytes)) all
+
+pub rows-written : {A : Type 0} (n all : ℕ) (c : Code A) (blank : A) (xs : List A) → AllWritten c n xs → drop n xs ≡ replicate (all - n) blank
+    → IsWritten (rows n all c blank) xs
+unfolding rows
+rows-written n all c blank xs w others =
+    let r = row-is c n xs w in
+    record {
+      length = r.length;
+      back = λ place bytes rest e. (λ i. row_value c n place bytes ++ sym others i) ∙ r.back place bytes rest e;
+      spelled = r.spelled;
+    }
+
+pub rows-code : {A : Type 0} (n all : ℕ) (c : Code A) (blank : A) → IsCode c → IsCode (rows n all c blank)
+unfolding rows
+rows-code n all c blank law = record {
+  same = λ place bytes small there spelled. row-same c law n place bytes (replicate (all - n) blank) small there spelled;
+}
 
 pub row_spelled-each : {A : Type 0} (c : Code A) (bytes : List ℕ) → ((place : ℕ) → c.spelled place bytes ≡ true) → (n place : ℕ) → row_spelled c n place bytes ≡ true
 unfolding row_spelled

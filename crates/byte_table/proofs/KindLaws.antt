@@ -3,11 +3,11 @@ use Rattle.std.proofs.Common.{◌≡◌, ℕ, zero, suc, ◌+◌, ◌-◌, ◌*�
 use Rattle.std.proofs.lemmas.Bool.{lt-ltb, le-ltb, and_from, and_parts, cases_lt}
 use Rattle.std.proofs.lemmas.List.{length-append, get_or-drop, drop_more, drop-drop}
 use Rattle.byte_table.specs.Fold.{Field, size_of, write, read, rewrite_in, moved, fault_in, size_below, write_below, read_below, fault_below, all_hold, hold_below}
-use Rattle.byte_table.specs.Codes.{Code, row_bytes, row_value, row_spelled}
-use Rattle.byte_table.specs.Kinds.{Faults, one_fault, plain, row, blocks, elsewhere}
+use Rattle.byte_table.specs.Codes.{Code}
+use Rattle.byte_table.specs.Kinds.{Faults, one_fault, plain, blocks, elsewhere}
 use Rattle.byte_table.proofs.FoldLaws.{AreBytes, next, split, room, take-more, IsHere, AllHere, IsSpelled, AllSpelled, or_else-none, or_else-both, length-write}
 use Rattle.byte_table.proofs.FoldLaws.{read-write, fault-write, rewritten, AllHold, hold}
-use Rattle.byte_table.proofs.CodeLaws.{IsWritten, IsCode, AllWritten, row-is, row-same, number-code, word-code, byte-code, signed_byte-code, flag-code, flags-code, both-code}
+use Rattle.byte_table.proofs.CodeLaws.{IsWritten, IsCode, rows-code, number-code, word-code, byte-code, signed_byte-code, flag-code, flags-code, both-code}
 
 -- the fault of one field: short, invalid, or none
 pub one_fault-short : {F : Type 0} (faults : Faults F) (size : ℕ) (valid : Bool) (place : ℕ) (bytes : List ℕ) → length bytes < place + size
@@ -55,33 +55,6 @@ plain-spelled faults c get put valid law = record {
       let parts = one_fault-none faults c.size (c.spelled place bytes && valid b p) place bytes none in
       let is = and_parts (c.spelled place bytes) (valid b p) parts.1 in
       (parts.0, law.same place bytes small parts.0 is.0, is.1);
-}
-
--- a row of values
-pub row-here : {F B P A : Type 0} (faults : Faults F) (n all : ℕ) (c : Code A) (blank : A) (get : P → List A) (put : List A → P → P) (valid : B → P → Bool)
-    (b : B) (p : P) (bytes : List ℕ) → AllWritten c n (get p) → drop n (get p) ≡ replicate (all - n) blank → valid b p ≡ true
-    → IsHere (row faults n all c blank get put valid) b p bytes
-unfolding row
-row-here {A = A} faults n all c blank get put valid b p bytes w others is =
-    let r = row-is c n (get p) w in
-    record {
-      size_is = r.length;
-      back = λ place rest q e.
-          (λ i. put (row_value c n place bytes ++ sym others i) q) ∙ ap (λ (xs : List A). put xs q) (r.back place bytes rest e);
-      none = λ place rest le e.
-          one_fault-is faults (c.size * n) (row_spelled c n place bytes && valid b p) place bytes
-          (room place (c.size * n) bytes (row_bytes c n (get p)) rest r.length le e) true
-          (and_from _ _ (r.spelled place bytes rest e) is);
-    }
-
-pub row-spelled : {F B P A : Type 0} (faults : Faults F) (n all : ℕ) (c : Code A) (blank : A) (get : P → List A) (put : List A → P → P) (valid : B → P → Bool)
-    → IsCode c → IsSpelled (row faults n all c blank get put valid)
-unfolding row
-row-spelled faults n all c blank get put valid law = record {
-  spelled = λ b p place bytes small there none.
-      let parts = one_fault-none faults (c.size * n) (row_spelled c n place bytes && valid b p) place bytes none in
-      let is = and_parts (row_spelled c n place bytes) (valid b p) parts.1 in
-      (parts.0, row-same c law n place bytes (replicate (all - n) blank) small parts.0 is.0, is.1);
 }
 
 -- a value that another field holds, at a place of its own
@@ -210,4 +183,4 @@ hold-each fields blank b ts k (suc n) h j low high =
     subst (λ (m : ℕ). AllHold (fields m) b (get_or ts m blank)) is (all-hold (fields k) b (get_or ts k blank) parts.0)) (cases_lt k j)
 
 -- by these a search finds that all fields of a list are spelled
-pub ruleset spells = (plain-spelled, row-spelled, elsewhere-spelled, number-code, word-code, byte-code, signed_byte-code, flag-code, flags-code, both-code)
+pub ruleset spells = (plain-spelled, elsewhere-spelled, rows-code, number-code, word-code, byte-code, signed_byte-code, flag-code, flags-code, both-code)

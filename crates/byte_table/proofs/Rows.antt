@@ -1,9 +1,9 @@
 -- Rows by computing: codes, and a table of three fields of a record of a number, a flag and two
 -- bytes.
 use Rattle.std.proofs.Common.{◌≡◌, ℕ, negsuc, Bool, true, false, ltb, List, [], ◌∷◌, get_or, Option, Some, None, refl}
-use Rattle.byte_table.specs.Codes.{number_at, number_bytes, number, byte, signed_byte, flag, flags_byte, flags_of, row_bytes, row_value, row_spelled}
+use Rattle.byte_table.specs.Codes.{number_at, number_bytes, number, byte, signed_byte, flag, flags_byte, flags_of, row_bytes, row_value, row_spelled, rows}
 use Rattle.byte_table.specs.Fold.{Field, write, read, fault_in, size_of}
-use Rattle.byte_table.specs.Kinds.{Faults, plain, row}
+use Rattle.byte_table.specs.Kinds.{Faults, plain}
 
 number-lowest-first : number_bytes 2 0x1234 ≡ 0x34 ∷ 0x12 ∷ []
 unfolding number_bytes
@@ -23,7 +23,7 @@ signed-255 = refl
 flag-2 : flag.spelled 0 (2 ∷ []) ≡ false
 flag-2 = refl
 
-flags-lowest-first : flags_byte (flags_of 0x85) ≡ 0x85
+flags-lowest-first : flags_byte 0 (flags_of 0x85) ≡ 0x85
 flags-lowest-first = refl
 
 record Pair : Type 0 where
@@ -39,7 +39,7 @@ abbrev table : List (Field (List ℕ) Pair Pair)
 table =
     plain faults (number 2) (λ p. p.x) (λ x p. record p { x = x }) (λ b p. ltb p.x 1000)
     ∷ plain faults flag (λ p. p.on) (λ x p. record p { on = x }) (λ b p. true)
-    ∷ row faults 2 3 byte 0 (λ p. p.ys) (λ ys p. record p { ys = ys }) (λ b p. ltb (get_or p.ys 0 0) 9)
+    ∷ plain faults (rows 2 3 byte 0) (λ p. p.ys) (λ ys p. record p { ys = ys }) (λ b p. ltb (get_or p.ys 0 0) 9)
     ∷ []
 
 abbrev blank : Pair
@@ -49,38 +49,38 @@ abbrev example : Pair
 example = record { x = 0x102; on = true; ys = 5 ∷ 6 ∷ 0 ∷ [] }
 
 size : size_of table ≡ 5
-unfolding plain row
+unfolding plain rows
 size = refl
 
 written : write table example ≡ 2 ∷ 1 ∷ 1 ∷ 5 ∷ 6 ∷ []
-unfolding plain row number_bytes row_bytes
+unfolding plain rows number_bytes row_bytes
 written = refl
 
 back : read table 1 (9 ∷ 2 ∷ 1 ∷ 1 ∷ 5 ∷ 6 ∷ []) blank ≡ example
-unfolding plain row number_at row_value
+unfolding plain rows number_at row_value
 back = refl
 
 abbrev fault_of : List ℕ → Option (List ℕ)
 fault_of bytes = fault_in table (read table 0 bytes blank) (read table 0 bytes blank) 0 bytes
 
 none : fault_of (2 ∷ 1 ∷ 1 ∷ 5 ∷ 6 ∷ []) ≡ None
-unfolding plain row number_at row_value row_spelled
+unfolding plain rows number_at row_value row_spelled
 none = refl
 
 -- a field that is cut is short at the length, whatever the condition says of what is there
 short : fault_of (2 ∷ 1 ∷ 1 ∷ 99 ∷ []) ≡ Some (0 ∷ 4 ∷ [])
-unfolding plain row number_at row_value row_spelled
+unfolding plain rows number_at row_value row_spelled
 short = refl
 
 -- the first of two faults
 first : fault_of (0 ∷ 4 ∷ 2 ∷ 5 ∷ 6 ∷ []) ≡ Some (1 ∷ 0 ∷ [])
-unfolding plain row number_at row_value row_spelled
+unfolding plain rows number_at row_value row_spelled
 first = refl
 
 spelling : fault_of (2 ∷ 1 ∷ 2 ∷ 5 ∷ 6 ∷ []) ≡ Some (1 ∷ 2 ∷ [])
-unfolding plain row number_at row_value row_spelled
+unfolding plain rows number_at row_value row_spelled
 spelling = refl
 
 condition : fault_of (2 ∷ 1 ∷ 1 ∷ 9 ∷ 6 ∷ []) ≡ Some (1 ∷ 3 ∷ [])
-unfolding plain row number_at row_value row_spelled
+unfolding plain rows number_at row_value row_spelled
 condition = refl

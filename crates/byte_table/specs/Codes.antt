@@ -1,5 +1,6 @@
 -- How values are spelled as bytes (own): numbers with their lowest byte first.
-use Rattle.std.specs.Prelude.{ℕ, zero, suc, ℤ, ◌+◌, ◌==◌, nat_lt, Bool, true, ◌&&◌, List, [], ◌∷◌, ◌++◌, drop, slice_index, ⊤}
+use Rattle.std.specs.Prelude.{ℕ, zero, suc, ℤ, ◌+◌, ◌-◌, ◌*◌, ◌==◌, nat_lt, Bool, true, ◌&&◌, List, [], ◌∷◌, ◌++◌, map}
+use Rattle.std.specs.Prelude.{drop, slice_index, replicate, ⊤}
 use Rattle.std.specs.Int.{w8, cast_signed, cast_unsigned}
 use Rattle.byteorder.specs.Endian.{little_number, little_bytes}
 use Rattle.clk_units.specs.Bits.{bit, bit_value}
@@ -38,30 +39,24 @@ pub record Code (A : Type 0) : Type 0 where
 
 -- a number of n bytes
 abbrev pub number : ℕ → Code ℕ
-number n = record {
-  size = n;
-  bytes = λ x. number_bytes n x;
-  value = λ place bytes. number_at n place bytes;
-  spelled = λ place bytes. true;
+number n = record { size = n; bytes = number_bytes n; value = number_at n; spelled = λ _ _. true }
+
+-- a value in one byte: its byte, the value of a byte, and whether a byte is that of a value
+abbrev pub one_byte : {A : Type 0} → (A → ℕ) → (ℕ → A) → (ℕ → Bool) → Code A
+one_byte byte_of value_of valid = record {
+  size = 1;
+  bytes = λ x. byte_of x ∷ [];
+  value = λ place bytes. value_of (byte_at place bytes);
+  spelled = λ place bytes. valid (byte_at place bytes);
 }
 
 -- a number of one byte
 abbrev pub byte : Code ℕ
-byte = record {
-  size = 1;
-  bytes = λ x. x ∷ [];
-  value = λ place bytes. byte_at place bytes;
-  spelled = λ place bytes. true;
-}
+byte = one_byte (λ x. x) (λ x. x) (λ _. true)
 
 -- a signed number of one byte, in two's complement
 abbrev pub signed_byte : Code ℤ
-signed_byte = record {
-  size = 1;
-  bytes = λ x. cast_unsigned w8 x ∷ [];
-  value = λ place bytes. cast_signed w8 (byte_at place bytes);
-  spelled = λ place bytes. true;
-}
+signed_byte = one_byte (cast_unsigned w8) (cast_signed w8) (λ _. true)
 
 -- the number x, which has to be there
 abbrev pub word : ℕ → ℕ → Code ⊤
@@ -74,63 +69,24 @@ word n x = record {
 
 -- one of n values, by its number, in one byte
 abbrev pub choice : {A : Type 0} → ℕ → (A → ℕ) → (ℕ → A) → Code A
-choice n number_of of_number = record {
-  size = 1;
-  bytes = λ x. number_of x ∷ [];
-  value = λ place bytes. of_number (byte_at place bytes);
-  spelled = λ place bytes. nat_lt (byte_at place bytes) n;
-}
+choice n number_of of_number = one_byte number_of of_number (λ x. nat_lt x n)
 
--- a flag in one byte
+-- a flag in one byte, 00 or 01
 abbrev pub flag : Code Bool
-flag = record {
-  size = 1;
-  bytes = λ x. flag_byte x ∷ [];
-  value = λ place bytes. flag_at place bytes;
-  spelled = λ place bytes. flag_valid place bytes;
-}
+flag = one_byte flag_byte (λ x. x == 1) (λ x. nat_lt x 2)
 
--- eight flags, and their byte, the first its lowest bit
-pub record Flags : Type 0 where
-  pub bit_0 : Bool
-  pub bit_1 : Bool
-  pub bit_2 : Bool
-  pub bit_3 : Bool
-  pub bit_4 : Bool
-  pub bit_5 : Bool
-  pub bit_6 : Bool
-  pub bit_7 : Bool
+-- the byte of flags, the first of them bit k
+abbrev pub flags_byte : ℕ → List Bool → ℕ
+flags_byte k [] = 0
+flags_byte k (b ∷ bs) = bit_value b k + flags_byte (suc k) bs
 
--- the byte of eight flags, bit 0 first
-abbrev pub flags_byte : Flags → ℕ
-flags_byte x =
-    bit_value x.bit_0 0 + bit_value x.bit_1 1 + bit_value x.bit_2 2 + bit_value x.bit_3 3
-    + bit_value x.bit_4 4
-    + bit_value x.bit_5 5
-    + bit_value x.bit_6 6
-    + bit_value x.bit_7 7
-
--- the flags of a byte
-abbrev pub flags_of : ℕ → Flags
-flags_of x = record {
-  bit_0 = bit 0 x;
-  bit_1 = bit 1 x;
-  bit_2 = bit 2 x;
-  bit_3 = bit 3 x;
-  bit_4 = bit 4 x;
-  bit_5 = bit 5 x;
-  bit_6 = bit 6 x;
-  bit_7 = bit 7 x;
-}
+-- the eight flags of a byte, bit 0 first
+abbrev pub flags_of : ℕ → List Bool
+flags_of x = map (λ k. bit k x) (0 ∷ 1 ∷ 2 ∷ 3 ∷ 4 ∷ 5 ∷ 6 ∷ 7 ∷ [])
 
 -- eight flags in a byte
-abbrev pub flags : Code Flags
-flags = record {
-  size = 1;
-  bytes = λ x. flags_byte x ∷ [];
-  value = λ place bytes. flags_of (byte_at place bytes);
-  spelled = λ place bytes. true;
-}
+abbrev pub flags : Code (List Bool)
+flags = one_byte (flags_byte 0) flags_of (λ _. true)
 
 -- two values, one after the other
 pub record Two (A C : Type 0) : Type 0 where
@@ -149,15 +105,13 @@ both a c = record {
 
 -- the items of two lists, side by side
 abbrev pub pairs : {A C : Type 0} → List A → List C → List (Two A C)
-pairs [] ys = []
-pairs (x ∷ xs) [] = []
 pairs (x ∷ xs) (y ∷ ys) = record { first = x; second = y } ∷ pairs xs ys
+pairs _ _ = []
 
 -- the first n values of a list
 unfoldable pub row_bytes : {A : Type 0} → Code A → ℕ → List A → List ℕ
-row_bytes c zero xs = []
-row_bytes c (suc n) [] = []
 row_bytes c (suc n) (x ∷ xs) = c.bytes x ++ row_bytes c n xs
+row_bytes c _ _ = []
 
 -- the values of n fields of one kind, one after another from a place on
 unfoldable pub row_value : {A : Type 0} → Code A → ℕ → ℕ → List ℕ → List A
@@ -168,3 +122,12 @@ row_value c (suc n) place bytes = c.value place bytes ∷ row_value c n (place +
 unfoldable pub row_spelled : {A : Type 0} → Code A → ℕ → ℕ → List ℕ → Bool
 row_spelled c zero place bytes = true
 row_spelled c (suc n) place bytes = c.spelled place bytes && row_spelled c n (place + c.size) bytes
+
+-- the first n values of a list of `all`, one after another; the others are blank
+unfoldable pub rows : {A : Type 0} → ℕ → ℕ → Code A → A → Code (List A)
+rows n all c blank = record {
+  size = c.size * n;
+  bytes = row_bytes c n;
+  value = λ place bytes. row_value c n place bytes ++ replicate (all - n) blank;
+  spelled = row_spelled c n;
+}

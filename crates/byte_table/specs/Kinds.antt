@@ -3,7 +3,6 @@ use Rattle.std.specs.Prelude.{
   ℕ,
   ◌+◌,
   ◌-◌,
-  ◌*◌,
   nat_lt,
   Bool,
   true,
@@ -18,7 +17,7 @@ use Rattle.std.specs.Prelude.{
   Some,
   None,
 }
-use Rattle.byte_table.specs.Codes.{Code, row_bytes, row_value, row_spelled}
+use Rattle.byte_table.specs.Codes.{Code}
 use Rattle.byte_table.specs.Fold.{
   Field,
   size_below,
@@ -53,20 +52,6 @@ plain faults c get put valid = record {
   holds = valid;
   fault = λ b p place bytes.
       one_fault faults c.size (c.spelled place bytes && valid b p) place bytes;
-}
-
--- the first n values of a list of `all`, as one field; the others are blank
-unfoldable pub row : {F B P A : Type 0} → Faults F → ℕ → ℕ → Code A → A → (P → List A)
-    → (List A → P → P) → (B → P → Bool) → Field F B P
-row faults n all c blank get put valid = record {
-  size = c.size * n;
-  get = λ p. row_bytes c n (get p);
-  put = λ place bytes p. put (row_value c n place bytes ++ replicate (all - n) blank) p;
-  again = λ place bytes. row_bytes c n (row_value c n place bytes ++ replicate (all - n) blank);
-  move = λ p q. put (get p) q;
-  holds = valid;
-  fault = λ b p place bytes.
-      one_fault faults (c.size * n) (row_spelled c n place bytes && valid b p) place bytes;
 }
 
 -- the first n items of a list of `all`, item k by the fields of k; the others are blank

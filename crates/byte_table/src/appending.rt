@@ -1,5 +1,5 @@
 //! Bytes and numbers, appended to bytes.
-ghost use Rattle.std.specs.Prelude.{◌≡◌, ◌≤◌, ◌∷◌, [], ◌++◌, OnOk, if◌then◌else◌, slice_index_or, false};
+ghost use Rattle.std.specs.Prelude.{◌≡◌, ◌≤◌, ◌∷◌, [], ◌++◌, OnOk, if◌then◌else◌, slice_index_or, false, map};
 ghost use Rattle.byte_table.specs.Codes.{number_bytes, flag_byte, flags_byte};
 
 use clk_units::NoMemory;
@@ -53,16 +53,8 @@ fn value_if(flag: bool, value: u8) -> u8
 
 /// The byte of eight flags, the first its lowest bit.
 pub fn flags_byte(flags: &[bool; 8]) -> u8
-    ensures { result ≡ flags_byte (record {
-      bit_0 = slice_index_or flags.now 0 false;
-      bit_1 = slice_index_or flags.now 1 false;
-      bit_2 = slice_index_or flags.now 2 false;
-      bit_3 = slice_index_or flags.now 3 false;
-      bit_4 = slice_index_or flags.now 4 false;
-      bit_5 = slice_index_or flags.now 5 false;
-      bit_6 = slice_index_or flags.now 6 false;
-      bit_7 = slice_index_or flags.now 7 false;
-    }) }
+    ensures { result ≡ flags_byte 0
+        (map (λ k. slice_index_or flags.now k false) (0 ∷ 1 ∷ 2 ∷ 3 ∷ 4 ∷ 5 ∷ 6 ∷ 7 ∷ [])) }
 {
     value_if(flags[0], 1)
         + value_if(flags[1], 2)

@@ -3,7 +3,7 @@ use Rattle.save_state.proofs.Names.{or_else, fault_in, one_fault, Row, StateFaul
 use Rattle.save_state.proofs.Names.{ltb, List, [], ◌∷◌, length, Option, Some, None, refl, sym, ◌∙◌, BoardParts, Field, apic, scale_for, reference, field}
 use Rattle.save_state.proofs.Names.{processor_rows, ◌⨾◌, row_spelled-each, up_allowed, tsc, page, processor, wall, rises, Message, message, version_valid}
 use Rattle.save_state.proofs.Names.{published_valid, apic_timer, apic_line, magic, khz_valid, host_valid, head, host, guest, policies, front, clock, registers}
-use Rattle.save_state.proofs.Names.{counter, timer, line, plain, row, elsewhere, Apic, Magic, Version, Invalid, legacy_rises_valid, routed_rises_valid}
+use Rattle.save_state.proofs.Names.{counter, timer, line, plain, rows, elsewhere, Apic, Magic, Version, Invalid, legacy_rises_valid, routed_rises_valid}
 use Rattle.save_state.proofs.Names.{processors_of, LAST_FORMAT, SLEW_MAX_NS, now_of, byte_at, number_at, flag_valid, number, byte, initial_valid, current_valid}
 use Rattle.save_state.proofs.Names.{phase_valid, deadline_valid, HvParts, ProcessorParts, MOST_ACCESSES, has_messages, cycle_valid, TickParts, queue_valid}
 use Rattle.save_state.proofs.Names.{lost_valid, mul_for, shift_for, lvt_valid, divide_valid, latched_status_valid, TimerParts, config_valid, comparator_valid}
@@ -88,7 +88,7 @@ wall-rows b p bytes = rows-are wall b b p bytes _ (is refl refl ⨾ is refl refl
 pub clock-rows : (b : BoardParts) (bytes : List ℕ)
     → fault_in clock b b 121 bytes ≡ row_fault bytes 121 (field 1 (flag_valid 121 bytes) ∷ field 1 (index_valid b.rtc) ∷ field 128 (bytes_valid b.rtc)
     ∷ field 2 (divider_valid b.rtc) ∷ field 1 (flag_valid 253 bytes && cycle_valid b.rtc) ∷ [])
-unfolding clock plain row
+unfolding clock plain rows
 clock-rows b bytes =
     rows-are clock b b 121 bytes _ (is refl (grind arith) ⨾ is refl refl
     ⨾ is refl (ap (λ (s : Bool). one_fault (faults_of Invalid) 128 (s && bytes_valid b.rtc) 123 bytes) (row_spelled-each byte bytes (λ place. refl) 128 123))
@@ -114,7 +114,7 @@ head-rows b bytes =
 pub rises-rows : (counts : ℕ) (b : BoardParts) (p : ℕ) (bytes : List ℕ)
     → fault_in (rises counts) b b p bytes ≡ row_fault bytes p
     (field (8 * counts) (legacy_rises_valid b && (has_messages b.format || routed_rises_valid b)) ∷ [])
-unfolding rises row
+unfolding rises rows plain
 rises-rows counts b p bytes =
     let all = legacy_rises_valid b && (has_messages b.format || routed_rises_valid b) in
     rows-are (rises counts) b b p bytes _

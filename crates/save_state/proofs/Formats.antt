@@ -6,7 +6,7 @@ use Rattle.save_state.specs.Fields.{counts_of, references_of, messages_of, count
 use Rattle.save_state.specs.Fields.{message, version_valid, published_valid, head, host, guest, policies, counters, clock, registers, timers, lines, rises}
 use Rattle.save_state.specs.Fields.{wall, processors, apics, references, messages}
 use Rattle.{board_types.specs.Setup.timers_of, board_types.specs.Setup.processors_of, board_core.specs.Apics.apics_of, byte_table.specs.Fold.size_of}
-use Rattle.{byte_table.specs.Fold.size_below, byte_table.specs.Kinds.plain, byte_table.specs.Kinds.elsewhere, byte_table.specs.Kinds.row}
+use Rattle.{byte_table.specs.Fold.size_below, byte_table.specs.Kinds.plain, byte_table.specs.Kinds.elsewhere, byte_table.specs.Codes.rows}
 use Rattle.{byte_table.specs.Kinds.blocks, byte_table.proofs.Loops.size-below, irq_edges.specs.Lines.line_numbers, irq_edges.specs.Lines.level_of}
 use Rattle.{board_devices.specs.Lines.levels, board_devices.specs.declared.parts.DeviceParts.DeviceParts, save_state.specs.Reading.board_in}
 
@@ -123,7 +123,7 @@ block_lists = 0
 
 -- the lists with the kinds of their fields, and what is read of bytes; a tick line and what is in a block stay closed
 unfoldable pub layout : ℕ
-unfolding lists board_in counter timer plain row blocks
+unfolding lists board_in counter timer plain rows blocks
 layout = 0
 
 -- all of it

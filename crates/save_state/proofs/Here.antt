@@ -4,7 +4,7 @@ use Rattle.save_state.proofs.Names.{blocks-spelled, spells, policy, counter, no_
 use Rattle.save_state.proofs.Names.{policy_byte, policy_of, no_line, no_hv, no_processor, plain, elsewhere, lists, block_lists, page, references, references_of}
 use Rattle.save_state.proofs.Names.{messages, messages_of, BoardFits, IsPit, here-joined, tsc, clock, registers, timers, same, up_allowed, lines, counts_of}
 use Rattle.save_state.proofs.Names.{rises, wall, processors, apics, rise_valid, routed_rises_valid, magic, khz_valid, policy_place, head, host, guest, policies}
-use Rattle.save_state.proofs.Names.{counters, number-written, word-written, byte-written, flag-written, all-written, plain-here, row-here, blocks-here}
+use Rattle.save_state.proofs.Names.{counters, number-written, word-written, byte-written, flag-written, all-written, plain-here, rows-written, blocks-here}
 use Rattle.save_state.proofs.Names.{drop-blank, devices_in, processor_at, byte_at, number, byte, write, ◌⨾◌, AllHere, next-write, timers_of, has_messages}
 use Rattle.save_state.proofs.Names.{counts_rtc, IsTimerLine, line_at, apics_of, IsBoard, timer_at, IsPlace, Policy, Discard, Delay, Slew, BoardParts, IsKhz}
 use Rattle.save_state.proofs.Names.{RANGE_NS, time_at, Anchor, RtcParts, pf_of, IsRtc, bytes_valid, divider_valid, cycle_valid, IsTimer, sym, subst, ◌∙◌}
@@ -107,8 +107,9 @@ clock-here b bytes is fits =
     let r = is.devices.rtc in
     plain-here _ _ _ _ _ b b bytes (flag-written b.pit.speaker) refl
     ⨾ plain-here _ _ _ _ _ b b bytes (byte-written b.rtc.index) (le-leb b.rtc.index 0x7f r.index)
-    ⨾ row-here _ 128 128 byte 0 _ _ _ b b bytes (all-written byte 0 128 b.rtc.bytes (omega (arith, r.places)) (λ k less. byte-written _))
-    (drop_all 128 b.rtc.bytes (omega (arith, r.places))) (bytes_valid-is b.rtc r)
+    ⨾ plain-here _ _ _ _ _ b b bytes (rows-written 128 128 byte 0 b.rtc.bytes
+    (all-written byte 0 128 b.rtc.bytes (omega (arith, r.places)) (λ k less. byte-written _)) (drop_all 128 b.rtc.bytes (omega (arith, r.places))))
+    (bytes_valid-is b.rtc r)
     ⨾ plain-here _ _ _ _ _ b b bytes (number-written 2 b.rtc.d fits.numbers.divider) (divider_valid-is b.rtc r)
     ⨾ plain-here _ _ _ _ _ b b bytes (flag-written b.rtc.cycle) (cycle_valid-is b.rtc r) ⨾ tt
   where
@@ -232,9 +233,9 @@ unfolding rises
 rises-here b bytes is fits =
     let n : ℕ = counts_of b.format in
     let ok : (k : ℕ) → k < 6 → rise_valid b k ≡ true = rise_valid-is b is in
-    row-here _ n 6 (number 8) 0 _ _ _ b b bytes
+    plain-here _ _ _ _ _ b b bytes (rows-written n 6 (number 8) 0 b.rises
     (all-written (number 8) 0 n b.rises (omega (arith, counts_few b.format, fits.back.rises.places)) (λ k less. number-written 8 _ (fits.back.rises.each k)))
-    (drop-blank 0 n 6 b.rises fits.back.rises.places (counts_few b.format) (λ j le less. is.joined.rises.none (first b.format j le less) j))
+    (drop-blank 0 n 6 b.rises fits.back.rises.places (counts_few b.format) (λ j le less. is.joined.rises.none (first b.format j le less) j)))
     (and_from _ _ (and_from _ _ (ok 0 (omega arith)) (ok 1 (omega arith))) (or_right (has_messages b.format) (routed_rises_valid b) (routed_valid-is b is)))
     ⨾ tt
   where

@@ -16,12 +16,12 @@ pub use Rattle.board_types.specs.declared.setup.TheConstants.{HV_FORMAT, LAST_FO
 pub use Rattle.board_core.specs.Conditions.{AreApics, IsBoard, IsProcessor, flags_valid as page_flags_valid, IsHv, IsWall, AreProcessors, AreRises}
 pub use Rattle.byte_table.specs.Codes.{pairs, number, byte_at, Two, byte, flag_valid, flag_at}
 pub use Rattle.byte_table.specs.Fold.{moved, read_below, size_of, or_else, fault_in, write, write_below, Field, fault_below, read}
-pub use Rattle.byte_table.proofs.CodeLaws.{number-written, byte-written, signed_byte-written, IsWritten, flag-written, flags-written, both-written}
+pub use Rattle.byte_table.proofs.CodeLaws.{number-written, byte-written, signed_byte-written, IsWritten, flag-written, flags-written, both-written, rows-written}
 pub use Rattle.byte_table.proofs.CodeLaws.{choice-written, number_at-is, length-number, row_spelled-each, IsCode, choice-code, word-written, all-written}
 pub use Rattle.byte_table.proofs.FoldLaws.{◌⨾◌, AllHere, AllHold, all_here-append, all_hold-split, AreBytes, hold, rewritten, or_else-none, or_else-both}
 pub use Rattle.byte_table.proofs.FoldLaws.{or_else-end, size_of-append, fault-next, fault-joined, next, AllKeep, length-write, read-write, fault-write}
 pub use Rattle.byte_table.proofs.FoldLaws.{rewrite_in-keep, AllSpelled, next-write, here-joined, EachHolds, hold-joined, written-then, write_append}
-pub use Rattle.byte_table.proofs.KindLaws.{plain-here, blocks-here, hold-each, elsewhere-here, AreBlocks, blocks-spelled, spells, row-here}
+pub use Rattle.byte_table.proofs.KindLaws.{plain-here, blocks-here, hold-each, elsewhere-here, AreBlocks, blocks-spelled, spells}
 pub use Rattle.byte_table.proofs.Loops.{faults-some, drop-blank, read_below-at, read_below-after, length-read_below, row_value-after, length-row_value}
 pub use Rattle.byte_table.proofs.Loops.{FaultsFrom, faults-none, IsFilled, filled-none, filled-more, row-filled, read-filled, AreWritten, written-one, row-more}
 pub use Rattle.byte_table.proofs.Pairs.{pairs-at, length-pairs, pairs-halves, firsts-pairs, seconds-pairs, part-filled}
@@ -58,7 +58,7 @@ unfoldable pub use Rattle.save_state.specs.Fields.{apic_timer, apic_line, apics,
 unfoldable pub use Rattle.save_state.specs.Fields.{processors, reference, references, message, messages, counter, head, host, guest, policies}
 unfoldable pub use Rattle.{host_counter.specs.Time.time_at, lapic_timer.specs.Parts.divisor, pvclock_page.specs.Scale.shift_for}
 unfoldable pub use Rattle.{board_devices.specs.Lines.levels, byte_table.specs.Kinds.plain, byte_table.specs.Kinds.blocks, byte_table.specs.Kinds.elsewhere}
-unfoldable pub use Rattle.{byte_table.specs.Kinds.row, save_state.specs.Reading.board_in, save_state.specs.Table.fault_of, save_state.specs.Writing.bytes_of}
+unfoldable pub use Rattle.{byte_table.specs.Codes.rows, save_state.specs.Reading.board_in, save_state.specs.Table.fault_of, save_state.specs.Writing.bytes_of}
 unfoldable pub use Rattle.byte_table.specs.Codes.{number_bytes, number_at, row_bytes}
 unfoldable pub use Rattle.save_state.{specs.private.Parts.devices_fault, specs.private.Parts.rest_fault, specs.private.Rows.row_fault}
 unfoldable pub use Rattle.save_state.{specs.private.Rows.processor_rows, proofs.Formats.lists, proofs.Formats.layout, proofs.Formats.block_lists}

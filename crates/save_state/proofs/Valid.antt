@@ -3,7 +3,7 @@ use Rattle.save_state.proofs.Names.{LAST_FORMAT, messages, messages_of, devices,
 use Rattle.save_state.proofs.Names.{references_of, message, no_message, message_pairs, no_counter, counters, clock, registers, timer, timers, same, up_allowed}
 use Rattle.save_state.proofs.Names.{line_ticks, line_policy, line, lines, counts_of, hold-joined, hold-each, rise_valid, legacy_rises_valid, routed_rises_valid}
 use Rattle.save_state.proofs.Names.{head, host, guest, policies, front, counter, AreProcessors, AreRises, IsHv, IsBoard, IsProcessor-none, IsHv-none, plain}
-use Rattle.save_state.proofs.Names.{row, blocks, AllHold, all_hold-split, EachHolds, AreDevices, one_if, devices_in, now_of, no_processor, processor_at}
+use Rattle.save_state.proofs.Names.{rows, blocks, AllHold, all_hold-split, EachHolds, AreDevices, one_if, devices_in, now_of, no_processor, processor_at}
 use Rattle.save_state.proofs.Names.{apics_of, no_hv, IsWall, IsProcessor, timers_of, has_messages, levels, counts_rtc, no_line, line_at, IsTimerLine, timer_at}
 use Rattle.save_state.proofs.Names.{Policy, TickParts, IsTickLine, BoardParts, HvParts, ProcessorParts, HV_FORMAT, IsTimer, IsHpet, IsPlace, no_timer}
 use Rattle.save_state.proofs.Names.{register_d, pf_of, af_of, uf_of, flags_byte, divider_of, IsRtc, bytes_valid, divider_valid, cycle_valid, TimerParts}
@@ -54,7 +54,7 @@ bytes-valid : (r : RtcParts) → bytes_valid r ≡ true
 bytes-valid r e = (grind arith, grind arith, grind arith)
 
 clock-valid : (b : BoardParts) → length b.rtc.bytes ≡ 128 → AllHold clock b b → IsRtc b.rtc
-unfolding clock plain row
+unfolding clock plain rows
 clock-valid b long h =
     let r : RtcParts = b.rtc in
     let bytes = bytes-valid r h.1.1.0 in
@@ -211,7 +211,7 @@ hv-valid b is some h = elim (cases_lt b.format HV_FORMAT) [
 -- the counts of rises
 routed-valid : (b : BoardParts) → AllHold (rises (counts_of b.format)) b b → AllHold (messages (messages_of b.format)) b b
     → (legacy_rises_valid b ≡ true) × (routed_rises_valid b ≡ true)
-unfolding rises messages message plain row blocks
+unfolding rises messages message plain rows blocks
 routed-valid b h h' =
     let parts = and_parts (legacy_rises_valid b) (has_messages b.format || routed_rises_valid b) h.0 in (
       parts.0,

@@ -38,10 +38,10 @@ use Rattle.board_core.specs.Apics.{apics_of}
 use Rattle.board_core.specs.Tsc.{no_processor}
 use Rattle.board_core.specs.Hv.{no_hv}
 use Rattle.board_core.specs.Conditions.{flags_valid as page_flags_valid}
-use Rattle.byte_table.specs.Codes.{Code, number, byte, signed_byte, word, choice, flag, Flags}
-use Rattle.byte_table.specs.Codes.{flags, both, Two, pairs}
+use Rattle.byte_table.specs.Codes.{Code, number, byte, signed_byte, word, choice, flag}
+use Rattle.byte_table.specs.Codes.{flags, both, Two, pairs, rows}
 use Rattle.byte_table.specs.Fold.{Field}
-use Rattle.byte_table.specs.Kinds.{Faults, plain, row, blocks, elsewhere}
+use Rattle.byte_table.specs.Kinds.{Faults, plain, blocks, elsewhere}
 use Rattle.save_state.specs.Rises.{legacy_rises_valid, routed_rises_valid}
 use Rattle.save_state.specs.declared.fault.StateFault.{StateFault}
 use Rattle.save_state.specs.declared.fault.StateKind.{StateKind}
@@ -142,31 +142,24 @@ guest =
 unfoldable pub policies : Fields BoardParts
 policies = policy_field 0 ∷ policy_field 1 ∷ policy_field 2 ∷ []
 
--- the flags of a counter
-abbrev pub flags_from : CounterParts → Flags
-flags_from c = record {
-  bit_0 = c.null;
-  bit_1 = c.out;
-  bit_2 = c.gate;
-  bit_3 = c.full;
-  bit_4 = c.live;
-  bit_5 = c.armed;
-  bit_6 = c.trig;
-  bit_7 = c.odd;
-}
+-- the flags of a counter, in the order of their bits
+abbrev pub flags_from : CounterParts → List Bool
+flags_from c = c.null ∷ c.out ∷ c.gate ∷ c.full ∷ c.live ∷ c.armed ∷ c.trig ∷ c.odd ∷ []
 
 -- a counter with these flags
-abbrev pub with_flags : Flags → CounterParts → CounterParts
-with_flags x c = record c {
-  null = x.bit_0;
-  out = x.bit_1;
-  gate = x.bit_2;
-  full = x.bit_3;
-  live = x.bit_4;
-  armed = x.bit_5;
-  trig = x.bit_6;
-  odd = x.bit_7;
-}
+abbrev pub with_flags : List Bool → CounterParts → CounterParts
+with_flags flags c =
+    let flag : ℕ → Bool = λ k. slice_index_or flags k false in
+    record c {
+      null = flag 0;
+      out = flag 1;
+      gate = flag 2;
+      full = flag 3;
+      live = flag 4;
+      armed = flag 5;
+      trig = flag 6;
+      odd = flag 7;
+    }
 
 -- counter k of the 8254: programmed bits, flags, count register, counting element, first byte, read
 -- order, latched count, latched status. GATE of counters 0 and 1 is high
@@ -207,7 +200,7 @@ clock =
     field flag (λ b. b.pit.speaker) (λ x b. record b { pit = record b.pit { speaker = x } }) any
     ∷ field byte (λ b. b.rtc.index) (λ x b. record b { rtc = record b.rtc { index = x } })
     (λ b p. index_valid p.rtc)
-    ∷ row (faults_of Invalid) 128 128 byte 0 (λ b. b.rtc.bytes)
+    ∷ field (rows 128 128 byte 0) (λ b. b.rtc.bytes)
     (λ x b. record b { rtc = record b.rtc { bytes = x } })
     (λ b p. bytes_valid p.rtc)
     ∷ field (number 2) (λ b. b.rtc.d) (λ x b. record b { rtc = record b.rtc { d = x } })
@@ -299,7 +292,7 @@ counts_of format = if nat_le 2 format then 6 else 0
 -- the counts of the six lines
 unfoldable pub rises : ℕ → Fields BoardParts
 rises counts =
-    row (faults_of Invalid) counts 6 (number 8) 0 (λ b. b.rises) (λ x b. record b { rises = x })
+    field (rows counts 6 (number 8) 0) (λ b. b.rises) (λ x b. record b { rises = x })
     (λ b p. legacy_rises_valid p && (has_messages p.format || routed_rises_valid p))
     ∷ []
 
@@ -409,10 +402,7 @@ apic_pairs b = pairs b.apic b.apic_ticks
 
 -- a board with other timers and tick lines
 abbrev pub with_apic_pairs : List Apic → BoardParts → BoardParts
-with_apic_pairs x b = record b {
-  apic = map (λ a. a.first) x;
-  apic_ticks = map (λ a. a.second) x;
-}
+with_apic_pairs x b = record b { apic = map (λ a. a.first) x; apic_ticks = map (λ a. a.second) x }
 
 -- the timers of n processors
 unfoldable pub apics : ℕ → Fields BoardParts

@@ -22,7 +22,7 @@ use tick_policy::TickParts;
 
 /// The flags of a counter, as a byte.
 fn counter_flags(c: &CounterParts) -> u8
-    ensures { result ≡ flags_byte (flags_from c.now) }
+    ensures { result ≡ flags_byte 0 (flags_from c.now) }
 {
     flags_byte(&[
         c.null, c.out, c.gate, c.full, c.live, c.armed, c.trig, c.odd,

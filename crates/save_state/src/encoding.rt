@@ -191,7 +191,7 @@ fn put_counters(out: &mut Vec<u8>, d: &DeviceParts) -> Result<(), NoMemory>
 }
 
 /// Appends speaker data and the MC146818.
-#[tactic(auto, using(crate::proofs::Written::bytes_written), unfolding(crate::specs::Fields::clock, byte_table::specs::Kinds::plain, byte_table::specs::Kinds::row))]
+#[tactic(auto, using(crate::proofs::Written::bytes_written), unfolding(crate::specs::Fields::clock, byte_table::specs::Kinds::plain, byte_table::specs::Codes::rows))]
 fn put_clock(out: &mut Vec<u8>, d: &DeviceParts) -> Result<(), NoMemory>
     ensures { OnOk result (out.new.items ≡ out.old.items ++ write clock (board_with d.now)) }
 {
@@ -239,7 +239,7 @@ fn put_lines(out: &mut Vec<u8>, format: u8, d: &DeviceParts) -> Result<(), NoMem
 }
 
 /// Appends the counts of rises, which format 1 doesn't have.
-#[tactic(auto, using(crate::proofs::Written::rises_written), unfolding(crate::specs::Fields::rises, byte_table::specs::Kinds::row))]
+#[tactic(auto, using(crate::proofs::Written::rises_written), unfolding(crate::specs::Fields::rises, byte_table::specs::Codes::rows, byte_table::specs::Kinds::plain))]
 fn put_rises(out: &mut Vec<u8>, b: &BoardState) -> Result<(), NoMemory>
     ensures bytes { OnOk result (out.new.items
         ≡ out.old.items ++ write (rises (counts_of b.now.format)) b.now) }
