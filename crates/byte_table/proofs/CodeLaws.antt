@@ -1,5 +1,6 @@
 -- The laws of each code: what is written is read as it was, and what is read is written as it is.
-use Rattle.std.proofs.Common.{◌≡◌, ℕ, zero, suc, ℤ, ◌+◌, ◌-◌, ◌*◌, ◌/◌, ◌%◌, ◌^◌, ◌<◌, ◌≤◌, Bool, true, false, ltb, eqb, List, [], ◌∷◌, ◌++◌, length, take, drop, get_or, replicate, refl, ap, sym, ◌∙◌, arith}
+use Rattle.std.proofs.Common.{◌≡◌, ℕ, zero, suc, ℤ, ◌+◌, ◌-◌, ◌*◌, ◌/◌, ◌%◌, ◌^◌, ◌<◌, ◌≤◌, Bool, true, false, ltb, eqb, List, [], ◌∷◌, ◌++◌, length}
+use Rattle.std.proofs.Common.{take, drop, get_or, replicate, refl, ap, sym, ◌∙◌, arith}
 use Rattle.std.proofs.lemmas.Bool.{lt-ltb, ltb-true, eqb-true, eq-eqb, and_from, and_parts}
 use Rattle.std.proofs.lemmas.Int.{of_z-to_z, to_z-of_z}
 use Rattle.std.proofs.lemmas.List.{length-append, length-drop, length-take-le, get_or-take, get_or-drop, ext_get_or, drop_more}
@@ -281,7 +282,8 @@ rows-code n all c blank law = record {
   same = λ place bytes small there spelled. row-same c law n place bytes (replicate (all - n) blank) small there spelled;
 }
 
-pub row_spelled-each : {A : Type 0} (c : Code A) (bytes : List ℕ) → ((place : ℕ) → c.spelled place bytes ≡ true) → (n place : ℕ) → row_spelled c n place bytes ≡ true
+pub row_spelled-each : {A : Type 0} (c : Code A) (bytes : List ℕ) → ((place : ℕ) → c.spelled place bytes ≡ true) → (n place : ℕ)
+    → row_spelled c n place bytes ≡ true
 unfolding row_spelled
 row_spelled-each c bytes each zero place = refl
 row_spelled-each c bytes each (suc n) place = and_from _ _ (each place) (row_spelled-each c bytes each n (place + c.size))

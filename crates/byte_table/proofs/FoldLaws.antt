@@ -1,5 +1,6 @@
 -- The round trip of any list of fields, by a law for each field.
-use Rattle.std.proofs.Common.{◌≡◌, ℕ, zero, suc, ◌+◌, ◌-◌, ◌<◌, ◌≤◌, true, List, [], ◌∷◌, ◌++◌, length, take, drop, get_or, Option, Some, None, refl, ap, sym, subst, ◌∙◌, arith}
+use Rattle.std.proofs.Common.{◌≡◌, ℕ, zero, suc, ◌+◌, ◌-◌, ◌<◌, ◌≤◌, true, List, [], ◌∷◌, ◌++◌, length, take, drop, get_or, Option, Some, None}
+use Rattle.std.proofs.Common.{refl, ap, sym, subst, ◌∙◌, arith}
 use Rattle.std.proofs.lemmas.List.{append_assoc, take_all, length-append, length-drop, drop-append-le, drop_all, drop-drop}
 use Rattle.byte_table.specs.Fold.{Field, size_of, write, read, rewrite_in, moved, or_else, fault_in}
 
@@ -167,7 +168,8 @@ all_hold-split (f ∷ fs) gs b p h = let rest = all_hold-split fs gs b p h.1 in 
 pub written-then : {F B P : Type 0} (fs gs : List (Field F B P)) (p : P) (old now next : List ℕ) → now ≡ old ++ write fs p → next ≡ now ++ write gs p
     → next ≡ old ++ write (fs ++ gs) p
 written-then fs gs p old now next first later =
-    later ∙ ap (λ (xs : List ℕ). xs ++ write gs p) first ∙ append_assoc old (write fs p) (write gs p) ∙ ap (λ (xs : List ℕ). old ++ xs) (sym (write_append fs gs p))
+    later ∙ ap (λ (xs : List ℕ). xs ++ write gs p) first ∙ append_assoc old (write fs p) (write gs p)
+    ∙ ap (λ (xs : List ℕ). old ++ xs) (sym (write_append fs gs p))
 
 -- after the bytes of a first list are those of a second
 pub next-write : {F B P : Type 0} (fs gs : List (Field F B P)) (b : B) (p : P) (bytes : List ℕ) → AllHere fs b p bytes → (place : ℕ) (rest : List ℕ)

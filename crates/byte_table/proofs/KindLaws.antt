@@ -1,8 +1,10 @@
 -- The laws of each kind of field.
-use Rattle.std.proofs.Common.{◌≡◌, ℕ, zero, suc, ◌+◌, ◌-◌, ◌*◌, ◌<◌, ◌≤◌, ⊎_elim, Bool, true, false, cond, ◌&&◌, List, [], ◌∷◌, ◌++◌, length, take, drop, get_or, replicate, Some, None, refl, ap, sym, subst, ◌∙◌, arith}
+use Rattle.std.proofs.Common.{◌≡◌, ℕ, zero, suc, ◌+◌, ◌-◌, ◌<◌, ◌≤◌, ⊎_elim, Bool, true, false, cond, ◌&&◌, List, [], ◌∷◌, ◌++◌, length}
+use Rattle.std.proofs.Common.{take, drop, get_or, replicate, Some, None, refl, ap, sym, subst, ◌∙◌, arith}
 use Rattle.std.proofs.lemmas.Bool.{lt-ltb, le-ltb, and_from, and_parts, cases_lt}
 use Rattle.std.proofs.lemmas.List.{length-append, get_or-drop, drop_more, drop-drop}
-use Rattle.byte_table.specs.Fold.{Field, size_of, write, read, rewrite_in, moved, fault_in, size_below, write_below, read_below, fault_below, all_hold, hold_below}
+use Rattle.byte_table.specs.Fold.{Field, size_of, write, read, rewrite_in, moved, fault_in, size_below, write_below, read_below, fault_below}
+use Rattle.byte_table.specs.Fold.{all_hold, hold_below}
 use Rattle.byte_table.specs.Codes.{Code}
 use Rattle.byte_table.specs.Kinds.{Faults, one_fault, plain, blocks, elsewhere}
 use Rattle.byte_table.proofs.FoldLaws.{AreBytes, next, split, room, take-more, IsHere, AllHere, IsSpelled, AllSpelled, or_else-none, or_else-both, length-write}
@@ -15,8 +17,8 @@ pub one_fault-short : {F : Type 0} (faults : Faults F) (size : ℕ) (valid : Boo
 one_fault-short faults size valid place bytes less =
     ap (λ (t : Bool). cond t (Some (faults.short (length bytes))) (cond valid None (Some (faults.invalid place)))) (lt-ltb (length bytes) (place + size) less)
 
-pub one_fault-is : {F : Type 0} (faults : Faults F) (size : ℕ) (valid : Bool) (place : ℕ) (bytes : List ℕ) → place + size ≤ length bytes → (v : Bool) → valid ≡ v
-    → one_fault faults size valid place bytes ≡ cond v None (Some (faults.invalid place))
+pub one_fault-is : {F : Type 0} (faults : Faults F) (size : ℕ) (valid : Bool) (place : ℕ) (bytes : List ℕ) → place + size ≤ length bytes → (v : Bool)
+    → valid ≡ v → one_fault faults size valid place bytes ≡ cond v None (Some (faults.invalid place))
 one_fault-is faults size valid place bytes le v is =
     ap (λ (t : Bool). cond t (Some (faults.short (length bytes))) (cond valid None (Some (faults.invalid place)))) (le-ltb (length bytes) (place + size) le)
     ∙ ap (λ (t : Bool). cond t None (Some (faults.invalid place))) is
@@ -93,8 +95,12 @@ below-length {T = T} fields blank b ts bytes k (suc n) all =
     ∙ (λ i. length-write (fields k) b t bytes (all k (omega arith) (omega arith)) i
     + below-length fields blank b ts bytes (suc k) n (λ j low high. all j (omega arith) (omega arith)) i)
 
-below-back : {F B T : Type 0} (fields : ℕ → List (Field F B T)) (blank : T) → (b : B) (ts : List T)
-    → ((k : ℕ) → k < length ts → moved (fields k) (get_or ts k blank) blank ≡ get_or ts k blank) → (bytes : List ℕ) (k n : ℕ) → k + n ≤ length ts → AllBlocks fields blank b ts bytes k n → (place : ℕ) (rest : List ℕ) → drop place bytes ≡ write_below fields blank ts k n ++ rest
+-- each item is all of it put into the blank one
+abbrev pub AreCovered : {F B T : Type 0} → (ℕ → List (Field F B T)) → T → List T → Type 0
+AreCovered fields blank ts = (k : ℕ) → k < length ts → moved (fields k) (get_or ts k blank) blank ≡ get_or ts k blank
+
+below-back : {F B T : Type 0} (fields : ℕ → List (Field F B T)) (blank : T) → (b : B) (ts : List T) → AreCovered fields blank ts → (bytes : List ℕ) (k n : ℕ)
+    → k + n ≤ length ts → AllBlocks fields blank b ts bytes k n → (place : ℕ) (rest : List ℕ) → drop place bytes ≡ write_below fields blank ts k n ++ rest
     → (read_below fields blank k n place bytes ++ drop (k + n) ts ≡ drop k ts) × (place ≤ length bytes → fault_below fields blank b ts k n place bytes ≡ None)
 below-back fields blank b ts covers bytes k zero le all place rest e = let at : k + 0 ≡ k = omega arith in (ap (λ (m : ℕ). drop m ts) at, λ there. refl)
 below-back {T = T} fields blank b ts covers bytes k (suc n) le all place rest e =
@@ -116,8 +122,8 @@ below-back {T = T} fields blank b ts covers bytes k (suc n) le all place rest e 
           (fault-write (fields k) b t bytes here place tail there first) ∙ later.1 (room place s bytes (write (fields k) t) tail len there first),
     )
 
-pub blocks-here : {F B P T : Type 0} (n all : ℕ) (fields : ℕ → List (Field F B T)) (blank : T) (get : P → List T) (put : List T → P → P) (b : B) (p : P) (bytes : List ℕ)
-    → ((k : ℕ) → k < length (get p) → moved (fields k) (get_or (get p) k blank) blank ≡ get_or (get p) k blank) → n ≤ length (get p) → AllBlocks fields blank b (get p) bytes 0 n
+pub blocks-here : {F B P T : Type 0} (n all : ℕ) (fields : ℕ → List (Field F B T)) (blank : T) (get : P → List T) (put : List T → P → P) (b : B) (p : P)
+    (bytes : List ℕ) → AreCovered fields blank (get p) → n ≤ length (get p) → AllBlocks fields blank b (get p) bytes 0 n
     → drop n (get p) ≡ replicate (all - n) blank → IsHere (blocks n all fields blank get put) b p bytes
 unfolding blocks
 blocks-here n all fields blank get put b p bytes covers le each others =

@@ -1,8 +1,14 @@
 -- Loops over blocks of one size.
-use Rattle.std.proofs.Common.{◌≡◌, ℕ, zero, suc, ◌+◌, ◌-◌, ◌*◌, ◌<◌, ◌≤◌, List, [], ◌∷◌, ◌++◌, length, drop, get_or, replicate, append_assoc, set, below_more, Option, Some, None, refl, ap, sym, ◌∙◌, arith}
-use Rattle.std.proofs.lemmas.List.{append-nil, ext_get_or, length-replicate, get_or-replicate, length-set, length-drop, get_or-drop, get_or-set_same, get_or-set_other}
+use Rattle.std.proofs.Common.{◌≡◌, ℕ, zero, suc, ◌+◌, ◌-◌, ◌*◌, ◌<◌, ◌≤◌, List, [], ◌∷◌, ◌++◌, length, drop, get_or, replicate, append_assoc}
+use Rattle.std.proofs.Common.{set, below_more, Option, Some, None, refl, ap, sym, ◌∙◌, arith}
+use Rattle.std.proofs.lemmas.List.{append-nil, ext_get_or, length-replicate, get_or-replicate, length-set, length-drop, get_or-drop}
+use Rattle.std.proofs.lemmas.List.{get_or-set_same, get_or-set_other}
 use Rattle.byte_table.specs.Codes.{Code, row_bytes, row_value}
 use Rattle.byte_table.specs.Fold.{Field, size_of, write, read, or_else, fault_in, write_below, read_below, fault_below, size_below}
+
+-- each block takes s bytes
+abbrev pub AreOfSize : {F B T : Type 0} → (ℕ → List (Field F B T)) → ℕ → Type 0
+AreOfSize fields s = (k : ℕ) → size_of (fields k) ≡ s
 
 -- one block more is written
 pub write-more : {F B T : Type 0} (fields : ℕ → List (Field F B T)) (blank : T) (ts : List T) (k n : ℕ)
@@ -15,7 +21,7 @@ write-more fields blank ts k (suc n) =
     let more : suc n + 1 ≡ suc (n + 1) = omega arith in
     ap (λ (m : ℕ). write_below fields blank ts k m) more
     ∙ ap (λ (xs : List ℕ). write (fields k) (get_or ts k blank) ++ xs) (write-more fields blank ts (suc k) n)
-    ∙ sym (append_assoc (write (fields k) (get_or ts k blank)) (write_below fields blank ts (suc k) n) (write (fields (suc k + n)) (get_or ts (suc k + n) blank)))
+    ∙ sym (append_assoc (write (fields k) (get_or ts k blank)) (write_below fields blank ts (suc k) n) _)
     ∙ ap (λ (m : ℕ). write (fields k) (get_or ts k blank) ++ write_below fields blank ts (suc k) n ++ write (fields m) (get_or ts m blank)) at
 
 written-more : {F B T : Type 0} (fields : ℕ → List (Field F B T)) (blank : T) (ts : List T) (n : ℕ) (old now next : List ℕ)
@@ -45,7 +51,7 @@ written-one {fields = fields} {blank = blank} {ts = ts} {old = old} {now = now} 
 }
 
 -- places that hold what is read, and after them the blank
-pub read-places : {F B T : Type 0} (fields : ℕ → List (Field F B T)) (blank : T) (s : ℕ) → ((k : ℕ) → size_of (fields k) ≡ s) → (k n all place : ℕ) (bytes : List ℕ) (ts : List T)
+pub read-places : {F B T : Type 0} (fields : ℕ → List (Field F B T)) (blank : T) (s : ℕ) → AreOfSize fields s → (k n all place : ℕ) (bytes : List ℕ) (ts : List T)
     → length ts ≡ all → n ≤ all → ((j : ℕ) → j < n → get_or ts j blank ≡ read (fields (k + j)) (place + s * j) bytes blank)
     → ((j : ℕ) → n ≤ j → j < all → get_or ts j blank ≡ blank) → ts ≡ read_below fields blank k n place bytes ++ replicate (all - n) blank
 read-places fields blank s size k zero all place bytes ts len few each rest =
@@ -66,7 +72,7 @@ read-places {T = T} fields blank s size k (suc n) all place bytes (t ∷ ts) len
     (λ (j : ℕ) (h : n ≤ j) (less : j < all - 1). rest (suc j) (omega arith) (omega arith))) i)
     ∙ (λ i. read (fields k) place bytes blank ∷ (read_below fields blank (suc k) n (next i) bytes ++ replicate (less i) blank))
 
-pub size-below : {F B T : Type 0} (fields : ℕ → List (Field F B T)) (s : ℕ) → ((k : ℕ) → size_of (fields k) ≡ s) → (k n : ℕ) → size_below fields k n ≡ s * n
+pub size-below : {F B T : Type 0} (fields : ℕ → List (Field F B T)) (s : ℕ) → AreOfSize fields s → (k n : ℕ) → size_below fields k n ≡ s * n
 size-below fields s size k zero = omega arith
 size-below fields s size k (suc n) = let ih = size-below fields s size (suc k) n in let one = size k in omega (arith, ih, one)
 
@@ -99,7 +105,8 @@ row-places {A = A} c blank (suc n) all place bytes (x ∷ xs) len few each rest 
     ∙ (λ i. c.value place bytes ∷ (row_value c n (place + c.size) bytes ++ replicate (less i) blank))
 
 -- the first fault of n blocks is that of those from k on: the first k have none
-pub record FaultsFrom {F B T : Type 0} (fields : ℕ → List (Field F B T)) (blank : T) (s : ℕ) (b : B) (ts : List T) (n place : ℕ) (bytes : List ℕ) (k : ℕ) : Type 0 where
+pub record FaultsFrom {F B T : Type 0} (fields : ℕ → List (Field F B T)) (blank : T) (s : ℕ) (b : B) (ts : List T) (n place : ℕ) (bytes : List ℕ) (k : ℕ)
+    : Type 0 where
   pub same : fault_below fields blank b ts 0 n place bytes ≡ fault_below fields blank b ts k (n - k) (place + s * k) bytes
 
 pub faults-begin : {F B T : Type 0} (fields : ℕ → List (Field F B T)) (blank : T) (s : ℕ) (b : B) (ts : List T) (n place : ℕ) (bytes : List ℕ)
@@ -109,10 +116,11 @@ faults-begin fields blank s b ts n place bytes =
     let at : place ≡ place + s * 0 = omega arith in
     record { same = λ i. fault_below fields blank b ts 0 (all i) (at i) bytes }
 
-faults-next : {F B T : Type 0} (fields : ℕ → List (Field F B T)) (blank : T) (s : ℕ) → ((k : ℕ) → size_of (fields k) ≡ s) → (b : B) (ts : List T) (k n place : ℕ)
+faults-next : {F B T : Type 0} (fields : ℕ → List (Field F B T)) (blank : T) (s : ℕ) → AreOfSize fields s → (b : B) (ts : List T) (k n place : ℕ)
     (bytes : List ℕ) → k < n
     → fault_below fields blank b ts k (n - k) (place + s * k) bytes
-    ≡ or_else (fault_in (fields k) b (get_or ts k blank) (place + s * k) bytes) (fault_below fields blank b ts (k + 1) (n - (k + 1)) (place + s * (k + 1)) bytes)
+    ≡ or_else (fault_in (fields k) b (get_or ts k blank) (place + s * k) bytes)
+    (fault_below fields blank b ts (k + 1) (n - (k + 1)) (place + s * (k + 1)) bytes)
 faults-next fields blank s size b ts k n place bytes less =
     let all : n - k ≡ suc (n - (k + 1)) = omega arith in
     let one : suc k ≡ k + 1 = omega arith in
@@ -122,16 +130,17 @@ faults-next fields blank s size b ts k n place bytes less =
 
 -- block k has a fault, which is the first, or none; after the last block there is none
 pub faults-some : {F B T : Type 0} {fields : ℕ → List (Field F B T)} {blank : T} {s : ℕ} {b : B} {ts : List T} {n place : ℕ} {bytes : List ℕ} {k : ℕ}
-    (size : (k : ℕ) → size_of (fields k) ≡ s) → FaultsFrom fields blank s b ts n place bytes k → k < n → (at : ℕ) → at ≡ place + s * k → (fault : F)
+    (size : AreOfSize fields s) → FaultsFrom fields blank s b ts n place bytes k → k < n → (at : ℕ) → at ≡ place + s * k → (fault : F)
     → Some fault ≡ fault_in (fields k) b (get_or ts k blank) at bytes → Some fault ≡ or_else (fault_below fields blank b ts 0 n place bytes) None
 faults-some {F = F} {fields = fields} {blank = blank} {s = s} {b = b} {ts = ts} {n = n} {place = place} {bytes = bytes} {k = k} size so_far less at here fault is =
     let later : Option F = fault_below fields blank b ts (k + 1) (n - (k + 1)) (place + s * (k + 1)) bytes in
     let found : fault_in (fields k) b (get_or ts k blank) (place + s * k) bytes ≡ Some fault =
     ap (λ (p : ℕ). fault_in (fields k) b (get_or ts k blank) p bytes) (sym here) ∙ sym is in
-    sym (ap (λ (o : Option F). or_else o None) (so_far.same ∙ faults-next fields blank s size b ts k n place bytes less ∙ ap (λ (o : Option F). or_else o later) found))
+    sym (ap (λ (o : Option F). or_else o None)
+    (so_far.same ∙ faults-next fields blank s size b ts k n place bytes less ∙ ap (λ (o : Option F). or_else o later) found))
 
 pub faults-none : {F B T : Type 0} {fields : ℕ → List (Field F B T)} {blank : T} {s : ℕ} {b : B} {ts : List T} {n place : ℕ} {bytes : List ℕ} {k : ℕ}
-    (size : (k : ℕ) → size_of (fields k) ≡ s) → FaultsFrom fields blank s b ts n place bytes k → k < n → (at : ℕ) → at ≡ place + s * k
+    (size : AreOfSize fields s) → FaultsFrom fields blank s b ts n place bytes k → k < n → (at : ℕ) → at ≡ place + s * k
     → None ≡ fault_in (fields k) b (get_or ts k blank) at bytes → FaultsFrom fields blank s b ts n place bytes (k + 1)
 faults-none {F = F} {fields = fields} {blank = blank} {s = s} {b = b} {ts = ts} {n = n} {place = place} {bytes = bytes} {k = k} size so_far less at here is =
     let later : Option F = fault_below fields blank b ts (k + 1) (n - (k + 1)) (place + s * (k + 1)) bytes in
@@ -146,7 +155,7 @@ faults-end {F = F} {fields = fields} {blank = blank} {s = s} {b = b} {ts = ts} {
     sym (ap (λ (o : Option F). or_else o None) (so_far.same ∙ ap (λ (m : ℕ). fault_below fields blank b ts k m (place + s * k) bytes) none))
 
 -- item i of those that are read
-pub read_below-at : {F B T : Type 0} (fields : ℕ → List (Field F B T)) (blank : T) (s : ℕ) → ((k : ℕ) → size_of (fields k) ≡ s) → (k n place : ℕ) (bytes : List ℕ)
+pub read_below-at : {F B T : Type 0} (fields : ℕ → List (Field F B T)) (blank : T) (s : ℕ) → AreOfSize fields s → (k n place : ℕ) (bytes : List ℕ)
     (others : List T) (i : ℕ) → i < n
     → get_or (read_below fields blank k n place bytes ++ others) i blank ≡ read (fields (k + i)) (place + s * i) bytes blank
 read_below-at fields blank s size k zero place bytes others i less = absurd (omega arith)
@@ -173,7 +182,8 @@ filled-none f blank n = record {
   rest = λ j le less. get_or-replicate n j blank blank less;
 }
 
-pub filled-more : {A : Type 0} (f : ℕ → A) (blank v : A) (xs : List A) (k n : ℕ) → IsFilled f blank xs k n → k < n → v ≡ f k → IsFilled f blank (set xs k v) (k + 1) n
+pub filled-more : {A : Type 0} (f : ℕ → A) (blank v : A) (xs : List A) (k n : ℕ) → IsFilled f blank xs k n → k < n → v ≡ f k
+    → IsFilled f blank (set xs k v) (k + 1) n
 filled-more f blank v xs k n filled less is = record {
   places = length-set xs k v ∙ filled.places;
   each = below_more (λ (j : ℕ). get_or (set xs k v) j blank ≡ f j) k
@@ -184,7 +194,7 @@ filled-more f blank v xs k n filled less is = record {
 }
 
 -- items that are read into their places, and values
-pub read-filled : {F B T : Type 0} (fields : ℕ → List (Field F B T)) (blank : T) (s : ℕ) → ((k : ℕ) → size_of (fields k) ≡ s) → (n all place : ℕ) (bytes : List ℕ) (ts : List T)
+pub read-filled : {F B T : Type 0} (fields : ℕ → List (Field F B T)) (blank : T) (s : ℕ) → AreOfSize fields s → (n all place : ℕ) (bytes : List ℕ) (ts : List T)
     (k : ℕ) → k ≡ n → n ≤ all → IsFilled (λ (j : ℕ). read (fields j) (place + s * j) bytes blank) blank ts k all
     → ts ≡ read_below fields blank 0 n place bytes ++ replicate (all - n) blank
 read-filled fields blank s size n all place bytes ts k end few filled =

@@ -1,10 +1,11 @@
 -- Two lists of one length, side by side.
-use Rattle.std.proofs.Common.{◌≡◌, ℕ, zero, suc, ◌<◌, ◌≤◌, List, [], ◌∷◌, ◌++◌, length, map, get_or, replicate, ◌+◌, ◌-◌, ◌*◌, inl, inr, refl, ap, sym, ◌∙◌, arith}
+use Rattle.std.proofs.Common.{◌≡◌, ℕ, zero, suc, ◌<◌, ◌≤◌, List, [], ◌∷◌, ◌++◌, length, map, get_or, replicate, ◌+◌, ◌-◌, ◌*◌, inl, inr, refl}
+use Rattle.std.proofs.Common.{ap, sym, ◌∙◌, arith}
 use Rattle.std.proofs.lemmas.Bool.{cases_lt}
 use Rattle.std.proofs.lemmas.List.{length-map, get_or-map, ext_get_or}
 use Rattle.byte_table.specs.Codes.{Two, pairs}
-use Rattle.byte_table.specs.Fold.{Field, size_of, read, read_below}
-use Rattle.byte_table.proofs.Loops.{IsFilled, length-read_below, read_below-at, read_below-after}
+use Rattle.byte_table.specs.Fold.{Field, read, read_below}
+use Rattle.byte_table.proofs.Loops.{AreOfSize, IsFilled, length-read_below, read_below-at, read_below-after}
 
 pub pairs-at : {A C : Type 0} (a : A) (c : C) (xs : List A) (ys : List C) (k : ℕ) → length xs ≡ length ys
     → get_or (pairs xs ys) k (record { first = a; second = c }) ≡ record { first = get_or xs k a; second = get_or ys k c }
@@ -35,7 +36,7 @@ pairs-halves [] = refl
 pairs-halves {A = A} {C = C} (t ∷ ts) = ap (λ (us : List (Two A C)). t ∷ us) (pairs-halves ts)
 
 -- a part of each item that is read, in places of its own
-pub part-filled : {F B T A : Type 0} (fields : ℕ → List (Field F B T)) (blank : T) (s : ℕ) → ((k : ℕ) → size_of (fields k) ≡ s) → (part : T → A) (n all place : ℕ) (bytes : List ℕ)
+pub part-filled : {F B T A : Type 0} (fields : ℕ → List (Field F B T)) (blank : T) (s : ℕ) → AreOfSize fields s → (part : T → A) (n all place : ℕ) (bytes : List ℕ)
     (xs : List A) (k : ℕ) → k ≡ n → n ≤ all → IsFilled (λ (j : ℕ). part (read (fields j) (place + s * j) bytes blank)) (part blank) xs k all
     → xs ≡ map part (read_below fields blank 0 n place bytes ++ replicate (all - n) blank)
 part-filled {T = T} fields blank s size part n all place bytes xs k end few filled =
@@ -44,7 +45,8 @@ part-filled {T = T} fields blank s size part n all place bytes xs k end few fill
     ext_get_or (part blank) xs (map part ts) (filled.places ∙ sym (length-map ts part ∙ len)) (λ (i : ℕ) (h : i < length xs).
     each ts len i (omega (arith, h, filled.places)) ∙ sym (get_or-map part ts i blank (part blank) (omega (arith, h, filled.places, len))))
   where
-    each : (ts : List T) → length ts ≡ all → (i : ℕ) → i < all → get_or xs i (part blank) ≡ part (get_or (read_below fields blank 0 n place bytes ++ replicate (all - n) blank) i blank)
+    each : (ts : List T) → length ts ≡ all → (i : ℕ) → i < all
+        → get_or xs i (part blank) ≡ part (get_or (read_below fields blank 0 n place bytes ++ replicate (all - n) blank) i blank)
     each ts len i small = elim (cases_lt i n) [
       | inl less ↦
           let at : i ≡ 0 + i = omega arith in
