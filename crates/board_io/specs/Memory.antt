@@ -1,7 +1,8 @@
 -- Sources and sinks in memory.
-use Rattle.std.specs.Prelude.{ℕ, ◌+◌, ◌-◌, min, Bool, ◌||◌, ◌==◌, List, length}
+use Rattle.std.specs.Prelude.{ℕ, ◌+◌, ◌-◌, min, Bool, ◌||◌, ◌==◌, List, length, Some}
 use Rattle.std.specs.List.{list_any}
 use Rattle.board_io.specs.Faults.{most_given}
+use Rattle.board_io.specs.Ends.{Input, Output}
 
 -- what a source in memory holds: the bytes left, how many it gave, and had given at the last call,
 -- whether a call gave nothing, and whether one came after it; faults, calls, which fail, the largest piece
@@ -16,6 +17,17 @@ pub record Supply : Type 0 where
   pub failing : List ℕ
   pub largest : ℕ
 
+-- as a source
+abbrev pub input_in : Supply → Input
+input_in s = record {
+  remaining = Some s.left;
+  given = s.given;
+  before = s.before;
+  done = s.done;
+  late = s.late;
+  faults = s.faults;
+}
+
 -- what a sink in memory holds: the bytes, whether a call failed, and whether one came after it;
 -- faults, calls, which fail, the largest piece
 pub record Store : Type 0 where
@@ -26,6 +38,10 @@ pub record Store : Type 0 where
   pub calls : ℕ
   pub failing : List ℕ
   pub largest : ℕ
+
+-- as a sink
+abbrev pub output_in : Store → Output
+output_in s = record { contents = Some s.held; done = s.done; late = s.late; faults = s.faults }
 
 -- the number of the next call, which stays at its type's greatest value
 abbrev pub next_call : ℕ → ℕ

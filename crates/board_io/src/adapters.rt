@@ -1,4 +1,5 @@
-ghost use Rattle.std.specs.Prelude.{◌≡◌, ◌≤◌, false, IfOk};
+ghost use Rattle.std.specs.Prelude.{◌≡◌, ◌≤◌, IfOk};
+ghost use Rattle.board_io.specs.Ends.{input_of, output_of};
 ghost use Rattle.board_io.specs.Faults.{most_given};
 
 use crate::sink::Sink;
@@ -20,12 +21,7 @@ pub struct ReadSource<T: Read + Drop> {
 impl<T: Read + Drop> ReadSource<T> {
     /// A source of the bytes that the reader gives.
     pub fn new(reader: T) -> ReadSource<T>
-        ensures remaining { ⟦<ReadSource<T> as Source>⟧.remaining result ≡ T.remaining reader }
-        ensures given { ⟦<ReadSource<T> as Source>⟧.given result ≡ 0 }
-        ensures before { ⟦<ReadSource<T> as Source>⟧.before result ≡ 0 }
-        ensures done { ⟦<ReadSource<T> as Source>⟧.done result ≡ false }
-        ensures late { ⟦<ReadSource<T> as Source>⟧.late result ≡ false }
-        ensures faults { ⟦<ReadSource<T> as Source>⟧.faults result ≡ 0 }
+        ensures { ⟦<ReadSource<T> as Source>⟧.input result ≡ input_of (T.remaining reader) }
     {
         ReadSource {
             reader,
@@ -39,17 +35,14 @@ impl<T: Read + Drop> ReadSource<T> {
 }
 
 impl<T: Read + Drop> Source for ReadSource<T> {
-    ghost remaining = { λ s. T.remaining s.reader };
-
-    ghost given = { λ s. s.given };
-
-    ghost before = { λ s. s.before };
-
-    ghost done = { λ s. s.done };
-
-    ghost late = { λ s. s.late };
-
-    ghost faults = { λ s. s.faults };
+    ghost input = { λ s. record {
+      remaining = T.remaining s.reader;
+      given = s.given;
+      before = s.before;
+      done = s.done;
+      late = s.late;
+      faults = s.faults;
+    } };
 
     fn take(&mut self, into: &mut [u8]) -> Result<usize, Failed> {
         self.before = self.given;
@@ -80,10 +73,7 @@ pub struct WriteSink<T: Write + Drop> {
 impl<T: Write + Drop> WriteSink<T> {
     /// A sink whose bytes go to the writer.
     pub fn new(writer: T) -> WriteSink<T>
-        ensures contents { ⟦<WriteSink<T> as Sink>⟧.contents result ≡ T.contents writer }
-        ensures done { ⟦<WriteSink<T> as Sink>⟧.done result ≡ false }
-        ensures late { ⟦<WriteSink<T> as Sink>⟧.late result ≡ false }
-        ensures faults { ⟦<WriteSink<T> as Sink>⟧.faults result ≡ 0 }
+        ensures { ⟦<WriteSink<T> as Sink>⟧.output result ≡ output_of (T.contents writer) }
     {
         WriteSink {
             writer,
@@ -95,13 +85,12 @@ impl<T: Write + Drop> WriteSink<T> {
 }
 
 impl<T: Write + Drop> Sink for WriteSink<T> {
-    ghost contents = { λ s. T.contents s.writer };
-
-    ghost done = { λ s. s.done };
-
-    ghost late = { λ s. s.late };
-
-    ghost faults = { λ s. s.faults };
+    ghost output = { λ s. record {
+      contents = T.contents s.writer;
+      done = s.done;
+      late = s.late;
+      faults = s.faults;
+    } };
 
     fn put(&mut self, piece: &[u8]) -> Result<usize, Failed> {
         self.late = self.late || self.done;

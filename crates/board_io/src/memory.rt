@@ -1,10 +1,9 @@
-ghost use Rattle.std.specs.Prelude.{◌≡◌, ◌+◌, ◌-◌, ◌<◌, ◌≤◌, ◌||◌, ℕ, Bool, not, true, false, []};
-ghost use Rattle.std.specs.Prelude.{◌++◌, Some, length, min, drop, IfOk, OnOk, OnErr, IsErr, is_ok, is_err};
+ghost use Rattle.std.specs.Prelude.{◌≡◌, ◌<◌, ◌≤◌, not, true, false, [], length, min, drop, IfOk, IsErr, is_ok};
 ghost use Rattle.std.specs.Prelude.{vec_len};
-ghost use Rattle.std.specs.Io.KnownBytes.{ReadConsumes, WriteAppends};
-ghost use Rattle.board_io.specs.Faults.{Rose, most_given, AddsGiven, gave_nothing};
-ghost use Rattle.board_io.specs.Memory.{Supply, Store, next_call, is_to_fail, supply_fails};
-ghost use Rattle.board_io.specs.Memory.{piece_of};
+ghost use Rattle.board_io.specs.Ends.{IsTaken, IsPut};
+ghost use Rattle.board_io.specs.Faults.{most_given};
+ghost use Rattle.board_io.specs.Memory.{Supply, Store, input_in, output_in, next_call, is_to_fail};
+ghost use Rattle.board_io.specs.Memory.{supply_fails, piece_of};
 
 use crate::sink::Sink;
 use crate::source::{Failed, MOST_GIVEN, Source};
@@ -76,31 +75,11 @@ impl MemSource {
 }
 
 impl Source for MemSource {
-    ghost remaining = { λ s. Some s.left };
-
-    ghost given = { λ s. s.given };
-
-    ghost before = { λ s. s.before };
-
-    ghost done = { λ s. s.done };
-
-    ghost late = { λ s. s.late };
-
-    ghost faults = { λ s. s.faults };
+    ghost input = { input_in };
 
     fn take(&mut self, into: &mut [u8]) -> Result<usize, Failed>
         requires { 0 < length into.old }
-        ensures bound { IfOk result (λ n. n ≤ length into.new) }
-        ensures bytes { ReadConsumes (Some self.old.left) (Some self.new.left) result into.new }
-        ensures given { AddsGiven self.old.given self.new.given result }
-        ensures before { self.new.before ≡ self.old.given }
-        ensures done { self.new.done ≡ (self.old.done || gave_nothing result) }
-        ensures late { self.new.late ≡ (self.old.late || self.old.done) }
-        ensures limit { OnOk result (self.new.given ≤ most_given) }
-        ensures spent { self.old.given ≡ most_given → IsErr result }
-        ensures well { OnOk result (self.new.faults ≡ self.old.faults) }
-        ensures counted { self.old.faults ≤ self.new.faults }
-        ensures failed { OnErr result (Rose self.old.faults self.new.faults) }
+        ensures taken { IsTaken (input_in self.old) (input_in self.new) result into.new }
         // It fails at the chosen calls, and where it has given the most.
         ensures told { is_ok result ≡ not (supply_fails self.old) }
         ensures piece { IfOk result (λ n. n ≡ piece_of self.old (length into.old)) }
@@ -188,24 +167,11 @@ impl MemSink {
 }
 
 impl Sink for MemSink {
-    ghost contents = { λ s. Some s.held };
-
-    ghost done = { λ s. s.done };
-
-    ghost late = { λ s. s.late };
-
-    ghost faults = { λ s. s.faults };
+    ghost output = { output_in };
 
     fn put(&mut self, piece: &[u8]) -> Result<usize, Failed>
         requires { 0 < length piece.now }
-        ensures some { IfOk result (λ n. 0 < n) }
-        ensures bound { IfOk result (λ n. n ≤ length piece.now) }
-        ensures bytes { WriteAppends (Some self.old.held) (Some self.new.held) result piece.now }
-        ensures done { self.new.done ≡ (self.old.done || is_err result) }
-        ensures late { self.new.late ≡ (self.old.late || self.old.done) }
-        ensures well { OnOk result (self.new.faults ≡ self.old.faults) }
-        ensures counted { self.old.faults ≤ self.new.faults }
-        ensures failed { OnErr result (Rose self.old.faults self.new.faults) }
+        ensures put { IsPut (output_in self.old) (output_in self.new) result piece.now }
         // It fails at the chosen calls, and else only where memory runs out.
         ensures told { is_to_fail self.old.failing self.old.calls ≡ true → IsErr result }
         ensures piece { IfOk result (λ n. n ≡ min (length piece.now) self.old.largest) }

@@ -1,8 +1,7 @@
 //! Generated traces as sources.
-ghost use Rattle.std.specs.Prelude.{◌≡◌, ◌<◌, ◌≤◌, ◌||◌, Some, false, length, min};
-ghost use Rattle.std.specs.Prelude.{IfOk, OnOk, IsOk, IsErr};
-ghost use Rattle.std.specs.Io.KnownBytes.{ReadConsumes};
-ghost use Rattle.board_io.specs.Faults.{AddsGiven, gave_nothing, most_given};
+ghost use Rattle.std.specs.Prelude.{◌≡◌, ◌<◌, ◌≤◌, false, length, min, IfOk, IsOk};
+ghost use Rattle.board_io.specs.Ends.{IsTaken};
+ghost use Rattle.trace_gen.specs.Feed.{input_in};
 ghost use Rattle.trace_gen.specs.Text.{gen_text};
 ghost use Rattle.trace_gen.specs.declared.generator.TheConstants.{RECORDS_MAX, CPUS_MAX};
 
@@ -62,29 +61,12 @@ impl GenSource {
 }
 
 impl Source for GenSource {
-    ghost remaining = { λ s. Some s.left };
-
-    ghost given = { λ s. s.given };
-
-    ghost before = { λ s. s.before };
-
-    ghost done = { λ s. s.done };
-
-    ghost late = { λ s. s.late };
-
-    ghost faults = { λ _. 0 };
+    ghost input = { input_in };
 
     /// Puts the next bytes at the front of `into`, as many as there are places, and answers how many. It never fails.
     fn take(&mut self, into: &mut [u8]) -> Result<usize, Failed>
         requires { 0 < length into.old }
-        ensures bound { IfOk result (λ n. n ≤ length into.new) }
-        ensures bytes { ReadConsumes (Some self.old.left) (Some self.new.left) result into.new }
-        ensures given { AddsGiven self.old.given self.new.given result }
-        ensures before { self.new.before ≡ self.old.given }
-        ensures done { self.new.done ≡ (self.old.done || gave_nothing result) }
-        ensures late { self.new.late ≡ (self.old.late || self.old.done) }
-        ensures limit { OnOk result (self.new.given ≤ most_given) }
-        ensures spent { self.old.given ≡ most_given → IsErr result }
+        ensures taken { IsTaken (input_in self.old) (input_in self.new) result into.new }
         ensures piece { IfOk result (λ n. n ≡ min (length into.old) (length self.old.left)) }
         ensures never { IsOk result }
     {

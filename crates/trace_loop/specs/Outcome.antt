@@ -1,6 +1,7 @@
 -- What a run over lines has written when it ends.
-use Rattle.std.specs.Prelude.{◌≡◌, ℕ, ◌≤◌, List, ◌++◌, take, Option, None, ◌⊎◌}
+use Rattle.std.specs.Prelude.{◌≡◌, ◌≢◌, ℕ, ◌-◌, ◌≤◌, false, List, ◌++◌, take, Option, Some, None, ◌⊎◌}
 use Rattle.std.specs.Io.KnownBytes.{Appends}
+use Rattle.board_io.specs.Ends.{Input, Output}
 use Rattle.board_io.specs.Faults.{Rose}
 use Rattle.trace_loop.specs.Text.{source_fault_text, memory_fault_text}
 use Rattle.trace_loop.specs.Progress.{Closing, Answer, Progress, opened, behind, finished}
@@ -33,6 +34,13 @@ run_of answer closing a input before given faults faults_now = record {
   faults = faults;
   faults_now = faults_now;
 }
+
+-- the same over a source that was `start` before the run and is `end` after it
+abbrev pub run_over : {A E : Type 0} → (ℕ → A → List ℕ → Answer A E) → (ℕ → A → Closing E) → A
+    → List ℕ → Input → Input → Run A E
+run_over answer closing a input start end =
+    run_of answer closing a input (end.before - start.given) (end.given - start.given)
+    start.faults end.faults
 
 -- the whole text
 abbrev pub IsText : {A E : Type 0} → Run A E → List ℕ → Type 0
@@ -69,6 +77,24 @@ Outcome w (By end) old new =
 Outcome w SourceFault old new = (text : List ℕ) × IsSourceFault w text × Appends old new text
 Outcome w NoMemory old new = (text : List ℕ) × IsMemoryFault w text × Appends old new text
 Outcome w SinkFault old new = (cut : List ℕ) × IsCutOff w cut × Appends old new cut
+
+-- what a run over lines leaves of its source and its sink, by how they were before it: what is
+-- written; that the trace had not ended before the source was called last; that neither is called
+-- again after a call that gave nothing or failed; and whose fault it is that it ends in a fault
+pub record Leaves {A E : Type 0} (answer : ℕ → A → List ℕ → Answer A E)
+    (closing : ℕ → A → Closing E) (a : A) (start end : Input) (before after : Output)
+    (ended : Ended E) : Type 0 where
+  pub outcome : (input : List ℕ) → start.remaining ≡ Some input
+      → Outcome (run_over answer closing a input start end) ended before.contents after.contents
+  pub stopped : (input : List ℕ) → start.remaining ≡ Some input
+      → (behind answer (take (end.before - start.given) input) (opened a)).end ≡ None
+  pub once : start.done ≡ false → start.late ≡ false → end.late ≡ false
+  pub well : ended ≢ SourceFault → ended ≢ SinkFault → end.faults ≡ start.faults
+  pub source_fault : ended ≡ SourceFault → Rose start.faults end.faults
+  pub sink_fault : ended ≡ SinkFault → Rose before.faults after.faults
+  pub sink_well : ended ≢ SinkFault → after.faults ≡ before.faults
+  pub sink_quiet : ended ≢ SinkFault → after.done ≡ before.done
+  pub sink_once : before.done ≡ false → before.late ≡ false → after.late ≡ false
 
 -- the whole text was written, and this is the answer; or the sink failed, which showed, and took
 -- the text's beginning

@@ -276,17 +276,17 @@ impl Lines {
     /// Takes a piece from the source, where no byte is left.
     pub(crate) fn refill<S: Source>(&mut self, source: &mut S) -> Result<usize, Failed>
         requires { self.old.left ≡ [] }
-        ensures given { AddsGiven (S.given source.old) (S.given source.new) result }
-        ensures limit { OnOk result (S.given source.new ≤ most_given) }
-        ensures before { S.before source.new ≡ S.given source.old }
-        ensures done { S.done source.new ≡ (S.done source.old || gave_nothing result) }
-        ensures late { S.late source.new ≡ (S.late source.old || S.done source.old) }
+        ensures given { AddsGiven (S.input source.old).given (S.input source.new).given result }
+        ensures limit { OnOk result ((S.input source.new).given ≤ most_given) }
+        ensures before { (S.input source.new).before ≡ (S.input source.old).given }
+        ensures done { (S.input source.new).done ≡ ((S.input source.old).done || gave_nothing result) }
+        ensures late { (S.input source.new).late ≡ ((S.input source.old).late || (S.input source.old).done) }
         ensures count { IfOk result (λ n. length self.new.left ≡ n) }
         ensures bytes { OnOk result
-            (Consumes (S.remaining source.old) (S.remaining source.new) self.new.left) }
-        ensures end { IfOk result (λ n. n ≡ 0 → IsAtEnd (S.remaining source.new)) }
-        ensures well { OnOk result (S.faults source.new ≡ S.faults source.old) }
-        ensures failed { OnErr result (Rose (S.faults source.old) (S.faults source.new)) }
+            (Consumes (S.input source.old).remaining (S.input source.new).remaining self.new.left) }
+        ensures end { IfOk result (λ n. n ≡ 0 → IsAtEnd (S.input source.new).remaining) }
+        ensures well { OnOk result ((S.input source.new).faults ≡ (S.input source.old).faults) }
+        ensures failed { OnErr result (Rose (S.input source.old).faults (S.input source.new).faults) }
         ensures text { self.new.text ≡ self.old.text }
         ensures number { self.new.number ≡ self.old.number }
     {

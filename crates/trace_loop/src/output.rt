@@ -12,16 +12,16 @@ use clk_units::NoMemory;
 
 /// Puts a whole text into a sink. After an `Err` the sink has taken the text's beginning.
 pub fn put_all<K: Sink>(sink: &mut K, text: &[u8]) -> Result<(), Failed>
-    ensures all { OnOk result (Appends (K.contents sink.old) (K.contents sink.new) text.now) }
+    ensures all { OnOk result (Appends (K.output sink.old).contents (K.output sink.new).contents text.now) }
     ensures cut { OnErr result ((cut : List ℕ) × Begins cut text.now
-        × Appends (K.contents sink.old) (K.contents sink.new) cut) }
-    ensures well { OnOk result (K.faults sink.new ≡ K.faults sink.old) }
-    ensures quiet { OnOk result (K.done sink.new ≡ K.done sink.old) }
-    ensures once { K.done sink.old ≡ false → K.late sink.old ≡ false
-        → K.late sink.new ≡ false }
+        × Appends (K.output sink.old).contents (K.output sink.new).contents cut) }
+    ensures well { OnOk result ((K.output sink.new).faults ≡ (K.output sink.old).faults) }
+    ensures quiet { OnOk result ((K.output sink.new).done ≡ (K.output sink.old).done) }
+    ensures once { (K.output sink.old).done ≡ false → (K.output sink.old).late ≡ false
+        → (K.output sink.new).late ≡ false }
     ensures some { OnErr result (0 < length text.now) }
-    ensures counted { K.faults sink.old ≤ K.faults sink.new }
-    ensures failed { OnErr result (Rose (K.faults sink.old) (K.faults sink.new)) }
+    ensures counted { (K.output sink.old).faults ≤ (K.output sink.new).faults }
+    ensures failed { OnErr result (Rose (K.output sink.old).faults (K.output sink.new).faults) }
 {
     let mut put = 0;
     while put < text.len() {
@@ -32,13 +32,13 @@ pub fn put_all<K: Sink>(sink: &mut K, text: &[u8]) -> Result<(), Failed>
 
 /// Puts a whole text into a sink and answers `end`, or `fault` where the sink failed.
 pub fn say<R: Drop, K: Sink>(sink: &mut K, text: &[u8], end: R, fault: R) -> R
-    ensures said { SaidOr fault end result (K.contents sink.old) (K.contents sink.new) text.now
-        (Rose (K.faults sink.old) (K.faults sink.new)) }
-    ensures sink_well { result ≢ fault → K.faults sink.new ≡ K.faults sink.old }
-    ensures quiet { result ≢ fault → K.done sink.new ≡ K.done sink.old }
-    ensures once { K.done sink.old ≡ false → K.late sink.old ≡ false
-        → K.late sink.new ≡ false }
-    ensures counted { K.faults sink.old ≤ K.faults sink.new }
+    ensures said { SaidOr fault end result (K.output sink.old).contents (K.output sink.new).contents text.now
+        (Rose (K.output sink.old).faults (K.output sink.new).faults) }
+    ensures sink_well { result ≢ fault → (K.output sink.new).faults ≡ (K.output sink.old).faults }
+    ensures quiet { result ≢ fault → (K.output sink.new).done ≡ (K.output sink.old).done }
+    ensures once { (K.output sink.old).done ≡ false → (K.output sink.old).late ≡ false
+        → (K.output sink.new).late ≡ false }
+    ensures counted { (K.output sink.old).faults ≤ (K.output sink.new).faults }
 {
     match put_all(sink, text) {
         Ok(()) => end,
@@ -48,16 +48,16 @@ pub fn say<R: Drop, K: Sink>(sink: &mut K, text: &[u8], end: R, fault: R) -> R
 
 /// Puts whole texts one after another. After an `Err` the sink has taken a prefix of them all.
 fn put_each<K: Sink>(sink: &mut K, texts: &[Vec<u8>]) -> Result<(), Failed>
-    ensures all { OnOk result (Appends (K.contents sink.old) (K.contents sink.new)
+    ensures all { OnOk result (Appends (K.output sink.old).contents (K.output sink.new).contents
         (flat_map vec_items texts.now)) }
     ensures cut { OnErr result ((cut : List ℕ) × Begins cut (flat_map vec_items texts.now)
-        × Appends (K.contents sink.old) (K.contents sink.new) cut) }
-    ensures well { OnOk result (K.faults sink.new ≡ K.faults sink.old) }
-    ensures quiet { OnOk result (K.done sink.new ≡ K.done sink.old) }
-    ensures once { K.done sink.old ≡ false → K.late sink.old ≡ false
-        → K.late sink.new ≡ false }
-    ensures counted { K.faults sink.old ≤ K.faults sink.new }
-    ensures failed { OnErr result (Rose (K.faults sink.old) (K.faults sink.new)) }
+        × Appends (K.output sink.old).contents (K.output sink.new).contents cut) }
+    ensures well { OnOk result ((K.output sink.new).faults ≡ (K.output sink.old).faults) }
+    ensures quiet { OnOk result ((K.output sink.new).done ≡ (K.output sink.old).done) }
+    ensures once { (K.output sink.old).done ≡ false → (K.output sink.old).late ≡ false
+        → (K.output sink.new).late ≡ false }
+    ensures counted { (K.output sink.old).faults ≤ (K.output sink.new).faults }
+    ensures failed { OnErr result (Rose (K.output sink.old).faults (K.output sink.new).faults) }
 {
     for text in texts {
         put_all(sink, text)?;
@@ -67,13 +67,13 @@ fn put_each<K: Sink>(sink: &mut K, texts: &[Vec<u8>]) -> Result<(), Failed>
 
 /// Puts whole texts into a sink, one after another, and answers `end`, or `fault` where the sink failed.
 pub fn say_each<R: Drop, K: Sink>(sink: &mut K, texts: &[Vec<u8>], end: R, fault: R) -> R
-    ensures said { SaidOr fault end result (K.contents sink.old) (K.contents sink.new)
-        (flat_map vec_items texts.now) (Rose (K.faults sink.old) (K.faults sink.new)) }
-    ensures sink_well { result ≢ fault → K.faults sink.new ≡ K.faults sink.old }
-    ensures quiet { result ≢ fault → K.done sink.new ≡ K.done sink.old }
-    ensures once { K.done sink.old ≡ false → K.late sink.old ≡ false
-        → K.late sink.new ≡ false }
-    ensures counted { K.faults sink.old ≤ K.faults sink.new }
+    ensures said { SaidOr fault end result (K.output sink.old).contents (K.output sink.new).contents
+        (flat_map vec_items texts.now) (Rose (K.output sink.old).faults (K.output sink.new).faults) }
+    ensures sink_well { result ≢ fault → (K.output sink.new).faults ≡ (K.output sink.old).faults }
+    ensures quiet { result ≢ fault → (K.output sink.new).done ≡ (K.output sink.old).done }
+    ensures once { (K.output sink.old).done ≡ false → (K.output sink.old).late ≡ false
+        → (K.output sink.new).late ≡ false }
+    ensures counted { (K.output sink.old).faults ≤ (K.output sink.new).faults }
 {
     match put_each(sink, texts) {
         Ok(()) => end,

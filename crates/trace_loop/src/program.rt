@@ -22,8 +22,8 @@ ghost use Rattle.std.specs.Prelude.{
 };
 ghost use Rattle.board_io.specs.Faults.{Rose};
 ghost use Rattle.trace_loop.specs.Text.{memory_fault_text};
-ghost use Rattle.trace_loop.specs.Progress.{opened, standing, behind, finished};
-ghost use Rattle.trace_loop.specs.Outcome.{run_of, Outcome, Said};
+ghost use Rattle.trace_loop.specs.Progress.{standing, finished};
+ghost use Rattle.trace_loop.specs.Outcome.{Leaves, Said};
 ghost use Rattle.trace_loop.specs.private.Going.{RunEnds, ends_of};
 
 use crate::answerer::{Answerer, answer_line};
@@ -50,25 +50,8 @@ pub fn answer_lines<E: Drop, T: Answerer<E>, S: Source, K: Sink>(
     sink: &mut K,
 ) -> Ended<E>
     requires { T.may 1 answerer.old }
-    ensures outcome { (input : List ℕ) → S.remaining source.old ≡ Some input
-        → Outcome (run_of T.answer T.closing answerer.old input
-        (S.before source.new - S.given source.old) (S.given source.new - S.given source.old)
-        (S.faults source.old) (S.faults source.new))
-        result (K.contents sink.old) (K.contents sink.new) }
-    ensures stopped { (input : List ℕ) → S.remaining source.old ≡ Some input
-        → (behind T.answer (take (S.before source.new - S.given source.old) input)
-        (opened answerer.old)).end ≡ None }
-    ensures once { S.done source.old ≡ false → S.late source.old ≡ false
-        → S.late source.new ≡ false }
-    ensures well { result ≢ Ended.SourceFault → result ≢ Ended.SinkFault
-        → S.faults source.new ≡ S.faults source.old }
-    ensures source_fault { result ≡ Ended.SourceFault
-        → Rose (S.faults source.old) (S.faults source.new) }
-    ensures sink_fault { result ≡ Ended.SinkFault → Rose (K.faults sink.old) (K.faults sink.new) }
-    ensures sink_well { result ≢ Ended.SinkFault → K.faults sink.new ≡ K.faults sink.old }
-    ensures sink_quiet { result ≢ Ended.SinkFault → K.done sink.new ≡ K.done sink.old }
-    ensures sink_once { K.done sink.old ≡ false → K.late sink.old ≡ false
-        → K.late sink.new ≡ false }
+    ensures { Leaves T.answer T.closing answerer.old (S.input source.old) (S.input source.new)
+        (K.output sink.old) (K.output sink.new) result }
 {
     let mut feed = Feed::new(alloc);
     answer_fed(&mut feed, answerer, source, sink)
@@ -85,13 +68,11 @@ fn answer_fed<E: Drop, T: Answerer<E>, S: Source, K: Sink>(
     requires lines { feed.old.lines ≡ record { number = 0; line = []; text = []; left = [] } }
     requires out { feed.old.out.items ≡ [] }
     ensures over { RunEnds T.answer T.closing answerer.old
-        (ends_of S.remaining S.given S.before S.faults S.done S.late
-        K.contents K.faults source.old sink.old)
-        (ends_of S.remaining S.given S.before S.faults S.done S.late
-        K.contents K.faults source.new sink.new) result }
-    ensures sink_quiet { result ≢ Ended.SinkFault → K.done sink.new ≡ K.done sink.old }
-    ensures sink_once { K.done sink.old ≡ false → K.late sink.old ≡ false
-        → K.late sink.new ≡ false }
+        (ends_of (S.input source.old) (K.output sink.old))
+        (ends_of (S.input source.new) (K.output sink.new)) result }
+    ensures sink_quiet { result ≢ Ended.SinkFault → (K.output sink.new).done ≡ (K.output sink.old).done }
+    ensures sink_once { (K.output sink.old).done ≡ false → (K.output sink.old).late ≡ false
+        → (K.output sink.new).late ≡ false }
 {
     'lines: loop {
         match feed.lines.advance() {
@@ -144,15 +125,15 @@ fn end_input<E: Drop, T: Answerer<E>, K: Sink>(
     requires empty { out.old.items ≡ [] }
     ensures said { let ran = finished T.answer T.closing
         (standing (lines.now.number + 1) lines.now.text answerer.old []) in
-        Said (Ended.By ran.end) result (K.contents sink.old) (K.contents sink.new) ran.text
-        (Rose (K.faults sink.old) (K.faults sink.new))
-        ⊎ Said Ended.NoMemory result (K.contents sink.old) (K.contents sink.new)
-        memory_fault_text (Rose (K.faults sink.old) (K.faults sink.new)) }
-    ensures sink_well { result ≢ Ended.SinkFault → K.faults sink.new ≡ K.faults sink.old }
-    ensures sink_quiet { result ≢ Ended.SinkFault → K.done sink.new ≡ K.done sink.old }
-    ensures sink_once { K.done sink.old ≡ false → K.late sink.old ≡ false
-        → K.late sink.new ≡ false }
-    ensures counted { K.faults sink.old ≤ K.faults sink.new }
+        Said (Ended.By ran.end) result (K.output sink.old).contents (K.output sink.new).contents ran.text
+        (Rose (K.output sink.old).faults (K.output sink.new).faults)
+        ⊎ Said Ended.NoMemory result (K.output sink.old).contents (K.output sink.new).contents
+        memory_fault_text (Rose (K.output sink.old).faults (K.output sink.new).faults) }
+    ensures sink_well { result ≢ Ended.SinkFault → (K.output sink.new).faults ≡ (K.output sink.old).faults }
+    ensures sink_quiet { result ≢ Ended.SinkFault → (K.output sink.new).done ≡ (K.output sink.old).done }
+    ensures sink_once { (K.output sink.old).done ≡ false → (K.output sink.old).late ≡ false
+        → (K.output sink.new).late ≡ false }
+    ensures counted { (K.output sink.old).faults ≤ (K.output sink.new).faults }
 {
     match finish(answerer, lines.number() + 1, lines.text(), out) {
         Ok(end) => say(sink, out, Ended::By(end), Ended::SinkFault),
@@ -188,13 +169,13 @@ fn finish<E: Drop, T: Answerer<E>>(
 /// Writes what was answered before memory ran out, and then says so.
 #[tactic(auto, unfolding(crate::specs::Text::memory_fault_text))]
 fn want_memory<E: Drop, K: Sink>(sink: &mut K, out: &[u8]) -> Ended<E>
-    ensures said { Said Ended.NoMemory result (K.contents sink.old) (K.contents sink.new)
-        (out.now ++ memory_fault_text) (Rose (K.faults sink.old) (K.faults sink.new)) }
-    ensures sink_well { result ≢ Ended.SinkFault → K.faults sink.new ≡ K.faults sink.old }
-    ensures sink_quiet { result ≢ Ended.SinkFault → K.done sink.new ≡ K.done sink.old }
-    ensures sink_once { K.done sink.old ≡ false → K.late sink.old ≡ false
-        → K.late sink.new ≡ false }
-    ensures counted { K.faults sink.old ≤ K.faults sink.new }
+    ensures said { Said Ended.NoMemory result (K.output sink.old).contents (K.output sink.new).contents
+        (out.now ++ memory_fault_text) (Rose (K.output sink.old).faults (K.output sink.new).faults) }
+    ensures sink_well { result ≢ Ended.SinkFault → (K.output sink.new).faults ≡ (K.output sink.old).faults }
+    ensures sink_quiet { result ≢ Ended.SinkFault → (K.output sink.new).done ≡ (K.output sink.old).done }
+    ensures sink_once { (K.output sink.old).done ≡ false → (K.output sink.old).late ≡ false
+        → (K.output sink.new).late ≡ false }
+    ensures counted { (K.output sink.old).faults ≤ (K.output sink.new).faults }
 {
     if put_all(sink, out).is_err() {
         return Ended::SinkFault;

@@ -2,8 +2,9 @@
 use Rattle.std.proofs.Common.{◌≡◌, ℕ, Bool, List, [], Option, None, inl, inr, sym, ap, subst, ◌∙◌}
 use Rattle.std.specs.Io.KnownBytes.{Appends}
 use Rattle.std.proofs.KnownBytes.{Appends-trans}
+use Rattle.board_io.specs.Ends.{Input}
 use Rattle.trace_loop.specs.Progress.{opened, behind}
-use Rattle.trace_loop.specs.Outcome.{Run, Outcome, run_of}
+use Rattle.trace_loop.specs.Outcome.{Run, Outcome, run_over}
 use Rattle.trace_loop.specs.declared.ended.Ended.{Ended}
 use Rattle.trace_loop.specs.declared.ended.Ended.TheVariants.{By}
 use Rattle.reply_text.specs.declared.ends.Refused.TheVariants.{
@@ -132,12 +133,12 @@ verdict_no_sink (StoppedAt line (LastVersion version)) is = cc
 verdict_no_sink (StoppedAt line (AllSpent number)) is = cc
 
 -- a check that began before the first line
-pub checked_run : (shows_state : Bool) (input : List ℕ) (before given faults faults_now : ℕ) (s : Checking) (e : Ended Checked) (old new : Option (List ℕ))
-    → s ≡ check_start shows_state → Outcome (run_of check_answer check_closing s input before given faults faults_now) e old new
-    → Outcome (check_run shows_state input before given faults faults_now) e old new
+pub checked_run : (shows_state : Bool) (input : List ℕ) (start end : Input) (s : Checking) (e : Ended Checked) (old new : Option (List ℕ))
+    → s ≡ check_start shows_state → Outcome (run_over check_answer check_closing s input start end) e old new
+    → Outcome (check_run shows_state input start end) e old new
 unfolding check check_behind
-checked_run shows_state input before given faults faults_now s e old new is o =
-    subst (λ (t : Checking). Outcome (run_of check_answer check_closing t input before given faults faults_now) e old new) is o
+checked_run shows_state input start end s e old new is o =
+    subst (λ (t : Checking). Outcome (run_over check_answer check_closing t input start end) e old new) is o
 
 pub checked_on : (shows_state : Bool) (bytes : List ℕ) (s : Checking) → s ≡ check_start shows_state → (behind check_answer bytes (opened s)).end ≡ None
     → (check_behind shows_state bytes).end ≡ None

@@ -1,6 +1,7 @@
 -- What the job `race` prints for a trace, and what it leaves.
-use Rattle.std.specs.Prelude.{◌≡◌, ℕ, Bool, List, ◌++◌, take, Option, ◌⊎◌}
+use Rattle.std.specs.Prelude.{◌-◌, ◌≡◌, ℕ, Bool, List, ◌++◌, take, Option, ◌⊎◌}
 use Rattle.std.specs.Io.KnownBytes.{Appends}
+use Rattle.board_io.specs.Ends.{Input}
 use Rattle.board_types.specs.declared.parts.BoardParts.{BoardParts}
 use Rattle.trace_loop.specs.Text.{memory_fault_text}
 use Rattle.trace_loop.specs.Progress.{Closing}
@@ -29,16 +30,15 @@ use Rattle.trace_runner.specs.declared.status.Status.TheVariants.{
 }
 use Rattle.trace_runner.specs.declared.status.Verdict.{Verdict}
 
--- the run of a check over an input, of which so many bytes were given, and so many before the last
--- call
-abbrev pub check_run : Bool → List ℕ → ℕ → ℕ → ℕ → ℕ → Run Checking Checked
-check_run shows_state input before given faults faults_now = record {
+-- the run of a check over an input, by a source that was `start` before it and is `end` after it
+abbrev pub check_run : Bool → List ℕ → Input → Input → Run Checking Checked
+check_run shows_state input start end = record {
   at = λ k. check_behind shows_state (take k input);
   whole = check shows_state input;
-  before = before;
-  given = given;
-  faults = faults;
-  faults_now = faults_now;
+  before = end.before - start.given;
+  given = end.given - start.given;
+  faults = start.faults;
+  faults_now = end.faults;
 }
 
 -- a trace that was checked prints this: what its phases print, one behind another, and its last

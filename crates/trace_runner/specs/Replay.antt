@@ -1,5 +1,6 @@
 -- What the lines of a trace do, and what is printed for a trace.
 use Rattle.std.specs.Prelude.{
+  ◌-◌,
   ℕ,
   Bool,
   take,
@@ -13,6 +14,7 @@ use Rattle.std.specs.Prelude.{
   Err,
   if◌then◌else◌,
 }
+use Rattle.board_io.specs.Ends.{Input}
 use Rattle.board_types.specs.declared.setup.Setup.{Setup}
 use Rattle.board_types.specs.Setup.{setup_by_default}
 use Rattle.board_types.specs.declared.parts.BoardParts.{BoardParts}
@@ -122,14 +124,13 @@ progress_behind shows_state bytes = heard_behind answer_of bytes (opened (at_sta
 unfoldable pub replay : Bool → List ℕ → Closing Verdict
 replay shows_state bytes = finished answer_of closing_of (progress_behind shows_state bytes)
 
--- the run of a replay over an input, of which so many bytes were given, and so many before the last
--- call
-abbrev pub replay_run : Bool → List ℕ → ℕ → ℕ → ℕ → ℕ → Run Replay Verdict
-replay_run shows_state input before given faults faults_now = record {
+-- the run of a replay over an input, by a source that was `start` before it and is `end` after it
+abbrev pub replay_run : Bool → List ℕ → Input → Input → Run Replay Verdict
+replay_run shows_state input start end = record {
   at = λ k. progress_behind shows_state (take k input);
   whole = replay shows_state input;
-  before = before;
-  given = given;
-  faults = faults;
-  faults_now = faults_now;
+  before = end.before - start.given;
+  given = end.given - start.given;
+  faults = start.faults;
+  faults_now = end.faults;
 }

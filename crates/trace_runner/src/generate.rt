@@ -17,12 +17,12 @@ const PIECE: usize = 4096;
 /// Writes the trace of this size. It takes no memory.
 pub(crate) fn generate<K: Sink>(size: Size, sink: &mut K) -> Status
     requires { IsSize size }
-    ensures said { Said Status.Ok result (K.contents sink.old) (K.contents sink.new)
-        (gen_text size.key size.records size.cpus) (Rose (K.faults sink.old) (K.faults sink.new)) }
-    ensures sink_well { result ≢ Status.SinkFault → K.faults sink.new ≡ K.faults sink.old }
-    ensures sink_once { K.done sink.old ≡ false → K.late sink.old ≡ false
-        → K.late sink.new ≡ false }
-    ensures counted { K.faults sink.old ≤ K.faults sink.new }
+    ensures said { Said Status.Ok result (K.output sink.old).contents (K.output sink.new).contents
+        (gen_text size.key size.records size.cpus) (Rose (K.output sink.old).faults (K.output sink.new).faults) }
+    ensures sink_well { result ≢ Status.SinkFault → (K.output sink.new).faults ≡ (K.output sink.old).faults }
+    ensures sink_once { (K.output sink.old).done ≡ false → (K.output sink.old).late ≡ false
+        → (K.output sink.new).late ≡ false }
+    ensures counted { (K.output sink.old).faults ≤ (K.output sink.new).faults }
 {
     let mut generator = Generator::new(size.key, size.records, size.cpus as u8);
     let mut piece = [0; PIECE];

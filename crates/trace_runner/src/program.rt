@@ -82,50 +82,50 @@ pub fn run<R: Threads + Wait + Sync, S: Source, K: Sink, G: Gate + Sync>(
     // a trace that is replayed; or memory ran out as the words were read, and nothing was taken
     ensures replay { (shows_state : Bool)
         → command_of (map string_bytes words.now) ≡ ReplayOf shows_state
-        → (input : List ℕ) → S.remaining source.old ≡ Some input
-        → Shown (replay_run shows_state input (S.before source.new - S.given source.old)
-        (S.given source.new - S.given source.old) (S.faults source.old) (S.faults source.new))
-        result (K.contents sink.old) (K.contents sink.new)
-        ⊎ (Said Status.NoMemory result (K.contents sink.old) (K.contents sink.new)
-        memory_fault_text (Rose (K.faults sink.old) (K.faults sink.new))
+        → (input : List ℕ) → (S.input source.old).remaining ≡ Some input
+        → Shown (replay_run shows_state input (S.input source.old)
+        (S.input source.new))
+        result (K.output sink.old).contents (K.output sink.new).contents
+        ⊎ (Said Status.NoMemory result (K.output sink.old).contents (K.output sink.new).contents
+        memory_fault_text (Rose (K.output sink.old).faults (K.output sink.new).faults)
         × (source.new ≡ source.old)) }
     ensures stopped { (shows_state : Bool)
         → command_of (map string_bytes words.now) ≡ ReplayOf shows_state
-        → (input : List ℕ) → S.remaining source.old ≡ Some input
+        → (input : List ℕ) → (S.input source.old).remaining ≡ Some input
         → ((progress_behind shows_state
-        (take (S.before source.new - S.given source.old) input)).end ≡ None)
+        (take ((S.input source.new).before - (S.input source.old).given) input)).end ≡ None)
         ⊎ (source.new ≡ source.old) }
-    ensures once { S.done source.old ≡ false → S.late source.old ≡ false
-        → S.late source.new ≡ false }
+    ensures once { (S.input source.old).done ≡ false → (S.input source.old).late ≡ false
+        → (S.input source.new).late ≡ false }
     // a trace whose processors run on threads of their own
     ensures race { (shows_state : Bool)
         → command_of (map string_bytes words.now) ≡ RaceOf shows_state
-        → (input : List ℕ) → S.remaining source.old ≡ Some input
-        → RaceLeaves (check_run shows_state input (S.before source.new - S.given source.old)
-        (S.given source.new - S.given source.old) (S.faults source.old) (S.faults source.new))
-        result (K.contents sink.old) (K.contents sink.new)
-        (Rose (K.faults sink.old) (K.faults sink.new))
-        ⊎ (Said Status.NoMemory result (K.contents sink.old) (K.contents sink.new)
-        memory_fault_text (Rose (K.faults sink.old) (K.faults sink.new))
+        → (input : List ℕ) → (S.input source.old).remaining ≡ Some input
+        → RaceLeaves (check_run shows_state input (S.input source.old)
+        (S.input source.new))
+        result (K.output sink.old).contents (K.output sink.new).contents
+        (Rose (K.output sink.old).faults (K.output sink.new).faults)
+        ⊎ (Said Status.NoMemory result (K.output sink.old).contents (K.output sink.new).contents
+        memory_fault_text (Rose (K.output sink.old).faults (K.output sink.new).faults)
         × (source.new ≡ source.old)) }
     ensures race_stopped { (shows_state : Bool)
         → command_of (map string_bytes words.now) ≡ RaceOf shows_state
-        → (input : List ℕ) → S.remaining source.old ≡ Some input
+        → (input : List ℕ) → (S.input source.old).remaining ≡ Some input
         → ((check_behind shows_state
-        (take (S.before source.new - S.given source.old) input)).end ≡ None)
+        (take ((S.input source.new).before - (S.input source.old).given) input)).end ≡ None)
         ⊎ (source.new ≡ source.old) }
     // .. which prints what its replay prints where it has one processor, and no line is refused
     ensures race_alone { (shows_state : Bool)
         → command_of (map string_bytes words.now) ≡ RaceOf shows_state
-        → (input : List ℕ) → S.remaining source.old ≡ Some input
+        → (input : List ℕ) → (S.input source.old).remaining ≡ Some input
         → (trace : TraceRead) → (check shows_state input).end ≡ Whole trace
         → trace.opening.cpus ≡ 1
-        → AloneLeaves (check_run shows_state input (S.before source.new - S.given source.old)
-        (S.given source.new - S.given source.old) (S.faults source.old) (S.faults source.new))
-        (replay shows_state input) result (K.contents sink.old) (K.contents sink.new)
-        (Rose (K.faults sink.old) (K.faults sink.new))
-        ⊎ (Said Status.NoMemory result (K.contents sink.old) (K.contents sink.new)
-        memory_fault_text (Rose (K.faults sink.old) (K.faults sink.new))
+        → AloneLeaves (check_run shows_state input (S.input source.old)
+        (S.input source.new))
+        (replay shows_state input) result (K.output sink.old).contents (K.output sink.new).contents
+        (Rose (K.output sink.old).faults (K.output sink.new).faults)
+        ⊎ (Said Status.NoMemory result (K.output sink.old).contents (K.output sink.new).contents
+        memory_fault_text (Rose (K.output sink.old).faults (K.output sink.new).faults)
         × (source.new ≡ source.old)) }
     // what is printed before the word of a fault: whole lines in a replay, nothing in a race
     ensures whole_lines { (shows_state : Bool) → (bytes : List ℕ)
@@ -136,20 +136,20 @@ pub fn run<R: Threads + Wait + Sync, S: Source, K: Sink, G: Gate + Sync>(
     // every other command
     ensures said { (saying : Saying)
         → saying_of (command_of (map string_bytes words.now)) ≡ Some saying
-        → SaidAtMost saying.status result (K.contents sink.old) (K.contents sink.new)
-        saying.text (Rose (K.faults sink.old) (K.faults sink.new)) }
+        → SaidAtMost saying.status result (K.output sink.old).contents (K.output sink.new).contents
+        saying.text (Rose (K.output sink.old).faults (K.output sink.new).faults) }
     ensures untouched { reads_trace (command_of (map string_bytes words.now)) ≡ false
         → source.new ≡ source.old }
     // the faults of both ends
     ensures well { result ≢ Status.SourceFault → result ≢ Status.SinkFault
-        → S.faults source.new ≡ S.faults source.old }
+        → (S.input source.new).faults ≡ (S.input source.old).faults }
     ensures source_fault { result ≡ Status.SourceFault
-        → Rose (S.faults source.old) (S.faults source.new) }
+        → Rose (S.input source.old).faults (S.input source.new).faults }
     ensures sink_fault { result ≡ Status.SinkFault
-        → Rose (K.faults sink.old) (K.faults sink.new) }
-    ensures sink_well { result ≢ Status.SinkFault → K.faults sink.new ≡ K.faults sink.old }
-    ensures sink_once { K.done sink.old ≡ false → K.late sink.old ≡ false
-        → K.late sink.new ≡ false }
+        → Rose (K.output sink.old).faults (K.output sink.new).faults }
+    ensures sink_well { result ≢ Status.SinkFault → (K.output sink.new).faults ≡ (K.output sink.old).faults }
+    ensures sink_once { (K.output sink.old).done ≡ false → (K.output sink.old).late ≡ false
+        → (K.output sink.new).late ≡ false }
 {
     match command_of(alloc, words) {
         Ok(Command::Replay { shows_state }) => {
@@ -167,14 +167,14 @@ fn tell<K: Sink>(alloc: Global, command: Command, sink: &mut K) -> Status
     requires trace { reads_trace command ≡ false }
     requires size { HasSize command }
     ensures said { (saying : Saying) → saying_of command ≡ Some saying
-        → SaidAtMost saying.status result (K.contents sink.old) (K.contents sink.new)
-        saying.text (Rose (K.faults sink.old) (K.faults sink.new)) }
+        → SaidAtMost saying.status result (K.output sink.old).contents (K.output sink.new).contents
+        saying.text (Rose (K.output sink.old).faults (K.output sink.new).faults) }
     ensures source { result ≢ Status.SourceFault }
     ensures sink_fault { result ≡ Status.SinkFault
-        → Rose (K.faults sink.old) (K.faults sink.new) }
-    ensures sink_well { result ≢ Status.SinkFault → K.faults sink.new ≡ K.faults sink.old }
-    ensures sink_once { K.done sink.old ≡ false → K.late sink.old ≡ false
-        → K.late sink.new ≡ false }
+        → Rose (K.output sink.old).faults (K.output sink.new).faults }
+    ensures sink_well { result ≢ Status.SinkFault → (K.output sink.new).faults ≡ (K.output sink.old).faults }
+    ensures sink_once { (K.output sink.old).done ≡ false → (K.output sink.old).late ≡ false
+        → (K.output sink.new).late ≡ false }
 {
     match command {
         Command::Gen(size) => generate(size, sink),

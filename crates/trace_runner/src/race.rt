@@ -40,32 +40,32 @@ pub(crate) fn race<R: Threads + Wait + Sync, S: Source, K: Sink, G: Gate + Sync>
     source: &mut S,
     sink: &mut K,
 ) -> Status
-    ensures leaves { (input : List ℕ) → S.remaining source.old ≡ Some input
-        → RaceLeaves (check_run shows_state input (S.before source.new - S.given source.old)
-        (S.given source.new - S.given source.old) (S.faults source.old) (S.faults source.new))
-        result (K.contents sink.old) (K.contents sink.new)
-        (Rose (K.faults sink.old) (K.faults sink.new)) }
-    ensures alone { (input : List ℕ) → S.remaining source.old ≡ Some input
+    ensures leaves { (input : List ℕ) → (S.input source.old).remaining ≡ Some input
+        → RaceLeaves (check_run shows_state input (S.input source.old)
+        (S.input source.new))
+        result (K.output sink.old).contents (K.output sink.new).contents
+        (Rose (K.output sink.old).faults (K.output sink.new).faults) }
+    ensures alone { (input : List ℕ) → (S.input source.old).remaining ≡ Some input
         → (trace : TraceRead) → (check shows_state input).end ≡ Checked.Whole trace
         → trace.opening.cpus ≡ 1
-        → AloneLeaves (check_run shows_state input (S.before source.new - S.given source.old)
-        (S.given source.new - S.given source.old) (S.faults source.old) (S.faults source.new))
-        (replay shows_state input) result (K.contents sink.old) (K.contents sink.new)
-        (Rose (K.faults sink.old) (K.faults sink.new)) }
-    ensures stopped { (input : List ℕ) → S.remaining source.old ≡ Some input
+        → AloneLeaves (check_run shows_state input (S.input source.old)
+        (S.input source.new))
+        (replay shows_state input) result (K.output sink.old).contents (K.output sink.new).contents
+        (Rose (K.output sink.old).faults (K.output sink.new).faults) }
+    ensures stopped { (input : List ℕ) → (S.input source.old).remaining ≡ Some input
         → (check_behind shows_state
-        (take (S.before source.new - S.given source.old) input)).end ≡ None }
-    ensures once { S.done source.old ≡ false → S.late source.old ≡ false
-        → S.late source.new ≡ false }
+        (take ((S.input source.new).before - (S.input source.old).given) input)).end ≡ None }
+    ensures once { (S.input source.old).done ≡ false → (S.input source.old).late ≡ false
+        → (S.input source.new).late ≡ false }
     ensures well { result ≢ Status.SourceFault → result ≢ Status.SinkFault
-        → S.faults source.new ≡ S.faults source.old }
+        → (S.input source.new).faults ≡ (S.input source.old).faults }
     ensures source_fault { result ≡ Status.SourceFault
-        → Rose (S.faults source.old) (S.faults source.new) }
+        → Rose (S.input source.old).faults (S.input source.new).faults }
     ensures sink_fault { result ≡ Status.SinkFault
-        → Rose (K.faults sink.old) (K.faults sink.new) }
-    ensures sink_well { result ≢ Status.SinkFault → K.faults sink.new ≡ K.faults sink.old }
-    ensures sink_once { K.done sink.old ≡ false → K.late sink.old ≡ false
-        → K.late sink.new ≡ false }
+        → Rose (K.output sink.old).faults (K.output sink.new).faults }
+    ensures sink_well { result ≢ Status.SinkFault → (K.output sink.new).faults ≡ (K.output sink.old).faults }
+    ensures sink_once { (K.output sink.old).done ≡ false → (K.output sink.old).late ≡ false
+        → (K.output sink.new).late ≡ false }
 {
     let mut check = Checker::new(alloc, shows_state);
     match answer_lines(alloc, &mut check, source, sink) {
@@ -85,17 +85,17 @@ fn write<R: Threads + Wait + Sync, K: Sink, G: Gate + Sync>(
     trace: &Trace,
     sink: &mut K,
 ) -> Status
-    ensures said { CheckedLeaves (Checked.Whole trace.now) [] result (K.contents sink.old)
-        (K.contents sink.new) (Rose (K.faults sink.old) (K.faults sink.new)) }
+    ensures said { CheckedLeaves (Checked.Whole trace.now) [] result (K.output sink.old).contents
+        (K.output sink.new).contents (Rose (K.output sink.old).faults (K.output sink.new).faults) }
     ensures alone { trace.now.opening.cpus ≡ 1 → SaidAtMost Status.Ok result
-        (K.contents sink.old) (K.contents sink.new) (file_text trace.now)
-        (Rose (K.faults sink.old) (K.faults sink.new)) }
+        (K.output sink.old).contents (K.output sink.new).contents (file_text trace.now)
+        (Rose (K.output sink.old).faults (K.output sink.new).faults) }
     ensures source { result ≢ Status.SourceFault }
     ensures sink_fault { result ≡ Status.SinkFault
-        → Rose (K.faults sink.old) (K.faults sink.new) }
-    ensures sink_well { result ≢ Status.SinkFault → K.faults sink.new ≡ K.faults sink.old }
-    ensures sink_once { K.done sink.old ≡ false → K.late sink.old ≡ false
-        → K.late sink.new ≡ false }
+        → Rose (K.output sink.old).faults (K.output sink.new).faults }
+    ensures sink_well { result ≢ Status.SinkFault → (K.output sink.new).faults ≡ (K.output sink.old).faults }
+    ensures sink_once { (K.output sink.old).done ≡ false → (K.output sink.old).late ≡ false
+        → (K.output sink.new).late ≡ false }
 {
     let _ = &trace.phases;
     match text_of(rt, alloc, gate, trace) {

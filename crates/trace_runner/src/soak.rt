@@ -40,11 +40,11 @@ pub(crate) struct Sum {
 /// after it. It takes nothing from a source.
 pub(crate) fn run_soak<K: Sink>(alloc: Global, size: Size, sink: &mut K) -> Status
     requires { IsSize size }
-    ensures said { Soaked (soak_of size) result (K.contents sink.old) (K.contents sink.new)
-        (Rose (K.faults sink.old) (K.faults sink.new)) }
-    ensures sink_well { result ≢ Status.SinkFault → K.faults sink.new ≡ K.faults sink.old }
-    ensures sink_once { K.done sink.old ≡ false → K.late sink.old ≡ false
-        → K.late sink.new ≡ false }
+    ensures said { Soaked (soak_of size) result (K.output sink.old).contents (K.output sink.new).contents
+        (Rose (K.output sink.old).faults (K.output sink.new).faults) }
+    ensures sink_well { result ≢ Status.SinkFault → (K.output sink.new).faults ≡ (K.output sink.old).faults }
+    ensures sink_once { (K.output sink.old).done ≡ false → (K.output sink.old).late ≡ false
+        → (K.output sink.new).late ≡ false }
 {
     let mut source = GenSource::new(size.key, size.records, size.cpus as u8);
     let mut soak = Soak {

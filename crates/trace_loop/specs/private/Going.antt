@@ -19,6 +19,7 @@ use Rattle.std.specs.Prelude.{
   None,
 }
 use Rattle.std.specs.Io.KnownBytes.{Appends}
+use Rattle.board_io.specs.Ends.{Input, Output}
 use Rattle.board_io.specs.Faults.{Rose}
 use Rattle.trace_loop.specs.Progress.{Closing, Answer, Progress, opened, standing, behind}
 use Rattle.trace_loop.specs.Outcome.{run_of, Outcome}
@@ -85,18 +86,17 @@ pub record IsOver (A E : Type 0) (answer : ℕ → A → List ℕ → Answer A E
   pub sink_fault : ended ≡ SinkFault → Rose start.sink_faults now.sink_faults
   pub sink_well : ended ≢ SinkFault → now.sink_faults ≡ start.sink_faults
 
--- what is known of both ends, by what their traits have of them
-abbrev pub ends_of : {S K : Type 0} → (S → Option (List ℕ)) → (S → ℕ) → (S → ℕ) → (S → ℕ)
-    → (S → Bool) → (S → Bool) → (K → Option (List ℕ)) → (K → ℕ) → S → K → BothEnds
-ends_of remaining given before faults done late contents sink_faults source sink = record {
-  remaining = remaining source;
-  given = given source;
-  before = before source;
-  faults = faults source;
-  done = done source;
-  late = late source;
-  contents = contents sink;
-  sink_faults = sink_faults sink;
+-- what is known of both ends
+abbrev pub ends_of : Input → Output → BothEnds
+ends_of source sink = record {
+  remaining = source.remaining;
+  given = source.given;
+  before = source.before;
+  faults = source.faults;
+  done = source.done;
+  late = source.late;
+  contents = sink.contents;
+  sink_faults = sink.faults;
 }
 
 -- a run that began with this state is over

@@ -9,7 +9,7 @@ use Rattle.trace_loop.proofs.output.put_all.Goals as goal
 
 pub returns-in_err-put-clause-cut : goal.returns-in_err-put-clause-cut
 returns-in_err-put-clause-cut g c =
-    let contents = g.K.Sink.contents in
+    let contents = λ (sink : g.row.K.Denot). (g.K.Sink.output sink).contents in
     on_err_from c.from_residual.result ((cut : List ℕ) × Begins cut c.args.text.now × Appends (contents c.args.sink.now) (contents c.put.new.self) cut) (
       take c.loop-put.put c.args.text.now,
       (drop c.loop-put.put c.args.text.now, sym (take-append-drop c.loop-put.put c.args.text.now)),
@@ -19,7 +19,7 @@ returns-in_err-put-clause-cut g c =
 
 pub loop-put-preserved : goal.loop-put-preserved
 loop-put-preserved g c =
-    let contents = g.K.Sink.contents in
+    let contents = λ (sink : g.row.K.Denot). (g.K.Sink.output sink).contents in
     let inside : c.loop-put.put + c.in_ok-put.field-0 ≤ length c.args.text.now = omega (
       arith,
       c.in_ok-put.ensures.bound,

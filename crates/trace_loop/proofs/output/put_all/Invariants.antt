@@ -6,10 +6,10 @@ use Rattle.trace_loop.proofs.output.put_all.Given as goal
 abbrev pub invariant-loop-put : goal.invariant-loop-put
 invariant-loop-put g l = record {
   within : l.put ≤ length l.text;
-  front : Appends (g.K.Sink.contents l.fn.sink) (g.K.Sink.contents l.sink) (take l.put l.text);
-  well : g.K.Sink.faults l.sink ≡ g.K.Sink.faults l.fn.sink;
-  quiet : g.K.Sink.done l.sink ≡ g.K.Sink.done l.fn.sink;
-  once : g.K.Sink.done l.fn.sink ≡ false → g.K.Sink.late l.fn.sink ≡ false → g.K.Sink.late l.sink ≡ false;
+  front : Appends (g.K.Sink.output l.fn.sink).contents (g.K.Sink.output l.sink).contents (take l.put l.text);
+  well : (g.K.Sink.output l.sink).faults ≡ (g.K.Sink.output l.fn.sink).faults;
+  quiet : (g.K.Sink.output l.sink).done ≡ (g.K.Sink.output l.fn.sink).done;
+  once : (g.K.Sink.output l.fn.sink).done ≡ false → (g.K.Sink.output l.fn.sink).late ≡ false → (g.K.Sink.output l.sink).late ≡ false;
 }
 
 abbrev pub decreases-loop-put : goal.decreases-loop-put

@@ -9,7 +9,7 @@ use Rattle.trace_loop.proofs.output.put_each.Goals as goal
 
 pub returns-in_err-put_all-clause-cut : goal.returns-in_err-put_all-clause-cut
 returns-in_err-put_all-clause-cut g c =
-    let contents = g.K.Sink.contents in
+    let contents = λ (sink : g.row.K.Denot). (g.K.Sink.output sink).contents in
     let texts = c.args.texts.now in
     let i = c.loop-text.text-index in
     let front : List ℕ = flat_map vec_items (take i texts) in

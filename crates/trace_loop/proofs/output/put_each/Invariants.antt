@@ -7,8 +7,8 @@ use Rattle.trace_loop.proofs.output.put_each.Given as goal
 -- the texts so far were taken
 abbrev pub invariant-loop-text : goal.invariant-loop-text
 invariant-loop-text g l = record {
-  front : Appends (g.K.Sink.contents l.fn.sink) (g.K.Sink.contents l.sink) (flat_map vec_items (take l.text-index l.texts));
-  well : g.K.Sink.faults l.sink ≡ g.K.Sink.faults l.fn.sink;
-  quiet : g.K.Sink.done l.sink ≡ g.K.Sink.done l.fn.sink;
-  once : g.K.Sink.done l.fn.sink ≡ false → g.K.Sink.late l.fn.sink ≡ false → g.K.Sink.late l.sink ≡ false;
+  front : Appends (g.K.Sink.output l.fn.sink).contents (g.K.Sink.output l.sink).contents (flat_map vec_items (take l.text-index l.texts));
+  well : (g.K.Sink.output l.sink).faults ≡ (g.K.Sink.output l.fn.sink).faults;
+  quiet : (g.K.Sink.output l.sink).done ≡ (g.K.Sink.output l.fn.sink).done;
+  once : (g.K.Sink.output l.fn.sink).done ≡ false → (g.K.Sink.output l.fn.sink).late ≡ false → (g.K.Sink.output l.sink).late ≡ false;
 }

@@ -8,9 +8,9 @@ use Rattle.trace_loop.proofs.program.want_memory.Goals as goal
 pub returns-clause-said : goal.returns-clause-said
 unfolding memory_fault_text
 returns-clause-said g c =
-    said-behind NoMemory c.say.result (g.K.Sink.contents c.args.sink.now) (g.K.Sink.contents c.put_all.new.sink)
-    (g.K.Sink.contents c.say.new.sink) c.args.out.now memory_fault_text (g.K.Sink.faults c.args.sink.now) (g.K.Sink.faults c.put_all.new.sink)
-    (g.K.Sink.faults c.say.new.sink)
+    said-behind NoMemory c.say.result (g.K.Sink.output c.args.sink.now).contents (g.K.Sink.output c.put_all.new.sink).contents
+    (g.K.Sink.output c.say.new.sink).contents c.args.out.now memory_fault_text (g.K.Sink.output c.args.sink.now).faults (g.K.Sink.output c.put_all.new.sink).faults
+    (g.K.Sink.output c.say.new.sink).faults
     c.put_all.ensures.counted
-    (on_ok_from_is_err c.put_all.result (Appends (g.K.Sink.contents c.args.sink.now) (g.K.Sink.contents c.put_all.new.sink) c.args.out.now)
+    (on_ok_from_is_err c.put_all.result (Appends (g.K.Sink.output c.args.sink.now).contents (g.K.Sink.output c.put_all.new.sink).contents c.args.out.now)
     (sym c.if-is_err.ensures.value) c.put_all.ensures.all) c.say.ensures.said

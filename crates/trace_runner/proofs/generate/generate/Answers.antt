@@ -7,7 +7,7 @@ use Rattle.trace_runner.proofs.generate.generate.Goals as goal
 
 pub pieces-preserved : goal.pieces-preserved
 pieces-preserved g c =
-    let contents = g.K.Sink.contents in
+    let contents = (g.K.Sink.output in).contents
     let n : ℕ = c.fill-n.result in
     let left : List ℕ = c.pieces.generator in
     let put : List ℕ = c.pieces.invariant.0 in
@@ -23,7 +23,7 @@ pieces-preserved g c =
 
 pub returns-in-Err-clause-said : goal.returns-in-Err-clause-said
 returns-in-Err-clause-said g c =
-    let contents = g.K.Sink.contents in
+    let contents = (g.K.Sink.output in).contents
     let n : ℕ = c.fill-n.result in
     let left : List ℕ = c.pieces.generator in
     let put : List ℕ = c.pieces.invariant.0 in
@@ -32,7 +32,7 @@ returns-in-Err-clause-said g c =
     let front = filled_front left c.pieces.piece c.fill-n.new.into n (omega arith) c.fill-n.ensures.bytes in
     inr (
       refl,
-      subst (λ (k : ℕ). Rose k (g.K.Sink.faults c.put_all.new.sink)) c.pieces.invariant.3 c.in-Err.ensures.failed,
+      subst (λ (k : ℕ). Rose k (g.K.Sink.output c.put_all.new.sink).faults) c.pieces.invariant.3 c.in-Err.ensures.failed,
       (
         put ++ cut,
         (more ++ drop n left, piece_cut _ put left cut more n c.pieces.invariant.1 (sym front ∙ c.in-Err.ensures.cut.1.1)),

@@ -7,10 +7,10 @@ use Rattle.trace_runner.proofs.generate.generate.Given as goal
 abbrev pub invariant-pieces : goal.invariant-pieces
 invariant-pieces g l =
     (put : List ℕ) × (gen_text l.fn.size.key l.fn.size.records l.fn.size.cpus ≡ put ++ l.generator)
-    × Appends (g.K.Sink.contents l.fn.sink) (g.K.Sink.contents l.sink) put
-    × (g.K.Sink.faults l.sink ≡ g.K.Sink.faults l.fn.sink)
-    × (g.K.Sink.done l.sink ≡ g.K.Sink.done l.fn.sink)
-    × (g.K.Sink.done l.fn.sink ≡ false → g.K.Sink.late l.fn.sink ≡ false → g.K.Sink.late l.sink ≡ false)
+    × Appends (g.K.Sink.output l.fn.sink).contents (g.K.Sink.output l.sink).contents put
+    × ((g.K.Sink.output l.sink).faults ≡ (g.K.Sink.output l.fn.sink).faults)
+    × ((g.K.Sink.output l.sink).done ≡ (g.K.Sink.output l.fn.sink).done)
+    × ((g.K.Sink.output l.fn.sink).done ≡ false → (g.K.Sink.output l.fn.sink).late ≡ false → (g.K.Sink.output l.sink).late ≡ false)
 
 abbrev pub decreases-pieces : goal.decreases-pieces
 decreases-pieces g l = length l.generator

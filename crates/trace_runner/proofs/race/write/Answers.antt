@@ -13,8 +13,8 @@ returns-in-Ok-clause-alone g c = λ one.
     let t : TraceRead = c.args.trace.now in
     let free : IsFree t.opening t.phases = subst (λ (x : TraceRead). IsFree x.opening x.phases) c.trace.view_is c.trace.invariant in
     let text : List ℕ = c.in-Ok.text in
-    inl (subst (λ (l : List ℕ). Said Ok c.say_each.result (g.K.Sink.contents c.args.sink.now) (g.K.Sink.contents c.say_each.new.sink) l
-    (Rose (g.K.Sink.faults c.args.sink.now) (g.K.Sink.faults c.say_each.new.sink))) (c.pieces.ensures ∙ prints_plain t text free one c.in-Ok.ensures)
+    inl (subst (λ (l : List ℕ). Said Ok c.say_each.result (g.K.Sink.output c.args.sink.now).contents (g.K.Sink.output c.say_each.new.sink).contents l
+    (Rose (g.K.Sink.output c.args.sink.now).faults (g.K.Sink.output c.say_each.new.sink).faults)) (c.pieces.ensures ∙ prints_plain t text free one c.in-Ok.ensures)
     c.say_each.ensures.said)
 
 pub returns-in-Err-clause-said : goal.returns-in-Err-clause-said

@@ -21,12 +21,12 @@ returns-clause-said g c =
     let before : ℕ = c.answer_lines.new.source.before - c.new-source.result.given in
     let given : ℕ = c.answer_lines.new.source.given - c.new-source.result.given in
     let w : Run Soak Verdict = run_of soak_answer soak_closing start text before given 0 0 in
-    let shown : Type 0 = Rose (g.K.Sink.faults c.args.sink.now) (g.K.Sink.faults c.answer_lines.new.sink) in
-    let is = soaked_is w c.answer_lines.result (g.K.Sink.contents c.args.sink.now) (g.K.Sink.contents c.answer_lines.new.sink) shown
+    let shown : Type 0 = Rose (g.K.Sink.output c.args.sink.now).faults (g.K.Sink.output c.answer_lines.new.sink).faults in
+    let is = soaked_is w c.answer_lines.result (g.K.Sink.output c.args.sink.now).contents (g.K.Sink.output c.answer_lines.new.sink).contents shown
     (λ k. quiet-behind (take k text) (opened start) (λ _. refl)) (λ rose. elim rose [ inl some ↦ omega arith | inr last ↦ omega arith ])
     c.answer_lines.ensures.sink_fault (c.answer_lines.ensures.outcome text (ap (λ (f : Feed). Some f.left) c.new-source.ensures)) in
-    subst (λ (s : Status). Soaked (soak_of c.args.size) s (g.K.Sink.contents c.args.sink.now) (g.K.Sink.contents c.answer_lines.new.sink) shown)
+    subst (λ (s : Status). Soaked (soak_of c.args.size) s (g.K.Sink.output c.args.sink.now).contents (g.K.Sink.output c.answer_lines.new.sink).contents shown)
     (sym c.status_of.ensures)
-    (subst (λ (r : Replay). Soaked (soak_from r c.args.size.records text) (status_of c.answer_lines.result) (g.K.Sink.contents c.args.sink.now)
-    (g.K.Sink.contents c.answer_lines.new.sink) shown)
+    (subst (λ (r : Replay). Soaked (soak_from r c.args.size.records text) (status_of c.answer_lines.result) (g.K.Sink.output c.args.sink.now).contents
+    (g.K.Sink.output c.answer_lines.new.sink).contents shown)
     c.new.ensures is)
