@@ -15,7 +15,7 @@ use Rattle.clock_table.specs.declared.view.View.{View}
 use Rattle.clock_table.specs.Steps.{GoesOnQuietly, Extends, Hears, pen_left}
 use Rattle.clock_table.proofs.Keeps.{quiet_beside}
 use Rattle.clock_table.specs.declared.call.Call.{Call}
-use Rattle.shared_board.specs.private.Seats.{IsAtRest, IsWriter, IsBelow, AreAlike, PenMoved, IsPenOf}
+use Rattle.shared_board.specs.private.Seats.{IsAtRest, IsBelow, AreAlike, PenMoved, IsPenOf}
 use Rattle.clock_table.specs.Calls.{entry_of}
 
 -- boards that are alike have the same pages, refuse alike, answer alike, and are alike after an access
@@ -51,18 +51,6 @@ alike_told c r b v w e x =
     let quiet : AreAlike (board_after v.seen) (board_after (v.seen ++ x.0)) = alike_quiet (board_after v.seen) v.seen (v.seen ++ x.0) refl (x.0, refl, x.2) in
     e ∙ (alike_after (board_after v.seen) (board_after (v.seen ++ x.0)) c.cpu c.h c.access quiet
     ∙ sym (ap (λ l. with_greatest (board_after l) 0) seen ∙ ap (λ (y : BoardParts). with_greatest y 0) (board_after-snoc (v.seen ++ x.0) (entry_of c r))))
-
--- the seat that had the pen last has it again
-pub writer_again : (m : ℕ) (v w w' : View) → IsWriter m w → v.made ≡ m → IsLegal v.seen → PenMoved v (pen_left w) w' → IsWriter m w'
-writer_again m v w w' i made legal moved = record {
-  number = moved.number ∙ i.number;
-  pen = moved.pen;
-  hand = moved.hand;
-  meet = moved.meet;
-  made = moved.made ∙ made;
-  ended = moved.ended ∙ i.ended;
-  legal = ⊎_elim (λ (e : w'.seen ≡ w.seen). subst IsLegal (sym e) i.legal) (λ (e : w'.seen ≡ v.seen). subst IsLegal (sym e) legal) moved.either;
-}
 
 pub legal_either : (v w x : View) → IsLegal v.seen → IsLegal w.seen → (x.seen ≡ v.seen) ⊎ (x.seen ≡ w.seen) → IsLegal x.seen
 legal_either v w x a b e = ⊎_elim (λ (q : x.seen ≡ v.seen). subst IsLegal (sym q) a) (λ (q : x.seen ≡ w.seen). subst IsLegal (sym q) b) e

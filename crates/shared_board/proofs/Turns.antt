@@ -1,10 +1,11 @@
 -- A turn with the pen, whichever way it ended.
-use Rattle.std.proofs.Common.{◌≡◌, ℕ, ◌<◌, ◌^◌, [], ◌∷◌, ◌++◌, refl, ap, sym, ◌∙◌, subst, arith, Some, true, Result, Ok, Err, IfOk, IfErr, OnOk, eq-eqb}
+use Rattle.std.proofs.Common.{◌≡◌, ℕ, ◌<◌, ◌^◌, List, [], ◌∷◌, ◌++◌, refl, ap, sym, ◌∙◌, subst, arith, Some, true, Result, Ok, Err, IfOk, IfErr, OnOk, eq-eqb}
 use Rattle.board_types.specs.declared.parts.BoardParts.{BoardParts}
 use Rattle.board_types.specs.declared.reply.Refusal.{Refusal}
 use Rattle.board_types.specs.declared.reply.Reply.{Reply}
 use Rattle.board_core.specs.Pages.{with_greatest}
 use Rattle.board_core.specs.Refusals.{refusal_of}
+use Rattle.board_history.specs.Machine.{machine_of}
 use Rattle.board_history.specs.History.{board_after, IsLegal}
 use Rattle.board_history.specs.declared.entry.Entry.{Entry}
 use Rattle.board_history.specs.declared.entry.Entry.TheVariants.{Board}
@@ -12,46 +13,80 @@ use Rattle.board_history.specs.History.{read_of}
 use Rattle.board_history.proofs.Laws.{board_after-snoc, read_of-leaves, read_of-number}
 use Rattle.pvclock_page.specs.declared.page.Page.{Page}
 use Rattle.clock_table.specs.declared.view.View.{View}
-use Rattle.clock_table.specs.Steps.{Extends, pen_left, loud}
+use Rattle.clock_table.specs.Steps.{Extends, pen_left, pen_right, loud}
 use Rattle.clock_table.proofs.Keeps.{loud-append, loud_quiet}
 use Rattle.clock_table.specs.declared.call.Call.{Call}
 use Rattle.shared_board.specs.Passes.{Answered, Unanswered, Refused}
 use Rattle.std.proofs.Common.{append-nil}
 use Rattle.shared_board.specs.Pages.{HadRoom}
 use Rattle.shared_board.specs.Faults.{IsFull}
-use Rattle.shared_board.specs.private.Seats.{known, IsAtRest, IsBelow, AreAlike, PenMoved, IsPenOf, HasActed, HasRefused, IsSpentAt}
+use Rattle.shared_board.specs.private.Seats.{known, IsAtRest, IsBelow, AreAlike, IsHeldBy, IsHeld, PenMoved, IsPenOf, HasActed, HasRefused, IsSpentAt}
 use Rattle.clock_table.specs.Calls.{entry_of}
-use Rattle.shared_board.proofs.Seats.{alike_quiet, below_same, below_told, told_rests, same_rests}
+use Rattle.shared_board.proofs.Seats.{alike_quiet, legal_either, pen_of, below_moved, below_left, below_told, told_rests, same_rests}
 use Rattle.shared_board.proofs.Made.{told_answered, moved_unanswered}
 use Rattle.shared_board.proofs.Clocks.{loud-le}
 
--- what is so of the seat after a turn, before the pen goes back
-pub record HasTurned (m n : ℕ) (b : BoardParts) (x y : View) : Type 0 where
-  pub alike : AreAlike b (board_after y.seen)
-  pub legal : IsLegal y.seen
-  pub made : y.made ≡ x.made
-  pub below : IsBelow m y
-  pub rests : (z : View) → z ≡ pen_left y → IsAtRest n z
+-- the writer's seat, as it was taken from its place
+pub taken : (opening : BoardParts) (m : ℕ) (b : BoardParts) (vs : List View) (w : View) → IsHeld opening m b vs → vs ≡ w ∷ [] → IsHeldBy opening m b w
+taken opening m b vs w held is = let same : held.0 ≡ w = cc (held.1, is) in subst (IsHeldBy opening m b) same held.2
+
+-- what is so of the seat x that has the pen for the pass n, and of the board b
+pub record HasPen (opening : BoardParts) (m n : ℕ) (b : BoardParts) (x : View) : Type 0 where
+  pub pen : IsPenOf n x
+  pub made : x.made ≡ m
+  pub ended : x.ended ≡ []
+  pub below : IsBelow m x
+  pub legal : IsLegal x.seen
+  pub alike : AreAlike b (board_after x.seen)
+  pub machine : machine_of b ≡ machine_of opening
+
+-- before a turn: the seat v of the pass has taken in the writer's, w
+pub pen_taken : (opening : BoardParts) (m n : ℕ) (b : BoardParts) (vs : List View) (v w x : View) → IsHeld opening m b vs → vs ≡ w ∷ [] → IsAtRest n v
+    → IsBelow m v → PenMoved w v x → HasPen opening m n b x
+pen_taken opening m n b vs v w x held is rest low moved =
+    let i = taken opening m b vs w held is in
+    record {
+      pen = pen_of n v w x rest moved;
+      made = moved.made ∙ i.writer.made;
+      ended = moved.ended ∙ rest.ended;
+      below = below_moved m w v x i.below low moved;
+      legal = legal_either v w x rest.legal i.writer.legal moved.either;
+      alike = alike_quiet b w.seen x.seen i.alike moved.quiet;
+      machine = i.machine;
+    }
+
+-- after it: the pass is at rest, and the writer's seat is as it was
+pub record HasTurned (opening : BoardParts) (m n : ℕ) (b : BoardParts) (y : View) : Type 0 where
+  pub writer : IsHeldBy opening m b (pen_right y)
+  pub rests : (z : View) → z ≡ pen_left y → IsAtRest n z × IsBelow m z
+
+turned_of : (opening : BoardParts) (m n : ℕ) (b : BoardParts) (y : View) → y.made ≡ m → IsBelow m y → IsLegal y.seen → AreAlike b (board_after y.seen)
+    → machine_of b ≡ machine_of opening → ((z : View) → z ≡ pen_left y → IsAtRest n z) → HasTurned opening m n b y
+turned_of opening m n b y made below legal alike machine rests = record {
+  writer = record {
+    writer = record { number = refl; pen = refl; hand = refl; meet = refl; made = made; ended = refl; legal = legal };
+    below = record { limit = below.limit; below = below.below };
+    alike = alike;
+    machine = machine;
+  };
+  rests = λ z left. (rests z left, below_left m y z left below);
+}
+
+-- a turn in which nothing was done
+turned_same : (opening : BoardParts) (m n : ℕ) (b : BoardParts) (x y : View) → HasPen opening m n b x → y ≡ x → HasTurned opening m n b y
+turned_same opening m n b x y has same =
+    subst (HasTurned opening m n b) (sym same) (turned_of opening m n b x has.made has.below has.legal has.alike has.machine
+    (λ z left. same_rests n x x z has.pen has.ended has.legal refl left))
 
 -- an access
-pub act_turned : {A : Type 0} (res : Result A Refusal) (r : Reply) (m : ℕ) (c : Call) (b b' : BoardParts) (x y : View) → IsPenOf c.pass x → x.ended ≡ []
-    → IsBelow m x
-    → AreAlike b (board_after x.seen) → IsLegal x.seen → OnOk res (HasActed c r b' x y) → IfErr res (λ f. HasRefused c f b b' x y)
-    → HasTurned m c.pass b' x y
-act_turned (Ok _) r m c b b' x y has none low alike legal ok err = record {
-  alike = ok.alike;
-  legal = ok.told.3.legal;
-  made = ap (λ u. u.made) ok.told.1;
-  below = below_told m x y (entry_of c r) ok.told low;
-  rests = λ z left. told_rests c.pass (entry_of c r) x y z has none ok.told left;
-}
-act_turned (Err f) r m c b b' x y has none low alike legal ok err = record {
-  alike = subst (λ (z : BoardParts × View). AreAlike z.0 (board_after z.1.seen)) (λ i. (sym err.board i, sym err.seat i)) alike;
-  legal = subst (λ (z : View). IsLegal z.seen) (sym err.seat) legal;
-  made = ap (λ u. u.made) err.seat;
-  below = below_same m x y err.seat low;
-  rests = λ z left. same_rests c.pass x y z has none legal err.seat left;
-}
+pub act_turned : {A : Type 0} (res : Result A Refusal) (r : Reply) (opening : BoardParts) (m : ℕ) (c : Call) (b b' : BoardParts) (x y : View)
+    → HasPen opening m c.pass b x → machine_of b' ≡ machine_of b → OnOk res (HasActed c r b' x y) → IfErr res (λ f. HasRefused c f b b' x y)
+    → HasTurned opening m c.pass b' y
+act_turned (Ok _) r opening m c b b' x y has machine ok err =
+    turned_of opening m c.pass b' y (ap (λ u. u.made) ok.told.1 ∙ has.made) (below_told m x y (entry_of c r) ok.told has.below) ok.told.3.legal ok.alike
+    (machine ∙ has.machine) (λ z left. told_rests c.pass (entry_of c r) x y z has.pen has.ended ok.told left)
+act_turned (Err f) r opening m c b b' x y has machine ok err =
+    turned_same opening m c.pass b' x y (subst (λ (z : BoardParts). HasPen opening m c.pass z x) (sym err.board) has) err.seat
 
 pub act_answered : {A : Type 0} (res : Result A Refusal) (r : Reply) (n cpu h : ℕ) (c : Call) (b' : BoardParts) (v w x y z : View) → c.pass ≡ n
     → IsAtRest n v → PenMoved w v x
@@ -77,28 +112,17 @@ act_refused (Err f) n c b b' v w x y z rest moved legal left err =
     }
 
 -- a read under the lock
-pub read_turned : (res : Result Page ℕ) (c m n cpu h : ℕ) (b : BoardParts) (x y : View) → IsPenOf n x → x.ended ≡ [] → IsBelow m x
-    → AreAlike b (board_after x.seen) → IsLegal x.seen → IfOk res (λ page. Extends (read_of c n cpu h page true) x y) → IfErr res (λ f. IsSpentAt f x y)
-    → HasTurned m n b x y
-read_turned (Ok page) c m n cpu h b x y has none low alike legal ok err =
+pub read_turned : (res : Result Page ℕ) (c : ℕ) (opening : BoardParts) (m n cpu h : ℕ) (b : BoardParts) (x y : View) → HasPen opening m n b x
+    → IfOk res (λ page. Extends (read_of c n cpu h page true) x y) → IfErr res (λ f. IsSpentAt f x y) → HasTurned opening m n b y
+read_turned (Ok page) c opening m n cpu h b x y has ok err =
     let e : Entry = read_of c n cpu h page true in
     let seen : y.seen ≡ (x.seen ++ ok.0) ++ e ∷ [] = ap (λ u. u.seen) ok.1 in
-    record {
-      alike = alike_quiet b x.seen (x.seen ++ ok.0) alike (ok.0, refl, ok.2)
-          ∙ sym (ap (λ l. with_greatest (board_after l) 0) seen ∙ ap (λ (z : BoardParts). with_greatest z 0) (board_after-snoc (x.seen ++ ok.0) e
-          ∙ read_of-leaves (board_after (x.seen ++ ok.0)) c n cpu h page true));
-      legal = ok.3.legal;
-      made = ap (λ u. u.made) ok.1;
-      below = below_told m x y e ok low;
-      rests = λ z left. told_rests n e x y z has none ok left;
-    }
-read_turned (Err f) c m n cpu h b x y has none low alike legal ok err = record {
-  alike = subst (λ (z : View). AreAlike b (board_after z.seen)) (sym err.seat) alike;
-  legal = subst (λ (z : View). IsLegal z.seen) (sym err.seat) legal;
-  made = ap (λ u. u.made) err.seat;
-  below = below_same m x y err.seat low;
-  rests = λ z left. same_rests n x y z has none legal err.seat left;
-}
+    turned_of opening m n b y (ap (λ u. u.made) ok.1 ∙ has.made) (below_told m x y e ok has.below) ok.3.legal
+    (alike_quiet b x.seen (x.seen ++ ok.0) has.alike (ok.0, refl, ok.2)
+    ∙ sym (ap (λ l. with_greatest (board_after l) 0) seen ∙ ap (λ (z : BoardParts). with_greatest z 0) (board_after-snoc (x.seen ++ ok.0) e
+    ∙ read_of-leaves (board_after (x.seen ++ ok.0)) c n cpu h page true)))
+    has.machine (λ z left. told_rests n e x y z has.pen has.ended ok left)
+read_turned (Err f) c opening m n cpu h b x y has ok err = turned_same opening m n b x y has err.seat
 
 pub read_answered : (res : Result Page ℕ) (c n cpu h : ℕ) (v w x y z : View) → IsAtRest n v → PenMoved w v x → z ≡ pen_left y
     → IfOk res (λ page. Extends (read_of c n cpu h page true) x y) → IfOk res (λ page. Answered (known n v) (known n z) (read_of c n cpu h page true))

@@ -4,8 +4,6 @@ ghost use Rattle.std.specs.Prelude.{
   ◌<◌,
   ◌≤◌,
   ◌^◌,
-  ◌+◌,
-  [],
   true,
   None,
   Some,
@@ -35,11 +33,11 @@ ghost use Rattle.shared_board.specs.private.Seats.{
 };
 
 use crate::pass::Pass;
-use crate::pens::{move_pen, publish};
+use crate::pens::{publish, take_pen};
 use board_core::{Access, BoardState, Refusal, Reply};
 use board_history::{page_published, read_entry, table_page};
 use clk_units::NoMemory;
-use clock_table::{Call, ClockSeat, ClockTable, Name};
+use clock_table::{Call, ClockSeat, ClockTable, Name, SeatPlace};
 use pvclock_page::Page;
 use std::alloc::Global;
 use std::marker::Model;
@@ -52,23 +50,19 @@ const FULL: u64 = 1 << 63;
 #[derive(Drop)]
 pub struct Held<N: Name> {
     pub(crate) board: Box<BoardState>,
-    pub(crate) seat: ClockSeat<N>,
+    pub(crate) writer: SeatPlace<N>,
 }
 
 impl<N: Name> Model for Held<N> {
-    ghost use Rattle.std.specs.Prelude.{List, ◌≡◌};
-    ghost use Rattle.board_history.specs.Machine.{machine_of};
-    ghost use Rattle.board_history.specs.History.{board_after};
-    ghost use Rattle.board_history.specs.declared.entry.Entry.{Entry};
-    ghost use Rattle.shared_board.specs.private.Seats.{IsWriter, IsBelow, AreAlike};
+    ghost use Rattle.std.specs.Prelude.{List};
+    ghost use Rattle.clock_table.specs.declared.view.View.{View};
+    ghost use Rattle.shared_board.specs.private.Seats.{IsHeld};
 
-    ghost Value = { List Entry };
+    ghost Value = { List View };
 
-    ghost view = { λ s. s.seat.seen };
+    ghost view = { λ s. s.writer };
 
-    ghost invariant = { λ s. IsWriter N.passes s.seat
-        × AreAlike s.board.value (board_after s.seat.seen)
-        × (machine_of s.board.value ≡ machine_of N.state) × IsBelow N.passes s.seat };
+    ghost invariant = { λ s. IsHeld N.state N.passes s.board.value s.writer };
 }
 
 impl<N: Name> Held<N> {
@@ -92,7 +86,7 @@ impl<N: Name> Held<N> {
         ensures err { IfErr result (λ f. Refused cpu h a f pass.old pass.new) }
         ensures unchanged { OnErr result (reply.new ≡ reply.old) }
     {
-        move_pen(table, &mut self.seat, &mut pass.seat);
+        take_pen(table, self.writer.take(), &mut pass.seat);
         let call = Call {
             pass: pass.number,
             cpu,
@@ -100,7 +94,7 @@ impl<N: Name> Held<N> {
             access: a,
         };
         let result = act(table, &mut *self.board, &mut pass.seat, call, reply);
-        move_pen(table, &mut pass.seat, &mut self.seat);
+        self.writer = SeatPlace::new(table.split_pen(&mut pass.seat));
         result
     }
 
@@ -122,7 +116,7 @@ impl<N: Name> Held<N> {
         ensures spent { IfErr result (λ front. Unanswered pass.old pass.new
             × (pass.new.misses ≡ pass.old.misses) × IsFull front pass.new.seen) }
     {
-        let front = move_pen(table, &mut self.seat, &mut pass.seat);
+        let front = take_pen(table, self.writer.take(), &mut pass.seat);
         let result = read(
             table,
             &*self.board,
@@ -132,7 +126,7 @@ impl<N: Name> Held<N> {
             h,
             front,
         );
-        move_pen(table, &mut pass.seat, &mut self.seat);
+        self.writer = SeatPlace::new(table.split_pen(&mut pass.seat));
         result
     }
 }

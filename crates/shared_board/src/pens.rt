@@ -1,32 +1,31 @@
 //! The pen: how it comes from one seat to another, and what its holder does with it.
-ghost use Rattle.std.specs.Prelude.{◌≡◌, ◌<◌, ◌≤◌, ◌++◌, [], ◌∷◌, true, false, None};
+ghost use Rattle.std.specs.Prelude.{◌≡◌, ◌<◌, ◌≤◌, ◌++◌, [], ◌∷◌, false, None};
 ghost use Rattle.board_types.specs.declared.parts.TheConstants.{LAST_VERSION};
 ghost use Rattle.board_history.specs.Machine.{page_at};
 ghost use Rattle.board_history.specs.History.{board_after, version_after};
-ghost use Rattle.clock_table.specs.Steps.{pen_left, Extends, loud};
+ghost use Rattle.clock_table.specs.Steps.{Extends, loud};
 ghost use Rattle.clock_table.specs.Calls.{IsPen, IsNext, IsPublishing, entry_of};
-ghost use Rattle.shared_board.specs.private.Seats.{PenMoved};
+ghost use Rattle.shared_board.specs.private.Seats.{IsWriter, PenMoved};
 
 use board_core::{BoardState, Reply};
 use board_history::table_page;
 use clock_table::{Call, ClockSeat, ClockTable, Field, Name};
 use pvclock_page::page_words;
 
-/// Moves the pen from one seat to another, which has then seen all accesses and locked reads. It answers the front word.
-pub(crate) fn move_pen<N: Name>(
+/// A pass takes the pen: its seat takes in the writer's, and has then seen all accesses and locked reads. It answers the
+/// front word.
+pub(crate) fn take_pen<N: Name>(
     table: &ClockTable<N>,
-    from: &mut ClockSeat<N>,
-    to: &mut ClockSeat<N>,
+    writer: ClockSeat<N>,
+    seat: &mut ClockSeat<N>,
 ) -> u64
-    requires from { (from.old.pen ≡ true) × (from.old.meet ≡ None) × (from.old.hand ≡ None) }
-    requires to { (to.old.pen ≡ false) × (to.old.meet ≡ None) × (to.old.hand ≡ None) }
-    ensures left { from.new ≡ pen_left from.old }
-    ensures moved { PenMoved from.old to.old to.new }
-    ensures front { result ≡ loud to.new.seen }
+    requires writer { IsWriter N.passes writer }
+    requires seat { (seat.old.pen ≡ false) × (seat.old.meet ≡ None) × (seat.old.hand ≡ None) }
+    ensures moved { PenMoved writer seat.old seat.new }
+    ensures front { result ≡ loud seat.new.seen }
 {
-    let gone = table.split_pen(from);
-    table.join(to, gone);
-    table.front(to)
+    table.join(seat, writer);
+    table.front(seat)
 }
 
 /// Publishes a page of the table, and makes the entry of the access that does. It is a function of its own, so that an access

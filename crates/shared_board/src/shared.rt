@@ -33,7 +33,7 @@ use board_core::{Access, BoardState, Refusal, Reply};
 use board_history::{answer_by, hv_answer_by};
 use board_io::Gate;
 use clk_units::NoMemory;
-use clock_table::{Blank, ClockTable, Name};
+use clock_table::{Blank, ClockTable, Name, SeatPlace};
 use crossbeam_utils::CachePadded;
 use host_counter::TimeFault;
 use hv_page::{HvReply, of_page};
@@ -106,17 +106,18 @@ impl<N: Name> SharedBoard<N> {
             Ok(list) => list,
             Err(_full) => return Err(NoMemory),
         };
-        let held = boxed(alloc, state)?;
-        let parts = state.parts();
-        let anchor = parts.anchor;
+        let anchor = state.anchor();
         let board = SharedBoard {
             table,
-            held: CachePadded::new(Mutex::new(CachePadded::new(Held { board: held, seat }))),
+            held: CachePadded::new(Mutex::new(CachePadded::new(Held {
+                board: boxed(alloc, state)?,
+                writer: SeatPlace::new(seat),
+            }))),
             waiters: CachePadded::new(Waiters::new()),
             passes,
-            cpus: parts.cpus,
+            cpus: state.cpus(),
             host: HostClock::new(anchor),
-            ratio: ratio(parts.guest_khz, anchor.khz),
+            ratio: ratio(state.guest_khz(), anchor.khz),
         };
         Ok((board, list))
     }
@@ -168,7 +169,12 @@ impl<N: Name> SharedBoard<N> {
         ensures err { IfErr result (λ f. Refused cpu h a f pass.old pass.new) }
         ensures unchanged { OnErr result (reply.new ≡ reply.old) }
     {
-        self.hold(rt).answer(rt, gate, pass, cpu, h, a, reply)
+        // As `hold` does it: after each call that may wait, the program looks whether it ends.
+        let mut holding = Holding {
+            table: &self.table,
+            held: self.lock(rt),
+        };
+        holding.answer(rt, gate, pass, cpu, h, a, reply)
     }
 
     /// Takes the lock for several accesses. It is given back where what is answered here is dropped.
@@ -463,8 +469,11 @@ impl<N: Name> SharedBoard<N> {
             });
         }
         let SharedBoard { table, held, .. } = self;
-        let Held { mut board, seat } = held.into_inner().into_inner().into_inner();
-        let seat = join_all(&table, seat, passes);
+        let Held {
+            mut board,
+            mut writer,
+        } = held.into_inner().into_inner().into_inner();
+        let seat = join_all(&table, writer.take(), passes);
         let closed = table.close(seat);
         board.set_greatest(closed.greatest);
         Ok(Stopped { state: board })

@@ -7,7 +7,7 @@ use Rattle.board_types.specs.declared.reply.Reply.{Reply}
 use Rattle.board_core.specs.Refusals.{refusal_of}
 use Rattle.board_core.specs.Access.{after_access}
 use Rattle.board_core.specs.Pages.{with_greatest, answer_by}
-use Rattle.board_history.specs.Machine.{Machine, ratio_in}
+use Rattle.board_history.specs.Machine.{Machine, machine_of, ratio_in}
 use Rattle.board_history.specs.History.{IsAnswered, IsLegal, board_after, entries_of, last_of}
 use Rattle.board_history.specs.declared.entry.Entry.{Entry}
 use Rattle.board_history.specs.declared.entry.Entry.TheVariants.{PageRead, Clamp}
@@ -57,6 +57,17 @@ pub record IsBelow (m : ℕ) (v : View) : Type 0 where
 -- two boards that differ at most in their greatest reading
 abbrev pub AreAlike : BoardParts → BoardParts → Type 0
 AreAlike b c = with_greatest b 0 ≡ with_greatest c 0
+
+-- what lies under the lock while the seat v has the pen: a board that is alike to the one after what v has seen
+pub record IsHeldBy (opening : BoardParts) (m : ℕ) (b : BoardParts) (v : View) : Type 0 where
+  pub writer : IsWriter m v
+  pub below : IsBelow m v
+  pub alike : AreAlike b (board_after v.seen)
+  pub machine : machine_of b ≡ machine_of opening
+
+-- and the seat is in its place
+abbrev pub IsHeld : BoardParts → ℕ → BoardParts → List View → Type 0
+IsHeld opening m b vs = (v : View) × (vs ≡ v ∷ []) × IsHeldBy opening m b v
 
 -- the pen has come from v to w, which is then w'
 pub record PenMoved (v w w' : View) : Type 0 where

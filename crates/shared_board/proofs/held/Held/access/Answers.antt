@@ -1,86 +1,82 @@
-use Rattle.std.proofs.Common.{refl, ap, sym, ◌∙◌, subst, OnOk, IfErr}
+use Rattle.std.proofs.Common.{refl, ap, sym, ◌∙◌, ◌∷◌, [], subst, OnOk, IfErr}
 use Rattle.board_types.specs.declared.parts.BoardParts.{BoardParts}
-use Rattle.board_history.specs.Machine.{machine_of}
 use Rattle.board_history.specs.History.{board_after}
-use Rattle.clock_table.specs.declared.view.View.{View}
-use Rattle.clock_table.specs.Steps.{pen_left}
+use Rattle.clock_table.specs.declared.{view.View.View, call.Call.Call}
+use Rattle.clock_table.specs.Steps.{pen_right}
 use Rattle.board_history.specs.declared.entry.Entry.TheVariants.{Board}
 use Rattle.shared_board.specs.declared.known.PassKnown.{PassKnown}
-use Rattle.clock_table.specs.declared.call.Call.{Call}
 use Rattle.shared_board.specs.Passes.{Answered, Refused}
-use Rattle.shared_board.specs.private.Seats.{AreAlike, PenMoved, known}
-use Rattle.shared_board.proofs.Seats.{alike_quiet, legal_either, writer_again, below_moved, below_left, pen_of}
-use Rattle.shared_board.proofs.Turns.{act_turned, act_answered, act_refused}
+use Rattle.shared_board.specs.private.Seats.{AreAlike, known}
+use Rattle.shared_board.proofs.Turns.{taken, HasPen, pen_taken, act_turned, act_answered, act_refused}
 use Rattle.shared_board.proofs.held.Held.access.Goals as goal
+
+pub take-requires : goal.take-requires
+take-requires g c = (c.self.invariant.0, c.self.invariant.1)
+
+pub take_pen-requires-clause-writer : goal.take_pen-requires-clause-writer
+take_pen-requires-clause-writer g c =
+    (taken g.N.Name.state g.N.Name.passes c.self.inside.board.value c.self.inside.writer c.take.result c.self.invariant c.take.ensures.seat).writer
 
 pub act-result-requires-clause-alike : goal.act-result-requires-clause-alike
 act-result-requires-clause-alike g c =
-    alike_quiet c.deref_mut.result.now c.self.inside.seat.seen c.move_pen.new.to.seen
-    (subst (λ (b : BoardParts). AreAlike b (board_after c.self.inside.seat.seen)) (sym c.deref_mut.ensures.value) c.self.invariant.1)
-    c.move_pen.ensures.moved.quiet
+    let x = c.take_pen.new.seat in
+    subst (λ (b : BoardParts). AreAlike b (board_after x.seen)) (sym c.deref_mut.ensures.value)
+    (pen_taken g.N.Name.state g.N.Name.passes c.pass.inside.number c.self.inside.board.value c.self.inside.writer c.pass.inside.seat c.take.result x
+    c.self.invariant c.take.ensures.seat c.pass.invariant.0 c.pass.invariant.1 c.take_pen.ensures.moved).alike
 
 pub act-result-requires-clause-pen : goal.act-result-requires-clause-pen
-act-result-requires-clause-pen g c = pen_of c.pass.inside.number c.pass.inside.seat c.self.inside.seat c.move_pen.new.to c.pass.invariant.0
-    c.move_pen.ensures.moved
+act-result-requires-clause-pen g c =
+    (pen_taken g.N.Name.state g.N.Name.passes c.pass.inside.number c.self.inside.board.value c.self.inside.writer c.pass.inside.seat c.take.result
+    c.take_pen.new.seat c.self.invariant c.take.ensures.seat c.pass.invariant.0 c.pass.invariant.1 c.take_pen.ensures.moved).pen
 
 pub invariant_of-self : goal.invariant_of-self
 invariant_of-self g c =
-    let i = c.self.invariant in
-    let m = g.N.Name.passes in
-    let x = c.move_pen.new.to in
+    let n = c.pass.inside.number in
+    let x = c.take_pen.new.seat in
     let y = c.act-result.new.seat in
-    let moved = c.move_pen.ensures.moved in
     let b = c.deref_mut.result.now in
-    let alike = alike_quiet b c.self.inside.seat.seen x.seen
-    (subst (λ (b : BoardParts). AreAlike b (board_after c.self.inside.seat.seen)) (sym c.deref_mut.ensures.value) i.1) moved.quiet in
-    let legal = legal_either c.pass.inside.seat c.self.inside.seat x c.pass.invariant.0.legal i.0.legal moved.either in
-    let call : Call = record { pass = c.pass.inside.number; cpu = c.args.cpu; h = c.args.h; access = c.args.a } in
-    let t = act_turned c.act-result.result c.act-result.new.reply m call b c.act-result.new.board x y
-    (pen_of call.pass c.pass.inside.seat c.self.inside.seat x c.pass.invariant.0 moved) (moved.ended ∙ c.pass.invariant.0.ended)
-    (below_moved m c.self.inside.seat c.pass.inside.seat x i.3 c.pass.invariant.1 moved) alike legal c.act-result.ensures.ok c.act-result.ensures.err in
-    let back = subst (λ (u : View). PenMoved y u c.move_pen-2.new.to) c.move_pen.ensures.left c.move_pen-2.ensures.moved in (
-      writer_again m y c.self.inside.seat c.move_pen-2.new.to i.0 (t.made ∙ (moved.made ∙ i.0.made)) t.legal back,
-      alike_quiet c.act-result.new.board y.seen c.move_pen-2.new.to.seen t.alike back.quiet,
-      c.act-result.ensures.machine ∙ (ap machine_of c.deref_mut.ensures.value ∙ i.2),
-      below_moved m y (pen_left c.self.inside.seat) c.move_pen-2.new.to t.below (below_left m c.self.inside.seat (pen_left c.self.inside.seat) refl i.3) back,
-    )
+    let call : Call = record { pass = n; cpu = c.args.cpu; h = c.args.h; access = c.args.a } in
+    let has = subst (λ (z : BoardParts). HasPen g.N.Name.state g.N.Name.passes n z x) (sym c.deref_mut.ensures.value)
+    (pen_taken g.N.Name.state g.N.Name.passes n c.self.inside.board.value c.self.inside.writer c.pass.inside.seat c.take.result x
+    c.self.invariant c.take.ensures.seat c.pass.invariant.0 c.pass.invariant.1 c.take_pen.ensures.moved) in
+    let t = act_turned c.act-result.result c.act-result.new.reply g.N.Name.state g.N.Name.passes call b c.act-result.new.board x y has
+    c.act-result.ensures.machine c.act-result.ensures.ok c.act-result.ensures.err in
+    (pen_right y, c.new.ensures ∙ ap (λ (u : View). u ∷ []) c.split_pen.ensures.right, t.writer)
 
 pub invariant_of-pass : goal.invariant_of-pass
 invariant_of-pass g c =
-    let i = c.self.invariant in
-    let m = g.N.Name.passes in
-    let x = c.move_pen.new.to in
+    let n = c.pass.inside.number in
+    let x = c.take_pen.new.seat in
     let y = c.act-result.new.seat in
-    let moved = c.move_pen.ensures.moved in
     let b = c.deref_mut.result.now in
-    let alike = alike_quiet b c.self.inside.seat.seen x.seen
-    (subst (λ (b : BoardParts). AreAlike b (board_after c.self.inside.seat.seen)) (sym c.deref_mut.ensures.value) i.1) moved.quiet in
-    let legal = legal_either c.pass.inside.seat c.self.inside.seat x c.pass.invariant.0.legal i.0.legal moved.either in
-    let call : Call = record { pass = c.pass.inside.number; cpu = c.args.cpu; h = c.args.h; access = c.args.a } in
-    let t = act_turned c.act-result.result c.act-result.new.reply m call b c.act-result.new.board x y
-    (pen_of call.pass c.pass.inside.seat c.self.inside.seat x c.pass.invariant.0 moved) (moved.ended ∙ c.pass.invariant.0.ended)
-    (below_moved m c.self.inside.seat c.pass.inside.seat x i.3 c.pass.invariant.1 moved) alike legal c.act-result.ensures.ok c.act-result.ensures.err in
-    (t.rests c.move_pen-2.new.from c.move_pen-2.ensures.left, below_left m y c.move_pen-2.new.from c.move_pen-2.ensures.left t.below)
+    let call : Call = record { pass = n; cpu = c.args.cpu; h = c.args.h; access = c.args.a } in
+    let has = subst (λ (z : BoardParts). HasPen g.N.Name.state g.N.Name.passes n z x) (sym c.deref_mut.ensures.value)
+    (pen_taken g.N.Name.state g.N.Name.passes n c.self.inside.board.value c.self.inside.writer c.pass.inside.seat c.take.result x
+    c.self.invariant c.take.ensures.seat c.pass.invariant.0 c.pass.invariant.1 c.take_pen.ensures.moved) in
+    (act_turned c.act-result.result c.act-result.new.reply g.N.Name.state g.N.Name.passes call b c.act-result.new.board x y has
+    c.act-result.ensures.machine c.act-result.ensures.ok c.act-result.ensures.err).rests c.split_pen.new.seat c.split_pen.ensures.left
 
 pub returns-clause-ok : goal.returns-clause-ok
 returns-clause-ok g c =
     let n = c.pass.inside.number in
+    let z = c.split_pen.new.seat in
     let call : Call = record { pass = n; cpu = c.args.cpu; h = c.args.h; access = c.args.a } in
-    subst (λ (z : PassKnown). OnOk c.act-result.result (Answered z (known n c.move_pen-2.new.from)
-    (Board z.number c.args.cpu c.args.h c.args.a c.act-result.new.reply)))
+    subst (λ (p : PassKnown). OnOk c.act-result.result (Answered p (known n z)
+    (Board p.number c.args.cpu c.args.h c.args.a c.act-result.new.reply)))
     c.pass.view_is
-    (act_answered c.act-result.result c.act-result.new.reply n c.args.cpu c.args.h call c.act-result.new.board c.pass.inside.seat c.self.inside.seat
-    c.move_pen.new.to c.act-result.new.seat c.move_pen-2.new.from refl c.pass.invariant.0 c.move_pen.ensures.moved
-    c.move_pen-2.ensures.left c.act-result.ensures.ok)
+    (act_answered c.act-result.result c.act-result.new.reply n c.args.cpu c.args.h call c.act-result.new.board c.pass.inside.seat c.take.result
+    c.take_pen.new.seat c.act-result.new.seat z refl c.pass.invariant.0 c.take_pen.ensures.moved
+    c.split_pen.ensures.left c.act-result.ensures.ok)
 
 pub returns-clause-err : goal.returns-clause-err
 returns-clause-err g c =
     let n = c.pass.inside.number in
-    let i = c.self.invariant in
-    let x = c.move_pen.new.to in
-    let moved = c.move_pen.ensures.moved in
-    let legal = legal_either c.pass.inside.seat c.self.inside.seat x c.pass.invariant.0.legal i.0.legal moved.either in
+    let x = c.take_pen.new.seat in
+    let z = c.split_pen.new.seat in
+    let moved = c.take_pen.ensures.moved in
+    let has = pen_taken g.N.Name.state g.N.Name.passes n c.self.inside.board.value c.self.inside.writer c.pass.inside.seat c.take.result x
+    c.self.invariant c.take.ensures.seat c.pass.invariant.0 c.pass.invariant.1 moved in
     let call : Call = record { pass = n; cpu = c.args.cpu; h = c.args.h; access = c.args.a } in
-    subst (λ (z : PassKnown). IfErr c.act-result.result (λ f. Refused c.args.cpu c.args.h c.args.a f z (known n c.move_pen-2.new.from))) c.pass.view_is
-    (act_refused c.act-result.result n call c.deref_mut.result.now c.act-result.new.board c.pass.inside.seat c.self.inside.seat x c.act-result.new.seat
-    c.move_pen-2.new.from c.pass.invariant.0 moved legal c.move_pen-2.ensures.left c.act-result.ensures.err)
+    subst (λ (p : PassKnown). IfErr c.act-result.result (λ f. Refused c.args.cpu c.args.h c.args.a f p (known n z))) c.pass.view_is
+    (act_refused c.act-result.result n call c.deref_mut.result.now c.act-result.new.board c.pass.inside.seat c.take.result x c.act-result.new.seat
+    z c.pass.invariant.0 moved has.legal c.split_pen.ensures.left c.act-result.ensures.err)
