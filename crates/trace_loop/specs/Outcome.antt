@@ -108,3 +108,14 @@ SaidOr fault end result old new text shown =
 abbrev pub Said : {E : Type 0} → Ended E → Ended E → Option (List ℕ) → Option (List ℕ) → List ℕ
     → Type 0 → Type 0
 Said end result old new text shown = SaidOr SinkFault end result old new text shown
+
+-- what a call leaves that puts a text into a sink and answers `end`, or `fault` where the sink failed:
+-- its faults are counted, and it isn't called again after a call that failed
+pub record IsSaid {R : Type 0} (fault end result : R) (before after : Output) (text : List ℕ)
+    : Type 0 where
+  pub said : SaidOr fault end result before.contents after.contents text
+      (Rose before.faults after.faults)
+  pub sink_well : result ≢ fault → after.faults ≡ before.faults
+  pub sink_quiet : result ≢ fault → after.done ≡ before.done
+  pub sink_once : before.done ≡ false → before.late ≡ false → after.late ≡ false
+  pub counted : before.faults ≤ after.faults

@@ -5,7 +5,7 @@ ghost use Rattle.std.specs.List.{flat_map};
 ghost use Rattle.std.specs.Vec.{vec_items};
 ghost use Rattle.std.specs.Io.KnownBytes.{Appends};
 ghost use Rattle.board_io.specs.Faults.{Rose};
-ghost use Rattle.trace_loop.specs.Outcome.{Begins, SaidOr};
+ghost use Rattle.trace_loop.specs.Outcome.{Begins, IsSaid};
 
 use board_io::{Failed, Sink};
 use clk_units::NoMemory;
@@ -32,13 +32,7 @@ pub fn put_all<K: Sink>(sink: &mut K, text: &[u8]) -> Result<(), Failed>
 
 /// Puts a whole text into a sink and answers `end`, or `fault` where the sink failed.
 pub fn say<R: Drop, K: Sink>(sink: &mut K, text: &[u8], end: R, fault: R) -> R
-    ensures said { SaidOr fault end result (K.output sink.old).contents (K.output sink.new).contents text.now
-        (Rose (K.output sink.old).faults (K.output sink.new).faults) }
-    ensures sink_well { result ≢ fault → (K.output sink.new).faults ≡ (K.output sink.old).faults }
-    ensures quiet { result ≢ fault → (K.output sink.new).done ≡ (K.output sink.old).done }
-    ensures once { (K.output sink.old).done ≡ false → (K.output sink.old).late ≡ false
-        → (K.output sink.new).late ≡ false }
-    ensures counted { (K.output sink.old).faults ≤ (K.output sink.new).faults }
+    ensures { IsSaid fault end result (K.output sink.old) (K.output sink.new) text.now }
 {
     match put_all(sink, text) {
         Ok(()) => end,
@@ -67,13 +61,8 @@ fn put_each<K: Sink>(sink: &mut K, texts: &[Vec<u8>]) -> Result<(), Failed>
 
 /// Puts whole texts into a sink, one after another, and answers `end`, or `fault` where the sink failed.
 pub fn say_each<R: Drop, K: Sink>(sink: &mut K, texts: &[Vec<u8>], end: R, fault: R) -> R
-    ensures said { SaidOr fault end result (K.output sink.old).contents (K.output sink.new).contents
-        (flat_map vec_items texts.now) (Rose (K.output sink.old).faults (K.output sink.new).faults) }
-    ensures sink_well { result ≢ fault → (K.output sink.new).faults ≡ (K.output sink.old).faults }
-    ensures quiet { result ≢ fault → (K.output sink.new).done ≡ (K.output sink.old).done }
-    ensures once { (K.output sink.old).done ≡ false → (K.output sink.old).late ≡ false
-        → (K.output sink.new).late ≡ false }
-    ensures counted { (K.output sink.old).faults ≤ (K.output sink.new).faults }
+    ensures { IsSaid fault end result (K.output sink.old) (K.output sink.new)
+        (flat_map vec_items texts.now) }
 {
     match put_each(sink, texts) {
         Ok(()) => end,

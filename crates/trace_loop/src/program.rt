@@ -23,7 +23,7 @@ ghost use Rattle.std.specs.Prelude.{
 ghost use Rattle.board_io.specs.Faults.{Rose};
 ghost use Rattle.trace_loop.specs.Text.{memory_fault_text};
 ghost use Rattle.trace_loop.specs.Progress.{standing, finished};
-ghost use Rattle.trace_loop.specs.Outcome.{Leaves, Said};
+ghost use Rattle.trace_loop.specs.Outcome.{IsSaid, Leaves, Said};
 ghost use Rattle.trace_loop.specs.private.Going.{RunEnds, ends_of};
 
 use crate::answerer::{Answerer, answer_line};
@@ -169,13 +169,8 @@ fn finish<E: Drop, T: Answerer<E>>(
 /// Writes what was answered before memory ran out, and then says so.
 #[tactic(auto, unfolding(crate::specs::Text::memory_fault_text))]
 fn want_memory<E: Drop, K: Sink>(sink: &mut K, out: &[u8]) -> Ended<E>
-    ensures said { Said Ended.NoMemory result (K.output sink.old).contents (K.output sink.new).contents
-        (out.now ++ memory_fault_text) (Rose (K.output sink.old).faults (K.output sink.new).faults) }
-    ensures sink_well { result ≢ Ended.SinkFault → (K.output sink.new).faults ≡ (K.output sink.old).faults }
-    ensures sink_quiet { result ≢ Ended.SinkFault → (K.output sink.new).done ≡ (K.output sink.old).done }
-    ensures sink_once { (K.output sink.old).done ≡ false → (K.output sink.old).late ≡ false
-        → (K.output sink.new).late ≡ false }
-    ensures counted { (K.output sink.old).faults ≤ (K.output sink.new).faults }
+    ensures { IsSaid Ended.SinkFault Ended.NoMemory result (K.output sink.old) (K.output sink.new)
+        (out.now ++ memory_fault_text) }
 {
     if put_all(sink, out).is_err() {
         return Ended::SinkFault;
