@@ -156,7 +156,7 @@ impl ReplyWords {
         self.now_ns = now_ns;
         self.value = value;
         put_edges(&mut self.edges, edges);
-        self.bursts = burst_places(bursts);
+        put_bursts(&mut self.bursts, bursts);
     }
 }
 
@@ -182,7 +182,20 @@ fn edge_words(edge: Edge) -> EdgeWords
     }
 }
 
+/// Puts the bursts into their places. Most replies have none.
+#[inline(always)]
+fn put_bursts(places: &mut [BurstWords; BURST_PLACES], bursts: &[Burst])
+    ensures { places.new ≡ burst_places bursts.now }
+{
+    if bursts.is_empty() {
+        *places = [NO_BURST; BURST_PLACES];
+    } else {
+        *places = burst_places(bursts);
+    }
+}
+
 /// The places of the bursts.
+#[inline(never)]
 fn burst_places(bursts: &[Burst]) -> [BurstWords; BURST_PLACES]
     ensures { result ≡ burst_places bursts.now }
 {
