@@ -1,5 +1,5 @@
 -- How often each line went up: counted from format 2 on.
-use Rattle.std.specs.Prelude.{ℕ, ◌==◌, nat_le, if◌then◌else◌, List, [], ◌∷◌}
+use Rattle.std.specs.Prelude.{ℕ, ◌==◌, nat_le, if◌then◌else◌, List, ◌∷◌}
 use Rattle.irq_edges.specs.declared.edges.Edge.{Edge}
 use Rattle.irq_edges.specs.Lines.{line_numbers}
 use Rattle.board_devices.specs.Rises.{rises_with}
@@ -10,6 +10,5 @@ rises_after format es rises = if nat_le 2 format then rises_with es line_numbers
 
 -- the count of the line of that number, among lines with these numbers and counts
 abbrev pub count_at : List ℕ → List ℕ → ℕ → ℕ
-count_at [] rises line = 0
-count_at (n ∷ ns) [] line = 0
 count_at (n ∷ ns) (r ∷ rises) line = if n == line then r else count_at ns rises line
+count_at _ _ line = 0

@@ -36,7 +36,7 @@ use Rattle.tick_policy.specs.Line.{ticked, is_waiting}
 use Rattle.tick_policy.specs.Stretch.{ticked_where, caught_up_where, line_after}
 use Rattle.tick_policy.proofs.Stretches.{line_after-zero, line_after-suc, up-line_after}
 use Rattle.board_devices.specs.declared.parts.DeviceParts.{DeviceParts}
-use Rattle.board_devices.specs.Places.{each, caught_up_at, line_at, no_line}
+use Rattle.board_devices.specs.Places.{each, line_at, no_line}
 use Rattle.board_devices.specs.Nanosecond.{counts_rtc, pit_due, rtc_due, hpet_due, sees_point, pit_pulse, rtc_pulse, hpet_pulse, catch_up_point, at_nanosecond}
 use Rattle.board_devices.specs.Run.{run, onward}
 use Rattle.board_devices.specs.private.Stretch.{source, line_run, flagged_where, parted}
@@ -321,7 +321,8 @@ module _ (t n : ℕ) (d : DeviceParts) (sound : Sound d) where
       (λ k l. ticked_where (falls_at RTC_HZ (t + n + 1) && rtc_due then_pit k)
       (ticked_where (falls_at PIT_HZ (t + n + 1) && pit_due before k) (line_run d t n k l))) 0 d.ticks
 
-  ticks-step : caught_up_at (λ k. eqb ((t + n + 1) % d.slew_ns) 0 && sees_point then_hpet k) then_hpet.ticks ≡ each (line_run d t (suc n)) 0 d.ticks
+  ticks-step : each (λ k l. caught_up_where (eqb ((t + n + 1) % d.slew_ns) 0 && sees_point then_hpet k) l) 0 then_hpet.ticks
+      ≡ each (line_run d t (suc n)) 0 d.ticks
   unfolding ticked_line
   ticks-step =
       ap (each (λ k l. caught_up_where (eqb ((t + n + 1) % d.slew_ns) 0 && sees_point then_hpet k) l) 0) ticks-now

@@ -53,7 +53,6 @@ use Rattle.board_devices.specs.declared.act.Act.TheVariants.{
   HpetRead,
   HpetWrite,
   Ack,
-  Nothing,
 }
 use Rattle.board_devices.specs.Places.{each, ticked_at, line_at}
 use Rattle.board_devices.specs.Nanosecond.{counts_rtc}
@@ -102,9 +101,8 @@ acks line h (suc (suc k)) =
 -- a read of register C (0Ch) acknowledges the line of the MC146818 while its ticks are counted
 -- (own)
 abbrev pub reads_c : DeviceParts → ℕ → Bool
-reads_c d zero = false
 reads_c d (suc zero) = (d.rtc.index == 0x0c) && counts_rtc d
-reads_c d (suc (suc k)) = false
+reads_c d _ = false
 
 -- a line that is acknowledged where b holds
 abbrev pub acked_where : Bool → TickParts → TickParts
@@ -116,9 +114,8 @@ down_where b l = if b then acked_down l else l
 
 -- the line of the MC146818 at this level: nothing is counted
 abbrev pub rtc_set : Bool → ℕ → TickParts → TickParts
-rtc_set up zero l = l
 rtc_set up (suc zero) l = set_up_to up l
-rtc_set up (suc (suc k)) l = l
+rtc_set up _ l = l
 
 -- it is PF while its ticks are counted: a write that changes PIE or LEG_RT moves it (own)
 abbrev pub with_rtc_line : DeviceParts → DeviceParts
@@ -131,7 +128,6 @@ acted (PitWrite port byte) d = record d {
   pit = port_written port byte d.pit;
   ticks = ticked_at (pit_ticked (ticks_on_write port byte d)) d.ticks;
 }
-acted IndexRead d = d
 acted (IndexWrite byte) d = record d { rtc = index_written byte d.rtc }
 acted ClockRead d = record d {
   rtc = if reads_c d 1 && goes_again (line_at 1 d) then flagged (after_rtc_read d.rtc)
@@ -139,11 +135,10 @@ acted ClockRead d = record d {
   ticks = each (λ k l. acked_where (reads_c d k) l) 0 d.ticks;
 }
 acted (ClockWrite byte) d = with_rtc_line (record d { rtc = rtc_written byte d.rtc })
-acted (HpetRead offset width) d = d
 acted (HpetWrite offset width v) d =
     with_rtc_line (record d { hpet = hpet_written offset width v d.hpet })
 acted (Ack line) d = record d { ticks = each (λ k l. acked_where (acks line d.hpet k) l) 0 d.ticks }
-acted Nothing d = d
+acted _ d = d
 
 -- the access without rises out of a queue: an acknowledged line is down
 unfoldable pub first_part : Act → DeviceParts → DeviceParts
@@ -158,15 +153,10 @@ first_part a d = acted a d
 -- what it reads at nanosecond t; port 70h reads FFh (own), and what reads nothing gives 0
 unfoldable pub value_of : ℕ → Act → DeviceParts → ℕ
 value_of t (PitRead port) d = port_read t port d.pit
-value_of t (PitWrite port byte) d = 0
 value_of t IndexRead d = 0xff
-value_of t (IndexWrite byte) d = 0
 value_of t ClockRead d = rtc_read d.rtc
-value_of t (ClockWrite byte) d = 0
 value_of t (HpetRead offset width) d = hpet_read offset width d.hpet
-value_of t (HpetWrite offset width v) d = 0
-value_of t (Ack line) d = 0
-value_of t Nothing d = 0
+value_of t _ d = 0
 
 -- whether it reads the byte of a port
 abbrev pub reads_byte : Act → Bool

@@ -15,8 +15,9 @@ use Rattle.hpet_registers.specs.declared.hpet.TheConstants.{HPET_HZ}
 use Rattle.hpet_registers.specs.Parts.{is_legacy}
 use Rattle.hpet_registers.specs.Stretch.{hpet_pulsed, tick_next}
 use Rattle.tick_policy.specs.Line.{is_waiting}
+use Rattle.tick_policy.specs.Stretch.{caught_up_where}
 use Rattle.board_devices.specs.declared.parts.DeviceParts.{DeviceParts}
-use Rattle.board_devices.specs.Places.{ticked_at, caught_up_at, line_at}
+use Rattle.board_devices.specs.Places.{each, ticked_at, line_at}
 
 -- the ticks of the MC146818, its periodic events, are counted while PIE is 1 and LEG_RT is 0 (own)
 abbrev pub counts_rtc : DeviceParts → Bool
@@ -31,22 +32,19 @@ pit_due d (suc k) = false
 -- that of the MC146818: its own, at a periodic event that is counted (MC146818, "Periodic interrupt
 -- selection")
 abbrev pub rtc_due : DeviceParts → ℕ → Bool
-rtc_due d zero = false
 rtc_due d (suc zero) = ticks_next (divider_of d.rtc) && counts_rtc d
-rtc_due d (suc (suc k)) = false
+rtc_due d _ = false
 
 -- that of the HPET: timer k's, at a match of an enabled timer of edge type (HPET 2.3.8)
 abbrev pub hpet_due : DeviceParts → ℕ → Bool
-hpet_due d zero = false
-hpet_due d (suc zero) = false
 hpet_due d (suc (suc k)) = tick_next k d.hpet
+hpet_due d _ = false
 
 -- at which places a catch-up point is seen: at that of the MC146818 only while its ticks are
 -- counted (own)
 abbrev pub sees_point : DeviceParts → ℕ → Bool
-sees_point d zero = true
 sees_point d (suc zero) = counts_rtc d
-sees_point d (suc (suc k)) = true
+sees_point d _ = true
 
 -- the pulse of the 8254, where one falls at t: all counters take it, and a tick may be due
 unfoldable pub pit_pulse : ℕ → DeviceParts → DeviceParts
@@ -76,7 +74,7 @@ catch_up_point t d = record d {
   rtc =
       if (t % d.slew_ns == 0) && (counts_rtc d && is_waiting (line_at 1 d)) then flagged d.rtc
       else d.rtc;
-  ticks = caught_up_at (λ k. (t % d.slew_ns == 0) && sees_point d k) d.ticks;
+  ticks = each (λ k l. caught_up_where ((t % d.slew_ns == 0) && sees_point d k) l) 0 d.ticks;
 }
 
 -- the nanosecond t

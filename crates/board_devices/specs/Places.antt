@@ -4,7 +4,7 @@ use Rattle.std.specs.Prelude.{ℕ, suc, Bool, List, [], ◌∷◌, slice_index_o
 use Rattle.tick_policy.specs.declared.parts.TickParts.{TickParts}
 use Rattle.tick_policy.specs.declared.parts.Policy.TheVariants.{Discard}
 use Rattle.tick_policy.specs.Line.{line_at_power_on}
-use Rattle.tick_policy.specs.Stretch.{ticked_where, caught_up_where}
+use Rattle.tick_policy.specs.Stretch.{ticked_where}
 use Rattle.board_devices.specs.declared.parts.DeviceParts.{DeviceParts}
 
 -- what is done at each place, from place k on
@@ -15,10 +15,6 @@ each f k (l ∷ ls) = f k l ∷ each f (suc k) ls
 -- a tick is due at each place at which the test holds
 abbrev pub ticked_at : (ℕ → Bool) → List TickParts → List TickParts
 ticked_at test ls = each (λ k l. ticked_where (test k) l) 0 ls
-
--- a catch-up point for each place at which the test holds
-abbrev pub caught_up_at : (ℕ → Bool) → List TickParts → List TickParts
-caught_up_at test ls = each (λ k l. caught_up_where (test k) l) 0 ls
 
 -- what the place of a line that isn't there holds
 abbrev pub no_line : TickParts

@@ -13,6 +13,5 @@ lifts line (e ∷ es) = one_if (e.up && (e.line == line)) + lifts line es
 
 -- counts of rises with those of a list of edges
 abbrev pub rises_with : List Edge → List ℕ → List ℕ → List ℕ
-rises_with es [] rises = rises
-rises_with es (n ∷ ns) [] = []
 rises_with es (n ∷ ns) (r ∷ rises) = (r + lifts n es) ∷ rises_with es ns rises
+rises_with es _ rises = rises

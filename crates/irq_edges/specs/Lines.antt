@@ -9,17 +9,14 @@ line_numbers = 0 ∷ 8 ∷ 20 ∷ 21 ∷ 22 ∷ 23 ∷ []
 
 -- the edge of a line between a level and the next, where they differ
 abbrev pub change : ℕ → ℕ → Bool → Bool → List Edge
-change at line true true = []
 change at line true false = record { at = at; line = line; up = false } ∷ []
 change at line false true = record { at = at; line = line; up = true } ∷ []
-change at line false false = []
+change at line _ _ = []
 
 -- the edges of lines with these levels before and after, in their order, each with the time `at`
 abbrev pub changes : ℕ → List ℕ → List Bool → List Bool → List Edge
-changes at [] before after = []
-changes at (n ∷ ns) [] after = []
-changes at (n ∷ ns) (b ∷ before) [] = []
 changes at (n ∷ ns) (b ∷ before) (a ∷ after) = change at n b a ++ changes at ns before after
+changes at _ _ _ = []
 
 -- whether a number is that of a line
 abbrev pub is_line : ℕ → Bool

@@ -44,7 +44,4 @@ timers_at_power_on cpus = replicate cpus apic_at_power_on ++ replicate (64 - cpu
 
 -- .. with their lines
 abbrev pub apics_at_power_on : ℕ → ApicsParts
-apics_at_power_on cpus = record {
-  timers = timers_at_power_on cpus;
-  lines = replicate 64 no_line;
-}
+apics_at_power_on cpus = record { timers = timers_at_power_on cpus; lines = replicate 64 no_line }

@@ -39,59 +39,37 @@ is_bcd bits = bit 0 bits
 -- mode 0, in which writing a count sets OUT low
 abbrev pub is_terminal : Mode → Bool
 is_terminal TerminalCount = true
-is_terminal OneShot = false
-is_terminal RateGenerator = false
-is_terminal SquareWave = false
-is_terminal SoftwareStrobe = false
-is_terminal HardwareStrobe = false
+is_terminal _ = false
 
 -- mode 2, in which OUT is low while the count is 1
 abbrev pub is_rate : Mode → Bool
-is_rate TerminalCount = false
-is_rate OneShot = false
 is_rate RateGenerator = true
-is_rate SquareWave = false
-is_rate SoftwareStrobe = false
-is_rate HardwareStrobe = false
+is_rate _ = false
 
 -- mode 3, in which the count goes down by two
 abbrev pub is_square : Mode → Bool
-is_square TerminalCount = false
-is_square OneShot = false
-is_square RateGenerator = false
 is_square SquareWave = true
-is_square SoftwareStrobe = false
-is_square HardwareStrobe = false
+is_square _ = false
 
 -- modes 2 and 3, which load the count again and again
 abbrev pub is_periodic : Mode → Bool
-is_periodic TerminalCount = false
-is_periodic OneShot = false
 is_periodic RateGenerator = true
 is_periodic SquareWave = true
-is_periodic SoftwareStrobe = false
-is_periodic HardwareStrobe = false
+is_periodic _ = false
 
 -- modes 1, 2, 3 and 5, in which a rise of GATE is a trigger
 abbrev pub has_trigger : Mode → Bool
 has_trigger TerminalCount = false
-has_trigger OneShot = true
-has_trigger RateGenerator = true
-has_trigger SquareWave = true
 has_trigger SoftwareStrobe = false
-has_trigger HardwareStrobe = true
+has_trigger _ = true
 
 -- modes 4 and 5, in which OUT is low for one pulse at the end of a count
 abbrev pub has_strobe : Mode → Bool
-has_strobe TerminalCount = false
-has_strobe OneShot = false
-has_strobe RateGenerator = false
-has_strobe SquareWave = false
 has_strobe SoftwareStrobe = true
 has_strobe HardwareStrobe = true
+has_strobe _ = false
 
 -- both bytes of the count are written and read
 abbrev pub takes_two : Access → Bool
-takes_two LowByte = false
-takes_two HighByte = false
 takes_two LowThenHigh = true
+takes_two _ = false

@@ -39,9 +39,8 @@ reads_high LowThenHigh high_next = high_next
 
 -- whether that byte is the last of the count: its one byte, or of both bytes the high one
 abbrev pub reads_last : Access → Bool → Bool
-reads_last LowByte high_next = true
-reads_last HighByte high_next = true
 reads_last LowThenHigh high_next = high_next
+reads_last _ high_next = true
 
 -- the byte that a read gives: a latched status first, else a byte of the count
 unfoldable pub byte_read : CounterParts → ℕ

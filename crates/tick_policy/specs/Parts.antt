@@ -11,20 +11,17 @@ use Rattle.tick_policy.specs.declared.parts.TickParts.{TickParts}
 -- whether a tick that finds the line up waits; else it is lost
 abbrev pub is_kept : Policy → Bool
 is_kept Discard = false
-is_kept Delay = true
-is_kept Slew = true
+is_kept _ = true
 
 -- whether an acknowledgement shows a tick that waits
 abbrev pub is_delay : Policy → Bool
-is_delay Discard = false
 is_delay Delay = true
-is_delay Slew = false
+is_delay _ = false
 
 -- whether a catch-up point shows a tick that waits
 abbrev pub is_slew : Policy → Bool
-is_slew Discard = false
-is_slew Delay = false
 is_slew Slew = true
+is_slew _ = false
 
 -- the number of a policy in a saved state
 abbrev pub policy_byte : Policy → ℕ
