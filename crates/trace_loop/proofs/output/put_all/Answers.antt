@@ -31,7 +31,8 @@ loop-put-preserved g c =
       front =
           subst (λ (l : List ℕ). Appends (contents c.args.sink.now) (contents c.put.new.self) l)
           (take_piece c.args.text.now c.loop-put.put c.in_ok-put.field-0 inside)
-          (Appends-trans (contents c.args.sink.now) (contents c.loop-put.sink) (contents c.put.new.self) _ _ c.loop-put.invariant.front c.in_ok-put.ensures.bytes);
+          (Appends-trans (contents c.args.sink.now) (contents c.loop-put.sink) (contents c.put.new.self) _ _ c.loop-put.invariant.front
+          c.in_ok-put.ensures.bytes);
       well = c.in_ok-put.ensures.well ∙ c.loop-put.invariant.well;
       quiet = grind (arith, c.put.ensures.done, c.in_ok-put.is, c.loop-put.invariant.quiet);
       once = λ done late. grind (arith, c.put.ensures.late, c.loop-put.invariant.quiet, c.loop-put.invariant.once done late, done);

@@ -10,7 +10,8 @@ unfolding memory_fault_text
 returns g c = record {
   said =
       said-behind NoMemory c.say.result (g.K.Sink.output c.args.sink.now).contents (g.K.Sink.output c.put_all.new.sink).contents
-      (g.K.Sink.output c.say.new.sink).contents c.args.out.now memory_fault_text (g.K.Sink.output c.args.sink.now).faults (g.K.Sink.output c.put_all.new.sink).faults
+      (g.K.Sink.output c.say.new.sink).contents c.args.out.now memory_fault_text (g.K.Sink.output c.args.sink.now).faults (g.K.Sink.output
+      c.put_all.new.sink).faults
       (g.K.Sink.output c.say.new.sink).faults
       c.put_all.ensures.counted
       (on_ok_from_is_err c.put_all.result (Appends (g.K.Sink.output c.args.sink.now).contents (g.K.Sink.output c.put_all.new.sink).contents c.args.out.now)

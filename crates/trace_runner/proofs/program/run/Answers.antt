@@ -46,7 +46,8 @@ returns-in-Ok-Replay-clause-replay g c = λ shows is input e.
     let outcome : Outcome (replay_run c.in-Ok-Replay.shows_state input start end) c.answer_lines.result
     (g.K.Sink.output c.args.sink.now).contents (g.K.Sink.output c.answer_lines.new.sink).contents =
     subst (λ (r : Replay). Outcome (run_over answer_of closing_of r input start end) c.answer_lines.result
-    (g.K.Sink.output c.args.sink.now).contents (g.K.Sink.output c.answer_lines.new.sink).contents) c.new-replay.ensures (c.answer_lines.ensures.outcome input e) in
+    (g.K.Sink.output c.args.sink.now).contents (g.K.Sink.output c.answer_lines.new.sink).contents) c.new-replay.ensures
+    (c.answer_lines.ensures.outcome input e) in
     inl (subst (λ (b : Bool). Shown (replay_run b input start end) c.status_of.result (g.K.Sink.output c.args.sink.now).contents
     (g.K.Sink.output c.answer_lines.new.sink).contents) same
     (subst (λ (s : Status). Shown (replay_run c.in-Ok-Replay.shows_state input start end) s (g.K.Sink.output c.args.sink.now).contents
@@ -88,7 +89,8 @@ returns-in-Ok-Race-clause-race_stopped g c = λ shows is input e.
     let same : c.in-Ok-Race.shows_state ≡ shows =
     raced-same c.command_of.result (map string_bytes c.args.words.now) shows c.in-Ok-Race.shows_state c.command_of.ensures.command
     (c.in-Ok-Race.is ∙ ap (λ (x : Command). Ok x) c.in-Ok-Race.field-0-is) is in
-    inl (subst (λ (b : Bool). (check_behind b (take ((g.S.Source.input c.race.new.source).before - (g.S.Source.input c.args.source.now).given) input)).end ≡ None) same
+    inl (subst (λ (b : Bool). (check_behind b (take ((g.S.Source.input c.race.new.source).before - (g.S.Source.input c.args.source.now).given)
+    input)).end ≡ None) same
     (c.race.ensures.stopped input e))
 
 pub returns-in-Err-clause-race : goal.returns-in-Err-clause-race

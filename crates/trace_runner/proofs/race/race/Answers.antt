@@ -20,13 +20,15 @@ returns-in-By-Whole-clause-leaves g c = λ input e.
     let o = checked_run c.args.shows_state input start end c.new-check.result c.answer_lines.result old mid c.new-check.ensures
     (c.answer_lines.ensures.outcome input e) in
     let same : (g.K.Sink.output c.answer_lines.new.sink).faults ≡ (g.K.Sink.output c.args.sink.now).faults = c.answer_lines.ensures.sink_well (λ no. cc) in
-    whole_left w c.in-By-Whole.trace c.write.result old mid (g.K.Sink.output c.write.new.sink).contents _ _ (silent_whole c.args.shows_state input c.in-By-Whole.trace)
+    whole_left w c.in-By-Whole.trace c.write.result old mid (g.K.Sink.output c.write.new.sink).contents _ _ (silent_whole c.args.shows_state input
+    c.in-By-Whole.trace)
     (λ rose. subst (λ (n : ℕ). Rose n (g.K.Sink.output c.write.new.sink).faults) same rose)
     (subst (λ (x : Ended Checked). Outcome w x old mid) (c.in-By-Whole.is ∙ ap (λ (x : Checked). By x) c.in-By-Whole.field-0-is) o) c.write.ensures.said
 
 pub returns-in-By-Whole-clause-stopped : goal.returns-in-By-Whole-clause-stopped
 returns-in-By-Whole-clause-stopped g c = λ input e.
-    checked_on c.args.shows_state (take ((g.S.Source.input c.answer_lines.new.source).before - (g.S.Source.input c.args.source.now).given) input) c.new-check.result
+    checked_on c.args.shows_state (take ((g.S.Source.input c.answer_lines.new.source).before - (g.S.Source.input c.args.source.now).given) input)
+    c.new-check.result
     c.new-check.ensures (c.answer_lines.ensures.stopped input e)
 
 pub returns-in-By-Stopped-clause-leaves : goal.returns-in-By-Stopped-clause-leaves
@@ -43,7 +45,8 @@ returns-in-By-Stopped-clause-leaves g c = λ input e.
 
 pub returns-in-By-Stopped-clause-stopped : goal.returns-in-By-Stopped-clause-stopped
 returns-in-By-Stopped-clause-stopped g c = λ input e.
-    checked_on c.args.shows_state (take ((g.S.Source.input c.answer_lines.new.source).before - (g.S.Source.input c.args.source.now).given) input) c.new-check.result
+    checked_on c.args.shows_state (take ((g.S.Source.input c.answer_lines.new.source).before - (g.S.Source.input c.args.source.now).given) input)
+    c.new-check.result
     c.new-check.ensures (c.answer_lines.ensures.stopped input e)
 
 pub returns-in-SourceFault-clause-leaves : goal.returns-in-SourceFault-clause-leaves
@@ -59,7 +62,8 @@ returns-in-SourceFault-clause-leaves g c = λ input e.
 
 pub returns-in-SourceFault-clause-stopped : goal.returns-in-SourceFault-clause-stopped
 returns-in-SourceFault-clause-stopped g c = λ input e.
-    checked_on c.args.shows_state (take ((g.S.Source.input c.answer_lines.new.source).before - (g.S.Source.input c.args.source.now).given) input) c.new-check.result
+    checked_on c.args.shows_state (take ((g.S.Source.input c.answer_lines.new.source).before - (g.S.Source.input c.args.source.now).given) input)
+    c.new-check.result
     c.new-check.ensures (c.answer_lines.ensures.stopped input e)
 
 pub returns-in-SinkFault-clause-leaves : goal.returns-in-SinkFault-clause-leaves
@@ -75,7 +79,8 @@ returns-in-SinkFault-clause-leaves g c = λ input e.
 
 pub returns-in-SinkFault-clause-stopped : goal.returns-in-SinkFault-clause-stopped
 returns-in-SinkFault-clause-stopped g c = λ input e.
-    checked_on c.args.shows_state (take ((g.S.Source.input c.answer_lines.new.source).before - (g.S.Source.input c.args.source.now).given) input) c.new-check.result
+    checked_on c.args.shows_state (take ((g.S.Source.input c.answer_lines.new.source).before - (g.S.Source.input c.args.source.now).given) input)
+    c.new-check.result
     c.new-check.ensures (c.answer_lines.ensures.stopped input e)
 
 pub returns-clause-leaves : goal.returns-clause-leaves
@@ -91,7 +96,8 @@ returns-clause-leaves g c = λ input e.
 
 pub returns-clause-stopped : goal.returns-clause-stopped
 returns-clause-stopped g c = λ input e.
-    checked_on c.args.shows_state (take ((g.S.Source.input c.answer_lines.new.source).before - (g.S.Source.input c.args.source.now).given) input) c.new-check.result
+    checked_on c.args.shows_state (take ((g.S.Source.input c.answer_lines.new.source).before - (g.S.Source.input c.args.source.now).given) input)
+    c.new-check.result
     c.new-check.ensures (c.answer_lines.ensures.stopped input e)
 
 pub returns-in-By-Whole-clause-alone : goal.returns-in-By-Whole-clause-alone

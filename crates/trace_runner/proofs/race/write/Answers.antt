@@ -14,7 +14,8 @@ returns-in-Ok-clause-alone g c = λ one.
     let free : IsFree t.opening t.phases = subst (λ (x : TraceRead). IsFree x.opening x.phases) c.trace.view_is c.trace.invariant in
     let text : List ℕ = c.in-Ok.text in
     inl (subst (λ (l : List ℕ). Said Ok c.say_each.result (g.K.Sink.output c.args.sink.now).contents (g.K.Sink.output c.say_each.new.sink).contents l
-    (Rose (g.K.Sink.output c.args.sink.now).faults (g.K.Sink.output c.say_each.new.sink).faults)) (c.pieces.ensures ∙ prints_plain t text free one c.in-Ok.ensures)
+    (Rose (g.K.Sink.output c.args.sink.now).faults (g.K.Sink.output c.say_each.new.sink).faults)) (c.pieces.ensures ∙ prints_plain t text free one
+    c.in-Ok.ensures)
     c.say_each.ensures.said)
 
 pub returns-in-Err-clause-said : goal.returns-in-Err-clause-said
