@@ -88,18 +88,18 @@ module _ (b : BoardParts) (rs : List Record) (i : ℕ) (d : Record) (inside : i 
 -- a phase: its records, and its end after them
 module _ (b : BoardParts) (v : Phase) where
   abbrev mid : BoardParts
-  mid = after_records b v.lines.records
+  mid = after_records b v.records
 
-  pub takes_phase-by : TakesRecords b v.lines.records → length v.lines.records ≤ 2 ^ 62 → TakesEnd (after_records b v.lines.records) v.end → TakesPhase b v
+  pub takes_phase-by : TakesRecords b v.records → length v.records ≤ 2 ^ 62 → TakesEnd (after_records b v.records) v.end → TakesPhase b v
   takes_phase-by all few end = (
-    record { records = all.0; few = few; end = end_fits mid b v.end (sym (size_records b v.lines.records)) end.0 },
-    or_both (records_fault b v.lines.records) (end_fault mid v.end) all.1 end.1,
+    record { records = all.0; few = few; end = end_fits mid b v.end (sym (size_records b v.records)) end.0 },
+    or_both (records_fault b v.records) (end_fault mid v.end) all.1 end.1,
   )
 
-  pub takes_phase-end : TakesPhase b v → TakesEnd (after_records b v.lines.records) v.end
+  pub takes_phase-end : TakesPhase b v → TakesEnd (after_records b v.records) v.end
   takes_phase-end all = (
-    end_fits b mid v.end (size_records b v.lines.records) all.0.end,
-    (or_none (records_fault b v.lines.records) (end_fault mid v.end) all.1).1,
+    end_fits b mid v.end (size_records b v.records) all.0.end,
+    (or_none (records_fault b v.records) (end_fault mid v.end) all.1).1,
   )
 
 -- phases

@@ -52,7 +52,7 @@ pub save_free : (b : BoardParts) (line cpu h : ℕ) → end_fault b (Save line c
 save_free b line cpu h free = access_none (refusal_of b cpu h Step) (line_none line (option_map ByAccess (refusal_of b cpu h Step)) free)
 
 pub phase_ended : (s : BoardParts) (ds : Deliveries) (v : Phase) (mid next : BoardParts) (block out : List ℕ)
-    → PhaseTold s ds v.lines.records mid block
+    → PhaseTold s ds v.records mid block
     → IsEnd mid.cpus v.end → end_fault mid v.end ≡ None → next ≡ next_board v.end mid → out ≡ block ++ end_text ds v.end mid → PhaseEnded s ds v next out
 phase_ended s ds v mid next block out t fits free is says = record {
   h = t.h;

@@ -3,13 +3,13 @@ pub mod Answered
 pub mod Checked
 pub mod Counts
 pub mod Ended
-pub mod Kept
 mod Messages
 pub mod Pieces
 pub mod Same
 pub mod Settle
 pub mod Taken
 pub mod Tallies
+pub mod Unpacked
 pub mod Unread
 pub mod Workers
 mod Rows

@@ -60,10 +60,11 @@ use Rattle.race_phase.specs.declared.faults.Cause.TheVariants.{Access as ByAcces
 use Rattle.race_phase.specs.declared.phases.End.{End}
 use Rattle.race_phase.specs.declared.phases.End.TheVariants.{Finish, Save, Move}
 use Rattle.race_phase.specs.declared.phases.Phase.{Phase}
-use Rattle.race_phase.specs.declared.records.Call.{Call}
-use Rattle.race_phase.specs.declared.records.Call.TheVariants.{Act, ReadPage, ReadClock, ReadHv}
+use Rattle.trace_text.specs.declared.records.Call.{Call}
+use Rattle.trace_text.specs.declared.records.Call.TheVariants.{Act, ReadPage, ReadClock, ReadHv}
 use Rattle.race_phase.specs.declared.records.Record.{Record}
-use Rattle.race_phase.specs.Calls.{IsFitting, IsFittingCall}
+use Rattle.trace_text.specs.Records.{IsFittingCall}
+use Rattle.race_phase.specs.Calls.{IsFitting}
 use Rattle.race_phase.specs.Order.{AreAlike, at_line, call_cause, record_fault, after_call, after_record, after_records, records_fault}
 use Rattle.race_phase.specs.Phases.{IsEnd, IsPhase, next_board, end_fault, after_phase, phase_fault, trace_fault}
 use Rattle.race_phase.proofs.Alike.{host_after}
@@ -378,7 +379,7 @@ size_next b (Save line cpu h) = size_call b cpu h (Act Step)
 size_next b (Move line cpu h host) = size_moved host.khz host.start host.gap (after_access b cpu h Step) ∙ size_call b cpu h (Act Step)
 
 pub size_phase : (b : BoardParts) (v : Phase) → size_of (after_phase b v) ≡ size_of b
-size_phase b v = size_next (after_records b v.lines.records) v.end ∙ size_records b v.lines.records
+size_phase b v = size_next (after_records b v.records) v.end ∙ size_records b v.records
 
 pub end_fits : (b c : BoardParts) (e : End) → size_of c ≡ size_of b → IsEnd b.cpus e → IsEnd c.cpus e
 unfolding size_of
@@ -400,12 +401,12 @@ phase_fits b c v same fits = subst (λ (z : ℕ × ℕ). IsPhase z.0 z.1 v) (sym
 -- a whole trace
 pub phase_ends_alike : (b c : BoardParts) (v : Phase) → AreAlike b c → IsPhase b.cpus b.format v → AreAlike (after_phase b v) (after_phase c v)
 phase_ends_alike b c v s fits =
-    next_alike (after_records b v.lines.records) (after_records c v.lines.records) v.end (records_alike b c v.lines.records s fits.records)
-    (end_fits b (after_records b v.lines.records) v.end (size_records b v.lines.records) fits.end)
+    next_alike (after_records b v.records) (after_records c v.records) v.end (records_alike b c v.records s fits.records)
+    (end_fits b (after_records b v.records) v.end (size_records b v.records) fits.end)
 
 same_phase_fault : (b c : BoardParts) (v : Phase) → AreAlike b c → IsPhase b.cpus b.format v → phase_fault b v ≡ phase_fault c v
 same_phase_fault b c v s fits =
-    let rs = v.lines.records in
+    let rs = v.records in
     let first = same_records_fault b c rs s fits.records in
     let last = same_end_fault (after_records b rs) (after_records c rs) v.end (records_alike b c rs s fits.records)
     (end_fits b (after_records b rs) v.end (size_records b rs) fits.end) in
@@ -421,20 +422,20 @@ same_trace_fault b c (v ∷ vs) s fits =
     λ i. option_or (first i) (rest i)
 
 -- the board that the workers leave ends its phase as that of file order does
-module _ (s : BoardParts) (v : Phase) (mid : BoardParts) (fits : IsPhase s.cpus s.format v) (alike : AreAlike (after_records s v.lines.records) mid) where
+module _ (s : BoardParts) (v : Phase) (mid : BoardParts) (fits : IsPhase s.cpus s.format v) (alike : AreAlike (after_records s v.records) mid) where
   size_mid : size_of mid ≡ size_of s
-  size_mid = alike_size (after_records s v.lines.records) mid alike ∙ size_records s v.lines.records
+  size_mid = alike_size (after_records s v.records) mid alike ∙ size_records s v.records
 
-  there : IsEnd (after_records s v.lines.records).cpus v.end
-  there = end_fits s (after_records s v.lines.records) v.end (size_records s v.lines.records) fits.end
+  there : IsEnd (after_records s v.records).cpus v.end
+  there = end_fits s (after_records s v.records) v.end (size_records s v.records) fits.end
 
   pub mid_fits : IsEnd mid.cpus v.end
   mid_fits = end_fits s mid v.end size_mid fits.end
 
   pub mid_free : phase_fault s v ≡ None → end_fault mid v.end ≡ None
   mid_free free =
-      sym (same_end_fault (after_records s v.lines.records) mid v.end alike there)
-      ∙ (or_none (records_fault s v.lines.records) (end_fault (after_records s v.lines.records) v.end) free).1
+      sym (same_end_fault (after_records s v.records) mid v.end alike there)
+      ∙ (or_none (records_fault s v.records) (end_fault (after_records s v.records) v.end) free).1
 
   pub mid_alike : AreAlike (after_phase s v) (next_board v.end mid)
-  mid_alike = next_alike (after_records s v.lines.records) mid v.end alike there
+  mid_alike = next_alike (after_records s v.records) mid v.end alike there

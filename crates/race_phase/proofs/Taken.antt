@@ -75,10 +75,11 @@ use Rattle.shared_board.specs.Faults.{page_reads}
 use Rattle.shared_board.specs.Stops.{StopTold}
 use Rattle.race_phase.specs.declared.faults.Cause.{Cause}
 use Rattle.race_phase.specs.declared.faults.Fault.{Fault}
-use Rattle.race_phase.specs.declared.records.Call.{Call}
-use Rattle.race_phase.specs.declared.records.Call.TheVariants.{Act, ReadPage, ReadClock, ReadHv}
+use Rattle.trace_text.specs.declared.records.Call.{Call}
+use Rattle.trace_text.specs.declared.records.Call.TheVariants.{Act, ReadPage, ReadClock, ReadHv}
 use Rattle.race_phase.specs.declared.records.Record.{Record}
-use Rattle.race_phase.specs.Calls.{IsFitting, IsFittingCall, Shown, PhaseTold}
+use Rattle.trace_text.specs.Records.{IsFittingCall}
+use Rattle.race_phase.specs.Calls.{IsFitting, Shown, PhaseTold}
 use Rattle.race_phase.specs.Order.{at_line, call_cause, record_fault, after_call, after_record, after_records, records_fault}
 use Rattle.race_phase.specs.private.Workers.{CallTrouble, AllWorked}
 use Rattle.race_phase.proofs.Counts.{

@@ -22,9 +22,7 @@ use Rattle.hv_page.specs.declared.page.HvPage.{HvPage}
 use Rattle.pvclock_page.specs.declared.page.Page.{Page}
 use Rattle.pvclock_page.specs.declared.page.ClockReply.{ClockReply}
 use Rattle.pvclock_page.specs.declared.page.ClockReply.TheVariants.{Off, On}
-use Rattle.board_types.specs.Legal.{is_legal}
 use Rattle.board_types.specs.declared.parts.BoardParts.{BoardParts}
-use Rattle.board_types.specs.declared.setup.TheConstants.{HV_FORMAT}
 use Rattle.board_core.specs.Pages.{reading_by, answer_by}
 use Rattle.board_core.specs.Hv.{hv_answer_by}
 use Rattle.board_history.specs.Machine.{machine_of, ratio_in}
@@ -37,19 +35,13 @@ use Rattle.shared_board.specs.Pages.{clock_entries}
 use Rattle.shared_board.specs.Passes.{miss, IsUpdate}
 use Rattle.race_phase.specs.declared.records.Answer.{Answer}
 use Rattle.race_phase.specs.declared.records.Answer.TheVariants.{Acted, PageIs, ClockIs, HvIs}
-use Rattle.race_phase.specs.declared.records.Call.{Call}
-use Rattle.race_phase.specs.declared.records.Call.TheVariants.{Act, ReadPage, ReadClock, ReadHv}
+use Rattle.trace_text.specs.Records.{IsFittingCall}
+use Rattle.trace_text.specs.declared.records.Call.{Call}
+use Rattle.trace_text.specs.declared.records.Call.TheVariants.{Act, ReadPage, ReadClock, ReadHv}
 use Rattle.race_phase.specs.declared.records.Record.{Record}
 use Rattle.race_phase.specs.Blocks.{block_of}
 
--- a board of this many processors and this format takes the access, or has the page
-abbrev pub IsFittingCall : ℕ → ℕ → Call → Type 0
-IsFittingCall cpus format (Act a) = IsTrue (is_legal cpus format a)
-IsFittingCall cpus format (ReadPage page) = page < cpus
-IsFittingCall cpus format (ReadClock page) = page < cpus
-IsFittingCall cpus format ReadHv = HV_FORMAT ≤ format
-
--- and the processor of the record
+-- a board of this many processors and this format has that of the record, and takes what it asks
 abbrev pub IsFitting : ℕ → ℕ → Record → Type 0
 IsFitting cpus format r = (r.cpu < cpus) × IsFittingCall cpus format r.call
 

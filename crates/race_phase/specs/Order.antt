@@ -9,8 +9,8 @@ use Rattle.board_history.specs.Counts.{SameCounts}
 use Rattle.race_phase.specs.declared.faults.Cause.{Cause}
 use Rattle.race_phase.specs.declared.faults.Cause.TheVariants.{Access as ByAccess, Count as ByCount}
 use Rattle.race_phase.specs.declared.faults.Fault.{Fault}
-use Rattle.race_phase.specs.declared.records.Call.{Call}
-use Rattle.race_phase.specs.declared.records.Call.TheVariants.{Act, ReadPage, ReadClock, ReadHv}
+use Rattle.trace_text.specs.declared.records.Call.{Call}
+use Rattle.trace_text.specs.declared.records.Call.TheVariants.{Act, ReadPage, ReadClock, ReadHv}
 use Rattle.race_phase.specs.declared.records.Record.{Record}
 
 -- a cause, with the line that is refused for it

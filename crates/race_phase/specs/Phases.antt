@@ -33,8 +33,8 @@ IsEnd cpus (Move line cpu h host) = (cpu < cpus) × IsKhz host.khz
 
 -- and a phase: its records, at most 2^62, and its end
 pub record IsPhase (cpus format : ℕ) (v : Phase) : Type 0 where
-  pub records : All (IsFitting cpus format) v.lines.records
-  pub few : length v.lines.records ≤ 2 ^ 62
+  pub records : All (IsFitting cpus format) v.records
+  pub few : length v.records ≤ 2 ^ 62
   pub end : IsEnd cpus v.end
 
 -- the board with which the next phase opens: that after a save's access, or the moved one
@@ -55,13 +55,13 @@ end_fault b (Move line cpu h host) =
 
 -- the first fault of a trace in file order
 abbrev pub after_phase : BoardParts → Phase → BoardParts
-after_phase b v = next_board v.end (after_records b v.lines.records)
+after_phase b v = next_board v.end (after_records b v.records)
 
 -- .. of a phase: that of its records, or else of its end
 abbrev pub phase_fault : BoardParts → Phase → Option Fault
 phase_fault b v =
-    option_or (records_fault b v.lines.records)
-    (end_fault (after_records b v.lines.records) v.end)
+    option_or (records_fault b v.records)
+    (end_fault (after_records b v.records) v.end)
 
 -- .. of phases, one after another
 abbrev pub trace_fault : BoardParts → List Phase → Option Fault
@@ -113,7 +113,7 @@ pub record PhaseEnded (opening : BoardParts) (ds : Deliveries) (v : Phase)
   pub legal : IsLegal (h ++ end_entries v.end (board_after h))
   pub opens : Opens opening h
   pub none_else : (n : ℕ) → opening.cpus ≤ n → entries_of n h ≡ []
-  pub shown : Shown opening ds v.lines.records h 0 opening.cpus block
+  pub shown : Shown opening ds v.records h 0 opening.cpus block
   pub leaves : next ≡ next_board v.end (board_after h)
   pub text : out ≡ block ++ end_text ds v.end (board_after h)
 

@@ -3,5 +3,5 @@ pub mod Workers
 pub mod Ran
 pub mod Tallied
 pub mod Told
-pub mod Kept
+pub mod Packed
 pub mod Checked

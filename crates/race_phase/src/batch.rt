@@ -18,7 +18,7 @@ ghost use Rattle.race_phase.specs.private.Workers.{
 };
 
 use crate::deliveries::Deliveries;
-use crate::records::{Call, Record};
+use crate::records::Record;
 use crate::texts::append_block;
 use crate::told::Told;
 use board_core::{Access, Reply};
@@ -28,6 +28,7 @@ use clock_table::Name;
 use shared_board::{Holding, Pass, SharedBoard};
 use std::alloc::Global;
 use std::sync::Wait;
+use trace_text::Call;
 
 // The count of the reply's edges is last in it, beside what each record asks for.
 /// What a record was told, until it is printed. Its reply is put where it stays, so that no list of edges is moved.

@@ -14,12 +14,13 @@ ghost use Rattle.race_phase.specs.Phases.{IsPhase, after_phase, next_board, trac
 ghost use Rattle.race_phase.specs.Tallies.{IsTally};
 ghost use Rattle.race_phase.specs.private.Checked.{TakesRecord, TakesEnd, TakesPhase};
 
-use crate::lines::RecordLines;
+use crate::packed::RecordList;
 use crate::phases::{End, NewHost, Phase};
-use crate::records::{Call, Record};
+use crate::records::Record;
 use crate::tally::Tally;
 use board_core::{Access, BoardState, HV_FORMAT};
 use clk_units::is_khz;
+use trace_text::Call;
 
 /// The most records of a phase.
 const MOST_RECORDS: usize = 1 << 62;
@@ -50,28 +51,27 @@ fn takes_phase(tally: &mut Tally, phase: &Phase) -> bool
     ensures only { result ≡ false → (b : BoardParts) → IsTally b tally.old
         → TakesPhase b phase.now → ⊥ }
 {
-    takes_records(tally, &phase.lines) && takes_end(tally, phase.end)
+    takes_records(tally, &phase.records) && takes_end(tally, phase.end)
 }
 
 /// Whether each board of these counts takes the records of a phase, which are then counted.
-fn takes_records(tally: &mut Tally, lines: &RecordLines) -> bool
+fn takes_records(tally: &mut Tally, records: &RecordList) -> bool
     ensures taken { OnTrue result ((b : BoardParts) → IsTally b tally.old
-        → All (IsFitting b.cpus b.format) lines.now.records
-        × (records_fault b lines.now.records ≡ None)
-        × IsTally (after_records b lines.now.records) tally.new) }
-    ensures few { OnTrue result (length lines.now.records ≤ 2 ^ 62) }
+        → All (IsFitting b.cpus b.format) records.now
+        × (records_fault b records.now ≡ None)
+        × IsTally (after_records b records.now) tally.new) }
+    ensures few { OnTrue result (length records.now ≤ 2 ^ 62) }
     ensures only { result ≡ false → (b : BoardParts) → IsTally b tally.old
-        → All (IsFitting b.cpus b.format) lines.now.records
-        → length lines.now.records ≤ 2 ^ 62
-        → records_fault b lines.now.records ≢ None }
+        → All (IsFitting b.cpus b.format) records.now
+        → length records.now ≤ 2 ^ 62
+        → records_fault b records.now ≢ None }
 {
-    if lines.len() > MOST_RECORDS {
+    if records.len() > MOST_RECORDS {
         return false;
     }
-    let body = lines.body();
     let mut done = 0;
-    while done < lines.len() {
-        if !takes_record(tally, &lines.record(done, &body)) {
+    while done < records.len() {
+        if !takes_record(tally, &records.record(done)) {
             return false;
         }
         done += 1;

@@ -12,12 +12,12 @@
 //! (`board_history`) that has the entries of its records and no others.
 //!
 //! ```text
-//! let mut lines = RecordLines::new(alloc, 1, 4); // of format 1, with four processors
+//! let mut records = RecordList::new(alloc);
 //! let mut tally = Tally::of_board(&state);
 //! tally.admit(0, 1_000, Access::Step)?;          // refused as the board would
 //! tally.count(0, 1_000, Access::Step);
-//! lines.push(3, &record, b"0 1000 step")?;       // the line that was read as this record
-//! let phases = [Phase { lines, end: End::Finish }];
+//! records.push(&Record { line: 3, cpu: 0, h: 1_000, call: Call::Act { access: Access::Step } })?;
+//! let phases = [Phase { records, end: End::Finish }];
 //! if check(&state, &phases) {                    // or as the lines are read, by the tally above
 //!     let ran = run_race(rt, alloc, &OpenGate, state, &deliveries, &phases)?;
 //! }
@@ -29,8 +29,8 @@ mod checking;
 mod deliveries;
 mod ends;
 mod faults;
-mod lines;
 mod pace;
+mod packed;
 mod phase;
 mod phases;
 mod race;
@@ -46,11 +46,11 @@ pub use checking::check;
 pub use deliveries::Deliveries;
 pub use ends::end_phase;
 pub use faults::{Cause, Fault};
-pub use lines::RecordLines;
+pub use packed::RecordList;
 pub use phase::run_phase;
 pub use phases::{End, NewHost, Phase};
 pub use race::{Ran, run_race};
-pub use records::{Answer, Call, Record};
+pub use records::{Answer, Record};
 pub use tally::Tally;
 pub use text::Text;
 pub use texts::access_block;

@@ -8,7 +8,7 @@ ghost use Rattle.race_phase.specs.Order.{AreAlike, after_records, records_fault}
 ghost use Rattle.race_phase.specs.private.Workers.{HasWorked, AllGiven, AllWorked};
 
 use crate::deliveries::Deliveries;
-use crate::lines::RecordLines;
+use crate::packed::RecordList;
 use crate::schedule::Schedule;
 use crate::text::Text;
 use crate::work::{Worked, work};
@@ -30,18 +30,18 @@ pub fn run_phase<N: Name + Send + Sync, R: Threads + Wait + Sync, G: Gate + Sync
     blank: Blank,
     state: &BoardState,
     deliveries: &Deliveries,
-    lines: &RecordLines,
+    records: &RecordList,
 ) -> Result<(Box<BoardState>, Text), NoMemory>
     requires table { blank.0 ≡ N.table }
     requires blank { blank.1 ≡ N.state }
     requires state { state.now ≡ N.state }
     requires passes { N.passes ≡ N.state.cpus }
-    requires fitting { All (IsFitting N.state.cpus N.state.format) lines.now.records }
-    requires free { records_fault N.state lines.now.records ≡ None }
-    requires few { length lines.now.records ≤ 2 ^ 62 }
-    ensures told { IfOk result (λ t. PhaseTold N.state deliveries.now lines.now.records
+    requires fitting { All (IsFitting N.state.cpus N.state.format) records.now }
+    requires free { records_fault N.state records.now ≡ None }
+    requires few { length records.now ≤ 2 ^ 62 }
+    ensures told { IfOk result (λ t. PhaseTold N.state deliveries.now records.now
         t.0.value t.1) }
-    ensures alike { IfOk result (λ t. AreAlike (after_records N.state lines.now.records) t.0.value) }
+    ensures alike { IfOk result (λ t. AreAlike (after_records N.state records.now) t.0.value) }
 {
     let _processors = state.processors();
     let cpus = state.cpus();
@@ -54,10 +54,10 @@ pub fn run_phase<N: Name + Send + Sync, R: Threads + Wait + Sync, G: Gate + Sync
         passes,
         &move |pass: Pass<N>| -> Result<Worked<N>, NoMemory>
             requires { (pass.number < N.state.cpus) × ((mine pass ≡ []) × (pass.misses ≡ []))
-                × All (IsFitting N.state.cpus N.state.format) lines.now.records }
-            ensures { IfOk result (λ w. HasWorked N.state deliveries.entry.now lines.entry.now.records
+                × All (IsFitting N.state.cpus N.state.format) records.now }
+            ensures { IfOk result (λ w. HasWorked N.state deliveries.entry.now records.entry.now
                 pass.number w.pass w.text.items) }
-        { work(rt, alloc, gate, shared, schedule, deliveries, lines, pass) },
+        { work(rt, alloc, gate, shared, schedule, deliveries, records, pass) },
     ) else {
         return Err(NoMemory);
     };

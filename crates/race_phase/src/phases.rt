@@ -1,5 +1,5 @@
 //! A trace by its phases.
-use crate::lines::RecordLines;
+use crate::packed::RecordList;
 
 /// Where a board moves.
 #[derive(Clone, Copy, Debug, PartialEq, Eq)]
@@ -36,6 +36,6 @@ pub enum End {
 /// Records in file order, and what ends them.
 #[derive(Drop)]
 pub struct Phase {
-    pub lines: RecordLines,
+    pub records: RecordList,
     pub end: End,
 }

@@ -86,7 +86,7 @@ fn next<R: Threads + Wait + Sync, G: Gate + Sync>(
         blank,
         state,
         deliveries,
-        &phase.lines,
+        &phase.records,
     )?;
     text.join(lines)?;
     let mut block = Vec::new(alloc);

@@ -1,20 +1,8 @@
 //! The records of a trace, and what they are answered.
-use board_core::{Access, Reply};
+use board_core::Reply;
 use hv_page::HvReply;
 use pvclock_page::{ClockReply, PageReply};
-
-/// What a record asks.
-#[derive(Clone, Copy, Debug, PartialEq, Eq)]
-pub enum Call {
-    /// An access to the board.
-    Act { access: Access },
-    /// The page of this processor is read.
-    ReadPage { page: u8 },
-    /// The clock is read by the page of this processor.
-    ReadClock { page: u8 },
-    /// The reference page of Hyper-V is read; from format 4 on.
-    ReadHv,
-}
+use trace_text::Call;
 
 /// A record of a trace.
 #[derive(Clone, Copy, Debug, PartialEq, Eq)]

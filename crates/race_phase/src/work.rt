@@ -6,8 +6,8 @@ ghost use Rattle.race_phase.specs.private.Workers.{HasWorked};
 
 use crate::batch::{new_places, print_all};
 use crate::deliveries::Deliveries;
-use crate::lines::RecordLines;
 use crate::pace::{MOST_AT_ONCE, Pace};
+use crate::packed::RecordList;
 use crate::schedule::Schedule;
 use board_io::Gate;
 use clk_units::NoMemory;
@@ -16,6 +16,9 @@ use shared_board::{Pass, SharedBoard};
 use std::alloc::Global;
 use std::sync::Wait;
 
+/// About how many bytes the block of a record has: most have a line and no edge.
+const BLOCK_LEN: u64 = 40;
+
 /// What a worker gives back.
 #[derive(Drop)]
 pub(crate) struct Worked<N: Name> {
@@ -23,7 +26,7 @@ pub(crate) struct Worked<N: Name> {
     pub(crate) text: Vec<u8>,
 }
 
-/// Takes the records of the pass's processor in order: waits for the other workers at the start line, reads a few lines,
+/// Takes the records of the pass's processor in order: waits for the other workers at the start line, takes a few records,
 /// asks for the lock, and appends their blocks to a text of its own when it has given the lock back. It stops at the first
 /// record that isn't answered.
 pub(crate) fn work<N: Name, R: Wait, G: Gate>(
@@ -33,27 +36,26 @@ pub(crate) fn work<N: Name, R: Wait, G: Gate>(
     board: &SharedBoard<N>,
     schedule: &Schedule,
     deliveries: &Deliveries,
-    lines: &RecordLines,
+    records: &RecordList,
     mut pass: Pass<N>,
 ) -> Result<Worked<N>, NoMemory>
     requires cpu { pass.number < N.state.cpus }
     requires fresh { (mine pass ≡ []) × (pass.misses ≡ []) }
-    requires fitting { All (IsFitting N.state.cpus N.state.format) lines.now.records }
+    requires fitting { All (IsFitting N.state.cpus N.state.format) records.now }
     ensures { IfOk result
-        (λ w. HasWorked N.state deliveries.now lines.now.records pass.number w.pass w.text.items) }
+        (λ w. HasWorked N.state deliveries.now records.now pass.number w.pass w.text.items) }
 {
     let cpu = pass.number();
-    let mut left = lines.count_of(cpu);
-    let body = lines.body();
+    let mut left = records.count_of(cpu);
     let mut places = new_places(alloc, MOST_AT_ONCE)?;
-    let mut text = Vec::new(alloc);
+    let mut text = new_text(alloc, left);
     let mut batch = Vec::new(alloc);
     let mut pace = Pace::new(rt, schedule, cpu, left);
     let mut at_once = pace.next(left);
     let mut index = 0;
-    for place in 0..lines.len() {
-        if u64::from(lines.cpu(place)) == cpu {
-            let Ok(()) = batch.push(lines.record(place, &body)) else {
+    for place in 0..records.len() {
+        if u64::from(records.cpu(place)) == cpu {
+            let Ok(()) = batch.push(records.record(place)) else {
                 return Err(NoMemory);
             };
             if batch.len() >= at_once {
@@ -92,4 +94,14 @@ pub(crate) fn work<N: Name, R: Wait, G: Gate>(
         &mut text,
     )?;
     Ok(Worked { pass, text })
+}
+
+/// A text with room for the blocks of so many records. Where there is no memory for it, it grows as they are appended.
+fn new_text(alloc: Global, records: u64) -> Vec<u8>
+    ensures { result.items ≡ [] }
+{
+    match Vec::with_capacity(alloc, records.saturating_mul(BLOCK_LEN) as usize) {
+        Ok(text) => text,
+        Err(_) => Vec::new(alloc),
+    }
 }

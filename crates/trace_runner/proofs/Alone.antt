@@ -61,21 +61,21 @@ use Rattle.board_history.proofs.Laws.{
 use Rattle.race_phase.specs.declared.deliveries.Deliveries.{Deliveries}
 use Rattle.race_phase.specs.Blocks.{block_of}
 use Rattle.race_phase.specs.Calls.{IsFitting, records_of, CallMade, AllMade, Shown}
-use Rattle.race_phase.specs.Phases.{next_board, end_entries, end_text, PhaseEnded, race_text}
+use Rattle.race_phase.specs.Phases.{IsPhase, next_board, end_entries, end_text, PhaseEnded, race_text}
 use Rattle.race_phase.specs.declared.phases.End.{End}
 use Rattle.race_phase.specs.declared.phases.End.TheVariants.{Finish, Save, Move}
 use Rattle.race_phase.specs.declared.phases.Phase.{Phase}
 use Rattle.race_phase.specs.declared.records.Answer.{Answer}
 use Rattle.race_phase.specs.declared.records.Answer.TheVariants.{Acted, PageIs, ClockIs, HvIs}
-use Rattle.race_phase.specs.declared.records.Call.{Call}
-use Rattle.race_phase.specs.declared.records.Call.TheVariants.{Act, ReadPage, ReadClock, ReadHv}
+use Rattle.trace_text.specs.declared.records.Call.{Call}
+use Rattle.trace_text.specs.declared.records.Call.TheVariants.{Act, ReadPage, ReadClock, ReadHv}
 use Rattle.race_phase.specs.declared.records.Record.{Record}
 use Rattle.trace_runner.specs.FileText.{answer_on, records_text, phase_text, phases_text, file_text}
-use Rattle.trace_runner.specs.Free.{IsPhase, IsFree}
+use Rattle.trace_runner.specs.Free.{IsFree}
 use Rattle.trace_runner.specs.Race.{RacePrints}
 use Rattle.trace_runner.specs.Replay.{ended}
 use Rattle.trace_runner.specs.Replayed.{board_behind, records_behind, replayed}
-use Rattle.trace_runner.specs.Trace.{PhaseRead, phase_read, phases_read, TraceRead}
+use Rattle.trace_runner.specs.Trace.{TraceRead}
 use Rattle.trace_runner.proofs.ReadyNext.{moved-cpus}
 
 -- no entry of a pass from 1 on
@@ -244,10 +244,10 @@ records_of-0 (r ∷ rs) format fit =
 
 -- a phase
 phase_plain : (b : BoardParts) (ds : Deliveries) (v : Phase) (next : BoardParts) (out : List ℕ) (format : ℕ) → b.cpus ≡ 1
-    → All (IsFitting 1 format) v.lines.records → PhaseEnded b ds v next out
-    → (out ≡ phase_text ds b (phase_read v)) × (next ≡ next_board v.end (records_behind b v.lines.records))
+    → All (IsFitting 1 format) v.records → PhaseEnded b ds v next out
+    → (out ≡ phase_text ds b v) × (next ≡ next_board v.end (records_behind b v.records))
 phase_plain b ds v next out format one fit e =
-    let rs : List Record = v.lines.records in
+    let rs : List Record = v.records in
     let later : List Entry = e.opens.0 in
     let whole : e.h ≡ of_state b ∷ later = e.opens.1 in
     let tail : List Entry = end_entries v.end (board_after e.h) in
@@ -285,26 +285,22 @@ next_board-cpus (Move line cpu h host) b = moved-cpus host.khz host.start host.g
 
 -- phases, one behind another
 phases_plain : (ds : Deliveries) (vs : List Phase) (b state : BoardParts) (out : List ℕ) (format : ℕ) → b.cpus ≡ 1
-    → All (IsPhase 1 format) (phases_read vs) → race_text ds b vs state out
-    → (out ≡ phases_text ds b (phases_read vs)) × (state ≡ replayed b (phases_read vs) [])
+    → All (IsPhase 1 format) vs → race_text ds b vs state out
+    → (out ≡ phases_text ds b vs) × (state ≡ replayed b vs [])
 phases_plain ds [] b state out format one fits told = (told.1, told.0)
 phases_plain ds (v ∷ vs) b state out format one fits told =
-    let ws : List PhaseRead = phases_read vs in
-    let fit : IsPhase 1 format (phase_read v) = All-head (IsPhase 1 format) (phase_read v) ws fits in
+    let fit : IsPhase 1 format v = All-head (IsPhase 1 format) v vs fits in
     let here = phase_plain b ds v told.0 told.1 format one fit.records told.4 in
-    let cpus : told.0.cpus ≡ 1 = ap (λ (c : BoardParts). c.cpus) here.1 ∙ next_board-cpus v.end (records_behind b v.lines.records)
-    ∙ records_behind-cpus b v.lines.records ∙ one in
-    let next = phases_plain ds vs told.0 state told.2 format cpus (All-tail (IsPhase 1 format) (phase_read v) ws fits) told.5 in (
-      told.3 ∙ (λ i. here.0 i ++ next.0 i) ∙ ap (λ (c : BoardParts). phase_text ds b (phase_read v) ++ phases_text ds c ws) here.1,
-      next.1 ∙ ap (λ (c : BoardParts). replayed c ws []) here.1,
+    let cpus : told.0.cpus ≡ 1 = ap (λ (c : BoardParts). c.cpus) here.1 ∙ next_board-cpus v.end (records_behind b v.records)
+    ∙ records_behind-cpus b v.records ∙ one in
+    let next = phases_plain ds vs told.0 state told.2 format cpus (All-tail (IsPhase 1 format) v vs fits) told.5 in (
+      told.3 ∙ (λ i. here.0 i ++ next.0 i) ∙ ap (λ (c : BoardParts). phase_text ds b v ++ phases_text ds c vs) here.1,
+      next.1 ∙ ap (λ (c : BoardParts). replayed c vs []) here.1,
     )
 
 -- what a race prints on one processor
 pub prints_plain : (t : TraceRead) (out : List ℕ) → IsFree t.opening t.phases → t.opening.cpus ≡ 1 → RacePrints t out → out ≡ file_text t
 prints_plain t out free one p =
-    let fits : All (IsPhase 1 t.opening.format) (phases_read p.0) =
-    subst (λ (vs : List PhaseRead). All (IsPhase 1 t.opening.format) vs) (sym p.3)
-    (subst (λ (m : ℕ). All (IsPhase m t.opening.format) t.phases) one free.fit) in
-    let told = phases_plain t.deliveries p.0 t.opening p.1 p.2 t.opening.format one fits p.4 in
-    p.5 ∙ (λ i. told.0 i ++ (ended t.shows_state (told.1 i)).text) ∙ ap
-    (λ (vs : List PhaseRead). phases_text t.deliveries t.opening vs ++ (ended t.shows_state (replayed t.opening vs [])).text) p.3
+    let fits : All (IsPhase 1 t.opening.format) t.phases = subst (λ (m : ℕ). All (IsPhase m t.opening.format) t.phases) one free.fit in
+    let told = phases_plain t.deliveries t.phases t.opening p.0 p.1 t.opening.format one fits p.2 in
+    p.3 ∙ (λ i. told.0 i ++ (ended t.shows_state (told.1 i)).text)

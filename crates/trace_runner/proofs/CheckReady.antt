@@ -2,11 +2,9 @@
 use Rattle.std.proofs.Common.{◌≡◌, ℕ, ◌+◌, ◌<◌, ◌≤◌, Bool, true, false, cond, leb, List, Option, None, Result, Ok, Err, OnOk, refl, sym, subst, ◌∙◌, arith}
 use Rattle.std.proofs.lemmas.Bool.{leb-false}
 use Rattle.clk_units.specs.declared.NoMemory.{NoMemory}
-use Rattle.board_types.specs.declared.setup.TheConstants.{HV_FORMAT}
-use Rattle.board_types.specs.Legal.{is_legal}
 use Rattle.board_types.specs.declared.parts.BoardParts.{BoardParts}
 use Rattle.trace_text.specs.Lines.{taken, IsItem, IsRecordAt}
-use Rattle.trace_text.specs.Records.{IsJob}
+use Rattle.trace_text.specs.Records.{IsFittingCall, IsJob}
 use Rattle.trace_text.specs.declared.records.Body.{Body}
 use Rattle.trace_text.specs.declared.reading.Stage.{Stage}
 use Rattle.trace_text.specs.declared.reading.Stage.TheVariants.{
@@ -17,7 +15,7 @@ use Rattle.trace_text.specs.declared.reading.Stage.TheVariants.{
   Refused as Stops,
 }
 use Rattle.trace_text.specs.declared.records.Job.{Job}
-use Rattle.trace_text.specs.declared.records.Job.TheVariants.{Board, Page, Clock, Hv, Save, Move}
+use Rattle.trace_text.specs.declared.records.Job.TheVariants.{Ask, Save, Move}
 use Rattle.trace_text.specs.declared.records.Record.{Record as Written}
 use Rattle.trace_text.specs.declared.reading.Item.{Item}
 use Rattle.trace_text.specs.declared.reading.Item.TheVariants.{Skipped, Part, Begun, Next, End}
@@ -45,10 +43,7 @@ use Rattle.trace_runner.proofs.Sounds.{Keeps, job_kept, read_sound, begun_sound}
 -- behind a record that is kept
 kept_ready : (line : ℕ) (rec : Written) (job : Job) (s : Checking) → s.taken < 200000 → IsReady (line + 1) s.replay
     → IsSound (kept_job line rec job s) → IsCheckReady (line + 1) (kept_job line rec job s)
-kept_ready line rec (Board access) s room ready sound = record { replay = ready; few = omega arith; sound = sound }
-kept_ready line rec (Page page) s room ready sound = record { replay = ready; few = omega arith; sound = sound }
-kept_ready line rec (Clock page) s room ready sound = record { replay = ready; few = omega arith; sound = sound }
-kept_ready line rec Hv s room ready sound = record { replay = ready; few = omega arith; sound = sound }
+kept_ready line rec (Ask call) s room ready sound = record { replay = ready; few = omega arith; sound = sound }
 kept_ready line rec Save s room ready sound = record { replay = ready; few = omega arith; sound = sound }
 kept_ready line rec (Move khz start gap) s room ready sound = record { replay = ready; few = omega arith; sound = sound }
 
@@ -77,11 +72,7 @@ record_ready line rec s sound suits next = by_full (leb 200000 s.taken) refl
 
 -- an item of a trace that goes on suits its board
 job_suits : (job : Job) (body : Body) (b : BoardParts) → body.cpus ≡ b.cpus → body.format ≡ b.format → IsJob body job → JobSuits job b
-job_suits (Board a) body b cpus format legal =
-    subst (λ (n : ℕ). is_legal n b.format a ≡ true) cpus (subst (λ (f : ℕ). is_legal body.cpus f a ≡ true) format legal)
-job_suits (Page page) body b cpus format inside = subst (λ (n : ℕ). page < n) cpus inside
-job_suits (Clock page) body b cpus format inside = subst (λ (n : ℕ). page < n) cpus inside
-job_suits Hv body b cpus format has = subst (λ (n : ℕ). HV_FORMAT ≤ n) format has
+job_suits (Ask call) body b cpus format fits = subst (λ (z : ℕ × ℕ). IsFittingCall z.0 z.1 call) (λ k. (cpus k, format k)) fits
 job_suits Save body b cpus format valid = tt
 job_suits (Move khz start gap) body b cpus format rate = record { slow = rate.0; fast = rate.1 }
 

@@ -3,13 +3,13 @@ use Rattle.std.proofs.Common.{◌≡◌, [], ◌∷◌, refl}
 use Rattle.reply_text.specs.Text.{refused_text}
 use Rattle.reply_text.specs.declared.ends.Refused.TheVariants.{Form, Cpu, Many}
 use Rattle.trace_text.specs.declared.faults.Reason.TheVariants.{Form as OutOfForm, Cpu as NoSuchCpu}
-use Rattle.trace_text.specs.declared.records.Job.TheVariants.{Save, Move, Page}
+use Rattle.trace_text.specs.declared.records.Job.TheVariants.{Ask, Save, Move}
 use Rattle.trace_text.specs.declared.records.Record.{Record as Written}
 use Rattle.trace_loop.specs.Progress.{Ends}
 use Rattle.trace_runner.specs.Check.{kept, record_checked, fault_checked, trace_of}
 use Rattle.trace_runner.specs.Checking.{Checking}
 use Rattle.trace_runner.specs.declared.check.Checked.TheVariants.{Stopped}
-use Rattle.race_phase.specs.declared.records.Call.TheVariants.{ReadPage}
+use Rattle.trace_text.specs.declared.records.Call.TheVariants.{ReadPage}
 use Rattle.race_phase.specs.declared.phases.End.TheVariants.{
   Finish,
   Save as BySave,
@@ -41,7 +41,7 @@ module _ (s : Checking) where
 
   -- phases: a page of processor 0 is read by 1, then the board is saved, and moved
   abbrev first : Checking
-  first = kept 4 (record { cpu = 1; h = 700; job = Page 0 }) (record s { phases = []; last = []; taken = 0 })
+  first = kept 4 (record { cpu = 1; h = 700; job = Ask (ReadPage 0) }) (record s { phases = []; last = []; taken = 0 })
 
   abbrev saved : Checking
   saved = kept 5 (record { cpu = 0; h = 900; job = Save }) first

@@ -14,12 +14,15 @@ use Rattle.board_core.specs.Access.{reply_of}
 use Rattle.board_core.specs.Refusals.{refusal_of}
 use Rattle.race_phase.specs.declared.deliveries.Deliveries.{Deliveries}
 use Rattle.race_phase.specs.Blocks.{block_of}
+use Rattle.race_phase.specs.Tallies.{TallyParts, IsTally}
 use Rattle.race_phase.specs.declared.records.Answer.TheVariants.{Acted}
 use Rattle.board_core.specs.Time.{HasTime}
 use Rattle.clk_units.specs.declared.NoMemory.{NoMemory}
 use Rattle.reply_text.specs.Text.{refused_text}
 use Rattle.reply_text.specs.declared.ends.Refused.{Refused}
 use Rattle.reply_text.specs.declared.ends.Refused.TheVariants.{Fell, Range}
+use Rattle.trace_text.specs.Records.{IsFittingCall}
+use Rattle.trace_text.specs.declared.records.Call.{Call}
 use Rattle.trace_loop.specs.Progress.{Answer, Goes, Ends, printed, end_of, state_behind}
 use Rattle.trace_runner.specs.Records.{
   refused_count,
@@ -30,9 +33,20 @@ use Rattle.trace_runner.specs.Records.{
   stops,
 }
 use Rattle.trace_runner.specs.Replay.{with_board}
+use Rattle.trace_runner.specs.Replayed.{by_refusal}
 use Rattle.trace_runner.specs.declared.replay.Replay.{Replay}
 use Rattle.trace_runner.specs.declared.status.Verdict.{Verdict}
 use Rattle.trace_runner.specs.declared.status.Verdict.TheVariants.{Stopped}
+
+-- a tally takes what its board takes
+pub fits_tally : (b : BoardParts) (t : TallyParts) (call : Call) → IsTally b t → IsFittingCall b.cpus b.format call
+    → IsFittingCall t.cpus t.format call
+fits_tally b t call x fits = subst (λ (z : ℕ × ℕ). IsFittingCall z.0 z.1 call) (λ k. (sym x.cpus k, sym x.format k)) fits
+
+-- no reason, as there is no refusal
+pub by_refusal-none : (o : Option Refusal) → by_refusal o ≡ None → o ≡ None
+by_refusal-none None is = refl
+by_refusal-none (Some refusal) is = cc
 
 -- a count with a time isn't refused
 pub counted : (b : BoardParts) (h : ℕ) → HasTime b.anchor h → refused_count b h ≡ None

@@ -3,14 +3,15 @@ use Rattle.std.proofs.Common.{◌≡◌, List, [], ◌∷◌, ◌++◌, None, re
 use Rattle.board_types.specs.declared.parts.BoardParts.{BoardParts}
 use Rattle.race_phase.proofs.Checked.{or_both}
 use Rattle.race_phase.proofs.Taken.{or_none}
-use Rattle.trace_runner.specs.Trace.{PhaseRead}
-use Rattle.trace_runner.specs.Free.{phase_fault, after_phase, after_phases, trace_fault}
+use Rattle.race_phase.specs.declared.phases.Phase.{Phase}
+use Rattle.race_phase.specs.Phases.{phase_fault, after_phase, trace_fault}
+use Rattle.trace_runner.specs.Free.{after_phases}
 
-pub after_phases-snoc : (b : BoardParts) (vs : List PhaseRead) (v : PhaseRead) → after_phases b (vs ++ v ∷ []) ≡ after_phase (after_phases b vs) v
+pub after_phases-snoc : (b : BoardParts) (vs : List Phase) (v : Phase) → after_phases b (vs ++ v ∷ []) ≡ after_phase (after_phases b vs) v
 after_phases-snoc b [] v = refl
 after_phases-snoc b (x ∷ xs) v = after_phases-snoc (after_phase b x) xs v
 
-pub trace_fault-snoc : (b : BoardParts) (vs : List PhaseRead) (v : PhaseRead) → trace_fault b vs ≡ None → phase_fault (after_phases b vs) v ≡ None
+pub trace_fault-snoc : (b : BoardParts) (vs : List Phase) (v : Phase) → trace_fault b vs ≡ None → phase_fault (after_phases b vs) v ≡ None
     → trace_fault b (vs ++ v ∷ []) ≡ None
 trace_fault-snoc b [] v free last = or_both (phase_fault b v) None last refl
 trace_fault-snoc b (x ∷ xs) v free last =

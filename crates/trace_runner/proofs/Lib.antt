@@ -7,8 +7,6 @@ pub mod FileOrder
 pub mod Greatest
 pub mod Pieces
 pub mod Races
-pub mod Lines
-pub mod PhasesRead
 pub mod ReadyNext
 pub mod Replayed
 pub mod Rows

@@ -70,7 +70,8 @@ use Rattle.trace_text.specs.declared.faults.RecordFault.{RecordFault}
 use Rattle.trace_text.specs.declared.header.Head.{Head}
 use Rattle.trace_text.specs.declared.records.Body.{Body}
 use Rattle.trace_text.specs.declared.records.Job.{Job}
-use Rattle.trace_text.specs.declared.records.Job.TheVariants.{Board, Page, Clock, Hv, Save, Move}
+use Rattle.trace_text.specs.declared.records.Call.TheVariants.{Act, ReadPage, ReadClock, ReadHv}
+use Rattle.trace_text.specs.declared.records.Job.TheVariants.{Ask, Save, Move}
 use Rattle.trace_text.specs.declared.records.Record.{Record}
 use Rattle.trace_text.specs.declared.reading.Item.{Item}
 use Rattle.trace_text.specs.declared.reading.Item.TheVariants.{Skipped, Part, Begun, Next, End}
@@ -197,10 +198,10 @@ same_end None (ByMove line cpu h host) ds b = (
 
 pub same_job : (line cpu h : ℕ) (job : Job) (ds : Deliveries) (b : BoardParts) → Same b (job_answer line cpu h job ds b)
 unfolding after_clock
-same_job line cpu h (Board a) ds b = same_access (refusal_of b cpu h a) line cpu h a ds b
-same_job line cpu h (Page page) ds b = same_read _ line _ b b refl refl
-same_job line cpu h (Clock page) ds b = same_read _ line _ b (after_clock b page h) refl refl
-same_job line cpu h Hv ds b = same_read _ line _ b b refl refl
+same_job line cpu h (Ask (Act a)) ds b = same_access (refusal_of b cpu h a) line cpu h a ds b
+same_job line cpu h (Ask (ReadPage page)) ds b = same_read _ line _ b b refl refl
+same_job line cpu h (Ask (ReadClock page)) ds b = same_read _ line _ b (after_clock b page h) refl refl
+same_job line cpu h (Ask ReadHv) ds b = same_read _ line _ b b refl refl
 same_job line cpu h Save ds b = same_end _ (BySave line cpu h) ds b
 same_job line cpu h (Move khz start gap) ds b = same_end _ (ByMove line cpu h (record { khz = khz; start = start; gap = gap })) ds b
 

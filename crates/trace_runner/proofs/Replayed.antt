@@ -6,25 +6,25 @@ use Rattle.trace_text.specs.declared.records.Record.{Record as Written}
 use Rattle.race_phase.specs.Phases.{next_board}
 use Rattle.race_phase.specs.Tallies.{TallyParts, IsTally}
 use Rattle.race_phase.specs.declared.phases.End.{End}
-use Rattle.race_phase.specs.declared.records.Call.{Call}
+use Rattle.trace_text.specs.declared.records.Call.{Call}
 use Rattle.race_phase.specs.declared.records.Record.{Record}
 use Rattle.trace_runner.specs.Check.{with_call, ended_by, with_end}
 use Rattle.trace_runner.specs.Checking.{Checking}
 use Rattle.trace_runner.specs.Replayed.{board_behind, records_behind, replayed, on_board}
-use Rattle.trace_runner.specs.Trace.{PhaseRead}
+use Rattle.race_phase.specs.declared.phases.Phase.{Phase}
 
 -- one record more
 records_behind-snoc : (b : BoardParts) (rs : List Record) (r : Record) → records_behind b (rs ++ r ∷ []) ≡ board_behind (records_behind b rs) r.cpu r.h r.call
 records_behind-snoc b [] r = refl
 records_behind-snoc b (x ∷ xs) r = records_behind-snoc (board_behind b x.cpu x.h x.call) xs r
 
-pub replayed-record : (b : BoardParts) (vs : List PhaseRead) (rs : List Record) (r : Record)
+pub replayed-record : (b : BoardParts) (vs : List Phase) (rs : List Record) (r : Record)
     → replayed b vs (rs ++ r ∷ []) ≡ board_behind (replayed b vs rs) r.cpu r.h r.call
 replayed-record b [] rs r = records_behind-snoc b rs r
 replayed-record b (v ∷ vs) rs r = replayed-record (next_board v.end (records_behind b v.records)) vs rs r
 
 -- a phase that ends
-pub replayed-end : (b : BoardParts) (vs : List PhaseRead) (v : PhaseRead) → replayed b (vs ++ v ∷ []) [] ≡ next_board v.end (replayed b vs v.records)
+pub replayed-end : (b : BoardParts) (vs : List Phase) (v : Phase) → replayed b (vs ++ v ∷ []) [] ≡ next_board v.end (replayed b vs v.records)
 replayed-end b [] v = refl
 replayed-end b (x ∷ xs) v = replayed-end (next_board x.end (records_behind b x.records)) xs v
 
@@ -36,7 +36,7 @@ pub pushed : (s : Checking) (line : ℕ) (rec : Written) (call : Call) (b : Boar
 pushed s line rec call b rs e f = λ i. record s { replay = record s.replay { board = e i }; last = f i; taken = s.taken + 1 }
 
 -- or ends its phase
-pub ended : (s : Checking) (end : End) (b : BoardParts) (vs : List PhaseRead) (rs : List Record) → b ≡ next_board end s.replay.board → vs ≡ ended_by end s
+pub ended : (s : Checking) (end : End) (b : BoardParts) (vs : List Phase) (rs : List Record) → b ≡ next_board end s.replay.board → vs ≡ ended_by end s
     → rs ≡ []
     → record s { replay = record s.replay { board = b }; phases = vs; last = rs; taken = s.taken + 1 }
     ≡ with_end end (on_board (next_board end s.replay.board) s)

@@ -45,7 +45,7 @@ use Rattle.reply_text.specs.Text.{page_text, clock_text, hv_text}
 use Rattle.reply_text.specs.declared.ends.Refused.{Refused}
 use Rattle.trace_text.specs.declared.header.Header.{Header}
 use Rattle.trace_text.specs.declared.records.Job.{Job}
-use Rattle.trace_text.specs.declared.records.Job.TheVariants.{Board, Page, Clock, Hv, Save, Move}
+use Rattle.trace_text.specs.declared.records.Job.TheVariants.{Ask, Save, Move}
 use Rattle.trace_text.specs.declared.records.Record.{Record as Written}
 use Rattle.trace_loop.specs.Progress.{Answer, Goes, Ends}
 use Rattle.trace_runner.specs.Records.{
@@ -63,9 +63,10 @@ use Rattle.trace_runner.specs.Records.{
 }
 use Rattle.trace_runner.specs.Replay.{opening}
 use Rattle.trace_runner.specs.Ready.{JobSuits}
-use Rattle.race_phase.specs.Calls.{IsFitting, IsFittingCall}
+use Rattle.trace_text.specs.Records.{IsFittingCall}
+use Rattle.race_phase.specs.Calls.{IsFitting}
 use Rattle.race_phase.specs.Order.{at_line, record_fault, after_record, after_records, records_fault}
-use Rattle.race_phase.specs.Phases.{IsEnd, next_board, end_fault}
+use Rattle.race_phase.specs.Phases.{IsPhase, IsEnd, next_board, end_fault}
 use Rattle.race_phase.specs.declared.faults.Fault.{Fault}
 use Rattle.trace_runner.specs.Check.{
   check_start,
@@ -77,11 +78,11 @@ use Rattle.trace_runner.specs.Check.{
   read_on,
 }
 use Rattle.trace_runner.specs.Checking.{Checking}
-use Rattle.trace_runner.specs.Free.{IsPhase, after_phases, IsFree}
+use Rattle.trace_runner.specs.Free.{after_phases, IsFree}
 use Rattle.trace_runner.specs.Sound.{IsSound}
-use Rattle.trace_runner.specs.Trace.{PhaseRead}
-use Rattle.race_phase.specs.declared.records.Call.{Call}
-use Rattle.race_phase.specs.declared.records.Call.TheVariants.{Act, ReadPage, ReadClock, ReadHv}
+use Rattle.race_phase.specs.declared.phases.Phase.{Phase}
+use Rattle.trace_text.specs.declared.records.Call.{Call}
+use Rattle.trace_text.specs.declared.records.Call.TheVariants.{Act, ReadPage, ReadClock, ReadHv}
 use Rattle.race_phase.specs.declared.phases.End.{End}
 use Rattle.race_phase.specs.declared.phases.End.TheVariants.{
   Finish,
@@ -147,7 +148,7 @@ Keeps keep s (Ends closing) = Unit {0}
 pub ended_free : (end : End) (s : Checking) → IsSound s → s.taken ≤ 200000 → IsEnd s.opening.cpus end → end_fault (now s) end ≡ None
     → IsFree s.opening (ended_by end s)
 ended_free end s sound few fits none =
-    let v : PhaseRead = record { records = s.last; end = end } in
+    let v : Phase = record { records = s.last; end = end } in
     let p : BoardParts = after_phases s.opening s.phases in
     let short : length s.last ≤ 2 ^ 62 = omega (arith, sound.few) in
     let fit : IsPhase s.opening.cpus s.opening.format v = record { records = sound.fit; few = short; end = fits } in
@@ -178,7 +179,7 @@ call_kept line rec call s (Ends closing) sound there fits same = λ goes. tt
 end_kept : (end : End) (s : Checking) (x : Answer BoardParts Verdict) → IsSound s → s.taken ≤ 200000 → IsEnd s.opening.cpus end → Same s.replay.board x
     → Goes_on (end_fault (now s) end) (next_board end (now s)) x → Keeps (with_end end) s x
 end_kept end s (Goes text b) sound few fits same goes =
-    let v : PhaseRead = record { records = s.last; end = end } in
+    let v : Phase = record { records = s.last; end = end } in
     record {
       done = ended_free end s sound few fits goes.0;
       fit = All-nil (IsFitting s.opening.cpus s.opening.format);
@@ -214,27 +215,27 @@ job_kept line rec job s sound few there suits = by_job job suits
 
     by_job : (j : Job) → JobSuits j s.replay.board
         → Keeps (kept_job line rec j) s (job_answer line rec.cpu rec.h j s.replay.deliveries s.replay.board)
-    by_job (Board a) legal =
+    by_job (Ask (Act a)) legal =
         call_kept line rec (Act a) s _ sound cpu
         (subst (λ (n : ℕ). is_legal n s.opening.format a ≡ true) sound.cpus
-        (subst (λ (f : ℕ). is_legal s.replay.board.cpus f a ≡ true) sound.format legal)) (same (Board a))
+        (subst (λ (f : ℕ). is_legal s.replay.board.cpus f a ≡ true) sound.format legal)) (same (Ask (Act a)))
         (subst (λ (c : BoardParts). Goes_on (at_line line (option_map ByAccess (refusal_of (now s) rec.cpu rec.h a))) (after_access (now s) rec.cpu rec.h a)
         (board_answer line rec.cpu rec.h a s.replay.deliveries c)) (sym sound.board)
         (act_goes (now s) sound.greatest line rec.cpu rec.h s.replay.deliveries
         (refusal_of (with_greatest (now s) sound.greatest) rec.cpu rec.h a) a refl))
-    by_job (Page page) inside =
-        call_kept line rec (ReadPage page) s _ sound cpu (subst (λ (n : ℕ). page < n) sound.cpus inside) (same (Page page))
+    by_job (Ask (ReadPage page)) inside =
+        call_kept line rec (ReadPage page) s _ sound cpu (subst (λ (n : ℕ). page < n) sound.cpus inside) (same (Ask (ReadPage page)))
         (subst (λ (c : BoardParts). Goes_on (at_line line (option_map ByCount (time_fault (now s).anchor rec.h))) (now s) (page_answer line page rec.h c))
         (sym sound.board)
         (read_goes (now s) sound.greatest line rec.cpu rec.h s.replay.deliveries (refused_count (with_greatest (now s) sound.greatest) rec.h)
         (page_text line (page_reply (with_greatest (now s) sound.greatest) page rec.h)) sound.greatest refl))
-    by_job (Clock page) inside =
-        call_kept line rec (ReadClock page) s _ sound cpu (subst (λ (n : ℕ). page < n) sound.cpus inside) (same (Clock page))
+    by_job (Ask (ReadClock page)) inside =
+        call_kept line rec (ReadClock page) s _ sound cpu (subst (λ (n : ℕ). page < n) sound.cpus inside) (same (Ask (ReadClock page)))
         (subst (λ (c : BoardParts). Goes_on (at_line line (option_map ByCount (time_fault (now s).anchor rec.h))) (now s) (clock_answer line page rec.h c))
         (sym sound.board)
         (clock_goes (now s) sound.greatest line rec.cpu rec.h s.replay.deliveries page))
-    by_job Hv has =
-        call_kept line rec ReadHv s _ sound cpu (subst (λ (n : ℕ). HV_FORMAT ≤ n) sound.format has) (same Hv)
+    by_job (Ask ReadHv) has =
+        call_kept line rec ReadHv s _ sound cpu (subst (λ (n : ℕ). HV_FORMAT ≤ n) sound.format has) (same (Ask ReadHv))
         (subst (λ (c : BoardParts). Goes_on (at_line line (option_map ByCount (time_fault (now s).anchor rec.h))) (now s) (hv_answer line rec.h c))
         (sym sound.board)
         (read_goes (now s) sound.greatest line rec.cpu rec.h s.replay.deliveries (refused_count (with_greatest (now s) sound.greatest) rec.h)
@@ -288,10 +289,10 @@ start_sound shows_state =
     }
 
 -- the trace at its end
-pub whole_free : (s t : Checking) (b : BoardParts) (vs : List PhaseRead) → IsSound s → s.taken ≤ 200000 → t ≡ with_end Finish s → b ≡ t.opening
+pub whole_free : (s t : Checking) (b : BoardParts) (vs : List Phase) → IsSound s → s.taken ≤ 200000 → t ≡ with_end Finish s → b ≡ t.opening
     → vs ≡ t.phases → IsFree b vs
 whole_free s t b vs sound few is at phases =
     let b_is : b ≡ s.opening = at ∙ ap (λ (u : Checking). u.opening) is in
     let vs_is : vs ≡ ended_by Finish s = phases ∙ ap (λ (u : Checking). u.phases) is in
     subst (λ (c : BoardParts). IsFree c vs) (sym b_is)
-    (subst (λ (ws : List PhaseRead). IsFree s.opening ws) (sym vs_is) (ended_free Finish s sound few tt refl))
+    (subst (λ (ws : List Phase). IsFree s.opening ws) (sym vs_is) (ended_free Finish s sound few tt refl))

@@ -78,7 +78,7 @@ use Rattle.trace_text.specs.declared.reading.Stage.TheVariants.{
 }
 use Rattle.trace_text.specs.declared.records.Body.{Body}
 use Rattle.trace_text.specs.declared.records.Job.{Job}
-use Rattle.trace_text.specs.declared.records.Job.TheVariants.{Board, Page, Clock, Hv, Save, Move}
+use Rattle.trace_text.specs.declared.records.Job.TheVariants.{Ask, Save, Move}
 use Rattle.trace_text.specs.declared.records.Record.{Record as Written}
 use Rattle.trace_loop.specs.Progress.{
   limit_of,
@@ -107,8 +107,8 @@ use Rattle.race_phase.specs.declared.phases.End.TheVariants.{
   Save as BySave,
   Move as ByMove,
 }
-use Rattle.race_phase.specs.declared.records.Call.{Call}
-use Rattle.race_phase.specs.declared.records.Call.TheVariants.{Act, ReadPage, ReadClock, ReadHv}
+use Rattle.trace_text.specs.declared.records.Call.{Call}
+use Rattle.trace_text.specs.declared.records.Call.TheVariants.{Act, ReadPage, ReadClock, ReadHv}
 use Rattle.race_phase.specs.declared.records.Record.{Record}
 use Rattle.trace_runner.specs.Check.{
   check_start,
@@ -153,7 +153,8 @@ use Rattle.trace_runner.specs.Replay.{
   replay,
 }
 use Rattle.trace_runner.specs.Replayed.{board_behind, records_behind, replayed}
-use Rattle.trace_runner.specs.Trace.{PhaseRead, TraceRead}
+use Rattle.race_phase.specs.declared.phases.Phase.{Phase}
+use Rattle.trace_runner.specs.Trace.{TraceRead}
 use Rattle.trace_runner.specs.declared.check.Checked.{Checked}
 use Rattle.trace_runner.specs.declared.check.Checked.TheVariants.{Whole, Stopped}
 use Rattle.trace_runner.specs.declared.replay.Replay.{Replay}
@@ -170,25 +171,25 @@ records_text-snoc ds b (x ∷ xs) r =
     let c : BoardParts = board_behind b x.cpu x.h x.call in
     ap (λ (l : List ℕ). front ++ l) (records_text-snoc ds c xs r) ∙ sym (append_assoc front (records_text ds c xs) _)
 
-phases_text-snoc : (ds : Deliveries) (b : BoardParts) (vs : List PhaseRead) (v : PhaseRead)
+phases_text-snoc : (ds : Deliveries) (b : BoardParts) (vs : List Phase) (v : Phase)
     → phases_text ds b (vs ++ v ∷ []) ≡ phases_text ds b vs ++ phase_text ds (replayed b vs []) v
 phases_text-snoc ds b [] v = append-nil _
 phases_text-snoc ds b (x ∷ xs) v =
     let c : BoardParts = next_board x.end (records_behind b x.records) in
     ap (λ (l : List ℕ). phase_text ds b x ++ l) (phases_text-snoc ds c xs v) ∙ sym (append_assoc (phase_text ds b x) (phases_text ds c xs) _)
 
-replayed-last : (b : BoardParts) (vs : List PhaseRead) (rs : List Record) → replayed b vs rs ≡ records_behind (replayed b vs []) rs
+replayed-last : (b : BoardParts) (vs : List Phase) (rs : List Record) → replayed b vs rs ≡ records_behind (replayed b vs []) rs
 replayed-last b [] rs = refl
 replayed-last b (v ∷ vs) rs = replayed-last (next_board v.end (records_behind b v.records)) vs rs
 
 -- what was kept prints this, and leaves this board
-abbrev text_of : Deliveries → BoardParts → List PhaseRead → List Record → List ℕ
+abbrev text_of : Deliveries → BoardParts → List Phase → List Record → List ℕ
 text_of ds b vs rs = phases_text ds b vs ++ records_text ds (replayed b vs []) rs
 
 abbrev said : Checking → List ℕ
 said s = text_of s.replay.deliveries s.opening s.phases s.last
 
-text_of-record : (ds : Deliveries) (b : BoardParts) (vs : List PhaseRead) (rs : List Record) (r : Record)
+text_of-record : (ds : Deliveries) (b : BoardParts) (vs : List Phase) (rs : List Record) (r : Record)
     → text_of ds b vs rs ++ block_of ds r.line (answer_on (replayed b vs rs) r.cpu r.h r.call) ≡ text_of ds b vs (rs ++ r ∷ [])
 text_of-record ds b vs rs r =
     let c : BoardParts = replayed b vs [] in
@@ -196,7 +197,7 @@ text_of-record ds b vs rs r =
     ∙ ap (λ (x : BoardParts). phases_text ds b vs ++ (records_text ds c rs ++ block_of ds r.line (answer_on x r.cpu r.h r.call))) (replayed-last b vs rs)
     ∙ ap (λ (l : List ℕ). phases_text ds b vs ++ l) (sym (records_text-snoc ds c rs r))
 
-text_of-end : (ds : Deliveries) (b : BoardParts) (vs : List PhaseRead) (rs : List Record) (end : PhaseEnd)
+text_of-end : (ds : Deliveries) (b : BoardParts) (vs : List Phase) (rs : List Record) (end : PhaseEnd)
     → text_of ds b vs rs ++ end_text ds end (replayed b vs rs) ≡ phases_text ds b (vs ++ record { records = rs; end = end } ∷ [])
 text_of-end ds b vs rs end =
     let c : BoardParts = replayed b vs [] in
@@ -329,9 +330,9 @@ module _ (line cpu h : ℕ) (s : Checking) (board : s.replay.board ≡ replayed 
       let rec : Written = record { cpu = cpu; h = h; job = job } in
       Together (with_board x s.replay) (checked_by (with_board x s.replay) line rec s) (said s)
 
-  goes_call : (job : Job) (call : Call) (block : List ℕ) (c : BoardParts) → block ≡ block_of ds line (answer_on b cpu h call) → c ≡ board_behind b cpu h call
-      → GoesSo (Goes block (record s.replay { board = c })) (with_call line (record { cpu = cpu; h = h; job = job }) call (on c)) (said s)
-  goes_call job call block c is next =
+  goes_call : (call : Call) (block : List ℕ) (c : BoardParts) → block ≡ block_of ds line (answer_on b cpu h call) → c ≡ board_behind b cpu h call
+      → GoesSo (Goes block (record s.replay { board = c })) (with_call line (record { cpu = cpu; h = h; job = Ask call }) call (on c)) (said s)
+  goes_call call block c is next =
       let r : Record = record { line = line; cpu = cpu; h = h; call = call } in (
         refl,
         ap (λ (l : List ℕ). said s ++ l) is
@@ -346,7 +347,7 @@ module _ (line cpu h : ℕ) (s : Checking) (board : s.replay.board ≡ replayed 
   goes_end : (end : PhaseEnd) (block : List ℕ) (c : BoardParts) → block ≡ end_text ds end b → c ≡ next_board end b
       → GoesSo (Goes block (record s.replay { board = c })) (with_end end (on c)) (said s)
   goes_end end block c is next =
-      let v : PhaseRead = record { records = s.last; end = end } in (
+      let v : Phase = record { records = s.last; end = end } in (
         refl,
         ap (λ (l : List ℕ). said s ++ l) is
             ∙ ap (λ (x : BoardParts). said s ++ end_text ds end x) board
@@ -358,23 +359,23 @@ module _ (line cpu h : ℕ) (s : Checking) (board : s.replay.board ≡ replayed 
         },
       )
 
-  access_so : (a : Access) (o : Option Refusal) → So (Board a) (access_answer o line cpu h a ds b)
-  access_so a None = goes_call (Board a) (Act a) _ (after_access b cpu h a) refl refl
+  access_so : (a : Access) (o : Option Refusal) → So (Ask (Act a)) (access_answer o line cpu h a ds b)
+  access_so a None = goes_call (Act a) _ (after_access b cpu h a) refl refl
   access_so a (Some refusal) = tt
 
-  page_so : (page : ℕ) (o : Option Refused) → So (Page page) (read_answer o line (page_text line (page_reply b page h)) b)
+  page_so : (page : ℕ) (o : Option Refused) → So (Ask (ReadPage page)) (read_answer o line (page_text line (page_reply b page h)) b)
   unfolding block_of
-  page_so page None = goes_call (Page page) (ReadPage page) _ b refl refl
+  page_so page None = goes_call (ReadPage page) _ b refl refl
   page_so page (Some why) = tt
 
-  clock_so : (page : ℕ) (o : Option Refused) → So (Clock page) (read_answer o line (clock_text line (clock_reply b page h)) (after_clock b page h))
+  clock_so : (page : ℕ) (o : Option Refused) → So (Ask (ReadClock page)) (read_answer o line (clock_text line (clock_reply b page h)) (after_clock b page h))
   unfolding block_of
-  clock_so page None = goes_call (Clock page) (ReadClock page) _ (after_clock b page h) refl refl
+  clock_so page None = goes_call (ReadClock page) _ (after_clock b page h) refl refl
   clock_so page (Some why) = tt
 
-  hv_so : (o : Option Refused) → So Hv (read_answer o line (hv_text line (hv_reply b h)) b)
+  hv_so : (o : Option Refused) → So (Ask ReadHv) (read_answer o line (hv_text line (hv_reply b h)) b)
   unfolding block_of
-  hv_so None = goes_call Hv ReadHv _ b refl refl
+  hv_so None = goes_call ReadHv _ b refl refl
   hv_so (Some why) = tt
 
   save_so : (o : Option Fault) → So Save (ended_answer o (BySave line cpu h) ds b)
@@ -387,10 +388,10 @@ module _ (line cpu h : ℕ) (s : Checking) (board : s.replay.board ≡ replayed 
   move_so khz start gap (Some fault) = tt
 
   job_so : (job : Job) → So job (job_answer line cpu h job ds b)
-  job_so (Board a) = access_so a (refusal_of b cpu h a)
-  job_so (Page page) = page_so page (refused_count b h)
-  job_so (Clock page) = clock_so page (refused_count b h)
-  job_so Hv = hv_so (refused_count b h)
+  job_so (Ask (Act a)) = access_so a (refusal_of b cpu h a)
+  job_so (Ask (ReadPage page)) = page_so page (refused_count b h)
+  job_so (Ask (ReadClock page)) = clock_so page (refused_count b h)
+  job_so (Ask ReadHv) = hv_so (refused_count b h)
   job_so Save = save_so (end_fault b (BySave line cpu h))
   job_so (Move khz start gap) = move_so khz start gap (end_fault b (ByMove line cpu h (record { khz = khz; start = start; gap = gap })))
 
@@ -412,7 +413,7 @@ item_so line (Begun header) s board none =
     (refl, append-nil (said s) ∙ none, record { board = refl; fresh = fresh_none s.replay.reading.stage })
 item_so line (Next rec) s board runs = record_so line rec s board runs
 item_so line End s board fresh =
-    let v : PhaseRead = record { records = s.last; end = Finish } in
+    let v : Phase = record { records = s.last; end = Finish } in
     let text : said s ≡ phases_text s.replay.deliveries s.opening (s.phases ++ v ∷ []) =
     sym (append-nil (said s)) ∙ text_of-end s.replay.deliveries s.opening s.phases s.last Finish in
     let last : s.replay.board ≡ replayed s.opening (s.phases ++ v ∷ []) [] = board ∙ sym (replayed-end s.opening s.phases v) in

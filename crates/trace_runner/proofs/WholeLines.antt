@@ -78,7 +78,8 @@ use Rattle.trace_text.specs.declared.faults.RecordFault.{RecordFault}
 use Rattle.trace_text.specs.declared.reading.Item.{Item}
 use Rattle.trace_text.specs.declared.reading.Item.TheVariants.{Skipped, Part, Begun, Next, End}
 use Rattle.trace_text.specs.declared.records.Job.{Job}
-use Rattle.trace_text.specs.declared.records.Job.TheVariants.{Board, Page, Clock, Hv, Save, Move}
+use Rattle.trace_text.specs.declared.records.Call.TheVariants.{Act, ReadPage, ReadClock, ReadHv}
+use Rattle.trace_text.specs.declared.records.Job.TheVariants.{Ask, Save, Move}
 use Rattle.trace_loop.specs.Progress.{limit_of, Answer, Goes, Ends, Progress, printed, opened, told, answered, checked, heard, heard_until, behind}
 use Rattle.race_phase.specs.Blocks.{edges_text, messages_text, block_of}
 use Rattle.race_phase.specs.Phases.{end_fault}
@@ -202,13 +203,13 @@ end_whole None (ByMove line cpu h host) ds b =
     (move_ends line reply.number time))
 
 job_whole : (line cpu h : ℕ) (job : Job) (ds : Deliveries) (b : BoardParts) → IsWholeLines (printed (job_answer line cpu h job ds b))
-job_whole line cpu h (Board a) ds b = access_whole (refusal_of b cpu h a) line cpu h a ds b
-job_whole line cpu h (Page page) ds b =
+job_whole line cpu h (Ask (Act a)) ds b = access_whole (refusal_of b cpu h a) line cpu h a ds b
+job_whole line cpu h (Ask (ReadPage page)) ds b =
     read_whole (records.refused_count b h) line (page_text line (page_reply b page h)) b (page_ends line (page_reply b page h))
-job_whole line cpu h (Clock page) ds b =
+job_whole line cpu h (Ask (ReadClock page)) ds b =
     read_whole (records.refused_count b h) line (clock_text line (clock_reply b page h)) (after_clock b page h)
     (clock_ends line (clock_reply b page h))
-job_whole line cpu h Hv ds b = read_whole (records.refused_count b h) line (hv_text line (hv_reply b h)) b (hv_ends line (hv_reply b h))
+job_whole line cpu h (Ask ReadHv) ds b = read_whole (records.refused_count b h) line (hv_text line (hv_reply b h)) b (hv_ends line (hv_reply b h))
 job_whole line cpu h Save ds b = end_whole (end_fault b (BySave line cpu h)) (BySave line cpu h) ds b
 job_whole line cpu h (Move khz start gap) ds b =
     let end : PhaseEnd = ByMove line cpu h (record { khz = khz; start = start; gap = gap }) in end_whole (end_fault b end) end ds b

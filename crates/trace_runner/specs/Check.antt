@@ -26,7 +26,7 @@ use Rattle.trace_text.specs.declared.faults.RecordFault.{RecordFault}
 use Rattle.trace_text.specs.declared.header.Header.{Header}
 use Rattle.trace_text.specs.declared.reading.Item.{Item}
 use Rattle.trace_text.specs.declared.reading.Item.TheVariants.{Skipped, Part, Begun, Next, End}
-use Rattle.trace_text.specs.declared.records.Job.TheVariants.{Board, Page, Clock, Hv, Save, Move}
+use Rattle.trace_text.specs.declared.records.Job.TheVariants.{Ask, Save, Move}
 use Rattle.trace_text.specs.declared.records.Job.{Job}
 use Rattle.trace_text.specs.declared.records.Record.{Record as Written}
 use Rattle.trace_loop.specs.Progress.{
@@ -44,9 +44,9 @@ use Rattle.trace_runner.specs.Records.{refused_by, stops}
 use Rattle.trace_runner.specs.Replay.{at_start, record_answer, closing_of, with_header}
 use Rattle.trace_runner.specs.Checking.{Checking}
 use Rattle.trace_runner.specs.Sound.{IsSound}
-use Rattle.trace_runner.specs.Trace.{PhaseRead, TraceRead}
-use Rattle.race_phase.specs.declared.records.Call.{Call}
-use Rattle.race_phase.specs.declared.records.Call.TheVariants.{Act, ReadPage, ReadClock, ReadHv}
+use Rattle.race_phase.specs.declared.phases.Phase.{Phase}
+use Rattle.trace_runner.specs.Trace.{TraceRead}
+use Rattle.trace_text.specs.declared.records.Call.{Call}
 use Rattle.race_phase.specs.declared.phases.End.{End as PhaseEnd}
 use Rattle.race_phase.specs.declared.phases.End.TheVariants.{
   Finish,
@@ -74,7 +74,7 @@ with_call line rec call s = record s {
 }
 
 -- the phases with one more, which this ends
-abbrev pub ended_by : PhaseEnd → Checking → List PhaseRead
+abbrev pub ended_by : PhaseEnd → Checking → List Phase
 ended_by end s = s.phases ++ record { records = s.last; end = end } ∷ []
 
 -- a phase ends: no record came after it yet
@@ -93,10 +93,7 @@ end_by line rec job = BySave line rec.cpu rec.h
 
 -- a record is kept: a save and a move end their phase
 abbrev pub kept_job : ℕ → Written → Job → Checking → Checking
-kept_job line rec (Board access) s = with_call line rec (Act access) s
-kept_job line rec (Page page) s = with_call line rec (ReadPage page) s
-kept_job line rec (Clock page) s = with_call line rec (ReadClock page) s
-kept_job line rec Hv s = with_call line rec ReadHv s
+kept_job line rec (Ask call) s = with_call line rec call s
 kept_job line rec Save s = with_end (BySave line rec.cpu rec.h) s
 kept_job line rec (Move khz start gap) s =
     with_end (ByMove line rec.cpu rec.h (record { khz = khz; start = start; gap = gap })) s

@@ -9,12 +9,13 @@ use Rattle.race_phase.specs.Blocks.{block_of}
 use Rattle.race_phase.specs.Phases.{next_board, end_text}
 use Rattle.race_phase.specs.declared.records.Answer.{Answer}
 use Rattle.race_phase.specs.declared.records.Answer.TheVariants.{Acted, PageIs, ClockIs, HvIs}
-use Rattle.race_phase.specs.declared.records.Call.{Call}
-use Rattle.race_phase.specs.declared.records.Call.TheVariants.{Act, ReadPage, ReadClock, ReadHv}
+use Rattle.trace_text.specs.declared.records.Call.{Call}
+use Rattle.trace_text.specs.declared.records.Call.TheVariants.{Act, ReadPage, ReadClock, ReadHv}
 use Rattle.race_phase.specs.declared.records.Record.{Record}
 use Rattle.trace_runner.specs.Replay.{ended}
 use Rattle.trace_runner.specs.Replayed.{board_behind, records_behind, replayed}
-use Rattle.trace_runner.specs.Trace.{PhaseRead, TraceRead}
+use Rattle.race_phase.specs.declared.phases.Phase.{Phase}
+use Rattle.trace_runner.specs.Trace.{TraceRead}
 
 -- what a call is answered on a board
 abbrev pub answer_on : BoardParts → ℕ → ℕ → Call → Answer
@@ -31,11 +32,11 @@ records_text ds b (r ∷ rs) =
     ++ records_text ds (board_behind b r.cpu r.h r.call) rs
 
 -- of a phase, with what ends it; and of phases
-abbrev pub phase_text : Deliveries → BoardParts → PhaseRead → List ℕ
+abbrev pub phase_text : Deliveries → BoardParts → Phase → List ℕ
 phase_text ds b v = records_text ds b v.records ++ end_text ds v.end (records_behind b v.records)
 
 -- of phases, one after another
-abbrev pub phases_text : Deliveries → BoardParts → List PhaseRead → List ℕ
+abbrev pub phases_text : Deliveries → BoardParts → List Phase → List ℕ
 phases_text ds b [] = []
 phases_text ds b (v ∷ vs) =
     phase_text ds b v ++ phases_text ds (next_board v.end (records_behind b v.records)) vs

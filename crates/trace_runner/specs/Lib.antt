@@ -1,6 +1,5 @@
 pub mod Check
 pub mod Checking
-pub mod Counted
 pub mod Deliveries
 pub mod FileText
 pub mod Free

@@ -11,14 +11,13 @@ use Rattle.trace_loop.specs.declared.ended.Ended.TheVariants.{
   SinkFault as FailsSink,
   NoMemory as WantsMemory,
 }
-use Rattle.race_phase.specs.declared.phases.Phase.{Phase}
 use Rattle.race_phase.specs.Phases.{race_text}
 use Rattle.trace_runner.specs.Check.{check_behind, check}
 use Rattle.trace_runner.specs.Checking.{Checking}
 use Rattle.trace_runner.specs.Replay.{ended}
 use Rattle.trace_runner.specs.Said.{Said, SaidAtMost}
 use Rattle.trace_runner.specs.Status.{verdict_status}
-use Rattle.trace_runner.specs.Trace.{phases_read, TraceRead}
+use Rattle.trace_runner.specs.Trace.{TraceRead}
 use Rattle.trace_runner.specs.declared.check.Checked.{Checked}
 use Rattle.trace_runner.specs.declared.check.Checked.TheVariants.{Whole, Stopped}
 use Rattle.trace_runner.specs.declared.status.Status.{Status}
@@ -45,9 +44,8 @@ check_run shows_state input start end = record {
 -- lines for the board that they leave
 abbrev pub RacePrints : TraceRead → List ℕ → Type 0
 RacePrints t text =
-    (phases : List Phase) × (state : BoardParts) × (block : List ℕ)
-    × (phases_read phases ≡ t.phases)
-    × race_text t.deliveries t.opening phases state block
+    (state : BoardParts) × (block : List ℕ)
+    × race_text t.deliveries t.opening t.phases state block
     × (text ≡ block ++ (ended t.shows_state state).text)
 
 -- what is left where the check came to its end: the line that was refused; or all that the trace

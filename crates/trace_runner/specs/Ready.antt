@@ -1,9 +1,7 @@
 -- What is true of a replay before each line, so that its calls' conditions are met.
-use Rattle.std.specs.Prelude.{◌≡◌, ℕ, ◌+◌, ◌<◌, ◌≤◌, true}
+use Rattle.std.specs.Prelude.{◌≡◌, ℕ, ◌+◌, ◌<◌}
 use Rattle.clk_units.specs.Ranges.{IsKhz}
-use Rattle.board_types.specs.Legal.{is_legal}
 use Rattle.board_types.specs.declared.parts.BoardParts.{BoardParts}
-use Rattle.board_types.specs.declared.setup.TheConstants.{HV_FORMAT}
 use Rattle.trace_text.specs.Header.{IsBegin}
 use Rattle.trace_text.specs.declared.reading.Item.{Item}
 use Rattle.trace_text.specs.declared.reading.Item.TheVariants.{Skipped, Part, Begun, Next, End}
@@ -15,8 +13,9 @@ use Rattle.trace_text.specs.declared.reading.Stage.TheVariants.{
   Ended,
   Refused,
 }
+use Rattle.trace_text.specs.Records.{IsFittingCall}
 use Rattle.trace_text.specs.declared.records.Job.{Job}
-use Rattle.trace_text.specs.declared.records.Job.TheVariants.{Board, Page, Clock, Hv, Save, Move}
+use Rattle.trace_text.specs.declared.records.Job.TheVariants.{Ask, Save, Move}
 use Rattle.trace_runner.specs.declared.replay.Replay.{Replay}
 
 -- a trace that goes on, and the board of its records
@@ -34,10 +33,7 @@ pub record IsReady (line : ℕ) (r : Replay) : Type 0 where
 
 -- the board takes what a record does
 abbrev pub JobSuits : Job → BoardParts → Type 0
-JobSuits (Board a) b = is_legal b.cpus b.format a ≡ true
-JobSuits (Page page) b = page < b.cpus
-JobSuits (Clock page) b = page < b.cpus
-JobSuits Hv b = HV_FORMAT ≤ b.format
+JobSuits (Ask call) b = IsFittingCall b.cpus b.format call
 JobSuits Save b = Unit {0}
 JobSuits (Move khz start gap) b = IsKhz khz
 

@@ -48,8 +48,10 @@ use Rattle.trace_text.specs.declared.faults.Reason.TheVariants.{
   TooMany,
   NoEnd as EndsEarly,
 }
+use Rattle.trace_text.specs.declared.records.Call.{Call}
+use Rattle.trace_text.specs.declared.records.Call.TheVariants.{Act, ReadPage, ReadClock, ReadHv}
 use Rattle.trace_text.specs.declared.records.Job.{Job}
-use Rattle.trace_text.specs.declared.records.Job.TheVariants.{Board, Page, Clock, Hv, Save, Move}
+use Rattle.trace_text.specs.declared.records.Job.TheVariants.{Ask, Save, Move}
 use Rattle.trace_loop.specs.Progress.{Closing, Answer, Goes, Ends}
 use Rattle.race_phase.specs.Blocks.{block_of}
 use Rattle.race_phase.specs.Phases.{next_board, end_fault, end_text}
@@ -149,13 +151,18 @@ ended_answer None end ds b = Goes (end_text ds end b) (next_board end b)
 abbrev pub end_answer : PhaseEnd → Deliveries → BoardParts → Answer BoardParts Verdict
 end_answer end ds b = ended_answer (end_fault b end) end ds b
 
+-- a call, by what it asks
+abbrev pub call_answer : ℕ → ℕ → ℕ → Call → Deliveries → BoardParts
+    → Answer BoardParts Verdict
+call_answer line cpu h (Act a) ds b = board_answer line cpu h a ds b
+call_answer line cpu h (ReadPage page) ds b = page_answer line page h b
+call_answer line cpu h (ReadClock page) ds b = clock_answer line page h b
+call_answer line cpu h ReadHv ds b = hv_answer line h b
+
 -- a record, by what it does
 abbrev pub job_answer : ℕ → ℕ → ℕ → Job → Deliveries → BoardParts
     → Answer BoardParts Verdict
-job_answer line cpu h (Board a) ds b = board_answer line cpu h a ds b
-job_answer line cpu h (Page page) ds b = page_answer line page h b
-job_answer line cpu h (Clock page) ds b = clock_answer line page h b
-job_answer line cpu h Hv ds b = hv_answer line h b
+job_answer line cpu h (Ask call) ds b = call_answer line cpu h call ds b
 job_answer line cpu h Save ds b = end_answer (BySave line cpu h) ds b
 job_answer line cpu h (Move khz start gap) ds b =
     end_answer (ByMove line cpu h (record { khz = khz; start = start; gap = gap })) ds b

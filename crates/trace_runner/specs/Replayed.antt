@@ -1,5 +1,5 @@
 -- The board of a replay, worked out from the records that a check has kept, and what it refuses.
-use Rattle.std.specs.Prelude.{◌≡◌, ℕ, List, [], ◌∷◌, Option, Some, None}
+use Rattle.std.specs.Prelude.{ℕ, List, [], ◌∷◌, Option, Some, None}
 use Rattle.std.specs.Option.{option_map}
 use Rattle.board_types.specs.declared.access.Access.TheVariants.{Step}
 use Rattle.board_types.specs.declared.parts.BoardParts.{BoardParts}
@@ -11,14 +11,14 @@ use Rattle.transfer.specs.Move.{move_fault, moved_to}
 use Rattle.transfer.specs.declared.outcome.MoveFault.{MoveFault}
 use Rattle.reply_text.specs.declared.ends.Refused.{Refused}
 use Rattle.trace_text.specs.declared.records.Job.{Job}
-use Rattle.trace_text.specs.declared.records.Job.TheVariants.{Board, Page, Clock, Hv, Save, Move}
+use Rattle.trace_text.specs.declared.records.Job.TheVariants.{Ask, Save, Move}
 use Rattle.race_phase.specs.Phases.{next_board}
-use Rattle.race_phase.specs.declared.records.Call.{Call}
-use Rattle.race_phase.specs.declared.records.Call.TheVariants.{Act, ReadPage, ReadClock, ReadHv}
+use Rattle.trace_text.specs.declared.records.Call.{Call}
+use Rattle.trace_text.specs.declared.records.Call.TheVariants.{Act, ReadPage, ReadClock, ReadHv}
 use Rattle.race_phase.specs.declared.records.Record.{Record}
 use Rattle.trace_runner.specs.Checking.{Checking}
 use Rattle.trace_runner.specs.Records.{refused_access, refused_count, refused_move}
-use Rattle.trace_runner.specs.Trace.{PhaseRead}
+use Rattle.race_phase.specs.declared.phases.Phase.{Phase}
 
 -- the board behind a call that is answered
 abbrev pub board_behind : BoardParts → ℕ → ℕ → Call → BoardParts
@@ -33,7 +33,7 @@ records_behind b [] = b
 records_behind b (r ∷ rs) = records_behind (board_behind b r.cpu r.h r.call) rs
 
 -- behind these phases, and the records that stand behind the last of them
-abbrev pub replayed : BoardParts → List PhaseRead → List Record → BoardParts
+abbrev pub replayed : BoardParts → List Phase → List Record → BoardParts
 replayed b [] rs = records_behind b rs
 replayed b (v ∷ vs) rs = replayed (next_board v.end (records_behind b v.records)) vs rs
 
@@ -43,19 +43,9 @@ on_board b s = record s { replay = record s.replay { board = b } }
 
 -- the board behind a record that is answered
 abbrev pub job_behind : ℕ → ℕ → Job → BoardParts → BoardParts
-job_behind cpu h (Board a) b = after_access b cpu h a
-job_behind cpu h (Page page) b = b
-job_behind cpu h (Clock page) b = after_clock b page h
-job_behind cpu h Hv b = b
+job_behind cpu h (Ask call) b = board_behind b cpu h call
 job_behind cpu h Save b = after_access b cpu h Step
 job_behind cpu h (Move khz start gap) b = moved_to khz start gap (after_access b cpu h Step)
-
--- an access of a call that the board takes
-abbrev pub TakesCall : BoardParts → ℕ → ℕ → Call → Type 0
-TakesCall b cpu h (Act a) = refusal_of b cpu h a ≡ None
-TakesCall b cpu h (ReadPage page) = Unit {0}
-TakesCall b cpu h (ReadClock page) = Unit {0}
-TakesCall b cpu h ReadHv = Unit {0}
 
 -- why a record is refused
 abbrev pub by_refusal : Option Refusal → Option Refused
@@ -76,11 +66,15 @@ refused_gap cpu h gap b =
     or_gap (by_refusal (refusal_of b cpu h Step))
     (by_gap (move_fault gap (after_access b cpu h Step)))
 
--- by what the record asks
+-- a call, by its access or its count
+abbrev pub refused_call : ℕ → ℕ → Call → BoardParts → Option Refused
+refused_call cpu h (Act a) b = by_refusal (refusal_of b cpu h a)
+refused_call cpu h (ReadPage page) b = refused_count b h
+refused_call cpu h (ReadClock page) b = refused_count b h
+refused_call cpu h ReadHv b = refused_count b h
+
+-- by what the record does
 abbrev pub refused_job : ℕ → ℕ → Job → BoardParts → Option Refused
-refused_job cpu h (Board a) b = by_refusal (refusal_of b cpu h a)
-refused_job cpu h (Page page) b = refused_count b h
-refused_job cpu h (Clock page) b = refused_count b h
-refused_job cpu h Hv b = refused_count b h
+refused_job cpu h (Ask call) b = refused_call cpu h call b
 refused_job cpu h Save b = by_refusal (refusal_of b cpu h Step)
 refused_job cpu h (Move khz start gap) b = refused_gap cpu h gap b

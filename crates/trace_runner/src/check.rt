@@ -17,22 +17,19 @@ ghost use Rattle.trace_text.specs.Lines.{
   IsOpen,
   IsItem,
   IsRecordAt,
-  IsAlone,
   end_fault as at_end,
 };
-ghost use Rattle.race_phase.specs.Lines.{call_of, no_lines};
-ghost use Rattle.race_phase.specs.Calls.{IsFittingCall};
+ghost use Rattle.trace_text.specs.Records.{IsFittingCall};
 ghost use Rattle.race_phase.specs.Phases.{IsEnd, next_board, end_fault};
 ghost use Rattle.trace_runner.specs.Ready.{Suits};
 ghost use Rattle.trace_runner.specs.Replayed.{
   board_behind,
   job_behind,
   on_board,
-  TakesCall,
+  refused_call,
   refused_job,
 };
 ghost use Rattle.trace_runner.specs.Sound.{IsSound};
-ghost use Rattle.trace_runner.specs.Checking.{IsLine};
 ghost use Rattle.trace_runner.specs.Check.{
   check_start,
   with_call,
@@ -52,12 +49,12 @@ use crate::status::Verdict;
 use crate::trace::Trace;
 use board_core::BoardState;
 use clk_units::NoMemory;
-use race_phase::{Call, Deliveries, End, NewHost, Phase, RecordLines, Tally};
+use race_phase::{Deliveries, End, NewHost, Phase, Record, RecordList, Tally};
 use reply_text::Refused;
 use std::alloc::Global;
 use std::marker::Model;
 use std::mem;
-use trace_text::{Begin, Header, Item, Job, Reading, Record as Written, RecordFault};
+use trace_text::{Begin, Call, Header, Item, Job, Reading, Record as Written, RecordFault};
 
 /// How many records a trace may have whose processors run on threads of their own.
 const RECORDS_MAX: u64 = 200_000;
@@ -71,8 +68,8 @@ pub(crate) enum Checked {
     Stopped(Verdict),
 }
 
-/// A trace that is checked: its records are counted one after the other, in file order, and their lines are kept for the
-/// processors' threads. Nothing is printed but a refusal.
+/// A trace that is checked: its records are counted one after the other, in file order, and kept for the processors'
+/// threads. Nothing is printed but a refusal.
 ///
 /// Contracts see in it a replay of these records, with the board that they leave. That board isn't there: it is worked
 /// out from the records, and a tally of its counts says what it refuses.
@@ -85,15 +82,14 @@ pub(crate) struct Check {
     tally: Tally,
     opening: BoardState,
     phases: Vec<Phase>,
-    last: RecordLines,
+    last: RecordList,
     taken: u64,
 }
 
 impl Model for Check {
-    ghost use Rattle.trace_runner.specs.Trace.{phases_read};
     ghost use Rattle.trace_runner.specs.Checking.{Checking};
     ghost use Rattle.trace_runner.specs.Replayed.{replayed};
-    ghost use Rattle.trace_runner.specs.Counted.{IsCounted};
+    ghost use Rattle.race_phase.specs.Tallies.{IsTally};
 
     ghost Value = { Checking };
 
@@ -101,16 +97,16 @@ impl Model for Check {
       replay = record {
         reading = c.reading;
         shows_state = c.shows_state;
-        board = replayed c.opening (phases_read c.phases.items) c.last.records;
+        board = replayed c.opening c.phases.items c.last;
         deliveries = c.deliveries;
       };
       opening = c.opening;
-      phases = phases_read c.phases.items;
-      last = c.last.records;
+      phases = c.phases.items;
+      last = c.last;
       taken = c.taken;
     } };
 
-    ghost invariant = { λ c. IsCounted c.opening (phases_read c.phases.items) c.last c.taken c.tally };
+    ghost invariant = { λ c. IsTally (replayed c.opening c.phases.items c.last) c.tally };
 }
 
 impl Check {
@@ -126,24 +122,27 @@ impl Check {
             tally: Tally::of_board(&board),
             opening: board,
             phases: Vec::new(alloc),
-            last: no_lines(alloc, &board),
+            last: RecordList::new(alloc),
             taken: 0,
         }
     }
 
     /// Keeps a record of the phase, which is answered, and counts it.
     #[inline(always)]
-    fn push(&mut self, line: u64, given: &Written, text: &[u8], call: Call) -> Result<(), NoMemory>
+    fn push(&mut self, line: u64, given: &Written, call: Call) -> Result<(), NoMemory>
         requires few { self.old.taken < 200000 }
-        requires text { IsLine text.now given.now self.old.opening }
-        requires call { call_of given.now.job ≡ call }
         requires cpu { given.now.cpu < self.old.replay.board.cpus }
         requires fits { IsFittingCall self.old.replay.board.cpus self.old.replay.board.format call }
-        requires free { TakesCall self.old.replay.board given.now.cpu given.now.h call }
+        requires free { refused_call given.now.cpu given.now.h call self.old.replay.board ≡ None }
         ensures { OnOk result (self.new ≡ with_call line given.now call
             (on_board (board_behind self.old.replay.board given.now.cpu given.now.h call) self.old)) }
     {
-        self.last.push(line, given, text)?;
+        self.last.push(&Record {
+            line,
+            cpu: given.cpu,
+            h: given.h,
+            call,
+        })?;
         count_call(&mut self.tally, given.cpu, given.h, &call);
         self.taken += 1;
         Ok(())
@@ -158,10 +157,10 @@ impl Check {
         ensures { OnOk result (self.new
             ≡ with_end end (on_board (next_board end self.old.replay.board) self.old)) }
     {
-        let none = no_lines(*self.phases.allocator(), &self.opening);
-        let lines = mem::replace(&mut self.last, none);
-        if let Err(failed) = self.phases.push(Phase { lines, end }) {
-            self.last = failed.value.lines;
+        let none = RecordList::new(*self.phases.allocator());
+        let records = mem::replace(&mut self.last, none);
+        if let Err(failed) = self.phases.push(Phase { records, end }) {
+            self.last = failed.value.records;
             return Err(NoMemory);
         }
         count_end(&mut self.tally, end);
@@ -171,9 +170,8 @@ impl Check {
 
     /// Keeps a record that isn't refused: a save and a move end their phase.
     #[inline(always)]
-    pub(crate) fn keep(&mut self, line: u64, given: &Written, text: &[u8]) -> Result<(), NoMemory>
+    pub(crate) fn keep(&mut self, line: u64, given: &Written) -> Result<(), NoMemory>
         requires few { self.old.taken < 200000 }
-        requires text { IsLine text.now given.now self.old.opening }
         requires suits { Suits (Item.Next given.now) self.old.replay.board }
         requires free { refused_job given.now.cpu given.now.h given.now.job self.old.replay.board
             ≡ None }
@@ -182,10 +180,7 @@ impl Check {
             self.old)) }
     {
         match given.job {
-            Job::Board(access) => self.push(line, given, text, Call::Act { access }),
-            Job::Page { page } => self.push(line, given, text, Call::ReadPage { page }),
-            Job::Clock { page } => self.push(line, given, text, Call::ReadClock { page }),
-            Job::Hv => self.push(line, given, text, Call::ReadHv),
+            Job::Ask(call) => self.push(line, given, call),
             Job::Save => self.keep_end(line, given),
             Job::Move { .. } => self.keep_end(line, given),
         }
@@ -243,7 +238,7 @@ impl Check {
         self.deliveries = deliveries_of(self.opening.cpus(), &header.routes);
         self.tally = Tally::of_board(&self.opening);
         self.phases.clear();
-        self.last = no_lines(*self.phases.allocator(), &self.opening);
+        self.last = RecordList::new(*self.phases.allocator());
         self.taken = 0;
     }
 
@@ -289,7 +284,6 @@ impl Check {
             (taken self.old.replay.reading text.now ≡ Ok (Item.Next given.new)) }
         ensures state { OnTrue result (self.new ≡ read_on text.now self.old) }
         ensures valid { OnTrue result (IsRecordAt self.old.replay.reading.stage given.new) }
-        ensures alone { OnTrue result (IsAlone self.old.replay.reading.stage text.now given.new) }
         ensures cause { OnFalse result (record_in (taken self.old.replay.reading text.now) ≡ None) }
         ensures none { OnFalse result (self.new ≡ self.old) }
     {
@@ -304,13 +298,6 @@ impl Check {
     {
         self.reading.at_end()
     }
-}
-
-/// No records of a trace that begins with this board.
-fn no_lines(alloc: Global, board: &BoardState) -> RecordLines
-    ensures { result ≡ no_lines board.now.format board.now.cpus }
-{
-    RecordLines::new(alloc, board.format(), board.cpus())
 }
 
 /// What ends a phase by a record: a move, or else a save.

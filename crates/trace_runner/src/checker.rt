@@ -6,7 +6,6 @@ ghost use Rattle.trace_text.specs.Lines.{taken, record_in, record_of_item};
 ghost use Rattle.reply_text.specs.Text.{refused_text};
 ghost use Rattle.trace_runner.specs.Ready.{Suits};
 ghost use Rattle.trace_runner.specs.Sound.{IsSound};
-ghost use Rattle.trace_runner.specs.Checking.{IsLine};
 ghost use Rattle.trace_runner.specs.Check.{
   check_start,
   too_many,
@@ -81,7 +80,7 @@ impl Answerer<Checked> for Checker {
         end: &mut Option<Checked>,
     ) -> Result<(), NoMemory> {
         if self.check.read_record(text, &mut self.given) {
-            return self.check.take(line, &self.given, text, out, end);
+            return self.check.take(line, &self.given, out, end);
         }
         self.check.answer_other(line, text, out, end)
     }
@@ -99,12 +98,10 @@ impl Check {
         &mut self,
         line: u64,
         given: &Written,
-        text: &[u8],
         out: &mut Vec<u8>,
         end: &mut Option<Checked>,
     ) -> Result<(), NoMemory>
         requires suits { Suits (Item.Next given.now) self.old.replay.board }
-        requires text { IsLine text.now given.now self.old.opening }
         requires open { end.old ≡ None }
         ensures printed { OnOk result
             (out.new.items ≡ out.old.items ++ printed (record_checked line given.now self.old)) }
@@ -114,9 +111,9 @@ impl Check {
         ensures err { OnErr result (StartsWith out.new.items out.old.items) }
     {
         if !self.is_full() && self.admits(given) {
-            return self.keep(line, given, text);
+            return self.keep(line, given);
         }
-        self.take_slowly(line, given, text, out, end)
+        self.take_slowly(line, given, out, end)
     }
 
     /// The same for every record.
@@ -126,12 +123,10 @@ impl Check {
         &mut self,
         line: u64,
         given: &Written,
-        text: &[u8],
         out: &mut Vec<u8>,
         end: &mut Option<Checked>,
     ) -> Result<(), NoMemory>
         requires suits { Suits (Item.Next given.now) self.old.replay.board }
-        requires text { IsLine text.now given.now self.old.opening }
         requires open { end.old ≡ None }
         ensures printed { OnOk result
             (out.new.items ≡ out.old.items ++ printed (record_checked line given.now self.old)) }
@@ -146,7 +141,7 @@ impl Check {
         if let Some(why) = self.refusal(given) {
             return stopped(line, why, out, end);
         }
-        self.keep(line, given, text)
+        self.keep(line, given)
     }
 
     /// Answers a line that was read, and is no record.

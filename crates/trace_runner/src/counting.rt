@@ -3,7 +3,7 @@ ghost use Rattle.std.specs.Prelude.{◌≡◌, ◌<◌, None};
 ghost use Rattle.std.specs.Bool.{OnTrue};
 ghost use Rattle.board_types.specs.declared.parts.BoardParts.{BoardParts};
 ghost use Rattle.board_core.specs.Refusals.{refusal_of};
-ghost use Rattle.race_phase.specs.Calls.{IsFittingCall};
+ghost use Rattle.trace_text.specs.Records.{IsFittingCall};
 ghost use Rattle.race_phase.specs.Phases.{IsEnd, next_board, end_fault};
 ghost use Rattle.race_phase.specs.Tallies.{IsTally};
 ghost use Rattle.trace_runner.specs.Ready.{Suits};
@@ -11,17 +11,17 @@ ghost use Rattle.trace_text.specs.declared.reading.Item.TheVariants.{Next};
 ghost use Rattle.trace_runner.specs.Records.{refused_count};
 ghost use Rattle.trace_runner.specs.Replayed.{
   board_behind,
-  TakesCall,
   by_refusal,
+  refused_call,
   refused_gap,
   refused_job,
 };
 
 use crate::status::{refused_access, refused_move, refused_time};
 use board_core::Access;
-use race_phase::{Call, End, Tally};
+use race_phase::{End, Tally};
 use reply_text::Refused;
-use trace_text::{Job, Record};
+use trace_text::{Call, Job, Record};
 
 /// Whether a record is one that ends no phase, and each board of these counts takes it. No cause of a refusal is made.
 #[inline(always)]
@@ -31,12 +31,25 @@ pub(crate) fn admits(tally: &Tally, given: &Record) -> bool
         → refused_job given.now.cpu given.now.h given.now.job b ≡ None) }
 {
     match given.job {
-        Job::Board(access) => admits_access(tally, given.cpu, given.h, access),
-        Job::Page { .. } => admits_count(tally, given.h),
-        Job::Clock { .. } => admits_count(tally, given.h),
-        Job::Hv => admits_count(tally, given.h),
+        Job::Ask(call) => admits_call(tally, given.cpu, given.h, call),
         Job::Save => false,
         Job::Move { .. } => false,
+    }
+}
+
+/// Whether a call isn't refused.
+#[inline(always)]
+fn admits_call(tally: &Tally, cpu: u8, h: u64, call: Call) -> bool
+    requires cpu { cpu < tally.now.cpus }
+    requires fits { IsFittingCall tally.now.cpus tally.now.format call }
+    ensures { OnTrue result ((b : BoardParts) → IsTally b tally.now
+        → refused_call cpu h call b ≡ None) }
+{
+    match call {
+        Call::Act { access } => admits_access(tally, cpu, h, access),
+        Call::ReadPage { .. } => admits_count(tally, h),
+        Call::ReadClock { .. } => admits_count(tally, h),
+        Call::ReadHv => admits_count(tally, h),
     }
 }
 
@@ -72,12 +85,23 @@ pub(crate) fn refused_job(tally: &Tally, given: &Record) -> Option<Refused>
         → result ≡ refused_job given.now.cpu given.now.h given.now.job b }
 {
     match given.job {
-        Job::Board(access) => refused_by_board(tally, given.cpu, given.h, access),
-        Job::Page { .. } => refused_count(tally, given.h),
-        Job::Clock { .. } => refused_count(tally, given.h),
-        Job::Hv => refused_count(tally, given.h),
+        Job::Ask(call) => refused_call(tally, given.cpu, given.h, call),
         Job::Save => refused_by_board(tally, given.cpu, given.h, Access::Step),
         Job::Move { gap, .. } => refused_gap(tally, given.cpu, given.h, gap),
+    }
+}
+
+/// Why a call is refused.
+fn refused_call(tally: &Tally, cpu: u8, h: u64, call: Call) -> Option<Refused>
+    requires cpu { cpu < tally.now.cpus }
+    requires fits { IsFittingCall tally.now.cpus tally.now.format call }
+    ensures { (b : BoardParts) → IsTally b tally.now → result ≡ refused_call cpu h call b }
+{
+    match call {
+        Call::Act { access } => refused_by_board(tally, cpu, h, access),
+        Call::ReadPage { .. } => refused_count(tally, h),
+        Call::ReadClock { .. } => refused_count(tally, h),
+        Call::ReadHv => refused_count(tally, h),
     }
 }
 
@@ -126,7 +150,8 @@ fn refused_gap(tally: &Tally, cpu: u8, h: u64, gap: u64) -> Option<Refused>
 pub(crate) fn count_call(tally: &mut Tally, cpu: u8, h: u64, call: &Call)
     requires cpu { cpu < tally.old.cpus }
     requires fits { IsFittingCall tally.old.cpus tally.old.format call.now }
-    requires free { (b : BoardParts) × IsTally b tally.old × TakesCall b cpu h call.now }
+    requires free { (b : BoardParts) × IsTally b tally.old
+        × (refused_call cpu h call.now b ≡ None) }
     ensures { (b : BoardParts) → IsTally b tally.old
         → IsTally (board_behind b cpu h call.now) tally.new }
 {

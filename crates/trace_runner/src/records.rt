@@ -20,7 +20,7 @@ use board_core::Access;
 use clk_units::NoMemory;
 use race_phase::{NewHost, access_block};
 use reply_text::{board_line, clock_line, hv_line, page_line};
-use trace_text::{Job, Record};
+use trace_text::{Call, Job, Record};
 
 impl Replay {
     /// Answers a record: appends its block, or refuses it. After an `Err` the text begins as it was. Only a refusal writes
@@ -42,7 +42,7 @@ impl Replay {
             → self.new ≡ state_behind (record_answer line given.now self.old) self.old) }
         ensures err { OnErr result (StartsWith out.new.items out.old.items) }
     {
-        if let Job::Board(access) = given.job {
+        if let Job::Ask(Call::Act { access }) = given.job {
             return self.answer_access(line, given, access, out, end);
         }
         self.answer_job(line, given, out, end)
@@ -68,10 +68,10 @@ impl Replay {
         ensures err { OnErr result (StartsWith out.new.items out.old.items) }
     {
         match given.job {
-            Job::Board(access) => self.answer_access(line, given, access, out, end),
-            Job::Page { page } => self.answer_page(line, page, given.h, out, end),
-            Job::Clock { page } => self.answer_clock(line, page, given.h, out, end),
-            Job::Hv => self.answer_hv(line, given.h, out, end),
+            Job::Ask(Call::Act { access }) => self.answer_access(line, given, access, out, end),
+            Job::Ask(Call::ReadPage { page }) => self.answer_page(line, page, given.h, out, end),
+            Job::Ask(Call::ReadClock { page }) => self.answer_clock(line, page, given.h, out, end),
+            Job::Ask(Call::ReadHv) => self.answer_hv(line, given.h, out, end),
             Job::Save => self.answer_save(line, given, out, end),
             Job::Move { khz, start, gap } => {
                 self.answer_move(line, given, NewHost { khz, start, gap }, out, end)

@@ -16,18 +16,18 @@ pub(crate) struct Trace {
 }
 
 impl Model for Trace {
-    ghost use Rattle.trace_runner.specs.Trace.{phases_read, TraceRead};
+    ghost use Rattle.trace_runner.specs.Trace.{TraceRead};
 
     ghost Value = { TraceRead };
 
     ghost view = { λ t. record {
       opening = t.opening.value;
       deliveries = t.deliveries;
-      phases = phases_read t.phases.items;
+      phases = t.phases.items;
       shows_state = t.shows_state;
     } };
 
     ghost use Rattle.trace_runner.specs.Free.{IsFree};
 
-    ghost invariant = { λ t. IsFree t.opening.value (phases_read t.phases.items) };
+    ghost invariant = { λ t. IsFree t.opening.value t.phases.items };
 }

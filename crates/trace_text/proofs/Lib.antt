@@ -11,4 +11,3 @@ mod Rows
 mod RowsAfter
 pub mod Limits
 pub mod NoRecord
-pub mod Alone

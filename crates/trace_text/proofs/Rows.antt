@@ -34,7 +34,8 @@ use Rattle.trace_text.specs.Lines.{stepped, item_in, taken, behind, at_start, en
 use Rattle.trace_text.specs.declared.faults.Reason.{Reason}
 use Rattle.trace_text.specs.declared.faults.Reason.TheVariants.{Form, Steal, Cpu, CounterFell, StateBytes, TooLong, NoEnd}
 use Rattle.trace_text.specs.declared.records.Body.{Body}
-use Rattle.trace_text.specs.declared.records.Job.TheVariants.{Board, Page, Clock, Hv, Save, Move}
+use Rattle.trace_text.specs.declared.records.Call.TheVariants.{Act, ReadPage, ReadClock, ReadHv}
+use Rattle.trace_text.specs.declared.records.Job.TheVariants.{Ask, Save, Move}
 use Rattle.trace_text.specs.declared.header.Head.{Head}
 use Rattle.trace_text.specs.declared.header.Begin.TheVariants.{Fresh, Saved}
 use Rattle.tick_policy.specs.declared.parts.Policy.TheVariants.{Discard, Delay, Slew}
@@ -108,7 +109,7 @@ body3 = record { format = 3; cpus = 2; before = 5 ∷ 7 ∷ [] }
 abbrev body4 : Body
 body4 = record { format = 4; cpus = 2; before = 5 ∷ 7 ∷ [] }
 
-row_in : record_of body (words_of (codes "0 700 in 40")) ≡ Ok (record { cpu = 0; h = 700; job = Board (PortIn 0x40) })
+row_in : record_of body (words_of (codes "0 700 in 40")) ≡ Ok (record { cpu = 0; h = 700; job = Ask (Act (PortIn 0x40)) })
 unfolding record_of job_of words_of decimal_in hex_in number_in
 row_in = refl
 
@@ -116,15 +117,15 @@ another_port : record_of body (words_of (codes "0 700 in 44")) ≡ Err Form
 unfolding record_of job_of words_of decimal_in hex_in number_in
 another_port = refl
 
-port_with_leading_zeros : record_of body (words_of (codes "1 7 in 0071")) ≡ Ok (record { cpu = 1; h = 7; job = Board (PortIn 0x71) })
+port_with_leading_zeros : record_of body (words_of (codes "1 7 in 0071")) ≡ Ok (record { cpu = 1; h = 7; job = Ask (Act (PortIn 0x71)) })
 unfolding record_of job_of words_of decimal_in hex_in number_in
 port_with_leading_zeros = refl
 
-row_out : record_of body (words_of (codes "0 5 out 43 34")) ≡ Ok (record { cpu = 0; h = 5; job = Board (PortOut 0x43 0x34) })
+row_out : record_of body (words_of (codes "0 5 out 43 34")) ≡ Ok (record { cpu = 0; h = 5; job = Ask (Act (PortOut 0x43 0x34)) })
 unfolding record_of job_of words_of decimal_in hex_in number_in
 row_out = refl
 
-row_hr : record_of body (words_of (codes "0 5 hr f0 8")) ≡ Ok (record { cpu = 0; h = 5; job = Board (HpetRead 0xf0 8) })
+row_hr : record_of body (words_of (codes "0 5 hr f0 8")) ≡ Ok (record { cpu = 0; h = 5; job = Ask (Act (HpetRead 0xf0 8)) })
 unfolding record_of job_of words_of decimal_in hex_in number_in
 row_hr = refl
 
@@ -140,7 +141,7 @@ width_is_a_dec : record_of body (words_of (codes "0 5 hr f0 08")) ≡ Err Form
 unfolding record_of job_of words_of decimal_in hex_in number_in
 width_is_a_dec = refl
 
-row_hw : record_of body (words_of (codes "0 5 hw 108 4 ffffffff")) ≡ Ok (record { cpu = 0; h = 5; job = Board (HpetWrite 0x108 4 0xffffffff) })
+row_hw : record_of body (words_of (codes "0 5 hw 108 4 ffffffff")) ≡ Ok (record { cpu = 0; h = 5; job = Ask (Act (HpetWrite 0x108 4 0xffffffff)) })
 unfolding record_of job_of words_of decimal_in hex_in number_in
 row_hw = refl
 
@@ -148,7 +149,7 @@ value_wider_than_its_width : record_of body (words_of (codes "0 5 hw 108 4 10000
 unfolding record_of job_of words_of decimal_in hex_in number_in
 value_wider_than_its_width = refl
 
-row_rdmsr : record_of body (words_of (codes "0 5 rdmsr 4b564d01")) ≡ Ok (record { cpu = 0; h = 5; job = Board (MsrRead 0x4b564d01) })
+row_rdmsr : record_of body (words_of (codes "0 5 rdmsr 4b564d01")) ≡ Ok (record { cpu = 0; h = 5; job = Ask (Act (MsrRead 0x4b564d01)) })
 unfolding record_of job_of words_of decimal_in hex_in number_in
 row_rdmsr = refl
 
@@ -156,11 +157,11 @@ another_msr : record_of body (words_of (codes "0 5 rdmsr 11")) ≡ Err Form
 unfolding record_of job_of words_of decimal_in hex_in number_in
 another_msr = refl
 
-row_wrmsr : record_of body (words_of (codes "0 5 wrmsr 3B 0")) ≡ Ok (record { cpu = 0; h = 5; job = Board (MsrWrite 0x3b 0) })
+row_wrmsr : record_of body (words_of (codes "0 5 wrmsr 3B 0")) ≡ Ok (record { cpu = 0; h = 5; job = Ask (Act (MsrWrite 0x3b 0)) })
 unfolding record_of job_of words_of decimal_in hex_in number_in
 row_wrmsr = refl
 
-row_ack : record_of body (words_of (codes "0 5 ack 20")) ≡ Ok (record { cpu = 0; h = 5; job = Board (Ack 20) })
+row_ack : record_of body (words_of (codes "0 5 ack 20")) ≡ Ok (record { cpu = 0; h = 5; job = Ask (Act (Ack 20)) })
 unfolding record_of job_of words_of decimal_in hex_in number_in
 row_ack = refl
 
@@ -168,7 +169,7 @@ no_such_line : record_of body (words_of (codes "0 5 ack 1")) ≡ Err Form
 unfolding record_of job_of words_of decimal_in hex_in number_in
 no_such_line = refl
 
-row_step : record_of body (words_of (codes "0 10 step")) ≡ Ok (record { cpu = 0; h = 10; job = Board Step })
+row_step : record_of body (words_of (codes "0 10 step")) ≡ Ok (record { cpu = 0; h = 10; job = Ask (Act Step) })
 unfolding record_of job_of words_of decimal_in hex_in number_in
 row_step = refl
 
@@ -180,7 +181,7 @@ two_spaces : record_of body (words_of (codes "0  10 step")) ≡ Err Form
 unfolding record_of job_of words_of decimal_in hex_in number_in
 two_spaces = refl
 
-row_refresh : record_of body (words_of (codes "0 5 refresh 1")) ≡ Ok (record { cpu = 0; h = 5; job = Board (Refresh 1) })
+row_refresh : record_of body (words_of (codes "0 5 refresh 1")) ≡ Ok (record { cpu = 0; h = 5; job = Ask (Act (Refresh 1)) })
 unfolding record_of job_of words_of decimal_in hex_in number_in
 row_refresh = refl
 
@@ -188,11 +189,11 @@ page_that_isnt_there : record_of body (words_of (codes "0 5 refresh 2")) ≡ Err
 unfolding record_of job_of words_of decimal_in hex_in number_in
 page_that_isnt_there = refl
 
-row_wall : record_of body (words_of (codes "0 5 wall")) ≡ Ok (record { cpu = 0; h = 5; job = Board Wall })
+row_wall : record_of body (words_of (codes "0 5 wall")) ≡ Ok (record { cpu = 0; h = 5; job = Ask (Act Wall) })
 unfolding record_of job_of words_of decimal_in hex_in number_in
 row_wall = refl
 
-row_counts : record_of body (words_of (codes "0 5 counts hpet2")) ≡ Ok (record { cpu = 0; h = 5; job = Board (CountsOf (Hpet 2)) })
+row_counts : record_of body (words_of (codes "0 5 counts hpet2")) ≡ Ok (record { cpu = 0; h = 5; job = Ask (Act (CountsOf (Hpet 2))) })
 unfolding record_of job_of words_of decimal_in hex_in number_in
 row_counts = refl
 
@@ -200,19 +201,19 @@ timer_of_format_2 : record_of body (words_of (codes "0 5 counts hpet3")) ≡ Err
 unfolding record_of job_of words_of decimal_in hex_in number_in
 timer_of_format_2 = refl
 
-timer_in_format_2 : record_of body2 (words_of (codes "0 5 counts hpet7")) ≡ Ok (record { cpu = 0; h = 5; job = Board (CountsOf (Hpet 7)) })
+timer_in_format_2 : record_of body2 (words_of (codes "0 5 counts hpet7")) ≡ Ok (record { cpu = 0; h = 5; job = Ask (Act (CountsOf (Hpet 7))) })
 unfolding record_of job_of words_of decimal_in hex_in number_in
 timer_in_format_2 = refl
 
-row_next : record_of body (words_of (codes "0 5 next")) ≡ Ok (record { cpu = 0; h = 5; job = Board Next })
+row_next : record_of body (words_of (codes "0 5 next")) ≡ Ok (record { cpu = 0; h = 5; job = Ask (Act Next) })
 unfolding record_of job_of words_of decimal_in hex_in number_in
 row_next = refl
 
-row_page : record_of body (words_of (codes "0 5 page 1")) ≡ Ok (record { cpu = 0; h = 5; job = Page 1 })
+row_page : record_of body (words_of (codes "0 5 page 1")) ≡ Ok (record { cpu = 0; h = 5; job = Ask (ReadPage 1) })
 unfolding record_of job_of words_of decimal_in hex_in number_in
 row_page = refl
 
-row_clock : record_of body (words_of (codes "0 5 clock 0")) ≡ Ok (record { cpu = 0; h = 5; job = Clock 0 })
+row_clock : record_of body (words_of (codes "0 5 clock 0")) ≡ Ok (record { cpu = 0; h = 5; job = Ask (ReadClock 0) })
 unfolding record_of job_of words_of decimal_in hex_in number_in
 row_clock = refl
 
@@ -228,7 +229,7 @@ rose_in_format_1 : record_of body (words_of (codes "0 5 rose 0")) ≡ Err Form
 unfolding record_of job_of words_of decimal_in hex_in number_in
 rose_in_format_1 = refl
 
-row_rose : record_of body2 (words_of (codes "0 5 rose 0")) ≡ Ok (record { cpu = 0; h = 5; job = Board (Rose 0) })
+row_rose : record_of body2 (words_of (codes "0 5 rose 0")) ≡ Ok (record { cpu = 0; h = 5; job = Ask (Act (Rose 0)) })
 unfolding record_of job_of words_of decimal_in hex_in number_in
 row_rose = refl
 
@@ -237,7 +238,7 @@ eoi_in_format_2 : record_of body2 (words_of (codes "0 5 eoi")) ≡ Err Form
 unfolding record_of job_of words_of decimal_in decimal_past hex_in number_in
 eoi_in_format_2 = refl
 
-row_eoi : record_of body3 (words_of (codes "1 7 eoi")) ≡ Ok (record { cpu = 1; h = 7; job = Board Eoi })
+row_eoi : record_of body3 (words_of (codes "1 7 eoi")) ≡ Ok (record { cpu = 1; h = 7; job = Ask (Act Eoi) })
 unfolding record_of job_of words_of decimal_in decimal_past hex_in number_in
 row_eoi = refl
 
@@ -249,7 +250,7 @@ apic_in_format_2 : record_of body2 (words_of (codes "0 5 counts apic1")) ≡ Err
 unfolding record_of job_of words_of decimal_in decimal_past hex_in number_in
 apic_in_format_2 = refl
 
-row_counts_of_an_apic : record_of body3 (words_of (codes "0 5 counts apic1")) ≡ Ok (record { cpu = 0; h = 5; job = Board (CountsOf (Apic 1)) })
+row_counts_of_an_apic : record_of body3 (words_of (codes "0 5 counts apic1")) ≡ Ok (record { cpu = 0; h = 5; job = Ask (Act (CountsOf (Apic 1))) })
 unfolding record_of job_of words_of decimal_in decimal_past hex_in number_in
 row_counts_of_an_apic = refl
 
@@ -281,7 +282,7 @@ msr_of_an_apic_in_format_2 : record_of body2 (words_of (codes "0 5 rdmsr 838")) 
 unfolding record_of job_of words_of decimal_in decimal_past hex_in number_in
 msr_of_an_apic_in_format_2 = refl
 
-msr_of_an_apic : record_of body3 (words_of (codes "0 5 wrmsr 6e0 7d1")) ≡ Ok (record { cpu = 0; h = 5; job = Board (MsrWrite 0x6e0 0x7d1) })
+msr_of_an_apic : record_of body3 (words_of (codes "0 5 wrmsr 6e0 7d1")) ≡ Ok (record { cpu = 0; h = 5; job = Ask (Act (MsrWrite 0x6e0 0x7d1)) })
 unfolding record_of job_of words_of decimal_in decimal_past hex_in number_in
 msr_of_an_apic = refl
 
@@ -290,7 +291,7 @@ hv_in_format_3 : record_of body3 (words_of (codes "0 5 hv")) ≡ Err Form
 unfolding record_of job_of words_of decimal_in decimal_past hex_in number_in
 hv_in_format_3 = refl
 
-row_hv : record_of body4 (words_of (codes "0 5 hv")) ≡ Ok (record { cpu = 0; h = 5; job = Hv })
+row_hv : record_of body4 (words_of (codes "0 5 hv")) ≡ Ok (record { cpu = 0; h = 5; job = Ask ReadHv })
 unfolding record_of job_of words_of decimal_in decimal_past hex_in number_in
 row_hv = refl
 
@@ -306,7 +307,7 @@ msr_of_hyper_v_in_format_3 : record_of body3 (words_of (codes "0 5 rdmsr 4000002
 unfolding record_of job_of words_of decimal_in decimal_past hex_in number_in
 msr_of_hyper_v_in_format_3 = refl
 
-msr_of_hyper_v : record_of body4 (words_of (codes "0 5 wrmsr 40000021 1")) ≡ Ok (record { cpu = 0; h = 5; job = Board (MsrWrite 0x40000021 1) })
+msr_of_hyper_v : record_of body4 (words_of (codes "0 5 wrmsr 40000021 1")) ≡ Ok (record { cpu = 0; h = 5; job = Ask (Act (MsrWrite 0x40000021 1)) })
 unfolding record_of job_of words_of decimal_in decimal_past hex_in number_in
 msr_of_hyper_v = refl
 
@@ -335,7 +336,7 @@ counter_fell_of_the_same_processor : record_of body (words_of (codes "1 6 step")
 unfolding record_of job_of words_of decimal_in hex_in number_in
 counter_fell_of_the_same_processor = refl
 
-counter_of_another_processor : record_of body (words_of (codes "0 6 step")) ≡ Ok (record { cpu = 0; h = 6; job = Board Step })
+counter_of_another_processor : record_of body (words_of (codes "0 6 step")) ≡ Ok (record { cpu = 0; h = 6; job = Ask (Act Step) })
 unfolding record_of job_of words_of decimal_in hex_in number_in
 counter_of_another_processor = refl
 
@@ -343,7 +344,7 @@ counter_of_another_processor = refl
 before_behind_a_save : (body_behind body (record { cpu = 1; h = 9; job = Save })).before ≡ 5 ∷ 9 ∷ []
 before_behind_a_save = refl
 
-before_behind_a_reference_page : (body_behind body (record { cpu = 1; h = 9; job = Hv })).before ≡ 5 ∷ 9 ∷ []
+before_behind_a_reference_page : (body_behind body (record { cpu = 1; h = 9; job = Ask ReadHv })).before ≡ 5 ∷ 9 ∷ []
 before_behind_a_reference_page = refl
 
 before_behind_a_move : (body_behind body (record { cpu = 1; h = 9; job = Move 3000000 500 0 })).before ≡ replicate 64 500

@@ -1,6 +1,5 @@
 -- The lines of a trace: what each of them is, behind those before it.
 use Rattle.std.specs.Prelude.{
-  ◌≡◌,
   ℕ,
   ◌+◌,
   ◌==◌,
@@ -24,9 +23,8 @@ use Rattle.std.specs.Prelude.{
 }
 use Rattle.std.specs.Str.{bytes_eq}
 use Rattle.trace_loop.specs.Progress.{limit_of}
-use Rattle.trace_loop.specs.declared.lines.TheConstants.{LINE_MAX}
 use Rattle.trace_text.specs.Tokens.{words_of}
-use Rattle.trace_text.specs.Records.{record_of, read_alone, body_behind, IsRecord}
+use Rattle.trace_text.specs.Records.{record_of, body_behind, IsRecord}
 use Rattle.trace_text.specs.Header.{first_line, header_line, header_of, body_of, IsHead, IsBegin}
 use Rattle.trace_text.specs.declared.faults.Reason.{Reason}
 use Rattle.trace_text.specs.declared.faults.Reason.TheVariants.{Form, TooLong, NoEnd}
@@ -196,15 +194,6 @@ IsRecordAt (Heading head) r = ⊥
 IsRecordAt (Running body) r = IsRecord body r
 IsRecordAt Ended r = ⊥
 IsRecordAt (Refused fault) r = ⊥
-
--- a line of few bytes that is read alone as the same record
-abbrev pub IsAlone : Stage → List ℕ → Record → Type 0
-IsAlone Opening line r = ⊥
-IsAlone (Heading head) line r = ⊥
-IsAlone (Running body) line r =
-    (length line ≤ LINE_MAX) × (read_alone body.format body.cpus line ≡ Ok r)
-IsAlone Ended line r = ⊥
-IsAlone (Refused fault) line r = ⊥
 
 -- and of an item: setup and routes are in range, a record's access is one that the board takes
 abbrev pub IsItem : Stage → Item → Type 0

@@ -45,7 +45,6 @@ use Rattle.board_types.specs.declared.access.TickSource.{TickSource}
 use Rattle.board_types.specs.declared.access.TickSource.TheVariants.{Pit, Rtc, Hpet, Apic}
 use Rattle.board_types.specs.declared.setup.TheConstants.{APIC_FORMAT, HV_FORMAT}
 use Rattle.trace_text.specs.Tokens.{
-  words_of,
   first,
   rest,
   decimal_past,
@@ -60,14 +59,16 @@ use Rattle.trace_text.specs.Tokens.{
 use Rattle.trace_text.specs.Rows.{place, last, Row, row, by_table}
 use Rattle.trace_text.specs.declared.faults.Reason.{Reason}
 use Rattle.trace_text.specs.declared.faults.Reason.TheVariants.{Form, Steal, Cpu, CounterFell}
+use Rattle.trace_text.specs.declared.records.Call.{Call}
+use Rattle.trace_text.specs.declared.records.Call.TheVariants.{Act, ReadPage, ReadClock, ReadHv}
 use Rattle.trace_text.specs.declared.records.Job.{Job}
-use Rattle.trace_text.specs.declared.records.Job.TheVariants.{Board, Page, Clock, Hv, Save, Move}
+use Rattle.trace_text.specs.declared.records.Job.TheVariants.{Ask, Save, Move}
 use Rattle.trace_text.specs.declared.records.Record.{Record}
 use Rattle.trace_text.specs.declared.records.Body.{Body}
 
 -- an access, where the board takes it
 abbrev pub board : Body → Access → Result Job Reason
-board body a = if is_legal body.cpus body.format a then Ok (Board a) else Err Form
+board body a = if is_legal body.cpus body.format a then Ok (Ask (Act a)) else Err Form
 
 -- an access to an MSR: that of steal time has a reason of its own
 abbrev pub to_msr : Body → ℕ → Access → Result Job Reason
@@ -138,7 +139,7 @@ rose_row body = place (dec_of_bits 8) (λ line. last (board body (Rose line)))
 
 -- the ticks of the timer of a local APIC
 abbrev pub apic_counts : Body → ℕ → Result Job Reason
-apic_counts body p = from_format APIC_FORMAT body (on_cpu body p (Board (CountsOf (Apic p))))
+apic_counts body p = from_format APIC_FORMAT body (on_cpu body p (Ask (Act (CountsOf (Apic p)))))
 
 -- `counts WHO`, by the source that its first word names, if it names one
 abbrev pub counts_of : Body → List (List ℕ) → Option TickSource → Result Job Reason
@@ -155,15 +156,15 @@ page_at body = place dec (λ p. last (if nat_lt p body.cpus then Ok p else Err C
 
 -- `refresh P`, `page P`, `clock P`
 abbrev pub refresh_row : Body → List (List ℕ) → Result Job Reason
-refresh_row body = place dec (λ p. last (on_cpu body p (Board (Refresh p))))
+refresh_row body = place dec (λ p. last (on_cpu body p (Ask (Act (Refresh p)))))
 
 -- `page P`
 abbrev pub page_row : Body → List (List ℕ) → Result Job Reason
-page_row body = place dec (λ p. last (on_cpu body p (Page p)))
+page_row body = place dec (λ p. last (on_cpu body p (Ask (ReadPage p))))
 
 -- `clock P`
 abbrev pub clock_row : Body → List (List ℕ) → Result Job Reason
-clock_row body = place dec (λ p. last (on_cpu body p (Clock p)))
+clock_row body = place dec (λ p. last (on_cpu body p (Ask (ReadClock p))))
 
 -- `move KHZ START GAP`
 abbrev pub move_row : Body → List (List ℕ) → Result Job Reason
@@ -177,7 +178,7 @@ rows body =
     ∷ row (codes "out") (out_row body)
     ∷ row (codes "hr") (hr_row body)
     ∷ row (codes "hw") (hw_row body)
-    ∷ row (codes "hv") (last (from_format HV_FORMAT body (Ok Hv)))
+    ∷ row (codes "hv") (last (from_format HV_FORMAT body (Ok (Ask ReadHv))))
     ∷ row (codes "rdmsr") (rdmsr_row body)
     ∷ row (codes "wrmsr") (wrmsr_row body)
     ∷ row (codes "ack") (ack_row body)
@@ -215,14 +216,6 @@ judged body cpu h (Ok job) = in_turn body cpu h job
 unfoldable pub record_of : Body → List (List ℕ) → Result Record Reason
 record_of body = place dec (λ cpu. place dec (λ h ws. judged body cpu h (job_of body ws)))
 
--- before the first record of a trace of this format, with so many processors
-abbrev pub body_at : ℕ → ℕ → Body
-body_at format cpus = record { format = format; cpus = cpus; before = replicate 64 0 }
-
--- a line that is read alone, whatever the counters were
-abbrev pub read_alone : ℕ → ℕ → List ℕ → Result Record Reason
-read_alone format cpus line = record_of (body_at format cpus) (words_of line)
-
 -- the counters before, behind a record: a move begins with its own start, for every processor
 abbrev pub before_behind : List ℕ → Record → Job → List ℕ
 before_behind before r (Move k start gap) = replicate 64 start
@@ -232,13 +225,16 @@ before_behind before r _ = slice_set before r.cpu r.h
 abbrev pub body_behind : Body → Record → Body
 body_behind body r = record body { before = before_behind body.before r r.job }
 
--- what is known of a job: the board takes the access, the page is there, the format has the
--- reference page, the rate is in range
+-- a board of this many processors and this format takes the access, or has the page
+abbrev pub IsFittingCall : ℕ → ℕ → Call → Type 0
+IsFittingCall cpus format (Act a) = is_legal cpus format a ≡ true
+IsFittingCall cpus format (ReadPage page) = page < cpus
+IsFittingCall cpus format (ReadClock page) = page < cpus
+IsFittingCall cpus format ReadHv = HV_FORMAT ≤ format
+
+-- what is known of a job: the board takes it, and the rate is in range
 abbrev pub IsJob : Body → Job → Type 0
-IsJob body (Board a) = is_legal body.cpus body.format a ≡ true
-IsJob body (Page p) = p < body.cpus
-IsJob body (Clock p) = p < body.cpus
-IsJob body Hv = HV_FORMAT ≤ body.format
+IsJob body (Ask call) = IsFittingCall body.cpus body.format call
 IsJob body Save = Unit {0}
 IsJob body (Move k start gap) = (100000 ≤ k) × (k ≤ 10000000)
 

@@ -29,12 +29,20 @@ ghost use Rattle.trace_text.specs.Records.{
 };
 
 use crate::faults::Reason;
-use crate::records::{Body, Job};
+use crate::records::{Body, Call, Job};
 use crate::words::Words;
 use board_types::{APIC_FORMAT, Access, HV_FORMAT, TickSource};
 
 /// The MSR of steal time (Linux, "KVM-specific MSRs", MSR_KVM_STEAL_TIME), which isn't kept.
 const MSR_STEAL_TIME: u32 = 0x4b56_4d03;
+
+/// An access.
+#[inline(always)]
+fn act(access: Access) -> Job
+    ensures { result ≡ Job.Ask (Call.Act access) }
+{
+    Job::Ask(Call::Act { access })
+}
 
 /// An access, if the board takes it.
 #[inline(always)]
@@ -43,7 +51,7 @@ fn board(body: &Body, access: Access) -> Result<Job, Reason>
     ensures valid { IfOk result (IsJob body.now) }
 {
     if access.legal(body.cpus, body.format) {
-        Ok(Job::Board(access))
+        Ok(act(access))
     } else {
         Err(Reason::Form)
     }
@@ -95,7 +103,7 @@ pub(crate) fn in_job(body: &Body, words: &mut Words<'_>) -> Result<Job, Reason>
     let port = words.hex8().ok_or(Reason::Form)?;
     words.end()?;
     if is_port(port) {
-        Ok(Job::Board(Access::PortIn { port }))
+        Ok(act(Access::PortIn { port }))
     } else {
         Err(Reason::Form)
     }
@@ -111,7 +119,7 @@ pub(crate) fn usual_in(body: &Body, words: &mut Words<'_>) -> Option<Job>
     if words.end().is_err() || !is_port(port) {
         return None;
     }
-    Some(Job::Board(Access::PortIn { port }))
+    Some(act(Access::PortIn { port }))
 }
 
 #[inline(always)]
@@ -123,7 +131,7 @@ pub(crate) fn out_job(body: &Body, words: &mut Words<'_>) -> Result<Job, Reason>
     let byte = words.byte().ok_or(Reason::Form)?;
     words.end()?;
     if is_port(port) {
-        Ok(Job::Board(Access::PortOut { port, byte }))
+        Ok(act(Access::PortOut { port, byte }))
     } else {
         Err(Reason::Form)
     }
@@ -140,7 +148,7 @@ pub(crate) fn usual_out(body: &Body, words: &mut Words<'_>) -> Option<Job>
     if words.end().is_err() || !is_port(port) {
         return None;
     }
-    Some(Job::Board(Access::PortOut { port, byte }))
+    Some(act(Access::PortOut { port, byte }))
 }
 
 #[inline(always)]
@@ -152,7 +160,7 @@ pub(crate) fn hr_job(body: &Body, words: &mut Words<'_>) -> Result<Job, Reason>
     let width = words.dec8().ok_or(Reason::Form)?;
     words.end()?;
     if is_hpet_place(offset, width) {
-        Ok(Job::Board(Access::HpetRead { offset, width }))
+        Ok(act(Access::HpetRead { offset, width }))
     } else {
         Err(Reason::Form)
     }
@@ -171,7 +179,7 @@ pub(crate) fn usual_hr(body: &Body, words: &mut Words<'_>) -> Option<Job>
     }
     let (offset, width) = (offset as u16, width as u8);
     if is_hpet_place(offset, width) {
-        Some(Job::Board(Access::HpetRead { offset, width }))
+        Some(act(Access::HpetRead { offset, width }))
     } else {
         None
     }
@@ -225,7 +233,7 @@ pub(crate) fn ack_job(body: &Body, words: &mut Words<'_>) -> Result<Job, Reason>
     let line = words.dec8().ok_or(Reason::Form)?;
     words.end()?;
     if is_line(line) {
-        Ok(Job::Board(Access::Ack { line }))
+        Ok(act(Access::Ack { line }))
     } else {
         Err(Reason::Form)
     }
@@ -242,7 +250,7 @@ pub(crate) fn usual_ack(body: &Body, words: &mut Words<'_>) -> Option<Job>
         return None;
     }
     let line = line as u8;
-    Some(Job::Board(Access::Ack { line }))
+    Some(act(Access::Ack { line }))
 }
 
 #[inline(never)]
@@ -261,7 +269,7 @@ pub(crate) fn step_job(body: &Body, words: &Words<'_>) -> Result<Job, Reason>
     ensures valid { IfOk result (IsJob body.now) }
 {
     words.end()?;
-    Ok(Job::Board(Access::Step))
+    Ok(act(Access::Step))
 }
 
 /// An access without words after its name.
@@ -330,7 +338,7 @@ fn apic_counts(body: &Body, cpu: u64) -> Result<Job, Reason>
         return Err(Reason::Cpu);
     }
     let from = TickSource::Apic(cpu as u8);
-    Ok(Job::Board(Access::CountsOf { from }))
+    Ok(act(Access::CountsOf { from }))
 }
 
 /// The number of a page, the last word of its line.
@@ -354,7 +362,7 @@ pub(crate) fn refresh_job(body: &Body, words: &mut Words<'_>) -> Result<Job, Rea
     ensures valid { IfOk result (IsJob body.now) }
 {
     let page = page_in(body, words)?;
-    Ok(Job::Board(Access::Refresh { page }))
+    Ok(act(Access::Refresh { page }))
 }
 
 pub(crate) fn page_job(body: &Body, words: &mut Words<'_>) -> Result<Job, Reason>
@@ -362,7 +370,7 @@ pub(crate) fn page_job(body: &Body, words: &mut Words<'_>) -> Result<Job, Reason
     ensures valid { IfOk result (IsJob body.now) }
 {
     let page = page_in(body, words)?;
-    Ok(Job::Page { page })
+    Ok(Job::Ask(Call::ReadPage { page }))
 }
 
 #[inline(always)]
@@ -371,7 +379,7 @@ pub(crate) fn clock_job(body: &Body, words: &mut Words<'_>) -> Result<Job, Reaso
     ensures valid { IfOk result (IsJob body.now) }
 {
     let page = page_in(body, words)?;
-    Ok(Job::Clock { page })
+    Ok(Job::Ask(Call::ReadClock { page }))
 }
 
 /// The same, where the page's number has few digits; None for any other words.
@@ -385,18 +393,18 @@ pub(crate) fn usual_clock(body: &Body, words: &mut Words<'_>) -> Option<Job>
         return None;
     }
     let page = page as u8;
-    Some(Job::Clock { page })
+    Some(Job::Ask(Call::ReadClock { page }))
 }
 
 pub(crate) fn hv_job(body: &Body, words: &Words<'_>) -> Result<Job, Reason>
-    ensures job { result ≡ last (from_format HV_FORMAT body.now (Ok Job.Hv)) words.now }
+    ensures job { result ≡ last (from_format HV_FORMAT body.now (Ok (Job.Ask Call.ReadHv))) words.now }
     ensures valid { IfOk result (IsJob body.now) }
 {
     words.end()?;
     if body.format < HV_FORMAT {
         return Err(Reason::Form);
     }
-    Ok(Job::Hv)
+    Ok(Job::Ask(Call::ReadHv))
 }
 
 pub(crate) fn save_job(words: &Words<'_>) -> Result<Job, Reason>

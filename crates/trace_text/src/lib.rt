@@ -28,7 +28,7 @@ mod words;
 pub use faults::{Reason, RecordFault};
 pub use header::{Begin, Head, Header};
 pub use reading::{Item, Reading, ReadingParts, Stage};
-pub use records::{Body, Job, Record};
+pub use records::{Body, Call, Job, Record};
 
 #[cfg(test)]
 mod tests;

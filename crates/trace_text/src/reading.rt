@@ -27,7 +27,6 @@ ghost use Rattle.trace_text.specs.Lines.{
   IsEarly,
   IsStage,
   IsRecordAt,
-  IsAlone,
   fault_of,
   taken,
   record_in,
@@ -42,7 +41,6 @@ ghost use Rattle.trace_text.specs.Lines.{
   is_skipped,
 };
 ghost use Rattle.trace_loop.specs.Progress.{limit_of};
-ghost use Rattle.trace_loop.specs.declared.lines.TheConstants.{LINE_MAX};
 
 use crate::faults::{Reason, RecordFault};
 use crate::header::{Head, Header, first_line};
@@ -173,7 +171,6 @@ impl Reading {
         ensures cause { OnFalse result (record_in (taken self.old line.now) ≡ None) }
         ensures state { OnTrue result (self.new ≡ behind line.now self.old) }
         ensures valid { OnTrue result (IsRecordAt self.old.stage into.new) }
-        ensures alone { OnTrue result (IsAlone self.old.stage line.now into.new) }
         ensures open { OnTrue result (IsOpen self.new.stage) }
         ensures none { OnFalse result (self.new ≡ self.old) }
     {
@@ -249,7 +246,6 @@ impl Stage {
         ensures record { OnTrue result (stepped self.old line.now ≡ Ok (met into.new self.new)) }
         ensures cause { OnFalse result (record_in (item_in (stepped self.old line.now)) ≡ None) }
         ensures valid { OnTrue result (IsRecordAt self.old into.new) }
-        ensures alone { OnTrue result (IsAlone self.old line.now into.new) }
         ensures open { OnTrue result (IsOpen self.new) }
         ensures kept { IsStage self.new }
         ensures fresh { OnTrue result (fault_of self.old ≡ None) }
@@ -357,7 +353,6 @@ fn is_skipped(line: &[u8]) -> bool
 /// Whether a line is of words, and isn't `end`: it is short, and begins with a digit.
 #[inline(always)]
 fn may_be_record(line: &[u8]) -> bool
-    ensures short { OnTrue result (length line.now ≤ LINE_MAX) }
     ensures within { OnTrue result (nat_lt (limit_of line.now) (length line.now) ≡ false) }
     ensures words { OnTrue result (is_skipped line.now ≡ false) }
     ensures record { OnTrue result (bytes_eq line.now (codes "end") ≡ false) }

@@ -1,11 +1,9 @@
 //! Records: what a processor does at a host counter.
-ghost use Rattle.std.specs.Prelude.{◌≡◌, ◌<◌, ◌≤◌, Ok, IfOk, IfSome, OnErr, IsErr, slice_index};
+ghost use Rattle.std.specs.Prelude.{◌≡◌, ◌<◌, ◌≤◌, Ok, IfOk, IfSome, OnErr, IsErr};
 ghost use Rattle.std.specs.Bool.{OnTrue, OnFalse};
-ghost use Rattle.trace_text.specs.Tokens.{words_of};
 ghost use Rattle.trace_text.specs.Records.{
   job_of,
   record_of,
-  body_at,
   body_behind,
   IsJob,
   IsRecord,
@@ -17,17 +15,24 @@ use crate::jobs::{step_job, usual_ack, usual_clock, usual_hr, usual_in, usual_ou
 use crate::words::Words;
 use board_types::Access;
 
+/// What a record asks of the board.
+#[derive(Clone, Copy, Debug, PartialEq, Eq)]
+pub enum Call {
+    /// An access.
+    Act { access: Access },
+    /// The page of this processor is read.
+    ReadPage { page: u8 },
+    /// The clock is read by the page of this processor.
+    ReadClock { page: u8 },
+    /// The reference page of Hyper-V is read; from format 4 on.
+    ReadHv,
+}
+
 /// What a record does.
 #[derive(Clone, Copy, Debug, PartialEq, Eq)]
 pub enum Job {
-    /// An access to the board.
-    Board(Access),
-    /// The page of this processor is read.
-    Page { page: u8 },
-    /// The clock is read by the page of this processor.
-    Clock { page: u8 },
-    /// The reference page is read; from format 4 on.
-    Hv,
+    /// It asks something of the board.
+    Ask(Call),
     /// The board is saved.
     Save,
     /// The board moves to a host of this rate in kHz, whose counter is at `start`, after a gap in nanoseconds.
@@ -54,29 +59,6 @@ pub struct Body {
 }
 
 impl Body {
-    /// Before the first record of a trace of this format, with so many processors, whose counters were at 0.
-    pub fn new(format: u8, cpus: u8) -> Body
-        ensures { result ≡ body_at format cpus }
-    {
-        Body {
-            format,
-            cpus,
-            before: [0; 64],
-        }
-    }
-
-    /// Reads the record of a line into one that is there, and remembers nothing; false where the line is none, or one
-    /// that is refused, and then the record there has no meaning. So a line that was read as a record after others is
-    /// read again, alone.
-    #[inline(always)]
-    pub fn look(&self, line: &[u8], into: &mut Record) -> bool
-        requires { self.now.cpus ≤ 64 }
-        ensures record { OnTrue result (record_of self.now (words_of line.now) ≡ Ok into.new) }
-        ensures cause { OnFalse result (IsErr (record_of self.now (words_of line.now))) }
-    {
-        self.look_at(Words::new(line), into)
-    }
-
     /// The record of these words, which is remembered for its processor.
     #[inline(never)]
     #[tactic(auto, unfolding(crate::specs::Records::record_of))]
@@ -103,8 +85,9 @@ impl Body {
     }
 
     /// Reads the record of these words into one that is there, and remembers it for its processor; false where it is
-    /// refused.
+    /// refused. What most records are stays out of memory.
     #[inline(always)]
+    #[tactic(auto, unfolding(crate::specs::Records::record_of))]
     pub(crate) fn read(&mut self, words: Words<'_>, into: &mut Record) -> bool
         requires { self.old.cpus ≤ 64 }
         ensures record { OnTrue result (record_of self.old words.entry ≡ Ok into.new) }
@@ -113,77 +96,42 @@ impl Body {
         ensures behind { OnTrue result (self.new ≡ body_behind self.old into.new) }
         ensures still { OnFalse result (self.new ≡ self.old) }
     {
-        if !self.look_at(words, into) {
-            return false;
-        }
-        self.remember(into.cpu, into.h, &into.job);
-        true
-    }
-
-    /// The same, and remembers nothing. What most records are stays out of memory.
-    #[inline(always)]
-    #[tactic(auto, unfolding(crate::specs::Records::record_of))]
-    fn look_at(&self, words: Words<'_>, into: &mut Record) -> bool
-        requires { self.now.cpus ≤ 64 }
-        ensures record { OnTrue result (record_of self.now words.entry ≡ Ok into.new) }
-        ensures cause { OnFalse result (IsErr (record_of self.now words.entry)) }
-        ensures valid { OnTrue result (IsRecord self.now into.new) }
-    {
         let mut usual = words.again();
         let Some(cpu) = usual.usual_dec() else {
-            return self.look_apart(words, into);
+            return self.read_apart(words, into);
         };
         let Some(h) = usual.many_digits() else {
-            return self.look_apart(words, into);
+            return self.read_apart(words, into);
         };
         if !read_job(self, usual, &mut into.job) {
             return false;
         }
-        if !self.is_next(cpu, h) {
+        if cpu >= u64::from(self.cpus) || h < self.before[cpu as usize] {
             return false;
         }
         into.cpu = cpu as u8;
         into.h = h;
+        self.remember(into.cpu, h, &into.job);
         true
     }
 
     /// The same, apart from where it is called.
     #[inline(never)]
-    #[tactic(auto, unfolding(crate::specs::Records::record_of))]
-    fn look_apart(&self, mut words: Words<'_>, into: &mut Record) -> bool
-        requires { self.now.cpus ≤ 64 }
-        ensures record { OnTrue result (record_of self.now words.entry ≡ Ok into.new) }
-        ensures cause { OnFalse result (IsErr (record_of self.now words.entry)) }
-        ensures valid { OnTrue result (IsRecord self.now into.new) }
+    fn read_apart(&mut self, words: Words<'_>, into: &mut Record) -> bool
+        requires { self.old.cpus ≤ 64 }
+        ensures record { OnTrue result (record_of self.old words.entry ≡ Ok into.new) }
+        ensures cause { OnFalse result (IsErr (record_of self.old words.entry)) }
+        ensures valid { OnTrue result (IsRecord self.old into.new) }
+        ensures behind { OnTrue result (self.new ≡ body_behind self.old into.new) }
+        ensures still { OnFalse result (self.new ≡ self.old) }
     {
-        let Some(cpu) = words.short_dec() else {
-            return false;
-        };
-        let Some(h) = words.dec() else {
-            return false;
-        };
-        if !put_job(job_in(self, words), &mut into.job) {
-            return false;
+        match self.record(words) {
+            Ok(record) => {
+                *into = record;
+                true
+            }
+            Err(_) => false,
         }
-        if !self.is_next(cpu, h) {
-            return false;
-        }
-        into.cpu = cpu as u8;
-        into.h = h;
-        true
-    }
-
-    /// Whether a record may come by this processor at this counter.
-    #[inline(always)]
-    fn is_next(&self, cpu: u64, h: u64) -> bool
-        requires { self.now.cpus ≤ 64 }
-        ensures next { OnTrue result ((cpu < self.now.cpus) × (slice_index self.now.before cpu ≤ h)) }
-        ensures refused { OnFalse result (cpu < self.now.cpus → h < slice_index self.now.before cpu) }
-    {
-        if cpu >= u64::from(self.cpus) || h < self.before[cpu as usize] {
-            return false;
-        }
-        true
     }
 
     /// Remembers the counter of a record for its processor, and that of the new host for all where the board moves.

@@ -28,13 +28,15 @@ fn items_of_a_trace(rt: HostRuntime) -> Result<(), Fail> {
     let record = Record {
         cpu: 1,
         h: 700,
-        job: Job::Board(Access::PortIn { port: 0x40 }),
+        job: Job::Ask(Call::Act {
+            access: Access::PortIn { port: 0x40 },
+        }),
     };
     assert_eq!(rt; record_of(reading.take_line(b"1 700 in 40")), Some(record));
     let page = Record {
         cpu: 0,
         h: 0,
-        job: Job::Page { page: 1 },
+        job: Job::Ask(Call::ReadPage { page: 1 }),
     };
     assert_eq!(rt; record_of(reading.take_line(b"0 0 page 1")), Some(page));
     assert_eq!(rt; reading.take_record(b"end"), None);
@@ -102,7 +104,9 @@ fn a_saved_board_begins_a_trace(rt: HostRuntime) -> Result<(), Fail> {
     let step = Record {
         cpu: 0,
         h: 0,
-        job: Job::Board(Access::Step),
+        job: Job::Ask(Call::Act {
+            access: Access::Step,
+        }),
     };
     assert_eq!(rt; record_of(reading.take_line(b"0 0 step")), Some(step));
     Ok(())

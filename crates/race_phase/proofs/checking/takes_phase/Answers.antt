@@ -9,7 +9,7 @@ returns-then-takes_records-clause-taken c =
     on_true c.takes_end.result
     (λ ends b x.
     let t = c.if-takes_records.ensures.taken b x in
-    let e = ends (after_records b v.lines.records) t.2 in
+    let e = ends (after_records b v.records) t.2 in
     (takes_phase-by b v (t.0, t.1) c.if-takes_records.ensures.few e.0, e.1))
     c.takes_end.ensures.taken
 
@@ -17,4 +17,4 @@ pub returns-then-takes_records-clause-only : goal.returns-then-takes_records-cla
 returns-then-takes_records-clause-only c = λ is b x takes.
     let v : Phase = c.args.phase.now in
     let t = c.if-takes_records.ensures.taken b x in
-    c.takes_end.ensures.only is (after_records b v.lines.records) t.2 (takes_phase-end b v takes)
+    c.takes_end.ensures.only is (after_records b v.records) t.2 (takes_phase-end b v takes)

@@ -10,7 +10,7 @@ use Rattle.race_phase.proofs.checking.takes_records.Goals as goal
 
 pub returns-then-not-takes_record-clause-only : goal.returns-then-not-takes_record-clause-only
 returns-then-not-takes_record-clause-only c = λ same b x fit few free.
-    let rs : List Record = c.args.lines.now.records in
+    let rs : List Record = c.args.records.now in
     let i = c.loop-done.done in
     let r : Record = c.record.result in
     let front : BoardParts = after_records b (take i rs) in
@@ -20,7 +20,7 @@ returns-then-not-takes_record-clause-only c = λ same b x fit few free.
 
 pub loop-done-preserved : goal.loop-done-preserved
 loop-done-preserved c =
-    let rs : List Record = c.args.lines.now.records in
+    let rs : List Record = c.args.records.now in
     let i = c.loop-done.done in
     let r : Record = c.record.result in
     let inside : i < length rs = slice_get_within rs i r c.record.ensures in

@@ -10,13 +10,13 @@ use Rattle.race_phase.proofs.race.next.Goals as goal
 
 pub run_phase-requires-clause-fitting : goal.run_phase-requires-clause-fitting
 run_phase-requires-clause-fitting g c κs within =
-    subst (λ (b : BoardParts). All (IsFitting b.cpus b.format) c.args.phase.now.lines.records) (sym c.in_ok-blank.ensures.state) c.requires.fitting.records
+    subst (λ (b : BoardParts). All (IsFitting b.cpus b.format) c.args.phase.now.records) (sym c.in_ok-blank.ensures.state) c.requires.fitting.records
 
 pub run_phase-requires-clause-free : goal.run_phase-requires-clause-free
 run_phase-requires-clause-free g c κs within =
     let s = c.args.state.now in
     let v = c.args.phase.now in
-    let rs = v.lines.records in
+    let rs = v.records in
     subst (λ (b : BoardParts). records_fault b rs ≡ None) (sym c.in_ok-blank.ensures.state)
     (or_none (records_fault s rs) (end_fault (after_records s rs) v.end) c.requires.free).0
 
@@ -24,7 +24,7 @@ pub end_free-requires-clause-end : goal.end_free-requires-clause-end
 end_free-requires-clause-end g c =
     let mid = c.deref_mut.result.now in
     let s = c.args.state.now in
-    let rs = c.args.phase.now.lines.records in
+    let rs = c.args.phase.now.records in
     let alike = subst (λ (b : BoardParts). AreAlike (after_records s rs) b) (sym c.deref_mut.ensures.value)
     (subst (λ (b : BoardParts). AreAlike (after_records b rs) c.in_ok-board.board.value) c.in_ok-blank.ensures.state c.in_ok-board.ensures.alike) in
     mid_fits c.args.state.now c.args.phase.now mid c.requires.fitting alike
@@ -33,7 +33,7 @@ pub end_free-requires-clause-free : goal.end_free-requires-clause-free
 end_free-requires-clause-free g c =
     let mid = c.deref_mut.result.now in
     let s = c.args.state.now in
-    let rs = c.args.phase.now.lines.records in
+    let rs = c.args.phase.now.records in
     let alike = subst (λ (b : BoardParts). AreAlike (after_records s rs) b) (sym c.deref_mut.ensures.value)
     (subst (λ (b : BoardParts). AreAlike (after_records b rs) c.in_ok-board.board.value) c.in_ok-blank.ensures.state c.in_ok-board.ensures.alike) in
     mid_free c.args.state.now c.args.phase.now mid c.requires.fitting alike c.requires.free
@@ -43,7 +43,7 @@ returns g c =
     let s = c.args.state.now in
     let v = c.args.phase.now in
     let ds = c.args.deliveries.now in
-    let rs = v.lines.records in
+    let rs = v.records in
     let mid = c.deref_mut.result.now in
     let lines = c.in_ok-board.lines in
     let alike = subst (λ (b : BoardParts). AreAlike (after_records s rs) b) (sym c.deref_mut.ensures.value)

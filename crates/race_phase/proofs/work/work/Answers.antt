@@ -4,7 +4,7 @@ use Rattle.board_history.specs.History.{IsLegal}
 use Rattle.shared_board.specs.declared.known.PassKnown.{PassKnown}
 use Rattle.race_phase.specs.declared.batch.Place.{Place}
 use Rattle.race_phase.specs.declared.records.Record.{Record}
-use Rattle.race_phase.specs.declared.records.Call.TheVariants.{ReadPage}
+use Rattle.trace_text.specs.declared.records.Call.TheVariants.{ReadPage}
 use Rattle.race_phase.specs.Calls.{IsFitting, records_of}
 use Rattle.race_phase.specs.private.Workers.{AllButLast, HasHalted, HasPrinted, HasWorked}
 use Rattle.race_phase.proofs.Workers.{cpu_there, record_cpu, read_fits, next_skipped, next_read, put_back, waits_printed, not_ok, batch_halted, batch_last}
@@ -18,7 +18,7 @@ use Rattle.race_phase.proofs.work.work.Goals.{
 pub print_all-requires-clause-fitting : goal.print_all-requires-clause-fitting
 print_all-requires-clause-fitting g c =
     let s = g.N.Name.state in
-    let rs = c.args.lines.now.records in
+    let rs = c.args.records.now in
     subst (λ (l : List Record). All (IsFitting s.cpus s.format) l) (sym (c.deref.ensures.value ∙ c.in-Ok.ensures.items))
     (All-push (IsFitting s.cpus s.format) c.loop-place.batch.items _ c.loop-place.invariant.fitting
     (read_fits s.cpus s.format rs c.loop-place.place c.record.result c.record.ensures c.requires.fitting))
@@ -27,7 +27,7 @@ pub returns-in_default-2 : goal.returns-in_default-2
 returns-in_default-2 g c =
     let s = g.N.Name.state in
     let ds = c.args.deliveries.now in
-    let rs = c.args.lines.now.records in
+    let rs = c.args.records.now in
     let n = c.number-cpu.result in
     let i = c.loop-place.place in
     let inv = c.loop-place.invariant in
@@ -47,7 +47,7 @@ loop-place-preserved g c =
     let s = g.N.Name.state in
     let ds = c.args.deliveries.now in
     let i = c.loop-place.place in
-    let rs = c.args.lines.now.records in
+    let rs = c.args.records.now in
     let p = c.loop-place.pass in
     let below = subst (λ (k : ℕ). i < k) c.len-place-end.ensures c.loop-place-test.true in
     elim c.if-from-cpu.branch [
@@ -133,7 +133,7 @@ pub returns : goal.returns
 returns g c =
     let s = g.N.Name.state in
     let ds = c.args.deliveries.now in
-    let rs = c.args.lines.now.records in
+    let rs = c.args.records.now in
     let n = c.number-cpu.result in
     let i = c.loop-place.place in
     let inv = c.loop-place.invariant in

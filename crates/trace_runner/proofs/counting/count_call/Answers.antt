@@ -1,8 +1,9 @@
-use Rattle.std.proofs.Common.{sym, subst}
-use Rattle.race_phase.specs.Calls.{IsFittingCall}
+use Rattle.std.proofs.Common.{◌≡◌, None, sym, subst}
+use Rattle.trace_text.specs.Records.{IsFittingCall}
 use Rattle.race_phase.specs.Tallies.{IsTally}
-use Rattle.race_phase.specs.declared.records.Call.{Call}
-use Rattle.trace_runner.specs.Replayed.{board_behind, TakesCall}
+use Rattle.trace_text.specs.declared.records.Call.{Call}
+use Rattle.trace_runner.specs.Replayed.{board_behind, refused_call}
+use Rattle.trace_runner.proofs.Counts.{by_refusal-none}
 use Rattle.trace_runner.proofs.Replayed.{clock-tally}
 use Rattle.trace_runner.proofs.counting.count_call.Goals as goal
 
@@ -13,7 +14,7 @@ count-requires-clause-legal c =
 pub count-requires-clause-free : goal.count-requires-clause-free
 count-requires-clause-free c =
     let f = c.requires.free in
-    (f.0, f.1, subst (λ (call : Call). TakesCall f.0 c.args.cpu c.args.h call) c.in-Act.is f.2)
+    (f.0, f.1, by_refusal-none _ (subst (λ (call : Call). refused_call c.args.cpu c.args.h call f.0 ≡ None) c.in-Act.is f.2))
 
 pub returns-in-Act : goal.returns-in-Act
 returns-in-Act c = λ b x.

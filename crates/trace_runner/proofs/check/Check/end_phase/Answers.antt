@@ -1,60 +1,51 @@
-use Rattle.std.proofs.Common.{◌≡◌, ◌∷◌, ◌++◌, [], List, length, ap, sym, subst, ◌∙◌, arith}
+use Rattle.std.proofs.Common.{◌≡◌, ◌∷◌, ◌++◌, [], List, ap, sym, subst, ◌∙◌}
 use Rattle.board_types.specs.declared.parts.BoardParts.{BoardParts}
-use Rattle.race_phase.specs.Lines.{LinesRead}
 use Rattle.race_phase.specs.Phases.{next_board}
 use Rattle.race_phase.specs.Tallies.{IsTally}
 use Rattle.race_phase.specs.declared.phases.End.{End}
+use Rattle.race_phase.specs.declared.phases.Phase.{Phase}
 use Rattle.race_phase.specs.declared.records.Record.{Record}
 use Rattle.trace_runner.specs.Check.{with_end}
 use Rattle.trace_runner.specs.Checking.{Checking}
 use Rattle.trace_runner.specs.Replayed.{replayed, on_board}
-use Rattle.trace_runner.specs.Trace.{PhaseRead, phases_read}
-use Rattle.trace_runner.proofs.PhasesRead.{phases_pushed}
 use Rattle.trace_runner.proofs.Replayed.{replayed-end, ended}
 use Rattle.trace_runner.proofs.check.Check.end_phase.Goals as goal
 
 -- the board behind the phases, and behind one more that was read
-ended_board : (b : BoardParts) (vs ws : List PhaseRead) (rs last : List Record) (end : End) → ws ≡ vs ++ record { records = last; end = end } ∷ [] → rs ≡ []
+ended_board : (b : BoardParts) (vs ws : List Phase) (rs last : List Record) (end : End) → ws ≡ vs ++ record { records = last; end = end } ∷ [] → rs ≡ []
     → replayed b ws rs ≡ next_board end (replayed b vs last)
 ended_board b vs ws rs last end f g =
-    ap (λ (us : List PhaseRead). replayed b us rs) f ∙ ap (replayed b (vs ++ record { records = last; end = end } ∷ [])) g
+    ap (λ (us : List Phase). replayed b us rs) f ∙ ap (replayed b (vs ++ record { records = last; end = end } ∷ [])) g
     ∙ replayed-end b vs (record { records = last; end = end })
 
 pub invariant_of-self-2 : goal.invariant_of-self-2
 invariant_of-self-2 c =
     let i = c.self.inside in
-    let vs : List PhaseRead = phases_read i.phases.items in
-    let f = ap phases_read c.in_default.ensures.items ∙ phases_pushed i.phases.items _
-    ∙ ap (λ (rs : List Record). vs ++ record { records = rs; end = c.args.end } ∷ []) (ap (λ (l : LinesRead). l.records) c.replace-lines.ensures.value) in
-    let none = c.replace-lines.ensures.after ∙ c.no_lines-none.ensures in
-    let g = ap (λ (l : LinesRead). l.records) none in
-    record {
-      counts = subst (λ (b : BoardParts). IsTally b c.count_end.new.tally) (sym (ended_board i.opening vs _ _ i.last.records c.args.end f g))
-          (c.count_end.ensures (replayed i.opening vs i.last.records) c.self.invariant.counts);
-      format = ap (λ (l : LinesRead). l.format) none;
-      cpus = ap (λ (l : LinesRead). l.cpus) none;
-      few = let e = ap (λ (l : List Record). length l) g in omega arith;
-    }
+    let vs : List Phase = i.phases.items in
+    let f = c.in_default.ensures.items
+    ∙ ap (λ (rs : List Record). vs ++ record { records = rs; end = c.args.end } ∷ []) c.replace-records.ensures.value in
+    let g = c.replace-records.ensures.after ∙ c.new-none.ensures in
+    subst (λ (b : BoardParts). IsTally b c.count_end.new.tally) (sym (ended_board i.opening vs _ _ i.last c.args.end f g))
+    (c.count_end.ensures (replayed i.opening vs i.last) c.self.invariant)
 
 pub returns : goal.returns
 returns c =
     let i = c.self.inside in
-    let vs : List PhaseRead = phases_read i.phases.items in
-    let f = ap phases_read c.in_default.ensures.items ∙ phases_pushed i.phases.items _
-    ∙ ap (λ (rs : List Record). vs ++ record { records = rs; end = c.args.end } ∷ []) (ap (λ (l : LinesRead). l.records) c.replace-lines.ensures.value) in
-    let none = c.replace-lines.ensures.after ∙ c.no_lines-none.ensures in
-    let g = ap (λ (l : LinesRead). l.records) none in
+    let vs : List Phase = i.phases.items in
+    let f = c.in_default.ensures.items
+    ∙ ap (λ (rs : List Record). vs ++ record { records = rs; end = c.args.end } ∷ []) c.replace-records.ensures.value in
+    let g = c.replace-records.ensures.after ∙ c.new-none.ensures in
     let s : Checking = record {
       replay = record {
         reading = i.reading;
         shows_state = i.shows_state;
-        board = replayed i.opening vs i.last.records;
+        board = replayed i.opening vs i.last;
         deliveries = i.deliveries;
       };
       opening = i.opening;
       phases = vs;
-      last = i.last.records;
+      last = i.last;
       taken = i.taken;
     } in
-    ended s c.args.end _ _ _ (ended_board i.opening vs _ _ i.last.records c.args.end f g) f g
+    ended s c.args.end _ _ _ (ended_board i.opening vs _ _ i.last c.args.end f g) f g
     ∙ ap (λ (t : Checking). with_end c.args.end (on_board (next_board c.args.end t.replay.board) t)) c.self.view_is
