@@ -26,8 +26,15 @@ pub fn table_page(board: &BoardState, index: u8) -> Page
 pub fn page_published(cpus: u8, cpu: u8, access: Access) -> Option<u8>
     ensures { result ≡ page_published cpus cpu access }
 {
+    // The kind is asked first: mostly it says that no page is published.
     match access {
-        Access::MsrWrite { msr, .. } if msr == MSR_HV_REFERENCE_TSC => Some(cpus),
+        Access::MsrWrite { msr, .. } => {
+            if msr == MSR_HV_REFERENCE_TSC {
+                Some(cpus)
+            } else {
+                published_by(cpu, access)
+            }
+        }
         _ => published_by(cpu, access),
     }
 }
