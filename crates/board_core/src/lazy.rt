@@ -99,7 +99,13 @@ impl LazyBoard {
 
     /// An access that lets time pass, and changes nothing. Before the horizon it is counted.
     #[inline(always)]
-    fn answer_passive(&mut self, cpu: u8, h: u64, a: Access, reply: &mut Reply) -> Result<(), Refusal>
+    fn answer_passive(
+        &mut self,
+        cpu: u8,
+        h: u64,
+        a: Access,
+        reply: &mut Reply,
+    ) -> Result<(), Refusal>
         requires passive { IsTrue (is_passive a) }
         requires cpu { cpu < self.old.cpus }
         requires legal { IsTrue (is_legal self.old.cpus self.old.format a) }
@@ -212,7 +218,11 @@ fn is_passive(a: Access) -> bool
 /// How many still accesses came last, counted to `STILL` at most, with one more that may be still.
 #[inline(always)]
 fn more_still(before: u8, still: bool) -> u8 {
-    if still { before.saturating_add(1).min(STILL) } else { 0 }
+    if still {
+        before.saturating_add(1).min(STILL)
+    } else {
+        0
+    }
 }
 
 /// The count before which nothing comes that a caller sees, where it is wanted; 0 where none is known.

@@ -4,8 +4,8 @@ ghost use Rattle.std.specs.Prelude.{◌≡◌, ◌*◌, ◌^◌, ◌<◌, IsTrue
 ghost use Rattle.hpet_comparator.specs.Part.{is_register_width};
 ghost use Rattle.hpet_comparator.specs.Comparator.{comparator_written};
 
-use crate::parts::{TimerParts, VAL_SET, within};
 use crate::part::write_part;
+use crate::parts::{TimerParts, VAL_SET, within};
 
 /// The comparator after a write to its register.
 #[tactic(auto, unfolding(crate::specs::Comparator::comparator_written))]

@@ -7,7 +7,7 @@ use Rattle.trace_runner.proofs.generate.generate.Goals as goal
 
 pub pieces-preserved : goal.pieces-preserved
 pieces-preserved g c =
-    let contents = (g.K.Sink.output in).contents
+    let contents = λ (sink : g.row.K.Denot). (g.K.Sink.output sink).contents in
     let n : ℕ = c.fill-n.result in
     let left : List ℕ = c.pieces.generator in
     let put : List ℕ = c.pieces.invariant.0 in
@@ -23,7 +23,7 @@ pieces-preserved g c =
 
 pub returns-in-Err-clause-said : goal.returns-in-Err-clause-said
 returns-in-Err-clause-said g c =
-    let contents = (g.K.Sink.output in).contents
+    let contents = λ (sink : g.row.K.Denot). (g.K.Sink.output sink).contents in
     let n : ℕ = c.fill-n.result in
     let left : List ℕ = c.pieces.generator in
     let put : List ℕ = c.pieces.invariant.0 in
