@@ -166,8 +166,9 @@ pub(crate) fn hr_job(body: &Body, words: &mut Words<'_>) -> Result<Job, Reason>
     }
 }
 
-/// The same, where the width has one digit; None for any other words.
-#[inline(always)]
+/// The same, where the width has one digit; None for any other words. It is a call of its own, as all the usual records
+/// together would be too large to be read where they are answered.
+#[inline(never)]
 pub(crate) fn usual_hr(body: &Body, words: &mut Words<'_>) -> Option<Job>
     ensures job { IfSome result (λ j. hr_row body.now words.old ≡ Ok j) }
     ensures valid { IfSome result (IsJob body.now) }

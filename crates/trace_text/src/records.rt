@@ -1,5 +1,5 @@
 //! Records: what a processor does at a host counter.
-ghost use Rattle.std.specs.Prelude.{◌≡◌, ◌<◌, ◌≤◌, Ok, IfOk, IfSome, OnErr, IsErr};
+ghost use Rattle.std.specs.Prelude.{◌≡◌, ◌<◌, ◌≤◌, Ok, IfOk, IfSome, OnErr, IsErr, replicate};
 ghost use Rattle.std.specs.Bool.{OnTrue, OnFalse};
 ghost use Rattle.trace_text.specs.Records.{
   job_of,
@@ -141,9 +141,18 @@ impl Body {
         ensures { self.new ≡ body_behind self.old (record { cpu = cpu; h = h; job = job.now }) }
     {
         match *job {
-            Job::Move { start, .. } => self.before = [start; 64],
+            Job::Move { start, .. } => self.restart(start),
             _ => self.before[cpu as usize] = h,
         }
+    }
+
+    /// The host's counter begins anew for all processors. It is apart, so that a line is read where it is answered.
+    #[cold]
+    #[inline(never)]
+    fn restart(&mut self, start: u64)
+        ensures { self.new ≡ record self.old { before = replicate 64 start } }
+    {
+        self.before = [start; 64];
     }
 }
 
