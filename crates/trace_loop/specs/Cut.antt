@@ -1,5 +1,6 @@
 -- How a reader cuts lines off the bytes that it took.
-use Rattle.std.specs.Prelude.{◌≡◌, ◌≢◌, ℕ, ◌+◌, ◌≤◌, List, [], ◌∷◌, ◌++◌, length, ◌⊎◌}
+use Rattle.std.specs.Prelude.{◌≡◌, ◌≢◌, ℕ, ◌+◌, ◌≤◌, List, [], ◌∷◌, ◌++◌, length, take, drop, ◌⊎◌}
+use Rattle.std.specs.Prelude.{Result, OnOk}
 use Rattle.trace_loop.specs.Progress.{limit_of}
 
 -- what a reader holds: how many lines it handed out, the last of them, what came of the next, and
@@ -38,3 +39,10 @@ pub record IsWhole (old new : Cut) : Type 0 where
   pub left : new.left ≡ []
   pub short : length new.text ≤ limit_of new.text
   pub number : new.number ≡ old.number
+
+-- the present line was handed out, of which n bytes were left; or memory ran out
+pub record IsHandedOut {T E : Type 0} (old new : Cut) (n : ℕ) (result : Result T E) : Type 0 where
+  pub line : OnOk result (new.line ≡ old.text ++ take n old.left)
+  pub text : OnOk result (new.text ≡ [])
+  pub left : OnOk result (new.left ≡ drop n old.left)
+  pub number : OnOk result (new.number ≡ old.number + 1)

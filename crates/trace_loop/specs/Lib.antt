@@ -1,5 +1,6 @@
 pub mod Text
 pub mod Progress
+pub mod Answered
 pub mod ByLines
 pub mod Outcome
 pub mod Cut

@@ -1,7 +1,7 @@
 //! What answers the lines of a trace.
 ghost use Rattle.std.specs.Prelude.{◌≡◌, ℕ, ◌<◌, ◌+◌, ◌^◌, List, ◌++◌, None, IfOk, OnOk, OnErr};
-ghost use Rattle.std.specs.Io.{StartsWith};
-ghost use Rattle.trace_loop.specs.Progress.{Answer, Closing, printed, end_of, state_behind};
+ghost use Rattle.trace_loop.specs.Progress.{Answer, Closing};
+ghost use Rattle.trace_loop.specs.Answered.{IsAnswered};
 
 use clk_units::NoMemory;
 
@@ -29,13 +29,9 @@ pub trait Answerer<E: Drop> {
         requires room { line < 2 ^ 63 }
         requires may { may line self.old }
         requires open { end.old ≡ None }
-        ensures printed { OnOk result
-            (out.new.items ≡ out.old.items ++ printed (answer line self.old text.now)) }
-        ensures ends { OnOk result (end.new ≡ end_of (answer line self.old text.now)) }
-        ensures state { OnOk result (end.new ≡ None
-            → self.new ≡ state_behind (answer line self.old text.now) self.old) }
-        ensures may { OnOk result (end.new ≡ None → may (line + 1) self.new) }
-        ensures err { OnErr result (StartsWith out.new.items out.old.items) };
+        ensures answered { IsAnswered (answer line self.old text.now) self.old self.new
+            out.old.items out.new.items end.new result }
+        ensures may { OnOk result (end.new ≡ None → may (line + 1) self.new) };
 
     /// Answers the end of the input, where the line of this number would come next.
     fn close(&mut self, line: u64, out: &mut Vec<u8>) -> Result<E, NoMemory>
@@ -59,13 +55,10 @@ pub(crate) fn answer_line<E: Drop, T: Answerer<E>>(
     requires room { line < 2 ^ 63 }
     requires may { T.may line answerer.old }
     requires open { end.old ≡ None }
-    ensures printed { OnOk result
-        (out.new.items ≡ out.old.items ++ printed (T.answer line answerer.old text.now)) }
-    ensures ends { OnOk result (end.new ≡ end_of (T.answer line answerer.old text.now)) }
-    ensures state { OnOk result (end.new ≡ None
-        → answerer.new ≡ state_behind (T.answer line answerer.old text.now) answerer.old) }
+    ensures answered { IsAnswered (T.answer line answerer.old text.now) answerer.old answerer.new
+        out.old.items out.new.items end.new result }
     ensures may { OnOk result (end.new ≡ None → T.may (line + 1) answerer.new) }
-    ensures err { OnErr result (out.new.items ≡ out.old.items) }
+    ensures kept { OnErr result (out.new.items ≡ out.old.items) }
 {
     let whole = out.len();
     let result = answerer.answer(line, text, out, end);

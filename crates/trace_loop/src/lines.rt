@@ -98,7 +98,7 @@ impl Model for Lines {
 }
 
 impl Lines {
-    ghost use Rattle.trace_loop.specs.Cut.{IsLine, IsWhole};
+    ghost use Rattle.trace_loop.specs.Cut.{IsHandedOut, IsLine, IsWhole};
 
     /// No byte was taken yet.
     pub(crate) fn new(alloc: Global) -> Lines
@@ -192,10 +192,7 @@ impl Lines {
     fn hand_out(&mut self, n: usize) -> Result<(), NoMemory>
         requires room { self.old.number < 2 ^ 63 }
         requires there { n ≤ length self.old.left }
-        ensures line { OnOk result (self.new.line ≡ self.old.text ++ take n self.old.left) }
-        ensures text { OnOk result (self.new.text ≡ []) }
-        ensures left { OnOk result (self.new.left ≡ drop n self.old.left) }
-        ensures number { OnOk result (self.new.number ≡ self.old.number + 1) }
+        ensures { IsHandedOut self.old self.new n result }
     {
         if self.kept.is_empty() {
             self.hand_out_slice(n);
@@ -227,10 +224,7 @@ impl Lines {
     fn hand_out_joined(&mut self, n: usize) -> Result<(), NoMemory>
         requires room { self.old.number < 2 ^ 63 }
         requires there { n ≤ length self.old.left }
-        ensures line { OnOk result (self.new.line ≡ self.old.text ++ take n self.old.left) }
-        ensures text { OnOk result (self.new.text ≡ []) }
-        ensures left { OnOk result (self.new.left ≡ drop n self.old.left) }
-        ensures number { OnOk result (self.new.number ≡ self.old.number + 1) }
+        ensures { IsHandedOut self.old self.new n result }
     {
         self.joined.clear();
         append(&mut self.joined, &self.kept)?;

@@ -1,29 +1,9 @@
 //! The loop over the lines of a source.
-ghost use Rattle.std.specs.Prelude.{
-  ◌≡◌,
-  ◌≢◌,
-  ℕ,
-  ◌<◌,
-  ◌≤◌,
-  ◌+◌,
-  ◌-◌,
-  ◌^◌,
-  List,
-  [],
-  ◌++◌,
-  ◌⊎◌,
-  Some,
-  None,
-  false,
-  take,
-  IfOk,
-  OnOk,
-  OnErr,
-};
+ghost use Rattle.std.specs.Prelude.{◌≡◌, ◌<◌, ◌≤◌, ◌+◌, ◌^◌, [], ◌++◌, ◌⊎◌, IfOk, OnOk};
 ghost use Rattle.board_io.specs.Faults.{Rose};
 ghost use Rattle.trace_loop.specs.Text.{memory_fault_text};
 ghost use Rattle.trace_loop.specs.Progress.{standing, finished};
-ghost use Rattle.trace_loop.specs.Outcome.{IsSaid, Leaves, Said};
+ghost use Rattle.trace_loop.specs.Outcome.{IsSaid, KeepsSink, Leaves, Said};
 ghost use Rattle.trace_loop.specs.private.Going.{RunEnds, ends_of};
 
 use crate::answerer::{Answerer, answer_line};
@@ -70,9 +50,7 @@ fn answer_fed<E: Drop, T: Answerer<E>, S: Source, K: Sink>(
     ensures over { RunEnds T.answer T.closing answerer.old
         (ends_of (S.input source.old) (K.output sink.old))
         (ends_of (S.input source.new) (K.output sink.new)) result }
-    ensures sink_quiet { result ≢ Ended.SinkFault → (K.output sink.new).done ≡ (K.output sink.old).done }
-    ensures sink_once { (K.output sink.old).done ≡ false → (K.output sink.old).late ≡ false
-        → (K.output sink.new).late ≡ false }
+    ensures sink { KeepsSink Ended.SinkFault result (K.output sink.old) (K.output sink.new) }
 {
     'lines: loop {
         match feed.lines.advance() {
@@ -129,10 +107,7 @@ fn end_input<E: Drop, T: Answerer<E>, K: Sink>(
         (Rose (K.output sink.old).faults (K.output sink.new).faults)
         ⊎ Said Ended.NoMemory result (K.output sink.old).contents (K.output sink.new).contents
         memory_fault_text (Rose (K.output sink.old).faults (K.output sink.new).faults) }
-    ensures sink_well { result ≢ Ended.SinkFault → (K.output sink.new).faults ≡ (K.output sink.old).faults }
-    ensures sink_quiet { result ≢ Ended.SinkFault → (K.output sink.new).done ≡ (K.output sink.old).done }
-    ensures sink_once { (K.output sink.old).done ≡ false → (K.output sink.old).late ≡ false
-        → (K.output sink.new).late ≡ false }
+    ensures sink { KeepsSink Ended.SinkFault result (K.output sink.old) (K.output sink.new) }
     ensures counted { (K.output sink.old).faults ≤ (K.output sink.new).faults }
 {
     match finish(answerer, lines.number() + 1, lines.text(), out) {
