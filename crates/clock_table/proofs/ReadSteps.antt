@@ -1,10 +1,10 @@
 -- The steps of a read, and the clamp, keep the rule.
-use Rattle.std.proofs.Common.{◌≡◌, ◌≢◌, ℕ, suc, ◌+◌, ◌%◌, ◌<◌, ◌≤◌, eqb, List, [], ◌∷◌, ◌++◌, length, get_or, set, refl, ap, sym, ◌∙◌, subst, arith, length-set}
+use Rattle.std.proofs.Common.{◌≡◌, ◌≢◌, ℕ, suc, ◌+◌, ◌%◌, ◌<◌, ◌≤◌, eqb, leb, List, [], ◌∷◌, ◌++◌, length, get_or, set, refl, ap, sym, ◌∙◌, subst, arith, length-set}
 use Rattle.std.proofs.Common.{get_or-set_same, get_or-set_other, Bool, true, false, true≢false, MatchBool, max, Option, Some, None, eq-eqb}
 use Rattle.std.proofs.lemmas.{Bool.eqb-true, Bool.Decides.nat_tests}
 use mathlib.Core.{List.IsPrefix, Option.none, Option.some}
 use lib.ListN.{get_elem?}
-use Rattle.atomic_table.specs.Table.{step, keeps, stepped, Allows}
+use Rattle.atomic_table.specs.Table.{step, keeps, stepped, carried_after, Act, Valid, Allows}
 use Rattle.pvclock_page.specs.{declared.page.Page.Page, Words.page_of}
 use Rattle.board_types.specs.declared.parts.BoardParts.{BoardParts}
 use Rattle.board_history.specs.{Machine.Machine, Machine.machine_of, Machine.page_at, History.board_after, History.version_after, History.May}
@@ -18,7 +18,7 @@ use Rattle.clock_table.specs.Steps.{or_else, number_in, IsQuietEntry, weight, lo
 use Rattle.clock_table.specs.Steps.{noted_in, note_at, noted_page, ReadEnds}
 use Rattle.clock_table.specs.Calls.{IsPass, IsReading, AllNoted, MayEnd}
 use Rattle.clock_table.specs.private.Rule.{is_open, PageKept, ReadKept, ReadingKept, MissesKept, Kept}
-use Rattle.clock_table.specs.private.Plays.{Stays, FirstRead, FieldRead, SecondRead, Raised}
+use Rattle.clock_table.specs.private.Plays.{Stays, FirstRead, FieldRead, SecondRead, Raised, Looked}
 use Rattle.clock_table.proofs.Lists.{set_or, no_field}
 use Rattle.clock_table.proofs.Pages.{page_same, page_shut}
 use Rattle.clock_table.proofs.Keeps.{St, M, later_self, later_same, misses_snoc, loud-append, loud_quiet, log_of, loaded, stay, enter, mine_seen}
@@ -220,3 +220,32 @@ module _ (opening : BoardParts) where
       (λ c. ap (λ (b : BoardParts). page_at b c) (sym (board_after-snoc log e)))
       (get_or-set_same s.words 16 (max n k) 0 (omega arith) ∙ greatest) in
       (heard me.0 (r.each id me.0 at).seen.begins.0 e, keeps, tt, t.0, (refl, t.1))
+
+  -- the clamp word is loaded: one that is as great is left as it is
+  look_kept : (slots id cpu k : ℕ) (me : M) → IsPass me.0 → me.0.live ≡ true
+      → Reads (machine_of opening) (last_of (entries_of (number_in me.0) me.0.seen)) cpu k
+      → (s : St) → Kept opening s → length s.homes ≡ slots → get_elem? s.views id ≡ some me.0 → get_or s.words 16 0 < 18446744073709551616
+      → (b : Bool) → leb k (get_or s.words 16 0) ≡ b
+      → (w : View) × (a : Act (Unit {0})) × Valid s.homes me.1 a × Kept opening (stepped s 16 (get_or s.words 16 0) id me.1 w a)
+      × (carried_after me.1 a ≡ me.1) × MatchBool b (Hears (Clamp (number_in me.0) cpu k (get_or s.words 16 0)) me.0 w) (w ≡ me.0)
+  look_kept slots id cpu k me pass lives reads s r homes at small true is =
+      let t = raises slots id cpu k me pass lives reads s r homes at small in
+      let le : k ≤ get_or s.words 16 0 = grind (arith, nat_tests) in (
+        t.0,
+        t.1,
+        t.2,
+        subst (λ (z : ℕ). Kept opening (stepped s 16 z id me.1 t.0 t.1)) (omega arith) t.3,
+        t.4.0,
+        subst (λ (z : ℕ). Hears (Clamp (number_in me.0) cpu k z) me.0 t.0) (omega arith) t.4.1,
+      )
+  look_kept slots id cpu k me pass lives reads s r homes at small false is =
+      let f = r.each id me.0 at in
+      (me.0, keeps, tt, glance s r 16 id me me.0.read me.0.misses at pass f.read f.misses, refl, refl)
+
+  pub looks : (slots id cpu k : ℕ) (me : M) → IsPass me.0 → me.0.live ≡ true
+      → Reads (machine_of opening) (last_of (entries_of (number_in me.0) me.0.seen)) cpu k
+      → Allows (Kept opening) slots id me 16 (λ n. n) (Looked cpu k (step slots 16 0 0 none) me)
+  looks slots id cpu k me pass lives reads s r homes at small =
+      let t = look_kept slots id cpu k me pass lives reads s r homes at small (leb k (get_or s.words 16 0)) refl in
+      let ends : Looked cpu k (step {S = Unit {0}} slots 16 0 0 none) me (get_or s.words 16 0) (t.0, carried_after me.1 t.1) = (t.4, t.5) in
+      (t.0, t.1, t.2, t.3, ends)

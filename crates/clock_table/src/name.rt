@@ -41,7 +41,7 @@ impl Ask for Brand {
     ghost entry = { no_entry };
 }
 
-/// A number that goes into the entry: a count of the host's counter, or a processor.
+/// A number that goes into the entry: a count of the host's counter, a processor, or a reading of the clock.
 pub trait Tag {
     ghost use Rattle.std.specs.Prelude.{ℕ};
 

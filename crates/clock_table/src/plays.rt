@@ -108,6 +108,17 @@ impl<E: Tag> Play<(), View> for Raises<E> {
     ghost then = { Raised E.tag };
 }
 
+/// A load of the clamp word: the entry of a clamp, where the word is no less than the reading.
+pub struct Looks<E, F> {
+    of: PhantomData<(E, F)>,
+}
+
+impl<E: Tag, F: Tag> Play<(), View> for Looks<E, F> {
+    ghost use Rattle.clock_table.specs.private.Plays.{Looked};
+
+    ghost then = { Looked E.tag F.tag };
+}
+
 /// A load of the front word, which ends a meet.
 pub struct Parts;
 

@@ -7,6 +7,8 @@ ghost use Rattle.std.specs.Prelude.{
   ◌*◌,
   ◌++◌,
   ◌||◌,
+  nat_le,
+  MatchBool,
   ℕ,
   [],
   ◌∷◌,
@@ -63,7 +65,7 @@ use crate::call::Call;
 use crate::field::Field;
 use crate::name::{Ask, Name, Tag};
 use crate::plays::{
-    Begins, ClockRule, Fields, Finishes, Firsts, Meets, Names, NewPass, Parts, Puts, Raises,
+    Begins, ClockRule, Fields, Finishes, Firsts, Looks, Meets, Names, NewPass, Parts, Puts, Raises,
     Seconds, ThePen,
 };
 use crate::view::View;
@@ -275,13 +277,18 @@ impl<N: Name> ClockTable<N> {
         second_as::<N, Brand>(self, seat, page, h)
     }
 
-    /// Raises the clamp word to a reading, and answers the greater of the two.
+    /// Raises the clamp word to a reading, and answers the greater of the two. Where the word is as great already it is
+    /// only loaded: a maximum would take its cache line from the other threads, and change nothing.
     pub fn raise(&self, seat: &mut ClockSeat<N>, cpu: u8, x: u64) -> u64
         requires pass { IsPass seat.old }
         requires reads { Reads (machine_of N.state)
             (last_of (entries_of (number_in seat.old) seat.old.seen)) cpu x }
         ensures { Hears (Clamp (number_in seat.old) cpu x result) seat.old seat.new }
     {
+        let found = look_as::<N, Brand, Brand>(self, seat, cpu, x);
+        if x <= found {
+            return found;
+        }
         raise_as::<N, Brand>(self, seat, cpu, x)
     }
 }
@@ -355,6 +362,28 @@ fn second_as<N: Name, E: Tag>(
         .table
         .shared
         .load::<Seconds<N, E>>(&mut seat.seat, place(page, 0))
+}
+
+fn look_as<N: Name, E: Tag, F: Tag>(
+    table: &ClockTable<N>,
+    seat: &mut ClockSeat<N>,
+    cpu: u8,
+    x: u64,
+) -> u64
+    requires cpu { cpu ≡ E.tag }
+    requires reading { x ≡ F.tag }
+    requires pass { IsPass seat.old }
+    requires reads { Reads (machine_of N.state)
+        (last_of (entries_of (number_in seat.old) seat.old.seen)) cpu x }
+    ensures { MatchBool (nat_le x result)
+        (Hears (Clamp (number_in seat.old) cpu x result) seat.old seat.new) (seat.new ≡ seat.old) }
+{
+    let _ = cpu;
+    let _ = x;
+    table
+        .table
+        .shared
+        .load::<Looks<E, F>>(&mut seat.seat, CLAMP)
 }
 
 fn raise_as<N: Name, E: Tag>(table: &ClockTable<N>, seat: &mut ClockSeat<N>, cpu: u8, x: u64) -> u64

@@ -188,6 +188,10 @@ impl Pages {
 
     /// Raises the greatest reading to this one, as one atomic maximum, and gives the greater of the two.
     fn raise(&self, reading: u64) -> u64 {
+        let found = self.greatest.0[0].load(SeqCst);
+        if reading <= found {
+            return found; // a maximum would take the cache line from the other threads
+        }
         self.greatest.0[0].fetch_max(reading, SeqCst).max(reading)
     }
 }

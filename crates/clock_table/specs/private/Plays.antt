@@ -1,5 +1,5 @@
 -- What each kind of step shows its seat, by the word that it steps on.
-use Rattle.std.specs.Prelude.{◌≡◌, ℕ, suc, ◌<◌, ◌≤◌, max, [], Some, None, false}
+use Rattle.std.specs.Prelude.{◌≡◌, ℕ, suc, ◌<◌, ◌≤◌, nat_le, max, MatchBool, [], Some, None, false}
 use Rattle.atomic_table.specs.Table.{Me, Step}
 use Rattle.board_history.specs.History.{version_after}
 use Rattle.board_history.specs.declared.entry.Entry.{Entry}
@@ -69,6 +69,12 @@ SecondRead cpus h st m n m' =
 abbrev pub Raised : ℕ → At → Sat → ℕ → Sat → Type 0
 Raised cpu st m n m' =
     (m'.1 ≡ m.1) × Hears (Clamp (number_in m.0) cpu st.first (max st.first n)) m.0 m'.0
+
+-- the clamp word is loaded: where it is no less than a reading, that is its clamp
+abbrev pub Looked : ℕ → ℕ → At → Sat → ℕ → Sat → Type 0
+Looked cpu x st m n m' =
+    (m'.1 ≡ m.1) × MatchBool (nat_le x n) (Hears (Clamp (number_in m.0) cpu x n) m.0 m'.0)
+    (m'.0 ≡ m.0)
 
 -- a meet has ended
 abbrev pub Parted : At → Sat → ℕ → Sat → Type 0
