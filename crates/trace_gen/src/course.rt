@@ -1,5 +1,5 @@
 //! Which line of a generated trace comes next.
-ghost use Rattle.std.specs.Prelude.{◌≡◌, ◌<◌, ◌++◌, [], length};
+ghost use Rattle.std.specs.Prelude.{◌≡◌, ◌++◌, []};
 
 use crate::draws::Draws;
 use crate::piece::Piece;
@@ -39,7 +39,7 @@ pub(crate) struct Course {
 }
 
 impl Course {
-    ghost use Rattle.trace_gen.specs.private.Course.{text_behind, IsCourse};
+    ghost use Rattle.trace_gen.specs.private.Course.{text_behind, IsCourse, IsMade};
 
     /// Makes the next lines; after the last one there are none.
     pub(crate) fn advance(&mut self) -> Piece
@@ -63,9 +63,7 @@ impl Course {
     fn enable_next(&mut self) -> Piece
         requires course { IsCourse self.old }
         requires stage { self.old.stage ≡ Stage.Enabling }
-        ensures text { text_behind self.old ≡ result ++ text_behind self.new }
-        ensures some { 0 < length result }
-        ensures kept { IsCourse self.new }
+        ensures { IsMade self.old self.new result }
     {
         if self.enabled == self.cpus {
             self.stage = Stage::Drawing;
@@ -80,9 +78,7 @@ impl Course {
     fn draw_next(&mut self) -> Piece
         requires course { IsCourse self.old }
         requires stage { self.old.stage ≡ Stage.Drawing }
-        ensures text { text_behind self.old ≡ result ++ text_behind self.new }
-        ensures some { 0 < length result }
-        ensures kept { IsCourse self.new }
+        ensures { IsMade self.old self.new result }
     {
         if self.left == 0 {
             self.stage = Stage::Ended;

@@ -1,5 +1,5 @@
 -- What is still to come of a trace, after the lines that were made.
-use Rattle.std.specs.Prelude.{ℕ, ◌+◌, ◌-◌, ◌*◌, ◌<◌, ◌≤◌, List, [], ◌++◌}
+use Rattle.std.specs.Prelude.{◌≡◌, ℕ, ◌+◌, ◌-◌, ◌*◌, ◌<◌, ◌≤◌, List, [], ◌++◌, length}
 use Rattle.trace_gen.specs.Text.{records_text, enables_text, header_text, start_text, end_text}
 use Rattle.trace_gen.specs.declared.course.Course.{Course}
 use Rattle.trace_gen.specs.declared.course.Stage.{Stage}
@@ -30,3 +30,9 @@ pub record IsCourse (c : Course) : Type 0 where
   pub enabled : c.enabled ≤ c.cpus
   pub records : c.draws.made + c.left ≤ 200000
   pub h : c.draws.h ≤ 100000 * c.draws.made
+
+-- the next lines were made
+pub record IsMade (old new : Course) (lines : List ℕ) : Type 0 where
+  pub text : text_behind old ≡ lines ++ text_behind new
+  pub some : 0 < length lines
+  pub kept : IsCourse new
