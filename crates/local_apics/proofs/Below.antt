@@ -15,7 +15,7 @@ use Rattle.local_apics.specs.Parts.{AreApicPlaces, is_idle}
 use Rattle.local_apics.specs.Places.{timer_at, line_at, no_tsc}
 use Rattle.local_apics.specs.Nanosecond.{run, looked_all, looks_due, tsc_by_time, tsc_in}
 use Rattle.local_apics.specs.private.Span.{length_of}
-use Rattle.local_apics.specs.private.Stretch.{IsRunBelow, IsLookedBelow, ticks_in}
+use Rattle.local_apics.specs.private.Stretch.{IsRunAt, IsLookedAt, IsRunBelow, IsLookedBelow, ticks_in}
 use Rattle.local_apics.proofs.Done.{done-none, done-more, done-all}
 use Rattle.local_apics.proofs.Product.{runs}
 use Rattle.local_apics.proofs.Joins.{looks-parts}
@@ -39,18 +39,15 @@ pub run-start : (k : ℕ) (tsc : ℕ → ℕ → ℕ) (from n : ℕ) (a : ApicsP
 run-start k tsc from n a are idle =
     done-none k _ _ a are (λ j less. timer-idle tsc from n j a (idle j less)) (λ j less. line-idle tsc from n j a (idle j less))
 
-pub run-more : (k : ℕ) (tsc : ℕ → ℕ → ℕ) (from n : ℕ) (a b c : ApicsParts) → IsRunBelow k tsc from n a b → AreApicPlaces c
-    → timer_at k c ≡ nanoseconds (tsc k) from n (timer_at k b)
-    → line_at k c ≡ ticked_times (ticks_in (tsc k) from (timer_at k b) n) (line_at k b)
-    → ((j : ℕ) → (j ≡ k → ⊥) → timer_at j c ≡ timer_at j b) → ((j : ℕ) → (j ≡ k → ⊥) → line_at j c ≡ line_at j b)
+pub run-more : (k : ℕ) (tsc : ℕ → ℕ → ℕ) (from n : ℕ) (a b c : ApicsParts) → IsRunBelow k tsc from n a b → IsRunAt k (tsc k) from n b c
     → IsRunBelow (k + 1) tsc from n a c
-run-more k tsc from n a b c done are timer line timers lines =
+run-more k tsc from n a b c done more =
     let same : timer_at k b ≡ timer_at k a = done.other_timers k (omega arith) in
-    done-more k _ _ a b c done are
-    (timer ∙ ap (nanoseconds (tsc k) from n) same)
-    (line ∙ ap (λ (p : ApicParts). ticked_times (ticks_in (tsc k) from p n) (line_at k b)) same
+    done-more k _ _ a b c done more.joined
+    (more.timer ∙ ap (nanoseconds (tsc k) from n) same)
+    (more.line ∙ ap (λ (p : ApicParts). ticked_times (ticks_in (tsc k) from p n) (line_at k b)) same
     ∙ ap (ticked_times (ticks_in (tsc k) from (timer_at k a) n)) (done.other_lines k (omega arith)))
-    timers lines
+    more.other_timers more.other_lines
 
 -- where the other timers are idle it is whole
 pub run-end : (k : ℕ) (tsc : ℕ → ℕ → ℕ) (from n : ℕ) (a b : ApicsParts) → IsRunBelow k tsc from n a b
@@ -74,17 +71,15 @@ span-run span clock tscs from to a e f g =
     ∙ ap (λ (x : ℕ). run (λ k. tsc_in clock (get_or tscs k no_tsc)) from (x - from) a) g
 
 -- a look at one timer more
-pub looked-more : (k : ℕ) (tsc : ℕ → ℕ) (a b c : ApicsParts) → IsLookedBelow k tsc a b → AreApicPlaces c
-    → timer_at k c ≡ looked (tsc k) (timer_at k b) → line_at k c ≡ ticked_where (looks_due (tsc k) (timer_at k b)) (line_at k b)
-    → ((j : ℕ) → (j ≡ k → ⊥) → timer_at j c ≡ timer_at j b) → ((j : ℕ) → (j ≡ k → ⊥) → line_at j c ≡ line_at j b)
+pub looked-more : (k : ℕ) (tsc : ℕ → ℕ) (a b c : ApicsParts) → IsLookedBelow k tsc a b → IsLookedAt k (tsc k) b c
     → IsLookedBelow (k + 1) tsc a c
-looked-more k tsc a b c done are timer line timers lines =
+looked-more k tsc a b c done more =
     let same : timer_at k b ≡ timer_at k a = done.other_timers k (omega arith) in
-    done-more k _ _ a b c done are
-    (timer ∙ ap (looked (tsc k)) same)
-    (line ∙ ap (λ (p : ApicParts). ticked_where (looks_due (tsc k) p) (line_at k b)) same
+    done-more k _ _ a b c done more.joined
+    (more.timer ∙ ap (looked (tsc k)) same)
+    (more.line ∙ ap (λ (p : ApicParts). ticked_where (looks_due (tsc k) p) (line_at k b)) same
     ∙ ap (ticked_where (looks_due (tsc k) (timer_at k a))) (done.other_lines k (omega arith)))
-    timers lines
+    more.other_timers more.other_lines
 
 -- a look at an idle timer
 pub idle-unreached : (x : ℕ) (p : ApicParts) → is_idle p ≡ true → is_reached p.deadline x ≡ false
@@ -119,4 +114,6 @@ looked-end k tsc a b done idle = looked-rest k tsc a b done (λ j after less.
 
 -- a look where no deadline is armed
 pub looked-none : (tsc : ℕ → ℕ) (a : ApicsParts) → AreApicPlaces a → ((j : ℕ) → j < 64 → (timer_at j a).deadline ≡ 0) → a ≡ looked_all tsc a
-looked-none tsc a are none = looked-rest 0 tsc a a (looked-start 0 tsc a are (λ j less. absurd (omega (arith, less)))) (λ j after less. ap (λ (d : ℕ). is_reached d (tsc j)) (none j less))
+looked-none tsc a are none =
+    looked-rest 0 tsc a a (looked-start 0 tsc a are (λ j less. absurd (omega (arith, less)))) (λ j after less.
+    ap (λ (d : ℕ). is_reached d (tsc j)) (none j less))

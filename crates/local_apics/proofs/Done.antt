@@ -1,14 +1,51 @@
 -- What is done at one place after the other.
-use Rattle.std.proofs.Common.{◌≡◌, ℕ, ◌+◌, ◌<◌, ◌≤◌, ◌⊎◌, length, refl, sym, ap, subst, ◌∙◌, inl, inr, arith}
+use Rattle.std.proofs.Common.{◌≡◌, ℕ, ◌+◌, ◌<◌, ◌≤◌, ◌⊎◌, length, set, refl, sym, ap, subst, ◌∙◌, inl, inr, arith}
 use Rattle.std.proofs.lemmas.Bool.{cases_eq, cases_lt}
+use Rattle.std.proofs.lemmas.List.{get_or-set_same, get_or-set_other, length-set}
 use Rattle.tick_policy.specs.declared.parts.TickParts.{TickParts}
 use Rattle.lapic_timer.specs.declared.parts.ApicParts.{ApicParts}
 use Rattle.local_apics.specs.declared.parts.ApicsParts.{ApicsParts}
 use Rattle.local_apics.specs.Parts.{AreApicPlaces}
 use Rattle.local_apics.specs.Places.{each, no_timer, no_line, timer_at, line_at}
-use Rattle.local_apics.specs.private.Stretch.{IsDoneBelow}
+use Rattle.local_apics.specs.private.Stretch.{IsDoneAt, IsDoneBelow}
 use Rattle.local_apics.proofs.Places.{each-in, same_places, length-each}
 use Rattle.local_apics.proofs.Product.{both, same_parts}
+
+-- one processor whose timer and line stay
+pub done-nothing : (k : ℕ) (p : ApicParts) (l : TickParts) (a : ApicsParts) → AreApicPlaces a → timer_at k a ≡ p → line_at k a ≡ l → IsDoneAt k p l a a
+done-nothing k p l a are e f = record {
+  timer = e;
+  line = f;
+  other_timers = λ j other. refl;
+  other_lines = λ j other. refl;
+  joined = are;
+}
+
+-- .. whose timer is put in its place
+pub put-timer : (k : ℕ) (p q : ApicParts) (l : TickParts) (a b : ApicsParts) → k < 64 → AreApicPlaces a → b ≡ both (set a.timers k p) a.lines
+    → p ≡ q → line_at k a ≡ l → IsDoneAt k q l a b
+put-timer k p q l a b less are is same stays = record {
+  timer = ap (timer_at k) is ∙ get_or-set_same a.timers k p no_timer (omega (arith, less, are.timers)) ∙ same;
+  line = ap (line_at k) is ∙ stays;
+  other_timers = λ j other. ap (timer_at j) is ∙ get_or-set_other a.timers k j p no_timer other;
+  other_lines = λ j other. ap (line_at j) is;
+  joined = subst AreApicPlaces (sym is) (record {
+    timers = length-set a.timers k p ∙ are.timers;
+    lines = are.lines;
+    policy = are.policy;
+  });
+}
+
+-- .. and its line too
+pub put-both : (k : ℕ) (p q : ApicParts) (l m : TickParts) (a b : ApicsParts) → k < 64 → AreApicPlaces a → AreApicPlaces b
+    → b ≡ both (set a.timers k p) (set a.lines k l) → p ≡ q → l ≡ m → IsDoneAt k q m a b
+put-both k p q l m a b less are after is same due = record {
+  timer = ap (timer_at k) is ∙ get_or-set_same a.timers k p no_timer (omega (arith, less, are.timers)) ∙ same;
+  line = ap (line_at k) is ∙ get_or-set_same a.lines k l no_line (omega (arith, less, are.lines)) ∙ due;
+  other_timers = λ j other. ap (timer_at j) is ∙ get_or-set_other a.timers k j p no_timer other;
+  other_lines = λ j other. ap (line_at j) is ∙ get_or-set_other a.lines k j l no_line other;
+  joined = after;
+}
 
 -- where nothing is to be done at the first places
 pub done-none : (n : ℕ) (f : ℕ → ApicParts → ApicParts) (g : ℕ → TickParts → TickParts) (a : ApicsParts) → AreApicPlaces a

@@ -44,7 +44,9 @@ power_on-idle cpus j = idle cpus (64 - cpus) j
 
 -- and so none waits for a deadline
 pub power_on-unset : (cpus j : ℕ) → no_deadline (get_or (timers_at_power_on cpus) j no_timer) ≡ true
-power_on-unset cpus j = eq-eqb (get_or (timers_at_power_on cpus) j no_timer).deadline 0 (idle_parts (get_or (timers_at_power_on cpus) j no_timer) (power_on-idle cpus j)).1
+power_on-unset cpus j =
+    eq-eqb (get_or (timers_at_power_on cpus) j no_timer).deadline 0
+    (idle_parts (get_or (timers_at_power_on cpus) j no_timer) (power_on-idle cpus j)).1
 
 pub no_lines-policy : (m j : ℕ) → (get_or (replicate m no_line) j no_line).policy ≡ Discard
 no_lines-policy zero j = refl

@@ -30,18 +30,18 @@ module _ (span : Span) (tsc : Tsc) (is : IsSpan span) where
       → (nanoseconds tsc_then span.from (length_of span) p ≡ record p { deadline = 0 })
       × (ticks_in tsc_then span.from p (length_of span) ≡ ticks_of (record p { deadline = 0 }) 1)
   reached-in t p deadline after within reached =
-      reached-some tsc_then span.from (length_of span) t p deadline after (omega (arith, within, is.order)) reached
+      reached-some tsc_then span.from (length_of span) t p deadline after (omega (arith, within, is.run.order)) reached
 
   -- .. at the first, or at the last
   pub reached-first : (p : ApicParts) → mode_of p.lvt ≡ 2 → is_reached p.deadline (tsc_then (span.from + 1)) ≡ true
       → (nanoseconds tsc_then span.from (length_of span) p ≡ record p { deadline = 0 })
       × (ticks_in tsc_then span.from p (length_of span) ≡ ticks_of (record p { deadline = 0 }) 1)
-  reached-first p deadline reached = reached-in (span.from + 1) p deadline (omega arith) (omega (arith, is.order)) reached
+  reached-first p deadline reached = reached-in (span.from + 1) p deadline (omega arith) (omega (arith, is.run.order)) reached
 
   pub reached-last : (p : ApicParts) → mode_of p.lvt ≡ 2 → is_reached p.deadline (tsc_then span.to) ≡ true
       → (nanoseconds tsc_then span.from (length_of span) p ≡ record p { deadline = 0 })
       × (ticks_in tsc_then span.from p (length_of span) ≡ ticks_of (record p { deadline = 0 }) 1)
-  reached-last p deadline reached = reached-in span.to p deadline is.order (omega arith) reached
+  reached-last p deadline reached = reached-in span.to p deadline is.run.order (omega arith) reached
 
   -- .. or nowhere
   pub reached-nowhere : (p : ApicParts) → mode_of p.lvt ≡ 2 → is_reached p.deadline (tsc_then (span.from + 1)) ≡ false
@@ -50,8 +50,9 @@ module _ (span : Span) (tsc : Tsc) (is : IsSpan span) where
   reached-nowhere p deadline first last =
       reached-none tsc_then span.from (length_of span) p deadline (λ t after within.
       sym (reached-is span.clock.anchor (ratio_in span.clock) tsc p.deadline t)
-      ∙ reached-ends span.clock.anchor span.clock.guest_khz tsc p.deadline span.from span.to t is.guest is.host is.anchored (omega (arith, is.in_range)) after
-      (omega (arith, within, is.order))
+      ∙ reached-ends span.clock.anchor span.clock.guest_khz tsc p.deadline span.from span.to t is.run.ranges.guest
+      is.run.ranges.host is.run.anchored (omega (arith, is.run.ranges.in_range)) after
+      (omega (arith, within, is.run.order))
       (reached-is span.clock.anchor (ratio_in span.clock) tsc p.deadline (span.from + 1) ∙ first)
       (reached-is span.clock.anchor (ratio_in span.clock) tsc p.deadline span.to ∙ last))
 
@@ -61,8 +62,8 @@ module _ (span : Span) (tsc : Tsc) (is : IsSpan span) where
   reached-nowhere_far p deadline short far =
       reached-none tsc_then span.from (length_of span) p deadline (λ t after within.
       sym (reached-is span.clock.anchor (ratio_in span.clock) tsc p.deadline t)
-      ∙ reached-far span.clock.anchor span.clock.guest_khz tsc p.deadline span.from span.to t is.guest is.host short after
-      (omega (arith, within, is.order)) far)
+      ∙ reached-far span.clock.anchor span.clock.guest_khz tsc p.deadline span.from span.to t is.run.ranges.guest is.run.ranges.host short after
+      (omega (arith, within, is.run.order)) far)
 
   -- where the last doesn't, the first decides
   pub first-decides : (p : ApicParts) → mode_of p.lvt ≡ 2 → is_reached p.deadline (tsc_then span.to) ≡ false

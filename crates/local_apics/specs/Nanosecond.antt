@@ -1,7 +1,9 @@
 -- Nanoseconds of all timers, and what they make of the tick lines. Sections are those of Intel's
 -- Software Developer's Manual, volume 3; (own) marks the project's own choices.
-use Rattle.std.specs.Prelude.{ℕ, zero, suc, ◌+◌, ◌-◌, Bool, ◌&&◌, not, if◌then◌else◌, List}
-use Rattle.std.specs.Prelude.{slice_index_or, map}
+use Rattle.std.specs.Prelude.{ℕ, zero, suc, ◌+◌, ◌-◌, ◌<◌, ◌≤◌, Bool, ◌&&◌, not, if◌then◌else◌}
+use Rattle.std.specs.Prelude.{List, slice_index_or, map}
+use Rattle.clk_units.specs.Ranges.{IsKhz}
+use Rattle.clk_units.specs.declared.ranges.TheConstants.{RANGE_NS}
 use Rattle.board_types.specs.declared.parts.ProcessorParts.{ProcessorParts}
 use Rattle.tsc_scale.specs.declared.Tsc.{Tsc}
 use Rattle.tsc_scale.specs.Ratio.{ratio_of}
@@ -49,6 +51,13 @@ looked_all tsc a = record {
 -- whether a timer that is left alone after nanosecond `from` ticks in nanosecond t
 abbrev pub ticks_at : (ℕ → ℕ) → ℕ → ApicParts → ℕ → Bool
 ticks_at tsc from p t = tick_with (tsc t) (nanoseconds tsc from (t - from - 1) p)
+
+-- a clock's rates are in range, and so are the nanoseconds from `from` to `to`, which are in order
+pub record AreInRange (clock : TscClock) (from to : ℕ) : Type 0 where
+  pub order : from ≤ to
+  pub in_range : to < RANGE_NS
+  pub host : IsKhz clock.anchor.khz
+  pub guest : IsKhz clock.guest_khz
 
 -- the numbers of the TSCs of these processors
 abbrev pub tscs_of : List ProcessorParts → List Tsc

@@ -18,6 +18,7 @@ ghost use Rattle.clk_units.specs.declared.ranges.TheConstants.{RANGE_NS};
 ghost use Rattle.lapic_timer.specs.Deadline.{IsFirstAt};
 ghost use Rattle.lapic_timer.specs.Registers.{register_read};
 ghost use Rattle.local_apics.specs.Nanosecond.{
+  AreInRange,
   run,
   looked_all,
   ticks_at,
@@ -29,6 +30,7 @@ ghost use Rattle.local_apics.specs.Parts.{AreIdle, AreApicPlaces, AreApicsOf, is
 ghost use Rattle.local_apics.specs.Parts.{timers_at_power_on};
 ghost use Rattle.local_apics.specs.Places.{timer_at, line_at, no_timer, no_line};
 ghost use Rattle.local_apics.specs.Registers.{written_at, eoi_at};
+ghost use Rattle.local_apics.specs.private.Span.{IsRun};
 
 use crate::parts::{ApicsParts, NO_PARTS};
 use crate::place::tsc_of;
@@ -150,10 +152,7 @@ impl LocalApics {
     /// Runs all timers from nanosecond `from` to `to`, each with the TSC of its processor: these are
     /// the single nanoseconds between, one after the other.
     pub fn run(&mut self, clock: &TscClock, processors: &[ProcessorParts; 64], from: u64, to: u64)
-        requires order { from ≤ to }
-        requires in_range { to < RANGE_NS }
-        requires host { IsKhz clock.now.anchor.khz }
-        requires guest { IsKhz clock.now.guest_khz }
+        requires ranges { AreInRange clock.now from to }
         requires anchored { clock.now.anchor.base_ns ≤ from }
         requires room { (k : ℕ) → k < 64 → (line_at k self.old).counts.due + (to - from) < 2 ^ 63 }
         ensures { self.new
@@ -191,11 +190,7 @@ impl LocalApics {
     /// room for it.
     #[inline(never)]
     fn run_each(&mut self, clock: &TscClock, processors: &[ProcessorParts; 64], from: u64, to: u64)
-        requires order { from < to }
-        requires in_range { to < RANGE_NS }
-        requires host { IsKhz clock.now.anchor.khz }
-        requires guest { IsKhz clock.now.guest_khz }
-        requires anchored { clock.now.anchor.base_ns ≤ from }
+        requires run { IsRun clock.now from to }
         requires room { (k : ℕ) → k < 64 → (line_at k self.old).counts.due + (to - from) < 2 ^ 63 }
         ensures { self.new
             ≡ run (tsc_by_time clock.now (tscs_of processors.now)) from (to - from) self.old }
@@ -276,10 +271,7 @@ impl LocalApics {
     /// no access comes: it fires and isn't masked. `tsc` has the numbers of that processor.
     pub fn next_tick(&self, cpu: u8, clock: &TscClock, tsc: Tsc, from: u64, to: u64) -> Option<u64>
         requires place { cpu < 64 }
-        requires order { from ≤ to }
-        requires in_range { to < RANGE_NS }
-        requires host { IsKhz clock.now.anchor.khz }
-        requires guest { IsKhz clock.now.guest_khz }
+        requires ranges { AreInRange clock.now from to }
         requires anchored { clock.now.anchor.base_ns ≤ from }
         ensures { IsFirstAt (ticks_at (tsc_in clock.now tsc) from (timer_at cpu self.now))
             from to result }

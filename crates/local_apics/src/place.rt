@@ -18,16 +18,14 @@ ghost use Rattle.std.specs.Prelude.{
 };
 ghost use Rattle.tsc_scale.specs.Tsc.{tsc_at};
 ghost use Rattle.tick_policy.specs.Line.{ticked_times, acked};
-ghost use Rattle.tick_policy.specs.Stretch.{ticked_where};
-ghost use Rattle.lapic_timer.specs.Deadline.{guest_count_at, looked};
+ghost use Rattle.lapic_timer.specs.Deadline.{guest_count_at};
 ghost use Rattle.lapic_timer.specs.Parts.{mode_of};
-ghost use Rattle.lapic_timer.specs.Stretch.{nanoseconds};
-ghost use Rattle.local_apics.specs.Nanosecond.{looks_due, tscs_of, tsc_in};
+ghost use Rattle.local_apics.specs.Nanosecond.{tscs_of, tsc_in};
 ghost use Rattle.local_apics.specs.Parts.{AreApicPlaces, IsPlaceOf, is_idle};
 ghost use Rattle.local_apics.specs.Places.{timer_at, line_at, no_tsc};
 ghost use Rattle.local_apics.specs.private.Mask.{no_deadline};
 ghost use Rattle.local_apics.specs.private.Span.{IsSpan, length_of};
-ghost use Rattle.local_apics.specs.private.Stretch.{ticks_in};
+ghost use Rattle.local_apics.specs.private.Stretch.{IsRunAt, IsLookedAt};
 
 use crate::LocalApics;
 use crate::parts::{is_no_line, is_no_timer};
@@ -51,7 +49,8 @@ impl LocalApics {
     /// Whether the timer of a processor is idle, by its bit of the mask.
     fn is_idle(&self, cpu: u8) -> bool
         requires { cpu < 64 }
-        ensures { result ≡ is_idle (timer_at cpu self.now) }
+        ensures value { result ≡ is_idle (timer_at cpu self.now) }
+        ensures joined { AreApicPlaces self.now }
     {
         !bit(u32::from(cpu), self.armed)
     }
@@ -148,63 +147,19 @@ impl LocalApics {
         }
     }
 
-    /// Runs the timer of one processor, which waits for no deadline.
+    /// Runs the timer of one processor, which waits for no deadline, whatever the TSC. Mostly it doesn't fire.
     #[inline(always)]
     pub(crate) fn run_counting_at(&mut self, cpu: u8, n: u64)
         requires place { cpu < 64 }
         requires none { (timer_at cpu self.old).deadline ≡ 0 }
         requires room { (line_at cpu self.old).counts.due + n < 2 ^ 63 }
-        ensures timer { (tsc : ℕ → ℕ) (from : ℕ) → timer_at cpu self.new
-            ≡ nanoseconds tsc from n (timer_at cpu self.old) }
-        ensures line { (tsc : ℕ → ℕ) (from : ℕ) → line_at cpu self.new
-            ≡ ticked_times (ticks_in tsc from (timer_at cpu self.old) n) (line_at cpu self.old) }
-        ensures other_timers { (k : ℕ) → k ≢ cpu → timer_at k self.new ≡ timer_at k self.old }
-        ensures other_lines { (k : ℕ) → k ≢ cpu → line_at k self.new ≡ line_at k self.old }
-        ensures joined { AreApicPlaces self.new }
+        ensures { (tsc : ℕ → ℕ) (from : ℕ) → IsRunAt cpu tsc from n self.old self.new }
     {
-        let timer = self.timer(cpu);
         if self.is_idle(cpu) {
             return;
         }
-        let _parts = timer.parts();
-        self.run_counting(cpu, n);
-    }
-
-    /// Runs the timer of one processor, whose TSC is `tsc`.
-    pub(crate) fn run_at(&mut self, cpu: u8, span: &Span, tsc: Tsc)
-        requires place { cpu < 64 }
-        requires span { IsSpan span.now }
-        requires room { (line_at cpu self.old).counts.due + length_of span.now < 2 ^ 63 }
-        ensures timer { timer_at cpu self.new ≡ nanoseconds (tsc_in span.now.clock tsc)
-            span.now.from (length_of span.now) (timer_at cpu self.old) }
-        ensures line { line_at cpu self.new ≡ ticked_times (ticks_in (tsc_in span.now.clock tsc)
-            span.now.from (timer_at cpu self.old) (length_of span.now)) (line_at cpu self.old) }
-        ensures other_timers { (k : ℕ) → k ≢ cpu → timer_at k self.new ≡ timer_at k self.old }
-        ensures other_lines { (k : ℕ) → k ≢ cpu → line_at k self.new ≡ line_at k self.old }
-        ensures joined { AreApicPlaces self.new }
-    {
-        if self.timer(cpu).deadline() != 0 {
-            self.run_waiting(cpu, span, tsc);
-        } else {
-            self.run_counting_at(cpu, span.length());
-        }
-    }
-
-    /// The same where the timer counts, whatever the TSC. Mostly it doesn't fire.
-    #[inline(always)]
-    fn run_counting(&mut self, cpu: u8, n: u64)
-        requires place { cpu < 64 }
-        requires mode { mode_of (timer_at cpu self.old).lvt ≢ 2 }
-        requires room { (line_at cpu self.old).counts.due + n < 2 ^ 63 }
-        ensures timer { (tsc : ℕ → ℕ) (from : ℕ) → timer_at cpu self.new
-            ≡ nanoseconds tsc from n (timer_at cpu self.old) }
-        ensures line { (tsc : ℕ → ℕ) (from : ℕ) → line_at cpu self.new
-            ≡ ticked_times (ticks_in tsc from (timer_at cpu self.old) n) (line_at cpu self.old) }
-        ensures other_timers { (k : ℕ) → k ≢ cpu → timer_at k self.new ≡ timer_at k self.old }
-        ensures other_lines { (k : ℕ) → k ≢ cpu → line_at k self.new ≡ line_at k self.old }
-        ensures joined { AreApicPlaces self.new }
-    {
         let mut timer = self.timer(cpu);
+        let _parts = timer.parts();
         if timer.glide(n) {
             self.put_alike(cpu, timer);
         } else {
@@ -218,13 +173,7 @@ impl LocalApics {
         requires place { cpu < 64 }
         requires mode { mode_of (timer_at cpu self.old).lvt ≢ 2 }
         requires room { (line_at cpu self.old).counts.due + n < 2 ^ 63 }
-        ensures timer { (tsc : ℕ → ℕ) (from : ℕ) → timer_at cpu self.new
-            ≡ nanoseconds tsc from n (timer_at cpu self.old) }
-        ensures line { (tsc : ℕ → ℕ) (from : ℕ) → line_at cpu self.new
-            ≡ ticked_times (ticks_in tsc from (timer_at cpu self.old) n) (line_at cpu self.old) }
-        ensures other_timers { (k : ℕ) → k ≢ cpu → timer_at k self.new ≡ timer_at k self.old }
-        ensures other_lines { (k : ℕ) → k ≢ cpu → line_at k self.new ≡ line_at k self.old }
-        ensures joined { AreApicPlaces self.new }
+        ensures { (tsc : ℕ → ℕ) (from : ℕ) → IsRunAt cpu tsc from n self.old self.new }
     {
         let mut timer = self.timer(cpu);
         let ticks = run_counts(&mut timer, n);
@@ -232,40 +181,32 @@ impl LocalApics {
         self.tick(cpu, ticks);
     }
 
-    /// The same where the timer waits for a deadline. Mostly that isn't reached.
-    #[inline]
-    fn run_waiting(&mut self, cpu: u8, span: &Span, tsc: Tsc)
+    /// Runs the timer of one processor, whose TSC is `tsc`. Mostly a deadline isn't reached.
+    pub(crate) fn run_at(&mut self, cpu: u8, span: &Span, tsc: Tsc)
         requires place { cpu < 64 }
-        requires mode { mode_of (timer_at cpu self.old).lvt ≡ 2 }
         requires span { IsSpan span.now }
         requires room { (line_at cpu self.old).counts.due + length_of span.now < 2 ^ 63 }
-        ensures timer { timer_at cpu self.new ≡ nanoseconds (tsc_in span.now.clock tsc)
-            span.now.from (length_of span.now) (timer_at cpu self.old) }
-        ensures line { line_at cpu self.new ≡ ticked_times (ticks_in (tsc_in span.now.clock tsc)
-            span.now.from (timer_at cpu self.old) (length_of span.now)) (line_at cpu self.old) }
-        ensures other_timers { (k : ℕ) → k ≢ cpu → timer_at k self.new ≡ timer_at k self.old }
-        ensures other_lines { (k : ℕ) → k ≢ cpu → line_at k self.new ≡ line_at k self.old }
-        ensures joined { AreApicPlaces self.new }
+        ensures { IsRunAt cpu (tsc_in span.now.clock tsc) span.now.from (length_of span.now)
+            self.old self.new }
     {
-        let mut timer = self.timer(cpu);
-        if !run_deadline(&mut timer, span, tsc) {
-            return;
+        if self.timer(cpu).deadline() != 0 {
+            let mut timer = self.timer(cpu);
+            if !run_deadline(&mut timer, span, tsc) {
+                return;
+            }
+            self.put(cpu, timer);
+            let due = timer.ticks(1);
+            self.tick(cpu, due);
+        } else {
+            self.run_counting_at(cpu, span.length());
         }
-        self.put(cpu, timer);
-        let due = timer.ticks(1);
-        self.tick(cpu, due);
     }
 
     /// Looks at the deadline of one processor, whose TSC is `tsc`.
     pub(crate) fn look_at(&mut self, cpu: u8, tsc: u64)
         requires place { cpu < 64 }
         requires room { (line_at cpu self.old).counts.due + 1 < 2 ^ 63 }
-        ensures timer { timer_at cpu self.new ≡ looked tsc (timer_at cpu self.old) }
-        ensures line { line_at cpu self.new
-            ≡ ticked_where (looks_due tsc (timer_at cpu self.old)) (line_at cpu self.old) }
-        ensures other_timers { (k : ℕ) → k ≢ cpu → timer_at k self.new ≡ timer_at k self.old }
-        ensures other_lines { (k : ℕ) → k ≢ cpu → line_at k self.new ≡ line_at k self.old }
-        ensures joined { AreApicPlaces self.new }
+        ensures { IsLookedAt cpu tsc self.old self.new }
     {
         let mut timer = self.timer(cpu);
         if !timer.reach(tsc) {

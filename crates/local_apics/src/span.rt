@@ -13,14 +13,12 @@ ghost use Rattle.std.specs.Prelude.{
   false,
   if◌then◌else◌,
 };
-ghost use Rattle.clk_units.specs.Ranges.{IsKhz};
-ghost use Rattle.clk_units.specs.declared.ranges.TheConstants.{RANGE_NS};
 ghost use Rattle.tsc_scale.specs.Tsc.{difference};
 ghost use Rattle.lapic_timer.specs.Deadline.{IsFirstAt, is_reached};
 ghost use Rattle.lapic_timer.specs.Parts.{mode_of, ticks_of};
 ghost use Rattle.lapic_timer.specs.Stretch.{nanoseconds};
-ghost use Rattle.local_apics.specs.Nanosecond.{ticks_at, tsc_in};
-ghost use Rattle.local_apics.specs.private.Span.{IsSpan, length_of, ratio_in};
+ghost use Rattle.local_apics.specs.Nanosecond.{AreInRange, ticks_at, tsc_in};
+ghost use Rattle.local_apics.specs.private.Span.{IsRun, IsSpan, length_of, ratio_in};
 ghost use Rattle.local_apics.specs.private.Stretch.{IsStill, ticks_in};
 
 use host_counter::Anchor;
@@ -58,11 +56,7 @@ pub(crate) struct Span {
 impl Span {
     /// The nanoseconds after `from` up to `to`.
     pub(crate) fn new(clock: &TscClock, from: u64, to: u64) -> Span
-        requires order { from < to }
-        requires in_range { to < RANGE_NS }
-        requires host { IsKhz clock.now.anchor.khz }
-        requires guest { IsKhz clock.now.guest_khz }
-        requires anchored { clock.now.anchor.base_ns ≤ from }
+        requires { IsRun clock.now from to }
         ensures valid { IsSpan result }
         ensures clock { result.clock ≡ clock.now }
         ensures from { result.from ≡ from }
@@ -174,10 +168,7 @@ pub(crate) fn next_tick(
     from: u64,
     to: u64,
 ) -> Option<u64>
-    requires order { from ≤ to }
-    requires in_range { to < RANGE_NS }
-    requires host { IsKhz clock.now.anchor.khz }
-    requires guest { IsKhz clock.now.guest_khz }
+    requires ranges { AreInRange clock.now from to }
     requires anchored { clock.now.anchor.base_ns ≤ from }
     ensures { IsFirstAt (ticks_at (tsc_in clock.now tsc) from timer.now) from to result }
 {

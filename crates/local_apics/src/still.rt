@@ -1,9 +1,8 @@
 //! Runs in which nothing happens, since all deadlines are far off.
-ghost use Rattle.std.specs.Prelude.{◌≡◌, ℕ, true, ◌-◌, ◌<◌, ◌≤◌};
-ghost use Rattle.clk_units.specs.Ranges.{IsKhz};
-ghost use Rattle.clk_units.specs.declared.ranges.TheConstants.{RANGE_NS};
+ghost use Rattle.std.specs.Prelude.{◌≡◌, ℕ, true, ◌-◌, ◌<◌};
 ghost use Rattle.local_apics.specs.Nanosecond.{tscs_of, tsc_by_time};
 ghost use Rattle.local_apics.specs.Places.{timer_at};
+ghost use Rattle.local_apics.specs.private.Span.{IsRun};
 ghost use Rattle.local_apics.specs.private.Stretch.{IsStill};
 
 use crate::LocalApics;
@@ -22,11 +21,7 @@ impl LocalApics {
         from: u64,
         to: u64,
     ) -> bool
-        requires order { from < to }
-        requires in_range { to < RANGE_NS }
-        requires host { IsKhz clock.now.anchor.khz }
-        requires guest { IsKhz clock.now.guest_khz }
-        requires anchored { clock.now.anchor.base_ns ≤ from }
+        requires { IsRun clock.now from to }
         ensures { result ≡ true → (k : ℕ) → k < 64
             → IsStill (tsc_by_time clock.now (tscs_of processors.now) k) from (to - from)
             (timer_at k self.now) }

@@ -1,5 +1,5 @@
 -- Timers over a stretch, each by itself.
-use Rattle.std.specs.Prelude.{◌≡◌, ℕ, zero, suc, ◌+◌, ◌<◌, ◌≤◌, if◌then◌else◌}
+use Rattle.std.specs.Prelude.{◌≡◌, ◌≢◌, ℕ, zero, suc, ◌+◌, ◌<◌, ◌≤◌, if◌then◌else◌}
 use Rattle.tick_policy.specs.declared.parts.TickParts.{TickParts}
 use Rattle.tick_policy.specs.Line.{ticked_times}
 use Rattle.lapic_timer.specs.declared.parts.ApicParts.{ApicParts}
@@ -24,6 +24,24 @@ parted tsc from n a = record {
   timers = each (λ k p. nanoseconds (tsc k) from n p) 0 a.timers;
   lines = each (λ k l. ticked_times (ticks_in (tsc k) from (timer_at k a) n) l) 0 a.lines;
 }
+
+-- processor k has this timer and this tick line then, and the others have theirs
+pub record IsDoneAt (k : ℕ) (p : ApicParts) (l : TickParts) (old new : ApicsParts) : Type 0 where
+  pub timer : timer_at k new ≡ p
+  pub line : line_at k new ≡ l
+  pub other_timers : (j : ℕ) → j ≢ k → timer_at j new ≡ timer_at j old
+  pub other_lines : (j : ℕ) → j ≢ k → line_at j new ≡ line_at j old
+  pub joined : AreApicPlaces new
+
+-- one timer has run
+abbrev pub IsRunAt : ℕ → (ℕ → ℕ) → ℕ → ℕ → ApicsParts → ApicsParts → Type 0
+IsRunAt k tsc from n a b = IsDoneAt k (nanoseconds tsc from n (timer_at k a))
+    (ticked_times (ticks_in tsc from (timer_at k a) n) (line_at k a)) a b
+
+-- one deadline was looked at
+abbrev pub IsLookedAt : ℕ → ℕ → ApicsParts → ApicsParts → Type 0
+IsLookedAt k tsc a b = IsDoneAt k (looked tsc (timer_at k a))
+    (ticked_where (looks_due tsc (timer_at k a)) (line_at k a)) a b
 
 -- what was done at the first n places of `old` makes `new`
 pub record IsDoneBelow (n : ℕ) (f : ℕ → ApicParts → ApicParts) (g : ℕ → TickParts → TickParts)

@@ -35,7 +35,7 @@ returns-in-Some c =
     let is : IsFirst (fires_in p) (c.args.to - c.args.from) (Some c.in-Some.n) =
     subst (λ (first : Option ℕ). IsFirst (fires_in p) (c.args.to - c.args.from) first) c.in-Some.is c.run-fires.ensures.first in (
       omega (arith, is.0),
-      omega (arith, is.1, c.requires.order),
+      omega (arith, is.1, c.requires.ranges.order),
       fires-there (tsc_in c.args.clock.now c.args.tsc) c.args.from p other open_ c.in-Some.n is.0 is.2 is.3,
       λ t after before. none-fires (tsc_in c.args.clock.now c.args.tsc) c.args.from p other open_ (c.in-Some.n - 1) t is.2 after (omega (arith, before, is.0)),
     )
@@ -48,4 +48,5 @@ returns-in-None c =
     let is : IsFirst (fires_in p) (c.args.to - c.args.from) None =
     subst (λ (first : Option ℕ). IsFirst (fires_in p) (c.args.to - c.args.from) first) c.in-None.is c.run-fires.ensures.first in
     λ t after within.
-    none-fires (tsc_in c.args.clock.now c.args.tsc) c.args.from p other open_ (c.args.to - c.args.from) t is after (omega (arith, within, c.requires.order))
+    none-fires (tsc_in c.args.clock.now c.args.tsc) c.args.from p other open_ (c.args.to - c.args.from) t is after
+    (omega (arith, within, c.requires.ranges.order))

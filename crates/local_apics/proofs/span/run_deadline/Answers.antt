@@ -64,5 +64,6 @@ returns-clause-ticks c =
 
 pub returns-clause-unchanged : goal.returns-clause-unchanged
 returns-clause-unchanged c = λ e.
-    c.reach_first.ensures.unchanged e ∙ (last-unreached c.args.span.now c.args.tsc c.requires.span c.args.timer.now c.requires.mode c.tsc_by-last.result c.tsc_by-last.ensures
+    c.reach_first.ensures.unchanged e
+    ∙ (last-unreached c.args.span.now c.args.tsc c.requires.span c.args.timer.now c.requires.mode c.tsc_by-last.result c.tsc_by-last.ensures
     c.reach.new.self c.reach.result c.reach.ensures.state c.reach.ensures.reached c.if-reach.false).0

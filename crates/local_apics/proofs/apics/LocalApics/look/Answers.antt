@@ -1,13 +1,11 @@
-use Rattle.std.proofs.Common.{◌≡◌, ℕ, ◌+◌, ◌%◌, ◌^◌, ap, ◌∙◌, arith}
+use Rattle.std.proofs.Common.{◌≡◌, ℕ, ◌+◌, ◌%◌, ◌^◌, ap, subst, ◌∙◌, arith}
 use Rattle.tsc_scale.specs.declared.Tsc.{Tsc}
 use Rattle.tsc_scale.specs.Ratio.{ratio_of}
 use Rattle.tsc_scale.specs.Tsc.{tsc_at}
-use Rattle.tick_policy.specs.Stretch.{ticked_where}
-use Rattle.lapic_timer.specs.Deadline.{count_at, looked}
+use Rattle.lapic_timer.specs.Deadline.{count_at}
 use Rattle.lapic_timer.proofs.Waits.{tsc_at-offset}
-use Rattle.local_apics.specs.Places.{timer_at, line_at}
-use Rattle.local_apics.specs.Nanosecond.{looks_due, tscs_of, tsc_by_time}
-use Rattle.local_apics.specs.private.Stretch.{IsLookedBelow}
+use Rattle.local_apics.specs.Nanosecond.{tscs_of, tsc_by_time}
+use Rattle.local_apics.specs.private.Stretch.{IsLookedAt, IsLookedBelow}
 use Rattle.local_apics.proofs.Below.{looked-start, looked-more, looked-end, looked-none}
 use Rattle.local_apics.proofs.apics.LocalApics.look.Goals as goal
 
@@ -41,14 +39,12 @@ pub loop-cpu-preserved : goal.loop-cpu-preserved
 loop-cpu-preserved c =
     let tsc : ℕ → ℕ = λ k. tsc_by_time c.args.clock.now (tscs_of c.args.processors.now) k c.args.at in
     let more : IsLookedBelow (c.loop-cpu.cpu + 1) tsc c.args.self.now c.look_at.new.self =
-    looked-more c.loop-cpu.cpu tsc c.args.self.now c.loop-cpu.self c.look_at.new.self c.loop-cpu.invariant c.look_at.ensures.joined
-    (c.look_at.ensures.timer ∙ ap (λ (x : ℕ). looked x (timer_at c.loop-cpu.cpu c.loop-cpu.self)) (tsc_is c))
-    (c.look_at.ensures.line ∙ ap (λ (x : ℕ). ticked_where (looks_due x (timer_at c.loop-cpu.cpu c.loop-cpu.self)) (line_at c.loop-cpu.cpu c.loop-cpu.self))
-    (tsc_is c))
-    c.look_at.ensures.other_timers c.look_at.ensures.other_lines in
+    looked-more c.loop-cpu.cpu tsc c.args.self.now c.loop-cpu.self c.look_at.new.self c.loop-cpu.invariant
+    (subst (λ (x : ℕ). IsLookedAt c.loop-cpu.cpu x c.loop-cpu.self c.look_at.new.self) (tsc_is c) c.look_at.ensures) in
     more
 
 pub returns : goal.returns
 returns c =
     let tsc : ℕ → ℕ = λ k. tsc_by_time c.args.clock.now (tscs_of c.args.processors.now) k c.args.at in
-    looked-end c.loop-cpu.cpu tsc c.args.self.now c.loop-cpu.self c.loop-cpu.invariant (λ k after less. absurd (omega (arith, after, less, c.loop-cpu-test.false)))
+    looked-end c.loop-cpu.cpu tsc c.args.self.now c.loop-cpu.self c.loop-cpu.invariant
+    (λ k after less. absurd (omega (arith, after, less, c.loop-cpu-test.false)))

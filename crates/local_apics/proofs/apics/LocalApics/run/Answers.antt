@@ -9,7 +9,9 @@ returns-then-not-is_armed c =
     let tsc : ℕ → ℕ → ℕ = tsc_by_time c.args.clock.now (tscs_of c.args.processors.now) in
     elim c.then-not-is_armed.either [
       | inl idle ↦ run-end 0 tsc c.args.from (c.args.to - c.args.from) c.args.self.now c.args.self.now
-          (run-start 0 tsc c.args.from (c.args.to - c.args.from) c.args.self.now c.is_armed.ensures.joined (λ j less. absurd (omega (arith, less)))) (λ k after less. c.is_armed.ensures.idle.0 idle k less)
+          (run-start 0 tsc c.args.from (c.args.to - c.args.from) c.args.self.now c.is_armed.ensures.joined
+          (λ j less. absurd (omega (arith, less))))
+          (λ k after less. c.is_armed.ensures.idle.0 idle k less)
       | inr none ↦
           let e : 0 ≡ c.args.to - c.args.from = omega (arith, none.1) in
           ap (λ (n : ℕ). run tsc c.args.from n c.args.self.now) e

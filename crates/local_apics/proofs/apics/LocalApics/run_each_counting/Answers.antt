@@ -5,7 +5,8 @@ use Rattle.local_apics.proofs.Below.{run-start, run-more, run-end}
 use Rattle.local_apics.proofs.apics.LocalApics.run_each_counting.Goals as goal
 
 pub loop-cpu-init : goal.loop-cpu-init
-loop-cpu-init c = λ tsc from. run-start c.first_armed-cpu.result tsc from c.args.n c.args.self.now c.first_armed-cpu.ensures.joined c.first_armed-cpu.ensures.idle
+loop-cpu-init c = λ tsc from.
+    run-start c.first_armed-cpu.result tsc from c.args.n c.args.self.now c.first_armed-cpu.ensures.joined c.first_armed-cpu.ensures.idle
 
 pub returns-then-is_idle_from : goal.returns-then-is_idle_from
 returns-then-is_idle_from c = λ tsc from.
@@ -25,8 +26,7 @@ run_counting_at-requires-clause-room c =
 pub loop-cpu-preserved : goal.loop-cpu-preserved
 loop-cpu-preserved c = λ tsc from.
     run-more c.loop-cpu.cpu tsc from c.args.n c.args.self.now c.loop-cpu.self c.run_counting_at.new.self (c.loop-cpu.invariant tsc from)
-    c.run_counting_at.ensures.joined (c.run_counting_at.ensures.timer (tsc c.loop-cpu.cpu) from) (c.run_counting_at.ensures.line (tsc c.loop-cpu.cpu) from)
-    c.run_counting_at.ensures.other_timers c.run_counting_at.ensures.other_lines
+    (c.run_counting_at.ensures (tsc c.loop-cpu.cpu) from)
 
 pub returns : goal.returns
 returns c = λ tsc from.
