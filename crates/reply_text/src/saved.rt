@@ -19,6 +19,7 @@ ghost use Rattle.std.specs.Char.{digit_char};
 ghost use Rattle.std.specs.Io.{StartsWith};
 ghost use Rattle.reply_text.specs.Words.{hexes};
 ghost use Rattle.reply_text.specs.Text.{save_text, move_text, state_text};
+ghost use Rattle.reply_text.specs.private.Appended.{IsAppended};
 
 use crate::tail::Tail;
 use clk_units::NoMemory;
@@ -101,11 +102,8 @@ const PIECE: usize = 64;
 
 /// Appends two digits a byte. What was appended stays after an `Err`.
 fn append_hexes(bytes: &[u8], out: &mut Vec<u8>) -> Result<(), NoMemory>
-    ensures ok { OnOk result (out.new.items ≡ out.old.items ++ hexes bytes.now) }
+    ensures appended { IsAppended out.old out.new (hexes bytes.now) result }
     ensures err { OnErr result (StartsWith out.new.items out.old.items) }
-    ensures len { OnOk result (vec_len out.new ≡ vec_len out.old + 2 * length bytes.now) }
-    ensures full { OnErr result (vec_capacity out.old < vec_len out.old + 2 * length bytes.now) }
-    ensures grows { vec_capacity out.old ≤ vec_capacity out.new }
 {
     let mut left = bytes;
     while let Some((piece, more)) = left.split_first_chunk::<PIECE>() {
@@ -118,11 +116,8 @@ fn append_hexes(bytes: &[u8], out: &mut Vec<u8>) -> Result<(), NoMemory>
 /// The same for fewer bytes than a piece, which changes nothing where it fails.
 fn append_last(bytes: &[u8], out: &mut Vec<u8>) -> Result<(), NoMemory>
     requires { length bytes.now ≤ PIECE }
-    ensures ok { OnOk result (out.new.items ≡ out.old.items ++ hexes bytes.now) }
+    ensures appended { IsAppended out.old out.new (hexes bytes.now) result }
     ensures err { OnErr result (out.new.items ≡ out.old.items) }
-    ensures len { OnOk result (vec_len out.new ≡ vec_len out.old + 2 * length bytes.now) }
-    ensures full { OnErr result (vec_capacity out.old < vec_len out.old + 2 * length bytes.now) }
-    ensures grows { vec_capacity out.old ≤ vec_capacity out.new }
 {
     let len = bytes.len();
     let mut piece = [0; PIECE];
@@ -154,11 +149,8 @@ fn digit(n: u8) -> u8
 /// Appends bytes.
 #[inline]
 fn append_bytes(bytes: &[u8], out: &mut Vec<u8>) -> Result<(), NoMemory>
-    ensures ok { OnOk result (out.new.items ≡ out.old.items ++ bytes.now) }
+    ensures appended { IsAppended out.old out.new bytes.now result }
     ensures err { OnErr result (out.new.items ≡ out.old.items) }
-    ensures len { OnOk result (vec_len out.new ≡ vec_len out.old + length bytes.now) }
-    ensures full { OnErr result (vec_capacity out.old < vec_len out.old + length bytes.now) }
-    ensures grows { vec_capacity out.old ≤ vec_capacity out.new }
 {
     out.extend_from_slice(bytes).map_err(|_| NoMemory)
 }
