@@ -11,7 +11,7 @@ ghost use Rattle.trace_text.specs.Lines.{IsOpen};
 use board_types::Value;
 use reply_text::value_line;
 use std::{env, io};
-use trace_text::{Item, Reading};
+use trace_text::{Item, Job, Reading, Record};
 
 /// How the program is called.
 const USAGE: &str = "usage: text_bench read RECORD | reply NUMBER";
@@ -52,11 +52,16 @@ fn read_many(mut reading: Reading, line: &[u8]) -> u64
     requires few { reading.lines ≤ 10 }
 {
     let mut sum = 0u64;
+    let mut record = Record {
+        cpu: 0,
+        h: 0,
+        job: Job::Save,
+    };
     for i in 0..TIMES {
-        match reading.take_record(line) {
-            Some(record) => sum = sum.wrapping_add(record.h ^ u64::from(i)),
-            None => return 3,
+        if !reading.read_record(line, &mut record) {
+            return 3;
         }
+        sum = sum.wrapping_add(record.h ^ u64::from(i));
     }
     sum
 }

@@ -2,3 +2,4 @@ pub mod Spelled
 pub mod Groups
 pub mod State
 pub mod Lines
+pub mod Reads

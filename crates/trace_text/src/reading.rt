@@ -120,6 +120,7 @@ impl Reading {
     /// Takes the next line, without its end. A line over the limit that trace_loop's `limit_of` says may be handed in
     /// up to its first byte too many. `end` must not have been taken, and fewer than 2^63 lines. After a fault the same
     /// fault comes again, whatever the line.
+    #[inline(never)]
     pub fn take_line(&mut self, line: &[u8]) -> Result<Item, RecordFault>
         requires open { IsOpen self.old.stage }
         requires few { self.old.lines < 2 ^ 63 }
@@ -128,67 +129,6 @@ impl Reading {
         ensures valid { IfOk result (IsItem self.old.stage) }
 
         // Another line may follow any but `end`.
-        ensures open { result ≢ Ok Item.End → IsOpen self.new.stage }
-        ensures count { self.new.lines ≤ self.old.lines + 1 }
-    {
-        match self.take_record(line) {
-            Some(record) => Ok(Item::Next(record)),
-            None => self.take_slowly(line),
-        }
-    }
-
-    /// Takes the next line if it is a record. For any other line, and for a record that is refused, the answer is
-    /// None and the reader stays as it was: `take_line` then has the answer. It costs less than `take_line`, whose
-    /// items have room for a whole board.
-    #[inline(always)]
-    pub fn take_record(&mut self, line: &[u8]) -> Option<Record>
-        requires { self.old.lines < 2 ^ 63 }
-        ensures record { IfSome result (λ r. taken self.old line.now ≡ Ok (Item.Next r)) }
-        ensures cause { IfNone result (record_in (taken self.old line.now) ≡ None) }
-        ensures state { OnSome result (self.new ≡ behind line.now self.old) }
-        ensures valid { IfSome result (IsRecordAt self.old.stage) }
-        ensures open { OnSome result (IsOpen self.new.stage) }
-        ensures none { IfNone result (self.new ≡ self.old) }
-    {
-        let mut record = Record {
-            cpu: 0,
-            h: 0,
-            job: Job::Save,
-        };
-        if self.read_record(line, &mut record) {
-            Some(record)
-        } else {
-            None
-        }
-    }
-
-    /// The same into a record that is there, for a caller that hands it on by reference: true where the line is a
-    /// record. After false the record there has no meaning.
-    #[inline(always)]
-    pub fn read_record(&mut self, line: &[u8], into: &mut Record) -> bool
-        requires { self.old.lines < 2 ^ 63 }
-        ensures record { OnTrue result (taken self.old line.now ≡ Ok (Item.Next into.new)) }
-        ensures cause { OnFalse result (record_in (taken self.old line.now) ≡ None) }
-        ensures state { OnTrue result (self.new ≡ behind line.now self.old) }
-        ensures valid { OnTrue result (IsRecordAt self.old.stage into.new) }
-        ensures open { OnTrue result (IsOpen self.new.stage) }
-        ensures none { OnFalse result (self.new ≡ self.old) }
-    {
-        if !self.parts.stage.read(line, into) {
-            return false;
-        }
-        self.parts.lines += 1;
-        true
-    }
-
-    /// The same for every line.
-    #[inline(never)]
-    fn take_slowly(&mut self, line: &[u8]) -> Result<Item, RecordFault>
-        requires open { IsOpen self.old.stage }
-        requires few { self.old.lines < 2 ^ 63 }
-        ensures item { result ≡ taken self.old line.now }
-        ensures state { self.new ≡ behind line.now self.old }
-        ensures valid { IfOk result (IsItem self.old.stage) }
         ensures open { result ≢ Ok Item.End → IsOpen self.new.stage }
         ensures count { self.new.lines ≤ self.old.lines + 1 }
     {
@@ -207,6 +147,26 @@ impl Reading {
                 Err(fault)
             }
         }
+    }
+
+    /// Takes the next line if it is a record, into one that is there: true where it is. For any other line, and for a
+    /// record that is refused, the answer is false and the reader stays as it was: `take_line` then has the answer. After
+    /// false the record there has no meaning. It costs less than `take_line`, whose items have room for a whole board.
+    #[inline(always)]
+    pub fn read_record(&mut self, line: &[u8], into: &mut Record) -> bool
+        requires { self.old.lines < 2 ^ 63 }
+        ensures record { OnTrue result (taken self.old line.now ≡ Ok (Item.Next into.new)) }
+        ensures cause { OnFalse result (record_in (taken self.old line.now) ≡ None) }
+        ensures state { OnTrue result (self.new ≡ behind line.now self.old) }
+        ensures valid { OnTrue result (IsRecordAt self.old.stage into.new) }
+        ensures open { OnTrue result (IsOpen self.new.stage) }
+        ensures none { OnFalse result (self.new ≡ self.old) }
+    {
+        if !self.parts.stage.read(line, into) {
+            return false;
+        }
+        self.parts.lines += 1;
+        true
     }
 
     /// The input ends before `end`: why the trace is refused, at the line after the last one. `end` must not have

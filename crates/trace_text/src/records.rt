@@ -8,6 +8,7 @@ ghost use Rattle.trace_text.specs.Records.{
   IsJob,
   IsRecord,
 };
+ghost use Rattle.trace_text.specs.private.Reads.{IsReadInto};
 
 use crate::faults::Reason;
 use crate::groups::job_in;
@@ -90,11 +91,7 @@ impl Body {
     #[tactic(auto, unfolding(crate::specs::Records::record_of))]
     pub(crate) fn read(&mut self, words: Words<'_>, into: &mut Record) -> bool
         requires { self.old.cpus ≤ 64 }
-        ensures record { OnTrue result (record_of self.old words.entry ≡ Ok into.new) }
-        ensures cause { OnFalse result (IsErr (record_of self.old words.entry)) }
-        ensures valid { OnTrue result (IsRecord self.old into.new) }
-        ensures behind { OnTrue result (self.new ≡ body_behind self.old into.new) }
-        ensures still { OnFalse result (self.new ≡ self.old) }
+        ensures { IsReadInto self.old words.entry result into.new self.new }
     {
         let mut usual = words.again();
         let Some(cpu) = usual.usual_dec() else {
@@ -119,11 +116,7 @@ impl Body {
     #[inline(never)]
     fn read_apart(&mut self, words: Words<'_>, into: &mut Record) -> bool
         requires { self.old.cpus ≤ 64 }
-        ensures record { OnTrue result (record_of self.old words.entry ≡ Ok into.new) }
-        ensures cause { OnFalse result (IsErr (record_of self.old words.entry)) }
-        ensures valid { OnTrue result (IsRecord self.old into.new) }
-        ensures behind { OnTrue result (self.new ≡ body_behind self.old into.new) }
-        ensures still { OnFalse result (self.new ≡ self.old) }
+        ensures { IsReadInto self.old words.entry result into.new self.new }
     {
         match self.record(words) {
             Ok(record) => {

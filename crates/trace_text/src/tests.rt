@@ -39,13 +39,15 @@ fn items_of_a_trace(rt: HostRuntime) -> Result<(), Fail> {
         job: Job::Ask(Call::ReadPage { page: 1 }),
     };
     assert_eq!(rt; record_of(reading.take_line(b"0 0 page 1")), Some(page));
-    assert_eq!(rt; reading.take_record(b"end"), None);
+    let mut taken = page;
+    assert!(rt; !reading.read_record(b"end", &mut taken));
     let save = Record {
         cpu: 0,
         h: 1,
         job: Job::Save,
     };
-    assert_eq!(rt; reading.take_record(b"0 1 save"), Some(save));
+    assert!(rt; reading.read_record(b"0 1 save", &mut taken));
+    assert_eq!(rt; taken, save);
     let fault = RecordFault {
         line: 9,
         reason: Reason::CounterFell { before: 700 },
