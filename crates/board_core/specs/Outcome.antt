@@ -1,25 +1,44 @@
--- What a call gives that answers an access into a reply of its caller's.
+-- What a call asks and gives that answers an access into a reply of its caller's, and what reads of
+-- the pages give.
 use Rattle.std.specs.Prelude.{
   ◌≡◌,
   ℕ,
   ◌+◌,
+  ◌<◌,
   ◌≤◌,
   length,
   Result,
   Some,
   None,
+  IsTrue,
+  IfOk,
   IfErr,
   OnOk,
   OnErr,
 }
 use Rattle.std.specs.List.{All}
 use Rattle.irq_edges.specs.Lines.{IsOfLine}
+use Rattle.host_counter.specs.declared.TimeFault.{TimeFault}
+use Rattle.host_counter.specs.Time.{IsFaultAt}
+use Rattle.pvclock_page.specs.declared.page.PageReply.{PageReply}
+use Rattle.pvclock_page.specs.declared.page.ClockReply.{ClockReply}
+use Rattle.board_types.specs.Legal.{is_legal}
+use Rattle.board_types.specs.Reply.{IsFresh}
 use Rattle.board_types.specs.declared.access.Access.{Access}
 use Rattle.board_types.specs.declared.parts.BoardParts.{BoardParts}
 use Rattle.board_types.specs.declared.reply.Refusal.{Refusal}
 use Rattle.board_types.specs.declared.reply.Reply.{Reply}
 use Rattle.board_core.specs.Access.{ran_to, reply_of, after_access}
+use Rattle.board_core.specs.Pages.{page_reply, clock_reply, after_clock}
 use Rattle.board_core.specs.Refusals.{refusal_of}
+use Rattle.board_core.specs.Time.{HasTime}
+
+-- such a call asks for an access that is legal on board b, by a processor that it has, and for a reply
+-- without edges and messages in it
+pub record IsAsked (b : BoardParts) (processor : ℕ) (a : Access) (reply : Reply) : Type 0 where
+  pub cpu : processor < b.cpus
+  pub legal : IsTrue (is_legal b.cpus b.format a)
+  pub fresh : IsFresh reply
 
 -- board b was asked access a of processor cpu at count h: board and reply, which was `before`, are then
 -- `after` and `told`; the run to the access's time brings at most six edges, and the access itself twelve
@@ -34,3 +53,20 @@ pub record IsOutcome {T : Type 0} (b : BoardParts) (cpu h : ℕ) (a : Access) (r
   pub of_lines : OnOk result (All IsOfLine told.edges)
   pub few_run : OnOk result (length (ran_to b h).edges ≤ 6)
   pub few : OnOk result (length told.edges ≤ length (ran_to b h).edges + 12)
+
+-- a read of the page of processor cpu at count h gives what the board's page gives there, or why there
+-- is no time at h
+pub record IsPageRead (b : BoardParts) (cpu h : ℕ) (result : Result PageReply TimeFault) : Type 0
+    where
+  pub ok : OnOk result (HasTime b.anchor h)
+  pub value : IfOk result (λ r. r ≡ page_reply b cpu h)
+  pub fault : IfErr result (IsFaultAt b.anchor h)
+
+-- the same of a read of the clock, which leaves board `after`
+pub record IsClockRead (b : BoardParts) (cpu h : ℕ) (result : Result ClockReply TimeFault)
+    (after : BoardParts) : Type 0 where
+  pub ok : OnOk result (HasTime b.anchor h)
+  pub value : IfOk result (λ r. r ≡ clock_reply b cpu h)
+  pub state : OnOk result (after ≡ after_clock b cpu h)
+  pub fault : IfErr result (IsFaultAt b.anchor h)
+  pub unchanged : OnErr result (after ≡ b)

@@ -3,3 +3,4 @@ pub mod Kinds
 pub mod Values
 pub mod Places
 pub mod Room
+pub mod Calls

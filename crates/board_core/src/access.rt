@@ -5,8 +5,6 @@ ghost use Rattle.std.specs.Prelude.{
   ◌+◌,
   ◌<◌,
   ◌≤◌,
-  ◌++◌,
-  [],
   length,
   IsTrue,
   true,
@@ -18,15 +16,14 @@ ghost use Rattle.std.specs.Prelude.{
   None,
 };
 ghost use Rattle.std.specs.List.{All};
-ghost use Rattle.irq_edges.specs.declared.edges.TheConstants.{EDGE_PLACES};
 ghost use Rattle.irq_edges.specs.Lines.{IsOfLine};
 ghost use Rattle.board_types.specs.Legal.{is_legal};
-ghost use Rattle.board_types.specs.Reply.{IsFresh};
 ghost use Rattle.board_core.specs.Apics.{after_look};
-ghost use Rattle.board_core.specs.Time.{now_of, time_of_access, HasTime};
-ghost use Rattle.board_core.specs.Access.{ran_to, bursts_to, after_run, reply_of, after_access};
+ghost use Rattle.board_core.specs.Time.{now_of};
+ghost use Rattle.board_core.specs.Access.{ran_to, reply_of, after_access};
 ghost use Rattle.board_core.specs.Refusals.{refusal_of};
-ghost use Rattle.board_core.specs.Outcome.{IsOutcome};
+ghost use Rattle.board_core.specs.Outcome.{IsAsked, IsOutcome};
+ghost use Rattle.board_core.specs.private.Calls.{CanRun, HasRun};
 
 use crate::apics::run_apics;
 use crate::board::BoardState;
@@ -60,9 +57,7 @@ impl BoardState {
     /// all of it in, and a large one calls it.
     #[inline(always)]
     pub fn answer(&mut self, cpu: u8, h: u64, a: Access, reply: &mut Reply) -> Result<(), Refusal>
-        requires cpu { cpu < self.old.cpus }
-        requires legal { IsTrue (is_legal self.old.cpus self.old.format a) }
-        requires fresh { IsFresh reply.old }
+        requires { IsAsked self.old cpu a reply.old }
         ensures { IsOutcome self.old cpu h a result self.new reply.old reply.new }
     {
         // In each of these arms the compiler knows the kind, and leaves out what the others need.
@@ -94,9 +89,7 @@ impl BoardState {
         a: Access,
         reply: &mut Reply,
     ) -> Result<(), Refusal>
-        requires cpu { cpu < self.old.cpus }
-        requires legal { IsTrue (is_legal self.old.cpus self.old.format a) }
-        requires fresh { IsFresh reply.old }
+        requires { IsAsked self.old cpu a reply.old }
         ensures { IsOutcome self.old cpu h a result self.new reply.old reply.new }
     {
         let to = match self.admit(cpu, h, a) {
@@ -121,15 +114,8 @@ impl BoardState {
         edges: &mut EdgeList,
         bursts: &mut BurstList,
     ) -> bool
-        requires time { HasTime self.old.anchor h }
-        requires to { to ≡ time_of_access self.old h }
-        requires places { length edges.old + 6 ≤ EDGE_PLACES }
-        requires fresh { bursts.old ≡ [] }
-        ensures state { self.new ≡ after_run self.old h }
-        ensures edges { edges.new ≡ edges.old ++ (ran_to self.old h).edges }
-        ensures bursts { bursts.new ≡ bursts_to self.old h }
-        ensures few { length (ran_to self.old h).edges ≤ 6 }
-        ensures room { length edges.new ≤ length edges.old + 6 }
+        requires { CanRun self.old h to edges.old bursts.old }
+        ensures ran { HasRun self.old h self.new edges.old edges.new bursts.new }
         ensures looked { result ≡ true → after_look self.new ≡ self.new }
     {
         if h <= self.host {
@@ -148,16 +134,9 @@ impl BoardState {
     #[inline(never)]
     fn run_on(&mut self, h: u64, to: u64, edges: &mut EdgeList, bursts: &mut BurstList)
         requires later { self.old.host < h }
-        requires time { HasTime self.old.anchor h }
-        requires to { to ≡ time_of_access self.old h }
         requires passes { now_of self.old ≢ to }
-        requires places { length edges.old + 6 ≤ EDGE_PLACES }
-        requires fresh { bursts.old ≡ [] }
-        ensures state { self.new ≡ after_run self.old h }
-        ensures edges { edges.new ≡ edges.old ++ (ran_to self.old h).edges }
-        ensures bursts { bursts.new ≡ bursts_to self.old h }
-        ensures few { length (ran_to self.old h).edges ≤ 6 }
-        ensures room { length edges.new ≤ length edges.old + 6 }
+        requires run { CanRun self.old h to edges.old bursts.old }
+        ensures ran { HasRun self.old h self.new edges.old edges.new bursts.new }
         ensures looked { after_look self.new ≡ self.new }
     {
         let before = edges.len();

@@ -1,10 +1,10 @@
 //! What an access does to a board that has run to its time, and what it reads.
-ghost use Rattle.std.specs.Prelude.{◌≡◌, ℕ, ◌+◌, ◌<◌, ◌≤◌, ◌++◌, true, false, length, IsTrue, IfSome};
+ghost use Rattle.std.specs.Prelude.{◌≡◌, ℕ, ◌+◌, ◌<◌, ◌≤◌, ◌++◌, true, false, length, IsTrue};
 ghost use Rattle.irq_edges.specs.declared.edges.TheConstants.{EDGE_PLACES};
 ghost use Rattle.board_types.specs.Legal.{is_source, is_legal};
 ghost use Rattle.board_types.specs.declared.parts.TheConstants.{LAST_VERSION, MOST_ACCESSES};
 ghost use Rattle.board_devices.specs.Act.{reads_byte, value_of};
-ghost use Rattle.board_core.specs.Time.{HasTime, devices_in, now_of};
+ghost use Rattle.board_core.specs.Time.{devices_in, now_of};
 ghost use Rattle.board_core.specs.Tsc.{msr_read};
 ghost use Rattle.board_core.specs.Wall.{
   publishes_wall,
@@ -23,14 +23,13 @@ ghost use Rattle.board_core.specs.Access.{
   after_act,
   counts_of,
 };
-ghost use Rattle.board_core.specs.Refusals.{raised_version};
+ghost use Rattle.board_core.specs.private.Calls.{IsTaken, HasTold};
 ghost use Rattle.board_core.specs.private.Kinds.{touches, writes};
 ghost use Rattle.board_core.specs.private.Room.{HasRoom};
 ghost use Rattle.board_core.specs.private.Values.{told, value_with};
 
 use crate::apics::act_on_apics;
 use crate::board::BoardState;
-use crate::hv::hv_after;
 use crate::processors::{publish_by, tsc_read};
 use crate::refusals::publishes_wall;
 use crate::rises::{count_at, count_rises};
@@ -59,18 +58,10 @@ impl BoardState {
         edges: &mut EdgeList,
     ) -> Value
         requires looked { looked ≡ true → after_look self.old ≡ self.old }
-        requires cpu { cpu < self.old.cpus }
-        requires legal { IsTrue (is_legal self.old.cpus self.old.format a) }
-        requires time { HasTime self.old.anchor h }
-        requires accesses { self.old.accesses < MOST_ACCESSES }
-        requires version { IfSome (raised_version self.old.processors self.old.wall_version
-            self.old.hv.version cpu a)
-            (λ version. version < LAST_VERSION) }
+        requires taken { IsTaken self.old cpu h a }
         requires places { length edges.old + 12 ≤ EDGE_PLACES }
         ensures state { self.new ≡ after_act self.old cpu h a }
-        ensures value { result ≡ value_at self.old cpu h a }
-        ensures edges { edges.new ≡ edges.old ++ own_edges self.old a }
-        ensures few { length edges.new ≤ length edges.old + 12 }
+        ensures told { HasTold self.old cpu h a result edges.old edges.new }
     {
         let value = self.perform(cpu, h, a, edges);
         if looked && !writes(a) {
@@ -83,19 +74,11 @@ impl BoardState {
     /// What the access does, before the look. It goes to the devices, writes elsewhere, or only reads.
     #[inline(always)]
     fn perform(&mut self, cpu: u8, h: u64, a: Access, edges: &mut EdgeList) -> Value
-        requires cpu { cpu < self.old.cpus }
-        requires legal { IsTrue (is_legal self.old.cpus self.old.format a) }
-        requires time { HasTime self.old.anchor h }
-        requires accesses { self.old.accesses < MOST_ACCESSES }
-        requires version { IfSome (raised_version self.old.processors self.old.wall_version
-            self.old.hv.version cpu a)
-            (λ version. version < LAST_VERSION) }
+        requires taken { IsTaken self.old cpu h a }
         requires places { length edges.old + 12 ≤ EDGE_PLACES }
         ensures state { self.new ≡ before_look self.old cpu h a }
         ensures room { HasRoom self.new }
-        ensures value { result ≡ value_at self.old cpu h a }
-        ensures edges { edges.new ≡ edges.old ++ own_edges self.old a }
-        ensures few { length edges.new ≤ length edges.old + 12 }
+        ensures told { HasTold self.old cpu h a result edges.old edges.new }
     {
         if touches(a) {
             let word = self.touch(&a, edges);
@@ -133,28 +116,14 @@ impl BoardState {
     #[inline(never)]
     fn write_for(&mut self, cpu: u8, h: u64, a: Access)
         requires writes { IsTrue (writes a) }
-        requires cpu { cpu < self.old.cpus }
-        requires legal { IsTrue (is_legal self.old.cpus self.old.format a) }
-        requires time { HasTime self.old.anchor h }
-        requires accesses { self.old.accesses < MOST_ACCESSES }
-        requires version { IfSome (raised_version self.old.processors self.old.wall_version
-            self.old.hv.version cpu a)
-            (λ version. version < LAST_VERSION) }
+        requires taken { IsTaken self.old cpu h a }
         ensures state { self.new ≡ before_look self.old cpu h a }
         ensures room { HasRoom self.new }
     {
+        self.hv = self.hv_after(cpu, h, a);
         self.accesses += 1;
         self.wall_number = wall_number_after(a, self.wall_number);
         self.wall_version = wall_version_after(a, self.wall_version);
-        self.hv = hv_after(
-            self.hv,
-            self.anchor,
-            self.guest_khz,
-            cpu,
-            h,
-            a,
-            &self.processors,
-        );
         publish_by(&mut self.processors, self.anchor, self.guest_khz, cpu, h, a);
         act_on_apics(&mut self.apics, cpu, a);
     }

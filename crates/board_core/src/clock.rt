@@ -1,18 +1,10 @@
 //! Reads of the pages and of the clock, and the publishing of a page by a move.
-ghost use Rattle.std.specs.Prelude.{◌≡◌, ◌<◌, IfOk, IfErr, OnOk, OnErr, IsTrue};
-ghost use Rattle.host_counter.specs.Time.{IsFaultAt};
+ghost use Rattle.std.specs.Prelude.{◌≡◌, ◌<◌, IsTrue};
 ghost use Rattle.board_types.specs.declared.parts.TheConstants.{LAST_VERSION};
-ghost use Rattle.board_core.specs.Time.{HasTime};
 ghost use Rattle.board_core.specs.Tsc.{processor_at, with_tsc};
 ghost use Rattle.board_core.specs.Conditions.{flags_valid};
-ghost use Rattle.board_core.specs.Pages.{
-  page_reply,
-  clamped,
-  greatest_with,
-  clock_reply,
-  after_clock,
-  published_at_host,
-};
+ghost use Rattle.board_core.specs.Outcome.{IsPageRead, IsClockRead};
+ghost use Rattle.board_core.specs.Pages.{page_reply, clamped, greatest_with, published_at_host};
 
 use crate::board::BoardState;
 use crate::processors::{page_in, published, scale_by, tsc_read};
@@ -25,9 +17,7 @@ impl BoardState {
     /// What a read of the page of `cpu` at count `h` answers. It moves no time and takes no number.
     pub fn page_of(&self, cpu: u8, h: u64) -> Result<PageReply, TimeFault>
         requires { cpu < self.now.cpus }
-        ensures ok { OnOk result (HasTime self.now.anchor h) }
-        ensures value { IfOk result (λ r. r ≡ page_reply self.now cpu h) }
-        ensures fault { IfErr result (IsFaultAt self.now.anchor h) }
+        ensures { IsPageRead self.now cpu h result }
     {
         self.time_to(h)?;
         Ok(self.page_reply(cpu, h))
@@ -38,11 +28,7 @@ impl BoardState {
     #[tactic(auto, unfolding(crate::specs::Pages::clock_reply, crate::specs::Pages::after_clock))]
     pub fn clock_of(&mut self, cpu: u8, h: u64) -> Result<ClockReply, TimeFault>
         requires { cpu < self.old.cpus }
-        ensures ok { OnOk result (HasTime self.old.anchor h) }
-        ensures value { IfOk result (λ r. r ≡ clock_reply self.old cpu h) }
-        ensures state { OnOk result (self.new ≡ after_clock self.old cpu h) }
-        ensures fault { IfErr result (IsFaultAt self.old.anchor h) }
-        ensures unchanged { OnErr result (self.new ≡ self.old) }
+        ensures { IsClockRead self.old cpu h result self.new }
     {
         let read = self.page_of(cpu, h)?;
         let told = clamped(self.greatest, read);

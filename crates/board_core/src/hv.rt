@@ -77,6 +77,33 @@ impl BoardState {
     }
 }
 
+impl BoardState {
+    /// The page after an access of processor `cpu` at count `h`.
+    #[tactic(auto, unfolding(crate::specs::Hv::hv_after))]
+    pub(crate) fn hv_after(&self, cpu: u8, h: u64, a: Access) -> HvParts
+        requires time { HasTime self.now.anchor h }
+        requires cpu { cpu < self.now.cpus }
+        requires version { IsTrue (publishes_hv a) → self.now.hv.version < LAST_VERSION }
+        ensures { result ≡ hv_after self.now.anchor self.now.guest_khz cpu h a self.now.processors
+            self.now.hv }
+    {
+        match a {
+            Access::MsrWrite { msr, value } => if msr == MSR_HV_REFERENCE_TSC {
+                let written = HvParts {
+                    number: value,
+                    cpu,
+                    ..self.hv
+                };
+                let writer = &self.processors[cpu as usize];
+                hv_published(written, self.anchor, self.guest_khz, h, writer)
+            } else {
+                self.hv
+            },
+            _ => self.hv,
+        }
+    }
+}
+
 /// The page.
 fn page_in(p: &HvParts) -> HvPage
     ensures { result ≡ hv_in p.now }
@@ -136,38 +163,6 @@ pub fn publishes_hv(a: Access) -> bool
     match a {
         Access::MsrWrite { msr, .. } => msr == MSR_HV_REFERENCE_TSC,
         _ => false,
-    }
-}
-
-/// The page after an access of processor `cpu` at count `h`.
-#[tactic(auto, unfolding(crate::specs::Hv::hv_after))]
-pub(crate) fn hv_after(
-    p: HvParts,
-    anchor: Anchor,
-    guest_khz: u64,
-    cpu: u8,
-    h: u64,
-    a: Access,
-    processors: &[ProcessorParts; 64],
-) -> HvParts
-    requires rates { AreRates anchor guest_khz }
-    requires time { HasTime anchor h }
-    requires cpu { cpu < 64 }
-    requires version { IsTrue (publishes_hv a) → p.version < LAST_VERSION }
-    ensures { result ≡ hv_after anchor guest_khz cpu h a processors.now p }
-{
-    match a {
-        Access::MsrWrite { msr, value } => if msr == MSR_HV_REFERENCE_TSC {
-            let written = HvParts {
-                number: value,
-                cpu,
-                ..p
-            };
-            hv_published(written, anchor, guest_khz, h, &processors[cpu as usize])
-        } else {
-            p
-        },
-        _ => p,
     }
 }
 

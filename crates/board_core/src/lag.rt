@@ -78,7 +78,8 @@ impl BoardState {
     }
 
     /// The HPET's main counter at the time of count `h`.
-    #[inline(always)]
+    // Inlined, it makes the answer to a line too large to be inlined in the loop over lines.
+    #[inline(never)]
     fn main_counter_at(&self, h: u64) -> u64
         requires { self.now.host < h → HasTime self.now.anchor h }
         ensures { result ≡ (after_run self.now h).hpet.counter }

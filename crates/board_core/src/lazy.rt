@@ -7,13 +7,10 @@
 //!
 //! How far nothing comes is looked up after some such accesses in a row that brought no edge, since it costs as much as
 //! the next edge, some ten of them. Any other access forgets it.
-ghost use Rattle.std.specs.Prelude.{◌≡◌, ◌-◌, ◌<◌, IsTrue, IfOk, IfErr, OnOk, OnErr};
+ghost use Rattle.std.specs.Prelude.{◌≡◌, ◌-◌, ◌<◌, IsTrue, IfOk, IfErr, OnOk};
 ghost use Rattle.host_counter.specs.Time.{IsFaultAt};
-ghost use Rattle.board_types.specs.Legal.{is_legal};
-ghost use Rattle.board_types.specs.Reply.{IsFresh};
 ghost use Rattle.board_core.specs.Time.{HasTime, now_of};
-ghost use Rattle.board_core.specs.Outcome.{IsOutcome};
-ghost use Rattle.board_core.specs.Pages.{page_reply, clock_reply, after_clock};
+ghost use Rattle.board_core.specs.Outcome.{IsAsked, IsOutcome, IsPageRead, IsClockRead};
 ghost use Rattle.board_core.specs.Hv.{hv_reply};
 ghost use Rattle.board_core.specs.Quiet.{IsQuiet};
 ghost use Rattle.board_core.specs.private.Kinds.{is_passive};
@@ -86,9 +83,7 @@ impl LazyBoard {
     /// One access, into a reply that its caller keeps, without edges and messages in it, as `BoardState::answer` does it.
     #[inline(always)]
     pub fn answer(&mut self, cpu: u8, h: u64, a: Access, reply: &mut Reply) -> Result<(), Refusal>
-        requires cpu { cpu < self.old.cpus }
-        requires legal { IsTrue (is_legal self.old.cpus self.old.format a) }
-        requires fresh { IsFresh reply.old }
+        requires { IsAsked self.old cpu a reply.old }
         ensures { IsOutcome self.old cpu h a result self.new reply.old reply.new }
     {
         if is_passive(a) {
@@ -107,9 +102,7 @@ impl LazyBoard {
         reply: &mut Reply,
     ) -> Result<(), Refusal>
         requires passive { IsTrue (is_passive a) }
-        requires cpu { cpu < self.old.cpus }
-        requires legal { IsTrue (is_legal self.old.cpus self.old.format a) }
-        requires fresh { IsFresh reply.old }
+        requires asked { IsAsked self.old cpu a reply.old }
         ensures { IsOutcome self.old cpu h a result self.new reply.old reply.new }
     {
         let start = self.board.anchor().start;
@@ -126,9 +119,7 @@ impl LazyBoard {
     /// The same by a run. After enough of them without an edge it looks for the horizon.
     #[inline(never)]
     fn run(&mut self, cpu: u8, h: u64, a: Access, reply: &mut Reply) -> Result<(), Refusal>
-        requires cpu { cpu < self.old.cpus }
-        requires legal { IsTrue (is_legal self.old.cpus self.old.format a) }
-        requires fresh { IsFresh reply.old }
+        requires { IsAsked self.old cpu a reply.old }
         ensures { IsOutcome self.old cpu h a result self.new reply.old reply.new }
     {
         self.board.pass_to(self.host);
@@ -171,9 +162,7 @@ impl LazyBoard {
     #[inline(always)]
     pub fn page_of(&self, cpu: u8, h: u64) -> Result<PageReply, TimeFault>
         requires { cpu < self.now.cpus }
-        ensures ok { OnOk result (HasTime self.now.anchor h) }
-        ensures value { IfOk result (λ r. r ≡ page_reply self.now cpu h) }
-        ensures fault { IfErr result (IsFaultAt self.now.anchor h) }
+        ensures { IsPageRead self.now cpu h result }
     {
         self.board.page_of(cpu, h)
     }
@@ -182,11 +171,7 @@ impl LazyBoard {
     #[inline(always)]
     pub fn clock_of(&mut self, cpu: u8, h: u64) -> Result<ClockReply, TimeFault>
         requires { cpu < self.old.cpus }
-        ensures ok { OnOk result (HasTime self.old.anchor h) }
-        ensures value { IfOk result (λ r. r ≡ clock_reply self.old cpu h) }
-        ensures state { OnOk result (self.new ≡ after_clock self.old cpu h) }
-        ensures fault { IfErr result (IsFaultAt self.old.anchor h) }
-        ensures unchanged { OnErr result (self.new ≡ self.old) }
+        ensures { IsClockRead self.old cpu h result self.new }
     {
         self.board.clock_of(cpu, h)
     }

@@ -23,7 +23,7 @@ use Rattle.board_devices.specs.Lines.{output_of, drives, routed, levels}
 use Rattle.board_devices.specs.Nanosecond.{counts_rtc}
 use Rattle.board_devices.specs.Act.{acted, first_part, act_edges, rtc_set}
 use Rattle.board_devices.specs.Parts.{IsDevices}
-use Rattle.board_devices.specs.private.Writes.{moves_lines}
+use Rattle.board_devices.specs.private.Accesses.{moves_lines}
 use Rattle.board_devices.proofs.Masks.{rtc_set_second}
 use Rattle.board_devices.proofs.ActEdges.{none-of}
 use Rattle.board_devices.proofs.Keeps.{IsDevices-each, timers-hpet_written}

@@ -2,9 +2,11 @@
 -- and then those rises. Sections are those of the Intel 8254, the Motorola MC146818 and the IA-PC
 -- HPET 1.0a sheets; what they leave open is marked '(own)'.
 use Rattle.std.specs.Prelude.{
+  ◌≡◌,
   ℕ,
   zero,
   suc,
+  ◌+◌,
   ◌<◌,
   ◌≤◌,
   ◌^◌,
@@ -20,8 +22,10 @@ use Rattle.std.specs.Prelude.{
   IsTrue,
   List,
   ◌++◌,
+  length,
 }
 use Rattle.irq_edges.specs.declared.edges.Edge.{Edge}
+use Rattle.irq_edges.specs.declared.edges.TheConstants.{EDGE_PLACES}
 use Rattle.irq_edges.specs.Lines.{changes, line_numbers}
 use Rattle.pit_counter.specs.Table.{has_risen}
 use Rattle.pit_readback.specs.Pit.{counter_of}
@@ -170,3 +174,21 @@ abbrev pub act_edges : ℕ → Act → DeviceParts → List Edge
 act_edges t a d =
     changes t line_numbers (levels d) (levels (first_part a d))
     ++ changes t line_numbers (levels (first_part a d)) (levels (acted a d))
+
+-- what an access asks of the devices: it is legal, the tick line of the 8254 has room for one tick
+-- more, and the list of edges twelve free places
+pub record CanAct (a : Act) (d : DeviceParts) (had : List Edge) : Type 0 where
+  pub legal : IsLegal a
+  pub room : (line_at 0 d).counts.due + 1 < 2 ^ 63
+  pub places : length had + 12 ≤ EDGE_PLACES
+
+-- what it leaves and reads at t, with its edges behind those that the list had; at most one tick
+-- more is due on each line
+pub record HasActed (a : Act) (t : ℕ) (before after : DeviceParts) (word : ℕ) (had told : List Edge)
+    : Type 0 where
+  pub state : after ≡ acted a before
+  pub value : word ≡ value_of t a before
+  pub byte : IsTrue (reads_byte a) → word < 256
+  pub edges : told ≡ had ++ act_edges t a before
+  pub few : length told ≤ length had + 12
+  pub due : (k : ℕ) → k < 10 → (line_at k after).counts.due ≤ (line_at k before).counts.due + 1

@@ -8,6 +8,8 @@ use Rattle.std.specs.Prelude.{
   ◌+◌,
   ◌-◌,
   ◌<◌,
+  ◌≤◌,
+  ◌^◌,
   List,
   [],
   ◌++◌,
@@ -21,6 +23,7 @@ use Rattle.irq_edges.specs.Lines.{changes, line_numbers}
 use Rattle.board_devices.specs.declared.parts.DeviceParts.{DeviceParts}
 use Rattle.board_devices.specs.Nanosecond.{at_nanosecond}
 use Rattle.board_devices.specs.Lines.{levels}
+use Rattle.board_devices.specs.Places.{line_at}
 
 -- what a run leaves, and its edges
 pub record Ran : Type 0 where
@@ -40,6 +43,12 @@ onward t r = let next : DeviceParts = at_nanosecond t r.state in
 unfoldable pub run : ℕ → ℕ → DeviceParts → Ran
 run t zero d = record { state = d; edges = [] }
 run t (suc n) d = onward (t + n + 1) (run t n d)
+
+-- a stretch that the devices may run: each line has room for a tick in each nanosecond
+pub record IsStretch (from to : ℕ) (d : DeviceParts) : Type 0 where
+  pub order : from ≤ to
+  pub range : to < 2 ^ 59
+  pub room : (k : ℕ) → k < 10 → (line_at k d).counts.due + (to - from) < 2 ^ 63
 
 -- the least t with now < t < 2^59 at which the run has an edge, or none
 abbrev pub IsNextEdge : ℕ → DeviceParts → Option ℕ → Type 0

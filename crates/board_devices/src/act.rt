@@ -21,7 +21,6 @@ ghost use Rattle.irq_edges.specs.Lines.{line_numbers, level_of, change, IsOfLine
 ghost use Rattle.pit_readback.specs.Ports.{is_pit_port, port_read};
 ghost use Rattle.hpet_registers.specs.Access.{is_access_width};
 ghost use Rattle.rtc_registers.specs.Parts.{IsRtc};
-ghost use Rattle.rtc_registers.specs.Access.{rtc_read};
 ghost use Rattle.board_devices.specs.Rises.{one_if, lifts};
 ghost use Rattle.board_devices.specs.Places.{line_at, no_line, ticked_at};
 ghost use Rattle.board_devices.specs.Lines.{levels};
@@ -29,21 +28,20 @@ ghost use Rattle.board_devices.specs.declared.act.Act.TheVariants.{
   PitRead,
   PitWrite,
   IndexWrite,
-  ClockRead,
   ClockWrite,
   HpetWrite,
   Ack,
 };
 ghost use Rattle.board_devices.specs.Act.{
-  IsLegal,
+  CanAct,
+  HasActed,
   acted,
   first_part,
   value_of,
-  reads_byte,
   act_edges,
   pit_ticked,
 };
-ghost use Rattle.board_devices.specs.private.Writes.{moves_lines};
+ghost use Rattle.board_devices.specs.private.Accesses.{HasReadClock, moves_lines};
 
 use crate::acks::ack_lines;
 use crate::clock::{ack_clock_line, again_where, clock_up, counts_rtc, set_clock_line, set_flag};
@@ -83,17 +81,9 @@ impl Devices {
     /// once more at most.
     #[inline(always)]
     pub fn act(&mut self, a: Act, at: u64, edges: &mut EdgeList) -> u64
-        requires legal { IsLegal a }
-        requires room { (line_at 0 self.old).counts.due + 1 < 2 ^ 63 }
-        requires places { length edges.old + 12 ≤ EDGE_PLACES }
-        ensures state { self.new ≡ acted a self.old }
-        ensures value { result ≡ value_of at a self.old }
-        ensures byte { IsTrue (reads_byte a) → result < 256 }
-        ensures edges { edges.new ≡ edges.old ++ act_edges at a self.old }
+        requires { CanAct a self.old edges.old }
+        ensures acted { HasActed a at self.old self.new result edges.old edges.new }
         ensures of_lines { All IsOfLine (act_edges at a self.old) }
-        ensures few { length edges.new ≤ length edges.old + 12 }
-        ensures due { (k : ℕ) → k < 10 → (line_at k self.new).counts.due
-            ≤ (line_at k self.old).counts.due + 1 }
         ensures lifts { (n : ℕ) → lifts n (act_edges at a self.old)
             + one_if (level_of line_numbers (levels self.old) n) ≤ 1
             + one_if (level_of line_numbers (levels self.new) n) }
@@ -106,16 +96,8 @@ impl Devices {
     #[tactic(auto, using(crate::proofs::Masks::no_edges), unfolding(crate::specs::Act::acted, crate::specs::Act::first_part, crate::specs::Act::value_of))]
     #[inline(always)]
     fn act_parts(&mut self, a: Act, at: u64, edges: &mut EdgeList) -> u64
-        requires legal { IsLegal a }
-        requires room { (line_at 0 self.old).counts.due + 1 < 2 ^ 63 }
-        requires places { length edges.old + 12 ≤ EDGE_PLACES }
-        ensures state { self.new ≡ acted a self.old }
-        ensures value { result ≡ value_of at a self.old }
-        ensures byte { IsTrue (reads_byte a) → result < 256 }
-        ensures edges { edges.new ≡ edges.old ++ act_edges at a self.old }
-        ensures few { length edges.new ≤ length edges.old + 12 }
-        ensures due { (k : ℕ) → k < 10 → (line_at k self.new).counts.due
-            ≤ (line_at k self.old).counts.due + 1 }
+        requires { CanAct a self.old edges.old }
+        ensures { HasActed a at self.old self.new result edges.old edges.new }
     {
         match a {
             Act::PitRead { port } => self.read_pit(port, at) as u64,
@@ -198,12 +180,7 @@ impl Devices {
     #[tactic(auto, unfolding(crate::specs::Act::acted, crate::specs::Act::first_part))]
     fn read_clock(&mut self, at: u64, edges: &mut EdgeList) -> u8
         requires { length edges.old + 12 ≤ EDGE_PLACES }
-        ensures state { self.new ≡ acted ClockRead self.old }
-        ensures value { result ≡ rtc_read self.old.rtc }
-        ensures edges { edges.new ≡ edges.old ++ act_edges at ClockRead self.old }
-        ensures few { length edges.new ≤ length edges.old + 12 }
-        ensures due { (k : ℕ) → k < 10 → (line_at k self.new).counts.due
-            ≡ (line_at k self.old).counts.due }
+        ensures { HasReadClock at self.old self.new result edges.old edges.new }
     {
         let _clock = self.rtc.parts();
         if self.rtc.index() == 0x0c {
@@ -219,12 +196,7 @@ impl Devices {
         requires index { self.old.rtc.index ≡ 0x0c }
         requires valid { IsRtc self.old.rtc }
         requires places { length edges.old + 12 ≤ EDGE_PLACES }
-        ensures state { self.new ≡ acted ClockRead self.old }
-        ensures value { result ≡ rtc_read self.old.rtc }
-        ensures edges { edges.new ≡ edges.old ++ act_edges at ClockRead self.old }
-        ensures few { length edges.new ≤ length edges.old + 12 }
-        ensures due { (k : ℕ) → k < 10 → (line_at k self.new).counts.due
-            ≡ (line_at k self.old).counts.due }
+        ensures { HasReadClock at self.old self.new result edges.old edges.new }
     {
         let legacy = self.hpet.legacy();
         let counts = counts_rtc(self.rtc.pie(), legacy);

@@ -23,6 +23,7 @@ ghost use Rattle.hpet_registers.specs.Outputs.{has_ticks};
 ghost use Rattle.hpet_registers.specs.Stretch.{timer_matches};
 ghost use Rattle.tick_policy.specs.Line.{ticked_times};
 ghost use Rattle.board_devices.specs.Places.{no_line};
+ghost use Rattle.board_devices.specs.private.Runs.{IsReach};
 
 use crate::stretch::count_ticks;
 use hpet_comparator::Matches;
@@ -31,42 +32,42 @@ use pit_counter::Rises;
 use rtc_registers::RtcEvents;
 use tick_policy::TickLine;
 
-/// Whether what came in a stretch moves no line: the MC146818 had no tick and no update, and so no
-/// alarm either; no timer of level type matched, and each tick found its line up. No timer from
-/// `reach` on matched.
+/// Whether the MC146818 had no tick and no update in a stretch, and so no alarm either.
+#[inline(always)]
+pub(crate) fn brought_nothing(events: &RtcEvents) -> bool
+    ensures ticks { IsTrue result → events.now.cycle.ticks ≡ 0 }
+    ensures updates { IsTrue result → events.now.cycle.updates ≡ 0 }
+{
+    events.cycle.ticks == 0 && events.cycle.updates == 0
+}
+
+/// Whether what came of the 8254 and the HPET moves no line: no timer of level type matched, and each
+/// tick found its line up. No timer from `reach` on matched.
 #[inline(always)]
 pub(crate) fn finds_up(
     lines: &[TickLine; 10],
     h: &Hpet,
     legacy: bool,
-    events: &RtcEvents,
     rises: Rises,
     reach: u8,
     matches: &[Matches; 8],
 ) -> bool
-    requires places { reach ≤ 8 }
-    requires none { (k : ℕ) → reach ≤ k → (timer_matches matches.now k).count ≡ 0 }
+    requires { IsReach reach matches.now }
     ensures pit { IsTrue result → 0 < rises.count → legacy ≡ false
         → (slice_index_or lines.now 0 no_line).up ≡ true }
-    ensures ticks { IsTrue result → events.now.cycle.ticks ≡ 0 }
-    ensures updates { IsTrue result → events.now.cycle.updates ≡ 0 }
     ensures edge { IsTrue result → (k : ℕ) → k < h.now.timers
         → 0 < (timer_matches matches.now k).count → is_level (timer_at k h.now) ≡ false }
     ensures timers { IsTrue result → (k : ℕ) → k < h.now.timers
         → 0 < (timer_matches matches.now k).count → has_ticks k h.now ≡ true
         → (slice_index_or lines.now (k + 2) no_line).up ≡ true }
 {
-    events.cycle.ticks == 0
-        && events.cycle.updates == 0
-        && (rises.count == 0 || legacy || lines[0].is_up())
-        && timers_find_up(lines, h, reach, matches)
+    (rises.count == 0 || legacy || lines[0].is_up()) && timers_find_up(lines, h, reach, matches)
 }
 
 /// The same of the timers.
 #[inline(always)]
 fn timers_find_up(lines: &[TickLine; 10], h: &Hpet, reach: u8, matches: &[Matches; 8]) -> bool
-    requires places { reach ≤ 8 }
-    requires none { (k : ℕ) → reach ≤ k → (timer_matches matches.now k).count ≡ 0 }
+    requires { IsReach reach matches.now }
     ensures edge { IsTrue result → (k : ℕ) → k < h.now.timers
         → 0 < (timer_matches matches.now k).count → is_level (timer_at k h.now) ≡ false }
     ensures timers { IsTrue result → (k : ℕ) → k < h.now.timers
@@ -92,43 +93,11 @@ fn timer_finds_up(lines: &[TickLine; 10], h: &Hpet, k: u8) -> bool
     !h.timer(k).is_level() && (!h.has_ticks(k) || lines[k as usize + 2].is_up())
 }
 
-/// Counts ticks in a stretch that has no catch-up point: `rises` of the 8254, which legacy
-/// replacement leaves out, and the matches of the timers, none of which matched from `reach` on.
+/// Counts ticks of the timers in a stretch that has no catch-up point: none matched from `reach` on.
 #[inline(always)]
-pub(crate) fn take_ticks(
-    lines: &mut [TickLine; 10],
-    h: &Hpet,
-    legacy: bool,
-    rises: u64,
-    reach: u8,
-    matches: &[Matches; 8],
-)
+pub(crate) fn take_matches(lines: &mut [TickLine; 10], h: &Hpet, reach: u8, matches: &[Matches; 8])
     requires inside { reach ≤ h.now.timers }
-    requires places { reach ≤ 8 }
-    requires none { (k : ℕ) → reach ≤ k → (timer_matches matches.now k).count ≡ 0 }
-    requires room { (slice_index_or lines.old 0 no_line).counts.due + rises < 2 ^ 63 }
-    requires rooms { (k : ℕ) → k < 8 → (slice_index_or lines.old (k + 2) no_line).counts.due
-        + (timer_matches matches.now k).count < 2 ^ 63 }
-    ensures places { length lines.new ≡ 10 }
-    ensures pit { slice_index_or lines.new 0 no_line
-        ≡ ticked_times (if not legacy then rises else 0) (slice_index_or lines.old 0 no_line) }
-    ensures clock { slice_index_or lines.new 1 no_line ≡ slice_index_or lines.old 1 no_line }
-    ensures done { (k : ℕ) → k < h.now.timers → slice_index_or lines.new (k + 2) no_line
-        ≡ ticked_times (if has_ticks k h.now then (timer_matches matches.now k).count else 0)
-        (slice_index_or lines.old (k + 2) no_line) }
-    ensures rest { (j : ℕ) → h.now.timers + 2 ≤ j
-        → slice_index_or lines.new j no_line ≡ slice_index_or lines.old j no_line }
-{
-    count_ticks(lines, 0, !legacy, rises);
-    take_matches(lines, h, reach, matches);
-}
-
-/// Counts ticks of the timers.
-#[inline(always)]
-fn take_matches(lines: &mut [TickLine; 10], h: &Hpet, reach: u8, matches: &[Matches; 8])
-    requires inside { reach ≤ h.now.timers }
-    requires places { reach ≤ 8 }
-    requires none { (k : ℕ) → reach ≤ k → (timer_matches matches.now k).count ≡ 0 }
+    requires reach { IsReach reach matches.now }
     requires rooms { (k : ℕ) → k < 8 → (slice_index_or lines.old (k + 2) no_line).counts.due
         + (timer_matches matches.now k).count < 2 ^ 63 }
     ensures places { length lines.new ≡ 10 }

@@ -30,16 +30,16 @@ ghost use Rattle.irq_edges.specs.Rises.{IsNextRise};
 ghost use Rattle.board_devices.specs.Rises.{one_if, lifts};
 ghost use Rattle.board_devices.specs.Places.{line_at};
 ghost use Rattle.board_devices.specs.Lines.{levels};
-ghost use Rattle.board_devices.specs.Run.{run, IsNextEdge};
+ghost use Rattle.board_devices.specs.Run.{IsStretch, run, IsNextEdge};
 ghost use Rattle.board_devices.specs.private.Pulses.{ArePulses};
-ghost use Rattle.board_devices.specs.private.Stretch.{told_levels};
+ghost use Rattle.board_devices.specs.private.Runs.{HasAdvanced};
 
 use crate::clock::{counts_rtc, set_flag};
 use crate::devices::Devices;
-use crate::found_up::{finds_up, take_ticks};
+use crate::found_up::{brought_nothing, finds_up, take_matches};
 use crate::levels::{front_times, irq_up, shown_of};
 use crate::pulse_counts::{PulseCounts, pulse_counts};
-use crate::stretch::{Span, run_clock, run_pit, run_timers};
+use crate::stretch::{Span, count_ticks, run_clock, run_pit, run_timers};
 use clk_units::RANGE_NS;
 use hpet_comparator::Matches;
 use irq_edges::{EdgeList, emit, next_rise};
@@ -53,14 +53,8 @@ impl Devices {
     // Those in which the MC146818's crystal pulses are few, and have one.
     #[inline(always)]
     fn advance(&mut self, from: u64, to: u64, times: &mut [Option<u64>; 6]) -> bool
-        requires order { from ≤ to }
-        requires range { to < 2 ^ 59 }
-        requires room { (k : ℕ) → k < 10 → (line_at k self.old).counts.due + (to - from) < 2 ^ 63 }
-        ensures state { self.new ≡ (run from (to - from) self.old).state }
-        ensures levels { (j : ℕ) → from + j ≤ to → levels (run from j self.old).state
-            ≡ told_levels (from + j) (levels self.old) (if result then Some times.new else None) }
-        ensures due { (k : ℕ) → k < 10 → (line_at k self.new).counts.due
-            ≤ (line_at k self.old).counts.due + (to - from) }
+        requires { IsStretch from to self.old }
+        ensures { HasAdvanced from to self.old self.new result times.new }
     {
         let pulses = pulse_counts(from, to);
         if pulses.rtc > 0 {
@@ -79,15 +73,9 @@ impl Devices {
         pulses: PulseCounts,
         times: &mut [Option<u64>; 6],
     ) -> bool
-        requires order { from ≤ to }
-        requires range { to < 2 ^ 59 }
+        requires stretch { IsStretch from to self.old }
         requires pulses { ArePulses from to pulses }
-        requires room { (k : ℕ) → k < 10 → (line_at k self.old).counts.due + (to - from) < 2 ^ 63 }
-        ensures state { self.new ≡ (run from (to - from) self.old).state }
-        ensures levels { (j : ℕ) → from + j ≤ to → levels (run from j self.old).state
-            ≡ told_levels (from + j) (levels self.old) (if result then Some times.new else None) }
-        ensures due { (k : ℕ) → k < 10 → (line_at k self.new).counts.due
-            ≤ (line_at k self.old).counts.due + (to - from) }
+        ensures { HasAdvanced from to self.old self.new result times.new }
     {
         let _clock = self.rtc.parts();
         let legacy = self.hpet.legacy();
@@ -99,24 +87,11 @@ impl Devices {
         let shown = shown_of(&self.rtc);
         let events = clock_pulses(&mut self.rtc, pulses.rtc);
         if to < point
-            && finds_up(
-                &self.ticks,
-                &self.hpet,
-                legacy,
-                &events,
-                rises,
-                reach,
-                &matches,
-            )
+            && brought_nothing(&events)
+            && finds_up(&self.ticks, &self.hpet, legacy, rises, reach, &matches)
         {
-            take_ticks(
-                &mut self.ticks,
-                &self.hpet,
-                legacy,
-                rises.count,
-                reach,
-                &matches,
-            );
+            count_ticks(&mut self.ticks, 0, !legacy, rises.count);
+            take_matches(&mut self.ticks, &self.hpet, reach, &matches);
             return false;
         }
         let span = Span { from, to, point };
@@ -140,15 +115,9 @@ impl Devices {
         pulses: PulseCounts,
         times: &mut [Option<u64>; 6],
     ) -> bool
-        requires order { from ≤ to }
-        requires range { to < 2 ^ 59 }
+        requires stretch { IsStretch from to self.old }
         requires pulses { ArePulses from to pulses }
-        requires room { (k : ℕ) → k < 10 → (line_at k self.old).counts.due + (to - from) < 2 ^ 63 }
-        ensures state { self.new ≡ (run from (to - from) self.old).state }
-        ensures levels { (j : ℕ) → from + j ≤ to → levels (run from j self.old).state
-            ≡ told_levels (from + j) (levels self.old) (if result then Some times.new else None) }
-        ensures due { (k : ℕ) → k < 10 → (line_at k self.new).counts.due
-            ≤ (line_at k self.old).counts.due + (to - from) }
+        ensures { HasAdvanced from to self.old self.new result times.new }
     {
         self.advance_by(from, to, pulses, times)
     }
@@ -159,9 +128,7 @@ impl Devices {
     #[inline(always)]
     #[tactic(auto, using(crate::proofs::OfLines::of_lines_run))]
     pub fn run_to(&mut self, from: u64, to: u64, edges: &mut EdgeList) -> bool
-        requires order { from ≤ to }
-        requires range { to < 2 ^ 59 }
-        requires room { (k : ℕ) → k < 10 → (line_at k self.old).counts.due + (to - from) < 2 ^ 63 }
+        requires stretch { IsStretch from to self.old }
         requires places { length edges.old + 6 ≤ EDGE_PLACES }
         ensures state { self.new ≡ (run from (to - from) self.old).state }
         ensures edges { edges.new ≡ edges.old ++ (run from (to - from) self.old).edges }

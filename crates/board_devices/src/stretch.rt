@@ -41,6 +41,7 @@ ghost use Rattle.board_devices.specs.private.Stretch.{
   output_up,
   slots_from,
 };
+ghost use Rattle.board_devices.specs.private.Runs.{HasRunLine, CanRunTimers, HaveRunTimers};
 
 use crate::levels::{add_rise, flag_from, slot_of};
 use clk_units::{bit, first_at};
@@ -193,13 +194,7 @@ fn run_moved(lines: &mut [TickLine; 10], k: usize, ticks: Ticks, span: Span) -> 
     requires place { k < 10 }
     requires seen { ticks.seen ≡ true }
     requires room { (slice_index_or lines.old k no_line).counts.due + ticks.count < 2 ^ 63 }
-    ensures places { length lines.new ≡ 10 }
-    ensures here { slice_index_or lines.new k no_line
-        ≡ end_of span.point span.to ticks (slice_index_or lines.old k no_line) }
-    ensures others { (j : ℕ) → j ≢ k
-        → slice_index_or lines.new j no_line ≡ slice_index_or lines.old j no_line }
-    ensures up { result
-        ≡ up_of span.from span.point span.to ticks (slice_index_or lines.old k no_line) }
+    ensures { HasRunLine k span ticks lines.old lines.new result }
 {
     run_line(
         &mut lines[k],
@@ -217,13 +212,7 @@ fn run_moved(lines: &mut [TickLine; 10], k: usize, ticks: Ticks, span: Span) -> 
 fn run_at(lines: &mut [TickLine; 10], k: usize, ticks: Ticks, span: Span) -> Option<u64>
     requires place { k < 10 }
     requires room { (slice_index_or lines.old k no_line).counts.due + ticks.count < 2 ^ 63 }
-    ensures places { length lines.new ≡ 10 }
-    ensures here { slice_index_or lines.new k no_line
-        ≡ end_of span.point span.to ticks (slice_index_or lines.old k no_line) }
-    ensures others { (j : ℕ) → j ≢ k
-        → slice_index_or lines.new j no_line ≡ slice_index_or lines.old j no_line }
-    ensures up { result
-        ≡ up_of span.from span.point span.to ticks (slice_index_or lines.old k no_line) }
+    ensures { HasRunLine k span ticks lines.old lines.new result }
 {
     if moves(&lines[k], ticks, span) {
         run_moved(lines, k, ticks, span)
@@ -362,20 +351,8 @@ pub(crate) fn run_timers(
     span: Span,
     times: &mut [Option<u64>; 6],
 )
-    requires order { span.from ≤ span.to }
-    requires range { span.to < 2 ^ 59 }
-    requires inside { (k : ℕ) → k < 8 → IfSome (timer_matches matches.now k).first (λ j. j
-        ≤ pulses_from HPET_HZ span.from (span.to - span.from)) }
-    requires room { (k : ℕ) → k < 8 → (slice_index_or lines.old (k + 2) no_line).counts.due
-        + (timer_matches matches.now k).count < 2 ^ 63 }
-    ensures places { length lines.new ≡ 10 }
-    ensures front { (j : ℕ) → j < 2
-        → slice_index_or lines.new j no_line ≡ slice_index_or lines.old j no_line }
-    ensures done { (k : ℕ) → k < h.now.timers → slice_index_or lines.new (k + 2) no_line
-        ≡ end_of span.point span.to (timer_ticks span.from k h.now (timer_matches matches.now k))
-        (slice_index_or lines.old (k + 2) no_line) }
-    ensures rest { (j : ℕ) → h.now.timers + 2 ≤ j
-        → slice_index_or lines.new j no_line ≡ slice_index_or lines.old j no_line }
+    requires { CanRunTimers span matches.now lines.old }
+    ensures lines { HaveRunTimers span h.now matches.now lines.old lines.new }
     ensures times { times.new
         ≡ slots_from h.now.timers h.now (λ k. output_up span k h.now (bit k status)
         (timer_matches matches.now k) (slice_index_or lines.old (k + 2) no_line)) times.old }
@@ -395,20 +372,8 @@ fn run_timers_apart(
     span: Span,
     times: &mut [Option<u64>; 6],
 )
-    requires order { span.from ≤ span.to }
-    requires range { span.to < 2 ^ 59 }
-    requires inside { (k : ℕ) → k < 8 → IfSome (timer_matches matches.now k).first (λ j. j
-        ≤ pulses_from HPET_HZ span.from (span.to - span.from)) }
-    requires room { (k : ℕ) → k < 8 → (slice_index_or lines.old (k + 2) no_line).counts.due
-        + (timer_matches matches.now k).count < 2 ^ 63 }
-    ensures places { length lines.new ≡ 10 }
-    ensures front { (j : ℕ) → j < 2
-        → slice_index_or lines.new j no_line ≡ slice_index_or lines.old j no_line }
-    ensures done { (k : ℕ) → k < h.now.timers → slice_index_or lines.new (k + 2) no_line
-        ≡ end_of span.point span.to (timer_ticks span.from k h.now (timer_matches matches.now k))
-        (slice_index_or lines.old (k + 2) no_line) }
-    ensures rest { (j : ℕ) → h.now.timers + 2 ≤ j
-        → slice_index_or lines.new j no_line ≡ slice_index_or lines.old j no_line }
+    requires { CanRunTimers span matches.now lines.old }
+    ensures lines { HaveRunTimers span h.now matches.now lines.old lines.new }
     ensures times { times.new
         ≡ slots_from h.now.timers h.now (λ k. output_up span k h.now (bit k status)
         (timer_matches matches.now k) (slice_index_or lines.old (k + 2) no_line)) times.old }

@@ -46,7 +46,7 @@ returns-clause-done c = λ j inside. elim (cases_lt j c.loop-k.k) [
   | inl less ↦ c.loop-k.invariant.done j less
   | inr past ↦ c.loop-k.invariant.rest (j + 2) (omega (arith, past))
       ∙ sym (no_ticks (cond (has_ticks j c.args.h.now) (timer_matches c.args.matches.now j).count 0) (get_or c.args.lines.now (j + 2) no_line)
-      (none_where (has_ticks j c.args.h.now) (timer_matches c.args.matches.now j).count (c.requires.none j (omega (arith, past)))))
+      (none_where (has_ticks j c.args.h.now) (timer_matches c.args.matches.now j).count (c.requires.reach.none j (omega (arith, past)))))
 ]
 
 pub returns-clause-rest : goal.returns-clause-rest

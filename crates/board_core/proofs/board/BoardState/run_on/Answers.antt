@@ -34,10 +34,10 @@ abbrev seen : goal.After-count_rises_where → BoardParts
 seen c = board_parts_of c.self.inside
 
 to_is : (c : goal.After-count_rises_where) → c.args.to ≡ time_of_access (seen c) c.args.h
-to_is c = c.requires.to ∙ ap (λ (b : BoardParts). time_of_access b c.args.h) (sym c.self.view_is)
+to_is c = c.requires.run.to ∙ ap (λ (b : BoardParts). time_of_access b c.args.h) (sym c.self.view_is)
 
 time_in : (c : goal.After-count_rises_where) → HasTime c.self.inside.anchor c.args.h
-time_in c = subst (λ (b : BoardParts). HasTime b.anchor c.args.h) (sym c.self.view_is) c.requires.time
+time_in c = subst (λ (b : BoardParts). HasTime b.anchor c.args.h) (sym c.self.view_is) c.requires.run.time
 
 later : (c : goal.After-count_rises_where) → c.self.inside.host < c.args.h
 later c = subst (λ (b : BoardParts). b.host < c.args.h) (sym c.self.view_is) c.requires.later
@@ -113,31 +113,25 @@ invariant_of-self c =
       };
     }
 
-pub returns-clause-state : goal.returns-clause-state
-returns-clause-state c =
-    with_run-is (seen c) c.args.h c.args.h c.run_to-came.new.self c.count_rises_where.new.rises c.run_apics.new.apics (host_is c)
-    (c.run_to-came.ensures.state ∙ ap (λ (r : Ran). r.state) (ran_is c)) (rises_are c) (apics_are c)
-    ∙ ap (λ (b : BoardParts). after_run b c.args.h) c.self.view_is
-
-pub returns-clause-edges : goal.returns-clause-edges
-returns-clause-edges c = edges_are c ∙ ap (λ (b : BoardParts). c.args.edges.now ++ (ran_to b c.args.h).edges) c.self.view_is
-
-pub returns-clause-bursts : goal.returns-clause-bursts
-returns-clause-bursts c =
-    c.bursts.ensures
-    ∙ ap (λ (n : ℕ). bursts_of c.self.inside.time_ns (n - c.self.inside.time_ns) c.self.inside.devices.hpet) (to_is c)
-    ∙ ap (λ (t : ℕ). bursts_of t (time_of_access (seen c) c.args.h - t) c.self.inside.devices.hpet) c.self.invariant.time
-    ∙ ap (λ (b : BoardParts). bursts_to b c.args.h) c.self.view_is
-
-pub returns-clause-few : goal.returns-clause-few
-returns-clause-few c =
-    subst (λ (b : BoardParts). length (ran_to b c.args.h).edges ≤ 6) c.self.view_is
-    (omega (arith, c.run_to-came.ensures.few, ap length (edges_are c), length-append c.args.edges.now (ran_to (seen c) c.args.h).edges))
+pub returns-clause-ran : goal.returns-clause-ran
+returns-clause-ran c = record {
+  state = with_run-is (seen c) c.args.h c.args.h c.run_to-came.new.self c.count_rises_where.new.rises c.run_apics.new.apics (host_is c)
+      (c.run_to-came.ensures.state ∙ ap (λ (r : Ran). r.state) (ran_is c)) (rises_are c) (apics_are c)
+      ∙ ap (λ (b : BoardParts). after_run b c.args.h) c.self.view_is;
+  edges = edges_are c ∙ ap (λ (b : BoardParts). c.args.edges.now ++ (ran_to b c.args.h).edges) c.self.view_is;
+  bursts = c.bursts.ensures
+      ∙ ap (λ (n : ℕ). bursts_of c.self.inside.time_ns (n - c.self.inside.time_ns) c.self.inside.devices.hpet) (to_is c)
+      ∙ ap (λ (t : ℕ). bursts_of t (time_of_access (seen c) c.args.h - t) c.self.inside.devices.hpet) c.self.invariant.time
+      ∙ ap (λ (b : BoardParts). bursts_to b c.args.h) c.self.view_is;
+  few = subst (λ (b : BoardParts). length (ran_to b c.args.h).edges ≤ 6) c.self.view_is
+      (omega (arith, c.run_to-came.ensures.few, ap length (edges_are c), length-append c.args.edges.now (ran_to (seen c) c.args.h).edges));
+  room = c.run_to-came.ensures.few;
+}
 
 pub returns-clause-looked : goal.returns-clause-looked
 returns-clause-looked c =
-    ap after_look (returns-clause-state c)
+    ap after_look (returns-clause-ran c).state
     ∙ subst (λ (b : BoardParts). after_look (after_run b c.args.h) ≡ after_run b c.args.h) c.self.view_is
     (look-ran (seen c) c.args.h c.self.invariant.joined.apics.places (omega (arith, c.self.invariant.joined.rates.host.slow))
     (λ e. c.requires.passes (ap now_of (sym c.self.view_is) ∙ e ∙ sym (to_is c))))
-    ∙ sym (returns-clause-state c)
+    ∙ sym (returns-clause-ran c).state

@@ -47,35 +47,6 @@ module _ (b : BoardParts) (h : ℕ) (stays : now_of b ≡ time_of_access b h) wh
 stays_at : (b : BoardParts) (h : ℕ) → IsJoined b → HasTime b.anchor h → h ≤ b.host → now_of b ≡ time_of_access b h
 stays_at b h joined time le = (early b h (omega (arith, joined.rates.host.slow)) joined.time time.started le).1
 
-pub returns-then-h-self-clause-state : goal.returns-then-h-self-clause-state
-returns-then-h-self-clause-state c =
-    let b : BoardParts = board_parts_of c.self.inside in
-    let stays : now_of b ≡ time_of_access b c.args.h = stays_at b c.args.h c.self.invariant.joined
-    (subst (λ (x : BoardParts). HasTime x.anchor c.args.h) (sym c.self.view_is) c.requires.time) c.if-h-self.true in
-    sym c.self.view_is ∙ run-none b c.args.h stays b.host (omega (arith, c.if-h-self.true)) ∙ ap (λ (x : BoardParts). after_run x c.args.h) c.self.view_is
-
-pub returns-then-h-self-clause-edges : goal.returns-then-h-self-clause-edges
-returns-then-h-self-clause-edges c =
-    let b : BoardParts = board_parts_of c.self.inside in
-    let stays : now_of b ≡ time_of_access b c.args.h = stays_at b c.args.h c.self.invariant.joined
-    (subst (λ (x : BoardParts). HasTime x.anchor c.args.h) (sym c.self.view_is) c.requires.time) c.if-h-self.true in
-    sym (ap (λ (x : BoardParts). c.args.edges.now ++ (ran_to x c.args.h).edges) (sym c.self.view_is)
-    ∙ ap (λ (es : List Edge). c.args.edges.now ++ es) (edges-none b c.args.h stays) ∙ append-nil c.args.edges.now)
-
-pub returns-then-h-self-clause-bursts : goal.returns-then-h-self-clause-bursts
-returns-then-h-self-clause-bursts c =
-    let b : BoardParts = board_parts_of c.self.inside in
-    let stays : now_of b ≡ time_of_access b c.args.h = stays_at b c.args.h c.self.invariant.joined
-    (subst (λ (x : BoardParts). HasTime x.anchor c.args.h) (sym c.self.view_is) c.requires.time) c.if-h-self.true in
-    c.requires.fresh ∙ sym (ap (λ (x : BoardParts). bursts_to x c.args.h) (sym c.self.view_is) ∙ bursts-none b c.args.h stays)
-
-pub returns-then-h-self-clause-few : goal.returns-then-h-self-clause-few
-returns-then-h-self-clause-few c =
-    let b : BoardParts = board_parts_of c.self.inside in
-    let stays : now_of b ≡ time_of_access b c.args.h = stays_at b c.args.h c.self.invariant.joined
-    (subst (λ (x : BoardParts). HasTime x.anchor c.args.h) (sym c.self.view_is) c.requires.time) c.if-h-self.true in
-    subst (λ (x : BoardParts). length (ran_to x c.args.h).edges ≤ 6) c.self.view_is (omega (arith, ap length (edges-none b c.args.h stays)))
-
 pub invariant_of-self : goal.invariant_of-self
 invariant_of-self c =
     let b : BoardParts = board_parts_of c.self.inside in
@@ -89,31 +60,34 @@ invariant_of-self c =
       joined = IsJoined-same_time b c.args.h c.self.invariant.joined (omega (arith, later)) same;
     }
 
-pub returns-then-to-self-clause-state : goal.returns-then-to-self-clause-state
-returns-then-to-self-clause-state c =
+pub returns-then-h-self-clause-ran : goal.returns-then-h-self-clause-ran
+returns-then-h-self-clause-ran c =
     let b : BoardParts = board_parts_of c.self.inside in
-    let later : b.host < c.args.h = omega (arith, c.if-h-self.false) in
-    let stays : now_of b ≡ time_of_access b c.args.h =
-    sym c.self.invariant.time ∙ sym c.if-to-self.true ∙ c.requires.to ∙ ap (λ (x : BoardParts). time_of_access x c.args.h) (sym c.self.view_is) in
-    run-none b c.args.h stays c.args.h (omega (arith, later)) ∙ ap (λ (x : BoardParts). after_run x c.args.h) c.self.view_is
+    let stays : now_of b ≡ time_of_access b c.args.h = stays_at b c.args.h c.self.invariant.joined
+    (subst (λ (x : BoardParts). HasTime x.anchor c.args.h) (sym c.self.view_is) c.requires.time) c.if-h-self.true in
+    record {
+      state = sym c.self.view_is ∙ run-none b c.args.h stays b.host (omega (arith, c.if-h-self.true)) ∙ ap (λ (x : BoardParts). after_run x c.args.h) c.self.view_is;
+      edges = sym (ap (λ (x : BoardParts). c.args.edges.now ++ (ran_to x c.args.h).edges) (sym c.self.view_is)
+      ∙ ap (λ (es : List Edge). c.args.edges.now ++ es) (edges-none b c.args.h stays) ∙ append-nil c.args.edges.now);
+      bursts = c.requires.fresh ∙ sym (ap (λ (x : BoardParts). bursts_to x c.args.h) (sym c.self.view_is) ∙ bursts-none b c.args.h stays);
+      few = subst (λ (x : BoardParts). length (ran_to x c.args.h).edges ≤ 6) c.self.view_is (omega (arith, ap length (edges-none b c.args.h stays)));
+      room = omega arith;
+    }
 
-pub returns-then-to-self-clause-edges : goal.returns-then-to-self-clause-edges
-returns-then-to-self-clause-edges c =
+pub returns-then-to-self-clause-ran : goal.returns-then-to-self-clause-ran
+returns-then-to-self-clause-ran c =
     let b : BoardParts = c.args.self.now in
     let stays : now_of b ≡ time_of_access b c.args.h =
     ap now_of (sym c.self.view_is) ∙ sym c.self.invariant.time ∙ sym c.if-to-self.true ∙ c.requires.to in
-    sym (ap (λ (es : List Edge). c.args.edges.now ++ es) (edges-none b c.args.h stays) ∙ append-nil c.args.edges.now)
-
-pub returns-then-to-self-clause-bursts : goal.returns-then-to-self-clause-bursts
-returns-then-to-self-clause-bursts c =
-    let b : BoardParts = c.args.self.now in
-    let stays : now_of b ≡ time_of_access b c.args.h =
-    ap now_of (sym c.self.view_is) ∙ sym c.self.invariant.time ∙ sym c.if-to-self.true ∙ c.requires.to in
-    c.requires.fresh ∙ sym (bursts-none b c.args.h stays)
-
-pub returns-then-to-self-clause-few : goal.returns-then-to-self-clause-few
-returns-then-to-self-clause-few c =
-    let b : BoardParts = c.args.self.now in
-    let stays : now_of b ≡ time_of_access b c.args.h =
-    ap now_of (sym c.self.view_is) ∙ sym c.self.invariant.time ∙ sym c.if-to-self.true ∙ c.requires.to in
-    omega (arith, ap length (edges-none b c.args.h stays))
+    record {
+      state =
+          let b : BoardParts = board_parts_of c.self.inside in
+          let later : b.host < c.args.h = omega (arith, c.if-h-self.false) in
+          let stays : now_of b ≡ time_of_access b c.args.h =
+          sym c.self.invariant.time ∙ sym c.if-to-self.true ∙ c.requires.to ∙ ap (λ (x : BoardParts). time_of_access x c.args.h) (sym c.self.view_is) in
+          run-none b c.args.h stays c.args.h (omega (arith, later)) ∙ ap (λ (x : BoardParts). after_run x c.args.h) c.self.view_is;
+      edges = sym (ap (λ (es : List Edge). c.args.edges.now ++ es) (edges-none b c.args.h stays) ∙ append-nil c.args.edges.now);
+      bursts = c.requires.fresh ∙ sym (bursts-none b c.args.h stays);
+      few = omega (arith, ap length (edges-none b c.args.h stays));
+      room = omega arith;
+    }

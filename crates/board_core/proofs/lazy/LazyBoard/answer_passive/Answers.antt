@@ -74,8 +74,8 @@ replied c =
     c.accesses-reply.ensures ∙ ap (λ (b : BoardParts). b.accesses) c.count_access.ensures.state in
     ap (λ (n : ℕ). reply n c.passive_value-reply.result c.args.reply.now.edges c.args.reply.now.bursts) number
     ∙ ap (λ (v : Value). reply ((kept c).accesses + 1) v c.args.reply.now.edges c.args.reply.now.bursts) (value c)
-    ∙ ap (λ (es : List Edge). reply ((kept c).accesses + 1) (read c) es c.args.reply.now.bursts) c.requires.fresh.edges
-    ∙ ap (reply ((kept c).accesses + 1) (read c) []) c.requires.fresh.bursts
+    ∙ ap (λ (es : List Edge). reply ((kept c).accesses + 1) (read c) es c.args.reply.now.bursts) c.requires.asked.fresh.edges
+    ∙ ap (reply ((kept c).accesses + 1) (read c) []) c.requires.asked.fresh.bursts
     ∙ sym (reply_of-counted (kept c) c.self.inside.host c.self.inside.horizon c.args.cpu c.args.h c.count_access.ensures.joined c.self.invariant
     c.if-h-self.true (started c) c.args.a c.requires.passive)
     ∙ ap (λ (b : BoardParts). reply_of b c.args.cpu c.args.h c.args.a) c.self.view_is
@@ -107,7 +107,7 @@ returns-then-accesses-lt-MOST_ACCESSES c = record {
   taken = taken c;
   reply = replied c;
   state = counted c;
-  of_lines = subst (All IsOfLine) (sym c.requires.fresh.edges) (All-nil IsOfLine);
+  of_lines = subst (All IsOfLine) (sym c.requires.asked.fresh.edges) (All-nil IsOfLine);
   few_run = few_run c;
-  few = omega (arith, ap length c.requires.fresh.edges);
+  few = omega (arith, ap length c.requires.asked.fresh.edges);
 }

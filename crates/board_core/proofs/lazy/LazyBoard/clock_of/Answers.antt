@@ -1,9 +1,10 @@
-use Rattle.std.proofs.Common.{◌≡◌, ℕ, ◌<◌, Result, Ok, Err, OnOk, OnErr, IfOk, IfErr, refl, ap, sym, subst, ◌∙◌}
-use Rattle.host_counter.specs.Time.{IsFaultAt}
+use Rattle.std.proofs.Common.{◌≡◌, ℕ, ◌<◌, Result, Ok, Err, OnOk, OnErr, refl, ap, sym, subst, ◌∙◌}
+use Rattle.host_counter.specs.declared.TimeFault.{TimeFault}
+use Rattle.pvclock_page.specs.declared.page.ClockReply.{ClockReply}
 use Rattle.board_types.specs.declared.parts.BoardParts.{BoardParts}
 use Rattle.board_core.specs.Access.{after_run}
 use Rattle.board_core.specs.Pages.{after_clock, clock_reply, page_reply, greatest_with}
-use Rattle.board_core.specs.Time.{HasTime}
+use Rattle.board_core.specs.Outcome.{IsClockRead}
 use Rattle.board_core.specs.Lazy.{IsLazy}
 use Rattle.board_core.proofs.LazySteps.{IsLazy-greatest}
 use Rattle.board_core.proofs.lazy.LazyBoard.clock_of.Goals as goal
@@ -11,6 +12,10 @@ use Rattle.board_core.proofs.lazy.LazyBoard.clock_of.Goals as goal
 on_ok : {A E : Type 0} (r : Result A E) (P Q : Type 0) → (P → Q) → OnOk r P → OnOk r Q
 on_ok (Ok x) P Q f p = f p
 on_ok (Err e) P Q f p = p
+
+on_err : {A E : Type 0} (r : Result A E) (P Q : Type 0) → (P → Q) → OnErr r P → OnErr r Q
+on_err (Ok x) P Q f p = p
+on_err (Err e) P Q f p = f p
 
 IsLazy-clock : (b : BoardParts) (cpu h host horizon : ℕ) → IsLazy b host horizon → IsLazy (after_clock b cpu h) host horizon
 unfolding after_clock
@@ -35,22 +40,18 @@ invariant_of-self c =
     kept c.clock_of.result c.self.inside.board c.clock_of.new.self c.args.cpu c.args.h c.self.inside.host c.self.inside.horizon c.clock_of.ensures.state
     c.clock_of.ensures.unchanged c.self.invariant
 
-pub returns-clause-ok : goal.returns-clause-ok
-unfolding after_run
-returns-clause-ok c = subst (λ (b : BoardParts). OnOk c.clock_of.result (HasTime b.anchor c.args.h)) c.self.view_is c.clock_of.ensures.ok
-
-pub returns-clause-value : goal.returns-clause-value
+-- the same of the board that a run has brought up
+read_is : (r : Result ClockReply TimeFault) (b new : BoardParts) (cpu h host : ℕ) → IsClockRead b cpu h r new
+    → IsClockRead (after_run b host) cpu h r (after_run new host)
 unfolding after_run clock_reply page_reply
-returns-clause-value c =
-    subst (λ (b : BoardParts). IfOk c.clock_of.result (λ r. r ≡ clock_reply b c.args.cpu c.args.h)) c.self.view_is c.clock_of.ensures.value
+read_is r b new cpu h host is = record {
+  ok = is.ok;
+  value = is.value;
+  state = on_ok r _ _ (λ (same : new ≡ after_clock b cpu h). ap (λ (x : BoardParts). after_run x host) same ∙ after_run-clock b cpu h host) is.state;
+  fault = is.fault;
+  unchanged = on_err r _ _ (ap (λ (x : BoardParts). after_run x host)) is.unchanged;
+}
 
-pub returns-clause-state : goal.returns-clause-state
-returns-clause-state c =
-    on_ok c.clock_of.result _ _ (λ (is : c.clock_of.new.self ≡ after_clock c.self.inside.board c.args.cpu c.args.h).
-    ap (λ (b : BoardParts). after_run b c.self.inside.host) is
-    ∙ after_run-clock c.self.inside.board c.args.cpu c.args.h c.self.inside.host
-    ∙ ap (λ (b : BoardParts). after_clock b c.args.cpu c.args.h) c.self.view_is) c.clock_of.ensures.state
-
-pub returns-clause-fault : goal.returns-clause-fault
-unfolding after_run
-returns-clause-fault c = subst (λ (b : BoardParts). IfErr c.clock_of.result (IsFaultAt b.anchor c.args.h)) c.self.view_is c.clock_of.ensures.fault
+pub returns : goal.returns
+returns c = subst (λ (b : BoardParts). IsClockRead b c.args.cpu c.args.h c.clock_of.result (after_run c.clock_of.new.self c.self.inside.host)) c.self.view_is
+    (read_is c.clock_of.result c.self.inside.board c.clock_of.new.self c.args.cpu c.args.h c.self.inside.host c.clock_of.ensures)

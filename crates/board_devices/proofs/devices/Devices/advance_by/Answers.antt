@@ -50,35 +50,36 @@ use Rattle.board_devices.proofs.devices.Devices.advance_by.Goals.{After-clock_pu
 pub run_pit-pit_up-requires-clause-room : goal.run_pit-pit_up-requires-clause-room
 run_pit-pit_up-requires-clause-room c =
     let room : (line_at 0 (parts_of c.self.inside)).counts.due + (c.args.to - c.args.from) < 2 ^ 63 =
-    rw (← c.self.view_is) at (c.requires.room 0 (omega arith)) in
+    rw (← c.self.view_is) at (c.requires.stretch.room 0 (omega arith)) in
     omega (arith, room, c.pulses-rises.ensures.few, c.requires.pulses.few_pit)
 
 pub run_clock-rtc_up-requires-clause-room : goal.run_clock-rtc_up-requires-clause-room
 run_clock-rtc_up-requires-clause-room c =
     let room : (line_at 1 (parts_of c.self.inside)).counts.due + (c.args.to - c.args.from) < 2 ^ 63 =
-    rw (← c.self.view_is) at (c.requires.room 1 (omega arith)) in
+    rw (← c.self.view_is) at (c.requires.stretch.room 1 (omega arith)) in
     let same : (get_or c.run_pit-pit_up.new.lines 1 no_line).counts.due ≡ (line_at 1 (parts_of c.self.inside)).counts.due =
     ap (λ (l : TickParts). l.counts.due) (c.run_pit-pit_up.ensures.others 1 (λ e. absurd (omega (arith, e)))) in
     omega (arith, room, same, c.clock_pulses-events.ensures.few_ticks, c.requires.pulses.few_rtc)
 
-pub run_timers-requires-clause-inside : goal.run_timers-requires-clause-inside
-run_timers-requires-clause-inside c = λ k less.
-    by_first (matches_of k c.self.inside.hpet) _ (timer_matches c.pulses-reach.new.matches k).first
-    (rw c.requires.pulses.hpet at (c.pulses-reach.ensures.first k))
+pub run_timers-requires : goal.run_timers-requires
+run_timers-requires c = record {
+  order = c.requires.stretch.order;
+  range = c.requires.stretch.range;
+  inside = λ k less. by_first (matches_of k c.self.inside.hpet) _ (timer_matches c.pulses-reach.new.matches k).first
+      (rw c.requires.pulses.hpet at (c.pulses-reach.ensures.first k));
+  room = λ k less.
+      let place : k + 2 ≡ suc (suc k) = omega arith in
+      let room : (line_at (k + 2) (parts_of c.self.inside)).counts.due + (c.args.to - c.args.from) < 2 ^ 63 =
+      rw (← c.self.view_is) at (c.requires.stretch.room (k + 2) (omega arith)) in
+      let same : (get_or c.run_clock-rtc_up.new.lines (k + 2) no_line).counts.due ≡ (line_at (k + 2) (parts_of c.self.inside)).counts.due =
+      ap (λ (l : TickParts). l.counts.due) (c.run_clock-rtc_up.ensures.others (k + 2) (λ e. absurd (omega (arith, e)))
+      ∙ c.run_pit-pit_up.ensures.others (k + 2) (λ e. absurd (omega (arith, e)))) in
+      omega (arith, room, same, c.pulses-reach.ensures.few k, c.requires.pulses.few_hpet);
+}
   where
     by_first : (count : ℕ → ℕ) (n : ℕ) (first : Option ℕ) → IsFirst count n first → IfSome first (λ j. j ≤ n)
     by_first count n None h = tt
     by_first count n (Some j) h = h.1
-
-pub run_timers-requires-clause-room : goal.run_timers-requires-clause-room
-run_timers-requires-clause-room c = λ k less.
-    let place : k + 2 ≡ suc (suc k) = omega arith in
-    let room : (line_at (k + 2) (parts_of c.self.inside)).counts.due + (c.args.to - c.args.from) < 2 ^ 63 =
-    rw (← c.self.view_is) at (c.requires.room (k + 2) (omega arith)) in
-    let same : (get_or c.run_clock-rtc_up.new.lines (k + 2) no_line).counts.due ≡ (line_at (k + 2) (parts_of c.self.inside)).counts.due =
-    ap (λ (l : TickParts). l.counts.due) (c.run_clock-rtc_up.ensures.others (k + 2) (λ e. absurd (omega (arith, e)))
-    ∙ c.run_pit-pit_up.ensures.others (k + 2) (λ e. absurd (omega (arith, e)))) in
-    omega (arith, room, same, c.pulses-reach.ensures.few k, c.requires.pulses.few_hpet)
 
 -- what is known where the devices have had their pulses
 sound : (c : After-clock_pulses-events) → Sound (parts_of c.self.inside)
@@ -132,7 +133,7 @@ unfolding ahead
 point_is c = omega (arith, (known c).point.later, c.next_point-point.ensures)
 
 end_is : (c : After-clock_pulses-events) → c.args.to ≡ c.args.from + (c.args.to - c.args.from)
-end_is c = omega (arith, c.requires.order)
+end_is c = omega (arith, c.requires.stretch.order)
 
 hpet_is : (c : After-clock_pulses-events)
     → c.pulses-reach.new.self ≡ hpet_pulsed_times (pulses_from HPET_HZ c.args.from (c.args.to - c.args.from)) c.self.inside.hpet
@@ -140,7 +141,7 @@ hpet_is c = rw c.requires.pulses.hpet at c.pulses-reach.ensures.state
 
 -- where the lines were taken over the stretch
 abbrev pulsed : (c : goal.After-run_timers) → After-clock_pulses-events
-pulsed c = (goal.at.returns-clause-state c).After-clock_pulses-events
+pulsed c = (goal.at.returns c).After-clock_pulses-events
 
 counts_is : (c : goal.After-run_timers) → c.counts_rtc-counts.result ≡ counts_rtc (parts_of c.self.inside)
 counts_is c = rw (c.counts_rtc-counts.ensures, c.legacy-legacy.ensures, c.shown_of-shown.ensures.pie) refl
@@ -166,13 +167,13 @@ ends : (c : goal.After-run_timers) → (k : ℕ) → k < 10 → get_or c.run_tim
     ≡ end_of c.next_point-point.result c.args.to
     (ticks_at c.args.from c.self.inside.hpet c.pulses-reach.new.matches (pit_of (pulsed c)) (rtc_of (pulsed c)) k) (line_at k (parts_of c.self.inside))
 ends c zero less =
-    c.run_timers.ensures.front 0 (omega arith) ∙ c.run_clock-rtc_up.ensures.others 0 (λ e. absurd (omega (arith, e))) ∙ c.run_pit-pit_up.ensures.here
-ends c (suc zero) less = c.run_timers.ensures.front 1 (omega arith) ∙ first_line c
+    c.run_timers.ensures.lines.front 0 (omega arith) ∙ c.run_clock-rtc_up.ensures.others 0 (λ e. absurd (omega (arith, e))) ∙ c.run_pit-pit_up.ensures.here
+ends c (suc zero) less = c.run_timers.ensures.lines.front 1 (omega arith) ∙ first_line c
 ends c (suc (suc k)) less = ends-timers (known (pulsed c)) c.next_point-point.result c.args.to c.run_clock-rtc_up.new.lines c.run_timers.new.lines (behind c)
     (λ j inside. subst (λ (h : HpetParts). get_or c.run_timers.new.lines (j + 2) no_line ≡ end_of c.next_point-point.result c.args.to
     (timer_ticks c.args.from j h (timer_matches c.pulses-reach.new.matches j)) (get_or c.run_clock-rtc_up.new.lines (j + 2) no_line)) (hpet_is (pulsed c))
-    (c.run_timers.ensures.done j (subst (λ (h : HpetParts). j < h.timers) (sym (hpet_is (pulsed c))) inside)))
-    (λ j past. c.run_timers.ensures.rest j (subst (λ (h : HpetParts). h.timers + 2 ≤ j) (sym (hpet_is (pulsed c))) past))
+    (c.run_timers.ensures.lines.done j (subst (λ (h : HpetParts). j < h.timers) (sym (hpet_is (pulsed c))) inside)))
+    (λ j past. c.run_timers.ensures.lines.rest j (subst (λ (h : HpetParts). h.timers + 2 ≤ j) (sym (hpet_is (pulsed c))) past))
     c.pulses-reach.ensures.none k (omega arith)
 
 -- PF follows its line
@@ -181,7 +182,7 @@ rtc_is : (c : goal.After-run_timers) → c.set_flag.new.rtc
     (rtc_pulsed_times (pulses_from RTC_HZ c.args.from (c.args.to - c.args.from)) c.self.inside.rtc)
 rtc_is c =
     let one : get_or c.run_clock-rtc_up.new.lines 1 c.index-self-1.result ≡ get_or c.run_timers.new.lines 1 no_line =
-    get_or_default c.run_clock-rtc_up.new.lines 1 c.index-self-1.result no_line (omega arith) ∙ sym (c.run_timers.ensures.front 1 (omega arith)) in
+    get_or_default c.run_clock-rtc_up.new.lines 1 c.index-self-1.result no_line (omega arith) ∙ sym (c.run_timers.ensures.lines.front 1 (omega arith)) in
     let flag : c.counts_rtc_up-flag.result ≡ (counts_rtc (parts_of c.self.inside) && (get_or c.run_timers.new.lines 1 no_line).up) =
     c.counts_rtc_up-flag.ensures
     ∙ ap (λ (b : Bool). b && c.is_up.result) (counts_is c)
@@ -199,18 +200,12 @@ state : (c : goal.After-run_timers)
       slew_ns = c.self.inside.slew_ns;
     }) ≡ (run c.args.from (c.args.to - c.args.from) (parts_of c.self.inside)).state
 state c = ran-state (known (pulsed c)) c.next_point-point.result c.args.to c.run_timers.new.lines c.pulses-rises.new.self c.set_flag.new.rtc
-    c.pulses-reach.new.self (point_is (pulsed c)) (end_is (pulsed c)) c.run_timers.ensures.places (ends c)
+    c.pulses-reach.new.self (point_is (pulsed c)) (end_is (pulsed c)) c.run_timers.ensures.lines.places (ends c)
     (rw c.requires.pulses.pit at c.pulses-rises.ensures.state) (rtc_is c) (hpet_is (pulsed c))
 
 pub invariant_of-self-2 : goal.invariant_of-self-2
 invariant_of-self-2 c = subst IsDevices (sym (state c ∙ run-parted c.args.from (c.args.to - c.args.from) (parts_of c.self.inside) (sound (pulsed c))))
     (IsDevices-parted (known (pulsed c)) (c.args.to - c.args.from))
-
-pub returns-clause-state : goal.returns-clause-state
-returns-clause-state c = state c ∙ ap (λ (d : DeviceParts). (run c.args.from (c.args.to - c.args.from) d).state) c.self.view_is
-
-pub returns-clause-due : goal.returns-clause-due
-returns-clause-due c = λ k less. rw (← c.self.view_is) (due-few (known (pulsed c)) c.next_point-point.result c.args.to c.run_timers.new.lines (ends c) k less)
 
 -- from when on the lines of the 8254 and of the MC146818 are up
 pit_up : (c : goal.After-run_timers) → c.run_pit-pit_up.result ≡ up_at (known (pulsed c)) 0
@@ -255,66 +250,87 @@ times c =
     ∙ times-are (known (pulsed c)) status before c.run_pit-pit_up.result c.irq_up-irq.result c.legacy-legacy.result (valid (pulsed c))
     (ap (λ (g : HpetParts). g.status) c.parts-status.ensures.parts) (behind c) (pit_up c) (irq_up c) c.legacy-legacy.ensures
 
-pub returns-clause-levels : goal.returns-clause-levels
-returns-clause-levels c = λ j le.
-    ap (λ (d : DeviceParts). levels (run c.args.from j d).state) (sym c.self.view_is)
-    ∙ ran-levels (known (pulsed c)) c.run_timers.new.times (times c) j (omega (arith, le, end_is (pulsed c)))
+pub returns : goal.returns
+returns c = record {
+  state = state c ∙ ap (λ (d : DeviceParts). (run c.args.from (c.args.to - c.args.from) d).state) c.self.view_is;
+  levels = λ j le.
+      ap (λ (d : DeviceParts). levels (run c.args.from j d).state) (sym c.self.view_is)
+      ∙ ran-levels (known (pulsed c)) c.run_timers.new.times (times c) j (omega (arith, le, end_is (pulsed c)));
+  due = λ k less. rw (← c.self.view_is) (due-few (known (pulsed c)) c.next_point-point.result c.args.to c.run_timers.new.lines (ends c) k less);
+}
 
 -- where their ticks alone were counted
-abbrev still_pulsed : (c : goal.After-take_ticks) → After-clock_pulses-events
-still_pulsed c = (goal.at.returns-then-finds_up-clause-state c).After-clock_pulses-events
+abbrev still_pulsed : (c : goal.After-take_matches) → After-clock_pulses-events
+still_pulsed c = (goal.at.returns-then-finds_up c).After-clock_pulses-events
 
 -- where no line moved: there is room for the ticks
-pub take_ticks-requires-clause-rooms : goal.take_ticks-requires-clause-rooms
-take_ticks-requires-clause-rooms c = λ k less.
+pub count_ticks-requires-clause-room : goal.count_ticks-requires-clause-room
+count_ticks-requires-clause-room c =
+    let room : (line_at 0 (parts_of c.self.inside)).counts.due + (c.args.to - c.args.from) < 2 ^ 63 =
+    rw (← c.self.view_is) at (c.requires.stretch.room 0 (omega arith)) in
+    omega (arith, room, c.pulses-rises.ensures.few, c.requires.pulses.few_pit)
+
+-- the lines of the timers, as they were
+timer_lines : (c : goal.After-take_matches) (k : ℕ) → get_or c.count_ticks.new.lines (k + 2) no_line ≡ get_or c.self.inside.ticks (k + 2) no_line
+timer_lines c k = c.count_ticks.ensures.others (k + 2) (λ e. absurd (omega (arith, e)))
+
+pub take_matches-requires-clause-rooms : goal.take_matches-requires-clause-rooms
+take_matches-requires-clause-rooms c = λ k less.
+    let same : (get_or c.count_ticks.new.lines (k + 2) no_line).counts.due ≡ (line_at (k + 2) (parts_of c.self.inside)).counts.due =
+    ap (λ (l : TickParts). l.counts.due) (c.count_ticks.ensures.others (k + 2) (λ e. absurd (omega (arith, e)))) in
     let room : (line_at (k + 2) (parts_of c.self.inside)).counts.due + (c.args.to - c.args.from) < 2 ^ 63 =
-    rw (← c.self.view_is) at (c.requires.room (k + 2) (omega arith)) in
-    omega (arith, room, c.pulses-reach.ensures.few k, c.requires.pulses.few_hpet)
+    rw (← c.self.view_is) at (c.requires.stretch.room (k + 2) (omega arith)) in
+    omega (arith, room, same, c.pulses-reach.ensures.few k, c.requires.pulses.few_hpet)
 
 -- .. and the timers that matched are there
-pub take_ticks-requires-clause-inside : goal.take_ticks-requires-clause-inside
-take_ticks-requires-clause-inside c =
+pub take_matches-requires-clause-inside : goal.take_matches-requires-clause-inside
+take_matches-requires-clause-inside c =
     let same : c.pulses-reach.new.self.timers ≡ c.self.inside.hpet.timers =
     ap (λ (h : HpetParts). h.timers) c.pulses-reach.ensures.state ∙ timers-hpet_pulsed_times c.args.pulses.hpet c.self.inside.hpet in
     omega (arith, same, c.pulses-reach.ensures.inside)
 
 -- nothing came of the MC146818
-still_ticks : (c : goal.After-take_ticks) → c.clock_pulses-events.result.cycle.ticks ≡ 0
-still_ticks c = c.if-finds_up.ensures.ticks refl
+still_ticks : (c : goal.After-take_matches) → c.clock_pulses-events.result.cycle.ticks ≡ 0
+still_ticks c = c.if-brought_nothing.ensures.ticks refl
 
-still_updates : (c : goal.After-take_ticks) → c.clock_pulses-events.result.cycle.updates ≡ 0
-still_updates c = c.if-finds_up.ensures.updates refl
+still_updates : (c : goal.After-take_matches) → c.clock_pulses-events.result.cycle.updates ≡ 0
+still_updates c = c.if-brought_nothing.ensures.updates refl
 
 -- the lines at the end: each has its ticks
-early : (c : goal.After-take_ticks) → c.args.to < c.next_point-point.result
+early : (c : goal.After-take_matches) → c.args.to < c.next_point-point.result
 early c = c.if-to-point.true
 
-still_ends : (c : goal.After-take_ticks) → (k : ℕ) → k < 10 → get_or c.take_ticks.new.lines k no_line
+clock_line : (c : goal.After-take_matches) → get_or c.take_matches.new.lines 1 no_line ≡ get_or c.self.inside.ticks 1 no_line
+clock_line c = c.take_matches.ensures.front 1 (omega arith) ∙ c.count_ticks.ensures.others 1 (λ e. absurd (omega (arith, e)))
+
+still_ends : (c : goal.After-take_matches) → (k : ℕ) → k < 10 → get_or c.take_matches.new.lines k no_line
     ≡ end_of c.next_point-point.result c.args.to
     (ticks_at c.args.from c.self.inside.hpet c.pulses-reach.new.matches (pit_of (still_pulsed c)) (rtc_of (still_pulsed c)) k)
     (line_at k (parts_of c.self.inside))
 still_ends c zero less =
-    c.take_ticks.ensures.pit
+    c.take_matches.ensures.front 0 (omega arith) ∙ c.count_ticks.ensures.here
     ∙ sym (end-early c.next_point-point.result c.args.to c.pulses-rises.result.count (not c.legacy-legacy.result)
     (first_at PIT_HZ c.args.from c.pulses-rises.result.first) (line_at 0 (parts_of c.self.inside)) (early c))
 still_ends c (suc zero) less =
-    c.take_ticks.ensures.clock
+    clock_line c
     ∙ sym (end-unseen c.next_point-point.result c.args.to c.clock_pulses-events.result.cycle.ticks (counts_rtc (parts_of c.self.inside))
     (first_at RTC_HZ c.args.from c.clock_pulses-events.result.cycle.first_tick) (line_at 1 (parts_of c.self.inside)) (early c)
     (still_ticks c))
-still_ends c (suc (suc k)) less = ends-timers (known (still_pulsed c)) c.next_point-point.result c.args.to c.self.inside.ticks c.take_ticks.new.lines
+still_ends c (suc (suc k)) less = ends-timers (known (still_pulsed c)) c.next_point-point.result c.args.to c.self.inside.ticks c.take_matches.new.lines
     (λ j small. ap (λ (i : ℕ). get_or c.self.inside.ticks i no_line) (omega arith))
-    (λ j inside. c.take_ticks.ensures.done j (subst (λ (h : HpetParts). j < h.timers) (sym (hpet_is (still_pulsed c))) inside)
+    (λ j inside. c.take_matches.ensures.done j (subst (λ (h : HpetParts). j < h.timers) (sym (hpet_is (still_pulsed c))) inside)
+    ∙ ap (ticked_times (cond (has_ticks j c.pulses-reach.new.self) (timer_matches c.pulses-reach.new.matches j).count 0)) (timer_lines c j)
     ∙ ap (λ (h : HpetParts). ticked_times (cond (has_ticks j h) (timer_matches c.pulses-reach.new.matches j).count 0)
     (get_or c.self.inside.ticks (j + 2) no_line)) (hpet_is (still_pulsed c))
     ∙ sym (end-early c.next_point-point.result c.args.to (timer_matches c.pulses-reach.new.matches j).count _ _ (get_or c.self.inside.ticks (j + 2) no_line)
     (early c)))
-    (λ j past. c.take_ticks.ensures.rest j (subst (λ (h : HpetParts). h.timers + 2 ≤ j) (sym (hpet_is (still_pulsed c))) past))
+    (λ j past. c.take_matches.ensures.rest j (subst (λ (h : HpetParts). h.timers + 2 ≤ j) (sym (hpet_is (still_pulsed c))) past)
+    ∙ c.count_ticks.ensures.others j (λ e. absurd (omega (arith, e, past))))
     c.pulses-reach.ensures.none k (omega arith)
 
 -- PF follows its line, which is as it was
-still_rtc_is : (c : goal.After-take_ticks) → c.clock_pulses-events.new.rtc
-    ≡ flagged_where (counts_rtc (parts_of c.self.inside) && (get_or c.take_ticks.new.lines 1 no_line).up)
+still_rtc_is : (c : goal.After-take_matches) → c.clock_pulses-events.new.rtc
+    ≡ flagged_where (counts_rtc (parts_of c.self.inside) && (get_or c.take_matches.new.lines 1 no_line).up)
     (rtc_pulsed_times (pulses_from RTC_HZ c.args.from (c.args.to - c.args.from)) c.self.inside.rtc)
 still_rtc_is c =
     let m : ℕ = pulses_from RTC_HZ c.args.from (c.args.to - c.args.from) in
@@ -323,33 +339,26 @@ still_rtc_is c =
     ∙ sym (flag-again b (pf_of c.self.inside.rtc) (ticks_in (divider_of c.self.inside.rtc) m) (rtc_pulsed_times m c.self.inside.rtc)
     (IsRtc-rtc_pulsed_times m c.self.inside.rtc (sound (still_pulsed c)).rtc) (pf_of-rtc_pulsed_times m c.self.inside.rtc (sound (still_pulsed c)).rtc))
     ∙ ap (λ (u : Bool). flagged_where (b && u) (rtc_pulsed_times m c.self.inside.rtc))
-    (sym (ap (λ (l : TickParts). l.up) c.take_ticks.ensures.clock ∙ c.self.invariant.flag))
+    (sym (ap (λ (l : TickParts). l.up) (clock_line c) ∙ c.self.invariant.flag))
 
-still_state : (c : goal.After-take_ticks)
+still_state : (c : goal.After-take_matches)
     → parts_of (record {
       pit = c.pulses-rises.new.self;
       rtc = c.clock_pulses-events.new.rtc;
       hpet = c.pulses-reach.new.self;
-      ticks = c.take_ticks.new.lines;
+      ticks = c.take_matches.new.lines;
       slew_ns = c.self.inside.slew_ns;
     }) ≡ (run c.args.from (c.args.to - c.args.from) (parts_of c.self.inside)).state
-still_state c = ran-state (known (still_pulsed c)) c.next_point-point.result c.args.to c.take_ticks.new.lines c.pulses-rises.new.self
-    c.clock_pulses-events.new.rtc c.pulses-reach.new.self (point_is (still_pulsed c)) (end_is (still_pulsed c)) c.take_ticks.ensures.places (still_ends c)
+still_state c = ran-state (known (still_pulsed c)) c.next_point-point.result c.args.to c.take_matches.new.lines c.pulses-rises.new.self
+    c.clock_pulses-events.new.rtc c.pulses-reach.new.self (point_is (still_pulsed c)) (end_is (still_pulsed c)) c.take_matches.ensures.places (still_ends c)
     (rw c.requires.pulses.pit at c.pulses-rises.ensures.state) (still_rtc_is c) (hpet_is (still_pulsed c))
 
 pub invariant_of-self : goal.invariant_of-self
 invariant_of-self c = subst IsDevices (sym (still_state c ∙ run-parted c.args.from (c.args.to - c.args.from) (parts_of c.self.inside) (sound (still_pulsed c))))
     (IsDevices-parted (known (still_pulsed c)) (c.args.to - c.args.from))
 
-pub returns-then-finds_up-clause-state : goal.returns-then-finds_up-clause-state
-returns-then-finds_up-clause-state c = still_state c ∙ ap (λ (d : DeviceParts). (run c.args.from (c.args.to - c.args.from) d).state) c.self.view_is
-
-pub returns-then-finds_up-clause-due : goal.returns-then-finds_up-clause-due
-returns-then-finds_up-clause-due c = λ k less. rw (← c.self.view_is)
-    (due-few (known (still_pulsed c)) c.next_point-point.result c.args.to c.take_ticks.new.lines (still_ends c) k less)
-
 -- a timer that matches is there
-there : (c : goal.After-take_ticks) (k : ℕ) → 0 < (timer_matches c.pulses-reach.new.matches k).count → k < c.pulses-reach.new.self.timers
+there : (c : goal.After-take_matches) (k : ℕ) → 0 < (timer_matches c.pulses-reach.new.matches k).count → k < c.pulses-reach.new.self.timers
 there c k some = elim (cases_lt k c.self.inside.hpet.timers) [
   | inl inside ↦
       let same : c.pulses-reach.new.self.timers ≡ c.self.inside.hpet.timers =
@@ -368,7 +377,7 @@ not-true : (b : Bool) → not b ≡ true → b ≡ false
 not-true true e = sym e
 not-true false e = refl
 
-found : (c : goal.After-take_ticks) (k : ℕ) → k < 10 → 0 < source (parts_of c.self.inside) c.args.from k (c.args.to - c.args.from)
+found : (c : goal.After-take_matches) (k : ℕ) → k < 10 → 0 < source (parts_of c.self.inside) c.args.from k (c.args.to - c.args.from)
     → (line_at k (parts_of c.self.inside)).up ≡ true
 found c zero less some =
     let due : (not (is_legacy c.self.inside.hpet) ≡ true)
@@ -390,7 +399,7 @@ found c (suc (suc k)) less some =
     ∙ has_ticks-hpet_pulsed_times k (pulses_from HPET_HZ c.args.from (c.args.to - c.args.from)) c.self.inside.hpet ∙ due.0)
 
 -- no timer of level type matches
-level : (c : goal.After-take_ticks) (k : ℕ) → is_level (timer_at k c.self.inside.hpet) ≡ true
+level : (c : goal.After-take_matches) (k : ℕ) → is_level (timer_at k c.self.inside.hpet) ≡ true
     → matches_of k c.self.inside.hpet (pulses_from HPET_HZ c.args.from (c.args.to - c.args.from)) ≡ 0
 level c k is_on = elim (cases_lt 0 (timer_matches c.pulses-reach.new.matches k).count) [
   | inl some ↦ absurd (true≢false (sym is_on
@@ -400,19 +409,24 @@ level c k is_on = elim (cases_lt 0 (timer_matches c.pulses-reach.new.matches k).
 ]
 
 -- no level changes
-quiet : (c : goal.After-take_ticks) → Quiet (parts_of c.self.inside) c.args.from (c.args.to - c.args.from) (ahead (still_pulsed c))
+quiet : (c : goal.After-take_matches) → Quiet (parts_of c.self.inside) c.args.from (c.args.to - c.args.from) (ahead (still_pulsed c))
 unfolding ahead
 quiet c = record {
   sound = sound (still_pulsed c);
   point = (known (still_pulsed c)).point;
-  early = omega (arith, early c, c.next_point-point.ensures, c.requires.order);
+  early = omega (arith, early c, c.next_point-point.ensures, c.requires.stretch.order);
   ticks = sym (brought (still_pulsed c)).rtc_count ∙ still_ticks c;
   updates = sym (rw c.requires.pulses.rtc at c.clock_pulses-events.ensures.updates) ∙ still_updates c;
   found = found c;
   level = λ k less. level c k;
 }
 
-pub returns-then-finds_up-clause-levels : goal.returns-then-finds_up-clause-levels
-returns-then-finds_up-clause-levels c = λ j le.
-    ap (λ (d : DeviceParts). levels (run c.args.from j d).state) (sym c.self.view_is) ∙ levels-still (quiet c) j (omega (arith, le, c.requires.order))
-    ∙ ap levels c.self.view_is
+pub returns-then-finds_up : goal.returns-then-finds_up
+returns-then-finds_up c = record {
+  state = still_state c ∙ ap (λ (d : DeviceParts). (run c.args.from (c.args.to - c.args.from) d).state) c.self.view_is;
+  levels = λ j le.
+      ap (λ (d : DeviceParts). levels (run c.args.from j d).state) (sym c.self.view_is) ∙ levels-still (quiet c) j (omega (arith, le, c.requires.stretch.order))
+      ∙ ap levels c.self.view_is;
+  due = λ k less. rw (← c.self.view_is)
+      (due-few (known (still_pulsed c)) c.next_point-point.result c.args.to c.take_matches.new.lines (still_ends c) k less);
+}

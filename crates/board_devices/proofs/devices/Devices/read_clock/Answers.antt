@@ -1,4 +1,4 @@
-use Rattle.std.proofs.Common.{◌≡◌, ◌==◌, false, ◌++◌, append-nil, List, ap, sym, subst, ◌∙◌}
+use Rattle.std.proofs.Common.{rules, ◌≡◌, ◌==◌, false, ◌++◌, append-nil, List, ap, sym, subst, ◌∙◌}
 use Rattle.std.proofs.lemmas.Bool.{ne_eqb}
 use Rattle.irq_edges.specs.declared.edges.Edge.{Edge}
 use Rattle.rtc_registers.specs.declared.parts.RtcParts.{RtcParts}
@@ -26,10 +26,12 @@ same c = ap (λ (r : RtcParts). record (parts_of c.self.inside) { rtc = r }) (rt
 pub invariant_of-self : goal.invariant_of-self
 invariant_of-self c = subst IsDevices (sym (same c)) c.self.invariant
 
-pub returns-else-index-eq12-clause-state : goal.returns-else-index-eq12-clause-state
-returns-else-index-eq12-clause-state c = same c ∙ sym (acted-other (parts_of c.self.inside) (other c)) ∙ ap (acted ClockRead) c.self.view_is
-
-pub returns-else-index-eq12-clause-edges : goal.returns-else-index-eq12-clause-edges
-returns-else-index-eq12-clause-edges c =
-    sym (ap (λ (d : DeviceParts). c.args.edges.now ++ act_edges c.args.at ClockRead d) (sym c.self.view_is)
-    ∙ ap (λ (es : List Edge). c.args.edges.now ++ es) (edges-clock_other c.args.at (parts_of c.self.inside) (other c)) ∙ append-nil c.args.edges.now)
+pub returns-else-index-eq12 : goal.returns-else-index-eq12
+returns-else-index-eq12 c = record {
+  state = same c ∙ sym (acted-other (parts_of c.self.inside) (other c)) ∙ ap (acted ClockRead) c.self.view_is;
+  value = search rules;
+  edges = sym (ap (λ (d : DeviceParts). c.args.edges.now ++ act_edges c.args.at ClockRead d) (sym c.self.view_is)
+      ∙ ap (λ (es : List Edge). c.args.edges.now ++ es) (edges-clock_other c.args.at (parts_of c.self.inside) (other c)) ∙ append-nil c.args.edges.now);
+  few = search rules;
+  due = search rules;
+}

@@ -1,4 +1,4 @@
-use Rattle.std.proofs.Common.{◌≡◌, ℕ, Bool, true, ◌&&◌, ◌==◌, not, cond, List, get_or, ◌++◌, append_assoc, ap, sym, refl, ◌∙◌, subst, zero, suc, arith}
+use Rattle.std.proofs.Common.{rules, ◌≡◌, ℕ, Bool, true, ◌&&◌, ◌==◌, not, cond, List, get_or, ◌++◌, append_assoc, ap, sym, refl, ◌∙◌, subst, zero, suc, arith}
 use Rattle.std.proofs.lemmas.Bool.{eq-eqb}
 use Rattle.irq_edges.specs.declared.edges.Edge.{Edge}
 use Rattle.irq_edges.specs.Lines.{change}
@@ -68,18 +68,6 @@ invariant_of-self c =
     (sym (counts-by (flagged_where g (after_rtc_read d.rtc)) d.rtc d.hpet d.hpet (register_b-read g d.rtc (valid c)) refl))
     ∙ ap (λ (r : RtcParts). counts_rtc (record d { rtc = r }) && pf_of r) (sym (rtc_is c)))
 
-pub returns-clause-state : goal.returns-clause-state
-unfolding acted flagged_where
-returns-clause-state c =
-    ap (λ (r : RtcParts). record (parts_of c.self.inside) { rtc = r; ticks = c.ack_clock_line.new.ticks }) (rtc_is c)
-    ∙ ap (λ (ls : List TickParts). record
-    (parts_of c.self.inside) {
-      rtc = flagged_where (reads_c (parts_of c.self.inside) 1 && goes_again (line_at 1 (parts_of c.self.inside)))
-          (after_rtc_read c.self.inside.rtc);
-      ticks = ls;
-    }) (lines c)
-    ∙ ap (acted ClockRead) c.self.view_is
-
 before : (c : goal.After-push_change-2) → c.where_plain-before.result ≡ shown (parts_of c.self.inside) c.self.inside.rtc
 before c = rw (c.where_plain-before.ensures, c.legacy-legacy.ensures, c.irqf.ensures) refl
 
@@ -95,21 +83,31 @@ unfolding flagged_where
 after c = rw (c.where_plain-after.ensures, c.legacy-legacy.ensures, c.irqf-3.ensures)
     (ap (λ (r : RtcParts). not (is_legacy c.self.inside.hpet) && irqf_of r) (rtc_is c))
 
-pub returns-clause-edges : goal.returns-clause-edges
-returns-clause-edges c =
-    c.push_change-2.ensures.appended
-    ∙ ap (λ (es : List Edge). es ++ change c.args.at 8 c.where_plain-middle.result c.where_plain-after.result) c.push_change.ensures.appended
-    ∙ append_assoc c.args.edges.now (change c.args.at 8 c.where_plain-before.result c.where_plain-middle.result)
-    (change c.args.at 8 c.where_plain-middle.result c.where_plain-after.result)
-    ∙ ap (λ (es : List Edge). c.args.edges.now ++ es) (
-    ap (λ (b : Bool). change c.args.at 8 b c.where_plain-middle.result ++ change c.args.at 8 c.where_plain-middle.result c.where_plain-after.result) (before c)
-    ∙ ap (λ (b : Bool). change c.args.at 8 (shown (parts_of c.self.inside) c.self.inside.rtc) b ++ change c.args.at 8 b c.where_plain-after.result) (middle c)
-    ∙ ap (λ (b : Bool). change c.args.at 8 (shown (parts_of c.self.inside) c.self.inside.rtc)
-    (shown (parts_of c.self.inside) (after_rtc_read c.self.inside.rtc))
-    ++ change c.args.at 8 (shown (parts_of c.self.inside) (after_rtc_read c.self.inside.rtc)) b) (after c)
-    ∙ sym (edges-clock_read c.args.at (parts_of c.self.inside)))
-    ∙ ap (λ (x : DeviceParts). c.args.edges.now ++ act_edges c.args.at ClockRead x) c.self.view_is
-
-pub returns-clause-due : goal.returns-clause-due
-returns-clause-due c = λ k less. rw (← c.self.view_is)
-    (due-acked (reads_c (parts_of c.self.inside)) c.self.inside.ticks c.ack_clock_line.new.ticks c.self.invariant.places (lines c) k less)
+pub returns : goal.returns
+unfolding acted flagged_where
+returns c = record {
+  state = ap (λ (r : RtcParts). record (parts_of c.self.inside) { rtc = r; ticks = c.ack_clock_line.new.ticks }) (rtc_is c)
+      ∙ ap (λ (ls : List TickParts). record
+      (parts_of c.self.inside) {
+        rtc = flagged_where (reads_c (parts_of c.self.inside) 1 && goes_again (line_at 1 (parts_of c.self.inside)))
+            (after_rtc_read c.self.inside.rtc);
+        ticks = ls;
+      }) (lines c)
+      ∙ ap (acted ClockRead) c.self.view_is;
+  value = search rules;
+  edges = c.push_change-2.ensures.appended
+      ∙ ap (λ (es : List Edge). es ++ change c.args.at 8 c.where_plain-middle.result c.where_plain-after.result) c.push_change.ensures.appended
+      ∙ append_assoc c.args.edges.now (change c.args.at 8 c.where_plain-before.result c.where_plain-middle.result)
+      (change c.args.at 8 c.where_plain-middle.result c.where_plain-after.result)
+      ∙ ap (λ (es : List Edge). c.args.edges.now ++ es) (
+      ap (λ (b : Bool). change c.args.at 8 b c.where_plain-middle.result ++ change c.args.at 8 c.where_plain-middle.result c.where_plain-after.result) (before c)
+      ∙ ap (λ (b : Bool). change c.args.at 8 (shown (parts_of c.self.inside) c.self.inside.rtc) b ++ change c.args.at 8 b c.where_plain-after.result) (middle c)
+      ∙ ap (λ (b : Bool). change c.args.at 8 (shown (parts_of c.self.inside) c.self.inside.rtc)
+      (shown (parts_of c.self.inside) (after_rtc_read c.self.inside.rtc))
+      ++ change c.args.at 8 (shown (parts_of c.self.inside) (after_rtc_read c.self.inside.rtc)) b) (after c)
+      ∙ sym (edges-clock_read c.args.at (parts_of c.self.inside)))
+      ∙ ap (λ (x : DeviceParts). c.args.edges.now ++ act_edges c.args.at ClockRead x) c.self.view_is;
+  few = search rules;
+  due = λ k less. rw (← c.self.view_is)
+      (due-acked (reads_c (parts_of c.self.inside)) c.self.inside.ticks c.ack_clock_line.new.ticks c.self.invariant.places (lines c) k less);
+}

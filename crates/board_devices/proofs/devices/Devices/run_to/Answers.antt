@@ -18,16 +18,16 @@ still c = told-still c.args.self.now c.advance.new.times c.args.from c.args.to c
 pub returns-then-not-advance-clause-edges : goal.returns-then-not-advance-clause-edges
 returns-then-not-advance-clause-edges c =
     sym (ap (λ (es : List Edge). c.args.edges.now ++ es)
-    (edges-still c.args.self.now c.args.from c.args.to (still c) (c.args.to - c.args.from) (omega (arith, c.requires.order)))
+    (edges-still c.args.self.now c.args.from c.args.to (still c) (c.args.to - c.args.from) (omega (arith, c.requires.stretch.order)))
     ∙ append-nil c.args.edges.now)
 
 pub returns-then-not-advance-clause-lifts : goal.returns-then-not-advance-clause-lifts
 returns-then-not-advance-clause-lifts c = λ n.
     let none : lifts n (run c.args.from (c.args.to - c.args.from) c.args.self.now).edges
     ≡ 0 = ap (lifts n) (edges-still c.args.self.now c.args.from c.args.to (still c) (c.args.to - c.args.from)
-    (omega (arith, c.requires.order))) in
+    (omega (arith, c.requires.stretch.order))) in
     let same : one_if (level_of line_numbers (levels c.args.self.now) n) ≡ one_if (level_of line_numbers (levels c.advance.new.self) n) =
-    ap (λ (bs : List Bool). one_if (level_of line_numbers bs n)) (sym (still c (c.args.to - c.args.from) (omega (arith, c.requires.order))))
+    ap (λ (bs : List Bool). one_if (level_of line_numbers bs n)) (sym (still c (c.args.to - c.args.from) (omega (arith, c.requires.stretch.order))))
     ∙ ap (λ (d : DeviceParts). one_if (level_of line_numbers (levels d) n)) (sym c.advance.ensures.state) in
     omega (arith, none, same)
 
@@ -37,11 +37,11 @@ returns-clause-edges c =
     c.emit.ensures.appended ∙ ap (λ (es : List Edge). c.args.edges.now ++ es)
     (sym (edges-run c.args.self.now c.advance.new.times c.args.from c.args.to
     (told-moved c.args.self.now c.advance.new.times c.args.from c.args.to c.advance.result c.if-not-advance.false c.advance.ensures.levels)
-    (c.args.to - c.args.from) (omega (arith, c.requires.order))))
+    (c.args.to - c.args.from) (omega (arith, c.requires.stretch.order))))
 
 pub returns-clause-lifts : goal.returns-clause-lifts
 returns-clause-lifts c = λ n.
-    lifts-of_run n c.args.from c.args.to c.args.self.now c.advance.new.times c.requires.order (omega arith)
+    lifts-of_run n c.args.from c.args.to c.args.self.now c.advance.new.times c.requires.stretch.order (omega arith)
     (told-moved c.args.self.now c.advance.new.times c.args.from c.args.to c.advance.result c.if-not-advance.false c.advance.ensures.levels)
     ∙ ap (λ (d : DeviceParts). one_if (level_of line_numbers (levels d) n)) (sym c.advance.ensures.state)
 
@@ -51,13 +51,13 @@ returns-then-not-goes_up-clause-edges c =
     sym (ap (λ (es : List Edge). c.args.edges.now ++ es)
     (edges-run c.args.self.now c.advance.new.times c.args.from c.args.to
     (told-moved c.args.self.now c.advance.new.times c.args.from c.args.to c.advance.result c.if-not-advance.false c.advance.ensures.levels)
-    (c.args.to - c.args.from) (omega (arith, c.requires.order))
+    (c.args.to - c.args.from) (omega (arith, c.requires.stretch.order))
     ∙ rises_of-none line_numbers c.advance.new.times c.args.from c.args.to (c.args.to - c.args.from)
-    (c.goes_up.ensures c.if-not-goes_up.true c.args.to) (omega (arith, c.requires.order)))
+    (c.goes_up.ensures c.if-not-goes_up.true c.args.to) (omega (arith, c.requires.stretch.order)))
     ∙ append-nil c.args.edges.now)
 
 pub returns-then-not-goes_up-clause-lifts : goal.returns-then-not-goes_up-clause-lifts
 returns-then-not-goes_up-clause-lifts c = λ n.
-    lifts-of_run n c.args.from c.args.to c.args.self.now c.advance.new.times c.requires.order (omega arith)
+    lifts-of_run n c.args.from c.args.to c.args.self.now c.advance.new.times c.requires.stretch.order (omega arith)
     (told-moved c.args.self.now c.advance.new.times c.args.from c.args.to c.advance.result c.if-not-advance.false c.advance.ensures.levels)
     ∙ ap (λ (d : DeviceParts). one_if (level_of line_numbers (levels d) n)) (sym c.advance.ensures.state)
