@@ -1,5 +1,6 @@
 -- The conditions on the timers of local APICs are kept.
-use Rattle.std.proofs.Common.{◌≡◌, ℕ, ◌+◌, ◌<◌, ◌≤◌, Bool, true, false, cond, ltb, leb, eqb, ◌||◌, IsTrue, Option, Some, None, get_or, set, List, refl, sym, ap, subst, ◌∙◌, inl, inr, arith}
+use Rattle.std.proofs.Common.{◌≡◌, ℕ, ◌+◌, ◌<◌, ◌≤◌, Bool, true, false, cond, ltb, leb, eqb, ◌||◌, IsTrue, Option, Some, None, get_or, set, List}
+use Rattle.std.proofs.Common.{refl, sym, ap, subst, ◌∙◌, inl, inr, arith}
 use Rattle.std.proofs.lemmas.Bool.{cases_lt, cases_eq, and_from, and_left, and_right, lt-ltb, le-ltb, le-leb, lt-leb, leb-true, eqb-true, false≢true}
 use Rattle.std.proofs.lemmas.List.{get_or-replicate, get_or-set_same, get_or-set_other}
 use Rattle.std.proofs.Math.ListN.{get_or-map}
@@ -91,7 +92,8 @@ apic_msr format msr r legal some =
 
     by : (lvt : Bool) → eqb msr 0x832 ≡ lvt → (initial : Bool) → eqb msr 0x838 ≡ initial → (current : Bool) → eqb msr 0x839 ≡ current
         → (divide : Bool) → eqb msr 0x83e ≡ divide → (deadline : Bool) → eqb msr 0x6e0 ≡ deadline
-        → cond lvt (Some Lvt) (cond initial (Some Initial) (cond current (Some Current) (cond divide (Some Divide) (cond deadline (Some Deadline) None)))) ≡ Some r
+        → cond lvt (Some Lvt) (cond initial (Some Initial) (cond current (Some Current) (cond divide (Some Divide) (cond deadline (Some Deadline) None))))
+        ≡ Some r
         → APIC_FORMAT ≤ format
     by true e1 b2 e2 b3 e3 b4 e4 b5 e5 s = has (leb APIC_FORMAT format) refl (of 0x832 e1)
     by false e1 true e2 b3 e3 b4 e4 b5 e5 s = has (leb APIC_FORMAT format) refl (of 0x838 e2)

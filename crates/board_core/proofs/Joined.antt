@@ -1,5 +1,6 @@
 -- The conditions on the parts of a board are kept.
-use Rattle.std.proofs.Common.{◌≡◌, ℕ, zero, suc, ◌+◌, ◌*◌, ◌^◌, ◌<◌, ◌≤◌, Bool, true, false, cond, if◌then◌else◌, leb, eqb, List, length, get_or, set, replicate, Option, Some, None, IfSome, IsTrue, refl, sym, ap, subst, ◌∙◌, arith, inl, inr}
+use Rattle.std.proofs.Common.{◌≡◌, ℕ, zero, suc, ◌+◌, ◌*◌, ◌^◌, ◌<◌, ◌≤◌, Bool, true, false, cond, if◌then◌else◌, leb, eqb, List, length, get_or}
+use Rattle.std.proofs.Common.{set, replicate, Option, Some, None, IfSome, IsTrue, refl, sym, ap, subst, ◌∙◌, arith, inl, inr}
 use Rattle.std.proofs.lemmas.Bool.{cases_lt, cases_eq}
 use Rattle.std.proofs.lemmas.List.{get_or-set_same, get_or-set_other}
 use Rattle.irq_edges.specs.declared.edges.Edge.{Edge}
@@ -202,7 +203,8 @@ unfolding hv_published
 IsHv-published anchor format guest_khz cpus h writer p rate there valid less inside = by (bit 0 p.number) refl
   where
     page : Bool → HvParts
-    page b = with_page p (if b then page_published (hv_in p) guest_khz writer.offset (tsc_read anchor guest_khz h writer) (time_at anchor h) else withdrawn (hv_in p))
+    page b = with_page p
+        (if b then page_published (hv_in p) guest_khz writer.offset (tsc_read anchor guest_khz h writer) (time_at anchor h) else withdrawn (hv_in p))
 
     by : (b : Bool) → bit 0 p.number ≡ b → IsHv format guest_khz cpus (page b)
     by true on =

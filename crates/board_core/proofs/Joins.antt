@@ -1,5 +1,6 @@
 -- Two runs one after the other are one run, and times in which nothing comes.
-use Rattle.std.proofs.Common.{◌≡◌, ℕ, zero, suc, ◌+◌, ◌-◌, ◌*◌, ◌/◌, ◌<◌, ◌≤◌, Bool, true, false, cond, leb, max, List, [], ◌∷◌, ◌++◌, Option, Some, None, option_map, refl, sym, ap, subst, ◌∙◌, append_assoc, append-nil, arith}
+use Rattle.std.proofs.Common.{◌≡◌, ℕ, zero, suc, ◌+◌, ◌-◌, ◌*◌, ◌/◌, ◌<◌, ◌≤◌, Bool, true, false, cond, leb, max, List, [], ◌∷◌, ◌++◌, Option, Some}
+use Rattle.std.proofs.Common.{None, option_map, refl, sym, ap, subst, ◌∙◌, append_assoc, append-nil, arith}
 use Rattle.std.specs.Option.{option_or}
 use Rattle.std.proofs.Math.Nat.{zero-div}
 use Rattle.std.proofs.lemmas.Bool.{lt-leb}
@@ -174,7 +175,8 @@ module _ (b : BoardParts) (g h : ℕ) (runs : 0 < b.anchor.khz) where
       after_run-nanoseconds (after_run b g) h
       ∙ ap (λ (t : ℕ). record (passed_times t n (after_run b g)) { host = max (after_run b g).host h }) (sym start-after_run)
       ∙ ap (λ (x : BoardParts). record (passed_times (now_of b + m) n x) { host = max (after_run b g).host h }) (after_run-nanoseconds b g)
-      ∙ ap (λ (x : BoardParts). record x { host = max (after_run b g).host h }) (passed_times-host (now_of b + m) n (max b.host g) (passed_times (now_of b) m b))
+      ∙ ap (λ (x : BoardParts). record x { host = max (after_run b g).host h })
+      (passed_times-host (now_of b + m) n (max b.host g) (passed_times (now_of b) m b))
       ∙ ap (λ (x : BoardParts). record x { host = max (after_run b g).host h }) (sym (passed_times-joined (now_of b) m n b))
       ∙ ap (λ (k : ℕ). record (passed_times (now_of b) k b) { host = max (after_run b g).host h }) sum-after_run
       ∙ ap (λ (x : ℕ). record (passed_times (now_of b) (time_of_access b (max g h) - now_of b) b) { host = x }) hosts
@@ -266,7 +268,8 @@ look-none : (b : BoardParts) → AreApicPlaces (apics_in b) → AreIdle (apics_i
 unfolding after_look
 look-none b places idle = ap (λ (a : ApicsParts). with_apics a b) (look-idle (λ k. tscs_by_time b k (now_of b)) (apics_in b) places idle)
 
-one-counted : (b : BoardParts) (h : ℕ) → record (after_run b h) { accesses = (after_run b h).accesses + 1 } ≡ after_run (record b { accesses = b.accesses + 1 }) h
+one-counted : (b : BoardParts) (h : ℕ) → record (after_run b h) { accesses = (after_run b h).accesses + 1 }
+    ≡ after_run (record b { accesses = b.accesses + 1 }) h
 unfolding after_run
 one-counted b h = refl
 
@@ -299,7 +302,8 @@ reply_of-quiet b cpu q g h a passive runs quiet before within =
     let c : BoardParts = after_run b g in
     let value : Value = value_at (after_run c h) cpu h a in
     ap (λ (n : ℕ). reply_with (n + 1) value ((ran_to c h).edges ++ own_edges (after_run c h) a) (bursts_to c h)) (accesses-after_run b g)
-    ∙ ap (λ (es : List Edge). reply_with (b.accesses + 1) value (es ++ own_edges (after_run c h) a) (bursts_to c h)) (edges-quiet b q g h runs quiet before within)
+    ∙ ap (λ (es : List Edge). reply_with (b.accesses + 1) value (es ++ own_edges (after_run c h) a) (bursts_to c h))
+    (edges-quiet b q g h runs quiet before within)
     ∙ ap (λ (es : List Edge). reply_with (b.accesses + 1) value es (bursts_to c h)) (own-passive (after_run c h) a passive)
     ∙ ap (reply_with (b.accesses + 1) value []) (bursts-quiet b q g h runs quiet before within)
     ∙ ap (λ (v : Value). reply_with (b.accesses + 1) v [] [])

@@ -33,7 +33,8 @@ IsLazy-greatest b n host horizon is = record {
   lag = is.lag;
 }
 
-module _ (b : BoardParts) (host horizon cpu h : ℕ) (joined : IsJoined b) (is : IsLazy b host horizon) (before : h < horizon) (started : b.anchor.start ≤ h) where
+module _ (b : BoardParts) (host horizon cpu h : ℕ) (joined : IsJoined b) (is : IsLazy b host horizon) (before : h < horizon)
+    (started : b.anchor.start ≤ h) where
   runs : 0 < b.anchor.khz
   runs = omega (arith, joined.rates.host.slow)
 

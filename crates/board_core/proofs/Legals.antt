@@ -72,7 +72,8 @@ raised-page ps wall hv cpu a fresh = by (publishes_wall a) refl
 
     by : (b : Bool) → publishes_wall a ≡ b → IfSome (published_by cpu a) (λ k. (get_or ps k no_processor).version < LAST_VERSION)
     by true is = subst (λ (p : Option ℕ). IfSome p (λ k. (get_or ps k no_processor).version < LAST_VERSION)) (sym (page-or-wall cpu a is)) tt
-    by false is = by_hv (publishes_hv a) refl (subst (λ (b : Bool). IfSome (cond b (Some wall) (cond (publishes_hv a) (Some hv) (version_at (published_by cpu a) ps)))
+    by false is = by_hv (publishes_hv a) refl (subst
+        (λ (b : Bool). IfSome (cond b (Some wall) (cond (publishes_hv a) (Some hv) (version_at (published_by cpu a) ps)))
         (λ v. v < LAST_VERSION)) is fresh)
       where
         by_hv : (b : Bool) → publishes_hv a ≡ b → IfSome (cond b (Some hv) (version_at (published_by cpu a) ps)) (λ v. v < LAST_VERSION)

@@ -4,7 +4,8 @@ use Rattle.std.proofs.lemmas.Bool.{eqb-true, or_cases, false≢true}
 use Rattle.hpet_registers.specs.Access.{hpet_read, part_of}
 use Rattle.hpet_registers.specs.declared.parts.HpetParts.{HpetParts}
 use Rattle.board_types.specs.declared.access.Access.{Access}
-use Rattle.board_types.specs.declared.access.Access.TheVariants.{PortIn, PortOut, HpetRead, HpetWrite, MsrRead, MsrWrite, Ack, Step, Refresh, Wall, CountsOf, Next, Rose, Eoi}
+use Rattle.board_types.specs.declared.access.Access.TheVariants.{PortIn, PortOut, HpetRead, HpetWrite, MsrRead, MsrWrite, Ack, Step, Refresh, Wall}
+use Rattle.board_types.specs.declared.access.Access.TheVariants.{CountsOf, Next, Rose, Eoi}
 use Rattle.board_types.specs.declared.parts.BoardParts.{BoardParts}
 use Rattle.board_types.specs.declared.reply.Value.TheVariants.{Nothing, Word}
 use Rattle.irq_edges.specs.declared.edges.Edge.{Edge}
@@ -89,14 +90,16 @@ refusal_of-passive x cpu h = by-kind (λ a. refusal_of x cpu h a ≡ refusal_of 
 pub value_at-passive : (b : BoardParts) (n g cpu h : ℕ) (a : Access) → is_passive a ≡ true
     → value_at (after_run (record b { accesses = n }) g) cpu h a ≡ value_at (after_run b g) cpu h a
 unfolding value_at after_run
-value_at-passive b n g cpu h = by-kind (λ a. value_at (after_run (record b { accesses = n }) g) cpu h a ≡ value_at (after_run b g) cpu h a) refl (λ offset width. refl)
+value_at-passive b n g cpu h =
+    by-kind (λ a. value_at (after_run (record b { accesses = n }) g) cpu h a ≡ value_at (after_run b g) cpu h a) refl (λ offset width. refl)
 
 -- what such a read gives: the main counter, or its low half
 both : (a b : Bool) → (a && b) ≡ true → (a ≡ true) × (b ≡ true)
 both true b e = (refl, e)
 both false b e = absurd (false≢true e)
 
-pub hpet_read-passive : (offset width : ℕ) (h : HpetParts) → is_passive (HpetRead offset width) ≡ true → hpet_read offset width h ≡ part_of width false h.counter
+pub hpet_read-passive : (offset width : ℕ) (h : HpetParts) → is_passive (HpetRead offset width) ≡ true
+    → hpet_read offset width h ≡ part_of width false h.counter
 hpet_read-passive offset width h is =
     let parts : (eqb offset 0xf0 ≡ true) × ((eqb width 4 || eqb width 8) ≡ true) = both (eqb offset 0xf0) (eqb width 4 || eqb width 8) is in
     ap (λ (o : ℕ). hpet_read o width h) (eqb-true offset 0xf0 parts.0)
@@ -110,7 +113,8 @@ pub value-read : (x : BoardParts) (cpu h offset width : ℕ) → is_passive (Hpe
 unfolding value_at value_of
 value-read x cpu h offset width is = ap (Word width) (sym (hpet_read-passive offset width x.hpet is))
 
-pub value-step : (x : BoardParts) (cpu h : ℕ) (a : Access) → is_passive a ≡ true → ((offset width : ℕ) → a ≡ HpetRead offset width → ⊥) → Nothing ≡ value_at x cpu h a
+pub value-step : (x : BoardParts) (cpu h : ℕ) (a : Access) → is_passive a ≡ true → ((offset width : ℕ) → a ≡ HpetRead offset width → ⊥)
+    → Nothing ≡ value_at x cpu h a
 unfolding value_at
 value-step x cpu h a is other = elim (passive-is a is) [
   | inl e ↦ subst (λ (b : Access). Nothing ≡ value_at x cpu h b) (sym e) refl

@@ -170,7 +170,8 @@ unfolding passed fires_next divisor
 next-not_second = refl
 
 -- the five MSRs act on the timer of the accessing processor, and those of 32 bits take the low half
-written-lvt : apics_acted 1 (MsrWrite 0x832 0x100030030) (two no_timer no_timer no_line no_line) ≡ two no_timer (record no_timer { lvt = 0x30030 }) no_line no_line
+written-lvt : apics_acted 1 (MsrWrite 0x832 0x100030030) (two no_timer no_timer no_line no_line)
+    ≡ two no_timer (record no_timer { lvt = 0x30030 }) no_line no_line
 written-lvt = refl
 
 written-initial : apics_acted 1 (MsrWrite 0x838 0x100000005) (two no_timer no_timer no_line no_line)
@@ -180,7 +181,8 @@ written-initial = refl
 written-current : apics_acted 1 (MsrWrite 0x839 5) (two no_timer timer no_line no_line) ≡ two no_timer timer no_line no_line
 written-current = refl
 
-written-divide : apics_acted 0 (MsrWrite 0x83e 0x10000000b) (two no_timer no_timer no_line no_line) ≡ two (record no_timer { divide = 11 }) no_timer no_line no_line
+written-divide : apics_acted 0 (MsrWrite 0x83e 0x10000000b) (two no_timer no_timer no_line no_line)
+    ≡ two (record no_timer { divide = 11 }) no_timer no_line no_line
 written-divide = refl
 
 written-tsc : apics_acted 0 (MsrWrite 0x10 7) (two timer timer line line) ≡ two timer timer line line

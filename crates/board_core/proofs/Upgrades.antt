@@ -48,4 +48,5 @@ pub due-later : (more messages : Bool) (d : DeviceParts) (k : ℕ) → (get_or (
     ≤ (line_at k d).counts.due
 unfolding devices_upgraded
 due-later false messages d k = omega arith
-due-later true messages d k = due-each (line_upgraded d) 0 k d.ticks (λ j l. due-where (ltb j (d.hpet.timers + 2)) l (line_at_power_on (line_at 2 d).policy) refl)
+due-later true messages d k = due-each (line_upgraded d) 0 k d.ticks
+    (λ j l. due-where (ltb j (d.hpet.timers + 2)) l (line_at_power_on (line_at 2 d).policy) refl)

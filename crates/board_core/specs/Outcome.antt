@@ -57,10 +57,10 @@ pub record IsOutcome {T : Type 0} (b : BoardParts) (cpu h : ℕ) (a : Access) (r
 -- a read of the page of processor cpu at count h gives what the board's page gives there, or why there
 -- is no time at h
 pub record IsPageRead (b : BoardParts) (cpu h : ℕ) (result : Result PageReply TimeFault) : Type 0
-    where
-  pub ok : OnOk result (HasTime b.anchor h)
-  pub value : IfOk result (λ r. r ≡ page_reply b cpu h)
-  pub fault : IfErr result (IsFaultAt b.anchor h)
+  where
+    pub ok : OnOk result (HasTime b.anchor h)
+    pub value : IfOk result (λ r. r ≡ page_reply b cpu h)
+    pub fault : IfErr result (IsFaultAt b.anchor h)
 
 -- the same of a read of the clock, which leaves board `after`
 pub record IsClockRead (b : BoardParts) (cpu h : ℕ) (result : Result ClockReply TimeFault)

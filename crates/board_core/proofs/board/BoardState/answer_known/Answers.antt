@@ -1,4 +1,4 @@
-use Rattle.std.proofs.Common.{◌≡◌, ℕ, List, [], ◌++◌, length, length-append, ap, sym, subst, ◌∙◌, arith}
+use Rattle.std.proofs.Common.{rules, ◌≡◌, ℕ, List, [], ◌++◌, length, length-append, ap, sym, subst, ◌∙◌, arith}
 use Rattle.std.specs.List.{All}
 use Rattle.irq_edges.specs.Lines.{IsOfLine}
 use Rattle.irq_edges.specs.declared.edges.Edge.{Edge}

@@ -1,4 +1,4 @@
-use Rattle.std.proofs.Common.{ℕ, List, ◌++◌, append-nil, ap, sym, ◌∙◌}
+use Rattle.std.proofs.Common.{arith, ℕ, List, ◌++◌, append-nil, ap, sym, ◌∙◌}
 use Rattle.irq_edges.specs.declared.edges.Edge.{Edge}
 use Rattle.board_types.specs.declared.reply.Value.TheVariants.{Nothing}
 use Rattle.board_core.specs.private.Values.{value_with}

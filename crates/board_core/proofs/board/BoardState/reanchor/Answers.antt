@@ -61,7 +61,8 @@ invariant_of-self c =
             (AreApics-ran b.format b.cpus (now_of b + b.accesses) (tscs_by_time b) c.self.inside.time_ns (to - c.self.inside.time_ns) (apics_in b)
             c.self.invariant.joined.apics)) (omega (arith, from, now_is));
         hv = c.self.invariant.joined.hv;
-        rises = subst (λ (rs : List ℕ). AreRises c.self.inside.format c.self.inside.accesses (levels c.run_to-came.new.self) rs) (sym c.count_rises_where.ensures)
+        rises = subst (λ (rs : List ℕ). AreRises c.self.inside.format c.self.inside.accesses (levels c.run_to-came.new.self) rs)
+            (sym c.count_rises_where.ensures)
             (AreRises-after c.self.inside.format c.self.inside.accesses c.self.inside.accesses 0 (levels c.self.inside.devices) (levels c.run_to-came.new.self)
             c.run_to-came.new.edges c.self.inside.rises (omega arith) (omega arith) c.self.invariant.joined.rises
             (λ line. omega (arith, ap (lifts line) es, c.run_to-came.ensures.lifts line)));

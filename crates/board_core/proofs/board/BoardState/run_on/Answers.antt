@@ -60,7 +60,8 @@ ran_is c =
 edges_are : (c : goal.After-count_rises_where) → c.run_to-came.new.edges ≡ c.args.edges.now ++ (ran_to (seen c) c.args.h).edges
 edges_are c = c.run_to-came.ensures.edges ∙ ap (λ (r : Ran). c.args.edges.now ++ r.edges) (ran_is c)
 
-rises_are : (c : goal.After-count_rises_where) → c.count_rises_where.new.rises ≡ rises_after c.self.inside.format (ran_to (seen c) c.args.h).edges c.self.inside.rises
+rises_are : (c : goal.After-count_rises_where)
+    → c.count_rises_where.new.rises ≡ rises_after c.self.inside.format (ran_to (seen c) c.args.h).edges c.self.inside.rises
 rises_are c =
     c.count_rises_where.ensures
     ∙ ap (λ (es : List Edge). rises_after c.self.inside.format es c.self.inside.rises)

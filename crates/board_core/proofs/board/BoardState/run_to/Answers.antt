@@ -68,7 +68,7 @@ returns-then-h-self-clause-ran c =
     record {
       state = sym c.self.view_is ∙ run-none b c.args.h stays b.host (omega (arith, c.if-h-self.true)) ∙ ap (λ (x : BoardParts). after_run x c.args.h) c.self.view_is;
       edges = sym (ap (λ (x : BoardParts). c.args.edges.now ++ (ran_to x c.args.h).edges) (sym c.self.view_is)
-      ∙ ap (λ (es : List Edge). c.args.edges.now ++ es) (edges-none b c.args.h stays) ∙ append-nil c.args.edges.now);
+          ∙ ap (λ (es : List Edge). c.args.edges.now ++ es) (edges-none b c.args.h stays) ∙ append-nil c.args.edges.now);
       bursts = c.requires.fresh ∙ sym (ap (λ (x : BoardParts). bursts_to x c.args.h) (sym c.self.view_is) ∙ bursts-none b c.args.h stays);
       few = subst (λ (x : BoardParts). length (ran_to x c.args.h).edges ≤ 6) c.self.view_is (omega (arith, ap length (edges-none b c.args.h stays)));
       room = omega arith;

@@ -4,7 +4,7 @@ use Rattle.board_core.specs.Hv.{hv_after}
 use Rattle.local_apics.specs.declared.parts.ApicsParts.{ApicsParts}
 use Rattle.board_core.specs.Apics.{apics_in, apics_acted}
 use Rattle.board_core.proofs.Kept.{hv-kept, apics-kept}
-use Rattle.std.proofs.Common.{false, ◌≡◌, ℕ, ◌+◌, ◌<◌, ◌≤◌, List, ◌++◌, drop, ap, sym, subst, ◌∙◌, arith}
+use Rattle.std.proofs.Common.{rules, false, ◌≡◌, ℕ, ◌+◌, ◌<◌, ◌≤◌, List, ◌++◌, drop, ap, sym, subst, ◌∙◌, arith}
 use Rattle.std.proofs.Math.Seq.{drop-append_seam}
 use Rattle.irq_edges.specs.declared.edges.Edge.{Edge}
 use Rattle.board_types.specs.declared.parts.BoardParts.{BoardParts}
@@ -31,16 +31,29 @@ use Rattle.board_core.proofs.Kept.{touches-quiet, number-kept, version-kept, pro
 use Rattle.board_core.proofs.Joined.{IsJoined-acted}
 use Rattle.board_core.proofs.board.BoardState.touch.Goals as goal
 
+pub act-word-requires : goal.act-word-requires
+act-word-requires c = record {
+  legal = search rules;
+  room = omega (
+    arith,
+    c.self.invariant.joined.due 0 (omega arith),
+    c.self.invariant.joined.accesses,
+    c.self.invariant.joined.time.range,
+    c.self.invariant.time,
+  );
+  places = c.requires.places;
+}
+
 -- the board that the access finds
 abbrev seen : goal.After-count_rises → BoardParts
 seen c = board_parts_of c.self.inside
 
 acted_is : (c : goal.After-count_rises) → c.act-word.new.self ≡ acted (act_of c.args.a.now) (devices_in (seen c))
-acted_is c = c.act-word.ensures.state ∙ ap (λ (x : Act). acted x c.self.inside.devices) c.act_of.ensures
+acted_is c = c.act-word.ensures.acted.state ∙ ap (λ (x : Act). acted x c.self.inside.devices) c.act_of.ensures
 
 edges_are : (c : goal.After-count_rises) → c.act-word.new.edges ≡ c.args.edges.now ++ own_edges (seen c) c.args.a.now
 edges_are c =
-    c.act-word.ensures.edges
+    c.act-word.ensures.acted.edges
     ∙ ap (λ (x : Act). c.args.edges.now ++ act_edges c.self.inside.time_ns x c.self.inside.devices) c.act_of.ensures
     ∙ ap (λ (t : ℕ). c.args.edges.now ++ act_edges t (act_of c.args.a.now) c.self.inside.devices) c.self.invariant.time
 
@@ -58,7 +71,7 @@ due_is : (c : goal.After-count_rises) (k : ℕ) → k < 10
     → (line_at k (acted (act_of c.args.a.now) (devices_in (seen c)))).counts.due ≤ (line_at k (devices_in (seen c))).counts.due + 1
 due_is c k less =
     subst (λ (d : DeviceParts). (line_at k d).counts.due ≤ (line_at k (devices_in (seen c))).counts.due + 1) (acted_is c)
-    (c.act-word.ensures.due k less)
+    (c.act-word.ensures.acted.due k less)
 
 lifts_are : (c : goal.After-count_rises) (n : ℕ) → lifts n (own_edges (seen c) c.args.a.now) + one_if (level_of line_numbers (levels (devices_in (seen c))) n)
     ≤ 1 + one_if (level_of line_numbers (levels (acted (act_of c.args.a.now) (devices_in (seen c)))) n)
@@ -80,8 +93,9 @@ quiet c = touches-quiet c.args.a.now c.requires.touches
 state_is : (c : goal.After-count_rises) (cpu h : ℕ) → with_parts (seen c) c.act-word.new.self (seen c).wall_number (seen c).wall_version
     (seen c).processors c.count_rises.new.rises (seen c).hv (apics_in (seen c)) ≡ before_look (seen c) cpu h c.args.a.now
 state_is c cpu h =
-    with_parts-is (seen c) cpu h c.args.a.now c.act-word.new.self (seen c).wall_number (seen c).wall_version (seen c).processors c.count_rises.new.rises (seen c).hv
-    (apics_in (seen c)) (acted_is c) (sym (number-kept c.args.a.now (seen c).wall_number (quiet c))) (sym (version-kept c.args.a.now (seen c).wall_version (quiet c)))
+    with_parts-is (seen c) cpu h c.args.a.now c.act-word.new.self (seen c).wall_number (seen c).wall_version (seen c).processors
+    c.count_rises.new.rises (seen c).hv (apics_in (seen c)) (acted_is c) (sym (number-kept c.args.a.now (seen c).wall_number (quiet c)))
+    (sym (version-kept c.args.a.now (seen c).wall_version (quiet c)))
     (sym (processors-kept (seen c).anchor (seen c).guest_khz cpu h c.args.a.now (seen c).processors (quiet c))) (rises_are c)
     (sym (hv-kept (seen c).anchor (seen c).guest_khz cpu h c.args.a.now (seen c).processors (seen c).hv (quiet c)))
     (sym (apics-kept cpu c.args.a.now (apics_in (seen c)) (quiet c)))
@@ -126,7 +140,7 @@ returns-clause-state c = λ cpu h. state_is c cpu h ∙ ap (λ (b : BoardParts).
 
 pub returns-clause-word : goal.returns-clause-word
 returns-clause-word c =
-    c.act-word.ensures.value
+    c.act-word.ensures.acted.value
     ∙ ap (λ (x : Act). value_of c.self.inside.time_ns x c.self.inside.devices) c.act_of.ensures
     ∙ ap (λ (t : ℕ). value_of t (act_of c.args.a.now) c.self.inside.devices) c.self.invariant.time
     ∙ ap (λ (b : BoardParts). value_of (now_of b) (act_of c.args.a.now) (devices_in b)) c.self.view_is
