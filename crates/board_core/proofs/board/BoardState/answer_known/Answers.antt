@@ -58,7 +58,8 @@ returns c =
     let value : c.act-value.result ≡ r.value =
     c.act-value.ensures.told.value ∙ ap (λ (x : BoardParts). value_at x c.args.cpu c.args.h c.args.a) c.run_to-looked.ensures.ran.state in
     let edges : c.act-value.new.edges ≡ edges_of b c.args.h c.args.a =
-    edges_are b _ c.args.h c.args.a _ _ _ c.run_to-looked.ensures.ran.state c.requires.fresh.edges c.run_to-looked.ensures.ran.edges c.act-value.ensures.told.edges in
+    edges_are b _ c.args.h c.args.a _ _ _ c.run_to-looked.ensures.ran.state c.requires.fresh.edges c.run_to-looked.ensures.ran.edges
+    c.act-value.ensures.told.edges in
     record {
       refused = tt;
       unchanged = tt;

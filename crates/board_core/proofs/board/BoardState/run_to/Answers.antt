@@ -66,7 +66,8 @@ returns-then-h-self-clause-ran c =
     let stays : now_of b ≡ time_of_access b c.args.h = stays_at b c.args.h c.self.invariant.joined
     (subst (λ (x : BoardParts). HasTime x.anchor c.args.h) (sym c.self.view_is) c.requires.time) c.if-h-self.true in
     record {
-      state = sym c.self.view_is ∙ run-none b c.args.h stays b.host (omega (arith, c.if-h-self.true)) ∙ ap (λ (x : BoardParts). after_run x c.args.h) c.self.view_is;
+      state = sym c.self.view_is ∙ run-none b c.args.h stays b.host (omega (arith, c.if-h-self.true))
+          ∙ ap (λ (x : BoardParts). after_run x c.args.h) c.self.view_is;
       edges = sym (ap (λ (x : BoardParts). c.args.edges.now ++ (ran_to x c.args.h).edges) (sym c.self.view_is)
           ∙ ap (λ (es : List Edge). c.args.edges.now ++ es) (edges-none b c.args.h stays) ∙ append-nil c.args.edges.now);
       bursts = c.requires.fresh ∙ sym (ap (λ (x : BoardParts). bursts_to x c.args.h) (sym c.self.view_is) ∙ bursts-none b c.args.h stays);

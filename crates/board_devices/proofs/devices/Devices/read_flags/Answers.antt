@@ -100,7 +100,8 @@ returns c = record {
       ∙ append_assoc c.args.edges.now (change c.args.at 8 c.where_plain-before.result c.where_plain-middle.result)
       (change c.args.at 8 c.where_plain-middle.result c.where_plain-after.result)
       ∙ ap (λ (es : List Edge). c.args.edges.now ++ es) (
-      ap (λ (b : Bool). change c.args.at 8 b c.where_plain-middle.result ++ change c.args.at 8 c.where_plain-middle.result c.where_plain-after.result) (before c)
+      ap (λ (b : Bool). change c.args.at 8 b c.where_plain-middle.result ++ change c.args.at 8 c.where_plain-middle.result c.where_plain-after.result)
+      (before c)
       ∙ ap (λ (b : Bool). change c.args.at 8 (shown (parts_of c.self.inside) c.self.inside.rtc) b ++ change c.args.at 8 b c.where_plain-after.result) (middle c)
       ∙ ap (λ (b : Bool). change c.args.at 8 (shown (parts_of c.self.inside) c.self.inside.rtc)
       (shown (parts_of c.self.inside) (after_rtc_read c.self.inside.rtc))
