@@ -3,16 +3,14 @@
 ghost use Rattle.std.specs.Prelude.{◌≡◌, ◌<◌, ◌≤◌, ◌+◌, ◌^◌, ◌++◌, ◌⊎◌, All, IfOk, OnOk, OnErr, length, take, vec_len};
 ghost use Rattle.std.specs.Bool.{OnTrue};
 ghost use Rattle.board_history.specs.History.{IsLegal};
-ghost use Rattle.shared_board.specs.declared.known.PassKnown.{PassKnown};
-ghost use Rattle.shared_board.specs.Passes.{Unanswered};
 ghost use Rattle.race_phase.specs.Calls.{IsFitting};
-ghost use Rattle.race_phase.specs.private.Told.{answer_with};
 ghost use Rattle.race_phase.specs.private.Workers.{
-  IsMade,
-  IsTrouble,
   place_text,
   places_text,
   AllAnswered,
+  AreAskable,
+  HasAnswered,
+  HasGoneOn,
   HasHalted,
   HasPrinted,
 };
@@ -21,11 +19,12 @@ use crate::deliveries::Deliveries;
 use crate::records::Record;
 use crate::texts::append_block;
 use crate::told::Told;
+use crate::worker::Worker;
 use board_core::{Access, Reply};
 use board_io::Gate;
 use clk_units::NoMemory;
 use clock_table::Name;
-use shared_board::{Holding, Pass, SharedBoard};
+use shared_board::{Asked, Holding, Pass};
 use std::alloc::Global;
 use std::sync::Wait;
 use trace_text::Call;
@@ -65,10 +64,7 @@ pub(crate) fn new_places(alloc: Global, count: usize) -> Result<Vec<Place>, NoMe
 /// Answers records in order, and then appends their blocks. It stops at the first record that isn't answered, and then
 /// appends none. `index` is that of the first for the gate.
 pub(crate) fn print_all<N: Name, R: Wait, G: Gate>(
-    rt: &R,
-    gate: &G,
-    board: &SharedBoard<N>,
-    deliveries: &Deliveries,
+    worker: &Worker<'_, N, R, G>,
     pass: &mut Pass<N>,
     records: &[Record],
     index: u64,
@@ -79,34 +75,29 @@ pub(crate) fn print_all<N: Name, R: Wait, G: Gate>(
     requires small { index + length records.now < 2 ^ 64 }
     requires fitting { All (IsFitting N.state.cpus N.state.format) records.now }
     requires legal { IsLegal pass.old.seen }
-    ensures ok { IfOk result (λ told. OnOk told (HasPrinted N.state deliveries.now records.now
-        out.old.items out.new.items pass.old pass.new)) }
+    ensures ok { IfOk result (λ told. OnOk told (HasPrinted N.state worker.now.deliveries.now
+        records.now out.old.items out.new.items pass.old pass.new)) }
     ensures legal { IfOk result (λ told. OnOk told (IsLegal pass.new.seen)) }
     ensures err { IfOk result
         (λ told. OnErr told (HasHalted N.state records.now pass.old pass.new)) }
 {
-    let Ok(()) = answer_all(rt, gate, board, pass, records, index, places) else {
+    let Ok(()) = answer_all(worker, pass, records, index, places) else {
         return Ok(Err(Halted));
     };
-    append_blocks(records, &places[..records.len()], deliveries, out)?;
+    append_blocks(records, &places[..records.len()], worker.deliveries, out)?;
     Ok(Ok(()))
 }
 
 /// Answers records in order, each between two calls of the gate, and puts what each was told into its place. It stops at
 /// the first record that isn't answered. `index` is that of the first for the gate.
 fn answer_all<N: Name, R: Wait, G: Gate>(
-    rt: &R,
-    gate: &G,
-    board: &SharedBoard<N>,
+    worker: &Worker<'_, N, R, G>,
     pass: &mut Pass<N>,
     records: &[Record],
     index: u64,
     places: &mut [Place],
 ) -> Result<(), Halted>
-    requires places { length records.now ≤ length places.old }
-    requires small { index + length records.now < 2 ^ 64 }
-    requires fitting { All (IsFitting N.state.cpus N.state.format) records.now }
-    requires legal { IsLegal pass.old.seen }
+    requires { AreAskable N.state index records.now places.old pass.old }
     ensures ok { OnOk result (AllAnswered N.state records.now
         (take (length records.now) places.new) pass.old pass.new) }
     ensures legal { OnOk result (IsLegal pass.new.seen) }
@@ -114,11 +105,11 @@ fn answer_all<N: Name, R: Wait, G: Gate>(
 {
     let mut done = 0;
     while done < records.len() {
-        let run = match answer_run(rt, gate, board, pass, records, index, places, done) {
+        let run = match answer_run(worker, pass, records, index, places, done) {
             Ok(behind) => behind,
             Err(Halted) => return Err(Halted),
         };
-        match answer_next(rt, gate, board, pass, records, index, places, run) {
+        match answer_next(worker, pass, records, index, places, run) {
             Ok(behind) => done = behind,
             Err(Halted) => return Err(Halted),
         }
@@ -140,37 +131,25 @@ fn begins_run(records: &[Record], done: usize) -> bool
 /// says at which place it stops, where there is no access, or no record; or that one of the accesses wasn't answered. The
 /// gate's first and last calls are outside of the lock.
 fn answer_run<N: Name, R: Wait, G: Gate>(
-    rt: &R,
-    gate: &G,
-    board: &SharedBoard<N>,
+    worker: &Worker<'_, N, R, G>,
     pass: &mut Pass<N>,
     records: &[Record],
     index: u64,
     places: &mut [Place],
     from: usize,
 ) -> Result<usize, Halted>
-    requires places { length records.now ≤ length places.old }
-    requires small { index + length records.now < 2 ^ 64 }
-    requires fitting { All (IsFitting N.state.cpus N.state.format) records.now }
-    requires legal { IsLegal pass.old.seen }
+    requires fit { AreAskable N.state index records.now places.old pass.old }
     requires from { from < length records.now }
     ensures behind { IfOk result (λ k. (from ≤ k) × (k ≤ length records.now)) }
-    ensures places { length places.new ≡ length places.old }
-    ensures ok { IfOk result (λ k. (p : PassKnown)
-        → AllAnswered N.state (take from records.now) (take from places.old) p pass.old
-        → AllAnswered N.state (take k records.now) (take k places.new) p pass.new) }
-    ensures legal { OnOk result (IsLegal pass.new.seen) }
-    ensures err { OnErr result ((p : PassKnown)
-        → AllAnswered N.state (take from records.now) (take from places.old) p pass.old
-        → HasHalted N.state records.now p pass.new) }
+    ensures told { HasGoneOn N.state records.now places.old places.new from result pass.old pass.new }
 {
     if !begins_run(records, from) {
         return Ok(from);
     }
     let cpu = records[from].cpu;
     let mut last = index + from as u64;
-    gate.before(rt, cpu, last);
-    let mut holding = board.hold(rt);
+    worker.gate.before(worker.rt, cpu, last);
+    let mut holding = worker.board.hold(worker.rt);
     let mut done = from;
     while done < records.len() {
         let record = &records[done];
@@ -179,13 +158,12 @@ fn answer_run<N: Name, R: Wait, G: Gate>(
         };
         let at = index + done as u64;
         if at > last {
-            gate.after(rt, cpu, last);
-            gate.before(rt, cpu, at);
+            worker.gate.after(worker.rt, cpu, last);
+            worker.gate.before(worker.rt, cpu, at);
             last = at;
         }
         match answer_access(
-            rt,
-            gate,
+            worker,
             &mut holding,
             pass,
             record,
@@ -198,43 +176,31 @@ fn answer_run<N: Name, R: Wait, G: Gate>(
         done += 1;
     }
     drop(holding);
-    gate.after(rt, cpu, last);
+    worker.gate.after(worker.rt, cpu, last);
     Ok(done)
 }
 
 /// Answers the record at a place, where there is one. It says at which place it stops, or that the record wasn't answered.
 fn answer_next<N: Name, R: Wait, G: Gate>(
-    rt: &R,
-    gate: &G,
-    board: &SharedBoard<N>,
+    worker: &Worker<'_, N, R, G>,
     pass: &mut Pass<N>,
     records: &[Record],
     index: u64,
     places: &mut [Place],
     from: usize,
 ) -> Result<usize, Halted>
-    requires places { length records.now ≤ length places.old }
-    requires small { index + length records.now < 2 ^ 64 }
-    requires fitting { All (IsFitting N.state.cpus N.state.format) records.now }
-    requires legal { IsLegal pass.old.seen }
+    requires fit { AreAskable N.state index records.now places.old pass.old }
     requires from { from ≤ length records.now }
     ensures behind { IfOk result (λ k. (k ≡ from) × (k ≡ length records.now)
         ⊎ (k ≡ from + 1) × (k ≤ length records.now)) }
-    ensures places { length places.new ≡ length places.old }
-    ensures ok { IfOk result (λ k. (p : PassKnown)
-        → AllAnswered N.state (take from records.now) (take from places.old) p pass.old
-        → AllAnswered N.state (take k records.now) (take k places.new) p pass.new) }
-    ensures legal { OnOk result (IsLegal pass.new.seen) }
-    ensures err { OnErr result ((p : PassKnown)
-        → AllAnswered N.state (take from records.now) (take from places.old) p pass.old
-        → HasHalted N.state records.now p pass.new) }
+    ensures told { HasGoneOn N.state records.now places.old places.new from result pass.old pass.new }
 {
     if from == records.len() {
         return Ok(from);
     }
     let record = &records[from];
     let at = index + from as u64;
-    match held(rt, gate, board, pass, record, at, &mut places[from]) {
+    match held(worker, pass, record, at, &mut places[from]) {
         Ok(()) => Ok(from + 1),
         Err(Halted) => Err(Halted),
     }
@@ -243,8 +209,7 @@ fn answer_next<N: Name, R: Wait, G: Gate>(
 /// Answers a record that is an access, under the lock.
 #[inline(always)]
 fn answer_access<N: Name, R: Wait, G: Gate>(
-    rt: &R,
-    gate: &G,
+    worker: &Worker<'_, N, R, G>,
     holding: &mut Holding<'_, N>,
     pass: &mut Pass<N>,
     given: &Record,
@@ -254,14 +219,16 @@ fn answer_access<N: Name, R: Wait, G: Gate>(
     requires call { given.now.call ≡ Call.Act access }
     requires fitting { IsFitting N.state.cpus N.state.format given.now }
     requires legal { IsLegal pass.old.seen }
-    ensures ok { OnOk result (IsMade N.state given.now
-        (answer_with place.new.told place.new.reply) pass.old pass.new) }
-    ensures err { OnErr result
-        (Unanswered pass.old pass.new × IsTrouble N.state given.now pass.new) }
+    ensures { HasAnswered N.state given.now place.new result pass.old pass.new }
 {
     place.told.note_act();
     place.reply.clear();
-    match holding.answer(rt, gate, pass, given.cpu, given.h, access, &mut place.reply) {
+    let asked = Asked {
+        cpu: given.cpu,
+        h: given.h,
+        access,
+    };
+    match holding.answer(worker.rt, worker.gate, pass, asked, &mut place.reply) {
         Ok(()) => Ok(()),
         Err(_refusal) => Err(Halted),
     }
@@ -270,9 +237,7 @@ fn answer_access<N: Name, R: Wait, G: Gate>(
 /// Answers a record between two calls of the gate, which are outside of the lock.
 #[inline(always)]
 fn held<N: Name, R: Wait, G: Gate>(
-    rt: &R,
-    gate: &G,
-    board: &SharedBoard<N>,
+    worker: &Worker<'_, N, R, G>,
     pass: &mut Pass<N>,
     given: &Record,
     index: u64,
@@ -280,53 +245,45 @@ fn held<N: Name, R: Wait, G: Gate>(
 ) -> Result<(), Halted>
     requires fitting { IsFitting N.state.cpus N.state.format given.now }
     requires legal { IsLegal pass.old.seen }
-    ensures ok { OnOk result (IsMade N.state given.now
-        (answer_with place.new.told place.new.reply) pass.old pass.new) }
-    ensures err { OnErr result
-        (Unanswered pass.old pass.new × IsTrouble N.state given.now pass.new) }
+    ensures { HasAnswered N.state given.now place.new result pass.old pass.new }
 {
-    gate.before(rt, given.cpu, index);
-    let result = answer(rt, gate, board, pass, given, place);
-    gate.after(rt, given.cpu, index);
+    worker.gate.before(worker.rt, given.cpu, index);
+    let result = answer(worker, pass, given, place);
+    worker.gate.after(worker.rt, given.cpu, index);
     result
 }
 
 /// Answers a record: an access under a lock of its own, a read of a page or of the clock without one.
 fn answer<N: Name, R: Wait, G: Gate>(
-    rt: &R,
-    gate: &G,
-    board: &SharedBoard<N>,
+    worker: &Worker<'_, N, R, G>,
     pass: &mut Pass<N>,
     given: &Record,
     place: &mut Place,
 ) -> Result<(), Halted>
     requires fitting { IsFitting N.state.cpus N.state.format given.now }
     requires legal { IsLegal pass.old.seen }
-    ensures ok { OnOk result (IsMade N.state given.now
-        (answer_with place.new.told place.new.reply) pass.old pass.new) }
-    ensures err { OnErr result
-        (Unanswered pass.old pass.new × IsTrouble N.state given.now pass.new) }
+    ensures { HasAnswered N.state given.now place.new result pass.old pass.new }
 {
     match given.call {
         Call::Act { access } => {
-            let mut holding = board.hold(rt);
-            answer_access(rt, gate, &mut holding, pass, given, access, place)
+            let mut holding = worker.board.hold(worker.rt);
+            answer_access(worker, &mut holding, pass, given, access, place)
         }
-        Call::ReadPage { page } => match board.read_page(rt, pass, page, given.h) {
+        Call::ReadPage { page } => match worker.board.read_page(worker.rt, pass, page, given.h) {
             Ok(reply) => {
                 place.told = Told::PageIs { reply };
                 Ok(())
             }
             Err(_fault) => Err(Halted),
         },
-        Call::ReadClock { page } => match board.read_clock(rt, pass, page, given.h) {
+        Call::ReadClock { page } => match worker.board.read_clock(worker.rt, pass, page, given.h) {
             Ok(reply) => {
                 place.told = Told::ClockIs { reply };
                 Ok(())
             }
             Err(_fault) => Err(Halted),
         },
-        Call::ReadHv => match board.read_hv(rt, pass, given.h) {
+        Call::ReadHv => match worker.board.read_hv(worker.rt, pass, given.h) {
             Ok(reply) => {
                 place.told = Told::HvIs { reply };
                 Ok(())

@@ -8,10 +8,12 @@ ghost use Rattle.race_phase.specs.Order.{AreAlike, after_records, records_fault}
 ghost use Rattle.race_phase.specs.private.Workers.{HasWorked, AllGiven, AllWorked};
 
 use crate::deliveries::Deliveries;
+use crate::means::Means;
 use crate::packed::RecordList;
 use crate::schedule::Schedule;
 use crate::text::Text;
 use crate::work::{Worked, work};
+use crate::worker::Worker;
 use board_core::BoardState;
 use board_io::Gate;
 use clk_units::NoMemory;
@@ -24,9 +26,7 @@ use std::thread::{Threads, map_vec};
 /// Runs the records of a phase on a board, of whose state the blank was made, each processor's in a thread of its own,
 /// and gives back the board after them and their text: the blocks of processor 0, then those of 1, and so on.
 pub fn run_phase<N: Name + Send + Sync, R: Threads + Wait + Sync, G: Gate + Sync>(
-    rt: &R,
-    alloc: Global,
-    gate: &G,
+    means: &Means<'_, R, G>,
     blank: Blank,
     state: &BoardState,
     deliveries: &Deliveries,
@@ -43,6 +43,9 @@ pub fn run_phase<N: Name + Send + Sync, R: Threads + Wait + Sync, G: Gate + Sync
         t.0.value t.1) }
     ensures alike { IfOk result (λ t. AreAlike (after_records N.state records.now) t.0.value) }
 {
+    let rt = means.rt;
+    let alloc = means.alloc;
+    let gate = means.gate;
     let _processors = state.processors();
     let cpus = state.cpus();
     let (board, passes) = SharedBoard::<N>::new(alloc, blank, state, cpus)?;
@@ -57,7 +60,15 @@ pub fn run_phase<N: Name + Send + Sync, R: Threads + Wait + Sync, G: Gate + Sync
                 × All (IsFitting N.state.cpus N.state.format) records.now }
             ensures { IfOk result (λ w. HasWorked N.state deliveries.entry.now records.entry.now
                 pass.number w.pass w.text.items) }
-        { work(rt, alloc, gate, shared, schedule, deliveries, records, pass) },
+        {
+            let worker = Worker {
+                rt,
+                gate,
+                board: shared,
+                deliveries,
+            };
+            work(&worker, alloc, schedule, records, pass)
+        },
     ) else {
         return Err(NoMemory);
     };

@@ -14,6 +14,7 @@ ghost use Rattle.race_phase.specs.private.Ran.{PhaseRan};
 
 use crate::deliveries::Deliveries;
 use crate::ends::end_phase;
+use crate::means::Means;
 use crate::phase::run_phase;
 use crate::phases::{End, Phase};
 use crate::text::Text;
@@ -54,10 +55,11 @@ pub fn run_race<R: Threads + Wait + Sync, G: Gate + Sync>(
     let Ok(mut now) = Box::new(alloc, state) else {
         return Err(NoMemory);
     };
+    let means = Means { rt, alloc, gate };
     let mut text = Text::new(alloc);
     let mut rest = phases;
     while let Some((phase, tail)) = rest.split_first() {
-        now = next(rt, alloc, gate, &*now, deliveries, phase, &mut text)?;
+        now = next(&means, &*now, deliveries, phase, &mut text)?;
         rest = tail;
     }
     Ok(Ran { state: now, text })
@@ -65,9 +67,7 @@ pub fn run_race<R: Threads + Wait + Sync, G: Gate + Sync>(
 
 /// Runs one phase and ends it, and gives the board with which the next opens.
 fn next<R: Threads + Wait + Sync, G: Gate + Sync>(
-    rt: &R,
-    alloc: Global,
-    gate: &G,
+    means: &Means<'_, R, G>,
     state: &BoardState,
     deliveries: &Deliveries,
     phase: &Phase,
@@ -78,18 +78,16 @@ fn next<R: Threads + Wait + Sync, G: Gate + Sync>(
     ensures { IfOk result (λ after. PhaseRan deliveries.now state.now phase.now after.value
         text.old text.new) }
 {
-    let blank = Blank::new(alloc, state)?;
+    let blank = Blank::new(means.alloc, state)?;
     let (mut board, lines) = run_phase::<Brand, R, G>(
-        rt,
-        alloc,
-        gate,
+        means,
         blank,
         state,
         deliveries,
         &phase.records,
     )?;
     text.join(lines)?;
-    let mut block = Vec::new(alloc);
+    let mut block = Vec::new(means.alloc);
     end_free(&phase.end, &mut *board, deliveries, &mut block)?;
     text.append(block)?;
     Ok(board)

@@ -5,14 +5,14 @@ ghost use Rattle.race_phase.specs.Calls.{IsFitting};
 ghost use Rattle.race_phase.specs.private.Workers.{HasWorked};
 
 use crate::batch::{new_places, print_all};
-use crate::deliveries::Deliveries;
 use crate::pace::{MOST_AT_ONCE, Pace};
 use crate::packed::RecordList;
 use crate::schedule::Schedule;
+use crate::worker::Worker;
 use board_io::Gate;
 use clk_units::NoMemory;
 use clock_table::Name;
-use shared_board::{Pass, SharedBoard};
+use shared_board::Pass;
 use std::alloc::Global;
 use std::sync::Wait;
 
@@ -30,12 +30,9 @@ pub(crate) struct Worked<N: Name> {
 /// asks for the lock, and appends their blocks to a text of its own when it has given the lock back. It stops at the first
 /// record that isn't answered.
 pub(crate) fn work<N: Name, R: Wait, G: Gate>(
-    rt: &R,
+    worker: &Worker<'_, N, R, G>,
     alloc: Global,
-    gate: &G,
-    board: &SharedBoard<N>,
     schedule: &Schedule,
-    deliveries: &Deliveries,
     records: &RecordList,
     mut pass: Pass<N>,
 ) -> Result<Worked<N>, NoMemory>
@@ -43,14 +40,15 @@ pub(crate) fn work<N: Name, R: Wait, G: Gate>(
     requires fresh { (mine pass ≡ []) × (pass.misses ≡ []) }
     requires fitting { All (IsFitting N.state.cpus N.state.format) records.now }
     ensures { IfOk result
-        (λ w. HasWorked N.state deliveries.now records.now pass.number w.pass w.text.items) }
+        (λ w. HasWorked N.state worker.now.deliveries.now records.now pass.number
+        w.pass w.text.items) }
 {
     let cpu = pass.number();
     let mut left = records.count_of(cpu);
     let mut places = new_places(alloc, MOST_AT_ONCE)?;
     let mut text = new_text(alloc, left);
     let mut batch = Vec::new(alloc);
-    let mut pace = Pace::new(rt, schedule, cpu, left);
+    let mut pace = Pace::new(worker.rt, schedule, cpu, left);
     let mut at_once = pace.next(left);
     let mut index = 0;
     for place in 0..records.len() {
@@ -60,18 +58,8 @@ pub(crate) fn work<N: Name, R: Wait, G: Gate>(
             };
             if batch.len() >= at_once {
                 pace.wait(left);
-                board.give_way();
-                let Ok(()) = print_all(
-                    rt,
-                    gate,
-                    board,
-                    deliveries,
-                    &mut pass,
-                    &batch,
-                    index,
-                    &mut places,
-                    &mut text,
-                )?
+                worker.board.give_way();
+                let Ok(()) = print_all(worker, &mut pass, &batch, index, &mut places, &mut text)?
                 else {
                     return Ok(Worked { pass, text });
                 };
@@ -82,17 +70,7 @@ pub(crate) fn work<N: Name, R: Wait, G: Gate>(
             }
         }
     }
-    let _halted = print_all(
-        rt,
-        gate,
-        board,
-        deliveries,
-        &mut pass,
-        &batch,
-        index,
-        &mut places,
-        &mut text,
-    )?;
+    let _halted = print_all(worker, &mut pass, &batch, index, &mut places, &mut text)?;
     Ok(Worked { pass, text })
 }
 

@@ -8,7 +8,7 @@ use board_io::OpenGate;
 use clk_units::NoMemory;
 use clock_table::{Blank, Name};
 use pvclock_page::{Page, PageReply, reading};
-use shared_board::{Pass, SharedBoard};
+use shared_board::{Asked, Pass, SharedBoard};
 use std::alloc::{AllocError, Global};
 use std::sync::Wait;
 
@@ -66,6 +66,14 @@ pub(crate) fn asked(nothing: bool) -> Access
     ensures { (cpus format : ℕ) → IsTrue (is_legal cpus format result) }
 {
     if nothing { Access::Step } else { READ }
+}
+
+/// An access by processor 0.
+pub(crate) fn ask(h: u64, access: Access) -> Asked
+    ensures cpu { result.cpu ≡ 0 }
+    ensures access { result.access ≡ access }
+{
+    Asked { cpu: 0, h, access }
 }
 
 /// Accesses of a board that isn't shared. Answers the sum of their numbers.
@@ -128,8 +136,7 @@ pub(crate) fn on_shared<N: Name, R: Wait>(
     row: Row,
     a: Access,
 ) -> Result<u64, AllocError>
-    requires table { blank.0 ≡ N.table }
-    requires blank { blank.1 ≡ N.state }
+    requires blank { (blank.0 ≡ N.table) × (blank.1 ≡ N.state) }
     requires state { state.now ≡ N.state }
     requires cpus { N.state.cpus ≡ 1 }
     requires passes { 1 ≡ N.passes }
@@ -154,7 +161,7 @@ pub(crate) fn on_shared<N: Name, R: Wait>(
 fn pages<N: Name>(rt: &impl Wait, board: &SharedBoard<N>, pass: &mut Pass<N>) -> u64
     requires { 0 < N.state.cpus }
 {
-    let _ = board.access(rt, &OpenGate, pass, 0, 0, ENABLE);
+    let _ = board.access(rt, &OpenGate, pass, ask(0, ENABLE));
     let mut sum = 0u64;
     for h in 0..CALLS {
         if let Ok(PageReply::On { reading, .. }) = board.try_page(pass, 0, h) {
@@ -187,7 +194,7 @@ fn number_under_lock<N: Name>(
     requires cpus { 0 < N.state.cpus }
     requires legal { (cpus format : ℕ) → IsTrue (is_legal cpus format a) }
 {
-    match board.access(rt, &OpenGate, pass, 0, 0, a) {
+    match board.access(rt, &OpenGate, pass, ask(0, a)) {
         Ok(reply) => reply.number,
         Err(_refusal) => 0,
     }
@@ -221,5 +228,5 @@ fn put_reply_under_lock<N: Name>(
     requires legal { (cpus format : ℕ) → IsTrue (is_legal cpus format a) }
     requires fresh { IsFresh reply.old }
 {
-    let _ = board.answer(rt, &OpenGate, pass, 0, 0, a, reply);
+    let _ = board.answer(rt, &OpenGate, pass, ask(0, a), reply);
 }

@@ -1,7 +1,7 @@
 //! Rows that several threads make at once.
 ghost use Rattle.std.specs.Prelude.{◌≡◌, ◌<◌};
 
-use crate::alone::{ENABLE, READ};
+use crate::alone::{ENABLE, READ, ask};
 use board_core::{Access, BoardState};
 use board_io::OpenGate;
 use clk_units::NoMemory;
@@ -43,8 +43,7 @@ pub(crate) fn crowded<N: Name + Send + Sync, R: Threads + Wait + Clock + Sync>(
     passes: u8,
     kind: Kind,
 ) -> io::Result<u128>
-    requires table { blank.0 ≡ N.table }
-    requires blank { blank.1 ≡ N.state }
+    requires blank { (blank.0 ≡ N.table) × (blank.1 ≡ N.state) }
     requires state { state.now ≡ N.state }
     requires cpus { N.state.cpus ≡ 1 }
     requires passes { passes ≡ N.passes }
@@ -108,12 +107,13 @@ fn publishes<N: Name>(
 )
     requires { 0 < N.state.cpus }
 {
-    let _ = board.access(rt, &OpenGate, &mut pass, 0, 0, ENABLE);
+    let _ = board.access(rt, &OpenGate, &mut pass, ask(0, ENABLE));
     for h in 0..MOST {
         if readers.load(Ordering::SeqCst) == 0 {
             return;
         }
-        let _ = board.access(rt, &OpenGate, &mut pass, 0, h, Access::Refresh { page: 0 });
+        let publish = ask(h, Access::Refresh { page: 0 });
+        let _ = board.access(rt, &OpenGate, &mut pass, publish);
     }
 }
 
@@ -136,7 +136,7 @@ fn accesses<N: Name>(rt: &impl Wait, board: &SharedBoard<N>, mut pass: Pass<N>) 
 {
     let mut read = 0u64;
     for _ in 0..CALLS {
-        if board.access(rt, &OpenGate, &mut pass, 0, 0, READ).is_ok() {
+        if board.access(rt, &OpenGate, &mut pass, ask(0, READ)).is_ok() {
             read = read.saturating_add(1);
         }
     }

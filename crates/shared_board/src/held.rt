@@ -17,10 +17,10 @@ ghost use Rattle.board_types.specs.Legal.{is_legal};
 ghost use Rattle.board_types.specs.Reply.{IsFresh};
 ghost use Rattle.board_history.specs.Machine.{machine_of, page_at};
 ghost use Rattle.board_history.specs.History.{board_after, version_after, read_of};
-ghost use Rattle.board_history.specs.declared.entry.Entry.TheVariants.{Board};
 ghost use Rattle.clock_table.specs.Steps.{Extends, loud};
 ghost use Rattle.clock_table.specs.Calls.{entry_of};
-ghost use Rattle.shared_board.specs.Passes.{Answered, Refused, Unanswered};
+ghost use Rattle.shared_board.specs.Asks.{MayAsk, WasAsked};
+ghost use Rattle.shared_board.specs.Passes.{Answered, Unanswered};
 ghost use Rattle.shared_board.specs.Pages.{HadRoom};
 ghost use Rattle.shared_board.specs.Faults.{IsFull};
 ghost use Rattle.shared_board.specs.private.Seats.{
@@ -32,9 +32,10 @@ ghost use Rattle.shared_board.specs.private.Seats.{
   HasRefused,
 };
 
+use crate::asked::Asked;
 use crate::pass::Pass;
 use crate::pens::{publish, take_pen};
-use board_core::{Access, BoardState, Refusal, Reply};
+use board_core::{BoardState, Refusal, Reply};
 use board_history::{page_published, read_entry, table_page};
 use clk_units::NoMemory;
 use clock_table::{Call, ClockSeat, ClockTable, Name, SeatPlace};
@@ -73,25 +74,19 @@ impl<N: Name> Held<N> {
         &mut self,
         table: &ClockTable<N>,
         pass: &mut Pass<N>,
-        cpu: u8,
-        h: u64,
-        a: Access,
+        asked: Asked,
         reply: &mut Reply,
     ) -> Result<(), Refusal>
-        requires cpu { cpu < N.state.cpus }
-        requires legal { IsTrue (is_legal N.state.cpus N.state.format a) }
+        requires may { MayAsk N.state asked }
         requires fresh { IsFresh reply.old }
-        ensures ok { OnOk result (Answered pass.old pass.new
-            (Board pass.old.number cpu h a reply.new)) }
-        ensures err { IfErr result (λ f. Refused cpu h a f pass.old pass.new) }
-        ensures unchanged { OnErr result (reply.new ≡ reply.old) }
+        ensures { WasAsked asked result reply.old reply.new pass.old pass.new }
     {
         take_pen(table, self.writer.take(), &mut pass.seat);
         let call = Call {
             pass: pass.number,
-            cpu,
-            h,
-            access: a,
+            cpu: asked.cpu,
+            h: asked.h,
+            access: asked.access,
         };
         let result = act(table, &mut *self.board, &mut pass.seat, call, reply);
         self.writer = SeatPlace::new(table.split_pen(&mut pass.seat));
@@ -117,15 +112,12 @@ impl<N: Name> Held<N> {
             × (pass.new.misses ≡ pass.old.misses) × IsFull front pass.new.seen) }
     {
         let front = take_pen(table, self.writer.take(), &mut pass.seat);
-        let result = read(
-            table,
-            &*self.board,
-            &mut pass.seat,
-            pass.number,
+        let look = Look {
+            pass: pass.number,
             index,
             h,
-            front,
-        );
+        };
+        let result = read(table, &*self.board, &mut pass.seat, look, front);
         self.writer = SeatPlace::new(table.split_pen(&mut pass.seat));
         result
     }
@@ -142,32 +134,38 @@ pub(crate) fn boxed(alloc: Global, state: &BoardState) -> Result<Box<BoardState>
     }
 }
 
+/// A read of a page of the table, as a pass asks for it.
+#[derive(Clone, Copy)]
+struct Look {
+    pass: u64,
+    index: u8,
+    h: u64,
+}
+
 /// A read of a page, whose entry the seat makes that holds the pen.
 fn read<N: Name>(
     table: &ClockTable<N>,
     board: &BoardState,
     seat: &mut ClockSeat<N>,
-    pass: u64,
-    index: u8,
-    h: u64,
+    look: Look,
     front: u64,
 ) -> Result<Page, u64>
     requires machine { machine_of board.now ≡ machine_of N.state }
-    requires index { index ≤ N.state.cpus }
-    requires pen { IsPenOf pass seat.old }
+    requires index { look.index ≤ N.state.cpus }
+    requires pen { IsPenOf look.pass seat.old }
     requires alike { AreAlike board.now (board_after seat.old.seen) }
     requires front { front ≡ loud seat.old.seen }
-    ensures ok { IfOk result (λ page. Extends (read_of N.state.cpus pass index h page true)
-        seat.old seat.new) }
-    ensures page { IfOk result (λ page. page_at (board_after seat.old.seen) index ≡ page) }
+    ensures ok { IfOk result (λ page. Extends
+        (read_of N.state.cpus look.pass look.index look.h page true) seat.old seat.new) }
+    ensures page { IfOk result (λ page. page_at (board_after seat.old.seen) look.index ≡ page) }
     ensures room { OnOk result (loud seat.old.seen < 2 ^ 63) }
     ensures spent { IfErr result (λ f. IsSpentAt f seat.old seat.new) }
 {
     if front >= FULL {
         return Err(front);
     }
-    let page = table_page(board, index);
-    let entry = read_entry(board.cpus(), pass, index, h, &page, true);
+    let page = table_page(board, look.index);
+    let entry = read_entry(board.cpus(), look.pass, look.index, look.h, &page, true);
     table.bump_read(seat, &entry);
     Ok(page)
 }

@@ -1,13 +1,11 @@
 //! The lock of a shared board, held for several accesses.
-ghost use Rattle.std.specs.Prelude.{◌≡◌, ◌<◌, [], IfErr, OnOk, OnErr, IsTrue};
-ghost use Rattle.board_types.specs.Legal.{is_legal};
 ghost use Rattle.board_types.specs.Reply.{IsFresh};
-ghost use Rattle.board_history.specs.declared.entry.Entry.TheVariants.{Board};
-ghost use Rattle.shared_board.specs.Passes.{Answered, Refused};
+ghost use Rattle.shared_board.specs.Asks.{MayAsk, WasAsked};
 
+use crate::asked::Asked;
 use crate::held::Held;
 use crate::pass::Pass;
-use board_core::{Access, Refusal, Reply};
+use board_core::{Refusal, Reply};
 use board_io::Gate;
 use clock_table::{ClockTable, Name};
 use crossbeam_utils::CachePadded;
@@ -22,28 +20,22 @@ pub struct Holding<'b, N: Name> {
 }
 
 impl<'b, N: Name> Holding<'b, N> {
-    /// An access by processor `cpu` at count `h`, as [`SharedBoard::answer`](crate::SharedBoard::answer) makes it. The
-    /// gate is called once, before anything else is done.
+    /// An access, as [`SharedBoard::answer`](crate::SharedBoard::answer) makes it. The gate is called once, before
+    /// anything else is done.
     #[inline(always)]
     pub fn answer<R: Wait, G: Gate>(
         &mut self,
         rt: &R,
         gate: &G,
         pass: &mut Pass<N>,
-        cpu: u8,
-        h: u64,
-        a: Access,
+        asked: Asked,
         reply: &mut Reply,
     ) -> Result<(), Refusal>
-        requires cpu { cpu < N.state.cpus }
-        requires legal { IsTrue (is_legal N.state.cpus N.state.format a) }
+        requires may { MayAsk N.state asked }
         requires fresh { IsFresh reply.old }
-        ensures ok { OnOk result (Answered pass.old pass.new
-            (Board pass.old.number cpu h a reply.new)) }
-        ensures err { IfErr result (λ f. Refused cpu h a f pass.old pass.new) }
-        ensures unchanged { OnErr result (reply.new ≡ reply.old) }
+        ensures { WasAsked asked result reply.old reply.new pass.old pass.new }
     {
-        gate.inside(rt, cpu);
-        self.held.access(self.table, pass, cpu, h, a, reply)
+        gate.inside(rt, asked.cpu);
+        self.held.access(self.table, pass, asked, reply)
     }
 }

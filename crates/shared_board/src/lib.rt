@@ -10,11 +10,13 @@
 //! run::<Brand, _>(rt, alloc, blank, &state)                   // a function of the caller's own over N: Name
 //!
 //! let (board, passes) = SharedBoard::<N>::new(alloc, blank, state, 2)?;
-//! board.access(rt, &OpenGate, &mut pass, 0, 1_000, Access::Step)?   // by one thread
+//! let asked = Asked { cpu: 0, h: 1_000, access: Access::Step };
+//! board.access(rt, &OpenGate, &mut pass, asked)?                    // by one thread
 //! board.read_clock(rt, &mut pass, 0, 1_000)?                        // by another, with its own pass
 //! ```
 #![tactic(auto)]
 
+mod asked;
 mod fault;
 mod held;
 mod holding;
@@ -29,6 +31,7 @@ mod tests;
 mod tries;
 mod waiters;
 
+pub use asked::Asked;
 pub use fault::{LockedFault, PageFault};
 pub use held::Held;
 pub use holding::Holding;

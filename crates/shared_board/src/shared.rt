@@ -1,11 +1,11 @@
 //! The board that threads share.
-ghost use Rattle.std.specs.Prelude.{◌≡◌, ◌<◌, ◌≤◌, ◌↔◌, [], IfOk, IfErr, OnOk, OnErr, IsErr, IsTrue, vec_len};
-ghost use Rattle.board_types.specs.Legal.{is_legal};
+ghost use Rattle.std.specs.Prelude.{◌≡◌, ◌<◌, ◌≤◌, ◌↔◌, [], IfOk, IfErr, OnOk, IsErr, vec_len};
 ghost use Rattle.board_types.specs.Reply.{IsFresh};
 ghost use Rattle.board_types.specs.declared.setup.TheConstants.{HV_FORMAT};
 ghost use Rattle.board_core.specs.Time.{HasTime};
 ghost use Rattle.board_history.specs.Machine.{machine_of, ratio_in};
 ghost use Rattle.board_history.specs.declared.entry.Entry.TheVariants.{Board};
+ghost use Rattle.shared_board.specs.Asks.{MayAsk, WasAsked};
 ghost use Rattle.shared_board.specs.Passes.{Answered, Refused};
 ghost use Rattle.shared_board.specs.Pages.{
   HasTriedPage,
@@ -21,6 +21,7 @@ ghost use Rattle.shared_board.specs.Stops.{StopTold, newcomers};
 ghost use Rattle.shared_board.specs.private.Seats.{IsLastRead, HasClamped};
 ghost use Rattle.shared_board.specs.private.Tables.{HasTriedTable, HasLockedTable, HasReadTable};
 
+use crate::asked::Asked;
 use crate::fault::{LockedFault, PageFault};
 use crate::held::{Held, boxed};
 use crate::holding::Holding;
@@ -29,7 +30,7 @@ use crate::pass::Pass;
 use crate::stop::{join_all, new_passes};
 use crate::tries::try_table_on;
 use crate::waiters::Waiters;
-use board_core::{Access, BoardState, Refusal, Reply};
+use board_core::{BoardState, Refusal, Reply};
 use board_history::{answer_by, hv_answer_by};
 use board_io::Gate;
 use clk_units::NoMemory;
@@ -123,25 +124,23 @@ impl<N: Name> SharedBoard<N> {
     }
 
     // Inlined, so that the list is moved once, to its place at the caller.
-    /// An access by processor `cpu` at count `h`, under the lock. The gate is called once, when the lock is held.
+    /// An access, under the lock. The gate is called once, when the lock is held.
     #[inline(always)]
     pub fn access<R: Wait, G: Gate>(
         &self,
         rt: &R,
         gate: &G,
         pass: &mut Pass<N>,
-        cpu: u8,
-        h: u64,
-        a: Access,
+        asked: Asked,
     ) -> Result<Reply, Refusal>
-        requires cpu { cpu < N.state.cpus }
-        requires legal { IsTrue (is_legal N.state.cpus N.state.format a) }
+        requires { MayAsk N.state asked }
         ensures ok { IfOk result (λ r. Answered pass.old pass.new
-            (Board pass.old.number cpu h a r)) }
-        ensures err { IfErr result (λ f. Refused cpu h a f pass.old pass.new) }
+            (Board pass.old.number asked.cpu asked.h asked.access r)) }
+        ensures err { IfErr result
+            (λ f. Refused asked.cpu asked.h asked.access f pass.old pass.new) }
     {
         let mut reply = Reply::empty();
-        match self.answer(rt, gate, pass, cpu, h, a, &mut reply) {
+        match self.answer(rt, gate, pass, asked, &mut reply) {
             Ok(()) => Ok(reply),
             Err(refusal) => Err(refusal),
         }
@@ -156,25 +155,19 @@ impl<N: Name> SharedBoard<N> {
         rt: &R,
         gate: &G,
         pass: &mut Pass<N>,
-        cpu: u8,
-        h: u64,
-        a: Access,
+        asked: Asked,
         reply: &mut Reply,
     ) -> Result<(), Refusal>
-        requires cpu { cpu < N.state.cpus }
-        requires legal { IsTrue (is_legal N.state.cpus N.state.format a) }
+        requires may { MayAsk N.state asked }
         requires fresh { IsFresh reply.old }
-        ensures ok { OnOk result (Answered pass.old pass.new
-            (Board pass.old.number cpu h a reply.new)) }
-        ensures err { IfErr result (λ f. Refused cpu h a f pass.old pass.new) }
-        ensures unchanged { OnErr result (reply.new ≡ reply.old) }
+        ensures { WasAsked asked result reply.old reply.new pass.old pass.new }
     {
         // As `hold` does it: after each call that may wait, the program looks whether it ends.
         let mut holding = Holding {
             table: &self.table,
             held: self.lock(rt),
         };
-        holding.answer(rt, gate, pass, cpu, h, a, reply)
+        holding.answer(rt, gate, pass, asked, reply)
     }
 
     /// Takes the lock for several accesses. It is given back where what is answered here is dropped.

@@ -115,7 +115,8 @@ fn number<N: Name>(
     requires cpu { cpu < N.state.cpus }
     requires legal { IsTrue (is_legal N.state.cpus N.state.format a) }
 {
-    match board.access(rt, &OpenGate, pass, cpu, h, a) {
+    let asked = Asked { cpu, h, access: a };
+    match board.access(rt, &OpenGate, pass, asked) {
         Ok(reply) => reply.number,
         Err(_refusal) => 0,
     }
@@ -249,8 +250,18 @@ fn held_twice<N: Name, R: Wait + Abort>(
     let mut one = Reply::empty();
     let mut two = Reply::empty();
     let mut holding = board.hold(rt);
-    let first = holding.answer(rt, &OpenGate, &mut pass, 0, 5, Access::Step, &mut one);
-    let second = holding.answer(rt, &OpenGate, &mut pass, 1, 5, ENABLE, &mut two);
+    let step = Asked {
+        cpu: 0,
+        h: 5,
+        access: Access::Step,
+    };
+    let enable = Asked {
+        cpu: 1,
+        h: 5,
+        access: ENABLE,
+    };
+    let first = holding.answer(rt, &OpenGate, &mut pass, step, &mut one);
+    let second = holding.answer(rt, &OpenGate, &mut pass, enable, &mut two);
     drop(holding);
     assert_eq!(rt; (first, second), (Ok(()), Ok(())));
     assert_eq!(rt; (one.number, two.number), (1, 2));

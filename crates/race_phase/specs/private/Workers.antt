@@ -6,15 +6,20 @@ use Rattle.std.specs.Prelude.{
   suc,
   ◌<◌,
   ◌≤◌,
+  ◌+◌,
   ◌^◌,
   List,
   [],
   ◌∷◌,
   ◌++◌,
   length,
+  take,
+  All,
   Some,
   Result,
   IfOk,
+  OnOk,
+  OnErr,
   slice_index_or,
 }
 use Rattle.race_phase.specs.declared.deliveries.Deliveries.{Deliveries}
@@ -26,7 +31,7 @@ use Rattle.board_history.specs.History.{board_after, IsLegal}
 use Rattle.board_history.specs.declared.entry.Entry.{Entry}
 use Rattle.clock_table.specs.declared.view.Miss.{Miss}
 use Rattle.shared_board.specs.declared.known.PassKnown.{PassKnown}
-use Rattle.shared_board.specs.Passes.{mine, Made}
+use Rattle.shared_board.specs.Passes.{mine, Made, Unanswered}
 use Rattle.shared_board.specs.Faults.{page_reads}
 use Rattle.race_phase.specs.declared.records.Answer.{Answer}
 use Rattle.trace_text.specs.declared.records.Call.{Call}
@@ -110,6 +115,33 @@ pub record HasHalted (s : BoardParts) (rs : List Record) (p q : PassKnown) : Typ
   pub number : q.number ≡ p.number
   pub met : (ds : Deliveries) (done : List Record) (out : List ℕ)
       → AllMade s ds p.number done out (mine p) → HasStopped s ds p.number (done ++ rs) q
+
+-- a worker may ask for these records: they fit a board that opened with s, there is a place for each, the gate can number
+-- them from `index` on, and what the pass has seen is legal
+pub record AreAskable (s : BoardParts) (index : ℕ) (rs : List Record) (ts : List Place)
+    (p : PassKnown) : Type 0 where
+  pub places : length rs ≤ length ts
+  pub small : index + length rs < 2 ^ 64
+  pub fitting : All (IsFitting s.cpus s.format) rs
+  pub legal : IsLegal p.seen
+
+-- a record was answered, as its place says; or it was not, for a cause
+pub record HasAnswered {T E : Type 0} (s : BoardParts) (r : Record) (t : Place)
+    (result : Result T E) (p q : PassKnown) : Type 0 where
+  pub ok : OnOk result (IsMade s r (answer_with t.told t.reply) p q)
+  pub err : OnErr result (Unanswered p q × IsTrouble s r q)
+
+-- of records that were answered up to the place `from`, those up to a place were; or the pass has stopped at one
+pub record HasGoneOn {E : Type 0} (s : BoardParts) (rs : List Record) (old new : List Place)
+    (from : ℕ) (result : Result ℕ E) (p q : PassKnown) : Type 0 where
+  pub places : length new ≡ length old
+  pub ok : IfOk result (λ k. (o : PassKnown)
+      → AllAnswered s (take from rs) (take from old) o p
+      → AllAnswered s (take k rs) (take k new) o q)
+  pub legal : OnOk result (IsLegal q.seen)
+  pub err : OnErr result ((o : PassKnown)
+      → AllAnswered s (take from rs) (take from old) o p
+      → HasHalted s rs o q)
 
 -- of these records the pass has answered all but the last ones, which wait; the text is of the others
 pub record AllButLast (s : BoardParts) (ds : Deliveries) (n : ℕ) (rs : List Record)

@@ -223,9 +223,12 @@ fn steps_in<N: Name>(
 ) -> bool
     requires { 0 < N.state.cpus }
 {
-    let taken = board
-        .access(rt, gate, &mut pass, 0, 0, Access::Step)
-        .is_ok();
+    let step = Asked {
+        cpu: 0,
+        h: 0,
+        access: Access::Step,
+    };
+    let taken = board.access(rt, gate, &mut pass, step).is_ok();
     taken && gate.read.load(Ordering::SeqCst)
 }
 

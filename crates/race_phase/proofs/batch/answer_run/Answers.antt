@@ -2,17 +2,22 @@ use Rattle.std.proofs.Common.{◌<◌, length, refl, arith}
 use Rattle.race_phase.proofs.Workers.{batch_step, halted_at}
 use Rattle.race_phase.proofs.batch.answer_run.Goals as goal
 
-pub returns-in-Err-clause-err : goal.returns-in-Err-clause-err
-returns-in-Err-clause-err g c = λ p x.
-    let e = c.in-Err.ensures.err in
-    halted_at g.N.Name.state c.args.records.now c.loop-done.done _ _ p c.loop-done.pass c.answer_access.new.pass c.loop-done-test.true
-    c.requires.fitting (c.loop-done.invariant.all p x) e.0 e.1
+pub returns-in-Err-clause-told : goal.returns-in-Err-clause-told
+returns-in-Err-clause-told g c = record {
+  places = _;
+  ok = tt;
+  legal = tt;
+  err = λ p x.
+      let e = c.in-Err.ensures.err in
+      halted_at g.N.Name.state c.args.records.now c.loop-done.done _ _ p c.loop-done.pass c.answer_access.new.pass c.loop-done-test.true
+      c.requires.fit.fitting (c.loop-done.invariant.all p x) e.0 e.1;
+}
 
 pub loop-done-preserved : goal.loop-done-preserved
 loop-done-preserved g c =
     let made = c.in-Ok.ensures.ok in
     let k = c.loop-done.auto.places in
-    let few = c.requires.places in
+    let few = c.requires.fit.places in
     let below = c.loop-done-test.true in
     let room : c.loop-done.done < length c.loop-done.places = omega arith in record {
       from = let f = c.loop-done.invariant.from in omega arith;

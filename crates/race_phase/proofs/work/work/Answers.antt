@@ -26,7 +26,7 @@ print_all-requires-clause-fitting g c =
 pub returns-in_default-2 : goal.returns-in_default-2
 returns-in_default-2 g c =
     let s = g.N.Name.state in
-    let ds = c.args.deliveries.now in
+    let ds = c.args.worker.now.deliveries.now in
     let rs = c.args.records.now in
     let n = c.number-cpu.result in
     let i = c.loop-place.place in
@@ -45,7 +45,7 @@ loop-place-preserved g c =
     let inv = c.loop-place.invariant in
     let n = c.number-cpu.result in
     let s = g.N.Name.state in
-    let ds = c.args.deliveries.now in
+    let ds = c.args.worker.now.deliveries.now in
     let i = c.loop-place.place in
     let rs = c.args.records.now in
     let p = c.loop-place.pass in
@@ -132,7 +132,7 @@ loop-place-preserved g c =
 pub returns : goal.returns
 returns g c =
     let s = g.N.Name.state in
-    let ds = c.args.deliveries.now in
+    let ds = c.args.worker.now.deliveries.now in
     let rs = c.args.records.now in
     let n = c.number-cpu.result in
     let i = c.loop-place.place in

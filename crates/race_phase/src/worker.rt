@@ -1,0 +1,13 @@
+//! What a worker has at hand.
+use crate::deliveries::Deliveries;
+use clock_table::Name;
+use shared_board::SharedBoard;
+
+/// What a worker answers its records with, the same for all of them.
+#[derive(Drop)]
+pub(crate) struct Worker<'a, N: Name, R, G> {
+    pub(crate) rt: &'a R,
+    pub(crate) gate: &'a G,
+    pub(crate) board: &'a SharedBoard<N>,
+    pub(crate) deliveries: &'a Deliveries,
+}
