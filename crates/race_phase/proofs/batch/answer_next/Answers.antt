@@ -1,10 +1,10 @@
-use Rattle.std.proofs.Common.{◌<◌, length, refl, arith}
+use Rattle.std.proofs.Common.{◌<◌, length, refl, arith, rules}
 use Rattle.race_phase.proofs.Workers.{batch_step, halted_at}
 use Rattle.race_phase.proofs.batch.answer_next.Goals as goal
 
 pub returns-in-Ok-clause-told : goal.returns-in-Ok-clause-told
 returns-in-Ok-clause-told g c = record {
-  places = _;
+  places = search rules;
   ok = λ p x.
       let few = c.requires.fit.places in
       let end = c.requires.from in
@@ -19,7 +19,7 @@ returns-in-Ok-clause-told g c = record {
 
 pub returns-in-Err-clause-told : goal.returns-in-Err-clause-told
 returns-in-Err-clause-told g c = record {
-  places = _;
+  places = search rules;
   ok = tt;
   legal = tt;
   err = λ p x.
