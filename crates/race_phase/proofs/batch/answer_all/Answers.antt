@@ -1,8 +1,8 @@
 use Rattle.std.proofs.Common.{inl, inr, arith}
 use Rattle.race_phase.proofs.batch.answer_all.Goals as goal
 
-pub answer_run-run-requires-clause-fit : goal.answer_run-run-requires-clause-fit
-answer_run-run-requires-clause-fit g c = record {
+pub answer_run-requires-clause-fit : goal.answer_run-requires-clause-fit
+answer_run-requires-clause-fit g c = record {
   places = (let e = c.loop-done.auto.places in let l = c.requires.places in omega (arith, e, l));
   small = c.requires.small;
   fitting = c.requires.fitting;

@@ -13,5 +13,5 @@ invariant-loop-place g l = record {
   most : l.at_once ≤ 16;
   index : l.index + length l.batch.items ≤ l.place;
   fitting : All (IsFitting g.N.Name.state.cpus g.N.Name.state.format) l.batch.items;
-  made : AllButLast g.N.Name.state l.worker.now.deliveries.now l.cpu (records_of l.cpu (take l.place l.records)) l.batch.items l.text.items l.pass;
+  made : AllButLast g.N.Name.state l.worker.deliveries.now l.cpu (records_of l.cpu (take l.place l.records)) l.batch.items l.text.items l.pass;
 }
