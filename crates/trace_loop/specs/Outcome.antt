@@ -86,9 +86,19 @@ pub record KeepsSink {R : Type 0} (fault result : R) (before after : Output) : T
   pub quiet : result ≢ fault → after.done ≡ before.done
   pub once : before.done ≡ false → before.late ≡ false → after.late ≡ false
 
+-- what a call leaves of both ends that answers one of two faults where its source or its sink failed:
+-- whose fault it was, and that neither is called again after a call that gave nothing or failed
+pub record KeepsEnds {R : Type 0} (no_source no_sink result : R) (start end : Input)
+    (before after : Output) : Type 0 where
+  pub once : start.done ≡ false → start.late ≡ false → end.late ≡ false
+  pub well : result ≢ no_source → result ≢ no_sink → end.faults ≡ start.faults
+  pub source_fault : result ≡ no_source → Rose start.faults end.faults
+  pub sink_fault : result ≡ no_sink → Rose before.faults after.faults
+  pub sink : KeepsSink no_sink result before after
+
 -- what a run over lines leaves of its source and its sink, by how they were before it: what is
--- written; that the trace had not ended before the source was called last; that neither is called
--- again after a call that gave nothing or failed; and whose fault it is that it ends in a fault
+-- written; that the trace had not ended before the source was called last; and whose fault it is that
+-- it ends in a fault
 pub record Leaves {A E : Type 0} (answer : ℕ → A → List ℕ → Answer A E)
     (closing : ℕ → A → Closing E) (a : A) (start end : Input) (before after : Output)
     (ended : Ended E) : Type 0 where
@@ -96,13 +106,7 @@ pub record Leaves {A E : Type 0} (answer : ℕ → A → List ℕ → Answer A E
       → Outcome (run_over answer closing a input start end) ended before.contents after.contents
   pub stopped : (input : List ℕ) → start.remaining ≡ Some input
       → (behind answer (take (end.before - start.given) input) (opened a)).end ≡ None
-  pub once : start.done ≡ false → start.late ≡ false → end.late ≡ false
-  pub well : ended ≢ SourceFault → ended ≢ SinkFault → end.faults ≡ start.faults
-  pub source_fault : ended ≡ SourceFault → Rose start.faults end.faults
-  pub sink_fault : ended ≡ SinkFault → Rose before.faults after.faults
-  pub sink_well : ended ≢ SinkFault → after.faults ≡ before.faults
-  pub sink_quiet : ended ≢ SinkFault → after.done ≡ before.done
-  pub sink_once : before.done ≡ false → before.late ≡ false → after.late ≡ false
+  pub ends : KeepsEnds SourceFault SinkFault ended start end before after
 
 -- what a call leaves of a sink that a text was put into: all of it, or its beginning where the sink
 -- failed; faults are counted, and it isn't called again after a call that failed
@@ -130,13 +134,10 @@ abbrev pub Said : {E : Type 0} → Ended E → Ended E → Option (List ℕ) →
     → Type 0 → Type 0
 Said end result old new text shown = SaidOr SinkFault end result old new text shown
 
--- what a call leaves that puts a text into a sink and answers `end`, or `fault` where the sink failed:
--- its faults are counted, and it isn't called again after a call that failed
+-- what a call leaves that puts a text into a sink and answers `end`, or `fault` where the sink failed
 pub record IsSaid {R : Type 0} (fault end result : R) (before after : Output) (text : List ℕ)
     : Type 0 where
   pub said : SaidOr fault end result before.contents after.contents text
       (Rose before.faults after.faults)
-  pub sink_well : result ≢ fault → after.faults ≡ before.faults
-  pub sink_quiet : result ≢ fault → after.done ≡ before.done
-  pub sink_once : before.done ≡ false → before.late ≡ false → after.late ≡ false
+  pub sink : KeepsSink fault result before after
   pub counted : before.faults ≤ after.faults

@@ -1,7 +1,6 @@
 //! What answers the lines of a trace.
 ghost use Rattle.std.specs.Prelude.{◌≡◌, ℕ, ◌<◌, ◌+◌, ◌^◌, List, ◌++◌, None, IfOk, OnOk, OnErr};
-ghost use Rattle.std.specs.Io.{StartsWith};
-ghost use Rattle.trace_loop.specs.Progress.{Answer, Closing, printed, end_of, state_behind};
+ghost use Rattle.trace_loop.specs.Progress.{Answer, Closing};
 ghost use Rattle.trace_loop.specs.Answered.{IsAnswered};
 
 use clk_units::NoMemory;
@@ -30,13 +29,9 @@ pub trait Answerer<E: Drop> {
         requires room { line < 2 ^ 63 }
         requires may { may line self.old }
         requires open { end.old ≡ None }
-        ensures printed { OnOk result
-            (out.new.items ≡ out.old.items ++ printed (answer line self.old text.now)) }
-        ensures ends { OnOk result (end.new ≡ end_of (answer line self.old text.now)) }
-        ensures state { OnOk result (end.new ≡ None
-            → self.new ≡ state_behind (answer line self.old text.now) self.old) }
-        ensures may { OnOk result (end.new ≡ None → may (line + 1) self.new) }
-        ensures err { OnErr result (StartsWith out.new.items out.old.items) };
+        ensures answered { IsAnswered (answer line self.old text.now) self.old self.new
+            out.old.items out.new.items end.new result }
+        ensures may { OnOk result (end.new ≡ None → may (line + 1) self.new) };
 
     /// Answers the end of the input, where the line of this number would come next.
     fn close(&mut self, line: u64, out: &mut Vec<u8>) -> Result<E, NoMemory>

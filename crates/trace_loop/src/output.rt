@@ -1,26 +1,16 @@
 //! Texts that are put into a sink, or after one another.
-ghost use Rattle.std.specs.Prelude.{◌≡◌, ℕ, ◌<◌, ◌≤◌, List, ◌++◌, length, false, OnOk, OnErr};
+ghost use Rattle.std.specs.Prelude.{◌≡◌, ◌<◌, ◌++◌, length, OnOk, OnErr};
 ghost use Rattle.std.specs.List.{flat_map};
 ghost use Rattle.std.specs.Vec.{vec_items};
-ghost use Rattle.std.specs.Io.KnownBytes.{Appends};
-ghost use Rattle.board_io.specs.Faults.{Rose};
-ghost use Rattle.trace_loop.specs.Outcome.{Begins, IsPutAll, IsSaid};
+ghost use Rattle.trace_loop.specs.Outcome.{IsPutAll, IsSaid};
 
 use board_io::{Failed, Sink};
 use clk_units::NoMemory;
 
 /// Puts a whole text into a sink. After an `Err` the sink has taken the text's beginning.
 pub fn put_all<K: Sink>(sink: &mut K, text: &[u8]) -> Result<(), Failed>
-    ensures all { OnOk result (Appends (K.output sink.old).contents (K.output sink.new).contents text.now) }
-    ensures cut { OnErr result ((cut : List ℕ) × Begins cut text.now
-        × Appends (K.output sink.old).contents (K.output sink.new).contents cut) }
-    ensures well { OnOk result ((K.output sink.new).faults ≡ (K.output sink.old).faults) }
-    ensures quiet { OnOk result ((K.output sink.new).done ≡ (K.output sink.old).done) }
-    ensures once { (K.output sink.old).done ≡ false → (K.output sink.old).late ≡ false
-        → (K.output sink.new).late ≡ false }
+    ensures put { IsPutAll (K.output sink.old) (K.output sink.new) text.now result }
     ensures some { OnErr result (0 < length text.now) }
-    ensures counted { (K.output sink.old).faults ≤ (K.output sink.new).faults }
-    ensures failed { OnErr result (Rose (K.output sink.old).faults (K.output sink.new).faults) }
 {
     let mut put = 0;
     while put < text.len() {

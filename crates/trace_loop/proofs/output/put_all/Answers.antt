@@ -1,4 +1,4 @@
-use Rattle.std.proofs.Common.{ℕ, ◌+◌, ◌-◌, ◌≤◌, List, length, take, drop, sym, subst, ◌∙◌, arith, length-take, length-drop}
+use Rattle.std.proofs.Common.{rules, ℕ, ◌+◌, ◌-◌, ◌≤◌, List, length, take, drop, sym, subst, ◌∙◌, arith, length-take, length-drop}
 use Rattle.std.specs.Io.KnownBytes.{Appends}
 use Rattle.std.proofs.KnownBytes.{Appends-trans}
 use Rattle.std.proofs.lemmas.List.{take-append-drop}
@@ -7,15 +7,23 @@ use Rattle.trace_loop.proofs.Written.{on_err_from}
 use Rattle.trace_loop.proofs.Written.{Appends-kept, take_piece}
 use Rattle.trace_loop.proofs.output.put_all.Goals as goal
 
-pub returns-in_err-put-clause-cut : goal.returns-in_err-put-clause-cut
-returns-in_err-put-clause-cut g c =
+pub returns-in_err-put-clause-put : goal.returns-in_err-put-clause-put
+returns-in_err-put-clause-put g c =
     let contents = λ (sink : g.row.K.Denot). (g.K.Sink.output sink).contents in
-    on_err_from c.from_residual.result ((cut : List ℕ) × Begins cut c.args.text.now × Appends (contents c.args.sink.now) (contents c.put.new.self) cut) (
+    let cut = on_err_from c.from_residual.result ((cut : List ℕ) × Begins cut c.args.text.now × Appends (contents c.args.sink.now) (contents c.put.new.self) cut) (
       take c.loop-put.put c.args.text.now,
       (drop c.loop-put.put c.args.text.now, sym (take-append-drop c.loop-put.put c.args.text.now)),
       Appends-kept (contents c.args.sink.now) (contents c.loop-put.sink) (contents c.put.new.self)
           (take c.loop-put.put c.args.text.now) c.loop-put.invariant.front c.in_err-put.ensures.bytes,
-    )
+    ) in record {
+      all = search rules;
+      cut = cut;
+      well = search rules;
+      quiet = search rules;
+      once = search rules;
+      counted = search rules;
+      failed = search rules;
+    }
 
 pub loop-put-preserved : goal.loop-put-preserved
 loop-put-preserved g c =

@@ -13,7 +13,7 @@ returns-in_err-put_all g c =
     let texts = c.args.texts.now in
     let i = c.loop-text.text-index in
     let front : List ℕ = flat_map vec_items (take i texts) in
-    let cut = c.in_err-put_all.ensures.cut in
+    let cut = c.in_err-put_all.ensures.put.cut in
     let cut = on_err_from c.from_residual.result
     ((cut : List ℕ) × Begins cut (flat_map vec_items texts) × Appends (contents c.args.sink.now) (contents c.put_all.new.sink) cut) (
       front ++ cut.0,

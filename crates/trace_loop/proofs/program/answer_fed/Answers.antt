@@ -51,7 +51,7 @@ returns-in-Some-clause-over g c =
     (sym c.in-Some.is ∙ c.in-Ok.ensures.answered.ends ∙ ap end_of same)
     (c.in-Ok.ensures.answered.printed ∙ ap (λ (b : Answer g.row.T.Denot g.row.E.Denot). c.lines.feed.out.items ++ printed b) same)
     (subst (λ (t : List ℕ). Said (statuses.By c.in-Some.end) c.say.result old_sink.contents said_sink.contents t
-    (Rose old_sink.faults said_sink.faults)) c.deref.ensures.value c.say.ensures.said) c.say.ensures.sink_well
+    (Rose old_sink.faults said_sink.faults)) c.deref.ensures.value c.say.ensures.said) c.say.ensures.sink.well
 
 pub returns-in-Err-answer_line-clause-over : goal.returns-in-Err-answer_line-clause-over
 unfolding memory_fault_text
@@ -64,7 +64,7 @@ returns-in-Err-answer_line-clause-over g c =
     (c.deref-in-Err-answer_line.result.now ++ memory_fault_text) c.want_memory.result memory_sink.contents
     memory_sink.faults k (λ input e. omega (arith, line_shorter old c.advance.new.self l, k.lines))
     (ap (λ (t : List ℕ). t ++ memory_fault_text) (c.deref-in-Err-answer_line.ensures.value ∙ c.in-Err-answer_line.ensures.kept)) c.want_memory.ensures.said
-    c.want_memory.ensures.sink_well
+    c.want_memory.ensures.sink.well
 
 pub returns-then-is_err-clause-over : goal.returns-then-is_err-clause-over
 returns-then-is_err-clause-over g c =
@@ -75,11 +75,11 @@ returns-then-is_err-clause-over g c =
     put_sink.contents cut =
     on_err_from_is_err c.put_all.result
     ((cut : List ℕ) × Begins cut c.deref-in-Ok-false.result.now × Appends old_sink.contents put_sink.contents cut)
-    (sym c.if-is_err.ensures.value) c.put_all.ensures.cut in
+    (sym c.if-is_err.ensures.value) c.put_all.ensures.put.cut in
     let some : 0 < length c.deref-in-Ok-false.result.now = on_err_from_is_err c.put_all.result (0 < length c.deref-in-Ok-false.result.now)
     (sym c.if-is_err.ensures.value) c.put_all.ensures.some in
     let rose : Rose old_sink.faults put_sink.faults = on_err_from_is_err c.put_all.result
-    (Rose old_sink.faults put_sink.faults) (sym c.if-is_err.ensures.value) c.put_all.ensures.failed in
+    (Rose old_sink.faults put_sink.faults) (sym c.if-is_err.ensures.value) c.put_all.ensures.put.failed in
     over_sink g.row.T.Denot g.row.E.Denot g.T.Answerer.answer g.T.Answerer.closing _ _ c.lines.answerer c.lines.feed _
     put_sink.contents put_sink.faults c.lines.invariant.going
     (omega (arith, some, ap length out))
@@ -96,9 +96,9 @@ returns-in-Ok-eq0-clause-over g c =
     let all : Appends old_sink.contents put_sink.contents c.lines.feed.out.items = subst
     (λ (t : List ℕ). Appends old_sink.contents put_sink.contents t) c.deref-in-Ok-false.ensures.value
     (on_ok_from_is_err c.put_all.result (Appends old_sink.contents put_sink.contents c.deref-in-Ok-false.result.now)
-    (sym c.if-is_err.ensures.value) c.put_all.ensures.all) in
+    (sym c.if-is_err.ensures.value) c.put_all.ensures.put.all) in
     let well : put_sink.faults ≡ old_sink.faults = on_ok_from_is_err c.put_all.result
-    (put_sink.faults ≡ old_sink.faults) (sym c.if-is_err.ensures.value) c.put_all.ensures.well in
+    (put_sink.faults ≡ old_sink.faults) (sym c.if-is_err.ensures.value) c.put_all.ensures.put.well in
     let nothing : c.in-Ok-eq0.field-0 ≡ 0 = c.in-Ok-eq0.field-0-test in
     over_end g.row.T.Denot g.row.E.Denot g.T.Answerer.answer g.T.Answerer.closing _ _ c.lines.answerer c.lines.feed _ _ new c.refill.new.self.number
     c.refill.new.self.text c.end_input.result put_sink.contents put_sink.faults
@@ -119,9 +119,9 @@ lines-preserved g c =
     let all : Appends old_sink.contents put_sink.contents c.lines.feed.out.items = subst
     (λ (t : List ℕ). Appends old_sink.contents put_sink.contents t) c.deref-in-Ok-false.ensures.value
     (on_ok_from_is_err c.put_all.result (Appends old_sink.contents put_sink.contents c.deref-in-Ok-false.result.now)
-    (sym c.if-is_err.ensures.value) c.put_all.ensures.all) in
+    (sym c.if-is_err.ensures.value) c.put_all.ensures.put.all) in
     let well : put_sink.faults ≡ old_sink.faults = on_ok_from_is_err c.put_all.result
-    (put_sink.faults ≡ old_sink.faults) (sym c.if-is_err.ensures.value) c.put_all.ensures.well in
+    (put_sink.faults ≡ old_sink.faults) (sym c.if-is_err.ensures.value) c.put_all.ensures.put.well in
     let fed = c.lines.invariant.fed in
     record {
       may = subst (λ (n : ℕ). g.T.Answerer.may (n + 1) c.lines.answerer) (sym (c.refill.ensures.number ∙ l.number)) c.lines.invariant.may;
@@ -142,8 +142,8 @@ lines-preserved g c =
             c.in-Ok-refill.ensures.late ∙ ap (λ (b : Bool). b || (g.S.Source.input c.lines.source).done) late ∙ done,
           ));
       quiet = on_ok_from_is_err c.put_all.result (put_sink.done ≡ old_sink.done) (sym c.if-is_err.ensures.value)
-          c.put_all.ensures.quiet ∙ c.lines.invariant.quiet;
-      once = λ done late. c.put_all.ensures.once (c.lines.invariant.quiet ∙ done) (c.lines.invariant.once done late);
+          c.put_all.ensures.put.quiet ∙ c.lines.invariant.quiet;
+      once = λ done late. c.put_all.ensures.put.once (c.lines.invariant.quiet ∙ done) (c.lines.invariant.once done late);
     }
 
 pub returns-in-Err-refill-clause-over : goal.returns-in-Err-refill-clause-over
@@ -156,15 +156,15 @@ returns-in-Err-refill-clause-over g c =
     let all : Appends old_sink.contents put_sink.contents c.lines.feed.out.items = subst
     (λ (t : List ℕ). Appends old_sink.contents put_sink.contents t) c.deref-in-Ok-false.ensures.value
     (on_ok_from_is_err c.put_all.result (Appends old_sink.contents put_sink.contents c.deref-in-Ok-false.result.now)
-    (sym c.if-is_err.ensures.value) c.put_all.ensures.all) in
+    (sym c.if-is_err.ensures.value) c.put_all.ensures.put.all) in
     let well : put_sink.faults ≡ old_sink.faults = on_ok_from_is_err c.put_all.result
-    (put_sink.faults ≡ old_sink.faults) (sym c.if-is_err.ensures.value) c.put_all.ensures.well in
+    (put_sink.faults ≡ old_sink.faults) (sym c.if-is_err.ensures.value) c.put_all.ensures.put.well in
     over_source g.row.T.Denot g.row.E.Denot g.T.Answerer.answer g.T.Answerer.closing _ _ c.lines.answerer c.lines.feed _ _ new
     c.say-in-Err-refill.result put_sink.contents put_sink.faults c.lines.invariant.going l all well
     c.in-Err-refill.ensures.failed c.refill.ensures.before c.in-Err-refill.ensures.given
     (λ done late. c.refill.ensures.late ∙ ap (λ (b : Bool). b || (g.S.Source.input c.lines.source).done) late ∙ done)
     c.say-in-Err-refill.ensures.said
-    c.say-in-Err-refill.ensures.sink_well
+    c.say-in-Err-refill.ensures.sink.well
 
 pub returns-in-Err-clause-over : goal.returns-in-Err-clause-over
 unfolding memory_fault_text
@@ -175,4 +175,4 @@ returns-in-Err-clause-over g c =
     (c.deref-in-Err.result.now ++ memory_fault_text) c.want_memory-in-Err.result memory_sink.contents
     memory_sink.faults k (λ input e. omega (arith, c.in-Err.ensures.err, k.lines))
     (ap (λ (t : List ℕ). t ++ memory_fault_text) c.deref-in-Err.ensures.value) c.want_memory-in-Err.ensures.said
-    c.want_memory-in-Err.ensures.sink_well
+    c.want_memory-in-Err.ensures.sink.well

@@ -4,11 +4,11 @@ pub returns : goal.returns
 returns g c = record {
   outcome = c.answer_fed.ensures.over.outcome;
   stopped = c.answer_fed.ensures.over.stopped;
-  once = c.answer_fed.ensures.over.once;
-  well = c.answer_fed.ensures.over.well;
-  source_fault = c.answer_fed.ensures.over.source_fault;
-  sink_fault = c.answer_fed.ensures.over.sink_fault;
-  sink_well = c.answer_fed.ensures.sink.well;
-  sink_quiet = c.answer_fed.ensures.sink.quiet;
-  sink_once = c.answer_fed.ensures.sink.once;
+  ends = record {
+    once = c.answer_fed.ensures.over.once;
+    well = c.answer_fed.ensures.over.well;
+    source_fault = c.answer_fed.ensures.over.source_fault;
+    sink_fault = c.answer_fed.ensures.over.sink_fault;
+    sink = c.answer_fed.ensures.sink;
+  };
 }

@@ -13,11 +13,9 @@ returns g c = record {
       (g.K.Sink.output c.say.new.sink).contents c.args.out.now memory_fault_text (g.K.Sink.output c.args.sink.now).faults (g.K.Sink.output
       c.put_all.new.sink).faults
       (g.K.Sink.output c.say.new.sink).faults
-      c.put_all.ensures.counted
+      c.put_all.ensures.put.counted
       (on_ok_from_is_err c.put_all.result (Appends (g.K.Sink.output c.args.sink.now).contents (g.K.Sink.output c.put_all.new.sink).contents c.args.out.now)
-      (sym c.if-is_err.ensures.value) c.put_all.ensures.all) c.say.ensures.said;
-  sink_well = search rules;
-  sink_quiet = search rules;
-  sink_once = search rules;
+      (sym c.if-is_err.ensures.value) c.put_all.ensures.put.all) c.say.ensures.said;
+  sink = search rules;
   counted = search rules;
 }
