@@ -24,7 +24,7 @@ use Rattle.board_types.specs.declared.access.Access.{Access}
 use Rattle.board_types.specs.declared.access.Access.TheVariants.{Step}
 use Rattle.board_types.specs.declared.parts.BoardParts.{BoardParts}
 use Rattle.board_types.specs.declared.parts.TheConstants.{MOST_ACCESSES}
-use Rattle.board_types.specs.declared.reply.Refusal.TheVariants.{Spent}
+use Rattle.board_types.specs.declared.reply.Refusal.TheVariants.{NoTime, Spent}
 use Rattle.board_types.specs.declared.reply.Reply.{Reply}
 use Rattle.board_types.specs.declared.reply.Value.{Value}
 use Rattle.board_devices.specs.declared.parts.DeviceParts.{DeviceParts}
@@ -36,7 +36,7 @@ use Rattle.board_core.specs.Access.{ran_to, bursts_to, after_run, before_look, a
 use Rattle.board_core.specs.Apics.{apics_in, tscs_by_time, after_look, with_apics}
 use Rattle.board_core.specs.Nanosecond.{passed, passed_times}
 use Rattle.board_core.specs.Quiet.{IsQuiet}
-use Rattle.board_core.specs.Refusals.{untimed, refusal_of}
+use Rattle.board_core.specs.Refusals.{refusal_of}
 use Rattle.board_devices.proofs.MainCounter.{hpet-run}
 use Rattle.board_core.proofs.Messages.{bursts-silent, message_at-later}
 use Rattle.board_core.proofs.Nanoseconds.{after_run-nanoseconds}
@@ -317,6 +317,6 @@ refusal_of-after_run b cpu g h a = refl
 pub step-taken : (b : BoardParts) (cpu h : ℕ) → HasTime b.anchor h → b.accesses < MOST_ACCESSES → refusal_of b cpu h Step ≡ None
 unfolding refusal_of
 step-taken b cpu h time few =
-    ap (λ (o : Option TimeFault). option_or (option_map untimed o) (cond (leb MOST_ACCESSES b.accesses) (Some (Spent b.accesses)) None))
+    ap (λ (o : Option TimeFault). option_or (option_map NoTime o) (cond (leb MOST_ACCESSES b.accesses) (Some (Spent b.accesses)) None))
     (no_fault-of_time b.anchor h time)
     ∙ ap (λ (spent : Bool). cond spent (Some (Spent b.accesses)) None) (lt-leb MOST_ACCESSES b.accesses few)

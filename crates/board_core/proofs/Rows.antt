@@ -10,10 +10,11 @@ use Rattle.pvclock_page.specs.Scale.{mul_for, shift_for}
 use Rattle.pvclock_page.specs.Reading.{reading_of}
 use Rattle.tick_policy.specs.declared.parts.Policy.TheVariants.{Delay, Slew}
 use Rattle.tick_policy.specs.declared.parts.TickParts.{TickParts}
+use Rattle.host_counter.specs.declared.TimeFault.TheVariants.{BeforeStart, OutOfRange}
 use Rattle.board_types.specs.declared.access.Access.TheVariants.{PortIn, PortOut, MsrWrite, Step, Refresh}
 use Rattle.board_types.specs.declared.parts.BoardParts.{BoardParts}
 use Rattle.board_types.specs.declared.parts.ProcessorParts.{ProcessorParts}
-use Rattle.board_types.specs.declared.reply.Refusal.TheVariants.{BeforeStart, OutOfRange, VersionsSpent, Spent}
+use Rattle.board_types.specs.declared.reply.Refusal.TheVariants.{NoTime, VersionsSpent, Spent}
 use Rattle.board_types.specs.declared.reply.Value.TheVariants.{Wall as Words}
 use Rattle.board_types.specs.declared.setup.Setup.{Setup}
 use Rattle.board_devices.specs.declared.act.Act.TheVariants.{PitRead, PitWrite, IndexRead, IndexWrite, ClockRead, ClockWrite, Nothing}
@@ -186,11 +187,11 @@ wall-kept = refl
 abbrev spent_board : ℕ → ℕ → BoardParts
 spent_board version accesses = record board { accesses = accesses; wall_version = version; processors = record no_processor { version = version } ∷ [] }
 
-before-start : refusal_of (spent_board 4294967294 (2 ^ 62)) 0 99 (Refresh 0) ≡ Some (BeforeStart 100)
+before-start : refusal_of (spent_board 4294967294 (2 ^ 62)) 0 99 (Refresh 0) ≡ Some (NoTime (BeforeStart 100))
 unfolding refusal_of
 before-start = refl
 
-out-of-range : refusal_of (spent_board 4294967294 (2 ^ 62)) 0 (100 + 2 ^ 59 - 5000) (Refresh 0) ≡ Some (OutOfRange (2 ^ 59))
+out-of-range : refusal_of (spent_board 4294967294 (2 ^ 62)) 0 (100 + 2 ^ 59 - 5000) (Refresh 0) ≡ Some (NoTime (OutOfRange (2 ^ 59)))
 unfolding refusal_of time_at
 out-of-range = refl
 

@@ -10,22 +10,12 @@ use Rattle.std.specs.Prelude.{
   None,
 }
 use Rattle.std.specs.Option.{option_or, option_map}
-use Rattle.host_counter.specs.declared.TimeFault.{TimeFault}
-use Rattle.host_counter.specs.declared.TimeFault.TheVariants.{
-  BeforeStart as FaultBeforeStart,
-  OutOfRange as FaultOutOfRange,
-}
 use Rattle.board_types.specs.declared.access.Access.{Access}
 use Rattle.board_types.specs.declared.parts.BoardParts.{BoardParts}
 use Rattle.board_types.specs.declared.parts.ProcessorParts.{ProcessorParts}
 use Rattle.board_types.specs.declared.parts.TheConstants.{LAST_VERSION, MOST_ACCESSES}
 use Rattle.board_types.specs.declared.reply.Refusal.{Refusal}
-use Rattle.board_types.specs.declared.reply.Refusal.TheVariants.{
-  BeforeStart,
-  OutOfRange,
-  VersionsSpent,
-  Spent,
-}
+use Rattle.board_types.specs.declared.reply.Refusal.TheVariants.{NoTime, VersionsSpent, Spent}
 use Rattle.board_core.specs.Time.{time_fault}
 use Rattle.board_core.specs.Tsc.{no_processor}
 use Rattle.board_core.specs.Pages.{published_by}
@@ -50,15 +40,10 @@ spent_version None next = next
 spent_version (Some version) next =
     if nat_le LAST_VERSION version then Some (VersionsSpent version) else next
 
--- a count without a time, as a refusal
-abbrev pub untimed : TimeFault → Refusal
-untimed (FaultBeforeStart start) = BeforeStart start
-untimed (FaultOutOfRange ns) = OutOfRange ns
-
 -- why an access at count h is refused, the causes in this order: the count has no time; a version is
 -- spent; the accesses are spent
 unfoldable pub refusal_of : BoardParts → ℕ → ℕ → Access → Option Refusal
 refusal_of b cpu h a =
-    option_or (option_map untimed (time_fault b.anchor h))
+    option_or (option_map NoTime (time_fault b.anchor h))
     (spent_version (raised_version b.processors b.wall_version b.hv.version cpu a)
     (if nat_le MOST_ACCESSES b.accesses then Some (Spent b.accesses) else None))

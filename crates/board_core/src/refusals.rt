@@ -49,8 +49,7 @@ impl BoardState {
         ensures time { IfOk result (λ to. to ≡ time_of_access self.now h) }
     {
         let to = match self.time_to(h) {
-            Err(TimeFault::BeforeStart { start }) => return Err(Refusal::BeforeStart { start }),
-            Err(TimeFault::OutOfRange { ns }) => return Err(Refusal::OutOfRange { ns }),
+            Err(fault) => return Err(Refusal::NoTime(fault)),
             Ok(to) => to,
         };
         let version = raised_version(&self.processors, self.wall_version, self.hv.version, cpu, a);

@@ -11,13 +11,13 @@ use Rattle.board_types.specs.declared.parts.BoardParts.{BoardParts}
 use Rattle.board_types.specs.declared.parts.ProcessorParts.{ProcessorParts}
 use Rattle.board_types.specs.declared.parts.TheConstants.{LAST_VERSION, MOST_ACCESSES}
 use Rattle.board_types.specs.declared.reply.Refusal.{Refusal}
-use Rattle.board_types.specs.declared.reply.Refusal.TheVariants.{VersionsSpent, Spent}
+use Rattle.board_types.specs.declared.reply.Refusal.TheVariants.{NoTime, VersionsSpent, Spent}
 use Rattle.board_core.specs.Time.{time_fault}
 use Rattle.board_core.specs.Tsc.{no_processor}
 use Rattle.board_core.specs.Pages.{published_by}
 use Rattle.board_core.specs.Wall.{publishes_wall}
 use Rattle.board_core.specs.Hv.{publishes_hv}
-use Rattle.board_core.specs.Refusals.{version_at, raised_version, spent_version, untimed, refusal_of}
+use Rattle.board_core.specs.Refusals.{version_at, raised_version, spent_version, refusal_of}
 use Rattle.board_history.specs.Counts.{HasNoTime, IsAtLastVersion, SameCounts}
 
 -- one of two causes
@@ -54,12 +54,12 @@ raised_at b cpu n a is last = by (publishes_wall a) refl is
     by true w e = inl (w, (let same : b.wall_version ≡ n = cc e in omega arith))
     by false w e = by_hv (publishes_hv a) refl e
 
-time_or_rest : (anchor : Anchor) (h : ℕ) (f : Refusal) (rest : Option Refusal) → option_or (option_map untimed (time_fault anchor h)) rest ≡ Some f
+time_or_rest : (anchor : Anchor) (h : ℕ) (f : Refusal) (rest : Option Refusal) → option_or (option_map NoTime (time_fault anchor h)) rest ≡ Some f
     → HasNoTime anchor h ⊎ (rest ≡ Some f)
 time_or_rest anchor h f rest is = by (ltb h anchor.start) (leb RANGE_NS (time_at anchor h)) refl refl is
   where
     by : (early late : Bool) → ltb h anchor.start ≡ early → leb RANGE_NS (time_at anchor h) ≡ late
-        → option_or (option_map untimed (cond early (Some (BeforeStart anchor.start)) (cond late (Some (OutOfRange (time_at anchor h))) None))) rest ≡ Some f
+        → option_or (option_map NoTime (cond early (Some (BeforeStart anchor.start)) (cond late (Some (OutOfRange (time_at anchor h))) None))) rest ≡ Some f
         → HasNoTime anchor h ⊎ (rest ≡ Some f)
     by true late e g is = inl (inl (ltb-true h anchor.start e))
     by false true e g is = inl (inr (leb-true RANGE_NS (time_at anchor h) g))
@@ -83,7 +83,7 @@ refused_why b cpu h a f is = elim (time_or_rest b.anchor h f _ is) [
 -- a refusal, by the anchor, the version that would rise, and the number of accesses
 refusal_by : Anchor → ℕ → Option ℕ → ℕ → Option Refusal
 refusal_by anchor h v accesses =
-    option_or (option_map untimed (time_fault anchor h)) (spent_version v (cond (leb MOST_ACCESSES accesses) (Some (Spent accesses)) None))
+    option_or (option_map NoTime (time_fault anchor h)) (spent_version v (cond (leb MOST_ACCESSES accesses) (Some (Spent accesses)) None))
 
 refusal_of-by : (b : BoardParts) (cpu h : ℕ) (a : Access)
     → refusal_of b cpu h a ≡ refusal_by b.anchor h (raised_version b.processors b.wall_version b.hv.version cpu a) b.accesses

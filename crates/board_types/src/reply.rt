@@ -2,6 +2,7 @@
 ghost use Rattle.std.specs.Prelude.{◌≡◌};
 ghost use Rattle.board_types.specs.Reply.{empty_reply, IsFresh};
 
+use host_counter::TimeFault;
 use irq_edges::{BurstList, EdgeList};
 use tick_policy::Counts;
 
@@ -73,10 +74,8 @@ pub struct Ran {
 /// Why an access is refused. The causes are tested in this order, and a board that refuses stays as it is.
 #[derive(Clone, Copy, Debug, PartialEq, Eq)]
 pub enum Refusal {
-    /// The count of the host's counter lies before the anchor's, which is given.
-    BeforeStart { start: u64 },
-    /// The time, which is given in nanoseconds, is 2^59 or more.
-    OutOfRange { ns: u128 },
+    /// The count of the host's counter has no time.
+    NoTime(TimeFault),
     /// The access would publish a page, or the wall clock's words, whose version is the last one, which is given.
     VersionsSpent { version: u64 },
     /// There were 2^62 accesses, which is the number that is given.

@@ -7,14 +7,13 @@ use Rattle.pvclock_page.specs.declared.page.ClockReply.{ClockReply}
 use Rattle.pvclock_page.specs.declared.page.ClockReply.TheVariants.{Off, On}
 use Rattle.board_types.specs.declared.parts.BoardParts.{BoardParts}
 use Rattle.board_core.specs.Time.{now_of, time_fault}
-use Rattle.board_core.specs.Refusals.{untimed}
 use Rattle.board_core.specs.Tsc.{processor_at}
 use Rattle.board_core.specs.Pages.{page_in, clock_reply, after_clock}
 use Rattle.clockboard_c.specs.declared.board.Board.{Board}
 use Rattle.clockboard_c.specs.declared.board.TheConstants.{SEAL}
 use Rattle.clockboard_c.specs.declared.code.TheConstants.{OK, PAGE_OFF, SHARED}
 use Rattle.clockboard_c.specs.declared.pages.PageWords.{PageWords}
-use Rattle.clockboard_c.specs.Codes.{code_of}
+use Rattle.clockboard_c.specs.Codes.{time_code}
 use Rattle.clockboard_c.specs.Look.{processor_code}
 use Rattle.clockboard_c.specs.Replies.{Told, refused, taken}
 
@@ -40,7 +39,7 @@ clock_in (On reading clock) now = taken 0 now (clock ∷ reading ∷ 0 ∷ 0 ∷
 -- what is told at count h, which must have a time
 abbrev pub in_time : BoardParts → ℕ → Told → Told
 in_time s h told =
-    unwrap_or (option_map (λ fault. refused (code_of (untimed fault))) (time_fault s.anchor h)) told
+    unwrap_or (option_map (λ fault. refused (time_code fault)) (time_fault s.anchor h)) told
 
 abbrev pub clock_by : BoardParts → ℕ → ℕ → Told
 clock_by s cpu h = in_time s h (clock_in (clock_reply s cpu h) (now_of s))

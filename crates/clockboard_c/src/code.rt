@@ -1,8 +1,9 @@
 //! The codes that calls answer, `enum clockboard_answer` of the header.
 ghost use Rattle.std.specs.Prelude.{◌≡◌};
-ghost use Rattle.clockboard_c.specs.Codes.{code_of};
+ghost use Rattle.clockboard_c.specs.Codes.{code_of, time_code};
 
 use board_types::Refusal;
+use host_counter::TimeFault;
 
 /// The call was taken.
 pub const OK: u32 = 0;
@@ -61,13 +62,22 @@ pub const SHARED: u32 = 17;
 /// Threads don't share the board's pages.
 pub const NOT_SHARED: u32 = 18;
 
+/// The code of a count that has no time.
+pub(crate) fn time_code(fault: TimeFault) -> u32
+    ensures { result ≡ time_code fault }
+{
+    match fault {
+        TimeFault::BeforeStart { .. } => BEFORE_START,
+        TimeFault::OutOfRange { .. } => OUT_OF_RANGE,
+    }
+}
+
 /// The code of a refusal.
 pub(crate) fn code_of(refusal: Refusal) -> u32
     ensures { result ≡ code_of refusal }
 {
     match refusal {
-        Refusal::BeforeStart { .. } => BEFORE_START,
-        Refusal::OutOfRange { .. } => OUT_OF_RANGE,
+        Refusal::NoTime(fault) => time_code(fault),
         Refusal::VersionsSpent { .. } => VERSIONS_SPENT,
         Refusal::Spent { .. } => ACCESSES_SPENT,
     }

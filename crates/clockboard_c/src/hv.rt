@@ -10,12 +10,11 @@ ghost use Rattle.clockboard_c.specs.Hv.{
 };
 
 use crate::board::{Board, SEAL};
-use crate::code::{BEFORE_START, NO_BOARD, NOT_OURS, OK, OUT_OF_RANGE, PAGE_OFF};
+use crate::code::{NO_BOARD, NOT_OURS, OK, PAGE_OFF, time_code};
 use crate::reply::ReplyWords;
 use board_core::BoardState;
 use board_types::HV_FORMAT;
 use clk_units::bit;
-use host_counter::TimeFault;
 use hv_page::{HvReply, guest_sequence, page_bytes};
 
 /// How many bytes the guest's page has.
@@ -98,7 +97,6 @@ fn tell_hv_time(state: &BoardState, host: u64, reply: &mut ReplyWords)
             reply.take(0, state.now(), [reading, 0, 0, 0], &[], &[]);
         }
         Ok(HvReply::Off) => reply.refuse(PAGE_OFF),
-        Err(TimeFault::BeforeStart { .. }) => reply.refuse(BEFORE_START),
-        Err(TimeFault::OutOfRange { .. }) => reply.refuse(OUT_OF_RANGE),
+        Err(fault) => reply.refuse(time_code(fault)),
     }
 }

@@ -13,10 +13,9 @@ ghost use Rattle.clockboard_c.specs.Pages.{
 };
 
 use crate::board::{Board, SEAL};
-use crate::code::{BEFORE_START, NO_BOARD, NO_PROCESSOR, OK, OUT_OF_RANGE, PAGE_OFF, SHARED};
+use crate::code::{NO_BOARD, NO_PROCESSOR, OK, PAGE_OFF, SHARED, time_code};
 use crate::reply::ReplyWords;
 use board_core::BoardState;
-use host_counter::TimeFault;
 use pvclock_page::{ClockReply, page_bytes};
 
 /// A page as plain numbers, `struct clockboard_page` of the header.
@@ -106,7 +105,6 @@ fn tell_clock(state: &mut BoardState, cpu: u8, host: u64, reply: &mut ReplyWords
             reply.take(0, state.now(), [clock, reading, 0, 0], &[], &[]);
         }
         Ok(ClockReply::Off) => reply.refuse(PAGE_OFF),
-        Err(TimeFault::BeforeStart { .. }) => reply.refuse(BEFORE_START),
-        Err(TimeFault::OutOfRange { .. }) => reply.refuse(OUT_OF_RANGE),
+        Err(fault) => reply.refuse(time_code(fault)),
     }
 }

@@ -19,11 +19,11 @@ use Rattle.board_types.specs.declared.parts.BoardParts.{BoardParts}
 use Rattle.board_types.specs.declared.parts.ProcessorParts.{ProcessorParts}
 use Rattle.board_types.specs.declared.parts.TheConstants.{LAST_VERSION, MOST_ACCESSES}
 use Rattle.board_types.specs.declared.reply.Refusal.{Refusal}
-use Rattle.board_types.specs.declared.reply.Refusal.TheVariants.{Spent}
+use Rattle.board_types.specs.declared.reply.Refusal.TheVariants.{NoTime, Spent}
 use Rattle.board_core.specs.Access.{after_access}
 use Rattle.board_core.specs.Pages.{published_by, published_at_host}
 use Rattle.board_core.specs.Reanchor.{reanchored}
-use Rattle.board_core.specs.Refusals.{version_at, raised_version, spent_version, untimed, refusal_of}
+use Rattle.board_core.specs.Refusals.{version_at, raised_version, spent_version, refusal_of}
 use Rattle.board_core.specs.Time.{HasTime, now_of, time_fault}
 use Rattle.board_core.specs.Tsc.{no_processor, processor_at}
 use Rattle.board_core.specs.Hv.{publishes_hv, hv_published_at_host}
@@ -94,7 +94,7 @@ refusal_of-tally b t cpu h a x =
     (cond (publishes_hv a) (Some (sym x.hv_version i)) (same_version (published_by cpu a) b t x i)) in
     let anchor : b.anchor ≡ t.anchor = sym x.anchor in
     let accesses : b.accesses ≡ t.accesses = sym x.accesses in
-    λ i. option_or (option_map untimed (time_fault (anchor i) h))
+    λ i. option_or (option_map NoTime (time_fault (anchor i) h))
     (spent_version (raised i) (cond (leb MOST_ACCESSES (accesses i)) (Some (Spent (accesses i))) None))
 
 -- the page that an access publishes has a place

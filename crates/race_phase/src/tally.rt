@@ -178,10 +178,8 @@ impl Tally {
         ensures refused { IfErr result (λ f. refusal_in self.now cpu h a ≡ Some f) }
         ensures taken { OnOk result (refusal_in self.now cpu h a ≡ None) }
     {
-        match self.check_count(h) {
-            Err(TimeFault::BeforeStart { start }) => return Err(Refusal::BeforeStart { start }),
-            Err(TimeFault::OutOfRange { ns }) => return Err(Refusal::OutOfRange { ns }),
-            Ok(()) => {}
+        if let Err(fault) = self.check_count(h) {
+            return Err(Refusal::NoTime(fault));
         }
         let version = self.raised(cpu, a);
         match spent_version(version, self.spent()) {

@@ -55,7 +55,7 @@ fn a_count_whose_time_is_past_the_range(rt: HostRuntime) -> Result<(), Fail> {
     assert_eq!(rt; tally.admit(0, RANGE_NS - 1, Access::Step), Ok(()));
     assert_eq!(rt;
         tally.admit(0, RANGE_NS, Access::Step),
-        Err(Refusal::OutOfRange { ns })
+        Err(Refusal::NoTime(TimeFault::OutOfRange { ns }))
     );
     Ok(())
 }

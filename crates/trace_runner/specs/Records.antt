@@ -2,18 +2,18 @@
 use Rattle.std.specs.Prelude.{ℕ, List, Option, Some, None}
 use Rattle.std.specs.Option.{option_map}
 use Rattle.host_counter.specs.declared.TimeFault.{TimeFault}
+use Rattle.host_counter.specs.declared.TimeFault.TheVariants.{BeforeStart, OutOfRange}
 use Rattle.board_types.specs.declared.access.Access.{Access}
 use Rattle.board_types.specs.declared.parts.BoardParts.{BoardParts}
 use Rattle.board_types.specs.declared.reply.Refusal.{Refusal}
 use Rattle.board_types.specs.declared.reply.Refusal.TheVariants.{
-  BeforeStart,
-  OutOfRange,
+  NoTime,
   VersionsSpent,
   Spent as AccessesSpent,
 }
 use Rattle.board_core.specs.Access.{after_access, reply_of}
 use Rattle.board_core.specs.Time.{time_fault}
-use Rattle.board_core.specs.Refusals.{untimed, refusal_of}
+use Rattle.board_core.specs.Refusals.{refusal_of}
 use Rattle.board_core.specs.Pages.{page_reply, clock_reply, after_clock}
 use Rattle.board_core.specs.Hv.{hv_reply}
 use Rattle.race_phase.specs.declared.deliveries.Deliveries.{Deliveries}
@@ -79,16 +79,16 @@ refused_by TooLong = Long
 refused_by TooMany = Many
 refused_by EndsEarly = NoEnd
 
--- the board's refusal; a counter before the anchor's fell below it
+-- a count of the host's counter that has no time; one before the anchor's fell below it
+abbrev pub refused_fault : TimeFault → Refused
+refused_fault (BeforeStart start) = Fell start
+refused_fault (OutOfRange ns) = Range ns
+
+-- the board's refusal
 abbrev pub refused_access : Refusal → Refused
-refused_access (BeforeStart start) = Fell start
-refused_access (OutOfRange ns) = Range ns
+refused_access (NoTime fault) = refused_fault fault
 refused_access (VersionsSpent version) = Versions version
 refused_access (AccessesSpent number) = Spent number
-
--- a count of the host's counter that has no time
-abbrev pub refused_fault : TimeFault → Refused
-refused_fault fault = refused_access (untimed fault)
 
 -- why a count of the host's counter has no time, if it has none
 unfoldable pub refused_count : BoardParts → ℕ → Option Refused

@@ -130,19 +130,18 @@ pub(crate) fn refused_by(reason: Reason) -> Refused
     }
 }
 
-/// The board's refusal. A counter before the anchor's fell below it.
+/// The board's refusal.
 pub(crate) fn refused_access(refusal: Refusal) -> Refused
     ensures { result ≡ refused_access refusal }
 {
     match refusal {
-        Refusal::BeforeStart { start } => Refused::Fell { before: start },
-        Refusal::OutOfRange { ns } => Refused::Range { ns },
+        Refusal::NoTime(fault) => refused_time(fault),
         Refusal::VersionsSpent { version } => Refused::Versions { version },
         Refusal::Spent { number } => Refused::Spent { number },
     }
 }
 
-/// The same of a count that has no time.
+/// A count that has no time. One before the anchor's fell below it.
 pub(crate) fn refused_time(fault: TimeFault) -> Refused
     ensures { result ≡ refused_fault fault }
 {

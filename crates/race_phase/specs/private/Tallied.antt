@@ -9,9 +9,9 @@ use Rattle.board_types.specs.declared.access.Access.{Access}
 use Rattle.board_types.specs.declared.parts.TheConstants.{MOST_ACCESSES}
 use Rattle.board_types.specs.declared.setup.TheConstants.{HV_FORMAT}
 use Rattle.board_types.specs.declared.reply.Refusal.{Refusal}
-use Rattle.board_types.specs.declared.reply.Refusal.TheVariants.{Spent}
+use Rattle.board_types.specs.declared.reply.Refusal.TheVariants.{NoTime, Spent}
 use Rattle.board_core.specs.Pages.{published_by}
-use Rattle.board_core.specs.Refusals.{spent_version, untimed}
+use Rattle.board_core.specs.Refusals.{spent_version}
 use Rattle.board_core.specs.Time.{HasTime, time_fault}
 use Rattle.board_core.specs.Hv.{publishes_hv}
 use Rattle.board_core.specs.Wall.{publishes_wall, wall_version_after}
@@ -39,7 +39,7 @@ raised_in t cpu a =
 -- why an access is refused
 unfoldable pub refusal_in : TallyParts → ℕ → ℕ → Access → Option Refusal
 refusal_in t cpu h a =
-    option_or (option_map untimed (time_fault t.anchor h))
+    option_or (option_map NoTime (time_fault t.anchor h))
     (spent_version (raised_in t cpu a)
     (if nat_le MOST_ACCESSES t.accesses then Some (Spent t.accesses) else None))
 
