@@ -40,7 +40,6 @@ use Rattle.clap.specs.ValueTests.{accepts}
 use Rattle.clap.specs.Facts.{parser_of_value, unwrap_or_range}
 use Rattle.clap.specs.Walk.{
   Held,
-  Names,
   Row,
   Rule,
   Step,

@@ -14,7 +14,7 @@ ghost use Rattle.std.specs.Prelude.{
 ghost use Rattle.std.specs.Option.{option_map_or};
 ghost use Rattle.std.specs.String.{string_bytes};
 ghost use Rattle.std.specs.Str.{bytes_eq};
-ghost use Rattle.clap.specs.Words.{app_of, found_of, rows_of, rule_of, first_of, kind_of};
+ghost use Rattle.clap.specs.Words.{app_of, found_of, rows_of, rule_of, first_of};
 ghost use Rattle.command_line.specs.Command.{
   app,
   number_rule,
