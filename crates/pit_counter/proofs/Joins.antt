@@ -26,9 +26,11 @@ use Rattle.std.proofs.Common.{
 use Rattle.std.specs.Option.{IfSome}
 use Rattle.clk_units.specs.Events.{IsFirst}
 use Rattle.pit_counter.specs.private.Stretch.{joined_first}
+use Rattle.pit_counter.specs.private.Taken.{HasTaken}
 use Rattle.pit_counter.specs.Table.{pulsed_times, rises_next, rises_in}
 use Rattle.pit_counter.specs.Parts.{IsCounter}
 use Rattle.pit_counter.specs.declared.parts.CounterParts.{CounterParts}
+use Rattle.pit_counter.specs.declared.rises.Rises.{Rises}
 use Rattle.pit_counter.proofs.Keeps.{IsCounter-pulsed}
 use Rattle.pit_counter.proofs.Times.{pulsed_times-+, rises_in-suc, rises_in-zero}
 
@@ -70,24 +72,23 @@ unfolding pulsed_times
 IsCounter-pulsed_times c zero h = h
 IsCounter-pulsed_times c (suc n) h = IsCounter-pulsed (pulsed_times n c) (IsCounter-pulsed_times c n h)
 
--- ---- n pulses, of which the first m lead to d
+-- pulses, and then more
+pub HasTaken-joined : (m n : ℕ) (a b c : CounterParts) (early later both : Rises) → HasTaken m a b early → HasTaken n b c later
+    → both.count ≡ early.count + later.count → both.first ≡ joined_first early.first m later.first → HasTaken (m + n) a c both
+HasTaken-joined m n a b c early later both f g count first = record {
+  state = g.state ∙ ap (pulsed_times n) f.state ∙ sym (pulsed_times-joined a m n);
+  count = omega (arith, count, f.count, g.count, rises_in-joined a m n, ap (λ (x : CounterParts). rises_in x n) f.state);
+  first = subst (λ (o : Option ℕ). IsFirst (rises_in a) (m + n) o) (sym first)
+      (IsFirst-joined a m n early.first later.first f.first
+      (subst (λ (x : CounterParts). IsFirst (rises_in x) n later.first) f.state g.first));
+}
 
-pub state_behind : (c d : CounterParts) (n m : ℕ) → m ≤ n → d ≡ pulsed_times m c → pulsed_times (n - m) d ≡ pulsed_times n c
-state_behind c d n m within e =
-    let place : m + (n - m) ≡ n = omega arith in
-    ap (pulsed_times (n - m)) e ∙ sym (pulsed_times-joined c m (n - m)) ∙ ap (λ (k : ℕ). pulsed_times k c) place
-
-pub rises_behind : (c d : CounterParts) (n m : ℕ) → m ≤ n → d ≡ pulsed_times m c → rises_in c n ≡ rises_in c m + rises_in d (n - m)
-rises_behind c d n m within e =
-    let place : n ≡ m + (n - m) = omega arith in
-    ap (rises_in c) place ∙ rises_in-joined c m (n - m) ∙ ap (λ (x : CounterParts). rises_in c m + rises_in x (n - m)) (sym e)
-
-pub first_behind : (c d : CounterParts) (n m : ℕ) (first later : Option ℕ) → m ≤ n → d ≡ pulsed_times m c → IsFirst (rises_in c) m first
-    → IsFirst (rises_in d) (n - m) later → IsFirst (rises_in c) n (joined_first first m later)
-first_behind c d n m first later within e f g =
-    let place : m + (n - m) ≡ n = omega arith in
-    subst (λ (k : ℕ). IsFirst (rises_in c) k (joined_first first m later)) place
-    (IsFirst-joined c m (n - m) first later f (subst (λ (x : CounterParts). IsFirst (rises_in x) (n - m) later) e g))
+-- n pulses, of which the first m are taken
+pub HasTaken-rest : (m n : ℕ) (a b c : CounterParts) (early later both : Rises) → m ≤ n → HasTaken m a b early → HasTaken (n - m) b c later
+    → both.count ≡ early.count + later.count → both.first ≡ joined_first early.first m later.first → HasTaken n a c both
+HasTaken-rest m n a b c early later both within f g count first =
+    let whole : m + (n - m) ≡ n = omega arith in
+    subst (λ (k : ℕ). HasTaken k a c both) whole (HasTaken-joined m (n - m) a b c early later both f g count first)
 
 pub joined_first-none : (first : Option ℕ) (m : ℕ) → joined_first first m None ≡ first
 joined_first-none (Some k) m = refl

@@ -1,2 +1,3 @@
--- What only the proofs of closed forms need: no promise of a call cites it.
+-- What private contracts and the proofs of closed forms need: no contract of a public call cites it.
 pub mod Stretch
+pub mod Taken

@@ -1,22 +1,8 @@
 //! Many pulses at once: stretches that count and do nothing else, whole periods, and single pulses
 //! between them.
 
-ghost use Rattle.std.specs.Prelude.{
-  IfSome,
-  ◌≡◌,
-  ◌+◌,
-  ◌*◌,
-  ◌%◌,
-  ◌<◌,
-  ◌≤◌,
-  ◌^◌,
-  suc,
-  true,
-  not,
-  if◌then◌else◌,
-};
+ghost use Rattle.std.specs.Prelude.{◌≡◌, ◌*◌, ◌%◌, ◌<◌, ◌≤◌, true, not, if◌then◌else◌};
 ghost use Rattle.std.specs.Bool.{OnTrue, OnFalse};
-ghost use Rattle.clk_units.specs.Events.{IsFirst};
 ghost use Rattle.pit_counter.specs.Count.{modulus, meant_count};
 ghost use Rattle.pit_counter.specs.Parts.{IsCounter};
 ghost use Rattle.pit_counter.specs.Table.{affected, pulsed_times, rises_in};
@@ -29,8 +15,8 @@ ghost use Rattle.pit_counter.specs.private.Stretch.{
   glided,
   is_reloaded,
   is_dividing,
-  joined_first,
 };
+ghost use Rattle.pit_counter.specs.private.Taken.{HasTaken, IsLeap};
 
 use crate::count::{is_odd_square, loaded_count, meant_count, modulus};
 use crate::mode::{is_bcd, mode_of};
@@ -223,11 +209,7 @@ fn whole_periods(p: CounterParts, n: u64) -> Leap
     requires one { meant_count p.bits p.cr ≤ n }
     requires below { p.ce < modulus p.bits }
     requires begins { is_reloaded p ≡ true }
-    ensures forward { 0 < result.pulses }
-    ensures within { result.pulses ≤ n }
-    ensures state { result.parts ≡ pulsed_times result.pulses p }
-    ensures count { result.rises.count ≡ rises_in p result.pulses }
-    ensures first { IsFirst (rises_in p) result.pulses result.rises.first }
+    ensures { IsLeap n p result }
 {
     let period = meant_count(p.bits, p.cr) as u64;
     let count = n / period;
@@ -266,11 +248,7 @@ fn rate_periods(p: CounterParts, n: u64) -> Leap
     requires one { height p ≤ n }
     requires below { p.ce < modulus p.bits }
     requires counts { is_dividing p ≡ true }
-    ensures forward { 0 < result.pulses }
-    ensures within { result.pulses ≤ n }
-    ensures state { result.parts ≡ pulsed_times result.pulses p }
-    ensures count { result.rises.count ≡ rises_in p result.pulses }
-    ensures first { IsFirst (rises_in p) result.pulses result.rises.first }
+    ensures { IsLeap n p result }
 {
     let left = height(&p);
     let period = meant_count(p.bits, p.cr);
@@ -289,11 +267,7 @@ fn rate_periods(p: CounterParts, n: u64) -> Leap
 fn next_leap(p: CounterParts, n: u64) -> Leap
     requires some { 0 < n }
     requires below { p.ce < modulus p.bits }
-    ensures forward { 0 < result.pulses }
-    ensures within { result.pulses ≤ n }
-    ensures state { result.parts ≡ pulsed_times result.pulses p }
-    ensures count { result.rises.count ≡ rises_in p result.pulses }
-    ensures first { IsFirst (rises_in p) result.pulses result.rises.first }
+    ensures { IsLeap n p result }
 {
     if meant_count(p.bits, p.cr) as u64 <= n && is_reloaded(&p) {
         return whole_periods(p, n);
@@ -321,9 +295,7 @@ fn next_leap(p: CounterParts, n: u64) -> Leap
 #[inline(never)]
 fn leaps(p: &mut CounterParts, n: u64) -> Rises
     requires { IsCounter p.old }
-    ensures state { p.new ≡ pulsed_times n p.old }
-    ensures count { result.count ≡ rises_in p.old n }
-    ensures first { IsFirst (rises_in p.old) n result.first }
+    ensures { HasTaken n p.old p.new result }
 {
     let mut parts = *p;
     let mut pulses = 0;
@@ -343,9 +315,7 @@ fn leaps(p: &mut CounterParts, n: u64) -> Rises
 #[inline(never)]
 fn take_loud_pulses(p: &mut CounterParts, n: u64) -> Rises
     requires { IsCounter p.old }
-    ensures state { p.new ≡ pulsed_times n p.old }
-    ensures count { result.count ≡ rises_in p.old n }
-    ensures first { IsFirst (rises_in p.old) n result.first }
+    ensures { HasTaken n p.old p.new result }
 {
     if !is_dividing(p) || height(p) > n {
         return leaps(p, n);
@@ -364,9 +334,7 @@ fn take_loud_pulses(p: &mut CounterParts, n: u64) -> Rises
 #[inline(always)]
 pub fn take_pulses(p: &mut CounterParts, n: u64) -> Rises
     requires { IsCounter p.old }
-    ensures state { p.new ≡ pulsed_times n p.old }
-    ensures count { result.count ≡ rises_in p.old n }
-    ensures first { IsFirst (rises_in p.old) n result.first }
+    ensures { HasTaken n p.old p.new result }
 {
     if glide(p, n) {
         return NONE;

@@ -12,6 +12,7 @@ use Rattle.std.proofs.Common.{
   ◌∙◌,
   arith,
   subst,
+  rules,
 }
 use Rattle.clk_units.specs.Events.{IsFirst, first_more}
 use Rattle.clk_units.proofs.Events.{IsFirst-more}
@@ -28,27 +29,22 @@ use Rattle.pit_counter.proofs.Times.{
 use Rattle.pit_counter.proofs.Quiet.{next_effect, pulsed_times-glided, rises_in-glided}
 use Rattle.pit_counter.proofs.stretch.next_leap.Goals as goal
 
-pub returns-then-quiet-gt0-clause-state : goal.returns-then-quiet-gt0-clause-state
-returns-then-quiet-gt0-clause-state c =
+pub returns-then-quiet-gt0 : goal.returns-then-quiet-gt0
+returns-then-quiet-gt0 c =
     let quiet : c.quiet_for.result ≡ quiet_for (next_effect c.args.p) c.args.p = c.quiet_for.ensures
     ∙ ap (λ (e : Effect). quiet_for e c.args.p) c.next_effect-effect.ensures in
     let within : c.min-quiet.result ≤ quiet_for (next_effect c.args.p) c.args.p = omega (arith, c.min-quiet.ensures) in
-    c.glided.ensures ∙ ap (λ (e : Effect). glided e c.min-quiet.result c.args.p) c.next_effect-effect.ensures
-    ∙ sym (pulsed_times-glided c.args.p c.min-quiet.result c.requires.below within)
-
-pub returns-then-quiet-gt0-clause-count : goal.returns-then-quiet-gt0-clause-count
-returns-then-quiet-gt0-clause-count c =
-    let quiet : c.quiet_for.result ≡ quiet_for (next_effect c.args.p) c.args.p = c.quiet_for.ensures
-    ∙ ap (λ (e : Effect). quiet_for e c.args.p) c.next_effect-effect.ensures in
-    let within : c.min-quiet.result ≤ quiet_for (next_effect c.args.p) c.args.p = omega (arith, c.min-quiet.ensures) in
-    sym (rises_in-glided c.args.p c.min-quiet.result c.requires.below within)
-
-pub returns-then-quiet-gt0-clause-first : goal.returns-then-quiet-gt0-clause-first
-returns-then-quiet-gt0-clause-first c =
-    let quiet : c.quiet_for.result ≡ quiet_for (next_effect c.args.p) c.args.p = c.quiet_for.ensures
-    ∙ ap (λ (e : Effect). quiet_for e c.args.p) c.next_effect-effect.ensures in
-    let within : c.min-quiet.result ≤ quiet_for (next_effect c.args.p) c.args.p = omega (arith, c.min-quiet.ensures) in
-    rises_in-glided c.args.p c.min-quiet.result c.requires.below within
+    let none = rises_in-glided c.args.p c.min-quiet.result c.requires.below within in
+    record {
+      forward = search rules;
+      within = omega (arith, c.min-quiet.ensures);
+      taken = record {
+        state = c.glided.ensures ∙ ap (λ (e : Effect). glided e c.min-quiet.result c.args.p) c.next_effect-effect.ensures
+            ∙ sym (pulsed_times-glided c.args.p c.min-quiet.result c.requires.below within);
+        count = sym none;
+        first = none;
+      };
+    }
 
 -- a single pulse
 single : (p : CounterParts) → pulsed_times 1 p ≡ pulsed p
@@ -58,20 +54,21 @@ single_rises : (p parts : CounterParts) (rose : Bool) → parts ≡ pulsed p →
 unfolding rises_next
 single_rises p parts rose e f = ap rises_next (pulsed_times-zero p) ∙ ap (has_risen p) (sym e) ∙ sym f
 
-pub returns-clause-state : goal.returns-clause-state
-returns-clause-state c = c.pulsed-parts.ensures ∙ sym (single c.args.p)
-
-pub returns-clause-count : goal.returns-clause-count
-returns-clause-count c =
+pub returns : goal.returns
+returns c =
     let test = single_rises c.args.p c.pulsed-parts.result c.has_risen-rose.result c.pulsed-parts.ensures c.has_risen-rose.ensures in
     let none = rises_in-zero c.args.p in
-    c.with_pulse.ensures.count ∙ sym (rises_in-suc c.args.p 0 ∙ ap (λ (b : Bool). cond b (suc (rises_in c.args.p 0)) (rises_in c.args.p 0)) test
-    ∙ ap (λ (n : ℕ). cond c.has_risen-rose.result (suc n) n) none)
-
-pub returns-clause-first : goal.returns-clause-first
-returns-clause-first c =
-    let test = single_rises c.args.p c.pulsed-parts.result c.has_risen-rose.result c.pulsed-parts.ensures c.has_risen-rose.ensures in
     let first : first_more None 0 (rises_next (pulsed_times 0 c.args.p)) ≡ c.with_pulse.result.first = ap (first_more None 0) test
     ∙ sym c.with_pulse.ensures.first in
-    subst (λ (o : Option ℕ). IsFirst (rises_in c.args.p) 1 o) first
-    (IsFirst-more (rises_in c.args.p) 0 (rises_next (pulsed_times 0 c.args.p)) None (rises_in-suc c.args.p 0) (rises_in-zero c.args.p))
+    record {
+      forward = search rules;
+      within = omega (arith, c.requires.some);
+      taken = record {
+        state = c.pulsed-parts.ensures ∙ sym (single c.args.p);
+        count = c.with_pulse.ensures.count
+            ∙ sym (rises_in-suc c.args.p 0 ∙ ap (λ (b : Bool). cond b (suc (rises_in c.args.p 0)) (rises_in c.args.p 0)) test
+            ∙ ap (λ (n : ℕ). cond c.has_risen-rose.result (suc n) n) none);
+        first = subst (λ (o : Option ℕ). IsFirst (rises_in c.args.p) 1 o) first
+            (IsFirst-more (rises_in c.args.p) 0 (rises_next (pulsed_times 0 c.args.p)) None (rises_in-suc c.args.p 0) none);
+      };
+    }

@@ -1,5 +1,5 @@
 use Rattle.std.proofs.Common.{◌≡◌, ◌-◌, ◌+◌, ◌*◌, ◌/◌, ◌≤◌, ℕ, Some, sym, ap, ◌∙◌, arith, subst}
-use Rattle.std.proofs.Math.Nat.{div-le_self}
+use Rattle.std.proofs.Math.Nat.{div-le_self, div-mul-le_self}
 use Rattle.clk_units.specs.Events.{IsFirst}
 use Rattle.pit_counter.specs.Count.{modulus, meant_count}
 use Rattle.pit_counter.specs.Table.{pulsed_times, rises_in}
@@ -29,21 +29,18 @@ overflow_add-result-2 c =
     let some = (the_ending c).some in
     omega (arith, div-le_self (c.args.n - c.height-left.result) c.meant_count-period.result, c.height-left.ensures.value, c.requires.one)
 
-pub returns-clause-forward : goal.returns-clause-forward
-returns-clause-forward c = omega (arith, (the_ending c).some)
-
-pub returns-clause-state : goal.returns-clause-state
-returns-clause-state c =
-    c.reloaded_rate.ensures
-    ∙ sym (ap (λ (k : ℕ). pulsed_times (c.height-left.result + k) c.args.p) (pulses c)
-    ∙ state_ending c.args.p c.height-left.result ((c.args.n - c.height-left.result) / c.meant_count-period.result) (the_ending c))
-
-pub returns-clause-count : goal.returns-clause-count
-returns-clause-count c =
-    sym (ap (λ (k : ℕ). rises_in c.args.p (c.height-left.result + k)) (pulses c)
-    ∙ rises_ending c.args.p c.height-left.result ((c.args.n - c.height-left.result) / c.meant_count-period.result) (the_ending c))
-
-pub returns-clause-first : goal.returns-clause-first
-returns-clause-first c =
-    subst (λ (k : ℕ). IsFirst (rises_in c.args.p) (c.height-left.result + k) (Some c.height-left.result)) (sym (pulses c))
-    (first_ending c.args.p c.height-left.result ((c.args.n - c.height-left.result) / c.meant_count-period.result) (the_ending c))
+pub returns : goal.returns
+returns c =
+    let left : ℕ = c.height-left.result in
+    let whole : ℕ = (c.args.n - left) / c.meant_count-period.result in
+    record {
+      forward = omega (arith, (the_ending c).some);
+      within = omega (arith, div-mul-le_self (c.args.n - left) c.meant_count-period.result, c.height-left.ensures.value, c.requires.one);
+      taken = record {
+        state = c.reloaded_rate.ensures
+            ∙ sym (ap (λ (k : ℕ). pulsed_times (left + k) c.args.p) (pulses c) ∙ state_ending c.args.p left whole (the_ending c));
+        count = sym (ap (λ (k : ℕ). rises_in c.args.p (left + k)) (pulses c) ∙ rises_ending c.args.p left whole (the_ending c));
+        first = subst (λ (k : ℕ). IsFirst (rises_in c.args.p) (left + k) (Some left)) (sym (pulses c))
+            (first_ending c.args.p left whole (the_ending c));
+      };
+    }

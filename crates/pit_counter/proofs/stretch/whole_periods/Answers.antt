@@ -21,20 +21,17 @@ overflow_mul-result c =
     div-mul-le_self c.args.n c.meant_count-period.result in
     omega arith
 
-pub returns-clause-forward : goal.returns-clause-forward
-returns-clause-forward c =
-    let more : 1 * c.meant_count-period.result ≤ c.args.n / c.meant_count-period.result * c.meant_count-period.result =
-    mul-le-mul_right c.meant_count-period.result (some c) in
-    omega (arith, c.meant_count-period.ensures.some)
-
-pub returns-clause-within : goal.returns-clause-within
-returns-clause-within c = div-mul-le_self c.args.n c.meant_count-period.result
-
-pub returns-clause-state : goal.returns-clause-state
-returns-clause-state c = sym (state_many c.args.p c.meant_count-period.result (c.args.n / c.meant_count-period.result) (the_round c))
-
-pub returns-clause-count : goal.returns-clause-count
-returns-clause-count c = sym (rises_many c.args.p c.meant_count-period.result (c.args.n / c.meant_count-period.result) (the_round c))
-
-pub returns-clause-first : goal.returns-clause-first
-returns-clause-first c = first_many c.args.p c.meant_count-period.result (c.args.n / c.meant_count-period.result) (the_round c) (some c)
+pub returns : goal.returns
+returns c =
+    let period : ℕ = c.meant_count-period.result in
+    let whole : ℕ = c.args.n / period in
+    let more : 1 * period ≤ whole * period = mul-le-mul_right period (some c) in
+    record {
+      forward = omega (arith, c.meant_count-period.ensures.some);
+      within = div-mul-le_self c.args.n period;
+      taken = record {
+        state = sym (state_many c.args.p period whole (the_round c));
+        count = sym (rises_many c.args.p period whole (the_round c));
+        first = first_many c.args.p period whole (the_round c) (some c);
+      };
+    }
