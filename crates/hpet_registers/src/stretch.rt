@@ -12,10 +12,9 @@ ghost use Rattle.hpet_registers.specs.Stretch.{
   matches_next,
   hpet_pulsed_times,
   matches_of,
-  no_matches,
   timer_matches,
 };
-ghost use Rattle.hpet_registers.specs.private.Matches.{AreMatches};
+ghost use Rattle.hpet_registers.specs.private.Matches.{AreMatches, AreMatchesBelow};
 
 use crate::parts::HpetParts;
 use hpet_comparator::{MainCounter, Matches, Timer};
@@ -86,10 +85,7 @@ fn pulse_timers(parts: &mut HpetParts, n: u64, matches: &mut [Matches; 8]) -> u8
         } }
     ensures matches { (k : ℕ) → k < parts.old.timers
         → AreMatches parts.old.counter n (timer_at k parts.old) (timer_matches matches.new k) }
-    ensures none { (k : ℕ) → parts.old.timers ≤ k → timer_matches matches.new k ≡ no_matches }
-    ensures inside { result ≤ parts.old.timers }
-    ensures places { result ≤ 8 }
-    ensures reach { (k : ℕ) → result ≤ k → (timer_matches matches.new k).count ≡ 0 }
+    ensures reach { AreMatchesBelow result parts.old.timers matches.new }
 {
     *matches = [Matches::NONE; 8];
     let mut reach = 0;
@@ -119,10 +115,7 @@ pub(crate) fn pulse(parts: &mut HpetParts, n: u64, matches: &mut [Matches; 8]) -
         (timer_matches matches.new k).count
         (spacing_of (timer_at k parts.old))
         (suc i) }
-    ensures none { (k : ℕ) → parts.old.timers ≤ k → timer_matches matches.new k ≡ no_matches }
-    ensures inside { result ≤ parts.old.timers }
-    ensures places { result ≤ 8 }
-    ensures reach { (k : ℕ) → result ≤ k → (timer_matches matches.new k).count ≡ 0 }
+    ensures reach { AreMatchesBelow result parts.old.timers matches.new }
 {
     let from = parts.counter;
     if parts.config % 2 == 0 {

@@ -1,11 +1,12 @@
--- The matches of one timer over a stretch; private contracts alone cite them.
-use Rattle.std.specs.Prelude.{◌≡◌, ℕ, suc, ◌<◌, ◌≤◌}
+-- The matches of timers over a stretch; private contracts alone cite them.
+use Rattle.std.specs.Prelude.{◌≡◌, ℕ, suc, ◌<◌, ◌≤◌, List}
 use Rattle.clk_units.specs.Events.{IsFirst}
 use Rattle.hpet_comparator.specs.Counter.{counter_after}
 use Rattle.hpet_comparator.specs.declared.parts.TimerParts.{TimerParts}
 use Rattle.hpet_comparator.specs.declared.stretch.Matches.{Matches}
 use Rattle.hpet_comparator.specs.Stretch.{matches_at, pulsed_times, matches_in, spacing_of}
 use Rattle.hpet_comparator.specs.Stretch.{falls_on}
+use Rattle.hpet_registers.specs.Stretch.{no_matches, timer_matches}
 
 -- these are a timer's matches over n pulses of a main counter that was at from
 pub record AreMatches (from n : ℕ) (t : TimerParts) (m : Matches) : Type 0 where
@@ -15,3 +16,10 @@ pub record AreMatches (from n : ℕ) (t : TimerParts) (m : Matches) : Type 0 whe
   pub every : (i : ℕ) → i < n
       → matches_at (counter_after from (suc i)) (pulsed_times from i t)
       ≡ falls_on m.first m.count (spacing_of t) (suc i)
+
+-- the matches of so many timers: none from `reach` on matched, and no place after them holds any
+pub record AreMatchesBelow (reach timers : ℕ) (matches : List Matches) : Type 0 where
+  pub none : (k : ℕ) → timers ≤ k → timer_matches matches k ≡ no_matches
+  pub inside : reach ≤ timers
+  pub places : reach ≤ 8
+  pub quiet : (k : ℕ) → reach ≤ k → (timer_matches matches k).count ≡ 0

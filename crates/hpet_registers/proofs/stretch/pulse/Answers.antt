@@ -1,4 +1,4 @@
-use Rattle.std.proofs.Common.{◌≡◌, ℕ, suc, ◌/◌, ◌%◌, ◌^◌, true, false, eqb, ap, sym, subst, ◌∙◌, inl, inr, arith}
+use Rattle.std.proofs.Common.{◌≡◌, ℕ, suc, ◌/◌, ◌%◌, ◌^◌, true, false, eqb, ap, sym, subst, ◌∙◌, inl, inr, arith, rules, zero-le}
 use Rattle.std.proofs.lemmas.Bool.{cases_lt, eq-eqb, ne_eqb}
 use Rattle.clk_units.specs.Events.{IsFirst}
 use Rattle.hpet_comparator.specs.Counter.{counter_after}
@@ -33,7 +33,12 @@ returns-then-parts-eq0-clause-first c = λ k.
     (matches_of-standing k c.args.n c.args.parts.now (stands c.args.parts.now.config c.if-parts-eq0.true))
 
 pub returns-then-parts-eq0-clause-reach : goal.returns-then-parts-eq0-clause-reach
-returns-then-parts-eq0-clause-reach c = λ k past. ap (λ (m : Matches). m.count) (timer_matches-none k)
+returns-then-parts-eq0-clause-reach c = record {
+  none = λ k past. timer_matches-none k;
+  inside = zero-le;
+  places = search rules;
+  quiet = λ k past. ap (λ (m : Matches). m.count) (timer_matches-none k);
+}
 
 pub returns-then-parts-eq0-clause-every : goal.returns-then-parts-eq0-clause-every
 returns-then-parts-eq0-clause-every c = λ k i inside.
@@ -56,7 +61,7 @@ returns-clause-count c = λ k.
     elim (cases_lt k c.args.parts.now.timers) [
       | inl inside ↦ (c.pulse_timers-reach.ensures.matches k inside).count
           ∙ sym (matches_of-running k c.args.n c.args.parts.now running c.requires.fits inside)
-      | inr past ↦ ap (λ (m : Matches). m.count) (c.pulse_timers-reach.ensures.none k past) ∙ sym (matches_of-absent k c.args.n c.args.parts.now past)
+      | inr past ↦ ap (λ (m : Matches). m.count) (c.pulse_timers-reach.ensures.reach.none k past) ∙ sym (matches_of-absent k c.args.n c.args.parts.now past)
     ]
 
 pub returns-clause-first : goal.returns-clause-first
@@ -65,7 +70,7 @@ returns-clause-first c = λ k.
     elim (cases_lt k c.args.parts.now.timers) [
       | inl inside ↦ IsFirst-running k c.args.n c.args.parts.now (timer_matches c.pulse_timers-reach.new.matches k).first running c.requires.fits inside
           (c.pulse_timers-reach.ensures.matches k inside).first
-      | inr past ↦ subst (λ (m : Matches). IsFirst (matches_of k c.args.parts.now) c.args.n m.first) (sym (c.pulse_timers-reach.ensures.none k past))
+      | inr past ↦ subst (λ (m : Matches). IsFirst (matches_of k c.args.parts.now) c.args.n m.first) (sym (c.pulse_timers-reach.ensures.reach.none k past))
           (matches_of-absent k c.args.n c.args.parts.now past)
     ]
 
@@ -76,5 +81,5 @@ returns-clause-every c = λ k i less.
       | inl inside ↦ matches_next-hpet_pulsed_times k i c.args.parts.now running c.requires.fits inside
           ∙ (c.pulse_timers-reach.ensures.matches k inside).every i less
       | inr past ↦ matches_next-absent k i c.args.parts.now past
-          ∙ ap (λ (m : Matches). falls_on m.first m.count (spacing_of (timer_at k c.args.parts.now)) (suc i)) (sym (c.pulse_timers-reach.ensures.none k past))
+          ∙ ap (λ (m : Matches). falls_on m.first m.count (spacing_of (timer_at k c.args.parts.now)) (suc i)) (sym (c.pulse_timers-reach.ensures.reach.none k past))
     ]

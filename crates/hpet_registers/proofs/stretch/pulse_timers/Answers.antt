@@ -20,7 +20,12 @@ pub returns-clause-state : goal.returns-clause-state
 returns-clause-state c = ArePulsed-all c.args.parts.now c.args.n c.loop-k.k c.loop-k.parts c.loop-k.matches c.requires c.loop-k.invariant.pulsed (omega arith)
 
 pub returns-clause-reach : goal.returns-clause-reach
-returns-clause-reach c = λ k past. elim (cases_lt k c.loop-k.k) [
-  | inl less ↦ c.loop-k.invariant.quiet k less past
-  | inr behind ↦ ap (λ (m : Matches). m.count) (c.loop-k.invariant.pulsed.none k behind)
-]
+returns-clause-reach c = record {
+  none = λ k past. c.loop-k.invariant.pulsed.none k (omega (arith, past));
+  inside = omega (arith, c.loop-k.invariant.inside);
+  places = c.loop-k.invariant.small;
+  quiet = λ k past. elim (cases_lt k c.loop-k.k) [
+    | inl less ↦ c.loop-k.invariant.quiet k less past
+    | inr behind ↦ ap (λ (m : Matches). m.count) (c.loop-k.invariant.pulsed.none k behind)
+  ];
+}
