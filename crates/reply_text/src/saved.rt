@@ -9,7 +9,6 @@ ghost use Rattle.std.specs.Prelude.{
   [],
   ◌∷◌,
   length,
-  take,
   OnOk,
   OnErr,
   vec_len,

@@ -16,7 +16,7 @@ ghost use Rattle.std.specs.Prelude.{
   vec_capacity,
 };
 ghost use Rattle.std.specs.Fmt.{signed_decimal};
-ghost use Rattle.reply_text.specs.Words.{hex_text, spaced};
+ghost use Rattle.reply_text.specs.Words.{hex_text};
 ghost use Rattle.reply_text.specs.declared.tail.TheConstants.{LONGEST};
 
 use crate::digits::{write_byte, write_hex, write_text};
