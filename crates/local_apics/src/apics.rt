@@ -26,7 +26,7 @@ ghost use Rattle.local_apics.specs.Nanosecond.{
   tsc_in,
   tsc_by_time,
 };
-ghost use Rattle.local_apics.specs.Parts.{AreIdle, AreApicPlaces, AreApicsOf, is_idle, apics_at_power_on};
+ghost use Rattle.local_apics.specs.Parts.{AreIdle, AreApicPlaces, AreApicsOf, apics_at_power_on};
 ghost use Rattle.local_apics.specs.Parts.{timers_at_power_on};
 ghost use Rattle.local_apics.specs.Places.{timer_at, line_at, no_timer, no_line};
 ghost use Rattle.local_apics.specs.Registers.{written_at, eoi_at};

@@ -4,7 +4,6 @@ ghost use Rattle.std.specs.Prelude.{
   ◌≢◌,
   ℕ,
   true,
-  false,
   ◌+◌,
   ◌-◌,
   ◌^◌,
@@ -16,9 +15,7 @@ ghost use Rattle.std.specs.Prelude.{
   slice_set,
   if◌then◌else◌,
 };
-ghost use Rattle.tsc_scale.specs.Tsc.{tsc_at};
-ghost use Rattle.tick_policy.specs.Line.{ticked_times, acked};
-ghost use Rattle.lapic_timer.specs.Deadline.{guest_count_at};
+ghost use Rattle.tick_policy.specs.Line.{ticked_times};
 ghost use Rattle.lapic_timer.specs.Parts.{mode_of};
 ghost use Rattle.local_apics.specs.Nanosecond.{tscs_of, tsc_in};
 ghost use Rattle.local_apics.specs.Parts.{AreApicPlaces, IsPlaceOf, is_idle};

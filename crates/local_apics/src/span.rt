@@ -4,7 +4,6 @@ ghost use Rattle.std.specs.Prelude.{
   ◌≢◌,
   ℕ,
   ◌+◌,
-  ◌-◌,
   ◌%◌,
   ◌^◌,
   ◌<◌,
@@ -18,7 +17,7 @@ ghost use Rattle.lapic_timer.specs.Deadline.{IsFirstAt, is_reached};
 ghost use Rattle.lapic_timer.specs.Parts.{mode_of, ticks_of};
 ghost use Rattle.lapic_timer.specs.Stretch.{nanoseconds};
 ghost use Rattle.local_apics.specs.Nanosecond.{AreInRange, ticks_at, tsc_in};
-ghost use Rattle.local_apics.specs.private.Span.{IsRun, IsSpan, length_of, ratio_in};
+ghost use Rattle.local_apics.specs.private.Span.{IsRun, IsSpan, length_of};
 ghost use Rattle.local_apics.specs.private.Stretch.{IsStill, ticks_in};
 
 use host_counter::Anchor;
