@@ -40,7 +40,7 @@ use Rattle.board_core.specs.Refusals.{refusal_of}
 use Rattle.board_devices.proofs.MainCounter.{hpet-run}
 use Rattle.board_core.proofs.Messages.{bursts-silent, message_at-later}
 use Rattle.board_core.proofs.Nanoseconds.{after_run-nanoseconds}
-use Rattle.board_core.specs.private.Kinds.{is_passive}
+use Rattle.board_core.specs.Lazy.{is_passive}
 use Rattle.board_core.proofs.Passive.{before_look-passive, own-passive, value_at-passive}
 use Rattle.board_core.proofs.Times.{time_at_max, no_fault-of_time}
 
@@ -247,22 +247,33 @@ module _ (b : BoardParts) (q g h : ℕ) (runs : 0 < b.anchor.khz) (quiet : IsQui
       ∙ ap (λ (d : DeviceParts). (run (now_of b + m) n d).edges) devices-are
       ∙ edges-between (now_of b) m n (time_of_access b q - now_of b) (devices_in b) (parts m n refl refl) quiet.edges
 
-  pub bursts-quiet : bursts_to (after_run b g) h ≡ []
-  bursts-quiet =
+  silent-quiet : (k i : ℕ) → k < 8 → i < time_of_access (after_run b g) h - now_of (after_run b g)
+      → message_at k (now_of (after_run b g)) i (after_run b g).hpet ≡ false
+  silent-quiet k i small less =
       let m : ℕ = time_of_access b g - now_of b in
-      let n : ℕ = time_of_access (after_run b g) h - now_of (after_run b g) in
       let hpet : (after_run b g).hpet ≡ hpet_pulsed_times (pulses_from HPET_HZ (now_of b) m) b.hpet =
       ap (λ (d : DeviceParts). d.hpet) devices-are ∙ hpet-run (now_of b) m (devices_in b) in
-      bursts-silent 8 (now_of (after_run b g)) n (after_run b g).hpet (λ k i small less.
       ap (λ (x : HpetParts). message_at k (now_of (after_run b g)) i x) hpet
       ∙ ap (λ (t : ℕ). message_at k t i (hpet_pulsed_times (pulses_from HPET_HZ (now_of b) m) b.hpet)) (sym (start-after_run b g h runs))
       ∙ sym (message_at-later k (now_of b) m i b.hpet)
-      ∙ quiet.messages k (m + i) small (omega (arith, less, parts m n refl refl)))
+      ∙ quiet.messages k (m + i) small (omega (arith, less, parts m _ refl refl))
+
+  pub bursts-quiet : bursts_to (after_run b g) h ≡ []
+  bursts-quiet = bursts-silent 8 (now_of (after_run b g)) (time_of_access (after_run b g) h - now_of (after_run b g)) (after_run b g).hpet silent-quiet
 
 -- idle timers stay so
 pub apics-idle : (b : BoardParts) (h : ℕ) → AreApicPlaces (apics_in b) → AreIdle (apics_in b) → apics_in (after_run b h) ≡ apics_in b
 unfolding after_run
 apics-idle b h places idle = run-idle (tscs_by_time b) (now_of b) (time_of_access b h - now_of b) (apics_in b) places.timers places.lines idle
+
+-- a board that ran on within a quiet time is quiet up to its end
+pub IsQuiet-after_run : (b : BoardParts) (q g : ℕ) → 0 < b.anchor.khz → IsQuiet b q → g ≤ q → AreApicPlaces (apics_in b) → IsQuiet (after_run b g) q
+IsQuiet-after_run b q g runs quiet before places = record {
+  time = subst (λ (a : Anchor). HasTime a q) (sym (anchor-after_run b g)) quiet.time;
+  edges = edges-quiet b q g q runs quiet before (omega arith);
+  messages = λ k i small less. silent-quiet b q g q runs quiet before (omega arith) k i small (omega (arith, less));
+  idle = subst AreIdle (sym (apics-idle b g places quiet.idle)) quiet.idle;
+}
 
 look-none : (b : BoardParts) → AreApicPlaces (apics_in b) → AreIdle (apics_in b) → after_look b ≡ b
 unfolding after_look

@@ -1,21 +1,27 @@
 -- An access before the horizon that changes nothing.
-use Rattle.std.proofs.Common.{◌≡◌, ℕ, ◌+◌, ◌-◌, ◌<◌, ◌≤◌, max, true, [], None, ◌∙◌, arith}
+use Rattle.std.proofs.Common.{◌≡◌, ℕ, ◌+◌, ◌-◌, ◌<◌, ◌≤◌, max, true, [], None, Result, sym, subst, ap, ◌∙◌, arith, inl, inr}
+use Rattle.std.proofs.lemmas.Bool.{cases_lt}
+use Rattle.clk_units.specs.declared.ranges.TheConstants.{RANGE_NS}
 use Rattle.host_counter.specs.declared.Anchor.{Anchor}
 use Rattle.host_counter.specs.Time.{time_at}
 use Rattle.host_counter.proofs.Times.{time_at-mono}
+use Rattle.local_apics.specs.Parts.{AreApicPlaces}
 use Rattle.board_types.specs.declared.access.Access.{Access}
 use Rattle.board_types.specs.declared.access.Access.TheVariants.{Step}
 use Rattle.board_types.specs.declared.parts.BoardParts.{BoardParts}
+use Rattle.board_types.specs.declared.reply.Refusal.{Refusal}
+use Rattle.board_types.specs.declared.reply.Reply.{Reply}
 use Rattle.board_types.specs.declared.parts.TheConstants.{MOST_ACCESSES}
 use Rattle.board_core.specs.Access.{ran_to, after_run, value_at, reply_of, after_access}
+use Rattle.board_core.specs.Apics.{apics_in}
 use Rattle.board_core.specs.Conditions.{IsJoined}
+use Rattle.board_core.specs.Outcome.{IsOutcome}
 use Rattle.board_core.specs.Quiet.{IsQuiet}
 use Rattle.board_core.specs.Refusals.{refusal_of}
-use Rattle.board_core.specs.Time.{HasTime}
-use Rattle.board_core.specs.private.Kinds.{is_passive}
+use Rattle.board_core.specs.Time.{HasTime, now_of, time_of_access}
 use Rattle.board_core.proofs.Passive.{refusal_of-passive}
-use Rattle.board_core.proofs.Joins.{edges-quiet, after_access-idle, reply_of-quiet, refusal_of-after_run, step-taken}
-use Rattle.board_core.specs.Lazy.{IsLazy}
+use Rattle.board_core.proofs.Joins.{after_run-zero, now-after_run, edges-quiet, IsQuiet-after_run, after_access-idle, reply_of-quiet, refusal_of-after_run, step-taken}
+use Rattle.board_core.specs.Lazy.{is_passive, IsLazy, IsPassed}
 
 time-within : (anchor : Anchor) (q h : ℕ) → 0 < anchor.khz → HasTime anchor q → anchor.start ≤ h → h ≤ q → HasTime anchor h
 time-within anchor q h runs time started within =
@@ -32,6 +38,48 @@ IsLazy-greatest b n host horizon is = record {
   time = is.time;
   lag = is.lag;
 }
+
+-- .. and so does a run to the count that a board lags behind
+apic-places : (b : BoardParts) → IsJoined b → AreApicPlaces (apics_in b)
+apic-places b joined = record {
+  timers = joined.apics.places.timers;
+  lines = joined.apics.places.lines;
+  policy = λ k less. (joined.apics.places.place k less).policy;
+}
+
+pub IsLazy-caught : (b : BoardParts) (host horizon : ℕ) → IsJoined b → IsLazy b host horizon → IsLazy (after_run b host) 0 horizon
+IsLazy-caught b host horizon joined is = record {
+  quiet = λ some. IsQuiet-after_run b (horizon - 1) host (omega (arith, joined.rates.host.slow)) (is.quiet some) is.lag (apic-places b joined);
+  time = λ none. absurd (omega (arith, none));
+  lag = omega arith;
+}
+
+-- a board that doesn't lag, and of which no horizon is known
+pub IsLazy-none : (b : BoardParts) → IsLazy b 0 0
+IsLazy-none b = record {
+  quiet = λ none. absurd (omega (arith, none));
+  time = λ none. absurd (omega (arith, none));
+  lag = omega arith;
+}
+
+-- the time of a board that lags is in range
+pub range-caught : (b : BoardParts) (host horizon : ℕ) → IsJoined b → IsLazy b host horizon → now_of (after_run b host) < RANGE_NS
+range-caught b host horizon joined is = elim (cases_lt 0 host) [
+  | inl some ↦
+      let now : now_of (after_run b host) ≡ time_of_access b host = now-after_run b host 0 (omega (arith, joined.rates.host.slow)) in
+      omega (arith, now, joined.time.range, (is.time some).range)
+  | inr none ↦
+      let zero : host ≡ 0 = omega (arith, none) in
+      let same : after_run b host ≡ b = ap (after_run b) zero ∙ after_run-zero b in
+      subst (λ (x : BoardParts). now_of x < RANGE_NS) (sym same) joined.time.range
+]
+
+-- a count that isn't beyond that behind which it lags moves no time
+pub now-counted : (b : BoardParts) (n host h : ℕ) → h ≤ host → now_of (after_run (record b { accesses = n }) (max host h)) ≡ now_of (after_run b host)
+unfolding after_run
+now-counted b n host h within =
+    let same : max host h ≡ host = omega (arith, within) in
+    ap (λ (g : ℕ). now_of (after_run (record b { accesses = n }) g)) same
 
 module _ (b : BoardParts) (host horizon cpu h : ℕ) (joined : IsJoined b) (is : IsLazy b host horizon) (before : h < horizon)
     (started : b.anchor.start ≤ h) where
@@ -51,6 +99,13 @@ module _ (b : BoardParts) (host horizon cpu h : ℕ) (joined : IsJoined b) (is :
   step-time : HasTime b.anchor h
   step-time = time-within b.anchor (horizon - 1) h runs quiet.time started (omega (arith, before))
 
+  range-step : (n : ℕ) → now_of (after_run (record b { accesses = n }) (max host h)) < RANGE_NS
+  range-step n =
+      let time : HasTime b.anchor (max host h) = time-within b.anchor (horizon - 1) (max host h) runs quiet.time (omega (arith, started)) (omega (arith, before, is.lag)) in
+      let now : now_of (after_run (record b { accesses = n }) (max host h)) ≡ time_of_access b (max host h) =
+      now-after_run (record b { accesses = n }) (max host h) 0 runs in
+      omega (arith, now, time.range, joined.time.range)
+
   pub ran_to-step : (ran_to (after_run b host) h).edges ≡ []
   ran_to-step = edges-quiet b (horizon - 1) host h runs quiet is.lag (omega (arith, before))
 
@@ -69,8 +124,21 @@ module _ (b : BoardParts) (host horizon cpu h : ℕ) (joined : IsJoined b) (is :
 
     pub after_access-counted : after_access (after_run b host) cpu h a ≡ after_run (record b { accesses = b.accesses + 1 }) (max host h)
     after_access-counted = after_access-idle b cpu host h a passive runs
-        (record {
-          timers = joined.apics.places.timers;
-          lines = joined.apics.places.lines;
-          policy = λ k less. (joined.apics.places.place k less).policy;
-        }) quiet.idle
+        (apic-places b joined) quiet.idle
+
+    pub passed : b.accesses < MOST_ACCESSES
+        → IsPassed (after_run b host) cpu h a (b.accesses + 1) (after_run (record b { accesses = b.accesses + 1 }) (max host h))
+    passed spare = record {
+      taken = refusal_of-counted spare;
+      reply = reply_of-counted;
+      state = sym after_access-counted;
+      still = ran_to-step;
+      range = range-step (b.accesses + 1);
+    }
+
+-- an outcome of boards that are equal
+pub answered : {T : Type 0} {b b' after after' : BoardParts} {cpu h : ℕ} {a : Access} {result : Result T Refusal} {before told : Reply}
+    → b ≡ b' → after' ≡ after → IsOutcome b cpu h a result after before told → IsOutcome b' cpu h a result after' before told
+answered {T} {b} {b'} {after} {after'} {cpu} {h} {a} {result} {before} {told} same new is =
+    subst (λ (x : BoardParts). IsOutcome x cpu h a result after' before told) same
+    (subst (λ (x : BoardParts). IsOutcome b cpu h a result x before told) (sym new) is)

@@ -19,7 +19,8 @@ use Rattle.board_core.specs.Apics.{apics_in}
 use Rattle.board_core.specs.Refusals.{refusal_of}
 use Rattle.board_core.specs.Rises.{rises_after}
 use Rattle.board_core.specs.Time.{devices_in, now_of}
-use Rattle.board_core.specs.private.Kinds.{is_passive, writes}
+use Rattle.board_core.specs.Lazy.{is_passive}
+use Rattle.board_core.specs.private.Kinds.{writes}
 use Rattle.board_core.proofs.Counted.{rises_after-none}
 use Rattle.board_core.proofs.Kept.{own-none, devices-kept, number-kept, version-kept, processors-kept, hv-kept, apics-kept}
 use Rattle.board_core.proofs.Steps.{with_parts-is}

@@ -1,23 +1,33 @@
-//! What a lazy board asks of the board that lags.
-ghost use Rattle.std.specs.Prelude.{◌≡◌, ℕ, ◌+◌, ◌-◌, ◌^◌, ◌<◌, ◌≤◌, false, [], IsTrue};
+//! A board that lags: accesses that change nothing are only counted, and its devices run when they are needed.
+ghost use Rattle.std.specs.Prelude.{◌≡◌, ℕ, ◌+◌, ◌-◌, ◌^◌, ◌<◌, ◌≤◌, true, false, [], IsTrue};
 ghost use Rattle.clk_units.specs.declared.ranges.TheConstants.{RANGE_NS};
 ghost use Rattle.hpet_bursts.specs.Messages.{message_at};
 ghost use Rattle.hpet_registers.specs.Access.{part_of};
 ghost use Rattle.board_devices.specs.Places.{line_at};
 ghost use Rattle.board_devices.specs.Run.{run};
+ghost use Rattle.board_types.specs.declared.access.Access.{Access};
 ghost use Rattle.board_types.specs.declared.parts.TheConstants.{MOST_ACCESSES};
 ghost use Rattle.board_core.specs.Time.{HasTime, now_of, time_of_access};
 ghost use Rattle.board_core.specs.Access.{after_run, value_at};
 ghost use Rattle.board_core.specs.Conditions.{IsJoined};
+ghost use Rattle.board_core.specs.Outcome.{IsAsked, IsOutcome, IsClockRead};
 ghost use Rattle.board_core.specs.Quiet.{IsQuiet};
-ghost use Rattle.board_core.specs.private.Kinds.{is_passive};
+ghost use Rattle.board_core.specs.Lazy.{
+  is_passive,
+  no_lag,
+  caught_up,
+  IsLazy,
+  IsCounted,
+  IsPassed,
+};
 
 use crate::board::BoardState;
 use board_devices::Devices;
-use board_types::{Access, Value};
+use board_types::{Access, MOST_ACCESSES, Refusal, Reply, Value};
 use clk_units::RANGE_NS;
-use host_counter::Anchor;
+use host_counter::{Anchor, TimeFault};
 use irq_edges::{BurstList, EdgeList};
+use pvclock_page::ClockReply;
 
 /// How many numbers half of a register has.
 const HALF: u64 = 0x1_0000_0000;
@@ -25,7 +35,171 @@ const HALF: u64 = 0x1_0000_0000;
 /// Nanoseconds in a millisecond, in which a counter of 1 kHz counts once.
 const MILLISECOND_NS: u128 = 1_000_000;
 
+/// After so many accesses in a row that change nothing and bring no edge the horizon is looked for (own).
+const STILL: u8 = 3;
+
+/// How far a board lags. Whoever keeps a board and its lag has the board that `BoardState::catch_up` makes of it.
+#[derive(Clone, Copy)]
+#[repr(C)]
+pub struct Lag {
+    /// The greatest count of those that the board doesn't know, or 0.
+    pub host: u64,
+    /// Before this count nothing comes that a caller sees; 0 where that isn't known.
+    pub horizon: u64,
+    /// How many accesses came last that change nothing and brought no edge, counted to `STILL` at most.
+    pub still: u8,
+}
+
+/// That of a board which doesn't lag, and of which no horizon is known.
+pub const NO_LAG: Lag = Lag {
+    host: 0,
+    horizon: 0,
+    still: 0,
+};
+
 impl BoardState {
+    /// Brings the board up to its time, where it doesn't lag.
+    #[inline(always)]
+    pub fn catch_up(&mut self, lag: &mut Lag)
+        requires { IsLazy self.old lag.old.host lag.old.horizon }
+        ensures state { self.new ≡ caught_up self.old lag.old }
+        ensures lag { lag.new ≡ record lag.old { host = 0 } }
+        ensures same { caught_up self.new lag.new ≡ self.new }
+        ensures lazy { IsLazy self.new lag.new.host lag.new.horizon }
+    {
+        // What joins a board's parts gives its counter a rate.
+        let _cpus = self.cpus();
+        self.pass_to(lag.host);
+        lag.host = 0;
+    }
+
+    /// One access, as `answer` answers it: what changes nothing is only counted before the horizon.
+    #[inline(always)]
+    pub fn answer_lagging(
+        &mut self,
+        lag: &mut Lag,
+        cpu: u8,
+        h: u64,
+        a: Access,
+        reply: &mut Reply,
+    ) -> Result<(), Refusal>
+        requires lazy { IsLazy self.old lag.old.host lag.old.horizon }
+        requires asked { IsAsked (caught_up self.old lag.old) cpu a reply.old }
+        ensures outcome { IsOutcome (caught_up self.old lag.old) cpu h a result
+            (caught_up self.new lag.new) reply.old reply.new }
+        ensures lazy { IsLazy self.new lag.new.host lag.new.horizon }
+    {
+        if is_passive(a) {
+            return self.answer_passive(lag, cpu, h, a, reply);
+        }
+        self.catch_up(lag);
+        *lag = NO_LAG; // whatever the access changes
+        self.answer(cpu, h, a, reply)
+    }
+
+    /// An access that lets time pass, and changes nothing. Before the horizon it is counted.
+    #[inline(always)]
+    fn answer_passive(
+        &mut self,
+        lag: &mut Lag,
+        cpu: u8,
+        h: u64,
+        a: Access,
+        reply: &mut Reply,
+    ) -> Result<(), Refusal>
+        requires lazy { IsLazy self.old lag.old.host lag.old.horizon }
+        requires passive { IsTrue (is_passive a) }
+        requires asked { IsAsked (caught_up self.old lag.old) cpu a reply.old }
+        ensures outcome { IsOutcome (caught_up self.old lag.old) cpu h a result
+            (caught_up self.new lag.new) reply.old reply.new }
+        ensures lazy { IsLazy self.new lag.new.host lag.new.horizon }
+    {
+        if self.counts(lag, h) {
+            let _later = self.count(lag, h);
+            reply.number = self.accesses;
+            reply.value = self.passive_value(lag, a);
+            return Ok(());
+        }
+        self.answer_by_run(lag, cpu, h, a, reply)
+    }
+
+    /// The same by a run. After enough of them without an edge it looks for the horizon.
+    #[inline(never)]
+    fn answer_by_run(
+        &mut self,
+        lag: &mut Lag,
+        cpu: u8,
+        h: u64,
+        a: Access,
+        reply: &mut Reply,
+    ) -> Result<(), Refusal>
+        requires lazy { IsLazy self.old lag.old.host lag.old.horizon }
+        requires asked { IsAsked (caught_up self.old lag.old) cpu a reply.old }
+        ensures outcome { IsOutcome (caught_up self.old lag.old) cpu h a result
+            (caught_up self.new lag.new) reply.old reply.new }
+        ensures lazy { IsLazy self.new lag.new.host lag.new.horizon }
+    {
+        self.catch_up(lag);
+        lag.horizon = 0;
+        match self.answer_known(cpu, h, a, reply) {
+            Ok(()) => {
+                lag.still = more_still(lag.still, reply.edges.is_empty());
+                lag.horizon = horizon_of(self, lag.still == STILL);
+                Ok(())
+            }
+            Err(refusal) => Err(refusal),
+        }
+    }
+
+    /// Whether an access at count `h` that changes nothing is only counted: it comes before the horizon.
+    #[inline(always)]
+    pub fn counts(&self, lag: &Lag, h: u64) -> bool
+        ensures { result ≡ true → IsCounted self.now lag.now h }
+    {
+        h < lag.horizon && self.anchor.start <= h && self.accesses < MOST_ACCESSES
+    }
+
+    /// Counts it, and answers whether the board's time may be another then. What it reads is read of the board then.
+    #[inline(always)]
+    pub fn count(&mut self, lag: &mut Lag, h: u64) -> bool
+        requires lazy { IsLazy self.old lag.old.host lag.old.horizon }
+        requires counted { IsCounted self.old lag.old h }
+        ensures passed { (cpu : ℕ) (a : Access) → is_passive a ≡ true
+            → IsPassed (caught_up self.old lag.old) cpu h a self.new.accesses (caught_up self.new lag.new) }
+        ensures now { result ≡ false
+            → now_of (caught_up self.new lag.new) ≡ now_of (caught_up self.old lag.old) }
+        ensures lazy { IsLazy self.new lag.new.host lag.new.horizon }
+    {
+        self.count_access();
+        let later = h > lag.host;
+        lag.host = lag.host.max(h);
+        later
+    }
+
+    /// What a read of the clock by the page of `cpu` at count `h` answers, of a board that lags.
+    #[inline(always)]
+    pub fn lagging_clock_of(&mut self, lag: &Lag, cpu: u8, h: u64) -> Result<ClockReply, TimeFault>
+        requires lazy { IsLazy self.old lag.now.host lag.now.horizon }
+        requires cpu { cpu < self.old.cpus }
+        ensures read { IsClockRead (caught_up self.old lag.now) cpu h result
+            (caught_up self.new lag.now) }
+        ensures lazy { IsLazy self.new lag.now.host lag.now.horizon }
+    {
+        self.clock_of(cpu, h)
+    }
+
+    /// The time of a board that lags, in nanoseconds: that of the greatest count of all accesses.
+    #[inline(always)]
+    pub fn lagging_now(&self, lag: &Lag) -> u64
+        requires { IsLazy self.now lag.now.host lag.now.horizon }
+        ensures value { result ≡ now_of (caught_up self.now lag.now) }
+        ensures range { result < RANGE_NS }
+    {
+        // What joins a board's parts gives its counter a rate.
+        let _cpus = self.cpus();
+        self.time_by(lag.host)
+    }
+
     /// The time to which an access at count `h` would run.
     pub(crate) fn time_by(&self, h: u64) -> u64
         requires { self.now.host < h → HasTime self.now.anchor h }
@@ -61,17 +235,17 @@ impl BoardState {
         self.run_to(h, to, &mut edges, &mut bursts);
     }
 
-    /// What an access that changes nothing reads of a board that has run to the time of count `h`.
+    /// What an access that changes nothing reads of a board that lags.
     #[inline(always)]
-    pub(crate) fn passive_value(&self, h: u64, a: Access) -> Value
+    fn passive_value(&self, lag: &Lag, a: Access) -> Value
         requires passive { IsTrue (is_passive a) }
-        requires time { self.now.host < h → HasTime self.now.anchor h }
-        ensures { (cpu g : ℕ) → result ≡ value_at (after_run self.now h) cpu g a }
+        requires lazy { IsLazy self.now lag.now.host lag.now.horizon }
+        ensures { (cpu g : ℕ) → result ≡ value_at (caught_up self.now lag.now) cpu g a }
     {
         match a {
             Access::HpetRead { width, .. } => Value::Word {
                 width,
-                value: low_part(width, self.main_counter_at(h)),
+                value: low_part(width, self.main_counter_at(lag.host)),
             },
             _ => Value::Nothing,
         }
@@ -87,9 +261,36 @@ impl BoardState {
         self.devices.main_counter(self.time_ns, self.time_by(h))
     }
 
+    /// What such an access reads of a board that lags, where the time of that board is known.
+    #[inline(always)]
+    pub fn passive_value_by(&self, lag: &Lag, now_ns: u64, a: Access) -> Value
+        requires passive { IsTrue (is_passive a) }
+        requires lazy { IsLazy self.now lag.now.host lag.now.horizon }
+        requires now { now_ns ≡ now_of (caught_up self.now lag.now) }
+        ensures { (cpu g : ℕ) → result ≡ value_at (caught_up self.now lag.now) cpu g a }
+    {
+        match a {
+            Access::HpetRead { width, .. } => Value::Word {
+                width,
+                value: low_part(width, self.main_counter_by(lag, now_ns)),
+            },
+            _ => Value::Nothing,
+        }
+    }
+
+    /// The HPET's main counter of a board that lags, where the time of that board is known.
+    #[inline(always)]
+    fn main_counter_by(&self, lag: &Lag, now_ns: u64) -> u64
+        requires lazy { IsLazy self.now lag.now.host lag.now.horizon }
+        requires now { now_ns ≡ now_of (caught_up self.now lag.now) }
+        ensures { result ≡ (caught_up self.now lag.now).hpet.counter }
+    {
+        self.devices.main_counter(self.time_ns, now_ns)
+    }
+
     /// Counts an access that changes nothing else.
     #[inline(always)]
-    pub(crate) fn count_access(&mut self)
+    fn count_access(&mut self)
         requires { self.old.accesses < MOST_ACCESSES }
         ensures state { self.new ≡ record self.old { accesses = self.old.accesses + 1 } }
         ensures joined { IsJoined self.old }
@@ -100,7 +301,7 @@ impl BoardState {
     /// A count before which nothing comes that a caller sees if no access comes; 0 where none is known. It asks for the
     /// next edge, and costs as much.
     #[inline(never)]
-    pub(crate) fn quiet_before(&self) -> u64
+    fn quiet_before(&self) -> u64
         ensures { 0 < result → IsQuiet self.now (result - 1) }
     {
         if self.apics.is_armed() {
@@ -166,4 +367,35 @@ fn last_count(anchor: Anchor, ns: u64) -> u64
     } else {
         u64::MAX - 1
     }
+}
+
+/// Whether an access changes nothing, whatever the board: a step, and a read of the HPET's main counter, whole or its low
+/// half.
+#[inline(always)]
+pub fn is_passive(a: Access) -> bool
+    ensures { result ≡ is_passive a }
+{
+    match a {
+        Access::Step => true,
+        Access::HpetRead { offset, width } => offset == 0xf0 && (width == 4 || width == 8),
+        _ => false,
+    }
+}
+
+/// How many still accesses came last, counted to `STILL` at most, with one more that may be still.
+#[inline(always)]
+fn more_still(before: u8, still: bool) -> u8 {
+    if still {
+        before.saturating_add(1).min(STILL)
+    } else {
+        0
+    }
+}
+
+/// The count before which nothing comes that a caller sees, where it is wanted; 0 where none is known.
+#[inline(always)]
+fn horizon_of(board: &BoardState, wanted: bool) -> u64
+    ensures { 0 < result → IsQuiet board.now (result - 1) }
+{
+    if wanted { board.quiet_before() } else { 0 }
 }

@@ -1,5 +1,5 @@
 -- What kind of work an access is.
-use Rattle.std.specs.Prelude.{Bool, true, false, ◌&&◌, ◌||◌, ◌==◌}
+use Rattle.std.specs.Prelude.{Bool, true, false}
 use Rattle.board_types.specs.declared.access.Access.{Access}
 use Rattle.board_types.specs.declared.access.Access.TheVariants.{
   PortIn,
@@ -9,7 +9,6 @@ use Rattle.board_types.specs.declared.access.Access.TheVariants.{
   MsrWrite,
   Ack,
   Refresh,
-  Step,
   Eoi,
 }
 
@@ -28,10 +27,3 @@ writes (MsrWrite msr value) = true
 writes (Refresh page) = true
 writes Eoi = true
 writes _ = false
-
--- whether it changes nothing, whatever the board: a step, and a read of the HPET's main counter,
--- whole or its low half
-abbrev pub is_passive : Access → Bool
-is_passive Step = true
-is_passive (HpetRead offset width) = offset == 0xf0 && (width == 4 || width == 8)
-is_passive _ = false

@@ -1,0 +1,41 @@
+use Rattle.std.proofs.Common.{◌≡◌, ℕ, ◌-◌, ◌<◌, ap, sym, subst, ◌∙◌, arith}
+use Rattle.clk_units.specs.declared.ranges.TheConstants.{RANGE_NS}
+use Rattle.board_types.specs.declared.parts.BoardParts.{BoardParts}
+use Rattle.board_devices.specs.Run.{run}
+use Rattle.board_core.specs.Access.{after_run}
+use Rattle.board_core.specs.Conditions.{IsJoined}
+use Rattle.board_core.specs.Lazy.{caught_up}
+use Rattle.board_core.specs.Time.{now_of, time_of_access, devices_in}
+use Rattle.board_core.specs.View.{board_parts_of}
+use Rattle.board_core.proofs.Joins.{now-after_run}
+use Rattle.board_core.proofs.LazySteps.{range-caught}
+use Rattle.board_core.proofs.board.BoardState.main_counter_by.Goals as goal
+use Rattle.board_core.proofs.board.BoardState.main_counter_by.Goals.{After-self}
+
+-- the board that lags, and its time
+abbrev kept : After-self → BoardParts
+kept c = board_parts_of c.self.inside
+
+now : (c : After-self) → c.args.now_ns ≡ time_of_access (kept c) c.args.lag.now.host
+now c =
+    c.requires.now ∙ ap (λ (x : BoardParts). now_of (caught_up x c.args.lag.now)) (sym c.self.view_is)
+    ∙ now-after_run (kept c) c.args.lag.now.host 0 (omega (arith, c.self.invariant.joined.rates.host.slow))
+
+pub main_counter-requires-clause-order : goal.main_counter-requires-clause-order
+main_counter-requires-clause-order c = omega (arith, c.self.invariant.time, now c)
+
+pub main_counter-requires-clause-range : goal.main_counter-requires-clause-range
+main_counter-requires-clause-range c =
+    let range : now_of (caught_up c.args.self.now c.args.lag.now) < RANGE_NS =
+    range-caught c.args.self.now c.args.lag.now.host c.args.lag.now.horizon (subst IsJoined c.self.view_is c.self.invariant.joined) c.requires.lazy in
+    omega (arith, c.requires.now, range)
+
+pub returns : goal.returns
+unfolding after_run
+returns c =
+    let b : BoardParts = board_parts_of c.self.inside in
+    let h : ℕ = c.args.lag.now.host in
+    c.main_counter.ensures
+    ∙ ap (λ (t : ℕ). (run t (c.args.now_ns - t) (devices_in b)).state.hpet.counter) c.self.invariant.time
+    ∙ ap (λ (t : ℕ). (run (now_of b) (t - now_of b) (devices_in b)).state.hpet.counter) (now c.before)
+    ∙ ap (λ (x : BoardParts). (run (now_of x) (time_of_access x h - now_of x) (devices_in x)).state.hpet.counter) c.self.view_is
