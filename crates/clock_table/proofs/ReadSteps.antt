@@ -7,7 +7,7 @@ use lib.ListN.{get_elem?}
 use Rattle.atomic_table.specs.Table.{step, keeps, stepped, carried_after, Act, Valid, Allows}
 use Rattle.pvclock_page.specs.{declared.page.Page.Page, Words.page_of}
 use Rattle.board_types.specs.declared.parts.BoardParts.{BoardParts}
-use Rattle.board_history.specs.{Machine.Machine, Machine.machine_of, Machine.page_at, History.board_after, History.version_after, History.May}
+use Rattle.board_history.specs.{Machine.Machine, Machine.page_at, History.board_after, History.version_after, History.May}
 use Rattle.board_history.specs.{History.entries_of, History.is_of, History.last_of, History.Reads, History.read_if, History.read_of}
 use Rattle.board_history.specs.{private.Steady.IsSteadyPage, declared.entry.Entry.Entry}
 use Rattle.board_history.specs.declared.entry.Entry.TheVariants.{Clamp}
@@ -16,7 +16,7 @@ use Rattle.clock_table.specs.declared.view.{View.View, Read.Read, Miss.Miss}
 use Rattle.clock_table.specs.Words.{place, word_of, pages_for}
 use Rattle.clock_table.specs.Steps.{or_else, number_in, IsQuietEntry, weight, loud, heard, Hears, no_fields, missed, first_if, first_read, with_note}
 use Rattle.clock_table.specs.Steps.{noted_in, note_at, noted_page, ReadEnds}
-use Rattle.clock_table.specs.Calls.{IsPass, IsReading, AllNoted, MayEnd}
+use Rattle.clock_table.specs.Calls.{IsPass, IsReading, AllNoted, MayEnd, MayRaise}
 use Rattle.clock_table.specs.private.Rule.{is_open, PageKept, ReadKept, ReadingKept, MissesKept, Kept}
 use Rattle.clock_table.specs.private.Plays.{Stays, FirstRead, FieldRead, SecondRead, Raised, Looked}
 use Rattle.clock_table.proofs.Lists.{set_or, no_field}
@@ -198,10 +198,10 @@ module _ (opening : BoardParts) where
       (t.0, keeps, tt, t.1, (t.2, ends))
 
   -- the clamp word is raised
-  pub raises : (slots id cpu k : ℕ) (me : M) → IsPass me.0 → me.0.live ≡ true
-      → Reads (machine_of opening) (last_of (entries_of (number_in me.0) me.0.seen)) cpu k
+  pub raises : (slots id cpu k : ℕ) (me : M) → MayRaise opening cpu k me.0 → me.0.live ≡ true
       → Allows (Kept opening) slots id me 16 (λ n. max n k) (Raised cpu (step slots 16 k 0 none) me)
-  raises slots id cpu k me pass lives reads s r _ at _ =
+  raises slots id cpu k me may_raise lives s r _ at _ =
+      let pass = may_raise.pass in
       let p : ℕ = pass.number.0 in
       let n : ℕ = get_or s.words 16 0 in
       let number : number_in me.0 ≡ p = ap (λ (o : Option ℕ). or_else o 0) pass.number.1 in
@@ -210,7 +210,7 @@ module _ (opening : BoardParts) where
       let own : entries_of (number_in me.0) me.0.seen ≡ entries_of (number_in me.0) log =
       sym (mine_seen opening s r id me.0 at (number_in me.0) (pass.number.1 ∙ ap Some (sym number)) pass.meet) in
       let may : May log e = (
-        subst (λ (z : Machine × List Entry). Reads z.0 (last_of z.1) cpu k) (λ i. (sym r.history.machine i, own i)) reads,
+        subst (λ (z : Machine × List Entry). Reads z.0 (last_of z.1) cpu k) (λ i. (sym r.history.machine i, own i)) may_raise.reads,
         ap (λ (g : ℕ). max k g) r.words.front.clamp,
       ) in
       let greatest : max n k ≡ (board_after (log ++ e ∷ [])).greatest = sym (ap (λ (b : BoardParts). b.greatest) (board_after-snoc log e) ∙ omega arith) in
@@ -222,14 +222,13 @@ module _ (opening : BoardParts) where
       (heard me.0 (r.each id me.0 at).seen.begins.0 e, keeps, tt, t.0, (refl, t.1))
 
   -- the clamp word is loaded: one that is as great is left as it is
-  look_kept : (slots id cpu k : ℕ) (me : M) → IsPass me.0 → me.0.live ≡ true
-      → Reads (machine_of opening) (last_of (entries_of (number_in me.0) me.0.seen)) cpu k
+  look_kept : (slots id cpu k : ℕ) (me : M) → MayRaise opening cpu k me.0 → me.0.live ≡ true
       → (s : St) → Kept opening s → length s.homes ≡ slots → get_elem? s.views id ≡ some me.0 → get_or s.words 16 0 < 18446744073709551616
       → (b : Bool) → leb k (get_or s.words 16 0) ≡ b
       → (w : View) × (a : Act (Unit {0})) × Valid s.homes me.1 a × Kept opening (stepped s 16 (get_or s.words 16 0) id me.1 w a)
       × (carried_after me.1 a ≡ me.1) × MatchBool b (Hears (Clamp (number_in me.0) cpu k (get_or s.words 16 0)) me.0 w) (w ≡ me.0)
-  look_kept slots id cpu k me pass lives reads s r homes at small true is =
-      let t = raises slots id cpu k me pass lives reads s r homes at small in
+  look_kept slots id cpu k me may lives s r homes at small true is =
+      let t = raises slots id cpu k me may lives s r homes at small in
       let le : k ≤ get_or s.words 16 0 = grind (arith, nat_tests) in (
         t.0,
         t.1,
@@ -238,14 +237,13 @@ module _ (opening : BoardParts) where
         t.4.0,
         subst (λ (z : ℕ). Hears (Clamp (number_in me.0) cpu k z) me.0 t.0) (omega arith) t.4.1,
       )
-  look_kept slots id cpu k me pass lives reads s r homes at small false is =
+  look_kept slots id cpu k me may lives s r homes at small false is =
       let f = r.each id me.0 at in
-      (me.0, keeps, tt, glance s r 16 id me me.0.read me.0.misses at pass f.read f.misses, refl, refl)
+      (me.0, keeps, tt, glance s r 16 id me me.0.read me.0.misses at may.pass f.read f.misses, refl, refl)
 
-  pub looks : (slots id cpu k : ℕ) (me : M) → IsPass me.0 → me.0.live ≡ true
-      → Reads (machine_of opening) (last_of (entries_of (number_in me.0) me.0.seen)) cpu k
+  pub looks : (slots id cpu k : ℕ) (me : M) → MayRaise opening cpu k me.0 → me.0.live ≡ true
       → Allows (Kept opening) slots id me 16 (λ n. n) (Looked cpu k (step slots 16 0 0 none) me)
-  looks slots id cpu k me pass lives reads s r homes at small =
-      let t = look_kept slots id cpu k me pass lives reads s r homes at small (leb k (get_or s.words 16 0)) refl in
+  looks slots id cpu k me may lives s r homes at small =
+      let t = look_kept slots id cpu k me may lives s r homes at small (leb k (get_or s.words 16 0)) refl in
       let ends : Looked cpu k (step {S = Unit {0}} slots 16 0 0 none) me (get_or s.words 16 0) (t.0, carried_after me.1 t.1) = (t.4, t.5) in
       (t.0, t.1, t.2, t.3, ends)

@@ -1,8 +1,9 @@
 -- What the calls of a table ask.
 use Rattle.std.specs.Prelude.{◌≡◌, ℕ, ◌<◌, ◌≤◌, ◌^◌, length, slice_index_or, Some, None, true, List, [], ◌∷◌, ◌++◌}
 use Rattle.pvclock_page.specs.declared.page.Page.{Page}
-use Rattle.board_history.specs.Machine.{page_at, page_published}
-use Rattle.board_history.specs.History.{board_after, May, pass_of}
+use Rattle.board_history.specs.Machine.{machine_of, page_at, page_published}
+use Rattle.board_history.specs.History.{board_after, entries_of, last_of, May, pass_of, Reads}
+use Rattle.board_types.specs.declared.parts.BoardParts.{BoardParts}
 use Rattle.board_history.specs.declared.entry.Entry.{Entry}
 use Rattle.board_history.specs.declared.entry.Entry.TheVariants.{Opened, Board, PageRead, HvRead, Clamp}
 use Rattle.board_types.specs.declared.reply.Reply.{Reply}
@@ -13,7 +14,7 @@ use Rattle.clock_table.specs.declared.view.Hand.{Hand}
 use Rattle.clock_table.specs.declared.field.Field.{Field}
 use Rattle.clock_table.specs.declared.field.Field.TheVariants.{Stamp, System, Scale, Offset}
 use Rattle.clock_table.specs.Words.{field_at}
-use Rattle.clock_table.specs.Steps.{loud}
+use Rattle.clock_table.specs.Steps.{loud, number_in}
 
 abbrev pub field_number : Field → ℕ
 field_number Stamp = 0
@@ -23,7 +24,7 @@ field_number Offset = 3
 
 -- the entry of an access that was answered
 abbrev pub entry_of : Call → Reply → Entry
-entry_of c r = Board c.pass c.cpu c.h c.access r
+entry_of c r = Board c.pass c.asked.cpu c.asked.h c.asked.access r
 
 -- the seat has a number, and no open meet
 pub record IsPass (v : View) : Type 0 where
@@ -104,3 +105,9 @@ pub record MayEnd (n c : ℕ) (v : View) : Type 0 where
   pub there : c ≤ n
   pub pass : IsPass v
   pub noted : HasNoted c v
+
+-- a reading of cpu may be clamped, on a board that opened with s: the last entry of the seat's number is the read that
+-- gave it
+pub record MayRaise (s : BoardParts) (cpu reading : ℕ) (v : View) : Type 0 where
+  pub pass : IsPass v
+  pub reads : Reads (machine_of s) (last_of (entries_of (number_in v) v.seen)) cpu reading

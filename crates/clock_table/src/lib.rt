@@ -23,7 +23,7 @@ mod table;
 mod view;
 
 pub use blank::Blank;
-pub use call::Call;
+pub use call::{Asked, Call};
 pub use closed::{Closed, MOST_PAGES};
 pub use field::Field;
 pub use name::Name;

@@ -17,13 +17,7 @@ ghost use Rattle.std.specs.Prelude.{
   Some,
 };
 ghost use Rattle.board_types.specs.declared.parts.TheConstants.{LAST_VERSION};
-ghost use Rattle.board_history.specs.Machine.{machine_of};
-ghost use Rattle.board_history.specs.History.{
-  version_after,
-  Reads,
-  last_of,
-  entries_of,
-};
+ghost use Rattle.board_history.specs.History.{version_after};
 ghost use Rattle.board_history.specs.declared.entry.Entry.TheVariants.{Clamp};
 ghost use Rattle.clock_table.specs.Words.{place as place_of, pages_for, words_for};
 ghost use Rattle.clock_table.specs.Steps.{
@@ -53,6 +47,7 @@ ghost use Rattle.clock_table.specs.Calls.{
   MayEnter,
   MayClose,
   MayEnd,
+  MayRaise,
   PublishesNone,
   IsBump,
   entry_of,
@@ -280,9 +275,7 @@ impl<N: Name> ClockTable<N> {
     /// Raises the clamp word to a reading, and answers the greater of the two. Where the word is as great already it is
     /// only loaded: a maximum would take its cache line from the other threads, and change nothing.
     pub fn raise(&self, seat: &mut ClockSeat<N>, cpu: u8, x: u64) -> u64
-        requires pass { IsPass seat.old }
-        requires reads { Reads (machine_of N.state)
-            (last_of (entries_of (number_in seat.old) seat.old.seen)) cpu x }
+        requires { MayRaise N.state cpu x seat.old }
         ensures { Hears (Clamp (number_in seat.old) cpu x result) seat.old seat.new }
     {
         let found = look_as::<N, Brand, Brand>(self, seat, cpu, x);
@@ -372,9 +365,7 @@ fn look_as<N: Name, E: Tag, F: Tag>(
 ) -> u64
     requires cpu { cpu ≡ E.tag }
     requires reading { x ≡ F.tag }
-    requires pass { IsPass seat.old }
-    requires reads { Reads (machine_of N.state)
-        (last_of (entries_of (number_in seat.old) seat.old.seen)) cpu x }
+    requires may { MayRaise N.state cpu x seat.old }
     ensures { MatchBool (nat_le x result)
         (Hears (Clamp (number_in seat.old) cpu x result) seat.old seat.new) (seat.new ≡ seat.old) }
 {
@@ -388,9 +379,7 @@ fn look_as<N: Name, E: Tag, F: Tag>(
 
 fn raise_as<N: Name, E: Tag>(table: &ClockTable<N>, seat: &mut ClockSeat<N>, cpu: u8, x: u64) -> u64
     requires cpu { cpu ≡ E.tag }
-    requires pass { IsPass seat.old }
-    requires reads { Reads (machine_of N.state)
-        (last_of (entries_of (number_in seat.old) seat.old.seen)) cpu x }
+    requires may { MayRaise N.state cpu x seat.old }
     ensures { Hears (Clamp (number_in seat.old) cpu x result) seat.old seat.new }
 {
     let _ = cpu;

@@ -18,7 +18,7 @@ use Rattle.clock_table.specs.declared.view.View.{View}
 use Rattle.clock_table.specs.Steps.{or_else, number_in, weight, loud, Hears}
 use Rattle.clock_table.proofs.Lists.{prefix_trans}
 use Rattle.shared_board.specs.declared.fault.PageFault.{PageFault}
-use Rattle.shared_board.specs.declared.fault.PageFault.TheVariants.{BeforeStart, OutOfRange, Again}
+use Rattle.shared_board.specs.declared.fault.PageFault.TheVariants.{NoTime, Again}
 use Rattle.shared_board.specs.declared.known.PassKnown.{PassKnown}
 use Rattle.shared_board.specs.Passes.{Made}
 use Rattle.shared_board.specs.Pages.{HadRoom, PageWasRead, ClockWasRead, HasTriedPage, HasTriedClock, HasLockedPage, HasLockedClock, HasReadPage, HasReadClock}
@@ -82,8 +82,7 @@ clamp_known n cpu x clock v w rest t =
 pub try_faulted : (res : Result Page PageFault) (anchor : Anchor) (n cpu h : ℕ) (v w : View) → IsAtRest n v
     → IfErr res (λ f. IsTryFault anchor cpu h f v w) → IfErr res (λ f. IsPageFault anchor cpu h f (known n v) (known n w))
 try_faulted (Ok reply) anchor n cpu h v w rest err = tt
-try_faulted (Err (BeforeStart start)) anchor n cpu h v w rest err = (err.0, ap (known n) err.1)
-try_faulted (Err (OutOfRange ns)) anchor n cpu h v w rest err = (err.0, ap (known n) err.1)
+try_faulted (Err (NoTime fault)) anchor n cpu h v w rest err = (err.0, ap (known n) err.1)
 try_faulted (Err (Again first second)) anchor n cpu h v w rest err = (err.0, missed_known n cpu first second v w rest err.1)
 
 -- a clock is a read and its clamp

@@ -44,12 +44,13 @@ alike_quiet b xs ys e q =
     e ∙ sym (ap (λ (x : BoardParts). with_greatest x 0) now)
 
 -- the board after an access that was added after quiet entries
-pub alike_told : (c : Call) (r : Reply) (b : BoardParts) (v w : View) → AreAlike b (after_access (board_after v.seen) c.cpu c.h c.access)
+pub alike_told : (c : Call) (r : Reply) (b : BoardParts) (v w : View)
+    → AreAlike b (after_access (board_after v.seen) c.asked.cpu c.asked.h c.asked.access)
     → Extends (entry_of c r) v w → AreAlike b (board_after w.seen)
 alike_told c r b v w e x =
     let seen : w.seen ≡ (v.seen ++ x.0) ++ entry_of c r ∷ [] = ap (λ u. u.seen) x.1 in
     let quiet : AreAlike (board_after v.seen) (board_after (v.seen ++ x.0)) = alike_quiet (board_after v.seen) v.seen (v.seen ++ x.0) refl (x.0, refl, x.2) in
-    e ∙ (alike_after (board_after v.seen) (board_after (v.seen ++ x.0)) c.cpu c.h c.access quiet
+    e ∙ (alike_after (board_after v.seen) (board_after (v.seen ++ x.0)) c.asked.cpu c.asked.h c.asked.access quiet
     ∙ sym (ap (λ l. with_greatest (board_after l) 0) seen ∙ ap (λ (y : BoardParts). with_greatest y 0) (board_after-snoc (v.seen ++ x.0) (entry_of c r))))
 
 pub legal_either : (v w x : View) → IsLegal v.seen → IsLegal w.seen → (x.seen ≡ v.seen) ⊎ (x.seen ≡ w.seen) → IsLegal x.seen

@@ -14,7 +14,7 @@ use Rattle.board_history.proofs.Laws.{legal-version, read_of-number, read_of-pag
 use Rattle.clock_table.specs.declared.view.View.{View}
 use Rattle.clock_table.specs.Steps.{or_else, number_in, Hears}
 use Rattle.shared_board.specs.declared.fault.PageFault.{PageFault}
-use Rattle.shared_board.specs.declared.fault.PageFault.TheVariants.{BeforeStart, OutOfRange, Again}
+use Rattle.shared_board.specs.declared.fault.PageFault.TheVariants.{NoTime, Again}
 use Rattle.shared_board.specs.declared.fault.LockedFault.{LockedFault}
 use Rattle.shared_board.specs.declared.known.PassKnown.{PassKnown}
 use Rattle.shared_board.specs.Passes.{Made, Answered, Missed}
@@ -24,7 +24,7 @@ use Rattle.shared_board.specs.private.Seats.{known, IsAtRest, IsBelow, IsApplied
 use Rattle.shared_board.specs.private.Tries.{HasHeard, IsTryFault}
 use Rattle.shared_board.specs.private.Tables.{TableRead, HasTriedTable, HasLockedTable, HasReadTable}
 use Rattle.shared_board.proofs.Seats.{heard_rests, below_heard, below_same, alike_machine}
-use Rattle.clock_table.specs.declared.call.Call.{Call}
+use Rattle.clock_table.specs.declared.call.Asked.{Asked}
 use Rattle.board_types.specs.declared.reply.Reply.{Reply}
 use Rattle.board_core.specs.Access.{after_access}
 use Rattle.board_history.proofs.Pages.{machine_of-access, page_published-legal}
@@ -56,8 +56,7 @@ pub try_rests : (res : Result Page PageFault) (anchor : Anchor) (c m n k h : ℕ
 try_rests (Ok page) anchor c m n k h v w rest low ok err =
     let e : Entry = read_of c (number_in v) k h page false in
     (heard_rests n v w e rest ok.heard, below_heard m v w e ok.heard low)
-try_rests (Err (BeforeStart start)) anchor c m n k h v w rest low ok err = (subst (IsAtRest n) (sym err.1) rest, below_same m v w err.1 low)
-try_rests (Err (OutOfRange ns)) anchor c m n k h v w rest low ok err = (subst (IsAtRest n) (sym err.1) rest, below_same m v w err.1 low)
+try_rests (Err (NoTime fault)) anchor c m n k h v w rest low ok err = (subst (IsAtRest n) (sym err.1) rest, below_same m v w err.1 low)
 try_rests (Err (Again first second)) anchor c m n k h v w rest low ok err = (
   missed_rests n k first second v w rest err.1.missed,
   record {
@@ -167,11 +166,11 @@ read_least (Ok page) k xs ys p l ok = let up = legal-version xs ys k p l in let 
 read_least (Err f) k xs ys p l ok = tt
 
 -- the page of the table that a taken access publishes is there
-pub applied_place : (n : ℕ) (b d : BoardParts) (c : Call) (r : Reply) (k : ℕ) → b.cpus ≡ n → IsApplied b d c r → page_published n c.cpu c.access ≡ Some k
+pub applied_place : (n : ℕ) (b d : BoardParts) (a : Asked) (r : Reply) (k : ℕ) → b.cpus ≡ n → IsApplied b d a r → page_published n a.cpu a.access ≡ Some k
     → k ≤ n
-applied_place n b d c r k here applied is =
-    let same = ap (λ (m : Machine). m.cpus) (alike_machine b (after_access d c.cpu c.h c.access) applied.after ∙ machine_of-access d c.cpu c.h c.access) in
+applied_place n b d a r k here applied is =
+    let same = ap (λ (m : Machine). m.cpus) (alike_machine b (after_access d a.cpu a.h a.access) applied.after ∙ machine_of-access d a.cpu a.h a.access) in
     let cpus : d.cpus ≡ n = sym same ∙ here in
-    let low = page_published-legal d.cpus d.format c.cpu k c.access applied.answered.cpu_below applied.answered.legal
-    (subst (λ (m : ℕ). page_published m c.cpu c.access ≡ Some k) (sym cpus) is) in
+    let low = page_published-legal d.cpus d.format a.cpu k a.access applied.answered.cpu_below applied.answered.legal
+    (subst (λ (m : ℕ). page_published m a.cpu a.access ≡ Some k) (sym cpus) is) in
     omega arith

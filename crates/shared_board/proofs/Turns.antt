@@ -15,6 +15,7 @@ use Rattle.pvclock_page.specs.declared.page.Page.{Page}
 use Rattle.clock_table.specs.declared.view.View.{View}
 use Rattle.clock_table.specs.Steps.{Extends, pen_left, pen_right, loud}
 use Rattle.clock_table.proofs.Keeps.{loud-append, loud_quiet}
+use Rattle.clock_table.specs.declared.call.Asked.{Asked}
 use Rattle.clock_table.specs.declared.call.Call.{Call}
 use Rattle.shared_board.specs.Passes.{Answered, Unanswered, Refused}
 use Rattle.std.proofs.Common.{append-nil}
@@ -80,7 +81,7 @@ turned_same opening m n b x y has same =
 
 -- an access
 pub act_turned : {A : Type 0} (res : Result A Refusal) (r : Reply) (opening : BoardParts) (m : ℕ) (c : Call) (b b' : BoardParts) (x y : View)
-    → HasPen opening m c.pass b x → machine_of b' ≡ machine_of b → OnOk res (HasActed c r b' x y) → IfErr res (λ f. HasRefused c f b b' x y)
+    → HasPen opening m c.pass b x → machine_of b' ≡ machine_of b → OnOk res (HasActed c r b' x y) → IfErr res (λ f. HasRefused c.asked f b b' x y)
     → HasTurned opening m c.pass b' y
 act_turned (Ok _) r opening m c b b' x y has machine ok err =
     turned_of opening m c.pass b' y (ap (λ u. u.made) ok.told.1 ∙ has.made) (below_told m x y (entry_of c r) ok.told has.below) ok.told.3.legal ok.alike
@@ -90,25 +91,25 @@ act_turned (Err f) r opening m c b b' x y has machine ok err =
 
 pub act_answered : {A : Type 0} (res : Result A Refusal) (r : Reply) (n cpu h : ℕ) (c : Call) (b' : BoardParts) (v w x y z : View) → c.pass ≡ n
     → IsAtRest n v → PenMoved w v x
-    → z ≡ pen_left y → OnOk res (HasActed c r b' x y) → OnOk res (Answered (known n v) (known n z) (Board n c.cpu c.h c.access r))
+    → z ≡ pen_left y → OnOk res (HasActed c r b' x y) → OnOk res (Answered (known n v) (known n z) (Board n c.asked.cpu c.asked.h c.asked.access r))
 act_answered (Ok _) r n cpu h c b' v w x y z same rest moved left ok =
-    let e : Entry = Board n c.cpu c.h c.access r in
-    let told : Extends e x y = subst (λ (k : ℕ). Extends (Board k c.cpu c.h c.access r) x y) same ok.told in
+    let e : Entry = Board n c.asked.cpu c.asked.h c.asked.access r in
+    let told : Extends e x y = subst (λ (k : ℕ). Extends (Board k c.asked.cpu c.asked.h c.asked.access r) x y) same ok.told in
     let t = told_answered n v w x y e rest moved told (eq-eqb n n refl) in
     subst (λ (u : View). Answered (known n v) (known n u) e) (sym left)
     (record { number = t.number; misses = t.misses; seen = t.seen; legal = t.legal; mine = t.mine })
 act_answered (Err f) r n cpu h c b' v w x y z same rest moved left ok = tt
 
-pub act_refused : {A : Type 0} (res : Result A Refusal) (n : ℕ) (c : Call) (b b' : BoardParts) (v w x y z : View) → IsAtRest n v → PenMoved w v x
+pub act_refused : {A : Type 0} (res : Result A Refusal) (n : ℕ) (a : Asked) (b b' : BoardParts) (v w x y z : View) → IsAtRest n v → PenMoved w v x
     → IsLegal x.seen
-    → z ≡ pen_left y → IfErr res (λ f. HasRefused c f b b' x y) → IfErr res (λ f. Refused c.cpu c.h c.access f (known n v) (known n z))
-act_refused (Ok _) n c b b' v w x y z rest moved legal left err = tt
-act_refused (Err f) n c b b' v w x y z rest moved legal left err =
+    → z ≡ pen_left y → IfErr res (λ f. HasRefused a f b b' x y) → IfErr res (λ f. Refused a.cpu a.h a.access f (known n v) (known n z))
+act_refused (Ok _) n a b b' v w x y z rest moved legal left err = tt
+act_refused (Err f) n a b b' v w x y z rest moved legal left err =
     let seen : z.seen ≡ x.seen = ap (λ u. u.seen) left ∙ ap (λ u. u.seen) err.seat in
     record {
       unanswered = moved_unanswered n v w x y z rest moved legal err.seat (ap (λ u. u.seen) left);
       misses = ap (λ u. u.misses) left ∙ (ap (λ u. u.misses) err.seat ∙ moved.misses);
-      refusal = subst (λ l. refusal_of (board_after l) c.cpu c.h c.access ≡ Some f) (sym seen) err.refusal;
+      refusal = subst (λ l. refusal_of (board_after l) a.cpu a.h a.access ≡ Some f) (sym seen) err.refusal;
     }
 
 -- a read under the lock

@@ -5,7 +5,7 @@ use Rattle.board_types.specs.declared.parts.BoardParts.{BoardParts}
 use Rattle.board_types.specs.declared.reply.Refusal.{Refusal}
 use Rattle.board_types.specs.declared.reply.Reply.{Reply}
 use Rattle.board_history.specs.declared.entry.Entry.TheVariants.{Board}
-use Rattle.shared_board.specs.declared.asked.Asked.{Asked}
+use Rattle.clock_table.specs.declared.call.Asked.{Asked}
 use Rattle.shared_board.specs.declared.known.PassKnown.{PassKnown}
 use Rattle.shared_board.specs.Passes.{Answered, Refused}
 

@@ -32,13 +32,12 @@ ghost use Rattle.shared_board.specs.private.Seats.{
   HasRefused,
 };
 
-use crate::asked::Asked;
 use crate::pass::Pass;
 use crate::pens::{publish, take_pen};
 use board_core::{BoardState, Refusal, Reply};
 use board_history::{page_published, read_entry, table_page};
 use clk_units::NoMemory;
-use clock_table::{Call, ClockSeat, ClockTable, Name, SeatPlace};
+use clock_table::{Asked, Call, ClockSeat, ClockTable, Name, SeatPlace};
 use pvclock_page::Page;
 use std::alloc::Global;
 use std::marker::Model;
@@ -84,9 +83,7 @@ impl<N: Name> Held<N> {
         take_pen(table, self.writer.take(), &mut pass.seat);
         let call = Call {
             pass: pass.number,
-            cpu: asked.cpu,
-            h: asked.h,
-            access: asked.access,
+            asked,
         };
         let result = act(table, &mut *self.board, &mut pass.seat, call, reply);
         self.writer = SeatPlace::new(table.split_pen(&mut pass.seat));
@@ -181,17 +178,17 @@ pub(crate) fn act<N: Name>(
     reply: &mut Reply,
 ) -> Result<(), Refusal>
     requires machine { machine_of board.old ≡ machine_of N.state }
-    requires cpu { call.cpu < N.state.cpus }
-    requires legal { IsTrue (is_legal N.state.cpus N.state.format call.access) }
+    requires cpu { call.asked.cpu < N.state.cpus }
+    requires legal { IsTrue (is_legal N.state.cpus N.state.format call.asked.access) }
     requires pen { IsPenOf call.pass seat.old }
     requires alike { AreAlike board.old (board_after seat.old.seen) }
     requires fresh { IsFresh reply.old }
     ensures ok { OnOk result (HasActed call reply.new board.new seat.old seat.new) }
-    ensures err { IfErr result (λ f. HasRefused call f board.old board.new seat.old seat.new) }
+    ensures err { IfErr result (λ f. HasRefused call.asked f board.old board.new seat.old seat.new) }
     ensures machine { machine_of board.new ≡ machine_of board.old }
     ensures unchanged { OnErr result (reply.new ≡ reply.old) }
 {
-    match board.answer(call.cpu, call.h, call.access, reply) {
+    match board.answer(call.asked.cpu, call.asked.h, call.asked.access, reply) {
         Ok(()) => {
             make(table, board, seat, call, reply);
             Ok(())
@@ -210,12 +207,12 @@ fn make<N: Name>(
     reply: &Reply,
 )
     requires machine { machine_of board.now ≡ machine_of N.state }
-    requires cpu { call.cpu < N.state.cpus }
+    requires cpu { call.asked.cpu < N.state.cpus }
     requires pen { IsPenOf call.pass seat.old }
-    requires applied { IsApplied board.now (board_after seat.old.seen) call reply.now }
+    requires applied { IsApplied board.now (board_after seat.old.seen) call.asked reply.now }
     ensures { Extends (entry_of call reply.now) seat.old seat.new }
 {
-    match page_published(board.cpus(), call.cpu, call.access) {
+    match page_published(board.cpus(), call.asked.cpu, call.asked.access) {
         None => table.enter(seat, &call, reply),
         Some(index) => publish(table, board, seat, index, &call, reply),
     }

@@ -2,12 +2,11 @@
 ghost use Rattle.board_types.specs.Reply.{IsFresh};
 ghost use Rattle.shared_board.specs.Asks.{MayAsk, WasAsked};
 
-use crate::asked::Asked;
 use crate::held::Held;
 use crate::pass::Pass;
 use board_core::{Refusal, Reply};
 use board_io::Gate;
-use clock_table::{ClockTable, Name};
+use clock_table::{Asked, ClockTable, Name};
 use crossbeam_utils::CachePadded;
 use std::sync::{MutexGuard, Wait};
 

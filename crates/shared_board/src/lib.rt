@@ -16,7 +16,6 @@
 //! ```
 #![tactic(auto)]
 
-mod asked;
 mod fault;
 mod held;
 mod holding;
@@ -31,7 +30,7 @@ mod tests;
 mod tries;
 mod waiters;
 
-pub use asked::Asked;
+pub use clock_table::Asked;
 pub use fault::{LockedFault, PageFault};
 pub use held::Held;
 pub use holding::Holding;

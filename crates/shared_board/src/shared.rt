@@ -21,7 +21,6 @@ ghost use Rattle.shared_board.specs.Stops.{StopTold, newcomers};
 ghost use Rattle.shared_board.specs.private.Seats.{IsLastRead, HasClamped};
 ghost use Rattle.shared_board.specs.private.Tables.{HasTriedTable, HasLockedTable, HasReadTable};
 
-use crate::asked::Asked;
 use crate::fault::{LockedFault, PageFault};
 use crate::held::{Held, boxed};
 use crate::holding::Holding;
@@ -34,9 +33,8 @@ use board_core::{BoardState, Refusal, Reply};
 use board_history::{answer_by, hv_answer_by};
 use board_io::Gate;
 use clk_units::NoMemory;
-use clock_table::{Blank, ClockTable, Name, SeatPlace};
+use clock_table::{Asked, Blank, ClockTable, Name, SeatPlace};
 use crossbeam_utils::CachePadded;
-use host_counter::TimeFault;
 use hv_page::{HvReply, of_page};
 use pvclock_page::{ClockReply, Page, PageReply};
 use std::alloc::Global;
@@ -162,20 +160,19 @@ impl<N: Name> SharedBoard<N> {
         requires fresh { IsFresh reply.old }
         ensures { WasAsked asked result reply.old reply.new pass.old pass.new }
     {
-        // As `hold` does it: after each call that may wait, the program looks whether it ends.
-        let mut holding = Holding {
-            table: &self.table,
-            held: self.lock(rt),
-        };
-        holding.answer(rt, gate, pass, asked, reply)
+        self.hold(rt).answer(rt, gate, pass, asked, reply)
     }
 
     /// Takes the lock for several accesses. It is given back where what is answered here is dropped.
     #[inline(always)]
     pub fn hold<R: Wait>(&self, rt: &R) -> Holding<'_, N> {
+        let held = match self.held.try_lock() {
+            Some(held) => held,
+            None => self.lock_behind(rt),
+        };
         Holding {
             table: &self.table,
-            held: self.lock(rt),
+            held,
         }
     }
 
@@ -184,15 +181,6 @@ impl<N: Name> SharedBoard<N> {
     #[inline]
     pub fn give_way(&self) {
         self.waiters.let_one_in();
-    }
-
-    /// Takes the lock.
-    #[inline(always)]
-    fn lock<R: Wait>(&self, rt: &R) -> MutexGuard<'_, CachePadded<Held<N>>> {
-        match self.held.try_lock() {
-            Some(held) => held,
-            None => self.lock_behind(rt),
-        }
     }
 
     // Whoever has the lock keeps it for some microseconds, and to wake a thread that sleeps takes longer. Each look takes
@@ -240,12 +228,10 @@ impl<N: Name> SharedBoard<N> {
         ensures ok { IfOk result (λ page. HasLockedTable N.state index h page pass.old pass.new) }
         ensures err { IfErr result (λ f. IsLockedFault N.state.anchor h f pass.old pass.new) }
     {
-        match self.host.check(h) {
-            Err(TimeFault::BeforeStart { start }) => return Err(LockedFault::BeforeStart { start }),
-            Err(TimeFault::OutOfRange { ns }) => return Err(LockedFault::OutOfRange { ns }),
-            Ok(()) => {}
+        if let Err(fault) = self.host.check(h) {
+            return Err(LockedFault::NoTime(fault));
         }
-        match self.lock(rt).page(&self.table, pass, index, h) {
+        match self.hold(rt).held.page(&self.table, pass, index, h) {
             Ok(page) => Ok(page),
             Err(front) => Err(LockedFault::Spent { front }),
         }
@@ -267,8 +253,7 @@ impl<N: Name> SharedBoard<N> {
     {
         match self.try_table(pass, index, h) {
             Ok(page) => Ok(page),
-            Err(PageFault::BeforeStart { start }) => Err(LockedFault::BeforeStart { start }),
-            Err(PageFault::OutOfRange { ns }) => Err(LockedFault::OutOfRange { ns }),
+            Err(PageFault::NoTime(fault)) => Err(LockedFault::NoTime(fault)),
             Err(PageFault::Again { .. }) => self.table_locked(rt, pass, index, h),
         }
     }

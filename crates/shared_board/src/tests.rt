@@ -11,7 +11,7 @@ use super::*;
 use board_core::{Access, BoardState, MSR_KVM_SYSTEM_TIME, Reply, Setup};
 use board_io::OpenGate;
 use clock_table::{Blank, Name};
-use host_counter::Anchor;
+use host_counter::{Anchor, TimeFault};
 use pvclock_page::{ClockReply, Page, PageReply};
 use rtc_calendar::TimeBytes;
 use std::alloc::Global;
@@ -172,11 +172,11 @@ fn read_by_one<N: Name, R: Wait + Abort>(
     let past = u128::from(u64::MAX);
     assert_eq!(rt;
         board.try_page(&mut pass, 0, u64::MAX),
-        Err(PageFault::OutOfRange { ns: past })
+        Err(PageFault::NoTime(TimeFault::OutOfRange { ns: past }))
     );
     assert_eq!(rt;
         board.page_locked(rt, &mut pass, 0, u64::MAX),
-        Err(LockedFault::OutOfRange { ns: past })
+        Err(LockedFault::NoTime(TimeFault::OutOfRange { ns: past }))
     );
     Ok(())
 }

@@ -7,7 +7,6 @@ ghost use Rattle.shared_board.specs.private.Tries.{HasHeard, HasMissed, IsTryFau
 use crate::fault::PageFault;
 use crate::host::HostClock;
 use clock_table::{ClockSeat, ClockTable, Field, Name};
-use host_counter::TimeFault;
 use pvclock_page::{Page, words_page};
 
 /// What the two loads of the version gave, where they met an update.
@@ -63,10 +62,8 @@ pub(crate) fn try_table_on<N: Name>(
     ensures ok { IfOk result (λ page. HasHeard N.state.cpus index h page seat.old seat.new) }
     ensures err { IfErr result (λ f. IsTryFault host.now.anchor index h f seat.old seat.new) }
 {
-    match host.check(h) {
-        Err(TimeFault::BeforeStart { start }) => return Err(PageFault::BeforeStart { start }),
-        Err(TimeFault::OutOfRange { ns }) => return Err(PageFault::OutOfRange { ns }),
-        Ok(()) => {}
+    if let Err(fault) = host.check(h) {
+        return Err(PageFault::NoTime(fault));
     }
     match read_words(table, seat, index, h) {
         Ok(page) => Ok(page),

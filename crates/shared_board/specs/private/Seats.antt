@@ -19,6 +19,7 @@ use Rattle.pvclock_page.specs.declared.page.ClockReply.TheVariants.{
 use Rattle.pvclock_page.specs.declared.page.PageReply.{PageReply}
 use Rattle.pvclock_page.specs.declared.page.PageReply.TheVariants.{Off as PageOff, On as PageOn}
 use Rattle.pvclock_page.specs.declared.page.Page.{Page}
+use Rattle.clock_table.specs.declared.call.Asked.{Asked}
 use Rattle.clock_table.specs.declared.call.Call.{Call}
 use Rattle.clock_table.specs.declared.view.View.{View}
 use Rattle.clock_table.specs.declared.view.Ended.{Ended}
@@ -92,17 +93,17 @@ pub record IsPenOf (p : ℕ) (v : View) : Type 0 where
   pub hand : v.hand ≡ None
 
 -- the access was taken on d and answered with r, and b is d after it, but for the greatest reading
-pub record IsApplied (b d : BoardParts) (c : Call) (r : Reply) : Type 0 where
-  pub answered : IsAnswered d c.cpu c.h c.access r
-  pub after : AreAlike b (after_access d c.cpu c.h c.access)
+pub record IsApplied (b d : BoardParts) (a : Asked) (r : Reply) : Type 0 where
+  pub answered : IsAnswered d a.cpu a.h a.access r
+  pub after : AreAlike b (after_access d a.cpu a.h a.access)
 
 -- the access was taken, and its entry made; or refused, and all is as it was
 pub record HasActed (c : Call) (r : Reply) (b : BoardParts) (v w : View) : Type 0 where
   pub told : Extends (entry_of c r) v w
   pub alike : AreAlike b (board_after w.seen)
 
-pub record HasRefused (c : Call) (f : Refusal) (b b' : BoardParts) (v w : View) : Type 0 where
-  pub refusal : refusal_of (board_after v.seen) c.cpu c.h c.access ≡ Some f
+pub record HasRefused (a : Asked) (f : Refusal) (b b' : BoardParts) (v w : View) : Type 0 where
+  pub refusal : refusal_of (board_after v.seen) a.cpu a.h a.access ≡ Some f
   pub seat : w ≡ v
   pub board : b' ≡ b
 

@@ -2,17 +2,13 @@
 use Rattle.std.specs.Prelude.{◌≡◌, ◌⊎◌, ℕ, ◌%◌, ◌<◌, ◌≤◌, false}
 use Rattle.pvclock_page.specs.declared.page.Page.{Page}
 use Rattle.host_counter.specs.declared.Anchor.{Anchor}
-use Rattle.host_counter.specs.declared.TimeFault.TheVariants.{
-  BeforeStart as IsBeforeStart,
-  OutOfRange as IsOutOfRange,
-}
 use Rattle.host_counter.specs.Time.{IsFaultAt}
 use Rattle.board_core.specs.Time.{HasTime}
 use Rattle.board_history.specs.History.{version_after, read_of}
 use Rattle.clock_table.specs.declared.view.View.{View}
 use Rattle.clock_table.specs.Steps.{Hears, missed, number_in}
 use Rattle.shared_board.specs.declared.fault.PageFault.{PageFault}
-use Rattle.shared_board.specs.declared.fault.PageFault.TheVariants.{BeforeStart, OutOfRange, Again}
+use Rattle.shared_board.specs.declared.fault.PageFault.TheVariants.{NoTime, Again}
 
 -- the page was read
 pub record HasHeard (n k h : ℕ) (page : Page) (v w : View) : Type 0 where
@@ -26,8 +22,6 @@ pub record HasMissed (cpu first second : ℕ) (v w : View) : Type 0 where
   pub update : ((first % 2 ≡ 1) × (second ≡ first)) ⊎ (first < second)
 
 abbrev pub IsTryFault : Anchor → ℕ → ℕ → PageFault → View → View → Type 0
-IsTryFault anchor cpu h (BeforeStart start) v w =
-    IsFaultAt anchor h (IsBeforeStart start) × (w ≡ v)
-IsTryFault anchor cpu h (OutOfRange ns) v w = IsFaultAt anchor h (IsOutOfRange ns) × (w ≡ v)
+IsTryFault anchor cpu h (NoTime fault) v w = IsFaultAt anchor h fault × (w ≡ v)
 IsTryFault anchor cpu h (Again first second) v w =
     HasTime anchor h × HasMissed cpu first second v w

@@ -7,7 +7,7 @@ use super::*;
 use crate::held::act;
 use crate::host::HostClock;
 use crate::tries::try_table_on;
-use clock_table::{Call, ClockTable, Field};
+use clock_table::{Asked, Call, ClockTable, Field};
 
 #[test]
 fn a_try_meets_an_open_page(rt: HostRuntime) -> Result<(), Fail> {
@@ -74,9 +74,11 @@ fn read_round_an_update<N: Name, R: Abort>(
     table.field(&mut two, 0, Field::Offset);
     let call = Call {
         pass: 0,
-        cpu: 0,
-        h: 1_000,
-        access: Access::Refresh { page: 0 },
+        asked: Asked {
+            cpu: 0,
+            h: 1_000,
+            access: Access::Refresh { page: 0 },
+        },
     };
     let mut reply = Reply::empty();
     let taken = act(&table, &mut state, &mut one, call, &mut reply).is_ok();

@@ -13,36 +13,36 @@ use Rattle.shared_board.proofs.held.make.Goals as goal
 
 pub publish-requires-clause-there : goal.publish-requires-clause-there
 publish-requires-clause-there g c =
-    let published : page_published c.args.board.now.cpus c.args.call.cpu c.args.call.access ≡ Some c.in-Some.index =
-    ap (λ (n : ℕ). page_published n c.args.call.cpu c.args.call.access) (sym c.cpus.ensures.value) ∙ (sym c.page_published.ensures ∙ c.in-Some.is) in
-    applied_place c.args.board.now.cpus c.args.board.now (board_after c.args.seat.now.seen) c.args.call c.args.reply.now c.in-Some.index refl
+    let published : page_published c.args.board.now.cpus c.args.call.asked.cpu c.args.call.asked.access ≡ Some c.in-Some.index =
+    ap (λ (n : ℕ). page_published n c.args.call.asked.cpu c.args.call.asked.access) (sym c.cpus.ensures.value) ∙ (sym c.page_published.ensures ∙ c.in-Some.is) in
+    applied_place c.args.board.now.cpus c.args.board.now (board_after c.args.seat.now.seen) c.args.call.asked c.args.reply.now c.in-Some.index refl
     c.requires.applied published
 
 pub publish-requires-clause-index : goal.publish-requires-clause-index
 publish-requires-clause-index g c =
-    let published : page_published c.args.board.now.cpus c.args.call.cpu c.args.call.access ≡ Some c.in-Some.index =
-    ap (λ (n : ℕ). page_published n c.args.call.cpu c.args.call.access) (sym c.cpus.ensures.value) ∙ (sym c.page_published.ensures ∙ c.in-Some.is) in
-    let low = applied_place c.args.board.now.cpus c.args.board.now (board_after c.args.seat.now.seen) c.args.call c.args.reply.now c.in-Some.index refl
+    let published : page_published c.args.board.now.cpus c.args.call.asked.cpu c.args.call.asked.access ≡ Some c.in-Some.index =
+    ap (λ (n : ℕ). page_published n c.args.call.asked.cpu c.args.call.asked.access) (sym c.cpus.ensures.value) ∙ (sym c.page_published.ensures ∙ c.in-Some.is) in
+    let low = applied_place c.args.board.now.cpus c.args.board.now (board_after c.args.seat.now.seen) c.args.call.asked c.args.reply.now c.in-Some.index refl
     c.requires.applied published in
     let same = ap (λ (m : Machine). m.cpus) c.requires.machine in
     omega arith
 
 pub publish-requires-clause-room : goal.publish-requires-clause-room
 publish-requires-clause-room g c =
-    let published : page_published c.args.board.now.cpus c.args.call.cpu c.args.call.access ≡ Some c.in-Some.index =
-    ap (λ (n : ℕ). page_published n c.args.call.cpu c.args.call.access) (sym c.cpus.ensures.value) ∙ (sym c.page_published.ensures ∙ c.in-Some.is) in
-    let call = c.args.call in
+    let published : page_published c.args.board.now.cpus c.args.call.asked.cpu c.args.call.asked.access ≡ Some c.in-Some.index =
+    ap (λ (n : ℕ). page_published n c.args.call.asked.cpu c.args.call.asked.access) (sym c.cpus.ensures.value) ∙ (sym c.page_published.ensures ∙ c.in-Some.is) in
+    let a = c.args.call.asked in
     let d : BoardParts = board_after c.args.seat.now.seen in
     let same : c.args.board.now.cpus ≡ d.cpus =
-    ap (λ (m : Machine). m.cpus) (alike_machine c.args.board.now (after_access d call.cpu call.h call.access) c.requires.applied.after
-    ∙ machine_of-access d call.cpu call.h call.access) in
-    let a = c.requires.applied.answered in
-    taken_table d call.cpu call.h c.in-Some.index call.access a.cpu_below a.legal a.taken
-    (subst (λ (n : ℕ). page_published n call.cpu call.access ≡ Some c.in-Some.index) same published)
+    ap (λ (m : Machine). m.cpus) (alike_machine c.args.board.now (after_access d a.cpu a.h a.access) c.requires.applied.after
+    ∙ machine_of-access d a.cpu a.h a.access) in
+    let answered = c.requires.applied.answered in
+    taken_table d a.cpu a.h c.in-Some.index a.access answered.cpu_below answered.legal answered.taken
+    (subst (λ (n : ℕ). page_published n a.cpu a.access ≡ Some c.in-Some.index) same published)
 
 pub publish-requires-clause-page : goal.publish-requires-clause-page
 publish-requires-clause-page g c =
-    let call = c.args.call in
+    let a = c.args.call.asked in
     let d : BoardParts = board_after c.args.seat.now.seen in
-    ap (λ (b : BoardParts). page_at b c.in-Some.index) (board_after-snoc c.args.seat.now.seen (entry_of call c.args.reply.now))
-    ∙ sym (alike_page c.args.board.now (after_access d call.cpu call.h call.access) c.in-Some.index c.requires.applied.after)
+    ap (λ (b : BoardParts). page_at b c.in-Some.index) (board_after-snoc c.args.seat.now.seen (entry_of c.args.call c.args.reply.now))
+    ∙ sym (alike_page c.args.board.now (after_access d a.cpu a.h a.access) c.in-Some.index c.requires.applied.after)

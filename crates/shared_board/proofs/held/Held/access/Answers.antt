@@ -35,7 +35,7 @@ invariant_of-self g c =
     let x = c.take_pen.new.seat in
     let y = c.act-result.new.seat in
     let b = c.deref_mut.result.now in
-    let call : Call = record { pass = n; cpu = c.args.asked.cpu; h = c.args.asked.h; access = c.args.asked.access } in
+    let call : Call = record { pass = n; asked = c.args.asked } in
     let has = subst (λ (z : BoardParts). HasPen g.N.Name.state g.N.Name.passes n z x) (sym c.deref_mut.ensures.value)
     (pen_taken g.N.Name.state g.N.Name.passes n c.self.inside.board.value c.self.inside.writer c.pass.inside.seat c.take.result x
     c.self.invariant c.take.ensures.seat c.pass.invariant.0 c.pass.invariant.1 c.take_pen.ensures.moved) in
@@ -49,7 +49,7 @@ invariant_of-pass g c =
     let x = c.take_pen.new.seat in
     let y = c.act-result.new.seat in
     let b = c.deref_mut.result.now in
-    let call : Call = record { pass = n; cpu = c.args.asked.cpu; h = c.args.asked.h; access = c.args.asked.access } in
+    let call : Call = record { pass = n; asked = c.args.asked } in
     let has = subst (λ (z : BoardParts). HasPen g.N.Name.state g.N.Name.passes n z x) (sym c.deref_mut.ensures.value)
     (pen_taken g.N.Name.state g.N.Name.passes n c.self.inside.board.value c.self.inside.writer c.pass.inside.seat c.take.result x
     c.self.invariant c.take.ensures.seat c.pass.invariant.0 c.pass.invariant.1 c.take_pen.ensures.moved) in
@@ -65,14 +65,14 @@ returns g c =
     let moved = c.take_pen.ensures.moved in
     let has = pen_taken g.N.Name.state g.N.Name.passes n c.self.inside.board.value c.self.inside.writer c.pass.inside.seat c.take.result
     c.take_pen.new.seat c.self.invariant c.take.ensures.seat c.pass.invariant.0 c.pass.invariant.1 moved in
-    let call : Call = record { pass = n; cpu = a.cpu; h = a.h; access = a.access } in
+    let call : Call = record { pass = n; asked = a } in
     record {
       ok = subst (λ (p : PassKnown). OnOk c.act-result.result (Answered p (known n z) (Board p.number a.cpu a.h a.access c.act-result.new.reply)))
           c.pass.view_is
           (act_answered c.act-result.result c.act-result.new.reply n a.cpu a.h call c.act-result.new.board c.pass.inside.seat c.take.result
           x c.act-result.new.seat z refl c.pass.invariant.0 moved c.split_pen.ensures.left c.act-result.ensures.ok);
       err = subst (λ (p : PassKnown). IfErr c.act-result.result (λ f. Refused a.cpu a.h a.access f p (known n z))) c.pass.view_is
-          (act_refused c.act-result.result n call c.deref_mut.result.now c.act-result.new.board c.pass.inside.seat c.take.result x
+          (act_refused c.act-result.result n a c.deref_mut.result.now c.act-result.new.board c.pass.inside.seat c.take.result x
           c.act-result.new.seat z c.pass.invariant.0 moved has.legal c.split_pen.ensures.left c.act-result.ensures.err);
       unchanged = c.act-result.ensures.unchanged;
     }
