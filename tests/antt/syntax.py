@@ -24,6 +24,7 @@ BINDS = {"⊎": (-2, "r"), "×": (-1, "r"), "≡": (0, "n"), "≢": (0, "n"), "<
 HEAD = re.compile(r"^((?:(?:abbrev|unfoldable|opaque|private) )*)(pub )?(?:(record|data) )?(\S+)")
 IMPORT = re.compile(r"use (?:(?:Rattle|mathlib)\.)?([\w.]+?)(?:\.\{(.*)\}|(?: as (\w+)))?$")
 CONSTANT = re.compile(r"pub(?:\(crate\))? const (\w+): \w+ = ([^;]+);")
+BYTES = re.compile(r'pub(?:\(crate\))? const (\w+): &\[u8\] =\s+b"((?:[^"\\]|\\.)*)";', re.DOTALL)
 
 
 @dataclass
@@ -294,12 +295,16 @@ def conjunction(name: str, type_of: str) -> list[str]:
     return [f"{name} {names} = {' × '.join(f'({it})' for it in facts)}"] if is_fact else []
 
 
-def constants(crates: Path) -> dict[tuple[str, str], int]:
-    """The public numbers of the crates' code, by crate and name."""
+def constants(crates: Path) -> dict[tuple[str, str], int | dict[str, list[int]]]:
+    """The public numbers and texts of the crates' code, by crate and name. A text is the record of its bytes."""
     found = {}
     for path in sorted(crates.glob("*/src/**/*.rt")):
         crate = path.relative_to(crates).parts[0]
-        for name, text in CONSTANT.findall(path.read_text(encoding="utf-8")):
+        code = path.read_text(encoding="utf-8")
+        for name, text in BYTES.findall(code):
+            text = re.sub(r"\\\n\s*", "", text)  # a line that goes on: Rust drops the spaces at the start of the next
+            found[crate, name] = {"now": list(text.encode().decode("unicode_escape").encode("latin-1"))}
+        for name, text in CONSTANT.findall(code):
             plain = re.sub(r"(?<=[0-9a-fA-F])(u8|u16|u32|u64|u128|usize)\b", "", text).replace("u64::MAX", str(2**64 - 1))
             for other, value in list(found.items()):
                 if other[0] == crate:

@@ -13,7 +13,8 @@ use Rattle.command_line.specs.declared.command.Command.TheVariants.{
 use Rattle.command_line.specs.declared.command.Size.{Size}
 use Rattle.trace_gen.specs.Text.{gen_text}
 use Rattle.trace_runner.specs.Soak.{soak_of}
-use Rattle.trace_runner.specs.Text.{usage_text, version_text, help_text}
+use Rattle.trace_runner.specs.declared.texts.TheConstants.{USAGE, VERSION}
+use Rattle.trace_runner.specs.Text.{help_text}
 use Rattle.trace_runner.specs.Status.{verdict_status}
 use Rattle.trace_runner.specs.declared.status.Status.{Status}
 use Rattle.trace_runner.specs.declared.status.Status.TheVariants.{Ok, Usage}
@@ -31,7 +32,7 @@ pub record Saying : Type 0 where
 
 -- words that are no command
 abbrev pub usage : Saying
-usage = record { status = Usage; text = usage_text }
+usage = record { status = Usage; text = USAGE.now }
 
 -- a generated trace
 abbrev pub generated : Size → Saying
@@ -49,5 +50,5 @@ saying_of (Race shows_state) = None
 saying_of (Gen size) = Some (generated size)
 saying_of (Soak size) = Some (summed size)
 saying_of (Help page) = Some (record { status = Ok; text = help_text page })
-saying_of Version = Some (record { status = Ok; text = version_text })
+saying_of Version = Some (record { status = Ok; text = VERSION.now })
 saying_of Unknown = Some usage

@@ -5,14 +5,14 @@ ghost use Rattle.trace_runner.specs.Text.{help_text};
 use command_line::Page;
 
 /// How it is called.
-pub(crate) const USAGE: &[u8] =
+pub const USAGE: &[u8] =
     b"usage: clockboard replay|race [--state] | gen|soak KEY RECORDS CPUS\n";
 
 /// Its version.
-pub(crate) const VERSION: &[u8] = b"clockboard 0.1.0\n";
+pub const VERSION: &[u8] = b"clockboard 0.1.0\n";
 
 /// What it is, its jobs, and how it ends.
-const HELP: &[u8] = b"\
+pub const HELP: &[u8] = b"\
 clockboard: the time hardware that a virtual machine monitor shows a PC guest\n\
 \n\
 usage: clockboard replay|race [--state] < TRACE\n\
@@ -49,7 +49,7 @@ statuses and the saved state.\n\
 ";
 
 /// The page of `replay`.
-const REPLAY_HELP: &[u8] = b"\
+pub const REPLAY_HELP: &[u8] = b"\
 clockboard replay: answers a trace from standard input, record by record\n\
 \n\
 usage: clockboard replay [--state] < TRACE\n\
@@ -90,7 +90,7 @@ docs/FORMATS.md has all records, reasons and printed lines.\n\
 ";
 
 /// The page of `race`.
-const RACE_HELP: &[u8] = b"\
+pub const RACE_HELP: &[u8] = b"\
 clockboard race: answers a trace with each processor on a thread of its own\n\
 \n\
 usage: clockboard race [--state] < TRACE\n\
@@ -111,7 +111,7 @@ docs/FORMATS.md has the trace and the printed lines.\n\
 ";
 
 /// The page of `gen`.
-const GEN_HELP: &[u8] = b"\
+pub const GEN_HELP: &[u8] = b"\
 clockboard gen: prints a generated trace\n\
 \n\
 usage: clockboard gen KEY RECORDS CPUS\n\
@@ -129,7 +129,7 @@ docs/FORMATS.md tells how each record follows from KEY.\n\
 ";
 
 /// The page of `soak`.
-const SOAK_HELP: &[u8] = b"\
+pub const SOAK_HELP: &[u8] = b"\
 clockboard soak: answers a generated trace and prints one line\n\
 \n\
 usage: clockboard soak KEY RECORDS CPUS\n\

@@ -1,5 +1,5 @@
 use Rattle.std.proofs.Common.{◌∙◌, ℕ, List, Some, ap, sym, inl, inr, true≢false}
-use Rattle.trace_runner.specs.Text.{version_text, usage_text}
+use Rattle.trace_runner.specs.declared.texts.TheConstants.{VERSION}
 use Rattle.trace_runner.specs.Sayings.{Saying, reads_trace, saying_of, usage}
 use Rattle.trace_runner.specs.declared.status.Status.TheVariants.{Ok}
 use Rattle.trace_runner.proofs.Sayings.{said-whole}
@@ -14,13 +14,11 @@ returns-in-Help-clause-said g c = λ saying is.
     (ap (λ (text : List ℕ). Some (done_by text)) c.help.ensures ∙ (ap saying_of (sym c.in-Help.is) ∙ is)) c.say.ensures.said
 
 pub returns-in-Version-clause-said : goal.returns-in-Version-clause-said
-unfolding version_text
 returns-in-Version-clause-said g c = λ saying is.
-    said-whole (record { status = Ok; text = version_text }) saying c.say-in-Version.result _ _ _ (ap saying_of (sym c.in-Version.is) ∙ is)
+    said-whole (record { status = Ok; text = VERSION.now }) saying c.say-in-Version.result _ _ _ (ap saying_of (sym c.in-Version.is) ∙ is)
     c.say-in-Version.ensures.said
 
 pub returns-in-Unknown-clause-said : goal.returns-in-Unknown-clause-said
-unfolding usage_text
 returns-in-Unknown-clause-said g c = λ saying is.
     elim c.in-Unknown.is [
       | inl unknown ↦ said-whole usage saying c.say-in-Unknown.result _ _ _ (ap saying_of (sym unknown) ∙ is) c.say-in-Unknown.ensures.said
