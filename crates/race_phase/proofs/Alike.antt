@@ -47,8 +47,9 @@ use Rattle.board_history.proofs.Pages.{machine_of-access, length-processors}
 use Rattle.trace_text.specs.declared.records.Call.{Call}
 use Rattle.trace_text.specs.declared.records.Call.TheVariants.{Act, ReadPage, ReadClock, ReadHv}
 use Rattle.race_phase.specs.declared.records.Record.{Record}
-use Rattle.race_phase.specs.Calls.{IsFitting, records_of, Shown, PhaseTold}
-use Rattle.race_phase.specs.Order.{AreAlike, after_call, after_record, after_records}
+use Rattle.race_phase.specs.Calls.{IsFitting, records_of, Shown}
+use Rattle.race_phase.specs.Order.{after_call, after_record, after_records}
+use Rattle.race_phase.specs.private.Ran.{AreAlike, PhaseTold}
 use Rattle.race_phase.proofs.Counts.{
   weigh,
   of_entry,

@@ -15,7 +15,7 @@ use Rattle.race_phase.specs.declared.faults.Cause.{Cause}
 use Rattle.race_phase.specs.declared.phases.End.{End}
 use Rattle.race_phase.specs.declared.phases.End.TheVariants.{Finish, Save, Move}
 use Rattle.race_phase.specs.declared.phases.Phase.{Phase}
-use Rattle.race_phase.specs.Calls.{PhaseTold}
+use Rattle.race_phase.specs.private.Ran.{PhaseTold}
 use Rattle.race_phase.specs.Phases.{IsEnd, end_fault, step_entry, end_entries, end_text, next_board, PhaseEnded}
 use Rattle.race_phase.proofs.Taken.{line_none, access_none}
 

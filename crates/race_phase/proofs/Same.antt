@@ -65,7 +65,8 @@ use Rattle.trace_text.specs.declared.records.Call.TheVariants.{Act, ReadPage, Re
 use Rattle.race_phase.specs.declared.records.Record.{Record}
 use Rattle.trace_text.specs.Records.{IsFittingCall}
 use Rattle.race_phase.specs.Calls.{IsFitting}
-use Rattle.race_phase.specs.Order.{AreAlike, at_line, call_cause, record_fault, after_call, after_record, after_records, records_fault}
+use Rattle.race_phase.specs.private.Ran.{AreAlike}
+use Rattle.race_phase.specs.Order.{at_line, call_cause, record_fault, after_call, after_record, after_records, records_fault}
 use Rattle.race_phase.specs.Phases.{IsEnd, IsPhase, next_board, end_fault, after_phase, phase_fault, trace_fault}
 use Rattle.race_phase.proofs.Alike.{host_after}
 use Rattle.race_phase.proofs.Counts.{raises_wall, raises_hv}

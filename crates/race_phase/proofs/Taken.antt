@@ -79,7 +79,8 @@ use Rattle.trace_text.specs.declared.records.Call.{Call}
 use Rattle.trace_text.specs.declared.records.Call.TheVariants.{Act, ReadPage, ReadClock, ReadHv}
 use Rattle.race_phase.specs.declared.records.Record.{Record}
 use Rattle.trace_text.specs.Records.{IsFittingCall}
-use Rattle.race_phase.specs.Calls.{IsFitting, Shown, PhaseTold}
+use Rattle.race_phase.specs.Calls.{IsFitting, Shown}
+use Rattle.race_phase.specs.private.Ran.{PhaseTold}
 use Rattle.race_phase.specs.Order.{at_line, call_cause, record_fault, after_call, after_record, after_records, records_fault}
 use Rattle.race_phase.specs.private.Workers.{CallTrouble, AllWorked}
 use Rattle.race_phase.proofs.Counts.{

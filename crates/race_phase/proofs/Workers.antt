@@ -79,6 +79,7 @@ use Rattle.race_phase.specs.private.Workers.{
   HasHalted,
   HasPrinted,
   AllButLast,
+  HasGoneOn,
 }
 
 -- the records of a processor in two lists, one after the other
@@ -275,7 +276,7 @@ answered_as s rs d e ts us p q z here places pass all =
     subst (λ (x : ℕ × List Place × PassKnown). AllAnswered s (take x.0 rs) (take x.0 x.1) p x.2) (λ k. (sym here k, sym places k, sym pass k)) all
 
 -- a record of a batch that is not answered
-pub halted_at : (s : BoardParts) (rs : List Record) (i : ℕ) (d : Record) (ts : List Place) (p q z : PassKnown) → i < length rs
+halted_at : (s : BoardParts) (rs : List Record) (i : ℕ) (d : Record) (ts : List Place) (p q z : PassKnown) → i < length rs
     → All (IsFitting s.cpus s.format) rs
     → AllAnswered s (take i rs) ts p q → Unanswered q z → IsTrouble s (get_or rs i d) z → HasHalted s rs p z
 halted_at s rs i d ts p q z l fit all u met =
@@ -294,6 +295,18 @@ halted_at s rs i d ts p q z l fit all u met =
         legal = u.legal;
       };
     }
+
+-- so a run of records from a place on ends there
+pub stopped_at : {E : Type 0} (f : E) (s : BoardParts) (rs : List Record) (i from : ℕ) (d : Record) (old new ts : List Place) (p q z : PassKnown)
+    → i < length rs → All (IsFitting s.cpus s.format) rs → length new ≡ length old
+    → ((o : PassKnown) → AllAnswered s (take from rs) (take from old) o p → AllAnswered s (take i rs) ts o q)
+    → Unanswered q z × IsTrouble s (get_or rs i d) z → HasGoneOn s rs old new from (Err f) p z
+stopped_at f s rs i from d old new ts p q z l fit places all u = record {
+  places = places;
+  ok = tt;
+  legal = tt;
+  err = λ o x. halted_at s rs i d ts o q z l fit (all o x) u.0 u.1;
+}
 
 -- the processor of a record
 pub cpu_there : (rs : List Record) (i k : ℕ) (d : Record) → i < length rs → IfSome (slice_get rs i) (λ r. k ≡ r.cpu) → k ≡ (get_or rs i d).cpu

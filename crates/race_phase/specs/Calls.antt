@@ -5,7 +5,6 @@ use Rattle.std.specs.Prelude.{
   zero,
   suc,
   ◌<◌,
-  ◌≤◌,
   ◌==◌,
   if◌then◌else◌,
   List,
@@ -26,7 +25,7 @@ use Rattle.board_types.specs.declared.parts.BoardParts.{BoardParts}
 use Rattle.board_core.specs.Pages.{reading_by, answer_by}
 use Rattle.board_core.specs.Hv.{hv_answer_by}
 use Rattle.board_history.specs.Machine.{machine_of, ratio_in}
-use Rattle.board_history.specs.History.{board_after, entries_of, IsLegal, Opens}
+use Rattle.board_history.specs.History.{entries_of}
 use Rattle.board_history.specs.declared.entry.Entry.{Entry}
 use Rattle.board_history.specs.declared.entry.Entry.TheVariants.{Board, PageRead, HvRead}
 use Rattle.clock_table.specs.declared.view.Miss.{Miss}
@@ -110,14 +109,3 @@ Shown s ds rs h n (suc k) out =
     (first : List ℕ) × (rest : List ℕ) × (out ≡ first ++ rest)
     × AllMade s ds n (records_of n rs) first (entries_of n h) × IsTried s.cpus h n
     × Shown s ds rs h (suc n) k rest
-
--- there is one legal history, which opens with the opening state and leaves this one. It has the
--- entries of the records and no others, those of a processor in their order, and this is their text
-pub record PhaseTold (opening : BoardParts) (ds : Deliveries) (rs : List Record)
-    (state : BoardParts) (out : List ℕ) : Type 0 where
-  pub h : List Entry
-  pub legal : IsLegal h
-  pub opens : Opens opening h
-  pub leaves : state ≡ board_after h
-  pub none_else : (n : ℕ) → opening.cpus ≤ n → entries_of n h ≡ []
-  pub shown : Shown opening ds rs h 0 opening.cpus out

@@ -1,11 +1,10 @@
 -- The records in file order, as one thread would take them: what they leave, and which is refused.
-use Rattle.std.specs.Prelude.{◌≡◌, ℕ, ◌≤◌, List, [], ◌∷◌, length, Option, None}
+use Rattle.std.specs.Prelude.{ℕ, List, [], ◌∷◌, Option, None}
 use Rattle.std.specs.Option.{option_or, option_map}
 use Rattle.board_types.specs.declared.parts.BoardParts.{BoardParts}
 use Rattle.board_core.specs.Access.{after_access}
 use Rattle.board_core.specs.Time.{time_fault}
 use Rattle.board_core.specs.Refusals.{refusal_of}
-use Rattle.board_history.specs.Counts.{SameCounts}
 use Rattle.race_phase.specs.declared.faults.Cause.{Cause}
 use Rattle.race_phase.specs.declared.faults.Cause.TheVariants.{Access as ByAccess, Count as ByCount}
 use Rattle.race_phase.specs.declared.faults.Fault.{Fault}
@@ -48,11 +47,3 @@ after_records b (r ∷ rs) = after_records (after_record b r) rs
 abbrev pub records_fault : BoardParts → List Record → Option Fault
 records_fault b [] = None
 records_fault b (r ∷ rs) = option_or (record_fault b r) (records_fault (after_record b r) rs)
-
--- two boards that refuse alike: of the same counts and the same time, and with a place for each
--- processor
-pub record AreAlike (b c : BoardParts) : Type 0 where
-  pub counts : SameCounts b c
-  pub host : b.host ≡ c.host
-  pub places : b.cpus ≤ length b.processors
-  pub others : c.cpus ≤ length c.processors

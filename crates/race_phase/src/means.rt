@@ -4,8 +4,8 @@ use std::alloc::Global;
 /// What a race runs with: the handle that lets it start threads and wait, its memory, and the gate that is called around
 /// each record.
 #[derive(Drop)]
-pub struct Means<'a, R, G> {
-    pub rt: &'a R,
-    pub alloc: Global,
-    pub gate: &'a G,
+pub(crate) struct Means<'a, R, G> {
+    pub(crate) rt: &'a R,
+    pub(crate) alloc: Global,
+    pub(crate) gate: &'a G,
 }

@@ -3,8 +3,9 @@ ghost use Rattle.std.specs.Prelude.{◌≡◌, ◌<◌, ◌≤◌, ◌^◌, List
 ghost use Rattle.race_phase.specs.declared.deliveries.Deliveries.{Deliveries};
 ghost use Rattle.shared_board.specs.Passes.{mine};
 ghost use Rattle.race_phase.specs.declared.records.Record.{Record};
-ghost use Rattle.race_phase.specs.Calls.{IsFitting, PhaseTold};
-ghost use Rattle.race_phase.specs.Order.{AreAlike, after_records, records_fault};
+ghost use Rattle.race_phase.specs.Calls.{IsFitting};
+ghost use Rattle.race_phase.specs.Order.{after_records, records_fault};
+ghost use Rattle.race_phase.specs.private.Ran.{AreAlike, PhaseTold};
 ghost use Rattle.race_phase.specs.private.Workers.{HasWorked, AllGiven, AllWorked};
 
 use crate::deliveries::Deliveries;
@@ -25,7 +26,7 @@ use std::thread::{Threads, map_vec};
 
 /// Runs the records of a phase on a board, of whose state the blank was made, each processor's in a thread of its own,
 /// and gives back the board after them and their text: the blocks of processor 0, then those of 1, and so on.
-pub fn run_phase<N: Name + Send + Sync, R: Threads + Wait + Sync, G: Gate + Sync>(
+pub(crate) fn run_phase<N: Name + Send + Sync, R: Threads + Wait + Sync, G: Gate + Sync>(
     means: &Means<'_, R, G>,
     blank: Blank,
     state: &BoardState,

@@ -1,5 +1,5 @@
 use Rattle.std.proofs.Common.{◌<◌, length, refl, arith, rules}
-use Rattle.race_phase.proofs.Workers.{batch_step, halted_at}
+use Rattle.race_phase.proofs.Workers.{batch_step, stopped_at}
 use Rattle.race_phase.proofs.batch.answer_next.Goals as goal
 
 pub returns-in-Ok-clause-told : goal.returns-in-Ok-clause-told
@@ -18,14 +18,9 @@ returns-in-Ok-clause-told g c = record {
 }
 
 pub returns-in-Err-clause-told : goal.returns-in-Err-clause-told
-returns-in-Err-clause-told g c = record {
-  places = search rules;
-  ok = tt;
-  legal = tt;
-  err = λ p x.
-      let end = c.requires.from in
-      let other = c.if-from-records.false in
-      let below : c.args.from < length c.args.records.now = omega arith in
-      let e = c.in-Err.ensures.err in
-      halted_at g.N.Name.state c.args.records.now c.args.from _ _ p c.args.pass.now c.held.new.pass below c.requires.fit.fitting x e.0 e.1;
-}
+returns-in-Err-clause-told g c =
+    let end = c.requires.from in
+    let other = c.if-from-records.false in
+    let below : c.args.from < length c.args.records.now = omega arith in
+    stopped_at _ g.N.Name.state c.args.records.now c.args.from c.args.from _ c.args.places.now _ _ c.args.pass.now c.args.pass.now c.held.new.pass
+    below c.requires.fit.fitting (search rules) (λ p x. x) c.in-Err.ensures.err

@@ -1,17 +1,11 @@
 use Rattle.std.proofs.Common.{◌<◌, length, refl, arith, rules}
-use Rattle.race_phase.proofs.Workers.{batch_step, halted_at}
+use Rattle.race_phase.proofs.Workers.{batch_step, stopped_at}
 use Rattle.race_phase.proofs.batch.answer_run.Goals as goal
 
 pub returns-in-Err-clause-told : goal.returns-in-Err-clause-told
-returns-in-Err-clause-told g c = record {
-  places = search rules;
-  ok = tt;
-  legal = tt;
-  err = λ p x.
-      let e = c.in-Err.ensures.err in
-      halted_at g.N.Name.state c.args.records.now c.loop-done.done _ _ p c.loop-done.pass c.answer_access.new.pass c.loop-done-test.true
-      c.requires.fit.fitting (c.loop-done.invariant.all p x) e.0 e.1;
-}
+returns-in-Err-clause-told g c =
+    stopped_at _ g.N.Name.state c.args.records.now c.loop-done.done c.args.from _ c.args.places.now _ _ c.args.pass.now c.loop-done.pass
+    c.answer_access.new.pass c.loop-done-test.true c.requires.fit.fitting (search rules) c.loop-done.invariant.all c.in-Err.ensures.err
 
 pub loop-done-preserved : goal.loop-done-preserved
 loop-done-preserved g c =

@@ -1,7 +1,8 @@
 use Rattle.std.proofs.Common.{◌≡◌, ◌++◌, ℕ, List, ap, sym, ◌∙◌, subst, refl, All, append_assoc, None}
 use Rattle.board_types.specs.declared.parts.BoardParts.{BoardParts}
-use Rattle.race_phase.specs.Calls.{IsFitting, PhaseTold}
-use Rattle.race_phase.specs.Order.{AreAlike, after_records, records_fault}
+use Rattle.race_phase.specs.Calls.{IsFitting}
+use Rattle.race_phase.specs.Order.{after_records, records_fault}
+use Rattle.race_phase.specs.private.Ran.{AreAlike, PhaseTold}
 use Rattle.race_phase.specs.Phases.{after_phase, end_fault, end_text}
 use Rattle.race_phase.proofs.Ended.{phase_ended}
 use Rattle.race_phase.proofs.Same.{mid_fits, mid_free, mid_alike}

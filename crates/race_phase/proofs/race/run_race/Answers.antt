@@ -1,7 +1,7 @@
 use Rattle.std.proofs.Common.{◌≡◌, ◌++◌, [], ◌∷◌, List, ap, sym, ◌∙◌, subst, refl, arith, None, All, append_assoc, append-nil, length}
 use Rattle.race_phase.specs.declared.phases.Phase.{Phase}
 use Rattle.board_types.specs.declared.parts.BoardParts.{BoardParts}
-use Rattle.race_phase.specs.Order.{AreAlike}
+use Rattle.race_phase.specs.private.Ran.{AreAlike}
 use Rattle.race_phase.specs.Phases.{IsPhase, PhaseEnded, trace_fault, phase_fault, after_phase, race_text}
 use Rattle.race_phase.proofs.Same.{alike_size, size_phase, phases_rest, same_trace_fault}
 use Rattle.race_phase.proofs.Taken.{or_none}
