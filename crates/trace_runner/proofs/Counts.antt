@@ -1,6 +1,7 @@
 -- Counts with a time and without, as answers to reads; and what an access prints.
-use Rattle.std.proofs.Common.{◌≡◌, ℕ, ◌≤◌, List, ◌++◌, Option, Some, None, Result, OnOk, refl, sym, ap, subst, ◌∙◌}
-use Rattle.std.proofs.lemmas.Result.{on_ok_weaker}
+use Rattle.std.proofs.Common.{◌≡◌, ℕ, ◌≤◌, List, ◌++◌, Option, Some, None, Result, Ok, OnOk, OnErr, refl, sym, ap, subst, ◌∙◌}
+use Rattle.std.proofs.Math.Seq.{take-length}
+use Rattle.std.proofs.lemmas.Result.{on_ok_weaker, on_err_weaker}
 use Rattle.std.proofs.lemmas.Bool.{lt-ltb, le-ltb, le-leb, lt-leb}
 use Rattle.clk_units.specs.declared.ranges.TheConstants.{RANGE_NS}
 use Rattle.host_counter.specs.Time.{time_at, IsFaultAt}
@@ -24,6 +25,7 @@ use Rattle.reply_text.specs.declared.ends.Refused.TheVariants.{Fell, Range}
 use Rattle.trace_text.specs.Records.{IsFittingCall}
 use Rattle.trace_text.specs.declared.records.Call.{Call}
 use Rattle.trace_loop.specs.Progress.{Answer, Goes, Ends, printed, end_of, state_behind}
+use Rattle.trace_loop.specs.Answered.{IsAnswered}
 use Rattle.trace_runner.specs.Records.{
   refused_count,
   refused_fault,
@@ -70,28 +72,30 @@ module _ (text : BoardParts → List ℕ) (behind : BoardParts → BoardParts) (
     goes : HasTime b.anchor h → read_of c ≡ Goes (text b) (record r { board = behind b })
     goes t = ap read_of (sym same) ∙ ap (λ (o : Option Refused). with_board (read_answer o line (text b) (behind b)) r) (counted b h t)
 
-    pub read-printed : (out new : List ℕ) → HasTime b.anchor h → new ≡ out ++ text b → new ≡ out ++ printed (read_of c)
-    read-printed out new t is = is ∙ ap (λ (x : Answer Replay Verdict). out ++ printed x) (sym (goes t))
-
-    pub read-ends : (end : Option Verdict) → HasTime b.anchor h → end ≡ None → end ≡ end_of (read_of c)
-    read-ends end t is = is ∙ ap end_of (sym (goes t))
-
-    pub read-state : (after : BoardParts) → HasTime b.anchor h → after ≡ behind b → record r { board = after } ≡ state_behind (read_of c) r
-    read-state after t is = ap (λ (x : BoardParts). record r { board = x }) is ∙ ap (λ (x : Answer Replay Verdict). state_behind x r) (sym (goes t))
+    pub read-answered : (after : BoardParts) (out new : List ℕ) (end : Option Verdict) → HasTime b.anchor h → after ≡ behind b
+        → new ≡ out ++ text b → end ≡ None → (let done : Result (Unit {0}) NoMemory = Ok tt in
+        IsAnswered (read_of c) r (record r { board = after }) out new end done)
+    read-answered after out new end t is told none = record {
+      printed = told ∙ ap (λ (x : Answer Replay Verdict). out ++ printed x) (sym (goes t));
+      ends = none ∙ ap end_of (sym (goes t));
+      state = λ _. ap (λ (x : BoardParts). record r { board = x }) is ∙ ap (λ (x : Answer Replay Verdict). state_behind x r) (sym (goes t));
+      err = tt;
+    }
 
     -- and at one without it is refused
     stopped : (fault : TimeFault) → IsFaultAt b.anchor h fault → read_of c ≡ Ends (stops line (refused_fault fault))
     stopped fault is = ap read_of (sym same) ∙ ap (λ (o : Option Refused). with_board (read_answer o line (text b) (behind b)) r) (faulted b h fault is)
 
-    module _ (res : Result (Unit {0}) NoMemory) (fault : TimeFault) (why : Refused) (is : IsFaultAt b.anchor h fault) (told : why ≡ refused_fault fault) where
-      pub refused-printed : (out new : List ℕ) → OnOk res (new ≡ out ++ refused_text line why) → OnOk res (new ≡ out ++ printed (read_of c))
-      refused-printed out new =
-          on_ok_weaker res (λ e. e ∙ ap (λ (w : Refused). out ++ refused_text line w) told
-          ∙ ap (λ (x : Answer Replay Verdict). out ++ printed x) (sym (stopped fault is)))
-
-      pub refused-ends : (end : Option Verdict) → OnOk res (end ≡ Some (Stopped line why)) → OnOk res (end ≡ end_of (read_of c))
-      refused-ends end =
-          on_ok_weaker res (λ e. e ∙ ap (λ (w : Refused). Some (Stopped line w)) told ∙ ap end_of (sym (stopped fault is)))
+    pub refused-answered : (res : Result (Unit {0}) NoMemory) (fault : TimeFault) (why : Refused) (after : Replay) (out new : List ℕ) (end : Option Verdict)
+        → IsFaultAt b.anchor h fault → why ≡ refused_fault fault → OnOk res (new ≡ out ++ refused_text line why) → OnOk res (end ≡ Some (Stopped line why))
+        → OnErr res (new ≡ out) → IsAnswered (read_of c) r after out new end res
+    refused-answered res fault why after out new end is told text_put ended kept = record {
+      printed = on_ok_weaker res (λ e. e ∙ ap (λ (w : Refused). out ++ refused_text line w) told
+          ∙ ap (λ (x : Answer Replay Verdict). out ++ printed x) (sym (stopped fault is))) text_put;
+      ends = on_ok_weaker res (λ e. e ∙ ap (λ (w : Refused). Some (Stopped line w)) told ∙ ap end_of (sym (stopped fault is))) ended;
+      state = on_ok_weaker res (λ e none. cc) ended;
+      err = on_err_weaker res (λ e. rw e (take-length out)) kept;
+    }
 
 -- an access that is taken prints its block
 pub access-printed : (line cpu h : ℕ) (a : Access) (ds : Deliveries) (b : BoardParts) (r : Replay) (reply : Reply) (out : List ℕ)

@@ -1,7 +1,6 @@
 //! What answers the lines of a trace that is checked.
 ghost use Rattle.std.specs.Prelude.{◌≡◌, ◌<◌, ◌≤◌, ◌+◌, ◌^◌, ◌++◌, None, Some, IfOk, OnOk, OnErr};
-ghost use Rattle.std.specs.Io.{StartsWith};
-ghost use Rattle.trace_loop.specs.Progress.{printed, end_of, state_behind};
+ghost use Rattle.trace_loop.specs.Answered.{IsAnswered};
 ghost use Rattle.trace_text.specs.Lines.{taken, record_in, record_of_item};
 ghost use Rattle.reply_text.specs.Text.{refused_text};
 ghost use Rattle.trace_runner.specs.Ready.{Suits};
@@ -103,12 +102,8 @@ impl Check {
     ) -> Result<(), NoMemory>
         requires suits { Suits (Item.Next given.now) self.old.replay.board }
         requires open { end.old ≡ None }
-        ensures printed { OnOk result
-            (out.new.items ≡ out.old.items ++ printed (record_checked line given.now self.old)) }
-        ensures ends { OnOk result (end.new ≡ end_of (record_checked line given.now self.old)) }
-        ensures state { OnOk result (end.new ≡ None
-            → self.new ≡ state_behind (record_checked line given.now self.old) self.old) }
-        ensures err { OnErr result (StartsWith out.new.items out.old.items) }
+        ensures { IsAnswered (record_checked line given.now self.old) self.old self.new
+            out.old.items out.new.items end.new result }
     {
         if !self.is_full() && self.admits(given) {
             return self.keep(line, given);
@@ -128,12 +123,8 @@ impl Check {
     ) -> Result<(), NoMemory>
         requires suits { Suits (Item.Next given.now) self.old.replay.board }
         requires open { end.old ≡ None }
-        ensures printed { OnOk result
-            (out.new.items ≡ out.old.items ++ printed (record_checked line given.now self.old)) }
-        ensures ends { OnOk result (end.new ≡ end_of (record_checked line given.now self.old)) }
-        ensures state { OnOk result (end.new ≡ None
-            → self.new ≡ state_behind (record_checked line given.now self.old) self.old) }
-        ensures err { OnErr result (StartsWith out.new.items out.old.items) }
+        ensures { IsAnswered (record_checked line given.now self.old) self.old self.new
+            out.old.items out.new.items end.new result }
     {
         if self.is_full() {
             return many(line, out, end);
@@ -157,12 +148,8 @@ impl Check {
         requires few { self.old.taken ≤ 200000 }
         requires sound { IsSound self.old }
         requires open { end.old ≡ None }
-        ensures printed { OnOk result
-            (out.new.items ≡ out.old.items ++ printed (item_checked line item.now self.old)) }
-        ensures ends { OnOk result (end.new ≡ end_of (item_checked line item.now self.old)) }
-        ensures state { OnOk result (end.new ≡ None
-            → self.new ≡ state_behind (item_checked line item.now self.old) self.old) }
-        ensures err { OnErr result (StartsWith out.new.items out.old.items) }
+        ensures { IsAnswered (item_checked line item.now self.old) self.old self.new
+            out.old.items out.new.items end.new result }
     {
         match item {
             Item::Skipped | Item::Part => Ok(()),
@@ -214,13 +201,9 @@ impl Check {
         requires may { IsCheckReady line self.old }
         requires other { record_in (taken self.old.replay.reading text.now) ≡ None }
         requires open { end.old ≡ None }
-        ensures printed { OnOk result
-            (out.new.items ≡ out.old.items ++ printed (check_answer line self.old text.now)) }
-        ensures ends { OnOk result (end.new ≡ end_of (check_answer line self.old text.now)) }
-        ensures state { OnOk result (end.new ≡ None
-            → self.new ≡ state_behind (check_answer line self.old text.now) self.old) }
+        ensures answered { IsAnswered (check_answer line self.old text.now) self.old self.new
+            out.old.items out.new.items end.new result }
         ensures may { OnOk result (end.new ≡ None → IsCheckReady (line + 1) self.new) }
-        ensures err { OnErr result (StartsWith out.new.items out.old.items) }
     {
         match self.read_line(text) {
             Ok(item) => self.answer_item(line, &item, out, end),

@@ -3,12 +3,9 @@ ghost use Rattle.std.specs.Prelude.{
   ◌≡◌,
   ◌<◌,
   ◌||◌,
-  map,
-  slice_index_or,
   Some,
   None,
   is_some,
-  if◌then◌else◌,
   unwrap_or,
 };
 ghost use Rattle.trace_runner.specs.Deliveries.{
@@ -16,7 +13,6 @@ ghost use Rattle.trace_runner.specs.Deliveries.{
   any_route,
   by_default,
   filled,
-  six,
   deliveries_of,
 };
 

@@ -1,8 +1,7 @@
 //! The answers to saves and moves. Each begins with an access that lets time pass.
-ghost use Rattle.std.specs.Prelude.{◌≡◌, ◌++◌, ◌<◌, None, OnOk, OnErr};
-ghost use Rattle.std.specs.Io.{StartsWith};
+ghost use Rattle.std.specs.Prelude.{◌≡◌, ◌<◌, None};
 ghost use Rattle.clk_units.specs.Ranges.{IsKhz};
-ghost use Rattle.trace_loop.specs.Progress.{printed, end_of, state_behind};
+ghost use Rattle.trace_loop.specs.Answered.{IsAnswered};
 ghost use Rattle.race_phase.specs.Phases.{IsEnd};
 ghost use Rattle.trace_runner.specs.Records.{end_answer};
 ghost use Rattle.trace_runner.specs.Replay.{with_board};
@@ -25,16 +24,10 @@ impl Replay {
     ) -> Result<(), NoMemory>
         requires cpu { given.now.cpu < self.old.board.cpus }
         requires open { end.old ≡ None }
-        ensures printed { let by = end_answer (End.Save line given.now.cpu given.now.h)
-            self.old.deliveries self.old.board in OnOk result
-            (out.new.items ≡ out.old.items ++ printed (with_board by self.old)) }
-        ensures ends { let by = end_answer (End.Save line given.now.cpu given.now.h)
-            self.old.deliveries self.old.board in OnOk result
-            (end.new ≡ end_of (with_board by self.old)) }
-        ensures state { let by = end_answer (End.Save line given.now.cpu given.now.h)
-            self.old.deliveries self.old.board in OnOk result (end.new ≡ None
-            → self.new ≡ state_behind (with_board by self.old) self.old) }
-        ensures err { OnErr result (StartsWith out.new.items out.old.items) }
+        ensures { let by = end_answer (End.Save line given.now.cpu given.now.h)
+            self.old.deliveries self.old.board in
+            IsAnswered (with_board by self.old) self.old self.new
+            out.old.items out.new.items end.new result }
     {
         let ending = End::Save {
             line,
@@ -58,16 +51,10 @@ impl Replay {
         requires cpu { given.now.cpu < self.old.board.cpus }
         requires rate { IsKhz host.khz }
         requires open { end.old ≡ None }
-        ensures printed { let by = end_answer (End.Move line given.now.cpu given.now.h host)
-            self.old.deliveries self.old.board in OnOk result
-            (out.new.items ≡ out.old.items ++ printed (with_board by self.old)) }
-        ensures ends { let by = end_answer (End.Move line given.now.cpu given.now.h host)
-            self.old.deliveries self.old.board in OnOk result
-            (end.new ≡ end_of (with_board by self.old)) }
-        ensures state { let by = end_answer (End.Move line given.now.cpu given.now.h host)
-            self.old.deliveries self.old.board in OnOk result (end.new ≡ None
-            → self.new ≡ state_behind (with_board by self.old) self.old) }
-        ensures err { OnErr result (StartsWith out.new.items out.old.items) }
+        ensures { let by = end_answer (End.Move line given.now.cpu given.now.h host)
+            self.old.deliveries self.old.board in
+            IsAnswered (with_board by self.old) self.old self.new
+            out.old.items out.new.items end.new result }
     {
         let ending = End::Move {
             line,
@@ -87,13 +74,9 @@ impl Replay {
     ) -> Result<(), NoMemory>
         requires fits { IsEnd self.old.board.cpus ending.now }
         requires open { end.old ≡ None }
-        ensures printed { let by = end_answer ending.now self.old.deliveries self.old.board in
-            OnOk result (out.new.items ≡ out.old.items ++ printed (with_board by self.old)) }
-        ensures ends { let by = end_answer ending.now self.old.deliveries self.old.board in
-            OnOk result (end.new ≡ end_of (with_board by self.old)) }
-        ensures state { let by = end_answer ending.now self.old.deliveries self.old.board in
-            OnOk result (end.new ≡ None → self.new ≡ state_behind (with_board by self.old) self.old) }
-        ensures err { OnErr result (StartsWith out.new.items out.old.items) }
+        ensures { let by = end_answer ending.now self.old.deliveries self.old.board in
+            IsAnswered (with_board by self.old) self.old self.new
+            out.old.items out.new.items end.new result }
     {
         match end_phase(ending, self.board.state.state_mut(), &self.deliveries, out)? {
             None => Ok(()),

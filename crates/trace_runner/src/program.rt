@@ -19,7 +19,7 @@ ghost use Rattle.board_io.specs.Faults.{Rose};
 ghost use Rattle.command_line.specs.Command.{command_of, HasSize};
 ghost use Rattle.command_line.specs.declared.command.Command.TheVariants.{Replay as ReplayOf, Race as RaceOf};
 ghost use Rattle.trace_loop.specs.Text.{memory_fault_text};
-ghost use Rattle.trace_runner.specs.Said.{Said, SaidAtMost};
+ghost use Rattle.trace_runner.specs.Said.{PutsOnly, Said, SaidAtMost};
 ghost use Rattle.trace_runner.specs.Sayings.{
   Saying,
   reads_trace,
@@ -169,12 +169,7 @@ fn tell<K: Sink>(alloc: Global, command: Command, sink: &mut K) -> Status
     ensures said { (saying : Saying) → saying_of command ≡ Some saying
         → SaidAtMost saying.status result (K.output sink.old).contents (K.output sink.new).contents
         saying.text (Rose (K.output sink.old).faults (K.output sink.new).faults) }
-    ensures source { result ≢ Status.SourceFault }
-    ensures sink_fault { result ≡ Status.SinkFault
-        → Rose (K.output sink.old).faults (K.output sink.new).faults }
-    ensures sink_well { result ≢ Status.SinkFault → (K.output sink.new).faults ≡ (K.output sink.old).faults }
-    ensures sink_once { (K.output sink.old).done ≡ false → (K.output sink.old).late ≡ false
-        → (K.output sink.new).late ≡ false }
+    ensures puts { PutsOnly result (K.output sink.old) (K.output sink.new) }
 {
     match command {
         Command::Gen(size) => generate(size, sink),

@@ -1,7 +1,7 @@
 //! The job `race`: a trace whose processors run on threads of their own.
-ghost use Rattle.std.specs.Prelude.{◌≡◌, ◌≢◌, ℕ, ◌-◌, List, Some, None, false, take, [], IfOk};
+ghost use Rattle.std.specs.Prelude.{◌≡◌, ℕ, ◌-◌, List, Some, None, take, [], IfOk};
 ghost use Rattle.board_io.specs.Faults.{Rose};
-ghost use Rattle.trace_loop.specs.Text.{memory_fault_text};
+ghost use Rattle.trace_loop.specs.Outcome.{KeepsEnds};
 ghost use Rattle.trace_runner.specs.Check.{check_behind, check};
 ghost use Rattle.trace_runner.specs.FileText.{file_text};
 ghost use Rattle.trace_runner.specs.Race.{
@@ -12,7 +12,7 @@ ghost use Rattle.trace_runner.specs.Race.{
   check_run,
 };
 ghost use Rattle.trace_runner.specs.Replay.{replay};
-ghost use Rattle.trace_runner.specs.Said.{SaidAtMost};
+ghost use Rattle.trace_runner.specs.Said.{PutsOnly, SaidAtMost};
 ghost use Rattle.trace_runner.specs.Trace.{TraceRead};
 ghost use Rattle.trace_runner.specs.Status.{verdict_status};
 
@@ -55,17 +55,8 @@ pub(crate) fn race<R: Threads + Wait + Sync, S: Source, K: Sink, G: Gate + Sync>
     ensures stopped { (input : List ℕ) → (S.input source.old).remaining ≡ Some input
         → (check_behind shows_state
         (take ((S.input source.new).before - (S.input source.old).given) input)).end ≡ None }
-    ensures once { (S.input source.old).done ≡ false → (S.input source.old).late ≡ false
-        → (S.input source.new).late ≡ false }
-    ensures well { result ≢ Status.SourceFault → result ≢ Status.SinkFault
-        → (S.input source.new).faults ≡ (S.input source.old).faults }
-    ensures source_fault { result ≡ Status.SourceFault
-        → Rose (S.input source.old).faults (S.input source.new).faults }
-    ensures sink_fault { result ≡ Status.SinkFault
-        → Rose (K.output sink.old).faults (K.output sink.new).faults }
-    ensures sink_well { result ≢ Status.SinkFault → (K.output sink.new).faults ≡ (K.output sink.old).faults }
-    ensures sink_once { (K.output sink.old).done ≡ false → (K.output sink.old).late ≡ false
-        → (K.output sink.new).late ≡ false }
+    ensures ends { KeepsEnds Status.SourceFault Status.SinkFault result (S.input source.old)
+        (S.input source.new) (K.output sink.old) (K.output sink.new) }
 {
     let mut check = Checker::new(alloc, shows_state);
     match answer_lines(alloc, &mut check, source, sink) {
@@ -90,12 +81,7 @@ fn write<R: Threads + Wait + Sync, K: Sink, G: Gate + Sync>(
     ensures alone { trace.now.opening.cpus ≡ 1 → SaidAtMost Status.Ok result
         (K.output sink.old).contents (K.output sink.new).contents (file_text trace.now)
         (Rose (K.output sink.old).faults (K.output sink.new).faults) }
-    ensures source { result ≢ Status.SourceFault }
-    ensures sink_fault { result ≡ Status.SinkFault
-        → Rose (K.output sink.old).faults (K.output sink.new).faults }
-    ensures sink_well { result ≢ Status.SinkFault → (K.output sink.new).faults ≡ (K.output sink.old).faults }
-    ensures sink_once { (K.output sink.old).done ≡ false → (K.output sink.old).late ≡ false
-        → (K.output sink.new).late ≡ false }
+    ensures puts { PutsOnly result (K.output sink.old) (K.output sink.new) }
 {
     let _ = &trace.phases;
     match text_of(rt, alloc, gate, trace) {

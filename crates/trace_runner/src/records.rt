@@ -1,10 +1,9 @@
 //! The answers to records.
-ghost use Rattle.std.specs.Prelude.{◌≡◌, ◌++◌, ◌<◌, ◌≤◌, true, None, OnOk, OnErr};
-ghost use Rattle.std.specs.Io.{StartsWith};
+ghost use Rattle.std.specs.Prelude.{◌≡◌, ◌<◌, ◌≤◌, true, None};
 ghost use Rattle.board_types.specs.Legal.{is_legal};
 ghost use Rattle.board_types.specs.declared.setup.TheConstants.{HV_FORMAT};
 ghost use Rattle.trace_text.specs.declared.reading.Item.TheVariants.{Next};
-ghost use Rattle.trace_loop.specs.Progress.{printed, end_of, state_behind};
+ghost use Rattle.trace_loop.specs.Answered.{IsAnswered};
 ghost use Rattle.trace_runner.specs.Records.{
   board_answer,
   page_answer,
@@ -35,12 +34,8 @@ impl Replay {
     ) -> Result<(), NoMemory>
         requires suits { Suits (Next given.now) self.old.board }
         requires open { end.old ≡ None }
-        ensures printed { OnOk result
-            (out.new.items ≡ out.old.items ++ printed (record_answer line given.now self.old)) }
-        ensures ends { OnOk result (end.new ≡ end_of (record_answer line given.now self.old)) }
-        ensures state { OnOk result (end.new ≡ None
-            → self.new ≡ state_behind (record_answer line given.now self.old) self.old) }
-        ensures err { OnErr result (StartsWith out.new.items out.old.items) }
+        ensures { IsAnswered (record_answer line given.now self.old) self.old self.new
+            out.old.items out.new.items end.new result }
     {
         if let Job::Ask(Call::Act { access }) = given.job {
             return self.answer_access(line, given, access, out, end);
@@ -60,12 +55,8 @@ impl Replay {
     ) -> Result<(), NoMemory>
         requires suits { Suits (Next given.now) self.old.board }
         requires open { end.old ≡ None }
-        ensures printed { OnOk result
-            (out.new.items ≡ out.old.items ++ printed (record_answer line given.now self.old)) }
-        ensures ends { OnOk result (end.new ≡ end_of (record_answer line given.now self.old)) }
-        ensures state { OnOk result (end.new ≡ None
-            → self.new ≡ state_behind (record_answer line given.now self.old) self.old) }
-        ensures err { OnErr result (StartsWith out.new.items out.old.items) }
+        ensures { IsAnswered (record_answer line given.now self.old) self.old self.new
+            out.old.items out.new.items end.new result }
     {
         match given.job {
             Job::Ask(Call::Act { access }) => self.answer_access(line, given, access, out, end),
@@ -92,16 +83,10 @@ impl Replay {
         requires cpu { given.now.cpu < self.old.board.cpus }
         requires legal { is_legal self.old.board.cpus self.old.board.format access ≡ true }
         requires open { end.old ≡ None }
-        ensures printed { let by = board_answer line given.now.cpu given.now.h access
-            self.old.deliveries self.old.board in OnOk result
-            (out.new.items ≡ out.old.items ++ printed (with_board by self.old)) }
-        ensures ends { let by = board_answer line given.now.cpu given.now.h access
-            self.old.deliveries self.old.board in OnOk result
-            (end.new ≡ end_of (with_board by self.old)) }
-        ensures state { let by = board_answer line given.now.cpu given.now.h access
-            self.old.deliveries self.old.board in OnOk result (end.new ≡ None
-            → self.new ≡ state_behind (with_board by self.old) self.old) }
-        ensures err { OnErr result (StartsWith out.new.items out.old.items) }
+        ensures { let by = board_answer line given.now.cpu given.now.h access
+            self.old.deliveries self.old.board in
+            IsAnswered (with_board by self.old) self.old self.new
+            out.old.items out.new.items end.new result }
     {
         let board = &mut self.board;
         let reply = &mut board.reply;
@@ -130,13 +115,8 @@ impl Replay {
     ) -> Result<(), NoMemory>
         requires page { page < self.old.board.cpus }
         requires open { end.old ≡ None }
-        ensures printed { OnOk result (out.new.items ≡ out.old.items
-            ++ printed (with_board (page_answer line page h self.old.board) self.old)) }
-        ensures ends { OnOk result
-            (end.new ≡ end_of (with_board (page_answer line page h self.old.board) self.old)) }
-        ensures state { OnOk result (end.new ≡ None → self.new
-            ≡ state_behind (with_board (page_answer line page h self.old.board) self.old) self.old) }
-        ensures err { OnErr result (StartsWith out.new.items out.old.items) }
+        ensures { IsAnswered (with_board (page_answer line page h self.old.board) self.old)
+            self.old self.new out.old.items out.new.items end.new result }
     {
         let board = &self.board;
         match board.state.page_of(page, h) {
@@ -160,13 +140,8 @@ impl Replay {
     ) -> Result<(), NoMemory>
         requires page { page < self.old.board.cpus }
         requires open { end.old ≡ None }
-        ensures printed { OnOk result (out.new.items ≡ out.old.items
-            ++ printed (with_board (clock_answer line page h self.old.board) self.old)) }
-        ensures ends { OnOk result
-            (end.new ≡ end_of (with_board (clock_answer line page h self.old.board) self.old)) }
-        ensures state { OnOk result (end.new ≡ None → self.new
-            ≡ state_behind (with_board (clock_answer line page h self.old.board) self.old) self.old) }
-        ensures err { OnErr result (StartsWith out.new.items out.old.items) }
+        ensures { IsAnswered (with_board (clock_answer line page h self.old.board) self.old)
+            self.old self.new out.old.items out.new.items end.new result }
     {
         let board = &mut self.board;
         match board.state.clock_of(page, h) {
@@ -189,13 +164,8 @@ impl Replay {
     ) -> Result<(), NoMemory>
         requires format { HV_FORMAT ≤ self.old.board.format }
         requires open { end.old ≡ None }
-        ensures printed { OnOk result (out.new.items ≡ out.old.items
-            ++ printed (with_board (hv_answer line h self.old.board) self.old)) }
-        ensures ends { OnOk result
-            (end.new ≡ end_of (with_board (hv_answer line h self.old.board) self.old)) }
-        ensures state { OnOk result (end.new ≡ None → self.new
-            ≡ state_behind (with_board (hv_answer line h self.old.board) self.old) self.old) }
-        ensures err { OnErr result (StartsWith out.new.items out.old.items) }
+        ensures { IsAnswered (with_board (hv_answer line h self.old.board) self.old)
+            self.old self.new out.old.items out.new.items end.new result }
     {
         let board = &self.board;
         match board.state.hv_of(h) {

@@ -2,8 +2,7 @@
 ghost use Rattle.std.specs.Prelude.{◌≡◌, ◌<◌, ◌+◌, ◌^◌, ◌++◌, Ok, None, Some, OnOk, OnErr};
 ghost use Rattle.trace_text.specs.Header.{board_of};
 ghost use Rattle.std.specs.Io.{StartsWith};
-ghost use Rattle.trace_loop.specs.Progress.{printed, end_of, state_behind};
-ghost use Rattle.trace_text.specs.Lines.{at_start as reading_at_start};
+ghost use Rattle.trace_loop.specs.Answered.{IsAnswered};
 ghost use Rattle.trace_runner.specs.Deliveries.{deliveries_of};
 ghost use Rattle.trace_runner.specs.Replay.{answer_of, item_answer, opening, no_routes, ended};
 ghost use Rattle.trace_runner.specs.Ready.{IsReady, Suits};
@@ -90,12 +89,8 @@ impl Replay {
     ) -> Result<(), NoMemory>
         requires suits { Suits item.now self.old.board }
         requires open { end.old ≡ None }
-        ensures printed { OnOk result
-            (out.new.items ≡ out.old.items ++ printed (item_answer line item.now self.old)) }
-        ensures ends { OnOk result (end.new ≡ end_of (item_answer line item.now self.old)) }
-        ensures state { OnOk result (end.new ≡ None
-            → self.new ≡ state_behind (item_answer line item.now self.old) self.old) }
-        ensures err { OnErr result (StartsWith out.new.items out.old.items) }
+        ensures { IsAnswered (item_answer line item.now self.old) self.old self.new
+            out.old.items out.new.items end.new result }
     {
         match item {
             Item::Skipped | Item::Part => Ok(()),
@@ -129,13 +124,9 @@ impl Replay {
         requires room { line < 2 ^ 63 }
         requires may { IsReady line self.old }
         requires open { end.old ≡ None }
-        ensures printed { OnOk result
-            (out.new.items ≡ out.old.items ++ printed (answer_of line self.old text.now)) }
-        ensures ends { OnOk result (end.new ≡ end_of (answer_of line self.old text.now)) }
-        ensures state { OnOk result (end.new ≡ None
-            → self.new ≡ state_behind (answer_of line self.old text.now) self.old) }
+        ensures answered { IsAnswered (answer_of line self.old text.now) self.old self.new
+            out.old.items out.new.items end.new result }
         ensures may { OnOk result (end.new ≡ None → IsReady (line + 1) self.new) }
-        ensures err { OnErr result (StartsWith out.new.items out.old.items) }
     {
         match self.reading.take_line(text) {
             Ok(item) => self.answer_item(line, &item, out, end),

@@ -1,8 +1,9 @@
 //! A generated trace that is replayed, of which only a sum is printed.
-ghost use Rattle.std.specs.Prelude.{◌≡◌, ◌≢◌, ◌<◌, ◌≤◌, ◌++◌, false, take, drop, vec_len, OnOk};
+ghost use Rattle.std.specs.Prelude.{◌≡◌, ◌<◌, ◌≤◌, ◌++◌, take, drop, vec_len, OnOk};
 ghost use Rattle.std.specs.Prelude.{OnErr};
 ghost use Rattle.board_io.specs.Faults.{Rose};
 ghost use Rattle.command_line.specs.Command.{IsSize};
+ghost use Rattle.trace_loop.specs.Outcome.{KeepsSink};
 ghost use Rattle.trace_runner.specs.Soak.{soak_of, is_edge, edges_in, Soaked};
 
 use crate::replay::Replay;
@@ -42,9 +43,7 @@ pub(crate) fn run_soak<K: Sink>(alloc: Global, size: Size, sink: &mut K) -> Stat
     requires { IsSize size }
     ensures said { Soaked (soak_of size) result (K.output sink.old).contents (K.output sink.new).contents
         (Rose (K.output sink.old).faults (K.output sink.new).faults) }
-    ensures sink_well { result ≢ Status.SinkFault → (K.output sink.new).faults ≡ (K.output sink.old).faults }
-    ensures sink_once { (K.output sink.old).done ≡ false → (K.output sink.old).late ≡ false
-        → (K.output sink.new).late ≡ false }
+    ensures sink { KeepsSink Status.SinkFault result (K.output sink.old) (K.output sink.new) }
 {
     let mut source = GenSource::new(size.key, size.records, size.cpus as u8);
     let mut soak = Soak {

@@ -5,8 +5,7 @@ ghost use Rattle.trace_runner.specs.Text.{help_text};
 use command_line::Page;
 
 /// How it is called.
-pub const USAGE: &[u8] =
-    b"usage: clockboard replay|race [--state] | gen|soak KEY RECORDS CPUS\n";
+pub const USAGE: &[u8] = b"usage: clockboard replay|race [--state] | gen|soak KEY RECORDS CPUS\n";
 
 /// Its version.
 pub const VERSION: &[u8] = b"clockboard 0.1.0\n";

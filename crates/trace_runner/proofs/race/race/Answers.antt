@@ -19,7 +19,7 @@ returns-in-By-Whole-clause-leaves g c = λ input e.
     let mid = (g.K.Sink.output c.answer_lines.new.sink).contents in
     let o = checked_run c.args.shows_state input start end c.new-check.result c.answer_lines.result old mid c.new-check.ensures
     (c.answer_lines.ensures.outcome input e) in
-    let same : (g.K.Sink.output c.answer_lines.new.sink).faults ≡ (g.K.Sink.output c.args.sink.now).faults = c.answer_lines.ensures.sink_well (λ no. cc) in
+    let same : (g.K.Sink.output c.answer_lines.new.sink).faults ≡ (g.K.Sink.output c.args.sink.now).faults = c.answer_lines.ensures.ends.sink.well (λ no. cc) in
     whole_left w c.in-By-Whole.trace c.write.result old mid (g.K.Sink.output c.write.new.sink).contents _ _ (silent_whole c.args.shows_state input
     c.in-By-Whole.trace)
     (λ rose. subst (λ (n : ℕ). Rose n (g.K.Sink.output c.write.new.sink).faults) same rose)
@@ -109,7 +109,7 @@ returns-in-By-Whole-clause-alone g c = λ input e trace is one.
     let mid = (g.K.Sink.output c.answer_lines.new.sink).contents in
     let o = checked_run c.args.shows_state input start end c.new-check.result c.answer_lines.result old mid c.new-check.ensures
     (c.answer_lines.ensures.outcome input e) in
-    let same : (g.K.Sink.output c.answer_lines.new.sink).faults ≡ (g.K.Sink.output c.args.sink.now).faults = c.answer_lines.ensures.sink_well (λ no. cc) in
+    let same : (g.K.Sink.output c.answer_lines.new.sink).faults ≡ (g.K.Sink.output c.args.sink.now).faults = c.answer_lines.ensures.ends.sink.well (λ no. cc) in
     alone_left w c.args.shows_state input c.in-By-Whole.trace trace c.write.result old mid (g.K.Sink.output c.write.new.sink).contents _ _
     (silent_whole c.args.shows_state input c.in-By-Whole.trace) refl
     (λ rose. subst (λ (n : ℕ). Rose n (g.K.Sink.output c.write.new.sink).faults) same rose)

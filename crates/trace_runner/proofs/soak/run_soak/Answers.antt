@@ -24,7 +24,7 @@ returns-clause-said g c =
     let shown : Type 0 = Rose (g.K.Sink.output c.args.sink.now).faults (g.K.Sink.output c.answer_lines.new.sink).faults in
     let is = soaked_is w c.answer_lines.result (g.K.Sink.output c.args.sink.now).contents (g.K.Sink.output c.answer_lines.new.sink).contents shown
     (λ k. quiet-behind (take k text) (opened start) (λ _. refl)) (λ rose. elim rose [ inl some ↦ omega arith | inr last ↦ omega arith ])
-    c.answer_lines.ensures.sink_fault (c.answer_lines.ensures.outcome text (ap (λ (f : Feed). Some f.left) c.new-source.ensures)) in
+    c.answer_lines.ensures.ends.sink_fault (c.answer_lines.ensures.outcome text (ap (λ (f : Feed). Some f.left) c.new-source.ensures)) in
     subst (λ (s : Status). Soaked (soak_of c.args.size) s (g.K.Sink.output c.args.sink.now).contents (g.K.Sink.output c.answer_lines.new.sink).contents shown)
     (sym c.status_of.ensures)
     (subst (λ (r : Replay). Soaked (soak_from r c.args.size.records text) (status_of c.answer_lines.result) (g.K.Sink.output c.args.sink.now).contents

@@ -1,4 +1,6 @@
-use Rattle.std.proofs.Common.{◌≡◌, ℕ, List, [], ◌++◌, OnOk, ap, sym, subst, ◌∙◌}
+use Rattle.std.proofs.Common.{rules, ◌≡◌, ℕ, List, [], ◌++◌, OnOk, ap, sym, subst, ◌∙◌}
+use Rattle.std.proofs.Math.Seq.{take-length}
+use Rattle.std.proofs.lemmas.Result.{on_err_weaker}
 use Rattle.irq_edges.specs.declared.edges.Edge.{Edge}
 use Rattle.irq_edges.specs.declared.bursts.Burst.{Burst}
 use Rattle.board_types.specs.declared.parts.BoardParts.{BoardParts}
@@ -20,17 +22,22 @@ quiet ds line reply edges bursts =
     ap (λ (es : List Edge). edges_text ds es ++ messages_text ds reply.bursts ++ board_text line reply) edges
     ∙ ap (λ (bs : List Burst). messages_text ds bs ++ board_text line reply) bursts
 
-pub returns-then-is_empty-2-clause-printed : goal.returns-then-is_empty-2-clause-printed
-returns-then-is_empty-2-clause-printed c =
+pub returns-then-is_empty-2 : goal.returns-then-is_empty-2
+returns-then-is_empty-2 c =
     let cpu : ℕ = c.args.given.now.cpu in
     let h : ℕ = c.args.given.now.h in
     let ds : Deliveries = c.args.self.now.deliveries in
     let out : List ℕ = c.args.out.now.items in
     let reply : Reply = c.answer.new.reply in
-    subst (λ (x : BoardParts). OnOk c.board_line.result (c.board_line.new.out.items
+    let printed_now = subst (λ (x : BoardParts). OnOk c.board_line.result (c.board_line.new.out.items
     ≡ out ++ printed (with_board (board_answer c.args.line cpu h c.args.access ds x) c.args.self.now))) c.board.view_is
     (subst (λ (t : List ℕ). OnOk c.board_line.result (c.board_line.new.out.items ≡ t))
     (ap (λ (t : List ℕ). out ++ t) (sym (quiet ds c.args.line reply (c.is_empty.ensures.0 c.if-is_empty.true)
     (c.is_empty-then-is_empty.ensures.0 c.if-is_empty-2.true)))
     ∙ access-printed c.args.line cpu h c.args.access ds c.board.inside.state c.args.self.now reply out c.in-Ok.ensures.taken c.in-Ok.ensures.reply)
-    c.board_line.ensures.ok)
+    c.board_line.ensures.ok) in record {
+      printed = printed_now;
+      ends = search rules;
+      state = search rules;
+      err = on_err_weaker c.board_line.result (λ e. rw e (take-length out)) c.board_line.ensures.err;
+    }
