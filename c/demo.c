@@ -32,7 +32,7 @@ static void same_interface(void) {
 }
 
 /* The setup to begin with is that of a blank board; an answer has a text. */
-static void names(const struct clockboard *blank) {
+static void names(struct clockboard *blank) {
     static uint8_t bytes[CLOCKBOARD_STATE_MAX], again[CLOCKBOARD_STATE_MAX];
     struct clockboard_setup setup = CLOCKBOARD_SETUP_INIT;
     struct clockboard_reply reply;
@@ -108,7 +108,7 @@ static void no_board(void) {
 }
 
 /* A saved state gives the board back; one with a byte changed is refused, and its place told. */
-static void saved(const struct clockboard *board) {
+static void saved(struct clockboard *board) {
     static uint8_t bytes[CLOCKBOARD_STATE_MAX], again[CLOCKBOARD_STATE_MAX];
     struct clockboard_reply reply;
     struct clockboard loaded;

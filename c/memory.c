@@ -54,7 +54,7 @@ static int untouched(void) {
 }
 
 /* A save of a board whose state has this length. */
-static void saved(const struct clockboard *board, size_t wanted) {
+static void saved(struct clockboard *board, size_t wanted) {
     static uint8_t bytes[CLOCKBOARD_STATE_MAX];
     size_t length = 0;
     memset(&memory, 0, sizeof memory);

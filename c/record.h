@@ -32,7 +32,7 @@ struct clockboard_record {
 };
 
 /* Begins a trace with this board. Answers a code, as clockboard_save does. That writes to the file fail is for ferror. */
-static inline uint32_t clockboard_record_begin(struct clockboard_record *record, FILE *file, const struct clockboard *board) {
+static inline uint32_t clockboard_record_begin(struct clockboard_record *record, FILE *file, struct clockboard *board) {
     uint8_t bytes[CLOCKBOARD_STATE_MAX];
     size_t length = 0;
     uint32_t answer = clockboard_save(board, bytes, sizeof bytes, &length);

@@ -23,7 +23,7 @@ use Rattle.clockboard_c.specs.Shared.{last_count, open_code, opened, hv_reading_
 use Rattle.clockboard_c.specs.States.{save_code}
 use Rattle.clockboard_c.specs.Calendar.{setup_at, setup_at_code}
 use Rattle.clockboard_c.specs.Look.{lines_word}
-use Rattle.clockboard_c.specs.Replies.{value_words, burst_at}
+use Rattle.clockboard_c.specs.Replies.{value_words, burst_words}
 use Rattle.clockboard_c.specs.Setup.{setup_valid}
 use Rattle.clockboard_c.specs.Timer.{count_of}
 
@@ -90,7 +90,7 @@ three = record {
   «data» = 0x31;
 }
 
-the_burst_in_its_place : burst_at (three ∷ []) 0 ≡ record {
+the_burst_as_numbers : burst_words three ≡ record {
   first_ns = 1000;
   count = 3;
   every_ns = 1000;
@@ -100,18 +100,7 @@ the_burst_in_its_place : burst_at (three ∷ []) 0 ≡ record {
   reserved = 0;
 }
 unfolding three
-the_burst_in_its_place = refl
-
-zeros_after_it : burst_at (three ∷ []) 1 ≡ record {
-  first_ns = 0;
-  count = 0;
-  every_ns = 0;
-  address = 0;
-  «data» = 0;
-  timer = 0;
-  reserved = 0;
-}
-zeros_after_it = refl
+the_burst_as_numbers = refl
 
 -- a setup in range
 plain : SetupWords

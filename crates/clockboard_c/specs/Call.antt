@@ -35,7 +35,7 @@ use Rattle.board_core.specs.Access.{edges_of, reply_of, after_access}
 use Rattle.board_core.specs.Hv.{publishes_hv}
 use Rattle.board_core.specs.Pages.{published_by}
 use Rattle.board_core.specs.Refusals.{refusal_of}
-use Rattle.clockboard_c.specs.declared.board.Board.{Board}
+use Rattle.clockboard_c.specs.Kept.{CallerBoard}
 use Rattle.clockboard_c.specs.declared.board.TheConstants.{SEAL}
 use Rattle.clockboard_c.specs.declared.code.TheConstants.{
   NO_BOARD,
@@ -48,7 +48,7 @@ use Rattle.clockboard_c.specs.Codes.{code_of}
 use Rattle.clockboard_c.specs.Replies.{Told, refused, told_of}
 
 -- a board that a call has made
-abbrev pub sealed : BoardParts → Board
+abbrev pub sealed : BoardParts → CallerBoard
 sealed state = record { seal = SEAL; shared = false; known = false; state = state }
 
 -- whether a page of a processor is published
@@ -68,14 +68,14 @@ access_code s cpu a =
 
 -- why an access isn't handed to the board, the causes in this order: the memory isn't sealed; the
 -- access publishes a page that threads share; the board has no such processor; it takes no such access
-abbrev pub early_code : Board → ℕ → Access → Option ℕ
+abbrev pub early_code : CallerBoard → ℕ → Access → Option ℕ
 early_code b cpu a =
     if b.seal == SEAL then
     (if b.shared && publishes cpu a then Some SHARED else access_code b.state cpu a)
     else Some NO_BOARD
 
 -- .. and where the caller puts that page's words for the threads
-abbrev pub shared_code : Board → ℕ → Access → Option ℕ
+abbrev pub shared_code : CallerBoard → ℕ → Access → Option ℕ
 shared_code b cpu a =
     if b.seal == SEAL then (if b.shared then access_code b.state cpu a else Some NOT_SHARED)
     else Some NO_BOARD
@@ -101,10 +101,10 @@ abbrev pub told_or : Option ℕ → BoardParts → ℕ → ℕ → Access → To
 told_or (Some code) s cpu h a = refused code
 told_or None s cpu h a = told_by s cpu h a
 
-abbrev pub told : Board → ℕ → ℕ → Access → Told
+abbrev pub told : CallerBoard → ℕ → ℕ → Access → Told
 told b cpu h a = told_or (early_code b cpu a) b.state cpu h a
 
-abbrev pub shared_told : Board → ℕ → ℕ → Access → Told
+abbrev pub shared_told : CallerBoard → ℕ → ℕ → Access → Told
 shared_told b cpu h a = told_or (shared_code b cpu a) b.state cpu h a
 
 -- an access that asks the devices to do nothing, or only reads the HPET
@@ -129,20 +129,20 @@ abbrev pub keeps_next : BoardParts → ℕ → ℕ → Access → Bool
 keeps_next s cpu h a = keeps_unless (refusal_of s cpu h a) s h a
 
 -- the board behind it: as it was, or as the access leaves it
-abbrev pub answered : Board → ℕ → ℕ → Access → Board
+abbrev pub answered : CallerBoard → ℕ → ℕ → Access → CallerBoard
 answered b cpu h a = record b {
   known = b.known && keeps_next b.state cpu h a;
   state = state_behind b.state cpu h a;
 }
 
-abbrev pub behind_or : Option ℕ → Board → ℕ → ℕ → Access → Board
+abbrev pub behind_or : Option ℕ → CallerBoard → ℕ → ℕ → Access → CallerBoard
 behind_or (Some code) b cpu h a = b
 behind_or None b cpu h a = answered b cpu h a
 
-abbrev pub behind : Board → ℕ → ℕ → Access → Board
+abbrev pub behind : CallerBoard → ℕ → ℕ → Access → CallerBoard
 behind b cpu h a = behind_or (early_code b cpu a) b cpu h a
 
-abbrev pub shared_behind : Board → ℕ → ℕ → Access → Board
+abbrev pub shared_behind : CallerBoard → ℕ → ℕ → Access → CallerBoard
 shared_behind b cpu h a = behind_or (shared_code b cpu a) b cpu h a
 
 -- the source of ticks of a number: the 8254, the MC146818, from 2 on the timers of the HPET, and from

@@ -8,7 +8,7 @@ use Rattle.board_types.specs.declared.parts.BoardParts.{BoardParts}
 use Rattle.board_types.specs.declared.setup.TheConstants.{HV_FORMAT}
 use Rattle.board_core.specs.Hv.{hv_in, hv_reply}
 use Rattle.board_core.specs.Time.{now_of}
-use Rattle.clockboard_c.specs.declared.board.Board.{Board}
+use Rattle.clockboard_c.specs.Kept.{CallerBoard}
 use Rattle.clockboard_c.specs.declared.board.TheConstants.{SEAL}
 use Rattle.clockboard_c.specs.declared.code.TheConstants.{OK, NO_BOARD, NOT_OURS, PAGE_OFF}
 use Rattle.clockboard_c.specs.declared.hv.HvWords.{HvWords}
@@ -26,13 +26,13 @@ hv_words s = record {
 }
 
 -- the code of a question about the page, which a board has from format 4 on
-abbrev pub hv_code : Board → ℕ
+abbrev pub hv_code : CallerBoard → ℕ
 hv_code b =
     if b.seal == SEAL then (if nat_lt b.state.format HV_FORMAT then NOT_OURS else OK)
     else NO_BOARD
 
 -- the page, or what the memory held before
-abbrev pub hv_in_memory : Board → HvWords → HvWords
+abbrev pub hv_in_memory : CallerBoard → HvWords → HvWords
 hv_in_memory b before = if hv_code b == OK then hv_words b.state else before
 
 -- what a read of the page tells: the time that it gives
@@ -45,5 +45,5 @@ abbrev pub hv_time_by : BoardParts → ℕ → Told
 hv_time_by s h = in_time s h (hv_time_in (hv_reply s h) (now_of s))
 
 -- what the call tells
-abbrev pub hv_time_told : Board → ℕ → Told
+abbrev pub hv_time_told : CallerBoard → ℕ → Told
 hv_time_told b h = if hv_code b == OK then hv_time_by b.state h else refused (hv_code b)

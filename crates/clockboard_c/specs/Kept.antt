@@ -1,8 +1,10 @@
--- What the caller's memory of a board holds, and the next edge that is kept in it.
+-- A board as its caller has it, how the caller's memory holds it, and the next edge that is kept there.
 use Rattle.std.specs.Prelude.{ℕ, Bool, true, false, if◌then◌else◌, Option, Some, None}
 use Rattle.board_types.specs.declared.parts.BoardParts.{BoardParts}
 use Rattle.board_core.specs.Time.{devices_in, now_of}
 use Rattle.board_core.specs.Next.{next_of}
+use Rattle.board_core.specs.declared.lag.Lag.{Lag}
+use Rattle.board_core.specs.Lazy.{caught_up}
 use Rattle.clockboard_c.specs.declared.code.TheConstants.{OK, NO_EDGE}
 use Rattle.clockboard_c.specs.declared.board.KeptEdge.{KeptEdge}
 
@@ -12,6 +14,23 @@ pub record CallerBoard : Type 0 where
   pub shared : Bool
   pub known : Bool
   pub state : BoardParts
+
+-- how that memory holds it: the devices of the board may lag
+pub record LaggingBoard : Type 0 where
+  pub seal : ℕ
+  pub shared : Bool
+  pub known : Bool
+  pub lag : Lag
+  pub state : BoardParts
+
+-- the board that it is for its caller
+abbrev pub seen : LaggingBoard → CallerBoard
+seen b = record {
+  seal = b.seal;
+  shared = b.shared;
+  known = b.known;
+  state = caught_up b.state b.lag;
+}
 
 -- the number in some memory after a call that has one to tell or not
 abbrev pub number_or_0 : Option ℕ → ℕ

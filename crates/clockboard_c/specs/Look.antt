@@ -17,7 +17,7 @@ use Rattle.board_types.specs.declared.parts.BoardParts.{BoardParts}
 use Rattle.board_devices.specs.Lines.{levels}
 use Rattle.board_core.specs.Time.{devices_in, now_of}
 use Rattle.board_core.specs.Tsc.{processor_at}
-use Rattle.clockboard_c.specs.declared.board.Board.{Board}
+use Rattle.clockboard_c.specs.Kept.{CallerBoard}
 use Rattle.clockboard_c.specs.declared.board.TheConstants.{SEAL}
 use Rattle.clockboard_c.specs.declared.code.TheConstants.{OK, NO_BOARD, NO_PROCESSOR}
 use Rattle.clockboard_c.specs.declared.look.ViewWords.{ViewWords}
@@ -45,11 +45,11 @@ view_words s = record {
 }
 
 -- the view, or what the memory held before
-abbrev pub view_in_memory : Board → ViewWords → ViewWords
+abbrev pub view_in_memory : CallerBoard → ViewWords → ViewWords
 view_in_memory b before = if b.seal == SEAL then view_words b.state else before
 
 -- the code of a question about a processor
-abbrev pub processor_code : Board → ℕ → ℕ
+abbrev pub processor_code : CallerBoard → ℕ → ℕ
 processor_code b cpu =
     if b.seal == SEAL then (if nat_lt cpu b.state.cpus then OK else NO_PROCESSOR) else NO_BOARD
 
@@ -62,6 +62,6 @@ tsc_words s cpu = record {
 }
 
 -- these numbers, or what the memory held before
-abbrev pub tsc_in_memory : Board → ℕ → TscWords → TscWords
+abbrev pub tsc_in_memory : CallerBoard → ℕ → TscWords → TscWords
 tsc_in_memory b cpu before =
     if processor_code b cpu == OK then tsc_words b.state cpu else before

@@ -9,7 +9,7 @@ use Rattle.board_types.specs.declared.parts.BoardParts.{BoardParts}
 use Rattle.board_core.specs.Time.{now_of, time_fault}
 use Rattle.board_core.specs.Tsc.{processor_at}
 use Rattle.board_core.specs.Pages.{page_in, clock_reply, after_clock}
-use Rattle.clockboard_c.specs.declared.board.Board.{Board}
+use Rattle.clockboard_c.specs.Kept.{CallerBoard}
 use Rattle.clockboard_c.specs.declared.board.TheConstants.{SEAL}
 use Rattle.clockboard_c.specs.declared.code.TheConstants.{OK, PAGE_OFF, SHARED}
 use Rattle.clockboard_c.specs.declared.pages.PageWords.{PageWords}
@@ -28,7 +28,7 @@ page_words s cpu = record {
 }
 
 -- the page, or what the memory held before
-abbrev pub page_behind : Board → ℕ → PageWords → PageWords
+abbrev pub page_behind : CallerBoard → ℕ → PageWords → PageWords
 page_behind b cpu before = if processor_code b cpu == OK then page_words b.state cpu else before
 
 -- what a clock tells: its reading, clamped, and that of the page
@@ -50,15 +50,15 @@ state_behind_clock s cpu h = if is_none (time_fault s.anchor h) then after_clock
 
 -- the code of a question about the clock of a processor, whose greatest reading the board doesn't
 -- know while threads share its pages
-abbrev pub clock_code : Board → ℕ → ℕ
+abbrev pub clock_code : CallerBoard → ℕ → ℕ
 clock_code b cpu =
     if b.seal == SEAL && b.shared then SHARED else processor_code b cpu
 
 -- what the call tells, and the board behind it
-abbrev pub clock_told : Board → ℕ → ℕ → Told
+abbrev pub clock_told : CallerBoard → ℕ → ℕ → Told
 clock_told b cpu h =
     if clock_code b cpu == OK then clock_by b.state cpu h else refused (clock_code b cpu)
 
-abbrev pub behind_clock : Board → ℕ → ℕ → Board
+abbrev pub behind_clock : CallerBoard → ℕ → ℕ → CallerBoard
 behind_clock b cpu h =
     if clock_code b cpu == OK then record b { state = state_behind_clock b.state cpu h } else b

@@ -45,16 +45,20 @@ pub record Told : Type 0 where
 abbrev pub no_value : List ℕ
 no_value = 0 ∷ 0 ∷ 0 ∷ 0 ∷ []
 
--- a call that is refused, and with it four numbers
-abbrev pub refused_at : ℕ → List ℕ → Told
-refused_at code value = record {
+-- a call that brings neither an edge nor a message
+abbrev pub without_edges : ℕ → ℕ → ℕ → List ℕ → Told
+without_edges code number now value = record {
   code = code;
-  number = 0;
-  now = 0;
+  number = number;
+  now = now;
   value = value;
   edges = [];
   bursts = [];
 }
+
+-- a call that is refused, and with it four numbers
+abbrev pub refused_at : ℕ → List ℕ → Told
+refused_at code value = without_edges code 0 0 value
 
 abbrev pub refused : ℕ → Told
 refused code = refused_at code no_value
@@ -99,34 +103,32 @@ EdgesAre places es =
     → slice_index_or places k (edge_words no_edge) ≡ edge_words (slice_index_or es k no_edge)
 
 -- the places from one on hold what they held
-abbrev pub AreKept : ℕ → List EdgeWords → List EdgeWords → Type 0
-AreKept from old new =
-    (k : ℕ) → from ≤ k
-    → slice_index_or new k (edge_words no_edge) ≡ slice_index_or old k (edge_words no_edge)
+abbrev pub AreKept : {W : Type 0} → W → ℕ → List W → List W → Type 0
+AreKept none from old new =
+    (k : ℕ) → from ≤ k → slice_index_or new k none ≡ slice_index_or old k none
 
--- what a place without a burst is made of
-abbrev pub no_burst : Burst
-no_burst = record { timer = 0; first = 0; count = 0; every = 0; address = 0; «data» = 0 }
-
--- the burst of a place; 0 where there is none
-abbrev pub burst_at : List Burst → ℕ → BurstWords
-burst_at bs place = record {
-  first_ns = (slice_index_or bs place no_burst).first;
-  count = (slice_index_or bs place no_burst).count;
-  every_ns = (slice_index_or bs place no_burst).every;
-  address = (slice_index_or bs place no_burst).address;
-  «data» = (slice_index_or bs place no_burst).data;
-  timer = (slice_index_or bs place no_burst).timer;
+-- a burst of messages, and what stands for the place of none
+abbrev pub burst_words : Burst → BurstWords
+burst_words b = record {
+  first_ns = b.first;
+  count = b.count;
+  every_ns = b.every;
+  address = b.address;
+  «data» = b.data;
+  timer = b.timer;
   reserved = 0;
 }
 
--- the eight places
-abbrev pub burst_places : List Burst → List BurstWords
-burst_places bs =
-    burst_at bs 0 ∷ burst_at bs 1 ∷ burst_at bs 2 ∷ burst_at bs 3 ∷ burst_at bs 4
-    ∷ burst_at bs 5 ∷ burst_at bs 6 ∷ burst_at bs 7 ∷ []
+abbrev pub no_burst : Burst
+no_burst = record { timer = 0; first = 0; count = 0; every = 0; address = 0; «data» = 0 }
 
--- a reply says what a call tells, and its places after the edges are as they were
+-- the bursts stand at the front of the places
+abbrev pub BurstsAre : List BurstWords → List Burst → Type 0
+BurstsAre places bs =
+    (k : ℕ) → k < length bs
+    → slice_index_or places k (burst_words no_burst) ≡ burst_words (slice_index_or bs k no_burst)
+
+-- a reply says what a call tells, and its places after the edges and after the bursts are as they were
 pub record IsReply (old r : ReplyWords) (t : Told) : Type 0 where
   pub answer : r.answer ≡ t.code
   pub number : r.number ≡ t.number
@@ -134,7 +136,8 @@ pub record IsReply (old r : ReplyWords) (t : Told) : Type 0 where
   pub value : r.value ≡ t.value
   pub count : r.edge_count ≡ length t.edges
   pub edges : EdgesAre r.edges t.edges
-  pub rest : AreKept (length t.edges) old.edges r.edges
+  pub rest : AreKept (edge_words no_edge) (length t.edges) old.edges r.edges
   pub burst_count : r.burst_count ≡ length t.bursts
-  pub bursts : r.bursts ≡ burst_places t.bursts
+  pub bursts : BurstsAre r.bursts t.bursts
+  pub bursts_rest : AreKept (burst_words no_burst) (length t.bursts) old.bursts r.bursts
   pub reserved : r.reserved ≡ 0

@@ -16,7 +16,7 @@ use Rattle.board_types.specs.declared.setup.TheConstants.{SLEW_MAX_NS, SECOND_NS
 use Rattle.board_types.specs.Setup.{processors_of}
 use Rattle.board_core.specs.Time.{now_of}
 use Rattle.board_core.specs.PowerOn.{board_at_power_on}
-use Rattle.clockboard_c.specs.declared.board.Board.{Board}
+use Rattle.clockboard_c.specs.Kept.{CallerBoard}
 use Rattle.clockboard_c.specs.declared.code.TheConstants.{BAD_SETUP}
 use Rattle.clockboard_c.specs.declared.power_on.SetupWords.{SetupWords}
 use Rattle.clockboard_c.specs.Calendar.{time_valid}
@@ -73,5 +73,5 @@ power_on_told s =
     if setup_valid s then taken 0 (now_of (board_at_power_on (setup_of s))) no_value [] []
     else refused BAD_SETUP
 
-abbrev pub powered_on : SetupWords → Board → Board
+abbrev pub powered_on : SetupWords → CallerBoard → CallerBoard
 powered_on s b = if setup_valid s then sealed (board_at_power_on (setup_of s)) else b

@@ -19,7 +19,7 @@ use Rattle.board_core.specs.Time.{HasTime}
 use Rattle.board_core.specs.Tsc.{processor_at}
 use Rattle.board_core.specs.Hv.{hv_in}
 use Rattle.board_core.specs.Pages.{page_in, with_greatest}
-use Rattle.clockboard_c.specs.declared.board.Board.{Board}
+use Rattle.clockboard_c.specs.Kept.{CallerBoard}
 use Rattle.clockboard_c.specs.declared.board.TheConstants.{SEAL}
 use Rattle.clockboard_c.specs.declared.code.TheConstants.{OK, NO_BOARD, NO_PROCESSOR, BEFORE_START, OUT_OF_RANGE, PAGE_OFF, NOT_OURS, NOT_SHARED}
 use Rattle.clockboard_c.specs.declared.shared.RateWords.{RateWords}
@@ -50,29 +50,29 @@ AreTimes anchor first last =
     (h : ℕ) → h < 2 ^ 64 → ((first ≤ h) × (h ≤ last)) ↔ HasTime anchor h
 
 -- a board that is opened for sharing, and what its threads are given
-abbrev pub opened : Board → Board
+abbrev pub opened : CallerBoard → CallerBoard
 opened b = if whole_code b == OK then record b { shared = true } else b
 
-abbrev pub rates_in_memory : Board → RateWords → RateWords
+abbrev pub rates_in_memory : CallerBoard → RateWords → RateWords
 rates_in_memory b before = if whole_code b == OK then rates_of b.state else before
 
 -- the code of what only threads that share a board ask
-abbrev pub open_code : Board → ℕ
+abbrev pub open_code : CallerBoard → ℕ
 open_code b = if b.seal == SEAL then (if b.shared then OK else NOT_SHARED) else NO_BOARD
 
 -- a board that is closed, with the greatest reading that its threads gave
-abbrev pub closed : Board → ℕ → Board
+abbrev pub closed : CallerBoard → ℕ → CallerBoard
 closed b told =
     if open_code b == OK then
     record b { shared = false; state = with_greatest b.state (max b.state.greatest told) }
     else b
 
 -- the words of a page, or what the memory held before
-abbrev pub words_code : Board → ℕ → ℕ
+abbrev pub words_code : CallerBoard → ℕ → ℕ
 words_code b cpu =
     if open_code b == OK then (if nat_lt cpu b.state.cpus then OK else NO_PROCESSOR) else open_code b
 
-abbrev pub words_in_memory : Board → ℕ → FiveWords → FiveWords
+abbrev pub words_in_memory : CallerBoard → ℕ → FiveWords → FiveWords
 words_in_memory b cpu before =
     if words_code b cpu == OK then record { word = words_of (page_in (processor_at b.state cpu)) }
     else before
@@ -113,12 +113,12 @@ reading_told r ws h =
 
 -- the words of Hyper-V's reference page, which a board has from format 4 on, or what the memory held
 -- before
-abbrev pub hv_words_code : Board → ℕ
+abbrev pub hv_words_code : CallerBoard → ℕ
 hv_words_code b =
     if open_code b == OK then (if nat_lt b.state.format HV_FORMAT then NOT_OURS else OK)
     else open_code b
 
-abbrev pub hv_words_in_memory : Board → FiveWords → FiveWords
+abbrev pub hv_words_in_memory : CallerBoard → FiveWords → FiveWords
 hv_words_in_memory b before =
     if hv_words_code b == OK then record { word = words_of (as_page (hv_in b.state.hv)) } else before
 

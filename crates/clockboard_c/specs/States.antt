@@ -37,7 +37,7 @@ use Rattle.save_state.specs.Writing.{bytes_of}
 use Rattle.transfer.specs.declared.outcome.MoveFault.{MoveFault}
 use Rattle.transfer.specs.declared.outcome.MoveFault.TheVariants.{OutOfRange, VersionsSpent}
 use Rattle.transfer.specs.Move.{move_fault, moved_to, gap_bursts}
-use Rattle.clockboard_c.specs.declared.board.Board.{Board}
+use Rattle.clockboard_c.specs.Kept.{CallerBoard}
 use Rattle.clockboard_c.specs.declared.board.TheConstants.{SEAL}
 use Rattle.clockboard_c.specs.declared.code.TheConstants.{
   OK,
@@ -55,11 +55,11 @@ use Rattle.clockboard_c.specs.Replies.{Told, refused, refused_at, taken, no_valu
 use Rattle.clockboard_c.specs.Setup.{is_rate}
 
 -- the code of what is done with a board as a whole, and not while threads share its pages
-abbrev pub whole_code : Board → ℕ
+abbrev pub whole_code : CallerBoard → ℕ
 whole_code b = if b.seal == SEAL then (if b.shared then SHARED else OK) else NO_BOARD
 
 -- the code of a save into so many bytes
-abbrev pub save_code : Board → ℕ → ℕ
+abbrev pub save_code : CallerBoard → ℕ → ℕ
 save_code b room =
     if whole_code b == OK then
     (if nat_le (length (bytes_of b.state)) room then OK else NO_ROOM)
@@ -82,11 +82,11 @@ load_told_unless None bytes =
 abbrev pub load_told : List ℕ → Told
 load_told bytes = load_told_unless (fault_of bytes) bytes
 
-abbrev pub loaded_unless : Option StateFault → List ℕ → Board → Board
+abbrev pub loaded_unless : Option StateFault → List ℕ → CallerBoard → CallerBoard
 loaded_unless (Some f) bytes b = b
 loaded_unless None bytes b = sealed (board_in bytes)
 
-abbrev pub loaded : List ℕ → Board → Board
+abbrev pub loaded : List ℕ → CallerBoard → CallerBoard
 loaded bytes b = loaded_unless (fault_of bytes) bytes b
 
 -- why a move is refused
@@ -112,13 +112,13 @@ abbrev pub state_behind_move : BoardParts → ℕ → ℕ → ℕ → BoardParts
 state_behind_move s khz start gap = state_moved_unless (move_fault gap s) s khz start gap
 
 -- what the call tells, and the board behind it
-abbrev pub move_told : Board → ℕ → ℕ → ℕ → Told
+abbrev pub move_told : CallerBoard → ℕ → ℕ → ℕ → Told
 move_told b khz start gap =
     if whole_code b == OK then
     (if is_rate khz then moved_told b.state khz start gap else refused BAD_RATE)
     else refused (whole_code b)
 
-abbrev pub behind_move : Board → ℕ → ℕ → ℕ → Board
+abbrev pub behind_move : CallerBoard → ℕ → ℕ → ℕ → CallerBoard
 behind_move b khz start gap =
     if whole_code b == OK && is_rate khz then
     record b { known = false; state = state_behind_move b.state khz start gap }
@@ -130,21 +130,21 @@ reset_by s =
     taken s.accesses (now_of s) no_value
     (changes (now_of s) line_numbers (levels (devices_in s)) (levels (devices_in (after_reset s)))) []
 
-abbrev pub reset_told : Board → Told
+abbrev pub reset_told : CallerBoard → Told
 reset_told b = if whole_code b == OK then reset_by b.state else refused (whole_code b)
 
-abbrev pub behind_reset : Board → Board
+abbrev pub behind_reset : CallerBoard → CallerBoard
 behind_reset b =
     if whole_code b == OK then record b { known = false; state = after_reset b.state } else b
 
 -- the code of an upgrade, and the board behind it
-abbrev pub upgrade_code : Board → ℕ → ℕ
+abbrev pub upgrade_code : CallerBoard → ℕ → ℕ
 upgrade_code b format =
     if whole_code b == OK then
     (if nat_le b.state.format format && nat_le format LAST_FORMAT then OK else BAD_FORMAT)
     else whole_code b
 
-abbrev pub behind_upgrade : Board → ℕ → Board
+abbrev pub behind_upgrade : CallerBoard → ℕ → CallerBoard
 behind_upgrade b format =
     if upgrade_code b format == OK then
     record b { known = false; state = upgraded_to format b.state }

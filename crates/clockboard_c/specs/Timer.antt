@@ -18,24 +18,23 @@ use Rattle.std.specs.Prelude.{
 }
 use Rattle.host_counter.specs.declared.Anchor.{Anchor}
 use Rattle.host_counter.specs.Time.{time_at}
-use Rattle.clockboard_c.specs.declared.board.Board.{Board}
 use Rattle.clockboard_c.specs.declared.board.TheConstants.{SEAL}
 use Rattle.clockboard_c.specs.declared.code.TheConstants.{OK, NO_BOARD}
-use Rattle.clockboard_c.specs.Kept.{number_or_0, code_or_none}
+use Rattle.clockboard_c.specs.Kept.{CallerBoard, number_or_0, code_or_none}
 
 -- the number that a code and some memory tell
 abbrev pub told_number : ℕ → ℕ → Option ℕ
 told_number code n = if code == OK then Some n else None
 
 -- a question to a board that is answered by a number, or by none
-abbrev pub answer_code : Board → Option ℕ → ℕ
+abbrev pub answer_code : CallerBoard → Option ℕ → ℕ
 answer_code b told = if b.seal == SEAL then code_or_none told else NO_BOARD
 
-abbrev pub answer_number : Board → Option ℕ → ℕ
+abbrev pub answer_number : CallerBoard → Option ℕ → ℕ
 answer_number b told = if b.seal == SEAL then number_or_0 told else 0
 
 -- the board after it was asked for its next edge, which it keeps from then on
-abbrev pub with_next : Board → Board
+abbrev pub with_next : CallerBoard → CallerBoard
 with_next b = if b.seal == SEAL then record b { known = true } else b
 
 -- the first count of the host's counter whose time is t or later
@@ -46,7 +45,7 @@ count_of anchor t = anchor.start + ((t - anchor.base_ns) * anchor.khz + 999999) 
 abbrev pub count_within : Anchor → ℕ → Option ℕ
 count_within anchor t = if nat_lt (count_of anchor t) (2 ^ 64) then Some (count_of anchor t) else None
 
-abbrev pub count_in : Board → ℕ → Option ℕ
+abbrev pub count_in : CallerBoard → ℕ → Option ℕ
 count_in b t = count_within b.state.anchor t
 
 -- a count has that time, and none before it has

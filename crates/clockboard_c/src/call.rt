@@ -1,7 +1,10 @@
 //! One access to a board that C holds.
-ghost use Rattle.std.specs.Prelude.{◌≡◌, ◌<◌, ◌&&◌, IsTrue};
+ghost use Rattle.std.specs.Prelude.{◌≡◌, ◌<◌, ◌&&◌, IsTrue, true, false};
 ghost use Rattle.board_types.specs.declared.parts.BoardParts.{BoardParts};
 ghost use Rattle.board_types.specs.Legal.{is_legal};
+ghost use Rattle.board_core.specs.Lazy.{is_passive, caught_up, IsLazy, IsCounted};
+ghost use Rattle.board_core.specs.Time.{now_of};
+ghost use Rattle.clockboard_c.specs.Kept.{seen};
 ghost use Rattle.clockboard_c.specs.Replies.{IsReply};
 ghost use Rattle.clockboard_c.specs.Call.{
   access_code,
@@ -19,9 +22,9 @@ ghost use Rattle.clockboard_c.specs.Call.{
 };
 
 use crate::board::{Board, SEAL};
-use crate::code::{NO_BOARD, NO_PROCESSOR, NOT_OURS, NOT_SHARED, SHARED, code_of};
-use crate::reply::ReplyWords;
-use board_core::{BoardState, published_by, publishes_hv};
+use crate::code::{NO_BOARD, NO_PROCESSOR, NOT_OURS, NOT_SHARED, OK, SHARED, code_of};
+use crate::reply::{ReplyWords, value_words};
+use board_core::{BoardState, Lag, is_passive, published_by, publishes_hv};
 use board_types::{Access, Reply};
 use irq_edges::EdgeList;
 
@@ -29,8 +32,8 @@ use irq_edges::EdgeList;
 /// a code; else the board answers. Each call of C's has its own copy of these tests, in which its kind of access is known.
 #[inline(always)]
 pub(crate) fn call(board: &mut Board, cpu: u8, host: u64, access: Access, reply: &mut ReplyWords)
-    ensures reply { IsReply reply.old reply.new (told board.old cpu host access) }
-    ensures board { board.new ≡ behind board.old cpu host access }
+    ensures reply { IsReply reply.old reply.new (told (seen board.old) cpu host access) }
+    ensures board { seen board.new ≡ behind (seen board.old) cpu host access }
 {
     match early_code(board, cpu, access) {
         Some(code) => reply.refuse(code),
@@ -47,8 +50,8 @@ pub(crate) fn shared_call(
     access: Access,
     reply: &mut ReplyWords,
 )
-    ensures reply { IsReply reply.old reply.new (shared_told board.old cpu host access) }
-    ensures board { board.new ≡ shared_behind board.old cpu host access }
+    ensures reply { IsReply reply.old reply.new (shared_told (seen board.old) cpu host access) }
+    ensures board { seen board.new ≡ shared_behind (seen board.old) cpu host access }
 {
     match shared_code(board, cpu, access) {
         Some(code) => reply.refuse(code),
@@ -58,8 +61,9 @@ pub(crate) fn shared_call(
 
 /// Why an access isn't handed to the board. The seal is looked at before anything else of it.
 #[inline(always)]
+#[tactic(auto, unfolding(board_core::specs::Access::after_run))]
 fn early_code(board: &Board, cpu: u8, access: Access) -> Option<u32>
-    ensures { result ≡ early_code board.now cpu access }
+    ensures { result ≡ early_code (seen board.now) cpu access }
 {
     if board.seal != SEAL {
         return Some(NO_BOARD);
@@ -72,8 +76,9 @@ fn early_code(board: &Board, cpu: u8, access: Access) -> Option<u32>
 
 /// The same for the calls of a board that is open for sharing.
 #[inline(always)]
+#[tactic(auto, unfolding(board_core::specs::Access::after_run))]
 fn shared_code(board: &Board, cpu: u8, access: Access) -> Option<u32>
-    ensures { result ≡ shared_code board.now cpu access }
+    ensures { result ≡ shared_code (seen board.now) cpu access }
 {
     if board.seal != SEAL {
         return Some(NO_BOARD);
@@ -106,22 +111,73 @@ fn access_code(state: &BoardState, cpu: u8, access: Access) -> Option<u32>
     None
 }
 
+/// The board's answer. What changes nothing is only counted where nothing comes before it that could be seen.
+#[inline(always)]
+fn answer(board: &mut Board, cpu: u8, host: u64, access: Access, reply: &mut ReplyWords)
+    requires cpu { cpu < (seen board.old).state.cpus }
+    requires legal { IsTrue (is_legal (seen board.old).state.cpus (seen board.old).state.format access) }
+    ensures reply { IsReply reply.old reply.new (told_by (seen board.old).state cpu host access) }
+    ensures board { seen board.new ≡ answered (seen board.old) cpu host access }
+{
+    if is_passive(access) && board.state.counts(&board.lag, host) {
+        count(board, cpu, host, access, reply);
+    } else {
+        run(board, cpu, host, access, reply);
+    }
+}
+
+/// The answer to an access that is only counted. A count that isn't beyond the greatest moves no time.
+#[inline(always)]
+fn count(board: &mut Board, cpu: u8, host: u64, access: Access, reply: &mut ReplyWords)
+    requires passive { is_passive access ≡ true }
+    requires counted { IsCounted board.old.state board.old.lag host }
+    ensures reply { IsReply reply.old reply.new (told_by (seen board.old).state cpu host access) }
+    ensures board { seen board.new ≡ answered (seen board.old) cpu host access }
+{
+    // The call gives with the processors what joins the parts of a board.
+    let _ = board.state.cpus();
+    let later = board.state.count(&mut board.lag, host);
+    let now_ns = now_after(&board.state, &board.lag, later, board.now_ns);
+    board.now_ns = now_ns;
+    let value = board.state.passive_value_by(&board.lag, now_ns, access);
+    reply.put_head(OK, board.state.accesses(), now_ns, value_words(value));
+}
+
+/// The time of a board that lags, which is the one before unless a later count was counted.
+#[inline(always)]
+fn now_after(state: &BoardState, lag: &Lag, later: bool, before: u64) -> u64
+    requires lazy { IsLazy state.now lag.now.host lag.now.horizon }
+    requires same { later ≡ false → before ≡ now_of (caught_up state.now lag.now) }
+    ensures { result ≡ now_of (caught_up state.now lag.now) }
+{
+    if later {
+        state.lagging_now(lag)
+    } else {
+        before
+    }
+}
+
 /// The board's answer, in one place for all calls: so the board's code for an access is in it, and not a call away.
 #[inline(never)]
-fn answer(board: &mut Board, cpu: u8, host: u64, access: Access, reply: &mut ReplyWords)
-    requires cpu { cpu < board.old.state.cpus }
-    requires legal { IsTrue (is_legal board.old.state.cpus board.old.state.format access) }
-    ensures reply { IsReply reply.old reply.new (told_by board.old.state cpu host access) }
-    ensures board { board.new ≡ answered board.old cpu host access }
+fn run(board: &mut Board, cpu: u8, host: u64, access: Access, reply: &mut ReplyWords)
+    requires cpu { cpu < (seen board.old).state.cpus }
+    requires legal { IsTrue (is_legal (seen board.old).state.cpus (seen board.old).state.format access) }
+    ensures reply { IsReply reply.old reply.new (told_by (seen board.old).state cpu host access) }
+    ensures board { seen board.new ≡ answered (seen board.old) cpu host access }
 {
     // The call gives with the processors what joins the parts of a board.
     let _ = board.state.cpus();
     let mut answered = Reply::empty();
-    match board.state.answer(cpu, host, access, &mut answered) {
+    let result = board
+        .state
+        .answer_lagging(&mut board.lag, cpu, host, access, &mut answered);
+    match result {
         Ok(()) => {
             let kept = keeps_next(access, &answered.edges);
             board.next.keep_where(kept);
-            reply.take_answer(&answered, board.state.now());
+            let now_ns = board.state.lagging_now(&board.lag);
+            board.now_ns = now_ns;
+            reply.take_answer(&answered, now_ns);
         }
         Err(refusal) => reply.refuse(code_of(refusal)),
     }

@@ -1,5 +1,10 @@
 //! Hyper-V's reference page, and the time that it gives.
-ghost use Rattle.std.specs.Prelude.{◌≡◌};
+ghost use Rattle.std.specs.Prelude.{◌≡◌, OnOk, IfOk, IfErr};
+ghost use Rattle.host_counter.specs.Time.{IsFaultAt};
+ghost use Rattle.board_core.specs.Lazy.{caught_up};
+ghost use Rattle.board_core.specs.Time.{HasTime, now_of};
+ghost use Rattle.board_core.specs.Hv.{hv_reply};
+ghost use Rattle.clockboard_c.specs.Kept.{seen};
 ghost use Rattle.clockboard_c.specs.Replies.{IsReply};
 ghost use Rattle.clockboard_c.specs.Hv.{
   hv_code,
@@ -12,9 +17,10 @@ ghost use Rattle.clockboard_c.specs.Hv.{
 use crate::board::{Board, SEAL};
 use crate::code::{NO_BOARD, NOT_OURS, OK, PAGE_OFF, time_code};
 use crate::reply::ReplyWords;
-use board_core::BoardState;
+use board_core::{BoardState, Lag};
 use board_types::HV_FORMAT;
 use clk_units::bit;
+use host_counter::TimeFault;
 use hv_page::{HvReply, guest_sequence, page_bytes};
 
 /// How many bytes the guest's page has.
@@ -36,9 +42,10 @@ pub struct HvWords {
 
 /// The reference page. After a code other than `OK` the memory stays as it is.
 #[unsafe(no_mangle)]
+#[tactic(auto, unfolding(board_core::specs::Access::after_run))]
 pub extern "C" fn clockboard_hv_page(board: &Board, page: &mut HvWords) -> u32
-    ensures code { result ≡ hv_code board.now }
-    ensures page { page.new ≡ hv_in_memory board.now page.old }
+    ensures code { result ≡ hv_code (seen board.now) }
+    ensures page { page.new ≡ hv_in_memory (seen board.now) page.old }
 {
     let code = hv_code(board);
     if code == OK {
@@ -48,8 +55,9 @@ pub extern "C" fn clockboard_hv_page(board: &Board, page: &mut HvWords) -> u32
 }
 
 /// The code of a question about the reference page, which a board has from format 4 on.
+#[tactic(auto, unfolding(board_core::specs::Access::after_run))]
 fn hv_code(board: &Board) -> u32
-    ensures { result ≡ hv_code board.now }
+    ensures { result ≡ hv_code (seen board.now) }
 {
     if board.seal != SEAL {
         NO_BOARD
@@ -78,25 +86,36 @@ fn hv_words(state: &BoardState) -> HvWords
 /// nothing. The reply's value has the time, in units of 100 ns.
 #[unsafe(no_mangle)]
 pub extern "C" fn clockboard_hv_time(board: &Board, host: u64, reply: &mut ReplyWords)
-    ensures reply { IsReply reply.old reply.new (hv_time_told board.now host) }
+    ensures reply { IsReply reply.old reply.new (hv_time_told (seen board.now) host) }
 {
     let code = hv_code(board);
     if code != OK {
         reply.refuse(code);
         return;
     }
-    tell_hv_time(&board.state, host, reply);
+    tell_hv_time(&board.state, &board.lag, board.now_ns, host, reply);
 }
 
 /// The time that the page of a board gives which has one.
-fn tell_hv_time(state: &BoardState, host: u64, reply: &mut ReplyWords)
-    ensures reply { IsReply reply.old reply.new (hv_time_by state.now host) }
+fn tell_hv_time(state: &BoardState, lag: &Lag, now_ns: u64, host: u64, reply: &mut ReplyWords)
+    requires { now_ns ≡ now_of (caught_up state.now lag.now) }
+    ensures reply { IsReply reply.old reply.new (hv_time_by (caught_up state.now lag.now) host) }
 {
-    match state.hv_of(host) {
+    match lagging_hv_of(state, lag, host) {
         Ok(HvReply::On { reading, .. }) => {
-            reply.take(0, state.now(), [reading, 0, 0, 0], &[], &[]);
+            reply.put_head(OK, 0, now_ns, [reading, 0, 0, 0]);
         }
         Ok(HvReply::Off) => reply.refuse(PAGE_OFF),
         Err(fault) => reply.refuse(time_code(fault)),
     }
+}
+
+/// What a read of the reference page at count `h` answers, of a board that lags: no run changes it.
+fn lagging_hv_of(state: &BoardState, lag: &Lag, h: u64) -> Result<HvReply, TimeFault>
+    ensures ok { OnOk result (HasTime (caught_up state.now lag.now).anchor h) }
+    ensures value { IfOk result (λ r. r ≡ hv_reply (caught_up state.now lag.now) h) }
+    ensures fault { IfErr result (IsFaultAt (caught_up state.now lag.now).anchor h) }
+{
+    let _lag = lag;
+    state.hv_of(h)
 }

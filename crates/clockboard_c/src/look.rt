@@ -6,6 +6,7 @@ ghost use Rattle.board_types.specs.declared.access.TheConstants.{MSR_TSC};
 ghost use Rattle.board_core.specs.Tsc.{msr_read};
 ghost use Rattle.clockboard_c.specs.declared.board.TheConstants.{SEAL};
 ghost use Rattle.clockboard_c.specs.declared.code.TheConstants.{OK, NO_BOARD};
+ghost use Rattle.clockboard_c.specs.Kept.{seen};
 ghost use Rattle.clockboard_c.specs.Look.{
   bit_if,
   lines_word,
@@ -42,13 +43,15 @@ pub struct ViewWords {
 
 /// The board at a glance. It is no access. After a code other than `OK` the memory stays as it is.
 #[unsafe(no_mangle)]
-pub extern "C" fn clockboard_look(board: &Board, view: &mut ViewWords) -> u32
-    ensures code { result ≡ (if board.now.seal == SEAL then OK else NO_BOARD) }
-    ensures view { view.new ≡ view_in_memory board.now view.old }
+pub extern "C" fn clockboard_look(board: &mut Board, view: &mut ViewWords) -> u32
+    ensures code { result ≡ (if (seen board.old).seal == SEAL then OK else NO_BOARD) }
+    ensures view { view.new ≡ view_in_memory (seen board.old) view.old }
+    ensures board { seen board.new ≡ seen board.old }
 {
     if board.seal != SEAL {
         return NO_BOARD;
     }
+    board.catch_up();
     let state = &board.state;
     *view = ViewWords {
         now_ns: state.now(),
@@ -98,12 +101,13 @@ pub struct TscWords {
 /// The numbers of a processor's TSC: at count `h` of the host it is `h * ratio / 2^48 + offset`, modulo 2^64. It is no
 /// access. After a code other than `OK` the memory stays as it is.
 #[unsafe(no_mangle)]
+#[tactic(auto, unfolding(board_core::specs::Access::after_run))]
 pub extern "C" fn clockboard_tsc(board: &Board, cpu: u8, tsc: &mut TscWords) -> u32
-    ensures code { result ≡ processor_code board.now cpu }
-    ensures tsc { tsc.new ≡ tsc_in_memory board.now cpu tsc.old }
+    ensures code { result ≡ processor_code (seen board.now) cpu }
+    ensures tsc { tsc.new ≡ tsc_in_memory (seen board.now) cpu tsc.old }
     // What the guest reads of its TSC is worked out of these numbers, at each count.
     ensures reads { result ≡ OK → (h : ℕ) →
-        msr_read board.now.state cpu h MSR_TSC ≡ tsc_by tsc.new.offset h tsc.new.ratio }
+        msr_read (seen board.now).state cpu h MSR_TSC ≡ tsc_by tsc.new.offset h tsc.new.ratio }
 {
     if board.seal != SEAL {
         return NO_BOARD;

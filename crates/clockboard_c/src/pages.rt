@@ -1,5 +1,8 @@
 //! The pages of the paravirtual clock, and the clock that they tell.
 ghost use Rattle.std.specs.Prelude.{◌≡◌, ◌<◌};
+ghost use Rattle.board_core.specs.Lazy.{caught_up, IsLazy};
+ghost use Rattle.board_core.specs.Time.{now_of};
+ghost use Rattle.clockboard_c.specs.Kept.{seen};
 ghost use Rattle.clockboard_c.specs.Replies.{IsReply};
 ghost use Rattle.clockboard_c.specs.Look.{processor_code};
 ghost use Rattle.clockboard_c.specs.Pages.{
@@ -15,7 +18,7 @@ ghost use Rattle.clockboard_c.specs.Pages.{
 use crate::board::{Board, SEAL};
 use crate::code::{NO_BOARD, NO_PROCESSOR, OK, PAGE_OFF, SHARED, time_code};
 use crate::reply::ReplyWords;
-use board_core::BoardState;
+use board_core::{BoardState, Lag};
 use pvclock_page::{ClockReply, page_bytes};
 
 /// A page as plain numbers, `struct clockboard_page` of the header.
@@ -34,9 +37,10 @@ pub struct PageWords {
 
 /// The page of a processor. Behind a code other than `OK` the memory stays as it is.
 #[unsafe(no_mangle)]
+#[tactic(auto, unfolding(board_core::specs::Access::after_run))]
 pub extern "C" fn clockboard_page(board: &Board, cpu: u8, page: &mut PageWords) -> u32
-    ensures code { result ≡ processor_code board.now cpu }
-    ensures page { page.new ≡ page_behind board.now cpu page.old }
+    ensures code { result ≡ processor_code (seen board.now) cpu }
+    ensures page { page.new ≡ page_behind (seen board.now) cpu page.old }
 {
     if board.seal != SEAL {
         return NO_BOARD;
@@ -67,20 +71,31 @@ fn page_words(state: &BoardState, cpu: u8) -> PageWords
 /// It moves no time and takes no number. The reply's value has the clock and the page's own reading, in nanoseconds.
 #[unsafe(no_mangle)]
 pub extern "C" fn clockboard_clock(board: &mut Board, cpu: u8, host: u64, reply: &mut ReplyWords)
-    ensures reply { IsReply reply.old reply.new (clock_told board.old cpu host) }
-    ensures board { board.new ≡ behind_clock board.old cpu host }
+    ensures reply { IsReply reply.old reply.new (clock_told (seen board.old) cpu host) }
+    ensures board { seen board.new ≡ behind_clock (seen board.old) cpu host }
 {
     let code = clock_code(board, cpu);
     if code != OK {
         reply.refuse(code);
         return;
     }
-    tell_clock(&mut board.state, cpu, host, reply);
+    read_clock(board, cpu, host, reply);
+}
+
+/// The clock of a processor that is there, of a board that no threads share.
+fn read_clock(board: &mut Board, cpu: u8, host: u64, reply: &mut ReplyWords)
+    requires { cpu < (seen board.old).state.cpus }
+    ensures reply { IsReply reply.old reply.new (clock_by (seen board.old).state cpu host) }
+    ensures board { seen board.new
+        ≡ record (seen board.old) { state = state_behind_clock (seen board.old).state cpu host } }
+{
+    tell_clock(&mut board.state, &board.lag, board.now_ns, cpu, host, reply);
 }
 
 /// The code of a question about the clock of a processor.
+#[tactic(auto, unfolding(board_core::specs::Access::after_run))]
 fn clock_code(board: &Board, cpu: u8) -> u32
-    ensures { result ≡ clock_code board.now cpu }
+    ensures { result ≡ clock_code (seen board.now) cpu }
 {
     if board.seal != SEAL {
         NO_BOARD
@@ -93,16 +108,27 @@ fn clock_code(board: &Board, cpu: u8) -> u32
     }
 }
 
-/// What the clock of a processor tells that is there.
+/// What the clock of a processor tells that is there, of a board that lags, whose time is known.
 #[tactic(auto, unfolding(board_core::specs::Pages::after_clock))]
-fn tell_clock(state: &mut BoardState, cpu: u8, host: u64, reply: &mut ReplyWords)
-    requires { cpu < state.old.cpus }
-    ensures reply { IsReply reply.old reply.new (clock_by state.old cpu host) }
-    ensures state { state.new ≡ state_behind_clock state.old cpu host }
+fn tell_clock(
+    state: &mut BoardState,
+    lag: &Lag,
+    now_ns: u64,
+    cpu: u8,
+    host: u64,
+    reply: &mut ReplyWords,
+)
+    requires lazy { IsLazy state.old lag.now.host lag.now.horizon }
+    requires now { now_ns ≡ now_of (caught_up state.old lag.now) }
+    requires cpu { cpu < (caught_up state.old lag.now).cpus }
+    ensures reply { IsReply reply.old reply.new (clock_by (caught_up state.old lag.now) cpu host) }
+    ensures state { caught_up state.new lag.now
+        ≡ state_behind_clock (caught_up state.old lag.now) cpu host }
+    ensures lazy { IsLazy state.new lag.now.host lag.now.horizon }
 {
-    match state.clock_of(cpu, host) {
+    match state.lagging_clock_of(lag, cpu, host) {
         Ok(ClockReply::On { reading, clock }) => {
-            reply.take(0, state.now(), [clock, reading, 0, 0], &[], &[]);
+            reply.put_head(OK, 0, now_ns, [clock, reading, 0, 0]);
         }
         Ok(ClockReply::Off) => reply.refuse(PAGE_OFF),
         Err(fault) => reply.refuse(time_code(fault)),

@@ -2,6 +2,7 @@
 ghost use Rattle.std.specs.Prelude.{◌≡◌, IsTrue, if◌then◌else◌};
 ghost use Rattle.board_types.specs.Setup.{IsSetup};
 ghost use Rattle.tick_policy.specs.Parts.{policy_of};
+ghost use Rattle.clockboard_c.specs.Kept.{seen};
 ghost use Rattle.clockboard_c.specs.Replies.{IsReply};
 ghost use Rattle.clockboard_c.specs.Setup.{
   setup_of,
@@ -63,14 +64,16 @@ pub struct SetupWords {
 #[unsafe(no_mangle)]
 pub extern "C" fn clockboard_power_on(board: &mut Board, setup: &SetupWords, reply: &mut ReplyWords)
     ensures reply { IsReply reply.old reply.new (power_on_told setup.now) }
-    ensures board { board.new ≡ powered_on setup.now board.old }
+    ensures board { seen board.new ≡ powered_on setup.now (seen board.old) }
 {
     if !is_valid(setup) {
         reply.refuse(BAD_SETUP);
         return;
     }
-    *board = sealed(BoardState::power_on(&setup_of(setup)));
-    reply.take(0, board.state.now(), NO_VALUE, &[], &[]);
+    let state = BoardState::power_on(&setup_of(setup));
+    let now_ns = state.now();
+    *board = sealed(state);
+    reply.take(0, now_ns, NO_VALUE, &[], &[]);
 }
 
 /// Whether each number of a setup is in its range, and the time bytes valid.

@@ -13,19 +13,23 @@ ghost use Rattle.std.specs.Prelude.{
 ghost use Rattle.irq_edges.specs.declared.bursts.TheConstants.{BURST_PLACES};
 ghost use Rattle.irq_edges.specs.declared.edges.TheConstants.{EDGE_PLACES};
 ghost use Rattle.clockboard_c.specs.Replies.{
-  burst_at,
-  burst_places,
+  burst_words,
+  no_burst,
   edge_words,
+  no_edge,
   value_words,
   AreKept,
   IsReply,
+  without_edges,
   refused,
   refused_at,
   taken,
   told_of,
   EdgesAre,
+  BurstsAre,
 };
 
+use crate::code::OK;
 use board_types::{Reply, Value};
 use irq_edges::{BURST_PLACES, Burst, EDGE_PLACES, Edge};
 
@@ -61,7 +65,8 @@ pub struct BurstWords {
     pub reserved: u32,
 }
 
-/// What a call gave. After a code other than `OK` all but the code is 0, and after `BAD_STATE` the value.
+/// What a call gave. After a code other than `OK` all but the code, the edges and the bursts is 0, and
+/// after `BAD_STATE` the value.
 #[derive(Clone, Copy)]
 #[repr(C)]
 pub struct ReplyWords {
@@ -82,23 +87,12 @@ pub struct ReplyWords {
     /// The edges in the order of time, those of the way before those of the access; the places after them are as
     /// they were.
     pub edges: [EdgeWords; EDGE_PLACES],
-    /// The messages of the HPET's timers, in the order of timers; the places after them hold 0.
+    /// The messages of the HPET's timers, in the order of timers; the places after them are as they were.
     pub bursts: [BurstWords; BURST_PLACES],
 }
 
 /// No value.
 pub(crate) const NO_VALUE: [u64; 4] = [0; 4];
-
-/// What a place without a burst holds.
-const NO_BURST: BurstWords = BurstWords {
-    first_ns: 0,
-    count: 0,
-    every_ns: 0,
-    address: 0,
-    data: 0,
-    timer: 0,
-    reserved: 0,
-};
 
 impl ReplyWords {
     /// A refusal with this code.
@@ -112,14 +106,21 @@ impl ReplyWords {
     pub(crate) fn refuse_at(&mut self, code: u32, value: [u64; 4])
         ensures { IsReply self.old self.new (refused_at code value) }
     {
+        self.put_head(code, 0, 0, value);
+    }
+
+    /// All but the places of edges and of bursts, of a reply without them.
+    #[inline(always)]
+    pub(crate) fn put_head(&mut self, code: u32, number: u64, now_ns: u64, value: [u64; 4])
+        ensures { IsReply self.old self.new (without_edges code number now_ns value) }
+    {
         self.answer = code;
         self.edge_count = 0;
         self.burst_count = 0;
         self.reserved = 0;
-        self.number = 0;
-        self.now_ns = 0;
+        self.number = number;
+        self.now_ns = now_ns;
         self.value = value;
-        self.bursts = [NO_BURST; BURST_PLACES];
     }
 
     /// What the board answered an access that left it at this time.
@@ -148,13 +149,9 @@ impl ReplyWords {
         requires bursts { length bursts.now ≤ BURST_PLACES }
         ensures { IsReply self.old self.new (taken number now_ns value edges.now bursts.now) }
     {
-        self.answer = crate::code::OK;
+        self.put_head(OK, number, now_ns, value);
         self.edge_count = edges.len() as u32;
         self.burst_count = bursts.len() as u32;
-        self.reserved = 0;
-        self.number = number;
-        self.now_ns = now_ns;
-        self.value = value;
         put_edges(&mut self.edges, edges);
         put_bursts(&mut self.bursts, bursts);
     }
@@ -164,7 +161,7 @@ impl ReplyWords {
 fn put_edges(places: &mut [EdgeWords; EDGE_PLACES], edges: &[Edge])
     requires { length edges.now ≤ EDGE_PLACES }
     ensures front { EdgesAre places.new edges.now }
-    ensures rest { AreKept (length edges.now) places.old places.new }
+    ensures rest { AreKept (edge_words no_edge) (length edges.now) places.old places.new }
 {
     for k in 0..edges.len() {
         places[k] = edge_words(edges[k]);
@@ -182,43 +179,21 @@ fn edge_words(edge: Edge) -> EdgeWords
     }
 }
 
-/// Puts the bursts into their places. Most replies have none.
-#[inline(always)]
+/// Puts the bursts at the front of the places.
 fn put_bursts(places: &mut [BurstWords; BURST_PLACES], bursts: &[Burst])
-    ensures { places.new ≡ burst_places bursts.now }
+    requires { length bursts.now ≤ BURST_PLACES }
+    ensures front { BurstsAre places.new bursts.now }
+    ensures rest { AreKept (burst_words no_burst) (length bursts.now) places.old places.new }
 {
-    if bursts.is_empty() {
-        *places = [NO_BURST; BURST_PLACES];
-    } else {
-        *places = burst_places(bursts);
+    for k in 0..bursts.len() {
+        places[k] = burst_words(bursts[k]);
     }
 }
 
-/// The places of the bursts.
-#[inline(never)]
-fn burst_places(bursts: &[Burst]) -> [BurstWords; BURST_PLACES]
-    ensures { result ≡ burst_places bursts.now }
+/// A burst as numbers.
+fn burst_words(burst: Burst) -> BurstWords
+    ensures { result ≡ burst_words burst }
 {
-    [
-        burst_at(bursts, 0),
-        burst_at(bursts, 1),
-        burst_at(bursts, 2),
-        burst_at(bursts, 3),
-        burst_at(bursts, 4),
-        burst_at(bursts, 5),
-        burst_at(bursts, 6),
-        burst_at(bursts, 7),
-    ]
-}
-
-/// The burst of a place as numbers; 0 where there is none.
-fn burst_at(bursts: &[Burst], place: usize) -> BurstWords
-    ensures { result ≡ burst_at bursts.now place }
-{
-    if place >= bursts.len() {
-        return NO_BURST;
-    }
-    let burst = bursts[place];
     BurstWords {
         first_ns: burst.first,
         count: burst.count,
@@ -231,7 +206,8 @@ fn burst_at(bursts: &[Burst], place: usize) -> BurstWords
 }
 
 /// A value as four numbers.
-fn value_words(value: Value) -> [u64; 4]
+#[inline(always)]
+pub(crate) fn value_words(value: Value) -> [u64; 4]
     ensures { result ≡ value_words value }
 {
     match value {

@@ -1,11 +1,12 @@
 //! What c/shared.h needs for threads that share a board's pages: what no access changes, a page as words that are loaded
 //! and stored each by itself, and what such words give at a count. No call here touches memory that another thread writes.
-ghost use Rattle.std.specs.Prelude.{◌≡◌, ℕ};
+ghost use Rattle.std.specs.Prelude.{◌≡◌, ℕ, max, false};
 ghost use Rattle.clk_units.specs.Ranges.{IsKhz};
 ghost use Rattle.board_types.specs.declared.access.Access.TheVariants.{MsrWrite, Refresh};
 ghost use Rattle.tsc_scale.specs.Ratio.{ratio_of};
 ghost use Rattle.board_core.specs.Hv.{hv_reply};
-ghost use Rattle.board_core.specs.Pages.{page_reply};
+ghost use Rattle.board_core.specs.Pages.{page_reply, with_greatest};
+ghost use Rattle.clockboard_c.specs.Kept.{seen};
 ghost use Rattle.clockboard_c.specs.Replies.{IsReply};
 ghost use Rattle.clockboard_c.specs.Call.{shared_told, shared_behind};
 ghost use Rattle.clockboard_c.specs.States.{whole_code};
@@ -47,7 +48,7 @@ use pvclock_page::{page_words, reading, words_page};
 use tsc_scale::{ratio, tsc_by};
 
 /// What the first word of `RateWords` holds that a call has filled: 'CLKBRDS' and the digit of `ABI`.
-pub(crate) const RATES_SEAL: u64 = 0x3553_4452_424b_4c43;
+pub(crate) const RATES_SEAL: u64 = 0x3653_4452_424b_4c43;
 
 /// What no access changes of a board, `struct clockboard_rates` of shared.h.
 #[derive(Clone, Copy)]
@@ -78,15 +79,16 @@ pub struct FiveWords {
 /// Opens a board for sharing. After a code other than `OK` the memory stays as it is.
 #[unsafe(no_mangle)]
 pub extern "C" fn clockboard_share(board: &mut Board, rates: &mut RateWords) -> u32
-    ensures code { result ≡ whole_code board.old }
-    ensures board { board.new ≡ opened board.old }
-    ensures rates { rates.new ≡ rates_in_memory board.old rates.old }
+    ensures code { result ≡ whole_code (seen board.old) }
+    ensures board { seen board.new ≡ opened (seen board.old) }
+    ensures rates { rates.new ≡ rates_in_memory (seen board.old) rates.old }
     // Which counts have a time is known without a division.
     ensures times { result ≡ OK
-        → AreTimes board.old.state.anchor rates.new.host_start rates.new.host_last }
+        → AreTimes (seen board.old).state.anchor rates.new.host_start rates.new.host_last }
 {
     let code = whole_code(board);
     if code == OK {
+        board.catch_up();
         board.shared = true;
         *rates = rates_of(&board.state);
     }
@@ -125,22 +127,32 @@ fn last_count(anchor: &Anchor) -> u64
 /// Closes a board that was open for sharing. `greatest_ns` is the greatest reading that its threads gave.
 #[unsafe(no_mangle)]
 pub extern "C" fn clockboard_unshare(board: &mut Board, greatest_ns: u64) -> u32
-    ensures code { result ≡ open_code board.old }
-    ensures board { board.new ≡ closed board.old greatest_ns }
+    ensures code { result ≡ open_code (seen board.old) }
+    ensures board { seen board.new ≡ closed (seen board.old) greatest_ns }
 {
     let code = open_code(board);
     if code == OK {
-        board.shared = false;
-        board
-            .state
-            .set_greatest(board.state.greatest().max(greatest_ns));
+        close(board, greatest_ns);
     }
     code
 }
 
+/// Closes a board that is open.
+fn close(board: &mut Board, greatest_ns: u64)
+    ensures { seen board.new ≡ record (seen board.old) {
+      shared = false;
+      state = with_greatest (seen board.old).state (max (seen board.old).state.greatest greatest_ns);
+    } }
+{
+    board.shared = false;
+    board
+        .state
+        .set_greatest(board.state.greatest().max(greatest_ns));
+}
+
 /// The code of what only threads that share a board ask.
 fn open_code(board: &Board) -> u32
-    ensures { result ≡ open_code board.now }
+    ensures { result ≡ open_code (seen board.now) }
 {
     if board.seal != SEAL {
         NO_BOARD
@@ -153,14 +165,14 @@ fn open_code(board: &Board) -> u32
 
 /// The page of a processor as words. After a code other than `OK` the memory stays as it is.
 #[unsafe(no_mangle)]
-#[tactic(auto, unfolding(board_core::specs::Pages::page_reply))]
+#[tactic(auto, unfolding(board_core::specs::Access::after_run, board_core::specs::Pages::page_reply))]
 pub extern "C" fn clockboard_page_words(board: &Board, cpu: u8, words: &mut FiveWords) -> u32
-    ensures code { result ≡ words_code board.now cpu }
-    ensures words { words.new ≡ words_in_memory board.now cpu words.old }
+    ensures code { result ≡ words_code (seen board.now) cpu }
+    ensures words { words.new ≡ words_in_memory (seen board.now) cpu words.old }
     // At each count the words give what the board's page gives.
     ensures gives { result ≡ OK → (h : ℕ) →
         reply_in words.new (ratio_of board.now.state.guest_khz board.now.state.anchor.khz) h
-        ≡ page_reply board.now.state cpu h }
+        ≡ page_reply (seen board.now).state cpu h }
 {
     let code = open_code(board);
     if code != OK {
@@ -216,14 +228,14 @@ fn count_code(rates: &RateWords, host: u64) -> u32
 
 /// Hyper-V's reference page as words. After a code other than `OK` the memory stays as it is.
 #[unsafe(no_mangle)]
-#[tactic(auto, unfolding(board_core::specs::Hv::hv_reply))]
+#[tactic(auto, unfolding(board_core::specs::Access::after_run, board_core::specs::Hv::hv_reply))]
 pub extern "C" fn clockboard_hv_words(board: &Board, words: &mut FiveWords) -> u32
-    ensures code { result ≡ hv_words_code board.now }
-    ensures words { words.new ≡ hv_words_in_memory board.now words.old }
+    ensures code { result ≡ hv_words_code (seen board.now) }
+    ensures words { words.new ≡ hv_words_in_memory (seen board.now) words.old }
     // At each count the words give what the board's page gives.
     ensures gives { result ≡ OK → (h : ℕ) →
         hv_reply_in words.new (ratio_of board.now.state.guest_khz board.now.state.anchor.khz) h
-        ≡ hv_reply board.now.state h }
+        ≡ hv_reply (seen board.now).state h }
 {
     let code = open_code(board);
     if code != OK {
@@ -278,8 +290,8 @@ pub extern "C" fn clockboard_share_msr_write(
     value: u64,
     reply: &mut ReplyWords,
 )
-    ensures reply { IsReply reply.old reply.new (shared_told board.old cpu host (MsrWrite msr value)) }
-    ensures board { board.new ≡ shared_behind board.old cpu host (MsrWrite msr value) }
+    ensures reply { IsReply reply.old reply.new (shared_told (seen board.old) cpu host (MsrWrite msr value)) }
+    ensures board { seen board.new ≡ shared_behind (seen board.old) cpu host (MsrWrite msr value) }
 {
     shared_call(board, cpu, host, Access::MsrWrite { msr, value }, reply);
 }
@@ -293,8 +305,8 @@ pub extern "C" fn clockboard_share_refresh(
     page: u8,
     reply: &mut ReplyWords,
 )
-    ensures reply { IsReply reply.old reply.new (shared_told board.old cpu host (Refresh page)) }
-    ensures board { board.new ≡ shared_behind board.old cpu host (Refresh page) }
+    ensures reply { IsReply reply.old reply.new (shared_told (seen board.old) cpu host (Refresh page)) }
+    ensures board { seen board.new ≡ shared_behind (seen board.old) cpu host (Refresh page) }
 {
     shared_call(board, cpu, host, Access::Refresh { page }, reply);
 }

@@ -1,9 +1,12 @@
 //! Saved states, moves to another host, and later formats.
-ghost use Rattle.std.specs.Prelude.{◌≡◌, ◌≢◌, ◌≤◌, ◌++◌, ◌⊎◌, drop, length};
+ghost use Rattle.std.specs.Prelude.{◌≡◌, ◌≢◌, ◌≤◌, ◌++◌, ◌⊎◌, false, drop, length};
 ghost use Rattle.clk_units.specs.Ranges.{IsKhz};
+ghost use Rattle.board_core.specs.Upgrade.{upgraded_to};
+ghost use Rattle.board_types.specs.declared.setup.TheConstants.{LAST_FORMAT};
 ghost use Rattle.board_reset.specs.Reset.{after_reset};
 ghost use Rattle.save_state.specs.Writing.{bytes_of};
 ghost use Rattle.save_state.specs.declared.fault.StateKind.{StateKind};
+ghost use Rattle.clockboard_c.specs.Kept.{seen};
 ghost use Rattle.clockboard_c.specs.Replies.{IsReply};
 ghost use Rattle.clockboard_c.specs.States.{
   whole_code,
@@ -29,7 +32,7 @@ use crate::code::{
     VERSIONS_SPENT,
 };
 use crate::reply::{NO_VALUE, ReplyWords};
-use board_core::BoardState;
+use board_core::{BoardState, NO_LAG};
 use board_reset::reset;
 use board_types::LAST_FORMAT;
 use clk_units::is_khz;
@@ -42,25 +45,27 @@ use transfer::{MoveFault, moved};
 #[unsafe(no_mangle)]
 pub extern "C" fn clockboard_save(
     alloc: Global,
-    board: &Board,
+    board: &mut Board,
     bytes: &mut [u8],
     written: &mut usize,
 ) -> u32
     // Only want of memory comes between.
-    ensures code { result ≡ NO_MEMORY ⊎ result ≡ save_code board.now (length bytes.old) }
+    ensures code { result ≡ NO_MEMORY ⊎ result ≡ save_code (seen board.old) (length bytes.old) }
     ensures saved { result ≡ OK → bytes.new
-        ≡ bytes_of board.now.state ++ drop (length (bytes_of board.now.state)) bytes.old }
+        ≡ bytes_of (seen board.old).state ++ drop (length (bytes_of (seen board.old).state)) bytes.old }
     ensures kept { result ≢ OK → bytes.new ≡ bytes.old }
     // The length that was written, or that is wanted.
     ensures length { result ≡ OK ⊎ result ≡ NO_ROOM
-        → written.new ≡ length (bytes_of board.now.state) }
+        → written.new ≡ length (bytes_of (seen board.old).state) }
     ensures none { result ≢ OK → result ≢ NO_ROOM → written.new ≡ 0 }
+    ensures board { seen board.new ≡ seen board.old }
 {
     *written = 0;
     let code = whole_code(board);
     if code != OK {
         return code;
     }
+    board.catch_up();
     let Ok(saved) = encode(alloc, &board.state) else {
         return NO_MEMORY;
     };
@@ -77,18 +82,14 @@ pub extern "C" fn clockboard_save(
 #[unsafe(no_mangle)]
 pub extern "C" fn clockboard_load(board: &mut Board, bytes: &[u8], reply: &mut ReplyWords)
     ensures reply { IsReply reply.old reply.new (load_told bytes.now) }
-    ensures board { board.new ≡ loaded bytes.now board.old }
+    ensures board { seen board.new ≡ loaded bytes.now (seen board.old) }
 {
     match decode(bytes) {
         Ok(state) => {
+            let accesses = state.accesses();
+            let now_ns = state.now();
             *board = sealed(state);
-            reply.take(
-                board.state.accesses(),
-                board.state.now(),
-                NO_VALUE,
-                &[],
-                &[],
-            );
+            reply.take(accesses, now_ns, NO_VALUE, &[], &[]);
         }
         Err(fault) => {
             reply.refuse_at(BAD_STATE, [fault.place, kind_number(fault.kind), 0, 0]);
@@ -119,8 +120,8 @@ pub extern "C" fn clockboard_move(
     gap_ns: u64,
     reply: &mut ReplyWords,
 )
-    ensures reply { IsReply reply.old reply.new (move_told board.old khz start gap_ns) }
-    ensures board { board.new ≡ behind_move board.old khz start gap_ns }
+    ensures reply { IsReply reply.old reply.new (move_told (seen board.old) khz start gap_ns) }
+    ensures board { seen board.new ≡ behind_move (seen board.old) khz start gap_ns }
 {
     let code = whole_code(board);
     if code != OK {
@@ -131,8 +132,23 @@ pub extern "C" fn clockboard_move(
         reply.refuse(BAD_RATE);
         return;
     }
+    move_board(board, khz, start, gap_ns, reply);
+}
+
+/// Moves a board that no threads share to a host with a rate in range.
+fn move_board(board: &mut Board, khz: u64, start: u64, gap_ns: u64, reply: &mut ReplyWords)
+    requires { IsKhz khz }
+    ensures reply { IsReply reply.old reply.new (moved_told (seen board.old).state khz start gap_ns) }
+    ensures board { seen board.new ≡ record (seen board.old) {
+      known = false;
+      state = state_behind_move (seen board.old).state khz start gap_ns;
+    } }
+{
+    board.catch_up();
     board.next = NO_KEPT;
+    board.lag = NO_LAG; // the devices run over the gap
     move_on(&mut board.state, khz, start, gap_ns, reply);
+    board.now_ns = board.state.now();
 }
 
 /// Moves a board to a host with a rate in range.
@@ -171,19 +187,33 @@ fn fault_code(fault: MoveFault) -> u32
 /// were up.
 #[unsafe(no_mangle)]
 pub extern "C" fn clockboard_reset(board: &mut Board, reply: &mut ReplyWords)
-    ensures reply { IsReply reply.old reply.new (reset_told board.old) }
-    ensures board { board.new ≡ behind_reset board.old }
+    ensures reply { IsReply reply.old reply.new (reset_told (seen board.old)) }
+    ensures board { seen board.new ≡ behind_reset (seen board.old) }
 {
     let code = whole_code(board);
     if code != OK {
         reply.refuse(code);
         return;
     }
-    board.next = NO_KEPT;
-    reset_at_once(&mut board.state, reply);
+    reset_board(board, reply);
 }
 
 /// Resets a board that no threads share.
+fn reset_board(board: &mut Board, reply: &mut ReplyWords)
+    ensures reply { IsReply reply.old reply.new (reset_by (seen board.old).state) }
+    ensures board { seen board.new ≡ record (seen board.old) {
+      known = false;
+      state = after_reset (seen board.old).state;
+    } }
+{
+    board.catch_up();
+    board.next = NO_KEPT;
+    board.lag = NO_LAG;
+    reset_at_once(&mut board.state, reply);
+    board.now_ns = board.state.now();
+}
+
+/// Resets the devices.
 #[inline(never)]
 #[tactic(auto, unfolding(crate::specs::States::reset_by))]
 fn reset_at_once(state: &mut BoardState, reply: &mut ReplyWords)
@@ -199,24 +229,40 @@ fn reset_at_once(state: &mut BoardState, reply: &mut ReplyWords)
 /// Takes a board to a later format, or leaves it in the same.
 #[unsafe(no_mangle)]
 pub extern "C" fn clockboard_upgrade(board: &mut Board, format: u8) -> u32
-    ensures code { result ≡ upgrade_code board.old format }
-    ensures board { board.new ≡ behind_upgrade board.old format }
+    ensures code { result ≡ upgrade_code (seen board.old) format }
+    ensures board { seen board.new ≡ behind_upgrade (seen board.old) format }
 {
     let code = whole_code(board);
     if code != OK {
         return code;
     }
+    board.catch_up();
     if format < board.state.format() || format > LAST_FORMAT {
         return BAD_FORMAT;
     }
-    board.next = NO_KEPT;
-    board.state = board.state.upgraded(format);
+    upgrade_board(board, format);
     OK
+}
+
+/// Takes a board that doesn't lag to a format that is built, and not before its own.
+fn upgrade_board(board: &mut Board, format: u8)
+    requires up { board.old.lag.host ≡ 0 }
+    requires later { board.old.state.format ≤ format }
+    requires built { format ≤ LAST_FORMAT }
+    ensures { seen board.new ≡ record (seen board.old) {
+      known = false;
+      state = upgraded_to format (seen board.old).state;
+    } }
+{
+    board.next = NO_KEPT;
+    board.lag = NO_LAG;
+    board.state = board.state.upgraded(format);
+    board.now_ns = board.state.now();
 }
 
 /// The code of what is done with a board as a whole, and not while threads share its pages.
 pub(crate) fn whole_code(board: &Board) -> u32
-    ensures { result ≡ whole_code board.now }
+    ensures { result ≡ whole_code (seen board.now) }
 {
     if board.seal != SEAL {
         NO_BOARD

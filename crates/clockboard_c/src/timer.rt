@@ -16,7 +16,7 @@ ghost use Rattle.std.specs.Prelude.{
 ghost use Rattle.clk_units.specs.Ranges.{IsKhz};
 ghost use Rattle.board_core.specs.Next.{IsNextTick, next_message_of};
 ghost use Rattle.clockboard_c.specs.Look.{processor_code};
-ghost use Rattle.clockboard_c.specs.Kept.{code_or_none, number_or_0, next_edge_of, kept_of};
+ghost use Rattle.clockboard_c.specs.Kept.{code_or_none, number_or_0, next_edge_of, kept_of, seen};
 ghost use Rattle.clockboard_c.specs.Timer.{
   told_number,
   answer_code,
@@ -40,9 +40,9 @@ const MILLISECOND_NS: u128 = 1_000_000;
 /// code other than `OK`. The board keeps it until an access may have changed it, so that it is looked up again then alone.
 #[unsafe(no_mangle)]
 pub extern "C" fn clockboard_next_edge(board: &mut Board, at_ns: &mut u64) -> u32
-    ensures code { result ≡ answer_code board.old (next_edge_of board.old.state) }
-    ensures number { at_ns.new ≡ answer_number board.old (next_edge_of board.old.state) }
-    ensures board { board.new ≡ with_next board.old }
+    ensures code { result ≡ answer_code (seen board.old) (next_edge_of (seen board.old).state) }
+    ensures number { at_ns.new ≡ answer_number (seen board.old) (next_edge_of (seen board.old).state) }
+    ensures board { seen board.new ≡ with_next (seen board.old) }
 {
     if board.seal != SEAL {
         *at_ns = 0;
@@ -58,8 +58,9 @@ pub extern "C" fn clockboard_next_edge(board: &mut Board, at_ns: &mut u64) -> u3
 /// Looks up the next edge, and keeps it.
 #[inline(never)]
 fn keep_next(board: &mut Board)
-    ensures { board.new ≡ record board.old { known = true } }
+    ensures { seen board.new ≡ record (seen board.old) { known = true } }
 {
+    board.catch_up();
     board.next = next_edge(&board.state);
 }
 
@@ -78,17 +79,19 @@ fn next_edge(state: &BoardState) -> KeptEdge
 
 /// The same for the local APIC's timer of processor `cpu`: the nanosecond in which it fires and isn't masked.
 #[unsafe(no_mangle)]
-pub extern "C" fn clockboard_next_tick(board: &Board, cpu: u8, at_ns: &mut u64) -> u32
-    ensures refused { processor_code board.now cpu ≢ OK → result ≡ processor_code board.now cpu }
-    ensures taken { processor_code board.now cpu ≡ OK → result ≡ OK ⊎ result ≡ NO_EDGE }
-    ensures next { processor_code board.now cpu ≡ OK
-        → IsNextTick board.now.state cpu (told_number result at_ns.new) }
+pub extern "C" fn clockboard_next_tick(board: &mut Board, cpu: u8, at_ns: &mut u64) -> u32
+    ensures refused { processor_code (seen board.old) cpu ≢ OK → result ≡ processor_code (seen board.old) cpu }
+    ensures taken { processor_code (seen board.old) cpu ≡ OK → result ≡ OK ⊎ result ≡ NO_EDGE }
+    ensures next { processor_code (seen board.old) cpu ≡ OK
+        → IsNextTick (seen board.old).state cpu (told_number result at_ns.new) }
     ensures none { result ≢ OK → at_ns.new ≡ 0 }
+    ensures board { seen board.new ≡ seen board.old }
 {
     *at_ns = 0;
     if board.seal != SEAL {
         return NO_BOARD;
     }
+    board.catch_up();
     if cpu >= board.state.cpus() {
         return NO_PROCESSOR;
     }
@@ -97,23 +100,26 @@ pub extern "C" fn clockboard_next_tick(board: &Board, cpu: u8, at_ns: &mut u64) 
 
 /// The same for the messages of the HPET's timers.
 #[unsafe(no_mangle)]
-pub extern "C" fn clockboard_next_message(board: &Board, at_ns: &mut u64) -> u32
-    ensures code { result ≡ answer_code board.now (next_message_of board.now.state) }
-    ensures number { at_ns.new ≡ answer_number board.now (next_message_of board.now.state) }
+pub extern "C" fn clockboard_next_message(board: &mut Board, at_ns: &mut u64) -> u32
+    ensures code { result ≡ answer_code (seen board.old) (next_message_of (seen board.old).state) }
+    ensures number { at_ns.new ≡ answer_number (seen board.old) (next_message_of (seen board.old).state) }
+    ensures board { seen board.new ≡ seen board.old }
 {
     if board.seal != SEAL {
         *at_ns = 0;
         return NO_BOARD;
     }
+    board.catch_up();
     tell(board.state.next_message(), at_ns)
 }
 
 /// The first count of the host's counter whose time is `at_ns` or later; 0 after a code other than `OK`.
 #[unsafe(no_mangle)]
+#[tactic(auto, unfolding(board_core::specs::Access::after_run))]
 pub extern "C" fn clockboard_counter_of(board: &Board, at_ns: u64, host: &mut u64) -> u32
-    ensures code { result ≡ answer_code board.now (count_in board.now at_ns) }
-    ensures number { host.new ≡ answer_number board.now (count_in board.now at_ns) }
-    ensures first { result ≡ OK → IsFirstCount board.now.state.anchor at_ns host.new }
+    ensures code { result ≡ answer_code (seen board.now) (count_in (seen board.now) at_ns) }
+    ensures number { host.new ≡ answer_number (seen board.now) (count_in (seen board.now) at_ns) }
+    ensures first { result ≡ OK → IsFirstCount (seen board.now).state.anchor at_ns host.new }
 {
     if board.seal != SEAL {
         *host = 0;

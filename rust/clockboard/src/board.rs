@@ -96,18 +96,18 @@ impl Board {
     }
 
     /// The same for the local APIC's timer of a processor: when it ticks next, which is when it fires and isn't masked.
-    pub fn next_tick(&self, cpu: u8) -> Option<u64> {
+    pub fn next_tick(&mut self, cpu: u8) -> Option<u64> {
         let mut at = 0;
         // SAFETY: two references of their types.
-        let code = unsafe { ffi::clockboard_next_tick(&self.0, cpu, &mut at) };
+        let code = unsafe { ffi::clockboard_next_tick(&mut self.0, cpu, &mut at) };
         (code == 0).then_some(at)
     }
 
     /// The same for the messages of the HPET's timers.
-    pub fn next_message(&self) -> Option<u64> {
+    pub fn next_message(&mut self) -> Option<u64> {
         let mut at = 0;
         // SAFETY: two references of their types.
-        let code = unsafe { ffi::clockboard_next_message(&self.0, &mut at) };
+        let code = unsafe { ffi::clockboard_next_message(&mut self.0, &mut at) };
         (code == 0).then_some(at)
     }
 
@@ -120,10 +120,10 @@ impl Board {
     }
 
     /// The board at a glance. It is no access.
-    pub fn look(&self) -> View {
+    pub fn look(&mut self) -> View {
         let mut view = ffi::View::default();
         // SAFETY: two references of their types.
-        let _ = unsafe { ffi::clockboard_look(&self.0, &mut view) };
+        let _ = unsafe { ffi::clockboard_look(&mut self.0, &mut view) };
         View {
             now_ns: view.now_ns,
             accesses: view.accesses,
@@ -213,11 +213,12 @@ impl Board {
 
     /// Writes the saved state to the front of `bytes`, and answers its length. [`Board::STATE_MAX`] bytes are enough for each
     /// board. Two boards with the same saved state answer each access alike.
-    pub fn save(&self, bytes: &mut [u8]) -> Result<usize, Error> {
+    pub fn save(&mut self, bytes: &mut [u8]) -> Result<usize, Error> {
         let mut written = 0;
         // SAFETY: references of their types, and a slice by its pointer, which isn't null, and its length.
-        let code =
-            unsafe { ffi::clockboard_save(&self.0, bytes.as_mut_ptr(), bytes.len(), &mut written) };
+        let code = unsafe {
+            ffi::clockboard_save(&mut self.0, bytes.as_mut_ptr(), bytes.len(), &mut written)
+        };
         match code {
             0 => Ok(written),
             code => Err(Error::of_code(code, [written as u64, 0, 0, 0])),

@@ -2,10 +2,10 @@
 //! The calls of the archive, as `c/clockboard.h` declares them.
 
 /// `CLOCKBOARD_ABI` of the header.
-pub const ABI: u32 = 5;
+pub const ABI: u32 = 6;
 
 /// `CLOCKBOARD_SIZE` of the header.
-pub const SIZE: usize = 9_328;
+pub const SIZE: usize = 9_360;
 
 #[derive(Clone, Copy)]
 #[repr(C)]
@@ -204,17 +204,17 @@ extern "C" {
     pub fn clockboard_counts(board: *mut Board, cpu: u8, host: u64, source: u8, reply: *mut Reply);
     pub fn clockboard_rises(board: *mut Board, cpu: u8, host: u64, line: u8, reply: *mut Reply);
     pub fn clockboard_next_edge(board: *mut Board, at_ns: *mut u64) -> u32;
-    pub fn clockboard_next_tick(board: *const Board, cpu: u8, at_ns: *mut u64) -> u32;
-    pub fn clockboard_next_message(board: *const Board, at_ns: *mut u64) -> u32;
+    pub fn clockboard_next_tick(board: *mut Board, cpu: u8, at_ns: *mut u64) -> u32;
+    pub fn clockboard_next_message(board: *mut Board, at_ns: *mut u64) -> u32;
     pub fn clockboard_counter_of(board: *const Board, at_ns: u64, host: *mut u64) -> u32;
-    pub fn clockboard_look(board: *const Board, view: *mut View) -> u32;
+    pub fn clockboard_look(board: *mut Board, view: *mut View) -> u32;
     pub fn clockboard_tsc(board: *const Board, cpu: u8, tsc: *mut Tsc) -> u32;
     pub fn clockboard_hv_page(board: *const Board, page: *mut HvPage) -> u32;
     pub fn clockboard_hv_time(board: *const Board, host: u64, reply: *mut Reply);
     pub fn clockboard_page(board: *const Board, cpu: u8, page: *mut Page) -> u32;
     pub fn clockboard_clock(board: *mut Board, cpu: u8, host: u64, reply: *mut Reply);
     pub fn clockboard_save(
-        board: *const Board,
+        board: *mut Board,
         bytes: *mut u8,
         room: usize,
         length: *mut usize,

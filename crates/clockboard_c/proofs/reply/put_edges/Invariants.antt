@@ -8,4 +8,4 @@ abbrev pub invariant-loop-k : goal.invariant-loop-k
 invariant-loop-k l =
     (length l.places ≡ EDGE_PLACES)
     × ((j : ℕ) → j < l.k → slice_index_or l.places j (edge_words no_edge) ≡ edge_words (slice_index_or l.edges j no_edge))
-    × AreKept l.k l.fn.places l.places
+    × AreKept (edge_words no_edge) l.k l.fn.places l.places
