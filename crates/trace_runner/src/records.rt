@@ -1,9 +1,13 @@
 //! The answers to records.
-ghost use Rattle.std.specs.Prelude.{◌≡◌, ◌<◌, ◌≤◌, true, None};
+ghost use Rattle.std.specs.Prelude.{◌≡◌, ◌<◌, ◌≤◌, ◌++◌, true, None, OnOk, OnErr};
+ghost use Rattle.std.specs.Io.{StartsWith};
 ghost use Rattle.board_types.specs.Legal.{is_legal};
+ghost use Rattle.board_types.specs.Reply.{IsFresh};
 ghost use Rattle.board_types.specs.declared.setup.TheConstants.{HV_FORMAT};
 ghost use Rattle.trace_text.specs.declared.reading.Item.TheVariants.{Next};
 ghost use Rattle.trace_loop.specs.Answered.{IsAnswered};
+ghost use Rattle.race_phase.specs.Blocks.{block_of};
+ghost use Rattle.race_phase.specs.declared.records.Answer.TheVariants.{Acted};
 ghost use Rattle.trace_runner.specs.Records.{
   board_answer,
   page_answer,
@@ -14,10 +18,10 @@ ghost use Rattle.trace_runner.specs.Replay.{record_answer, with_board};
 ghost use Rattle.trace_runner.specs.Ready.{Suits};
 
 use crate::replay::Replay;
-use crate::status::{Verdict, refuse, refused_access, refused_time};
-use board_core::Access;
+use crate::status::{Verdict, refuse, refuse_access, refused_time};
+use board_core::{Access, Reply};
 use clk_units::NoMemory;
-use race_phase::{NewHost, access_block};
+use race_phase::{Deliveries, NewHost, access_block};
 use reply_text::{board_line, clock_line, hv_line, page_line};
 use trace_text::{Call, Job, Record};
 
@@ -95,11 +99,9 @@ impl Replay {
                 if reply.edges.is_empty() && reply.bursts.is_empty() {
                     return board_line(line, reply, out);
                 }
-                let printed = access_block(line, reply, &self.deliveries, out);
-                reply.clear();
-                printed
+                print_block(line, reply, &self.deliveries, out)
             }
-            Err(refusal) => refuse(line, refused_access(refusal), out, end),
+            Err(refusal) => refuse_access(line, &refusal, out, end),
         }
     }
 
@@ -176,4 +178,23 @@ impl Replay {
             Err(fault) => refuse(line, refused_time(fault), out, end),
         }
     }
+}
+
+/// Prints the block of an access that brought an edge or a message, and takes these out of its reply.
+// Most accesses bring none. Inlined, it makes the answer to a line too large to be inlined in the loop over lines.
+#[inline(never)]
+fn print_block(
+    line: u64,
+    reply: &mut Reply,
+    deliveries: &Deliveries,
+    out: &mut Vec<u8>,
+) -> Result<(), NoMemory>
+    ensures ok { OnOk result
+        (out.new.items ≡ out.old.items ++ block_of deliveries.now line (Acted reply.old)) }
+    ensures err { OnErr result (StartsWith out.new.items out.old.items) }
+    ensures fresh { IsFresh reply.new }
+{
+    let printed = access_block(line, reply, deliveries, out);
+    reply.clear();
+    printed
 }
