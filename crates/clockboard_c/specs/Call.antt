@@ -1,5 +1,8 @@
 -- One access to a board that C holds: what it tells, and the board behind it.
 use Rattle.std.specs.Prelude.{
+  ◌≡◌,
+  ◌<◌,
+  IsTrue,
   ℕ,
   ◌-◌,
   ◌==◌,
@@ -35,7 +38,7 @@ use Rattle.board_core.specs.Access.{edges_of, reply_of, after_access}
 use Rattle.board_core.specs.Hv.{publishes_hv}
 use Rattle.board_core.specs.Pages.{published_by}
 use Rattle.board_core.specs.Refusals.{refusal_of}
-use Rattle.clockboard_c.specs.Kept.{CallerBoard}
+use Rattle.clockboard_c.specs.Kept.{CallerBoard, LaggingBoard, seen}
 use Rattle.clockboard_c.specs.declared.board.TheConstants.{SEAL}
 use Rattle.clockboard_c.specs.declared.code.TheConstants.{
   NO_BOARD,
@@ -45,7 +48,8 @@ use Rattle.clockboard_c.specs.declared.code.TheConstants.{
   NOT_SHARED,
 }
 use Rattle.clockboard_c.specs.Codes.{code_of}
-use Rattle.clockboard_c.specs.Replies.{Told, refused, told_of}
+use Rattle.clockboard_c.specs.declared.reply.ReplyWords.{ReplyWords}
+use Rattle.clockboard_c.specs.Replies.{Told, IsReply, refused, told_of}
 
 -- a board that a call has made
 abbrev pub sealed : BoardParts → CallerBoard
@@ -144,6 +148,28 @@ behind b cpu h a = behind_or (early_code b cpu a) b cpu h a
 
 abbrev pub shared_behind : CallerBoard → ℕ → ℕ → Access → CallerBoard
 shared_behind b cpu h a = behind_or (shared_code b cpu a) b cpu h a
+
+-- the board takes such an access of such a processor
+pub record IsTaken (s : BoardParts) (cpu : ℕ) (a : Access) : Type 0 where
+  pub there : cpu < s.cpus
+  pub legal : IsTrue (is_legal s.cpus s.format a)
+
+-- what the board makes of an access that it is handed: the reply, and the board
+pub record HasAnswered (b b' : LaggingBoard) (r r' : ReplyWords) (cpu h : ℕ) (a : Access) : Type 0
+  where
+    pub reply : IsReply r r' (told_by (seen b).state cpu h a)
+    pub board : seen b' ≡ answered (seen b) cpu h a
+
+-- what a call of an access makes of the reply and of the board
+pub record IsCalled (b b' : LaggingBoard) (r r' : ReplyWords) (cpu h : ℕ) (a : Access) : Type 0 where
+  pub reply : IsReply r r' (told (seen b) cpu h a)
+  pub board : seen b' ≡ behind (seen b) cpu h a
+
+-- .. and where the caller puts the page's words for the threads
+pub record IsSharedCall (b b' : LaggingBoard) (r r' : ReplyWords) (cpu h : ℕ) (a : Access) : Type 0
+  where
+    pub reply : IsReply r r' (shared_told (seen b) cpu h a)
+    pub board : seen b' ≡ shared_behind (seen b) cpu h a
 
 -- the source of ticks of a number: the 8254, the MC146818, from 2 on the timers of the HPET, and from
 -- 16 on those of the processors' local APICs

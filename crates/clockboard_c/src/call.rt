@@ -1,11 +1,9 @@
 //! One access to a board that C holds.
-ghost use Rattle.std.specs.Prelude.{◌≡◌, ◌<◌, ◌&&◌, IsTrue, true, false};
+ghost use Rattle.std.specs.Prelude.{◌≡◌, ◌&&◌, true, false};
 ghost use Rattle.board_types.specs.declared.parts.BoardParts.{BoardParts};
-ghost use Rattle.board_types.specs.Legal.{is_legal};
 ghost use Rattle.board_core.specs.Lazy.{is_passive, caught_up, IsLazy, IsCounted};
 ghost use Rattle.board_core.specs.Time.{now_of};
 ghost use Rattle.clockboard_c.specs.Kept.{seen};
-ghost use Rattle.clockboard_c.specs.Replies.{IsReply};
 ghost use Rattle.clockboard_c.specs.Call.{
   access_code,
   early_code,
@@ -13,12 +11,10 @@ ghost use Rattle.clockboard_c.specs.Call.{
   shared_code,
   leaves_devices,
   is_none,
-  told,
-  behind,
-  shared_told,
-  shared_behind,
-  told_by,
-  answered,
+  IsTaken,
+  HasAnswered,
+  IsCalled,
+  IsSharedCall,
 };
 
 use crate::board::{Board, SEAL};
@@ -32,8 +28,7 @@ use irq_edges::EdgeList;
 /// a code; else the board answers. Each call of C's has its own copy of these tests, in which its kind of access is known.
 #[inline(always)]
 pub(crate) fn call(board: &mut Board, cpu: u8, host: u64, access: Access, reply: &mut ReplyWords)
-    ensures reply { IsReply reply.old reply.new (told (seen board.old) cpu host access) }
-    ensures board { seen board.new ≡ behind (seen board.old) cpu host access }
+    ensures { IsCalled board.old board.new reply.old reply.new cpu host access }
 {
     match early_code(board, cpu, access) {
         Some(code) => reply.refuse(code),
@@ -50,8 +45,7 @@ pub(crate) fn shared_call(
     access: Access,
     reply: &mut ReplyWords,
 )
-    ensures reply { IsReply reply.old reply.new (shared_told (seen board.old) cpu host access) }
-    ensures board { seen board.new ≡ shared_behind (seen board.old) cpu host access }
+    ensures { IsSharedCall board.old board.new reply.old reply.new cpu host access }
 {
     match shared_code(board, cpu, access) {
         Some(code) => reply.refuse(code),
@@ -114,10 +108,8 @@ fn access_code(state: &BoardState, cpu: u8, access: Access) -> Option<u32>
 /// The board's answer. What changes nothing is only counted where nothing comes before it that could be seen.
 #[inline(always)]
 fn answer(board: &mut Board, cpu: u8, host: u64, access: Access, reply: &mut ReplyWords)
-    requires cpu { cpu < (seen board.old).state.cpus }
-    requires legal { IsTrue (is_legal (seen board.old).state.cpus (seen board.old).state.format access) }
-    ensures reply { IsReply reply.old reply.new (told_by (seen board.old).state cpu host access) }
-    ensures board { seen board.new ≡ answered (seen board.old) cpu host access }
+    requires { IsTaken (seen board.old).state cpu access }
+    ensures { HasAnswered board.old board.new reply.old reply.new cpu host access }
 {
     if is_passive(access) && board.state.counts(&board.lag, host) {
         count(board, cpu, host, access, reply);
@@ -131,8 +123,7 @@ fn answer(board: &mut Board, cpu: u8, host: u64, access: Access, reply: &mut Rep
 fn count(board: &mut Board, cpu: u8, host: u64, access: Access, reply: &mut ReplyWords)
     requires passive { is_passive access ≡ true }
     requires counted { IsCounted board.old.state board.old.lag host }
-    ensures reply { IsReply reply.old reply.new (told_by (seen board.old).state cpu host access) }
-    ensures board { seen board.new ≡ answered (seen board.old) cpu host access }
+    ensures { HasAnswered board.old board.new reply.old reply.new cpu host access }
 {
     // The call gives with the processors what joins the parts of a board.
     let _ = board.state.cpus();
@@ -160,10 +151,8 @@ fn now_after(state: &BoardState, lag: &Lag, later: bool, before: u64) -> u64
 /// The board's answer, in one place for all calls: so the board's code for an access is in it, and not a call away.
 #[inline(never)]
 fn run(board: &mut Board, cpu: u8, host: u64, access: Access, reply: &mut ReplyWords)
-    requires cpu { cpu < (seen board.old).state.cpus }
-    requires legal { IsTrue (is_legal (seen board.old).state.cpus (seen board.old).state.format access) }
-    ensures reply { IsReply reply.old reply.new (told_by (seen board.old).state cpu host access) }
-    ensures board { seen board.new ≡ answered (seen board.old) cpu host access }
+    requires { IsTaken (seen board.old).state cpu access }
+    ensures { HasAnswered board.old board.new reply.old reply.new cpu host access }
 {
     // The call gives with the processors what joins the parts of a board.
     let _ = board.state.cpus();

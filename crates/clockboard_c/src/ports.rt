@@ -1,9 +1,7 @@
 //! Time that goes by, and the ports of the 8254 and of the MC146818.
 ghost use Rattle.std.specs.Prelude.{◌≡◌};
 ghost use Rattle.board_types.specs.declared.access.Access.TheVariants.{PortIn, PortOut, Step};
-ghost use Rattle.clockboard_c.specs.Kept.{seen};
-ghost use Rattle.clockboard_c.specs.Replies.{IsReply};
-ghost use Rattle.clockboard_c.specs.Call.{told, behind};
+ghost use Rattle.clockboard_c.specs.Call.{IsCalled};
 ghost use Rattle.clockboard_c.specs.private.Narrow.{narrowed};
 
 use crate::board::Board;
@@ -14,8 +12,7 @@ use board_types::Access;
 /// Nothing but the time up to count `host`.
 #[unsafe(no_mangle)]
 pub extern "C" fn clockboard_step(board: &mut Board, cpu: u8, host: u64, reply: &mut ReplyWords)
-    ensures reply { IsReply reply.old reply.new (told (seen board.old) cpu host Step) }
-    ensures board { seen board.new ≡ behind (seen board.old) cpu host Step }
+    ensures { IsCalled board.old board.new reply.old reply.new cpu host Step }
 {
     call(board, cpu, host, Access::Step, reply);
 }
@@ -29,8 +26,7 @@ pub extern "C" fn clockboard_port_read(
     port: u16,
     reply: &mut ReplyWords,
 )
-    ensures reply { IsReply reply.old reply.new (told (seen board.old) cpu host (PortIn port)) }
-    ensures board { seen board.new ≡ behind (seen board.old) cpu host (PortIn port) }
+    ensures { IsCalled board.old board.new reply.old reply.new cpu host (PortIn port) }
 {
     let port = narrowed(port);
     call(board, cpu, host, Access::PortIn { port }, reply);
@@ -46,8 +42,7 @@ pub extern "C" fn clockboard_port_write(
     byte: u8,
     reply: &mut ReplyWords,
 )
-    ensures reply { IsReply reply.old reply.new (told (seen board.old) cpu host (PortOut port byte)) }
-    ensures board { seen board.new ≡ behind (seen board.old) cpu host (PortOut port byte) }
+    ensures { IsCalled board.old board.new reply.old reply.new cpu host (PortOut port byte) }
 {
     let port = narrowed(port);
     call(board, cpu, host, Access::PortOut { port, byte }, reply);

@@ -12,9 +12,7 @@ ghost use Rattle.board_types.specs.declared.access.Access.TheVariants.{
   Rose,
   Eoi,
 };
-ghost use Rattle.clockboard_c.specs.Kept.{seen};
-ghost use Rattle.clockboard_c.specs.Replies.{IsReply};
-ghost use Rattle.clockboard_c.specs.Call.{told, behind, source_of};
+ghost use Rattle.clockboard_c.specs.Call.{IsCalled, source_of};
 
 use crate::board::Board;
 use crate::call::call;
@@ -31,8 +29,7 @@ pub extern "C" fn clockboard_hpet_read(
     width: u8,
     reply: &mut ReplyWords,
 )
-    ensures reply { IsReply reply.old reply.new (told (seen board.old) cpu host (HpetRead offset width)) }
-    ensures board { seen board.new ≡ behind (seen board.old) cpu host (HpetRead offset width) }
+    ensures { IsCalled board.old board.new reply.old reply.new cpu host (HpetRead offset width) }
 {
     call(board, cpu, host, Access::HpetRead { offset, width }, reply);
 }
@@ -48,8 +45,7 @@ pub extern "C" fn clockboard_hpet_write(
     value: u64,
     reply: &mut ReplyWords,
 )
-    ensures reply { IsReply reply.old reply.new (told (seen board.old) cpu host (HpetWrite offset width value)) }
-    ensures board { seen board.new ≡ behind (seen board.old) cpu host (HpetWrite offset width value) }
+    ensures { IsCalled board.old board.new reply.old reply.new cpu host (HpetWrite offset width value) }
 {
     let access = Access::HpetWrite {
         offset,
@@ -69,8 +65,7 @@ pub extern "C" fn clockboard_msr_read(
     msr: u32,
     reply: &mut ReplyWords,
 )
-    ensures reply { IsReply reply.old reply.new (told (seen board.old) cpu host (MsrRead msr)) }
-    ensures board { seen board.new ≡ behind (seen board.old) cpu host (MsrRead msr) }
+    ensures { IsCalled board.old board.new reply.old reply.new cpu host (MsrRead msr) }
 {
     call(board, cpu, host, Access::MsrRead { msr }, reply);
 }
@@ -85,8 +80,7 @@ pub extern "C" fn clockboard_msr_write(
     value: u64,
     reply: &mut ReplyWords,
 )
-    ensures reply { IsReply reply.old reply.new (told (seen board.old) cpu host (MsrWrite msr value)) }
-    ensures board { seen board.new ≡ behind (seen board.old) cpu host (MsrWrite msr value) }
+    ensures { IsCalled board.old board.new reply.old reply.new cpu host (MsrWrite msr value) }
 {
     call(board, cpu, host, Access::MsrWrite { msr, value }, reply);
 }
@@ -100,8 +94,7 @@ pub extern "C" fn clockboard_acknowledge(
     line: u8,
     reply: &mut ReplyWords,
 )
-    ensures reply { IsReply reply.old reply.new (told (seen board.old) cpu host (Ack line)) }
-    ensures board { seen board.new ≡ behind (seen board.old) cpu host (Ack line) }
+    ensures { IsCalled board.old board.new reply.old reply.new cpu host (Ack line) }
 {
     call(board, cpu, host, Access::Ack { line }, reply);
 }
@@ -109,8 +102,7 @@ pub extern "C" fn clockboard_acknowledge(
 /// The end of the interrupt of the local APIC's timer of processor `cpu`; from format 3 on.
 #[unsafe(no_mangle)]
 pub extern "C" fn clockboard_eoi(board: &mut Board, cpu: u8, host: u64, reply: &mut ReplyWords)
-    ensures reply { IsReply reply.old reply.new (told (seen board.old) cpu host Eoi) }
-    ensures board { seen board.new ≡ behind (seen board.old) cpu host Eoi }
+    ensures { IsCalled board.old board.new reply.old reply.new cpu host Eoi }
 {
     call(board, cpu, host, Access::Eoi, reply);
 }
@@ -124,8 +116,7 @@ pub extern "C" fn clockboard_refresh(
     page: u8,
     reply: &mut ReplyWords,
 )
-    ensures reply { IsReply reply.old reply.new (told (seen board.old) cpu host (Refresh page)) }
-    ensures board { seen board.new ≡ behind (seen board.old) cpu host (Refresh page) }
+    ensures { IsCalled board.old board.new reply.old reply.new cpu host (Refresh page) }
 {
     call(board, cpu, host, Access::Refresh { page }, reply);
 }
@@ -133,8 +124,7 @@ pub extern "C" fn clockboard_refresh(
 /// The wall clock's words: version, seconds, nanoseconds.
 #[unsafe(no_mangle)]
 pub extern "C" fn clockboard_wall(board: &mut Board, cpu: u8, host: u64, reply: &mut ReplyWords)
-    ensures reply { IsReply reply.old reply.new (told (seen board.old) cpu host Wall) }
-    ensures board { seen board.new ≡ behind (seen board.old) cpu host Wall }
+    ensures { IsCalled board.old board.new reply.old reply.new cpu host Wall }
 {
     call(board, cpu, host, Access::Wall, reply);
 }
@@ -149,8 +139,7 @@ pub extern "C" fn clockboard_counts(
     source: u8,
     reply: &mut ReplyWords,
 )
-    ensures reply { IsReply reply.old reply.new (told (seen board.old) cpu host (CountsOf (source_of source))) }
-    ensures board { seen board.new ≡ behind (seen board.old) cpu host (CountsOf (source_of source)) }
+    ensures { IsCalled board.old board.new reply.old reply.new cpu host (CountsOf (source_of source)) }
 {
     let from = source_of(source);
     call(board, cpu, host, Access::CountsOf { from }, reply);
@@ -165,8 +154,7 @@ pub extern "C" fn clockboard_rises(
     line: u8,
     reply: &mut ReplyWords,
 )
-    ensures reply { IsReply reply.old reply.new (told (seen board.old) cpu host (Rose line)) }
-    ensures board { seen board.new ≡ behind (seen board.old) cpu host (Rose line) }
+    ensures { IsCalled board.old board.new reply.old reply.new cpu host (Rose line) }
 {
     call(board, cpu, host, Access::Rose { line }, reply);
 }

@@ -7,8 +7,7 @@ ghost use Rattle.tsc_scale.specs.Ratio.{ratio_of};
 ghost use Rattle.board_core.specs.Hv.{hv_reply};
 ghost use Rattle.board_core.specs.Pages.{page_reply, with_greatest};
 ghost use Rattle.clockboard_c.specs.Kept.{seen};
-ghost use Rattle.clockboard_c.specs.Replies.{IsReply};
-ghost use Rattle.clockboard_c.specs.Call.{shared_told, shared_behind};
+ghost use Rattle.clockboard_c.specs.Call.{IsSharedCall};
 ghost use Rattle.clockboard_c.specs.States.{whole_code};
 ghost use Rattle.clockboard_c.specs.Shared.{
   last_count,
@@ -290,8 +289,7 @@ pub extern "C" fn clockboard_share_msr_write(
     value: u64,
     reply: &mut ReplyWords,
 )
-    ensures reply { IsReply reply.old reply.new (shared_told (seen board.old) cpu host (MsrWrite msr value)) }
-    ensures board { seen board.new ≡ shared_behind (seen board.old) cpu host (MsrWrite msr value) }
+    ensures { IsSharedCall board.old board.new reply.old reply.new cpu host (MsrWrite msr value) }
 {
     shared_call(board, cpu, host, Access::MsrWrite { msr, value }, reply);
 }
@@ -305,8 +303,7 @@ pub extern "C" fn clockboard_share_refresh(
     page: u8,
     reply: &mut ReplyWords,
 )
-    ensures reply { IsReply reply.old reply.new (shared_told (seen board.old) cpu host (Refresh page)) }
-    ensures board { seen board.new ≡ shared_behind (seen board.old) cpu host (Refresh page) }
+    ensures { IsSharedCall board.old board.new reply.old reply.new cpu host (Refresh page) }
 {
     shared_call(board, cpu, host, Access::Refresh { page }, reply);
 }

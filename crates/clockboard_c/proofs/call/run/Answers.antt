@@ -16,14 +16,12 @@ invariant_of-board c = record {
   time = c.lagging_now-now_ns.ensures.value;
 }
 
-pub returns-in-Ok-clause-board : goal.returns-in-Ok-clause-board
-returns-in-Ok-clause-board c =
-    answered-is (caught_up c.board.inside.state c.board.inside.lag) _ _ _ _ _ _ _ (seen c.args.board.now) c.board.inside.next _ _ (ap seen c.board.view_is)
-    c.in-Ok.ensures.outcome.taken c.in-Ok.ensures.outcome.state c.in-Ok.ensures.outcome.reply c.keeps_next-kept.ensures c.keep_where.ensures
-
-pub returns-in-Ok-clause-reply : goal.returns-in-Ok-clause-reply
-returns-in-Ok-clause-reply c =
-    subst (λ (b : CallerBoard). IsReply c.args.reply.now c.take_answer.new.self (told_by b.state c.args.cpu c.args.host c.args.access))
-    (ap seen c.board.view_is)
-    (says-answer _ _ (caught_up c.board.inside.state c.board.inside.lag) _ _ _ _ _ c.in-Ok.ensures.outcome.taken c.in-Ok.ensures.outcome.reply
-    (c.lagging_now-now_ns.ensures.value ∙ ap now_of c.in-Ok.ensures.outcome.state) c.take_answer.ensures)
+pub returns-in-Ok : goal.returns-in-Ok
+returns-in-Ok c = record {
+  reply = subst (λ (b : CallerBoard). IsReply c.args.reply.now c.take_answer.new.self (told_by b.state c.args.cpu c.args.host c.args.access))
+      (ap seen c.board.view_is)
+      (says-answer _ _ (caught_up c.board.inside.state c.board.inside.lag) _ _ _ _ _ c.in-Ok.ensures.outcome.taken c.in-Ok.ensures.outcome.reply
+      (c.lagging_now-now_ns.ensures.value ∙ ap now_of c.in-Ok.ensures.outcome.state) c.take_answer.ensures);
+  board = answered-is (caught_up c.board.inside.state c.board.inside.lag) _ _ _ _ _ _ _ (seen c.args.board.now) c.board.inside.next _ _ (ap seen c.board.view_is)
+      c.in-Ok.ensures.outcome.taken c.in-Ok.ensures.outcome.state c.in-Ok.ensures.outcome.reply c.keeps_next-kept.ensures c.keep_where.ensures;
+}
