@@ -1,5 +1,5 @@
--- Rows that pin the conditions on a counter's fields, one test of each condition a row.
-use Rattle.std.proofs.Common.{◌≡◌, ℕ, true, false, Some, None, refl}
+-- Tables that pin the conditions on a counter's fields.
+use Rattle.std.proofs.Common.{◌≡◌, ℕ, true, false, Some, None, map, [], ◌∷◌, refl}
 use Rattle.pit_counter.specs.Mode.{mode_of, access_of, is_bcd}
 use Rattle.pit_counter.specs.Count.{modulus}
 use Rattle.pit_counter.specs.Programming.{programmed}
@@ -30,341 +30,142 @@ use Rattle.pit_counter.specs.declared.parts.CounterParts.{CounterParts}
 abbrev counting : ℕ → CounterParts
 counting bits = record (programmed bits true) { null = false; full = true; live = true; cr = 4; ce = 4 }
 
--- ---- the programmed bits: D5 and D4 not both 0, no bit above
-
-rw_00 : first_fault (programmed 0x06 true) ≡ Some ProgrammedBits
-unfolding programmed mode_of access_of is_bcd modulus
-    bits_valid flags_valid cr_valid ce_valid part_valid read_order_valid latched_count_valid latched_status_valid
-rw_00 = refl
-
-bit_6 : first_fault (programmed 0x74 true) ≡ Some ProgrammedBits
-unfolding programmed mode_of access_of is_bcd modulus
-    bits_valid flags_valid cr_valid ce_valid part_valid read_order_valid latched_count_valid latched_status_valid
-bit_6 = refl
-
-least_bits : first_fault (programmed 0x10 true) ≡ None
-unfolding programmed mode_of access_of is_bcd modulus
-    bits_valid flags_valid cr_valid ce_valid part_valid read_order_valid latched_count_valid latched_status_valid
-least_bits = refl
-
-greatest_bits : first_fault (programmed 0x3f true) ≡ None
-unfolding programmed mode_of access_of is_bcd modulus
-    bits_valid flags_valid cr_valid ce_valid part_valid read_order_valid latched_count_valid latched_status_valid
-greatest_bits = refl
-
--- ---- the flags of the count
-
-loaded_without_a_count : first_fault (record (counting 0x34) { full = false; cr = 0 }) ≡ Some Flags
-unfolding programmed mode_of access_of is_bcd modulus
-    bits_valid flags_valid cr_valid ce_valid part_valid read_order_valid latched_count_valid latched_status_valid
-loaded_without_a_count = refl
-
-null_0_without_a_load : first_fault (record (programmed 0x34 true) { null = false }) ≡ Some Flags
-unfolding programmed mode_of access_of is_bcd modulus
-    bits_valid flags_valid cr_valid ce_valid part_valid read_order_valid latched_count_valid latched_status_valid
-null_0_without_a_load = refl
-
-null_1_behind_a_load : first_fault (record (counting 0x34) { null = true }) ≡ None
-unfolding programmed mode_of access_of is_bcd modulus
-    bits_valid flags_valid cr_valid ce_valid part_valid read_order_valid latched_count_valid latched_status_valid
-null_1_behind_a_load = refl
-
--- ---- the flags of single modes
-
-strobe_due_30 : first_fault (record (counting 0x30) { armed = true }) ≡ Some Flags
-unfolding programmed mode_of access_of is_bcd modulus
-    bits_valid flags_valid cr_valid ce_valid part_valid read_order_valid latched_count_valid latched_status_valid
-strobe_due_30 = refl
-
-strobe_due_32 : first_fault (record (counting 0x32) { armed = true }) ≡ Some Flags
-unfolding programmed mode_of access_of is_bcd modulus
-    bits_valid flags_valid cr_valid ce_valid part_valid read_order_valid latched_count_valid latched_status_valid
-strobe_due_32 = refl
-
-strobe_due_34 : first_fault (record (counting 0x34) { armed = true }) ≡ Some Flags
-unfolding programmed mode_of access_of is_bcd modulus
-    bits_valid flags_valid cr_valid ce_valid part_valid read_order_valid latched_count_valid latched_status_valid
-strobe_due_34 = refl
-
-strobe_due_36 : first_fault (record (counting 0x36) { armed = true }) ≡ Some Flags
-unfolding programmed mode_of access_of is_bcd modulus
-    bits_valid flags_valid cr_valid ce_valid part_valid read_order_valid latched_count_valid latched_status_valid
-strobe_due_36 = refl
-
-strobe_due_38 : first_fault (record (counting 0x38) { armed = true }) ≡ None
-unfolding programmed mode_of access_of is_bcd modulus
-    bits_valid flags_valid cr_valid ce_valid part_valid read_order_valid latched_count_valid latched_status_valid
-strobe_due_38 = refl
-
-strobe_due_3a : first_fault (record (counting 0x3a) { armed = true }) ≡ None
-unfolding programmed mode_of access_of is_bcd modulus
-    bits_valid flags_valid cr_valid ce_valid part_valid read_order_valid latched_count_valid latched_status_valid
-strobe_due_3a = refl
-
-strobe_due_without_a_load : first_fault (record (programmed 0x38 true) { armed = true }) ≡ Some Flags
-unfolding programmed mode_of access_of is_bcd modulus
-    bits_valid flags_valid cr_valid ce_valid part_valid read_order_valid latched_count_valid latched_status_valid
-strobe_due_without_a_load = refl
-
-trigger_30 : first_fault (record (counting 0x30) { trig = true }) ≡ Some Flags
-unfolding programmed mode_of access_of is_bcd modulus
-    bits_valid flags_valid cr_valid ce_valid part_valid read_order_valid latched_count_valid latched_status_valid
-trigger_30 = refl
-
-trigger_38 : first_fault (record (counting 0x38) { trig = true }) ≡ Some Flags
-unfolding programmed mode_of access_of is_bcd modulus
-    bits_valid flags_valid cr_valid ce_valid part_valid read_order_valid latched_count_valid latched_status_valid
-trigger_38 = refl
-
-trigger_32 : first_fault (record (counting 0x32) { trig = true }) ≡ None
-unfolding programmed mode_of access_of is_bcd modulus
-    bits_valid flags_valid cr_valid ce_valid part_valid read_order_valid latched_count_valid latched_status_valid
-trigger_32 = refl
-
-trigger_34 : first_fault (record (counting 0x34) { trig = true }) ≡ None
-unfolding programmed mode_of access_of is_bcd modulus
-    bits_valid flags_valid cr_valid ce_valid part_valid read_order_valid latched_count_valid latched_status_valid
-trigger_34 = refl
-
-trigger_36 : first_fault (record (counting 0x36) { trig = true }) ≡ None
-unfolding programmed mode_of access_of is_bcd modulus
-    bits_valid flags_valid cr_valid ce_valid part_valid read_order_valid latched_count_valid latched_status_valid
-trigger_36 = refl
-
-trigger_3a : first_fault (record (counting 0x3a) { trig = true }) ≡ None
-unfolding programmed mode_of access_of is_bcd modulus
-    bits_valid flags_valid cr_valid ce_valid part_valid read_order_valid latched_count_valid latched_status_valid
-trigger_3a = refl
-
-trigger_without_a_count : first_fault (record (programmed 0x32 true) { trig = true }) ≡ Some Flags
-unfolding programmed mode_of access_of is_bcd modulus
-    bits_valid flags_valid cr_valid ce_valid part_valid read_order_valid latched_count_valid latched_status_valid
-trigger_without_a_count = refl
-
-odd_30 : first_fault (record (counting 0x30) { odd = true }) ≡ Some Flags
-unfolding programmed mode_of access_of is_bcd modulus
-    bits_valid flags_valid cr_valid ce_valid part_valid read_order_valid latched_count_valid latched_status_valid
-odd_30 = refl
-
-odd_32 : first_fault (record (counting 0x32) { odd = true }) ≡ Some Flags
-unfolding programmed mode_of access_of is_bcd modulus
-    bits_valid flags_valid cr_valid ce_valid part_valid read_order_valid latched_count_valid latched_status_valid
-odd_32 = refl
-
-odd_34 : first_fault (record (counting 0x34) { odd = true }) ≡ Some Flags
-unfolding programmed mode_of access_of is_bcd modulus
-    bits_valid flags_valid cr_valid ce_valid part_valid read_order_valid latched_count_valid latched_status_valid
-odd_34 = refl
-
-odd_38 : first_fault (record (counting 0x38) { odd = true }) ≡ Some Flags
-unfolding programmed mode_of access_of is_bcd modulus
-    bits_valid flags_valid cr_valid ce_valid part_valid read_order_valid latched_count_valid latched_status_valid
-odd_38 = refl
-
-odd_3a : first_fault (record (counting 0x3a) { odd = true }) ≡ Some Flags
-unfolding programmed mode_of access_of is_bcd modulus
-    bits_valid flags_valid cr_valid ce_valid part_valid read_order_valid latched_count_valid latched_status_valid
-odd_3a = refl
-
-odd_36 : first_fault (record (counting 0x36) { odd = true }) ≡ None
-unfolding programmed mode_of access_of is_bcd modulus
-    bits_valid flags_valid cr_valid ce_valid part_valid read_order_valid latched_count_valid latched_status_valid
-odd_36 = refl
-
-odd_without_a_load : first_fault (record (programmed 0x36 true) { odd = true }) ≡ Some Flags
-unfolding programmed mode_of access_of is_bcd modulus
-    bits_valid flags_valid cr_valid ce_valid part_valid read_order_valid latched_count_valid latched_status_valid
-odd_without_a_load = refl
-
--- ---- OUT low
-
-low_0_with_null : first_fault (programmed 0x30 true) ≡ None
-unfolding programmed mode_of access_of is_bcd modulus
-    bits_valid flags_valid cr_valid ce_valid part_valid read_order_valid latched_count_valid latched_status_valid
-low_0_with_null = refl
-
-high_0_with_null : first_fault (record (programmed 0x30 true) { out = true }) ≡ Some Flags
-unfolding programmed mode_of access_of is_bcd modulus
-    bits_valid flags_valid cr_valid ce_valid part_valid read_order_valid latched_count_valid latched_status_valid
-high_0_with_null = refl
-
-high_0_loaded : first_fault (record (counting 0x30) { out = true }) ≡ None
-unfolding programmed mode_of access_of is_bcd modulus
-    bits_valid flags_valid cr_valid ce_valid part_valid read_order_valid latched_count_valid latched_status_valid
-high_0_loaded = refl
-
-low_1_without_a_load : first_fault (record (programmed 0x32 true) { out = false }) ≡ Some Flags
-unfolding programmed mode_of access_of is_bcd modulus
-    bits_valid flags_valid cr_valid ce_valid part_valid read_order_valid latched_count_valid latched_status_valid
-low_1_without_a_load = refl
-
-low_1_loaded : first_fault (record (counting 0x32) { out = false }) ≡ None
-unfolding programmed mode_of access_of is_bcd modulus
-    bits_valid flags_valid cr_valid ce_valid part_valid read_order_valid latched_count_valid latched_status_valid
-low_1_loaded = refl
-
-low_2_without_a_load : first_fault (record (programmed 0x34 true) { out = false }) ≡ Some Flags
-unfolding programmed mode_of access_of is_bcd modulus
-    bits_valid flags_valid cr_valid ce_valid part_valid read_order_valid latched_count_valid latched_status_valid
-low_2_without_a_load = refl
-
-low_2_with_gate_low : first_fault (record (counting 0x34) { out = false; gate = false; ce = 1 }) ≡ Some Flags
-unfolding programmed mode_of access_of is_bcd modulus
-    bits_valid flags_valid cr_valid ce_valid part_valid read_order_valid latched_count_valid latched_status_valid
-low_2_with_gate_low = refl
-
-low_2_at_1 : first_fault (record (counting 0x34) { out = false; ce = 1 }) ≡ None
-unfolding programmed mode_of access_of is_bcd modulus
-    bits_valid flags_valid cr_valid ce_valid part_valid read_order_valid latched_count_valid latched_status_valid
-low_2_at_1 = refl
-
-low_3_without_a_load : first_fault (record (programmed 0x36 true) { out = false }) ≡ Some Flags
-unfolding programmed mode_of access_of is_bcd modulus
-    bits_valid flags_valid cr_valid ce_valid part_valid read_order_valid latched_count_valid latched_status_valid
-low_3_without_a_load = refl
-
-low_3_with_gate_low : first_fault (record (counting 0x36) { out = false; gate = false }) ≡ Some Flags
-unfolding programmed mode_of access_of is_bcd modulus
-    bits_valid flags_valid cr_valid ce_valid part_valid read_order_valid latched_count_valid latched_status_valid
-low_3_with_gate_low = refl
-
-low_3_loaded : first_fault (record (counting 0x36) { out = false }) ≡ None
-unfolding programmed mode_of access_of is_bcd modulus
-    bits_valid flags_valid cr_valid ce_valid part_valid read_order_valid latched_count_valid latched_status_valid
-low_3_loaded = refl
-
-low_4_without_a_load : first_fault (record (programmed 0x38 true) { out = false }) ≡ Some Flags
-unfolding programmed mode_of access_of is_bcd modulus
-    bits_valid flags_valid cr_valid ce_valid part_valid read_order_valid latched_count_valid latched_status_valid
-low_4_without_a_load = refl
-
-low_4_with_the_strobe_due : first_fault (record (counting 0x38) { out = false; armed = true }) ≡ Some Flags
-unfolding programmed mode_of access_of is_bcd modulus
-    bits_valid flags_valid cr_valid ce_valid part_valid read_order_valid latched_count_valid latched_status_valid
-low_4_with_the_strobe_due = refl
-
-low_4_behind_the_strobe : first_fault (record (counting 0x38) { out = false }) ≡ None
-unfolding programmed mode_of access_of is_bcd modulus
-    bits_valid flags_valid cr_valid ce_valid part_valid read_order_valid latched_count_valid latched_status_valid
-low_4_behind_the_strobe = refl
-
-low_5_without_a_load : first_fault (record (programmed 0x3a true) { out = false }) ≡ Some Flags
-unfolding programmed mode_of access_of is_bcd modulus
-    bits_valid flags_valid cr_valid ce_valid part_valid read_order_valid latched_count_valid latched_status_valid
-low_5_without_a_load = refl
-
-low_5_with_the_strobe_due : first_fault (record (counting 0x3a) { out = false; armed = true }) ≡ Some Flags
-unfolding programmed mode_of access_of is_bcd modulus
-    bits_valid flags_valid cr_valid ce_valid part_valid read_order_valid latched_count_valid latched_status_valid
-low_5_with_the_strobe_due = refl
-
-low_5_behind_the_strobe : first_fault (record (counting 0x3a) { out = false }) ≡ None
-unfolding programmed mode_of access_of is_bcd modulus
-    bits_valid flags_valid cr_valid ce_valid part_valid read_order_valid latched_count_valid latched_status_valid
-low_5_behind_the_strobe = refl
-
--- ---- the count register and the counting element
-
-count_register_without_a_count : first_fault (record (programmed 0x34 true) { cr = 1 }) ≡ Some CountRegister
-unfolding programmed mode_of access_of is_bcd modulus
-    bits_valid flags_valid cr_valid ce_valid part_valid read_order_valid latched_count_valid latched_status_valid
-count_register_without_a_count = refl
-
-above_binary : first_fault (record (counting 0x34) { ce = 65536 }) ≡ Some CountingElement
-unfolding programmed mode_of access_of is_bcd modulus
-    bits_valid flags_valid cr_valid ce_valid part_valid read_order_valid latched_count_valid latched_status_valid
-above_binary = refl
-
-greatest_in_binary : first_fault (record (counting 0x34) { ce = 65535 }) ≡ None
-unfolding programmed mode_of access_of is_bcd modulus
-    bits_valid flags_valid cr_valid ce_valid part_valid read_order_valid latched_count_valid latched_status_valid
-greatest_in_binary = refl
-
-above_bcd : first_fault (record (counting 0x35) { ce = 10000 }) ≡ Some CountingElement
+-- the programmed bits: D5 and D4 not both 0, and no bit above
+programmed_bits : map (λ b. first_fault (programmed b true)) (0x06 ∷ 0x74 ∷ 0x10 ∷ 0x3f ∷ [])
+    ≡ Some ProgrammedBits ∷ Some ProgrammedBits ∷ None ∷ None ∷ []
 unfolding programmed mode_of access_of is_bcd modulus
     bits_valid flags_valid cr_valid ce_valid part_valid read_order_valid latched_count_valid latched_status_valid
-above_bcd = refl
+programmed_bits = refl
 
-greatest_in_bcd : first_fault (record (counting 0x35) { ce = 9999 }) ≡ None
+-- a count is loaded only where one was written, null count is 0 only where one is loaded, and may be 1 there
+count_flags : map first_fault
+    (record (counting 0x34) { full = false; cr = 0 }
+    ∷ record (programmed 0x34 true) { null = false }
+    ∷ record (counting 0x34) { null = true }
+    ∷ [])
+    ≡ Some Flags ∷ Some Flags ∷ None ∷ []
 unfolding programmed mode_of access_of is_bcd modulus
     bits_valid flags_valid cr_valid ce_valid part_valid read_order_valid latched_count_valid latched_status_valid
-greatest_in_bcd = refl
+count_flags = refl
 
-counting_without_a_load : first_fault (record (programmed 0x34 true) { ce = 1 }) ≡ Some CountingElement
+-- a strobe is due in modes 4 and 5 alone
+strobe_due : map (λ b. first_fault (record (counting b) { armed = true })) (0x30 ∷ 0x32 ∷ 0x34 ∷ 0x36 ∷ 0x38 ∷ 0x3a ∷ [])
+    ≡ Some Flags ∷ Some Flags ∷ Some Flags ∷ Some Flags ∷ None ∷ None ∷ []
 unfolding programmed mode_of access_of is_bcd modulus
     bits_valid flags_valid cr_valid ce_valid part_valid read_order_valid latched_count_valid latched_status_valid
-counting_without_a_load = refl
+strobe_due = refl
 
-odd_count_in_mode_3 : first_fault (record (counting 0x36) { ce = 3 }) ≡ Some CountingElement
+-- a trigger is kept in modes 1, 2, 3 and 5
+triggers : map (λ b. first_fault (record (counting b) { trig = true })) (0x30 ∷ 0x32 ∷ 0x34 ∷ 0x36 ∷ 0x38 ∷ 0x3a ∷ [])
+    ≡ Some Flags ∷ None ∷ None ∷ None ∷ Some Flags ∷ None ∷ []
 unfolding programmed mode_of access_of is_bcd modulus
     bits_valid flags_valid cr_valid ce_valid part_valid read_order_valid latched_count_valid latched_status_valid
-odd_count_in_mode_3 = refl
+triggers = refl
 
-low_2_at_2 : first_fault (record (counting 0x34) { out = false; ce = 2 }) ≡ Some CountingElement
+-- an odd count is kept in mode 3 alone
+odd_counts : map (λ b. first_fault (record (counting b) { odd = true })) (0x30 ∷ 0x32 ∷ 0x34 ∷ 0x36 ∷ 0x38 ∷ 0x3a ∷ [])
+    ≡ Some Flags ∷ Some Flags ∷ Some Flags ∷ None ∷ Some Flags ∷ Some Flags ∷ []
 unfolding programmed mode_of access_of is_bcd modulus
     bits_valid flags_valid cr_valid ce_valid part_valid read_order_valid latched_count_valid latched_status_valid
-low_2_at_2 = refl
+odd_counts = refl
 
--- ---- the first byte, and the byte that is read next
+-- .. and each of these needs a count
+mode_flags_without_a_count : map first_fault
+    (record (programmed 0x38 true) { armed = true }
+    ∷ record (programmed 0x32 true) { trig = true }
+    ∷ record (programmed 0x36 true) { odd = true }
+    ∷ [])
+    ≡ Some Flags ∷ Some Flags ∷ Some Flags ∷ []
+unfolding programmed mode_of bits_valid flags_valid
+mode_flags_without_a_count = refl
 
-first_byte_14 : first_fault (record (counting 0x14) { part_there = true }) ≡ Some FirstByte
+-- OUT in mode 0: low while null count is 1, then free
+out_in_mode_0 : map first_fault (programmed 0x30 true ∷ record (programmed 0x30 true) { out = true } ∷ record (counting 0x30) { out = true } ∷ [])
+    ≡ None ∷ Some Flags ∷ None ∷ []
 unfolding programmed mode_of access_of is_bcd modulus
     bits_valid flags_valid cr_valid ce_valid part_valid read_order_valid latched_count_valid latched_status_valid
-first_byte_14 = refl
+out_in_mode_0 = refl
 
-high_next_14 : first_fault (record (counting 0x14) { high_next = true }) ≡ Some ReadOrder
-unfolding programmed mode_of access_of is_bcd modulus
-    bits_valid flags_valid cr_valid ce_valid part_valid read_order_valid latched_count_valid latched_status_valid
-high_next_14 = refl
-
-first_byte_24 : first_fault (record (counting 0x24) { part_there = true }) ≡ Some FirstByte
-unfolding programmed mode_of access_of is_bcd modulus
-    bits_valid flags_valid cr_valid ce_valid part_valid read_order_valid latched_count_valid latched_status_valid
-first_byte_24 = refl
+-- OUT in the other modes isn't low before a load ..
+low_without_a_load : map (λ b. first_fault (record (programmed b true) { out = false })) (0x32 ∷ 0x34 ∷ 0x36 ∷ 0x38 ∷ 0x3a ∷ [])
+    ≡ Some Flags ∷ Some Flags ∷ Some Flags ∷ Some Flags ∷ Some Flags ∷ []
+unfolding programmed mode_of bits_valid flags_valid
+low_without_a_load = refl
 
-high_next_24 : first_fault (record (counting 0x24) { high_next = true }) ≡ Some ReadOrder
-unfolding programmed mode_of access_of is_bcd modulus
-    bits_valid flags_valid cr_valid ce_valid part_valid read_order_valid latched_count_valid latched_status_valid
-high_next_24 = refl
+-- .. nor in modes 2 and 3 with GATE low ..
+low_with_gate_low : map first_fault
+    (record (counting 0x34) { out = false; gate = false; ce = 1 } ∷ record (counting 0x36) { out = false; gate = false } ∷ [])
+    ≡ Some Flags ∷ Some Flags ∷ []
+unfolding programmed mode_of bits_valid flags_valid
+low_with_gate_low = refl
 
-first_byte_34 : first_fault (record (counting 0x34) { part_there = true; part = 1 }) ≡ None
-unfolding programmed mode_of access_of is_bcd modulus
-    bits_valid flags_valid cr_valid ce_valid part_valid read_order_valid latched_count_valid latched_status_valid
-first_byte_34 = refl
+-- .. nor in modes 4 and 5 while a strobe is due ..
+low_with_the_strobe_due : map (λ b. first_fault (record (counting b) { out = false; armed = true })) (0x38 ∷ 0x3a ∷ []) ≡ Some Flags ∷ Some Flags ∷ []
+unfolding programmed mode_of bits_valid flags_valid
+low_with_the_strobe_due = refl
 
-high_next_34 : first_fault (record (counting 0x34) { high_next = true }) ≡ None
+-- .. and may be low elsewhere ..
+low_loaded : map (λ b. first_fault (record (counting b) { out = false })) (0x32 ∷ 0x36 ∷ 0x38 ∷ 0x3a ∷ []) ≡ None ∷ None ∷ None ∷ None ∷ []
 unfolding programmed mode_of access_of is_bcd modulus
     bits_valid flags_valid cr_valid ce_valid part_valid read_order_valid latched_count_valid latched_status_valid
-high_next_34 = refl
+low_loaded = refl
 
-byte_without_its_flag : first_fault (record (counting 0x34) { part = 1 }) ≡ Some FirstByte
+-- .. in mode 2 only at a count of 1
+low_in_mode_2 : map (λ n. first_fault (record (counting 0x34) { out = false; ce = n })) (1 ∷ 2 ∷ []) ≡ None ∷ Some CountingElement ∷ []
 unfolding programmed mode_of access_of is_bcd modulus
     bits_valid flags_valid cr_valid ce_valid part_valid read_order_valid latched_count_valid latched_status_valid
-byte_without_its_flag = refl
+low_in_mode_2 = refl
 
-high_0_with_a_first_byte : first_fault (record (counting 0x30) { out = true; part_there = true }) ≡ Some FirstByte
+-- the counting element: at most 65535 in binary, 9999 in BCD
+greatest_counts : map first_fault
+    (record (counting 0x34) { ce = 65535 }
+    ∷ record (counting 0x34) { ce = 65536 }
+    ∷ record (counting 0x35) { ce = 9999 }
+    ∷ record (counting 0x35) { ce = 10000 }
+    ∷ [])
+    ≡ None ∷ Some CountingElement ∷ None ∷ Some CountingElement ∷ []
 unfolding programmed mode_of access_of is_bcd modulus
     bits_valid flags_valid cr_valid ce_valid part_valid read_order_valid latched_count_valid latched_status_valid
-high_0_with_a_first_byte = refl
-
--- ---- the latches
+greatest_counts = refl
 
-count_that_is_not_latched : first_fault (record (counting 0x34) { latched_count = 1 }) ≡ Some LatchedCount
+-- no count in the register before one is written, none in the counting element before a load, and an even one in mode 3
+counts : map first_fault
+    (record (programmed 0x34 true) { cr = 1 }
+    ∷ record (programmed 0x34 true) { ce = 1 }
+    ∷ record (counting 0x36) { ce = 3 }
+    ∷ [])
+    ≡ Some CountRegister ∷ Some CountingElement ∷ Some CountingElement ∷ []
 unfolding programmed mode_of access_of is_bcd modulus
     bits_valid flags_valid cr_valid ce_valid part_valid read_order_valid latched_count_valid latched_status_valid
-count_that_is_not_latched = refl
+counts = refl
 
-latched_count : first_fault (record (counting 0x34) { count_latched = true; latched_count = 1 }) ≡ None
+-- the first byte is there only where two are written; without its flag it is 0, and in mode 0 it brings OUT low
+first_bytes : map first_fault
+    (record (counting 0x14) { part_there = true }
+    ∷ record (counting 0x24) { part_there = true }
+    ∷ record (counting 0x34) { part_there = true; part = 1 }
+    ∷ record (counting 0x34) { part = 1 }
+    ∷ record (counting 0x30) { out = true; part_there = true }
+    ∷ [])
+    ≡ Some FirstByte ∷ Some FirstByte ∷ None ∷ Some FirstByte ∷ Some FirstByte ∷ []
 unfolding programmed mode_of access_of is_bcd modulus
     bits_valid flags_valid cr_valid ce_valid part_valid read_order_valid latched_count_valid latched_status_valid
-latched_count = refl
+first_bytes = refl
 
-status_that_is_not_latched : first_fault (record (counting 0x34) { latched_status = 1 }) ≡ Some LatchedStatus
+-- the high byte is read next only where two are
+read_order : map (λ b. first_fault (record (counting b) { high_next = true })) (0x14 ∷ 0x24 ∷ 0x34 ∷ []) ≡ Some ReadOrder ∷ Some ReadOrder ∷ None ∷ []
 unfolding programmed mode_of access_of is_bcd modulus
     bits_valid flags_valid cr_valid ce_valid part_valid read_order_valid latched_count_valid latched_status_valid
-status_that_is_not_latched = refl
+read_order = refl
 
-latched_status : first_fault (record (counting 0x34) { status_latched = true; latched_status = 1 }) ≡ None
+-- a latch that isn't there is 0
+latches : map first_fault
+    (record (counting 0x34) { latched_count = 1 }
+    ∷ record (counting 0x34) { count_latched = true; latched_count = 1 }
+    ∷ record (counting 0x34) { latched_status = 1 }
+    ∷ record (counting 0x34) { status_latched = true; latched_status = 1 }
+    ∷ [])
+    ≡ Some LatchedCount ∷ None ∷ Some LatchedStatus ∷ None ∷ []
 unfolding programmed mode_of access_of is_bcd modulus
     bits_valid flags_valid cr_valid ce_valid part_valid read_order_valid latched_count_valid latched_status_valid
-latched_status = refl
+latches = refl

@@ -1,6 +1,6 @@
 //! The counter, and its calls.
 
-ghost use Rattle.std.specs.Prelude.{◌≡◌, ◌↔◌, ◌≤◌, ◌<◌, IsSome, IfSome, IsTrue};
+ghost use Rattle.std.specs.Prelude.{◌≡◌, ◌↔◌, ◌≤◌, ◌<◌, IsSome, IfSome};
 ghost use Rattle.clk_units.specs.Events.{IsFirst};
 ghost use Rattle.pit_counter.specs.Programming.{
   counter_at_power_on,
@@ -8,7 +8,7 @@ ghost use Rattle.pit_counter.specs.Programming.{
   byte_written,
   gated,
 };
-ghost use Rattle.pit_counter.specs.Table.{has_risen, pulsed, pulsed_times, rises_next, rises_in};
+ghost use Rattle.pit_counter.specs.Table.{has_risen, pulsed_times, rises_in};
 ghost use Rattle.pit_counter.specs.Reading.{
   count_of,
   with_count_latched,

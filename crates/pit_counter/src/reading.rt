@@ -1,7 +1,7 @@
 //! Latches, and the order in which a counter's bytes are read. Intel 8254 data sheet, "Read
 //! Operations", "Counter Latch Command" and "Read-Back Command".
 
-ghost use Rattle.std.specs.Prelude.{◌≡◌, ◌<◌, ◌+◌, ◌%◌, ◌*◌, ◌/◌};
+ghost use Rattle.std.specs.Prelude.{◌≡◌, ◌<◌};
 ghost use Rattle.pit_counter.specs.Count.{modulus};
 ghost use Rattle.pit_counter.specs.Reading.{
   count_of,
