@@ -1,4 +1,4 @@
--- Small rows that pin the definitions.
+-- Tables that pin the definitions.
 use Rattle.std.proofs.Common.{◌≡◌, true, false, [], ◌∷◌, Some, None, refl}
 use Rattle.irq_edges.specs.Lines.{line_numbers, changes, is_line, level_of}
 use Rattle.irq_edges.specs.Rises.{rises_of}
@@ -15,16 +15,13 @@ all_rise : changes 1 line_numbers (false ∷ false ∷ false ∷ false ∷ false
     ∷ record { at = 1; line = 21; up = true } ∷ record { at = 1; line = 22; up = true } ∷ record { at = 1; line = 23; up = true } ∷ []
 all_rise = refl
 
--- the levels by line number
-level_of_last : level_of line_numbers (false ∷ false ∷ false ∷ false ∷ false ∷ true ∷ []) 23 ≡ true
-level_of_last = refl
-
-level_of_third : level_of line_numbers (false ∷ false ∷ true ∷ false ∷ false ∷ false ∷ []) 20 ≡ true
-level_of_third = refl
-
--- a level of no line is down, and the number of no line isn't one
-level_of_none : level_of line_numbers (true ∷ true ∷ true ∷ true ∷ true ∷ true ∷ []) 1 ≡ false
-level_of_none = refl
+-- levels by line number: the last, the third, and that of no line, which is down
+levels : level_of line_numbers (false ∷ false ∷ false ∷ false ∷ false ∷ true ∷ []) 23
+    ∷ level_of line_numbers (false ∷ false ∷ true ∷ false ∷ false ∷ false ∷ []) 20
+    ∷ level_of line_numbers (true ∷ true ∷ true ∷ true ∷ true ∷ true ∷ []) 1
+    ∷ []
+    ≡ true ∷ true ∷ false ∷ []
+levels = refl
 
 line_24_is_none : is_line 24 ≡ false
 line_24_is_none = refl
