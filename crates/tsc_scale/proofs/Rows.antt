@@ -1,26 +1,20 @@
 -- Small rows that pin the definitions.
-use Rattle.std.proofs.Common.{◌≡◌, refl}
+use Rattle.std.proofs.Common.{◌≡◌, [], ◌∷◌, refl}
 use Rattle.tsc_scale.specs.Ratio.{ratio_of}
 use Rattle.tsc_scale.specs.Offset.{tsc_by}
 use Rattle.tsc_scale.specs.Tsc.{tsc_at, difference, moved_by}
 
-a_third_is_rounded_down : ratio_of 1000000 3000000 ≡ 93824992236885
-a_third_is_rounded_down = refl
+-- a ratio is rounded down, and 2^48 where the counter is as fast as the TSC
+ratios : ratio_of 1000000 3000000 ∷ ratio_of 2000000 2000000 ∷ [] ≡ 93824992236885 ∷ 0x1_0000_0000_0000 ∷ []
+ratios = refl
 
-as_fast : ratio_of 2000000 2000000 ≡ 0x1_0000_0000_0000
-as_fast = refl
-
-counts_are_rounded_down : tsc_by 0 300 (ratio_of 1000000 3000000) ≡ 99
+-- counts are rounded down; the TSC twice as fast as the counter; an offset that wraps
+tscs : tsc_by 0 300 (ratio_of 1000000 3000000)
+    ∷ tsc_at (record { offset = 7; adjust = 0 }) 1000 (ratio_of 2000000 1000000)
+    ∷ tsc_at (record { offset = 18446744073709551615; adjust = 0 }) 1000 (ratio_of 1000000 1000000) ∷ []
+    ≡ 99 ∷ 2007 ∷ 999 ∷ []
 unfolding tsc_by
-counts_are_rounded_down = refl
-
-twice_as_fast : tsc_at (record { offset = 7; adjust = 0 }) 1000 (ratio_of 2000000 1000000) ≡ 2007
-unfolding tsc_by
-twice_as_fast = refl
-
-offset_wraps : tsc_at (record { offset = 18446744073709551615; adjust = 0 }) 1000 (ratio_of 1000000 1000000) ≡ 999
-unfolding tsc_by
-offset_wraps = refl
+tscs = refl
 
 below_wraps : difference 0 1000 ≡ 18446744073709550616
 below_wraps = refl
