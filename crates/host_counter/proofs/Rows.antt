@@ -1,5 +1,5 @@
 -- Small rows that pin the definitions of a time and of a fault.
-use Rattle.std.proofs.Common.{◌≡◌, ◌-◌, refl, arith}
+use Rattle.std.proofs.Common.{◌≡◌, ◌-◌, [], ◌∷◌, refl, arith}
 use Rattle.clk_units.specs.declared.ranges.TheConstants.{RANGE_NS}
 use Rattle.host_counter.specs.declared.Anchor.{Anchor}
 use Rattle.host_counter.specs.declared.TimeFault.TheVariants.{BeforeStart, OutOfRange}
@@ -13,22 +13,16 @@ plain = record { khz = 1000000; start = 0; base_ns = 0 }
 abbrev later : Anchor
 later = record { khz = 1000000; start = 500; base_ns = 7 }
 
-one_count_is_ten_ns_at_100_mhz : time_at (record { khz = 100000; start = 0; base_ns = 0 }) 1 ≡ 10
-unfolding time_at
-one_count_is_ten_ns_at_100_mhz = refl
+-- one of 10 GHz, ten counts of which are a nanosecond
+abbrev fast : Anchor
+fast = record { khz = 10000000; start = 500; base_ns = 7 }
 
-nine_counts_are_no_ns_at_10_ghz : time_at (record { khz = 10000000; start = 500; base_ns = 7 }) 509 ≡ 7
+-- a count is 10 ns at 100 MHz; a time is rounded down, and what is lost by that is lost again where the clock is set anew: 5
+-- and 5 counts are no nanosecond, 10 are one
+times : time_at (record { khz = 100000; start = 0; base_ns = 0 }) 1 ∷ time_at fast 509 ∷ time_at fast 510 ∷ time_at (set_anew fast 505 7) 510 ∷ []
+    ≡ 10 ∷ 7 ∷ 8 ∷ 7 ∷ []
 unfolding time_at
-nine_counts_are_no_ns_at_10_ghz = refl
-
-ten_counts_are_one_ns_at_10_ghz : time_at (record { khz = 10000000; start = 500; base_ns = 7 }) 510 ≡ 8
-unfolding time_at
-ten_counts_are_one_ns_at_10_ghz = refl
-
--- what is lost by rounding down is lost again where the clock is set anew: 5 and 5 counts are no nanosecond, 10 are one
-lost_at_a_new_anchor : time_at (set_anew (record { khz = 10000000; start = 500; base_ns = 7 }) 505 7) 510 ≡ 7
-unfolding time_at
-lost_at_a_new_anchor = refl
+times = refl
 
 -- the last time in range, and the first past it
 last_time : IsTimeAt plain (RANGE_NS - 1) (RANGE_NS - 1)
