@@ -15,35 +15,22 @@ use Rattle.hpet_registers.specs.Register.{register_at}
 use Rattle.hpet_registers.specs.Access.{register_value, hpet_read, hpet_written}
 use Rattle.hpet_registers.specs.Stretch.{matches_next, tick_next, hpet_pulsed, matches_of}
 
-capabilities_of_three : hpet_read 0 8 (hpet_at_power_on 3 false) ≡ 0x009896808086a201
-capabilities_of_three = refl
+-- capabilities of blocks of three and of eight timers
+capabilities : map (λ n. hpet_read 0 8 (hpet_at_power_on n false)) (3 ∷ 8 ∷ []) ≡ 0x009896808086a201 ∷ 0x009896808086a701 ∷ []
+capabilities = refl
 
-capabilities_of_eight : hpet_read 0 8 (hpet_at_power_on 8 false) ≡ 0x009896808086a701
-capabilities_of_eight = refl
+-- the last timer of eight, which can send messages or not
+last_timer : map (λ m. hpet_read 0x1e0 8 (hpet_at_power_on 8 m)) (false ∷ true ∷ []) ≡ 0x00f0000000002830 ∷ 0x00f000000000a830 ∷ []
+last_timer = refl
 
-last_timer_of_eight : hpet_read 0x1e0 8 (hpet_at_power_on 8 false) ≡ 0x00f0000000002830
-last_timer_of_eight = refl
+-- a narrow read and an unaligned one are all ones
+invalid_reads : hpet_read 2 2 (hpet_at_power_on 3 false) ∷ hpet_read 4 8 (hpet_at_power_on 3 false) ∷ [] ≡ 0xffff ∷ 0xffffffffffffffff ∷ []
+invalid_reads = refl
 
-message_capable : hpet_read 0x1e0 8 (hpet_at_power_on 8 true) ≡ 0x00f000000000a830
-message_capable = refl
-
-narrow_read_is_all_ones : hpet_read 2 2 (hpet_at_power_on 3 false) ≡ 0xffff
-narrow_read_is_all_ones = refl
-
-unaligned_read_is_all_ones : hpet_read 4 8 (hpet_at_power_on 3 false) ≡ 0xffffffffffffffff
-unaligned_read_is_all_ones = refl
-
-third_timer_of_three : register_at 3 false 0x140 ≡ TimerConfig 2
-third_timer_of_three = refl
-
-no_fourth_timer_of_three : register_at 3 false 0x168 ≡ Reserved
-no_fourth_timer_of_three = refl
-
-no_message_register : register_at 8 false 0x110 ≡ Reserved
-no_message_register = refl
-
-message_register_of_the_last : register_at 8 true 0x1f0 ≡ TimerMessage 7
-message_register_of_the_last = refl
+-- the third timer of three, and no fourth; a message register where there are messages, up to the last timer's
+registers : register_at 3 false 0x140 ∷ register_at 3 false 0x168 ∷ register_at 8 false 0x110 ∷ register_at 8 true 0x1f0 ∷ []
+    ≡ TimerConfig 2 ∷ Reserved ∷ Reserved ∷ TimerMessage 7 ∷ []
+registers = refl
 
 -- a pulse of 10 ns, in femtoseconds in the capabilities' high half
 period_in_the_capabilities : register_value Capabilities (hpet_at_power_on 3 false) / 2 ^ 32 * HPET_HZ ≡ 10 ^ 15
@@ -81,9 +68,10 @@ configuration_of_two_bits : map (λ c. hpet_fault (record three { config = c }))
 unfolding first_below
 configuration_of_two_bits = refl
 
-status_of_three_bits : map (λ s. hpet_fault (record three { status = s })) (7 ∷ 8 ∷ 255 ∷ []) ≡ None ∷ Some Status ∷ Some Status ∷ []
+-- status bits of three timers, and of eight
+status_bits : map (λ s. hpet_fault (record three { status = s })) (7 ∷ 8 ∷ 255 ∷ []) ≡ None ∷ Some Status ∷ Some Status ∷ []
 unfolding first_below
-status_of_three_bits = refl
+status_bits = refl
 
 status_of_eight_bits : hpet_fault (record (hpet_at_power_on 8 false) { status = 255 }) ≡ None
 unfolding first_below
@@ -99,18 +87,13 @@ a_place_that_is_not_empty : map (λ t. hpet_fault (with_place t))
 unfolding first_below
 a_place_that_is_not_empty = refl
 
-message_bit_without_messages : hpet_fault (record three { message_bit = false ∷ false ∷ true ∷ false ∷ false ∷ false ∷ false ∷ true ∷ [] })
-    ≡ Some (MessageBit 2)
+-- message bits and words with messages alone
+message_places : map hpet_fault (record three { message_bit = false ∷ false ∷ true ∷ false ∷ false ∷ false ∷ false ∷ true ∷ [] }
+    ∷ record three { message_word = 0 ∷ 0 ∷ 0 ∷ 0 ∷ 0 ∷ 1 ∷ 0 ∷ 0 ∷ [] }
+    ∷ record (hpet_at_power_on 8 true) { message_word = 1 ∷ 0 ∷ 0 ∷ 0 ∷ 0 ∷ 0 ∷ 0 ∷ 9 ∷ [] } ∷ [])
+    ≡ Some (MessageBit 2) ∷ Some (MessageWord 5) ∷ None ∷ []
 unfolding first_below
-message_bit_without_messages = refl
-
-message_word_without_messages : hpet_fault (record three { message_word = 0 ∷ 0 ∷ 0 ∷ 0 ∷ 0 ∷ 1 ∷ 0 ∷ 0 ∷ [] }) ≡ Some (MessageWord 5)
-unfolding first_below
-message_word_without_messages = refl
-
-message_words_with_messages : hpet_fault (record (hpet_at_power_on 8 true) { message_word = 1 ∷ 0 ∷ 0 ∷ 0 ∷ 0 ∷ 0 ∷ 0 ∷ 9 ∷ [] }) ≡ None
-unfolding first_below
-message_words_with_messages = refl
+message_places = refl
 
 -- a pulse: without ENABLE nothing, with it all timers that are there see it
 at_the_wrap : map (λ k. matches_next k (record three { config = 1; counter = 0xffffffffffffffff })) (0 ∷ 2 ∷ 3 ∷ 7 ∷ 8 ∷ [])
@@ -118,13 +101,13 @@ at_the_wrap : map (λ k. matches_next k (record three { config = 1; counter = 0x
 unfolding matches_next matches_at
 at_the_wrap = refl
 
-standing_still : map (λ k. matches_next k (record three { counter = 0xffffffffffffffff })) (0 ∷ 2 ∷ []) ≡ false ∷ false ∷ []
+halted : map (λ k. matches_next k (record three { counter = 0xffffffffffffffff })) (0 ∷ 2 ∷ []) ≡ false ∷ false ∷ []
 unfolding matches_next matches_at
-standing_still = refl
+halted = refl
 
-standing_still_changes_nothing : hpet_pulsed (record three { counter = 9 }) ≡ record three { counter = 9 }
+halted_changes_nothing : hpet_pulsed (record three { counter = 9 }) ≡ record three { counter = 9 }
 unfolding hpet_pulsed matches_next
-standing_still_changes_nothing = refl
+halted_changes_nothing = refl
 
 -- level and enabled, level alone, edge: the first two set their status bits
 abbrev at_nine : HpetParts
@@ -159,17 +142,14 @@ with_messages config timer = let t : TimerParts = record { config = timer; compa
   message_word = 0xfee0000000000041 ∷ 0 ∷ 0 ∷ 0 ∷ 0 ∷ 0 ∷ 0 ∷ 0 ∷ [];
 }
 
-message_timers : map (λ k. is_message k (with_messages 1 0x2804)) (0 ∷ 1 ∷ 2 ∷ 7 ∷ []) ≡ true ∷ true ∷ true ∷ false ∷ []
+-- timers 0, 1, 2 and 7, with legacy replacement off and on
+message_timers : map (λ c. map (λ k. is_message k (with_messages c 0x2804)) (0 ∷ 1 ∷ 2 ∷ 7 ∷ [])) (1 ∷ 3 ∷ [])
+    ≡ (true ∷ true ∷ true ∷ false ∷ []) ∷ (false ∷ false ∷ true ∷ false ∷ []) ∷ []
 message_timers = refl
 
-message_timers_under_legacy_replacement : map (λ k. is_message k (with_messages 3 0x2804)) (0 ∷ 1 ∷ 2 ∷ 7 ∷ []) ≡ false ∷ false ∷ true ∷ false ∷ []
-message_timers_under_legacy_replacement = refl
-
-no_message_of_a_level_timer : is_message 2 (with_messages 1 0x2806) ≡ false
-no_message_of_a_level_timer = refl
-
-no_message_of_a_disabled_timer : is_message 2 (with_messages 1 0x2800) ≡ false
-no_message_of_a_disabled_timer = refl
+-- none of level type, or with the interrupt off
+no_messages : map (λ t. is_message 2 (with_messages 1 t)) (0x2806 ∷ 0x2800 ∷ []) ≡ false ∷ false ∷ []
+no_messages = refl
 
 ticks_beside_messages : map (λ k. has_ticks k (with_messages 3 0x2804)) (0 ∷ 1 ∷ 2 ∷ 7 ∷ []) ≡ true ∷ true ∷ false ∷ true ∷ []
 ticks_beside_messages = refl
@@ -177,21 +157,14 @@ ticks_beside_messages = refl
 address_and_data : message_of 0 (with_messages 1 0x2804) ≡ Some (0xfee00000, 0x41)
 address_and_data = refl
 
--- writes: status is cleared by ones, and by its own half alone; two bits of the configuration; message registers
-status_is_cleared_by_ones : (hpet_written 0x020 8 2 (record three { status = 7 })).status ≡ 5
-status_is_cleared_by_ones = refl
-
-high_half_clears_no_status : (hpet_written 0x024 4 0xffffffff (record three { status = 7 })).status ≡ 7
-high_half_clears_no_status = refl
+-- status is cleared by ones, and by its own half alone
+status_writes : (hpet_written 0x020 8 2 (record three { status = 7 })).status ∷ (hpet_written 0x024 4 0xffffffff (record three { status = 7 })).status ∷ []
+    ≡ 5 ∷ 7 ∷ []
+status_writes = refl
 
 configuration_keeps_two_bits : (hpet_written 0x010 8 0xfffffffffffffffe three).config ≡ 2
 configuration_keeps_two_bits = refl
 
-narrow_write_does_nothing : hpet_written 0x010 2 1 three ≡ three
-narrow_write_does_nothing = refl
-
-unaligned_write_does_nothing : hpet_written 0x014 8 1 three ≡ three
-unaligned_write_does_nothing = refl
-
-reserved_write_does_nothing : hpet_written 0x160 8 0xffff three ≡ three
-reserved_write_does_nothing = refl
+-- a narrow write, an unaligned one and one of a reserved place do nothing
+invalid_writes : hpet_written 0x010 2 1 three ∷ hpet_written 0x014 8 1 three ∷ hpet_written 0x160 8 0xffff three ∷ [] ≡ three ∷ three ∷ three ∷ []
+invalid_writes = refl
