@@ -94,44 +94,26 @@ flagged-bytes flags bs h = fourteen (Flagged flags) (λ b0 b1 b2 b3 b4 b5 b6 b7 
 }) bs h
 
 -- the flags are the bits of their byte
+flags-read : (pf af uf : Bool) → (bit 6 (flags_byte pf af uf) ≡ pf) × (bit 5 (flags_byte pf af uf) ≡ af) × (bit 4 (flags_byte pf af uf) ≡ uf)
+flags-read true true true = (refl, refl, refl)
+flags-read true true false = (refl, refl, refl)
+flags-read true false true = (refl, refl, refl)
+flags-read true false false = (refl, refl, refl)
+flags-read false true true = (refl, refl, refl)
+flags-read false true false = (refl, refl, refl)
+flags-read false false true = (refl, refl, refl)
+flags-read false false false = (refl, refl, refl)
+
 pub bit-pf : (pf af uf : Bool) → bit 6 (flags_byte pf af uf) ≡ pf
-bit-pf true true true = refl
-bit-pf true true false = refl
-bit-pf true false true = refl
-bit-pf true false false = refl
-bit-pf false true true = refl
-bit-pf false true false = refl
-bit-pf false false true = refl
-bit-pf false false false = refl
+bit-pf pf af uf = (flags-read pf af uf).0
 
 pub bit-af : (pf af uf : Bool) → bit 5 (flags_byte pf af uf) ≡ af
-bit-af true true true = refl
-bit-af true true false = refl
-bit-af true false true = refl
-bit-af true false false = refl
-bit-af false true true = refl
-bit-af false true false = refl
-bit-af false false true = refl
-bit-af false false false = refl
+bit-af pf af uf = (flags-read pf af uf).1
 
 pub bit-uf : (pf af uf : Bool) → bit 4 (flags_byte pf af uf) ≡ uf
-bit-uf true true true = refl
-bit-uf true true false = refl
-bit-uf true false true = refl
-bit-uf true false false = refl
-bit-uf false true true = refl
-bit-uf false true false = refl
-bit-uf false false true = refl
-bit-uf false false false = refl
+bit-uf pf af uf = (flags-read pf af uf).2
 
 -- the byte of its own flags
 pub flags_byte-read : (pf af uf : Bool)
     → flags_byte pf af uf ≡ flags_byte (bit 6 (flags_byte pf af uf)) (bit 5 (flags_byte pf af uf)) (bit 4 (flags_byte pf af uf))
-flags_byte-read true true true = refl
-flags_byte-read true true false = refl
-flags_byte-read true false true = refl
-flags_byte-read true false false = refl
-flags_byte-read false true true = refl
-flags_byte-read false true false = refl
-flags_byte-read false false true = refl
-flags_byte-read false false false = refl
+flags_byte-read pf af uf = rw (bit-pf pf af uf, bit-af pf af uf, bit-uf pf af uf) refl
