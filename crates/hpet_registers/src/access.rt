@@ -1,10 +1,7 @@
 //! What a register holds, and the fields after a write to it.
 
-ghost use Rattle.std.specs.Prelude.{◌≡◌, ◌+◌, ◌*◌, ◌^◌, ◌<◌, ◌≤◌, length, IsTrue, nat_lt};
-ghost use Rattle.std.specs.Prelude.{slice_set, if◌then◌else◌};
+ghost use Rattle.std.specs.Prelude.{◌≡◌, ◌+◌, ◌*◌, ◌^◌, ◌<◌, ◌≤◌, IsTrue, slice_set};
 ghost use Rattle.hpet_comparator.specs.Part.{part_written, is_register_width};
-ghost use Rattle.clk_units.specs.Bits.{bit};
-ghost use Rattle.hpet_comparator.specs.Parts.{IsTimer};
 ghost use Rattle.hpet_comparator.specs.Config.{config_written};
 ghost use Rattle.hpet_comparator.specs.Comparator.{comparator_written};
 ghost use Rattle.hpet_registers.specs.Parts.{IsHpet, timer_at};

@@ -1,6 +1,6 @@
 //! The register map.
 
-ghost use Rattle.std.specs.Prelude.{◌≡◌, ◌-◌, ◌/◌, ◌%◌, ◌≤◌, IsTrue};
+ghost use Rattle.std.specs.Prelude.{◌≡◌, ◌≤◌, IsTrue};
 ghost use Rattle.hpet_registers.specs.Register.{timer_register, register_at, IsRegister};
 ghost use Rattle.hpet_registers.specs.Access.{is_access_width, is_effective};
 

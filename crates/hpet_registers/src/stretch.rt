@@ -1,9 +1,8 @@
 //! The pulses of all timers at once.
 
-ghost use Rattle.std.specs.Prelude.{◌≡◌, ℕ, suc, ◌<◌, ◌≤◌, ◌&&◌, ◌||◌, nat_lt, if◌then◌else◌};
+ghost use Rattle.std.specs.Prelude.{◌≡◌, ℕ, suc, ◌<◌, ◌≤◌, ◌&&◌, nat_lt, if◌then◌else◌};
 ghost use Rattle.std.specs.Prelude.{slice_set, bit_or, ◌^◌, ◌+◌, map};
 ghost use Rattle.clk_units.specs.Events.{IsFirst};
-ghost use Rattle.clk_units.specs.Bits.{bit};
 ghost use Rattle.hpet_comparator.specs.Parts.{IsTimer, is_level};
 ghost use Rattle.hpet_comparator.specs.Stretch.{pulsed_times, matches_in, spacing_of, falls_on};
 ghost use Rattle.hpet_registers.specs.Parts.{IsHpet, timer_at};
