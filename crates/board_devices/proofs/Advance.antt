@@ -33,7 +33,7 @@ use Rattle.hpet_registers.specs.Outputs.{has_ticks, is_message}
 use Rattle.hpet_registers.specs.Stretch.{hpet_pulsed_times, matches_of, timer_matches}
 use Rattle.hpet_registers.proofs.Product.{timer_config-hpet_pulsed_times, status_bit-hpet_pulsed_times, is_legacy-hpet_pulsed_times}
 use Rattle.hpet_registers.proofs.Product.{timers-hpet_pulsed_times, CountsUp-matches_of}
-use Rattle.hpet_registers.proofs.Behind.{is_message-hpet_pulsed_times}
+use Rattle.hpet_registers.proofs.After.{is_message-hpet_pulsed_times}
 use Rattle.tick_policy.specs.declared.parts.TickParts.{TickParts}
 use Rattle.tick_policy.specs.Stretch.{line_after, line_end, up_from, IsFirstPoint, IsFirstTick}
 use Rattle.tick_policy.proofs.Kept.{due-line_end}

@@ -30,7 +30,7 @@ use Rattle.hpet_registers.specs.Parts.{is_legacy}
 use Rattle.hpet_registers.specs.Outputs.{has_ticks}
 use Rattle.hpet_registers.specs.Stretch.{hpet_pulsed, hpet_pulsed_times, matches_next, matches_of}
 use Rattle.hpet_registers.proofs.Product.{is_legacy-hpet_pulsed_times}
-use Rattle.hpet_registers.proofs.Behind.{has_ticks-hpet_pulsed_times}
+use Rattle.hpet_registers.proofs.After.{has_ticks-hpet_pulsed_times}
 use Rattle.tick_policy.specs.declared.parts.TickParts.{TickParts}
 use Rattle.tick_policy.specs.Line.{ticked, is_waiting}
 use Rattle.tick_policy.specs.Stretch.{ticked_where, caught_up_where, line_after}

@@ -27,7 +27,7 @@ use Rattle.clk_units.specs.Bits.{bit}
 use Rattle.hpet_comparator.specs.Parts.{is_level, is_enabled, route_of}
 use Rattle.hpet_registers.specs.Parts.{timer_at, is_legacy}
 use Rattle.hpet_registers.specs.Outputs.{has_ticks, is_message}
-use Rattle.hpet_registers.proofs.Behind.{is_message-hpet_pulsed_times}
+use Rattle.hpet_registers.proofs.After.{is_message-hpet_pulsed_times}
 use Rattle.hpet_registers.specs.Stretch.{hpet_pulsed_times, matches_of}
 use Rattle.hpet_registers.proofs.Product.{timer_config-hpet_pulsed_times, status_bit-hpet_pulsed_times, is_legacy-hpet_pulsed_times}
 use Rattle.hpet_registers.proofs.Product.{CountsUp-matches_of}

@@ -15,7 +15,7 @@ use Rattle.hpet_registers.specs.Outputs.{has_ticks}
 use Rattle.hpet_registers.specs.Stretch.{hpet_pulsed_times, timer_matches, no_matches}
 use Rattle.hpet_registers.proofs.Product.{is_level-hpet_pulsed_times, is_enabled-hpet_pulsed_times, is_legacy-hpet_pulsed_times, timers-hpet_pulsed_times}
 use Rattle.hpet_registers.proofs.Product.{timer_config-hpet_pulsed_times}
-use Rattle.hpet_registers.proofs.Behind.{is_message-hpet_pulsed_times, has_ticks-hpet_pulsed_times}
+use Rattle.hpet_registers.proofs.After.{is_message-hpet_pulsed_times, has_ticks-hpet_pulsed_times}
 use Rattle.tick_policy.specs.declared.parts.TickParts.{TickParts}
 use Rattle.tick_policy.specs.Stretch.{caught_up_where, line_end}
 use Rattle.tick_policy.proofs.Ticks.{ticked_times-zero}

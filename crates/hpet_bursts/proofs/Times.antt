@@ -17,7 +17,7 @@ use Rattle.hpet_registers.specs.declared.hpet.TheConstants.{HPET_HZ}
 use Rattle.hpet_registers.specs.declared.parts.HpetParts.{HpetParts}
 use Rattle.hpet_registers.specs.Outputs.{is_message}
 use Rattle.hpet_registers.specs.Stretch.{matches_next, hpet_pulsed_times, matches_of}
-use Rattle.hpet_registers.proofs.Behind.{is_message-hpet_pulsed_times}
+use Rattle.hpet_registers.proofs.After.{is_message-hpet_pulsed_times}
 use Rattle.hpet_bursts.specs.Messages.{message_next, message_times}
 use Rattle.hpet_bursts.specs.Bursts.{evenly}
 use Rattle.hpet_bursts.specs.private.Matches.{AreMatches}

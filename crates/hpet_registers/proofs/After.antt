@@ -141,39 +141,32 @@ IsHpet-hpet_written offset width v h valid = kept (is_effective offset width)
         (IsRegister-register_at h.timers h.messages (offset - offset % 8))
     kept false = valid
 
+-- of a place below 8 it is enough to show each of the eight
+each-place : (P : ℕ → Type 0) → P 0 → P 1 → P 2 → P 3 → P 4 → P 5 → P 6 → P 7 → (k : ℕ) → k < 8 → P k
+each-place P p0 p1 p2 p3 p4 p5 p6 p7 zero h = p0
+each-place P p0 p1 p2 p3 p4 p5 p6 p7 (suc zero) h = p1
+each-place P p0 p1 p2 p3 p4 p5 p6 p7 (suc (suc zero)) h = p2
+each-place P p0 p1 p2 p3 p4 p5 p6 p7 (suc (suc (suc zero))) h = p3
+each-place P p0 p1 p2 p3 p4 p5 p6 p7 (suc (suc (suc (suc zero)))) h = p4
+each-place P p0 p1 p2 p3 p4 p5 p6 p7 (suc (suc (suc (suc (suc zero))))) h = p5
+each-place P p0 p1 p2 p3 p4 p5 p6 p7 (suc (suc (suc (suc (suc (suc zero)))))) h = p6
+each-place P p0 p1 p2 p3 p4 p5 p6 p7 (suc (suc (suc (suc (suc (suc (suc zero))))))) h = p7
+each-place P p0 p1 p2 p3 p4 p5 p6 p7 (suc (suc (suc (suc (suc (suc (suc (suc k)))))))) h = absurd (omega arith)
+
 -- at power on they hold
 places-three : (k : ℕ) → k < 8 → IsPlace (ltb k 3) (get_or (timers_at_power_on 3) k no_timer)
-places-three zero h = IsTimer-timer_at_power_on
-places-three (suc zero) h = IsTimer-timer_at_power_on
-places-three (suc (suc zero)) h = IsTimer-timer_at_power_on
-places-three (suc (suc (suc zero))) h = refl
-places-three (suc (suc (suc (suc zero)))) h = refl
-places-three (suc (suc (suc (suc (suc zero))))) h = refl
-places-three (suc (suc (suc (suc (suc (suc zero)))))) h = refl
-places-three (suc (suc (suc (suc (suc (suc (suc zero))))))) h = refl
-places-three (suc (suc (suc (suc (suc (suc (suc (suc k)))))))) h = absurd (omega arith)
+places-three = each-place (λ k. IsPlace (ltb k 3) (get_or (timers_at_power_on 3) k no_timer))
+    IsTimer-timer_at_power_on IsTimer-timer_at_power_on IsTimer-timer_at_power_on
+    refl refl refl refl refl
 
 places-eight : (k : ℕ) → k < 8 → IsPlace (ltb k 8) (get_or (timers_at_power_on 8) k no_timer)
-places-eight zero h = IsTimer-timer_at_power_on
-places-eight (suc zero) h = IsTimer-timer_at_power_on
-places-eight (suc (suc zero)) h = IsTimer-timer_at_power_on
-places-eight (suc (suc (suc zero))) h = IsTimer-timer_at_power_on
-places-eight (suc (suc (suc (suc zero)))) h = IsTimer-timer_at_power_on
-places-eight (suc (suc (suc (suc (suc zero))))) h = IsTimer-timer_at_power_on
-places-eight (suc (suc (suc (suc (suc (suc zero)))))) h = IsTimer-timer_at_power_on
-places-eight (suc (suc (suc (suc (suc (suc (suc zero))))))) h = IsTimer-timer_at_power_on
-places-eight (suc (suc (suc (suc (suc (suc (suc (suc k)))))))) h = absurd (omega arith)
+places-eight = each-place (λ k. IsPlace (ltb k 8) (get_or (timers_at_power_on 8) k no_timer))
+    IsTimer-timer_at_power_on IsTimer-timer_at_power_on IsTimer-timer_at_power_on
+    IsTimer-timer_at_power_on IsTimer-timer_at_power_on IsTimer-timer_at_power_on IsTimer-timer_at_power_on IsTimer-timer_at_power_on
 
 plain-at_power_on : (k : ℕ) → k < 8 → (get_or no_bits k false ≡ false) × (get_or no_words k 0 ≡ 0)
-plain-at_power_on zero h = (refl, refl)
-plain-at_power_on (suc zero) h = (refl, refl)
-plain-at_power_on (suc (suc zero)) h = (refl, refl)
-plain-at_power_on (suc (suc (suc zero))) h = (refl, refl)
-plain-at_power_on (suc (suc (suc (suc zero)))) h = (refl, refl)
-plain-at_power_on (suc (suc (suc (suc (suc zero))))) h = (refl, refl)
-plain-at_power_on (suc (suc (suc (suc (suc (suc zero)))))) h = (refl, refl)
-plain-at_power_on (suc (suc (suc (suc (suc (suc (suc zero))))))) h = (refl, refl)
-plain-at_power_on (suc (suc (suc (suc (suc (suc (suc (suc k)))))))) h = absurd (omega arith)
+plain-at_power_on = each-place (λ k. (get_or no_bits k false ≡ false) × (get_or no_words k 0 ≡ 0))
+    (refl, refl) (refl, refl) (refl, refl) (refl, refl) (refl, refl) (refl, refl) (refl, refl) (refl, refl)
 
 pub IsHpet-hpet_at_power_on : (timers : ℕ) (messages : Bool) → (timers ≡ 3) ⊎ (timers ≡ 8) → (messages ≡ true → timers ≡ 8)
     → IsHpet (hpet_at_power_on timers messages)

@@ -2,7 +2,7 @@ pub mod Bits
 pub mod Conditions
 pub mod Faults
 pub mod Product
-pub mod Behind
+pub mod After
 pub mod Messages
 pub mod Places
 pub mod Laws

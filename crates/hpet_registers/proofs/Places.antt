@@ -15,7 +15,7 @@ use Rattle.hpet_registers.specs.Stretch.{with_bits, hpet_pulsed_times, matches_o
 use Rattle.hpet_registers.specs.private.Matches.{AreMatches}
 use Rattle.hpet_registers.proofs.Bits.{with_bits-same}
 use Rattle.hpet_registers.proofs.Conditions.{pulsed_times-no_timer}
-use Rattle.hpet_registers.proofs.Behind.{timer_at-absent}
+use Rattle.hpet_registers.proofs.After.{timer_at-absent}
 use Rattle.hpet_registers.proofs.Product.{same_fields, kept-hpet_pulsed_times, counter-hpet_pulsed_times, timer-hpet_pulsed_times, status-hpet_pulsed_times}
 use Rattle.hpet_registers.proofs.Product.{matches_of-running, matches_of-absent, get_or-pulsed_times}
 

@@ -40,7 +40,7 @@ use Rattle.board_devices.specs.private.Stretch.{flag_from, output_up, slots_from
 use Rattle.board_devices.proofs.Product.{Sound, run-parted}
 use Rattle.board_devices.proofs.Advance.{Brought, Known, ran-state, ran-levels, up-is, IsDevices-parted, due-few, up_at, irq_at, lines_from, outs}
 use Rattle.board_devices.proofs.Timers.{ends-timers, times-are}
-use Rattle.hpet_registers.proofs.Behind.{has_ticks-hpet_pulsed_times}
+use Rattle.hpet_registers.proofs.After.{has_ticks-hpet_pulsed_times}
 use Rattle.board_devices.proofs.Idle.{end-early, end-unseen}
 use Rattle.board_devices.proofs.Still.{Quiet, levels-still, flag-again}
 use Rattle.board_devices.proofs.devices.Devices.advance_by.Goals as goal
