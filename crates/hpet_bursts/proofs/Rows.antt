@@ -15,57 +15,44 @@ use Rattle.hpet_bursts.specs.Bursts.{distance_of, burst_in, bursts_below, bursts
 abbrev periodic : ℕ → TimerParts
 periodic n = record { config = 0x280c; comparator = n; period = n }
 
--- a running block of eight timers with messages, of which the first three are these, with bit 14
--- each, and with these messages
+-- a timer as it is at power on: it sends none
+abbrev off : TimerParts
+off = timer_at_power_on
+
+-- a block of eight timers with messages and this configuration: the first three are these, and each has bit 14
 abbrev block : ℕ → TimerParts → TimerParts → TimerParts → HpetParts
 block config a b c = record (hpet_at_power_on 8 true) {
   config = config;
-  timer = a ∷ b ∷ c ∷ timer_at_power_on ∷ timer_at_power_on ∷ timer_at_power_on ∷ timer_at_power_on ∷ timer_at_power_on ∷ [];
+  timer = a ∷ b ∷ c ∷ off ∷ off ∷ off ∷ off ∷ off ∷ [];
   message_bit = true ∷ true ∷ true ∷ true ∷ true ∷ true ∷ true ∷ true ∷ [];
   message_word = 0xfee0000000000030 ∷ 0xfee0000000000031 ∷ 0xfee0100000004032 ∷ 0 ∷ 0 ∷ 0 ∷ 0 ∷ 0 ∷ [];
 }
 
--- a match each 20 ns
-each_match : message_times 2 0 65 (block 1 timer_at_power_on timer_at_power_on (periodic 2)) ≡ 20 ∷ 40 ∷ 60 ∷ []
+-- a match each 20 ns, at its very nanosecond and none before
+times : map (λ n. message_times 2 0 n (block 1 off off (periodic 2))) (19 ∷ 20 ∷ 65 ∷ []) ≡ [] ∷ (20 ∷ []) ∷ (20 ∷ 40 ∷ 60 ∷ []) ∷ []
 unfolding matches_next hpet_pulsed matches_at pulsed falls_at pulses_from pulses_by
-each_match = refl
+times = refl
 
-as_one_burst : burst_in 2 0 65 (block 1 timer_at_power_on timer_at_power_on (periodic 2))
+-- as one burst; and after nanosecond 15 the first pulse falls at 20, and the third at 40 is the match
+bursts : burst_in 2 0 65 (block 1 off off (periodic 2)) ∷ burst_in 2 15 35 (block 1 off off (periodic 3)) ∷ []
     ≡ Some (record { timer = 2; first = 20; count = 3; every = 20; address = 0xfee01000; «data» = 0x4032 })
+    ∷ Some (record { timer = 2; first = 40; count = 1; every = 0; address = 0xfee01000; «data» = 0x4032 }) ∷ []
 unfolding matches_next hpet_pulsed matches_at pulsed falls_at pulses_from pulses_by
-as_one_burst = refl
+bursts = refl
 
--- after nanosecond 15 the first pulse falls at 20, and the third at 40 is the match
-after_15 : burst_in 2 15 35 (block 1 timer_at_power_on timer_at_power_on (periodic 3))
-    ≡ Some (record { timer = 2; first = 40; count = 1; every = 0; address = 0xfee01000; «data» = 0x4032 })
+-- a one-shot timer sends once; one of level type and one with its interrupt off send none
+configurations : map (λ c. message_times 0 0 40 (block 1 (record (periodic 2) { config = c }) off off)) (0x2804 ∷ 0x280e ∷ 0x2808 ∷ [])
+    ≡ (20 ∷ []) ∷ [] ∷ [] ∷ []
 unfolding matches_next hpet_pulsed matches_at pulsed falls_at pulses_from pulses_by
-after_15 = refl
+configurations = refl
 
--- at its very nanosecond, and a nanosecond before
-at_its_nanosecond : map (λ n. message_times 2 0 n (block 1 timer_at_power_on timer_at_power_on (periodic 2))) (19 ∷ 20 ∷ []) ≡ [] ∷ (20 ∷ []) ∷ []
+-- nor does any while the counter is halted
+halted : message_times 0 0 40 (block 0 (periodic 2) off off) ≡ []
 unfolding matches_next hpet_pulsed matches_at pulsed falls_at pulses_from pulses_by
-at_its_nanosecond = refl
-
--- a one-shot timer sends once
-one_shot_sends_once : message_times 0 0 40 (block 1 (record (periodic 2) { config = 0x2804 }) timer_at_power_on timer_at_power_on) ≡ 20 ∷ []
-unfolding matches_next hpet_pulsed matches_at pulsed falls_at pulses_from pulses_by
-one_shot_sends_once = refl
-
--- none of level type, with the interrupt off, or while the counter is halted
-level_sends_none : message_times 0 0 40 (block 1 (record (periodic 2) { config = 0x280e }) timer_at_power_on timer_at_power_on) ≡ []
-unfolding matches_next hpet_pulsed matches_at pulsed falls_at pulses_from pulses_by
-level_sends_none = refl
-
-disabled_sends_none : message_times 0 0 40 (block 1 (record (periodic 2) { config = 0x2808 }) timer_at_power_on timer_at_power_on) ≡ []
-unfolding matches_next hpet_pulsed matches_at pulsed falls_at pulses_from pulses_by
-disabled_sends_none = refl
-
-standing_sends_none : message_times 0 0 40 (block 0 (periodic 2) timer_at_power_on timer_at_power_on) ≡ []
-unfolding matches_next hpet_pulsed matches_at pulsed falls_at pulses_from pulses_by
-standing_sends_none = refl
+halted = refl
 
 -- in order of timers, not of times
-in_order_of_timers : bursts_of 0 40 (block 1 (periodic 3) (periodic 2) timer_at_power_on)
+in_order_of_timers : bursts_of 0 40 (block 1 (periodic 3) (periodic 2) off)
     ≡ record { timer = 0; first = 30; count = 1; every = 0; address = 0xfee00000; «data» = 0x30 }
     ∷ record { timer = 1; first = 20; count = 2; every = 20; address = 0xfee00000; «data» = 0x31 } ∷ []
 unfolding bursts_below matches_next hpet_pulsed matches_at pulsed falls_at pulses_from pulses_by
@@ -85,6 +72,6 @@ three_from_7 : evenly 7 10 3 ≡ 7 ∷ 17 ∷ 27 ∷ []
 three_from_7 = refl
 
 -- the next message is the earliest of any timer's: timer 1 at 20, before timer 0 at 30
-earliest_of_two : map (λ n. next_message 0 n (block 1 (periodic 3) (periodic 2) timer_at_power_on)) (19 ∷ 20 ∷ 40 ∷ []) ≡ None ∷ Some 20 ∷ Some 20 ∷ []
+earliest_of_two : map (λ n. next_message 0 n (block 1 (periodic 3) (periodic 2) off)) (19 ∷ 20 ∷ 40 ∷ []) ≡ None ∷ Some 20 ∷ Some 20 ∷ []
 unfolding first_where sends_below matches_next hpet_pulsed matches_at pulsed falls_at pulses_from pulses_by
 earliest_of_two = refl
