@@ -21,10 +21,10 @@ an_edge_of_line_24_is_none : IsEdge (record { at = 0; line = 24; up = true }) �
 an_edge_of_line_24_is_none e = cc e.line
 
 -- falls are left out, and the order stays
-rises_of_four_edges : rises_among
+rises_of_three_edges : rises_among
     (record { at = 7; line = 8; up = true } ∷ record { at = 7; line = 0; up = false } ∷ record { at = 9; line = 0; up = true } ∷ [])
     ≡ record { at = 7; line = 8; up = true } ∷ record { at = 9; line = 0; up = true } ∷ []
-rises_of_four_edges = refl
+rises_of_three_edges = refl
 
 message_of_a_burst : message_of (record { timer = 3; first = 1000; count = 3; every = 1000; address = 4276092928; «data» = 65 })
     ≡ record { address = 4276092928; «data» = 65 }
