@@ -1,5 +1,5 @@
 -- Small rows that pin the definitions.
-use Rattle.std.proofs.Common.{◌≡◌, ◌+◌, ◌*◌, true, false, cond, ltb, [], ◌∷◌, refl}
+use Rattle.std.proofs.Common.{◌≡◌, ◌+◌, ◌*◌, true, false, cond, ltb, [], ◌∷◌, map, refl}
 use Rattle.tick_policy.specs.declared.parts.Policy.TheVariants.{Discard}
 use Rattle.tick_policy.specs.declared.parts.TickParts.{TickParts}
 use Rattle.lapic_timer.specs.declared.parts.ApicParts.{ApicParts}
@@ -38,96 +38,66 @@ two p q = record { timers = p ∷ q ∷ []; lines = no_line ∷ no_line ∷ [] }
 places_are_counted_from_0 : each (λ k x. x + 10 * k) 0 (5 ∷ 5 ∷ []) ≡ (5 ∷ 15 ∷ [])
 places_are_counted_from_0 = refl
 
-no_timer_is_idle : is_idle no_timer ≡ true
-no_timer_is_idle = refl
+-- a timer is idle where it neither counts nor is armed
+idle : map is_idle (no_timer ∷ apic_at_power_on ∷ periodic ∷ armed ∷ []) ≡ true ∷ true ∷ false ∷ false ∷ []
+idle = refl
 
-a_timer_at_power_on_is_idle : is_idle apic_at_power_on ≡ true
-a_timer_at_power_on_is_idle = refl
-
-one_that_counts_is_not : is_idle periodic ≡ false
-one_that_counts_is_not = refl
-
-one_that_is_armed_is_not : is_idle armed ≡ false
-one_that_is_armed_is_not = refl
-
-a_count_of_1_fires : fires_with 0 periodic ≡ true
+-- a count of 1 fires, and a count of 2 doesn't
+count_fires : map (fires_with 0) (periodic ∷ record periodic { current = 2 } ∷ []) ≡ true ∷ false ∷ []
 unfolding fires_next divisor
-a_count_of_1_fires = refl
+count_fires = refl
 
-a_count_of_2_does_not : fires_with 0 (record periodic { current = 2 }) ≡ false
-unfolding fires_next divisor
-a_count_of_2_does_not = refl
-
-a_deadline_fires_where_it_is_reached : fires_with 2001 armed ≡ true
-a_deadline_fires_where_it_is_reached = refl
-
-and_not_before : fires_with 2000 armed ≡ false
-and_not_before = refl
+-- a deadline fires where it is reached, and not before
+deadline_fires : map (λ t. fires_with t armed) (2001 ∷ 2000 ∷ []) ≡ true ∷ false ∷ []
+deadline_fires = refl
 
 a_masked_fire_is_no_tick : tick_with 0 masked ≡ false
 a_masked_fire_is_no_tick = refl
 
-each_timer_ticks_its_own_line : at_nanosecond (λ k. 0) (two periodic masked)
+-- each timer ticks its own line, and each by its own TSC
+nanoseconds : at_nanosecond (λ k. 0) (two periodic masked)
+    ∷ at_nanosecond (λ k. cond (ltb k 1) 2000 2001) (two armed armed) ∷ []
     ≡ record { timers = record periodic { current = 3 } ∷ record masked { current = 3 } ∷ []; lines = raised ∷ no_line ∷ [] }
+    ∷ record { timers = armed ∷ record armed { deadline = 0 } ∷ []; lines = no_line ∷ raised ∷ [] } ∷ []
 unfolding at_nanosecond passed fires_next divisor
-each_timer_ticks_its_own_line = refl
+nanoseconds = refl
 
-each_by_its_own_tsc : at_nanosecond (λ k. cond (ltb k 1) 2000 2001) (two armed armed)
-    ≡ record { timers = armed ∷ record armed { deadline = 0 } ∷ []; lines = no_line ∷ raised ∷ [] }
-unfolding at_nanosecond
-each_by_its_own_tsc = refl
-
-three_nanoseconds_after_10 : run (λ k t. t + 1988) 10 3 (two armed no_timer)
-    ≡ record { timers = record armed { deadline = 0 } ∷ no_timer ∷ []; lines = raised ∷ no_line ∷ [] }
+-- the deadline is reached three nanoseconds after 10, and two are too few
+runs : map (λ n. run (λ k t. t + 1988) 10 n (two armed no_timer)) (2 ∷ 3 ∷ [])
+    ≡ two armed no_timer ∷ record { timers = record armed { deadline = 0 } ∷ no_timer ∷ []; lines = raised ∷ no_line ∷ [] } ∷ []
 unfolding at_nanosecond passed fires_next
-three_nanoseconds_after_10 = refl
-
-two_are_too_few : run (λ k t. t + 1988) 10 2 (two armed no_timer) ≡ two armed no_timer
-unfolding at_nanosecond passed fires_next
-two_are_too_few = refl
+runs = refl
 
 a_second_tick_is_lost : line_at 0 (run (λ k t. 0) 0 4 (two periodic no_timer)) ≡ lost
 unfolding at_nanosecond passed fires_next divisor
 a_second_tick_is_lost = refl
 
-a_look_spends_a_deadline_and_ticks : looked_all (λ k. 2001) (two armed periodic)
+-- a look spends a deadline and ticks; a masked one is spent without a tick; a look before it does nothing
+looks : looked_all (λ k. 2001) (two armed periodic)
+    ∷ looked_all (λ k. 2001) (two (record armed { lvt = 0x50031 }) no_timer)
+    ∷ looked_all (λ k. 2000) (two armed periodic) ∷ []
     ≡ record { timers = record armed { deadline = 0 } ∷ periodic ∷ []; lines = raised ∷ no_line ∷ [] }
+    ∷ two (record armed { lvt = 0x50031; deadline = 0 }) no_timer
+    ∷ two armed periodic ∷ []
 unfolding looked_all
-a_look_spends_a_deadline_and_ticks = refl
+looks = refl
 
-a_masked_deadline_is_spent_without_a_tick : looked_all (λ k. 2001) (two (record armed { lvt = 0x50031 }) no_timer)
-    ≡ two (record armed { lvt = 0x50031; deadline = 0 }) no_timer
-unfolding looked_all
-a_masked_deadline_is_spent_without_a_tick = refl
+-- the third nanosecond after 10 ticks; the second doesn't, and once the deadline is spent none does
+ticks : map (ticks_at (λ t. t + 1988) 10 armed) (12 ∷ 13 ∷ 14 ∷ []) ≡ false ∷ true ∷ false ∷ []
+ticks = refl
 
-a_look_before_it_does_nothing : looked_all (λ k. 2000) (two armed periodic) ≡ two armed periodic
-unfolding looked_all
-a_look_before_it_does_nothing = refl
-
-the_third_nanosecond_ticks : ticks_at (λ t. t + 1988) 10 armed 13 ≡ true
-the_third_nanosecond_ticks = refl
-
-the_second_does_not : ticks_at (λ t. t + 1988) 10 armed 12 ≡ false
-the_second_does_not = refl
-
-once_spent_it_is_silent : ticks_at (λ t. t + 1988) 10 armed 14 ≡ false
-once_spent_it_is_silent = refl
-
-a_write_is_of_one_processor : timer_at 1 (written_at 1 Initial 7 (two periodic no_timer)) ≡ record no_timer { initial = 7; current = 7 }
-a_write_is_of_one_processor = refl
-
-and_leaves_the_other : timer_at 0 (written_at 1 Initial 7 (two periodic no_timer)) ≡ periodic
-and_leaves_the_other = refl
+-- a write is of one processor, and leaves the other
+written : map (λ k. timer_at k (written_at 1 Initial 7 (two periodic no_timer))) (0 ∷ 1 ∷ [])
+    ≡ periodic ∷ record no_timer { initial = 7; current = 7 } ∷ []
+written = refl
 
 an_end_of_interrupt_lowers_the_line : eoi_at 1 (record { timers = []; lines = raised ∷ lost ∷ [] })
     ≡ record { timers = []; lines = raised ∷ record lost { up = false } ∷ [] }
 an_end_of_interrupt_lowers_the_line = refl
 
-processor_1_of_2_is_there : timer_at 1 (apics_at_power_on 2) ≡ apic_at_power_on
-processor_1_of_2_is_there = refl
-
-processor_2_of_2_is_not : timer_at 2 (apics_at_power_on 2) ≡ no_timer
-processor_2_of_2_is_not = refl
+-- of two processors there are 0 and 1 alone, and lines are down
+at_power_on : map (λ k. timer_at k (apics_at_power_on 2)) (1 ∷ 2 ∷ []) ≡ apic_at_power_on ∷ no_timer ∷ []
+at_power_on = refl
 
 lines_are_down_at_power_on : line_at 0 (apics_at_power_on 2) ≡ no_line
 lines_are_down_at_power_on = refl
