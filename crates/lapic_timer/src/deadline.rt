@@ -1,9 +1,9 @@
 //! When a deadline of the TSC is reached.
 
-ghost use Rattle.std.specs.Prelude.{◌≡◌, ◌+◌, ◌*◌, ◌/◌, ◌%◌, ◌^◌, ◌<◌, ◌≤◌};
+ghost use Rattle.std.specs.Prelude.{◌≡◌, ◌+◌, ◌*◌, ◌/◌, ◌^◌, ◌<◌, ◌≤◌};
 ghost use Rattle.clk_units.specs.Ranges.{IsKhz};
 ghost use Rattle.tsc_scale.specs.Ratio.{ratio_of};
-ghost use Rattle.lapic_timer.specs.Deadline.{is_reached, count_at, guest_count_at, is_reached_at, IsFirstAt};
+ghost use Rattle.lapic_timer.specs.Deadline.{is_reached, guest_count_at, is_reached_at, IsFirstAt};
 ghost use Rattle.lapic_timer.specs.private.Wait.{scaled_at, wait_of, count_for, time_for};
 
 use clk_units::RANGE_NS;
