@@ -14,9 +14,10 @@ pub share_of_rtc : (ns : ℕ) → ns < 1000000000 → ns * 604462909807315 / 184
 unfolding pulses_by
 share_of_rtc ns less = omega (arith, less)
 
-pub share_of_hpet : (ns : ℕ) → ns < 1000000000 → ns * 1844674407370955162 / 18446744073709551616 ≡ pulses_by HPET_HZ ns
-unfolding pulses_by
-share_of_hpet ns less = omega (arith, less)
+-- the HPET's main counter pulses at each tenth nanosecond
+pub by_tens : (from to : ℕ) → from ≤ to → to / 10 - from / 10 ≡ pulses_from HPET_HZ from (to - from)
+unfolding pulses_from pulses_by
+by_tens from to order = omega (arith, order)
 
 -- whole seconds and the rest are counted apart
 pub by_second : (hz t r : ℕ) → r ≡ t % 1000000000 → t / 1000000000 * hz + pulses_by hz r ≡ pulses_by hz t

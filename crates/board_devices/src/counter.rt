@@ -3,7 +3,7 @@ ghost use Rattle.std.specs.Prelude.{◌≡◌, ◌-◌, ◌^◌, ◌<◌, ◌≤
 ghost use Rattle.board_devices.specs.Run.{run};
 
 use crate::devices::Devices;
-use crate::pulse_counts::pulse_counts;
+use crate::pulse_counts::hpet_pulses;
 
 impl Devices {
     /// The HPET's main counter at nanosecond `to`, where the devices are at `from`, if no access
@@ -18,6 +18,6 @@ impl Devices {
         if hpet.config % 2 == 0 {
             return hpet.counter;
         }
-        hpet.counter.wrapping_add(pulse_counts(from, to).hpet)
+        hpet.counter.wrapping_add(hpet_pulses(from, to))
     }
 }

@@ -3,7 +3,7 @@ ghost use Rattle.std.specs.Prelude.{◌≡◌, ◌-◌, ◌+◌, ◌%◌, ◌<�
 ghost use Rattle.pit_readback.specs.declared.TheConstants.{PIT_HZ};
 ghost use Rattle.rtc_registers.specs.declared.TheConstants.{RTC_HZ};
 ghost use Rattle.hpet_registers.specs.declared.hpet.TheConstants.{HPET_HZ};
-ghost use Rattle.clk_units.specs.Pulses.{pulses_by};
+ghost use Rattle.clk_units.specs.Pulses.{pulses_by, pulses_from};
 ghost use Rattle.board_devices.specs.private.Pulses.{ArePulses};
 
 use clk_units::pulses_between;
@@ -21,8 +21,8 @@ const PIT_SHARE: u64 = 22_010_322_987_356_911;
 /// The same of the crystal of the MC146818.
 const RTC_SHARE: u64 = 604_462_909_807_315;
 
-/// The same of the HPET's main counter.
-const HPET_SHARE: u64 = 1_844_674_407_370_955_162;
+/// Nanoseconds from one pulse of the HPET's main counter to the next.
+const HPET_PULSE_NS: u64 = SECOND_NS / HPET_HZ;
 
 /// The pulses of the three devices in a stretch.
 #[derive(Clone, Copy)]
@@ -65,7 +65,7 @@ fn counts_within(from: u64, to: u64, start: u64, end: u64) -> PulseCounts
     PulseCounts {
         pit: pit_pulses(end) - pit_pulses(start),
         rtc: rtc_pulses(end) - rtc_pulses(start),
-        hpet: hpet_pulses(end) - hpet_pulses(start),
+        hpet: hpet_pulses(from, to),
     }
 }
 
@@ -79,7 +79,7 @@ fn counts_across(from: u64, to: u64) -> PulseCounts
     PulseCounts {
         pit: pulses_between(from, to, PIT_HZ),
         rtc: pulses_between(from, to, RTC_HZ),
-        hpet: pulses_between(from, to, HPET_HZ),
+        hpet: hpet_pulses(from, to),
     }
 }
 
@@ -103,12 +103,13 @@ fn rtc_pulses(ns: u64) -> u64
     (u128::from(ns) * u128::from(RTC_SHARE) / 0x1_0000_0000_0000_0000) as u64
 }
 
-/// The pulses of the HPET's main counter in the first `ns` nanoseconds of a second.
+/// How many pulses of the HPET's main counter fall after nanosecond `from` and up to `to`.
 #[inline(always)]
-#[tactic(auto, using(crate::proofs::Counts::share_of_hpet))]
-fn hpet_pulses(ns: u64) -> u64
-    requires { ns < 1000000000 }
-    ensures { result ≡ pulses_by HPET_HZ ns }
+#[tactic(auto, using(crate::proofs::Counts::by_tens))]
+pub(crate) fn hpet_pulses(from: u64, to: u64) -> u64
+    requires order { from ≤ to }
+    ensures value { result ≡ pulses_from HPET_HZ from (to - from) }
+    ensures few { result ≤ to - from }
 {
-    (u128::from(ns) * u128::from(HPET_SHARE) / 0x1_0000_0000_0000_0000) as u64
+    to / HPET_PULSE_NS - from / HPET_PULSE_NS
 }

@@ -13,8 +13,8 @@ returns-then-hpet-eq0 c =
 pub returns : goal.returns
 returns c =
     let same : c.parts-hpet.result ≡ c.args.self.now.hpet = c.parts-hpet.ensures.parts ∙ ap (λ (d : DeviceParts). d.hpet) c.self.view_is in
-    ap (λ (h : HpetParts). (h.counter + c.pulse_counts.result.hpet) % 2 ^ 64) same
-    ∙ ap (λ (n : ℕ). (c.args.self.now.hpet.counter + n) % 2 ^ 64) c.pulse_counts.ensures.hpet
+    ap (λ (h : HpetParts). (h.counter + c.hpet_pulses.result) % 2 ^ 64) same
+    ∙ ap (λ (n : ℕ). (c.args.self.now.hpet.counter + n) % 2 ^ 64) c.hpet_pulses.ensures.value
     ∙ counter-running c.args.from (c.args.to - c.args.from) c.args.self.now
     (λ even. c.if-hpet-eq0.false (subst (λ (h : HpetParts). h.config % 2 ≡ 0) (sym same) even))
     (subst (λ (h : HpetParts). h.counter < 2 ^ 64) same (omega (arith, c.parts-hpet.type_inv.1.1.0)))
