@@ -1,7 +1,8 @@
 -- The edges of an acknowledgement are those of its line.
-use Rattle.std.proofs.Common.{◌≡◌, ◌≢◌, ℕ, zero, suc, ◌+◌, ◌<◌, ◌≤◌, Bool, true, false, cond, eqb, ltb, ◌&&◌, ◌||◌, not, List, [], ◌∷◌, ◌++◌, length, get_or}
-use Rattle.std.proofs.Common.{refl, ap, sym, ◌∙◌, inl, inr, append-nil, arith}
-use Rattle.std.proofs.lemmas.Bool.{cases_eq, cases_Bool, ne_eqb, eqb-true, true≢false}
+use Rattle.std.proofs.Common.{◌≡◌, ◌≢◌, ℕ, zero, suc, ◌+◌, ◌<◌, ◌≤◌, Bool, true, false, cond, eqb, ltb, ◌&&◌, ◌||◌, not, List, [], ◌++◌, length, get_or}
+use Rattle.std.proofs.Common.{refl, ap, sym, subst, ◌∙◌, inl, inr, append-nil, arith}
+use Rattle.std.proofs.Math.Bool.{and-false}
+use Rattle.std.proofs.lemmas.Bool.{cases_eq, cases_Bool, eq-eqb, ne_eqb, eqb-true, true≢false}
 use Rattle.irq_edges.specs.declared.edges.Edge.{Edge}
 use Rattle.irq_edges.specs.Lines.{change, changes, line_numbers}
 use Rattle.rtc_registers.specs.Registers.{irqf_of}
@@ -17,14 +18,6 @@ use Rattle.board_devices.specs.Act.{drives_now, shows_ticks, acks, acked_where, 
 use Rattle.board_devices.specs.private.Acks.{is_io_line, shows, output_with, shown_by, level_by}
 use Rattle.board_devices.proofs.Places.{each-at}
 use Rattle.board_devices.proofs.Fronts.{change-same}
-
-and-false : (b : Bool) → (b && false) ≡ false
-and-false true = refl
-and-false false = refl
-
-or-false : (b : Bool) → (b || false) ≡ b
-or-false true = refl
-or-false false = refl
 
 -- lines that differ only where an acknowledgement of `line` reaches them
 abbrev pub SameElse : ℕ → HpetParts → List TickParts → List TickParts → Type 0
@@ -132,54 +125,10 @@ module _ (h : HpetParts) (ls : List TickParts) where
   nothing-level l n io apart0 apart8 =
       ap (λ (b : Bool). cond (b && not l) (get_or ls 0 no_line).up (shown_by l n 8 h ls)) apart0 ∙ nothing l n 8 io apart0 apart8
 
--- the edges where one line alone moves
-abbrev all_changes : (t : ℕ) (a0 a8 a20 a21 a22 a23 b0 b8 b20 b21 b22 b23 : Bool) → List Edge
-all_changes t a0 a8 a20 a21 a22 a23 b0 b8 b20 b21 b22 b23 =
-    changes t line_numbers (a0 ∷ a8 ∷ a20 ∷ a21 ∷ a22 ∷ a23 ∷ []) (b0 ∷ b8 ∷ b20 ∷ b21 ∷ b22 ∷ b23 ∷ [])
-
-only0 : (t : ℕ) (a0 b0 : Bool) {a8 a20 a21 a22 a23 b8 b20 b21 b22 b23 : Bool} → a8 ≡ b8 → a20 ≡ b20 → a21 ≡ b21 → a22 ≡ b22 → a23 ≡ b23
-    → all_changes t a0 a8 a20 a21 a22 a23 b0 b8 b20 b21 b22 b23 ≡ change t 0 a0 b0
-only0 t a0 b0 {a8} {a20} {a21} {a22} {a23} {b8} {b20} {b21} {b22} {b23} v w x y z =
-    rw (v, w, x, y, z) (rw (change-same t 8 b8, change-same t 20 b20, change-same t 21 b21, change-same t 22 b22, change-same t 23 b23)
-    (append-nil (change t 0 a0 b0)))
-
-only8 : (t : ℕ) (a8 b8 : Bool) {a0 a20 a21 a22 a23 b0 b20 b21 b22 b23 : Bool} → a0 ≡ b0 → a20 ≡ b20 → a21 ≡ b21 → a22 ≡ b22 → a23 ≡ b23
-    → all_changes t a0 a8 a20 a21 a22 a23 b0 b8 b20 b21 b22 b23 ≡ change t 8 a8 b8
-only8 t a8 b8 {a0} {a20} {a21} {a22} {a23} {b0} {b20} {b21} {b22} {b23} v w x y z =
-    rw (v, w, x, y, z) (rw (change-same t 0 b0, change-same t 20 b20, change-same t 21 b21, change-same t 22 b22, change-same t 23 b23)
-    (append-nil (change t 8 a8 b8)))
-
-only20 : (t : ℕ) (a20 b20 : Bool) {a0 a8 a21 a22 a23 b0 b8 b21 b22 b23 : Bool} → a0 ≡ b0 → a8 ≡ b8 → a21 ≡ b21 → a22 ≡ b22 → a23 ≡ b23
-    → all_changes t a0 a8 a20 a21 a22 a23 b0 b8 b20 b21 b22 b23 ≡ change t 20 a20 b20
-only20 t a20 b20 {a0} {a8} {a21} {a22} {a23} {b0} {b8} {b21} {b22} {b23} v w x y z =
-    rw (v, w, x, y, z) (rw (change-same t 0 b0, change-same t 8 b8, change-same t 21 b21, change-same t 22 b22, change-same t 23 b23)
-    (append-nil (change t 20 a20 b20)))
-
-only21 : (t : ℕ) (a21 b21 : Bool) {a0 a8 a20 a22 a23 b0 b8 b20 b22 b23 : Bool} → a0 ≡ b0 → a8 ≡ b8 → a20 ≡ b20 → a22 ≡ b22 → a23 ≡ b23
-    → all_changes t a0 a8 a20 a21 a22 a23 b0 b8 b20 b21 b22 b23 ≡ change t 21 a21 b21
-only21 t a21 b21 {a0} {a8} {a20} {a22} {a23} {b0} {b8} {b20} {b22} {b23} v w x y z =
-    rw (v, w, x, y, z) (rw (change-same t 0 b0, change-same t 8 b8, change-same t 20 b20, change-same t 22 b22, change-same t 23 b23)
-    (append-nil (change t 21 a21 b21)))
-
-only22 : (t : ℕ) (a22 b22 : Bool) {a0 a8 a20 a21 a23 b0 b8 b20 b21 b23 : Bool} → a0 ≡ b0 → a8 ≡ b8 → a20 ≡ b20 → a21 ≡ b21 → a23 ≡ b23
-    → all_changes t a0 a8 a20 a21 a22 a23 b0 b8 b20 b21 b22 b23 ≡ change t 22 a22 b22
-only22 t a22 b22 {a0} {a8} {a20} {a21} {a23} {b0} {b8} {b20} {b21} {b23} v w x y z =
-    rw (v, w, x, y, z) (rw (change-same t 0 b0, change-same t 8 b8, change-same t 20 b20, change-same t 21 b21, change-same t 23 b23)
-    (append-nil (change t 22 a22 b22)))
-
-only23 : (t : ℕ) (a23 b23 : Bool) {a0 a8 a20 a21 a22 b0 b8 b20 b21 b22 : Bool} → a0 ≡ b0 → a8 ≡ b8 → a20 ≡ b20 → a21 ≡ b21 → a22 ≡ b22
-    → all_changes t a0 a8 a20 a21 a22 a23 b0 b8 b20 b21 b22 b23 ≡ change t 23 a23 b23
-only23 t a23 b23 {a0} {a8} {a20} {a21} {a22} {b0} {b8} {b20} {b21} {b22} v w x y z =
-    rw (v, w, x, y, z) (rw (change-same t 0 b0, change-same t 8 b8, change-same t 20 b20, change-same t 21 b21, change-same t 22 b22)
-    (append-nil (change t 23 a23 b23)))
-
 -- where only those lines move that an acknowledgement reaches, the edges are those of its line
 module _ (d : DeviceParts) (line : ℕ) (ls ms : List TickParts) (same : SameElse line d.hpet ls ms) (t : ℕ) where
   abbrev pub on_line : ℕ → List Edge
   on_line n = change t n (level_by (is_legacy d.hpet) n d.hpet ls) (level_by (is_legacy d.hpet) n d.hpet ms)
-
-  apart : (n m : ℕ) → line ≡ m → n ≢ m → n ≢ line
-  apart n m e other h = other (h ∙ e)
 
   io-changes : (n : ℕ) → is_io_line n ≡ true → eqb n 0 ≡ false → eqb n 8 ≡ false
       → change t n (routed n 8 (record d { ticks = ls })) (routed n 8 (record d { ticks = ms })) ≡ on_line n
@@ -195,69 +144,76 @@ module _ (d : DeviceParts) (line : ℕ) (ls ms : List TickParts) (same : SameEls
       ∙ ap (change t 8 (level_by true 8 d.hpet ls)) (eight-level d.hpet ms)
   eight-changes false = change-same t 8 (irqf_of d.rtc)
 
+  zero-changes : (l : Bool) → change t 0 (cond l (output_with 0 d.hpet (get_or ls 2 no_line)) (get_or ls 0 no_line).up)
+      (cond l (output_with 0 d.hpet (get_or ms 2 no_line)) (get_or ms 0 no_line).up) ≡ change t 0 (level_by l 0 d.hpet ls) (level_by l 0 d.hpet ms)
+  zero-changes l =
+      ap (λ (b : Bool). change t 0 b (cond l (output_with 0 d.hpet (get_or ms 2 no_line)) (get_or ms 0 no_line).up)) (zero-level d.hpet ls l)
+      ∙ ap (change t 0 (level_by l 0 d.hpet ls)) (zero-level d.hpet ms l)
+
+  -- a line that isn't reached has none
+  abbrev where_reached : Bool → List Edge
+  where_reached b = cond b (on_line line) []
+
+  one : (n : ℕ) (a b : Bool) → (n ≢ line → a ≡ b) → change t n a b ≡ on_line n → change t n a b ≡ where_reached (eqb line n)
+  one n a b apart here = elim (cases_eq line n) [
+    | inl e ↦ here ∙ ap on_line (sym e) ∙ ap where_reached (sym (eq-eqb line n e))
+    | inr other ↦ ap (λ (x : Bool). change t n x b) (apart (λ h. other (sym h))) ∙ change-same t n b ∙ ap where_reached (sym (ne_eqb line n other))
+  ]
+
+  -- a line of another number has no level
+  unknown : eqb line 0 ≡ false → eqb line 8 ≡ false → is_io_line line ≡ false → [] ≡ on_line line
+  unknown apart0 apart8 io = sym
+      (ap (λ (b : Bool). change t line b (level_by (is_legacy d.hpet) line d.hpet ms)) (nothing-level d.hpet ls (is_legacy d.hpet) line io apart0 apart8)
+      ∙ ap (change t line false) (nothing-level d.hpet ms (is_legacy d.hpet) line io apart0 apart8))
+
+  abbrev six_of : (a b e f g h : List Edge) → List Edge
+  six_of a b e f g h = a ++ (b ++ (e ++ (f ++ (g ++ (h ++ [])))))
+
+  abbrev Whole : ℕ → Type 0
+  Whole m = six_of (where_reached (eqb m 0)) (where_reached (eqb m 8)) (where_reached (eqb m 20)) (where_reached (eqb m 21)) (where_reached (eqb m 22))
+      (where_reached (eqb m 23)) ≡ on_line line
+
+  none : {a b e f g h : Bool} → a ≡ false → b ≡ false → e ≡ false → f ≡ false → g ≡ false → h ≡ false
+      → six_of (where_reached a) (where_reached b) (where_reached e) (where_reached f) (where_reached g) (where_reached h) ≡ []
+  none i j k l m n = rw (i, j, k, l, m, n) refl
+
+  whole : Whole line
+  whole = elim (cases_eq line 0) [
+    | inl e ↦ subst Whole (sym e) (append-nil (on_line line))
+    | inr not0 ↦ elim (cases_eq line 8) [
+      | inl e ↦ subst Whole (sym e) (append-nil (on_line line))
+      | inr not8 ↦ elim (cases_eq line 20) [
+        | inl e ↦ subst Whole (sym e) (append-nil (on_line line))
+        | inr not20 ↦ elim (cases_eq line 21) [
+          | inl e ↦ subst Whole (sym e) (append-nil (on_line line))
+          | inr not21 ↦ elim (cases_eq line 22) [
+            | inl e ↦ subst Whole (sym e) (append-nil (on_line line))
+            | inr not22 ↦ elim (cases_eq line 23) [
+              | inl e ↦ subst Whole (sym e) (append-nil (on_line line))
+              | inr not23 ↦ none (ne_eqb line 0 not0) (ne_eqb line 8 not8) (ne_eqb line 20 not20) (ne_eqb line 21 not21) (ne_eqb line 22 not22)
+                  (ne_eqb line 23 not23)
+                  ∙ unknown (ne_eqb line 0 not0) (ne_eqb line 8 not8)
+                  (rw (ne_eqb line 20 not20, ne_eqb line 21 not21, ne_eqb line 22 not22, ne_eqb line 23 not23) refl)
+            ]
+          ]
+        ]
+      ]
+    ]
+  ]
+
   pub ack-changes : changes t line_numbers (levels (record d { ticks = ls })) (levels (record d { ticks = ms })) ≡ on_line line
   unfolding levels
-  ack-changes =
-      let r : (n : ℕ) → n ≢ line → routed n 8 (record d { ticks = ls }) ≡ routed n 8 (record d { ticks = ms }) =
-      λ n other. routed-same d line ls ms same n 8 (omega arith) other in
-      let l : Bool = is_legacy d.hpet in
-      elim (cases_eq line 0) [
-        | inl e ↦
-            let far : (n : ℕ) → n ≢ 0 → n ≢ line = λ n other. apart n 0 e other in
-            only0 t _ _ (eight-same d line ls ms same l refl (far 8 (omega arith))) (r 20 (far 20 (omega arith))) (r 21 (far 21 (omega arith)))
-            (r 22 (far 22 (omega arith))) (r 23 (far 23 (omega arith)))
-            ∙ ap (λ (b : Bool). change t 0 b (cond l (output_with 0 d.hpet (get_or ms 2 no_line)) (get_or ms 0 no_line).up)) (zero-level d.hpet ls l)
-            ∙ ap (change t 0 (level_by l 0 d.hpet ls)) (zero-level d.hpet ms l)
-            ∙ ap on_line (sym e)
-        | inr not0 ↦
-            let z : cond l (output_with 0 d.hpet (get_or ls 2 no_line)) (get_or ls 0 no_line).up
-            ≡ cond l (output_with 0 d.hpet (get_or ms 2 no_line)) (get_or ms 0 no_line).up =
-            zero-same d line ls ms same l refl (λ h. not0 (sym h)) in
-            elim (cases_eq line 8) [
-              | inl e ↦
-                  let far : (n : ℕ) → n ≢ 8 → n ≢ line = λ n other. apart n 8 e other in
-                  only8 t _ _ z (r 20 (far 20 (omega arith))) (r 21 (far 21 (omega arith))) (r 22 (far 22 (omega arith))) (r 23 (far 23 (omega arith)))
-                  ∙ eight-changes l ∙ ap on_line (sym e)
-              | inr not8 ↦
-                  let i : cond l (output_with 1 d.hpet (get_or ls 3 no_line)) (irqf_of d.rtc)
-                  ≡ cond l (output_with 1 d.hpet (get_or ms 3 no_line)) (irqf_of d.rtc) =
-                  eight-same d line ls ms same l refl (λ h. not8 (sym h)) in
-                  elim (cases_eq line 20) [
-                    | inl e ↦
-                        let far : (n : ℕ) → n ≢ 20 → n ≢ line = λ n other. apart n 20 e other in
-                        only20 t _ _ z i (r 21 (far 21 (omega arith))) (r 22 (far 22 (omega arith))) (r 23 (far 23 (omega arith)))
-                        ∙ io-changes 20 refl refl refl ∙ ap on_line (sym e)
-                    | inr not20 ↦ elim (cases_eq line 21) [
-                      | inl e ↦
-                          let far : (n : ℕ) → n ≢ 21 → n ≢ line = λ n other. apart n 21 e other in
-                          only21 t _ _ z i (r 20 (far 20 (omega arith))) (r 22 (far 22 (omega arith))) (r 23 (far 23 (omega arith)))
-                          ∙ io-changes 21 refl refl refl ∙ ap on_line (sym e)
-                      | inr not21 ↦ elim (cases_eq line 22) [
-                        | inl e ↦
-                            let far : (n : ℕ) → n ≢ 22 → n ≢ line = λ n other. apart n 22 e other in
-                            only22 t _ _ z i (r 20 (far 20 (omega arith))) (r 21 (far 21 (omega arith))) (r 23 (far 23 (omega arith)))
-                            ∙ io-changes 22 refl refl refl ∙ ap on_line (sym e)
-                        | inr not22 ↦ elim (cases_eq line 23) [
-                          | inl e ↦
-                              let far : (n : ℕ) → n ≢ 23 → n ≢ line = λ n other. apart n 23 e other in
-                              only23 t _ _ z i (r 20 (far 20 (omega arith))) (r 21 (far 21 (omega arith))) (r 22 (far 22 (omega arith)))
-                              ∙ io-changes 23 refl refl refl ∙ ap on_line (sym e)
-                          | inr not23 ↦
-                              let io : is_io_line line ≡ false =
-                              rw (ne_eqb line 20 not20, ne_eqb line 21 not21, ne_eqb line 22 not22, ne_eqb line 23 not23) refl in
-                              let zero : eqb line 0 ≡ false = ne_eqb line 0 not0 in
-                              let eight : eqb line 8 ≡ false = ne_eqb line 8 not8 in
-                              only0 t _ _ i (r 20 (λ h. not20 (sym h))) (r 21 (λ h. not21 (sym h))) (r 22 (λ h. not22 (sym h))) (r 23 (λ h. not23 (sym h)))
-                              ∙ ap (λ (b : Bool). change t 0 b (cond l (output_with 0 d.hpet (get_or ms 2 no_line)) (get_or ms 0 no_line).up)) z
-                              ∙ change-same t 0 (cond l (output_with 0 d.hpet (get_or ms 2 no_line)) (get_or ms 0 no_line).up)
-                              ∙ sym (ap (λ (b : Bool). change t line b (level_by l line d.hpet ms)) (nothing-level d.hpet ls l line io zero eight)
-                              ∙ ap (change t line false) (nothing-level d.hpet ms l line io zero eight))
-                        ]
-                      ]
-                    ]
-                  ]
-            ]
-      ]
+  ack-changes = each_of
+      (one 0 _ _ (zero-same d line ls ms same (is_legacy d.hpet) refl) (zero-changes (is_legacy d.hpet)))
+      (one 8 _ _ (eight-same d line ls ms same (is_legacy d.hpet) refl) (eight-changes (is_legacy d.hpet)))
+      (io 20 refl refl refl) (io 21 refl refl refl) (io 22 refl refl refl) (io 23 refl refl refl) ∙ whole
+    where
+      each_of : {a b e f g h p q r u v w : List Edge} → a ≡ p → b ≡ q → e ≡ r → f ≡ u → g ≡ v → h ≡ w → six_of a b e f g h ≡ six_of p q r u v w
+      each_of i j k l m n = rw (i, j, k, l, m, n) refl
+
+      io : (n : ℕ) → is_io_line n ≡ true → eqb n 0 ≡ false → eqb n 8 ≡ false
+          → change t n (routed n 8 (record d { ticks = ls })) (routed n 8 (record d { ticks = ms })) ≡ where_reached (eqb line n)
+      io n known apart0 apart8 = one n _ _ (routed-same d line ls ms same n 8 (omega arith)) (io-changes n known apart0 apart8)
 
 -- an acknowledgement, in its two parts
 pub edges-ack : (t line : ℕ) (d : DeviceParts) → length d.ticks ≡ 10 → act_edges t (Ack line) d

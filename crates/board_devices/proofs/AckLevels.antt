@@ -1,6 +1,7 @@
 -- An acknowledgement of a line, by what its tick lines show.
 use Rattle.std.proofs.Common.{◌≡◌, ℕ, zero, suc, ◌+◌, ◌<◌, ◌≤◌, Bool, true, false, cond, eqb, ltb, ◌&&◌, ◌||◌, not, ◌⊎◌, List, length, get_or}
 use Rattle.std.proofs.Common.{refl, ap, sym, subst, ◌∙◌, inl, inr, arith}
+use Rattle.std.proofs.Math.Bool.{and-false, or-false}
 use Rattle.std.proofs.lemmas.Bool.{cases_eq, ne_eqb, le-ltb, lt-ltb}
 use Rattle.hpet_comparator.specs.declared.parts.TimerParts.{TimerParts}
 use Rattle.hpet_comparator.specs.Parts.{is_level, route_of}
@@ -13,15 +14,11 @@ use Rattle.board_devices.specs.declared.acks.Levels.{Levels}
 use Rattle.board_devices.specs.Places.{each, no_line}
 use Rattle.board_devices.specs.Act.{drives_now, shows_ticks, acks, acked_where, down_where}
 use Rattle.board_devices.specs.private.Acks.{is_io_line, shows, timer_acks, output_with, timer_levels, shown_by}
-use Rattle.board_devices.proofs.Places.{each-at, length-each, same_places}
+use Rattle.board_devices.proofs.Places.{each-at, length-each, same_places, all_eight}
 
 pub same_levels : {a b e f i j : Bool} → a ≡ b → e ≡ f → i ≡ j
     → ◌≡◌ {A = Levels} (record { before = a; between = e; after = i }) (record { before = b; between = f; after = j })
 same_levels x y z = rw (x, y, z) refl
-
-and-false : (b : Bool) → (b && false) ≡ false
-and-false true = refl
-and-false false = refl
 
 -- a timer that doesn't drive the line shows nothing of it
 shows-driven : (line k : ℕ) (h : HpetParts) → drives_now line k h ≡ false → shows (is_legacy h) line k h ≡ false
@@ -93,20 +90,9 @@ shown-absent legacy line k h ls valid gone small =
     past (inl e) = omega arith
     past (inr e) = omega arith
 
-    or-false : (b : Bool) → (b || false) ≡ b
-    or-false true = refl
-    or-false false = refl
-
 pub shown-all : (legacy : Bool) (line : ℕ) (h : HpetParts) (ls : List TickParts) → IsHpet h → shown_by legacy line h.timers h ls ≡ shown_by legacy line 8 h ls
-shown-all legacy line h ls valid = elim valid.timers [
-  | inr eight ↦ ap (λ (n : ℕ). shown_by legacy line n h ls) eight
-  | inl three ↦
-      let past : (k : ℕ) → 3 ≤ k → k < 8 → shown_by legacy line (suc k) h ls ≡ shown_by legacy line k h ls =
-      λ k le small. shown-absent legacy line k h ls valid (omega (arith, three)) small in
-      ap (λ (n : ℕ). shown_by legacy line n h ls) three
-      ∙ sym (past 7 (omega arith) (omega arith) ∙ past 6 (omega arith) (omega arith) ∙ past 5 (omega arith) (omega arith)
-      ∙ past 4 (omega arith) (omega arith) ∙ past 3 (omega arith) (omega arith))
-]
+shown-all legacy line h ls valid = all_eight (λ n. shown_by legacy line n h ls) h.timers valid.timers
+    (λ k gone small. shown-absent legacy line k h ls valid gone small)
 
 -- one timer more, by the line at its place
 pub shown-more : (legacy : Bool) (line k : ℕ) (h : HpetParts) (op : Bool → TickParts → TickParts) (ls : List TickParts) → length ls ≡ 10 → k < 8

@@ -1,5 +1,6 @@
 -- The edges of the accesses, by the lines that they move.
 use Rattle.std.proofs.Common.{◌≡◌, ℕ, zero, suc, Bool, true, false, cond, eqb, ◌&&◌, ◌||◌, not, List, [], ◌∷◌, ◌++◌, length, get_or, refl, ap, sym, ◌∙◌, arith}
+use Rattle.std.proofs.Math.Bool.{or-true}
 use Rattle.irq_edges.specs.declared.edges.Edge.{Edge}
 use Rattle.irq_edges.specs.Lines.{change, changes, line_numbers}
 use Rattle.irq_edges.proofs.EdgesOf.{changes-same}
@@ -146,10 +147,6 @@ edges-pit_write t port byte d long =
     or-false true = refl
     or-false false = refl
 
-    or-true : (a : Bool) → true ≡ (a || true)
-    or-true true = refl
-    or-true false = refl
-
     p : PitParts
     p = port_written port byte d.pit
 
@@ -176,7 +173,7 @@ edges-pit_write t port byte d long =
         (cond (is_legacy d.hpet) (output_of 0 d) (get_or (ticked_at (pit_ticked true) d.ticks) 0 no_line).up) d
         ∙ ap (λ (l : Bool). change t 0 (cond l (output_of 0 d) (line_at 0 d).up)
         (cond l (output_of 0 d) (get_or (ticked_at (pit_ticked true) d.ticks) 0 no_line).up)) plain
-        ∙ ap (change t 0 (line_at 0 d).up) (up ∙ or-true (line_at 0 d).up)
+        ∙ ap (change t 0 (line_at 0 d).up) (up ∙ sym (or-true (line_at 0 d).up))
 
     by_tick : (rose legacy : Bool) → is_legacy d.hpet ≡ legacy
         → changes t line_numbers (levels d) (levels (record d { pit = p; ticks = ticked_at (pit_ticked (rose && not legacy)) d.ticks }))

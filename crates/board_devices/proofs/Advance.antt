@@ -4,6 +4,7 @@ use Rattle.std.proofs.Common.{get_or, map, Option, Some, None, refl, ap, sym, su
 use Rattle.pit_readback.specs.declared.TheConstants.{PIT_HZ}
 use Rattle.rtc_registers.specs.declared.TheConstants.{RTC_HZ}
 use Rattle.hpet_registers.specs.declared.hpet.TheConstants.{HPET_HZ}
+use Rattle.std.proofs.Math.Bool.{and-false, and-true, or-false, or-true}
 use Rattle.std.proofs.lemmas.Bool.{lt-leb, le-leb, cases_lt, true≢false}
 use Rattle.clk_units.specs.Events.{CountsUp, IsFirst, first_at}
 use Rattle.clk_units.specs.Pulses.{pulses_from}
@@ -48,7 +49,7 @@ use Rattle.board_devices.specs.private.Stretch.{source, line_run, flagged_where,
 use Rattle.board_devices.specs.private.Stretch.{eight, either_from, flag_from, output_from, routed_from}
 use Rattle.board_devices.specs.Parts.{IsDevices}
 use Rattle.board_devices.proofs.Keeps.{IsDevices-each, KeepsLines-line_run}
-use Rattle.board_devices.proofs.Places.{each-at, length-each, same_places, at-eight}
+use Rattle.board_devices.proofs.Places.{each-at, length-each, same_places, same_six, at-eight}
 use Rattle.board_devices.proofs.Product.{Sound, run-parted, same_parts, counts-by, register_b-flagged_where, flag-is-line}
 
 -- what is known of the ticks at a place
@@ -82,36 +83,20 @@ flag-up : (b flag event : Bool) (t j : ℕ) (first : Option ℕ) → (b ≡ true
     ≡ is_up_at (t + j) (flag_from b flag t first)
 flag-up true true event t j first h = sym (le-leb t (t + j) (omega arith))
 flag-up true false event t j first h = and-true event ∙ h refl
-  where
-    and-true : (b : Bool) → (b && true) ≡ b
-    and-true true = refl
-    and-true false = refl
 flag-up false flag event t j first h = and-false (flag || event)
-  where
-    and-false : (b : Bool) → (b && false) ≡ false
-    and-false true = refl
-    and-false false = refl
 
 -- the earlier of two times
 pub up-either_from : (t : ℕ) (a b : Option ℕ) → is_up_at t (either_from a b) ≡ (is_up_at t a || is_up_at t b)
 unfolding either_from
 up-either_from t None b = refl
-up-either_from t (Some a) None = or-none (leb a t)
-  where
-    or-none : (x : Bool) → x ≡ (x || false)
-    or-none true = refl
-    or-none false = refl
+up-either_from t (Some a) None = sym (or-false (leb a t))
 up-either_from t (Some a) (Some b) = elim (cases_lt b a) [
   | inl g ↦ rw (lt-leb a b g) (late g)
   | inr g ↦ rw (le-leb a b g) (early g)
 ]
   where
-    or-true : (x : Bool) → true ≡ (x || true)
-    or-true true = refl
-    or-true false = refl
-
     late : b < a → leb b t ≡ (leb a t || leb b t)
-    late g = elim (cases_lt t b) [ inl h ↦ rw (lt-leb b t h, lt-leb a t (omega arith)) refl | inr h ↦ rw (le-leb b t h) (or-true (leb a t)) ]
+    late g = elim (cases_lt t b) [ inl h ↦ rw (lt-leb b t h, lt-leb a t (omega arith)) refl | inr h ↦ rw (le-leb b t h) (sym (or-true (leb a t))) ]
 
     early : a ≤ b → leb a t ≡ (leb a t || leb b t)
     early g = elim (cases_lt t a) [ inl h ↦ rw (lt-leb a t h, lt-leb b t (omega arith)) refl | inr h ↦ rw (le-leb a t h) refl ]
@@ -200,7 +185,7 @@ module _ {d : DeviceParts} {t n c : ℕ} {rises : Rises} {events : RtcEvents} {m
       ∙ sym (each-at (line_run d t n) 0 k d.ticks no_line (omega (arith, ten, know.sound.joined.places))
       ∙ ap (λ (i : ℕ). line_run d t n i (line_at k d)) (omega arith)))
 
-  -- the line at place k, behind j nanoseconds
+  -- the line at place k, after j nanoseconds
   abbrev pub up_at : ℕ → Option ℕ
   up_at k = up_of t (t + c) (t + n) (ticks_at t d.hpet ms pit rtc k) (line_at k d)
 
@@ -214,10 +199,6 @@ module _ {d : DeviceParts} {t n c : ℕ} {rises : Rises} {events : RtcEvents} {m
   by_level : (l flag event en up : Bool) (j : ℕ) (first line : Option ℕ) → (l ≡ true → event ≡ is_up_at (t + j) first) → up ≡ is_up_at (t + j) line
       → cond l ((flag || (event && l)) && en) up ≡ is_up_at (t + j) (cond l (flag_from en flag t first) line)
   by_level true flag event en up j first line h u = ap (λ (x : Bool). (flag || x) && en) (and-true event) ∙ flag-up en flag event t j first (λ _. h refl)
-    where
-      and-true : (b : Bool) → (b && true) ≡ b
-      and-true true = refl
-      and-true false = refl
   by_level false flag event en up j first line h u = u
 
   -- the output of timer k
@@ -368,10 +349,6 @@ module _ {d : DeviceParts} {t n c : ℕ} {rises : Rises} {events : RtcEvents} {m
   unfolding parted flag_at rtc_alone
   irqf-at j = refl
 
-  same_levels : {a b c e f g : Bool} {p q r u v w : Bool} → a ≡ p → b ≡ q → c ≡ r → e ≡ u → f ≡ v → g ≡ w → a ∷ b ∷ c ∷ e ∷ f ∷ g ∷ [] ≡ p ∷ q ∷ r ∷ u ∷ v ∷ w
-      ∷ []
-  same_levels h i k l m o = rw (h, i, k, l, m, o) refl
-
   either_way : (l : Bool) (x y : Bool) (a b : Option ℕ) (j : ℕ) → (l ≡ true → x ≡ is_up_at (t + j) a) → (l ≡ false → y ≡ is_up_at (t + j) b) → cond l x y
       ≡ is_up_at (t + j) (cond l a b)
   either_way true x y a b j h k = h refl
@@ -380,7 +357,7 @@ module _ {d : DeviceParts} {t n c : ℕ} {rises : Rises} {events : RtcEvents} {m
   pub levels-parted : (us : List (Option ℕ)) → ((k : ℕ) → k < 8 → get_or us k None ≡ out_at k) → (j : ℕ) → j ≤ n → levels (parted t j d)
       ≡ levels_at (t + j) (lines_from us)
   unfolding levels
-  levels-parted us outs j le = same_levels
+  levels-parted us outs j le = same_six
       (ap (λ (l : Bool). cond l (output_of 0 (parted t j d)) (line_at 0 (parted t j d)).up) (legacy-at j)
       ∙ either_way (is_legacy d.hpet) (output_of 0 (parted t j d)) (line_at 0 (parted t j d)).up (out_at 0) (up_at 0) j (λ _. output-up j 0 le (omega arith))
       (λ _. line-up j 0 le (omega arith)))
@@ -432,7 +409,7 @@ module _ {d : DeviceParts} {t n c : ℕ} {rises : Rises} {events : RtcEvents} {m
       same_parts d p_is (r_is ∙ ap (λ (l : TickParts). flagged_where (counts_rtc d && l.up) (rtc_pulsed_times (pulses_from RTC_HZ t n) d.rtc)) one) h_is all
       ∙ sym (run-parted t n d know.sound)
 
-  -- from when on a line is up, as the code tells it
+  -- from when on a line is up, as the code has it
   pub up-is : (P to k : ℕ) → P ≡ t + c → to ≡ t + n → up_of t P to (ticks_at t d.hpet ms pit rtc k) (line_at k d) ≡ up_at k
   up-is P to k at_point at_end =
       ap (λ (x : ℕ). up_of t x to (ticks_at t d.hpet ms pit rtc k) (line_at k d)) at_point
@@ -446,7 +423,7 @@ module _ {d : DeviceParts} {t n c : ℕ} {rises : Rises} {events : RtcEvents} {m
   unfolding outs
   outs-are k less = at-eight out_at None k less
 
-  -- the levels at each nanosecond, as the code tells them
+  -- the levels at each nanosecond, as the code has them
   pub ran-levels : (times : List (Option ℕ)) → times ≡ lines_from outs → (j : ℕ) → t + j ≤ t + n → levels (run t j d).state ≡ levels_at (t + j) times
   ran-levels times times_are j le = levels-run outs outs-are j (omega arith) ∙ ap (levels_at (t + j)) (sym times_are)
 

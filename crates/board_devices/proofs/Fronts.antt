@@ -13,6 +13,7 @@ use Rattle.tick_policy.specs.declared.parts.TickParts.{TickParts}
 use Rattle.board_devices.specs.declared.parts.DeviceParts.{DeviceParts}
 use Rattle.board_devices.specs.Places.{line_at, no_line}
 use Rattle.board_devices.specs.Lines.{output_of, drives, routed, levels}
+use Rattle.board_devices.proofs.Places.{same_six}
 
 -- the lines of the timers are the same
 abbrev pub SameTimers : List TickParts → DeviceParts → Type 0
@@ -48,10 +49,6 @@ levels-front d p r ls same =
     (ap (λ (b : Bool). cond (is_legacy d.hpet) b (get_or ls 0 no_line).up) (output-same 0 d p r ls same))
     (ap (λ (b : Bool). cond (is_legacy d.hpet) b (irqf_of r)) (output-same 1 d p r ls same))
     (routed-same 20 8 d p r ls same) (routed-same 21 8 d p r ls same) (routed-same 22 8 d p r ls same) (routed-same 23 8 d p r ls same)
-  where
-    same_six : {a b c e f g : Bool} {p q r u v w : Bool} → a ≡ p → b ≡ q → c ≡ r → e ≡ u → f ≡ v → g ≡ w → a ∷ b ∷ c ∷ e ∷ f ∷ g ∷ [] ≡ p ∷ q ∷ r ∷ u ∷ v ∷ w
-        ∷ []
-    same_six h i k l m o = rw (h, i, k, l, m, o) refl
 
 -- the edges of the first two lines
 pub changes-front : (t : ℕ) (a b x y : Bool) (d : DeviceParts) → changes t line_numbers (a ∷ b ∷ back d) (x ∷ y ∷ back d) ≡ change t 0 a x ++ change t 8 b y

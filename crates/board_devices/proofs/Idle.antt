@@ -2,6 +2,7 @@
 use Rattle.std.specs.Option.{is_some}
 use Rattle.std.proofs.Common.{◌≡◌, ℕ, zero, suc, ◌%◌, ◌^◌, ◌<◌, Bool, true, false, cond, eqb, leb, ltb, ◌&&◌, ◌||◌}
 use Rattle.std.proofs.Common.{List, Option, Some, None, refl, ap, sym, ◌∙◌, inl, inr, arith}
+use Rattle.std.proofs.Math.Bool.{or-true}
 use Rattle.std.proofs.lemmas.Bool.{cases_lt, lt-ltb, lt-leb, true≢false}
 use Rattle.std.proofs.Math.Nat.{zero-div}
 use Rattle.clk_units.specs.Bits.{bit}
@@ -23,11 +24,7 @@ use Rattle.board_devices.specs.private.Stretch.{counted, moves, end_of, flag_fro
 -- without a tick, and with a catch-up point that finds nothing
 still : (point to count : ℕ) (first : Option ℕ) (l : TickParts) → (ltb 0 count || (is_some first || (leb point to && is_waiting l))) ≡ false
     → line_end point to first count l ≡ l
-still point to count (Some at) l e = absurd (true≢false (or-true (ltb 0 count) ∙ e))
-  where
-    or-true : (b : Bool) → true ≡ (b || true)
-    or-true true = refl
-    or-true false = refl
+still point to count (Some at) l e = absurd (true≢false (sym (or-true (ltb 0 count)) ∙ e))
 still point to count None l e = elim (cases_lt 0 count) [
   | inl some ↦ absurd (true≢false (sym (ap (λ (b : Bool). b || (leb point to && is_waiting l)) (lt-ltb 0 count some)) ∙ e))
   | inr few ↦

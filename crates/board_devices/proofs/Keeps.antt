@@ -1,4 +1,4 @@
--- The conditions that join the devices, behind what is done at each place.
+-- The conditions that join the devices, after what is done at each place.
 use Rattle.std.proofs.Common.{◌≡◌, ℕ, zero, suc, ◌+◌, ◌<◌, ◌≤◌, Bool, true, false, cond, ltb, eqb, ◌%◌, ◌&&◌, not, List, length, get_or, refl, ap}
 use Rattle.std.proofs.Common.{sym, subst, ◌∙◌, inl, inr, arith}
 use Rattle.hpet_registers.specs.declared.hpet.TheConstants.{HPET_HZ}

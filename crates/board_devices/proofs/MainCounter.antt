@@ -24,7 +24,7 @@ hpet-run t (suc n) d =
     one true m h = refl
     one false m h = refl
 
--- its main counter stands without ENABLE
+-- its main counter halts without ENABLE
 pub counter-standing : (t n : ℕ) (d : DeviceParts) → d.hpet.config % 2 ≡ 0 → d.hpet.counter ≡ (run t n d).state.hpet.counter
 counter-standing t n d even =
     let still : eqb (d.hpet.config / 2 ^ 0 % 2) 1 ≡ false = ne_eqb (d.hpet.config / 2 ^ 0 % 2) 1 (λ e. omega arith) in

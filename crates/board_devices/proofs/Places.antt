@@ -1,5 +1,5 @@
 -- Lemmas on what is done at each place.
-use Rattle.std.proofs.Common.{◌≡◌, ℕ, zero, suc, ◌+◌, ◌<◌, ◌≤◌, List, [], ◌∷◌, length, get_or, set, map, refl, ap, sym, subst, ◌∙◌, inl, inr, arith}
+use Rattle.std.proofs.Common.{◌≡◌, ℕ, zero, suc, ◌+◌, ◌<◌, ◌≤◌, ◌⊎◌, Bool, List, [], ◌∷◌, length, get_or, set, map, refl, ap, sym, subst, ◌∙◌, inl, inr, arith}
 use Rattle.std.proofs.lemmas.Bool.{cases_eq}
 use Rattle.std.proofs.lemmas.List.{get_or-set_same, get_or-set_other}
 use Rattle.tick_policy.specs.declared.parts.TickParts.{TickParts}
@@ -43,7 +43,7 @@ more P xs d i x inside before here j less = elim (cases_eq j i) [
     below : (j i : ℕ) → j < i + 1 → (j ≡ i → ⊥) → j < i
     below j i h apart = omega arith
 
--- the places behind are as they were
+-- the later places are as they were
 pub still_behind : {X : Type 0} (xs ys : List X) (d : X) (i : ℕ) (x : X) → ((j : ℕ) → i ≤ j → get_or xs j d ≡ get_or ys j d) → (j : ℕ) → i + 1 ≤ j
     → get_or (set xs i x) j d ≡ get_or ys j d
 still_behind xs ys d i x before j h = get_or-set_other xs i j x d (λ e. absurd (omega (arith, e))) ∙ before j (omega arith)
@@ -56,6 +56,20 @@ same_places (x ∷ xs) [] d e h = absurd (omega (arith, e))
 same_places (x ∷ xs) (y ∷ ys) d e h =
     let first : x ≡ y = h 0 (omega arith) in
     ap (λ z. z ∷ xs) first ∙ ap (λ zs. y ∷ zs) (same_places xs ys d (omega (arith, e)) (λ j less. h (suc j) (omega arith)))
+
+-- the levels of six lines
+pub same_six : {a b c e f g : Bool} {p q r u v w : Bool} → a ≡ p → b ≡ q → c ≡ r → e ≡ u → f ≡ v → g ≡ w
+    → a ∷ b ∷ c ∷ e ∷ f ∷ g ∷ [] ≡ p ∷ q ∷ r ∷ u ∷ v ∷ w ∷ []
+same_six h i k l m o = rw (h, i, k, l, m, o) refl
+
+-- what the timers that aren't there leave alone is the same of all eight
+pub all_eight : {X : Type 0} (f : ℕ → X) (timers : ℕ) → (timers ≡ 3) ⊎ (timers ≡ 8) → ((k : ℕ) → timers ≤ k → k < 8 → f (suc k) ≡ f k) → f timers ≡ f 8
+all_eight f timers (inr eight) past = ap f eight
+all_eight f timers (inl three) past =
+    let next : (k : ℕ) → 3 ≤ k → k < 8 → f (suc k) ≡ f k = λ k le less. past k (omega (arith, three)) less in
+    ap f three
+    ∙ sym (next 7 (omega arith) (omega arith) ∙ next 6 (omega arith) (omega arith) ∙ next 5 (omega arith) (omega arith)
+    ∙ next 4 (omega arith) (omega arith) ∙ next 3 (omega arith) (omega arith))
 
 -- a list that is made for the places of the timers
 pub at-eight : {X : Type 0} (f : ℕ → X) (d : X) (k : ℕ) → k < 8 → get_or (map f eight) k d ≡ f k

@@ -4,6 +4,7 @@ use Rattle.std.proofs.Common.{inr, arith}
 use Rattle.pit_readback.specs.declared.TheConstants.{PIT_HZ}
 use Rattle.rtc_registers.specs.declared.TheConstants.{RTC_HZ}
 use Rattle.hpet_registers.specs.declared.hpet.TheConstants.{HPET_HZ}
+use Rattle.std.proofs.Math.Bool.{and-true, or-false, or-true}
 use Rattle.std.proofs.lemmas.Bool.{lt-ltb, le-ltb, cases_Bool, false≢true, ltb-true}
 use Rattle.clk_units.specs.Pulses.{falls_at, pulses_from}
 use Rattle.clk_units.proofs.Pulses.{pulses_from-zero}
@@ -77,10 +78,6 @@ skip_tick false l = refl
 skip_point : (p : Bool) (l : TickParts) → caught_up_where (p && false) l ≡ l
 skip_point true l = refl
 skip_point false l = refl
-
-and-true : (b : Bool) → (b && true) ≡ b
-and-true true = refl
-and-true false = refl
 
 -- the tests of a nanosecond, by the sources' counts
 record Tests (d : DeviceParts) (t n : ℕ) (e0 e1 e2 e3 : DeviceParts) : Type 0 where
@@ -158,10 +155,6 @@ flag-join true false r valid = refl
 flag-join false true r valid = refl
 flag-join false false r valid = refl
 
-or-false : (b : Bool) → (b || false) ≡ b
-or-false true = refl
-or-false false = refl
-
 up-point : (p : Bool) (l : TickParts) → (caught_up_where p l).up ≡ (l.up || (p && is_waiting l))
 up-point true l = refl
 up-point false l = sym (or-false l.up)
@@ -213,7 +206,7 @@ pub counts-by : (r s : RtcParts) (h i : HpetParts) → register_b r ≡ register
     ≡ (pie_of s && not (is_legacy i))
 counts-by r s h i e f = ap (λ (b : ℕ). bit 6 b && not (is_legacy h)) e ∙ ap (λ (l : Bool). pie_of s && not l) f
 
--- what the nanosecond behind n of them finds
+-- what the nanosecond after n of them finds
 module _ (t n : ℕ) (d : DeviceParts) (sound : Sound d) where
   flag_now : Bool
   flag_now = counts_rtc d && (line_run d t n 1 (line_at 1 d)).up
@@ -303,7 +296,7 @@ module _ (t n : ℕ) (d : DeviceParts) (sound : Sound d) where
         (ap is_legacy (sym pulses-hpet) ∙ legacy-now (pulses_from HPET_HZ t (suc n)));
   }
 
-  -- the lines behind the three pulses
+  -- the lines after the three pulses
   ticked_line : ℕ → TickParts → TickParts
   ticked_line k l = ticked_where (falls_at HPET_HZ (t + n + 1) && hpet_due then_rtc k)
       (ticked_where (falls_at RTC_HZ (t + n + 1) && rtc_due then_pit k) (ticked_where (falls_at PIT_HZ (t + n + 1) && pit_due before k) (line_run d t n k l)))
@@ -364,10 +357,6 @@ module _ (t n : ℕ) (d : DeviceParts) (sound : Sound d) where
       ∙ ap (λ (b : Bool). pf_of d.rtc || b)
       (some_tick (counts_rtc d) (ticks_in (divider_of d.rtc) (pulses_from RTC_HZ t n)) (ticks_in (divider_of d.rtc) (pulses_from RTC_HZ t (suc n))) e)
       ∙ or-true (pf_of d.rtc)
-    where
-      or-true : (b : Bool) → (b || true) ≡ true
-      or-true true = refl
-      or-true false = refl
 
   rtc-step : cond (eqb ((t + n + 1) % d.slew_ns) 0 && (counts_rtc then_hpet && is_waiting (line_at 1 then_hpet))) (flagged then_hpet.rtc) then_hpet.rtc
       ≡ flagged_where (counts_rtc d && (line_run d t (suc n) 1 (line_at 1 d)).up) (rtc_times t (suc n) d)

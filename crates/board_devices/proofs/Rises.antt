@@ -1,6 +1,7 @@
 -- Counts of rises: an access lets a line fall once at most.
 use Rattle.std.proofs.Common.{◌≡◌, ℕ, zero, suc, ◌+◌, ◌-◌, ◌<◌, ◌≤◌, Bool, true, false, cond, eqb, ◌&&◌, ◌||◌, not, List, [], ◌∷◌, ◌++◌, length}
 use Rattle.std.proofs.Common.{get_or, Option, refl, ap, sym, subst, ◌∙◌, inl, inr, arith}
+use Rattle.std.proofs.Math.Bool.{or-true}
 use Rattle.std.proofs.lemmas.Bool.{cases_Bool, eqb-true, false≢true}
 use Rattle.irq_edges.specs.declared.edges.Edge.{Edge}
 use Rattle.irq_edges.specs.Lines.{change, changes, level_of, line_numbers}
@@ -220,11 +221,7 @@ output-below k d r ls grow up = by_type (is_level (timer_at k d.hpet)) up
 
 or-grows : (a b c d : Bool) → (a ≡ true → c ≡ true) → (b ≡ true → d ≡ true) → (a || b) ≡ true → (c || d) ≡ true
 or-grows true b c d h k e = ap (λ (x : Bool). x || d) (h refl)
-or-grows false true c d h k e = ap (λ (x : Bool). c || x) (k refl) ∙ last c
-  where
-    last : (c : Bool) → (c || true) ≡ true
-    last true = refl
-    last false = refl
+or-grows false true c d h k e = ap (λ (x : Bool). c || x) (k refl) ∙ or-true c
 or-grows false false c d h k e = cc
 
 routed-below : (line k : ℕ) (d : DeviceParts) (r : RtcParts) (ls : List TickParts) → ((i : ℕ) → (line_at i d).up ≡ true → (get_or ls i no_line).up ≡ true)
@@ -256,7 +253,7 @@ levels-below d r ls grow irq = (
   ),
 )
 
--- a line that is down in the middle of an acknowledgement may be up behind it
+-- a line that is down in the middle of an acknowledgement may be up after it
 grows : (test : ℕ → Bool) (k i : ℕ) (ls : List TickParts) → (get_or (each (λ j l. down_where (test j) l) k ls) i no_line).up ≡ true
     → (get_or (each (λ j l. acked_where (test j) l) k ls) i no_line).up ≡ true
 grows test k i [] h = h

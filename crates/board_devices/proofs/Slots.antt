@@ -7,6 +7,7 @@ use Rattle.hpet_comparator.specs.Parts.{route_of}
 use Rattle.hpet_registers.specs.declared.parts.HpetParts.{HpetParts}
 use Rattle.hpet_registers.specs.Parts.{IsHpet, IsPlace, no_timer, timer_at, is_legacy}
 use Rattle.board_devices.specs.private.Stretch.{either_from, slot_of_route, slot_of, with_rise, slots_from, routed_from}
+use Rattle.board_devices.proofs.Places.{all_eight}
 
 either-none : (x : Option ℕ) → either_from x None ≡ x
 unfolding either_from
@@ -61,7 +62,7 @@ by_route r u x0 x1 x20 x21 x22 x23 = elim (cases_eq r 20) [
     at23 None = rw (either-none x20, either-none x21, either-none x22, either-none x23) refl
     at23 (Some t) = rw (either-none x20, either-none x21, either-none x22) refl
 
--- lines 0 and 8 behind n timers: those of timers 0 and 1 under legacy replacement, else given
+-- lines 0 and 8 after n timers: those of timers 0 and 1 under legacy replacement, else given
 first : Bool → Option ℕ → (ℕ → Option ℕ) → ℕ → Option ℕ
 first true pit f zero = None
 first true pit f (suc n) = f 0
@@ -106,7 +107,7 @@ module _ (f : ℕ → Option ℕ) (pit irq : Option ℕ) (x20 x21 x22 x23 : Opti
 
 module _ (h : HpetParts) (us : List (Option ℕ)) (f : ℕ → Option ℕ) (pit irq : Option ℕ) (l : Bool) (l_is : is_legacy h ≡ l)
     (us_are : (k : ℕ) → k < 8 → get_or us k None ≡ f k) where
-  -- the lines behind n timers
+  -- the lines after n timers
   so_far : ℕ → List (Option ℕ)
   so_far n = first l pit f n ∷ second l irq f n ∷ routed_from 20 n h us ∷ routed_from 21 n h us ∷ routed_from 22 n h us ∷ routed_from 23 n h us ∷ []
 
@@ -138,17 +139,9 @@ module _ (h : HpetParts) (us : List (Option ℕ)) (f : ℕ → Option ℕ) (pit 
       ∙ either-none (routed_from line k h us)
 
   all-timers : (line : ℕ) → eqb 0 line ≡ false → IsHpet h → routed_from line h.timers h us ≡ routed_from line 8 h us
-  all-timers line other valid = elim valid.timers [
-    | inr eight ↦ ap (λ (n : ℕ). routed_from line n h us) eight
-    | inl three ↦
-        let past : (k : ℕ) → 3 ≤ k → k < 8 → routed_from line (suc k) h us ≡ routed_from line k h us =
-        λ k le small. absent line k other valid (omega (arith, three)) small in
-        ap (λ (n : ℕ). routed_from line n h us) three
-        ∙ sym (past 7 (omega arith) (omega arith) ∙ past 6 (omega arith) (omega arith) ∙ past 5 (omega arith) (omega arith)
-        ∙ past 4 (omega arith) (omega arith) ∙ past 3 (omega arith) (omega arith))
-  ]
+  all-timers line other valid = all_eight (λ n. routed_from line n h us) h.timers valid.timers (λ k gone small. absent line k other valid gone small)
 
-  -- behind all timers
+  -- after all timers
   pub slots-are : IsHpet h → slots_from h.timers h f (cond l None pit ∷ cond l None irq ∷ None ∷ None ∷ None ∷ None ∷ [])
       ≡ cond l (f 0) pit ∷ cond l (f 1) irq ∷ routed_from 20 8 h us ∷ routed_from 21 8 h us ∷ routed_from 22 8 h us ∷ routed_from 23 8 h us ∷ []
   unfolding so_far first second

@@ -1,9 +1,10 @@
 -- A stretch that moves no line: no update, no catch-up point, and ticks that find their lines up alone.
-use Rattle.std.proofs.Common.{◌≡◌, ℕ, zero, suc, ◌+◌, ◌<◌, ◌≤◌, Bool, true, false, cond, ltb, eqb, ◌&&◌, ◌||◌, not, List, [], ◌∷◌, ◌++◌}
+use Rattle.std.proofs.Common.{◌≡◌, ℕ, zero, suc, ◌+◌, ◌<◌, ◌≤◌, Bool, true, false, cond, ltb, eqb, ◌&&◌, ◌||◌, not, List, [], ◌++◌}
 use Rattle.std.proofs.Common.{refl, ap, sym, ◌∙◌, inl, inr, arith}
 use Rattle.pit_readback.specs.declared.TheConstants.{PIT_HZ}
 use Rattle.rtc_registers.specs.declared.TheConstants.{RTC_HZ}
 use Rattle.hpet_registers.specs.declared.hpet.TheConstants.{HPET_HZ}
+use Rattle.std.proofs.Math.Bool.{or-false}
 use Rattle.std.proofs.lemmas.Bool.{le-ltb, cases_lt}
 use Rattle.clk_units.specs.Events.{CountsUp}
 use Rattle.clk_units.specs.Pulses.{pulses_from}
@@ -42,7 +43,7 @@ use Rattle.board_devices.specs.Nanosecond.{counts_rtc, sees_point}
 use Rattle.board_devices.specs.Lines.{output_of, drives, routed, levels}
 use Rattle.board_devices.specs.Run.{run, onward}
 use Rattle.board_devices.specs.private.Stretch.{source, line_run, flagged_where, parted}
-use Rattle.board_devices.proofs.Places.{each-at}
+use Rattle.board_devices.proofs.Places.{each-at, same_six}
 use Rattle.board_devices.proofs.Product.{Sound, run-parted, same_parts, flag-same, flag-none}
 use Rattle.board_devices.proofs.Advance.{counts-where}
 
@@ -64,10 +65,6 @@ counts-source : (d : DeviceParts) (t k : ℕ) → CountsUp (source d t k)
 counts-source d t zero = counts-where (not (is_legacy d.hpet)) (rises_in (counter_of d.pit 0)) PIT_HZ t (omega arith) (CountsUp-rises_in (counter_of d.pit 0))
 counts-source d t (suc zero) = counts-where (counts_rtc d) (ticks_in (divider_of d.rtc)) RTC_HZ t (omega arith) (CountsUp-ticks_in (divider_of d.rtc))
 counts-source d t (suc (suc k)) = counts-where (has_ticks k d.hpet) (matches_of k d.hpet) HPET_HZ t (omega arith) (CountsUp-matches_of k d.hpet)
-
-or-false : (b : Bool) → (b || false) ≡ b
-or-false true = refl
-or-false false = refl
 
 -- PF is set again where it was
 pub flag-again : (b pf : Bool) (ticks : ℕ) (r : RtcParts) → IsRtc r → pf_of r ≡ (pf || ltb 0 ticks) → flagged_where (b && (b && pf)) r ≡ r
@@ -186,9 +183,6 @@ module _ {d : DeviceParts} {t n c : ℕ} (quiet : Quiet d t n c) where
       (or-false (pf_of d.rtc))
       ∙ ap (λ (b : Bool). (pf_of d.rtc && pie_of d.rtc) || ((b && aie_of d.rtc) || ((uf_of d.rtc || false) && uie_of d.rtc))) (or-false (af_of d.rtc))
       ∙ ap (λ (b : Bool). (pf_of d.rtc && pie_of d.rtc) || ((af_of d.rtc && aie_of d.rtc) || (b && uie_of d.rtc))) (or-false (uf_of d.rtc))
-
-  same_six : {a b c e f g : Bool} {p q r u v w : Bool} → a ≡ p → b ≡ q → c ≡ r → e ≡ u → f ≡ v → g ≡ w → a ∷ b ∷ c ∷ e ∷ f ∷ g ∷ [] ≡ p ∷ q ∷ r ∷ u ∷ v ∷ w ∷ []
-  same_six h i k l m o = rw (h, i, k, l, m, o) refl
 
   moved-levels : (j : ℕ) → j ≤ n → levels (moved j) ≡ levels d
   unfolding levels

@@ -1,6 +1,7 @@
 -- The devices with eight timers, and with message registers.
-use Rattle.std.proofs.Common.{◌≡◌, ℕ, zero, suc, ◌+◌, ◌<◌, ◌≤◌, Bool, true, false, cond, ltb, eqb, ◌&&◌, ◌||◌, not, List, [], ◌∷◌, length, get_or}
+use Rattle.std.proofs.Common.{◌≡◌, ℕ, zero, suc, ◌+◌, ◌<◌, ◌≤◌, Bool, true, false, cond, ltb, eqb, ◌&&◌, ◌||◌, not, List, length, get_or}
 use Rattle.std.proofs.Common.{map, refl, ap, sym, subst, ◌∙◌, inl, inr, arith}
+use Rattle.std.proofs.Math.Bool.{and-false}
 use Rattle.std.proofs.lemmas.Bool.{lt-ltb, le-ltb, cases_lt}
 use Rattle.rtc_registers.specs.Registers.{irqf_of}
 use Rattle.hpet_comparator.specs.declared.parts.TimerParts.{TimerParts}
@@ -16,7 +17,7 @@ use Rattle.board_devices.specs.Places.{each, line_at, no_line}
 use Rattle.board_devices.specs.Lines.{output_of, drives, routed, levels}
 use Rattle.board_devices.specs.Parts.{IsDevices, IsTimerLine, eight_timers, line_upgraded, devices_upgraded}
 use Rattle.board_devices.specs.private.Stretch.{eight, ten}
-use Rattle.board_devices.proofs.Places.{each-at, length-each, same_places, at-eight}
+use Rattle.board_devices.proofs.Places.{each-at, length-each, same_places, same_six, at-eight}
 use Rattle.board_devices.proofs.Masks.{at-ten}
 
 -- a list that is made place by place
@@ -108,10 +109,6 @@ IsDevices-upgraded m d hpet valid = joined
     }
 
 -- the outputs that are driven to a line other than line 0
-and-false : (b : Bool) → (b && false) ≡ false
-and-false true = refl
-and-false false = refl
-
 pub output_of-upgraded : (m : Bool) (k : ℕ) (d : DeviceParts) → length d.ticks ≡ 10 → k < 8 → k < d.hpet.timers
     → output_of k (devices_upgraded m d) ≡ output_of k d
 unfolding devices_upgraded
@@ -186,7 +183,3 @@ levels-upgraded m d valid long = same_six
     (routed-upgraded m 21 8 d refl valid long (omega arith))
     (routed-upgraded m 22 8 d refl valid long (omega arith))
     (routed-upgraded m 23 8 d refl valid long (omega arith))
-  where
-    same_six : {a b c e f g : Bool} {p q r u v w : Bool} → a ≡ p → b ≡ q → c ≡ r → e ≡ u → f ≡ v → g ≡ w → a ∷ b ∷ c ∷ e ∷ f ∷ g ∷ [] ≡ p ∷ q ∷ r ∷ u ∷ v ∷ w
-        ∷ []
-    same_six h i k l m o = rw (h, i, k, l, m, o) refl

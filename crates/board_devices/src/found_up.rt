@@ -1,7 +1,6 @@
 //! Ticks that find their lines up, before the next catch-up point: they are counted, and move no line.
 ghost use Rattle.std.specs.Prelude.{
   ◌≡◌,
-  ◌≢◌,
   ℕ,
   ◌+◌,
   ◌<◌,
@@ -10,7 +9,6 @@ ghost use Rattle.std.specs.Prelude.{
   ◌&&◌,
   true,
   false,
-  not,
   nat_lt,
   IsTrue,
   length,

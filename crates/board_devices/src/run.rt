@@ -12,12 +12,10 @@ ghost use Rattle.std.specs.Prelude.{
   ◌&&◌,
   ◌++◌,
   length,
-  IsTrue,
   true,
   false,
   Some,
   None,
-  if◌then◌else◌,
 };
 ghost use Rattle.clk_units.specs.Events.{IsFirst};
 ghost use Rattle.rtc_cycle.specs.Divider.{ticks_in, updates_in};

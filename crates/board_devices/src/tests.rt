@@ -1,5 +1,5 @@
 //! Worked values of a board's devices, as calls.
-ghost use Rattle.std.specs.Prelude.{◌≡◌, ℕ, ◌<◌, ◌≤◌, ◌^◌, IsTrue};
+ghost use Rattle.std.specs.Prelude.{ℕ, ◌<◌, ◌≤◌, ◌^◌, IsTrue};
 ghost use Rattle.pit_readback.specs.Ports.{is_pit_port};
 ghost use Rattle.board_devices.specs.Places.{line_at};
 ghost use Rattle.board_devices.specs.Act.{IsLegal};

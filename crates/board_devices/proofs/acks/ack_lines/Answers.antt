@@ -36,7 +36,7 @@ level : (c : goal.After-ack_at-after) (ls : List TickParts) → (get_or ls 0 no_
     ≡ cond (eqb c.args.line 0 && not (is_legacy c.args.h.now)) (get_or ls 0 no_line).up (shown_by (is_legacy c.args.h.now) c.args.line 8 c.args.h.now ls)
 level c ls = ap (λ (b : Bool). cond b (get_or ls 0 no_line).up (shown_by (is_legacy c.args.h.now) c.args.line 8 c.args.h.now ls)) (sym (plain c))
 
--- the first line behind the operation
+-- the first line after the operation
 first : (c : goal.After-ack_at-after) (op : Bool → TickParts → TickParts)
     → (get_or (each (λ k l. op (acks c.args.line c.args.h.now k) l) 0 c.args.ticks.now) 0 no_line).up
     ≡ (op true (get_or c.args.ticks.now 0 no_line)).up

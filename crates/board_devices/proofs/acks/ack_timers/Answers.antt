@@ -57,7 +57,7 @@ loop-k-preserved c =
           ∙ sym (shown-more (is_legacy h) line k h acked_where ls (omega (arith, c.told-ticks)) (few c));
     }
 
--- behind the last timer
+-- after the last timer
 valid : (c : goal.After-loop-k) → IsHpet c.args.h.now
 valid c = subst IsHpet c.parts-parts.ensures.parts c.parts-parts.ensures.valid
 

@@ -40,7 +40,7 @@ loop-k-preserved c =
       rest = λ j behind. c.count_ticks.ensures.others j (λ same. absurd (omega (arith, same, behind))) ∙ c.loop-k.invariant.rest j (omega (arith, behind));
     }
 
--- no timer behind those matched
+-- no timer after those matched
 pub returns-clause-done : goal.returns-clause-done
 returns-clause-done c = λ j inside. elim (cases_lt j c.loop-k.k) [
   | inl less ↦ c.loop-k.invariant.done j less

@@ -1,4 +1,4 @@
-use Rattle.std.proofs.Common.{◌≡◌, ℕ, ◌<◌, ◌^◌}
+use Rattle.std.proofs.Common.{ℕ, ◌<◌, ◌^◌}
 use Rattle.board_devices.specs.Places.{line_at}
 use Rattle.board_devices.proofs.tests.has_room.Given as goal
 

@@ -1,12 +1,14 @@
-use Rattle.std.proofs.Common.{rules, ◌≡◌, ◌++◌, append-nil, List, ap, sym, ◌∙◌, []}
+use Rattle.std.proofs.Common.{rules, ◌≡◌, ℕ, ◌++◌, append-nil, List, ap, sym, ◌∙◌, []}
 use Rattle.irq_edges.specs.declared.edges.Edge.{Edge}
+use Rattle.board_devices.specs.declared.parts.DeviceParts.{DeviceParts}
 use Rattle.board_devices.specs.declared.act.Act.{Act}
 use Rattle.board_devices.specs.Act.{acted, first_part, value_of, act_edges}
 use Rattle.board_devices.proofs.ActEdges.{edges-pit_read, edges-index_write, edges-hpet_read}
 use Rattle.board_devices.proofs.devices.Devices.act_parts.Goals as goal
 
-none : (es xs : List Edge) → xs ≡ [] → es ≡ es ++ xs
-none es xs e = sym (ap (λ (ys : List Edge). es ++ ys) e ∙ append-nil es)
+-- an access without edges appends none
+quiet : (es : List Edge) (t : ℕ) (a b : Act) (d : DeviceParts) → a ≡ b → act_edges t b d ≡ [] → es ≡ es ++ act_edges t a d
+quiet es t a b d is none = sym (ap (λ (x : Act). es ++ act_edges t x d) is ∙ ap (λ (ys : List Edge). es ++ ys) none ∙ append-nil es)
 
 pub returns-in-PitRead : goal.returns-in-PitRead
 unfolding acted first_part value_of
@@ -14,8 +16,7 @@ returns-in-PitRead c = record {
   state = search rules;
   value = search rules;
   byte = search rules;
-  edges = none c.args.edges.now _
-      (ap (λ (a : Act). act_edges c.args.at a c.args.self.now) c.in-PitRead.is ∙ edges-pit_read c.args.at c.in-PitRead.port c.args.self.now);
+  edges = quiet c.args.edges.now c.args.at _ _ c.args.self.now c.in-PitRead.is (edges-pit_read c.args.at c.in-PitRead.port c.args.self.now);
   few = search rules;
   due = search rules;
 }
@@ -26,8 +27,7 @@ returns-in-IndexWrite c = record {
   state = search rules;
   value = search rules;
   byte = search rules;
-  edges = none c.args.edges.now _
-      (ap (λ (a : Act). act_edges c.args.at a c.args.self.now) c.in-IndexWrite.is ∙ edges-index_write c.args.at c.in-IndexWrite.byte c.args.self.now);
+  edges = quiet c.args.edges.now c.args.at _ _ c.args.self.now c.in-IndexWrite.is (edges-index_write c.args.at c.in-IndexWrite.byte c.args.self.now);
   few = search rules;
   due = search rules;
 }
@@ -38,9 +38,8 @@ returns-in-HpetRead c = record {
   state = search rules;
   value = search rules;
   byte = search rules;
-  edges = none c.args.edges.now _
-      (ap (λ (a : Act). act_edges c.args.at a c.args.self.now) c.in-HpetRead.is
-      ∙ edges-hpet_read c.args.at c.in-HpetRead.offset c.in-HpetRead.width c.args.self.now);
+  edges = quiet c.args.edges.now c.args.at _ _ c.args.self.now c.in-HpetRead.is
+      (edges-hpet_read c.args.at c.in-HpetRead.offset c.in-HpetRead.width c.args.self.now);
   few = search rules;
   due = search rules;
 }

@@ -146,7 +146,7 @@ pulsed c = (goal.at.returns c).After-clock_pulses-events
 counts_is : (c : goal.After-run_timers) → c.counts_rtc-counts.result ≡ counts_rtc (parts_of c.self.inside)
 counts_is c = rw (c.counts_rtc-counts.ensures, c.legacy-legacy.ensures, c.shown_of-shown.ensures.pie) refl
 
--- the lines behind those of the 8254 and the MC146818
+-- the lines after those of the 8254 and the MC146818
 behind : (c : goal.After-run_timers) → (k : ℕ) → k < 8 → get_or c.run_clock-rtc_up.new.lines (k + 2) no_line ≡ line_at (suc (suc k)) (parts_of c.self.inside)
 behind c k less =
     let place : k + 2 ≡ suc (suc k) = omega arith in

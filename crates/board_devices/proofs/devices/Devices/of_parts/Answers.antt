@@ -3,7 +3,6 @@ use Rattle.std.proofs.lemmas.Bool.{false≢true}
 use Rattle.board_devices.specs.Parts.{IsDevices, AreDevices}
 use Rattle.board_devices.proofs.Product.{same_parts}
 use Rattle.board_devices.proofs.devices.Devices.of_parts.Goals as goal
-use Rattle.board_devices.proofs.devices.Devices.of_parts.Goals.{After-are_joined}
 
 pub invariant_of-result : goal.invariant_of-result
 invariant_of-result c = (c.are_joined.ensures c.in_ok-pit.pit).0 c.if-are_joined.true

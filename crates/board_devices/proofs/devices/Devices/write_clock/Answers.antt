@@ -17,7 +17,7 @@ use Rattle.board_devices.proofs.Keeps.{IsDevices-each, KeepsLines-rtc_set}
 use Rattle.board_devices.proofs.ActEdges.{edges-clock_write, shown}
 use Rattle.board_devices.proofs.devices.Devices.write_clock.Goals as goal
 
--- the devices behind the write, their lines as before
+-- the devices after the write, their lines as before
 moved : (c : goal.After-push_change) → DeviceParts
 moved c = record { pit = c.self.inside.pit; rtc = c.write.new.self; hpet = c.self.inside.hpet; ticks = c.self.inside.ticks; slew_ns = c.self.inside.slew_ns }
 

@@ -15,7 +15,7 @@ use Rattle.irq_edges.specs.declared.edges.Edge.{Edge}
 use Rattle.board_devices.proofs.QuietWrites.{acted-quiet, edges-quiet, IsDevices-quiet}
 use Rattle.board_devices.proofs.devices.Devices.write_hpet.Goals as goal
 
--- the devices behind the write, their lines as before
+-- the devices after the write, their lines as before
 moved : (c : goal.After-changes) → DeviceParts
 moved c = record { pit = c.self.inside.pit; rtc = c.self.inside.rtc; hpet = c.write-2.new.self; ticks = c.self.inside.ticks; slew_ns = c.self.inside.slew_ns }
 
