@@ -1,9 +1,10 @@
 -- Rows on the definitions: each rule at one small case, so that a weaker rule is seen.
-use Rattle.std.proofs.Common.{◌≡◌, ℕ, pos, ◌+◌, ◌-◌, ◌^◌, true, false, List, [], ◌∷◌, set, Some, None, refl, ap, arith}
+use Rattle.std.proofs.Common.{◌≡◌, ℕ, pos, ◌+◌, ◌-◌, ◌^◌, true, false, List, [], ◌∷◌, map, set, Some, None, refl, ap, arith}
 use Rattle.host_counter.specs.declared.Anchor.{Anchor}
 use Rattle.host_counter.specs.Time.{time_at}
 use Rattle.tsc_scale.specs.Offset.{tsc_by}
 use Rattle.irq_edges.specs.declared.edges.Edge.{Edge}
+use Rattle.pvclock_page.specs.declared.page.PageReply.{PageReply}
 use Rattle.pvclock_page.specs.declared.page.PageReply.TheVariants.{Off, On}
 use Rattle.pvclock_page.specs.declared.page.ClockReply.TheVariants.{Off as ClockOff, On as ClockOn}
 use Rattle.pvclock_page.specs.Scale.{mul_for, shift_for}
@@ -55,74 +56,51 @@ setup = record {
 abbrev board : BoardParts
 board = board_at_power_on setup
 
--- the time of a board, and that of an access before its count and beyond it
-now-start : now_of board ≡ 5000
+-- the time of a board, and those of accesses at a count before its own and at one after it
+times : now_of board ∷ map (time_of_access (record board { host = 300 })) (200 ∷ 400 ∷ []) ≡ 5000 ∷ 5200 ∷ 5300 ∷ []
 unfolding time_at
-now-start = refl
+times = refl
 
-time_of_access-behind : time_of_access (record board { host = 300 }) 200 ≡ 5200
-unfolding time_at
-time_of_access-behind = refl
+-- a processor whose TSC was moved back by 1000
+abbrev back : ProcessorParts
+back = record no_processor { offset = 0xfffffffffffffc18; adjust = 0xfffffffffffffc18 }
 
-time_of_access-ahead : time_of_access (record board { host = 300 }) 400 ≡ 5300
-unfolding time_at
-time_of_access-ahead = refl
-
--- a write of the TSC moves TSC_ADJUST by the same amount, and the other way round
-tsc-written : msr_written plain 1000000 1000 0x10 0 no_processor ≡ record no_processor { offset = 0xfffffffffffffc18; adjust = 0xfffffffffffffc18 }
+-- a write of the TSC moves TSC_ADJUST by the same amount, and the other way round; a number is stored
+msrs_written : msr_written plain 1000000 1000 0x10 0 no_processor
+    ∷ msr_written plain 1000000 1500 0x3b 0 back
+    ∷ msr_written plain 1000000 1500 0x4b564d01 3 no_processor
+    ∷ []
+    ≡ back ∷ no_processor ∷ record no_processor { number = 3 } ∷ []
 unfolding tsc_by
-tsc-written = refl
-
-adjust-written : msr_written plain 1000000 1500 0x3b 0 (record no_processor { offset = 0xfffffffffffffc18; adjust = 0xfffffffffffffc18 }) ≡ no_processor
-adjust-written = refl
-
-number-written : msr_written plain 1000000 1500 0x4b564d01 3 no_processor ≡ record no_processor { number = 3 }
-number-written = refl
+msrs_written = refl
 
 -- the TSC is read at the access's own count
-tsc-read : msr_read (record board { host = 900 }) 0 300 0x10 ≡ 600
+tsc_read : msr_read (record board { host = 900 }) 0 300 0x10 ≡ 600
 unfolding tsc_by
-tsc-read = refl
+tsc_read = refl
 
--- publishing: version, TSC, time, scale and flags
-published-first : published plain 2000000 1000 1 (record no_processor { number = 1 })
-    ≡ record { offset = 0; adjust = 0; number = 1; version = 2; tsc_timestamp = 2000; system_time = 1000; mul = 0x80000000; shift = pos 0; flags = 1 }
+-- publishing: version, TSC, time, scale and flags; the first time, and after a move
+pages_published : published plain 2000000 1000 1 (record no_processor { number = 1 })
+    ∷ published moved 2000000 3500 3 (record no_processor { version = 4 })
+    ∷ []
+    ≡ record no_processor { number = 1; version = 2; tsc_timestamp = 2000; system_time = 1000; mul = 0x80000000; flags = 1 }
+    ∷ record no_processor { version = 6; tsc_timestamp = 2333; system_time = 1000003000; mul = 0x80000000; flags = 3 }
+    ∷ []
 unfolding published time_at tsc_by mul_for shift_for
-published-first = refl
+pages_published = refl
 
-published-moved : published moved 2000000 3500 3 (record no_processor { version = 4 })
-    ≡ record { offset = 0; adjust = 0; number = 0; version = 6; tsc_timestamp = 2333; system_time = 1000003000; mul = 0x80000000; shift = pos 0; flags = 3 }
-unfolding published time_at tsc_by mul_for shift_for
-published-moved = refl
+-- which page an access of processor 1 publishes: a refresh the named one, a write of the TSC, TSC_ADJUST or the number its own
+publishes : map (published_by 1)
+    (Refresh 5 ∷ MsrWrite 0x10 7 ∷ MsrWrite 0x3b 7 ∷ MsrWrite 0x4b564d01 7 ∷ MsrWrite 0x4b564d00 7 ∷ Step ∷ [])
+    ≡ Some 5 ∷ Some 1 ∷ Some 1 ∷ Some 1 ∷ None ∷ None ∷ []
+publishes = refl
 
--- which page an access publishes
-refresh-publishes : published_by 1 (Refresh 5) ≡ Some 5
-refresh-publishes = refl
-
-tsc-publishes : published_by 1 (MsrWrite 0x10 7) ≡ Some 1
-tsc-publishes = refl
-
-adjust-publishes : published_by 1 (MsrWrite 0x3b 7) ≡ Some 1
-adjust-publishes = refl
-
-system_time-publishes : published_by 1 (MsrWrite 0x4b564d01 7) ≡ Some 1
-system_time-publishes = refl
-
-wall-publishes-no_page : published_by 1 (MsrWrite 0x4b564d00 7) ≡ None
-wall-publishes-no_page = refl
-
-step-publishes-no_page : published_by 1 Step ≡ None
-step-publishes-no_page = refl
-
--- the version of every publishing is even
-version-published : (p : ProcessorParts) → (published plain 1000000 5 1 p).version ≡ p.version + 2
+-- a publishing raises the version by 2
+version_published : (p : ProcessorParts) → (published plain 1000000 5 1 p).version ≡ p.version + 2
 unfolding published
-version-published p = refl
+version_published p = refl
 
--- a page is on by bit 0 of the number, and gives its time at the TSC of its own offset
-abbrev with_page : ProcessorParts → BoardParts
-with_page p = record board { processors = p ∷ [] }
-
+-- a page is on by bit 0 of the number, and gives its time at the TSC of its own offset, or that of its publishing before it
 abbrev page : ℕ → ℕ → ProcessorParts
 page number offset = record no_processor {
   offset = offset;
@@ -135,132 +113,85 @@ page number offset = record no_processor {
   flags = 1;
 }
 
-page-off : page_reply (with_page (page 2 0)) 0 1500 ≡ Off
-unfolding page_reply
-page-off = refl
+abbrev reply_at : ℕ → ProcessorParts → PageReply
+reply_at h p = page_reply (record board { processors = p ∷ [] }) 0 h
 
-page-on : page_reply (with_page (page 3 0)) 0 1500 ≡ On (page_in (page 3 0)) 1500
+page_replies : map (reply_at 1500) (page 2 0 ∷ page 3 0 ∷ page 1 40 ∷ [])
+    ≡ Off ∷ On (page_in (page 3 0)) 1500 ∷ On (page_in (page 1 40)) 1520 ∷ []
 unfolding page_reply reading_of tsc_by
-page-on = refl
+page_replies = refl
 
-page-offset : page_reply (with_page (page 1 40)) 0 1500 ≡ On (page_in (page 1 40)) 1520
+before_its_publishing : reply_at 900 (page 1 0) ≡ On (page_in (page 1 0)) 1000
 unfolding page_reply reading_of tsc_by
-page-offset = refl
+before_its_publishing = refl
 
-page-behind : page_reply (with_page (page 1 0)) 0 900 ≡ On (page_in (page 1 0)) 1000
-unfolding page_reply reading_of tsc_by
-page-behind = refl
+-- the clamp by a greatest reading of 1000, and the greatest reading after it
+clamps : map (clamped 1000) (On (page_in no_processor) 900 ∷ On (page_in no_processor) 1100 ∷ Off ∷ [])
+    ≡ ClockOn 900 1000 ∷ ClockOn 1100 1100 ∷ ClockOff ∷ []
+clamps = refl
 
--- the clamp
-clamp-below : clamped 1000 (On (page_in no_processor) 900) ≡ ClockOn 900 1000
-clamp-below = refl
+greatest : map (greatest_with 1000) (On (page_in no_processor) 900 ∷ On (page_in no_processor) 1100 ∷ []) ≡ 1000 ∷ 1100 ∷ []
+greatest = refl
 
-clamp-above : clamped 1000 (On (page_in no_processor) 1100) ≡ ClockOn 1100 1100
-clamp-above = refl
+-- the words of the wall clock, which are 0 before it is published, and what a write of its MSR makes of its number and version
+words : map wall_words (board ∷ record board { wall_version = 2 } ∷ []) ≡ Words 0 0 0 ∷ Words 2 7 9 ∷ []
+words = refl
 
-clamp-off : clamped 1000 Off ≡ ClockOff
-clamp-off = refl
+wall_number : wall_number_after (MsrWrite 0x4b564d00 5) 2 ≡ 5
+wall_number = refl
 
-greatest-below : greatest_with 1000 (On (page_in no_processor) 900) ≡ 1000
-greatest-below = refl
+wall_versions : map (λ msr. wall_version_after (MsrWrite msr 5) 2) (0x4b564d00 ∷ 0x4b564d01 ∷ []) ≡ 4 ∷ 2 ∷ []
+wall_versions = refl
 
-greatest-above : greatest_with 1000 (On (page_in no_processor) 1100) ≡ 1100
-greatest-above = refl
-
--- the words of the wall clock
-wall-unpublished : wall_words board ≡ Words 0 0 0
-wall-unpublished = refl
-
-wall-published : wall_words (record board { wall_version = 2 }) ≡ Words 2 7 9
-wall-published = refl
-
-wall-written : wall_version_after (MsrWrite 0x4b564d00 5) 2 ≡ 4
-wall-written = refl
-
-wall-number : wall_number_after (MsrWrite 0x4b564d00 5) 2 ≡ 5
-wall-number = refl
-
-wall-kept : wall_version_after (MsrWrite 0x4b564d01 5) 2 ≡ 2
-wall-kept = refl
-
--- refusals, each before those that come later
+-- refusals, each before those that come later: the time ..
 abbrev spent_board : ℕ → ℕ → BoardParts
 spent_board version accesses = record board { accesses = accesses; wall_version = version; processors = record no_processor { version = version } ∷ [] }
 
-before-start : refusal_of (spent_board 4294967294 (2 ^ 62)) 0 99 (Refresh 0) ≡ Some (NoTime (BeforeStart 100))
-unfolding refusal_of
-before-start = refl
-
-out-of-range : refusal_of (spent_board 4294967294 (2 ^ 62)) 0 (100 + 2 ^ 59 - 5000) (Refresh 0) ≡ Some (NoTime (OutOfRange (2 ^ 59)))
+no_time : map (λ h. refusal_of (spent_board 4294967294 (2 ^ 62)) 0 h (Refresh 0)) (99 ∷ (100 + 2 ^ 59 - 5000) ∷ [])
+    ≡ Some (NoTime (BeforeStart 100)) ∷ Some (NoTime (OutOfRange (2 ^ 59))) ∷ []
 unfolding refusal_of time_at
-out-of-range = refl
+no_time = refl
 
-in-range : refusal_of board 0 (100 + 2 ^ 59 - 5001) (Refresh 0) ≡ None
+last_time : refusal_of board 0 (100 + 2 ^ 59 - 5001) (Refresh 0) ≡ None
 unfolding refusal_of time_at
-in-range = refl
+last_time = refl
 
-page-spent : refusal_of (spent_board 4294967294 (2 ^ 62)) 0 100 (Refresh 0) ≡ Some (VersionsSpent 4294967294)
+-- .. the version of what is published: a page by a refresh and by a write of the TSC, the wall clock; a page at the last version but one ..
+versions_spent : refusal_of (spent_board 4294967294 (2 ^ 62)) 0 100 (Refresh 0)
+    ∷ refusal_of (spent_board 4294967294 0) 0 100 (MsrWrite 0x10 0)
+    ∷ refusal_of (record board { wall_version = 4294967294 }) 0 100 (MsrWrite 0x4b564d00 0)
+    ∷ refusal_of (spent_board 4294967292 0) 0 100 (Refresh 0)
+    ∷ []
+    ≡ Some (VersionsSpent 4294967294) ∷ Some (VersionsSpent 4294967294) ∷ Some (VersionsSpent 4294967294) ∷ None ∷ []
 unfolding refusal_of time_at
-page-spent = refl
+versions_spent = refl
 
-tsc-spent : refusal_of (spent_board 4294967294 0) 0 100 (MsrWrite 0x10 0) ≡ Some (VersionsSpent 4294967294)
+-- .. and the number of accesses
+accesses_spent : map (λ n. refusal_of (spent_board 4294967294 n) 0 100 Step) ((2 ^ 62 - 1) ∷ 2 ^ 62 ∷ [])
+    ≡ None ∷ Some (Spent (2 ^ 62)) ∷ []
 unfolding refusal_of time_at
-tsc-spent = refl
+accesses_spent = refl
 
-wall-spent : refusal_of (record board { wall_version = 4294967294 }) 0 100 (MsrWrite 0x4b564d00 0) ≡ Some (VersionsSpent 4294967294)
-unfolding refusal_of time_at
-wall-spent = refl
+-- the port map; a step does nothing to a device
+ports_read : map act_of (PortIn 0x70 ∷ PortIn 0x71 ∷ PortIn 0x61 ∷ PortIn 0x40 ∷ [])
+    ≡ IndexRead ∷ ClockRead ∷ PitRead 0x61 ∷ PitRead 0x40 ∷ []
+ports_read = refl
 
-last-but-one : refusal_of (spent_board 4294967292 0) 0 100 (Refresh 0) ≡ None
-unfolding refusal_of time_at
-last-but-one = refl
-
-accesses-spent : refusal_of (spent_board 4294967294 (2 ^ 62)) 0 100 Step ≡ Some (Spent (2 ^ 62))
-unfolding refusal_of time_at
-accesses-spent = refl
-
-last-access : refusal_of (spent_board 4294967294 (2 ^ 62 - 1)) 0 100 Step ≡ None
-unfolding refusal_of time_at
-last-access = refl
-
--- the port map
-port_70-read : act_of (PortIn 0x70) ≡ IndexRead
-port_70-read = refl
-
-port_71-read : act_of (PortIn 0x71) ≡ ClockRead
-port_71-read = refl
-
-port_61-read : act_of (PortIn 0x61) ≡ PitRead 0x61
-port_61-read = refl
-
-port_40-read : act_of (PortIn 0x40) ≡ PitRead 0x40
-port_40-read = refl
-
-port_70-write : act_of (PortOut 0x70 9) ≡ IndexWrite 9
-port_70-write = refl
-
-port_71-write : act_of (PortOut 0x71 9) ≡ ClockWrite 9
-port_71-write = refl
-
-port_43-write : act_of (PortOut 0x43 9) ≡ PitWrite 0x43 9
-port_43-write = refl
-
-step-acts-nothing : act_of Step ≡ Nothing
-step-acts-nothing = refl
+ports_written : map act_of (PortOut 0x70 9 ∷ PortOut 0x71 9 ∷ PortOut 0x43 9 ∷ Step ∷ [])
+    ≡ IndexWrite 9 ∷ ClockWrite 9 ∷ PitWrite 0x43 9 ∷ Nothing ∷ []
+ports_written = refl
 
 -- rises count the edges upwards of each line, from format 2 on
 abbrev edges : List Edge
 edges = record { at = 1; line = 0; up = true } ∷ record { at = 2; line = 0; up = false } ∷ record { at = 2; line = 0; up = true }
     ∷ record { at = 3; line = 23; up = true } ∷ record { at = 3; line = 8; up = false } ∷ []
 
-rises-counted : rises_after 2 edges (10 ∷ 11 ∷ 12 ∷ 13 ∷ 14 ∷ 15 ∷ []) ≡ 12 ∷ 11 ∷ 12 ∷ 13 ∷ 14 ∷ 16 ∷ []
-rises-counted = refl
+rises : rises_after 2 edges (10 ∷ 11 ∷ 12 ∷ 13 ∷ 14 ∷ 15 ∷ []) ∷ rises_after 1 edges (0 ∷ 0 ∷ 0 ∷ 0 ∷ 0 ∷ 0 ∷ []) ∷ []
+    ≡ (12 ∷ 11 ∷ 12 ∷ 13 ∷ 14 ∷ 16 ∷ []) ∷ (0 ∷ 0 ∷ 0 ∷ 0 ∷ 0 ∷ 0 ∷ []) ∷ []
+rises = refl
 
-rises-of-format_1 : rises_after 1 edges (0 ∷ 0 ∷ 0 ∷ 0 ∷ 0 ∷ 0 ∷ []) ≡ 0 ∷ 0 ∷ 0 ∷ 0 ∷ 0 ∷ 0 ∷ []
-rises-of-format_1 = refl
-
-rises-of-line : count_at (0 ∷ 8 ∷ 20 ∷ 21 ∷ 22 ∷ 23 ∷ []) (10 ∷ 11 ∷ 12 ∷ 13 ∷ 14 ∷ 15 ∷ []) 21 ≡ 13
-rises-of-line = refl
+rises_of_line_21 : count_at (0 ∷ 8 ∷ 20 ∷ 21 ∷ 22 ∷ 23 ∷ []) (10 ∷ 11 ∷ 12 ∷ 13 ∷ 14 ∷ 15 ∷ []) 21 ≡ 13
+rises_of_line_21 = refl
 
 -- conditions
 odd_version : IsVersion 3 → ⊥
@@ -275,14 +206,8 @@ number_before_words valid = omega (arith, valid.unpublished refl)
 whole_second : IsWall 5 2 1000000000 → ⊥
 whole_second valid = omega (arith, valid.below_second)
 
-flags-stable : flags_valid 1 ≡ true
-flags-stable = refl
-
-flags-stopped : flags_valid 3 ≡ true
-flags-stopped = refl
-
-flags-without : flags_valid 2 ≡ false
-flags-without = refl
+flags : map flags_valid (1 ∷ 2 ∷ 3 ∷ []) ≡ true ∷ false ∷ true ∷ []
+flags = refl
 
 late_page : IsProcessor 2000000 (record no_processor { version = 2; system_time = 2 ^ 59 }) → ⊥
 late_page valid = omega (arith, valid.time)
@@ -307,17 +232,13 @@ timers_of_format_2 : IsFormat 2 17 3 → ⊥
 timers_of_format_2 valid = omega (arith, valid.has_timers)
 
 -- a board of format 1 gets five timers as at power on, with lines of the policy of the others; each other part is kept
-abbrev setup_of : ℕ → Setup
-setup_of format = record setup { format = format; hpet = Slew }
-
-upgraded-power_on : upgraded_to 2 (board_at_power_on (setup_of 1)) ≡ board_at_power_on (setup_of 2)
-unfolding upgraded_to devices_upgraded
-upgraded-power_on = refl
+abbrev started : ℕ → BoardParts
+started format = board_at_power_on (record setup { format = format; hpet = Slew })
 
 abbrev used : TickParts
 used = record { policy = Slew; up = true; counts = record { due = 3; rises = 1; queue = 2; lost = 0 } }
 
--- the same board in use
+-- a board in use
 abbrev in_use : BoardParts → BoardParts
 in_use b = record b {
   host = 900;
@@ -330,14 +251,11 @@ in_use b = record b {
   processors = page 1 40 ∷ no_processor ∷ [];
 }
 
-upgraded-in_use : upgraded_to 2 (in_use (board_at_power_on (setup_of 1))) ≡ in_use (board_at_power_on (setup_of 2))
+upgrades : map (upgraded_to 2) (started 1 ∷ in_use (started 1) ∷ in_use board ∷ []) ≡ started 2 ∷ in_use (started 2) ∷ in_use board ∷ []
 unfolding upgraded_to devices_upgraded
-upgraded-in_use = refl
+upgrades = refl
 
-upgraded-same : upgraded_to 1 (in_use (board_at_power_on (setup_of 1))) ≡ in_use (board_at_power_on (setup_of 1))
+-- an upgrade to the board's own format changes nothing
+same_format : upgraded_to 1 (in_use (started 1)) ≡ in_use (started 1)
 unfolding upgraded_to devices_upgraded
-upgraded-same = refl
-
-upgraded-again : upgraded_to 2 (in_use board) ≡ in_use board
-unfolding upgraded_to devices_upgraded
-upgraded-again = refl
+same_format = refl

@@ -1,5 +1,5 @@
 -- Rows on the timers of local APICs: power on, upgrade, conditions, the look at the deadlines, and accesses.
-use Rattle.std.proofs.Common.{◌≡◌, ℕ, [], ◌∷◌, false, true, set, replicate, refl, ap, arith}
+use Rattle.std.proofs.Common.{◌≡◌, ℕ, [], ◌∷◌, false, true, map, set, replicate, refl, ap, arith}
 use Rattle.host_counter.specs.Time.{time_at}
 use Rattle.tsc_scale.specs.Offset.{tsc_by}
 use Rattle.tick_policy.specs.declared.parts.TickParts.{TickParts}
@@ -31,21 +31,16 @@ use Rattle.board_core.specs.Upgrade.{gets_apics, upgraded_to}
 abbrev started : ℕ → BoardParts
 started format = board_at_power_on (record (setup_by_default format) { cpus = 2 })
 
-timers-format_3 : (started 3).apic ≡ apic_at_power_on ∷ apic_at_power_on ∷ replicate 62 no_timer
-timers-format_3 = refl
+-- the timers and lines at power on; a processor that isn't there has none, and before format 3 none has
+timers : map (λ f. (started f).apic) (2 ∷ 3 ∷ [])
+    ≡ replicate 64 no_timer ∷ (apic_at_power_on ∷ apic_at_power_on ∷ replicate 62 no_timer) ∷ []
+timers = refl
 
-lines-format_3 : (started 3).apic_ticks ≡ replicate 64 no_line
-lines-format_3 = refl
+lines : (started 3).apic_ticks ≡ replicate 64 no_line
+lines = refl
 
-timers-format_2 : (started 2).apic ≡ replicate 64 no_timer
-timers-format_2 = refl
-
--- a processor that isn't there has none, and before format 3 none has
-some-format_5 : apics_of 5 64 ≡ 64
-some-format_5 = refl
-
-none-format_2 : apics_of 2 64 ≡ 0
-none-format_2 = refl
+numbers : map (λ f. apics_of f 64) (2 ∷ 5 ∷ []) ≡ 0 ∷ 64 ∷ []
+numbers = refl
 
 -- a timer in use, and its line
 abbrev timer : ApicParts
@@ -62,20 +57,13 @@ upgraded-2-3 : upgraded_to 3 (started 2) ≡ started 3
 unfolding upgraded_to devices_upgraded
 upgraded-2-3 = refl
 
-upgraded-1-5 : apics_in (upgraded_to 5 (started 1)) ≡ apics_at_power_on 2
+upgrades : map apics_in (upgraded_to 2 (started 1) ∷ upgraded_to 5 (started 1) ∷ upgraded_to 4 (in_use (started 3)) ∷ [])
+    ≡ apics_at_power_on 0 ∷ apics_at_power_on 2 ∷ apics_in (in_use (started 3)) ∷ []
 unfolding upgraded_to devices_upgraded
-upgraded-1-5 = refl
+upgrades = refl
 
-upgraded-1-2 : apics_in (upgraded_to 2 (started 1)) ≡ apics_at_power_on 0
-unfolding upgraded_to devices_upgraded
-upgraded-1-2 = refl
-
-upgraded-3-4 : apics_in (upgraded_to 4 (in_use (started 3))) ≡ apics_in (in_use (started 3))
-unfolding upgraded_to devices_upgraded
-upgraded-3-4 = refl
-
-gets-same : gets_apics 3 3 ≡ false
-gets-same = refl
+same_format : gets_apics 3 3 ≡ false
+same_format = refl
 
 -- conditions: no timer in format 2, none of a processor that isn't there, and no more ticks than were due
 timer-in_format_2 : AreApics 2 2 9 (apics_in (in_use (started 2))) → ⊥
@@ -114,21 +102,18 @@ holding p q = record (started 3) {
 abbrev two : ApicParts → ApicParts → TickParts → TickParts → ApicsParts
 two p q l m = record { timers = p ∷ q ∷ []; lines = l ∷ m ∷ [] }
 
-look-by-time : apics_in (after_act (holding (deadline_of 3000) (deadline_of 3001)) 0 3001 Step) ≡ two spent (deadline_of 3001) raised no_line
-unfolding after_act after_look before_look looked_all processors_after count_at time_at tsc_by
-look-by-time = refl
-
--- a write of the TSC is seen by the look of the same access, and moves no other processor
-look-after-tsc_write : apics_in (after_act (holding (deadline_of 5000) (deadline_of 5000)) 0 3001 (MsrWrite 0x10 5001))
-    ≡ two spent (deadline_of 5000) raised no_line
+-- the look of an access spends what is past: by time; a write of the TSC by the same access is seen, and moves no other processor;
+-- so is a deadline that it writes in the past, and one in the future stays
+looks : map apics_in (after_act (holding (deadline_of 3000) (deadline_of 3001)) 0 3001 Step
+    ∷ after_act (holding (deadline_of 5000) (deadline_of 5000)) 0 3001 (MsrWrite 0x10 5001)
+    ∷ after_act (holding (deadline_of 9000) (deadline_of 9000)) 1 3001 (MsrWrite 0x6e0 2999)
+    ∷ [])
+    ≡ two spent (deadline_of 3001) raised no_line
+    ∷ two spent (deadline_of 5000) raised no_line
+    ∷ two (deadline_of 9000) spent no_line raised
+    ∷ []
 unfolding after_act after_look before_look looked_all processors_after published count_at time_at tsc_by
-look-after-tsc_write = refl
-
--- so is a deadline that is written in the past, and one in the future stays
-look-after-deadline_write : apics_in (after_act (holding (deadline_of 9000) (deadline_of 9000)) 1 3001 (MsrWrite 0x6e0 2999))
-    ≡ two (deadline_of 9000) spent no_line raised
-unfolding after_act after_look before_look looked_all processors_after count_at time_at tsc_by
-look-after-deadline_write = refl
+looks = refl
 
 -- a new anchor may pass a deadline: it reads as armed until the look of the next access
 abbrev moved : BoardParts
@@ -161,49 +146,37 @@ unfolding after_run at_nanosecond passed fires_next divisor time_at
 ticks-of-run = refl
 
 -- the next one comes in the third nanosecond, and not in the second
-next-third : ticks_at (tscs_by_time (holding periodic no_timer) 0) 1000 periodic 1003 ≡ true
+next_tick : map (ticks_at (tscs_by_time (holding periodic no_timer) 0) 1000 periodic) (1002 ∷ 1003 ∷ []) ≡ false ∷ true ∷ []
 unfolding passed fires_next divisor
-next-third = refl
+next_tick = refl
 
-next-not_second : ticks_at (tscs_by_time (holding periodic no_timer) 0) 1000 periodic 1002 ≡ false
-unfolding passed fires_next divisor
-next-not_second = refl
-
--- the five MSRs act on the timer of the accessing processor, and those of 32 bits take the low half
-written-lvt : apics_acted 1 (MsrWrite 0x832 0x100030030) (two no_timer no_timer no_line no_line)
-    ≡ two no_timer (record no_timer { lvt = 0x30030 }) no_line no_line
-written-lvt = refl
-
-written-initial : apics_acted 1 (MsrWrite 0x838 0x100000005) (two no_timer no_timer no_line no_line)
-    ≡ two no_timer (record no_timer { initial = 5; current = 5 }) no_line no_line
-written-initial = refl
-
-written-current : apics_acted 1 (MsrWrite 0x839 5) (two no_timer timer no_line no_line) ≡ two no_timer timer no_line no_line
-written-current = refl
-
-written-divide : apics_acted 0 (MsrWrite 0x83e 0x10000000b) (two no_timer no_timer no_line no_line)
-    ≡ two (record no_timer { divide = 11 }) no_timer no_line no_line
-written-divide = refl
-
-written-tsc : apics_acted 0 (MsrWrite 0x10 7) (two timer timer line line) ≡ two timer timer line line
-written-tsc = refl
-
+-- the five MSRs act on the timer of the accessing processor, and those of 32 bits take the low half; no other MSR does;
 -- the end of an interrupt takes down the line of that processor alone
-ended : apics_acted 1 Eoi (two timer timer line line) ≡ two timer timer line (record line { up = false })
-ended = refl
+abbrev idle : ApicsParts
+idle = two no_timer no_timer no_line no_line
+
+abbrev busy : ApicsParts
+busy = two timer timer line line
+
+acts : apics_acted 1 (MsrWrite 0x832 0x100030030) idle
+    ∷ apics_acted 1 (MsrWrite 0x838 0x100000005) idle
+    ∷ apics_acted 1 (MsrWrite 0x839 5) (two no_timer timer no_line no_line)
+    ∷ apics_acted 0 (MsrWrite 0x83e 0x10000000b) idle
+    ∷ apics_acted 0 (MsrWrite 0x10 7) busy
+    ∷ apics_acted 1 Eoi busy
+    ∷ []
+    ≡ two no_timer (record no_timer { lvt = 0x30030 }) no_line no_line
+    ∷ two no_timer (record no_timer { initial = 5; current = 5 }) no_line no_line
+    ∷ two no_timer timer no_line no_line
+    ∷ two (record no_timer { divide = 11 }) no_timer no_line no_line
+    ∷ busy
+    ∷ two timer timer line (record line { up = false })
+    ∷ []
+acts = refl
 
 -- reads
-read-lvt : msr_read (holding no_timer timer) 1 3001 0x832 ≡ 0x20030
-read-lvt = refl
-
-read-initial : msr_read (holding no_timer timer) 1 3001 0x838 ≡ 100
-read-initial = refl
-
-read-current : msr_read (holding no_timer timer) 1 3001 0x839 ≡ 40
-read-current = refl
-
-read-divide : msr_read (holding no_timer timer) 1 3001 0x83e ≡ 11
-read-divide = refl
+reads : map (msr_read (holding no_timer timer) 1 3001) (0x832 ∷ 0x838 ∷ 0x839 ∷ 0x83e ∷ []) ≡ 0x20030 ∷ 100 ∷ 40 ∷ 11 ∷ []
+reads = refl
 
 counts-of-apic : value_at (record (holding timer timer) { apic_ticks = no_line ∷ line ∷ [] }) 0 3001 (CountsOf (Apic 1))
     ≡ Counts (record { due = 3; rises = 1; queue = 0; lost = 2 })

@@ -1,5 +1,5 @@
 -- Rows on the reference page of Hyper-V and on what a board without later formats holds.
-use Rattle.std.proofs.Common.{◌≡◌, true, false, [], ◌∷◌, Some, None, refl}
+use Rattle.std.proofs.Common.{◌≡◌, true, false, [], ◌∷◌, Some, None, map, refl}
 use Rattle.host_counter.specs.declared.Anchor.{Anchor}
 use Rattle.host_counter.specs.Time.{time_at}
 use Rattle.tsc_scale.specs.Offset.{tsc_by}
@@ -36,29 +36,15 @@ enabled-second : hv_after plain 2000000 1 1000 (MsrWrite 0x40000021 0x5001) (no_
 unfolding hv_after hv_published time_at tsc_by tsc_scale units_of
 enabled-second = refl
 
--- a number without bit 0 takes the page away: the version rises all the same
-withdrawn-page : hv_after plain 2000000 1 1000 (MsrWrite 0x40000021 0x5000) [] on
-    ≡ record { number = 0x5000; version = 4; cpu = 1; scale = 0; offset = 0; tsc_offset = 0 }
+-- a number without bit 0 takes the page away: the version rises all the same; a write to the counter does nothing, nor does one to the TSC
+written : map (λ a. hv_after plain 2000000 1 1000 a [] on) (MsrWrite 0x40000021 0x5000 ∷ MsrWrite 0x40000020 7 ∷ MsrWrite 0x10 7 ∷ [])
+    ≡ record { number = 0x5000; version = 4; cpu = 1; scale = 0; offset = 0; tsc_offset = 0 } ∷ on ∷ on ∷ []
 unfolding hv_after hv_published
-withdrawn-page = refl
+written = refl
 
--- a write to the counter does nothing, nor does one to the TSC, and neither publishes
-counter-written : hv_after plain 2000000 1 1000 (MsrWrite 0x40000020 7) [] on ≡ on
-unfolding hv_after
-counter-written = refl
-
-tsc-written : hv_after plain 2000000 1 1000 (MsrWrite 0x10 7) [] on ≡ on
-unfolding hv_after
-tsc-written = refl
-
-publishes-number : publishes_hv (MsrWrite 0x40000021 0) ≡ true
-publishes-number = refl
-
-publishes-counter : publishes_hv (MsrWrite 0x40000020 0) ≡ false
-publishes-counter = refl
-
-publishes-read : publishes_hv (MsrRead 0x40000021) ≡ false
-publishes-read = refl
+-- only a write of the number publishes
+publishes : map publishes_hv (MsrWrite 0x40000021 0 ∷ MsrWrite 0x40000020 0 ∷ MsrRead 0x40000021 ∷ []) ≡ true ∷ false ∷ false ∷ []
+publishes = refl
 
 -- at the greatest count of accesses, by the page's own processor, from format 4 on
 published-at_host : (hv_published_at_host (record board { format = 4; host = 3000; hv = on })).hv ≡ record on { version = 4 }
@@ -70,28 +56,16 @@ unfolding hv_published_at_host
 published-before = refl
 
 -- what the MSRs read: the board's own time in units of 100 ns, whatever the count; the number
-counter-read : msr_read (record board { host = 1999 }) 0 250 0x40000020 ≡ 19
+reads : msr_read (record board { host = 1999 }) 0 250 0x40000020 ∷ msr_read (record board { hv = on }) 1 0 0x40000021 ∷ [] ≡ 19 ∷ 1 ∷ []
 unfolding time_at
-counter-read = refl
-
-number-read : msr_read (record board { hv = on }) 1 0 0x40000021 ≡ 1
-number-read = refl
+reads = refl
 
 -- a read of the page: 21000 ns are 210 units
-page-read : hv_reply (record board { hv = on }) 21000 ≡ On (hv_in on) 210
+page_replies : map (λ b. hv_reply b 21000) (record board { hv = on } ∷ board ∷ []) ≡ On (hv_in on) 210 ∷ Off ∷ []
 unfolding hv_reply tsc_by units_of reference_time
-page-read = refl
+page_replies = refl
 
-page-off : hv_reply board 21000 ≡ Off
-unfolding hv_reply
-page-off = refl
-
--- the version that a write raises is the page's own, and that of no other access is
-raised-number : raised_version [] 4 6 0 (MsrWrite 0x40000021 0) ≡ Some 6
-raised-number = refl
-
-raised-wall : raised_version [] 4 6 0 (MsrWrite 0x4b564d00 0) ≡ Some 4
-raised-wall = refl
-
-raised-counter : raised_version [] 4 6 0 (MsrWrite 0x40000020 0) ≡ None
-raised-counter = refl
+-- the version that a write raises: the page's own, that of the wall clock, or none
+raised : map (raised_version [] 4 6 0) (MsrWrite 0x40000021 0 ∷ MsrWrite 0x4b564d00 0 ∷ MsrWrite 0x40000020 0 ∷ [])
+    ≡ Some 6 ∷ Some 4 ∷ None ∷ []
+raised = refl

@@ -33,8 +33,7 @@ abbrev burst : ℕ → ℕ → Burst
 burst count every = record { timer = 0; first = 20; count = count; every = every; address = 0xfee00000; «data» = 0x41 }
 
 -- an access is answered the messages up to its time, one at that time too
-of_the_run : (reply_of sending 0 65 Step).bursts ∷ (reply_of sending 0 20 Step).bursts ∷ (reply_of sending 0 19 Step).bursts ∷ []
-    ≡ (burst 3 20 ∷ []) ∷ (burst 1 0 ∷ []) ∷ [] ∷ []
+of_the_run : map (λ h. (reply_of sending 0 h Step).bursts) (65 ∷ 20 ∷ 19 ∷ []) ≡ (burst 3 20 ∷ []) ∷ (burst 1 0 ∷ []) ∷ [] ∷ []
 unfolding reply_of time_at bursts_below matches_next hpet_pulsed matches_at pulsed falls_at pulses_from pulses_by
 of_the_run = refl
 

@@ -1,5 +1,5 @@
 -- Rows on the next edge, and on the count of a line's rises.
-use Rattle.std.proofs.Common.{◌≡◌, ℕ, false, [], ◌∷◌, replicate, Some, None, refl}
+use Rattle.std.proofs.Common.{◌≡◌, ℕ, false, [], ◌∷◌, map, replicate, Some, None, refl}
 use Rattle.clk_units.specs.Pulses.{falls_at, pulses_by}
 use Rattle.hpet_registers.specs.Stretch.{hpet_pulsed}
 use Rattle.rtc_registers.specs.Parts.{rtc_at_power_on}
@@ -29,17 +29,10 @@ waiting slew_ns = devices_in (record board {
   ticks = record { policy = Slew; up = false; counts = record { due = 1; rises = 0; queue = 1; lost = 0 } } ∷ replicate 9 no_line;
 })
 
-before_it : first_edge 97 2 (waiting 100) ≡ None
+-- in 97 ns and so many more: before it, at it, and in a longer time
+around_it : map (λ n. first_edge 97 n (waiting 100)) (2 ∷ 3 ∷ 5 ∷ []) ≡ None ∷ Some 100 ∷ Some 100 ∷ []
 unfolding first_edge run onward at_nanosecond pit_pulse rtc_pulse hpet_pulse catch_up_point levels falls_at pulses_by hpet_pulsed rtc_at_power_on with_time
-before_it = refl
-
-at_it : first_edge 97 3 (waiting 100) ≡ Some 100
-unfolding first_edge run onward at_nanosecond pit_pulse rtc_pulse hpet_pulse catch_up_point levels falls_at pulses_by hpet_pulsed rtc_at_power_on with_time
-at_it = refl
-
-longer_than_it : first_edge 97 5 (waiting 100) ≡ Some 100
-unfolding first_edge run onward at_nanosecond pit_pulse rtc_pulse hpet_pulse catch_up_point levels falls_at pulses_by hpet_pulsed rtc_at_power_on with_time
-longer_than_it = refl
+around_it = refl
 
 -- 2^59 - 1 is a multiple of 179951: the last nanosecond in which an edge is next
 at_the_last_nanosecond : next_of 576460752303423486 (waiting 179951) ≡ Some 576460752303423487
