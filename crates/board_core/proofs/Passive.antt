@@ -114,6 +114,10 @@ pub value-read : (x : BoardParts) (cpu h offset width : ℕ) → is_passive (Hpe
 unfolding value_at value_of
 value-read x cpu h offset width is = ap (Word width) (sym (hpet_read-passive offset width x.hpet is))
 
+pub value-of-step : (x : BoardParts) (cpu h : ℕ) → Nothing ≡ value_at x cpu h Step
+unfolding value_at
+value-of-step x cpu h = refl
+
 pub value-step : (x : BoardParts) (cpu h : ℕ) (a : Access) → is_passive a ≡ true → ((offset width : ℕ) → a ≡ HpetRead offset width → ⊥)
     → Nothing ≡ value_at x cpu h a
 unfolding value_at

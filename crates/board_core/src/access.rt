@@ -82,7 +82,7 @@ impl BoardState {
     /// `Access::PortIn { port }`: its code goes into the caller, and holds what that kind needs alone. With an access
     /// of any kind it would ask for the kind at each step: call `answer` there.
     #[inline(always)]
-    pub fn answer_known(
+    pub(crate) fn answer_known(
         &mut self,
         cpu: u8,
         h: u64,

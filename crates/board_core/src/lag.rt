@@ -58,7 +58,7 @@ pub const NO_LAG: Lag = Lag {
 };
 
 impl BoardState {
-    /// Brings the board up to its time, where it doesn't lag.
+    /// Brings a board that lags up to its time.
     #[inline(always)]
     pub fn catch_up(&mut self, lag: &mut Lag)
         requires { IsLazy self.old lag.old.host lag.old.horizon }
@@ -73,7 +73,7 @@ impl BoardState {
         lag.host = 0;
     }
 
-    /// One access, as `answer` answers it: what changes nothing is only counted before the horizon.
+    /// One access, as `answer` answers it. What changes nothing is only counted before the horizon.
     #[inline(always)]
     pub fn answer_lagging(
         &mut self,
@@ -89,43 +89,28 @@ impl BoardState {
             (caught_up self.new lag.new) reply.old reply.new }
         ensures lazy { IsLazy self.new lag.new.host lag.new.horizon }
     {
-        if is_passive(a) {
-            return self.answer_passive(lag, cpu, h, a, reply);
+        let passive = is_passive(a);
+        if passive && self.counts(lag, h) {
+            let _later = self.count(lag, h);
+            reply.number = self.accesses;
+            reply.value = match a {
+                Access::Step => Value::Nothing,
+                _ => self.passive_value(lag, self.lagging_now(lag), a),
+            };
+            return Ok(());
         }
         self.catch_up(lag);
+        if passive {
+            return self.answer_still(lag, cpu, h, a, reply);
+        }
         *lag = NO_LAG; // whatever the access changes
         self.answer(cpu, h, a, reply)
     }
 
-    /// An access that lets time pass, and changes nothing. Before the horizon it is counted.
-    #[inline(always)]
-    fn answer_passive(
-        &mut self,
-        lag: &mut Lag,
-        cpu: u8,
-        h: u64,
-        a: Access,
-        reply: &mut Reply,
-    ) -> Result<(), Refusal>
-        requires lazy { IsLazy self.old lag.old.host lag.old.horizon }
-        requires passive { IsTrue (is_passive a) }
-        requires asked { IsAsked (caught_up self.old lag.old) cpu a reply.old }
-        ensures outcome { IsOutcome (caught_up self.old lag.old) cpu h a result
-            (caught_up self.new lag.new) reply.old reply.new }
-        ensures lazy { IsLazy self.new lag.new.host lag.new.horizon }
-    {
-        if self.counts(lag, h) {
-            let _later = self.count(lag, h);
-            reply.number = self.accesses;
-            reply.value = self.passive_value(lag, a);
-            return Ok(());
-        }
-        self.answer_by_run(lag, cpu, h, a, reply)
-    }
-
-    /// The same by a run. After enough of them without an edge it looks for the horizon.
+    /// An access that changes nothing, of a board that doesn't lag. After enough of them without an edge it looks for the
+    /// horizon.
     #[inline(never)]
-    fn answer_by_run(
+    fn answer_still(
         &mut self,
         lag: &mut Lag,
         cpu: u8,
@@ -133,22 +118,19 @@ impl BoardState {
         a: Access,
         reply: &mut Reply,
     ) -> Result<(), Refusal>
-        requires lazy { IsLazy self.old lag.old.host lag.old.horizon }
-        requires asked { IsAsked (caught_up self.old lag.old) cpu a reply.old }
-        ensures outcome { IsOutcome (caught_up self.old lag.old) cpu h a result
-            (caught_up self.new lag.new) reply.old reply.new }
-        ensures lazy { IsLazy self.new lag.new.host lag.new.horizon }
+        requires { IsAsked self.old cpu a reply.old }
+        ensures outcome { IsOutcome self.old cpu h a result self.new reply.old reply.new }
+        ensures known { 0 < lag.new.horizon → IsQuiet self.new (lag.new.horizon - 1) }
+        ensures caught_up { lag.new.host ≡ 0 }
     {
-        self.catch_up(lag);
-        lag.horizon = 0;
-        match self.answer_known(cpu, h, a, reply) {
-            Ok(()) => {
-                lag.still = more_still(lag.still, reply.edges.is_empty());
-                lag.horizon = horizon_of(self, lag.still == STILL);
-                Ok(())
-            }
-            Err(refusal) => Err(refusal),
+        let still = lag.still;
+        *lag = NO_LAG;
+        let answered = self.answer_known(cpu, h, a, reply);
+        if answered.is_ok() {
+            lag.still = more_still(still, reply.edges.is_empty());
+            lag.horizon = horizon_of(self, lag.still == STILL);
         }
+        answered
     }
 
     /// Whether an access at count `h` that changes nothing is only counted: it comes before the horizon.
@@ -235,35 +217,9 @@ impl BoardState {
         self.run_to(h, to, &mut edges, &mut bursts);
     }
 
-    /// What an access that changes nothing reads of a board that lags.
+    /// What an access that changes nothing reads of a board that lags and whose time is `now_ns`.
     #[inline(always)]
-    fn passive_value(&self, lag: &Lag, a: Access) -> Value
-        requires passive { IsTrue (is_passive a) }
-        requires lazy { IsLazy self.now lag.now.host lag.now.horizon }
-        ensures { (cpu g : ℕ) → result ≡ value_at (caught_up self.now lag.now) cpu g a }
-    {
-        match a {
-            Access::HpetRead { width, .. } => Value::Word {
-                width,
-                value: low_part(width, self.main_counter_at(lag.host)),
-            },
-            _ => Value::Nothing,
-        }
-    }
-
-    /// The HPET's main counter at the time of count `h`.
-    // Inlined, it makes the answer to a line too large to be inlined in the loop over lines.
-    #[inline(never)]
-    fn main_counter_at(&self, h: u64) -> u64
-        requires { self.now.host < h → HasTime self.now.anchor h }
-        ensures { result ≡ (after_run self.now h).hpet.counter }
-    {
-        self.devices.main_counter(self.time_ns, self.time_by(h))
-    }
-
-    /// What such an access reads of a board that lags, where the time of that board is known.
-    #[inline(always)]
-    pub fn passive_value_by(&self, lag: &Lag, now_ns: u64, a: Access) -> Value
+    pub fn passive_value(&self, lag: &Lag, now_ns: u64, a: Access) -> Value
         requires passive { IsTrue (is_passive a) }
         requires lazy { IsLazy self.now lag.now.host lag.now.horizon }
         requires now { now_ns ≡ now_of (caught_up self.now lag.now) }
@@ -272,15 +228,15 @@ impl BoardState {
         match a {
             Access::HpetRead { width, .. } => Value::Word {
                 width,
-                value: low_part(width, self.main_counter_by(lag, now_ns)),
+                value: low_part(width, self.main_counter(lag, now_ns)),
             },
             _ => Value::Nothing,
         }
     }
 
-    /// The HPET's main counter of a board that lags, where the time of that board is known.
+    /// The HPET's main counter of such a board.
     #[inline(always)]
-    fn main_counter_by(&self, lag: &Lag, now_ns: u64) -> u64
+    fn main_counter(&self, lag: &Lag, now_ns: u64) -> u64
         requires lazy { IsLazy self.now lag.now.host lag.now.horizon }
         requires now { now_ns ≡ now_of (caught_up self.now lag.now) }
         ensures { result ≡ (caught_up self.now lag.now).hpet.counter }

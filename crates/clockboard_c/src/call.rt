@@ -130,7 +130,7 @@ fn count(board: &mut Board, cpu: u8, host: u64, access: Access, reply: &mut Repl
     let later = board.state.count(&mut board.lag, host);
     let now_ns = now_after(&board.state, &board.lag, later, board.now_ns);
     board.now_ns = now_ns;
-    let value = board.state.passive_value_by(&board.lag, now_ns, access);
+    let value = board.state.passive_value(&board.lag, now_ns, access);
     reply.put_head(OK, board.state.accesses(), now_ns, value_words(value));
 }
 

@@ -26,12 +26,12 @@ returns c = record {
       subst (λ (b : CallerBoard). IsReply c.args.reply.now c.put_head.new.self (told_by b.state c.args.cpu c.args.host c.args.access))
       (ap seen c.board.view_is)
       (says-passed _ _ (caught_up c.board.inside.state c.board.inside.lag) _ c.args.cpu c.args.host c.args.access c.count-later.new.self.accesses
-      c.now_after-now_ns.result c.passive_value_by-value.result
+      c.now_after-now_ns.result c.passive_value-value.result
       (c.count-later.ensures.passed c.args.cpu c.args.access c.requires.passive) c.now_after-now_ns.ensures
-      (c.passive_value_by-value.ensures c.args.cpu c.args.host)
+      (c.passive_value-value.ensures c.args.cpu c.args.host)
       (subst
       (λ (n : ℕ). IsReply c.args.reply.now c.put_head.new.self
-      (without_edges OK n c.now_after-now_ns.result (value_words c.passive_value_by-value.result))) c.accesses.ensures
+      (without_edges OK n c.now_after-now_ns.result (value_words c.passive_value-value.result))) c.accesses.ensures
       (subst
       (λ (ws : List ℕ). IsReply c.args.reply.now c.put_head.new.self (without_edges OK c.accesses.result c.now_after-now_ns.result ws))
       c.value_words.ensures c.put_head.ensures)));

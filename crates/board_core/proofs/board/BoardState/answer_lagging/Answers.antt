@@ -1,6 +1,63 @@
+use Rattle.std.proofs.Common.{◌≡◌, ℕ, List, [], length, ap, sym, subst, ◌∙◌, arith}
+use Rattle.std.specs.List.{All}
+use Rattle.std.proofs.lemmas.List.Elements.{All-nil}
+use Rattle.irq_edges.specs.Lines.{IsOfLine}
+use Rattle.irq_edges.specs.declared.edges.Edge.{Edge}
+use Rattle.irq_edges.specs.declared.bursts.Burst.{Burst}
+use Rattle.board_types.specs.declared.parts.BoardParts.{BoardParts}
+use Rattle.board_types.specs.declared.reply.Reply.{Reply}
+use Rattle.board_types.specs.declared.reply.Value.{Value}
+use Rattle.board_core.specs.Access.{after_run, value_at, reply_of}
+use Rattle.board_core.specs.Lazy.{caught_up, IsPassed}
 use Rattle.board_core.proofs.Joins.{after_run-zero}
 use Rattle.board_core.proofs.LazySteps.{answered}
+use Rattle.board_core.proofs.Passive.{value-of-step}
 use Rattle.board_core.proofs.board.BoardState.answer_lagging.Goals as goal
+use Rattle.board_core.proofs.board.BoardState.answer_lagging.Goals.{in-Step, in_default}
+
+reply : ℕ → Value → List Edge → List Burst → Reply
+reply number value edges bursts = record { number = number; value = value; edges = edges; bursts = bursts }
+
+-- an access that is counted
+pub returns-then-counts-clause-outcome : goal.returns-then-counts-clause-outcome
+unfolding reply
+returns-then-counts-clause-outcome c =
+    let cpu : ℕ = c.args.cpu in
+    let h : ℕ = c.args.h in
+    let b : BoardParts = caught_up c.args.self.now c.args.lag.now in
+    let next : BoardParts = caught_up c.count-later.new.self c.count-later.new.lag in
+    let number : ℕ = c.count-later.new.self.accesses in
+    let before : Reply = c.args.reply.now in
+    let passed : IsPassed b cpu h c.args.a number next =
+    c.count-later.ensures.passed cpu c.args.a (sym c.is_passive-passive.ensures ∙ c.if-passive.true) in
+    let read : c.match-a.reply ≡ value_at next cpu h c.args.a = elim c.match-a.branch [
+      | in-Step w ↦ w.reply-is ∙ value-of-step next cpu h ∙ ap (value_at next cpu h) (sym w.in-Step.is)
+      | in_default w ↦ w.reply-is ∙ w.passive_value-reply.ensures cpu h
+    ] in
+    let replied : reply c.self.inside.accesses c.match-a.reply before.edges before.bursts ≡ reply_of b cpu h c.args.a =
+    ap (λ (x : BoardParts). reply x.accesses c.match-a.reply before.edges before.bursts) c.self.view_is
+    ∙ ap (λ (v : Value). reply number v before.edges before.bursts) read
+    ∙ ap (λ (es : List Edge). reply number (value_at next cpu h c.args.a) es before.bursts) c.requires.asked.fresh.edges
+    ∙ ap (reply number (value_at next cpu h c.args.a) []) c.requires.asked.fresh.bursts
+    ∙ sym passed.reply in
+    record {
+      refused = tt;
+      unchanged = tt;
+      untouched = tt;
+      taken = passed.taken;
+      reply = replied;
+      state = passed.state;
+      of_lines = subst (All IsOfLine) (sym c.requires.asked.fresh.edges) (All-nil IsOfLine);
+      few_run = omega (arith, ap length passed.still);
+      few = omega (arith, ap length c.requires.asked.fresh.edges);
+    }
+
+-- one that runs the board
+pub returns-then-passive-2-clause-outcome : goal.returns-then-passive-2-clause-outcome
+returns-then-passive-2-clause-outcome c =
+    answered c.catch_up.ensures.state
+    (ap (after_run c.answer_still.new.self) c.answer_still.ensures.caught_up ∙ after_run-zero c.answer_still.new.self)
+    c.answer_still.ensures.outcome
 
 pub returns-clause-outcome : goal.returns-clause-outcome
 returns-clause-outcome c = answered c.catch_up.ensures.state (after_run-zero c.answer.new.self) c.answer.ensures

@@ -9,7 +9,7 @@ use Rattle.board_core.proofs.board.BoardState.passive_value.Goals as goal
 
 pub returns-in-HpetRead : goal.returns-in-HpetRead
 returns-in-HpetRead c cpu g =
-    ap (Word c.in-HpetRead.width) (c.low_part.ensures ∙ ap (part_of c.in-HpetRead.width false) c.main_counter_at.ensures)
+    ap (Word c.in-HpetRead.width) (c.low_part.ensures ∙ ap (part_of c.in-HpetRead.width false) c.main_counter.ensures)
     ∙ value-read (caught_up c.args.self.now c.args.lag.now) cpu g c.in-HpetRead.offset c.in-HpetRead.width
     (subst (λ (a : Access). is_passive a ≡ true) c.in-HpetRead.is c.requires.passive)
     ∙ ap (λ (a : Access). value_at (caught_up c.args.self.now c.args.lag.now) cpu g a) (sym c.in-HpetRead.is)

@@ -9,8 +9,8 @@ use Rattle.board_core.specs.Time.{now_of, time_of_access, devices_in}
 use Rattle.board_core.specs.View.{board_parts_of}
 use Rattle.board_core.proofs.Joins.{now-after_run}
 use Rattle.board_core.proofs.LazySteps.{range-caught}
-use Rattle.board_core.proofs.board.BoardState.main_counter_by.Goals as goal
-use Rattle.board_core.proofs.board.BoardState.main_counter_by.Goals.{After-self}
+use Rattle.board_core.proofs.board.BoardState.main_counter.Goals as goal
+use Rattle.board_core.proofs.board.BoardState.main_counter.Goals.{After-self}
 
 -- the board that lags, and its time
 abbrev kept : After-self → BoardParts
