@@ -41,9 +41,7 @@ use Rattle.trace_loop.specs.Progress.{
   opened,
   told,
   answered,
-  checked,
   closed,
-  heard_until,
   behind,
   ran,
   finished,
@@ -51,7 +49,7 @@ use Rattle.trace_loop.specs.Progress.{
 }
 use Rattle.trace_loop.specs.ByLines.{lines_of, without_empty_last, line_told, ran_lines, EndsLong}
 use Rattle.trace_loop.specs.Cut.{HasNoEnd}
-use Rattle.trace_loop.proofs.Progresses.{behind-ended, limit_least}
+use Rattle.trace_loop.proofs.Progresses.{behind-ended, heard-by, limit_least}
 
 -- parts, cut by the end of a line
 abbrev parts_of : List ℕ → List (List ℕ)
@@ -131,6 +129,13 @@ module _ (A E : Type 0) (answer : ℕ → A → List ℕ → Answer A E) (closin
   lines-ended [] s status e = ap (λ (o : Option E). ran closing o s) e
   lines-ended (text ∷ texts) s status e = ap (λ (o : Option E). ran_lines answer closing texts (line_told answer o text s)) e ∙ lines-ended texts s status e
 
+  -- the first line of an input is told
+  first_told : (line : List ℕ) (lines : List (List ℕ)) (input : List ℕ) (s : Progress A E) → s.end ≡ None → lines_of input ≡ line ∷ lines
+      → ran_lines answer closing lines (answered answer (record s { text = line })) ≡ ran_lines answer closing (lines_of input) (record s { text = [] })
+  first_told line lines input s going is =
+      ap (λ (o : Option E). ran_lines answer closing lines (line_told answer o line (record s { text = [] }))) (sym going)
+      ∙ ap (λ (ls : List (List ℕ)). ran_lines answer closing ls (record s { text = [] })) (sym is)
+
   -- what the input after a progress prints
   abbrev Agrees : List ℕ → Progress A E → Type 0
   Agrees bs s = finished answer closing (behind answer bs s) ≡ ran_lines answer closing (lines_of (s.text ++ bs)) (record s { text = [] })
@@ -144,8 +149,7 @@ module _ (A E : Type 0) (answer : ℕ → A → List ℕ → Answer A E) (closin
       ap (λ (o : Option E). finished_by answer closing o s) going
       ∙ ap (λ (l : List ℕ). (let t = closed answer l s in ran closing t.end t)) is
       ∙ ap (λ (l : List ℕ). (let t = answered answer (record s { text = l }) in ran closing t.end t)) is
-      ∙ ap (λ (o : Option E). ran_lines answer closing [] (line_told answer o (b ∷ bs) (record s { text = [] }))) (sym going)
-      ∙ ap (λ (ls : List (List ℕ)). ran_lines answer closing ls (record s { text = [] })) (sym (lines-last (b ∷ bs) (omega arith) none))
+      ∙ first_told (b ∷ bs) [] (b ∷ bs) s going (lines-last (b ∷ bs) (omega arith) none)
 
   -- a line that ends here
   line_end : (bs : List ℕ) (s : Progress A E) → s.end ≡ None → ((t : Progress A E) → t.end ≡ None → t.text ≡ [] → Agrees bs t)
@@ -171,8 +175,7 @@ module _ (A E : Type 0) (answer : ℕ → A → List ℕ → Answer A E) (closin
       ap (λ (x : Answer A E). told x t) (ap (answer s.line s.state) h.4.1 ∙ long_ends.ends s.line s.state front h.4.0 long) in
       sym (lines-ended h.1 (told (Ends (excess front s)) t) (excess front s).end refl)
       ∙ ap (ran_lines answer closing h.1) (sym first)
-      ∙ ap (λ (o : Option E). ran_lines answer closing h.1 (line_told answer o h.0 (record s { text = [] }))) (sym going)
-      ∙ ap (λ (ls : List (List ℕ)). ran_lines answer closing ls (record s { text = [] })) (sym h.2)
+      ∙ first_told h.0 h.1 (front ++ bs) s going h.2
 
   by_byte : (b : ℕ) (bs : List ℕ) (s : Progress A E) → s.end ≡ None → HasNoEnd s.text
       → ((t : Progress A E) → t.end ≡ None → HasNoEnd t.text → length t.text ≤ limit_of t.text → Agrees bs t) → Agrees (b ∷ bs) s
@@ -200,18 +203,14 @@ module _ (A E : Type 0) (answer : ℕ → A → List ℕ → Answer A E) (closin
           later grown going (HasNoEnd-push s.text b none other) (ltb-false (limit_of grown.text) (length grown.text) over)
           ∙ ap (λ (l : List ℕ). ran_lines answer closing (lines_of l) (record s { text = [] })) bytes
 
-      heard_ : (t : Bool) → eqb b 10 ≡ t → heard_until answer s.end b s ≡ cond t (answered answer s) (checked answer grown)
-      heard_ t is = ap (λ (o : Option E). heard_until answer o b s) going ∙ ap (λ (c : Bool). cond c (answered answer s) (checked answer grown)) is
-
       by_end : (t : Bool) → eqb b 10 ≡ t → Agrees (b ∷ bs) s
       by_end true is =
-          ap (λ (t : Progress A E). finished answer closing (behind answer bs t)) (heard_ true is)
+          ap (λ (t : Progress A E). finished answer closing (behind answer bs t)) (heard-by A E answer closing b s true going is)
           ∙ line_end bs s going (λ t on empty. later t on (subst HasNoEnd (sym empty) tt) (omega (arith, ap length empty, limit_least t.text)))
-          ∙ ap (λ (o : Option E). ran_lines answer closing (lines_of bs) (line_told answer o s.text (record s { text = [] }))) (sym going)
-          ∙ ap (λ (ls : List (List ℕ)). ran_lines answer closing ls (record s { text = [] })) (sym (lines-line s.text bs none))
+          ∙ first_told s.text (lines_of bs) (s.text ++ 10 ∷ bs) s going (lines-line s.text bs none)
           ∙ ap (λ (c : ℕ). ran_lines answer closing (lines_of (s.text ++ c ∷ bs)) (record s { text = [] })) (sym (eqb-true b 10 is))
       by_end false is =
-          ap (λ (t : Progress A E). finished answer closing (behind answer bs t)) (heard_ false is)
+          ap (λ (t : Progress A E). finished answer closing (behind answer bs t)) (heard-by A E answer closing b s false going is)
           ∙ by_over (ltb (limit_of grown.text) (length grown.text)) refl (eqb-false b 10 is)
 
   pub by_lines : (bs : List ℕ) (s : Progress A E) → s.end ≡ None → HasNoEnd s.text → length s.text ≤ limit_of s.text → Agrees bs s

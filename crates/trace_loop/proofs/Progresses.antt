@@ -114,15 +114,22 @@ module _ (A E : Type 0) (answer : ℕ → A → List ℕ → Answer A E) (closin
       let same : heard_until answer s.end b s ≡ s = ap (λ (o : Option E). heard_until answer o b s) e in
       ap (behind answer bs) same ∙ behind-ended bs s status e
 
+  -- a byte, by whether it is a line's end
+  pub heard-by : (b : ℕ) (s : Progress A E) (t : Bool) → s.end ≡ None → eqb b 10 ≡ t → heard_until answer s.end b s
+      ≡ cond t (answered answer s) (checked answer (record s { text = s.text ++ b ∷ [] }))
+  heard-by b s t e is = ap (λ (o : Option E). heard_until answer o b s) e
+      ∙ ap (λ (c : Bool). cond c (answered answer s) (checked answer (record s { text = s.text ++ b ∷ [] }))) is
+
+  -- another byte, by whether it is over the line's limit
+  heard-other : (b : ℕ) (s : Progress A E) (t : Bool) → s.end ≡ None → b ≢ 10 → ltb (limit_of (s.text ++ b ∷ [])) (length (s.text ++ b ∷ [])) ≡ t
+      → heard_until answer s.end b s ≡ cond t (answered answer (record s { text = s.text ++ b ∷ [] })) (record s { text = s.text ++ b ∷ [] })
+  heard-other b s t e other is = heard-by b s false e (ne_eqb b 10 other)
+      ∙ ap (λ (c : Bool). cond c (answered answer (record s { text = s.text ++ b ∷ [] })) (record s { text = s.text ++ b ∷ [] })) is
+
   -- a byte of a line
   heard-byte : (b : ℕ) (s : Progress A E) → s.end ≡ None → b ≢ 10 → length (s.text ++ b ∷ []) ≤ limit_of (s.text ++ b ∷ []) → heard_until answer s.end b s
       ≡ record s { text = s.text ++ b ∷ [] }
-  heard-byte b s e other short =
-      let fits : ltb (limit_of (s.text ++ b ∷ [])) (length (s.text ++ b ∷ []))
-      ≡ false = le-ltb (limit_of (s.text ++ b ∷ [])) (length (s.text ++ b ∷ [])) short in
-      ap (λ (o : Option E). heard_until answer o b s) e
-      ∙ ap (λ (t : Bool). cond t (answered answer s) (checked answer (record s { text = s.text ++ b ∷ [] }))) (ne_eqb b 10 other)
-      ∙ ap (λ (t : Bool). cond t (answered answer (record s { text = s.text ++ b ∷ [] })) (record s { text = s.text ++ b ∷ [] })) fits
+  heard-byte b s e other short = heard-other b s false e other (le-ltb (limit_of (s.text ++ b ∷ [])) (length (s.text ++ b ∷ [])) short)
 
   -- bytes of a line
   pub behind-bytes : (bs : List ℕ) (s : Progress A E) → s.end ≡ None → HasNoEnd bs → length (s.text ++ bs) ≤ limit_of (s.text ++ bs) → behind answer bs s
@@ -148,11 +155,7 @@ module _ (A E : Type 0) (answer : ℕ → A → List ℕ → Answer A E) (closin
   behind-excess [] s e none short long = absurd
       (let same : s.text ++ [] ≡ s.text = append-nil s.text in omega (arith, short, long, ap length same, ap limit_of same))
   behind-excess (b ∷ []) s e none short long =
-      let over : ltb (limit_of (s.text ++ b ∷ [])) (length (s.text ++ b ∷ []))
-      ≡ true = lt-ltb (limit_of (s.text ++ b ∷ [])) (length (s.text ++ b ∷ [])) (omega (arith, long)) in
-      ap (λ (o : Option E). heard_until answer o b s) e
-      ∙ ap (λ (t : Bool). cond t (answered answer s) (checked answer (record s { text = s.text ++ b ∷ [] }))) (ne_eqb b 10 none.0)
-      ∙ ap (λ (t : Bool). cond t (answered answer (record s { text = s.text ++ b ∷ [] })) (record s { text = s.text ++ b ∷ [] })) over
+      heard-other b s true e none.0 (lt-ltb (limit_of (s.text ++ b ∷ [])) (length (s.text ++ b ∷ [])) (omega (arith, long)))
   behind-excess (b ∷ c ∷ bs) s e none short long =
       let parts : (s.text ++ b ∷ []) ++ c ∷ bs ≡ s.text ++ b ∷ c ∷ bs = append_assoc s.text (b ∷ []) (c ∷ bs) in
       let whole : length ((s.text ++ b ∷ []) ++ c ∷ bs)

@@ -1,29 +1,18 @@
 -- Small rows that pin the definitions: a toy that prints each line after a colon, and ends at the line `end`.
-use Rattle.std.proofs.Common.{◌≡◌, ℕ, List, [], ◌∷◌, ◌++◌, cond, codes, Some, None, refl, replicate}
+use Rattle.std.proofs.Common.{◌≡◌, ℕ, List, [], ◌∷◌, ◌++◌, cond, codes, Some, None, map, refl, replicate}
 use Rattle.std.specs.Str.{bytes_eq}
 use Rattle.trace_loop.specs.ByLines.{lines_of}
 use Rattle.trace_loop.specs.Progress.{limit_of, Closing, Answer, Goes, Ends, Progress, opened, behind, finished}
 
-empty_lines_count : lines_of (codes "a\n\nb") ≡ codes "a" ∷ [] ∷ codes "b" ∷ []
+-- empty lines count, and the last line's end begins no line
+lines : map lines_of (codes "a\n\nb" ∷ codes "a\n" ∷ []) ≡ (codes "a" ∷ [] ∷ codes "b" ∷ []) ∷ (codes "a" ∷ []) ∷ []
 unfolding lines_of
-empty_lines_count = refl
+lines = refl
 
-last_line_end_begins_no_line : lines_of (codes "a\n") ≡ codes "a" ∷ []
-unfolding lines_of
-last_line_end_begins_no_line = refl
-
--- limits
-line_of_128_bytes : limit_of (codes "0 0 step") ≡ 128
+-- a line has at most 128 bytes, and more after `state` and a space
+limits : map limit_of (codes "0 0 step" ∷ codes "state 00" ∷ codes "state" ∷ []) ≡ 128 ∷ 200000 ∷ 128 ∷ []
 unfolding limit_of
-line_of_128_bytes = refl
-
-state_has_more : limit_of (codes "state 00") ≡ 200000
-unfolding limit_of
-state_has_more = refl
-
-state_alone_has_not : limit_of (codes "state") ≡ 128
-unfolding limit_of
-state_alone_has_not = refl
+limits = refl
 
 -- the toy: it counts the lines, and its end says how many there were
 abbrev toy : ℕ → ℕ → List ℕ → Answer ℕ ℕ
@@ -33,29 +22,23 @@ toy line count text =
 abbrev toy_closing : ℕ → ℕ → Closing ℕ
 toy_closing line count = record { text = codes "?"; end = 0 }
 
-abbrev toy_behind : List ℕ → Progress ℕ ℕ
-toy_behind bytes = behind toy bytes (opened 0)
+abbrev toy_after : List ℕ → Progress ℕ ℕ
+toy_after bytes = behind toy bytes (opened 0)
 
-part_of_a_line_is_not_answered : toy_behind (codes "a\nb") ≡ record { line = 2; text = codes "b"; state = 1; printed = codes ":a"; end = None }
+-- part of a line isn't answered, nor are bytes after the end
+parts_of_an_input : map toy_after (codes "a\nb" ∷ codes "end\nmore" ∷ [])
+    ≡ record { line = 2; text = codes "b"; state = 1; printed = codes ":a"; end = None }
+    ∷ record { line = 1; text = codes "end"; state = 0; printed = codes "!"; end = Some 1 } ∷ []
 unfolding limit_of
-part_of_a_line_is_not_answered = refl
+parts_of_an_input = refl
 
-bytes_behind_the_end : toy_behind (codes "end\nmore") ≡ record { line = 1; text = codes "end"; state = 0; printed = codes "!"; end = Some 1 }
+-- the last line needs no end of a line, and an input without the line `end` is closed
+whole_inputs : map (λ bytes. finished toy toy_closing (toy_after bytes)) (codes "a\nend" ∷ codes "a\n" ∷ [])
+    ≡ record { text = codes ":a!"; end = 2 } ∷ record { text = codes ":a?"; end = 0 } ∷ []
 unfolding limit_of
-bytes_behind_the_end = refl
+whole_inputs = refl
 
-last_line_needs_no_end : finished toy toy_closing (toy_behind (codes "a\nend")) ≡ record { text = codes ":a!"; end = 2 }
+-- a line is answered where it exceeds its limit
+excess : map (λ n. (toy_after (replicate n 120)).line) (128 ∷ 130 ∷ []) ≡ 1 ∷ 2 ∷ []
 unfolding limit_of
-last_line_needs_no_end = refl
-
-input_without_its_end : finished toy toy_closing (toy_behind (codes "a\n")) ≡ record { text = codes ":a?"; end = 0 }
-unfolding limit_of
-input_without_its_end = refl
-
-too_long_at_its_excess : (toy_behind (replicate 130 120)).line ≡ 2
-unfolding limit_of
-too_long_at_its_excess = refl
-
-within_its_limit : (toy_behind (replicate 128 120)).line ≡ 1
-unfolding limit_of
-within_its_limit = refl
+excess = refl
