@@ -3,4 +3,3 @@ mod Numbers
 mod Parsed
 mod Sizes
 mod Rows
-mod RowsJobs

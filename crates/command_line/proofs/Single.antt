@@ -265,7 +265,7 @@ walk_ s leaf w (word ∷ rest) =
     or (turn_fault s [] w word) (walk_fault s [] (walked s.rules [] w word) rest) (turn s leaf w word)
     (walk_ s leaf (walked s.rules [] w word) rest)
 
--- behind the walk
+-- after the walk
 default_ : (rows : List Row) (a : Rule) → Single (default_fault rows a)
 default_ rows a =
     choice (has_row a.id rows || is_empty a.defaults) [] _ none
@@ -298,7 +298,7 @@ fault_of-single words =
     subst (λ (kinds : Kinds). Single kinds) (sym (leaf_fault (built app) nothing_held words refl))
     (level (built app).top refl nothing_held words)
 
--- so the cause that an error tells is that one
+-- so the cause that an error names is that one
 pub by_kinds-among : (words : List Text) (kinds : Kinds) (rows : List Row) (k : ErrorKind) → length kinds ≤ 1 → IsAmong k kinds
     → refused_for words k ≡ by_kinds words kinds rows
 by_kinds-among words [] rows k few among = absurd among
