@@ -3,7 +3,7 @@ use Rattle.irq_edges.specs.declared.bursts.TheConstants.{BURST_PLACES}
 use Rattle.clockboard_c.specs.Replies.{burst_words, no_burst, AreKept}
 use Rattle.clockboard_c.proofs.reply.put_bursts.Given as goal
 
--- the bursts up to here stand in their places
+-- the bursts up to here are in their places
 abbrev pub invariant-loop-k : goal.invariant-loop-k
 invariant-loop-k l =
     (length l.places ≡ BURST_PLACES)

@@ -3,7 +3,7 @@ use Rattle.irq_edges.specs.declared.edges.TheConstants.{EDGE_PLACES}
 use Rattle.clockboard_c.specs.Replies.{edge_words, no_edge, AreKept}
 use Rattle.clockboard_c.proofs.reply.put_edges.Given as goal
 
--- the edges up to here stand in their places
+-- the edges up to here are in their places
 abbrev pub invariant-loop-k : goal.invariant-loop-k
 invariant-loop-k l =
     (length l.places ≡ EDGE_PLACES)
