@@ -105,7 +105,7 @@ legal_of_0 before es (PageRead pass cpu h page locked) may none = of_0 (PageRead
 legal_of_0 before es (HvRead pass h page locked) may none = of_0 (HvRead pass h page locked) es pass refl none
 legal_of_0 before es (Clamp pass cpu reading clock) may none = of_0 (Clamp pass cpu reading clock) es pass refl none
 
--- so a legal history without other passes has the entries of pass 0 alone, behind its opening
+-- so a legal history without other passes has the entries of pass 0 alone, after its opening
 alone_from : (before es : List Entry) → LegalFrom before es → NoneElse es → es ≡ entries_of 0 es
 alone_from before [] l none = refl
 alone_from before (e ∷ es) l none =
@@ -151,7 +151,7 @@ clock-on b cpu h reading clock page on told = (
   ap (with_greatest b) told ∙ sym (ap (λ (r : PageReply). record b { greatest = greatest_with b.greatest r }) on),
 )
 
--- the entries of a call, where no other pass comes between, tell what the plain board tells
+-- the entries of a call, where no other pass comes between, say what the plain board says
 abbrev IsPlain : List Entry → List Entry → ℕ → ℕ → Call → Answer → Type 0
 IsPlain before first cpu h call a =
     (a ≡ answer_on (board_after before) cpu h call) × (board_after (before ++ first) ≡ board_behind (board_after before) cpu h call)
@@ -283,7 +283,7 @@ next_board-cpus Finish b = refl
 next_board-cpus (Save line cpu h) b = after_access-cpus b cpu h _
 next_board-cpus (Move line cpu h host) b = moved-cpus host.khz host.start host.gap _ ∙ after_access-cpus b cpu h _
 
--- phases, one behind another
+-- phases, one after another
 phases_plain : (ds : Deliveries) (vs : List Phase) (b state : BoardParts) (out : List ℕ) (format : ℕ) → b.cpus ≡ 1
     → All (IsPhase 1 format) vs → race_text ds b vs state out
     → (out ≡ phases_text ds b vs) × (state ≡ replayed b vs [])

@@ -1,4 +1,4 @@
--- What is true of a check before each line stays true behind it.
+-- What is true of a check before each line stays true after it.
 use Rattle.std.proofs.Common.{◌≡◌, ℕ, ◌+◌, ◌<◌, ◌≤◌, Bool, true, false, cond, leb, List, Option, None, Result, Ok, Err, OnOk, refl, sym, subst, ◌∙◌, arith}
 use Rattle.std.proofs.lemmas.Bool.{leb-false}
 use Rattle.clk_units.specs.declared.NoMemory.{NoMemory}
@@ -40,14 +40,14 @@ use Rattle.trace_runner.specs.declared.status.Verdict.{Verdict}
 use Rattle.trace_runner.proofs.ReadyNext.{ready_next}
 use Rattle.trace_runner.proofs.Sounds.{Keeps, job_kept, read_sound, begun_sound}
 
--- behind a record that is kept
+-- after a record that is kept
 kept_ready : (line : ℕ) (rec : Written) (job : Job) (s : Checking) → s.taken < 200000 → IsReady (line + 1) s.replay
     → IsSound (kept_job line rec job s) → IsCheckReady (line + 1) (kept_job line rec job s)
 kept_ready line rec (Ask call) s room ready sound = record { replay = ready; few = omega arith; sound = sound }
 kept_ready line rec Save s room ready sound = record { replay = ready; few = omega arith; sound = sound }
 kept_ready line rec (Move khz start gap) s room ready sound = record { replay = ready; few = omega arith; sound = sound }
 
--- behind a record that is answered
+-- after a record that is answered
 answered_ready : (line : ℕ) (rec : Written) (s : Checking) (x : Answer BoardParts Verdict) → s.taken < 200000 → Keeps (kept line rec) s x
     → (end_of (with_board x s.replay) ≡ None → IsReady (line + 1) (state_behind (with_board x s.replay) s.replay))
     → end_of (checked_by (with_board x s.replay) line rec s) ≡ None
@@ -91,7 +91,7 @@ item_suits t (Begun header) b round valid = valid
 item_suits t (Next rec) b round valid = record_suits t rec b round valid
 item_suits t End b round valid = tt
 
--- behind an item
+-- after an item
 item_ready : (line : ℕ) (item : Item) (s : Checking) → s.taken ≤ 200000 → IsSound s → Suits item s.replay.board
     → (end_of (item_answer line item s.replay) ≡ None → IsReady (line + 1) (state_behind (item_answer line item s.replay) s.replay))
     → end_of (item_checked line item s) ≡ None → IsCheckReady (line + 1) (state_behind (item_checked line item s) s)
@@ -101,7 +101,7 @@ item_ready line (Begun header) s few sound suits next none = record { replay = n
 item_ready line (Next rec) s few sound suits next none = record_ready line rec s sound suits next none
 item_ready line End s few sound suits next none = let no : ⊥ = cc in absurd no
 
--- behind a line that was read, as a fact of the next line
+-- after a line that was read, as a fact of the next line
 pub check_next : {A : Type 0} (res : Result A NoMemory) (end : Option Checked) (line : ℕ) (item : Item) (s t new : Checking) (text : List ℕ)
     → IsCheckReady line s
     → taken s.replay.reading text ≡ Ok item → IsItem s.replay.reading.stage item

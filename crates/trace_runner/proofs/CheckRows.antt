@@ -18,26 +18,24 @@ use Rattle.race_phase.specs.declared.phases.End.TheVariants.{
 use Rattle.trace_runner.specs.declared.status.Verdict.TheVariants.{Stopped as StoppedAt}
 
 module _ (s : Checking) where
-  a_refusal_is_printed_alone : fault_checked 9 (record { line = 9; reason = OutOfForm }) (record s { taken = 4 })
+  -- a refusal is printed alone
+  a_refusal : fault_checked 9 (record { line = 9; reason = OutOfForm }) (record s { taken = 4 })
       ≡ record { text = refused_text 9 Form; end = Stopped (StoppedAt 9 Form) }
-  a_refusal_is_printed_alone = refl
+  a_refusal = refl
 
-  -- behind 200,000 records
+  -- after 200,000 records there is one too many, whatever it is, unless it is out of form and so no record;
+  -- the last record may have any reason
   one_record_too_many : (rec : Written) → record_checked 200009 rec (record s { taken = 200000 })
       ≡ Ends (record { text = refused_text 200009 Many; end = Stopped (StoppedAt 200009 Many) })
   one_record_too_many rec = refl
 
-  it_comes_before_the_processor : fault_checked 200009 (record { line = 200009; reason = NoSuchCpu }) (record s { taken = 200000 })
+  the_last_records : fault_checked 200009 (record { line = 200009; reason = NoSuchCpu }) (record s { taken = 200000 })
+      ∷ fault_checked 200009 (record { line = 200009; reason = OutOfForm }) (record s { taken = 200000 })
+      ∷ fault_checked 200008 (record { line = 200008; reason = NoSuchCpu }) (record s { taken = 199999 }) ∷ []
       ≡ record { text = refused_text 200009 Many; end = Stopped (StoppedAt 200009 Many) }
-  it_comes_before_the_processor = refl
-
-  a_line_out_of_form_is_no_record : fault_checked 200009 (record { line = 200009; reason = OutOfForm }) (record s { taken = 200000 })
-      ≡ record { text = refused_text 200009 Form; end = Stopped (StoppedAt 200009 Form) }
-  a_line_out_of_form_is_no_record = refl
-
-  the_last_record_may_have_any_reason : fault_checked 200008 (record { line = 200008; reason = NoSuchCpu }) (record s { taken = 199999 })
-      ≡ record { text = refused_text 200008 Cpu; end = Stopped (StoppedAt 200008 Cpu) }
-  the_last_record_may_have_any_reason = refl
+      ∷ record { text = refused_text 200009 Form; end = Stopped (StoppedAt 200009 Form) }
+      ∷ record { text = refused_text 200008 Cpu; end = Stopped (StoppedAt 200008 Cpu) } ∷ []
+  the_last_records = refl
 
   -- phases: a page of processor 0 is read by 1, then the board is saved, and moved
   abbrev first : Checking

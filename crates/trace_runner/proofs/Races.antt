@@ -7,19 +7,6 @@ use Rattle.trace_loop.specs.Progress.{opened, behind}
 use Rattle.trace_loop.specs.Outcome.{Run, Outcome, run_over}
 use Rattle.trace_loop.specs.declared.ended.Ended.{Ended}
 use Rattle.trace_loop.specs.declared.ended.Ended.TheVariants.{By}
-use Rattle.reply_text.specs.declared.ends.Refused.TheVariants.{
-  Form,
-  Steal,
-  Cpu,
-  Fell,
-  State,
-  Long,
-  Many,
-  NoEnd,
-  Range,
-  Versions as LastVersion,
-  Spent as AllSpent,
-}
 use Rattle.trace_runner.specs.Checking.{Checking}
 use Rattle.trace_runner.specs.Check.{
   check_start,
@@ -37,12 +24,11 @@ use Rattle.trace_runner.specs.Trace.{TraceRead}
 use Rattle.trace_runner.specs.declared.check.Checked.{Checked}
 use Rattle.trace_runner.specs.declared.check.Checked.TheVariants.{Whole, Stopped}
 use Rattle.trace_runner.specs.declared.status.Status.{Status}
-use Rattle.trace_runner.specs.declared.status.Status.TheVariants.{Ok, SourceFault, SinkFault, NoMemory}
+use Rattle.trace_runner.specs.declared.status.Status.TheVariants.{Ok, NoMemory}
 use Rattle.trace_runner.specs.declared.status.Verdict.{Verdict}
-use Rattle.trace_runner.specs.declared.status.Verdict.TheVariants.{Done, Stopped as StoppedAt}
 use Rattle.trace_runner.proofs.Together.{replay_whole}
 
--- a text that is put behind nothing
+-- a text that is put after nothing
 said_behind : (status result : Status) (old mid new : Option (List ℕ)) (text : List ℕ) (shown shown' : Type 0) → (shown → shown') → Appends old mid []
     → Said status result mid new text shown → Said status result old new text shown'
 said_behind status result old mid new text shown shown' shows front said = elim said [
@@ -102,35 +88,6 @@ stopped_left w v result old new shown is o =
       o.1.1.1,
       subst (λ (x : Checked). CheckedLeaves x w.whole.text result old new shown) o.0 (is, subst (λ (text : List ℕ). Appends old new text) o.1.1.0 o.1.2),
     )
-
--- no verdict is a fault
-pub verdict_no_source : (v : Verdict) → verdict_status v ≡ SourceFault → ⊥
-verdict_no_source Done is = cc
-verdict_no_source (StoppedAt line Form) is = cc
-verdict_no_source (StoppedAt line Steal) is = cc
-verdict_no_source (StoppedAt line Cpu) is = cc
-verdict_no_source (StoppedAt line (Fell before)) is = cc
-verdict_no_source (StoppedAt line (State at)) is = cc
-verdict_no_source (StoppedAt line Long) is = cc
-verdict_no_source (StoppedAt line Many) is = cc
-verdict_no_source (StoppedAt line NoEnd) is = cc
-verdict_no_source (StoppedAt line (Range ns)) is = cc
-verdict_no_source (StoppedAt line (LastVersion version)) is = cc
-verdict_no_source (StoppedAt line (AllSpent number)) is = cc
-
-pub verdict_no_sink : (v : Verdict) → verdict_status v ≡ SinkFault → ⊥
-verdict_no_sink Done is = cc
-verdict_no_sink (StoppedAt line Form) is = cc
-verdict_no_sink (StoppedAt line Steal) is = cc
-verdict_no_sink (StoppedAt line Cpu) is = cc
-verdict_no_sink (StoppedAt line (Fell before)) is = cc
-verdict_no_sink (StoppedAt line (State at)) is = cc
-verdict_no_sink (StoppedAt line Long) is = cc
-verdict_no_sink (StoppedAt line Many) is = cc
-verdict_no_sink (StoppedAt line NoEnd) is = cc
-verdict_no_sink (StoppedAt line (Range ns)) is = cc
-verdict_no_sink (StoppedAt line (LastVersion version)) is = cc
-verdict_no_sink (StoppedAt line (AllSpent number)) is = cc
 
 -- a check that began before the first line
 pub checked_run : (shows_state : Bool) (input : List ℕ) (start end : Input) (s : Checking) (e : Ended Checked) (old new : Option (List ℕ))

@@ -1,4 +1,4 @@
--- What is true of a replay before each line stays true behind it.
+-- What is true of a replay before each line stays true after it.
 use Rattle.std.proofs.Common.{
   ◌≡◌,
   ℕ,
@@ -96,7 +96,7 @@ use Rattle.trace_runner.specs.Ready.{IsRound, IsReady}
 use Rattle.trace_runner.specs.declared.replay.Replay.{Replay}
 use Rattle.trace_runner.specs.declared.status.Verdict.{Verdict}
 
--- behind an item the reader's stage goes with the board that the item leaves
+-- after an item the reader's stage goes with the board that the item leaves
 abbrev Onward : Item → Stage → BoardParts → Type 0
 Onward Skipped t b = IsRound t b
 Onward Part t b = IsRound t b
@@ -205,7 +205,7 @@ same_job line cpu h (Ask ReadHv) ds b = same_read _ line _ b b refl refl
 same_job line cpu h Save ds b = same_end _ (BySave line cpu h) ds b
 same_job line cpu h (Move khz start gap) ds b = same_end _ (ByMove line cpu h (record { khz = khz; start = start; gap = gap })) ds b
 
--- behind a record
+-- after a record
 record_ready : (line : ℕ) (t : Stage) (r : Replay) (x : Answer BoardParts Verdict) → r.reading.lines ≡ line → r.reading.stage ≡ t → IsRound t r.board
     → Same r.board x
     → end_of (with_board x r) ≡ None → IsReady (line + 1) (state_behind (with_board x r) r)
@@ -215,7 +215,7 @@ record_ready line t r (Goes text b) count is round same none = record {
 }
 record_ready line t r (Ends closing) count is round same none = cc
 
--- behind an item
+-- after an item
 item_ready : (line : ℕ) (item : Item) (t : Stage) (r : Replay) → r.reading.lines ≡ line → r.reading.stage ≡ t → Onward item t r.board
     → end_of (item_answer line item r) ≡ None → IsReady (line + 1) (state_behind (item_answer line item r) r)
 item_ready line Skipped t r count is round none = record { count = omega (arith, count); round = subst (λ (s : Stage). IsRound s r.board) (sym is) round }
@@ -230,7 +230,7 @@ item_ready line (Next rec) t r count is round none =
     (same_job line rec.cpu rec.h rec.job r.deliveries r.board) none
 item_ready line End t r count is round none = cc
 
--- behind a step of the reader
+-- after a step of the reader
 step_ready : (line n : ℕ) (x : Result Stepped Reason) (item : Item) (r : Replay) → n ≡ line → Fits r.board x → answer_in n x ≡ Ok item
     → (let r' : Replay = record r { reading = record { lines = n; stage = stage_behind n x } } in end_of (item_answer line item r') ≡ None
     → IsReady (line + 1) (state_behind (item_answer line item r') r'))
@@ -240,7 +240,7 @@ step_ready line n (Ok step) item r count fit took = λ none.
     item_ready line item step.stage (record r { reading = record { lines = n; stage = step.stage } }) count refl
     (subst (λ (i : Item). Onward i step.stage r.board) same fit) none
 
--- behind a line that was read
+-- after a line that was read
 pub ready_next : (line : ℕ) (r : Replay) (text : List ℕ) (item : Item) → IsReady line r → taken r.reading text ≡ Ok item
     → (let r' : Replay = record r { reading = behind text r.reading } in end_of (item_answer line item r') ≡ None
     → IsReady (line + 1) (state_behind (item_answer line item r') r'))

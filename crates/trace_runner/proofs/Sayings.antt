@@ -15,13 +15,6 @@ said-whole s saying result old new shown is said =
     let same : s ≡ saying = cc in
     subst (λ (x : Saying). SaidAtMost x.status result old new x.text shown) same (inl said)
 
--- and where memory may run out
-pub said-at_most : (s saying : Saying) (result : Status) (old new : Option (List ℕ)) (shown : Type 0) → Some s ≡ Some saying
-    → SaidAtMost s.status result old new s.text shown → SaidAtMost saying.status result old new saying.text shown
-said-at_most s saying result old new shown is said =
-    let same : s ≡ saying = cc in
-    subst (λ (x : Saying). SaidAtMost x.status result old new x.text shown) same said
-
 -- the flag that a command names is the one with which it is done
 pub replay-same : (a b : Bool) → Replay a ≡ Replay b → a ≡ b
 replay-same a b is = cc

@@ -65,7 +65,7 @@ pub soaked-ends : (a : Answer Replay Verdict) (s : Soak) (v : Verdict) → end_o
 soaked-ends (Goes block r) s v e = cc
 soaked-ends (Ends closing) s v e = cc
 
--- a text in the place of what stands behind another
+-- a text in the place of what is after another
 pub in_place : (front old new : List ℕ) (whole : ℕ) (f : List ℕ → List ℕ) → whole ≡ length front
     → new ≡ take whole (front ++ old) ++ f (drop whole (front ++ old))
     → new ≡ front ++ f old

@@ -5,7 +5,6 @@ use Rattle.std.proofs.Common.{
   ◌<◌,
   ◌≤◌,
   ◌^◌,
-  Bool,
   true,
   List,
   [],
@@ -36,7 +35,6 @@ use Rattle.board_core.specs.Access.{after_access}
 use Rattle.board_core.specs.Hv.{hv_reply}
 use Rattle.board_types.specs.declared.setup.TheConstants.{HV_FORMAT}
 use Rattle.board_core.specs.Pages.{page_reply, clock_reply, after_clock, with_greatest}
-use Rattle.board_core.specs.PowerOn.{board_at_power_on}
 use Rattle.board_core.specs.Refusals.{refusal_of}
 use Rattle.board_core.proofs.Laws.{after_access-greatest, refusal_of-greatest}
 use Rattle.race_phase.specs.declared.faults.Cause.TheVariants.{Access as ByAccess, Count as ByCount}
@@ -68,15 +66,7 @@ use Rattle.race_phase.specs.Calls.{IsFitting}
 use Rattle.race_phase.specs.Order.{at_line, record_fault, after_record, after_records, records_fault}
 use Rattle.race_phase.specs.Phases.{IsPhase, IsEnd, next_board, end_fault}
 use Rattle.race_phase.specs.declared.faults.Fault.{Fault}
-use Rattle.trace_runner.specs.Check.{
-  check_start,
-  with_call,
-  with_end,
-  ended_by,
-  kept_job,
-  begun,
-  read_on,
-}
+use Rattle.trace_runner.specs.Check.{with_call, with_end, ended_by, kept_job, begun, read_on}
 use Rattle.trace_runner.specs.Checking.{Checking}
 use Rattle.trace_runner.specs.Free.{after_phases, IsFree}
 use Rattle.trace_runner.specs.Sound.{IsSound}
@@ -135,7 +125,7 @@ end_goes : (b : BoardParts) (g : ℕ) (ds : Deliveries) (end : End) (o : Option 
 end_goes b g ds end None is = (sym (end_fault-greatest end b g) ∙ is, (g, next_board-greatest end b g))
 end_goes b g ds end (Some fault) is = tt
 
--- the board of file order behind what was kept
+-- the board of file order after what was kept
 abbrev now : Checking → BoardParts
 now s = after_records (after_phases s.opening s.phases) s.last
 
@@ -263,20 +253,6 @@ nothing_free b = record { fit = All-nil (IsPhase b.cpus b.format); free = refl }
 pub begun_sound : (header : Header) (s : Checking) → IsSound (begun header s)
 begun_sound header s =
     let b : BoardParts = board_of header.begin in
-    record {
-      done = nothing_free b;
-      fit = All-nil (IsFitting b.cpus b.format);
-      free = refl;
-      greatest = b.greatest;
-      board = refl;
-      cpus = refl;
-      format = refl;
-      few = omega arith;
-    }
-
-pub start_sound : (shows_state : Bool) → IsSound (check_start shows_state)
-start_sound shows_state =
-    let b : BoardParts = board_at_power_on opening in
     record {
       done = nothing_free b;
       fit = All-nil (IsFitting b.cpus b.format);

@@ -110,7 +110,7 @@ use Rattle.trace_runner.specs.WholeLines.{IsWholeLines}
 use Rattle.trace_runner.specs.declared.replay.Replay.{Replay}
 use Rattle.trace_runner.specs.declared.status.Verdict.{Verdict}
 
--- the end of a line stands last
+-- the end of a line is last
 abbrev EndsLine : List ℕ → Type 0
 EndsLine text = (front : List ℕ) × (text ≡ front ++ 10 ∷ [])
 
@@ -265,7 +265,7 @@ behind_whole : (bytes : List ℕ) (p : Progress Replay Verdict) → IsWholeLines
 behind_whole [] p before = before
 behind_whole (b ∷ bs) p before = behind_whole bs (heard_until answer_of p.end b p) (until_whole p.end b p before)
 
--- what a replay has printed behind any bytes
+-- what a replay has printed after any bytes
 pub progress_whole : (shows_state : Bool) (bytes : List ℕ) → IsWholeLines (progress_behind shows_state bytes).printed
 unfolding progress_behind
 progress_whole shows_state bytes = behind_whole bytes (opened (at_start shows_state)) (inl refl)

@@ -11,7 +11,7 @@ use Rattle.trace_runner.specs.Replayed.{replayed, on_board}
 use Rattle.trace_runner.proofs.Replayed.{replayed-end, ended}
 use Rattle.trace_runner.proofs.check.Check.end_phase.Goals as goal
 
--- the board behind the phases, and behind one more that was read
+-- the board after the phases, and after one more that was read
 ended_board : (b : BoardParts) (vs ws : List Phase) (rs last : List Record) (end : End) → ws ≡ vs ++ record { records = last; end = end } ∷ [] → rs ≡ []
     → replayed b ws rs ≡ next_board end (replayed b vs last)
 ended_board b vs ws rs last end f g =
