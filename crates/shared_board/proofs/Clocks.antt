@@ -9,8 +9,8 @@ use Rattle.pvclock_page.specs.declared.page.ClockReply.TheVariants.{Off as Clock
 use Rattle.host_counter.specs.declared.Anchor.{Anchor}
 use Rattle.board_types.specs.declared.parts.BoardParts.{BoardParts}
 use Rattle.board_core.specs.Pages.{reading_by}
-use Rattle.board_history.specs.Machine.{Machine, machine_of, ratio_in}
-use Rattle.board_history.specs.History.{floor_after, entries_of, last_of, Reads}
+use Rattle.board_history.specs.Machine.{machine_of, ratio_in}
+use Rattle.board_history.specs.History.{floor_after}
 use Rattle.board_history.specs.declared.entry.Entry.{Entry}
 use Rattle.board_history.specs.declared.entry.Entry.TheVariants.{Opened, Board, PageRead, HvRead, Clamp}
 use Rattle.board_history.proofs.Laws.{board_after-snoc, legal-floor}
@@ -59,12 +59,6 @@ read_last s cpu h locked reply p q r = record {
   last = made_last p q (PageRead p.number cpu h r.page locked) r.made ∙ ap (λ (n : ℕ). Some (PageRead n cpu h r.page locked)) (sym r.made.number);
   answer = r.answer;
 }
-
--- so a clamp may come after it
-pub last_reads : (m : Machine) (cpu x : ℕ) (page : Page) (p : PassKnown) → IsLastRead m cpu (On page x) p → Reads m (last_of (entries_of p.number p.seen)) cpu x
-last_reads m cpu x page p l =
-    let a = answer-on l.page.enabled page l.page x (reading_by (ratio_in m) l.page l.h) l.answer in
-    subst (λ (o : Option Entry). Reads m o cpu x) (sym l.last) (refl, a.0, sym a.1)
 
 -- the clamp
 pub clamp_known : (n cpu x clock : ℕ) (v w : View) → IsAtRest n v → Hears (Clamp (number_in v) cpu x clock) v w

@@ -36,14 +36,6 @@ made_late p q r es a b = record {
   mine = b.mine ∙ ap (λ l. l ++ es) a.mine;
 }
 
-pub unmade_late : (p q r : PassKnown) → Unanswered p q → Unanswered q r → Unanswered p r
-unmade_late p q r a b = record {
-  number = b.number ∙ a.number;
-  more = prefix_trans p.seen q.seen r.seen a.more b.more;
-  legal = b.legal;
-  mine = b.mine ∙ a.mine;
-}
-
 -- the entry that a call made last is the last of its pass
 pub made_last : (p q : PassKnown) (e : Entry) → Made p q (e ∷ []) → last_of (mine q) ≡ Some e
 made_last p q e m = ap last_of m.mine ∙ last_of-snoc (mine p) e
