@@ -47,10 +47,6 @@ end_legal s h (Move line cpu hh host) legal opens fits free =
     (line_none line (option_or (option_map ByAccess (refusal_of b cpu hh Step)) (option_map ByMove (move_fault host.gap (after_access b cpu hh Step)))) free) in
     step_more s h cpu hh legal opens fits.0 (access_none (refusal_of b cpu hh Step) both.0)
 
--- the causes of an end that is not refused
-pub save_free : (b : BoardParts) (line cpu h : ℕ) → end_fault b (Save line cpu h) ≡ None → refusal_of b cpu h Step ≡ None
-save_free b line cpu h free = access_none (refusal_of b cpu h Step) (line_none line (option_map ByAccess (refusal_of b cpu h Step)) free)
-
 pub phase_ended : (s : BoardParts) (ds : Deliveries) (v : Phase) (mid next : BoardParts) (block out : List ℕ)
     → PhaseTold s ds v.records mid block
     → IsEnd mid.cpus v.end → end_fault mid v.end ≡ None → next ≡ next_board v.end mid → out ≡ block ++ end_text ds v.end mid → PhaseEnded s ds v next out

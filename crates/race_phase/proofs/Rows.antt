@@ -1,6 +1,6 @@
 -- Small rows that pin the definitions: what a record and the end of a phase print, and which entries
 -- answer the calls of a processor.
-use Rattle.std.proofs.Common.{◌≡◌, ℕ, ◌%◌, ◌<◌, ◌⊎◌, List, [], ◌∷◌, true, false, Bool, Some, pos, refl}
+use Rattle.std.proofs.Common.{◌≡◌, ℕ, ◌%◌, ◌<◌, ◌⊎◌, List, [], ◌∷◌, true, false, Bool, Some, map, pos, refl}
 use Rattle.std.specs.Prelude.{codes}
 use Rattle.std.specs.Fmt.{digits}
 use Rattle.tsc_scale.specs.Offset.{tsc_by}
@@ -26,6 +26,7 @@ use Rattle.reply_text.specs.Words.{hex_text}
 use Rattle.reply_text.specs.Text.{edge_text, msg_text, value_text, page_text, clock_text, hv_text}
 use Rattle.transfer.specs.Move.{moved_to}
 use Rattle.race_phase.specs.declared.deliveries.Deliveries.{Deliveries}
+use Rattle.race_phase.specs.declared.phases.End.{End}
 use Rattle.race_phase.specs.declared.phases.End.TheVariants.{Finish, Save, Move}
 use Rattle.race_phase.specs.declared.records.Answer.TheVariants.{Acted, PageIs, ClockIs, HvIs}
 use Rattle.trace_text.specs.declared.records.Call.TheVariants.{Act, ReadPage, ReadClock}
@@ -72,23 +73,9 @@ routed = record {
       ∷ Some (record { cpu = 0; vector = 0x34 }) ∷ Some (record { cpu = 1; vector = 0x35 }) ∷ [];
 }
 
-rises_of_line_0 : delivery_to routed 0 ≡ Some (record { cpu = 0; vector = 0x30 })
-rises_of_line_0 = refl
-
-rises_of_line_8 : delivery_to routed 8 ≡ Some (record { cpu = 1; vector = 0x31 })
-rises_of_line_8 = refl
-
-rises_of_line_20 : delivery_to routed 20 ≡ Some (record { cpu = 0; vector = 0x32 })
-rises_of_line_20 = refl
-
-rises_of_line_21 : delivery_to routed 21 ≡ Some (record { cpu = 1; vector = 0x33 })
-rises_of_line_21 = refl
-
-rises_of_line_22 : delivery_to routed 22 ≡ Some (record { cpu = 0; vector = 0x34 })
-rises_of_line_22 = refl
-
-rises_of_line_23 : delivery_to routed 23 ≡ Some (record { cpu = 1; vector = 0x35 })
-rises_of_line_23 = refl
+-- rises of the lines, in the order of their deliveries
+rises : map (delivery_to routed) (0 ∷ 8 ∷ 20 ∷ 21 ∷ 22 ∷ 23 ∷ []) ≡ routed.lines
+rises = refl
 
 -- blocks: edges, messages, the reply
 an_access : block_of routed 7 (Acted (record {
@@ -101,42 +88,28 @@ an_access : block_of routed 7 (Acted (record {
 unfolding block_of edge_text msg_text message_to value_text hex_text digits
 an_access = refl
 
-a_page : block_of routed 8 (PageIs (PageOn page 900)) ≡ codes "8 page 2 0 0 80000000 0 01 900\n"
+-- a page, a clock and the reference page, on and off
+pages : map (block_of routed 8) (PageIs (PageOn page 900) ∷ PageIs PageOff ∷ [])
+    ≡ codes "8 page 2 0 0 80000000 0 01 900\n" ∷ codes "8 page off\n" ∷ []
 unfolding block_of page_text hex_text digits
-a_page = refl
+pages = refl
 
-a_page_that_is_off : block_of routed 8 (PageIs PageOff) ≡ codes "8 page off\n"
-unfolding block_of page_text digits
-a_page_that_is_off = refl
-
-a_clock : block_of routed 9 (ClockIs (On 900 1000)) ≡ codes "9 clock 900 1000\n"
-unfolding block_of clock_text digits
-a_clock = refl
-
-a_reference_page_that_is_off : block_of routed 9 (HvIs HvOff) ≡ codes "9 hv off\n"
-unfolding block_of hv_text digits
-a_reference_page_that_is_off = refl
+clocks : map (block_of routed 9) (ClockIs (On 900 1000) ∷ HvIs HvOff ∷ []) ≡ codes "9 clock 900 1000\n" ∷ codes "9 hv off\n" ∷ []
+unfolding block_of clock_text hv_text digits
+clocks = refl
 
 -- what ends a phase: nothing, a save, a move
-no_end_leaves_the_board : (b : BoardParts) → next_board Finish b ≡ b
-no_end_leaves_the_board b = refl
+abbrev ends : List End
+ends = Finish ∷ Save 9 1 100 ∷ Move 9 1 100 (record { khz = 3000000; start = 500; gap = 40 }) ∷ []
 
-a_save_leaves : (b : BoardParts) → next_board (Save 9 1 100) b ≡ after_access b 1 100 Step
-a_save_leaves b = refl
+next_boards : (b : BoardParts) → map (λ e. next_board e b) ends
+    ≡ b ∷ after_access b 1 100 Step ∷ moved_to 3000000 500 40 (after_access b 1 100 Step) ∷ []
+next_boards b = refl
 
-a_move_leaves : (b : BoardParts) → next_board (Move 9 1 100 (record { khz = 3000000; start = 500; gap = 40 })) b
-    ≡ moved_to 3000000 500 40 (after_access b 1 100 Step)
-a_move_leaves b = refl
-
-no_entry_of_no_end : (b : BoardParts) → end_entries Finish b ≡ []
-no_entry_of_no_end b = refl
-
-the_entry_of_a_save : (b : BoardParts) → end_entries (Save 9 1 100) b ≡ Board 1 1 100 Step (reply_of b 1 100 Step) ∷ []
-the_entry_of_a_save b = refl
-
-the_entry_of_a_move : (b : BoardParts) → end_entries (Move 9 1 100 (record { khz = 3000000; start = 500; gap = 40 })) b
-    ≡ Board 1 1 100 Step (reply_of b 1 100 Step) ∷ []
-the_entry_of_a_move b = refl
+-- the entry of a save and that of a move are the same
+entries_of_ends : (b : BoardParts) → map (λ e. end_entries e b) ends
+    ≡ [] ∷ (Board 1 1 100 Step (reply_of b 1 100 Step) ∷ []) ∷ (Board 1 1 100 Step (reply_of b 1 100 Step) ∷ []) ∷ []
+entries_of_ends b = refl
 
 -- Calls and their entries: of a clock, the clamp only where the page is enabled
 a_page_that_is_read : (es : List Entry) → CallMade at_power_on 1 1 900 (ReadPage 0) (PageIs PageOff) es
@@ -166,11 +139,8 @@ step line h = record { line = line; cpu = 1; h = h; call = Act Step }
 abbrev records : List Record
 records = enable ∷ step 6 0 ∷ clock ∷ step 8 3 ∷ []
 
-records_of_0 : records_of 0 records ≡ enable ∷ clock ∷ []
-records_of_0 = refl
-
-records_of_1 : records_of 1 records ≡ step 6 0 ∷ step 8 3 ∷ []
-records_of_1 = refl
+records_of_each : map (λ cpu. records_of cpu records) (0 ∷ 1 ∷ []) ≡ (enable ∷ clock ∷ []) ∷ (step 6 0 ∷ step 8 3 ∷ []) ∷ []
+records_of_each = refl
 
 abbrev enabled : ℕ → Entry
 enabled number = Board 0 0 0 (MsrWrite 0x4b564d01 1) (reply number)

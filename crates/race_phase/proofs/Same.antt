@@ -141,9 +141,6 @@ size_call b cpu h (ReadPage page) = refl
 size_call b cpu h (ReadClock page) = refl
 size_call b cpu h ReadHv = refl
 
-pub size_record : (b : BoardParts) (r : Record) → size_of (after_record b r) ≡ size_of b
-size_record b r = size_call b r.cpu r.h r.call
-
 pub size_records : (b : BoardParts) (rs : List Record) → size_of (after_records b rs) ≡ size_of b
 size_records b [] = refl
 size_records b (r ∷ rs) = size_records (after_record b r) rs ∙ size_call b r.cpu r.h r.call
@@ -394,10 +391,6 @@ phases_rest b c v vs same all = subst (λ (z : ℕ × ℕ). All (IsPhase z.0 z.1
 pub alike_size : (b c : BoardParts) → AreAlike b c → size_of c ≡ size_of b
 unfolding size_of
 alike_size b c s = sym (ap (λ (m : Machine). (m.cpus, m.format)) s.counts.machine)
-
-pub phase_fits : (b c : BoardParts) (v : Phase) → size_of c ≡ size_of b → IsPhase b.cpus b.format v → IsPhase c.cpus c.format v
-unfolding size_of
-phase_fits b c v same fits = subst (λ (z : ℕ × ℕ). IsPhase z.0 z.1 v) (sym same) fits
 
 -- a whole trace
 pub phase_ends_alike : (b c : BoardParts) (v : Phase) → AreAlike b c → IsPhase b.cpus b.format v → AreAlike (after_phase b v) (after_phase c v)

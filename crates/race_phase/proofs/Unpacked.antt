@@ -1,8 +1,8 @@
 -- The packed records of a phase: each by its place, and one more.
-use Rattle.std.proofs.Common.{◌≡◌, ℕ, zero, suc, ◌+◌, ◌<◌, ◌≤◌, List, [], ◌∷◌, ◌++◌, length, length-append, get_or, take, All, Option, Some, None, IfSome, IfNone, refl, sym, ap, subst, ◌∙◌, arith}
+use Rattle.std.proofs.Common.{◌≡◌, ℕ, zero, suc, ◌+◌, ◌<◌, ◌≤◌, List, [], ◌∷◌, ◌++◌, length, get_or, take, All, Option, Some, None, IfSome, IfNone, refl, sym, ap, ◌∙◌, arith}
 use Rattle.std.specs.Prelude.{slice_get}
 use Rattle.std.proofs.lemmas.List.{get_or_append_left, get_or_default, take-append-le, take_all}
-use Rattle.std.proofs.lemmas.List.Elements.{All-push, All-head, All-tail}
+use Rattle.std.proofs.lemmas.List.Elements.{All-head, All-tail}
 use Rattle.trace_text.specs.declared.records.Call.{Call}
 use Rattle.race_phase.specs.declared.records.Record.{Record}
 use Rattle.race_phase.specs.declared.packed.Packed.{Packed}
@@ -53,10 +53,6 @@ module _ (old more : List Record) where
   same_by None cpu p inside =
       ap (λ (r : Record). let x : Record = record { line = r.line; cpu = cpu; h = r.h; call = r.call } in x) (get_or_append_left old more _ p.h inside)
 
-  inside_by : (o : Option Call) (p : Packed) → IfNone o (p.h < length old) → IfNone o (p.h < length (old ++ more))
-  inside_by (Some call) p inside = tt
-  inside_by None p inside = omega (arith, length-append old more)
-
   all_same : (cpus : List ℕ) (ps : List Packed) → All (IsIn old) ps → unpacked_all (old ++ more) cpus ps ≡ unpacked_all old cpus ps
   all_same [] ps inside = refl
   all_same (c ∷ cs) [] inside = refl
@@ -74,22 +70,10 @@ all_pushed wide (c ∷ cs) [] cpu p alike = absurd (omega arith)
 all_pushed wide (c ∷ cs) (q ∷ qs) cpu p alike = ap (λ (l : List Record). unpacked wide c q ∷ l) (all_pushed wide cs qs cpu p (omega arith))
 
 module _ (old new : List Record) (cpus : List ℕ) (ps : List Packed) (kept : ArePacked old cpus ps) (more : Extends old new) where
-  pub still_packed : ArePacked new cpus ps
-  still_packed = subst (λ (w : List Record). ArePacked w cpus ps) (sym more.1) (record {
-    alike = kept.alike;
-    inside = λ i d below. inside_by old more.0 (call_of (get_or ps i d).what) (get_or ps i d) (kept.inside i d below);
-  })
-
   pub unpacked-more : unpacked_all new cpus ps ≡ unpacked_all old cpus ps
   unpacked-more = ap (λ (w : List Record). unpacked_all w cpus ps) more.1 ∙ all_same old more.0 cpus ps kept.inside
 
   module _ (cpu : ℕ) (p : Packed) where
-    pub pushed_packed : IsIn new p → ArePacked new (cpus ++ cpu ∷ []) (ps ++ p ∷ [])
-    pushed_packed inside = record {
-      alike = (let a = kept.alike in omega (arith, length-append cpus (cpu ∷ []), length-append ps (p ∷ []), a));
-      inside = All-push (IsIn new) ps p still_packed.inside inside;
-    }
-
     pub unpacked-pushed : (r : Record) → unpacked new cpu p ≡ r
         → unpacked_all new (cpus ++ cpu ∷ []) (ps ++ p ∷ []) ≡ unpacked_all old cpus ps ++ r ∷ []
     unpacked-pushed r is =

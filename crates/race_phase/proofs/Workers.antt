@@ -232,16 +232,6 @@ blocks_more ds rs ts i d e out xs ys l m before is =
     is ∙ ap (λ (z : List ℕ). z ++ b) before ∙ append_assoc out (places_text ds (take i rs) (take i ts)) b
     ∙ ap (λ (z : List ℕ). out ++ z) (sym (places_text-take ds rs ts i d e l m))
 
--- before the first record of a batch
-pub answered_none : (s : BoardParts) (p : PassKnown) → AllAnswered s [] [] p p
-answered_none s p = record {
-  number = refl;
-  long = refl;
-  made = λ ds done out all.
-      subst (λ (z : List Record × List ℕ). AllMade s ds p.number z.0 z.1 (mine p)) (λ i. (sym (append-nil done) i, sym (append-nil out) i)) all;
-  tried = λ t. t;
-}
-
 -- one record more in its place
 pub answered_more : (s : BoardParts) (rs : List Record) (ts : List Place) (r : Record) (t : Place) (p q z : PassKnown) → AllAnswered s rs ts p q
     → IsMade s r (answer_with t.told t.reply) q z → AllAnswered s (rs ++ r ∷ []) (ts ++ t ∷ []) p z
@@ -268,12 +258,6 @@ batch_step s rs ts us i d t p q z l m is all made =
     let e : take (i + 1) us ≡ take i ts ++ t ∷ [] = ap (take (i + 1)) is ∙ take_more_set ts i t m in
     subst (λ (y : List Record × List Place). AllAnswered s y.0 y.1 p z) (λ k. (sym (take_next rs i d l) k, sym e k))
     (answered_more s (take i rs) (take i ts) (get_or rs i d) t p q z all made)
-
--- the same of other names
-pub answered_as : (s : BoardParts) (rs : List Record) (d e : ℕ) (ts us : List Place) (p q z : PassKnown) → e ≡ d → us ≡ ts → z ≡ q
-    → AllAnswered s (take d rs) (take d ts) p q → AllAnswered s (take e rs) (take e us) p z
-answered_as s rs d e ts us p q z here places pass all =
-    subst (λ (x : ℕ × List Place × PassKnown). AllAnswered s (take x.0 rs) (take x.0 x.1) p x.2) (λ k. (sym here k, sym places k, sym pass k)) all
 
 -- a record of a batch that is not answered
 halted_at : (s : BoardParts) (rs : List Record) (i : ℕ) (d : Record) (ts : List Place) (p q z : PassKnown) → i < length rs
@@ -323,15 +307,6 @@ read_fits cpus format rs i r is fit =
     subst (IsFitting cpus format) (get_or_from_slice_get rs i r r is) (fit i r (slice_get_within rs i r is))
 
 module _ (s : BoardParts) (ds : Deliveries) (n : ℕ) where
-  -- a new pass
-  pub none_waits : (p : PassKnown) → mine p ≡ [] → p.misses ≡ [] → AllButLast s ds n [] [] [] p
-  none_waits p fresh none = record {
-    done = [];
-    whole = refl;
-    made = (refl, fresh);
-    tried = subst (λ (z : List Entry × List Miss). AllTried s.cpus z.0 z.1) (λ i. (sym fresh i, sym none i)) refl;
-  }
-
   -- a record that another processor has
   pub next_skipped : (i : ℕ) (rs : List Record) (d : Record) (ws : List Record) (xs : List ℕ) (p : PassKnown) → i < length rs → (get_or rs i d).cpu ≢ n
       → AllButLast s ds n (records_of n (take i rs)) ws xs p → AllButLast s ds n (records_of n (take (i + 1) rs)) ws xs p

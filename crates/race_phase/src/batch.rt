@@ -5,7 +5,6 @@ ghost use Rattle.std.specs.Bool.{OnTrue};
 ghost use Rattle.board_history.specs.History.{IsLegal};
 ghost use Rattle.race_phase.specs.Calls.{IsFitting};
 ghost use Rattle.race_phase.specs.private.Workers.{
-  place_text,
   places_text,
   AllAnswered,
   AreAskable,

@@ -1,5 +1,4 @@
-use Rattle.std.proofs.Common.{◌≡◌, ap, sym, ◌∙◌, subst, refl, IfOk, length, get_or, ℕ, ◌<◌, arith}
-use Rattle.board_types.specs.declared.parts.BoardParts.{BoardParts}
+use Rattle.std.proofs.Common.{◌≡◌, ap, ◌∙◌, subst, refl, IfOk, length, get_or, ℕ, ◌<◌, arith}
 use Rattle.shared_board.specs.Stops.{StopTold}
 use Rattle.race_phase.specs.private.Workers.{HasWorked}
 use Rattle.race_phase.proofs.Alike.{phase_alike}
