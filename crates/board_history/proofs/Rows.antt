@@ -1,5 +1,5 @@
 -- Rows of the definitions, each by computation.
-use Rattle.std.proofs.Common.{◌≡◌, [], ◌∷◌, true, false, Some, None, pos, refl}
+use Rattle.std.proofs.Common.{◌≡◌, [], ◌∷◌, true, false, Some, None, map, pos, refl}
 use Rattle.tsc_scale.specs.Offset.{tsc_by}
 use Rattle.pvclock_page.specs.Reading.{reading_of}
 use Rattle.pvclock_page.specs.declared.page.Page.{Page}
@@ -29,15 +29,10 @@ page = record {
   enabled = true;
 }
 
--- at count 900 of the host's counter it gives 900 ns
-answer_900 : answer_by 562949953421312 page 900 ≡ On page 900
+-- at count 900 of the host's counter it gives 900 ns; one that isn't enabled gives no time
+answers : map (λ p. answer_by 562949953421312 p 900) (page ∷ record page { enabled = false } ∷ []) ≡ On page 900 ∷ Off ∷ []
 unfolding page tsc_by reading_of
-answer_900 = refl
-
--- a page that isn't enabled gives no time
-answer_off : answer_by 562949953421312 (record page { enabled = false }) 900 ≡ Off
-unfolding page
-answer_off = refl
+answers = refl
 
 -- a read changes nothing, a clamp the greatest reading
 after_read : (b : BoardParts) → after_entry b (PageRead 1 0 900 page false) ≡ b
@@ -70,32 +65,18 @@ opened_twice s t = refl
 hv_page_of_one : HvPage
 hv_page_of_one = record { version = 2; scale = 9223372036854775808; offset = 7; tsc_offset = 100 }
 
-hv_answer_900 : hv_answer_by 562949953421312 hv_page_of_one 900 ≡ HvOn hv_page_of_one 957
+hv_answers : map (λ p. hv_answer_by 562949953421312 p 900) (hv_page_of_one ∷ record hv_page_of_one { scale = 0 } ∷ [])
+    ≡ HvOn hv_page_of_one 957 ∷ HvOff ∷ []
 unfolding hv_page_of_one tsc_by units_of reference_time
-hv_answer_900 = refl
-
-hv_answer_off : hv_answer_by 562949953421312 (record hv_page_of_one { scale = 0 }) 900 ≡ HvOff
-unfolding hv_page_of_one
-hv_answer_off = refl
+hv_answers = refl
 
 -- of two processors the reference page has place 2: by its MSR alone it is published
-published_by_the_msr : page_published 2 1 (MsrWrite 0x4000_0021 1) ≡ Some 2
-published_by_the_msr = refl
+pages_published : map (page_published 2 1) (MsrWrite 0x4000_0021 1 ∷ MsrWrite 0x10 1 ∷ Refresh 0 ∷ Step ∷ [])
+    ≡ Some 2 ∷ Some 1 ∷ Some 0 ∷ None ∷ []
+pages_published = refl
 
-published_by_the_tsc : page_published 2 1 (MsrWrite 0x10 1) ≡ Some 1
-published_by_the_tsc = refl
-
-published_by_a_refresh : page_published 2 1 (Refresh 0) ≡ Some 0
-published_by_a_refresh = refl
-
-published_by_a_step : page_published 2 1 Step ≡ None
-published_by_a_step = refl
-
-read_of_place_2 : read_of 2 5 2 900 page true ≡ HvRead 5 900 (of_page page) true
-read_of_place_2 = refl
-
-read_of_place_1 : read_of 2 5 1 900 page true ≡ PageRead 5 1 900 page true
-read_of_place_1 = refl
+reads_of_places : map (λ k. read_of 2 5 k 900 page true) (2 ∷ 1 ∷ []) ≡ HvRead 5 900 (of_page page) true ∷ PageRead 5 1 900 page true ∷ []
+reads_of_places = refl
 
 after_hv_read : (b : BoardParts) → after_entry b (HvRead 1 900 hv_page_of_one false) ≡ b
 after_hv_read b = refl

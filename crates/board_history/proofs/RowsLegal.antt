@@ -1,5 +1,5 @@
 -- Which lists of entries are legal, each at a small case.
-use Rattle.std.proofs.Common.{◌≡◌, ℕ, ◌<◌, [], ◌∷◌, replicate, true, false, IsTrue, pos, refl, arith}
+use Rattle.std.proofs.Common.{◌≡◌, ℕ, ◌<◌, [], ◌∷◌, map, replicate, true, false, IsTrue, pos, refl, arith}
 use Rattle.tsc_scale.specs.Offset.{tsc_by}
 use Rattle.pvclock_page.specs.Reading.{reading_of}
 use Rattle.pvclock_page.specs.Scale.{mul_for, shift_for}
@@ -74,71 +74,48 @@ Is a b = a ≡ b
 an_access_does_not_open : (r : Reply) → IsLegal (Board 0 0 0 Step r ∷ []) ≡ ⊥
 an_access_does_not_open r = refl
 
-a_read_does_not_open : IsLegal (PageRead 0 0 0 page false ∷ []) ≡ ⊥
-a_read_does_not_open = refl
-
-a_read_of_the_reference_page_does_not_open : IsLegal (HvRead 0 0 hv_page false ∷ []) ≡ ⊥
-a_read_of_the_reference_page_does_not_open = refl
-
-a_clamp_does_not_open : IsLegal (Clamp 0 0 0 0 ∷ []) ≡ ⊥
-a_clamp_does_not_open = refl
+does_not_open : map IsLegal ((PageRead 0 0 0 page false ∷ []) ∷ (HvRead 0 0 hv_page false ∷ []) ∷ (Clamp 0 0 0 0 ∷ []) ∷ []) ≡ ⊥ ∷ ⊥ ∷ ⊥ ∷ []
+does_not_open = refl
 
 -- a page that is read is the board's, of a processor that the board has
-a_read_of_a_page : May (Opened opening ∷ []) (PageRead 1 0 900 other_page false) ≡ ((0 < 2) × (page ≡ other_page))
-a_read_of_a_page = refl
+reads : map (May (Opened opening ∷ [])) (PageRead 1 0 900 other_page false ∷ PageRead 1 2 900 page false ∷ HvRead 1 900 hv_page true ∷ [])
+    ≡ ((0 < 2) × (page ≡ other_page))
+    ∷ ((2 < 2) × (record { version = 0; tsc_timestamp = 0; system_time = 0; mul = 0; shift = pos 0; flags = 0; offset = 0; enabled = false } ≡ page))
+    ∷ (record { version = 0; scale = 0; offset = 0; tsc_offset = 0 } ≡ hv_page)
+    ∷ []
+reads = refl
 
-a_read_of_no_processors_page : May (Opened opening ∷ []) (PageRead 1 2 900 page false)
-    ≡ ((2 < 2) × (record { version = 0; tsc_timestamp = 0; system_time = 0; mul = 0; shift = pos 0; flags = 0; offset = 0; enabled = false } ≡ page))
-a_read_of_no_processors_page = refl
-
-a_read_of_the_reference_page : May (Opened opening ∷ []) (HvRead 1 900 hv_page true)
-    ≡ (record { version = 0; scale = 0; offset = 0; tsc_offset = 0 } ≡ hv_page)
-a_read_of_the_reference_page = refl
-
--- a clamp comes after its own pass's read of that processor's page, with that reading
-a_clamp_after_its_read : May (Opened opening ∷ PageRead 1 0 900 page false ∷ []) (Clamp 1 0 900 900)
+-- a clamp comes after its own pass's read of that processor's page, with that reading: another processor, and another reading
+clamps : map (May (Opened opening ∷ PageRead 1 0 900 page false ∷ [])) (Clamp 1 0 900 900 ∷ Clamp 1 1 900 900 ∷ Clamp 1 0 901 901 ∷ [])
     ≡ ((Is 0 0 × IsTrue true × Is 900 900) × Is 900 900)
+    ∷ ((Is 0 1 × IsTrue true × Is 900 900) × Is 900 900)
+    ∷ ((Is 0 0 × IsTrue true × Is 900 901) × Is 901 901)
+    ∷ []
 unfolding tsc_by reading_of
-a_clamp_after_its_read = refl
+clamps = refl
 
-a_clamp_without_its_read : May (Opened opening ∷ []) (Clamp 1 0 900 900) ≡ (⊥ × Is 900 900)
-a_clamp_without_its_read = refl
+-- without a read, after one of another pass, after its clamp, and after a read of the reference page
+no_clamps : map (λ xs. May (Opened opening ∷ xs) (Clamp 1 0 900 900))
+    ([]
+    ∷ (PageRead 0 0 900 page false ∷ [])
+    ∷ (PageRead 1 0 900 page false ∷ Clamp 1 0 900 900 ∷ [])
+    ∷ (PageRead 1 0 900 page false ∷ HvRead 1 900 hv_page false ∷ [])
+    ∷ [])
+    ≡ (⊥ × Is 900 900) ∷ (⊥ × Is 900 900) ∷ (⊥ × Is 900 900) ∷ (⊥ × Is 900 900) ∷ []
+no_clamps = refl
 
-a_clamp_of_another_pass : May (Opened opening ∷ PageRead 0 0 900 page false ∷ []) (Clamp 1 0 900 900) ≡ (⊥ × Is 900 900)
-a_clamp_of_another_pass = refl
-
-a_second_clamp_of_a_read : May (Opened opening ∷ PageRead 1 0 900 page false ∷ Clamp 1 0 900 900 ∷ []) (Clamp 1 0 900 900) ≡ (⊥ × Is 900 900)
-a_second_clamp_of_a_read = refl
-
-a_clamp_after_the_reference_page : May (Opened opening ∷ PageRead 1 0 900 page false ∷ HvRead 1 900 hv_page false ∷ []) (Clamp 1 0 900 900)
-    ≡ (⊥ × Is 900 900)
-a_clamp_after_the_reference_page = refl
-
-a_clamp_by_another_page : May (Opened opening ∷ PageRead 1 0 900 page false ∷ []) (Clamp 1 1 900 900)
-    ≡ ((Is 0 1 × IsTrue true × Is 900 900) × Is 900 900)
-unfolding tsc_by reading_of
-a_clamp_by_another_page = refl
-
-a_clamp_of_another_reading : May (Opened opening ∷ PageRead 1 0 900 page false ∷ []) (Clamp 1 0 901 901)
-    ≡ ((Is 0 0 × IsTrue true × Is 900 901) × Is 901 901)
-unfolding tsc_by reading_of
-a_clamp_of_another_reading = refl
-
-a_clamp_by_a_page_that_is_off : May (Opened opening ∷ PageRead 1 0 900 (record page { enabled = false }) false ∷ []) (Clamp 1 0 900 900)
+-- by a page that is off; and never below the greatest reading before it, of the board or of a clamp
+floors : map (λ xs. May xs (Clamp 1 0 900 900))
+    ((Opened opening ∷ PageRead 1 0 900 (record page { enabled = false }) false ∷ [])
+    ∷ (Opened (record opening { greatest = 1000 }) ∷ PageRead 1 0 900 page false ∷ [])
+    ∷ (Opened opening ∷ PageRead 0 0 950 page false ∷ Clamp 0 0 950 950 ∷ PageRead 1 0 900 page false ∷ [])
+    ∷ [])
     ≡ ((Is 0 0 × IsTrue false × Is 900 900) × Is 900 900)
+    ∷ ((Is 0 0 × IsTrue true × Is 900 900) × Is 900 1000)
+    ∷ ((Is 0 0 × IsTrue true × Is 900 900) × Is 900 950)
+    ∷ []
 unfolding tsc_by reading_of
-a_clamp_by_a_page_that_is_off = refl
-
--- and never below the greatest reading before it
-a_clamp_below_the_greatest : May (Opened (record opening { greatest = 1000 }) ∷ PageRead 1 0 900 page false ∷ []) (Clamp 1 0 900 900)
-    ≡ ((Is 0 0 × IsTrue true × Is 900 900) × Is 900 1000)
-unfolding tsc_by reading_of
-a_clamp_below_the_greatest = refl
-
-a_clamp_below_a_clamp : May (Opened opening ∷ PageRead 0 0 950 page false ∷ Clamp 0 0 950 950 ∷ PageRead 1 0 900 page false ∷ []) (Clamp 1 0 900 900)
-    ≡ ((Is 0 0 × IsTrue true × Is 900 900) × Is 900 950)
-unfolding tsc_by reading_of
-a_clamp_below_a_clamp = refl
+floors = refl
 
 -- Two processors, in two orders: 0 enables its page and reads the clock by it, 1 steps twice. Each
 -- order is legal; the numbers of the replies tell them apart
