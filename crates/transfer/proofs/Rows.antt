@@ -1,5 +1,5 @@
 -- Rows on the definitions: each rule at one small case, so that a weaker rule is seen.
-use Rattle.std.proofs.Common.{◌≡◌, ◌-◌, ◌^◌, [], ◌∷◌, Some, None, refl}
+use Rattle.std.proofs.Common.{◌≡◌, ◌-◌, ◌^◌, [], ◌∷◌, map, Some, None, refl}
 use Rattle.host_counter.specs.Time.{time_at}
 use Rattle.tsc_scale.specs.Offset.{tsc_by}
 use Rattle.pvclock_page.specs.Scale.{mul_for, shift_for}
@@ -44,33 +44,20 @@ abbrev spent : BoardParts
 spent = record board { processors = first ∷ record no_processor { version = 0xfffffffe } ∷ [] }
 
 -- the gap in counts of the guest, rounded down
-counts_in-second : counts_in 2000000 1000000000 ≡ 2000000000
-counts_in-second = refl
-
-counts_in-less_than_one : counts_in 999999 1 ≡ 0
-counts_in-less_than_one = refl
-
-counts_in-below_three : counts_in 2999999 1 ≡ 2
-counts_in-below_three = refl
+counts : counts_in 2000000 1000000000 ∷ counts_in 999999 1 ∷ counts_in 2999999 1 ∷ [] ≡ 2000000000 ∷ 0 ∷ 2 ∷ []
+counts = refl
 
 -- a TSC goes on from its value at the greatest count: 4005, and a second at 2 GHz; at its end it wraps
-tsc_behind-second : tsc_behind board 1000000000 0 ≡ 2000004005
+tsc : tsc_behind board 1000000000 0 ∷ tsc_behind (record board { processors = record no_processor { offset = 2 ^ 64 - 4001 } ∷ [] }) 1 0 ∷ []
+    ≡ 2000004005 ∷ 1 ∷ []
 unfolding tsc_by
-tsc_behind-second = refl
+tsc = refl
 
-tsc_behind-wraps : tsc_behind (record board { processors = record no_processor { offset = 2 ^ 64 - 4001 } ∷ [] }) 1 0 ≡ 1
+-- at count 500 of a host of 3 GHz 333 counts of the guest are over; a count beyond the TSC's asks for an offset below 0; TSC_ADJUST is kept
+offsets : tsc_moved board 3000000 500 1000000000 0 ∷ tsc_moved board 1000000 3000000000 1000000000 1 ∷ []
+    ≡ record { offset = 2000003672; adjust = 5 } ∷ record { offset = 2 ^ 64 - 3999996000; adjust = 0 } ∷ []
 unfolding tsc_by
-tsc_behind-wraps = refl
-
--- at count 500 of a host of 3 GHz 333 counts of the guest are over; TSC_ADJUST is kept
-tsc_moved-first : tsc_moved board 3000000 500 1000000000 0 ≡ record { offset = 2000003672; adjust = 5 }
-unfolding tsc_by
-tsc_moved-first = refl
-
--- a count beyond the TSC's asks for an offset below 0
-tsc_moved-beyond : tsc_moved board 1000000 3000000000 1000000000 1 ≡ record { offset = 2 ^ 64 - 3999996000; adjust = 0 }
-unfolding tsc_by
-tsc_moved-beyond = refl
+offsets = refl
 
 -- the board on its new host, before the pages are published
 abbrev there : BoardParts
@@ -100,46 +87,38 @@ published_below-accesses : (published_below board 3000000 500 1000000000 2 there
 unfolding published_below published_at_host
 published_below-accesses = refl
 
--- the last version, that below it, and the first such processor
-or_spent-last : or_spent None 3 0xfffffffe ≡ Some (VersionsSpent 3 0xfffffffe)
-or_spent-last = refl
-
-or_spent-before : or_spent None 3 0xfffffffc ≡ None
-or_spent-before = refl
-
-spent_below-second : spent_below spent 2 ≡ Some (VersionsSpent 1 0xfffffffe)
-unfolding spent_below
-spent_below-second = refl
+-- the last version, and that below it
+spent_versions : map (or_spent None 3) (0xfffffffe ∷ 0xfffffffc ∷ []) ≡ Some (VersionsSpent 3 0xfffffffe) ∷ None ∷ []
+spent_versions = refl
 
 -- the same board with both pages at their last version
 abbrev spent_twice : BoardParts
 spent_twice = record board { processors = record first { version = 0xfffffffe } ∷ record first { version = 0xfffffffe } ∷ [] }
 
-spent_below-first_of_two : spent_below spent_twice 2 ≡ Some (VersionsSpent 0 0xfffffffe)
+-- the first such processor
+first_spent : map (λ b. spent_below b 2) (spent ∷ spent_twice ∷ []) ≡ Some (VersionsSpent 1 0xfffffffe) ∷ Some (VersionsSpent 0 0xfffffffe) ∷ []
 unfolding spent_below
-spent_below-first_of_two = refl
+first_spent = refl
 
--- the last time in range is 2^59 - 1, and the range is tested first
-move_fault-last_time : move_fault (2 ^ 59 - 2001) board ≡ None
-unfolding move_fault spent_below time_at
-move_fault-last_time = refl
+-- a board whose reference page is at its last version
+abbrev reference_spent : BoardParts → BoardParts
+reference_spent b = record b { hv = record no_hv { version = 0xfffffffe } }
 
-move_fault-range : move_fault (2 ^ 59 - 2000) spent ≡ Some (OutOfRange (2 ^ 59))
+-- the last time in range is 2^59 - 1, the range is tested first, and the reference page comes after those of the processors
+faults : move_fault (2 ^ 59 - 2001) board
+    ∷ move_fault (2 ^ 59 - 2000) spent
+    ∷ move_fault (2 ^ 59 - 2001) spent
+    ∷ move_fault 0 (reference_spent board)
+    ∷ move_fault 0 (reference_spent spent)
+    ∷ []
+    ≡ None
+    ∷ Some (OutOfRange (2 ^ 59))
+    ∷ Some (VersionsSpent 1 0xfffffffe)
+    ∷ Some (VersionsSpent 2 0xfffffffe)
+    ∷ Some (VersionsSpent 1 0xfffffffe)
+    ∷ []
 unfolding move_fault spent_below time_at
-move_fault-range = refl
-
-move_fault-versions : move_fault (2 ^ 59 - 2001) spent ≡ Some (VersionsSpent 1 0xfffffffe)
-unfolding move_fault spent_below time_at
-move_fault-versions = refl
-
--- the reference page comes after those of the processors
-move_fault-reference : move_fault 0 (record board { hv = record no_hv { version = 0xfffffffe } }) ≡ Some (VersionsSpent 2 0xfffffffe)
-unfolding move_fault spent_below time_at
-move_fault-reference = refl
-
-move_fault-processor_first : move_fault 0 (record spent { hv = record no_hv { version = 0xfffffffe } }) ≡ Some (VersionsSpent 1 0xfffffffe)
-unfolding move_fault spent_below time_at
-move_fault-processor_first = refl
+faults = refl
 
 -- the reference page is published by the new TSC of its processor, 2000004005 at 1000002000 ns
 moved_to-reference : (moved_to 3000000 500 1000000000 (record board { format = 4; hv = record no_hv { number = 1; version = 2 } })).hv
