@@ -1,5 +1,5 @@
 -- What the definitions give.
-use Rattle.std.proofs.Common.{◌≡◌, refl}
+use Rattle.std.proofs.Common.{◌≡◌, [], ◌∷◌, map, refl}
 use Rattle.rtc_registers.specs.Parts.{rtc_at_power_on}
 use Rattle.rtc_registers.specs.Registers.{with_time}
 use Rattle.board_types.specs.Setup.{setup_by_default}
@@ -7,11 +7,8 @@ use Rattle.board_core.specs.PowerOn.{board_at_power_on}
 use Rattle.board_reset.specs.Reset.{register_b_reset, after_reset, rtc_reset}
 
 -- SET, DSE, DM and 24/12 stay; PIE, AIE, UIE and SQWE don't
-all_bits : register_b_reset 0xff ≡ 0x87
-all_bits = refl
-
-no_set : register_b_reset 0x7e ≡ 0x06
-no_set = refl
+registers : map register_b_reset (0xff ∷ 0x7e ∷ []) ≡ 0x87 ∷ 0x06 ∷ []
+registers = refl
 
 -- a board at power on is as it was
 at_power_on : after_reset (board_at_power_on (setup_by_default 5)) ≡ board_at_power_on (setup_by_default 5)
