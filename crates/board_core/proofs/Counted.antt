@@ -28,8 +28,8 @@ drop-length : (es : List Edge) → drop (length es) es ≡ []
 drop-length [] = refl
 drop-length (e ∷ es) = drop-length es
 
-pub none_behind : (format from : ℕ) (es : List Edge) (rises : List ℕ) → from ≡ length es → rises_after format (drop from es) rises ≡ rises
-none_behind format from es rises end =
+pub none_after : (format from : ℕ) (es : List Edge) (rises : List ℕ) → from ≡ length es → rises_after format (drop from es) rises ≡ rises
+none_after format from es rises end =
     ap (λ (n : ℕ). rises_after format (drop n es) rises) end
     ∙ ap (λ (xs : List Edge). rises_after format xs rises) (drop-length es)
     ∙ rises_after-none format rises

@@ -45,7 +45,7 @@ pub(crate) fn count_rises(rises: &mut [u64; 6], format: u8, edges: &EdgeList, fr
     ensures { rises.new ≡ rises_after format (drop from edges.now) rises.old }
 {
     if format >= 2 {
-        add_rises(rises, behind(edges, from));
+        add_rises(rises, edges_from(edges, from));
     }
 }
 
@@ -69,7 +69,7 @@ pub(crate) fn count_rises_where(
 }
 
 /// The edges from place `from` on.
-fn behind(edges: &EdgeList, from: usize) -> &[Edge]
+fn edges_from(edges: &EdgeList, from: usize) -> &[Edge]
     requires { from ≤ length edges.now }
     ensures value { result.now ≡ drop from edges.now }
     ensures few { length result.now ≤ EDGE_PLACES }

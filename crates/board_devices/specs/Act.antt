@@ -182,7 +182,7 @@ pub record CanAct (a : Act) (d : DeviceParts) (had : List Edge) : Type 0 where
   pub room : (line_at 0 d).counts.due + 1 < 2 ^ 63
   pub places : length had + 12 ≤ EDGE_PLACES
 
--- what it leaves and reads at t, with its edges behind those that the list had; at most one tick
+-- what it leaves and reads at t, with its edges after those that the list had; at most one tick
 -- more is due on each line
 pub record HasActed (a : Act) (t : ℕ) (before after : DeviceParts) (word : ℕ) (had told : List Edge)
     : Type 0 where

@@ -30,7 +30,7 @@ pub record Ran : Type 0 where
   pub state : DeviceParts
   pub edges : List Edge
 
--- the nanosecond t, with its edges behind those before
+-- the nanosecond t, with its edges after those before
 unfoldable pub onward : ℕ → Ran → Ran
 onward t r = let next : DeviceParts = at_nanosecond t r.state in
     record {

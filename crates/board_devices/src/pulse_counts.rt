@@ -52,7 +52,7 @@ pub(crate) fn pulse_counts(from: u64, to: u64) -> PulseCounts
     }
 }
 
-/// The same where both lie in one second, `start` and `end` nanoseconds behind its beginning.
+/// The same where both lie in one second, `start` and `end` nanoseconds after its beginning.
 #[inline(always)]
 fn counts_within(from: u64, to: u64, start: u64, end: u64) -> PulseCounts
     requires order { from ≤ to }

@@ -197,20 +197,20 @@ fn clock_pulses(rtc: &mut Rtc, n: u64) -> RtcEvents
     rtc.pulses(n)
 }
 
-/// Whether a line goes up behind `from`, by the times from which on the lines are up.
+/// Whether a line goes up after `from`, by the times from which on the lines are up.
 fn goes_up(times: &[Option<u64>; 6], from: u64) -> bool
     ensures { result ≡ false → (to : ℕ) → IsNextRise times.now from to None }
 {
     for time in times {
-        if is_behind(*time, from) {
+        if is_later(*time, from) {
             return true;
         }
     }
     false
 }
 
-/// Whether a time, where there is one, lies behind `from`.
-fn is_behind(time: Option<u64>, from: u64) -> bool
+/// Whether a time, where there is one, lies after `from`.
+fn is_later(time: Option<u64>, from: u64) -> bool
     ensures { result ≡ false → (t : ℕ) → time ≡ Some t → t ≤ from }
 {
     match time {

@@ -52,14 +52,14 @@ use pit_readback::PIT_HZ;
 use rtc_registers::{RTC_HZ, RtcEvents};
 use tick_policy::{TickLine, run_line};
 
-/// The nanoseconds behind `from` and up to `to`.
+/// The nanoseconds after `from` and up to `to`.
 #[derive(Clone, Copy)]
 pub(crate) struct Span {
     /// The nanosecond before the first.
     pub(crate) from: u64,
     /// The last nanosecond.
     pub(crate) to: u64,
-    /// The first catch-up point behind `from`.
+    /// The first catch-up point after `from`.
     pub(crate) point: u64,
 }
 

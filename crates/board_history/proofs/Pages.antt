@@ -153,19 +153,19 @@ at-hv b j e = ap (λ (t : Bool). page_if t b j) (eq-eqb j b.cpus e)
 pub at-page : (b : BoardParts) (j : ℕ) → j ≢ b.cpus → page_at b j ≡ page_in (processor_at b j)
 at-page b j ne = ap (λ (t : Bool). page_if t b j) (ne_eqb j b.cpus ne)
 
-behind-hv : (b : BoardParts) (cpu h j : ℕ) (a : Access) → j ≡ b.cpus → page_at (after_access b cpu h a) j ≡ as_page (hv_in (after_access b cpu h a).hv)
-behind-hv b cpu h j a e = at-hv (after_access b cpu h a) j (e ∙ sym (after_access-cpus b cpu h a))
+after-hv : (b : BoardParts) (cpu h j : ℕ) (a : Access) → j ≡ b.cpus → page_at (after_access b cpu h a) j ≡ as_page (hv_in (after_access b cpu h a).hv)
+after-hv b cpu h j a e = at-hv (after_access b cpu h a) j (e ∙ sym (after_access-cpus b cpu h a))
 
-behind-page : (b : BoardParts) (cpu h j : ℕ) (a : Access) → j ≢ b.cpus → page_at (after_access b cpu h a) j ≡ page_in (processor_at (after_access b cpu h a) j)
-behind-page b cpu h j a ne = at-page (after_access b cpu h a) j (λ e. ne (e ∙ after_access-cpus b cpu h a))
+after-page : (b : BoardParts) (cpu h j : ℕ) (a : Access) → j ≢ b.cpus → page_at (after_access b cpu h a) j ≡ page_in (processor_at (after_access b cpu h a) j)
+after-page b cpu h j a ne = at-page (after_access b cpu h a) j (λ e. ne (e ∙ after_access-cpus b cpu h a))
 
 -- where no access publishes it a page stays ..
 stays-hv : (b : BoardParts) (cpu h j : ℕ) (a : Access) → publishes_hv a ≡ false → j ≡ b.cpus → page_at (after_access b cpu h a) j ≡ page_at b j
-stays-hv b cpu h j a none e = behind-hv b cpu h j a e ∙ (ap (λ (p : HvParts). as_page (hv_in p)) (hv-else b cpu h a none) ∙ sym (at-hv b j e))
+stays-hv b cpu h j a none e = after-hv b cpu h j a e ∙ (ap (λ (p : HvParts). as_page (hv_in p)) (hv-else b cpu h a none) ∙ sym (at-hv b j e))
 
 stays-page : (b : BoardParts) (cpu h j : ℕ) (a : Access) → processor_at (after_access b cpu h a) j ≡ processor_at b j → j ≢ b.cpus
     → page_at (after_access b cpu h a) j ≡ page_at b j
-stays-page b cpu h j a same ne = behind-page b cpu h j a ne ∙ (ap page_in same ∙ sym (at-page b j ne))
+stays-page b cpu h j a same ne = after-page b cpu h j a ne ∙ (ap page_in same ∙ sym (at-page b j ne))
 
 -- .. each where none is published ..
 pub page_at-none : (b : BoardParts) (cpu h j : ℕ) (a : Access) → page_published b.cpus cpu a ≡ None → page_at (after_access b cpu h a) j ≡ page_at b j
@@ -194,12 +194,12 @@ version-here b cpu h k a places inside legal is = by (publishes_hv a) refl
   where
     by : (t : Bool) → publishes_hv a ≡ t → (page_at (after_access b cpu h a) k).version ≡ (page_at b k).version + 2
     by true hv = let e : k ≡ b.cpus = sym (kind-hv b.cpus cpu k a is hv) in
-        ap (λ (p : Page). p.version) (behind-hv b cpu h k a e)
+        ap (λ (p : Page). p.version) (after-hv b cpu h k a e)
         ∙ (version-hv b cpu h a hv ∙ ap (λ (p : Page). p.version + 2) (sym (at-hv b k e)))
     by false hv = let one = kind-page b.cpus cpu k a is hv in
         let less = published_by-legal b.cpus b.format cpu k a inside legal one in
         let ne : k ≢ b.cpus = λ e. omega arith in
-        ap (λ (p : Page). p.version) (behind-page b cpu h k a ne)
+        ap (λ (p : Page). p.version) (after-page b cpu h k a ne)
         ∙ (version-published b cpu h k a one (omega arith) ∙ ap (λ (p : Page). p.version + 2) (sym (at-page b k ne)))
 
 pub length-processors : (b : BoardParts) (cpu h : ℕ) (a : Access) → length (after_access b cpu h a).processors ≡ length b.processors
@@ -237,14 +237,14 @@ version-access b cpu h k a = by (publishes_hv a) refl
     by : (t : Bool) → publishes_hv a ≡ t → (page_at b k).version ≤ (page_at (after_access b cpu h a) k).version
     by true hv = dite (ℕ_discrete k b.cpus)
         (λ e. let was = ap (λ (p : Page). p.version) (at-hv b k e) in
-        let is = ap (λ (p : Page). p.version) (behind-hv b cpu h k a e) in
+        let is = ap (λ (p : Page). p.version) (after-hv b cpu h k a e) in
         let up = version-hv b cpu h a hv in omega arith)
         (λ ne. let same = ap (λ (p : Page). p.version) (stays-page b cpu h k a
         (ap (λ (ps : List ProcessorParts). get_or ps k no_processor) (processors-none b cpu h a (page-or-hv cpu a hv))) ne) in omega arith)
     by false hv = dite (ℕ_discrete k b.cpus)
         (λ e. let same = ap (λ (p : Page). p.version) (stays-hv b cpu h k a hv e) in omega arith)
         (λ ne. let was = ap (λ (p : Page). p.version) (at-page b k ne) in
-        let is = ap (λ (p : Page). p.version) (behind-page b cpu h k a ne) in
+        let is = ap (λ (p : Page). p.version) (after-page b cpu h k a ne) in
         let up = version-processor b cpu h k a in omega arith)
 
 -- the scale of a guest's rate fits the words
@@ -302,7 +302,7 @@ access-steady b cpu h a s inside legal taken = record {
         let up = version-hv b cpu h a hv in
         let less = taken_hv b cpu h a taken hv in
         let even = was.even in
-        subst IsSteadyPage (sym (behind-hv b cpu h k a e)) (hv-steady (after_access b cpu h a).hv (omega arith) (omega arith))
+        subst IsSteadyPage (sym (after-hv b cpu h k a e)) (hv-steady (after_access b cpu h a).hv (omega arith) (omega arith))
     here k is false hv =
         let one = kind-page b.cpus cpu k a is hv in
         let low = published_by-legal b.cpus b.format cpu k a inside legal one in
@@ -312,7 +312,7 @@ access-steady b cpu h a s inside legal taken = record {
         let was : IsSteadyPage (page_in (processor_at b k)) = subst IsSteadyPage (at-page b k ne) (s.pages k) in
         let even = was.even in
         let places = s.places in
-        subst IsSteadyPage (sym (behind-page b cpu h k a ne ∙ ap page_in (processor_at-published b cpu h k a one (omega arith))))
+        subst IsSteadyPage (sym (after-page b cpu h k a ne ∙ ap page_in (processor_at-published b cpu h k a one (omega arith))))
         (published-steady b.anchor b.guest_khz h (prepared b.anchor b.guest_khz h a (processor_at b k)) s.rate (omega (arith, same, less))
         (omega (arith, same, even)))
 

@@ -178,7 +178,7 @@ mod tests {
     }
 
     #[test]
-    fn goes_on_behind_a_fault(rt: HostRuntime) {
+    fn goes_on_after_a_fault(rt: HostRuntime) {
         let mut piece = [0; 4096];
         let mut source = ReadSource::new(Flaky { is_well: false });
         assert_eq!(rt; source.take(&mut piece), Err(Failed));

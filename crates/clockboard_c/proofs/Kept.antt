@@ -43,8 +43,8 @@ use Rattle.board_core.specs.Pages.{after_clock, with_greatest}
 use Rattle.hpet_bursts.specs.Next.{or_later}
 use Rattle.board_core.specs.Next.{at_first_edge, first_edge, next_of}
 use Rattle.clockboard_c.specs.Kept.{CallerBoard, LaggingBoard, seen, code_or_none, number_or_0, next_edge_of, no_kept, kept_of}
-use Rattle.clockboard_c.specs.Pages.{state_behind_clock}
-use Rattle.clockboard_c.specs.Call.{leaves_devices, is_none, keeps_unless, keeps_next, state_unless, state_behind, answered}
+use Rattle.clockboard_c.specs.Pages.{state_after_clock}
+use Rattle.clockboard_c.specs.Call.{leaves_devices, is_none, keeps_unless, keeps_next, state_unless, state_after, answered}
 
 front-nil : (xs ys : List Edge) → xs ++ ys ≡ [] → xs ≡ []
 front-nil [] ys e = refl
@@ -197,7 +197,7 @@ module _ (s : BoardParts) (cpu h : ℕ) (a : Access) (after : BoardParts) (r : R
       ∙ sym (ap (λ (o : Option Refusal). keeps_unless o s h a) taken) in
       let known : new.known ≡ (old.known && keeps_next s cpu h a) =
       ap (λ (k : KeptEdge). k.known) next ∙ known-where kept old ∙ ap (λ (x : Bool). old.known && x) keeps in
-      let behind : after ≡ state_behind s cpu h a = state ∙ sym (ap (λ (o : Option Refusal). state_unless o s cpu h a) taken) in
+      let behind : after ≡ state_after s cpu h a = state ∙ sym (ap (λ (o : Option Refusal). state_unless o s cpu h a) taken) in
       ap (λ (x : Bool). record { seal = seal; shared = shared; known = x; state = after }) known
       ∙ ap (λ (x : BoardParts). record { seal = seal; shared = shared; known = old.known && keeps_next s cpu h a; state = x }) behind
       ∙ ap (λ (x : CallerBoard). answered x cpu h a) of
@@ -239,7 +239,7 @@ unfolding after_clock
 clock-after known s cpu h = refl
 
 pub clock-next :
-    (s after : BoardParts) (cpu h : ℕ) (k : KeptEdge) → after ≡ state_behind_clock s cpu h → k ≡ kept_of k.known s → k ≡ kept_of k.known after
+    (s after : BoardParts) (cpu h : ℕ) (k : KeptEdge) → after ≡ state_after_clock s cpu h → k ≡ kept_of k.known s → k ≡ kept_of k.known after
 clock-next s after cpu h k is keeps =
     keeps
     ∙ sym (clock-where k.known (has_none (time_fault s.anchor h)) s (after_clock s cpu h) (clock-after k.known s cpu h))
@@ -254,7 +254,7 @@ time-clock : (s : BoardParts) (cpu h : ℕ) → now_of (after_clock s cpu h) ≡
 unfolding after_clock
 time-clock s cpu h = refl
 
-pub clock-time : (s after : BoardParts) (cpu h now : ℕ) → after ≡ state_behind_clock s cpu h → now ≡ now_of s → now ≡ now_of after
+pub clock-time : (s after : BoardParts) (cpu h now : ℕ) → after ≡ state_after_clock s cpu h → now ≡ now_of s → now ≡ now_of after
 clock-time s after cpu h now is time =
     time ∙ sym (time-where (has_none (time_fault s.anchor h)) s (after_clock s cpu h) (time-clock s cpu h)) ∙ ap now_of (sym is)
 

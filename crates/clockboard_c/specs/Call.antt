@@ -1,4 +1,4 @@
--- One access to a board that C holds: what it tells, and the board behind it.
+-- One access to a board that C holds: what it tells, and the board after it.
 use Rattle.std.specs.Prelude.{
   ◌≡◌,
   ◌<◌,
@@ -97,8 +97,8 @@ abbrev pub state_unless : Option Refusal → BoardParts → ℕ → ℕ → Acce
 state_unless (Some refusal) s cpu h a = s
 state_unless None s cpu h a = after_access s cpu h a
 
-abbrev pub state_behind : BoardParts → ℕ → ℕ → Access → BoardParts
-state_behind s cpu h a = state_unless (refusal_of s cpu h a) s cpu h a
+abbrev pub state_after : BoardParts → ℕ → ℕ → Access → BoardParts
+state_after s cpu h a = state_unless (refusal_of s cpu h a) s cpu h a
 
 -- what a call of an access tells: a code, or what the board tells
 abbrev pub told_or : Option ℕ → BoardParts → ℕ → ℕ → Access → Told
@@ -132,22 +132,22 @@ keeps_unless None s h a = leaves_devices a && is_none (edges_of s h a)
 abbrev pub keeps_next : BoardParts → ℕ → ℕ → Access → Bool
 keeps_next s cpu h a = keeps_unless (refusal_of s cpu h a) s h a
 
--- the board behind it: as it was, or as the access leaves it
+-- the board after it: as it was, or as the access leaves it
 abbrev pub answered : CallerBoard → ℕ → ℕ → Access → CallerBoard
 answered b cpu h a = record b {
   known = b.known && keeps_next b.state cpu h a;
-  state = state_behind b.state cpu h a;
+  state = state_after b.state cpu h a;
 }
 
-abbrev pub behind_or : Option ℕ → CallerBoard → ℕ → ℕ → Access → CallerBoard
-behind_or (Some code) b cpu h a = b
-behind_or None b cpu h a = answered b cpu h a
+abbrev pub board_unless : Option ℕ → CallerBoard → ℕ → ℕ → Access → CallerBoard
+board_unless (Some code) b cpu h a = b
+board_unless None b cpu h a = answered b cpu h a
 
-abbrev pub behind : CallerBoard → ℕ → ℕ → Access → CallerBoard
-behind b cpu h a = behind_or (early_code b cpu a) b cpu h a
+abbrev pub board_after_call : CallerBoard → ℕ → ℕ → Access → CallerBoard
+board_after_call b cpu h a = board_unless (early_code b cpu a) b cpu h a
 
-abbrev pub shared_behind : CallerBoard → ℕ → ℕ → Access → CallerBoard
-shared_behind b cpu h a = behind_or (shared_code b cpu a) b cpu h a
+abbrev pub shared_after : CallerBoard → ℕ → ℕ → Access → CallerBoard
+shared_after b cpu h a = board_unless (shared_code b cpu a) b cpu h a
 
 -- the board takes such an access of such a processor
 pub record IsTaken (s : BoardParts) (cpu : ℕ) (a : Access) : Type 0 where
@@ -163,13 +163,13 @@ pub record HasAnswered (b b' : LaggingBoard) (r r' : ReplyWords) (cpu h : ℕ) (
 -- what a call of an access makes of the reply and of the board
 pub record IsCalled (b b' : LaggingBoard) (r r' : ReplyWords) (cpu h : ℕ) (a : Access) : Type 0 where
   pub reply : IsReply r r' (told (seen b) cpu h a)
-  pub board : seen b' ≡ behind (seen b) cpu h a
+  pub board : seen b' ≡ board_after_call (seen b) cpu h a
 
 -- .. and where the caller puts the page's words for the threads
 pub record IsSharedCall (b b' : LaggingBoard) (r r' : ReplyWords) (cpu h : ℕ) (a : Access) : Type 0
   where
     pub reply : IsReply r r' (shared_told (seen b) cpu h a)
-    pub board : seen b' ≡ shared_behind (seen b) cpu h a
+    pub board : seen b' ≡ shared_after (seen b) cpu h a
 
 -- the source of ticks of a number: the 8254, the MC146818, from 2 on the timers of the HPET, and from
 -- 16 on those of the processors' local APICs

@@ -28,8 +28,8 @@ page_words s cpu = record {
 }
 
 -- the page, or what the memory held before
-abbrev pub page_behind : CallerBoard → ℕ → PageWords → PageWords
-page_behind b cpu before = if processor_code b cpu == OK then page_words b.state cpu else before
+abbrev pub page_after : CallerBoard → ℕ → PageWords → PageWords
+page_after b cpu before = if processor_code b cpu == OK then page_words b.state cpu else before
 
 -- what a clock tells: its reading, clamped, and that of the page
 abbrev pub clock_in : ClockReply → ℕ → Told
@@ -45,8 +45,8 @@ abbrev pub clock_by : BoardParts → ℕ → ℕ → Told
 clock_by s cpu h = in_time s h (clock_in (clock_reply s cpu h) (now_of s))
 
 -- and the board after it
-abbrev pub state_behind_clock : BoardParts → ℕ → ℕ → BoardParts
-state_behind_clock s cpu h = if is_none (time_fault s.anchor h) then after_clock s cpu h else s
+abbrev pub state_after_clock : BoardParts → ℕ → ℕ → BoardParts
+state_after_clock s cpu h = if is_none (time_fault s.anchor h) then after_clock s cpu h else s
 
 -- the code of a question about the clock of a processor, whose greatest reading the board doesn't
 -- know while threads share its pages
@@ -54,11 +54,11 @@ abbrev pub clock_code : CallerBoard → ℕ → ℕ
 clock_code b cpu =
     if b.seal == SEAL && b.shared then SHARED else processor_code b cpu
 
--- what the call tells, and the board behind it
+-- what the call tells, and the board after it
 abbrev pub clock_told : CallerBoard → ℕ → ℕ → Told
 clock_told b cpu h =
     if clock_code b cpu == OK then clock_by b.state cpu h else refused (clock_code b cpu)
 
-abbrev pub behind_clock : CallerBoard → ℕ → ℕ → CallerBoard
-behind_clock b cpu h =
-    if clock_code b cpu == OK then record b { state = state_behind_clock b.state cpu h } else b
+abbrev pub board_after_clock : CallerBoard → ℕ → ℕ → CallerBoard
+board_after_clock b cpu h =
+    if clock_code b cpu == OK then record b { state = state_after_clock b.state cpu h } else b

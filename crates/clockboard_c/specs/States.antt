@@ -73,7 +73,7 @@ kind_number Version = 2
 kind_number Field = 3
 kind_number Trailing = 4
 
--- what a load tells, where that is the first fault of its bytes, and the board behind it
+-- what a load tells, where that is the first fault of its bytes, and the board after it
 abbrev pub load_told_unless : Option StateFault → List ℕ → Told
 load_told_unless (Some f) bytes = refused_at BAD_STATE (f.place ∷ kind_number f.kind ∷ 0 ∷ 0 ∷ [])
 load_told_unless None bytes =
@@ -94,7 +94,7 @@ abbrev pub fault_code : MoveFault → ℕ
 fault_code (OutOfRange ns) = OUT_OF_RANGE
 fault_code (VersionsSpent cpu version) = VERSIONS_SPENT
 
--- what a move to a host with a rate in range tells, where that is its fault, and the state behind it
+-- what a move to a host with a rate in range tells, where that is its fault, and the state after it
 abbrev pub moved_told_unless : Option MoveFault → BoardParts → ℕ → ℕ → ℕ → Told
 moved_told_unless (Some f) s khz start gap = refused (fault_code f)
 moved_told_unless None s khz start gap =
@@ -108,23 +108,23 @@ abbrev pub state_moved_unless : Option MoveFault → BoardParts → ℕ → ℕ 
 state_moved_unless (Some f) s khz start gap = s
 state_moved_unless None s khz start gap = moved_to khz start gap s
 
-abbrev pub state_behind_move : BoardParts → ℕ → ℕ → ℕ → BoardParts
-state_behind_move s khz start gap = state_moved_unless (move_fault gap s) s khz start gap
+abbrev pub state_after_move : BoardParts → ℕ → ℕ → ℕ → BoardParts
+state_after_move s khz start gap = state_moved_unless (move_fault gap s) s khz start gap
 
--- what the call tells, and the board behind it
+-- what the call tells, and the board after it
 abbrev pub move_told : CallerBoard → ℕ → ℕ → ℕ → Told
 move_told b khz start gap =
     if whole_code b == OK then
     (if is_rate khz then moved_told b.state khz start gap else refused BAD_RATE)
     else refused (whole_code b)
 
-abbrev pub behind_move : CallerBoard → ℕ → ℕ → ℕ → CallerBoard
-behind_move b khz start gap =
+abbrev pub board_after_move : CallerBoard → ℕ → ℕ → ℕ → CallerBoard
+board_after_move b khz start gap =
     if whole_code b == OK && is_rate khz then
-    record b { known = false; state = state_behind_move b.state khz start gap }
+    record b { known = false; state = state_after_move b.state khz start gap }
     else b
 
--- what a reset of the PC tells, the lines that were up going down, and the board behind it
+-- what a reset of the PC tells, the lines that were up going down, and the board after it
 unfoldable pub reset_by : BoardParts → Told
 reset_by s =
     taken s.accesses (now_of s) no_value
@@ -133,19 +133,19 @@ reset_by s =
 abbrev pub reset_told : CallerBoard → Told
 reset_told b = if whole_code b == OK then reset_by b.state else refused (whole_code b)
 
-abbrev pub behind_reset : CallerBoard → CallerBoard
-behind_reset b =
+abbrev pub board_after_reset : CallerBoard → CallerBoard
+board_after_reset b =
     if whole_code b == OK then record b { known = false; state = after_reset b.state } else b
 
--- the code of an upgrade, and the board behind it
+-- the code of an upgrade, and the board after it
 abbrev pub upgrade_code : CallerBoard → ℕ → ℕ
 upgrade_code b format =
     if whole_code b == OK then
     (if nat_le b.state.format format && nat_le format LAST_FORMAT then OK else BAD_FORMAT)
     else whole_code b
 
-abbrev pub behind_upgrade : CallerBoard → ℕ → CallerBoard
-behind_upgrade b format =
+abbrev pub board_after_upgrade : CallerBoard → ℕ → CallerBoard
+board_after_upgrade b format =
     if upgrade_code b format == OK then
     record b { known = false; state = upgraded_to format b.state }
     else b

@@ -23,7 +23,7 @@ pub const BEFORE_START: u32 = 4;
 /// The time would be 2^59 ns or more.
 pub const OUT_OF_RANGE: u32 = 5;
 
-/// A page, or the wall clock's words, would be published behind the last version.
+/// A page, or the wall clock's words, would be published after the last version.
 pub const VERSIONS_SPENT: u32 = 6;
 
 /// The board has answered 2^62 accesses.

@@ -7,12 +7,12 @@ ghost use Rattle.clockboard_c.specs.Replies.{IsReply};
 ghost use Rattle.clockboard_c.specs.Look.{processor_code};
 ghost use Rattle.clockboard_c.specs.Pages.{
   page_words,
-  page_behind,
+  page_after,
   clock_code,
   clock_told,
-  behind_clock,
+  board_after_clock,
   clock_by,
-  state_behind_clock,
+  state_after_clock,
 };
 
 use crate::board::{Board, SEAL};
@@ -40,7 +40,7 @@ pub struct PageWords {
 #[tactic(auto, unfolding(board_core::specs::Access::after_run))]
 pub extern "C" fn clockboard_page(board: &Board, cpu: u8, page: &mut PageWords) -> u32
     ensures code { result ≡ processor_code (seen board.now) cpu }
-    ensures page { page.new ≡ page_behind (seen board.now) cpu page.old }
+    ensures page { page.new ≡ page_after (seen board.now) cpu page.old }
 {
     if board.seal != SEAL {
         return NO_BOARD;
@@ -72,7 +72,7 @@ fn page_words(state: &BoardState, cpu: u8) -> PageWords
 #[unsafe(no_mangle)]
 pub extern "C" fn clockboard_clock(board: &mut Board, cpu: u8, host: u64, reply: &mut ReplyWords)
     ensures reply { IsReply reply.old reply.new (clock_told (seen board.old) cpu host) }
-    ensures board { seen board.new ≡ behind_clock (seen board.old) cpu host }
+    ensures board { seen board.new ≡ board_after_clock (seen board.old) cpu host }
 {
     let code = clock_code(board, cpu);
     if code != OK {
@@ -87,7 +87,7 @@ fn read_clock(board: &mut Board, cpu: u8, host: u64, reply: &mut ReplyWords)
     requires { cpu < (seen board.old).state.cpus }
     ensures reply { IsReply reply.old reply.new (clock_by (seen board.old).state cpu host) }
     ensures board { seen board.new
-        ≡ record (seen board.old) { state = state_behind_clock (seen board.old).state cpu host } }
+        ≡ record (seen board.old) { state = state_after_clock (seen board.old).state cpu host } }
 {
     tell_clock(&mut board.state, &board.lag, board.now_ns, cpu, host, reply);
 }
@@ -123,7 +123,7 @@ fn tell_clock(
     requires cpu { cpu < (caught_up state.old lag.now).cpus }
     ensures reply { IsReply reply.old reply.new (clock_by (caught_up state.old lag.now) cpu host) }
     ensures state { caught_up state.new lag.now
-        ≡ state_behind_clock (caught_up state.old lag.now) cpu host }
+        ≡ state_after_clock (caught_up state.old lag.now) cpu host }
     ensures lazy { IsLazy state.new lag.now.host lag.now.horizon }
 {
     match state.lagging_clock_of(lag, cpu, host) {

@@ -15,15 +15,15 @@ ghost use Rattle.clockboard_c.specs.States.{
   load_told,
   loaded,
   move_told,
-  behind_move,
+  board_after_move,
   moved_told,
-  state_behind_move,
+  state_after_move,
   fault_code,
   upgrade_code,
-  behind_upgrade,
+  board_after_upgrade,
   reset_by,
   reset_told,
-  behind_reset,
+  board_after_reset,
 };
 
 use crate::board::{Board, NO_KEPT, SEAL, sealed};
@@ -121,7 +121,7 @@ pub extern "C" fn clockboard_move(
     reply: &mut ReplyWords,
 )
     ensures reply { IsReply reply.old reply.new (move_told (seen board.old) khz start gap_ns) }
-    ensures board { seen board.new ≡ behind_move (seen board.old) khz start gap_ns }
+    ensures board { seen board.new ≡ board_after_move (seen board.old) khz start gap_ns }
 {
     let code = whole_code(board);
     if code != OK {
@@ -141,7 +141,7 @@ fn move_board(board: &mut Board, khz: u64, start: u64, gap_ns: u64, reply: &mut 
     ensures reply { IsReply reply.old reply.new (moved_told (seen board.old).state khz start gap_ns) }
     ensures board { seen board.new ≡ record (seen board.old) {
       known = false;
-      state = state_behind_move (seen board.old).state khz start gap_ns;
+      state = state_after_move (seen board.old).state khz start gap_ns;
     } }
 {
     board.catch_up();
@@ -156,7 +156,7 @@ fn move_board(board: &mut Board, khz: u64, start: u64, gap_ns: u64, reply: &mut 
 fn move_on(state: &mut BoardState, khz: u64, start: u64, gap_ns: u64, reply: &mut ReplyWords)
     requires { IsKhz khz }
     ensures reply { IsReply reply.old reply.new (moved_told state.old khz start gap_ns) }
-    ensures state { state.new ≡ state_behind_move state.old khz start gap_ns }
+    ensures state { state.new ≡ state_after_move state.old khz start gap_ns }
 {
     match moved(state, khz, start, gap_ns) {
         Ok(moved) => {
@@ -188,7 +188,7 @@ fn fault_code(fault: MoveFault) -> u32
 #[unsafe(no_mangle)]
 pub extern "C" fn clockboard_reset(board: &mut Board, reply: &mut ReplyWords)
     ensures reply { IsReply reply.old reply.new (reset_told (seen board.old)) }
-    ensures board { seen board.new ≡ behind_reset (seen board.old) }
+    ensures board { seen board.new ≡ board_after_reset (seen board.old) }
 {
     let code = whole_code(board);
     if code != OK {
@@ -230,7 +230,7 @@ fn reset_at_once(state: &mut BoardState, reply: &mut ReplyWords)
 #[unsafe(no_mangle)]
 pub extern "C" fn clockboard_upgrade(board: &mut Board, format: u8) -> u32
     ensures code { result ≡ upgrade_code (seen board.old) format }
-    ensures board { seen board.new ≡ behind_upgrade (seen board.old) format }
+    ensures board { seen board.new ≡ board_after_upgrade (seen board.old) format }
 {
     let code = whole_code(board);
     if code != OK {

@@ -89,7 +89,7 @@ app = with_rule (with_rule (with_rule (with_rule (with_rule bare job_rule)
     (number_rule (codes "key") 0 (2 ^ 64 - 1))) (number_rule (codes "records") 0 RECORDS_MAX))
     (number_rule (codes "cpus") 1 CPUS_MAX)) state_rule
 
--- a number of 64 bits, maybe behind a plus
+-- a number of 64 bits, maybe after a plus
 abbrev pub number_of : Text → Option ℕ
 number_of text =
     if is_unsigned_in 0 (2 ^ 64 - 1) text then Some (digits_value 10 (without_leading_plus text))

@@ -1,7 +1,7 @@
-//! What the words behind the program's name ask for.
+//! What the words after the program's name ask for.
 //!
 //! The words are read by the crate `clap`, as one command with the positionals `job`, `key`, `records` and `cpus` and
-//! the flag `--state`. A number is what clap reads as one: decimal digits, maybe behind a plus.
+//! the flag `--state`. A number is what clap reads as one: decimal digits, maybe after a plus.
 //!
 //! ```text
 //! replay --state       Command::Replay { shows_state: true }

@@ -40,7 +40,7 @@ use clk_units::NoMemory;
 use std::alloc::{AllocError, Global};
 use trace_gen::{CPUS_MAX, RECORDS_MAX};
 
-/// What these words ask for, those behind the program's name. They are read as clap reads them; a list that it refuses
+/// What these words ask for, those after the program's name. They are read as clap reads them; a list that it refuses
 /// asks for nothing that is known, but where the cause is `--help` or `--version`.
 #[tactic(auto, unfolding(crate::specs::Command::command_of))]
 pub fn command_of(alloc: Global, words: &[String]) -> Result<Command, NoMemory>
@@ -103,7 +103,7 @@ fn named<'a>(matches: &'a ArgMatches<'_>) -> Named<'a>
     }
 }
 
-/// A number, maybe behind a plus.
+/// A number, maybe after a plus.
 fn number(text: Option<&str>) -> Option<u64>
     ensures { result ≡ option_and_then number_of (option_map (λ s. s.now) text.entry) }
 {

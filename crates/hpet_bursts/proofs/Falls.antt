@@ -4,7 +4,7 @@ use Rattle.std.proofs.Math.Nat.{mod-lt}
 use Rattle.std.proofs.lemmas.Nat.{div-mul-add, mod-mul-add, div-add-mod'}
 use Rattle.std.proofs.lemmas.Bool.{cases_lt, lt-ltb, le-ltb, ne_eqb, ltb-true, false≢true}
 use Rattle.hpet_comparator.specs.Stretch.{falls_on}
-use Rattle.hpet_comparator.proofs.Falls.{falls_on-before, falls_on-behind}
+use Rattle.hpet_comparator.proofs.Falls.{falls_on-before, falls_on-after}
 
 -- one more
 pub div-more : (s i : ℕ) → 0 < s → ((suc i % s ≡ 0) × (suc i / s ≡ suc (i / s))) ⊎ ((suc i % s ≡ i % s + 1) × (suc i / s ≡ i / s))
@@ -53,7 +53,7 @@ fallen-step d c s m ahead some = elim (cases_lt (suc m) d) [
         let rest : 0 % s ≡ 0 = ap (λ (x : ℕ). x % s) zeros ∙ mod-mul-add 0 s 0 some in
         let quotient : 0 / s ≡ 0 = ap (λ (x : ℕ). x / s) zeros ∙ div-mul-add 0 s 0 some in
         let test : falls_on (Some d) c s (suc m) ≡ ltb 0 c =
-        ap (falls_on (Some d) c s) (sym e) ∙ falls_on-behind d c s 0
+        ap (falls_on (Some d) c s) (sym e) ∙ falls_on-after d c s 0
         ∙ ap (λ (x : ℕ). eqb x 0 && ltb (0 / s) c) rest ∙ ap (λ (x : ℕ). ltb x c) quotient in
         let g : suc m - d ≡ 0 = omega (arith, past, first) in
         let a : come d s (suc m) ≡ 1 =
@@ -69,7 +69,7 @@ fallen-step d c s m ahead some = elim (cases_lt (suc m) d) [
         let e : d + suc i ≡ suc m = omega (arith, later) in
         let g : suc m - d ≡ suc i = omega (arith, later) in
         let test : falls_on (Some d) c s (suc m) ≡ (eqb (suc i % s) 0 && ltb (suc i / s) c) =
-        ap (falls_on (Some d) c s) (sym e) ∙ falls_on-behind d c s (suc i) in
+        ap (falls_on (Some d) c s) (sym e) ∙ falls_on-after d c s (suc i) in
         let a : come d s (suc m) ≡ suc (suc i / s) =
         ap (λ (b : Bool). cond b 0 ((suc m - d) / s + 1)) (le-ltb (suc m) d past)
         ∙ (let r : (suc m - d) / s + 1 ≡ suc (suc i / s) = ap (λ (x : ℕ). x / s + 1) g ∙ omega arith in r) in

@@ -82,7 +82,7 @@ fn periodic_and_one_shot(rt: HostRuntime) {
 
 /// A stretch that begins where another ended goes on, from the block as it was left.
 #[test]
-fn goes_on_behind_a_stretch(rt: HostRuntime) {
+fn goes_on_after_a_stretch(rt: HostRuntime) {
     let mut hpet = block(&rt, &[(7, PERIODIC, 100, 0xfee0_0000_0000_0031)], RUNS);
     let mut matches = [Matches::NONE; 8];
     let _reach = hpet.pulses(250, &mut matches);

@@ -47,8 +47,8 @@ pub falls_on-before : (d count every m : ℕ) → m < d → falls_on (Some d) co
 falls_on-before d count every m h = ap (λ (b : Bool). b && (eqb ((m - d) % every) 0 && ltb ((m - d) / every) count)) (lt-leb d m h)
 
 -- j pulses after the first
-pub falls_on-behind : (d count every j : ℕ) → falls_on (Some d) count every (d + j) ≡ (eqb (j % every) 0 && ltb (j / every) count)
-falls_on-behind d count every j =
+pub falls_on-after : (d count every j : ℕ) → falls_on (Some d) count every (d + j) ≡ (eqb (j % every) 0 && ltb (j / every) count)
+falls_on-after d count every j =
     let e : d + j - d ≡ j = omega arith in
     ap (λ (b : Bool). b && (eqb ((d + j - d) % every) 0 && ltb ((d + j - d) / every) count)) (le-leb d (d + j) (omega arith))
     ∙ ap (λ (x : ℕ). eqb (x % every) 0 && ltb (x / every) count) e
@@ -59,14 +59,14 @@ falls_on-spacing d count every j some more =
     let e : j * every ≡ j * every + 0 = omega arith in
     let rest : j * every % every ≡ 0 = ap (λ (x : ℕ). x % every) e ∙ mod-mul-add j every 0 some in
     let quotient : j * every / every ≡ j = ap (λ (x : ℕ). x / every) e ∙ div-mul-add j every 0 some in
-    falls_on-behind d count every (j * every)
+    falls_on-after d count every (j * every)
     ∙ (ap (λ (b : Bool). b && ltb (j * every / every) count) (eq-eqb (j * every % every) 0 rest)
     ∙ lt-ltb (j * every / every) count (omega (arith, quotient)))
 
 -- up to the end of a stretch all that fall are counted
 within-stretch : (d n every j : ℕ) → 0 < every → d + j ≤ n → falls_on (Some d) (1 + (n - d) / every) every (d + j) ≡ eqb (j % every) 0
 within-stretch d n every j some inside =
-    falls_on-behind d (1 + (n - d) / every) every j
+    falls_on-after d (1 + (n - d) / every) every j
     ∙ (ap (λ (b : Bool). eqb (j % every) 0 && b) (lt-ltb (j / every) (1 + (n - d) / every) (omega (arith, div-mono every j (n - d) some (omega arith))))
     ∙ and-true (eqb (j % every) 0))
 

@@ -32,8 +32,8 @@ set-more {A} P l i x d inside before here j less = elim (cases_eq j i) [
     below j i h apart = omega arith
 
 -- a place after the one that is set is as it was
-pub set-behind : {A : Type 0} (l : List A) (i j : ℕ) (x d : A) → i + 1 ≤ j → get_or (set l i x) j d ≡ get_or l j d
-set-behind l i j x d past = get_or-set_other l i j x d (apart i j past)
+pub set-after : {A : Type 0} (l : List A) (i j : ℕ) (x d : A) → i + 1 ≤ j → get_or (set l i x) j d ≡ get_or l j d
+set-after l i j x d past = get_or-set_other l i j x d (apart i j past)
   where
     apart : (i j : ℕ) → i + 1 ≤ j → j ≡ i → ⊥
     apart i j h e = omega arith
@@ -117,9 +117,9 @@ ArePulsed-more h n k p q ms m known small next found = record {
       ∙ set-more (λ i t. t ≡ pulsed_times h.counter n (timer_at i h)) p.timer k (pulsed_times p.counter n (timer_at k p)) no_timer
       (omega (arith, known.size)) known.here pulsed_here j less;
   ahead = λ j past. ap (λ (ts : List TimerParts). get_or ts j no_timer) timers
-      ∙ (set-behind p.timer k j (pulsed_times p.counter n (timer_at k p)) no_timer past ∙ known.ahead j (omega arith));
+      ∙ (set-after p.timer k j (pulsed_times p.counter n (timer_at k p)) no_timer past ∙ known.ahead j (omega arith));
   matches = set-more (λ i x. AreMatches h.counter n (timer_at i h) x) ms k m no_matches (omega (arith, known.places)) known.matches found_here;
-  none = λ j past. set-behind ms k j m no_matches past ∙ known.none j (omega arith);
+  none = λ j past. set-after ms k j m no_matches past ∙ known.none j (omega arith);
 }
   where
     moved : List TimerParts

@@ -44,7 +44,7 @@ fn counts_in(ns: u64, khz: u64) -> u64
 /// The counts of the guest at nanosecond `t`, before offset and modulus.
 #[tactic(auto, unfolding(crate::specs::Deadline::count_at, crate::specs::private::Wait::scaled_at))]
 fn scaled_at(anchor: &Anchor, ratio: u64, t: u64) -> u128
-    requires behind { anchor.now.base_ns ≤ t }
+    requires later { anchor.now.base_ns ≤ t }
     requires in_range { t < 2 ^ 59 }
     requires rate { anchor.now.khz ≤ 10000000 }
     requires ratio { ratio ≤ 2 ^ 55 }
@@ -73,7 +73,7 @@ fn time_of_scaled(anchor: &Anchor, ratio: u64, scaled: u128) -> u128
     requires rate { 0 < anchor.now.khz }
     requires ratio { 2 ^ 41 ≤ ratio }
     requires small { scaled < 2 ^ 74 }
-    requires behind { anchor.now.start < count_for ratio scaled }
+    requires later { anchor.now.start < count_for ratio scaled }
     ensures { result ≡ time_for anchor.now (count_for ratio scaled) }
 {
     let ratio = u128::from(ratio);
@@ -95,7 +95,7 @@ pub fn first_reach(
 ) -> Option<u64>
     requires host { IsKhz anchor.khz }
     requires guest { IsKhz guest_khz }
-    requires behind { anchor.base_ns ≤ from }
+    requires later { anchor.base_ns ≤ from }
     requires in_range { to < RANGE_NS }
     ensures { IsFirstAt
         (is_reached_at anchor (ratio_of guest_khz anchor.khz) tsc deadline) from to result }

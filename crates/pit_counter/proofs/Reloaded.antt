@@ -507,9 +507,9 @@ first_many c n (suc q) r h = (r.some, omega arith, r.quiet, omega (arith, r.rise
 -- ---- mode 2 from any count on
 
 -- a load of mode 2 begins a period
-round_behind_load : (c : CounterParts) → c.gate ≡ true → mode_of c.bits ≡ RateGenerator → meant_count c.bits c.cr ≤ modulus c.bits
+round_after_load : (c : CounterParts) → c.gate ≡ true → mode_of c.bits ≡ RateGenerator → meant_count c.bits c.cr ≤ modulus c.bits
     → Round (affected (Load true) c) (meant_count c.bits c.cr)
-round_behind_load c gate m few =
+round_after_load c gate m few =
     round_in_2 (affected (Load true) c)
     (record { gate = gate; live = refl; out = refl; null = refl; trig = refl; armed = ap has_strobe m; ce = refl; odd = refl })
     m (loaded_count-below c.bits c.cr) (meant_count-some c.bits c.cr (ap is_periodic m)) few
@@ -574,7 +574,7 @@ ending c h below few =
       some = omega arith;
       quiet = ap (rises_in c) before ∙ all.1;
       rise = ap (rises_in c) place ∙ all.2;
-      later = round_behind_load c e.1 m few;
+      later = round_after_load c e.1 m few;
     }
 
 -- q whole periods after what is left of one

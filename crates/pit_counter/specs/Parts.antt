@@ -132,8 +132,8 @@ pub record IsCounter (c : CounterParts) : Type 0 where
   pub latched_status : IsTrue (latched_status_valid c)
 
 -- the first field after the counting element whose condition fails
-abbrev pub fault_behind_count : CounterParts → Option CounterField
-fault_behind_count c =
+abbrev pub fault_after_count : CounterParts → Option CounterField
+fault_after_count c =
     if not (part_valid c) then Some FirstByte
     else if not (read_order_valid c) then Some ReadOrder
     else if not (latched_count_valid c) then Some LatchedCount
@@ -147,4 +147,4 @@ first_fault c =
     else if not (flags_valid c) then Some Flags
     else if not (cr_valid c) then Some CountRegister
     else if not (ce_valid c) then Some CountingElement
-    else fault_behind_count c
+    else fault_after_count c

@@ -4,7 +4,7 @@ ghost use Rattle.std.specs.Prelude.{◌≡◌, ◌↔◌, IsNone};
 ghost use Rattle.pit_counter.specs.Parts.{
   IsCounter,
   first_fault,
-  fault_behind_count,
+  fault_after_count,
   only_where,
   may_be_low,
   count_flags_valid,
@@ -103,13 +103,13 @@ impl CounterParts {
         } else if !ce_valid(self) {
             Some(CounterField::CountingElement)
         } else {
-            self.fault_behind_count()
+            self.fault_after_count()
         }
     }
 
     /// The same of the fields after the counting element.
-    fn fault_behind_count(&self) -> Option<CounterField>
-        ensures { result ≡ fault_behind_count self.now }
+    fn fault_after_count(&self) -> Option<CounterField>
+        ensures { result ≡ fault_after_count self.now }
     {
         if !part_valid(self) {
             Some(CounterField::FirstByte)

@@ -216,7 +216,7 @@ fn mode_4_strobes_at_its_count(rt: HostRuntime) {
 }
 
 #[test]
-fn mode_5_strobes_behind_a_trigger(rt: HostRuntime) {
+fn mode_5_strobes_after_a_trigger(rt: HostRuntime) {
     let mut counter = programmed(5, false, 3);
     trigger(&mut counter);
     expect(

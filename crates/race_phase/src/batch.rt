@@ -105,11 +105,11 @@ fn answer_all<N: Name, R: Wait, G: Gate>(
     let mut done = 0;
     while done < records.len() {
         let run = match answer_run(worker, pass, records, index, places, done) {
-            Ok(behind) => behind,
+            Ok(next) => next,
             Err(Halted) => return Err(Halted),
         };
         match answer_next(worker, pass, records, index, places, run) {
-            Ok(behind) => done = behind,
+            Ok(next) => done = next,
             Err(Halted) => return Err(Halted),
         }
     }
@@ -139,7 +139,7 @@ fn answer_run<N: Name, R: Wait, G: Gate>(
 ) -> Result<usize, Halted>
     requires fit { AreAskable N.state index records.now places.old pass.old }
     requires from { from < length records.now }
-    ensures behind { IfOk result (λ k. (from ≤ k) × (k ≤ length records.now)) }
+    ensures place { IfOk result (λ k. (from ≤ k) × (k ≤ length records.now)) }
     ensures told { HasGoneOn N.state records.now places.old places.new from result pass.old pass.new }
 {
     if !begins_run(records, from) {
@@ -190,7 +190,7 @@ fn answer_next<N: Name, R: Wait, G: Gate>(
 ) -> Result<usize, Halted>
     requires fit { AreAskable N.state index records.now places.old pass.old }
     requires from { from ≤ length records.now }
-    ensures behind { IfOk result (λ k. (k ≡ from) × (k ≡ length records.now)
+    ensures place { IfOk result (λ k. (k ≡ from) × (k ≡ length records.now)
         ⊎ (k ≡ from + 1) × (k ≤ length records.now)) }
     ensures told { HasGoneOn N.state records.now places.old places.new from result pass.old pass.new }
 {

@@ -80,7 +80,7 @@ impl RecordList {
         }
     }
 
-    /// Puts a record behind the others. After an `Err` the records are as they were.
+    /// Puts a record after the others. After an `Err` the records are as they were.
     #[inline(always)]
     pub fn push(&mut self, given: &Record) -> Result<(), NoMemory>
         ensures ok { OnOk result (self.new ≡ self.old ++ given.now ∷ []) }
@@ -156,7 +156,7 @@ impl RecordList {
     }
 }
 
-/// Packs a record. One that has no room in a packed one is put behind those that are kept whole.
+/// Packs a record. One that has no room in a packed one is put after those that are kept whole.
 #[inline(always)]
 fn pack(wide: &mut Vec<Record>, given: &Record) -> Result<Packed, NoMemory>
     ensures record { IfOk result (λ p. unpacked wide.new.items given.now.cpu p ≡ given.now) }

@@ -82,12 +82,8 @@ fn one_update_carries_to_the_year(rt: HostRuntime) {
             [0, 0, 0x20, 3, 5, 6, 7],
         ),
     ];
-    for (form, before, behind) in cases {
-        assert_eq!(rt;
-            after(time(before), form, 1),
-            time(behind),
-            "from {before:?}"
-        );
+    for (form, before, then) in cases {
+        assert_eq!(rt; after(time(before), form, 1), time(then), "from {before:?}");
     }
 }
 
@@ -100,10 +96,10 @@ fn every_fourth_year_has_a_leap_day(rt: HostRuntime) {
         ([0, 0, 0, 1, 29, 2, 96], [0, 0, 0, 2, 1, 3, 96]),
         ([0, 0, 0, 7, 30, 4, 50], [0, 0, 0, 1, 1, 5, 50]),
     ];
-    for (before, behind) in cases {
+    for (before, then) in cases {
         assert_eq!(rt;
             after(time(before), BINARY, 86_400),
-            time(behind),
+            time(then),
             "from {before:?}"
         );
     }
@@ -145,12 +141,8 @@ fn invalid_bytes_count_as_their_lowest_value(rt: HostRuntime) {
             [0x59, 0x59, 0x12, 7, 1, 2, 4],
         ),
     ];
-    for (form, before, behind) in cases {
-        assert_eq!(rt;
-            after(time(before), form, 1),
-            time(behind),
-            "from {before:?}"
-        );
+    for (form, before, then) in cases {
+        assert_eq!(rt; after(time(before), form, 1), time(then), "from {before:?}");
         assert_eq!(rt; after(time(before), form, 0), time(before));
     }
 }
@@ -354,8 +346,8 @@ fn years_go_by_at_once(rt: HostRuntime) {
         (BINARY, 36_525 * 86_400 - 1, [59, 59, 23, 6, 31, 12, 99]),
         (BINARY, 36_525 * 86_400, [0, 0, 0, 7, 1, 1, 0]),
     ];
-    for (form, n, behind) in cases {
-        assert_eq!(rt; after(new_century, form, n), time(behind), "{n} updates");
+    for (form, n, then) in cases {
+        assert_eq!(rt; after(new_century, form, n), time(then), "{n} updates");
     }
     // an alarm that a day of updates doesn't match never does
     let never = Alarm {

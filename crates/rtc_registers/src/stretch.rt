@@ -11,7 +11,7 @@ ghost use Rattle.rtc_registers.specs.Parts.{IsRtc};
 ghost use Rattle.rtc_registers.specs.Pulses.{moved, rtc_pulsed_times, alarms_in};
 ghost use Rattle.rtc_registers.specs.Registers.{pf_of, af_of, uf_of, flags_byte, divider_of};
 ghost use Rattle.rtc_registers.specs.Registers.{form_of, time_of, alarm_of};
-ghost use Rattle.rtc_registers.specs.private.Stretch.{second_apart, flags_behind};
+ghost use Rattle.rtc_registers.specs.private.Stretch.{second_apart, flags_left};
 
 use crate::events::RtcEvents;
 use crate::parts::RtcParts;
@@ -41,7 +41,7 @@ fn replace(r: &mut RtcParts, divider: DividerParts, time: TimeBytes, flags: u8)
 
 /// Register C after these events.
 fn flags_after(r: &RtcParts, cycle: &CycleEvents, alarm: bool) -> u8
-    ensures { result ≡ flags_behind cycle.now alarm r.now }
+    ensures { result ≡ flags_left cycle.now alarm r.now }
 {
     registers::flags_byte(
         registers::is_flagged(r, PERIODIC) || cycle.ticks > 0,
@@ -57,7 +57,7 @@ fn take_events(r: &mut RtcParts, divider: DividerParts, cycle: &CycleEvents) -> 
         cycle.now.updates result }
     ensures state { r.new
         ≡ moved divider (updated_times (form_of r.old) cycle.now.updates (time_of r.old))
-        (flags_behind cycle.now (is_some result) r.old) r.old }
+        (flags_left cycle.now (is_some result) r.old) r.old }
 {
     let time = registers::time_of(r);
     let form = registers::form_of(r);

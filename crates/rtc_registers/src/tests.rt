@@ -27,7 +27,7 @@ fn write_at(clock: &mut Rtc, index: u8, byte: u8) {
 }
 
 #[test]
-fn century_turns_behind_uip(rt: HostRuntime) {
+fn century_turns_after_uip(rt: HostRuntime) {
     let mut clock = Rtc::power_on(last_second(0x23));
     let _ = clock.pulses(16_375);
     assert_eq!(rt; byte_at(&mut clock, 0x0a), 0x26);

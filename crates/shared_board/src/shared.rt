@@ -168,7 +168,7 @@ impl<N: Name> SharedBoard<N> {
     pub fn hold<R: Wait>(&self, rt: &R) -> Holding<'_, N> {
         let held = match self.held.try_lock() {
             Some(held) => held,
-            None => self.lock_behind(rt),
+            None => self.wait_for_lock(rt),
         };
         Holding {
             table: &self.table,
@@ -189,7 +189,7 @@ impl<N: Name> SharedBoard<N> {
     /// of its own, so that a lock that is free costs one exchange.
     #[cold]
     #[inline(never)]
-    fn lock_behind<R: Wait>(&self, rt: &R) -> MutexGuard<'_, CachePadded<Held<N>>> {
+    fn wait_for_lock<R: Wait>(&self, rt: &R) -> MutexGuard<'_, CachePadded<Held<N>>> {
         self.waiters.come();
         for _ in 0..LOOKS {
             for _ in 0..PAUSES {

@@ -39,13 +39,13 @@ pub(crate) struct Course {
 }
 
 impl Course {
-    ghost use Rattle.trace_gen.specs.private.Course.{text_behind, IsCourse, IsMade};
+    ghost use Rattle.trace_gen.specs.private.Course.{text_after, IsCourse, IsMade};
 
     /// Makes the next lines; after the last one there are none.
     pub(crate) fn advance(&mut self) -> Piece
         requires { IsCourse self.old }
-        ensures text { text_behind self.old ≡ result ++ text_behind self.new }
-        ensures end { result ≡ [] → text_behind self.old ≡ [] }
+        ensures text { text_after self.old ≡ result ++ text_after self.new }
+        ensures end { result ≡ [] → text_after self.old ≡ [] }
         ensures kept { IsCourse self.new }
     {
         match self.stage {

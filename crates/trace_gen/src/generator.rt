@@ -23,11 +23,11 @@ pub struct Generator {
 
 impl Model for Generator {
     ghost use Rattle.std.specs.Prelude.{ℕ, List, ◌++◌};
-    ghost use Rattle.trace_gen.specs.private.Course.{text_behind, IsCourse};
+    ghost use Rattle.trace_gen.specs.private.Course.{text_after, IsCourse};
 
     ghost Value = { List ℕ };
 
-    ghost view = { λ g. g.piece ++ text_behind g.course };
+    ghost view = { λ g. g.piece ++ text_after g.course };
 
     ghost invariant = { λ g. IsCourse g.course };
 }

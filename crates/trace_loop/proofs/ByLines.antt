@@ -42,14 +42,14 @@ use Rattle.trace_loop.specs.Progress.{
   told,
   answered,
   closed,
-  behind,
+  after_bytes,
   ran,
   finished,
   finished_by,
 }
 use Rattle.trace_loop.specs.ByLines.{lines_of, without_empty_last, line_told, ran_lines, EndsLong}
 use Rattle.trace_loop.specs.Cut.{HasNoEnd}
-use Rattle.trace_loop.proofs.Progresses.{behind-ended, heard-by, limit_least}
+use Rattle.trace_loop.proofs.Progresses.{after-ended, heard-by, limit_least}
 
 -- parts, cut by the end of a line
 abbrev parts_of : List ℕ → List (List ℕ)
@@ -138,7 +138,7 @@ module _ (A E : Type 0) (answer : ℕ → A → List ℕ → Answer A E) (closin
 
   -- what the input after a progress prints
   abbrev Agrees : List ℕ → Progress A E → Type 0
-  Agrees bs s = finished answer closing (behind answer bs s) ≡ ran_lines answer closing (lines_of (s.text ++ bs)) (record s { text = [] })
+  Agrees bs s = finished answer closing (after_bytes answer bs s) ≡ ran_lines answer closing (lines_of (s.text ++ bs)) (record s { text = [] })
 
   last_line : (text : List ℕ) (s : Progress A E) → s.text ≡ text → s.end ≡ None → HasNoEnd text → finished answer closing s
       ≡ ran_lines answer closing (lines_of text) (record s { text = [] })
@@ -153,12 +153,12 @@ module _ (A E : Type 0) (answer : ℕ → A → List ℕ → Answer A E) (closin
 
   -- a line that ends here
   line_end : (bs : List ℕ) (s : Progress A E) → s.end ≡ None → ((t : Progress A E) → t.end ≡ None → t.text ≡ [] → Agrees bs t)
-      → finished answer closing (behind answer bs (answered answer s)) ≡ ran_lines answer closing (lines_of bs) (answered answer s)
+      → finished answer closing (after_bytes answer bs (answered answer s)) ≡ ran_lines answer closing (lines_of bs) (answered answer s)
   line_end bs s going later = by_answer (answer s.line s.state s.text)
     where
-      by_answer : (x : Answer A E) → finished answer closing (behind answer bs (told x s)) ≡ ran_lines answer closing (lines_of bs) (told x s)
+      by_answer : (x : Answer A E) → finished answer closing (after_bytes answer bs (told x s)) ≡ ran_lines answer closing (lines_of bs) (told x s)
       by_answer (Goes block a) = later (told (Goes block a) s) refl refl
-      by_answer (Ends r) = ap (finished answer closing) (behind-ended A E answer closing bs (told (Ends r) s) r.end refl)
+      by_answer (Ends r) = ap (finished answer closing) (after-ended A E answer closing bs (told (Ends r) s) r.end refl)
           ∙ sym (lines-ended (lines_of bs) (told (Ends r) s) r.end refl)
 
   -- what ends a line that is too long
@@ -188,15 +188,15 @@ module _ (A E : Type 0) (answer : ℕ → A → List ℕ → Answer A E) (closin
       bytes = append_assoc s.text (b ∷ []) bs
 
       by_over : (t : Bool) → ltb (limit_of grown.text) (length grown.text) ≡ t → b ≢ 10
-          → finished answer closing (behind answer bs (cond t (answered answer grown) grown))
+          → finished answer closing (after_bytes answer bs (cond t (answered answer grown) grown))
           ≡ ran_lines answer closing (lines_of (s.text ++ b ∷ bs)) (record s { text = [] })
       by_over true over other =
           let long : limit_of grown.text < length grown.text = ltb-true (limit_of grown.text) (length grown.text) over in
           let answer_ : answer s.line s.state grown.text ≡ Ends (excess grown.text s) =
           ap (answer s.line s.state) (sym (append-nil grown.text)) ∙ long_ends.ends s.line s.state grown.text [] long in
           let ended_ : answered answer grown ≡ told (Ends (excess grown.text s)) grown = ap (λ (x : Answer A E). told x grown) answer_ in
-          ap (λ (t : Progress A E). finished answer closing (behind answer bs t)) ended_
-          ∙ ap (finished answer closing) (behind-ended A E answer closing bs (told (Ends (excess grown.text s)) grown) (excess grown.text s).end refl)
+          ap (λ (t : Progress A E). finished answer closing (after_bytes answer bs t)) ended_
+          ∙ ap (finished answer closing) (after-ended A E answer closing bs (told (Ends (excess grown.text s)) grown) (excess grown.text s).end refl)
           ∙ too_long grown.text bs s going (HasNoEnd-push s.text b none other) long
           ∙ ap (λ (l : List ℕ). ran_lines answer closing (lines_of l) (record s { text = [] })) bytes
       by_over false over other =
@@ -205,12 +205,12 @@ module _ (A E : Type 0) (answer : ℕ → A → List ℕ → Answer A E) (closin
 
       by_end : (t : Bool) → eqb b 10 ≡ t → Agrees (b ∷ bs) s
       by_end true is =
-          ap (λ (t : Progress A E). finished answer closing (behind answer bs t)) (heard-by A E answer closing b s true going is)
+          ap (λ (t : Progress A E). finished answer closing (after_bytes answer bs t)) (heard-by A E answer closing b s true going is)
           ∙ line_end bs s going (λ t on empty. later t on (subst HasNoEnd (sym empty) tt) (omega (arith, ap length empty, limit_least t.text)))
           ∙ first_told s.text (lines_of bs) (s.text ++ 10 ∷ bs) s going (lines-line s.text bs none)
           ∙ ap (λ (c : ℕ). ran_lines answer closing (lines_of (s.text ++ c ∷ bs)) (record s { text = [] })) (sym (eqb-true b 10 is))
       by_end false is =
-          ap (λ (t : Progress A E). finished answer closing (behind answer bs t)) (heard-by A E answer closing b s false going is)
+          ap (λ (t : Progress A E). finished answer closing (after_bytes answer bs t)) (heard-by A E answer closing b s false going is)
           ∙ by_over (ltb (limit_of grown.text) (length grown.text)) refl (eqb-false b 10 is)
 
   pub by_lines : (bs : List ℕ) (s : Progress A E) → s.end ≡ None → HasNoEnd s.text → length s.text ≤ limit_of s.text → Agrees bs s
@@ -220,5 +220,5 @@ module _ (A E : Type 0) (answer : ℕ → A → List ℕ → Answer A E) (closin
 
 -- what is printed for an input is what is printed for its lines
 pub replay_by_lines : (A E : Type 0) (answer : ℕ → A → List ℕ → Answer A E) (closing : ℕ → A → Closing E) → EndsLong A E answer → (a : A) (input : List ℕ)
-    → finished answer closing (behind answer input (opened a)) ≡ ran_lines answer closing (lines_of input) (opened a)
+    → finished answer closing (after_bytes answer input (opened a)) ≡ ran_lines answer closing (lines_of input) (opened a)
 replay_by_lines A E answer closing long_ends a input = by_lines A E answer closing long_ends input (opened a) refl tt (omega (arith, limit_least []))

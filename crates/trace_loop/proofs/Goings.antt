@@ -4,7 +4,7 @@ use Rattle.std.specs.Io.KnownBytes.{Appends}
 use Rattle.std.proofs.KnownBytes.{Appends-trans}
 use Rattle.board_io.specs.Faults.{Rose}
 use Rattle.trace_loop.specs.Text.{source_fault_text, memory_fault_text}
-use Rattle.trace_loop.specs.Progress.{Closing, Answer, Progress, printed, end_of, state_behind, standing, opened, behind, finished}
+use Rattle.trace_loop.specs.Progress.{Closing, Answer, Progress, printed, end_of, state_after, standing, opened, after_bytes, finished}
 use Rattle.trace_loop.specs.Cut.{Cut, IsLine, IsWhole}
 use Rattle.trace_loop.specs.Outcome.{Begins, run_of, Outcome, Said}
 use Rattle.trace_loop.specs.private.Going.{BothEnds, IsAsked, Stands, IsGoing, IsOver}
@@ -50,7 +50,7 @@ module _ (A E : Type 0) (answer : ℕ → A → List ℕ → Answer A E) (closin
   pub goes_line : (state now : A) (feed feed' : Feed) (ends : BothEnds) → IsGoing A E answer a start state feed ends → IsLine feed.lines feed'.lines
       → None ≡ end_of (answer (feed.lines.number + 1) state feed'.lines.line)
       → feed'.out.items ≡ feed.out.items ++ printed (answer (feed.lines.number + 1) state feed'.lines.line)
-      → now ≡ state_behind (answer (feed.lines.number + 1) state feed'.lines.line) state
+      → now ≡ state_after (answer (feed.lines.number + 1) state feed'.lines.line) state
       → IsGoing A E answer a start now feed' ends
   goes_line state now feed feed' ends k l none shown is = record {
     told = λ input e.
@@ -105,7 +105,7 @@ module _ (A E : Type 0) (answer : ℕ → A → List ℕ → Answer A E) (closin
   -- a run is over where the source didn't fail
   over : (now : BothEnds) (result : Ended E) (sink_before : ℕ) → ((input : List ℕ) → start.remaining ≡ Some input
       → Outcome (run_of answer closing a input (now.before - start.given) (now.given - start.given) start.faults now.faults) result start.contents now.contents)
-      → ((input : List ℕ) → start.remaining ≡ Some input → (behind answer (take (now.before - start.given) input) (opened a)).end ≡ None)
+      → ((input : List ℕ) → start.remaining ≡ Some input → (after_bytes answer (take (now.before - start.given) input) (opened a)).end ≡ None)
       → (start.done ≡ false → start.late ≡ false → now.late ≡ false) → now.faults ≡ start.faults → (result ≡ statuses.SourceFault → ⊥)
       → sink_before ≡ start.sink_faults → (result ≡ statuses.SinkFault → Rose sink_before now.sink_faults)
       → (result ≢ statuses.SinkFault → now.sink_faults ≡ sink_before) → IsOver A E answer closing a start now result
@@ -242,8 +242,8 @@ module _ (A E : Type 0) (answer : ℕ → A → List ℕ → Answer A E) (closin
             let s = stands_whole A E answer closing a input m.0 m.1 feed.out.items _ _ (feed.lines.number + 1) state feed.lines new m.4 l in
             let shown : Appends start.contents c P = Appends-trans start.contents ends.contents c m.1 feed.out.items m.3 all in
             let put = stands_put A E answer closing a input m.0 m.1 feed.out.items _ _ (feed.lines.number + 1) new.text state s in
-            let there : behind answer (take (now.given - start.given) input) (opened a)
-            ≡ standing (feed.lines.number + 1) new.text state P = ap (λ (n : ℕ). behind answer (take (n - start.given) input) (opened a)) given ∙ put.2 in
+            let there : after_bytes answer (take (now.given - start.given) input) (opened a)
+            ≡ standing (feed.lines.number + 1) new.text state P = ap (λ (n : ℕ). after_bytes answer (take (n - start.given) input) (opened a)) given ∙ put.2 in
             out_source A E answer closing a input _ _ _ _ result P (ends.given - start.given) start.contents c now.contents _
             (ap (λ (u : Progress A E). u.printed) there) (ap (λ (u : Progress A E). u.end) there) rose (is_asked input e) shown said;
         stopped = λ input e. (is_asked input e).going;

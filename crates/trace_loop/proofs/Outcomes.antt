@@ -51,10 +51,10 @@ use Rattle.trace_loop.specs.Progress.{
   standing,
   printed,
   end_of,
-  state_behind,
+  state_after,
   told,
   answered,
-  behind,
+  after_bytes,
   finished,
 }
 use Rattle.trace_loop.specs.Cut.{Cut, IsLine, IsWhole}
@@ -62,7 +62,7 @@ use Rattle.trace_loop.specs.Outcome.{Begins, Run, run_of, IsText, IsSourceFault,
 use Rattle.trace_loop.specs.private.Going.{IsAsked, Stands}
 use Rattle.trace_loop.specs.declared.ended.Ended.{Ended}
 use Rattle.trace_loop.specs.declared.ended.Ended.TheVariants as statuses
-use Rattle.trace_loop.proofs.Progresses.{behind-++, behind-bytes, behind-line, behind-excess, replay-starts, replay-ended, finished-behind}
+use Rattle.trace_loop.proofs.Progresses.{after-++, after-bytes, after-line, after-excess, replay-starts, replay-ended, finished-after}
 
 -- a count that rose in one part of a call rose in the call
 pub Rose-within : (a b c d : ℕ) → a ≤ b → c ≤ d → Rose b c → Rose a d
@@ -80,10 +80,10 @@ on_err_from_is_err {T} {E} (Ok x) A failed h = cc
 on_err_from_is_err {T} {E} (Err e) A failed h = h
 
 -- a text that was written whole, and another after it
-pub said-behind : {E : Type 0} (status result : Ended E) (c0 c1 c2 : Option (List ℕ)) (first second : List ℕ) (f0 f1 f2 : ℕ) → f0 ≤ f1 → Appends c0 c1 first
+pub said-after : {E : Type 0} (status result : Ended E) (c0 c1 c2 : Option (List ℕ)) (first second : List ℕ) (f0 f1 f2 : ℕ) → f0 ≤ f1 → Appends c0 c1 first
     → Said status result c1 c2 second (Rose f1 f2) → Said status result c0 c2 (first ++ second) (Rose f0 f2)
-said-behind status result c0 c1 c2 first second f0 f1 f2 more before (inl said) = inl (said.0, Appends-trans c0 c1 c2 first second before said.1)
-said-behind status result c0 c1 c2 first second f0 f1 f2 more before (inr cut) = inr (
+said-after status result c0 c1 c2 first second f0 f1 f2 more before (inl said) = inl (said.0, Appends-trans c0 c1 c2 first second before said.1)
+said-after status result c0 c1 c2 first second f0 f1 f2 more before (inr cut) = inr (
   cut.0,
   Rose-within f0 f1 f2 f2 more (omega arith) cut.1,
   (
@@ -118,10 +118,10 @@ front xs ys n is = take-append-le n xs ys (omega arith) ∙ take_all n xs (omega
 
 module _ (A E : Type 0) (answer : ℕ → A → List ℕ → Answer A E) (closing : ℕ → A → Closing E) (a : A) where
   -- a line that was cut off is answered
-  line_heard : (bytes : List ℕ) (line : ℕ) (state : A) (before : List ℕ) (old new : Cut) → behind answer bytes (opened a)
+  line_heard : (bytes : List ℕ) (line : ℕ) (state : A) (before : List ℕ) (old new : Cut) → after_bytes answer bytes (opened a)
       ≡ standing line old.text state before → IsLine old new
       → (more : List ℕ) × (old.left ≡ more ++ new.left) ×
-      (behind answer (bytes ++ more) (opened a) ≡ answered answer (standing line new.line state before)) × (0 < length old.left)
+      (after_bytes answer (bytes ++ more) (opened a) ≡ answered answer (standing line new.line state before)) × (0 < length old.left)
   line_heard bytes line state before old new there l = by_end l.end
     where
       s : Progress A E
@@ -133,20 +133,20 @@ module _ (A E : Type 0) (answer : ℕ → A → List ℕ → Answer A E) (closin
       by_end : ((length new.line ≤ limit_of new.line) × (old.left ≡ l.bytes ++ 10 ∷ new.left)) ⊎
           ((length new.line ≡ limit_of new.line + 1) × (old.left ≡ l.bytes ++ new.left))
           → (more : List ℕ) × (old.left ≡ more ++ new.left) ×
-          (behind answer (bytes ++ more) (opened a) ≡ answered answer (standing line new.line state before)) × (0 < length old.left)
+          (after_bytes answer (bytes ++ more) (opened a) ≡ answered answer (standing line new.line state before)) × (0 < length old.left)
       by_end (inl h) = (
         l.bytes ++ 10 ∷ [],
         h.1 ∙ sym (append_assoc l.bytes (10 ∷ []) new.left),
-        behind-++ A E answer closing bytes (l.bytes ++ 10 ∷ []) (opened a) ∙ ap (behind answer (l.bytes ++ 10 ∷ [])) there
-            ∙ behind-line A E answer closing l.bytes s refl l.in_line (subst (λ (t : List ℕ). length t ≤ limit_of t) l.line h.0)
+        after-++ A E answer closing bytes (l.bytes ++ 10 ∷ []) (opened a) ∙ ap (after_bytes answer (l.bytes ++ 10 ∷ [])) there
+            ∙ after-line A E answer closing l.bytes s refl l.in_line (subst (λ (t : List ℕ). length t ≤ limit_of t) l.line h.0)
             ∙ ap (λ (text : List ℕ). answered answer (standing line text state before)) (sym l.line),
         omega (arith, ap length h.1, length-append l.bytes (10 ∷ new.left)),
       )
       by_end (inr h) = (
         l.bytes,
         h.1,
-        behind-++ A E answer closing bytes l.bytes (opened a) ∙ ap (behind answer l.bytes) there
-            ∙ behind-excess A E answer closing l.bytes s refl l.in_line l.short (subst (λ (t : List ℕ). length t ≡ limit_of t + 1) l.line h.0)
+        after-++ A E answer closing bytes l.bytes (opened a) ∙ ap (after_bytes answer l.bytes) there
+            ∙ after-excess A E answer closing l.bytes s refl l.in_line l.short (subst (λ (t : List ℕ). length t ≡ limit_of t + 1) l.line h.0)
             ∙ ap (λ (text : List ℕ). answered answer (standing line text state before)) (sym l.line),
         omega (arith, ap length h.1, length-append l.bytes new.left, excess_some old.text l.bytes new.line l.line l.short h.0),
       )
@@ -156,7 +156,7 @@ module _ (A E : Type 0) (answer : ℕ → A → List ℕ → Answer A E) (closin
   stands_start input before = record { bytes = []; whole = refl; count = refl; there = refl; asked = λ some. absurd (omega arith) }
 
   told_goes : (x : Answer A E) (line : ℕ) (text : List ℕ) (state : A) (before : List ℕ) → None ≡ end_of x → told x (standing line text state before)
-      ≡ standing (line + 1) [] (state_behind x state) (before ++ printed x)
+      ≡ standing (line + 1) [] (state_after x state) (before ++ printed x)
   told_goes (Goes block b) line text state before none = refl
   told_goes (Ends r) line text state before none = cc
 
@@ -172,7 +172,7 @@ module _ (A E : Type 0) (answer : ℕ → A → List ℕ → Answer A E) (closin
   -- a line is answered, and the trace goes on
   pub stands_line : (input rest put out grown : List ℕ) (given before line : ℕ) (state now : A) (old new : Cut)
       → Stands A E answer a input old.left rest put out given before (standing line old.text state (put ++ out)) → IsLine old new
-      → None ≡ end_of (answer line state new.line) → grown ≡ out ++ printed (answer line state new.line) → now ≡ state_behind (answer line state new.line) state
+      → None ≡ end_of (answer line state new.line) → grown ≡ out ++ printed (answer line state new.line) → now ≡ state_after (answer line state new.line) state
       → Stands A E answer a input new.left rest put grown given before (standing (line + 1) new.text now (put ++ grown))
   stands_line input rest put out grown given before line state now old new s l none shown is =
       let h = line_heard s.bytes line state (put ++ out) old new s.there l in
@@ -183,7 +183,7 @@ module _ (A E : Type 0) (answer : ℕ → A → List ℕ → Answer A E) (closin
         count = omega (arith, s.count, length-append s.bytes h.0, ap length h.1, length-append h.0 new.left);
         there =
             h.2 ∙ told_goes x line new.line state (put ++ out) none
-            ∙ ap (λ (text : List ℕ). standing (line + 1) text (state_behind x state) ((put ++ out) ++ printed x)) (sym l.text)
+            ∙ ap (λ (text : List ℕ). standing (line + 1) text (state_after x state) ((put ++ out) ++ printed x)) (sym l.text)
             ∙ ap (λ (b : A). standing (line + 1) new.text b ((put ++ out) ++ printed x)) (sym is)
             ∙ ap (λ (p : List ℕ). standing (line + 1) new.text now p) (append_assoc put out (printed x) ∙ ap (λ (p : List ℕ). put ++ p) (sym shown));
         asked = λ some. later input put before (length s.bytes) (length (s.bytes ++ h.0)) (omega (arith, length-append s.bytes h.0))
@@ -194,7 +194,7 @@ module _ (A E : Type 0) (answer : ℕ → A → List ℕ → Answer A E) (closin
   pub ends_line : (input rest put out grown : List ℕ) (given before line : ℕ) (state : A) (status : E) (old new : Cut)
       → Stands A E answer a input old.left rest put out given before (standing line old.text state (put ++ out)) → IsLine old new
       → Some status ≡ end_of (answer line state new.line) → grown ≡ out ++ printed (answer line state new.line)
-      → (finished answer closing (behind answer input (opened a)) ≡ record { text = put ++ grown; end = status }) × (0 < length old.left)
+      → (finished answer closing (after_bytes answer input (opened a)) ≡ record { text = put ++ grown; end = status }) × (0 < length old.left)
   ends_line input rest put out grown given before line state status old new s l some shown =
       let h = line_heard s.bytes line state (put ++ out) old new s.there l in
       let x : Answer A E = answer line state new.line in
@@ -202,10 +202,10 @@ module _ (A E : Type 0) (answer : ℕ → A → List ℕ → Answer A E) (closin
       let parts : input ≡ (s.bytes ++ h.0) ++ (new.left ++ rest) =
       s.whole ∙ ap (λ (left : List ℕ). (s.bytes ++ left) ++ rest) h.1 ∙ ap (λ (l : List ℕ). l ++ rest) (sym (append_assoc s.bytes h.0 new.left))
       ∙ append_assoc (s.bytes ++ h.0) new.left rest in
-      let end : (behind answer (s.bytes ++ h.0) (opened a)).end ≡ Some status = ap (λ (u : Progress A E). u.end) h.2 ∙ t.0 in
-      let text : (behind answer (s.bytes ++ h.0) (opened a)).printed ≡ put ++ grown = ap (λ (u : Progress A E). u.printed) h.2 ∙ t.1
+      let end : (after_bytes answer (s.bytes ++ h.0) (opened a)).end ≡ Some status = ap (λ (u : Progress A E). u.end) h.2 ∙ t.0 in
+      let text : (after_bytes answer (s.bytes ++ h.0) (opened a)).printed ≡ put ++ grown = ap (λ (u : Progress A E). u.printed) h.2 ∙ t.1
       ∙ append_assoc put out (printed x) ∙ ap (λ (p : List ℕ). put ++ p) (sym shown) in (
-        ap (λ (l : List ℕ). finished answer closing (behind answer l (opened a))) parts
+        ap (λ (l : List ℕ). finished answer closing (after_bytes answer l (opened a))) parts
             ∙ replay-ended A E answer closing (s.bytes ++ h.0) (new.left ++ rest) (opened a) status end
             ∙ ap (λ (l : List ℕ). record { text = l; end = status }) text,
         h.3,
@@ -222,8 +222,8 @@ module _ (A E : Type 0) (answer : ℕ → A → List ℕ → Answer A E) (closin
         whole = s.whole ∙ ap (λ (l : List ℕ). l ++ rest) (sym (append-nil (s.bytes ++ old.left)));
         count = omega (arith, s.count, length-append s.bytes old.left);
         there =
-            behind-++ A E answer closing s.bytes old.left (opened a) ∙ ap (behind answer old.left) s.there
-            ∙ behind-bytes A E answer closing old.left (standing line old.text state (put ++ out)) refl l.in_line
+            after-++ A E answer closing s.bytes old.left (opened a) ∙ ap (after_bytes answer old.left) s.there
+            ∙ after-bytes A E answer closing old.left (standing line old.text state (put ++ out)) refl l.in_line
             (subst (λ (t : List ℕ). length t ≤ limit_of t) l.text l.short)
             ∙ ap (λ (text : List ℕ). standing line text state (put ++ out)) (sym l.text);
         asked = λ some. later input put before (length s.bytes) (length (s.bytes ++ old.left)) (omega (arith, length-append s.bytes old.left))
@@ -234,12 +234,12 @@ module _ (A E : Type 0) (answer : ℕ → A → List ℕ → Answer A E) (closin
   pub stands_put : (input rest put out : List ℕ) (given before line : ℕ) (text : List ℕ) (state : A)
       → Stands A E answer a input [] rest put out given before (standing line text state (put ++ out))
       → (input ≡ take given input ++ rest) × (length (take given input) ≡ given) ×
-      (behind answer (take given input) (opened a) ≡ standing line text state (put ++ out))
+      (after_bytes answer (take given input) (opened a) ≡ standing line text state (put ++ out))
   stands_put input rest put out given before line text state s =
       let bytes : input ≡ s.bytes ++ rest = s.whole ∙ ap (λ (l : List ℕ). l ++ rest) (append-nil s.bytes) in
       let len : length s.bytes ≡ given = omega (arith, s.count) in
       let same : take given input ≡ s.bytes = ap (take given) bytes ∙ front s.bytes rest given len in
-      (bytes ∙ ap (λ (l : List ℕ). l ++ rest) (sym same), ap length same ∙ len, ap (λ (l : List ℕ). behind answer l (opened a)) same ∙ s.there)
+      (bytes ∙ ap (λ (l : List ℕ). l ++ rest) (sym same), ap length same ∙ len, ap (λ (l : List ℕ). after_bytes answer l (opened a)) same ∙ s.there)
 
   -- a piece more was given
   pub stands_piece : (input rest more piece put out : List ℕ) (given before asked now line : ℕ) (text : List ℕ) (state : A)
@@ -248,8 +248,8 @@ module _ (A E : Type 0) (answer : ℕ → A → List ℕ → Answer A E) (closin
       → Stands A E answer a input piece more (put ++ out) [] now asked (standing line text state ((put ++ out) ++ []))
   stands_piece input rest more piece put out given before asked now line text state s parts is count =
       let t = stands_put input rest put out given before line text state s in
-      let same : behind answer (take asked input) (opened a)
-      ≡ standing line text state (put ++ out) = ap (λ (n : ℕ). behind answer (take n input) (opened a)) is ∙ t.2 in
+      let same : after_bytes answer (take asked input) (opened a)
+      ≡ standing line text state (put ++ out) = ap (λ (n : ℕ). after_bytes answer (take n input) (opened a)) is ∙ t.2 in
       record {
         bytes = take given input;
         whole = t.0 ∙ ap (λ (l : List ℕ). take given input ++ l) parts ∙ sym (append_assoc (take given input) piece more);
@@ -307,12 +307,12 @@ module _ (A E : Type 0) (answer : ℕ → A → List ℕ → Answer A E) (closin
   run_here : Run A E
   run_here = run_of answer closing a input before given f f'
 
-  held : (put : List ℕ) (place : ℕ) → IsAsked A E answer a input put before place → Begins (behind answer (take before input) (opened a)).printed put
-  held put place asked = ([], sym asked.printed_ ∙ sym (append-nil (behind answer (take before input) (opened a)).printed))
+  held : (put : List ℕ) (place : ℕ) → IsAsked A E answer a input put before place → Begins (after_bytes answer (take before input) (opened a)).printed put
+  held put place asked = ([], sym asked.printed_ ∙ sym (append-nil (after_bytes answer (take before input) (opened a)).printed))
 
   -- a line ended the trace
   pub out_ended : (end : E) (result : Ended E) (put last : List ℕ) (place : ℕ) (c0 c1 c2 : Option (List ℕ)) (fault : Type 0)
-      → finished answer closing (behind answer input (opened a)) ≡ record { text = put ++ last; end = end } → f' ≡ f
+      → finished answer closing (after_bytes answer input (opened a)) ≡ record { text = put ++ last; end = end } → f' ≡ f
       → IsAsked A E answer a input put before place → Appends c0 c1 put
       → Said (statuses.By end) result c1 c2 last fault → Outcome (run_of answer closing a input before given f f') result c0 c2
   out_ended end result put last place c0 c1 c2 fault is well asked shown said =
@@ -322,7 +322,7 @@ module _ (A E : Type 0) (answer : ℕ → A → List ℕ → Answer A E) (closin
 
   -- memory ran out after some lines
   pub out_memory : (result : Ended E) (put last text : List ℕ) (place : ℕ) (c0 c1 c2 : Option (List ℕ)) (fault : Type 0)
-      → (behind answer (take place input) (opened a)).printed ≡ put ++ text → (behind answer (take place input) (opened a)).end ≡ None → place ≤ given → last
+      → (after_bytes answer (take place input) (opened a)).printed ≡ put ++ text → (after_bytes answer (take place input) (opened a)).end ≡ None → place ≤ given → last
       ≡ text ++ memory_fault_text → f' ≡ f
       → IsAsked A E answer a input put before place → Appends c0 c1 put
       → Said statuses.NoMemory result c1 c2 last fault → Outcome (run_of answer closing a input before given f f') result c0 c2
@@ -340,7 +340,7 @@ module _ (A E : Type 0) (answer : ℕ → A → List ℕ → Answer A E) (closin
 
   -- the source failed
   pub out_source : (result : Ended E) (put : List ℕ) (place : ℕ) (c0 c1 c2 : Option (List ℕ)) (fault : Type 0)
-      → (behind answer (take given input) (opened a)).printed ≡ put → (behind answer (take given input) (opened a)).end ≡ None → Rose f f'
+      → (after_bytes answer (take given input) (opened a)).printed ≡ put → (after_bytes answer (take given input) (opened a)).end ≡ None → Rose f f'
       → IsAsked A E answer a input put before place → Appends c0 c1 put
       → Said statuses.SourceFault result c1 c2 source_fault_text fault → Outcome (run_of answer closing a input before given f f') result c0 c2
   out_source result put place c0 c1 c2 fault is going rose asked shown said =
@@ -350,32 +350,32 @@ module _ (A E : Type 0) (answer : ℕ → A → List ℕ → Answer A E) (closin
       (held put place asked) (inr (inl source)) (λ all. (put ++ source_fault_text, source, all)) said
 
   -- the sink failed
-  pub out_sink : (put last more : List ℕ) (place : ℕ) (c0 c1 c2 : Option (List ℕ)) → (finished answer closing (behind answer input (opened a))).text
+  pub out_sink : (put last more : List ℕ) (place : ℕ) (c0 c1 c2 : Option (List ℕ)) → (finished answer closing (after_bytes answer input (opened a))).text
       ≡ put ++ (last ++ more) → f' ≡ f → IsAsked A E answer a input put before place → Appends c0 c1 put
       → (cut : List ℕ) × Begins cut last × Appends c1 c2 cut → Outcome (run_of answer closing a input before given f f') statuses.SinkFault c0 c2
   out_sink put last more place c0 c1 c2 is well asked shown cut =
       cut_off A E (run_of answer closing a input before given f f') put last more
-      (finished answer closing (behind answer input (opened a))).text c0 c1 c2 shown (held put place asked) (inl (refl, well)) is cut
+      (finished answer closing (after_bytes answer input (opened a))).text c0 c1 c2 shown (held put place asked) (inl (refl, well)) is cut
 
 -- the place of a run, as a number of bytes
 pub stands_at : (A E : Type 0) (answer : ℕ → A → List ℕ → Answer A E) (closing : ℕ → A → Closing E) (a : A) (input left rest put out : List ℕ)
     (given before line : ℕ) (text : List ℕ) (state : A)
     → (s : Stands A E answer a input left rest put out given before (standing line text state (put ++ out)))
-    → behind answer (take (length s.bytes) input) (opened a) ≡ standing line text state (put ++ out)
+    → after_bytes answer (take (length s.bytes) input) (opened a) ≡ standing line text state (put ++ out)
 stands_at A E answer closing a input left rest put out given before line text state s =
-    ap (λ (l : List ℕ). behind answer l (opened a))
+    ap (λ (l : List ℕ). after_bytes answer l (opened a))
     (ap (take (length s.bytes)) (s.whole ∙ append_assoc s.bytes left rest) ∙ front s.bytes (left ++ rest) (length s.bytes) refl) ∙ s.there
 
 -- what is printed after the bytes so far is at the front of what is printed for the whole
 pub stands_starts : (A E : Type 0) (answer : ℕ → A → List ℕ → Answer A E) (closing : ℕ → A → Closing E) (a : A) (input left rest put out : List ℕ)
     (given before line : ℕ) (text : List ℕ) (state : A)
     → Stands A E answer a input left rest put out given before (standing line text state (put ++ out))
-    → (more : List ℕ) × ((finished answer closing (behind answer input (opened a))).text ≡ put ++ (out ++ more))
+    → (more : List ℕ) × ((finished answer closing (after_bytes answer input (opened a))).text ≡ put ++ (out ++ more))
 stands_starts A E answer closing a input left rest put out given before line text state s =
     let parts : input ≡ s.bytes ++ (left ++ rest) = s.whole ∙ append_assoc s.bytes left rest in
     let t = replay-starts A E answer closing s.bytes (left ++ rest) (opened a) in (
       t.0,
-      ap (λ (l : List ℕ). (finished answer closing (behind answer l (opened a))).text) parts ∙ t.1 ∙ ap (λ (u : Progress A E). u.printed ++ t.0) s.there
+      ap (λ (l : List ℕ). (finished answer closing (after_bytes answer l (opened a))).text) parts ∙ t.1 ∙ ap (λ (u : Progress A E). u.printed ++ t.0) s.there
           ∙ append_assoc put out t.0,
     )
 
@@ -414,8 +414,8 @@ pub stands_asked : (A E : Type 0) (answer : ℕ → A → List ℕ → Answer A 
     → Stands A E answer a input [] rest put out given before (standing line text state (put ++ out)) → asked ≡ given
     → IsAsked A E answer a input (put ++ out) asked given
 stands_asked A E answer closing a input rest put out given before asked line text state s is =
-    let same : behind answer (take asked input) (opened a)
-    ≡ standing line text state (put ++ out) = ap (λ (n : ℕ). behind answer (take n input) (opened a)) is
+    let same : after_bytes answer (take asked input) (opened a)
+    ≡ standing line text state (put ++ out) = ap (λ (n : ℕ). after_bytes answer (take n input) (opened a)) is
     ∙ (stands_put A E answer closing a input rest put out given before line text state s).2 in
     record { least = omega (arith, is); printed_ = ap (λ (u : Progress A E). u.printed) same; going = ap (λ (u : Progress A E). u.end) same }
 
@@ -431,12 +431,12 @@ stands_refill A E answer closing a input rest more piece put out given before as
 pub stands_end : (A E : Type 0) (answer : ℕ → A → List ℕ → Answer A E) (closing : ℕ → A → Closing E) (a : A) (input rest put out : List ℕ)
     (given before line : ℕ) (text : List ℕ) (state : A) (line' : ℕ) (text' : List ℕ)
     → Stands A E answer a input [] rest put out given before (standing line text state (put ++ out)) → rest ≡ [] → line' ≡ line → text' ≡ text
-    → (let r = finished answer closing (standing line' text' state []) in finished answer closing (behind answer input (opened a))
+    → (let r = finished answer closing (standing line' text' state []) in finished answer closing (after_bytes answer input (opened a))
     ≡ record { text = (put ++ out) ++ r.text; end = r.end })
 stands_end A E answer closing a input rest put out given before line text state line' text' s none el et =
     let t = stands_put A E answer closing a input rest put out given before line text state s in
     let all : input ≡ take given input = t.0 ∙ ap (λ (l : List ℕ). take given input ++ l) none ∙ append-nil (take given input) in
-    ap (λ (l : List ℕ). finished answer closing (behind answer l (opened a))) all ∙ ap (finished answer closing) t.2
+    ap (λ (l : List ℕ). finished answer closing (after_bytes answer l (opened a))) all ∙ ap (finished answer closing) t.2
     ∙ ap (λ (n : ℕ). finished answer closing (standing n text state (put ++ out))) (sym el)
     ∙ ap (λ (l : List ℕ). finished answer closing (standing line' l state (put ++ out))) (sym et)
-    ∙ finished-behind A E answer closing (put ++ out) line' text' state
+    ∙ finished-after A E answer closing (put ++ out) line' text' state

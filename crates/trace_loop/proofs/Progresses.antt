@@ -50,7 +50,7 @@ use Rattle.trace_loop.specs.Progress.{
   answered,
   checked,
   heard_until,
-  behind,
+  after_bytes,
   closed,
   ran,
   finished,
@@ -103,16 +103,16 @@ limit_part text rest m n more within long =
 
 module _ (A E : Type 0) (answer : ℕ → A → List ℕ → Answer A E) (closing : ℕ → A → Closing E) where
   -- bytes, and bytes after them
-  pub behind-++ : (xs ys : List ℕ) (s : Progress A E) → behind answer (xs ++ ys) s ≡ behind answer ys (behind answer xs s)
-  behind-++ [] ys s = refl
-  behind-++ (x ∷ xs) ys s = behind-++ xs ys (heard_until answer s.end x s)
+  pub after-++ : (xs ys : List ℕ) (s : Progress A E) → after_bytes answer (xs ++ ys) s ≡ after_bytes answer ys (after_bytes answer xs s)
+  after-++ [] ys s = refl
+  after-++ (x ∷ xs) ys s = after-++ xs ys (heard_until answer s.end x s)
 
   -- an ended trace stays as it is
-  pub behind-ended : (bs : List ℕ) (s : Progress A E) (status : E) → s.end ≡ Some status → behind answer bs s ≡ s
-  behind-ended [] s status e = refl
-  behind-ended (b ∷ bs) s status e =
+  pub after-ended : (bs : List ℕ) (s : Progress A E) (status : E) → s.end ≡ Some status → after_bytes answer bs s ≡ s
+  after-ended [] s status e = refl
+  after-ended (b ∷ bs) s status e =
       let same : heard_until answer s.end b s ≡ s = ap (λ (o : Option E). heard_until answer o b s) e in
-      ap (behind answer bs) same ∙ behind-ended bs s status e
+      ap (after_bytes answer bs) same ∙ after-ended bs s status e
 
   -- a byte, by whether it is a line's end
   pub heard-by : (b : ℕ) (s : Progress A E) (t : Bool) → s.end ≡ None → eqb b 10 ≡ t → heard_until answer s.end b s
@@ -132,38 +132,38 @@ module _ (A E : Type 0) (answer : ℕ → A → List ℕ → Answer A E) (closin
   heard-byte b s e other short = heard-other b s false e other (le-ltb (limit_of (s.text ++ b ∷ [])) (length (s.text ++ b ∷ [])) short)
 
   -- bytes of a line
-  pub behind-bytes : (bs : List ℕ) (s : Progress A E) → s.end ≡ None → HasNoEnd bs → length (s.text ++ bs) ≤ limit_of (s.text ++ bs) → behind answer bs s
+  pub after-bytes : (bs : List ℕ) (s : Progress A E) → s.end ≡ None → HasNoEnd bs → length (s.text ++ bs) ≤ limit_of (s.text ++ bs) → after_bytes answer bs s
       ≡ record s { text = s.text ++ bs }
-  behind-bytes [] s e none short = ap (λ (l : List ℕ). record s { text = l }) (sym (append-nil s.text))
-  behind-bytes (b ∷ bs) s e none short =
+  after-bytes [] s e none short = ap (λ (l : List ℕ). record s { text = l }) (sym (append-nil s.text))
+  after-bytes (b ∷ bs) s e none short =
       let parts : (s.text ++ b ∷ []) ++ bs ≡ s.text ++ b ∷ bs = append_assoc s.text (b ∷ []) bs in
       let whole : length ((s.text ++ b ∷ []) ++ bs) ≤ limit_of ((s.text ++ b ∷ []) ++ bs) = subst (λ (l : List ℕ). length l ≤ limit_of l) (sym parts) short in
-      ap (behind answer bs) (heard-byte b s e none.0 (limit_front (s.text ++ b ∷ []) bs (omega (arith, whole, length-append (s.text ++ b ∷ []) bs))))
-      ∙ behind-bytes bs (record s { text = s.text ++ b ∷ [] }) e none.1 whole
+      ap (after_bytes answer bs) (heard-byte b s e none.0 (limit_front (s.text ++ b ∷ []) bs (omega (arith, whole, length-append (s.text ++ b ∷ []) bs))))
+      ∙ after-bytes bs (record s { text = s.text ++ b ∷ [] }) e none.1 whole
       ∙ ap (λ (l : List ℕ). record s { text = l }) parts
 
   -- a line, and its end
-  pub behind-line : (bs : List ℕ) (s : Progress A E) → s.end ≡ None → HasNoEnd bs → length (s.text ++ bs) ≤ limit_of (s.text ++ bs)
-      → behind answer (bs ++ 10 ∷ []) s ≡ answered answer (record s { text = s.text ++ bs })
-  behind-line bs s e none short =
-      behind-++ bs (10 ∷ []) s ∙ ap (behind answer (10 ∷ [])) (behind-bytes bs s e none short)
+  pub after-line : (bs : List ℕ) (s : Progress A E) → s.end ≡ None → HasNoEnd bs → length (s.text ++ bs) ≤ limit_of (s.text ++ bs)
+      → after_bytes answer (bs ++ 10 ∷ []) s ≡ answered answer (record s { text = s.text ++ bs })
+  after-line bs s e none short =
+      after-++ bs (10 ∷ []) s ∙ ap (after_bytes answer (10 ∷ [])) (after-bytes bs s e none short)
       ∙ ap (λ (o : Option E). heard_until answer o 10 (record s { text = s.text ++ bs })) e
 
   -- a line that is one byte too long
-  pub behind-excess : (bs : List ℕ) (s : Progress A E) → s.end ≡ None → HasNoEnd bs → length s.text ≤ limit_of s.text → length (s.text ++ bs)
-      ≡ limit_of (s.text ++ bs) + 1 → behind answer bs s ≡ answered answer (record s { text = s.text ++ bs })
-  behind-excess [] s e none short long = absurd
+  pub after-excess : (bs : List ℕ) (s : Progress A E) → s.end ≡ None → HasNoEnd bs → length s.text ≤ limit_of s.text → length (s.text ++ bs)
+      ≡ limit_of (s.text ++ bs) + 1 → after_bytes answer bs s ≡ answered answer (record s { text = s.text ++ bs })
+  after-excess [] s e none short long = absurd
       (let same : s.text ++ [] ≡ s.text = append-nil s.text in omega (arith, short, long, ap length same, ap limit_of same))
-  behind-excess (b ∷ []) s e none short long =
+  after-excess (b ∷ []) s e none short long =
       heard-other b s true e none.0 (lt-ltb (limit_of (s.text ++ b ∷ [])) (length (s.text ++ b ∷ [])) (omega (arith, long)))
-  behind-excess (b ∷ c ∷ bs) s e none short long =
+  after-excess (b ∷ c ∷ bs) s e none short long =
       let parts : (s.text ++ b ∷ []) ++ c ∷ bs ≡ s.text ++ b ∷ c ∷ bs = append_assoc s.text (b ∷ []) (c ∷ bs) in
       let whole : length ((s.text ++ b ∷ []) ++ c ∷ bs)
       ≡ limit_of ((s.text ++ b ∷ []) ++ c ∷ bs) + 1 = subst (λ (l : List ℕ). length l ≡ limit_of l + 1) (sym parts) long in
       let within : length (s.text ++ b ∷ []) ≤ limit_of (s.text ++ b ∷ []) = limit_front (s.text ++ b ∷ []) (c ∷ bs)
       (omega (arith, whole, length-append (s.text ++ b ∷ []) (c ∷ bs))) in
-      ap (behind answer (c ∷ bs)) (heard-byte b s e none.0 within)
-      ∙ behind-excess (c ∷ bs) (record s { text = s.text ++ b ∷ [] }) e none.1 within whole
+      ap (after_bytes answer (c ∷ bs)) (heard-byte b s e none.0 within)
+      ∙ after-excess (c ∷ bs) (record s { text = s.text ++ b ∷ [] }) e none.1 within whole
       ∙ ap (λ (l : List ℕ). answered answer (record s { text = l })) parts
 
   -- what was printed stays
@@ -189,11 +189,11 @@ module _ (A E : Type 0) (answer : ℕ → A → List ℕ → Answer A E) (closin
       (either-starts (ltb (limit_of t.text) (length t.text)) s.printed (answered answer t) t (told-starts (answer t.line t.state t.text) t)
       (starts-refl s.printed))
 
-  pub behind-starts : (bs : List ℕ) (s : Progress A E) → Starts s.printed (behind answer bs s).printed
-  behind-starts [] s = starts-refl s.printed
-  behind-starts (b ∷ bs) s =
+  pub after-starts : (bs : List ℕ) (s : Progress A E) → Starts s.printed (after_bytes answer bs s).printed
+  after-starts [] s = starts-refl s.printed
+  after-starts (b ∷ bs) s =
       let t : Progress A E = heard_until answer s.end b s in
-      starts-trans s.printed t.printed (behind answer bs t).printed (heard-starts s.end b s) (behind-starts bs t)
+      starts-trans s.printed t.printed (after_bytes answer bs t).printed (heard-starts s.end b s) (after-starts bs t)
 
   ran-starts : (o : Option E) (s : Progress A E) → Starts s.printed (ran closing o s).text
   ran-starts None s = ((closing s.line s.state).text, refl)
@@ -213,42 +213,42 @@ module _ (A E : Type 0) (answer : ℕ → A → List ℕ → Answer A E) (closin
   finished-starts s = finished-starts-by s.end s
 
   -- what is printed after some bytes is at the front of what is printed for the whole
-  pub replay-starts : (xs ys : List ℕ) (s : Progress A E) → Starts (behind answer xs s).printed (finished answer closing (behind answer (xs ++ ys) s)).text
+  pub replay-starts : (xs ys : List ℕ) (s : Progress A E) → Starts (after_bytes answer xs s).printed (finished answer closing (after_bytes answer (xs ++ ys) s)).text
   replay-starts xs ys s =
-      let t : Progress A E = behind answer xs s in
-      subst (λ (u : Progress A E). Starts t.printed (finished answer closing u).text) (sym (behind-++ xs ys s))
-      (starts-trans t.printed (behind answer ys t).printed (finished answer closing (behind answer ys t)).text (behind-starts ys t)
-      (finished-starts (behind answer ys t)))
+      let t : Progress A E = after_bytes answer xs s in
+      subst (λ (u : Progress A E). Starts t.printed (finished answer closing u).text) (sym (after-++ xs ys s))
+      (starts-trans t.printed (after_bytes answer ys t).printed (finished answer closing (after_bytes answer ys t)).text (after-starts ys t)
+      (finished-starts (after_bytes answer ys t)))
 
   -- a trace that ended after some bytes has ended so
-  pub replay-ended : (xs ys : List ℕ) (s : Progress A E) (status : E) → (behind answer xs s).end ≡ Some status
-      → finished answer closing (behind answer (xs ++ ys) s) ≡ record { text = (behind answer xs s).printed; end = status }
+  pub replay-ended : (xs ys : List ℕ) (s : Progress A E) (status : E) → (after_bytes answer xs s).end ≡ Some status
+      → finished answer closing (after_bytes answer (xs ++ ys) s) ≡ record { text = (after_bytes answer xs s).printed; end = status }
   replay-ended xs ys s status e =
-      let t : Progress A E = behind answer xs s in
-      ap (finished answer closing) (behind-++ xs ys s ∙ behind-ended ys t status e) ∙ ap (λ (o : Option E). finished_by answer closing o t) e
+      let t : Progress A E = after_bytes answer xs s in
+      ap (finished answer closing) (after-++ xs ys s ∙ after-ended ys t status e) ∙ ap (λ (o : Option E). finished_by answer closing o t) e
 
   -- what is printed at the end of an input, after what was printed before
-  ran-behind : (p : List ℕ) (o : Option E) (s : Progress A E) → ran closing o (record s { printed = p ++ s.printed })
+  ran-after : (p : List ℕ) (o : Option E) (s : Progress A E) → ran closing o (record s { printed = p ++ s.printed })
       ≡ record { text = p ++ (ran closing o s).text; end = (ran closing o s).end }
-  ran-behind p None s = ap (λ (l : List ℕ). record { text = l; end = (closing s.line s.state).end }) (append_assoc p s.printed (closing s.line s.state).text)
-  ran-behind p (Some status) s = refl
+  ran-after p None s = ap (λ (l : List ℕ). record { text = l; end = (closing s.line s.state).end }) (append_assoc p s.printed (closing s.line s.state).text)
+  ran-after p (Some status) s = refl
 
-  told-behind : (p : List ℕ) (x : Answer A E) (s : Progress A E) → told x (record s { printed = p ++ s.printed })
+  told-after : (p : List ℕ) (x : Answer A E) (s : Progress A E) → told x (record s { printed = p ++ s.printed })
       ≡ (let t = told x s in record t { printed = p ++ t.printed })
-  told-behind p (Goes block a) s = ap (λ (l : List ℕ). record { line = s.line + 1; text = []; state = a; printed = l; end = None })
+  told-after p (Goes block a) s = ap (λ (l : List ℕ). record { line = s.line + 1; text = []; state = a; printed = l; end = None })
       (append_assoc p s.printed block)
-  told-behind p (Ends r) s = ap (λ (l : List ℕ). record s { printed = l; end = Some r.end }) (append_assoc p s.printed r.text)
+  told-after p (Ends r) s = ap (λ (l : List ℕ). record s { printed = l; end = Some r.end }) (append_assoc p s.printed r.text)
 
-  closed-behind : (p text : List ℕ) (s : Progress A E) → closed answer text (record s { printed = p ++ s.printed })
+  closed-after : (p text : List ℕ) (s : Progress A E) → closed answer text (record s { printed = p ++ s.printed })
       ≡ (let t = closed answer text s in record t { printed = p ++ t.printed })
-  closed-behind p [] s = refl
-  closed-behind p (b ∷ bs) s = told-behind p (answer s.line s.state s.text) s
+  closed-after p [] s = refl
+  closed-after p (b ∷ bs) s = told-after p (answer s.line s.state s.text) s
 
-  pub finished-behind : (p : List ℕ) (line : ℕ) (text : List ℕ) (state : A) → finished answer closing (standing line text state p)
+  pub finished-after : (p : List ℕ) (line : ℕ) (text : List ℕ) (state : A) → finished answer closing (standing line text state p)
       ≡ record { text = p ++ (finished answer closing (standing line text state [])).text; end = (finished answer closing (standing line text state [])).end }
-  finished-behind p line text state =
+  finished-after p line text state =
       let s : Progress A E = standing line text state [] in
       let t : Progress A E = closed answer text s in
       ap (λ (l : List ℕ). finished answer closing (standing line text state l)) (sym (append-nil p))
-      ∙ ap (λ (u : Progress A E). ran closing u.end u) (closed-behind p text s)
-      ∙ ran-behind p t.end t
+      ∙ ap (λ (u : Progress A E). ran closing u.end u) (closed-after p text s)
+      ∙ ran-after p t.end t

@@ -2,7 +2,7 @@
 use Rattle.std.proofs.Common.{◌≡◌, ℕ, List, [], ◌∷◌, ◌++◌, cond, codes, Some, None, map, refl, replicate}
 use Rattle.std.specs.Str.{bytes_eq}
 use Rattle.trace_loop.specs.ByLines.{lines_of}
-use Rattle.trace_loop.specs.Progress.{limit_of, Closing, Answer, Goes, Ends, Progress, opened, behind, finished}
+use Rattle.trace_loop.specs.Progress.{limit_of, Closing, Answer, Goes, Ends, Progress, opened, after_bytes, finished}
 
 -- empty lines count, and the last line's end begins no line
 lines : map lines_of (codes "a\n\nb" ∷ codes "a\n" ∷ []) ≡ (codes "a" ∷ [] ∷ codes "b" ∷ []) ∷ (codes "a" ∷ []) ∷ []
@@ -23,7 +23,7 @@ abbrev toy_closing : ℕ → ℕ → Closing ℕ
 toy_closing line count = record { text = codes "?"; end = 0 }
 
 abbrev toy_after : List ℕ → Progress ℕ ℕ
-toy_after bytes = behind toy bytes (opened 0)
+toy_after bytes = after_bytes toy bytes (opened 0)
 
 -- part of a line isn't answered, nor are bytes after the end
 parts_of_an_input : map toy_after (codes "a\nb" ∷ codes "end\nmore" ∷ [])

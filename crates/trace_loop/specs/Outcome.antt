@@ -5,7 +5,7 @@ use Rattle.std.specs.Io.KnownBytes.{Appends}
 use Rattle.board_io.specs.Ends.{Input, Output}
 use Rattle.board_io.specs.Faults.{Rose}
 use Rattle.trace_loop.specs.Text.{source_fault_text, memory_fault_text}
-use Rattle.trace_loop.specs.Progress.{Closing, Answer, Progress, opened, behind, finished}
+use Rattle.trace_loop.specs.Progress.{Closing, Answer, Progress, opened, after_bytes, finished}
 use Rattle.trace_loop.specs.declared.ended.Ended.{Ended}
 use Rattle.trace_loop.specs.declared.ended.Ended.TheVariants.{By, SourceFault, SinkFault, NoMemory}
 
@@ -28,8 +28,8 @@ pub record Run (A E : Type 0) : Type 0 where
 abbrev pub run_of : {A E : Type 0} → (ℕ → A → List ℕ → Answer A E) → (ℕ → A → Closing E) → A
     → List ℕ → ℕ → ℕ → ℕ → ℕ → Run A E
 run_of answer closing a input before given faults faults_now = record {
-  at = λ k. behind answer (take k input) (opened a);
-  whole = finished answer closing (behind answer input (opened a));
+  at = λ k. after_bytes answer (take k input) (opened a);
+  whole = finished answer closing (after_bytes answer input (opened a));
   before = before;
   given = given;
   faults = faults;
@@ -105,7 +105,7 @@ pub record Leaves {A E : Type 0} (answer : ℕ → A → List ℕ → Answer A E
   pub outcome : (input : List ℕ) → start.remaining ≡ Some input
       → Outcome (run_over answer closing a input start end) ended before.contents after.contents
   pub stopped : (input : List ℕ) → start.remaining ≡ Some input
-      → (behind answer (take (end.before - start.given) input) (opened a)).end ≡ None
+      → (after_bytes answer (take (end.before - start.given) input) (opened a)).end ≡ None
   pub ends : KeepsEnds SourceFault SinkFault ended start end before after
 
 -- what a call leaves of a sink that a text was put into: all of it, or its beginning where the sink

@@ -70,9 +70,9 @@ end_of (Goes text a) = None
 end_of (Ends r) = Some r.end
 
 -- the state after it
-abbrev pub state_behind : {A E : Type 0} → Answer A E → A → A
-state_behind (Goes text a) old = a
-state_behind (Ends r) old = old
+abbrev pub state_after : {A E : Type 0} → Answer A E → A → A
+state_after (Goes text a) old = a
+state_after (Ends r) old = old
 
 -- the present line is answered, by its number and the state before it
 abbrev pub answered : {A E : Type 0} → (ℕ → A → List ℕ → Answer A E) → Progress A E → Progress A E
@@ -95,10 +95,10 @@ heard_until answer None b s = heard answer b s
 heard_until answer (Some end) b s = s
 
 -- the bytes come, one after the other
-abbrev pub behind : {A E : Type 0} → (ℕ → A → List ℕ → Answer A E) → List ℕ → Progress A E
+abbrev pub after_bytes : {A E : Type 0} → (ℕ → A → List ℕ → Answer A E) → List ℕ → Progress A E
     → Progress A E
-behind answer [] s = s
-behind answer (b ∷ bs) s = behind answer bs (heard_until answer s.end b s)
+after_bytes answer [] s = s
+after_bytes answer (b ∷ bs) s = after_bytes answer bs (heard_until answer s.end b s)
 
 -- the last line is answered, though its end is missing
 abbrev pub closed : {A E : Type 0} → (ℕ → A → List ℕ → Answer A E) → List ℕ → Progress A E

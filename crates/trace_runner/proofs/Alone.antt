@@ -74,7 +74,7 @@ use Rattle.trace_runner.specs.FileText.{answer_on, records_text, phase_text, pha
 use Rattle.trace_runner.specs.Free.{IsFree}
 use Rattle.trace_runner.specs.Race.{RacePrints}
 use Rattle.trace_runner.specs.Replay.{ended}
-use Rattle.trace_runner.specs.Replayed.{board_behind, records_behind, replayed}
+use Rattle.trace_runner.specs.Replayed.{board_after_phases, records_after, replayed}
 use Rattle.trace_runner.specs.Trace.{TraceRead}
 use Rattle.trace_runner.proofs.ReadyNext.{moved-cpus}
 
@@ -154,7 +154,7 @@ clock-on b cpu h reading clock page on told = (
 -- the entries of a call, where no other pass comes between, say what the plain board says
 abbrev IsPlain : List Entry → List Entry → ℕ → ℕ → Call → Answer → Type 0
 IsPlain before first cpu h call a =
-    (a ≡ answer_on (board_after before) cpu h call) × (board_after (before ++ first) ≡ board_behind (board_after before) cpu h call)
+    (a ≡ answer_on (board_after before) cpu h call) × (board_after (before ++ first) ≡ board_after_phases (board_after before) cpu h call)
 
 module _ (s : BoardParts) (n cpu h : ℕ) (before first : List Entry) where
   call_plain : (call : Call) (a : Answer) → machine_of (board_after before) ≡ machine_of s → LegalFrom before first → CallMade s n cpu h call a first
@@ -214,7 +214,7 @@ module _ (s : BoardParts) (n cpu h : ℕ) (before first : List Entry) where
 -- so do those of all its records
 records_plain : (s : BoardParts) (ds : Deliveries) (n : ℕ) (rs : List Record) (before later : List Entry) (out : List ℕ)
     → machine_of (board_after before) ≡ machine_of s → LegalFrom before later → AllMade s ds n rs out later
-    → (out ≡ records_text ds (board_after before) rs) × (board_after (before ++ later) ≡ records_behind (board_after before) rs)
+    → (out ≡ records_text ds (board_after before) rs) × (board_after (before ++ later) ≡ records_after (board_after before) rs)
 records_plain s ds n [] before later out same legal made =
     (made.0, ap (λ es. board_after (before ++ es)) made.1 ∙ ap board_after (append-nil before))
 records_plain s ds n (r ∷ rs) before later out same legal made =
@@ -230,7 +230,7 @@ records_plain s ds n (r ∷ rs) before later out same legal made =
       made.4 ∙ ap (λ (x : Answer). block_of ds r.line x ++ more) step.0
           ∙ ap (λ (l : List ℕ). block_of ds r.line (answer_on b r.cpu r.h r.call) ++ l) (next.0 ∙ ap (λ (c : BoardParts). records_text ds c rs) step.1),
       ap (λ es. board_after (before ++ es)) made.5 ∙ ap board_after (sym (append_assoc before first rest)) ∙ next.1
-          ∙ ap (λ (c : BoardParts). records_behind c rs) step.1,
+          ∙ ap (λ (c : BoardParts). records_after c rs) step.1,
     )
 
 -- all records are those of processor 0
@@ -245,7 +245,7 @@ records_of-0 (r ∷ rs) format fit =
 -- a phase
 phase_plain : (b : BoardParts) (ds : Deliveries) (v : Phase) (next : BoardParts) (out : List ℕ) (format : ℕ) → b.cpus ≡ 1
     → All (IsFitting 1 format) v.records → PhaseEnded b ds v next out
-    → (out ≡ phase_text ds b v) × (next ≡ next_board v.end (records_behind b v.records))
+    → (out ≡ phase_text ds b v) × (next ≡ next_board v.end (records_after b v.records))
 phase_plain b ds v next out format one fit e =
     let rs : List Record = v.records in
     let later : List Entry = e.opens.0 in
@@ -261,22 +261,22 @@ phase_plain b ds v next out format one fit e =
     (subst (λ (es : List Entry). AllMade b ds 0 (records_of 0 rs) shown.0 es) mine shown.3) in
     let told = records_plain b ds 0 rs (Opened b ∷ []) later shown.0 refl legal made in
     let block : e.block ≡ records_text ds b rs = shown.2 ∙ ap (λ (l : List ℕ). shown.0 ++ l) shown.5 ∙ append-nil shown.0 ∙ told.0 in
-    let left : board_after e.h ≡ records_behind b rs = ap board_after whole ∙ told.1 in (
+    let left : board_after e.h ≡ records_after b rs = ap board_after whole ∙ told.1 in (
       e.text ∙ (λ i. block i ++ end_text ds v.end (left i)),
       e.leaves ∙ ap (next_board v.end) left,
     )
 
 -- no record changes how many processors there are, nor does the end of a phase
-board_behind-cpus : (b : BoardParts) (cpu h : ℕ) (call : Call) → (board_behind b cpu h call).cpus ≡ b.cpus
+board_after_phases-cpus : (b : BoardParts) (cpu h : ℕ) (call : Call) → (board_after_phases b cpu h call).cpus ≡ b.cpus
 unfolding after_clock
-board_behind-cpus b cpu h (Act a) = after_access-cpus b cpu h a
-board_behind-cpus b cpu h (ReadPage page) = refl
-board_behind-cpus b cpu h (ReadClock page) = refl
-board_behind-cpus b cpu h ReadHv = refl
+board_after_phases-cpus b cpu h (Act a) = after_access-cpus b cpu h a
+board_after_phases-cpus b cpu h (ReadPage page) = refl
+board_after_phases-cpus b cpu h (ReadClock page) = refl
+board_after_phases-cpus b cpu h ReadHv = refl
 
-records_behind-cpus : (b : BoardParts) (rs : List Record) → (records_behind b rs).cpus ≡ b.cpus
-records_behind-cpus b [] = refl
-records_behind-cpus b (r ∷ rs) = records_behind-cpus (board_behind b r.cpu r.h r.call) rs ∙ board_behind-cpus b r.cpu r.h r.call
+records_after-cpus : (b : BoardParts) (rs : List Record) → (records_after b rs).cpus ≡ b.cpus
+records_after-cpus b [] = refl
+records_after-cpus b (r ∷ rs) = records_after-cpus (board_after_phases b r.cpu r.h r.call) rs ∙ board_after_phases-cpus b r.cpu r.h r.call
 
 next_board-cpus : (end : End) (b : BoardParts) → (next_board end b).cpus ≡ b.cpus
 next_board-cpus Finish b = refl
@@ -291,8 +291,8 @@ phases_plain ds [] b state out format one fits told = (told.1, told.0)
 phases_plain ds (v ∷ vs) b state out format one fits told =
     let fit : IsPhase 1 format v = All-head (IsPhase 1 format) v vs fits in
     let here = phase_plain b ds v told.0 told.1 format one fit.records told.4 in
-    let cpus : told.0.cpus ≡ 1 = ap (λ (c : BoardParts). c.cpus) here.1 ∙ next_board-cpus v.end (records_behind b v.records)
-    ∙ records_behind-cpus b v.records ∙ one in
+    let cpus : told.0.cpus ≡ 1 = ap (λ (c : BoardParts). c.cpus) here.1 ∙ next_board-cpus v.end (records_after b v.records)
+    ∙ records_after-cpus b v.records ∙ one in
     let next = phases_plain ds vs told.0 state told.2 format cpus (All-tail (IsPhase 1 format) v vs fits) told.5 in (
       told.3 ∙ (λ i. here.0 i ++ next.0 i) ∙ ap (λ (c : BoardParts). phase_text ds b v ++ phases_text ds c vs) here.1,
       next.1 ∙ ap (λ (c : BoardParts). replayed c vs []) here.1,

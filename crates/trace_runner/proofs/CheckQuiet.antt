@@ -42,7 +42,7 @@ use Rattle.trace_loop.specs.Progress.{
   checked,
   heard,
   heard_until,
-  behind,
+  after_bytes,
   closed,
   ran,
   finished_by,
@@ -63,7 +63,7 @@ use Rattle.trace_runner.specs.Check.{
   read_on,
   check_answer,
   check_closing,
-  check_behind,
+  check_after,
   check,
 }
 use Rattle.trace_runner.specs.Checking.{Checking}
@@ -149,9 +149,9 @@ quiet-until : (end : Option Checked) (b : ℕ) (p : Progress Checking Checked) �
 quiet-until None b p is quiet = quiet-heard b p is (subst (λ (e : Option Checked). Silent e p.printed) is quiet)
 quiet-until (Some e) b p is quiet = quiet
 
-quiet-behind : (bytes : List ℕ) (p : Progress Checking Checked) → IsQuiet p → IsQuiet (behind check_answer bytes p)
-quiet-behind [] p quiet = quiet
-quiet-behind (b ∷ bs) p quiet = quiet-behind bs (heard_until check_answer p.end b p) (quiet-until p.end b p refl quiet)
+quiet-after : (bytes : List ℕ) (p : Progress Checking Checked) → IsQuiet p → IsQuiet (after_bytes check_answer bytes p)
+quiet-after [] p quiet = quiet
+quiet-after (b ∷ bs) p quiet = quiet-after bs (heard_until check_answer p.end b p) (quiet-until p.end b p refl quiet)
 
 quiet-closed : (text : List ℕ) (p : Progress Checking Checked) → p.end ≡ None → p.printed ≡ [] → IsQuiet (closed check_answer text p)
 quiet-closed [] p none is = silent_none p.end p.printed none is
@@ -170,10 +170,10 @@ silent_finished None p is quiet =
 silent_finished (Some e) p is quiet = silent_ran (Some e) p is quiet
 
 silent_check : (shows_state : Bool) (bytes : List ℕ) → SilentAnswer (Ends (check shows_state bytes))
-unfolding check check_behind
+unfolding check check_after
 silent_check shows_state bytes =
-    let p : Progress Checking Checked = behind check_answer bytes (opened (check_start shows_state)) in
-    silent_finished p.end p refl (quiet-behind bytes (opened (check_start shows_state)) refl)
+    let p : Progress Checking Checked = after_bytes check_answer bytes (opened (check_start shows_state)) in
+    silent_finished p.end p refl (quiet-after bytes (opened (check_start shows_state)) refl)
 
 -- a whole trace comes with no text
 pub silent_whole : (shows_state : Bool) (bytes : List ℕ) (trace : TraceRead) → (check shows_state bytes).end ≡ Whole trace
@@ -182,8 +182,8 @@ silent_whole shows_state bytes trace is =
     subst (λ (e : Checked). Silent (Some e) (check shows_state bytes).text) is (silent_check shows_state bytes)
 
 -- a check that has not ended has printed nothing
-pub silent_going : (shows_state : Bool) (bytes : List ℕ) → (check_behind shows_state bytes).end ≡ None → (check_behind shows_state bytes).printed ≡ []
-unfolding check_behind
+pub silent_going : (shows_state : Bool) (bytes : List ℕ) → (check_after shows_state bytes).end ≡ None → (check_after shows_state bytes).printed ≡ []
+unfolding check_after
 silent_going shows_state bytes none =
-    let p : Progress Checking Checked = behind check_answer bytes (opened (check_start shows_state)) in
-    subst (λ (e : Option Checked). Silent e p.printed) none (quiet-behind bytes (opened (check_start shows_state)) refl)
+    let p : Progress Checking Checked = after_bytes check_answer bytes (opened (check_start shows_state)) in
+    subst (λ (e : Option Checked). Silent e p.printed) none (quiet-after bytes (opened (check_start shows_state)) refl)

@@ -19,7 +19,7 @@ use Rattle.trace_text.specs.declared.records.Job.TheVariants.{Ask, Save, Move}
 use Rattle.trace_text.specs.declared.records.Record.{Record as Written}
 use Rattle.trace_text.specs.declared.reading.Item.{Item}
 use Rattle.trace_text.specs.declared.reading.Item.TheVariants.{Skipped, Part, Begun, Next, End}
-use Rattle.trace_loop.specs.Progress.{Answer, Goes, Ends, end_of, state_behind}
+use Rattle.trace_loop.specs.Progress.{Answer, Goes, Ends, end_of, state_after}
 use Rattle.trace_runner.specs.Records.{job_answer}
 use Rattle.trace_runner.specs.Replay.{with_board, record_answer, item_answer}
 use Rattle.trace_runner.specs.Ready.{IsRound, IsReady, JobSuits, Suits}
@@ -49,21 +49,21 @@ kept_ready line rec (Move khz start gap) s room ready sound = record { replay = 
 
 -- after a record that is answered
 answered_ready : (line : ℕ) (rec : Written) (s : Checking) (x : Answer BoardParts Verdict) → s.taken < 200000 → Keeps (kept line rec) s x
-    → (end_of (with_board x s.replay) ≡ None → IsReady (line + 1) (state_behind (with_board x s.replay) s.replay))
+    → (end_of (with_board x s.replay) ≡ None → IsReady (line + 1) (state_after (with_board x s.replay) s.replay))
     → end_of (checked_by (with_board x s.replay) line rec s) ≡ None
-    → IsCheckReady (line + 1) (state_behind (checked_by (with_board x s.replay) line rec s) s)
+    → IsCheckReady (line + 1) (state_after (checked_by (with_board x s.replay) line rec s) s)
 answered_ready line rec s (Goes block b) room keeps next none =
     kept_ready line rec rec.job (record s { replay = record s.replay { board = b } }) room (next refl) keeps
 answered_ready line rec s (Ends closing) room keeps next none = let no : ⊥ = cc in absurd no
 
 record_ready : (line : ℕ) (rec : Written) (s : Checking) → IsSound s → Suits (Next rec) s.replay.board
-    → (end_of (record_answer line rec s.replay) ≡ None → IsReady (line + 1) (state_behind (record_answer line rec s.replay) s.replay))
-    → end_of (record_checked line rec s) ≡ None → IsCheckReady (line + 1) (state_behind (record_checked line rec s) s)
+    → (end_of (record_answer line rec s.replay) ≡ None → IsReady (line + 1) (state_after (record_answer line rec s.replay) s.replay))
+    → end_of (record_checked line rec s) ≡ None → IsCheckReady (line + 1) (state_after (record_checked line rec s) s)
 record_ready line rec s sound suits next = by_full (leb 200000 s.taken) refl
   where
     by_full : (t : Bool) → leb 200000 s.taken ≡ t
         → end_of (cond t (Ends (too_many line)) (checked_by (record_answer line rec s.replay) line rec s)) ≡ None
-        → IsCheckReady (line + 1) (state_behind (cond t (Ends (too_many line)) (checked_by (record_answer line rec s.replay) line rec s)) s)
+        → IsCheckReady (line + 1) (state_after (cond t (Ends (too_many line)) (checked_by (record_answer line rec s.replay) line rec s)) s)
     by_full true is none = let no : ⊥ = cc in absurd no
     by_full false is none =
         let room : s.taken < 200000 = leb-false 200000 s.taken is in
@@ -93,8 +93,8 @@ item_suits t End b round valid = tt
 
 -- after an item
 item_ready : (line : ℕ) (item : Item) (s : Checking) → s.taken ≤ 200000 → IsSound s → Suits item s.replay.board
-    → (end_of (item_answer line item s.replay) ≡ None → IsReady (line + 1) (state_behind (item_answer line item s.replay) s.replay))
-    → end_of (item_checked line item s) ≡ None → IsCheckReady (line + 1) (state_behind (item_checked line item s) s)
+    → (end_of (item_answer line item s.replay) ≡ None → IsReady (line + 1) (state_after (item_answer line item s.replay) s.replay))
+    → end_of (item_checked line item s) ≡ None → IsCheckReady (line + 1) (state_after (item_checked line item s) s)
 item_ready line Skipped s few sound suits next none = record { replay = next refl; few = few; sound = sound }
 item_ready line Part s few sound suits next none = record { replay = next refl; few = few; sound = sound }
 item_ready line (Begun header) s few sound suits next none = record { replay = next refl; few = omega arith; sound = begun_sound header s }
@@ -106,11 +106,11 @@ pub check_next : {A : Type 0} (res : Result A NoMemory) (end : Option Checked) (
     → IsCheckReady line s
     → taken s.replay.reading text ≡ Ok item → IsItem s.replay.reading.stage item
     → t ≡ read_on text s → OnOk res (end ≡ end_of (item_checked line item t))
-    → OnOk res (end ≡ None → new ≡ state_behind (item_checked line item t) t) → OnOk res (end ≡ None → IsCheckReady (line + 1) new)
+    → OnOk res (end ≡ None → new ≡ state_after (item_checked line item t) t) → OnOk res (end ≡ None → IsCheckReady (line + 1) new)
 check_next (Err e) end line item s t new text ready took valid is ends state = tt
 check_next (Ok done) end line item s t new text ready took valid is ends state = λ none.
-    let next : end_of (item_checked line item t) ≡ None → IsCheckReady (line + 1) (state_behind (item_checked line item t) t) =
-    subst (λ (u : Checking). end_of (item_checked line item u) ≡ None → IsCheckReady (line + 1) (state_behind (item_checked line item u) u)) (sym is)
+    let next : end_of (item_checked line item t) ≡ None → IsCheckReady (line + 1) (state_after (item_checked line item t) t) =
+    subst (λ (u : Checking). end_of (item_checked line item u) ≡ None → IsCheckReady (line + 1) (state_after (item_checked line item u) u)) (sym is)
     (item_ready line item (read_on text s) ready.few (read_sound text s ready.sound)
     (item_suits s.replay.reading.stage item s.replay.board ready.replay.round valid) (ready_next line s.replay text item ready.replay took)) in
     subst (IsCheckReady (line + 1)) (sym (state none)) (next (sym ends ∙ none))

@@ -24,7 +24,7 @@ use Rattle.reply_text.specs.declared.ends.Refused.{Refused}
 use Rattle.reply_text.specs.declared.ends.Refused.TheVariants.{Fell, Range}
 use Rattle.trace_text.specs.Records.{IsFittingCall}
 use Rattle.trace_text.specs.declared.records.Call.{Call}
-use Rattle.trace_loop.specs.Progress.{Answer, Goes, Ends, printed, end_of, state_behind}
+use Rattle.trace_loop.specs.Progress.{Answer, Goes, Ends, printed, end_of, state_after}
 use Rattle.trace_loop.specs.Answered.{IsAnswered}
 use Rattle.trace_runner.specs.Records.{
   refused_count,
@@ -64,27 +64,27 @@ faulted b h (OutOfRange ns) is =
     rw (le-ltb h b.anchor.start is.0, le-leb RANGE_NS (time_at b.anchor h) late) (ap (λ (n : ℕ). Some (Range n)) (sym is.2))
 
 -- a read of a board, which is kept elsewhere as the same: at a count with a time it prints its text, and leaves its board
-module _ (text : BoardParts → List ℕ) (behind : BoardParts → BoardParts) (line h : ℕ) (r : Replay) where
+module _ (text : BoardParts → List ℕ) (changed : BoardParts → BoardParts) (line h : ℕ) (r : Replay) where
   abbrev pub read_of : BoardParts → Answer Replay Verdict
-  read_of b = with_board (read_answer (refused_count b h) line (text b) (behind b)) r
+  read_of b = with_board (read_answer (refused_count b h) line (text b) (changed b)) r
 
   module _ (b c : BoardParts) (same : b ≡ c) where
-    goes : HasTime b.anchor h → read_of c ≡ Goes (text b) (record r { board = behind b })
-    goes t = ap read_of (sym same) ∙ ap (λ (o : Option Refused). with_board (read_answer o line (text b) (behind b)) r) (counted b h t)
+    goes : HasTime b.anchor h → read_of c ≡ Goes (text b) (record r { board = changed b })
+    goes t = ap read_of (sym same) ∙ ap (λ (o : Option Refused). with_board (read_answer o line (text b) (changed b)) r) (counted b h t)
 
-    pub read-answered : (after : BoardParts) (out new : List ℕ) (end : Option Verdict) → HasTime b.anchor h → after ≡ behind b
+    pub read-answered : (after : BoardParts) (out new : List ℕ) (end : Option Verdict) → HasTime b.anchor h → after ≡ changed b
         → new ≡ out ++ text b → end ≡ None → (let done : Result (Unit {0}) NoMemory = Ok tt in
         IsAnswered (read_of c) r (record r { board = after }) out new end done)
     read-answered after out new end t is told none = record {
       printed = told ∙ ap (λ (x : Answer Replay Verdict). out ++ printed x) (sym (goes t));
       ends = none ∙ ap end_of (sym (goes t));
-      state = λ _. ap (λ (x : BoardParts). record r { board = x }) is ∙ ap (λ (x : Answer Replay Verdict). state_behind x r) (sym (goes t));
+      state = λ _. ap (λ (x : BoardParts). record r { board = x }) is ∙ ap (λ (x : Answer Replay Verdict). state_after x r) (sym (goes t));
       err = tt;
     }
 
     -- and at one without it is refused
     stopped : (fault : TimeFault) → IsFaultAt b.anchor h fault → read_of c ≡ Ends (stops line (refused_fault fault))
-    stopped fault is = ap read_of (sym same) ∙ ap (λ (o : Option Refused). with_board (read_answer o line (text b) (behind b)) r) (faulted b h fault is)
+    stopped fault is = ap read_of (sym same) ∙ ap (λ (o : Option Refused). with_board (read_answer o line (text b) (changed b)) r) (faulted b h fault is)
 
     pub refused-answered : (res : Result (Unit {0}) NoMemory) (fault : TimeFault) (why : Refused) (after : Replay) (out new : List ℕ) (end : Option Verdict)
         → IsFaultAt b.anchor h fault → why ≡ refused_fault fault → OnOk res (new ≡ out ++ refused_text line why) → OnOk res (end ≡ Some (Stopped line why))

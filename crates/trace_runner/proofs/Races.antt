@@ -3,7 +3,7 @@ use Rattle.std.proofs.Common.{◌≡◌, ℕ, Bool, List, [], Option, None, inl,
 use Rattle.std.specs.Io.KnownBytes.{Appends}
 use Rattle.std.proofs.KnownBytes.{Appends-trans}
 use Rattle.board_io.specs.Ends.{Input}
-use Rattle.trace_loop.specs.Progress.{opened, behind}
+use Rattle.trace_loop.specs.Progress.{opened, after_bytes}
 use Rattle.trace_loop.specs.Outcome.{Run, Outcome, run_over}
 use Rattle.trace_loop.specs.declared.ended.Ended.{Ended}
 use Rattle.trace_loop.specs.declared.ended.Ended.TheVariants.{By}
@@ -12,7 +12,7 @@ use Rattle.trace_runner.specs.Check.{
   check_start,
   check_answer,
   check_closing,
-  check_behind,
+  check_after,
   check,
 }
 use Rattle.trace_runner.specs.FileText.{file_text}
@@ -29,9 +29,9 @@ use Rattle.trace_runner.specs.declared.status.Verdict.{Verdict}
 use Rattle.trace_runner.proofs.Together.{replay_whole}
 
 -- a text that is put after nothing
-said_behind : (status result : Status) (old mid new : Option (List ℕ)) (text : List ℕ) (shown shown' : Type 0) → (shown → shown') → Appends old mid []
+said_after : (status result : Status) (old mid new : Option (List ℕ)) (text : List ℕ) (shown shown' : Type 0) → (shown → shown') → Appends old mid []
     → Said status result mid new text shown → Said status result old new text shown'
-said_behind status result old mid new text shown shown' shows front said = elim said [
+said_after status result old mid new text shown shown' shows front said = elim said [
   | inl all ↦ inl (all.0, Appends-trans old mid new [] text front all.1)
   | inr cut ↦ inr (cut.0, shows cut.1, (cut.2.0, cut.2.1, Appends-trans old mid new [] cut.2.0 front cut.2.2))
 ]
@@ -43,8 +43,8 @@ pub whole_left : (w : Run Checking Checked) (t : TraceRead) (result : Status) (o
 whole_left w t result old mid new shown shown' silent shows o left =
     let front : Appends old mid [] = subst (λ (text : List ℕ). Appends old mid text) (o.1.1.0 ∙ silent (sym o.0)) o.1.2 in
     let there : CheckedLeaves (Whole t) w.whole.text result old new shown' = elim left [
-      | inl done ↦ inl (done.0, done.1, said_behind _ result old mid new done.0 shown shown' shows front done.2)
-      | inr memory ↦ inr (said_behind _ result old mid new _ shown shown' shows front memory)
+      | inl done ↦ inl (done.0, done.1, said_after _ result old mid new done.0 shown shown' shows front done.2)
+      | inr memory ↦ inr (said_after _ result old mid new _ shown shown' shows front memory)
     ] in
     inl (o.1.1.1, subst (λ (x : Checked). CheckedLeaves x w.whole.text result old new shown') o.0 there)
 
@@ -63,8 +63,8 @@ alone_left w shows_state input t u result old mid new shown shown' silent same s
       o.1.1.1,
       elim there [
         | inl all ↦ inl (subst (λ (v : Verdict). Said (verdict_status v) result old new (replay shows_state input).text shown') (sym prints.0)
-            (subst (λ (x : List ℕ). Said Ok result old new x shown') text (said_behind Ok result old mid new (file_text t) shown shown' shows front all)))
-        | inr memory ↦ inr (said_behind NoMemory result old mid new _ shown shown' shows front memory)
+            (subst (λ (x : List ℕ). Said Ok result old new x shown') text (said_after Ok result old mid new (file_text t) shown shown' shows front all)))
+        | inr memory ↦ inr (said_after NoMemory result old mid new _ shown shown' shows front memory)
       ],
     )
   where
@@ -93,11 +93,11 @@ stopped_left w v result old new shown is o =
 pub checked_run : (shows_state : Bool) (input : List ℕ) (start end : Input) (s : Checking) (e : Ended Checked) (old new : Option (List ℕ))
     → s ≡ check_start shows_state → Outcome (run_over check_answer check_closing s input start end) e old new
     → Outcome (check_run shows_state input start end) e old new
-unfolding check check_behind
+unfolding check check_after
 checked_run shows_state input start end s e old new is o =
     subst (λ (t : Checking). Outcome (run_over check_answer check_closing t input start end) e old new) is o
 
-pub checked_on : (shows_state : Bool) (bytes : List ℕ) (s : Checking) → s ≡ check_start shows_state → (behind check_answer bytes (opened s)).end ≡ None
-    → (check_behind shows_state bytes).end ≡ None
-unfolding check_behind
-checked_on shows_state bytes s is none = subst (λ (t : Checking). (behind check_answer bytes (opened t)).end ≡ None) is none
+pub checked_on : (shows_state : Bool) (bytes : List ℕ) (s : Checking) → s ≡ check_start shows_state → (after_bytes check_answer bytes (opened s)).end ≡ None
+    → (check_after shows_state bytes).end ≡ None
+unfolding check_after
+checked_on shows_state bytes s is none = subst (λ (t : Checking). (after_bytes check_answer bytes (opened t)).end ≡ None) is none

@@ -58,11 +58,11 @@ use Rattle.trace_text.specs.Lines.{
   next,
   fault_of,
   answer_in,
-  stage_behind,
+  stage_after,
   answer_by,
-  behind_by,
+  after_line_by,
   taken,
-  behind,
+  after_line,
 }
 use Rattle.trace_text.specs.declared.faults.Reason.{Reason}
 use Rattle.trace_text.specs.declared.faults.Reason.TheVariants.{TooLong}
@@ -84,7 +84,7 @@ use Rattle.trace_text.specs.declared.reading.Stage.TheVariants.{
   Ended,
   Refused as Stops,
 }
-use Rattle.trace_loop.specs.Progress.{limit_of, Answer, Goes, Ends, end_of, state_behind}
+use Rattle.trace_loop.specs.Progress.{limit_of, Answer, Goes, Ends, end_of, state_after}
 use Rattle.trace_runner.specs.Records.{
   access_answer,
   read_answer,
@@ -208,7 +208,7 @@ same_job line cpu h (Move khz start gap) ds b = same_end _ (ByMove line cpu h (r
 -- after a record
 record_ready : (line : ℕ) (t : Stage) (r : Replay) (x : Answer BoardParts Verdict) → r.reading.lines ≡ line → r.reading.stage ≡ t → IsRound t r.board
     → Same r.board x
-    → end_of (with_board x r) ≡ None → IsReady (line + 1) (state_behind (with_board x r) r)
+    → end_of (with_board x r) ≡ None → IsReady (line + 1) (state_after (with_board x r) r)
 record_ready line t r (Goes text b) count is round same none = record {
   count = omega (arith, count);
   round = subst (λ (s : Stage). IsRound s b) (sym is) (round_same t r.board b same.0 same.1 round);
@@ -217,7 +217,7 @@ record_ready line t r (Ends closing) count is round same none = cc
 
 -- after an item
 item_ready : (line : ℕ) (item : Item) (t : Stage) (r : Replay) → r.reading.lines ≡ line → r.reading.stage ≡ t → Onward item t r.board
-    → end_of (item_answer line item r) ≡ None → IsReady (line + 1) (state_behind (item_answer line item r) r)
+    → end_of (item_answer line item r) ≡ None → IsReady (line + 1) (state_after (item_answer line item r) r)
 item_ready line Skipped t r count is round none = record { count = omega (arith, count); round = subst (λ (s : Stage). IsRound s r.board) (sym is) round }
 item_ready line Part t r count is round none = record { count = omega (arith, count); round = subst (λ (s : Stage). IsRound s r.board) (sym is) round }
 item_ready line (Begun header) t r count is round none = record {
@@ -232,8 +232,8 @@ item_ready line End t r count is round none = cc
 
 -- after a step of the reader
 step_ready : (line n : ℕ) (x : Result Stepped Reason) (item : Item) (r : Replay) → n ≡ line → Fits r.board x → answer_in n x ≡ Ok item
-    → (let r' : Replay = record r { reading = record { lines = n; stage = stage_behind n x } } in end_of (item_answer line item r') ≡ None
-    → IsReady (line + 1) (state_behind (item_answer line item r') r'))
+    → (let r' : Replay = record r { reading = record { lines = n; stage = stage_after n x } } in end_of (item_answer line item r') ≡ None
+    → IsReady (line + 1) (state_after (item_answer line item r') r'))
 step_ready line n (Err reason) item r count fit took = λ none. cc
 step_ready line n (Ok step) item r count fit took = λ none.
     let same : step.item ≡ item = cc in
@@ -242,22 +242,22 @@ step_ready line n (Ok step) item r count fit took = λ none.
 
 -- after a line that was read
 pub ready_next : (line : ℕ) (r : Replay) (text : List ℕ) (item : Item) → IsReady line r → taken r.reading text ≡ Ok item
-    → (let r' : Replay = record r { reading = behind text r.reading } in end_of (item_answer line item r') ≡ None
-    → IsReady (line + 1) (state_behind (item_answer line item r') r'))
+    → (let r' : Replay = record r { reading = after_line text r.reading } in end_of (item_answer line item r') ≡ None
+    → IsReady (line + 1) (state_after (item_answer line item r') r'))
 ready_next line r text item ready took =
     let n : ℕ = r.reading.lines + 1 in
     let none : fault_of r.reading.stage ≡ None = going r.reading.stage r.board ready.round in
     let x : Result Stepped Reason = stepped r.reading.stage text in
     let answer_ : answer_in n x ≡ Ok item = ap (λ (o : Option RecordFault). answer_by o r.reading text) (sym none) ∙ took in
-    let reading_ : behind text r.reading ≡ record { lines = n; stage = stage_behind n x } = ap (λ (o : Option RecordFault). behind_by o text r.reading) none in
+    let reading_ : after_line text r.reading ≡ record { lines = n; stage = stage_after n x } = ap (λ (o : Option RecordFault). after_line_by o text r.reading) none in
     subst (λ (p : ReadingParts).
     (let r' : Replay = record r { reading = p } in end_of (item_answer line item r') ≡ None
-    → IsReady (line + 1) (state_behind (item_answer line item r') r'))) (sym reading_)
+    → IsReady (line + 1) (state_after (item_answer line item r') r'))) (sym reading_)
     (step_ready line n x item r ready.count (fits text r.board r.reading.stage ready.round) answer_)
 
 -- an answer that was given, with its end in its place, as a fact of the next line
 pub next_if : (res : Result (Unit {0}) NoMemory) (n : ℕ) (a : Answer Replay Verdict) (old new : Replay) (end : Option Verdict)
-    → OnOk res (end ≡ end_of a) → OnOk res (end ≡ None → new ≡ state_behind a old) → (end_of a ≡ None → IsReady n (state_behind a old))
+    → OnOk res (end ≡ end_of a) → OnOk res (end ≡ None → new ≡ state_after a old) → (end_of a ≡ None → IsReady n (state_after a old))
     → OnOk res (end ≡ None → IsReady n new)
 next_if (Ok u) n a old new end ends state ready = λ none. subst (IsReady n) (sym (state none)) (ready (sym ends ∙ none))
 next_if (Err e) n a old new end ends state ready = tt

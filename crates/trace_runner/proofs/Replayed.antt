@@ -10,29 +10,29 @@ use Rattle.trace_text.specs.declared.records.Call.{Call}
 use Rattle.race_phase.specs.declared.records.Record.{Record}
 use Rattle.trace_runner.specs.Check.{with_call, ended_by, with_end}
 use Rattle.trace_runner.specs.Checking.{Checking}
-use Rattle.trace_runner.specs.Replayed.{board_behind, records_behind, replayed, on_board}
+use Rattle.trace_runner.specs.Replayed.{board_after_phases, records_after, replayed, on_board}
 use Rattle.race_phase.specs.declared.phases.Phase.{Phase}
 
 -- one record more
-records_behind-snoc : (b : BoardParts) (rs : List Record) (r : Record) → records_behind b (rs ++ r ∷ []) ≡ board_behind (records_behind b rs) r.cpu r.h r.call
-records_behind-snoc b [] r = refl
-records_behind-snoc b (x ∷ xs) r = records_behind-snoc (board_behind b x.cpu x.h x.call) xs r
+records_after-snoc : (b : BoardParts) (rs : List Record) (r : Record) → records_after b (rs ++ r ∷ []) ≡ board_after_phases (records_after b rs) r.cpu r.h r.call
+records_after-snoc b [] r = refl
+records_after-snoc b (x ∷ xs) r = records_after-snoc (board_after_phases b x.cpu x.h x.call) xs r
 
 pub replayed-record : (b : BoardParts) (vs : List Phase) (rs : List Record) (r : Record)
-    → replayed b vs (rs ++ r ∷ []) ≡ board_behind (replayed b vs rs) r.cpu r.h r.call
-replayed-record b [] rs r = records_behind-snoc b rs r
-replayed-record b (v ∷ vs) rs r = replayed-record (next_board v.end (records_behind b v.records)) vs rs r
+    → replayed b vs (rs ++ r ∷ []) ≡ board_after_phases (replayed b vs rs) r.cpu r.h r.call
+replayed-record b [] rs r = records_after-snoc b rs r
+replayed-record b (v ∷ vs) rs r = replayed-record (next_board v.end (records_after b v.records)) vs rs r
 
 -- a phase that ends
 pub replayed-end : (b : BoardParts) (vs : List Phase) (v : Phase) → replayed b (vs ++ v ∷ []) [] ≡ next_board v.end (replayed b vs v.records)
 replayed-end b [] v = refl
-replayed-end b (x ∷ xs) v = replayed-end (next_board x.end (records_behind b x.records)) xs v
+replayed-end b (x ∷ xs) v = replayed-end (next_board x.end (records_after b x.records)) xs v
 
 -- a check that keeps one record more
-pub pushed : (s : Checking) (line : ℕ) (rec : Written) (call : Call) (b : BoardParts) (rs : List Record) → b ≡ board_behind s.replay.board rec.cpu rec.h call
+pub pushed : (s : Checking) (line : ℕ) (rec : Written) (call : Call) (b : BoardParts) (rs : List Record) → b ≡ board_after_phases s.replay.board rec.cpu rec.h call
     → rs ≡ s.last ++ record { line = line; cpu = rec.cpu; h = rec.h; call = call } ∷ []
     → record s { replay = record s.replay { board = b }; last = rs; taken = s.taken + 1 }
-    ≡ with_call line rec call (on_board (board_behind s.replay.board rec.cpu rec.h call) s)
+    ≡ with_call line rec call (on_board (board_after_phases s.replay.board rec.cpu rec.h call) s)
 pushed s line rec call b rs e f = λ i. record s { replay = record s.replay { board = e i }; last = f i; taken = s.taken + 1 }
 
 -- or ends its phase

@@ -42,7 +42,7 @@ use Rattle.trace_loop.specs.Progress.{
   checked,
   heard,
   heard_until,
-  behind,
+  after_bytes,
 }
 use Rattle.trace_loop.specs.Outcome.{Begins, Run, Outcome}
 use Rattle.trace_loop.specs.declared.ended.Ended.{Ended}
@@ -98,9 +98,9 @@ quiet-until None b s is h = quiet-heard b s (h is)
 quiet-until (Some v) b s is h = h
 
 -- whatever comes
-pub quiet-behind : (bytes : List ℕ) (s : Progress Soak Verdict) → IsQuiet s → IsQuiet (behind soak_answer bytes s)
-quiet-behind [] s h = h
-quiet-behind (b ∷ bs) s h = quiet-behind bs (heard_until soak_answer s.end b s) (quiet-until s.end b s refl h)
+pub quiet-after : (bytes : List ℕ) (s : Progress Soak Verdict) → IsQuiet s → IsQuiet (after_bytes soak_answer bytes s)
+quiet-after [] s h = h
+quiet-after (b ∷ bs) s h = quiet-after bs (heard_until soak_answer s.end b s) (quiet-until s.end b s refl h)
 
 -- what a run has left that printed nothing before its end, over a source that has no fault
 pub soaked_is : (w : Run Soak Verdict) (e : Ended Verdict) (old new : Option (List ℕ)) (shown : Type 0)

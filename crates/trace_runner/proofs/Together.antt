@@ -53,11 +53,11 @@ use Rattle.trace_text.specs.Lines.{
   next,
   fault_of,
   answer_in,
-  stage_behind,
+  stage_after,
   answer_by,
-  behind_by,
+  after_line_by,
   taken,
-  behind as read_behind,
+  after_line,
 }
 use Rattle.trace_text.specs.Records.{record_of}
 use Rattle.trace_text.specs.Tokens.{words_of}
@@ -93,7 +93,7 @@ use Rattle.trace_loop.specs.Progress.{
   checked,
   heard,
   heard_until,
-  behind,
+  after_bytes,
   closed,
   ran,
   finished_by,
@@ -126,7 +126,7 @@ use Rattle.trace_runner.specs.Check.{
   read_on,
   check_answer,
   check_closing,
-  check_behind,
+  check_after,
   check,
 }
 use Rattle.trace_runner.specs.Checking.{Checking}
@@ -149,10 +149,10 @@ use Rattle.trace_runner.specs.Replay.{
   taken_answer,
   answer_of,
   closing_of,
-  progress_behind,
+  progress_after,
   replay,
 }
-use Rattle.trace_runner.specs.Replayed.{board_behind, records_behind, replayed}
+use Rattle.trace_runner.specs.Replayed.{board_after_phases, records_after, replayed}
 use Rattle.race_phase.specs.declared.phases.Phase.{Phase}
 use Rattle.trace_runner.specs.Trace.{TraceRead}
 use Rattle.trace_runner.specs.declared.check.Checked.{Checked}
@@ -164,23 +164,23 @@ use Rattle.trace_runner.proofs.Replayed.{replayed-record, replayed-end}
 
 -- one record more, and one phase more
 records_text-snoc : (ds : Deliveries) (b : BoardParts) (rs : List Record) (r : Record)
-    → records_text ds b (rs ++ r ∷ []) ≡ records_text ds b rs ++ block_of ds r.line (answer_on (records_behind b rs) r.cpu r.h r.call)
+    → records_text ds b (rs ++ r ∷ []) ≡ records_text ds b rs ++ block_of ds r.line (answer_on (records_after b rs) r.cpu r.h r.call)
 records_text-snoc ds b [] r = append-nil _
 records_text-snoc ds b (x ∷ xs) r =
     let front : List ℕ = block_of ds x.line (answer_on b x.cpu x.h x.call) in
-    let c : BoardParts = board_behind b x.cpu x.h x.call in
+    let c : BoardParts = board_after_phases b x.cpu x.h x.call in
     ap (λ (l : List ℕ). front ++ l) (records_text-snoc ds c xs r) ∙ sym (append_assoc front (records_text ds c xs) _)
 
 phases_text-snoc : (ds : Deliveries) (b : BoardParts) (vs : List Phase) (v : Phase)
     → phases_text ds b (vs ++ v ∷ []) ≡ phases_text ds b vs ++ phase_text ds (replayed b vs []) v
 phases_text-snoc ds b [] v = append-nil _
 phases_text-snoc ds b (x ∷ xs) v =
-    let c : BoardParts = next_board x.end (records_behind b x.records) in
+    let c : BoardParts = next_board x.end (records_after b x.records) in
     ap (λ (l : List ℕ). phase_text ds b x ++ l) (phases_text-snoc ds c xs v) ∙ sym (append_assoc (phase_text ds b x) (phases_text ds c xs) _)
 
-replayed-last : (b : BoardParts) (vs : List Phase) (rs : List Record) → replayed b vs rs ≡ records_behind (replayed b vs []) rs
+replayed-last : (b : BoardParts) (vs : List Phase) (rs : List Record) → replayed b vs rs ≡ records_after (replayed b vs []) rs
 replayed-last b [] rs = refl
-replayed-last b (v ∷ vs) rs = replayed-last (next_board v.end (records_behind b v.records)) vs rs
+replayed-last b (v ∷ vs) rs = replayed-last (next_board v.end (records_after b v.records)) vs rs
 
 -- what was kept prints this, and leaves this board
 abbrev text_of : Deliveries → BoardParts → List Phase → List Record → List ℕ
@@ -282,17 +282,17 @@ module _ (text line : List ℕ) where
       by_long true = tt
       by_long false = by_skip (is_skipped line)
 
-  taken_fresh : (n : ℕ) (x : Result Stepped Reason) (item : Item) → FreshStep text x → answer_in n x ≡ Ok item → FreshItem text item (stage_behind n x)
+  taken_fresh : (n : ℕ) (x : Result Stepped Reason) (item : Item) → FreshStep text x → answer_in n x ≡ Ok item → FreshItem text item (stage_after n x)
   taken_fresh n (Ok step) item fresh took =
       let same : step.item ≡ item = cc in subst (λ (i : Item). FreshItem text i step.stage) same fresh
   taken_fresh n (Err reason) item fresh took = cc
 
   fresh_by : (o : Option RecordFault) (r : ReadingParts) (item : Item) → Fresh text r.stage → answer_by o r line ≡ Ok item
-      → FreshItem text item (behind_by o line r).stage
+      → FreshItem text item (after_line_by o line r).stage
   fresh_by None r item fresh took = taken_fresh (r.lines + 1) (stepped r.stage line) item (step_fresh r.stage fresh) took
   fresh_by (Some fault) r item fresh took = cc
 
-  item_fresh : (r : ReadingParts) (item : Item) → Fresh text r.stage → taken r line ≡ Ok item → FreshItem text item (read_behind line r).stage
+  item_fresh : (r : ReadingParts) (item : Item) → Fresh text r.stage → taken r line ≡ Ok item → FreshItem text item (after_line line r).stage
   item_fresh r item fresh took = fresh_by (fault_of r.stage) r item fresh took
 
 -- the replay's board is that of what was kept
@@ -330,7 +330,7 @@ module _ (line cpu h : ℕ) (s : Checking) (board : s.replay.board ≡ replayed 
       let rec : Written = record { cpu = cpu; h = h; job = job } in
       Together (with_board x s.replay) (checked_by (with_board x s.replay) line rec s) (said s)
 
-  goes_call : (call : Call) (block : List ℕ) (c : BoardParts) → block ≡ block_of ds line (answer_on b cpu h call) → c ≡ board_behind b cpu h call
+  goes_call : (call : Call) (block : List ℕ) (c : BoardParts) → block ≡ block_of ds line (answer_on b cpu h call) → c ≡ board_after_phases b cpu h call
       → GoesSo (Goes block (record s.replay { board = c })) (with_call line (record { cpu = cpu; h = h; job = Ask call }) call (on c)) (said s)
   goes_call call block c is next =
       let r : Record = record { line = line; cpu = cpu; h = h; call = call } in (
@@ -339,7 +339,7 @@ module _ (line cpu h : ℕ) (s : Checking) (board : s.replay.board ≡ replayed 
             ∙ ap (λ (x : BoardParts). said s ++ block_of ds line (answer_on x cpu h call)) board
             ∙ text_of-record ds s.opening s.phases s.last r,
         record {
-          board = next ∙ ap (λ (x : BoardParts). board_behind x cpu h call) board ∙ sym (replayed-record s.opening s.phases s.last r);
+          board = next ∙ ap (λ (x : BoardParts). board_after_phases x cpu h call) board ∙ sym (replayed-record s.opening s.phases s.last r);
           fresh = fresh_running _ s.replay.reading.stage runs;
         },
       )
@@ -432,7 +432,7 @@ unfolding answer_of check_answer
 answer_so line s text kept_ = by_taken (taken s.replay.reading text) refl
   where
     by_taken : (x : Result Item RecordFault) → taken s.replay.reading text ≡ x
-        → Together (taken_answer line x (record s.replay { reading = read_behind text s.replay.reading })) (taken_checked line x (read_on text s)) (said s)
+        → Together (taken_answer line x (record s.replay { reading = after_line text s.replay.reading })) (taken_checked line x (read_on text s)) (said s)
     by_taken (Ok item) is = item_so line item (read_on text s) kept_.board (item_fresh (said s) text s.replay.reading item kept_.fresh is)
     by_taken (Err fault) is = fault_so line fault (read_on text s) _ (said s)
 
@@ -494,11 +494,11 @@ twins-until (Some (Whole t)) b p c is same =
 twins-until (Some (Stopped verdict)) b p c is same =
     subst (λ (e : Option Checked). Twins e (heard_until answer_of p.end b p) c) (sym is) tt
 
-twins-behind : (bytes : List ℕ) (p : Progress Replay Verdict) (c : Progress Checking Checked) → Twins c.end p c
-    → Twins (behind check_answer bytes c).end (behind answer_of bytes p) (behind check_answer bytes c)
-twins-behind [] p c same = same
-twins-behind (b ∷ bs) p c same =
-    twins-behind bs (heard_until answer_of p.end b p) (heard_until check_answer c.end b c) (twins-until c.end b p c refl same)
+twins-after : (bytes : List ℕ) (p : Progress Replay Verdict) (c : Progress Checking Checked) → Twins c.end p c
+    → Twins (after_bytes check_answer bytes c).end (after_bytes answer_of bytes p) (after_bytes check_answer bytes c)
+twins-after [] p c same = same
+twins-after (b ∷ bs) p c same =
+    twins-after bs (heard_until answer_of p.end b p) (heard_until check_answer c.end b c) (twins-until c.end b p c refl same)
 
 twins-closed : (text : List ℕ) (c : Progress Checking Checked) → c.end ≡ None → IsKept c.state
     → Twins (closed check_answer text c).end (closed answer_of text (twin c)) (closed check_answer text c)
@@ -529,13 +529,13 @@ twins-finished (Some (Whole t)) p c is same =
 twins-finished (Some (Stopped verdict)) p c is same = tt
 
 replay_so : (shows_state : Bool) (bytes : List ℕ) → EndsWith (check shows_state bytes).end (replay shows_state bytes)
-unfolding check check_behind replay progress_behind
+unfolding check check_after replay progress_after
 replay_so shows_state bytes =
     let c : Progress Checking Checked = opened (check_start shows_state) in
     let start : IsKept (check_start shows_state) = record { board = refl; fresh = refl } in
-    let d : Progress Checking Checked = behind check_answer bytes c in
-    twins-finished d.end (behind answer_of bytes (opened (at_start shows_state))) d refl
-    (twins-behind bytes (opened (at_start shows_state)) c (refl, start))
+    let d : Progress Checking Checked = after_bytes check_answer bytes c in
+    twins-finished d.end (after_bytes answer_of bytes (opened (at_start shows_state))) d refl
+    (twins-after bytes (opened (at_start shows_state)) c (refl, start))
 
 pub replay_whole : (shows_state : Bool) (bytes : List ℕ) (t : TraceRead) → (check shows_state bytes).end ≡ Whole t
     → ((replay shows_state bytes).end ≡ Done) × ((replay shows_state bytes).text ≡ file_text t)

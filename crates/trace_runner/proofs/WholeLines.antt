@@ -73,14 +73,14 @@ use Rattle.reply_text.specs.Text.{
   up_numbers,
 }
 use Rattle.reply_text.specs.declared.ends.Refused.{Refused}
-use Rattle.trace_text.specs.Lines.{taken, behind as read_behind}
+use Rattle.trace_text.specs.Lines.{taken, after_line}
 use Rattle.trace_text.specs.declared.faults.RecordFault.{RecordFault}
 use Rattle.trace_text.specs.declared.reading.Item.{Item}
 use Rattle.trace_text.specs.declared.reading.Item.TheVariants.{Skipped, Part, Begun, Next, End}
 use Rattle.trace_text.specs.declared.records.Job.{Job}
 use Rattle.trace_text.specs.declared.records.Call.TheVariants.{Act, ReadPage, ReadClock, ReadHv}
 use Rattle.trace_text.specs.declared.records.Job.TheVariants.{Ask, Save, Move}
-use Rattle.trace_loop.specs.Progress.{limit_of, Answer, Goes, Ends, Progress, printed, opened, told, answered, checked, heard, heard_until, behind}
+use Rattle.trace_loop.specs.Progress.{limit_of, Answer, Goes, Ends, Progress, printed, opened, told, answered, checked, heard, heard_until, after_bytes}
 use Rattle.race_phase.specs.Blocks.{edges_text, messages_text, block_of}
 use Rattle.race_phase.specs.Phases.{end_fault}
 use Rattle.race_phase.specs.declared.faults.Fault.{Fault}
@@ -104,7 +104,7 @@ use Rattle.trace_runner.specs.Replay.{
   item_answer,
   taken_answer,
   answer_of,
-  progress_behind,
+  progress_after,
 }
 use Rattle.trace_runner.specs.WholeLines.{IsWholeLines}
 use Rattle.trace_runner.specs.declared.replay.Replay.{Replay}
@@ -114,20 +114,20 @@ use Rattle.trace_runner.specs.declared.status.Verdict.{Verdict}
 abbrev EndsLine : List ℕ → Type 0
 EndsLine text = (front : List ℕ) × (text ≡ front ++ 10 ∷ [])
 
-ends_behind : (a b : List ℕ) → EndsLine b → EndsLine (a ++ b)
-ends_behind a b e = (a ++ e.0, ap (λ (t : List ℕ). a ++ t) e.1 ∙ sym (append_assoc a e.0 (10 ∷ [])))
+ends_after : (a b : List ℕ) → EndsLine b → EndsLine (a ++ b)
+ends_after a b e = (a ++ e.0, ap (λ (t : List ℕ). a ++ t) e.1 ∙ sym (append_assoc a e.0 (10 ∷ [])))
 
-whole_behind : (a b : List ℕ) → IsWholeLines a → IsWholeLines b → IsWholeLines (a ++ b)
-whole_behind a b x (inl none) = subst IsWholeLines (sym (ap (λ (t : List ℕ). a ++ t) none ∙ append-nil a)) x
-whole_behind a b x (inr e) = inr (ends_behind a b e)
+whole_after : (a b : List ℕ) → IsWholeLines a → IsWholeLines b → IsWholeLines (a ++ b)
+whole_after a b x (inl none) = subst IsWholeLines (sym (ap (λ (t : List ℕ). a ++ t) none ∙ append-nil a)) x
+whole_after a b x (inr e) = inr (ends_after a b e)
 
 -- each printed line
 spaced_ends : (ws : List (List ℕ)) → EndsLine (spaced ws)
 spaced_ends [] = ([], refl)
-spaced_ends (w ∷ ws) = ends_behind (32 ∷ w) (spaced ws) (spaced_ends ws)
+spaced_ends (w ∷ ws) = ends_after (32 ∷ w) (spaced ws) (spaced_ends ws)
 
 line_ends : (w : List ℕ) (ws : List (List ℕ)) → EndsLine (line_of w ws)
-line_ends w ws = ends_behind w (spaced ws) (spaced_ends ws)
+line_ends w ws = ends_after w (spaced ws) (spaced_ends ws)
 
 board_ends : (line : ℕ) (reply : Reply) → EndsLine (board_text line reply)
 unfolding value_text
@@ -181,7 +181,7 @@ unfolding block_of
 access_whole (Some refusal) line cpu h a ds b = inr (refused_ends line (refused_access refusal))
 access_whole None line cpu h a ds b =
     let reply : Reply = reply_of b cpu h a in
-    inr (ends_behind (edges_text ds reply.edges ++ messages_text ds reply.bursts) (board_text line reply) (board_ends line reply))
+    inr (ends_after (edges_text ds reply.edges ++ messages_text ds reply.bursts) (board_text line reply) (board_ends line reply))
 
 read_whole : (o : Option Refused) (line : ℕ) (text : List ℕ) (b : BoardParts) → EndsLine text → IsWholeLines (printed (read_answer o line text b))
 read_whole (Some why) line text b ends = inr (refused_ends line why)
@@ -193,13 +193,13 @@ end_whole None Finish ds b = inl refl
 end_whole None (BySave line cpu h) ds b =
     let reply : Reply = reply_of b cpu h Step in
     let bytes : List ℕ = bytes_of (after_access b cpu h Step) in
-    inr (ends_behind (edges_text ds reply.edges ++ messages_text ds reply.bursts) (save_text line reply.number bytes) (save_ends line reply.number bytes))
+    inr (ends_after (edges_text ds reply.edges ++ messages_text ds reply.bursts) (save_text line reply.number bytes) (save_ends line reply.number bytes))
 end_whole None (ByMove line cpu h host) ds b =
     let reply : Reply = reply_of b cpu h Step in
     let c : BoardParts = after_access b cpu h Step in
     let time : ℕ = now_of (moved_to host.khz host.start host.gap c) in
     let edges : List ℕ = edges_text ds reply.edges ++ edges_text ds (run (now_of c) host.gap (devices_in c)).edges in
-    inr (ends_behind (edges ++ messages_text ds reply.bursts ++ messages_text ds (gap_bursts host.gap c)) (move_text line reply.number time)
+    inr (ends_after (edges ++ messages_text ds reply.bursts ++ messages_text ds (gap_bursts host.gap c)) (move_text line reply.number time)
     (move_ends line reply.number time))
 
 job_whole : (line cpu h : ℕ) (job : Job) (ds : Deliveries) (b : BoardParts) → IsWholeLines (printed (job_answer line cpu h job ds b))
@@ -219,7 +219,7 @@ board_whole (Goes text b) r whole = whole
 board_whole (Ends closing) r whole = whole
 
 ended_whole : (shows_state : Bool) (b : BoardParts) → IsWholeLines (ended shows_state b).text
-ended_whole true b = inr (ends_behind (final_of b) (state_text (bytes_of b)) (state_ends (bytes_of b)))
+ended_whole true b = inr (ends_after (final_of b) (state_text (bytes_of b)) (state_ends (bytes_of b)))
 ended_whole false b = inr (final_ends b)
 
 item_whole : (line : ℕ) (item : Item) (r : Replay) → IsWholeLines (printed (item_answer line item r))
@@ -237,13 +237,13 @@ taken_whole line (Err fault) r = inr (refused_ends fault.line (refused_by fault.
 -- by the bytes
 told_whole : (a : Answer Replay Verdict) (p : Progress Replay Verdict) → IsWholeLines (printed a) → IsWholeLines p.printed
     → IsWholeLines (told a p).printed
-told_whole (Goes block r) p block_whole before = whole_behind p.printed block before block_whole
-told_whole (Ends closing) p text_whole before = whole_behind p.printed closing.text before text_whole
+told_whole (Goes block r) p block_whole before = whole_after p.printed block before block_whole
+told_whole (Ends closing) p text_whole before = whole_after p.printed closing.text before text_whole
 
 answered_whole : (p : Progress Replay Verdict) → IsWholeLines p.printed → IsWholeLines (answered answer_of p).printed
 unfolding answer_of
 answered_whole p before =
-    let r : Replay = record p.state { reading = read_behind p.text p.state.reading } in
+    let r : Replay = record p.state { reading = after_line p.text p.state.reading } in
     told_whole (taken_answer p.line (taken p.state.reading p.text) r) p (taken_whole p.line (taken p.state.reading p.text) r) before
 
 either_whole : (t : Bool) (a b : Progress Replay Verdict) → IsWholeLines a.printed → IsWholeLines b.printed → IsWholeLines (cond t a b).printed
@@ -261,11 +261,11 @@ until_whole : (end : Option Verdict) (b : ℕ) (p : Progress Replay Verdict) →
 until_whole None b p before = heard_whole b p before
 until_whole (Some end) b p before = before
 
-behind_whole : (bytes : List ℕ) (p : Progress Replay Verdict) → IsWholeLines p.printed → IsWholeLines (behind answer_of bytes p).printed
-behind_whole [] p before = before
-behind_whole (b ∷ bs) p before = behind_whole bs (heard_until answer_of p.end b p) (until_whole p.end b p before)
+after_whole : (bytes : List ℕ) (p : Progress Replay Verdict) → IsWholeLines p.printed → IsWholeLines (after_bytes answer_of bytes p).printed
+after_whole [] p before = before
+after_whole (b ∷ bs) p before = after_whole bs (heard_until answer_of p.end b p) (until_whole p.end b p before)
 
 -- what a replay has printed after any bytes
-pub progress_whole : (shows_state : Bool) (bytes : List ℕ) → IsWholeLines (progress_behind shows_state bytes).printed
-unfolding progress_behind
-progress_whole shows_state bytes = behind_whole bytes (opened (at_start shows_state)) (inl refl)
+pub progress_whole : (shows_state : Bool) (bytes : List ℕ) → IsWholeLines (progress_after shows_state bytes).printed
+unfolding progress_after
+progress_whole shows_state bytes = after_whole bytes (opened (at_start shows_state)) (inl refl)

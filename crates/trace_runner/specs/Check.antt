@@ -19,7 +19,7 @@ use Rattle.std.specs.Prelude.{
   if◌then◌else◌,
 }
 use Rattle.reply_text.specs.declared.ends.Refused.TheVariants.{Many}
-use Rattle.trace_text.specs.Lines.{taken, behind}
+use Rattle.trace_text.specs.Lines.{taken, after_line}
 use Rattle.trace_text.specs.declared.faults.Reason.{Reason}
 use Rattle.trace_text.specs.declared.faults.Reason.TheVariants.{Steal, Cpu, CounterFell}
 use Rattle.trace_text.specs.declared.faults.RecordFault.{RecordFault}
@@ -36,7 +36,7 @@ use Rattle.trace_loop.specs.Progress.{
   Ends,
   Progress,
   opened,
-  behind as heard_behind,
+  after_bytes,
   finished,
 }
 use Rattle.trace_runner.specs.Ready.{IsReady}
@@ -164,9 +164,9 @@ abbrev pub taken_checked : ℕ → Result Item RecordFault → Checking → Answ
 taken_checked line (Ok item) s = item_checked line item s
 taken_checked line (Err fault) s = Ends (fault_checked line fault s)
 
--- the reader behind a line
+-- the reader after a line
 abbrev pub read_on : List ℕ → Checking → Checking
-read_on text s = record s { replay = record s.replay { reading = behind text s.replay.reading } }
+read_on text s = record s { replay = record s.replay { reading = after_line text s.replay.reading } }
 
 -- what the line of this number does
 unfoldable pub check_answer : ℕ → Checking → List ℕ → Answer Checking Checked
@@ -176,13 +176,13 @@ check_answer line s text = taken_checked line (taken s.replay.reading text) (rea
 abbrev pub check_closing : ℕ → Checking → Closing Checked
 check_closing line s = refusal (closing_of line s.replay)
 
--- all that a check knows behind some bytes of a trace
-unfoldable pub check_behind : Bool → List ℕ → Progress Checking Checked
-check_behind shows_state bytes = heard_behind check_answer bytes (opened (check_start shows_state))
+-- all that a check knows after some bytes of a trace
+unfoldable pub check_after : Bool → List ℕ → Progress Checking Checked
+check_after shows_state bytes = after_bytes check_answer bytes (opened (check_start shows_state))
 
 -- what the check of a trace prints, and what it ends with
 unfoldable pub check : Bool → List ℕ → Closing Checked
-check shows_state bytes = finished check_answer check_closing (check_behind shows_state bytes)
+check shows_state bytes = finished check_answer check_closing (check_after shows_state bytes)
 
 -- what is true before each line
 pub record IsCheckReady (line : ℕ) (s : Checking) : Type 0 where

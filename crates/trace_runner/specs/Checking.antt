@@ -1,4 +1,4 @@
--- What a check of a trace knows behind some of its lines.
+-- What a check of a trace knows after some of its lines.
 use Rattle.std.specs.Prelude.{ℕ, List}
 use Rattle.board_types.specs.declared.parts.BoardParts.{BoardParts}
 use Rattle.race_phase.specs.declared.records.Record.{Record}
@@ -6,7 +6,7 @@ use Rattle.trace_runner.specs.declared.replay.Replay.{Replay}
 use Rattle.race_phase.specs.declared.phases.Phase.{Phase}
 
 -- the replay of its records in file order, the board that it began with, the phases so far, the
--- records behind the last of them, and how many records there were in all
+-- records after the last of them, and how many records there were in all
 pub record Checking : Type 0 where
   pub replay : Replay
   pub opening : BoardParts

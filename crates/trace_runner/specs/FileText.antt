@@ -13,7 +13,7 @@ use Rattle.trace_text.specs.declared.records.Call.{Call}
 use Rattle.trace_text.specs.declared.records.Call.TheVariants.{Act, ReadPage, ReadClock, ReadHv}
 use Rattle.race_phase.specs.declared.records.Record.{Record}
 use Rattle.trace_runner.specs.Replay.{ended}
-use Rattle.trace_runner.specs.Replayed.{board_behind, records_behind, replayed}
+use Rattle.trace_runner.specs.Replayed.{board_after_phases, records_after, replayed}
 use Rattle.race_phase.specs.declared.phases.Phase.{Phase}
 use Rattle.trace_runner.specs.Trace.{TraceRead}
 
@@ -24,22 +24,22 @@ answer_on b cpu h (ReadPage page) = PageIs (page_reply b page h)
 answer_on b cpu h (ReadClock page) = ClockIs (clock_reply b page h)
 answer_on b cpu h ReadHv = HvIs (hv_reply b h)
 
--- the blocks of records, one behind another
+-- the blocks of records, one after another
 abbrev pub records_text : Deliveries → BoardParts → List Record → List ℕ
 records_text ds b [] = []
 records_text ds b (r ∷ rs) =
     block_of ds r.line (answer_on b r.cpu r.h r.call)
-    ++ records_text ds (board_behind b r.cpu r.h r.call) rs
+    ++ records_text ds (board_after_phases b r.cpu r.h r.call) rs
 
 -- of a phase, with what ends it; and of phases
 abbrev pub phase_text : Deliveries → BoardParts → Phase → List ℕ
-phase_text ds b v = records_text ds b v.records ++ end_text ds v.end (records_behind b v.records)
+phase_text ds b v = records_text ds b v.records ++ end_text ds v.end (records_after b v.records)
 
 -- of phases, one after another
 abbrev pub phases_text : Deliveries → BoardParts → List Phase → List ℕ
 phases_text ds b [] = []
 phases_text ds b (v ∷ vs) =
-    phase_text ds b v ++ phases_text ds (next_board v.end (records_behind b v.records)) vs
+    phase_text ds b v ++ phases_text ds (next_board v.end (records_after b v.records)) vs
 
 -- of a whole trace
 abbrev pub file_text : TraceRead → List ℕ

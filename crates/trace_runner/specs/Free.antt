@@ -5,7 +5,7 @@ use Rattle.board_types.specs.declared.parts.BoardParts.{BoardParts}
 use Rattle.race_phase.specs.Phases.{IsPhase, after_phase, trace_fault}
 use Rattle.race_phase.specs.declared.phases.Phase.{Phase}
 
--- the board behind phases, one behind another
+-- the board after phases, one after another
 abbrev pub after_phases : BoardParts → List Phase → BoardParts
 after_phases b [] = b
 after_phases b (v ∷ vs) = after_phases (after_phase b v) vs

@@ -12,7 +12,7 @@ use Rattle.trace_loop.specs.declared.ended.Ended.TheVariants.{
   NoMemory as WantsMemory,
 }
 use Rattle.race_phase.specs.Phases.{race_text}
-use Rattle.trace_runner.specs.Check.{check_behind, check}
+use Rattle.trace_runner.specs.Check.{check_after, check}
 use Rattle.trace_runner.specs.Checking.{Checking}
 use Rattle.trace_runner.specs.Replay.{ended}
 use Rattle.trace_runner.specs.Said.{Said, SaidAtMost}
@@ -32,7 +32,7 @@ use Rattle.trace_runner.specs.declared.status.Verdict.{Verdict}
 -- the run of a check over an input, by a source that was `start` before it and is `end` after it
 abbrev pub check_run : Bool → List ℕ → Input → Input → Run Checking Checked
 check_run shows_state input start end = record {
-  at = λ k. check_behind shows_state (take k input);
+  at = λ k. check_after shows_state (take k input);
   whole = check shows_state input;
   before = end.before - start.given;
   given = end.given - start.given;
@@ -40,7 +40,7 @@ check_run shows_state input start end = record {
   faults_now = end.faults;
 }
 
--- a trace that was checked prints this: what its phases print, one behind another, and its last
+-- a trace that was checked prints this: what its phases print, one after another, and its last
 -- lines for the board that they leave
 abbrev pub RacePrints : TraceRead → List ℕ → Type 0
 RacePrints t text =

@@ -24,7 +24,7 @@ use Rattle.board_core.specs.PowerOn.{board_at_power_on}
 use Rattle.save_state.specs.Writing.{bytes_of}
 use Rattle.reply_text.specs.Text.{final_text, state_text}
 use Rattle.trace_text.specs.Header.{board_of}
-use Rattle.trace_text.specs.Lines.{at_start as reading_at_start, taken, behind, end_fault}
+use Rattle.trace_text.specs.Lines.{at_start as reading_at_start, taken, after_line, end_fault}
 use Rattle.trace_text.specs.declared.faults.RecordFault.{RecordFault}
 use Rattle.trace_text.specs.declared.header.Header.{Header}
 use Rattle.trace_text.specs.declared.reading.Item.{Item}
@@ -37,7 +37,7 @@ use Rattle.trace_loop.specs.Progress.{
   Ends,
   Progress,
   opened,
-  behind as heard_behind,
+  after_bytes,
   finished,
 }
 use Rattle.trace_loop.specs.Outcome.{Run}
@@ -70,7 +70,7 @@ at_start shows_state = record {
 abbrev pub final_of : BoardParts → List ℕ
 final_of b = final_text (now_of b) b.accesses b.greatest (record { levels = levels (devices_in b) })
 
--- and behind it, where that is asked, the board's state
+-- and after it, where that is asked, the board's state
 abbrev pub ended : Bool → BoardParts → Closing Verdict
 ended shows_state b = record {
   text = if shows_state then final_of b ++ state_text (bytes_of b) else final_of b;
@@ -87,7 +87,7 @@ abbrev pub record_answer : ℕ → Record → Replay → Answer Replay Verdict
 record_answer line rec r =
     with_board (job_answer line rec.cpu rec.h rec.job r.deliveries r.board) r
 
--- a replay behind this header
+-- a replay after this header
 abbrev pub with_header : Header → Replay → Replay
 with_header header r = record r {
   board = board_of header.begin;
@@ -110,24 +110,24 @@ taken_answer line (Err fault) r = Ends (stops fault.line (refused_by fault.reaso
 -- what the line of this number does
 unfoldable pub answer_of : ℕ → Replay → List ℕ → Answer Replay Verdict
 answer_of line r text =
-    taken_answer line (taken r.reading text) (record r { reading = behind text r.reading })
+    taken_answer line (taken r.reading text) (record r { reading = after_line text r.reading })
 
 -- a trace that has not ended where its input ends is refused at the next line
 abbrev pub closing_of : ℕ → Replay → Closing Verdict
 closing_of line r = stops (end_fault r.reading).line (refused_by (end_fault r.reading).reason)
 
--- all that a replay knows and has printed behind some bytes of a trace
-unfoldable pub progress_behind : Bool → List ℕ → Progress Replay Verdict
-progress_behind shows_state bytes = heard_behind answer_of bytes (opened (at_start shows_state))
+-- all that a replay knows and has printed after some bytes of a trace
+unfoldable pub progress_after : Bool → List ℕ → Progress Replay Verdict
+progress_after shows_state bytes = after_bytes answer_of bytes (opened (at_start shows_state))
 
 -- what is printed for a trace, and how it ends
 unfoldable pub replay : Bool → List ℕ → Closing Verdict
-replay shows_state bytes = finished answer_of closing_of (progress_behind shows_state bytes)
+replay shows_state bytes = finished answer_of closing_of (progress_after shows_state bytes)
 
 -- the run of a replay over an input, by a source that was `start` before it and is `end` after it
 abbrev pub replay_run : Bool → List ℕ → Input → Input → Run Replay Verdict
 replay_run shows_state input start end = record {
-  at = λ k. progress_behind shows_state (take k input);
+  at = λ k. progress_after shows_state (take k input);
   whole = replay shows_state input;
   before = end.before - start.given;
   given = end.given - start.given;

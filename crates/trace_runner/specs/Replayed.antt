@@ -20,32 +20,32 @@ use Rattle.trace_runner.specs.Checking.{Checking}
 use Rattle.trace_runner.specs.Records.{refused_access, refused_count, refused_move}
 use Rattle.race_phase.specs.declared.phases.Phase.{Phase}
 
--- the board behind a call that is answered
-abbrev pub board_behind : BoardParts → ℕ → ℕ → Call → BoardParts
-board_behind b cpu h (Act a) = after_access b cpu h a
-board_behind b cpu h (ReadPage page) = b
-board_behind b cpu h (ReadClock page) = after_clock b page h
-board_behind b cpu h ReadHv = b
+-- the board after a call that is answered
+abbrev pub board_after_phases : BoardParts → ℕ → ℕ → Call → BoardParts
+board_after_phases b cpu h (Act a) = after_access b cpu h a
+board_after_phases b cpu h (ReadPage page) = b
+board_after_phases b cpu h (ReadClock page) = after_clock b page h
+board_after_phases b cpu h ReadHv = b
 
 -- after records, in order
-abbrev pub records_behind : BoardParts → List Record → BoardParts
-records_behind b [] = b
-records_behind b (r ∷ rs) = records_behind (board_behind b r.cpu r.h r.call) rs
+abbrev pub records_after : BoardParts → List Record → BoardParts
+records_after b [] = b
+records_after b (r ∷ rs) = records_after (board_after_phases b r.cpu r.h r.call) rs
 
--- behind these phases, and the records that stand behind the last of them
+-- after these phases, and the records that stand after the last of them
 abbrev pub replayed : BoardParts → List Phase → List Record → BoardParts
-replayed b [] rs = records_behind b rs
-replayed b (v ∷ vs) rs = replayed (next_board v.end (records_behind b v.records)) vs rs
+replayed b [] rs = records_after b rs
+replayed b (v ∷ vs) rs = replayed (next_board v.end (records_after b v.records)) vs rs
 
 -- a check with another board
 abbrev pub on_board : BoardParts → Checking → Checking
 on_board b s = record s { replay = record s.replay { board = b } }
 
--- the board behind a record that is answered
-abbrev pub job_behind : ℕ → ℕ → Job → BoardParts → BoardParts
-job_behind cpu h (Ask call) b = board_behind b cpu h call
-job_behind cpu h Save b = after_access b cpu h Step
-job_behind cpu h (Move khz start gap) b = moved_to khz start gap (after_access b cpu h Step)
+-- the board after a record that is answered
+abbrev pub job_after : ℕ → ℕ → Job → BoardParts → BoardParts
+job_after cpu h (Ask call) b = board_after_phases b cpu h call
+job_after cpu h Save b = after_access b cpu h Step
+job_after cpu h (Move khz start gap) b = moved_to khz start gap (after_access b cpu h Step)
 
 -- why a record is refused
 abbrev pub by_refusal : Option Refusal → Option Refused
@@ -60,7 +60,7 @@ abbrev pub or_gap : Option Refused → Option Refused → Option Refused
 or_gap None o = o
 or_gap (Some why) o = Some why
 
--- a move, by its access or behind it
+-- a move, by its access or after it
 abbrev pub refused_gap : ℕ → ℕ → ℕ → BoardParts → Option Refused
 refused_gap cpu h gap b =
     or_gap (by_refusal (refusal_of b cpu h Step))

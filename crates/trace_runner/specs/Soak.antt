@@ -19,7 +19,7 @@ use Rattle.board_core.specs.Time.{now_of}
 use Rattle.command_line.specs.declared.command.Size.{Size}
 use Rattle.reply_text.specs.Soak.{soak_text}
 use Rattle.trace_gen.specs.Text.{gen_text}
-use Rattle.trace_loop.specs.Progress.{Closing, Answer, Goes, Ends, opened, behind, finished}
+use Rattle.trace_loop.specs.Progress.{Closing, Answer, Goes, Ends, opened, after_bytes, finished}
 use Rattle.trace_runner.specs.Ready.{IsReady}
 use Rattle.trace_runner.specs.Replay.{at_start, answer_of, closing_of}
 use Rattle.trace_runner.specs.declared.replay.Replay.{Replay}
@@ -78,7 +78,7 @@ soak_closing line s = closing_of line s.replay
 abbrev pub soak_from : Replay → ℕ → List ℕ → Closing Verdict
 soak_from r records bytes =
     finished soak_answer soak_closing
-    (behind soak_answer bytes (opened (record { replay = r; records = records; edges = 0 })))
+    (after_bytes soak_answer bytes (opened (record { replay = r; records = records; edges = 0 })))
 
 -- and for the generated trace of this size
 unfoldable pub soak_of : Size → Closing Verdict

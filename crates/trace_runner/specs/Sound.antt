@@ -6,7 +6,7 @@ use Rattle.race_phase.specs.Order.{after_records, records_fault}
 use Rattle.trace_runner.specs.Free.{after_phases, IsFree}
 use Rattle.trace_runner.specs.Checking.{Checking}
 
--- the phases so far have no fault, nor have the records behind them. The board of the replay is
+-- the phases so far have no fault, nor have the records after them. The board of the replay is
 -- that of file order, but for the greatest clock reading
 pub record IsSound (s : Checking) : Type 0 where
   pub done : IsFree s.opening s.phases

@@ -23,8 +23,8 @@ ghost use Rattle.trace_text.specs.Records.{IsFittingCall};
 ghost use Rattle.race_phase.specs.Phases.{IsEnd, next_board, end_fault};
 ghost use Rattle.trace_runner.specs.Ready.{Suits};
 ghost use Rattle.trace_runner.specs.Replayed.{
-  board_behind,
-  job_behind,
+  board_after_phases,
+  job_after,
   on_board,
   refused_call,
   refused_job,
@@ -135,7 +135,7 @@ impl Check {
         requires fits { IsFittingCall self.old.replay.board.cpus self.old.replay.board.format call }
         requires free { refused_call given.now.cpu given.now.h call self.old.replay.board ≡ None }
         ensures { OnOk result (self.new ≡ with_call line given.now call
-            (on_board (board_behind self.old.replay.board given.now.cpu given.now.h call) self.old)) }
+            (on_board (board_after_phases self.old.replay.board given.now.cpu given.now.h call) self.old)) }
     {
         self.last.push(&Record {
             line,
@@ -176,7 +176,7 @@ impl Check {
         requires free { refused_job given.now.cpu given.now.h given.now.job self.old.replay.board
             ≡ None }
         ensures { OnOk result (self.new ≡ kept line given.now
-            (on_board (job_behind given.now.cpu given.now.h given.now.job self.old.replay.board)
+            (on_board (job_after given.now.cpu given.now.h given.now.job self.old.replay.board)
             self.old)) }
     {
         match given.job {

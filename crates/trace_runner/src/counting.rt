@@ -10,7 +10,7 @@ ghost use Rattle.trace_runner.specs.Ready.{Suits};
 ghost use Rattle.trace_text.specs.declared.reading.Item.TheVariants.{Next};
 ghost use Rattle.trace_runner.specs.Records.{refused_count};
 ghost use Rattle.trace_runner.specs.Replayed.{
-  board_behind,
+  board_after_phases,
   by_refusal,
   refused_call,
   refused_gap,
@@ -153,7 +153,7 @@ pub(crate) fn count_call(tally: &mut Tally, cpu: u8, h: u64, call: &Call)
     requires free { (b : BoardParts) × IsTally b tally.old
         × (refused_call cpu h call.now b ≡ None) }
     ensures { (b : BoardParts) → IsTally b tally.old
-        → IsTally (board_behind b cpu h call.now) tally.new }
+        → IsTally (board_after_phases b cpu h call.now) tally.new }
 {
     match *call {
         Call::Act { access } => tally.count(cpu, h, access),

@@ -26,8 +26,8 @@ ghost use Rattle.trace_runner.specs.Sayings.{
   saying_of,
 };
 ghost use Rattle.trace_runner.specs.Status.{Shown};
-ghost use Rattle.trace_runner.specs.Replay.{progress_behind, replay, replay_run};
-ghost use Rattle.trace_runner.specs.Check.{check_behind, check};
+ghost use Rattle.trace_runner.specs.Replay.{progress_after, replay, replay_run};
+ghost use Rattle.trace_runner.specs.Check.{check_after, check};
 ghost use Rattle.trace_runner.specs.Race.{RaceLeaves, AloneLeaves, check_run};
 ghost use Rattle.trace_runner.specs.Trace.{TraceRead};
 ghost use Rattle.trace_runner.specs.declared.check.Checked.TheVariants.{Whole};
@@ -92,7 +92,7 @@ pub fn run<R: Threads + Wait + Sync, S: Source, K: Sink, G: Gate + Sync>(
     ensures stopped { (shows_state : Bool)
         → command_of (map string_bytes words.now) ≡ ReplayOf shows_state
         → (input : List ℕ) → (S.input source.old).remaining ≡ Some input
-        → ((progress_behind shows_state
+        → ((progress_after shows_state
         (take ((S.input source.new).before - (S.input source.old).given) input)).end ≡ None)
         ⊎ (source.new ≡ source.old) }
     ensures once { (S.input source.old).done ≡ false → (S.input source.old).late ≡ false
@@ -111,7 +111,7 @@ pub fn run<R: Threads + Wait + Sync, S: Source, K: Sink, G: Gate + Sync>(
     ensures race_stopped { (shows_state : Bool)
         → command_of (map string_bytes words.now) ≡ RaceOf shows_state
         → (input : List ℕ) → (S.input source.old).remaining ≡ Some input
-        → ((check_behind shows_state
+        → ((check_after shows_state
         (take ((S.input source.new).before - (S.input source.old).given) input)).end ≡ None)
         ⊎ (source.new ≡ source.old) }
     // .. which prints what its replay prints where it has one processor, and no line is refused
@@ -129,10 +129,10 @@ pub fn run<R: Threads + Wait + Sync, S: Source, K: Sink, G: Gate + Sync>(
         × (source.new ≡ source.old)) }
     // what is printed before the word of a fault: whole lines in a replay, nothing in a race
     ensures whole_lines { (shows_state : Bool) → (bytes : List ℕ)
-        → IsWholeLines (progress_behind shows_state bytes).printed }
+        → IsWholeLines (progress_after shows_state bytes).printed }
     ensures race_silent { (shows_state : Bool) → (bytes : List ℕ)
-        → (check_behind shows_state bytes).end ≡ None
-        → (check_behind shows_state bytes).printed ≡ [] }
+        → (check_after shows_state bytes).end ≡ None
+        → (check_after shows_state bytes).printed ≡ [] }
     // every other command
     ensures said { (saying : Saying)
         → saying_of (command_of (map string_bytes words.now)) ≡ Some saying

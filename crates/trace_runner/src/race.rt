@@ -2,7 +2,7 @@
 ghost use Rattle.std.specs.Prelude.{◌≡◌, ℕ, ◌-◌, List, Some, None, take, [], IfOk};
 ghost use Rattle.board_io.specs.Faults.{Rose};
 ghost use Rattle.trace_loop.specs.Outcome.{KeepsEnds};
-ghost use Rattle.trace_runner.specs.Check.{check_behind, check};
+ghost use Rattle.trace_runner.specs.Check.{check_after, check};
 ghost use Rattle.trace_runner.specs.FileText.{file_text};
 ghost use Rattle.trace_runner.specs.Race.{
   RacePrints,
@@ -53,7 +53,7 @@ pub(crate) fn race<R: Threads + Wait + Sync, S: Source, K: Sink, G: Gate + Sync>
         (replay shows_state input) result (K.output sink.old).contents (K.output sink.new).contents
         (Rose (K.output sink.old).faults (K.output sink.new).faults) }
     ensures stopped { (input : List ℕ) → (S.input source.old).remaining ≡ Some input
-        → (check_behind shows_state
+        → (check_after shows_state
         (take ((S.input source.new).before - (S.input source.old).given) input)).end ≡ None }
     ensures ends { KeepsEnds Status.SourceFault Status.SinkFault result (S.input source.old)
         (S.input source.new) (K.output sink.old) (K.output sink.new) }

@@ -151,7 +151,7 @@ fn the_timer_behind_its_ports(rt: HostRuntime) -> Result<(), Fail> {
 }
 
 #[test]
-fn all_devices_behind_their_records(rt: HostRuntime) -> Result<(), Fail> {
+fn all_devices_after_their_records(rt: HostRuntime) -> Result<(), Fail> {
     let traces: [(&[u8], &[u8]); 6] = [
         // The clock's periodic ticks under the policy delay, and a read of register C that shows the second.
         (
@@ -426,7 +426,7 @@ fn a_sink_that_fails_at_each_call(rt: HostRuntime) -> Result<(), Fail> {
 }
 
 #[test]
-fn a_fault_behind_the_last_call(rt: HostRuntime) -> Result<(), Fail> {
+fn a_fault_after_the_last_call(rt: HostRuntime) -> Result<(), Fail> {
     // The trace has 103 bytes, and its text 62.
     let ends = Ends {
         source_fails: &[104],

@@ -41,11 +41,11 @@ use Rattle.std.proofs.lemmas.Bool.{cases_lt, cases_eq, lt-ltb, le-ltb, eq-eqb, n
 use Rattle.std.proofs.lemmas.List.{get_or-drop}
 use Rattle.std.proofs.Math.ListN.{drop_of_length-le}
 use Rattle.trace_text.specs.Tokens.{words_of, rest, first, starts}
-use Rattle.trace_text.specs.private.Spelled.{Spelled, spelled, behind_word, words_from, number_of}
+use Rattle.trace_text.specs.private.Spelled.{Spelled, spelled, after_word, words_from, number_of}
 use Rattle.trace_text.specs.private.Groups.{IsInitial}
 use Rattle.trace_text.specs.declared.bytes.Number.{Number}
 use Rattle.trace_text.proofs.Numbers.{with_digit, may_read, number_after, number_in-is}
-use Rattle.trace_text.proofs.Spells.{words_from-within, words_from-behind}
+use Rattle.trace_text.proofs.Spells.{words_from-within, words_from-after}
 
 -- the first of some words
 abbrev pub first_word : List (List ℕ) → List ℕ
@@ -71,7 +71,7 @@ words_of-cons (c ∷ cs) = by_space (eqb c 32) (slice_split (λ b. eqb b 32) cs)
 abbrev spelt : ℕ → List (List ℕ) → ℕ → Spelled
 spelt count left m = record { count = count; value = m; left = left }
 
--- what the first word spells behind `count` digits that spelled n, and the words behind it
+-- what the first word spells after `count` digits that spelled n, and the words after it
 abbrev pub answer : ℕ → ℕ → ℕ → List (List ℕ) → Option Spelled
 answer base count n ws =
     option_map (spelt (count + length (first_word ws)) (rest ws)) (number_after base n (first_word ws))
@@ -213,27 +213,27 @@ a_number base at last value line b h e =
       sym parts.2 ∙ sym (rest-from at line h),
     )
 
--- words behind a byte
+-- words after a byte
 abbrev joined : ℕ → List (List ℕ) → List (List ℕ)
 joined c ws = cond (eqb c 32) ([] ∷ ws) (onto_first c ws)
 
 -- whether it is a word
-pub behind_word-is : (name bytes : List ℕ) → IsTrue (list_all (λ b. not (eqb b 32)) name)
-    → behind_word name bytes ≡ cond (bytes_eq (first_word (words_of bytes)) name) (Some (rest (words_of bytes))) None
-unfolding behind_word words_of
-behind_word-is [] [] h = refl
-behind_word-is [] (c ∷ cs) h = by_space (eqb c 32) (slice_split (λ b. eqb b 32) cs)
+pub after_word-is : (name bytes : List ℕ) → IsTrue (list_all (λ b. not (eqb b 32)) name)
+    → after_word name bytes ≡ cond (bytes_eq (first_word (words_of bytes)) name) (Some (rest (words_of bytes))) None
+unfolding after_word words_of
+after_word-is [] [] h = refl
+after_word-is [] (c ∷ cs) h = by_space (eqb c 32) (slice_split (λ b. eqb b 32) cs)
   where
     by_space : (space : Bool) (ws : List (List ℕ)) → cond space (Some ws) None
         ≡ cond (bytes_eq (first_word (cond space ([] ∷ ws) (onto_first c ws))) []) (Some (rest (cond space ([] ∷ ws) (onto_first c ws)))) None
     by_space true ws = refl
     by_space false [] = refl
     by_space false (w ∷ ws) = refl
-behind_word-is (b ∷ bs) [] h = refl
-behind_word-is (b ∷ bs) (c ∷ cs) h =
+after_word-is (b ∷ bs) [] h = refl
+after_word-is (b ∷ bs) (c ∷ cs) h =
     let parts = split (eqb b 32) (list_all (λ b. not (eqb b 32)) bs) h in
     elim (cases_eq c b) [
-      | inl same ↦ the_byte same parts.0 (behind_word-is bs cs parts.1)
+      | inl same ↦ the_byte same parts.0 (after_word-is bs cs parts.1)
       | inr other ↦ another (eqb c 32) (slice_split (λ b. eqb b 32) cs) (ne_eqb c b other)
     ]
   where
@@ -249,14 +249,14 @@ behind_word-is (b ∷ bs) (c ∷ cs) h =
     onto_rest [] = refl
     onto_rest (w ∷ ws) = refl
 
-    another : (space : Bool) (ws : List (List ℕ)) → eqb c b ≡ false → cond (eqb c b) (behind_word bs cs) None
+    another : (space : Bool) (ws : List (List ℕ)) → eqb c b ≡ false → cond (eqb c b) (after_word bs cs) None
         ≡ cond (bytes_eq (first_word (cond space ([] ∷ ws) (onto_first c ws))) (b ∷ bs)) (Some (rest (cond space ([] ∷ ws) (onto_first c ws)))) None
     another true ws e = rw e refl
     another false ws e = rw (onto_eq ws, e) refl
 
     the_byte : c ≡ b → eqb b 32 ≡ false
-        → behind_word bs cs ≡ cond (bytes_eq (first_word (words_of cs)) bs) (Some (rest (words_of cs))) None
-        → cond (eqb c b) (behind_word bs cs) None
+        → after_word bs cs ≡ cond (bytes_eq (first_word (words_of cs)) bs) (Some (rest (words_of cs))) None
+        → cond (eqb c b) (after_word bs cs) None
         ≡ cond (bytes_eq (first_word (joined c (words_of cs))) (b ∷ bs)) (Some (rest (joined c (words_of cs)))) None
     the_byte same no_space e =
         let here : eqb c 32 ≡ false = ap (λ (x : ℕ). eqb x 32) same ∙ no_space in
@@ -264,9 +264,9 @@ behind_word-is (b ∷ bs) (c ∷ cs) h =
 
 -- a word that stands there, and one that doesn't
 pub a_word : (name : List ℕ) (at : ℕ) (line : List ℕ) (ws : List (List ℕ)) → IsTrue (list_all (λ b. not (eqb b 32)) name) → at ≤ length line
-    → behind_word name (drop at line) ≡ Some ws → (starts name (words_from at line) ≡ true) × (ws ≡ rest (words_from at line))
+    → after_word name (drop at line) ≡ Some ws → (starts name (words_from at line) ≡ true) × (ws ≡ rest (words_from at line))
 a_word name at line ws plain h e =
-    let shown = by_test (bytes_eq (first_word (words_of (drop at line))) name) (sym (behind_word-is name (drop at line) plain) ∙ e) in
+    let shown = by_test (bytes_eq (first_word (words_of (drop at line))) name) (sym (after_word-is name (drop at line) plain) ∙ e) in
     (ap (starts name) (from_place at line h) ∙ shown.0, shown.1 ∙ sym (rest-from at line h))
   where
     by_test : (t : Bool) → cond t (Some (rest (words_of (drop at line)))) None ≡ Some ws → (t ≡ true) × (ws ≡ rest (words_of (drop at line)))
@@ -274,10 +274,10 @@ a_word name at line ws plain h e =
     by_test false e = (cc, cc)
 
 pub no_word : (name : List ℕ) (at : ℕ) (line : List ℕ) → IsTrue (list_all (λ b. not (eqb b 32)) name) → at ≤ length line
-    → behind_word name (drop at line) ≡ None → starts name (words_from at line) ≡ false
+    → after_word name (drop at line) ≡ None → starts name (words_from at line) ≡ false
 no_word name at line plain h e =
     ap (starts name) (from_place at line h)
-    ∙ by_test (bytes_eq (first_word (words_of (drop at line))) name) (sym (behind_word-is name (drop at line) plain) ∙ e)
+    ∙ by_test (bytes_eq (first_word (words_of (drop at line))) name) (sym (after_word-is name (drop at line) plain) ∙ e)
   where
     by_test : (t : Bool) → cond t (Some (rest (words_of (drop at line)))) None ≡ None → t ≡ false
     by_test true e = cc
@@ -302,7 +302,7 @@ initial-there at line h = λ n ns other.
 
 pub initial-none : (at : ℕ) (line : List ℕ) → length line ≤ at → IsInitial 0 (words_from at line)
 initial-none at line h = λ n ns other. elim (cases_lt (length line) at) [
-  | inl past ↦ ap (starts (n ∷ ns)) (words_from-behind at line past)
+  | inl past ↦ ap (starts (n ∷ ns)) (words_from-after at line past)
   | inr within ↦
       let none : drop at line ≡ [] = drop_of_length-le line h in
       ap (starts (n ∷ ns)) (from_place at line within) ∙ other_word n ns (drop at line) (rw none other)

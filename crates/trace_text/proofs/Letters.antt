@@ -37,7 +37,7 @@ pub begins-is : (name bytes : List ℕ) → IsTrue (list_all (λ b. not (eqb b 3
     → begins name (words_of bytes) ≡ starts_with eqb bytes name
 begins-is name bytes h = ap (begins name) (words_of-cons bytes) ∙ first_word-begins name bytes h
 
--- without its letters the word is shorter, and the words behind it are the same
+-- without its letters the word is shorter, and the words after it are the same
 pub shortened-is : (name bytes : List ℕ) → IsTrue (list_all (λ b. not (eqb b 32)) name)
     → starts_with eqb bytes name ≡ true
     → (length name ≤ length bytes) × (words_of (drop (length name) bytes) ≡ shortened (length name) (words_of bytes))
@@ -64,7 +64,7 @@ shortened-is (b ∷ bs) (c ∷ cs) h e =
         let less = more e in
         (omega (arith, less.0), less.1 ∙ sym (fewer (words_of cs) (words_of-cons cs)) ∙ rw no_space refl)
 
--- a DEC behind letters, by what the words begin with
+-- a DEC after letters, by what the words begin with
 pub decimal_past-there : (name : List ℕ) (ws : List (List ℕ)) → begins name ws ≡ true
     → (first (decimal_past name) ws ≡ dec (shortened (length name) ws)) × (rest (shortened (length name) ws) ≡ rest ws)
 unfolding decimal_past

@@ -39,7 +39,7 @@ with_digit base n c = n * base + digit_value c
 abbrev pub may_read : ℕ → ℕ → ℕ → Bool
 may_read base n c = ltb (digit_value c) base && ltb (with_digit base n c) 18446744073709551616
 
--- the digits behind those that gave n, read one by one
+-- the digits after those that gave n, read one by one
 abbrev pub number_after : ℕ → ℕ → List ℕ → Option ℕ
 number_after base n [] = Some n
 number_after base n (c ∷ cs) = cond (may_read base n c) (number_after base (with_digit base n c) cs) None

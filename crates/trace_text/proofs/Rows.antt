@@ -19,7 +19,7 @@ use Rattle.board_types.specs.declared.access.Access.TheVariants.{
 }
 use Rattle.board_types.specs.declared.access.TickSource.TheVariants.{Hpet, Apic}
 use Rattle.trace_text.specs.Tokens.{words_of, number_in, decimal_in, decimal_past, hex_in, dec, hex, byte, khz}
-use Rattle.trace_text.specs.Records.{record_of, job_of, body_behind}
+use Rattle.trace_text.specs.Records.{record_of, job_of, body_after}
 use Rattle.board_types.specs.declared.setup.Setup.{Setup}
 use Rattle.trace_text.specs.Header.{first_line, header_line, head_of}
 use Rattle.board_types.specs.Setup.{setup_by_default}
@@ -30,7 +30,7 @@ use Rattle.byte_table.specs.Kinds.{plain}
 use Rattle.save_state.specs.Fields.{head as first_fields}
 use Rattle.save_state.specs.Table.{fault_of}
 use Rattle.trace_loop.specs.Progress.{limit_of}
-use Rattle.trace_text.specs.Lines.{stepped, item_in, taken, behind, at_start, end_fault}
+use Rattle.trace_text.specs.Lines.{stepped, item_in, taken, after_line, at_start, end_fault}
 use Rattle.trace_text.specs.declared.faults.Reason.{Reason}
 use Rattle.trace_text.specs.declared.faults.Reason.TheVariants.{Form, Steal, Cpu, CounterFell, StateBytes, TooLong, NoEnd}
 use Rattle.trace_text.specs.declared.records.Body.{Body}
@@ -129,9 +129,9 @@ row_hr : record_of body (words_of (codes "0 5 hr f0 8")) ≡ Ok (record { cpu = 
 unfolding record_of job_of words_of decimal_in hex_in number_in
 row_hr = refl
 
-offset_behind_the_block : record_of body (words_of (codes "0 5 hr 400 8")) ≡ Err Form
+offset_after_the_block : record_of body (words_of (codes "0 5 hr 400 8")) ≡ Err Form
 unfolding record_of job_of words_of decimal_in hex_in number_in
-offset_behind_the_block = refl
+offset_after_the_block = refl
 
 no_such_width : record_of body (words_of (codes "0 5 hr f0 3")) ≡ Err Form
 unfolding record_of job_of words_of decimal_in hex_in number_in
@@ -173,9 +173,9 @@ row_step : record_of body (words_of (codes "0 10 step")) ≡ Ok (record { cpu = 
 unfolding record_of job_of words_of decimal_in hex_in number_in
 row_step = refl
 
-a_space_behind_the_last_word : record_of body (words_of (codes "0 10 step ")) ≡ Err Form
+a_space_after_the_last_word : record_of body (words_of (codes "0 10 step ")) ≡ Err Form
 unfolding record_of job_of words_of decimal_in hex_in number_in
-a_space_behind_the_last_word = refl
+a_space_after_the_last_word = refl
 
 two_spaces : record_of body (words_of (codes "0  10 step")) ≡ Err Form
 unfolding record_of job_of words_of decimal_in hex_in number_in
@@ -340,20 +340,20 @@ counter_of_another_processor : record_of body (words_of (codes "0 6 step")) ≡ 
 unfolding record_of job_of words_of decimal_in hex_in number_in
 counter_of_another_processor = refl
 
--- the counters before, behind a record and behind a move
-before_behind_a_save : (body_behind body (record { cpu = 1; h = 9; job = Save })).before ≡ 5 ∷ 9 ∷ []
-before_behind_a_save = refl
+-- the counters before, after a record and after a move
+before_after_a_save : (body_after body (record { cpu = 1; h = 9; job = Save })).before ≡ 5 ∷ 9 ∷ []
+before_after_a_save = refl
 
-before_behind_a_reference_page : (body_behind body (record { cpu = 1; h = 9; job = Ask ReadHv })).before ≡ 5 ∷ 9 ∷ []
-before_behind_a_reference_page = refl
+before_after_a_reference_page : (body_after body (record { cpu = 1; h = 9; job = Ask ReadHv })).before ≡ 5 ∷ 9 ∷ []
+before_after_a_reference_page = refl
 
-before_behind_a_move : (body_behind body (record { cpu = 1; h = 9; job = Move 3000000 500 0 })).before ≡ replicate 64 500
-before_behind_a_move = refl
+before_after_a_move : (body_after body (record { cpu = 1; h = 9; job = Move 3000000 500 0 })).before ≡ replicate 64 500
+before_after_a_move = refl
 
 -- lines, from the first on
 abbrev read : List (List ℕ) → ReadingParts → ReadingParts
 read [] r = r
-read (line ∷ lines) r = read lines (behind line r)
+read (line ∷ lines) r = read lines (after_line line r)
 
 begins_with_its_format : taken at_start (codes "clockboard 1") ≡ Ok Part
 unfolding stepped limit_of words_of decimal_in number_in
@@ -390,7 +390,7 @@ longest_comment = refl
 no_end : end_fault (record { lines = 2; stage = Opening }) ≡ record { line = 3; reason = NoEnd }
 no_end = refl
 
-a_fault_stays : taken (behind (codes "clockboard 9") at_start) (codes "clockboard 1") ≡ Err (record { line = 1; reason = Form })
+a_fault_stays : taken (after_line (codes "clockboard 9") at_start) (codes "clockboard 1") ≡ Err (record { line = 1; reason = Form })
 unfolding stepped limit_of words_of decimal_in number_in
 a_fault_stays = refl
 
@@ -478,7 +478,7 @@ a_line_twice : header_line (record head { row = 2 }) (words_of (codes "guest 200
 unfolding header_line words_of decimal_in number_in
 a_line_twice = refl
 
--- `state`: two digits a byte, at least one byte, and nothing behind them
+-- `state`: two digits a byte, at least one byte, and nothing after them
 state_without_a_word : header_line head (words_of (codes "state")) ≡ Err Form
 unfolding header_line words_of
 state_without_a_word = refl
@@ -495,33 +495,33 @@ state_of_another_character : header_line head (words_of (codes "state 4g")) ≡ 
 unfolding header_line words_of decode_pairs
 state_of_another_character = refl
 
-no_comment_behind_state : header_line head (words_of (codes "state #")) ≡ Err Form
+no_comment_after_state : header_line head (words_of (codes "state #")) ≡ Err Form
 unfolding header_line words_of
-no_comment_behind_state = refl
+no_comment_after_state = refl
 
-no_comment_behind_a_state : header_line head (words_of (codes "state 43 #")) ≡ Err Form
+no_comment_after_a_state : header_line head (words_of (codes "state 43 #")) ≡ Err Form
 unfolding header_line words_of decode_pairs restored
-no_comment_behind_a_state = refl
+no_comment_after_a_state = refl
 
 state_that_ends_early : header_line head (words_of (codes "state 434C4b")) ≡ Err (StateBytes 3)
 unfolding header_line words_of decode_pairs restored fault_of first_fields plain
 state_that_ends_early = refl
 
-state_behind_another_line : header_line (record head { row = 1 }) (words_of (codes "state 43")) ≡ Err Form
+state_after_another_line : header_line (record head { row = 1 }) (words_of (codes "state 43")) ≡ Err Form
 unfolding header_line words_of decode_pairs restored
-state_behind_another_line = refl
+state_after_another_line = refl
 
-state_behind_a_route : header_line (record head { row = 9 }) (words_of (codes "state 43")) ≡ Err Form
+state_after_a_route : header_line (record head { row = 9 }) (words_of (codes "state 43")) ≡ Err Form
 unfolding header_line words_of decode_pairs restored
-state_behind_a_route = refl
+state_after_a_route = refl
 
-state_behind_a_state : (b : BoardParts) → header_line (record head { row = 8; begin = Saved b }) (words_of (codes "state 43")) ≡ Err Form
+state_after_a_state : (b : BoardParts) → header_line (record head { row = 8; begin = Saved b }) (words_of (codes "state 43")) ≡ Err Form
 unfolding header_line words_of
-state_behind_a_state b = refl
+state_after_a_state b = refl
 
-host_behind_a_state : (b : BoardParts) → header_line (record head { row = 8; begin = Saved b }) (words_of (codes "host 2000000 0")) ≡ Err Form
+host_after_a_state : (b : BoardParts) → header_line (record head { row = 8; begin = Saved b }) (words_of (codes "host 2000000 0")) ≡ Err Form
 unfolding header_line words_of
-host_behind_a_state b = refl
+host_after_a_state b = refl
 
 -- `begin` and `end` stand alone in their lines
 begin_line : item_in (stepped (Heading head) (codes "begin")) ≡ Ok (Begun (record { begin = Fresh setup; routes = head.routes }))

@@ -35,16 +35,16 @@ use Rattle.std.proofs.lemmas.Grind.{pow_more}
 use Rattle.std.proofs.Math.Nat.{mul-le-mul_left, pow-le-pow_right}
 use Rattle.std.proofs.Math.ListN.{drop_of_length-le}
 use Rattle.trace_text.specs.Tokens.{words_of}
-use Rattle.trace_text.specs.private.Spelled.{spelled, behind_word, words_from}
+use Rattle.trace_text.specs.private.Spelled.{spelled, after_word, words_from}
 
--- the words from a place within the line, and from behind it
+-- the words from a place within the line, and from after it
 pub words_from-within : (at : ℕ) (line : List ℕ) → at ≤ length line → words_from at line ≡ words_of (drop at line)
 unfolding words_from
 words_from-within at line h = rw (le-leb at (length line) h) refl
 
-pub words_from-behind : (at : ℕ) (line : List ℕ) → length line < at → words_from at line ≡ []
+pub words_from-after : (at : ℕ) (line : List ℕ) → length line < at → words_from at line ≡ []
 unfolding words_from
-words_from-behind at line h = rw (lt-leb at (length line) h) refl
+words_from-after at line h = rw (lt-leb at (length line) h) refl
 
 -- a space ends a number
 pub spelled-space : (base count n i : ℕ) (xs : List ℕ) → i < length xs → get_or xs i 0 ≡ 32
@@ -57,7 +57,7 @@ spelled-space base count n i xs h e =
 pub spelled-end : (base count n i : ℕ) (xs : List ℕ) → length xs ≤ i
     → spelled base count n (drop i xs) ≡ Some (record { count = count; value = n; left = words_from (i + 1) xs })
 unfolding spelled
-spelled-end base count n i xs h = rw (drop_of_length-le xs h, words_from-behind (i + 1) xs (omega arith)) refl
+spelled-end base count n i xs h = rw (drop_of_length-le xs h, words_from-after (i + 1) xs (omega arith)) refl
 
 -- where no other byte than a space stands, it ends
 pub spelled-ended : (base count n i : ℕ) (xs : List ℕ) → (i < length xs → get_or xs i 0 ≡ 32)
@@ -110,38 +110,38 @@ not_space base b most small e =
 
 -- another byte than the word's
 pub word-differs : (at i : ℕ) (name line : List ℕ) → i < length name → at + i < length line → (get_or line (at + i) 0 ≡ get_or name i 0 → ⊥)
-    → behind_word (drop i name) (drop (at + i) line) ≡ None
-unfolding behind_word
+    → after_word (drop i name) (drop (at + i) line) ≡ None
+unfolding after_word
 word-differs at i name line h k other =
     rw (drop_more name i 0 h, drop_more line (at + i) 0 k, ne_eqb (get_or line (at + i) 0) (get_or name i 0) other) refl
 
 -- the word's byte
 pub word-same : (at i : ℕ) (name line : List ℕ) → i < length name → at + i < length line → get_or line (at + i) 0 ≡ get_or name i 0
-    → behind_word (drop i name) (drop (at + i) line) ≡ behind_word (drop (i + 1) name) (drop (at + i + 1) line)
-unfolding behind_word
+    → after_word (drop i name) (drop (at + i) line) ≡ after_word (drop (i + 1) name) (drop (at + i + 1) line)
+unfolding after_word
 word-same at i name line h k same =
     rw (drop_more name i 0 h, drop_more line (at + i) 0 k, eq-eqb (get_or line (at + i) 0) (get_or name i 0) same) refl
 
--- behind its bytes the line ends, or a space stands, or it is a longer word
-pub word-at_end : (at : ℕ) (line : List ℕ) → length line ≤ at → behind_word [] (drop at line) ≡ Some (words_from (at + 1) line)
-unfolding behind_word
-word-at_end at line h = rw (drop_of_length-le line h, words_from-behind (at + 1) line (omega arith)) refl
+-- after its bytes the line ends, or a space stands, or it is a longer word
+pub word-at_end : (at : ℕ) (line : List ℕ) → length line ≤ at → after_word [] (drop at line) ≡ Some (words_from (at + 1) line)
+unfolding after_word
+word-at_end at line h = rw (drop_of_length-le line h, words_from-after (at + 1) line (omega arith)) refl
 
-pub word-at_space : (at : ℕ) (line : List ℕ) → at < length line → get_or line at 0 ≡ 32 → behind_word [] (drop at line) ≡ Some (words_from (at + 1) line)
-unfolding behind_word
+pub word-at_space : (at : ℕ) (line : List ℕ) → at < length line → get_or line at 0 ≡ 32 → after_word [] (drop at line) ≡ Some (words_from (at + 1) line)
+unfolding after_word
 word-at_space at line h e = rw (drop_more line at 0 h, eq-eqb (get_or line at 0) 32 e, words_from-within (at + 1) line (omega arith)) refl
 
-pub word-longer : (at : ℕ) (line : List ℕ) → at < length line → (get_or line at 0 ≡ 32 → ⊥) → behind_word [] (drop at line) ≡ None
-unfolding behind_word
+pub word-longer : (at : ℕ) (line : List ℕ) → at < length line → (get_or line at 0 ≡ 32 → ⊥) → after_word [] (drop at line) ≡ None
+unfolding after_word
 word-longer at line h other = rw (drop_more line at 0 h, ne_eqb (get_or line at 0) 32 other) refl
 
 -- too few bytes are left
-pub word-short : (bs cs : List ℕ) → length cs < length bs → behind_word bs cs ≡ None
-unfolding behind_word
+pub word-short : (bs cs : List ℕ) → length cs < length bs → after_word bs cs ≡ None
+unfolding after_word
 word-short [] cs h = absurd (omega arith)
 word-short (b ∷ bs) [] h = refl
 word-short (b ∷ bs) (c ∷ cs) h =
-    elim (eqb c b) as (λ (same : Bool). cond same (behind_word bs cs) None ≡ None) [
+    elim (eqb c b) as (λ (same : Bool). cond same (after_word bs cs) None ≡ None) [
       | true ↦ word-short bs cs (omega arith)
       | false ↦ refl
     ]

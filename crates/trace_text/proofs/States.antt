@@ -1,4 +1,4 @@
--- The header line `state`, by its first word and those behind it.
+-- The header line `state`, by its first word and those after it.
 use Rattle.std.proofs.Common.{◌≡◌, ℕ, ◌/◌, ◌%◌, Bool, true, false, cond, eqb, length, List, [], ◌∷◌, Option, Some, None, Ok, Err, refl, sym, ◌∙◌}
 use Rattle.std.specs.Result.{result_ok}
 use Rattle.std.specs.Prelude.{Result}

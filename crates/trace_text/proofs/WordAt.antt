@@ -36,7 +36,7 @@ use Rattle.std.proofs.Math.Seq.{take-length}
 use Rattle.memchr.specs.Find.{IsFirstByte, is_byte}
 use Rattle.trace_text.specs.Tokens.{words_of}
 use Rattle.trace_text.specs.private.Spelled.{words_from}
-use Rattle.trace_text.proofs.Spells.{words_from-within, words_from-behind}
+use Rattle.trace_text.proofs.Spells.{words_from-within, words_from-after}
 
 -- a space stands there, and none in front of it
 words_of-space : (k : ℕ) (bytes : List ℕ) → k < length bytes → get_or bytes k 0 ≡ 32
@@ -65,7 +65,7 @@ pub first_cut : (left : List ℕ) (r : Option ℕ) → IsFirstByte (is_byte 32) 
 first_cut left None first = (
   omega arith,
   words_of-none left (λ i below e. first i (omega arith) below (eq-eqb (get_or left i 0) 32 e))
-      ∙ rw (words_from-behind (length left + 1) left (omega arith), take-length left) refl,
+      ∙ rw (words_from-after (length left + 1) left (omega arith), take-length left) refl,
 )
 first_cut left (Some j) first =
     let inside : j < length left = first.0.high in
@@ -83,14 +83,14 @@ words_from-drop at k line h =
     let left : length (drop at line) ≡ length line - at = length-drop at line in
     elim (cases_lt (length line) (at + k)) [
       | inl past ↦
-          words_from-behind k (drop at line) (omega arith) ∙ sym (words_from-behind (at + k) line past)
+          words_from-after k (drop at line) (omega arith) ∙ sym (words_from-after (at + k) line past)
       | inr within ↦
           words_from-within k (drop at line) (omega arith)
           ∙ ap words_of (drop-drop k at line)
           ∙ sym (words_from-within (at + k) line within)
     ]
 
--- the word that a search for a space cuts off, and the words behind it
+-- the word that a search for a space cuts off, and the words after it
 pub word_cut : (at count : ℕ) (line left : List ℕ) (r : Option ℕ) → at ≤ length line
     → left ≡ take (length line - at) (drop at line) → IsFirstByte (is_byte 32) left r
     → count ≡ unwrap_or r (length left)

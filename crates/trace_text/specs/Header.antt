@@ -58,7 +58,7 @@ use Rattle.trace_text.specs.declared.header.Begin.{Begin}
 use Rattle.trace_text.specs.declared.header.Begin.TheVariants.{Fresh, Saved}
 use Rattle.trace_text.specs.declared.records.Body.{Body}
 
--- behind the first line
+-- after the first line
 abbrev pub head_of : ℕ → Head
 head_of format = record {
   row = FORMAT_ROW;
@@ -194,12 +194,12 @@ later_rows head s =
     ∷ row (codes "state") (λ ws. in_front head (state_row head s.format ws))
     ∷ last_rows head
 
--- behind a saved state routes alone may stand
+-- after a saved state routes alone may stand
 abbrev pub rows_of : Head → Begin → List (Row Head)
 rows_of head (Fresh s) = first_rows head s ++ later_rows head s
 rows_of head (Saved b) = last_rows head
 
--- a line of the header behind the first, by its words
+-- a line of the header after the first, by its words
 unfoldable pub header_line : Head → List (List ℕ) → Result Head Reason
 header_line head = by_table (rows_of head head.begin)
 
@@ -207,7 +207,7 @@ header_line head = by_table (rows_of head head.begin)
 abbrev pub header_of : Head → Header
 header_of head = record { begin = head.begin; routes = head.routes }
 
--- and what is known behind it: each processor's counter before is the anchor's start
+-- and what is known after it: each processor's counter before is the anchor's start
 abbrev pub body_of : Head → Body
 body_of head = record {
   format = (board_of head.begin).format;

@@ -1,4 +1,4 @@
--- The lines of a trace: what each of them is, behind those before it.
+-- The lines of a trace: what each of them is, after those before it.
 use Rattle.std.specs.Prelude.{
   ℕ,
   ◌+◌,
@@ -24,7 +24,7 @@ use Rattle.std.specs.Prelude.{
 use Rattle.std.specs.Str.{bytes_eq}
 use Rattle.trace_loop.specs.Progress.{limit_of}
 use Rattle.trace_text.specs.Tokens.{words_of}
-use Rattle.trace_text.specs.Records.{record_of, body_behind, IsRecord}
+use Rattle.trace_text.specs.Records.{record_of, body_after, IsRecord}
 use Rattle.trace_text.specs.Header.{first_line, header_line, header_of, body_of, IsHead, IsBegin}
 use Rattle.trace_text.specs.declared.faults.Reason.{Reason}
 use Rattle.trace_text.specs.declared.faults.Reason.TheVariants.{Form, TooLong, NoEnd}
@@ -55,7 +55,7 @@ abbrev pub is_skipped : List ℕ → Bool
 is_skipped [] = true
 is_skipped (c ∷ cs) = c == 35
 
--- what a line is, and the stage behind it
+-- what a line is, and the stage after it
 pub record Step : Type 0 where
   pub item : Item
   pub stage : Stage
@@ -72,9 +72,9 @@ part (Err reason) = Err reason
 abbrev pub begun : Head → Step
 begun head = record { item = Begun (header_of head); stage = Running (body_of head) }
 
--- a record, and what is known behind it
+-- a record, and what is known after it
 abbrev pub next : Body → Result Record Reason → Result Step Reason
-next body (Ok r) = Ok (record { item = NextItem r; stage = Running (body_behind body r) })
+next body (Ok r) = Ok (record { item = NextItem r; stage = Running (body_after body r) })
 next body (Err reason) = Err reason
 
 -- by the stage: the first line; a header line or `begin`; a record or `end`
@@ -96,7 +96,7 @@ stepped stage line =
     else if is_skipped line then Ok (record { item = Skipped; stage = stage })
     else step_of stage line
 
--- the item of a step, and the stage behind it
+-- the item of a step, and the stage after it
 abbrev pub item_in : Result Step Reason → Result Item Reason
 item_in (Ok step) = Ok step.item
 item_in (Err reason) = Err reason
@@ -105,15 +105,15 @@ abbrev pub stage_in : Result Step Reason → Stage → Stage
 stage_in (Ok step) old = step.stage
 stage_in (Err reason) old = old
 
--- the answer to a line with this number, and the stage behind it: a refusal stays
+-- the answer to a line with this number, and the stage after it: a refusal stays
 abbrev pub answer_in : ℕ → Result Step Reason → Result Item RecordFault
 answer_in line (Ok step) = Ok step.item
 answer_in line (Err reason) = Err (record { line = line; reason = reason })
 
 -- .. and the stage
-abbrev pub stage_behind : ℕ → Result Step Reason → Stage
-stage_behind line (Ok step) = step.stage
-stage_behind line (Err reason) = Refused (record { line = line; reason = reason })
+abbrev pub stage_after : ℕ → Result Step Reason → Stage
+stage_after line (Ok step) = step.stage
+stage_after line (Err reason) = Refused (record { line = line; reason = reason })
 
 -- the fault of a reader that has refused
 abbrev pub fault_of : Stage → Option RecordFault
@@ -146,15 +146,15 @@ abbrev pub record_in : {E : Type 0} → Result Item E → Option Record
 record_in (Ok item) = record_of_item item
 record_in (Err e) = None
 
--- and the reader behind it
-abbrev pub behind_by : Option RecordFault → List ℕ → ReadingParts → ReadingParts
-behind_by (Some fault) line r = r
-behind_by None line r =
-    record { lines = r.lines + 1; stage = stage_behind (r.lines + 1) (stepped r.stage line) }
+-- and the reader after it
+abbrev pub after_line_by : Option RecordFault → List ℕ → ReadingParts → ReadingParts
+after_line_by (Some fault) line r = r
+after_line_by None line r =
+    record { lines = r.lines + 1; stage = stage_after (r.lines + 1) (stepped r.stage line) }
 
--- the reader behind the next line
-abbrev pub behind : List ℕ → ReadingParts → ReadingParts
-behind line r = behind_by (fault_of r.stage) line r
+-- the reader after the next line
+abbrev pub after_line : List ℕ → ReadingParts → ReadingParts
+after_line line r = after_line_by (fault_of r.stage) line r
 
 -- what `at_end` answers
 abbrev pub end_fault : ReadingParts → RecordFault

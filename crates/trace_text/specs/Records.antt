@@ -195,7 +195,7 @@ rows body =
     ∷ row (codes "rose") (rose_row body)
     ∷ []
 
--- what a record asks, by the words behind its processor and its count
+-- what a record asks, by the words after its processor and its count
 unfoldable pub job_of : Body → List (List ℕ) → Result Job Reason
 job_of body = by_table (rows body)
 
@@ -216,14 +216,14 @@ judged body cpu h (Ok job) = in_turn body cpu h job
 unfoldable pub record_of : Body → List (List ℕ) → Result Record Reason
 record_of body = place dec (λ cpu. place dec (λ h ws. judged body cpu h (job_of body ws)))
 
--- the counters before, behind a record: a move begins with its own start, for every processor
-abbrev pub before_behind : List ℕ → Record → Job → List ℕ
-before_behind before r (Move k start gap) = replicate 64 start
-before_behind before r _ = slice_set before r.cpu r.h
+-- the counters before, after a record: a move begins with its own start, for every processor
+abbrev pub before_after : List ℕ → Record → Job → List ℕ
+before_after before r (Move k start gap) = replicate 64 start
+before_after before r _ = slice_set before r.cpu r.h
 
--- what is known behind a record
-abbrev pub body_behind : Body → Record → Body
-body_behind body r = record body { before = before_behind body.before r r.job }
+-- what is known after a record
+abbrev pub body_after : Body → Record → Body
+body_after body r = record body { before = before_after body.before r r.job }
 
 -- a board of this many processors and this format takes the access, or has the page
 abbrev pub IsFittingCall : ℕ → ℕ → Call → Type 0

@@ -1,16 +1,16 @@
--- Rows of a table of lines: a name, and what the words behind it make.
+-- Rows of a table of lines: a name, and what the words after it make.
 use Rattle.std.specs.Prelude.{ℕ, List, [], ◌∷◌, Option, Some, None, Result, Ok, Err, if◌then◌else◌}
 use Rattle.trace_text.specs.Tokens.{rest, starts}
 use Rattle.trace_text.specs.declared.faults.Reason.{Reason}
 use Rattle.trace_text.specs.declared.faults.Reason.TheVariants.{Form}
 
--- what a token's value, if there is one, makes of the words behind it
+-- what a token's value, if there is one, makes of the words after it
 abbrev pub placed : {A T : Type 0} → (A → List (List ℕ) → Result T Reason)
     → List (List ℕ) → Option A → Result T Reason
-placed row behind None = Err Form
-placed row behind (Some x) = row x behind
+placed row words None = Err Form
+placed row words (Some x) = row x words
 
--- a token stands first; its value makes of the words behind it what the row says
+-- a token stands first; its value makes of the words after it what the row says
 abbrev pub place : {A T : Type 0} → (List (List ℕ) → Option A)
     → (A → List (List ℕ) → Result T Reason) → List (List ℕ) → Result T Reason
 place token row ws = placed row (rest ws) (token ws)

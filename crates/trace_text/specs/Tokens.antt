@@ -34,7 +34,7 @@ abbrev pub first : {A : Type 0} → (List ℕ → Option A) → List (List ℕ) 
 first token [] = None
 first token (w ∷ ws) = token w
 
--- the words behind the first
+-- the words after the first
 abbrev pub rest : List (List ℕ) → List (List ℕ)
 rest [] = []
 rest (w ∷ ws) = ws

@@ -28,7 +28,7 @@ ghost use Rattle.std.specs.Bool.{OnTrue};
 ghost use Rattle.std.specs.Char.{digit_value};
 ghost use Rattle.std.specs.Option.{SomeIff};
 ghost use Rattle.std.specs.List.{list_all};
-ghost use Rattle.trace_text.specs.private.Spelled.{spelled, behind_word, words_from, Spelled};
+ghost use Rattle.trace_text.specs.private.Spelled.{spelled, after_word, words_from, Spelled};
 
 /// What a word spells.
 #[derive(Clone, Copy)]
@@ -185,7 +185,7 @@ pub(crate) fn spelling_at(line: &[u8], at: usize, base: u64) -> Option<Spelling>
 fn short_spelling(line: &[u8], at: usize, from: usize, base: u64, read: u64) -> Option<Spelling>
     requires least { 2 ≤ base }
     requires most { base ≤ 16 }
-    requires behind { at ≤ from }
+    requires later { at ≤ from }
     requires few { from ≤ at + 16 }
     requires within { from ≤ length line.now }
     requires small { read < 16 ^ (from - at) }
@@ -364,9 +364,9 @@ pub(crate) fn is_zero(line: &[u8], at: usize, end: usize) -> bool
 pub(crate) fn end_of_word(line: &[u8], at: usize, name: &[u8]) -> Option<usize>
     requires { at ≤ length line.now + 1 }
     ensures { MatchOption result
-        ((at ≤ length line.now) → behind_word name.now (drop at line.now) ≡ None)
+        ((at ≤ length line.now) → after_word name.now (drop at line.now) ≡ None)
         (λ end. (at ≤ length line.now) × (end ≤ length line.now + 1)
-        × (behind_word name.now (drop at line.now) ≡ Some (words_from end line.now))) }
+        × (after_word name.now (drop at line.now) ≡ Some (words_from end line.now))) }
 {
     if line.len() < at + name.len() {
         return None;

@@ -30,7 +30,7 @@ ghost use Rattle.trace_text.specs.Lines.{
   fault_of,
   taken,
   record_in,
-  behind,
+  after_line,
   end_fault,
   IsItem,
   stepped,
@@ -125,7 +125,7 @@ impl Reading {
         requires open { IsOpen self.old.stage }
         requires few { self.old.lines < 2 ^ 63 }
         ensures item { result ≡ taken self.old line.now }
-        ensures state { self.new ≡ behind line.now self.old }
+        ensures state { self.new ≡ after_line line.now self.old }
         ensures valid { IfOk result (IsItem self.old.stage) }
 
         // Another line may follow any but `end`.
@@ -157,7 +157,7 @@ impl Reading {
         requires { self.old.lines < 2 ^ 63 }
         ensures record { OnTrue result (taken self.old line.now ≡ Ok (Item.Next into.new)) }
         ensures cause { OnFalse result (record_in (taken self.old line.now) ≡ None) }
-        ensures state { OnTrue result (self.new ≡ behind line.now self.old) }
+        ensures state { OnTrue result (self.new ≡ after_line line.now self.old) }
         ensures valid { OnTrue result (IsRecordAt self.old.stage into.new) }
         ensures open { OnTrue result (IsOpen self.new.stage) }
         ensures none { OnFalse result (self.new ≡ self.old) }

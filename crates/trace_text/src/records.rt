@@ -4,7 +4,7 @@ ghost use Rattle.std.specs.Bool.{OnTrue, OnFalse};
 ghost use Rattle.trace_text.specs.Records.{
   job_of,
   record_of,
-  body_behind,
+  body_after,
   IsJob,
   IsRecord,
 };
@@ -67,7 +67,7 @@ impl Body {
         requires { self.old.cpus ≤ 64 }
         ensures record { result ≡ record_of self.old words.entry }
         ensures valid { IfOk result (IsRecord self.old) }
-        ensures behind { IfOk result (λ r. self.new ≡ body_behind self.old r) }
+        ensures next { IfOk result (λ r. self.new ≡ body_after self.old r) }
         ensures still { OnErr result (self.new ≡ self.old) }
     {
         let cpu = words.short_dec().ok_or(Reason::Form)?;
@@ -131,7 +131,7 @@ impl Body {
     #[inline(always)]
     fn remember(&mut self, cpu: u8, h: u64, job: &Job)
         requires { cpu < 64 }
-        ensures { self.new ≡ body_behind self.old (record { cpu = cpu; h = h; job = job.now }) }
+        ensures { self.new ≡ body_after self.old (record { cpu = cpu; h = h; job = job.now }) }
     {
         match *job {
             Job::Move { start, .. } => self.restart(start),

@@ -12,7 +12,7 @@ use Rattle.board_core.specs.Tsc.{no_processor, processor_at, tsc_of, with_tsc, t
 use Rattle.board_core.specs.Pages.{published, published_at_host}
 use Rattle.board_core.specs.Hv.{hv_published_at_host}
 use Rattle.board_core.specs.Reanchor.{reanchored}
-use Rattle.transfer.specs.Move.{tsc_behind, offset_for, tsc_moved, published_below, moved_to}
+use Rattle.transfer.specs.Move.{tsc_after_gap, offset_for, tsc_moved, published_below, moved_to}
 
 by_parts : (x v : ℕ) → v < 2 ^ 64 → (x + (v + (2 ^ 64 - (x + 0) % 2 ^ 64)) % 2 ^ 64) % 2 ^ 64 ≡ v
 by_parts x v fits = omega arith
@@ -74,7 +74,7 @@ hv-tsc b h k = refl
 
 -- a TSC that is read at count `start` of the new host goes on from its value at the greatest count of the old one
 pub tsc_read-moved_to : (b : BoardParts) (khz start gap k : ℕ) → b.cpus ≤ length b.processors → k < b.cpus
-    → tsc_read (moved_to khz start gap b).anchor (moved_to khz start gap b).guest_khz start (processor_at (moved_to khz start gap b) k) ≡ tsc_behind b gap k
+    → tsc_read (moved_to khz start gap b).anchor (moved_to khz start gap b).guest_khz start (processor_at (moved_to khz start gap b) k) ≡ tsc_after_gap b gap k
 unfolding moved_to reanchored
 tsc_read-moved_to b khz start gap k few less =
     let m : BoardParts = reanchored khz start gap b in
@@ -84,4 +84,4 @@ tsc_read-moved_to b khz start gap k few less =
     ∙ ap (λ (a : Anchor). tsc_read a moved.guest_khz start (processor_at moved k)) (published_below-anchor b khz start gap b.cpus m)
     ∙ ap (λ (g : ℕ). tsc_read m.anchor g start (processor_at moved k)) (published_below-guest_khz b khz start gap b.cpus m)
     ∙ ap (λ (t : Tsc). tsc_by t.offset start (ratio_of b.guest_khz khz)) tsc
-    ∙ tsc_by-offset_for (tsc_behind b gap k) start (ratio_of b.guest_khz khz) (omega arith)
+    ∙ tsc_by-offset_for (tsc_after_gap b gap k) start (ratio_of b.guest_khz khz) (omega arith)

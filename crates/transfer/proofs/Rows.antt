@@ -15,7 +15,7 @@ use Rattle.board_core.specs.Hv.{hv_published, hv_published_at_host, no_hv}
 use Rattle.board_core.specs.PowerOn.{board_at_power_on}
 use Rattle.board_core.specs.Reanchor.{reanchored}
 use Rattle.transfer.specs.declared.outcome.MoveFault.TheVariants.{OutOfRange, VersionsSpent}
-use Rattle.transfer.specs.Move.{counts_in, tsc_behind, tsc_moved, published_below, moved_to, or_spent, spent_below, move_fault}
+use Rattle.transfer.specs.Move.{counts_in, tsc_after_gap, tsc_moved, published_below, moved_to, or_spent, spent_below, move_fault}
 
 abbrev setup : Setup
 setup = record {
@@ -48,7 +48,7 @@ counts : counts_in 2000000 1000000000 ∷ counts_in 999999 1 ∷ counts_in 29999
 counts = refl
 
 -- a TSC goes on from its value at the greatest count: 4005, and a second at 2 GHz; at its end it wraps
-tsc : tsc_behind board 1000000000 0 ∷ tsc_behind (record board { processors = record no_processor { offset = 2 ^ 64 - 4001 } ∷ [] }) 1 0 ∷ []
+tsc : tsc_after_gap board 1000000000 0 ∷ tsc_after_gap (record board { processors = record no_processor { offset = 2 ^ 64 - 4001 } ∷ [] }) 1 0 ∷ []
     ≡ 2000004005 ∷ 1 ∷ []
 unfolding tsc_by
 tsc = refl

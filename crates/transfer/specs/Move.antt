@@ -36,9 +36,9 @@ use Rattle.transfer.specs.declared.outcome.MoveFault.TheVariants.{OutOfRange, Ve
 abbrev pub counts_in : ℕ → ℕ → ℕ
 counts_in guest_khz gap = gap * guest_khz / 1000000
 
--- the TSC of a processor behind the gap: it goes on from its value at the greatest count
-abbrev pub tsc_behind : BoardParts → ℕ → ℕ → ℕ
-tsc_behind b gap cpu =
+-- the TSC of a processor after the gap: it goes on from its value at the greatest count
+abbrev pub tsc_after_gap : BoardParts → ℕ → ℕ → ℕ
+tsc_after_gap b gap cpu =
     (tsc_read b.anchor b.guest_khz b.host (processor_at b cpu) + counts_in b.guest_khz gap) % 2 ^ 64
 
 -- the offset with which a TSC is v at count h
@@ -48,7 +48,7 @@ offset_for v h ratio = difference v (tsc_by 0 h ratio)
 -- the TSC of a processor on the new host: at count `start` it goes on, and TSC_ADJUST is kept
 abbrev pub tsc_moved : BoardParts → ℕ → ℕ → ℕ → ℕ → Tsc
 tsc_moved b khz start gap cpu = record {
-  offset = offset_for (tsc_behind b gap cpu) start (ratio_of b.guest_khz khz);
+  offset = offset_for (tsc_after_gap b gap cpu) start (ratio_of b.guest_khz khz);
   adjust = (processor_at b cpu).adjust;
 }
 

@@ -30,7 +30,7 @@ ghost use Rattle.board_core.specs.Reanchor.{reanchored};
 ghost use Rattle.transfer.specs.Move.{
   counts_in,
   offset_for,
-  tsc_behind,
+  tsc_after_gap,
   tsc_moved,
   published_below,
   moved_to,
@@ -67,7 +67,7 @@ pub fn moved(state: &BoardState, khz: u64, start: u64, gap: u64) -> Result<Moved
     // A TSC that is read at count `start` has gone on from its value at the greatest count.
     ensures tscs { IfOk result (λ m. (k : ℕ) → k < state.now.cpus
         → tsc_read m.state.anchor m.state.guest_khz start (processor_at m.state k)
-        ≡ tsc_behind state.now gap k) }
+        ≡ tsc_after_gap state.now gap k) }
 {
     let from = state.parts();
     if let Some(fault) = move_fault(gap, state.now(), &from) {
@@ -145,7 +145,7 @@ pub fn spent_page(cpu: u8, version: u32) -> Option<MoveFault>
     }
 }
 
-/// The TSC of a processor behind the gap, at count `start` of the new host.
+/// The TSC of a processor after the gap, at count `start` of the new host.
 fn tsc_moved(from: &BoardParts, khz: u64, start: u64, gap: u64, cpu: u8) -> Tsc
     requires rates { AreRates from.now.anchor from.now.guest_khz }
     requires rate { IsKhz khz }

@@ -16,7 +16,7 @@ pub struct Moved {
 /// Why a board isn't moved. The causes are tested in this order.
 #[derive(Clone, Copy, Debug, PartialEq, Eq)]
 pub enum MoveFault {
-    /// The time behind the gap, which is given in nanoseconds, is 2^59 or more.
+    /// The time after the gap, which is given in nanoseconds, is 2^59 or more.
     OutOfRange { ns: u128 },
     /// The page of a processor, the first such, has the last version, which is given; or the reference page has,
     /// whose `cpu` is the number of processors.

@@ -20,7 +20,7 @@ pub record CanRun (b : BoardParts) (h end : ℕ) (had : List Edge) (none : List 
   pub places : length had + 6 ≤ EDGE_PLACES
   pub fresh : none ≡ []
 
--- the board after it, its edges behind those that the list had, and its messages
+-- the board after it, its edges after those that the list had, and its messages
 pub record HasRun (b : BoardParts) (h : ℕ) (after : BoardParts) (had told : List Edge)
     (sent : List Burst) : Type 0 where
   pub state : after ≡ after_run b h
@@ -38,7 +38,7 @@ pub record IsTaken (b : BoardParts) (processor h : ℕ) (a : Access) : Type 0 wh
   pub version : IfSome (raised_version b.processors b.wall_version b.hv.version processor a)
       (λ version. version < LAST_VERSION)
 
--- what it reads of such a board, and its own edges behind those that the list had
+-- what it reads of such a board, and its own edges after those that the list had
 pub record HasTold (b : BoardParts) (cpu h : ℕ) (a : Access) (read : Value) (had told : List Edge)
     : Type 0 where
   pub value : read ≡ value_at b cpu h a

@@ -23,7 +23,7 @@ use Rattle.board_devices.specs.declared.act.Act.TheVariants.{ClockRead}
 use Rattle.board_devices.specs.Act.{acted, act_edges}
 use Rattle.board_devices.specs.Places.{line_at}
 
--- what a read of port 71h at nanosecond t leaves, the byte that it gives, and its edges behind those
+-- what a read of port 71h at nanosecond t leaves, the byte that it gives, and its edges after those
 -- that the list had
 pub record HasReadClock (t : ℕ) (before after : DeviceParts) (byte : ℕ) (had told : List Edge)
     : Type 0 where

@@ -53,7 +53,7 @@ use Rattle.board_devices.specs.Lines.{drives, is_replaced}
 use Rattle.board_devices.specs.Places.{each, line_at, no_line}
 use Rattle.board_devices.specs.Nanosecond.{counts_rtc, sees_point}
 
--- how many ticks are due at place k in the j nanoseconds behind t
+-- how many ticks are due at place k in the j nanoseconds after t
 abbrev pub source : DeviceParts → ℕ → ℕ → ℕ → ℕ
 source d t zero =
     λ j. if not (is_legacy d.hpet) then rises_in (counter_of d.pit 0) (pulses_from PIT_HZ t j)

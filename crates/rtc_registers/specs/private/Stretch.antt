@@ -12,8 +12,8 @@ second_apart (Some f) None = None
 second_apart (Some f) (Some k) = Some (f + (k - 1) * RTC_HZ)
 
 -- register C after these events: a flag is up where it was, or where an event came
-abbrev pub flags_behind : CycleEvents → Bool → RtcParts → ℕ
-flags_behind events alarm r =
+abbrev pub flags_left : CycleEvents → Bool → RtcParts → ℕ
+flags_left events alarm r =
     flags_byte
     (pf_of r || nat_lt 0 events.ticks)
     (af_of r || alarm)

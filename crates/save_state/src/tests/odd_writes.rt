@@ -1,5 +1,5 @@
 //! Odd bytes written to every port, and odd words to every place of the HPET, each on a board at power on: the write is
-//! answered, and the board behind it is written and read as itself.
+//! answered, and the board after it is written and read as itself.
 ghost use Rattle.std.specs.Prelude.{◌≤◌};
 ghost use Rattle.board_types.specs.declared.setup.TheConstants.{LAST_FORMAT};
 

@@ -20,8 +20,8 @@ text_at Drawing c = drawing c
 text_at Ended c = []
 
 -- all that is still to come
-abbrev pub text_behind : Course → List ℕ
-text_behind c = text_at c.stage c
+abbrev pub text_after : Course → List ℕ
+text_after c = text_at c.stage c
 
 -- its numbers are in range
 pub record IsCourse (c : Course) : Type 0 where
@@ -33,6 +33,6 @@ pub record IsCourse (c : Course) : Type 0 where
 
 -- the next lines were made
 pub record IsMade (old new : Course) (lines : List ℕ) : Type 0 where
-  pub text : text_behind old ≡ lines ++ text_behind new
+  pub text : text_after old ≡ lines ++ text_after new
   pub some : 0 < length lines
   pub kept : IsCourse new

@@ -21,7 +21,7 @@ use Rattle.std.specs.Prelude.{
 use Rattle.std.specs.Io.KnownBytes.{Appends}
 use Rattle.board_io.specs.Ends.{Input, Output}
 use Rattle.board_io.specs.Faults.{Rose}
-use Rattle.trace_loop.specs.Progress.{Closing, Answer, Progress, opened, standing, behind}
+use Rattle.trace_loop.specs.Progress.{Closing, Answer, Progress, opened, standing, after_bytes}
 use Rattle.trace_loop.specs.Outcome.{run_of, Outcome}
 use Rattle.trace_loop.specs.declared.ended.Ended.{Ended}
 use Rattle.trace_loop.specs.declared.ended.Ended.TheVariants.{SourceFault, SinkFault}
@@ -43,8 +43,8 @@ pub record BothEnds : Type 0 where
 pub record IsAsked (A E : Type 0) (answer : ℕ → A → List ℕ → Answer A E) (a : A)
     (input put : List ℕ) (before place : ℕ) : Type 0 where
   pub least : before ≤ place
-  pub printed_ : (behind answer (take before input) (opened a)).printed ≡ put
-  pub going : (behind answer (take before input) (opened a)).end ≡ None
+  pub printed_ : (after_bytes answer (take before input) (opened a)).printed ≡ put
+  pub going : (after_bytes answer (take before input) (opened a)).end ≡ None
 
 -- the place of a run in an input: `bytes` are answered or are part of the present line, `left` was
 -- given and is to be read, and `rest` is to be given; `put` was put, and `out` is to be
@@ -53,7 +53,7 @@ pub record Stands (A E : Type 0) (answer : ℕ → A → List ℕ → Answer A E
   pub bytes : List ℕ
   pub whole : input ≡ (bytes ++ left) ++ rest
   pub count : length bytes + length left ≡ given
-  pub there : behind answer bytes (opened a) ≡ s
+  pub there : after_bytes answer bytes (opened a) ≡ s
   pub asked : 0 < given + length out → IsAsked A E answer a input put before (length bytes)
 
 -- a run that began in state `a` with the ends `start` goes on, and is here now
@@ -79,7 +79,7 @@ pub record IsOver (A E : Type 0) (answer : ℕ → A → List ℕ → Answer A E
       → Outcome (run_of answer closing a input (now.before - start.given)
       (now.given - start.given) start.faults now.faults) ended start.contents now.contents
   pub stopped : (input : List ℕ) → start.remaining ≡ Some input
-      → (behind answer (take (now.before - start.given) input) (opened a)).end ≡ None
+      → (after_bytes answer (take (now.before - start.given) input) (opened a)).end ≡ None
   pub once : start.done ≡ false → start.late ≡ false → now.late ≡ false
   pub well : ended ≢ SourceFault → ended ≢ SinkFault → now.faults ≡ start.faults
   pub source_fault : ended ≡ SourceFault → Rose start.faults now.faults

@@ -1,4 +1,4 @@
-//! Inputs that are cut short, and ends that fail: whole blocks, a word that says why, and nothing behind it.
+//! Inputs that are cut short, and ends that fail: whole blocks, a word that says why, and nothing after it.
 use super::*;
 
 /// The lines of a guest's boot, each with what it prints (worked out in examples/boot.trace).
@@ -51,7 +51,7 @@ fn no_end(alloc: Global, line: usize) -> Result<String, AllocError> {
 }
 
 #[test]
-fn a_boot_cut_behind_each_line(rt: HostRuntime) -> Result<(), Fail> {
+fn a_boot_cut_after_each_line(rt: HostRuntime) -> Result<(), Fail> {
     let alloc = rt.alloc();
     let mut trace = Vec::new(alloc);
     let mut blocks = Vec::new(alloc);
@@ -92,8 +92,8 @@ fn a_sink_that_fails_at_each_call_of_each_command(rt: HostRuntime) -> Result<(),
 }
 
 #[test]
-fn a_sink_that_fails_behind_a_source(rt: HostRuntime) -> Result<(), Fail> {
-    // The source fails behind the first record, which has its block.
+fn a_sink_that_fails_after_a_source(rt: HostRuntime) -> Result<(), Fail> {
+    // The source fails after the first record, which has its block.
     let text = b"3 1\nfault source\n";
     for bytes in 0..text.len() {
         let ends = Ends {

@@ -12,7 +12,7 @@ const SAVED: &[u8] = b"\
 clockboard 1\nbegin\n0 0 out 43 34\n0 0 out 40 04\n0 0 out 40 00\n\
 0 5000 save\n0 5000 in 40\n0 9000 save\n0 9000 step\nend\n";
 
-/// Two processors before a save and behind it.
+/// Two processors before a save and after it.
 const SAVED_BY_TWO: &[u8] = b"\
 clockboard 1\ncpus 2\nbegin\n0 10 step\n1 10 step\n1 20 save\n0 30 step\nend\n";
 

@@ -28,13 +28,13 @@ use Rattle.std.specs.List.{starts_with}
 use Rattle.trace_text.specs.Tokens.{words_of, number_in}
 use Rattle.trace_text.specs.declared.bytes.Number.{Number}
 
--- what was spelled: how many digits, their number, and the words behind
+-- what was spelled: how many digits, their number, and the words after
 pub record Spelled : Type 0 where
   pub count : ℕ
   pub value : ℕ
   pub left : List (List ℕ)
 
--- the number that is spelled up to the next space, behind `count` digits that spelled n
+-- the number that is spelled up to the next space, after `count` digits that spelled n
 unfoldable pub spelled : ℕ → ℕ → ℕ → List ℕ → Option Spelled
 spelled base count n [] = Some (record { count = count; value = n; left = [] })
 spelled base count n (c ∷ cs) =
@@ -43,12 +43,12 @@ spelled base count n (c ∷ cs) =
     then spelled base (count + 1) (n * base + digit_value c) cs
     else None
 
--- the words behind a first word that is this one
-unfoldable pub behind_word : List ℕ → List ℕ → Option (List (List ℕ))
-behind_word [] [] = Some []
-behind_word [] (c ∷ cs) = if c == 32 then Some (words_of cs) else None
-behind_word (b ∷ bs) [] = None
-behind_word (b ∷ bs) (c ∷ cs) = if c == b then behind_word bs cs else None
+-- the words after a first word that is this one
+unfoldable pub after_word : List ℕ → List ℕ → Option (List (List ℕ))
+after_word [] [] = Some []
+after_word [] (c ∷ cs) = if c == 32 then Some (words_of cs) else None
+after_word (b ∷ bs) [] = None
+after_word (b ∷ bs) (c ∷ cs) = if c == b then after_word bs cs else None
 
 -- whether the first word begins with these letters, and the words without its first bytes
 abbrev pub begins : List ℕ → List (List ℕ) → Bool
@@ -59,7 +59,7 @@ abbrev pub shortened : ℕ → List (List ℕ) → List (List ℕ)
 shortened count [] = []
 shortened count (w ∷ ws) = drop count w ∷ ws
 
--- the words of a line from a place on: none behind its end
+-- the words of a line from a place on: none after its end
 unfoldable pub words_from : ℕ → List ℕ → List (List ℕ)
 words_from at line = if nat_le at (length line) then words_of (drop at line) else []
 

@@ -8,7 +8,7 @@ pub loop-time-preserved : goal.loop-time-preserved
 loop-time-preserved c = rw (take_more c.args.times.now c.loop-time.time-index None (omega arith))
     (λ t has. elim (Contains-push_cases _ _ (Some t) has) [
       | inl old ↦ c.loop-time.invariant t old
-      | inr this ↦ c.is_behind.ensures c.if-is_behind.false t this
+      | inr this ↦ c.is_later.ensures c.if-is_later.false t this
     ])
 
 pub returns : goal.returns

@@ -2,7 +2,7 @@ use Rattle.std.proofs.Common.{◌<◌, ap, sym, subst, ◌∙◌}
 use Rattle.board_types.specs.declared.parts.BoardParts.{BoardParts}
 use Rattle.board_core.specs.Lazy.{caught_up}
 use Rattle.clockboard_c.specs.Kept.{CallerBoard, LaggingBoard, seen}
-use Rattle.clockboard_c.specs.Pages.{clock_by, state_behind_clock}
+use Rattle.clockboard_c.specs.Pages.{clock_by, state_after_clock}
 use Rattle.clockboard_c.specs.Replies.{IsReply}
 use Rattle.clockboard_c.proofs.Kept.{clock-next, clock-time, with_state}
 use Rattle.clockboard_c.proofs.pages.read_clock.Goals as goal
@@ -25,4 +25,4 @@ returns-clause-reply c =
 pub returns-clause-board : goal.returns-clause-board
 returns-clause-board c =
     ap (λ (s : BoardParts). with_state c.board.inside.seal c.board.inside.shared c.board.inside.next.known s) c.tell_clock.ensures.state
-    ∙ ap (λ (b : LaggingBoard). record (seen b) { state = state_behind_clock (seen b).state c.args.cpu c.args.host }) c.board.view_is
+    ∙ ap (λ (b : LaggingBoard). record (seen b) { state = state_after_clock (seen b).state c.args.cpu c.args.host }) c.board.view_is

@@ -26,7 +26,7 @@ returns-in-Err-answer_next-clause-err g c =
 
 pub loop-done-preserved : goal.loop-done-preserved
 loop-done-preserved g c = record {
-  end = elim c.in-Ok-answer_next.ensures.behind [
+  end = elim c.in-Ok-answer_next.ensures.place [
     | inl x ↦ omega (arith, x.1)
     | inr x ↦ omega (arith, x.1)
   ];

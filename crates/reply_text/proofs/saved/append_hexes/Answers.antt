@@ -12,7 +12,7 @@ StartsWith-append text more front e =
     let short : length front ≤ length text = omega (arith, ap length e, length-take (length front) text) in
     take-append-le (length front) text more short ∙ e
 
--- a piece of the bytes, and those behind it, have their digits one behind another
+-- a piece of the bytes, and those after it, have their digits one after another
 parted : (left piece more : List ℕ) → piece ≡ take 64 left → more ≡ drop 64 left → hexes piece ++ hexes more ≡ hexes left
 parted left piece more front rest = rw (front, rest) (hexes-take-drop 64 left)
 

@@ -4,7 +4,7 @@ use Rattle.std.specs.Io.KnownBytes.{Appends}
 use Rattle.board_io.specs.Ends.{Output}
 use Rattle.board_io.specs.Faults.{Rose}
 use Rattle.trace_loop.specs.Text.{source_fault_text, memory_fault_text}
-use Rattle.trace_loop.specs.Progress.{Answer, printed, end_of, state_behind}
+use Rattle.trace_loop.specs.Progress.{Answer, printed, end_of, state_after}
 use Rattle.trace_loop.specs.Cut.{Cut, IsLine, IsWhole}
 use Rattle.trace_loop.specs.Outcome.{Begins, Said}
 use Rattle.trace_loop.specs.declared.ended.Ended.TheVariants as statuses
@@ -30,7 +30,7 @@ lines-preserved-in-None g c =
           (record { lines = c.advance.new.self; out = c.answer_line.new.out }) _ c.lines.invariant.going l
           (sym c.in-None.is ∙ c.in-Ok.ensures.answered.ends ∙ ap end_of same)
           (c.in-Ok.ensures.answered.printed ∙ ap (λ (b : Answer g.row.T.Denot g.row.E.Denot). c.lines.feed.out.items ++ printed b) same)
-          (c.in-Ok.ensures.answered.state c.in-None.is ∙ ap (λ (b : Answer g.row.T.Denot g.row.E.Denot). state_behind b c.lines.answerer) same);
+          (c.in-Ok.ensures.answered.state c.in-None.is ∙ ap (λ (b : Answer g.row.T.Denot g.row.E.Denot). state_after b c.lines.answerer) same);
       quiet = c.lines.invariant.quiet;
       once = c.lines.invariant.once;
     }

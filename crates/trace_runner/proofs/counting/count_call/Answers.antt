@@ -2,7 +2,7 @@ use Rattle.std.proofs.Common.{◌≡◌, None, sym, subst}
 use Rattle.trace_text.specs.Records.{IsFittingCall}
 use Rattle.race_phase.specs.Tallies.{IsTally}
 use Rattle.trace_text.specs.declared.records.Call.{Call}
-use Rattle.trace_runner.specs.Replayed.{board_behind, refused_call}
+use Rattle.trace_runner.specs.Replayed.{board_after_phases, refused_call}
 use Rattle.trace_runner.proofs.Counts.{by_refusal-none}
 use Rattle.trace_runner.proofs.Replayed.{clock-tally}
 use Rattle.trace_runner.proofs.counting.count_call.Goals as goal
@@ -18,17 +18,17 @@ count-requires-clause-free c =
 
 pub returns-in-Act : goal.returns-in-Act
 returns-in-Act c = λ b x.
-    subst (λ (call : Call). IsTally (board_behind b c.args.cpu c.args.h call) c.count.new.self) (sym c.in-Act.is) (c.count.ensures b x)
+    subst (λ (call : Call). IsTally (board_after_phases b c.args.cpu c.args.h call) c.count.new.self) (sym c.in-Act.is) (c.count.ensures b x)
 
 pub returns-in-ReadPage : goal.returns-in-ReadPage
 returns-in-ReadPage c = λ b x.
-    subst (λ (call : Call). IsTally (board_behind b c.args.cpu c.args.h call) c.args.tally.now) (sym c.in-ReadPage.is) x
+    subst (λ (call : Call). IsTally (board_after_phases b c.args.cpu c.args.h call) c.args.tally.now) (sym c.in-ReadPage.is) x
 
 pub returns-in-ReadClock : goal.returns-in-ReadClock
 returns-in-ReadClock c = λ b x.
-    subst (λ (call : Call). IsTally (board_behind b c.args.cpu c.args.h call) c.args.tally.now) (sym c.in-ReadClock.is)
+    subst (λ (call : Call). IsTally (board_after_phases b c.args.cpu c.args.h call) c.args.tally.now) (sym c.in-ReadClock.is)
     (clock-tally b c.args.tally.now _ c.args.h x)
 
 pub returns-in-ReadHv : goal.returns-in-ReadHv
 returns-in-ReadHv c = λ b x.
-    subst (λ (call : Call). IsTally (board_behind b c.args.cpu c.args.h call) c.args.tally.now) (sym c.in-ReadHv.is) x
+    subst (λ (call : Call). IsTally (board_after_phases b c.args.cpu c.args.h call) c.args.tally.now) (sym c.in-ReadHv.is) x

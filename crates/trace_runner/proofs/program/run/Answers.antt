@@ -19,10 +19,10 @@ use Rattle.std.proofs.Common.{
 use Rattle.std.specs.String.{string_bytes}
 use Rattle.command_line.specs.declared.command.Command.{Command}
 use Rattle.trace_loop.specs.Text.{memory_fault_text}
-use Rattle.trace_loop.specs.Progress.{opened, behind}
+use Rattle.trace_loop.specs.Progress.{opened, after_bytes}
 use Rattle.trace_loop.specs.Outcome.{Outcome, run_over}
-use Rattle.trace_runner.specs.Replay.{answer_of, closing_of, progress_behind, replay, replay_run}
-use Rattle.trace_runner.specs.Check.{check_behind, check}
+use Rattle.trace_runner.specs.Replay.{answer_of, closing_of, progress_after, replay, replay_run}
+use Rattle.trace_runner.specs.Check.{check_after, check}
 use Rattle.trace_runner.specs.Race.{RaceLeaves, AloneLeaves, check_run}
 use Rattle.board_io.specs.Ends.{Input}
 use Rattle.board_io.specs.Faults.{Rose}
@@ -36,7 +36,7 @@ use Rattle.trace_runner.proofs.Statuses.{shown_is}
 use Rattle.trace_runner.proofs.program.run.Goals as goal
 
 pub returns-in-Ok-Replay-clause-replay : goal.returns-in-Ok-Replay-clause-replay
-unfolding progress_behind replay
+unfolding progress_after replay
 returns-in-Ok-Replay-clause-replay g c = λ shows is input e.
     let start : Input = g.S.Source.input c.args.source.now in
     let end : Input = g.S.Source.input c.answer_lines.new.source in
@@ -56,14 +56,14 @@ returns-in-Ok-Replay-clause-replay g c = λ shows is input e.
     (g.K.Sink.output c.answer_lines.new.sink).contents outcome)))
 
 pub returns-in-Ok-Replay-clause-stopped : goal.returns-in-Ok-Replay-clause-stopped
-unfolding progress_behind
+unfolding progress_after
 returns-in-Ok-Replay-clause-stopped g c = λ shows is input e.
     let same : c.in-Ok-Replay.shows_state ≡ shows =
     asked-same c.command_of.result (map string_bytes c.args.words.now) shows c.in-Ok-Replay.shows_state c.command_of.ensures.command
     (c.in-Ok-Replay.is ∙ ap (λ (x : Command). Ok x) c.in-Ok-Replay.field-0-is) is in
     let bytes : List ℕ = take ((g.S.Source.input c.answer_lines.new.source).before - (g.S.Source.input c.args.source.now).given) input in
-    inl (subst (λ (b : Bool). (progress_behind b bytes).end ≡ None) same
-    (subst (λ (r : Replay). (behind answer_of bytes (opened r)).end ≡ None) c.new-replay.ensures (c.answer_lines.ensures.stopped input e)))
+    inl (subst (λ (b : Bool). (progress_after b bytes).end ≡ None) same
+    (subst (λ (r : Replay). (after_bytes answer_of bytes (opened r)).end ≡ None) c.new-replay.ensures (c.answer_lines.ensures.stopped input e)))
 
 pub returns-in-Err-clause-replay : goal.returns-in-Err-clause-replay
 unfolding memory_fault_text
@@ -89,7 +89,7 @@ returns-in-Ok-Race-clause-race_stopped g c = λ shows is input e.
     let same : c.in-Ok-Race.shows_state ≡ shows =
     raced-same c.command_of.result (map string_bytes c.args.words.now) shows c.in-Ok-Race.shows_state c.command_of.ensures.command
     (c.in-Ok-Race.is ∙ ap (λ (x : Command). Ok x) c.in-Ok-Race.field-0-is) is in
-    inl (subst (λ (b : Bool). (check_behind b (take ((g.S.Source.input c.race.new.source).before - (g.S.Source.input c.args.source.now).given)
+    inl (subst (λ (b : Bool). (check_after b (take ((g.S.Source.input c.race.new.source).before - (g.S.Source.input c.args.source.now).given)
     input)).end ≡ None) same
     (c.race.ensures.stopped input e))
 

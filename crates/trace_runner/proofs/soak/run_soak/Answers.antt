@@ -10,7 +10,7 @@ use Rattle.trace_runner.specs.declared.replay.Replay.{Replay}
 use Rattle.trace_runner.specs.declared.soak.Soak.{Soak}
 use Rattle.trace_runner.specs.declared.status.Status.{Status}
 use Rattle.trace_runner.specs.declared.status.Verdict.{Verdict}
-use Rattle.trace_runner.proofs.Soaks.{quiet-behind, soaked_is}
+use Rattle.trace_runner.proofs.Soaks.{quiet-after, soaked_is}
 use Rattle.trace_runner.proofs.soak.run_soak.Goals as goal
 
 pub returns-clause-said : goal.returns-clause-said
@@ -23,7 +23,7 @@ returns-clause-said g c =
     let w : Run Soak Verdict = run_of soak_answer soak_closing start text before given 0 0 in
     let shown : Type 0 = Rose (g.K.Sink.output c.args.sink.now).faults (g.K.Sink.output c.answer_lines.new.sink).faults in
     let is = soaked_is w c.answer_lines.result (g.K.Sink.output c.args.sink.now).contents (g.K.Sink.output c.answer_lines.new.sink).contents shown
-    (λ k. quiet-behind (take k text) (opened start) (λ _. refl)) (λ rose. elim rose [ inl some ↦ omega arith | inr last ↦ omega arith ])
+    (λ k. quiet-after (take k text) (opened start) (λ _. refl)) (λ rose. elim rose [ inl some ↦ omega arith | inr last ↦ omega arith ])
     c.answer_lines.ensures.ends.sink_fault (c.answer_lines.ensures.outcome text (ap (λ (f : Feed). Some f.left) c.new-source.ensures)) in
     subst (λ (s : Status). Soaked (soak_of c.args.size) s (g.K.Sink.output c.args.sink.now).contents (g.K.Sink.output c.answer_lines.new.sink).contents shown)
     (sym c.status_of.ensures)

@@ -1,6 +1,6 @@
 use Rattle.std.proofs.Common.{◌≡◌, ℕ, ◌+◌, ◌≤◌, length, drop, List, [], refl, ◌∙◌, arith, length-drop}
 use Rattle.std.proofs.Math.ListN.{drop_of_length-le}
-use Rattle.trace_text.specs.private.Spelled.{behind_word}
+use Rattle.trace_text.specs.private.Spelled.{after_word}
 use Rattle.trace_text.proofs.Spells.{word-differs, word-same, word-at_end, word-at_space, word-longer, word-short}
 use Rattle.trace_text.proofs.bytes.end_of_word.Goals.{
   else-end-line-via-then-end-line+else-line-end-ne32,
@@ -10,7 +10,7 @@ use Rattle.trace_text.proofs.bytes.end_of_word.Goals as goal
 
 -- all bytes of a name were there
 all_taken : (at i : ℕ) (name line : List ℕ) → length name ≤ i → i ≡ length name
-    → behind_word (drop i name) (drop (at + i) line) ≡ behind_word [] (drop (at + length name) line)
+    → after_word (drop i name) (drop (at + i) line) ≡ after_word [] (drop (at + length name) line)
 all_taken at i name line h same = rw (drop_of_length-le name h, same) refl
 
 pub returns-then-line-at : goal.returns-then-line-at

@@ -3,7 +3,7 @@ use Rattle.clk_units.specs.declared.ranges.TheConstants.{RANGE_NS}
 use Rattle.board_types.specs.declared.parts.BoardParts.{BoardParts}
 use Rattle.board_core.specs.Time.{now_of}
 use Rattle.board_core.specs.Tsc.{processor_at, tsc_read}
-use Rattle.transfer.specs.Move.{tsc_behind, moved_to, move_fault}
+use Rattle.transfer.specs.Move.{tsc_after_gap, moved_to, move_fault}
 use Rattle.transfer.proofs.GoingOn.{tsc_read-moved_to}
 use Rattle.transfer.proofs.Publishing.{move_fault-none, published_below-hv, reanchored-hv}
 use Rattle.transfer.proofs.moves.moved.Goals as goal
@@ -44,4 +44,4 @@ returns-clause-tscs c =
     let there : k < from.cpus = subst (λ (b : BoardParts). k < b.cpus) (sym c.parts-from.ensures.value) less in
     ap (λ (b : BoardParts). tsc_read b.anchor b.guest_khz c.args.start (processor_at b k)) is
     ∙ tsc_read-moved_to from c.args.khz c.args.start c.args.gap k (fits from.cpus (length from.processors) places few) there
-    ∙ ap (λ (b : BoardParts). tsc_behind b c.args.gap k) c.parts-from.ensures.value
+    ∙ ap (λ (b : BoardParts). tsc_after_gap b c.args.gap k) c.parts-from.ensures.value

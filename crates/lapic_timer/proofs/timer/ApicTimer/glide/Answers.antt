@@ -3,7 +3,7 @@ use Rattle.lapic_timer.specs.declared.parts.ApicParts.{ApicParts}
 use Rattle.lapic_timer.specs.Parts.{IsApicTimer}
 use Rattle.lapic_timer.specs.Stretch.{passed_times, fires_in}
 use Rattle.lapic_timer.proofs.Keeps.{IsApicTimer-passed_times}
-use Rattle.lapic_timer.proofs.Laws.{counting-mode, stretch-ahead, fires_in-behind}
+use Rattle.lapic_timer.proofs.Laws.{counting-mode, stretch-ahead, fires_in-after}
 use Rattle.lapic_timer.proofs.Nanoseconds.{nanoseconds-passed_times}
 use Rattle.lapic_timer.proofs.timer.ApicTimer.glide.Goals as goal
 
@@ -32,7 +32,7 @@ returns-clause-quiet c = λ e. (
 pub returns-clause-fires : goal.returns-clause-fires
 returns-clause-fires c = λ e some.
     let counts : 0 < c.self.inside.parts.current = omega (arith, some, ap (λ (p : ApicParts). p.current) c.self.view_is) in
-    let fired : 0 < fires_in c.self.inside.parts c.args.n = fires_in-behind c.args.n c.self.inside.parts c.self.invariant counts (c.glide.ensures.fires e counts) in
+    let fired : 0 < fires_in c.self.inside.parts c.args.n = fires_in-after c.args.n c.self.inside.parts c.self.invariant counts (c.glide.ensures.fires e counts) in
     omega (arith, fired, ap (λ (p : ApicParts). fires_in p c.args.n) c.self.view_is)
 
 pub returns-clause-state : goal.returns-clause-state

@@ -4,7 +4,7 @@ use Rattle.race_phase.specs.Tallies.{IsTally}
 use Rattle.race_phase.specs.declared.records.Record.{Record}
 use Rattle.trace_runner.specs.Check.{with_call}
 use Rattle.trace_runner.specs.Checking.{Checking}
-use Rattle.trace_runner.specs.Replayed.{board_behind, replayed, on_board}
+use Rattle.trace_runner.specs.Replayed.{board_after_phases, replayed, on_board}
 use Rattle.race_phase.specs.declared.phases.Phase.{Phase}
 use Rattle.trace_runner.proofs.Replayed.{replayed-record, pushed}
 use Rattle.trace_runner.proofs.check.Check.push.Goals as goal
@@ -39,4 +39,4 @@ returns c =
     } in
     pushed s c.args.line rec c.args.call _ _ (ap (replayed i.opening vs) records ∙ replayed-record i.opening vs i.last r)
     records
-    ∙ ap (λ (t : Checking). with_call c.args.line rec c.args.call (on_board (board_behind t.replay.board rec.cpu rec.h c.args.call) t)) c.self.view_is
+    ∙ ap (λ (t : Checking). with_call c.args.line rec c.args.call (on_board (board_after_phases t.replay.board rec.cpu rec.h c.args.call) t)) c.self.view_is

@@ -1,6 +1,6 @@
 use Rattle.std.proofs.Common.{◌≡◌, ℕ, ◌+◌, None, sym, subst, ◌∙◌}
 use Rattle.trace_text.specs.declared.reading.ReadingParts.{ReadingParts}
-use Rattle.trace_loop.specs.Progress.{end_of, state_behind}
+use Rattle.trace_loop.specs.Progress.{end_of, state_after}
 use Rattle.trace_runner.specs.Replay.{item_answer}
 use Rattle.trace_runner.specs.Ready.{IsReady}
 use Rattle.trace_runner.specs.declared.replay.Replay.{Replay}
@@ -16,5 +16,5 @@ returns-in-Ok-clause-may c =
     c.answer_item.ensures.ends c.answer_item.ensures.state
     (subst (λ (p : ReadingParts).
     (let r' : Replay = record r { reading = p } in end_of (item_answer line c.in-Ok.item r') ≡ None
-    → IsReady (line + 1) (state_behind (item_answer line c.in-Ok.item r') r'))) (sym c.take_line.ensures.state)
+    → IsReady (line + 1) (state_after (item_answer line c.in-Ok.item r') r'))) (sym c.take_line.ensures.state)
     (ready_next line r c.args.text.now c.in-Ok.item c.requires.may (sym c.take_line.ensures.item ∙ c.in-Ok.is)))

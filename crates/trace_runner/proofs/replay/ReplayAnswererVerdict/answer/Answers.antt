@@ -1,7 +1,7 @@
 use Rattle.std.proofs.Common.{◌≡◌, ℕ, ◌+◌, None, sym, subst}
 use Rattle.trace_text.specs.declared.reading.ReadingParts.{ReadingParts}
 use Rattle.trace_text.specs.declared.reading.Item.TheVariants.{Next}
-use Rattle.trace_loop.specs.Progress.{end_of, state_behind}
+use Rattle.trace_loop.specs.Progress.{end_of, state_after}
 use Rattle.trace_runner.specs.Replay.{record_answer}
 use Rattle.trace_runner.specs.Ready.{IsReady}
 use Rattle.trace_runner.specs.declared.replay.Replay.{Replay}
@@ -18,5 +18,5 @@ returns-then-read_record-clause-may c =
     c.answer_record.ensures.ends c.answer_record.ensures.state
     (subst (λ (p : ReadingParts).
     (let r' : Replay = record r { reading = p } in end_of (record_answer line rec r') ≡ None
-    → IsReady (line + 1) (state_behind (record_answer line rec r') r'))) (sym c.if-read_record.ensures.state)
+    → IsReady (line + 1) (state_after (record_answer line rec r') r'))) (sym c.if-read_record.ensures.state)
     (ready_next line r c.args.text.now (Next rec) c.requires.may c.if-read_record.ensures.record))

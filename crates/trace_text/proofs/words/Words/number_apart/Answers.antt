@@ -1,13 +1,13 @@
 use Rattle.std.proofs.Common.{◌≡◌, [], refl, sym, ◌∙◌, ap, arith}
 use Rattle.trace_text.specs.Tokens.{first, rest}
 use Rattle.trace_text.specs.private.Spelled.{number_of}
-use Rattle.trace_text.proofs.Spells.{words_from-behind}
+use Rattle.trace_text.proofs.Spells.{words_from-after}
 use Rattle.trace_text.proofs.FirstWord.{no_number, a_number}
 use Rattle.trace_text.proofs.words.Words.number_apart.Goals as goal
 
 pub returns-then-at-self-clause-value : goal.returns-then-at-self-clause-value
 returns-then-at-self-clause-value c =
-    let none : c.args.self.now ≡ [] = sym c.self.view_is ∙ words_from-behind c.self.inside.at c.self.inside.line.now c.if-at-self.true in
+    let none : c.args.self.now ≡ [] = sym c.self.view_is ∙ words_from-after c.self.inside.at c.self.inside.line.now c.if-at-self.true in
     rw none refl
 
 pub returns-in_err-spelling-clause-value : goal.returns-in_err-spelling-clause-value

@@ -4,7 +4,7 @@ use Rattle.std.proofs.lemmas.List.{drop-drop}
 use Rattle.std.proofs.Math.Seq.{take-length}
 use Rattle.trace_text.specs.Tokens.{words_of}
 use Rattle.trace_text.specs.private.Spelled.{begins, shortened, words_from}
-use Rattle.trace_text.proofs.Spells.{words_from-within, words_from-behind}
+use Rattle.trace_text.proofs.Spells.{words_from-within, words_from-after}
 use Rattle.trace_text.proofs.Letters.{begins-is, shortened-is}
 use Rattle.trace_text.proofs.words.Words.skips.Goals as goal
 
@@ -14,7 +14,7 @@ whole at line = rw (← length-drop at line) (take-length (drop at line))
 
 pub returns-then-self-clause-found : goal.returns-then-self-clause-found
 returns-then-self-clause-found c =
-    let none : c.args.self.now ≡ [] = sym c.self.view_is ∙ words_from-behind c.self.inside.at c.self.inside.line.now c.if-self.true in
+    let none : c.args.self.now ≡ [] = sym c.self.view_is ∙ words_from-after c.self.inside.at c.self.inside.line.now c.if-self.true in
     rw none refl
 
 -- by the test of the line's bytes

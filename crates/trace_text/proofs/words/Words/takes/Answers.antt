@@ -2,7 +2,7 @@ use Rattle.std.proofs.Common.{◌≡◌, ℕ, List, length, [], refl, sym, ◌�
 use Rattle.std.proofs.lemmas.Bool.{cases_lt}
 use Rattle.trace_text.specs.Tokens.{starts, rest}
 use Rattle.trace_text.specs.private.Spelled.{words_from}
-use Rattle.trace_text.proofs.Spells.{words_from-behind}
+use Rattle.trace_text.proofs.Spells.{words_from-after}
 use Rattle.trace_text.proofs.FirstWord.{a_word, no_word}
 use Rattle.trace_text.proofs.words.Words.takes.Goals as goal
 
@@ -23,7 +23,7 @@ returns-in-Some-clause-past c =
 pub returns-in-None-clause-found : goal.returns-in-None-clause-found
 returns-in-None-clause-found c = elim (cases_lt (length c.self.inside.line.now) c.self.inside.at) [
   | inl past ↦
-      let none : c.args.self.now ≡ [] = sym c.self.view_is ∙ words_from-behind c.self.inside.at c.self.inside.line.now past in
+      let none : c.args.self.now ≡ [] = sym c.self.view_is ∙ words_from-after c.self.inside.at c.self.inside.line.now past in
       rw none refl
   | inr within ↦
       let other = no_word c.args.name.now c.self.inside.at c.self.inside.line.now c.requires within (c.in-None.ensures within) in

@@ -1,10 +1,10 @@
 use Rattle.std.proofs.Common.{sym, ◌∙◌, refl}
-use Rattle.trace_text.proofs.Spells.{words_from-behind}
+use Rattle.trace_text.proofs.Spells.{words_from-after}
 use Rattle.trace_text.proofs.WordAt.{word_cut}
 use Rattle.trace_text.proofs.words.Words.word.Goals as goal
 
 pub returns-then-self : goal.returns-then-self
-returns-then-self c = sym c.self.view_is ∙ words_from-behind c.self.inside.at c.self.inside.line.now c.if-self.true
+returns-then-self c = sym c.self.view_is ∙ words_from-after c.self.inside.at c.self.inside.line.now c.if-self.true
 
 pub returns : goal.returns
 returns c =
