@@ -304,7 +304,7 @@ module _ (A E : Type 0) (w : Run A E) where
   ended_out end text c0 c2 is well shown = (sym (ap (λ (r : Closing E). r.end) is), (text, (sym (ap (λ (r : Closing E). r.text) is), well), shown))
 
 module _ (A E : Type 0) (answer : ℕ → A → List ℕ → Answer A E) (closing : ℕ → A → Closing E) (a : A) (input : List ℕ) (before given f f' : ℕ) where
-  run_here : Run A E
+  abbrev run_here : Run A E
   run_here = run_of answer closing a input before given f f'
 
   held : (put : List ℕ) (place : ℕ) → IsAsked A E answer a input put before place → Begins (after_bytes answer (take before input) (opened a)).printed put
@@ -314,20 +314,20 @@ module _ (A E : Type 0) (answer : ℕ → A → List ℕ → Answer A E) (closin
   pub out_ended : (end : E) (result : Ended E) (put last : List ℕ) (place : ℕ) (c0 c1 c2 : Option (List ℕ)) (fault : Type 0)
       → finished answer closing (after_bytes answer input (opened a)) ≡ record { text = put ++ last; end = end } → f' ≡ f
       → IsAsked A E answer a input put before place → Appends c0 c1 put
-      → Said (statuses.By end) result c1 c2 last fault → Outcome (run_of answer closing a input before given f f') result c0 c2
+      → Said (statuses.By end) result c1 c2 last fault → Outcome run_here result c0 c2
   out_ended end result put last place c0 c1 c2 fault is well asked shown said =
-      said_out A E (run_of answer closing a input before given f f') (statuses.By end) result put last c0 c1 c2 fault shown (held put place asked)
+      said_out A E run_here (statuses.By end) result put last c0 c1 c2 fault shown (held put place asked)
       (inl (sym (ap (λ (r : Closing E). r.text) is), well))
-      (λ all. ended_out A E (run_of answer closing a input before given f f') end (put ++ last) c0 c2 is well all) said
+      (λ all. ended_out A E run_here end (put ++ last) c0 c2 is well all) said
 
   -- memory ran out after some lines
   pub out_memory : (result : Ended E) (put last text : List ℕ) (place : ℕ) (c0 c1 c2 : Option (List ℕ)) (fault : Type 0)
       → (after_bytes answer (take place input) (opened a)).printed ≡ put ++ text → (after_bytes answer (take place input) (opened a)).end ≡ None → place ≤ given → last
       ≡ text ++ memory_fault_text → f' ≡ f
       → IsAsked A E answer a input put before place → Appends c0 c1 put
-      → Said statuses.NoMemory result c1 c2 last fault → Outcome (run_of answer closing a input before given f f') result c0 c2
+      → Said statuses.NoMemory result c1 c2 last fault → Outcome run_here result c0 c2
   out_memory result put last text place c0 c1 c2 fault is going within parts well asked shown said =
-      let memory : IsMemoryFault (run_of answer closing a input before given f f') (put ++ last) = (
+      let memory : IsMemoryFault run_here (put ++ last) = (
         place,
         ap (λ (l : List ℕ). put ++ l) parts ∙ sym (append_assoc put text memory_fault_text) ∙ ap (λ (l : List ℕ). l ++ memory_fault_text) (sym is),
         asked.least,
@@ -335,26 +335,26 @@ module _ (A E : Type 0) (answer : ℕ → A → List ℕ → Answer A E) (closin
         going,
         well,
       ) in
-      said_out A E (run_of answer closing a input before given f f') statuses.NoMemory result put last c0 c1 c2 fault shown (held put place asked)
+      said_out A E run_here statuses.NoMemory result put last c0 c1 c2 fault shown (held put place asked)
       (inr (inr memory)) (λ all. (put ++ last, memory, all)) said
 
   -- the source failed
   pub out_source : (result : Ended E) (put : List ℕ) (place : ℕ) (c0 c1 c2 : Option (List ℕ)) (fault : Type 0)
       → (after_bytes answer (take given input) (opened a)).printed ≡ put → (after_bytes answer (take given input) (opened a)).end ≡ None → Rose f f'
       → IsAsked A E answer a input put before place → Appends c0 c1 put
-      → Said statuses.SourceFault result c1 c2 source_fault_text fault → Outcome (run_of answer closing a input before given f f') result c0 c2
+      → Said statuses.SourceFault result c1 c2 source_fault_text fault → Outcome run_here result c0 c2
   out_source result put place c0 c1 c2 fault is going rose asked shown said =
-      let source : IsSourceFault (run_of answer closing a input before given f f') (put ++ source_fault_text) =
+      let source : IsSourceFault run_here (put ++ source_fault_text) =
       (ap (λ (l : List ℕ). l ++ source_fault_text) (sym is), going, rose) in
-      said_out A E (run_of answer closing a input before given f f') statuses.SourceFault result put source_fault_text c0 c1 c2 fault shown
+      said_out A E run_here statuses.SourceFault result put source_fault_text c0 c1 c2 fault shown
       (held put place asked) (inr (inl source)) (λ all. (put ++ source_fault_text, source, all)) said
 
   -- the sink failed
   pub out_sink : (put last more : List ℕ) (place : ℕ) (c0 c1 c2 : Option (List ℕ)) → (finished answer closing (after_bytes answer input (opened a))).text
       ≡ put ++ (last ++ more) → f' ≡ f → IsAsked A E answer a input put before place → Appends c0 c1 put
-      → (cut : List ℕ) × Begins cut last × Appends c1 c2 cut → Outcome (run_of answer closing a input before given f f') statuses.SinkFault c0 c2
+      → (cut : List ℕ) × Begins cut last × Appends c1 c2 cut → Outcome run_here statuses.SinkFault c0 c2
   out_sink put last more place c0 c1 c2 is well asked shown cut =
-      cut_off A E (run_of answer closing a input before given f f') put last more
+      cut_off A E run_here put last more
       (finished answer closing (after_bytes answer input (opened a))).text c0 c1 c2 shown (held put place asked) (inl (refl, well)) is cut
 
 -- the place of a run, as a number of bytes
