@@ -170,7 +170,7 @@ some-answer base count n ws s h = by_number (number_after base n (first_word ws)
 shape : List ℕ → ℕ → Number
 shape w n = record { value = n; digits = length w; zero = eqb (get_or w 0 0) 48 }
 
--- no number stands there
+-- no number is there
 pub no_number : (base at : ℕ) (line : List ℕ) → 0 < base → at ≤ length line
     → spelled base 0 0 (drop at line) ≡ None → first (number_of base) (words_from at line) ≡ None
 unfolding number_of shape
@@ -194,7 +194,7 @@ zero_first at last line long = elim (cases_lt at last) [
     nothing [] e = refl
     nothing (c ∷ cs) e = absurd (omega arith)
 
--- a number stands there
+-- a number is there
 pub a_number : (base at last value : ℕ) (line : List ℕ) → 0 < base → at ≤ length line
     → spelled base 0 0 (drop at line) ≡ Some (spelt (last - at) (words_from (last + 1) line) value)
     → (first (number_of base) (words_from at line)
@@ -217,6 +217,11 @@ a_number base at last value line b h e =
 abbrev joined : ℕ → List (List ℕ) → List (List ℕ)
 joined c ws = cond (eqb c 32) ([] ∷ ws) (onto_first c ws)
 
+-- a test of each letter, by the first and by the others
+pub letters : (t r : Bool) → IsTrue (not t && r) → (t ≡ false) × IsTrue r
+letters false r h = (refl, h)
+letters true r h = (cc, cc)
+
 -- whether it is a word
 pub after_word-is : (name bytes : List ℕ) → IsTrue (list_all (λ b. not (eqb b 32)) name)
     → after_word name bytes ≡ cond (bytes_eq (first_word (words_of bytes)) name) (Some (rest (words_of bytes))) None
@@ -231,16 +236,12 @@ after_word-is [] (c ∷ cs) h = by_space (eqb c 32) (slice_split (λ b. eqb b 32
     by_space false (w ∷ ws) = refl
 after_word-is (b ∷ bs) [] h = refl
 after_word-is (b ∷ bs) (c ∷ cs) h =
-    let parts = split (eqb b 32) (list_all (λ b. not (eqb b 32)) bs) h in
+    let parts = letters (eqb b 32) (list_all (λ b. not (eqb b 32)) bs) h in
     elim (cases_eq c b) [
       | inl same ↦ the_byte same parts.0 (after_word-is bs cs parts.1)
       | inr other ↦ another (eqb c 32) (slice_split (λ b. eqb b 32) cs) (ne_eqb c b other)
     ]
   where
-    split : (t r : Bool) → IsTrue (not t && r) → (t ≡ false) × IsTrue r
-    split false r h = (refl, h)
-    split true r h = (cc, cc)
-
     onto_eq : (ws : List (List ℕ)) → bytes_eq (first_word (onto_first c ws)) (b ∷ bs) ≡ (eqb c b && bytes_eq (first_word ws) bs)
     onto_eq [] = refl
     onto_eq (w ∷ ws) = refl
@@ -262,7 +263,7 @@ after_word-is (b ∷ bs) (c ∷ cs) h =
         let here : eqb c 32 ≡ false = ap (λ (x : ℕ). eqb x 32) same ∙ no_space in
         rw (here, onto_eq (words_of cs), onto_rest (words_of cs), eq-eqb c b same) e
 
--- a word that stands there, and one that doesn't
+-- a word that is there, and one that isn't
 pub a_word : (name : List ℕ) (at : ℕ) (line : List ℕ) (ws : List (List ℕ)) → IsTrue (list_all (λ b. not (eqb b 32)) name) → at ≤ length line
     → after_word name (drop at line) ≡ Some ws → (starts name (words_from at line) ≡ true) × (ws ≡ rest (words_from at line))
 a_word name at line ws plain h e =
@@ -293,7 +294,7 @@ other_word n ns bytes other = by_word (first_word (words_of bytes)) (first_word-
         let same : c ≡ get_or bytes 0 0 = h (omega arith) in
         rw (ne_eqb c n (λ e. other (sym e ∙ same))) refl
 
--- the first byte that stands there, or none
+-- the first byte that is there, or none
 pub initial-there : (at : ℕ) (line : List ℕ) → at < length line → IsInitial (get_or line at 0) (words_from at line)
 initial-there at line h = λ n ns other.
     let within : at ≤ length line = omega arith in

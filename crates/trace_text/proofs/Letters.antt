@@ -4,12 +4,7 @@ use Rattle.std.specs.List.{onto_first, list_all, starts_with}
 use Rattle.std.proofs.lemmas.Bool.{cases_eq, eqb-true, ne_eqb}
 use Rattle.trace_text.specs.Tokens.{words_of, rest, first, dec, decimal_past}
 use Rattle.trace_text.specs.private.Spelled.{begins, shortened}
-use Rattle.trace_text.proofs.FirstWord.{first_word, words_of-cons}
-
--- a test of each letter, by the first and by the others
-letters : (t r : Bool) → IsTrue (not t && r) → (t ≡ false) × IsTrue r
-letters false r h = (refl, h)
-letters true r h = (cc, cc)
+use Rattle.trace_text.proofs.FirstWord.{first_word, words_of-cons, letters}
 
 -- the word's bytes are the line's up to a space, which is no letter
 first_word-begins : (name bytes : List ℕ) → IsTrue (list_all (λ b. not (eqb b 32)) name)

@@ -8,6 +8,5 @@ pub mod Letters
 pub mod WordAt
 pub mod States
 mod Rows
-mod RowsAfter
 pub mod Limits
 pub mod NoRecord

@@ -59,7 +59,7 @@ pub spelled-end : (base count n i : ℕ) (xs : List ℕ) → length xs ≤ i
 unfolding spelled
 spelled-end base count n i xs h = rw (drop_of_length-le xs h, words_from-after (i + 1) xs (omega arith)) refl
 
--- where no other byte than a space stands, it ends
+-- where no other byte than a space is, it ends
 pub spelled-ended : (base count n i : ℕ) (xs : List ℕ) → (i < length xs → get_or xs i 0 ≡ 32)
     → spelled base count n (drop i xs) ≡ Some (record { count = count; value = n; left = words_from (i + 1) xs })
 spelled-ended base count n i xs space =
@@ -122,7 +122,7 @@ unfolding after_word
 word-same at i name line h k same =
     rw (drop_more name i 0 h, drop_more line (at + i) 0 k, eq-eqb (get_or line (at + i) 0) (get_or name i 0) same) refl
 
--- after its bytes the line ends, or a space stands, or it is a longer word
+-- after its bytes the line ends, or a space comes, or it is a longer word
 pub word-at_end : (at : ℕ) (line : List ℕ) → length line ≤ at → after_word [] (drop at line) ≡ Some (words_from (at + 1) line)
 unfolding after_word
 word-at_end at line h = rw (drop_of_length-le line h, words_from-after (at + 1) line (omega arith)) refl

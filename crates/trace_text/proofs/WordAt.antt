@@ -38,7 +38,7 @@ use Rattle.trace_text.specs.Tokens.{words_of}
 use Rattle.trace_text.specs.private.Spelled.{words_from}
 use Rattle.trace_text.proofs.Spells.{words_from-within, words_from-after}
 
--- a space stands there, and none in front of it
+-- a space is there, and none in front of it
 words_of-space : (k : ℕ) (bytes : List ℕ) → k < length bytes → get_or bytes k 0 ≡ 32
     → ((i : ℕ) → i < k → get_or bytes i 0 ≢ 32) → words_of bytes ≡ take k bytes ∷ words_of (drop (suc k) bytes)
 unfolding words_of
@@ -49,7 +49,7 @@ words_of-space (suc k) (c ∷ cs) h here none =
     let rest = words_of-space k cs (omega arith) here (λ i below. none (suc i) (omega arith)) in
     rw (ne_eqb c 32 other, rest) refl
 
--- no space stands there
+-- no space is there
 words_of-none : (bytes : List ℕ) → ((i : ℕ) → i < length bytes → get_or bytes i 0 ≢ 32) → words_of bytes ≡ bytes ∷ []
 unfolding words_of
 words_of-none [] none = refl

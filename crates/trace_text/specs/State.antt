@@ -20,7 +20,6 @@ use Rattle.std.specs.Prelude.{
 }
 use Rattle.std.specs.Result.{result_ok}
 use Rattle.hex.specs.Hex.{decode_of}
-use Rattle.hex.specs.declared.error.FromHexError.{FromHexError}
 use Rattle.board_core.specs.Upgrade.{upgraded_to}
 use Rattle.board_types.specs.declared.parts.BoardParts.{BoardParts}
 use Rattle.save_state.specs.Places.{format_in}

@@ -2,7 +2,6 @@
 ghost use Rattle.std.specs.Prelude.{
   ◌≡◌,
   ◌≢◌,
-  ℕ,
   ◌+◌,
   ◌-◌,
   ◌*◌,
@@ -13,22 +12,18 @@ ghost use Rattle.std.specs.Prelude.{
   ◌&&◌,
   nat_lt,
   slice_index,
-  not,
-  List,
   drop,
   length,
   Option,
   Some,
   None,
-  IsTrue,
   IfSome,
   MatchOption,
 };
 ghost use Rattle.std.specs.Bool.{OnTrue};
 ghost use Rattle.std.specs.Char.{digit_value};
 ghost use Rattle.std.specs.Option.{SomeIff};
-ghost use Rattle.std.specs.List.{list_all};
-ghost use Rattle.trace_text.specs.private.Spelled.{spelled, after_word, words_from, Spelled};
+ghost use Rattle.trace_text.specs.private.Spelled.{spelled, after_word, words_from};
 
 /// What a word spells.
 #[derive(Clone, Copy)]

@@ -14,9 +14,6 @@ ghost use Rattle.std.specs.Prelude.{
   Ok,
   OnOk,
   IfOk,
-  OnSome,
-  IfSome,
-  IfNone,
 };
 ghost use Rattle.std.specs.Bool.{OnTrue, OnFalse};
 ghost use Rattle.std.specs.Str.{bytes_eq};
@@ -44,7 +41,7 @@ ghost use Rattle.trace_loop.specs.Progress.{limit_of};
 
 use crate::faults::{Reason, RecordFault};
 use crate::header::{Head, Header, first_line};
-use crate::records::{Body, Job, Record};
+use crate::records::{Body, Record};
 use crate::words::Words;
 use std::marker::Model;
 use trace_loop::{LINE_MAX, limit_of};
