@@ -109,10 +109,10 @@ positive : (bits : ℕ) → ltb 0 (modulus bits) ≡ true
 unfolding modulus
 positive bits = cond_both (is_bcd bits) 10000 65536 (λ m. ltb 0 m ≡ true) (λ _. refl) (λ _. refl)
 
--- a pulse in mode 0
-terminal_count : (c : CounterParts) → mode_of c.bits ≡ TerminalCount → Valid c → Valid (affected (effect_in TerminalCount c) c)
+-- a pulse, in any mode
+Valid-pulsed : (c : CounterParts) (m : Mode) → mode_of c.bits ≡ m → Valid c → Valid (affected (effect_in m c) c)
 unfolding effect_in flags_valid ce_valid part_valid is_odd_square
-terminal_count c m h =
+Valid-pulsed c TerminalCount m h =
     let flags = simp m at h.0 in
     let ce = simp m at h.1 in
     let part = simp m at h.2 in
@@ -121,11 +121,7 @@ terminal_count c m h =
     (λ none. cond_both (c.live && c.gate && not c.part_there) DownToHigh (Stand c.out) (λ e. Valid (affected e c))
     (λ counts. (simp m (grind arith), simp m (grind (arith, lowered-below, nat_tests)), simp m (grind arith)))
     (λ stopped. (simp m (grind arith), simp m (grind arith), simp m (grind arith))))
-
--- a pulse in mode 1
-one_shot : (c : CounterParts) → mode_of c.bits ≡ OneShot → Valid c → Valid (affected (effect_in OneShot c) c)
-unfolding effect_in flags_valid ce_valid part_valid is_odd_square
-one_shot c m h =
+Valid-pulsed c OneShot m h =
     let flags = simp m at h.0 in
     let ce = simp m at h.1 in
     let part = simp m at h.2 in
@@ -134,11 +130,7 @@ one_shot c m h =
     (λ none. cond_both c.live DownToHigh (Stand c.out) (λ e. Valid (affected e c))
     (λ counts. (simp m (grind arith), simp m (grind (arith, lowered-below, nat_tests)), simp m (grind arith)))
     (λ stopped. (simp m (grind arith), simp m (grind arith), simp m (grind arith))))
-
--- a pulse in mode 2
-rate_generator : (c : CounterParts) → mode_of c.bits ≡ RateGenerator → Valid c → Valid (affected (effect_in RateGenerator c) c)
-unfolding effect_in flags_valid ce_valid part_valid is_odd_square
-rate_generator c m h =
+Valid-pulsed c RateGenerator m h =
     let flags = simp m at h.0 in
     let ce = simp m at h.1 in
     let part = simp m at h.2 in
@@ -150,18 +142,13 @@ rate_generator c m h =
     (λ goes_on. cond_both (c.live && c.gate) DownToLow (Stand c.out) (λ e. Valid (affected e c))
     (λ counts. (simp m (grind arith), simp m (grind (arith, lowered-below, nat_tests)), simp m (grind arith)))
     (λ stopped. (simp m (grind arith), simp m (grind arith), simp m (grind arith)))))
-
--- a pulse in mode 3
-square_wave : (c : CounterParts) → mode_of c.bits ≡ SquareWave → Valid c → Valid (affected (effect_in SquareWave c) c)
-unfolding effect_in flags_valid ce_valid part_valid is_odd_square
-square_wave c m h =
+Valid-pulsed c SquareWave m h =
     let flags = simp m at h.0 in
     let ce = simp m at h.1 in
     let part = simp m at h.2 in
     let square : is_square (mode_of c.bits) ≡ true = simp m in
     let loaded_even : loaded_count c.bits c.cr % 2 ≡ 0 = loaded_count-even c.bits c.cr square in
     let lowered_even : c.ce % 2 ≡ 0 → lowered c.bits c.ce 2 % 2 ≡ 0 = lowered-even c.bits c.ce in
-    let is_end = c.live && c.gate && c.out && c.odd && eqb c.ce 0 in
     cond_both ((c.full && not c.live) || c.trig) (Load true) _ (λ e. Valid (affected e c))
     (λ begins. (simp m (grind arith), simp m (grind (arith, loaded_count-below, nat_tests)), simp m (grind arith)))
     (λ none. cond_both (c.live && c.gate && c.out && c.odd && eqb c.ce 0) (Load false) _ (λ e. Valid (affected e c))
@@ -173,11 +160,7 @@ square_wave c m h =
     (λ goes_on. cond_both (c.live && c.gate) DownByTwo (Stand c.out) (λ e. Valid (affected e c))
     (λ counts. (simp m (grind arith), simp m (grind (arith, lowered-below, nat_tests)), simp m (grind arith)))
     (λ stopped. (simp m (grind arith), simp m (grind arith), simp m (grind arith)))))))
-
--- a pulse in mode 4
-software_strobe : (c : CounterParts) → mode_of c.bits ≡ SoftwareStrobe → Valid c → Valid (affected (effect_in SoftwareStrobe c) c)
-unfolding effect_in flags_valid ce_valid part_valid is_odd_square
-software_strobe c m h =
+Valid-pulsed c SoftwareStrobe m h =
     let flags = simp m at h.0 in
     let ce = simp m at h.1 in
     let part = simp m at h.2 in
@@ -186,11 +169,7 @@ software_strobe c m h =
     (λ none. cond_both (c.live && c.gate) DownToStrobe (Stand true) (λ e. Valid (affected e c))
     (λ counts. (simp m (grind arith), simp m (grind (arith, lowered-below, nat_tests)), simp m (grind arith)))
     (λ stopped. (simp m (grind arith), simp m (grind arith), simp m (grind arith))))
-
--- a pulse in mode 5
-hardware_strobe : (c : CounterParts) → mode_of c.bits ≡ HardwareStrobe → Valid c → Valid (affected (effect_in HardwareStrobe c) c)
-unfolding effect_in flags_valid ce_valid part_valid is_odd_square
-hardware_strobe c m h =
+Valid-pulsed c HardwareStrobe m h =
     let flags = simp m at h.0 in
     let ce = simp m at h.1 in
     let part = simp m at h.2 in
@@ -200,15 +179,6 @@ hardware_strobe c m h =
     (λ counts. (simp m (grind arith), simp m (grind (arith, lowered-below, nat_tests)), simp m (grind arith)))
     (λ stopped. (simp m (grind arith), simp m (grind arith), simp m (grind arith))))
 
--- a pulse in any mode
-Valid-pulsed : (c : CounterParts) (m : Mode) → mode_of c.bits ≡ m → Valid c → Valid (affected (effect_in m c) c)
-Valid-pulsed c TerminalCount m h = terminal_count c m h
-Valid-pulsed c OneShot m h = one_shot c m h
-Valid-pulsed c RateGenerator m h = rate_generator c m h
-Valid-pulsed c SquareWave m h = square_wave c m h
-Valid-pulsed c SoftwareStrobe m h = software_strobe c m h
-Valid-pulsed c HardwareStrobe m h = hardware_strobe c m h
-
 -- no effect touches these
 Kept : CounterParts → Type 0
 Kept c = (bits_valid c ≡ true) × (cr_valid c ≡ true) × (read_order_valid c ≡ true) × (latched_count_valid c ≡ true) × (latched_status_valid c ≡ true)
@@ -216,11 +186,7 @@ Kept c = (bits_valid c ≡ true) × (cr_valid c ≡ true) × (read_order_valid c
 Kept-affected : (e : Effect) (c : CounterParts) → IsCounter c → Kept (affected e c)
 unfolding Kept bits_valid cr_valid read_order_valid latched_count_valid latched_status_valid
 Kept-affected (Load level) c h = (h.bits, h.cr, h.read_order, h.latched_count, h.latched_status)
-Kept-affected DownToHigh c h = (h.bits, h.cr, h.read_order, h.latched_count, h.latched_status)
-Kept-affected DownToLow c h = (h.bits, h.cr, h.read_order, h.latched_count, h.latched_status)
-Kept-affected DownByTwo c h = (h.bits, h.cr, h.read_order, h.latched_count, h.latched_status)
-Kept-affected DownToStrobe c h = (h.bits, h.cr, h.read_order, h.latched_count, h.latched_status)
-Kept-affected (Stand level) c h = (h.bits, h.cr, h.read_order, h.latched_count, h.latched_status)
+Kept-affected other c h = (h.bits, h.cr, h.read_order, h.latched_count, h.latched_status)
 
 pub IsCounter-pulsed : (c : CounterParts) → IsCounter c → IsCounter (pulsed c)
 unfolding pulsed Kept
@@ -251,11 +217,7 @@ IsCounter-bits c h = let bits = h.bits in grind (arith, nat_tests)
 Valid-programmed : (m : Mode) (bits : ℕ) (gate : Bool) → mode_of bits ≡ m → Valid (programmed bits gate)
 unfolding programmed flags_valid ce_valid part_valid
 Valid-programmed TerminalCount bits gate e = (simp e, simp (e, positive bits), simp e)
-Valid-programmed OneShot bits gate e = (simp e, simp (e, positive bits), simp e)
-Valid-programmed RateGenerator bits gate e = (simp e, simp (e, positive bits), simp e)
-Valid-programmed SquareWave bits gate e = (simp e, simp (e, positive bits), simp e)
-Valid-programmed SoftwareStrobe bits gate e = (simp e, simp (e, positive bits), simp e)
-Valid-programmed HardwareStrobe bits gate e = (simp e, simp (e, positive bits), simp e)
+Valid-programmed other bits gate e = (simp e, simp (e, positive bits), simp e)
 
 pub IsCounter-programmed : (bits : ℕ) (gate : Bool) → 16 ≤ bits → bits < 64 → IsCounter (programmed bits gate)
 unfolding programmed bits_valid cr_valid read_order_valid latched_count_valid latched_status_valid
@@ -272,179 +234,31 @@ IsCounter-programmed bits gate least greatest =
       latched_status = refl;
     }
 
--- a count, or its first byte, is written
-completed-terminal_count : (count : ℕ) (c : CounterParts) → mode_of c.bits ≡ TerminalCount → Valid c → Valid (completed count c)
-unfolding completed flags_valid ce_valid part_valid
-completed-terminal_count count c m h =
+-- a count or its first byte is written, or GATE is set, in any mode
+Valid-set : (m : Mode) (count byte : ℕ) (level : Bool) (c : CounterParts) → mode_of c.bits ≡ m → Valid c
+    → Valid (completed count c) × (takes_two (access_of c.bits) ≡ true → Valid (begun byte c)) × Valid (gated level c)
+unfolding completed begun gated flags_valid ce_valid part_valid
+Valid-set TerminalCount count byte level c m h =
     let flags = simp m at h.0 in
     let ce = simp m at h.1 in
-    let part = simp m at h.2 in
-    (simp m (grind arith), simp m (grind arith), simp m (grind arith))
-
-begun-terminal_count : (byte : ℕ) (c : CounterParts) → takes_two (access_of c.bits) ≡ true → mode_of c.bits ≡ TerminalCount → Valid c → Valid (begun byte c)
-unfolding begun flags_valid ce_valid part_valid
-begun-terminal_count byte c two m h =
+    let part = simp m at h.2 in (
+      (simp m (grind arith), simp m (grind arith), simp m (grind arith)),
+      λ two. (simp m (grind arith), simp m (grind arith), simp m (grind arith)),
+      (simp m (grind arith), simp m (grind arith), simp m (grind arith)),
+    )
+Valid-set other count byte level c m h =
     let flags = simp m at h.0 in
     let ce = simp m at h.1 in
-    let part = simp m at h.2 in
-    (simp m (grind arith), simp m (grind arith), simp m (grind arith))
-
-gated-terminal_count : (level : Bool) (c : CounterParts) → mode_of c.bits ≡ TerminalCount → Valid c → Valid (gated level c)
-unfolding gated flags_valid ce_valid part_valid
-gated-terminal_count level c m h =
-    let flags = simp m at h.0 in
-    let ce = simp m at h.1 in
-    let part = simp m at h.2 in
-    (simp m (grind arith), simp m (grind arith), simp m (grind arith))
-
-completed-one_shot : (count : ℕ) (c : CounterParts) → mode_of c.bits ≡ OneShot → Valid c → Valid (completed count c)
-unfolding completed flags_valid ce_valid part_valid
-completed-one_shot count c m h =
-    let flags = simp m at h.0 in
-    let ce = simp m at h.1 in
-    let part = simp m at h.2 in
-    (simp m (grind arith), simp m (grind arith), simp m (grind arith))
-
-begun-one_shot : (byte : ℕ) (c : CounterParts) → takes_two (access_of c.bits) ≡ true → mode_of c.bits ≡ OneShot → Valid c → Valid (begun byte c)
-unfolding begun flags_valid ce_valid part_valid
-begun-one_shot byte c two m h =
-    let flags = simp m at h.0 in
-    let ce = simp m at h.1 in
-    let part = simp m at h.2 in
-    (simp m (grind arith), simp m (grind arith), simp m (grind arith))
-
-gated-one_shot : (level : Bool) (c : CounterParts) → mode_of c.bits ≡ OneShot → Valid c → Valid (gated level c)
-unfolding gated flags_valid ce_valid part_valid
-gated-one_shot level c m h =
-    let flags = simp m at h.0 in
-    let ce = simp m at h.1 in
-    let part = simp m at h.2 in
-    (simp m (grind arith), simp m (grind arith), simp m (grind arith))
-
-completed-rate_generator : (count : ℕ) (c : CounterParts) → mode_of c.bits ≡ RateGenerator → Valid c → Valid (completed count c)
-unfolding completed flags_valid ce_valid part_valid
-completed-rate_generator count c m h =
-    let flags = simp m at h.0 in
-    let ce = simp m at h.1 in
-    let part = simp m at h.2 in
-    (simp m (grind arith), simp m (grind arith), simp m (grind arith))
-
-begun-rate_generator : (byte : ℕ) (c : CounterParts) → takes_two (access_of c.bits) ≡ true → mode_of c.bits ≡ RateGenerator → Valid c → Valid (begun byte c)
-unfolding begun flags_valid ce_valid part_valid
-begun-rate_generator byte c two m h =
-    let flags = simp m at h.0 in
-    let ce = simp m at h.1 in
-    let part = simp m at h.2 in
-    (simp m (grind arith), simp m (grind arith), simp m (grind arith))
-
-gated-rate_generator : (level : Bool) (c : CounterParts) → mode_of c.bits ≡ RateGenerator → Valid c → Valid (gated level c)
-unfolding gated flags_valid ce_valid part_valid
-gated-rate_generator level c m h =
-    let flags = simp m at h.0 in
-    let ce = simp m at h.1 in
-    let part = simp m at h.2 in
-    (simp m (grind arith), simp m (grind arith), simp m (grind arith))
-
-completed-square_wave : (count : ℕ) (c : CounterParts) → mode_of c.bits ≡ SquareWave → Valid c → Valid (completed count c)
-unfolding completed flags_valid ce_valid part_valid
-completed-square_wave count c m h =
-    let flags = simp m at h.0 in
-    let ce = simp m at h.1 in
-    let part = simp m at h.2 in
-    (simp m (grind arith), simp m (grind arith), simp m (grind arith))
-
-begun-square_wave : (byte : ℕ) (c : CounterParts) → takes_two (access_of c.bits) ≡ true → mode_of c.bits ≡ SquareWave → Valid c → Valid (begun byte c)
-unfolding begun flags_valid ce_valid part_valid
-begun-square_wave byte c two m h =
-    let flags = simp m at h.0 in
-    let ce = simp m at h.1 in
-    let part = simp m at h.2 in
-    (simp m (grind arith), simp m (grind arith), simp m (grind arith))
-
-gated-square_wave : (level : Bool) (c : CounterParts) → mode_of c.bits ≡ SquareWave → Valid c → Valid (gated level c)
-unfolding gated flags_valid ce_valid part_valid
-gated-square_wave level c m h =
-    let flags = simp m at h.0 in
-    let ce = simp m at h.1 in
-    let part = simp m at h.2 in
-    (simp m (grind arith), simp m (grind arith), simp m (grind arith))
-
-completed-software_strobe : (count : ℕ) (c : CounterParts) → mode_of c.bits ≡ SoftwareStrobe → Valid c → Valid (completed count c)
-unfolding completed flags_valid ce_valid part_valid
-completed-software_strobe count c m h =
-    let flags = simp m at h.0 in
-    let ce = simp m at h.1 in
-    let part = simp m at h.2 in
-    (simp m (grind arith), simp m (grind arith), simp m (grind arith))
-
-begun-software_strobe : (byte : ℕ) (c : CounterParts) → takes_two (access_of c.bits) ≡ true → mode_of c.bits ≡ SoftwareStrobe → Valid c → Valid (begun byte c)
-unfolding begun flags_valid ce_valid part_valid
-begun-software_strobe byte c two m h =
-    let flags = simp m at h.0 in
-    let ce = simp m at h.1 in
-    let part = simp m at h.2 in
-    (simp m (grind arith), simp m (grind arith), simp m (grind arith))
-
-gated-software_strobe : (level : Bool) (c : CounterParts) → mode_of c.bits ≡ SoftwareStrobe → Valid c → Valid (gated level c)
-unfolding gated flags_valid ce_valid part_valid
-gated-software_strobe level c m h =
-    let flags = simp m at h.0 in
-    let ce = simp m at h.1 in
-    let part = simp m at h.2 in
-    (simp m (grind arith), simp m (grind arith), simp m (grind arith))
-
-completed-hardware_strobe : (count : ℕ) (c : CounterParts) → mode_of c.bits ≡ HardwareStrobe → Valid c → Valid (completed count c)
-unfolding completed flags_valid ce_valid part_valid
-completed-hardware_strobe count c m h =
-    let flags = simp m at h.0 in
-    let ce = simp m at h.1 in
-    let part = simp m at h.2 in
-    (simp m (grind arith), simp m (grind arith), simp m (grind arith))
-
-begun-hardware_strobe : (byte : ℕ) (c : CounterParts) → takes_two (access_of c.bits) ≡ true → mode_of c.bits ≡ HardwareStrobe → Valid c → Valid (begun byte c)
-unfolding begun flags_valid ce_valid part_valid
-begun-hardware_strobe byte c two m h =
-    let flags = simp m at h.0 in
-    let ce = simp m at h.1 in
-    let part = simp m at h.2 in
-    (simp m (grind arith), simp m (grind arith), simp m (grind arith))
-
-gated-hardware_strobe : (level : Bool) (c : CounterParts) → mode_of c.bits ≡ HardwareStrobe → Valid c → Valid (gated level c)
-unfolding gated flags_valid ce_valid part_valid
-gated-hardware_strobe level c m h =
-    let flags = simp m at h.0 in
-    let ce = simp m at h.1 in
-    let part = simp m at h.2 in
-    (simp m (grind arith), simp m (grind arith), simp m (grind arith))
-
-Valid-completed : (m : Mode) (count : ℕ) (c : CounterParts) → mode_of c.bits ≡ m → Valid c → Valid (completed count c)
-Valid-completed TerminalCount count c e h = completed-terminal_count count c e h
-Valid-completed OneShot count c e h = completed-one_shot count c e h
-Valid-completed RateGenerator count c e h = completed-rate_generator count c e h
-Valid-completed SquareWave count c e h = completed-square_wave count c e h
-Valid-completed SoftwareStrobe count c e h = completed-software_strobe count c e h
-Valid-completed HardwareStrobe count c e h = completed-hardware_strobe count c e h
-
-Valid-begun : (m : Mode) (byte : ℕ) (c : CounterParts) → takes_two (access_of c.bits) ≡ true → mode_of c.bits ≡ m → Valid c → Valid (begun byte c)
-Valid-begun TerminalCount byte c two e h = begun-terminal_count byte c two e h
-Valid-begun OneShot byte c two e h = begun-one_shot byte c two e h
-Valid-begun RateGenerator byte c two e h = begun-rate_generator byte c two e h
-Valid-begun SquareWave byte c two e h = begun-square_wave byte c two e h
-Valid-begun SoftwareStrobe byte c two e h = begun-software_strobe byte c two e h
-Valid-begun HardwareStrobe byte c two e h = begun-hardware_strobe byte c two e h
-
-Valid-gated : (m : Mode) (level : Bool) (c : CounterParts) → mode_of c.bits ≡ m → Valid c → Valid (gated level c)
-Valid-gated TerminalCount level c e h = gated-terminal_count level c e h
-Valid-gated OneShot level c e h = gated-one_shot level c e h
-Valid-gated RateGenerator level c e h = gated-rate_generator level c e h
-Valid-gated SquareWave level c e h = gated-square_wave level c e h
-Valid-gated SoftwareStrobe level c e h = gated-software_strobe level c e h
-Valid-gated HardwareStrobe level c e h = gated-hardware_strobe level c e h
+    let part = simp m at h.2 in (
+      (simp m (grind arith), simp m (grind arith), simp m (grind arith)),
+      λ two. (simp m (grind arith), simp m (grind arith), simp m (grind arith)),
+      (simp m (grind arith), simp m (grind arith), simp m (grind arith)),
+    )
 
 IsCounter-completed : (count : ℕ) (c : CounterParts) → IsCounter c → IsCounter (completed count c)
 unfolding completed bits_valid cr_valid read_order_valid latched_count_valid latched_status_valid
 IsCounter-completed count c h =
-    let valid = Valid-completed (mode_of c.bits) count c refl (h.flags, h.ce, h.part) in
+    let valid = (Valid-set (mode_of c.bits) count 0 true c refl (h.flags, h.ce, h.part)).0 in
     record {
       bits = h.bits;
       flags = valid.0;
@@ -459,7 +273,7 @@ IsCounter-completed count c h =
 IsCounter-begun : (byte : ℕ) (c : CounterParts) → takes_two (access_of c.bits) ≡ true → IsCounter c → IsCounter (begun byte c)
 unfolding begun bits_valid cr_valid read_order_valid latched_count_valid latched_status_valid
 IsCounter-begun byte c two h =
-    let valid = Valid-begun (mode_of c.bits) byte c two refl (h.flags, h.ce, h.part) in
+    let valid = (Valid-set (mode_of c.bits) 0 byte true c refl (h.flags, h.ce, h.part)).1 two in
     record {
       bits = h.bits;
       flags = valid.0;
@@ -485,7 +299,7 @@ IsCounter-byte_written byte c h = IsCounter-byte_written_by (access_of c.bits) b
 pub IsCounter-gated : (level : Bool) (c : CounterParts) → IsCounter c → IsCounter (gated level c)
 unfolding gated bits_valid cr_valid read_order_valid latched_count_valid latched_status_valid
 IsCounter-gated level c h =
-    let valid = Valid-gated (mode_of c.bits) level c refl (h.flags, h.ce, h.part) in
+    let valid = (Valid-set (mode_of c.bits) 0 0 level c refl (h.flags, h.ce, h.part)).2 in
     record {
       bits = h.bits;
       flags = valid.0;

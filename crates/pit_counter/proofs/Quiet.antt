@@ -40,14 +40,7 @@ use Rattle.pit_counter.specs.private.Stretch.{
   glided,
 }
 use Rattle.pit_counter.specs.declared.mode.Mode.{Mode}
-use Rattle.pit_counter.specs.declared.mode.Mode.TheVariants.{
-  TerminalCount,
-  OneShot,
-  RateGenerator,
-  SquareWave,
-  SoftwareStrobe,
-  HardwareStrobe,
-}
+use Rattle.pit_counter.specs.declared.mode.Mode.TheVariants.{RateGenerator, SquareWave}
 use Rattle.pit_counter.specs.declared.table.Effect.{Effect}
 use Rattle.pit_counter.specs.declared.table.Effect.TheVariants.{
   Load,
@@ -84,7 +77,7 @@ glided_count-height c down = cond_both (is_bcd c.bits) 10000 65536
 
 -- ---- one quiet pulse, by its effect
 
-two : (c : CounterParts) (x y : ℕ) (o p : Bool) → x ≡ y → o ≡ p → record c { ce = x; out = o } ≡ record c { ce = y; out = p }
+pub two : (c : CounterParts) (x y : ℕ) (o p : Bool) → x ≡ y → o ≡ p → record c { ce = x; out = o } ≡ record c { ce = y; out = p }
 two c x y o p e f = ap (λ (z : ℕ). record c { ce = z; out = o }) e ∙ ap (λ (q : Bool). record c { ce = y; out = q }) f
 
 three : (c : CounterParts) (x y : ℕ) (o p a b : Bool) → x ≡ y → o ≡ p → a ≡ b
@@ -107,9 +100,8 @@ strobe_stays false armed k height z h f = absurd (omega arith)
 
 level_stays : (level out : Bool) (k : ℕ) → k < cond (cond level out (not out)) forever 0 → level ≡ out
 level_stays true true k h = refl
-level_stays true false k h = absurd (omega arith)
-level_stays false true k h = absurd (omega arith)
 level_stays false false k h = refl
+level_stays level out k h = absurd (omega arith)
 
 next_of : (c : CounterParts) (k : ℕ) → lowered c.bits (glided_count c.bits c.ce (1 * k)) 1 ≡ glided_count c.bits c.ce (1 * suc k)
 next_of c k = lowered-glided c.bits c.ce (1 * k) 1 (omega arith) ∙ ap (glided_count c.bits c.ce) (omega arith)
@@ -169,7 +161,7 @@ square_effect begins counts out odd at_zero at_two =
     (cond (counts && at_two) (Load (not out))
     (cond counts DownByTwo (Stand out)))))
 
-height-some : (c : CounterParts) → eqb c.ce 0 ≡ false → height c ≡ c.ce
+pub height-some : (c : CounterParts) → eqb c.ce 0 ≡ false → height c ≡ c.ce
 unfolding height
 height-some c e = simp e
 
@@ -199,13 +191,10 @@ square_stays false true false odd at_zero false c k below ez et eo ed h =
 effect_in-glided : (m : Mode) (c : CounterParts) (k : ℕ) → c.ce < modulus c.bits → k < quiet_for (effect_in m c) c
     → effect_in m (glided (effect_in m c) k c) ≡ effect_in m c
 unfolding effect_in glided
-effect_in-glided TerminalCount c k below h = refl
-effect_in-glided OneShot c k below h = refl
 effect_in-glided RateGenerator c k below h = rate_stays ((c.full && not c.live) || c.trig) (c.live && c.gate) (eqb c.ce 1) c.out c k below refl h
 effect_in-glided SquareWave c k below h = square_stays ((c.full && not c.live) || c.trig) (c.live && c.gate) c.out c.odd (eqb c.ce 0)
     (eqb c.ce 2) c k below refl refl refl refl h
-effect_in-glided SoftwareStrobe c k below h = refl
-effect_in-glided HardwareStrobe c k below h = refl
+effect_in-glided other c k below h = refl
 
 -- ---- quiet pulses
 
@@ -248,18 +237,14 @@ rises_in-glided c (suc n) below h =
 
 -- ---- a counter that doesn't count
 
+is_low : (b : Bool) → not b ≡ true → false ≡ b
+is_low true h = h
+is_low false h = refl
+
 affected-still : (e : Effect) (c : CounterParts) → is_still e c.out ≡ true → affected e c ≡ c
-affected-still (Load level) c h = cc
-affected-still DownToHigh c h = cc
-affected-still DownToLow c h = cc
-affected-still DownByTwo c h = cc
-affected-still DownToStrobe c h = cc
 affected-still (Stand true) c h = ap (λ (b : Bool). record c { out = b }) (sym h)
 affected-still (Stand false) c h = ap (λ (b : Bool). record c { out = b }) (is_low c.out h)
-  where
-    is_low : (b : Bool) → not b ≡ true → false ≡ b
-    is_low true h = h
-    is_low false h = refl
+affected-still other c h = cc
 
 -- it stays as it is ..
 pub pulsed_times-still : (c : CounterParts) (n : ℕ) → is_still (next_effect c) c.out ≡ true → pulsed_times n c ≡ c

@@ -43,14 +43,7 @@ use Rattle.pit_counter.specs.Table.{effect_in, affected, pulsed, pulsed_times, r
 use Rattle.pit_counter.specs.private.Stretch.{quiet_for, height, glided_count, glided}
 use Rattle.pit_counter.specs.private.Stretch.{is_reloaded, is_dividing}
 use Rattle.pit_counter.specs.declared.mode.Mode.{Mode}
-use Rattle.pit_counter.specs.declared.mode.Mode.TheVariants.{
-  TerminalCount,
-  OneShot,
-  RateGenerator,
-  SquareWave,
-  SoftwareStrobe,
-  HardwareStrobe,
-}
+use Rattle.pit_counter.specs.declared.mode.Mode.TheVariants.{RateGenerator, SquareWave}
 use Rattle.pit_counter.specs.declared.table.Effect.{Effect}
 use Rattle.pit_counter.specs.declared.table.Effect.TheVariants.{Load, DownToLow, DownByTwo}
 use Rattle.pit_counter.specs.declared.parts.CounterParts.{CounterParts}
@@ -58,6 +51,8 @@ use Rattle.pit_counter.proofs.Quiet.{
   next_effect,
   rate_effect,
   square_effect,
+  two,
+  height-some,
   glided_count-height,
   pulsed_times-glided,
   rises_in-glided,
@@ -73,6 +68,7 @@ use Rattle.pit_counter.proofs.Joins.{pulsed_times-joined, rises_in-joined}
 
 -- what the test says
 record Reloaded (c : CounterParts) : Type 0 where
+  periodic : is_periodic (mode_of c.bits) ≡ true
   gate : c.gate ≡ true
   live : c.live ≡ true
   out : c.out ≡ true
@@ -84,9 +80,8 @@ record Reloaded (c : CounterParts) : Type 0 where
 
 odd_from : (test odd : Bool) → cond test odd (not odd) ≡ true → odd ≡ test
 odd_from true true h = refl
-odd_from true false h = cc
-odd_from false true h = cc
 odd_from false false h = refl
+odd_from other odd h = cc
 
 not_from : (b : Bool) → not b ≡ true → b ≡ false
 not_from true h = cc
@@ -104,6 +99,7 @@ Reloaded-from c h =
     let i = and_parts _ _ g.0 in
     let j = and_parts _ _ i.0 in
     record {
+      periodic = j.0;
       gate = j.1;
       live = i.1;
       out = g.1;
@@ -117,23 +113,14 @@ Reloaded-from c h =
 -- a load leaves such a counter as it is
 reload-same : (c : CounterParts) → Reloaded c → has_strobe (mode_of c.bits) ≡ false → affected (Load true) c ≡ c
 reload-same c r strobe =
-    ap (λ (x : ℕ). record c {
-      ce = x;
-      out = true;
-      null = false;
-      live = true;
-      trig = false;
-      armed = has_strobe
-          (mode_of c.bits);
-      odd = is_odd_square c.bits c.cr;
-    }) (sym r.ce)
-    ∙ ap (λ (b : Bool). record c { out = b; null = false; live = true; trig = false; armed = has_strobe (mode_of c.bits); odd = is_odd_square c.bits c.cr })
-    (sym r.out)
-    ∙ ap (λ (b : Bool). record c { null = b; live = true; trig = false; armed = has_strobe (mode_of c.bits); odd = is_odd_square c.bits c.cr }) (sym r.null)
-    ∙ ap (λ (b : Bool). record c { live = b; trig = false; armed = has_strobe (mode_of c.bits); odd = is_odd_square c.bits c.cr }) (sym r.live)
-    ∙ ap (λ (b : Bool). record c { trig = b; armed = has_strobe (mode_of c.bits); odd = is_odd_square c.bits c.cr }) (sym r.trig)
-    ∙ ap (λ (b : Bool). record c { armed = b; odd = is_odd_square c.bits c.cr }) (strobe ∙ sym r.armed)
-    ∙ ap (λ (b : Bool). record c { odd = b }) (sym r.odd)
+    let ce = sym r.ce in
+    let out = sym r.out in
+    let null = sym r.null in
+    let live = sym r.live in
+    let trig = sym r.trig in
+    let armed : has_strobe (mode_of c.bits) ≡ c.armed = strobe ∙ sym r.armed in
+    let odd = sym r.odd in
+    λ i. record c { ce = ce i; out = out i; null = null i; live = live i; trig = trig i; armed = armed i; odd = odd i }
 
 -- n pulses that end where they began, with one rise, at the last
 pub record Round (c : CounterParts) (n : ℕ) : Type 0 where
@@ -180,9 +167,6 @@ height-loaded c n = cond_both (is_bcd c.bits) 10000 65536 (λ m. c.ce ≡ n % m 
 lowered-two : (bits : ℕ) → lowered bits 2 1 ≡ 1
 unfolding lowered modulus
 lowered-two bits = cond_both (is_bcd bits) 10000 65536 (λ m. (2 + m - 1) % m ≡ 1) (λ _. refl) (λ _. refl)
-
-two : (c : CounterParts) (x y : ℕ) (o p : Bool) → x ≡ y → o ≡ p → record c { ce = x; out = o } ≡ record c { ce = y; out = p }
-two c x y o p e f = ap (λ (z : ℕ). record c { ce = z; out = o }) e ∙ ap (λ (q : Bool). record c { ce = y; out = q }) f
 
 -- the effect of a pulse at another count and level
 effect-rate : (c : CounterParts) (x : ℕ) (o : Bool) → Counting c → mode_of c.bits ≡ RateGenerator
@@ -412,10 +396,6 @@ odd_count : (bits n : ℕ) → n ≤ modulus bits → n % 2 ≡ 1 → (n - 1) % 
 unfolding modulus
 odd_count bits n = cond_both (is_bcd bits) 10000 65536 (λ m. n ≤ m → n % 2 ≡ 1 → (n - 1) % m ≡ n - 1) (λ _ h e. omega arith) (λ _ h e. omega arith)
 
-height-nonzero : (c : CounterParts) → eqb c.ce 0 ≡ false → height c ≡ c.ce
-unfolding height
-height-nonzero c e = simp e
-
 -- mode 3, by whether the count is odd
 round_in_3 : (c : CounterParts) (odd : Bool) → Reloaded c → mode_of c.bits ≡ SquareWave → c.ce < modulus c.bits → 2 ≤ meant_count c.bits c.cr
     → meant_count c.bits c.cr ≤ modulus c.bits
@@ -434,33 +414,16 @@ round_in_3 c true r m below some few e =
     let halves = eqb-true _ _ e in
     let loaded : c.ce ≡ meant_count c.bits c.cr - 1 = loaded_with c true r odd ∙ odd_count c.bits (meant_count c.bits c.cr) few halves in
     let whole : c.ce ≡ 2 * suc (meant_count c.bits c.cr / 2 - 1) = omega (arith, loaded, halves) in
-    let tall : height c ≡ c.ce = height-nonzero c (ne_eqb c.ce 0 (λ z. omega (arith, whole))) in
+    let tall : height c ≡ c.ce = height-some c (ne_eqb c.ce 0 (λ z. omega (arith, whole))) in
     let place : suc (suc (meant_count c.bits c.cr / 2 - 1)) + suc (meant_count c.bits c.cr / 2 - 1) ≡ meant_count c.bits c.cr = omega
     (arith, whole, loaded, halves) in
     subst (λ (n : ℕ). Round c n) place (round_3_odd c (meant_count c.bits c.cr / 2 - 1) r m below (r.odd ∙ odd) whole (tall ∙ whole))
 
 round_at : (c : CounterParts) (m : Mode) → mode_of c.bits ≡ m → is_periodic m ≡ true → Reloaded c → c.ce < modulus c.bits → 2 ≤ meant_count c.bits c.cr
     → meant_count c.bits c.cr ≤ modulus c.bits → Round c (meant_count c.bits c.cr)
-round_at c TerminalCount m p r below some few = cc
-round_at c OneShot m p r below some few = cc
 round_at c RateGenerator m p r below some few = round_in_2 c r m below some few
 round_at c SquareWave m p r below some few = round_in_3 c (eqb (meant_count c.bits c.cr % 2) 1) r m below some few refl
-round_at c SoftwareStrobe m p r below some few = cc
-round_at c HardwareStrobe m p r below some few = cc
-
--- the modes of a period
-periodic-from : (c : CounterParts) → is_reloaded c ≡ true → is_periodic (mode_of c.bits) ≡ true
-unfolding is_reloaded
-periodic-from c h =
-    let a = and_parts _ _ h in
-    let b = and_parts _ _ a.0 in
-    let d = and_parts _ _ b.0 in
-    let e = and_parts _ _ d.0 in
-    let f = and_parts _ _ e.0 in
-    let g = and_parts _ _ f.0 in
-    let i = and_parts _ _ g.0 in
-    let j = and_parts _ _ i.0 in
-    j.0
+round_at c other m p r below some few = cc
 
 -- the count meant is 2 at least there
 meant_count-some : (bits cr : ℕ) → is_periodic (mode_of bits) ≡ true → 2 ≤ meant_count bits cr
@@ -484,7 +447,8 @@ meant_count-some bits cr p =
 -- the period after a load
 pub round : (c : CounterParts) → is_reloaded c ≡ true → c.ce < modulus c.bits → meant_count c.bits c.cr ≤ modulus c.bits → Round c (meant_count c.bits c.cr)
 round c h below few =
-    round_at c (mode_of c.bits) refl (periodic-from c h) (Reloaded-from c h) below (meant_count-some c.bits c.cr (periodic-from c h)) few
+    let r = Reloaded-from c h in
+    round_at c (mode_of c.bits) refl r.periodic r below (meant_count-some c.bits c.cr r.periodic) few
 
 -- ---- many periods
 
@@ -511,16 +475,12 @@ round_after_load : (c : CounterParts) → c.gate ≡ true → mode_of c.bits ≡
     → Round (affected (Load true) c) (meant_count c.bits c.cr)
 round_after_load c gate m few =
     round_in_2 (affected (Load true) c)
-    (record { gate = gate; live = refl; out = refl; null = refl; trig = refl; armed = ap has_strobe m; ce = refl; odd = refl })
+    (record { periodic = ap is_periodic m; gate = gate; live = refl; out = refl; null = refl; trig = refl; armed = ap has_strobe m; ce = refl; odd = refl })
     m (loaded_count-below c.bits c.cr) (meant_count-some c.bits c.cr (ap is_periodic m)) few
 
 rate-from : (m : Mode) → is_rate m ≡ true → m ≡ RateGenerator
-rate-from TerminalCount h = cc
-rate-from OneShot h = cc
 rate-from RateGenerator h = refl
-rate-from SquareWave h = cc
-rate-from SoftwareStrobe h = cc
-rate-from HardwareStrobe h = cc
+rate-from other h = cc
 
 -- a load of mode 2 while it counts, by the count that is meant
 pub load_rate : (c : CounterParts) (n : ℕ) → is_dividing c ≡ true → n ≡ meant_count c.bits c.cr

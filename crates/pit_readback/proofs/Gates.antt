@@ -5,7 +5,7 @@ use Rattle.pit_counter.specs.declared.parts.CounterParts.{CounterParts}
 use Rattle.pit_counter.specs.declared.mode.Access.{Access}
 use Rattle.pit_counter.specs.declared.mode.Access.TheVariants.{LowByte, HighByte, LowThenHigh}
 use Rattle.pit_counter.specs.declared.table.Effect.{Effect}
-use Rattle.pit_counter.specs.declared.table.Effect.TheVariants.{Load, DownToHigh, DownToLow, DownByTwo, DownToStrobe, Stand}
+use Rattle.pit_counter.specs.declared.table.Effect.TheVariants.{Load}
 use Rattle.pit_counter.specs.Mode.{mode_of, access_of}
 use Rattle.pit_counter.specs.Programming.{counter_at_power_on, programmed, controlled, completed, begun, byte_written_by, byte_written}
 use Rattle.pit_counter.specs.Table.{effect_in, affected, pulsed, pulsed_times}
@@ -55,11 +55,7 @@ gate-read_back_of byte k c = gate-status_latched_if (latches_status byte k) (cou
 
 gate-affected : (e : Effect) (c : CounterParts) → (affected e c).gate ≡ c.gate
 gate-affected (Load level) c = refl
-gate-affected DownToHigh c = refl
-gate-affected DownToLow c = refl
-gate-affected DownByTwo c = refl
-gate-affected DownToStrobe c = refl
-gate-affected (Stand level) c = refl
+gate-affected other c = refl
 
 -- pulses
 pub gate-pulsed_times : (n : ℕ) (c : CounterParts) → (pulsed_times n c).gate ≡ c.gate
