@@ -79,6 +79,12 @@ IsProcessor-published anchor guest_khz h flags p valid less time stable = record
   shift = λ some. refl;
 }
 
+-- a list of equal elements has that element at each place, and no other beyond its end
+default_at : {A : Type 0} (x : A) (n k : ℕ) → get_or (replicate n x) k x ≡ x
+default_at x zero k = refl
+default_at x (suc n) zero = refl
+default_at x (suc n) (suc k) = default_at x n k
+
 -- the processors, with one of them set
 pub AreProcessors-set : (guest_khz cpus : ℕ) (ps : List ProcessorParts) (i : ℕ) (x : ProcessorParts) → length ps ≡ 64 → i < cpus → cpus ≤ 64
     → AreProcessors guest_khz cpus ps → IsProcessor guest_khz x → AreProcessors guest_khz cpus (set ps i x)
@@ -119,14 +125,9 @@ module _ (anchor : Anchor) (guest_khz cpus h : ℕ) (a : Access) (ps : List Proc
 
 pub AreProcessors-none : (guest_khz cpus n : ℕ) → AreProcessors guest_khz cpus (replicate n no_processor)
 AreProcessors-none guest_khz cpus n = record {
-  each = λ k. subst (λ (p : ProcessorParts). IsProcessor guest_khz p) (sym (none n k)) (IsProcessor-none guest_khz);
-  absent = λ k more. none n k;
+  each = λ k. subst (λ (p : ProcessorParts). IsProcessor guest_khz p) (sym (default_at no_processor n k)) (IsProcessor-none guest_khz);
+  absent = λ k more. default_at no_processor n k;
 }
-  where
-    none : (n k : ℕ) → get_or (replicate n no_processor) k no_processor ≡ no_processor
-    none zero k = refl
-    none (suc n) zero = refl
-    none (suc n) (suc k) = none n k
 
 -- the counts of rises after these edges
 pub AreRises-after : (format n m d : ℕ) (before after : List Bool) (es : List Edge) (rises : List ℕ) → length rises ≡ 6 → n + d ≡ m
@@ -142,12 +143,10 @@ AreRises-after format n m d before after es rises long sum valid lifted = record
     old_format format le = grind arith
 
 pub AreRises-none : (format accesses n : ℕ) (lines : List Bool) → AreRises format accesses lines (replicate n 0)
-AreRises-none format accesses n lines = record { most = λ k less. omega (arith, zeros n k); none = λ old k. zeros n k }
-  where
-    zeros : (n k : ℕ) → get_or (replicate {A = ℕ} n 0) k 0 ≡ 0
-    zeros zero k = refl
-    zeros (suc n) zero = refl
-    zeros (suc n) (suc k) = zeros n k
+AreRises-none format accesses n lines = record {
+  most = λ k less. omega (arith, default_at {A = ℕ} 0 n k);
+  none = λ old k. default_at {A = ℕ} 0 n k;
+}
 
 -- the wall clock after an access
 pub IsWall-after : (a : Access) (number version nsec : ℕ) → (publishes_wall a ≡ true → version < LAST_VERSION) → IsWall number version nsec

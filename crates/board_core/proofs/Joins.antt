@@ -207,15 +207,6 @@ time_at-zero anchor h =
 pub after_run-zero : (b : BoardParts) → after_run b 0 ≡ b
 after_run-zero b = after_run-still b 0 (time_at-zero b.anchor b.host) (omega arith)
 
--- accesses that are counted, and a clock that was read, play no part
-pub after_run-counted : (b : BoardParts) (n h : ℕ) → after_run (record b { accesses = n }) h ≡ record (after_run b h) { accesses = n }
-unfolding after_run
-after_run-counted b n h = refl
-
-pub after_run-greatest : (b : BoardParts) (n h : ℕ) → after_run (record b { greatest = n }) h ≡ record (after_run b h) { greatest = n }
-unfolding after_run
-after_run-greatest b n h = refl
-
 -- a board on which no line changes up to nanosecond `still`, and no message is sent up to `silent`, is quiet up to a count
 pub IsQuiet-to : (b : BoardParts) (h silent still : ℕ) → HasTime b.anchor h → time_at b.anchor h ≤ silent → now_of b ≤ silent → silent ≤ still
     → (run (now_of b) (still - now_of b) (devices_in b)).edges ≡ []

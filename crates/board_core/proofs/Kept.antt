@@ -11,15 +11,9 @@ use Rattle.board_types.specs.declared.access.Access.TheVariants.{
   PortOut,
   HpetRead,
   HpetWrite,
-  MsrRead,
   MsrWrite,
   Ack,
-  Step,
   Refresh,
-  Wall,
-  CountsOf,
-  Next,
-  Rose,
   Eoi,
 }
 use Rattle.board_types.specs.declared.parts.BoardParts.{BoardParts}
@@ -47,36 +41,18 @@ use Rattle.board_core.proofs.Counted.{rises_after-none}
 
 -- no access is of two kinds
 pub touches-quiet : (a : Access) → touches a ≡ true → writes a ≡ false
-touches-quiet (PortIn port) e = refl
-touches-quiet (PortOut port byte) e = refl
-touches-quiet (HpetRead offset width) e = refl
-touches-quiet (HpetWrite offset width v) e = refl
-touches-quiet (MsrRead msr) e = refl
 touches-quiet (MsrWrite msr v) e = absurd (false≢true e)
-touches-quiet (Ack line) e = refl
-touches-quiet Step e = refl
 touches-quiet (Refresh page) e = absurd (false≢true e)
-touches-quiet Wall e = refl
-touches-quiet (CountsOf from) e = refl
-touches-quiet Next e = refl
-touches-quiet (Rose line) e = refl
 touches-quiet Eoi e = absurd (false≢true e)
+touches-quiet _ e = refl
 
 pub writes-untouched : (a : Access) → writes a ≡ true → touches a ≡ false
 writes-untouched (PortIn port) e = absurd (false≢true e)
 writes-untouched (PortOut port byte) e = absurd (false≢true e)
 writes-untouched (HpetRead offset width) e = absurd (false≢true e)
 writes-untouched (HpetWrite offset width v) e = absurd (false≢true e)
-writes-untouched (MsrRead msr) e = refl
-writes-untouched (MsrWrite msr v) e = refl
 writes-untouched (Ack line) e = absurd (false≢true e)
-writes-untouched Step e = refl
-writes-untouched (Refresh page) e = refl
-writes-untouched Wall e = refl
-writes-untouched (CountsOf from) e = refl
-writes-untouched Next e = refl
-writes-untouched (Rose line) e = refl
-writes-untouched Eoi e = refl
+writes-untouched _ e = refl
 
 -- what touches no device
 none-asked : (a : Access) → touches a ≡ false → act_of a ≡ NoAct
@@ -84,16 +60,8 @@ none-asked (PortIn port) e = absurd (false≢true (sym e))
 none-asked (PortOut port byte) e = absurd (false≢true (sym e))
 none-asked (HpetRead offset width) e = absurd (false≢true (sym e))
 none-asked (HpetWrite offset width v) e = absurd (false≢true (sym e))
-none-asked (MsrRead msr) e = refl
-none-asked (MsrWrite msr v) e = refl
 none-asked (Ack line) e = absurd (false≢true (sym e))
-none-asked Step e = refl
-none-asked (Refresh page) e = refl
-none-asked Wall e = refl
-none-asked (CountsOf from) e = refl
-none-asked Next e = refl
-none-asked (Rose line) e = refl
-none-asked Eoi e = refl
+none-asked _ e = refl
 
 acted-none : (d : DeviceParts) → acted NoAct d ≡ d
 unfolding acted
@@ -159,33 +127,15 @@ value-touched b cpu h (PortIn port) e = refl
 value-touched b cpu h (PortOut port byte) e = refl
 value-touched b cpu h (HpetRead offset width) e = refl
 value-touched b cpu h (HpetWrite offset width v) e = refl
-value-touched b cpu h (MsrRead msr) e = absurd (false≢true e)
-value-touched b cpu h (MsrWrite msr v) e = absurd (false≢true e)
 value-touched b cpu h (Ack line) e = refl
-value-touched b cpu h Step e = absurd (false≢true e)
-value-touched b cpu h (Refresh page) e = absurd (false≢true e)
-value-touched b cpu h Wall e = absurd (false≢true e)
-value-touched b cpu h (CountsOf from) e = absurd (false≢true e)
-value-touched b cpu h Next e = absurd (false≢true e)
-value-touched b cpu h (Rose line) e = absurd (false≢true e)
-value-touched b cpu h Eoi e = absurd (false≢true e)
+value-touched b cpu h _ e = absurd (false≢true e)
 
 pub value-written : (b : BoardParts) (cpu h : ℕ) (a : Access) → writes a ≡ true → Nothing ≡ value_at b cpu h a
 unfolding value_at
-value-written b cpu h (PortIn port) e = absurd (false≢true e)
-value-written b cpu h (PortOut port byte) e = absurd (false≢true e)
-value-written b cpu h (HpetRead offset width) e = absurd (false≢true e)
-value-written b cpu h (HpetWrite offset width v) e = absurd (false≢true e)
-value-written b cpu h (MsrRead msr) e = absurd (false≢true e)
 value-written b cpu h (MsrWrite msr v) e = refl
-value-written b cpu h (Ack line) e = absurd (false≢true e)
-value-written b cpu h Step e = absurd (false≢true e)
 value-written b cpu h (Refresh page) e = refl
-value-written b cpu h Wall e = absurd (false≢true e)
-value-written b cpu h (CountsOf from) e = absurd (false≢true e)
-value-written b cpu h Next e = absurd (false≢true e)
-value-written b cpu h (Rose line) e = absurd (false≢true e)
 value-written b cpu h Eoi e = refl
+value-written b cpu h _ e = absurd (false≢true e)
 
 pub value-told : (b : BoardParts) (n cpu h : ℕ) (a : Access) → touches a ≡ false → told (record b { accesses = n }) cpu h a ≡ value_at b cpu h a
 unfolding value_at
@@ -193,16 +143,8 @@ value-told b n cpu h (PortIn port) e = absurd (false≢true (sym e))
 value-told b n cpu h (PortOut port byte) e = absurd (false≢true (sym e))
 value-told b n cpu h (HpetRead offset width) e = absurd (false≢true (sym e))
 value-told b n cpu h (HpetWrite offset width v) e = absurd (false≢true (sym e))
-value-told b n cpu h (MsrRead msr) e = refl
-value-told b n cpu h (MsrWrite msr v) e = refl
 value-told b n cpu h (Ack line) e = absurd (false≢true (sym e))
-value-told b n cpu h Step e = refl
-value-told b n cpu h (Refresh page) e = refl
-value-told b n cpu h Wall e = refl
-value-told b n cpu h (CountsOf from) e = refl
-value-told b n cpu h Next e = refl
-value-told b n cpu h (Rose line) e = refl
-value-told b n cpu h Eoi e = refl
+value-told b n cpu h _ e = refl
 
 pub raised_none : (ps : List ProcessorParts) (wall hv cpu : ℕ) (a : Access) → writes a ≡ false → raised_version ps wall hv cpu a ≡ None
 raised_none ps wall hv cpu (MsrWrite msr v) e = absurd (false≢true (sym e))
