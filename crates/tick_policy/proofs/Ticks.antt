@@ -139,16 +139,29 @@ same_line p a b d d' r r' q q' x x' ea ed er eq ex = cc
 -- one tick more
 at_once-more : (n : ℕ) (p : Policy) (up : Bool) (d r q x : ℕ) → ticked (at_once n (line_of p up d r q x)) ≡ at_once (suc n) (line_of p up d r q x)
 at_once-more n Discard true d r q x = same_line Discard _ _ _ _ _ _ _ _ _ _ refl (omega arith) (omega arith) (omega arith) (omega arith)
-at_once-more n p true d r q x = same_line p _ _ _ _ _ _ _ _ _ _ refl (omega arith) (omega arith) (omega arith) (omega arith)
+at_once-more n Delay true d r q x = same_line Delay _ _ _ _ _ _ _ _ _ _ refl (omega arith) (omega arith) (omega arith) (omega arith)
+at_once-more n Slew true d r q x = same_line Slew _ _ _ _ _ _ _ _ _ _ refl (omega arith) (omega arith) (omega arith) (omega arith)
 at_once-more zero Discard false d r q x = same_line Discard _ _ _ _ _ _ _ _ _ _ refl (omega arith) (omega arith) (omega arith) (omega arith)
-at_once-more zero p false d r q x = same_line p _ _ _ _ _ _ _ _ _ _ refl (omega arith) (omega arith) (omega arith) (omega arith)
-at_once-more (suc n) p false d r q x =
-    rw (lt-ltb 0 (suc n) (omega arith), lt-ltb 0 (suc (suc n)) (omega arith)) (same_line p _ _ _ _ _ _ _ _ _ _ refl (omega arith) (omega arith) (omega arith) (omega arith))
+at_once-more zero Delay false d r q x = same_line Delay _ _ _ _ _ _ _ _ _ _ refl (omega arith) (omega arith) (omega arith) (omega arith)
+at_once-more zero Slew false d r q x = same_line Slew _ _ _ _ _ _ _ _ _ _ refl (omega arith) (omega arith) (omega arith) (omega arith)
+at_once-more (suc n) Discard false d r q x =
+    rw (lt-ltb 0 (suc n) (omega arith), lt-ltb 0 (suc (suc n)) (omega arith))
+    (same_line Discard _ _ _ _ _ _ _ _ _ _ refl (omega arith) (omega arith) (omega arith) (omega arith))
+at_once-more (suc n) Delay false d r q x =
+    rw (lt-ltb 0 (suc n) (omega arith), lt-ltb 0 (suc (suc n)) (omega arith))
+    (same_line Delay _ _ _ _ _ _ _ _ _ _ refl (omega arith) (omega arith) (omega arith) (omega arith))
+at_once-more (suc n) Slew false d r q x =
+    rw (lt-ltb 0 (suc n) (omega arith), lt-ltb 0 (suc (suc n)) (omega arith))
+    (same_line Slew _ _ _ _ _ _ _ _ _ _ refl (omega arith) (omega arith) (omega arith) (omega arith))
 
 -- no ticks
 at_once-zero : (p : Policy) (up : Bool) (d r q x : ℕ) → line_of p up d r q x ≡ at_once 0 (line_of p up d r q x)
 at_once-zero Discard true d r q x = same_line Discard _ _ _ _ _ _ _ _ _ _ refl (omega arith) (omega arith) (omega arith) (omega arith)
-at_once-zero p up d r q x = same_line p _ _ _ _ _ _ _ _ _ _ refl (omega arith) (omega arith) (omega arith) (omega arith)
+at_once-zero Discard false d r q x = same_line Discard _ _ _ _ _ _ _ _ _ _ refl (omega arith) (omega arith) (omega arith) (omega arith)
+at_once-zero Delay true d r q x = same_line Delay _ _ _ _ _ _ _ _ _ _ refl (omega arith) (omega arith) (omega arith) (omega arith)
+at_once-zero Delay false d r q x = same_line Delay _ _ _ _ _ _ _ _ _ _ refl (omega arith) (omega arith) (omega arith) (omega arith)
+at_once-zero Slew true d r q x = same_line Slew _ _ _ _ _ _ _ _ _ _ refl (omega arith) (omega arith) (omega arith) (omega arith)
+at_once-zero Slew false d r q x = same_line Slew _ _ _ _ _ _ _ _ _ _ refl (omega arith) (omega arith) (omega arith) (omega arith)
 
 -- n ticks at once are n single ones
 pub ticked_times-at_once : (n : ℕ) (l : TickParts) → ticked_times n l ≡ at_once n l
@@ -161,5 +174,11 @@ pub caught_up-ticked : (l : TickParts) → caught_up (ticked l) ≡ ticked (caug
 caught_up-ticked l = either l.policy l.up l.counts.due l.counts.rises l.counts.queue l.counts.lost
   where
     either : (p : Policy) (up : Bool) (d r q x : ℕ) → caught_up (ticked (line_of p up d r q x)) ≡ ticked (caught_up (line_of p up d r q x))
-    either Slew false d r (suc q) x = rw (lt-ltb 0 (suc q) (omega arith)) (same_line Slew _ _ _ _ _ _ _ _ _ _ refl (omega arith) (omega arith) (omega arith) (omega arith))
-    either p up d r q x = refl
+    either Discard true d r q x = refl
+    either Discard false d r q x = refl
+    either Delay true d r q x = refl
+    either Delay false d r q x = refl
+    either Slew true d r q x = refl
+    either Slew false d r zero x = refl
+    either Slew false d r (suc q) x =
+        rw (lt-ltb 0 (suc q) (omega arith)) (same_line Slew _ _ _ _ _ _ _ _ _ _ refl (omega arith) (omega arith) (omega arith) (omega arith))
