@@ -38,7 +38,8 @@ use Rattle.board_core.specs.Nanosecond.{passed, passed_times}
 use Rattle.board_core.specs.Quiet.{IsQuiet}
 use Rattle.board_core.specs.Refusals.{refusal_of}
 use Rattle.board_devices.proofs.MainCounter.{hpet-run}
-use Rattle.board_core.proofs.Messages.{bursts-silent, message_at-later}
+use Rattle.hpet_bursts.specs.Bursts.{bursts_of}
+use Rattle.board_core.proofs.Messages.{bursts-silent, bursts-later, message_at-later}
 use Rattle.board_core.proofs.Nanoseconds.{after_run-nanoseconds}
 use Rattle.board_core.specs.Lazy.{is_passive}
 use Rattle.board_core.proofs.Passive.{before_look-passive, own-passive, value_at-passive}
@@ -310,6 +311,68 @@ reply_of-quiet b cpu q g h a passive runs quiet before within =
     ∙ ap (reply_with (b.accesses + 1) value []) (bursts-quiet b q g h runs quiet before within)
     ∙ ap (λ (v : Value). reply_with (b.accesses + 1) v [] [])
     (ap (λ (x : BoardParts). value_at x cpu h a) (after_run-joined b g h runs) ∙ sym (value_at-passive b (b.accesses + 1) (max g h) cpu h a passive))
+
+-- an access to a board that ran on within a quiet time is one to the board before
+module _ (b : BoardParts) (q g h : ℕ) (runs : 0 < b.anchor.khz) (quiet : IsQuiet b q) (before : g ≤ q) (later : g ≤ h) where
+  first : ℕ
+  first = time_of_access b g - now_of b
+
+  rest : ℕ
+  rest = time_of_access (after_run b g) h - now_of (after_run b g)
+
+  latest : max g h ≡ h
+  latest = omega (arith, later)
+
+  whole : first + rest ≡ time_of_access b h - now_of b
+  unfolding first rest
+  whole = sum-after_run b g h runs ∙ ap (λ (x : ℕ). time_of_access b x - now_of b) latest
+
+  inside : first ≤ time_of_access b q - now_of b
+  unfolding first
+  inside = let mono : time_at b.anchor g ≤ time_at b.anchor q = time_at-mono b.anchor g q runs before in omega (arith, mono)
+
+  pub edges-later : (ran_to (after_run b g) h).edges ≡ (ran_to b h).edges
+  unfolding first rest
+  edges-later =
+      let t : ℕ = now_of b in
+      let d : DeviceParts = devices_in b in
+      ap (λ (u : ℕ). (run u rest (devices_in (after_run b g))).edges) (sym (start-after_run b g h runs))
+      ∙ ap (λ (x : DeviceParts). (run (t + first) rest x).edges) (devices-are b q g q runs quiet before (omega arith))
+      ∙ sym
+      (ap (λ (n : ℕ). (run t n d).edges) (sym whole)
+      ∙ edges-joined t first rest d
+      ∙ ap (λ (es : List Edge). es ++ (run (t + first) rest (run t first d).state).edges)
+      (edges-before t first (time_of_access b q - t) d inside quiet.edges))
+
+  pub bursts-after : bursts_to (after_run b g) h ≡ bursts_to b h
+  unfolding first rest
+  bursts-after =
+      let t : ℕ = now_of b in
+      let i : ℕ = pulses_from HPET_HZ t first in
+      let hpet : (after_run b g).hpet ≡ hpet_pulsed_times i b.hpet =
+      ap (λ (d : DeviceParts). d.hpet) (devices-are b q g q runs quiet before (omega arith)) ∙ hpet-run t first (devices_in b) in
+      ap (λ (x : HpetParts). bursts_of (now_of (after_run b g)) rest x) hpet
+      ∙ ap (λ (u : ℕ). bursts_of u rest (hpet_pulsed_times i b.hpet)) (sym (start-after_run b g h runs))
+      ∙ sym
+      (ap (λ (n : ℕ). bursts_of t n b.hpet) (sym whole)
+      ∙ bursts-later 8 t first rest b.hpet (λ k at small less. quiet.messages k at small (omega (arith, less, inside))))
+
+  there : after_run (after_run b g) h ≡ after_run b h
+  there = after_run-joined b g h runs ∙ ap (after_run b) latest
+
+  pub after_access-later : (cpu : ℕ) (a : Access) → after_access (after_run b g) cpu h a ≡ after_access b cpu h a
+  unfolding after_access
+  after_access-later cpu a = ap (λ (x : BoardParts). after_act x cpu h a) there
+
+  pub reply_of-later : (cpu : ℕ) (a : Access) → reply_of (after_run b g) cpu h a ≡ reply_of b cpu h a
+  unfolding reply_of edges_of
+  reply_of-later cpu a =
+      let c : BoardParts = after_run (after_run b g) h in
+      ap (λ (n : ℕ). reply_with (n + 1) (value_at c cpu h a) ((ran_to (after_run b g) h).edges ++ own_edges c a) (bursts_to (after_run b g) h))
+      (accesses-after_run b g)
+      ∙ ap (λ (es : List Edge). reply_with (b.accesses + 1) (value_at c cpu h a) (es ++ own_edges c a) (bursts_to (after_run b g) h)) edges-later
+      ∙ ap (reply_with (b.accesses + 1) (value_at c cpu h a) ((ran_to b h).edges ++ own_edges c a)) bursts-after
+      ∙ ap (λ (x : BoardParts). reply_with (b.accesses + 1) (value_at x cpu h a) ((ran_to b h).edges ++ own_edges x a) (bursts_to b h)) there
 
 -- a run changes nothing of what is refused
 pub refusal_of-after_run : (b : BoardParts) (cpu g h : ℕ) (a : Access) → refusal_of (after_run b g) cpu h a ≡ refusal_of b cpu h a

@@ -1,5 +1,5 @@
 -- An access before the horizon that changes nothing.
-use Rattle.std.proofs.Common.{◌≡◌, ℕ, ◌+◌, ◌-◌, ◌<◌, ◌≤◌, max, true, [], None, Result, sym, subst, ap, ◌∙◌, arith, inl, inr}
+use Rattle.std.proofs.Common.{◌≡◌, ℕ, ◌+◌, ◌-◌, ◌<◌, ◌≤◌, max, true, [], None, Result, Ok, Err, length, sym, subst, ap, ◌∙◌, arith, inl, inr}
 use Rattle.std.proofs.lemmas.Bool.{cases_lt}
 use Rattle.clk_units.specs.declared.ranges.TheConstants.{RANGE_NS}
 use Rattle.host_counter.specs.declared.Anchor.{Anchor}
@@ -15,12 +15,13 @@ use Rattle.board_types.specs.declared.parts.TheConstants.{MOST_ACCESSES}
 use Rattle.board_core.specs.Access.{ran_to, after_run, value_at, reply_of, after_access}
 use Rattle.board_core.specs.Apics.{apics_in}
 use Rattle.board_core.specs.Conditions.{IsJoined}
+use Rattle.std.specs.Prelude.{OnOk, OnErr}
 use Rattle.board_core.specs.Outcome.{IsOutcome}
 use Rattle.board_core.specs.Quiet.{IsQuiet}
 use Rattle.board_core.specs.Refusals.{refusal_of}
 use Rattle.board_core.specs.Time.{HasTime, now_of, time_of_access}
 use Rattle.board_core.proofs.Passive.{refusal_of-passive}
-use Rattle.board_core.proofs.Joins.{after_run-zero, now-after_run, edges-quiet, IsQuiet-after_run, after_access-idle, reply_of-quiet, refusal_of-after_run, step-taken}
+use Rattle.board_core.proofs.Joins.{after_run-zero, now-after_run, edges-quiet, IsQuiet-after_run, after_access-idle, reply_of-quiet, refusal_of-after_run, step-taken, edges-later, reply_of-later, after_access-later}
 use Rattle.board_core.specs.Lazy.{is_passive, IsLazy, IsPassed}
 
 time-within : (anchor : Anchor) (q h : ℕ) → 0 < anchor.khz → HasTime anchor q → anchor.start ≤ h → h ≤ q → HasTime anchor h
@@ -136,9 +137,66 @@ module _ (b : BoardParts) (host horizon cpu h : ℕ) (joined : IsJoined b) (is :
       range = range-step (b.accesses + 1);
     }
 
--- an outcome of boards that are equal
-pub answered : {T : Type 0} {b b' after after' : BoardParts} {cpu h : ℕ} {a : Access} {result : Result T Refusal} {before told : Reply}
-    → b ≡ b' → after' ≡ after → IsOutcome b cpu h a result after before told → IsOutcome b' cpu h a result after' before told
-answered {T} {b} {b'} {after} {after'} {cpu} {h} {a} {result} {before} {told} same new is =
-    subst (λ (x : BoardParts). IsOutcome x cpu h a result after' before told) same
-    (subst (λ (x : BoardParts). IsOutcome b cpu h a result x before told) (sym new) is)
+-- an access at a count that isn't before the one that a board lags behind: one run takes the board there
+later-outcome : {T : Type 0} (b after new : BoardParts) (q g h cpu : ℕ) (a : Access) (result : Result T Refusal) (before told : Reply)
+    → 0 < b.anchor.khz → IsQuiet b q → g ≤ q → g ≤ h → OnOk result (new ≡ after) → OnErr result (new ≡ after_run b g)
+    → IsOutcome b cpu h a result after before told → IsOutcome (after_run b g) cpu h a result new before told
+later-outcome b after new q g h cpu a (Err refusal) before told runs quiet within later ok err is = record {
+  refused = refusal_of-after_run b cpu g h a ∙ is.refused;
+  unchanged = err;
+  untouched = is.untouched;
+  taken = tt;
+  reply = tt;
+  state = tt;
+  of_lines = tt;
+  few_run = tt;
+  few = tt;
+}
+later-outcome b after new q g h cpu a (Ok unit) before told runs quiet within later ok err is =
+    let same : (ran_to (after_run b g) h).edges ≡ (ran_to b h).edges = edges-later b q g h runs quiet within later in
+    record {
+      refused = tt;
+      unchanged = tt;
+      untouched = tt;
+      taken = refusal_of-after_run b cpu g h a ∙ is.taken;
+      reply = is.reply ∙ sym (reply_of-later b q g h runs quiet within later cpu a);
+      state = ok ∙ is.state ∙ sym (after_access-later b q g h runs quiet within later cpu a);
+      of_lines = is.of_lines;
+      few_run = omega (arith, ap length same, is.few_run);
+      few = omega (arith, ap length same, is.few);
+    }
+
+as_new : {T : Type 0} (b after new : BoardParts) (cpu h : ℕ) (a : Access) (r : Result T Refusal) (before told : Reply)
+    → OnOk r (new ≡ after) → OnErr r (new ≡ b) → IsOutcome b cpu h a r after before told → IsOutcome b cpu h a r new before told
+as_new b after new cpu h a (Ok unit) before told ok err is = subst (λ (x : BoardParts). IsOutcome b cpu h a (Ok unit) x before told) (sym ok) is
+as_new {T} b after new cpu h a (Err refusal) before told ok err is =
+    subst (λ (x : BoardParts). IsOutcome {T = T} b cpu h a (Err refusal) x before told) (is.unchanged ∙ sym err) is
+
+outcome-caught : {T : Type 0} (b after new : BoardParts) (host horizon h cpu : ℕ) (a : Access) (result : Result T Refusal) (before told : Reply)
+    → 0 < b.anchor.khz → IsLazy b host horizon → host ≤ h → OnOk result (new ≡ after) → OnErr result (new ≡ after_run b host)
+    → IsOutcome b cpu h a result after before told → IsOutcome (after_run b host) cpu h a result new before told
+outcome-caught b after new host horizon h cpu a result before told rated lazy later ok err is = elim (cases_lt 0 host) [
+  | inl lags ↦ later-outcome b after new (horizon - 1) host h cpu a result before told rated
+      (lazy.quiet (omega (arith, lags, lazy.lag))) lazy.lag later ok err is
+  | inr none ↦
+      let zero : host ≡ 0 = omega (arith, none) in
+      let same : after_run b host ≡ b = ap (after_run b) zero ∙ after_run-zero b in
+      subst (λ (x : BoardParts). IsOutcome x cpu h a result new before told) (sym same)
+      (as_new b after new cpu h a result before told ok (subst (λ (x : BoardParts). OnErr result (new ≡ x)) same err) is)
+]
+
+-- .. it is taken, or refused
+pub taken-caught : {T : Type 0} (c b after new : BoardParts) (host horizon h cpu : ℕ) (a : Access) (unit : T) (before told : Reply)
+    → after_run b host ≡ c → 0 < b.anchor.khz → IsLazy b host horizon → host ≤ h → new ≡ after
+    → IsOutcome b cpu h a (Ok unit) after before told → IsOutcome c cpu h a (Ok unit) new before told
+taken-caught c b after new host horizon h cpu a unit before told there rated lazy later same is =
+    subst (λ (x : BoardParts). IsOutcome x cpu h a (Ok unit) new before told) there
+    (outcome-caught b after new host horizon h cpu a (Ok unit) before told rated lazy later same tt is)
+
+pub refused-caught : {T : Type 0} (c b after : BoardParts) (host horizon h cpu : ℕ) (a : Access) (refusal : Refusal) (before told : Reply)
+    → after_run b host ≡ c → 0 < b.anchor.khz → IsLazy b host horizon → host ≤ h
+    → IsOutcome {T = T} b cpu h a (Err refusal) after before told → IsOutcome {T = T} c cpu h a (Err refusal) (after_run after host) before told
+refused-caught {T} c b after host horizon h cpu a refusal before told there rated lazy later is =
+    subst (λ (x : BoardParts). IsOutcome {T = T} x cpu h a (Err refusal) (after_run after host) before told) there
+    (outcome-caught {T = T} b after (after_run after host) host horizon h cpu a (Err refusal) before told rated lazy later tt
+    (ap (λ (x : BoardParts). after_run x host) is.unchanged) is)

@@ -1,5 +1,5 @@
 -- Messages of a stretch that begins later, and stretches without any.
-use Rattle.std.proofs.Common.{◌≡◌, ℕ, zero, suc, ◌+◌, ◌<◌, ◌≤◌, Bool, true, false, cond, ◌||◌, ◌&&◌, List, [], ◌∷◌, ◌++◌, Option, Some, None, refl}
+use Rattle.std.proofs.Common.{◌≡◌, ℕ, zero, suc, ◌+◌, ◌/◌, ◌%◌, ◌^◌, ◌<◌, ◌≤◌, length, Bool, true, false, cond, ◌||◌, ◌&&◌, List, [], ◌∷◌, ◌++◌, Option, Some, None, refl}
 use Rattle.std.proofs.Common.{sym, ap, subst, ◌∙◌, append-nil, inl, inr, arith}
 use Rattle.std.proofs.lemmas.Bool.{cases_eq}
 use Rattle.clk_units.specs.Pulses.{falls_at, pulses_by, pulses_from}
@@ -9,7 +9,9 @@ use Rattle.hpet_registers.specs.declared.parts.HpetParts.{HpetParts}
 use Rattle.hpet_registers.specs.Stretch.{hpet_pulsed_times}
 use Rattle.hpet_registers.proofs.Product.{hpet_pulsed_times-add}
 use Rattle.hpet_bursts.specs.Messages.{message_next, message_at, message_times}
-use Rattle.hpet_bursts.specs.Bursts.{burst_from, with_burst, bursts_below}
+use Rattle.irq_edges.specs.declared.bursts.Burst.{Burst}
+use Rattle.hpet_registers.proofs.Product.{message_word_at-hpet_pulsed_times}
+use Rattle.hpet_bursts.specs.Bursts.{distance_of, burst_from, with_burst, bursts_below}
 use Rattle.hpet_bursts.specs.Next.{or_later, first_where, sends_below}
 
 -- the pulses of two stretches
@@ -41,6 +43,51 @@ bursts-silent zero t n h none = refl
 bursts-silent (suc m) t n h none =
     ap (λ (times : List ℕ). with_burst (bursts_below m t n h) (burst_from m h times)) (times-silent m t n h (λ i less. none m i (omega arith) less))
     ∙ bursts-silent m t n h (λ k i small less. none k i (omega (arith, small)) less)
+
+-- after a stretch in which a timer sends none, its messages are those of the rest
+times-later : (k t m n : ℕ) (h : HpetParts) → ((i : ℕ) → i < m → message_at k t i h ≡ false)
+    → message_times k t (m + n) h ≡ message_times k (t + m) n (hpet_pulsed_times (pulses_from HPET_HZ t m) h)
+times-later k t m zero h none =
+    let all : m + 0 ≡ m = omega arith in
+    ap (λ (j : ℕ). message_times k t j h) all ∙ times-silent k t m h none
+times-later k t m (suc n) h none =
+    let x : HpetParts = hpet_pulsed_times (pulses_from HPET_HZ t m) h in
+    let more : m + suc n ≡ suc (m + n) = omega arith in
+    let at : t + (m + n) + 1 ≡ t + m + n + 1 = omega arith in
+    ap (λ (j : ℕ). message_times k t j h) more
+    ∙ ap (λ (l : List ℕ). l ++ cond (message_at k t (m + n) h) ((t + (m + n) + 1) ∷ []) []) (times-later k t m n h none)
+    ∙ ap (λ (b : Bool). message_times k (t + m) n x ++ cond b ((t + (m + n) + 1) ∷ []) []) (message_at-later k t m n h)
+    ∙ ap (λ (u : ℕ). message_times k (t + m) n x ++ cond (message_at k (t + m) n x) (u ∷ []) []) at
+
+burst : ℕ → ℕ → ℕ → ℕ → ℕ → Burst
+burst k first count every word = record {
+  timer = k;
+  first = first;
+  count = count;
+  every = every;
+  address = word / 2 ^ 32;
+  «data» = word % 2 ^ 32;
+}
+
+-- a pulse leaves the message registers
+burst_from-pulsed : (k i : ℕ) (h : HpetParts) (times : List ℕ) → burst_from k h times ≡ burst_from k (hpet_pulsed_times i h) times
+unfolding burst
+burst_from-pulsed k i h [] = refl
+burst_from-pulsed k i h (t ∷ ts) =
+    ap (λ (w : ℕ). Some (burst k t (length (t ∷ ts)) (distance_of (t ∷ ts)) w)) (sym (message_word_at-hpet_pulsed_times k i h))
+
+pub bursts-later : (j t m n : ℕ) (h : HpetParts) → ((k i : ℕ) → k < j → i < m → message_at k t i h ≡ false)
+    → bursts_below j t (m + n) h ≡ bursts_below j (t + m) n (hpet_pulsed_times (pulses_from HPET_HZ t m) h)
+unfolding bursts_below
+bursts-later zero t m n h none = refl
+bursts-later (suc j) t m n h none =
+    let i : ℕ = pulses_from HPET_HZ t m in
+    let x : HpetParts = hpet_pulsed_times i h in
+    ap (λ (bs : List Burst). with_burst bs (burst_from j h (message_times j t (m + n) h)))
+    (bursts-later j t m n h (λ k at small less. none k at (omega (arith, small)) less))
+    ∙ ap (λ (times : List ℕ). with_burst (bursts_below j (t + m) n x) (burst_from j h times))
+    (times-later j t m n h (λ at less. none j at (omega arith) less))
+    ∙ ap (with_burst (bursts_below j (t + m) n x)) (burst_from-pulsed j i h (message_times j (t + m) n x))
 
 -- what the first nanosecond of which a test holds says of those before it
 abbrev pub Found : (ℕ → Bool) → ℕ → ℕ → Option ℕ → Type 0

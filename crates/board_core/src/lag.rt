@@ -99,38 +99,49 @@ impl BoardState {
             };
             return Ok(());
         }
-        self.catch_up(lag);
-        if passive {
-            return self.answer_still(lag, cpu, h, a, reply);
+        self.catch_up_before(lag, h);
+        // What joins a board's parts gives its counter a rate.
+        let _cpus = self.cpus();
+        // One run takes the board from where it lags to the access.
+        match self.answer(cpu, h, a, reply) {
+            Ok(()) => {
+                *lag = if passive {
+                    self.lag_after(lag.still, reply.edges.is_empty())
+                } else {
+                    NO_LAG // whatever the access changes
+                };
+                Ok(())
+            }
+            Err(refusal) => Err(refusal),
         }
-        *lag = NO_LAG; // whatever the access changes
-        self.answer(cpu, h, a, reply)
     }
 
-    /// An access that changes nothing, of a board that doesn't lag. After enough of them without an edge it looks for the
-    /// horizon.
-    #[inline(never)]
-    fn answer_still(
-        &mut self,
-        lag: &mut Lag,
-        cpu: u8,
-        h: u64,
-        a: Access,
-        reply: &mut Reply,
-    ) -> Result<(), Refusal>
-        requires { IsAsked self.old cpu a reply.old }
-        ensures outcome { IsOutcome self.old cpu h a result self.new reply.old reply.new }
-        ensures known { 0 < lag.new.horizon → IsQuiet self.new (lag.new.horizon - 1) }
-        ensures caught_up { lag.new.host ≡ 0 }
+    /// Brings a board up to its time that lags beyond count `h`. Another may lag on.
+    #[inline(always)]
+    fn catch_up_before(&mut self, lag: &mut Lag, h: u64)
+        requires { IsLazy self.old lag.old.host lag.old.horizon }
+        ensures same { caught_up self.new lag.new ≡ caught_up self.old lag.old }
+        ensures lazy { IsLazy self.new lag.new.host lag.new.horizon }
+        ensures within { lag.new.host ≤ h }
     {
-        let still = lag.still;
-        *lag = NO_LAG;
-        let answered = self.answer_known(cpu, h, a, reply);
-        if answered.is_ok() {
-            lag.still = more_still(still, reply.edges.is_empty());
-            lag.horizon = horizon_of(self, lag.still == STILL);
+        if h < lag.host {
+            self.catch_up(lag);
         }
-        answered
+    }
+
+    /// The lag after an access that changes nothing, which brought no edge or did. After enough without one the horizon is
+    /// looked for.
+    #[inline(never)]
+    fn lag_after(&self, still: u8, no_edge: bool) -> Lag
+        ensures known { 0 < result.horizon → IsQuiet self.now (result.horizon - 1) }
+        ensures up { result.host ≡ 0 }
+    {
+        let still = more_still(still, no_edge);
+        Lag {
+            host: 0,
+            horizon: horizon_of(self, still == STILL),
+            still,
+        }
     }
 
     /// Whether an access at count `h` that changes nothing is only counted: it comes before the horizon.

@@ -9,8 +9,10 @@ use Rattle.board_types.specs.declared.reply.Reply.{Reply}
 use Rattle.board_types.specs.declared.reply.Value.{Value}
 use Rattle.board_core.specs.Access.{after_run, value_at, reply_of}
 use Rattle.board_core.specs.Lazy.{caught_up, IsPassed}
+use Rattle.board_core.specs.Outcome.{IsAsked}
+use Rattle.board_types.specs.declared.access.Access.{Access}
 use Rattle.board_core.proofs.Joins.{after_run-zero}
-use Rattle.board_core.proofs.LazySteps.{answered}
+use Rattle.board_core.proofs.LazySteps.{taken-caught, refused-caught}
 use Rattle.board_core.proofs.Passive.{value-of-step}
 use Rattle.board_core.proofs.board.BoardState.answer_lagging.Goals as goal
 use Rattle.board_core.proofs.board.BoardState.answer_lagging.Goals.{in-Step, in_default}
@@ -52,12 +54,34 @@ returns-then-counts-clause-outcome c =
       few = omega (arith, ap length c.requires.asked.fresh.edges);
     }
 
--- one that runs the board
+-- one that runs the board, from where it lags
+asked : (b c : BoardParts) (host cpu : ℕ) (a : Access) (reply : Reply) → after_run b host ≡ c → IsAsked c cpu a reply → IsAsked b cpu a reply
+unfolding after_run
+asked b c host cpu a reply same is =
+    let before : IsAsked (after_run b host) cpu a reply = subst (λ (x : BoardParts). IsAsked x cpu a reply) (sym same) is in
+    record { cpu = before.cpu; legal = before.legal; fresh = before.fresh }
+
+pub answer-requires : goal.answer-requires
+answer-requires c = asked c.catch_up_before.new.self (caught_up c.args.self.now c.args.lag.now) c.catch_up_before.new.lag.host c.args.cpu
+    c.args.a c.args.reply.now c.catch_up_before.ensures.same c.requires.asked
+
+pub returns-in-Err-clause-outcome : goal.returns-in-Err-clause-outcome
+returns-in-Err-clause-outcome c =
+    refused-caught (caught_up c.args.self.now c.args.lag.now) c.catch_up_before.new.self c.answer.new.self c.catch_up_before.new.lag.host
+    c.catch_up_before.new.lag.horizon c.args.h c.args.cpu c.args.a _ c.args.reply.now c.answer.new.reply c.catch_up_before.ensures.same
+    (omega (arith, c.cpus-cpus.ensures.joined.rates.host.slow)) c.catch_up_before.ensures.lazy c.catch_up_before.ensures.within c.in-Err.ensures
+
 pub returns-then-passive-2-clause-outcome : goal.returns-then-passive-2-clause-outcome
 returns-then-passive-2-clause-outcome c =
-    answered c.catch_up.ensures.state
-    (ap (after_run c.answer_still.new.self) c.answer_still.ensures.caught_up ∙ after_run-zero c.answer_still.new.self)
-    c.answer_still.ensures.outcome
+    taken-caught (caught_up c.args.self.now c.args.lag.now) c.catch_up_before.new.self c.answer.new.self
+    (caught_up c.answer.new.self c.lag_after.result) c.catch_up_before.new.lag.host c.catch_up_before.new.lag.horizon
+    c.args.h c.args.cpu c.args.a tt c.args.reply.now c.answer.new.reply c.catch_up_before.ensures.same
+    (omega (arith, c.cpus-cpus.ensures.joined.rates.host.slow)) c.catch_up_before.ensures.lazy c.catch_up_before.ensures.within
+    (ap (after_run c.answer.new.self) c.lag_after.ensures.up ∙ after_run-zero c.answer.new.self) c.in-Ok.ensures
 
-pub returns-clause-outcome : goal.returns-clause-outcome
-returns-clause-outcome c = answered c.catch_up.ensures.state (after_run-zero c.answer.new.self) c.answer.ensures
+pub returns-else-passive-2-clause-outcome : goal.returns-else-passive-2-clause-outcome
+returns-else-passive-2-clause-outcome c =
+    taken-caught (caught_up c.args.self.now c.args.lag.now) c.catch_up_before.new.self c.answer.new.self (after_run c.answer.new.self 0)
+    c.catch_up_before.new.lag.host c.catch_up_before.new.lag.horizon c.args.h c.args.cpu c.args.a tt c.args.reply.now
+    c.answer.new.reply c.catch_up_before.ensures.same (omega (arith, c.cpus-cpus.ensures.joined.rates.host.slow)) c.catch_up_before.ensures.lazy
+    c.catch_up_before.ensures.within (after_run-zero c.answer.new.self) c.in-Ok.ensures
