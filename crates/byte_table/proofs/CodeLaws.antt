@@ -9,7 +9,7 @@ use Rattle.std.specs.Int.{w8, byte_at as byte_of, bytes_low_first, cast_signed, 
 use Rattle.std.specs.Int.RustNames.{FitsSigned}
 use Rattle.byteorder.specs.Endian.{little_from, little_number, little_bytes}
 use Rattle.byteorder.specs.Numbers.{length-bytes_low_first, little_number-reads_back}
-use Rattle.byte_table.specs.Codes.{number_at, number_bytes, flag_byte, Code, number, byte, signed_byte, word, choice, flag, flags_of, flags}
+use Rattle.byte_table.specs.Codes.{number_at, number_bytes, flag_byte, Code, number, byte, signed_byte, word, one_byte, flag, flags_of, flags}
 use Rattle.byte_table.specs.Codes.{Two, both, row_bytes, row_value, row_spelled, rows}
 use Rattle.byte_table.proofs.FoldLaws.{AreBytes, next, split, take-more}
 use Rattle.byte_table.proofs.Bits.{byte_with, HasBits-byte_with, byte_with-bits}
@@ -134,7 +134,7 @@ signed_byte-code = record {
 
 -- one of n values
 pub choice-written : {A : Type 0} (n : ℕ) (number_from : A → ℕ) (of_number : ℕ → A) (x : A) → number_from x < n → of_number (number_from x) ≡ x
-    → IsWritten (choice n number_from of_number) x
+    → IsWritten (one_byte number_from of_number (λ y. ltb y n)) x
 choice-written n number_from of_number x less is = record {
   length = refl;
   back = λ place bytes rest e. ap of_number (byte-is place (number_from x) bytes rest e) ∙ is;
@@ -142,7 +142,7 @@ choice-written n number_from of_number x less is = record {
 }
 
 pub choice-code : {A : Type 0} (n : ℕ) (number_from : A → ℕ) (of_number : ℕ → A) → ((y : ℕ) → y < n → number_from (of_number y) ≡ y)
-    → IsCode (choice n number_from of_number)
+    → IsCode (one_byte number_from of_number (λ y. ltb y n))
 choice-code n number_from of_number is = record {
   same = λ place bytes small there spelled.
       ap (λ (y : ℕ). y ∷ []) (is (get_or bytes place 0) (ltb-true (get_or bytes place 0) n spelled)) ∙ byte-same place bytes there;

@@ -1,5 +1,5 @@
 -- The round trip of any list of fields, by a law for each field.
-use Rattle.std.proofs.Common.{◌≡◌, ℕ, zero, suc, ◌+◌, ◌-◌, ◌<◌, ◌≤◌, true, List, [], ◌∷◌, ◌++◌, length, take, drop, get_or, Option, Some, None}
+use Rattle.std.proofs.Common.{◌≡◌, ℕ, zero, suc, ◌+◌, ◌-◌, ◌<◌, ◌≤◌, List, [], ◌∷◌, ◌++◌, length, take, drop, get_or, Option, Some, None}
 use Rattle.std.proofs.Common.{refl, ap, sym, subst, ◌∙◌, arith}
 use Rattle.std.proofs.lemmas.List.{append_assoc, take_all, length-append, length-drop, drop-append-le, drop_all, drop-drop}
 use Rattle.byte_table.specs.Fold.{Field, size_of, write, read, rewrite_in, moved, or_else, fault_in}
@@ -55,7 +55,7 @@ AllHere (f ∷ fs) b p bytes = IsHere f b p bytes × AllHere fs b p bytes
 -- bytes with no fault are wholly there, and spelled as they would be written
 pub record IsSpelled {F B P : Type 0} (f : Field F B P) : Type 0 where
   pub spelled : (b : B) (p : P) (place : ℕ) (bytes : List ℕ) → AreBytes bytes → place ≤ length bytes → f.fault b p place bytes ≡ None
-      → (place + f.size ≤ length bytes) × (f.again place bytes ≡ take f.size (drop place bytes)) × (f.holds b p ≡ true)
+      → (place + f.size ≤ length bytes) × (f.again place bytes ≡ take f.size (drop place bytes))
 
 abbrev pub AllSpelled : {F B P : Type 0} → List (Field F B P) → Type 0
 AllSpelled [] = Unit {0}
@@ -65,11 +65,6 @@ AllSpelled (f ∷ fs) = IsSpelled f × AllSpelled fs
 abbrev pub AllKeep : {F B P : Type 0} → List (Field F B P) → P → ℕ → List ℕ → Type 0
 AllKeep [] p place bytes = Unit {0}
 AllKeep (f ∷ fs) p place bytes = (f.get p ≡ f.again place bytes) × AllKeep fs p (place + f.size) bytes
-
--- all conditions hold
-abbrev pub AllHold : {F B P : Type 0} → List (Field F B P) → B → P → Type 0
-AllHold [] b p = Unit {0}
-AllHold (f ∷ fs) b p = (f.holds b p ≡ true) × AllHold fs b p
 
 pub or_else-none : {F : Type 0} (first later : Option F) → first ≡ None → or_else first later ≡ later
 or_else-none None later e = refl
@@ -120,15 +115,6 @@ pub rewrite_in-keep : {F B P : Type 0} (fs : List (Field F B P)) (p : P) (place 
 rewrite_in-keep [] p place bytes keep = refl
 rewrite_in-keep (f ∷ fs) p place bytes keep = λ i. keep.0 i ++ rewrite_in-keep fs p (place + f.size) bytes keep.1 i
 
--- and each field's condition holds
-pub hold : {F B P : Type 0} (fs : List (Field F B P)) → AllSpelled fs → (b : B) (p : P) (place : ℕ) (bytes : List ℕ) → AreBytes bytes
-    → place ≤ length bytes → fault_in fs b p place bytes ≡ None → AllHold fs b p
-hold [] all b p place bytes small there none = tt
-hold (f ∷ fs) all b p place bytes small there none =
-    let parts = or_else-both (f.fault b p place bytes) (fault_in fs b p (place + f.size) bytes) none in
-    let first = all.0.spelled b p place bytes small there parts.0 in
-    (first.2, hold fs all.1 b p (place + f.size) bytes small first.0 parts.1)
-
 -- two lists of fields, one after the other
 pub write_append : {F B P : Type 0} (fs gs : List (Field F B P)) (p : P) → write (fs ++ gs) p ≡ write fs p ++ write gs p
 write_append [] gs p = refl
@@ -160,10 +146,6 @@ all_keep-append (f ∷ fs) gs p place bytes here there =
     let at : place + (f.size + size_of fs) ≡ place + f.size + size_of fs = omega arith in
     (here.0, all_keep-append fs gs p (place + f.size) bytes here.1 (subst (λ (k : ℕ). AllKeep gs p k bytes) at there))
 
-pub all_hold-split : {F B P : Type 0} (fs gs : List (Field F B P)) (b : B) (p : P) → AllHold (fs ++ gs) b p → AllHold fs b p × AllHold gs b p
-all_hold-split [] gs b p h = (tt, h)
-all_hold-split (f ∷ fs) gs b p h = let rest = all_hold-split fs gs b p h.1 in ((h.0, rest.0), rest.1)
-
 -- after the bytes of a first list those of a second are written
 pub written-then : {F B P : Type 0} (fs gs : List (Field F B P)) (p : P) (old now next : List ℕ) → now ≡ old ++ write fs p → next ≡ now ++ write gs p
     → next ≡ old ++ write (fs ++ gs) p
@@ -182,10 +164,6 @@ pub or_else-end : {F : Type 0} (o : Option F) → or_else o None ≡ o
 or_else-end None = refl
 or_else-end (Some fault) = refl
 
-pub size_of-append : {F B P : Type 0} (fs gs : List (Field F B P)) → size_of (fs ++ gs) ≡ size_of fs + size_of gs
-size_of-append [] gs = omega arith
-size_of-append (f ∷ fs) gs = let rest = size_of-append fs gs in omega (arith, rest)
-
 pub fault-next : {F B P : Type 0} (fs gs : List (Field F B P)) (b : B) (p : P) (place at : ℕ) (bytes : List ℕ) (later : Option F) → place + size_of fs ≡ at
     → or_else (fault_in (fs ++ gs) b p place bytes) later ≡ or_else (fault_in fs b p place bytes) (or_else (fault_in gs b p at bytes) later)
 fault-next {F = F} fs gs b p place at bytes later there =
@@ -202,17 +180,9 @@ abbrev pub EachHere : {F B P : Type 0} → List (List (Field F B P)) → B → P
 EachHere [] b p bytes = Unit {0}
 EachHere (fs ∷ fss) b p bytes = AllHere fs b p bytes × EachHere fss b p bytes
 
-abbrev pub EachHolds : {F B P : Type 0} → List (List (Field F B P)) → B → P → Type 0
-EachHolds [] b p = Unit {0}
-EachHolds (fs ∷ fss) b p = AllHold fs b p × EachHolds fss b p
-
 pub here-joined : {F B P : Type 0} (fss : List (List (Field F B P))) (b : B) (p : P) (bytes : List ℕ) → EachHere fss b p bytes → AllHere (joined fss) b p bytes
 here-joined [] b p bytes each = tt
 here-joined (fs ∷ fss) b p bytes each = all_here-append fs (joined fss) b p bytes each.0 (here-joined fss b p bytes each.1)
-
-pub hold-joined : {F B P : Type 0} (fss : List (List (Field F B P))) (b : B) (p : P) → AllHold (joined fss) b p → EachHolds fss b p
-hold-joined [] b p h = tt
-hold-joined (fs ∷ fss) b p h = let parts = all_hold-split fs (joined fss) b p h in (parts.0, hold-joined fss b p parts.1)
 
 -- their first fault, list by list, or else a later one
 abbrev pub fault_along : {F B P : Type 0} → List (List (Field F B P)) → B → P → ℕ → List ℕ → Option F → Option F

@@ -1,36 +1,35 @@
 -- The laws of each kind of field.
-use Rattle.std.proofs.Common.{◌≡◌, ℕ, zero, suc, ◌+◌, ◌-◌, ◌<◌, ◌≤◌, ⊎_elim, Bool, true, false, cond, ◌&&◌, List, [], ◌∷◌, ◌++◌, length}
-use Rattle.std.proofs.Common.{take, drop, get_or, replicate, Some, None, refl, ap, sym, subst, ◌∙◌, arith}
+use Rattle.std.proofs.Common.{◌≡◌, ℕ, zero, suc, ◌+◌, ◌-◌, ◌<◌, ◌≤◌, ⊎_elim, Bool, true, false, cond, ◌&&◌, List, ◌∷◌, ◌++◌, length}
+use Rattle.std.proofs.Common.{[], take, drop, get_or, replicate, Some, None, refl, ap, sym, subst, ◌∙◌, arith}
 use Rattle.std.proofs.lemmas.Bool.{lt-ltb, le-ltb, and_from, and_parts, cases_lt}
 use Rattle.std.proofs.lemmas.List.{length-append, get_or-drop, drop_more, drop-drop}
 use Rattle.byte_table.specs.Fold.{Field, size_of, write, read, rewrite_in, moved, fault_in, size_below, write_below, read_below, fault_below}
-use Rattle.byte_table.specs.Fold.{all_hold, hold_below}
 use Rattle.byte_table.specs.Codes.{Code}
-use Rattle.byte_table.specs.Kinds.{Faults, one_fault, plain, blocks, elsewhere}
+use Rattle.byte_table.specs.Kinds.{one_fault, plain, blocks, elsewhere}
 use Rattle.byte_table.proofs.FoldLaws.{AreBytes, next, split, room, take-more, IsHere, AllHere, IsSpelled, AllSpelled, or_else-none, or_else-both, length-write}
-use Rattle.byte_table.proofs.FoldLaws.{read-write, fault-write, rewritten, AllHold, hold}
+use Rattle.byte_table.proofs.FoldLaws.{read-write, fault-write, rewritten}
 use Rattle.byte_table.proofs.CodeLaws.{IsWritten, IsCode, rows-code, number-code, word-code, byte-code, signed_byte-code, flag-code, flags-code, both-code}
 
 -- the fault of one field: short, invalid, or none
-pub one_fault-short : {F : Type 0} (faults : Faults F) (size : ℕ) (valid : Bool) (place : ℕ) (bytes : List ℕ) → length bytes < place + size
-    → one_fault faults size valid place bytes ≡ Some (faults.short (length bytes))
-one_fault-short faults size valid place bytes less =
-    ap (λ (t : Bool). cond t (Some (faults.short (length bytes))) (cond valid None (Some (faults.invalid place)))) (lt-ltb (length bytes) (place + size) less)
+pub one_fault-short : {F : Type 0} (short invalid : ℕ → F) (size : ℕ) (valid : Bool) (place : ℕ) (bytes : List ℕ) → length bytes < place + size
+    → one_fault short invalid size valid place bytes ≡ Some (short (length bytes))
+one_fault-short short invalid size valid place bytes less =
+    ap (λ (t : Bool). cond t (Some (short (length bytes))) (cond valid None (Some (invalid place)))) (lt-ltb (length bytes) (place + size) less)
 
-pub one_fault-is : {F : Type 0} (faults : Faults F) (size : ℕ) (valid : Bool) (place : ℕ) (bytes : List ℕ) → place + size ≤ length bytes → (v : Bool)
-    → valid ≡ v → one_fault faults size valid place bytes ≡ cond v None (Some (faults.invalid place))
-one_fault-is faults size valid place bytes le v is =
-    ap (λ (t : Bool). cond t (Some (faults.short (length bytes))) (cond valid None (Some (faults.invalid place)))) (le-ltb (length bytes) (place + size) le)
-    ∙ ap (λ (t : Bool). cond t None (Some (faults.invalid place))) is
+pub one_fault-is : {F : Type 0} (short invalid : ℕ → F) (size : ℕ) (valid : Bool) (place : ℕ) (bytes : List ℕ) → place + size ≤ length bytes → (v : Bool)
+    → valid ≡ v → one_fault short invalid size valid place bytes ≡ cond v None (Some (invalid place))
+one_fault-is short invalid size valid place bytes le v is =
+    ap (λ (t : Bool). cond t (Some (short (length bytes))) (cond valid None (Some (invalid place)))) (le-ltb (length bytes) (place + size) le)
+    ∙ ap (λ (t : Bool). cond t None (Some (invalid place))) is
 
 some_none : {F : Type 0} {s : F} {R : Type 0} → Some s ≡ None → R
 some_none e = cc
 
-pub one_fault-none : {F : Type 0} (faults : Faults F) (size : ℕ) (valid : Bool) (place : ℕ) (bytes : List ℕ) → one_fault faults size valid place bytes ≡ None
+pub one_fault-none : {F : Type 0} (short invalid : ℕ → F) (size : ℕ) (valid : Bool) (place : ℕ) (bytes : List ℕ) → one_fault short invalid size valid place bytes ≡ None
     → (place + size ≤ length bytes) × (valid ≡ true)
-one_fault-none {F = F} faults size valid place bytes e =
-    ⊎_elim (λ (less : length bytes < place + size). some_none (sym (one_fault-short faults size valid place bytes less) ∙ e))
-    (λ (le : place + size ≤ length bytes). (le, passes (faults.invalid place) valid (sym (one_fault-is faults size valid place bytes le valid refl) ∙ e)))
+one_fault-none {F = F} short invalid size valid place bytes e =
+    ⊎_elim (λ (less : length bytes < place + size). some_none (sym (one_fault-short short invalid size valid place bytes less) ∙ e))
+    (λ (le : place + size ≤ length bytes). (le, passes (invalid place) valid (sym (one_fault-is short invalid size valid place bytes le valid refl) ∙ e)))
     (cases_lt (length bytes) (place + size))
   where
     passes : (s : F) (v : Bool) → cond v None (Some s) ≡ None → v ≡ true
@@ -38,25 +37,25 @@ one_fault-none {F = F} faults size valid place bytes e =
     passes s false e = some_none e
 
 -- a value
-pub plain-here : {F B P A : Type 0} (faults : Faults F) (c : Code A) (get : P → A) (put : A → P → P) (valid : B → P → Bool) (b : B) (p : P) (bytes : List ℕ)
-    → IsWritten c (get p) → valid b p ≡ true → IsHere (plain faults c get put valid) b p bytes
+pub plain-here : {F B P A : Type 0} (short invalid : ℕ → F) (c : Code A) (get : P → A) (put : A → P → P) (valid : B → P → Bool) (b : B) (p : P)
+    (bytes : List ℕ) → IsWritten c (get p) → valid b p ≡ true → IsHere (plain short invalid c get put valid) b p bytes
 unfolding plain
-plain-here {A = A} faults c get put valid b p bytes w is = record {
+plain-here {A = A} short invalid c get put valid b p bytes w is = record {
   size_is = w.length;
   back = λ place rest q e. ap (λ (x : A). put x q) (w.back place bytes rest e);
   none = λ place rest le e.
-      one_fault-is faults c.size (c.spelled place bytes && valid b p) place bytes (room place c.size bytes (c.bytes (get p)) rest w.length le e) true
+      one_fault-is short invalid c.size (c.spelled place bytes && valid b p) place bytes (room place c.size bytes (c.bytes (get p)) rest w.length le e) true
       (and_from _ _ (w.spelled place bytes rest e) is);
 }
 
-pub plain-spelled : {F B P A : Type 0} (faults : Faults F) (c : Code A) (get : P → A) (put : A → P → P) (valid : B → P → Bool) → IsCode c
-    → IsSpelled (plain faults c get put valid)
+pub plain-spelled : {F B P A : Type 0} (short invalid : ℕ → F) (c : Code A) (get : P → A) (put : A → P → P) (valid : B → P → Bool) → IsCode c
+    → IsSpelled (plain short invalid c get put valid)
 unfolding plain
-plain-spelled faults c get put valid law = record {
+plain-spelled short invalid c get put valid law = record {
   spelled = λ b p place bytes small there none.
-      let parts = one_fault-none faults c.size (c.spelled place bytes && valid b p) place bytes none in
+      let parts = one_fault-none short invalid c.size (c.spelled place bytes && valid b p) place bytes none in
       let is = and_parts (c.spelled place bytes) (valid b p) parts.1 in
-      (parts.0, law.same place bytes small parts.0 is.0, is.1);
+      (parts.0, law.same place bytes small parts.0 is.0);
 }
 
 -- a value that another field holds, at a place of its own
@@ -71,16 +70,7 @@ elsewhere-here {A = A} at c get put b p bytes is = record {
 
 pub elsewhere-spelled : {F B P A : Type 0} (at : ℕ) (c : Code A) (get : P → A) (put : A → P → P) → IsSpelled (elsewhere {F = F} {B = B} at c get put)
 unfolding elsewhere
-elsewhere-spelled at c get put = record { spelled = λ b p place bytes small there none. (omega (arith, there), refl, refl) }
-
--- all conditions, as one
-hold-all : {F B P : Type 0} (fs : List (Field F B P)) (b : B) (p : P) → AllHold fs b p → all_hold fs b p ≡ true
-hold-all [] b p h = refl
-hold-all (f ∷ fs) b p h = and_from (f.holds b p) (all_hold fs b p) h.0 (hold-all fs b p h.1)
-
-all-hold : {F B P : Type 0} (fs : List (Field F B P)) (b : B) (p : P) → all_hold fs b p ≡ true → AllHold fs b p
-all-hold [] b p h = tt
-all-hold (f ∷ fs) b p h = let parts = and_parts (f.holds b p) (all_hold fs b p) h in (parts.0, all-hold fs b p parts.1)
+elsewhere-spelled at c get put = record { spelled = λ b p place bytes small there none. (omega (arith, there), refl) }
 
 -- blocks that are written: each is, and the list of its fields covers it
 abbrev pub AllBlocks : {F B T : Type 0} → (ℕ → List (Field F B T)) → T → B → List T → List ℕ → ℕ → ℕ → Type 0
@@ -144,18 +134,15 @@ pub record AreBlocks {F B T : Type 0} (fields : ℕ → List (Field F B T)) (bla
 
 below-spelled : {F B T : Type 0} (fields : ℕ → List (Field F B T)) (blank : T) → AreBlocks fields blank → (b : B) (ts : List T) (k n place : ℕ) (bytes : List ℕ)
     → AreBytes bytes → place ≤ length bytes → fault_below fields blank b ts k n place bytes ≡ None
-    → (place + size_below fields k n ≤ length bytes) × (hold_below fields blank b ts k n ≡ true)
-    × ((us others : List T) → drop k us ≡ read_below fields blank k n place bytes ++ others
+    → (place + size_below fields k n ≤ length bytes) × ((us others : List T) → drop k us ≡ read_below fields blank k n place bytes ++ others
     → write_below fields blank us k n ≡ take (size_below fields k n) (drop place bytes))
-below-spelled fields blank laws b ts k zero place bytes small there none = (omega (arith, there), refl, λ us others e. refl)
+below-spelled fields blank laws b ts k zero place bytes small there none = (omega (arith, there), λ us others e. refl)
 below-spelled {T = T} fields blank laws b ts k (suc n) place bytes small there none =
     let s : ℕ = size_of (fields k) in
     let parts = or_else-both (fault_in (fields k) b (get_or ts k blank) place bytes) (fault_below fields blank b ts (suc k) n (place + s) bytes) none in
     let first = rewritten (fields k) (laws.spelled k) b (get_or ts k blank) place bytes small there parts.0 in
-    let holds = hold-all (fields k) b (get_or ts k blank) (hold (fields k) (laws.spelled k) b (get_or ts k blank) place bytes small there parts.0) in
     let later = below-spelled fields blank laws b ts (suc k) n (place + s) bytes small first.0 parts.1 in (
       (let end = later.0 in omega (arith, end)),
-      and_from _ _ holds later.1,
       λ us others e.
           let at : k ≡ k + 0 = omega arith in
           let one : suc k ≡ k + 1 = omega arith in
@@ -163,7 +150,7 @@ below-spelled {T = T} fields blank laws b ts k (suc n) place bytes small there n
           ap (λ (m : ℕ). get_or us m blank) at ∙ sym (get_or-drop k us 0 blank) ∙ ap (λ (xs : List T). get_or xs 0 blank) e in
           let rest : drop (suc k) us ≡ read_below fields blank (suc k) n (place + s) bytes ++ others =
           ap (λ (m : ℕ). drop m us) one ∙ sym (drop-drop 1 k us) ∙ ap (λ (xs : List T). drop 1 xs) e in
-          (λ i. write (fields k) (item i) ++ later.2 us others rest i)
+          (λ i. write (fields k) (item i) ++ later.1 us others rest i)
           ∙ (λ i. (laws.keeps k place bytes ∙ first.1) i ++ take (size_below fields (suc k) n) (drop (place + s) bytes))
           ∙ take-more place s (size_below fields (suc k) n) bytes,
     )
@@ -174,19 +161,28 @@ unfolding blocks
 blocks-spelled n all fields blank get put laws = record {
   spelled = λ b p place bytes small there none.
       let is = below-spelled fields blank laws b (get p) 0 n place bytes small there none in
-      (is.0, is.2 (read_below fields blank 0 n place bytes ++ replicate (all - n) blank) (replicate (all - n) blank) refl, is.1);
+      (is.0, is.1 (read_below fields blank 0 n place bytes ++ replicate (all - n) blank) (replicate (all - n) blank) refl);
 }
 
--- what holds of all blocks holds of each
-pub hold-each : {F B T : Type 0} (fields : ℕ → List (Field F B T)) (blank : T) (b : B) (ts : List T) (k n : ℕ) → hold_below fields blank b ts k n ≡ true
-    → (j : ℕ) → k ≤ j → j < k + n → AllHold (fields j) b (get_or ts j blank)
-hold-each fields blank b ts k zero h j low high = absurd (omega arith)
-hold-each fields blank b ts k (suc n) h j low high =
-    let parts = and_parts (all_hold (fields k) b (get_or ts k blank)) (hold_below fields blank b ts (suc k) n) h in
-    ⊎_elim (λ (less : k < j). hold-each fields blank b ts (suc k) n parts.1 j (omega arith) (omega arith))
+-- where blocks have no fault each has none, at its place
+none-each : {F B T : Type 0} (fields : ℕ → List (Field F B T)) (blank : T) (b : B) (ts : List T) (k n place : ℕ) (bytes : List ℕ)
+    → fault_below fields blank b ts k n place bytes ≡ None → (j : ℕ) → k ≤ j → j < k + n
+    → (at : ℕ) × (fault_in (fields j) b (get_or ts j blank) at bytes ≡ None)
+none-each fields blank b ts k zero place bytes none j low high = absurd (omega arith)
+none-each fields blank b ts k (suc n) place bytes none j low high =
+    let parts = or_else-both (fault_in (fields k) b (get_or ts k blank) place bytes)
+    (fault_below fields blank b ts (suc k) n (place + size_of (fields k)) bytes) none in
+    ⊎_elim (λ (less : k < j). none-each fields blank b ts (suc k) n (place + size_of (fields k)) bytes parts.1 j (omega arith) (omega arith))
     (λ (le : j ≤ k).
     let is : k ≡ j = omega arith in
-    subst (λ (m : ℕ). AllHold (fields m) b (get_or ts m blank)) is (all-hold (fields k) b (get_or ts k blank) parts.0)) (cases_lt k j)
+    subst (λ (m : ℕ). (at : ℕ) × (fault_in (fields m) b (get_or ts m blank) at bytes ≡ None)) is (place, parts.0)) (cases_lt k j)
+
+pub blocks-none : {F B P T : Type 0} (n all : ℕ) (fields : ℕ → List (Field F B T)) (blank : T) (get : P → List T) (put : List T → P → P) (b : B) (p : P)
+    (place : ℕ) (bytes : List ℕ) → fault_in (blocks n all fields blank get put ∷ []) b p place bytes ≡ None → (j : ℕ) → j < n
+    → (at : ℕ) × (fault_in (fields j) b (get_or (get p) j blank) at bytes ≡ None)
+unfolding blocks
+blocks-none n all fields blank get put b p place bytes none j less =
+    none-each fields blank b (get p) 0 n place bytes (or_else-both (fault_below fields blank b (get p) 0 n place bytes) None none).0 j (omega arith) (omega (arith, less))
 
 -- by these a search finds that all fields of a list are spelled
 pub ruleset spells = (plain-spelled, elsewhere-spelled, rows-code, number-code, word-code, byte-code, signed_byte-code, flag-code, flags-code, both-code)

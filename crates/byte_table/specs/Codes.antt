@@ -67,10 +67,6 @@ word n x = record {
   spelled = λ place bytes. number_at n place bytes == x;
 }
 
--- one of n values, by its number, in one byte
-abbrev pub choice : {A : Type 0} → ℕ → (A → ℕ) → (ℕ → A) → Code A
-choice n number_of of_number = one_byte number_of of_number (λ x. nat_lt x n)
-
 -- a flag in one byte, 00 or 01
 abbrev pub flag : Code Bool
 flag = one_byte flag_byte (λ x. x == 1) (λ x. nat_lt x 2)

@@ -5,9 +5,6 @@ use Rattle.std.specs.Prelude.{
   zero,
   suc,
   ◌+◌,
-  Bool,
-  true,
-  ◌&&◌,
   slice_index_or,
   List,
   [],
@@ -19,15 +16,14 @@ use Rattle.std.specs.Prelude.{
 }
 
 -- a field of a part P of a whole B, with faults of F: its size; its bytes in a P; a P with what is
--- at a place of bytes; that as it would be written; the value of one P put into another; whether
--- its condition holds; its fault at a place of bytes
+-- at a place of bytes; that as it would be written; the value of one P put into another; its fault
+-- at a place of bytes
 pub record Field (F B P : Type 0) : Type 0 where
   pub size : ℕ
   pub get : P → List ℕ
   pub put : ℕ → List ℕ → P → P
   pub again : ℕ → List ℕ → List ℕ
   pub move : P → P → P
-  pub holds : B → P → Bool
   pub fault : B → P → ℕ → List ℕ → Option F
 
 -- how many bytes there are
@@ -66,11 +62,6 @@ abbrev pub moved : {F B P : Type 0} → List (Field F B P) → P → P → P
 moved [] p q = q
 moved (f ∷ fs) p q = moved fs p (f.move p q)
 
--- whether all conditions hold
-abbrev pub all_hold : {F B P : Type 0} → List (Field F B P) → B → P → Bool
-all_hold [] b p = true
-all_hold (f ∷ fs) b p = f.holds b p && all_hold fs b p
-
 -- n blocks from k on: block k is item k of a list, by the fields of k. Their size ..
 abbrev pub size_below : {F B T : Type 0} → (ℕ → List (Field F B T)) → ℕ → ℕ → ℕ
 size_below fields k zero = 0
@@ -90,13 +81,6 @@ read_below fields blank k zero place bytes = []
 read_below fields blank k (suc n) place bytes =
     read (fields k) place bytes blank
     ∷ read_below fields blank (suc k) n (place + size_of (fields k)) bytes
-
--- .. whether all their conditions hold ..
-abbrev pub hold_below : {F B T : Type 0} → (ℕ → List (Field F B T)) → T → B → List T → ℕ → ℕ
-    → Bool
-hold_below fields blank b ts k zero = true
-hold_below fields blank b ts k (suc n) =
-    all_hold (fields k) b (slice_index_or ts k blank) && hold_below fields blank b ts (suc k) n
 
 -- .. and their first fault
 abbrev pub fault_below : {F B T : Type 0} → (ℕ → List (Field F B T)) → T → B → List T → ℕ → ℕ

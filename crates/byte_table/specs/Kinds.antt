@@ -5,7 +5,6 @@ use Rattle.std.specs.Prelude.{
   ◌-◌,
   nat_lt,
   Bool,
-  true,
   ◌&&◌,
   if◌then◌else◌,
   List,
@@ -23,35 +22,28 @@ use Rattle.byte_table.specs.Fold.{
   size_below,
   write_below,
   read_below,
-  hold_below,
   fault_below,
 }
 
--- the two faults of a field, by their place: the input ends before it does; its condition fails
-pub record Faults (F : Type 0) : Type 0 where
-  pub short : ℕ → F
-  pub invalid : ℕ → F
-
--- the fault of a field at a place: it isn't wholly there, a fault of the input's length, or
--- its condition fails
-abbrev pub one_fault : {F : Type 0} → Faults F → ℕ → Bool → ℕ → List ℕ → Option F
-one_fault faults size valid place bytes =
-    if nat_lt (length bytes) (place + size) then Some (faults.short (length bytes))
+-- the fault of a field at a place, by its two faults: it isn't wholly there, a fault at the
+-- input's length, or its condition fails
+abbrev pub one_fault : {F : Type 0} → (ℕ → F) → (ℕ → F) → ℕ → Bool → ℕ → List ℕ → Option F
+one_fault short invalid size valid place bytes =
+    if nat_lt (length bytes) (place + size) then Some (short (length bytes))
     else if valid then None
-    else Some (faults.invalid place)
+    else Some (invalid place)
 
--- a value of a code: where it is in a P, and its condition
-unfoldable pub plain : {F B P A : Type 0} → Faults F → Code A → (P → A) → (A → P → P)
+-- a value of a code: its two faults, where it is in a P, and its condition
+unfoldable pub plain : {F B P A : Type 0} → (ℕ → F) → (ℕ → F) → Code A → (P → A) → (A → P → P)
     → (B → P → Bool) → Field F B P
-plain faults c get put valid = record {
+plain short invalid c get put valid = record {
   size = c.size;
   get = λ p. c.bytes (get p);
   put = λ place bytes p. put (c.value place bytes) p;
   again = λ place bytes. c.bytes (c.value place bytes);
   move = λ p q. put (get p) q;
-  holds = valid;
   fault = λ b p place bytes.
-      one_fault faults c.size (c.spelled place bytes && valid b p) place bytes;
+      one_fault short invalid c.size (c.spelled place bytes && valid b p) place bytes;
 }
 
 -- the first n items of a list of `all`, item k by the fields of k; the others are blank
@@ -67,7 +59,6 @@ blocks n all fields blank get put = record {
       (read_below fields blank 0 n place bytes ++ replicate (all - n) blank)
       0 n;
   move = λ p q. put (get p) q;
-  holds = λ b p. hold_below fields blank b (get p) 0 n;
   fault = λ b p place bytes. fault_below fields blank b (get p) 0 n place bytes;
 }
 
@@ -79,6 +70,5 @@ elsewhere at c get put = record {
   put = λ place bytes p. put (c.value at bytes) p;
   again = λ place bytes. [];
   move = λ p q. put (get p) q;
-  holds = λ b p. true;
   fault = λ b p place bytes. None;
 }
