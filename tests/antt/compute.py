@@ -120,7 +120,7 @@ LIBRARY: dict[str, object] = {
     "w8": 8, "w16": 16, "w32": 32, "w64": 64,
     "suc": lambda n: n + 1, "not": lambda b: not b, "max": max, "min": min,
     "nat_lt": lambda a, b: a < b, "nat_le": lambda a, b: a <= b, "nat_eq": lambda a, b: a == b,
-    "bytes_eq": lambda a, b: a == b,
+    "bytes_eq": lambda a, b: a == b, "beq": lambda a, b: a == b,
     "starts_with": lambda same, xs, front: len(front) <= len(xs) and all(same(x, y) for x, y in zip(xs, front)),
     "bit_and": lambda a, b: a & b, "bit_or": lambda a, b: a | b, "length": len, "ap": lambda f, a: f(a),
     "map": lambda f, xs: [f(x) for x in xs], "filter": lambda f, xs: [x for x in xs if f(x)],

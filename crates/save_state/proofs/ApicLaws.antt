@@ -1,13 +1,18 @@
 -- The timers of local APICs with their tick lines: their fields cover them, what is read is written as its bytes are, and valid ones are written and read as
 -- they were.
 use Rattle.save_state.proofs.Names.{apic_line, apic, no_apic, apic_pairs, apics, ApicTimerFits, ApicsFit, read_below-at, read_below-after, length-read_below}
-use Rattle.save_state.proofs.Names.{pairs-at, length-pairs, pairs-halves, any, Apic, with_ticks, apic_timer, all_here-append, all_hold-split, number-written}
-use Rattle.save_state.proofs.Names.{byte-written, plain-here, blocks-here, hold-each, drop-blank, apics_of, apics_in, AreApics, IsBoard, now_of, pairs, moved}
-use Rattle.save_state.proofs.Names.{read_below, plain, blocks, ◌⨾◌, AllHere, AllHold, le-ltb, ltb-false, cases_lt, length-map, Discard, TickParts, ApicParts}
+use Rattle.save_state.proofs.Names.{pairs-at, length-pairs, pairs-halves, any, Apic, apic_timer, all_here-append, number-written, blocks-none, fault_in, None}
+use Rattle.save_state.proofs.Names.{byte-written, plain-here, blocks-here, drop-blank, apics_of, apics_in, AreApics, IsBoard, now_of, pairs, moved}
+use Rattle.save_state.proofs.Names.{read_below, plain, blocks, ◌⨾◌, AllHere, le-ltb, ltb-false, cases_lt, length-map, Discard, TickParts, ApicParts}
 use Rattle.save_state.proofs.Names.{divisor, IsApicTimer, IsPlaceOf, BoardParts, ◌≡◌, ℕ, ◌+◌, ◌-◌, ◌<◌, ◌≤◌, ltb, List, ◌++◌, length, map, get_or, replicate}
 use Rattle.save_state.proofs.Names.{inl, inr, refl, ap, sym, subst, ◌∙◌, arith, apics_few, processors_few, apic-size}
 use Rattle.local_apics.specs.Places.{no_timer, no_line, timer_at, line_at}
 use Rattle.save_state.proofs.Blocks.{ticks-here, TicksHold, ticks-hold}
+use Rattle.save_state.proofs.BlockRows.{rows-valid, apic-rows}
+
+-- a timer with another tick line
+abbrev with_ticks : TickParts → Apic → Apic
+with_ticks x a = record a { second = x }
 
 -- the policy of the tick line is Discard in each saved state
 apic-covers : (k : ℕ) (a : Apic) → a.second.policy ≡ Discard → moved (apic k) a no_apic ≡ a
@@ -19,25 +24,29 @@ timer-here : (b : BoardParts) (a : Apic) (bytes : List ℕ) → IsApicTimer a.fi
 unfolding apic_timer
 timer-here b a bytes is fits =
     let p : ApicParts = a.first in
-    plain-here _ _ _ _ _ b a bytes (number-written 4 p.lvt fits.lvt) (grind arith) ⨾ plain-here _ _ _ _ _ b a bytes (byte-written p.divide) (grind arith)
-    ⨾ plain-here _ _ _ _ _ b a bytes (number-written 4 p.initial fits.initial) (grind arith)
-    ⨾ plain-here _ _ _ _ _ b a bytes (number-written 4 p.current fits.current) (grind arith)
-    ⨾ plain-here _ _ _ _ _ b a bytes (byte-written p.phase) (grind arith)
-    ⨾ plain-here _ _ _ _ _ b a bytes (number-written 8 p.deadline fits.deadline) (grind arith) ⨾ tt
+    plain-here _ _ _ _ _ _ b a bytes (number-written 4 p.lvt fits.lvt) (grind arith) ⨾ plain-here _ _ _ _ _ _ b a bytes (byte-written p.divide) (grind arith)
+    ⨾ plain-here _ _ _ _ _ _ b a bytes (number-written 4 p.initial fits.initial) (grind arith)
+    ⨾ plain-here _ _ _ _ _ _ b a bytes (number-written 4 p.current fits.current) (grind arith)
+    ⨾ plain-here _ _ _ _ _ _ b a bytes (byte-written p.phase) (grind arith)
+    ⨾ plain-here _ _ _ _ _ _ b a bytes (number-written 8 p.deadline fits.deadline) (grind arith) ⨾ tt
 
-timer-valid : (b : BoardParts) (a : Apic) → AllHold apic_timer b a → IsApicTimer a.first
-unfolding apic_timer plain
-timer-valid b a h = record {
-  bits = grind arith;
-  mode = grind arith;
-  divide = grind arith;
-  initial = λ e. grind arith;
-  current = grind arith;
-  reload = λ e e'. grind arith;
-  phase = grind arith;
-  stopped = λ e. grind arith;
-  deadline = λ other. grind arith;
-}
+timer-valid : (b : BoardParts) (k : ℕ) (a : Apic) (place : ℕ) (bytes : List ℕ) → fault_in (apic k) b a place bytes ≡ None
+    → IsApicTimer a.first × TicksHold b a.second
+timer-valid b k a place bytes none =
+    let h = rows-valid bytes place _ (sym (apic-rows k b a place bytes) ∙ none) in (
+      record {
+        bits = grind arith;
+        mode = grind arith;
+        divide = grind arith;
+        initial = λ e. grind arith;
+        current = grind arith;
+        reload = λ e e'. grind arith;
+        phase = grind arith;
+        stopped = λ e. grind arith;
+        deadline = λ other. grind arith;
+      },
+      ticks-hold b a.second h.1.1.1.1.1.1.1.0 h.1.1.1.1.1.1.1.1.1.0 h.1.1.1.1.1.1.1.1.1.1.0,
+    )
 
 -- how many timers a board has
 abbrev count : BoardParts → ℕ
@@ -117,16 +126,16 @@ apics-read n place bytes b few timers lines =
     }
 
 -- a board whose conditions hold has valid timers
-module _ (b : BoardParts) (is : AreRead (apics_of b.format b.cpus) b) (h : AllHold (apics (apics_of b.format b.cpus)) b b) where
+module _ (b : BoardParts) (is : AreRead (apics_of b.format b.cpus) b) (start : ℕ) (bytes : List ℕ)
+    (none-of : fault_in (apics (apics_of b.format b.cpus)) b b start bytes ≡ None) where
   read-at : (k : ℕ) → get_or (apic_pairs b) k no_apic ≡ record { first = timer_at k (apics_in b); second = line_at k (apics_in b) }
   read-at k = pairs-at no_timer no_line b.apic b.apic_ticks k (is.timers ∙ sym is.lines)
 
   there : (k : ℕ) → k < count b → IsApicTimer (get_or (apic_pairs b) k no_apic).first × TicksHold b (get_or (apic_pairs b) k no_apic).second
-  unfolding apics apic_line blocks
+  unfolding apics
   there k less =
-      let a : Apic = get_or (apic_pairs b) k no_apic in
-      let each = all_hold-split apic_timer apic_line b a (hold-each apic no_apic b (apic_pairs b) 0 (count b) h.0 k (omega arith) (omega (arith, less))) in
-      (timer-valid b a each.0, ticks-hold b a (λ (x : Apic). x.second) with_ticks any each.1)
+      let one = blocks-none (count b) 64 apic no_apic _ _ b b start bytes none-of k less in
+      timer-valid b k (get_or (apic_pairs b) k no_apic) one.0 bytes one.1
 
   empty : (k : ℕ) → count b ≤ k → IsPlaceOf (ltb k (count b)) no_timer no_line
   empty k more = record { timer = none; line = record { sum = refl; policy = refl }; policy = refl; no_timer = λ _. refl; no_line = λ _. refl }

@@ -1,5 +1,5 @@
 -- The rows that code walks: the first fault of a block is that of its rows, and of the rest of them at each step.
-use Rattle.save_state.proofs.Names.{or_else, fault_in, one_fault, Row, StateFault, Short, Fields, faults_of, row_fault, ◌≡◌, ℕ, ◌+◌, Bool, true, false, cond}
+use Rattle.save_state.proofs.Names.{or_else, fault_in, one_fault, Row, StateFault, Short, Fields, fault_at, row_fault, ◌≡◌, ℕ, ◌+◌, Bool, true, false, cond}
 use Rattle.save_state.proofs.Names.{ltb, List, [], ◌∷◌, length, Option, Some, None, refl, sym, ◌∙◌, BoardParts, Field, apic, scale_for, reference, field}
 use Rattle.save_state.proofs.Names.{processor_rows, ◌⨾◌, row_spelled-each, up_allowed, tsc, page, processor, wall, rises, Message, message, version_valid}
 use Rattle.save_state.proofs.Names.{published_valid, apic_timer, apic_line, magic, khz_valid, host_valid, head, host, guest, policies, front, clock, registers}
@@ -14,7 +14,7 @@ use Rattle.save_state.proofs.Names.{drop_all, ◌<◌, ◌≤◌, drop, get_or, 
 -- a row of a field
 pub record IsRow {P : Type 0} (f : Field StateFault BoardParts P) (b : BoardParts) (p : P) (place : ℕ) (bytes : List ℕ) (r : Row) : Type 0 where
   pub size : f.size ≡ r.size
-  pub fault : f.fault b p place bytes ≡ one_fault (faults_of r.kind) r.size r.valid place bytes
+  pub fault : f.fault b p place bytes ≡ one_fault (fault_at Short) (fault_at r.kind) r.size r.valid place bytes
 
 -- the rows of a list; a field that has none has no fault
 abbrev pub AreRows : {P : Type 0} → Fields P → BoardParts → P → ℕ → List ℕ → List Row → Type 0
@@ -48,7 +48,7 @@ rows-are fs b p place bytes rows all = sym (walked fs b p place bytes rows all)
 
 -- a row that is its field as it is
 is : {P : Type 0} {f : Field StateFault BoardParts P} {b : BoardParts} {p : P} {place : ℕ} {bytes : List ℕ} {r : Row} → f.size ≡ r.size
-    → f.fault b p place bytes ≡ one_fault (faults_of r.kind) r.size r.valid place bytes → IsRow f b p place bytes r
+    → f.fault b p place bytes ≡ one_fault (fault_at Short) (fault_at r.kind) r.size r.valid place bytes → IsRow f b p place bytes r
 is e e' = record { size = e; fault = e' }
 
 pub counter-rows : (k : ℕ) (b : BoardParts) (c : CounterParts) (p : ℕ) (bytes : List ℕ)
@@ -91,7 +91,7 @@ pub clock-rows : (b : BoardParts) (bytes : List ℕ)
 unfolding clock plain rows
 clock-rows b bytes =
     rows-are clock b b 121 bytes _ (is refl (grind arith) ⨾ is refl refl
-    ⨾ is refl (ap (λ (s : Bool). one_fault (faults_of Invalid) 128 (s && bytes_valid b.rtc) 123 bytes) (row_spelled-each byte bytes (λ place. refl) 128 123))
+    ⨾ is refl (ap (λ (s : Bool). one_fault (fault_at Short) (fault_at Invalid) 128 (s && bytes_valid b.rtc) 123 bytes) (row_spelled-each byte bytes (λ place. refl) 128 123))
     ⨾ is refl refl ⨾ is refl refl ⨾ tt)
 
 pub registers-rows : (b : BoardParts) (bytes : List ℕ)
@@ -118,7 +118,7 @@ unfolding rises rows plain
 rises-rows counts b p bytes =
     let all = legacy_rises_valid b && (has_messages b.format || routed_rises_valid b) in
     rows-are (rises counts) b b p bytes _
-    (is refl (ap (λ (s : Bool). one_fault (faults_of Invalid) (8 * counts) (s && all) p bytes) (row_spelled-each (number 8) bytes (λ place. refl) counts p))
+    (is refl (ap (λ (s : Bool). one_fault (fault_at Short) (fault_at Invalid) (8 * counts) (s && all) p bytes) (row_spelled-each (number 8) bytes (λ place. refl) counts p))
     ⨾ tt)
 
 pub message-rows : (k : ℕ) (b : BoardParts) (m : Message) (p : ℕ) (bytes : List ℕ)
@@ -156,6 +156,24 @@ pub ruleset block_rows = (
   apic-rows,
   reference-rows,
 )
+
+-- where rows have no fault, the condition of each holds
+abbrev pub AllValid : List Row → Type 0
+AllValid [] = Unit {0}
+AllValid (r ∷ rows) = (r.valid ≡ true) × AllValid rows
+
+passed : (short valid : Bool) (before at : StateFault) (rest : Option StateFault) → cond short (Some before) (cond valid rest (Some at)) ≡ None
+    → (valid ≡ true) × (rest ≡ None)
+passed true valid before at rest e = cc
+passed false true before at rest e = (refl, e)
+passed false false before at rest e = cc
+
+pub rows-valid : (bytes : List ℕ) (place : ℕ) (rows : List Row) → row_fault bytes place rows ≡ None → AllValid rows
+unfolding row_fault
+rows-valid bytes place [] none = tt
+rows-valid bytes place (r ∷ rows) none =
+    let is = passed (ltb (length bytes) (place + r.size)) r.valid _ _ (row_fault bytes (place + r.size) rows) none in
+    (is.0, rows-valid bytes (place + r.size) rows is.1)
 
 abbrev none : Row
 none = record { size = 0; valid = false; kind = Short }

@@ -1,7 +1,7 @@
 -- The laws of blocks: the fields of each cover it, what is read is written as its bytes are, and what is written of a valid one is read as it was.
-use Rattle.save_state.proofs.Names.{ticks_of, line_ticks, line_policy, CounterFits, TimerFits, LineFits, elsewhere-here, policy, policy_place, counter, timer}
+use Rattle.save_state.proofs.Names.{ticks_of, elsewhere, Fields, CounterFits, TimerFits, LineFits, elsewhere-here, policy, policy_place, counter, timer}
 use Rattle.save_state.proofs.Names.{line, up_allowed, number-written, byte-written, signed_byte-written, flag-written, flags-written, both-written}
-use Rattle.save_state.proofs.Names.{choice-written, plain-here, policy_byte, policy_of, BoardParts, now_of, byte_at, plain, ◌⨾◌, AllHere, AllHold}
+use Rattle.save_state.proofs.Names.{choice-written, plain-here, policy_byte, policy_of, BoardParts, now_of, byte_at, plain, ◌⨾◌, AllHere}
 use Rattle.save_state.proofs.Names.{all_here-append, IsWritten, CounterParts, IsCounter, TimerParts, IsTimer, Policy, Discard, Delay, Slew, TickParts}
 use Rattle.save_state.proofs.Names.{IsTickLine, queue_valid, lost_valid, ◌≡◌, ℕ, ◌+◌, ◌≤◌, Bool, true, leb, ◌||◌, List, refl, arith, le-leb, leb-true, and_from}
 use Rattle.save_state.proofs.Names.{number-below, version_valid, tsc, page, processor, ProcessorFits, IsProcessor, page_flags_valid, no_processor, number, read}
@@ -11,7 +11,8 @@ use Rattle.save_state.proofs.Names.{message_pairs, messages, BoardFits, blocks-h
 use Rattle.save_state.proofs.Names.{lt-leb, message_bit_at, message_word_at, MESSAGE_FORMAT, IsBoard, read_below, ◌-◌, ◌^◌, not, ◌++◌, length, replicate}
 use Rattle.save_state.proofs.Names.{messages_few, ReferenceFits, scale_for, reference, references, references_of, fault_in, write_below, fault_below, blocks}
 use Rattle.save_state.proofs.Names.{or_else-end, eqb-true, cases_lt, append-nil, HvParts, HV_FORMAT, IsHv, no_hv, write, or_else, zero, suc, [], ◌∷◌, None, inl}
-use Rattle.save_state.proofs.Names.{inr, references-none, references-one, references_few, version-is, some-or}
+use Rattle.save_state.proofs.Names.{inr, references-none, references-one, references_few, version-is, some-or, processor_rows}
+use Rattle.save_state.proofs.BlockRows.{rows-valid, processor-rows, reference-rows}
 
 -- by these a search finds that the fields of a list are here, from their ranges and conditions
 pub ruleset writes = (plain-here, number-written, byte-written, signed_byte-written, flag-written, flags-written, both-written, and_from)
@@ -32,9 +33,9 @@ counter-here b k c bytes is gate fits = search writes
 pub timer-here : (b : BoardParts) (k : ℕ) (t : TimerParts) (bytes : List ℕ) → IsTimer t → TimerFits t → AllHere (timer k) b t bytes
 unfolding timer
 timer-here b k t bytes is fits =
-    plain-here _ _ _ _ _ b t bytes (number-written 2 t.config fits.config) (grind arith)
-    ⨾ plain-here _ _ _ _ _ b t bytes (number-written 8 t.comparator fits.comparator) (grind arith)
-    ⨾ plain-here _ _ _ _ _ b t bytes (number-written 8 t.period fits.period) (grind arith) ⨾ tt
+    plain-here _ _ _ _ _ _ b t bytes (number-written 2 t.config fits.config) (grind arith)
+    ⨾ plain-here _ _ _ _ _ _ b t bytes (number-written 8 t.comparator fits.comparator) (grind arith)
+    ⨾ plain-here _ _ _ _ _ _ b t bytes (number-written 8 t.period fits.period) (grind arith) ⨾ tt
 
 -- a tick line
 pub ticks-here : {T : Type 0} (b : BoardParts) (t : T) (bytes : List ℕ) (of : T → TickParts) (with_line : TickParts → T → T) (up : BoardParts → T → Bool)
@@ -51,6 +52,13 @@ ticks-here b t bytes of with_line up is up_is due fits =
     sums : (l : TickParts) → IsTickLine l → lost_valid l ≡ true
     sums l is = grind arith
 
+-- tick line k: its ticks, and its policy
+abbrev pub line_ticks : ℕ → Fields TickParts
+line_ticks k = ticks_of (λ l. l) (λ x l. x) (λ b l. up_allowed b k l.up)
+
+abbrev pub line_policy : ℕ → Fields TickParts
+line_policy k = elsewhere (policy_place k) policy (λ l. l.policy) (λ x l. record l { policy = x }) ∷ []
+
 pub line-here : (b : BoardParts) (k : ℕ) (l : TickParts) (bytes : List ℕ) → IsTickLine l → up_allowed b k l.up ≡ true → l.counts.due ≤ now_of b + b.accesses
     → LineFits l → policy_of (byte_at (policy_place k) bytes) ≡ l.policy → AllHere (line k) b l bytes
 unfolding line
@@ -63,10 +71,9 @@ pub record TicksHold (b : BoardParts) (l : TickParts) : Type 0 where
   pub due : l.counts.due ≤ now_of b + b.accesses
   pub valid : IsTickLine l
 
-pub ticks-hold : {T : Type 0} (b : BoardParts) (t : T) (of : T → TickParts) (with_line : TickParts → T → T) (up : BoardParts → T → Bool)
-    → AllHold (ticks_of of with_line up) b t → TicksHold b (of t)
-unfolding plain
-ticks-hold b t of with_line up h = record { due = leb-true (of t).counts.due _ h.1.0; valid = sums (of t) h.1.1.1.0 h.1.1.1.1.0 }
+pub ticks-hold : (b : BoardParts) (l : TickParts) → leb l.counts.due (now_of b + b.accesses) ≡ true → queue_valid l ≡ true → lost_valid l ≡ true
+    → TicksHold b l
+ticks-hold b l due queue lost = record { due = leb-true l.counts.due _ due; valid = sums l queue lost }
   where
     sums : (l : TickParts) → queue_valid l ≡ true → lost_valid l ≡ true → IsTickLine l
     sums l queue lost = grind arith
@@ -130,10 +137,12 @@ shift-signed : (hz : ℕ) → cast_signed w8 (cast_unsigned w8 (shift_for hz)) �
 unfolding shift_for
 shift-signed hz = signed-shift _ _ _ _ _ _ _
 
-pub processor-valid : (b : BoardParts) (k : ℕ) (p : ProcessorParts) → IsPage p → AllHold (processor k) b p → IsProcessor b.guest_khz p
-unfolding tsc page plain
-processor-valid b k p is h =
+pub processor-valid : (b : BoardParts) (k : ℕ) (p : ProcessorParts) → IsPage p → (place : ℕ) (bytes : List ℕ)
+    → fault_in (processor k) b p place bytes ≡ None → IsProcessor b.guest_khz p
+unfolding processor_rows
+processor-valid b k p is place bytes none =
     let hz : ℕ = b.guest_khz * 1000 in
+    let h = rows-valid bytes place _ (sym (processor-rows k b p place bytes) ∙ none) in
     let zero_byte : p.version ≡ 0 → cast_unsigned w8 p.shift ≡ 0 = λ e. grind arith in
     let byte : 0 < p.version → cast_unsigned w8 p.shift ≡ cast_unsigned w8 (shift_for hz) = λ some. grind arith in
     record {
@@ -162,8 +171,8 @@ processor-valid b k p is h =
 message-here : (b : BoardParts) (k : ℕ) (m : Message) (bytes : List ℕ) → m.second < 256 ^ 8 → routed_rises_valid b ≡ true → AllHere (message k) b m bytes
 unfolding message
 message-here b k m bytes fits valid =
-    plain-here _ _ _ _ _ b m bytes (flag-written m.first) (or_right (not (eqb k 7)) (routed_rises_valid b) valid)
-    ⨾ plain-here _ _ _ _ _ b m bytes (number-written 8 m.second fits) refl ⨾ tt
+    plain-here _ _ _ _ _ _ b m bytes (flag-written m.first) (or_right (not (eqb k 7)) (routed_rises_valid b) valid)
+    ⨾ plain-here _ _ _ _ _ _ b m bytes (number-written 8 m.second fits) refl ⨾ tt
 
 -- the places of a valid board, whose counts of rises are valid
 module _ (b : BoardParts) (is : IsBoard b) (fits : BoardFits b) (valid : routed_rises_valid b ≡ true) where
@@ -273,11 +282,11 @@ reference-version zero place bytes small = omega arith
 reference-version (suc n) place bytes small = number-below bytes small (place + 8)
 
 -- a page whose conditions hold is valid
-pub reference-valid : (b : BoardParts) → 1 ≤ b.cpus → b.hv.version < 4294967296 → HV_FORMAT ≤ b.format → AllHold (reference 0) b b.hv
-    → IsHv b.format b.guest_khz b.cpus b.hv
-unfolding reference plain
-reference-valid b some small there h =
+pub reference-valid : (b : BoardParts) → 1 ≤ b.cpus → b.hv.version < 4294967296 → HV_FORMAT ≤ b.format → (place : ℕ) (bytes : List ℕ)
+    → fault_in (reference 0) b b.hv place bytes ≡ None → IsHv b.format b.guest_khz b.cpus b.hv
+reference-valid b some small there place bytes none =
     let p : HvParts = b.hv in
+    let h = rows-valid bytes place _ (sym (reference-rows b p place bytes) ∙ none) in
     let scale : p.scale ≡ scale_for b.guest_khz p.number = eqb-true p.scale _ h.1.1.1.0 in
     let number : p.version ≡ 0 → p.number ≡ 0 = λ e. grind arith in
     let cpu : p.version ≡ 0 → p.cpu ≡ 0 = λ e. grind arith in

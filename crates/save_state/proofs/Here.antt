@@ -2,7 +2,7 @@
 use Rattle.save_state.proofs.Names.{apic, no_apic, reference, message, no_message, front, devices, back, fields_of, AllSpelled, IsCode, choice-code, AreBlocks}
 use Rattle.save_state.proofs.Names.{blocks-spelled, spells, policy, counter, no_counter, timer, line, processor, ℕ, zero, suc, ◌<◌, ◌≡◌, refl, arith, no_timer}
 use Rattle.save_state.proofs.Names.{policy_byte, policy_of, no_line, no_hv, no_processor, plain, elsewhere, lists, block_lists, page, references, references_of}
-use Rattle.save_state.proofs.Names.{messages, messages_of, BoardFits, IsPit, here-joined, tsc, clock, registers, timers, same, up_allowed, lines, counts_of}
+use Rattle.save_state.proofs.Names.{messages, messages_of, BoardFits, IsPit, here-joined, tsc, clock, registers, timers, beq, up_allowed, lines, counts_of}
 use Rattle.save_state.proofs.Names.{rises, wall, processors, apics, rise_valid, routed_rises_valid, magic, khz_valid, policy_place, head, host, guest, policies}
 use Rattle.save_state.proofs.Names.{counters, number-written, word-written, byte-written, flag-written, all-written, plain-here, rows-written, blocks-here}
 use Rattle.save_state.proofs.Names.{drop-blank, devices_in, processor_at, byte_at, number, byte, write, ◌⨾◌, AllHere, next-write, timers_of, has_messages}
@@ -39,18 +39,6 @@ block-laws = (
 ruleset laws = (spells, policy-code, blocks-spelled)
 
 -- the fields of a board
-pub front-spelled : AllSpelled front
-unfolding lists
-front-spelled = let blocks = block-laws in search laws
-
-pub devices-spelled : (format : ℕ) → AllSpelled (devices format)
-unfolding lists
-devices-spelled format = let blocks = block-laws in search laws
-
-pub back-spelled : (format cpus : ℕ) → AllSpelled (back format cpus)
-unfolding lists
-back-spelled format cpus = let blocks = block-laws in search laws
-
 pub fields-spelled : (format cpus : ℕ) → AllSpelled (fields_of format cpus)
 unfolding lists
 fields-spelled format cpus = let blocks = block-laws in search laws
@@ -105,13 +93,13 @@ clock-here : (b : BoardParts) (bytes : List ℕ) → IsBoard b → BoardFits b �
 unfolding clock
 clock-here b bytes is fits =
     let r = is.devices.rtc in
-    plain-here _ _ _ _ _ b b bytes (flag-written b.pit.speaker) refl
-    ⨾ plain-here _ _ _ _ _ b b bytes (byte-written b.rtc.index) (le-leb b.rtc.index 0x7f r.index)
-    ⨾ plain-here _ _ _ _ _ b b bytes (rows-written 128 128 byte 0 b.rtc.bytes
+    plain-here _ _ _ _ _ _ b b bytes (flag-written b.pit.speaker) refl
+    ⨾ plain-here _ _ _ _ _ _ b b bytes (byte-written b.rtc.index) (le-leb b.rtc.index 0x7f r.index)
+    ⨾ plain-here _ _ _ _ _ _ b b bytes (rows-written 128 128 byte 0 b.rtc.bytes
     (all-written byte 0 128 b.rtc.bytes (omega (arith, r.places)) (λ k less. byte-written _)) (drop_all 128 b.rtc.bytes (omega (arith, r.places))))
     (bytes_valid-is b.rtc r)
-    ⨾ plain-here _ _ _ _ _ b b bytes (number-written 2 b.rtc.d fits.numbers.divider) (divider_valid-is b.rtc r)
-    ⨾ plain-here _ _ _ _ _ b b bytes (flag-written b.rtc.cycle) (cycle_valid-is b.rtc r) ⨾ tt
+    ⨾ plain-here _ _ _ _ _ _ b b bytes (number-written 2 b.rtc.d fits.numbers.divider) (divider_valid-is b.rtc r)
+    ⨾ plain-here _ _ _ _ _ _ b b bytes (flag-written b.rtc.cycle) (cycle_valid-is b.rtc r) ⨾ tt
   where
     bytes_valid-is : (r : RtcParts) → IsRtc r → bytes_valid r ≡ true
     bytes_valid-is r is = grind arith
@@ -154,14 +142,14 @@ timers-here b bytes is fits =
     (drop-blank no_timer n 8 b.hpet.timer fits.numbers.timers (timers_few b.format) (timer-absent b is)) ⨾ tt
 
 -- the tick lines
-same-refl : (b : Bool) → same b b ≡ true
-same-refl false = refl
-same-refl true = refl
+beq-refl : (b : Bool) → beq b b ≡ true
+beq-refl false = refl
+beq-refl true = refl
 
 up_allowed-is : (b : BoardParts) → IsBoard b → (k : ℕ) → up_allowed b k (line_at k (devices_in b)).up ≡ true
 up_allowed-is b is zero = refl
 up_allowed-is b is (suc zero) =
-    ap (λ (up : Bool). same up (counts_rtc (devices_in b) && pf_of b.rtc)) is.devices.joined.flag ∙ same-refl (counts_rtc (devices_in b) && pf_of b.rtc)
+    ap (λ (up : Bool). beq up (counts_rtc (devices_in b) && pf_of b.rtc)) is.devices.joined.flag ∙ beq-refl (counts_rtc (devices_in b) && pf_of b.rtc)
 up_allowed-is b is (suc (suc k)) =
     cond-false (eqb (suc (suc k)) 1) _ true (ne_eqb (suc (suc k)) 1 (λ (e : suc (suc k) ≡ 1). omega arith))
 
@@ -233,7 +221,7 @@ unfolding rises
 rises-here b bytes is fits =
     let n : ℕ = counts_of b.format in
     let ok : (k : ℕ) → k < 6 → rise_valid b k ≡ true = rise_valid-is b is in
-    plain-here _ _ _ _ _ b b bytes (rows-written n 6 (number 8) 0 b.rises
+    plain-here _ _ _ _ _ _ b b bytes (rows-written n 6 (number 8) 0 b.rises
     (all-written (number 8) 0 n b.rises (omega (arith, counts_few b.format, fits.back.rises.places)) (λ k less. number-written 8 _ (fits.back.rises.each k)))
     (drop-blank 0 n 6 b.rises fits.back.rises.places (counts_few b.format) (λ j le less. is.joined.rises.none (first b.format j le less) j)))
     (and_from _ _ (and_from _ _ (ok 0 (omega arith)) (ok 1 (omega arith))) (or_right (has_messages b.format) (routed_rises_valid b) (routed_valid-is b is)))

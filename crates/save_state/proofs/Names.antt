@@ -2,6 +2,7 @@
 pub use Rattle.std.proofs.Common.{◌≡◌, ℕ, ◌+◌, ◌-◌, ◌<◌, ◌≤◌, ltb, List, ◌++◌, length, map, get_or, replicate, inl, inr, refl, ap, sym, subst, ◌∙◌, arith, ℤ}
 pub use Rattle.std.proofs.Common.{pos, negsuc, ◌*◌, ◌%◌, Bool, true, false, cond, ◌&&◌, eqb, ◌||◌, [], ◌∷◌, Option, None, Some, leb, ◌^◌, drop, zero, suc, not}
 pub use Rattle.std.proofs.lemmas.Bool.{le-ltb, ltb-false, cases_lt, lt-ltb, eq-eqb, le-leb, leb-true, eqb-true, and_from, and_parts, cond-true, or_right}
+pub use mathlib.Core.Bool.{beq}
 pub use Rattle.std.proofs.lemmas.Bool.{lt-leb, cond-false, ne_eqb, or_cases, ltb-true, false≢true}
 pub use Rattle.std.proofs.lemmas.List.{length-map, append-nil, take_all, drop_all, get_or-drop, drop_more, append_assoc}
 pub use Rattle.pit_counter.specs.Parts.{IsCounter, read_order_valid, latched_count_valid, latched_status_valid}
@@ -18,19 +19,19 @@ pub use Rattle.byte_table.specs.Codes.{pairs, number, byte_at, Two, byte, flag_v
 pub use Rattle.byte_table.specs.Fold.{moved, read_below, size_of, or_else, fault_in, write, write_below, Field, fault_below, read}
 pub use Rattle.byte_table.proofs.CodeLaws.{number-written, byte-written, signed_byte-written, IsWritten, flag-written, flags-written, both-written, rows-written}
 pub use Rattle.byte_table.proofs.CodeLaws.{choice-written, number_at-is, length-number, row_spelled-each, IsCode, choice-code, word-written, all-written}
-pub use Rattle.byte_table.proofs.FoldLaws.{◌⨾◌, AllHere, AllHold, all_here-append, all_hold-split, AreBytes, hold, rewritten, or_else-none, or_else-both}
-pub use Rattle.byte_table.proofs.FoldLaws.{or_else-end, size_of-append, fault-next, fault-joined, next, AllKeep, length-write, read-write, fault-write}
-pub use Rattle.byte_table.proofs.FoldLaws.{rewrite_in-keep, AllSpelled, next-write, here-joined, EachHolds, hold-joined, written-then, write_append}
-pub use Rattle.byte_table.proofs.KindLaws.{plain-here, blocks-here, hold-each, elsewhere-here, AreBlocks, blocks-spelled, spells}
+pub use Rattle.byte_table.proofs.FoldLaws.{◌⨾◌, AllHere, all_here-append, AreBytes, rewritten, or_else-none, or_else-both}
+pub use Rattle.byte_table.proofs.FoldLaws.{or_else-end, fault-next, fault-joined, next, AllKeep, length-write, read-write, fault-write}
+pub use Rattle.byte_table.proofs.FoldLaws.{rewrite_in-keep, AllSpelled, next-write, here-joined, written-then, write_append}
+pub use Rattle.byte_table.proofs.KindLaws.{plain-here, blocks-here, blocks-none, elsewhere-here, AreBlocks, blocks-spelled, spells}
 pub use Rattle.byte_table.proofs.Loops.{faults-some, drop-blank, read_below-at, read_below-after, length-read_below, row_value-after, length-row_value}
 pub use Rattle.byte_table.proofs.Loops.{FaultsFrom, faults-none, IsFilled, filled-none, filled-more, row-filled, read-filled, AreWritten, written-one, row-more}
 pub use Rattle.byte_table.proofs.Pairs.{pairs-at, length-pairs, pairs-halves, firsts-pairs, seconds-pairs, part-filled}
 pub use Rattle.save_state.proofs.Formats.{apics_few, processors_few, timers_least, references_few, timers_few, messages_few, references-none, references-one}
 pub use Rattle.save_state.proofs.Formats.{counts_few, apic-size, timer-size, line-size, processor-size, message-size, counter-size, published-is, version-is}
 pub use Rattle.save_state.proofs.Formats.{some-or, all-six, levels-at}
-pub use Rattle.save_state.specs.Fields.{any, Apic, with_ticks, apic, no_apic, apic_pairs, version_valid, processor, published_valid, Fields, front, counts_of}
-pub use Rattle.save_state.specs.Fields.{references_of, messages_of, devices, back, fields_of, policy, policy_place, up_allowed, ticks_of, line_ticks}
-pub use Rattle.save_state.specs.Fields.{line_policy, no_message, magic, faults_of, Message, khz_valid, host_valid, scale_for, no_counter, message_pairs, same}
+pub use Rattle.save_state.specs.Fields.{any, Apic, apic, no_apic, apic_pairs, version_valid, processor, published_valid, Fields, front, counts_of}
+pub use Rattle.save_state.specs.Fields.{references_of, messages_of, devices, back, fields_of, policy, policy_place, up_allowed, ticks_of}
+pub use Rattle.save_state.specs.Fields.{no_message, magic, fault_at, Message, khz_valid, host_valid, scale_for, no_counter, message_pairs}
 pub use Rattle.save_state.specs.Rises.{legacy_rises_valid, routed_rises_valid, rise_valid}
 pub use Rattle.save_state.specs.declared.fault.StateKind.TheVariants.{Trailing, Short, Magic, Version, Field as Invalid}
 pub use Rattle.save_state.specs.private.Fits.{ApicTimerFits, ApicsFit, ProcessorFits, CounterFits, TimerFits, LineFits, BoardFits, ReferenceFits, ApicFits}

@@ -1,9 +1,9 @@
 -- A board that is read, whose conditions all hold, is valid; the first fault of bytes is that of the head, of the devices, or of the rest.
 use Rattle.save_state.proofs.Names.{LAST_FORMAT, messages, messages_of, devices, back, rises, wall, processor, processors, apics, reference, references}
-use Rattle.save_state.proofs.Names.{references_of, message, no_message, message_pairs, no_counter, counters, clock, registers, timer, timers, same, up_allowed}
-use Rattle.save_state.proofs.Names.{line_ticks, line_policy, line, lines, counts_of, hold-joined, hold-each, rise_valid, legacy_rises_valid, routed_rises_valid}
+use Rattle.save_state.proofs.Names.{references_of, message, no_message, message_pairs, no_counter, counters, clock, registers, timer, timers, beq, up_allowed}
+use Rattle.save_state.proofs.Names.{line, lines, counts_of, rise_valid, legacy_rises_valid, routed_rises_valid}
 use Rattle.save_state.proofs.Names.{head, host, guest, policies, front, counter, AreProcessors, AreRises, IsHv, IsBoard, IsProcessor-none, IsHv-none, plain}
-use Rattle.save_state.proofs.Names.{rows, blocks, AllHold, all_hold-split, EachHolds, AreDevices, one_if, devices_in, now_of, no_processor, processor_at}
+use Rattle.save_state.proofs.Names.{blocks, AreDevices, one_if, devices_in, now_of, no_processor, processor_at}
 use Rattle.save_state.proofs.Names.{apics_of, no_hv, IsWall, IsProcessor, timers_of, has_messages, levels, counts_rtc, no_line, line_at, IsTimerLine, timer_at}
 use Rattle.save_state.proofs.Names.{Policy, TickParts, IsTickLine, BoardParts, HvParts, ProcessorParts, HV_FORMAT, IsTimer, IsHpet, IsPlace, no_timer}
 use Rattle.save_state.proofs.Names.{register_d, pf_of, af_of, uf_of, flags_byte, divider_of, IsRtc, bytes_valid, divider_valid, cycle_valid, TimerParts}
@@ -11,31 +11,37 @@ use Rattle.save_state.proofs.Names.{cond-true, CounterParts, IsCounter, IsPit, I
 use Rattle.save_state.proofs.Names.{arith, and_parts, or_cases, leb-true, ltb-true, ltb-false, lt-ltb, le-ltb, cases_lt, ◌≡◌, ℕ, suc, ◌+◌, ◌<◌, ◌≤◌, Bool, true}
 use Rattle.save_state.proofs.Names.{false, ◌&&◌, ◌||◌, leb, ltb, [], ◌∷◌, length, get_or, ◌⊎◌, IsHead, lists, timers_least, references-one, all-six, levels-at}
 use Rattle.save_state.proofs.Names.{end_place, devices_fault, rest_fault, line_place, rises_place, wall_place, processor_place, apic_place, reference_place}
-use Rattle.save_state.proofs.Names.{message_place, fields_of, format_in, cpus_in, board_in, trailing, fault_of, or_else-both, or_else-end, size_of-append}
-use Rattle.save_state.proofs.Names.{fault-next, fault-joined, StateFault, Fields, size_of, or_else, fault_in, AreBytes, hold, rewritten, or_else-none, ◌++◌}
+use Rattle.save_state.proofs.Names.{message_place, fields_of, format_in, cpus_in, board_in, trailing, fault_of, or_else-both, or_else-end}
+use Rattle.save_state.proofs.Names.{fault-next, fault-joined, StateFault, Fields, size_of, or_else, fault_in, AreBytes, or_else-none, ◌++◌}
+use Rattle.save_state.proofs.Names.{blocks-none, flag_valid}
+use Rattle.save_state.proofs.BlockRows.{rows-valid, head-rows, counter-rows, clock-rows, timer-rows, registers-rows, line-rows, wall-rows, rises-rows, message-rows}
 use Rattle.save_state.proofs.Blocks.{TicksHold, ticks-hold, processor-valid, reference-valid}
-use Rattle.save_state.proofs.{ApicLaws.apics-valid, RoundTrip.IsRead, RoundTrip.board-read, Here.front-spelled, Here.devices-spelled, Here.back-spelled}
+use Rattle.save_state.proofs.{ApicLaws.apics-valid, RoundTrip.IsRead, RoundTrip.board-read}
 use Rattle.save_state.proofs.{RoundTrip.bytes_of-board_in, Names.List, Names.Option, Names.None, Names.Some, Names.layout}
 
 -- the fields before the 8254
-pub head-valid : (b : BoardParts) → AllHold front b b → IsHead b
-unfolding head host guest policies plain
-head-valid b h = grind arith
+pub head-valid : (b : BoardParts) (bytes : List ℕ) → fault_in front b b 0 bytes ≡ None → IsHead b
+head-valid b bytes none = let h = rows-valid bytes 0 _ (sym (head-rows b bytes) ∙ none) in grind arith
 
 -- the counters, with GATE as it is wired
-counter-valid : (b : BoardParts) (k : ℕ) (c : CounterParts) → AllHold (counter k) b c → IsCounter c × ((c.gate || leb 2 k) ≡ true)
-unfolding counter plain
-counter-valid b k c h = grind arith
+counter-valid : (b : BoardParts) (k : ℕ) (c : CounterParts) (place : ℕ) (bytes : List ℕ) → fault_in (counter k) b c place bytes ≡ None
+    → IsCounter c × ((c.gate || leb 2 k) ≡ true)
+counter-valid b k c place bytes none = let h = rows-valid bytes place _ (sym (counter-rows k b c place bytes) ∙ none) in grind arith
 
 high : (gate : Bool) → (gate || false) ≡ true → gate ≡ true
 high true e = refl
 high false e = e
 
-pit-valid : (b : BoardParts) → length b.pit.counters ≡ 3 → AllHold counters b b → IsPit b.pit
-unfolding counters blocks
-pit-valid b three h =
-    let each = λ (k : ℕ) (less : k < 3). counter-valid b k (get_or b.pit.counters k no_counter)
-    (hold-each counter no_counter b b.pit.counters 0 3 h.0 k (omega arith) (omega arith)) in
+each_counter : (b : BoardParts) (bytes : List ℕ) → fault_in counters b b 79 bytes ≡ None → (k : ℕ) → k < 3
+    → IsCounter (get_or b.pit.counters k no_counter) × (((get_or b.pit.counters k no_counter).gate || leb 2 k) ≡ true)
+unfolding counters
+each_counter b bytes none k less =
+    let one = blocks-none 3 3 counter no_counter _ _ b b 79 bytes none k less in
+    counter-valid b k (get_or b.pit.counters k no_counter) one.0 bytes one.1
+
+pit-valid : (b : BoardParts) → length b.pit.counters ≡ 3 → (bytes : List ℕ) → fault_in counters b b 79 bytes ≡ None → IsPit b.pit
+pit-valid b three bytes none =
+    let each = each_counter b bytes none in
     record {
       three = three;
       first = (each 0 (omega arith)).0;
@@ -53,10 +59,10 @@ bytes-valid : (r : RtcParts) → bytes_valid r ≡ true
     → (register_a r ≤ 0x7f) × (register_c r ≡ flags_byte (pf_of r) (af_of r) (uf_of r)) × (register_d r ≡ 0x80)
 bytes-valid r e = (grind arith, grind arith, grind arith)
 
-clock-valid : (b : BoardParts) → length b.rtc.bytes ≡ 128 → AllHold clock b b → IsRtc b.rtc
-unfolding clock plain rows
-clock-valid b long h =
+clock-valid : (b : BoardParts) → length b.rtc.bytes ≡ 128 → (bytes : List ℕ) → fault_in clock b b 121 bytes ≡ None → IsRtc b.rtc
+clock-valid b long xs none =
     let r : RtcParts = b.rtc in
+    let h = rows-valid xs 121 _ (sym (clock-rows b xs) ∙ none) in
     let bytes = bytes-valid r h.1.1.0 in
     record {
       places = long;
@@ -64,13 +70,12 @@ clock-valid b long h =
       register_a = bytes.0;
       register_c = bytes.1;
       register_d = bytes.2;
-      divider = divider-valid r h.1.1.1.0 h.1.1.1.1.0;
+      divider = divider-valid r h.1.1.1.0 (and_parts (flag_valid 253 xs) (cycle_valid r) h.1.1.1.1.0).1;
     }
 
 -- the HPET
-timer-valid : (b : BoardParts) (k : ℕ) (t : TimerParts) → AllHold (timer k) b t → IsTimer t
-unfolding timer plain
-timer-valid b k t h = grind arith
+timer-valid : (b : BoardParts) (k : ℕ) (t : TimerParts) (place : ℕ) (bytes : List ℕ) → fault_in (timer k) b t place bytes ≡ None → IsTimer t
+timer-valid b k t place bytes none = let h = rows-valid bytes place _ (sym (timer-rows k b t place bytes) ∙ none) in grind arith
 
 timers-few : (format : ℕ) → (timers_of format ≡ 3) ⊎ (timers_of format ≡ 8)
 timers-few format = grind arith
@@ -92,17 +97,22 @@ place-valid k n t there absent = elim (cases_lt k n) [
   | inr more ↦ subst (λ (b : Bool). IsPlace b t) (sym (le-ltb k n more)) (absent more)
 ]
 
-hpet-valid : (b : BoardParts) → IsRead b → AllHold registers b b → AllHold (timers (timers_of b.format)) b b → IsHpet b.hpet
-unfolding registers timers plain blocks
-hpet-valid b is h h' =
+hpet-valid : (b : BoardParts) → IsRead b → (bytes : List ℕ) → fault_in registers b b 254 bytes ≡ None
+    → fault_in (timers (timers_of b.format)) b b 264 bytes ≡ None → IsHpet b.hpet
+unfolding timers
+hpet-valid b is bytes none none' =
     let n : ℕ = timers_of b.format in
+    let h = rows-valid bytes 254 _ (sym (registers-rows b bytes) ∙ none) in
     record {
       config = leb-true b.hpet.config 3 h.0;
       timers = subst (λ (m : ℕ). (m ≡ 3) ⊎ (m ≡ 8)) (sym is.timers) (timers-few b.format);
       status = λ three. status-few b.format b.hpet.status h.1.0 (sym is.timers ∙ three);
       places = λ k small.
           subst (λ (m : ℕ). IsPlace (ltb k m) (timer_at k b.hpet)) (sym is.timers) (place-valid k n (timer_at k b.hpet)
-          (λ less. timer-valid b k (timer_at k b.hpet) (hold-each timer no_timer b b.hpet.timer 0 n h'.0 k (omega arith) (omega arith))) (is.no_timers k));
+          (λ (less : k < n).
+          let one = blocks-none n 8 timer no_timer _ _ b b 264 bytes none' k less in
+          timer-valid b k (timer_at k b.hpet) one.0 bytes one.1)
+          (is.no_timers k));
       messages = λ e. is.timers ∙ eight-timers b.format (sym is.messages ∙ e);
       plain = λ e k small. is.no_messages k (omega (arith, no-messages b.format (sym is.messages ∙ e)));
     }
@@ -112,20 +122,17 @@ record LineHolds (b : BoardParts) (k : ℕ) (l : TickParts) : Type 0 where
   up : up_allowed b k l.up ≡ true
   ticks : TicksHold b l
 
-line-valid : (b : BoardParts) (k : ℕ) (l : TickParts) → AllHold (line k) b l → LineHolds b k l
-unfolding line plain
-line-valid b k l h =
-    let parts = all_hold-split (line_ticks k) (line_policy k) b l h in
-    record {
-      up = parts.0.0;
-      ticks = ticks-hold b l (λ (x : TickParts). x) (λ (x y : TickParts). x) (λ (c : BoardParts) (x : TickParts). up_allowed c k x.up) parts.0;
-    }
+line-valid : (b : BoardParts) (k : ℕ) (l : TickParts) (place : ℕ) (bytes : List ℕ) → fault_in (line k) b l place bytes ≡ None → LineHolds b k l
+line-valid b k l place bytes none =
+    let h = rows-valid bytes place _ (sym (line-rows k b l place bytes) ∙ none) in
+    record { up = (and_parts (flag_valid place bytes) (up_allowed b k l.up) h.0).1; ticks = ticks-hold b l h.1.0 h.1.1.1.0 h.1.1.1.1.0 }
 
 none-valid : IsTickLine no_line
 none-valid = record { sum = refl; policy = refl }
 
-same-is : (a b : Bool) → same a b ≡ true → a ≡ b
-same-is true b e = sym e
+same-is : (a b : Bool) → beq a b ≡ true → a ≡ b
+same-is true true e = refl
+same-is true false e = sym e
 same-is false true e = e
 same-is false false e = refl
 
@@ -133,11 +140,12 @@ timer_line-valid : (b : Bool) (policy : Policy) (l : TickParts) → (b ≡ true 
 timer_line-valid true policy l there absent = there refl
 timer_line-valid false policy l there absent = absent refl
 
-module _ (b : BoardParts) (is : IsRead b) (h : AllHold (lines (timers_of b.format)) b b) where
+module _ (b : BoardParts) (is : IsRead b) (start : ℕ) (bytes : List ℕ) (none : fault_in (lines (timers_of b.format)) b b start bytes ≡ None) where
   here : (k : ℕ) → k < timers_of b.format + 2 → LineHolds b k (line_at k (devices_in b))
-  unfolding lines blocks
+  unfolding lines
   here k less =
-      line-valid b k (line_at k (devices_in b)) (hold-each line no_line b b.ticks 0 (timers_of b.format + 2) h.0 k (omega arith) (omega (arith, less)))
+      let one = blocks-none (timers_of b.format + 2) 10 line no_line _ _ b b start bytes none k less in
+      line-valid b k (line_at k (devices_in b)) one.0 bytes one.1
 
   lines-valid : (k : ℕ) → IsTickLine (line_at k (devices_in b))
   lines-valid k = elim (cases_lt k (timers_of b.format + 2)) [
@@ -162,73 +170,91 @@ timer_lines-valid b is k =
     (λ (e : ltb k b.hpet.timers ≡ false). is.no_lines (suc (suc k)) (omega (arith, ltb-false k b.hpet.timers e, is.timers)))
 
 -- the devices
-module _ (b : BoardParts) (is : IsRead b) (head : IsHead b) (h : AllHold (devices b.format) b b) where
-  each : EachHolds (counters ∷ clock ∷ registers ∷ timers (timers_of b.format) ∷ lines (timers_of b.format) ∷ []) b b
-  unfolding lists
-  each = hold-joined (counters ∷ clock ∷ registers ∷ timers (timers_of b.format) ∷ lines (timers_of b.format) ∷ []) b b h
+module _ (b : BoardParts) (is : IsRead b) (head : IsHead b) (bytes : List ℕ) (none : devices_fault b bytes ≡ None) where
+  each : (fault_in counters b b 79 bytes ≡ None) × (fault_in clock b b 121 bytes ≡ None) × (fault_in registers b b 254 bytes ≡ None)
+      × (fault_in (timers (timers_of b.format)) b b 264 bytes ≡ None)
+      × (fault_in (lines (timers_of b.format)) b b (line_place b.format 0) bytes ≡ None)
+  unfolding devices_fault
+  each =
+      let pit = or_else-both (fault_in counters b b 79 bytes) _ none in
+      let rtc = or_else-both (fault_in clock b b 121 bytes) _ pit.1 in
+      let hpet = or_else-both (fault_in registers b b 254 bytes) _ rtc.1 in
+      let last = or_else-both (fault_in (timers (timers_of b.format)) b b 264 bytes) _ hpet.1 in (pit.0, rtc.0, hpet.0, last.0, last.1)
+
+  pub lines-none : fault_in (lines (timers_of b.format)) b b (line_place b.format 0) bytes ≡ None
+  lines-none = each.4
 
   pub devices-valid : AreDevices (devices_in b)
   devices-valid = record {
-    pit = pit-valid b is.three each.0;
-    rtc = clock-valid b is.bytes each.1.0;
-    hpet = hpet-valid b is each.1.1.0 each.1.1.1.0;
-    lines = λ k small. lines-valid b is each.1.1.1.1.0 k;
+    pit = pit-valid b is.three bytes each.0;
+    rtc = clock-valid b is.bytes bytes each.1;
+    hpet = hpet-valid b is bytes each.2 each.3;
+    lines = λ k small. lines-valid b is (line_place b.format 0) bytes lines-none k;
     joined = record {
       places = is.ten;
       slew_low = head.least_slew;
       slew_high = head.most_slew;
-      flag = clock_line-valid b is each.1.1.1.1.0;
+      flag = clock_line-valid b is (line_place b.format 0) bytes lines-none;
       timer_lines = λ k small. timer_lines-valid b is k;
     };
   }
 
 -- the wall clock
-wall-valid : (b : BoardParts) → IsRead b → AllHold wall b b → IsWall b.wall_number b.wall_version b.wall_nsec
-unfolding wall plain
-wall-valid b is h = let small = is.wall_version in grind arith
+wall-valid : (b : BoardParts) → IsRead b → (place : ℕ) (bytes : List ℕ) → fault_in wall b b place bytes ≡ None
+    → IsWall b.wall_number b.wall_version b.wall_nsec
+wall-valid b is place bytes none =
+    let small = is.wall_version in
+    let h = rows-valid bytes place _ (sym (wall-rows b place bytes) ∙ none) in grind arith
 
 -- the processors
-processors-valid : (b : BoardParts) → IsRead b → AllHold (processors b.cpus) b b → AreProcessors b.guest_khz b.cpus b.processors
-unfolding processors blocks
-processors-valid b is h = record {
+processors-valid : (b : BoardParts) → IsRead b → (start : ℕ) (bytes : List ℕ) → fault_in (processors b.cpus) b b start bytes ≡ None
+    → AreProcessors b.guest_khz b.cpus b.processors
+unfolding processors
+processors-valid b is start bytes none = record {
   each = λ (k : ℕ). elim (cases_lt k b.cpus) [
-    | inl less ↦ processor-valid b k (processor_at b k) (is.pages k less)
-        (hold-each processor no_processor b b.processors 0 b.cpus h.0 k (omega arith) (omega (arith, less)))
+    | inl less ↦
+        let one = blocks-none b.cpus 64 processor no_processor _ _ b b start bytes none k less in
+        processor-valid b k (processor_at b k) (is.pages k less) one.0 bytes one.1
     | inr more ↦ subst (λ (p : ProcessorParts). IsProcessor b.guest_khz p) (sym (is.no_processors k more)) (IsProcessor-none b.guest_khz)
   ];
   absent = is.no_processors;
 }
 
 -- the reference page
-hv-valid : (b : BoardParts) → IsRead b → 1 ≤ b.cpus → AllHold (references (references_of b.format)) b b → IsHv b.format b.guest_khz b.cpus b.hv
-unfolding references blocks
-hv-valid b is some h = elim (cases_lt b.format HV_FORMAT) [
+hv-valid : (b : BoardParts) → IsRead b → 1 ≤ b.cpus → (start : ℕ) (bytes : List ℕ) → fault_in (references (references_of b.format)) b b start bytes ≡ None
+    → IsHv b.format b.guest_khz b.cpus b.hv
+unfolding references
+hv-valid b is some start bytes none = elim (cases_lt b.format HV_FORMAT) [
   | inl before ↦ subst (λ (p : HvParts). IsHv b.format b.guest_khz b.cpus p) (sym (is.no_reference before)) (IsHv-none b.format b.guest_khz b.cpus some)
-  | inr there ↦ reference-valid b some is.reference_version there
-      (hold-each reference no_hv b (b.hv ∷ []) 0 (references_of b.format) h.0 0 (omega arith) (omega (arith, references-one b.format there)))
+  | inr there ↦
+      let one = blocks-none (references_of b.format) 1 reference no_hv _ _ b b start bytes none 0 (omega (arith, references-one b.format there)) in
+      reference-valid b some is.reference_version there one.0 bytes one.1
 ]
 
 -- the counts of rises
-routed-valid : (b : BoardParts) → AllHold (rises (counts_of b.format)) b b → AllHold (messages (messages_of b.format)) b b
-    → (legacy_rises_valid b ≡ true) × (routed_rises_valid b ≡ true)
-unfolding rises messages message plain rows blocks
-routed-valid b h h' =
+routed-valid : (b : BoardParts) (p q : ℕ) (bytes : List ℕ) → fault_in (rises (counts_of b.format)) b b p bytes ≡ None
+    → fault_in (messages (messages_of b.format)) b b q bytes ≡ None → (legacy_rises_valid b ≡ true) × (routed_rises_valid b ≡ true)
+unfolding messages
+routed-valid b p q bytes none none' =
+    let h = rows-valid bytes p _ (sym (rises-rows (counts_of b.format) b p bytes) ∙ none) in
     let parts = and_parts (legacy_rises_valid b) (has_messages b.format || routed_rises_valid b) h.0 in (
       parts.0,
       elim (or_cases (has_messages b.format) (routed_rises_valid b) parts.1) [
         | inl there ↦
             let eight : messages_of b.format ≡ 8 = cond-true {A = ℕ} (has_messages b.format) 8 0 there in
-            (hold-each message no_message b (message_pairs b) 0 (messages_of b.format) h'.0 7 (omega arith) (omega (arith, eight))).0
+            let one = blocks-none (messages_of b.format) 8 message no_message _ _ b b q bytes none' 7 (omega (arith, eight)) in
+            let last = rows-valid bytes one.0 _ (sym (message-rows 7 b (get_or (message_pairs b) 7 no_message) one.0 bytes) ∙ one.1) in
+            (and_parts (flag_valid one.0 bytes) (routed_rises_valid b) last.0).1
         | inr is ↦ is
       ],
     )
 
-rises-valid : (b : BoardParts) → IsRead b → AllHold (rises (counts_of b.format)) b b → AllHold (messages (messages_of b.format)) b b
+rises-valid : (b : BoardParts) → IsRead b → (legacy_rises_valid b ≡ true) × (routed_rises_valid b ≡ true)
     → AreRises b.format b.accesses (levels (devices_in b)) b.rises
-rises-valid b is h h' = record {
+rises-valid b is ok = record {
   most = λ (k : ℕ) (less : k < 6).
       subst (λ (x : Bool). get_or b.rises k 0 ≤ b.accesses + one_if x) (sym (levels-at (devices_in b) k less))
-      (leb-true (get_or b.rises k 0) _ (all-six (rise_valid b) (routed-valid b h h').0 (routed-valid b h h').1 k less));
+      (leb-true (get_or b.rises k 0) _ (all-six (rise_valid b) ok.0 ok.1 k less));
   none = λ (first : b.format ≤ 1) (k : ℕ). is.no_rises k (none b.format first k);
 }
   where
@@ -236,28 +262,31 @@ rises-valid b is h h' = record {
     none f le k = grind arith
 
 -- the board
-pub board-valid : (b : BoardParts) → IsRead b → IsHead b → AllHold (devices b.format) b b → AllHold (back b.format b.cpus) b b → IsBoard b
-unfolding lists
-board-valid b is head h h' =
+pub board-valid : (b : BoardParts) → IsRead b → IsHead b → (bytes : List ℕ) → devices_fault b bytes ≡ None → rest_fault b bytes ≡ None → IsBoard b
+unfolding rest_fault
+board-valid b is head bytes none none' =
     let f : ℕ = b.format in
-    let here = each b is head h in
-    let there = hold-joined
-    (rises (counts_of f) ∷ wall ∷ processors b.cpus ∷ apics (apics_of f b.cpus) ∷ references (references_of f) ∷ messages (messages_of f) ∷ [])
-    b b h' in
+    let c : ℕ = b.cpus in
+    let counts = or_else-both (fault_in (rises (counts_of f)) b b (rises_place f) bytes) _ none' in
+    let clock = or_else-both (fault_in wall b b (wall_place f) bytes) _ counts.1 in
+    let cpus = or_else-both (fault_in (processors c) b b (processor_place f 0) bytes) _ clock.1 in
+    let timers = or_else-both (fault_in (apics (apics_of f c)) b b (apic_place f c 0) bytes) _ cpus.1 in
+    let page = or_else-both (fault_in (references (references_of f)) b b (reference_place f c) bytes) _ timers.1 in
+    let last = or_else-both (fault_in (messages (messages_of f)) b b (message_place f c 0) bytes) _ page.1 in
     record {
-      devices = devices-valid b is head h;
+      devices = devices-valid b is head bytes none;
       joined = record {
         format = record { least = head.least; last = head.built; least_cpus = head.least_cpus; most_cpus = head.most_cpus; has_timers = is.timers };
         rates = record { host = head.host; guest = head.guest };
         time = head.time;
         accesses = head.accesses;
-        due = λ (k : ℕ) (less : k < 10). lines-due b is here.1.1.1.1.0 k;
-        wall = wall-valid b is there.1.0;
-        processors = processors-valid b is there.1.1.0;
-        rises = rises-valid b is there.0 there.1.1.1.1.1.0;
+        due = λ (k : ℕ) (less : k < 10). lines-due b is (line_place b.format 0) bytes (lines-none b is head bytes none) k;
+        wall = wall-valid b is _ bytes clock.0;
+        processors = processors-valid b is _ bytes cpus.0;
+        rises = rises-valid b is (routed-valid b _ _ bytes counts.0 last.0);
         messages = is.messages;
-        apics = apics-valid b is.apics there.1.1.1.0;
-        hv = hv-valid b is head.least_cpus there.1.1.1.1.0;
+        apics = apics-valid b is.apics _ bytes timers.0;
+        hv = hv-valid b is head.least_cpus _ bytes page.0;
       };
     }
 
@@ -333,12 +362,7 @@ pub record IsRight (bytes : List ℕ) (b : BoardParts) : Type 0 where
 
 pub right-head : (bytes : List ℕ) (b : BoardParts) → IsRight bytes b → IsHead b
 right-head bytes b is =
-    subst IsHead (sym is.read) (head-valid (board_in bytes) (hold front front-spelled (board_in bytes) (board_in bytes) 0 bytes is.small (omega arith) is.none))
-
--- 79 bytes are there where the first fields have no fault
-room-at : (bytes : List ℕ) (b : BoardParts) → IsRight bytes b → 79 ≤ length bytes
-room-at bytes b is =
-    let end = (rewritten front front-spelled (board_in bytes) (board_in bytes) 0 bytes is.small (omega arith) is.none).0 in omega (arith, end, sizes.0)
+    subst IsHead (sym is.read) (head-valid (board_in bytes) bytes is.none)
 
 -- the format and the number of processors of bytes whose first fields have no fault
 pub format-few : (bytes : List ℕ) → AreBytes bytes → None ≡ fault_in front (board_in bytes) (board_in bytes) 0 bytes → format_in bytes ≤ LAST_FORMAT
@@ -356,15 +380,8 @@ pub ruleset decoded = (format-few, cpus-few, three-parts, or_else-some, or_else-
 
 pub right-devices : (bytes : List ℕ) (b : BoardParts) → IsRight bytes b → devices_fault b bytes ≡ None → AreDevices (devices_in b)
 right-devices bytes b is none =
-    devices-valid b (subst IsRead (sym is.read) (board-read bytes is.small (cpus-few bytes is.small (sym is.none)))) (right-head bytes b is)
-    (hold (devices b.format) (devices-spelled b.format) b b 79 bytes is.small (room-at bytes b is) (devices-are b bytes ∙ none))
+    devices-valid b (subst IsRead (sym is.read) (board-read bytes is.small (cpus-few bytes is.small (sym is.none)))) (right-head bytes b is) bytes none
 
 pub right-board : (bytes : List ℕ) (b : BoardParts) → IsRight bytes b → devices_fault b bytes ≡ None → rest_fault b bytes ≡ None → IsBoard b
 right-board bytes b is none none' =
-    let end = (rewritten (devices b.format) (devices-spelled b.format) b b 79 bytes is.small (room-at bytes b is) (devices-are b bytes ∙ none)).0 in
-    let all = devices-end b.format in
-    let one = size_of-append front (devices b.format) in
-    let parts = or_else-both (fault_in (back b.format b.cpus) b b (rises_place b.format) bytes) _ (rest-is b bytes ∙ none') in
-    board-valid b (subst IsRead (sym is.read) (board-read bytes is.small (cpus-few bytes is.small (sym is.none)))) (right-head bytes b is)
-    (hold (devices b.format) (devices-spelled b.format) b b 79 bytes is.small (room-at bytes b is) (devices-are b bytes ∙ none))
-    (hold (back b.format b.cpus) (back-spelled b.format b.cpus) b b (rises_place b.format) bytes is.small (omega (arith, end, all, one, sizes.0)) parts.0)
+    board-valid b (subst IsRead (sym is.read) (board-read bytes is.small (cpus-few bytes is.small (sym is.none)))) (right-head bytes b is) bytes none none'

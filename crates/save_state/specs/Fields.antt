@@ -4,6 +4,7 @@
 use Rattle.std.specs.Prelude.{ℕ, ◌+◌, ◌*◌, ◌%◌, ◌==◌, nat_lt, nat_le, Bool, true, false, ◌&&◌, ◌||◌}
 use Rattle.std.specs.Prelude.{not, if◌then◌else◌, List, [], ◌∷◌, ◌++◌, slice_index_or, map}
 use Rattle.std.specs.Int.{w8, cast_unsigned}
+use mathlib.Core.Bool.{beq}
 use Rattle.clk_units.specs.Bits.{bit}
 use Rattle.clk_units.specs.declared.ranges.TheConstants.{RANGE_NS, KHZ_MIN, KHZ_MAX}
 use Rattle.host_counter.specs.Time.{time_at}
@@ -38,22 +39,19 @@ use Rattle.board_core.specs.Apics.{apics_of}
 use Rattle.board_core.specs.Tsc.{no_processor}
 use Rattle.board_core.specs.Hv.{no_hv}
 use Rattle.board_core.specs.Conditions.{flags_valid as page_flags_valid}
-use Rattle.byte_table.specs.Codes.{Code, number, byte, signed_byte, word, choice, flag}
+use Rattle.byte_table.specs.Codes.{Code, number, byte, signed_byte, one_byte, word, flag}
 use Rattle.byte_table.specs.Codes.{flags, both, Two, pairs, rows}
 use Rattle.byte_table.specs.Fold.{Field}
-use Rattle.byte_table.specs.Kinds.{Faults, plain, blocks, elsewhere}
+use Rattle.byte_table.specs.Kinds.{plain, blocks, elsewhere}
 use Rattle.save_state.specs.Rises.{legacy_rises_valid, routed_rises_valid}
 use Rattle.save_state.specs.declared.fault.StateFault.{StateFault}
 use Rattle.save_state.specs.declared.fault.StateKind.{StateKind}
 use Rattle.save_state.specs.declared.fault.StateKind.TheVariants.{Short, Magic, Version}
 use Rattle.save_state.specs.declared.fault.StateKind.TheVariants.{Field as Invalid}
 
--- the faults of a field whose condition is of a kind
-abbrev pub faults_of : StateKind → Faults StateFault
-faults_of kind = record {
-  short = λ place. record { place = place; kind = Short };
-  invalid = λ place. record { place = place; kind = kind };
-}
+-- the fault of a kind at a place
+abbrev pub fault_at : StateKind → ℕ → StateFault
+fault_at kind place = record { place = place; kind = kind }
 
 -- fields of a part P of the board
 abbrev pub Fields : Type 0 → Type 0
@@ -62,7 +60,7 @@ Fields P = List (Field StateFault BoardParts P)
 -- a field as most are
 abbrev pub field : {P A : Type 0} → Code A → (P → A) → (A → P → P) → (BoardParts → P → Bool)
     → Field StateFault BoardParts P
-field c get put valid = plain (faults_of Invalid) c get put valid
+field c get put valid = plain (fault_at Short) (fault_at Invalid) c get put valid
 
 -- a condition that always holds
 abbrev pub any : {P : Type 0} → BoardParts → P → Bool
@@ -82,7 +80,7 @@ host_valid b = nat_le b.anchor.start b.host && nat_lt (time_at b.anchor b.host) 
 
 -- a policy of the tick lines
 abbrev pub policy : Code Policy
-policy = choice 3 policy_byte policy_of
+policy = one_byte policy_byte policy_of (λ x. nat_lt x 3)
 
 -- where that of line k is: at 76 that of the 8254, at 77 that of the MC146818, at 78 that of the
 -- HPET's timers
@@ -104,8 +102,8 @@ with_format x b = record b {
 -- magic, version, number of processors
 unfoldable pub head : Fields BoardParts
 head =
-    plain (faults_of Magic) (word 8 magic) (λ b. tt) (λ x b. b) any
-    ∷ plain (faults_of Version) (number 2) (λ b. b.format) with_format
+    plain (fault_at Short) (fault_at Magic) (word 8 magic) (λ b. tt) (λ x b. b) any
+    ∷ plain (fault_at Short) (fault_at Version) (number 2) (λ b. b.format) with_format
     (λ b p. nat_le 1 p.format && nat_le p.format LAST_FORMAT)
     ∷ field (number 2) (λ b. b.cpus) (λ x b. record b { cpus = x })
     (λ b p. nat_le 1 p.cpus && nat_le p.cpus (processors_of p.format))
@@ -148,18 +146,9 @@ flags_from c = c.null ∷ c.out ∷ c.gate ∷ c.full ∷ c.live ∷ c.armed ∷
 
 -- a counter with these flags
 abbrev pub with_flags : List Bool → CounterParts → CounterParts
-with_flags flags c =
-    let flag : ℕ → Bool = λ k. slice_index_or flags k false in
-    record c {
-      null = flag 0;
-      out = flag 1;
-      gate = flag 2;
-      full = flag 3;
-      live = flag 4;
-      armed = flag 5;
-      trig = flag 6;
-      odd = flag 7;
-    }
+with_flags (n ∷ o ∷ g ∷ f ∷ l ∷ a ∷ t ∷ d ∷ []) c =
+    record c { null = n; out = o; gate = g; full = f; live = l; armed = a; trig = t; odd = d }
+with_flags _ c = c
 
 -- counter k of the 8254: programmed bits, flags, count register, counting element, first byte, read
 -- order, latched count, latched status. GATE of counters 0 and 1 is high
@@ -237,15 +226,10 @@ timers n =
     (λ x b. record b { hpet = record b.hpet { timer = x } })
     ∷ []
 
--- whether both are true or both false
-abbrev pub same : Bool → Bool → Bool
-same true b = b
-same false b = not b
-
 -- whether tick line k may be up, or down: that of the MC146818 is PF while its ticks are counted
 abbrev pub up_allowed : BoardParts → ℕ → Bool → Bool
 up_allowed b k up =
-    if k == 1 then same up (counts_rtc (devices_in b) && pf_of b.rtc) else true
+    if k == 1 then beq up (counts_rtc (devices_in b) && pf_of b.rtc) else true
 
 -- a tick line of a part T: whether it is up, and its ticks: due, of which there are, at most, as
 -- many as there were nanoseconds and accesses; rises; queue; lost, with the sum
@@ -267,18 +251,11 @@ ticks_of of with_line up_valid =
     (λ b t. lost_valid (of t))
     ∷ []
 
--- those of tick line k
-abbrev pub line_ticks : ℕ → Fields TickParts
-line_ticks k = ticks_of (λ l. l) (λ x l. x) (λ b l. up_allowed b k l.up)
-
--- its policy, which is before the 8254
-abbrev pub line_policy : ℕ → Fields TickParts
-line_policy k =
-    elsewhere (policy_place k) policy (λ l. l.policy) (λ x l. record l { policy = x }) ∷ []
-
--- tick line k
+-- tick line k, with its policy, which is before the 8254
 unfoldable pub line : ℕ → Fields TickParts
-line k = line_ticks k ++ line_policy k
+line k =
+    ticks_of (λ l. l) (λ x l. x) (λ b l. up_allowed b k l.up)
+    ++ elsewhere (policy_place k) policy (λ l. l.policy) (λ x l. record l { policy = x }) ∷ []
 
 -- the tick lines: two, and one for each timer
 unfoldable pub lines : ℕ → Fields BoardParts
@@ -356,37 +333,29 @@ processors cpus =
 abbrev pub Apic : Type 0
 Apic = Two ApicParts TickParts
 
--- .. with another timer
-abbrev pub with_timer : ApicParts → Apic → Apic
-with_timer x a = record a { first = x }
-
--- .. with another tick line
-abbrev pub with_ticks : TickParts → Apic → Apic
-with_ticks x a = record a { second = x }
-
 -- the timer: LVT, divide configuration, initial and current count, phase, deadline
 unfoldable pub apic_timer : Fields Apic
 apic_timer =
-    field (number 4) (λ a. a.first.lvt) (λ x a. with_timer (record a.first { lvt = x }) a)
+    field (number 4) (λ a. a.first.lvt) (λ x a. record a { first = record a.first { lvt = x } })
     (λ b a. lvt_valid a.first)
-    ∷ field byte (λ a. a.first.divide) (λ x a. with_timer (record a.first { divide = x }) a)
+    ∷ field byte (λ a. a.first.divide) (λ x a. record a { first = record a.first { divide = x } })
     (λ b a. divide_valid a.first)
     ∷ field (number 4) (λ a. a.first.initial)
-    (λ x a. with_timer (record a.first { initial = x }) a)
+    (λ x a. record a { first = record a.first { initial = x } })
     (λ b a. initial_valid a.first)
     ∷ field (number 4) (λ a. a.first.current)
-    (λ x a. with_timer (record a.first { current = x }) a)
+    (λ x a. record a { first = record a.first { current = x } })
     (λ b a. current_valid a.first)
-    ∷ field byte (λ a. a.first.phase) (λ x a. with_timer (record a.first { phase = x }) a)
+    ∷ field byte (λ a. a.first.phase) (λ x a. record a { first = record a.first { phase = x } })
     (λ b a. phase_valid a.first)
     ∷ field (number 8) (λ a. a.first.deadline)
-    (λ x a. with_timer (record a.first { deadline = x }) a)
+    (λ x a. record a { first = record a.first { deadline = x } })
     (λ b a. deadline_valid a.first)
     ∷ []
 
 -- its tick line, whose policy is Discard on each board
 unfoldable pub apic_line : Fields Apic
-apic_line = ticks_of (λ a. a.second) with_ticks any
+apic_line = ticks_of (λ a. a.second) (λ x a. record a { second = x }) any
 
 -- the timer of processor k, with its tick line
 abbrev pub apic : ℕ → Fields Apic
