@@ -94,10 +94,8 @@ policy_field k = field policy (λ b. (line_at k (devices_in b)).policy) (λ x b.
 -- the version is the format, which tells how many timers the HPET has, and whether they send
 -- messages
 abbrev pub with_format : ℕ → BoardParts → BoardParts
-with_format x b = record b {
-  format = x;
-  hpet = record b.hpet { timers = timers_of x; messages = has_messages x };
-}
+with_format x b =
+    record b { format = x; hpet = record b.hpet { timers = timers_of x; messages = has_messages x } }
 
 -- magic, version, number of processors
 unfoldable pub head : Fields BoardParts
@@ -106,8 +104,7 @@ head =
     ∷ plain (fault_at Short) (fault_at Version) (number 2) (λ b. b.format) with_format
     (λ b p. nat_le 1 p.format && nat_le p.format LAST_FORMAT)
     ∷ field (number 2) (λ b. b.cpus) (λ x b. record b { cpus = x })
-    (λ b p. nat_le 1 p.cpus && nat_le p.cpus (processors_of p.format))
-    ∷ []
+    (λ b p. nat_le 1 p.cpus && nat_le p.cpus (processors_of p.format)) ∷ []
 
 -- the anchor's rate, count and time, and the greatest count
 unfoldable pub host : Fields BoardParts
@@ -115,13 +112,11 @@ host =
     field (number 8) (λ b. b.anchor.khz) (λ x b. record b { anchor = record b.anchor { khz = x } })
     (λ b p. khz_valid p.anchor.khz)
     ∷ field (number 8) (λ b. b.anchor.start)
-    (λ x b. record b { anchor = record b.anchor { start = x } })
-    any
+    (λ x b. record b { anchor = record b.anchor { start = x } }) any
     ∷ field (number 8) (λ b. b.anchor.base_ns)
     (λ x b. record b { anchor = record b.anchor { base_ns = x } })
     (λ b p. nat_lt p.anchor.base_ns RANGE_NS)
-    ∷ field (number 8) (λ b. b.host) (λ x b. record b { host = x }) (λ b p. host_valid p)
-    ∷ []
+    ∷ field (number 8) (λ b. b.host) (λ x b. record b { host = x }) (λ b p. host_valid p) ∷ []
 
 -- the guest's rate, the number of accesses, the greatest reading, the nanoseconds between catch-up
 -- points
@@ -133,8 +128,7 @@ guest =
     (λ b p. nat_le p.accesses MOST_ACCESSES)
     ∷ field (number 8) (λ b. b.greatest) (λ x b. record b { greatest = x }) any
     ∷ field (number 8) (λ b. b.slew_ns) (λ x b. record b { slew_ns = x })
-    (λ b p. nat_le 1 p.slew_ns && nat_le p.slew_ns SLEW_MAX_NS)
-    ∷ []
+    (λ b p. nat_le 1 p.slew_ns && nat_le p.slew_ns SLEW_MAX_NS) ∷ []
 
 -- the policies
 unfoldable pub policies : Fields BoardParts
@@ -159,18 +153,15 @@ counter k =
     ∷ field (number 2) (λ c. c.cr) (λ x c. record c { cr = x }) (λ b c. cr_valid c)
     ∷ field (number 2) (λ c. c.ce) (λ x c. record c { ce = x }) (λ b c. ce_valid c)
     ∷ field (both flag byte) (λ c. record { first = c.part_there; second = c.part })
-    (λ x c. record c { part_there = x.first; part = x.second })
-    (λ b c. part_valid c)
-    ∷ field flag (λ c. c.high_next) (λ x c. record c { high_next = x })
-    (λ b c. read_order_valid c)
+    (λ x c. record c { part_there = x.first; part = x.second }) (λ b c. part_valid c)
+    ∷ field flag (λ c. c.high_next) (λ x c. record c { high_next = x }) (λ b c. read_order_valid c)
     ∷ field (both flag (number 2))
     (λ c. record { first = c.count_latched; second = c.latched_count })
     (λ x c. record c { count_latched = x.first; latched_count = x.second })
     (λ b c. latched_count_valid c)
     ∷ field (both flag byte) (λ c. record { first = c.status_latched; second = c.latched_status })
     (λ x c. record c { status_latched = x.first; latched_status = x.second })
-    (λ b c. latched_status_valid c)
-    ∷ []
+    (λ b c. latched_status_valid c) ∷ []
 
 -- what the place of a counter that isn't there holds
 abbrev pub no_counter : CounterParts
@@ -180,8 +171,7 @@ no_counter = counter_at_power_on true
 unfoldable pub counters : Fields BoardParts
 counters =
     blocks 3 3 counter no_counter (λ b. b.pit.counters)
-    (λ x b. record b { pit = record b.pit { counters = x } })
-    ∷ []
+    (λ x b. record b { pit = record b.pit { counters = x } }) ∷ []
 
 -- speaker data, and the MC146818: index, bytes, divider, cycle
 unfoldable pub clock : Fields BoardParts
@@ -190,13 +180,11 @@ clock =
     ∷ field byte (λ b. b.rtc.index) (λ x b. record b { rtc = record b.rtc { index = x } })
     (λ b p. index_valid p.rtc)
     ∷ field (rows 128 128 byte 0) (λ b. b.rtc.bytes)
-    (λ x b. record b { rtc = record b.rtc { bytes = x } })
-    (λ b p. bytes_valid p.rtc)
+    (λ x b. record b { rtc = record b.rtc { bytes = x } }) (λ b p. bytes_valid p.rtc)
     ∷ field (number 2) (λ b. b.rtc.d) (λ x b. record b { rtc = record b.rtc { d = x } })
     (λ b p. divider_valid p.rtc)
     ∷ field flag (λ b. b.rtc.cycle) (λ x b. record b { rtc = record b.rtc { cycle = x } })
-    (λ b p. cycle_valid p.rtc)
-    ∷ []
+    (λ b p. cycle_valid p.rtc) ∷ []
 
 -- a timer of the HPET: configuration, comparator, period
 unfoldable pub timer : ℕ → Fields TimerParts
@@ -204,8 +192,7 @@ timer k =
     field (number 2) (λ t. t.config) (λ x t. record t { config = x }) (λ b t. config_valid t)
     ∷ field (number 8) (λ t. t.comparator) (λ x t. record t { comparator = x })
     (λ b t. comparator_valid t)
-    ∷ field (number 8) (λ t. t.period) (λ x t. record t { period = x }) (λ b t. period_valid t)
-    ∷ []
+    ∷ field (number 8) (λ t. t.period) (λ x t. record t { period = x }) (λ b t. period_valid t) ∷ []
 
 -- the HPET: configuration, status, of which format 1 has three bits, main counter
 unfoldable pub registers : Fields BoardParts
@@ -215,21 +202,17 @@ registers =
     ∷ field byte (λ b. b.hpet.status) (λ x b. record b { hpet = record b.hpet { status = x } })
     (λ b p. nat_le 2 p.format || nat_le p.hpet.status 7)
     ∷ field (number 8) (λ b. b.hpet.counter)
-    (λ x b. record b { hpet = record b.hpet { counter = x } })
-    any
-    ∷ []
+    (λ x b. record b { hpet = record b.hpet { counter = x } }) any ∷ []
 
 -- its timers
 unfoldable pub timers : ℕ → Fields BoardParts
 timers n =
     blocks n 8 timer no_hpet_timer (λ b. b.hpet.timer)
-    (λ x b. record b { hpet = record b.hpet { timer = x } })
-    ∷ []
+    (λ x b. record b { hpet = record b.hpet { timer = x } }) ∷ []
 
 -- whether tick line k may be up, or down: that of the MC146818 is PF while its ticks are counted
 abbrev pub up_allowed : BoardParts → ℕ → Bool → Bool
-up_allowed b k up =
-    if k == 1 then beq up (counts_rtc (devices_in b) && pf_of b.rtc) else true
+up_allowed b k up = if k == 1 then beq up (counts_rtc (devices_in b) && pf_of b.rtc) else true
 
 -- a tick line of a part T: whether it is up, and its ticks: due, of which there are, at most, as
 -- many as there were nanoseconds and accesses; rises; queue; lost, with the sum
@@ -241,15 +224,13 @@ ticks_of of with_line up_valid =
     (λ x t. with_line (record (of t) { counts = record (of t).counts { due = x } }) t)
     (λ b t. nat_le (of t).counts.due (now_of b + b.accesses))
     ∷ field (number 8) (λ t. (of t).counts.rises)
-    (λ x t. with_line (record (of t) { counts = record (of t).counts { rises = x } }) t)
-    any
+    (λ x t. with_line (record (of t) { counts = record (of t).counts { rises = x } }) t) any
     ∷ field (number 8) (λ t. (of t).counts.queue)
     (λ x t. with_line (record (of t) { counts = record (of t).counts { queue = x } }) t)
     (λ b t. queue_valid (of t))
     ∷ field (number 8) (λ t. (of t).counts.lost)
     (λ x t. with_line (record (of t) { counts = record (of t).counts { lost = x } }) t)
-    (λ b t. lost_valid (of t))
-    ∷ []
+    (λ b t. lost_valid (of t)) ∷ []
 
 -- tick line k, with its policy, which is before the 8254
 unfoldable pub line : ℕ → Fields TickParts
@@ -270,8 +251,7 @@ counts_of format = if nat_le 2 format then 6 else 0
 unfoldable pub rises : ℕ → Fields BoardParts
 rises counts =
     field (rows counts 6 (number 8) 0) (λ b. b.rises) (λ x b. record b { rises = x })
-    (λ b p. legacy_rises_valid p && (has_messages p.format || routed_rises_valid p))
-    ∷ []
+    (λ b p. legacy_rises_valid p && (has_messages p.format || routed_rises_valid p)) ∷ []
 
 -- a version is even; before the first publishing it is 0, with what is before it
 abbrev pub version_valid : ℕ → Bool → Bool
@@ -289,8 +269,7 @@ wall =
     (λ b p. version_valid p.wall_version (p.wall_number == 0))
     ∷ field (number 4) (λ b. b.wall_sec) (λ x b. record b { wall_sec = x }) any
     ∷ field (number 4) (λ b. b.wall_nsec) (λ x b. record b { wall_nsec = x })
-    (λ b p. nat_lt p.wall_nsec 1000000000)
-    ∷ []
+    (λ b p. nat_lt p.wall_nsec 1000000000) ∷ []
 
 -- the TSC of a processor: offset, adjust; the number of its page, and the version
 unfoldable pub tsc : Fields ProcessorParts
@@ -299,8 +278,7 @@ tsc =
     ∷ field (number 8) (λ p. p.adjust) (λ x p. record p { adjust = x }) any
     ∷ field (number 8) (λ p. p.number) (λ x p. record p { number = x }) any
     ∷ field (number 4) (λ p. p.version) (λ x p. record p { version = x })
-    (λ b p. version_valid p.version ((p.offset == 0) && (p.adjust == 0) && (p.number == 0)))
-    ∷ []
+    (λ b p. version_valid p.version ((p.offset == 0) && (p.adjust == 0) && (p.number == 0))) ∷ []
 
 -- the page: TSC and time, their scale by the guest's rate, flags
 unfoldable pub page : Fields ProcessorParts
@@ -315,8 +293,7 @@ page =
     (λ b p. published_valid p.version (cast_unsigned w8 p.shift)
     (cast_unsigned w8 p.shift == cast_unsigned w8 (shift_for (b.guest_khz * 1000))))
     ∷ field byte (λ p. p.flags) (λ x p. record p { flags = x })
-    (λ b p. published_valid p.version p.flags (page_flags_valid p.flags))
-    ∷ []
+    (λ b p. published_valid p.version p.flags (page_flags_valid p.flags)) ∷ []
 
 -- processor k
 abbrev pub processor : ℕ → Fields ProcessorParts
@@ -325,8 +302,7 @@ processor k = tsc ++ page
 -- the processors
 unfoldable pub processors : ℕ → Fields BoardParts
 processors cpus =
-    blocks cpus 64 processor no_processor (λ b. b.processors)
-    (λ x b. record b { processors = x })
+    blocks cpus 64 processor no_processor (λ b. b.processors) (λ x b. record b { processors = x })
     ∷ []
 
 -- a local APIC's timer with its tick line
@@ -341,16 +317,13 @@ apic_timer =
     ∷ field byte (λ a. a.first.divide) (λ x a. record a { first = record a.first { divide = x } })
     (λ b a. divide_valid a.first)
     ∷ field (number 4) (λ a. a.first.initial)
-    (λ x a. record a { first = record a.first { initial = x } })
-    (λ b a. initial_valid a.first)
+    (λ x a. record a { first = record a.first { initial = x } }) (λ b a. initial_valid a.first)
     ∷ field (number 4) (λ a. a.first.current)
-    (λ x a. record a { first = record a.first { current = x } })
-    (λ b a. current_valid a.first)
+    (λ x a. record a { first = record a.first { current = x } }) (λ b a. current_valid a.first)
     ∷ field byte (λ a. a.first.phase) (λ x a. record a { first = record a.first { phase = x } })
     (λ b a. phase_valid a.first)
     ∷ field (number 8) (λ a. a.first.deadline)
-    (λ x a. record a { first = record a.first { deadline = x } })
-    (λ b a. deadline_valid a.first)
+    (λ x a. record a { first = record a.first { deadline = x } }) (λ b a. deadline_valid a.first)
     ∷ []
 
 -- its tick line, whose policy is Discard on each board
@@ -395,8 +368,7 @@ reference k =
     ∷ field (number 8) (λ p. p.offset) (λ x p. record p { offset = x })
     (λ b p. nat_lt 0 p.scale || (p.offset == 0))
     ∷ field (number 8) (λ p. p.tsc_offset) (λ x p. record p { tsc_offset = x })
-    (λ b p. nat_lt 0 p.scale || (p.tsc_offset == 0))
-    ∷ []
+    (λ b p. nat_lt 0 p.scale || (p.tsc_offset == 0)) ∷ []
 
 -- how many such pages a format has
 abbrev pub references_of : ℕ → ℕ
@@ -418,8 +390,7 @@ unfoldable pub message : ℕ → Fields Message
 message k =
     field flag (λ m. m.first) (λ x m. record m { first = x })
     (λ b m. not (k == 7) || routed_rises_valid b)
-    ∷ field (number 8) (λ m. m.second) (λ x m. record m { second = x }) any
-    ∷ []
+    ∷ field (number 8) (λ m. m.second) (λ x m. record m { second = x }) any ∷ []
 
 -- how many timers of a format send messages
 abbrev pub messages_of : ℕ → ℕ
@@ -436,10 +407,7 @@ message_pairs b = pairs b.hpet.message_bit b.hpet.message_word
 -- a board with other messages
 abbrev pub with_message_pairs : List Message → BoardParts → BoardParts
 with_message_pairs x b = record b {
-  hpet = record b.hpet {
-    message_bit = map (λ m. m.first) x;
-    message_word = map (λ m. m.second) x;
-  };
+  hpet = record b.hpet { message_bit = map (λ m. m.first) x; message_word = map (λ m. m.second) x };
 }
 
 -- the messages of n timers
