@@ -13,15 +13,45 @@ use Rattle.save_state.proofs.Names.{false, ◌&&◌, ◌||◌, leb, ltb, [], ◌
 use Rattle.save_state.proofs.Names.{end_place, devices_fault, rest_fault, line_place, rises_place, wall_place, processor_place, apic_place, reference_place}
 use Rattle.save_state.proofs.Names.{message_place, fields_of, format_in, cpus_in, board_in, trailing, fault_of, or_else-both, or_else-end}
 use Rattle.save_state.proofs.Names.{fault-next, fault-joined, StateFault, Fields, size_of, or_else, fault_in, AreBytes, or_else-none, ◌++◌}
-use Rattle.save_state.proofs.Names.{blocks-none, flag_valid}
+use Rattle.save_state.proofs.Names.{blocks-none, flag_valid, khz_valid, host_valid, IsKhz, processors_of, MOST_ACCESSES, SLEW_MAX_NS}
+use Rattle.board_core.specs.Time.{HasTime}
 use Rattle.save_state.proofs.BlockRows.{rows-valid, head-rows, counter-rows, clock-rows, timer-rows, registers-rows, line-rows, wall-rows, rises-rows, message-rows}
 use Rattle.save_state.proofs.Blocks.{TicksHold, ticks-hold, processor-valid, reference-valid}
 use Rattle.save_state.proofs.{ApicLaws.apics-valid, RoundTrip.IsRead, RoundTrip.board-read}
 use Rattle.save_state.proofs.{RoundTrip.bytes_of-board_in, Names.List, Names.Option, Names.None, Names.Some, Names.layout}
 
 -- the fields before the 8254
+both-bounds : (low n high : ℕ) → (leb low n && leb n high) ≡ true → (low ≤ n) × (n ≤ high)
+both-bounds low n high e = let is = and_parts (leb low n) (leb n high) e in (leb-true low n is.0, leb-true n high is.1)
+
+khz-is : (khz : ℕ) → khz_valid khz ≡ true → IsKhz khz
+khz-is khz e = grind arith
+
+host-is : (b : BoardParts) → host_valid b ≡ true → HasTime b.anchor b.host
+host-is b e = grind arith
+
+processors-few : (format : ℕ) → processors_of format ≤ 64
+processors-few format = grind arith
+
 pub head-valid : (b : BoardParts) (bytes : List ℕ) → fault_in front b b 0 bytes ≡ None → IsHead b
-head-valid b bytes none = let h = rows-valid bytes 0 _ (sym (head-rows b bytes) ∙ none) in grind arith
+head-valid b bytes none =
+    let h = rows-valid bytes 0 _ (sym (head-rows b bytes) ∙ none) in
+    let format = both-bounds 1 b.format LAST_FORMAT h.1.0 in
+    let cpus = both-bounds 1 b.cpus (processors_of b.format) h.1.1.0 in
+    let slew = both-bounds 1 b.slew_ns SLEW_MAX_NS h.1.1.1.1.1.1.1.1.1.1.0 in
+    record {
+      least = format.0;
+      built = format.1;
+      least_cpus = cpus.0;
+      most_cpus = cpus.1;
+      few = omega (arith, cpus.1, processors-few b.format);
+      host = khz-is b.anchor.khz h.1.1.1.0;
+      time = host-is b h.1.1.1.1.1.1.0;
+      guest = khz-is b.guest_khz h.1.1.1.1.1.1.1.0;
+      accesses = leb-true b.accesses MOST_ACCESSES h.1.1.1.1.1.1.1.1.0;
+      least_slew = slew.0;
+      most_slew = slew.1;
+    }
 
 -- the counters, with GATE as it is wired
 counter-valid : (b : BoardParts) (k : ℕ) (c : CounterParts) (place : ℕ) (bytes : List ℕ) → fault_in (counter k) b c place bytes ≡ None
