@@ -156,7 +156,8 @@ impl Replay {
     }
 
     /// Answers a read of the reference page.
-    #[inline(always)]
+    // Few lines read it. Inlined, it makes the answer to a line too large to be inlined in the loop over lines.
+    #[inline(never)]
     fn answer_hv(
         &mut self,
         line: u64,
