@@ -94,14 +94,16 @@ impl Replay {
     {
         let board = &mut self.board;
         let reply = &mut board.reply;
-        match board.state.answer(given.cpu, given.h, access, reply) {
+        let answered = board.state.answer(given.cpu, given.h, access, reply);
+        match &answered {
             Ok(()) => {
                 if reply.edges.is_empty() && reply.bursts.is_empty() {
                     return board_line(line, reply, out);
                 }
                 print_block(line, reply, &self.deliveries, out)
             }
-            Err(refusal) => refuse_access(line, &refusal, out, end),
+            // What is copied makes the answer to a line too large to be inlined in the loop over lines.
+            Err(refusal) => refuse_access(line, refusal, out, end),
         }
     }
 
@@ -156,8 +158,7 @@ impl Replay {
     }
 
     /// Answers a read of the reference page.
-    // Few lines read it. Inlined, it makes the answer to a line too large to be inlined in the loop over lines.
-    #[inline(never)]
+    #[inline(always)]
     fn answer_hv(
         &mut self,
         line: u64,
