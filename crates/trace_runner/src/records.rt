@@ -94,16 +94,14 @@ impl Replay {
     {
         let board = &mut self.board;
         let reply = &mut board.reply;
-        let answered = board.state.answer(given.cpu, given.h, access, reply);
-        match &answered {
+        match board.state.answer(given.cpu, given.h, access, reply) {
             Ok(()) => {
                 if reply.edges.is_empty() && reply.bursts.is_empty() {
                     return board_line(line, reply, out);
                 }
                 print_block(line, reply, &self.deliveries, out)
             }
-            // What is copied makes the answer to a line too large to be inlined in the loop over lines.
-            Err(refusal) => refuse_access(line, refusal, out, end),
+            Err(refusal) => refuse_access(line, &refusal, out, end),
         }
     }
 

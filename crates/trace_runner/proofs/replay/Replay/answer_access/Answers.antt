@@ -1,11 +1,10 @@
-use Rattle.std.proofs.Common.{rules, ◌≡◌, ℕ, List, [], ◌++◌, Result, Ok, OnOk, ap, sym, subst, ◌∙◌}
+use Rattle.std.proofs.Common.{rules, ◌≡◌, ℕ, List, [], ◌++◌, OnOk, ap, sym, subst, ◌∙◌}
 use Rattle.std.proofs.Math.Seq.{take-length}
 use Rattle.std.proofs.lemmas.Result.{on_err_weaker}
 use Rattle.irq_edges.specs.declared.edges.Edge.{Edge}
 use Rattle.irq_edges.specs.declared.bursts.Burst.{Burst}
 use Rattle.board_types.specs.declared.parts.BoardParts.{BoardParts}
 use Rattle.board_types.specs.declared.reply.Reply.{Reply}
-use Rattle.board_types.specs.declared.reply.Refusal.{Refusal}
 use Rattle.reply_text.specs.Text.{board_text}
 use Rattle.race_phase.specs.declared.deliveries.Deliveries.{Deliveries}
 use Rattle.race_phase.specs.declared.records.Answer.TheVariants.{Acted}
@@ -23,24 +22,19 @@ quiet ds line reply edges bursts =
     ap (λ (es : List Edge). edges_text ds es ++ messages_text ds reply.bursts ++ board_text line reply) edges
     ∙ ap (λ (bs : List Burst). messages_text ds bs ++ board_text line reply) bursts
 
--- what holds of an access that is taken
-of_ok : (r : Result Unit Refusal) (P : Type 0) → r ≡ Ok tt → OnOk r P → P
-of_ok r P is ok = subst (λ (x : Result Unit Refusal). OnOk x P) is ok
-
 pub returns-then-is_empty-2 : goal.returns-then-is_empty-2
 returns-then-is_empty-2 c =
     let cpu : ℕ = c.args.given.now.cpu in
     let h : ℕ = c.args.given.now.h in
     let ds : Deliveries = c.args.self.now.deliveries in
     let out : List ℕ = c.args.out.now.items in
-    let reply : Reply = c.answer-answered.new.reply in
+    let reply : Reply = c.answer.new.reply in
     let printed_now = subst (λ (x : BoardParts). OnOk c.board_line.result (c.board_line.new.out.items
     ≡ out ++ printed (with_board (board_answer c.args.line cpu h c.args.access ds x) c.args.self.now))) c.board.view_is
     (subst (λ (t : List ℕ). OnOk c.board_line.result (c.board_line.new.out.items ≡ t))
     (ap (λ (t : List ℕ). out ++ t) (sym (quiet ds c.args.line reply (c.is_empty.ensures.0 c.if-is_empty.true)
     (c.is_empty-then-is_empty.ensures.0 c.if-is_empty-2.true)))
-    ∙ access-printed c.args.line cpu h c.args.access ds c.board.inside.state c.args.self.now reply out (of_ok c.answer-answered.result _ c.in-Ok.is c.answer-answered.ensures.taken)
-    (of_ok c.answer-answered.result _ c.in-Ok.is c.answer-answered.ensures.reply))
+    ∙ access-printed c.args.line cpu h c.args.access ds c.board.inside.state c.args.self.now reply out c.in-Ok.ensures.taken c.in-Ok.ensures.reply)
     c.board_line.ensures.ok) in record {
       printed = printed_now;
       ends = search rules;
