@@ -40,7 +40,7 @@ IsLazy-greatest b n host horizon is = record {
   lag = is.lag;
 }
 
--- .. and so does a run to the count that a board lags behind
+-- .. and so does a run to the count to which a board lags
 apic-places : (b : BoardParts) → IsJoined b → AreApicPlaces (apics_in b)
 apic-places b joined = record {
   timers = joined.apics.places.timers;
@@ -75,7 +75,7 @@ range-caught b host horizon joined is = elim (cases_lt 0 host) [
       subst (λ (x : BoardParts). now_of x < RANGE_NS) (sym same) joined.time.range
 ]
 
--- a count that isn't beyond that behind which it lags moves no time
+-- a count that isn't beyond the one to which it lags moves no time
 pub now-counted : (b : BoardParts) (n host h : ℕ) → h ≤ host → now_of (after_run (record b { accesses = n }) (max host h)) ≡ now_of (after_run b host)
 unfolding after_run
 now-counted b n host h within =
@@ -137,7 +137,7 @@ module _ (b : BoardParts) (host horizon cpu h : ℕ) (joined : IsJoined b) (is :
       range = range-step (b.accesses + 1);
     }
 
--- an access at a count that isn't before the one that a board lags behind: one run takes the board there
+-- an access at a count that isn't before the one to which a board lags: one run takes the board there
 later-outcome : {T : Type 0} (b after new : BoardParts) (q g h cpu : ℕ) (a : Access) (result : Result T Refusal) (before told : Reply)
     → 0 < b.anchor.khz → IsQuiet b q → g ≤ q → g ≤ h → OnOk result (new ≡ after) → OnErr result (new ≡ after_run b g)
     → IsOutcome b cpu h a result after before told → IsOutcome (after_run b g) cpu h a result new before told

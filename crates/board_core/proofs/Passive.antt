@@ -34,18 +34,7 @@ pub record IsCounterRead (a : Access) : Type 0 where
 pub passive-is : (a : Access) → is_passive a ≡ true → (a ≡ Step) ⊎ IsCounterRead a
 passive-is Step is = inl refl
 passive-is (HpetRead offset width) is = inr (record { offset = offset; width = width; is = refl })
-passive-is (PortIn port) is = absurd (false≢true is)
-passive-is (PortOut port byte) is = absurd (false≢true is)
-passive-is (HpetWrite offset width value) is = absurd (false≢true is)
-passive-is (MsrRead msr) is = absurd (false≢true is)
-passive-is (MsrWrite msr value) is = absurd (false≢true is)
-passive-is (Ack line) is = absurd (false≢true is)
-passive-is (Refresh page) is = absurd (false≢true is)
-passive-is Wall is = absurd (false≢true is)
-passive-is (CountsOf source) is = absurd (false≢true is)
-passive-is Next is = absurd (false≢true is)
-passive-is (Rose line) is = absurd (false≢true is)
-passive-is Eoi is = absurd (false≢true is)
+passive-is _ is = absurd (false≢true is)
 
 -- what holds of a step and of each read of the HPET holds of it
 pub by-kind : (P : Access → Type 0) → P Step → ((offset width : ℕ) → P (HpetRead offset width)) → (a : Access) → is_passive a ≡ true → P a

@@ -4,13 +4,11 @@ ghost use Rattle.clk_units.specs.Ranges.{IsKhz};
 ghost use Rattle.host_counter.specs.Time.{IsFaultAt};
 ghost use Rattle.board_types.specs.declared.parts.TheConstants.{LAST_VERSION};
 ghost use Rattle.board_core.specs.Time.{HasTime};
-ghost use Rattle.board_core.specs.Tsc.{no_processor};
 ghost use Rattle.board_core.specs.Conditions.{AreRates, IsVersion, IsHv};
 ghost use Rattle.board_core.specs.Hv.{
   hv_in,
   with_page,
   hv_published,
-  hv_written,
   publishes_hv,
   hv_after,
   hv_published_at_host,

@@ -12,14 +12,7 @@ ghost use Rattle.board_core.specs.Access.{after_run, value_at};
 ghost use Rattle.board_core.specs.Conditions.{IsJoined};
 ghost use Rattle.board_core.specs.Outcome.{IsAsked, IsOutcome, IsClockRead};
 ghost use Rattle.board_core.specs.Quiet.{IsQuiet};
-ghost use Rattle.board_core.specs.Lazy.{
-  is_passive,
-  no_lag,
-  caught_up,
-  IsLazy,
-  IsCounted,
-  IsPassed,
-};
+ghost use Rattle.board_core.specs.Lazy.{is_passive, caught_up, IsLazy, IsCounted, IsPassed};
 
 use crate::board::BoardState;
 use board_devices::Devices;

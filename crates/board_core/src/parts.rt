@@ -24,7 +24,6 @@ ghost use Rattle.local_apics.specs.Places.{no_timer};
 ghost use Rattle.board_devices.specs.Lines.{levels};
 ghost use Rattle.board_devices.specs.Places.{no_line};
 ghost use Rattle.board_core.specs.Time.{HasTime, devices_in};
-ghost use Rattle.board_core.specs.Tsc.{no_processor};
 ghost use Rattle.board_core.specs.Apics.{apics_of, apics_in};
 ghost use Rattle.board_core.specs.Conditions.{
   IsFormat,

@@ -4,8 +4,6 @@ ghost use Rattle.std.specs.Prelude.{
   ℕ,
   ◌*◌,
   ◌<◌,
-  ◌≤◌,
-  ◌^◌,
   ◌==◌,
   ◌||◌,
   IfSome,
@@ -15,14 +13,7 @@ ghost use Rattle.std.specs.Prelude.{
 ghost use Rattle.clk_units.specs.Ranges.{IsKhz};
 ghost use Rattle.host_counter.specs.Time.{time_at};
 ghost use Rattle.board_types.specs.declared.parts.TheConstants.{LAST_VERSION};
-ghost use Rattle.board_core.specs.Tsc.{
-  no_processor,
-  tsc_of,
-  with_tsc,
-  tsc_read,
-  tsc_after,
-  msr_written,
-};
+ghost use Rattle.board_core.specs.Tsc.{no_processor, tsc_of, tsc_read, tsc_after, msr_written};
 ghost use Rattle.board_core.specs.Pages.{
   published,
   page_in,

@@ -8,9 +8,7 @@ ghost use Rattle.std.specs.Prelude.{
   ◌^◌,
   length,
   drop,
-  nat_le,
   slice_index_or,
-  if◌then◌else◌,
   IsTrue,
   false,
 };

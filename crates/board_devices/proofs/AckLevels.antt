@@ -1,5 +1,5 @@
 -- An acknowledgement of a line, by what its tick lines show.
-use Rattle.std.proofs.Common.{◌≡◌, ℕ, zero, suc, ◌+◌, ◌<◌, ◌≤◌, Bool, true, false, cond, eqb, ltb, ◌&&◌, ◌||◌, not, ◌⊎◌, List, length, get_or}
+use Rattle.std.proofs.Common.{◌≡◌, ℕ, zero, suc, ◌+◌, ◌<◌, ◌≤◌, Bool, true, false, cond, eqb, ◌&&◌, ◌||◌, not, ◌⊎◌, List, length, get_or}
 use Rattle.std.proofs.Common.{refl, ap, sym, subst, ◌∙◌, inl, inr, arith}
 use Rattle.std.proofs.Math.Bool.{and-false, or-false}
 use Rattle.std.proofs.lemmas.Bool.{cases_eq, ne_eqb, le-ltb, lt-ltb}
@@ -19,21 +19,6 @@ use Rattle.board_devices.proofs.Places.{each-at, length-each, same_places, all_e
 pub same_levels : {a b e f i j : Bool} → a ≡ b → e ≡ f → i ≡ j
     → ◌≡◌ {A = Levels} (record { before = a; between = e; after = i }) (record { before = b; between = f; after = j })
 same_levels x y z = rw (x, y, z) refl
-
--- a timer that doesn't drive the line shows nothing of it
-shows-driven : (line k : ℕ) (h : HpetParts) → drives_now line k h ≡ false → shows (is_legacy h) line k h ≡ false
-shows-driven line k h = by_front (is_legacy h && ltb k 2) (eqb line (cond (eqb k 0) 0 8)) (is_io_line line) (eqb (route_of (timer_at k h).config) line)
-  where
-    by_front : (b x io z : Bool) → cond b x z ≡ false → cond b x (io && z) ≡ false
-    by_front true x io z e = e
-    by_front false x io z e = ap (λ (b : Bool). io && b) e ∙ and-false io
-
-pub levels-silent : (line k : ℕ) (h : HpetParts) (l : TickParts) → drives_now line k h ≡ false
-    → ◌≡◌ {A = Levels} (record { before = false; between = false; after = false }) (timer_levels (is_legacy h) line k h l)
-levels-silent line k h l e = same_levels (none _) (none _) (none _)
-  where
-    none : (x : Bool) → false ≡ (shows (is_legacy h) line k h && x)
-    none x = sym (ap (λ (b : Bool). b && x) (shows-driven line k h e))
 
 -- one of edge type that drives it is acknowledged
 pub levels-edge : (line k : ℕ) (h : HpetParts) (l : TickParts) → k < h.timers → is_level (timer_at k h) ≡ false → is_message k h ≡ false
@@ -55,20 +40,6 @@ levels-edge line k h l there edge plain drives =
     reached : timer_acks line h k ≡ true
     reached = ap (λ (b : Bool). b && (shows_ticks k h && drives_now line k h)) (lt-ltb k h.timers there)
         ∙ ap (λ (b : Bool). (not b && not (is_message k h)) && drives_now line k h) edge ∙ ap (λ (b : Bool). not b && drives_now line k h) plain ∙ drives
-
--- one of level type is left alone
-pub levels-level : (line k : ℕ) (h : HpetParts) (l : TickParts) → is_level (timer_at k h) ≡ true
-    → timer_levels (is_legacy h) line k h l ≡ record {
-      before = shows (is_legacy h) line k h && level_output k h;
-      between = shows (is_legacy h) line k h && level_output k h;
-      after = shows (is_legacy h) line k h && level_output k h;
-    }
-levels-level line k h l level = same_levels
-    (same l.up) (same (down_where (timer_acks line h k) l).up) (same (acked_where (timer_acks line h k) l).up)
-  where
-    same : (up : Bool) → (shows (is_legacy h) line k h && cond (is_level (timer_at k h)) (level_output k h) (not (is_message k h) && up))
-        ≡ (shows (is_legacy h) line k h && level_output k h)
-    same up = ap (λ (b : Bool). shows (is_legacy h) line k h && cond b (level_output k h) (not (is_message k h) && up)) level
 
 -- a timer that isn't there shows on no line
 pub shown-absent : (legacy : Bool) (line k : ℕ) (h : HpetParts) (ls : List TickParts) → IsHpet h → h.timers ≤ k → k < 8

@@ -17,7 +17,7 @@ use Rattle.tick_policy.specs.Line.{goes_again}
 use Rattle.tick_policy.specs.Stretch.{ticked_where}
 use Rattle.board_devices.specs.declared.parts.DeviceParts.{DeviceParts}
 use Rattle.board_devices.specs.declared.act.Act.{Act}
-use Rattle.board_devices.specs.declared.act.Act.TheVariants.{PitRead, PitWrite, IndexRead, IndexWrite, ClockRead, ClockWrite, HpetRead, Nothing}
+use Rattle.board_devices.specs.declared.act.Act.TheVariants.{PitRead, PitWrite, IndexWrite, ClockRead, ClockWrite, HpetRead}
 use Rattle.board_devices.specs.Places.{each, line_at, no_line, ticked_at}
 use Rattle.board_devices.specs.Lines.{output_of, levels}
 use Rattle.board_devices.specs.Act.{acted, first_part, act_edges, pit_ticked, ticks_on_write, reads_c, acked_where, down_where, rtc_set}
@@ -39,10 +39,6 @@ pub edges-pit_read : (t port : ℕ) (d : DeviceParts) → act_edges t (PitRead p
 unfolding acted first_part levels
 edges-pit_read t port d = none-of t (PitRead port) d refl refl
 
-pub edges-index_read : (t : ℕ) (d : DeviceParts) → act_edges t IndexRead d ≡ []
-unfolding acted first_part
-edges-index_read t d = none-of t IndexRead d refl refl
-
 pub edges-index_write : (t byte : ℕ) (d : DeviceParts) → act_edges t (IndexWrite byte) d ≡ []
 unfolding acted first_part levels
 edges-index_write t byte d = none-of t (IndexWrite byte) d refl refl
@@ -50,10 +46,6 @@ edges-index_write t byte d = none-of t (IndexWrite byte) d refl refl
 pub edges-hpet_read : (t offset width : ℕ) (d : DeviceParts) → act_edges t (HpetRead offset width) d ≡ []
 unfolding acted first_part
 edges-hpet_read t offset width d = none-of t (HpetRead offset width) d refl refl
-
-pub edges-nothing : (t : ℕ) (d : DeviceParts) → act_edges t Nothing d ≡ []
-unfolding acted first_part
-edges-nothing t d = none-of t Nothing d refl refl
 
 -- a read of the clock at another index
 no-mask : (b : Bool) (op : Bool → TickParts → TickParts) → ((l : TickParts) → op false l ≡ l) → (d : DeviceParts) → eqb d.rtc.index 12 ≡ false

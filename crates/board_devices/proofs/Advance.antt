@@ -20,7 +20,6 @@ use Rattle.rtc_cycle.proofs.Pulse.{CountsUp-ticks_in, CountsUp-updates_in}
 use Rattle.rtc_registers.specs.declared.parts.RtcParts.{RtcParts}
 use Rattle.rtc_registers.specs.declared.events.RtcEvents.{RtcEvents}
 use Rattle.rtc_registers.specs.Registers.{divider_of, pie_of, aie_of, uie_of, pf_of, af_of, uf_of, irqf_of, register_b}
-use Rattle.rtc_registers.specs.Parts.{IsRtc}
 use Rattle.clk_units.specs.Bits.{bit}
 use Rattle.rtc_registers.specs.Pulses.{rtc_pulsed_times, alarms_in}
 use Rattle.rtc_registers.proofs.Times.{register_b-rtc_pulsed_times, pf_of-rtc_pulsed_times, af_of-rtc_pulsed_times, uf_of-rtc_pulsed_times}
@@ -274,10 +273,6 @@ module _ {d : DeviceParts} {t n c : ℕ} {rises : Rises} {events : RtcEvents} {m
 
   pub rtc_alone : ℕ → RtcParts
   rtc_alone j = rtc_pulsed_times (pulses_from RTC_HZ t j) d.rtc
-
-  alone-valid : (j : ℕ) → IsRtc (rtc_alone j)
-  unfolding rtc_alone
-  alone-valid j = IsRtc-rtc_pulsed_times (pulses_from RTC_HZ t j) d.rtc know.sound.rtc
 
   af-now : (j : ℕ) (b : Bool) → af_of (flagged_where b (rtc_alone j)) ≡ (af_of d.rtc || ltb 0 (alarms_in d.rtc (pulses_from RTC_HZ t j)))
   unfolding rtc_alone flagged_where

@@ -43,11 +43,6 @@ more P xs d i x inside before here j less = elim (cases_eq j i) [
     below : (j i : ℕ) → j < i + 1 → (j ≡ i → ⊥) → j < i
     below j i h apart = omega arith
 
--- the later places are as they were
-pub still_after : {X : Type 0} (xs ys : List X) (d : X) (i : ℕ) (x : X) → ((j : ℕ) → i ≤ j → get_or xs j d ≡ get_or ys j d) → (j : ℕ) → i + 1 ≤ j
-    → get_or (set xs i x) j d ≡ get_or ys j d
-still_after xs ys d i x before j h = get_or-set_other xs i j x d (λ e. absurd (omega (arith, e))) ∙ before j (omega arith)
-
 -- lists that are the same at each place
 pub same_places : {X : Type 0} (xs ys : List X) (d : X) → length xs ≡ length ys → ((j : ℕ) → j < length xs → get_or xs j d ≡ get_or ys j d) → xs ≡ ys
 same_places [] [] d e h = refl

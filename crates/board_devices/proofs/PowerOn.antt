@@ -1,8 +1,7 @@
 -- Power on.
-use Rattle.std.proofs.Common.{◌≡◌, ℕ, zero, suc, ◌<◌, ◌⊎◌, Bool, true, false, cond, leb, ltb, ◌&&◌, get_or, refl, ap, subst, sym, inl, inr, arith}
-use Rattle.std.proofs.lemmas.Bool.{lt-leb, leb-true}
+use Rattle.std.proofs.Common.{◌≡◌, ℕ, zero, suc, ◌<◌, ◌⊎◌, Bool, true, false, cond, leb, ltb, ◌&&◌, get_or, refl, subst, sym, inl, inr, arith}
 use Rattle.board_types.specs.declared.setup.Setup.{Setup}
-use Rattle.board_types.specs.Setup.{IsSetup, timers_of, has_messages}
+use Rattle.board_types.specs.Setup.{IsSetup, timers_of}
 use Rattle.rtc_registers.specs.Registers.{with_time, pf_of}
 use Rattle.rtc_registers.specs.Parts.{rtc_at_power_on}
 use Rattle.tick_policy.specs.declared.parts.Policy.{Policy}
@@ -21,10 +20,6 @@ timers-three_or_eight format = by (leb format 1)
     by : (b : Bool) → let n : ℕ = cond b 3 8 in (n ≡ 3) ⊎ (n ≡ 8)
     by true = inl refl
     by false = inr refl
-
--- .. and eight where there are message registers
-pub timers-messages : (format : ℕ) → has_messages format ≡ true → timers_of format ≡ 8
-timers-messages format has = ap (λ (b : Bool). let n : ℕ = cond b 3 8 in n) (lt-leb format 1 (omega (arith, leb-true 5 format has)))
 
 timer_lines_at_power_on : (timers : ℕ) (pit rtc hpet : Policy) → (timers ≡ 3) ⊎ (timers ≡ 8) → (k : ℕ) → k < 8
     → IsTimerLine (ltb k timers) (get_or (lines_at_power_on timers pit rtc hpet) 2 no_line).policy

@@ -60,11 +60,6 @@ unfolding flagged_where
 register_b-flagged_where true r valid = register_b-flagged r valid
 register_b-flagged_where false r valid = refl
 
-pub IsRtc-flagged_where : (b : Bool) (r : RtcParts) → IsRtc r → IsRtc (flagged_where b r)
-unfolding flagged_where
-IsRtc-flagged_where true r valid = IsRtc-flagged r valid
-IsRtc-flagged_where false r valid = valid
-
 pulsed-flagged_where : (b : Bool) (r : RtcParts) → IsRtc r → rtc_pulsed (flagged_where b r) ≡ flagged_where b (rtc_pulsed r)
 unfolding flagged_where
 pulsed-flagged_where true r valid = rtc_pulsed-flagged r valid

@@ -333,10 +333,6 @@ lifts-of_run n t to d us order six levels_are =
     (levels_are (to - t) (omega arith)) in
     omega (arith, edges, start, end, lifts-run n us t (to - t) six)
 
-pub one_if-le : (b : Bool) → one_if b ≤ 1
-one_if-le true = omega arith
-one_if-le false = omega arith
-
 pub at-rises_with : (es : List Edge) (ns rises : List ℕ) (k : ℕ) → length rises ≡ length ns → k < length ns → get_or (rises_with es ns rises) k 0
     ≡ get_or rises k 0 + lifts (get_or ns k 0) es
 at-rises_with es [] rises k e h = absurd (omega arith)

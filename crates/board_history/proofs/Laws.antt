@@ -100,9 +100,7 @@ pub version-entry : (before : List Entry) (e : Entry) (c : ℕ) → May before e
     → (page_at (board_after before) c).version ≤ (page_at (after_entry (board_after before) e) c).version
 version-entry before (Opened s) c may = absurd may
 version-entry before (Board pass cpu h access reply) c may = version-access (board_after before) cpu h c access
-version-entry before (PageRead pass cpu h page locked) c may = omega arith
-version-entry before (HvRead pass h page locked) c may = omega arith
-version-entry before (Clamp pass cpu reading clock) c may = omega arith
+version-entry before _ c may = omega arith
 
 pub greatest-entry : (before : List Entry) (e : Entry) → May before e → floor_after before ≤ (after_entry (board_after before) e).greatest
 greatest-entry before (Opened s) may = absurd may
@@ -125,9 +123,7 @@ pub machine-entry : (before : List Entry) (e : Entry) → May before e
     → machine_of (after_entry (board_after before) e) ≡ machine_of (board_after before)
 machine-entry before (Opened s) may = absurd may
 machine-entry before (Board pass cpu h access reply) may = machine_of-access (board_after before) cpu h access
-machine-entry before (PageRead pass cpu h page locked) may = refl
-machine-entry before (HvRead pass h page locked) may = refl
-machine-entry before (Clamp pass cpu reading clock) may = refl
+machine-entry before _ may = refl
 
 -- and what a list of them does
 pub versions-grow : (before xs : List Entry) (c : ℕ) → LegalFrom before xs → version_after before c ≤ version_after (before ++ xs) c
@@ -158,10 +154,7 @@ machine-stays before (x ∷ xs) l =
 -- the rest of a legal history after a prefix that isn't empty
 pub IsLegal-rest : (xs ys : List Entry) (x : Entry) → IsLegal (x ∷ xs ++ ys) → LegalFrom (x ∷ xs) ys
 IsLegal-rest xs ys (Opened s) l = LegalFrom-rest (Opened s ∷ []) xs ys l
-IsLegal-rest xs ys (Board pass cpu h access reply) l = absurd l
-IsLegal-rest xs ys (PageRead pass cpu h page locked) l = absurd l
-IsLegal-rest xs ys (HvRead pass h page locked) l = absurd l
-IsLegal-rest xs ys (Clamp pass cpu reading clock) l = absurd l
+IsLegal-rest xs ys _ l = absurd l
 
 -- what holds of any prefix of a legal history: versions and the greatest reading never fall
 pub legal-version : (xs ys : List Entry) (c : ℕ) → IsPrefix xs ys → IsLegal ys → version_after xs c ≤ version_after ys c
@@ -177,10 +170,6 @@ pub legal-floor : (xs ys : List Entry) → IsPrefix xs ys → IsLegal ys → flo
 legal-floor [] ys p l = omega (arith, no_board-floor)
 legal-floor (x ∷ xs) ys p l =
     subst (λ h. floor_after (x ∷ xs) ≤ floor_after h) p.1 (floor-grows (x ∷ xs) p.0 (IsLegal-rest xs p.0 x (subst IsLegal (sym p.1) l)))
-
--- an entry in a legal history is legal at its place
-pub legal-at : (xs ys : List Entry) (x e : Entry) → IsLegal (x ∷ xs ++ e ∷ ys) → May (x ∷ xs) e
-legal-at xs ys x e l = (IsLegal-rest xs (e ∷ ys) x l).0
 
 -- the entries of a number in two lists, one after the other
 entries_step : (b : Bool) (x : Entry) (us bs cs : List Entry) → us ≡ bs ++ cs → (if b then (x ∷ us) else us) ≡ (if b then (x ∷ bs) else bs) ++ cs

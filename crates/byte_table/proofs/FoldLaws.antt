@@ -1,6 +1,6 @@
 -- The round trip of any list of fields, by a law for each field.
 use Rattle.std.proofs.Common.{◌≡◌, ℕ, zero, suc, ◌+◌, ◌-◌, ◌<◌, ◌≤◌, List, [], ◌∷◌, ◌++◌, length, take, drop, get_or, Option, Some, None}
-use Rattle.std.proofs.Common.{refl, ap, sym, subst, ◌∙◌, arith}
+use Rattle.std.proofs.Common.{refl, ap, sym, ◌∙◌, arith}
 use Rattle.std.proofs.lemmas.List.{append_assoc, take_all, length-append, length-drop, drop-append-le, drop_all, drop-drop}
 use Rattle.byte_table.specs.Fold.{Field, size_of, write, read, rewrite_in, moved, or_else, fault_in}
 
@@ -137,14 +137,6 @@ pub all_here-append : {F B P : Type 0} (fs gs : List (Field F B P)) (b : B) (p :
     → AllHere (fs ++ gs) b p bytes
 all_here-append [] gs b p bytes here there = there
 all_here-append (f ∷ fs) gs b p bytes here there = (here.0, all_here-append fs gs b p bytes here.1 there)
-
-pub all_keep-append : {F B P : Type 0} (fs gs : List (Field F B P)) (p : P) (place : ℕ) (bytes : List ℕ) → AllKeep fs p place bytes
-    → AllKeep gs p (place + size_of fs) bytes → AllKeep (fs ++ gs) p place bytes
-all_keep-append {P = P} [] gs p place bytes here there =
-    let at : place + 0 ≡ place = omega arith in subst (λ (k : ℕ). AllKeep gs p k bytes) at there
-all_keep-append (f ∷ fs) gs p place bytes here there =
-    let at : place + (f.size + size_of fs) ≡ place + f.size + size_of fs = omega arith in
-    (here.0, all_keep-append fs gs p (place + f.size) bytes here.1 (subst (λ (k : ℕ). AllKeep gs p k bytes) at there))
 
 -- after the bytes of a first list those of a second are written
 pub written-then : {F B P : Type 0} (fs gs : List (Field F B P)) (p : P) (old now next : List ℕ) → now ≡ old ++ write fs p → next ≡ now ++ write gs p

@@ -109,13 +109,6 @@ pub record FaultsFrom {F B T : Type 0} (fields : ℕ → List (Field F B T)) (bl
     : Type 0 where
   pub same : fault_below fields blank b ts 0 n place bytes ≡ fault_below fields blank b ts k (n - k) (place + s * k) bytes
 
-pub faults-begin : {F B T : Type 0} (fields : ℕ → List (Field F B T)) (blank : T) (s : ℕ) (b : B) (ts : List T) (n place : ℕ) (bytes : List ℕ)
-    → FaultsFrom fields blank s b ts n place bytes 0
-faults-begin fields blank s b ts n place bytes =
-    let all : n ≡ n - 0 = omega arith in
-    let at : place ≡ place + s * 0 = omega arith in
-    record { same = λ i. fault_below fields blank b ts 0 (all i) (at i) bytes }
-
 faults-next : {F B T : Type 0} (fields : ℕ → List (Field F B T)) (blank : T) (s : ℕ) → AreOfSize fields s → (b : B) (ts : List T) (k n place : ℕ)
     (bytes : List ℕ) → k < n
     → fault_below fields blank b ts k (n - k) (place + s * k) bytes
@@ -147,12 +140,6 @@ faults-none {F = F} {fields = fields} {blank = blank} {s = s} {b = b} {ts = ts} 
     let none : fault_in (fields k) b (get_or ts k blank) (place + s * k) bytes ≡ None =
     ap (λ (p : ℕ). fault_in (fields k) b (get_or ts k blank) p bytes) (sym here) ∙ sym is in
     record { same = so_far.same ∙ faults-next fields blank s size b ts k n place bytes less ∙ ap (λ (o : Option F). or_else o later) none }
-
-pub faults-end : {F B T : Type 0} {fields : ℕ → List (Field F B T)} {blank : T} {s : ℕ} {b : B} {ts : List T} {n place : ℕ} {bytes : List ℕ} {k : ℕ}
-    → FaultsFrom fields blank s b ts n place bytes k → n ≤ k → None ≡ or_else (fault_below fields blank b ts 0 n place bytes) None
-faults-end {F = F} {fields = fields} {blank = blank} {s = s} {b = b} {ts = ts} {n = n} {place = place} {bytes = bytes} {k = k} so_far le =
-    let none : n - k ≡ 0 = omega arith in
-    sym (ap (λ (o : Option F). or_else o None) (so_far.same ∙ ap (λ (m : ℕ). fault_below fields blank b ts k m (place + s * k) bytes) none))
 
 -- item i of those that are read
 pub read_below-at : {F B T : Type 0} (fields : ℕ → List (Field F B T)) (blank : T) (s : ℕ) → AreOfSize fields s → (k n place : ℕ) (bytes : List ℕ)

@@ -19,7 +19,6 @@ use Rattle.std.proofs.Common.{
   Some,
   None,
   is_some,
-  IfSome,
   refl,
   sym,
   ap,
@@ -29,9 +28,9 @@ use Rattle.std.proofs.Common.{
   arith,
 }
 use Rattle.std.proofs.lemmas.Bool.{cases_lt, cases_order, lt-ltb, le-ltb}
-use Rattle.clk_units.specs.Events.{CountsUp, IsFirst, first_more, first_at}
+use Rattle.clk_units.specs.Events.{CountsUp, IsFirst, first_more}
 use Rattle.clk_units.specs.Pulses.{pulses_by, falls_at, pulses_from, time_of}
-use Rattle.clk_units.proofs.Pulses.{pulses_from-zero, pulses_from-more, pulses_from-mono, pulses_from-joins, le-pulses_by, time_of-le, lt-time_of, comes_by}
+use Rattle.clk_units.proofs.Pulses.{pulses_from-zero, pulses_from-more, pulses_from-mono, pulses_from-joins, le-pulses_by, time_of-le}
 
 -- more steps, no fewer events
 pub CountsUp-mono : (count : ℕ → ℕ) → CountsUp count → (m n : ℕ) → m ≤ n → count m ≤ count n
@@ -62,18 +61,9 @@ CountsUp-by_test count test none more = record {
     few true x = omega arith
     few false x = omega arith
 
--- the first of no steps
-pub IsFirst-none : (count : ℕ → ℕ) → CountsUp count → IsFirst count 0 None
-IsFirst-none count up = up.none
-
 -- a first event stays the first
 pub IsFirst-past : (count : ℕ → ℕ) (n k : ℕ) → IsFirst count n (Some k) → IsFirst count (suc n) (Some k)
 IsFirst-past count n k h = (h.0, omega arith, h.2, h.3)
-
--- a step that brings none
-pub IsFirst-quiet : (count : ℕ → ℕ) (n : ℕ) (first : Option ℕ) → count (suc n) ≡ count n → IsFirst count n first → IsFirst count (suc n) first
-IsFirst-quiet count n (Some k) more h = IsFirst-past count n k h
-IsFirst-quiet count n None more h = more ∙ h
 
 -- a step that brings one, where none came before
 pub IsFirst-begun : (count : ℕ → ℕ) (n : ℕ) → count (suc n) ≡ suc (count n) → IsFirst count n None → IsFirst count (suc n) (Some (suc n))
@@ -145,17 +135,6 @@ first_tick-none count hz t n up none j h = omega (arith, CountsUp-mono count up 
 pub is_some-first : (count : ℕ → ℕ) → CountsUp count → (n : ℕ) (first : Option ℕ) → IsFirst count n first → is_some first ≡ ltb 0 (count n)
 is_some-first count up n None is = sym (le-ltb 0 (count n) (omega (arith, is)))
 is_some-first count up n (Some k) is = sym (lt-ltb 0 (count n) (omega (arith, CountsUp-mono count up k n is.1, is.3)))
-
--- the first of n steps is one of them
-pub first_within : (count : ℕ → ℕ) (n : ℕ) (first : Option ℕ) → IsFirst count n first → IfSome first (λ k. k ≤ n)
-first_within count n None is = tt
-first_within count n (Some k) is = is.1
-
--- the first event of a stretch of a clock falls in it
-pub first_inside : (count : ℕ → ℕ) (hz from to : ℕ) (first : Option ℕ) → 0 < hz → from ≤ to → IsFirst count (pulses_from hz from (to - from)) first
-    → IfSome (first_at hz from first) (λ at. (from < at) × (at ≤ to))
-first_inside count hz from to None runs order is = tt
-first_inside count hz from to (Some k) runs order is = (lt-time_of hz from k runs is.0, comes_by hz from to k runs order is.1)
 
 -- a count of events grows in the nanosecond at which a pulse falls that brings one
 pub count-step : (count : ℕ → ℕ) (test : ℕ → Bool) (hz t n : ℕ) → hz ≤ 1000000000 → ((m : ℕ) → count (suc m) ≡ cond (test m) (suc (count m)) (count m))

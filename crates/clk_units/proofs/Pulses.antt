@@ -116,13 +116,6 @@ time_of-le hz n t runs h =
     time_of_below n t hz runs above =
         let q : (n * 1000000000 + hz - 1) / hz < suc t = (div-lt_iff_lt-mul runs).1 above in omega arith
 
--- a pulse after those seen falls later
-pub lt-time_of : (hz t k : ℕ) → 0 < hz → 0 < k → t < time_of hz (pulses_by hz t + k)
-lt-time_of hz t k runs more = elim (cases_lt t (time_of hz (pulses_by hz t + k))) [
-  | inl later ↦ later
-  | inr fallen ↦ absurd (omega (arith, le-pulses_by hz (pulses_by hz t + k) t runs fallen))
-]
-
 -- a pulse of a stretch falls by its end
 pub comes_by : (hz from to k : ℕ) → 0 < hz → from ≤ to → k ≤ pulses_from hz from (to - from) → time_of hz (pulses_by hz from + k) ≤ to
 comes_by hz from to k runs order h =

@@ -1,5 +1,5 @@
 //! The words of a state, before a table has its name.
-ghost use Rattle.std.specs.Prelude.{◌≡◌, ◌≤◌, ◌+◌, ◌*◌, IfOk};
+ghost use Rattle.std.specs.Prelude.{◌≡◌, ◌+◌, ◌*◌, IfOk};
 ghost use Rattle.board_core.specs.Conditions.{IsJoined};
 ghost use Rattle.clock_table.specs.Words.{pages_for};
 ghost use Rattle.clock_table.specs.private.Laid.{IsLaidBelow};

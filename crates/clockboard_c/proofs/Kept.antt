@@ -105,13 +105,7 @@ devices-left s cpu h (HpetWrite offset width v) leaves = cc
 devices-left s cpu h (MsrRead msr) leaves = refl
 devices-left s cpu h (MsrWrite msr v) leaves = refl
 devices-left s cpu h (Ack line) leaves = cc
-devices-left s cpu h Step leaves = refl
-devices-left s cpu h (Refresh page) leaves = refl
-devices-left s cpu h Wall leaves = refl
-devices-left s cpu h (CountsOf from) leaves = refl
-devices-left s cpu h Next leaves = refl
-devices-left s cpu h (Rose line) leaves = refl
-devices-left s cpu h Eoi leaves = refl
+devices-left s cpu h _ leaves = refl
 
 time-after : (s : BoardParts) (cpu h : ℕ) (a : Access) → 0 < s.anchor.khz → now_of (after_access s cpu h a) ≡ time_of_access s h
 unfolding after_access after_act after_look before_look after_run

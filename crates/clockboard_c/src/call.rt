@@ -1,6 +1,5 @@
 //! One access to a board that C holds.
 ghost use Rattle.std.specs.Prelude.{◌≡◌, ◌&&◌, true, false};
-ghost use Rattle.board_types.specs.declared.parts.BoardParts.{BoardParts};
 ghost use Rattle.board_core.specs.Lazy.{is_passive, caught_up, IsLazy, IsCounted};
 ghost use Rattle.board_core.specs.Time.{now_of};
 ghost use Rattle.clockboard_c.specs.Kept.{seen};

@@ -10,7 +10,6 @@ ghost use Rattle.clockboard_c.specs.Kept.{seen};
 ghost use Rattle.clockboard_c.specs.Look.{
   bit_if,
   lines_word,
-  view_words,
   view_in_memory,
   processor_code,
   tsc_words,

@@ -1,5 +1,5 @@
 //! A board at power on.
-ghost use Rattle.std.specs.Prelude.{◌≡◌, IsTrue, if◌then◌else◌};
+ghost use Rattle.std.specs.Prelude.{◌≡◌, IsTrue};
 ghost use Rattle.board_types.specs.Setup.{IsSetup};
 ghost use Rattle.tick_policy.specs.Parts.{policy_of};
 ghost use Rattle.clockboard_c.specs.Kept.{seen};

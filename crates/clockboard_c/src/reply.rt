@@ -1,15 +1,5 @@
 //! A reply as plain numbers, `struct clockboard_reply` of the header.
-ghost use Rattle.std.specs.Prelude.{
-  ◌≡◌,
-  ℕ,
-  ◌<◌,
-  ◌≤◌,
-  ◌∷◌,
-  [],
-  length,
-  slice_index_or,
-  if◌then◌else◌,
-};
+ghost use Rattle.std.specs.Prelude.{◌≡◌, ◌≤◌, [], length};
 ghost use Rattle.irq_edges.specs.declared.bursts.TheConstants.{BURST_PLACES};
 ghost use Rattle.irq_edges.specs.declared.edges.TheConstants.{EDGE_PLACES};
 ghost use Rattle.clockboard_c.specs.Replies.{

@@ -1,9 +1,9 @@
 -- The deliveries of some edges, one rise after the other, and of some bursts.
-use Rattle.std.proofs.Common.{◌≡◌, ℕ, ◌+◌, ◌<◌, ◌≤◌, Bool, true, false, List, [], ◌∷◌, ◌++◌, length, get_or, take, cond, ap, ◌∙◌, refl, arith}
-use Rattle.std.proofs.Common.{length-append, map}
+use Rattle.std.proofs.Common.{◌≡◌, ℕ, ◌+◌, ◌<◌, ◌≤◌, Bool, true, false, List, [], ◌∷◌, ◌++◌, length, get_or, take, cond, ap, ◌∙◌, arith}
+use Rattle.std.proofs.Common.{length-append}
 use Rattle.std.specs.List.{All, AllZip}
 use Rattle.std.proofs.lemmas.List.{take_more, append-nil}
-use Rattle.std.proofs.lemmas.List.Elements.{All-nil, All-push, All-head, All-tail, filter_more}
+use Rattle.std.proofs.lemmas.List.Elements.{All-push, filter_more}
 use Rattle.irq_edges.specs.declared.edges.Edge.{Edge}
 use Rattle.edge_hooks.specs.declared.deliveries.Delivery.{Delivery}
 use Rattle.irq_edges.specs.declared.bursts.Burst.{Burst}
@@ -25,10 +25,6 @@ AllZip-snoc R [] [] x y zip r = (r, tt)
 AllZip-snoc R [] (y' ∷ ys) x y zip r = absurd zip
 AllZip-snoc R (x' ∷ xs) [] x y zip r = absurd zip
 AllZip-snoc R (x' ∷ xs) (y' ∷ ys) x y zip r = (zip.0, AllZip-snoc R xs ys x y zip.1 r)
-
--- of no edge there is no delivery
-pub Delivered-none : (cpus : ℕ) (answers : Edge → Delivery → Type 0) → Delivered cpus answers [] []
-Delivered-none cpus answers = record { answered = tt; valid = All-nil (IsDelivery cpus); few = omega arith }
 
 -- a rise gets one delivery more
 pub Delivered-rise : (cpus : ℕ) (answers : Edge → Delivery → Type 0) (es : List Edge) (i : ℕ) (e : Edge) (ds : List Delivery) (d : Delivery)
@@ -64,10 +60,6 @@ pub record SentAll (cpus : ℕ) (answers : Message → Delivery → Type 0) (bs 
   pub valid : All (λ s. IsDelivery cpus s.to) ss
   pub few : length ss ≤ length bs
 
--- of no burst nothing is sent
-pub SentAll-none : (cpus : ℕ) (answers : Message → Delivery → Type 0) → SentAll cpus answers [] []
-SentAll-none cpus answers = record { answered = tt; valid = All-nil (λ s. IsDelivery cpus s.to); few = omega arith }
-
 -- a burst more is sent
 pub SentAll-burst : (cpus : ℕ) (answers : Message → Delivery → Type 0) (bs : List Burst) (i : ℕ) (b : Burst) (ss : List Sent) (s : Sent)
     → SentAll cpus answers (take i bs) ss → i < length bs → IsSent answers (get_or bs i b) s → IsDelivery cpus s.to
@@ -77,14 +69,3 @@ SentAll-burst cpus answers bs i b ss s before inside sent valid = record {
   valid = All-push (λ s. IsDelivery cpus s.to) ss s before.valid valid;
   few = rw (take_more bs i b inside, length-append, length-append) (omega (arith, before.few));
 }
-
--- answers that are a function's are that function's list
-pub AllZip-map : {A B : Type 0} (R : A → B → Type 0) (f : A → B) (xs : List A) (ys : List B)
-    → All (λ x. (y : B) → R x y → y ≡ f x) xs → AllZip R xs ys → ys ≡ map f xs
-AllZip-map R f [] [] is zip = refl
-AllZip-map R f [] (y ∷ ys) is zip = absurd zip
-AllZip-map R f (x ∷ xs) [] is zip = absurd zip
-AllZip-map R f (x ∷ xs) (y ∷ ys) is zip =
-    let head : y ≡ f x = All-head (λ x. (y : _) → R x y → y ≡ f x) x xs is y zip.0 in
-    let rest : ys ≡ map f xs = AllZip-map R f xs ys (All-tail (λ x. (y : _) → R x y → y ≡ f x) x xs is) zip.1 in
-    cc

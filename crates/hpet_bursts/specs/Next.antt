@@ -1,6 +1,5 @@
 -- When a message is sent next, if no access comes.
 use Rattle.std.specs.Prelude.{ℕ, zero, suc, ◌+◌, Bool, false, ◌||◌, if◌then◌else◌, Option, Some, None}
-use Rattle.irq_edges.specs.declared.bursts.Burst.{Burst}
 use Rattle.hpet_registers.specs.declared.parts.HpetParts.{HpetParts}
 use Rattle.hpet_bursts.specs.Messages.{message_at}
 

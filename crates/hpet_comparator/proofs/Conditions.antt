@@ -1,20 +1,10 @@
--- A timer at power on holds the conditions; no field's condition fails exactly where all hold.
-use Rattle.std.proofs.Common.{◌≡◌, Bool, true, false, cond, ◌&&◌, leb, eqb, bit_and, Option, Some, None, refl, ap, ◌∙◌, arith}
+-- No condition of a timer fails exactly where all hold.
+use Rattle.std.proofs.Common.{◌≡◌, Bool, true, false, cond, ◌&&◌, leb, eqb, bit_and, Option, Some, None, refl, ap, ◌∙◌}
 use Rattle.std.proofs.lemmas.Bool.{ltb-true, leb-true, eqb-true, lt-ltb, le-leb, eq-eqb}
 use Rattle.hpet_comparator.specs.declared.parts.TimerParts.{TimerParts}
 use Rattle.hpet_comparator.specs.declared.parts.TimerField.{TimerField}
 use Rattle.hpet_comparator.specs.declared.parts.TimerField.TheVariants.{Config, Comparator, Period}
-use Rattle.hpet_comparator.specs.Parts.{IsTimer, timer_at_power_on, timer_fault, writable_bits, route_of, modulus, config_valid, comparator_valid, period_valid}
-
--- a timer at power on is one
-pub IsTimer-timer_at_power_on : IsTimer timer_at_power_on
-IsTimer-timer_at_power_on = record {
-  bits = refl;
-  low_route = omega arith;
-  high_route = omega arith;
-  comparator = omega arith;
-  period = omega arith;
-}
+use Rattle.hpet_comparator.specs.Parts.{IsTimer, timer_fault, writable_bits, route_of, modulus, config_valid, comparator_valid, period_valid}
 
 -- a condition that holds, and no fault after it
 pub peel : (b : Bool) (f : TimerField) (rest : Option TimerField) → cond b rest (Some f) ≡ None → (b ≡ true) × (rest ≡ None)

@@ -53,16 +53,6 @@ falls_on-after d count every j =
     ap (λ (b : Bool). b && (eqb ((d + j - d) % every) 0 && ltb ((d + j - d) / every) count)) (le-leb d (d + j) (omega arith))
     ∙ ap (λ (x : ℕ). eqb (x % every) 0 && ltb (x / every) count) e
 
--- of them the j-th spacing is one, where there are more than j
-pub falls_on-spacing : (d count every j : ℕ) → 0 < every → j < count → falls_on (Some d) count every (d + j * every) ≡ true
-falls_on-spacing d count every j some more =
-    let e : j * every ≡ j * every + 0 = omega arith in
-    let rest : j * every % every ≡ 0 = ap (λ (x : ℕ). x % every) e ∙ mod-mul-add j every 0 some in
-    let quotient : j * every / every ≡ j = ap (λ (x : ℕ). x / every) e ∙ div-mul-add j every 0 some in
-    falls_on-after d count every (j * every)
-    ∙ (ap (λ (b : Bool). b && ltb (j * every / every) count) (eq-eqb (j * every % every) 0 rest)
-    ∙ lt-ltb (j * every / every) count (omega (arith, quotient)))
-
 -- up to the end of a stretch all that fall are counted
 within-stretch : (d n every j : ℕ) → 0 < every → d + j ≤ n → falls_on (Some d) (1 + (n - d) / every) every (d + j) ≡ eqb (j % every) 0
 within-stretch d n every j some inside =

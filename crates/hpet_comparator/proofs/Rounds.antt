@@ -1,5 +1,5 @@
 -- Many pulses of a timer at once: from one match to the next, and over any stretch.
-use Rattle.std.proofs.Common.{◌≡◌, ℕ, zero, suc, ◌+◌, ◌-◌, ◌*◌, ◌/◌, ◌%◌, ◌^◌, ◌<◌, ◌≤◌, Bool, true, false, cond, ◌&&◌, ltb, Some, None, refl, ap, sym, ◌∙◌}
+use Rattle.std.proofs.Common.{◌≡◌, ℕ, zero, suc, ◌+◌, ◌-◌, ◌*◌, ◌/◌, ◌%◌, ◌^◌, ◌<◌, ◌≤◌, Bool, true, false, cond, ◌&&◌, ltb, Some, refl, ap, sym, ◌∙◌}
 use Rattle.std.proofs.Common.{subst, inl, inr, arith, IsTrue}
 use Rattle.std.proofs.lemmas.Bool.{cases_lt, lt-ltb, le-ltb, eq-eqb, ne_eqb, eqb-true}
 use Rattle.std.proofs.lemmas.Nat.{mod_below, div-add-mod'}
@@ -219,10 +219,6 @@ from_due c d j t valid h =
 pub matches_in-every : (from j : ℕ) (t : TimerParts) → IsTimer t → IsTrue (matches_at (counter_after from 1) t)
     → matches_in from t (1 + j) ≡ 1 + j / spacing_of t
 matches_in-every from j t valid h = (from_due from 1 j t valid (due-matches_at from t h)).1 ∙ omega arith
-
--- before the first match of a stretch
-pub IsFirst-early : (c d n : ℕ) (t : TimerParts) → IsDue c t d → n < d → IsFirst (matches_in c t) n None
-IsFirst-early c d n t h less = (early c d n t h less).1
 
 -- the first match of a stretch
 pub IsFirst-due : (c d n : ℕ) (t : TimerParts) → IsDue c t d → d ≤ n → IsFirst (matches_in c t) n (Some d)

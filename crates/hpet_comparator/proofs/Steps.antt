@@ -45,21 +45,11 @@ pub config-pulsed : (c : ℕ) (t : TimerParts) → (pulsed c t).config ≡ t.con
 unfolding pulsed
 config-pulsed c t = refl
 
-pub period-pulsed : (c : ℕ) (t : TimerParts) → (pulsed c t).period ≡ t.period
-unfolding pulsed
-period-pulsed c t = refl
-
 -- pulses leave the configuration
 pub config-pulsed_times : (from n : ℕ) (t : TimerParts) → (pulsed_times from n t).config ≡ t.config
 unfolding pulsed
 config-pulsed_times from zero t = refl
 config-pulsed_times from (suc n) t = config-pulsed_times from n t
-
--- pulses leave the period
-pub period-pulsed_times : (from n : ℕ) (t : TimerParts) → (pulsed_times from n t).period ≡ t.period
-unfolding pulsed
-period-pulsed_times from zero t = refl
-period-pulsed_times from (suc n) t = period-pulsed_times from n t
 
 -- in 32-bit mode the low half of the main counter decides alone
 matches_at-low : (from k : ℕ) (t : TimerParts) → is_32_bit t ≡ true → matches_at (counter_after from k) t ≡ matches_at (counter_after (from % 2 ^ 32) k) t

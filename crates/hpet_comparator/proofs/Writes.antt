@@ -18,14 +18,6 @@ modulus-pos t = positive (is_32_bit t)
     positive true = omega arith
     positive false = omega arith
 
--- 64 bits at most
-pub modulus-le : (t : TimerParts) → modulus t ≤ 2 ^ 64
-modulus-le t = at_most (is_32_bit t)
-  where
-    at_most : (b : Bool) → cond b (2 ^ 32) (2 ^ 64) ≤ 2 ^ 64
-    at_most true = omega arith
-    at_most false = omega arith
-
 -- one of two numbers that are below a third
 pub below : (b : Bool) {x y m : ℕ} → x < m → y < m → cond b x y < m
 below true f g = f

@@ -1,6 +1,6 @@
 //! The record of a timer's fields, what its configuration says, and the conditions on the fields.
 
-ghost use Rattle.std.specs.Prelude.{◌≡◌, ℕ, ◌/◌, ◌%◌, ◌^◌, ◌<◌, ◌↔◌, None};
+ghost use Rattle.std.specs.Prelude.{◌≡◌, ◌/◌, ◌%◌, ◌<◌, ◌↔◌, None};
 ghost use Rattle.clk_units.specs.Bits.{bit};
 ghost use Rattle.hpet_comparator.specs.Parts.{is_level, is_enabled, is_periodic, takes_comparator};
 ghost use Rattle.hpet_comparator.specs.Parts.{is_32_bit, route_of, modulus, config_valid};

@@ -168,19 +168,3 @@ IsHpet-hpet_pulsed h valid = record {
 pub IsHpet-hpet_pulsed_times : (n : ℕ) (h : HpetParts) → IsHpet h → IsHpet (hpet_pulsed_times n h)
 IsHpet-hpet_pulsed_times zero h valid = valid
 IsHpet-hpet_pulsed_times (suc n) h valid = IsHpet-hpet_pulsed (hpet_pulsed_times n h) (IsHpet-hpet_pulsed_times n h valid)
-
--- there are at most eight timers
-pub timers-le : (k : ℕ) (h : HpetParts) → IsHpet h → k < h.timers → k < 8
-timers-le k h valid inside = small valid.timers
-  where
-    small : (h.timers ≡ 3) ⊎ (h.timers ≡ 8) → k < 8
-    small (inl e) = omega arith
-    small (inr e) = omega arith
-
--- each place holds a timer or nothing
-pub place-cases : (k : ℕ) (h : HpetParts) → IsHpet h → k < 8 → IsTimer (timer_at k h) ⊎ (timer_at k h ≡ no_timer)
-place-cases k h valid small = split (ltb k h.timers) (timer_at k h) (valid.places k small)
-  where
-    split : (b : Bool) (t : TimerParts) → IsPlace b t → IsTimer t ⊎ (t ≡ no_timer)
-    split true t p = inl p
-    split false t p = inr p

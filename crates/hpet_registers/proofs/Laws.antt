@@ -19,8 +19,4 @@ pub status-register_written : (r : Register) (width : â„•) (high : Bool) (v : â„
 status-register_written Capabilities width high v h = and_self h.status
 status-register_written Configuration width high v h = and_self h.status
 status-register_written Status width high v h = masked h.status (0xff - part_written width high v 0 % 2 ^ 8)
-status-register_written MainCounter width high v h = and_self h.status
-status-register_written (TimerConfig k) width high v h = and_self h.status
-status-register_written (TimerComparator k) width high v h = and_self h.status
-status-register_written (TimerMessage k) width high v h = and_self h.status
-status-register_written Reserved width high v h = and_self h.status
+status-register_written _ width high v h = and_self h.status

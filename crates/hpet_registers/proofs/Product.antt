@@ -9,9 +9,9 @@ use Rattle.clk_units.proofs.Events.{CountsUp-by_test}
 use Rattle.hpet_comparator.specs.Counter.{counter_after}
 use Rattle.hpet_comparator.proofs.Counting.{counter_after-zero, counter_after-suc}
 use Rattle.hpet_comparator.specs.declared.parts.TimerParts.{TimerParts}
-use Rattle.hpet_comparator.specs.Parts.{is_level, is_enabled, route_of}
-use Rattle.hpet_comparator.specs.Stretch.{matches_at, pulsed, pulsed_times, matches_in, spacing_of}
-use Rattle.hpet_comparator.proofs.Steps.{config-pulsed, period-pulsed}
+use Rattle.hpet_comparator.specs.Parts.{is_level, is_enabled}
+use Rattle.hpet_comparator.specs.Stretch.{matches_at, pulsed, pulsed_times, matches_in}
+use Rattle.hpet_comparator.proofs.Steps.{config-pulsed}
 use Rattle.hpet_registers.specs.declared.parts.HpetParts.{HpetParts}
 use Rattle.hpet_registers.specs.Parts.{no_timer, timer_at, message_bit_at, message_word_at, is_running, is_legacy}
 use Rattle.hpet_registers.specs.Stretch.{with_bits, matches_next, hpet_pulsed, hpet_pulsed_times, matches_of}
@@ -24,19 +24,6 @@ hpet_pulsed_times-add m zero h = let e : m + 0 ≡ m = omega arith in ap (λ (x 
 hpet_pulsed_times-add m (suc n) h =
     let e : m + suc n ≡ suc (m + n) = omega arith in
     ap (λ (x : ℕ). hpet_pulsed_times x h) e ∙ ap hpet_pulsed (hpet_pulsed_times-add m n h)
-
-pub matches_of-add : (k m n : ℕ) (h : HpetParts) → matches_of k h (m + n) ≡ matches_of k h m + matches_of k (hpet_pulsed_times m h) n
-matches_of-add k m zero h = let e : m + 0 ≡ m = omega arith in ap (matches_of k h) e ∙ omega arith
-matches_of-add k m (suc n) h =
-    let e : m + suc n ≡ suc (m + n) = omega arith in
-    ap (matches_of k h) e
-    ∙ (ap (λ (b : Bool). cond b (suc (matches_of k h (m + n))) (matches_of k h (m + n))) (ap (matches_next k) (hpet_pulsed_times-add m n h))
-    ∙ counted (matches_next k (hpet_pulsed_times n (hpet_pulsed_times m h))) (matches_of k h (m + n)) (matches_of k h m)
-    (matches_of k (hpet_pulsed_times m h) n) (matches_of-add k m n h))
-  where
-    counted : (b : Bool) (x y z : ℕ) → x ≡ y + z → cond b (suc x) x ≡ y + cond b (suc z) z
-    counted true x y z e = omega arith
-    counted false x y z e = omega arith
 
 -- pulses change the counter, the status and the timers, and nothing else
 pub kept-hpet_pulsed_times : (n : ℕ) (h : HpetParts)
@@ -60,9 +47,6 @@ is_legacy-hpet_pulsed_times n h = ap (bit 1) (config-hpet_pulsed_times n h)
 pub timers-hpet_pulsed_times : (n : ℕ) (h : HpetParts) → (hpet_pulsed_times n h).timers ≡ h.timers
 timers-hpet_pulsed_times n h = ap (λ (s : HpetParts). s.timers) (kept-hpet_pulsed_times n h)
 
-pub messages-hpet_pulsed_times : (n : ℕ) (h : HpetParts) → (hpet_pulsed_times n h).messages ≡ h.messages
-messages-hpet_pulsed_times n h = ap (λ (s : HpetParts). s.messages) (kept-hpet_pulsed_times n h)
-
 pub message_bit_at-hpet_pulsed_times : (k n : ℕ) (h : HpetParts) → message_bit_at k (hpet_pulsed_times n h) ≡ message_bit_at k h
 message_bit_at-hpet_pulsed_times k n h = ap (λ (s : HpetParts). message_bit_at k s) (kept-hpet_pulsed_times n h)
 
@@ -83,30 +67,12 @@ timer-config k (suc n) h = stays (is_running (hpet_pulsed_times n h)) (counter_a
 pub timer_config-hpet_pulsed_times : (k n : ℕ) (h : HpetParts) → (timer_at k (hpet_pulsed_times n h)).config ≡ (timer_at k h).config
 timer_config-hpet_pulsed_times k n h = timer-config k n h
 
-pub timer_period-hpet_pulsed_times : (k n : ℕ) (h : HpetParts) → (timer_at k (hpet_pulsed_times n h)).period ≡ (timer_at k h).period
-unfolding hpet_pulsed
-timer_period-hpet_pulsed_times k zero h = refl
-timer_period-hpet_pulsed_times k (suc n) h = stays (is_running (hpet_pulsed_times n h)) (counter_after (hpet_pulsed_times n h).counter 1)
-    (hpet_pulsed_times n h).timer ∙ timer_period-hpet_pulsed_times k n h
-  where
-    stays : (b : Bool) (c : ℕ) (ts : List TimerParts) → (get_or (cond b (map (pulsed c) ts) ts) k no_timer).period ≡ (get_or ts k no_timer).period
-    stays true c ts = ap (λ (t : TimerParts). t.period) (get_or-pulsed c k ts) ∙ period-pulsed c (get_or ts k no_timer)
-    stays false c ts = refl
-
 -- and what they say
 pub is_level-hpet_pulsed_times : (k n : ℕ) (h : HpetParts) → is_level (timer_at k (hpet_pulsed_times n h)) ≡ is_level (timer_at k h)
 is_level-hpet_pulsed_times k n h = ap (bit 1) (timer-config k n h)
 
 pub is_enabled-hpet_pulsed_times : (k n : ℕ) (h : HpetParts) → is_enabled (timer_at k (hpet_pulsed_times n h)) ≡ is_enabled (timer_at k h)
 is_enabled-hpet_pulsed_times k n h = ap (bit 2) (timer-config k n h)
-
-pub route_of-hpet_pulsed_times : (k n : ℕ) (h : HpetParts) → route_of (timer_at k (hpet_pulsed_times n h)).config ≡ route_of (timer_at k h).config
-route_of-hpet_pulsed_times k n h = ap route_of (timer-config k n h)
-
-pub spacing_of-hpet_pulsed_times : (k n : ℕ) (h : HpetParts) → spacing_of (timer_at k (hpet_pulsed_times n h)) ≡ spacing_of (timer_at k h)
-spacing_of-hpet_pulsed_times k n h =
-    ap (λ (c : ℕ). spacing_of (record (timer_at k (hpet_pulsed_times n h)) { config = c })) (timer-config k n h)
-    ∙ ap (λ (p : ℕ). spacing_of (record (timer_at k h) { period = p })) (timer_period-hpet_pulsed_times k n h)
 
 -- a status bit is raised by this pulse or was by those before
 raised-suc : (b l : Bool) (m : ℕ) → ((b && l) || (ltb 0 m && l)) ≡ (ltb 0 (cond b (suc m) m) && l)

@@ -1,6 +1,6 @@
 //! Register traces of one block, read and written as a guest does.
 
-ghost use Rattle.std.specs.Prelude.{◌≡◌, ◌*◌, ◌^◌, ◌<◌, ◌≤◌, IsTrue};
+ghost use Rattle.std.specs.Prelude.{◌*◌, ◌^◌, ◌<◌, ◌≤◌, IsTrue};
 ghost use Rattle.hpet_registers.specs.Access.{is_access_width};
 
 use super::*;

@@ -1,7 +1,7 @@
 -- Lemmas on the edges between two lists of levels.
 use Rattle.std.proofs.Common.{◌≡◌, ℕ, ◌+◌, ◌<◌, ◌≤◌, Bool, true, false, not, List, [], ◌∷◌, ◌++◌, length, get_or, drop, refl, sym, ap, ◌∙◌, arith, append_assoc}
 use Rattle.std.proofs.Common.{length-append}
-use Rattle.std.proofs.lemmas.List.{drop_more, drop_all}
+use Rattle.std.proofs.lemmas.List.{drop_more}
 use Rattle.std.specs.Bool.{beq}
 use Rattle.std.proofs.lemmas.Bool.{false≢true}
 use Rattle.irq_edges.specs.declared.edges.Edge.{Edge}
@@ -32,10 +32,6 @@ changes-drop at ns before after i b a h p q =
     let hb : i < length before = omega arith in
     let ha : i < length after = omega arith in
     rw (drop_more ns i 0 h, drop_more before i b hb, drop_more after i a ha) refl
-
--- after the last place there is none
-pub changes-past : (at : ℕ) (ns : List ℕ) (before after : List Bool) (i : ℕ) → length ns ≤ i → changes at (drop i ns) (drop i before) (drop i after) ≡ []
-changes-past at ns before after i h = rw (drop_all i ns h) refl
 
 -- a line whose level differs has an edge
 pub change-differs : (at line : ℕ) (b a : Bool) → not (beq b a) ≡ true → change at line b a ≡ record { at = at; line = line; up = a } ∷ []

@@ -6,10 +6,6 @@ use Rattle.std.proofs.lemmas.List.Elements.{Contains-push, Contains-push_cases, 
 use Rattle.irq_edges.specs.Rises.{IsNextRise}
 use Rattle.irq_edges.specs.private.Rises.{earlier_rise}
 
--- no line rises
-pub IsNextRise-none : (at to : ℕ) → IsNextRise [] at to None
-IsNextRise-none at to = λ t c h. absurd (omega (arith, c.1))
-
 -- a rise that falls in between
 earlier_rise-takes : (at to : ℕ) (next : Option ℕ) (r : ℕ) → at < r → r ≤ unwrap_or next to → earlier_rise at to next (Some r) ≡ Some r
 earlier_rise-takes at to next r h k = rw (lt-ltb at r h, le-leb r (unwrap_or next to) k) refl

@@ -1,9 +1,8 @@
 -- Edges of the six lines.
-use Rattle.std.proofs.Common.{ℕ, zero, suc, ◌+◌, Bool, true, false, IsTrue, List, [], ◌∷◌, Option, refl}
+use Rattle.std.proofs.Common.{ℕ, Bool, true, false, IsTrue, List, [], ◌∷◌, refl}
 use Rattle.std.specs.List.{All}
 use Rattle.std.proofs.lemmas.List.Elements.{All-nil, All-cons, All-append, All-head, All-tail, All-from_recursion}
 use Rattle.irq_edges.specs.Lines.{change, changes, is_line, line_numbers, IsOfLine}
-use Rattle.irq_edges.specs.Rises.{levels_at, rises_of}
 
 -- the edge of a line
 All-change : (at n : ℕ) (b a : Bool) → IsTrue (is_line n) → All IsOfLine (change at n b a)
@@ -29,11 +28,3 @@ All-line_numbers = All-from_recursion (λ n. IsTrue (is_line n)) line_numbers (r
 -- each edge between two lists of levels of the six lines is of one of them
 pub IsOfLine-changes : (at : ℕ) (before after : List Bool) → All IsOfLine (changes at line_numbers before after)
 IsOfLine-changes at before after = All-changes at line_numbers before after All-line_numbers
-
--- and so is each edge of a stretch
-pub IsOfLine-rises_of : (us : List (Option ℕ)) (t n : ℕ) → All IsOfLine (rises_of line_numbers us t n)
-unfolding rises_of
-IsOfLine-rises_of us t zero = All-nil IsOfLine
-IsOfLine-rises_of us t (suc n) =
-    All-append IsOfLine (rises_of line_numbers us t n) (changes (t + n + 1) line_numbers (levels_at (t + n) us) (levels_at (t + n + 1) us))
-    (IsOfLine-rises_of us t n) (IsOfLine-changes (t + n + 1) (levels_at (t + n) us) (levels_at (t + n + 1) us))

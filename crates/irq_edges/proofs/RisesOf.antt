@@ -5,7 +5,7 @@ use Rattle.irq_edges.specs.declared.edges.Edge.{Edge}
 use Rattle.irq_edges.specs.Lines.{changes}
 use Rattle.irq_edges.specs.Rises.{levels_at, rises_of, IsNextRise}
 use Rattle.irq_edges.proofs.EdgesOf.{changes-same}
-use Rattle.irq_edges.proofs.UpFrom.{between, levels_at-still}
+use Rattle.irq_edges.proofs.UpFrom.{levels_at-still}
 
 -- no nanoseconds, no edges
 pub rises_of-zero : (ns : List ℕ) (us : List (Option ℕ)) (t : ℕ) → rises_of ns us t 0 ≡ []
@@ -26,10 +26,6 @@ rises_of-still ns us t (suc n) still =
     let place : t + n + 1 ≡ t + suc n = omega arith in
     let next : levels_at (t + n + 1) us ≡ levels_at t us = ap (λ (s : ℕ). levels_at s us) place ∙ still (suc n) (omega arith) in
     rises_of-more ns us t n ∙ rw (rises_of-still ns us t n (λ j h. still j (omega arith)), here, next) (changes-same (t + n + 1) ns (levels_at t us))
-
--- levels that are equal at both ends have no edges in between
-pub rises_of-quiet : (ns : List ℕ) (us : List (Option ℕ)) (t n : ℕ) → levels_at t us ≡ levels_at (t + n) us → rises_of ns us t n ≡ []
-rises_of-quiet ns us t n e = rises_of-still ns us t n (λ j h. between t (t + j) (t + n) us (omega arith) (omega arith) e)
 
 -- stretches join
 pub rises_of-add : (ns : List ℕ) (us : List (Option ℕ)) (t m n : ℕ) → rises_of ns us t (m + n) ≡ rises_of ns us t m ++ rises_of ns us (t + m) n

@@ -12,23 +12,13 @@ use Rattle.lapic_timer.specs.Stretch.{counted, passed, nanosecond}
 use Rattle.lapic_timer.specs.Deadline.{is_reached, looked}
 use Rattle.local_apics.specs.declared.parts.ApicsParts.{ApicsParts}
 use Rattle.local_apics.specs.Places.{each, no_timer, timer_at}
-use Rattle.local_apics.specs.Nanosecond.{at_nanosecond, run, looked_all, looks_due}
+use Rattle.local_apics.specs.Nanosecond.{at_nanosecond, looked_all, looks_due}
 use Rattle.local_apics.proofs.Ticks.{looked-quiet}
 
 get_or-after : {X : Type 0} (xs : List X) (i : ℕ) (d : X) → length xs ≤ i → get_or xs i d ≡ d
 get_or-after [] i d h = refl
 get_or-after (x ∷ xs) zero d h = absurd (omega arith)
 get_or-after (x ∷ xs) (suc i) d h = get_or-after xs i d (omega arith)
-
--- a run in two pieces is the run at once
-pub run-add : (tsc : ℕ → ℕ → ℕ) (from m n : ℕ) (a : ApicsParts) → run tsc from (m + n) a ≡ run tsc (from + m) n (run tsc from m a)
-run-add tsc from m zero a = ap (λ (x : ℕ). run tsc from x a) (omega arith)
-run-add tsc from m (suc n) a =
-    let e : m + suc n ≡ suc (m + n) = omega arith in
-    let t : from + (m + n) + 1 ≡ from + m + n + 1 = omega arith in
-    ap (λ (x : ℕ). run tsc from x a) e
-    ∙ ap (λ (x : ℕ). at_nanosecond (λ k. tsc k x) (run tsc from (m + n) a)) t
-    ∙ ap (at_nanosecond (λ k. tsc k (from + m + n + 1))) (run-add tsc from m n a)
 
 -- a deadline that was looked at isn't reached
 unreached : (t : ℕ) (p : ApicParts) → is_reached (looked t p).deadline t ≡ false

@@ -33,12 +33,6 @@ same_places (x ∷ xs) (y ∷ ys) d e h =
     let first : x ≡ y = h 0 (omega arith) in
     ap (λ z. z ∷ xs) first ∙ ap (λ zs. y ∷ zs) (same_places xs ys d (omega (arith, e)) (λ j less. h (suc j) (omega arith)))
 
--- a place that is there needs no default
-pub get_or-any : {X : Type 0} (xs : List X) (i : ℕ) (d e : X) → i < length xs → get_or xs i d ≡ get_or xs i e
-get_or-any [] i d e h = absurd (omega arith)
-get_or-any (x ∷ xs) zero d e h = refl
-get_or-any (x ∷ xs) (suc i) d e h = get_or-any xs i d e (omega arith)
-
 -- one place that is there
 pub each-in : {X : Type 0} (f : ℕ → X → X) (d : X) (k i : ℕ) (xs : List X) → i < length xs → get_or (each f k xs) i d ≡ f (k + i) (get_or xs i d)
 each-in f d k i [] h = absurd (omega arith)

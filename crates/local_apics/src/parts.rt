@@ -1,6 +1,5 @@
 //! All fields, and the conditions on them.
 ghost use Rattle.std.specs.Prelude.{◌≡◌, ◌<◌, ◌↔◌, IsTrue, slice_set};
-ghost use Rattle.local_apics.specs.Parts.{IsPlaceOf};
 ghost use Rattle.local_apics.specs.Places.{timer_at, line_at, no_timer, no_line};
 
 use lapic_timer::ApicParts;

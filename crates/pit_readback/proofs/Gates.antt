@@ -1,5 +1,5 @@
 -- What leaves GATE of a counter as it is: all but a write of port 61h.
-use Rattle.std.proofs.Common.{◌≡◌, ℕ, zero, suc, ◌+◌, ◌*◌, ◌%◌, ◌/◌, eqb, ◌<◌, [], ◌∷◌, get_or, arith, Bool, true, false, refl, ap, ◌∙◌}
+use Rattle.std.proofs.Common.{◌≡◌, ℕ, zero, suc, ◌+◌, ◌*◌, ◌<◌, [], ◌∷◌, get_or, arith, Bool, true, false, refl, ap, ◌∙◌}
 use Rattle.std.proofs.lemmas.Bool.{cond_both}
 use Rattle.pit_counter.specs.declared.parts.CounterParts.{CounterParts}
 use Rattle.pit_counter.specs.declared.mode.Access.{Access}
@@ -7,14 +7,14 @@ use Rattle.pit_counter.specs.declared.mode.Access.TheVariants.{LowByte, HighByte
 use Rattle.pit_counter.specs.declared.table.Effect.{Effect}
 use Rattle.pit_counter.specs.declared.table.Effect.TheVariants.{Load}
 use Rattle.pit_counter.specs.Mode.{mode_of, access_of}
-use Rattle.pit_counter.specs.Programming.{counter_at_power_on, programmed, controlled, completed, begun, byte_written_by, byte_written}
+use Rattle.pit_counter.specs.Programming.{counter_at_power_on, completed, begun, byte_written_by, byte_written}
 use Rattle.pit_counter.specs.Table.{effect_in, affected, pulsed, pulsed_times}
 use Rattle.pit_counter.specs.Reading.{with_count_latched, with_status_latched, status_released, count_released, after_read}
 use Rattle.pit_readback.specs.private.Wiring.{IsWired}
 use Rattle.pit_readback.specs.Pit.{counter_of, pit_pulsed_times}
 use Rattle.pit_readback.specs.declared.parts.PitParts.{PitParts}
 use Rattle.pit_readback.proofs.Three.{length-pit_pulsed_times, counter_of-pit_pulsed_times}
-use Rattle.pit_readback.specs.Ports.{commanded, count_latched_if, status_latched_if, latches_count, latches_status, read_back_of}
+use Rattle.pit_readback.specs.Ports.{count_latched_if, status_latched_if, latches_count, latches_status, read_back_of}
 
 gate-byte_written_by : (a : Access) (byte : ℕ) (c : CounterParts) → (byte_written_by a byte c).gate ≡ c.gate
 unfolding byte_written_by completed begun
@@ -26,11 +26,6 @@ gate-byte_written_by LowThenHigh byte c = cond_both c.part_there (completed (c.p
 -- a byte of a count
 pub gate-byte_written : (byte : ℕ) (c : CounterParts) → (byte_written byte c).gate ≡ c.gate
 gate-byte_written byte c = gate-byte_written_by (access_of c.bits) byte c
-
--- a latch or a control word
-pub gate-commanded : (byte : ℕ) (c : CounterParts) → (commanded byte c).gate ≡ c.gate
-unfolding commanded programmed with_count_latched
-gate-commanded byte c = cond_both (eqb (byte / 16 % 4) 0) (with_count_latched c) (controlled (byte % 64) c) (λ d. d.gate ≡ c.gate) (λ _. refl) (λ _. refl)
 
 -- a read
 pub gate-after_read : (c : CounterParts) → (after_read c).gate ≡ c.gate

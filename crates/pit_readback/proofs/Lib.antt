@@ -1,5 +1,4 @@
 pub mod Faults
 pub mod Gates
-pub mod Keeps
 pub mod Rows
 pub mod Three

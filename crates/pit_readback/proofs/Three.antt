@@ -10,14 +10,6 @@ use Rattle.pit_readback.specs.Ports.{port_written, written_61}
 use Rattle.pit_readback.specs.Pit.{counter_of, pit_pulsed, pit_pulsed_times}
 use Rattle.pit_readback.specs.declared.parts.PitParts.{PitParts}
 
--- a list of three is that of its three elements
-pub three_of : {A : Type 0} (xs : List A) (d : A) → length xs ≡ 3 → xs ≡ get_or xs 0 d ∷ get_or xs 1 d ∷ get_or xs 2 d ∷ []
-three_of [] d e = cc
-three_of (a ∷ []) d e = cc
-three_of (a ∷ b ∷ []) d e = cc
-three_of (a ∷ b ∷ c ∷ []) d e = refl
-three_of (a ∷ b ∷ c ∷ x ∷ xs) d e = absurd (omega arith)
-
 -- no pulses
 pub pit_pulsed_times-zero : (p : PitParts) → pit_pulsed_times 0 p ≡ p
 unfolding pit_pulsed_times

@@ -1,6 +1,6 @@
 //! The read-back command. Intel 8254 data sheet, "Read-Back Command".
 
-ghost use Rattle.std.specs.Prelude.{◌≡◌, ◌<◌, ◌≤◌};
+ghost use Rattle.std.specs.Prelude.{◌≡◌, ◌<◌};
 ghost use Rattle.pit_readback.specs.Ports.{
   is_chosen,
   latches_count,

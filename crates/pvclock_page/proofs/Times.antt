@@ -1,8 +1,7 @@
 -- The time of a page: it grows with the TSC, and keeps near the exact time.
 use Rattle.std.proofs.Common.{◌≡◌, ℕ, ℤ, pos, negsuc, zero, suc, ◌+◌, ◌-◌, ◌*◌, ◌/◌, ◌%◌, ◌^◌, ◌<◌, ◌≤◌, refl, ap, ◌∙◌, arith}
-use Rattle.std.proofs.Math.Nat.{div-lt_iff_lt-mul, div-mul-le_self, div-zero, lt-div-mul-add, mod-eq_of_lt, mul-le-mul_left, mul-le-mul_right, zero-div}
+use Rattle.std.proofs.Math.Nat.{div-lt_iff_lt-mul, div-mul-le_self, div-zero, lt-div-mul-add, mul-le-mul_left, mul-le-mul_right, zero-div}
 use Rattle.std.proofs.lemmas.Nat.{le-div, pow_pos, pow-add}
-use Rattle.std.proofs.lemmas.Bool.{lt-ltb}
 use Rattle.pvclock_page.specs.declared.page.Page.{Page}
 use Rattle.pvclock_page.specs.Scale.{IsScale}
 use Rattle.pvclock_page.specs.Reading.{ticks_since, delta_of, shifted, elapsed_of, whole_reading, reading_of, IsNear}
@@ -124,19 +123,6 @@ elapsed-whole page tsc fits = less (elapsed_of (delta_of page tsc) page.mul page
     less : (a b : ℕ) → a + b < 2 ^ 64 → (a + b) % 2 ^ 64 - b ≡ a
     less a b fits = omega arith
 
--- a time that doesn't wrap
-pub reading_of-whole : (page : Page) (tsc : ℕ) → whole_reading page tsc < 2 ^ 64 → reading_of page tsc ≡ whole_reading page tsc
-unfolding reading_of
-reading_of-whole page tsc fits = mod-eq_of_lt fits
-
--- a time has 64 bits
-pub reading_of-below : (page : Page) (tsc : ℕ) → reading_of page tsc < 2 ^ 64
-unfolding reading_of
-reading_of-below page tsc = below (whole_reading page tsc)
-  where
-    below : (n : ℕ) → n % 2 ^ 64 < 2 ^ 64
-    below n = omega arith
-
 -- no ticks take no time
 pub elapsed_of-zero : (mul : ℕ) (shift : ℤ) → elapsed_of 0 mul shift ≡ 0
 elapsed_of-zero mul (pos n) = omega arith
@@ -156,17 +142,3 @@ reading_of-zero page tsc fits none =
 -- at the timestamp no ticks have come
 pub ticks_since-same : (n : ℕ) → n < 2 ^ 64 → ticks_since n n ≡ 0
 ticks_since-same n fits = let e : (n + (2 ^ 64 - n)) % 2 ^ 64 ≡ 0 = omega arith in rw e refl
-
-pub delta_of-timestamp : (page : Page) → page.tsc_timestamp < 2 ^ 64 → delta_of page page.tsc_timestamp ≡ 0
-delta_of-timestamp page fits = ticks_since-same page.tsc_timestamp fits
-
--- of two TSCs ahead of the timestamp the later one has no fewer ticks
-pub delta_of-mono : (page : Page) (earlier tsc : ℕ) → tsc < 2 ^ 64 → page.tsc_timestamp ≤ earlier → earlier ≤ tsc → tsc - page.tsc_timestamp < 2 ^ 63
-    → delta_of page earlier ≤ delta_of page tsc
-delta_of-mono page earlier tsc fits from h near =
-    rw (ahead page.tsc_timestamp earlier (omega arith) from (omega arith), ahead page.tsc_timestamp tsc fits (omega arith) near) (omega arith)
-  where
-    ahead : (stamp tsc : ℕ) → tsc < 2 ^ 64 → stamp ≤ tsc → tsc - stamp < 2 ^ 63 → ticks_since stamp tsc ≡ tsc - stamp
-    ahead stamp tsc fits from near =
-        let e : (tsc + (2 ^ 64 - stamp)) % 2 ^ 64 ≡ tsc - stamp = omega arith in
-        rw (e, lt-ltb (tsc - stamp) (2 ^ 63) near) refl

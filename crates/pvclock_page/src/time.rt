@@ -1,6 +1,6 @@
 //! The time that a page gives.
 
-ghost use Rattle.std.specs.Prelude.{◌≡◌, ℕ, ◌+◌, ◌-◌, ◌*◌, ◌/◌, ◌%◌, ◌^◌, ◌<◌, ◌≤◌};
+ghost use Rattle.std.specs.Prelude.{◌≡◌, ℕ, ◌-◌, ◌*◌, ◌/◌, ◌%◌, ◌^◌, ◌<◌, ◌≤◌};
 ghost use Rattle.pvclock_page.specs.Reading.{delta_of, elapsed_of, whole_reading, reading_of};
 ghost use Rattle.pvclock_page.specs.Reading.{ticks_since, IsNear};
 ghost use Rattle.pvclock_page.specs.Scale.{IsScale};

@@ -1,6 +1,6 @@
 //! A page as five words of 64 bits, which are kept and loaded one by one.
 
-ghost use Rattle.std.specs.Prelude.{◌≡◌, ℕ, ℤ, Bool};
+ghost use Rattle.std.specs.Prelude.{◌≡◌};
 ghost use Rattle.pvclock_page.specs.Words.{words_of, page_of, scale_word};
 
 use crate::page::Page;

@@ -118,9 +118,7 @@ reaches_more x b c d v w r q = record {
 
 reaches_call : (x : ℕ) (b : BoardParts) (cpu h : ℕ) (call : Call) → Reaches x b (after_call b cpu h call) (of_call (past x) cpu h call)
 reaches_call x b cpu h (Act a) = reaches_access x b cpu h a
-reaches_call x b cpu h (ReadPage page) = reaches_none x b
-reaches_call x b cpu h (ReadClock page) = reaches_none x b
-reaches_call x b cpu h ReadHv = reaches_none x b
+reaches_call x b cpu h _ = reaches_none x b
 
 reaches_records : (x : ℕ) (b : BoardParts) (rs : List Record) → Reaches x b (after_records b rs) (weigh (of_record (past x)) rs)
 reaches_records x b [] = reaches_none x b
@@ -156,9 +154,7 @@ machine_records b (r ∷ rs) = machine_records (after_record b r) rs ∙ machine
   where
     machine_call : (cpu h : ℕ) (call : Call) → machine_of (after_call b cpu h call) ≡ machine_of b
     machine_call cpu h (Act a) = machine_of-access b cpu h a
-    machine_call cpu h (ReadPage page) = refl
-    machine_call cpu h (ReadClock page) = refl
-    machine_call cpu h ReadHv = refl
+    machine_call cpu h _ = refl
 
 places_records : (b : BoardParts) (rs : List Record) → length (after_records b rs).processors ≡ length b.processors
 places_records b [] = refl
@@ -166,9 +162,7 @@ places_records b (r ∷ rs) = places_records (after_record b r) rs ∙ places_ca
   where
     places_call : (cpu h : ℕ) (call : Call) → length (after_call b cpu h call).processors ≡ length b.processors
     places_call cpu h (Act a) = length-processors b cpu h a
-    places_call cpu h (ReadPage page) = refl
-    places_call cpu h (ReadClock page) = refl
-    places_call cpu h ReadHv = refl
+    places_call cpu h _ = refl
 
 -- the workers leave the counts that file order leaves
 module _ (s : BoardParts) (ds : Deliveries) (rs : List Record) (mid : BoardParts) (out : List ℕ) (sound : IsSound s)

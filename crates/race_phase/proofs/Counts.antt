@@ -87,15 +87,11 @@ weigh_none (x ∷ xs) = let e = weigh_none xs in omega arith
 abbrev pub of_entry : (ℕ → ℕ → Access → ℕ) → Entry → ℕ
 of_entry f (Opened s) = 0
 of_entry f (Board pass cpu h access reply) = f cpu h access
-of_entry f (PageRead pass cpu h page locked) = 0
-of_entry f (HvRead pass h page locked) = 0
-of_entry f (Clamp pass cpu reading clock) = 0
+of_entry f _ = 0
 
 abbrev pub of_call : (ℕ → ℕ → Access → ℕ) → ℕ → ℕ → Call → ℕ
 of_call f cpu h (Act a) = f cpu h a
-of_call f cpu h (ReadPage page) = 0
-of_call f cpu h (ReadClock page) = 0
-of_call f cpu h ReadHv = 0
+of_call f cpu h _ = 0
 
 abbrev pub of_record : (ℕ → ℕ → Access → ℕ) → Record → ℕ
 of_record f r = of_call f r.cpu r.h r.call
@@ -229,9 +225,7 @@ places-entry : (before : List Entry) (e : Entry) → May before e
     → length (after_entry (board_after before) e).processors ≡ length (board_after before).processors
 places-entry before (Opened s) may = absurd may
 places-entry before (Board pass cpu h access reply) may = length-processors (board_after before) cpu h access
-places-entry before (PageRead pass cpu h page locked) may = refl
-places-entry before (HvRead pass h page locked) may = refl
-places-entry before (Clamp pass cpu reading clock) may = refl
+places-entry before _ may = refl
 
 pub places-stay : (before xs : List Entry) → LegalFrom before xs → length (board_after (before ++ xs)).processors ≡ length (board_after before).processors
 places-stay before [] l = ap (λ h. length (board_after h).processors) (append-nil before)

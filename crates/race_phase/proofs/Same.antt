@@ -126,9 +126,7 @@ access_alike b c cpu h a s inside legal =
 call_alike : (b c : BoardParts) (cpu h : ℕ) (call : Call) → AreAlike b c → cpu < b.cpus → IsFittingCall b.cpus b.format call
     → AreAlike (after_call b cpu h call) (after_call c cpu h call)
 call_alike b c cpu h (Act a) s inside fits = access_alike b c cpu h a s inside fits
-call_alike b c cpu h (ReadPage page) s inside fits = s
-call_alike b c cpu h (ReadClock page) s inside fits = s
-call_alike b c cpu h ReadHv s inside fits = s
+call_alike b c cpu h _ s inside fits = s
 
 -- the processors and the format, which no record changes
 unfoldable pub size_of : BoardParts → ℕ × ℕ
@@ -137,9 +135,7 @@ size_of b = (b.cpus, b.format)
 size_call : (b : BoardParts) (cpu h : ℕ) (call : Call) → size_of (after_call b cpu h call) ≡ size_of b
 unfolding size_of
 size_call b cpu h (Act a) = ap (λ (m : Machine). (m.cpus, m.format)) (machine_of-access b cpu h a)
-size_call b cpu h (ReadPage page) = refl
-size_call b cpu h (ReadClock page) = refl
-size_call b cpu h ReadHv = refl
+size_call b cpu h _ = refl
 
 pub size_records : (b : BoardParts) (rs : List Record) → size_of (after_records b rs) ≡ size_of b
 size_records b [] = refl
@@ -153,9 +149,7 @@ fit_rest b c r rs same all = subst (λ (z : ℕ × ℕ). All (IsFitting z.0 z.1)
 -- what records are refused
 same_cause : (b c : BoardParts) (cpu h : ℕ) (call : Call) → AreAlike b c → call_cause b cpu h call ≡ call_cause c cpu h call
 same_cause b c cpu h (Act a) s = ap (option_map ByAccess) (same_refusal b c cpu h a s.counts)
-same_cause b c cpu h (ReadPage page) s = ap (λ (m : Machine). option_map ByCount (time_fault m.anchor h)) s.counts.machine
-same_cause b c cpu h (ReadClock page) s = ap (λ (m : Machine). option_map ByCount (time_fault m.anchor h)) s.counts.machine
-same_cause b c cpu h ReadHv s = ap (λ (m : Machine). option_map ByCount (time_fault m.anchor h)) s.counts.machine
+same_cause b c cpu h _ s = ap (λ (m : Machine). option_map ByCount (time_fault m.anchor h)) s.counts.machine
 
 pub records_alike : (b c : BoardParts) (rs : List Record) → AreAlike b c → All (IsFitting b.cpus b.format) rs
     → AreAlike (after_records b rs) (after_records c rs)

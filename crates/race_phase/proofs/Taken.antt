@@ -134,16 +134,12 @@ free_of b (r ∷ rs) e =
 
 places_call : (b : BoardParts) (cpu h : ℕ) (call : Call) → length (after_call b cpu h call).processors ≡ length b.processors
 places_call b cpu h (Act a) = length-processors b cpu h a
-places_call b cpu h (ReadPage page) = refl
-places_call b cpu h (ReadClock page) = refl
-places_call b cpu h ReadHv = refl
+places_call b cpu h _ = refl
 
 module _ (n : ℕ) (q : BoardParts → ℕ) (f : ℕ → ℕ → Access → ℕ) (k most : ℕ) (r : Raises n q f k most) where
   raised_call : (b : BoardParts) (cpu h : ℕ) (call : Call) → n ≤ length b.processors → q (after_call b cpu h call) ≡ q b + k * of_call f cpu h call
   raised_call b cpu h (Act a) l = r.access b cpu h a l
-  raised_call b cpu h (ReadPage page) l = omega arith
-  raised_call b cpu h (ReadClock page) l = omega arith
-  raised_call b cpu h ReadHv l = omega arith
+  raised_call b cpu h _ l = omega arith
 
   -- file order raises the number by the weight of its records
   pub filed : (b : BoardParts) (rs : List Record) → n ≤ length b.processors → q (after_records b rs) ≡ q b + k * weigh (of_record f) rs
@@ -155,9 +151,7 @@ module _ (n : ℕ) (q : BoardParts → ℕ) (f : ℕ → ℕ → Access → ℕ)
 
   room_call : (b : BoardParts) (cpu h : ℕ) (call : Call) → call_cause b cpu h call ≡ None → q b ≤ most → q b + k * of_call f cpu h call ≤ most
   room_call b cpu h (Act a) free l = r.room b cpu h a (access_none (refusal_of b cpu h a) free) l
-  room_call b cpu h (ReadPage page) free l = omega arith
-  room_call b cpu h (ReadClock page) free l = omega arith
-  room_call b cpu h ReadHv free l = omega arith
+  room_call b cpu h _ free l = omega arith
 
   -- and leaves room for all of them
   pub room_all : (b : BoardParts) (rs : List Record) → IsFree b rs → n ≤ length b.processors → q b ≤ most → q b + k * weigh (of_record f) rs ≤ most
@@ -200,15 +194,11 @@ no_fault anchor h e = by_start (ltb h anchor.start) (leb RANGE_NS (time_at ancho
 
 timed_call : (b : BoardParts) (cpu h : ℕ) (call : Call) → call_cause b cpu h call ≡ None → no_time b.anchor h ≡ false
 timed_call b cpu h (Act a) e = has_time b.anchor h (taken_time b cpu h a (access_none (refusal_of b cpu h a) e))
-timed_call b cpu h (ReadPage page) e = no_fault b.anchor h e
-timed_call b cpu h (ReadClock page) e = no_fault b.anchor h e
-timed_call b cpu h ReadHv e = no_fault b.anchor h e
+timed_call b cpu h _ e = no_fault b.anchor h e
 
 anchor_call : (b : BoardParts) (cpu h : ℕ) (call : Call) → (after_call b cpu h call).anchor ≡ b.anchor
 anchor_call b cpu h (Act a) = after_access-anchor b cpu h a
-anchor_call b cpu h (ReadPage page) = refl
-anchor_call b cpu h (ReadClock page) = refl
-anchor_call b cpu h ReadHv = refl
+anchor_call b cpu h _ = refl
 
 -- each record that is taken has its time
 all_timed : (anchor : Anchor) (b : BoardParts) (rs : List Record) → b.anchor ≡ anchor → IsFree b rs → weigh (untimed anchor) rs ≡ 0
@@ -242,10 +232,7 @@ seen_part s (Opened z ∷ es) later l p =
       rest = p.0;
       whole = cc p.1;
     }
-seen_part s (Board pass cpu h access reply ∷ es) later l p = absurd l
-seen_part s (PageRead pass cpu h page locked ∷ es) later l p = absurd l
-seen_part s (HvRead pass h page locked ∷ es) later l p = absurd l
-seen_part s (Clamp pass cpu reading clock ∷ es) later l p = absurd l
+seen_part s _ later l p = absurd l
 
 -- what is true of each board
 pub record IsSound (b : BoardParts) : Type 0 where
@@ -354,9 +341,7 @@ module _ (s : BoardParts) (rs : List Record) (h : List Entry) (sound : IsSound s
     where
       by_call : (call : Call) → k.next.call ≡ call → IsFittingCall s.cpus s.format call → CallTrouble s k.next.cpu k.next.h call k.pass.seen → ⊥
       by_call (Act a) is takes met = refused a met.0 is takes met.1
-      by_call (ReadPage page) is there met = unread met
-      by_call (ReadClock page) is there met = unread met
-      by_call ReadHv is there met = unread met
+      by_call _ is there met = unread met
 
 -- what a stopped board says of its workers
 pub phase_told : (s state : BoardParts) (ds : Deliveries) (rs : List Record) (ps : List PassKnown) (out : List ℕ) → IsSound s → length ps ≡ s.cpus

@@ -1,5 +1,5 @@
 //! Whether a board takes a trace of phases, by its counts alone.
-ghost use Rattle.std.specs.Prelude.{◌≡◌, ◌≢◌, ◌<◌, ◌≤◌, ◌^◌, ℕ, All, IsTrue, None, false, length, true};
+ghost use Rattle.std.specs.Prelude.{◌≡◌, ◌≢◌, ◌<◌, ◌≤◌, ◌^◌, All, IsTrue, None, false, length, true};
 ghost use Rattle.board_core.specs.Time.{time_fault};
 ghost use Rattle.std.specs.Bool.{OnTrue};
 ghost use Rattle.clk_units.specs.Ranges.{IsKhz};

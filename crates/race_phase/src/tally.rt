@@ -3,7 +3,6 @@ ghost use Rattle.std.specs.Prelude.{
   ◌≡◌,
   ◌<◌,
   ◌≤◌,
-  ◌^◌,
   ℕ,
   Some,
   None,
@@ -20,7 +19,7 @@ ghost use Rattle.std.specs.Prelude.{
 };
 ghost use Rattle.clk_units.specs.Ranges.{IsKhz};
 ghost use Rattle.clk_units.specs.declared.ranges.TheConstants.{RANGE_NS};
-ghost use Rattle.host_counter.specs.Time.{time_at, IsFaultAt};
+ghost use Rattle.host_counter.specs.Time.{IsFaultAt};
 ghost use Rattle.board_types.specs.Legal.{is_legal};
 ghost use Rattle.board_types.specs.declared.parts.BoardParts.{BoardParts};
 ghost use Rattle.board_types.specs.declared.parts.TheConstants.{LAST_VERSION, MOST_ACCESSES};

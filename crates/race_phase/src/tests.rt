@@ -1,6 +1,5 @@
 //! The counts of a board at their limits. What a race prints is tested above, by its traces.
 ghost use Rattle.std.specs.Prelude.{◌≡◌};
-ghost use Rattle.race_phase.specs.Tallies.{IsTally};
 
 use super::*;
 use board_core::{Access, BoardState, Refusal, Setup};

@@ -1,5 +1,5 @@
 //! One worker: it takes the records of one processor.
-ghost use Rattle.std.specs.Prelude.{◌≡◌, ◌<◌, ◌≤◌, [], All, IfOk};
+ghost use Rattle.std.specs.Prelude.{◌≡◌, ◌<◌, [], All, IfOk};
 ghost use Rattle.shared_board.specs.Passes.{mine};
 ghost use Rattle.race_phase.specs.Calls.{IsFitting};
 ghost use Rattle.race_phase.specs.private.Workers.{HasWorked};

@@ -23,8 +23,6 @@ use Rattle.std.proofs.Common.{
   take,
   drop,
   get_or,
-  set,
-  below_more,
   refl,
   sym,
   ap,
@@ -36,12 +34,10 @@ use Rattle.std.proofs.Common.{
   eq-zero-or-pos,
   eqb→eq,
   append_assoc,
-  append-nil,
-  length-append,
 }
 use Rattle.std.specs.Char.{digit_char}
 use Rattle.std.proofs.Math.Seq.{take-append_seam}
-use Rattle.std.proofs.lemmas.List.{take-append-drop, length-set, get_or-set_same, get_or-set_other}
+use Rattle.std.proofs.lemmas.List.{take-append-drop}
 use lib.Ieee.Fits.{and_l, and_r}
 use Rattle.reply_text.specs.Words.{hex_text, hexes}
 use Rattle.reply_text.specs.declared.digits.TheConstants.{PAIRS}
@@ -92,12 +88,6 @@ pair_step k j n rest all e h =
     let one = hex_step k (j + 1) n rest all (omega arith) h in
     rw (left, high, low) (hex_step (j + 1) j (n / 16) (digit_char (n % 16) ∷ rest) all refl one)
 
--- that many digits
-pub length-hex_text : (k n : ℕ) → length (hex_text k n) ≡ k
-unfolding hex_text
-length-hex_text zero n = refl
-length-hex_text (suc k) n = omega (arith, length-append (hex_text k (n / 16)) (digit_char (n % 16) ∷ []), length-hex_text k (n / 16))
-
 -- digits of bytes, one list after another
 pub hexes-append : (xs ys : List ℕ) → hexes (xs ++ ys) ≡ hexes xs ++ hexes ys
 unfolding hexes
@@ -114,20 +104,6 @@ length-hexes (x ∷ xs) = omega (arith, length-hexes xs)
 abbrev pub AreDigits : List ℕ → List ℕ → ℕ → Type 0
 AreDigits xs text n = (j : ℕ) → j < n
     → (get_or text (2 * j) 0 ≡ digit_char (get_or xs j 0 / 16)) × (get_or text (2 * j + 1) 0 ≡ digit_char (get_or xs j 0 % 16))
-
--- .. and so has one byte more
-pub digits-more : (xs text : List ℕ) (n high low : ℕ) → 2 * n + 1 < length text → AreDigits xs text n
-    → high ≡ digit_char (get_or xs n 0 / 16) → low ≡ digit_char (get_or xs n 0 % 16)
-    → AreDigits xs (set (set text (2 * n) high) (2 * n + 1) low) (n + 1)
-digits-more xs text n high low room before is_high is_low = below_more _ n
-    (λ j less. (
-      get_or-set_other _ (2 * n + 1) (2 * j) low 0 (λ e. omega arith) ∙ get_or-set_other text (2 * n) (2 * j) high 0 (λ e. omega arith) ∙ (before j less).0,
-      get_or-set_other _ (2 * n + 1) (2 * j + 1) low 0 (λ e. omega arith) ∙ get_or-set_other text (2 * n) (2 * j + 1) high 0 (λ e. omega arith)
-          ∙ (before j less).1,
-    )) (
-      get_or-set_other _ (2 * n + 1) (2 * n) low 0 (λ e. omega arith) ∙ get_or-set_same text (2 * n) high 0 (omega arith) ∙ is_high,
-      get_or-set_same _ (2 * n + 1) low 0 (omega (arith, length-set text (2 * n) high)) ∙ is_low,
-    )
 
 -- all of them are the text
 pub digits-all : (xs text : List ℕ) → length text ≡ 2 * length xs → AreDigits xs text (length xs) → text ≡ hexes xs
@@ -160,8 +136,3 @@ take-hexes xs ys =
 pub hex_text-none : (k n : ℕ) (rest : List ℕ) → k ≡ 0 → rest ≡ hex_text k n ++ rest
 unfolding hex_text
 hex_text-none k n rest e = subst (λ (m : ℕ). rest ≡ hex_text m n ++ rest) (sym e) refl
-
--- no bytes
-pub hexes-none : (xs : List ℕ) → xs ≡ xs ++ hexes []
-unfolding hexes
-hexes-none xs = sym (append-nil xs)

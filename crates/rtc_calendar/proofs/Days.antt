@@ -7,7 +7,7 @@ use Rattle.rtc_calendar.specs.declared.calendar.Moment.{Moment}
 use Rattle.rtc_calendar.specs.Calendar.{month_length, IsMoment, ends_minute, ends_hour, ends_day, ends_month}
 use Rattle.rtc_calendar.specs.Calendar.{ends_year, next_in, next_second, next_seconds, next_day}
 use Rattle.rtc_calendar.specs.private.Days.{second_of_day, days_of_years, days_of_months, day_number}
-use Rattle.rtc_calendar.proofs.Moments.{month_length-least, month_length-most, next_in-least, next_in-most}
+use Rattle.rtc_calendar.proofs.Moments.{month_length-least, next_in-least, next_in-most}
 use Rattle.rtc_calendar.proofs.Moments.{date_in_month, IsMoment-next_second}
 
 -- what next_in gives at the end and before it
@@ -98,10 +98,6 @@ days_of_months-mono year a (suc b) h = elim (cases_eq a (suc b)) [
   where
     before : (a ≡ suc b → ⊥) → a ≤ b
     before other = omega arith
-
-pub days_of_months-most : (year months : ℕ) → days_of_months year months ≤ 31 * months
-days_of_months-most year zero = omega (arith, days_of_months-zero year)
-days_of_months-most year (suc months) = omega (arith, days_of_months-suc year months, days_of_months-most year months, month_length-most year (suc months))
 
 -- a year has 365 days, and every fourth 366
 pub days_of_months-year : (year : ℕ) → days_of_months year 12 ≡ cond (eqb (year % 4) 0) 366 365

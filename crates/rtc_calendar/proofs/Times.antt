@@ -1,8 +1,8 @@
 -- Lemmas on updates.
-use Rattle.std.proofs.Common.{◌≡◌, ℕ, zero, suc, ◌+◌, ◌-◌, ◌<◌, ◌≤◌, Bool, true, false, cond, ◌&&◌, ◌||◌}
+use Rattle.std.proofs.Common.{◌≡◌, ℕ, zero, suc, ◌+◌, ◌-◌, ◌<◌, ◌≤◌, true, cond, ◌&&◌, ◌||◌}
 use Rattle.std.proofs.Common.{eqb, leb, Option, Some, refl, sym, ap, subst, ◌∙◌, arith}
 use Rattle.clk_units.specs.Events.{CountsUp, IsFirst}
-use Rattle.clk_units.proofs.Events.{CountsUp-by_test, CountsUp-few, IsFirst-one}
+use Rattle.clk_units.proofs.Events.{CountsUp-by_test, IsFirst-one}
 use Rattle.std.proofs.lemmas.Bool.{le-leb, or_left, and_from}
 use Rattle.rtc_calendar.specs.declared.Alarm.{Alarm}
 use Rattle.rtc_calendar.specs.declared.Form.{Form}
@@ -36,46 +36,15 @@ IsMoment-moment_of form bytes = record {
   year = number_in-most form.binary 0 99 bytes.year (omega arith);
 }
 
--- one update more
-pub updated_times-suc : (form : Form) (n : ℕ) (bytes : TimeBytes) → updated_times form (suc n) bytes ≡ updated form (updated_times form n bytes)
-updated_times-suc form n bytes = refl
-
 pub matches_in-suc : (form : Form) (alarm : Alarm) (bytes : TimeBytes) (n : ℕ)
     → matches_in form alarm bytes (suc n) ≡ cond (alarm_next form alarm (updated_times form n bytes)) (suc (matches_in form alarm bytes n))
     (matches_in form alarm bytes n)
 matches_in-suc form alarm bytes n = refl
 
--- updates after updates
-pub updated_times-add : (form : Form) (n more : ℕ) (bytes : TimeBytes)
-    → updated_times form (n + more) bytes ≡ updated_times form more (updated_times form n bytes)
-updated_times-add form n zero bytes = ap (λ (x : ℕ). updated_times form x bytes) (omega arith)
-updated_times-add form n (suc more) bytes =
-    let next : n + suc more ≡ suc (n + more) = omega arith in
-    ap (λ (x : ℕ). updated_times form x bytes) next ∙ ap (updated form) (updated_times-add form n more bytes)
-
-pub matches_in-add : (form : Form) (alarm : Alarm) (bytes : TimeBytes) (n more : ℕ)
-    → matches_in form alarm bytes (n + more) ≡ matches_in form alarm bytes n + matches_in form alarm (updated_times form n bytes) more
-matches_in-add form alarm bytes n zero = let all : n + 0 ≡ n = omega arith in ap (matches_in form alarm bytes) all ∙ omega arith
-matches_in-add form alarm bytes n (suc more) =
-    let next : n + suc more ≡ suc (n + more) = omega arith in
-    ap (matches_in form alarm bytes) next
-    ∙ ap (λ (b : TimeBytes). cond (alarm_next form alarm b) (suc (matches_in form alarm bytes (n + more))) (matches_in form alarm bytes (n + more)))
-    (updated_times-add form n more bytes)
-    ∙ one_more (alarm_next form alarm (updated_times form more (updated_times form n bytes))) (matches_in form alarm bytes (n + more))
-    (matches_in form alarm bytes n)
-    (matches_in form alarm (updated_times form n bytes) more) (matches_in-add form alarm bytes n more)
-  where
-    one_more : (b : Bool) (x y z : ℕ) → x ≡ y + z → cond b (suc x) x ≡ y + cond b (suc z) z
-    one_more true x y z e = omega arith
-    one_more false x y z e = e
-
 -- an update is matched once at most
 pub CountsUp-matches_in : (form : Form) (alarm : Alarm) (bytes : TimeBytes) → CountsUp (matches_in form alarm bytes)
 CountsUp-matches_in form alarm bytes =
     CountsUp-by_test (matches_in form alarm bytes) (λ n. alarm_next form alarm (updated_times form n bytes)) refl (matches_in-suc form alarm bytes)
-
-pub matches_in-few : (form : Form) (alarm : Alarm) (bytes : TimeBytes) (n : ℕ) → matches_in form alarm bytes n ≤ n
-matches_in-few form alarm bytes n = CountsUp-few (matches_in form alarm bytes) (CountsUp-matches_in form alarm bytes) n
 
 -- one update more, by whether the alarm matches its bytes
 pub matches_in-more : (form : Form) (alarm : Alarm) (bytes current : TimeBytes) (n : ℕ) → current ≡ updated_times form n bytes

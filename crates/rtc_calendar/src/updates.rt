@@ -1,6 +1,6 @@
 //! Updates: the second that the clock adds to its bytes.
 ghost use Rattle.std.specs.Prelude.{◌≡◌, ◌<◌};
-ghost use Rattle.rtc_calendar.specs.Calendar.{IsMoment, next_second, next_seconds};
+ghost use Rattle.rtc_calendar.specs.Calendar.{IsMoment, next_second};
 ghost use Rattle.rtc_calendar.specs.Updates.{moment_of, bytes_of, updated, updated_times, IsValid};
 ghost use Rattle.rtc_calendar.specs.Updates.{IsDayLater};
 

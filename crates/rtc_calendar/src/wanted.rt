@@ -3,7 +3,7 @@ ghost use Rattle.std.specs.Prelude.{◌≡◌, ℕ, ◌+◌, ◌%◌, ◌<◌, �
 ghost use Rattle.rtc_calendar.specs.Bytes.{spelling, hour_spelling};
 ghost use Rattle.rtc_calendar.specs.Alarms.{fits_byte};
 ghost use Rattle.rtc_calendar.specs.private.Wanted.{is_wanted, lowest, IsBelow, IsInDay};
-ghost use Rattle.rtc_calendar.specs.private.Wanted.{is_wanted_hour, is_wanted_minute};
+ghost use Rattle.rtc_calendar.specs.private.Wanted.{is_wanted_minute};
 ghost use Rattle.rtc_calendar.specs.private.Wanted.{is_wanted_second, IsNext};
 
 use crate::bytes::{hour_in, is_hour, is_spelt, number_in};

@@ -1,6 +1,6 @@
 //! The divider as a device: pulses go in, events come out.
 
-ghost use Rattle.std.specs.Prelude.{◌≡◌, ℕ, ◌<◌, ◌≤◌, ◌↔◌, true, false, IsSome, IfSome};
+ghost use Rattle.std.specs.Prelude.{◌≡◌, ℕ, ◌<◌, ◌≤◌, ◌↔◌, false, IsSome, IfSome};
 ghost use Rattle.clk_units.specs.Events.{IsFirst};
 ghost use Rattle.rtc_cycle.specs.Divider.{with_dv, with_rate, with_set, uip_of, pulsed_times};
 ghost use Rattle.rtc_cycle.specs.Divider.{ticks_in, updates_in, frequency, RunsCycles};

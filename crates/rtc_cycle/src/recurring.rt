@@ -1,7 +1,6 @@
 //! Events that come at even distances.
 
 ghost use Rattle.std.specs.Prelude.{◌≡◌, ◌<◌, ◌≤◌};
-ghost use Rattle.clk_units.specs.Events.{IsFirst};
 ghost use Rattle.rtc_cycle.specs.private.Stretch.{recurs, first_recurs};
 
 /// The events of a stretch of steps.

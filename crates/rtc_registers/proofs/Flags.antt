@@ -1,5 +1,5 @@
 -- Lemmas on register C: a write of its flags keeps the rest of the clock, and setting PF goes past pulses.
-use Rattle.std.proofs.Common.{◌≡◌, ℕ, zero, suc, ◌≤◌, ◌<◌, ◌+◌, Bool, true, false, ◌||◌, cond, eqb, List}
+use Rattle.std.proofs.Common.{◌≡◌, ℕ, ◌≤◌, ◌<◌, ◌+◌, Bool, true, false, ◌||◌, cond, eqb, List}
 use Rattle.std.proofs.Common.{length, set, refl, sym, ap, subst, ◌∙◌, inl, inr, arith}
 use Rattle.std.proofs.lemmas.Bool.{cases_Bool}
 use Rattle.std.proofs.lemmas.List.{set-get_or}
@@ -14,10 +14,9 @@ use Rattle.rtc_registers.specs.Registers.{divider_of, form_of, time_of, alarm_of
 use Rattle.rtc_registers.specs.Access.{after_rtc_read, flagged}
 use Rattle.rtc_registers.specs.Parts.{IsRtc}
 use Rattle.rtc_registers.specs.Pulses.{moved, time_next, flags_next, alarms_next, rtc_pulsed}
-use Rattle.rtc_registers.specs.Pulses.{rtc_pulsed_times, alarms_in}
 use Rattle.rtc_registers.proofs.Bytes.{Moved, moved-bytes, Flagged, flagged-bytes, flags_byte-read, bit-pf}
 use Rattle.rtc_registers.proofs.Bytes.{bit-af, bit-uf}
-use Rattle.rtc_registers.proofs.Times.{time_next-by, alarms_next-by, flags_next-by, IsRtc-rtc_pulsed_times}
+use Rattle.rtc_registers.proofs.Times.{time_next-by, alarms_next-by, flags_next-by}
 
 -- register C is replaced
 abbrev pub with_flags : ℕ → RtcParts → RtcParts
@@ -127,21 +126,6 @@ rtc_pulsed-flagged r valid =
     ∙ sym (flagged-moved (pulsed (divider_of r)) (time_next r) (pf_of r || ticks_next (divider_of r)) (af_of r || alarms_next r)
     (uf_of r || updates_next (divider_of r)) r valid)
 
--- .. and past n of them
-pub rtc_pulsed_times-flagged : (n : ℕ) (r : RtcParts) → IsRtc r → rtc_pulsed_times n (flagged r) ≡ flagged (rtc_pulsed_times n r)
-rtc_pulsed_times-flagged zero r valid = refl
-rtc_pulsed_times-flagged (suc n) r valid = ap rtc_pulsed (rtc_pulsed_times-flagged n r valid)
-    ∙ rtc_pulsed-flagged (rtc_pulsed_times n r) (IsRtc-rtc_pulsed_times n r valid)
-
--- the alarms are the same with PF set
-pub alarms_in-flagged : (n : ℕ) (r : RtcParts) → IsRtc r → alarms_in (flagged r) n ≡ alarms_in r n
-alarms_in-flagged zero r valid = refl
-alarms_in-flagged (suc n) r valid =
-    let next : alarms_next (rtc_pulsed_times n (flagged r)) ≡ alarms_next (rtc_pulsed_times n r) =
-    ap alarms_next (rtc_pulsed_times-flagged n r valid) ∙ alarms_next-flagged (rtc_pulsed_times n r) (IsRtc-rtc_pulsed_times n r valid) in
-    ap (λ (b : Bool). cond b (suc (alarms_in (flagged r) n)) (alarms_in (flagged r) n)) next
-    ∙ ap (λ (a : ℕ). cond (alarms_next (rtc_pulsed_times n r)) (suc a) a) (alarms_in-flagged n r valid)
-
 -- setting PF again changes nothing
 pub flagged-still : (r : RtcParts) → IsRtc r → pf_of r ≡ true → flagged r ≡ r
 unfolding flagged
@@ -163,31 +147,11 @@ register_c-after_rtc_read r valid here = rw here ((flagged-bytes 0 r.bytes (omeg
 pub pf_of-after_rtc_read : (r : RtcParts) → IsRtc r → eqb r.index 12 ≡ true → pf_of (after_rtc_read r) ≡ false
 pf_of-after_rtc_read r valid here = ap (bit 6) (register_c-after_rtc_read r valid here)
 
-pub af_of-after_rtc_read : (r : RtcParts) → IsRtc r → eqb r.index 12 ≡ true → af_of (after_rtc_read r) ≡ false
-af_of-after_rtc_read r valid here = ap (bit 5) (register_c-after_rtc_read r valid here)
-
-pub uf_of-after_rtc_read : (r : RtcParts) → IsRtc r → eqb r.index 12 ≡ true → uf_of (after_rtc_read r) ≡ false
-uf_of-after_rtc_read r valid here = ap (bit 4) (register_c-after_rtc_read r valid here)
-
 -- .. and leaves all else
 pub register_b-after_rtc_read : (r : RtcParts) → IsRtc r → register_b (after_rtc_read r) ≡ register_b r
 unfolding after_rtc_read
 register_b-after_rtc_read r valid = elim (cases_Bool (eqb r.index 12)) [
   | inl here ↦ rw here ((flagged-bytes 0 r.bytes (omega (arith, valid.places))).register_b)
-  | inr other ↦ rw other refl
-]
-
-pub divider_of-after_rtc_read : (r : RtcParts) → IsRtc r → divider_of (after_rtc_read r) ≡ divider_of r
-unfolding after_rtc_read
-divider_of-after_rtc_read r valid = elim (cases_Bool (eqb r.index 12)) [
-  | inl here ↦ rw here (divider_of-with_flags 0 r (omega (arith, valid.places)))
-  | inr other ↦ rw other refl
-]
-
-pub time_of-after_rtc_read : (r : RtcParts) → IsRtc r → time_of (after_rtc_read r) ≡ time_of r
-unfolding after_rtc_read
-time_of-after_rtc_read r valid = elim (cases_Bool (eqb r.index 12)) [
-  | inl here ↦ rw here ((flagged-bytes 0 r.bytes (omega (arith, valid.places))).time)
   | inr other ↦ rw other refl
 ]
 

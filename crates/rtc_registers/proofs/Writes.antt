@@ -7,13 +7,13 @@ use Rattle.clk_units.specs.Bits.{bit}
 use Rattle.rtc_calendar.specs.declared.TimeBytes.{TimeBytes}
 use Rattle.rtc_cycle.specs.declared.parts.DividerParts.{DividerParts}
 use Rattle.rtc_cycle.specs.Divider.{with_dv}
-use Rattle.rtc_cycle.specs.Parts.{IsDivider, divider_at_power_on}
+use Rattle.rtc_cycle.specs.Parts.{IsDivider}
 use Rattle.rtc_cycle.proofs.Writes.{IsDivider-with_dv, IsDivider-with_rate, IsDivider-with_set}
 use Rattle.rtc_registers.specs.declared.parts.RtcParts.{RtcParts}
-use Rattle.rtc_registers.specs.Registers.{register_a, register_b, register_c, register_d, set_of, pf_of}
-use Rattle.rtc_registers.specs.Registers.{af_of, uf_of, divider_of, with_time}
+use Rattle.rtc_registers.specs.Registers.{register_a, register_b, register_c, register_d, set_of}
+use Rattle.rtc_registers.specs.Registers.{divider_of, with_time}
 use Rattle.rtc_registers.specs.Parts.{IsRtc, rtc_at_power_on}
-use Rattle.rtc_registers.specs.Access.{index_written, b_stored, stored, divider_written, rtc_written}
+use Rattle.rtc_registers.specs.Access.{b_stored, stored, divider_written, rtc_written}
 
 -- a byte elsewhere than at the index stays
 pub get_or-rtc_written_other : (byte k : ℕ) (r : RtcParts) → k ≢ r.index → get_or (rtc_written byte r).bytes k 0 ≡ get_or r.bytes k 0
@@ -57,16 +57,6 @@ register_d-rtc_written byte r = elim (cases_eq r.index 13) [
   | inr other ↦ get_or-rtc_written_other byte 13 r (λ e. other (sym e))
 ]
 
--- so are the flags
-pub pf_of-rtc_written : (byte : ℕ) (r : RtcParts) → pf_of (rtc_written byte r) ≡ pf_of r
-pf_of-rtc_written byte r = ap (bit 6) (register_c-rtc_written byte r)
-
-pub af_of-rtc_written : (byte : ℕ) (r : RtcParts) → af_of (rtc_written byte r) ≡ af_of r
-af_of-rtc_written byte r = ap (bit 5) (register_c-rtc_written byte r)
-
-pub uf_of-rtc_written : (byte : ℕ) (r : RtcParts) → uf_of (rtc_written byte r) ≡ uf_of r
-uf_of-rtc_written byte r = ap (bit 4) (register_c-rtc_written byte r)
-
 -- register A is written at its index alone, without UIP
 pub register_a-rtc_written : (byte : ℕ) (r : RtcParts) → IsRtc r → register_a (rtc_written byte r) ≡ cond (eqb r.index 10) (byte % 128) (register_a r)
 register_a-rtc_written byte r valid = elim (cases_eq r.index 10) [
@@ -106,34 +96,8 @@ uie_had false old uie h = absurd (false≢true h)
 bit_7-without_16 : (byte : ℕ) → bit 4 byte ≡ true → bit 7 (byte - 16) ≡ bit 7 byte
 bit_7-without_16 byte h = ap (λ (x : ℕ). eqb x 1) (omega (arith, eqb-true (byte / 16 % 2) 1 h))
 
-bit_6-without_16 : (byte : ℕ) → bit 4 byte ≡ true → bit 6 (byte - 16) ≡ bit 6 byte
-bit_6-without_16 byte h = ap (λ (x : ℕ). eqb x 1) (omega (arith, eqb-true (byte / 16 % 2) 1 h))
-
-bit_5-without_16 : (byte : ℕ) → bit 4 byte ≡ true → bit 5 (byte - 16) ≡ bit 5 byte
-bit_5-without_16 byte h = ap (λ (x : ℕ). eqb x 1) (omega (arith, eqb-true (byte / 16 % 2) 1 h))
-
-bit_4-without_16 : (byte : ℕ) → bit 4 byte ≡ true → bit 4 (byte - 16) ≡ false
-bit_4-without_16 byte h = ne_eqb ((byte - 16) / 16 % 2) 1 (λ e. omega (arith, eqb-true (byte / 16 % 2) 1 h))
-
 pub set-b_stored : (byte : ℕ) (r : RtcParts) → bit 7 (b_stored byte r) ≡ bit 7 byte
 set-b_stored byte r = b_stored-by (bit 7 byte && (not (set_of r) && bit 4 byte)) byte 7 (bit_7-without_16 byte) (uie_had (bit 7 byte) (set_of r) (bit 4 byte))
-
-pub pie-b_stored : (byte : ℕ) (r : RtcParts) → bit 6 (b_stored byte r) ≡ bit 6 byte
-pie-b_stored byte r = b_stored-by (bit 7 byte && (not (set_of r) && bit 4 byte)) byte 6 (bit_6-without_16 byte) (uie_had (bit 7 byte) (set_of r) (bit 4 byte))
-
-pub aie-b_stored : (byte : ℕ) (r : RtcParts) → bit 5 (b_stored byte r) ≡ bit 5 byte
-aie-b_stored byte r = b_stored-by (bit 7 byte && (not (set_of r) && bit 4 byte)) byte 5 (bit_5-without_16 byte) (uie_had (bit 7 byte) (set_of r) (bit 4 byte))
-
-pub uie-b_stored : (byte : ℕ) (r : RtcParts) → bit 4 (b_stored byte r) ≡ (bit 4 byte && not (bit 7 byte && not (set_of r)))
-uie-b_stored byte r = by_bits (bit 7 byte) (set_of r) (bit 4 byte) refl
-  where
-    by_bits : (on old uie : Bool) → bit 4 byte ≡ uie → bit 4 (cond (on && (not old && uie)) (byte - 16) byte) ≡ (uie && not (on && not old))
-    by_bits true true true e = e
-    by_bits true true false e = e
-    by_bits true false true e = bit_4-without_16 byte e
-    by_bits true false false e = e
-    by_bits false old true e = e
-    by_bits false old false e = e
 
 -- the divider is written as register A and SET are
 one_divider : (p q : DividerParts) → p.d ≡ q.d → p.cycle ≡ q.cycle → p.dv ≡ q.dv → p.rs ≡ q.rs → p.set ≡ q.set → p ≡ q
@@ -199,21 +163,6 @@ IsRtc-rtc_written byte r valid = record {
   register_d = register_d-rtc_written byte r ∙ valid.register_d;
   divider = subst IsDivider (sym (divider_of-rtc_written byte r valid)) (IsDivider-divider_written byte r valid);
 }
-
-pub IsRtc-index_written : (byte : ℕ) (r : RtcParts) → IsRtc r → IsRtc (index_written byte r)
-IsRtc-index_written byte r valid = record {
-  places = valid.places;
-  index = omega arith;
-  register_a = valid.register_a;
-  register_c = valid.register_c;
-  register_d = valid.register_d;
-  divider = valid.divider;
-}
-
--- at power on the divider is as rtc_cycle has it
-pub divider_of-rtc_at_power_on : (t : TimeBytes) → divider_of (rtc_at_power_on t) ≡ divider_at_power_on
-unfolding rtc_at_power_on with_time
-divider_of-rtc_at_power_on t = refl
 
 pub IsRtc-rtc_at_power_on : (t : TimeBytes) → IsRtc (rtc_at_power_on t)
 unfolding rtc_at_power_on with_time

@@ -1,6 +1,6 @@
 //! Many pulses at once: the divider after them, and what their events change.
 
-ghost use Rattle.std.specs.Prelude.{◌≡◌, ℕ, ◌+◌, ◌-◌, ◌*◌, ◌^◌, ◌<◌, ◌≤◌, ◌||◌, Some, nat_lt};
+ghost use Rattle.std.specs.Prelude.{◌≡◌, ℕ, ◌+◌, ◌-◌, ◌*◌, ◌^◌, ◌<◌, ◌≤◌, ◌||◌, Some};
 ghost use Rattle.std.specs.Option.{is_some};
 ghost use Rattle.clk_units.specs.Events.{IsFirst};
 ghost use Rattle.rtc_calendar.specs.Updates.{updated_times};
@@ -9,7 +9,7 @@ ghost use Rattle.rtc_cycle.specs.Divider.{ticks_in, updates_in};
 ghost use Rattle.rtc_registers.specs.Access.{flagged};
 ghost use Rattle.rtc_registers.specs.Parts.{IsRtc};
 ghost use Rattle.rtc_registers.specs.Pulses.{moved, rtc_pulsed_times, alarms_in};
-ghost use Rattle.rtc_registers.specs.Registers.{pf_of, af_of, uf_of, flags_byte, divider_of};
+ghost use Rattle.rtc_registers.specs.Registers.{flags_byte, divider_of};
 ghost use Rattle.rtc_registers.specs.Registers.{form_of, time_of, alarm_of};
 ghost use Rattle.rtc_registers.specs.private.Stretch.{second_apart, flags_left};
 

@@ -3,7 +3,7 @@
 use Rattle.save_state.proofs.Names.{apic_line, apic, no_apic, apic_pairs, apics, ApicTimerFits, ApicsFit, read_below-at, read_below-after, length-read_below}
 use Rattle.save_state.proofs.Names.{pairs-at, length-pairs, pairs-halves, any, Apic, apic_timer, all_here-append, number-written, blocks-none, fault_in, None}
 use Rattle.save_state.proofs.Names.{byte-written, plain-here, blocks-here, drop-blank, apics_of, apics_in, AreApics, IsBoard, now_of, pairs, moved}
-use Rattle.save_state.proofs.Names.{read_below, plain, blocks, ◌⨾◌, AllHere, le-ltb, ltb-false, cases_lt, length-map, Discard, TickParts, ApicParts}
+use Rattle.save_state.proofs.Names.{read_below, plain, ◌⨾◌, AllHere, le-ltb, ltb-false, cases_lt, length-map, Discard, TickParts, ApicParts}
 use Rattle.save_state.proofs.Names.{divisor, IsApicTimer, IsPlaceOf, BoardParts, ◌≡◌, ℕ, ◌+◌, ◌-◌, ◌<◌, ◌≤◌, ltb, List, ◌++◌, length, map, get_or, replicate}
 use Rattle.save_state.proofs.Names.{inl, inr, refl, ap, sym, subst, ◌∙◌, arith, apics_few, processors_few, apic-size}
 use Rattle.local_apics.specs.Places.{no_timer, no_line, timer_at, line_at}

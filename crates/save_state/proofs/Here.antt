@@ -1,5 +1,5 @@
 -- Each list of fields: bytes with no fault are those that are written, and what is written of a valid board is read as it was, and has no fault.
-use Rattle.save_state.proofs.Names.{apic, no_apic, reference, message, no_message, front, devices, back, fields_of, AllSpelled, IsCode, choice-code, AreBlocks}
+use Rattle.save_state.proofs.Names.{apic, no_apic, reference, message, no_message, devices, back, fields_of, AllSpelled, IsCode, choice-code, AreBlocks}
 use Rattle.save_state.proofs.Names.{blocks-spelled, spells, policy, counter, no_counter, timer, line, processor, ℕ, zero, suc, ◌<◌, ◌≡◌, refl, arith, no_timer}
 use Rattle.save_state.proofs.Names.{policy_byte, policy_of, no_line, no_hv, no_processor, plain, elsewhere, lists, block_lists, page, references, references_of}
 use Rattle.save_state.proofs.Names.{messages, messages_of, BoardFits, IsPit, here-joined, tsc, clock, registers, timers, beq, up_allowed, lines, counts_of}
@@ -11,7 +11,7 @@ use Rattle.save_state.proofs.Names.{RANGE_NS, time_at, Anchor, RtcParts, pf_of, 
 use Rattle.save_state.proofs.Names.{lt-ltb, le-ltb, le-leb, and_from, or_right, ne_eqb, cond-true, cond-false, drop_all, get_or-drop, ◌∷◌, [], ◌+◌, ◌≤◌, Bool}
 use Rattle.save_state.proofs.Names.{true, false, eqb, ltb, leb, ◌&&◌, ◌||◌, List, ◌++◌, drop, get_or, ap, version-is, timers_few, timers_least, processors_few}
 use Rattle.save_state.proofs.Blocks.{writes, policy-written, counter-here, timer-here, line-here, processor-here, messages-here, references-here}
-use Rattle.save_state.proofs.{Names.counts_few, Names.levels-at, Names.one_if, Names.◌^◌, ApicLaws.apics-here}
+use Rattle.save_state.proofs.{Names.counts_few, Names.levels-at, Names.one_if, ApicLaws.apics-here}
 
 policy-code : IsCode policy
 policy-code = choice-code 3 policy_byte policy_of three

@@ -3,7 +3,7 @@ use Rattle.save_state.proofs.Names.{LAST_FORMAT, messages, messages_of, devices,
 use Rattle.save_state.proofs.Names.{references_of, message, no_message, message_pairs, no_counter, counters, clock, registers, timer, timers, beq, up_allowed}
 use Rattle.save_state.proofs.Names.{line, lines, counts_of, rise_valid, legacy_rises_valid, routed_rises_valid}
 use Rattle.save_state.proofs.Names.{head, host, guest, policies, front, counter, AreProcessors, AreRises, IsHv, IsBoard, IsProcessor-none, IsHv-none, plain}
-use Rattle.save_state.proofs.Names.{blocks, AreDevices, one_if, devices_in, now_of, no_processor, processor_at}
+use Rattle.save_state.proofs.Names.{AreDevices, one_if, devices_in, now_of, no_processor, processor_at}
 use Rattle.save_state.proofs.Names.{apics_of, no_hv, IsWall, IsProcessor, timers_of, has_messages, levels, counts_rtc, no_line, line_at, IsTimerLine, timer_at}
 use Rattle.save_state.proofs.Names.{Policy, TickParts, IsTickLine, BoardParts, HvParts, ProcessorParts, HV_FORMAT, IsTimer, IsHpet, IsPlace, no_timer}
 use Rattle.save_state.proofs.Names.{register_d, pf_of, af_of, uf_of, flags_byte, divider_of, IsRtc, bytes_valid, divider_valid, cycle_valid, TimerParts}

@@ -1,12 +1,12 @@
 //! The first fault of the tick lines, and of the counts of rises.
-ghost use Rattle.std.specs.Prelude.{◌≡◌, ℕ, ◌+◌, ◌*◌, ◌<◌, ◌≤◌, ◌&&◌, ◌||◌, slice_index_or};
+ghost use Rattle.std.specs.Prelude.{◌≡◌, ◌+◌, ◌*◌, ◌<◌, ◌≤◌, ◌&&◌, ◌||◌, slice_index_or};
 ghost use Rattle.rtc_registers.specs.Registers.{pf_of};
 ghost use Rattle.board_types.specs.Setup.{timers_of, has_messages};
 ghost use Rattle.board_types.specs.declared.parts.TheConstants.{MOST_ACCESSES};
 ghost use Rattle.board_devices.specs.Nanosecond.{counts_rtc};
 ghost use Rattle.board_devices.specs.Lines.{levels};
 ghost use Rattle.board_devices.specs.Parts.{AreDevices};
-ghost use Rattle.board_devices.specs.Places.{no_line, line_at};
+ghost use Rattle.board_devices.specs.Places.{no_line};
 ghost use Rattle.board_core.specs.Time.{devices_in, now_of, HasTime};
 ghost use Rattle.byte_table.specs.Fold.{fault_in};
 ghost use Rattle.save_state.specs.Rises.{rise_valid, legacy_rises_valid, routed_rises_valid};

@@ -1,5 +1,5 @@
 //! The first fault of what follows the tick lines and the counts of rises.
-ghost use Rattle.std.specs.Prelude.{◌≡◌, ◌+◌, ◌*◌, ◌<◌, ◌≤◌, slice_index_or};
+ghost use Rattle.std.specs.Prelude.{◌≡◌, ◌*◌, ◌<◌, ◌≤◌, slice_index_or};
 ghost use Rattle.std.specs.Int.{w8, cast_unsigned};
 ghost use Rattle.pvclock_page.specs.Scale.{mul_for, shift_for};
 ghost use Rattle.clk_units.specs.Ranges.{IsKhz};

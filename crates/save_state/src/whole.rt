@@ -1,5 +1,5 @@
 //! The board that bytes are, whether or not their conditions hold.
-ghost use Rattle.std.specs.Prelude.{◌≡◌, ℕ, ◌≤◌, ◌<◌, ◌+◌, ◌*◌, ◌-◌, ◌++◌, replicate};
+ghost use Rattle.std.specs.Prelude.{◌≡◌, ◌≤◌, ◌+◌, ◌*◌, ◌-◌, ◌++◌, replicate};
 ghost use Rattle.hpet_registers.specs.Parts.{no_timer};
 ghost use Rattle.board_devices.specs.Places.{no_line};
 ghost use Rattle.board_core.specs.Tsc.{no_processor};

@@ -1,5 +1,5 @@
 //! Reads without the lock.
-ghost use Rattle.std.specs.Prelude.{◌≡◌, ◌<◌, ◌≤◌, IfOk, IfErr, OnOk};
+ghost use Rattle.std.specs.Prelude.{◌<◌, ◌≤◌, IfOk, IfErr, OnOk};
 ghost use Rattle.board_core.specs.Time.{HasTime};
 ghost use Rattle.clock_table.specs.Calls.{IsPass};
 ghost use Rattle.shared_board.specs.private.Tries.{HasHeard, HasMissed, IsTryFault};

@@ -5,7 +5,7 @@
 //! callgrind counts.
 #![tactic(auto)]
 
-ghost use Rattle.std.specs.Prelude.{◌+◌, ◌<◌, ◌≤◌, ◌^◌};
+ghost use Rattle.std.specs.Prelude.{◌<◌, ◌≤◌, ◌^◌};
 ghost use Rattle.trace_text.specs.Lines.{IsOpen};
 
 use board_types::Value;

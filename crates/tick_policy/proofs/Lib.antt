@@ -1,4 +1,3 @@
-pub mod Bytes
 pub mod Ticks
 pub mod Stretches
 pub mod Orders

@@ -5,7 +5,7 @@ use Rattle.std.proofs.Math.Nat.{div-mul-le_self, lt-div-mul-add, mul-le-mul_left
 use Rattle.std.proofs.lemmas.Bool.{cases_lt, cases_Bool, lt-ltb, le-ltb, le-leb, lt-leb, eq-eqb, ne_eqb, false≢true}
 use Rattle.clk_units.specs.Events.{CountsUp, IsFirst, first_at}
 use Rattle.clk_units.specs.Pulses.{pulses_by, pulses_from, time_of}
-use Rattle.clk_units.proofs.Events.{CountsUp-mono, counts-at, first_tick, first_tick-none}
+use Rattle.clk_units.proofs.Events.{CountsUp-mono, first_tick, first_tick-none}
 use Rattle.irq_edges.specs.Rises.{is_up_at}
 use Rattle.tick_policy.specs.declared.parts.TickParts.{TickParts}
 use Rattle.tick_policy.specs.Line.{ticked, ticked_times, is_waiting, caught_up}
@@ -262,12 +262,6 @@ next_point slew t runs =
           none_between (t / slew) ((t + j) / slew) slew t j multiple low (omega arith) (omega arith);
     }
 
--- the first tick of a stretch, out of the first event of a device at the pulses of a clock
-pub IsFirstTick-of_pulses : (count : ℕ → ℕ) (hz t n : ℕ) (first : Option ℕ) → 0 < hz → CountsUp count → IsFirst count (pulses_from hz t n) first
-    → IsFirstTick (λ j. count (pulses_from hz t j)) t n (first_at hz t first)
-IsFirstTick-of_pulses count hz t n None runs up is = first_tick-none count hz t n up is
-IsFirstTick-of_pulses count hz t n (Some k) runs up is = λ j _. first_tick count hz t n k runs up is j
-
 -- an event has come exactly where its time has
 pub event-up : (count : ℕ → ℕ) (hz t n : ℕ) (first : Option ℕ) → 0 < hz → CountsUp count → IsFirst count (pulses_from hz t n) first
     → (j : ℕ) → j ≤ n → ltb 0 (count (pulses_from hz t j)) ≡ is_up_at (t + j) (first_at hz t first)
@@ -332,14 +326,3 @@ up_from-is source slew from to n point ticks first l length stretch j h =
     up-after source slew from stretch.first_point.0 n j first l stretch.counts stretch.first_point.2 stretch.first_tick h
     ∙ ap (λ (p : ℕ). is_up_at (from + j) (up_from from (from + stretch.first_point.0) p first l)) (sym length)
     ∙ ap (λ (p : ℕ). is_up_at (from + j) (up_from from p to first l)) (sym stretch.first_point.1)
-
--- a stretch whose ticks are events of a device at the pulses of a clock
-pub IsStretch-of_pulses : (count : ℕ → ℕ) (hz slew t n c : ℕ) (first : Option ℕ) → 0 < hz → hz ≤ 1000000000 → CountsUp count
-    → IsFirst count (pulses_from hz t n) first → IsFirstPoint slew t c
-    → IsStretch (λ j. count (pulses_from hz t j)) slew t n (t + c) (count (pulses_from hz t n)) (first_at hz t first)
-IsStretch-of_pulses count hz slew t n c first runs slow up is_first point = record {
-  counts = counts-at count hz t slow up;
-  number = refl;
-  first_tick = IsFirstTick-of_pulses count hz t n first runs up is_first;
-  first_point = (c, refl, point);
-}

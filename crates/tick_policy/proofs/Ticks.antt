@@ -4,9 +4,8 @@ use Rattle.std.proofs.lemmas.Bool.{cases_Bool, lt-ltb, false≢true}
 use Rattle.tick_policy.specs.declared.parts.Policy.{Policy}
 use Rattle.tick_policy.specs.declared.parts.Policy.TheVariants.{Discard, Delay, Slew}
 use Rattle.tick_policy.specs.declared.parts.TickParts.{TickParts}
-use Rattle.tick_policy.specs.Parts.{is_delay, is_slew}
-use Rattle.tick_policy.specs.Line.{ticked, ticked_times, with_one_shown, goes_again, acked, acked_down, is_waiting, caught_up}
-use Rattle.tick_policy.specs.private.AtOnce.{shown_at_once, with_missed}
+use Rattle.tick_policy.specs.Parts.{is_slew}
+use Rattle.tick_policy.specs.Line.{ticked, ticked_times, with_one_shown, is_waiting, caught_up}
 
 -- no ticks
 pub ticked_times-zero : (l : TickParts) → ticked_times 0 l ≡ l
@@ -22,15 +21,6 @@ ticked_times-suc n l = refl
 pub ticked_times-one : (l : TickParts) → ticked_times 1 l ≡ ticked l
 unfolding ticked_times
 ticked_times-one l = refl
-
--- ticks one after the other join
-pub ticked_times-add : (m n : ℕ) (l : TickParts) → ticked_times (m + n) l ≡ ticked_times n (ticked_times m l)
-ticked_times-add m zero l =
-    let e : m + 0 ≡ m = omega arith in
-    ap (λ (k : ℕ). ticked_times k l) e ∙ sym (ticked_times-zero (ticked_times m l))
-ticked_times-add m (suc n) l =
-    let e : m + suc n ≡ suc (m + n) = omega arith in
-    ap (λ (k : ℕ). ticked_times k l) e ∙ ticked_times-suc (m + n) l ∙ ap ticked (ticked_times-add m n l) ∙ sym (ticked_times-suc n (ticked_times m l))
 
 -- a line is up after ticks
 pub up-ticked_times : (n : ℕ) (l : TickParts) → 0 < n → (ticked_times n l).up ≡ true
@@ -55,28 +45,6 @@ is_waiting-up l up = none (is_slew l.policy) l.up (ltb 0 l.counts.queue) up
     none true true some e = refl
     none false up some e = refl
     none true false some e = absurd (false≢true e)
-
--- under Discard and Delay no line waits for a catch-up point
-pub is_waiting-discard : (l : TickParts) → l.policy ≡ Discard → is_waiting l ≡ false
-is_waiting-discard l e = ap (λ (p : Policy). is_slew p && (not l.up && ltb 0 l.counts.queue)) e
-
-pub is_waiting-delay : (l : TickParts) → l.policy ≡ Delay → is_waiting l ≡ false
-is_waiting-delay l e = ap (λ (p : Policy). is_slew p && (not l.up && ltb 0 l.counts.queue)) e
-
--- .. and under Discard and Slew none goes up again at an acknowledgement
-pub goes_again-discard : (l : TickParts) → l.policy ≡ Discard → goes_again l ≡ false
-goes_again-discard l e = ap (λ (p : Policy). is_delay p && (l.up && ltb 0 l.counts.queue)) e
-
-pub goes_again-slew : (l : TickParts) → l.policy ≡ Slew → goes_again l ≡ false
-goes_again-slew l e = ap (λ (p : Policy). is_delay p && (l.up && ltb 0 l.counts.queue)) e
-
--- an acknowledgement that brings no line up again is its first part
-pub acked-acked_down : (l : TickParts) → goes_again l ≡ false → acked l ≡ acked_down l
-acked-acked_down l none = ap (λ (b : Bool). record l { up = b; counts = with_one_shown b l.counts }) none
-
--- a catch-up point brings the line up exactly where it waits for one
-pub up-caught_up : (l : TickParts) → (caught_up l).up ≡ (l.up || is_waiting l)
-up-caught_up l = refl
 
 -- a line that doesn't wait stays as it is
 pub caught_up-still : (l : TickParts) → is_waiting l ≡ false → caught_up l ≡ l
@@ -110,27 +78,6 @@ due_ticked_times zero l = ap (λ (k : TickParts). k.counts.due) (ticked_times-ze
 due_ticked_times (suc n) l =
     let e : (ticked_times (suc n) l).counts.due ≡ (ticked_times n l).counts.due + 1 = ap (λ (k : TickParts). k.counts.due) (ticked_times-suc n l) in
     omega (arith, due_ticked_times n l)
-
--- a catch-up point makes no tick due
-pub due_caught_up : (l : TickParts) → (caught_up l).counts.due ≡ l.counts.due
-due_caught_up l = refl
-
--- an acknowledgement makes no tick due
-pub due_acked : (l : TickParts) → (acked l).counts.due ≡ l.counts.due
-due_acked l = refl
-
--- n ticks at once: the first of them brings a line up that is down, the others find it up
-abbrev pub at_once : ℕ → TickParts → TickParts
-at_once n l =
-    let shown : ℕ = shown_at_once l.up n in
-    record l {
-      up = l.up || ltb 0 n;
-      counts = with_missed l.policy (n - shown) (record l.counts { due = l.counts.due + n; rises = l.counts.rises + shown });
-    }
-
--- a line of its fields
-abbrev line_of : Policy → Bool → ℕ → ℕ → ℕ → ℕ → TickParts
-line_of policy up due rises queue lost = record { policy = policy; up = up; counts = record { due = due; rises = rises; queue = queue; lost = lost } }
 
 -- lines of equal fields are equal
 same_line : (p : Policy) (a b : Bool) (d d' r r' q q' x x' : ℕ) → a ≡ b → d ≡ d' → r ≡ r' → q ≡ q' → x ≡ x' → line_of p a d r q x ≡ line_of p b d' r' q' x'

@@ -33,7 +33,6 @@ use Rattle.std.proofs.Common.{
 }
 use Rattle.std.proofs.lemmas.Bool.{eq-eqb, eqb-true}
 use Rattle.std.proofs.lemmas.List.{drop-take, drop-drop}
-use Rattle.std.proofs.lemmas.Grind.{common_steps}
 use Rattle.std.specs.Str.{bytes_eq}
 use Rattle.std.proofs.lemmas.Slice.Eq.{bytes_eq-Decides}
 use Rattle.memchr.specs.Find.{IsFirstByte, is_byte}
@@ -61,10 +60,6 @@ drop_part piece from to n within =
     let parts : n + (to - (from + n)) ≡ to - from = omega arith in
     ap (λ (m : ℕ). drop n (take m (drop from piece))) (sym parts) ∙ drop-take n (to - (from + n)) (drop from piece)
     ∙ ap (take (to - (from + n))) (drop-drop n from piece)
-
--- the part up to n bytes after its front
-pub take_part : (piece : List ℕ) (from to n : ℕ) → from + n ≤ to → take n (take (to - from) (drop from piece)) ≡ take n (drop from piece)
-take_part piece from to n within = grind (arith, common_steps)
 
 -- where the search stopped at a byte, it is the end
 pub found_at : (rest : List ℕ) (end : Option ℕ) (n : ℕ) → IsFirstByte (is_byte 10) rest end → end ≡ Some n → (n < length rest) × (slice_index rest n ≡ 10)

@@ -12,7 +12,6 @@ use Rattle.trace_loop.specs.declared.ended.Ended.{Ended}
 use Rattle.trace_loop.specs.declared.ended.Ended.TheVariants as statuses
 use Rattle.trace_loop.specs.declared.feed.Feed.{Feed}
 use Rattle.trace_loop.proofs.Outcomes.{
-  stands_start,
   stands_line,
   ends_line,
   stands_whole,
@@ -254,24 +253,3 @@ module _ (A E : Type 0) (answer : ℕ → A → List ℕ → Answer A E) (closin
             (said-sink statuses.SourceFault result c now.contents source_fault_text (Rose f now.sink_faults) source-sink said is);
         sink_well = λ other. kept other ∙ sink ∙ k.sink_faults;
       }
-
-appends_none : (contents : Option (List ℕ)) → Appends contents contents []
-appends_none None = tt
-appends_none (Some xs) = sym (append-nil xs)
-
--- no byte was taken yet
-pub goes_start : (A E : Type 0) (answer : ℕ → A → List ℕ → Answer A E) (closing : ℕ → A → Closing E) (a : A) (feed : Feed) (ends : BothEnds)
-    → feed.lines ≡ record { number = 0; line = []; text = []; left = [] } → feed.out.items ≡ [] → IsGoing A E answer a ends a feed ends
-goes_start A E answer closing a feed ends fresh empty = record {
-  told = λ input e. (input, [], e, appends_none ends.contents, at input feed.lines feed.out.items (ends.given - ends.given) (omega arith) fresh empty);
-  lines = omega (arith, ap (λ (c : Cut). c.number + length c.left) fresh);
-  more = omega arith;
-  quiet = λ done late. (done, late);
-  source_faults = refl;
-  sink_faults = refl;
-}
-  where
-    at : (input : List ℕ) (c : Cut) (out : List ℕ) (given : ℕ) → given ≡ 0 → c ≡ record { number = 0; line = []; text = []; left = [] } → out ≡ []
-        → Stands A E answer a input c.left input [] out given (ends.before - ends.given) (standing (c.number + 1) c.text a ([] ++ out))
-    at input c out given none new nothing =
-        rw none (rw new (rw nothing (stands_start A E answer closing a input (ends.before - ends.given))))

@@ -151,10 +151,6 @@ module _ (A E : Type 0) (answer : ℕ → A → List ℕ → Answer A E) (closin
         omega (arith, ap length h.1, length-append l.bytes new.left, excess_some old.text l.bytes new.line l.line l.short h.0),
       )
 
-  -- nothing was given yet
-  pub stands_start : (input : List ℕ) (before : ℕ) → Stands A E answer a input [] input [] [] 0 before (opened a)
-  stands_start input before = record { bytes = []; whole = refl; count = refl; there = refl; asked = λ some. absurd (omega arith) }
-
   told_goes : (x : Answer A E) (line : ℕ) (text : List ℕ) (state : A) (before : List ℕ) → None ≡ end_of x → told x (standing line text state before)
       ≡ standing (line + 1) [] (state_after x state) (before ++ printed x)
   told_goes (Goes block b) line text state before none = refl

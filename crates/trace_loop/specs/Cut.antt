@@ -16,11 +16,6 @@ abbrev pub HasNoEnd : List ℕ → Type 0
 HasNoEnd [] = Unit {0}
 HasNoEnd (b ∷ bs) = (b ≢ 10) × HasNoEnd bs
 
--- what is true of a reader: the line that it is in has not ended, and is not too long
-pub record IsReader (r : Cut) : Type 0 where
-  pub in_line : HasNoEnd r.text
-  pub short : length r.text ≤ limit_of r.text
-
 -- a line was cut off: up to its end, or up to the first byte that is too many
 pub record IsLine (old new : Cut) : Type 0 where
   pub short : length old.text ≤ limit_of old.text

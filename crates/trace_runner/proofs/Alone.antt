@@ -270,9 +270,7 @@ phase_plain b ds v next out format one fit e =
 board_after_phases-cpus : (b : BoardParts) (cpu h : ℕ) (call : Call) → (board_after_phases b cpu h call).cpus ≡ b.cpus
 unfolding after_clock
 board_after_phases-cpus b cpu h (Act a) = after_access-cpus b cpu h a
-board_after_phases-cpus b cpu h (ReadPage page) = refl
-board_after_phases-cpus b cpu h (ReadClock page) = refl
-board_after_phases-cpus b cpu h ReadHv = refl
+board_after_phases-cpus b cpu h _ = refl
 
 records_after-cpus : (b : BoardParts) (rs : List Record) → (records_after b rs).cpus ≡ b.cpus
 records_after-cpus b [] = refl

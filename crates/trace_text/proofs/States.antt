@@ -1,38 +1,11 @@
 -- The header line `state`, by its first word and those after it.
-use Rattle.std.proofs.Common.{◌≡◌, ℕ, ◌/◌, ◌%◌, Bool, true, false, cond, eqb, length, List, [], ◌∷◌, Option, Some, None, Ok, Err, refl, sym, ◌∙◌}
+use Rattle.std.proofs.Common.{◌≡◌, ℕ, ◌/◌, ◌%◌, Bool, true, false, cond, eqb, length, List, None, Ok, Err, refl, sym, ◌∙◌}
 use Rattle.std.specs.Result.{result_ok}
 use Rattle.std.specs.Prelude.{Result}
 use Rattle.std.proofs.lemmas.Bool.{eq-eqb}
 use Rattle.hex.specs.Hex.{decode_of, decode_pairs, decode_sized}
 use Rattle.hex.specs.declared.error.FromHexError.{FromHexError}
 use Rattle.hex.specs.declared.error.FromHexError.TheVariants.{OddLength, InvalidStringLength}
-use Rattle.trace_text.specs.Rows.{placed, last}
-use Rattle.trace_text.specs.State.{hexes_in, restored}
-use Rattle.trace_text.specs.Header.{state_row, resumes}
-use Rattle.trace_text.specs.private.State.{restored_digits, restored_from}
-use Rattle.trace_text.specs.declared.faults.Reason.TheVariants.{Form}
-use Rattle.trace_text.specs.declared.header.Head.{Head}
-
--- one word
-pub one_word : (head : Head) (format : ℕ) (digits : List ℕ)
-    → state_row head format (digits ∷ []) ≡ resumes head (restored_digits format digits)
-one_word head format digits = by_bytes (hexes_in digits)
-  where
-    by_bytes : (o : Option (List ℕ))
-        → placed (λ (bytes : List ℕ). last (resumes head (restored format bytes))) [] o
-        ≡ resumes head (restored_from format o)
-    by_bytes None = refl
-    by_bytes (Some bytes) = refl
-
--- more words
-pub more_words : (head : Head) (format : ℕ) (digits w : List ℕ) (ws : List (List ℕ))
-    → state_row head format (digits ∷ w ∷ ws) ≡ Err Form
-more_words head format digits w ws = by_bytes (hexes_in digits)
-  where
-    by_bytes : (o : Option (List ℕ))
-        → placed (λ (bytes : List ℕ). last (resumes head (restored format bytes))) (w ∷ ws) o ≡ Err Form
-    by_bytes None = refl
-    by_bytes (Some bytes) = refl
 
 -- what is decoded into room for as many bytes as there are pairs of digits
 sized : (digits : List ℕ) (n : ℕ) → n ≡ length digits / 2 → decode_sized digits n ≡ decode_of digits

@@ -5,8 +5,6 @@ ghost use Rattle.std.specs.Prelude.{
   ◌+◌,
   ◌*◌,
   ◌/◌,
-  ◌%◌,
-  ◌^◌,
   ◌<◌,
   ◌≤◌,
   None,
@@ -14,7 +12,6 @@ ghost use Rattle.std.specs.Prelude.{
   IfErr,
   IfOk,
   OnOk,
-  IfSome,
   length,
 };
 ghost use Rattle.std.specs.List.{All};
@@ -23,7 +20,6 @@ ghost use Rattle.irq_edges.specs.Lines.{IsOfLine};
 ghost use Rattle.board_devices.specs.Run.{run};
 ghost use Rattle.board_core.specs.Time.{devices_in, now_of};
 ghost use Rattle.board_core.specs.Tsc.{processor_at, tsc_read};
-ghost use Rattle.board_core.specs.Hv.{hv_published_at_host};
 ghost use Rattle.board_core.specs.Conditions.{AreRates};
 ghost use Rattle.clk_units.specs.declared.ranges.TheConstants.{RANGE_NS};
 ghost use Rattle.board_core.specs.Reanchor.{reanchored};

@@ -16,7 +16,7 @@
 //! ```
 #![tactic(auto)]
 
-ghost use Rattle.std.specs.Prelude.{◌≡◌, ℕ, ◌+◌, ◌*◌, ◌/◌, ◌%◌, ◌^◌};
+ghost use Rattle.std.specs.Prelude.{◌≡◌, ◌*◌, ◌/◌, ◌%◌, ◌^◌};
 ghost use Rattle.clk_units.specs.Ranges.{IsKhz};
 ghost use Rattle.tsc_scale.specs.Ratio.{ratio_of};
 ghost use Rattle.tsc_scale.specs.Offset.{tsc_by};

@@ -1,6 +1,5 @@
-use Rattle.std.proofs.Common.{◌≡◌, ◌-◌, ap, ◌∙◌, arith}
+use Rattle.std.proofs.Common.{◌-◌, ap, ◌∙◌}
 use Rattle.hpet_bursts.specs.private.Earlier.{first_of}
-use Rattle.hpet_bursts.specs.Next.{first_where, sends_below}
 use Rattle.hpet_bursts.proofs.Nexts.{never, next-more}
 use Rattle.hpet_bursts.proofs.next.next_message.Goals as goal
 
