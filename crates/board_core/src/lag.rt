@@ -88,7 +88,7 @@ impl BoardState {
             reply.number = self.accesses;
             reply.value = match a {
                 Access::Step => Value::Nothing,
-                _ => self.passive_value(lag, self.lagging_now(lag), a),
+                _ => self.counted_value(lag, a),
             };
             return Ok(());
         }
@@ -107,6 +107,18 @@ impl BoardState {
             }
             Err(refusal) => Err(refusal),
         }
+    }
+
+    /// What an access that is counted reads, at the time of all counts.
+    // Inlined, it makes the answer to a line too large to be inlined in the loop over lines, which costs each line 29
+    // instructions.
+    #[inline(never)]
+    fn counted_value(&self, lag: &Lag, a: Access) -> Value
+        requires passive { IsTrue (is_passive a) }
+        requires lazy { IsLazy self.now lag.now.host lag.now.horizon }
+        ensures { (cpu g : ℕ) → result ≡ value_at (caught_up self.now lag.now) cpu g a }
+    {
+        self.passive_value(lag, self.lagging_now(lag), a)
     }
 
     /// Brings a board up to its time that lags beyond count `h`. Another may lag on.

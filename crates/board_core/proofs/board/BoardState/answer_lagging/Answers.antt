@@ -34,7 +34,7 @@ returns-then-counts-clause-outcome c =
     c.count-later.ensures.passed cpu c.args.a (sym c.is_passive-passive.ensures ∙ c.if-passive.true) in
     let read : c.match-a.reply ≡ value_at next cpu h c.args.a = elim c.match-a.branch [
       | in-Step w ↦ w.reply-is ∙ value-of-step next cpu h ∙ ap (value_at next cpu h) (sym w.in-Step.is)
-      | in_default w ↦ w.reply-is ∙ w.passive_value-reply.ensures cpu h
+      | in_default w ↦ w.reply-is ∙ w.counted_value-reply.ensures cpu h
     ] in
     let replied : reply c.self.inside.accesses c.match-a.reply before.edges before.bursts ≡ reply_of b cpu h c.args.a =
     ap (λ (x : BoardParts). reply x.accesses c.match-a.reply before.edges before.bursts) c.self.view_is
