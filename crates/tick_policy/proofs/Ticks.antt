@@ -6,6 +6,7 @@ use Rattle.tick_policy.specs.declared.parts.Policy.TheVariants.{Discard, Delay, 
 use Rattle.tick_policy.specs.declared.parts.TickParts.{TickParts}
 use Rattle.tick_policy.specs.Parts.{is_slew}
 use Rattle.tick_policy.specs.Line.{ticked, ticked_times, with_one_shown, is_waiting, caught_up}
+use Rattle.tick_policy.specs.private.AtOnce.{shown_at_once, with_missed}
 
 -- no ticks
 pub ticked_times-zero : (l : TickParts) → ticked_times 0 l ≡ l
@@ -78,6 +79,19 @@ due_ticked_times zero l = ap (λ (k : TickParts). k.counts.due) (ticked_times-ze
 due_ticked_times (suc n) l =
     let e : (ticked_times (suc n) l).counts.due ≡ (ticked_times n l).counts.due + 1 = ap (λ (k : TickParts). k.counts.due) (ticked_times-suc n l) in
     omega (arith, due_ticked_times n l)
+
+-- n ticks at once: the first of them brings a line up that is down, the others find it up
+abbrev pub at_once : ℕ → TickParts → TickParts
+at_once n l =
+    let shown : ℕ = shown_at_once l.up n in
+    record l {
+      up = l.up || ltb 0 n;
+      counts = with_missed l.policy (n - shown) (record l.counts { due = l.counts.due + n; rises = l.counts.rises + shown });
+    }
+
+-- a line of its fields
+abbrev line_of : Policy → Bool → ℕ → ℕ → ℕ → ℕ → TickParts
+line_of policy up due rises queue lost = record { policy = policy; up = up; counts = record { due = due; rises = rises; queue = queue; lost = lost } }
 
 -- lines of equal fields are equal
 same_line : (p : Policy) (a b : Bool) (d d' r r' q q' x x' : ℕ) → a ≡ b → d ≡ d' → r ≡ r' → q ≡ q' → x ≡ x' → line_of p a d r q x ≡ line_of p b d' r' q' x'
