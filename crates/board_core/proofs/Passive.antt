@@ -4,8 +4,7 @@ use Rattle.std.proofs.lemmas.Bool.{eqb-true, or_cases, false≢true}
 use Rattle.hpet_registers.specs.Access.{hpet_read, part_of}
 use Rattle.hpet_registers.specs.declared.parts.HpetParts.{HpetParts}
 use Rattle.board_types.specs.declared.access.Access.{Access}
-use Rattle.board_types.specs.declared.access.Access.TheVariants.{PortIn, PortOut, HpetRead, HpetWrite, MsrRead, MsrWrite, Ack, Step, Refresh, Wall}
-use Rattle.board_types.specs.declared.access.Access.TheVariants.{CountsOf, Next, Rose, Eoi}
+use Rattle.board_types.specs.declared.access.Access.TheVariants.{HpetRead, Step}
 use Rattle.board_types.specs.declared.parts.BoardParts.{BoardParts}
 use Rattle.board_types.specs.declared.reply.Value.TheVariants.{Nothing, Word}
 use Rattle.irq_edges.specs.declared.edges.Edge.{Edge}

@@ -5,22 +5,7 @@ use Rattle.clk_units.specs.declared.ranges.TheConstants.{RANGE_NS}
 use Rattle.irq_edges.specs.declared.edges.Edge.{Edge}
 use Rattle.host_counter.proofs.Times.{time_at-max}
 use Rattle.board_types.specs.declared.access.Access.{Access}
-use Rattle.board_types.specs.declared.access.Access.TheVariants.{
-  PortIn,
-  PortOut,
-  HpetRead,
-  HpetWrite,
-  MsrRead,
-  MsrWrite,
-  Ack,
-  Step,
-  Refresh,
-  Wall,
-  CountsOf,
-  Next,
-  Rose,
-  Eoi,
-}
+use Rattle.board_types.specs.declared.access.Access.TheVariants.{PortIn, PortOut, HpetRead, HpetWrite, MsrRead, MsrWrite, Ack}
 use Rattle.board_types.specs.declared.parts.BoardParts.{BoardParts}
 use Rattle.board_devices.specs.declared.parts.DeviceParts.{DeviceParts}
 use Rattle.board_devices.specs.Run.{Ran, run, onward}

@@ -1,8 +1,8 @@
 -- What stays over the pulses of the HPET: which timers tick and which send messages; a place without a timer.
-use Rattle.std.proofs.Common.{◌≡◌, ℕ, ◌-◌, ◌%◌, ◌^◌, ◌<◌, ◌≤◌, Bool, true, false, ◌&&◌, not, ltb, leb, eqb}
-use Rattle.std.proofs.Common.{refl, ap, sym, subst, ◌∙◌, inl, inr}
+use Rattle.std.proofs.Common.{◌≡◌, ℕ, ◌-◌, ◌%◌, ◌^◌, ◌<◌, ◌≤◌, Bool, true, false, ◌&&◌, not, ltb, eqb}
+use Rattle.std.proofs.Common.{ap, sym, subst, ◌∙◌, inl, inr}
 use Rattle.std.proofs.Math.Nat.{zero-div}
-use Rattle.std.proofs.lemmas.Bool.{cases_lt, le-ltb, le-leb, false≢true}
+use Rattle.std.proofs.lemmas.Bool.{cases_lt, le-ltb, false≢true}
 use Rattle.clk_units.specs.Bits.{bit}
 use Rattle.hpet_comparator.specs.declared.parts.TimerParts.{TimerParts}
 use Rattle.hpet_registers.specs.declared.parts.HpetParts.{HpetParts}
@@ -40,14 +40,4 @@ is_place i k h valid small set = elim (cases_lt k h.timers) [
       let none : bit i (timer_at k h).config ≡ false = ap (λ (t : TimerParts). bit i t.config) (timer_at-absent k h valid small past)
       ∙ ap (λ (x : ℕ). eqb (x % 2) 1) (zero-div (2 ^ i)) in
       absurd (false≢true (sym none ∙ set))
-]
-
-first : (a b : Bool) → (a && b) ≡ true → a ≡ true
-first true b e = refl
-first false b e = e
-
-more : (timers k : ℕ) → leb timers k ≡ false → k < timers
-more timers k e = elim (cases_lt k timers) [
-  | inl inside ↦ inside
-  | inr past ↦ absurd (false≢true (sym e ∙ le-leb timers k past))
 ]

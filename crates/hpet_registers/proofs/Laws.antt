@@ -5,8 +5,7 @@ use Rattle.std.proofs.lemmas.Nat.{and_comm, and_assoc}
 use Rattle.hpet_comparator.specs.Part.{part_written}
 use Rattle.hpet_registers.specs.declared.parts.HpetParts.{HpetParts}
 use Rattle.hpet_registers.specs.declared.register.Register.{Register}
-use Rattle.hpet_registers.specs.declared.register.Register.TheVariants.{Capabilities, Configuration, Status, MainCounter, TimerConfig, TimerComparator}
-use Rattle.hpet_registers.specs.declared.register.Register.TheVariants.{TimerMessage, Reserved}
+use Rattle.hpet_registers.specs.declared.register.Register.TheVariants.{Capabilities, Configuration, Status}
 use Rattle.hpet_registers.specs.Access.{register_written}
 
 -- what is masked has no bit that it hadn't

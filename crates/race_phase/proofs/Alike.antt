@@ -45,7 +45,7 @@ use Rattle.board_history.specs.declared.entry.Entry.TheVariants.{Opened, Board, 
 use Rattle.board_history.proofs.Laws.{board_after-snoc, machine-stays}
 use Rattle.board_history.proofs.Pages.{machine_of-access, length-processors}
 use Rattle.trace_text.specs.declared.records.Call.{Call}
-use Rattle.trace_text.specs.declared.records.Call.TheVariants.{Act, ReadPage, ReadClock, ReadHv}
+use Rattle.trace_text.specs.declared.records.Call.TheVariants.{Act}
 use Rattle.race_phase.specs.declared.records.Record.{Record}
 use Rattle.race_phase.specs.Calls.{IsFitting, records_of, Shown}
 use Rattle.race_phase.specs.Order.{after_call, after_record, after_records}
@@ -167,9 +167,6 @@ places_records b (r ∷ rs) = places_records (after_record b r) rs ∙ places_ca
 -- the workers leave the counts that file order leaves
 module _ (s : BoardParts) (ds : Deliveries) (rs : List Record) (mid : BoardParts) (out : List ℕ) (sound : IsSound s)
     (fit : All (IsFitting s.cpus s.format) rs) (t : PhaseTold s ds rs mid out) where
-  later : List Entry
-  later = t.opens.0
-
   legal : LegalFrom (of_state s ∷ []) t.opens.0
   legal = subst IsLegal t.opens.1 t.legal
 

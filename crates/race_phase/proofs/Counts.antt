@@ -63,7 +63,7 @@ use Rattle.board_history.proofs.Laws.{board_after-snoc}
 use Rattle.board_history.proofs.Pages.{length-processors, processor_at-none, publishes_wall-page}
 use Rattle.shared_board.specs.Faults.{page_reads}
 use Rattle.trace_text.specs.declared.records.Call.{Call}
-use Rattle.trace_text.specs.declared.records.Call.TheVariants.{Act, ReadPage, ReadClock, ReadHv}
+use Rattle.trace_text.specs.declared.records.Call.TheVariants.{Act}
 use Rattle.race_phase.specs.declared.records.Record.{Record}
 
 -- the weights of a list, added up

@@ -61,7 +61,7 @@ use Rattle.race_phase.specs.declared.phases.End.{End}
 use Rattle.race_phase.specs.declared.phases.End.TheVariants.{Finish, Save, Move}
 use Rattle.race_phase.specs.declared.phases.Phase.{Phase}
 use Rattle.trace_text.specs.declared.records.Call.{Call}
-use Rattle.trace_text.specs.declared.records.Call.TheVariants.{Act, ReadPage, ReadClock, ReadHv}
+use Rattle.trace_text.specs.declared.records.Call.TheVariants.{Act}
 use Rattle.race_phase.specs.declared.records.Record.{Record}
 use Rattle.trace_text.specs.Records.{IsFittingCall}
 use Rattle.race_phase.specs.Calls.{IsFitting}

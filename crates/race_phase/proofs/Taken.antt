@@ -66,7 +66,7 @@ use Rattle.board_history.specs.Machine.{Machine}
 use Rattle.board_history.specs.Counts.{HasNoTime, IsAtLastVersion}
 use Rattle.board_history.specs.History.{of_state, board_after, LegalFrom, IsLegal, Opens}
 use Rattle.board_history.specs.declared.entry.Entry.{Entry}
-use Rattle.board_history.specs.declared.entry.Entry.TheVariants.{Opened, Board, PageRead, HvRead, Clamp}
+use Rattle.board_history.specs.declared.entry.Entry.TheVariants.{Opened}
 use Rattle.board_history.proofs.Laws.{machine-stays}
 use Rattle.board_history.proofs.Pages.{length-processors, published_by-legal}
 use Rattle.board_history.proofs.Refusals.{refused_why}
@@ -76,7 +76,7 @@ use Rattle.shared_board.specs.Stops.{StopTold}
 use Rattle.race_phase.specs.declared.faults.Cause.{Cause}
 use Rattle.race_phase.specs.declared.faults.Fault.{Fault}
 use Rattle.trace_text.specs.declared.records.Call.{Call}
-use Rattle.trace_text.specs.declared.records.Call.TheVariants.{Act, ReadPage, ReadClock, ReadHv}
+use Rattle.trace_text.specs.declared.records.Call.TheVariants.{Act}
 use Rattle.race_phase.specs.declared.records.Record.{Record}
 use Rattle.trace_text.specs.Records.{IsFittingCall}
 use Rattle.race_phase.specs.Calls.{IsFitting, Shown}
