@@ -158,8 +158,6 @@ impl Counter {
         ensures state { self.new ≡ after_read self.old }
         ensures byte { result ≡ byte_read self.old }
     {
-        let byte = reading::byte_read(&self.parts);
-        self.parts = reading::after_read(self.parts);
-        byte
+        reading::read_byte(&mut self.parts)
     }
 }

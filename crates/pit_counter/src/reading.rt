@@ -12,8 +12,6 @@ ghost use Rattle.pit_counter.specs.Reading.{
   reads_high,
   reads_last,
   byte_read,
-  status_released,
-  count_released,
   after_read,
 };
 
@@ -105,58 +103,36 @@ fn reads_last(access: Access, high_next: bool) -> bool
     }
 }
 
-/// The byte that a read gives: a latched status first, else a byte of the count.
-#[tactic(auto, unfolding(crate::specs::Reading::byte_read))]
-pub fn byte_read(p: &CounterParts) -> u8
-    requires { p.now.ce < modulus p.now.bits }
-    ensures { result ≡ byte_read p.now }
+/// Reads a byte: a latched status first, else a byte of the count. With its last byte a latched count is released.
+#[tactic(auto, unfolding(
+    crate::specs::Reading::byte_read,
+    crate::specs::Reading::after_read,
+    crate::specs::Reading::status_released,
+    crate::specs::Reading::count_released,
+))]
+pub fn read_byte(p: &mut CounterParts) -> u8
+    requires { p.old.ce < modulus p.old.bits }
+    ensures state { p.new ≡ after_read p.old }
+    ensures byte { result ≡ byte_read p.old }
 {
     if p.status_latched {
-        return p.latched_status;
+        let status = p.latched_status;
+        p.status_latched = false;
+        p.latched_status = 0;
+        return status;
     }
+    let access = access_of(p.bits);
     let count = shown_count(p);
-    if reads_high(access_of(p.bits), p.high_next) {
+    let high = reads_high(access, p.high_next);
+    let last = reads_last(access, p.high_next);
+    p.high_next = access.takes_two() && !p.high_next;
+    p.count_latched = p.count_latched && !last;
+    if last {
+        p.latched_count = 0;
+    }
+    if high {
         (count / 256) as u8
     } else {
         (count % 256) as u8
-    }
-}
-
-/// The counter after a read of a latched status.
-#[tactic(auto, unfolding(crate::specs::Reading::status_released))]
-fn status_released(p: CounterParts) -> CounterParts
-    ensures { result ≡ status_released p }
-{
-    CounterParts {
-        status_latched: false,
-        latched_status: 0,
-        ..p
-    }
-}
-
-/// The counter after a read of a byte of the count.
-#[tactic(auto, unfolding(crate::specs::Reading::count_released))]
-fn count_released(p: CounterParts) -> CounterParts
-    ensures { result ≡ count_released p }
-{
-    let access = access_of(p.bits);
-    let last = reads_last(access, p.high_next);
-    CounterParts {
-        high_next: access.takes_two() && !p.high_next,
-        count_latched: p.count_latched && !last,
-        latched_count: if last { 0 } else { p.latched_count },
-        ..p
-    }
-}
-
-/// The counter after a read.
-#[tactic(auto, unfolding(crate::specs::Reading::after_read))]
-pub fn after_read(p: CounterParts) -> CounterParts
-    ensures { result ≡ after_read p }
-{
-    if p.status_latched {
-        status_released(p)
-    } else {
-        count_released(p)
     }
 }

@@ -1,6 +1,8 @@
 -- What leaves GATE of a counter as it is: all but a write of port 61h.
-use Rattle.std.proofs.Common.{◌≡◌, ℕ, zero, suc, ◌+◌, ◌*◌, ◌<◌, [], ◌∷◌, get_or, arith, Bool, true, false, refl, ap, ◌∙◌}
-use Rattle.std.proofs.lemmas.Bool.{cond_both}
+use Rattle.std.proofs.Common.{◌≡◌, ℕ, zero, suc, ◌+◌, ◌*◌, ◌<◌, [], ◌∷◌, length, get_or, slice_set, arith, Bool, true, false, refl, ap, sym, ◌∙◌, inl, inr}
+use Rattle.std.proofs.lemmas.Bool.{cond_both, cases_order}
+use Rattle.std.proofs.lemmas.List.{get_or-set_other, get_or_default, length-set}
+use Rattle.std.proofs.lemmas.Grind.{get_or-set_at}
 use Rattle.pit_counter.specs.declared.parts.CounterParts.{CounterParts}
 use Rattle.pit_counter.specs.declared.mode.Access.{Access}
 use Rattle.pit_counter.specs.declared.mode.Access.TheVariants.{LowByte, HighByte, LowThenHigh}
@@ -72,4 +74,20 @@ pub IsWired-pulsed_times : (n : ℕ) (p : PitParts) → IsWired p → IsWired (p
 IsWired-pulsed_times n p h = record {
   three = length-pit_pulsed_times n p ∙ h.three;
   high = λ k small. ap (λ (c : CounterParts). c.gate) (counter_of-pit_pulsed_times n k p) ∙ gate-pulsed_times n (counter_of p k) ∙ h.high k small;
+}
+
+-- another counter of the same GATE leaves the wiring
+pub wired-set : (p : PitParts) (k : ℕ) (c d : CounterParts) → IsWired p → c.gate ≡ (get_or p.counters k d).gate
+    → IsWired (record p { counters = slice_set p.counters k c })
+wired-set p k c d wired same = record {
+  three = length-set p.counters k c ∙ wired.three;
+  high = λ j two.
+      let small : j < length p.counters = omega (arith, wired.three) in
+      elim (cases_order k j) [
+        | inl equal ↦ ap (λ (x : CounterParts). x.gate) (get_or-set_at p.counters k j c (counter_at_power_on true) (sym equal) (omega (arith, equal, small)))
+            ∙ same ∙ ap (λ (i : ℕ). (get_or p.counters i d).gate) equal
+            ∙ ap (λ (x : CounterParts). x.gate) (get_or_default p.counters j d (counter_at_power_on true) small) ∙ wired.high j two
+        | inr other ↦ ap (λ (x : CounterParts). x.gate) (get_or-set_other p.counters k j c (counter_at_power_on true)
+            (λ (e : j ≡ k). elim other [ inl less ↦ omega arith | inr more ↦ omega arith ])) ∙ wired.high j two
+      ];
 }

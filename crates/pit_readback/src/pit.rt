@@ -186,11 +186,7 @@ impl Pit {
         if port == CONTROL {
             return 0xff;
         }
-        let k = port - FIRST;
-        let mut counter = self.counter(k);
-        let byte = counter.read();
-        self.replace(k, counter);
-        byte
+        self.counters[(port - FIRST) as usize].read()
     }
 
     /// Writes a byte to port 61h: bit 0 is GATE of counter 2, bit 1 speaker data.

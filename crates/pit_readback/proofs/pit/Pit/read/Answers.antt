@@ -1,8 +1,8 @@
-use Rattle.std.proofs.Common.{ap, ◌∙◌, ◌<◌, ◌-◌}
+use Rattle.std.proofs.Common.{ap, ◌∙◌}
 use Rattle.pit_counter.specs.declared.parts.CounterParts.{CounterParts}
-use Rattle.pit_readback.proofs.Gates.{gate-after_read}
+use Rattle.pit_readback.specs.private.Wiring.{parts_of}
+use Rattle.pit_readback.proofs.Gates.{gate-after_read, wired-set}
 use Rattle.pit_readback.proofs.pit.Pit.read.Goals as goal
 
-pub replace-requires-clause-wired : goal.replace-requires-clause-wired
-replace-requires-clause-wired c = λ (h : c.args.port - 64 < 2). ap (λ (d : CounterParts). d.gate) c.read-byte.ensures.state
-    ∙ gate-after_read c.counter-counter.result ∙ c.counter-counter.ensures.wired h
+pub invariant_of-self : goal.invariant_of-self
+invariant_of-self c = wired-set (parts_of c.self.inside) _ _ _ c.self.invariant (ap (λ (d : CounterParts). d.gate) c.read.ensures.state ∙ gate-after_read _)
