@@ -104,12 +104,7 @@ fn reads_last(access: Access, high_next: bool) -> bool
 }
 
 /// Reads a byte: a latched status first, else a byte of the count. With its last byte a latched count is released.
-#[tactic(auto, unfolding(
-    crate::specs::Reading::byte_read,
-    crate::specs::Reading::after_read,
-    crate::specs::Reading::status_released,
-    crate::specs::Reading::count_released,
-))]
+#[tactic(auto, unfolding(crate::specs::Reading::byte_read, crate::specs::Reading::after_read, crate::specs::Reading::status_released, crate::specs::Reading::count_released,))]
 pub fn read_byte(p: &mut CounterParts) -> u8
     requires { p.old.ce < modulus p.old.bits }
     ensures state { p.new ≡ after_read p.old }
