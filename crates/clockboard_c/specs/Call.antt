@@ -1,4 +1,4 @@
--- One access to a board that C holds: what it tells, and the board after it.
+-- One access to a board that C holds: what it answers, and the board after it.
 use Rattle.std.specs.Prelude.{
   ◌≡◌,
   ◌<◌,
@@ -84,7 +84,7 @@ shared_code b cpu a =
     if b.seal == SEAL then (if b.shared then access_code b.state cpu a else Some NOT_SHARED)
     else Some NO_BOARD
 
--- what the board tells of an access that it is handed, where that is why it refuses it
+-- what the board answers to an access that it is handed, where that is why it refuses it
 abbrev pub told_unless : Option Refusal → BoardParts → ℕ → ℕ → Access → Told
 told_unless (Some refusal) s cpu h a = refused (code_of refusal)
 told_unless None s cpu h a = told_of (reply_of s cpu h a) (now_of (after_access s cpu h a))
@@ -100,7 +100,7 @@ state_unless None s cpu h a = after_access s cpu h a
 abbrev pub state_after : BoardParts → ℕ → ℕ → Access → BoardParts
 state_after s cpu h a = state_unless (refusal_of s cpu h a) s cpu h a
 
--- what a call of an access tells: a code, or what the board tells
+-- what a call of an access answers: a code, or what the board answers
 abbrev pub told_or : Option ℕ → BoardParts → ℕ → ℕ → Access → Told
 told_or (Some code) s cpu h a = refused code
 told_or None s cpu h a = told_by s cpu h a

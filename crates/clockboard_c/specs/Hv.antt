@@ -35,7 +35,7 @@ hv_code b =
 abbrev pub hv_in_memory : CallerBoard → HvWords → HvWords
 hv_in_memory b before = if hv_code b == OK then hv_words b.state else before
 
--- what a read of the page tells: the time that it gives
+-- what a read of the page answers: the time that it gives
 abbrev pub hv_time_in : HvReply → ℕ → Told
 hv_time_in Off now = refused PAGE_OFF
 hv_time_in (On page reading) now = taken 0 now (reading ∷ 0 ∷ 0 ∷ 0 ∷ []) [] []
@@ -44,6 +44,6 @@ hv_time_in (On page reading) now = taken 0 now (reading ∷ 0 ∷ 0 ∷ 0 ∷ []
 abbrev pub hv_time_by : BoardParts → ℕ → Told
 hv_time_by s h = in_time s h (hv_time_in (hv_reply s h) (now_of s))
 
--- what the call tells
+-- what the call answers
 abbrev pub hv_time_told : CallerBoard → ℕ → Told
 hv_time_told b h = if hv_code b == OK then hv_time_by b.state h else refused (hv_code b)

@@ -32,7 +32,7 @@ seen b = record {
   state = caught_up b.state b.lag;
 }
 
--- the number in some memory after a call that has one to tell or not
+-- the number in some memory after a call that has one to give or not
 abbrev pub number_or_0 : Option ℕ → ℕ
 number_or_0 (Some n) = n
 number_or_0 None = 0

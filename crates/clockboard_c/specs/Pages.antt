@@ -31,7 +31,7 @@ page_words s cpu = record {
 abbrev pub page_after : CallerBoard → ℕ → PageWords → PageWords
 page_after b cpu before = if processor_code b cpu == OK then page_words b.state cpu else before
 
--- what a clock tells: its reading, clamped, and that of the page
+-- what a read of the clock answers: its reading, clamped, and that of the page
 abbrev pub clock_in : ClockReply → ℕ → Told
 clock_in Off now = refused PAGE_OFF
 clock_in (On reading clock) now = taken 0 now (clock ∷ reading ∷ 0 ∷ 0 ∷ []) [] []
@@ -54,7 +54,7 @@ abbrev pub clock_code : CallerBoard → ℕ → ℕ
 clock_code b cpu =
     if b.seal == SEAL && b.shared then SHARED else processor_code b cpu
 
--- what the call tells, and the board after it
+-- what the call answers, and the board after it
 abbrev pub clock_told : CallerBoard → ℕ → ℕ → Told
 clock_told b cpu h =
     if clock_code b cpu == OK then clock_by b.state cpu h else refused (clock_code b cpu)

@@ -31,7 +31,7 @@ use Rattle.clockboard_c.specs.declared.reply.BurstWords.{BurstWords}
 use Rattle.clockboard_c.specs.declared.reply.EdgeWords.{EdgeWords}
 use Rattle.clockboard_c.specs.declared.reply.ReplyWords.{ReplyWords}
 
--- what a call tells: its code, the number of the access, the board's time, four numbers, the edges,
+-- what a call answers: its code, the number of the access, the board's time, four numbers, the edges,
 -- and the bursts of messages
 pub record Told : Type 0 where
   pub code : ℕ
@@ -96,7 +96,7 @@ edge_words e = record { at_ns = e.at; line = e.line; up = if e.up then 1 else 0 
 abbrev pub no_edge : Edge
 no_edge = record { at = 0; line = 0; up = false }
 
--- the edges stand at the front of the places
+-- the edges are at the front of the places
 abbrev pub EdgesAre : List EdgeWords → List Edge → Type 0
 EdgesAre places es =
     (k : ℕ) → k < length es
@@ -122,13 +122,13 @@ burst_words b = record {
 abbrev pub no_burst : Burst
 no_burst = record { timer = 0; first = 0; count = 0; every = 0; address = 0; «data» = 0 }
 
--- the bursts stand at the front of the places
+-- the bursts are at the front of the places
 abbrev pub BurstsAre : List BurstWords → List Burst → Type 0
 BurstsAre places bs =
     (k : ℕ) → k < length bs
     → slice_index_or places k (burst_words no_burst) ≡ burst_words (slice_index_or bs k no_burst)
 
--- a reply says what a call tells, and its places after the edges and after the bursts are as they were
+-- a reply says what a call answers, and its places after the edges and after the bursts are as they were
 pub record IsReply (old r : ReplyWords) (t : Told) : Type 0 where
   pub answer : r.answer ≡ t.code
   pub number : r.number ≡ t.number

@@ -67,7 +67,7 @@ setup_of s = record {
   time = time_of s;
 }
 
--- what power on tells, and the board that it makes in some memory
+-- what power on answers, and the board that it makes in some memory
 abbrev pub power_on_told : SetupWords → Told
 power_on_told s =
     if setup_valid s then taken 0 (now_of (board_at_power_on (setup_of s))) no_value [] []

@@ -73,7 +73,7 @@ kind_number Version = 2
 kind_number Field = 3
 kind_number Trailing = 4
 
--- what a load tells, where that is the first fault of its bytes, and the board after it
+-- what a load answers, where that is the first fault of its bytes, and the board after it
 abbrev pub load_told_unless : Option StateFault → List ℕ → Told
 load_told_unless (Some f) bytes = refused_at BAD_STATE (f.place ∷ kind_number f.kind ∷ 0 ∷ 0 ∷ [])
 load_told_unless None bytes =
@@ -94,7 +94,7 @@ abbrev pub fault_code : MoveFault → ℕ
 fault_code (OutOfRange ns) = OUT_OF_RANGE
 fault_code (VersionsSpent cpu version) = VERSIONS_SPENT
 
--- what a move to a host with a rate in range tells, where that is its fault, and the state after it
+-- what a move to a host with a rate in range answers, where that is its fault, and the state after it
 abbrev pub moved_told_unless : Option MoveFault → BoardParts → ℕ → ℕ → ℕ → Told
 moved_told_unless (Some f) s khz start gap = refused (fault_code f)
 moved_told_unless None s khz start gap =
@@ -111,7 +111,7 @@ state_moved_unless None s khz start gap = moved_to khz start gap s
 abbrev pub state_after_move : BoardParts → ℕ → ℕ → ℕ → BoardParts
 state_after_move s khz start gap = state_moved_unless (move_fault gap s) s khz start gap
 
--- what the call tells, and the board after it
+-- what the call answers, and the board after it
 abbrev pub move_told : CallerBoard → ℕ → ℕ → ℕ → Told
 move_told b khz start gap =
     if whole_code b == OK then
@@ -124,7 +124,7 @@ board_after_move b khz start gap =
     record b { known = false; state = state_after_move b.state khz start gap }
     else b
 
--- what a reset of the PC tells, the lines that were up going down, and the board after it
+-- what a reset of the PC answers, the lines that were up going down, and the board after it
 unfoldable pub reset_by : BoardParts → Told
 reset_by s =
     taken s.accesses (now_of s) no_value

@@ -22,7 +22,7 @@ use Rattle.clockboard_c.specs.declared.board.TheConstants.{SEAL}
 use Rattle.clockboard_c.specs.declared.code.TheConstants.{OK, NO_BOARD}
 use Rattle.clockboard_c.specs.Kept.{CallerBoard, number_or_0, code_or_none}
 
--- the number that a code and some memory tell
+-- the number that a code and some memory give
 abbrev pub told_number : ℕ → ℕ → Option ℕ
 told_number code n = if code == OK then Some n else None
 

@@ -1,7 +1,7 @@
 //! The board for C: a static library of plain calls over `board_core`, `save_state` and `transfer`.
 //!
 //! A monitor in C, C++ or Rust keeps a board in memory of its own and hands each call one access with the count
-//! of the host's counter. `c/clockboard.h` declares the calls, and docs/C_LIBRARY.md tells how a monitor wires them
+//! of the host's counter. `c/clockboard.h` declares the calls, and docs/C_LIBRARY.md says how a monitor wires them
 //! to its one timer and to its interrupt controller.
 //!
 //! No call has a condition on its numbers: a processor, port, register, width, line, source, setup or state that

@@ -1,4 +1,4 @@
-//! The pages of the paravirtual clock, and the clock that they tell.
+//! The pages of the paravirtual clock, and the clock by them.
 ghost use Rattle.std.specs.Prelude.{◌≡◌, ◌<◌};
 ghost use Rattle.board_core.specs.Lazy.{caught_up, IsLazy};
 ghost use Rattle.board_core.specs.Time.{now_of};
@@ -67,7 +67,7 @@ fn page_words(state: &BoardState, cpu: u8) -> PageWords
     }
 }
 
-/// The time that a guest's clock tells at count `host`: the greater of what its page gives and of all that was told.
+/// The time that a guest's clock reads at count `host`: the greater of what its page gives and of all that was told.
 /// It moves no time and takes no number. The reply's value has the clock and the page's own reading, in nanoseconds.
 #[unsafe(no_mangle)]
 pub extern "C" fn clockboard_clock(board: &mut Board, cpu: u8, host: u64, reply: &mut ReplyWords)
@@ -108,7 +108,7 @@ fn clock_code(board: &Board, cpu: u8) -> u32
     }
 }
 
-/// What the clock of a processor tells that is there, of a board that lags, whose time is known.
+/// What the clock of a processor reads that is there, of a board that lags, whose time is known.
 #[tactic(auto, unfolding(board_core::specs::Pages::after_clock))]
 fn tell_clock(
     state: &mut BoardState,

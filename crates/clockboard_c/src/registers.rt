@@ -1,4 +1,4 @@
-//! The HPET, the MSRs of a guest's clocks, acknowledgements, and what the board tells of its ticks.
+//! The HPET, the MSRs of a guest's clocks, acknowledgements, and what the board says of its ticks.
 ghost use Rattle.std.specs.Prelude.{◌≡◌};
 ghost use Rattle.board_types.specs.declared.access.Access.TheVariants.{
   HpetRead,

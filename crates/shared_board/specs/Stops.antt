@@ -14,7 +14,7 @@ newcomers s zero = []
 newcomers s (suc n) =
     newcomers s n ++ record { number = n; seen = of_state s ∷ []; misses = [] } ∷ []
 
--- each pass had seen a beginning of the history, with all entries of its number, and the version of
+-- each pass had seen a prefix of the history, with all entries of its number, and the version of
 -- each page that it missed has come as far as the second that it saw
 abbrev pub PassesTold : List Entry → List PassKnown → Type 0
 PassesTold h [] = Unit {0}

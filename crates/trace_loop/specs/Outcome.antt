@@ -108,7 +108,7 @@ pub record Leaves {A E : Type 0} (answer : ℕ → A → List ℕ → Answer A E
       → (after_bytes answer (take (end.before - start.given) input) (opened a)).end ≡ None
   pub ends : KeepsEnds SourceFault SinkFault ended start end before after
 
--- what a call leaves of a sink that a text was put into: all of it, or its beginning where the sink
+-- what a call leaves of a sink that a text was put into: all of it, or a prefix where the sink
 -- failed; faults are counted, and it isn't called again after a call that failed
 pub record IsPutAll {T E : Type 0} (before after : Output) (text : List ℕ) (result : Result T E)
     : Type 0 where
@@ -122,7 +122,7 @@ pub record IsPutAll {T E : Type 0} (before after : Output) (text : List ℕ) (re
   pub failed : OnErr result (Rose before.faults after.faults)
 
 -- the whole text was written, and this is the answer; or the sink failed, which showed, and took
--- the text's beginning
+-- a prefix of it
 abbrev pub SaidOr : {R : Type 0} → R → R → R → Option (List ℕ) → Option (List ℕ) → List ℕ → Type 0
     → Type 0
 SaidOr fault end result old new text shown =

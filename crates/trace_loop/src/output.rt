@@ -7,7 +7,7 @@ ghost use Rattle.trace_loop.specs.Outcome.{IsPutAll, IsSaid};
 use board_io::{Failed, Sink};
 use clk_units::NoMemory;
 
-/// Puts a whole text into a sink. After an `Err` the sink has taken the text's beginning.
+/// Puts a whole text into a sink. After an `Err` the sink has taken a prefix of the text.
 pub fn put_all<K: Sink>(sink: &mut K, text: &[u8]) -> Result<(), Failed>
     ensures put { IsPutAll (K.output sink.old) (K.output sink.new) text.now result }
     ensures some { OnErr result (0 < length text.now) }

@@ -8,7 +8,7 @@ use Rattle.trace_runner.specs.declared.status.Status.{Status}
 use Rattle.trace_runner.specs.declared.status.Status.TheVariants.{NoMemory, SinkFault, SourceFault}
 
 -- the whole text was written, and this is the status; or the sink failed, which showed, and took
--- the text's beginning
+-- a prefix of it
 abbrev pub Said : Status → Status → Option (List ℕ) → Option (List ℕ) → List ℕ → Type 0 → Type 0
 Said status result old new text shown = SaidOr SinkFault status result old new text shown
 

@@ -68,8 +68,8 @@ use trace_loop::{MEMORY_FAULT, answer_lines, say};
 /// - `VersionsSpent`: that line would publish a page, or the wall clock's words, past the last version.
 /// - `Spent`: 2^62 accesses came before that line.
 /// - `SourceFault`, `SinkFault`: only where that end counted a fault in this call. What was written is then the blocks
-///   of all whole lines given and `fault source`, or a beginning of what would be printed.
-/// - `NoMemory`: memory ran out; what was written is a beginning of what would be printed, and `fault memory`.
+///   of all whole lines given and `fault source`, or a prefix of what would be printed.
+/// - `NoMemory`: memory ran out; what was written is a prefix of what would be printed, and `fault memory`.
 #[tactic(auto, using(crate::proofs::WholeLines::progress_whole, crate::proofs::CheckQuiet::silent_going))]
 pub fn run<R: Threads + Wait + Sync, S: Source, K: Sink, G: Gate + Sync>(
     rt: &R,
