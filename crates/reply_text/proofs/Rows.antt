@@ -11,7 +11,8 @@ use Rattle.hv_page.specs.declared.page.HvReply.TheVariants.{Off as HvOff, On as 
 use Rattle.reply_text.specs.Words.{hex_text, hexes}
 use Rattle.reply_text.specs.Soak.{soak_text}
 use Rattle.reply_text.specs.Text.{edge_text, msg_text, board_text, value_text, page_text, clock_text, hv_text, save_text, move_text, final_text, state_text, refused_text}
-use Rattle.reply_text.specs.declared.ends.Refused.TheVariants.{Form, Steal, Cpu, Fell, State, Long, Many, NoEnd, Range, Versions, Spent}
+use Rattle.reply_text.specs.declared.ends.Reason.TheVariants.{Form, Steal, Cpu, CounterFell, StateBytes, TooLong, TooMany, NoEnd}
+use Rattle.reply_text.specs.declared.ends.Refused.TheVariants.{Invalid, Range, Versions, Spent}
 
 -- edges: the time comes first, then the line's number, and last who gets them
 edges : edge_text (record { at = 4191; line = 0; up = true }) None
@@ -103,9 +104,9 @@ ends = refl
 
 -- what is refused for its form, steal time, its processor, a counter that fell, a state and its length; for too many records,
 -- no end, its time, a version and a number
-reasons : refused_text 3 Form ∷ refused_text 3 Steal ∷ refused_text 3 Cpu
-    ∷ refused_text 4 (Fell 10) ∷ refused_text 2 (State 552) ∷ refused_text 2 Long
-    ∷ refused_text 200003 Many ∷ refused_text 1 NoEnd ∷ refused_text 3 (Range 576460752303423488)
+reasons : refused_text 3 (Invalid Form) ∷ refused_text 3 (Invalid Steal) ∷ refused_text 3 (Invalid Cpu)
+    ∷ refused_text 4 (Invalid (CounterFell 10)) ∷ refused_text 2 (Invalid (StateBytes 552)) ∷ refused_text 2 (Invalid TooLong)
+    ∷ refused_text 200003 (Invalid TooMany) ∷ refused_text 1 (Invalid NoEnd) ∷ refused_text 3 (Range 576460752303423488)
     ∷ refused_text 4 (Versions 4294967294) ∷ refused_text 4 (Spent 4611686018427387904) ∷ []
     ≡ codes "refused 3 form\n" ∷ codes "refused 3 steal\n" ∷ codes "refused 3 cpu\n"
     ∷ codes "refused 4 fell 10\n" ∷ codes "refused 2 state 552\n" ∷ codes "refused 2 long\n"

@@ -40,20 +40,18 @@ use Rattle.pvclock_page.specs.declared.page.PageReply.TheVariants.{Off as PageOf
 use Rattle.pvclock_page.specs.declared.page.ClockReply.{ClockReply}
 use Rattle.pvclock_page.specs.declared.page.ClockReply.TheVariants.{Off as ClockOff, On as ClockOn}
 use Rattle.reply_text.specs.Words.{hex_text, hexes, line_of}
-use Rattle.reply_text.specs.declared.ends.Refused.{Refused}
-use Rattle.reply_text.specs.declared.ends.Refused.TheVariants.{
+use Rattle.reply_text.specs.declared.ends.Reason.TheVariants.{
   Form,
   Steal,
   Cpu,
-  Fell,
-  State,
-  Long,
-  Many,
+  CounterFell,
+  StateBytes,
+  TooLong,
+  TooMany,
   NoEnd,
-  Range,
-  Versions,
-  Spent,
 }
+use Rattle.reply_text.specs.declared.ends.Refused.{Refused}
+use Rattle.reply_text.specs.declared.ends.Refused.TheVariants.{Invalid, Range, Versions, Spent}
 
 -- a direction
 abbrev pub direction : Bool → List ℕ
@@ -157,14 +155,14 @@ state_text bytes = line_of (codes "state") (hexes bytes ∷ [])
 
 -- REASON
 abbrev pub reason_words : Refused → List (List ℕ)
-reason_words Form = codes "form" ∷ []
-reason_words Steal = codes "steal" ∷ []
-reason_words Cpu = codes "cpu" ∷ []
-reason_words (Fell before) = codes "fell" ∷ decimal before ∷ []
-reason_words (State place) = codes "state" ∷ decimal place ∷ []
-reason_words Long = codes "long" ∷ []
-reason_words Many = codes "many" ∷ []
-reason_words NoEnd = codes "noend" ∷ []
+reason_words (Invalid Form) = codes "form" ∷ []
+reason_words (Invalid Steal) = codes "steal" ∷ []
+reason_words (Invalid Cpu) = codes "cpu" ∷ []
+reason_words (Invalid (CounterFell before)) = codes "fell" ∷ decimal before ∷ []
+reason_words (Invalid (StateBytes place)) = codes "state" ∷ decimal place ∷ []
+reason_words (Invalid TooLong) = codes "long" ∷ []
+reason_words (Invalid TooMany) = codes "many" ∷ []
+reason_words (Invalid NoEnd) = codes "noend" ∷ []
 reason_words (Range ns) = codes "range" ∷ decimal ns ∷ []
 reason_words (Versions version) = codes "versions" ∷ decimal version ∷ []
 reason_words (Spent number) = codes "spent" ∷ decimal number ∷ []

@@ -31,25 +31,32 @@ use crate::tail::Tail;
 use clk_units::NoMemory;
 use irq_edges::{LINE_NUMBERS, Lines};
 
-/// Why a line of a trace is refused.
+/// Why a line of a trace is invalid.
 #[derive(Clone, Copy, Debug, PartialEq, Eq)]
-pub enum Refused {
+pub enum Reason {
     /// It fits no form at its place.
     Form,
-    /// It asks for steal time, which isn't kept.
+    /// It asks for steal time, whose MSR isn't kept.
     Steal,
     /// It names a processor that isn't there.
     Cpu,
     /// Its counter lies below the one before of the same processor, which is given.
-    Fell { before: u64 },
+    CounterFell { before: u64 },
     /// Its bytes are no saved state; the place of the fault is given.
-    State { place: u64 },
+    StateBytes { place: u64 },
     /// It is longer than a line may be.
-    Long,
-    /// There are more records than fit.
-    Many,
-    /// The input ends before the word `end`.
+    TooLong,
+    /// There are more records than fit. A reader never gives this reason; it is a runner's.
+    TooMany,
+    /// The input ends before the line `end`.
     NoEnd,
+}
+
+/// Why a line of a trace is refused.
+#[derive(Clone, Copy, Debug, PartialEq, Eq)]
+pub enum Refused {
+    /// It is invalid.
+    Invalid(Reason),
     /// Its time, which is given in nanoseconds, is 2^59 or more.
     Range { ns: u128 },
     /// It would publish a page, or the wall clock's words, whose version is the last one, which is given.
@@ -137,20 +144,20 @@ fn reason_tail(why: Refused) -> Tail
 {
     let mut tail = Tail::new();
     match why {
-        Refused::Form => tail.word(b"form"),
-        Refused::Steal => tail.word(b"steal"),
-        Refused::Cpu => tail.word(b"cpu"),
-        Refused::Fell { before } => {
+        Refused::Invalid(Reason::Form) => tail.word(b"form"),
+        Refused::Invalid(Reason::Steal) => tail.word(b"steal"),
+        Refused::Invalid(Reason::Cpu) => tail.word(b"cpu"),
+        Refused::Invalid(Reason::CounterFell { before }) => {
             tail.number(before);
             tail.word(b"fell");
         }
-        Refused::State { place } => {
+        Refused::Invalid(Reason::StateBytes { place }) => {
             tail.number(place);
             tail.word(b"state");
         }
-        Refused::Long => tail.word(b"long"),
-        Refused::Many => tail.word(b"many"),
-        Refused::NoEnd => tail.word(b"noend"),
+        Refused::Invalid(Reason::TooLong) => tail.word(b"long"),
+        Refused::Invalid(Reason::TooMany) => tail.word(b"many"),
+        Refused::Invalid(Reason::NoEnd) => tail.word(b"noend"),
         Refused::Range { ns } => {
             tail.wide(ns);
             tail.word(b"range");

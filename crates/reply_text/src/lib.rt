@@ -8,7 +8,8 @@
 //! ```text
 //! let mut out = Vec::new(alloc);
 //! edge_line(&Edge { at: 4191, line: 0, up: true }, None, &mut out)?;   // "edge 4191 0 up\n"
-//! refused_line(4, Refused::Fell { before: 10 }, &mut out)?;            // "refused 4 fell 10\n"
+//! let fell = Reason::CounterFell { before: 10 };
+//! refused_line(4, Refused::Invalid(fell), &mut out)?;                  // "refused 4 fell 10\n"
 //! ```
 #![tactic(auto)]
 
@@ -21,7 +22,7 @@ mod soak;
 mod tail;
 
 pub use clock::{clock_line, hv_line, page_line};
-pub use ends::{Refused, final_line, refused_line};
+pub use ends::{Reason, Refused, final_line, refused_line};
 pub use replies::{board_line, edge_line, msg_line, value_line};
 pub use saved::{move_line, save_line, state_line};
 pub use soak::soak_line;

@@ -73,7 +73,8 @@ fn lines_of_pages_saves_and_ends(rt: HostRuntime) -> Result<(), Fail> {
     save_line(3, 1, b"CLKBOARD", &mut out)?;
     state_line(b"\xfe\x0f", &mut out)?;
     final_line(5000, 6, 0, lines, &mut out)?;
-    refused_line(4, Refused::Fell { before: 10 }, &mut out)?;
+    let fell = Reason::CounterFell { before: 10 };
+    refused_line(4, Refused::Invalid(fell), &mut out)?;
     let wanted =
         b"11 page 4 2000004000 1000002000 80000000 -1 03 1000003000\n12 clock off\n13 hv off\n\
 9 5 moved 1000002000\n3 1 state 434c4b424f415244\nstate fe0f\nfinal 5000 6 0 0,21,23\nrefused 4 fell 10\n";

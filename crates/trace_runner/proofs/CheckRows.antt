@@ -1,13 +1,15 @@
 -- Small rows that pin what a check does with a line.
-use Rattle.std.proofs.Common.{◌≡◌, [], ◌∷◌, refl}
+use Rattle.std.proofs.Common.{◌≡◌, ℕ, [], ◌∷◌, refl}
 use Rattle.reply_text.specs.Text.{refused_text}
-use Rattle.reply_text.specs.declared.ends.Refused.TheVariants.{Form, Cpu, Many}
-use Rattle.trace_text.specs.declared.faults.Reason.TheVariants.{Form as OutOfForm, Cpu as NoSuchCpu}
+use Rattle.reply_text.specs.declared.ends.Reason.{Reason}
+use Rattle.reply_text.specs.declared.ends.Reason.TheVariants.{Form, Cpu, TooMany}
+use Rattle.reply_text.specs.declared.ends.Refused.TheVariants.{Invalid}
+use Rattle.trace_loop.specs.Progress.{Closing, Ends}
 use Rattle.trace_text.specs.declared.records.Job.TheVariants.{Ask, Save, Move}
 use Rattle.trace_text.specs.declared.records.Record.{Record as Written}
-use Rattle.trace_loop.specs.Progress.{Ends}
 use Rattle.trace_runner.specs.Check.{kept, record_checked, fault_checked, trace_of}
 use Rattle.trace_runner.specs.Checking.{Checking}
+use Rattle.trace_runner.specs.declared.check.Checked.{Checked}
 use Rattle.trace_runner.specs.declared.check.Checked.TheVariants.{Stopped}
 use Rattle.trace_text.specs.declared.records.Call.TheVariants.{ReadPage}
 use Rattle.race_phase.specs.declared.phases.End.TheVariants.{
@@ -17,24 +19,24 @@ use Rattle.race_phase.specs.declared.phases.End.TheVariants.{
 }
 use Rattle.trace_runner.specs.declared.status.Verdict.TheVariants.{Stopped as StoppedAt}
 
+abbrev refused : ℕ → Reason → Closing Checked
+refused line reason = record { text = refused_text line (Invalid reason); end = Stopped (StoppedAt line (Invalid reason)) }
+
 module _ (s : Checking) where
   -- a refusal is printed alone
-  a_refusal : fault_checked 9 (record { line = 9; reason = OutOfForm }) (record s { taken = 4 })
-      ≡ record { text = refused_text 9 Form; end = Stopped (StoppedAt 9 Form) }
+  a_refusal : fault_checked 9 (record { line = 9; reason = Form }) (record s { taken = 4 }) ≡ refused 9 Form
   a_refusal = refl
 
   -- after 200,000 records there is one too many, whatever it is, unless it is out of form and so no record;
   -- the last record may have any reason
   one_record_too_many : (rec : Written) → record_checked 200009 rec (record s { taken = 200000 })
-      ≡ Ends (record { text = refused_text 200009 Many; end = Stopped (StoppedAt 200009 Many) })
+      ≡ Ends (refused 200009 TooMany)
   one_record_too_many rec = refl
 
-  the_last_records : fault_checked 200009 (record { line = 200009; reason = NoSuchCpu }) (record s { taken = 200000 })
-      ∷ fault_checked 200009 (record { line = 200009; reason = OutOfForm }) (record s { taken = 200000 })
-      ∷ fault_checked 200008 (record { line = 200008; reason = NoSuchCpu }) (record s { taken = 199999 }) ∷ []
-      ≡ record { text = refused_text 200009 Many; end = Stopped (StoppedAt 200009 Many) }
-      ∷ record { text = refused_text 200009 Form; end = Stopped (StoppedAt 200009 Form) }
-      ∷ record { text = refused_text 200008 Cpu; end = Stopped (StoppedAt 200008 Cpu) } ∷ []
+  the_last_records : fault_checked 200009 (record { line = 200009; reason = Cpu }) (record s { taken = 200000 })
+      ∷ fault_checked 200009 (record { line = 200009; reason = Form }) (record s { taken = 200000 })
+      ∷ fault_checked 200008 (record { line = 200008; reason = Cpu }) (record s { taken = 199999 }) ∷ []
+      ≡ refused 200009 TooMany ∷ refused 200009 Form ∷ refused 200008 Cpu ∷ []
   the_last_records = refl
 
   -- phases: a page of processor 0 is read by 1, then the board is saved, and moved

@@ -21,7 +21,8 @@ use Rattle.board_core.specs.Time.{HasTime}
 use Rattle.clk_units.specs.declared.NoMemory.{NoMemory}
 use Rattle.reply_text.specs.Text.{refused_text}
 use Rattle.reply_text.specs.declared.ends.Refused.{Refused}
-use Rattle.reply_text.specs.declared.ends.Refused.TheVariants.{Fell, Range}
+use Rattle.reply_text.specs.declared.ends.Reason.TheVariants.{CounterFell}
+use Rattle.reply_text.specs.declared.ends.Refused.TheVariants.{Invalid, Range}
 use Rattle.trace_text.specs.Records.{IsFittingCall}
 use Rattle.trace_text.specs.declared.records.Call.{Call}
 use Rattle.trace_loop.specs.Progress.{Answer, Goes, Ends, printed, end_of, state_after}
@@ -58,7 +59,7 @@ counted b h t = rw (le-ltb h b.anchor.start t.started, lt-leb RANGE_NS (time_at 
 -- one without is, by its fault
 pub faulted : (b : BoardParts) (h : ℕ) (fault : TimeFault) → IsFaultAt b.anchor h fault → refused_count b h ≡ Some (refused_fault fault)
 unfolding refused_count
-faulted b h (BeforeStart start) is = rw (lt-ltb h b.anchor.start is.0) (ap (λ (s : ℕ). Some (Fell s)) (sym is.1))
+faulted b h (BeforeStart start) is = rw (lt-ltb h b.anchor.start is.0) (ap (λ (s : ℕ). Some (Invalid (CounterFell s))) (sym is.1))
 faulted b h (OutOfRange ns) is =
     let late : RANGE_NS ≤ time_at b.anchor h = subst (λ (n : ℕ). RANGE_NS ≤ n) is.2 is.1 in
     rw (le-ltb h b.anchor.start is.0, le-leb RANGE_NS (time_at b.anchor h) late) (ap (λ (n : ℕ). Some (Range n)) (sym is.2))

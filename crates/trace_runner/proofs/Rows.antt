@@ -1,11 +1,11 @@
 -- Small rows that pin the definitions.
 use Rattle.std.proofs.Common.{◌≡◌, [], ◌∷◌, false, Some, None, map, replicate, refl}
-use Rattle.trace_text.specs.declared.faults.Reason.TheVariants.{CounterFell}
+use Rattle.reply_text.specs.declared.ends.Reason.TheVariants.{CounterFell}
 use Rattle.transfer.specs.declared.outcome.MoveFault.TheVariants.{VersionsSpent as PageSpent}
-use Rattle.reply_text.specs.declared.ends.Refused.TheVariants.{Versions}
+use Rattle.reply_text.specs.declared.ends.Refused.TheVariants.{Invalid, Versions}
 use Rattle.race_phase.specs.Blocks.{delivery_of, message_to}
 use Rattle.trace_runner.specs.Deliveries.{deliveries_of}
-use Rattle.trace_runner.specs.Records.{refused_by, refused_move}
+use Rattle.trace_runner.specs.Records.{refused_move}
 use Rattle.trace_runner.specs.Status.{number_of, refused_status}
 use Rattle.trace_runner.specs.declared.status.Status.TheVariants.{
   BadRecord,
@@ -45,5 +45,5 @@ messages = refl
 numbers : map number_of (OutOfRange 3 0 ∷ Spent 3 0 ∷ VersionsSpent 3 0 ∷ []) ≡ 7 ∷ 8 ∷ 9 ∷ []
 numbers = refl
 
-a_counter_fell : refused_status 4 (refused_by (CounterFell 10)) ≡ BadRecord 4 (CounterFell 10)
+a_counter_fell : refused_status 4 (Invalid (CounterFell 10)) ≡ BadRecord 4 (CounterFell 10)
 a_counter_fell = refl

@@ -9,14 +9,7 @@ use Rattle.trace_loop.specs.declared.ended.Ended.TheVariants.{
 }
 use Rattle.trace_loop.specs.Outcome.{Run, Outcome}
 use Rattle.reply_text.specs.declared.ends.Refused.TheVariants.{
-  Form,
-  Steal,
-  Cpu,
-  Fell,
-  State,
-  Long,
-  Many,
-  NoEnd,
+  Invalid,
   Range,
   Versions as LastVersion,
   Spent as AllSpent,
@@ -29,14 +22,7 @@ use Rattle.trace_runner.specs.Status.{status_of, Shown}
 -- what a run left is what its status says
 pub shown_is : (w : Run Replay Verdict) (e : Ended Verdict) (old new : Option (List ℕ)) → Outcome w e old new → Shown w (status_of e) old new
 shown_is w (By Done) old new o = o
-shown_is w (By (Stopped line Form)) old new o = o
-shown_is w (By (Stopped line Steal)) old new o = o
-shown_is w (By (Stopped line Cpu)) old new o = o
-shown_is w (By (Stopped line (Fell before))) old new o = o
-shown_is w (By (Stopped line (State at))) old new o = o
-shown_is w (By (Stopped line Long)) old new o = o
-shown_is w (By (Stopped line Many)) old new o = o
-shown_is w (By (Stopped line NoEnd)) old new o = o
+shown_is w (By (Stopped line (Invalid reason))) old new o = o
 shown_is w (By (Stopped line (Range ns))) old new o = o
 shown_is w (By (Stopped line (LastVersion version))) old new o = o
 shown_is w (By (Stopped line (AllSpent number))) old new o = o

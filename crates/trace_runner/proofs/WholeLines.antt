@@ -73,6 +73,7 @@ use Rattle.reply_text.specs.Text.{
   up_numbers,
 }
 use Rattle.reply_text.specs.declared.ends.Refused.{Refused}
+use Rattle.reply_text.specs.declared.ends.Refused.TheVariants.{Invalid}
 use Rattle.trace_text.specs.Lines.{taken, after_line}
 use Rattle.trace_text.specs.declared.faults.RecordFault.{RecordFault}
 use Rattle.trace_text.specs.declared.reading.Item.{Item}
@@ -87,7 +88,6 @@ use Rattle.race_phase.specs.declared.faults.Fault.{Fault}
 use Rattle.race_phase.specs.declared.phases.End.{End as PhaseEnd}
 use Rattle.race_phase.specs.declared.phases.End.TheVariants.{Finish, Save as BySave, Move as ByMove}
 use Rattle.trace_runner.specs.Records.{
-  refused_by,
   refused_access,
   refused_cause,
   access_answer,
@@ -232,7 +232,7 @@ item_whole line End r = ended_whole r.shows_state r.board
 
 taken_whole : (line : ℕ) (x : Result Item RecordFault) (r : Replay) → IsWholeLines (printed (taken_answer line x r))
 taken_whole line (Ok item) r = item_whole line item r
-taken_whole line (Err fault) r = inr (refused_ends fault.line (refused_by fault.reason))
+taken_whole line (Err fault) r = inr (refused_ends fault.line (Invalid fault.reason))
 
 -- by the bytes
 told_whole : (a : Answer Replay Verdict) (p : Progress Replay Verdict) → IsWholeLines (printed a) → IsWholeLines p.printed

@@ -18,10 +18,10 @@ use Rattle.std.specs.Prelude.{
   Err,
   if◌then◌else◌,
 }
-use Rattle.reply_text.specs.declared.ends.Refused.TheVariants.{Many}
+use Rattle.reply_text.specs.declared.ends.Reason.{Reason}
+use Rattle.reply_text.specs.declared.ends.Reason.TheVariants.{Steal, Cpu, CounterFell, TooMany}
+use Rattle.reply_text.specs.declared.ends.Refused.TheVariants.{Invalid}
 use Rattle.trace_text.specs.Lines.{taken, after_line}
-use Rattle.trace_text.specs.declared.faults.Reason.{Reason}
-use Rattle.trace_text.specs.declared.faults.Reason.TheVariants.{Steal, Cpu, CounterFell}
 use Rattle.trace_text.specs.declared.faults.RecordFault.{RecordFault}
 use Rattle.trace_text.specs.declared.header.Header.{Header}
 use Rattle.trace_text.specs.declared.reading.Item.{Item}
@@ -40,7 +40,7 @@ use Rattle.trace_loop.specs.Progress.{
   finished,
 }
 use Rattle.trace_runner.specs.Ready.{IsReady}
-use Rattle.trace_runner.specs.Records.{refused_by, stops}
+use Rattle.trace_runner.specs.Records.{stops}
 use Rattle.trace_runner.specs.Replay.{at_start, record_answer, closing_of, with_header}
 use Rattle.trace_runner.specs.Checking.{Checking}
 use Rattle.trace_runner.specs.Sound.{IsSound}
@@ -112,7 +112,7 @@ is_full s = nat_le 200000 s.taken
 
 -- so a further one is refused
 abbrev pub too_many : ℕ → Closing Checked
-too_many line = refusal (stops line Many)
+too_many line = refusal (stops line (Invalid TooMany))
 
 -- a record is answered in file order, as a replay would, and kept
 abbrev pub checked_by : Answer Replay Verdict → ℕ → Written → Checking → Answer Checking Checked
@@ -157,7 +157,7 @@ item_checked line End s = Ends (record { text = []; end = Whole (trace_of s) })
 abbrev pub fault_checked : ℕ → RecordFault → Checking → Closing Checked
 fault_checked line fault s =
     if is_full s && has_form fault.reason then too_many line
-    else refusal (stops fault.line (refused_by fault.reason))
+    else refusal (stops fault.line (Invalid fault.reason))
 
 -- by what the reader took the line for
 abbrev pub taken_checked : ℕ → Result Item RecordFault → Checking → Answer Checking Checked

@@ -23,31 +23,9 @@ use Rattle.transfer.specs.declared.outcome.MoveFault.TheVariants.{
   VersionsSpent as PageSpent,
 }
 use Rattle.reply_text.specs.Text.{page_text, clock_text, hv_text, refused_text}
+use Rattle.reply_text.specs.declared.ends.Reason.TheVariants.{CounterFell}
 use Rattle.reply_text.specs.declared.ends.Refused.{Refused}
-use Rattle.reply_text.specs.declared.ends.Refused.TheVariants.{
-  Form,
-  Steal,
-  Cpu,
-  Fell,
-  State,
-  Long,
-  Many,
-  NoEnd,
-  Range,
-  Versions,
-  Spent,
-}
-use Rattle.trace_text.specs.declared.faults.Reason.{Reason}
-use Rattle.trace_text.specs.declared.faults.Reason.TheVariants.{
-  Form as OutOfForm,
-  Steal as AsksSteal,
-  Cpu as NoSuchCpu,
-  CounterFell,
-  StateBytes,
-  TooLong,
-  TooMany,
-  NoEnd as EndsEarly,
-}
+use Rattle.reply_text.specs.declared.ends.Refused.TheVariants.{Invalid, Range, Versions, Spent}
 use Rattle.trace_text.specs.declared.records.Call.{Call}
 use Rattle.trace_text.specs.declared.records.Call.TheVariants.{Act, ReadPage, ReadClock, ReadHv}
 use Rattle.trace_text.specs.declared.records.Job.{Job}
@@ -68,20 +46,9 @@ use Rattle.race_phase.specs.declared.records.Answer.TheVariants.{Acted}
 use Rattle.trace_runner.specs.declared.status.Verdict.{Verdict}
 use Rattle.trace_runner.specs.declared.status.Verdict.TheVariants.{Stopped}
 
--- the reason of a line's grammar, as it is printed
-abbrev pub refused_by : Reason → Refused
-refused_by OutOfForm = Form
-refused_by AsksSteal = Steal
-refused_by NoSuchCpu = Cpu
-refused_by (CounterFell before) = Fell before
-refused_by (StateBytes at) = State at
-refused_by TooLong = Long
-refused_by TooMany = Many
-refused_by EndsEarly = NoEnd
-
 -- a count of the host's counter that has no time; one before the anchor's fell below it
 abbrev pub refused_fault : TimeFault → Refused
-refused_fault (BeforeStart start) = Fell start
+refused_fault (BeforeStart start) = Invalid (CounterFell start)
 refused_fault (OutOfRange ns) = Range ns
 
 -- the board's refusal

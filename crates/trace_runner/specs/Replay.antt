@@ -23,6 +23,7 @@ use Rattle.board_core.specs.Time.{devices_in, now_of}
 use Rattle.board_core.specs.PowerOn.{board_at_power_on}
 use Rattle.save_state.specs.Writing.{bytes_of}
 use Rattle.reply_text.specs.Text.{final_text, state_text}
+use Rattle.reply_text.specs.declared.ends.Refused.TheVariants.{Invalid}
 use Rattle.trace_text.specs.Header.{board_of}
 use Rattle.trace_text.specs.Lines.{at_start as reading_at_start, taken, after_line, end_fault}
 use Rattle.trace_text.specs.declared.faults.RecordFault.{RecordFault}
@@ -43,7 +44,7 @@ use Rattle.trace_loop.specs.Progress.{
 use Rattle.trace_loop.specs.Outcome.{Run}
 use Rattle.race_phase.specs.declared.deliveries.Deliveries.{Deliveries}
 use Rattle.trace_runner.specs.Deliveries.{deliveries_of}
-use Rattle.trace_runner.specs.Records.{refused_by, stops, job_answer}
+use Rattle.trace_runner.specs.Records.{stops, job_answer}
 use Rattle.trace_runner.specs.declared.replay.Replay.{Replay}
 use Rattle.trace_runner.specs.declared.status.Verdict.{Verdict}
 use Rattle.trace_runner.specs.declared.status.Verdict.TheVariants.{Done}
@@ -105,7 +106,7 @@ item_answer line End r = Ends (ended r.shows_state r.board)
 -- or that it is refused
 abbrev pub taken_answer : ℕ → Result Item RecordFault → Replay → Answer Replay Verdict
 taken_answer line (Ok item) r = item_answer line item r
-taken_answer line (Err fault) r = Ends (stops fault.line (refused_by fault.reason))
+taken_answer line (Err fault) r = Ends (stops fault.line (Invalid fault.reason))
 
 -- what the line of this number does
 unfoldable pub answer_of : ℕ → Replay → List ℕ → Answer Replay Verdict
@@ -114,7 +115,7 @@ answer_of line r text =
 
 -- a trace that has not ended where its input ends is refused at the next line
 abbrev pub closing_of : ℕ → Replay → Closing Verdict
-closing_of line r = stops (end_fault r.reading).line (refused_by (end_fault r.reading).reason)
+closing_of line r = stops (end_fault r.reading).line (Invalid (end_fault r.reading).reason)
 
 -- all that a replay knows and has printed after some bytes of a trace
 unfoldable pub progress_after : Bool → List ℕ → Progress Replay Verdict

@@ -10,20 +10,11 @@ use Rattle.trace_loop.specs.declared.ended.Ended.TheVariants.{
 use Rattle.trace_loop.specs.Outcome.{Run, Outcome}
 use Rattle.reply_text.specs.declared.ends.Refused.{Refused}
 use Rattle.reply_text.specs.declared.ends.Refused.TheVariants.{
-  Form,
-  Steal,
-  Cpu,
-  Fell,
-  State,
-  Long,
-  Many,
-  NoEnd,
+  Invalid,
   Range,
   Versions as LastVersion,
   Spent as AllSpent,
 }
-use Rattle.trace_text.specs.declared.faults.Reason.TheVariants as reasons
-use Rattle.trace_runner.specs.Records.{refused_by}
 use Rattle.trace_runner.specs.declared.replay.Replay.{Replay}
 use Rattle.trace_runner.specs.declared.status.Verdict.{Verdict}
 use Rattle.trace_runner.specs.declared.status.Verdict.TheVariants.{Done, Stopped}
@@ -54,14 +45,7 @@ number_of (VersionsSpent line version) = 9
 
 -- a line that is refused, as a status
 abbrev pub refused_status : ℕ → Refused → Status
-refused_status line Form = BadRecord line reasons.Form
-refused_status line Steal = BadRecord line reasons.Steal
-refused_status line Cpu = BadRecord line reasons.Cpu
-refused_status line (Fell before) = BadRecord line (reasons.CounterFell before)
-refused_status line (State at) = BadRecord line (reasons.StateBytes at)
-refused_status line Long = BadRecord line reasons.TooLong
-refused_status line Many = BadRecord line reasons.TooMany
-refused_status line NoEnd = BadRecord line reasons.NoEnd
+refused_status line (Invalid reason) = BadRecord line reason
 refused_status line (Range ns) = OutOfRange line ns
 refused_status line (LastVersion version) = VersionsSpent line version
 refused_status line (AllSpent number) = Spent line number
@@ -81,7 +65,7 @@ status_of WantsMemory = NoMemory
 -- what a replay that ended with a status has appended to the sink
 abbrev pub Shown : Run Replay Verdict → Status → Option (List ℕ) → Option (List ℕ) → Type 0
 Shown w Ok old new = Outcome w (By Done) old new
-Shown w (BadRecord line reason) old new = Outcome w (By (Stopped line (refused_by reason))) old new
+Shown w (BadRecord line reason) old new = Outcome w (By (Stopped line (Invalid reason))) old new
 Shown w (OutOfRange line ns) old new = Outcome w (By (Stopped line (Range ns))) old new
 Shown w (Spent line number) old new = Outcome w (By (Stopped line (AllSpent number))) old new
 Shown w (VersionsSpent line version) old new =

@@ -18,13 +18,13 @@ ghost use Rattle.trace_runner.specs.Check.{
 };
 
 use crate::check::{Check, Checked};
-use crate::status::{Verdict, refused_by, stop};
+use crate::status::{Verdict, stop};
 use clk_units::NoMemory;
-use reply_text::Refused;
+use reply_text::{Reason, Refused};
 use std::alloc::Global;
 use std::marker::Model;
 use trace_loop::Answerer;
-use trace_text::{Item, Job, Reason, Record as Written, RecordFault};
+use trace_text::{Item, Job, Record as Written, RecordFault};
 
 /// A check, with a place for the record that a line is: it is read into that place and handed on by reference, so that
 /// none is moved.
@@ -182,7 +182,7 @@ impl Check {
         if self.is_full() && has_form(fault.reason) {
             return many(line, out, end);
         }
-        stopped(fault.line, refused_by(fault.reason), out, end)
+        stopped(fault.line, Refused::Invalid(fault.reason), out, end)
     }
 
     /// Answers a line that is no record, or one that is refused. It is apart, since its item has room for a board,
@@ -220,7 +220,7 @@ impl Check {
         ensures ends { IfOk result (λ end. end ≡ (check_closing line self.now).end) }
     {
         let fault = self.at_end();
-        let verdict = stop(fault.line, refused_by(fault.reason), out)?;
+        let verdict = stop(fault.line, Refused::Invalid(fault.reason), out)?;
         Ok(Checked::Stopped(verdict))
     }
 }
@@ -243,7 +243,7 @@ fn many(line: u64, out: &mut Vec<u8>, end: &mut Option<Checked>) -> Result<(), N
     ensures ends { OnOk result (end.new ≡ Some (too_many line).end) }
     ensures err { OnErr result (out.new.items ≡ out.old.items) }
 {
-    stopped(line, Refused::Many, out, end)
+    stopped(line, Refused::Invalid(Reason::TooMany), out, end)
 }
 
 /// Appends the line of a refusal, which ends the check.

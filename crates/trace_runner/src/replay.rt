@@ -9,11 +9,11 @@ ghost use Rattle.trace_runner.specs.Ready.{IsReady, Suits};
 
 use crate::deliveries::deliveries_of;
 use crate::kept::KeptBoard;
-use crate::status::{Verdict, refuse, refused_by, stop};
+use crate::status::{Verdict, refuse, stop};
 use board_core::{BoardState, Setup};
 use clk_units::NoMemory;
 use race_phase::Deliveries;
-use reply_text::{final_line, state_line};
+use reply_text::{Refused, final_line, state_line};
 use save_state::encode;
 use trace_loop::Answerer;
 use trace_text::{Begin, Header, Item, Job, Reading, Record};
@@ -130,7 +130,7 @@ impl Replay {
     {
         match self.reading.take_line(text) {
             Ok(item) => self.answer_item(line, &item, out, end),
-            Err(fault) => refuse(fault.line, refused_by(fault.reason), out, end),
+            Err(fault) => refuse(fault.line, Refused::Invalid(fault.reason), out, end),
         }
     }
 }
@@ -187,6 +187,6 @@ impl Answerer<Verdict> for Replay {
 
     fn close(&mut self, _line: u64, out: &mut Vec<u8>) -> Result<Verdict, NoMemory> {
         let fault = self.reading.at_end();
-        stop(fault.line, refused_by(fault.reason), out)
+        stop(fault.line, Refused::Invalid(fault.reason), out)
     }
 }

@@ -2,7 +2,6 @@
 ghost use Rattle.std.specs.Prelude.{◌≡◌, ◌++◌, Some, IfOk, OnOk, OnErr};
 ghost use Rattle.reply_text.specs.Text.{refused_text};
 ghost use Rattle.trace_runner.specs.Records.{
-  refused_by,
   refused_access,
   refused_fault,
   refused_move,
@@ -14,9 +13,8 @@ use board_core::Refusal;
 use clk_units::NoMemory;
 use host_counter::TimeFault;
 use race_phase::Cause;
-use reply_text::{Refused, refused_line};
+use reply_text::{Reason, Refused, refused_line};
 use trace_loop::Ended;
-use trace_text::Reason;
 use transfer::MoveFault;
 
 /// How a trace ends.
@@ -76,20 +74,12 @@ impl Status {
 fn refused_status(line: u64, why: Refused) -> Status
     ensures { result ≡ refused_status line why }
 {
-    let reason = match why {
-        Refused::Range { ns } => return Status::OutOfRange { line, ns },
-        Refused::Versions { version } => return Status::VersionsSpent { line, version },
-        Refused::Spent { number } => return Status::Spent { line, number },
-        Refused::Form => Reason::Form,
-        Refused::Steal => Reason::Steal,
-        Refused::Cpu => Reason::Cpu,
-        Refused::Fell { before } => Reason::CounterFell { before },
-        Refused::State { place } => Reason::StateBytes { place },
-        Refused::Long => Reason::TooLong,
-        Refused::Many => Reason::TooMany,
-        Refused::NoEnd => Reason::NoEnd,
-    };
-    Status::BadRecord { line, reason }
+    match why {
+        Refused::Invalid(reason) => Status::BadRecord { line, reason },
+        Refused::Range { ns } => Status::OutOfRange { line, ns },
+        Refused::Versions { version } => Status::VersionsSpent { line, version },
+        Refused::Spent { number } => Status::Spent { line, number },
+    }
 }
 
 /// The status of how a trace ended.
@@ -114,22 +104,6 @@ pub(crate) fn status_of(ended: Ended<Verdict>) -> Status
     }
 }
 
-/// The reason of a line's grammar, as it is printed.
-pub(crate) fn refused_by(reason: Reason) -> Refused
-    ensures { result ≡ refused_by reason }
-{
-    match reason {
-        Reason::Form => Refused::Form,
-        Reason::Steal => Refused::Steal,
-        Reason::Cpu => Refused::Cpu,
-        Reason::CounterFell { before } => Refused::Fell { before },
-        Reason::StateBytes { place } => Refused::State { place },
-        Reason::TooLong => Refused::Long,
-        Reason::TooMany => Refused::Many,
-        Reason::NoEnd => Refused::NoEnd,
-    }
-}
-
 /// The board's refusal.
 pub(crate) fn refused_access(refusal: Refusal) -> Refused
     ensures { result ≡ refused_access refusal }
@@ -146,7 +120,9 @@ pub(crate) fn refused_time(fault: TimeFault) -> Refused
     ensures { result ≡ refused_fault fault }
 {
     match fault {
-        TimeFault::BeforeStart { start } => Refused::Fell { before: start },
+        TimeFault::BeforeStart { start } => {
+            Refused::Invalid(Reason::CounterFell { before: start })
+        }
         TimeFault::OutOfRange { ns } => Refused::Range { ns },
     }
 }

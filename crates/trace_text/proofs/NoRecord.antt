@@ -11,8 +11,8 @@ use Rattle.trace_text.specs.Records.{record_of}
 use Rattle.trace_loop.specs.Progress.{limit_of}
 use Rattle.trace_text.specs.Lines.{is_skipped, stepped, step_of, Step, next, item_in, record_in}
 use Rattle.trace_text.specs.private.Lines.{IsNoRecord}
-use Rattle.trace_text.specs.declared.faults.Reason.{Reason}
-use Rattle.trace_text.specs.declared.faults.Reason.TheVariants.{TooLong}
+use Rattle.reply_text.specs.declared.ends.Reason.{Reason}
+use Rattle.reply_text.specs.declared.ends.Reason.TheVariants.{TooLong}
 use Rattle.trace_text.specs.declared.records.Record.{Record}
 use Rattle.trace_text.specs.declared.records.Body.{Body}
 use Rattle.trace_text.specs.declared.reading.Item.TheVariants.{Skipped, End}

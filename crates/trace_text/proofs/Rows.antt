@@ -33,8 +33,8 @@ use Rattle.trace_text.specs.Records.{record_of, job_of, body_after}
 use Rattle.trace_text.specs.Header.{first_line, header_line, head_of, place_of_line}
 use Rattle.trace_text.specs.State.{restored}
 use Rattle.trace_text.specs.Lines.{stepped, item_in, taken, after_line, at_start, end_fault}
-use Rattle.trace_text.specs.declared.faults.Reason.{Reason}
-use Rattle.trace_text.specs.declared.faults.Reason.TheVariants.{Form, Steal, Cpu, CounterFell, StateBytes, TooLong, NoEnd}
+use Rattle.reply_text.specs.declared.ends.Reason.{Reason}
+use Rattle.reply_text.specs.declared.ends.Reason.TheVariants.{Form, Steal, Cpu, CounterFell, StateBytes, TooLong, NoEnd}
 use Rattle.trace_text.specs.declared.faults.RecordFault.{RecordFault}
 use Rattle.trace_text.specs.declared.records.Body.{Body}
 use Rattle.trace_text.specs.declared.records.Call.TheVariants.{Act, ReadPage, ReadClock, ReadHv}

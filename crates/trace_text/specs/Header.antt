@@ -38,8 +38,8 @@ use Rattle.trace_text.specs.Tokens.{dec, byte, khz, dec_within, starts, such_tha
 use Rattle.trace_text.specs.State.{hexes, restored}
 use Rattle.board_types.specs.declared.parts.BoardParts.{BoardParts}
 use Rattle.trace_text.specs.Rows.{place, last, Row, row, by_table}
-use Rattle.trace_text.specs.declared.faults.Reason.{Reason}
-use Rattle.trace_text.specs.declared.faults.Reason.TheVariants.{Form, Cpu}
+use Rattle.reply_text.specs.declared.ends.Reason.{Reason}
+use Rattle.reply_text.specs.declared.ends.Reason.TheVariants.{Form, Cpu}
 use Rattle.trace_text.specs.declared.header.TheConstants.{
   FORMAT_ROW,
   HOST_ROW,

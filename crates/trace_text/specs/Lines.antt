@@ -26,8 +26,8 @@ use Rattle.trace_loop.specs.Progress.{limit_of}
 use Rattle.trace_text.specs.Tokens.{words_of}
 use Rattle.trace_text.specs.Records.{record_of, body_after, IsRecord}
 use Rattle.trace_text.specs.Header.{first_line, header_line, header_of, body_of, IsHead, IsBegin}
-use Rattle.trace_text.specs.declared.faults.Reason.{Reason}
-use Rattle.trace_text.specs.declared.faults.Reason.TheVariants.{Form, TooLong, NoEnd}
+use Rattle.reply_text.specs.declared.ends.Reason.{Reason}
+use Rattle.reply_text.specs.declared.ends.Reason.TheVariants.{Form, TooLong, NoEnd}
 use Rattle.trace_text.specs.declared.faults.RecordFault.{RecordFault}
 use Rattle.trace_text.specs.declared.header.Head.{Head}
 use Rattle.trace_text.specs.declared.records.Record.{Record}

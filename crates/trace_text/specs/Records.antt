@@ -57,8 +57,8 @@ use Rattle.trace_text.specs.Tokens.{
   starts,
 }
 use Rattle.trace_text.specs.Rows.{place, last, Row, row, by_table}
-use Rattle.trace_text.specs.declared.faults.Reason.{Reason}
-use Rattle.trace_text.specs.declared.faults.Reason.TheVariants.{Form, Steal, Cpu, CounterFell}
+use Rattle.reply_text.specs.declared.ends.Reason.{Reason}
+use Rattle.reply_text.specs.declared.ends.Reason.TheVariants.{Form, Steal, Cpu, CounterFell}
 use Rattle.trace_text.specs.declared.records.Call.{Call}
 use Rattle.trace_text.specs.declared.records.Call.TheVariants.{Act, ReadPage, ReadClock, ReadHv}
 use Rattle.trace_text.specs.declared.records.Job.{Job}

@@ -1,8 +1,8 @@
 -- Rows of a table of lines: a name, and what the words after it make.
 use Rattle.std.specs.Prelude.{ℕ, List, [], ◌∷◌, Option, Some, None, Result, Ok, Err, if◌then◌else◌}
 use Rattle.trace_text.specs.Tokens.{rest, starts}
-use Rattle.trace_text.specs.declared.faults.Reason.{Reason}
-use Rattle.trace_text.specs.declared.faults.Reason.TheVariants.{Form}
+use Rattle.reply_text.specs.declared.ends.Reason.{Reason}
+use Rattle.reply_text.specs.declared.ends.Reason.TheVariants.{Form}
 
 -- what a token's value, if there is one, makes of the words after it
 abbrev pub placed : {A T : Type 0} → (A → List (List ℕ) → Result T Reason)

@@ -28,8 +28,8 @@ use Rattle.save_state.specs.Table.{fault_of}
 use Rattle.save_state.specs.declared.fault.StateFault.{StateFault}
 use Rattle.trace_loop.specs.declared.lines.TheConstants.{STATE_LINE_MAX}
 use Rattle.trace_text.specs.Tokens.{first}
-use Rattle.trace_text.specs.declared.faults.Reason.{Reason}
-use Rattle.trace_text.specs.declared.faults.Reason.TheVariants.{StateBytes}
+use Rattle.reply_text.specs.declared.ends.Reason.{Reason}
+use Rattle.reply_text.specs.declared.ends.Reason.TheVariants.{StateBytes}
 
 -- HEXES: bytes of two digits each, of either case, at least one, and no more than a line has bytes
 abbrev pub hexes_in : List ℕ → Option (List ℕ)

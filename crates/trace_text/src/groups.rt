@@ -2,7 +2,6 @@
 ghost use Rattle.std.specs.Prelude.{◌≡◌, IfOk};
 ghost use Rattle.trace_text.specs.Records.{job_of, IsJob};
 
-use crate::faults::Reason;
 use crate::jobs::{
     ack_job, clock_job, counts_job, hr_job, hv_job, hw_job, in_job, move_job, out_job, page_job,
     plain_job, rdmsr_job, refresh_job, rose_job, save_job, step_job, wrmsr_job,
@@ -10,6 +9,7 @@ use crate::jobs::{
 use crate::records::{Body, Job};
 use crate::words::Words;
 use board_types::Access;
+use reply_text::Reason;
 
 /// What a record does, by the words after its counter: their first byte says which rows of the table it may be.
 #[inline(never)]

@@ -18,13 +18,13 @@ ghost use Rattle.trace_text.specs.Header.{
   board_of,
 };
 
-use crate::faults::Reason;
 use crate::header_lines::{cpus, guest, host, policies, rtc, slew, wall};
 use crate::records::Body;
 use crate::words::Words;
 use board_core::BoardState;
 use board_types::{LAST_FORMAT, Setup};
 use edge_hooks::Delivery;
+use reply_text::Reason;
 
 /// The place of each line in the order of a header, which `Head` keeps of the last one.
 pub(crate) const FORMAT_ROW: u8 = 0;

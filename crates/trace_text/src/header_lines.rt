@@ -32,13 +32,13 @@ ghost use Rattle.trace_text.specs.Header.{
   IsHead,
 };
 
-use crate::faults::Reason;
 use crate::header::{Begin, FORMAT_ROW, Head, ROUTE_ROW, STATE_ROW};
 use crate::state::board_of;
 use crate::words::Words;
 use board_types::{Setup, processors_of};
 use edge_hooks::Delivery;
 use host_counter::Anchor;
+use reply_text::Reason;
 use rtc_calendar::TimeBytes;
 use tick_policy::Policy;
 

@@ -28,10 +28,10 @@ ghost use Rattle.trace_text.specs.Records.{
   IsJob,
 };
 
-use crate::faults::Reason;
 use crate::records::{Body, Call, Job};
 use crate::words::Words;
 use board_types::{APIC_FORMAT, Access, HV_FORMAT, TickSource};
+use reply_text::Reason;
 
 /// The MSR of steal time (Linux, "KVM-specific MSRs", MSR_KVM_STEAL_TIME), which isn't kept.
 const MSR_STEAL_TIME: u32 = 0x4b56_4d03;

@@ -25,10 +25,11 @@ mod records;
 mod state;
 mod words;
 
-pub use faults::{Reason, RecordFault};
+pub use faults::RecordFault;
 pub use header::{Begin, Head, Header};
 pub use reading::{Item, Reading, ReadingParts, Stage};
 pub use records::{Body, Call, Job, Record};
+pub use reply_text::Reason;
 
 #[cfg(test)]
 mod tests;

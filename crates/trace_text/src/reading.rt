@@ -39,10 +39,11 @@ ghost use Rattle.trace_text.specs.Lines.{
 };
 ghost use Rattle.trace_loop.specs.Progress.{limit_of};
 
-use crate::faults::{Reason, RecordFault};
+use crate::faults::RecordFault;
 use crate::header::{Head, Header, first_line};
 use crate::records::{Body, Record};
 use crate::words::Words;
+use reply_text::Reason;
 use std::marker::Model;
 use trace_loop::{LINE_MAX, limit_of};
 

@@ -10,11 +10,11 @@ ghost use Rattle.trace_text.specs.Records.{
 };
 ghost use Rattle.trace_text.specs.private.Reads.{IsReadInto};
 
-use crate::faults::Reason;
 use crate::groups::job_in;
 use crate::jobs::{step_job, usual_ack, usual_clock, usual_hr, usual_in, usual_out};
 use crate::words::Words;
 use board_types::Access;
+use reply_text::Reason;
 
 /// What a record asks of the board.
 #[derive(Clone, Copy, Debug, PartialEq, Eq)]

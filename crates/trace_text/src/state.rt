@@ -8,8 +8,8 @@ ghost use Rattle.save_state.specs.Places.{format_in};
 ghost use Rattle.trace_text.specs.State.{is_newer, place_in, in_format, restored};
 ghost use Rattle.trace_text.specs.private.State.{restored_digits};
 
-use crate::faults::Reason;
 use board_core::BoardState;
+use reply_text::Reason;
 use save_state::{StateFault, decode};
 use trace_loop::STATE_LINE_MAX;
 

@@ -45,8 +45,8 @@ use crate::bytes::{
     Number, decimal_at, end_of_word, few_digits_at, hexadecimal_at, is_zero, one_digit_at,
     spelling_at, two_digits_at,
 };
-use crate::faults::Reason;
 use memchr::memchr;
+use reply_text::Reason;
 use std::marker::Model;
 
 /// The words of a line that are still to be read. They are cut by single spaces.

@@ -2,8 +2,8 @@
 use Rattle.std.specs.Prelude.{ℕ, List, Option, Some, None, Result, Err}
 use Rattle.board_types.specs.declared.parts.BoardParts.{BoardParts}
 use Rattle.trace_text.specs.State.{hexes_in, restored}
-use Rattle.trace_text.specs.declared.faults.Reason.{Reason}
-use Rattle.trace_text.specs.declared.faults.Reason.TheVariants.{Form}
+use Rattle.reply_text.specs.declared.ends.Reason.{Reason}
+use Rattle.reply_text.specs.declared.ends.Reason.TheVariants.{Form}
 
 -- the board of the bytes that digits spell, if they spell some
 abbrev pub restored_from : ℕ → Option (List ℕ) → Result BoardParts Reason
