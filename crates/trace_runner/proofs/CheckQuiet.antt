@@ -25,6 +25,7 @@ use Rattle.std.proofs.Common.{
   sym,
   subst,
 }
+use Rattle.reply_text.specs.declared.ends.Refused.TheVariants.{Invalid}
 use Rattle.trace_text.specs.Lines.{taken}
 use Rattle.trace_text.specs.declared.faults.RecordFault.{RecordFault}
 use Rattle.trace_text.specs.declared.reading.Item.{Item}
@@ -47,7 +48,7 @@ use Rattle.trace_loop.specs.Progress.{
   ran,
   finished_by,
 }
-use Rattle.trace_runner.specs.Records.{stops, refused_by}
+use Rattle.trace_runner.specs.Records.{stops}
 use Rattle.trace_runner.specs.Replay.{record_answer}
 use Rattle.trace_runner.specs.Check.{
   check_start,
@@ -101,7 +102,7 @@ silent_record line rec s = by_full (leb 200000 s.taken)
 silent_fault : (line : ℕ) (fault : RecordFault) (s : Checking) → SilentAnswer (Ends (fault_checked line fault s))
 silent_fault line fault s = by_many (is_full s && has_form fault.reason)
   where
-    by_many : (t : Bool) → SilentAnswer (Ends (cond t (too_many line) (refusal (stops fault.line (refused_by fault.reason)))))
+    by_many : (t : Bool) → SilentAnswer (Ends (cond t (too_many line) (refusal (stops fault.line (Invalid fault.reason)))))
     by_many true = tt
     by_many false = tt
 

@@ -42,6 +42,7 @@ use Rattle.board_core.specs.Refusals.{refusal_of}
 use Rattle.race_phase.specs.declared.deliveries.Deliveries.{Deliveries}
 use Rattle.reply_text.specs.Text.{page_text, clock_text, hv_text}
 use Rattle.reply_text.specs.declared.ends.Refused.{Refused}
+use Rattle.reply_text.specs.declared.ends.Refused.TheVariants.{Invalid}
 use Rattle.trace_text.specs.Header.{first_line, header_line}
 use Rattle.trace_text.specs.Lines.{
   is_skipped,
@@ -61,8 +62,8 @@ use Rattle.trace_text.specs.Lines.{
 }
 use Rattle.trace_text.specs.Records.{record_of}
 use Rattle.trace_text.specs.Tokens.{words_of}
-use Rattle.trace_text.specs.declared.faults.Reason.{Reason}
-use Rattle.trace_text.specs.declared.faults.Reason.TheVariants.{TooLong}
+use Rattle.reply_text.specs.declared.ends.Reason.{Reason}
+use Rattle.reply_text.specs.declared.ends.Reason.TheVariants.{TooLong}
 use Rattle.trace_text.specs.declared.faults.RecordFault.{RecordFault}
 use Rattle.trace_text.specs.declared.header.Head.{Head}
 use Rattle.trace_text.specs.declared.reading.Item.{Item}
@@ -132,7 +133,6 @@ use Rattle.trace_runner.specs.Check.{
 use Rattle.trace_runner.specs.Checking.{Checking}
 use Rattle.trace_runner.specs.FileText.{answer_on, records_text, phase_text, phases_text, file_text}
 use Rattle.trace_runner.specs.Records.{
-  refused_by,
   refused_count,
   stops,
   access_answer,
@@ -423,7 +423,7 @@ fault_so : (line : ℕ) (fault : RecordFault) (s : Checking) (y : Answer Replay 
     → EndsSo (fault_checked line fault s).end y front
 fault_so line fault s y front = by_many (is_full s && has_form fault.reason)
   where
-    by_many : (t : Bool) → EndsSo (cond t (too_many line) (refusal (stops fault.line (refused_by fault.reason)))).end y front
+    by_many : (t : Bool) → EndsSo (cond t (too_many line) (refusal (stops fault.line (Invalid fault.reason)))).end y front
     by_many true = tt
     by_many false = tt
 
