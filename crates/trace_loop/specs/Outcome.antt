@@ -14,60 +14,52 @@ abbrev pub Begins : List ℕ → List ℕ → Type 0
 Begins front text = (more : List ℕ) × (text ≡ front ++ more)
 
 -- a run over an input: the progress after its first bytes, by their number; what is printed for
--- the whole of it; how many bytes were given before the source was called last, and in all; the
--- source's faults before the run and after it
+-- the whole of it; and the source before the run and after it
 pub record Run (A E : Type 0) : Type 0 where
   pub at : ℕ → Progress A E
   pub whole : Closing E
-  pub before : ℕ
-  pub given : ℕ
-  pub faults : ℕ
-  pub faults_now : ℕ
+  pub start : Input
+  pub end : Input
+
+-- the run over an input, by the progress after bytes and what is printed for all of them; the source
+-- was `start` before the run and is `end` after it
+abbrev pub run_of : {A E : Type 0} → (List ℕ → Progress A E) → (List ℕ → Closing E) → List ℕ
+    → Input → Input → Run A E
+run_of after whole input start end =
+    record { at = λ k. after (take k input); whole = whole input; start = start; end = end }
 
 -- the run of what answers lines and closes an input so, from this state
-abbrev pub run_of : {A E : Type 0} → (ℕ → A → List ℕ → Answer A E) → (ℕ → A → Closing E) → A
-    → List ℕ → ℕ → ℕ → ℕ → ℕ → Run A E
-run_of answer closing a input before given faults faults_now = record {
-  at = λ k. after_bytes answer (take k input) (opened a);
-  whole = finished answer closing (after_bytes answer input (opened a));
-  before = before;
-  given = given;
-  faults = faults;
-  faults_now = faults_now;
-}
-
--- the same over a source that was `start` before the run and is `end` after it
 abbrev pub run_over : {A E : Type 0} → (ℕ → A → List ℕ → Answer A E) → (ℕ → A → Closing E) → A
     → List ℕ → Input → Input → Run A E
-run_over answer closing a input start end =
-    run_of answer closing a input (end.before - start.given) (end.given - start.given)
-    start.faults end.faults
+run_over answer closing a =
+    run_of (λ bytes. after_bytes answer bytes (opened a))
+    (λ bytes. finished answer closing (after_bytes answer bytes (opened a)))
 
 -- the whole text
 abbrev pub IsText : {A E : Type 0} → Run A E → List ℕ → Type 0
-IsText w text = (text ≡ w.whole.text) × (w.faults_now ≡ w.faults)
+IsText w text = (text ≡ w.whole.text) × (w.end.faults ≡ w.start.faults)
 
 -- the source failed: the blocks of all that was given, after which the trace has not ended, and
 -- the word of the fault
 abbrev pub IsSourceFault : {A E : Type 0} → Run A E → List ℕ → Type 0
 IsSourceFault w text =
-    (text ≡ (w.at w.given).printed ++ source_fault_text)
-    × ((w.at w.given).end ≡ None)
-    × Rose w.faults w.faults_now
+    let s = w.at (w.end.given - w.start.given) in
+    (text ≡ s.printed ++ source_fault_text) × (s.end ≡ None) × Rose w.start.faults w.end.faults
 
 -- memory ran out: the blocks of whole lines, at least of those that were given before the last
 -- call, and the word of it
 abbrev pub IsMemoryFault : {A E : Type 0} → Run A E → List ℕ → Type 0
 IsMemoryFault w text =
-    (k : ℕ) × (text ≡ (w.at k).printed ++ memory_fault_text) × (w.before ≤ k) × (k ≤ w.given)
+    (k : ℕ) × (text ≡ (w.at k).printed ++ memory_fault_text)
+    × (w.end.before - w.start.given ≤ k) × (k ≤ w.end.given - w.start.given)
     × ((w.at k).end ≡ None)
-    × (w.faults_now ≡ w.faults)
+    × (w.end.faults ≡ w.start.faults)
 
 -- the sink failed: it has all blocks of what was given before the last call, and a prefix of
 -- what was to come
 abbrev pub IsCutOff : {A E : Type 0} → Run A E → List ℕ → Type 0
 IsCutOff w cut =
-    Begins (w.at w.before).printed cut
+    Begins (w.at (w.end.before - w.start.given)).printed cut
     × ((text : List ℕ) × (IsText w text ⊎ (IsSourceFault w text ⊎ IsMemoryFault w text))
     × Begins cut text)
 

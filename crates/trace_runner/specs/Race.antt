@@ -1,11 +1,11 @@
 -- What the job `race` prints for a trace, and what it leaves.
-use Rattle.std.specs.Prelude.{◌-◌, ◌≡◌, ℕ, Bool, List, ◌++◌, take, Option, ◌⊎◌}
+use Rattle.std.specs.Prelude.{◌≡◌, ℕ, Bool, List, ◌++◌, Option, ◌⊎◌}
 use Rattle.std.specs.Io.KnownBytes.{Appends}
 use Rattle.board_io.specs.Ends.{Input}
 use Rattle.board_types.specs.declared.parts.BoardParts.{BoardParts}
 use Rattle.trace_loop.specs.Text.{memory_fault_text}
 use Rattle.trace_loop.specs.Progress.{Closing}
-use Rattle.trace_loop.specs.Outcome.{Run, Outcome}
+use Rattle.trace_loop.specs.Outcome.{Run, run_of, Outcome}
 use Rattle.trace_loop.specs.declared.ended.Ended.TheVariants.{
   SourceFault as FailsSource,
   SinkFault as FailsSink,
@@ -29,16 +29,9 @@ use Rattle.trace_runner.specs.declared.status.Status.TheVariants.{
 }
 use Rattle.trace_runner.specs.declared.status.Verdict.{Verdict}
 
--- the run of a check over an input, by a source that was `start` before it and is `end` after it
+-- the run of a check over an input
 abbrev pub check_run : Bool → List ℕ → Input → Input → Run Checking Checked
-check_run shows_state input start end = record {
-  at = λ k. check_after shows_state (take k input);
-  whole = check shows_state input;
-  before = end.before - start.given;
-  given = end.given - start.given;
-  faults = start.faults;
-  faults_now = end.faults;
-}
+check_run shows_state = run_of (check_after shows_state) (check shows_state)
 
 -- a trace that was checked prints this: what its phases print, one after another, and its last
 -- lines for the board that they leave
@@ -69,7 +62,7 @@ CheckFails w status old new = ⊥
 abbrev pub RaceLeaves : Run Checking Checked → Status → Option (List ℕ) → Option (List ℕ) → Type 0
     → Type 0
 RaceLeaves w status old new shown =
-    ((w.faults_now ≡ w.faults) × CheckedLeaves w.whole.end w.whole.text status old new shown)
+    ((w.end.faults ≡ w.start.faults) × CheckedLeaves w.whole.end w.whole.text status old new shown)
     ⊎ CheckFails w status old new
 
 -- and where the check came to its end so, and the trace has one processor: what a replay that ends
@@ -77,6 +70,6 @@ RaceLeaves w status old new shown =
 abbrev pub AloneLeaves : Run Checking Checked → Closing Verdict → Status → Option (List ℕ)
     → Option (List ℕ) → Type 0 → Type 0
 AloneLeaves w closing status old new shown =
-    ((w.faults_now ≡ w.faults)
+    ((w.end.faults ≡ w.start.faults)
     × SaidAtMost (verdict_status closing.end) status old new closing.text shown)
     ⊎ CheckFails w status old new

@@ -1,9 +1,7 @@
 -- What the lines of a trace do, and what is printed for a trace.
 use Rattle.std.specs.Prelude.{
-  ◌-◌,
   ℕ,
   Bool,
-  take,
   replicate,
   List,
   [],
@@ -41,7 +39,7 @@ use Rattle.trace_loop.specs.Progress.{
   after_bytes,
   finished,
 }
-use Rattle.trace_loop.specs.Outcome.{Run}
+use Rattle.trace_loop.specs.Outcome.{Run, run_of}
 use Rattle.race_phase.specs.declared.deliveries.Deliveries.{Deliveries}
 use Rattle.trace_runner.specs.Deliveries.{deliveries_of}
 use Rattle.trace_runner.specs.Records.{stops, job_answer}
@@ -125,13 +123,6 @@ progress_after shows_state bytes = after_bytes answer_of bytes (opened (at_start
 unfoldable pub replay : Bool → List ℕ → Closing Verdict
 replay shows_state bytes = finished answer_of closing_of (progress_after shows_state bytes)
 
--- the run of a replay over an input, by a source that was `start` before it and is `end` after it
+-- the run of a replay over an input
 abbrev pub replay_run : Bool → List ℕ → Input → Input → Run Replay Verdict
-replay_run shows_state input start end = record {
-  at = λ k. progress_after shows_state (take k input);
-  whole = replay shows_state input;
-  before = end.before - start.given;
-  given = end.given - start.given;
-  faults = start.faults;
-  faults_now = end.faults;
-}
+replay_run shows_state = run_of (progress_after shows_state) (replay shows_state)

@@ -22,7 +22,7 @@ use Rattle.std.specs.Io.KnownBytes.{Appends}
 use Rattle.board_io.specs.Ends.{Input, Output}
 use Rattle.board_io.specs.Faults.{Rose}
 use Rattle.trace_loop.specs.Progress.{Closing, Answer, Progress, opened, standing, after_bytes}
-use Rattle.trace_loop.specs.Outcome.{run_of, Outcome}
+use Rattle.trace_loop.specs.Outcome.{run_over, Outcome}
 use Rattle.trace_loop.specs.declared.ended.Ended.{Ended}
 use Rattle.trace_loop.specs.declared.ended.Ended.TheVariants.{SourceFault, SinkFault}
 use Rattle.trace_loop.specs.declared.feed.Feed.{Feed}
@@ -37,6 +37,17 @@ pub record BothEnds : Type 0 where
   pub late : Bool
   pub contents : Option (List ℕ)
   pub sink_faults : ℕ
+
+-- .. of the source
+abbrev pub source_of : BothEnds → Input
+source_of ends = record {
+  remaining = ends.remaining;
+  given = ends.given;
+  before = ends.before;
+  done = ends.done;
+  late = ends.late;
+  faults = ends.faults;
+}
 
 -- what was put before the source was called last is what was printed after the bytes that it had
 -- given
@@ -76,8 +87,8 @@ pub record IsGoing (A E : Type 0) (answer : ℕ → A → List ℕ → Answer A 
 pub record IsOver (A E : Type 0) (answer : ℕ → A → List ℕ → Answer A E)
     (closing : ℕ → A → Closing E) (a : A) (start now : BothEnds) (ended : Ended E) : Type 0 where
   pub outcome : (input : List ℕ) → start.remaining ≡ Some input
-      → Outcome (run_of answer closing a input (now.before - start.given)
-      (now.given - start.given) start.faults now.faults) ended start.contents now.contents
+      → Outcome (run_over answer closing a input (source_of start) (source_of now)) ended
+      start.contents now.contents
   pub stopped : (input : List ℕ) → start.remaining ≡ Some input
       → (after_bytes answer (take (now.before - start.given) input) (opened a)).end ≡ None
   pub once : start.done ≡ false → start.late ≡ false → now.late ≡ false

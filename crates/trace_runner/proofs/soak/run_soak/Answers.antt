@@ -1,9 +1,9 @@
-use Rattle.std.proofs.Common.{ℕ, ◌-◌, List, Some, take, refl, sym, ap, subst, arith, inl, inr}
+use Rattle.std.proofs.Common.{ℕ, List, Some, take, refl, sym, ap, subst, arith, inl, inr}
 use Rattle.board_io.specs.Faults.{Rose}
 use Rattle.trace_gen.specs.Text.{gen_text}
-use Rattle.trace_gen.specs.Feed.{Feed}
+use Rattle.trace_gen.specs.Feed.{Feed, input_in}
 use Rattle.trace_loop.specs.Progress.{opened}
-use Rattle.trace_loop.specs.Outcome.{Run, run_of}
+use Rattle.trace_loop.specs.Outcome.{Run, run_over}
 use Rattle.trace_runner.specs.Soak.{soak_answer, soak_closing, soak_from, soak_of, Soaked}
 use Rattle.trace_runner.specs.Status.{status_of}
 use Rattle.trace_runner.specs.declared.replay.Replay.{Replay}
@@ -18,9 +18,7 @@ unfolding soak_of
 returns-clause-said g c =
     let text : List ℕ = gen_text c.args.size.key c.args.size.records c.args.size.cpus in
     let start : Soak = record { replay = c.new.result; records = c.args.size.records; edges = 0 } in
-    let before : ℕ = c.answer_lines.new.source.before - c.new-source.result.given in
-    let given : ℕ = c.answer_lines.new.source.given - c.new-source.result.given in
-    let w : Run Soak Verdict = run_of soak_answer soak_closing start text before given 0 0 in
+    let w : Run Soak Verdict = run_over soak_answer soak_closing start text (input_in c.new-source.result) (input_in c.answer_lines.new.source) in
     let shown : Type 0 = Rose (g.K.Sink.output c.args.sink.now).faults (g.K.Sink.output c.answer_lines.new.sink).faults in
     let is = soaked_is w c.answer_lines.result (g.K.Sink.output c.args.sink.now).contents (g.K.Sink.output c.answer_lines.new.sink).contents shown
     (λ k. quiet-after (take k text) (opened start) (λ _. refl)) (λ rose. elim rose [ inl some ↦ omega arith | inr last ↦ omega arith ])
