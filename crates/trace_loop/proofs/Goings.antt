@@ -6,8 +6,8 @@ use Rattle.board_io.specs.Faults.{Rose}
 use Rattle.trace_loop.specs.Text.{source_fault_text, memory_fault_text}
 use Rattle.trace_loop.specs.Progress.{Closing, Answer, Progress, printed, end_of, state_after, standing, opened, after_bytes, finished}
 use Rattle.trace_loop.specs.Cut.{Cut, IsLine, IsWhole}
-use Rattle.trace_loop.specs.Outcome.{Begins, run_of, Outcome, Said}
-use Rattle.trace_loop.specs.private.Going.{BothEnds, IsAsked, Stands, IsGoing, IsOver}
+use Rattle.trace_loop.specs.Outcome.{Begins, run_over, Outcome, Said}
+use Rattle.trace_loop.specs.private.Going.{BothEnds, source_of, IsAsked, Stands, IsGoing, IsOver}
 use Rattle.trace_loop.specs.declared.ended.Ended.{Ended}
 use Rattle.trace_loop.specs.declared.ended.Ended.TheVariants as statuses
 use Rattle.trace_loop.specs.declared.feed.Feed.{Feed}
@@ -103,7 +103,7 @@ module _ (A E : Type 0) (answer : ℕ → A → List ℕ → Answer A E) (closin
 
   -- a run is over where the source didn't fail
   over : (now : BothEnds) (result : Ended E) (sink_before : ℕ) → ((input : List ℕ) → start.remaining ≡ Some input
-      → Outcome (run_of answer closing a input (now.before - start.given) (now.given - start.given) start.faults now.faults) result start.contents now.contents)
+      → Outcome (run_over answer closing a input (source_of start) (source_of now)) result start.contents now.contents)
       → ((input : List ℕ) → start.remaining ≡ Some input → (after_bytes answer (take (now.before - start.given) input) (opened a)).end ≡ None)
       → (start.done ≡ false → start.late ≡ false → now.late ≡ false) → now.faults ≡ start.faults → (result ≡ statuses.SourceFault → ⊥)
       → sink_before ≡ start.sink_faults → (result ≡ statuses.SinkFault → Rose sink_before now.sink_faults)
@@ -134,7 +134,7 @@ module _ (A E : Type 0) (answer : ℕ → A → List ℕ → Answer A E) (closin
       (λ input e.
       let m = k.told input e in
       let h = ends_line A E answer closing a input m.0 m.1 feed.out.items out _ _ (feed.lines.number + 1) state end feed.lines new m.4 l some shown in
-      out_ended A E answer closing a input _ _ _ _ end result m.1 out _ start.contents ends.contents c _ h.0 k.source_faults (asked input e) m.3 said)
+      out_ended A E answer closing a input (source_of start) (source_of ends) end result m.1 out _ start.contents ends.contents c _ h.0 k.source_faults (asked input e) m.3 said)
       (λ input e. (asked input e).going) (λ done late. (k.quiet done late).1) k.source_faults
       (said-source (statuses.By end) result ends.contents c out (Rose ends.sink_faults f) (end-source end) said) k.sink_faults
       (said-sink (statuses.By end) result ends.contents c out (Rose ends.sink_faults f) (end-sink end) said) kept
@@ -153,7 +153,7 @@ module _ (A E : Type 0) (answer : ℕ → A → List ℕ → Answer A E) (closin
       (λ input e.
       let m = k.told input e in
       let at = stands_at A E answer closing a input feed.lines.left m.0 m.1 feed.out.items _ _ (feed.lines.number + 1) feed.lines.text state m.4 in
-      out_memory A E answer closing a input _ _ _ _ result m.1 last feed.out.items (length m.4.bytes) start.contents ends.contents c _
+      out_memory A E answer closing a input (source_of start) (source_of ends) result m.1 last feed.out.items (length m.4.bytes) start.contents ends.contents c _
       (ap (λ (u : Progress A E). u.printed) at) (ap (λ (u : Progress A E). u.end) at) (omega (arith, m.4.count)) is k.source_faults (asked input e) m.3
       said)
       (λ input e. (asked input e).going) (λ done late. (k.quiet done late).1) k.source_faults
@@ -169,7 +169,7 @@ module _ (A E : Type 0) (answer : ℕ → A → List ℕ → Answer A E) (closin
       (λ input e.
       let m = k.told input e in
       let starts = stands_starts A E answer closing a input feed.lines.left m.0 m.1 feed.out.items _ _ (feed.lines.number + 1) feed.lines.text state m.4 in
-      out_sink A E answer closing a input _ _ _ _ m.1 feed.out.items starts.0 _ start.contents ends.contents c starts.1 k.source_faults
+      out_sink A E answer closing a input (source_of start) (source_of ends) m.1 feed.out.items starts.0 _ start.contents ends.contents c starts.1 k.source_faults
       (m.4.asked (omega (arith, some))) m.3 cut)
       (λ input e. ((k.told input e).4.asked (omega (arith, some))).going) (λ done late. (k.quiet done late).1) k.source_faults sink-source k.sink_faults
       (λ is. rose) (λ other. absurd (other refl))
@@ -202,9 +202,9 @@ module _ (A E : Type 0) (answer : ℕ → A → List ℕ → Answer A E) (closin
       (none m.0 m.2) same et in
       let put = stands_put A E answer closing a input m.0 m.1 feed.out.items _ _ (feed.lines.number + 1) new.text state s in
       elim said [
-        | inl whole ↦ out_ended A E answer closing a input _ _ _ _ r.end result P r.text (ends.given - start.given) start.contents c now.contents _
+        | inl whole ↦ out_ended A E answer closing a input (source_of start) (source_of now) r.end result P r.text (ends.given - start.given) start.contents c now.contents _
             is faults (is_asked input e) shown whole
-        | inr front ↦ out_memory A E answer closing a input _ _ _ _ result P memory_fault_text [] (ends.given - start.given) start.contents c now.contents _
+        | inr front ↦ out_memory A E answer closing a input (source_of start) (source_of now) result P memory_fault_text [] (ends.given - start.given) start.contents c now.contents _
             (ap (λ (u : Progress A E). u.printed) put.2 ∙ sym (append-nil P)) (ap (λ (u : Progress A E). u.end) put.2)
             (omega (arith, given)) refl faults (is_asked input e) shown front
       ])
@@ -243,7 +243,7 @@ module _ (A E : Type 0) (answer : ℕ → A → List ℕ → Answer A E) (closin
             let put = stands_put A E answer closing a input m.0 m.1 feed.out.items _ _ (feed.lines.number + 1) new.text state s in
             let there : after_bytes answer (take (now.given - start.given) input) (opened a)
             ≡ standing (feed.lines.number + 1) new.text state P = ap (λ (n : ℕ). after_bytes answer (take (n - start.given) input) (opened a)) given ∙ put.2 in
-            out_source A E answer closing a input _ _ _ _ result P (ends.given - start.given) start.contents c now.contents _
+            out_source A E answer closing a input (source_of start) (source_of now) result P (ends.given - start.given) start.contents c now.contents _
             (ap (λ (u : Progress A E). u.printed) there) (ap (λ (u : Progress A E). u.end) there) rose (is_asked input e) shown said;
         stopped = λ input e. (is_asked input e).going;
         once = λ done late. let q = k.quiet done late in quiet q.0 q.1;

@@ -3,6 +3,7 @@ use Rattle.std.proofs.Common.{
   ◌≡◌,
   ℕ,
   ◌+◌,
+  ◌-◌,
   ◌<◌,
   ◌≤◌,
   true,
@@ -38,6 +39,7 @@ use Rattle.std.proofs.Common.{
 use Rattle.std.specs.Io.KnownBytes.{Appends, Consumes, IsAtEnd}
 use Rattle.std.proofs.KnownBytes.{Appends-trans}
 use Rattle.std.proofs.lemmas.List.{take_all, take-append-le}
+use Rattle.board_io.specs.Ends.{Input}
 use Rattle.board_io.specs.Faults.{Rose}
 use Rattle.trace_loop.specs.Text.{source_fault_text, memory_fault_text}
 use Rattle.trace_loop.specs.Progress.{
@@ -58,7 +60,7 @@ use Rattle.trace_loop.specs.Progress.{
   finished,
 }
 use Rattle.trace_loop.specs.Cut.{Cut, IsLine, IsWhole}
-use Rattle.trace_loop.specs.Outcome.{Begins, Run, run_of, IsText, IsSourceFault, IsMemoryFault, Outcome, Said}
+use Rattle.trace_loop.specs.Outcome.{Begins, Run, run_over, IsText, IsSourceFault, IsMemoryFault, Outcome, Said}
 use Rattle.trace_loop.specs.private.Going.{IsAsked, Stands}
 use Rattle.trace_loop.specs.declared.ended.Ended.{Ended}
 use Rattle.trace_loop.specs.declared.ended.Ended.TheVariants as statuses
@@ -265,13 +267,13 @@ IsShown w text = IsText w text ⊎ (IsSourceFault w text ⊎ IsMemoryFault w tex
 
 module _ (A E : Type 0) (w : Run A E) where
   -- a sink that failed has taken what was put before, and a prefix of the last text
-  pub cut_off : (put last more text : List ℕ) (c0 c1 c2 : Option (List ℕ)) → Appends c0 c1 put → Begins (w.at w.before).printed put → IsShown w text → text
-      ≡ put ++ (last ++ more)
+  pub cut_off : (put last more text : List ℕ) (c0 c1 c2 : Option (List ℕ)) → Appends c0 c1 put → Begins (w.at (w.end.before - w.start.given)).printed put
+      → IsShown w text → text ≡ put ++ (last ++ more)
       → (cut : List ℕ) × Begins cut last × Appends c1 c2 cut → Outcome w statuses.SinkFault c0 c2
   cut_off put last more text c0 c1 c2 before held shown whole cut = (
     put ++ cut.0,
     (
-      (held.0 ++ cut.0, ap (λ (l : List ℕ). l ++ cut.0) held.1 ∙ append_assoc (w.at w.before).printed held.0 cut.0),
+      (held.0 ++ cut.0, ap (λ (l : List ℕ). l ++ cut.0) held.1 ∙ append_assoc (w.at (w.end.before - w.start.given)).printed held.0 cut.0),
       (
         text,
         shown,
@@ -287,7 +289,7 @@ module _ (A E : Type 0) (w : Run A E) where
 
   -- the last text was put, or the sink failed
   pub said_out : (status result : Ended E) (put last : List ℕ) (c0 c1 c2 : Option (List ℕ)) (fault : Type 0) → Appends c0 c1 put
-      → Begins (w.at w.before).printed put → IsShown w (put ++ last)
+      → Begins (w.at (w.end.before - w.start.given)).printed put → IsShown w (put ++ last)
       → (Appends c0 c2 (put ++ last) → Outcome w status c0 c2) → Said status result c1 c2 last fault → Outcome w result c0 c2
   said_out status result put last c0 c1 c2 fault before held shown out (inl said) =
       subst (λ (s : Ended E). Outcome w s c0 c2) (sym said.0) (out (Appends-trans c0 c1 c2 put last before said.1))
@@ -295,21 +297,28 @@ module _ (A E : Type 0) (w : Run A E) where
       subst (λ (s : Ended E). Outcome w s c0 c2) (sym cut.0)
       (cut_off put last [] (put ++ last) c0 c1 c2 before held shown (ap (λ (l : List ℕ). put ++ l) (sym (append-nil last))) cut.2)
 
-  pub ended_out : (end : E) (text : List ℕ) (c0 c2 : Option (List ℕ)) → w.whole ≡ record { text = text; end = end } → w.faults_now ≡ w.faults
+  pub ended_out : (end : E) (text : List ℕ) (c0 c2 : Option (List ℕ)) → w.whole ≡ record { text = text; end = end } → w.end.faults ≡ w.start.faults
       → Appends c0 c2 text → Outcome w (statuses.By end) c0 c2
   ended_out end text c0 c2 is well shown = (sym (ap (λ (r : Closing E). r.end) is), (text, (sym (ap (λ (r : Closing E). r.text) is), well), shown))
 
-module _ (A E : Type 0) (answer : ℕ → A → List ℕ → Answer A E) (closing : ℕ → A → Closing E) (a : A) (input : List ℕ) (before given f f' : ℕ) where
+module _ (A E : Type 0) (answer : ℕ → A → List ℕ → Answer A E) (closing : ℕ → A → Closing E) (a : A) (input : List ℕ) (start now : Input) where
   abbrev run_here : Run A E
-  run_here = run_of answer closing a input before given f f'
+  run_here = run_over answer closing a input start now
 
-  held : (put : List ℕ) (place : ℕ) → IsAsked A E answer a input put before place → Begins (after_bytes answer (take before input) (opened a)).printed put
-  held put place asked = ([], sym asked.printed_ ∙ sym (append-nil (after_bytes answer (take before input) (opened a)).printed))
+  abbrev given_before : ℕ
+  given_before = now.before - start.given
+
+  abbrev given_now : ℕ
+  given_now = now.given - start.given
+
+  held : (put : List ℕ) (place : ℕ) → IsAsked A E answer a input put given_before place
+      → Begins (after_bytes answer (take given_before input) (opened a)).printed put
+  held put place asked = ([], sym asked.printed_ ∙ sym (append-nil (after_bytes answer (take given_before input) (opened a)).printed))
 
   -- a line ended the trace
   pub out_ended : (end : E) (result : Ended E) (put last : List ℕ) (place : ℕ) (c0 c1 c2 : Option (List ℕ)) (fault : Type 0)
-      → finished answer closing (after_bytes answer input (opened a)) ≡ record { text = put ++ last; end = end } → f' ≡ f
-      → IsAsked A E answer a input put before place → Appends c0 c1 put
+      → finished answer closing (after_bytes answer input (opened a)) ≡ record { text = put ++ last; end = end } → now.faults ≡ start.faults
+      → IsAsked A E answer a input put given_before place → Appends c0 c1 put
       → Said (statuses.By end) result c1 c2 last fault → Outcome run_here result c0 c2
   out_ended end result put last place c0 c1 c2 fault is well asked shown said =
       said_out A E run_here (statuses.By end) result put last c0 c1 c2 fault shown (held put place asked)
@@ -318,9 +327,9 @@ module _ (A E : Type 0) (answer : ℕ → A → List ℕ → Answer A E) (closin
 
   -- memory ran out after some lines
   pub out_memory : (result : Ended E) (put last text : List ℕ) (place : ℕ) (c0 c1 c2 : Option (List ℕ)) (fault : Type 0)
-      → (after_bytes answer (take place input) (opened a)).printed ≡ put ++ text → (after_bytes answer (take place input) (opened a)).end ≡ None → place ≤ given → last
-      ≡ text ++ memory_fault_text → f' ≡ f
-      → IsAsked A E answer a input put before place → Appends c0 c1 put
+      → (after_bytes answer (take place input) (opened a)).printed ≡ put ++ text → (after_bytes answer (take place input) (opened a)).end ≡ None → place ≤ given_now
+      → last ≡ text ++ memory_fault_text → now.faults ≡ start.faults
+      → IsAsked A E answer a input put given_before place → Appends c0 c1 put
       → Said statuses.NoMemory result c1 c2 last fault → Outcome run_here result c0 c2
   out_memory result put last text place c0 c1 c2 fault is going within parts well asked shown said =
       let memory : IsMemoryFault run_here (put ++ last) = (
@@ -336,8 +345,8 @@ module _ (A E : Type 0) (answer : ℕ → A → List ℕ → Answer A E) (closin
 
   -- the source failed
   pub out_source : (result : Ended E) (put : List ℕ) (place : ℕ) (c0 c1 c2 : Option (List ℕ)) (fault : Type 0)
-      → (after_bytes answer (take given input) (opened a)).printed ≡ put → (after_bytes answer (take given input) (opened a)).end ≡ None → Rose f f'
-      → IsAsked A E answer a input put before place → Appends c0 c1 put
+      → (after_bytes answer (take given_now input) (opened a)).printed ≡ put → (after_bytes answer (take given_now input) (opened a)).end ≡ None
+      → Rose start.faults now.faults → IsAsked A E answer a input put given_before place → Appends c0 c1 put
       → Said statuses.SourceFault result c1 c2 source_fault_text fault → Outcome run_here result c0 c2
   out_source result put place c0 c1 c2 fault is going rose asked shown said =
       let source : IsSourceFault run_here (put ++ source_fault_text) =
@@ -347,7 +356,7 @@ module _ (A E : Type 0) (answer : ℕ → A → List ℕ → Answer A E) (closin
 
   -- the sink failed
   pub out_sink : (put last more : List ℕ) (place : ℕ) (c0 c1 c2 : Option (List ℕ)) → (finished answer closing (after_bytes answer input (opened a))).text
-      ≡ put ++ (last ++ more) → f' ≡ f → IsAsked A E answer a input put before place → Appends c0 c1 put
+      ≡ put ++ (last ++ more) → now.faults ≡ start.faults → IsAsked A E answer a input put given_before place → Appends c0 c1 put
       → (cut : List ℕ) × Begins cut last × Appends c1 c2 cut → Outcome run_here statuses.SinkFault c0 c2
   out_sink put last more place c0 c1 c2 is well asked shown cut =
       cut_off A E run_here put last more
