@@ -105,7 +105,7 @@ quiet-after (b ∷ bs) s h = quiet-after bs (heard_until soak_answer s.end b s) 
 -- what a run has left that printed nothing before its end, over a source that has no fault
 pub soaked_is : (w : Run Soak Verdict) (e : Ended Verdict) (old new : Option (List ℕ)) (shown : Type 0)
     → ((k : ℕ) → IsQuiet (w.at k))
-    → (Rose w.faults w.faults_now → ⊥)
+    → (Rose w.start.faults w.end.faults → ⊥)
     → (e ≡ FailsSink → shown)
     → Outcome w e old new
     → Soaked w.whole (status_of e) old new shown
