@@ -1,12 +1,17 @@
 -- Lemmas on the lines that are up.
 use Rattle.std.proofs.Common.{◌≡◌, ℕ, ◌+◌, ◌<◌, Bool, true, false, cond, List, [], ◌∷◌, ◌++◌, length, drop, get_or, refl, sym, decimal, append_assoc, ◌||◌}
 use Rattle.std.proofs.lemmas.List.{drop_more}
-use Rattle.reply_text.specs.Text.{up_numbers, joined}
+use Rattle.reply_text.specs.Text.{up_numbers, up_word}
 
 -- whether there is one
 abbrev pub is_some_up : List ℕ → Bool
 is_some_up [] = false
 is_some_up (n ∷ ns) = true
+
+-- their numbers, with nothing for none
+abbrev pub joined : List ℕ → List ℕ
+joined [] = []
+joined (n ∷ ns) = up_word (n ∷ ns)
 
 -- a line in front
 abbrev pub with_line : Bool → ℕ → List ℕ → List ℕ

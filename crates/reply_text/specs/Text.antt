@@ -131,16 +131,11 @@ up_numbers (n ∷ ns) [] = []
 up_numbers (n ∷ ns) (true ∷ levels) = n ∷ up_numbers ns levels
 up_numbers (n ∷ ns) (false ∷ levels) = up_numbers ns levels
 
--- numbers joined by commas
-abbrev pub joined : List ℕ → List ℕ
-joined [] = []
-joined (n ∷ []) = decimal n
-joined (n ∷ m ∷ ms) = decimal n ++ 44 ∷ joined (m ∷ ms)
-
--- LINES: the lines that are up, or `-`
+-- LINES: the numbers of the lines that are up, joined by commas, or `-`
 abbrev pub up_word : List ℕ → List ℕ
 up_word [] = codes "-"
-up_word (n ∷ ns) = joined (n ∷ ns)
+up_word (n ∷ []) = decimal n
+up_word (n ∷ m ∷ ms) = decimal n ++ 44 ∷ up_word (m ∷ ms)
 
 -- `final TIME ACCESSES GREATEST LINES`
 unfoldable pub final_text : ℕ → ℕ → ℕ → Lines → List ℕ

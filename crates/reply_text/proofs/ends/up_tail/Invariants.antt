@@ -1,7 +1,7 @@
 use Rattle.std.proofs.Common.{◌≡◌, ◌+◌, ◌*◌, ◌≤◌, ◌++◌, [], ◌∷◌, drop, length}
 use Rattle.irq_edges.specs.Lines.{line_numbers}
-use Rattle.reply_text.specs.Text.{up_numbers, joined}
-use Rattle.reply_text.proofs.Ups.{is_some_up}
+use Rattle.reply_text.specs.Text.{up_numbers}
+use Rattle.reply_text.proofs.Ups.{is_some_up, joined}
 use Rattle.reply_text.proofs.ends.up_tail.Given as goal
 
 abbrev pub invariant-loop-place : goal.invariant-loop-place
