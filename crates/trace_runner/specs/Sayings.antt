@@ -10,7 +10,6 @@ use Rattle.command_line.specs.declared.command.Command.TheVariants.{
   Version,
   Unknown,
 }
-use Rattle.command_line.specs.declared.command.Size.{Size}
 use Rattle.trace_gen.specs.Text.{gen_text}
 use Rattle.trace_runner.specs.Soak.{soak_of}
 use Rattle.trace_runner.specs.declared.texts.TheConstants.{USAGE, VERSION}
@@ -30,25 +29,15 @@ pub record Saying : Type 0 where
   pub status : Status
   pub text : List ℕ
 
--- words that are no command
-abbrev pub usage : Saying
-usage = record { status = Usage; text = USAGE.now }
-
--- a generated trace
-abbrev pub generated : Size → Saying
-generated size = record { status = Ok; text = gen_text size.key size.records size.cpus }
-
--- the sum of a soak over it
-abbrev pub summed : Size → Saying
-summed size =
-    record { status = verdict_status (soak_of size).end; text = (soak_of size).text }
-
--- what a command says that reads no trace
+-- what a command says that reads no trace: a generated trace, the sum of a soak over one, a page of
+-- the help, the version, and the usage for words that are no command
 abbrev pub saying_of : Command → Option Saying
 saying_of (Replay shows_state) = None
 saying_of (Race shows_state) = None
-saying_of (Gen size) = Some (generated size)
-saying_of (Soak size) = Some (summed size)
+saying_of (Gen size) =
+    Some (record { status = Ok; text = gen_text size.key size.records size.cpus })
+saying_of (Soak size) =
+    Some (record { status = verdict_status (soak_of size).end; text = (soak_of size).text })
 saying_of (Help page) = Some (record { status = Ok; text = help_text page })
 saying_of Version = Some (record { status = Ok; text = VERSION.now })
-saying_of Unknown = Some usage
+saying_of Unknown = Some (record { status = Usage; text = USAGE.now })
