@@ -5,28 +5,18 @@ use Rattle.board_io.specs.Ends.{Input}
 use Rattle.board_types.specs.declared.parts.BoardParts.{BoardParts}
 use Rattle.trace_loop.specs.Text.{memory_fault_text}
 use Rattle.trace_loop.specs.Progress.{Closing}
-use Rattle.trace_loop.specs.Outcome.{Run, run_of, Outcome}
-use Rattle.trace_loop.specs.declared.ended.Ended.TheVariants.{
-  SourceFault as FailsSource,
-  SinkFault as FailsSink,
-  NoMemory as WantsMemory,
-}
+use Rattle.trace_loop.specs.Outcome.{Run, run_of}
 use Rattle.race_phase.specs.Phases.{race_text}
 use Rattle.trace_runner.specs.Check.{check_after, check}
 use Rattle.trace_runner.specs.Checking.{Checking}
 use Rattle.trace_runner.specs.Replay.{ended}
 use Rattle.trace_runner.specs.Said.{Said, SaidAtMost}
-use Rattle.trace_runner.specs.Status.{verdict_status}
+use Rattle.trace_runner.specs.Status.{verdict_status, Fails}
 use Rattle.trace_runner.specs.Trace.{TraceRead}
 use Rattle.trace_runner.specs.declared.check.Checked.{Checked}
 use Rattle.trace_runner.specs.declared.check.Checked.TheVariants.{Whole, Stopped}
 use Rattle.trace_runner.specs.declared.status.Status.{Status}
-use Rattle.trace_runner.specs.declared.status.Status.TheVariants.{
-  Ok,
-  SourceFault,
-  SinkFault,
-  NoMemory,
-}
+use Rattle.trace_runner.specs.declared.status.Status.TheVariants.{Ok, NoMemory}
 use Rattle.trace_runner.specs.declared.status.Verdict.{Verdict}
 
 -- the run of a check over an input
@@ -51,19 +41,12 @@ CheckedLeaves (Whole trace) text status old new shown =
     ((out : List ℕ) × RacePrints trace out × Said Ok status old new out shown)
     ⊎ Said NoMemory status old new memory_fault_text shown
 
--- and where it did not: a fault of the source or the sink, or want of memory
-abbrev pub CheckFails : Run Checking Checked → Status → Option (List ℕ) → Option (List ℕ) → Type 0
-CheckFails w SourceFault old new = Outcome w FailsSource old new
-CheckFails w SinkFault old new = Outcome w FailsSink old new
-CheckFails w NoMemory old new = Outcome w WantsMemory old new
-CheckFails w status old new = ⊥
-
 -- what a race leaves
 abbrev pub RaceLeaves : Run Checking Checked → Status → Option (List ℕ) → Option (List ℕ) → Type 0
     → Type 0
 RaceLeaves w status old new shown =
     ((w.end.faults ≡ w.start.faults) × CheckedLeaves w.whole.end w.whole.text status old new shown)
-    ⊎ CheckFails w status old new
+    ⊎ Fails w status old new
 
 -- and where the check came to its end so, and the trace has one processor: what a replay that ends
 -- so prints
@@ -72,4 +55,4 @@ abbrev pub AloneLeaves : Run Checking Checked → Closing Verdict → Status →
 AloneLeaves w closing status old new shown =
     ((w.end.faults ≡ w.start.faults)
     × SaidAtMost (verdict_status closing.end) status old new closing.text shown)
-    ⊎ CheckFails w status old new
+    ⊎ Fails w status old new

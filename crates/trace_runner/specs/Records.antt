@@ -3,7 +3,6 @@ use Rattle.std.specs.Prelude.{ℕ, List, Option, Some, None}
 use Rattle.std.specs.Option.{option_map}
 use Rattle.host_counter.specs.declared.TimeFault.{TimeFault}
 use Rattle.host_counter.specs.declared.TimeFault.TheVariants.{BeforeStart, OutOfRange}
-use Rattle.board_types.specs.declared.access.Access.{Access}
 use Rattle.board_types.specs.declared.parts.BoardParts.{BoardParts}
 use Rattle.board_types.specs.declared.reply.Refusal.{Refusal}
 use Rattle.board_types.specs.declared.reply.Refusal.TheVariants.{
@@ -65,37 +64,25 @@ refused_count b h = option_map refused_fault (time_fault b.anchor h)
 abbrev pub stops : ℕ → Refused → Closing Verdict
 stops line why = record { text = refused_text line why; end = Stopped line why }
 
--- an access to the board
-abbrev pub access_answer : Option Refusal → ℕ → ℕ → ℕ → Access → Deliveries
-    → BoardParts → Answer BoardParts Verdict
-access_answer (Some refusal) line cpu h a ds b = Ends (stops line (refused_access refusal))
-access_answer None line cpu h a ds b =
-    Goes (block_of ds line (Acted (reply_of b cpu h a))) (after_access b cpu h a)
+-- a call that is refused, or prints this and leaves this board
+abbrev pub answer_unless : Option Refused → ℕ → List ℕ → BoardParts → Answer BoardParts Verdict
+answer_unless (Some why) line text b = Ends (stops line why)
+answer_unless None line text b = Goes text b
 
--- .. which the board may refuse
-abbrev pub board_answer : ℕ → ℕ → ℕ → Access → Deliveries → BoardParts
+-- a call: an access, which the board may refuse; or a read, at a count that has a time. A read of a
+-- page changes nothing, and one of the clock may raise the greatest reading that was told
+abbrev pub call_answer : ℕ → ℕ → ℕ → Call → Deliveries → BoardParts
     → Answer BoardParts Verdict
-board_answer line cpu h a ds b = access_answer (refusal_of b cpu h a) line cpu h a ds b
-
--- a read of a page of a processor changes nothing
-abbrev pub read_answer : Option Refused → ℕ → List ℕ → BoardParts → Answer BoardParts Verdict
-read_answer (Some why) line text b = Ends (stops line why)
-read_answer None line text b = Goes text b
-
--- at a count that has a time
-abbrev pub page_answer : ℕ → ℕ → ℕ → BoardParts → Answer BoardParts Verdict
-page_answer line page h b =
-    read_answer (refused_count b h) line (page_text line (page_reply b page h)) b
-
--- a read of the clock may raise the greatest reading that was told
-abbrev pub clock_answer : ℕ → ℕ → ℕ → BoardParts → Answer BoardParts Verdict
-clock_answer line page h b =
-    read_answer (refused_count b h) line (clock_text line (clock_reply b page h))
+call_answer line cpu h (Act a) ds b =
+    answer_unless (option_map refused_access (refusal_of b cpu h a)) line
+    (block_of ds line (Acted (reply_of b cpu h a))) (after_access b cpu h a)
+call_answer line cpu h (ReadPage page) ds b =
+    answer_unless (refused_count b h) line (page_text line (page_reply b page h)) b
+call_answer line cpu h (ReadClock page) ds b =
+    answer_unless (refused_count b h) line (clock_text line (clock_reply b page h))
     (after_clock b page h)
-
--- a read of the reference page changes nothing
-abbrev pub hv_answer : ℕ → ℕ → BoardParts → Answer BoardParts Verdict
-hv_answer line h b = read_answer (refused_count b h) line (hv_text line (hv_reply b h)) b
+call_answer line cpu h ReadHv ds b =
+    answer_unless (refused_count b h) line (hv_text line (hv_reply b h)) b
 
 -- a move that is refused: the time after the gap, or the version of a page
 abbrev pub refused_move : MoveFault → Refused
@@ -117,14 +104,6 @@ ended_answer None end ds b = Goes (end_text ds end b) (next_board end b)
 -- .. for the fault that it has on a board
 abbrev pub end_answer : PhaseEnd → Deliveries → BoardParts → Answer BoardParts Verdict
 end_answer end ds b = ended_answer (end_fault b end) end ds b
-
--- a call, by what it asks
-abbrev pub call_answer : ℕ → ℕ → ℕ → Call → Deliveries → BoardParts
-    → Answer BoardParts Verdict
-call_answer line cpu h (Act a) ds b = board_answer line cpu h a ds b
-call_answer line cpu h (ReadPage page) ds b = page_answer line page h b
-call_answer line cpu h (ReadClock page) ds b = clock_answer line page h b
-call_answer line cpu h ReadHv ds b = hv_answer line h b
 
 -- a record, by what it does
 abbrev pub job_answer : ℕ → ℕ → ℕ → Job → Deliveries → BoardParts

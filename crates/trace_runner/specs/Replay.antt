@@ -13,7 +13,6 @@ use Rattle.std.specs.Prelude.{
   if◌then◌else◌,
 }
 use Rattle.board_io.specs.Ends.{Input}
-use Rattle.board_types.specs.declared.setup.Setup.{Setup}
 use Rattle.board_types.specs.Setup.{setup_by_default}
 use Rattle.board_types.specs.declared.parts.BoardParts.{BoardParts}
 use Rattle.board_devices.specs.Lines.{levels}
@@ -40,28 +39,19 @@ use Rattle.trace_loop.specs.Progress.{
   finished,
 }
 use Rattle.trace_loop.specs.Outcome.{Run, run_of}
-use Rattle.race_phase.specs.declared.deliveries.Deliveries.{Deliveries}
 use Rattle.trace_runner.specs.Deliveries.{deliveries_of}
 use Rattle.trace_runner.specs.Records.{stops, job_answer}
 use Rattle.trace_runner.specs.declared.replay.Replay.{Replay}
 use Rattle.trace_runner.specs.declared.status.Verdict.{Verdict}
 use Rattle.trace_runner.specs.declared.status.Verdict.TheVariants.{Done}
 
--- before the first line; the board is one that no line asks
-abbrev pub opening : Setup
-opening = setup_by_default 1
-
--- no line has a route
-abbrev pub no_routes : Deliveries
-no_routes = record { cpus = opening.cpus; lines = replicate 6 None }
-
--- a replay before its first line
+-- a replay before its first line: no line asks its board, and none has a route
 abbrev pub at_start : Bool → Replay
 at_start shows_state = record {
   reading = reading_at_start;
   shows_state = shows_state;
-  board = board_at_power_on opening;
-  deliveries = no_routes;
+  board = board_at_power_on (setup_by_default 1);
+  deliveries = record { cpus = 1; lines = replicate 6 None };
 }
 
 -- the line that ends a trace: the time, the accesses, the greatest clock reading, the lines that

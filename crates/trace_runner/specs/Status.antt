@@ -1,5 +1,6 @@
 -- The statuses: their numbers, and what a replay that ended with one has written.
-use Rattle.std.specs.Prelude.{ℕ, List, Option}
+use Rattle.std.specs.Prelude.{◌≡◌, ℕ, List, Option, ◌⊎◌}
+use Rattle.std.specs.Io.KnownBytes.{Appends}
 use Rattle.trace_loop.specs.declared.ended.Ended.{Ended}
 use Rattle.trace_loop.specs.declared.ended.Ended.TheVariants.{
   By,
@@ -8,7 +9,6 @@ use Rattle.trace_loop.specs.declared.ended.Ended.TheVariants.{
   NoMemory as WantsMemory,
 }
 use Rattle.trace_loop.specs.Outcome.{Run, Outcome}
-use Rattle.reply_text.specs.declared.ends.Refused.{Refused}
 use Rattle.reply_text.specs.declared.ends.Refused.TheVariants.{
   Invalid,
   Range,
@@ -43,17 +43,13 @@ number_of (OutOfRange line ns) = 7
 number_of (Spent line number) = 8
 number_of (VersionsSpent line version) = 9
 
--- a line that is refused, as a status
-abbrev pub refused_status : ℕ → Refused → Status
-refused_status line (Invalid reason) = BadRecord line reason
-refused_status line (Range ns) = OutOfRange line ns
-refused_status line (LastVersion version) = VersionsSpent line version
-refused_status line (AllSpent number) = Spent line number
-
 -- how a trace ended, as a status
 abbrev pub verdict_status : Verdict → Status
 verdict_status Done = Ok
-verdict_status (Stopped line why) = refused_status line why
+verdict_status (Stopped line (Invalid reason)) = BadRecord line reason
+verdict_status (Stopped line (Range ns)) = OutOfRange line ns
+verdict_status (Stopped line (LastVersion version)) = VersionsSpent line version
+verdict_status (Stopped line (AllSpent number)) = Spent line number
 
 -- how a run over a trace ended, as the program's status
 abbrev pub status_of : Ended Verdict → Status
@@ -62,15 +58,17 @@ status_of FailsSource = SourceFault
 status_of FailsSink = SinkFault
 status_of WantsMemory = NoMemory
 
--- what a replay that ended with a status has appended to the sink
+-- what a run left that came to no end: a fault of the source or the sink, or want of memory
+abbrev pub Fails : {A E : Type 0} → Run A E → Status → Option (List ℕ) → Option (List ℕ) → Type 0
+Fails w SourceFault old new = Outcome w FailsSource old new
+Fails w SinkFault old new = Outcome w FailsSink old new
+Fails w NoMemory old new = Outcome w WantsMemory old new
+Fails w status old new = ⊥
+
+-- what a replay left, by its status: that is the trace's end, and all that it prints was appended to the
+-- sink; or it came to no end
 abbrev pub Shown : Run Replay Verdict → Status → Option (List ℕ) → Option (List ℕ) → Type 0
-Shown w Ok old new = Outcome w (By Done) old new
-Shown w (BadRecord line reason) old new = Outcome w (By (Stopped line (Invalid reason))) old new
-Shown w (OutOfRange line ns) old new = Outcome w (By (Stopped line (Range ns))) old new
-Shown w (Spent line number) old new = Outcome w (By (Stopped line (AllSpent number))) old new
-Shown w (VersionsSpent line version) old new =
-    Outcome w (By (Stopped line (LastVersion version))) old new
-Shown w SourceFault old new = Outcome w FailsSource old new
-Shown w SinkFault old new = Outcome w FailsSink old new
-Shown w NoMemory old new = Outcome w WantsMemory old new
-Shown w Usage old new = ⊥
+Shown w status old new =
+    ((w.end.faults ≡ w.start.faults) × (status ≡ verdict_status w.whole.end)
+    × Appends old new w.whole.text)
+    ⊎ Fails w status old new

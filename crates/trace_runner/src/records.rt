@@ -8,12 +8,10 @@ ghost use Rattle.trace_text.specs.declared.reading.Item.TheVariants.{Next};
 ghost use Rattle.trace_loop.specs.Answered.{IsAnswered};
 ghost use Rattle.race_phase.specs.Blocks.{block_of};
 ghost use Rattle.race_phase.specs.declared.records.Answer.TheVariants.{Acted};
-ghost use Rattle.trace_runner.specs.Records.{
-  board_answer,
-  page_answer,
-  clock_answer,
-  hv_answer,
-};
+ghost use Rattle.board_core.specs.Pages.{page_reply, clock_reply, after_clock};
+ghost use Rattle.board_core.specs.Hv.{hv_reply};
+ghost use Rattle.reply_text.specs.Text.{page_text, clock_text, hv_text};
+ghost use Rattle.trace_runner.specs.Records.{refused_count, answer_unless, call_answer};
 ghost use Rattle.trace_runner.specs.Replay.{record_answer, with_board};
 ghost use Rattle.trace_runner.specs.Ready.{Suits};
 
@@ -87,7 +85,7 @@ impl Replay {
         requires cpu { given.now.cpu < self.old.board.cpus }
         requires legal { is_legal self.old.board.cpus self.old.board.format access ≡ true }
         requires open { end.old ≡ None }
-        ensures { let by = board_answer line given.now.cpu given.now.h access
+        ensures { let by = call_answer line given.now.cpu given.now.h (Call.Act access)
             self.old.deliveries self.old.board in
             IsAnswered (with_board by self.old) self.old self.new
             out.old.items out.new.items end.new result }
@@ -117,8 +115,10 @@ impl Replay {
     ) -> Result<(), NoMemory>
         requires page { page < self.old.board.cpus }
         requires open { end.old ≡ None }
-        ensures { IsAnswered (with_board (page_answer line page h self.old.board) self.old)
-            self.old self.new out.old.items out.new.items end.new result }
+        ensures { let by = answer_unless (refused_count self.old.board h) line
+            (page_text line (page_reply self.old.board page h)) self.old.board in
+            IsAnswered (with_board by self.old) self.old self.new
+            out.old.items out.new.items end.new result }
     {
         let board = &self.board;
         match board.state.page_of(page, h) {
@@ -142,8 +142,11 @@ impl Replay {
     ) -> Result<(), NoMemory>
         requires page { page < self.old.board.cpus }
         requires open { end.old ≡ None }
-        ensures { IsAnswered (with_board (clock_answer line page h self.old.board) self.old)
-            self.old self.new out.old.items out.new.items end.new result }
+        ensures { let by = answer_unless (refused_count self.old.board h) line
+            (clock_text line (clock_reply self.old.board page h))
+            (after_clock self.old.board page h) in
+            IsAnswered (with_board by self.old) self.old self.new
+            out.old.items out.new.items end.new result }
     {
         let board = &mut self.board;
         match board.state.clock_of(page, h) {
@@ -166,8 +169,10 @@ impl Replay {
     ) -> Result<(), NoMemory>
         requires format { HV_FORMAT ≤ self.old.board.format }
         requires open { end.old ≡ None }
-        ensures { IsAnswered (with_board (hv_answer line h self.old.board) self.old)
-            self.old self.new out.old.items out.new.items end.new result }
+        ensures { let by = answer_unless (refused_count self.old.board h) line
+            (hv_text line (hv_reply self.old.board h)) self.old.board in
+            IsAnswered (with_board by self.old) self.old self.new
+            out.old.items out.new.items end.new result }
     {
         let board = &self.board;
         match board.state.hv_of(h) {

@@ -1,10 +1,23 @@
 //! What answers the lines of a trace: a reader, and the board that its records act on.
-ghost use Rattle.std.specs.Prelude.{◌≡◌, ◌<◌, ◌+◌, ◌^◌, ◌++◌, Ok, None, Some, OnOk, OnErr};
+ghost use Rattle.std.specs.Prelude.{
+  ◌≡◌,
+  ◌<◌,
+  ◌+◌,
+  ◌^◌,
+  ◌++◌,
+  replicate,
+  Ok,
+  None,
+  Some,
+  OnOk,
+  OnErr,
+};
+ghost use Rattle.board_types.specs.Setup.{setup_by_default};
 ghost use Rattle.trace_text.specs.Header.{board_of};
 ghost use Rattle.std.specs.Io.{StartsWith};
 ghost use Rattle.trace_loop.specs.Answered.{IsAnswered};
 ghost use Rattle.trace_runner.specs.Deliveries.{deliveries_of};
-ghost use Rattle.trace_runner.specs.Replay.{answer_of, item_answer, opening, no_routes, ended};
+ghost use Rattle.trace_runner.specs.Replay.{answer_of, item_answer, ended};
 ghost use Rattle.trace_runner.specs.Ready.{IsReady, Suits};
 
 use crate::deliveries::deliveries_of;
@@ -33,14 +46,14 @@ pub(crate) struct Replay {
 
 /// The board before `begin`.
 pub(crate) fn opening() -> Setup
-    ensures { result ≡ opening }
+    ensures { result ≡ setup_by_default 1 }
 {
     Setup::by_default(1)
 }
 
 /// Who gets interrupts before `begin`.
 pub(crate) fn no_routes() -> Deliveries
-    ensures { result ≡ no_routes }
+    ensures { result ≡ record { cpus = 1; lines = replicate 6 None } }
 {
     Deliveries {
         cpus: 1,

@@ -7,7 +7,7 @@ ghost use Rattle.trace_runner.specs.Records.{
   refused_move,
   refused_cause,
 };
-ghost use Rattle.trace_runner.specs.Status.{status_of, refused_status, verdict_status};
+ghost use Rattle.trace_runner.specs.Status.{status_of, verdict_status};
 
 use board_core::Refusal;
 use clk_units::NoMemory;
@@ -70,25 +70,18 @@ impl Status {
     }
 }
 
-/// A line that is refused, as a status.
-fn refused_status(line: u64, why: Refused) -> Status
-    ensures { result ≡ refused_status line why }
-{
-    match why {
-        Refused::Invalid(reason) => Status::BadRecord { line, reason },
-        Refused::Range { ns } => Status::OutOfRange { line, ns },
-        Refused::Versions { version } => Status::VersionsSpent { line, version },
-        Refused::Spent { number } => Status::Spent { line, number },
-    }
-}
-
 /// The status of how a trace ended.
 pub(crate) fn verdict_status(verdict: Verdict) -> Status
     ensures { result ≡ verdict_status verdict }
 {
     match verdict {
         Verdict::Done => Status::Ok,
-        Verdict::Stopped { line, why } => refused_status(line, why),
+        Verdict::Stopped { line, why } => match why {
+            Refused::Invalid(reason) => Status::BadRecord { line, reason },
+            Refused::Range { ns } => Status::OutOfRange { line, ns },
+            Refused::Versions { version } => Status::VersionsSpent { line, version },
+            Refused::Spent { number } => Status::Spent { line, number },
+        },
     }
 }
 
