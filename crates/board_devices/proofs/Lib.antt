@@ -24,3 +24,4 @@ pub mod LevelsOf
 pub mod Timers
 pub mod PowerOn
 pub mod MainCounter
+pub mod PortReads

@@ -24,6 +24,7 @@ mod levels;
 mod lines;
 mod messages;
 mod parts;
+mod port_reads;
 mod pulse_counts;
 mod run;
 mod stretch;
