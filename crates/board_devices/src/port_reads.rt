@@ -34,7 +34,7 @@ impl Devices {
     }
 }
 
-/// What a read of a port at nanosecond `at` gives after `n` pulses. A copy of one counter takes them.
+/// What a read of a port gives at nanosecond `at`, after `n` pulses, which a copy takes.
 #[inline(always)]
 fn byte_later(pit: &Pit, n: u64, port: u8, at: u64) -> u8
     requires { IsTrue (is_pit_port port) }
