@@ -11,7 +11,7 @@ use Rattle.save_state.proofs.Names.{RANGE_NS, time_at, Anchor, RtcParts, pf_of, 
 use Rattle.save_state.proofs.Names.{lt-ltb, le-ltb, le-leb, and_from, or_right, ne_eqb, cond-true, cond-false, drop_all, get_or-drop, ◌∷◌, [], ◌+◌, ◌≤◌, Bool}
 use Rattle.save_state.proofs.Names.{true, false, eqb, ltb, leb, ◌&&◌, ◌||◌, List, ◌++◌, drop, get_or, ap, version-is, timers_few, timers_least, processors_few}
 use Rattle.save_state.proofs.Blocks.{writes, policy-written, counter-here, timer-here, line-here, processor-here, messages-here, references-here}
-use Rattle.save_state.proofs.{Names.counts_few, Names.levels-at, Names.one_if, ApicLaws.apics-here}
+use Rattle.save_state.proofs.{Names.counts_few, Names.levels-at, Names.one_if, Names.◌^◌, ApicLaws.apics-here}
 
 policy-code : IsCode policy
 policy-code = choice-code 3 policy_byte policy_of three
