@@ -41,8 +41,8 @@ use Rattle.board_devices.proofs.MainCounter.{hpet-run}
 use Rattle.hpet_bursts.specs.Bursts.{bursts_of}
 use Rattle.board_core.proofs.Messages.{bursts-silent, bursts-later, message_at-later}
 use Rattle.board_core.proofs.Nanoseconds.{after_run-nanoseconds}
-use Rattle.board_core.specs.Lazy.{is_passive}
-use Rattle.board_core.proofs.Passive.{before_look-passive, own-passive, value_at-passive}
+use Rattle.board_core.specs.Lazy.{is_passive, left_by}
+use Rattle.board_core.proofs.Passive.{before_look-passive, apics-left, own-passive, value_at-passive}
 use Rattle.board_core.proofs.Times.{time_at_max, no_fault-of_time}
 
 -- the devices: m nanoseconds, and then n more
@@ -283,15 +283,15 @@ accesses-after_run b h = refl
 -- what runs last is the look, and here it does nothing
 pub after_access-idle : (b : BoardParts) (cpu g h : ℕ) (a : Access) → is_passive a ≡ true
     → 0 < b.anchor.khz → AreApicPlaces (apics_in b) → AreIdle (apics_in b)
-    → after_access (after_run b g) cpu h a ≡ after_run (record b { accesses = b.accesses + 1 }) (max g h)
+    → after_access (after_run b g) cpu h a ≡ left_by a (after_run (record b { accesses = b.accesses + 1 }) (max g h))
 unfolding after_access after_act
 after_access-idle b cpu g h a passive runs places idle =
-    let same : apics_in (after_run b (max g h)) ≡ apics_in b = apics-idle b (max g h) places idle in
+    let next : BoardParts = record (after_run b (max g h)) { accesses = (after_run b (max g h)).accesses + 1 } in
+    let same : apics_in (left_by a next) ≡ apics_in b = apics-left a next ∙ apics-idle b (max g h) places idle in
     ap (λ (x : BoardParts). after_look (before_look x cpu h a)) (after_run-joined b g h runs)
     ∙ ap after_look (before_look-passive (after_run b (max g h)) cpu h a passive)
-    ∙ look-none (record (after_run b (max g h)) { accesses = (after_run b (max g h)).accesses + 1 })
-    (subst AreApicPlaces (sym same) places) (subst AreIdle (sym same) idle)
-    ∙ one-counted b (max g h)
+    ∙ look-none (left_by a next) (subst AreApicPlaces (sym same) places) (subst AreIdle (sym same) idle)
+    ∙ ap (left_by a) (one-counted b (max g h))
 
 -- a passive access to a quiet board is answered by its number and its value alone
 abbrev reply_with : ℕ → Value → List Edge → List Burst → Reply

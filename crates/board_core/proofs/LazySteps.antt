@@ -1,5 +1,6 @@
--- An access before the horizon that changes nothing.
-use Rattle.std.proofs.Common.{◌≡◌, ℕ, ◌+◌, ◌-◌, ◌<◌, ◌≤◌, max, true, [], None, Result, Ok, Err, length, sym, subst, ap, ◌∙◌, arith, inl, inr}
+-- A passive access before the horizon.
+use Rattle.std.proofs.Common.{◌≡◌, ℕ, ◌+◌, ◌-◌, ◌<◌, ◌≤◌, max, Bool, true, List, [], None, Result, Ok, Err, length}
+use Rattle.std.proofs.Common.{refl, sym, subst, ap, ◌∙◌, arith, inl, inr}
 use Rattle.std.proofs.lemmas.Bool.{cases_lt}
 use Rattle.clk_units.specs.declared.ranges.TheConstants.{RANGE_NS}
 use Rattle.host_counter.specs.declared.Anchor.{Anchor}
@@ -7,22 +8,25 @@ use Rattle.host_counter.specs.Time.{time_at}
 use Rattle.host_counter.proofs.Times.{time_at-mono}
 use Rattle.local_apics.specs.Parts.{AreApicPlaces}
 use Rattle.board_types.specs.declared.access.Access.{Access}
-use Rattle.board_types.specs.declared.access.Access.TheVariants.{Step}
+use Rattle.board_types.specs.declared.access.Access.TheVariants.{PortIn, Step}
 use Rattle.board_types.specs.declared.parts.BoardParts.{BoardParts}
 use Rattle.board_types.specs.declared.reply.Refusal.{Refusal}
 use Rattle.board_types.specs.declared.reply.Reply.{Reply}
 use Rattle.board_types.specs.declared.parts.TheConstants.{MOST_ACCESSES}
-use Rattle.board_core.specs.Access.{ran_to, after_run, value_at, reply_of, after_access}
-use Rattle.board_core.specs.Apics.{apics_in}
-use Rattle.board_core.specs.Conditions.{IsJoined}
+use Rattle.board_devices.specs.Run.{Ran}
+use Rattle.board_devices.proofs.PortReads.{after_pit_read, levels-read, run-read}
+use Rattle.board_core.specs.Access.{ran_to, apics_ran_to, after_run, value_at, reply_of, after_access}
+use Rattle.board_core.specs.Apics.{apics_in, with_apics}
+use Rattle.board_core.specs.Conditions.{AreRises, IsJoined}
 use Rattle.std.specs.Prelude.{OnOk, OnErr}
 use Rattle.board_core.specs.Outcome.{IsOutcome}
 use Rattle.board_core.specs.Quiet.{IsQuiet}
 use Rattle.board_core.specs.Refusals.{refusal_of}
-use Rattle.board_core.specs.Time.{HasTime, now_of, time_of_access}
+use Rattle.board_core.specs.Rises.{rises_after}
+use Rattle.board_core.specs.Time.{HasTime, devices_in, with_devices, now_of, time_of_access}
 use Rattle.board_core.proofs.Passive.{refusal_of-passive}
 use Rattle.board_core.proofs.Joins.{after_run-zero, now-after_run, edges-quiet, IsQuiet-after_run, after_access-idle, reply_of-quiet, refusal_of-after_run, step-taken, edges-later, reply_of-later, after_access-later}
-use Rattle.board_core.specs.Lazy.{is_passive, IsLazy, IsPassed}
+use Rattle.board_core.specs.Lazy.{is_passive, left_by, IsLazy, IsPassed}
 
 time-within : (anchor : Anchor) (q h : ℕ) → 0 < anchor.khz → HasTime anchor q → anchor.start ≤ h → h ≤ q → HasTime anchor h
 time-within anchor q h runs time started within =
@@ -39,6 +43,57 @@ IsLazy-greatest b n host horizon is = record {
   time = is.time;
   lag = is.lag;
 }
+
+-- .. and so does what a read of the 8254 leaves, before a run or after it
+module _ (port : ℕ) (b : BoardParts) where
+  abbrev read : BoardParts
+  read = left_by (PortIn port) b
+
+  ran_to-read : (h : ℕ) → ran_to read h ≡ record { state = after_pit_read port (ran_to b h).state; edges = (ran_to b h).edges }
+  ran_to-read h = run-read port (now_of b) (time_of_access b h - now_of b) (devices_in b)
+
+  after_run-read : (h : ℕ) → after_run read h ≡ left_by (PortIn port) (after_run b h)
+  unfolding after_run
+  after_run-read h =
+      ap (λ (r : Ran). record (with_apics (apics_ran_to b h) (with_devices r.state b)) {
+        host = max b.host h;
+        rises = rises_after b.format r.edges b.rises;
+      }) (ran_to-read h)
+
+  IsQuiet-read : (h : ℕ) → IsQuiet b h → IsQuiet read h
+  IsQuiet-read h quiet = record {
+    time = quiet.time;
+    edges = ap (λ (r : Ran). r.edges) (ran_to-read h) ∙ quiet.edges;
+    messages = quiet.messages;
+    idle = quiet.idle;
+  }
+
+  pub IsJoined-read : IsJoined b → IsJoined read
+  IsJoined-read joined = record {
+    format = joined.format;
+    messages = joined.messages;
+    rates = joined.rates;
+    time = joined.time;
+    accesses = joined.accesses;
+    due = joined.due;
+    wall = joined.wall;
+    processors = joined.processors;
+    rises = subst (λ (ls : List Bool). AreRises b.format b.accesses ls b.rises) (sym (levels-read port (devices_in b))) joined.rises;
+    apics = joined.apics;
+    hv = joined.hv;
+  }
+
+pub after_run-left : (a : Access) (b : BoardParts) (h : ℕ) → after_run (left_by a b) h ≡ left_by a (after_run b h)
+after_run-left (PortIn port) b h = after_run-read port b h
+after_run-left _ b h = refl
+
+pub IsLazy-left : (a : Access) (b : BoardParts) (host horizon : ℕ) → IsLazy b host horizon → IsLazy (left_by a b) host horizon
+IsLazy-left (PortIn port) b host horizon is = record {
+  quiet = λ some. IsQuiet-read port b (horizon - 1) (is.quiet some);
+  time = is.time;
+  lag = is.lag;
+}
+IsLazy-left _ b host horizon is = is
 
 -- .. and so does a run to the count to which a board lags
 apic-places : (b : BoardParts) → IsJoined b → AreApicPlaces (apics_in b)
@@ -74,6 +129,11 @@ range-caught b host horizon joined is = elim (cases_lt 0 host) [
       let same : after_run b host ≡ b = ap (after_run b) zero ∙ after_run-zero b in
       subst (λ (x : BoardParts). now_of x < RANGE_NS) (sym same) joined.time.range
 ]
+
+-- .. and the time to which it runs
+pub now-lagging : (b c : BoardParts) (host now : ℕ) → b ≡ c → IsJoined b → now ≡ now_of (after_run c host) → now ≡ time_of_access b host
+now-lagging b c host now same joined is =
+    is ∙ ap (λ (x : BoardParts). now_of (after_run x host)) (sym same) ∙ now-after_run b host 0 (omega (arith, joined.rates.host.slow))
 
 -- a count that isn't beyond the one to which it lags moves no time
 pub now-counted : (b : BoardParts) (n host h : ℕ) → h ≤ host → now_of (after_run (record b { accesses = n }) (max host h)) ≡ now_of (after_run b host)
@@ -123,7 +183,8 @@ module _ (b : BoardParts) (host horizon cpu h : ℕ) (joined : IsJoined b) (is :
     }
     reply_of-counted = reply_of-quiet b cpu (horizon - 1) host h a passive runs quiet is.lag (omega (arith, before))
 
-    pub after_access-counted : after_access (after_run b host) cpu h a ≡ after_run (record b { accesses = b.accesses + 1 }) (max host h)
+    pub after_access-counted :
+        after_access (after_run b host) cpu h a ≡ left_by a (after_run (record b { accesses = b.accesses + 1 }) (max host h))
     after_access-counted = after_access-idle b cpu host h a passive runs
         (apic-places b joined) quiet.idle
 

@@ -4,6 +4,7 @@ use Rattle.host_counter.specs.declared.Anchor.{Anchor}
 use Rattle.host_counter.specs.Time.{time_at}
 use Rattle.tsc_scale.specs.Offset.{tsc_by}
 use Rattle.irq_edges.specs.declared.edges.Edge.{Edge}
+use Rattle.pit_readback.specs.Ports.{after_port_read}
 use Rattle.pvclock_page.specs.declared.page.PageReply.{PageReply}
 use Rattle.pvclock_page.specs.declared.page.PageReply.TheVariants.{Off, On}
 use Rattle.pvclock_page.specs.declared.page.ClockReply.TheVariants.{Off as ClockOff, On as ClockOn}
@@ -12,7 +13,7 @@ use Rattle.pvclock_page.specs.Reading.{reading_of}
 use Rattle.tick_policy.specs.declared.parts.Policy.TheVariants.{Delay, Slew}
 use Rattle.tick_policy.specs.declared.parts.TickParts.{TickParts}
 use Rattle.host_counter.specs.declared.TimeFault.TheVariants.{BeforeStart, OutOfRange}
-use Rattle.board_types.specs.declared.access.Access.TheVariants.{PortIn, PortOut, MsrWrite, Step, Refresh}
+use Rattle.board_types.specs.declared.access.Access.TheVariants.{PortIn, PortOut, HpetRead, MsrWrite, Step, Refresh}
 use Rattle.board_types.specs.declared.parts.BoardParts.{BoardParts}
 use Rattle.board_types.specs.declared.parts.ProcessorParts.{ProcessorParts}
 use Rattle.board_types.specs.declared.reply.Refusal.TheVariants.{NoTime, VersionsSpent, Spent}
@@ -26,6 +27,7 @@ use Rattle.board_core.specs.Wall.{wall_number_after, wall_version_after, wall_wo
 use Rattle.board_core.specs.Refusals.{refusal_of}
 use Rattle.board_core.specs.Rises.{rises_after, count_at}
 use Rattle.board_core.specs.Access.{act_of}
+use Rattle.board_core.specs.Lazy.{is_passive, left_by}
 use Rattle.board_core.specs.PowerOn.{board_at_power_on}
 use Rattle.board_core.specs.Upgrade.{upgraded_to}
 use Rattle.board_devices.specs.Parts.{devices_upgraded}
@@ -259,3 +261,12 @@ upgrades = refl
 same_format : upgraded_to 1 (in_use (started 1)) ≡ in_use (started 1)
 unfolding upgraded_to devices_upgraded
 same_format = refl
+
+-- passive: a step, a read of the main counter from its first byte, and a read of a port of the 8254
+passive : map is_passive (Step ∷ HpetRead 0xf0 8 ∷ HpetRead 0xf0 4 ∷ HpetRead 0xf4 4 ∷ PortIn 0x43 ∷ PortIn 0x61 ∷ PortIn 0x71 ∷ PortOut 0x40 0 ∷ [])
+    ≡ true ∷ true ∷ true ∷ false ∷ true ∷ true ∷ false ∷ false ∷ []
+passive = refl
+
+-- only the last of these leaves something
+left : (b : BoardParts) → map (λ a. left_by a b) (Step ∷ HpetRead 0xf0 8 ∷ PortIn 0x40 ∷ []) ≡ b ∷ b ∷ record b { pit = after_port_read 0x40 b.pit } ∷ []
+left b = refl

@@ -1,8 +1,9 @@
-//! A board that lags: accesses that change nothing are only counted, and its devices run when they are needed.
+//! A board that lags: passive accesses are only counted, and its devices run when they are needed.
 ghost use Rattle.std.specs.Prelude.{◌≡◌, ℕ, ◌+◌, ◌-◌, ◌^◌, ◌<◌, ◌≤◌, true, false, [], IsTrue};
 ghost use Rattle.clk_units.specs.declared.ranges.TheConstants.{RANGE_NS};
 ghost use Rattle.hpet_bursts.specs.Messages.{message_at};
 ghost use Rattle.hpet_registers.specs.Access.{part_of};
+ghost use Rattle.pit_readback.specs.Ports.{is_pit_port, port_read, after_port_read};
 ghost use Rattle.board_devices.specs.Places.{line_at};
 ghost use Rattle.board_devices.specs.Run.{run};
 ghost use Rattle.board_types.specs.declared.access.Access.{Access};
@@ -12,7 +13,14 @@ ghost use Rattle.board_core.specs.Access.{after_run, value_at};
 ghost use Rattle.board_core.specs.Conditions.{IsJoined};
 ghost use Rattle.board_core.specs.Outcome.{IsAsked, IsOutcome, IsClockRead};
 ghost use Rattle.board_core.specs.Quiet.{IsQuiet};
-ghost use Rattle.board_core.specs.Lazy.{is_passive, caught_up, IsLazy, IsCounted, IsPassed};
+ghost use Rattle.board_core.specs.Lazy.{
+  is_passive,
+  left_by,
+  caught_up,
+  IsLazy,
+  IsCounted,
+  IsPassed,
+};
 
 use crate::board::BoardState;
 use board_devices::Devices;
@@ -28,8 +36,9 @@ const HALF: u64 = 0x1_0000_0000;
 /// Nanoseconds in a millisecond, in which a counter of 1 kHz counts once.
 const MILLISECOND_NS: u128 = 1_000_000;
 
-/// After so many accesses in a row that change nothing and bring no edge the horizon is looked for (own).
-const STILL: u8 = 3;
+/// After so many passive accesses in a row that bring no edge the horizon is looked for (own): by then they have cost as
+/// much as to look.
+const STILL: u8 = 8;
 
 /// How far a board lags. Whoever keeps a board and its lag has the board that `BoardState::catch_up` makes of it.
 #[derive(Clone, Copy)]
@@ -39,7 +48,7 @@ pub struct Lag {
     pub host: u64,
     /// Before this count nothing comes that a caller sees; 0 where that isn't known.
     pub horizon: u64,
-    /// How many accesses came last that change nothing and brought no edge, counted to `STILL` at most.
+    /// How many accesses came last that are passive and brought no edge, counted to `STILL` at most.
     pub still: u8,
 }
 
@@ -66,7 +75,7 @@ impl BoardState {
         lag.host = 0;
     }
 
-    /// One access, as `answer` answers it. What changes nothing is only counted before the horizon.
+    /// One access, as `answer` answers it. A passive one is only counted before the horizon.
     #[inline(always)]
     pub fn answer_lagging(
         &mut self,
@@ -113,12 +122,15 @@ impl BoardState {
     // Inlined, it makes the answer to a line too large to be inlined in the loop over lines, which costs each line 29
     // instructions.
     #[inline(never)]
-    fn counted_value(&self, lag: &Lag, a: Access) -> Value
+    fn counted_value(&mut self, lag: &Lag, a: Access) -> Value
         requires passive { IsTrue (is_passive a) }
-        requires lazy { IsLazy self.now lag.now.host lag.now.horizon }
-        ensures { (cpu g : ℕ) → result ≡ value_at (caught_up self.now lag.now) cpu g a }
+        requires lazy { IsLazy self.old lag.now.host lag.now.horizon }
+        ensures value { (cpu g : ℕ) → result ≡ value_at (caught_up self.old lag.now) cpu g a }
+        ensures state { caught_up self.new lag.now ≡ left_by a (caught_up self.old lag.now) }
+        ensures lazy { IsLazy self.new lag.now.host lag.now.horizon }
     {
-        self.passive_value(lag, self.lagging_now(lag), a)
+        let now_ns = self.lagging_now(lag);
+        self.take_passive(lag, now_ns, a)
     }
 
     /// Brings a board up to its time that lags beyond count `h`. Another may lag on.
@@ -134,8 +146,7 @@ impl BoardState {
         }
     }
 
-    /// The lag after an access that changes nothing, which brought no edge or did. After enough without one the horizon is
-    /// looked for.
+    /// The lag after a passive access, which brought no edge or did. After enough without one the horizon is looked for.
     #[inline(never)]
     fn lag_after(&self, still: u8, no_edge: bool) -> Lag
         ensures known { 0 < result.horizon → IsQuiet self.now (result.horizon - 1) }
@@ -149,7 +160,7 @@ impl BoardState {
         }
     }
 
-    /// Whether an access at count `h` that changes nothing is only counted: it comes before the horizon.
+    /// Whether a passive access at count `h` is only counted: it comes before the horizon.
     #[inline(always)]
     pub fn counts(&self, lag: &Lag, h: u64) -> bool
         ensures { result ≡ true → IsCounted self.now lag.now h }
@@ -157,7 +168,7 @@ impl BoardState {
         h < lag.horizon && self.anchor.start <= h && self.accesses < MOST_ACCESSES
     }
 
-    /// Counts it, and answers whether the board's time may be another then. What it reads is read of the board then.
+    /// Counts it, and answers whether the board's time may be another then. What it reads, and leaves, is still to come.
     #[inline(always)]
     pub fn count(&mut self, lag: &mut Lag, h: u64) -> bool
         requires lazy { IsLazy self.old lag.old.host lag.old.horizon }
@@ -233,21 +244,48 @@ impl BoardState {
         self.run_to(h, to, &mut edges, &mut bursts);
     }
 
-    /// What an access that changes nothing reads of a board that lags and whose time is `now_ns`.
+    /// What a passive access reads of a board that lags, whose time is `now_ns`; the board is left so, and lags on.
     #[inline(always)]
-    pub fn passive_value(&self, lag: &Lag, now_ns: u64, a: Access) -> Value
+    pub fn take_passive(&mut self, lag: &Lag, now_ns: u64, a: Access) -> Value
         requires passive { IsTrue (is_passive a) }
-        requires lazy { IsLazy self.now lag.now.host lag.now.horizon }
-        requires now { now_ns ≡ now_of (caught_up self.now lag.now) }
-        ensures { (cpu g : ℕ) → result ≡ value_at (caught_up self.now lag.now) cpu g a }
+        requires lazy { IsLazy self.old lag.now.host lag.now.horizon }
+        requires now { now_ns ≡ now_of (caught_up self.old lag.now) }
+        ensures value { (cpu g : ℕ) → result ≡ value_at (caught_up self.old lag.now) cpu g a }
+        ensures state { caught_up self.new lag.now ≡ left_by a (caught_up self.old lag.now) }
+        ensures lazy { IsLazy self.new lag.now.host lag.now.horizon }
+    {
+        self.read_passive(lag, now_ns, a)
+    }
+
+    /// The same, of which the board's parts are said as they lag.
+    #[inline(always)]
+    fn read_passive(&mut self, lag: &Lag, now_ns: u64, a: Access) -> Value
+        requires passive { IsTrue (is_passive a) }
+        requires lazy { IsLazy self.old lag.now.host lag.now.horizon }
+        requires now { now_ns ≡ now_of (caught_up self.old lag.now) }
+        ensures value { (cpu g : ℕ) → result ≡ value_at (caught_up self.old lag.now) cpu g a }
+        ensures state { self.new ≡ left_by a self.old }
     {
         match a {
+            Access::PortIn { port } => Value::Byte(self.read_pit(lag, now_ns, port)),
             Access::HpetRead { width, .. } => Value::Word {
                 width,
                 value: low_part(width, self.main_counter(lag, now_ns)),
             },
             _ => Value::Nothing,
         }
+    }
+
+    /// Reads a port of the 8254 of such a board.
+    #[inline(always)]
+    fn read_pit(&mut self, lag: &Lag, now_ns: u64, port: u8) -> u8
+        requires port { IsTrue (is_pit_port port) }
+        requires lazy { IsLazy self.old lag.now.host lag.now.horizon }
+        requires now { now_ns ≡ now_of (caught_up self.old lag.now) }
+        ensures state { self.new ≡ record self.old { pit = after_port_read port self.old.pit } }
+        ensures byte { result ≡ port_read now_ns port (caught_up self.old lag.now).pit }
+    {
+        self.devices.read_pit_later(self.time_ns, now_ns, port)
     }
 
     /// The HPET's main counter of such a board.
@@ -260,7 +298,7 @@ impl BoardState {
         self.devices.main_counter(self.time_ns, now_ns)
     }
 
-    /// Counts an access that changes nothing else.
+    /// Counts an access.
     #[inline(always)]
     fn count_access(&mut self)
         requires { self.old.accesses < MOST_ACCESSES }
@@ -341,17 +379,26 @@ fn last_count(anchor: Anchor, ns: u64) -> u64
     }
 }
 
-/// Whether an access changes nothing, whatever the board: a step, and a read of the HPET's main counter, whole or its low
-/// half.
+/// Whether an access changes nothing that time looks at, whatever the board: a step, a read of the HPET's main counter,
+/// whole or its low half, and a read of a port of the 8254.
 #[inline(always)]
 pub fn is_passive(a: Access) -> bool
     ensures { result ≡ is_passive a }
 {
     match a {
         Access::Step => true,
+        Access::PortIn { port } => is_pit_port(port),
         Access::HpetRead { offset, width } => offset == 0xf0 && (width == 4 || width == 8),
         _ => false,
     }
+}
+
+/// Whether a port is one of the 8254's: 40h to 43h, and 61h.
+#[inline(always)]
+pub fn is_pit_port(port: u8) -> bool
+    ensures { result ≡ is_pit_port port }
+{
+    (0x40 <= port && port <= 0x43) || port == 0x61
 }
 
 /// How many still accesses came last, counted to `STILL` at most, with one more that may be still.

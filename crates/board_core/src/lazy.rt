@@ -1,12 +1,13 @@
 //! A board that does nothing where nothing can be seen.
 //!
-//! Most steps of a monitor change no line and send no message, and a read of the HPET's main counter, by which a guest
-//! tells time, changes nothing at all. A lazy board answers these by counting them: it keeps the count of the host's
-//! counter, and its devices stay where they were. Any other access runs them to its own time, in one run. So it is at each
-//! moment the board that a plain one would be, and each of its calls is a plain board's, with the same clauses.
+//! Most steps of a monitor change no line and send no message. A read of the HPET's main counter, by which a guest tells
+//! time, changes nothing at all, and a read of a port of the 8254 changes only what the next one gives. A lazy board answers
+//! these by counting them: it keeps the count of the host's counter, and its devices stay where they were. Any other access
+//! runs them to its own time, in one run. So it is at each moment the board that a plain one would be, and each of its calls
+//! is a plain board's, with the same clauses.
 //!
 //! How far nothing comes is looked up after some such accesses in a row that brought no edge, since it costs as much as
-//! the next edge, some ten of them. Any other access forgets it.
+//! the next edge, some eight runs. Any other access forgets it.
 ghost use Rattle.std.specs.Prelude.{◌≡◌, ◌<◌, IfOk, IfErr, OnOk};
 ghost use Rattle.host_counter.specs.Time.{IsFaultAt};
 ghost use Rattle.board_core.specs.Time.{HasTime, now_of};

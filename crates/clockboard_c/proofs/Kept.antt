@@ -1,21 +1,24 @@
--- A next edge that is kept: an access that leaves the devices, and meets no edge on its way, leaves it.
-use Rattle.std.proofs.Common.{◌≡◌, ℕ, zero, suc, ◌+◌, ◌-◌, ◌<◌, max, refl, sym, subst, ap, ◌∙◌, arith, List, [], ◌∷◌, ◌++◌, Option, None, Bool, true, false, cond, ◌&&◌}
+-- A next edge that is kept: an access that leaves the lines to go on, and meets no edge on its way, leaves it.
+use Rattle.std.proofs.Common.{◌≡◌, ℕ, zero, suc, ◌+◌, ◌-◌, ◌<◌, max, refl, sym, subst, ap, ◌∙◌, arith}
+use Rattle.std.proofs.Common.{List, [], ◌∷◌, ◌++◌, Option, None, Bool, true, false, cond, ◌&&◌}
 use Rattle.std.specs.Option.{is_none as has_none}
 use Rattle.clk_units.specs.declared.ranges.TheConstants.{RANGE_NS}
 use Rattle.irq_edges.specs.declared.edges.Edge.{Edge}
 use Rattle.host_counter.proofs.Times.{time_at-max}
 use Rattle.board_types.specs.declared.access.Access.{Access}
-use Rattle.board_types.specs.declared.access.Access.TheVariants.{PortIn, PortOut, HpetRead, HpetWrite, MsrRead, MsrWrite, Ack}
+use Rattle.board_types.specs.declared.access.Access.TheVariants.{PortIn, PortOut, HpetWrite, Ack}
 use Rattle.board_types.specs.declared.parts.BoardParts.{BoardParts}
 use Rattle.board_devices.specs.declared.parts.DeviceParts.{DeviceParts}
 use Rattle.board_devices.specs.Run.{Ran, run, onward}
+use Rattle.board_devices.specs.declared.act.Act.{Act}
 use Rattle.board_devices.specs.Act.{acted}
+use Rattle.board_devices.proofs.PortReads.{after_pit_read, run-read}
 use Rattle.board_core.specs.Time.{devices_in, now_of, time_of_access, time_fault}
 use Rattle.board_core.specs.Conditions.{IsJoined}
-use Rattle.board_core.specs.Lazy.{is_passive, caught_up, no_lag, IsLazy, IsPassed}
+use Rattle.board_core.specs.Lazy.{is_passive, left_by, caught_up, no_lag, IsLazy, IsPassed}
 use Rattle.board_core.proofs.Joins.{after_run-zero}
 use Rattle.board_core.proofs.LazySteps.{IsLazy-greatest}
-use Rattle.board_core.proofs.Passive.{by-kind}
+use Rattle.board_core.proofs.Passive.{by-kind, pit-port, now-left}
 use Rattle.board_core.specs.Refusals.{refusal_of}
 use Rattle.board_types.specs.declared.reply.Refusal.{Refusal}
 use Rattle.board_types.specs.declared.reply.Reply.{Reply}
@@ -29,7 +32,7 @@ use Rattle.hpet_bursts.specs.Next.{or_later}
 use Rattle.board_core.specs.Next.{at_first_edge, first_edge, next_of}
 use Rattle.clockboard_c.specs.Kept.{CallerBoard, LaggingBoard, seen, code_or_none, number_or_0, next_edge_of, no_kept, kept_of}
 use Rattle.clockboard_c.specs.Pages.{state_after_clock}
-use Rattle.clockboard_c.specs.Call.{leaves_devices, is_none, keeps_unless, keeps_next, state_unless, state_after, answered}
+use Rattle.clockboard_c.specs.Call.{leaves_lines, is_none, keeps_unless, keeps_next, state_unless, state_after, answered}
 
 front-nil : (xs ys : List Edge) → xs ++ ys ≡ [] → xs ≡ []
 front-nil [] ys e = refl
@@ -80,17 +83,24 @@ module _ (now k : ℕ) (d : DeviceParts) where
       let whole : k + (RANGE_NS - 1 - (now + k)) ≡ RANGE_NS - 1 - now = omega arith in
       sym (first-on (RANGE_NS - 1 - (now + k)) e) ∙ ap (λ (x : ℕ). first_edge now x d) whole
 
--- the devices after such an access are those of its run
-devices-left : (s : BoardParts) (cpu h : ℕ) (a : Access) → leaves_devices a ≡ true → devices_in (after_access s cpu h a) ≡ (ran_to s h).state
+-- a read of the 8254 leaves the next edge
+first-read : (port now n : ℕ) (d : DeviceParts) → first_edge now n (after_pit_read port d) ≡ first_edge now n d
+unfolding first_edge
+first-read port now zero d = refl
+first-read port now (suc n) d =
+    ap (λ (o : Option ℕ). or_later o (at_first_edge (now + n + 1) (run now (suc n) (after_pit_read port d)).edges)) (first-read port now n d)
+    ∙ ap (λ (r : Ran). or_later (first_edge now n d) (at_first_edge (now + n + 1) r.edges)) (run-read port now (suc n) d)
+
+-- the next edge after such an access is that after its run
+next-ran : (s : BoardParts) (cpu h t : ℕ) (a : Access) → leaves_lines a ≡ true
+    → next_of t (devices_in (after_access s cpu h a)) ≡ next_of t (ran_to s h).state
 unfolding after_access after_act after_look before_look after_run acted
-devices-left s cpu h (PortIn port) leaves = cc
-devices-left s cpu h (PortOut port byte) leaves = cc
-devices-left s cpu h (HpetRead offset width) leaves = refl
-devices-left s cpu h (HpetWrite offset width v) leaves = cc
-devices-left s cpu h (MsrRead msr) leaves = refl
-devices-left s cpu h (MsrWrite msr v) leaves = refl
-devices-left s cpu h (Ack line) leaves = cc
-devices-left s cpu h _ leaves = refl
+next-ran s cpu h t (PortIn port) leaves =
+    ap (λ (x : Act). next_of t (acted x (ran_to s h).state)) (pit-port port leaves) ∙ first-read port t (RANGE_NS - 1 - t) (ran_to s h).state
+next-ran s cpu h t (PortOut port byte) leaves = cc
+next-ran s cpu h t (HpetWrite offset width v) leaves = cc
+next-ran s cpu h t (Ack line) leaves = cc
+next-ran s cpu h t _ leaves = refl
 
 time-after : (s : BoardParts) (cpu h : ℕ) (a : Access) → 0 < s.anchor.khz → now_of (after_access s cpu h a) ≡ time_of_access s h
 unfolding after_access after_act after_look before_look after_run
@@ -102,14 +112,14 @@ no-edges s h a e = front-nil (ran_to s h).edges (own_edges (after_run s h) a) e
 
 pub next-left :
     (s : BoardParts) (cpu h : ℕ) (a : Access) → 0 < s.anchor.khz → now_of (after_access s cpu h a) < RANGE_NS
-    → leaves_devices a ≡ true → edges_of s h a ≡ [] → next_edge_of (after_access s cpu h a) ≡ next_edge_of s
+    → leaves_lines a ≡ true → edges_of s h a ≡ [] → next_edge_of (after_access s cpu h a) ≡ next_edge_of s
 next-left s cpu h a runs range leaves none =
     let to : ℕ = time_of_access s h in
     let k : ℕ = to - now_of s in
     let time : now_of (after_access s cpu h a) ≡ to = time-after s cpu h a runs in
     let sum : now_of s + k ≡ to = omega arith in
     let end : now_of s + k < RANGE_NS = omega (arith, time, sum, range) in
-    ap (λ (d : DeviceParts). next_of (now_of (after_access s cpu h a)) d) (devices-left s cpu h a leaves)
+    next-ran s cpu h (now_of (after_access s cpu h a)) a leaves
     ∙ ap (λ (t : ℕ). next_of t (ran_to s h).state) (time ∙ sym sum)
     ∙ next-on (now_of s) k (devices_in s) end (no-edges s h a none)
 
@@ -125,10 +135,10 @@ none-nil (x ∷ es) e = cc
 -- what is kept goes on to be the next edge
 kept-on :
     (s : BoardParts) (cpu h : ℕ) (a : Access) (known kept : Bool) → 0 < s.anchor.khz → now_of (after_access s cpu h a) < RANGE_NS
-    → kept ≡ (leaves_devices a && is_none (edges_of s h a))
+    → kept ≡ (leaves_lines a && is_none (edges_of s h a))
     → cond kept (kept_of known s) no_kept ≡ kept_of (known && kept) (after_access s cpu h a)
 kept-on s cpu h a true true runs range is =
-    let both : (leaves_devices a ≡ true) × (is_none (edges_of s h a) ≡ true) = and-both _ _ (sym is) in
+    let both : (leaves_lines a ≡ true) × (is_none (edges_of s h a) ≡ true) = and-both _ _ (sym is) in
     ap (λ (o : Option ℕ). record { known = true; code = code_or_none o; ns = number_or_0 o })
     (sym (next-left s cpu h a runs range both.0 (none-nil _ both.1)))
 kept-on s cpu h a true false runs range is = refl
@@ -152,11 +162,11 @@ known-where false k = right k.known where
 module _ (s : BoardParts) (cpu h : ℕ) (a : Access) (after : BoardParts) (r : Reply) where
   pub still-next :
       (old new : KeptEdge) (kept : Bool) → 0 < s.anchor.khz → now_of after < RANGE_NS → after ≡ after_access s cpu h a → r ≡ reply_of s cpu h a
-      → old ≡ kept_of old.known s → kept ≡ (leaves_devices a && is_none r.edges) → new ≡ cond kept old no_kept → new ≡ kept_of new.known after
+      → old ≡ kept_of old.known s → kept ≡ (leaves_lines a && is_none r.edges) → new ≡ cond kept old no_kept → new ≡ kept_of new.known after
   unfolding reply_of
   still-next old new kept runs range state answer keeps is next =
       let inside : now_of (after_access s cpu h a) < RANGE_NS = subst (λ (x : BoardParts). now_of x < RANGE_NS) state range in
-      let none : kept ≡ (leaves_devices a && is_none (edges_of s h a)) = is ∙ ap (λ (x : Reply). leaves_devices a && is_none x.edges) answer in
+      let none : kept ≡ (leaves_lines a && is_none (edges_of s h a)) = is ∙ ap (λ (x : Reply). leaves_lines a && is_none x.edges) answer in
       let on : new ≡ kept_of (old.known && kept) after =
       next ∙ ap (λ (k : KeptEdge). cond kept k no_kept) keeps ∙ kept-on s cpu h a old.known kept runs inside none
       ∙ ap (kept_of (old.known && kept)) (sym state) in
@@ -167,12 +177,12 @@ module _ (s : BoardParts) (cpu h : ℕ) (a : Access) (after : BoardParts) (r : R
       (seal : ℕ) (shared : Bool) (b : CallerBoard) (old new : KeptEdge) (kept : Bool)
       → record { seal = seal; shared = shared; known = old.known; state = s } ≡ b → refusal_of s cpu h a ≡ None
       → after ≡ after_access s cpu h a → r ≡ reply_of s cpu h a
-      → kept ≡ (leaves_devices a && is_none r.edges) → new ≡ cond kept old no_kept
+      → kept ≡ (leaves_lines a && is_none r.edges) → new ≡ cond kept old no_kept
       → record { seal = seal; shared = shared; known = new.known; state = after } ≡ answered b cpu h a
   unfolding reply_of
   answered-is seal shared b old new kept of taken state answer is next =
       let keeps : kept ≡ keeps_next s cpu h a =
-      is ∙ ap (λ (x : Reply). leaves_devices a && is_none x.edges) answer
+      is ∙ ap (λ (x : Reply). leaves_lines a && is_none x.edges) answer
       ∙ sym (ap (λ (o : Option Refusal). keeps_unless o s h a) taken) in
       let known : new.known ≡ (old.known && keeps_next s cpu h a) =
       ap (λ (k : KeptEdge). k.known) next ∙ known-where kept old ∙ ap (λ (x : Bool). old.known && x) keeps in
@@ -187,26 +197,26 @@ unfolding after_run
 runs-caught s lag joined = omega (arith, joined.rates.host.slow)
 
 -- an access that is only counted leaves it
-passive-leaves : (a : Access) → is_passive a ≡ true → true ≡ (leaves_devices a && is_none [])
-passive-leaves = by-kind (λ a. true ≡ (leaves_devices a && is_none [])) refl (λ offset width. refl)
+passive-leaves : (a : Access) → is_passive a ≡ true → true ≡ (leaves_lines a && is_none [])
+passive-leaves = by-kind (λ a. true ≡ (leaves_lines a && is_none [])) refl (λ offset width. refl) (λ port is. ap (λ (b : Bool). b && true) (sym is))
 
 reply_with : ℕ → Value → Reply
 reply_with number value = record { number = number; value = value; edges = []; bursts = [] }
 
 module _ (s after : BoardParts) (cpu h : ℕ) (a : Access) (number : ℕ) (passive : is_passive a ≡ true) (is : IsPassed s cpu h a number after) where
-  pub passed-next : (old : KeptEdge) → 0 < s.anchor.khz → old ≡ kept_of old.known s → old ≡ kept_of old.known after
+  pub passed-next : (old : KeptEdge) → 0 < s.anchor.khz → old ≡ kept_of old.known s → old ≡ kept_of old.known (left_by a after)
   unfolding reply_with
   passed-next old runs keeps =
-      still-next s cpu h a after (reply_with number (value_at after cpu h a)) old old true runs is.range is.state (sym is.reply) keeps
-      (passive-leaves a passive) refl
+      still-next s cpu h a (left_by a after) (reply_with number (value_at after cpu h a)) old old true runs
+      (subst (λ (t : ℕ). t < RANGE_NS) (sym (now-left a after)) is.range) is.state (sym is.reply) keeps (passive-leaves a passive) refl
 
   pub passed-answered : (seal : ℕ) (shared : Bool) (b : CallerBoard) (old : KeptEdge)
       → record { seal = seal; shared = shared; known = old.known; state = s } ≡ b
-      → record { seal = seal; shared = shared; known = old.known; state = after } ≡ answered b cpu h a
+      → record { seal = seal; shared = shared; known = old.known; state = left_by a after } ≡ answered b cpu h a
   unfolding reply_with
   passed-answered seal shared b old of =
-      answered-is s cpu h a after (reply_with number (value_at after cpu h a)) seal shared b old old true of is.taken is.state (sym is.reply)
-      (passive-leaves a passive) refl
+      answered-is s cpu h a (left_by a after) (reply_with number (value_at after cpu h a)) seal shared b old old true of is.taken is.state
+      (sym is.reply) (passive-leaves a passive) refl
 
 -- a read of the clock leaves it
 clock-where : (known timed : Bool) (s t : BoardParts) → kept_of known t ≡ kept_of known s → kept_of known (cond timed t s) ≡ kept_of known s

@@ -8,7 +8,7 @@ use Rattle.tsc_scale.specs.Offset.{tsc_by}
 use Rattle.hv_page.specs.Time.{reference_time, units_of}
 use Rattle.board_types.specs.declared.access.TickSource.TheVariants.{Pit, Rtc, Hpet, Apic}
 use Rattle.board_types.specs.declared.reply.Value.TheVariants.{Byte, Wall}
-use Rattle.board_types.specs.declared.access.Access.TheVariants.{HpetRead, MsrWrite, PortOut, Refresh}
+use Rattle.board_types.specs.declared.access.Access.TheVariants.{HpetRead, MsrWrite, PortIn, PortOut, Refresh}
 use Rattle.board_types.specs.declared.parts.BoardParts.{BoardParts}
 use Rattle.clockboard_c.specs.declared.board.TheConstants.{SEAL}
 use Rattle.clockboard_c.specs.declared.code.TheConstants.{OK, NOT_OURS, OUT_OF_RANGE, SHARED, NOT_SHARED}
@@ -17,7 +17,7 @@ use Rattle.clockboard_c.specs.declared.shared.FiveWords.{FiveWords}
 use Rattle.clockboard_c.specs.declared.shared.RateWords.{RateWords}
 use Rattle.clockboard_c.specs.declared.shared.TheConstants.{RATES_SEAL}
 use Rattle.clockboard_c.specs.Kept.{CallerBoard}
-use Rattle.clockboard_c.specs.Call.{source_of, sealed, access_code, early_code, leaves_devices}
+use Rattle.clockboard_c.specs.Call.{source_of, sealed, access_code, early_code, leaves_lines}
 use Rattle.clockboard_c.specs.Shared.{last_count, open_code, opened, hv_reading_code, hv_reading_told}
 use Rattle.clockboard_c.specs.States.{save_code}
 use Rattle.clockboard_c.specs.Calendar.{setup_at, setup_at_code}
@@ -157,6 +157,6 @@ hv_units = refl
 no_hv_page : hv_reading_code (alike 3) half 20 ≡ NOT_OURS
 no_hv_page = refl
 
--- a read of the HPET leaves a next edge as it was, if no line changed on the way, and a write of a port doesn't
-edge_left : map leaves_devices (HpetRead 0xf0 8 ∷ PortOut 0x70 0 ∷ []) ≡ true ∷ false ∷ []
+-- a read of the HPET or the 8254 leaves a next edge as it was, if no line changed on the way; a read of the MC146818, and a write of a port, don't
+edge_left : map leaves_lines (HpetRead 0xf0 8 ∷ PortIn 0x61 ∷ PortIn 0x71 ∷ PortOut 0x70 0 ∷ []) ≡ true ∷ true ∷ false ∷ false ∷ []
 edge_left = refl

@@ -9,6 +9,7 @@ use Rattle.board_core.specs.Time.{now_of}
 use Rattle.board_core.specs.Access.{value_at, reply_of, after_access}
 use Rattle.board_core.specs.Lazy.{IsPassed}
 use Rattle.board_core.specs.Refusals.{refusal_of}
+use Rattle.board_core.proofs.Passive.{now-left}
 use Rattle.clockboard_c.specs.declared.reply.ReplyWords.{ReplyWords}
 use Rattle.clockboard_c.specs.Replies.{Told, told_of, value_words, without_edges, IsReply}
 use Rattle.clockboard_c.specs.declared.code.TheConstants.{OK}
@@ -37,4 +38,4 @@ pub says-passed :
 unfolding reply_with
 says-passed old new s after cpu h a number now v is time value words =
     says-answer old new s cpu h a (reply_with number v) now is.taken (ap (reply_with number) value ∙ sym is.reply)
-    (time ∙ ap now_of is.state) words
+    (time ∙ sym (now-left a after) ∙ ap now_of is.state) words

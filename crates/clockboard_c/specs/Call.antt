@@ -21,6 +21,7 @@ use Rattle.std.specs.Prelude.{
   None,
 }
 use Rattle.irq_edges.specs.declared.edges.Edge.{Edge}
+use Rattle.pit_readback.specs.Ports.{is_pit_port}
 use Rattle.board_types.specs.declared.access.Access.{Access}
 use Rattle.board_types.specs.declared.access.Access.TheVariants.{
   PortIn,
@@ -111,23 +112,24 @@ told b cpu h a = told_or (early_code b cpu a) b.state cpu h a
 abbrev pub shared_told : CallerBoard → ℕ → ℕ → Access → Told
 shared_told b cpu h a = told_or (shared_code b cpu a) b.state cpu h a
 
--- an access that asks the devices to do nothing, or only reads the HPET
-abbrev pub leaves_devices : Access → Bool
-leaves_devices (PortIn port) = false
-leaves_devices (PortOut port byte) = false
-leaves_devices (HpetWrite offset width value) = false
-leaves_devices (Ack line) = false
-leaves_devices _ = true
+-- an access after which the lines go on as they would without it: it asks the devices to do nothing, or
+-- only reads the HPET or the 8254
+abbrev pub leaves_lines : Access → Bool
+leaves_lines (PortIn port) = is_pit_port port
+leaves_lines (PortOut port byte) = false
+leaves_lines (HpetWrite offset width value) = false
+leaves_lines (Ack line) = false
+leaves_lines _ = true
 
 abbrev pub is_none : List Edge → Bool
 is_none [] = true
 is_none (e ∷ es) = false
 
--- whether a next edge that was kept stays: the access leaves the devices, and no line changed; or it
--- is refused
+-- whether a next edge that was kept stays: the access leaves the lines to go on as they would, and none
+-- changed; or it is refused
 abbrev pub keeps_unless : Option Refusal → BoardParts → ℕ → Access → Bool
 keeps_unless (Some refusal) s h a = true
-keeps_unless None s h a = leaves_devices a && is_none (edges_of s h a)
+keeps_unless None s h a = leaves_lines a && is_none (edges_of s h a)
 
 abbrev pub keeps_next : BoardParts → ℕ → ℕ → Access → Bool
 keeps_next s cpu h a = keeps_unless (refusal_of s cpu h a) s h a

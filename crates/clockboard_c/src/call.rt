@@ -8,7 +8,7 @@ ghost use Rattle.clockboard_c.specs.Call.{
   early_code,
   publishes,
   shared_code,
-  leaves_devices,
+  leaves_lines,
   is_none,
   IsTaken,
   HasAnswered,
@@ -19,7 +19,7 @@ ghost use Rattle.clockboard_c.specs.Call.{
 use crate::board::{Board, SEAL};
 use crate::code::{NO_BOARD, NO_PROCESSOR, NOT_OURS, NOT_SHARED, OK, SHARED, code_of};
 use crate::reply::{ReplyWords, value_words};
-use board_core::{BoardState, Lag, is_passive, published_by, publishes_hv};
+use board_core::{BoardState, Lag, is_passive, is_pit_port, published_by, publishes_hv};
 use board_types::{Access, Reply};
 use irq_edges::EdgeList;
 
@@ -104,7 +104,7 @@ fn access_code(state: &BoardState, cpu: u8, access: Access) -> Option<u32>
     None
 }
 
-/// The board's answer. What changes nothing is only counted where nothing comes before it that could be seen.
+/// The board's answer. A passive access is only counted where nothing comes before it that could be seen.
 #[inline(always)]
 fn answer(board: &mut Board, cpu: u8, host: u64, access: Access, reply: &mut ReplyWords)
     requires { IsTaken (seen board.old).state cpu access }
@@ -129,8 +129,9 @@ fn count(board: &mut Board, cpu: u8, host: u64, access: Access, reply: &mut Repl
     let later = board.state.count(&mut board.lag, host);
     let now_ns = now_after(&board.state, &board.lag, later, board.now_ns);
     board.now_ns = now_ns;
-    let value = board.state.passive_value(&board.lag, now_ns, access);
-    reply.put_head(OK, board.state.accesses(), now_ns, value_words(value));
+    let number = board.state.accesses();
+    let value = board.state.take_passive(&board.lag, now_ns, access);
+    reply.put_head(OK, number, now_ns, value_words(value));
 }
 
 /// The time of a board that lags, which is the one before unless a later count was counted.
@@ -171,24 +172,23 @@ fn run(board: &mut Board, cpu: u8, host: u64, access: Access, reply: &mut ReplyW
     }
 }
 
-/// Whether the next edge is what it was: the access leaves the devices, and no line changed.
+/// Whether the next edge is what it was: the access leaves the lines to go on as they would, and none changed.
 #[inline(always)]
 fn keeps_next(access: Access, edges: &EdgeList) -> bool
-    ensures { result ≡ (leaves_devices access && is_none edges.now) }
+    ensures { result ≡ (leaves_lines access && is_none edges.now) }
 {
-    leaves_devices(access) && edges.is_empty()
+    leaves_lines(access) && edges.is_empty()
 }
 
-/// Whether an access asks the devices to do nothing, or only reads the HPET.
+/// Whether the lines go on after an access as they would without it: it asks the devices to do nothing, or only reads the
+/// HPET or the 8254.
 #[inline(always)]
-fn leaves_devices(access: Access) -> bool
-    ensures { result ≡ leaves_devices access }
+fn leaves_lines(access: Access) -> bool
+    ensures { result ≡ leaves_lines access }
 {
-    !matches!(
-        access,
-        Access::PortIn { .. }
-            | Access::PortOut { .. }
-            | Access::HpetWrite { .. }
-            | Access::Ack { .. }
-    )
+    match access {
+        Access::PortIn { port } => is_pit_port(port),
+        Access::PortOut { .. } | Access::HpetWrite { .. } | Access::Ack { .. } => false,
+        _ => true,
+    }
 }

@@ -8,7 +8,7 @@ use Rattle.board_types.specs.declared.parts.BoardParts.{BoardParts}
 use Rattle.board_types.specs.declared.reply.Reply.{Reply}
 use Rattle.board_types.specs.declared.reply.Value.{Value}
 use Rattle.board_core.specs.Access.{after_run, value_at, reply_of}
-use Rattle.board_core.specs.Lazy.{caught_up, IsPassed}
+use Rattle.board_core.specs.Lazy.{left_by, caught_up, IsLazy, IsPassed}
 use Rattle.board_core.specs.Outcome.{IsAsked}
 use Rattle.board_types.specs.declared.access.Access.{Access}
 use Rattle.board_core.proofs.Joins.{after_run-zero}
@@ -34,7 +34,11 @@ returns-then-counts-clause-outcome c =
     c.count-later.ensures.passed cpu c.args.a (sym c.is_passive-passive.ensures ∙ c.if-passive.true) in
     let read : c.match-a.reply ≡ value_at next cpu h c.args.a = elim c.match-a.branch [
       | in-Step w ↦ w.reply-is ∙ value-of-step next cpu h ∙ ap (value_at next cpu h) (sym w.in-Step.is)
-      | in_default w ↦ w.reply-is ∙ w.counted_value-reply.ensures cpu h
+      | in_default w ↦ w.reply-is ∙ w.counted_value-reply.ensures.value cpu h
+    ] in
+    let left : caught_up c.match-a.self c.count-later.new.lag ≡ left_by c.args.a next = elim c.match-a.branch [
+      | in-Step w ↦ ap (λ (x : BoardParts). caught_up x c.count-later.new.lag) w.self-is ∙ ap (λ (x : Access). left_by x next) (sym w.in-Step.is)
+      | in_default w ↦ ap (λ (x : BoardParts). caught_up x c.count-later.new.lag) w.self-is ∙ w.counted_value-reply.ensures.state
     ] in
     let replied : reply c.self.inside.accesses c.match-a.reply before.edges before.bursts ≡ reply_of b cpu h c.args.a =
     ap (λ (x : BoardParts). reply x.accesses c.match-a.reply before.edges before.bursts) c.self.view_is
@@ -48,11 +52,19 @@ returns-then-counts-clause-outcome c =
       untouched = tt;
       taken = passed.taken;
       reply = replied;
-      state = passed.state;
+      state = left ∙ passed.state;
       of_lines = subst (All IsOfLine) (sym c.requires.asked.fresh.edges) (All-nil IsOfLine);
       few_run = omega (arith, ap length passed.still);
       few = omega (arith, ap length c.requires.asked.fresh.edges);
     }
+
+pub returns-then-counts-clause-lazy : goal.returns-then-counts-clause-lazy
+returns-then-counts-clause-lazy c = elim c.match-a.branch [
+  | in-Step w ↦ subst (λ (b : BoardParts). IsLazy b c.count-later.new.lag.host c.count-later.new.lag.horizon) (sym w.self-is)
+      c.count-later.ensures.lazy
+  | in_default w ↦ subst (λ (b : BoardParts). IsLazy b c.count-later.new.lag.host c.count-later.new.lag.horizon) (sym w.self-is)
+      w.counted_value-reply.ensures.lazy
+]
 
 -- one that runs the board, from where it lags
 asked : (b c : BoardParts) (host cpu : ℕ) (a : Access) (reply : Reply) → after_run b host ≡ c → IsAsked c cpu a reply → IsAsked b cpu a reply

@@ -7,19 +7,13 @@ use Rattle.board_core.specs.Conditions.{IsJoined}
 use Rattle.board_core.specs.Lazy.{caught_up}
 use Rattle.board_core.specs.Time.{now_of, time_of_access, devices_in}
 use Rattle.board_core.specs.View.{board_parts_of}
-use Rattle.board_core.proofs.Joins.{now-after_run}
-use Rattle.board_core.proofs.LazySteps.{range-caught}
+use Rattle.board_core.proofs.LazySteps.{now-lagging, range-caught}
 use Rattle.board_core.proofs.board.BoardState.main_counter.Goals as goal
 use Rattle.board_core.proofs.board.BoardState.main_counter.Goals.{After-self}
 
--- the board that lags, and its time
-abbrev kept : After-self → BoardParts
-kept c = board_parts_of c.self.inside
-
-now : (c : After-self) → c.args.now_ns ≡ time_of_access (kept c) c.args.lag.now.host
-now c =
-    c.requires.now ∙ ap (λ (x : BoardParts). now_of (caught_up x c.args.lag.now)) (sym c.self.view_is)
-    ∙ now-after_run (kept c) c.args.lag.now.host 0 (omega (arith, c.self.invariant.joined.rates.host.slow))
+-- the time to which the board lags
+now : (c : After-self) → c.args.now_ns ≡ time_of_access (board_parts_of c.self.inside) c.args.lag.now.host
+now c = now-lagging _ _ c.args.lag.now.host c.args.now_ns c.self.view_is c.self.invariant.joined c.requires.now
 
 pub main_counter-requires-clause-order : goal.main_counter-requires-clause-order
 main_counter-requires-clause-order c = omega (arith, c.self.invariant.time, now c)
