@@ -6,7 +6,8 @@ use Rattle.reply_text.specs.declared.ends.Refused.TheVariants.{Invalid, Versions
 use Rattle.race_phase.specs.Blocks.{delivery_of, message_to}
 use Rattle.trace_runner.specs.Deliveries.{deliveries_of}
 use Rattle.trace_runner.specs.Records.{refused_move}
-use Rattle.trace_runner.specs.Status.{number_of, refused_status}
+use Rattle.trace_runner.specs.Status.{number_of, verdict_status}
+use Rattle.trace_runner.specs.declared.status.Verdict.TheVariants.{Stopped}
 use Rattle.trace_runner.specs.declared.status.Status.TheVariants.{
   BadRecord,
   OutOfRange,
@@ -45,5 +46,5 @@ messages = refl
 numbers : map number_of (OutOfRange 3 0 ∷ Spent 3 0 ∷ VersionsSpent 3 0 ∷ []) ≡ 7 ∷ 8 ∷ 9 ∷ []
 numbers = refl
 
-a_counter_fell : refused_status 4 (Invalid (CounterFell 10)) ≡ BadRecord 4 (CounterFell 10)
+a_counter_fell : verdict_status (Stopped 4 (Invalid (CounterFell 10))) ≡ BadRecord 4 (CounterFell 10)
 a_counter_fell = refl
