@@ -71,11 +71,16 @@ fn edges_in(text: &[u8]) -> u64
 }
 
 impl Soak {
-    ghost use Rattle.trace_runner.specs.Soak.{sum_of};
+    ghost use Rattle.board_core.specs.Time.{now_of};
 
     /// What there is to print now.
     fn sum(&self) -> Sum
-        ensures { result ≡ sum_of self.now }
+        ensures { result ≡ record {
+          records = self.now.records;
+          edges = self.now.edges;
+          time = now_of self.now.replay.board;
+          greatest = self.now.replay.board.greatest;
+        } }
     {
         Sum {
             records: self.records,
@@ -87,14 +92,16 @@ impl Soak {
 }
 
 impl Sum {
-    ghost use Rattle.trace_runner.specs.Soak.{sum_text};
+    ghost use Rattle.reply_text.specs.Soak.{soak_text};
+    ghost use Rattle.trace_runner.specs.Soak.{sum_or};
 
     /// Puts what the end of the trace prints in the place of what the replay printed for it, from `whole` on. After an
     /// `Err` the text ends there.
     fn put(&self, verdict: Verdict, whole: usize, out: &mut Vec<u8>) -> Result<(), NoMemory>
         requires { whole ≤ vec_len out.old }
         ensures printed { OnOk result (out.new.items ≡ take whole out.old.items
-            ++ sum_text verdict (drop whole out.old.items) self.now) }
+            ++ sum_or (drop whole out.old.items) verdict
+            (soak_text self.now.records self.now.edges self.now.time self.now.greatest)) }
         ensures err { OnErr result (out.new.items ≡ take whole out.old.items) }
     {
         if let Verdict::Stopped { .. } = verdict {
