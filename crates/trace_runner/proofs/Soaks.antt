@@ -28,6 +28,8 @@ use Rattle.std.proofs.Common.{
 use Rattle.std.proofs.Math.Seq.{take-append_seam, drop-append_seam}
 use Rattle.std.specs.Io.KnownBytes.{Appends}
 use Rattle.board_io.specs.Faults.{Rose}
+use Rattle.board_core.specs.Time.{now_of}
+use Rattle.reply_text.specs.Soak.{soak_text}
 use Rattle.trace_loop.specs.Text.{memory_fault_text}
 use Rattle.trace_loop.specs.Progress.{
   limit_of,
@@ -53,7 +55,7 @@ use Rattle.trace_loop.specs.declared.ended.Ended.TheVariants.{
   NoMemory as WantsMemory,
 }
 use Rattle.trace_runner.specs.Replay.{answer_of}
-use Rattle.trace_runner.specs.Soak.{sum_of, sum_text, soaked, soak_answer, Soaked}
+use Rattle.trace_runner.specs.Soak.{sum_or, soaked, soak_answer, Soaked}
 use Rattle.trace_runner.specs.Status.{verdict_status, status_of}
 use Rattle.trace_runner.specs.declared.replay.Replay.{Replay}
 use Rattle.trace_runner.specs.declared.soak.Soak.{Soak}
@@ -61,7 +63,8 @@ use Rattle.trace_runner.specs.declared.status.Verdict.{Verdict}
 
 -- a line that ends the trace
 pub soaked-ends : (a : Answer Replay Verdict) (s : Soak) (v : Verdict) → end_of a ≡ Some v
-    → soaked a s ≡ Ends (record { text = sum_text v (printed a) (sum_of s); end = v })
+    → (let sum = soak_text s.records s.edges (now_of s.replay.board) s.replay.board.greatest in
+    soaked a s ≡ Ends (record { text = sum_or (printed a) v sum; end = v }))
 soaked-ends (Goes block r) s v e = cc
 soaked-ends (Ends closing) s v e = cc
 
