@@ -41,13 +41,13 @@ module _ (s : Checking) where
 
   -- phases: a page of processor 0 is read by 1, then the board is saved, and moved
   abbrev first : Checking
-  first = kept 4 (record { cpu = 1; h = 700; job = Ask (ReadPage 0) }) (record s { phases = []; last = []; taken = 0 })
+  first = kept 4 (record { cpu = 1; h = 700; job = Ask (ReadPage 0) }) (Ask (ReadPage 0)) (record s { phases = []; last = []; taken = 0 })
 
   abbrev saved : Checking
-  saved = kept 5 (record { cpu = 0; h = 900; job = Save }) first
+  saved = kept 5 (record { cpu = 0; h = 900; job = Save }) Save first
 
   abbrev moved : Checking
-  moved = kept 6 (record { cpu = 2; h = 950; job = Move 3000000 500 1000 }) saved
+  moved = kept 6 (record { cpu = 2; h = 950; job = Move 3000000 500 1000 }) (Move 3000000 500 1000) saved
 
   a_save_and_a_move_end_their_phases : (trace_of moved).phases
       ≡ record { records = record { line = 4; cpu = 1; h = 700; call = ReadPage 0 } ∷ []; end = BySave 5 0 900 }

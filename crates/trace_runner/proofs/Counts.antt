@@ -1,5 +1,6 @@
 -- Counts with a time and without, as answers to reads; and what an access prints.
 use Rattle.std.proofs.Common.{◌≡◌, ℕ, ◌≤◌, List, ◌++◌, Option, Some, None, Result, Ok, OnOk, OnErr, refl, sym, ap, subst, ◌∙◌}
+use Rattle.std.specs.Option.{option_map}
 use Rattle.std.proofs.Math.Seq.{take-length}
 use Rattle.std.proofs.lemmas.Result.{on_ok_weaker, on_err_weaker}
 use Rattle.std.proofs.lemmas.Bool.{lt-ltb, le-ltb, le-leb, lt-leb}
@@ -11,7 +12,7 @@ use Rattle.board_types.specs.declared.access.Access.{Access}
 use Rattle.board_types.specs.declared.parts.BoardParts.{BoardParts}
 use Rattle.board_types.specs.declared.reply.Refusal.{Refusal}
 use Rattle.board_types.specs.declared.reply.Reply.{Reply}
-use Rattle.board_core.specs.Access.{reply_of}
+use Rattle.board_core.specs.Access.{after_access, reply_of}
 use Rattle.board_core.specs.Refusals.{refusal_of}
 use Rattle.race_phase.specs.declared.deliveries.Deliveries.{Deliveries}
 use Rattle.race_phase.specs.Blocks.{block_of}
@@ -25,14 +26,15 @@ use Rattle.reply_text.specs.declared.ends.Reason.TheVariants.{CounterFell}
 use Rattle.reply_text.specs.declared.ends.Refused.TheVariants.{Invalid, Range}
 use Rattle.trace_text.specs.Records.{IsFittingCall}
 use Rattle.trace_text.specs.declared.records.Call.{Call}
+use Rattle.trace_text.specs.declared.records.Call.TheVariants.{Act}
 use Rattle.trace_loop.specs.Progress.{Answer, Goes, Ends, printed, end_of, state_after}
 use Rattle.trace_loop.specs.Answered.{IsAnswered}
 use Rattle.trace_runner.specs.Records.{
   refused_count,
   refused_fault,
-  access_answer,
-  board_answer,
-  read_answer,
+  refused_access,
+  answer_unless,
+  call_answer,
   stops,
 }
 use Rattle.trace_runner.specs.Replay.{with_board}
@@ -67,11 +69,11 @@ faulted b h (OutOfRange ns) is =
 -- a read of a board, which is kept elsewhere as the same: at a count with a time it prints its text, and leaves its board
 module _ (text : BoardParts → List ℕ) (changed : BoardParts → BoardParts) (line h : ℕ) (r : Replay) where
   abbrev pub read_of : BoardParts → Answer Replay Verdict
-  read_of b = with_board (read_answer (refused_count b h) line (text b) (changed b)) r
+  read_of b = with_board (answer_unless (refused_count b h) line (text b) (changed b)) r
 
   module _ (b c : BoardParts) (same : b ≡ c) where
     goes : HasTime b.anchor h → read_of c ≡ Goes (text b) (record r { board = changed b })
-    goes t = ap read_of (sym same) ∙ ap (λ (o : Option Refused). with_board (read_answer o line (text b) (changed b)) r) (counted b h t)
+    goes t = ap read_of (sym same) ∙ ap (λ (o : Option Refused). with_board (answer_unless o line (text b) (changed b)) r) (counted b h t)
 
     pub read-answered : (after : BoardParts) (out new : List ℕ) (end : Option Verdict) → HasTime b.anchor h → after ≡ changed b
         → new ≡ out ++ text b → end ≡ None → (let done : Result (Unit {0}) NoMemory = Ok tt in
@@ -85,7 +87,7 @@ module _ (text : BoardParts → List ℕ) (changed : BoardParts → BoardParts) 
 
     -- and at one without it is refused
     stopped : (fault : TimeFault) → IsFaultAt b.anchor h fault → read_of c ≡ Ends (stops line (refused_fault fault))
-    stopped fault is = ap read_of (sym same) ∙ ap (λ (o : Option Refused). with_board (read_answer o line (text b) (changed b)) r) (faulted b h fault is)
+    stopped fault is = ap read_of (sym same) ∙ ap (λ (o : Option Refused). with_board (answer_unless o line (text b) (changed b)) r) (faulted b h fault is)
 
     pub refused-answered : (res : Result (Unit {0}) NoMemory) (fault : TimeFault) (why : Refused) (after : Replay) (out new : List ℕ) (end : Option Verdict)
         → IsFaultAt b.anchor h fault → why ≡ refused_fault fault → OnOk res (new ≡ out ++ refused_text line why) → OnOk res (end ≡ Some (Stopped line why))
@@ -101,7 +103,8 @@ module _ (text : BoardParts → List ℕ) (changed : BoardParts → BoardParts) 
 -- an access that is taken prints its block
 pub access-printed : (line cpu h : ℕ) (a : Access) (ds : Deliveries) (b : BoardParts) (r : Replay) (reply : Reply) (out : List ℕ)
     → refusal_of b cpu h a ≡ None → reply ≡ reply_of b cpu h a
-    → out ++ block_of ds line (Acted reply) ≡ out ++ printed (with_board (board_answer line cpu h a ds b) r)
+    → out ++ block_of ds line (Acted reply) ≡ out ++ printed (with_board (call_answer line cpu h (Act a) ds b) r)
 access-printed line cpu h a ds b r reply out taken is =
     ap (λ (x : Reply). out ++ block_of ds line (Acted x)) is
-    ∙ ap (λ (o : Option Refusal). out ++ printed (with_board (access_answer o line cpu h a ds b) r)) (sym taken)
+    ∙ ap (λ (o : Option Refusal). out ++ printed (with_board
+    (answer_unless (option_map refused_access o) line (block_of ds line (Acted (reply_of b cpu h a))) (after_access b cpu h a)) r)) (sym taken)

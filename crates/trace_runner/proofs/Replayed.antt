@@ -7,8 +7,9 @@ use Rattle.race_phase.specs.Phases.{next_board}
 use Rattle.race_phase.specs.Tallies.{TallyParts, IsTally}
 use Rattle.race_phase.specs.declared.phases.End.{End}
 use Rattle.trace_text.specs.declared.records.Call.{Call}
+use Rattle.trace_text.specs.declared.records.Job.TheVariants.{Ask}
 use Rattle.race_phase.specs.declared.records.Record.{Record}
-use Rattle.trace_runner.specs.Check.{with_call, ended_by, with_end}
+use Rattle.trace_runner.specs.Check.{ended_by, kept, with_end}
 use Rattle.trace_runner.specs.Checking.{Checking}
 use Rattle.trace_runner.specs.Replayed.{board_after_phases, records_after, replayed, on_board}
 use Rattle.race_phase.specs.declared.phases.Phase.{Phase}
@@ -32,7 +33,7 @@ replayed-end b (x ∷ xs) v = replayed-end (next_board x.end (records_after b x.
 pub pushed : (s : Checking) (line : ℕ) (rec : Written) (call : Call) (b : BoardParts) (rs : List Record) → b ≡ board_after_phases s.replay.board rec.cpu rec.h call
     → rs ≡ s.last ++ record { line = line; cpu = rec.cpu; h = rec.h; call = call } ∷ []
     → record s { replay = record s.replay { board = b }; last = rs; taken = s.taken + 1 }
-    ≡ with_call line rec call (on_board (board_after_phases s.replay.board rec.cpu rec.h call) s)
+    ≡ kept line rec (Ask call) (on_board (board_after_phases s.replay.board rec.cpu rec.h call) s)
 pushed s line rec call b rs e f = λ i. record s { replay = record s.replay { board = e i }; last = f i; taken = s.taken + 1 }
 
 -- or ends its phase

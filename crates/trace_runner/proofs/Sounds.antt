@@ -5,7 +5,6 @@ use Rattle.std.proofs.Common.{
   ◌<◌,
   ◌≤◌,
   ◌^◌,
-  true,
   List,
   [],
   ◌∷◌,
@@ -26,20 +25,16 @@ use Rattle.trace_text.specs.Header.{board_of}
 use Rattle.std.specs.Option.{option_map}
 use Rattle.std.proofs.lemmas.List.Elements.{All-nil, All-push}
 use Rattle.host_counter.specs.declared.TimeFault.{TimeFault}
-use Rattle.board_types.specs.Legal.{is_legal}
 use Rattle.board_types.specs.declared.access.Access.{Access}
 use Rattle.board_types.specs.declared.parts.BoardParts.{BoardParts}
 use Rattle.board_types.specs.declared.reply.Refusal.{Refusal}
 use Rattle.board_core.specs.Time.{time_fault}
 use Rattle.board_core.specs.Access.{after_access}
-use Rattle.board_core.specs.Hv.{hv_reply}
-use Rattle.board_types.specs.declared.setup.TheConstants.{HV_FORMAT}
-use Rattle.board_core.specs.Pages.{page_reply, clock_reply, after_clock, with_greatest}
+use Rattle.board_core.specs.Pages.{after_clock, with_greatest}
 use Rattle.board_core.specs.Refusals.{refusal_of}
 use Rattle.board_core.proofs.Laws.{after_access-greatest, refusal_of-greatest}
 use Rattle.race_phase.specs.declared.faults.Cause.TheVariants.{Access as ByAccess, Count as ByCount}
 use Rattle.race_phase.specs.declared.deliveries.Deliveries.{Deliveries}
-use Rattle.reply_text.specs.Text.{page_text, clock_text, hv_text}
 use Rattle.reply_text.specs.declared.ends.Refused.{Refused}
 use Rattle.trace_text.specs.declared.header.Header.{Header}
 use Rattle.trace_text.specs.declared.records.Job.{Job}
@@ -49,24 +44,21 @@ use Rattle.trace_loop.specs.Progress.{Answer, Goes, Ends}
 use Rattle.trace_runner.specs.Records.{
   refused_count,
   refused_fault,
-  access_answer,
-  read_answer,
+  refused_access,
+  answer_unless,
+  call_answer,
   ended_answer,
-  board_answer,
-  page_answer,
-  clock_answer,
-  hv_answer,
   end_answer,
   job_answer,
 }
-use Rattle.trace_runner.specs.Replay.{opening}
+use Rattle.trace_runner.specs.Replay.{with_header}
 use Rattle.trace_runner.specs.Ready.{JobSuits}
 use Rattle.trace_text.specs.Records.{IsFittingCall}
 use Rattle.race_phase.specs.Calls.{IsFitting}
-use Rattle.race_phase.specs.Order.{at_line, record_fault, after_record, after_records, records_fault}
+use Rattle.race_phase.specs.Order.{at_line, call_cause, record_fault, after_call, after_record, after_records, records_fault}
 use Rattle.race_phase.specs.Phases.{IsPhase, IsEnd, next_board, end_fault}
 use Rattle.race_phase.specs.declared.faults.Fault.{Fault}
-use Rattle.trace_runner.specs.Check.{with_call, with_end, ended_by, kept_job, begun, read_on}
+use Rattle.trace_runner.specs.Check.{unchecked, with_end, ended_by, kept, read_on}
 use Rattle.trace_runner.specs.Checking.{Checking}
 use Rattle.trace_runner.specs.Free.{after_phases, IsFree}
 use Rattle.trace_runner.specs.Sound.{IsSound}
@@ -104,21 +96,23 @@ module _ (b : BoardParts) (g line cpu h : ℕ) (ds : Deliveries) where
   free : (a : Access) → refusal_of (with_greatest b g) cpu h a ≡ None → refusal_of b cpu h a ≡ None
   free a is = sym (refusal_of-greatest b cpu h g a) ∙ is
 
-  act_goes : (o : Option Refusal) (a : Access) → refusal_of (with_greatest b g) cpu h a ≡ o
-      → Goes_on (at_line line (option_map ByAccess (refusal_of b cpu h a))) (after_access b cpu h a) (access_answer o line cpu h a ds (with_greatest b g))
-  act_goes None a is = (ap (λ (x : Option Refusal). at_line line (option_map ByAccess x)) (free a is), (g, after_access-greatest b cpu h g a))
-  act_goes (Some refusal) a is = tt
+  act_goes : (o : Option Refusal) (a : Access) (text : List ℕ) → refusal_of (with_greatest b g) cpu h a ≡ o
+      → Goes_on (at_line line (call_cause b cpu h (Act a))) (after_access b cpu h a)
+      (answer_unless (option_map refused_access o) line text (after_access (with_greatest b g) cpu h a))
+  act_goes None a text is = (ap (λ (x : Option Refusal). at_line line (option_map ByAccess x)) (free a is), (g, after_access-greatest b cpu h g a))
+  act_goes (Some refusal) a text is = tt
 
   read_goes : (o : Option Refused) (text : List ℕ) (m : ℕ) → refused_count (with_greatest b g) h ≡ o
-      → Goes_on (at_line line (option_map ByCount (time_fault b.anchor h))) b (read_answer o line text (with_greatest b m))
+      → Goes_on (at_line line (option_map ByCount (time_fault b.anchor h))) b (answer_unless o line text (with_greatest b m))
   read_goes None text m is = (ap (λ (x : Option TimeFault). at_line line (option_map ByCount x)) (timed (with_greatest b g) h is), (m, refl))
   read_goes (Some why) text m is = tt
 
-  clock_goes : (page : ℕ) → Goes_on (at_line line (option_map ByCount (time_fault b.anchor h))) b (clock_answer line page h (with_greatest b g))
+  call_goes : (call : Call) → Goes_on (at_line line (call_cause b cpu h call)) (after_call b cpu h call) (call_answer line cpu h call ds (with_greatest b g))
   unfolding after_clock
-  clock_goes page =
-      read_goes (refused_count (with_greatest b g) h) (clock_text line (clock_reply (with_greatest b g) page h))
-      (after_clock (with_greatest b g) page h).greatest refl
+  call_goes (Act a) = act_goes _ a _ refl
+  call_goes (ReadPage page) = read_goes _ _ g refl
+  call_goes (ReadClock page) = read_goes _ _ (after_clock (with_greatest b g) page h).greatest refl
+  call_goes ReadHv = read_goes _ _ g refl
 
 end_goes : (b : BoardParts) (g : ℕ) (ds : Deliveries) (end : End) (o : Option Fault) → end_fault (with_greatest b g) end ≡ o
     → Goes_on (end_fault b end) (next_board end b) (ended_answer o end ds (with_greatest b g))
@@ -150,7 +144,7 @@ ended_free end s sound few fits none =
 call_kept : (line : ℕ) (rec : Written) (call : Call) (s : Checking) (x : Answer BoardParts Verdict) → IsSound s → rec.cpu < s.opening.cpus
     → IsFittingCall s.opening.cpus s.opening.format call → Same s.replay.board x
     → (let r : Record = record { line = line; cpu = rec.cpu; h = rec.h; call = call } in Goes_on (record_fault (now s) r) (after_record (now s) r) x
-    → Keeps (with_call line rec call) s x)
+    → Keeps (kept line rec (Ask call)) s x)
 call_kept line rec call s (Goes text b) sound there fits same = λ goes.
     let r : Record = record { line = line; cpu = rec.cpu; h = rec.h; call = call } in
     let p : BoardParts = after_phases s.opening s.phases in
@@ -184,7 +178,7 @@ end_kept end s (Ends closing) sound few fits same goes = tt
 
 -- a record that suits the board, and is answered on it
 pub job_kept : (line : ℕ) (rec : Written) (job : Job) (s : Checking) → IsSound s → s.taken ≤ 200000 → rec.cpu < s.replay.board.cpus
-    → JobSuits job s.replay.board → Keeps (kept_job line rec job) s (job_answer line rec.cpu rec.h job s.replay.deliveries s.replay.board)
+    → JobSuits job s.replay.board → Keeps (kept line rec job) s (job_answer line rec.cpu rec.h job s.replay.deliveries s.replay.board)
 job_kept line rec job s sound few there suits = by_job job suits
   where
     ds : Deliveries
@@ -204,32 +198,13 @@ job_kept line rec job s sound few there suits = by_job job suits
         (end_goes (now s) sound.greatest s.replay.deliveries end (end_fault (with_greatest (now s) sound.greatest) end) refl))
 
     by_job : (j : Job) → JobSuits j s.replay.board
-        → Keeps (kept_job line rec j) s (job_answer line rec.cpu rec.h j s.replay.deliveries s.replay.board)
-    by_job (Ask (Act a)) legal =
-        call_kept line rec (Act a) s _ sound cpu
-        (subst (λ (n : ℕ). is_legal n s.opening.format a ≡ true) sound.cpus
-        (subst (λ (f : ℕ). is_legal s.replay.board.cpus f a ≡ true) sound.format legal)) (same (Ask (Act a)))
-        (subst (λ (c : BoardParts). Goes_on (at_line line (option_map ByAccess (refusal_of (now s) rec.cpu rec.h a))) (after_access (now s) rec.cpu rec.h a)
-        (board_answer line rec.cpu rec.h a s.replay.deliveries c)) (sym sound.board)
-        (act_goes (now s) sound.greatest line rec.cpu rec.h s.replay.deliveries
-        (refusal_of (with_greatest (now s) sound.greatest) rec.cpu rec.h a) a refl))
-    by_job (Ask (ReadPage page)) inside =
-        call_kept line rec (ReadPage page) s _ sound cpu (subst (λ (n : ℕ). page < n) sound.cpus inside) (same (Ask (ReadPage page)))
-        (subst (λ (c : BoardParts). Goes_on (at_line line (option_map ByCount (time_fault (now s).anchor rec.h))) (now s) (page_answer line page rec.h c))
-        (sym sound.board)
-        (read_goes (now s) sound.greatest line rec.cpu rec.h s.replay.deliveries (refused_count (with_greatest (now s) sound.greatest) rec.h)
-        (page_text line (page_reply (with_greatest (now s) sound.greatest) page rec.h)) sound.greatest refl))
-    by_job (Ask (ReadClock page)) inside =
-        call_kept line rec (ReadClock page) s _ sound cpu (subst (λ (n : ℕ). page < n) sound.cpus inside) (same (Ask (ReadClock page)))
-        (subst (λ (c : BoardParts). Goes_on (at_line line (option_map ByCount (time_fault (now s).anchor rec.h))) (now s) (clock_answer line page rec.h c))
-        (sym sound.board)
-        (clock_goes (now s) sound.greatest line rec.cpu rec.h s.replay.deliveries page))
-    by_job (Ask ReadHv) has =
-        call_kept line rec ReadHv s _ sound cpu (subst (λ (n : ℕ). HV_FORMAT ≤ n) sound.format has) (same (Ask ReadHv))
-        (subst (λ (c : BoardParts). Goes_on (at_line line (option_map ByCount (time_fault (now s).anchor rec.h))) (now s) (hv_answer line rec.h c))
-        (sym sound.board)
-        (read_goes (now s) sound.greatest line rec.cpu rec.h s.replay.deliveries (refused_count (with_greatest (now s) sound.greatest) rec.h)
-        (hv_text line (hv_reply (with_greatest (now s) sound.greatest) rec.h)) sound.greatest refl))
+        → Keeps (kept line rec j) s (job_answer line rec.cpu rec.h j s.replay.deliveries s.replay.board)
+    by_job (Ask call) suited =
+        let r : Record = record { line = line; cpu = rec.cpu; h = rec.h; call = call } in
+        call_kept line rec call s _ sound cpu (subst (λ (z : ℕ × ℕ). IsFittingCall z.0 z.1 call) (λ k. (sound.cpus k, sound.format k)) suited)
+        (same (Ask call))
+        (subst (λ (c : BoardParts). Goes_on (record_fault (now s) r) (after_record (now s) r) (call_answer line rec.cpu rec.h call ds c)) (sym sound.board)
+        (call_goes (now s) sound.greatest line rec.cpu rec.h ds call))
     by_job Save suited = by_end (BySave line rec.cpu rec.h) cpu (same Save)
     by_job (Move khz start gap) rate =
         by_end (ByMove line rec.cpu rec.h (record { khz = khz; start = start; gap = gap })) (cpu, rate) (same (Move khz start gap))
@@ -250,7 +225,7 @@ read_sound text s sound = record {
 nothing_free : (b : BoardParts) → IsFree b []
 nothing_free b = record { fit = All-nil (IsPhase b.cpus b.format); free = refl }
 
-pub begun_sound : (header : Header) (s : Checking) → IsSound (begun header s)
+pub begun_sound : (header : Header) (s : Checking) → IsSound (unchecked (with_header header s.replay))
 begun_sound header s =
     let b : BoardParts = board_of header.begin in
     record {

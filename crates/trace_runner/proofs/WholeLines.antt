@@ -32,18 +32,15 @@ use Rattle.std.proofs.Common.{
   append-nil,
 }
 use Rattle.std.specs.Fmt.{signed_decimal}
-use Rattle.board_types.specs.declared.access.Access.{Access}
 use Rattle.board_types.specs.declared.access.Access.TheVariants.{Step}
 use Rattle.board_types.specs.declared.parts.BoardParts.{BoardParts}
 use Rattle.board_types.specs.declared.reply.Reply.{Reply}
-use Rattle.board_types.specs.declared.reply.Refusal.{Refusal}
 use Rattle.board_devices.specs.Run.{run}
 use Rattle.board_devices.specs.Lines.{levels}
 use Rattle.board_core.specs.Time.{devices_in, now_of}
 use Rattle.board_core.specs.Access.{after_access, reply_of}
-use Rattle.board_core.specs.Refusals.{refusal_of}
 use Rattle.board_core.specs.Hv.{hv_reply}
-use Rattle.board_core.specs.Pages.{page_reply, clock_reply, after_clock}
+use Rattle.board_core.specs.Pages.{page_reply, clock_reply}
 use Rattle.hv_page.specs.Page.{tsc_sequence}
 use Rattle.hv_page.specs.declared.page.HvReply.{HvReply}
 use Rattle.hv_page.specs.declared.page.HvReply.TheVariants.{Off as HvOff, On as HvOn}
@@ -85,13 +82,12 @@ use Rattle.trace_loop.specs.Progress.{limit_of, Answer, Goes, Ends, Progress, pr
 use Rattle.race_phase.specs.Blocks.{edges_text, messages_text, block_of}
 use Rattle.race_phase.specs.Phases.{end_fault}
 use Rattle.race_phase.specs.declared.faults.Fault.{Fault}
+use Rattle.race_phase.specs.declared.records.Answer.TheVariants.{Acted}
 use Rattle.race_phase.specs.declared.phases.End.{End as PhaseEnd}
 use Rattle.race_phase.specs.declared.phases.End.TheVariants.{Finish, Save as BySave, Move as ByMove}
 use Rattle.trace_runner.specs.Records.{
-  refused_access,
   refused_cause,
-  access_answer,
-  read_answer,
+  answer_unless,
   ended_answer,
   job_answer,
 }
@@ -175,17 +171,13 @@ final_ends b =
     (decimal (now_of b) ∷ decimal b.accesses ∷ decimal b.greatest ∷ up_word (up_numbers line_numbers (levels (devices_in b))) ∷ [])
 
 -- each answer
-access_whole : (o : Option Refusal) (line cpu h : ℕ) (a : Access) (ds : Deliveries) (b : BoardParts)
-    → IsWholeLines (printed (access_answer o line cpu h a ds b))
+block_ends : (ds : Deliveries) (line : ℕ) (reply : Reply) → EndsLine (block_of ds line (Acted reply))
 unfolding block_of
-access_whole (Some refusal) line cpu h a ds b = inr (refused_ends line (refused_access refusal))
-access_whole None line cpu h a ds b =
-    let reply : Reply = reply_of b cpu h a in
-    inr (ends_after (edges_text ds reply.edges ++ messages_text ds reply.bursts) (board_text line reply) (board_ends line reply))
+block_ends ds line reply = ends_after (edges_text ds reply.edges ++ messages_text ds reply.bursts) (board_text line reply) (board_ends line reply)
 
-read_whole : (o : Option Refused) (line : ℕ) (text : List ℕ) (b : BoardParts) → EndsLine text → IsWholeLines (printed (read_answer o line text b))
-read_whole (Some why) line text b ends = inr (refused_ends line why)
-read_whole None line text b ends = inr ends
+unless_whole : (o : Option Refused) (line : ℕ) (text : List ℕ) (b : BoardParts) → EndsLine text → IsWholeLines (printed (answer_unless o line text b))
+unless_whole (Some why) line text b ends = inr (refused_ends line why)
+unless_whole None line text b ends = inr ends
 
 end_whole : (o : Option Fault) (end : PhaseEnd) (ds : Deliveries) (b : BoardParts) → IsWholeLines (printed (ended_answer o end ds b))
 end_whole (Some fault) end ds b = inr (refused_ends fault.line (refused_cause fault.cause))
@@ -203,13 +195,10 @@ end_whole None (ByMove line cpu h host) ds b =
     (move_ends line reply.number time))
 
 job_whole : (line cpu h : ℕ) (job : Job) (ds : Deliveries) (b : BoardParts) → IsWholeLines (printed (job_answer line cpu h job ds b))
-job_whole line cpu h (Ask (Act a)) ds b = access_whole (refusal_of b cpu h a) line cpu h a ds b
-job_whole line cpu h (Ask (ReadPage page)) ds b =
-    read_whole (records.refused_count b h) line (page_text line (page_reply b page h)) b (page_ends line (page_reply b page h))
-job_whole line cpu h (Ask (ReadClock page)) ds b =
-    read_whole (records.refused_count b h) line (clock_text line (clock_reply b page h)) (after_clock b page h)
-    (clock_ends line (clock_reply b page h))
-job_whole line cpu h (Ask ReadHv) ds b = read_whole (records.refused_count b h) line (hv_text line (hv_reply b h)) b (hv_ends line (hv_reply b h))
+job_whole line cpu h (Ask (Act a)) ds b = unless_whole _ line _ _ (block_ends ds line (reply_of b cpu h a))
+job_whole line cpu h (Ask (ReadPage page)) ds b = unless_whole _ line _ _ (page_ends line (page_reply b page h))
+job_whole line cpu h (Ask (ReadClock page)) ds b = unless_whole _ line _ _ (clock_ends line (clock_reply b page h))
+job_whole line cpu h (Ask ReadHv) ds b = unless_whole _ line _ _ (hv_ends line (hv_reply b h))
 job_whole line cpu h Save ds b = end_whole (end_fault b (BySave line cpu h)) (BySave line cpu h) ds b
 job_whole line cpu h (Move khz start gap) ds b =
     let end : PhaseEnd = ByMove line cpu h (record { khz = khz; start = start; gap = gap }) in end_whole (end_fault b end) end ds b

@@ -23,7 +23,6 @@ use Rattle.reply_text.specs.declared.ends.Reason.TheVariants.{Steal, Cpu, Counte
 use Rattle.reply_text.specs.declared.ends.Refused.TheVariants.{Invalid}
 use Rattle.trace_text.specs.Lines.{taken, after_line}
 use Rattle.trace_text.specs.declared.faults.RecordFault.{RecordFault}
-use Rattle.trace_text.specs.declared.header.Header.{Header}
 use Rattle.trace_text.specs.declared.reading.Item.{Item}
 use Rattle.trace_text.specs.declared.reading.Item.TheVariants.{Skipped, Part, Begun, Next, End}
 use Rattle.trace_text.specs.declared.records.Job.TheVariants.{Ask, Save, Move}
@@ -46,7 +45,6 @@ use Rattle.trace_runner.specs.Checking.{Checking}
 use Rattle.trace_runner.specs.Sound.{IsSound}
 use Rattle.race_phase.specs.declared.phases.Phase.{Phase}
 use Rattle.trace_runner.specs.Trace.{TraceRead}
-use Rattle.trace_text.specs.declared.records.Call.{Call}
 use Rattle.race_phase.specs.declared.phases.End.{End as PhaseEnd}
 use Rattle.race_phase.specs.declared.phases.End.TheVariants.{
   Finish,
@@ -66,13 +64,6 @@ unchecked r = record { replay = r; opening = r.board; phases = []; last = []; ta
 abbrev pub check_start : Bool → Checking
 check_start shows_state = unchecked (at_start shows_state)
 
--- one record more of the phase, and a phase that ends
-abbrev pub with_call : ℕ → Written → Call → Checking → Checking
-with_call line rec call s = record s {
-  last = s.last ++ record { line = line; cpu = rec.cpu; h = rec.h; call = call } ∷ [];
-  taken = s.taken + 1;
-}
-
 -- the phases with one more, which this ends
 abbrev pub ended_by : PhaseEnd → Checking → List Phase
 ended_by end s = s.phases ++ record { records = s.last; end = end } ∷ []
@@ -91,16 +82,15 @@ end_by line rec (Move khz start gap) =
     ByMove line rec.cpu rec.h (record { khz = khz; start = start; gap = gap })
 end_by line rec job = BySave line rec.cpu rec.h
 
--- a record is kept: a save and a move end their phase
-abbrev pub kept_job : ℕ → Written → Job → Checking → Checking
-kept_job line rec (Ask call) s = with_call line rec call s
-kept_job line rec Save s = with_end (BySave line rec.cpu rec.h) s
-kept_job line rec (Move khz start gap) s =
+-- a record is kept, by what it asks: a call is one record more of the phase, and a save and a move end it
+abbrev pub kept : ℕ → Written → Job → Checking → Checking
+kept line rec (Ask call) s = record s {
+  last = s.last ++ record { line = line; cpu = rec.cpu; h = rec.h; call = call } ∷ [];
+  taken = s.taken + 1;
+}
+kept line rec Save s = with_end (BySave line rec.cpu rec.h) s
+kept line rec (Move khz start gap) s =
     with_end (ByMove line rec.cpu rec.h (record { khz = khz; start = start; gap = gap })) s
-
--- .. by what the record asks
-abbrev pub kept : ℕ → Written → Checking → Checking
-kept line rec s = kept_job line rec rec.job s
 
 -- a refusal is printed alone
 abbrev pub refusal : Closing Verdict → Closing Checked
@@ -116,7 +106,7 @@ too_many line = refusal (stops line (Invalid TooMany))
 
 -- a record is answered in file order, as a replay would, and kept
 abbrev pub checked_by : Answer Replay Verdict → ℕ → Written → Checking → Answer Checking Checked
-checked_by (Goes block r) line rec s = Goes [] (kept line rec (record s { replay = r }))
+checked_by (Goes block r) line rec s = Goes [] (kept line rec rec.job (record s { replay = r }))
 checked_by (Ends closing) line rec s = Ends (refusal closing)
 
 -- unless it is one too many
@@ -141,15 +131,11 @@ trace_of s = record {
   shows_state = s.replay.shows_state;
 }
 
--- the header is whole: the trace begins, and no record was kept
-abbrev pub begun : Header → Checking → Checking
-begun header s = unchecked (with_header header s.replay)
-
 -- what a line does, by what it is: a line that has a record's form is refused as one too many first
 abbrev pub item_checked : ℕ → Item → Checking → Answer Checking Checked
 item_checked line Skipped s = Goes [] s
 item_checked line Part s = Goes [] s
-item_checked line (Begun header) s = Goes [] (begun header s)
+item_checked line (Begun header) s = Goes [] (unchecked (with_header header s.replay))
 item_checked line (Next rec) s = record_checked line rec s
 item_checked line End s = Ends (record { text = []; end = Whole (trace_of s) })
 

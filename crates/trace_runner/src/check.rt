@@ -29,15 +29,15 @@ ghost use Rattle.trace_runner.specs.Replayed.{
   refused_call,
   refused_job,
 };
+ghost use Rattle.trace_runner.specs.Replay.{with_header};
 ghost use Rattle.trace_runner.specs.Sound.{IsSound};
 ghost use Rattle.trace_runner.specs.Check.{
   check_start,
-  with_call,
   with_end,
   end_by,
   kept,
   is_full,
-  begun,
+  unchecked,
   trace_of,
   read_on,
 };
@@ -134,7 +134,7 @@ impl Check {
         requires cpu { given.now.cpu < self.old.replay.board.cpus }
         requires fits { IsFittingCall self.old.replay.board.cpus self.old.replay.board.format call }
         requires free { refused_call given.now.cpu given.now.h call self.old.replay.board ≡ None }
-        ensures { OnOk result (self.new ≡ with_call line given.now call
+        ensures { OnOk result (self.new ≡ kept line given.now (Job.Ask call)
             (on_board (board_after_phases self.old.replay.board given.now.cpu given.now.h call) self.old)) }
     {
         self.last.push(&Record {
@@ -175,7 +175,7 @@ impl Check {
         requires suits { Suits (Item.Next given.now) self.old.replay.board }
         requires free { refused_job given.now.cpu given.now.h given.now.job self.old.replay.board
             ≡ None }
-        ensures { OnOk result (self.new ≡ kept line given.now
+        ensures { OnOk result (self.new ≡ kept line given.now given.now.job
             (on_board (job_after given.now.cpu given.now.h given.now.job self.old.replay.board)
             self.old)) }
     {
@@ -229,7 +229,7 @@ impl Check {
     /// The header is whole: the board is made.
     pub(crate) fn begin(&mut self, header: &Header)
         requires { Suits (Item.Begun header.now) self.old.replay.board }
-        ensures { self.new ≡ begun header.now self.old }
+        ensures { self.new ≡ unchecked (with_header header.now self.old.replay) }
     {
         self.opening = match header.begin {
             Begin::Fresh(setup) => BoardState::power_on(&setup),

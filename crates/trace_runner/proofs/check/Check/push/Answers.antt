@@ -2,7 +2,8 @@ use Rattle.std.proofs.Common.{List, ap, sym, subst, ◌∙◌}
 use Rattle.board_types.specs.declared.parts.BoardParts.{BoardParts}
 use Rattle.race_phase.specs.Tallies.{IsTally}
 use Rattle.race_phase.specs.declared.records.Record.{Record}
-use Rattle.trace_runner.specs.Check.{with_call}
+use Rattle.trace_text.specs.declared.records.Job.TheVariants.{Ask}
+use Rattle.trace_runner.specs.Check.{kept}
 use Rattle.trace_runner.specs.Checking.{Checking}
 use Rattle.trace_runner.specs.Replayed.{board_after_phases, replayed, on_board}
 use Rattle.race_phase.specs.declared.phases.Phase.{Phase}
@@ -39,4 +40,4 @@ returns c =
     } in
     pushed s c.args.line rec c.args.call _ _ (ap (replayed i.opening vs) records ∙ replayed-record i.opening vs i.last r)
     records
-    ∙ ap (λ (t : Checking). with_call c.args.line rec c.args.call (on_board (board_after_phases t.replay.board rec.cpu rec.h c.args.call) t)) c.self.view_is
+    ∙ ap (λ (t : Checking). kept c.args.line rec (Ask c.args.call) (on_board (board_after_phases t.replay.board rec.cpu rec.h c.args.call) t)) c.self.view_is
