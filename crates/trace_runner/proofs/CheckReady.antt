@@ -26,7 +26,6 @@ use Rattle.trace_runner.specs.Ready.{IsRound, IsReady, JobSuits, Suits}
 use Rattle.trace_runner.specs.Sound.{IsSound}
 use Rattle.trace_runner.specs.Check.{
   kept,
-  kept_job,
   too_many,
   checked_by,
   record_checked,
@@ -42,13 +41,13 @@ use Rattle.trace_runner.proofs.Sounds.{Keeps, job_kept, read_sound, begun_sound}
 
 -- after a record that is kept
 kept_ready : (line : ℕ) (rec : Written) (job : Job) (s : Checking) → s.taken < 200000 → IsReady (line + 1) s.replay
-    → IsSound (kept_job line rec job s) → IsCheckReady (line + 1) (kept_job line rec job s)
+    → IsSound (kept line rec job s) → IsCheckReady (line + 1) (kept line rec job s)
 kept_ready line rec (Ask call) s room ready sound = record { replay = ready; few = omega arith; sound = sound }
 kept_ready line rec Save s room ready sound = record { replay = ready; few = omega arith; sound = sound }
 kept_ready line rec (Move khz start gap) s room ready sound = record { replay = ready; few = omega arith; sound = sound }
 
 -- after a record that is answered
-answered_ready : (line : ℕ) (rec : Written) (s : Checking) (x : Answer BoardParts Verdict) → s.taken < 200000 → Keeps (kept line rec) s x
+answered_ready : (line : ℕ) (rec : Written) (s : Checking) (x : Answer BoardParts Verdict) → s.taken < 200000 → Keeps (kept line rec rec.job) s x
     → (end_of (with_board x s.replay) ≡ None → IsReady (line + 1) (state_after (with_board x s.replay) s.replay))
     → end_of (checked_by (with_board x s.replay) line rec s) ≡ None
     → IsCheckReady (line + 1) (state_after (checked_by (with_board x s.replay) line rec s) s)

@@ -29,12 +29,9 @@ use Rattle.std.proofs.Common.{
 }
 use Rattle.std.specs.Str.{bytes_eq}
 use Rattle.clk_units.specs.declared.NoMemory.{NoMemory}
-use Rattle.board_types.specs.declared.access.Access.{Access}
 use Rattle.board_types.specs.declared.access.Access.TheVariants.{Step}
 use Rattle.board_types.specs.declared.parts.BoardParts.{BoardParts}
-use Rattle.board_types.specs.declared.reply.Refusal.{Refusal}
 use Rattle.board_core.specs.Hv.{hv_published_at_host}
-use Rattle.board_core.specs.Refusals.{refusal_of}
 use Rattle.board_core.specs.Pages.{after_clock, published_at_host}
 use Rattle.board_core.specs.Reanchor.{reanchored}
 use Rattle.board_core.proofs.Laws.{after_access-cpus, after_access-format}
@@ -86,8 +83,7 @@ use Rattle.trace_text.specs.declared.reading.Stage.TheVariants.{
 }
 use Rattle.trace_loop.specs.Progress.{limit_of, Answer, Goes, Ends, end_of, state_after}
 use Rattle.trace_runner.specs.Records.{
-  access_answer,
-  read_answer,
+  answer_unless,
   ended_answer,
   job_answer,
 }
@@ -165,13 +161,10 @@ abbrev pub Same : BoardParts → Answer BoardParts Verdict → Type 0
 Same b (Goes text b') = (b'.cpus ≡ b.cpus) × (b'.format ≡ b.format)
 Same b (Ends closing) = Unit {0}
 
-same_access : (o : Option Refusal) (line cpu h : ℕ) (a : Access) (ds : Deliveries) (b : BoardParts) → Same b (access_answer o line cpu h a ds b)
-same_access None line cpu h a ds b = (after_access-cpus b cpu h a, after_access-format b cpu h a)
-same_access (Some refusal) line cpu h a ds b = tt
-
-same_read : (o : Option Refused) (line : ℕ) (text : List ℕ) (b b' : BoardParts) → b'.cpus ≡ b.cpus → b'.format ≡ b.format → Same b (read_answer o line text b')
-same_read None line text b b' cpus format = (cpus, format)
-same_read (Some why) line text b b' cpus format = tt
+same_unless : (o : Option Refused) (line : ℕ) (text : List ℕ) (b b' : BoardParts) → b'.cpus ≡ b.cpus → b'.format ≡ b.format
+    → Same b (answer_unless o line text b')
+same_unless None line text b b' cpus format = (cpus, format)
+same_unless (Some why) line text b b' cpus format = tt
 
 published-format : (b : BoardParts) (khz start gap n : ℕ) (m : BoardParts) → (published_below b khz start gap n m).format ≡ m.format
 unfolding published_below published_at_host
@@ -198,10 +191,10 @@ same_end None (ByMove line cpu h host) ds b = (
 
 pub same_job : (line cpu h : ℕ) (job : Job) (ds : Deliveries) (b : BoardParts) → Same b (job_answer line cpu h job ds b)
 unfolding after_clock
-same_job line cpu h (Ask (Act a)) ds b = same_access (refusal_of b cpu h a) line cpu h a ds b
-same_job line cpu h (Ask (ReadPage page)) ds b = same_read _ line _ b b refl refl
-same_job line cpu h (Ask (ReadClock page)) ds b = same_read _ line _ b (after_clock b page h) refl refl
-same_job line cpu h (Ask ReadHv) ds b = same_read _ line _ b b refl refl
+same_job line cpu h (Ask (Act a)) ds b = same_unless _ line _ b (after_access b cpu h a) (after_access-cpus b cpu h a) (after_access-format b cpu h a)
+same_job line cpu h (Ask (ReadPage page)) ds b = same_unless _ line _ b b refl refl
+same_job line cpu h (Ask (ReadClock page)) ds b = same_unless _ line _ b (after_clock b page h) refl refl
+same_job line cpu h (Ask ReadHv) ds b = same_unless _ line _ b b refl refl
 same_job line cpu h Save ds b = same_end _ (BySave line cpu h) ds b
 same_job line cpu h (Move khz start gap) ds b = same_end _ (ByMove line cpu h (record { khz = khz; start = start; gap = gap })) ds b
 

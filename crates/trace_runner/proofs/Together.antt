@@ -36,7 +36,8 @@ use Rattle.board_types.specs.declared.access.Access.{Access}
 use Rattle.board_types.specs.declared.parts.BoardParts.{BoardParts}
 use Rattle.board_types.specs.declared.reply.Refusal.{Refusal}
 use Rattle.board_core.specs.Hv.{hv_reply}
-use Rattle.board_core.specs.Access.{after_access}
+use Rattle.std.specs.Option.{option_map}
+use Rattle.board_core.specs.Access.{after_access, reply_of}
 use Rattle.board_core.specs.Pages.{page_reply, clock_reply, after_clock}
 use Rattle.board_core.specs.Refusals.{refusal_of}
 use Rattle.race_phase.specs.declared.deliveries.Deliveries.{Deliveries}
@@ -99,6 +100,7 @@ use Rattle.trace_loop.specs.Progress.{
   ran,
   finished_by,
 }
+use Rattle.race_phase.specs.declared.records.Answer.TheVariants.{Acted}
 use Rattle.race_phase.specs.Blocks.{block_of}
 use Rattle.race_phase.specs.Phases.{next_board, end_fault, end_text}
 use Rattle.race_phase.specs.declared.faults.Fault.{Fault}
@@ -113,7 +115,7 @@ use Rattle.trace_text.specs.declared.records.Call.TheVariants.{Act, ReadPage, Re
 use Rattle.race_phase.specs.declared.records.Record.{Record}
 use Rattle.trace_runner.specs.Check.{
   check_start,
-  with_call,
+  kept,
   with_end,
   has_form,
   is_full,
@@ -135,8 +137,8 @@ use Rattle.trace_runner.specs.FileText.{answer_on, records_text, phase_text, pha
 use Rattle.trace_runner.specs.Records.{
   refused_count,
   stops,
-  access_answer,
-  read_answer,
+  refused_access,
+  answer_unless,
   ended_answer,
   job_answer,
 }
@@ -331,7 +333,7 @@ module _ (line cpu h : ℕ) (s : Checking) (board : s.replay.board ≡ replayed 
       Together (with_board x s.replay) (checked_by (with_board x s.replay) line rec s) (said s)
 
   goes_call : (call : Call) (block : List ℕ) (c : BoardParts) → block ≡ block_of ds line (answer_on b cpu h call) → c ≡ board_after_phases b cpu h call
-      → GoesSo (Goes block (record s.replay { board = c })) (with_call line (record { cpu = cpu; h = h; job = Ask call }) call (on c)) (said s)
+      → GoesSo (Goes block (record s.replay { board = c })) (kept line (record { cpu = cpu; h = h; job = Ask call }) (Ask call) (on c)) (said s)
   goes_call call block c is next =
       let r : Record = record { line = line; cpu = cpu; h = h; call = call } in (
         refl,
@@ -359,21 +361,22 @@ module _ (line cpu h : ℕ) (s : Checking) (board : s.replay.board ≡ replayed 
         },
       )
 
-  access_so : (a : Access) (o : Option Refusal) → So (Ask (Act a)) (access_answer o line cpu h a ds b)
+  access_so : (a : Access) (o : Option Refusal) → So (Ask (Act a))
+      (answer_unless (option_map refused_access o) line (block_of ds line (Acted (reply_of b cpu h a))) (after_access b cpu h a))
   access_so a None = goes_call (Act a) _ (after_access b cpu h a) refl refl
   access_so a (Some refusal) = tt
 
-  page_so : (page : ℕ) (o : Option Refused) → So (Ask (ReadPage page)) (read_answer o line (page_text line (page_reply b page h)) b)
+  page_so : (page : ℕ) (o : Option Refused) → So (Ask (ReadPage page)) (answer_unless o line (page_text line (page_reply b page h)) b)
   unfolding block_of
   page_so page None = goes_call (ReadPage page) _ b refl refl
   page_so page (Some why) = tt
 
-  clock_so : (page : ℕ) (o : Option Refused) → So (Ask (ReadClock page)) (read_answer o line (clock_text line (clock_reply b page h)) (after_clock b page h))
+  clock_so : (page : ℕ) (o : Option Refused) → So (Ask (ReadClock page)) (answer_unless o line (clock_text line (clock_reply b page h)) (after_clock b page h))
   unfolding block_of
   clock_so page None = goes_call (ReadClock page) _ (after_clock b page h) refl refl
   clock_so page (Some why) = tt
 
-  hv_so : (o : Option Refused) → So (Ask ReadHv) (read_answer o line (hv_text line (hv_reply b h)) b)
+  hv_so : (o : Option Refused) → So (Ask ReadHv) (answer_unless o line (hv_text line (hv_reply b h)) b)
   unfolding block_of
   hv_so None = goes_call ReadHv _ b refl refl
   hv_so (Some why) = tt
