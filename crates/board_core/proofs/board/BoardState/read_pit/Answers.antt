@@ -1,4 +1,4 @@
-use Rattle.std.proofs.Common.{◌≡◌, ℕ, ◌-◌, ◌<◌, ap, sym, subst, ◌∙◌, arith}
+use Rattle.std.proofs.Common.{ℕ, ◌-◌, ◌<◌, ap, sym, subst, ◌∙◌, arith}
 use Rattle.clk_units.specs.declared.ranges.TheConstants.{RANGE_NS}
 use Rattle.pit_readback.specs.Ports.{port_read}
 use Rattle.board_types.specs.declared.access.Access.TheVariants.{PortIn}
