@@ -30,6 +30,7 @@ use Rattle.std.proofs.Common.{
   Bool,
   true,
   false,
+  length-take,
 }
 use Rattle.std.proofs.lemmas.Bool.{eq-eqb, eqb-true}
 use Rattle.std.proofs.lemmas.List.{drop-take, drop-drop}
@@ -55,11 +56,13 @@ found_within rest None first = omega arith
 found_within rest (Some j) first = let h = first.0.high in omega arith
 
 -- what is left of a part after n of its bytes
-pub drop_part : (piece : List ℕ) (from to n : ℕ) → from + n ≤ to → drop n (take (to - from) (drop from piece)) ≡ take (to - (from + n)) (drop (from + n) piece)
-drop_part piece from to n within =
+pub drop_part : (piece left : List ℕ) (from to n : ℕ) → from ≤ to → take (to - from) (drop from piece) ≡ left → n ≤ length left
+    → take (to - (from + n)) (drop (from + n) piece) ≡ drop n left
+drop_part piece left from to n low is there =
+    let within : from + n ≤ to = omega (arith, length-take (to - from) (drop from piece), ap length is) in
     let parts : n + (to - (from + n)) ≡ to - from = omega arith in
-    ap (λ (m : ℕ). drop n (take m (drop from piece))) (sym parts) ∙ drop-take n (to - (from + n)) (drop from piece)
-    ∙ ap (take (to - (from + n))) (drop-drop n from piece)
+    ap (take (to - (from + n))) (sym (drop-drop n from piece)) ∙ sym (drop-take n (to - (from + n)) (drop from piece))
+    ∙ ap (λ (m : ℕ). drop n (take m (drop from piece))) parts ∙ ap (drop n) is
 
 -- where the search stopped at a byte, it is the end
 pub found_at : (rest : List ℕ) (end : Option ℕ) (n : ℕ) → IsFirstByte (is_byte 10) rest end → end ≡ Some n → (n < length rest) × (slice_index rest n ≡ 10)

@@ -21,7 +21,6 @@ use Rattle.std.proofs.Common.{
   Ok,
   Err,
   is_err,
-  OnOk,
   OnErr,
   refl,
   sym,
@@ -39,7 +38,6 @@ use Rattle.std.proofs.Common.{
 use Rattle.std.specs.Io.KnownBytes.{Appends, Consumes, IsAtEnd}
 use Rattle.std.proofs.KnownBytes.{Appends-trans}
 use Rattle.std.proofs.lemmas.List.{take_all, take-append-le}
-use Rattle.board_io.specs.Ends.{Input}
 use Rattle.board_io.specs.Faults.{Rose}
 use Rattle.trace_loop.specs.Text.{source_fault_text, memory_fault_text}
 use Rattle.trace_loop.specs.Progress.{
@@ -60,7 +58,8 @@ use Rattle.trace_loop.specs.Progress.{
   finished,
 }
 use Rattle.trace_loop.specs.Cut.{Cut, IsLine, IsWhole}
-use Rattle.trace_loop.specs.Outcome.{Begins, Run, run_over, IsText, IsSourceFault, IsMemoryFault, Outcome, Said}
+use Rattle.board_io.specs.Ends.{Input, Output}
+use Rattle.trace_loop.specs.Outcome.{Begins, Run, run_over, IsText, IsSourceFault, IsMemoryFault, Outcome, IsPutAll, Said}
 use Rattle.trace_loop.specs.private.Going.{IsAsked, Stands}
 use Rattle.trace_loop.specs.declared.ended.Ended.{Ended}
 use Rattle.trace_loop.specs.declared.ended.Ended.TheVariants as statuses
@@ -71,12 +70,18 @@ pub Rose-within : (a b c d : ℕ) → a ≤ b → c ≤ d → Rose b c → Rose 
 Rose-within a b c d before after (inl rose) = inl (omega arith)
 Rose-within a b c d before after (inr last) = inr (omega arith)
 
--- a result that isn't an error has what an `Ok` has
-pub on_ok_from_is_err : {T E : Type 0} → (r : Result T E) (A : Type 0) → is_err r ≡ false → OnOk r A → A
-on_ok_from_is_err {T} {E} (Ok x) A fine h = h
-on_ok_from_is_err {T} {E} (Err e) A fine h = cc
+-- a text that was put whole
+pub record IsWholePut (before after : Output) (text : List ℕ) : Type 0 where
+  pub all : Appends before.contents after.contents text
+  pub well : after.faults ≡ before.faults
+  pub quiet : after.done ≡ before.done
 
--- and one that is, what an `Err` has
+pub put_whole : {T E : Type 0} (r : Result T E) (before after : Output) (text : List ℕ) → is_err r ≡ false → IsPutAll before after text r
+    → IsWholePut before after text
+put_whole (Ok x) before after text fine put = record { all = put.all; well = put.well; quiet = put.quiet }
+put_whole (Err e) before after text fine put = cc
+
+-- a result that is an error has what an `Err` has
 pub on_err_from_is_err : {T E : Type 0} → (r : Result T E) (A : Type 0) → is_err r ≡ true → OnErr r A → A
 on_err_from_is_err {T} {E} (Ok x) A failed h = cc
 on_err_from_is_err {T} {E} (Err e) A failed h = h
@@ -114,6 +119,18 @@ pub excess_some : (text bytes line : List ℕ) → line ≡ text ++ bytes → le
 excess_some text [] line is short long = let same : line ≡ text = is ∙ append-nil text in absurd (omega (arith, short, long, ap length same, ap limit_of same))
 excess_some text (b ∷ bs) line is short long = omega arith
 
+-- a line takes a byte at least
+pub line_shorter : (old new : Cut) → IsLine old new → length new.left + 1 ≤ length old.left
+line_shorter old new l = by_end l.end
+  where
+    len : length new.line ≡ length old.text + length l.bytes
+    len = ap length l.line ∙ length-append old.text l.bytes
+
+    by_end : ((length new.line ≤ limit_of new.line) × (old.left ≡ l.bytes ++ 10 ∷ new.left)) ⊎
+        ((length new.line ≡ limit_of new.line + 1) × (old.left ≡ l.bytes ++ new.left)) → length new.left + 1 ≤ length old.left
+    by_end (inl h) = omega (arith, ap length h.1, length-append l.bytes (10 ∷ new.left))
+    by_end (inr h) = omega (arith, ap length h.1, length-append l.bytes new.left, excess_some old.text l.bytes new.line l.line l.short h.0)
+
 -- the front of a list
 front : (xs ys : List ℕ) (n : ℕ) → length xs ≡ n → take n (xs ++ ys) ≡ xs
 front xs ys n is = take-append-le n xs ys (omega arith) ∙ take_all n xs (omega arith)
@@ -123,26 +140,22 @@ module _ (A E : Type 0) (answer : ℕ → A → List ℕ → Answer A E) (closin
   line_heard : (bytes : List ℕ) (line : ℕ) (state : A) (before : List ℕ) (old new : Cut) → after_bytes answer bytes (opened a)
       ≡ standing line old.text state before → IsLine old new
       → (more : List ℕ) × (old.left ≡ more ++ new.left) ×
-      (after_bytes answer (bytes ++ more) (opened a) ≡ answered answer (standing line new.line state before)) × (0 < length old.left)
+      (after_bytes answer (bytes ++ more) (opened a) ≡ answered answer (standing line new.line state before))
   line_heard bytes line state before old new there l = by_end l.end
     where
       s : Progress A E
       s = standing line old.text state before
 
-      len : length new.line ≡ length old.text + length l.bytes
-      len = ap length l.line ∙ length-append old.text l.bytes
-
       by_end : ((length new.line ≤ limit_of new.line) × (old.left ≡ l.bytes ++ 10 ∷ new.left)) ⊎
           ((length new.line ≡ limit_of new.line + 1) × (old.left ≡ l.bytes ++ new.left))
           → (more : List ℕ) × (old.left ≡ more ++ new.left) ×
-          (after_bytes answer (bytes ++ more) (opened a) ≡ answered answer (standing line new.line state before)) × (0 < length old.left)
+          (after_bytes answer (bytes ++ more) (opened a) ≡ answered answer (standing line new.line state before))
       by_end (inl h) = (
         l.bytes ++ 10 ∷ [],
         h.1 ∙ sym (append_assoc l.bytes (10 ∷ []) new.left),
         after-++ A E answer closing bytes (l.bytes ++ 10 ∷ []) (opened a) ∙ ap (after_bytes answer (l.bytes ++ 10 ∷ [])) there
             ∙ after-line A E answer closing l.bytes s refl l.in_line (subst (λ (t : List ℕ). length t ≤ limit_of t) l.line h.0)
             ∙ ap (λ (text : List ℕ). answered answer (standing line text state before)) (sym l.line),
-        omega (arith, ap length h.1, length-append l.bytes (10 ∷ new.left)),
       )
       by_end (inr h) = (
         l.bytes,
@@ -150,7 +163,6 @@ module _ (A E : Type 0) (answer : ℕ → A → List ℕ → Answer A E) (closin
         after-++ A E answer closing bytes l.bytes (opened a) ∙ ap (after_bytes answer l.bytes) there
             ∙ after-excess A E answer closing l.bytes s refl l.in_line l.short (subst (λ (t : List ℕ). length t ≡ limit_of t + 1) l.line h.0)
             ∙ ap (λ (text : List ℕ). answered answer (standing line text state before)) (sym l.line),
-        omega (arith, ap length h.1, length-append l.bytes new.left, excess_some old.text l.bytes new.line l.line l.short h.0),
       )
 
   told_goes : (x : Answer A E) (line : ℕ) (text : List ℕ) (state : A) (before : List ℕ) → None ≡ end_of x → told x (standing line text state before)
@@ -185,14 +197,14 @@ module _ (A E : Type 0) (answer : ℕ → A → List ℕ → Answer A E) (closin
             ∙ ap (λ (b : A). standing (line + 1) new.text b ((put ++ out) ++ printed x)) (sym is)
             ∙ ap (λ (p : List ℕ). standing (line + 1) new.text now p) (append_assoc put out (printed x) ∙ ap (λ (p : List ℕ). put ++ p) (sym shown));
         asked = λ some. later input put before (length s.bytes) (length (s.bytes ++ h.0)) (omega (arith, length-append s.bytes h.0))
-            (s.asked (omega (arith, h.3, s.count)));
+            (s.asked (omega (arith, line_shorter old new l, s.count)));
       }
 
   -- a line is answered, and ends the trace
   pub ends_line : (input rest put out grown : List ℕ) (given before line : ℕ) (state : A) (status : E) (old new : Cut)
       → Stands A E answer a input old.left rest put out given before (standing line old.text state (put ++ out)) → IsLine old new
       → Some status ≡ end_of (answer line state new.line) → grown ≡ out ++ printed (answer line state new.line)
-      → (finished answer closing (after_bytes answer input (opened a)) ≡ record { text = put ++ grown; end = status }) × (0 < length old.left)
+      → finished answer closing (after_bytes answer input (opened a)) ≡ record { text = put ++ grown; end = status }
   ends_line input rest put out grown given before line state status old new s l some shown =
       let h = line_heard s.bytes line state (put ++ out) old new s.there l in
       let x : Answer A E = answer line state new.line in
@@ -202,12 +214,10 @@ module _ (A E : Type 0) (answer : ℕ → A → List ℕ → Answer A E) (closin
       ∙ append_assoc (s.bytes ++ h.0) new.left rest in
       let end : (after_bytes answer (s.bytes ++ h.0) (opened a)).end ≡ Some status = ap (λ (u : Progress A E). u.end) h.2 ∙ t.0 in
       let text : (after_bytes answer (s.bytes ++ h.0) (opened a)).printed ≡ put ++ grown = ap (λ (u : Progress A E). u.printed) h.2 ∙ t.1
-      ∙ append_assoc put out (printed x) ∙ ap (λ (p : List ℕ). put ++ p) (sym shown) in (
-        ap (λ (l : List ℕ). finished answer closing (after_bytes answer l (opened a))) parts
-            ∙ replay-ended A E answer closing (s.bytes ++ h.0) (new.left ++ rest) (opened a) status end
-            ∙ ap (λ (l : List ℕ). record { text = l; end = status }) text,
-        h.3,
-      )
+      ∙ append_assoc put out (printed x) ∙ ap (λ (p : List ℕ). put ++ p) (sym shown) in
+      ap (λ (l : List ℕ). finished answer closing (after_bytes answer l (opened a))) parts
+      ∙ replay-ended A E answer closing (s.bytes ++ h.0) (new.left ++ rest) (opened a) status end
+      ∙ ap (λ (l : List ℕ). record { text = l; end = status }) text
 
   -- the bytes that were left are part of the line
   pub stands_whole : (input rest put out : List ℕ) (given before line : ℕ) (state : A) (old new : Cut)
@@ -239,27 +249,63 @@ module _ (A E : Type 0) (answer : ℕ → A → List ℕ → Answer A E) (closin
       let same : take given input ≡ s.bytes = ap (take given) bytes ∙ front s.bytes rest given len in
       (bytes ∙ ap (λ (l : List ℕ). l ++ rest) (sym same), ap length same ∙ len, ap (λ (l : List ℕ). after_bytes answer l (opened a)) same ∙ s.there)
 
+  -- all was put before the source is called: what is printed after the bytes given
+  pub stands_asked : (input rest put out : List ℕ) (given before asked line : ℕ) (text : List ℕ) (state : A)
+      → Stands A E answer a input [] rest put out given before (standing line text state (put ++ out)) → asked ≡ given
+      → IsAsked A E answer a input (put ++ out) asked given
+  stands_asked input rest put out given before asked line text state s is =
+      let same : after_bytes answer (take asked input) (opened a) ≡ standing line text state (put ++ out) =
+      ap (λ (n : ℕ). after_bytes answer (take n input) (opened a)) is ∙ (stands_put input rest put out given before line text state s).2 in
+      record { least = omega (arith, is); printed_ = ap (λ (u : Progress A E). u.printed) same; going = ap (λ (u : Progress A E). u.end) same }
+
   -- a piece more was given
-  pub stands_piece : (input rest more piece put out : List ℕ) (given before asked now line : ℕ) (text : List ℕ) (state : A)
+  pub stands_refill : (input rest more piece put out : List ℕ) (given before asked now line : ℕ) (text : List ℕ) (state : A) (line' : ℕ) (text' out' : List ℕ)
       → Stands A E answer a input [] rest put out given before (standing line text state (put ++ out)) → rest ≡ piece ++ more → asked ≡ given → now
-      ≡ given + length piece
-      → Stands A E answer a input piece more (put ++ out) [] now asked (standing line text state ((put ++ out) ++ []))
-  stands_piece input rest more piece put out given before asked now line text state s parts is count =
+      ≡ given + length piece → line' ≡ line → text' ≡ text → out' ≡ []
+      → Stands A E answer a input piece more (put ++ out) out' now asked (standing line' text' state ((put ++ out) ++ out'))
+  stands_refill input rest more piece put out given before asked now line text state line' text' out' s parts is count el et eo =
       let t = stands_put input rest put out given before line text state s in
-      let same : after_bytes answer (take asked input) (opened a)
-      ≡ standing line text state (put ++ out) = ap (λ (n : ℕ). after_bytes answer (take n input) (opened a)) is ∙ t.2 in
-      record {
+      rw (el, et, eo) (record {
         bytes = take given input;
         whole = t.0 ∙ ap (λ (l : List ℕ). take given input ++ l) parts ∙ sym (append_assoc (take given input) piece more);
         count = omega (arith, t.1, count);
         there = t.2 ∙ ap (λ (p : List ℕ). standing line text state p) (sym (append-nil (put ++ out)));
-        asked = λ some. record {
-          least = omega (arith, t.1, is);
-          printed_ = ap (λ (u : Progress A E). u.printed) same;
-          going = ap
-              (λ (u : Progress A E). u.end) same;
-        };
-      }
+        asked = λ some. later input (put ++ out) asked given (length (take given input)) (omega (arith, t.1))
+            (stands_asked input rest put out given before asked line text state s is);
+      })
+
+  -- the input ended here
+  pub stands_end : (input rest put out : List ℕ) (given before line : ℕ) (text : List ℕ) (state : A) (line' : ℕ) (text' : List ℕ)
+      → Stands A E answer a input [] rest put out given before (standing line text state (put ++ out)) → rest ≡ [] → line' ≡ line → text' ≡ text
+      → (let r = finished answer closing (standing line' text' state []) in finished answer closing (after_bytes answer input (opened a))
+      ≡ record { text = (put ++ out) ++ r.text; end = r.end })
+  stands_end input rest put out given before line text state line' text' s none el et =
+      let t = stands_put input rest put out given before line text state s in
+      let all : input ≡ take given input = t.0 ∙ ap (λ (l : List ℕ). take given input ++ l) none ∙ append-nil (take given input) in
+      ap (λ (l : List ℕ). finished answer closing (after_bytes answer l (opened a))) all ∙ ap (finished answer closing) t.2
+      ∙ ap (λ (n : ℕ). finished answer closing (standing n text state (put ++ out))) (sym el)
+      ∙ ap (λ (l : List ℕ). finished answer closing (standing line' l state (put ++ out))) (sym et)
+      ∙ finished-after A E answer closing (put ++ out) line' text' state
+
+  -- the place of a run, as a number of bytes
+  pub stands_at : (input left rest put out : List ℕ) (given before line : ℕ) (text : List ℕ) (state : A)
+      → (s : Stands A E answer a input left rest put out given before (standing line text state (put ++ out)))
+      → after_bytes answer (take (length s.bytes) input) (opened a) ≡ standing line text state (put ++ out)
+  stands_at input left rest put out given before line text state s =
+      ap (λ (l : List ℕ). after_bytes answer l (opened a))
+      (ap (take (length s.bytes)) (s.whole ∙ append_assoc s.bytes left rest) ∙ front s.bytes (left ++ rest) (length s.bytes) refl) ∙ s.there
+
+  -- what is printed after the bytes so far is at the front of what is printed for the whole
+  pub stands_starts : (input left rest put out : List ℕ) (given before line : ℕ) (text : List ℕ) (state : A)
+      → Stands A E answer a input left rest put out given before (standing line text state (put ++ out))
+      → (more : List ℕ) × ((finished answer closing (after_bytes answer input (opened a))).text ≡ put ++ (out ++ more))
+  stands_starts input left rest put out given before line text state s =
+      let parts : input ≡ s.bytes ++ (left ++ rest) = s.whole ∙ append_assoc s.bytes left rest in
+      let t = replay-starts A E answer closing s.bytes (left ++ rest) (opened a) in (
+        t.0,
+        ap (λ (l : List ℕ). (finished answer closing (after_bytes answer l (opened a))).text) parts ∙ t.1 ∙ ap (λ (u : Progress A E). u.printed ++ t.0) s.there
+            ∙ append_assoc put out t.0,
+      )
 
 -- one of the three texts that may be put
 abbrev pub IsShown : {A E : Type 0} → Run A E → List ℕ → Type 0
@@ -362,28 +408,6 @@ module _ (A E : Type 0) (answer : ℕ → A → List ℕ → Answer A E) (closin
       cut_off A E run_here put last more
       (finished answer closing (after_bytes answer input (opened a))).text c0 c1 c2 shown (held put place asked) (inl (refl, well)) is cut
 
--- the place of a run, as a number of bytes
-pub stands_at : (A E : Type 0) (answer : ℕ → A → List ℕ → Answer A E) (closing : ℕ → A → Closing E) (a : A) (input left rest put out : List ℕ)
-    (given before line : ℕ) (text : List ℕ) (state : A)
-    → (s : Stands A E answer a input left rest put out given before (standing line text state (put ++ out)))
-    → after_bytes answer (take (length s.bytes) input) (opened a) ≡ standing line text state (put ++ out)
-stands_at A E answer closing a input left rest put out given before line text state s =
-    ap (λ (l : List ℕ). after_bytes answer l (opened a))
-    (ap (take (length s.bytes)) (s.whole ∙ append_assoc s.bytes left rest) ∙ front s.bytes (left ++ rest) (length s.bytes) refl) ∙ s.there
-
--- what is printed after the bytes so far is at the front of what is printed for the whole
-pub stands_starts : (A E : Type 0) (answer : ℕ → A → List ℕ → Answer A E) (closing : ℕ → A → Closing E) (a : A) (input left rest put out : List ℕ)
-    (given before line : ℕ) (text : List ℕ) (state : A)
-    → Stands A E answer a input left rest put out given before (standing line text state (put ++ out))
-    → (more : List ℕ) × ((finished answer closing (after_bytes answer input (opened a))).text ≡ put ++ (out ++ more))
-stands_starts A E answer closing a input left rest put out given before line text state s =
-    let parts : input ≡ s.bytes ++ (left ++ rest) = s.whole ∙ append_assoc s.bytes left rest in
-    let t = replay-starts A E answer closing s.bytes (left ++ rest) (opened a) in (
-      t.0,
-      ap (λ (l : List ℕ). (finished answer closing (after_bytes answer l (opened a))).text) parts ∙ t.1 ∙ ap (λ (u : Progress A E). u.printed ++ t.0) s.there
-          ∙ append_assoc put out t.0,
-    )
-
 -- what a status says of the faults
 pub said-source : {E : Type 0} (status result : Ended E) (c1 c2 : Option (List ℕ)) (text : List ℕ) (shown : Type 0) → (status ≡ statuses.SourceFault → ⊥)
     → Said status result c1 c2 text shown → result ≡ statuses.SourceFault → ⊥
@@ -394,54 +418,3 @@ pub said-sink : {E : Type 0} (status result : Ended E) (c1 c2 : Option (List ℕ
     → Said status result c1 c2 text shown → result ≡ statuses.SinkFault → shown
 said-sink status result c1 c2 text shown other (inl said) is = absurd (other (sym said.0 ∙ is))
 said-sink status result c1 c2 text shown other (inr cut) is = cut.1
-
-pub end-source : {E : Type 0} (end : E) → statuses.By end ≡ statuses.SourceFault → ⊥
-end-source end is = cc
-
-pub end-sink : {E : Type 0} (end : E) → statuses.By end ≡ statuses.SinkFault → ⊥
-end-sink end is = cc
-
--- a line takes a byte at least
-pub line_shorter : (old new : Cut) → IsLine old new → length new.left + 1 ≤ length old.left
-line_shorter old new l = by_end l.end
-  where
-    len : length new.line ≡ length old.text + length l.bytes
-    len = ap length l.line ∙ length-append old.text l.bytes
-
-    by_end : ((length new.line ≤ limit_of new.line) × (old.left ≡ l.bytes ++ 10 ∷ new.left)) ⊎
-        ((length new.line ≡ limit_of new.line + 1) × (old.left ≡ l.bytes ++ new.left)) → length new.left + 1 ≤ length old.left
-    by_end (inl h) = omega (arith, ap length h.1, length-append l.bytes (10 ∷ new.left))
-    by_end (inr h) = omega (arith, ap length h.1, length-append l.bytes new.left, excess_some old.text l.bytes new.line l.line l.short h.0)
-
--- all was put before the source is called: what is printed after the bytes given
-pub stands_asked : (A E : Type 0) (answer : ℕ → A → List ℕ → Answer A E) (closing : ℕ → A → Closing E) (a : A) (input rest put out : List ℕ)
-    (given before asked line : ℕ) (text : List ℕ) (state : A)
-    → Stands A E answer a input [] rest put out given before (standing line text state (put ++ out)) → asked ≡ given
-    → IsAsked A E answer a input (put ++ out) asked given
-stands_asked A E answer closing a input rest put out given before asked line text state s is =
-    let same : after_bytes answer (take asked input) (opened a)
-    ≡ standing line text state (put ++ out) = ap (λ (n : ℕ). after_bytes answer (take n input) (opened a)) is
-    ∙ (stands_put A E answer closing a input rest put out given before line text state s).2 in
-    record { least = omega (arith, is); printed_ = ap (λ (u : Progress A E). u.printed) same; going = ap (λ (u : Progress A E). u.end) same }
-
-pub stands_refill : (A E : Type 0) (answer : ℕ → A → List ℕ → Answer A E) (closing : ℕ → A → Closing E) (a : A) (input rest more piece put out : List ℕ)
-    (given before asked now line : ℕ) (text : List ℕ) (state : A) (line' : ℕ) (text' out' : List ℕ)
-    → Stands A E answer a input [] rest put out given before (standing line text state (put ++ out)) → rest ≡ piece ++ more → asked ≡ given → now
-    ≡ given + length piece → line' ≡ line → text' ≡ text → out' ≡ []
-    → Stands A E answer a input piece more (put ++ out) out' now asked (standing line' text' state ((put ++ out) ++ out'))
-stands_refill A E answer closing a input rest more piece put out given before asked now line text state line' text' out' s parts is count el et eo =
-    rw el (rw et (rw eo (stands_piece A E answer closing a input rest more piece put out given before asked now line text state s parts is count)))
-
--- the input ended here
-pub stands_end : (A E : Type 0) (answer : ℕ → A → List ℕ → Answer A E) (closing : ℕ → A → Closing E) (a : A) (input rest put out : List ℕ)
-    (given before line : ℕ) (text : List ℕ) (state : A) (line' : ℕ) (text' : List ℕ)
-    → Stands A E answer a input [] rest put out given before (standing line text state (put ++ out)) → rest ≡ [] → line' ≡ line → text' ≡ text
-    → (let r = finished answer closing (standing line' text' state []) in finished answer closing (after_bytes answer input (opened a))
-    ≡ record { text = (put ++ out) ++ r.text; end = r.end })
-stands_end A E answer closing a input rest put out given before line text state line' text' s none el et =
-    let t = stands_put A E answer closing a input rest put out given before line text state s in
-    let all : input ≡ take given input = t.0 ∙ ap (λ (l : List ℕ). take given input ++ l) none ∙ append-nil (take given input) in
-    ap (λ (l : List ℕ). finished answer closing (after_bytes answer l (opened a))) all ∙ ap (finished answer closing) t.2
-    ∙ ap (λ (n : ℕ). finished answer closing (standing n text state (put ++ out))) (sym el)
-    ∙ ap (λ (l : List ℕ). finished answer closing (standing line' l state (put ++ out))) (sym et)
-    ∙ finished-after A E answer closing (put ++ out) line' text' state

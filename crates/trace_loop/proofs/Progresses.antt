@@ -14,7 +14,6 @@ use Rattle.std.proofs.Common.{
   cond,
   eqb,
   ltb,
-  leb,
   codes,
   take,
   drop,
@@ -27,6 +26,8 @@ use Rattle.std.proofs.Common.{
   Option,
   Some,
   None,
+  inl,
+  inr,
   refl,
   sym,
   ap,
@@ -37,7 +38,7 @@ use Rattle.std.proofs.Common.{
   append-nil,
   length-append,
 }
-use Rattle.std.proofs.lemmas.Bool.{ne_eqb, lt-ltb, le-ltb, leb-true, leb-false}
+use Rattle.std.proofs.lemmas.Bool.{ne_eqb, lt-ltb, le-ltb, cases_lt}
 use Rattle.trace_loop.specs.Progress.{
   limit_of,
   Closing,
@@ -78,19 +79,17 @@ limit_fixed front more long = ap (λ (l : List ℕ). cond (bytes_eq l (codes "st
 
 -- so a line within the limit of more of it is within its own
 pub limit_front : (front more : List ℕ) → length front ≤ limit_of (front ++ more) → length front ≤ limit_of front
-limit_front front more short = by_length (leb 6 (length front)) refl
-  where
-    by_length : (b : Bool) → leb 6 (length front) ≡ b → length front ≤ limit_of front
-    by_length true long = omega (arith, short, limit_fixed front more (leb-true 6 (length front) long))
-    by_length false small = omega (arith, limit_least front, leb-false 6 (length front) small)
+limit_front front more short = elim (cases_lt (length front) 6) [
+  | inl small ↦ omega (arith, small, limit_least front)
+  | inr long ↦ omega (arith, short, limit_fixed front more long)
+]
 
 -- and more of a line has no lower limit, where the line is within its own
 pub limit_grows : (front more : List ℕ) → length front ≤ limit_of front → length front ≤ limit_of (front ++ more)
-limit_grows front more short = by_length (leb 6 (length front)) refl
-  where
-    by_length : (b : Bool) → leb 6 (length front) ≡ b → length front ≤ limit_of (front ++ more)
-    by_length true long = omega (arith, short, limit_fixed front more (leb-true 6 (length front) long))
-    by_length false small = omega (arith, limit_least (front ++ more), leb-false 6 (length front) small)
+limit_grows front more short = elim (cases_lt (length front) 6) [
+  | inl small ↦ omega (arith, small, limit_least (front ++ more))
+  | inr long ↦ omega (arith, short, limit_fixed front more long)
+]
 
 -- the limit up to a place after the start
 pub limit_part : (text rest : List ℕ) (m n : ℕ) → m ≤ n → m ≤ length rest → 6 ≤ length text + m → limit_of (text ++ take n rest)

@@ -1,12 +1,8 @@
-use Rattle.std.proofs.Common.{◌≡◌, ◌+◌, ◌-◌, ◌≤◌, length, take, drop, sym, ap, ◌∙◌, arith, length-take}
+use Rattle.std.proofs.Common.{ap}
 use Rattle.trace_loop.specs.Cut.{Cut}
 use Rattle.trace_loop.proofs.Cuts.{drop_part}
 use Rattle.trace_loop.proofs.lines.Lines.hand_out_slice.Goals as goal
 
 pub returns-clause-left : goal.returns-clause-left
-returns-clause-left c =
-    let r = c.self.inside in
-    let left : take (r.to - r.from) (drop r.from r.piece) ≡ c.args.self.now.left = ap (λ (s : Cut). s.left) c.self.view_is in
-    let there : c.args.n ≤ length (take (r.to - r.from) (drop r.from r.piece)) = omega (arith, ap length left, c.requires.there) in
-    let within : r.from + c.args.n ≤ r.to = omega (arith, length-take (r.to - r.from) (drop r.from r.piece)) in
-    sym (drop_part r.piece r.from r.to c.args.n within) ∙ ap (drop c.args.n) left
+returns-clause-left c = let r = c.self.inside in
+    drop_part r.piece c.args.self.now.left r.from r.to c.args.n c.self.invariant.0 (ap (λ (s : Cut). s.left) c.self.view_is) c.requires.there
