@@ -12,7 +12,7 @@ use Rattle.board_core.specs.Pages.{reading_by}
 use Rattle.board_history.specs.Machine.{machine_of, ratio_in}
 use Rattle.board_history.specs.History.{floor_after}
 use Rattle.board_history.specs.declared.entry.Entry.{Entry}
-use Rattle.board_history.specs.declared.entry.Entry.TheVariants.{Opened, Board, PageRead, HvRead, Clamp}
+use Rattle.board_history.specs.declared.entry.Entry.TheVariants.{PageRead, HvRead, Clamp}
 use Rattle.board_history.proofs.Laws.{board_after-snoc, legal-floor}
 use Rattle.clock_table.specs.declared.view.View.{View}
 use Rattle.clock_table.specs.Steps.{or_else, number_in, weight, loud, Hears}
@@ -34,11 +34,9 @@ weight-le false = omega arith
 -- an entry that is counted is a read of a page, so a full front word means many reads
 pub loud-le : (es : List Entry) → loud es ≤ page_reads es
 loud-le [] = omega arith
-loud-le (Opened s ∷ es) = let r = loud-le es in omega arith
-loud-le (Board pass cpu h access reply ∷ es) = let r = loud-le es in omega arith
 loud-le (PageRead pass cpu h page locked ∷ es) = let r = loud-le es in let w = weight-le locked in omega arith
 loud-le (HvRead pass h page locked ∷ es) = let r = loud-le es in let w = weight-le locked in omega arith
-loud-le (Clamp pass cpu reading clock ∷ es) = let r = loud-le es in omega arith
+loud-le (_ ∷ es) = let r = loud-le es in omega arith
 
 -- what an answer says of the page
 answer-on : (b : Bool) (p page : Page) (x y : ℕ) → On p x ≡ (if b then On page y else Off) → (b ≡ true) × (x ≡ y)
@@ -71,7 +69,7 @@ clamp_known n cpu x clock v w rest t =
     let seen : w.seen ≡ (v.seen ++ t'.0) ++ e ∷ [] = ap (λ u. u.seen) t'.1 in
     let last : floor_after w.seen ≡ clock = ap floor_after seen ∙ ap (λ (b : BoardParts). b.greatest) (board_after-snoc (v.seen ++ t'.0) e) in
     let up = legal-floor v.seen w.seen made.more made.legal in
-    (record { number = made.number; more = made.more; legal = made.legal; mine = made.mine }, ap (λ u. u.misses) t'.1, omega arith)
+    (made, ap (λ u. u.misses) t'.1, omega arith)
 
 pub try_faulted : (res : Result Page PageFault) (anchor : Anchor) (n cpu h : ℕ) (v w : View) → IsAtRest n v
     → IfErr res (λ f. IsTryFault anchor cpu h f v w) → IfErr res (λ f. IsPageFault anchor cpu h f (known n v) (known n w))
@@ -79,9 +77,10 @@ try_faulted (Ok reply) anchor n cpu h v w rest err = tt
 try_faulted (Err (NoTime fault)) anchor n cpu h v w rest err = (err.0, ap (known n) err.1)
 try_faulted (Err (Again first second)) anchor n cpu h v w rest err = (err.0, missed_known n cpu first second v w rest err.1)
 
--- a clock is a read and its clamp
-pub clock_known : (s : BoardParts) (cpu h : ℕ) (locked : Bool) (read : PageReply) (reply : ClockReply) (p q r : PassKnown)
-    → PageWasRead s cpu h locked read p q → HasClamped cpu read reply q r → ClockWasRead s cpu h locked reply p r × (r.misses ≡ q.misses)
+-- a clock is a read and its clamp: of the same page, with no miss more, and it has seen no less
+clock_known : (s : BoardParts) (cpu h : ℕ) (locked : Bool) (read : PageReply) (reply : ClockReply) (p q r : PassKnown)
+    → (w : PageWasRead s cpu h locked read p q) → HasClamped cpu read reply q r
+    → (k : ClockWasRead s cpu h locked reply p r) × (k.page ≡ w.page) × (r.misses ≡ q.misses) × IsPrefix q.seen r.seen
 clock_known s cpu h locked Off ClockOff p q r w c = (
   record {
     page = w.page;
@@ -89,10 +88,10 @@ clock_known s cpu h locked Off ClockOff p q r w c = (
     made = subst (λ (z : PassKnown). Made p z (PageRead p.number cpu h w.page locked ∷ [])) (sym c) w.made;
     least = w.least;
   },
+  refl,
   ap (λ (z : PassKnown). z.misses) c,
+  ([], append-nil q.seen ∙ sym (ap (λ (z : PassKnown). z.seen) c)),
 )
-clock_known s cpu h locked Off (ClockOn told clock) p q r w c = absurd c
-clock_known s cpu h locked (On pg x) ClockOff p q r w c = absurd c
 clock_known s cpu h locked (On pg x) (ClockOn told clock) p q r w c =
     let a = answer-on w.page.enabled pg w.page x (reading_by (ratio_in (machine_of s)) w.page h) w.answer in
     let clamp : Made q r (Clamp p.number cpu told clock ∷ []) =
@@ -105,54 +104,37 @@ clock_known s cpu h locked (On pg x) (ClockOn told clock) p q r w c =
         made = made_more p q r (PageRead p.number cpu h w.page locked ∷ []) (Clamp p.number cpu told clock ∷ []) w.made clamp;
         least = w.least;
       },
+      refl,
       c.2,
+      c.1.more,
     )
+clock_known s cpu h locked _ _ p q r w c = absurd c
 
 pub tried_clock : (s : BoardParts) (cpu h : ℕ) (read : PageReply) (reply : ClockReply) (p q r : PassKnown) → HasTriedPage s cpu h read p q
     → HasClamped cpu read reply q r → HasTriedClock s cpu h reply p r
 tried_clock s cpu h read reply p q r t c =
     let k = clock_known s cpu h false read reply p q r t.read c in
-    record { read = k.0; misses = k.1 ∙ t.misses }
+    record { read = k.0; misses = k.2 ∙ t.misses }
 
--- what a pass sees later leaves the place of the entry
-room_later : (e : Entry) (xs ys : List Entry) → HadRoom e xs → IsPrefix xs ys → HadRoom e ys
-room_later e xs ys r p = (r.0, prefix_trans (r.0 ++ e ∷ []) xs ys r.1 p, r.2)
-
-clamp_more : (cpu : ℕ) (read : PageReply) (reply : ClockReply) (p q : PassKnown) → HasClamped cpu read reply p q → IsPrefix p.seen q.seen
-clamp_more cpu Off ClockOff p q c = ([], append-nil p.seen ∙ sym (ap (λ (z : PassKnown). z.seen) c))
-clamp_more cpu Off (ClockOn told clock) p q c = absurd c
-clamp_more cpu (On pg x) ClockOff p q c = absurd c
-clamp_more cpu (On pg x) (ClockOn told clock) p q c = c.1.more
-
-same_page : (s : BoardParts) (cpu h : ℕ) (locked : Bool) (read : PageReply) (reply : ClockReply) (p q r : PassKnown)
-    (w : PageWasRead s cpu h locked read p q) (c : HasClamped cpu read reply q r) → (clock_known s cpu h locked read reply p q r w c).0.page ≡ w.page
-unfolding clock_known
-same_page s cpu h locked Off ClockOff p q r w c = refl
-same_page s cpu h locked Off (ClockOn told clock) p q r w c = absurd c
-same_page s cpu h locked (On pg x) ClockOff p q r w c = absurd c
-same_page s cpu h locked (On pg x) (ClockOn told clock) p q r w c = refl
+-- the clock of a page that was read under the lock: what a pass sees later leaves the place of the entry
+room_later : (n cpu h : ℕ) (page page' : Page) (xs ys : List Entry) → page' ≡ page → HadRoom (PageRead n cpu h page true) xs → IsPrefix xs ys
+    → HadRoom (PageRead n cpu h page' true) ys
+room_later n cpu h page page' xs ys same r p = subst (λ (g : Page). HadRoom (PageRead n cpu h g true) ys) (sym same)
+    (r.0, prefix_trans (r.0 ++ PageRead n cpu h page true ∷ []) xs ys r.1 p, r.2)
 
 pub locked_clock : (s : BoardParts) (cpu h : ℕ) (read : PageReply) (reply : ClockReply) (p q r : PassKnown) → HasLockedPage s cpu h read p q
     → HasClamped cpu read reply q r → HasLockedClock s cpu h reply p r
 locked_clock s cpu h read reply p q r t c =
     let k = clock_known s cpu h true read reply p q r t.read c in
-    let same = same_page s cpu h true read reply p q r t.read c in
-    record {
-      read = k.0;
-      misses = k.1 ∙ t.misses;
-      room = subst (λ (g : Page). HadRoom (PageRead p.number cpu h g true) r.seen) (sym same)
-          (room_later (PageRead p.number cpu h t.read.page true) q.seen r.seen t.room (clamp_more cpu read reply q r c));
-    }
+    record { read = k.0; misses = k.2 ∙ t.misses; room = room_later p.number cpu h t.read.page k.0.page q.seen r.seen k.1 t.room k.3 }
 
 pub read_clock_known : (s : BoardParts) (cpu h : ℕ) (read : PageReply) (reply : ClockReply) (p q r : PassKnown) → HasReadPage s cpu h read p q
     → HasClamped cpu read reply q r → HasReadClock s cpu h reply p r
 read_clock_known s cpu h read reply p q r t c =
     let k = clock_known s cpu h t.locked read reply p q r t.read c in
-    let same = same_page s cpu h t.locked read reply p q r t.read c in
     record {
       locked = t.locked;
       read = k.0;
-      tried = tried_on t.locked cpu p q r t.tried k.1;
-      room = λ is. subst (λ (g : Page). HadRoom (PageRead p.number cpu h g true) r.seen) (sym same)
-          (room_later (PageRead p.number cpu h t.read.page true) q.seen r.seen (t.room is) (clamp_more cpu read reply q r c));
+      tried = tried_on t.locked cpu p q r t.tried k.2;
+      room = λ is. room_later p.number cpu h t.read.page k.0.page q.seen r.seen k.1 (t.room is) k.3;
     }

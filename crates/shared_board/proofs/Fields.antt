@@ -54,21 +54,22 @@ open_3 c x y v = (record { cpu = c; put = Some x ∷ Some y ∷ None ∷ None �
 pub open_4 : (c x y z : ℕ) (v : View) → HasOpen c (put_in 2 z (put_in 1 y (put_in 0 x (begun c v))))
 open_4 c x y z v = (record { cpu = c; put = Some x ∷ Some y ∷ Some z ∷ None ∷ [] }, refl, refl, refl)
 
+-- what holds of each of four fields
+below_four : (P : ℕ → Type 0) → P 0 → P 1 → P 2 → P 3 → (k : ℕ) → k < 4 → P k
+below_four P a b c d zero h = a
+below_four P a b c d (suc zero) h = b
+below_four P a b c d (suc (suc zero)) h = c
+below_four P a b c d (suc (suc (suc zero))) h = d
+below_four P a b c d (suc (suc (suc (suc k)))) h = absurd (omega arith)
+
 pub all_put : (c : ℕ) (p : Page) (v : View) → HasPut c p (put_all c (field_at p 0) (field_at p 1) (field_at p 2) (field_at p 3) v)
 all_put c p v = (
   record { cpu = c; put = Some (field_at p 0) ∷ Some (field_at p 1) ∷ Some (field_at p 2) ∷ Some (field_at p 3) ∷ [] },
   refl,
   refl,
-  each,
+  below_four (λ k. slice_index_or (Some (field_at p 0) ∷ Some (field_at p 1) ∷ Some (field_at p 2) ∷ Some (field_at p 3) ∷ []) k None ≡ Some (field_at p k))
+      refl refl refl refl,
 )
-  where
-    each : (k : ℕ) → k < 4
-        → slice_index_or (Some (field_at p 0) ∷ Some (field_at p 1) ∷ Some (field_at p 2) ∷ Some (field_at p 3) ∷ []) k None ≡ Some (field_at p k)
-    each zero h = refl
-    each (suc zero) h = refl
-    each (suc (suc zero)) h = refl
-    each (suc (suc (suc zero))) h = refl
-    each (suc (suc (suc (suc k)))) h = absurd (omega arith)
 
 -- the view after the four puts of a page's words
 pub put_four : (c : ℕ) (ws : List ℕ) (p : Page) (v v0 v1 v2 v3 v4 : View) → v0 ≡ begun c v → v1 ≡ put_in 0 (get_or ws 1 0) v0 → v2 ≡ put_in 1 (get_or ws 2 0) v1
@@ -96,14 +97,12 @@ pub is_reading : (c n : ℕ) (fields : List (Option ℕ)) (v u : View) → u ≡
 is_reading c n fields v u is = (record { cpu = c; first = n; noted = fields }, ap (λ w. w.read) is, refl)
 
 has_noted : (c n x y z w : ℕ) (v u : View) → u ≡ noted c n (all_four x y z w) v → HasNoted c u
-has_noted c n x y z w v u is = (record { cpu = c; first = n; noted = all_four x y z w }, ap (λ t. t.read) is, refl, each)
-  where
-    each : (k : ℕ) → k < 4 → (i : ℕ) × (slice_index_or (all_four x y z w) k None ≡ Some i)
-    each zero h = (x, refl)
-    each (suc zero) h = (y, refl)
-    each (suc (suc zero)) h = (z, refl)
-    each (suc (suc (suc zero))) h = (w, refl)
-    each (suc (suc (suc (suc k)))) h = absurd (omega arith)
+has_noted c n x y z w v u is = (
+  record { cpu = c; first = n; noted = all_four x y z w },
+  ap (λ t. t.read) is,
+  refl,
+  below_four (λ k. (i : ℕ) × (slice_index_or (all_four x y z w) k None ≡ Some i)) (x, refl) (y, refl) (z, refl) (w, refl),
+)
 
 -- a read of which all fields were noted may end
 pub may_end : (cpus c n x y z w : ℕ) (v u : View) → u ≡ noted c n (all_four x y z w) v → c ≤ cpus → IsPass v → MayEnd cpus c u

@@ -40,37 +40,36 @@ made_late p q r es a b = record {
 pub made_last : (p q : PassKnown) (e : Entry) → Made p q (e ∷ []) → last_of (mine q) ≡ Some e
 made_last p q e m = ap last_of m.mine ∙ last_of-snoc (mine p) e
 
+-- the entries of a pass, with one more after those of others
+mine_one : (n : ℕ) (xs between ys : List Entry) (e : Entry) → ys ≡ (xs ++ between) ++ e ∷ [] → entries_of n between ≡ [] → is_of n e ≡ true
+    → entries_of n ys ≡ entries_of n xs ++ e ∷ []
+mine_one n xs between ys e is none own =
+    ap (entries_of n) is ∙ (entries_of-++ n (xs ++ between) (e ∷ []) ∙ (ap (λ l. entries_of n (xs ++ between) ++ l) (entries_of-own e n own)
+    ∙ ap (λ l. l ++ e ∷ []) (entries_of-++ n xs between ∙ (ap (λ l. entries_of n xs ++ l) none ∙ append-nil (entries_of n xs)))))
+
 -- a read or a clamp, made without the pen
 pub heard_made : (n : ℕ) (v w : View) (e : Entry) → IsAtRest n v → Hears e v w → is_of n e ≡ true → Made (known n v) (known n w) (e ∷ [])
-heard_made n v w e rest x of_n =
+heard_made n v w e rest x own =
     let seen : w.seen ≡ (v.seen ++ x.0) ++ e ∷ [] = ap (λ u. u.seen) x.1 in
-    let none : entries_of n x.0 ≡ [] = x.2.own n rest.number in
-    let now : entries_of n (v.seen ++ x.0) ≡ entries_of n v.seen =
-    entries_of-++ n v.seen x.0 ∙ (ap (λ l. entries_of n v.seen ++ l) none ∙ append-nil (entries_of n v.seen)) in
     record {
       number = refl;
       more = prefix_of v.seen x.0 w.seen e seen;
       legal = x.2.legal;
-      mine = ap (entries_of n) seen ∙ (entries_of-++ n (v.seen ++ x.0) (e ∷ [])
-          ∙ (ap (λ l. l ++ entries_of n (e ∷ [])) now ∙ ap (λ l. entries_of n v.seen ++ l) (entries_of-own e n of_n)));
+      mine = mine_one n v.seen x.0 w.seen e seen (x.2.own n rest.number) own;
     }
 
 -- an entry that a pass made while it had the pen, after all that came with it
 pub told_answered : (n : ℕ) (v w x y : View) (e : Entry) → IsAtRest n v → PenMoved w v x → Extends e x y → is_of n e ≡ true → Answered (known n v) (known n y) e
-told_answered n v w x y e rest moved ext of_n =
-    let seen_y : y.seen ≡ (x.seen ++ ext.0) ++ e ∷ [] = ap (λ u. u.seen) ext.1 in
+told_answered n v w x y e rest moved ext own =
+    let seen : y.seen ≡ (x.seen ++ ext.0) ++ e ∷ [] = ap (λ u. u.seen) ext.1 in
     let more = moved.more in
-    let number : x.number ≡ Some n = moved.number ∙ rest.number in
-    let none : entries_of n ext.0 ≡ [] = ext.3.own n number in
-    let now : entries_of n (x.seen ++ ext.0) ≡ entries_of n v.seen =
-    entries_of-++ n x.seen ext.0 ∙ (ap (λ l. entries_of n x.seen ++ l) none ∙ (append-nil (entries_of n x.seen) ∙ moved.mine n rest.number)) in
     record {
       number = refl;
       misses = ap (λ u. u.misses) ext.1 ∙ moved.misses;
-      seen = (more.0 ++ ext.0, seen_y ∙ ap (λ l. l ++ e ∷ []) (ap (λ l. l ++ ext.0) (sym more.1) ∙ append_assoc v.seen more.0 ext.0));
+      seen = (more.0 ++ ext.0, seen ∙ ap (λ l. l ++ e ∷ []) (ap (λ l. l ++ ext.0) (sym more.1) ∙ append_assoc v.seen more.0 ext.0));
       legal = ext.3.legal;
-      mine = ap (entries_of n) seen_y ∙ (entries_of-++ n (x.seen ++ ext.0) (e ∷ [])
-          ∙ (ap (λ l. l ++ entries_of n (e ∷ [])) now ∙ ap (λ l. entries_of n v.seen ++ l) (entries_of-own e n of_n)));
+      mine = mine_one n x.seen ext.0 y.seen e seen (ext.3.own n (moved.number ∙ rest.number)) own
+          ∙ ap (λ l. l ++ e ∷ []) (moved.mine n rest.number);
     }
 
 -- a turn with the pen in which no entry was made
@@ -102,14 +101,8 @@ missed_known n cpu first second v w rest m =
     }
 
 pub missed_rests : (n cpu first second : ℕ) (v w : View) → IsAtRest n v → w ≡ missed cpu first second v → IsAtRest n w
-missed_rests n cpu first second v w rest e = record {
-  number = ap (λ u. u.number) e ∙ rest.number;
-  pen = ap (λ u. u.pen) e ∙ rest.pen;
-  hand = ap (λ u. u.hand) e ∙ rest.hand;
-  meet = ap (λ u. u.meet) e ∙ rest.meet;
-  ended = ap (λ u. u.ended) e ∙ rest.ended;
-  legal = subst IsLegal (sym (ap (λ u. u.seen) e)) rest.legal;
-}
+missed_rests n cpu first second v w rest e = subst (IsAtRest n) (sym e)
+    (record { number = rest.number; pen = rest.pen; hand = rest.hand; meet = rest.meet; ended = rest.ended; legal = rest.legal })
 
 pub tried_on : (locked : Bool) (cpu : ℕ) (p q r : PassKnown) → Tried cpu locked p q → r.misses ≡ q.misses → Tried cpu locked p r
 tried_on true cpu p q r t e = (t.0, t.1, e ∙ t.2, t.3, t.4)

@@ -66,11 +66,8 @@ below_moved m w v x a b moved = record {
   below = λ k l. ⊎_elim (λ (e : x.seen ≡ v.seen). ap (entries_of k) e ∙ b.below k l) (λ (e : x.seen ≡ w.seen). ap (entries_of k) e ∙ a.below k l) moved.either;
 }
 
-pub below_left : (m : ℕ) (v w : View) → w ≡ pen_left v → IsBelow m v → IsBelow m w
-below_left m v w e b = record { limit = ap (λ u. u.limit) e ∙ b.limit; below = λ k l. ap (λ (u : View). entries_of k u.seen) e ∙ b.below k l }
-
-pub below_same : (m : ℕ) (v w : View) → w ≡ v → IsBelow m v → IsBelow m w
-below_same m v w e b = record { limit = ap (λ u. u.limit) e ∙ b.limit; below = λ k l. ap (λ (u : View). entries_of k u.seen) e ∙ b.below k l }
+pub below_as : (m : ℕ) (v w : View) → w.limit ≡ v.limit → w.seen ≡ v.seen → IsBelow m v → IsBelow m w
+below_as m v w limit seen b = record { limit = limit ∙ b.limit; below = λ k l. ap (entries_of k) seen ∙ b.below k l }
 
 pub below_told : (m : ℕ) (v w : View) (e : Entry) → Extends e v w → IsBelow m v → IsBelow m w
 below_told m v w e x b = record { limit = ap (λ u. u.limit) x.1 ∙ b.limit; below = λ k l. x.3.below m k b.limit l }
@@ -82,30 +79,19 @@ below_heard m v w e x b = record { limit = ap (λ u. u.limit) x.1 ∙ b.limit; b
 pub rests_left : (n : ℕ) (x y z : View) → IsPenOf n x → x.ended ≡ [] → y.number ≡ x.number → y.hand ≡ None → y.meet ≡ x.meet → y.ended ≡ x.ended
     → IsLegal y.seen
     → z ≡ pen_left y → IsAtRest n z
-rests_left n x y z has none number hand meet ended legal e = record {
-  number = ap (λ u. u.number) e ∙ (number ∙ has.number);
-  pen = ap (λ u. u.pen) e;
-  hand = ap (λ u. u.hand) e ∙ hand;
-  meet = ap (λ u. u.meet) e ∙ (meet ∙ has.meet);
-  ended = ap (λ u. u.ended) e ∙ (ended ∙ none);
-  legal = subst IsLegal (sym (ap (λ u. u.seen) e)) legal;
-}
+rests_left n x y z has none number hand meet ended legal e = subst (IsAtRest n) (sym e)
+    (record { number = number ∙ has.number; pen = refl; hand = hand; meet = meet ∙ has.meet; ended = ended ∙ none; legal = legal })
 
 pub told_rests : (n : ℕ) (e : Entry) (x y z : View) → IsPenOf n x → x.ended ≡ [] → Extends e x y → z ≡ pen_left y → IsAtRest n z
 told_rests n e x y z has none t left =
     rests_left n x y z has none (ap (λ u. u.number) t.1) (ap (λ u. u.hand) t.1) (ap (λ u. u.meet) t.1) (ap (λ u. u.ended) t.1) t.3.legal left
 
-pub same_rests : (n : ℕ) (x y z : View) → IsPenOf n x → x.ended ≡ [] → IsLegal x.seen → y ≡ x → z ≡ pen_left y → IsAtRest n z
-same_rests n x y z has none legal e left =
-    rests_left n x y z has none (ap (λ u. u.number) e) (ap (λ u. u.hand) e ∙ has.hand) (ap (λ u. u.meet) e) (ap (λ u. u.ended) e)
-    (subst IsLegal (sym (ap (λ u. u.seen) e)) legal) left
-
 pub heard_rests : (n : ℕ) (v w : View) (e : Entry) → IsAtRest n v → Hears e v w → IsAtRest n w
-heard_rests n v w e rest x = record {
-  number = ap (λ u. u.number) x.1 ∙ rest.number;
-  pen = ap (λ u. u.pen) x.1 ∙ rest.pen;
-  hand = ap (λ u. u.hand) x.1 ∙ rest.hand;
-  meet = ap (λ u. u.meet) x.1 ∙ rest.meet;
-  ended = ap (λ u. u.ended) x.1 ∙ rest.ended;
-  legal = x.2.legal;
-}
+heard_rests n v w e rest x = subst (IsAtRest n) (sym x.1) (record {
+  number = rest.number;
+  pen = rest.pen;
+  hand = rest.hand;
+  meet = rest.meet;
+  ended = rest.ended;
+  legal = subst (λ (u : View). IsLegal u.seen) x.1 x.2.legal;
+})

@@ -2,14 +2,18 @@
 use Rattle.std.proofs.Common.{◌≡◌, ℕ, ◌<◌, ◌≤◌, List, [], ◌∷◌, refl, ap, sym, ◌∙◌, subst, arith, Some, Bool, true, false, eq-eqb, Result, Ok, Err, IfOk, IfErr}
 use mathlib.Core.List.{IsPrefix}
 use Rattle.pvclock_page.specs.declared.page.Page.{Page}
+use Rattle.pvclock_page.specs.declared.page.PageReply.{PageReply}
 use Rattle.hv_page.specs.Words.{of_page}
+use Rattle.hv_page.specs.declared.page.HvPage.{HvPage}
+use Rattle.hv_page.specs.declared.page.HvReply.{HvReply}
 use Rattle.host_counter.specs.declared.Anchor.{Anchor}
 use Rattle.board_types.specs.declared.parts.BoardParts.{BoardParts}
 use Rattle.board_core.specs.Pages.{answer_by}
 use Rattle.board_core.specs.Hv.{hv_answer_by}
 use Rattle.board_history.specs.Machine.{Machine, machine_of, page_at, ratio_in, page_published}
-use Rattle.board_history.specs.History.{board_after, version_after, entries_of, IsLegal, read_of}
+use Rattle.board_history.specs.History.{board_after, version_after, IsLegal, read_of}
 use Rattle.board_history.specs.declared.entry.Entry.{Entry}
+use Rattle.board_history.specs.declared.entry.Entry.TheVariants.{PageRead, HvRead}
 use Rattle.board_history.proofs.Laws.{legal-version, read_of-number, read_of-page, read_of-hv}
 use Rattle.clock_table.specs.declared.view.View.{View}
 use Rattle.clock_table.specs.Steps.{or_else, number_in, Hears}
@@ -23,7 +27,7 @@ use Rattle.shared_board.specs.Hv.{HvWasRead, HasTriedHv, HasLockedHv, HasReadHv}
 use Rattle.shared_board.specs.private.Seats.{known, IsAtRest, IsBelow, IsApplied}
 use Rattle.shared_board.specs.private.Tries.{HasHeard, IsTryFault}
 use Rattle.shared_board.specs.private.Tables.{TableRead, HasTriedTable, HasLockedTable, HasReadTable}
-use Rattle.shared_board.proofs.Seats.{heard_rests, below_heard, below_same, alike_machine}
+use Rattle.shared_board.proofs.Seats.{heard_rests, below_heard, below_as, alike_machine}
 use Rattle.clock_table.specs.declared.call.Asked.{Asked}
 use Rattle.board_types.specs.declared.reply.Reply.{Reply}
 use Rattle.board_core.specs.Access.{after_access}
@@ -37,12 +41,8 @@ try_known s n k h page v w rest a =
     let number : number_in v ≡ n = ap (λ o. or_else o 0) rest.number in
     let e : Entry = read_of s.cpus n k h page false in
     let t : Hears e v w = subst (λ (i : ℕ). Hears (read_of s.cpus i k h page false) v w) number a.heard in
-    let made = heard_made n v w e rest t (read_of-number s.cpus n k h n page false ∙ eq-eqb n n refl) in
     record {
-      read = record {
-        made = record { number = made.number; more = made.more; legal = made.legal; mine = made.mine };
-        least = a.least;
-      };
+      read = record { made = heard_made n v w e rest t (read_of-number s.cpus n k h n page false ∙ eq-eqb n n refl); least = a.least };
       misses = ap (λ u. u.misses) t.1;
     }
 
@@ -56,14 +56,11 @@ pub try_rests : (res : Result Page PageFault) (anchor : Anchor) (c m n k h : ℕ
 try_rests (Ok page) anchor c m n k h v w rest low ok err =
     let e : Entry = read_of c (number_in v) k h page false in
     (heard_rests n v w e rest ok.heard, below_heard m v w e ok.heard low)
-try_rests (Err (NoTime fault)) anchor c m n k h v w rest low ok err = (subst (IsAtRest n) (sym err.1) rest, below_same m v w err.1 low)
-try_rests (Err (Again first second)) anchor c m n k h v w rest low ok err = (
-  missed_rests n k first second v w rest err.1.missed,
-  record {
-    limit = ap (λ u. u.limit) err.1.missed ∙ low.limit;
-    below = λ i l. ap (λ (u : View). entries_of i u.seen) err.1.missed ∙ low.below i l;
-  },
-)
+try_rests (Err (NoTime fault)) anchor c m n k h v w rest low ok err =
+    (subst (IsAtRest n) (sym err.1) rest, below_as m v w (ap (λ u. u.limit) err.1) (ap (λ u. u.seen) err.1) low)
+try_rests (Err (Again first second)) anchor c m n k h v w rest low ok err =
+    let missed = err.1.missed in
+    (missed_rests n k first second v w rest missed, below_as m v w (ap (λ u. u.limit) missed) (ap (λ u. u.seen) missed) low)
 
 -- a read under the lock
 pub locked_answered : (s : BoardParts) (k h : ℕ) (page : Page) (p q : PassKnown) → Answered p q (read_of s.cpus p.number k h page true)
@@ -92,72 +89,61 @@ pub locked_late : (res : Result Page LockedFault) (s : BoardParts) (k h first se
 locked_late (Ok page) s k h first second p q r m ok = read_late s k h page first second p q r m ok
 locked_late (Err f) s k h first second p q r m ok = tt
 
--- the page of a processor
-pub was_page : (s : BoardParts) (ratio cpu h : ℕ) (locked : Bool) (page : Page) (p q : PassKnown) → ratio ≡ ratio_in (machine_of s) → cpu < s.cpus
-    → TableRead s cpu h locked page p q → PageWasRead s cpu h locked (answer_by ratio page h) p q
-was_page s ratio cpu h locked page p q scaled inside t = record {
-  page = page;
-  answer = ap (λ (r : ℕ). answer_by r page h) scaled;
-  made = subst (λ (e : Entry). Made p q (e ∷ [])) (read_of-page s.cpus p.number cpu h page locked inside) t.made;
-  least = t.least;
-}
+module _ (s : BoardParts) (ratio h : ℕ) (page : Page) (p q : PassKnown) (scaled : ratio ≡ ratio_in (machine_of s)) where
+  -- the page of a processor
+  module _ (cpu : ℕ) (reply : PageReply) (inside : cpu < s.cpus) (is : reply ≡ answer_by ratio page h) where
+    was_page : (locked : Bool) → TableRead s cpu h locked page p q → PageWasRead s cpu h locked reply p q
+    was_page locked t = record {
+      page = page;
+      answer = is ∙ ap (λ (r : ℕ). answer_by r page h) scaled;
+      made = subst (λ (e : Entry). Made p q (e ∷ [])) (read_of-page s.cpus p.number cpu h page locked inside) t.made;
+      least = t.least;
+    }
 
-pub tried_page : (s : BoardParts) (ratio cpu h : ℕ) (page : Page) (p q : PassKnown) → ratio ≡ ratio_in (machine_of s) → cpu < s.cpus
-    → HasTriedTable s cpu h page p q → HasTriedPage s cpu h (answer_by ratio page h) p q
-tried_page s ratio cpu h page p q scaled inside t =
-    record { read = was_page s ratio cpu h false page p q scaled inside t.read; misses = t.misses }
+    -- the front word had room for its entry
+    page_room : HadRoom (read_of s.cpus p.number cpu h page true) q.seen → HadRoom (PageRead p.number cpu h page true) q.seen
+    page_room = subst (λ (e : Entry). HadRoom e q.seen) (read_of-page s.cpus p.number cpu h page true inside)
 
-pub locked_page : (s : BoardParts) (ratio cpu h : ℕ) (page : Page) (p q : PassKnown) → ratio ≡ ratio_in (machine_of s) → cpu < s.cpus
-    → HasLockedTable s cpu h page p q → HasLockedPage s cpu h (answer_by ratio page h) p q
-unfolding was_page
-locked_page s ratio cpu h page p q scaled inside t = record {
-  read = was_page s ratio cpu h true page p q scaled inside t.read;
-  misses = t.misses;
-  room = subst (λ (e : Entry). HadRoom e q.seen) (read_of-page s.cpus p.number cpu h page true inside) t.room;
-}
+    pub tried_page : HasTriedTable s cpu h page p q → HasTriedPage s cpu h reply p q
+    tried_page t = record { read = was_page false t.read; misses = t.misses }
 
-pub read_page : (s : BoardParts) (ratio cpu h : ℕ) (page : Page) (p q : PassKnown) → ratio ≡ ratio_in (machine_of s) → cpu < s.cpus
-    → HasReadTable s cpu h page p q → HasReadPage s cpu h (answer_by ratio page h) p q
-unfolding was_page
-read_page s ratio cpu h page p q scaled inside t = record {
-  locked = t.locked;
-  read = was_page s ratio cpu h t.locked page p q scaled inside t.read;
-  tried = t.tried;
-  room = λ is. subst (λ (e : Entry). HadRoom e q.seen) (read_of-page s.cpus p.number cpu h page true inside) (t.room is);
-}
+    pub locked_page : HasLockedTable s cpu h page p q → HasLockedPage s cpu h reply p q
+    unfolding was_page
+    locked_page t = record { read = was_page true t.read; misses = t.misses; room = page_room t.room }
 
--- the reference page
-pub was_hv : (s : BoardParts) (ratio h : ℕ) (locked : Bool) (page : Page) (p q : PassKnown) → ratio ≡ ratio_in (machine_of s)
-    → TableRead s s.cpus h locked page p q → HvWasRead s h locked (hv_answer_by ratio (of_page page) h) p q
-was_hv s ratio h locked page p q scaled t = record {
-  page = of_page page;
-  answer = ap (λ (r : ℕ). hv_answer_by r (of_page page) h) scaled;
-  made = subst (λ (e : Entry). Made p q (e ∷ [])) (read_of-hv s.cpus p.number h page locked) t.made;
-  least = t.least;
-}
+    pub read_page : HasReadTable s cpu h page p q → HasReadPage s cpu h reply p q
+    unfolding was_page
+    read_page t = record { locked = t.locked; read = was_page t.locked t.read; tried = t.tried; room = λ is'. page_room (t.room is') }
 
-pub tried_hv : (s : BoardParts) (ratio h : ℕ) (page : Page) (p q : PassKnown) → ratio ≡ ratio_in (machine_of s) → HasTriedTable s s.cpus h page p q
-    → HasTriedHv s h (hv_answer_by ratio (of_page page) h) p q
-tried_hv s ratio h page p q scaled t = record { read = was_hv s ratio h false page p q scaled t.read; misses = t.misses }
+  -- the reference page, which comes after those of the processors
+  module _ (k : ℕ) (reply : HvReply) (hv : HvPage) (placed : k ≡ s.cpus) (is : reply ≡ hv_answer_by ratio hv h) (same : hv ≡ of_page page) where
+    was_hv : (locked : Bool) → TableRead s s.cpus h locked page p q → HvWasRead s h locked reply p q
+    was_hv locked t = record {
+      page = of_page page;
+      answer = is ∙ (λ i. hv_answer_by (scaled i) (same i) h);
+      made = subst (λ (e : Entry). Made p q (e ∷ [])) (read_of-hv s.cpus p.number h page locked) t.made;
+      least = t.least;
+    }
 
-pub locked_hv : (s : BoardParts) (ratio h : ℕ) (page : Page) (p q : PassKnown) → ratio ≡ ratio_in (machine_of s) → HasLockedTable s s.cpus h page p q
-    → HasLockedHv s h (hv_answer_by ratio (of_page page) h) p q
-unfolding was_hv
-locked_hv s ratio h page p q scaled t = record {
-  read = was_hv s ratio h true page p q scaled t.read;
-  misses = t.misses;
-  room = subst (λ (e : Entry). HadRoom e q.seen) (read_of-hv s.cpus p.number h page true) t.room;
-}
+    hv_room : HadRoom (read_of s.cpus p.number s.cpus h page true) q.seen → HadRoom (HvRead p.number h (of_page page) true) q.seen
+    hv_room = subst (λ (e : Entry). HadRoom e q.seen) (read_of-hv s.cpus p.number h page true)
 
-pub read_hv : (s : BoardParts) (ratio h : ℕ) (page : Page) (p q : PassKnown) → ratio ≡ ratio_in (machine_of s) → HasReadTable s s.cpus h page p q
-    → HasReadHv s h (hv_answer_by ratio (of_page page) h) p q
-unfolding was_hv
-read_hv s ratio h page p q scaled t = record {
-  locked = t.locked;
-  read = was_hv s ratio h t.locked page p q scaled t.read;
-  tried = t.tried;
-  room = λ is. subst (λ (e : Entry). HadRoom e q.seen) (read_of-hv s.cpus p.number h page true) (t.room is);
-}
+    pub tried_hv : HasTriedTable s k h page p q → HasTriedHv s h reply p q
+    tried_hv t =
+        let t' = subst (λ (n : ℕ). HasTriedTable s n h page p q) placed t in
+        record { read = was_hv false t'.read; misses = t'.misses }
+
+    pub locked_hv : HasLockedTable s k h page p q → HasLockedHv s h reply p q
+    unfolding was_hv
+    locked_hv t =
+        let t' = subst (λ (n : ℕ). HasLockedTable s n h page p q) placed t in
+        record { read = was_hv true t'.read; misses = t'.misses; room = hv_room t'.room }
+
+    pub read_hv : HasReadTable s k h page p q → HasReadHv s h reply p q
+    unfolding was_hv
+    read_hv t =
+        let t' = subst (λ (n : ℕ). HasReadTable s n h page p q) placed t in
+        record { locked = t'.locked; read = was_hv t'.locked t'.read; tried = t'.tried; room = λ is'. hv_room (t'.room is') }
 
 -- the page that is read under the lock is no older than what the pass had seen
 pub read_least : (res : Result Page ℕ) (k : ℕ) (xs ys : List Entry) → IsPrefix xs ys → IsLegal ys → IfOk res (λ page. page_at (board_after ys) k ≡ page)

@@ -23,7 +23,7 @@ use Rattle.shared_board.specs.Pages.{HadRoom}
 use Rattle.shared_board.specs.Faults.{IsFull}
 use Rattle.shared_board.specs.private.Seats.{known, IsAtRest, IsBelow, AreAlike, IsHeldBy, IsHeld, PenMoved, IsPenOf, HasActed, HasRefused, IsSpentAt}
 use Rattle.clock_table.specs.Calls.{entry_of}
-use Rattle.shared_board.proofs.Seats.{alike_quiet, legal_either, pen_of, below_moved, below_left, below_told, told_rests, same_rests}
+use Rattle.shared_board.proofs.Seats.{alike_quiet, legal_either, pen_of, below_moved, below_as, below_told, rests_left, told_rests}
 use Rattle.shared_board.proofs.Made.{told_answered, moved_unanswered}
 use Rattle.shared_board.proofs.Clocks.{loud-le}
 
@@ -70,14 +70,14 @@ turned_of opening m n b y made below legal alike machine rests = record {
     alike = alike;
     machine = machine;
   };
-  rests = λ z left. (rests z left, below_left m y z left below);
+  rests = λ z left. (rests z left, below_as m y z (ap (λ u. u.limit) left) (ap (λ u. u.seen) left) below);
 }
 
 -- a turn in which nothing was done
 turned_same : (opening : BoardParts) (m n : ℕ) (b : BoardParts) (x y : View) → HasPen opening m n b x → y ≡ x → HasTurned opening m n b y
 turned_same opening m n b x y has same =
     subst (HasTurned opening m n b) (sym same) (turned_of opening m n b x has.made has.below has.legal has.alike has.machine
-    (λ z left. same_rests n x x z has.pen has.ended has.legal refl left))
+    (λ z left. rests_left n x x z has.pen has.ended refl has.pen.hand refl refl has.legal left))
 
 -- an access
 pub act_turned : {A : Type 0} (res : Result A Refusal) (r : Reply) (opening : BoardParts) (m : ℕ) (c : Call) (b b' : BoardParts) (x y : View)
@@ -95,9 +95,7 @@ pub act_answered : {A : Type 0} (res : Result A Refusal) (r : Reply) (n cpu h : 
 act_answered (Ok _) r n cpu h c b' v w x y z same rest moved left ok =
     let e : Entry = Board n c.asked.cpu c.asked.h c.asked.access r in
     let told : Extends e x y = subst (λ (k : ℕ). Extends (Board k c.asked.cpu c.asked.h c.asked.access r) x y) same ok.told in
-    let t = told_answered n v w x y e rest moved told (eq-eqb n n refl) in
-    subst (λ (u : View). Answered (known n v) (known n u) e) (sym left)
-    (record { number = t.number; misses = t.misses; seen = t.seen; legal = t.legal; mine = t.mine })
+    subst (λ (u : View). Answered (known n v) (known n u) e) (sym left) (told_answered n v w x y e rest moved told (eq-eqb n n refl))
 act_answered (Err f) r n cpu h c b' v w x y z same rest moved left ok = tt
 
 pub act_refused : {A : Type 0} (res : Result A Refusal) (n : ℕ) (a : Asked) (b b' : BoardParts) (v w x y z : View) → IsAtRest n v → PenMoved w v x
@@ -129,9 +127,8 @@ pub read_answered : (res : Result Page ℕ) (c n cpu h : ℕ) (v w x y z : View)
     → IfOk res (λ page. Extends (read_of c n cpu h page true) x y) → IfOk res (λ page. Answered (known n v) (known n z) (read_of c n cpu h page true))
 read_answered (Ok page) c n cpu h v w x y z rest moved left ok =
     let e : Entry = read_of c n cpu h page true in
-    let t = told_answered n v w x y e rest moved ok (read_of-number c n cpu h n page true ∙ eq-eqb n n refl) in
     subst (λ (u : View). Answered (known n v) (known n u) e) (sym left)
-    (record { number = t.number; misses = t.misses; seen = t.seen; legal = t.legal; mine = t.mine })
+    (told_answered n v w x y e rest moved ok (read_of-number c n cpu h n page true ∙ eq-eqb n n refl))
 read_answered (Err f) c n cpu h v w x y z rest moved left ok = tt
 
 -- the front word counts the entries before the read

@@ -1,20 +1,7 @@
-use Rattle.std.proofs.Common.{sym, subst}
-use Rattle.hv_page.specs.declared.page.HvReply.{HvReply}
-use Rattle.shared_board.specs.Hv.{HasLockedHv}
-use Rattle.std.proofs.Common.{ℕ, ap, ◌∙◌}
-use Rattle.hv_page.specs.declared.page.HvPage.{HvPage}
-use Rattle.board_core.specs.Hv.{hv_answer_by}
-use Rattle.shared_board.specs.private.Tables.{HasLockedTable}
 use Rattle.shared_board.proofs.Tables.{locked_hv}
 use Rattle.shared_board.proofs.shared.SharedBoard.hv_locked.Goals as goal
 
 pub returns-in-Ok-clause-ok : goal.returns-in-Ok-clause-ok
 returns-in-Ok-clause-ok g c =
-    let s = g.N.Name.state in
-    let same = c.args.self.now.placed in
-    let p = c.args.pass.now in
-    let q = c.table_locked.new.pass in
-    subst (λ (r : HvReply). HasLockedHv s c.args.h r p q)
-    (sym (c.hv_answer_by.ensures ∙ ap (λ (x : HvPage). hv_answer_by c.args.self.now.ratio x c.args.h) c.of_page.ensures))
-    (locked_hv s c.args.self.now.ratio c.args.h c.in-Ok.page p q c.args.self.now.scaled
-    (subst (λ (k : ℕ). HasLockedTable s k c.args.h c.in-Ok.page p q) same c.in-Ok.ensures.ok))
+    locked_hv g.N.Name.state c.args.self.now.ratio c.args.h c.in-Ok.page c.args.pass.now c.table_locked.new.pass c.args.self.now.scaled _ _ _
+    c.args.self.now.placed c.hv_answer_by.ensures c.of_page.ensures c.in-Ok.ensures.ok

@@ -1,20 +1,7 @@
-use Rattle.std.proofs.Common.{sym, subst}
-use Rattle.hv_page.specs.declared.page.HvReply.{HvReply}
-use Rattle.shared_board.specs.Hv.{HasTriedHv}
-use Rattle.std.proofs.Common.{ℕ, ap, ◌∙◌}
-use Rattle.hv_page.specs.declared.page.HvPage.{HvPage}
-use Rattle.board_core.specs.Hv.{hv_answer_by}
-use Rattle.shared_board.specs.private.Tables.{HasTriedTable}
 use Rattle.shared_board.proofs.Tables.{tried_hv}
 use Rattle.shared_board.proofs.shared.SharedBoard.try_hv.Goals as goal
 
 pub returns-in-Ok-clause-ok : goal.returns-in-Ok-clause-ok
 returns-in-Ok-clause-ok g c =
-    let s = g.N.Name.state in
-    let same = c.args.self.now.placed in
-    let p = c.args.pass.now in
-    let q = c.try_table.new.pass in
-    subst (λ (r : HvReply). HasTriedHv s c.args.h r p q)
-    (sym (c.hv_answer_by.ensures ∙ ap (λ (x : HvPage). hv_answer_by c.args.self.now.ratio x c.args.h) c.of_page.ensures))
-    (tried_hv s c.args.self.now.ratio c.args.h c.in-Ok.page p q c.args.self.now.scaled
-    (subst (λ (k : ℕ). HasTriedTable s k c.args.h c.in-Ok.page p q) same c.in-Ok.ensures.ok))
+    tried_hv g.N.Name.state c.args.self.now.ratio c.args.h c.in-Ok.page c.args.pass.now c.try_table.new.pass c.args.self.now.scaled _ _ _
+    c.args.self.now.placed c.hv_answer_by.ensures c.of_page.ensures c.in-Ok.ensures.ok
