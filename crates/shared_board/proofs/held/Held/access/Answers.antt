@@ -39,9 +39,11 @@ turned g c pen = act_turned c.act-result.result c.act-result.new.reply g.N.Name.
 
 pub invariant_of-self : goal.invariant_of-self
 invariant_of-self g c =
-    let at = goal.at.invariant_of-self g c in
-    (pen_right c.act-result.new.seat, c.new.ensures ∙ ap (λ (u : View). u ∷ []) c.split_pen.ensures.right,
-    (turned g at.After-new (has g at.After-deref_mut)).writer)
+    let at = goal.at.invariant_of-self g c in (
+      pen_right c.act-result.new.seat,
+      c.new.ensures ∙ ap (λ (u : View). u ∷ []) c.split_pen.ensures.right,
+      (turned g at.After-new (has g at.After-deref_mut)).writer,
+    )
 
 pub invariant_of-pass : goal.invariant_of-pass
 invariant_of-pass g c =

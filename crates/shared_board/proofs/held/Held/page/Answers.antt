@@ -44,9 +44,11 @@ turned g c pen = read_turned c.read-result.result g.N.Name.state.cpus g.N.Name.s
 
 pub invariant_of-self : goal.invariant_of-self
 invariant_of-self g c =
-    let at = goal.at.invariant_of-self g c in
-    (pen_right c.read-result.new.seat, c.new.ensures ∙ ap (λ (u : View). u ∷ []) c.split_pen.ensures.right,
-    (turned g at.After-new (has g at.After-take_pen-front)).writer)
+    let at = goal.at.invariant_of-self g c in (
+      pen_right c.read-result.new.seat,
+      c.new.ensures ∙ ap (λ (u : View). u ∷ []) c.split_pen.ensures.right,
+      (turned g at.After-new (has g at.After-take_pen-front)).writer,
+    )
 
 pub invariant_of-pass : goal.invariant_of-pass
 invariant_of-pass g c =

@@ -32,8 +32,14 @@ met c = (goal.at.overflow_sub-result c).After-limit_met-limit
 
 over : (c : goal.After-len-then-len-n) → c.limit_met-limit.result ≡ limit_of (kept (met c) ++ take c.unwrap_or-n.result (rest (met c)))
 over c =
-    c.limit_met-limit.ensures.over (omega (arith, length-take-le c.unwrap_or-n.result (rest (met c)) (most (met c)), ap length c.deref.ensures.value,
-    c.len.ensures, c.self.inside.kept.ok.0, c.if-len-n.true))
+    c.limit_met-limit.ensures.over (omega (
+      arith,
+      length-take-le c.unwrap_or-n.result (rest (met c)) (most (met c)),
+      ap length c.deref.ensures.value,
+      c.len.ensures,
+      c.self.inside.kept.ok.0,
+      c.if-len-n.true,
+    ))
     ∙ ap (λ (t : List ℕ). limit_of (t ++ take c.unwrap_or-n.result (rest (met c)))) c.deref.ensures.value
 
 pub overflow_sub-result : goal.overflow_sub-result
