@@ -40,6 +40,7 @@ use Rattle.board_core.proofs.Laws.{after_access-cpus}
 use Rattle.board_history.specs.Machine.{machine_of, page_at, ratio_in, hv_at}
 use Rattle.board_history.specs.History.{
   of_state,
+  after_entry,
   board_after,
   pass_of,
   is_of,
@@ -100,10 +101,7 @@ of_0 e es (suc k) is none =
 
 legal_of_0 : (before es : List Entry) (e : Entry) → May before e → NoneElse (e ∷ es) → is_of 0 e ≡ true
 legal_of_0 before es (Opened s) may none = absurd may
-legal_of_0 before es (Board pass cpu h access reply) may none = of_0 (Board pass cpu h access reply) es pass refl none
-legal_of_0 before es (PageRead pass cpu h page locked) may none = of_0 (PageRead pass cpu h page locked) es pass refl none
-legal_of_0 before es (HvRead pass h page locked) may none = of_0 (HvRead pass h page locked) es pass refl none
-legal_of_0 before es (Clamp pass cpu reading clock) may none = of_0 (Clamp pass cpu reading clock) es pass refl none
+legal_of_0 before es e may none = of_0 e es _ refl none
 
 -- so a legal history without other passes has the entries of pass 0 alone, after its opening
 alone_from : (before es : List Entry) → LegalFrom before es → NoneElse es → es ≡ entries_of 0 es
@@ -157,34 +155,24 @@ IsPlain before first cpu h call a =
     (a ≡ answer_on (board_after before) cpu h call) × (board_after (before ++ first) ≡ board_after_phases (board_after before) cpu h call)
 
 module _ (s : BoardParts) (n cpu h : ℕ) (before first : List Entry) where
+  -- the board after a call that made one entry
+  after_one : (e : Entry) → first ≡ e ∷ [] → board_after (before ++ first) ≡ after_entry (board_after before) e
+  after_one e made = ap (λ es. board_after (before ++ es)) made ∙ board_after-snoc before e
+
   call_plain : (call : Call) (a : Answer) → machine_of (board_after before) ≡ machine_of s → LegalFrom before first → CallMade s n cpu h call a first
       → IsPlain before first cpu h call a
   call_plain (Act a) (Acted reply) same legal made =
-      let e : Entry = Board n cpu h a reply in
-      let may = (subst (LegalFrom before) made legal).0 in (
-        ap (λ r. Acted r) (sym may.reply),
-        ap (λ es. board_after (before ++ es)) made ∙ board_after-snoc before e,
-      )
-  call_plain (Act a) (PageIs reply) same legal made = absurd made
-  call_plain (Act a) (ClockIs reply) same legal made = absurd made
-  call_plain (ReadPage k) (Acted reply) same legal made = absurd made
+      let may = (subst (LegalFrom before) made legal).0 in (ap (λ r. Acted r) (sym may.reply), after_one (Board n cpu h a reply) made)
   call_plain (ReadPage k) (PageIs reply) same legal made =
-      let e : Entry = PageRead n k h made.0 made.1 in
       let may = (subst (LegalFrom before) made.3 legal).0 in (
         ap (λ r. PageIs r) (made.2 ∙ sym (answer_at s (board_after before) k h made.0 same may)),
-        ap (λ es. board_after (before ++ es)) made.3 ∙ board_after-snoc before e,
+        after_one (PageRead n k h made.0 made.1) made.3,
       )
-  call_plain (ReadPage k) (ClockIs reply) same legal made = absurd made
-  call_plain (ReadClock k) (Acted reply) same legal made = absurd made
-  call_plain (ReadClock k) (PageIs reply) same legal made = absurd made
   call_plain (ReadClock k) (ClockIs Off) same legal made =
       let b : BoardParts = board_after before in
-      let e : Entry = PageRead n k h made.0 made.1 in
       let may = (subst (LegalFrom before) made.3 legal).0 in
-      let off = clock-off b k h (answer_at s b k h made.0 same may ∙ answer_off (ratio_in (machine_of s)) h made.0 made.2) in (
-        ap (λ r. ClockIs r) off.0,
-        ap (λ es. board_after (before ++ es)) made.3 ∙ board_after-snoc before e ∙ off.1,
-      )
+      let off = clock-off b k h (answer_at s b k h made.0 same may ∙ answer_off (ratio_in (machine_of s)) h made.0 made.2) in
+      (ap (λ r. ClockIs r) off.0, after_one (PageRead n k h made.0 made.1) made.3 ∙ off.1)
   call_plain (ReadClock k) (ClockIs (On reading clock)) same legal made =
       let b : BoardParts = board_after before in
       let e : Entry = PageRead n k h made.0 made.1 in
@@ -198,18 +186,12 @@ module _ (s : BoardParts) (n cpu h : ℕ) (before first : List Entry) where
         ap (λ es. board_after (before ++ es)) made.3 ∙ ap board_after (sym (append_assoc before (e ∷ []) (f ∷ [])))
             ∙ board_after-snoc (before ++ e ∷ []) f ∙ ap (λ (x : BoardParts). with_greatest x clock) after ∙ on.1,
       )
-  call_plain (Act a) (HvIs reply) same legal made = absurd made
-  call_plain (ReadPage k) (HvIs reply) same legal made = absurd made
-  call_plain (ReadClock k) (HvIs reply) same legal made = absurd made
-  call_plain ReadHv (Acted reply) same legal made = absurd made
-  call_plain ReadHv (PageIs reply) same legal made = absurd made
-  call_plain ReadHv (ClockIs reply) same legal made = absurd made
   call_plain ReadHv (HvIs reply) same legal made =
-      let e : Entry = HvRead n h made.0 made.1 in
       let may = (subst (LegalFrom before) made.3 legal).0 in (
         ap (λ r. HvIs r) (made.2 ∙ sym (hv_answer_at s (board_after before) h made.0 same may)),
-        ap (λ es. board_after (before ++ es)) made.3 ∙ board_after-snoc before e,
+        after_one (HvRead n h made.0 made.1) made.3,
       )
+  call_plain _ _ same legal made = absurd made
 
 -- so do those of all its records
 records_plain : (s : BoardParts) (ds : Deliveries) (n : ℕ) (rs : List Record) (before later : List Entry) (out : List ℕ)

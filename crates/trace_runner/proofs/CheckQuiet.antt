@@ -1,53 +1,13 @@
 -- A check prints nothing but a refusal.
-use Rattle.std.proofs.Common.{
-  ◌≡◌,
-  ℕ,
-  ◌==◌,
-  ◌&&◌,
-  ltb,
-  leb,
-  Bool,
-  true,
-  false,
-  cond,
-  List,
-  [],
-  ◌∷◌,
-  ◌++◌,
-  length,
-  Option,
-  Some,
-  None,
-  Result,
-  Ok,
-  Err,
-  refl,
-  sym,
-  subst,
-}
+use Rattle.std.proofs.Common.{◌≡◌, ℕ, ◌&&◌, List, [], ◌++◌, Option, Some, None, Result, Ok, Err, refl, subst}
+use Rattle.std.proofs.lemmas.Bool.{cond_both}
 use Rattle.reply_text.specs.declared.ends.Refused.TheVariants.{Invalid}
 use Rattle.trace_text.specs.Lines.{taken}
 use Rattle.trace_text.specs.declared.faults.RecordFault.{RecordFault}
 use Rattle.trace_text.specs.declared.reading.Item.{Item}
-use Rattle.trace_text.specs.declared.reading.Item.TheVariants.{Skipped, Part, Begun, Next, End}
+use Rattle.trace_text.specs.declared.reading.Item.TheVariants.{Next}
 use Rattle.trace_text.specs.declared.records.Record.{Record as Written}
-use Rattle.trace_loop.specs.Progress.{
-  limit_of,
-  Answer,
-  Goes,
-  Ends,
-  Progress,
-  opened,
-  told,
-  answered,
-  checked,
-  heard,
-  heard_until,
-  after_bytes,
-  closed,
-  ran,
-  finished_by,
-}
+use Rattle.trace_loop.specs.Progress.{Closing, Answer, Goes, Ends, Progress, opened, told, answered, after_bytes, closed, ran, finished_by}
 use Rattle.trace_runner.specs.Records.{stops}
 use Rattle.trace_runner.specs.Replay.{record_answer}
 use Rattle.trace_runner.specs.Check.{
@@ -73,6 +33,7 @@ use Rattle.trace_runner.specs.declared.check.Checked.{Checked}
 use Rattle.trace_runner.specs.declared.check.Checked.TheVariants.{Whole, Stopped}
 use Rattle.trace_runner.specs.declared.replay.Replay.{Replay}
 use Rattle.trace_runner.specs.declared.status.Verdict.{Verdict}
+use Rattle.trace_runner.proofs.Stays.{stays, stays-closed}
 
 -- nothing is printed before the end, nor with a whole trace
 abbrev Silent : Option Checked → List ℕ → Type 0
@@ -93,25 +54,18 @@ silent_by (Goes block r) line rec s = refl
 silent_by (Ends closing) line rec s = tt
 
 silent_record : (line : ℕ) (rec : Written) (s : Checking) → SilentAnswer (record_checked line rec s)
-silent_record line rec s = by_full (leb 200000 s.taken)
-  where
-    by_full : (t : Bool) → SilentAnswer (cond t (Ends (too_many line)) (checked_by (record_answer line rec s.replay) line rec s))
-    by_full true = tt
-    by_full false = silent_by (record_answer line rec s.replay) line rec s
+silent_record line rec s =
+    cond_both (is_full s) (Ends (too_many line)) (checked_by (record_answer line rec s.replay) line rec s) SilentAnswer (λ _. tt)
+    (λ _. silent_by (record_answer line rec s.replay) line rec s)
 
 silent_fault : (line : ℕ) (fault : RecordFault) (s : Checking) → SilentAnswer (Ends (fault_checked line fault s))
-silent_fault line fault s = by_many (is_full s && has_form fault.reason)
-  where
-    by_many : (t : Bool) → SilentAnswer (Ends (cond t (too_many line) (refusal (stops fault.line (Invalid fault.reason)))))
-    by_many true = tt
-    by_many false = tt
+silent_fault line fault s =
+    cond_both (is_full s && has_form fault.reason) (too_many line) (refusal (stops fault.line (Invalid fault.reason)))
+    (λ (closing : Closing Checked). SilentAnswer (Ends closing)) (λ _. tt) (λ _. tt)
 
 silent_item : (line : ℕ) (item : Item) (s : Checking) → SilentAnswer (item_checked line item s)
-silent_item line Skipped s = refl
-silent_item line Part s = refl
-silent_item line (Begun header) s = refl
 silent_item line (Next rec) s = silent_record line rec s
-silent_item line End s = refl
+silent_item line _ s = refl
 
 silent_taken : (line : ℕ) (x : Result Item RecordFault) (s : Checking) → SilentAnswer (taken_checked line x s)
 silent_taken line (Ok item) s = silent_item line item s
@@ -126,37 +80,15 @@ quiet-told : (a : Answer Checking Checked) (p : Progress Checking Checked) → S
 quiet-told (Goes block s) p silent is = rw (is, silent) refl
 quiet-told (Ends closing) p silent is = silent_front closing.end p.printed closing.text is silent
 
-quiet-answered : (p : Progress Checking Checked) → p.printed ≡ [] → IsQuiet (answered check_answer p)
+quiet-answered : (p : Progress Checking Checked) → p.end ≡ None → IsQuiet p → IsQuiet (answered check_answer p)
 unfolding check_answer
-quiet-answered p is =
+quiet-answered p none quiet =
     quiet-told (taken_checked p.line (taken p.state.replay.reading p.text) (read_on p.text p.state)) p
-    (silent_taken p.line (taken p.state.replay.reading p.text) (read_on p.text p.state)) is
+    (silent_taken p.line (taken p.state.replay.reading p.text) (read_on p.text p.state))
+    (subst (λ (e : Option Checked). Silent e p.printed) none quiet)
 
-quiet-cond : (t : Bool) (a b : Progress Checking Checked) → IsQuiet a → IsQuiet b → IsQuiet (cond t a b)
-quiet-cond true a b x y = x
-quiet-cond false a b x y = y
-
-silent_none : (o : Option Checked) (text : List ℕ) → o ≡ None → text ≡ [] → Silent o text
-silent_none o text none is = subst (λ (e : Option Checked). Silent e text) (sym none) is
-
-quiet-heard : (b : ℕ) (p : Progress Checking Checked) → p.end ≡ None → p.printed ≡ [] → IsQuiet (heard check_answer b p)
-quiet-heard b p none is =
-    let longer : Progress Checking Checked = record p { text = p.text ++ b ∷ [] } in
-    quiet-cond (b == 10) (answered check_answer p) (checked check_answer longer) (quiet-answered p is)
-    (quiet-cond (ltb (limit_of longer.text) (length longer.text)) (answered check_answer longer) longer (quiet-answered longer is)
-    (silent_none p.end p.printed none is))
-
-quiet-until : (end : Option Checked) (b : ℕ) (p : Progress Checking Checked) → p.end ≡ end → IsQuiet p → IsQuiet (heard_until check_answer end b p)
-quiet-until None b p is quiet = quiet-heard b p is (subst (λ (e : Option Checked). Silent e p.printed) is quiet)
-quiet-until (Some e) b p is quiet = quiet
-
-quiet-after : (bytes : List ℕ) (p : Progress Checking Checked) → IsQuiet p → IsQuiet (after_bytes check_answer bytes p)
-quiet-after [] p quiet = quiet
-quiet-after (b ∷ bs) p quiet = quiet-after bs (heard_until check_answer p.end b p) (quiet-until p.end b p refl quiet)
-
-quiet-closed : (text : List ℕ) (p : Progress Checking Checked) → p.end ≡ None → p.printed ≡ [] → IsQuiet (closed check_answer text p)
-quiet-closed [] p none is = silent_none p.end p.printed none is
-quiet-closed (b ∷ bs) p none is = quiet-answered p is
+quiet-after : (shows_state : Bool) (bytes : List ℕ) → IsQuiet (after_bytes check_answer bytes (opened (check_start shows_state)))
+quiet-after shows_state bytes = stays check_answer IsQuiet quiet-answered (λ b p none quiet. quiet) bytes (opened (check_start shows_state)) refl
 
 silent_ran : (end : Option Checked) (p : Progress Checking Checked) → p.end ≡ end → IsQuiet p
     → SilentAnswer (Ends (ran check_closing end p))
@@ -167,14 +99,14 @@ silent_finished : (end : Option Checked) (p : Progress Checking Checked) → p.e
     → SilentAnswer (Ends (finished_by check_answer check_closing end p))
 silent_finished None p is quiet =
     let t : Progress Checking Checked = closed check_answer p.text p in
-    silent_ran t.end t refl (quiet-closed p.text p is (subst (λ (e : Option Checked). Silent e p.printed) is quiet))
+    silent_ran t.end t refl (stays-closed check_answer IsQuiet quiet-answered (λ b q none same. same) p.text p is quiet)
 silent_finished (Some e) p is quiet = silent_ran (Some e) p is quiet
 
 silent_check : (shows_state : Bool) (bytes : List ℕ) → SilentAnswer (Ends (check shows_state bytes))
 unfolding check check_after
 silent_check shows_state bytes =
     let p : Progress Checking Checked = after_bytes check_answer bytes (opened (check_start shows_state)) in
-    silent_finished p.end p refl (quiet-after bytes (opened (check_start shows_state)) refl)
+    silent_finished p.end p refl (quiet-after shows_state bytes)
 
 -- a whole trace comes with no text
 pub silent_whole : (shows_state : Bool) (bytes : List ℕ) (trace : TraceRead) → (check shows_state bytes).end ≡ Whole trace
@@ -186,5 +118,5 @@ silent_whole shows_state bytes trace is =
 pub silent_going : (shows_state : Bool) (bytes : List ℕ) → (check_after shows_state bytes).end ≡ None → (check_after shows_state bytes).printed ≡ []
 unfolding check_after
 silent_going shows_state bytes none =
-    let p : Progress Checking Checked = after_bytes check_answer bytes (opened (check_start shows_state)) in
-    subst (λ (e : Option Checked). Silent e p.printed) none (quiet-after bytes (opened (check_start shows_state)) refl)
+    subst (λ (e : Option Checked). Silent e (after_bytes check_answer bytes (opened (check_start shows_state))).printed) none
+    (quiet-after shows_state bytes)

@@ -7,6 +7,7 @@ pub mod FileOrder
 pub mod Greatest
 pub mod Pieces
 pub mod Races
+pub mod ReaderSteps
 pub mod ReadyNext
 pub mod Replayed
 pub mod Rows
@@ -15,5 +16,6 @@ mod SoakRows
 pub mod Soaks
 pub mod Sounds
 pub mod Statuses
+pub mod Stays
 pub mod Together
 pub mod WholeLines

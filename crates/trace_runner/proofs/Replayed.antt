@@ -1,5 +1,5 @@
 -- The board of a replay, one record or one phase more, and the check that keeps it.
-use Rattle.std.proofs.Common.{◌≡◌, ℕ, ◌+◌, List, [], ◌∷◌, ◌++◌, refl}
+use Rattle.std.proofs.Common.{◌≡◌, ℕ, ◌+◌, List, [], ◌∷◌, ◌++◌, refl, ap, ◌∙◌}
 use Rattle.board_types.specs.declared.parts.BoardParts.{BoardParts}
 use Rattle.board_core.specs.Pages.{after_clock}
 use Rattle.trace_text.specs.declared.records.Record.{Record as Written}
@@ -30,18 +30,22 @@ replayed-end b [] v = refl
 replayed-end b (x ∷ xs) v = replayed-end (next_board x.end (records_after b x.records)) xs v
 
 -- a check that keeps one record more
-pub pushed : (s : Checking) (line : ℕ) (rec : Written) (call : Call) (b : BoardParts) (rs : List Record) → b ≡ board_after_phases s.replay.board rec.cpu rec.h call
-    → rs ≡ s.last ++ record { line = line; cpu = rec.cpu; h = rec.h; call = call } ∷ []
+pub pushed : {s now : Checking} → s ≡ now → (line : ℕ) (rec : Written) (call : Call) (b : BoardParts) (rs : List Record)
+    → b ≡ board_after_phases s.replay.board rec.cpu rec.h call → rs ≡ s.last ++ record { line = line; cpu = rec.cpu; h = rec.h; call = call } ∷ []
     → record s { replay = record s.replay { board = b }; last = rs; taken = s.taken + 1 }
-    ≡ kept line rec (Ask call) (on_board (board_after_phases s.replay.board rec.cpu rec.h call) s)
-pushed s line rec call b rs e f = λ i. record s { replay = record s.replay { board = e i }; last = f i; taken = s.taken + 1 }
+    ≡ kept line rec (Ask call) (on_board (board_after_phases now.replay.board rec.cpu rec.h call) now)
+pushed {s} is line rec call b rs e f =
+    (λ i. record s { replay = record s.replay { board = e i }; last = f i; taken = s.taken + 1 })
+    ∙ ap (λ (t : Checking). kept line rec (Ask call) (on_board (board_after_phases t.replay.board rec.cpu rec.h call) t)) is
 
 -- or ends its phase
-pub ended : (s : Checking) (end : End) (b : BoardParts) (vs : List Phase) (rs : List Record) → b ≡ next_board end s.replay.board → vs ≡ ended_by end s
-    → rs ≡ []
+pub ended : {s now : Checking} → s ≡ now → (end : End) (b : BoardParts) (vs : List Phase) (rs : List Record) → b ≡ next_board end s.replay.board
+    → vs ≡ ended_by end s → rs ≡ []
     → record s { replay = record s.replay { board = b }; phases = vs; last = rs; taken = s.taken + 1 }
-    ≡ with_end end (on_board (next_board end s.replay.board) s)
-ended s end b vs rs e f g = λ i. record s { replay = record s.replay { board = e i }; phases = f i; last = g i; taken = s.taken + 1 }
+    ≡ with_end end (on_board (next_board end now.replay.board) now)
+ended {s} is end b vs rs e f g =
+    (λ i. record s { replay = record s.replay { board = e i }; phases = f i; last = g i; taken = s.taken + 1 })
+    ∙ ap (λ (t : Checking). with_end end (on_board (next_board end t.replay.board) t)) is
 
 -- a tally goes past the greatest clock reading
 pub clock-tally : (b : BoardParts) (t : TallyParts) (page h : ℕ) → IsTally b t → IsTally (after_clock b page h) t

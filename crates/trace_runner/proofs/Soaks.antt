@@ -1,51 +1,12 @@
 -- Lemmas on soaks.
-use Rattle.std.proofs.Common.{
-  ◌≡◌,
-  ℕ,
-  ◌==◌,
-  ltb,
-  Bool,
-  true,
-  false,
-  cond,
-  List,
-  [],
-  ◌∷◌,
-  ◌++◌,
-  length,
-  take,
-  drop,
-  Option,
-  Some,
-  None,
-  inl,
-  inr,
-  refl,
-  ap,
-  subst,
-  ◌∙◌,
-}
+use Rattle.std.proofs.Common.{◌≡◌, ℕ, List, [], ◌++◌, length, take, drop, Option, Some, None, inl, inr, refl, ap, subst, ◌∙◌}
 use Rattle.std.proofs.Math.Seq.{take-append_seam, drop-append_seam}
 use Rattle.std.specs.Io.KnownBytes.{Appends}
 use Rattle.board_io.specs.Faults.{Rose}
 use Rattle.board_core.specs.Time.{now_of}
 use Rattle.reply_text.specs.Soak.{soak_text}
 use Rattle.trace_loop.specs.Text.{memory_fault_text}
-use Rattle.trace_loop.specs.Progress.{
-  limit_of,
-  Answer,
-  Goes,
-  Ends,
-  Progress,
-  printed,
-  end_of,
-  told,
-  answered,
-  checked,
-  heard,
-  heard_until,
-  after_bytes,
-}
+use Rattle.trace_loop.specs.Progress.{Answer, Goes, Ends, Progress, printed, end_of, told, answered, after_bytes}
 use Rattle.trace_loop.specs.Outcome.{Begins, Run, Outcome}
 use Rattle.trace_loop.specs.declared.ended.Ended.{Ended}
 use Rattle.trace_loop.specs.declared.ended.Ended.TheVariants.{
@@ -60,6 +21,7 @@ use Rattle.trace_runner.specs.Status.{verdict_status, status_of}
 use Rattle.trace_runner.specs.declared.replay.Replay.{Replay}
 use Rattle.trace_runner.specs.declared.soak.Soak.{Soak}
 use Rattle.trace_runner.specs.declared.status.Verdict.{Verdict}
+use Rattle.trace_runner.proofs.Stays.{stays}
 
 -- a line that ends the trace
 pub soaked-ends : (a : Answer Replay Verdict) (s : Soak) (v : Verdict) → end_of a ≡ Some v
@@ -82,28 +44,13 @@ quiet-told : (a : Answer Replay Verdict) (k : Soak) (s : Progress Soak Verdict) 
 quiet-told (Goes block r) k s e = λ _. rw e refl
 quiet-told (Ends closing) k s e = λ none. cc
 
-quiet-answered : (s : Progress Soak Verdict) → s.printed ≡ [] → IsQuiet (answered soak_answer s)
+quiet-answered : (s : Progress Soak Verdict) → s.end ≡ None → IsQuiet s → IsQuiet (answered soak_answer s)
 unfolding soak_answer
-quiet-answered s e = quiet-told (answer_of s.line s.state.replay s.text) s.state s e
-
-quiet-cond : (t : Bool) (a b : Progress Soak Verdict) → IsQuiet a → IsQuiet b → IsQuiet (cond t a b)
-quiet-cond true a b x y = x
-quiet-cond false a b x y = y
-
-quiet-heard : (b : ℕ) (s : Progress Soak Verdict) → s.printed ≡ [] → IsQuiet (heard soak_answer b s)
-quiet-heard b s e =
-    let longer : Progress Soak Verdict = record s { text = s.text ++ b ∷ [] } in
-    quiet-cond (b == 10) (answered soak_answer s) (checked soak_answer longer) (quiet-answered s e)
-    (quiet-cond (ltb (limit_of longer.text) (length longer.text)) (answered soak_answer longer) longer (quiet-answered longer e) (λ _. e))
-
-quiet-until : (end : Option Verdict) (b : ℕ) (s : Progress Soak Verdict) → s.end ≡ end → IsQuiet s → IsQuiet (heard_until soak_answer end b s)
-quiet-until None b s is h = quiet-heard b s (h is)
-quiet-until (Some v) b s is h = h
+quiet-answered s none quiet = quiet-told (answer_of s.line s.state.replay s.text) s.state s (quiet none)
 
 -- whatever comes
 pub quiet-after : (bytes : List ℕ) (s : Progress Soak Verdict) → IsQuiet s → IsQuiet (after_bytes soak_answer bytes s)
-quiet-after [] s h = h
-quiet-after (b ∷ bs) s h = quiet-after bs (heard_until soak_answer s.end b s) (quiet-until s.end b s refl h)
+quiet-after bytes s quiet = stays soak_answer IsQuiet quiet-answered (λ b p none same. same) bytes s quiet
 
 -- what a run has left that printed nothing before its end, over a source that has no fault
 pub soaked_is : (w : Run Soak Verdict) (e : Ended Verdict) (old new : Option (List ℕ)) (shown : Type 0)

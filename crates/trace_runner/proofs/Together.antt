@@ -6,12 +6,10 @@ use Rattle.std.proofs.Common.{
   ◌==◌,
   ◌&&◌,
   ltb,
-  leb,
   Bool,
   true,
   false,
   cond,
-  codes,
   List,
   [],
   ◌∷◌,
@@ -31,54 +29,22 @@ use Rattle.std.proofs.Common.{
   append_assoc,
   append-nil,
 }
-use Rattle.std.specs.Str.{bytes_eq}
-use Rattle.board_types.specs.declared.access.Access.{Access}
+use Rattle.std.proofs.lemmas.Bool.{cond_both}
 use Rattle.board_types.specs.declared.parts.BoardParts.{BoardParts}
-use Rattle.board_types.specs.declared.reply.Refusal.{Refusal}
 use Rattle.board_core.specs.Hv.{hv_reply}
-use Rattle.std.specs.Option.{option_map}
 use Rattle.board_core.specs.Access.{after_access, reply_of}
 use Rattle.board_core.specs.Pages.{page_reply, clock_reply, after_clock}
-use Rattle.board_core.specs.Refusals.{refusal_of}
 use Rattle.race_phase.specs.declared.deliveries.Deliveries.{Deliveries}
 use Rattle.reply_text.specs.Text.{page_text, clock_text, hv_text}
 use Rattle.reply_text.specs.declared.ends.Refused.{Refused}
 use Rattle.reply_text.specs.declared.ends.Refused.TheVariants.{Invalid}
-use Rattle.trace_text.specs.Header.{first_line, header_line}
-use Rattle.trace_text.specs.Lines.{
-  is_skipped,
-  Step as Stepped,
-  step_of,
-  stepped,
-  part,
-  begun as begins,
-  next,
-  fault_of,
-  answer_in,
-  stage_after,
-  answer_by,
-  after_line_by,
-  taken,
-  after_line,
-}
-use Rattle.trace_text.specs.Records.{record_of}
-use Rattle.trace_text.specs.Tokens.{words_of}
-use Rattle.reply_text.specs.declared.ends.Reason.{Reason}
-use Rattle.reply_text.specs.declared.ends.Reason.TheVariants.{TooLong}
+use Rattle.trace_text.specs.Lines.{taken, after_line}
 use Rattle.trace_text.specs.declared.faults.RecordFault.{RecordFault}
-use Rattle.trace_text.specs.declared.header.Head.{Head}
 use Rattle.trace_text.specs.declared.reading.Item.{Item}
-use Rattle.trace_text.specs.declared.reading.Item.TheVariants.{Skipped, Part, Begun, Next, End}
+use Rattle.trace_text.specs.declared.reading.Item.TheVariants.{Begun, Next, End}
 use Rattle.trace_text.specs.declared.reading.ReadingParts.{ReadingParts}
 use Rattle.trace_text.specs.declared.reading.Stage.{Stage}
-use Rattle.trace_text.specs.declared.reading.Stage.TheVariants.{
-  Opening,
-  Heading,
-  Running,
-  Ended,
-  Refused as Stops,
-}
-use Rattle.trace_text.specs.declared.records.Body.{Body}
+use Rattle.trace_text.specs.declared.reading.Stage.TheVariants.{Opening, Heading, Running}
 use Rattle.trace_text.specs.declared.records.Job.{Job}
 use Rattle.trace_text.specs.declared.records.Job.TheVariants.{Ask, Save, Move}
 use Rattle.trace_text.specs.declared.records.Record.{Record as Written}
@@ -134,14 +100,7 @@ use Rattle.trace_runner.specs.Check.{
 }
 use Rattle.trace_runner.specs.Checking.{Checking}
 use Rattle.trace_runner.specs.FileText.{answer_on, records_text, phase_text, phases_text, file_text}
-use Rattle.trace_runner.specs.Records.{
-  refused_count,
-  stops,
-  refused_access,
-  answer_unless,
-  ended_answer,
-  job_answer,
-}
+use Rattle.trace_runner.specs.Records.{stops, answer_unless, ended_answer, job_answer}
 use Rattle.trace_runner.specs.Replay.{
   at_start,
   ended,
@@ -162,6 +121,7 @@ use Rattle.trace_runner.specs.declared.check.Checked.TheVariants.{Whole, Stopped
 use Rattle.trace_runner.specs.declared.replay.Replay.{Replay}
 use Rattle.trace_runner.specs.declared.status.Verdict.{Verdict}
 use Rattle.trace_runner.specs.declared.status.Verdict.TheVariants.{Done}
+use Rattle.trace_runner.proofs.ReaderSteps.{HoldsFrom, taken_holds}
 use Rattle.trace_runner.proofs.Replayed.{replayed-record, replayed-end}
 
 -- one record more, and one phase more
@@ -211,91 +171,32 @@ text_of-end ds b vs rs end =
 abbrev Fresh : List ℕ → Stage → Type 0
 Fresh text Opening = text ≡ []
 Fresh text (Heading head) = text ≡ []
-Fresh text (Running body) = Unit {0}
-Fresh text Ended = Unit {0}
-Fresh text (Stops fault) = Unit {0}
+Fresh text _ = Unit {0}
 
 abbrev IsRunning : Stage → Type 0
-IsRunning Opening = ⊥
-IsRunning (Heading head) = ⊥
 IsRunning (Running body) = Unit {0}
-IsRunning Ended = ⊥
-IsRunning (Stops fault) = ⊥
+IsRunning _ = ⊥
 
 abbrev FreshItem : List ℕ → Item → Stage → Type 0
-FreshItem text Skipped t = Fresh text t
-FreshItem text Part t = Fresh text t
 FreshItem text (Begun header) t = text ≡ []
 FreshItem text (Next rec) t = IsRunning t
 FreshItem text End t = Unit {0}
-
-abbrev FreshStep : List ℕ → Result Stepped Reason → Type 0
-FreshStep text (Ok step) = FreshItem text step.item step.stage
-FreshStep text (Err reason) = Unit {0}
+FreshItem text _ t = Fresh text t
 
 fresh_running : (text : List ℕ) (t : Stage) → IsRunning t → Fresh text t
-fresh_running text Opening is = absurd is
-fresh_running text (Heading head) is = absurd is
 fresh_running text (Running body) is = tt
-fresh_running text Ended is = absurd is
-fresh_running text (Stops fault) is = absurd is
+fresh_running text _ is = absurd is
 
 fresh_none : (t : Stage) → Fresh [] t
 fresh_none Opening = refl
 fresh_none (Heading head) = refl
-fresh_none (Running body) = tt
-fresh_none Ended = tt
-fresh_none (Stops fault) = tt
+fresh_none _ = tt
 
-module _ (text line : List ℕ) where
-  part_fresh : (x : Result Head Reason) → text ≡ [] → FreshStep text (part x)
-  part_fresh (Ok head) none = none
-  part_fresh (Err reason) none = tt
-
-  next_fresh : (body : Body) (x : Result Written Reason) → FreshStep text (next body x)
-  next_fresh body (Ok r) = tt
-  next_fresh body (Err reason) = tt
-
-  stage_fresh : (s : Stage) → Fresh text s → FreshStep text (step_of s line)
-  stage_fresh Opening none = part_fresh (first_line (words_of line)) none
-  stage_fresh (Heading head) none = by_begin (bytes_eq line (codes "begin"))
-    where
-      by_begin : (t : Bool) → FreshStep text (cond t (Ok (begins head)) (part (header_line head (words_of line))))
-      by_begin true = none
-      by_begin false = part_fresh (header_line head (words_of line)) none
-  stage_fresh (Running body) none = by_end (bytes_eq line (codes "end"))
-    where
-      by_end : (t : Bool) → FreshStep text (cond t (Ok (record { item = End; stage = Ended })) (next body (record_of body (words_of line))))
-      by_end true = tt
-      by_end false = next_fresh body (record_of body (words_of line))
-  stage_fresh Ended none = tt
-  stage_fresh (Stops fault) none = tt
-
-  step_fresh : (s : Stage) → Fresh text s → FreshStep text (stepped s line)
-  unfolding stepped
-  step_fresh s none = by_long (ltb (limit_of line) (length line))
-    where
-      by_skip : (t : Bool) → FreshStep text (cond t (Ok (record { item = Skipped; stage = s })) (step_of s line))
-      by_skip true = none
-      by_skip false = stage_fresh s none
-
-      by_long : (t : Bool)
-          → FreshStep text (cond t (Err TooLong) (cond (is_skipped line) (Ok (record { item = Skipped; stage = s })) (step_of s line)))
-      by_long true = tt
-      by_long false = by_skip (is_skipped line)
-
-  taken_fresh : (n : ℕ) (x : Result Stepped Reason) (item : Item) → FreshStep text x → answer_in n x ≡ Ok item → FreshItem text item (stage_after n x)
-  taken_fresh n (Ok step) item fresh took =
-      let same : step.item ≡ item = cc in subst (λ (i : Item). FreshItem text i step.stage) same fresh
-  taken_fresh n (Err reason) item fresh took = cc
-
-  fresh_by : (o : Option RecordFault) (r : ReadingParts) (item : Item) → Fresh text r.stage → answer_by o r line ≡ Ok item
-      → FreshItem text item (after_line_by o line r).stage
-  fresh_by None r item fresh took = taken_fresh (r.lines + 1) (stepped r.stage line) item (step_fresh r.stage fresh) took
-  fresh_by (Some fault) r item fresh took = cc
-
-  item_fresh : (r : ReadingParts) (item : Item) → Fresh text r.stage → taken r line ≡ Ok item → FreshItem text item (after_line line r).stage
-  item_fresh r item fresh took = fresh_by (fault_of r.stage) r item fresh took
+fresh_from : (text : List ℕ) (s : Stage) → Fresh text s → HoldsFrom (FreshItem text) s
+fresh_from text Opening none = λ head. none
+fresh_from text (Heading head) none = (none, λ more. none)
+fresh_from text (Running body) none = (tt, λ rec. tt)
+fresh_from text _ none = tt
 
 -- the replay's board is that of what was kept
 record IsKept (s : Checking) : Type 0 where
@@ -361,25 +262,10 @@ module _ (line cpu h : ℕ) (s : Checking) (board : s.replay.board ≡ replayed 
         },
       )
 
-  access_so : (a : Access) (o : Option Refusal) → So (Ask (Act a))
-      (answer_unless (option_map refused_access o) line (block_of ds line (Acted (reply_of b cpu h a))) (after_access b cpu h a))
-  access_so a None = goes_call (Act a) _ (after_access b cpu h a) refl refl
-  access_so a (Some refusal) = tt
-
-  page_so : (page : ℕ) (o : Option Refused) → So (Ask (ReadPage page)) (answer_unless o line (page_text line (page_reply b page h)) b)
-  unfolding block_of
-  page_so page None = goes_call (ReadPage page) _ b refl refl
-  page_so page (Some why) = tt
-
-  clock_so : (page : ℕ) (o : Option Refused) → So (Ask (ReadClock page)) (answer_unless o line (clock_text line (clock_reply b page h)) (after_clock b page h))
-  unfolding block_of
-  clock_so page None = goes_call (ReadClock page) _ (after_clock b page h) refl refl
-  clock_so page (Some why) = tt
-
-  hv_so : (o : Option Refused) → So (Ask ReadHv) (answer_unless o line (hv_text line (hv_reply b h)) b)
-  unfolding block_of
-  hv_so None = goes_call ReadHv _ b refl refl
-  hv_so (Some why) = tt
+  unless_so : (call : Call) (o : Option Refused) (text : List ℕ) (c : BoardParts) → text ≡ block_of ds line (answer_on b cpu h call)
+      → c ≡ board_after_phases b cpu h call → So (Ask call) (answer_unless o line text c)
+  unless_so call None text c is next = goes_call call text c is next
+  unless_so call (Some why) text c is next = tt
 
   save_so : (o : Option Fault) → So Save (ended_answer o (BySave line cpu h) ds b)
   save_so None = goes_end (BySave line cpu h) _ _ refl refl
@@ -391,27 +277,24 @@ module _ (line cpu h : ℕ) (s : Checking) (board : s.replay.board ≡ replayed 
   move_so khz start gap (Some fault) = tt
 
   job_so : (job : Job) → So job (job_answer line cpu h job ds b)
-  job_so (Ask (Act a)) = access_so a (refusal_of b cpu h a)
-  job_so (Ask (ReadPage page)) = page_so page (refused_count b h)
-  job_so (Ask (ReadClock page)) = clock_so page (refused_count b h)
-  job_so (Ask ReadHv) = hv_so (refused_count b h)
+  unfolding block_of
+  job_so (Ask (Act a)) = unless_so (Act a) _ (block_of ds line (Acted (reply_of b cpu h a))) (after_access b cpu h a) refl refl
+  job_so (Ask (ReadPage page)) = unless_so (ReadPage page) _ (page_text line (page_reply b page h)) b refl refl
+  job_so (Ask (ReadClock page)) = unless_so (ReadClock page) _ (clock_text line (clock_reply b page h)) (after_clock b page h) refl refl
+  job_so (Ask ReadHv) = unless_so ReadHv _ (hv_text line (hv_reply b h)) b refl refl
   job_so Save = save_so (end_fault b (BySave line cpu h))
   job_so (Move khz start gap) = move_so khz start gap (end_fault b (ByMove line cpu h (record { khz = khz; start = start; gap = gap })))
 
 record_so : (line : ℕ) (rec : Written) (s : Checking) → s.replay.board ≡ replayed s.opening s.phases s.last → IsRunning s.replay.reading.stage
     → Together (record_answer line rec s.replay) (record_checked line rec s) (said s)
-record_so line rec s board runs = by_full (leb 200000 s.taken)
-  where
-    by_full : (t : Bool)
-        → Together (record_answer line rec s.replay) (cond t (Ends (too_many line)) (checked_by (record_answer line rec s.replay) line rec s)) (said s)
-    by_full true = tt
-    by_full false = job_so line rec.cpu rec.h s board runs rec.job
+record_so line rec s board runs =
+    cond_both (is_full s) (Ends (too_many line)) (checked_by (record_answer line rec s.replay) line rec s)
+    (λ (x : Answer Checking Checked). Together (record_answer line rec s.replay) x (said s)) (λ _. tt)
+    (λ _. job_so line rec.cpu rec.h s board runs rec.job)
 
 -- by what a line is
 item_so : (line : ℕ) (item : Item) (s : Checking) → s.replay.board ≡ replayed s.opening s.phases s.last
     → FreshItem (said s) item s.replay.reading.stage → Together (item_answer line item s.replay) (item_checked line item s) (said s)
-item_so line Skipped s board fresh = (refl, append-nil (said s), record { board = board; fresh = fresh })
-item_so line Part s board fresh = (refl, append-nil (said s), record { board = board; fresh = fresh })
 item_so line (Begun header) s board none =
     (refl, append-nil (said s) ∙ none, record { board = refl; fresh = fresh_none s.replay.reading.stage })
 item_so line (Next rec) s board runs = record_so line rec s board runs
@@ -421,14 +304,13 @@ item_so line End s board fresh =
     sym (append-nil (said s)) ∙ text_of-end s.replay.deliveries s.opening s.phases s.last Finish in
     let last : s.replay.board ≡ replayed s.opening (s.phases ++ v ∷ []) [] = board ∙ sym (replayed-end s.opening s.phases v) in
     (refl, λ i. text i ++ (ended s.replay.shows_state (last i)).text)
+item_so line _ s board fresh = (refl, append-nil (said s), record { board = board; fresh = fresh })
 
 fault_so : (line : ℕ) (fault : RecordFault) (s : Checking) (y : Answer Replay Verdict) (front : List ℕ)
     → EndsSo (fault_checked line fault s).end y front
-fault_so line fault s y front = by_many (is_full s && has_form fault.reason)
-  where
-    by_many : (t : Bool) → EndsSo (cond t (too_many line) (refusal (stops fault.line (Invalid fault.reason)))).end y front
-    by_many true = tt
-    by_many false = tt
+fault_so line fault s y front =
+    cond_both (is_full s && has_form fault.reason) (too_many line) (refusal (stops fault.line (Invalid fault.reason)))
+    (λ (closing : Closing Checked). EndsSo closing.end y front) (λ _. tt) (λ _. tt)
 
 answer_so : (line : ℕ) (s : Checking) (text : List ℕ) → IsKept s → Together (answer_of line s.replay text) (check_answer line s text) (said s)
 unfolding answer_of check_answer
@@ -436,7 +318,10 @@ answer_so line s text kept_ = by_taken (taken s.replay.reading text) refl
   where
     by_taken : (x : Result Item RecordFault) → taken s.replay.reading text ≡ x
         → Together (taken_answer line x (record s.replay { reading = after_line text s.replay.reading })) (taken_checked line x (read_on text s)) (said s)
-    by_taken (Ok item) is = item_so line item (read_on text s) kept_.board (item_fresh (said s) text s.replay.reading item kept_.fresh is)
+    by_taken (Ok item) is =
+        let r : ReadingParts = s.replay.reading in
+        let fresh = taken_holds (FreshItem (said s)) text r item kept_.fresh (fresh_from (said s) r.stage kept_.fresh) is in
+        item_so line item (read_on text s) kept_.board fresh.1
     by_taken (Err fault) is = fault_so line fault (read_on text s) _ (said s)
 
 -- by the bytes: the progress of the replay, by that of the check

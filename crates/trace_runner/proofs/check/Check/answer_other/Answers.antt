@@ -1,16 +1,13 @@
-use Rattle.std.proofs.Common.{Result, ap, sym, subst, ◌∙◌}
+use Rattle.std.proofs.Common.{Result, ap, sym, ◌∙◌}
 use Rattle.trace_text.specs.Lines.{record_in}
 use Rattle.trace_text.specs.declared.faults.RecordFault.{RecordFault}
 use Rattle.trace_text.specs.declared.reading.Item.{Item}
-use Rattle.trace_runner.specs.Checking.{Checking}
-use Rattle.trace_runner.specs.Sound.{IsSound}
 use Rattle.trace_runner.proofs.CheckReady.{check_next}
 use Rattle.trace_runner.proofs.Sounds.{read_sound}
 use Rattle.trace_runner.proofs.check.Check.answer_other.Goals as goal
 
 pub answer_item-requires-clause-sound : goal.answer_item-requires-clause-sound
-answer_item-requires-clause-sound c =
-    subst (λ (s : Checking). IsSound s) (sym c.read_line.ensures.state) (read_sound c.args.text.now c.args.self.now c.requires.may.sound)
+answer_item-requires-clause-sound c = rw c.read_line.ensures.state (read_sound c.args.text.now c.args.self.now c.requires.may.sound)
 
 pub answer_item-requires-clause-other : goal.answer_item-requires-clause-other
 answer_item-requires-clause-other c =

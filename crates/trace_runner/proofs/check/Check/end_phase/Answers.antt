@@ -5,9 +5,7 @@ use Rattle.race_phase.specs.Tallies.{IsTally}
 use Rattle.race_phase.specs.declared.phases.End.{End}
 use Rattle.race_phase.specs.declared.phases.Phase.{Phase}
 use Rattle.race_phase.specs.declared.records.Record.{Record}
-use Rattle.trace_runner.specs.Check.{with_end}
-use Rattle.trace_runner.specs.Checking.{Checking}
-use Rattle.trace_runner.specs.Replayed.{replayed, on_board}
+use Rattle.trace_runner.specs.Replayed.{replayed}
 use Rattle.trace_runner.proofs.Replayed.{replayed-end, ended}
 use Rattle.trace_runner.proofs.check.Check.end_phase.Goals as goal
 
@@ -35,17 +33,4 @@ returns c =
     let f = c.in_default.ensures.items
     ∙ ap (λ (rs : List Record). vs ++ record { records = rs; end = c.args.end } ∷ []) c.replace-records.ensures.value in
     let g = c.replace-records.ensures.after ∙ c.new-none.ensures in
-    let s : Checking = record {
-      replay = record {
-        reading = i.reading;
-        shows_state = i.shows_state;
-        board = replayed i.opening vs i.last;
-        deliveries = i.deliveries;
-      };
-      opening = i.opening;
-      phases = vs;
-      last = i.last;
-      taken = i.taken;
-    } in
-    ended s c.args.end _ _ _ (ended_board i.opening vs _ _ i.last c.args.end f g) f g
-    ∙ ap (λ (t : Checking). with_end c.args.end (on_board (next_board c.args.end t.replay.board) t)) c.self.view_is
+    ended c.self.view_is c.args.end _ _ _ (ended_board i.opening vs _ _ i.last c.args.end f g) f g

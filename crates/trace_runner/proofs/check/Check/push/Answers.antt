@@ -2,10 +2,7 @@ use Rattle.std.proofs.Common.{List, ap, sym, subst, ◌∙◌}
 use Rattle.board_types.specs.declared.parts.BoardParts.{BoardParts}
 use Rattle.race_phase.specs.Tallies.{IsTally}
 use Rattle.race_phase.specs.declared.records.Record.{Record}
-use Rattle.trace_text.specs.declared.records.Job.TheVariants.{Ask}
-use Rattle.trace_runner.specs.Check.{kept}
-use Rattle.trace_runner.specs.Checking.{Checking}
-use Rattle.trace_runner.specs.Replayed.{board_after_phases, replayed, on_board}
+use Rattle.trace_runner.specs.Replayed.{replayed}
 use Rattle.race_phase.specs.declared.phases.Phase.{Phase}
 use Rattle.trace_runner.proofs.Replayed.{replayed-record, pushed}
 use Rattle.trace_runner.proofs.check.Check.push.Goals as goal
@@ -26,18 +23,4 @@ returns c =
     let rec = c.args.given.now in
     let r : Record = record { line = c.args.line; cpu = rec.cpu; h = rec.h; call = c.args.call } in
     let records = c.in_ok-push.ensures.ok in
-    let s : Checking = record {
-      replay = record {
-        reading = i.reading;
-        shows_state = i.shows_state;
-        board = replayed i.opening vs i.last;
-        deliveries = i.deliveries;
-      };
-      opening = i.opening;
-      phases = vs;
-      last = i.last;
-      taken = i.taken;
-    } in
-    pushed s c.args.line rec c.args.call _ _ (ap (replayed i.opening vs) records ∙ replayed-record i.opening vs i.last r)
-    records
-    ∙ ap (λ (t : Checking). kept c.args.line rec (Ask c.args.call) (on_board (board_after_phases t.replay.board rec.cpu rec.h c.args.call) t)) c.self.view_is
+    pushed c.self.view_is c.args.line rec c.args.call _ _ (ap (replayed i.opening vs) records ∙ replayed-record i.opening vs i.last r) records

@@ -8,14 +8,12 @@ use Rattle.trace_runner.proofs.replay.Replay.answer_clock.Goals as goal
 pub returns-in_ok-clock_line-in-Ok : goal.returns-in_ok-clock_line-in-Ok
 returns-in_ok-clock_line-in-Ok c =
     read-answered (λ b. clock_text c.args.line (clock_reply b c.args.page c.args.h)) (λ b. after_clock b c.args.page c.args.h) c.args.line c.args.h
-    c.args.self.now c.board.inside.state c.args.self.now.board c.board.view_is
-    c.clock_of.new.self c.args.out.now.items c.clock_line.new.out.items c.args.end.now c.in-Ok.ensures.ok c.in-Ok.ensures.state
+    c.args.self.now _ _ c.board.view_is _ _ _ _ c.in-Ok.ensures.ok c.in-Ok.ensures.state
     (c.in_ok-clock_line-in-Ok.ensures.ok ∙ ap (λ (x : ClockReply). c.args.out.now.items ++ clock_text c.args.line x) c.in-Ok.ensures.value)
     c.requires.open
 
 pub returns-in-Err : goal.returns-in-Err
 returns-in-Err c =
     refused-answered (λ b. clock_text c.args.line (clock_reply b c.args.page c.args.h)) (λ b. after_clock b c.args.page c.args.h) c.args.line c.args.h
-    c.args.self.now c.board.inside.state c.args.self.now.board c.board.view_is
-    c.refuse.result c.in-Err.fault c.refused_time.result _ c.args.out.now.items c.refuse.new.out.items c.refuse.new.end
-    c.in-Err.ensures.fault c.refused_time.ensures c.refuse.ensures.printed c.refuse.ensures.ends c.refuse.ensures.err
+    c.args.self.now _ _ c.board.view_is c.refuse.result c.in-Err.fault _ _ _ _ _ c.in-Err.ensures.fault c.refused_time.ensures
+    c.refuse.ensures.printed c.refuse.ensures.ends c.refuse.ensures.err

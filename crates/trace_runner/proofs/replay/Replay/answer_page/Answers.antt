@@ -7,15 +7,13 @@ use Rattle.trace_runner.proofs.replay.Replay.answer_page.Goals as goal
 
 pub returns-in_ok-page_line-in-Ok : goal.returns-in_ok-page_line-in-Ok
 returns-in_ok-page_line-in-Ok c =
-    read-answered (λ b. page_text c.args.line (page_reply b c.args.page c.args.h)) (λ b. b) c.args.line c.args.h
-    c.args.self.now c.board.inside.state c.args.self.now.board c.board.view_is
-    c.args.self.now.board c.args.out.now.items c.page_line.new.out.items c.args.end.now c.in-Ok.ensures.ok (sym c.board.view_is)
+    read-answered (λ b. page_text c.args.line (page_reply b c.args.page c.args.h)) (λ b. b) c.args.line c.args.h c.args.self.now _ _ c.board.view_is
+    _ _ _ _ c.in-Ok.ensures.ok (sym c.board.view_is)
     (c.in_ok-page_line-in-Ok.ensures.ok ∙ ap (λ (x : PageReply). c.args.out.now.items ++ page_text c.args.line x) c.in-Ok.ensures.value)
     c.requires.open
 
 pub returns-in-Err : goal.returns-in-Err
 returns-in-Err c =
-    refused-answered (λ b. page_text c.args.line (page_reply b c.args.page c.args.h)) (λ b. b) c.args.line c.args.h
-    c.args.self.now c.board.inside.state c.args.self.now.board c.board.view_is
-    c.refuse.result c.in-Err.fault c.refused_time.result _ c.args.out.now.items c.refuse.new.out.items c.refuse.new.end
-    c.in-Err.ensures.fault c.refused_time.ensures c.refuse.ensures.printed c.refuse.ensures.ends c.refuse.ensures.err
+    refused-answered (λ b. page_text c.args.line (page_reply b c.args.page c.args.h)) (λ b. b) c.args.line c.args.h c.args.self.now _ _ c.board.view_is
+    c.refuse.result c.in-Err.fault _ _ _ _ _ c.in-Err.ensures.fault c.refused_time.ensures
+    c.refuse.ensures.printed c.refuse.ensures.ends c.refuse.ensures.err
