@@ -10,3 +10,5 @@ pub mod States
 mod Rows
 pub mod Limits
 pub mod NoRecord
+pub mod UsualRows
+pub mod Ports

@@ -90,18 +90,22 @@ words_from-drop at k line h =
           ∙ sym (words_from-within (at + k) line within)
     ]
 
+-- what is left of the line is the line from this place on
+pub whole : (at : ℕ) (line : List ℕ) → take (length line - at) (drop at line) ≡ drop at line
+whole at line = rw (← length-drop at line) (take-length (drop at line))
+
 -- the word that a search for a space cuts off, and the words after it
 pub word_cut : (at count : ℕ) (line left : List ℕ) (r : Option ℕ) → at ≤ length line
     → left ≡ take (length line - at) (drop at line) → IsFirstByte (is_byte 32) left r
     → count ≡ unwrap_or r (length left)
     → words_from at line ≡ take count left ∷ words_from (at + count + 1) line
 word_cut at count line left r h is first found =
-    let whole : left ≡ drop at line = is ∙ rw (← length-drop at line) (take-length (drop at line)) in
+    let all : left ≡ drop at line = is ∙ whole at line in
     let cut = first_cut left r first in
     let place : at + (count + 1) ≡ at + count + 1 = omega arith in
     let behind : words_from (count + 1) left ≡ words_from (at + count + 1) line =
-    ap (words_from (count + 1)) whole ∙ words_from-drop at (count + 1) line h ∙ ap (λ (k : ℕ). words_from k line) place in
+    ap (words_from (count + 1)) all ∙ words_from-drop at (count + 1) line h ∙ ap (λ (k : ℕ). words_from k line) place in
     words_from-within at line h
-    ∙ ap words_of (sym whole)
+    ∙ ap words_of (sym all)
     ∙ cut.1
     ∙ rw (← found) (ap (λ (ws : List (List ℕ)). take count left ∷ ws) behind)

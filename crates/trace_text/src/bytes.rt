@@ -19,10 +19,12 @@ ghost use Rattle.std.specs.Prelude.{
   None,
   IfSome,
   MatchOption,
+  true,
 };
 ghost use Rattle.std.specs.Bool.{OnTrue};
 ghost use Rattle.std.specs.Char.{digit_value};
 ghost use Rattle.std.specs.Option.{SomeIff};
+ghost use Rattle.board_types.specs.Legal.{is_port};
 ghost use Rattle.trace_text.specs.private.Spelled.{spelled, after_word, words_from};
 
 /// What a word spells.
@@ -71,6 +73,9 @@ pub(crate) struct Spelling {
     pub(crate) value: u64,
     pub(crate) end: usize,
 }
+
+/// No number.
+const NO_SPELLING: Spelling = Spelling { value: 0, end: 0 };
 
 /// How many digits are read without a test of the line's end.
 const MANY_DIGITS: usize = 10;
@@ -215,8 +220,8 @@ fn short_spelling(line: &[u8], at: usize, from: usize, base: u64, read: u64) -> 
 }
 
 /// The number at a place of a line, if it is decimal, begins with another digit than zero, and has at most 16
-/// digits. It is apart from where it is called, for numbers of a few digits.
-#[inline(never)]
+/// digits.
+#[inline(always)]
 pub(crate) fn few_digits_at(line: &[u8], at: usize) -> Option<Spelling>
     ensures { IfSome result (λ s. (at < s.end) × (s.end ≤ length line.now)
         × (slice_index line.now at ≢ 48) × (spelled 10 0 0 (drop at line.now) ≡ Some (record {
@@ -225,15 +230,36 @@ pub(crate) fn few_digits_at(line: &[u8], at: usize) -> Option<Spelling>
           left = words_from (s.end + 1) line.now;
         }))) }
 {
+    let spelling = few_digits_apart(line, at);
+    if spelling.end == 0 {
+        None
+    } else {
+        Some(spelling)
+    }
+}
+
+/// The same, with an end of 0 for no such number. It is apart from where it is called, for numbers of a few digits, and
+/// its result is small enough to be given in registers.
+#[inline(never)]
+fn few_digits_apart(line: &[u8], at: usize) -> Spelling
+    ensures { 0 < result.end → (at < result.end) × (result.end ≤ length line.now)
+        × (slice_index line.now at ≢ 48) × (spelled 10 0 0 (drop at line.now) ≡ Some (record {
+          count = result.end - at;
+          value = result.value;
+          left = words_from (result.end + 1) line.now;
+        })) }
+{
     if at >= line.len() {
-        return None;
+        return NO_SPELLING;
     }
     let first = decimal_digit_of(line[at]);
     if first == 0 || first >= 10 {
-        return None;
+        return NO_SPELLING;
     }
-    let spelling = short_spelling(line, at, at + 1, 10, first)?;
-    Some(spelling)
+    match short_spelling(line, at, at + 1, 10, first) {
+        Some(spelling) => spelling,
+        None => NO_SPELLING,
+    }
 }
 
 /// The same for a number of many digits: the first of them are read without a test of the line's end.
@@ -343,6 +369,35 @@ pub(crate) fn two_digits_at(line: &[u8], at: usize) -> Option<u8>
     } else {
         None
     }
+}
+
+/// The port that the two hexadecimal digits at a place of a line name, if the board has it, and a space or the line's
+/// end follows. Those of its ports are decimal digits.
+#[inline(always)]
+pub(crate) fn port_at(line: &[u8], at: usize) -> Option<u8>
+    requires { at ≤ length line.now + 1 }
+    ensures { IfSome result (λ n. (at + 2 ≤ length line.now) × (is_port n ≡ true)
+        × (spelled 16 0 0 (drop at line.now) ≡ Some (record {
+          count = at + 2 - at;
+          value = n;
+          left = words_from (at + 2 + 1) line.now;
+        }))) }
+{
+    if line.len() < at + 2 || !ends_at(line, at + 2) {
+        return None;
+    }
+    let high = line[at];
+    let low = line[at + 1];
+    if high == b'4' && low >= b'0' && low <= b'3' {
+        return Some(low + 0x10);
+    }
+    if high == b'7' && low >= b'0' && low <= b'1' {
+        return Some(low + 0x40);
+    }
+    if high == b'6' && low == b'1' {
+        return Some(0x61);
+    }
+    None
 }
 
 /// Whether the word from a place on has bytes, and the first is a zero.

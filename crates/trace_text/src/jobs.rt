@@ -38,7 +38,7 @@ const MSR_STEAL_TIME: u32 = 0x4b56_4d03;
 
 /// An access.
 #[inline(always)]
-fn act(access: Access) -> Job
+pub(crate) fn act(access: Access) -> Job
     ensures { result ≡ Job.Ask (Call.Act access) }
 {
     Job::Ask(Call::Act { access })
@@ -70,7 +70,7 @@ fn is_port(port: u8) -> bool
 
 /// Whether this is one of the six lines, likewise.
 #[inline(always)]
-fn is_line(line: u8) -> bool
+pub(crate) fn is_line(line: u8) -> bool
     ensures { result ≡ is_line line }
 {
     matches!(line, 0 | 8 | 20 | 21 | 22 | 23)
@@ -78,7 +78,7 @@ fn is_line(line: u8) -> bool
 
 /// Whether an access to the HPET lies in its block and has a width that there is, likewise.
 #[inline(always)]
-fn is_hpet_place(offset: u16, width: u8) -> bool
+pub(crate) fn is_hpet_place(offset: u16, width: u8) -> bool
     ensures { result ≡ is_hpet_place offset width }
 {
     offset <= 0x3ff && matches!(width, 1 | 2 | 4 | 8)
@@ -109,19 +109,6 @@ pub(crate) fn in_job(body: &Body, words: &mut Words<'_>) -> Result<Job, Reason>
     }
 }
 
-/// The same, where the port has two digits; None for any other words.
-#[inline(always)]
-pub(crate) fn usual_in(body: &Body, words: &mut Words<'_>) -> Option<Job>
-    ensures job { IfSome result (λ j. in_row body.now words.old ≡ Ok j) }
-    ensures valid { IfSome result (IsJob body.now) }
-{
-    let port = words.two_digits()?;
-    if words.end().is_err() || !is_port(port) {
-        return None;
-    }
-    Some(act(Access::PortIn { port }))
-}
-
 #[inline(always)]
 pub(crate) fn out_job(body: &Body, words: &mut Words<'_>) -> Result<Job, Reason>
     ensures job { result ≡ out_row body.now words.old }
@@ -137,20 +124,6 @@ pub(crate) fn out_job(body: &Body, words: &mut Words<'_>) -> Result<Job, Reason>
     }
 }
 
-/// The same, where the port and the byte have two digits; None for any other words.
-#[inline(always)]
-pub(crate) fn usual_out(body: &Body, words: &mut Words<'_>) -> Option<Job>
-    ensures job { IfSome result (λ j. out_row body.now words.old ≡ Ok j) }
-    ensures valid { IfSome result (IsJob body.now) }
-{
-    let port = words.two_digits()?;
-    let byte = words.two_digits()?;
-    if words.end().is_err() || !is_port(port) {
-        return None;
-    }
-    Some(act(Access::PortOut { port, byte }))
-}
-
 #[inline(always)]
 pub(crate) fn hr_job(body: &Body, words: &mut Words<'_>) -> Result<Job, Reason>
     ensures job { result ≡ hr_row body.now words.old }
@@ -163,26 +136,6 @@ pub(crate) fn hr_job(body: &Body, words: &mut Words<'_>) -> Result<Job, Reason>
         Ok(act(Access::HpetRead { offset, width }))
     } else {
         Err(Reason::Form)
-    }
-}
-
-/// The same, where the width has one digit; None for any other words. It is a call of its own, as all the usual records
-/// together would be too large to be read where they are answered.
-#[inline(never)]
-pub(crate) fn usual_hr(body: &Body, words: &mut Words<'_>) -> Option<Job>
-    ensures job { IfSome result (λ j. hr_row body.now words.old ≡ Ok j) }
-    ensures valid { IfSome result (IsJob body.now) }
-{
-    let offset = words.usual_hex()?;
-    let width = words.one_digit()?;
-    if words.end().is_err() || offset >= 0x1_0000 || width >= 0x100 {
-        return None;
-    }
-    let (offset, width) = (offset as u16, width as u8);
-    if is_hpet_place(offset, width) {
-        Some(act(Access::HpetRead { offset, width }))
-    } else {
-        None
     }
 }
 
@@ -238,20 +191,6 @@ pub(crate) fn ack_job(body: &Body, words: &mut Words<'_>) -> Result<Job, Reason>
     } else {
         Err(Reason::Form)
     }
-}
-
-/// The same, where the line's number has few digits; None for any other words.
-#[inline(always)]
-pub(crate) fn usual_ack(body: &Body, words: &mut Words<'_>) -> Option<Job>
-    ensures job { IfSome result (λ j. ack_row body.now words.old ≡ Ok j) }
-    ensures valid { IfSome result (IsJob body.now) }
-{
-    let line = words.usual_dec()?;
-    if words.end().is_err() || line >= 0x100 || !is_line(line as u8) {
-        return None;
-    }
-    let line = line as u8;
-    Some(act(Access::Ack { line }))
 }
 
 #[inline(never)]
@@ -381,20 +320,6 @@ pub(crate) fn clock_job(body: &Body, words: &mut Words<'_>) -> Result<Job, Reaso
 {
     let page = page_in(body, words)?;
     Ok(Job::Ask(Call::ReadClock { page }))
-}
-
-/// The same, where the page's number has few digits; None for any other words.
-#[inline(always)]
-pub(crate) fn usual_clock(body: &Body, words: &mut Words<'_>) -> Option<Job>
-    ensures job { IfSome result (λ j. clock_row body.now words.old ≡ Ok j) }
-    ensures valid { IfSome result (IsJob body.now) }
-{
-    let page = words.usual_dec()?;
-    if words.end().is_err() || page >= u64::from(body.cpus) {
-        return None;
-    }
-    let page = page as u8;
-    Some(Job::Ask(Call::ReadClock { page }))
 }
 
 pub(crate) fn hv_job(body: &Body, words: &Words<'_>) -> Result<Job, Reason>

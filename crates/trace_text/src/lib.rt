@@ -23,6 +23,7 @@ mod jobs;
 mod reading;
 mod records;
 mod state;
+mod usual;
 mod words;
 
 pub use faults::RecordFault;

@@ -1,5 +1,5 @@
 //! Records: what a processor does at a host counter.
-ghost use Rattle.std.specs.Prelude.{◌≡◌, ◌<◌, ◌≤◌, Ok, IfOk, IfSome, OnErr, IsErr, replicate};
+ghost use Rattle.std.specs.Prelude.{◌≡◌, ◌<◌, ◌≤◌, Ok, IfOk, OnErr, IsErr, replicate};
 ghost use Rattle.std.specs.Bool.{OnTrue, OnFalse};
 ghost use Rattle.trace_text.specs.Records.{
   job_of,
@@ -11,7 +11,7 @@ ghost use Rattle.trace_text.specs.Records.{
 ghost use Rattle.trace_text.specs.private.Reads.{IsReadInto};
 
 use crate::groups::job_in;
-use crate::jobs::{step_job, usual_ack, usual_clock, usual_hr, usual_in, usual_out};
+use crate::usual::usual_job;
 use crate::words::Words;
 use board_types::Access;
 use reply_text::Reason;
@@ -152,46 +152,28 @@ impl Body {
 /// Puts what a record does in its place; false where it does nothing that there is. What most records do is read here,
 /// and the rest apart.
 #[inline(always)]
-#[tactic(auto, unfolding(crate::specs::Records::job_of))]
 fn read_job(body: &Body, words: Words<'_>, into: &mut Job) -> bool
     ensures job { OnTrue result (job_of body.now words.entry ≡ Ok into.new) }
     ensures cause { OnFalse result (IsErr (job_of body.now words.entry)) }
     ensures valid { OnTrue result (IsJob body.now into.new) }
 {
-    match usual_job(body, words.again()) {
-        Some(job) => {
-            *into = job;
-            true
-        }
-        None => put_job(job_in(body, words), into),
+    if let Some(left) = words.left()
+        && let Some(job) = usual_job(body, left)
+    {
+        *into = job;
+        return true;
     }
+    read_job_apart(body, words.again(), into)
 }
 
-/// What most records do: None also for what others do.
-#[inline(always)]
-#[tactic(auto, unfolding(crate::specs::Records::job_of))]
-fn usual_job(body: &Body, mut words: Words<'_>) -> Option<Job>
-    ensures job { IfSome result (λ j. job_of body.now words.entry ≡ Ok j) }
-    ensures valid { IfSome result (IsJob body.now) }
+/// The same, apart from where it is called.
+#[inline(never)]
+fn read_job_apart(body: &Body, words: Words<'_>, into: &mut Job) -> bool
+    ensures job { OnTrue result (job_of body.now words.entry ≡ Ok into.new) }
+    ensures cause { OnFalse result (IsErr (job_of body.now words.entry)) }
+    ensures valid { OnTrue result (IsJob body.now into.new) }
 {
-    match words.initial() {
-        b'i' if words.takes(b"in") => usual_in(body, &mut words),
-        b'o' if words.takes(b"out") => usual_out(body, &mut words),
-        b's' if words.takes(b"step") => step_job(body, &words).ok(),
-        b'c' if words.takes(b"clock") => usual_clock(body, &mut words),
-        b'a' if words.takes(b"ack") => usual_ack(body, &mut words),
-        b'h' if words.takes(b"hr") => usual_hr(body, &mut words),
-        _ => None,
-    }
-}
-
-/// Puts a job in its place, if there is one.
-#[inline(always)]
-fn put_job(job: Result<Job, Reason>, into: &mut Job) -> bool
-    ensures job { OnTrue result (job ≡ Ok into.new) }
-    ensures cause { OnFalse result (IsErr job) }
-{
-    match job {
+    match job_in(body, words) {
         Ok(job) => {
             *into = job;
             true

@@ -40,9 +40,10 @@ ghost use Rattle.trace_text.specs.Tokens.{
   khz,
 };
 ghost use Rattle.trace_text.specs.Rows.{last};
+ghost use Rattle.board_types.specs.Legal.{is_port};
 
 use crate::bytes::{
-    Number, decimal_at, end_of_word, few_digits_at, hexadecimal_at, is_zero, one_digit_at,
+    Number, decimal_at, end_of_word, few_digits_at, hexadecimal_at, is_zero, one_digit_at, port_at,
     spelling_at, two_digits_at,
 };
 use memchr::memchr;
@@ -99,6 +100,17 @@ impl<'a> Words<'a> {
         } else {
             Err(Reason::Form)
         }
+    }
+
+    /// The bytes of the words that are left, if there are some.
+    #[inline(always)]
+    pub(crate) fn left(&self) -> Option<&'a [u8]>
+        ensures { IfSome result (λ left. self.now ≡ words_of left.now) }
+    {
+        if self.at > self.line.len() {
+            return None;
+        }
+        Some(&self.line[self.at..])
     }
 
     /// The next word as it is.
@@ -234,6 +246,18 @@ impl<'a> Words<'a> {
         ensures still { IfNone result (self.new ≡ self.old) }
     {
         let n = two_digits_at(self.line, self.at)?;
+        self.at += 3;
+        Some(n)
+    }
+
+    /// The next word as the two digits of a port that the board has; None for any other word.
+    #[inline(always)]
+    pub(crate) fn usual_port(&mut self) -> Option<u8>
+        ensures hex { IfSome result (λ n. hex self.old ≡ Some n) }
+        ensures port { IfSome result (λ n. is_port n ≡ true) }
+        ensures past { OnSome result (self.new ≡ rest self.old) }
+    {
+        let n = port_at(self.line, self.at)?;
         self.at += 3;
         Some(n)
     }

@@ -1,16 +1,12 @@
 use Rattle.std.proofs.Common.{◌≡◌, ℕ, ◌+◌, ◌-◌, ◌≤◌, Bool, true, false, not, eqb, length, take, drop, List, [], IsTrue, refl, sym, ◌∙◌, ap, arith, length-drop}
 use Rattle.std.specs.List.{list_all, starts_with}
 use Rattle.std.proofs.lemmas.List.{drop-drop}
-use Rattle.std.proofs.Math.Seq.{take-length}
 use Rattle.trace_text.specs.Tokens.{words_of}
 use Rattle.trace_text.specs.private.Spelled.{begins, shortened, words_from}
 use Rattle.trace_text.proofs.Spells.{words_from-within, words_from-after}
 use Rattle.trace_text.proofs.Letters.{begins-is, shortened-is}
+use Rattle.trace_text.proofs.WordAt.{whole}
 use Rattle.trace_text.proofs.words.Words.skips.Goals as goal
-
--- what is left of the line is the line from this place on
-whole : (at : ℕ) (line : List ℕ) → take (length line - at) (drop at line) ≡ drop at line
-whole at line = rw (← length-drop at line) (take-length (drop at line))
 
 pub returns-then-self-clause-found : goal.returns-then-self-clause-found
 returns-then-self-clause-found c =

@@ -1,0 +1,54 @@
+-- The usual rows of the table of records, by the bytes that they begin with.
+use Rattle.std.proofs.Common.{◌≡◌, List, [], ℕ, ◌++◌, codes, Option, Some, None, IfSome, Result, Ok, sym, ◌∙◌, ap}
+use Rattle.board_types.specs.declared.access.Access.TheVariants.{Step}
+use Rattle.reply_text.specs.declared.ends.Reason.{Reason}
+use Rattle.trace_text.specs.Tokens.{words_of}
+use Rattle.trace_text.specs.Records.{job_of, in_row, out_row, clock_row, ack_row, hr_row}
+use Rattle.trace_text.specs.declared.records.Body.{Body}
+use Rattle.trace_text.specs.declared.records.Call.TheVariants.{Act}
+use Rattle.trace_text.specs.declared.records.Job.{Job}
+use Rattle.trace_text.specs.declared.records.Job.TheVariants.{Ask}
+
+pub in_first : (body : Body) (left more : List ℕ) → left ≡ codes "in " ++ more
+    → job_of body (words_of left) ≡ in_row body (words_of more)
+unfolding job_of words_of
+in_first body left more e = ap (λ (l : List ℕ). job_of body (words_of l)) e
+
+pub out_first : (body : Body) (left more : List ℕ) → left ≡ codes "out " ++ more
+    → job_of body (words_of left) ≡ out_row body (words_of more)
+unfolding job_of words_of
+out_first body left more e = ap (λ (l : List ℕ). job_of body (words_of l)) e
+
+pub clock_first : (body : Body) (left more : List ℕ) → left ≡ codes "clock " ++ more
+    → job_of body (words_of left) ≡ clock_row body (words_of more)
+unfolding job_of words_of
+clock_first body left more e = ap (λ (l : List ℕ). job_of body (words_of l)) e
+
+pub ack_first : (body : Body) (left more : List ℕ) → left ≡ codes "ack " ++ more
+    → job_of body (words_of left) ≡ ack_row body (words_of more)
+unfolding job_of words_of
+ack_first body left more e = ap (λ (l : List ℕ). job_of body (words_of l)) e
+
+pub hr_first : (body : Body) (left more : List ℕ) → left ≡ codes "hr " ++ more
+    → job_of body (words_of left) ≡ hr_row body (words_of more)
+unfolding job_of words_of
+hr_first body left more e = ap (λ (l : List ℕ). job_of body (words_of l)) e
+
+-- what a row made of the words after the name
+pub by_row : (row : List (List ℕ) → Result Job Reason) (body : Body) (left more : List ℕ) (ws : List (List ℕ)) (r : Option Job)
+    → job_of body (words_of left) ≡ row (words_of more) → ws ≡ words_of more
+    → IfSome r (λ j. row ws ≡ Ok j) → IfSome r (λ j. job_of body (words_of left) ≡ Ok j)
+by_row row body left more ws None first same job = tt
+by_row row body left more ws (Some j) first same job = first ∙ ap row (sym same) ∙ job
+
+-- a step, with nothing after its name
+step_alone : (body : Body) (left more : List ℕ) → left ≡ codes "step" ++ more → more ≡ []
+    → job_of body (words_of left) ≡ Ok (Ask (Act Step))
+unfolding job_of words_of
+step_alone body left more e none =
+    ap (λ (l : List ℕ). job_of body (words_of l)) (e ∙ ap (λ (m : List ℕ). codes "step" ++ m) none)
+
+pub by_step : (body : Body) (left more : List ℕ) (r : Option Job) → left ≡ codes "step" ++ more
+    → IfSome r (λ j. (more ≡ []) × (j ≡ Ask (Act Step))) → IfSome r (λ j. job_of body (words_of left) ≡ Ok j)
+by_step body left more None e job = tt
+by_step body left more (Some j) e job = step_alone body left more e job.0 ∙ ap (λ (k : Job). Ok k) (sym job.1)
