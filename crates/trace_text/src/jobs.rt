@@ -1,5 +1,5 @@
 //! What a record does, by the words after its counter.
-ghost use Rattle.std.specs.Prelude.{◌≡◌, ◌<◌, Ok, IfOk, OnSome, IfSome, IfNone};
+ghost use Rattle.std.specs.Prelude.{◌≡◌, ◌<◌, Ok, IfOk, OnSome, IfNone};
 ghost use Rattle.board_types.specs.Legal.{is_port, is_hpet_place};
 ghost use Rattle.irq_edges.specs.Lines.{is_line};
 ghost use Rattle.trace_text.specs.Tokens.{rest};
