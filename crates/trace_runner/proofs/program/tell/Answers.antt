@@ -1,7 +1,7 @@
 use Rattle.std.proofs.Common.{◌∙◌, ℕ, List, Some, ap, sym, inl, inr, true≢false}
-use Rattle.trace_runner.specs.declared.texts.TheConstants.{VERSION}
-use Rattle.trace_runner.specs.Sayings.{Saying, reads_trace, saying_of, usage}
-use Rattle.trace_runner.specs.declared.status.Status.TheVariants.{Ok}
+use Rattle.trace_runner.specs.declared.texts.TheConstants.{USAGE, VERSION}
+use Rattle.trace_runner.specs.Sayings.{Saying, reads_trace, saying_of}
+use Rattle.trace_runner.specs.declared.status.Status.TheVariants.{Ok, Usage}
 use Rattle.trace_runner.proofs.Sayings.{said-whole}
 use Rattle.trace_runner.proofs.program.tell.Goals as goal
 
@@ -21,7 +21,9 @@ returns-in-Version-clause-said g c = λ saying is.
 pub returns-in-Unknown-clause-said : goal.returns-in-Unknown-clause-said
 returns-in-Unknown-clause-said g c = λ saying is.
     elim c.in-Unknown.is [
-      | inl unknown ↦ said-whole usage saying c.say-in-Unknown.result _ _ _ (ap saying_of (sym unknown) ∙ is) c.say-in-Unknown.ensures.said
+      | inl unknown ↦
+          said-whole (record { status = Usage; text = USAGE.now }) saying c.say-in-Unknown.result _ _ _ (ap saying_of (sym unknown) ∙ is)
+          c.say-in-Unknown.ensures.said
       | inr trace ↦ elim trace [
         | inl replay ↦ absurd (true≢false (sym (ap reads_trace replay.1) ∙ c.requires.trace))
         | inr race ↦ absurd (true≢false (sym (ap reads_trace race.1) ∙ c.requires.trace))
