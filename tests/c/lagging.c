@@ -5,8 +5,8 @@
  *
  *     lagging KEY FORMAT CALLS
  *
- * Most calls are steps and reads of the HPET's counter, as those may lag; some counts lie below earlier ones. Ends with 1 at the
- * first difference, and with 3 where it saw too few states. */
+ * Most calls are steps and reads of the HPET's counter and of the 8254, as those may lag; some counts lie below earlier ones. Ends
+ * with 1 at the first difference, and with 3 where it saw too few states. */
 #include "clockboard.h"
 #include <inttypes.h>
 #include <stdbool.h>
@@ -132,13 +132,17 @@ static void other(uint8_t cpu, uint64_t at) {
 }
 
 static void one_call(void) {
+    static const uint16_t ports[] = {0x40, 0x40, 0x41, 0x42, 0x42, 0x43, 0x61};
     uint8_t cpu = (uint8_t)below(2), width = below(2) ? 8 : 4;
     uint64_t at = below(4) == 0 ? host - below(host < 2000 ? host + 1 : 2000) : (host += below(3000)), kind = below(1000);
     renew();
-    if (kind < 450) {
+    if (kind < 300) {
         EACH(clockboard_step(&side->board, cpu, at, &side->reply));
-    } else if (kind < 850) {
+    } else if (kind < 600) {
         EACH(clockboard_hpet_read(&side->board, cpu, at, 0xf0, width, &side->reply));
+    } else if (kind < 880) {
+        uint16_t port = ports[below(7)];
+        EACH(clockboard_port_read(&side->board, cpu, at, port, &side->reply));
     } else if (kind < 900) {
         EACH(clockboard_msr_read(&side->board, cpu, at, CLOCKBOARD_MSR_TSC, &side->reply));
     } else if (kind < 970) {
