@@ -23,6 +23,9 @@ SIGNS = {"×": "({} and {})", "⊎": "({} or {})", "<": "({} < {})", "≤": "({}
 # of years, on a board that the first one refuses.
 FIRST_OF_TWO = "option_or"
 
+# The word that gives a refusal, or else what a call prints and leaves. These are computed only where it isn't refused.
+UNLESS_REFUSED = "answer_unless"
+
 
 class Gap(Exception):
     """The definitions' language goes beyond what this reads."""
@@ -318,6 +321,11 @@ class Writer:
         if original == FIRST_OF_TWO and len(given) == 2:
             first = self.fresh()
             return f"(lambda {first}: {given[1]} if {first} == ('None',) else {first})({given[0]})"
+        if original == UNLESS_REFUSED and len(given) == 4:
+            why = self.fresh()
+            later = [f"({it} if {why} == ('None',) else None)" for it in given[2:]]
+            call = self.applied(f"made[{where!r}, {original!r}]", 4, [why, given[1], *later])
+            return f"(lambda {why}: {call})({given[0]})"
         if kind == "definition":
             return self.applied(f"made[{where!r}, {original!r}]", self.all.arity(where, original), given)
         if original not in LIBRARY:
