@@ -19,12 +19,9 @@ SIGNS = {"×": "({} and {})", "⊎": "({} or {})", "<": "({} < {})", "≤": "({}
          "&&": "({} and {})", "||": "({} or {})", "==": "({} == {})", "≡": "({} == {})", "≢": "({} != {})",
          "∷": "[{}, *{}]", "++": "({} + {})", "+": "({} + {})", "-": "max({} - {}, 0)", "*": "({} * {})",
          "/": "quotient({}, {})", "%": "remainder({}, {})", "^": "({} ** {})"}
-# The word that gives the first of two values. The second is computed only where it is asked for: it may be the fault of a run
-# of years, on a board that the first one refuses.
-FIRST_OF_TWO = "option_or"
-
-# The word that gives a refusal, or else what a call prints and leaves. These are computed only where it isn't refused.
-UNLESS_REFUSED = "answer_unless"
+# Words that give what their first value decides, if it is there: by each, the places of the values that are computed only where
+# it isn't. They may be what a run of years gives, on a board that the first one refuses.
+UNLESS_THERE = {"option_or": (1,), "answer_unless": (2, 3)}
 
 
 class Gap(Exception):
@@ -147,6 +144,7 @@ LIBRARY: dict[str, object] = {
     "codes": lambda s: [ord(c) for c in s], "decimal": lambda n: [ord(c) for c in str(n)],
     "signed_decimal": lambda z: [ord(c) for c in str(z[1] if z[0] == "pos" else -z[1] - 1)],
     "ltb": lambda a, b: a < b, "cond": lambda test, yes, no: yes if test else no,
+    "option_or": lambda first, second: second if first == ("None",) else first,
     "digit_value": digit_value, "digits_value": digits_value,
     "digit_char": lambda d: ord("0123456789abcdefghijklmnopqrstuvwxyz"[d]),
     "decode_of": decoded,
@@ -318,14 +316,16 @@ class Writer:
             return f"({', '.join([repr(original), *given])},)"
         if kind == "constant":
             return str(self.all.constants[where, original])
-        if original == FIRST_OF_TWO and len(given) == 2:
-            first = self.fresh()
-            return f"(lambda {first}: {given[1]} if {first} == ('None',) else {first})({given[0]})"
-        if original == UNLESS_REFUSED and len(given) == 4:
-            why = self.fresh()
-            later = [f"({it} if {why} == ('None',) else None)" for it in given[2:]]
-            call = self.applied(f"made[{where!r}, {original!r}]", 4, [why, given[1], *later])
-            return f"(lambda {why}: {call})({given[0]})"
+        later = UNLESS_THERE.get(original, ())
+        if later and len(given) == later[-1] + 1:
+            first, decides = self.fresh(), given[0]
+            given = [f"({it} if {first} == ('None',) else None)" if place in later else it for place, it in enumerate(given)]
+            return f"(lambda {first}: {self.called(name, [first, *given[1:]])})({decides})"
+        return self.called(name, given)
+
+    def called(self, name: str, given: list[str]) -> str:
+        """The same, where all values are computed first."""
+        kind, where, original = self.place(name)
         if kind == "definition":
             return self.applied(f"made[{where!r}, {original!r}]", self.all.arity(where, original), given)
         if original not in LIBRARY:
