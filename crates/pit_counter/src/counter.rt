@@ -158,6 +158,22 @@ impl Counter {
         ensures state { self.new ≡ after_read self.old }
         ensures byte { result ≡ byte_read self.old }
     {
-        reading::read_byte(&mut self.parts)
+        let byte = reading::byte_read(&self.parts);
+        reading::leave_read(&mut self.parts);
+        byte
+    }
+
+    /// Reads a byte as after `n` more CLK pulses, and takes none of them: no pulse looks at what a read changes, so they
+    /// may come after it.
+    #[inline(always)]
+    pub fn read_later(&mut self, n: u64) -> u8
+        ensures state { self.new ≡ after_read self.old }
+        ensures byte { result ≡ byte_read (pulsed_times n self.old) }
+    {
+        let mut later = self.parts;
+        take_pulses(&mut later, n);
+        let byte = reading::byte_read(&later);
+        reading::leave_read(&mut self.parts);
+        byte
     }
 }

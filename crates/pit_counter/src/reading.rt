@@ -103,31 +103,41 @@ fn reads_last(access: Access, high_next: bool) -> bool
     }
 }
 
-/// Reads a byte: a latched status first, else a byte of the count. With its last byte a latched count is released.
-#[tactic(auto, unfolding(crate::specs::Reading::byte_read, crate::specs::Reading::after_read, crate::specs::Reading::status_released, crate::specs::Reading::count_released,))]
-pub fn read_byte(p: &mut CounterParts) -> u8
-    requires { p.old.ce < modulus p.old.bits }
-    ensures state { p.new ≡ after_read p.old }
-    ensures byte { result ≡ byte_read p.old }
+/// The byte that a read gives: a latched status first, else a byte of the count.
+#[inline(always)]
+#[tactic(auto, unfolding(crate::specs::Reading::byte_read))]
+pub fn byte_read(p: &CounterParts) -> u8
+    requires { p.now.ce < modulus p.now.bits }
+    ensures { result ≡ byte_read p.now }
 {
     if p.status_latched {
-        let status = p.latched_status;
+        return p.latched_status;
+    }
+    let count = shown_count(p);
+    if reads_high(access_of(p.bits), p.high_next) {
+        (count / 256) as u8
+    } else {
+        (count % 256) as u8
+    }
+}
+
+/// What a read leaves: a latched status is released, or the other byte of a count is next. With its last byte a latched
+/// count is released.
+#[inline(always)]
+#[tactic(auto, unfolding(crate::specs::Reading::after_read, crate::specs::Reading::status_released, crate::specs::Reading::count_released,))]
+pub fn leave_read(p: &mut CounterParts)
+    ensures { p.new ≡ after_read p.old }
+{
+    if p.status_latched {
         p.status_latched = false;
         p.latched_status = 0;
-        return status;
+        return;
     }
     let access = access_of(p.bits);
-    let count = shown_count(p);
-    let high = reads_high(access, p.high_next);
     let last = reads_last(access, p.high_next);
     p.high_next = access.takes_two() && !p.high_next;
     p.count_latched = p.count_latched && !last;
     if last {
         p.latched_count = 0;
-    }
-    if high {
-        (count / 256) as u8
-    } else {
-        (count % 256) as u8
     }
 }

@@ -1,4 +1,5 @@
 pub mod Faults
 pub mod Gates
+pub mod Later
 pub mod Rows
 pub mod Three

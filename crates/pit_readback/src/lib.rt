@@ -19,10 +19,12 @@
 
 mod parts;
 mod pit;
+mod ports;
 mod read_back;
 
 pub use parts::{PitFault, PitParts};
 pub use pit::Pit;
+pub use ports::{CONTROL_PORT, COUNTER_PORT, SYSTEM_PORT, is_pit_port};
 
 /// Pulses a second of CLK: 1,193,182 Hz, a twelfth of the PC's 14.31818 MHz.
 pub const PIT_HZ: u64 = 1_193_182;

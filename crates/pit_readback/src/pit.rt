@@ -3,6 +3,7 @@
 ghost use Rattle.std.specs.Prelude.{
   ◌≡◌,
   ◌↔◌,
+  ◌+◌,
   ◌≤◌,
   ◌<◌,
   length,
@@ -13,6 +14,7 @@ ghost use Rattle.std.specs.Prelude.{
   IfSome,
   IsTrue,
 };
+ghost use Rattle.clk_units.specs.Bits.{bit, bit_value};
 ghost use Rattle.clk_units.specs.Events.{IsFirst};
 ghost use Rattle.pit_counter.specs.Table.{has_risen, pulsed_times, rises_in};
 ghost use Rattle.pit_counter.specs.Programming.{byte_written, counter_at_power_on};
@@ -37,19 +39,11 @@ ghost use Rattle.pit_readback.specs.Ports.{
 };
 
 use crate::parts::PitParts;
+use crate::ports::{CONTROL_PORT, COUNTER_PORT, SYSTEM_PORT};
 use crate::read_back::read_back_of;
 use clk_units::{bit, bit_value};
 use pit_counter::{Counter, CounterParts, Rises};
 use std::marker::Model;
-
-/// The control port; the ports before it are those of counters 0, 1 and 2.
-const CONTROL: u8 = 0x43;
-
-/// The port of counter 0.
-const FIRST: u8 = 0x40;
-
-/// The system control port of the PC AT.
-const SYSTEM: u8 = 0x61;
 
 /// The three counters of an Intel 8254, wired as in a PC, and the bits of port 61h.
 #[derive(Clone, Copy, Debug, PartialEq, Eq)]
@@ -128,14 +122,14 @@ impl Pit {
         ensures rose { result ≡ has_risen (counter_of self.old 0)
             (counter_of (port_written port byte self.old) 0) }
     {
-        if port == SYSTEM {
+        if port == SYSTEM_PORT {
             self.write_61(byte);
             return false;
         }
-        if port == CONTROL {
+        if port == CONTROL_PORT {
             self.write_43(byte)
         } else {
-            let k = port - FIRST;
+            let k = port - COUNTER_PORT;
             self.replace(k, byte_written(byte, self.counter(k)))
         }
     }
@@ -180,13 +174,34 @@ impl Pit {
         ensures state { self.new ≡ after_port_read port self.old }
         ensures byte { result ≡ port_read now port self.old }
     {
-        if port == SYSTEM {
+        if port == SYSTEM_PORT {
             return self.read_61(now);
         }
-        if port == CONTROL {
+        if port == CONTROL_PORT {
             return 0xff;
         }
-        self.counters[(port - FIRST) as usize].read()
+        self.counters[(port - COUNTER_PORT) as usize].read()
+    }
+
+    /// Reads one of the ports at nanosecond `at` as after `n` more CLK pulses, and takes none of them: no pulse looks at
+    /// what a read changes, so they may come after it.
+    #[inline(always)]
+    #[tactic(auto, unfolding(crate::specs::Ports::after_port_read))]
+    pub fn read_later(&mut self, port: u8, n: u64, at: u64) -> u8
+        requires { IsTrue (is_pit_port port) }
+        ensures state { self.new ≡ after_port_read port self.old }
+        ensures byte { result ≡ port_read at port (pit_pulsed_times n self.old) }
+    {
+        if port == SYSTEM_PORT {
+            let mut counter = self.counter(2);
+            counter.pulses(n);
+            return byte_of_61(&counter, self.speaker, at);
+        }
+        if port == CONTROL_PORT {
+            0xff
+        } else {
+            self.counters[(port - COUNTER_PORT) as usize].read_later(n)
+        }
     }
 
     /// Writes a byte to port 61h: bit 0 is GATE of counter 2, bit 1 speaker data.
@@ -206,12 +221,7 @@ impl Pit {
     pub fn read_61(&self, now: u64) -> u8
         ensures { result ≡ read_of_61 now self.now }
     {
-        let counter = self.counters[2].parts();
-        let bits = bit_value(counter.gate, 0)
-            + bit_value(self.speaker, 1)
-            + bit_value(bit(14, now), 4)
-            + bit_value(counter.out, 5);
-        bits as u8
+        byte_of_61(&self.counters[2], self.speaker, now)
     }
 
     /// Takes `n` CLK pulses in each counter. Answers how often OUT of counter 0 rose, and at which
@@ -273,6 +283,19 @@ fn pulse_each(counters: &mut [Counter; 3], n: u64) -> Rises
     counters[1].pulses(n);
     counters[2].pulses(n);
     rises
+}
+
+/// The byte of port 61h at nanosecond `now`, with this as counter 2.
+fn byte_of_61(counter: &Counter, speaker: bool, now: u64) -> u8
+    ensures { result ≡ bit_value counter.now.gate 0 + bit_value speaker 1 + bit_value (bit 14 now) 4
+        + bit_value counter.now.out 5 }
+{
+    let counter = counter.parts();
+    let bits = bit_value(counter.gate, 0)
+        + bit_value(speaker, 1)
+        + bit_value(bit(14, now), 4)
+        + bit_value(counter.out, 5);
+    bits as u8
 }
 
 /// The counter that holds this, if one can and GATE is high.
