@@ -1,8 +1,7 @@
 -- A read of a port of the 8254 and pulses, in either order: no pulse looks at what a read changes, and a read changes nothing else.
-use Rattle.std.proofs.Common.{◌≡◌, ℕ, zero, suc, ◌+◌, ◌-◌, ◌%◌, ◌^◌, ◌<◌, ◌≤◌, Bool, true, false, cond, eqb, not, ◌&&◌, List, [], ◌∷◌, ◌++◌}
+use Rattle.std.proofs.Common.{◌≡◌, ℕ, zero, suc, ◌+◌, ◌-◌, ◌%◌, Bool, true, false, cond, eqb, not, ◌&&◌, List, [], ◌∷◌, ◌++◌}
 use Rattle.std.proofs.Common.{map, get_or, set, refl, ap, sym, ◌∙◌, arith}
 use Rattle.std.proofs.lemmas.Bool.{cond_both}
-use Rattle.clk_units.specs.Bits.{bit, bit_value}
 use Rattle.clk_units.specs.Pulses.{falls_at, pulses_from}
 use Rattle.clk_units.proofs.Pulses.{pulses_from-zero}
 use Rattle.clk_units.proofs.Events.{times-step}
@@ -14,14 +13,13 @@ use Rattle.pit_counter.specs.declared.table.Effect.TheVariants.{Load}
 use Rattle.pit_counter.specs.declared.parts.CounterParts.{CounterParts}
 use Rattle.pit_counter.specs.Mode.{mode_of}
 use Rattle.pit_counter.specs.Programming.{counter_at_power_on}
-use Rattle.pit_counter.specs.Reading.{byte_read, status_released, count_released, after_read}
-use Rattle.pit_counter.specs.Table.{effect_in, affected, pulsed, pulsed_times, rises_next}
+use Rattle.pit_counter.specs.Reading.{status_released, count_released, after_read}
+use Rattle.pit_counter.specs.Table.{effect_in, affected, pulsed, rises_next}
 use Rattle.pit_readback.specs.declared.TheConstants.{PIT_HZ}
 use Rattle.pit_readback.specs.declared.parts.PitParts.{PitParts}
 use Rattle.pit_readback.specs.Pit.{counter_of, with_counter, pit_pulsed, pit_pulsed_times}
-use Rattle.pit_readback.specs.Ports.{read_of_61, port_read, after_port_read}
-use Rattle.pit_readback.proofs.Gates.{gate-pulsed_times}
-use Rattle.pit_readback.proofs.Three.{pit_pulsed_times-zero, pit_pulsed_times-suc, pit_pulsed_times-each, counter_of-pit_pulsed_times}
+use Rattle.pit_readback.specs.Ports.{after_port_read}
+use Rattle.pit_readback.proofs.Three.{pit_pulsed_times-zero, pit_pulsed_times-suc}
 use Rattle.rtc_registers.specs.declared.TheConstants.{RTC_HZ}
 use Rattle.hpet_registers.specs.declared.hpet.TheConstants.{HPET_HZ}
 use Rattle.hpet_registers.specs.Parts.{is_legacy}
@@ -212,48 +210,3 @@ pit-run t zero d = sym (ap (λ (k : ℕ). pit_pulsed_times k d.pit) (pulses_from
 pit-run t (suc n) d =
     ap (λ (p : PitParts). cond (falls_at PIT_HZ (t + n + 1)) (pit_pulsed p) p) (pit-run t n d)
     ∙ sym (times-step (λ k. pit_pulsed_times k d.pit) pit_pulsed PIT_HZ t n (omega arith) (λ m. pit_pulsed_times-suc m d.pit))
-
--- the byte that a read gives after pulses
-pub byte-pulsed : (at n port : ℕ) (p : PitParts) → eqb port 0x61 ≡ false → eqb port 0x43 ≡ false
-    → byte_read (pulsed_times n (counter_of p (port - 0x40))) ≡ port_read at port (pit_pulsed_times n p)
-unfolding port_read
-byte-pulsed at n port p other counts =
-    let q : PitParts = pit_pulsed_times n p in
-    ap byte_read (sym (counter_of-pit_pulsed_times n (port - 0x40) p))
-    ∙ sym (ap (λ (b : Bool). cond b 0xff (byte_read (counter_of q (port - 0x40)))) counts)
-    ∙ sym (ap (λ (b : Bool). cond b (read_of_61 at q) (cond (eqb port 0x43) 0xff (byte_read (counter_of q (port - 0x40))))) other)
-
-pub system-pulsed : (at n : ℕ) (p : PitParts)
-    → bit_value (counter_of p 2).out 5 + port_read at 0x61 (pit_pulsed_times n p)
-    ≡ read_of_61 at p + bit_value (pulsed_times n (counter_of p 2)).out 5
-unfolding port_read read_of_61
-system-pulsed at n p =
-    let c : CounterParts = counter_of p 2 in
-    let q : PitParts = pit_pulsed_times n p in
-    let time : ℕ = bit_value (bit 14 at) 4 in
-    let later : read_of_61 at q ≡ bit_value c.gate 0 + bit_value p.speaker 1 + time + bit_value (pulsed_times n c).out 5 =
-    ap (λ (x : CounterParts). bit_value x.gate 0 + bit_value q.speaker 1 + time + bit_value x.out 5) (counter_of-pit_pulsed_times n 2 p)
-    ∙ ap (λ (g : Bool). bit_value g 0 + bit_value q.speaker 1 + time + bit_value (pulsed_times n c).out 5) (gate-pulsed_times n c)
-    ∙ ap (λ (x : PitParts). bit_value c.gate 0 + bit_value x.speaker 1 + time + bit_value (pulsed_times n c).out 5) (pit_pulsed_times-each n p) in
-    omega (arith, later)
-
--- a byte of port 61h has bit 5 of the present OUT, and room for another
-bit_value-le : (b : Bool) (k : ℕ) → bit_value b k ≤ 2 ^ k
-bit_value-le true k = omega arith
-bit_value-le false k = omega arith
-
-pub system-fits : (at : ℕ) (p : PitParts) (b : Bool) → read_of_61 at p + bit_value b 5 < 256
-unfolding read_of_61
-system-fits at p b =
-    omega (
-      arith,
-      bit_value-le (counter_of p 2).gate 0,
-      bit_value-le p.speaker 1,
-      bit_value-le (bit 14 at) 4,
-      bit_value-le (counter_of p 2).out 5,
-      bit_value-le b 5,
-    )
-
-pub system-out : (at : ℕ) (p : PitParts) → bit_value (counter_of p 2).out 5 ≤ read_of_61 at p
-unfolding read_of_61
-system-out at p = omega arith

@@ -9,7 +9,7 @@ use Rattle.board_devices.proofs.devices.Devices.read_pit_later.Goals as goal
 
 pub returns-clause-byte : goal.returns-clause-byte
 returns-clause-byte c =
-    c.byte_later-byte.ensures
+    c.read_later.ensures.byte
     ∙ ap (λ (n : ℕ). port_read c.args.to c.args.port (pit_pulsed_times n c.self.inside.pit)) c.pulse_counts.ensures.pit
     ∙ ap (λ (p : PitParts). port_read c.args.to c.args.port p)
     (sym (pit-run c.args.from (c.args.to - c.args.from) _)
