@@ -28,6 +28,7 @@ use board_types::{Access, MOST_ACCESSES, Refusal, Reply, Value};
 use clk_units::RANGE_NS;
 use host_counter::{Anchor, TimeFault};
 use irq_edges::{BurstList, EdgeList};
+use pit_readback::is_pit_port;
 use pvclock_page::ClockReply;
 
 /// How many numbers half of a register has.
@@ -254,18 +255,6 @@ impl BoardState {
         ensures state { caught_up self.new lag.now ≡ left_by a (caught_up self.old lag.now) }
         ensures lazy { IsLazy self.new lag.now.host lag.now.horizon }
     {
-        self.read_passive(lag, now_ns, a)
-    }
-
-    /// The same, of which the board's parts are said as they lag.
-    #[inline(always)]
-    fn read_passive(&mut self, lag: &Lag, now_ns: u64, a: Access) -> Value
-        requires passive { IsTrue (is_passive a) }
-        requires lazy { IsLazy self.old lag.now.host lag.now.horizon }
-        requires now { now_ns ≡ now_of (caught_up self.old lag.now) }
-        ensures value { (cpu g : ℕ) → result ≡ value_at (caught_up self.old lag.now) cpu g a }
-        ensures state { self.new ≡ left_by a self.old }
-    {
         match a {
             Access::PortIn { port } => Value::Byte(self.read_pit(lag, now_ns, port)),
             Access::HpetRead { width, .. } => Value::Word {
@@ -391,14 +380,6 @@ pub fn is_passive(a: Access) -> bool
         Access::HpetRead { offset, width } => offset == 0xf0 && (width == 4 || width == 8),
         _ => false,
     }
-}
-
-/// Whether a port is one of the 8254's: 40h to 43h, and 61h.
-#[inline(always)]
-pub fn is_pit_port(port: u8) -> bool
-    ensures { result ≡ is_pit_port port }
-{
-    (0x40 <= port && port <= 0x43) || port == 0x61
 }
 
 /// How many still accesses came last, counted to `STILL` at most, with one more that may be still.

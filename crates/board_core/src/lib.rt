@@ -37,7 +37,7 @@ pub use board_types::{
     Setup, TickSource, Value, processors_of, timers_of,
 };
 pub use hv::{NO_HV, publishes_hv};
-pub use lag::{Lag, NO_LAG, is_passive, is_pit_port};
+pub use lag::{Lag, NO_LAG, is_passive};
 pub use lazy::LazyBoard;
 pub use processors::published_by;
 

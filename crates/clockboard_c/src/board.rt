@@ -56,7 +56,8 @@ pub struct Board {
     /// Whether threads share its pages: from `clockboard_share` to `clockboard_unshare`.
     pub(crate) shared: bool,
     pub(crate) next: KeptEdge,
-    /// How far the devices lag: accesses that change nothing are only counted while none of them can be seen to.
+    /// How far the devices lag: steps, and reads of the HPET's main counter and of the 8254's ports, are only counted while
+    /// nothing comes that a caller sees.
     pub(crate) lag: Lag,
     /// The board's time, that of the greatest count of all accesses.
     pub(crate) now_ns: u64,

@@ -19,9 +19,10 @@ ghost use Rattle.clockboard_c.specs.Call.{
 use crate::board::{Board, SEAL};
 use crate::code::{NO_BOARD, NO_PROCESSOR, NOT_OURS, NOT_SHARED, OK, SHARED, code_of};
 use crate::reply::{ReplyWords, value_words};
-use board_core::{BoardState, Lag, is_passive, is_pit_port, published_by, publishes_hv};
+use board_core::{BoardState, Lag, is_passive, published_by, publishes_hv};
 use board_types::{Access, Reply};
 use irq_edges::EdgeList;
+use pit_readback::is_pit_port;
 
 /// One access by processor `cpu` at count `host`: what of it C could have given that no board takes is answered by
 /// a code; else the board answers. Each call of C's has its own copy of these tests, in which its kind of access is known.
