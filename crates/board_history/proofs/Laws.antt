@@ -20,6 +20,7 @@ use Rattle.std.proofs.Common.{
   true,
   false,
   if◌then◌else◌,
+  Option,
   Some,
   eq-eqb,
   ne_eqb,
@@ -28,25 +29,29 @@ use Rattle.std.proofs.Common.{
   eqb,
 }
 use Rattle.pvclock_page.specs.declared.page.Page.{Page}
-use Rattle.hv_page.specs.Words.{of_page}
 use Rattle.std.proofs.lemmas.Bool.{eqb-true}
+use Rattle.std.proofs.lemmas.List.Elements.{filter-append}
+use Rattle.std.proofs.lemmas.List.Sums.{fold-append}
+use Rattle.std.specs.List.{last_or}
 use mathlib.Core.List.{IsPrefix}
 use Rattle.std.proofs.Common.{zero, suc, get_or, replicate}
 use Rattle.board_types.specs.declared.parts.BoardParts.{BoardParts}
 use Rattle.board_types.specs.declared.parts.ProcessorParts.{ProcessorParts}
-use Rattle.board_core.specs.Tsc.{no_processor}
+use Rattle.board_core.specs.Hv.{hv_in}
+use Rattle.board_core.specs.Pages.{page_in}
+use Rattle.board_core.specs.Tsc.{no_processor, processor_at}
+use Rattle.hv_page.specs.Words.{as_page, of_page}
 use Rattle.board_core.proofs.Laws.{after_access-kept_greatest}
-use Rattle.board_history.specs.Machine.{machine_of, page_at, page_if, no_board}
+use Rattle.board_history.specs.Machine.{Machine, machine_of, ratio_in, page_at, no_board}
+use Rattle.tsc_scale.specs.Ratio.{ratio_of}
 use Rattle.board_history.specs.History.{
   pass_of,
   after_entry,
-  board_from,
   board_after,
   floor_after,
   version_after,
   is_of,
   entries_of,
-  last_of,
   read_if,
   read_of,
   May,
@@ -56,15 +61,11 @@ use Rattle.board_history.specs.History.{
 use Rattle.board_history.specs.private.Steady.{IsSteady}
 use Rattle.board_history.specs.declared.entry.Entry.{Entry}
 use Rattle.board_history.specs.declared.entry.Entry.TheVariants.{Opened, Board, PageRead, HvRead, Clamp}
-use Rattle.board_history.proofs.Pages.{machine_of-access, version-access, access-steady}
-
-pub board_from-++ : (b : BoardParts) (xs ys : List Entry) → board_from b (xs ++ ys) ≡ board_from (board_from b xs) ys
-board_from-++ b [] ys = refl
-board_from-++ b (e ∷ es) ys = board_from-++ (after_entry b e) es ys
+use Rattle.board_history.proofs.Pages.{machine_of-access, version-access, access-steady, at-hv}
 
 -- the board after one entry more
 pub board_after-snoc : (xs : List Entry) (e : Entry) → board_after (xs ++ e ∷ []) ≡ after_entry (board_after xs) e
-board_after-snoc xs e = board_from-++ no_board xs (e ∷ [])
+board_after-snoc xs e = fold-append after_entry no_board xs (e ∷ [])
 
 -- no page of the board after no entry was published
 get_or-replicate : (n c : ℕ) → get_or (replicate n no_processor) c no_processor ≡ no_processor
@@ -76,7 +77,7 @@ pub no_board-version : (c : ℕ) → version_after [] c ≡ 0
 unfolding no_board
 no_board-version c = by (eqb c 1)
   where
-    by : (t : Bool) → (page_if t no_board c).version ≡ 0
+    by : (t : Bool) → (if t then as_page (hv_in no_board.hv) else page_in (processor_at no_board c)).version ≡ 0
     by true = refl
     by false = ap (λ (p : ProcessorParts). p.version) (get_or-replicate 64 c)
 
@@ -145,6 +146,9 @@ floor-grows before (x ∷ xs) l =
     subst (λ h. floor_after (before ++ x ∷ []) ≤ floor_after h) (append_assoc before (x ∷ []) xs) (floor-grows (before ++ x ∷ []) xs l.1) in
     omega arith
 
+pub ratio-by : (b c : BoardParts) → machine_of b ≡ machine_of c → ratio_in b ≡ ratio_in c
+ratio-by b c same = ap (λ (m : Machine). ratio_of m.guest_khz m.anchor.khz) same
+
 pub machine-stays : (before xs : List Entry) → LegalFrom before xs → machine_of (board_after (before ++ xs)) ≡ machine_of (board_after before)
 machine-stays before [] l = ap (λ h. machine_of (board_after h)) (append-nil before)
 machine-stays before (x ∷ xs) l =
@@ -172,14 +176,8 @@ legal-floor (x ∷ xs) ys p l =
     subst (λ h. floor_after (x ∷ xs) ≤ floor_after h) p.1 (floor-grows (x ∷ xs) p.0 (IsLegal-rest xs p.0 x (subst IsLegal (sym p.1) l)))
 
 -- the entries of a number in two lists, one after the other
-entries_step : (b : Bool) (x : Entry) (us bs cs : List Entry) → us ≡ bs ++ cs → (if b then (x ∷ us) else us) ≡ (if b then (x ∷ bs) else bs) ++ cs
-entries_step true x us bs cs e = ap (λ es. x ∷ es) e
-entries_step false x us bs cs e = e
-
 pub entries_of-++ : (n : ℕ) (xs ys : List Entry) → entries_of n (xs ++ ys) ≡ entries_of n xs ++ entries_of n ys
-entries_of-++ n [] ys = refl
-entries_of-++ n (x ∷ xs) ys =
-    entries_step (is_of n x) x (entries_of n (xs ++ ys)) (entries_of n xs) (entries_of n ys) (entries_of-++ n xs ys)
+entries_of-++ n xs ys = filter-append (is_of n) xs ys
 
 -- one entry is of its own number, and of no other
 pub is_of-pass : (e : Entry) (p : ℕ) → pass_of e ≡ Some p → is_of p e ≡ true
@@ -222,7 +220,7 @@ pub read_of-may : (before : List Entry) (cpus pass c h : ℕ) (page : Page) (loc
 read_of-may before cpus pass c h page locked same small is = by (eqb c cpus) refl
   where
     by : (t : Bool) → eqb c cpus ≡ t → May before (read_if t pass c h page locked)
-    by true e = ap of_page (sym (ap (λ (u : Bool). page_if u (board_after before) c) (eq-eqb c (board_after before).cpus (eqb-true c cpus e ∙ sym same))) ∙ is)
+    by true e = ap of_page (sym (at-hv (board_after before) c (eqb-true c cpus e ∙ sym same)) ∙ is)
     by false e = ((let ne : c ≢ cpus = λ z. true≢false (sym (eq-eqb c cpus z) ∙ e) in omega (arith, ne)), is)
 
 -- the page of a processor is not the reference page
@@ -232,7 +230,6 @@ read_of-page cpus pass c h page locked small = ap (λ (t : Bool). read_if t pass
 pub read_of-hv : (cpus pass h : ℕ) (page : Page) (locked : Bool) → read_of cpus pass cpus h page locked ≡ HvRead pass h (of_page page) locked
 read_of-hv cpus pass h page locked = ap (λ (t : Bool). read_if t pass cpus h page locked) (eq-eqb cpus cpus refl)
 
-pub last_of-snoc : (xs : List Entry) (e : Entry) → last_of (xs ++ e ∷ []) ≡ Some e
-last_of-snoc [] e = refl
-last_of-snoc (x ∷ []) e = refl
-last_of-snoc (x ∷ y ∷ xs) e = last_of-snoc (y ∷ xs) e
+pub last_or-snoc : (o : Option Entry) (xs : List Entry) (e : Entry) → last_or o (xs ++ e ∷ []) ≡ Some e
+last_or-snoc o [] e = refl
+last_or-snoc o (x ∷ xs) e = last_or-snoc (Some x) xs e

@@ -28,6 +28,7 @@ use Rattle.std.proofs.Common.{
   true,
   false,
   cond,
+  if◌then◌else◌,
   Option,
   Some,
   None,
@@ -84,7 +85,7 @@ use Rattle.board_types.specs.declared.parts.HvParts.{HvParts}
 use Rattle.pvclock_page.specs.declared.page.Page.{Page}
 use Rattle.hv_page.specs.Words.{as_page}
 use Rattle.std.proofs.Common.{eq-eqb}
-use Rattle.board_history.specs.Machine.{machine_of, page_at, page_if, page_published}
+use Rattle.board_history.specs.Machine.{machine_of, page_at, page_published}
 use Rattle.board_history.specs.private.Steady.{IsSteady, IsSteadyPage}
 
 -- an access that publishes a page publishes no words of the wall clock
@@ -148,10 +149,10 @@ none-page cpus cpu a none = sym (ap (λ (t : Bool). cond t (Some cpus) (publishe
 
 -- a page of the table by its kind, of a board and of the board after an access
 pub at-hv : (b : BoardParts) (j : ℕ) → j ≡ b.cpus → page_at b j ≡ as_page (hv_in b.hv)
-at-hv b j e = ap (λ (t : Bool). page_if t b j) (eq-eqb j b.cpus e)
+at-hv b j e = ap (λ (t : Bool). if t then as_page (hv_in b.hv) else page_in (processor_at b j)) (eq-eqb j b.cpus e)
 
 pub at-page : (b : BoardParts) (j : ℕ) → j ≢ b.cpus → page_at b j ≡ page_in (processor_at b j)
-at-page b j ne = ap (λ (t : Bool). page_if t b j) (ne_eqb j b.cpus ne)
+at-page b j ne = ap (λ (t : Bool). if t then as_page (hv_in b.hv) else page_in (processor_at b j)) (ne_eqb j b.cpus ne)
 
 after-hv : (b : BoardParts) (cpu h j : ℕ) (a : Access) → j ≡ b.cpus → page_at (after_access b cpu h a) j ≡ as_page (hv_in (after_access b cpu h a).hv)
 after-hv b cpu h j a e = at-hv (after_access b cpu h a) j (e ∙ sym (after_access-cpus b cpu h a))

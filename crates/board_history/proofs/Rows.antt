@@ -1,5 +1,6 @@
 -- Rows of the definitions, each by computation.
 use Rattle.std.proofs.Common.{◌≡◌, [], ◌∷◌, true, false, Some, None, map, pos, refl}
+use Rattle.std.specs.List.{last_or}
 use Rattle.tsc_scale.specs.Offset.{tsc_by}
 use Rattle.pvclock_page.specs.Reading.{reading_of}
 use Rattle.pvclock_page.specs.declared.page.Page.{Page}
@@ -13,7 +14,7 @@ use Rattle.hv_page.specs.Words.{of_page}
 use Rattle.board_types.specs.declared.access.Access.TheVariants.{MsrWrite, Refresh, Step}
 use Rattle.board_core.specs.Hv.{hv_answer_by}
 use Rattle.board_history.specs.Machine.{page_published}
-use Rattle.board_history.specs.History.{after_entry, entries_of, last_of, read_of, IsLegal}
+use Rattle.board_history.specs.History.{after_entry, entries_of, read_of, IsLegal}
 use Rattle.board_history.specs.declared.entry.Entry.TheVariants.{Opened, PageRead, HvRead, Clamp}
 
 -- the page of a guest of 2 GHz that was published at time 0, on a host of 1 GHz: ratio 2 * 2^48
@@ -47,7 +48,7 @@ entries_of_1 : (s : BoardParts)
     ≡ PageRead 1 0 900 page false ∷ Clamp 1 0 900 900 ∷ []
 entries_of_1 s = refl
 
-last_of_2 : last_of (Clamp 0 0 5 5 ∷ Clamp 1 0 7 7 ∷ []) ≡ Some (Clamp 1 0 7 7)
+last_of_2 : last_or None (Clamp 0 0 5 5 ∷ Clamp 1 0 7 7 ∷ []) ≡ Some (Clamp 1 0 7 7)
 last_of_2 = refl
 
 -- a history begins with Opened

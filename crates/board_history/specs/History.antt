@@ -16,24 +16,21 @@ use Rattle.std.specs.Prelude.{
   Option,
   Some,
   None,
-  if◌then◌else◌,
 }
+use Rattle.std.specs.List.{filter, fold, last_or}
 use Rattle.board_types.specs.declared.access.Access.{Access}
 use Rattle.board_types.specs.declared.parts.BoardParts.{BoardParts}
 use Rattle.board_types.specs.declared.reply.Reply.{Reply}
 use Rattle.board_types.specs.Legal.{is_legal}
 use Rattle.board_core.specs.Access.{after_access, reply_of}
 use Rattle.board_core.specs.Pages.{with_greatest, reading_by}
+use Rattle.board_core.specs.Hv.{hv_in}
 use Rattle.board_core.specs.Refusals.{refusal_of}
 use Rattle.pvclock_page.specs.declared.page.Page.{Page}
 use Rattle.hv_page.specs.Words.{of_page}
-use Rattle.board_history.specs.Machine.{Machine, machine_of, page_at, hv_at, ratio_in, no_board}
+use Rattle.board_history.specs.Machine.{page_at, ratio_in, no_board}
 use Rattle.board_history.specs.declared.entry.Entry.{Entry}
 use Rattle.board_history.specs.declared.entry.Entry.TheVariants.{Opened, Board, PageRead, HvRead, Clamp}
-
--- the entry of a state that is handed over
-abbrev pub of_state : BoardParts → Entry
-of_state s = Opened s
 
 -- the number of the pass that made an entry
 abbrev pub pass_of : Entry → Option ℕ
@@ -51,14 +48,9 @@ after_entry b (PageRead pass cpu h page locked) = b
 after_entry b (HvRead pass h page locked) = b
 after_entry b (Clamp pass cpu reading clock) = with_greatest b clock
 
--- the board after a list of entries
-abbrev pub board_from : BoardParts → List Entry → BoardParts
-board_from b [] = b
-board_from b (e ∷ es) = board_from (after_entry b e) es
-
 -- the board after a history
 abbrev pub board_after : List Entry → BoardParts
-board_after h = board_from no_board h
+board_after h = fold after_entry no_board h
 
 -- the greatest reading that was answered in a history
 abbrev pub floor_after : List Entry → ℕ
@@ -87,20 +79,13 @@ is_of n (Clamp pass cpu reading clock) = pass == n
 
 -- the entries of a pass
 abbrev pub entries_of : ℕ → List Entry → List Entry
-entries_of n [] = []
-entries_of n (e ∷ es) = if is_of n e then (e ∷ entries_of n es) else entries_of n es
+entries_of n es = filter (is_of n) es
 
--- the last entry, if there is one
-abbrev pub last_of : List Entry → Option Entry
-last_of [] = None
-last_of (e ∷ []) = Some e
-last_of (e ∷ f ∷ es) = last_of (f ∷ es)
-
--- the entry is a read of an enabled page of cpu, which gives this reading
-abbrev pub Reads : Machine → Option Entry → ℕ → ℕ → Type 0
-Reads m (Some (PageRead pass c h page locked)) cpu reading =
-    (c ≡ cpu) × IsTrue page.enabled × (reading_by (ratio_in m) page h ≡ reading)
-Reads m _ cpu reading = ⊥
+-- the entry is a read of an enabled page of cpu, which gives this reading by the ratio of the rates
+abbrev pub Reads : ℕ → Option Entry → ℕ → ℕ → Type 0
+Reads ratio (Some (PageRead pass c h page locked)) cpu reading =
+    (c ≡ cpu) × IsTrue page.enabled × (reading_by ratio page h ≡ reading)
+Reads ratio _ cpu reading = ⊥
 
 -- an access is one that the board takes, isn't refused, and is answered as one thread would be
 pub record IsAnswered (b : BoardParts) (cpu h : ℕ) (a : Access) (r : Reply) : Type 0 where
@@ -115,10 +100,10 @@ May before (Opened s) = ⊥
 May before (Board pass cpu h access reply) = IsAnswered (board_after before) cpu h access reply
 May before (PageRead pass cpu h page locked) =
     (cpu < (board_after before).cpus) × (page_at (board_after before) cpu ≡ page)
-May before (HvRead pass h page locked) = hv_at (board_after before) ≡ page
+May before (HvRead pass h page locked) = hv_in (board_after before).hv ≡ page
 May before (Clamp pass cpu reading clock) =
-    Reads (machine_of (board_after before)) (last_of (entries_of pass before)) cpu reading
-    × (clock ≡ max reading (floor_after before))
+    Reads (ratio_in (board_after before)) (last_or None (entries_of pass before)) cpu reading
+    × (clock ≡ max reading (board_after before).greatest)
 
 -- each entry may come after those before it
 abbrev pub LegalFrom : List Entry → List Entry → Type 0
@@ -132,4 +117,4 @@ IsLegal _ = ⊥
 
 -- the history opens with this state
 abbrev pub Opens : BoardParts → List Entry → Type 0
-Opens opening h = (later : List Entry) × (h ≡ of_state opening ∷ later)
+Opens opening h = (later : List Entry) × (h ≡ Opened opening ∷ later)

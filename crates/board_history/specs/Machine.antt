@@ -1,9 +1,8 @@
 -- What a history says of a board: its pages, and what no entry changes.
-use Rattle.std.specs.Prelude.{ℕ, Bool, ◌==◌, Option, Some, if◌then◌else◌}
+use Rattle.std.specs.Prelude.{ℕ, ◌==◌, Option, Some, if◌then◌else◌}
 use Rattle.host_counter.specs.declared.Anchor.{Anchor}
 use Rattle.tsc_scale.specs.Ratio.{ratio_of}
 use Rattle.pvclock_page.specs.declared.page.Page.{Page}
-use Rattle.hv_page.specs.declared.page.HvPage.{HvPage}
 use Rattle.hv_page.specs.Words.{as_page}
 use Rattle.board_core.specs.Hv.{hv_in, publishes_hv}
 use Rattle.board_types.specs.declared.access.Access.{Access}
@@ -13,18 +12,10 @@ use Rattle.board_core.specs.PowerOn.{board_at_power_on}
 use Rattle.board_core.specs.Tsc.{processor_at}
 use Rattle.board_core.specs.Pages.{page_in, published_by}
 
--- the reference page of Hyper-V, or the page of processor k
-abbrev pub page_if : Bool → BoardParts → ℕ → Page
-page_if t b k = if t then as_page (hv_in b.hv) else page_in (processor_at b k)
-
 -- the page k of a board's table: those of the processors, and after the last the reference page
 -- of Hyper-V, which is all 0 where the format has none (own)
 abbrev pub page_at : BoardParts → ℕ → Page
-page_at b k = page_if (k == b.cpus) b k
-
--- the reference page of a board
-abbrev pub hv_at : BoardParts → HvPage
-hv_at b = hv_in b.hv
+page_at b k = if k == b.cpus then as_page (hv_in b.hv) else page_in (processor_at b k)
 
 -- the page of the table of so many processors that an access of processor cpu publishes
 abbrev pub page_published : ℕ → ℕ → Access → Option ℕ
@@ -46,9 +37,9 @@ machine_of b = record {
   guest_khz = b.guest_khz;
 }
 
--- the ratio of the guest's TSC to the host's counter
-abbrev pub ratio_in : Machine → ℕ
-ratio_in m = ratio_of m.guest_khz m.anchor.khz
+-- the ratio of a board's guest TSC to the host's counter
+abbrev pub ratio_in : BoardParts → ℕ
+ratio_in b = ratio_of b.guest_khz b.anchor.khz
 
 -- the board after no entry, of which nothing is said
 unfoldable pub no_board : BoardParts

@@ -1,6 +1,6 @@
 //! The entries of a history.
 ghost use Rattle.std.specs.Prelude.{◌≡◌};
-ghost use Rattle.board_history.specs.History.{of_state, pass_of};
+ghost use Rattle.board_history.specs.History.{pass_of};
 
 use board_core::{Access, BoardState, Reply};
 use hv_page::HvPage;
@@ -65,7 +65,7 @@ impl Entry {
 
 /// The entry with which the history of a board begins.
 pub fn opened(state: &BoardState) -> Entry
-    ensures { result ≡ of_state state.now }
+    ensures { result ≡ Entry.Opened state.now }
 {
     Entry::Opened { state: *state }
 }

@@ -7,9 +7,9 @@ use lib.ListN.{get_elem?}
 use Rattle.atomic_table.specs.Table.{Final, Seen, opening as opening_of}
 use Rattle.board_types.specs.declared.{parts.BoardParts.BoardParts, parts.ProcessorParts.ProcessorParts}
 use Rattle.board_core.specs.{Tsc.processor_at, Tsc.no_processor, Conditions.IsJoined, Conditions.IsProcessor, Conditions.flags_valid, Pages.page_in}
-use Rattle.board_history.specs.{Machine.page_at, Machine.page_if, History.board_after, History.May, History.LegalFrom, History.IsLegal, History.entries_of}
+use Rattle.board_history.specs.{Machine.page_at, History.board_after, History.May, History.LegalFrom, History.IsLegal, History.entries_of}
 use Rattle.board_history.specs.{History.is_of, private.Steady.IsSteady, private.Steady.IsSteadyPage, declared.entry.Entry.Entry}
-use Rattle.board_history.proofs.{Pages.hv-steady, Laws.IsLegal-rest, Laws.entries_of-++, Pages.shift_for-fits, Pages.mul_for-fits}
+use Rattle.board_history.proofs.{Pages.at-hv, Pages.at-page, Pages.hv-steady, Laws.IsLegal-rest, Laws.entries_of-++, Pages.shift_for-fits, Pages.mul_for-fits}
 use Rattle.board_history.specs.declared.entry.Entry.TheVariants.{Opened, Board, PageRead, HvRead, Clamp}
 use Rattle.std.proofs.lemmas.{List.append_cancel_left, Bool.Decides.nat_tests}
 use Rattle.std.specs.Int.{w8}
@@ -196,7 +196,7 @@ module _ (opening : BoardParts) where
 
 -- the board of a state is steady
 pub steady_of : (b : BoardParts) → IsJoined b → length b.processors ≡ 64 → IsSteady b
-steady_of b joined long = record { places = most_cpus; rate = joined.rates.guest; pages = λ c. at c (eqb c b.cpus); count = joined.accesses }
+steady_of b joined long = record { places = most_cpus; rate = joined.rates.guest; pages = at; count = joined.accesses }
   where
     most_cpus : b.cpus ≤ length b.processors
     most_cpus = let m = most-cpus b.format b.cpus b.hpet.timers joined.format in omega arith
@@ -220,9 +220,11 @@ steady_of b joined long = record { places = most_cpus; rate = joined.rates.guest
           )
     ]
 
-    at : (c : ℕ) (t : Bool) → IsSteadyPage (page_if t b c)
-    at c true = hv-steady b.hv joined.hv.version.most joined.hv.version.even
-    at c false = page (processor_at b c) (joined.processors.each c)
+    at : (c : ℕ) → IsSteadyPage (page_at b c)
+    at c = elim (ℕ_discrete c b.cpus) [
+      | yes last ↦ subst IsSteadyPage (sym (at-hv b c last)) (hv-steady b.hv joined.hv.version.most joined.hv.version.even)
+      | no other ↦ subst IsSteadyPage (sym (at-page b c other)) (page (processor_at b c) (joined.processors.each c))
+    ]
 
 pub at_word : (ws : List ℕ) (i j x : ℕ) → i ≡ j → get_elem? ws i ≡ some x → x ≡ get_or ws j 0
 at_word ws i j x same e = subst (λ (k : ℕ). x ≡ get_or ws k 0) same (found ws i x e)

@@ -3,13 +3,14 @@ use Rattle.std.proofs.Common.{◌≡◌, ◌≢◌, ℕ, ◌+◌, ◌^◌, ◌<�
 use Rattle.board_types.specs.declared.{access.Access.Access, reply.Reply.Reply, parts.BoardParts.BoardParts}
 use Rattle.board_core.specs.Access.{after_access}
 use Rattle.board_core.proofs.Laws.{after_access-greatest, refusal_of-greatest, reply_of-greatest, after_access-kept_greatest}
-use Rattle.board_history.specs.{Machine.page_at, Machine.hv_at, History.board_after, History.version_after, History.after_entry, History.IsAnswered}
+use Rattle.board_history.specs.{Machine.page_at, History.board_after, History.version_after, History.after_entry, History.IsAnswered}
 use Rattle.board_history.specs.{History.May, private.Steady.IsSteady, declared.entry.Entry.Entry}
 use Rattle.board_history.specs.declared.entry.Entry.TheVariants.{Board, PageRead, HvRead}
 use Rattle.board_history.proofs.{Pages.version-here, Pages.page_at-else, Pages.page_at-none, Laws.board_after-snoc}
 use Rattle.clock_table.specs.Steps.{GoesOnQuietly, weight, loudness, loud}
 use Rattle.clock_table.specs.Calls.{IsPublishing, PublishesNone, IsBump}
 use Rattle.clock_table.proofs.Keeps.{quiet_board, loud-append, loud_between}
+use Rattle.board_core.specs.Hv.{hv_in}
 
 -- the entry may come after the history, and raises the front word by n
 pub record Leaves (log : List Entry) (e : Entry) (n : ℕ) : Type 0 where
@@ -74,7 +75,7 @@ bump_leaves seen log (PageRead pass cpu h page locked) quiet is may =
     (subst (λ (x : BoardParts). (cpu < x.cpus) × (page_at x cpu ≡ page)) (sym (quiet_board seen log quiet).1) (may.0, may.1))
 bump_leaves seen log (HvRead pass h page locked) quiet is may =
     read_leaves seen log (HvRead pass h page locked) quiet refl (ap weight is.0) is.1
-    (subst (λ (x : BoardParts). hv_at x ≡ page) (sym (quiet_board seen log quiet).1) may)
+    (subst (λ (x : BoardParts). hv_in x.hv ≡ page) (sym (quiet_board seen log quiet).1) may)
 bump_leaves seen log e quiet is may = absurd is
 
 -- an access that publishes a page

@@ -7,15 +7,18 @@ use lib.{ListN.get_elem?, Seq.set-get_or}
 use Rattle.atomic_table.specs.Table.{State, Me}
 use Rattle.board_types.specs.declared.parts.BoardParts.{BoardParts}
 use Rattle.board_core.specs.Pages.{with_greatest}
-use Rattle.board_history.specs.{Machine.machine_of, Machine.no_board, History.of_state, History.board_from, History.board_after, History.May, History.IsLegal}
+use Rattle.board_history.specs.{Machine.machine_of, Machine.no_board, History.board_after, History.May, History.IsLegal}
 use Rattle.board_history.specs.{History.entries_of, History.is_of, private.Steady.IsSteady, declared.entry.Entry.Entry}
 use Rattle.board_history.specs.declared.entry.Entry.TheVariants.{Opened, Board, PageRead, HvRead, Clamp}
-use Rattle.board_history.proofs.Laws.{board_from-++, board_after-snoc, LegalFrom-snoc, steady-entry, machine-entry, entries_of-++, entries_of-else}
+use Rattle.board_history.proofs.Laws.{board_after-snoc, LegalFrom-snoc, steady-entry, machine-entry, entries_of-++, entries_of-else}
 use Rattle.clock_table.specs.declared.view.{View.View, Read.Read, Hand.Hand, Miss.Miss, Meet.Meet, Ended.Ended}
 use Rattle.clock_table.specs.Words.{word_of, pages_for}
 use Rattle.clock_table.specs.Steps.{IsQuietEntry, IsQuiet, GoesOnQuietly, weight, loud, Learnt, here_of, penned_of, MeetKept, number_is, ended_with, claims}
 use Rattle.clock_table.specs.private.Rule.{ReadingKept, MissesKept, EndedKept, Ghost, log_in, PenKept, HistoryKept, WordsKept, Fits, Kept}
 use Rattle.clock_table.proofs.Lists.{prefix_self, prefix_trans, prefix_length, each_set}
+use Rattle.std.specs.List.{fold}
+use Rattle.std.proofs.lemmas.List.Sums.{fold-append}
+use Rattle.board_history.specs.History.{after_entry}
 
 abbrev pub St : Type 0
 St = State (Unit {0}) View
@@ -96,7 +99,7 @@ quiet_between a b c p q g =
     ((p.0, p.1, both.0), (q.0, q.1, both.1))
 
 -- quiet entries change nothing of the board but `greatest`
-pub quiet_beside : (b : BoardParts) (es : List Entry) → IsQuiet es → (g : ℕ) × (board_from b es ≡ with_greatest b g)
+pub quiet_beside : (b : BoardParts) (es : List Entry) → IsQuiet es → (g : ℕ) × (fold after_entry b es ≡ with_greatest b g)
 quiet_beside b [] q = (b.greatest, refl)
 quiet_beside b (Opened s ∷ es) q = absurd q.0
 quiet_beside b (Board pass cpu h access reply ∷ es) q = absurd q.0
@@ -106,7 +109,7 @@ quiet_beside b (Clamp pass cpu reading clock ∷ es) q = let r = quiet_beside (w
 
 -- the board after a history that went on quietly
 pub quiet_board : (xs ys : List Entry) → GoesOnQuietly xs ys → (g : ℕ) × (board_after ys ≡ with_greatest (board_after xs) g)
-quiet_board xs ys q = let r = quiet_beside (board_after xs) q.0 q.2 in (r.0, ap board_after (sym q.1) ∙ (board_from-++ no_board xs q.0 ∙ r.1))
+quiet_board xs ys q = let r = quiet_beside (board_after xs) q.0 q.2 in (r.0, ap board_after (sym q.1) ∙ (fold-append after_entry no_board xs q.0 ∙ r.1))
 
 pub loud-append : (xs ys : List Entry) → loud (xs ++ ys) ≡ loud xs + loud ys
 loud-append [] ys = omega arith
@@ -138,9 +141,9 @@ module _ (opening : BoardParts) where
   -- what a step of the seat id makes of the history
   pub record Adds (g : Ghost) (id : ℕ) (later : List Entry) : Type 0 where
     pub history : HistoryKept opening later
-    pub begins : IsPrefix (log_in opening g) (of_state opening ∷ later)
-    pub own : (n : ℕ) → g.owner n ≢ id → entries_of n (of_state opening ∷ later) ≡ entries_of n (log_in opening g)
-    pub numbers : (n : ℕ) → g.made ≤ n → entries_of n (of_state opening ∷ later) ≡ []
+    pub begins : IsPrefix (log_in opening g) (Opened opening ∷ later)
+    pub own : (n : ℕ) → g.owner n ≢ id → entries_of n (Opened opening ∷ later) ≡ entries_of n (log_in opening g)
+    pub numbers : (n : ℕ) → g.made ≤ n → entries_of n (Opened opening ∷ later) ≡ []
 
   -- a seat that doesn't step
   pub fits_other : (ws ws' : List ℕ) (g g' : Ghost) (j : ℕ) (u : View) → Fits opening ws g j u → Later (pages_for opening.cpus) ws ws'
@@ -186,7 +189,7 @@ module _ (opening : BoardParts) (s : St) (r : Kept opening s) (id : ℕ) (v : Vi
       let mine = (r.each id v at).numbers.claimed p (number_claimed v p num) in
       record {
         history = record {
-          legal = LegalFrom-snoc (of_state opening ∷ []) r.g.later e r.history.legal may;
+          legal = LegalFrom-snoc (Opened opening ∷ []) r.g.later e r.history.legal may;
           steady = subst IsSteady (sym (board_after-snoc log e)) (steady-entry log e r.history.steady may);
           machine = ap machine_of (board_after-snoc log e) ∙ (machine-entry log e may ∙ r.history.machine);
         };
@@ -197,8 +200,8 @@ module _ (opening : BoardParts) (s : St) (r : Kept opening s) (id : ℕ) (v : Vi
 
   -- a step leaves the holder of the pen and all numbers, and is quiet unless its seat has the pen
   pub kept_next : (ws : List ℕ) (w : View) (later : List Entry) (hand : Option Hand) → w.live ≡ v.live → Adds opening r.g id later
-      → Later (pages_for opening.cpus) s.words ws → WordsKept opening ws hand (of_state opening ∷ later)
-      → (v.pen ≡ false → (hand ≡ r.g.hand) × GoesOnQuietly (log_in opening r.g) (of_state opening ∷ later))
+      → Later (pages_for opening.cpus) s.words ws → WordsKept opening ws hand (Opened opening ∷ later)
+      → (v.pen ≡ false → (hand ≡ r.g.hand) × GoesOnQuietly (log_in opening r.g) (Opened opening ∷ later))
       → Fits opening ws (record r.g { later = later; hand = hand }) id w → Kept opening (after ws w)
   kept_next ws w later hand lives adds late words calm mine =
       let log : List Entry = log_in opening r.g in
@@ -215,7 +218,7 @@ module _ (opening : BoardParts) (s : St) (r : Kept opening s) (id : ℕ) (v : Vi
               holder = k.holder;
               hand = k.hand ∙ sym c.0;
               made = k.made;
-              quiet = quiet_trans (penned_of u.meet u.seen) log (of_state opening ∷ later) k.quiet c.1;
+              quiet = quiet_trans (penned_of u.meet u.seen) log (Opened opening ∷ later) k.quiet c.1;
             }) f.limit);
         alone = λ none. each_set s.views id w (λ j u. u.live ≡ true → j ≡ r.g.holder) (λ is. r.alone none id v at (sym lives ∙ is))
             (λ j u ne e. r.alone none j u e);
@@ -232,16 +235,16 @@ module _ (opening : BoardParts) (s : St) (r : Kept opening s) (id : ℕ) (v : Vi
   -- a step of a pass
   moved : (ws : List ℕ) (p : ℕ) (later seen : List Entry) (hand left : Option Hand) (read : Option Read) (misses : List Miss)
       → v.number ≡ Some p → v.meet ≡ None → Adds opening r.g id later
-      → ((n : ℕ) → n ≢ p → entries_of n (of_state opening ∷ later) ≡ entries_of n (log_in opening r.g))
-      → IsPrefix v.seen seen → IsPrefix seen (of_state opening ∷ later) → entries_of p (of_state opening ∷ later) ≡ entries_of p seen
-      → Later (pages_for opening.cpus) s.words ws → WordsKept opening ws left (of_state opening ∷ later)
-      → (v.pen ≡ true → (hand ≡ left) × GoesOnQuietly seen (of_state opening ∷ later))
-      → (v.pen ≡ false → (left ≡ r.g.hand) × GoesOnQuietly (log_in opening r.g) (of_state opening ∷ later))
+      → ((n : ℕ) → n ≢ p → entries_of n (Opened opening ∷ later) ≡ entries_of n (log_in opening r.g))
+      → IsPrefix v.seen seen → IsPrefix seen (Opened opening ∷ later) → entries_of p (Opened opening ∷ later) ≡ entries_of p seen
+      → Later (pages_for opening.cpus) s.words ws → WordsKept opening ws left (Opened opening ∷ later)
+      → (v.pen ≡ true → (hand ≡ left) × GoesOnQuietly seen (Opened opening ∷ later))
+      → (v.pen ≡ false → (left ≡ r.g.hand) × GoesOnQuietly (log_in opening r.g) (Opened opening ∷ later))
       → ReadingKept ws (pages_for opening.cpus) seen read → MissesKept ws (pages_for opening.cpus) misses
       → Kept opening (after ws (record v { seen = seen; hand = hand; read = read; misses = misses }))
   moved ws p later seen hand left read misses num alone adds only goes begins mine late words pens calm reading missed =
       let f = r.each id v at in
-      let log : List Entry = of_state opening ∷ later in
+      let log : List Entry = Opened opening ∷ later in
       kept_next ws (record v { seen = seen; hand = hand; read = read; misses = misses }) later left refl adds late words calm (record {
         seen = record {
           begins = begins;

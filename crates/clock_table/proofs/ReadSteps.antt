@@ -8,10 +8,10 @@ use Rattle.atomic_table.specs.Table.{step, keeps, stepped, carried_after, Act, V
 use Rattle.pvclock_page.specs.{declared.page.Page.Page, Words.page_of}
 use Rattle.board_types.specs.declared.parts.BoardParts.{BoardParts}
 use Rattle.board_history.specs.{Machine.Machine, Machine.page_at, History.board_after, History.version_after, History.May}
-use Rattle.board_history.specs.{History.entries_of, History.is_of, History.last_of, History.Reads, History.read_if, History.read_of}
+use Rattle.board_history.specs.{History.entries_of, History.is_of, History.Reads, History.read_if, History.read_of}
 use Rattle.board_history.specs.{private.Steady.IsSteadyPage, declared.entry.Entry.Entry}
 use Rattle.board_history.specs.declared.entry.Entry.TheVariants.{Clamp}
-use Rattle.board_history.proofs.Laws.{board_after-snoc, legal-version, read_of-number, read_of-leaves, read_of-may}
+use Rattle.board_history.proofs.Laws.{board_after-snoc, legal-version, read_of-number, read_of-leaves, read_of-may, ratio-by}
 use Rattle.clock_table.specs.declared.view.{View.View, Read.Read, Miss.Miss}
 use Rattle.clock_table.specs.Words.{place, word_of, pages_for}
 use Rattle.clock_table.specs.Steps.{or_else, number_in, IsQuietEntry, weight, loud, heard, Hears, no_fields, missed, first_if, first_read, with_note}
@@ -22,6 +22,7 @@ use Rattle.clock_table.specs.private.Plays.{Stays, FirstRead, FieldRead, SecondR
 use Rattle.clock_table.proofs.Lists.{set_or, no_field}
 use Rattle.clock_table.proofs.Pages.{page_same, page_shut}
 use Rattle.clock_table.proofs.Keeps.{St, M, later_self, later_same, misses_snoc, loud-append, loud_quiet, log_of, loaded, stay, enter, mine_seen}
+use Rattle.std.specs.List.{last_or}
 
 -- a read of the page c, by its number
 abbrev read_at : ℕ → Read → Read
@@ -210,7 +211,8 @@ module _ (opening : BoardParts) where
       let own : entries_of (number_in me.0) me.0.seen ≡ entries_of (number_in me.0) log =
       sym (mine_seen opening s r id me.0 at (number_in me.0) (pass.number.1 ∙ ap Some (sym number)) pass.meet) in
       let may : May log e = (
-        subst (λ (z : Machine × List Entry). Reads z.0 (last_of z.1) cpu k) (λ i. (sym r.history.machine i, own i)) may_raise.reads,
+        subst (λ (z : ℕ × List Entry). Reads z.0 (last_or None z.1) cpu k)
+            (λ i. (ratio-by opening (board_after log) (sym r.history.machine) i, own i)) may_raise.reads,
         ap (λ (g : ℕ). max k g) r.words.front.clamp,
       ) in
       let greatest : max n k ≡ (board_after (log ++ e ∷ [])).greatest = sym (ap (λ (b : BoardParts). b.greatest) (board_after-snoc log e) ∙ omega arith) in

@@ -1,8 +1,9 @@
 -- What the calls of a table ask.
 use Rattle.std.specs.Prelude.{◌≡◌, ℕ, ◌<◌, ◌≤◌, ◌^◌, length, slice_index_or, Some, None, true, List, [], ◌∷◌, ◌++◌}
+use Rattle.std.specs.List.{last_or}
 use Rattle.pvclock_page.specs.declared.page.Page.{Page}
-use Rattle.board_history.specs.Machine.{machine_of, page_at, page_published}
-use Rattle.board_history.specs.History.{board_after, entries_of, last_of, May, pass_of, Reads}
+use Rattle.board_history.specs.Machine.{ratio_in, page_at, page_published}
+use Rattle.board_history.specs.History.{board_after, entries_of, May, pass_of, Reads}
 use Rattle.board_types.specs.declared.parts.BoardParts.{BoardParts}
 use Rattle.board_history.specs.declared.entry.Entry.{Entry}
 use Rattle.board_history.specs.declared.entry.Entry.TheVariants.{Opened, Board, PageRead, HvRead, Clamp}
@@ -110,4 +111,4 @@ pub record MayEnd (n c : ℕ) (v : View) : Type 0 where
 -- gave it
 pub record MayRaise (s : BoardParts) (cpu reading : ℕ) (v : View) : Type 0 where
   pub pass : IsPass v
-  pub reads : Reads (machine_of s) (last_of (entries_of (number_in v) v.seen)) cpu reading
+  pub reads : Reads (ratio_in s) (last_or None (entries_of (number_in v) v.seen)) cpu reading

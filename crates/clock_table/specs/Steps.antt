@@ -29,7 +29,7 @@ use mathlib.Core.List.{IsPrefix}
 use Rattle.pvclock_page.specs.declared.page.Page.{Page}
 use Rattle.pvclock_page.specs.Words.{page_of}
 use Rattle.board_types.specs.declared.parts.BoardParts.{BoardParts}
-use Rattle.board_history.specs.History.{of_state, IsLegal, entries_of, read_of}
+use Rattle.board_history.specs.History.{IsLegal, entries_of, read_of}
 use Rattle.board_history.specs.declared.entry.Entry.{Entry}
 use Rattle.board_history.specs.declared.entry.Entry.TheVariants.{Opened, Board, PageRead, HvRead, Clamp}
 use Rattle.clock_table.specs.declared.view.View.{View}
@@ -50,7 +50,7 @@ number_in v = or_else v.number 0
 abbrev pub first_view : BoardParts → View
 first_view s = record {
   live = true;
-  seen = of_state s ∷ [];
+  seen = Opened s ∷ [];
   number = None;
   pen = true;
   made = 0;

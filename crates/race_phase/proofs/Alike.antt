@@ -39,7 +39,7 @@ use Rattle.board_core.specs.Access.{after_access, after_run, after_act, before_l
 use Rattle.board_core.specs.Apics.{after_look}
 use Rattle.board_core.specs.Tsc.{no_processor, processor_at}
 use Rattle.board_history.specs.Machine.{Machine, machine_of}
-use Rattle.board_history.specs.History.{of_state, after_entry, board_after, May, LegalFrom, IsLegal, entries_of}
+use Rattle.board_history.specs.History.{after_entry, board_after, May, LegalFrom, IsLegal, entries_of}
 use Rattle.board_history.specs.declared.entry.Entry.{Entry}
 use Rattle.board_history.specs.declared.entry.Entry.TheVariants.{Opened, Board, PageRead, HvRead, Clamp}
 use Rattle.board_history.proofs.Laws.{board_after-snoc, machine-stays}
@@ -167,10 +167,10 @@ places_records b (r ∷ rs) = places_records (after_record b r) rs ∙ places_ca
 -- the workers leave the counts that file order leaves
 module _ (s : BoardParts) (ds : Deliveries) (rs : List Record) (mid : BoardParts) (out : List ℕ) (sound : IsSound s)
     (fit : All (IsFitting s.cpus s.format) rs) (t : PhaseTold s ds rs mid out) where
-  legal : LegalFrom (of_state s ∷ []) t.opens.0
+  legal : LegalFrom (Opened s ∷ []) t.opens.0
   legal = subst IsLegal t.opens.1 t.legal
 
-  now : mid ≡ board_after (of_state s ∷ t.opens.0)
+  now : mid ≡ board_after (Opened s ∷ t.opens.0)
   now = t.leaves ∙ ap board_after t.opens.1
 
   total : (f : ℕ → ℕ → Access → ℕ) → weigh (of_entry f) t.opens.0 ≡ weigh (of_record f) rs
@@ -184,15 +184,15 @@ module _ (s : BoardParts) (ds : Deliveries) (rs : List Record) (mid : BoardParts
       → q (after_records s rs) ≡ q mid
   same_number n q f k most r small =
       let a = filed n q f k most r s rs small in
-      let b = raised n q f k most r (of_state s ∷ []) t.opens.0 legal small in
+      let b = raised n q f k most r (Opened s ∷ []) t.opens.0 legal small in
       let c = ap q now in
       let d = ap (λ (w : ℕ). q s + k * w) (total f) in omega arith
 
   machine_mid : machine_of mid ≡ machine_of s
-  machine_mid = ap machine_of now ∙ machine-stays (of_state s ∷ []) t.opens.0 legal
+  machine_mid = ap machine_of now ∙ machine-stays (Opened s ∷ []) t.opens.0 legal
 
   places_mid : length mid.processors ≡ length s.processors
-  places_mid = ap (λ (b : BoardParts). length b.processors) now ∙ places-stay (of_state s ∷ []) t.opens.0 legal
+  places_mid = ap (λ (b : BoardParts). length b.processors) now ∙ places-stay (Opened s ∷ []) t.opens.0 legal
 
   same_page : (k : ℕ) → (processor_at (after_records s rs) k).version ≡ (processor_at mid k).version
   same_page k = elim (dec_le (suc k) (length s.processors)) [
@@ -210,7 +210,7 @@ module _ (s : BoardParts) (ds : Deliveries) (rs : List Record) (mid : BoardParts
       let x = mid.host in
       let a = reaches_records x s rs in
       let b : Reaches x s mid (weigh (of_entry (past x)) t.opens.0) =
-      subst (λ (c : BoardParts). Reaches x s c (weigh (of_entry (past x)) t.opens.0)) (sym now) (reaches_entries x (of_state s ∷ []) t.opens.0 legal) in
+      subst (λ (c : BoardParts). Reaches x s c (weigh (of_entry (past x)) t.opens.0)) (sym now) (reaches_entries x (Opened s ∷ []) t.opens.0 legal) in
       let l = b.low (omega arith) in
       a.high l.0 (sym (total (past x)) ∙ l.1)
 
@@ -219,7 +219,7 @@ module _ (s : BoardParts) (ds : Deliveries) (rs : List Record) (mid : BoardParts
       let x = (after_records s rs).host in
       let a = reaches_records x s rs in
       let b : Reaches x s mid (weigh (of_entry (past x)) t.opens.0) =
-      subst (λ (c : BoardParts). Reaches x s c (weigh (of_entry (past x)) t.opens.0)) (sym now) (reaches_entries x (of_state s ∷ []) t.opens.0 legal) in
+      subst (λ (c : BoardParts). Reaches x s c (weigh (of_entry (past x)) t.opens.0)) (sym now) (reaches_entries x (Opened s ∷ []) t.opens.0 legal) in
       let l = a.low (omega arith) in
       b.high l.0 (total (past x) ∙ l.1)
 

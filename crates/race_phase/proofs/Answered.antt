@@ -1,5 +1,5 @@
 -- What a record was answered, by what its call on the board answered.
-use Rattle.std.proofs.Common.{◌≡◌, ◌∙◌, ℕ, List, [], ◌∷◌, ◌++◌, refl, sym, subst, append-nil, Bool, true, false}
+use Rattle.std.proofs.Common.{◌≡◌, ◌∙◌, ℕ, List, [], ◌∷◌, ◌++◌, refl, sym, subst, append-nil, Bool, true, false, All, ap}
 use Rattle.board_types.specs.declared.access.Access.{Access}
 use Rattle.board_types.specs.declared.parts.BoardParts.{BoardParts}
 use Rattle.board_types.specs.declared.reply.Reply.{Reply}
@@ -13,7 +13,7 @@ use Rattle.pvclock_page.specs.declared.page.PageReply.{PageReply}
 use Rattle.pvclock_page.specs.declared.page.ClockReply.{ClockReply}
 use Rattle.pvclock_page.specs.declared.page.ClockReply.TheVariants.{Off, On}
 use Rattle.shared_board.specs.declared.known.PassKnown.{PassKnown}
-use Rattle.shared_board.specs.Passes.{miss, Answered, Tried}
+use Rattle.shared_board.specs.Passes.{miss, IsUpdate, Answered, Tried}
 use Rattle.shared_board.specs.Hv.{HasReadHv}
 use Rattle.shared_board.specs.Pages.{clock_entries, IsClockOf, HasReadPage, HasReadClock}
 use Rattle.shared_board.proofs.Made.{made_of}
@@ -21,30 +21,40 @@ use Rattle.race_phase.specs.declared.records.Answer.TheVariants.{Acted, PageIs, 
 use Rattle.trace_text.specs.declared.records.Call.{Call}
 use Rattle.trace_text.specs.declared.records.Call.TheVariants.{Act, ReadPage, ReadClock, ReadHv}
 use Rattle.race_phase.specs.declared.records.Record.{Record}
-use Rattle.race_phase.specs.Calls.{AllTried, CallMade, Tells}
-use Rattle.race_phase.specs.private.Workers.{IsMade}
+use Rattle.race_phase.specs.Calls.{CallMade}
+use Rattle.race_phase.specs.private.Workers.{AllTried, IsMade}
+use Rattle.std.proofs.lemmas.List.Elements.{All-nil, All-cons}
 
 -- a read that was tried once has one miss, and is under the lock, or none
 abbrev HasMisses : ℕ → List Entry → PassKnown → PassKnown → Type 0
 HasMisses c es p q = (ms : List Miss) × AllTried c es ms × (q.misses ≡ p.misses ++ ms)
 
+none_tried : (c : ℕ) → AllTried c [] []
+none_tried c = (refl, All-nil (λ (m : Miss). IsUpdate m.first m.second))
+
+one_update : (k first second : ℕ) → IsUpdate first second → All (λ (m : Miss). IsUpdate m.first m.second) (miss k first second ∷ [])
+one_update k first second is =
+    All-cons (λ (m : Miss). IsUpdate m.first m.second) (miss k first second) [] is (All-nil (λ (m : Miss). IsUpdate m.first m.second))
+
 read_tried : (c n k h : ℕ) (page : Page) (locked : Bool) (es : List Entry) (p q : PassKnown) → Tried k locked p q → AllTried c es []
     → HasMisses c (PageRead n k h page locked ∷ es) p q
-read_tried c n k h page true es p q t none = (miss k t.0 t.1 ∷ [], (t.0, t.1, [], refl, t.4, none), t.2)
+read_tried c n k h page true es p q t none = (miss k t.0 t.1 ∷ [], (ap (λ (l : List ℕ). k ∷ l) none.0, one_update k t.0 t.1 t.4), t.2)
 read_tried c n k h page false es p q t none = ([], none, t ∙ sym (append-nil p.misses))
 
 hv_tried : (c n h : ℕ) (page : HvPage) (locked : Bool) (p q : PassKnown) → Tried c locked p q → HasMisses c (HvRead n h page locked ∷ []) p q
-hv_tried c n h page true p q t = (miss c t.0 t.1 ∷ [], (t.0, t.1, [], refl, t.4, refl), t.2)
-hv_tried c n h page false p q t = ([], refl, t ∙ sym (append-nil p.misses))
+hv_tried c n h page true p q t = (miss c t.0 t.1 ∷ [], (refl, one_update c t.0 t.1 t.4), t.2)
+hv_tried c n h page false p q t = ([], none_tried c, t ∙ sym (append-nil p.misses))
 
 clock_tried : (c n k h : ℕ) (page : Page) (locked : Bool) (reply : ClockReply) (p q : PassKnown) → Tried k locked p q
     → HasMisses c (clock_entries n k h page locked reply) p q
-clock_tried c n k h page locked Off p q t = read_tried c n k h page locked [] p q t refl
-clock_tried c n k h page locked (On reading clock) p q t = read_tried c n k h page locked (Clamp n k reading clock ∷ []) p q t refl
+clock_tried c n k h page locked Off p q t = read_tried c n k h page locked [] p q t (none_tried c)
+clock_tried c n k h page locked (On reading clock) p q t =
+    read_tried c n k h page locked (Clamp n k reading clock ∷ []) p q t (refl, All-nil (λ (m : Miss). IsUpdate m.first m.second))
 
-clock_tells : (s : BoardParts) (h : ℕ) (page : Page) (reply : ClockReply) (p : PassKnown) → IsClockOf s h page reply p → Tells s h page reply
-clock_tells s h page Off p a = a
-clock_tells s h page (On reading clock) p a = (a.0, a.1)
+clock_call : (s : BoardParts) (n cpu h k : ℕ) (page : Page) (locked : Bool) (reply : ClockReply) (p : PassKnown) → IsClockOf s h page reply p
+    → CallMade s n cpu h (ReadClock k) (ClockIs reply) (clock_entries n k h page locked reply)
+clock_call s n cpu h k page locked Off p a = (page, locked, a, refl)
+clock_call s n cpu h k page locked (On reading clock) p a = (page, locked, a.0, a.1, refl)
 
 module _ (s : BoardParts) (r : Record) (p q : PassKnown) where
   pub access_made : (x : Access) (reply : Reply) → r.call ≡ Act x → Answered p q (Board p.number r.cpu r.h x reply) → IsMade s r (Acted reply) p q
@@ -61,7 +71,7 @@ module _ (s : BoardParts) (r : Record) (p q : PassKnown) where
   pub page_made : (k : ℕ) (reply : PageReply) → r.call ≡ ReadPage k → HasReadPage s k r.h reply p q → IsMade s r (PageIs reply) p q
   page_made k reply is a =
       let es : List Entry = PageRead p.number k r.h a.read.page a.locked ∷ [] in
-      let m = read_tried s.cpus p.number k r.h a.read.page a.locked [] p q a.tried refl in (
+      let m = read_tried s.cpus p.number k r.h a.read.page a.locked [] p q a.tried (none_tried s.cpus) in (
         es,
         subst (λ (call : Call). CallMade s p.number r.cpu r.h call (PageIs reply) es) (sym is) (a.read.page, a.locked, a.read.answer, refl),
         a.read.made,
@@ -76,7 +86,7 @@ module _ (s : BoardParts) (r : Record) (p q : PassKnown) where
       let m = clock_tried s.cpus p.number k r.h a.read.page a.locked reply p q a.tried in (
         es,
         subst (λ (call : Call). CallMade s p.number r.cpu r.h call (ClockIs reply) es) (sym is)
-            (a.read.page, a.locked, clock_tells s r.h a.read.page reply p a.read.answer, refl),
+            (clock_call s p.number r.cpu r.h k a.read.page a.locked reply p a.read.answer),
         a.read.made,
         m.0,
         m.1,

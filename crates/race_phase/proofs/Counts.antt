@@ -56,7 +56,7 @@ use Rattle.board_core.proofs.Laws.{
   taken_hv,
 }
 use Rattle.board_core.specs.Tsc.{processor_at}
-use Rattle.board_history.specs.History.{of_state, after_entry, board_after, May, LegalFrom, is_of, entries_of}
+use Rattle.board_history.specs.History.{after_entry, board_after, May, LegalFrom, is_of, entries_of}
 use Rattle.board_history.specs.declared.entry.Entry.{Entry}
 use Rattle.board_history.specs.declared.entry.Entry.TheVariants.{Opened, Board, PageRead, HvRead, Clamp}
 use Rattle.board_history.proofs.Laws.{board_after-snoc}
@@ -334,7 +334,7 @@ numbered w e q m es is below rest =
     let add = part-cons w e q (w e) es 0 m (λ n. ap (λ (b : Bool). if b then w e else 0) (is n)) in omega arith
 
 -- the parts of a history make up the whole
-pub part_whole : (w : Entry → ℕ) (m : ℕ) (h : List Entry) → ((s : BoardParts) → w (of_state s) ≡ 0) → AllBelow m h → part w h 0 m ≡ weigh w h
+pub part_whole : (w : Entry → ℕ) (m : ℕ) (h : List Entry) → ((s : BoardParts) → w (Opened s) ≡ 0) → AllBelow m h → part w h 0 m ≡ weigh w h
 part_whole w m [] zero_there below = part-nil w 0 m
 part_whole w m (Opened s ∷ es) zero_there below =
     let rest = part_whole w m es zero_there (below_rest m (Opened s) es below) in

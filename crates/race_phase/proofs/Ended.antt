@@ -5,9 +5,9 @@ use Rattle.race_phase.specs.declared.faults.Cause.TheVariants.{Access as ByAcces
 use Rattle.race_phase.specs.declared.deliveries.Deliveries.{Deliveries}
 use Rattle.board_types.specs.declared.access.Access.TheVariants.{Step}
 use Rattle.board_types.specs.declared.parts.BoardParts.{BoardParts}
-use Rattle.board_core.specs.Access.{after_access}
+use Rattle.board_core.specs.Access.{after_access, reply_of}
 use Rattle.board_core.specs.Refusals.{refusal_of}
-use Rattle.board_history.specs.History.{of_state, board_after, May, LegalFrom, IsLegal, Opens}
+use Rattle.board_history.specs.History.{board_after, May, LegalFrom, IsLegal, Opens}
 use Rattle.board_history.specs.declared.entry.Entry.{Entry}
 use Rattle.board_history.proofs.Laws.{LegalFrom-snoc}
 use Rattle.transfer.specs.Move.{move_fault}
@@ -16,8 +16,9 @@ use Rattle.race_phase.specs.declared.phases.End.{End}
 use Rattle.race_phase.specs.declared.phases.End.TheVariants.{Finish, Save, Move}
 use Rattle.race_phase.specs.declared.phases.Phase.{Phase}
 use Rattle.race_phase.specs.private.Ran.{PhaseTold}
-use Rattle.race_phase.specs.Phases.{IsEnd, end_fault, step_entry, end_entries, end_text, next_board, PhaseEnded}
+use Rattle.race_phase.specs.Phases.{IsEnd, end_fault, end_entries, end_text, next_board, PhaseEnded}
 use Rattle.race_phase.proofs.Taken.{line_none, access_none}
+use Rattle.board_history.specs.declared.entry.Entry.TheVariants.{Opened, Board}
 
 pub cause_none : (o q : Option Cause) → option_or o q ≡ None → (o ≡ None) × (q ≡ None)
 cause_none None q e = (refl, e)
@@ -26,14 +27,14 @@ cause_none (Some c) q e = absurd (cc e)
 legal_more : (s : BoardParts) (h : List Entry) (e : Entry) → IsLegal h → Opens s h → May h e → IsLegal (h ++ e ∷ [])
 legal_more s h e legal opens may =
     let later = opens.0 in
-    let l : LegalFrom (of_state s ∷ []) later = subst IsLegal opens.1 legal in
+    let l : LegalFrom (Opened s ∷ []) later = subst IsLegal opens.1 legal in
     subst (λ (z : List Entry). IsLegal (z ++ e ∷ [])) (sym opens.1)
-    (LegalFrom-snoc (of_state s ∷ []) later e l (subst (λ (z : List Entry). May z e) opens.1 may))
+    (LegalFrom-snoc (Opened s ∷ []) later e l (subst (λ (z : List Entry). May z e) opens.1 may))
 
 step_more : (s : BoardParts) (h : List Entry) (cpu hh : ℕ) → IsLegal h → Opens s h → cpu < (board_after h).cpus → refusal_of (board_after h) cpu hh Step ≡ None
-    → IsLegal (h ++ step_entry cpu hh (board_after h) ∷ [])
+    → IsLegal (h ++ Board cpu cpu hh Step (reply_of (board_after h) cpu hh Step) ∷ [])
 step_more s h cpu hh legal opens inside taken =
-    legal_more s h (step_entry cpu hh (board_after h)) legal opens (record { cpu_below = inside; legal = refl; taken = taken; reply = refl })
+    legal_more s h (Board cpu cpu hh Step (reply_of (board_after h) cpu hh Step)) legal opens (record { cpu_below = inside; legal = refl; taken = taken; reply = refl })
 
 end_legal : (s : BoardParts) (h : List Entry) (e : End) → IsLegal h → Opens s h → IsEnd (board_after h).cpus e → end_fault (board_after h) e ≡ None
     → IsLegal (h ++ end_entries e (board_after h))

@@ -1,6 +1,6 @@
 -- Small rows that pin the definitions: what a record and the end of a phase print, and which entries
 -- answer the calls of a processor.
-use Rattle.std.proofs.Common.{◌≡◌, ℕ, ◌%◌, ◌<◌, ◌⊎◌, List, [], ◌∷◌, true, false, Bool, Some, map, pos, refl}
+use Rattle.std.proofs.Common.{◌≡◌, ℕ, List, [], ◌∷◌, true, false, Bool, Some, map, pos, refl}
 use Rattle.std.specs.Prelude.{codes}
 use Rattle.std.specs.Fmt.{digits}
 use Rattle.tsc_scale.specs.Offset.{tsc_by}
@@ -17,11 +17,10 @@ use Rattle.board_types.specs.declared.reply.Value.TheVariants.{Nothing, Byte}
 use Rattle.board_core.specs.Access.{after_access, reply_of}
 use Rattle.board_core.specs.PowerOn.{board_at_power_on}
 use Rattle.board_core.specs.Pages.{answer_by}
-use Rattle.board_history.specs.Machine.{machine_of, ratio_in}
+use Rattle.board_history.specs.Machine.{ratio_in}
 use Rattle.board_history.specs.History.{entries_of}
 use Rattle.board_history.specs.declared.entry.Entry.{Entry}
 use Rattle.board_history.specs.declared.entry.Entry.TheVariants.{Opened, Board, PageRead, Clamp}
-use Rattle.clock_table.specs.declared.view.Miss.{Miss}
 use Rattle.reply_text.specs.Words.{hex_text}
 use Rattle.reply_text.specs.Text.{edge_text, msg_text, value_text, page_text, clock_text, hv_text}
 use Rattle.transfer.specs.Move.{moved_to}
@@ -32,8 +31,10 @@ use Rattle.race_phase.specs.declared.records.Answer.TheVariants.{Acted, PageIs, 
 use Rattle.trace_text.specs.declared.records.Call.TheVariants.{Act, ReadPage, ReadClock}
 use Rattle.race_phase.specs.declared.records.Record.{Record}
 use Rattle.race_phase.specs.Blocks.{block_of, delivery_to, message_to}
-use Rattle.race_phase.specs.Calls.{records_of, CallMade, AllTried, Shown}
+use Rattle.race_phase.specs.Calls.{records_of, CallMade, locked_page, Shown}
 use Rattle.race_phase.specs.Phases.{next_board, end_entries}
+use Rattle.std.specs.List.{filter_map}
+use Rattle.std.proofs.lemmas.List.Elements.{All-nil}
 
 -- two processors on a host of 1 GHz, with a guest of 2 GHz
 abbrev at_power_on : BoardParts
@@ -113,7 +114,7 @@ entries_of_ends b = refl
 
 -- Calls and their entries: of a clock, the clamp only where the page is enabled
 a_page_that_is_read : (es : List Entry) → CallMade at_power_on 1 1 900 (ReadPage 0) (PageIs PageOff) es
-    ≡ ((p : Page) × (locked : Bool) × (PageOff ≡ answer_by (ratio_in (machine_of at_power_on)) p 900) × (es ≡ PageRead 1 0 900 p locked ∷ []))
+    ≡ ((p : Page) × (locked : Bool) × (PageOff ≡ answer_by (ratio_in at_power_on) p 900) × (es ≡ PageRead 1 0 900 p locked ∷ []))
 a_page_that_is_read es = refl
 
 a_clock_of_a_page_that_is_off : (es : List Entry) → CallMade at_power_on 1 1 900 (ReadClock 0) (ClockIs Off) es
@@ -167,9 +168,9 @@ processor_0_is_first = (
     refl,
     refl,
     refl,
-    (ClockIs (On 4 4), [], clock_read false, [], refl, refl, (page, false, (refl, refl), refl), (refl, refl)),
+    (ClockIs (On 4 4), [], clock_read false, [], refl, refl, (page, false, refl, refl, refl), (refl, refl)),
   ),
-  ([], refl, tt),
+  ([], refl, All-nil _),
   (
     codes "6 2\n8 3\n",
     [],
@@ -184,7 +185,7 @@ processor_0_is_first = (
       refl,
       (Acted (reply 3), [], stepped 3 3 ∷ [], [], refl, refl, refl, (refl, refl)),
     ),
-    ([], refl, tt),
+    ([], refl, All-nil _),
     refl,
   ),
 )
@@ -204,9 +205,9 @@ processor_1_is_first = (
     refl,
     refl,
     refl,
-    (ClockIs (On 4 4), [], clock_read false, [], refl, refl, (page, false, (refl, refl), refl), (refl, refl)),
+    (ClockIs (On 4 4), [], clock_read false, [], refl, refl, (page, false, refl, refl, refl), (refl, refl)),
   ),
-  ([], refl, tt),
+  ([], refl, All-nil _),
   (
     codes "6 1\n8 3\n",
     [],
@@ -221,7 +222,7 @@ processor_1_is_first = (
       refl,
       (Acted (reply 3), [], stepped 3 3 ∷ [], [], refl, refl, refl, (refl, refl)),
     ),
-    ([], refl, tt),
+    ([], refl, All-nil _),
     refl,
   ),
 )
@@ -230,12 +231,9 @@ processor_1_is_first = (
 an_entry_of_a_third_pass : entries_of 2 (Opened at_power_on ∷ enabled 1 ∷ Board 2 0 3 Step (reply 2) ∷ []) ≡ Board 2 0 3 Step (reply 2) ∷ []
 an_entry_of_a_third_pass = refl
 
--- a read under the lock has its try, which met an update; one without it has none
-a_read_under_the_lock : (ms : List Miss) → AllTried 2 (clock_read true) ms
-    ≡ ((first : ℕ) × (second : ℕ) × (more : List Miss) × (ms ≡ record { page = 0; first = first; second = second } ∷ more)
-    × (((first % 2 ≡ 1) × (second ≡ first)) ⊎ (first < second))
-    × (more ≡ []))
-a_read_under_the_lock ms = refl
+-- a read under the lock has its miss, one without it has none
+a_read_under_the_lock : filter_map (locked_page 2) (clock_read true) ≡ 0 ∷ []
+a_read_under_the_lock = refl
 
-a_read_without_the_lock : (ms : List Miss) → AllTried 2 (clock_read false) ms ≡ (ms ≡ [])
-a_read_without_the_lock ms = refl
+a_read_without_the_lock : filter_map (locked_page 2) (clock_read false) ≡ []
+a_read_without_the_lock = refl

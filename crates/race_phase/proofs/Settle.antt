@@ -43,9 +43,10 @@ use Rattle.race_phase.specs.declared.records.Answer.TheVariants.{Acted, PageIs, 
 use Rattle.trace_text.specs.declared.records.Call.{Call}
 use Rattle.trace_text.specs.declared.records.Call.TheVariants.{Act, ReadPage, ReadClock, ReadHv}
 use Rattle.race_phase.specs.declared.records.Record.{Record}
-use Rattle.race_phase.specs.Calls.{IsFitting, records_of, CallMade, MadeBy, AllMade, AllTried, Shown}
-use Rattle.race_phase.specs.private.Workers.{IsTrouble, HasStopped, HasWorked, AllWorked}
+use Rattle.race_phase.specs.Calls.{IsFitting, records_of, CallMade, AllMade, Shown}
+use Rattle.race_phase.specs.private.Workers.{IsTrouble, HasStopped, HasWorked, AllWorked, AllTried}
 use Rattle.race_phase.proofs.Counts.{weigh, weigh-append, of_entry, of_call, of_record, reads, part, one, one_there}
+use Rattle.race_phase.proofs.Workers.{tried_told}
 
 -- the weight of the records of k processors from n on
 abbrev pub rpart : (Record → ℕ) → List Record → ℕ → ℕ → ℕ
@@ -78,52 +79,30 @@ rpart_whole v cpus format (r ∷ rs) all =
 module _ (s : BoardParts) where
   -- a weight of records that is at least that of the entries that they make, and one that is the same
   abbrev pub Covers : (Entry → ℕ) → (Record → ℕ) → Type 0
-  Covers w v = (n : ℕ) (r : Record) (a : Answer) (es : List Entry) → MadeBy s n r a es → weigh w es ≤ v r
+  Covers w v = (n : ℕ) (r : Record) (a : Answer) (es : List Entry) → CallMade s n r.cpu r.h r.call a es → weigh w es ≤ v r
 
   abbrev pub Exact : (Entry → ℕ) → (Record → ℕ) → Type 0
-  Exact w v = (n : ℕ) (r : Record) (a : Answer) (es : List Entry) → MadeBy s n r a es → weigh w es ≡ v r
+  Exact w v = (n : ℕ) (r : Record) (a : Answer) (es : List Entry) → CallMade s n r.cpu r.h r.call a es → weigh w es ≡ v r
 
   exact_call : (f : ℕ → ℕ → Access → ℕ) (n cpu h : ℕ) (call : Call) (a : Answer) (es : List Entry) → CallMade s n cpu h call a es
       → weigh (of_entry f) es ≡ of_call f cpu h call
   exact_call f n cpu h (Act x) (Acted reply) es m = let e = ap (weigh (of_entry f)) m in omega arith
-  exact_call f n cpu h (Act x) (PageIs reply) es m = absurd m
-  exact_call f n cpu h (Act x) (ClockIs reply) es m = absurd m
-  exact_call f n cpu h (ReadPage page) (Acted reply) es m = absurd m
   exact_call f n cpu h (ReadPage page) (PageIs reply) es m = ap (weigh (of_entry f)) m.3
-  exact_call f n cpu h (ReadPage page) (ClockIs reply) es m = absurd m
-  exact_call f n cpu h (ReadClock page) (Acted reply) es m = absurd m
-  exact_call f n cpu h (ReadClock page) (PageIs reply) es m = absurd m
   exact_call f n cpu h (ReadClock page) (ClockIs Off) es m = ap (weigh (of_entry f)) m.3
-  exact_call f n cpu h (ReadClock page) (ClockIs (On reading clock)) es m = ap (weigh (of_entry f)) m.3
-  exact_call f n cpu h (Act x) (HvIs reply) es m = absurd m
-  exact_call f n cpu h (ReadPage page) (HvIs reply) es m = absurd m
-  exact_call f n cpu h (ReadClock page) (HvIs reply) es m = absurd m
-  exact_call f n cpu h ReadHv (Acted reply) es m = absurd m
-  exact_call f n cpu h ReadHv (PageIs reply) es m = absurd m
-  exact_call f n cpu h ReadHv (ClockIs reply) es m = absurd m
+  exact_call f n cpu h (ReadClock page) (ClockIs (On reading clock)) es m = ap (weigh (of_entry f)) m.4
   exact_call f n cpu h ReadHv (HvIs reply) es m = ap (weigh (of_entry f)) m.3
+  exact_call f n cpu h _ _ es m = absurd m
 
   pub exact : (f : ℕ → ℕ → Access → ℕ) → Exact (of_entry f) (of_record f)
   exact f n r a es m = exact_call f n r.cpu r.h r.call a es m
 
   reads_call : (n cpu h : ℕ) (call : Call) (a : Answer) (es : List Entry) → CallMade s n cpu h call a es → weigh reads es ≤ 1
   reads_call n cpu h (Act x) (Acted reply) es m = let e = ap (weigh reads) m in omega arith
-  reads_call n cpu h (Act x) (PageIs reply) es m = absurd m
-  reads_call n cpu h (Act x) (ClockIs reply) es m = absurd m
-  reads_call n cpu h (ReadPage page) (Acted reply) es m = absurd m
   reads_call n cpu h (ReadPage page) (PageIs reply) es m = let e = ap (weigh reads) m.3 in omega arith
-  reads_call n cpu h (ReadPage page) (ClockIs reply) es m = absurd m
-  reads_call n cpu h (ReadClock page) (Acted reply) es m = absurd m
-  reads_call n cpu h (ReadClock page) (PageIs reply) es m = absurd m
   reads_call n cpu h (ReadClock page) (ClockIs Off) es m = let e = ap (weigh reads) m.3 in omega arith
-  reads_call n cpu h (ReadClock page) (ClockIs (On reading clock)) es m = let e = ap (weigh reads) m.3 in omega arith
-  reads_call n cpu h (Act x) (HvIs reply) es m = absurd m
-  reads_call n cpu h (ReadPage page) (HvIs reply) es m = absurd m
-  reads_call n cpu h (ReadClock page) (HvIs reply) es m = absurd m
-  reads_call n cpu h ReadHv (Acted reply) es m = absurd m
-  reads_call n cpu h ReadHv (PageIs reply) es m = absurd m
-  reads_call n cpu h ReadHv (ClockIs reply) es m = absurd m
+  reads_call n cpu h (ReadClock page) (ClockIs (On reading clock)) es m = let e = ap (weigh reads) m.4 in omega arith
   reads_call n cpu h ReadHv (HvIs reply) es m = let e = ap (weigh reads) m.3 in omega arith
+  reads_call n cpu h _ _ es m = absurd m
 
   pub reads_cover : Covers reads (λ r. 1)
   reads_cover n r a es m = reads_call n r.cpu r.h r.call a es m
@@ -228,7 +207,7 @@ module _ (s : BoardParts) (ds : Deliveries) (rs : List Record) (h : List Entry) 
             all.1,
             all.2,
             subst (AllMade s ds n (records_of n rs) all.0) (sym mine_told) made.0,
-            (p.misses, subst (λ (es : List Entry). AllTried s.cpus es p.misses) (sym mine_told) made.1, told.2),
+            tried_told s.cpus n h p.misses (subst (λ (es : List Entry). AllTried s.cpus es p.misses) (sym mine_told) made.1) told.2,
             shown,
           ))
           (λ (y : HasStopped s ds n (records_of n rs) p). inr (here y)) x

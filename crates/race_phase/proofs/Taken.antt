@@ -64,7 +64,7 @@ use Rattle.board_core.proofs.Joined.{most-cpus}
 use Rattle.board_core.specs.Tsc.{processor_at}
 use Rattle.board_history.specs.Machine.{Machine}
 use Rattle.board_history.specs.Counts.{HasNoTime, IsAtLastVersion}
-use Rattle.board_history.specs.History.{of_state, board_after, LegalFrom, IsLegal, Opens}
+use Rattle.board_history.specs.History.{board_after, LegalFrom, IsLegal, Opens}
 use Rattle.board_history.specs.declared.entry.Entry.{Entry}
 use Rattle.board_history.specs.declared.entry.Entry.TheVariants.{Opened}
 use Rattle.board_history.proofs.Laws.{machine-stays}
@@ -216,19 +216,19 @@ untimed_one anchor r n = ap (λ (t : Bool). if t then 1 else 0) (has_none anchor
 -- what a pass has seen begins as the history does
 pub record SeenPart (s : BoardParts) (seen later : List Entry) : Type 0 where
   pub es : List Entry
-  pub is : seen ≡ of_state s ∷ es
-  pub legal : LegalFrom (of_state s ∷ []) es
+  pub is : seen ≡ Opened s ∷ es
+  pub legal : LegalFrom (Opened s ∷ []) es
   pub rest : List Entry
   pub whole : es ++ rest ≡ later
 
-seen_part : (s : BoardParts) (seen later : List Entry) → IsLegal seen → IsPrefix seen (of_state s ∷ later) → SeenPart s seen later
+seen_part : (s : BoardParts) (seen later : List Entry) → IsLegal seen → IsPrefix seen (Opened s ∷ later) → SeenPart s seen later
 seen_part s [] later l p = absurd l
 seen_part s (Opened z ∷ es) later l p =
     let same : z ≡ s = cc p.1 in
     record {
       es = es;
       is = ap (λ (b : BoardParts). Opened b ∷ es) same;
-      legal = subst (λ (b : BoardParts). LegalFrom (of_state b ∷ []) es) same l;
+      legal = subst (λ (b : BoardParts). LegalFrom (Opened b ∷ []) es) same l;
       rest = p.0;
       whole = cc p.1;
     }
@@ -257,7 +257,7 @@ module _ (s : BoardParts) (rs : List Record) (h : List Entry) (sound : IsSound s
   sp = seen_part s k.pass.seen opens.0 k.legal (subst (IsPrefix k.pass.seen) opens.1 k.begins)
 
   -- what had been seen weighs less than all records, by the next
-  less : (w : Entry → ℕ) (v : Record → ℕ) → ((z : BoardParts) → w (of_state z) ≡ 0) → Covers s w v → weigh w sp.es + v k.next ≤ weigh v rs
+  less : (w : Entry → ℕ) (v : Record → ℕ) → ((z : BoardParts) → w (Opened z) ≡ 0) → Covers s w v → weigh w sp.es + v k.next ≤ weigh v rs
   less w v none covers =
       let a = k.below w v covers in
       let b = part_whole w s.cpus h none below in
@@ -287,13 +287,13 @@ module _ (s : BoardParts) (rs : List Record) (h : List Entry) (sound : IsSound s
     not_full : q (board_after k.pass.seen) + x * of_record f k.next ≤ most
     not_full =
         let a = less (of_entry f) (of_record f) (λ z. refl) (λ n r a es m. (let e = exact s f n r a es m in omega arith)) in
-        let b = raised n q f x most r (of_state s ∷ []) sp.es sp.legal small in
+        let b = raised n q f x most r (Opened s ∷ []) sp.es sp.legal small in
         let e = ap (λ l. q (board_after l)) sp.is in
         let room = room_all n q f x most r s rs free small low in
         let more = mul-le-mul_left x a in omega arith
 
   anchor_is : (board_after k.pass.seen).anchor ≡ s.anchor
-  anchor_is = ap (λ l. (board_after l).anchor) sp.is ∙ ap (λ (m : Machine). m.anchor) (machine-stays (of_state s ∷ []) sp.es sp.legal)
+  anchor_is = ap (λ l. (board_after l).anchor) sp.is ∙ ap (λ (m : Machine). m.anchor) (machine-stays (Opened s ∷ []) sp.es sp.legal)
 
   accesses_left : (a : Access) → k.next.call ≡ Act a → MOST_ACCESSES ≤ (board_after k.pass.seen).accesses → ⊥
   accesses_left a is full =

@@ -39,8 +39,6 @@ use Rattle.std.proofs.Common.{
   Option,
   Some,
   Bool,
-  true,
-  false,
   if◌then◌else◌,
   eq-eqb,
   ne_eqb,
@@ -48,22 +46,21 @@ use Rattle.std.proofs.Common.{
 use Rattle.std.specs.Prelude.{slice_get, IfSome}
 use Rattle.std.proofs.Math.ListN.{get_or-append}
 use Rattle.std.proofs.Math.Seq.{take-suc, drop-cons, get_or-append_seam}
-use Rattle.std.proofs.lemmas.List.{length-take-le, take-append-drop, take_more_set, take_all, drop_all}
+use Rattle.std.proofs.lemmas.List.{length-take-le, take-append-drop, take_more_set, take_all, drop_all, map-append}
 use Rattle.std.proofs.lemmas.Option.{slice_get-get_or, get_or_from_slice_get, slice_get_within}
 use native.Mathlib.Decide.{ℕ_discrete}
 use Rattle.race_phase.specs.declared.deliveries.Deliveries.{Deliveries}
 use Rattle.board_types.specs.declared.parts.BoardParts.{BoardParts}
 use Rattle.board_history.specs.declared.entry.Entry.{Entry}
-use Rattle.board_history.specs.declared.entry.Entry.TheVariants.{Opened, Board, PageRead, HvRead, Clamp}
+use Rattle.board_history.specs.declared.entry.Entry.TheVariants.{Opened}
 use Rattle.clock_table.specs.declared.view.Miss.{Miss}
-use Rattle.board_history.specs.History.{of_state}
 use Rattle.shared_board.specs.declared.known.PassKnown.{PassKnown}
-use Rattle.shared_board.specs.Passes.{mine, Unanswered}
+use Rattle.shared_board.specs.Passes.{mine, Unanswered, IsUpdate}
 use Rattle.shared_board.specs.Stops.{newcomers}
 use Rattle.race_phase.specs.declared.records.Answer.{Answer}
 use Rattle.race_phase.specs.declared.records.Record.{Record}
 use Rattle.race_phase.specs.Blocks.{block_of}
-use Rattle.race_phase.specs.Calls.{IsFitting, records_of, MadeBy, AllMade, AllTried}
+use Rattle.race_phase.specs.Calls.{IsFitting, records_of, CallMade, AllMade, locked_page, IsTried}
 use Rattle.race_phase.specs.declared.batch.Place.{Place}
 use Rattle.race_phase.specs.private.Told.{answer_with}
 use Rattle.race_phase.specs.private.Workers.{
@@ -80,16 +77,15 @@ use Rattle.race_phase.specs.private.Workers.{
   HasPrinted,
   AllButLast,
   HasGoneOn,
+  AllTried,
 }
+use Rattle.std.proofs.lemmas.List.Elements.{filter_map-append, filter-append, All-append, All-nil, All-cons, All-head, All-tail}
+use Rattle.clock_table.specs.Ends.{MissesTold}
+use Rattle.board_history.specs.History.{entries_of, version_after}
 
 -- the records of a processor in two lists, one after the other
-records_step : (b : Bool) (x : Record) (us bs cs : List Record) → us ≡ bs ++ cs → (if b then (x ∷ us) else us) ≡ (if b then (x ∷ bs) else bs) ++ cs
-records_step true x us bs cs e = ap (λ es. x ∷ es) e
-records_step false x us bs cs e = e
-
 pub records_of-append : (n : ℕ) (xs ys : List Record) → records_of n (xs ++ ys) ≡ records_of n xs ++ records_of n ys
-records_of-append n [] ys = refl
-records_of-append n (x ∷ xs) ys = records_step (eqb x.cpu n) x (records_of n (xs ++ ys)) (records_of n xs) (records_of n ys) (records_of-append n xs ys)
+records_of-append n xs ys = filter-append (λ (r : Record). eqb r.cpu n) xs ys
 
 pub records_take : (n : ℕ) (xs ys : List Record) (x : Record) → x.cpu ≡ n → records_of n (xs ++ x ∷ ys) ≡ records_of n xs ++ x ∷ records_of n ys
 records_take n xs ys x e = records_of-append n xs (x ∷ ys)
@@ -104,16 +100,24 @@ take_next rs i d l = let e : i + 1 ≡ suc i = omega arith in ap (λ (k : ℕ). 
 
 -- the misses of calls one after another
 pub tried-++ : (c : ℕ) (es fs : List Entry) (ms ns : List Miss) → AllTried c es ms → AllTried c fs ns → AllTried c (es ++ fs) (ms ++ ns)
-tried-++ c [] fs ms ns a b = subst (λ (l : List Miss). AllTried c fs (l ++ ns)) (sym a) b
-tried-++ c (PageRead n k h page true ∷ es) fs ms ns a b =
-    (a.0, a.1, a.2 ++ ns, ap (λ (l : List Miss). l ++ ns) a.3, a.4, tried-++ c es fs a.2 ns a.5 b)
-tried-++ c (HvRead n h page true ∷ es) fs ms ns a b =
-    (a.0, a.1, a.2 ++ ns, ap (λ (l : List Miss). l ++ ns) a.3, a.4, tried-++ c es fs a.2 ns a.5 b)
-tried-++ c (PageRead n k h page false ∷ es) fs ms ns a b = tried-++ c es fs ms ns a b
-tried-++ c (HvRead n h page false ∷ es) fs ms ns a b = tried-++ c es fs ms ns a b
-tried-++ c (Opened s ∷ es) fs ms ns a b = tried-++ c es fs ms ns a b
-tried-++ c (Board n cpu h x reply ∷ es) fs ms ns a b = tried-++ c es fs ms ns a b
-tried-++ c (Clamp n k reading clock ∷ es) fs ms ns a b = tried-++ c es fs ms ns a b
+tried-++ c es fs ms ns a b = (
+  map-append (λ (m : Miss). m.page) ms ns ∙ (λ i. a.0 i ++ b.0 i) ∙ sym (filter_map-append (locked_page c) es fs),
+  All-append (λ (m : Miss). IsUpdate m.first m.second) ms ns a.1 b.1,
+)
+
+-- the misses of a pass, whose versions came
+abbrev HasMet : Miss → Type 0
+HasMet m = IsUpdate m.first m.second
+
+abbrev HasCome : List Entry → Miss → Type 0
+HasCome h m = HasMet m × (m.second ≤ version_after h m.page)
+
+all_came : (h : List Entry) (ms : List Miss) → All HasMet ms → MissesTold h ms → All (HasCome h) ms
+all_came h [] met came = All-nil (HasCome h)
+all_came h (m ∷ ms) met came = All-cons (HasCome h) m ms (All-head HasMet m ms met, came.0) (all_came h ms (All-tail HasMet m ms met) came.1)
+
+pub tried_told : (c n : ℕ) (h : List Entry) (ms : List Miss) → AllTried c (entries_of n h) ms → MissesTold h ms → IsTried c h n
+tried_told c n h ms tried told = (ms, tried.0, all_came h ms tried.1 told)
 
 -- a record that was answered
 pub tried_made : (s : BoardParts) (r : Record) (a : Answer) (p q : PassKnown) → IsMade s r a p q → AllTried s.cpus (mine p) p.misses
@@ -126,14 +130,14 @@ tried_made s r a p q m t =
 pub newcomers_length : (s : BoardParts) (n : ℕ) → length (newcomers s n) ≡ n
 newcomers_length s zero = refl
 newcomers_length s (suc n) =
-    let e = length-append (newcomers s n) (record { number = n; seen = of_state s ∷ []; misses = [] } ∷ []) in
+    let e = length-append (newcomers s n) (record { number = n; seen = Opened s ∷ []; misses = [] } ∷ []) in
     let k = newcomers_length s n in omega arith
 
 pub newcomer : (s : BoardParts) (n i : ℕ) (d x : PassKnown) → i < n → x ≡ get_or (newcomers s n) i d
     → (x.number ≡ i) × (mine x ≡ []) × (x.misses ≡ [])
 newcomer s zero i d x l is = absurd (omega arith)
 newcomer s (suc n) i d x l is =
-    let new : PassKnown = record { number = n; seen = of_state s ∷ []; misses = [] } in
+    let new : PassKnown = record { number = n; seen = Opened s ∷ []; misses = [] } in
     let len = newcomers_length s n in
     elim (ℕ_discrete i n) [
       | yes same ↦
@@ -150,7 +154,7 @@ newcomer s (suc n) i d x l is =
 module _ (s : BoardParts) (ds : Deliveries) where
   -- one record more
   pub made-snoc : (n : ℕ) (rs : List Record) (out : List ℕ) (es : List Entry) (r : Record) (a : Answer) (more : List Entry) → AllMade s ds n rs out es
-      → MadeBy s n r a more → AllMade s ds n (rs ++ r ∷ []) (out ++ block_of ds r.line a) (es ++ more)
+      → CallMade s n r.cpu r.h r.call a more → AllMade s ds n (rs ++ r ∷ []) (out ++ block_of ds r.line a) (es ++ more)
   made-snoc n [] out es r a more all m = (
     a,
     [],
@@ -240,7 +244,7 @@ answered_more s rs ts r t p q z all m = record {
   long = let a = length-append rs (r ∷ []) in let b = length-append ts (t ∷ []) in let e = all.long in omega arith;
   made = λ ds done out x.
       let a : Answer = answer_with t.told t.reply in
-      let by : MadeBy s p.number r a m.0 = subst (λ (k : ℕ). MadeBy s k r a m.0) all.number m.1 in
+      let by : CallMade s p.number r.cpu r.h r.call a m.0 = subst (λ (k : ℕ). CallMade s k r.cpu r.h r.call a m.0) all.number m.1 in
       let step = made-snoc s ds p.number (done ++ rs) (out ++ places_text ds rs ts) (mine q) r a m.0 (all.made ds done out x) by in
       let text : (out ++ places_text ds rs ts) ++ block_of ds r.line a ≡ out ++ places_text ds (rs ++ r ∷ []) (ts ++ t ∷ []) =
       append_assoc out (places_text ds rs ts) (block_of ds r.line a)

@@ -5,33 +5,36 @@ use Rattle.std.specs.Prelude.{
   zero,
   suc,
   ◌<◌,
+  ◌≤◌,
   ◌==◌,
-  if◌then◌else◌,
   List,
   [],
   ◌∷◌,
   ◌++◌,
+  map,
+  All,
+  Option,
+  Some,
+  None,
   Bool,
   true,
   false,
   IsTrue,
 }
+use Rattle.std.specs.List.{filter, filter_map}
 use Rattle.race_phase.specs.declared.deliveries.Deliveries.{Deliveries}
 use Rattle.hv_page.specs.declared.page.HvPage.{HvPage}
 use Rattle.pvclock_page.specs.declared.page.Page.{Page}
-use Rattle.pvclock_page.specs.declared.page.ClockReply.{ClockReply}
 use Rattle.pvclock_page.specs.declared.page.ClockReply.TheVariants.{Off, On}
 use Rattle.board_types.specs.declared.parts.BoardParts.{BoardParts}
 use Rattle.board_core.specs.Pages.{reading_by, answer_by}
 use Rattle.board_core.specs.Hv.{hv_answer_by}
-use Rattle.board_history.specs.Machine.{machine_of, ratio_in}
-use Rattle.board_history.specs.History.{entries_of}
+use Rattle.board_history.specs.Machine.{ratio_in}
+use Rattle.board_history.specs.History.{entries_of, version_after}
 use Rattle.board_history.specs.declared.entry.Entry.{Entry}
-use Rattle.board_history.specs.declared.entry.Entry.TheVariants.{Board, PageRead, HvRead}
+use Rattle.board_history.specs.declared.entry.Entry.TheVariants.{Board, PageRead, HvRead, Clamp}
 use Rattle.clock_table.specs.declared.view.Miss.{Miss}
-use Rattle.clock_table.specs.Ends.{MissesTold}
-use Rattle.shared_board.specs.Pages.{clock_entries}
-use Rattle.shared_board.specs.Passes.{miss, IsUpdate}
+use Rattle.shared_board.specs.Passes.{IsUpdate}
 use Rattle.race_phase.specs.declared.records.Answer.{Answer}
 use Rattle.race_phase.specs.declared.records.Answer.TheVariants.{Acted, PageIs, ClockIs, HvIs}
 use Rattle.trace_text.specs.Records.{IsFittingCall}
@@ -46,14 +49,7 @@ IsFitting cpus format r = (r.cpu < cpus) × IsFittingCall cpus format r.call
 
 -- the records of a processor, in order
 abbrev pub records_of : ℕ → List Record → List Record
-records_of n [] = []
-records_of n (r ∷ rs) = if r.cpu == n then (r ∷ records_of n rs) else records_of n rs
-
--- the clock is off as the page is, or has the reading that the page gives at count h
-abbrev pub Tells : BoardParts → ℕ → Page → ClockReply → Type 0
-Tells s h page Off = page.enabled ≡ false
-Tells s h page (On reading clock) =
-    IsTrue page.enabled × (reading ≡ reading_by (ratio_in (machine_of s)) page h)
+records_of n rs = filter (λ r. r.cpu == n) rs
 
 -- the entries that a call of the pass n makes on a board that opened with s, and its answer: one of
 -- an access; one of a page; of the clock that of the page, and the clamp where the page is enabled;
@@ -61,19 +57,19 @@ Tells s h page (On reading clock) =
 abbrev pub CallMade : BoardParts → ℕ → ℕ → ℕ → Call → Answer → List Entry → Type 0
 CallMade s n cpu h (Act a) (Acted reply) es = es ≡ Board n cpu h a reply ∷ []
 CallMade s n cpu h (ReadPage k) (PageIs reply) es =
-    (page : Page) × (locked : Bool) × (reply ≡ answer_by (ratio_in (machine_of s)) page h)
+    (page : Page) × (locked : Bool) × (reply ≡ answer_by (ratio_in s) page h)
     × (es ≡ PageRead n k h page locked ∷ [])
-CallMade s n cpu h (ReadClock k) (ClockIs reply) es =
-    (page : Page) × (locked : Bool) × Tells s h page reply
-    × (es ≡ clock_entries n k h page locked reply)
+CallMade s n cpu h (ReadClock k) (ClockIs Off) es =
+    (page : Page) × (locked : Bool) × (page.enabled ≡ false)
+    × (es ≡ PageRead n k h page locked ∷ [])
+CallMade s n cpu h (ReadClock k) (ClockIs (On reading clock)) es =
+    (page : Page) × (locked : Bool) × IsTrue page.enabled
+    × (reading ≡ reading_by (ratio_in s) page h)
+    × (es ≡ PageRead n k h page locked ∷ Clamp n k reading clock ∷ [])
 CallMade s n cpu h ReadHv (HvIs reply) es =
-    (page : HvPage) × (locked : Bool) × (reply ≡ hv_answer_by (ratio_in (machine_of s)) page h)
+    (page : HvPage) × (locked : Bool) × (reply ≡ hv_answer_by (ratio_in s) page h)
     × (es ≡ HvRead n h page locked ∷ [])
 CallMade s n cpu h _ _ es = ⊥
-
--- the entries that a record makes, and its answer
-abbrev pub MadeBy : BoardParts → ℕ → Record → Answer → List Entry → Type 0
-MadeBy s n r a es = CallMade s n r.cpu r.h r.call a es
 
 -- the entries of these records in order, and the text of their blocks
 abbrev pub AllMade :
@@ -82,24 +78,22 @@ AllMade s ds n [] out es = (out ≡ []) × (es ≡ [])
 AllMade s ds n (r ∷ rs) out es =
     (a : Answer) × (more : List ℕ) × (first : List Entry) × (rest : List Entry)
     × (out ≡ block_of ds r.line a ++ more) × (es ≡ first ++ rest)
-    × MadeBy s n r a first × AllMade s ds n rs more rest
+    × CallMade s n r.cpu r.h r.call a first × AllMade s ds n rs more rest
 
--- each read under the lock among these entries of a pass comes after a try without it that met an
--- update of the same page, which has the place cpus where it is the reference page: these are the
--- pass's misses, in order, and there are no others
-abbrev pub AllTried : ℕ → List Entry → List Miss → Type 0
-AllTried cpus [] ms = ms ≡ []
-AllTried cpus (PageRead n k h page true ∷ es) ms =
-    (first : ℕ) × (second : ℕ) × (rest : List Miss) × (ms ≡ miss k first second ∷ rest)
-    × IsUpdate first second × AllTried cpus es rest
-AllTried cpus (HvRead n h page true ∷ es) ms =
-    (first : ℕ) × (second : ℕ) × (rest : List Miss) × (ms ≡ miss cpus first second ∷ rest)
-    × IsUpdate first second × AllTried cpus es rest
-AllTried cpus (e ∷ es) ms = AllTried cpus es ms
+-- the page that an entry read under the lock; the reference page has the place cpus
+abbrev pub locked_page : ℕ → Entry → Option ℕ
+locked_page cpus (PageRead n k h page true) = Some k
+locked_page cpus (HvRead n h page true) = Some cpus
+locked_page cpus e = None
 
--- so the pass n has taken the lock for a read, and the version that each of its misses met came
+-- the pass n has taken the lock for a read: each read under it among its entries comes after a try
+-- without it that met an update of the same page. These are its misses, in order, there are no
+-- others, and the version that each of them met came
 abbrev pub IsTried : ℕ → List Entry → ℕ → Type 0
-IsTried cpus h n = (ms : List Miss) × AllTried cpus (entries_of n h) ms × MissesTold h ms
+IsTried cpus h n =
+    (ms : List Miss)
+    × (map (λ (m : Miss). m.page) ms ≡ filter_map (locked_page cpus) (entries_of n h))
+    × All (λ (m : Miss). IsUpdate m.first m.second × (m.second ≤ version_after h m.page)) ms
 
 -- the text of k processors from n on, one after another
 abbrev pub Shown :

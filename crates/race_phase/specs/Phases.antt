@@ -5,7 +5,6 @@ use Rattle.clk_units.specs.Ranges.{IsKhz}
 use Rattle.race_phase.specs.declared.deliveries.Deliveries.{Deliveries}
 use Rattle.board_types.specs.declared.access.Access.TheVariants.{Step}
 use Rattle.board_types.specs.declared.parts.BoardParts.{BoardParts}
-use Rattle.board_types.specs.declared.reply.Reply.{Reply}
 use Rattle.board_devices.specs.Run.{run}
 use Rattle.board_core.specs.Access.{after_access, reply_of}
 use Rattle.board_core.specs.Refusals.{refusal_of}
@@ -68,40 +67,28 @@ abbrev pub trace_fault : BoardParts → List Phase → Option Fault
 trace_fault b [] = None
 trace_fault b (v ∷ vs) = option_or (phase_fault b v) (trace_fault (after_phase b v) vs)
 
--- the access that ends a phase on the board after it, as an entry of its processor's pass
-abbrev pub step_entry : ℕ → ℕ → BoardParts → Entry
-step_entry cpu h b = Board cpu cpu h Step (reply_of b cpu h Step)
-
--- the entry of what ends a phase, if that is an access
+-- the entry of what ends a phase, if that is an access: it is in its processor's pass
 abbrev pub end_entries : End → BoardParts → List Entry
 end_entries Finish b = []
-end_entries (Save line cpu h) b = step_entry cpu h b ∷ []
-end_entries (Move line cpu h host) b = step_entry cpu h b ∷ []
+end_entries (Save line cpu h) b = Board cpu cpu h Step (reply_of b cpu h Step) ∷ []
+end_entries (Move line cpu h host) b = Board cpu cpu h Step (reply_of b cpu h Step) ∷ []
 
--- the block of a save: the edges and the messages of its access, and the state after it
-abbrev pub save_block : Deliveries → ℕ → Reply → BoardParts → List ℕ
-save_block ds line reply b =
-    edges_text ds reply.edges ++ messages_text ds reply.bursts
-    ++ save_text line reply.number (bytes_of b)
-
--- the block of a move: the edges of its access and those of the gap, likewise the messages, and the
--- time after it
-abbrev pub move_block : Deliveries → ℕ → ℕ → Reply → BoardParts → BoardParts → List ℕ
-move_block ds line gap reply b moved =
-    edges_text ds reply.edges
-    ++ edges_text ds (run (now_of b) gap (devices_in b)).edges
-    ++ messages_text ds reply.bursts
-    ++ messages_text ds (gap_bursts gap b)
-    ++ move_text line reply.number (now_of moved)
-
--- what the end of a phase prints
+-- what the end of a phase prints: a save the edges and the messages of its access, and the state
+-- after it; a move the edges of its access and those of the gap, likewise the messages, and the time
+-- after it
 abbrev pub end_text : Deliveries → End → BoardParts → List ℕ
 end_text ds Finish b = []
 end_text ds (Save line cpu h) b =
-    save_block ds line (reply_of b cpu h Step) (after_access b cpu h Step)
+    let reply = reply_of b cpu h Step in
+    edges_text ds reply.edges ++ messages_text ds reply.bursts
+    ++ save_text line reply.number (bytes_of (after_access b cpu h Step))
 end_text ds (Move line cpu h host) b =
-    move_block ds line host.gap (reply_of b cpu h Step) (after_access b cpu h Step)
-    (next_board (Move line cpu h host) b)
+    let reply = reply_of b cpu h Step in
+    let after = after_access b cpu h Step in
+    edges_text ds reply.edges
+    ++ edges_text ds (run (now_of after) host.gap (devices_in after)).edges
+    ++ messages_text ds reply.bursts ++ messages_text ds (gap_bursts host.gap after)
+    ++ move_text line reply.number (now_of (next_board (Move line cpu h host) b))
 
 -- a phase that was run, with the access that ends it: there is one legal history, which opens with
 -- the opening state. It has the entries of the records and no others, and the access as its last.

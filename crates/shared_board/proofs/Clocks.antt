@@ -9,7 +9,7 @@ use Rattle.pvclock_page.specs.declared.page.ClockReply.TheVariants.{Off as Clock
 use Rattle.host_counter.specs.declared.Anchor.{Anchor}
 use Rattle.board_types.specs.declared.parts.BoardParts.{BoardParts}
 use Rattle.board_core.specs.Pages.{reading_by}
-use Rattle.board_history.specs.Machine.{machine_of, ratio_in}
+use Rattle.board_history.specs.Machine.{ratio_in}
 use Rattle.board_history.specs.History.{floor_after}
 use Rattle.board_history.specs.declared.entry.Entry.{Entry}
 use Rattle.board_history.specs.declared.entry.Entry.TheVariants.{PageRead, HvRead, Clamp}
@@ -49,7 +49,7 @@ answer-off false page y e = refl
 
 -- the entry that a read made is the last of its pass
 pub read_last : (s : BoardParts) (cpu h : ℕ) (locked : Bool) (reply : PageReply) (p q : PassKnown) → PageWasRead s cpu h locked reply p q
-    → IsLastRead (machine_of s) cpu reply q
+    → IsLastRead (ratio_in s) cpu reply q
 read_last s cpu h locked reply p q r = record {
   h = h;
   locked = locked;
@@ -84,7 +84,7 @@ clock_known : (s : BoardParts) (cpu h : ℕ) (locked : Bool) (read : PageReply) 
 clock_known s cpu h locked Off ClockOff p q r w c = (
   record {
     page = w.page;
-    answer = answer-off w.page.enabled w.page (reading_by (ratio_in (machine_of s)) w.page h) w.answer;
+    answer = answer-off w.page.enabled w.page (reading_by (ratio_in s) w.page h) w.answer;
     made = subst (λ (z : PassKnown). Made p z (PageRead p.number cpu h w.page locked ∷ [])) (sym c) w.made;
     least = w.least;
   },
@@ -93,7 +93,7 @@ clock_known s cpu h locked Off ClockOff p q r w c = (
   ([], append-nil q.seen ∙ sym (ap (λ (z : PassKnown). z.seen) c)),
 )
 clock_known s cpu h locked (On pg x) (ClockOn told clock) p q r w c =
-    let a = answer-on w.page.enabled pg w.page x (reading_by (ratio_in (machine_of s)) w.page h) w.answer in
+    let a = answer-on w.page.enabled pg w.page x (reading_by (ratio_in s) w.page h) w.answer in
     let clamp : Made q r (Clamp p.number cpu told clock ∷ []) =
     subst (λ (z : ℕ × ℕ). Made q r (Clamp z.0 cpu z.1 clock ∷ [])) (λ i. (w.made.number i, sym c.0 i)) c.1 in
     let up = legal-floor p.seen q.seen w.made.more w.made.legal in

@@ -1,9 +1,9 @@
 -- What calls made, one after another.
 use Rattle.std.proofs.Common.{◌≡◌, ℕ, List, [], ◌∷◌, ◌++◌, refl, ap, sym, ◌∙◌, subst, append_assoc, append-nil, Some, Bool, true, false}
 use mathlib.Core.List.{IsPrefix}
-use Rattle.board_history.specs.History.{entries_of, last_of, IsLegal}
+use Rattle.board_history.specs.History.{entries_of, IsLegal}
 use Rattle.board_history.specs.declared.entry.Entry.{Entry}
-use Rattle.board_history.proofs.Laws.{entries_of-++, entries_of-own, last_of-snoc}
+use Rattle.board_history.proofs.Laws.{entries_of-++, entries_of-own, last_or-snoc}
 use Rattle.clock_table.specs.declared.view.View.{View}
 use Rattle.clock_table.specs.Steps.{Extends, Hears, missed}
 use Rattle.clock_table.proofs.Lists.{prefix_trans}
@@ -12,6 +12,7 @@ use Rattle.shared_board.specs.declared.known.PassKnown.{PassKnown}
 use Rattle.shared_board.specs.Passes.{mine, Made, Answered, Unanswered, Tried, Missed}
 use Rattle.shared_board.specs.private.Seats.{known, IsAtRest, PenMoved}
 use Rattle.shared_board.specs.private.Tries.{HasMissed}
+use Rattle.std.specs.List.{last_or}
 
 prefix_of : (xs between ys : List Entry) (e : Entry) → ys ≡ (xs ++ between) ++ e ∷ [] → IsPrefix xs ys
 prefix_of xs between ys e is = (between ++ e ∷ [], sym (append_assoc xs between (e ∷ [])) ∙ sym is)
@@ -37,8 +38,8 @@ made_late p q r es a b = record {
 }
 
 -- the entry that a call made last is the last of its pass
-pub made_last : (p q : PassKnown) (e : Entry) → Made p q (e ∷ []) → last_of (mine q) ≡ Some e
-made_last p q e m = ap last_of m.mine ∙ last_of-snoc (mine p) e
+pub made_last : (p q : PassKnown) (e : Entry) → Made p q (e ∷ []) → last_or None (mine q) ≡ Some e
+made_last p q e m = ap (last_or None) m.mine ∙ last_or-snoc None (mine p) e
 
 -- the entries of a pass, with one more after those of others
 mine_one : (n : ℕ) (xs between ys : List Entry) (e : Entry) → ys ≡ (xs ++ between) ++ e ∷ [] → entries_of n between ≡ [] → is_of n e ≡ true

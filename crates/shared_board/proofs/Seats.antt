@@ -8,15 +8,16 @@ use Rattle.board_core.specs.Pages.{with_greatest}
 use Rattle.board_core.specs.Refusals.{refusal_of}
 use Rattle.board_core.proofs.Laws.{after_access-greatest, refusal_of-greatest, reply_of-greatest}
 use Rattle.board_history.specs.Machine.{machine_of, page_at, no_board}
-use Rattle.board_history.specs.History.{board_after, entries_of, IsLegal}
+use Rattle.board_history.specs.History.{board_after, entries_of, IsLegal, after_entry}
 use Rattle.board_history.specs.declared.entry.Entry.{Entry}
-use Rattle.board_history.proofs.Laws.{board_from-++, board_after-snoc}
+use Rattle.board_history.proofs.Laws.{board_after-snoc}
 use Rattle.clock_table.specs.declared.view.View.{View}
 use Rattle.clock_table.specs.Steps.{GoesOnQuietly, Extends, Hears, pen_left}
 use Rattle.clock_table.proofs.Keeps.{quiet_beside}
 use Rattle.clock_table.specs.declared.call.Call.{Call}
 use Rattle.shared_board.specs.private.Seats.{IsAtRest, IsBelow, AreAlike, PenMoved, IsPenOf}
 use Rattle.clock_table.specs.Calls.{entry_of}
+use Rattle.std.proofs.lemmas.List.Sums.{fold-append}
 
 -- boards that are alike have the same pages, refuse alike, answer alike, and are alike after an access
 pub alike_page : (b c : BoardParts) (d : ℕ) → AreAlike b c → page_at b d ≡ page_at c d
@@ -40,7 +41,7 @@ alike_after b c cpu h a e =
 pub alike_quiet : (b : BoardParts) (xs ys : List Entry) → AreAlike b (board_after xs) → GoesOnQuietly xs ys → AreAlike b (board_after ys)
 alike_quiet b xs ys e q =
     let beside = quiet_beside (board_after xs) q.0 q.2 in
-    let now : board_after ys ≡ with_greatest (board_after xs) beside.0 = ap board_after (sym q.1) ∙ (board_from-++ no_board xs q.0 ∙ beside.1) in
+    let now : board_after ys ≡ with_greatest (board_after xs) beside.0 = ap board_after (sym q.1) ∙ (fold-append after_entry no_board xs q.0 ∙ beside.1) in
     e ∙ sym (ap (λ (x : BoardParts). with_greatest x 0) now)
 
 -- the board after an access that was added after quiet entries

@@ -10,7 +10,7 @@ use Rattle.host_counter.specs.declared.Anchor.{Anchor}
 use Rattle.board_types.specs.declared.parts.BoardParts.{BoardParts}
 use Rattle.board_core.specs.Pages.{answer_by}
 use Rattle.board_core.specs.Hv.{hv_answer_by}
-use Rattle.board_history.specs.Machine.{Machine, machine_of, page_at, ratio_in, page_published}
+use Rattle.board_history.specs.Machine.{Machine, page_at, ratio_in, page_published}
 use Rattle.board_history.specs.History.{board_after, version_after, IsLegal, read_of}
 use Rattle.board_history.specs.declared.entry.Entry.{Entry}
 use Rattle.board_history.specs.declared.entry.Entry.TheVariants.{PageRead, HvRead}
@@ -89,7 +89,7 @@ pub locked_late : (res : Result Page LockedFault) (s : BoardParts) (k h first se
 locked_late (Ok page) s k h first second p q r m ok = read_late s k h page first second p q r m ok
 locked_late (Err f) s k h first second p q r m ok = tt
 
-module _ (s : BoardParts) (ratio h : ℕ) (page : Page) (p q : PassKnown) (scaled : ratio ≡ ratio_in (machine_of s)) where
+module _ (s : BoardParts) (ratio h : ℕ) (page : Page) (p q : PassKnown) (scaled : ratio ≡ ratio_in s) where
   -- the page of a processor
   module _ (cpu : ℕ) (reply : PageReply) (inside : cpu < s.cpus) (is : reply ≡ answer_by ratio page h) where
     was_page : (locked : Bool) → TableRead s cpu h locked page p q → PageWasRead s cpu h locked reply p q

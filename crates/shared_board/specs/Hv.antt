@@ -4,7 +4,7 @@ use Rattle.hv_page.specs.declared.page.HvPage.{HvPage}
 use Rattle.hv_page.specs.declared.page.HvReply.{HvReply}
 use Rattle.board_types.specs.declared.parts.BoardParts.{BoardParts}
 use Rattle.board_core.specs.Hv.{hv_answer_by}
-use Rattle.board_history.specs.Machine.{machine_of, ratio_in}
+use Rattle.board_history.specs.Machine.{ratio_in}
 use Rattle.board_history.specs.History.{version_after}
 use Rattle.board_history.specs.declared.entry.Entry.TheVariants.{HvRead}
 use Rattle.shared_board.specs.declared.known.PassKnown.{PassKnown}
@@ -17,7 +17,7 @@ use Rattle.shared_board.specs.Pages.{HadRoom}
 pub record HvWasRead (s : BoardParts) (h : ℕ) (locked : Bool) (reply : HvReply) (p q : PassKnown) :
     Type 0 where
   pub page : HvPage
-  pub answer : reply ≡ hv_answer_by (ratio_in (machine_of s)) page h
+  pub answer : reply ≡ hv_answer_by (ratio_in s) page h
   pub made : Made p q (HvRead p.number h page locked ∷ [])
   pub least : version_after p.seen s.cpus ≤ page.version
 

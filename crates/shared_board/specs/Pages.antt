@@ -7,7 +7,7 @@ use Rattle.pvclock_page.specs.declared.page.ClockReply.{ClockReply}
 use Rattle.pvclock_page.specs.declared.page.ClockReply.TheVariants.{Off, On}
 use Rattle.board_types.specs.declared.parts.BoardParts.{BoardParts}
 use Rattle.board_core.specs.Pages.{reading_by, answer_by}
-use Rattle.board_history.specs.Machine.{machine_of, ratio_in}
+use Rattle.board_history.specs.Machine.{ratio_in}
 use Rattle.board_history.specs.History.{version_after}
 use Rattle.board_history.specs.declared.entry.Entry.{Entry}
 use Rattle.board_history.specs.declared.entry.Entry.TheVariants.{PageRead, Clamp}
@@ -21,7 +21,7 @@ use Rattle.shared_board.specs.Passes.{Made, Tried, floor}
 pub record PageWasRead (s : BoardParts) (cpu h : ℕ) (locked : Bool) (reply : PageReply)
     (p q : PassKnown) : Type 0 where
   pub page : Page
-  pub answer : reply ≡ answer_by (ratio_in (machine_of s)) page h
+  pub answer : reply ≡ answer_by (ratio_in s) page h
   pub made : Made p q (PageRead p.number cpu h page locked ∷ [])
   pub least : version_after p.seen cpu ≤ page.version
 
@@ -35,7 +35,7 @@ clock_entries n cpu h page locked (On reading clock) =
 abbrev pub IsClockOf : BoardParts → ℕ → Page → ClockReply → PassKnown → Type 0
 IsClockOf s h page Off p = page.enabled ≡ false
 IsClockOf s h page (On reading clock) p =
-    IsTrue page.enabled × (reading ≡ reading_by (ratio_in (machine_of s)) page h)
+    IsTrue page.enabled × (reading ≡ reading_by (ratio_in s) page h)
     × (floor p ≤ clock)
 
 pub record ClockWasRead (s : BoardParts) (cpu h : ℕ) (locked : Bool) (reply : ClockReply)

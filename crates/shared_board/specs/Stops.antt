@@ -2,17 +2,18 @@
 use Rattle.std.specs.Prelude.{◌≡◌, ℕ, zero, suc, ◌≤◌, List, [], ◌∷◌, ◌++◌}
 use mathlib.Core.List.{IsPrefix}
 use Rattle.board_types.specs.declared.parts.BoardParts.{BoardParts}
-use Rattle.board_history.specs.History.{of_state, board_after, entries_of, IsLegal, Opens}
+use Rattle.board_history.specs.History.{board_after, entries_of, IsLegal, Opens}
 use Rattle.board_history.specs.declared.entry.Entry.{Entry}
 use Rattle.clock_table.specs.Ends.{MissesTold}
 use Rattle.shared_board.specs.declared.known.PassKnown.{PassKnown}
 use Rattle.shared_board.specs.Passes.{mine}
+use Rattle.board_history.specs.declared.entry.Entry.TheVariants.{Opened}
 
 -- the passes of a new board: numbers from 0, Opened alone seen
 abbrev pub newcomers : BoardParts → ℕ → List PassKnown
 newcomers s zero = []
 newcomers s (suc n) =
-    newcomers s n ++ record { number = n; seen = of_state s ∷ []; misses = [] } ∷ []
+    newcomers s n ++ record { number = n; seen = Opened s ∷ []; misses = [] } ∷ []
 
 -- each pass had seen a prefix of the history, with all entries of its number, and the version of
 -- each page that it missed has come as far as the second that it saw

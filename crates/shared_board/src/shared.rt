@@ -3,7 +3,7 @@ ghost use Rattle.std.specs.Prelude.{◌≡◌, ◌<◌, ◌≤◌, ◌↔◌, []
 ghost use Rattle.board_types.specs.Reply.{IsFresh};
 ghost use Rattle.board_types.specs.declared.setup.TheConstants.{HV_FORMAT};
 ghost use Rattle.board_core.specs.Time.{HasTime};
-ghost use Rattle.board_history.specs.Machine.{machine_of, ratio_in};
+ghost use Rattle.board_history.specs.Machine.{ratio_in};
 ghost use Rattle.board_history.specs.declared.entry.Entry.TheVariants.{Board};
 ghost use Rattle.shared_board.specs.Asks.{MayAsk, WasAsked};
 ghost use Rattle.shared_board.specs.Passes.{Answered, Refused};
@@ -65,7 +65,7 @@ pub struct SharedBoard<N: Name> {
     ghost counted: { passes ≡ N.passes },
     ghost placed: { cpus ≡ N.state.cpus },
     ghost clock: { host.anchor ≡ N.state.anchor },
-    ghost scaled: { ratio ≡ ratio_in (machine_of N.state) },
+    ghost scaled: { ratio ≡ ratio_in N.state },
 }
 
 /// What a board is at its end.
@@ -419,7 +419,7 @@ impl<N: Name> SharedBoard<N> {
 
     /// The clamp after a read of a page.
     fn clamp(&self, pass: &mut Pass<N>, cpu: u8, read: PageReply) -> ClockReply
-        requires read { IsLastRead (machine_of N.state) cpu read pass.old }
+        requires read { IsLastRead (ratio_in N.state) cpu read pass.old }
         ensures { HasClamped cpu read result pass.old pass.new }
     {
         match read {

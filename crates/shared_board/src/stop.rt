@@ -1,7 +1,7 @@
 //! The passes of a new board, and how they end.
 ghost use Rattle.std.specs.Prelude.{◌≡◌, ◌++◌, [], ◌∷◌, IfOk, List, true, None};
 ghost use Rattle.board_history.specs.declared.entry.Entry.{Entry};
-ghost use Rattle.board_history.specs.History.{of_state};
+ghost use Rattle.board_history.specs.declared.entry.Entry.TheVariants.{Opened};
 ghost use Rattle.clock_table.specs.Steps.{named, first_view};
 ghost use Rattle.shared_board.specs.declared.known.PassKnown.{PassKnown};
 ghost use Rattle.shared_board.specs.Stops.{newcomers};
@@ -51,7 +51,7 @@ pub(crate) fn new_passes<N: Name>(
     requires first { seat.old ≡ named N.passes (first_view N.state) }
     ensures list { IfOk result (λ v. v.items ≡ newcomers N.state N.passes) }
     ensures seat { IfOk result (λ v. IsWriter N.passes seat.new
-        × (seat.new.seen ≡ of_state N.state ∷ []) × IsBelow N.passes seat.new) }
+        × (seat.new.seen ≡ Opened N.state ∷ []) × IsBelow N.passes seat.new) }
 {
     let mut list = Vec::with_capacity(alloc, passes as usize)?;
     let mut number = 0;

@@ -29,7 +29,7 @@ use Rattle.std.proofs.Common.{
 use Rattle.std.specs.Prelude.{All}
 use Rattle.std.proofs.lemmas.List.Elements.{All-head, All-tail}
 use Rattle.hv_page.specs.declared.page.HvPage.{HvPage}
-use Rattle.board_core.specs.Hv.{hv_reply, hv_answer_by}
+use Rattle.board_core.specs.Hv.{hv_reply, hv_answer_by, hv_in}
 use Rattle.board_types.specs.declared.parts.BoardParts.{BoardParts}
 use Rattle.pvclock_page.specs.declared.page.Page.{Page}
 use Rattle.pvclock_page.specs.declared.page.PageReply.{PageReply}
@@ -37,9 +37,8 @@ use Rattle.pvclock_page.specs.declared.page.PageReply.TheVariants.{Off as PageOf
 use Rattle.pvclock_page.specs.declared.page.ClockReply.TheVariants.{Off, On}
 use Rattle.board_core.specs.Pages.{page_reply, clamped, greatest_with, clock_reply, after_clock, with_greatest, reading_by, answer_by}
 use Rattle.board_core.proofs.Laws.{after_access-cpus}
-use Rattle.board_history.specs.Machine.{machine_of, page_at, ratio_in, hv_at}
+use Rattle.board_history.specs.Machine.{machine_of, page_at, ratio_in}
 use Rattle.board_history.specs.History.{
-  of_state,
   after_entry,
   board_after,
   pass_of,
@@ -78,6 +77,7 @@ use Rattle.trace_runner.specs.Replay.{ended}
 use Rattle.trace_runner.specs.Replayed.{board_after_phases, records_after, replayed}
 use Rattle.trace_runner.specs.Trace.{TraceRead}
 use Rattle.trace_runner.proofs.ReadyNext.{moved-cpus}
+use Rattle.board_history.proofs.Laws.{ratio-by}
 
 -- no entry of a pass from 1 on
 abbrev NoneElse : List Entry → Type 0
@@ -111,19 +111,19 @@ alone_from before (e ∷ es) l none =
     ∙ sym (ap (λ (b : Bool). if b then (e ∷ entries_of 0 es) else entries_of 0 es) (legal_of_0 before es e l.0 none))
 
 -- a page that is read is the board's
-page_reply-is : (b : BoardParts) (cpu h : ℕ) → cpu < b.cpus → page_reply b cpu h ≡ answer_by (ratio_in (machine_of b)) (page_at b cpu) h
+page_reply-is : (b : BoardParts) (cpu h : ℕ) → cpu < b.cpus → page_reply b cpu h ≡ answer_by (ratio_in b) (page_at b cpu) h
 unfolding page_reply
-page_reply-is b cpu h inside = ap (λ (page : Page). answer_by (ratio_in (machine_of b)) page h) (sym (at-page b cpu (λ e. omega arith)))
+page_reply-is b cpu h inside = ap (λ (page : Page). answer_by (ratio_in b) page h) (sym (at-page b cpu (λ e. omega arith)))
 
 answer_at : (s b : BoardParts) (cpu h : ℕ) (page : Page) → machine_of b ≡ machine_of s → (cpu < b.cpus) × (page_at b cpu ≡ page)
-    → page_reply b cpu h ≡ answer_by (ratio_in (machine_of s)) page h
-answer_at s b cpu h page same here = page_reply-is b cpu h here.0 ∙ (λ i. answer_by (ratio_in (same i)) (here.1 i) h)
+    → page_reply b cpu h ≡ answer_by (ratio_in s) page h
+answer_at s b cpu h page same here = page_reply-is b cpu h here.0 ∙ (λ i. answer_by (ratio-by b s same i) (here.1 i) h)
 
 -- and so is the reference page
-hv_answer_at : (s b : BoardParts) (h : ℕ) (page : HvPage) → machine_of b ≡ machine_of s → hv_at b ≡ page
-    → hv_reply b h ≡ hv_answer_by (ratio_in (machine_of s)) page h
+hv_answer_at : (s b : BoardParts) (h : ℕ) (page : HvPage) → machine_of b ≡ machine_of s → hv_in b.hv ≡ page
+    → hv_reply b h ≡ hv_answer_by (ratio_in s) page h
 unfolding hv_reply
-hv_answer_at s b h page same here = λ i. hv_answer_by (ratio_in (same i)) (here i) h
+hv_answer_at s b h page same here = λ i. hv_answer_by (ratio-by b s same i) (here i) h
 
 answer_off : (ratio h : ℕ) (page : Page) → page.enabled ≡ false → answer_by ratio page h ≡ PageOff
 answer_off ratio h page off = ap (λ (b : Bool). if b then PageOn page (reading_by ratio page h) else PageOff) off
@@ -171,19 +171,19 @@ module _ (s : BoardParts) (n cpu h : ℕ) (before first : List Entry) where
   call_plain (ReadClock k) (ClockIs Off) same legal made =
       let b : BoardParts = board_after before in
       let may = (subst (LegalFrom before) made.3 legal).0 in
-      let off = clock-off b k h (answer_at s b k h made.0 same may ∙ answer_off (ratio_in (machine_of s)) h made.0 made.2) in
+      let off = clock-off b k h (answer_at s b k h made.0 same may ∙ answer_off (ratio_in s) h made.0 made.2) in
       (ap (λ r. ClockIs r) off.0, after_one (PageRead n k h made.0 made.1) made.3 ∙ off.1)
   call_plain (ReadClock k) (ClockIs (On reading clock)) same legal made =
       let b : BoardParts = board_after before in
       let e : Entry = PageRead n k h made.0 made.1 in
       let f : Entry = Clamp n k reading clock in
-      let both : LegalFrom before (e ∷ f ∷ []) = subst (LegalFrom before) made.3 legal in
+      let both : LegalFrom before (e ∷ f ∷ []) = subst (LegalFrom before) made.4 legal in
       let after : board_after (before ++ e ∷ []) ≡ b = board_after-snoc before e in
       let told : clock ≡ max reading b.greatest = both.1.0.1 ∙ ap (λ (x : BoardParts). max reading x.greatest) after in
       let on = clock-on b k h reading clock made.0
-      (answer_at s b k h made.0 same both.0 ∙ answer_reads (ratio_in (machine_of s)) h reading made.0 made.2.0 made.2.1) told in (
+      (answer_at s b k h made.0 same both.0 ∙ answer_reads (ratio_in s) h reading made.0 made.2 made.3) told in (
         ap (λ r. ClockIs r) on.0,
-        ap (λ es. board_after (before ++ es)) made.3 ∙ ap board_after (sym (append_assoc before (e ∷ []) (f ∷ [])))
+        ap (λ es. board_after (before ++ es)) made.4 ∙ ap board_after (sym (append_assoc before (e ∷ []) (f ∷ [])))
             ∙ board_after-snoc (before ++ e ∷ []) f ∙ ap (λ (x : BoardParts). with_greatest x clock) after ∙ on.1,
       )
   call_plain ReadHv (HvIs reply) same legal made =
@@ -231,7 +231,7 @@ phase_plain : (b : BoardParts) (ds : Deliveries) (v : Phase) (next : BoardParts)
 phase_plain b ds v next out format one fit e =
     let rs : List Record = v.records in
     let later : List Entry = e.opens.0 in
-    let whole : e.h ≡ of_state b ∷ later = e.opens.1 in
+    let whole : e.h ≡ Opened b ∷ later = e.opens.1 in
     let tail : List Entry = end_entries v.end (board_after e.h) in
     let legal : LegalFrom (Opened b ∷ []) later =
     LegalFrom-front (Opened b ∷ []) later tail (subst (λ (es : List Entry). IsLegal (es ++ tail)) whole e.legal) in

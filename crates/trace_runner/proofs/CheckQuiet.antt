@@ -9,9 +9,8 @@ use Rattle.trace_text.specs.declared.reading.Item.TheVariants.{Next}
 use Rattle.trace_text.specs.declared.records.Record.{Record as Written}
 use Rattle.trace_loop.specs.Progress.{Closing, Answer, Goes, Ends, Progress, opened, told, answered, after_bytes, closed, ran, finished_by}
 use Rattle.trace_runner.specs.Records.{stops}
-use Rattle.trace_runner.specs.Replay.{record_answer}
+use Rattle.trace_runner.specs.Replay.{record_answer, at_start}
 use Rattle.trace_runner.specs.Check.{
-  check_start,
   has_form,
   is_full,
   too_many,
@@ -26,6 +25,7 @@ use Rattle.trace_runner.specs.Check.{
   check_closing,
   check_after,
   check,
+  unchecked,
 }
 use Rattle.trace_runner.specs.Checking.{Checking}
 use Rattle.trace_runner.specs.Trace.{TraceRead}
@@ -87,8 +87,8 @@ quiet-answered p none quiet =
     (silent_taken p.line (taken p.state.replay.reading p.text) (read_on p.text p.state))
     (subst (λ (e : Option Checked). Silent e p.printed) none quiet)
 
-quiet-after : (shows_state : Bool) (bytes : List ℕ) → IsQuiet (after_bytes check_answer bytes (opened (check_start shows_state)))
-quiet-after shows_state bytes = stays check_answer IsQuiet quiet-answered (λ b p none quiet. quiet) bytes (opened (check_start shows_state)) refl
+quiet-after : (shows_state : Bool) (bytes : List ℕ) → IsQuiet (after_bytes check_answer bytes (opened (unchecked (at_start shows_state))))
+quiet-after shows_state bytes = stays check_answer IsQuiet quiet-answered (λ b p none quiet. quiet) bytes (opened (unchecked (at_start shows_state))) refl
 
 silent_ran : (end : Option Checked) (p : Progress Checking Checked) → p.end ≡ end → IsQuiet p
     → SilentAnswer (Ends (ran check_closing end p))
@@ -105,7 +105,7 @@ silent_finished (Some e) p is quiet = silent_ran (Some e) p is quiet
 silent_check : (shows_state : Bool) (bytes : List ℕ) → SilentAnswer (Ends (check shows_state bytes))
 unfolding check check_after
 silent_check shows_state bytes =
-    let p : Progress Checking Checked = after_bytes check_answer bytes (opened (check_start shows_state)) in
+    let p : Progress Checking Checked = after_bytes check_answer bytes (opened (unchecked (at_start shows_state))) in
     silent_finished p.end p refl (quiet-after shows_state bytes)
 
 -- a whole trace comes with no text
@@ -118,5 +118,5 @@ silent_whole shows_state bytes trace is =
 pub silent_going : (shows_state : Bool) (bytes : List ℕ) → (check_after shows_state bytes).end ≡ None → (check_after shows_state bytes).printed ≡ []
 unfolding check_after
 silent_going shows_state bytes none =
-    subst (λ (e : Option Checked). Silent e (after_bytes check_answer bytes (opened (check_start shows_state))).printed) none
+    subst (λ (e : Option Checked). Silent e (after_bytes check_answer bytes (opened (unchecked (at_start shows_state)))).printed) none
     (quiet-after shows_state bytes)

@@ -11,15 +11,15 @@ use Rattle.trace_loop.specs.declared.ended.Ended.{Ended}
 use Rattle.trace_loop.specs.declared.ended.Ended.TheVariants.{By, SinkFault}
 use Rattle.trace_runner.specs.Checking.{Checking}
 use Rattle.trace_runner.specs.Check.{
-  check_start,
   check_answer,
   check_closing,
   check_after,
   check,
+  unchecked,
 }
 use Rattle.trace_runner.specs.FileText.{file_text}
 use Rattle.trace_runner.specs.Race.{CheckedLeaves, RaceLeaves, AloneLeaves, check_run}
-use Rattle.trace_runner.specs.Replay.{replay}
+use Rattle.trace_runner.specs.Replay.{replay, at_start}
 use Rattle.trace_runner.specs.Said.{Said, SaidAtMost}
 use Rattle.trace_runner.specs.Status.{verdict_status}
 use Rattle.trace_runner.specs.Trace.{TraceRead}
@@ -37,7 +37,7 @@ pub record HasEnded (shows_state : Bool) (input : List ℕ) (start end : Input) 
   pub well : e ≢ SinkFault → mid.faults ≡ old.faults
 
 -- a check that began before the first line
-module _ (shows_state : Bool) {s : Checking} {start end : Input} {old mid : Output} {e : Ended Checked} (is : s ≡ check_start shows_state)
+module _ (shows_state : Bool) {s : Checking} {start end : Input} {old mid : Output} {e : Ended Checked} (is : s ≡ unchecked (at_start shows_state))
     (left : Leaves check_answer check_closing s start end old mid e) where
   pub has_ended : {x : Ended Checked} → e ≡ x → (input : List ℕ) → start.remaining ≡ Some input → HasEnded shows_state input start end old mid x
   unfolding check check_after

@@ -80,7 +80,6 @@ use Rattle.trace_text.specs.declared.records.Call.{Call}
 use Rattle.trace_text.specs.declared.records.Call.TheVariants.{Act, ReadPage, ReadClock, ReadHv}
 use Rattle.race_phase.specs.declared.records.Record.{Record}
 use Rattle.trace_runner.specs.Check.{
-  check_start,
   kept,
   with_end,
   has_form,
@@ -97,6 +96,7 @@ use Rattle.trace_runner.specs.Check.{
   check_closing,
   check_after,
   check,
+  unchecked,
 }
 use Rattle.trace_runner.specs.Checking.{Checking}
 use Rattle.trace_runner.specs.FileText.{answer_on, records_text, phase_text, phases_text, file_text}
@@ -419,8 +419,8 @@ twins-finished (Some (Stopped verdict)) p c is same = tt
 replay_so : (shows_state : Bool) (bytes : List ℕ) → EndsWith (check shows_state bytes).end (replay shows_state bytes)
 unfolding check check_after replay progress_after
 replay_so shows_state bytes =
-    let c : Progress Checking Checked = opened (check_start shows_state) in
-    let start : IsKept (check_start shows_state) = record { board = refl; fresh = refl } in
+    let c : Progress Checking Checked = opened (unchecked (at_start shows_state)) in
+    let start : IsKept (unchecked (at_start shows_state)) = record { board = refl; fresh = refl } in
     let d : Progress Checking Checked = after_bytes check_answer bytes c in
     twins-finished d.end (after_bytes answer_of bytes (opened (at_start shows_state))) d refl
     (twins-after bytes (opened (at_start shows_state)) c (refl, start))

@@ -60,10 +60,6 @@ use Rattle.trace_runner.specs.declared.status.Verdict.{Verdict}
 abbrev pub unchecked : Replay → Checking
 unchecked r = record { replay = r; opening = r.board; phases = []; last = []; taken = 0 }
 
--- before the first line
-abbrev pub check_start : Bool → Checking
-check_start shows_state = unchecked (at_start shows_state)
-
 -- the phases with one more, which this ends
 abbrev pub ended_by : PhaseEnd → Checking → List Phase
 ended_by end s = s.phases ++ record { records = s.last; end = end } ∷ []
@@ -164,7 +160,7 @@ check_closing line s = refusal (closing_of line s.replay)
 
 -- all that a check knows after some bytes of a trace
 unfoldable pub check_after : Bool → List ℕ → Progress Checking Checked
-check_after shows_state bytes = after_bytes check_answer bytes (opened (check_start shows_state))
+check_after shows_state bytes = after_bytes check_answer bytes (opened (unchecked (at_start shows_state)))
 
 -- what the check of a trace prints, and what it ends with
 unfoldable pub check : Bool → List ℕ → Closing Checked

@@ -29,10 +29,9 @@ ghost use Rattle.trace_runner.specs.Replayed.{
   refused_call,
   refused_job,
 };
-ghost use Rattle.trace_runner.specs.Replay.{with_header};
+ghost use Rattle.trace_runner.specs.Replay.{with_header, at_start};
 ghost use Rattle.trace_runner.specs.Sound.{IsSound};
 ghost use Rattle.trace_runner.specs.Check.{
-  check_start,
   with_end,
   end_by,
   kept,
@@ -112,7 +111,7 @@ impl Model for Check {
 impl Check {
     /// Before the first line of a trace, at whose end the board's state is shown or not.
     pub(crate) fn new(alloc: Global, shows_state: bool) -> Check
-        ensures { result ≡ check_start shows_state }
+        ensures { result ≡ unchecked (at_start shows_state) }
     {
         let board = BoardState::power_on(&opening());
         Check {

@@ -6,7 +6,6 @@ ghost use Rattle.reply_text.specs.Text.{refused_text};
 ghost use Rattle.trace_runner.specs.Ready.{Suits};
 ghost use Rattle.trace_runner.specs.Sound.{IsSound};
 ghost use Rattle.trace_runner.specs.Check.{
-  check_start,
   too_many,
   record_checked,
   item_checked,
@@ -15,7 +14,9 @@ ghost use Rattle.trace_runner.specs.Check.{
   check_closing,
   IsCheckReady,
   has_form,
+  unchecked,
 };
+ghost use Rattle.trace_runner.specs.Replay.{at_start};
 
 use crate::check::{Check, Checked};
 use crate::status::{Verdict, stop};
@@ -46,7 +47,7 @@ impl Model for Checker {
 impl Checker {
     /// Before the first line of a trace, at whose end the board's state is shown or not.
     pub(crate) fn new(alloc: Global, shows_state: bool) -> Checker
-        ensures { result ≡ check_start shows_state }
+        ensures { result ≡ unchecked (at_start shows_state) }
     {
         Checker {
             check: Check::new(alloc, shows_state),

@@ -7,7 +7,7 @@ use Rattle.atomic_table.specs.Table.{State}
 use Rattle.pvclock_page.specs.declared.page.Page.{Page}
 use Rattle.board_types.specs.declared.parts.BoardParts.{BoardParts}
 use Rattle.board_history.specs.Machine.{machine_of, page_at}
-use Rattle.board_history.specs.History.{of_state, board_after, version_after, LegalFrom, entries_of}
+use Rattle.board_history.specs.History.{board_after, version_after, LegalFrom, entries_of}
 use Rattle.board_history.specs.private.Steady.{IsSteady}
 use Rattle.board_history.specs.declared.entry.Entry.{Entry}
 use Rattle.clock_table.specs.declared.view.View.{View}
@@ -26,6 +26,7 @@ use Rattle.clock_table.specs.Steps.{
   MeetKept,
   GoesOnQuietly,
 }
+use Rattle.board_history.specs.declared.entry.Entry.TheVariants.{Opened}
 
 -- whether the page c is open, and the field k as its words have it: what was put, else the page's
 abbrev pub is_open : Option Hand → ℕ → Bool
@@ -85,7 +86,7 @@ pub record Ghost : Type 0 where
   pub limit : Option ℕ
 
 abbrev pub log_in : BoardParts → Ghost → List Entry
-log_in opening g = of_state opening ∷ g.later
+log_in opening g = Opened opening ∷ g.later
 
 -- A group of facts is a record without a name, so that it is the same for two views that agree in
 -- what it reads.
@@ -129,9 +130,9 @@ pub record Fits (opening : BoardParts) (words : List ℕ) (g : Ghost) (by : ℕ)
 -- the history is legal
 abbrev pub HistoryKept : BoardParts → List Entry → Type 0
 HistoryKept opening later = record {
-  legal : LegalFrom (of_state opening ∷ []) later;
-  steady : IsSteady (board_after (of_state opening ∷ later));
-  machine : machine_of (board_after (of_state opening ∷ later)) ≡ machine_of opening;
+  legal : LegalFrom (Opened opening ∷ []) later;
+  steady : IsSteady (board_after (Opened opening ∷ later));
+  machine : machine_of (board_after (Opened opening ∷ later)) ≡ machine_of opening;
 }
 
 -- the front word counts the loud entries, and the clamp word is the greatest reading

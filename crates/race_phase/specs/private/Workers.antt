@@ -14,6 +14,7 @@ use Rattle.std.specs.Prelude.{
   ◌++◌,
   length,
   take,
+  map,
   All,
   Some,
   Result,
@@ -22,6 +23,7 @@ use Rattle.std.specs.Prelude.{
   OnErr,
   slice_index_or,
 }
+use Rattle.std.specs.List.{filter_map}
 use Rattle.race_phase.specs.declared.deliveries.Deliveries.{Deliveries}
 use Rattle.board_types.specs.declared.parts.BoardParts.{BoardParts}
 use Rattle.board_types.specs.declared.reply.Refusal.{Refusal}
@@ -31,7 +33,7 @@ use Rattle.board_history.specs.History.{board_after, IsLegal}
 use Rattle.board_history.specs.declared.entry.Entry.{Entry}
 use Rattle.clock_table.specs.declared.view.Miss.{Miss}
 use Rattle.shared_board.specs.declared.known.PassKnown.{PassKnown}
-use Rattle.shared_board.specs.Passes.{mine, Made, Unanswered}
+use Rattle.shared_board.specs.Passes.{mine, Made, Unanswered, IsUpdate}
 use Rattle.shared_board.specs.Faults.{page_reads}
 use Rattle.race_phase.specs.declared.records.Answer.{Answer}
 use Rattle.trace_text.specs.declared.records.Call.{Call}
@@ -39,13 +41,19 @@ use Rattle.trace_text.specs.declared.records.Call.TheVariants.{Act, ReadPage, Re
 use Rattle.race_phase.specs.declared.records.Record.{Record}
 use Rattle.race_phase.specs.declared.batch.Place.{Place}
 use Rattle.race_phase.specs.Blocks.{block_of}
-use Rattle.race_phase.specs.Calls.{IsFitting, records_of, MadeBy, AllMade, AllTried}
+use Rattle.race_phase.specs.Calls.{IsFitting, records_of, CallMade, AllMade, locked_page}
 use Rattle.race_phase.specs.private.Told.{answer_with}
+
+-- the reads under the lock among these entries have these misses, one each, in order
+abbrev pub AllTried : ℕ → List Entry → List Miss → Type 0
+AllTried cpus es ms =
+    (map (λ (m : Miss). m.page) ms ≡ filter_map (locked_page cpus) es)
+    × All (λ (m : Miss). IsUpdate m.first m.second) ms
 
 -- a pass answered a record
 abbrev pub IsMade : BoardParts → Record → Answer → PassKnown → PassKnown → Type 0
 IsMade s r a p q =
-    (es : List Entry) × MadeBy s p.number r a es × Made p q es
+    (es : List Entry) × CallMade s p.number r.cpu r.h r.call a es × Made p q es
     × (ms : List Miss) × AllTried s.cpus es ms × (q.misses ≡ p.misses ++ ms)
 
 -- why a record was not answered: the board refused the access; or the count of a read has no time,

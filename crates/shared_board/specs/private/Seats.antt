@@ -7,8 +7,8 @@ use Rattle.board_types.specs.declared.reply.Reply.{Reply}
 use Rattle.board_core.specs.Refusals.{refusal_of}
 use Rattle.board_core.specs.Access.{after_access}
 use Rattle.board_core.specs.Pages.{with_greatest, answer_by}
-use Rattle.board_history.specs.Machine.{Machine, machine_of, ratio_in}
-use Rattle.board_history.specs.History.{IsAnswered, IsLegal, board_after, entries_of, last_of}
+use Rattle.board_history.specs.Machine.{machine_of}
+use Rattle.board_history.specs.History.{IsAnswered, IsLegal, board_after, entries_of}
 use Rattle.board_history.specs.declared.entry.Entry.{Entry}
 use Rattle.board_history.specs.declared.entry.Entry.TheVariants.{PageRead, Clamp}
 use Rattle.pvclock_page.specs.declared.page.ClockReply.{ClockReply}
@@ -27,6 +27,7 @@ use Rattle.clock_table.specs.Steps.{GoesOnQuietly, Extends, loud, ended_with}
 use Rattle.clock_table.specs.Calls.{entry_of}
 use Rattle.shared_board.specs.declared.known.PassKnown.{PassKnown}
 use Rattle.shared_board.specs.Passes.{mine, floor, Made}
+use Rattle.std.specs.List.{last_or}
 
 abbrev pub known : ℕ → View → PassKnown
 known n v = record { number = n; seen = v.seen; misses = v.misses }
@@ -114,12 +115,12 @@ pub record IsSpentAt (front : ℕ) (v w : View) : Type 0 where
   pub seat : w ≡ v
 
 -- the last entry of the pass is a read of the page of cpu that was answered so
-pub record IsLastRead (m : Machine) (cpu : ℕ) (reply : PageReply) (p : PassKnown) : Type 0 where
+pub record IsLastRead (ratio cpu : ℕ) (reply : PageReply) (p : PassKnown) : Type 0 where
   pub h : ℕ
   pub locked : Bool
   pub page : Page
-  pub last : last_of (mine p) ≡ Some (PageRead p.number cpu h page locked)
-  pub answer : reply ≡ answer_by (ratio_in m) page h
+  pub last : last_or None (mine p) ≡ Some (PageRead p.number cpu h page locked)
+  pub answer : reply ≡ answer_by ratio page h
 
 -- the clamp after that read: nothing where the page is off, else one entry
 abbrev pub HasClamped : ℕ → PageReply → ClockReply → PassKnown → PassKnown → Type 0
