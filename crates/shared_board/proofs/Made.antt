@@ -1,5 +1,5 @@
 -- What calls made, one after another.
-use Rattle.std.proofs.Common.{◌≡◌, ℕ, List, [], ◌∷◌, ◌++◌, refl, ap, sym, ◌∙◌, subst, append_assoc, append-nil, Some, Bool, true, false}
+use Rattle.std.proofs.Common.{◌≡◌, ℕ, List, [], ◌∷◌, ◌++◌, refl, ap, sym, ◌∙◌, subst, append_assoc, append-nil, Some, None, Bool, true, false}
 use mathlib.Core.List.{IsPrefix}
 use Rattle.board_history.specs.History.{entries_of, IsLegal}
 use Rattle.board_history.specs.declared.entry.Entry.{Entry}
