@@ -9,8 +9,9 @@ use Rattle.std.specs.Int.{w8, byte_at as byte_of, bytes_low_first, cast_signed, 
 use Rattle.std.specs.Int.RustNames.{FitsSigned}
 use Rattle.byteorder.specs.Endian.{little_from, little_number, little_bytes}
 use Rattle.byteorder.specs.Numbers.{length-bytes_low_first, little_number-reads_back}
-use Rattle.byte_table.specs.Codes.{number_at, number_bytes, flag_byte, Code, number, byte, signed_byte, word, one_byte, flag, flags_of, flags}
-use Rattle.byte_table.specs.Codes.{Two, both, row_bytes, row_value, row_spelled, rows}
+use Rattle.clk_units.specs.Bits.{bit_value}
+use Rattle.byte_table.specs.Codes.{number_at, number_bytes, Code, number, byte, signed_byte, word, one_byte, flag, flags_of, flags}
+use Rattle.byte_table.specs.Codes.{both, row_bytes, row_value, row_spelled, rows}
 use Rattle.byte_table.proofs.FoldLaws.{AreBytes, next, split, take-more}
 use Rattle.byte_table.proofs.Bits.{byte_with, HasBits-byte_with, byte_with-bits}
 
@@ -149,15 +150,15 @@ choice-code n number_from of_number is = record {
 }
 
 -- a flag
-flag-below : (b : Bool) → ltb (flag_byte b) 2 ≡ true
+flag-below : (b : Bool) → ltb (bit_value b 0) 2 ≡ true
 flag-below false = refl
 flag-below true = refl
 
-flag-test : (b : Bool) → eqb (flag_byte b) 1 ≡ b
+flag-test : (b : Bool) → eqb (bit_value b 0) 1 ≡ b
 flag-test false = refl
 flag-test true = refl
 
-flag-again : (y : ℕ) → y < 2 → flag_byte (eqb y 1) ≡ y
+flag-again : (y : ℕ) → y < 2 → bit_value (eqb y 1) 0 ≡ y
 flag-again zero h = refl
 flag-again (suc zero) h = refl
 flag-again (suc (suc y)) h = absurd (omega arith)
@@ -165,8 +166,8 @@ flag-again (suc (suc y)) h = absurd (omega arith)
 pub flag-written : (b : Bool) → IsWritten flag b
 flag-written b = record {
   length = refl;
-  back = λ place bytes rest e. ap (λ (y : ℕ). eqb y 1) (byte-is place (flag_byte b) bytes rest e) ∙ flag-test b;
-  spelled = λ place bytes rest e. ap (λ (y : ℕ). ltb y 2) (byte-is place (flag_byte b) bytes rest e) ∙ flag-below b;
+  back = λ place bytes rest e. ap (λ (y : ℕ). eqb y 1) (byte-is place (bit_value b 0) bytes rest e) ∙ flag-test b;
+  spelled = λ place bytes rest e. ap (λ (y : ℕ). ltb y 2) (byte-is place (bit_value b 0) bytes rest e) ∙ flag-below b;
 }
 
 pub flag-code : IsCode flag
@@ -194,17 +195,17 @@ flags-code = record {
 }
 
 -- two values
-pub both-written : {A C : Type 0} (a : Code A) (c : Code C) (x : Two A C) → IsWritten a x.first → IsWritten c x.second → IsWritten (both a c) x
+pub both-written : {A C : Type 0} (a : Code A) (c : Code C) (x : A × C) → IsWritten a x.0 → IsWritten c x.1 → IsWritten (both a c) x
 both-written a c x wa wc = record {
-  length = length-append (a.bytes x.first) (c.bytes x.second) ∙ (λ i. wa.length i + wc.length i);
+  length = length-append (a.bytes x.0) (c.bytes x.1) ∙ (λ i. wa.length i + wc.length i);
   back = λ place bytes rest e.
-      let first = split (drop place bytes) (a.bytes x.first) (c.bytes x.second) rest e in
-      let later = next place a.size bytes (a.bytes x.first) (c.bytes x.second ++ rest) wa.length first in
-      λ i. record { first = wa.back place bytes (c.bytes x.second ++ rest) first i; second = wc.back (place + a.size) bytes rest later i };
+      let first = split (drop place bytes) (a.bytes x.0) (c.bytes x.1) rest e in
+      let later = next place a.size bytes (a.bytes x.0) (c.bytes x.1 ++ rest) wa.length first in
+      λ i. (wa.back place bytes (c.bytes x.1 ++ rest) first i, wc.back (place + a.size) bytes rest later i);
   spelled = λ place bytes rest e.
-      let first = split (drop place bytes) (a.bytes x.first) (c.bytes x.second) rest e in
-      let later = next place a.size bytes (a.bytes x.first) (c.bytes x.second ++ rest) wa.length first in
-      and_from _ _ (wa.spelled place bytes (c.bytes x.second ++ rest) first) (wc.spelled (place + a.size) bytes rest later);
+      let first = split (drop place bytes) (a.bytes x.0) (c.bytes x.1) rest e in
+      let later = next place a.size bytes (a.bytes x.0) (c.bytes x.1 ++ rest) wa.length first in
+      and_from _ _ (wa.spelled place bytes (c.bytes x.1 ++ rest) first) (wc.spelled (place + a.size) bytes rest later);
 }
 
 pub both-code : {A C : Type 0} (a : Code A) (c : Code C) → IsCode a → IsCode c → IsCode (both a c)

@@ -2,7 +2,8 @@
 use Rattle.std.proofs.Common.{◌≡◌, ℕ, zero, suc, ◌+◌, ◌-◌, ◌<◌, ◌≤◌, List, [], ◌∷◌, ◌++◌, length, take, drop, get_or, Option, Some, None}
 use Rattle.std.proofs.Common.{refl, ap, sym, ◌∙◌, arith}
 use Rattle.std.proofs.lemmas.List.{append_assoc, take_all, length-append, length-drop, drop-append-le, drop_all, drop-drop}
-use Rattle.byte_table.specs.Fold.{Field, size_of, write, read, rewrite_in, moved, or_else, fault_in}
+use Rattle.std.specs.Option.{option_or}
+use Rattle.byte_table.specs.Fold.{Field, size_of, write, read, rewrite_in, moved, fault_in}
 
 -- a law, and those of the fields that follow
 infixr 40 ◌⨾◌
@@ -66,13 +67,13 @@ abbrev pub AllKeep : {F B P : Type 0} → List (Field F B P) → P → ℕ → L
 AllKeep [] p place bytes = Unit {0}
 AllKeep (f ∷ fs) p place bytes = (f.get p ≡ f.again place bytes) × AllKeep fs p (place + f.size) bytes
 
-pub or_else-none : {F : Type 0} (first later : Option F) → first ≡ None → or_else first later ≡ later
-or_else-none None later e = refl
-or_else-none (Some fault) later e = cc
+pub option_or-none : {F : Type 0} (first later : Option F) → first ≡ None → option_or first later ≡ later
+option_or-none None later e = refl
+option_or-none (Some fault) later e = cc
 
-pub or_else-both : {F : Type 0} (first later : Option F) → or_else first later ≡ None → (first ≡ None) × (later ≡ None)
-or_else-both None later e = (refl, e)
-or_else-both (Some fault) later e = cc
+pub option_or-both : {F : Type 0} (first later : Option F) → option_or first later ≡ None → (first ≡ None) × (later ≡ None)
+option_or-both None later e = (refl, e)
+option_or-both (Some fault) later e = cc
 
 pub length-write : {F B P : Type 0} (fs : List (Field F B P)) (b : B) (p : P) (bytes : List ℕ) → AllHere fs b p bytes → length (write fs p) ≡ size_of fs
 length-write [] b p bytes here = refl
@@ -93,7 +94,7 @@ pub fault-write : {F B P : Type 0} (fs : List (Field F B P)) (b : B) (p : P) (by
 fault-write [] b p bytes here place rest le e = refl
 fault-write (f ∷ fs) b p bytes here place rest le e =
     let first = split (drop place bytes) (f.get p) (write fs p) rest e in
-    or_else-none (f.fault b p place bytes) (fault_in fs b p (place + f.size) bytes) (here.0.none place (write fs p ++ rest) le first)
+    option_or-none (f.fault b p place bytes) (fault_in fs b p (place + f.size) bytes) (here.0.none place (write fs p ++ rest) le first)
     ∙ fault-write fs b p bytes here.1 (place + f.size) rest (room place f.size bytes (f.get p) (write fs p ++ rest) here.0.size_is le first)
     (next place f.size bytes (f.get p) (write fs p ++ rest) here.0.size_is first)
 
@@ -103,7 +104,7 @@ pub rewritten : {F B P : Type 0} (fs : List (Field F B P)) → AllSpelled fs →
     → (place + size_of fs ≤ length bytes) × (rewrite_in fs place bytes ≡ take (size_of fs) (drop place bytes))
 rewritten [] all b p place bytes small there none = (omega (arith, there), refl)
 rewritten (f ∷ fs) all b p place bytes small there none =
-    let parts = or_else-both (f.fault b p place bytes) (fault_in fs b p (place + f.size) bytes) none in
+    let parts = option_or-both (f.fault b p place bytes) (fault_in fs b p (place + f.size) bytes) none in
     let first = all.0.spelled b p place bytes small there parts.0 in
     let later = rewritten fs all.1 b p (place + f.size) bytes small first.0 parts.1 in (
       (let end = later.0 in omega (arith, end)),
@@ -120,18 +121,18 @@ pub write_append : {F B P : Type 0} (fs gs : List (Field F B P)) (p : P) → wri
 write_append [] gs p = refl
 write_append (f ∷ fs) gs p = ap (λ (xs : List ℕ). f.get p ++ xs) (write_append fs gs p) ∙ sym (append_assoc (f.get p) (write fs p) (write gs p))
 
-pub or_else-assoc : {F : Type 0} (a b c : Option F) → or_else (or_else a b) c ≡ or_else a (or_else b c)
-or_else-assoc None b c = refl
-or_else-assoc (Some fault) b c = refl
+pub option_or-assoc : {F : Type 0} (a b c : Option F) → option_or (option_or a b) c ≡ option_or a (option_or b c)
+option_or-assoc None b c = refl
+option_or-assoc (Some fault) b c = refl
 
 pub fault_in-append : {F B P : Type 0} (fs gs : List (Field F B P)) (b : B) (p : P) (place : ℕ) (bytes : List ℕ)
-    → fault_in (fs ++ gs) b p place bytes ≡ or_else (fault_in fs b p place bytes) (fault_in gs b p (place + size_of fs) bytes)
+    → fault_in (fs ++ gs) b p place bytes ≡ option_or (fault_in fs b p place bytes) (fault_in gs b p (place + size_of fs) bytes)
 fault_in-append [] gs b p place bytes = let at : place ≡ place + 0 = omega arith in ap (λ (k : ℕ). fault_in gs b p k bytes) at
 fault_in-append {F = F} (f ∷ fs) gs b p place bytes =
     let at : place + f.size + size_of fs ≡ place + (f.size + size_of fs) = omega arith in
-    ap (λ (o : Option F). or_else (f.fault b p place bytes) o) (fault_in-append fs gs b p (place + f.size) bytes)
-    ∙ sym (or_else-assoc (f.fault b p place bytes) (fault_in fs b p (place + f.size) bytes) (fault_in gs b p (place + f.size + size_of fs) bytes))
-    ∙ ap (λ (k : ℕ). or_else (or_else (f.fault b p place bytes) (fault_in fs b p (place + f.size) bytes)) (fault_in gs b p k bytes)) at
+    ap (λ (o : Option F). option_or (f.fault b p place bytes) o) (fault_in-append fs gs b p (place + f.size) bytes)
+    ∙ sym (option_or-assoc (f.fault b p place bytes) (fault_in fs b p (place + f.size) bytes) (fault_in gs b p (place + f.size + size_of fs) bytes))
+    ∙ ap (λ (k : ℕ). option_or (option_or (f.fault b p place bytes) (fault_in fs b p (place + f.size) bytes)) (fault_in gs b p k bytes)) at
 
 pub all_here-append : {F B P : Type 0} (fs gs : List (Field F B P)) (b : B) (p : P) (bytes : List ℕ) → AllHere fs b p bytes → AllHere gs b p bytes
     → AllHere (fs ++ gs) b p bytes
@@ -152,16 +153,16 @@ next-write fs gs b p bytes here place rest e =
     next place (size_of fs) bytes (write fs p) (write gs p ++ rest) (length-write fs b p bytes here)
     (e ∙ ap (λ (xs : List ℕ). xs ++ rest) (write_append fs gs p) ∙ append_assoc (write fs p) (write gs p) rest)
 
-pub or_else-end : {F : Type 0} (o : Option F) → or_else o None ≡ o
-or_else-end None = refl
-or_else-end (Some fault) = refl
+pub option_or-end : {F : Type 0} (o : Option F) → option_or o None ≡ o
+option_or-end None = refl
+option_or-end (Some fault) = refl
 
 pub fault-next : {F B P : Type 0} (fs gs : List (Field F B P)) (b : B) (p : P) (place at : ℕ) (bytes : List ℕ) (later : Option F) → place + size_of fs ≡ at
-    → or_else (fault_in (fs ++ gs) b p place bytes) later ≡ or_else (fault_in fs b p place bytes) (or_else (fault_in gs b p at bytes) later)
+    → option_or (fault_in (fs ++ gs) b p place bytes) later ≡ option_or (fault_in fs b p place bytes) (option_or (fault_in gs b p at bytes) later)
 fault-next {F = F} fs gs b p place at bytes later there =
-    ap (λ (o : Option F). or_else o later) (fault_in-append fs gs b p place bytes)
-    ∙ or_else-assoc (fault_in fs b p place bytes) (fault_in gs b p (place + size_of fs) bytes) later
-    ∙ ap (λ (n : ℕ). or_else (fault_in fs b p place bytes) (or_else (fault_in gs b p n bytes) later)) there
+    ap (λ (o : Option F). option_or o later) (fault_in-append fs gs b p place bytes)
+    ∙ option_or-assoc (fault_in fs b p place bytes) (fault_in gs b p (place + size_of fs) bytes) later
+    ∙ ap (λ (n : ℕ). option_or (fault_in fs b p place bytes) (option_or (fault_in gs b p n bytes) later)) there
 
 -- lists one after the other: what holds of each holds of all
 abbrev pub joined : {A : Type 0} → List (List A) → List A
@@ -179,11 +180,11 @@ here-joined (fs ∷ fss) b p bytes each = all_here-append fs (joined fss) b p by
 -- their first fault, list by list, or else a later one
 abbrev pub fault_along : {F B P : Type 0} → List (List (Field F B P)) → B → P → ℕ → List ℕ → Option F → Option F
 fault_along [] b p place bytes later = later
-fault_along (fs ∷ fss) b p place bytes later = or_else (fault_in fs b p place bytes) (fault_along fss b p (place + size_of fs) bytes later)
+fault_along (fs ∷ fss) b p place bytes later = option_or (fault_in fs b p place bytes) (fault_along fss b p (place + size_of fs) bytes later)
 
 pub fault-joined : {F B P : Type 0} (fss : List (List (Field F B P))) (b : B) (p : P) (place : ℕ) (bytes : List ℕ) (later : Option F)
-    → or_else (fault_in (joined fss) b p place bytes) later ≡ fault_along fss b p place bytes later
+    → option_or (fault_in (joined fss) b p place bytes) later ≡ fault_along fss b p place bytes later
 fault-joined [] b p place bytes later = refl
 fault-joined {F = F} (fs ∷ fss) b p place bytes later =
     fault-next fs (joined fss) b p place (place + size_of fs) bytes later refl
-    ∙ ap (λ (o : Option F). or_else (fault_in fs b p place bytes) o) (fault-joined fss b p (place + size_of fs) bytes later)
+    ∙ ap (λ (o : Option F). option_or (fault_in fs b p place bytes) o) (fault-joined fss b p (place + size_of fs) bytes later)

@@ -3,10 +3,11 @@ use Rattle.std.proofs.Common.{◌≡◌, ℕ, zero, suc, ◌+◌, ◌-◌, ◌<�
 use Rattle.std.proofs.Common.{[], take, drop, get_or, replicate, Some, None, refl, ap, sym, subst, ◌∙◌, arith}
 use Rattle.std.proofs.lemmas.Bool.{lt-ltb, le-ltb, and_from, and_parts, cases_lt}
 use Rattle.std.proofs.lemmas.List.{length-append, get_or-drop, drop_more, drop-drop}
+use Rattle.std.specs.Option.{option_or}
 use Rattle.byte_table.specs.Fold.{Field, size_of, write, read, rewrite_in, moved, fault_in, size_below, write_below, read_below, fault_below}
 use Rattle.byte_table.specs.Codes.{Code}
 use Rattle.byte_table.specs.Kinds.{one_fault, plain, blocks, elsewhere}
-use Rattle.byte_table.proofs.FoldLaws.{AreBytes, next, split, room, take-more, IsHere, AllHere, IsSpelled, AllSpelled, or_else-none, or_else-both, length-write}
+use Rattle.byte_table.proofs.FoldLaws.{AreBytes, next, split, room, take-more, IsHere, AllHere, IsSpelled, AllSpelled, option_or-none, option_or-both, length-write}
 use Rattle.byte_table.proofs.FoldLaws.{read-write, fault-write, rewritten}
 use Rattle.byte_table.proofs.CodeLaws.{IsWritten, IsCode, rows-code, number-code, word-code, byte-code, signed_byte-code, flag-code, flags-code, both-code}
 
@@ -108,7 +109,7 @@ below-back {T = T} fields blank b ts covers bytes k (suc n) le all place rest e 
           ∷ (read_below fields blank (suc k) n (place + s) bytes ++ drop (at i) ts))
           ∙ ap (λ (us : List T). t ∷ us) (later.0 ∙ ap (λ (m : ℕ). drop m ts) one) ∙ sym (drop_more ts k blank (omega arith)),
       λ there.
-          or_else-none (fault_in (fields k) b t place bytes) (fault_below fields blank b ts (suc k) n (place + s) bytes)
+          option_or-none (fault_in (fields k) b t place bytes) (fault_below fields blank b ts (suc k) n (place + s) bytes)
           (fault-write (fields k) b t bytes here place tail there first) ∙ later.1 (room place s bytes (write (fields k) t) tail len there first),
     )
 
@@ -139,7 +140,7 @@ below-spelled : {F B T : Type 0} (fields : ℕ → List (Field F B T)) (blank : 
 below-spelled fields blank laws b ts k zero place bytes small there none = (omega (arith, there), λ us others e. refl)
 below-spelled {T = T} fields blank laws b ts k (suc n) place bytes small there none =
     let s : ℕ = size_of (fields k) in
-    let parts = or_else-both (fault_in (fields k) b (get_or ts k blank) place bytes) (fault_below fields blank b ts (suc k) n (place + s) bytes) none in
+    let parts = option_or-both (fault_in (fields k) b (get_or ts k blank) place bytes) (fault_below fields blank b ts (suc k) n (place + s) bytes) none in
     let first = rewritten (fields k) (laws.spelled k) b (get_or ts k blank) place bytes small there parts.0 in
     let later = below-spelled fields blank laws b ts (suc k) n (place + s) bytes small first.0 parts.1 in (
       (let end = later.0 in omega (arith, end)),
@@ -170,7 +171,7 @@ none-each : {F B T : Type 0} (fields : ℕ → List (Field F B T)) (blank : T) (
     → (at : ℕ) × (fault_in (fields j) b (get_or ts j blank) at bytes ≡ None)
 none-each fields blank b ts k zero place bytes none j low high = absurd (omega arith)
 none-each fields blank b ts k (suc n) place bytes none j low high =
-    let parts = or_else-both (fault_in (fields k) b (get_or ts k blank) place bytes)
+    let parts = option_or-both (fault_in (fields k) b (get_or ts k blank) place bytes)
     (fault_below fields blank b ts (suc k) n (place + size_of (fields k)) bytes) none in
     ⊎_elim (λ (less : k < j). none-each fields blank b ts (suc k) n (place + size_of (fields k)) bytes parts.1 j (omega arith) (omega arith))
     (λ (le : j ≤ k).
@@ -182,7 +183,7 @@ pub blocks-none : {F B P T : Type 0} (n all : ℕ) (fields : ℕ → List (Field
     → (at : ℕ) × (fault_in (fields j) b (get_or (get p) j blank) at bytes ≡ None)
 unfolding blocks
 blocks-none n all fields blank get put b p place bytes none j less =
-    none-each fields blank b (get p) 0 n place bytes (or_else-both (fault_below fields blank b (get p) 0 n place bytes) None none).0 j (omega arith) (omega (arith, less))
+    none-each fields blank b (get p) 0 n place bytes (option_or-both (fault_below fields blank b (get p) 0 n place bytes) None none).0 j (omega arith) (omega (arith, less))
 
 -- by these a search finds that all fields of a list are spelled
 pub ruleset spells = (plain-spelled, elsewhere-spelled, rows-code, number-code, word-code, byte-code, signed_byte-code, flag-code, flags-code, both-code)

@@ -3,8 +3,9 @@ use Rattle.std.proofs.Common.{◌≡◌, ℕ, zero, suc, ◌+◌, ◌-◌, ◌*�
 use Rattle.std.proofs.Common.{set, below_more, Option, Some, None, refl, ap, sym, ◌∙◌, arith}
 use Rattle.std.proofs.lemmas.List.{append-nil, ext_get_or, length-replicate, get_or-replicate, length-set, length-drop, get_or-drop}
 use Rattle.std.proofs.lemmas.List.{get_or-set_same, get_or-set_other}
+use Rattle.std.specs.Option.{option_or}
 use Rattle.byte_table.specs.Codes.{Code, row_bytes, row_value}
-use Rattle.byte_table.specs.Fold.{Field, size_of, write, read, or_else, fault_in, write_below, read_below, fault_below, size_below}
+use Rattle.byte_table.specs.Fold.{Field, size_of, write, read, fault_in, write_below, read_below, fault_below, size_below}
 
 -- each block takes s bytes
 abbrev pub AreOfSize : {F B T : Type 0} → (ℕ → List (Field F B T)) → ℕ → Type 0
@@ -112,25 +113,25 @@ pub record FaultsFrom {F B T : Type 0} (fields : ℕ → List (Field F B T)) (bl
 faults-next : {F B T : Type 0} (fields : ℕ → List (Field F B T)) (blank : T) (s : ℕ) → AreOfSize fields s → (b : B) (ts : List T) (k n place : ℕ)
     (bytes : List ℕ) → k < n
     → fault_below fields blank b ts k (n - k) (place + s * k) bytes
-    ≡ or_else (fault_in (fields k) b (get_or ts k blank) (place + s * k) bytes)
+    ≡ option_or (fault_in (fields k) b (get_or ts k blank) (place + s * k) bytes)
     (fault_below fields blank b ts (k + 1) (n - (k + 1)) (place + s * (k + 1)) bytes)
 faults-next fields blank s size b ts k n place bytes less =
     let all : n - k ≡ suc (n - (k + 1)) = omega arith in
     let one : suc k ≡ k + 1 = omega arith in
     let at : place + s * k + size_of (fields k) ≡ place + s * (k + 1) = ap (λ (m : ℕ). place + s * k + m) (size k) ∙ omega arith in
     ap (λ (m : ℕ). fault_below fields blank b ts k m (place + s * k) bytes) all
-    ∙ (λ i. or_else (fault_in (fields k) b (get_or ts k blank) (place + s * k) bytes) (fault_below fields blank b ts (one i) (n - (k + 1)) (at i) bytes))
+    ∙ (λ i. option_or (fault_in (fields k) b (get_or ts k blank) (place + s * k) bytes) (fault_below fields blank b ts (one i) (n - (k + 1)) (at i) bytes))
 
 -- block k has a fault, which is the first, or none; after the last block there is none
 pub faults-some : {F B T : Type 0} {fields : ℕ → List (Field F B T)} {blank : T} {s : ℕ} {b : B} {ts : List T} {n place : ℕ} {bytes : List ℕ} {k : ℕ}
     (size : AreOfSize fields s) → FaultsFrom fields blank s b ts n place bytes k → k < n → (at : ℕ) → at ≡ place + s * k → (fault : F)
-    → Some fault ≡ fault_in (fields k) b (get_or ts k blank) at bytes → Some fault ≡ or_else (fault_below fields blank b ts 0 n place bytes) None
+    → Some fault ≡ fault_in (fields k) b (get_or ts k blank) at bytes → Some fault ≡ option_or (fault_below fields blank b ts 0 n place bytes) None
 faults-some {F = F} {fields = fields} {blank = blank} {s = s} {b = b} {ts = ts} {n = n} {place = place} {bytes = bytes} {k = k} size so_far less at here fault is =
     let later : Option F = fault_below fields blank b ts (k + 1) (n - (k + 1)) (place + s * (k + 1)) bytes in
     let found : fault_in (fields k) b (get_or ts k blank) (place + s * k) bytes ≡ Some fault =
     ap (λ (p : ℕ). fault_in (fields k) b (get_or ts k blank) p bytes) (sym here) ∙ sym is in
-    sym (ap (λ (o : Option F). or_else o None)
-    (so_far.same ∙ faults-next fields blank s size b ts k n place bytes less ∙ ap (λ (o : Option F). or_else o later) found))
+    sym (ap (λ (o : Option F). option_or o None)
+    (so_far.same ∙ faults-next fields blank s size b ts k n place bytes less ∙ ap (λ (o : Option F). option_or o later) found))
 
 pub faults-none : {F B T : Type 0} {fields : ℕ → List (Field F B T)} {blank : T} {s : ℕ} {b : B} {ts : List T} {n place : ℕ} {bytes : List ℕ} {k : ℕ}
     (size : AreOfSize fields s) → FaultsFrom fields blank s b ts n place bytes k → k < n → (at : ℕ) → at ≡ place + s * k
@@ -139,7 +140,7 @@ faults-none {F = F} {fields = fields} {blank = blank} {s = s} {b = b} {ts = ts} 
     let later : Option F = fault_below fields blank b ts (k + 1) (n - (k + 1)) (place + s * (k + 1)) bytes in
     let none : fault_in (fields k) b (get_or ts k blank) (place + s * k) bytes ≡ None =
     ap (λ (p : ℕ). fault_in (fields k) b (get_or ts k blank) p bytes) (sym here) ∙ sym is in
-    record { same = so_far.same ∙ faults-next fields blank s size b ts k n place bytes less ∙ ap (λ (o : Option F). or_else o later) none }
+    record { same = so_far.same ∙ faults-next fields blank s size b ts k n place bytes less ∙ ap (λ (o : Option F). option_or o later) none }
 
 -- item i of those that are read
 pub read_below-at : {F B T : Type 0} (fields : ℕ → List (Field F B T)) (blank : T) (s : ℕ) → AreOfSize fields s → (k n place : ℕ) (bytes : List ℕ)

@@ -25,10 +25,6 @@ flag_at place bytes = byte_at place bytes == 1
 abbrev pub flag_valid : ℕ → List ℕ → Bool
 flag_valid place bytes = nat_lt (byte_at place bytes) 2
 
--- the byte of a flag
-abbrev pub flag_byte : Bool → ℕ
-flag_byte b = bit_value b 0
-
 -- a code of A: how many bytes a value takes; they; the value that is at a place; whether what is
 -- there spells one
 pub record Code (A : Type 0) : Type 0 where
@@ -69,7 +65,7 @@ word n x = record {
 
 -- a flag in one byte, 00 or 01
 abbrev pub flag : Code Bool
-flag = one_byte flag_byte (λ x. x == 1) (λ x. nat_lt x 2)
+flag = one_byte (λ b. bit_value b 0) (λ x. x == 1) (λ x. nat_lt x 2)
 
 -- the byte of flags, the first of them bit k
 abbrev pub flags_byte : ℕ → List Bool → ℕ
@@ -84,25 +80,14 @@ flags_of x = map (λ k. bit k x) (0 ∷ 1 ∷ 2 ∷ 3 ∷ 4 ∷ 5 ∷ 6 ∷ 7 �
 abbrev pub flags : Code (List Bool)
 flags = one_byte (flags_byte 0) flags_of (λ _. true)
 
--- two values, one after the other
-pub record Two (A C : Type 0) : Type 0 where
-  pub first : A
-  pub second : C
-
 -- two fields, one after the other
-abbrev pub both : {A C : Type 0} → Code A → Code C → Code (Two A C)
+abbrev pub both : {A C : Type 0} → Code A → Code C → Code (A × C)
 both a c = record {
   size = a.size + c.size;
-  bytes = λ x. a.bytes x.first ++ c.bytes x.second;
-  value = λ place bytes.
-      record { first = a.value place bytes; second = c.value (place + a.size) bytes };
+  bytes = λ x. a.bytes x.0 ++ c.bytes x.1;
+  value = λ place bytes. (a.value place bytes, c.value (place + a.size) bytes);
   spelled = λ place bytes. a.spelled place bytes && c.spelled (place + a.size) bytes;
 }
-
--- the items of two lists, side by side
-abbrev pub pairs : {A C : Type 0} → List A → List C → List (Two A C)
-pairs (x ∷ xs) (y ∷ ys) = record { first = x; second = y } ∷ pairs xs ys
-pairs _ _ = []
 
 -- the first n values of a list
 unfoldable pub row_bytes : {A : Type 0} → Code A → ℕ → List A → List ℕ

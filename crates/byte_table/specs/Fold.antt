@@ -11,9 +11,9 @@ use Rattle.std.specs.Prelude.{
   ◌∷◌,
   ◌++◌,
   Option,
-  Some,
   None,
 }
+use Rattle.std.specs.Option.{option_or}
 
 -- a field of a part P of a whole B, with faults of F: its size; its bytes in a P; a P with what is
 -- at a place of bytes; that as it would be written; the value of one P put into another; its fault
@@ -41,16 +41,11 @@ abbrev pub read : {F B P : Type 0} → List (Field F B P) → ℕ → List ℕ �
 read [] place bytes p = p
 read (f ∷ fs) place bytes p = read fs (place + f.size) bytes (f.put place bytes p)
 
--- an earlier fault, or else a later one
-abbrev pub or_else : {F : Type 0} → Option F → Option F → Option F
-or_else (Some fault) later = Some fault
-or_else None later = later
-
 -- the first fault of p, whose bytes begin at a place
 abbrev pub fault_in : {F B P : Type 0} → List (Field F B P) → B → P → ℕ → List ℕ → Option F
 fault_in [] b p place bytes = None
 fault_in (f ∷ fs) b p place bytes =
-    or_else (f.fault b p place bytes) (fault_in fs b p (place + f.size) bytes)
+    option_or (f.fault b p place bytes) (fault_in fs b p (place + f.size) bytes)
 
 -- what is at a place, as it would be written
 abbrev pub rewrite_in : {F B P : Type 0} → List (Field F B P) → ℕ → List ℕ → List ℕ
@@ -87,5 +82,5 @@ abbrev pub fault_below : {F B T : Type 0} → (ℕ → List (Field F B T)) → T
     → ℕ → List ℕ → Option F
 fault_below fields blank b ts k zero place bytes = None
 fault_below fields blank b ts k (suc n) place bytes =
-    or_else (fault_in (fields k) b (slice_index_or ts k blank) place bytes)
+    option_or (fault_in (fields k) b (slice_index_or ts k blank) place bytes)
     (fault_below fields blank b ts (suc k) n (place + size_of (fields k)) bytes)

@@ -1,6 +1,7 @@
 //! Bytes and numbers, appended to bytes.
 ghost use Rattle.std.specs.Prelude.{◌≡◌, ◌≤◌, ◌∷◌, [], ◌++◌, OnOk, if◌then◌else◌, slice_index_or, false, map};
-ghost use Rattle.byte_table.specs.Codes.{number_bytes, flag_byte, flags_byte};
+ghost use Rattle.byte_table.specs.Codes.{number_bytes, flags_byte};
+ghost use Rattle.clk_units.specs.Bits.{bit_value};
 
 use clk_units::NoMemory;
 
@@ -37,7 +38,7 @@ pub fn put_8(out: &mut Vec<u8>, x: u64) -> Result<(), NoMemory>
 
 /// The byte of a flag.
 pub fn flag_byte(flag: bool) -> u8
-    ensures value { result ≡ flag_byte flag }
+    ensures value { result ≡ bit_value flag 0 }
     ensures small { result ≤ 1 }
 {
     u8::from(flag)

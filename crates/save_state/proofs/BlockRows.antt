@@ -1,5 +1,5 @@
 -- The rows that code walks: the first fault of a block is that of its rows, and of the rest of them at each step.
-use Rattle.save_state.proofs.Names.{or_else, fault_in, one_fault, Row, StateFault, Short, Fields, fault_at, row_fault, ◌≡◌, ℕ, ◌+◌, Bool, true, false, cond}
+use Rattle.save_state.proofs.Names.{option_or, fault_in, one_fault, Row, StateFault, Short, Fields, fault_at, row_fault, ◌≡◌, ℕ, ◌+◌, Bool, true, false, cond}
 use Rattle.save_state.proofs.Names.{ltb, List, [], ◌∷◌, length, Option, Some, None, refl, sym, ◌∙◌, BoardParts, Field, apic, scale_for, reference, field}
 use Rattle.save_state.proofs.Names.{processor_rows, ◌⨾◌, row_spelled-each, up_allowed, tsc, page, processor, wall, rises, Message, message, version_valid}
 use Rattle.save_state.proofs.Names.{published_valid, apic_timer, apic_line, magic, khz_valid, host_valid, head, host, guest, policies, front, clock, registers}
@@ -24,7 +24,7 @@ AreRows (f ∷ fs) b p place bytes [] = (f.fault b p place bytes ≡ None) × Ar
 AreRows (f ∷ fs) b p place bytes (r ∷ rows) = IsRow f b p place bytes r × AreRows fs b p (place + r.size) bytes rows
 
 by-cases : (short valid : Bool) (before at : StateFault) (rest : Option StateFault)
-    → cond short (Some before) (cond valid rest (Some at)) ≡ or_else (cond short (Some before) (cond valid None (Some at))) rest
+    → cond short (Some before) (cond valid rest (Some at)) ≡ option_or (cond short (Some before) (cond valid None (Some at))) rest
 by-cases true valid before at rest = refl
 by-cases false true before at rest = refl
 by-cases false false before at rest = refl
@@ -35,12 +35,12 @@ unfolding row_fault
 walked [] b p place bytes [] all = refl
 walked [] b p place bytes (r ∷ rows) all = absurd all
 walked (f ∷ fs) b p place bytes [] all =
-    walked fs b p (place + f.size) bytes [] all.1 ∙ (λ i. or_else (sym all.0 i) (fault_in fs b p (place + f.size) bytes))
+    walked fs b p (place + f.size) bytes [] all.1 ∙ (λ i. option_or (sym all.0 i) (fault_in fs b p (place + f.size) bytes))
 walked (f ∷ fs) b p place bytes (r ∷ rows) all =
     by-cases (ltb (length bytes) (place + r.size)) r.valid (record { place = length bytes; kind = Short }) (record { place = place; kind = r.kind })
     (row_fault bytes (place + r.size) rows)
-    ∙ (λ i. or_else (sym all.0.fault i) (walked fs b p (place + r.size) bytes rows all.1 i))
-    ∙ (λ i. or_else (f.fault b p place bytes) (fault_in fs b p (place + sym all.0.size i) bytes))
+    ∙ (λ i. option_or (sym all.0.fault i) (walked fs b p (place + r.size) bytes rows all.1 i))
+    ∙ (λ i. option_or (f.fault b p place bytes) (fault_in fs b p (place + sym all.0.size i) bytes))
 
 pub rows-are : {P : Type 0} (fs : Fields P) (b : BoardParts) (p : P) (place : ℕ) (bytes : List ℕ) (rows : List Row) → AreRows fs b p place bytes rows
     → fault_in fs b p place bytes ≡ row_fault bytes place rows
@@ -127,9 +127,9 @@ unfolding message plain
 message-rows k b m p bytes = rows-are (message k) b m p bytes _ (is refl refl ⨾ is refl refl ⨾ tt)
 
 pub apic-rows : (k : ℕ) (b : BoardParts) (a : Apic) (p : ℕ) (bytes : List ℕ)
-    → fault_in (apic k) b a p bytes ≡ row_fault bytes p (field 4 (lvt_valid a.first) ∷ field 1 (divide_valid a.first) ∷ field 4 (initial_valid a.first)
-    ∷ field 4 (current_valid a.first) ∷ field 1 (phase_valid a.first) ∷ field 8 (deadline_valid a.first) ∷ field 1 (flag_valid (p + 22) bytes)
-    ∷ field 8 (leb a.second.counts.due (now_of b + b.accesses)) ∷ field 8 true ∷ field 8 (queue_valid a.second) ∷ field 8 (lost_valid a.second) ∷ [])
+    → fault_in (apic k) b a p bytes ≡ row_fault bytes p (field 4 (lvt_valid a.0) ∷ field 1 (divide_valid a.0) ∷ field 4 (initial_valid a.0)
+    ∷ field 4 (current_valid a.0) ∷ field 1 (phase_valid a.0) ∷ field 8 (deadline_valid a.0) ∷ field 1 (flag_valid (p + 22) bytes)
+    ∷ field 8 (leb a.1.counts.due (now_of b + b.accesses)) ∷ field 8 true ∷ field 8 (queue_valid a.1) ∷ field 8 (lost_valid a.1) ∷ [])
 unfolding apic_timer apic_line plain
 apic-rows k b a p bytes =
     rows-are (apic k) b a p bytes _ (is refl refl ⨾ is refl refl ⨾ is refl refl ⨾ is refl refl ⨾ is refl refl ⨾ is refl refl ⨾ is refl (grind arith)

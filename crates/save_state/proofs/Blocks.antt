@@ -10,7 +10,7 @@ use Rattle.save_state.proofs.Names.{negsuc, ◌*◌, ◌%◌, ◌<◌, false, co
 use Rattle.save_state.proofs.Names.{message_pairs, messages, BoardFits, blocks-here, drop-blank, pairs-at, length-pairs, routed_rises_valid, Message, or_right}
 use Rattle.save_state.proofs.Names.{lt-leb, message_bit_at, message_word_at, MESSAGE_FORMAT, IsBoard, read_below, ◌-◌, ◌^◌, not, ◌++◌, length, replicate}
 use Rattle.save_state.proofs.Names.{messages_few, ReferenceFits, scale_for, reference, references, references_of, fault_in, write_below, fault_below, blocks}
-use Rattle.save_state.proofs.Names.{or_else-end, eqb-true, cases_lt, append-nil, HvParts, HV_FORMAT, IsHv, no_hv, write, or_else, zero, suc, [], ◌∷◌, None, inl}
+use Rattle.save_state.proofs.Names.{option_or-end, eqb-true, cases_lt, append-nil, HvParts, HV_FORMAT, IsHv, no_hv, write, option_or, zero, suc, [], ◌∷◌, None, inl}
 use Rattle.save_state.proofs.Names.{inr, references-none, references-one, references_few, version-is, some-or, processor_rows}
 use Rattle.save_state.proofs.BlockRows.{rows-valid, processor-rows, reference-rows}
 
@@ -168,18 +168,18 @@ processor-valid b k p is place bytes none =
       shift = λ some. sym is.shift ∙ ap (cast_signed w8) (byte some) ∙ shift-signed hz;
     }
 
-message-here : (b : BoardParts) (k : ℕ) (m : Message) (bytes : List ℕ) → m.second < 256 ^ 8 → routed_rises_valid b ≡ true → AllHere (message k) b m bytes
+message-here : (b : BoardParts) (k : ℕ) (m : Message) (bytes : List ℕ) → m.1 < 256 ^ 8 → routed_rises_valid b ≡ true → AllHere (message k) b m bytes
 unfolding message
 message-here b k m bytes fits valid =
-    plain-here _ _ _ _ _ _ b m bytes (flag-written m.first) (or_right (not (eqb k 7)) (routed_rises_valid b) valid)
-    ⨾ plain-here _ _ _ _ _ _ b m bytes (number-written 8 m.second fits) refl ⨾ tt
+    plain-here _ _ _ _ _ _ b m bytes (flag-written m.0) (or_right (not (eqb k 7)) (routed_rises_valid b) valid)
+    ⨾ plain-here _ _ _ _ _ _ b m bytes (number-written 8 m.1 fits) refl ⨾ tt
 
 -- the places of a valid board, whose counts of rises are valid
 module _ (b : BoardParts) (is : IsBoard b) (fits : BoardFits b) (valid : routed_rises_valid b ≡ true) where
   same : length b.hpet.message_bit ≡ length b.hpet.message_word
   same = fits.numbers.bits ∙ sym fits.numbers.words
 
-  at : (k : ℕ) → get_or (message_pairs b) k no_message ≡ record { first = message_bit_at k b.hpet; second = message_word_at k b.hpet }
+  at : (k : ℕ) → get_or (message_pairs b) k no_message ≡ (message_bit_at k b.hpet, message_word_at k b.hpet)
   at k = pairs-at false 0 b.hpet.message_bit b.hpet.message_word k same
 
   long : length (message_pairs b) ≡ 8
@@ -187,14 +187,14 @@ module _ (b : BoardParts) (is : IsBoard b) (fits : BoardFits b) (valid : routed_
 
   here : (bytes : List ℕ) (k : ℕ) → AllHere (message k) b (get_or (message_pairs b) k no_message) bytes
   here bytes k =
-      let word : (get_or (message_pairs b) k no_message).second ≡ message_word_at k b.hpet = ap (λ (m : Message). m.second) (at k) in
+      let word : (get_or (message_pairs b) k no_message).1 ≡ message_word_at k b.hpet = ap (λ (m : Message). m.1) (at k) in
       message-here b k (get_or (message_pairs b) k no_message) bytes (omega (arith, word, fits.numbers.word k)) valid
 
   absent : (k : ℕ) → messages_of b.format ≤ k → k < 8 → get_or (message_pairs b) k no_message ≡ no_message
   absent k le less =
       let before : b.format < MESSAGE_FORMAT = grind arith in
       let none = is.devices.hpet.plain (is.joined.messages ∙ lt-leb MESSAGE_FORMAT b.format before) k less in
-      at k ∙ (λ i. record { first = none.0 i; second = none.1 i })
+      at k ∙ (λ i. (none.0 i, none.1 i))
 
   pub messages-here : (bytes : List ℕ) → AllHere (messages (messages_of b.format)) b b bytes
   unfolding messages message plain
@@ -257,13 +257,13 @@ pub fault-page : (b : BoardParts) (place : ℕ) (bytes : List ℕ) → HV_FORMAT
     → fault_in (references (references_of b.format)) b b place bytes ≡ fault_in (reference 0) b b.hv place bytes
 unfolding references blocks
 fault-page b place bytes there =
-    ap (λ (m : ℕ). or_else (fault_below reference no_hv b (b.hv ∷ []) 0 m place bytes) None) (references-one b.format there)
-    ∙ or_else-end (or_else (fault_in (reference 0) b b.hv place bytes) None) ∙ or_else-end _
+    ap (λ (m : ℕ). option_or (fault_below reference no_hv b (b.hv ∷ []) 0 m place bytes) None) (references-one b.format there)
+    ∙ option_or-end (option_or (fault_in (reference 0) b b.hv place bytes) None) ∙ option_or-end _
 
 pub fault-none : (b : BoardParts) (place : ℕ) (bytes : List ℕ) → b.format < HV_FORMAT → fault_in (references (references_of b.format)) b b place bytes ≡ None
 unfolding references blocks
 fault-none b place bytes before =
-    ap (λ (m : ℕ). or_else (fault_below reference no_hv b (b.hv ∷ []) 0 m place bytes) None) (references-none b.format before)
+    ap (λ (m : ℕ). option_or (fault_below reference no_hv b (b.hv ∷ []) 0 m place bytes) None) (references-none b.format before)
 
 pub ruleset reference_page = (written-page, written-none, fault-page, fault-none, append-nil)
 

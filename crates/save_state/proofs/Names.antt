@@ -15,12 +15,14 @@ pub use Rattle.tick_policy.specs.declared.parts.Policy.TheVariants.{Discard, Del
 pub use Rattle.lapic_timer.specs.Parts.{IsApicTimer, lvt_valid, divide_valid, initial_valid, current_valid, phase_valid, deadline_valid}
 pub use Rattle.board_types.specs.declared.setup.TheConstants.{HV_FORMAT, LAST_FORMAT, SLEW_MAX_NS, MESSAGE_FORMAT}
 pub use Rattle.board_core.specs.Conditions.{AreApics, IsBoard, IsProcessor, flags_valid as page_flags_valid, IsHv, IsWall, AreProcessors, AreRises}
-pub use Rattle.byte_table.specs.Codes.{pairs, number, byte_at, Two, byte, flag_valid, flag_at}
-pub use Rattle.byte_table.specs.Fold.{moved, read_below, size_of, or_else, fault_in, write, write_below, Field, fault_below, read}
+pub use Rattle.byte_table.specs.Codes.{number, byte_at, byte, flag_valid, flag_at}
+pub use Rattle.std.specs.Option.{option_or}
+pub use Rattle.std.specs.List.{zip}
+pub use Rattle.byte_table.specs.Fold.{moved, read_below, size_of, fault_in, write, write_below, Field, fault_below, read}
 pub use Rattle.byte_table.proofs.CodeLaws.{number-written, byte-written, signed_byte-written, IsWritten, flag-written, flags-written, both-written, rows-written}
 pub use Rattle.byte_table.proofs.CodeLaws.{choice-written, number_at-is, length-number, row_spelled-each, IsCode, choice-code, word-written, all-written}
-pub use Rattle.byte_table.proofs.FoldLaws.{◌⨾◌, AllHere, all_here-append, AreBytes, rewritten, or_else-none, or_else-both}
-pub use Rattle.byte_table.proofs.FoldLaws.{or_else-end, fault-next, fault-joined, next, AllKeep, length-write, read-write, fault-write}
+pub use Rattle.byte_table.proofs.FoldLaws.{◌⨾◌, AllHere, all_here-append, AreBytes, rewritten, option_or-none, option_or-both}
+pub use Rattle.byte_table.proofs.FoldLaws.{option_or-end, fault-next, fault-joined, next, AllKeep, length-write, read-write, fault-write}
 pub use Rattle.byte_table.proofs.FoldLaws.{rewrite_in-keep, AllSpelled, next-write, here-joined, written-then, write_append}
 pub use Rattle.byte_table.proofs.KindLaws.{plain-here, blocks-here, blocks-none, elsewhere-here, AreBlocks, blocks-spelled, spells}
 pub use Rattle.byte_table.proofs.Loops.{faults-some, drop-blank, read_below-at, read_below-after, length-read_below, row_value-after, length-row_value}

@@ -3,8 +3,8 @@
 use Rattle.save_state.proofs.Names.{BoardFits, references_of, messages_of, fields_of, format_in, cpus_in, blank, fields_in, board_in, trailing, fault_of}
 use Rattle.save_state.proofs.Names.{bytes_of, pairs-halves, Trailing, Fields, apic, no_apic, message, no_message, magic, policy_place, head, line, fault-write}
 use Rattle.save_state.proofs.Names.{rewritten, rewrite_in-keep, number_at-is, length-number, read_below-at, firsts-pairs, seconds-pairs, moved, fault_in, plain}
-use Rattle.save_state.proofs.Names.{elsewhere, ◌⨾◌, AreBytes, next, AllKeep, or_else-none, or_else-both, length-write, read-write, no_line, line_at, apics_of}
-use Rattle.save_state.proofs.Names.{IsBoard, devices_in, byte_at, number_bytes, Two, pairs, size_of, write, write_below, read, arith, le-ltb, append-nil}
+use Rattle.save_state.proofs.Names.{elsewhere, ◌⨾◌, AreBytes, next, AllKeep, option_or-none, option_or-both, length-write, read-write, no_line, line_at, apics_of}
+use Rattle.save_state.proofs.Names.{IsBoard, devices_in, byte_at, number_bytes, zip, size_of, write, write_below, read, arith, le-ltb, append-nil}
 use Rattle.save_state.proofs.Names.{take_all, Policy, TickParts, policy_byte, policy_of, BoardParts, timers_of, ◌≡◌, ℕ, ◌+◌, ◌^◌, ◌<◌, ◌≤◌, Bool, cond, List}
 use Rattle.save_state.proofs.Names.{[], ◌∷◌, ◌++◌, length, map, drop, Some, None, refl, ap, sym, ◌∙◌, layout, timers_least, processors_few, references_few}
 use Rattle.save_state.proofs.Names.{lines_start, apics_start, reference_place, messages_start, line-size, processor, Message, read_below-after, row_value-after}
@@ -70,7 +70,7 @@ fault_of-bytes_of b is fits =
     let here = fields-here b bytes is fits [] (whole b) in
     let size : length bytes ≡ size_of (fields_in bytes) =
     length-write fs b b bytes here ∙ ap (λ (gs : Fields BoardParts). size_of gs) (sym (fields-are b is)) in
-    or_else-none (fault_in (fields_in bytes) (board_in bytes) (board_in bytes) 0 bytes) (trailing (size_of (fields_in bytes)) bytes)
+    option_or-none (fault_in (fields_in bytes) (board_in bytes) (board_in bytes) 0 bytes) (trailing (size_of (fields_in bytes)) bytes)
     ((λ i. fault_in (fields-are b is i) (board_in-bytes_of b is fits i) (board_in-bytes_of b is fits i) 0 bytes)
     ∙ fault-write fs b b bytes here 0 [] (omega arith) (whole b))
     ∙ trailing-none (size_of (fields_in bytes)) bytes (omega (arith, size))
@@ -86,9 +86,9 @@ line-policy bytes k less =
     ∙ ap (λ (m : ℕ). policy_of (byte_at (policy_place m) bytes)) at
 
 -- blocks of pairs are written as they were read
-pairs-kept : {A C : Type 0} (fields : ℕ → Fields (Two A C)) (blank : Two A C) (n : ℕ) (ts : List (Two A C))
-    → write_below fields blank (pairs (map (λ (t : Two A C). t.first) ts) (map (λ (t : Two A C). t.second) ts)) 0 n ≡ write_below fields blank ts 0 n
-pairs-kept {A = A} {C = C} fields blank n ts = ap (λ (us : List (Two A C)). write_below fields blank us 0 n) (pairs-halves ts)
+pairs-kept : {A C : Type 0} (fields : ℕ → Fields (A × C)) (blank : A × C) (n : ℕ) (ts : List (A × C))
+    → write_below fields blank (zip (map (λ (t : A × C). t.0) ts) (map (λ (t : A × C). t.1) ts)) 0 n ≡ write_below fields blank ts 0 n
+pairs-kept {A = A} {C = C} fields blank n ts = ap (λ (us : List (A × C)). write_below fields blank us 0 n) (pairs-halves ts)
 
 -- each field of what is read is written as it would be
 board-keeps : (bytes : List ℕ) → AllKeep (fields_in bytes) (board_in bytes) 0 bytes
@@ -120,7 +120,7 @@ unfolding fault_of bytes_of
 bytes_of-board_in bytes small none =
     let fs : Fields BoardParts = fields_in bytes in
     let b : BoardParts = board_in bytes in
-    let parts = or_else-both (fault_in fs b b 0 bytes) (trailing (size_of fs) bytes) none in
+    let parts = option_or-both (fault_in fs b b 0 bytes) (trailing (size_of fs) bytes) none in
     let all = rewritten fs (fields-spelled (format_in bytes) (cpus_in bytes)) b b 0 bytes small (omega arith) parts.0 in
     same-fields bytes ∙ rewrite_in-keep fs b 0 bytes (board-keeps bytes) ∙ all.1 ∙ take_all (size_of fs) bytes (not_trailing (size_of fs) bytes parts.1)
 
@@ -145,13 +145,13 @@ pub record IsRead (b : BoardParts) : Type 0 where
   pub pages : (k : ℕ) → k < b.cpus → IsPage (processor_at b k)
 
 none-read : (n place : ℕ) (bytes : List ℕ) → n ≤ 8 → (k : ℕ) → n ≤ k
-    → (get_or (map (λ (m : Message). m.first) (messages_read n place bytes)) k false ≡ false)
-    × (get_or (map (λ (m : Message). m.second) (messages_read n place bytes)) k 0 ≡ 0)
+    → (get_or (map (λ (m : Message). m.0) (messages_read n place bytes)) k false ≡ false)
+    × (get_or (map (λ (m : Message). m.1) (messages_read n place bytes)) k 0 ≡ 0)
 none-read n place bytes few k le =
     let all : List Message = messages_read n place bytes in
     let none : get_or all k no_message ≡ no_message = read_below-after message no_message 0 n place bytes (8 - n) k le in (
-      get_or-map (λ (m : Message). m.first) all k no_message ∙ ap (λ (m : Message). m.first) none,
-      get_or-map (λ (m : Message). m.second) all k no_message ∙ ap (λ (m : Message). m.second) none,
+      get_or-map (λ (m : Message). m.0) all k no_message ∙ ap (λ (m : Message). m.0) none,
+      get_or-map (λ (m : Message). m.1) all k no_message ∙ ap (λ (m : Message). m.1) none,
     )
 
 hpet-policy : (bytes : List ℕ) (k : ℕ) → 2 ≤ k → policy_of (byte_at (policy_place k) bytes) ≡ policy_of (byte_at 78 bytes)

@@ -11,8 +11,8 @@ use Rattle.save_state.proofs.Names.{cond-true, CounterParts, IsCounter, IsPit, I
 use Rattle.save_state.proofs.Names.{arith, and_parts, or_cases, leb-true, ltb-true, ltb-false, lt-ltb, le-ltb, cases_lt, ◌≡◌, ℕ, suc, ◌+◌, ◌<◌, ◌≤◌, Bool, true}
 use Rattle.save_state.proofs.Names.{false, ◌&&◌, ◌||◌, leb, ltb, [], ◌∷◌, length, get_or, ◌⊎◌, IsHead, lists, timers_least, references-one, all-six, levels-at}
 use Rattle.save_state.proofs.Names.{end_place, devices_fault, rest_fault, line_place, rises_place, wall_place, processor_place, apic_place, reference_place}
-use Rattle.save_state.proofs.Names.{message_place, fields_of, format_in, cpus_in, board_in, trailing, fault_of, or_else-both, or_else-end}
-use Rattle.save_state.proofs.Names.{fault-next, fault-joined, StateFault, Fields, size_of, or_else, fault_in, AreBytes, or_else-none, ◌++◌}
+use Rattle.save_state.proofs.Names.{message_place, fields_of, format_in, cpus_in, board_in, trailing, fault_of, option_or-both, option_or-end}
+use Rattle.save_state.proofs.Names.{fault-next, fault-joined, StateFault, Fields, size_of, option_or, fault_in, AreBytes, option_or-none, ◌++◌}
 use Rattle.save_state.proofs.Names.{blocks-none, flag_valid, khz_valid, host_valid, IsKhz, processors_of, MOST_ACCESSES, SLEW_MAX_NS}
 use Rattle.board_core.specs.Time.{HasTime}
 use Rattle.save_state.proofs.BlockRows.{rows-valid, head-rows, counter-rows, clock-rows, timer-rows, registers-rows, line-rows, wall-rows, rises-rows, message-rows}
@@ -206,10 +206,10 @@ module _ (b : BoardParts) (is : IsRead b) (head : IsHead b) (bytes : List ℕ) (
       × (fault_in (lines (timers_of b.format)) b b (line_place b.format 0) bytes ≡ None)
   unfolding devices_fault
   each =
-      let pit = or_else-both (fault_in counters b b 79 bytes) _ none in
-      let rtc = or_else-both (fault_in clock b b 121 bytes) _ pit.1 in
-      let hpet = or_else-both (fault_in registers b b 254 bytes) _ rtc.1 in
-      let last = or_else-both (fault_in (timers (timers_of b.format)) b b 264 bytes) _ hpet.1 in (pit.0, rtc.0, hpet.0, last.0, last.1)
+      let pit = option_or-both (fault_in counters b b 79 bytes) _ none in
+      let rtc = option_or-both (fault_in clock b b 121 bytes) _ pit.1 in
+      let hpet = option_or-both (fault_in registers b b 254 bytes) _ rtc.1 in
+      let last = option_or-both (fault_in (timers (timers_of b.format)) b b 264 bytes) _ hpet.1 in (pit.0, rtc.0, hpet.0, last.0, last.1)
 
   pub lines-none : fault_in (lines (timers_of b.format)) b b (line_place b.format 0) bytes ≡ None
   lines-none = each.4
@@ -297,12 +297,12 @@ unfolding rest_fault
 board-valid b is head bytes none none' =
     let f : ℕ = b.format in
     let c : ℕ = b.cpus in
-    let counts = or_else-both (fault_in (rises (counts_of f)) b b (rises_place f) bytes) _ none' in
-    let clock = or_else-both (fault_in wall b b (wall_place f) bytes) _ counts.1 in
-    let cpus = or_else-both (fault_in (processors c) b b (processor_place f 0) bytes) _ clock.1 in
-    let timers = or_else-both (fault_in (apics (apics_of f c)) b b (apic_place f c 0) bytes) _ cpus.1 in
-    let page = or_else-both (fault_in (references (references_of f)) b b (reference_place f c) bytes) _ timers.1 in
-    let last = or_else-both (fault_in (messages (messages_of f)) b b (message_place f c 0) bytes) _ page.1 in
+    let counts = option_or-both (fault_in (rises (counts_of f)) b b (rises_place f) bytes) _ none' in
+    let clock = option_or-both (fault_in wall b b (wall_place f) bytes) _ counts.1 in
+    let cpus = option_or-both (fault_in (processors c) b b (processor_place f 0) bytes) _ clock.1 in
+    let timers = option_or-both (fault_in (apics (apics_of f c)) b b (apic_place f c 0) bytes) _ cpus.1 in
+    let page = option_or-both (fault_in (references (references_of f)) b b (reference_place f c) bytes) _ timers.1 in
+    let last = option_or-both (fault_in (messages (messages_of f)) b b (message_place f c 0) bytes) _ page.1 in
     record {
       devices = devices-valid b is head bytes none;
       joined = record {
@@ -339,9 +339,9 @@ unfolding devices_fault layout
 devices-are b bytes =
     let n : ℕ = timers_of b.format in
     let lines_at : 264 + size_of (timers n) ≡ line_place b.format 0 = omega arith in
-    sym (or_else-end (fault_in (devices b.format) b b 79 bytes)) ∙ fault-joined (counters ∷ clock ∷ registers ∷ timers n ∷ lines n ∷ []) b b 79 bytes None
-    ∙ (λ i. or_else (fault_in counters b b 79 bytes) (or_else (fault_in clock b b 121 bytes) (or_else (fault_in registers b b 254 bytes)
-    (or_else (fault_in (timers n) b b 264 bytes) (or_else-end (fault_in (lines n) b b (lines_at i) bytes) i)))))
+    sym (option_or-end (fault_in (devices b.format) b b 79 bytes)) ∙ fault-joined (counters ∷ clock ∷ registers ∷ timers n ∷ lines n ∷ []) b b 79 bytes None
+    ∙ (λ i. option_or (fault_in counters b b 79 bytes) (option_or (fault_in clock b b 121 bytes) (option_or (fault_in registers b b 254 bytes)
+    (option_or (fault_in (timers n) b b 264 bytes) (option_or-end (fault_in (lines n) b b (lines_at i) bytes) i)))))
 
 places : (f c : ℕ) → let p : ℕ = rises_place f in (p + size_of (rises (counts_of f)) ≡ wall_place f)
     × (p + size_of (rises (counts_of f)) + size_of wall ≡ processor_place f 0)
@@ -353,7 +353,7 @@ unfolding layout
 places f c = (omega arith, omega arith, omega arith, omega arith, omega arith)
 
 pub rest-is : (b : BoardParts) (bytes : List ℕ)
-    → or_else (fault_in (back b.format b.cpus) b b (rises_place b.format) bytes) (trailing (end_place b.format b.cpus) bytes) ≡ rest_fault b bytes
+    → option_or (fault_in (back b.format b.cpus) b b (rises_place b.format) bytes) (trailing (end_place b.format b.cpus) bytes) ≡ rest_fault b bytes
 unfolding rest_fault lists
 rest-is b bytes =
     let f : ℕ = b.format in
@@ -365,9 +365,9 @@ rest-is b bytes =
     let last : Option StateFault = trailing (end_place f c) bytes in
     let at = places f c in
     fault-joined (counts ∷ wall ∷ processors c ∷ apics n ∷ pages ∷ messages (messages_of f) ∷ []) b b p bytes last
-    ∙ (λ i. or_else (fault_in counts b b p bytes) (or_else (fault_in wall b b (at.0 i) bytes) (or_else (fault_in (processors c) b b (at.1 i) bytes)
-    (or_else (fault_in (apics n) b b (at.2 i) bytes)
-    (or_else (fault_in pages b b (at.3 i) bytes) (or_else (fault_in (messages (messages_of f)) b b (at.4 i) bytes) last))))))
+    ∙ (λ i. option_or (fault_in counts b b p bytes) (option_or (fault_in wall b b (at.0 i) bytes) (option_or (fault_in (processors c) b b (at.1 i) bytes)
+    (option_or (fault_in (apics n) b b (at.2 i) bytes)
+    (option_or (fault_in pages b b (at.3 i) bytes) (option_or (fault_in (messages (messages_of f)) b b (at.4 i) bytes) last))))))
 
 -- the format and the number of processors of the board
 pub board-format : (bytes : List ℕ) → ((board_in bytes).format ≡ format_in bytes) × ((board_in bytes).cpus ≡ cpus_in bytes)
@@ -375,14 +375,14 @@ unfolding layout
 board-format bytes = (refl, refl)
 
 pub three-parts : (bytes : List ℕ) → let b : BoardParts = board_in bytes in fault_of bytes
-    ≡ or_else (fault_in front b b 0 bytes) (or_else (devices_fault b bytes) (rest_fault b bytes))
+    ≡ option_or (fault_in front b b 0 bytes) (option_or (devices_fault b bytes) (rest_fault b bytes))
 unfolding fault_of layout
 three-parts bytes =
     let b : BoardParts = board_in bytes in
-    (λ i. or_else (fault_in (fields_of b.format b.cpus) b b 0 bytes) (trailing (fields-end b.format b.cpus i) bytes))
+    (λ i. option_or (fault_in (fields_of b.format b.cpus) b b 0 bytes) (trailing (fields-end b.format b.cpus i) bytes))
     ∙ fault-next (front ++ devices b.format) (back b.format b.cpus) b b 0 _ bytes _ (devices-end b.format)
     ∙ fault-next front (devices b.format) b b 0 79 bytes _ (omega (arith, sizes.0))
-    ∙ (λ i. or_else (fault_in front b b 0 bytes) (or_else (devices-are b bytes i) (rest-is b bytes i)))
+    ∙ (λ i. option_or (fault_in front b b 0 bytes) (option_or (devices-are b bytes i) (rest-is b bytes i)))
 
 -- a board that was read, with no fault before the 8254
 pub record IsRight (bytes : List ℕ) (b : BoardParts) : Type 0 where
@@ -403,10 +403,10 @@ pub cpus-few : (bytes : List ℕ) → AreBytes bytes → None ≡ fault_in front
 cpus-few bytes small none =
     let head = right-head bytes (board_in bytes) (record { small = small; none = sym none; read = refl }) in omega (arith, head.few, (board-format bytes).1)
 
-pub or_else-some : (fault : StateFault) (later : Option StateFault) → or_else (Some fault) later ≡ Some fault
-or_else-some fault later = refl
+pub option_or-some : (fault : StateFault) (later : Option StateFault) → option_or (Some fault) later ≡ Some fault
+option_or-some fault later = refl
 
-pub ruleset decoded = (format-few, cpus-few, three-parts, or_else-some, or_else-none, bytes_of-board_in)
+pub ruleset decoded = (format-few, cpus-few, three-parts, option_or-some, option_or-none, bytes_of-board_in)
 
 pub right-devices : (bytes : List ℕ) (b : BoardParts) → IsRight bytes b → devices_fault b bytes ≡ None → AreDevices (devices_in b)
 right-devices bytes b is none =

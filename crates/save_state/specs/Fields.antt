@@ -4,6 +4,7 @@
 use Rattle.std.specs.Prelude.{ℕ, ◌+◌, ◌*◌, ◌%◌, ◌==◌, nat_lt, nat_le, Bool, true, false, ◌&&◌, ◌||◌}
 use Rattle.std.specs.Prelude.{not, if◌then◌else◌, List, [], ◌∷◌, ◌++◌, slice_index_or, map}
 use Rattle.std.specs.Int.{w8, cast_unsigned}
+use Rattle.std.specs.List.{zip}
 use mathlib.Core.Bool.{beq}
 use Rattle.clk_units.specs.Bits.{bit}
 use Rattle.clk_units.specs.declared.ranges.TheConstants.{RANGE_NS, KHZ_MIN, KHZ_MAX}
@@ -40,7 +41,7 @@ use Rattle.board_core.specs.Tsc.{no_processor}
 use Rattle.board_core.specs.Hv.{no_hv}
 use Rattle.board_core.specs.Conditions.{flags_valid as page_flags_valid}
 use Rattle.byte_table.specs.Codes.{Code, number, byte, signed_byte, one_byte, word, flag}
-use Rattle.byte_table.specs.Codes.{flags, both, Two, pairs, rows}
+use Rattle.byte_table.specs.Codes.{flags, both, rows}
 use Rattle.byte_table.specs.Fold.{Field}
 use Rattle.byte_table.specs.Kinds.{plain, blocks, elsewhere}
 use Rattle.save_state.specs.Rises.{legacy_rises_valid, routed_rises_valid}
@@ -152,15 +153,13 @@ counter k =
     ∷ field flags flags_from with_flags (λ b c. flags_valid c && (c.gate || nat_le 2 k))
     ∷ field (number 2) (λ c. c.cr) (λ x c. record c { cr = x }) (λ b c. cr_valid c)
     ∷ field (number 2) (λ c. c.ce) (λ x c. record c { ce = x }) (λ b c. ce_valid c)
-    ∷ field (both flag byte) (λ c. record { first = c.part_there; second = c.part })
-    (λ x c. record c { part_there = x.first; part = x.second }) (λ b c. part_valid c)
+    ∷ field (both flag byte) (λ c. (c.part_there, c.part))
+    (λ x c. record c { part_there = x.0; part = x.1 }) (λ b c. part_valid c)
     ∷ field flag (λ c. c.high_next) (λ x c. record c { high_next = x }) (λ b c. read_order_valid c)
-    ∷ field (both flag (number 2))
-    (λ c. record { first = c.count_latched; second = c.latched_count })
-    (λ x c. record c { count_latched = x.first; latched_count = x.second })
-    (λ b c. latched_count_valid c)
-    ∷ field (both flag byte) (λ c. record { first = c.status_latched; second = c.latched_status })
-    (λ x c. record c { status_latched = x.first; latched_status = x.second })
+    ∷ field (both flag (number 2)) (λ c. (c.count_latched, c.latched_count))
+    (λ x c. record c { count_latched = x.0; latched_count = x.1 }) (λ b c. latched_count_valid c)
+    ∷ field (both flag byte) (λ c. (c.status_latched, c.latched_status))
+    (λ x c. record c { status_latched = x.0; latched_status = x.1 })
     (λ b c. latched_status_valid c) ∷ []
 
 -- what the place of a counter that isn't there holds
@@ -307,28 +306,25 @@ processors cpus =
 
 -- a local APIC's timer with its tick line
 abbrev pub Apic : Type 0
-Apic = Two ApicParts TickParts
+Apic = ApicParts × TickParts
 
 -- the timer: LVT, divide configuration, initial and current count, phase, deadline
 unfoldable pub apic_timer : Fields Apic
 apic_timer =
-    field (number 4) (λ a. a.first.lvt) (λ x a. record a { first = record a.first { lvt = x } })
-    (λ b a. lvt_valid a.first)
-    ∷ field byte (λ a. a.first.divide) (λ x a. record a { first = record a.first { divide = x } })
-    (λ b a. divide_valid a.first)
-    ∷ field (number 4) (λ a. a.first.initial)
-    (λ x a. record a { first = record a.first { initial = x } }) (λ b a. initial_valid a.first)
-    ∷ field (number 4) (λ a. a.first.current)
-    (λ x a. record a { first = record a.first { current = x } }) (λ b a. current_valid a.first)
-    ∷ field byte (λ a. a.first.phase) (λ x a. record a { first = record a.first { phase = x } })
-    (λ b a. phase_valid a.first)
-    ∷ field (number 8) (λ a. a.first.deadline)
-    (λ x a. record a { first = record a.first { deadline = x } }) (λ b a. deadline_valid a.first)
-    ∷ []
+    field (number 4) (λ a. a.0.lvt) (λ x a. (record a.0 { lvt = x }, a.1)) (λ b a. lvt_valid a.0)
+    ∷ field byte (λ a. a.0.divide) (λ x a. (record a.0 { divide = x }, a.1))
+    (λ b a. divide_valid a.0)
+    ∷ field (number 4) (λ a. a.0.initial) (λ x a. (record a.0 { initial = x }, a.1))
+    (λ b a. initial_valid a.0)
+    ∷ field (number 4) (λ a. a.0.current) (λ x a. (record a.0 { current = x }, a.1))
+    (λ b a. current_valid a.0)
+    ∷ field byte (λ a. a.0.phase) (λ x a. (record a.0 { phase = x }, a.1)) (λ b a. phase_valid a.0)
+    ∷ field (number 8) (λ a. a.0.deadline) (λ x a. (record a.0 { deadline = x }, a.1))
+    (λ b a. deadline_valid a.0) ∷ []
 
 -- its tick line, whose policy is Discard on each board
 unfoldable pub apic_line : Fields Apic
-apic_line = ticks_of (λ a. a.second) (λ x a. record a { second = x }) any
+apic_line = ticks_of (λ a. a.1) (λ x a. (a.0, x)) any
 
 -- the timer of processor k, with its tick line
 abbrev pub apic : ℕ → Fields Apic
@@ -336,19 +332,17 @@ apic k = apic_timer ++ apic_line
 
 -- what the place of a processor that isn't there holds
 abbrev pub no_apic : Apic
-no_apic = record { first = no_timer; second = no_line }
+no_apic = (no_timer, no_line)
 
 -- the timers of a board, each with its tick line
 abbrev pub apic_pairs : BoardParts → List Apic
-apic_pairs b = pairs b.apic b.apic_ticks
-
--- a board with other timers and tick lines
-abbrev pub with_apic_pairs : List Apic → BoardParts → BoardParts
-with_apic_pairs x b = record b { apic = map (λ a. a.first) x; apic_ticks = map (λ a. a.second) x }
+apic_pairs b = zip b.apic b.apic_ticks
 
 -- the timers of n processors
 unfoldable pub apics : ℕ → Fields BoardParts
-apics n = blocks n 64 apic no_apic apic_pairs with_apic_pairs ∷ []
+apics n =
+    blocks n 64 apic no_apic apic_pairs
+    (λ x b. record b { apic = map (λ a. a.0) x; apic_ticks = map (λ a. a.1) x }) ∷ []
 
 -- the scale of a reference page: that of the guest's rate where bit 0 of the number enables it
 abbrev pub scale_for : ℕ → ℕ → ℕ
@@ -382,15 +376,15 @@ references n =
 
 -- the messages of a timer of the HPET: whether it sends them, and its message register
 abbrev pub Message : Type 0
-Message = Two Bool ℕ
+Message = Bool × ℕ
 
 -- those of timer k. With the last timer the levels of lines 20 to 23 are known, so their counts of
 -- rises have their condition there
 unfoldable pub message : ℕ → Fields Message
 message k =
-    field flag (λ m. m.first) (λ x m. record m { first = x })
+    field flag (λ m. m.0) (λ x m. (x, m.1))
     (λ b m. not (k == 7) || routed_rises_valid b)
-    ∷ field (number 8) (λ m. m.second) (λ x m. record m { second = x }) any ∷ []
+    ∷ field (number 8) (λ m. m.1) (λ x m. (m.0, x)) any ∷ []
 
 -- how many timers of a format send messages
 abbrev pub messages_of : ℕ → ℕ
@@ -398,21 +392,18 @@ messages_of format = if has_messages format then 8 else 0
 
 -- what the place of a timer that sends none holds
 abbrev pub no_message : Message
-no_message = record { first = false; second = 0 }
+no_message = (false, 0)
 
 -- the messages of a board's timers
 abbrev pub message_pairs : BoardParts → List Message
-message_pairs b = pairs b.hpet.message_bit b.hpet.message_word
-
--- a board with other messages
-abbrev pub with_message_pairs : List Message → BoardParts → BoardParts
-with_message_pairs x b = record b {
-  hpet = record b.hpet { message_bit = map (λ m. m.first) x; message_word = map (λ m. m.second) x };
-}
+message_pairs b = zip b.hpet.message_bit b.hpet.message_word
 
 -- the messages of n timers
 unfoldable pub messages : ℕ → Fields BoardParts
-messages n = blocks n 8 message no_message message_pairs with_message_pairs ∷ []
+messages n =
+    blocks n 8 message no_message message_pairs (λ x b. record b {
+      hpet = record b.hpet { message_bit = map (λ m. m.0) x; message_word = map (λ m. m.1) x };
+    }) ∷ []
 
 -- all before the 8254
 abbrev pub front : Fields BoardParts

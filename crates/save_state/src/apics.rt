@@ -63,7 +63,7 @@ pub(crate) fn put_apics(out: &mut Vec<u8>, b: &BoardState) -> Result<(), NoMemor
 /// Appends timer `k` with its tick line, whichever it is.
 fn put_apic(out: &mut Vec<u8>, timer: &ApicParts, line: &TickParts) -> Result<(), NoMemory>
     ensures bytes { (k : ℕ) → OnOk result (out.new.items ≡ out.old.items
-        ++ write (apic k) (record { first = timer.now; second = line.now })) }
+        ++ write (apic k) (timer.now, line.now)) }
     ensures timer { OnOk result (ApicTimerFits timer.now) }
     ensures line { OnOk result (LineFits line.now) }
 {
@@ -75,7 +75,7 @@ fn put_apic(out: &mut Vec<u8>, timer: &ApicParts, line: &TickParts) -> Result<()
 #[tactic(auto, unfolding(crate::specs::Fields::apic_timer, byte_table::specs::Kinds::plain))]
 fn put_timer(out: &mut Vec<u8>, t: &ApicParts) -> Result<(), NoMemory>
     ensures bytes { (l : TickParts) → OnOk result (out.new.items ≡ out.old.items
-        ++ write apic_timer (record { first = t.now; second = l })) }
+        ++ write apic_timer (t.now, l)) }
     ensures fits { OnOk result (ApicTimerFits t.now) }
 {
     put_4(out, t.lvt)?;
@@ -89,7 +89,7 @@ fn put_timer(out: &mut Vec<u8>, t: &ApicParts) -> Result<(), NoMemory>
 /// The timers.
 pub(crate) fn apic_timers_in(bytes: &[u8], format: u8, cpus: u8) -> [ApicParts; 64]
     requires { cpus ≤ 64 }
-    ensures { result ≡ map (λ a. a.first)
+    ensures { result ≡ map (λ a. a.0)
         (read_below apic no_apic 0 (apics_of format cpus) (apic_place format cpus 0) bytes.now
         ++ replicate (64 - apics_of format cpus) no_apic) }
 {
@@ -104,7 +104,7 @@ pub(crate) fn apic_timers_in(bytes: &[u8], format: u8, cpus: u8) -> [ApicParts; 
 #[tactic(auto, unfolding(crate::specs::Fields::apic_timer, crate::specs::Fields::apic_line, byte_table::specs::Kinds::plain))]
 fn timer_in(bytes: &[u8], place: usize) -> ApicParts
     requires { place < 8000 }
-    ensures { (k : ℕ) → result ≡ (read (apic k) place bytes.now no_apic).first }
+    ensures { (k : ℕ) → result ≡ (read (apic k) place bytes.now no_apic).0 }
 {
     ApicParts {
         lvt: four_at(bytes, place),
@@ -119,7 +119,7 @@ fn timer_in(bytes: &[u8], place: usize) -> ApicParts
 /// Their tick lines.
 pub(crate) fn apic_lines_in(bytes: &[u8], format: u8, cpus: u8) -> [TickParts; 64]
     requires { cpus ≤ 64 }
-    ensures { result ≡ map (λ a. a.second)
+    ensures { result ≡ map (λ a. a.1)
         (read_below apic no_apic 0 (apics_of format cpus) (apic_place format cpus 0) bytes.now
         ++ replicate (64 - apics_of format cpus) no_apic) }
 {
@@ -134,7 +134,7 @@ pub(crate) fn apic_lines_in(bytes: &[u8], format: u8, cpus: u8) -> [TickParts; 6
 #[tactic(auto, unfolding(crate::specs::Fields::apic_timer, crate::specs::Fields::apic_line, byte_table::specs::Kinds::plain))]
 fn line_in(bytes: &[u8], place: usize) -> TickParts
     requires { place < 7800 }
-    ensures { (k : ℕ) → result ≡ (read (apic k) place bytes.now no_apic).second }
+    ensures { (k : ℕ) → result ≡ (read (apic k) place bytes.now no_apic).1 }
 {
     ticks_in(bytes, Policy::Discard, place + 22)
 }

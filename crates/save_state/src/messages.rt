@@ -41,7 +41,7 @@ pub(crate) fn put_messages(out: &mut Vec<u8>, format: u8, d: &DeviceParts) -> Re
 #[tactic(auto, unfolding(crate::specs::Fields::message, byte_table::specs::Kinds::plain))]
 fn put_message(out: &mut Vec<u8>, sends: bool, register: u64) -> Result<(), NoMemory>
     ensures { (k : ℕ) → OnOk result (out.new.items ≡ out.old.items
-        ++ write (message k) (record { first = sends; second = register })) }
+        ++ write (message k) (sends, register)) }
 {
     put(out, &[flag_byte(sends)])?;
     put_8(out, register)
@@ -50,7 +50,7 @@ fn put_message(out: &mut Vec<u8>, sends: bool, register: u64) -> Result<(), NoMe
 /// Which timers send messages.
 pub(crate) fn message_bits_in(bytes: &[u8], format: u8, cpus: u8) -> [bool; 8]
     requires { cpus ≤ 64 }
-    ensures { result ≡ map (λ m. m.first)
+    ensures { result ≡ map (λ m. m.0)
         (read_below message no_message 0 (messages_of format) (message_place format cpus 0) bytes.now
         ++ replicate (8 - messages_of format) no_message) }
 {
@@ -64,7 +64,7 @@ pub(crate) fn message_bits_in(bytes: &[u8], format: u8, cpus: u8) -> [bool; 8]
 /// Their message registers.
 pub(crate) fn message_words_in(bytes: &[u8], format: u8, cpus: u8) -> [u64; 8]
     requires { cpus ≤ 64 }
-    ensures { result ≡ map (λ m. m.second)
+    ensures { result ≡ map (λ m. m.1)
         (read_below message no_message 0 (messages_of format) (message_place format cpus 0) bytes.now
         ++ replicate (8 - messages_of format) no_message) }
 {

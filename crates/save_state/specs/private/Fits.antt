@@ -84,8 +84,8 @@ pub record ApicTimerFits (p : ApicParts) : Type 0 where
 
 -- .. with its tick line
 pub record ApicFits (a : Apic) : Type 0 where
-  pub timer : ApicTimerFits a.first
-  pub line : LineFits a.second
+  pub timer : ApicTimerFits a.0
+  pub line : LineFits a.1
 
 -- those that are written
 abbrev pub ApicsFit : BoardParts → Type 0

@@ -8,7 +8,8 @@ use Rattle.board_types.specs.declared.parts.TheConstants.{MOST_ACCESSES}
 use Rattle.board_types.specs.declared.setup.TheConstants.{LAST_FORMAT, SLEW_MAX_NS}
 use Rattle.board_core.specs.Apics.{apics_of}
 use Rattle.board_core.specs.Time.{HasTime}
-use Rattle.byte_table.specs.Fold.{or_else, fault_in}
+use Rattle.std.specs.Option.{option_or}
+use Rattle.byte_table.specs.Fold.{fault_in}
 use Rattle.save_state.specs.declared.fault.StateFault.{StateFault}
 use Rattle.save_state.specs.Fields.{
   counters,
@@ -46,22 +47,22 @@ pub record IsHead (b : BoardParts) : Type 0 where
 -- the first fault of the devices and of their tick lines
 unfoldable pub devices_fault : BoardParts → List ℕ → Option StateFault
 devices_fault b bytes =
-    or_else (fault_in counters b b 79 bytes)
-    (or_else (fault_in clock b b 121 bytes)
-    (or_else (fault_in registers b b 254 bytes)
-    (or_else (fault_in (timers (timers_of b.format)) b b 264 bytes)
+    option_or (fault_in counters b b 79 bytes)
+    (option_or (fault_in clock b b 121 bytes)
+    (option_or (fault_in registers b b 254 bytes)
+    (option_or (fault_in (timers (timers_of b.format)) b b 264 bytes)
     (fault_in (lines (timers_of b.format)) b b (line_place b.format 0) bytes))))
 
 -- the first fault of what follows them
 unfoldable pub rest_fault : BoardParts → List ℕ → Option StateFault
 rest_fault b bytes =
-    or_else (fault_in (rises (counts_of b.format)) b b (rises_place b.format) bytes)
-    (or_else (fault_in wall b b (wall_place b.format) bytes)
-    (or_else (fault_in (processors b.cpus) b b (processor_place b.format 0) bytes)
-    (or_else
+    option_or (fault_in (rises (counts_of b.format)) b b (rises_place b.format) bytes)
+    (option_or (fault_in wall b b (wall_place b.format) bytes)
+    (option_or (fault_in (processors b.cpus) b b (processor_place b.format 0) bytes)
+    (option_or
     (fault_in (apics (apics_of b.format b.cpus)) b b (apic_place b.format b.cpus 0) bytes)
-    (or_else
+    (option_or
     (fault_in (references (references_of b.format)) b b (reference_place b.format b.cpus) bytes)
-    (or_else
+    (option_or
     (fault_in (messages (messages_of b.format)) b b (message_place b.format b.cpus 0) bytes)
     (trailing (end_place b.format b.cpus) bytes))))))

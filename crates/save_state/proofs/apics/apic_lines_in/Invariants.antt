@@ -4,4 +4,4 @@ use Rattle.save_state.proofs.apics.apic_lines_in.Given as goal
 
 abbrev pub invariant-loop-k : goal.invariant-loop-k
 invariant-loop-k l =
-    IsFilled (λ (j : ℕ). (read (apic j) (apic_place l.format l.cpus 0 + 55 * j) l.bytes no_apic).second) no_line l.all l.k 64
+    IsFilled (λ (j : ℕ). (read (apic j) (apic_place l.format l.cpus 0 + 55 * j) l.bytes no_apic).1) no_line l.all l.k 64

@@ -8,10 +8,10 @@ loop-k-init c = filled-none _ no_timer 64
 pub loop-k-preserved : goal.loop-k-preserved
 loop-k-preserved c =
     filled-more _ _ _ _ _ _ c.loop-k.invariant (omega (arith, c.loop-k-test.true, c.loop-k.auto.k-end, c.apics_of-k-end.ensures.few, c.requires))
-    (c.timer_in.ensures c.loop-k.k ∙ ap (λ (p : ℕ). (read (apic c.loop-k.k) p c.args.bytes.now no_apic).first) (c.apic_place.ensures.value ∙ omega arith))
+    (c.timer_in.ensures c.loop-k.k ∙ ap (λ (p : ℕ). (read (apic c.loop-k.k) p c.args.bytes.now no_apic).0) (c.apic_place.ensures.value ∙ omega arith))
 
 pub returns : goal.returns
 returns c =
-    part-filled apic no_apic 55 apic-size (λ (a : Apic). a.first) _ _ _ _ _ _
+    part-filled apic no_apic 55 apic-size (λ (a : Apic). a.0) _ _ _ _ _ _
     (omega (arith, c.loop-k-test.false, c.loop-k.auto.k-end, c.apics_of-k-end.ensures.value))
     (apics_few c.args.format c.args.cpus c.requires) c.loop-k.invariant

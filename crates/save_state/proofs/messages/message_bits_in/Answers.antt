@@ -10,5 +10,5 @@ loop-k-preserved c =
 
 pub returns : goal.returns
 returns c =
-    part-filled message no_message 9 message-size (λ (m : Message). m.first) _ _ _ _ _ _
+    part-filled message no_message 9 message-size (λ (m : Message). m.0) _ _ _ _ _ _
     (omega (arith, c.loop-k-test.false, c.loop-k.auto.k-end, c.messages_of-k-end.ensures.value)) (messages_few c.args.format) c.loop-k.invariant
