@@ -1,17 +1,20 @@
 -- The laws of each kind of field.
-use Rattle.std.proofs.Common.{◌≡◌, ℕ, zero, suc, ◌+◌, ◌-◌, ◌<◌, ◌≤◌, ⊎_elim, Bool, true, false, cond, ◌&&◌, List, ◌∷◌, ◌++◌, length}
+use Rattle.std.proofs.Common.{◌≡◌, ℕ, zero, suc, ◌+◌, ◌-◌, ◌<◌, ◌≤◌, ltb, ⊎_elim, Bool, true, false, cond, ◌&&◌, List, Option, ◌∷◌, ◌++◌, length}
 use Rattle.std.proofs.Common.{[], take, drop, get_or, replicate, Some, None, refl, ap, sym, subst, ◌∙◌, arith}
 use Rattle.std.proofs.lemmas.Bool.{lt-ltb, le-ltb, and_from, and_parts, cases_lt}
 use Rattle.std.proofs.lemmas.List.{length-append, get_or-drop, drop_more, drop-drop}
 use Rattle.std.specs.Option.{option_or}
 use Rattle.byte_table.specs.Fold.{Field, size_of, write, read, rewrite_in, moved, fault_in, size_below, write_below, read_below, fault_below}
 use Rattle.byte_table.specs.Codes.{Code}
-use Rattle.byte_table.specs.Kinds.{one_fault, plain, blocks, elsewhere}
+use Rattle.byte_table.specs.Kinds.{plain, blocks, elsewhere}
 use Rattle.byte_table.proofs.FoldLaws.{AreBytes, next, split, room, take-more, IsHere, AllHere, IsSpelled, AllSpelled, option_or-none, option_or-both, length-write}
 use Rattle.byte_table.proofs.FoldLaws.{read-write, fault-write, rewritten}
 use Rattle.byte_table.proofs.CodeLaws.{IsWritten, IsCode, rows-code, number-code, word-code, byte-code, signed_byte-code, flag-code, flags-code, both-code}
 
 -- the fault of one field: short, invalid, or none
+abbrev pub one_fault : {F : Type 0} → (ℕ → F) → (ℕ → F) → ℕ → Bool → ℕ → List ℕ → Option F
+one_fault short invalid size valid place bytes = cond (ltb (length bytes) (place + size)) (Some (short (length bytes))) (cond valid None (Some (invalid place)))
+
 pub one_fault-short : {F : Type 0} (short invalid : ℕ → F) (size : ℕ) (valid : Bool) (place : ℕ) (bytes : List ℕ) → length bytes < place + size
     → one_fault short invalid size valid place bytes ≡ Some (short (length bytes))
 one_fault-short short invalid size valid place bytes less =

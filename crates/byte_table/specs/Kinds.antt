@@ -25,15 +25,9 @@ use Rattle.byte_table.specs.Fold.{
   fault_below,
 }
 
--- the fault of a field at a place, by its two faults: it isn't wholly there, a fault at the
--- input's length, or its condition fails
-abbrev pub one_fault : {F : Type 0} → (ℕ → F) → (ℕ → F) → ℕ → Bool → ℕ → List ℕ → Option F
-one_fault short invalid size valid place bytes =
-    if nat_lt (length bytes) (place + size) then Some (short (length bytes))
-    else if valid then None
-    else Some (invalid place)
-
--- a value of a code: its two faults, where it is in a P, and its condition
+-- a value of a code: its two faults, where it is in a P, and its condition. It has the one fault, at
+-- the input's length, where it isn't wholly there, and the other, at its place, where it is spelled
+-- wrong or its condition fails
 unfoldable pub plain : {F B P A : Type 0} → (ℕ → F) → (ℕ → F) → Code A → (P → A) → (A → P → P)
     → (B → P → Bool) → Field F B P
 plain short invalid c get put valid = record {
@@ -43,7 +37,9 @@ plain short invalid c get put valid = record {
   again = λ place bytes. c.bytes (c.value place bytes);
   move = λ p q. put (get p) q;
   fault = λ b p place bytes.
-      one_fault short invalid c.size (c.spelled place bytes && valid b p) place bytes;
+      if nat_lt (length bytes) (place + c.size) then Some (short (length bytes))
+      else if c.spelled place bytes && valid b p then None
+      else Some (invalid place);
 }
 
 -- the first n items of a list of `all`, item k by the fields of k; the others are blank

@@ -52,7 +52,7 @@ pub use Rattle.{board_devices.specs.Nanosecond.counts_rtc, board_devices.specs.P
 pub use Rattle.{board_devices.specs.Places.no_line, board_devices.specs.Places.line_at, board_devices.specs.Rises.one_if}
 pub use Rattle.{board_core.proofs.Joined.IsProcessor-none, board_core.proofs.Joined.IsHv-none, board_core.specs.Apics.apics_of, board_core.specs.Apics.apics_in}
 pub use Rattle.{board_core.specs.Hv.no_hv, board_core.specs.Time.now_of, board_core.specs.Time.devices_in, board_core.specs.Tsc.no_processor}
-pub use Rattle.{board_core.specs.Tsc.processor_at, byte_table.specs.Kinds.one_fault, byte_table.proofs.CodeLaws.row_bytes-byte}
+pub use Rattle.{board_core.specs.Tsc.processor_at, byte_table.proofs.KindLaws.one_fault, byte_table.proofs.CodeLaws.row_bytes-byte}
 pub use Rattle.{byte_table.proofs.Little.number-below, save_state.specs.Places.format_in, save_state.specs.Places.cpus_in, save_state.specs.Reading.blank}
 pub use Rattle.{save_state.specs.Reading.fields_in, save_state.specs.Table.trailing, save_state.specs.declared.fault.StateFault.StateFault}
 pub use Rattle.{save_state.specs.declared.table.Row.Row, save_state.specs.private.Parts.IsHead, save_state.specs.private.Rows.field}

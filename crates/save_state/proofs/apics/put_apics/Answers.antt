@@ -1,4 +1,4 @@
-use Rattle.save_state.proofs.Names.{◌≡◌, ◌++◌, subst, ap, ◌∙◌, rules, write, written-one, pairs-at, Apic, apic, ApicFits, ApicParts, TickParts, sym, get_or}
+use Rattle.save_state.proofs.Names.{◌≡◌, ◌++◌, subst, ap, ◌∙◌, rules, write, written-one, pairs-at, Apic, apic, ApicFits, sym, get_or}
 use Rattle.local_apics.specs.Places.{no_timer, no_line}
 use Rattle.save_state.proofs.apics.put_apics.Goals as goal
 
