@@ -3,7 +3,6 @@ use Rattle.std.proofs.Common.{◌≡◌, ℕ, zero, suc, ◌+◌, ◌-◌, ◌<�
 use Rattle.std.proofs.Common.{[], take, drop, get_or, replicate, Some, None, refl, ap, sym, subst, ◌∙◌, arith}
 use Rattle.std.proofs.lemmas.Bool.{lt-ltb, le-ltb, and_from, and_parts, cases_lt}
 use Rattle.std.proofs.lemmas.List.{length-append, get_or-drop, drop_more, drop-drop}
-use Rattle.std.specs.Option.{option_or}
 use Rattle.byte_table.specs.Fold.{Field, size_of, write, read, rewrite_in, moved, fault_in, size_below, write_below, read_below, fault_below}
 use Rattle.byte_table.specs.Codes.{Code}
 use Rattle.byte_table.specs.Kinds.{plain, blocks, elsewhere}

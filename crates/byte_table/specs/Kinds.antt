@@ -1,21 +1,5 @@
 -- The kinds of fields (own).
-use Rattle.std.specs.Prelude.{
-  ℕ,
-  ◌+◌,
-  ◌-◌,
-  nat_lt,
-  Bool,
-  ◌&&◌,
-  if◌then◌else◌,
-  List,
-  [],
-  ◌++◌,
-  length,
-  replicate,
-  Option,
-  Some,
-  None,
-}
+use Rattle.std.specs.Prelude.{ℕ, ◌+◌, ◌-◌, nat_lt, Bool, ◌&&◌, if◌then◌else◌, List, [], ◌++◌, length, replicate, Some, None}
 use Rattle.byte_table.specs.Codes.{Code}
 use Rattle.byte_table.specs.Fold.{
   Field,
