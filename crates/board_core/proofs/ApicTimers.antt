@@ -13,7 +13,7 @@ use Rattle.local_apics.specs.declared.parts.ApicsParts.{ApicsParts}
 use Rattle.local_apics.specs.Parts.{AreApicsOf, apics_at_power_on}
 use Rattle.local_apics.specs.Places.{no_line, no_tsc, line_at}
 use Rattle.local_apics.specs.Nanosecond.{run, looked_all, tscs_of}
-use Rattle.local_apics.specs.Registers.{eoi_at}
+use Rattle.local_apics.specs.Registers.{eoi_at, written_at}
 use Rattle.local_apics.proofs.Keeps.{AreApicsOf-apics_at_power_on, AreApicsOf-run, AreApicsOf-looked_all, AreApicsOf-written_at, AreApicsOf-eoi_at}
 use Rattle.local_apics.proofs.Laws.{due-run, due-looked_all}
 use Rattle.board_types.specs.Legal.{is_legal, is_msr}
@@ -21,7 +21,8 @@ use Rattle.board_types.specs.declared.access.Access.{Access}
 use Rattle.board_types.specs.declared.access.Access.TheVariants.{MsrWrite, Eoi}
 use Rattle.board_types.specs.declared.setup.TheConstants.{APIC_FORMAT}
 use Rattle.board_types.specs.declared.parts.ProcessorParts.{ProcessorParts}
-use Rattle.board_core.specs.Apics.{apics_of, apic_written, apics_acted}
+use Rattle.std.specs.Option.{option_map_or}
+use Rattle.board_core.specs.Apics.{apics_of, apics_acted}
 use Rattle.board_core.specs.Tsc.{no_processor, tsc_of}
 use Rattle.board_core.specs.Conditions.{AreApics}
 use Rattle.board_core.specs.Upgrade.{gets_apics, apics_upgraded}
@@ -107,7 +108,7 @@ pub AreApics-acted : (format cpus most cpu : ℕ) (a : Access) (x : ApicsParts) 
     → AreApics format cpus most x → AreApics format cpus most (apics_acted cpu a x)
 AreApics-acted format cpus most cpu (MsrWrite msr v) x there few legal valid = by (register_of msr) refl
   where
-    by : (r : Option ApicRegister) → register_of msr ≡ r → AreApics format cpus most (apic_written cpu r v x)
+    by : (r : Option ApicRegister) → register_of msr ≡ r → AreApics format cpus most (option_map_or (λ (r : ApicRegister). written_at cpu r v x) r x)
     by None e = valid
     by (Some r) e =
         let inside : cpu < apics_of format cpus =

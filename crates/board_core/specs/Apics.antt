@@ -1,6 +1,6 @@
 -- The timers of the local APICs of a board, which format 3 brings.
-use Rattle.std.specs.Prelude.{ℕ, nat_le, if◌then◌else◌, Option, Some, None}
-use Rattle.lapic_timer.specs.declared.registers.ApicRegister.{ApicRegister}
+use Rattle.std.specs.Prelude.{ℕ, nat_le, if◌then◌else◌}
+use Rattle.std.specs.Option.{option_map_or}
 use Rattle.lapic_timer.specs.Registers.{register_of}
 use Rattle.local_apics.specs.declared.parts.ApicsParts.{ApicsParts}
 use Rattle.local_apics.specs.declared.span.TscClock.{TscClock}
@@ -32,14 +32,9 @@ clock_in b = record { anchor = b.anchor; guest_khz = b.guest_khz }
 abbrev pub tscs_by_time : BoardParts → ℕ → ℕ → ℕ
 tscs_by_time b = tsc_by_time (clock_in b) (tscs_of b.processors)
 
--- what an access of a processor does to its timer: it writes a register, or it ends an interrupt
-abbrev pub apic_written : ℕ → Option ApicRegister → ℕ → ApicsParts → ApicsParts
-apic_written cpu None v a = a
-apic_written cpu (Some register) v a = written_at cpu register v a
-
--- the timers after an access of a processor
+-- the timers after an access of a processor: it writes a register of its timer, or it ends an interrupt
 abbrev pub apics_acted : ℕ → Access → ApicsParts → ApicsParts
-apics_acted cpu (MsrWrite msr v) a = apic_written cpu (register_of msr) v a
+apics_acted cpu (MsrWrite msr v) a = option_map_or (λ r. written_at cpu r v a) (register_of msr) a
 apics_acted cpu Eoi a = eoi_at cpu a
 apics_acted cpu _ a = a
 

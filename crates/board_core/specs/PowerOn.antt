@@ -1,6 +1,5 @@
 -- A board at power on.
 use Rattle.std.specs.Prelude.{replicate}
-use Rattle.local_apics.specs.declared.parts.ApicsParts.{ApicsParts}
 use Rattle.local_apics.specs.Parts.{apics_at_power_on}
 use Rattle.board_types.specs.declared.setup.Setup.{Setup}
 use Rattle.board_types.specs.declared.parts.BoardParts.{BoardParts}
@@ -8,10 +7,6 @@ use Rattle.board_devices.specs.Parts.{devices_at_power_on}
 use Rattle.board_core.specs.Tsc.{no_processor}
 use Rattle.board_core.specs.Apics.{apics_of}
 use Rattle.board_core.specs.Hv.{no_hv}
-
--- the timers of a setup's local APICs, at power on
-abbrev pub apics_of_setup : Setup → ApicsParts
-apics_of_setup s = apics_at_power_on (apics_of s.format s.cpus)
 
 -- no access yet, the time of the anchor's first count, no page published, no number written
 abbrev pub board_at_power_on : Setup → BoardParts
@@ -34,7 +29,7 @@ board_at_power_on s = record {
   wall_nsec = s.wall_nsec;
   processors = replicate 64 no_processor;
   rises = replicate 6 0;
-  apic = (apics_of_setup s).timers;
-  apic_ticks = (apics_of_setup s).lines;
+  apic = (apics_at_power_on (apics_of s.format s.cpus)).timers;
+  apic_ticks = (apics_at_power_on (apics_of s.format s.cpus)).lines;
   hv = no_hv;
 }

@@ -24,8 +24,7 @@ use Rattle.board_core.specs.Wall.{publishes_wall}
 
 -- the version of a page, if there is one
 abbrev pub version_at : Option ℕ → List ProcessorParts → Option ℕ
-version_at None ps = None
-version_at (Some k) ps = Some (slice_index_or ps k no_processor).version
+version_at page ps = option_map (λ k. (slice_index_or ps k no_processor).version) page
 
 -- the version that an access would raise: that of the wall clock's words, of the reference page, or
 -- of a page

@@ -6,16 +6,12 @@ use Rattle.std.specs.Prelude.{
   if◌then◌else◌,
   ◌/◌,
   slice_index_or,
-  Option,
-  Some,
-  None,
 }
+use Rattle.std.specs.Option.{option_map_or}
 use Rattle.host_counter.specs.declared.Anchor.{Anchor}
 use Rattle.tsc_scale.specs.declared.Tsc.{Tsc}
 use Rattle.tsc_scale.specs.Ratio.{ratio_of}
 use Rattle.tsc_scale.specs.Tsc.{tsc_at, moved_by, difference}
-use Rattle.lapic_timer.specs.declared.parts.ApicParts.{ApicParts}
-use Rattle.lapic_timer.specs.declared.registers.ApicRegister.{ApicRegister}
 use Rattle.lapic_timer.specs.Registers.{register_of, register_read}
 use Rattle.local_apics.specs.Places.{no_timer}
 use Rattle.board_types.specs.declared.access.TheConstants.{
@@ -60,12 +56,8 @@ with_tsc tsc p = record p { offset = tsc.offset; adjust = tsc.adjust }
 abbrev pub tsc_read : Anchor → ℕ → ℕ → ProcessorParts → ℕ
 tsc_read anchor guest_khz h p = tsc_at (tsc_of p) h (ratio_of guest_khz anchor.khz)
 
--- a register of its local APIC's timer, where the MSR is one of them, and else another number
-abbrev pub register_or : Option ApicRegister → ApicParts → ℕ → ℕ
-register_or None p other = other
-register_or (Some register) p other = register_read register p
-
--- what a processor reads of an MSR at count h
+-- what a processor reads of an MSR at count h: where it isn't named here, a register of its local APIC's
+-- timer, if it is one of them, and else the number of its page
 abbrev pub msr_read : BoardParts → ℕ → ℕ → ℕ → ℕ
 msr_read b cpu h msr =
     if msr == MSR_TSC then tsc_read b.anchor b.guest_khz h (processor_at b cpu)
@@ -73,7 +65,7 @@ msr_read b cpu h msr =
     else (if msr == MSR_KVM_WALL_CLOCK then b.wall_number
     else (if msr == MSR_HV_TIME_REF_COUNT then now_of b / 100
     else (if msr == MSR_HV_REFERENCE_TSC then b.hv.number
-    else register_or (register_of msr) (slice_index_or b.apic cpu no_timer)
+    else option_map_or (λ r. register_read r (slice_index_or b.apic cpu no_timer)) (register_of msr)
     (processor_at b cpu).number))))
 
 -- the TSC after a write of v to an MSR at count h: IA32_TIME_STAMP_COUNTER is set to v and
@@ -87,8 +79,7 @@ tsc_after anchor guest_khz h msr v tsc =
 
 -- a processor after it; MSR_KVM_SYSTEM_TIME_NEW keeps v
 abbrev pub msr_written : Anchor → ℕ → ℕ → ℕ → ℕ → ProcessorParts → ProcessorParts
-msr_written anchor guest_khz h msr v p = record p {
-  offset = (tsc_after anchor guest_khz h msr v (tsc_of p)).offset;
-  adjust = (tsc_after anchor guest_khz h msr v (tsc_of p)).adjust;
-  number = if msr == MSR_KVM_SYSTEM_TIME then v else p.number;
-}
+msr_written anchor guest_khz h msr v p =
+    record (with_tsc (tsc_after anchor guest_khz h msr v (tsc_of p)) p) {
+      number = if msr == MSR_KVM_SYSTEM_TIME then v else p.number;
+    }

@@ -2,13 +2,15 @@
 ghost use Rattle.std.specs.Prelude.{◌≡◌, ◌<◌};
 ghost use Rattle.clk_units.specs.declared.ranges.TheConstants.{RANGE_NS};
 ghost use Rattle.board_types.specs.Setup.{IsSetup};
+ghost use Rattle.local_apics.specs.Parts.{apics_at_power_on};
 ghost use Rattle.board_devices.specs.Lines.{levels};
 ghost use Rattle.board_core.specs.Time.{devices_in, now_of};
 ghost use Rattle.board_core.specs.Tsc.{processor_at, tsc_of};
 ghost use Rattle.board_core.specs.Pages.{page_in, with_greatest};
 ghost use Rattle.board_core.specs.Conditions.{IsVersion, IsJoined};
 ghost use Rattle.board_core.specs.Next.{next_of, next_message_of};
-ghost use Rattle.board_core.specs.PowerOn.{board_at_power_on, apics_of_setup};
+ghost use Rattle.board_core.specs.Apics.{apics_of};
+ghost use Rattle.board_core.specs.PowerOn.{board_at_power_on};
 
 use crate::apics::apics_of;
 use crate::hv::NO_HV;
@@ -209,7 +211,7 @@ impl BoardState {
 /// The timers of its local APICs, at power on.
 fn apics_of_setup(setup: &Setup) -> LocalApics
     requires { IsSetup setup.now }
-    ensures { result ≡ apics_of_setup setup.now }
+    ensures { result ≡ apics_at_power_on (apics_of setup.now.format setup.now.cpus) }
 {
     LocalApics::power_on(apics_of(setup.format, setup.cpus))
 }
