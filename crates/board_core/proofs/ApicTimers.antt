@@ -12,7 +12,7 @@ use Rattle.lapic_timer.specs.Registers.{register_of}
 use Rattle.local_apics.specs.declared.parts.ApicsParts.{ApicsParts}
 use Rattle.local_apics.specs.Parts.{AreApicsOf, apics_at_power_on}
 use Rattle.local_apics.specs.Places.{no_line, no_tsc, line_at}
-use Rattle.local_apics.specs.Nanosecond.{run, looked_all, tscs_of}
+use Rattle.local_apics.specs.Nanosecond.{run, looked_all, tscs_of, tsc_by_time, tsc_in}
 use Rattle.local_apics.specs.Registers.{eoi_at, written_at}
 use Rattle.local_apics.proofs.Keeps.{AreApicsOf-apics_at_power_on, AreApicsOf-run, AreApicsOf-looked_all, AreApicsOf-written_at, AreApicsOf-eoi_at}
 use Rattle.local_apics.proofs.Laws.{due-run, due-looked_all}
@@ -23,7 +23,10 @@ use Rattle.board_types.specs.declared.setup.TheConstants.{APIC_FORMAT}
 use Rattle.board_types.specs.declared.parts.ProcessorParts.{ProcessorParts}
 use Rattle.std.specs.Option.{option_map_or}
 use Rattle.board_core.specs.Apics.{apics_of, apics_acted}
-use Rattle.board_core.specs.Tsc.{no_processor, tsc_of}
+use Rattle.host_counter.specs.declared.Anchor.{Anchor}
+use Rattle.lapic_timer.specs.Deadline.{count_at}
+use Rattle.local_apics.specs.declared.span.TscClock.{TscClock}
+use Rattle.board_core.specs.Tsc.{no_processor, tsc_of, tsc_read}
 use Rattle.board_core.specs.Conditions.{AreApics}
 use Rattle.board_core.specs.Upgrade.{gets_apics, apics_upgraded}
 
@@ -130,3 +133,10 @@ AreApics-acted format cpus most cpu _ x there few legal valid = valid
 -- the numbers of the TSCs, place by place
 pub tsc-at : (ps : List ProcessorParts) (k : ℕ) → get_or (tscs_of ps) k no_tsc ≡ tsc_of (get_or ps k no_processor)
 tsc-at ps k = get_or-map tsc_of ps k no_processor
+
+-- the TSCs of processors by time, as the timers are run by them
+abbrev pub tscs_read : Anchor → ℕ → List ProcessorParts → ℕ → ℕ → ℕ
+tscs_read anchor guest_khz ps k t = tsc_read anchor guest_khz (count_at anchor t) (get_or ps k no_processor)
+
+pub tscs-read : (clock : TscClock) (ps : List ProcessorParts) → tsc_by_time clock (tscs_of ps) ≡ tscs_read clock.anchor clock.guest_khz ps
+tscs-read clock ps = λ i k t. tsc_in clock (tsc-at ps k i) t

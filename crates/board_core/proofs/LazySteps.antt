@@ -15,7 +15,8 @@ use Rattle.board_types.specs.declared.reply.Reply.{Reply}
 use Rattle.board_types.specs.declared.parts.TheConstants.{MOST_ACCESSES}
 use Rattle.board_devices.specs.Run.{Ran}
 use Rattle.board_devices.proofs.PortReads.{after_pit_read, levels-read, run-read}
-use Rattle.board_core.specs.Access.{ran_to, apics_ran_to, after_run, value_at, reply_of, after_access}
+use Rattle.board_core.specs.private.Calls.{apics_ran_to}
+use Rattle.board_core.specs.Access.{ran_to, after_run, value_at, reply_of, after_access}
 use Rattle.board_core.specs.Apics.{apics_in, with_apics}
 use Rattle.board_core.specs.Conditions.{AreRises, IsJoined}
 use Rattle.std.specs.Prelude.{OnOk, OnErr}

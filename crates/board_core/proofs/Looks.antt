@@ -2,16 +2,18 @@
 use Rattle.std.proofs.Common.{◌≡◌, ◌≢◌, ℕ, suc, ◌+◌, ◌-◌, ◌<◌, false, List, sym, ap, ◌∙◌, arith}
 use Rattle.local_apics.specs.declared.parts.ApicsParts.{ApicsParts}
 use Rattle.local_apics.specs.Parts.{AreApicsOf}
-use Rattle.local_apics.specs.Nanosecond.{run as run_apics, at_nanosecond, looked_all, tscs_of, tsc_by_time}
+use Rattle.local_apics.specs.Nanosecond.{run as run_apics, at_nanosecond, looked_all}
 use Rattle.local_apics.proofs.Joins.{look-again}
 use Rattle.local_apics.proofs.Keeps.{AreApicsOf-run}
 use Rattle.board_types.specs.declared.access.Access.{Access}
 use Rattle.board_types.specs.declared.parts.BoardParts.{BoardParts}
 use Rattle.board_types.specs.declared.parts.ProcessorParts.{ProcessorParts}
 use Rattle.board_core.specs.Time.{now_of, time_of_access}
-use Rattle.board_core.specs.Apics.{apics_of, apics_in, with_apics, clock_in, tscs_by_time, apics_acted, after_look}
-use Rattle.board_core.specs.Access.{apics_ran_to, after_run, before_look}
+use Rattle.board_core.specs.Apics.{apics_of, apics_in, with_apics, tscs_by_time, apics_acted, after_look}
+use Rattle.board_core.specs.private.Calls.{apics_ran_to}
+use Rattle.board_core.specs.Access.{after_run, before_look}
 use Rattle.board_core.specs.private.Kinds.{writes}
+use Rattle.board_core.proofs.ApicTimers.{tscs_read}
 use Rattle.board_core.proofs.Times.{time_at_max}
 use Rattle.board_core.proofs.Kept.{processors-kept, apics-kept}
 
@@ -39,7 +41,7 @@ pub look-kept : (b : BoardParts) (cpu h : ℕ) (a : Access) → writes a ≡ fal
 unfolding after_look before_look
 look-kept b cpu h a quiet looked =
     let same : apics_acted cpu a (apics_in b) ≡ apics_in b = apics-kept cpu a (apics_in b) quiet in
-    ap (λ (ps : List ProcessorParts). with_apics (looked_all (λ k. tsc_by_time (clock_in b) (tscs_of ps) k (now_of b)) (apics_acted cpu a (apics_in b)))
+    ap (λ (ps : List ProcessorParts). with_apics (looked_all (λ k. tscs_read b.anchor b.guest_khz ps k (now_of b)) (apics_acted cpu a (apics_in b)))
     (before_look b cpu h a)) (processors-kept b.anchor b.guest_khz cpu h a b.processors quiet)
     ∙ ap (λ (x : ApicsParts). with_apics x (before_look b cpu h a))
     (ap (looked_all (λ k. tscs_by_time b k (now_of b))) same ∙ ap apics_in looked ∙ sym same)

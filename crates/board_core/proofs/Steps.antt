@@ -13,7 +13,8 @@ use Rattle.board_core.specs.Time.{devices_in}
 use Rattle.board_core.specs.Pages.{processors_after}
 use Rattle.board_core.specs.Wall.{wall_number_after, wall_version_after}
 use Rattle.board_core.specs.Rises.{rises_after}
-use Rattle.board_core.specs.Access.{act_of, ran_to, apics_ran_to, after_run, own_edges, before_look}
+use Rattle.board_core.specs.private.Calls.{apics_ran_to}
+use Rattle.board_core.specs.Access.{act_of, ran_to, after_run, own_edges, before_look}
 
 abbrev pub with_run : BoardParts → ℕ → DeviceParts → List ℕ → ApicsParts → BoardParts
 with_run b host d rises apics = record b {

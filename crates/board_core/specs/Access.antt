@@ -30,8 +30,6 @@ use Rattle.board_types.specs.declared.reply.Value.TheVariants.{
   Counts,
   Next as NextEdge,
 }
-use Rattle.local_apics.specs.declared.parts.ApicsParts.{ApicsParts}
-use Rattle.local_apics.specs.Nanosecond.{run as run_apics}
 use Rattle.board_devices.specs.declared.parts.DeviceParts.{DeviceParts}
 use Rattle.board_devices.specs.declared.act.Act.{Act}
 use Rattle.board_devices.specs.declared.act.Act.TheVariants.{
@@ -54,7 +52,8 @@ use Rattle.board_core.specs.Tsc.{msr_read}
 use Rattle.board_core.specs.Pages.{processors_after}
 use Rattle.board_core.specs.Wall.{wall_number_after, wall_version_after, wall_words}
 use Rattle.board_core.specs.Hv.{hv_after}
-use Rattle.board_core.specs.Apics.{apics_in, with_apics, tscs_by_time, apics_acted, after_look}
+use Rattle.board_core.specs.Apics.{apics_in, with_apics, apics_acted, after_look}
+use Rattle.board_core.specs.Nanosecond.{ran_for}
 use Rattle.board_core.specs.Next.{next_of}
 use Rattle.board_core.specs.Rises.{rises_after, count_at}
 
@@ -83,11 +82,6 @@ act_of _ = NoAct
 abbrev pub ran_to : BoardParts → ℕ → Ran
 ran_to b h = run (now_of b) (time_of_access b h - now_of b) (devices_in b)
 
--- the timers of local APICs after it
-abbrev pub apics_ran_to : BoardParts → ℕ → ApicsParts
-apics_ran_to b h =
-    run_apics (tscs_by_time b) (now_of b) (time_of_access b h - now_of b) (apics_in b)
-
 -- the messages of that run. Their addresses and data are those that the board holds before it, since
 -- no access comes within; and no access sends a message by itself
 abbrev pub bursts_to : BoardParts → ℕ → List Burst
@@ -95,10 +89,7 @@ bursts_to b h = bursts_of (now_of b) (time_of_access b h - now_of b) b.hpet
 
 -- the board at that time, with the access still to come
 unfoldable pub after_run : BoardParts → ℕ → BoardParts
-after_run b h = record (with_apics (apics_ran_to b h) (with_devices (ran_to b h).state b)) {
-  host = max b.host h;
-  rises = rises_after b.format (ran_to b h).edges b.rises;
-}
+after_run b h = record (ran_for (time_of_access b h - now_of b) b) { host = max b.host h }
 
 -- the counts of a source's tick line, among the lines of the devices and those of local APICs
 abbrev pub counts_of : List TickParts → List TickParts → TickSource → TickCounts

@@ -1,7 +1,8 @@
 //! The timers of local APICs.
-ghost use Rattle.std.specs.Prelude.{◌≡◌, ℕ, ◌+◌, ◌-◌, ◌^◌, ◌<◌, ◌≤◌};
+ghost use Rattle.std.specs.Prelude.{◌≡◌, ℕ, ◌+◌, ◌-◌, ◌^◌, ◌<◌, ◌≤◌, slice_index_or};
 ghost use Rattle.clk_units.specs.declared.ranges.TheConstants.{RANGE_NS};
-ghost use Rattle.local_apics.specs.Nanosecond.{run as run_apics, tscs_of, tsc_by_time};
+ghost use Rattle.lapic_timer.specs.Deadline.{count_at};
+ghost use Rattle.local_apics.specs.Nanosecond.{run as run_apics};
 ghost use Rattle.local_apics.specs.Places.{line_at};
 ghost use Rattle.board_core.specs.Apics.{
   apics_of,
@@ -9,6 +10,7 @@ ghost use Rattle.board_core.specs.Apics.{
   apics_acted,
   after_look,
 };
+ghost use Rattle.board_core.specs.Tsc.{no_processor, tsc_read};
 ghost use Rattle.board_core.specs.Conditions.{AreRates};
 ghost use Rattle.board_core.specs.Next.{IsNextTick};
 ghost use Rattle.board_core.specs.private.Room.{HasRoom};
@@ -95,8 +97,8 @@ pub(crate) fn run_apics(
     requires anchored { anchor.base_ns ≤ from }
     requires room { (k : ℕ) → k < 64 → (line_at k apics.old).counts.due + (to - from) < 2 ^ 63 }
     ensures { apics.new
-        ≡ run_apics (tsc_by_time (record { anchor = anchor; guest_khz = guest_khz })
-        (tscs_of processors.now)) from (to - from) apics.old }
+        ≡ run_apics (λ k t. tsc_read anchor guest_khz (count_at anchor t)
+        (slice_index_or processors.now k no_processor)) from (to - from) apics.old }
 {
     if apics.is_armed() {
         let clock = TscClock { anchor, guest_khz };

@@ -27,7 +27,6 @@ impl BoardState {
     /// Runs `gap` nanoseconds by the old anchor, and then gives the new time to count `start` of a host's counter of
     /// `khz`, 100,000 to 10,000,000. TSC offsets, pages and the number of accesses stay. Answers the edges of the gap, at
     /// most six, and its messages.
-    #[tactic(auto, unfolding(crate::specs::Reanchor::reanchored))]
     pub fn reanchor(&mut self, khz: u64, start: u64, gap: u64) -> Ran
         requires rate { IsKhz khz }
         requires range { now_of self.old + gap < RANGE_NS }

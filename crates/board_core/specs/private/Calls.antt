@@ -1,16 +1,19 @@
 -- What calls ask and leave on the way of an access; private contracts alone cite this.
-use Rattle.std.specs.Prelude.{◌≡◌, ℕ, ◌+◌, ◌<◌, ◌≤◌, IsTrue, IfSome, List, [], ◌++◌, length}
+use Rattle.std.specs.Prelude.{◌≡◌, ℕ, ◌+◌, ◌-◌, ◌<◌, ◌≤◌, IsTrue, IfSome, List, [], ◌++◌, length}
 use Rattle.irq_edges.specs.declared.bursts.Burst.{Burst}
 use Rattle.irq_edges.specs.declared.edges.Edge.{Edge}
 use Rattle.irq_edges.specs.declared.edges.TheConstants.{EDGE_PLACES}
+use Rattle.local_apics.specs.declared.parts.ApicsParts.{ApicsParts}
+use Rattle.local_apics.specs.Nanosecond.{run as run_apics}
 use Rattle.board_types.specs.Legal.{is_legal}
 use Rattle.board_types.specs.declared.access.Access.{Access}
 use Rattle.board_types.specs.declared.parts.BoardParts.{BoardParts}
 use Rattle.board_types.specs.declared.parts.TheConstants.{LAST_VERSION, MOST_ACCESSES}
 use Rattle.board_types.specs.declared.reply.Value.{Value}
 use Rattle.board_core.specs.Access.{ran_to, bursts_to, after_run, value_at, own_edges}
+use Rattle.board_core.specs.Apics.{apics_in, tscs_by_time}
 use Rattle.board_core.specs.Refusals.{raised_version}
-use Rattle.board_core.specs.Time.{HasTime, time_of_access}
+use Rattle.board_core.specs.Time.{HasTime, now_of, time_of_access}
 
 -- a run may be done to the time `end` of an access at count h: six places are free for its edges, and
 -- the list has no messages yet
@@ -19,6 +22,11 @@ pub record CanRun (b : BoardParts) (h end : ℕ) (had : List Edge) (none : List 
   pub to : end ≡ time_of_access b h
   pub places : length had + 6 ≤ EDGE_PLACES
   pub fresh : none ≡ []
+
+-- the timers of local APICs after it
+abbrev pub apics_ran_to : BoardParts → ℕ → ApicsParts
+apics_ran_to b h =
+    run_apics (tscs_by_time b) (now_of b) (time_of_access b h - now_of b) (apics_in b)
 
 -- the board after it, its edges after those that the list had, and its messages
 pub record HasRun (b : BoardParts) (h : ℕ) (after : BoardParts) (had told : List Edge)

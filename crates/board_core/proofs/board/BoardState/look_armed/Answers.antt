@@ -8,7 +8,7 @@ use Rattle.board_core.specs.Conditions.{AreApics}
 use Rattle.board_core.specs.View.{board_parts_of}
 use Rattle.board_core.specs.private.Room.{HasRoom}
 use Rattle.board_core.proofs.Times.{base-first}
-use Rattle.board_core.proofs.ApicTimers.{AreApics-looked}
+use Rattle.board_core.proofs.ApicTimers.{AreApics-looked, tscs-read}
 use Rattle.board_core.proofs.board.BoardState.look_armed.Goals as goal
 
 pub look-requires-clause-anchored : goal.look-requires-clause-anchored
@@ -20,6 +20,8 @@ looked_is : (c : goal.After-look) → c.look.new.self
 looked_is c =
     let b : BoardParts = board_parts_of c.self.inside in
     c.look.ensures
+    ∙ ap (λ (tsc : ℕ → ℕ → ℕ). looked_all (λ k. tsc k c.self.inside.time_ns) c.self.inside.apics)
+    (tscs-read (record { anchor = b.anchor; guest_khz = b.guest_khz }) b.processors)
     ∙ ap (λ (t : ℕ). looked_all (λ k. tscs_by_time b k t) c.self.inside.apics) c.self.invariant.time
 
 pub invariant_of-self : goal.invariant_of-self

@@ -11,8 +11,11 @@ use Rattle.board_devices.specs.Lines.{levels}
 use Rattle.board_devices.specs.Rises.{lifts}
 use Rattle.board_devices.specs.Run.{run}
 use Rattle.hpet_bursts.specs.Bursts.{bursts_of}
-use Rattle.board_core.specs.Time.{now_of}
+use Rattle.board_core.specs.Time.{now_of, devices_in}
+use Rattle.board_core.specs.Rises.{rises_after}
+use Rattle.board_core.specs.Reanchor.{reanchored}
 use Rattle.local_apics.specs.declared.parts.ApicsParts.{ApicsParts}
+use Rattle.local_apics.specs.Nanosecond.{run as run_apics}
 use Rattle.board_core.specs.Apics.{apics_in, tscs_by_time}
 use Rattle.board_core.specs.Conditions.{IsFormat, AreRises, AreApics}
 use Rattle.board_core.specs.View.{board_parts_of}
@@ -20,6 +23,7 @@ use Rattle.board_core.proofs.Times.{base-first}
 use Rattle.board_core.proofs.Timers.{timers-run, messages-run}
 use Rattle.board_core.proofs.ApicTimers.{AreApics-ran, AreApics-more}
 use Rattle.board_core.proofs.Joined.{AreRises-after}
+use Rattle.board_core.proofs.Steps.{with_run}
 use Rattle.board_core.proofs.board.BoardState.reanchor.Goals as goal
 
 pub run_apics-requires-clause-anchored : goal.run_apics-requires-clause-anchored
@@ -76,3 +80,21 @@ returns-clause-bursts c =
     ∙ ap (λ (n : ℕ). bursts_of from n c.self.inside.devices.hpet) (let e : from + c.args.gap - from ≡ c.args.gap = omega arith in e)
     ∙ ap (λ (t : ℕ). bursts_of t c.args.gap c.self.inside.devices.hpet) c.self.invariant.time
     ∙ ap (λ (b : BoardParts). bursts_of (now_of b) c.args.gap b.hpet) c.self.view_is
+
+pub returns-clause-state : goal.returns-clause-state
+unfolding reanchored
+returns-clause-state c =
+    let b : BoardParts = board_parts_of c.self.inside in
+    let from : c.self.inside.time_ns ≡ now_of b = c.self.invariant.time in
+    let n : c.self.inside.time_ns + c.args.gap - c.self.inside.time_ns ≡ c.args.gap = omega arith in
+    let d : c.run_to-came.new.self ≡ (run (now_of b) c.args.gap (devices_in b)).state =
+    c.run_to-came.ensures.state ∙ (λ i. (run (from i) (n i) (devices_in b)).state) in
+    let es : c.run_to-came.new.edges ≡ (run (now_of b) c.args.gap (devices_in b)).edges =
+    c.run_to-came.ensures.edges ∙ (λ i. c.new-edges.ensures i ++ (run (from i) (n i) (devices_in b)).edges) in
+    let rises : c.count_rises_where.new.rises ≡ rises_after b.format (run (now_of b) c.args.gap (devices_in b)).edges b.rises =
+    c.count_rises_where.ensures ∙ ap (λ (es : List Edge). rises_after b.format es b.rises) es in
+    let apics : c.run_apics.new.apics ≡ run_apics (tscs_by_time b) (now_of b) c.args.gap (apics_in b) =
+    c.run_apics.ensures ∙ (λ i. run_apics (tscs_by_time b) (from i) (n i) (apics_in b)) in
+    (λ i. record (with_run b c.args.start (d i) (rises i) (apics i)) {
+      anchor = record { khz = c.args.khz; start = c.args.start; base_ns = from i + c.args.gap };
+    }) ∙ ap (λ (x : BoardParts). reanchored c.args.khz c.args.start c.args.gap x) c.self.view_is

@@ -17,7 +17,8 @@ use Rattle.board_core.proofs.Timers.{timers-run, messages-run}
 use Rattle.local_apics.specs.declared.parts.ApicsParts.{ApicsParts}
 use Rattle.local_apics.specs.Nanosecond.{run as run_apics}
 use Rattle.board_core.specs.Apics.{apics_in, tscs_by_time, after_look}
-use Rattle.board_core.specs.Access.{ran_to, bursts_to, apics_ran_to, after_run}
+use Rattle.board_core.specs.private.Calls.{apics_ran_to}
+use Rattle.board_core.specs.Access.{ran_to, bursts_to, after_run}
 use Rattle.hpet_bursts.specs.Bursts.{bursts_of}
 use Rattle.board_core.specs.Rises.{rises_after}
 use Rattle.board_core.proofs.ApicTimers.{AreApics-ran, AreApics-more}

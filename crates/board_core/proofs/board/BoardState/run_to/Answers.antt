@@ -7,7 +7,8 @@ use Rattle.board_core.specs.Time.{devices_in, now_of, time_of_access}
 use Rattle.board_core.specs.Rises.{rises_after}
 use Rattle.local_apics.specs.Nanosecond.{run as run_apics}
 use Rattle.board_core.specs.Apics.{apics_in, tscs_by_time}
-use Rattle.board_core.specs.Access.{ran_to, bursts_to, apics_ran_to, after_run}
+use Rattle.board_core.specs.private.Calls.{apics_ran_to}
+use Rattle.board_core.specs.Access.{ran_to, bursts_to, after_run}
 use Rattle.hpet_bursts.specs.Bursts.{bursts_of}
 use Rattle.hpet_bursts.proofs.Runs.{bursts_below-still}
 use Rattle.board_core.specs.View.{board_parts_of}
